@@ -1,0 +1,114 @@
+-- What the checks on an object's fields show.
+use Rattle.std.proofs.Common.{◌≡◌, ℕ, zero, suc, ◌≤◌, ◌<◌, ◌&&◌, List, [], ◌∷◌, Bool, true, false, not, nat_lt, nat_le, Option, None, Some, Result, Ok, if◌then◌else◌, get_or, refl, arith}
+use Rattle.std.proofs.lemmas.Bool.{and_parts, ltb-true, leb-true, lt-ltb}
+use Rattle.std.specs.List.{AllByRecursion, list_all, find}
+use Rattle.serde_json.specs.Data.{Data}
+use Rattle.cut_plan.specs.declared.fault.PlanFault.{PlanFault}
+use Rattle.cut_plan.specs.declared.field.Field.{Field}
+use Rattle.cut_plan.specs.declared.field.Field.TheVariants.{Copies, Dead, F, Faults, H, Implicit, K, L, Liars, Links, Nodes, Repeats, Seed, Version}
+use Rattle.cut_plan.specs.Fields.{all_fields, number_at, numbers_at}
+use Rattle.cut_plan.specs.Accepted.{is_present, is_of_kind, is_in_range, is_in_scale, has_some, rises_at, wanted, fault_at, each, checked}
+use Rattle.cut_plan.specs.Plan.{all_within}
+use Rattle.cut_plan.specs.Look.{AreBelow}
+
+pub wanted_ok : {A : Type 0} (b : Bool) (fault : PlanFault) (later : Result A PlanFault) (x : A) → wanted b fault later ≡ Ok x → (b ≡ true) × (later ≡ Ok x)
+wanted_ok true fault later x h = (refl, h)
+wanted_ok false fault later x h = cc h
+
+fault_at_ok : {A : Type 0} (o : Option Field) (fault : Field → PlanFault) (later : Result A PlanFault) (x : A) → fault_at o fault later ≡ Ok x → (o ≡ None) × (later ≡ Ok x)
+fault_at_ok None fault later x h = (refl, h)
+fault_at_ok (Some field) fault later x h = cc h
+
+find_cons : (holds : Field → Bool) (b : Bool) (field : Field) (rest : Option Field) → (if not b then Some field else rest) ≡ None → (b ≡ true) × (rest ≡ None)
+find_cons holds true field rest h = (refl, h)
+find_cons holds false field rest h = cc h
+
+find_none : (holds : Field → Bool) (fields : List Field) → find (λ field. not (holds field)) fields ≡ None → AllByRecursion (λ field. holds field ≡ true) fields
+find_none holds [] h = tt
+find_none holds (field ∷ fields) h =
+    let parts = find_cons holds (holds field) field _ h in
+    (parts.0, find_none holds fields parts.1)
+
+every_field : (P : Field → Type 0) → AllByRecursion P all_fields → (field : Field) → P field
+unfolding all_fields
+every_field P h Copies = h.0
+every_field P h Dead = h.1.0
+every_field P h F = h.1.1.0
+every_field P h Faults = h.1.1.1.0
+every_field P h H = h.1.1.1.1.0
+every_field P h Implicit = h.1.1.1.1.1.0
+every_field P h K = h.1.1.1.1.1.1.0
+every_field P h L = h.1.1.1.1.1.1.1.0
+every_field P h Liars = h.1.1.1.1.1.1.1.1.0
+every_field P h Links = h.1.1.1.1.1.1.1.1.1.0
+every_field P h Nodes = h.1.1.1.1.1.1.1.1.1.1.0
+every_field P h Repeats = h.1.1.1.1.1.1.1.1.1.1.1.0
+every_field P h Seed = h.1.1.1.1.1.1.1.1.1.1.1.1.0
+every_field P h Version = h.1.1.1.1.1.1.1.1.1.1.1.1.1.0
+
+each_ok : {A : Type 0} (holds : Field → Bool) (fault : Field → PlanFault) (later : Result A PlanFault) (x : A) → each holds fault later ≡ Ok x
+    → ((field : Field) → holds field ≡ true) × (later ≡ Ok x)
+each_ok holds fault later x h =
+    let parts = fault_at_ok (find (λ field. not (holds field)) all_fields) fault later x h in
+    (every_field (λ field. holds field ≡ true) (find_none holds all_fields parts.0), parts.1)
+
+-- an object whose fields passed the checks
+pub record IsChecked (d : Data) : Type 0 where
+  pub present : (field : Field) → is_present d field ≡ true
+  pub kinds : (field : Field) → is_of_kind d field ≡ true
+  pub ranges : (field : Field) → is_in_range d field ≡ true
+  pub rises : (field : Field) → rises_at d field ≡ true
+
+pub checked_facts : (d : Data) → checked d ≡ Ok tt → IsChecked d
+unfolding checked
+checked_facts d h =
+    let an_object = wanted_ok _ _ _ tt h in
+    let named = wanted_ok _ _ _ tt an_object.1 in
+    let present = each_ok (is_present d) _ _ tt named.1 in
+    let kinds = each_ok (is_of_kind d) _ _ tt present.1 in
+    let ranges = each_ok (is_in_range d) _ _ tt kinds.1 in
+    let rises = each_ok (rises_at d) _ _ tt ranges.1 in
+    record { present = present.0; kinds = kinds.0; ranges = ranges.0; rises = rises.0 }
+
+-- a number within bounds
+pub within_bounds : (low high n : ℕ) → (nat_le low n && nat_le n high) ≡ true → (low ≤ n) × (n ≤ high)
+within_bounds low high n h =
+    let parts = and_parts (nat_le low n) (nat_le n high) h in
+    (leb-true low n parts.0, leb-true n high parts.1)
+
+widened : (p : ℕ → Bool) (bound : ℕ) → ((x : ℕ) → p x ≡ true → x < bound) → (xs : List ℕ) → list_all p xs ≡ true → AreBelow bound xs
+widened p bound small [] h = refl
+widened p bound small (x ∷ xs) h =
+    let parts = and_parts (p x) (list_all p xs) h in
+    let first : nat_lt x bound ≡ true = lt-ltb x bound (small x parts.0) in
+    rw first (widened p bound small xs parts.1)
+
+pub scale_bytes : (xs : List ℕ) → is_in_scale xs ≡ true → AreBelow 256 xs
+scale_bytes xs h =
+    widened (λ x. nat_le 1 x && nat_le x 32) 256 (λ x e. let b = within_bounds 1 32 x e in let top : x ≤ 32 = b.1 in omega arith) xs (and_parts (has_some xs) (all_within 1 32 xs) h).1
+
+pub failed_shorts : (bound : ℕ) (xs : List ℕ) → bound ≤ 2048 → (has_some xs && list_all (λ f. nat_lt f bound) xs) ≡ true → AreBelow 65536 xs
+failed_shorts bound xs few h =
+    widened (λ f. nat_lt f bound) 65536 (λ x e. let lt = ltb-true x bound e in omega arith) xs (and_parts (has_some xs) (list_all (λ f. nat_lt f bound) xs) h).1
+
+pub below_at : (bound : ℕ) (xs : List ℕ) (i : ℕ) → 0 < bound → AreBelow bound xs → get_or xs i 0 < bound
+below_at bound [] i some h = some
+below_at bound (x ∷ xs) zero some h = ltb-true x bound (and_parts (nat_lt x bound) _ h).0
+below_at bound (x ∷ xs) (suc i) some h = below_at bound xs i some (and_parts (nat_lt x bound) _ h).1
+
+pub few_nodes : (d : Data) → IsChecked d → (2 ≤ number_at d Nodes) × (number_at d Nodes ≤ 2048)
+few_nodes d known = within_bounds 2 2048 (number_at d Nodes) (known.ranges Nodes)
+
+pub h_bytes : (d : Data) → checked d ≡ Ok tt → AreBelow 256 (numbers_at d H)
+h_bytes d h = scale_bytes (numbers_at d H) ((checked_facts d h).ranges H)
+
+pub k_bytes : (d : Data) → checked d ≡ Ok tt → AreBelow 256 (numbers_at d K)
+k_bytes d h = scale_bytes (numbers_at d K) ((checked_facts d h).ranges K)
+
+pub l_bytes : (d : Data) → checked d ≡ Ok tt → AreBelow 256 (numbers_at d L)
+l_bytes d h = scale_bytes (numbers_at d L) ((checked_facts d h).ranges L)
+
+pub f_shorts : (d : Data) → checked d ≡ Ok tt → AreBelow 65536 (numbers_at d F)
+f_shorts d h =
+    let known = checked_facts d h in
+    failed_shorts (number_at d Nodes) (numbers_at d F) (few_nodes d known).1 (known.ranges F)

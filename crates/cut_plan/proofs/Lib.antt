@@ -1,0 +1,17 @@
+pub mod Every
+pub mod CellFacts
+pub mod Looking
+pub mod Rising
+pub mod Checked
+pub mod Counting
+pub mod PlanFacts
+pub mod Reading
+pub mod Writing
+pub mod Members
+pub mod Accepting
+pub mod ReadBack
+pub mod Length
+pub mod RoundTrip
+pub mod Among
+pub mod CellOrder
+pub mod Accepts

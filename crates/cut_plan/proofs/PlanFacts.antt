@@ -1,0 +1,160 @@
+-- What is known of a plan whose checks were passed.
+use Rattle.std.proofs.Common.{◌≡◌, ℕ, suc, ◌+◌, ◌≤◌, ◌<◌, ◌&&◌, List, [], ◌∷◌, length, max, true, nat_lt, nat_le, Result, Ok, Err, refl, sym, ◌∙◌, arith}
+use Rattle.std.proofs.lemmas.Bool.{and_parts, ltb-true, leb-true, lt-ltb}
+use Rattle.std.specs.List.{AllByRecursion, list_all, fold}
+use Rattle.std.specs.Option.{unwrap_or}
+use Rattle.std.specs.Result.{is_ok, result_ok}
+use Rattle.hex.specs.Hex.{decode_sized, IsBytes}
+use Rattle.hex.specs.declared.error.FromHexError.{FromHexError}
+use Rattle.hex.proofs.HexLemmas.{decode_sized-ok, decode_sized-twice, decode_of-ok}
+use Rattle.serde_json.specs.Data.{Data}
+use Rattle.cut_plan.specs.declared.field.Field.TheVariants.{Copies, F, H, K, L, Liars, Links, Nodes, Repeats, Seed, Version}
+use Rattle.cut_plan.specs.Fields.{number_at, numbers_at, text_at}
+use Rattle.cut_plan.specs.Accepted.{is_in_scale, has_some, checked, counted, limits, values_in}
+use Rattle.cut_plan.specs.Cells.{cells_of, largest}
+use Rattle.cut_plan.specs.Values.{Values}
+use Rattle.cut_plan.specs.Plan.{all_within, is_rising, IsScale, IsPlan}
+use Rattle.cut_plan.proofs.Every.{every-list_all, every_below_fold}
+use Rattle.cut_plan.proofs.Checked.{checked_facts, wanted_ok, within_bounds}
+use Rattle.cut_plan.proofs.Counting.{rising_length}
+
+-- a list of ring numbers or watermarks has at most 32
+pub scale_length : (xs : List ℕ) → is_in_scale xs ≡ true → is_rising xs ≡ true → length xs ≤ 32
+scale_length xs range rises =
+    let all = (and_parts (has_some xs) (all_within 1 32 xs) range).1 in
+    let below = every-list_all (λ x. nat_le 1 x && nat_le x 32) (λ x. x < 33) (λ x e. let b = within_bounds 1 32 x e in let top : x ≤ 32 = b.1 in omega arith) xs all in
+    let above = every-list_all (λ x. nat_le 1 x && nat_le x 32) (λ x. 1 ≤ x) (λ x e. (within_bounds 1 32 x e).0) xs all in
+    let room = rising_length 1 33 xs rises below above (omega arith) in
+    omega (arith, room)
+
+-- a rising list of process numbers has no more than there are processes
+pub failed_length : (nodes : ℕ) (xs : List ℕ) → list_all (λ f. nat_lt f nodes) xs ≡ true → is_rising xs ≡ true → length xs ≤ nodes
+failed_length nodes xs all rises =
+    let below = every-list_all (λ f. nat_lt f nodes) (λ f. f < nodes) (λ f e. ltb-true f nodes e) xs all in
+    let above = every-list_all (λ f. nat_lt f nodes) (λ f. 0 ≤ f) (λ f e. omega arith) xs all in
+    let room = rising_length 0 nodes xs rises below above (omega arith) in
+    omega (arith, room)
+
+pub few_h : (d : Data) → checked d ≡ Ok tt → length (numbers_at d H) ≤ 32
+few_h d h = let known = checked_facts d h in scale_length (numbers_at d H) (known.ranges H) (known.rises H)
+
+pub few_k : (d : Data) → checked d ≡ Ok tt → length (numbers_at d K) ≤ 32
+few_k d h = let known = checked_facts d h in scale_length (numbers_at d K) (known.ranges K) (known.rises K)
+
+pub few_l : (d : Data) → checked d ≡ Ok tt → length (numbers_at d L) ≤ 32
+few_l d h = let known = checked_facts d h in scale_length (numbers_at d L) (known.ranges L) (known.rises L)
+
+pub few_f : (d : Data) → checked d ≡ Ok tt → length (numbers_at d F) ≤ 2048
+few_f d h =
+    let known = checked_facts d h in
+    let bounds = within_bounds 2 2048 (number_at d Nodes) (known.ranges Nodes) in
+    let all = (and_parts (has_some (numbers_at d F)) (list_all (λ f. nat_lt f (number_at d Nodes)) (numbers_at d F)) (known.ranges F)).1 in
+    let short = failed_length (number_at d Nodes) (numbers_at d F) all (known.rises F) in
+    omega (arith, short, bounds.1)
+
+pub few_liars : (d : Data) → checked d ≡ Ok tt → number_at d Liars ≤ 2048
+few_liars d h = (within_bounds 0 2048 (number_at d Liars) ((checked_facts d h).ranges Liars)).1
+
+pub few_links : (d : Data) → checked d ≡ Ok tt → number_at d Links ≤ 2048
+few_links d h = (within_bounds 0 2048 (number_at d Links) ((checked_facts d h).ranges Links)).1
+
+-- ---- the facts of a plan
+
+largest_within : (bound a : ℕ) (xs : List ℕ) → a ≤ bound → AllByRecursion (λ x. x ≤ bound) xs → fold max a xs ≤ bound
+largest_within bound a [] small h = small
+largest_within bound a (x ∷ xs) small h =
+    let first : x ≤ bound = h.0 in
+    let both : max a x ≤ bound = omega arith in
+    largest_within bound (max a x) xs both h.1
+
+largest_reached : (low : ℕ) (xs : List ℕ) → 0 < length xs → AllByRecursion (λ x. low ≤ x) xs → low ≤ largest xs
+largest_reached low [] some h = absurd (omega arith)
+largest_reached low (x ∷ xs) some h =
+    let first : low ≤ x = h.0 in
+    let top = (every_below_fold (max 0 x) xs).0 in
+    omega (arith, first, top)
+
+scale_facts : (xs : List ℕ) → is_in_scale xs ≡ true → is_rising xs ≡ true → IsScale xs
+scale_facts xs range rises =
+    let parts = and_parts (has_some xs) (all_within 1 32 xs) range in
+    record { some = ltb-true 0 (length xs) parts.0; range = parts.1; rising = rises }
+
+scale_top : (xs : List ℕ) → is_in_scale xs ≡ true → (largest xs ≤ 32) × (1 ≤ largest xs)
+scale_top xs range =
+    let parts = and_parts (has_some xs) (all_within 1 32 xs) range in
+    let below = every-list_all (λ x. nat_le 1 x && nat_le x 32) (λ x. x ≤ 32) (λ x e. (within_bounds 1 32 x e).1) xs parts.1 in
+    let above = every-list_all (λ x. nat_le 1 x && nat_le x 32) (λ x. 1 ≤ x) (λ x e. (within_bounds 1 32 x e).0) xs parts.1 in
+    (largest_within 32 0 xs (omega arith) below, largest_reached 1 xs (ltb-true 0 (length xs) parts.0) above)
+
+ok_value : (r : Result (List ℕ) FromHexError) → is_ok r ≡ true → (bytes : List ℕ) × (r ≡ Ok bytes)
+ok_value (Ok bytes) h = (bytes, refl)
+ok_value (Err e) h = cc h
+
+all_bytes : (xs : List ℕ) → IsBytes xs → list_all (λ b. nat_lt b 256) xs ≡ true
+all_bytes [] h = refl
+all_bytes (x ∷ xs) h = rw (lt-ltb x 256 (h 0)) (all_bytes xs (λ i. h (suc i)))
+
+seed_facts : (text : List ℕ) → is_ok (decode_sized text 32) ≡ true
+    → (length (unwrap_or (result_ok (decode_sized text 32)) []) ≡ 32) × (list_all (λ b. nat_lt b 256) (unwrap_or (result_ok (decode_sized text 32)) []) ≡ true)
+seed_facts text h =
+    let found = ok_value (decode_sized text 32) h in
+    let twice = decode_sized-ok text 32 found.0 found.1 in
+    let facts = decode_of-ok text found.0 (sym (decode_sized-twice text 32 twice) ∙ found.1) in
+    let len : length found.0 ≡ 32 = omega (arith, twice, facts.2) in
+    rw found.1 (len, all_bytes found.0 facts.3)
+
+limits_ok : (cells faults nodes : ℕ) → limits cells faults nodes ≡ Ok tt → (0 < cells) × (faults ≤ nodes) × (cells ≤ 4096)
+limits_ok cells faults nodes h =
+    let some = wanted_ok (nat_lt 0 cells) _ _ tt h in
+    let fit = wanted_ok (nat_le faults nodes) _ _ tt some.1 in
+    let few = wanted_ok (nat_le cells 4096) _ _ tt fit.1 in
+    (ltb-true 0 cells some.0, leb-true faults nodes fit.0, leb-true cells 4096 few.0)
+
+counted_facts : (v : Values) → counted v ≡ Ok tt → (0 < length (cells_of v)) × (largest v.f + v.liars + v.links ≤ v.nodes) × (length (cells_of v) ≤ 4096)
+unfolding counted
+counted_facts v h = limits_ok (length (cells_of v)) (largest v.f + v.liars + v.links) v.nodes h
+
+pub plan_facts : (d : Data) → checked d ≡ Ok tt → counted (values_in d) ≡ Ok tt → IsPlan (values_in d)
+plan_facts d ok together =
+    let known = checked_facts d ok in
+    let version = within_bounds 1 1 (number_at d Version) (known.ranges Version) in
+    let copies = within_bounds 1 4 (number_at d Copies) (known.ranges Copies) in
+    let nodes = within_bounds 2 2048 (number_at d Nodes) (known.ranges Nodes) in
+    let repeats = within_bounds 1 1000000 (number_at d Repeats) (known.ranges Repeats) in
+    let failed = and_parts (has_some (numbers_at d F)) (list_all (λ f. nat_lt f (number_at d Nodes)) (numbers_at d F)) (known.ranges F) in
+    let seed = seed_facts (text_at d Seed) (known.ranges Seed) in
+    let rings = scale_top (numbers_at d K) (known.ranges K) in
+    let counts = counted_facts (values_in d) together in
+    record {
+      version = omega (arith, version.0, version.1);
+      some_copies = copies.0;
+      few_copies = copies.1;
+      ks = scale_facts (numbers_at d K) (known.ranges K) (known.rises K);
+      hs = scale_facts (numbers_at d H) (known.ranges H) (known.rises H);
+      ls = scale_facts (numbers_at d L) (known.ranges L) (known.rises L);
+      most_rings = rings.0;
+      some_ring = rings.1;
+      some_f = ltb-true 0 (length (numbers_at d F)) failed.0;
+      fs = failed.1;
+      fs_rising = known.rises F;
+      liars = few_liars d ok;
+      links = few_links d ok;
+      some_nodes = nodes.0;
+      few_nodes = nodes.1;
+      some_repeats = repeats.0;
+      few_repeats = repeats.1;
+      seed_length = seed.0;
+      seed_bytes = seed.1;
+      some_cell = counts.0;
+      few_cells = counts.2;
+      faults_fit = counts.1;
+    }
+
+pub few_copies : (d : Data) → checked d ≡ Ok tt → number_at d Copies ≤ 4
+few_copies d h = (within_bounds 1 4 (number_at d Copies) ((checked_facts d h).ranges Copies)).1
+
+pub few_processes : (d : Data) → checked d ≡ Ok tt → number_at d Nodes ≤ 2048
+few_processes d h = (within_bounds 2 2048 (number_at d Nodes) ((checked_facts d h).ranges Nodes)).1
+
+pub few_repeats : (d : Data) → checked d ≡ Ok tt → number_at d Repeats ≤ 1000000
+few_repeats d h = (within_bounds 1 1000000 (number_at d Repeats) ((checked_facts d h).ranges Repeats)).1

@@ -1,0 +1,61 @@
+-- Tests on lists of numbers, place by place.
+use Rattle.std.proofs.Common.{◌≡◌, ℕ, zero, suc, ◌≤◌, ◌<◌, ◌==◌, ◌&&◌, List, [], ◌∷◌, length, drop, get_or, Bool, true, false, nat_lt, refl, sym, ap, ◌∙◌, arith}
+use Rattle.std.proofs.lemmas.Bool.{lt-ltb, true≢false}
+use Rattle.std.proofs.lemmas.List.Folds.{list_all-map}
+use Rattle.std.specs.List.{list_all}
+use Rattle.serde_json.specs.View.{view}
+use Rattle.serde_json.specs.declared.value.Value.{Value}
+use Rattle.cut_plan.specs.Fields.{number_or_zero}
+use Rattle.cut_plan.specs.Accepted.{has_some}
+use Rattle.cut_plan.specs.Plan.{is_rising}
+use Rattle.cut_plan.specs.Look.{numbers_of}
+
+both_tests : (b r s : Bool) → b ≡ true → r ≡ s → r ≡ (b && s)
+both_tests true r s h e = e
+both_tests false r s h e = cc
+
+some_length : {X : Type 0} (xs : List X) → (length xs == 0) ≡ false → 0 < length xs
+some_length [] h = absurd (true≢false h)
+some_length (x ∷ xs) h = omega arith
+
+length_numbers : (xs : List Value) → length (numbers_of xs) ≡ length xs
+length_numbers [] = refl
+length_numbers (x ∷ xs) = ap suc (length_numbers xs)
+
+some_numbers : (xs : List Value) → (length xs == 0) ≡ false → has_some (numbers_of xs) ≡ true
+some_numbers xs h =
+    let some = some_length xs h in
+    lt-ltb 0 (length (numbers_of xs)) (rw (length_numbers xs) some)
+
+-- a test of each number, after the test that there is one
+pub numbers_pass : (p : ℕ → Bool) (xs : List Value) (r e : Bool) → e ≡ (length xs == 0) → e ≡ false → r ≡ list_all (λ v. p (number_or_zero (view v))) xs
+    → r ≡ (has_some (numbers_of xs) && list_all p (numbers_of xs))
+numbers_pass p xs r e is some all =
+    both_tests (has_some (numbers_of xs)) r (list_all p (numbers_of xs)) (some_numbers xs (sym is ∙ some))
+    (all ∙ sym (list_all-map p (λ v. number_or_zero (view v)) xs))
+
+pub number_at_place : (xs : List Value) (i : ℕ) (d : Value) → i < length xs → get_or (numbers_of xs) i 0 ≡ number_or_zero (view (get_or xs i d))
+number_at_place [] i d h = absurd (omega arith)
+number_at_place (x ∷ xs) zero d h = refl
+number_at_place (x ∷ xs) (suc i) d h = number_at_place xs i d (omega arith)
+
+-- whether a list rises from a place on is whether it does at that place, and from the next on
+pub rising_step : (xs : List ℕ) (j : ℕ) → suc j < length xs → is_rising (drop j xs) ≡ (nat_lt (get_or xs j 0) (get_or xs (suc j) 0) && is_rising (drop (suc j) xs))
+rising_step [] j h = absurd (omega arith)
+rising_step (x ∷ []) j h = absurd (omega arith)
+rising_step (x ∷ y ∷ rest) zero h = refl
+rising_step (x ∷ y ∷ rest) (suc j) h = rising_step (y ∷ rest) j (omega arith)
+
+-- a list rises from its last place on
+pub rising_end : (xs : List ℕ) (j : ℕ) → length xs ≤ suc j → is_rising (drop j xs) ≡ true
+rising_end [] zero h = refl
+rising_end [] (suc j) h = refl
+rising_end (x ∷ []) zero h = refl
+rising_end (x ∷ y ∷ rest) zero h = absurd (omega arith)
+rising_end (x ∷ xs) (suc j) h = rising_end xs j (omega arith)
+
+pub rising_whole : (xs : List Value) (i : ℕ) → 1 ≤ i → length xs ≤ i → ((j : ℕ) → suc j ≡ i → is_rising (numbers_of xs) ≡ is_rising (drop j (numbers_of xs))) → true ≡ is_rising (numbers_of xs)
+rising_whole xs zero some past known = absurd (omega arith)
+rising_whole xs (suc j) some past known =
+    let within : length (numbers_of xs) ≤ suc j = rw (length_numbers xs) past in
+    sym (known j refl ∙ rising_end (numbers_of xs) j within)

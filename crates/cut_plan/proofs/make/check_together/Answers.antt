@@ -1,0 +1,40 @@
+use Rattle.std.proofs.Common.{◌≡◌, length, arith, refl, ◌∙◌}
+use Rattle.serde_json.specs.View.{view}
+use Rattle.cut_plan.specs.declared.field.Field.TheVariants as field
+use Rattle.cut_plan.specs.Cells.{cells_of, largest}
+use Rattle.cut_plan.specs.Fields.{numbers_at}
+use Rattle.cut_plan.specs.Accepted.{counted, values_in}
+use Rattle.cut_plan.proofs.PlanFacts.{few_f, few_h, few_k, few_l, few_liars, few_links}
+use Rattle.cut_plan.proofs.make.check_together.Goals as goal
+
+pub count_cells-cells-requires-clause-few_f : goal.count_cells-cells-requires-clause-few_f
+count_cells-cells-requires-clause-few_f c = rw c.requires.f (few_f _ c.requires.checked)
+
+pub count_cells-cells-requires-clause-few_h : goal.count_cells-cells-requires-clause-few_h
+count_cells-cells-requires-clause-few_h c = rw c.requires.h (few_h _ c.requires.checked)
+
+pub count_cells-cells-requires-clause-few_k : goal.count_cells-cells-requires-clause-few_k
+count_cells-cells-requires-clause-few_k c = rw c.requires.k (few_k _ c.requires.checked)
+
+pub count_cells-cells-requires-clause-few_l : goal.count_cells-cells-requires-clause-few_l
+count_cells-cells-requires-clause-few_l c = rw c.requires.l (few_l _ c.requires.checked)
+
+pub overflow_add-faults : goal.overflow_add-faults
+overflow_add-faults c =
+    let liars = few_liars (view c.args.value.now) c.requires.checked in
+    let same = c.number_at-liars.ensures in
+    omega (arith, liars, same)
+
+pub overflow_add-faults-2 : goal.overflow_add-faults-2
+overflow_add-faults-2 c =
+    let liars = few_liars (view c.args.value.now) c.requires.checked in
+    let links = few_links (view c.args.value.now) c.requires.checked in
+    omega (arith, liars, links, c.number_at-liars.ensures, c.number_at-links.ensures)
+
+pub returns : goal.returns
+unfolding counted
+returns c =
+    let d = view c.args.value.now in
+    let cells : c.count_cells-cells.result ≡ length (cells_of (values_in d)) = rw (← c.requires.f, ← c.requires.h, ← c.requires.k, ← c.requires.l) c.count_cells-cells.ensures in
+    let most : c.largest.result ≡ largest (numbers_at d field.F) = rw (← c.requires.f, ← c.as_slice.ensures.value) c.largest.ensures in
+    c.check_limits.ensures ∙ rw (cells, c.from.ensures, most, c.number_at-liars.ensures, c.number_at-links.ensures, c.number_at.ensures) refl

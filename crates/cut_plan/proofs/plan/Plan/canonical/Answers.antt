@@ -1,0 +1,14 @@
+use Rattle.std.proofs.Common.{◌≡◌, ◌∙◌, ap, false}
+use Rattle.std.proofs.lemmas.Result.{IfOk-weaker}
+use Rattle.serde_json.specs.View.{view}
+use Rattle.serde_json.specs.Written.{has_float, compact_text}
+use Rattle.cut_plan.specs.Canonical.{canonical_text}
+use Rattle.cut_plan.proofs.Writing.{no_floats}
+use Rattle.cut_plan.proofs.plan.Plan.canonical.Goals as goal
+
+pub returns : goal.returns
+unfolding canonical_text
+returns c =
+    let same = c.in_ok-to_value.ensures in
+    let none : has_float (view c.in_ok-to_value.field-0) ≡ false = ap has_float same ∙ no_floats c.args.self.now in
+    record { text = IfOk-weaker c.to_vec.result _ _ (λ t e. e none ∙ ap compact_text same) c.to_vec.ensures.text }

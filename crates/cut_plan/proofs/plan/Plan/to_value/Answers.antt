@@ -1,0 +1,12 @@
+use Rattle.std.proofs.Common.{◌∙◌, ap}
+use Rattle.serde_json.specs.Data.{object}
+use Rattle.serde_json.proofs.Views.{view-Object}
+use Rattle.cut_plan.specs.Look.{with_fields}
+use Rattle.cut_plan.proofs.Writing.{with_all_fields, take_fields}
+use Rattle.cut_plan.proofs.plan.Plan.to_value.Goals as goal
+
+pub returns : goal.returns
+returns c =
+    let v = c.args.self.now in
+    let whole = take_fields c.all_fields-fields.result c.loop-field.field-index c.all_fields-fields.ensures c.loop-field-test.false in
+    view-Object c.loop-field.members ∙ ap object (c.loop-field.invariant ∙ ap (with_fields v) whole) ∙ with_all_fields v

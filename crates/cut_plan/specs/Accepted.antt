@@ -1,0 +1,151 @@
+-- Which texts are accepted plans, and the first fault of any other (this project's profile). The checks run in
+-- the order below, each over all fields before the next begins.
+use Rattle.std.specs.Prelude.{ℕ, ◌+◌, ◌&&◌, List, [], length, Bool, true, false, not, nat_le, nat_lt, if◌then◌else◌, codes, Option, Some, None, is_some, unwrap_or, Result, Ok, Err, ⊤}
+use Rattle.std.specs.Bool.{⊤}
+use Rattle.std.specs.List.{list_all, find}
+use Rattle.std.specs.Str.{is_utf8, bytes_eq}
+use Rattle.std.specs.Result.{is_ok, result_ok}
+use Rattle.hex.specs.Hex.{decode_sized}
+use Rattle.serde_json.specs.Data.{Data}
+use Rattle.serde_json.specs.Find.{get, as_bool, as_object}
+use Rattle.serde_json.specs.Read.{read}
+use Rattle.cut_plan.specs.declared.fault.PlanFault.{PlanFault}
+use Rattle.cut_plan.specs.declared.fault.PlanFault.TheVariants.{NotJson, NotObject, UnknownField, MissingField, WrongKind, OutOfRange, NotRising, NoCell, TooManyFaults, TooManyTrials, PlanTooLong}
+use Rattle.cut_plan.specs.declared.field.Field.{Field}
+use Rattle.cut_plan.specs.declared.field.Field.TheVariants as field
+use Rattle.cut_plan.specs.declared.rule.Dead.{Dead}
+use Rattle.cut_plan.specs.declared.rule.Dead.TheVariants.{Silent, Speak}
+use Rattle.cut_plan.specs.declared.rule.Faults.{Faults}
+use Rattle.cut_plan.specs.declared.rule.Faults.TheVariants.{Crash, Deaf}
+use Rattle.cut_plan.specs.Values.{Values}
+use Rattle.cut_plan.specs.Cells.{cells_of, largest}
+use Rattle.cut_plan.specs.Plan.{all_within, is_rising}
+use Rattle.cut_plan.specs.Fields.{name_of, all_fields, is_named, kind_of, keys, is_of, member_at, number_at, numbers_at, text_at}
+
+-- ---- what is asked of each field
+
+-- whether the object has the field
+abbrev pub is_present : Data → Field → Bool
+is_present d field = is_some (get (name_of field) d)
+
+-- whether the field's value is of the field's kind
+abbrev pub is_of_kind : Data → Field → Bool
+is_of_kind d field = is_of (kind_of field) (member_at d field)
+
+-- the rule on crashed observers that a word names
+abbrev pub dead_of : List ℕ → Option Dead
+dead_of word = if bytes_eq word (codes "silent") then Some Silent else if bytes_eq word (codes "speak") then Some Speak else None
+
+-- the way in which targets fail that a word names
+abbrev pub faults_of : List ℕ → Option Faults
+faults_of word = if bytes_eq word (codes "crash") then Some Crash else if bytes_eq word (codes "deaf") then Some Deaf else None
+
+-- a number that is at least low and at most high
+abbrev pub is_within : ℕ → ℕ → ℕ → Bool
+is_within low high n = nat_le low n && nat_le n high
+
+-- a list that is not empty
+abbrev pub has_some : List ℕ → Bool
+has_some xs = nat_lt 0 (length xs)
+
+-- a list of ring numbers or watermarks, which are 1 to 32
+abbrev pub is_in_scale : List ℕ → Bool
+is_in_scale xs = has_some xs && all_within 1 32 xs
+
+-- whether the field's value is in the field's range; an empty list is not, nor a text that is none of the words
+-- or not 64 hexadecimal digits
+abbrev pub is_in_range : Data → Field → Bool
+is_in_range d field.Copies = is_within 1 4 (number_at d field.Copies)
+is_in_range d field.Dead = is_some (dead_of (text_at d field.Dead))
+is_in_range d field.F = has_some (numbers_at d field.F) && list_all (λ f. nat_lt f (number_at d field.Nodes)) (numbers_at d field.F)
+is_in_range d field.Faults = is_some (faults_of (text_at d field.Faults))
+is_in_range d field.H = is_in_scale (numbers_at d field.H)
+is_in_range d field.Implicit = true
+is_in_range d field.K = is_in_scale (numbers_at d field.K)
+is_in_range d field.L = is_in_scale (numbers_at d field.L)
+is_in_range d field.Liars = is_within 0 2048 (number_at d field.Liars)
+is_in_range d field.Links = is_within 0 2048 (number_at d field.Links)
+is_in_range d field.Nodes = is_within 2 2048 (number_at d field.Nodes)
+is_in_range d field.Repeats = is_within 1 1000000 (number_at d field.Repeats)
+is_in_range d field.Seed = is_ok (decode_sized (text_at d field.Seed) 32)
+is_in_range d field.Version = is_within 1 1 (number_at d field.Version)
+
+-- whether the field's numbers rise strictly; a field of another kind has none
+abbrev pub rises_at : Data → Field → Bool
+rises_at d field = is_rising (numbers_at d field)
+
+-- ---- the order of the checks
+
+-- the fault where the test fails, else what comes after
+abbrev pub wanted : {A : Type 0} → Bool → PlanFault → Result A PlanFault → Result A PlanFault
+wanted holds fault later = if holds then later else Err fault
+
+-- the fault of the field that was found, or what comes after
+abbrev pub fault_at : {A : Type 0} → Option Field → (Field → PlanFault) → Result A PlanFault → Result A PlanFault
+fault_at None fault later = later
+fault_at (Some field) fault later = Err (fault field)
+
+-- the fault of the first field of which the test fails, else what comes after
+abbrev pub each : {A : Type 0} → (Field → Bool) → (Field → PlanFault) → Result A PlanFault → Result A PlanFault
+each holds fault later = fault_at (find (λ field. not (holds field)) all_fields) fault later
+
+-- the checks on the object's fields
+unfoldable pub checked : Data → Result ⊤ PlanFault
+checked d =
+    wanted (is_some (as_object d)) NotObject
+    (wanted (list_all is_named (keys d)) UnknownField
+    (each (is_present d) MissingField
+    (each (is_of_kind d) WrongKind
+    (each (is_in_range d) OutOfRange
+    (each (rises_at d) NotRising
+    (Ok tt))))))
+
+-- what the object's fields say
+abbrev pub values_in : Data → Values
+values_in d = record {
+  copies = number_at d field.Copies;
+  dead = unwrap_or (dead_of (text_at d field.Dead)) Silent;
+  f = numbers_at d field.F;
+  faults = unwrap_or (faults_of (text_at d field.Faults)) Crash;
+  h = numbers_at d field.H;
+  implicit = unwrap_or (as_bool (member_at d field.Implicit)) false;
+  k = numbers_at d field.K;
+  l = numbers_at d field.L;
+  liars = number_at d field.Liars;
+  links = number_at d field.Links;
+  nodes = number_at d field.Nodes;
+  repeats = number_at d field.Repeats;
+  seed = unwrap_or (result_ok (decode_sized (text_at d field.Seed) 32)) [];
+  version = number_at d field.Version;
+}
+
+-- the limits on the number of cells, on the faults, and on the cells again: some cell, no more faults than
+-- processes, and no more than 4096 cells
+abbrev pub limits : ℕ → ℕ → ℕ → Result ⊤ PlanFault
+limits cells faults nodes =
+    wanted (nat_lt 0 cells) NoCell
+    (wanted (nat_le faults nodes) TooManyFaults
+    (wanted (nat_le cells 4096) TooManyTrials
+    (Ok tt)))
+
+-- the checks on the values together; there is no cell where no combination has l ≤ h ≤ k
+unfoldable pub counted : Values → Result ⊤ PlanFault
+counted v = limits (length (cells_of v)) (largest v.f + v.liars + v.links) v.nodes
+
+-- the second step, where the first found no fault
+abbrev pub after : {A B : Type 0} → Result A PlanFault → Result B PlanFault → Result B PlanFault
+after (Ok x) later = later
+after (Err e) later = Err e
+
+-- the plan that a JSON value is, or its first fault
+unfoldable pub plan_in : Data → Result Values PlanFault
+plan_in d = after (checked d) (after (counted (values_in d)) (Ok (values_in d)))
+
+-- the plan that was read, where anything was
+abbrev pub found_in : Option Data → Result Values PlanFault
+found_in None = Err NotJson
+found_in (Some d) = plan_in d
+
+-- the plan that a text is, or its first fault: the text has at most 65,536 bytes, is UTF-8, and `serde_json` reads it
+unfoldable pub plan_of : List ℕ → Result Values PlanFault
+plan_of text = if nat_lt 65536 (length text) then Err PlanTooLong else found_in (if is_utf8 text then read text else None)

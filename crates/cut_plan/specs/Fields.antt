@@ -1,0 +1,111 @@
+-- The fields of a plan's JSON object: their names, their kinds, and what stands in them.
+use Rattle.std.specs.Prelude.{ℕ, List, [], ◌∷◌, map, Bool, ◌&&◌, codes, Option, Some, None, is_some, unwrap_or, option_and_then}
+use Rattle.std.specs.List.{list_all, list_any}
+use Rattle.std.specs.Str.{bytes_eq}
+use Rattle.serde_json.specs.Data.{Data, null, Items, no_items, item, Members, no_members, member}
+use Rattle.serde_json.specs.Find.{get, as_bool, as_number, as_str, as_array, as_object, as_u64}
+use Rattle.cut_plan.specs.declared.field.Field.{Field}
+use Rattle.cut_plan.specs.declared.field.Field.TheVariants.{Copies, Dead, F, Faults, H, Implicit, K, L, Liars, Links, Nodes, Repeats, Seed, Version}
+use Rattle.cut_plan.specs.declared.kind.Kind.{Kind}
+use Rattle.cut_plan.specs.declared.kind.Kind.TheVariants.{Number, Numbers, Text, Truth}
+
+-- the name of a field in the JSON object
+abbrev pub name_of : Field → List ℕ
+name_of Copies = codes "copies"
+name_of Dead = codes "dead"
+name_of F = codes "f"
+name_of Faults = codes "faults"
+name_of H = codes "h"
+name_of Implicit = codes "implicit"
+name_of K = codes "k"
+name_of L = codes "l"
+name_of Liars = codes "liars"
+name_of Links = codes "links"
+name_of Nodes = codes "nodes"
+name_of Repeats = codes "repeats"
+name_of Seed = codes "seed"
+name_of Version = codes "version"
+
+-- every field, in byte order of the names
+unfoldable pub all_fields : List Field
+all_fields = Copies ∷ Dead ∷ F ∷ Faults ∷ H ∷ Implicit ∷ K ∷ L ∷ Liars ∷ Links ∷ Nodes ∷ Repeats ∷ Seed ∷ Version ∷ []
+
+-- whether a text is the name of a field
+abbrev pub is_named : List ℕ → Bool
+is_named name = list_any (λ field. bytes_eq (name_of field) name) all_fields
+
+-- the kind of a field's value
+abbrev pub kind_of : Field → Kind
+kind_of Copies = Number
+kind_of Dead = Text
+kind_of F = Numbers
+kind_of Faults = Text
+kind_of H = Numbers
+kind_of Implicit = Truth
+kind_of K = Numbers
+kind_of L = Numbers
+kind_of Liars = Number
+kind_of Links = Number
+kind_of Nodes = Number
+kind_of Repeats = Number
+kind_of Seed = Text
+kind_of Version = Number
+
+-- the whole number that a value is: an unsigned integer of 64 bits, with no point and no exponent
+abbrev pub whole_number : Data → Option ℕ
+whole_number d = option_and_then as_u64 (as_number d)
+
+-- the items, as a list
+abbrev pub list_of_items : Items → List Data
+list_of_items no_items = []
+list_of_items (item d ds) = d ∷ list_of_items ds
+
+-- the items that were found
+abbrev pub found_items : Option Items → List Data
+found_items None = []
+found_items (Some ds) = list_of_items ds
+
+-- the items of an array, and none of anything else
+abbrev pub elements : Data → List Data
+elements d = found_items (as_array d)
+
+-- the keys of members, in their order
+abbrev pub keys_of_members : Members → List (List ℕ)
+keys_of_members no_members = []
+keys_of_members (member k d ms) = k ∷ keys_of_members ms
+
+-- the keys of the members that were found
+abbrev pub found_keys : Option Members → List (List ℕ)
+found_keys None = []
+found_keys (Some ms) = keys_of_members ms
+
+-- the keys of an object, and none of anything else
+abbrev pub keys : Data → List (List ℕ)
+keys d = found_keys (as_object d)
+
+-- whether a value is of a kind
+abbrev pub is_of : Kind → Data → Bool
+is_of Number d = is_some (whole_number d)
+is_of Numbers d = is_some (as_array d) && list_all (λ x. is_some (whole_number x)) (elements d)
+is_of Text d = is_some (as_str d)
+is_of Truth d = is_some (as_bool d)
+
+-- the value of a field, null where it is missing
+abbrev pub member_at : Data → Field → Data
+member_at d field = unwrap_or (get (name_of field) d) null
+
+-- the number in a value, 0 where it is of another kind
+abbrev pub number_or_zero : Data → ℕ
+number_or_zero d = unwrap_or (whole_number d) 0
+
+-- the number in a field
+abbrev pub number_at : Data → Field → ℕ
+number_at d field = number_or_zero (member_at d field)
+
+-- the numbers in a field
+abbrev pub numbers_at : Data → Field → List ℕ
+numbers_at d field = map number_or_zero (elements (member_at d field))
+
+-- the text in a field
+abbrev pub text_at : Data → Field → List ℕ
+text_at d field = unwrap_or (as_str (member_at d field)) []

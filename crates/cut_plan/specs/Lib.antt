@@ -1,0 +1,11 @@
+pub mod FaultNumber
+pub mod Values
+pub mod Cells
+pub mod Plan
+pub mod Inside
+pub mod Fields
+pub mod Accepted
+pub mod Canonical
+pub mod Look
+pub mod Combine
+pub mod Combinations

@@ -1,0 +1,46 @@
+-- What is known of every accepted plan.
+use Rattle.std.specs.Prelude.{◌≡◌, ℕ, ◌+◌, ◌≤◌, ◌<◌, ◌&&◌, List, [], ◌∷◌, length, Bool, true, nat_le, nat_lt, IsTrue}
+use Rattle.std.specs.List.{list_all}
+use Rattle.cut_plan.specs.Values.{Values}
+use Rattle.cut_plan.specs.Cells.{cells_of, largest}
+
+-- each number is at least low and at most high
+abbrev pub all_within : ℕ → ℕ → List ℕ → Bool
+all_within low high xs = list_all (λ x. nat_le low x && nat_le x high) xs
+
+-- each number is below the next
+abbrev pub is_rising : List ℕ → Bool
+is_rising [] = true
+is_rising (x ∷ []) = true
+is_rising (x ∷ y ∷ rest) = nat_lt x y && is_rising (y ∷ rest)
+
+-- a list of ring numbers or watermarks: not empty, strictly rising, each 1 to 32
+pub record IsScale (xs : List ℕ) : Type 0 where
+  pub some : 0 < length xs
+  pub range : IsTrue (all_within 1 32 xs)
+  pub rising : IsTrue (is_rising xs)
+
+-- an accepted plan: every value in its range, at least one cell, and no more of anything than allowed
+pub record IsPlan (v : Values) : Type 0 where
+  pub version : v.version ≡ 1
+  pub some_copies : 1 ≤ v.copies
+  pub few_copies : v.copies ≤ 4
+  pub ks : IsScale v.k
+  pub hs : IsScale v.h
+  pub ls : IsScale v.l
+  pub most_rings : largest v.k ≤ 32
+  pub some_ring : 1 ≤ largest v.k
+  pub some_f : 0 < length v.f
+  pub fs : IsTrue (list_all (λ f. nat_lt f v.nodes) v.f)
+  pub fs_rising : IsTrue (is_rising v.f)
+  pub liars : v.liars ≤ 2048
+  pub links : v.links ≤ 2048
+  pub some_nodes : 2 ≤ v.nodes
+  pub few_nodes : v.nodes ≤ 2048
+  pub some_repeats : 1 ≤ v.repeats
+  pub few_repeats : v.repeats ≤ 1000000
+  pub seed_length : length v.seed ≡ 32
+  pub seed_bytes : IsTrue (list_all (λ b. nat_lt b 256) v.seed)
+  pub some_cell : 0 < length (cells_of v)
+  pub few_cells : length (cells_of v) ≤ 4096
+  pub faults_fit : largest v.f + v.liars + v.links ≤ v.nodes

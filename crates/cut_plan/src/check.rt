@@ -1,0 +1,211 @@
+//! The checks on the fields of a plan's JSON object.
+ghost use Rattle.std.specs.Prelude.{◌≡◌, ◌&&◌, not, true, nat_lt, unwrap_or, Ok};
+ghost use Rattle.std.specs.List.{list_all, find};
+ghost use Rattle.serde_json.specs.View.{view};
+ghost use Rattle.cut_plan.specs.Fields.{all_fields, number_or_zero, text_at};
+ghost use Rattle.cut_plan.specs.Accepted.{is_present, is_of_kind, dead_of, faults_of, is_within, has_some, is_in_scale, is_in_range, rises_at, checked};
+ghost use Rattle.hex.specs.Hex.{decode_sized};
+ghost use Rattle.cut_plan.specs.declared.field.Field.TheVariants as field;
+ghost use Rattle.cut_plan.specs.declared.rule.Dead.TheVariants.{Silent};
+ghost use Rattle.cut_plan.specs.declared.rule.Faults.TheVariants.{Crash};
+ghost use Rattle.cut_plan.specs.Plan.{is_rising};
+ghost use Rattle.cut_plan.specs.Look.{numbers_of};
+
+use crate::field::all_fields;
+use crate::object::{
+    has_only_fields, is_of_kind, is_present, items_at, number_at, number_of, number_or_zero,
+    text_at,
+};
+use crate::{Dead, Faults, Field, PlanFault};
+use hex::FromHex;
+use serde_json::Value;
+
+/// Checks each field in turn: that the value is an object with exactly a plan's fields, and then
+/// the kind of each, the range of each, and that each list rises.
+#[tactic(auto, unfolding(crate::specs::Accepted::checked))]
+pub(crate) fn check(value: &Value) -> Result<(), PlanFault>
+    ensures { result ≡ checked (view value.now) }
+{
+    if !value.is_object() {
+        return Err(PlanFault::NotObject);
+    }
+    if !has_only_fields(value) {
+        return Err(PlanFault::UnknownField);
+    }
+    if let Some(field) = first_missing(value) {
+        return Err(PlanFault::MissingField(field));
+    }
+    if let Some(field) = first_of_wrong_kind(value) {
+        return Err(PlanFault::WrongKind(field));
+    }
+    if let Some(field) = first_out_of_range(value) {
+        return Err(PlanFault::OutOfRange(field));
+    }
+    if let Some(field) = first_not_rising(value) {
+        return Err(PlanFault::NotRising(field));
+    }
+    Ok(())
+}
+
+/// The first field that the object lacks.
+fn first_missing(value: &Value) -> Option<Field>
+    ensures { result ≡ find (λ field. not (is_present (view value.now) field)) all_fields }
+{
+    let fields = all_fields();
+    fields
+        .iter()
+        .copied()
+        .find(|field| !is_present(value, *field))
+}
+
+/// The first field whose value is of another kind.
+fn first_of_wrong_kind(value: &Value) -> Option<Field>
+    ensures { result ≡ find (λ field. not (is_of_kind (view value.now) field)) all_fields }
+{
+    let fields = all_fields();
+    fields
+        .iter()
+        .copied()
+        .find(|field| !is_of_kind(value, *field))
+}
+
+/// The first field whose value is out of its range.
+fn first_out_of_range(value: &Value) -> Option<Field>
+    ensures { result ≡ find (λ field. not (is_in_range (view value.now) field)) all_fields }
+{
+    let fields = all_fields();
+    fields
+        .iter()
+        .copied()
+        .find(|field| !is_in_range(value, *field))
+}
+
+/// The first field whose list does not rise.
+fn first_not_rising(value: &Value) -> Option<Field>
+    ensures { result ≡ find (λ field. not (rises_at (view value.now) field)) all_fields }
+{
+    let fields = all_fields();
+    fields
+        .iter()
+        .copied()
+        .find(|field| !rises_at(value, *field))
+}
+
+/// Whether a field's value, which is of the field's kind, is in the field's range.
+fn is_in_range(value: &Value, field: Field) -> bool
+    ensures { result ≡ is_in_range (view value.now) field }
+{
+    match field {
+        Field::Copies => is_within(1, 4, number_at(value, field)),
+        Field::Dead => dead_of(text_at(value, field)).is_some(),
+        Field::F => are_below(items_at(value, field), number_at(value, Field::Nodes)),
+        Field::Faults => faults_of(text_at(value, field)).is_some(),
+        Field::H | Field::K | Field::L => are_in_scale(items_at(value, field)),
+        Field::Implicit => true,
+        Field::Liars | Field::Links => is_within(0, 2048, number_at(value, field)),
+        Field::Nodes => is_within(2, 2048, number_at(value, field)),
+        Field::Repeats => is_within(1, 1_000_000, number_at(value, field)),
+        Field::Seed => <[u8; 32] as FromHex>::from_hex(text_at(value, field)).is_ok(),
+        Field::Version => is_within(1, 1, number_at(value, field)),
+    }
+}
+
+/// Whether a field's list rises strictly.
+fn rises_at(value: &Value, field: Field) -> bool
+    ensures { result ≡ rises_at (view value.now) field }
+{
+    are_rising(items_at(value, field))
+}
+
+/// Whether a number is at least `low` and at most `high`.
+fn is_within(low: u64, high: u64, number: u64) -> bool
+    ensures { result ≡ is_within low high number }
+{
+    low <= number && number <= high
+}
+
+/// Whether there is some number, and each is below `bound`.
+fn are_below(items: &[Value], bound: u64) -> bool
+    ensures { result ≡ (has_some (numbers_of items.now) && list_all (λ x. nat_lt x bound) (numbers_of items.now)) }
+{
+    !items.is_empty() && all_below(items, bound)
+}
+
+/// Whether each number is below `bound`.
+fn all_below(items: &[Value], bound: u64) -> bool
+    ensures { result ≡ list_all (λ v. nat_lt (number_or_zero (view v)) bound) items.now }
+{
+    items.iter().all(|item| number_or_zero(item) < bound)
+}
+
+/// Whether there is some number, and each is 1 to 32.
+fn are_in_scale(items: &[Value]) -> bool
+    ensures { result ≡ is_in_scale (numbers_of items.now) }
+{
+    !items.is_empty() && all_in_scale(items)
+}
+
+/// Whether each number is 1 to 32.
+fn all_in_scale(items: &[Value]) -> bool
+    ensures { result ≡ list_all (λ v. is_within 1 32 (number_or_zero (view v))) items.now }
+{
+    items
+        .iter()
+        .all(|item| is_within(1, 32, number_or_zero(item)))
+}
+
+/// Whether each number is below the next.
+fn are_rising(items: &[Value]) -> bool
+    ensures { result ≡ is_rising (numbers_of items.now) }
+{
+    for i in 1..items.len() {
+        if number_of(items, i - 1) >= number_of(items, i) {
+            return false;
+        }
+    }
+    true
+}
+
+/// The rule on crashed observers that a word names.
+fn dead_of(word: &str) -> Option<Dead>
+    ensures { result ≡ dead_of word.now }
+{
+    match word {
+        "silent" => Some(Dead::Silent),
+        "speak" => Some(Dead::Speak),
+        _ => None,
+    }
+}
+
+/// The way in which targets fail that a word names.
+fn faults_of(word: &str) -> Option<Faults>
+    ensures { result ≡ faults_of word.now }
+{
+    match word {
+        "crash" => Some(Faults::Crash),
+        "deaf" => Some(Faults::Deaf),
+        _ => None,
+    }
+}
+
+/// The rule on crashed observers that an object names.
+pub(crate) fn dead_at(value: &Value) -> Dead
+    ensures { result ≡ unwrap_or (dead_of (text_at (view value.now) field.Dead)) Silent }
+{
+    dead_of(text_at(value, Field::Dead)).unwrap_or(Dead::Silent)
+}
+
+/// The way in which targets fail that an object names.
+pub(crate) fn faults_at(value: &Value) -> Faults
+    ensures { result ≡ unwrap_or (faults_of (text_at (view value.now) field.Faults)) Crash }
+{
+    faults_of(text_at(value, Field::Faults)).unwrap_or(Faults::Crash)
+}
+
+/// The bytes of an object's seed, which was checked.
+pub(crate) fn seed_at(value: &Value) -> [u8; 32]
+    requires { is_in_range (view value.now) field.Seed ≡ true }
+    ensures { decode_sized (text_at (view value.now) field.Seed) 32 ≡ Ok result }
+{
+    <[u8; 32] as FromHex>::from_hex(text_at(value, Field::Seed)).unwrap_or([0; 32])
+}

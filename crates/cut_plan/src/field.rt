@@ -1,0 +1,96 @@
+ghost use Rattle.std.specs.Prelude.{◌≡◌, Some};
+ghost use Rattle.cut_plan.specs.Fields.{name_of, kind_of, all_fields};
+
+use crate::kind::Kind;
+use std::fmt;
+
+/// A field of a plan's JSON object. The variants stand in byte order of the fields' names.
+#[derive(Clone, Copy, Debug, PartialEq, Eq)]
+pub enum Field {
+    Copies,
+    Dead,
+    F,
+    Faults,
+    H,
+    Implicit,
+    K,
+    L,
+    Liars,
+    Links,
+    Nodes,
+    Repeats,
+    Seed,
+    Version,
+}
+
+impl Field {
+    /// The field's name in the JSON object.
+    pub fn name(self) -> &'static str
+        ensures { result.now ≡ name_of self }
+    {
+        match self {
+            Field::Copies => "copies",
+            Field::Dead => "dead",
+            Field::F => "f",
+            Field::Faults => "faults",
+            Field::H => "h",
+            Field::Implicit => "implicit",
+            Field::K => "k",
+            Field::L => "l",
+            Field::Liars => "liars",
+            Field::Links => "links",
+            Field::Nodes => "nodes",
+            Field::Repeats => "repeats",
+            Field::Seed => "seed",
+            Field::Version => "version",
+        }
+    }
+
+    /// The kind of the field's value.
+    pub(crate) fn kind(self) -> Kind
+        ensures { result ≡ kind_of self }
+    {
+        match self {
+            Field::Copies
+            | Field::Liars
+            | Field::Links
+            | Field::Nodes
+            | Field::Repeats
+            | Field::Version => Kind::Number,
+            Field::F | Field::H | Field::K | Field::L => Kind::Numbers,
+            Field::Dead | Field::Faults | Field::Seed => Kind::Text,
+            Field::Implicit => Kind::Truth,
+        }
+    }
+}
+
+impl fmt::Display for Field {
+    ghost output = { λ field. Some (name_of field) };
+
+    fn fmt<W: fmt::Write>(&self, f: &mut fmt::Formatter<W>) -> fmt::Result {
+        f.write_str(self.name())
+    }
+}
+
+/// Every field, in byte order of the names.
+#[tactic(auto, unfolding(crate::specs::Fields::all_fields))]
+pub(crate) fn all_fields() -> [Field; 14]
+    ensures { result ≡ all_fields }
+{
+    [
+        Field::Copies,
+        Field::Dead,
+        Field::F,
+        Field::Faults,
+        Field::H,
+        Field::Implicit,
+        Field::K,
+        Field::L,
+        Field::Liars,
+        Field::Links,
+        Field::Nodes,
+        Field::Repeats,
+        Field::Seed,
+        Field::Version,
+    ]
+}

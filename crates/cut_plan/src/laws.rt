@@ -1,0 +1,25 @@
+//! Laws of plans, their cells and their texts.
+ghost use Rattle.std.specs.Prelude.{◌≡◌, ℕ, List, Ok};
+ghost use Rattle.cut_plan.specs.Values.{Values};
+ghost use Rattle.cut_plan.specs.Plan.{IsPlan};
+ghost use Rattle.cut_plan.specs.Accepted.{plan_of};
+ghost use Rattle.cut_plan.specs.Canonical.{canonical_text};
+ghost use Rattle.cut_plan.specs.Combinations.{AreCombinations};
+
+/// What any accepted text says is a plan: each value in its range, each list rising, some cell, and
+/// no more of anything than allowed.
+pub fn accepted_texts_give_plans()
+    ensures { (text : List ℕ) (v : Values) → plan_of text ≡ Ok v → IsPlan v }
+{}
+
+/// The canonical text of every plan is accepted, and is that plan. So a text can stand for a plan,
+/// and plans with equal texts are equal.
+pub fn canonical_text_reads_back()
+    ensures { (v : Values) → IsPlan v → plan_of (canonical_text v) ≡ Ok v }
+{}
+
+/// The cells of every plan are the combinations of its lists in which the low watermark is at most
+/// the high one and that at most the number of rings, each once, in lexical order.
+pub fn cells_are_the_combinations()
+    ensures { (v : Values) → IsPlan v → AreCombinations v }
+{}

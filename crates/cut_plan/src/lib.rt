@@ -1,0 +1,29 @@
+//! Study plans: what a study is to simulate, read from JSON and checked once.
+//!
+//! A [`Plan`] that exists is an accepted one: every range, every rising list and every limit on its
+//! cells is known of it by its type, so that no layer above tests or requires them again.
+#![tactic(auto)]
+
+mod cell;
+mod check;
+mod combine;
+mod fault;
+mod field;
+mod kind;
+mod laws;
+mod make;
+mod object;
+mod plan;
+mod read;
+mod rule;
+mod write;
+
+pub use cell::Cell;
+pub use fault::PlanFault;
+pub use field::Field;
+pub use laws::{accepted_texts_give_plans, canonical_text_reads_back, cells_are_the_combinations};
+pub use plan::Plan;
+pub use rule::{Dead, Faults};
+
+#[cfg(test)]
+mod tests;
