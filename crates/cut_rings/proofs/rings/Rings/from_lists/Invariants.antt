@@ -1,0 +1,14 @@
+use Rattle.std.proofs.Common.{◌≡◌, map, take}
+use Rattle.std.specs.List.{All, range_with_len}
+use Rattle.cut_rings.specs.Inverse.{IsInverse}
+use Rattle.cut_rings.specs.Listed.{listed_position}
+use Rattle.cut_rings.specs.Ranked.{IsOrder}
+use Rattle.cut_rings.proofs.rings.Rings.from_lists.Given as goal
+
+-- the rings made so far are those of the first lists
+abbrev pub invariant-loop-list : goal.invariant-loop-list
+invariant-loop-list l = record {
+  positions : map (λ r. r.positions.items) l.rings.items ≡ map (λ list. map (λ p. listed_position list.items p) (range_with_len 0 l.n)) (take l.list-index l.lists);
+  inverse : All (λ r. IsInverse l.n r.order.items r.positions.items) l.rings.items;
+  each_once : All (λ list. IsOrder l.n list.items) (take l.list-index l.lists);
+}
