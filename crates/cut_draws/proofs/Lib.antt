@@ -1,0 +1,4 @@
+pub mod Copies
+pub mod Apart
+pub mod Prefixes
+pub mod Delivered

@@ -1,0 +1,15 @@
+-- A delivery with what it is sorted by.
+use Rattle.std.specs.Prelude.{ℕ}
+use Rattle.cut_rings.specs.Edges.{edge_number}
+use Rattle.cut_draws.specs.Source.{Source, key_at}
+use Rattle.cut_draws.specs.declared.delivery.Delivery.{Delivery}
+use Rattle.cut_draws.specs.declared.keyed.Keyed.{Keyed}
+use Rattle.cut_draws.specs.Deliveries.{delivery_place}
+
+-- a delivery with its key at a receiver and its edge's number
+abbrev pub keyed_of : Source → ℕ → ℕ → Delivery → Keyed
+keyed_of d receiver k x = record {
+  key = key_at d (delivery_place receiver k x);
+  number = edge_number k x.edge;
+  delivery = x;
+}

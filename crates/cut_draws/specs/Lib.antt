@@ -1,0 +1,4 @@
+pub mod Source
+pub mod Order
+pub mod Deliveries
+pub mod Keyed
