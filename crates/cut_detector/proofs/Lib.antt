@@ -1,0 +1,10 @@
+pub mod Ranges
+pub mod Observers
+pub mod Agreement
+pub mod Tables
+pub mod History
+pub mod Delivery
+pub mod Modes
+pub mod Places
+pub mod Watermarks
+pub mod Repeats

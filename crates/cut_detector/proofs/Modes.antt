@@ -1,0 +1,105 @@
+-- What reports alone say of a process's mode.
+use Rattle.std.proofs.Common.{◌≡◌, ℕ, zero, suc, ◌+◌, ◌<◌, ◌≤◌, Bool, true, false, cond, ◌&&◌, ◌||◌, nat_le, nat_lt, IsTrue, refl, ap, sym, ◌∙◌, arith}
+use Rattle.std.specs.List.{range_with_len, count_by}
+use Rattle.std.proofs.Math.Bool.{or-false}
+use Rattle.std.proofs.lemmas.Bool.{leb-true, le-leb, ltb-true, false_from_ne_true}
+use Rattle.std.proofs.lemmas.List.Sums.{sum_by-le-sum_by, sum_by-cons}
+use Rattle.cut_rings.specs.Layout.{Layout, observer_of}
+use Rattle.cut_rings.specs.Edges.{EdgeSet}
+use Rattle.cut_detector.specs.Rule.{Rule}
+use Rattle.cut_detector.specs.Counts.{reports_of, is_reported, is_gained, is_full, full_count, is_stable, is_unstable}
+use Rattle.cut_detector.specs.Laws.{ReportsTargetsAlone}
+use Rattle.cut_detector.proofs.Ranges.{count_by_agree}
+use Rattle.cut_detector.proofs.Tables.{both}
+
+or_keeps : (x y : Bool) → cond x 1 0 ≤ cond (x || y) 1 0
+or_keeps true y = omega arith
+or_keeps false y = omega arith
+
+-- every reported ring counts
+pub reports_of-le : (r : Layout) (rule : Rule) (E : EdgeSet) (s : ℕ) → reports_of rule E s ≤ full_count r rule E s
+unfolding is_full
+reports_of-le r rule E s =
+    sum_by-le-sum_by (λ k. cond (E k s) 1 0) (λ k. cond (is_full r rule E k s) 1 0) (range_with_len 0 rule.k) (λ k. or_keeps (E k s) (is_gained r rule E k s))
+
+no_gain : (x y : Bool) → x && false && y ≡ false
+no_gain true y = refl
+no_gain false y = refl
+
+-- a process that is reported on fewer than L rings gains none
+pub full_count-unreported : (r : Layout) (rule : Rule) (E : EdgeSet) (s : ℕ) → is_reported rule E s ≡ false → full_count r rule E s ≡ reports_of rule E s
+unfolding is_full
+full_count-unreported r rule E s unreported =
+    count_by_agree (λ k. is_full r rule E k s) (λ k. E k s) 0 rule.k (record {
+      same = λ k _ _.
+          ap (λ b. E k s || (rule.implicit && b && is_reported rule E (observer_of r k s))) unreported
+          ∙ ap (λ b. E k s || b) (no_gain rule.implicit (is_reported rule E (observer_of r k s)))
+          ∙ or-false (E k s);
+    })
+
+-- with L = H, stable by reports alone
+pub is_stable-equal : (r : Layout) (rule : Rule) (E : EdgeSet) (s : ℕ) → rule.l ≡ rule.h → is_stable r rule E s ≡ nat_le rule.h (reports_of rule E s)
+unfolding is_stable is_reported
+is_stable-equal r rule E s equal = go (is_reported rule E s) refl
+  where
+    go : (b : Bool) → is_reported rule E s ≡ b → nat_le rule.h (full_count r rule E s) ≡ nat_le rule.h (reports_of rule E s)
+    go true is =
+        let many : rule.l ≤ reports_of rule E s = leb-true _ _ is in
+        let more : reports_of rule E s ≤ full_count r rule E s = reports_of-le r rule E s in
+        le-leb rule.h (full_count r rule E s) (omega arith) ∙ sym (le-leb rule.h (reports_of rule E s) (omega arith))
+    go false is = ap (nat_le rule.h) (full_count-unreported r rule E s is)
+
+pub is_unstable-equal : (r : Layout) (rule : Rule) (E : EdgeSet) (s : ℕ) → rule.l ≡ rule.h → IsTrue (is_unstable r rule E s) → ⊥
+unfolding is_unstable
+is_unstable-equal r rule E s equal is =
+    let parts = both (nat_le rule.l (full_count r rule E s)) (nat_lt (full_count r rule E s) rule.h) is in
+    let low : rule.l ≤ full_count r rule E s = leb-true _ _ parts.0 in
+    let high : full_count r rule E s < rule.h = ltb-true _ _ parts.1 in
+    omega arith
+
+-- a process that no edge is about has no report
+no_reports : (rule : Rule) (E : EdgeSet) (s : ℕ) → ((k : ℕ) → k < rule.k → E k s ≡ false) → reports_of rule E s ≡ 0
+no_reports rule E s none =
+    count_by_agree (λ k. E k s) (λ _. false) 0 rule.k (record { same = λ k _ below. none k (omega arith) }) ∙ count_by_never rule.k 0
+  where
+    count_by_never : (n a : ℕ) → count_by (λ _. false) (range_with_len a n) ≡ 0
+    count_by_never zero a = refl
+    count_by_never (suc n) a = sum_by-cons (λ _. cond false 1 0) a (range_with_len (a + 1) n) ∙ ap (λ m. 0 + m) (count_by_never n (a + 1))
+
+pub full_count-others : (r : Layout) (rule : Rule) (E : EdgeSet) (is_target : ℕ → Bool) → 1 ≤ rule.l → ReportsTargetsAlone r rule E is_target → (s : ℕ) → s < r.nodes → is_target s ≡ false → full_count r rule E s ≡ 0
+unfolding is_reported
+full_count-others r rule E is_target low reports s process other =
+    let none : reports_of rule E s ≡ 0 = no_reports rule E s (λ k below. false_from_ne_true (E k s) (λ t.
+    let w : is_target s ≡ true = reports.alone k s below process t in
+    cc)) in
+    let unreported : is_reported rule E s ≡ false = false_from_ne_true _ (λ t. let w : rule.l ≤ reports_of rule E s = leb-true _ _ t in omega arith) in
+    full_count-unreported r rule E s unreported ∙ none
+
+pub is_stable-targets : (r : Layout) (rule : Rule) (E : EdgeSet) (is_target : ℕ → Bool) → 1 ≤ rule.l → rule.l ≤ rule.h → ReportsTargetsAlone r rule E is_target → (s : ℕ) → s < r.nodes → is_stable r rule E s ≡ is_target s
+unfolding is_stable
+is_stable-targets r rule E is_target low high reports s process = go (is_target s) refl
+  where
+    go : (b : Bool) → is_target s ≡ b → nat_le rule.h (full_count r rule E s) ≡ is_target s
+    go true is =
+        let many : rule.h ≤ reports_of rule E s = reports.each s process is in
+        let more : reports_of rule E s ≤ full_count r rule E s = reports_of-le r rule E s in
+        le-leb rule.h (full_count r rule E s) (omega arith) ∙ sym is
+    go false is =
+        let none : full_count r rule E s ≡ 0 = full_count-others r rule E is_target low reports s process is in
+        false_from_ne_true _ (λ t. let w : rule.h ≤ full_count r rule E s = leb-true _ _ t in omega arith) ∙ sym is
+
+pub is_unstable-targets : (r : Layout) (rule : Rule) (E : EdgeSet) (is_target : ℕ → Bool) → 1 ≤ rule.l → rule.l ≤ rule.h → ReportsTargetsAlone r rule E is_target → (s : ℕ) → s < r.nodes → IsTrue (is_unstable r rule E s) → ⊥
+unfolding is_unstable
+is_unstable-targets r rule E is_target low high reports s process unstable = go (is_target s) refl
+  where
+    parts : (rule.l ≤ full_count r rule E s) × (full_count r rule E s < rule.h)
+    parts = let w = both (nat_le rule.l (full_count r rule E s)) (nat_lt (full_count r rule E s) rule.h) unstable in (leb-true _ _ w.0, ltb-true _ _ w.1)
+
+    go : (b : Bool) → is_target s ≡ b → ⊥
+    go true is =
+        let many : rule.h ≤ reports_of rule E s = reports.each s process is in
+        let more : reports_of rule E s ≤ full_count r rule E s = reports_of-le r rule E s in
+        omega (arith, parts.1)
+    go false is =
+        let none : full_count r rule E s ≡ 0 = full_count-others r rule E is_target low reports s process is in
+        omega (arith, parts.0)

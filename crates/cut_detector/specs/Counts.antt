@@ -1,0 +1,53 @@
+-- Reports, full reports and modes of the processes, where a set of edges has been delivered. (The
+-- Rapid paper's section on multi-process cut detection; that tallies count distinct rings, and what
+-- implicit alerts add, is this project's profile.)
+use Rattle.std.specs.Prelude.{ℕ, Bool, ◌&&◌, ◌||◌, not, List, count_by, filter, nat_lt, nat_le}
+use Rattle.std.specs.List.{range_with_len, list_any}
+use Rattle.cut_rings.specs.Layout.{Layout, observer_of}
+use Rattle.cut_rings.specs.Edges.{EdgeSet}
+use Rattle.cut_detector.specs.Rule.{Rule}
+
+-- on how many distinct rings s is reported
+abbrev pub reports_of : Rule → EdgeSet → ℕ → ℕ
+reports_of rule E s = count_by (λ k. E k s) (range_with_len 0 rule.k)
+
+-- whether s is reported on at least L rings
+unfoldable pub is_reported : Rule → EdgeSet → ℕ → Bool
+is_reported rule E s = nat_le rule.l (reports_of rule E s)
+
+-- whether s gains ring k: implicit alerts are on, and s and its observer on that ring are both
+-- reported on at least L rings
+abbrev pub is_gained : Layout → Rule → EdgeSet → ℕ → ℕ → Bool
+is_gained r rule E k s = rule.implicit && is_reported rule E s && is_reported rule E (observer_of r k s)
+
+-- whether ring k counts for s: it is reported there, or gains it
+unfoldable pub is_full : Layout → Rule → EdgeSet → ℕ → ℕ → Bool
+is_full r rule E k s = E k s || is_gained r rule E k s
+
+-- how many rings count for s
+abbrev pub full_count : Layout → Rule → EdgeSet → ℕ → ℕ
+full_count r rule E s = count_by (λ k. is_full r rule E k s) (range_with_len 0 rule.k)
+
+-- stable: at least H rings count
+unfoldable pub is_stable : Layout → Rule → EdgeSet → ℕ → Bool
+is_stable r rule E s = nat_le rule.h (full_count r rule E s)
+
+-- unstable: at least L and fewer than H rings count
+unfoldable pub is_unstable : Layout → Rule → EdgeSet → ℕ → Bool
+is_unstable r rule E s = nat_le rule.l (full_count r rule E s) && nat_lt (full_count r rule E s) rule.h
+
+-- whether some process is stable
+unfoldable pub is_some_stable : Layout → Rule → EdgeSet → Bool
+is_some_stable r rule E = list_any (λ s. is_stable r rule E s) (range_with_len 0 r.nodes)
+
+-- whether some process is unstable
+unfoldable pub is_some_unstable : Layout → Rule → EdgeSet → Bool
+is_some_unstable r rule E = list_any (λ s. is_unstable r rule E s) (range_with_len 0 r.nodes)
+
+-- settled: some process is stable and none is unstable
+unfoldable pub is_settled : Layout → Rule → EdgeSet → Bool
+is_settled r rule E = is_some_stable r rule E && not (is_some_unstable r rule E)
+
+-- the stable processes, ascending
+unfoldable pub stable_members : Layout → Rule → EdgeSet → List ℕ
+stable_members r rule E = filter (λ s. is_stable r rule E s) (range_with_len 0 r.nodes)

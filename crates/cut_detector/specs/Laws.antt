@@ -1,0 +1,87 @@
+-- Laws of cut detection, in the words of the Rapid paper's section on multi-process cut detection.
+use Rattle.std.specs.Prelude.{◌≡◌, ℕ, ◌<◌, ◌≤◌, ◌↔◌, Bool, true, false, List, ◌∷◌, ◌++◌, length, Option, option_map, MatchOption, IsTrue, Contains}
+use Rattle.std.specs.List.Sorted.{IsStrictlyIncreasing}
+use Rattle.cut_rings.specs.declared.edge.Edge.{Edge}
+use Rattle.cut_rings.specs.Layout.{Layout}
+use Rattle.cut_rings.specs.Edges.{EdgeSet, first_of}
+use Rattle.cut_detector.specs.Rule.{Rule, rule_of}
+use Rattle.cut_detector.specs.Counts.{reports_of, is_stable, is_unstable}
+use Rattle.cut_detector.specs.Proposal.{proposal_of}
+use Rattle.cut_detector.specs.declared.proposal.Proposal as declared
+
+-- some process is stable and none is unstable
+pub record IsSettled (r : Layout) (rule : Rule) (E : EdgeSet) : Type 0 where
+  pub some_stable : (s : ℕ) × (s < r.nodes) × IsTrue (is_stable r rule E s)
+  pub none_unstable : (s : ℕ) → s < r.nodes → ¬ IsTrue (is_unstable r rule E s)
+
+-- a proposal that is made at the least of `count` places at which some process is stable and none is
+-- unstable, and whose members are exactly the stable processes there
+pub record IsOfLeastPlace (r : Layout) (rule : Rule) (E : ℕ → EdgeSet) (count : ℕ) (p : declared.Proposal) : Type 0 where
+  pub from_first : 1 ≤ p.at
+  pub to_last : p.at ≤ count
+  pub settled : IsSettled r rule (E p.at)
+  pub least : (n : ℕ) → 1 ≤ n → n < p.at → ¬ IsSettled r rule (E n)
+  pub members : (s : ℕ) → Contains p.members s ↔ ((s < r.nodes) × IsTrue (is_stable r rule (E p.at) s))
+  pub ascending : IsStrictlyIncreasing p.members
+
+-- a process proposes at the least such place, and only where there is none it does not
+abbrev pub ProposesAtLeastPlace : Type 0
+ProposesAtLeastPlace =
+    (r : Layout) (rule : Rule) (E : ℕ → EdgeSet) (count : ℕ) →
+    MatchOption (proposal_of r rule E count)
+    ((n : ℕ) → 1 ≤ n → n ≤ count → ¬ IsSettled r rule (E n))
+    (IsOfLeastPlace r rule E count)
+
+-- the members that are proposed after a list of deliveries, if there is a proposal
+abbrev pub members_after : Layout → Rule → List Edge → Option (List ℕ)
+members_after r rule edges = option_map (λ p. p.members) (proposal_of r rule (first_of edges) (length edges))
+
+-- an edge that is delivered once more, at any later place, changes no members
+abbrev pub RepeatsChangeNoMembers : Type 0
+RepeatsChangeNoMembers =
+    (r : Layout) (rule : Rule) (before after : List Edge) (edge : Edge) → Contains before edge →
+    members_after r rule (before ++ edge ∷ after) ≡ members_after r rule (before ++ after)
+
+-- with L = H a process is stable exactly where at least H distinct rings report it
+abbrev pub StableByReportsAlone : Type 0
+StableByReportsAlone =
+    (r : Layout) (rule : Rule) (E : EdgeSet) (s : ℕ) → rule.l ≡ rule.h →
+    IsTrue (is_stable r rule E s) ↔ (rule.h ≤ reports_of rule E s)
+
+-- with L = H no process is unstable
+abbrev pub NoneIsUnstable : Type 0
+NoneIsUnstable =
+    (r : Layout) (rule : Rule) (E : EdgeSet) (s : ℕ) → rule.l ≡ rule.h → ¬ IsTrue (is_unstable r rule E s)
+
+-- with L = H implicit alerts change no proposal
+abbrev pub ImplicitAlertsChangeNothing : Type 0
+ImplicitAlertsChangeNothing =
+    (r : Layout) (k h : ℕ) (E : ℕ → EdgeSet) (count : ℕ) →
+    proposal_of r (rule_of k h h true) E count ≡ proposal_of r (rule_of k h h false) E count
+
+-- with L = H the proposal is made at the first delivery after which some process is stable
+abbrev pub ProposesAtFirstStable : Type 0
+ProposesAtFirstStable =
+    (r : Layout) (rule : Rule) (E : ℕ → EdgeSet) (count : ℕ) → rule.l ≡ rule.h →
+    MatchOption (proposal_of r rule E count)
+    ((n s : ℕ) → 1 ≤ n → n ≤ count → s < r.nodes → ¬ IsTrue (is_stable r rule (E n) s))
+    (λ p. (n s : ℕ) → 1 ≤ n → n < p.at → s < r.nodes → ¬ IsTrue (is_stable r rule (E n) s))
+
+-- each edge of the set is one to a target, and each target is reported on at least H rings
+pub record ReportsTargetsAlone (r : Layout) (rule : Rule) (E : EdgeSet) (is_target : ℕ → Bool) : Type 0 where
+  pub alone : (ring subject : ℕ) → ring < rule.k → subject < r.nodes → IsTrue (E ring subject) → IsTrue (is_target subject)
+  pub each : (subject : ℕ) → subject < r.nodes → IsTrue (is_target subject) → rule.h ≤ reports_of rule E subject
+
+-- then the stable processes are exactly the targets
+abbrev pub StableAreTargets : Type 0
+StableAreTargets =
+    (r : Layout) (rule : Rule) (E : EdgeSet) (is_target : ℕ → Bool) → 1 ≤ rule.l → rule.l ≤ rule.h →
+    ReportsTargetsAlone r rule E is_target →
+    (s : ℕ) → s < r.nodes → is_stable r rule E s ≡ is_target s
+
+-- and no process is unstable
+abbrev pub TargetsAloneLeaveNoneUnstable : Type 0
+TargetsAloneLeaveNoneUnstable =
+    (r : Layout) (rule : Rule) (E : EdgeSet) (is_target : ℕ → Bool) → 1 ≤ rule.l → rule.l ≤ rule.h →
+    ReportsTargetsAlone r rule E is_target →
+    (s : ℕ) → s < r.nodes → ¬ IsTrue (is_unstable r rule E s)
