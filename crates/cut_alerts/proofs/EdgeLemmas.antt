@@ -1,0 +1,162 @@
+-- Lists of edges that ascend by number, and how the list of alerted edges grows.
+use Rattle.std.proofs.Common.{add-one, ◌≡◌, ℕ, zero, suc, ◌+◌, ◌*◌, ◌<◌, ◌≤◌, Bool, true, false, cond, List, [], ◌∷◌, ◌++◌, length, length-append, zero-mul, map, filter, refl, sym, ap, ◌∙◌, arith, append_assoc, append-nil, nat_lt, ◌==◌, not}
+use Rattle.std.proofs.lemmas.Bool.{and_parts, and_from, or_from, ne_eqb, lt-ltb}
+use Rattle.cut_alerts.proofs.RangeLemmas.{range_more}
+use Rattle.std.proofs.Math.Nat.{add-mul}
+use Rattle.std.specs.Prelude.{slice_index}
+use Rattle.std.specs.List.{range_with_len, flat_map, list_any, list_all}
+use Rattle.std.specs.List.Sorted.{IsStrictlyIncreasing}
+use Rattle.std.proofs.lemmas.List.FromFn.{filter_of_map_range_with_len_more, length-map-range_with_len}
+use Rattle.std.proofs.lemmas.List.Sums.{length-filter, count_by-le-length}
+use Rattle.std.proofs.lemmas.List.Elements.{filter-append}
+use Rattle.std.proofs.lemmas.List.Concat.{flat_map-append}
+use Rattle.std.proofs.lemmas.List.Folds.{list_all-append}
+use Rattle.cut_rings.specs.declared.edge.Edge.{Edge}
+use Rattle.cut_rings.specs.Edges.{edge_number, is_within, are_within}
+use Rattle.cut_draws.specs.Deliveries.{are_distinct}
+use Rattle.cut_alerts.specs.Alerted.{edges_of, all_edges}
+
+abbrev pub edge : ℕ → ℕ → Edge
+edge ring s = record { ring = ring; subject = s }
+
+-- one more ring of a subject, where its edge passes the test
+pub kept_more : (test : Edge → Bool) (s ring : ℕ) (base ys : List Edge) → test (edge ring s) ≡ true → ys ≡ base ++ filter test (edges_of ring s) → ys ++ edge ring s ∷ [] ≡ base ++ filter test (edges_of (ring + 1) s)
+kept_more test s ring base ys passes is =
+    let more = filter_of_map_range_with_len_more test (λ k. edge k s) 0 ring ring (omega arith) in
+    let one : cond (test (edge ring s)) (edge ring s ∷ []) [] ≡ edge ring s ∷ [] = ap (λ b. cond b (edge ring s ∷ []) []) passes in
+    ap (λ zs. zs ++ edge ring s ∷ []) is
+    ∙ append_assoc base (filter test (edges_of ring s)) (edge ring s ∷ [])
+    ∙ ap (λ zs. base ++ (filter test (edges_of ring s) ++ zs)) (sym one)
+    ∙ ap (λ zs. base ++ zs) (sym more)
+
+-- one more ring of a subject, where its edge does not
+pub skipped_more : (test : Edge → Bool) (s ring : ℕ) (base ys : List Edge) → test (edge ring s) ≡ false → ys ≡ base ++ filter test (edges_of ring s) → ys ≡ base ++ filter test (edges_of (ring + 1) s)
+skipped_more test s ring base ys fails is =
+    let more = filter_of_map_range_with_len_more test (λ k. edge k s) 0 ring ring (omega arith) in
+    let none : cond (test (edge ring s)) (edge ring s ∷ []) [] ≡ [] = ap (λ b. cond b (edge ring s ∷ []) []) fails in
+    is ∙ ap (λ zs. base ++ zs) (sym (append-nil (filter test (edges_of ring s))))
+    ∙ ap (λ zs. base ++ (filter test (edges_of ring s) ++ zs)) (sym none)
+    ∙ ap (λ zs. base ++ zs) (sym more)
+
+-- the edges of one more subject
+pub all_edges_more : (k s : ℕ) → all_edges k (s + 1) ≡ all_edges k s ++ edges_of k s
+all_edges_more k s =
+    ap (λ xs. flat_map (λ s. edges_of k s) xs) (range_more 0 s s (omega arith))
+    ∙ flat_map-append (λ s. edges_of k s) (range_with_len 0 s) (s ∷ [])
+    ∙ ap (λ ys. all_edges k s ++ ys) (append-nil (edges_of k s))
+
+-- the alerted edges of one more subject
+pub subject_more : (test : Edge → Bool) (k s : ℕ) (ys zs : List Edge) → ys ≡ filter test (all_edges k s) → zs ≡ ys ++ filter test (edges_of k s) → zs ≡ filter test (all_edges k (s + 1))
+subject_more test k s ys zs is more =
+    more ∙ ap (λ es. es ++ filter test (edges_of k s)) is
+    ∙ sym (filter-append test (all_edges k s) (edges_of k s))
+    ∙ ap (λ es. filter test es) (sym (all_edges_more k s))
+
+-- ---- edges within their range
+
+list_all-filter : (p q : Edge → Bool) (xs : List Edge) → list_all p xs ≡ true → list_all p (filter q xs) ≡ true
+list_all-filter p q [] h = refl
+list_all-filter p q (x ∷ xs) h =
+    let parts = and_parts (p x) (list_all p xs) h in
+    let rest = list_all-filter p q xs parts.1 in
+    elim (q x) as (λ b. list_all p (cond b (x ∷ filter q xs) (filter q xs)) ≡ true) [
+      | true ↦ and_from (p x) (list_all p (filter q xs)) parts.0 rest
+      | false ↦ rest
+    ]
+
+edges_within : (k n s a j : ℕ) → a + j ≤ k → s < n → list_all (λ e. is_within k n e) (map (λ ring. edge ring s) (range_with_len a j)) ≡ true
+edges_within k n s a zero fits below = refl
+edges_within k n s a (suc j) fits below =
+    let rest = edges_within k n s (a + 1) j (omega arith) below in
+    let here : is_within k n (edge a s) ≡ true = and_from (nat_lt a k) (nat_lt s n) (lt-ltb a k (omega arith)) (lt-ltb s n below) in
+    and_from (is_within k n (edge a s)) (list_all (λ e. is_within k n e) (map (λ ring. edge ring s) (range_with_len (a + 1) j))) here rest
+
+subjects_within : (k n a m : ℕ) → a + m ≤ n → list_all (λ e. is_within k n e) (flat_map (λ s. edges_of k s) (range_with_len a m)) ≡ true
+subjects_within k n a zero fits = refl
+subjects_within k n a (suc m) fits =
+    let rest = subjects_within k n (a + 1) m (omega arith) in
+    let here = edges_within k n a 0 k (omega arith) (omega arith) in
+    list_all-append (λ e. is_within k n e) (edges_of k a) (flat_map (λ s. edges_of k s) (range_with_len (a + 1) m))
+    ∙ and_from (list_all (λ e. is_within k n e) (edges_of k a)) (list_all (λ e. is_within k n e) (flat_map (λ s. edges_of k s) (range_with_len (a + 1) m))) here rest
+
+-- edges that pass a test are edges of their rings and processes
+pub within_all : (test : Edge → Bool) (k m n : ℕ) → m ≤ n → are_within k n (filter test (all_edges k m)) ≡ true
+within_all test k m n fits = list_all-filter (λ e. is_within k n e) test (all_edges k m) (subjects_within k n 0 m (omega arith))
+
+-- there are no more than there are processes times rings
+length-subjects : (k a m : ℕ) → length (flat_map (λ s. edges_of k s) (range_with_len a m)) ≡ m * k
+length-subjects k a zero = sym (zero-mul k)
+length-subjects k a (suc m) =
+    length-append (edges_of k a) (flat_map (λ s. edges_of k s) (range_with_len (a + 1) m))
+    ∙ ap (λ n. n + length (flat_map (λ s. edges_of k s) (range_with_len (a + 1) m))) (length-map-range_with_len (λ ring. edge ring a) 0 k)
+    ∙ ap (λ n. k + n) (length-subjects k (a + 1) m) ∙ omega arith
+
+pub few_all : (test : Edge → Bool) (k n : ℕ) → length (filter test (all_edges k n)) ≤ n * k
+few_all test k n = omega (arith, length-filter test (all_edges k n), count_by-le-length test (all_edges k n), length-subjects k 0 n)
+
+-- ---- edges that ascend by number
+
+-- each number is at least low, and above those before it
+abbrev pub Ascends : ℕ → ℕ → List Edge → Type 0
+Ascends k low [] = Unit {0}
+Ascends k low (e ∷ es) = (low ≤ edge_number k e) × Ascends k (edge_number k e + 1) es
+
+Ascends-lower : (k low low' : ℕ) (es : List Edge) → low' ≤ low → Ascends k low es → Ascends k low' es
+Ascends-lower k low low' [] below up = tt
+Ascends-lower k low low' (e ∷ es) below up = (omega (arith, up.0), up.1)
+
+Ascends-filter : (test : Edge → Bool) (k low : ℕ) (es : List Edge) → Ascends k low es → Ascends k low (filter test es)
+Ascends-filter test k low [] up = tt
+Ascends-filter test k low (e ∷ es) up =
+    let rest = Ascends-filter test k (edge_number k e + 1) es up.1 in
+    elim (test e) as (λ b. Ascends k low (cond b (e ∷ filter test es) (filter test es))) [
+      | true ↦ (up.0, rest)
+      | false ↦ Ascends-lower k (edge_number k e + 1) low (filter test es) (omega (arith, up.0)) rest
+    ]
+
+-- the edges of a subject ascend up to those of the next, which follow them
+Ascends-edges : (k s a j : ℕ) (es : List Edge) → a + j ≤ k → Ascends k (s * k + a + j) es → Ascends k (s * k + a) (map (λ ring. edge ring s) (range_with_len a j) ++ es)
+Ascends-edges k s a zero es fits up = Ascends-lower k (s * k + a + 0) (s * k + a) es (omega arith) up
+Ascends-edges k s a (suc j) es fits up =
+    let rest = Ascends-edges k s (a + 1) j es (omega arith) (Ascends-lower k (s * k + a + suc j) (s * k + (a + 1) + j) es (omega arith) up) in
+    (omega arith, Ascends-lower k (s * k + (a + 1)) (s * k + a + 1) (map (λ ring. edge ring s) (range_with_len (a + 1) j) ++ es) (omega arith) rest)
+
+Ascends-subjects : (k a m : ℕ) → Ascends k (a * k) (flat_map (λ s. edges_of k s) (range_with_len a m))
+Ascends-subjects k a zero = tt
+Ascends-subjects k a (suc m) =
+    let others = flat_map (λ s. edges_of k s) (range_with_len (a + 1) m) in
+    let rest = Ascends-subjects k (a + 1) m in
+    Ascends-lower k (a * k + 0) (a * k) (edges_of k a ++ others) (omega arith)
+    (Ascends-edges k a 0 k others (omega arith) (Ascends-lower k ((a + 1) * k) (a * k + 0 + k) others (omega (arith, add-mul)) rest))
+
+not_among : (k n low : ℕ) (es : List Edge) → n < low → Ascends k low es → list_any (λ x. edge_number k x == n) es ≡ false
+not_among k n low [] below up = refl
+not_among k n low (e ∷ es) below up =
+    let here : (edge_number k e == n) ≡ false = ne_eqb (edge_number k e) n (λ q. omega (arith, up.0)) in
+    or_from (edge_number k e == n) (list_any (λ x. edge_number k x == n) es) here (not_among k n (edge_number k e + 1) es (omega (arith, up.0)) up.1)
+
+distinct_from_ascends : (k low : ℕ) (es : List Edge) → Ascends k low es → are_distinct k es ≡ true
+distinct_from_ascends k low [] up = refl
+distinct_from_ascends k low (e ∷ es) up =
+    let apart = not_among k (edge_number k e) (edge_number k e + 1) es (omega arith) up.1 in
+    and_from (not (list_any (λ x. edge_number k x == edge_number k e) es)) (are_distinct k es)
+    (ap not apart) (distinct_from_ascends k (edge_number k e + 1) es up.1)
+
+-- the edges that pass a test ascend by number
+pub ascends_all : (test : Edge → Bool) (k n : ℕ) → Ascends k 0 (filter test (all_edges k n))
+ascends_all test k n = Ascends-filter test k 0 (all_edges k n) (Ascends-lower k (0 * k) 0 (all_edges k n) (omega arith) (Ascends-subjects k 0 n))
+
+-- so no two of them have one number
+pub distinct_all : (test : Edge → Bool) (k n : ℕ) → are_distinct k (filter test (all_edges k n)) ≡ true
+distinct_all test k n = distinct_from_ascends k 0 (filter test (all_edges k n)) (ascends_all test k n)
+
+increasing_at : (k low : ℕ) (es : List Edge) → Ascends k low es → (i : ℕ) → suc i < length (map (λ e. edge_number k e) es) → slice_index (map (λ e. edge_number k e) es) i < slice_index (map (λ e. edge_number k e) es) (suc i)
+increasing_at k low [] up i within = omega arith
+increasing_at k low (e ∷ []) up i within = omega arith
+increasing_at k low (e ∷ f ∷ es) up zero within = omega (arith, up.1.0)
+increasing_at k low (e ∷ f ∷ es) up (suc i) within = increasing_at k (edge_number k e + 1) (f ∷ es) up.1 i (omega arith)
+
+-- and their numbers increase
+pub increasing_all : (test : Edge → Bool) (k n : ℕ) → IsStrictlyIncreasing (map (λ e. edge_number k e) (filter test (all_edges k n)))
+increasing_all test k n i within =
+    rw (add-one i) (increasing_at k 0 (filter test (all_edges k n)) (ascends_all test k n) i (omega (arith, within)))

@@ -1,0 +1,4 @@
+pub mod EdgeLemmas
+pub mod RankLemmas
+pub mod RangeLemmas
+pub mod NamingLemmas

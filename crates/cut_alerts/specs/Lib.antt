@@ -1,0 +1,6 @@
+pub mod FaultNumber
+pub mod Assignment
+pub mod Drawn
+pub mod Alerted
+pub mod Naming
+pub mod Given

@@ -1,0 +1,70 @@
+ghost use Rattle.std.specs.Prelude.{◌≡◌, ◌≤◌, ◌<◌, ◌++◌, ◌*◌, ℕ, length, map, filter, IfOk, OnOk, IsTrue};
+ghost use Rattle.std.specs.List.Sorted.{IsStrictlyIncreasing};
+ghost use Rattle.cut_rings.specs.Edges.{are_within, edge_number};
+ghost use Rattle.cut_draws.specs.Deliveries.{are_distinct};
+ghost use Rattle.cut_alerts.specs.Alerted.{is_alerted, alert_list, edges_of};
+
+use crate::{Role, Roles};
+use cut_plan::Dead;
+use cut_rings::{Edge, Rings};
+use std::alloc::{AllocError, Global};
+
+/// Whether an edge is alerted: whether its observer raises an alert about its subject.
+pub fn is_alert(rings: &Rings, roles: &Roles, edge: Edge) -> bool
+    requires ring { edge.ring < length rings.now.positions }
+    requires subject { edge.subject < rings.now.nodes }
+    requires nodes { length roles.now.roles ≡ rings.now.nodes }
+    ensures { result ≡ is_alerted rings.now roles.now edge }
+{
+    let subject = edge.subject;
+    let observer = rings.observer(edge.ring, subject);
+    let alive = roles.role(observer) != Role::Crashed;
+    let is_cut = roles.is_cut(observer, subject) || roles.is_cut(subject, observer);
+    (roles.is_target(subject) && (alive || roles.dead() == Dead::Speak))
+        || roles.role(observer) == Role::Deaf
+        || roles.role(observer) == Role::Liar
+        || (is_cut && alive)
+}
+
+/// The alerted edges of the first `k` rings, in strictly ascending order of edge number, which is
+/// subject times k plus ring.
+pub fn alerts(alloc: Global, rings: &Rings, k: u8, roles: &Roles) -> Result<Vec<Edge>, AllocError>
+    requires rings { k ≤ length rings.now.positions }
+    requires nodes { length roles.now.roles ≡ rings.now.nodes }
+    ensures value { IfOk result (λ edges. edges.items ≡ alert_list rings.now roles.now k) }
+    ensures within { IfOk result (λ edges. (n : ℕ) → rings.now.nodes ≤ n → IsTrue (are_within k n edges.items)) }
+    ensures distinct { IfOk result (λ edges. IsTrue (are_distinct k edges.items)) }
+    ensures ascending { IfOk result
+        (λ edges. IsStrictlyIncreasing (map (λ e. edge_number k e) edges.items)) }
+    ensures few { IfOk result (λ edges. length edges.items ≤ rings.now.nodes * k) }
+{
+    let mut edges = Vec::new(alloc);
+    for subject in 0..rings.nodes() {
+        push_alerts(&mut edges, rings, k, roles, subject)?;
+    }
+    Ok(edges)
+}
+
+/// Adds the alerted edges of one subject, ring by ring.
+fn push_alerts(
+    edges: &mut Vec<Edge>,
+    rings: &Rings,
+    k: u8,
+    roles: &Roles,
+    subject: u16,
+) -> Result<(), AllocError>
+    requires rings { k ≤ length rings.now.positions }
+    requires nodes { length roles.now.roles ≡ rings.now.nodes }
+    requires subject { subject < rings.now.nodes }
+    ensures { OnOk result (edges.new.items
+        ≡ edges.old.items ++ filter (λ e. is_alerted rings.now roles.now e) (edges_of k subject)) }
+{
+    for ring in 0..k {
+        let edge = Edge { ring, subject };
+        if !is_alert(rings, roles, edge) {
+            continue;
+        }
+        edges.push(edge)?;
+    }
+    Ok(())
+}

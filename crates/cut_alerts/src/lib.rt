@@ -1,0 +1,20 @@
+//! Roles and alerts: which processes fail in a trial, and which edges are alerted.
+//!
+//! The targets are the processes that fail; liars raise false alerts; a link source has one cut link.
+//! An observer raises an alert about a subject whose probes it can't hear (the Rapid paper's section
+//! on monitoring; who fails and how is this project's profile).
+#![tactic(auto)]
+
+mod edges;
+mod fault;
+mod naming;
+mod role;
+mod roles;
+
+pub use edges::{alerts, is_alert};
+pub use fault::RolesFault;
+pub use role::Role;
+pub use roles::Roles;
+
+#[cfg(test)]
+mod tests;

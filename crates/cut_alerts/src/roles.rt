@@ -1,0 +1,167 @@
+ghost use Rattle.std.specs.Prelude.{◌≡◌, ◌<◌, length, IfOk, OnOk, IsErrOf};
+ghost use Rattle.cut_plan.specs.Cells.{IsCellOf};
+ghost use Rattle.cut_alerts.specs.Assignment.{role_at, is_target, is_cut};
+ghost use Rattle.cut_alerts.specs.Drawn.{drawn, ranked_role, target_role};
+ghost use Rattle.cut_alerts.specs.Given.{given, IsLegal, AreLinks};
+
+use crate::naming::{are_links, name_all, name_sources};
+use crate::{Role, RolesFault};
+use cut_draws::Draws;
+use cut_plan::{Cell, Dead, Faults, Plan};
+use cut_rings::Rings;
+use std::alloc::{AllocError, Global};
+use std::marker::Model;
+
+/// The roles of all processes in a trial. Contracts see each process's role, and whether crashed
+/// observers raise alerts.
+#[derive(Debug, Drop)]
+pub struct Roles {
+    roles: Vec<Role>,
+    dead: Dead,
+}
+
+impl Model for Roles {
+    ghost use Rattle.cut_alerts.specs.Assignment.{Assignment};
+
+    ghost Value = { Assignment };
+
+    ghost view = { λ r. record { roles = r.roles.items; dead = r.dead } };
+
+    ghost use Rattle.std.specs.Prelude.{◌<◌, ◌^◌, length};
+
+    ghost invariant = { λ r. length r.roles.items < 2 ^ 16 };
+}
+
+impl Roles {
+    /// The roles that a trial of a cell draws.
+    pub fn of_trial(
+        alloc: Global,
+        plan: &Plan,
+        cell: Cell,
+        draws: &mut Draws,
+        rings: &Rings,
+    ) -> Result<Roles, AllocError>
+        requires cell { IsCellOf plan.now cell }
+        requires nodes { rings.now.nodes ≡ plan.now.nodes }
+        ensures drawn { IfOk result (λ r. r ≡ drawn plan.now cell.f draws.old rings.now) }
+        ensures same { draws.new ≡ draws.old }
+    {
+        let n = plan.nodes();
+        let _ = rings.len();
+        let order = draws.process_order(alloc, n)?;
+        let mut roles = vec![in alloc; Role::Healthy; usize::from(n)]?;
+        for (rank, process) in order.iter().enumerate() {
+            let role = ranked_role(plan, cell, rings, *process, rank as u16);
+            roles[usize::from(*process)] = role;
+        }
+        Ok(Roles {
+            roles,
+            dead: plan.dead(),
+        })
+    }
+
+    /// The roles of `nodes` processes by lists: of the targets, which fail as `faults` says, of the
+    /// liars, and of the cut links, each from its source to another process. All others are healthy.
+    /// BadRole exactly where a process is not below `nodes`, where one is named twice among targets,
+    /// liars and sources, or where a link has equal ends; where memory for the roles is refused, only
+    /// the ends of links have been tested (this project's profile).
+    pub fn given(
+        alloc: Global,
+        nodes: u16,
+        targets: &[u16],
+        liars: &[u16],
+        links: &[(u16, u16)],
+        faults: Faults,
+        dead: Dead,
+    ) -> Result<Roles, RolesFault>
+        ensures given { IfOk result
+            (λ r. r ≡ given nodes targets.now liars.now links.now faults dead) }
+        ensures legal { OnOk result (IsLegal nodes targets.now liars.now links.now) }
+        ensures bad_role { IsErrOf result RolesFault.BadRole
+            → ¬ IsLegal nodes targets.now liars.now links.now }
+        ensures bad_link { ¬ AreLinks nodes links.now → IsErrOf result RolesFault.BadRole }
+    {
+        if !are_links(nodes, links) {
+            return Err(RolesFault::BadRole);
+        }
+        let mut roles = vec![in alloc; Role::Healthy; usize::from(nodes)]?;
+        name_all(&mut roles, targets, target_role(faults))?;
+        name_all(&mut roles, liars, Role::Liar)?;
+        name_sources(&mut roles, links)?;
+        Ok(Roles { roles, dead })
+    }
+
+    /// The role of a process.
+    pub fn role(&self, process: u16) -> Role
+        requires { process < length self.now.roles }
+        ensures { result ≡ role_at self.now process }
+    {
+        self.roles[usize::from(process)]
+    }
+
+    /// Whether observers that have crashed raise alerts.
+    pub fn dead(&self) -> Dead
+        ensures { result ≡ self.now.dead }
+    {
+        self.dead
+    }
+
+    /// How many processes there are.
+    pub fn nodes(&self) -> u16
+        ensures { result ≡ length self.now.roles }
+    {
+        self.roles.len() as u16
+    }
+
+    /// Whether the link from one process to another is cut.
+    pub fn is_cut(&self, from: u16, to: u16) -> bool
+        requires { from < length self.now.roles }
+        ensures { result ≡ is_cut self.now from to }
+    {
+        match self.role(from) {
+            Role::LinkSource(end) => end == to,
+            _ => false,
+        }
+    }
+
+    /// Whether a process is a target.
+    pub fn is_target(&self, process: u16) -> bool
+        requires { process < length self.now.roles }
+        ensures { result ≡ is_target self.now process }
+    {
+        match self.role(process) {
+            Role::Crashed | Role::Deaf => true,
+            _ => false,
+        }
+    }
+}
+
+/// What a target is, where targets fail in this way.
+fn target_role(faults: Faults) -> Role
+    ensures { result ≡ target_role faults }
+{
+    match faults {
+        Faults::Crash => Role::Crashed,
+        Faults::Deaf => Role::Deaf,
+    }
+}
+
+/// The role of a process that has this rank among all.
+fn ranked_role(plan: &Plan, cell: Cell, rings: &Rings, process: u16, rank: u16) -> Role
+    requires process { process < rings.now.nodes }
+    requires rings { 0 < length rings.now.positions }
+    requires cell { IsCellOf plan.now cell }
+    ensures { result ≡ ranked_role plan.now cell.f rings.now process rank }
+{
+    let liars_end = cell.f + plan.liars();
+    let links_end = liars_end + plan.links();
+    if rank < cell.f {
+        target_role(plan.faults())
+    } else if rank < liars_end {
+        Role::Liar
+    } else if rank < links_end {
+        Role::LinkSource(rings.subject(0, process))
+    } else {
+        Role::Healthy
+    }
+}
