@@ -1,6 +1,7 @@
 -- The order in which the alerts of a trial come to a receiver. That it is random, and apart for each
 -- receiver, is the Rapid paper's; the keys are this project's profile.
-use Rattle.std.specs.Prelude.{ℕ, ◌+◌, ◌*◌, ◌^◌, ◌&&◌, ◌==◌, List, [], ◌∷◌, map, count_by, Bool, true, not, nat_lt}
+use Rattle.std.specs.Prelude.{◌≡◌, ℕ, ◌+◌, ◌*◌, ◌^◌, ◌<◌, ◌&&◌, ◌==◌, List, [], ◌∷◌, map, length, slice_index_or, count_by, Bool, true, not, nat_lt}
+use Rattle.std.specs.List.Sorted.{IsPermutation}
 use Rattle.std.specs.List.{range_with_len, flat_map, list_any}
 use Rattle.std.specs.declared.cmp.Ordering.{Ordering}
 use Rattle.std.specs.Ordering.{nat_cmp, ordering_then, is_lt}
@@ -44,3 +45,8 @@ abbrev pub early : Source → ℕ → ℕ → List Edge → ℕ → ℕ → Edge
 early d receiver k edges copies n ring subject =
     list_any (λ x. is_edge ring subject x.edge && nat_lt (delivery_rank d receiver k edges copies x) n)
     (all_deliveries edges copies)
+
+-- a list of all deliveries at a receiver, each once and at the number of those that come before it
+pub record IsOrderOf (d : Source) (receiver k : ℕ) (edges : List Edge) (copies : ℕ) (order : List Delivery) : Type 0 where
+  pub each_once : IsPermutation (all_deliveries edges copies) order
+  pub ranks : (i : ℕ) → i < length order → (x : Delivery) → delivery_rank d receiver k edges copies (slice_index_or order i x) ≡ i

@@ -1,14 +1,14 @@
-ghost use Rattle.std.specs.Prelude.{◌≡◌, ℕ, ◌*◌, ◌++◌, ◌^◌, ◌<◌, ◌≤◌, length, map, slice_index, slice_index_or, All, EachIndex, IfOk, OnOk, IsTrue};
+ghost use Rattle.std.specs.Prelude.{◌≡◌, [], ℕ, ◌*◌, ◌++◌, ◌^◌, ◌<◌, ◌≤◌, length, map, slice_index, slice_index_or, All, EachIndex, IfOk, OnOk, OnErr, IsTrue};
 ghost use Rattle.std.specs.List.{range_with_len};
 ghost use Rattle.std.specs.List.Sorted.{IsPermutation};
 ghost use Rattle.cut_rings.specs.Edges.{first_of, are_within};
 ghost use Rattle.cut_draws.specs.Source.{source_of, key_at};
 ghost use Rattle.cut_draws.specs.Order.{process_place, process_rank};
-ghost use Rattle.cut_draws.specs.Deliveries.{all_deliveries, copies_of, delivery_rank, early, are_distinct};
+ghost use Rattle.cut_draws.specs.Deliveries.{all_deliveries, copies_of, delivery_rank, early, are_distinct, IsOrderOf};
 ghost use Rattle.cut_draws.specs.Keyed.{keyed_of};
 
-use crate::Delivery;
-use crate::keyed::{Keyed, deliveries_of, processes_of};
+use crate::keyed::{Keyed, processes_of};
+use crate::{Delivery, DeliveryOrder};
 use cut_rings::Edge;
 use rand_chacha::ChaCha8Rng;
 use rand_core::SeedableRng;
@@ -124,33 +124,91 @@ impl Draws {
             IsTrue (are_within k n (map (λ x. x.edge) order.items))) }
         ensures same { self.new ≡ self.old }
     {
-        let mut keyed = self.delivery_keys(alloc, receiver, k, edges, copies)?;
-        keyed.sort_unstable_by_key(|x| (x.key, x.number, x.delivery.copy));
-        deliveries_of(alloc, keyed.as_slice())
+        let mut order = DeliveryOrder::new(alloc);
+        self.order_deliveries(&mut order, receiver, k, edges, copies)?;
+        order.to_vec(alloc)
     }
 
-    /// Every copy of every edge with its key, the copies in turn.
-    fn delivery_keys(
+    /// Puts all deliveries of the given edges at a receiver into an order that may have been used
+    /// before, as `deliveries` gives them, in the memory that the order has. Fails only for want of
+    /// memory, and the order is empty then.
+    pub fn order_deliveries(
         &mut self,
-        alloc: Global,
+        order: &mut DeliveryOrder,
         receiver: u16,
         k: u8,
         edges: &[Edge],
         copies: u8,
-    ) -> Result<Vec<Keyed>, AllocError>
+    ) -> Result<(), AllocError>
         requires receiver { receiver < 2048 }
         requires rings { k ≤ 32 }
         requires copies { copies ≤ 4 }
         requires within { IsTrue (are_within k 2048 edges.now) }
-        ensures keys { IfOk result
-            (λ v. v.items ≡ map (λ x. keyed_of self.old receiver k x) (all_deliveries edges.now copies)) }
+        requires distinct { IsTrue (are_distinct k edges.now) }
+
+        ensures each_once { OnOk result (IsPermutation (all_deliveries edges.now copies) order.new) }
+        ensures ranks { OnOk result (EachIndex order.new
+            (λ i. (d : Delivery) →
+            delivery_rank self.old receiver k edges.now copies (slice_index_or order.new i d) ≡ i)) }
+        // What has come after n deliveries, as a set of edges.
+        ensures prefixes { OnOk result ((n : ℕ) →
+            first_of (map (λ x. x.edge) order.new) n ≡ early self.old receiver k edges.now copies n) }
+        ensures count { OnOk result (length order.new ≡ copies * length edges.now) }
+        ensures still_within { OnOk result ((n : ℕ) → IsTrue (are_within k n edges.now) →
+            IsTrue (are_within k n (map (λ x. x.edge) order.new))) }
+        ensures err { OnErr result (order.new ≡ []) }
         ensures same { self.new ≡ self.old }
     {
-        let mut keyed = Vec::with_capacity(alloc, edges.len().saturating_mul(usize::from(copies)))?;
+        order.fill(self, receiver, k, edges, copies)
+    }
+
+    /// Every copy of every edge with its key, in ascending order of key, edge number and copy, in place
+    /// of what the list held.
+    pub(crate) fn sorted_keys(
+        &mut self,
+        keyed: &mut Vec<Keyed>,
+        receiver: u16,
+        k: u8,
+        edges: &[Edge],
+        copies: u8,
+    ) -> Result<(), AllocError>
+        requires receiver { receiver < 2048 }
+        requires rings { k ≤ 32 }
+        requires copies { copies ≤ 4 }
+        requires within { IsTrue (are_within k 2048 edges.now) }
+        requires distinct { IsTrue (are_distinct k edges.now) }
+        ensures order { OnOk result
+            (IsOrderOf self.old receiver k edges.now copies (map (λ x. x.delivery) keyed.new.items)) }
+        ensures same { self.new ≡ self.old }
+    {
+        self.delivery_keys(keyed, receiver, k, edges, copies)?;
+        keyed.sort_unstable_by_key(|x| (x.key, x.number, x.delivery.copy));
+        Ok(())
+    }
+
+    /// Every copy of every edge with its key, the copies in turn, in place of what the list held.
+    fn delivery_keys(
+        &mut self,
+        keyed: &mut Vec<Keyed>,
+        receiver: u16,
+        k: u8,
+        edges: &[Edge],
+        copies: u8,
+    ) -> Result<(), AllocError>
+        requires receiver { receiver < 2048 }
+        requires rings { k ≤ 32 }
+        requires copies { copies ≤ 4 }
+        requires within { IsTrue (are_within k 2048 edges.now) }
+        ensures keys { OnOk result
+            (keyed.new.items ≡ map (λ x. keyed_of self.old receiver k x) (all_deliveries edges.now copies)) }
+        ensures same { self.new ≡ self.old }
+    {
+        keyed.clear();
+        keyed.reserve(edges.len().saturating_mul(usize::from(copies)))?;
         for copy in 0..copies {
-            self.copy_keys(&mut keyed, receiver, k, edges, copy)?;
+            self.copy_keys(keyed, receiver, k, edges, copy)?;
         }
-        Ok(keyed)
+        Ok(())
     }
 
     /// Adds one copy of every edge with its key. Where the edges ascend by number, so do the places.

@@ -8,9 +8,11 @@
 mod delivery;
 mod draws;
 mod keyed;
+mod order;
 
 pub use delivery::Delivery;
 pub use draws::Draws;
+pub use order::DeliveryOrder;
 
 #[cfg(test)]
 mod tests;

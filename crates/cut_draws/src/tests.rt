@@ -1,4 +1,4 @@
-use crate::{Delivery, Draws};
+use crate::{Delivery, DeliveryOrder, Draws};
 use cut_rings::Edge;
 use std::test::Fail;
 
@@ -278,5 +278,24 @@ fn deliveries_of_few_edges(rt: HostRuntime) -> Result<(), Fail> {
     };
     let one = draws.deliveries(alloc, 1, 1, &[edge], 1)?;
     assert_eq!(rt; one.as_slice(), [Delivery { edge, copy: 0 }].as_slice());
+    Ok(())
+}
+
+#[test]
+fn an_order_is_filled_again(rt: HostRuntime) -> Result<(), Fail> {
+    let alloc = rt.alloc();
+    let mut draws = Draws::new(ZEROS, 0);
+    let mut order = DeliveryOrder::new(alloc);
+    let edge = Edge {
+        ring: 0,
+        subject: 1,
+    };
+    draws.order_deliveries(&mut order, 1, 1, &[edge], 4)?;
+    assert_eq!(rt; order.len(), 4);
+    draws.order_deliveries(&mut order, 2, 1, &[edge], 1)?;
+    assert_eq!(rt; order.len(), 1);
+    assert_eq!(rt; order.get(0), Delivery { edge, copy: 0 });
+    draws.order_deliveries(&mut order, 1, 1, &[], 4)?;
+    assert_eq!(rt; order.len(), 0);
     Ok(())
 }
