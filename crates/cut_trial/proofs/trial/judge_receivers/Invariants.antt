@@ -1,0 +1,14 @@
+use Rattle.std.proofs.Common.{◌≡◌, map, filter, not}
+use Rattle.std.specs.List.{range_with_len}
+use Rattle.cut_alerts.specs.Assignment.{is_target}
+use Rattle.cut_trial.specs.Outcome.{proposal_at}
+use Rattle.cut_trial.specs.Judgements.{HasJudged}
+use Rattle.cut_trial.proofs.trial.judge_receivers.Given as goal
+
+abbrev pub invariant-loop-receiver : goal.invariant-loop-receiver
+invariant-loop-receiver l = record {
+  judged : HasJudged l.roles l.judged (map (λ j. proposal_at l.plan l.cell l.fn.detector.layout l.fn.draws l.edges j) (filter (λ p. not (is_target l.roles p)) (range_with_len 0 l.receiver)));
+  draws : l.draws ≡ l.fn.draws;
+  layout : l.detector.layout ≡ l.fn.detector.layout;
+  rule : l.detector.rule ≡ l.fn.detector.rule;
+}

@@ -1,0 +1,10 @@
+pub mod FaultNumber
+pub mod Judged
+pub mod FastRound
+pub mod Ballots
+pub mod Judgements
+pub mod Outcome
+pub mod Sum
+pub mod Computed
+pub mod PieceInside
+pub mod Laws

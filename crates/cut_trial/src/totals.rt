@@ -1,0 +1,51 @@
+ghost use Rattle.std.specs.Prelude.{◌≡◌, ◌^◌};
+ghost use Rattle.cut_trial.specs.Sum.{plus, IsAtMost};
+
+/// The sums over trials that a line of the table tells.
+#[derive(Clone, Copy, Debug, PartialEq, Eq)]
+pub struct Totals {
+    /// How many receivers there were: the processes that are not targets.
+    pub receivers: u64,
+    /// How many announced a proposal that lacks a target.
+    pub conflicts: u64,
+    /// How many announced nothing.
+    pub silent: u64,
+    /// How many announced a proposal with a process that is no target.
+    pub extra: u64,
+    /// The largest number of receivers with equal proposals, of each trial.
+    pub votes: u64,
+    /// In how many trials the votes reached a quorum.
+    pub decided: u64,
+    /// In how many trials a quorum proposed exactly the targets.
+    pub right: u64,
+}
+
+impl Totals {
+    /// The sums over no trial.
+    pub(crate) const ZERO: Totals = Totals {
+        receivers: 0,
+        conflicts: 0,
+        silent: 0,
+        extra: 0,
+        votes: 0,
+        decided: 0,
+        right: 0,
+    };
+
+    /// The sums of two lists of trials, number by number.
+    pub(crate) fn plus(self, other: Totals) -> Totals
+        requires self_fits { IsAtMost (2 ^ 62) self }
+        requires other_fits { IsAtMost (2 ^ 62) other }
+        ensures { result ≡ plus self other }
+    {
+        Totals {
+            receivers: self.receivers + other.receivers,
+            conflicts: self.conflicts + other.conflicts,
+            silent: self.silent + other.silent,
+            extra: self.extra + other.extra,
+            votes: self.votes + other.votes,
+            decided: self.decided + other.decided,
+            right: self.right + other.right,
+        }
+    }
+}
