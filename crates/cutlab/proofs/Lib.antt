@@ -1,0 +1,4 @@
+pub mod RowLemmas
+pub mod RunLemmas
+pub mod CellLemmas
+pub mod InputLemmas

@@ -1,0 +1,5 @@
+pub mod FaultNumber
+pub mod Table
+pub mod Check
+pub mod Line
+pub mod Run

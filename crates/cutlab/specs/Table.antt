@@ -1,0 +1,41 @@
+-- The table of a study: comma-separated values with a header, one line for each cell (this project's
+-- profile of the Rapid paper's sensitivity study).
+use Rattle.std.specs.Prelude.{ℕ, ◌*◌, ◌/◌, List, [], ◌∷◌, ◌++◌, map, length, codes, slice_index_or}
+use Rattle.std.specs.Fmt.{decimal}
+use Rattle.std.specs.List.{range_with_len, flat_map, join_with_byte}
+use Rattle.cut_plan.specs.declared.cell.Cell.{Cell}
+use Rattle.cut_plan.specs.Values.{Values}
+use Rattle.cut_plan.specs.Cells.{cells_of}
+use Rattle.cut_trial.specs.declared.totals.Totals.{Totals}
+use Rattle.cut_trial.specs.Outcome.{no_cell}
+use Rattle.cut_trial.specs.Sum.{sum_of, trials_of_cell}
+
+-- numbers in decimal, with commas between them, and a line feed
+abbrev pub comma_line : List ℕ → List ℕ
+comma_line numbers = join_with_byte 44 (map decimal numbers) ++ 10 ∷ []
+
+-- the names of the columns, with a line feed
+abbrev pub header : List ℕ
+header = codes "k,h,l,f,trials,receivers,conflicts,silent,extra,votes,decided,right,ppm" ++ 10 ∷ []
+
+-- conflicts in a million receivers, rounded down
+abbrev pub ppm_of : Totals → ℕ
+ppm_of x = x.conflicts * 1000000 / x.receivers
+
+-- the numbers of a cell's line
+abbrev pub columns : Values → Cell → Totals → List ℕ
+columns v c x =
+    c.k ∷ c.h ∷ c.l ∷ c.f ∷ v.repeats ∷ x.receivers ∷ x.conflicts ∷ x.silent ∷ x.extra ∷ x.votes ∷ x.decided
+    ∷ x.right ∷ ppm_of x ∷ []
+
+-- the cell with this number
+abbrev pub cell_numbered : Values → ℕ → Cell
+cell_numbered v i = slice_index_or (cells_of v) i no_cell
+
+-- the line of a cell
+abbrev pub line_of : Values → ℕ → List ℕ
+line_of v i = comma_line (columns v (cell_numbered v i) (sum_of v (trials_of_cell v i)))
+
+-- the header, and the lines of the cells in order
+unfoldable pub table : Values → List ℕ
+table v = header ++ flat_map (λ i. line_of v i) (range_with_len 0 (length (cells_of v)))

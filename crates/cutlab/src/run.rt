@@ -1,0 +1,88 @@
+ghost use Rattle.std.specs.Prelude.{◌≡◌, ◌++◌, ◌<◌, ℕ, length, take, string_bytes, IfOk, IfErr, OnOk};
+ghost use Rattle.std.specs.Io.KnownBytes.{Appends};
+ghost use Rattle.cutlab.specs.Table.{table};
+ghost use Rattle.cutlab.specs.Check.{check_text, number_line};
+ghost use Rattle.cutlab.specs.Run.{Ends, Reads};
+
+use crate::CliFault;
+use crate::input::{LIMIT, read_text};
+use crate::send::send_all;
+use crate::table::table_of;
+use cut_plan::Plan;
+use cut_trial::quorum;
+use std::alloc::{AllocError, Global};
+use std::io::{Read, Write};
+
+/// Reads a plan, runs its study and writes its table.
+///
+/// At most 65,537 bytes are read. What was written is the whole table at `Ok`, its first bytes where a
+/// write failed, and nothing at any other fault.
+pub fn run_io<R: Read, W: Write>(
+    alloc: Global,
+    input: &mut R,
+    output: &mut W,
+) -> Result<(), CliFault>
+    ensures { Ends table (R.remaining input.old) (W.contents output.old) (W.contents output.new) result }
+{
+    let plan = read_plan(alloc, input)?;
+    let text = table_of(alloc, &plan)?;
+    send(output, text.as_slice())
+}
+
+/// Reads a plan and writes how many cells and trials it has, and the quorum of its processes.
+///
+/// What is read and written, and each fault, is as in `run_io`.
+pub fn check_io<R: Read, W: Write>(
+    alloc: Global,
+    input: &mut R,
+    output: &mut W,
+) -> Result<(), CliFault>
+    ensures { Ends check_text (R.remaining input.old) (W.contents output.old) (W.contents output.new) result }
+{
+    let plan = read_plan(alloc, input)?;
+    let text = check_text(alloc, &plan)?;
+    send(output, text.as_bytes())
+}
+
+/// Reads a plan, whose first fault is the answer where there is one.
+fn read_plan<R: Read>(alloc: Global, input: &mut R) -> Result<Plan, CliFault>
+    ensures { Reads (R.remaining input.old) result }
+{
+    let text = read_text(alloc, input, LIMIT)?;
+    Ok(Plan::from_json(alloc, text.as_slice())?)
+}
+
+/// How many cells and trials a plan has, and the quorum of its processes, one line each.
+fn check_text(alloc: Global, plan: &Plan) -> Result<String, AllocError>
+    ensures { IfOk result (λ text. string_bytes text ≡ check_text plan.now) }
+{
+    let mut text = String::new(alloc);
+    push_line(alloc, &mut text, "cells", plan.cells())?;
+    push_line(alloc, &mut text, "trials", plan.trials())?;
+    push_line(alloc, &mut text, "quorum", u32::from(quorum(plan.nodes())))?;
+    Ok(text)
+}
+
+/// Adds a word, a blank, a number in decimal and a line feed.
+fn push_line(alloc: Global, text: &mut String, word: &str, number: u32) -> Result<(), AllocError>
+    ensures { OnOk result (string_bytes text.new ≡ string_bytes text.old ++ number_line word.now number) }
+{
+    let digits = number.to_string(alloc)?;
+    text.push_str(word)?;
+    text.push_str(" ")?;
+    text.push_str(digits.as_str())?;
+    text.push_str("\n")?;
+    Ok(())
+}
+
+/// Writes an answer.
+fn send<W: Write>(output: &mut W, text: &[u8]) -> Result<(), CliFault>
+    ensures ok { OnOk result (Appends (W.contents output.old) (W.contents output.new) text.now) }
+    ensures err { IfErr result (λ e. (sent : ℕ) × (e ≡ CliFault.Write sent) × (sent < length text.now)
+        × Appends (W.contents output.old) (W.contents output.new) (take sent text.now)) }
+{
+    match send_all(output, text) {
+        Ok(()) => Ok(()),
+        Err(sent) => Err(CliFault::Write(sent.bytes)),
+    }
+}

@@ -1,0 +1,171 @@
+//! Readers and writers that do little at a time, and that fail at each of their calls in turn.
+
+use super::{PLAN, table_with};
+use crate::{CliFault, check_io, run_io};
+use std::alloc::{AllocError, Global};
+use std::io::{self, ErrorKind, Read, Write};
+use std::test::Fail;
+
+/// What a device does at a call.
+#[derive(Clone, Copy, Debug, PartialEq, Eq)]
+enum Act {
+    Fail(ErrorKind),
+    Nothing,
+}
+
+/// A device that moves at most `step` bytes a call, and at call `at`, counted from 0, does `act`.
+#[derive(Drop)]
+struct Device<'a> {
+    input: &'a [u8],
+    output: Vec<u8>,
+    step: usize,
+    calls: usize,
+    at: usize,
+    act: Act,
+}
+
+impl<'a> Device<'a> {
+    fn new(alloc: Global, input: &'a [u8], step: usize, at: usize, act: Act) -> Device<'a> {
+        Device {
+            input,
+            output: Vec::new(alloc),
+            step,
+            calls: 0,
+            at,
+            act,
+        }
+    }
+
+    /// How many of these bytes this call moves.
+    fn turn(&mut self, len: usize) -> io::Result<usize> {
+        let call = self.calls;
+        self.calls += 1;
+        if call != self.at {
+            return Ok(len.min(self.step));
+        }
+        match self.act {
+            Act::Fail(kind) => Err(io::Error::from(kind)),
+            Act::Nothing => Ok(0),
+        }
+    }
+}
+
+impl<'a> Read for Device<'a> {
+    fn read(&mut self, buf: &mut [u8]) -> io::Result<usize> {
+        let len = self.turn(buf.len())?.min(buf.len());
+        self.input.read(&mut buf[..len])
+    }
+}
+
+impl<'a> Write for Device<'a> {
+    fn write(&mut self, buf: &[u8]) -> io::Result<usize> {
+        let len = self.turn(buf.len())?.min(buf.len());
+        self.output.write(&buf[..len])
+    }
+
+    fn flush(&mut self) -> io::Result<()> {
+        Ok(())
+    }
+}
+
+/// Runs the plan from a reader whose call `at` fails. Whether the answer is Read, nothing is written,
+/// and no call came after the one that failed.
+fn stops_at_read(alloc: Global, at: usize, kind: ErrorKind) -> bool {
+    let mut input = Device::new(alloc, PLAN.as_bytes(), 1, at, Act::Fail(kind));
+    let mut output = Vec::new(alloc);
+    match run_io(alloc, &mut input, &mut output) {
+        Err(CliFault::Read) => output.is_empty() && input.calls == at + 1,
+        _ => false,
+    }
+}
+
+/// Writes the plan's table to a writer whose call `at` does `act`. Whether the answer is Write with
+/// the bytes that the writer took, which are the table's first, and no call came after that one.
+fn stops_at_write(alloc: Global, table: &str, step: usize, at: usize, act: Act) -> bool {
+    let mut input = PLAN.as_bytes();
+    let mut output = Device::new(alloc, b"", step, at, act);
+    match run_io(alloc, &mut input, &mut output) {
+        Err(CliFault::Write(sent)) => {
+            sent == (at * step) as u64
+                && output.output.as_slice() == &table.as_bytes()[..at * step]
+                && output.calls == at + 1
+        }
+        _ => false,
+    }
+}
+
+/// The whole table of the plan.
+fn plan_table(alloc: Global) -> Result<String, AllocError> {
+    table_with(alloc, "1,1,1,1,2,8,0,0,0,8,2,2,0\n")
+}
+
+#[test]
+fn each_read_fails(rt: HostRuntime) -> Result<(), Fail> {
+    // A call for each byte, and one that tells the end.
+    for at in 0..PLAN.len() + 1 {
+        assert!(rt;
+            stops_at_read(rt.alloc(), at, ErrorKind::Other),
+            "read {at}"
+        );
+        assert!(rt;
+            stops_at_read(rt.alloc(), at, ErrorKind::Interrupted),
+            "read {at}"
+        );
+    }
+    Ok(())
+}
+
+#[test]
+fn each_write_fails(rt: HostRuntime) -> Result<(), Fail> {
+    let alloc = rt.alloc();
+    let table = plan_table(alloc)?;
+    let acts = [
+        Act::Fail(ErrorKind::Other),
+        Act::Fail(ErrorKind::Interrupted),
+        Act::Nothing,
+    ];
+    for act in acts {
+        for at in 0..table.len() {
+            assert!(rt;
+                stops_at_write(alloc, table.as_str(), 1, at, act),
+                "write {at}"
+            );
+        }
+        for at in 0..table.len() / 7 {
+            assert!(rt;
+                stops_at_write(alloc, table.as_str(), 7, at, act),
+                "write {at}"
+            );
+        }
+    }
+    Ok(())
+}
+
+#[test]
+fn one_byte_at_a_time(rt: HostRuntime) -> Result<(), Fail> {
+    let alloc = rt.alloc();
+    let table = plan_table(alloc)?;
+    let mut input = Device::new(alloc, PLAN.as_bytes(), 1, usize::MAX, Act::Nothing);
+    let mut output = Device::new(alloc, b"", 1, usize::MAX, Act::Nothing);
+    run_io(alloc, &mut input, &mut output)?;
+    assert!(rt; output.output.as_slice() == table.as_bytes());
+    assert_eq!(rt; output.calls, table.len());
+    assert_eq!(rt; input.calls, PLAN.len() + 1);
+    let mut input = Device::new(alloc, PLAN.as_bytes(), 1, usize::MAX, Act::Nothing);
+    let mut output = Device::new(alloc, b"", 1, usize::MAX, Act::Nothing);
+    check_io(alloc, &mut input, &mut output)?;
+    assert!(rt; output.output.as_slice() == b"cells 1\ntrials 2\nquorum 4\n".as_slice());
+    Ok(())
+}
+
+#[test]
+fn reads_no_further_than_the_limit(rt: HostRuntime) -> Result<(), Fail> {
+    let alloc = rt.alloc();
+    let blanks = vec![in alloc; b' '; 70_000]?;
+    let mut input = Device::new(alloc, &blanks, 1_000, usize::MAX, Act::Nothing);
+    let mut output = Vec::new(alloc);
+    assert!(rt; run_io(alloc, &mut input, &mut output).is_err());
+    assert_eq!(rt; input.input.len(), 70_000 - 65_537);
+    assert!(rt; output.is_empty());
+    Ok(())
+}
