@@ -39,7 +39,7 @@ impl<'a> Device<'a> {
     /// How many of these bytes this call moves.
     fn turn(&mut self, len: usize) -> io::Result<usize> {
         let call = self.calls;
-        self.calls += 1;
+        self.calls = call.saturating_add(1);
         if call != self.at {
             return Ok(len.min(self.step));
         }
@@ -74,7 +74,7 @@ fn stops_at_read(alloc: Global, at: usize, kind: ErrorKind) -> bool {
     let mut input = Device::new(alloc, PLAN.as_bytes(), 1, at, Act::Fail(kind));
     let mut output = Vec::new(alloc);
     match run_io(alloc, &mut input, &mut output) {
-        Err(CliFault::Read) => output.is_empty() && input.calls == at + 1,
+        Err(CliFault::Read) => output.is_empty() && input.calls == at.saturating_add(1),
         _ => false,
     }
 }
@@ -82,13 +82,14 @@ fn stops_at_read(alloc: Global, at: usize, kind: ErrorKind) -> bool {
 /// Writes the plan's table to a writer whose call `at` does `act`. Whether the answer is Write with
 /// the bytes that the writer took, which are the table's first, and no call came after that one.
 fn stops_at_write(alloc: Global, table: &str, step: usize, at: usize, act: Act) -> bool {
+    let taken = at.saturating_mul(step);
     let mut input = PLAN.as_bytes();
     let mut output = Device::new(alloc, b"", step, at, act);
     match run_io(alloc, &mut input, &mut output) {
         Err(CliFault::Write(sent)) => {
-            sent == (at * step) as u64
-                && output.output.as_slice() == &table.as_bytes()[..at * step]
-                && output.calls == at + 1
+            sent == taken as u64
+                && Some(output.output.as_slice()) == table.as_bytes().get(..taken)
+                && output.calls == at.saturating_add(1)
         }
         _ => false,
     }

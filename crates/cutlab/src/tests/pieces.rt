@@ -1,4 +1,6 @@
 //! The same tables, where the trials of each cell are run in pieces.
+ghost use Rattle.std.specs.Prelude.{◌≡◌, ◌<◌};
+ghost use Rattle.cut_trial.specs.Outcome.{rings_of};
 
 use super::studies::{MANY_CELLS, ONE_CELL, Study};
 use crate::table::line_with;
@@ -8,16 +10,27 @@ use cut_trial::{Piece, Totals, run_piece};
 use std::alloc::Global;
 use std::test::Fail;
 
+/// No trial's numbers.
+const NONE: Totals = Totals {
+    receivers: 0,
+    conflicts: 0,
+    silent: 0,
+    extra: 0,
+    votes: 0,
+    decided: 0,
+    right: 0,
+};
+
 /// The numbers of two lists of trials.
 fn sum(a: Totals, b: Totals) -> Totals {
     Totals {
-        receivers: a.receivers + b.receivers,
-        conflicts: a.conflicts + b.conflicts,
-        silent: a.silent + b.silent,
-        extra: a.extra + b.extra,
-        votes: a.votes + b.votes,
-        decided: a.decided + b.decided,
-        right: a.right + b.right,
+        receivers: a.receivers.saturating_add(b.receivers),
+        conflicts: a.conflicts.saturating_add(b.conflicts),
+        silent: a.silent.saturating_add(b.silent),
+        extra: a.extra.saturating_add(b.extra),
+        votes: a.votes.saturating_add(b.votes),
+        decided: a.decided.saturating_add(b.decided),
+        right: a.right.saturating_add(b.right),
     }
 }
 
@@ -28,32 +41,34 @@ fn cell_by_pieces(
     rings: &Rings,
     number: u32,
     size: u32,
-) -> Result<Totals, Fail> {
-    let first = number * plan.repeats();
-    let end = first + plan.repeats();
-    let mut piece = Piece {
-        first,
-        count: size.min(plan.repeats()),
-    };
-    let mut totals = run_piece(alloc, plan, rings, piece)?.totals();
-    while piece.first + piece.count < end {
-        let next = piece.first + piece.count;
-        piece = Piece {
-            first: next,
-            count: size.min(end - next),
-        };
-        totals = sum(totals, run_piece(alloc, plan, rings, piece)?.totals());
+) -> Result<Totals, Fail>
+    requires size { 0 < size }
+    requires rings { rings.now ≡ rings_of plan.now }
+{
+    let mut first = number.saturating_mul(plan.repeats());
+    let end = first.saturating_add(plan.repeats());
+    let mut totals = NONE;
+    while first < end {
+        let count = size.min(end - first);
+        let found = run_piece(alloc, plan, rings, Piece { first, count })?;
+        totals = sum(totals, found.totals());
+        first += count;
     }
     Ok(totals)
 }
 
 /// Whether the lines come out by pieces of this size.
-fn holds_by_pieces(alloc: Global, study: &Study, size: u32) -> Result<bool, Fail> {
+fn holds_by_pieces(alloc: Global, study: &Study, size: u32) -> Result<bool, Fail>
+    requires { 0 < size }
+{
     let plan = Plan::from_json(alloc, study.0.as_bytes())?;
     let rings = Rings::hashed(alloc, &plan)?;
     let mut lines = Vec::new(alloc);
     for number in 0..plan.cells() {
         let totals = cell_by_pieces(alloc, &plan, &rings, number, size)?;
+        if totals.receivers == 0 || totals.conflicts > 1_000_000 {
+            return Ok(false);
+        }
         let line = line_with(alloc, &plan, plan.cell(number), totals)?;
         lines.extend_from_slice(line.as_slice())?;
     }
@@ -61,7 +76,9 @@ fn holds_by_pieces(alloc: Global, study: &Study, size: u32) -> Result<bool, Fail
 }
 
 /// The first of the studies that comes out otherwise by pieces of this size.
-fn first_wrong(alloc: Global, studies: &[Study], size: u32) -> Result<Option<usize>, Fail> {
+fn first_wrong(alloc: Global, studies: &[Study], size: u32) -> Result<Option<usize>, Fail>
+    requires { 0 < size }
+{
     for (number, study) in studies.iter().enumerate() {
         if !holds_by_pieces(alloc, study, size)? {
             return Ok(Some(number));
@@ -71,18 +88,22 @@ fn first_wrong(alloc: Global, studies: &[Study], size: u32) -> Result<Option<usi
 }
 
 #[test]
-fn pieces_add_up(rt: HostRuntime) -> Result<(), Fail> {
-    for size in [1, 2, 7] {
-        assert_eq!(rt;
-            first_wrong(rt.alloc(), &ONE_CELL, size)?,
-            None,
-            "pieces of {size}"
-        );
-        assert_eq!(rt;
-            first_wrong(rt.alloc(), &MANY_CELLS, size)?,
-            None,
-            "pieces of {size}"
-        );
-    }
+fn pieces_of_one_trial(rt: HostRuntime) -> Result<(), Fail> {
+    assert_eq!(rt; first_wrong(rt.alloc(), &ONE_CELL, 1)?, None);
+    assert_eq!(rt; first_wrong(rt.alloc(), &MANY_CELLS, 1)?, None);
+    Ok(())
+}
+
+#[test]
+fn pieces_of_two_trials(rt: HostRuntime) -> Result<(), Fail> {
+    assert_eq!(rt; first_wrong(rt.alloc(), &ONE_CELL, 2)?, None);
+    assert_eq!(rt; first_wrong(rt.alloc(), &MANY_CELLS, 2)?, None);
+    Ok(())
+}
+
+#[test]
+fn pieces_of_seven_trials(rt: HostRuntime) -> Result<(), Fail> {
+    assert_eq!(rt; first_wrong(rt.alloc(), &ONE_CELL, 7)?, None);
+    assert_eq!(rt; first_wrong(rt.alloc(), &MANY_CELLS, 7)?, None);
     Ok(())
 }
