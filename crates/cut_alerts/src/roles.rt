@@ -47,6 +47,7 @@ impl Roles {
         ensures same { draws.new ≡ draws.old }
     {
         let n = plan.nodes();
+        // There is a first ring, on which the subject of a link's source is looked up.
         let _ = rings.len();
         let order = draws.process_order(alloc, n)?;
         let mut roles = vec![in alloc; Role::Healthy; usize::from(n)]?;

@@ -1,6 +1,6 @@
 -- What a run of the program leaves, over lists of bytes.
-use Rattle.std.specs.Prelude.{◌≡◌, ℕ, ◌<◌, List, [], length, take, Option, Result, Ok, Err, IfSome, IfOk, IfErr, ⊤}
-use Rattle.std.specs.Io.KnownBytes.{Appends}
+use Rattle.std.specs.Prelude.{◌≡◌, ◌≤◌, ℕ, ◌<◌, List, [], length, take, Option, Result, Ok, Err, IfSome, IfOk, IfErr, ⊤}
+use Rattle.std.specs.Io.KnownBytes.{Appends, Consumes}
 use Rattle.cut_plan.specs.Values.{Values}
 use Rattle.cut_plan.specs.Accepted.{plan_of}
 use Rattle.cutlab.specs.declared.fault.CliFault.{CliFault}
@@ -38,3 +38,7 @@ pub record Reads (input : Option (List ℕ)) (result : Result Values CliFault) :
   pub given : IfSome input (λ all. plan_of all ≡ plan_of read)
   pub ok : IfOk result (λ v. plan_of read ≡ Ok v)
   pub err : IfErr result (λ e. Refuses read e)
+
+-- what is left of an input where at most this many bytes of it were read
+abbrev pub ReadsAtMost : ℕ → Option (List ℕ) → Option (List ℕ) → Type 0
+ReadsAtMost limit before after = (bytes : List ℕ) × Consumes before after bytes × (length bytes ≤ limit)

@@ -1,4 +1,5 @@
 ghost use Rattle.std.specs.Prelude.{◌≡◌, ◌≤◌, length, take, IfOk, IfSome, IfErr, ◌⊎◌};
+ghost use Rattle.cutlab.specs.Run.{ReadsAtMost};
 
 use crate::CliFault;
 use std::alloc::Global;
@@ -15,6 +16,7 @@ pub(crate) fn read_text<R: Read>(
 ) -> Result<Vec<u8>, CliFault>
     ensures ok { IfOk result (λ text. IfSome (R.remaining input.old) (λ bytes. text.items ≡ take limit bytes)) }
     ensures err { IfErr result (λ e. (e ≡ CliFault.Memory) ⊎ (e ≡ CliFault.Read)) }
+    ensures limit { ReadsAtMost limit (R.remaining input.old) (R.remaining input.new) }
 {
     let mut text = vec![in alloc; 0u8; limit]?;
     let filled = fill(input, text.as_mut_slice())?;
@@ -27,6 +29,7 @@ fn fill<R: Read>(input: &mut R, buffer: &mut [u8]) -> Result<usize, CliFault>
     ensures within { IfOk result (λ n. n ≤ length buffer.new) }
     ensures ok { IfOk result (λ n. IfSome (R.remaining input.old) (λ bytes. take n buffer.new ≡ take (length buffer.new) bytes)) }
     ensures err { IfErr result (λ e. e ≡ CliFault.Read) }
+    ensures limit { ReadsAtMost (length buffer.old) (R.remaining input.old) (R.remaining input.new) }
 {
     let mut filled = 0;
     while filled < buffer.len() {

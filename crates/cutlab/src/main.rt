@@ -2,7 +2,7 @@
 //! for the parameters K, H and L of Rapid's cut detection.
 #![tactic(auto)]
 
-ghost use Rattle.std.specs.Prelude.{◌≡◌, ◌≢◌};
+ghost use Rattle.std.specs.Prelude.{◌≡◌, ◌≢◌, ◌⊎◌};
 ghost use Rattle.std.specs.Process.{exit_status};
 ghost use Rattle.cutlab.specs.FaultNumber.{status_of_end};
 
@@ -58,7 +58,9 @@ fn end(rt: &impl Eprint, ended: Result<(), CliFault>) -> ExitCode
 }
 
 /// Ends where the command line can't be read, for want of memory or because a word is not UTF-8.
-fn end_unread(rt: &impl Eprint, error: &io::Error) -> ExitCode {
+fn end_unread(rt: &impl Eprint, error: &io::Error) -> ExitCode
+    ensures { (exit_status result ≡ 2) ⊎ (exit_status result ≡ 5) }
+{
     if error.kind() == io::ErrorKind::InvalidData {
         let _ = rt.eprint("error: a word of the command line is not UTF-8\n");
         return ExitCode::from(2);

@@ -2,7 +2,7 @@ ghost use Rattle.std.specs.Prelude.{◌≡◌, ◌++◌, ◌<◌, ℕ, length, t
 ghost use Rattle.std.specs.Io.KnownBytes.{Appends};
 ghost use Rattle.cutlab.specs.Table.{table};
 ghost use Rattle.cutlab.specs.Check.{check_text, number_line};
-ghost use Rattle.cutlab.specs.Run.{Ends, Reads};
+ghost use Rattle.cutlab.specs.Run.{Ends, Reads, ReadsAtMost};
 
 use crate::CliFault;
 use crate::input::{LIMIT, read_text};
@@ -22,7 +22,8 @@ pub fn run_io<R: Read, W: Write>(
     input: &mut R,
     output: &mut W,
 ) -> Result<(), CliFault>
-    ensures { Ends table (R.remaining input.old) (W.contents output.old) (W.contents output.new) result }
+    ensures ends { Ends table (R.remaining input.old) (W.contents output.old) (W.contents output.new) result }
+    ensures limit { ReadsAtMost 65537 (R.remaining input.old) (R.remaining input.new) }
 {
     let plan = read_plan(alloc, input)?;
     let text = table_of(alloc, &plan)?;
@@ -37,7 +38,8 @@ pub fn check_io<R: Read, W: Write>(
     input: &mut R,
     output: &mut W,
 ) -> Result<(), CliFault>
-    ensures { Ends check_text (R.remaining input.old) (W.contents output.old) (W.contents output.new) result }
+    ensures ends { Ends check_text (R.remaining input.old) (W.contents output.old) (W.contents output.new) result }
+    ensures limit { ReadsAtMost 65537 (R.remaining input.old) (R.remaining input.new) }
 {
     let plan = read_plan(alloc, input)?;
     let text = check_text(alloc, &plan)?;
@@ -46,7 +48,8 @@ pub fn check_io<R: Read, W: Write>(
 
 /// Reads a plan, whose first fault is the answer where there is one.
 fn read_plan<R: Read>(alloc: Global, input: &mut R) -> Result<Plan, CliFault>
-    ensures { Reads (R.remaining input.old) result }
+    ensures reads { Reads (R.remaining input.old) result }
+    ensures limit { ReadsAtMost 65537 (R.remaining input.old) (R.remaining input.new) }
 {
     let text = read_text(alloc, input, LIMIT)?;
     Ok(Plan::from_json(alloc, text.as_slice())?)

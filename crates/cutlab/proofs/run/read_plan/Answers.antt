@@ -8,14 +8,14 @@ use Rattle.cutlab.specs.Run.{Reads}
 use Rattle.cutlab.proofs.RunLemmas.{reads_nothing, given_front, refused}
 use Rattle.cutlab.proofs.run.read_plan.Goals as goal
 
-pub returns-in_err-text : goal.returns-in_err-text
-returns-in_err-text g c =
+pub returns-in_err-text-clause-reads : goal.returns-in_err-text-clause-reads
+returns-in_err-text-clause-reads g c =
     let input : Option (List ℕ) = g.R.Read.remaining c.args.input.now in
     let p = err_from_is_err_and c.from_residual.result c.from_residual.ensures.1 in
     subst (λ (x : Result Values CliFault). Reads input x) (sym p.1) (rw p.2 (reads_nothing input c.in_err-text.field-0.0 c.in_err-text.ensures.err))
 
-pub returns-in_err-from_json : goal.returns-in_err-from_json
-returns-in_err-from_json g c =
+pub returns-in_err-from_json-clause-reads : goal.returns-in_err-from_json-clause-reads
+returns-in_err-from_json-clause-reads g c =
     let input : Option (List ℕ) = g.R.Read.remaining c.args.input.now in
     let text : List ℕ = c.as_slice.result.now in
     let fault : PlanFault = c.in_err-from_json.field-0.0 in
@@ -28,8 +28,8 @@ returns-in_err-from_json g c =
     let p = err_from_is_err_and c.from_residual-in_err-from_json.result c.from_residual-in_err-from_json.ensures.1 in
     subst (λ (x : Result Values CliFault). Reads input x) (sym p.1) (rw p.2 refused_so)
 
-pub returns : goal.returns
-returns g c =
+pub returns-clause-reads : goal.returns-clause-reads
+returns-clause-reads g c =
     let input : Option (List ℕ) = g.R.Read.remaining c.args.input.now in
     let text : List ℕ = c.as_slice.result.now in
     record {
