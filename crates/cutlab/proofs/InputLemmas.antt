@@ -1,22 +1,9 @@
--- What several reads of a reader give together, and several writes of a writer take.
-use Rattle.std.proofs.Common.{◌≡◌, ℕ, ◌+◌, ◌≤◌, List, ◌++◌, Option, Some, None, length, take, refl, sym, ap, ◌∙◌, arith, append_assoc, length-append}
-use Rattle.std.specs.Io.KnownBytes.{Consumes, Appends}
+-- A buffer after several reads into it.
+use Rattle.std.proofs.Common.{◌≡◌, ℕ, ◌+◌, ◌≤◌, List, ◌++◌, length, take, refl, sym, ap, ◌∙◌, arith, length-append}
 use Rattle.std.proofs.lemmas.List.{length-take-le, take-take}
 use Rattle.std.proofs.lemmas.Slice.{take-put_mid}
 use Rattle.std.proofs.Math.Seq.{take-append-add}
 use borrow.Rule.Slice.PartMut.{put_mid, post_of}
-
-pub consumes_more : (a b c : Option (List ℕ)) (xs ys : List ℕ) → Consumes a b xs → Consumes b c ys → Consumes a c (xs ++ ys)
-consumes_more None b c xs ys first then = tt
-consumes_more (Some us) None c xs ys first then = absurd first
-consumes_more (Some us) (Some vs) None xs ys first then = absurd then
-consumes_more (Some us) (Some vs) (Some ws) xs ys first then = first ∙ ap (λ zs. xs ++ zs) then ∙ sym (append_assoc xs ys ws)
-
-pub appends_more : (a b c : Option (List ℕ)) (xs ys : List ℕ) → Appends a b xs → Appends b c ys → Appends a c (xs ++ ys)
-appends_more None b c xs ys first then = tt
-appends_more (Some us) None c xs ys first then = absurd first
-appends_more (Some us) (Some vs) None xs ys first then = absurd then
-appends_more (Some us) (Some vs) (Some ws) xs ys first then = then ∙ ap (λ zs. zs ++ ys) first ∙ append_assoc us xs ys
 
 -- the front of a buffer after a read into its rest
 pub take_filled : (filled n : ℕ) (k : ℕ) (buffer got : List ℕ) → filled ≤ length buffer → n ≤ length got → take (filled + n) (put_mid filled k buffer got) ≡ take filled buffer ++ take n got

@@ -1,7 +1,8 @@
 -- How a run ends, by its parts.
-use Rattle.std.proofs.Common.{◌≡◌, ◌<◌, ℕ, List, [], Option, Some, None, Result, Ok, Err, IfSome, IfErr, OnOk, length, take, refl, sym, ap, ◌∙◌, subst, arith, append-nil, nat_lt, unwrap_or, ◌⊎◌, inl, inr}
+use Rattle.std.proofs.Common.{◌≡◌, ◌<◌, ℕ, List, [], Option, Some, None, Result, Ok, Err, IfSome, IfErr, OnOk, length, take, refl, sym, ap, ◌∙◌, subst, arith, nat_lt, unwrap_or, ◌⊎◌, inl, inr}
 use Rattle.std.specs.Bool.{⊤}
 use Rattle.std.specs.Io.KnownBytes.{Appends}
+use Rattle.std.proofs.KnownBytes.{Appends-nil}
 use Rattle.std.proofs.lemmas.Bool.{lt-ltb, cases_lt, cond-true}
 use Rattle.std.proofs.lemmas.List.{take_all, length-take}
 use Rattle.cut_plan.specs.Values.{Values}
@@ -26,23 +27,19 @@ plan_of-front all = elim (cases_lt 65536 (length all)) [
   | inr short ↦ ap (λ xs. plan_of xs) (sym (take_all 65537 all (omega arith)))
 ]
 
-nothing_appended : (x : Option (List ℕ)) → Appends x x []
-nothing_appended None = tt
-nothing_appended (Some xs) = sym (append-nil xs)
-
 known_or_none : (x : Option (List ℕ)) → IfSome x (λ all. plan_of all ≡ plan_of (unwrap_or x []))
 known_or_none None = tt
 known_or_none (Some xs) = refl
 
 -- a fault before anything is written
 pub ends_refused : (answer : Values → List ℕ) (input before : Option (List ℕ)) (e : CliFault) → Reads input (Err e) → Ends answer input before before (Err e)
-ends_refused answer input before Memory r = record { read = r.read; given = r.given; written = []; appended = nothing_appended before; answers = refl }
-ends_refused answer input before (Plan fault) r = record { read = r.read; given = r.given; written = []; appended = nothing_appended before; answers = (r.err, refl) }
-ends_refused answer input before Read r = record { read = r.read; given = r.given; written = []; appended = nothing_appended before; answers = refl }
+ends_refused answer input before Memory r = record { read = r.read; given = r.given; written = []; appended = Appends-nil before; answers = refl }
+ends_refused answer input before (Plan fault) r = record { read = r.read; given = r.given; written = []; appended = Appends-nil before; answers = (r.err, refl) }
+ends_refused answer input before Read r = record { read = r.read; given = r.given; written = []; appended = Appends-nil before; answers = refl }
 ends_refused answer input before (Write sent) r = absurd r.err
 
 pub ends_without_memory : (answer : Values → List ℕ) (input before : Option (List ℕ)) (v : Values) → Reads input (Ok v) → Ends answer input before before (Err Memory)
-ends_without_memory answer input before v r = record { read = r.read; given = r.given; written = []; appended = nothing_appended before; answers = refl }
+ends_without_memory answer input before v r = record { read = r.read; given = r.given; written = []; appended = Appends-nil before; answers = refl }
 
 -- the answer was sent, or a part of it
 pub ends_sent : (answer : Values → List ℕ) (input before after : Option (List ℕ)) (v : Values) (text : List ℕ) (result : Result ⊤ CliFault) → Reads input (Ok v) → text ≡ answer v

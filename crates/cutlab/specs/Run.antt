@@ -3,6 +3,7 @@ use Rattle.std.specs.Prelude.{◌≡◌, ◌≤◌, ℕ, ◌<◌, List, [], leng
 use Rattle.std.specs.Io.KnownBytes.{Appends, Consumes}
 use Rattle.cut_plan.specs.Values.{Values}
 use Rattle.cut_plan.specs.Accepted.{plan_of}
+use Rattle.cutlab.specs.Failures.{one_more}
 use Rattle.cutlab.specs.declared.fault.CliFault.{CliFault}
 use Rattle.cutlab.specs.declared.fault.CliFault.TheVariants.{Memory, Plan, Read, Write}
 
@@ -42,3 +43,19 @@ pub record Reads (input : Option (List ℕ)) (result : Result Values CliFault) :
 -- what is left of an input where at most this many bytes of it were read
 abbrev pub ReadsAtMost : ℕ → Option (List ℕ) → Option (List ℕ) → Type 0
 ReadsAtMost limit before after = (bytes : List ℕ) × Consumes before after bytes × (length bytes ≤ limit)
+
+-- the count of failed reads after a call: one more exactly where the answer is Read
+abbrev pub failed_reads : {T : Type 0} → Result T CliFault → ℕ → ℕ
+failed_reads (Ok done) n = n
+failed_reads (Err Memory) n = n
+failed_reads (Err (Plan fault)) n = n
+failed_reads (Err Read) n = one_more n
+failed_reads (Err (Write sent)) n = n
+
+-- the count of failed writes after a call: one more exactly where the answer is Write
+abbrev pub failed_writes : {T : Type 0} → Result T CliFault → ℕ → ℕ
+failed_writes (Ok done) n = n
+failed_writes (Err Memory) n = n
+failed_writes (Err (Plan fault)) n = n
+failed_writes (Err Read) n = n
+failed_writes (Err (Write sent)) n = one_more n

@@ -6,6 +6,7 @@ ghost use Rattle.std.specs.Prelude.{◌≡◌, ◌≢◌, ◌⊎◌};
 ghost use Rattle.std.specs.Process.{exit_status};
 ghost use Rattle.cutlab.specs.FaultNumber.{status_of_end};
 
+mod counted;
 mod fault;
 mod input;
 mod line;
@@ -16,6 +17,7 @@ mod table;
 #[cfg(test)]
 mod tests;
 
+pub use counted::Counted;
 pub use fault::CliFault;
 pub use line::{Job, LineFault, parse_line};
 pub use run::{check_io, run_io};
@@ -30,9 +32,11 @@ fn main(rt: HostRuntime) -> ExitCode {
         Ok(words) => words,
         Err(error) => return end_unread(&rt, &error),
     };
+    let mut input = Counted::new(rt.stdin());
+    let mut output = Counted::new(rt.stdout());
     match parse_line(alloc, words.as_slice()) {
-        Ok(Job::Run) => end(&rt, run_io(alloc, &mut rt.stdin(), &mut rt.stdout())),
-        Ok(Job::Check) => end(&rt, check_io(alloc, &mut rt.stdin(), &mut rt.stdout())),
+        Ok(Job::Run) => end(&rt, run_io(alloc, &mut input, &mut output)),
+        Ok(Job::Check) => end(&rt, check_io(alloc, &mut input, &mut output)),
         Err(fault) => end_line(&rt, &fault),
     }
 }

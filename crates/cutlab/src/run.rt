@@ -2,12 +2,13 @@ ghost use Rattle.std.specs.Prelude.{◌≡◌, ◌++◌, ◌<◌, ℕ, length, t
 ghost use Rattle.std.specs.Io.KnownBytes.{Appends};
 ghost use Rattle.cutlab.specs.Table.{table};
 ghost use Rattle.cutlab.specs.Check.{check_text, number_line};
-ghost use Rattle.cutlab.specs.Run.{Ends, Reads, ReadsAtMost};
+ghost use Rattle.cutlab.specs.Failures.{counted};
+ghost use Rattle.cutlab.specs.Run.{Ends, Reads, ReadsAtMost, failed_reads, failed_writes};
 
-use crate::CliFault;
 use crate::input::{LIMIT, read_text};
 use crate::send::send_all;
 use crate::table::table_of;
+use crate::{CliFault, Counted};
 use cut_plan::Plan;
 use cut_trial::quorum;
 use std::alloc::{AllocError, Global};
@@ -19,11 +20,14 @@ use std::io::{Read, Write};
 /// write failed, and nothing at any other fault.
 pub fn run_io<R: Read, W: Write>(
     alloc: Global,
-    input: &mut R,
-    output: &mut W,
+    input: &mut Counted<R>,
+    output: &mut Counted<W>,
 ) -> Result<(), CliFault>
-    ensures ends { Ends table (R.remaining input.old) (W.contents output.old) (W.contents output.new) result }
-    ensures limit { ReadsAtMost 65537 (R.remaining input.old) (R.remaining input.new) }
+    ensures ends { Ends table (R.remaining input.old.stream)
+        (W.contents output.old.stream) (W.contents output.new.stream) result }
+    ensures limit { ReadsAtMost 65537 (R.remaining input.old.stream) (R.remaining input.new.stream) }
+    ensures reads { input.new.failures ≡ failed_reads result input.old.failures }
+    ensures writes { output.new.failures ≡ failed_writes result output.old.failures }
 {
     let plan = read_plan(alloc, input)?;
     let text = table_of(alloc, &plan)?;
@@ -35,11 +39,14 @@ pub fn run_io<R: Read, W: Write>(
 /// What is read and written, and each fault, is as in `run_io`.
 pub fn check_io<R: Read, W: Write>(
     alloc: Global,
-    input: &mut R,
-    output: &mut W,
+    input: &mut Counted<R>,
+    output: &mut Counted<W>,
 ) -> Result<(), CliFault>
-    ensures ends { Ends check_text (R.remaining input.old) (W.contents output.old) (W.contents output.new) result }
-    ensures limit { ReadsAtMost 65537 (R.remaining input.old) (R.remaining input.new) }
+    ensures ends { Ends check_text (R.remaining input.old.stream)
+        (W.contents output.old.stream) (W.contents output.new.stream) result }
+    ensures limit { ReadsAtMost 65537 (R.remaining input.old.stream) (R.remaining input.new.stream) }
+    ensures reads { input.new.failures ≡ failed_reads result input.old.failures }
+    ensures writes { output.new.failures ≡ failed_writes result output.old.failures }
 {
     let plan = read_plan(alloc, input)?;
     let text = check_text(alloc, &plan)?;
@@ -47,9 +54,10 @@ pub fn check_io<R: Read, W: Write>(
 }
 
 /// Reads a plan, whose first fault is the answer where there is one.
-fn read_plan<R: Read>(alloc: Global, input: &mut R) -> Result<Plan, CliFault>
-    ensures reads { Reads (R.remaining input.old) result }
-    ensures limit { ReadsAtMost 65537 (R.remaining input.old) (R.remaining input.new) }
+fn read_plan<R: Read>(alloc: Global, input: &mut Counted<R>) -> Result<Plan, CliFault>
+    ensures reads { Reads (R.remaining input.old.stream) result }
+    ensures limit { ReadsAtMost 65537 (R.remaining input.old.stream) (R.remaining input.new.stream) }
+    ensures failures { input.new.failures ≡ failed_reads result input.old.failures }
 {
     let text = read_text(alloc, input, LIMIT)?;
     Ok(Plan::from_json(alloc, text.as_slice())?)
@@ -79,10 +87,12 @@ fn push_line(alloc: Global, text: &mut String, word: &str, number: u32) -> Resul
 }
 
 /// Writes an answer.
-fn send<W: Write>(output: &mut W, text: &[u8]) -> Result<(), CliFault>
-    ensures ok { OnOk result (Appends (W.contents output.old) (W.contents output.new) text.now) }
+fn send<W: Write>(output: &mut Counted<W>, text: &[u8]) -> Result<(), CliFault>
+    ensures ok { OnOk result
+        (Appends (W.contents output.old.stream) (W.contents output.new.stream) text.now) }
     ensures err { IfErr result (λ e. (sent : ℕ) × (e ≡ CliFault.Write sent) × (sent < length text.now)
-        × Appends (W.contents output.old) (W.contents output.new) (take sent text.now)) }
+        × Appends (W.contents output.old.stream) (W.contents output.new.stream) (take sent text.now)) }
+    ensures failures { output.new.failures ≡ failed_writes result output.old.failures }
 {
     match send_all(output, text) {
         Ok(()) => Ok(()),

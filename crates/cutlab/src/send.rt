@@ -1,6 +1,8 @@
 ghost use Rattle.std.specs.Prelude.{◌≡◌, ◌<◌, length, take, OnOk, IfErr};
 ghost use Rattle.std.specs.Io.KnownBytes.{Appends};
+ghost use Rattle.cutlab.specs.Failures.{counted};
 
+use crate::Counted;
 use std::io::Write;
 
 /// How many bytes a writer took before a write of it failed.
@@ -11,16 +13,19 @@ pub(crate) struct Sent {
 
 /// Writes all the bytes, by as many writes as it takes. A write that fails, one that is interrupted,
 /// and one that takes nothing, is the last.
-pub(crate) fn send_all<W: Write>(output: &mut W, bytes: &[u8]) -> Result<(), Sent>
-    ensures ok { OnOk result (Appends (W.contents output.old) (W.contents output.new) bytes.now) }
-    ensures err { IfErr result (λ sent. Appends (W.contents output.old) (W.contents output.new) (take sent.bytes bytes.now)) }
+pub(crate) fn send_all<W: Write>(output: &mut Counted<W>, bytes: &[u8]) -> Result<(), Sent>
+    ensures ok { OnOk result
+        (Appends (W.contents output.old.stream) (W.contents output.new.stream) bytes.now) }
+    ensures err { IfErr result (λ sent.
+        Appends (W.contents output.old.stream) (W.contents output.new.stream) (take sent.bytes bytes.now)) }
     ensures fewer { IfErr result (λ sent. sent.bytes < length bytes.now) }
+    ensures failures { output.new.failures ≡ counted result output.old.failures }
 {
     let mut sent = 0;
     while sent < bytes.len() {
         match output.write(&bytes[sent..]) {
-            Ok(n) if n > 0 => sent += n,
-            _ => return Err(Sent { bytes: sent as u64 }),
+            Ok(n) => sent += n,
+            Err(_) => return Err(Sent { bytes: sent as u64 }),
         }
     }
     Ok(())

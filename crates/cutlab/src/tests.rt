@@ -8,8 +8,9 @@ mod refusals;
 mod studies;
 mod tables;
 
-use crate::{CliFault, check_io, run_io};
+use crate::{CliFault, Counted, check_io, run_io};
 use std::alloc::{AllocError, Global};
+use std::io::{Read, Write};
 
 /// A study of one cell: two trials of five processes, of which one crashes.
 const PLAN: &str =
@@ -34,18 +35,26 @@ fn table_with(alloc: Global, lines: &str) -> Result<String, AllocError> {
     Ok(text)
 }
 
+/// Runs the plan of a reader and writes its table to a writer.
+fn run<R: Read + Drop, W: Write + Drop>(alloc: Global, input: R, output: W) -> Result<(), CliFault> {
+    run_io(alloc, &mut Counted::new(input), &mut Counted::new(output))
+}
+
+/// Checks the plan of a reader and writes what it has to a writer.
+fn check<R: Read + Drop, W: Write + Drop>(alloc: Global, input: R, output: W) -> Result<(), CliFault> {
+    check_io(alloc, &mut Counted::new(input), &mut Counted::new(output))
+}
+
 /// What `run_io` writes for this text, which it must take.
 fn table_for(alloc: Global, text: &[u8]) -> Result<Vec<u8>, CliFault> {
-    let mut input = text;
     let mut output = Vec::new(alloc);
-    run_io(alloc, &mut input, &mut output)?;
+    run(alloc, text, &mut output)?;
     Ok(output)
 }
 
 /// What `check_io` writes for this text, which it must take.
 fn check_for(alloc: Global, text: &[u8]) -> Result<Vec<u8>, CliFault> {
-    let mut input = text;
     let mut output = Vec::new(alloc);
-    check_io(alloc, &mut input, &mut output)?;
+    check(alloc, text, &mut output)?;
     Ok(output)
 }

@@ -1,7 +1,7 @@
 //! Readers and writers that do little at a time, and that fail at each of their calls in turn.
 
-use super::{PLAN, table_with};
-use crate::{CliFault, check_io, run_io};
+use super::{PLAN, check, run, table_with};
+use crate::{CliFault, Counted};
 use std::alloc::{AllocError, Global};
 use std::io::{self, ErrorKind, Read, Write};
 use std::test::Fail;
@@ -73,7 +73,7 @@ impl<'a> Write for Device<'a> {
 fn stops_at_read(alloc: Global, at: usize, kind: ErrorKind) -> bool {
     let mut input = Device::new(alloc, PLAN.as_bytes(), 1, at, Act::Fail(kind));
     let mut output = Vec::new(alloc);
-    match run_io(alloc, &mut input, &mut output) {
+    match run(alloc, &mut input, &mut output) {
         Err(CliFault::Read) => output.is_empty() && input.calls == at.saturating_add(1),
         _ => false,
     }
@@ -83,9 +83,8 @@ fn stops_at_read(alloc: Global, at: usize, kind: ErrorKind) -> bool {
 /// the bytes that the writer took, which are the table's first, and no call came after that one.
 fn stops_at_write(alloc: Global, table: &str, step: usize, at: usize, act: Act) -> bool {
     let taken = at.saturating_mul(step);
-    let mut input = PLAN.as_bytes();
     let mut output = Device::new(alloc, b"", step, at, act);
-    match run_io(alloc, &mut input, &mut output) {
+    match run(alloc, PLAN.as_bytes(), &mut output) {
         Err(CliFault::Write(sent)) => {
             sent == taken as u64
                 && Some(output.output.as_slice()) == table.as_bytes().get(..taken)
@@ -148,13 +147,13 @@ fn one_byte_at_a_time(rt: HostRuntime) -> Result<(), Fail> {
     let table = plan_table(alloc)?;
     let mut input = Device::new(alloc, PLAN.as_bytes(), 1, usize::MAX, Act::Nothing);
     let mut output = Device::new(alloc, b"", 1, usize::MAX, Act::Nothing);
-    run_io(alloc, &mut input, &mut output)?;
+    run(alloc, &mut input, &mut output)?;
     assert!(rt; output.output.as_slice() == table.as_bytes());
     assert_eq!(rt; output.calls, table.len());
     assert_eq!(rt; input.calls, PLAN.len() + 1);
     let mut input = Device::new(alloc, PLAN.as_bytes(), 1, usize::MAX, Act::Nothing);
     let mut output = Device::new(alloc, b"", 1, usize::MAX, Act::Nothing);
-    check_io(alloc, &mut input, &mut output)?;
+    check(alloc, &mut input, &mut output)?;
     assert!(rt; output.output.as_slice() == b"cells 1\ntrials 2\nquorum 4\n".as_slice());
     Ok(())
 }
@@ -165,8 +164,34 @@ fn reads_no_further_than_the_limit(rt: HostRuntime) -> Result<(), Fail> {
     let blanks = vec![in alloc; b' '; 70_000]?;
     let mut input = Device::new(alloc, &blanks, 1_000, usize::MAX, Act::Nothing);
     let mut output = Vec::new(alloc);
-    assert!(rt; run_io(alloc, &mut input, &mut output).is_err());
+    assert!(rt; run(alloc, &mut input, &mut output).is_err());
     assert_eq!(rt; input.input.len(), 70_000 - 65_537);
     assert!(rt; output.is_empty());
+    Ok(())
+}
+
+#[test]
+fn failed_calls_are_counted(rt: HostRuntime) -> Result<(), Fail> {
+    let alloc = rt.alloc();
+    let mut buffer = [0u8; 4];
+    let device = Device::new(alloc, b"table", 2, 1, Act::Fail(ErrorKind::Interrupted));
+    let mut input = Counted::new(device);
+    assert_eq!(rt; input.read(&mut buffer)?, 2);
+    assert_eq!(rt; input.failures(), 0);
+    assert!(rt; input.read(&mut buffer).is_err());
+    assert_eq!(rt; input.failures(), 1);
+    assert_eq!(rt; input.read(&mut buffer)?, 2);
+    assert_eq!(rt; input.failures(), 1);
+    let mut output = Counted::new(Device::new(alloc, b"", 2, 1, Act::Nothing));
+    assert_eq!(rt; output.write(b"table")?, 2);
+    assert_eq!(rt; output.failures(), 0);
+    match output.write(b"ble") {
+        Ok(_) => assert!(rt; false, "taken"),
+        Err(error) => assert!(rt; error.kind() == ErrorKind::WriteZero),
+    }
+    assert_eq!(rt; output.failures(), 1);
+    assert_eq!(rt; output.write(b"ble")?, 2);
+    output.flush()?;
+    assert_eq!(rt; output.failures(), 1);
     Ok(())
 }

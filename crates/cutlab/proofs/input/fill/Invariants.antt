@@ -1,11 +1,12 @@
-use Rattle.std.proofs.Common.{length, ◌-◌, ◌≤◌, take}
+use Rattle.std.proofs.Common.{◌≡◌, length, ◌-◌, ◌≤◌, take}
 use Rattle.std.specs.Io.KnownBytes.{Consumes}
 use Rattle.cutlab.proofs.input.fill.Given as goal
 
 abbrev pub invariant-loop-filled : goal.invariant-loop-filled
 invariant-loop-filled g l = record {
   within : l.filled ≤ length l.buffer;
-  read : Consumes (g.R.Read.remaining l.fn.input) (g.R.Read.remaining l.input) (take l.filled l.buffer);
+  read : Consumes (g.R.Read.remaining l.fn.input.stream) (g.R.Read.remaining l.input.stream) (take l.filled l.buffer);
+  failures : l.input.failures ≡ l.fn.input.failures;
 }
 
 abbrev pub decreases-loop-filled : goal.decreases-loop-filled

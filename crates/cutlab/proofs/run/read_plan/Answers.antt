@@ -10,13 +10,13 @@ use Rattle.cutlab.proofs.run.read_plan.Goals as goal
 
 pub returns-in_err-text-clause-reads : goal.returns-in_err-text-clause-reads
 returns-in_err-text-clause-reads g c =
-    let input : Option (List ℕ) = g.R.Read.remaining c.args.input.now in
+    let input : Option (List ℕ) = g.R.Read.remaining c.args.input.now.stream in
     let p = err_from_is_err_and c.from_residual.result c.from_residual.ensures.1 in
     subst (λ (x : Result Values CliFault). Reads input x) (sym p.1) (rw p.2 (reads_nothing input c.in_err-text.field-0.0 c.in_err-text.ensures.err))
 
 pub returns-in_err-from_json-clause-reads : goal.returns-in_err-from_json-clause-reads
 returns-in_err-from_json-clause-reads g c =
-    let input : Option (List ℕ) = g.R.Read.remaining c.args.input.now in
+    let input : Option (List ℕ) = g.R.Read.remaining c.args.input.now.stream in
     let text : List ℕ = c.as_slice.result.now in
     let fault : PlanFault = c.in_err-from_json.field-0.0 in
     let refused_so : Reads input (Err (refusal fault)) = record {
@@ -30,7 +30,7 @@ returns-in_err-from_json-clause-reads g c =
 
 pub returns-clause-reads : goal.returns-clause-reads
 returns-clause-reads g c =
-    let input : Option (List ℕ) = g.R.Read.remaining c.args.input.now in
+    let input : Option (List ℕ) = g.R.Read.remaining c.args.input.now.stream in
     let text : List ℕ = c.as_slice.result.now in
     record {
       read = text;

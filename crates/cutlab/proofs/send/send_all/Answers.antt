@@ -2,7 +2,7 @@ use Rattle.std.proofs.Common.{◌≡◌, ◌+◌, ◌-◌, ◌++◌, List, ℕ, 
 use Rattle.std.specs.Io.KnownBytes.{Appends}
 use Rattle.std.proofs.lemmas.List.{take_rest}
 use Rattle.std.proofs.Math.Seq.{take-add}
-use Rattle.cutlab.proofs.InputLemmas.{appends_more}
+use Rattle.std.proofs.KnownBytes.{Appends-trans}
 use Rattle.cutlab.proofs.send.send_all.Goals as goal
 
 pub loop-sent-preserved : goal.loop-sent-preserved
@@ -14,7 +14,8 @@ loop-sent-preserved g c =
     ap (λ xs. take sent bytes ++ take c.in-Ok.n xs) rest ∙ sym (take-add sent c.in-Ok.n bytes) in
     record {
       within = omega (arith, c.in-Ok.ensures.bound, ap (λ xs. length xs) rest, length-drop sent bytes, c.loop-sent.invariant.within);
-      written = subst (λ (xs : List ℕ). Appends (g.W.Write.contents c.args.output.now) (g.W.Write.contents c.write.new.self) xs) more
-          (appends_more (g.W.Write.contents c.args.output.now) (g.W.Write.contents c.loop-sent.output) (g.W.Write.contents c.write.new.self)
+      written = subst (λ (xs : List ℕ). Appends (g.W.Write.contents c.args.output.now.stream) (g.W.Write.contents c.write.new.self.stream) xs) more
+          (Appends-trans (g.W.Write.contents c.args.output.now.stream) (g.W.Write.contents c.loop-sent.output.stream) (g.W.Write.contents c.write.new.self.stream)
           (take sent bytes) (take c.in-Ok.n (take (length bytes - sent) (drop sent bytes))) c.loop-sent.invariant.written c.in-Ok.ensures.bytes);
+      failures = c.in-Ok.ensures.failures ∙ c.loop-sent.invariant.failures;
     }
