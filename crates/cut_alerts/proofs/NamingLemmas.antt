@@ -12,8 +12,9 @@ use Rattle.cut_plan.specs.declared.rule.Faults.{Faults}
 use Rattle.cut_plan.specs.declared.rule.Faults.TheVariants as faults_are
 use Rattle.cut_alerts.specs.declared.role.Role.{Role}
 use Rattle.cut_alerts.specs.declared.role.Role.TheVariants.{Healthy, Liar, LinkSource}
+use Rattle.cut_alerts.specs.Assignment.{is_healthy_role}
 use Rattle.cut_alerts.specs.Drawn.{target_role}
-use Rattle.cut_alerts.specs.Naming.{Naming, naming, link_naming, is_healthy_role, is_free, named}
+use Rattle.cut_alerts.specs.Naming.{Naming, naming, link_naming, is_free, named}
 use Rattle.cut_alerts.specs.Given.{IsLegal, AreLinks, all_named, source_role, given_role}
 
 -- ---- one after another

@@ -4,6 +4,35 @@ use Rattle.cut_plan.specs.declared.rule.Dead.{Dead}
 use Rattle.cut_alerts.specs.declared.role.Role.{Role}
 use Rattle.cut_alerts.specs.declared.role.Role.TheVariants.{Healthy, Crashed, Deaf, Liar, LinkSource}
 
+-- ---- a test for each role
+
+-- it works, and so do its links
+abbrev pub is_healthy_role : Role → Bool
+is_healthy_role Healthy = true
+is_healthy_role _ = false
+
+-- it has crashed
+abbrev pub is_crashed_role : Role → Bool
+is_crashed_role Crashed = true
+is_crashed_role _ = false
+
+-- everything that is sent to it is lost
+abbrev pub is_deaf_role : Role → Bool
+is_deaf_role Deaf = true
+is_deaf_role _ = false
+
+-- it raises false alerts
+abbrev pub is_liar_role : Role → Bool
+is_liar_role Liar = true
+is_liar_role _ = false
+
+-- its link to q is cut
+abbrev pub is_link_role : ℕ → Role → Bool
+is_link_role q (LinkSource to) = to == q
+is_link_role q _ = false
+
+-- ---- the processes of a trial
+
 -- each process's role, and whether observers that have crashed raise alerts
 pub record Assignment : Type 0 where
   pub roles : List Role
@@ -12,34 +41,6 @@ pub record Assignment : Type 0 where
 -- the role of process p
 abbrev pub role_at : Assignment → ℕ → Role
 role_at a p = slice_index_or a.roles p Healthy
-
-abbrev pub is_crashed_role : Role → Bool
-is_crashed_role Healthy = false
-is_crashed_role Crashed = true
-is_crashed_role Deaf = false
-is_crashed_role Liar = false
-is_crashed_role (LinkSource to) = false
-
-abbrev pub is_deaf_role : Role → Bool
-is_deaf_role Healthy = false
-is_deaf_role Crashed = false
-is_deaf_role Deaf = true
-is_deaf_role Liar = false
-is_deaf_role (LinkSource to) = false
-
-abbrev pub is_liar_role : Role → Bool
-is_liar_role Healthy = false
-is_liar_role Crashed = false
-is_liar_role Deaf = false
-is_liar_role Liar = true
-is_liar_role (LinkSource to) = false
-
-abbrev pub is_link_role : ℕ → Role → Bool
-is_link_role q Healthy = false
-is_link_role q Crashed = false
-is_link_role q Deaf = false
-is_link_role q Liar = false
-is_link_role q (LinkSource to) = to == q
 
 -- p has crashed
 abbrev pub has_crashed : Assignment → ℕ → Bool

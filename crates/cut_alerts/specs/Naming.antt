@@ -1,7 +1,8 @@
 -- Roles that are given to processes one after another, each to a process that has none yet.
-use Rattle.std.specs.Prelude.{ℕ, ◌&&◌, Bool, true, false, List, [], ◌∷◌, Option, Some, None, length, nat_lt, slice_index_or, slice_set, if◌then◌else◌}
+use Rattle.std.specs.Prelude.{ℕ, ◌&&◌, Bool, List, [], ◌∷◌, Option, Some, None, length, nat_lt, slice_index_or, slice_set, if◌then◌else◌}
 use Rattle.cut_alerts.specs.declared.role.Role.{Role}
-use Rattle.cut_alerts.specs.declared.role.Role.TheVariants.{Healthy, Crashed, Deaf, Liar, LinkSource}
+use Rattle.cut_alerts.specs.declared.role.Role.TheVariants.{Healthy, LinkSource}
+use Rattle.cut_alerts.specs.Assignment.{is_healthy_role}
 
 -- a process and the role that it is given
 pub record Naming : Type 0 where
@@ -14,13 +15,6 @@ naming p role = record { process = p; role = role }
 -- the first end of a link is made a source, whose link to the second end is cut
 abbrev pub link_naming : ℕ × ℕ → Naming
 link_naming l = naming l.0 (LinkSource l.1)
-
-abbrev pub is_healthy_role : Role → Bool
-is_healthy_role Healthy = true
-is_healthy_role Crashed = false
-is_healthy_role Deaf = false
-is_healthy_role Liar = false
-is_healthy_role (LinkSource to) = false
 
 -- whether p is one of the processes, and has no other role than healthy
 abbrev pub is_free : List Role → ℕ → Bool

@@ -46,9 +46,7 @@ impl Roles {
         ensures drawn { IfOk result (λ r. r ≡ drawn plan.now cell.f draws.old rings.now) }
         ensures same { draws.new ≡ draws.old }
     {
-        let n = plan.nodes();
-        // There is a first ring, on which the subject of a link's source is looked up.
-        let _ = rings.len();
+        let n = rings.nodes();
         let order = draws.process_order(alloc, n)?;
         let mut roles = vec![in alloc; Role::Healthy; usize::from(n)]?;
         for (rank, process) in order.iter().enumerate() {

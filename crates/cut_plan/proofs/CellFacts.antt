@@ -21,7 +21,7 @@ failed_counts v plan =
 lows : (v : Values) → IsPlan v → AllByRecursion (λ l. 1 ≤ l) v.l
 lows v plan = every-list_all (λ x. nat_le 1 x && nat_le x 32) (λ l. 1 ≤ l) (λ l h. leb-true 1 l (and_parts (nat_le 1 l) (nat_le l 32) h).0) v.l plan.ls.range
 
-cells_at-every : (v : Values) → IsPlan v → (k h l : ℕ) → k ≤ largest v.k → 1 ≤ l → AllByRecursion (IsCellOf v) (cells_at v k h l)
+cells_at-every : (v : Values) → IsPlan v → (k h l : ℕ) → k ≤ largest v.k → 1 ≤ l → AllByRecursion (IsCellOf v) (cells_at v.f k h l)
 cells_at-every v plan k h l top low =
     every-cond (IsCellOf v) (nat_le l h && nat_le h k) _ (λ e.
     let parts = and_parts (nat_le l h) (nat_le h k) e in

@@ -4,7 +4,8 @@ use Rattle.std.proofs.lemmas.Bool.{and_parts, ltb-true}
 use Rattle.std.proofs.lemmas.List.Sums.{sum_by-cons}
 use Rattle.std.specs.List.{AllByRecursion, sum_by, count_by}
 use Rattle.cut_plan.specs.declared.cell.Cell.{Cell}
-use Rattle.cut_plan.specs.Combine.{with_f, with_l, with_h, with_k, lows_under, pairs_under, triples}
+use Rattle.cut_plan.specs.Cells.{cells_at, cells_under_h, cells_under_k, cells_of_lists}
+use Rattle.cut_plan.specs.Triples.{lows_under, pairs_under, triples}
 use Rattle.cut_plan.specs.Plan.{is_rising}
 
 length_mapped : {X Y : Type 0} (f : X → Y) (xs : List X) → length (map f xs) ≡ length xs
@@ -33,53 +34,53 @@ over_and : (a b : Bool) → b ≡ false → (a && b) ≡ false
 over_and true b e = e
 over_and false b e = refl
 
-length_with_f : (fs : List ℕ) (k h l : ℕ) → nat_le h k ≡ true → length (with_f fs k h l) ≡ cond (nat_le l h) 1 0 * length fs
-length_with_f fs k h l e =
+length_cells_at : (fs : List ℕ) (k h l : ℕ) → nat_le h k ≡ true → length (cells_at fs k h l) ≡ cond (nat_le l h) 1 0 * length fs
+length_cells_at fs k h l e =
     let whole : (nat_le l h && nat_le h k) ≡ nat_le l h = under_and (nat_le l h) (nat_le h k) e in
     rw whole (length_cond (nat_le l h) (map (cell_with k h l) fs) (length fs) (length_mapped (cell_with k h l) fs))
 
-length_with_l_in : (ls fs : List ℕ) (k h : ℕ) → nat_le h k ≡ true → length (with_l ls fs k h) ≡ count_by (λ l. nat_le l h) ls * length fs
-length_with_l_in [] fs k h e = omega arith
-length_with_l_in (l ∷ ls) fs k h e =
-    let first = length_with_f fs k h l e in
-    let rest = length_with_l_in ls fs k h e in
-    length-append (with_f fs k h l) (with_l ls fs k h)
+length_cells_under_h_in : (ls fs : List ℕ) (k h : ℕ) → nat_le h k ≡ true → length (cells_under_h ls fs k h) ≡ count_by (λ l. nat_le l h) ls * length fs
+length_cells_under_h_in [] fs k h e = omega arith
+length_cells_under_h_in (l ∷ ls) fs k h e =
+    let first = length_cells_at fs k h l e in
+    let rest = length_cells_under_h_in ls fs k h e in
+    length-append (cells_at fs k h l) (cells_under_h ls fs k h)
     ∙ times_more (λ l. cond (nat_le l h) 1 0) l ls (length fs) _ _ first rest
 
-length_with_l_out : (ls fs : List ℕ) (k h : ℕ) → nat_le h k ≡ false → length (with_l ls fs k h) ≡ 0
-length_with_l_out [] fs k h e = refl
-length_with_l_out (l ∷ ls) fs k h e =
+length_cells_under_h_out : (ls fs : List ℕ) (k h : ℕ) → nat_le h k ≡ false → length (cells_under_h ls fs k h) ≡ 0
+length_cells_under_h_out [] fs k h e = refl
+length_cells_under_h_out (l ∷ ls) fs k h e =
     let first = none_under (nat_le l h && nat_le h k) (map (cell_with k h l) fs) (over_and (nat_le l h) (nat_le h k) e) in
-    let rest = length_with_l_out ls fs k h e in
-    let joined = length-append (with_f fs k h l) (with_l ls fs k h) in
+    let rest = length_cells_under_h_out ls fs k h e in
+    let joined = length-append (cells_at fs k h l) (cells_under_h ls fs k h) in
     omega (arith, first, rest, joined)
 
-length_with_l_at : (b : Bool) (ls fs : List ℕ) (k h : ℕ) → nat_le h k ≡ b → length (with_l ls fs k h) ≡ cond b (count_by (λ l. nat_le l h) ls) 0 * length fs
-length_with_l_at true ls fs k h e = length_with_l_in ls fs k h e
-length_with_l_at false ls fs k h e = let none = length_with_l_out ls fs k h e in omega (arith, none)
+length_cells_under_h_if : (b : Bool) (ls fs : List ℕ) (k h : ℕ) → nat_le h k ≡ b → length (cells_under_h ls fs k h) ≡ cond b (count_by (λ l. nat_le l h) ls) 0 * length fs
+length_cells_under_h_if true ls fs k h e = length_cells_under_h_in ls fs k h e
+length_cells_under_h_if false ls fs k h e = let none = length_cells_under_h_out ls fs k h e in omega (arith, none)
 
-length_with_l : (ls fs : List ℕ) (k h : ℕ) → length (with_l ls fs k h) ≡ lows_under ls k h * length fs
-length_with_l ls fs k h = length_with_l_at (nat_le h k) ls fs k h refl
+length_cells_under_h : (ls fs : List ℕ) (k h : ℕ) → length (cells_under_h ls fs k h) ≡ lows_under ls k h * length fs
+length_cells_under_h ls fs k h = length_cells_under_h_if (nat_le h k) ls fs k h refl
 
-length_with_h : (hs ls fs : List ℕ) (k : ℕ) → length (with_h hs ls fs k) ≡ sum_by (λ h. lows_under ls k h) hs * length fs
-length_with_h [] ls fs k = omega arith
-length_with_h (h ∷ hs) ls fs k =
-    let first = length_with_l ls fs k h in
-    let rest = length_with_h hs ls fs k in
-    length-append (with_l ls fs k h) (with_h hs ls fs k)
+length_cells_by_h : (hs ls fs : List ℕ) (k : ℕ) → length (cells_under_k hs ls fs k) ≡ sum_by (λ h. lows_under ls k h) hs * length fs
+length_cells_by_h [] ls fs k = omega arith
+length_cells_by_h (h ∷ hs) ls fs k =
+    let first = length_cells_under_h ls fs k h in
+    let rest = length_cells_by_h hs ls fs k in
+    length-append (cells_under_h ls fs k h) (cells_under_k hs ls fs k)
     ∙ times_more (λ h. lows_under ls k h) h hs (length fs) _ _ first rest
 
-pairs : (hs ls fs : List ℕ) (k : ℕ) → length (with_h hs ls fs k) ≡ pairs_under hs ls k * length fs
+length_cells_under_k : (hs ls fs : List ℕ) (k : ℕ) → length (cells_under_k hs ls fs k) ≡ pairs_under hs ls k * length fs
 unfolding pairs_under
-pairs hs ls fs k = length_with_h hs ls fs k
+length_cells_under_k hs ls fs k = length_cells_by_h hs ls fs k
 
 -- there is a cell for each combination and each f
-pub length_with_k : (ks hs ls fs : List ℕ) → length (with_k ks hs ls fs) ≡ triples ks hs ls * length fs
-length_with_k [] hs ls fs = omega arith
-length_with_k (k ∷ ks) hs ls fs =
-    let first = pairs hs ls fs k in
-    let rest = length_with_k ks hs ls fs in
-    length-append (with_h hs ls fs k) (with_k ks hs ls fs)
+pub length_cells_of_lists : (ks hs ls fs : List ℕ) → length (cells_of_lists ks hs ls fs) ≡ triples ks hs ls * length fs
+length_cells_of_lists [] hs ls fs = omega arith
+length_cells_of_lists (k ∷ ks) hs ls fs =
+    let first = length_cells_under_k hs ls fs k in
+    let rest = length_cells_of_lists ks hs ls fs in
+    length-append (cells_under_k hs ls fs k) (cells_of_lists ks hs ls fs)
     ∙ times_more (λ k. pairs_under hs ls k) k ks (length fs) _ _ first rest
 
 -- a rising list whose numbers are below a bound has room up to it

@@ -7,5 +7,5 @@ pub mod Fields
 pub mod Accepted
 pub mod Canonical
 pub mod Look
-pub mod Combine
+pub mod Triples
 pub mod Combinations

@@ -1,6 +1,7 @@
 //! The combinations of a plan's lists.
 ghost use Rattle.std.specs.Prelude.{◌≡◌, ◌≤◌, ◌++◌, length, OnOk, IfOk};
-ghost use Rattle.cut_plan.specs.Combine.{with_f, with_l, with_h, with_k, lows_under, pairs_under, triples};
+ghost use Rattle.cut_plan.specs.Cells.{cells_at, cells_under_h, cells_under_k, cells_of_lists};
+ghost use Rattle.cut_plan.specs.Triples.{lows_under, pairs_under, triples};
 
 use crate::Cell;
 use std::alloc::{AllocError, Global};
@@ -21,7 +22,7 @@ pub(crate) fn count_triples(k: &[u8], h: &[u8], l: &[u8]) -> u32
 }
 
 /// How many pairs of h and l there are under one k.
-#[tactic(auto, unfolding(crate::specs::Combine::pairs_under))]
+#[tactic(auto, unfolding(crate::specs::Triples::pairs_under))]
 fn count_pairs(k: u8, h: &[u8], l: &[u8]) -> u32
     requires few_h { length h.now ≤ 32 }
     requires few_l { length l.now ≤ 32 }
@@ -55,7 +56,7 @@ pub(crate) fn combine(
     l: &[u8],
     f: &[u16],
 ) -> Result<Vec<Cell>, AllocError>
-    ensures { IfOk result (λ v. v.items ≡ with_k k.now h.now l.now f.now) }
+    ensures { IfOk result (λ v. v.items ≡ cells_of_lists k.now h.now l.now f.now) }
 {
     let mut cells = Vec::new(alloc);
     for rings in k {
@@ -66,7 +67,7 @@ pub(crate) fn combine(
 
 /// Adds the cells of one k.
 fn add_highs(cells: &mut Vec<Cell>, k: u8, h: &[u8], l: &[u8], f: &[u16]) -> Result<(), AllocError>
-    ensures { OnOk result (cells.new.items ≡ cells.old.items ++ with_h h.now l.now f.now k) }
+    ensures { OnOk result (cells.new.items ≡ cells.old.items ++ cells_under_k h.now l.now f.now k) }
 {
     for high in h {
         add_lows(cells, k, *high, l, f)?;
@@ -76,7 +77,7 @@ fn add_highs(cells: &mut Vec<Cell>, k: u8, h: &[u8], l: &[u8], f: &[u16]) -> Res
 
 /// Adds the cells of one k and h.
 fn add_lows(cells: &mut Vec<Cell>, k: u8, h: u8, l: &[u8], f: &[u16]) -> Result<(), AllocError>
-    ensures { OnOk result (cells.new.items ≡ cells.old.items ++ with_l l.now f.now k h) }
+    ensures { OnOk result (cells.new.items ≡ cells.old.items ++ cells_under_h l.now f.now k h) }
 {
     for low in l {
         add_cells(cells, k, h, *low, f)?;
@@ -86,7 +87,7 @@ fn add_lows(cells: &mut Vec<Cell>, k: u8, h: u8, l: &[u8], f: &[u16]) -> Result<
 
 /// Adds the cells of one k, h and l, one for each f, where the thresholds are in order.
 fn add_cells(cells: &mut Vec<Cell>, k: u8, h: u8, l: u8, f: &[u16]) -> Result<(), AllocError>
-    ensures { OnOk result (cells.new.items ≡ cells.old.items ++ with_f f.now k h l) }
+    ensures { OnOk result (cells.new.items ≡ cells.old.items ++ cells_at f.now k h l) }
 {
     if l > h || h > k {
         return Ok(());

@@ -4,8 +4,7 @@ ghost use Rattle.serde_json.specs.View.{view};
 ghost use Rattle.cut_plan.specs.declared.field.Field.TheVariants as field;
 ghost use Rattle.cut_plan.specs.Fields.{number_at, numbers_at};
 ghost use Rattle.cut_plan.specs.Accepted.{checked, counted, limits, values_in};
-ghost use Rattle.cut_plan.specs.Combine.{with_k};
-ghost use Rattle.cut_plan.specs.Cells.{largest};
+ghost use Rattle.cut_plan.specs.Cells.{cells_of_lists};
 ghost use Rattle.cut_plan.specs.Look.{numbers_of, AreBelow};
 
 use crate::combine::count_triples;
@@ -76,7 +75,8 @@ pub(crate) fn check_together(lists: &Lists, value: &Value) -> Result<(), PlanFau
     let cells = count_cells(lists);
     let liars = number_at(value, Field::Liars);
     let links = number_at(value, Field::Links);
-    let faults = u64::from(largest(lists.f.as_slice())) + liars + links;
+    let most_failed = lists.f.iter().fold(0, |most, f| most.max(*f));
+    let faults = u64::from(most_failed) + liars + links;
     check_limits(cells, faults, number_at(value, Field::Nodes))
 }
 
@@ -86,7 +86,7 @@ fn count_cells(lists: &Lists) -> u64
     requires few_h { length lists.now.h.items ≤ 32 }
     requires few_k { length lists.now.k.items ≤ 32 }
     requires few_l { length lists.now.l.items ≤ 32 }
-    ensures { result ≡ length (with_k lists.now.k.items lists.now.h.items lists.now.l.items lists.now.f.items) }
+    ensures { result ≡ length (cells_of_lists lists.now.k.items lists.now.h.items lists.now.l.items lists.now.f.items) }
 {
     let triples = count_triples(lists.k.as_slice(), lists.h.as_slice(), lists.l.as_slice());
     u64::from(triples) * lists.f.len() as u64
@@ -106,15 +106,4 @@ fn check_limits(cells: u64, faults: u64, nodes: u64) -> Result<(), PlanFault>
         return Err(PlanFault::TooManyTrials);
     }
     Ok(())
-}
-
-/// The greatest number of a list, 0 for the empty one.
-fn largest(numbers: &[u16]) -> u16
-    ensures { result ≡ largest numbers.now }
-{
-    let mut most = 0;
-    for number in numbers {
-        most = most.max(*number);
-    }
-    most
 }

@@ -1,4 +1,4 @@
-use Rattle.std.proofs.Common.{◌≡◌, length, arith, refl, ◌∙◌}
+use Rattle.std.proofs.Common.{rules, ◌≡◌, length, arith, refl, ◌∙◌}
 use Rattle.serde_json.specs.View.{view}
 use Rattle.cut_plan.specs.declared.field.Field.TheVariants as field
 use Rattle.cut_plan.specs.Cells.{cells_of, largest}
@@ -36,5 +36,5 @@ unfolding counted
 returns c =
     let d = view c.args.value.now in
     let cells : c.count_cells-cells.result ≡ length (cells_of (values_in d)) = rw (← c.requires.f, ← c.requires.h, ← c.requires.k, ← c.requires.l) c.count_cells-cells.ensures in
-    let most : c.largest.result ≡ largest (numbers_at d field.F) = rw (← c.requires.f, ← c.as_slice.ensures.value) c.largest.ensures in
+    let most : c.fold-most_failed.result ≡ largest (numbers_at d field.F) = rw (← c.requires.f) (search rules) in
     c.check_limits.ensures ∙ rw (cells, c.from.ensures, most, c.number_at-liars.ensures, c.number_at-links.ensures, c.number_at.ensures) refl

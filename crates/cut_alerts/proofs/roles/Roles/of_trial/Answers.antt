@@ -14,7 +14,7 @@ overflow_cast-rank c =
     let rank : ℕ → ℕ = λ p. process_rank c.args.draws.now c.nodes-n.result p in
     let h : IsRanking rank c.nodes-n.result c.in_ok-order.order.items = record { each_once = c.in_ok-order.ensures.each_once; ranks = c.in_ok-order.ensures.ranks } in
     let long = ranking_length rank c.nodes-n.result c.in_ok-order.order.items h in
-    omega (arith, long, c.deref-process-items.ensures.len, c.nodes-n.ensures.value, c.nodes-n.ensures.plan.few_nodes)
+    omega (arith, long, c.deref-process-items.ensures.len, c.nodes-n.ensures.value, c.nodes-n.ensures.layout.few_nodes)
 
 pub ranked_role-role-requires-clause-process : goal.ranked_role-role-requires-clause-process
 ranked_role-role-requires-clause-process c =
@@ -23,7 +23,7 @@ ranked_role-role-requires-clause-process c =
     let long = ranking_length rank c.nodes-n.result c.in_ok-order.order.items h in
     let lt : c.loop-rank.rank < c.nodes-n.result = omega (arith, long, c.deref-process-items.ensures.len) in
     let below = ranked_in_range rank c.nodes-n.result c.in_ok-order.order.items h c.loop-rank.rank lt in
-    omega (arith, below, ap (λ xs. get_or xs c.loop-rank.rank 0) c.deref-process-items.ensures.value, c.nodes-n.ensures.value, c.requires.nodes)
+    omega (arith, below, ap (λ xs. get_or xs c.loop-rank.rank 0) c.deref-process-items.ensures.value, c.nodes-n.ensures.value)
 
 pub index_mut-requires : goal.index_mut-requires
 index_mut-requires c =
@@ -60,6 +60,6 @@ returns-clause-drawn c =
     let all = roles_all rank (λ p i. ranked_role c.args.plan.now c.args.cell.f c.args.rings.now p i) c.nodes-n.result c.in_ok-order.order.items
     c.loop-rank.rank Healthy c.loop-rank.roles.items h done c.loop-rank.invariant.long c.loop-rank.invariant.set in
     let by_n : ℕ → List Role = λ n. map (λ p. ranked_role c.args.plan.now c.args.cell.f c.args.rings.now p (process_rank c.args.draws.now n p)) (range_with_len 0 n) in
-    let roles_are : c.loop-rank.roles.items ≡ by_n c.args.plan.now.nodes = all ∙ ap by_n c.nodes-n.ensures.value in
+    let roles_are : c.loop-rank.roles.items ≡ by_n c.args.plan.now.nodes = all ∙ ap by_n (c.nodes-n.ensures.value ∙ c.requires.nodes) in
     ap (λ roles. (let a : Assignment = record { roles = roles; dead = c.dead.result } in a)) roles_are
     ∙ ap (λ dead. (let a : Assignment = record { roles = by_n c.args.plan.now.nodes; dead = dead } in a)) c.dead.ensures.value
