@@ -5,7 +5,7 @@ ghost use Rattle.cut_detector.specs.Rule.{rule_of};
 ghost use Rattle.cut_detector.specs.Proposal.{proposal_of};
 ghost use Rattle.cut_detector.specs.State.{fresh, HasDelivered, TakesEdge};
 
-use crate::recount::{Recount, edge_index};
+use crate::recount::Recount;
 use crate::{Members, Proposal, Step};
 use cut_rings::{Edge, Rings};
 use std::alloc::{AllocError, Global};
@@ -95,7 +95,7 @@ impl<'a> Detector<'a> {
         if self.settled {
             return Step::Settled;
         }
-        let index = edge_index(self.k, edge.ring, edge.subject);
+        let index = usize::from(edge.number(self.k));
         self.edges[index] = true;
         self.deliveries += 1;
         let recount = Recount {

@@ -1,13 +1,7 @@
-ghost use Rattle.std.specs.Prelude.{◌≡◌, ◌+◌, ◌*◌, ◌<◌, ◌≤◌, [], length, vec_capacity};
+ghost use Rattle.std.specs.Prelude.{◌≡◌, ◌*◌, ◌<◌, ◌≤◌, [], length, vec_capacity};
+ghost use Rattle.cut_rings.specs.Layout.{IsLayout};
 
-use cut_rings::Rings;
-
-/// The number of an edge among those of `k` rings.
-pub fn edge_index(k: u8, ring: u8, subject: u16) -> usize
-    ensures { result ≡ subject * k + ring }
-{
-    usize::from(subject) * usize::from(k) + usize::from(ring)
-}
+use cut_rings::{Edge, Rings};
 
 /// What a recount reads: the rings, the rule, and the delivered edges as a table by edge number.
 #[derive(Drop)]
@@ -19,6 +13,7 @@ pub struct Recount<'a> {
     pub implicit: bool,
     pub table: &'a [bool],
     ghost rings_enough: { k ≤ length rings.now.positions },
+    ghost layout: { IsLayout rings.now },
     ghost long: { length table.now ≡ rings.now.nodes * k },
 }
 
@@ -44,7 +39,8 @@ impl<'a> Recount<'a> {
         requires subject { subject < (layout_in self.now).nodes }
         ensures { result ≡ delivered_in self.now ring subject }
     {
-        self.table[edge_index(self.k, ring, subject)]
+        let edge = Edge { ring, subject };
+        self.table[usize::from(edge.number(self.k))]
     }
 
     /// On how many distinct rings a process is reported.

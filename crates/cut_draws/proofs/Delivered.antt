@@ -15,7 +15,8 @@ use Rattle.cut_rings.proofs.Ranks.{rank_is_index}
 use Rattle.cut_rings.proofs.Keyed.{count_by-map, map-map}
 use Rattle.cut_draws.specs.declared.delivery.Delivery.{Delivery}
 use Rattle.cut_draws.specs.declared.keyed.Keyed.{Keyed}
-use Rattle.cut_draws.specs.Deliveries.{are_distinct, all_deliveries}
+use Rattle.cut_draws.specs.Source.{Source, key_at}
+use Rattle.cut_draws.specs.Deliveries.{are_distinct, all_deliveries, delivery_place, IsOrderOf}
 use Rattle.cut_draws.proofs.Copies.{all_of_copies, count_of_copies}
 use Rattle.cut_draws.proofs.Apart.{compare_keyed, compare_keyed_total, keyed_by, keyed_distinct}
 use Rattle.cut_draws.proofs.Prefixes.{any_before, list_any-map}
@@ -71,7 +72,7 @@ early_by key k edges copies n ring subject =
     list_any (λ x. is_edge ring subject x.edge && nat_lt (rank_by key k edges copies x) n) (all_deliveries edges copies)
 
 -- the first n deliveries are those with fewer than n before them
-pub prefixes : (key : Delivery → ℕ) (k : ℕ) (edges : List Edge) (copies : ℕ) (order : List Delivery) → IsDelivered key k edges copies order → (n : ℕ) → first_of (map (λ x. x.edge) order) n ≡ early_by key k edges copies n
+prefixes : (key : Delivery → ℕ) (k : ℕ) (edges : List Edge) (copies : ℕ) (order : List Delivery) → IsDelivered key k edges copies order → (n : ℕ) → first_of (map (λ x. x.edge) order) n ≡ early_by key k edges copies n
 prefixes key k edges copies order is n = λ i ring subject. same ring subject i
   where
     same : (ring subject : ℕ) → first_of (map (λ x. x.edge) order) n ring subject ≡ early_by key k edges copies n ring subject
@@ -84,11 +85,11 @@ prefixes key k edges copies order is n = λ i ring subject. same ring subject i
         ∙ sym (any_before p rank order 0 n (λ i d within. is.ranks i within d ∙ (let e : i ≡ 0 + i = omega arith in e)))
         ∙ sym (list_any-IsPermutation (λ x. p x && nat_lt (rank x) n) (all_deliveries edges copies) order is.each_once)
 
-pub count : (key : Delivery → ℕ) (k : ℕ) (edges : List Edge) (copies : ℕ) (order : List Delivery) → IsDelivered key k edges copies order → length order ≡ copies * length edges
+count : (key : Delivery → ℕ) (k : ℕ) (edges : List Edge) (copies : ℕ) (order : List Delivery) → IsDelivered key k edges copies order → length order ≡ copies * length edges
 count key k edges copies order is =
     length_permutation (all_deliveries edges copies) order is.each_once ∙ count_of_copies edges 0 copies
 
-pub still_within : (key : Delivery → ℕ) (k : ℕ) (edges : List Edge) (copies : ℕ) (order : List Delivery) → IsDelivered key k edges copies order → (n : ℕ) → are_within k n edges ≡ true → are_within k n (map (λ x. x.edge) order) ≡ true
+still_within : (key : Delivery → ℕ) (k : ℕ) (edges : List Edge) (copies : ℕ) (order : List Delivery) → IsDelivered key k edges copies order → (n : ℕ) → are_within k n edges ≡ true → are_within k n (map (λ x. x.edge) order) ≡ true
 still_within key k edges copies order is n within =
     let P : Delivery → Type 0 = λ x. is_within k n x.edge ≡ true in
     let all : All P (all_deliveries edges copies) =
@@ -96,3 +97,15 @@ still_within key k edges copies order is n within =
     in
     list_all-from_AllPass (λ e. is_within k n e) (map (λ x. x.edge) order)
     (All-map (λ e. is_within k n e ≡ true) (λ x. x.edge) order (All-permutation P (all_deliveries edges copies) order is.each_once all))
+
+-- so the list is in the order in which the deliveries come
+pub ordered : (d : Source) (receiver k : ℕ) (edges : List Edge) (copies : ℕ) (order : List Delivery) → IsDelivered (λ x. key_at d (delivery_place receiver k x)) k edges copies order → IsOrderOf d receiver k edges copies order
+ordered d receiver k edges copies order is =
+    let key : Delivery → ℕ = λ x. key_at d (delivery_place receiver k x) in
+    record {
+      each_once = is.each_once;
+      ranks = is.ranks;
+      prefixes = prefixes key k edges copies order is;
+      count = count key k edges copies order is;
+      still_within = still_within key k edges copies order is;
+    }

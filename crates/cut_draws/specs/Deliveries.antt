@@ -1,12 +1,12 @@
 -- The order in which the alerts of a trial come to a receiver. That it is random, and apart for each
 -- receiver, is the Rapid paper's; the keys are this project's profile.
-use Rattle.std.specs.Prelude.{◌≡◌, ℕ, ◌+◌, ◌*◌, ◌^◌, ◌<◌, ◌&&◌, ◌==◌, List, [], ◌∷◌, map, length, slice_index_or, count_by, Bool, true, not, nat_lt}
+use Rattle.std.specs.Prelude.{◌≡◌, ℕ, ◌+◌, ◌*◌, ◌^◌, ◌&&◌, ◌==◌, List, [], ◌∷◌, map, length, slice_index_or, count_by, Bool, true, not, nat_lt, EachIndex, IsTrue}
 use Rattle.std.specs.List.Sorted.{IsPermutation}
 use Rattle.std.specs.List.{range_with_len, flat_map, list_any}
 use Rattle.std.specs.declared.cmp.Ordering.{Ordering}
 use Rattle.std.specs.Ordering.{nat_cmp, ordering_then, is_lt}
 use Rattle.cut_rings.specs.declared.edge.Edge.{Edge}
-use Rattle.cut_rings.specs.Edges.{EdgeSet, is_edge, edge_number}
+use Rattle.cut_rings.specs.Edges.{EdgeSet, is_edge, edge_number, first_of, are_within}
 use Rattle.cut_draws.specs.declared.delivery.Delivery.{Delivery}
 use Rattle.cut_draws.specs.Source.{Source, key_at}
 
@@ -46,7 +46,15 @@ early d receiver k edges copies n ring subject =
     list_any (λ x. is_edge ring subject x.edge && nat_lt (delivery_rank d receiver k edges copies x) n)
     (all_deliveries edges copies)
 
--- a list of all deliveries at a receiver, each once and at the number of those that come before it
+-- a list of all deliveries at a receiver, in the order in which they come
 pub record IsOrderOf (d : Source) (receiver k : ℕ) (edges : List Edge) (copies : ℕ) (order : List Delivery) : Type 0 where
+  -- it holds each delivery once
   pub each_once : IsPermutation (all_deliveries edges copies) order
-  pub ranks : (i : ℕ) → i < length order → (x : Delivery) → delivery_rank d receiver k edges copies (slice_index_or order i x) ≡ i
+  -- each stands at the number of those that come before it
+  pub ranks : EachIndex order (λ i. (x : Delivery) → delivery_rank d receiver k edges copies (slice_index_or order i x) ≡ i)
+  -- what has come after n deliveries, as a set of edges
+  pub prefixes : (n : ℕ) → first_of (map (λ x. x.edge) order) n ≡ early d receiver k edges copies n
+  -- there are as many as copies of all edges
+  pub count : length order ≡ copies * length edges
+  -- its edges are of the first k rings and of n processes where all given edges are
+  pub still_within : (n : ℕ) → IsTrue (are_within k n edges) → IsTrue (are_within k n (map (λ x. x.edge) order))

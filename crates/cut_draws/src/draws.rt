@@ -1,10 +1,10 @@
-ghost use Rattle.std.specs.Prelude.{◌≡◌, [], ℕ, ◌*◌, ◌++◌, ◌^◌, ◌<◌, ◌≤◌, length, map, slice_index, slice_index_or, All, EachIndex, IfOk, OnOk, OnErr, IsTrue};
+ghost use Rattle.std.specs.Prelude.{◌≡◌, [], ◌++◌, ◌^◌, ◌<◌, ◌≤◌, length, map, slice_index, All, EachIndex, IfOk, OnOk, OnErr, IsTrue};
 ghost use Rattle.std.specs.List.{range_with_len};
 ghost use Rattle.std.specs.List.Sorted.{IsPermutation};
-ghost use Rattle.cut_rings.specs.Edges.{first_of, are_within};
+ghost use Rattle.cut_rings.specs.Edges.{are_within};
 ghost use Rattle.cut_draws.specs.Source.{source_of, key_at};
 ghost use Rattle.cut_draws.specs.Order.{process_place, process_rank};
-ghost use Rattle.cut_draws.specs.Deliveries.{all_deliveries, copies_of, delivery_rank, early, are_distinct, IsOrderOf};
+ghost use Rattle.cut_draws.specs.Deliveries.{all_deliveries, copies_of, are_distinct, IsOrderOf};
 ghost use Rattle.cut_draws.specs.Keyed.{keyed_of};
 
 use crate::keyed::{Keyed, processes_of};
@@ -110,18 +110,8 @@ impl Draws {
         requires copies { copies ≤ 4 }
         requires within { IsTrue (are_within k 2048 edges.now) }
         requires distinct { IsTrue (are_distinct k edges.now) }
-
-        ensures each_once { IfOk result
-            (λ order. IsPermutation (all_deliveries edges.now copies) order.items) }
-        ensures ranks { IfOk result (λ order. EachIndex order.items
-            (λ i. (d : Delivery) →
-            delivery_rank self.old receiver k edges.now copies (slice_index_or order.items i d) ≡ i)) }
-        // What has come after n deliveries, as a set of edges.
-        ensures prefixes { IfOk result (λ order. (n : ℕ) →
-            first_of (map (λ x. x.edge) order.items) n ≡ early self.old receiver k edges.now copies n) }
-        ensures count { IfOk result (λ order. length order.items ≡ copies * length edges.now) }
-        ensures still_within { IfOk result (λ order. (n : ℕ) → IsTrue (are_within k n edges.now) →
-            IsTrue (are_within k n (map (λ x. x.edge) order.items))) }
+        ensures order { IfOk result
+            (λ order. IsOrderOf self.old receiver k edges.now copies order.items) }
         ensures same { self.new ≡ self.old }
     {
         let mut order = DeliveryOrder::new(alloc);
@@ -145,45 +135,22 @@ impl Draws {
         requires copies { copies ≤ 4 }
         requires within { IsTrue (are_within k 2048 edges.now) }
         requires distinct { IsTrue (are_distinct k edges.now) }
-
-        ensures each_once { OnOk result (IsPermutation (all_deliveries edges.now copies) order.new) }
-        ensures ranks { OnOk result (EachIndex order.new
-            (λ i. (d : Delivery) →
-            delivery_rank self.old receiver k edges.now copies (slice_index_or order.new i d) ≡ i)) }
-        // What has come after n deliveries, as a set of edges.
-        ensures prefixes { OnOk result ((n : ℕ) →
-            first_of (map (λ x. x.edge) order.new) n ≡ early self.old receiver k edges.now copies n) }
-        ensures count { OnOk result (length order.new ≡ copies * length edges.now) }
-        ensures still_within { OnOk result ((n : ℕ) → IsTrue (are_within k n edges.now) →
-            IsTrue (are_within k n (map (λ x. x.edge) order.new))) }
+        ensures order { OnOk result (IsOrderOf self.old receiver k edges.now copies order.new) }
         ensures err { OnErr result (order.new ≡ []) }
         ensures same { self.new ≡ self.old }
     {
-        order.fill(self, receiver, k, edges, copies)
-    }
-
-    /// Every copy of every edge with its key, in ascending order of key, edge number and copy, in place
-    /// of what the list held.
-    pub(crate) fn sorted_keys(
-        &mut self,
-        keyed: &mut Vec<Keyed>,
-        receiver: u16,
-        k: u8,
-        edges: &[Edge],
-        copies: u8,
-    ) -> Result<(), AllocError>
-        requires receiver { receiver < 2048 }
-        requires rings { k ≤ 32 }
-        requires copies { copies ≤ 4 }
-        requires within { IsTrue (are_within k 2048 edges.now) }
-        requires distinct { IsTrue (are_distinct k edges.now) }
-        ensures order { OnOk result
-            (IsOrderOf self.old receiver k edges.now copies (map (λ x. x.delivery) keyed.new.items)) }
-        ensures same { self.new ≡ self.old }
-    {
-        self.delivery_keys(keyed, receiver, k, edges, copies)?;
-        keyed.sort_unstable_by_key(|x| (x.key, x.number, x.delivery.copy));
-        Ok(())
+        match self.delivery_keys(&mut order.keyed, receiver, k, edges, copies) {
+            Ok(()) => {
+                order
+                    .keyed
+                    .sort_unstable_by_key(|x| (x.key, x.number, x.delivery.copy));
+                Ok(())
+            }
+            Err(error) => {
+                order.keyed.clear();
+                Err(error)
+            }
+        }
     }
 
     /// Every copy of every edge with its key, the copies in turn, in place of what the list held.
@@ -245,7 +212,7 @@ impl Draws {
         ensures value { result ≡ keyed_of self.old receiver k delivery }
         ensures same { self.new ≡ self.old }
     {
-        let number = delivery.edge.subject * u16::from(k) + u16::from(delivery.edge.ring);
+        let number = delivery.edge.number(k);
         let row = u64::from(delivery.copy) * RECEIVERS + u64::from(receiver);
         let key = self.key(FIRST_DELIVERY + 2 * (row * EDGES + u64::from(number)));
         Keyed {

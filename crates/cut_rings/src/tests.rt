@@ -1,7 +1,7 @@
-ghost use Rattle.std.specs.Prelude.{◌≡◌, ◌≤◌, length, IfOk};
+ghost use Rattle.std.specs.Prelude.{◌≡◌, ◌<◌, ◌≤◌, length, IfOk};
 
 use crate::hashed::hashed_ring;
-use crate::{Rings, RingsFault};
+use crate::{Edge, Rings, RingsFault};
 use cut_plan::Plan;
 use std::alloc::{AllocError, Global};
 use std::test::Fail;
@@ -94,6 +94,25 @@ fn listed_rings_are_the_lists(rt: HostRuntime) -> Result<(), Fail> {
     assert_eq!(rt; rings.subject(1, 0), 2);
     assert_eq!(rt; rings.subject(2, 1), 0);
     Ok(())
+}
+
+// The number of the edge of a ring and a subject.
+fn number_of(ring: u8, subject: u16, k: u8) -> u16
+    requires ring { ring < k }
+    requires rings { k ≤ 32 }
+    requires subject { subject < 2048 }
+{
+    let edge = Edge { ring, subject };
+    edge.number(k)
+}
+
+#[test]
+fn edges_are_numbered_by_subject_and_ring(rt: HostRuntime) {
+    assert_eq!(rt; number_of(0, 0, 1), 0);
+    assert_eq!(rt; number_of(2, 0, 3), 2);
+    assert_eq!(rt; number_of(0, 1, 3), 3);
+    assert_eq!(rt; number_of(1, 4, 10), 41);
+    assert_eq!(rt; number_of(31, 2047, 32), 65_535);
 }
 
 // The fault of one list, printed.

@@ -64,6 +64,7 @@ impl<'a> Write for Device<'a> {
     }
 
     fn flush(&mut self) -> io::Result<()> {
+        self.turn(0)?;
         Ok(())
     }
 }
@@ -171,7 +172,7 @@ fn reads_no_further_than_the_limit(rt: HostRuntime) -> Result<(), Fail> {
 }
 
 #[test]
-fn failed_calls_are_counted(rt: HostRuntime) -> Result<(), Fail> {
+fn calls_that_fail_are_counted(rt: HostRuntime) -> Result<(), Fail> {
     let alloc = rt.alloc();
     let mut buffer = [0u8; 4];
     let device = Device::new(alloc, b"table", 2, 1, Act::Fail(ErrorKind::Interrupted));
@@ -193,5 +194,8 @@ fn failed_calls_are_counted(rt: HostRuntime) -> Result<(), Fail> {
     assert_eq!(rt; output.write(b"ble")?, 2);
     output.flush()?;
     assert_eq!(rt; output.failures(), 1);
+    let mut stuck = Counted::new(Device::new(alloc, b"", 2, 0, Act::Fail(ErrorKind::Other)));
+    assert!(rt; stuck.flush().is_err());
+    assert_eq!(rt; stuck.failures(), 1);
     Ok(())
 }

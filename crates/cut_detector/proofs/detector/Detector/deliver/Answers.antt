@@ -15,10 +15,10 @@ returns-then-self-clause-history c delivered holds =
 pub returns-then-not-settled-clause-taken : goal.returns-then-not-settled-clause-taken
 returns-then-not-settled-clause-taken c none =
     let d = c.self.inside in
-    let not_settled : is_settled d.rings.now (rule_of d.k d.h d.l d.implicit) (edges_in d.k (set d.edges.items c.edge_index-index.result true)) ≡ false =
+    let not_settled : is_settled d.rings.now (rule_of d.k d.h d.l d.implicit) (edges_in d.k (set d.edges.items c.from-index.result true)) ≡ false =
     ap (λ xs. is_settled d.rings.now (rule_of d.k d.h d.l d.implicit) (edges_in d.k xs)) (sym c.as_slice.ensures.value) ∙ sym c.is_settled-settled.ensures ∙ c.if-not-settled.true
     in
-    taken_at c.self.inside _ _ c.args.edge c.self.view_is c.self.invariant c.requires.within refl refl (ap (λ i. set d.edges.items i true) c.edge_index-index.ensures) refl
+    taken_at c.self.inside _ _ c.args.edge c.self.view_is c.self.invariant c.requires.within refl refl (ap (λ i. set d.edges.items i true) (c.from-index.ensures ∙ c.number.ensures)) refl
     (waiting d.settled _ _ _ c.if-self.false not_settled)
 
 pub returns-then-not-settled-clause-history : goal.returns-then-not-settled-clause-history
@@ -31,13 +31,13 @@ pub returns-clause-taken : goal.returns-clause-taken
 returns-clause-taken c none =
     let d = c.self.inside in
     let table = c.as_slice.ensures.value in
-    let now_settled : is_settled d.rings.now (rule_of d.k d.h d.l d.implicit) (edges_in d.k (set d.edges.items c.edge_index-index.result true)) ≡ true =
+    let now_settled : is_settled d.rings.now (rule_of d.k d.h d.l d.implicit) (edges_in d.k (set d.edges.items c.from-index.result true)) ≡ true =
     ap (λ xs. is_settled d.rings.now (rule_of d.k d.h d.l d.implicit) (edges_in d.k xs)) (sym table) ∙ sym c.is_settled-settled.ensures ∙ c.if-not-settled.false
     in
-    let listed : c.stable_members.new.members.items ≡ stable_members d.rings.now (rule_of d.k d.h d.l d.implicit) (edges_in d.k (set d.edges.items c.edge_index-index.result true)) =
+    let listed : c.stable_members.new.members.items ≡ stable_members d.rings.now (rule_of d.k d.h d.l d.implicit) (edges_in d.k (set d.edges.items c.from-index.result true)) =
     c.stable_members.ensures.members ∙ ap (λ xs. stable_members d.rings.now (rule_of d.k d.h d.l d.implicit) (edges_in d.k xs)) table
     in
-    taken_at c.self.inside _ _ c.args.edge c.self.view_is c.self.invariant c.requires.within refl refl (ap (λ i. set d.edges.items i true) c.edge_index-index.ensures) refl
+    taken_at c.self.inside _ _ c.args.edge c.self.view_is c.self.invariant c.requires.within refl refl (ap (λ i. set d.edges.items i true) (c.from-index.ensures ∙ c.number.ensures)) refl
     (settling _ _ _ _ listed now_settled)
 
 pub returns-clause-history : goal.returns-clause-history
