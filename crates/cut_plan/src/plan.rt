@@ -192,6 +192,7 @@ impl Plan {
         ensures value { result ≡ self.now.version }
         ensures plan { IsPlan self.now }
     {
+        // Every plan is of this version, as its type keeps; a look at it tells the proof so.
         let _ = &self.copies;
         1
     }

@@ -16,7 +16,7 @@ at_most_one false true apart = omega arith
 at_most_one false false apart = omega arith
 
 -- two tests that no element passes both are passed by no more than there are
-counts_apart : {X : Type 0} (p q : X → Bool) (xs : List X) → ((x : X) → p x ≡ true → q x ≡ true → ⊥) → count_by p xs + count_by q xs ≤ length xs
+pub counts_apart : {X : Type 0} (p q : X → Bool) (xs : List X) → ((x : X) → p x ≡ true → q x ≡ true → ⊥) → count_by p xs + count_by q xs ≤ length xs
 counts_apart p q [] apart = omega arith
 counts_apart p q (x ∷ xs) apart =
     omega (arith, counts_apart p q xs apart, at_most_one (p x) (q x) (apart x), sum_by-cons (λ y. cond (p y) 1 0) x xs, sum_by-cons (λ y. cond (q y) 1 0) x xs)

@@ -60,7 +60,7 @@ one_at_most : (b : Bool) → one_if b ≤ 1
 one_at_most true = omega arith
 one_at_most false = omega arith
 
-few_votes_cast : (cast : List (List ℕ)) → most_votes cast ≤ length cast
+pub few_votes_cast : (cast : List (List ℕ)) → most_votes cast ≤ length cast
 few_votes_cast cast =
     max_at_most 0 (length cast) (map (λ c. votes_of cast c) cast) (omega arith)
     (λ k lt. omega (arith, get_or-map (λ c. votes_of cast c) cast k [] 0 (omega (arith, length-map cast (λ c. votes_of cast c))), count_by-le-length (λ c. pointwise ◌==◌ c (get_or cast k [])) cast))

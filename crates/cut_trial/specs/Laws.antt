@@ -1,13 +1,16 @@
 -- Laws of the fast round, of sums over trials, and of receivers.
-use Rattle.std.specs.Prelude.{◌≡◌, ℕ, ◌+◌, ◌-◌, ◌≤◌, List, ◌++◌, length}
+use Rattle.std.specs.Prelude.{◌≡◌, ℕ, ◌+◌, ◌-◌, ◌≤◌, List, ◌++◌, length, All, IsTrue}
+use Rattle.cut_plan.specs.declared.cell.Cell.{Cell}
 use Rattle.cut_plan.specs.Values.{Values}
 use Rattle.cut_rings.specs.Layout.{Layout}
 use Rattle.cut_draws.specs.Source.{Source}
 use Rattle.cut_alerts.specs.Drawn.{drawn}
+use Rattle.cut_trial.specs.declared.piece.Piece.{Piece}
 use Rattle.cut_trial.specs.Judged.{receivers_of}
 use Rattle.cut_trial.specs.FastRound.{quorum_of, votes_of, most_votes}
-use Rattle.cut_trial.specs.Outcome.{outcome}
-use Rattle.cut_trial.specs.Sum.{plus, sum_of, trials_in}
+use Rattle.cut_trial.specs.Outcome.{cell_at, outcome}
+use Rattle.cut_trial.specs.Sum.{plus, sum_of, trials_in, is_piece}
+use Rattle.cut_trial.specs.Possible.{ArePossible}
 
 -- among at most n proposals, two lists of members that each have a quorum of n are equal
 abbrev pub QuorumsAgree : Type 0
@@ -49,3 +52,15 @@ PartsAddUp =
 abbrev pub ReceiversAreTheRest : Type 0
 ReceiversAreTheRest =
     (v : Values) (f : ℕ) (d : Source) (r : Layout) → length (receivers_of (drawn v f d r)) ≡ v.nodes - f
+
+-- the sums over any trials that are all of one cell are possible
+abbrev pub TrialsHavePossibleTotals : Type 0
+TrialsHavePossibleTotals =
+    (v : Values) (c : Cell) (ts : List ℕ) → All (λ t. cell_at v t ≡ c) ts →
+    ArePossible (length ts) (v.nodes - c.f) (sum_of v ts)
+
+-- so the sums over a piece are possible, since its trials are all of its first one's cell
+abbrev pub PiecesHavePossibleTotals : Type 0
+PiecesHavePossibleTotals =
+    (v : Values) (p : Piece) → IsTrue (is_piece v p) →
+    ArePossible p.count (v.nodes - (cell_at v p.first).f) (sum_of v (trials_in p))

@@ -2,9 +2,11 @@ pub mod FaultNumber
 pub mod Judged
 pub mod FastRound
 pub mod Ballots
+pub mod BallotInside
 pub mod Judgements
 pub mod Outcome
 pub mod Sum
 pub mod Computed
 pub mod PieceInside
+pub mod Possible
 pub mod Laws

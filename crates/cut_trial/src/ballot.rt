@@ -8,7 +8,7 @@ use std::marker::Model;
 
 /// How many proposals have these members.
 #[derive(Debug, Drop)]
-pub struct Tally {
+struct Tally {
     members: Members,
     votes: u64,
 }
@@ -23,11 +23,13 @@ pub struct Ballot {
 
 impl Model for Ballot {
     ghost use Rattle.std.specs.Prelude.{List};
-    ghost use Rattle.cut_trial.specs.declared.ballot.Tally.{Tally};
+    ghost use Rattle.cut_trial.specs.Ballots.{Count};
 
-    ghost Value = { List Tally };
+    ghost Value = { List Count };
 
-    ghost view = { λ b. b.tallies.items };
+    ghost use Rattle.cut_trial.specs.BallotInside.{counts_of};
+
+    ghost view = { counts_of };
 }
 
 impl Ballot {

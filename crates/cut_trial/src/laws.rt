@@ -10,6 +10,8 @@ ghost use Rattle.cut_trial.specs.Laws.{
   PiecesJoin,
   PartsAddUp,
   ReceiversAreTheRest,
+  TrialsHavePossibleTotals,
+  PiecesHavePossibleTotals,
 };
 
 /// The fast round agrees: of at most n proposals, one for each process at most, two quorums have one
@@ -37,4 +39,13 @@ pub fn sums_add_up()
 /// are the others, are all processes less these.
 pub fn receivers_are_the_rest()
     ensures { ReceiversAreTheRest }
+{}
+
+/// The sums over trials of one cell, as those of a piece are, are possible ones: the receivers are all
+/// processes less the cell's failed ones, once for each trial; no receiver is silent and a conflict, or
+/// silent and names another process; the votes are at most the receivers; and no more trials are right
+/// than decided, nor decided than there are.
+pub fn pieces_have_possible_totals()
+    ensures trials { TrialsHavePossibleTotals }
+    ensures pieces { PiecesHavePossibleTotals }
 {}

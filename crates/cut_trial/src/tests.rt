@@ -100,6 +100,28 @@ fn numbers(totals: Totals) -> [u64; 7] {
 }
 
 #[test]
+fn added_totals(rt: HostRuntime) {
+    let one = Totals {
+        receivers: 9,
+        conflicts: 4,
+        silent: 3,
+        extra: 2,
+        votes: 5,
+        decided: 1,
+        right: 0,
+    };
+    let most = Totals {
+        receivers: 1 << 62,
+        votes: 7,
+        ..Totals::ZERO
+    };
+    assert_eq!(rt; numbers(one.plus(one)), [18, 8, 6, 4, 10, 2, 0]);
+    assert_eq!(rt; numbers(most.plus(one)), [(1 << 62) + 9, 4, 3, 2, 12, 1, 0]);
+    assert_eq!(rt; numbers(most.plus(most)), [1 << 63, 0, 0, 0, 14, 0, 0]);
+    assert_eq!(rt; one.plus(Totals::ZERO), one);
+}
+
+#[test]
 fn one_trial(rt: HostRuntime) -> Result<(), Fail> {
     let alloc = rt.alloc();
     let plan = Plan::from_json(alloc, PLAN.as_bytes())?;

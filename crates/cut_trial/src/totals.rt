@@ -21,8 +21,8 @@ pub struct Totals {
 }
 
 impl Totals {
-    /// The sums over no trial.
-    pub(crate) const ZERO: Totals = Totals {
+    /// The sums over no trial: no receivers, no votes, and no trials that were decided.
+    pub const ZERO: Totals = Totals {
         receivers: 0,
         conflicts: 0,
         silent: 0,
@@ -32,8 +32,10 @@ impl Totals {
         right: 0,
     };
 
-    /// The sums of two lists of trials, number by number.
-    pub(crate) fn plus(self, other: Totals) -> Totals
+    /// The sums over two lists of trials, added up number by number: receivers to receivers, votes to
+    /// votes, and trials that were decided to such trials. Each number of either is at most 2^62, so
+    /// that none of the result is more than 64 bits hold.
+    pub fn plus(self, other: Totals) -> Totals
         requires self_fits { IsAtMost (2 ^ 62) self }
         requires other_fits { IsAtMost (2 ^ 62) other }
         ensures { result ≡ plus self other }

@@ -1,6 +1,7 @@
 //! The same tables, where the trials of each cell are run in pieces.
-ghost use Rattle.std.specs.Prelude.{◌≡◌, ◌<◌};
+ghost use Rattle.std.specs.Prelude.{◌≡◌, ◌<◌, ◌^◌, IsTrue};
 ghost use Rattle.cut_trial.specs.Outcome.{rings_of};
+ghost use Rattle.cut_trial.specs.Sum.{IsAtMost};
 
 use super::studies::{MANY_CELLS, ONE_CELL, Study};
 use crate::table::line_with;
@@ -10,28 +11,18 @@ use cut_trial::{Piece, Totals, run_piece};
 use std::alloc::Global;
 use std::test::Fail;
 
-/// No trial's numbers.
-const NONE: Totals = Totals {
-    receivers: 0,
-    conflicts: 0,
-    silent: 0,
-    extra: 0,
-    votes: 0,
-    decided: 0,
-    right: 0,
-};
-
-/// The numbers of two lists of trials.
-fn sum(a: Totals, b: Totals) -> Totals {
-    Totals {
-        receivers: a.receivers.saturating_add(b.receivers),
-        conflicts: a.conflicts.saturating_add(b.conflicts),
-        silent: a.silent.saturating_add(b.silent),
-        extra: a.extra.saturating_add(b.extra),
-        votes: a.votes.saturating_add(b.votes),
-        decided: a.decided.saturating_add(b.decided),
-        right: a.right.saturating_add(b.right),
-    }
+/// Whether these sums may be added to others: none is above 2^62.
+fn may_be_added(totals: Totals) -> bool
+    ensures { IsTrue result → IsAtMost (2 ^ 62) totals }
+{
+    let most = 1 << 62;
+    totals.receivers <= most
+        && totals.conflicts <= most
+        && totals.silent <= most
+        && totals.extra <= most
+        && totals.votes <= most
+        && totals.decided <= most
+        && totals.right <= most
 }
 
 /// The sums over a cell's trials, by pieces of at most this size.
@@ -47,11 +38,14 @@ fn cell_by_pieces(
 {
     let mut first = number.saturating_mul(plan.repeats());
     let end = first.saturating_add(plan.repeats());
-    let mut totals = NONE;
+    let mut totals = Totals::ZERO;
     while first < end {
+        if !may_be_added(totals) {
+            return Err(Fail::new("sums too large to add more to them"));
+        }
         let count = size.min(end - first);
         let found = run_piece(alloc, plan, rings, Piece { first, count })?;
-        totals = sum(totals, found.totals());
+        totals = totals.plus(found.totals());
         first += count;
     }
     Ok(totals)
