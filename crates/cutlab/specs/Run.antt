@@ -4,8 +4,17 @@ use Rattle.std.specs.Io.KnownBytes.{Appends, Consumes}
 use Rattle.cut_plan.specs.Values.{Values}
 use Rattle.cut_plan.specs.Accepted.{plan_of}
 use Rattle.cutlab.specs.Failures.{one_more}
+use Rattle.cutlab.specs.Table.{table}
+use Rattle.cutlab.specs.Check.{check_text}
+use Rattle.cutlab.specs.declared.line.Job.{Job}
+use Rattle.cutlab.specs.declared.line.Job.TheVariants.{Run, Check}
 use Rattle.cutlab.specs.declared.fault.CliFault.{CliFault}
 use Rattle.cutlab.specs.declared.fault.CliFault.TheVariants.{Memory, Plan, Read, Write}
+
+-- what a job answers to a plan
+abbrev pub answer_of : Job → Values → List ℕ
+answer_of Run = table
+answer_of Check = check_text
 
 -- what was written, where the answer is made of a plan: all of it at Ok, its first bytes where a write
 -- failed, and nothing at any other fault; a plan's fault is exactly that of the bytes that were read

@@ -2,13 +2,12 @@ ghost use Rattle.std.specs.Prelude.{◌≡◌, ◌++◌, ◌<◌, ℕ, length, t
 ghost use Rattle.std.specs.Io.KnownBytes.{Appends};
 ghost use Rattle.cutlab.specs.Table.{table};
 ghost use Rattle.cutlab.specs.Check.{check_text, number_line};
-ghost use Rattle.cutlab.specs.Failures.{counted};
-ghost use Rattle.cutlab.specs.Run.{Ends, Reads, ReadsAtMost, failed_reads, failed_writes};
+ghost use Rattle.cutlab.specs.Run.{Ends, Reads, ReadsAtMost, answer_of, failed_reads, failed_writes};
 
 use crate::input::{LIMIT, read_text};
 use crate::send::send_all;
 use crate::table::table_of;
-use crate::{CliFault, Counted};
+use crate::{CliFault, Counted, Job};
 use cut_plan::Plan;
 use cut_trial::quorum;
 use std::alloc::{AllocError, Global};
@@ -17,7 +16,8 @@ use std::io::{Read, Write};
 /// Reads a plan, runs its study and writes its table.
 ///
 /// At most 65,537 bytes are read. What was written is the whole table at `Ok`, its first bytes where a
-/// write failed, and nothing at any other fault.
+/// write failed, and nothing at any other fault. Read comes exactly where a read failed, and Write
+/// exactly where a write failed or took nothing.
 pub fn run_io<R: Read, W: Write>(
     alloc: Global,
     input: &mut Counted<R>,
@@ -29,9 +29,7 @@ pub fn run_io<R: Read, W: Write>(
     ensures reads { input.new.failures ≡ failed_reads result input.old.failures }
     ensures writes { output.new.failures ≡ failed_writes result output.old.failures }
 {
-    let plan = read_plan(alloc, input)?;
-    let text = table_of(alloc, &plan)?;
-    send(output, text.as_slice())
+    answer(alloc, Job::Run, input, output)
 }
 
 /// Reads a plan and writes how many cells and trials it has, and the quorum of its processes.
@@ -48,9 +46,35 @@ pub fn check_io<R: Read, W: Write>(
     ensures reads { input.new.failures ≡ failed_reads result input.old.failures }
     ensures writes { output.new.failures ≡ failed_writes result output.old.failures }
 {
+    answer(alloc, Job::Check, input, output)
+}
+
+/// Reads a plan and writes what a job answers to it.
+fn answer<R: Read, W: Write>(
+    alloc: Global,
+    job: Job,
+    input: &mut Counted<R>,
+    output: &mut Counted<W>,
+) -> Result<(), CliFault>
+    ensures ends { Ends (answer_of job) (R.remaining input.old.stream)
+        (W.contents output.old.stream) (W.contents output.new.stream) result }
+    ensures limit { ReadsAtMost 65537 (R.remaining input.old.stream) (R.remaining input.new.stream) }
+    ensures reads { input.new.failures ≡ failed_reads result input.old.failures }
+    ensures writes { output.new.failures ≡ failed_writes result output.old.failures }
+{
     let plan = read_plan(alloc, input)?;
-    let text = check_text(alloc, &plan)?;
-    send(output, text.as_bytes())
+    let text = answer_text(alloc, job, &plan)?;
+    send(output, text.as_slice())
+}
+
+/// What a job answers to a plan.
+fn answer_text(alloc: Global, job: Job, plan: &Plan) -> Result<Vec<u8>, AllocError>
+    ensures { IfOk result (λ text. text.items ≡ answer_of job plan.now) }
+{
+    match job {
+        Job::Run => table_of(alloc, plan),
+        Job::Check => Ok(check_text(alloc, plan)?.into_bytes()),
+    }
 }
 
 /// Reads a plan, whose first fault is the answer where there is one.

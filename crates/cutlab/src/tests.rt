@@ -36,12 +36,20 @@ fn table_with(alloc: Global, lines: &str) -> Result<String, AllocError> {
 }
 
 /// Runs the plan of a reader and writes its table to a writer.
-fn run<R: Read + Drop, W: Write + Drop>(alloc: Global, input: R, output: W) -> Result<(), CliFault> {
+fn run<R: Read + Drop, W: Write + Drop>(
+    alloc: Global,
+    input: R,
+    output: W,
+) -> Result<(), CliFault> {
     run_io(alloc, &mut Counted::new(input), &mut Counted::new(output))
 }
 
 /// Checks the plan of a reader and writes what it has to a writer.
-fn check<R: Read + Drop, W: Write + Drop>(alloc: Global, input: R, output: W) -> Result<(), CliFault> {
+fn check<R: Read + Drop, W: Write + Drop>(
+    alloc: Global,
+    input: R,
+    output: W,
+) -> Result<(), CliFault> {
     check_io(alloc, &mut Counted::new(input), &mut Counted::new(output))
 }
 
