@@ -13,6 +13,7 @@ mod judgement;
 mod judgements;
 pub mod laws;
 mod piece;
+mod replays;
 mod totals;
 mod trial;
 

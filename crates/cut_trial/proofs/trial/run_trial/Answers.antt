@@ -30,10 +30,12 @@ returns c =
     let cell = c.cell-cell.result in
     let place : c.cell_of.result ≡ c.args.trial / v.repeats = c.cell_of.ensures.value in
     let cell_is : cell ≡ cell_at v c.args.trial = sym (get_or_from_slice_get (cells_of v) c.cell_of.result cell no_cell c.cell-cell.ensures.value) ∙ ap (λ i. get_or (cells_of v) i no_cell) place in
-    let layout_is : c.in_ok-detector.detector.layout ≡ c.args.rings.now = ap (λ (s : State). s.layout) c.in_ok-detector.ensures.made in
+    let replays = c.new-replays.result in
+    let layout_is : replays.detector.layout ≡ c.args.rings.now = ap (λ (s : State). s.layout) (c.new-replays.ensures.detector ∙ c.in_ok-detector.ensures.made) in
+    let still = c.new-replays.ensures.draws ∙ c.in_ok-roles.ensures.same in
     let draws_are = c.new-draws.ensures ∙ ap (λ seed. source_of seed c.args.trial) c.seed.ensures.value in
     let edges_are = c.as_slice.ensures.value ∙ c.in_ok-edges.ensures.value in
     let targets_are : c.as_slice-2.result.now ≡ targets_of c.in_ok-roles.roles = c.as_slice-2.ensures.value ∙ c.in_ok-targets.ensures in
-    c.totals.ensures c.in_ok-roles.roles (map (λ j. proposal_at v cell c.in_ok-detector.detector.layout c.of_trial.new.draws c.as_slice.result.now j) (receivers_of c.in_ok-roles.roles)) c.in_ok-judged.ensures targets_are
-    ∙ outcome_from v c.args.trial cell c.args.rings.now c.in_ok-detector.detector.layout c.new-draws.result c.of_trial.new.draws c.in_ok-roles.roles c.as_slice.result.now
-    cell_is c.requires.rings draws_are c.in_ok-roles.ensures.same layout_is c.in_ok-roles.ensures.drawn edges_are
+    c.totals.ensures c.in_ok-roles.roles (map (λ j. proposal_at v cell replays.detector.layout replays.draws c.as_slice.result.now j) (receivers_of c.in_ok-roles.roles)) c.in_ok-judged.ensures targets_are
+    ∙ outcome_from v c.args.trial cell c.args.rings.now replays.detector.layout c.new-draws.result replays.draws c.in_ok-roles.roles c.as_slice.result.now
+    cell_is c.requires.rings draws_are still layout_is c.in_ok-roles.ensures.drawn edges_are

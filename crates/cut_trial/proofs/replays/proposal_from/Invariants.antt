@@ -1,7 +1,7 @@
 use Rattle.std.proofs.Common.{◌≡◌, ◌≤◌, map, take}
 use Rattle.cut_draws.specs.declared.delivery.Delivery.{Delivery}
 use Rattle.cut_detector.specs.State.{HasDelivered}
-use Rattle.cut_trial.proofs.trial.proposal_from.Given as goal
+use Rattle.cut_trial.proofs.replays.proposal_from.Given as goal
 
 abbrev pub invariant-loop-i : goal.invariant-loop-i
 invariant-loop-i l = record {

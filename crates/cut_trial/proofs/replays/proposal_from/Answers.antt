@@ -8,7 +8,7 @@ use Rattle.cut_rings.specs.Layout.{Layout}
 use Rattle.cut_draws.specs.declared.delivery.Delivery.{Delivery}
 use Rattle.cut_detector.specs.Rule.{Rule}
 use Rattle.cut_detector.specs.State.{HasDelivered}
-use Rattle.cut_trial.proofs.trial.proposal_from.Goals as goal
+use Rattle.cut_trial.proofs.replays.proposal_from.Goals as goal
 
 abbrev edge_of : Delivery → Edge
 edge_of x = x.edge
