@@ -9,7 +9,9 @@ use cut_plan::Dead;
 use cut_rings::{Edge, Rings};
 use std::alloc::{AllocError, Global};
 
-/// Whether an edge is alerted: whether its observer raises an alert about its subject.
+/// Whether an edge is alerted: whether its observer raises an alert about its subject. That observers
+/// alert about failed subjects is the Rapid paper's; what deaf observers, liars and cut links add is
+/// this project's profile.
 pub fn is_alert(rings: &Rings, roles: &Roles, edge: Edge) -> bool
     requires ring { edge.ring < length rings.now.positions }
     requires subject { edge.subject < rings.now.nodes }
@@ -26,8 +28,8 @@ pub fn is_alert(rings: &Rings, roles: &Roles, edge: Edge) -> bool
         || (is_cut && alive)
 }
 
-/// The alerted edges of the first `k` rings, in strictly ascending order of edge number, which is
-/// subject times k plus ring.
+/// The alerted edges of the first `k` rings, in strictly ascending order of edge number.
+/// Fails only for want of memory.
 pub fn alerts(alloc: Global, rings: &Rings, k: u8, roles: &Roles) -> Result<Vec<Edge>, AllocError>
     requires rings { k ≤ length rings.now.positions }
     requires nodes { length roles.now.roles ≡ rings.now.nodes }

@@ -33,7 +33,9 @@ impl Model for Roles {
 }
 
 impl Roles {
-    /// The roles that a trial of a cell draws.
+    /// The roles that a trial of a cell draws: the processes of least rank by the trial's keys are the
+    /// targets, the next ones the liars, the next ones the sources of cut links (this project's
+    /// profile). Fails only for want of memory.
     pub fn of_trial(
         alloc: Global,
         plan: &Plan,
@@ -112,7 +114,7 @@ impl Roles {
         self.roles.len() as u16
     }
 
-    /// Whether the link from one process to another is cut.
+    /// Whether the link from one process to another is cut, in this direction.
     pub fn is_cut(&self, from: u16, to: u16) -> bool
         requires { from < length self.now.roles }
         ensures { result ≡ is_cut self.now from to }
@@ -123,7 +125,7 @@ impl Roles {
         }
     }
 
-    /// Whether a process is a target.
+    /// Whether a process is a target: whether it has crashed or is deaf.
     pub fn is_target(&self, process: u16) -> bool
         requires { process < length self.now.roles }
         ensures { result ≡ is_target self.now process }

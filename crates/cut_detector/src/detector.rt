@@ -115,7 +115,7 @@ impl<'a> Detector<'a> {
         Step::Settled
     }
 
-    /// What it proposes, as a copy; `None` while it waits.
+    /// What it proposes, as a copy; `None` while it waits. Fails only for want of memory.
     pub fn proposal(&self, alloc: Global) -> Result<Option<Proposal>, AllocError>
         ensures { IfOk result (λ p. p ≡ self.now.proposal) }
     {

@@ -233,7 +233,7 @@ impl Plan {
         trial / self.repeats
     }
 
-    /// A copy of the plan.
+    /// A copy of the plan. Fails only for want of memory.
     pub fn try_clone(&self, alloc: Global) -> Result<Plan, AllocError>
         ensures value { IfOk result (λ p. p ≡ self.now) }
     {

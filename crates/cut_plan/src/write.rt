@@ -10,7 +10,7 @@ use std::alloc::{AllocError, Global};
 
 impl Plan {
     /// The plan's one text: compact JSON, keys in byte order, the seed in lower-case digits. Two
-    /// plans say the same where their texts are equal.
+    /// plans say the same where their texts are equal. Fails only for want of memory.
     pub fn canonical(&self, alloc: Global) -> Result<Vec<u8>, AllocError>
         ensures text { IfOk result (λ t. t.items ≡ canonical_text self.now) }
     {

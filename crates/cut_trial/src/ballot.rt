@@ -13,8 +13,8 @@ struct Tally {
     votes: u64,
 }
 
-/// The votes of a trial's fast round. Contracts see, for each list of members that was proposed, how
-/// many proposals have it.
+/// The votes of a trial's fast round (the Rapid paper's leaderless agreement, which counts identical
+/// proposals). Contracts see, for each list of members that was proposed, how many proposals have it.
 #[derive(Debug, Drop)]
 pub struct Ballot {
     alloc: Global,
@@ -43,7 +43,7 @@ impl Ballot {
         }
     }
 
-    /// Counts a proposal.
+    /// Counts a proposal. Fails only for want of memory, and then counts nothing.
     pub fn add(&mut self, proposal: &Proposal) -> Result<(), AllocError>
         ensures counted { OnOk result ((cast : List (List ℕ)) → length cast < 2 ^ 64 - 1 →
             HasCounted self.old cast → HasCounted self.new (cast ++ proposal.now.members ∷ [])) }

@@ -6,7 +6,9 @@ use crate::judgement::Verdict;
 use cut_alerts::Roles;
 use cut_detector::Proposal;
 
-/// Judges a receiver's proposal, if it made one, by the trial's roles.
+/// Judges a receiver's proposal, if it made one, by the trial's roles: a conflict lacks a target (the
+/// Rapid paper's sensitivity study), and an extra one has a process that is no target (this project's
+/// profile). It may be both.
 pub fn verdict(proposal: Option<&Proposal>, roles: &Roles) -> Verdict
     ensures { result ≡ judged roles.now (option_copied proposal.entry) }
 {
