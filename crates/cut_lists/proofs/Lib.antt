@@ -1,0 +1,13 @@
+pub mod Ascending
+pub mod Counts
+pub mod Greatest
+pub mod Keyed
+pub mod Listed
+pub mod Maps
+pub mod Ones
+pub mod Orders
+pub mod Parts
+pub mod Pigeonhole
+pub mod Ranges
+pub mod Ranks
+pub mod Rounds
