@@ -1,0 +1,56 @@
+-- What a fault's number names.
+use Rattle.std.proofs.Common.{◌≡◌, Some, refl, sym, ap, ◌∙◌}
+use Rattle.cut_faults.specs.declared.code.FaultCode.{FaultCode}
+use Rattle.cut_faults.specs.declared.code.FaultCode.TheVariants.{Memory, NotJson, NotObject, UnknownField, MissingField, WrongKind, OutOfRange, NotRising, NoCell, TooManyFaults, TooManyTrials, NotPermutation, TooFew, BadRole, BadPiece, Stranger, Overlap, BadSlip, NotDone, PlanTooLong, Disk, Broken, NoStudy, OtherPlan, Damaged, Held, NoSlot, SeatFull, SeatMissing, SlotsFull, Checkpoint, Write, WorkMemory, AuditMismatch, Stopped, BadKind, TooLong, Truncated, Read, TooManyRequests, BadLength}
+use Rattle.cut_faults.specs.Codes.{all_codes, number_of, code_numbered}
+
+-- a fault is found by its number
+pub found : (code : FaultCode) → code_numbered (number_of code) ≡ Some code
+unfolding all_codes
+found Memory = refl
+found NotJson = refl
+found NotObject = refl
+found UnknownField = refl
+found MissingField = refl
+found WrongKind = refl
+found OutOfRange = refl
+found NotRising = refl
+found NoCell = refl
+found TooManyFaults = refl
+found TooManyTrials = refl
+found NotPermutation = refl
+found TooFew = refl
+found BadRole = refl
+found BadPiece = refl
+found Stranger = refl
+found Overlap = refl
+found BadSlip = refl
+found NotDone = refl
+found PlanTooLong = refl
+found Disk = refl
+found Broken = refl
+found NoStudy = refl
+found OtherPlan = refl
+found Damaged = refl
+found Held = refl
+found NoSlot = refl
+found SeatFull = refl
+found SeatMissing = refl
+found SlotsFull = refl
+found Checkpoint = refl
+found Write = refl
+found WorkMemory = refl
+found AuditMismatch = refl
+found Stopped = refl
+found BadKind = refl
+found TooLong = refl
+found Truncated = refl
+found Read = refl
+found TooManyRequests = refl
+found BadLength = refl
+
+-- two faults that are found by one number are one
+pub one_number : (a b : FaultCode) → number_of a ≡ number_of b → a ≡ b
+one_number a b same =
+    let found_alike : Some a ≡ Some b = sym (found a) ∙ ap code_numbered same ∙ found b in
+    cc

@@ -1,0 +1,15 @@
+-- How many calls of a device failed.
+use Rattle.std.specs.Prelude.{◌≡◌, ℕ, ◌+◌, ◌-◌, ◌^◌, ◌<◌, ◌⊎◌, min, Result, Ok, Err}
+
+-- a count after one more failure; it stays at the greatest number of 64 bits
+abbrev pub one_more : ℕ → ℕ
+one_more n = min (n + 1) (2 ^ 64 - 1)
+
+-- the count after a call: one more exactly where the call failed
+abbrev pub counted : {T E : Type 0} → Result T E → ℕ → ℕ
+counted (Ok x) n = n
+counted (Err e) n = one_more n
+
+-- a count that rose: it is above the earlier one, or that was the greatest already, at which a count stays
+abbrev pub HasRisen : ℕ → ℕ → Type 0
+HasRisen old new = (old < new) ⊎ (old ≡ 2 ^ 64 - 1)

@@ -1,0 +1,49 @@
+use crate::{Failures, FaultCode, name_of_number, status_of_number};
+use std::test::Fail;
+
+#[test]
+fn faults_are_printed(rt: HostRuntime) -> Result<(), Fail> {
+    let alloc = rt.alloc();
+    let rows = [
+        (FaultCode::Memory, "0 Memory"),
+        (FaultCode::NotRising, "7 NotRising"),
+        (FaultCode::PlanTooLong, "19 PlanTooLong"),
+        (FaultCode::WorkMemory, "32 Memory"),
+        (FaultCode::BadLength, "45 BadLength"),
+    ];
+    for (code, text) in rows {
+        assert_eq!(rt; code.to_string(alloc)?.as_str(), text);
+    }
+    Ok(())
+}
+
+#[test]
+fn numbers_name_faults(rt: HostRuntime) {
+    assert_eq!(rt; FaultCode::of_number(16), Some(FaultCode::Overlap));
+    assert_eq!(rt; FaultCode::of_number(35), None);
+    assert_eq!(rt; name_of_number(29), "SlotsFull");
+    assert_eq!(rt; name_of_number(46), "Unknown");
+    assert_eq!(rt; name_of_number(65_535), "Unknown");
+    let rows = [
+        (0, 5),
+        (1, 3),
+        (10, 3),
+        (11, 4),
+        (19, 3),
+        (31, 4),
+        (32, 5),
+        (99, 4),
+    ];
+    for (number, status) in rows {
+        assert_eq!(rt; status_of_number(number), status, "of {number}");
+    }
+}
+
+#[test]
+fn failures_are_counted(rt: HostRuntime) {
+    let mut failures = Failures::none();
+    assert_eq!(rt; failures.count(), 0);
+    failures.add();
+    failures.add();
+    assert_eq!(rt; failures.count(), 2);
+}
