@@ -3,19 +3,19 @@ use Rattle.std.proofs.Common.{◌≡◌, ℕ, zero, suc, ◌≤◌, ◌<◌, ◌
 use Rattle.std.proofs.lemmas.Bool.{and_parts, ltb-true, leb-true, lt-ltb}
 use Rattle.std.specs.List.{AllByRecursion, list_all, find}
 use Rattle.serde_json.specs.Data.{Data}
-use Rattle.cut_plan.specs.declared.fault.PlanFault.{PlanFault}
+use Rattle.cut_plan.specs.declared.refusal.Refusal.{Refusal}
 use Rattle.cut_plan.specs.declared.field.Field.{Field}
 use Rattle.cut_plan.specs.declared.field.Field.TheVariants.{Copies, Dead, F, Faults, H, Implicit, K, L, Liars, Links, Nodes, Repeats, Seed, Version}
 use Rattle.cut_plan.specs.Fields.{all_fields, number_at, numbers_at}
-use Rattle.cut_plan.specs.Accepted.{is_present, is_of_kind, is_in_range, is_in_scale, has_some, rises_at, wanted, fault_at, each, checked}
+use Rattle.cut_plan.specs.Accepted.{is_present, is_of_kind, is_in_range, is_in_scale, has_some, rises_at, wanted, fault_at, each, field_check}
 use Rattle.cut_plan.specs.Plan.{all_within}
 use Rattle.cut_plan.specs.Look.{AreBelow}
 
-pub wanted_ok : {A : Type 0} (b : Bool) (fault : PlanFault) (later : Result A PlanFault) (x : A) → wanted b fault later ≡ Ok x → (b ≡ true) × (later ≡ Ok x)
+pub wanted_ok : {A : Type 0} (b : Bool) (fault : Refusal) (later : Result A Refusal) (x : A) → wanted b fault later ≡ Ok x → (b ≡ true) × (later ≡ Ok x)
 wanted_ok true fault later x h = (refl, h)
 wanted_ok false fault later x h = cc h
 
-fault_at_ok : {A : Type 0} (o : Option Field) (fault : Field → PlanFault) (later : Result A PlanFault) (x : A) → fault_at o fault later ≡ Ok x → (o ≡ None) × (later ≡ Ok x)
+fault_at_ok : {A : Type 0} (o : Option Field) (fault : Field → Refusal) (later : Result A Refusal) (x : A) → fault_at o fault later ≡ Ok x → (o ≡ None) × (later ≡ Ok x)
 fault_at_ok None fault later x h = (refl, h)
 fault_at_ok (Some field) fault later x h = cc h
 
@@ -46,7 +46,7 @@ every_field P h Repeats = h.1.1.1.1.1.1.1.1.1.1.1.0
 every_field P h Seed = h.1.1.1.1.1.1.1.1.1.1.1.1.0
 every_field P h Version = h.1.1.1.1.1.1.1.1.1.1.1.1.1.0
 
-each_ok : {A : Type 0} (holds : Field → Bool) (fault : Field → PlanFault) (later : Result A PlanFault) (x : A) → each holds fault later ≡ Ok x
+each_ok : {A : Type 0} (holds : Field → Bool) (fault : Field → Refusal) (later : Result A Refusal) (x : A) → each holds fault later ≡ Ok x
     → ((field : Field) → holds field ≡ true) × (later ≡ Ok x)
 each_ok holds fault later x h =
     let parts = fault_at_ok (find (λ field. not (holds field)) all_fields) fault later x h in
@@ -59,8 +59,8 @@ pub record IsChecked (d : Data) : Type 0 where
   pub ranges : (field : Field) → is_in_range d field ≡ true
   pub rises : (field : Field) → rises_at d field ≡ true
 
-pub checked_facts : (d : Data) → checked d ≡ Ok tt → IsChecked d
-unfolding checked
+pub checked_facts : (d : Data) → field_check d ≡ Ok tt → IsChecked d
+unfolding field_check
 checked_facts d h =
     let an_object = wanted_ok _ _ _ tt h in
     let named = wanted_ok _ _ _ tt an_object.1 in
@@ -99,16 +99,16 @@ below_at bound (x ∷ xs) (suc i) some h = below_at bound xs i some (and_parts (
 pub few_nodes : (d : Data) → IsChecked d → (2 ≤ number_at d Nodes) × (number_at d Nodes ≤ 2048)
 few_nodes d known = within_bounds 2 2048 (number_at d Nodes) (known.ranges Nodes)
 
-pub h_bytes : (d : Data) → checked d ≡ Ok tt → AreBelow 256 (numbers_at d H)
+pub h_bytes : (d : Data) → field_check d ≡ Ok tt → AreBelow 256 (numbers_at d H)
 h_bytes d h = scale_bytes (numbers_at d H) ((checked_facts d h).ranges H)
 
-pub k_bytes : (d : Data) → checked d ≡ Ok tt → AreBelow 256 (numbers_at d K)
+pub k_bytes : (d : Data) → field_check d ≡ Ok tt → AreBelow 256 (numbers_at d K)
 k_bytes d h = scale_bytes (numbers_at d K) ((checked_facts d h).ranges K)
 
-pub l_bytes : (d : Data) → checked d ≡ Ok tt → AreBelow 256 (numbers_at d L)
+pub l_bytes : (d : Data) → field_check d ≡ Ok tt → AreBelow 256 (numbers_at d L)
 l_bytes d h = scale_bytes (numbers_at d L) ((checked_facts d h).ranges L)
 
-pub f_shorts : (d : Data) → checked d ≡ Ok tt → AreBelow 65536 (numbers_at d F)
+pub f_shorts : (d : Data) → field_check d ≡ Ok tt → AreBelow 65536 (numbers_at d F)
 f_shorts d h =
     let known = checked_facts d h in
     failed_shorts (number_at d Nodes) (numbers_at d F) (few_nodes d known).1 (known.ranges F)

@@ -15,18 +15,19 @@ use Rattle.serde_json.specs.View.{items_of}
 use Rattle.serde_json.specs.Written.{compact_text, items_text, members_text, comma_if}
 use Rattle.cut_plan.specs.declared.field.Field.{Field}
 use Rattle.cut_plan.specs.declared.field.Field.TheVariants as field
-use Rattle.cut_plan.specs.declared.rule.Dead.{Dead}
-use Rattle.cut_plan.specs.declared.rule.Dead.TheVariants.{Silent, Speak}
-use Rattle.cut_plan.specs.declared.rule.Faults.{Faults}
-use Rattle.cut_plan.specs.declared.rule.Faults.TheVariants.{Crash, Deaf}
+use Rattle.cut_plan.specs.declared.dead.Dead.{Dead}
+use Rattle.cut_plan.specs.declared.dead.Dead.TheVariants.{Silent, Speak}
+use Rattle.cut_plan.specs.declared.faults.Faults.{Faults}
+use Rattle.cut_plan.specs.declared.faults.Faults.TheVariants.{Crash, Deaf}
 use Rattle.cut_plan.specs.Values.{Values}
 use Rattle.cut_plan.specs.Plan.{IsPlan, IsScale}
+use Rattle.cut_plan.specs.Words.{dead_word, faults_word}
 use Rattle.cut_plan.specs.Fields.{name_of, all_fields}
-use Rattle.cut_plan.specs.Canonical.{dead_word, faults_word, number_data, field_data, members_with, data_of, canonical_text}
+use Rattle.cut_plan.specs.Canonical.{number_data, field_data, members_with, data_of, canonical_text}
 use Rattle.cut_plan.proofs.Every.{every-list_all}
 use Rattle.cut_plan.proofs.PlanFacts.{scale_length, failed_length}
-use Rattle.cut_plan.proofs.Accepting.{scale_back}
-use Rattle.cut_plan.proofs.ReadBack.{AreSmall, scale_small, failed_small}
+use Rattle.cut_plan.proofs.CanonicalAccepted.{scale_back}
+use Rattle.cut_plan.proofs.CanonicalReads.{AreSmall, scale_small, failed_small}
 
 -- a text in UTF-8 of at most so many bytes
 pub record IsPlain (most : ℕ) (text : List ℕ) : Type 0 where

@@ -5,13 +5,13 @@ pub mod Rising
 pub mod Checked
 pub mod Counting
 pub mod PlanFacts
-pub mod Reading
+pub mod TextsOfPlans
 pub mod Writing
 pub mod Members
-pub mod Accepting
-pub mod ReadBack
+pub mod CanonicalAccepted
+pub mod CanonicalReads
 pub mod Length
 pub mod RoundTrip
 pub mod Among
 pub mod CellOrder
-pub mod Accepts
+pub mod PlansFromTexts

@@ -7,7 +7,7 @@ use Rattle.serde_json.specs.Find.{as_array, as_object}
 use Rattle.serde_json.specs.View.{view, items_view, members_view}
 use Rattle.serde_json.specs.declared.value.Value.{Value}
 use Rattle.cut_plan.specs.Fields.{list_of_items, keys_of_members, elements, keys, number_or_zero, is_named}
-use Rattle.cut_plan.specs.Look.{numbers_of}
+use Rattle.cut_plan.specs.Look.{item_numbers}
 
 pub list_of_items-items_view : (vs : List Value) → list_of_items (items_view vs) ≡ map view vs
 list_of_items-items_view [] = refl
@@ -20,7 +20,7 @@ pub map_twice : {A B C : Type 0} (f : B → C) (g : A → B) (xs : List A) → m
 map_twice f g [] = refl
 map_twice f g (x ∷ xs) = ap (λ ys. f (g x) ∷ ys) (map_twice f g xs)
 
-pub numbers_found : (ds : List Data) (vs : List Value) → map view vs ≡ ds → numbers_of vs ≡ map number_or_zero ds
+pub numbers_found : (ds : List Data) (vs : List Value) → map view vs ≡ ds → item_numbers vs ≡ map number_or_zero ds
 numbers_found ds vs e = rw (← e) (sym (map_twice number_or_zero view vs))
 
 named_members : (es : List (String Global × Value)) → list_all (λ key. is_named (string_bytes key)) (keys_of es) ≡ list_all is_named (keys_of_members (members_view es))

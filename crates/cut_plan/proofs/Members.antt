@@ -11,15 +11,16 @@ use Rattle.serde_json.specs.Find.{get, as_bool, as_str}
 use Rattle.serde_json.specs.View.{items_of}
 use Rattle.cut_plan.specs.declared.field.Field.{Field}
 use Rattle.cut_plan.specs.declared.field.Field.TheVariants as field
-use Rattle.cut_plan.specs.declared.rule.Dead.{Dead}
-use Rattle.cut_plan.specs.declared.rule.Dead.TheVariants.{Silent, Speak}
-use Rattle.cut_plan.specs.declared.rule.Faults.{Faults}
-use Rattle.cut_plan.specs.declared.rule.Faults.TheVariants.{Crash, Deaf}
+use Rattle.cut_plan.specs.declared.dead.Dead.{Dead}
+use Rattle.cut_plan.specs.declared.dead.Dead.TheVariants.{Silent, Speak}
+use Rattle.cut_plan.specs.declared.faults.Faults.{Faults}
+use Rattle.cut_plan.specs.declared.faults.Faults.TheVariants.{Crash, Deaf}
 use Rattle.cut_plan.specs.Values.{Values}
 use Rattle.cut_plan.specs.Plan.{IsPlan}
+use Rattle.cut_plan.specs.Words.{dead_of, faults_of, dead_word, faults_word}
 use Rattle.cut_plan.specs.Fields.{name_of, all_fields, member_at, number_at, numbers_at, text_at, number_or_zero, list_of_items, elements, whole_number}
-use Rattle.cut_plan.specs.Accepted.{dead_of, faults_of, values_in}
-use Rattle.cut_plan.specs.Canonical.{dead_word, faults_word, number_data, field_data, data_of}
+use Rattle.cut_plan.specs.Accepted.{values_in}
+use Rattle.cut_plan.specs.Canonical.{number_data, field_data, data_of}
 
 pub member_of : (v : Values) (field : Field) → get (name_of field) (data_of v) ≡ Some (field_data v field)
 unfolding all_fields data_of

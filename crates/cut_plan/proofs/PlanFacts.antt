@@ -10,7 +10,7 @@ use Rattle.hex.proofs.HexLemmas.{decode_sized-ok, decode_sized-twice, decode_of-
 use Rattle.serde_json.specs.Data.{Data}
 use Rattle.cut_plan.specs.declared.field.Field.TheVariants.{Copies, F, H, K, L, Liars, Links, Nodes, Repeats, Seed, Version}
 use Rattle.cut_plan.specs.Fields.{number_at, numbers_at, text_at}
-use Rattle.cut_plan.specs.Accepted.{is_in_scale, has_some, checked, counted, limits, values_in}
+use Rattle.cut_plan.specs.Accepted.{is_in_scale, has_some, field_check, limit_check, limits, values_in}
 use Rattle.cut_plan.specs.Cells.{cells_of, largest}
 use Rattle.cut_plan.specs.Values.{Values}
 use Rattle.cut_plan.specs.Plan.{all_within, is_rising, IsScale, IsPlan}
@@ -35,16 +35,16 @@ failed_length nodes xs all rises =
     let room = rising_length 0 nodes xs rises below above (omega arith) in
     omega (arith, room)
 
-pub few_h : (d : Data) → checked d ≡ Ok tt → length (numbers_at d H) ≤ 32
+pub few_h : (d : Data) → field_check d ≡ Ok tt → length (numbers_at d H) ≤ 32
 few_h d h = let known = checked_facts d h in scale_length (numbers_at d H) (known.ranges H) (known.rises H)
 
-pub few_k : (d : Data) → checked d ≡ Ok tt → length (numbers_at d K) ≤ 32
+pub few_k : (d : Data) → field_check d ≡ Ok tt → length (numbers_at d K) ≤ 32
 few_k d h = let known = checked_facts d h in scale_length (numbers_at d K) (known.ranges K) (known.rises K)
 
-pub few_l : (d : Data) → checked d ≡ Ok tt → length (numbers_at d L) ≤ 32
+pub few_l : (d : Data) → field_check d ≡ Ok tt → length (numbers_at d L) ≤ 32
 few_l d h = let known = checked_facts d h in scale_length (numbers_at d L) (known.ranges L) (known.rises L)
 
-pub few_f : (d : Data) → checked d ≡ Ok tt → length (numbers_at d F) ≤ 2048
+pub few_f : (d : Data) → field_check d ≡ Ok tt → length (numbers_at d F) ≤ 2048
 few_f d h =
     let known = checked_facts d h in
     let bounds = within_bounds 2 2048 (number_at d Nodes) (known.ranges Nodes) in
@@ -52,10 +52,10 @@ few_f d h =
     let short = failed_length (number_at d Nodes) (numbers_at d F) all (known.rises F) in
     omega (arith, short, bounds.1)
 
-pub few_liars : (d : Data) → checked d ≡ Ok tt → number_at d Liars ≤ 2048
+pub few_liars : (d : Data) → field_check d ≡ Ok tt → number_at d Liars ≤ 2048
 few_liars d h = (within_bounds 0 2048 (number_at d Liars) ((checked_facts d h).ranges Liars)).1
 
-pub few_links : (d : Data) → checked d ≡ Ok tt → number_at d Links ≤ 2048
+pub few_links : (d : Data) → field_check d ≡ Ok tt → number_at d Links ≤ 2048
 few_links d h = (within_bounds 0 2048 (number_at d Links) ((checked_facts d h).ranges Links)).1
 
 -- ---- the facts of a plan
@@ -110,11 +110,11 @@ limits_ok cells faults nodes h =
     let few = wanted_ok (nat_le cells 4096) _ _ tt fit.1 in
     (ltb-true 0 cells some.0, leb-true faults nodes fit.0, leb-true cells 4096 few.0)
 
-counted_facts : (v : Values) → counted v ≡ Ok tt → (0 < length (cells_of v)) × (largest v.f + v.liars + v.links ≤ v.nodes) × (length (cells_of v) ≤ 4096)
-unfolding counted
+counted_facts : (v : Values) → limit_check v ≡ Ok tt → (0 < length (cells_of v)) × (largest v.f + v.liars + v.links ≤ v.nodes) × (length (cells_of v) ≤ 4096)
+unfolding limit_check
 counted_facts v h = limits_ok (length (cells_of v)) (largest v.f + v.liars + v.links) v.nodes h
 
-pub plan_facts : (d : Data) → checked d ≡ Ok tt → counted (values_in d) ≡ Ok tt → IsPlan (values_in d)
+pub plan_facts : (d : Data) → field_check d ≡ Ok tt → limit_check (values_in d) ≡ Ok tt → IsPlan (values_in d)
 plan_facts d ok together =
     let known = checked_facts d ok in
     let version = within_bounds 1 1 (number_at d Version) (known.ranges Version) in
@@ -150,11 +150,11 @@ plan_facts d ok together =
       faults_fit = counts.1;
     }
 
-pub few_copies : (d : Data) → checked d ≡ Ok tt → number_at d Copies ≤ 4
+pub few_copies : (d : Data) → field_check d ≡ Ok tt → number_at d Copies ≤ 4
 few_copies d h = (within_bounds 1 4 (number_at d Copies) ((checked_facts d h).ranges Copies)).1
 
-pub few_processes : (d : Data) → checked d ≡ Ok tt → number_at d Nodes ≤ 2048
+pub few_processes : (d : Data) → field_check d ≡ Ok tt → number_at d Nodes ≤ 2048
 few_processes d h = (within_bounds 2 2048 (number_at d Nodes) ((checked_facts d h).ranges Nodes)).1
 
-pub few_repeats : (d : Data) → checked d ≡ Ok tt → number_at d Repeats ≤ 1000000
+pub few_repeats : (d : Data) → field_check d ≡ Ok tt → number_at d Repeats ≤ 1000000
 few_repeats d h = (within_bounds 1 1000000 (number_at d Repeats) ((checked_facts d h).ranges Repeats)).1

@@ -8,7 +8,7 @@ use Rattle.serde_json.specs.declared.value.Value.{Value}
 use Rattle.cut_plan.specs.Fields.{number_or_zero}
 use Rattle.cut_plan.specs.Accepted.{has_some}
 use Rattle.cut_plan.specs.Plan.{is_rising}
-use Rattle.cut_plan.specs.Look.{numbers_of}
+use Rattle.cut_plan.specs.Look.{item_numbers}
 
 both_tests : (b r s : Bool) → b ≡ true → r ≡ s → r ≡ (b && s)
 both_tests true r s h e = e
@@ -18,23 +18,23 @@ some_length : {X : Type 0} (xs : List X) → (length xs == 0) ≡ false → 0 < 
 some_length [] h = absurd (true≢false h)
 some_length (x ∷ xs) h = omega arith
 
-length_numbers : (xs : List Value) → length (numbers_of xs) ≡ length xs
+length_numbers : (xs : List Value) → length (item_numbers xs) ≡ length xs
 length_numbers [] = refl
 length_numbers (x ∷ xs) = ap suc (length_numbers xs)
 
-some_numbers : (xs : List Value) → (length xs == 0) ≡ false → has_some (numbers_of xs) ≡ true
+some_numbers : (xs : List Value) → (length xs == 0) ≡ false → has_some (item_numbers xs) ≡ true
 some_numbers xs h =
     let some = some_length xs h in
-    lt-ltb 0 (length (numbers_of xs)) (rw (length_numbers xs) some)
+    lt-ltb 0 (length (item_numbers xs)) (rw (length_numbers xs) some)
 
 -- a test of each number, after the test that there is one
 pub numbers_pass : (p : ℕ → Bool) (xs : List Value) (r e : Bool) → e ≡ (length xs == 0) → e ≡ false → r ≡ list_all (λ v. p (number_or_zero (view v))) xs
-    → r ≡ (has_some (numbers_of xs) && list_all p (numbers_of xs))
+    → r ≡ (has_some (item_numbers xs) && list_all p (item_numbers xs))
 numbers_pass p xs r e is some all =
-    both_tests (has_some (numbers_of xs)) r (list_all p (numbers_of xs)) (some_numbers xs (sym is ∙ some))
+    both_tests (has_some (item_numbers xs)) r (list_all p (item_numbers xs)) (some_numbers xs (sym is ∙ some))
     (all ∙ sym (list_all-map p (λ v. number_or_zero (view v)) xs))
 
-pub number_at_place : (xs : List Value) (i : ℕ) (d : Value) → i < length xs → get_or (numbers_of xs) i 0 ≡ number_or_zero (view (get_or xs i d))
+pub number_at_place : (xs : List Value) (i : ℕ) (d : Value) → i < length xs → get_or (item_numbers xs) i 0 ≡ number_or_zero (view (get_or xs i d))
 number_at_place [] i d h = absurd (omega arith)
 number_at_place (x ∷ xs) zero d h = refl
 number_at_place (x ∷ xs) (suc i) d h = number_at_place xs i d (omega arith)
@@ -54,8 +54,8 @@ rising_end (x ∷ []) zero h = refl
 rising_end (x ∷ y ∷ rest) zero h = absurd (omega arith)
 rising_end (x ∷ xs) (suc j) h = rising_end xs j (omega arith)
 
-pub rising_whole : (xs : List Value) (i : ℕ) → 1 ≤ i → length xs ≤ i → ((j : ℕ) → suc j ≡ i → is_rising (numbers_of xs) ≡ is_rising (drop j (numbers_of xs))) → true ≡ is_rising (numbers_of xs)
+pub rising_whole : (xs : List Value) (i : ℕ) → 1 ≤ i → length xs ≤ i → ((j : ℕ) → suc j ≡ i → is_rising (item_numbers xs) ≡ is_rising (drop j (item_numbers xs))) → true ≡ is_rising (item_numbers xs)
 rising_whole xs zero some past known = absurd (omega arith)
 rising_whole xs (suc j) some past known =
-    let within : length (numbers_of xs) ≤ suc j = rw (length_numbers xs) past in
-    sym (known j refl ∙ rising_end (numbers_of xs) j within)
+    let within : length (item_numbers xs) ≤ suc j = rw (length_numbers xs) past in
+    sym (known j refl ∙ rising_end (item_numbers xs) j within)

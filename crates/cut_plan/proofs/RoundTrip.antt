@@ -8,9 +8,9 @@ use Rattle.cut_plan.specs.Plan.{IsPlan}
 use Rattle.cut_plan.specs.Accepted.{values_in, found_in, plan_of}
 use Rattle.cut_plan.specs.Canonical.{canonical_text}
 use Rattle.cut_plan.proofs.Members.{values_back}
-use Rattle.cut_plan.proofs.Accepting.{plan_in_back}
-use Rattle.cut_plan.proofs.ReadBack.{canonical_reads}
-use Rattle.cut_plan.proofs.Reading.{plan_of-text}
+use Rattle.cut_plan.proofs.CanonicalAccepted.{plan_in_back}
+use Rattle.cut_plan.proofs.CanonicalReads.{canonical_reads}
+use Rattle.cut_plan.proofs.TextsOfPlans.{plan_of-text}
 use Rattle.cut_plan.proofs.Length.{canonical_plain}
 
 -- plans with equal texts are equal

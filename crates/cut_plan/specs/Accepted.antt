@@ -1,22 +1,21 @@
 -- Which texts are accepted plans, and the first fault of any other (this project's profile). The checks run in
 -- the order below, each over all fields before the next begins.
-use Rattle.std.specs.Prelude.{ℕ, ◌+◌, ◌&&◌, List, [], length, Bool, true, false, not, nat_le, nat_lt, if◌then◌else◌, codes, Option, Some, None, is_some, unwrap_or, Result, Ok, Err, ⊤}
+use Rattle.std.specs.Prelude.{◌≡◌, ℕ, ◌+◌, ◌&&◌, List, [], length, Bool, true, false, not, nat_le, nat_lt, if◌then◌else◌, Option, Some, None, is_some, unwrap_or, Result, Ok, Err, ⊤}
 use Rattle.std.specs.Bool.{⊤}
 use Rattle.std.specs.List.{list_all, find}
-use Rattle.std.specs.Str.{is_utf8, bytes_eq}
+use Rattle.std.specs.Str.{is_utf8}
 use Rattle.std.specs.Result.{is_ok, result_ok}
 use Rattle.hex.specs.Hex.{decode_sized}
 use Rattle.serde_json.specs.Data.{Data}
 use Rattle.serde_json.specs.Find.{get, as_bool, as_object}
 use Rattle.serde_json.specs.Read.{read}
-use Rattle.cut_plan.specs.declared.fault.PlanFault.{PlanFault}
-use Rattle.cut_plan.specs.declared.fault.PlanFault.TheVariants.{NotJson, NotObject, UnknownField, MissingField, WrongKind, OutOfRange, NotRising, NoCell, TooManyFaults, TooManyTrials, PlanTooLong}
+use Rattle.cut_plan.specs.declared.refusal.Refusal.{Refusal}
+use Rattle.cut_plan.specs.declared.refusal.Refusal.TheVariants.{NotJson, NotObject, UnknownField, MissingField, WrongKind, OutOfRange, NotRising, NoCell, TooManyFaults, TooManyTrials, PlanTooLong}
 use Rattle.cut_plan.specs.declared.field.Field.{Field}
 use Rattle.cut_plan.specs.declared.field.Field.TheVariants as field
-use Rattle.cut_plan.specs.declared.rule.Dead.{Dead}
-use Rattle.cut_plan.specs.declared.rule.Dead.TheVariants.{Silent, Speak}
-use Rattle.cut_plan.specs.declared.rule.Faults.{Faults}
-use Rattle.cut_plan.specs.declared.rule.Faults.TheVariants.{Crash, Deaf}
+use Rattle.cut_plan.specs.declared.dead.Dead.TheVariants.{Silent}
+use Rattle.cut_plan.specs.declared.faults.Faults.TheVariants.{Crash}
+use Rattle.cut_plan.specs.Words.{dead_of, faults_of}
 use Rattle.cut_plan.specs.Values.{Values}
 use Rattle.cut_plan.specs.Cells.{cells_of, largest}
 use Rattle.cut_plan.specs.Plan.{all_within, is_rising}
@@ -31,14 +30,6 @@ is_present d field = is_some (get (name_of field) d)
 -- whether the field's value is of the field's kind
 abbrev pub is_of_kind : Data → Field → Bool
 is_of_kind d field = is_of (kind_of field) (member_at d field)
-
--- the rule on crashed observers that a word names
-abbrev pub dead_of : List ℕ → Option Dead
-dead_of word = if bytes_eq word (codes "silent") then Some Silent else if bytes_eq word (codes "speak") then Some Speak else None
-
--- the way in which targets fail that a word names
-abbrev pub faults_of : List ℕ → Option Faults
-faults_of word = if bytes_eq word (codes "crash") then Some Crash else if bytes_eq word (codes "deaf") then Some Deaf else None
 
 -- a number that is at least low and at most high
 abbrev pub is_within : ℕ → ℕ → ℕ → Bool
@@ -77,21 +68,21 @@ rises_at d field = is_rising (numbers_at d field)
 -- ---- the order of the checks
 
 -- the fault where the test fails, else what comes after
-abbrev pub wanted : {A : Type 0} → Bool → PlanFault → Result A PlanFault → Result A PlanFault
+abbrev pub wanted : {A : Type 0} → Bool → Refusal → Result A Refusal → Result A Refusal
 wanted holds fault later = if holds then later else Err fault
 
 -- the fault of the field that was found, or what comes after
-abbrev pub fault_at : {A : Type 0} → Option Field → (Field → PlanFault) → Result A PlanFault → Result A PlanFault
+abbrev pub fault_at : {A : Type 0} → Option Field → (Field → Refusal) → Result A Refusal → Result A Refusal
 fault_at None fault later = later
 fault_at (Some field) fault later = Err (fault field)
 
 -- the fault of the first field of which the test fails, else what comes after
-abbrev pub each : {A : Type 0} → (Field → Bool) → (Field → PlanFault) → Result A PlanFault → Result A PlanFault
+abbrev pub each : {A : Type 0} → (Field → Bool) → (Field → Refusal) → Result A Refusal → Result A Refusal
 each holds fault later = fault_at (find (λ field. not (holds field)) all_fields) fault later
 
--- the checks on the object's fields
-unfoldable pub checked : Data → Result ⊤ PlanFault
-checked d =
+-- the checks on the object's fields, which take no memory
+unfoldable pub field_check : Data → Result ⊤ Refusal
+field_check d =
     wanted (is_some (as_object d)) NotObject
     (wanted (list_all is_named (keys d)) UnknownField
     (each (is_present d) MissingField
@@ -99,6 +90,10 @@ checked d =
     (each (is_in_range d) OutOfRange
     (each (rises_at d) NotRising
     (Ok tt))))))
+
+-- an object whose fields passed the checks
+abbrev pub IsChecked : Data → Type 0
+IsChecked d = field_check d ≡ Ok tt
 
 -- what the object's fields say
 abbrev pub values_in : Data → Values
@@ -121,7 +116,7 @@ values_in d = record {
 
 -- the limits on the number of cells, on the faults, and on the cells again: some cell, no more faults than
 -- processes, and no more than 4096 cells
-abbrev pub limits : ℕ → ℕ → ℕ → Result ⊤ PlanFault
+abbrev pub limits : ℕ → ℕ → ℕ → Result ⊤ Refusal
 limits cells faults nodes =
     wanted (nat_lt 0 cells) NoCell
     (wanted (nat_le faults nodes) TooManyFaults
@@ -129,23 +124,23 @@ limits cells faults nodes =
     (Ok tt)))
 
 -- the checks on the values together; there is no cell where no combination has l ≤ h ≤ k
-unfoldable pub counted : Values → Result ⊤ PlanFault
-counted v = limits (length (cells_of v)) (largest v.f + v.liars + v.links) v.nodes
+unfoldable pub limit_check : Values → Result ⊤ Refusal
+limit_check v = limits (length (cells_of v)) (largest v.f + v.liars + v.links) v.nodes
 
 -- the second step, where the first found no fault
-abbrev pub after : {A B : Type 0} → Result A PlanFault → Result B PlanFault → Result B PlanFault
+abbrev pub after : {A B : Type 0} → Result A Refusal → Result B Refusal → Result B Refusal
 after (Ok x) later = later
 after (Err e) later = Err e
 
 -- the plan that a JSON value is, or its first fault
-unfoldable pub plan_in : Data → Result Values PlanFault
-plan_in d = after (checked d) (after (counted (values_in d)) (Ok (values_in d)))
+unfoldable pub plan_in : Data → Result Values Refusal
+plan_in d = after (field_check d) (after (limit_check (values_in d)) (Ok (values_in d)))
 
 -- the plan that was read, where anything was
-abbrev pub found_in : Option Data → Result Values PlanFault
+abbrev pub found_in : Option Data → Result Values Refusal
 found_in None = Err NotJson
 found_in (Some d) = plan_in d
 
 -- the plan that a text is, or its first fault: the text has at most 65,536 bytes, is UTF-8, and `serde_json` reads it
-unfoldable pub plan_of : List ℕ → Result Values PlanFault
+unfoldable pub plan_of : List ℕ → Result Values Refusal
 plan_of text = if nat_lt 65536 (length text) then Err PlanTooLong else found_in (if is_utf8 text then read text else None)

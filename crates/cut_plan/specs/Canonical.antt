@@ -1,27 +1,14 @@
 -- The one text of a plan: compact JSON, its keys in byte order, the seed in lower-case hexadecimal digits.
-use Rattle.std.specs.Prelude.{ℕ, List, [], ◌∷◌, map, codes}
+use Rattle.std.specs.Prelude.{ℕ, List, [], ◌∷◌, map}
 use Rattle.hex.specs.Hex.{encode_lower}
 use Rattle.serde_json.specs.Data.{Data, boolean, number, string, array, object, unsigned, Members, no_members, member}
 use Rattle.serde_json.specs.View.{items_of}
 use Rattle.serde_json.specs.Written.{compact_text}
 use Rattle.cut_plan.specs.declared.field.Field.{Field}
 use Rattle.cut_plan.specs.declared.field.Field.TheVariants as field
-use Rattle.cut_plan.specs.declared.rule.Dead.{Dead}
-use Rattle.cut_plan.specs.declared.rule.Dead.TheVariants.{Silent, Speak}
-use Rattle.cut_plan.specs.declared.rule.Faults.{Faults}
-use Rattle.cut_plan.specs.declared.rule.Faults.TheVariants.{Crash, Deaf}
 use Rattle.cut_plan.specs.Values.{Values}
+use Rattle.cut_plan.specs.Words.{dead_word, faults_word}
 use Rattle.cut_plan.specs.Fields.{name_of, all_fields}
-
--- the word that names the rule on crashed observers
-abbrev pub dead_word : Dead → List ℕ
-dead_word Silent = codes "silent"
-dead_word Speak = codes "speak"
-
--- the word that names how targets fail
-abbrev pub faults_word : Faults → List ℕ
-faults_word Crash = codes "crash"
-faults_word Deaf = codes "deaf"
 
 -- a number, as JSON
 abbrev pub number_data : ℕ → Data

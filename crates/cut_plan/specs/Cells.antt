@@ -26,8 +26,8 @@ abbrev pub cells_of : Values → List Cell
 cells_of v = cells_of_lists v.k v.h v.l v.f
 
 -- how many trials a plan has: each cell's, one after another
-abbrev pub trials_of : Values → ℕ
-trials_of v = length (cells_of v) * v.repeats
+abbrev pub trial_count : Values → ℕ
+trial_count v = length (cells_of v) * v.repeats
 
 -- the greatest number of a list, 0 for the empty one
 abbrev pub largest : List ℕ → ℕ

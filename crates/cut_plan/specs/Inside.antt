@@ -21,7 +21,7 @@ values_of p = record {
   nodes = p.nodes;
   repeats = p.repeats;
   seed = p.seed;
-  version = 1;
+  version = p.version;
 }
 
 -- the values are those of an accepted plan, and the cells are theirs

@@ -1,4 +1,4 @@
-pub mod FaultNumber
+pub mod Words
 pub mod Values
 pub mod Cells
 pub mod Plan
@@ -7,5 +7,6 @@ pub mod Fields
 pub mod Accepted
 pub mod Canonical
 pub mod Look
+pub mod Refusals
 pub mod Triples
 pub mod Combinations

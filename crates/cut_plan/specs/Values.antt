@@ -1,8 +1,8 @@
 -- What a plan says: its fourteen named values. (This project's profile of the study in the Rapid
 -- paper's section on the sensitivity to K, H and L.)
 use Rattle.std.specs.Prelude.{ℕ, List, Bool}
-use Rattle.cut_plan.specs.declared.rule.Dead.{Dead}
-use Rattle.cut_plan.specs.declared.rule.Faults.{Faults}
+use Rattle.cut_plan.specs.declared.dead.Dead.{Dead}
+use Rattle.cut_plan.specs.declared.faults.Faults.{Faults}
 
 pub record Values : Type 0 where
   -- how often each alert comes to each receiver

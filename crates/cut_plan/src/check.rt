@@ -3,46 +3,47 @@ ghost use Rattle.std.specs.Prelude.{◌≡◌, ◌&&◌, not, true, nat_lt, unwr
 ghost use Rattle.std.specs.List.{list_all, find};
 ghost use Rattle.serde_json.specs.View.{view};
 ghost use Rattle.cut_plan.specs.Fields.{all_fields, number_or_zero, text_at};
-ghost use Rattle.cut_plan.specs.Accepted.{is_present, is_of_kind, dead_of, faults_of, is_within, has_some, is_in_scale, is_in_range, rises_at, checked};
+ghost use Rattle.cut_plan.specs.Accepted.{is_present, is_of_kind, is_within, has_some, is_in_scale, is_in_range, rises_at, field_check};
+ghost use Rattle.cut_plan.specs.Words.{dead_of, faults_of};
 ghost use Rattle.hex.specs.Hex.{decode_sized};
 ghost use Rattle.cut_plan.specs.declared.field.Field.TheVariants as field;
-ghost use Rattle.cut_plan.specs.declared.rule.Dead.TheVariants.{Silent};
-ghost use Rattle.cut_plan.specs.declared.rule.Faults.TheVariants.{Crash};
+ghost use Rattle.cut_plan.specs.declared.dead.Dead.TheVariants.{Silent};
+ghost use Rattle.cut_plan.specs.declared.faults.Faults.TheVariants.{Crash};
 ghost use Rattle.cut_plan.specs.Plan.{is_rising};
-ghost use Rattle.cut_plan.specs.Look.{numbers_of};
+ghost use Rattle.cut_plan.specs.Look.{item_numbers};
 
 use crate::field::all_fields;
 use crate::object::{
-    has_only_fields, is_of_kind, is_present, items_at, number_at, number_of, number_or_zero,
+    has_only_fields, is_of_kind, is_present, items_at, number_at, number_in, number_or_zero,
     text_at,
 };
-use crate::{Dead, Faults, Field, PlanFault};
+use crate::{Dead, Faults, Field, Refusal};
 use hex::FromHex;
 use serde_json::Value;
 
 /// Checks each field in turn: that the value is an object with exactly a plan's fields, and then
-/// the kind of each, the range of each, and that each list rises.
-#[tactic(auto, unfolding(crate::specs::Accepted::checked))]
-pub(crate) fn check(value: &Value) -> Result<(), PlanFault>
-    ensures { result ≡ checked (view value.now) }
+/// the kind of each, the range of each, and that each list rises. It takes no memory.
+#[tactic(auto, unfolding(crate::specs::Accepted::field_check))]
+pub(crate) fn check(value: &Value) -> Result<(), Refusal>
+    ensures { result ≡ field_check (view value.now) }
 {
     if !value.is_object() {
-        return Err(PlanFault::NotObject);
+        return Err(Refusal::NotObject);
     }
     if !has_only_fields(value) {
-        return Err(PlanFault::UnknownField);
+        return Err(Refusal::UnknownField);
     }
     if let Some(field) = first_missing(value) {
-        return Err(PlanFault::MissingField(field));
+        return Err(Refusal::MissingField(field));
     }
     if let Some(field) = first_of_wrong_kind(value) {
-        return Err(PlanFault::WrongKind(field));
+        return Err(Refusal::WrongKind(field));
     }
     if let Some(field) = first_out_of_range(value) {
-        return Err(PlanFault::OutOfRange(field));
+        return Err(Refusal::OutOfRange(field));
     }
     if let Some(field) = first_not_rising(value) {
-        return Err(PlanFault::NotRising(field));
+        return Err(Refusal::NotRising(field));
     }
     Ok(())
 }
@@ -97,9 +98,9 @@ fn is_in_range(value: &Value, field: Field) -> bool
 {
     match field {
         Field::Copies => is_within(1, 4, number_at(value, field)),
-        Field::Dead => dead_of(text_at(value, field)).is_some(),
+        Field::Dead => Dead::of_word(text_at(value, field)).is_some(),
         Field::F => are_below(items_at(value, field), number_at(value, Field::Nodes)),
-        Field::Faults => faults_of(text_at(value, field)).is_some(),
+        Field::Faults => Faults::of_word(text_at(value, field)).is_some(),
         Field::H | Field::K | Field::L => are_in_scale(items_at(value, field)),
         Field::Implicit => true,
         Field::Liars | Field::Links => is_within(0, 2048, number_at(value, field)),
@@ -126,7 +127,7 @@ fn is_within(low: u64, high: u64, number: u64) -> bool
 
 /// Whether there is some number, and each is below `bound`.
 fn are_below(items: &[Value], bound: u64) -> bool
-    ensures { result ≡ (has_some (numbers_of items.now) && list_all (λ x. nat_lt x bound) (numbers_of items.now)) }
+    ensures { result ≡ (has_some (item_numbers items.now) && list_all (λ x. nat_lt x bound) (item_numbers items.now)) }
 {
     !items.is_empty() && all_below(items, bound)
 }
@@ -140,7 +141,7 @@ fn all_below(items: &[Value], bound: u64) -> bool
 
 /// Whether there is some number, and each is 1 to 32.
 fn are_in_scale(items: &[Value]) -> bool
-    ensures { result ≡ is_in_scale (numbers_of items.now) }
+    ensures { result ≡ is_in_scale (item_numbers items.now) }
 {
     !items.is_empty() && all_in_scale(items)
 }
@@ -156,50 +157,28 @@ fn all_in_scale(items: &[Value]) -> bool
 
 /// Whether each number is below the next.
 fn are_rising(items: &[Value]) -> bool
-    ensures { result ≡ is_rising (numbers_of items.now) }
+    ensures { result ≡ is_rising (item_numbers items.now) }
 {
     for i in 1..items.len() {
-        if number_of(items, i - 1) >= number_of(items, i) {
+        if number_in(items, i - 1) >= number_in(items, i) {
             return false;
         }
     }
     true
 }
 
-/// The rule on crashed observers that a word names.
-fn dead_of(word: &str) -> Option<Dead>
-    ensures { result ≡ dead_of word.now }
-{
-    match word {
-        "silent" => Some(Dead::Silent),
-        "speak" => Some(Dead::Speak),
-        _ => None,
-    }
-}
-
-/// The way in which targets fail that a word names.
-fn faults_of(word: &str) -> Option<Faults>
-    ensures { result ≡ faults_of word.now }
-{
-    match word {
-        "crash" => Some(Faults::Crash),
-        "deaf" => Some(Faults::Deaf),
-        _ => None,
-    }
-}
-
 /// The rule on crashed observers that an object names.
 pub(crate) fn dead_at(value: &Value) -> Dead
     ensures { result ≡ unwrap_or (dead_of (text_at (view value.now) field.Dead)) Silent }
 {
-    dead_of(text_at(value, Field::Dead)).unwrap_or(Dead::Silent)
+    Dead::of_word(text_at(value, Field::Dead)).unwrap_or(Dead::Silent)
 }
 
 /// The way in which targets fail that an object names.
 pub(crate) fn faults_at(value: &Value) -> Faults
     ensures { result ≡ unwrap_or (faults_of (text_at (view value.now) field.Faults)) Crash }
 {
-    faults_of(text_at(value, Field::Faults)).unwrap_or(Faults::Crash)
+    Faults::of_word(text_at(value, Field::Faults)).unwrap_or(Faults::Crash)
 }
 
 /// The bytes of an object's seed, which was checked.

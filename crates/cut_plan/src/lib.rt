@@ -7,7 +7,8 @@
 mod cell;
 mod check;
 mod combine;
-mod fault;
+mod dead;
+mod faults;
 mod field;
 mod kind;
 mod laws;
@@ -15,15 +16,16 @@ mod make;
 mod object;
 mod plan;
 mod read;
-mod rule;
+mod refusal;
 mod write;
 
 pub use cell::Cell;
-pub use fault::PlanFault;
+pub use dead::Dead;
+pub use faults::Faults;
 pub use field::Field;
 pub use laws::{accepted_texts_give_plans, canonical_text_reads_back, cells_are_the_combinations};
 pub use plan::Plan;
-pub use rule::{Dead, Faults};
+pub use refusal::{PlanFault, Refusal};
 
 #[cfg(test)]
 mod tests;

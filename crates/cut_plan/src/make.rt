@@ -3,13 +3,13 @@ ghost use Rattle.std.specs.Prelude.{◌≡◌, ◌<◌, ◌≤◌, ◌^◌, leng
 ghost use Rattle.serde_json.specs.View.{view};
 ghost use Rattle.cut_plan.specs.declared.field.Field.TheVariants as field;
 ghost use Rattle.cut_plan.specs.Fields.{number_at, numbers_at};
-ghost use Rattle.cut_plan.specs.Accepted.{checked, counted, limits, values_in};
+ghost use Rattle.cut_plan.specs.Accepted.{IsChecked, limit_check, limits, values_in};
 ghost use Rattle.cut_plan.specs.Cells.{cells_of_lists};
-ghost use Rattle.cut_plan.specs.Look.{numbers_of, AreBelow};
+ghost use Rattle.cut_plan.specs.Look.{item_numbers, AreBelow, AreListsOf, AreShort};
 
 use crate::combine::count_triples;
-use crate::object::{items_at, number_at, number_of};
-use crate::{Field, PlanFault};
+use crate::object::{items_at, number_at, number_in};
+use crate::{Field, Refusal};
 use serde_json::Value;
 use std::alloc::{AllocError, Global};
 
@@ -24,11 +24,8 @@ pub(crate) struct Lists {
 
 /// The lists of an object whose fields were checked.
 pub(crate) fn read_lists(alloc: Global, value: &Value) -> Result<Lists, AllocError>
-    requires { checked (view value.now) ≡ Ok tt }
-    ensures f { IfOk result (λ lists. lists.f.items ≡ numbers_at (view value.now) field.F) }
-    ensures h { IfOk result (λ lists. lists.h.items ≡ numbers_at (view value.now) field.H) }
-    ensures k { IfOk result (λ lists. lists.k.items ≡ numbers_at (view value.now) field.K) }
-    ensures l { IfOk result (λ lists. lists.l.items ≡ numbers_at (view value.now) field.L) }
+    requires { IsChecked (view value.now) }
+    ensures { IfOk result (λ lists. AreListsOf (view value.now) lists) }
 {
     Ok(Lists {
         f: shorts(alloc, items_at(value, Field::F))?,
@@ -40,37 +37,34 @@ pub(crate) fn read_lists(alloc: Global, value: &Value) -> Result<Lists, AllocErr
 
 /// The numbers of a list, each below 256.
 fn bytes(alloc: Global, items: &[Value]) -> Result<Vec<u8>, AllocError>
-    requires { AreBelow (2 ^ 8) (numbers_of items.now) }
-    ensures { IfOk result (λ v. v.items ≡ numbers_of items.now) }
+    requires { AreBelow (2 ^ 8) (item_numbers items.now) }
+    ensures { IfOk result (λ v. v.items ≡ item_numbers items.now) }
 {
     let mut numbers = Vec::with_capacity(alloc, items.len())?;
     for i in 0..items.len() {
-        numbers.push(number_of(items, i) as u8)?;
+        numbers.push(number_in(items, i) as u8)?;
     }
     Ok(numbers)
 }
 
 /// The numbers of a list, each below 65,536.
 fn shorts(alloc: Global, items: &[Value]) -> Result<Vec<u16>, AllocError>
-    requires { AreBelow (2 ^ 16) (numbers_of items.now) }
-    ensures { IfOk result (λ v. v.items ≡ numbers_of items.now) }
+    requires { AreBelow (2 ^ 16) (item_numbers items.now) }
+    ensures { IfOk result (λ v. v.items ≡ item_numbers items.now) }
 {
     let mut numbers = Vec::with_capacity(alloc, items.len())?;
     for i in 0..items.len() {
-        numbers.push(number_of(items, i) as u16)?;
+        numbers.push(number_in(items, i) as u16)?;
     }
     Ok(numbers)
 }
 
 /// Checks a plan's lists with its liars and links: that they give some cell, that the faults are no
 /// more than the processes, and that the cells are no more than 4096.
-pub(crate) fn check_together(lists: &Lists, value: &Value) -> Result<(), PlanFault>
-    requires checked { checked (view value.now) ≡ Ok tt }
-    requires f { lists.now.f.items ≡ numbers_at (view value.now) field.F }
-    requires h { lists.now.h.items ≡ numbers_at (view value.now) field.H }
-    requires k { lists.now.k.items ≡ numbers_at (view value.now) field.K }
-    requires l { lists.now.l.items ≡ numbers_at (view value.now) field.L }
-    ensures { result ≡ counted (values_in (view value.now)) }
+pub(crate) fn check_together(lists: &Lists, value: &Value) -> Result<(), Refusal>
+    requires checked { IsChecked (view value.now) }
+    requires lists { AreListsOf (view value.now) lists.now }
+    ensures { result ≡ limit_check (values_in (view value.now)) }
 {
     let cells = count_cells(lists);
     let liars = number_at(value, Field::Liars);
@@ -82,10 +76,7 @@ pub(crate) fn check_together(lists: &Lists, value: &Value) -> Result<(), PlanFau
 
 /// How many cells the lists give.
 fn count_cells(lists: &Lists) -> u64
-    requires few_f { length lists.now.f.items ≤ 2048 }
-    requires few_h { length lists.now.h.items ≤ 32 }
-    requires few_k { length lists.now.k.items ≤ 32 }
-    requires few_l { length lists.now.l.items ≤ 32 }
+    requires { AreShort lists.now }
     ensures { result ≡ length (cells_of_lists lists.now.k.items lists.now.h.items lists.now.l.items lists.now.f.items) }
 {
     let triples = count_triples(lists.k.as_slice(), lists.h.as_slice(), lists.l.as_slice());
@@ -93,17 +84,17 @@ fn count_cells(lists: &Lists) -> u64
 }
 
 /// Checks the limits on the cells and the faults.
-fn check_limits(cells: u64, faults: u64, nodes: u64) -> Result<(), PlanFault>
+fn check_limits(cells: u64, faults: u64, nodes: u64) -> Result<(), Refusal>
     ensures { result ≡ limits cells faults nodes }
 {
     if cells == 0 {
-        return Err(PlanFault::NoCell);
+        return Err(Refusal::NoCell);
     }
     if faults > nodes {
-        return Err(PlanFault::TooManyFaults);
+        return Err(Refusal::TooManyFaults);
     }
     if cells > 4096 {
-        return Err(PlanFault::TooManyTrials);
+        return Err(Refusal::TooManyTrials);
     }
     Ok(())
 }

@@ -6,7 +6,7 @@ ghost use Rattle.std.specs.BTreeMap.{keys as keys_of};
 ghost use Rattle.serde_json.specs.View.{view};
 ghost use Rattle.cut_plan.specs.Fields.{whole_number, elements, is_of, number_or_zero, number_at, numbers_at, text_at, member_at, keys, is_named};
 ghost use Rattle.cut_plan.specs.Accepted.{is_present, is_of_kind};
-ghost use Rattle.cut_plan.specs.Look.{numbers_of};
+ghost use Rattle.cut_plan.specs.Look.{item_numbers};
 
 use crate::Field;
 use crate::field::all_fields;
@@ -78,7 +78,7 @@ pub(crate) fn number_at(value: &Value, field: Field) -> u64
 
 /// The items of a field's array.
 pub(crate) fn items_at(value: &Value, field: Field) -> &[Value]
-    ensures { numbers_of result.now ≡ numbers_at (view value.now) field }
+    ensures { item_numbers result.now ≡ numbers_at (view value.now) field }
 {
     match value.get(field.name()) {
         Some(member) => elements(member),
@@ -87,9 +87,9 @@ pub(crate) fn items_at(value: &Value, field: Field) -> &[Value]
 }
 
 /// The number in a list at a place.
-pub(crate) fn number_of(items: &[Value], i: usize) -> u64
+pub(crate) fn number_in(items: &[Value], i: usize) -> u64
     requires { i < length items.now }
-    ensures { result ≡ slice_index (numbers_of items.now) i }
+    ensures { result ≡ slice_index (item_numbers items.now) i }
 {
     number_or_zero(&items[i])
 }
@@ -98,20 +98,20 @@ pub(crate) fn number_of(items: &[Value], i: usize) -> u64
 pub(crate) fn truth_at(value: &Value, field: Field) -> bool
     ensures { result ≡ unwrap_or (as_bool (member_at (view value.now) field)) false }
 {
-    match value.get(field.name()).and_then(Value::as_bool) {
-        Some(truth) => truth,
-        None => false,
-    }
+    value
+        .get(field.name())
+        .and_then(Value::as_bool)
+        .unwrap_or(false)
 }
 
 /// The text in a field.
 pub(crate) fn text_at(value: &Value, field: Field) -> &str
     ensures { result.now ≡ text_at (view value.now) field }
 {
-    match value.get(field.name()).and_then(Value::as_str) {
-        Some(text) => text,
-        None => "",
-    }
+    value
+        .get(field.name())
+        .and_then(Value::as_str)
+        .unwrap_or("")
 }
 
 /// Whether a text is the name of a field.

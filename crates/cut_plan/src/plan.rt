@@ -1,19 +1,26 @@
-ghost use Rattle.std.specs.Prelude.{◌≡◌, ◌<◌, ◌/◌, ◌↔◌, length, slice_get, Some, IfOk, IfErr, OnOk, IsTrue, Ok, Err};
+ghost use Rattle.std.specs.Prelude.{◌≡◌, ◌<◌, ◌≤◌, ◌/◌, ◌↔◌, length, slice_get, Some, IfOk, IfErr, OnOk, IsErrOf, IsTrue, Ok, false};
+ghost use Rattle.std.specs.Str.{is_utf8};
 ghost use Rattle.serde_json.specs.View.{view};
-ghost use Rattle.cut_plan.specs.Accepted.{checked, counted, values_in};
-ghost use Rattle.cut_plan.specs.Canonical.{canonical_text};
-ghost use Rattle.cut_plan.specs.FaultNumber.{IsMemory};
-ghost use Rattle.cut_plan.specs.Cells.{cells_of, trials_of, IsCellOf};
+ghost use Rattle.cut_plan.specs.Accepted.{IsChecked, limit_check, plan_of, values_in};
+ghost use Rattle.cut_plan.specs.Canonical.{canonical_text, data_of, field_data};
+ghost use Rattle.cut_plan.specs.Refusals.{IsToldOf};
+ghost use Rattle.cut_plan.specs.declared.refusal.PlanFault.TheVariants.{Refused};
+ghost use Rattle.cut_plan.specs.declared.refusal.Refusal.TheVariants.{NotJson, PlanTooLong};
+ghost use Rattle.cut_plan.specs.Cells.{cells_of, trial_count, IsCellOf};
 ghost use Rattle.cut_plan.specs.Plan.{IsPlan};
 
 use crate::check::{dead_at, faults_at, seed_at};
 use crate::combine::combine;
+use crate::field::all_fields;
 use crate::make::{Lists, check_together, read_lists};
 use crate::object::{number_at, truth_at};
-use crate::{Cell, Dead, Faults, Field, PlanFault};
-use serde_json::Value;
+use crate::read::read_text;
+use crate::write::{bytes_value, shorts_value};
+use crate::{Cell, Dead, Faults, Field, PlanFault, Refusal};
+use serde_json::{Map, Value};
 use std::alloc::{AllocError, Global};
 use std::marker::Model;
+use std::str;
 
 /// An accepted plan. Contracts see it as the record of its fourteen named values.
 #[derive(Debug, Drop)]
@@ -31,6 +38,7 @@ pub struct Plan {
     nodes: u16,
     repeats: u32,
     seed: [u8; 32],
+    version: u64,
     cells: Vec<Cell>,
 }
 
@@ -47,13 +55,31 @@ impl Model for Plan {
 }
 
 impl Plan {
+    /// Reads a plan from a JSON text of at most 65,536 bytes. A refusal is the first fault of the text,
+    /// in the order of the checks. A text that is too long, or that is no UTF-8, is refused without
+    /// memory.
+    #[tactic(auto, unfolding(crate::specs::Accepted::plan_of))]
+    pub fn from_json(alloc: Global, text: &[u8]) -> Result<Plan, PlanFault>
+        ensures ok { IfOk result (λ p. plan_of text.now ≡ Ok p) }
+        ensures err { IfErr result (λ e. IsToldOf (plan_of text.now) e) }
+        ensures too_long { 65536 < length text.now → IsErrOf result (Refused PlanTooLong) }
+        ensures no_text { length text.now ≤ 65536 → is_utf8 text.now ≡ false → IsErrOf result (Refused NotJson) }
+    {
+        if text.len() > 65_536 {
+            return Err(PlanFault::Refused(Refusal::PlanTooLong));
+        }
+        match str::from_utf8(text) {
+            Ok(text) => read_text(alloc, text),
+            Err(_) => Err(PlanFault::Refused(Refusal::NotJson)),
+        }
+    }
+
     /// The plan of a JSON object whose fields were checked, once its lists are checked together.
     pub(crate) fn of_checked(alloc: Global, value: &Value) -> Result<Plan, PlanFault>
-        requires { checked (view value.now) ≡ Ok tt }
+        requires { IsChecked (view value.now) }
         ensures ok { IfOk result (λ p. p ≡ values_in (view value.now)) }
-        ensures counted { OnOk result (counted (values_in (view value.now)) ≡ Ok tt) }
-        ensures err { IfErr result (λ e. ¬ IsMemory e
-            → counted (values_in (view value.now)) ≡ Err e) }
+        ensures within { OnOk result (limit_check (values_in (view value.now)) ≡ Ok tt) }
+        ensures err { IfErr result (λ e. IsToldOf (limit_check (values_in (view value.now))) e) }
     {
         let lists = read_lists(alloc, value)?;
         check_together(&lists, value)?;
@@ -79,6 +105,7 @@ impl Plan {
             nodes: number_at(value, Field::Nodes) as u16,
             repeats: number_at(value, Field::Repeats) as u32,
             seed: seed_at(value),
+            version: number_at(value, Field::Version),
             cells,
         })
     }
@@ -192,9 +219,7 @@ impl Plan {
         ensures value { result ≡ self.now.version }
         ensures plan { IsPlan self.now }
     {
-        // Every plan is of this version, as its type keeps; a look at it tells the proof so.
-        let _ = &self.copies;
-        1
+        self.version
     }
 
     /// How many cells the plan has, 1 to 4096.
@@ -217,7 +242,7 @@ impl Plan {
 
     /// How many trials the plan has: cells times repeats, which is below 2^32.
     pub fn trials(&self) -> u32
-        ensures value { result ≡ trials_of self.now }
+        ensures value { result ≡ trial_count self.now }
         ensures plan { IsPlan self.now }
     {
         self.cells.len() as u32 * self.repeats
@@ -225,7 +250,7 @@ impl Plan {
 
     /// The number of the cell that a trial belongs to.
     pub fn cell_of(&self, trial: u32) -> u32
-        requires { trial < trials_of self.now }
+        requires { trial < trial_count self.now }
         ensures value { result ≡ trial / self.now.repeats }
         ensures in_range { result < length (cells_of self.now) }
         ensures plan { IsPlan self.now }
@@ -251,6 +276,7 @@ impl Plan {
             nodes: self.nodes,
             repeats: self.repeats,
             seed: self.seed,
+            version: self.version,
             cells: Vec::from_slice(alloc, self.cells.as_slice())?,
         })
     }
@@ -282,5 +308,49 @@ impl Plan {
             && self.nodes == other.nodes
             && self.repeats == other.repeats
             && self.seed == other.seed
+            && self.version == other.version
+    }
+
+    /// The plan's one text: compact JSON, keys in byte order, the seed in lower-case digits. Two
+    /// plans say the same where their texts are equal. Fails only for want of memory.
+    pub fn canonical(&self, alloc: Global) -> Result<Vec<u8>, AllocError>
+        ensures text { IfOk result (λ t. t.items ≡ canonical_text self.now) }
+    {
+        self.to_value(alloc)?.to_vec(alloc)
+    }
+
+    /// The plan as a JSON object.
+    fn to_value(&self, alloc: Global) -> Result<Value, AllocError>
+        ensures { IfOk result (λ value. view value ≡ data_of self.now) }
+    {
+        let fields = all_fields();
+        let mut members = Map::new(alloc);
+        for field in &fields {
+            let value = self.field_value(alloc, *field)?;
+            serde_json::put(&mut members, alloc, field.name(), value)?;
+        }
+        Ok(Value::Object(members))
+    }
+
+    /// The JSON value of a field.
+    fn field_value(&self, alloc: Global, field: Field) -> Result<Value, AllocError>
+        ensures { IfOk result (λ value. view value ≡ field_data self.now field) }
+    {
+        match field {
+            Field::Copies => Ok(Value::from(self.copies())),
+            Field::Dead => Value::try_from_str(alloc, self.dead().word()),
+            Field::F => shorts_value(alloc, self.f()),
+            Field::Faults => Value::try_from_str(alloc, self.faults().word()),
+            Field::H => bytes_value(alloc, self.h()),
+            Field::Implicit => Ok(Value::from(self.implicit())),
+            Field::K => bytes_value(alloc, self.k()),
+            Field::L => bytes_value(alloc, self.l()),
+            Field::Liars => Ok(Value::from(self.liars())),
+            Field::Links => Ok(Value::from(self.links())),
+            Field::Nodes => Ok(Value::from(self.nodes())),
+            Field::Repeats => Ok(Value::from(self.repeats())),
+            Field::Seed => Ok(Value::from(hex::encode(alloc, &self.seed())?)),
+            Field::Version => Ok(Value::from(self.version())),
+        }
     }
 }

@@ -1,4 +1,4 @@
-use Rattle.cut_plan.proofs.Accepts.{accepted_is_plan}
+use Rattle.cut_plan.proofs.PlansFromTexts.{accepted_is_plan}
 use Rattle.cut_plan.proofs.laws.accepted_texts_give_plans.Goals as goal
 
 pub returns : goal.returns

@@ -3,21 +3,20 @@ use Rattle.serde_json.specs.View.{view}
 use Rattle.cut_plan.specs.declared.field.Field.TheVariants as field
 use Rattle.cut_plan.specs.Cells.{cells_of, largest}
 use Rattle.cut_plan.specs.Fields.{numbers_at}
-use Rattle.cut_plan.specs.Accepted.{counted, values_in}
+use Rattle.cut_plan.specs.Accepted.{limit_check, values_in}
 use Rattle.cut_plan.proofs.PlanFacts.{few_f, few_h, few_k, few_l, few_liars, few_links}
 use Rattle.cut_plan.proofs.make.check_together.Goals as goal
 
-pub count_cells-cells-requires-clause-few_f : goal.count_cells-cells-requires-clause-few_f
-count_cells-cells-requires-clause-few_f c = rw c.requires.f (few_f _ c.requires.checked)
-
-pub count_cells-cells-requires-clause-few_h : goal.count_cells-cells-requires-clause-few_h
-count_cells-cells-requires-clause-few_h c = rw c.requires.h (few_h _ c.requires.checked)
-
-pub count_cells-cells-requires-clause-few_k : goal.count_cells-cells-requires-clause-few_k
-count_cells-cells-requires-clause-few_k c = rw c.requires.k (few_k _ c.requires.checked)
-
-pub count_cells-cells-requires-clause-few_l : goal.count_cells-cells-requires-clause-few_l
-count_cells-cells-requires-clause-few_l c = rw c.requires.l (few_l _ c.requires.checked)
+pub count_cells-cells-requires : goal.count_cells-cells-requires
+count_cells-cells-requires c =
+    let read = c.requires.lists in
+    let passed = c.requires.checked in
+    record {
+      f = rw read.f (few_f _ passed);
+      h = rw read.h (few_h _ passed);
+      k = rw read.k (few_k _ passed);
+      l = rw read.l (few_l _ passed);
+    }
 
 pub overflow_add-faults : goal.overflow_add-faults
 overflow_add-faults c =
@@ -32,9 +31,9 @@ overflow_add-faults-2 c =
     omega (arith, liars, links, c.number_at-liars.ensures, c.number_at-links.ensures)
 
 pub returns : goal.returns
-unfolding counted
+unfolding limit_check
 returns c =
     let d = view c.args.value.now in
-    let cells : c.count_cells-cells.result ≡ length (cells_of (values_in d)) = rw (← c.requires.f, ← c.requires.h, ← c.requires.k, ← c.requires.l) c.count_cells-cells.ensures in
-    let most : c.fold-most_failed.result ≡ largest (numbers_at d field.F) = rw (← c.requires.f) (search rules) in
+    let cells : c.count_cells-cells.result ≡ length (cells_of (values_in d)) = rw (← c.requires.lists.f, ← c.requires.lists.h, ← c.requires.lists.k, ← c.requires.lists.l) c.count_cells-cells.ensures in
+    let most : c.fold-most_failed.result ≡ largest (numbers_at d field.F) = rw (← c.requires.lists.f) (search rules) in
     c.check_limits.ensures ∙ rw (cells, c.from.ensures, most, c.number_at-liars.ensures, c.number_at-links.ensures, c.number_at.ensures) refl

@@ -31,8 +31,6 @@ seed_at-requires c = (checked_facts (view c.args.value.now) c.requires).ranges f
 pub returns-clause-ok : goal.returns-clause-ok
 returns-clause-ok c =
     let d = view c.args.value.now in
-    let plan = plan_facts d c.requires (sym c.in_ok-check_together.ensures) in
-    let version : number_at d field.Version ≡ 1 = plan.version in
     let seed : c.seed_at.result ≡ unwrap_or (result_ok (decode_sized (text_at d field.Seed) 32)) [] = rw c.seed_at.ensures refl in
     rw (
       c.number_at.ensures,
@@ -48,7 +46,7 @@ returns-clause-ok c =
       c.number_at-4.ensures,
       c.number_at-5.ensures,
       seed,
-      version,
+      c.number_at-6.ensures,
     ) refl
 
 pub invariant_of-result : goal.invariant_of-result

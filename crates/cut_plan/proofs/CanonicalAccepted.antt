@@ -3,15 +3,15 @@ use Rattle.std.proofs.Common.{◌≡◌, ℕ, ◌+◌, ◌≤◌, List, [], ◌�
 use Rattle.std.proofs.lemmas.Bool.{and_from, lt-ltb, le-leb}
 use Rattle.std.specs.Bool.{⊤}
 use Rattle.std.specs.List.{find}
-use Rattle.cut_plan.specs.declared.fault.PlanFault.{PlanFault}
-use Rattle.cut_plan.specs.declared.fault.PlanFault.TheVariants.{MissingField, WrongKind, OutOfRange, NotRising}
+use Rattle.cut_plan.specs.declared.refusal.Refusal.{Refusal}
+use Rattle.cut_plan.specs.declared.refusal.Refusal.TheVariants.{MissingField, WrongKind, OutOfRange, NotRising}
 use Rattle.cut_plan.specs.declared.field.Field.{Field}
 use Rattle.cut_plan.specs.declared.field.Field.TheVariants as field
 use Rattle.cut_plan.specs.Values.{Values}
 use Rattle.cut_plan.specs.Cells.{cells_of, largest}
 use Rattle.cut_plan.specs.Plan.{IsPlan, IsScale, all_within}
 use Rattle.cut_plan.specs.Fields.{all_fields}
-use Rattle.cut_plan.specs.Accepted.{is_present, is_of_kind, is_in_range, is_in_scale, has_some, is_within, rises_at, each, checked, counted, plan_in}
+use Rattle.cut_plan.specs.Accepted.{is_present, is_of_kind, is_in_range, is_in_scale, has_some, is_within, rises_at, each, field_check, limit_check, plan_in}
 use Rattle.cut_plan.specs.Canonical.{data_of}
 use Rattle.cut_plan.proofs.Members.{member_of, found_at, whole_back, f_back, h_back, k_back, l_back, number_back, text_back, dead_back, faults_back, seed_back, values_back}
 
@@ -19,7 +19,7 @@ find_nothing : (holds : Field → Bool) (fields : List Field) → ((field : Fiel
 find_nothing holds [] h = refl
 find_nothing holds (field ∷ fields) h = rw (h field) (find_nothing holds fields h)
 
-each_passes : {A : Type 0} (holds : Field → Bool) (fault : Field → PlanFault) (later : Result A PlanFault) → ((field : Field) → holds field ≡ true) → each holds fault later ≡ later
+each_passes : {A : Type 0} (holds : Field → Bool) (fault : Field → Refusal) (later : Result A Refusal) → ((field : Field) → holds field ≡ true) → each holds fault later ≡ later
 each_passes holds fault later h = rw (find_nothing holds all_fields h) refl
 
 present_back : (v : Values) (field : Field) → is_present (data_of v) field ≡ true
@@ -79,10 +79,10 @@ rises_back v plan field.Repeats = rw (found_at v field.Repeats) refl
 rises_back v plan field.Seed = rw (found_at v field.Seed) refl
 rises_back v plan field.Version = rw (found_at v field.Version) refl
 
-abbrev no_fault : Result ⊤ PlanFault
+abbrev no_fault : Result ⊤ Refusal
 no_fault = Ok tt
 
-fields_pass : (v : Values) → IsPlan v → (missing wrong out still : Field → PlanFault)
+fields_pass : (v : Values) → IsPlan v → (missing wrong out still : Field → Refusal)
     → each (is_present (data_of v)) missing (each (is_of_kind (data_of v)) wrong (each (is_in_range (data_of v)) out (each (rises_at (data_of v)) still no_fault))) ≡ no_fault
 fields_pass v plan missing wrong out still =
     each_passes (is_present (data_of v)) missing (each (is_of_kind (data_of v)) wrong (each (is_in_range (data_of v)) out (each (rises_at (data_of v)) still no_fault))) (present_back v)
@@ -90,12 +90,12 @@ fields_pass v plan missing wrong out still =
     ∙ each_passes (is_in_range (data_of v)) out (each (rises_at (data_of v)) still no_fault) (ranges_back v plan)
     ∙ each_passes (rises_at (data_of v)) still no_fault (rises_back v plan)
 
-checked_back : (v : Values) → IsPlan v → checked (data_of v) ≡ Ok tt
-unfolding checked all_fields data_of
+checked_back : (v : Values) → IsPlan v → field_check (data_of v) ≡ Ok tt
+unfolding field_check all_fields data_of
 checked_back v plan = fields_pass v plan MissingField WrongKind OutOfRange NotRising
 
-counted_back : (v : Values) → IsPlan v → counted v ≡ Ok tt
-unfolding counted
+counted_back : (v : Values) → IsPlan v → limit_check v ≡ Ok tt
+unfolding limit_check
 counted_back v plan =
     rw (lt-ltb 0 (length (cells_of v)) plan.some_cell, le-leb (largest v.f + v.liars + v.links) v.nodes plan.faults_fit, le-leb (length (cells_of v)) 4096 plan.few_cells) refl
 

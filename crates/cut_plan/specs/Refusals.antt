@@ -1,0 +1,48 @@
+-- What is told of a text that is no accepted plan.
+use Rattle.std.specs.Prelude.{◌≡◌, ℕ, List, Result, Err, ⊤}
+use Rattle.cut_faults.specs.declared.code.FaultCode.{FaultCode}
+use Rattle.cut_faults.specs.declared.code.FaultCode.TheVariants as code
+use Rattle.cut_faults.specs.Codes.{code_text, text_carrying}
+use Rattle.cut_plan.specs.declared.refusal.Refusal.{Refusal}
+use Rattle.cut_plan.specs.declared.refusal.Refusal.TheVariants.{NotJson, NotObject, UnknownField, MissingField, WrongKind, OutOfRange, NotRising, NoCell, TooManyFaults, TooManyTrials, PlanTooLong}
+use Rattle.cut_plan.specs.declared.refusal.PlanFault.{PlanFault}
+use Rattle.cut_plan.specs.declared.refusal.PlanFault.TheVariants.{Memory, Refused}
+use Rattle.cut_plan.specs.Fields.{name_of}
+
+-- a refusal in the program's list of faults
+abbrev pub code_of_refusal : Refusal → FaultCode
+code_of_refusal NotJson = code.NotJson
+code_of_refusal NotObject = code.NotObject
+code_of_refusal UnknownField = code.UnknownField
+code_of_refusal (MissingField field) = code.MissingField
+code_of_refusal (WrongKind field) = code.WrongKind
+code_of_refusal (OutOfRange field) = code.OutOfRange
+code_of_refusal (NotRising field) = code.NotRising
+code_of_refusal NoCell = code.NoCell
+code_of_refusal TooManyFaults = code.TooManyFaults
+code_of_refusal TooManyTrials = code.TooManyTrials
+code_of_refusal PlanTooLong = code.PlanTooLong
+
+-- a refusal as it is printed: number, name, and the field that it carries
+abbrev pub refusal_text : Refusal → List ℕ
+refusal_text (MissingField field) = text_carrying code.MissingField (name_of field)
+refusal_text (WrongKind field) = text_carrying code.WrongKind (name_of field)
+refusal_text (OutOfRange field) = text_carrying code.OutOfRange (name_of field)
+refusal_text (NotRising field) = text_carrying code.NotRising (name_of field)
+refusal_text refusal = code_text (code_of_refusal refusal)
+
+-- a fault in the program's list
+abbrev pub code_of : PlanFault → FaultCode
+code_of Memory = code.Memory
+code_of (Refused refusal) = code_of_refusal refusal
+
+-- a fault as it is printed
+abbrev pub fault_text : PlanFault → List ℕ
+fault_text Memory = code_text code.Memory
+fault_text (Refused refusal) = refusal_text refusal
+
+-- what a fault says of the text's plan: a refusal is exactly the one that is given for it, and want of
+-- memory says nothing
+abbrev pub IsToldOf : {A : Type 0} → Result A Refusal → PlanFault → Type 0
+IsToldOf given Memory = ⊤
+IsToldOf given (Refused refusal) = given ≡ Err refusal

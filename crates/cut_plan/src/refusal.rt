@@ -1,0 +1,140 @@
+ghost use Rattle.std.specs.Prelude.{◌≡◌};
+ghost use Rattle.cut_plan.specs.Refusals.{code_of_refusal, code_of};
+
+use crate::Field;
+use cut_faults::FaultCode;
+use std::alloc::{AllocError, AllocFailed};
+use std::fmt;
+use thiserror::Error;
+
+/// What is wrong with a text that is no accepted plan. A refusal that carries a field carries the first
+/// such field in byte order of its name. Printed, it is its number, its name and the field.
+#[derive(Clone, Copy, Debug, PartialEq, Eq)]
+pub enum Refusal {
+    /// The text is no JSON that the reader accepts.
+    NotJson,
+    /// The JSON value is no object.
+    NotObject,
+    /// The object has a field that no plan has.
+    UnknownField,
+    /// The object lacks this field.
+    MissingField(Field),
+    /// This field's value is of another kind than the field's.
+    WrongKind(Field),
+    /// This field's value is out of its range, or an empty list.
+    OutOfRange(Field),
+    /// This field's list does not rise strictly.
+    NotRising(Field),
+    /// No combination of the lists has `l <= h <= k`.
+    NoCell,
+    /// The largest f, the liars and the links are together more than the processes.
+    TooManyFaults,
+    /// There are more than 4096 cells.
+    TooManyTrials,
+    /// The text has more than 65,536 bytes.
+    PlanTooLong,
+}
+
+impl Refusal {
+    /// The refusal in the program's list of faults.
+    pub fn code(self) -> FaultCode
+        ensures { result ≡ code_of_refusal self }
+    {
+        match self {
+            Refusal::NotJson => FaultCode::NotJson,
+            Refusal::NotObject => FaultCode::NotObject,
+            Refusal::UnknownField => FaultCode::UnknownField,
+            Refusal::MissingField(_) => FaultCode::MissingField,
+            Refusal::WrongKind(_) => FaultCode::WrongKind,
+            Refusal::OutOfRange(_) => FaultCode::OutOfRange,
+            Refusal::NotRising(_) => FaultCode::NotRising,
+            Refusal::NoCell => FaultCode::NoCell,
+            Refusal::TooManyFaults => FaultCode::TooManyFaults,
+            Refusal::TooManyTrials => FaultCode::TooManyTrials,
+            Refusal::PlanTooLong => FaultCode::PlanTooLong,
+        }
+    }
+}
+
+impl fmt::Display for Refusal {
+    ghost use Rattle.std.specs.Prelude.{Some};
+    ghost use Rattle.cut_plan.specs.Refusals.{refusal_text};
+
+    ghost output = { λ refusal. Some (refusal_text refusal) };
+
+    fn fmt<W: fmt::Write>(&self, f: &mut fmt::Formatter<W>) -> fmt::Result {
+        let code = self.code();
+        match self {
+            Refusal::MissingField(field)
+            | Refusal::WrongKind(field)
+            | Refusal::OutOfRange(field)
+            | Refusal::NotRising(field) => write!(f, "{code} {field}"),
+            _ => write!(f, "{code}"),
+        }
+    }
+}
+
+/// Why no plan was made. Printed, it is its number, its name and what it carries.
+#[derive(Debug, Drop, Error)]
+pub enum PlanFault {
+    /// A growth of memory was refused.
+    Memory,
+    /// The text is no accepted plan.
+    Refused(Refusal),
+}
+
+impl PlanFault {
+    /// The fault in the program's list of faults.
+    pub fn code(&self) -> FaultCode
+        ensures { result ≡ code_of self.now }
+    {
+        match self {
+            PlanFault::Memory => FaultCode::Memory,
+            PlanFault::Refused(refusal) => refusal.code(),
+        }
+    }
+}
+
+impl fmt::Display for PlanFault {
+    ghost use Rattle.std.specs.Prelude.{Some};
+    ghost use Rattle.cut_plan.specs.Refusals.{fault_text};
+
+    ghost output = { λ fault. Some (fault_text fault) };
+
+    fn fmt<W: fmt::Write>(&self, f: &mut fmt::Formatter<W>) -> fmt::Result {
+        match self {
+            PlanFault::Memory => write!(f, "{}", FaultCode::Memory),
+            PlanFault::Refused(refusal) => write!(f, "{refusal}"),
+        }
+    }
+}
+
+impl From<Refusal> for PlanFault {
+    ghost use Rattle.cut_plan.specs.declared.refusal.PlanFault.TheVariants.{Refused};
+
+    ghost from_gives = { λ refusal e. e ≡ Refused refusal };
+
+    fn from(refusal: Refusal) -> PlanFault {
+        PlanFault::Refused(refusal)
+    }
+}
+
+impl From<AllocError> for PlanFault {
+    ghost use Rattle.cut_plan.specs.declared.refusal.PlanFault.TheVariants.{Memory};
+
+    ghost from_gives = { λ _ e. e ≡ Memory };
+
+    fn from(_refused: AllocError) -> PlanFault {
+        PlanFault::Memory
+    }
+}
+
+impl<T: Drop> From<AllocFailed<T>> for PlanFault {
+    ghost use Rattle.cut_plan.specs.declared.refusal.PlanFault.TheVariants.{Memory};
+
+    ghost from_gives = { λ _ e. e ≡ Memory };
+
+    fn from(_refused: AllocFailed<T>) -> PlanFault {
+        PlanFault::Memory
+    }
+}
