@@ -1,6 +1,4 @@
-pub mod Neighbours
-pub mod Ranks
-pub mod Keyed
 pub mod Orders
-pub mod Sound
 pub mod Results
+pub mod Neighbours
+pub mod Sound

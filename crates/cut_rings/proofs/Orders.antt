@@ -1,51 +1,19 @@
 -- What is known of an order of the first n processes, and when a table of places is its inverse.
-use Rattle.std.proofs.Common.{◌≡◌, ℕ, zero, suc, ◌⊎◌, inl, inr, ◌∷◌, ◌+◌, ◌<◌, ◌≢◌, true, false, List, [], length, get_or, map, set, get_or-set_other, get_or-set_same, below_more, zero-add, ap, sym, ◌∙◌, arith}
-use Rattle.std.specs.List.{All, Contains, IsDistinct, count_by, remove, range_with_len}
-use Rattle.std.specs.List.Sorted.{IsPermutation}
-use Rattle.std.proofs.lemmas.List.Elements.{All-head, All-tail}
+use Rattle.std.proofs.Common.{◌≡◌, ℕ, suc, ◌∷◌, ◌+◌, ◌<◌, ◌≢◌, ◌==◌, ◌&&◌, Bool, refl, true, false, List, [], length, get_or, map, set, get_or-set_other, get_or-set_same, Vec, Global, subst, below_more, ap, sym, ◌∙◌, arith}
+use Rattle.std.specs.Prelude.{◌↔◌}
+use Rattle.std.specs.List.{Any, list_all, list_any, All, Contains, count_by, range_with_len}
+use Rattle.std.proofs.lemmas.List.Elements.{All-weaker}
 use Rattle.std.specs.declared.cmp.Ordering.{Ordering}
 use Rattle.std.specs.Ordering.{is_lt}
-use Rattle.std.specs.Cmp.{nat_eq_equiv}
-use Rattle.std.specs.Prelude.{nat_eq}
-use Rattle.std.proofs.lemmas.Bool.{eq-eqb, ne_eqb}
+use Rattle.std.proofs.lemmas.Bool.{both_ways, eq-eqb, eqb-true, and_parts, and_from}
+use Rattle.std.proofs.lemmas.List.Sums.{AllPass-from_list_all, list_all-from_AllPass}
+use Rattle.std.proofs.lemmas.List.Folds.{Any-from_list_any, list_any_at}
 use Rattle.std.proofs.lemmas.List.{get_or_default}
 use Rattle.std.proofs.lemmas.List.FromFn.{length-range_with_len, get_or-range_with_len, fill_by_all}
-use Rattle.std.proofs.lemmas.List.Sorted.{IsPermutation-refl, IsPermutation-remove, IsPermutation-trans, IsPermutation-cons, IsPermutation-sym, length_permutation, All-permutation, Contains-permutation}
-use Rattle.std.proofs.lemmas.Map.Keys.{IsDistinct-from_apart, apart_from_distinct, IsDistinct-IsPermutation}
-use Rattle.cut_rings.specs.Ranked.{IsOrder, IsRanked}
+use Rattle.cut_lists.specs.Ranked.{IsOrder, IsRanked}
+use Rattle.cut_lists.proofs.Orders.{length-order, order_is_below, order_differs, order_has, Differ, moved}
+use Rattle.cut_rings.specs.Listed.{is_order}
 use Rattle.cut_rings.specs.Inverse.{IsInverse}
-
-pub length-order : (n : ℕ) (order : List ℕ) → IsOrder n order → length order ≡ n
-length-order n order is = length_permutation (range_with_len 0 n) order is ∙ length-range_with_len 0 n
-
-range_is_below : (n : ℕ) → All (λ p. p < n) (range_with_len 0 n)
-range_is_below n k d within =
-    let long : length (range_with_len 0 n) ≡ n = length-range_with_len 0 n in
-    let at : get_or (range_with_len 0 n) k d ≡ 0 + k = get_or-range_with_len 0 n k d (omega arith) in
-    omega arith
-
-pub order_is_below : (n : ℕ) (order : List ℕ) → IsOrder n order → (i d : ℕ) → i < length order → get_or order i d < n
-order_is_below n order is i d within = All-permutation (λ p. p < n) (range_with_len 0 n) order is (range_is_below n) i d within
-
-range_is_distinct : (n : ℕ) → IsDistinct nat_eq (range_with_len 0 n)
-range_is_distinct n = IsDistinct-from_apart nat_eq (range_with_len 0 n) (λ i j d before within.
-    let long : length (range_with_len 0 n) ≡ n = length-range_with_len 0 n in
-    let low : get_or (range_with_len 0 n) i d ≡ 0 + i = get_or-range_with_len 0 n i d (omega arith) in
-    let high : get_or (range_with_len 0 n) j d ≡ 0 + j = get_or-range_with_len 0 n j d (omega arith) in
-    ne_eqb _ _ (λ e. omega arith))
-
-pub order_differs : (n : ℕ) (order : List ℕ) → IsOrder n order → (i j : ℕ) → i < j → j < length order → get_or order i 0 ≢ get_or order j 0
-order_differs n order is i j before within e =
-    let distinct : IsDistinct nat_eq order = IsDistinct-IsPermutation nat_eq nat_eq_equiv.symm (range_with_len 0 n) order is (range_is_distinct n) in
-    let no : nat_eq (get_or order i 0) (get_or order j 0) ≡ false = apart_from_distinct nat_eq order i j 0 distinct before within in
-    let yes : nat_eq (get_or order i 0) (get_or order j 0) ≡ true = eq-eqb _ _ e in
-    cc
-
--- each process stands somewhere
-pub order_has : (n : ℕ) (order : List ℕ) → IsOrder n order → (p : ℕ) → p < n → Contains order p
-order_has n order is p below =
-    let long : length (range_with_len 0 n) ≡ n = length-range_with_len 0 n in
-    Contains-permutation (range_with_len 0 n) order p is (p, omega arith, get_or-range_with_len 0 n p p below ∙ zero-add p)
 
 -- where a process stands, by a table in which each place is right
 place_of : (n : ℕ) (order positions : List ℕ) → IsOrder n order → ((i : ℕ) → i < n → get_or positions (get_or order i 0) 0 ≡ i) → (p : ℕ) → p < n → (get_or positions p 0 < n) × (get_or order (get_or positions p 0) 0 ≡ p)
@@ -91,45 +59,63 @@ ranked_positions compare n order positions ranked inverse =
     let place : get_or positions p 0 < n = inverse.position p below in
     sym (ap rank (sym (inverse.found p below)) ∙ ranked.ranks (get_or positions p 0) (omega arith)))
 
--- no number stands at two places
-abbrev pub Differ : List ℕ → Type 0
-Differ xs = (i j : ℕ) → i < j → j < length xs → get_or xs i 0 ≢ get_or xs j 0
+range_differs : (n : ℕ) → Differ (range_with_len 0 n)
+range_differs n i j before within same =
+    let long : length (range_with_len 0 n) ≡ n = length-range_with_len 0 n in
+    let low : get_or (range_with_len 0 n) i 0 ≡ 0 + i = get_or-range_with_len 0 n i 0 (omega arith) in
+    let high : get_or (range_with_len 0 n) j 0 ≡ 0 + j = get_or-range_with_len 0 n j 0 (omega arith) in
+    omega arith
 
-in_front : (x y : ℕ) (rest : List ℕ) (m : ℕ) → m < length (x ∷ rest) → get_or (x ∷ rest) m y ≡ y → (x ≡ y) ⊎ Contains rest y
-in_front x y rest zero within at = inl at
-in_front x y rest (suc m) within at = inr (m, omega arith, at)
-
-behind : (x y : ℕ) (rest : List ℕ) → x ≢ y → Contains (x ∷ rest) y → Contains rest y
-behind x y rest other has = by (in_front x y rest has.0 has.1 has.2)
+-- a list that is no longer than n, and lacks none of the first n processes, is an order of them
+pub order_tested : (n : ℕ) (list : List ℕ) → (is_order n list ≡ true) ↔ IsOrder n list
+order_tested n list = (to, from)
   where
-    by : (x ≡ y) ⊎ Contains rest y → Contains rest y
-    by (inl same) = absurd (other same)
-    by (inr has) = has
+    has : ℕ → Bool
+    has p = list_any (λ q. q == p) list
 
--- numbers that differ, all of them in a list that is no longer, are that list in another order
-pub moved : (xs ys : List ℕ) → Differ xs → length xs ≡ length ys → All (Contains ys) xs → IsPermutation xs ys
-moved [] [] differ long all = IsPermutation-refl []
-moved [] (y ∷ ys) differ long all = absurd (omega arith)
-moved (x ∷ xs) ys differ long all =
-    let has : Contains ys x = All-head (Contains ys) x xs all in
-    let rest : List ℕ = remove ys has.0 in
-    let apart : IsPermutation ys (x ∷ rest) = IsPermutation-remove ys has.0 x has.1 (sym has.2) in
-    let longer : length (x ∷ rest) ≡ length ys = length_permutation ys (x ∷ rest) apart in
-    let others : All (Contains rest) xs = λ k d within.
-    behind x (get_or xs k d) rest
-    (λ same. differ 0 (suc k) (omega arith) (omega arith) (same ∙ get_or_default xs k d 0 within))
-    (Contains-permutation ys (x ∷ rest) (get_or xs k d) apart (All-tail (Contains ys) x xs all k d within))
-    in
-    let later : Differ xs = λ i j before within. differ (suc i) (suc j) (omega arith) (omega arith) in
-    let front : IsPermutation xs rest = moved xs rest later (omega arith) others in
-    IsPermutation-trans (x ∷ xs) (x ∷ rest) ys (IsPermutation-cons x xs rest front) (IsPermutation-sym ys (x ∷ rest) apart)
+    to : is_order n list ≡ true → IsOrder n list
+    to passes =
+        let parts = and_parts (length list == n) (list_all has (range_with_len 0 n)) passes in
+        let long : length (range_with_len 0 n) ≡ n = length-range_with_len 0 n in
+        let same : length list ≡ n = eqb-true (length list) n parts.0 in
+        moved (range_with_len 0 n) list (range_differs n) (omega arith) (λ k d within.
+        let p : ℕ = get_or (range_with_len 0 n) k d in
+        let found = Any-from_list_any (λ q. q == p) list (AllPass-from_list_all has (range_with_len 0 n) parts.1 k d within) in
+        let is_p : found.1 ≡ p = eqb-true found.1 p found.4 in
+        (found.0, found.2, get_or_default list found.0 p found.1 found.2 ∙ found.3 ∙ is_p))
 
--- n different processes below n are an order of them
-pub order_from : (n : ℕ) (list : List ℕ) → length list ≡ n → ((i : ℕ) → i < n → get_or list i 0 < n) → Differ list → IsOrder n list
-order_from n list long below differ =
-    let many : length (range_with_len 0 n) ≡ n = length-range_with_len 0 n in
-    IsPermutation-sym list (range_with_len 0 n) (moved list (range_with_len 0 n) differ (omega arith) (λ k d within.
-    let same : get_or list k d ≡ get_or list k 0 = get_or_default list k d 0 within in
-    let low : get_or list k 0 < n = below k (omega arith) in
-    let p : ℕ = get_or list k d in
-    (p, omega arith, get_or-range_with_len 0 n p p (omega arith) ∙ zero-add p)))
+    from : IsOrder n list → is_order n list ≡ true
+    from is =
+        let long : length (range_with_len 0 n) ≡ n = length-range_with_len 0 n in
+        and_from (length list == n) (list_all has (range_with_len 0 n)) (eq-eqb (length list) n (length-order n list is))
+        (list_all-from_AllPass has (range_with_len 0 n) (λ k d within.
+        let p : ℕ = get_or (range_with_len 0 n) k d in
+        let at : p ≡ 0 + k = get_or-range_with_len 0 n k d (omega arith) in
+        let found : Contains list p = order_has n list is p (omega arith) in
+        list_any_at (λ q. q == p) list found.0 p found.1 (eq-eqb (get_or list found.0 p) p found.2)))
+
+-- where not all pass, some fails
+some_fails : {X : Type 0} (p : X → Bool) (xs : List X) → list_all p xs ≡ false → Any (λ x. p x ≡ false) xs
+some_fails p [] none = cc
+some_fails {X} p (x ∷ xs) none = by (some_fails p xs) (p x) refl
+  where
+    by : (list_all p xs ≡ false → Any (λ x. p x ≡ false) xs) → (b : Bool) → p x ≡ b → Any (λ x. p x ≡ false) (x ∷ xs)
+    by rest false fails = (0, x, omega arith, refl, fails)
+    by rest true passes =
+        let later = rest (sym (ap (λ b. b && list_all p xs) passes) ∙ none) in
+        (suc later.0, later.1, omega (arith, later.2), later.3, later.4)
+
+-- whether lists are orders, told by the test of each
+pub all_orders : (n : ℕ) (lists : List (Vec ℕ Global)) → list_all (λ list. is_order n list.items) lists ≡ true → All (λ list. IsOrder n list.items) lists
+all_orders n lists pass =
+    All-weaker (λ list. is_order n list.items ≡ true) (λ list. IsOrder n list.items) (λ list passes. (order_tested n list.items).0 passes) lists
+    (AllPass-from_list_all (λ list. is_order n list.items) lists pass)
+
+pub some_not_order : (n : ℕ) (lists : List (Vec ℕ Global)) → list_all (λ list. is_order n list.items) lists ≡ false → Any (λ list. ¬ IsOrder n list.items) lists
+some_not_order n lists fail =
+    let bad = some_fails (λ list. is_order n list.items) lists fail in
+    (bad.0, bad.1, bad.2, bad.3, λ is. both_ways (is_order n bad.1.items) bad.4 ((order_tested n bad.1.items).1 is))
+
+-- not both
+pub denied : {X : Type 0} (P : X → Type 0) (xs : List X) → All P xs → Any (λ x. ¬ P x) xs → ⊥
+denied P xs all some = some.4 (subst P some.3 (all some.0 some.1 some.2))

@@ -7,13 +7,13 @@ use Rattle.cut_rings.specs.declared.edge.Edge.{Edge}
 abbrev pub EdgeSet : Type 0
 EdgeSet = ℕ → ℕ → Bool
 
--- whether an edge is that of ring k and subject s
+-- whether an edge is that of a ring and a subject
 abbrev pub is_edge : ℕ → ℕ → Edge → Bool
-is_edge k s e = (e.ring == k) && (e.subject == s)
+is_edge ring s e = (e.ring == ring) && (e.subject == s)
 
 -- the set of the edges that a list holds
 abbrev pub set_of : List Edge → EdgeSet
-set_of edges k s = list_any (λ e. is_edge k s e) edges
+set_of edges ring s = list_any (λ e. is_edge ring s e) edges
 
 -- the set of the first n entries of a list of edges
 abbrev pub first_of : List Edge → ℕ → EdgeSet
@@ -24,9 +24,9 @@ abbrev pub edge_number : ℕ → Edge → ℕ
 edge_number k e = e.subject * k + e.ring
 
 -- whether an edge is one of the first k rings and of n processes
-abbrev pub is_within : ℕ → ℕ → Edge → Bool
-is_within k n e = nat_lt e.ring k && nat_lt e.subject n
+abbrev pub is_edge_of : ℕ → ℕ → Edge → Bool
+is_edge_of k n e = nat_lt e.ring k && nat_lt e.subject n
 
 -- whether all edges of a list are
-abbrev pub are_within : ℕ → ℕ → List Edge → Bool
-are_within k n edges = list_all (λ e. is_within k n e) edges
+abbrev pub are_edges_of : ℕ → ℕ → List Edge → Bool
+are_edges_of k n edges = list_all (λ e. is_edge_of k n e) edges

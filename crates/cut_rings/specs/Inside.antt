@@ -11,4 +11,4 @@ layout_of r = record { nodes = r.nodes; positions = map (λ ring. ring.positions
 
 pub record IsSound (r : Inside) : Type 0 where
   pub layout : IsLayout (layout_of r)
-  pub inverse : (k : ℕ) (d : Ring) → k < length r.rings.items → IsInverse r.nodes (slice_index_or r.rings.items k d).order.items (slice_index_or r.rings.items k d).positions.items
+  pub inverse : (ring : ℕ) (d : Ring) → ring < length r.rings.items → IsInverse r.nodes (slice_index_or r.rings.items ring d).order.items (slice_index_or r.rings.items ring d).positions.items

@@ -1,33 +1,44 @@
 ghost use Rattle.std.specs.Prelude.{◌≡◌};
-ghost use Rattle.cut_rings.specs.FaultNumber.{number_of};
+ghost use Rattle.cut_rings.specs.Faults.{code_of};
 
-use std::alloc::{AllocError, AllocFailed};
+use cut_faults::FaultCode;
+use std::alloc::AllocError;
+use std::fmt;
 use thiserror::Error;
 
 /// Why lists are no rings. Printed, it is its number and its name.
 #[derive(Debug, Drop, Error)]
 pub enum RingsFault {
     /// A growth of memory was refused.
-    #[error("0 Memory")]
     Memory,
     /// A list does not hold each process once.
-    #[error("11 NotPermutation")]
     NotPermutation,
     /// There are fewer than 2 processes, or there is no list.
-    #[error("12 TooFew")]
     TooFew,
 }
 
 impl RingsFault {
-    /// The fault's number in the program's list of faults.
-    pub fn number(&self) -> u16
-        ensures { result ≡ number_of self.now }
+    /// The fault in the program's list of faults.
+    pub fn code(&self) -> FaultCode
+        ensures { result ≡ code_of self.now }
     {
         match self {
-            RingsFault::Memory => 0,
-            RingsFault::NotPermutation => 11,
-            RingsFault::TooFew => 12,
+            RingsFault::Memory => FaultCode::Memory,
+            RingsFault::NotPermutation => FaultCode::NotPermutation,
+            RingsFault::TooFew => FaultCode::TooFew,
         }
+    }
+}
+
+impl fmt::Display for RingsFault {
+    ghost use Rattle.std.specs.Prelude.{Some};
+    ghost use Rattle.cut_faults.specs.Codes.{code_text};
+    ghost use Rattle.cut_rings.specs.Faults.{code_of};
+
+    ghost output = { λ fault. Some (code_text (code_of fault)) };
+
+    fn fmt<W: fmt::Write>(&self, f: &mut fmt::Formatter<W>) -> fmt::Result {
+        write!(f, "{}", self.code())
     }
 }
 
@@ -37,16 +48,6 @@ impl From<AllocError> for RingsFault {
     ghost from_gives = { λ _ e. e ≡ Memory };
 
     fn from(_refused: AllocError) -> RingsFault {
-        RingsFault::Memory
-    }
-}
-
-impl<T: Drop> From<AllocFailed<T>> for RingsFault {
-    ghost use Rattle.cut_rings.specs.declared.fault.RingsFault.TheVariants.{Memory};
-
-    ghost from_gives = { λ _ e. e ≡ Memory };
-
-    fn from(_refused: AllocFailed<T>) -> RingsFault {
         RingsFault::Memory
     }
 }

@@ -3,7 +3,7 @@ ghost use Rattle.std.specs.List.{range_with_len};
 ghost use Rattle.cut_plan.specs.Cells.{largest};
 ghost use Rattle.cut_plan.specs.Plan.{IsPlan};
 ghost use Rattle.cut_rings.specs.Hashed.{compare_hashed, digest_of, hashed_position};
-ghost use Rattle.cut_rings.specs.Ranked.{IsRanked};
+ghost use Rattle.cut_lists.specs.Ranked.{IsRanked};
 ghost use Rattle.cut_rings.specs.Inverse.{IsInverse};
 
 use crate::ring::Ring;

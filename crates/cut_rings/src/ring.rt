@@ -1,5 +1,5 @@
 ghost use Rattle.std.specs.Prelude.{◌≡◌, ◌≤◌, IfOk};
-ghost use Rattle.cut_rings.specs.Ranked.{IsOrder};
+ghost use Rattle.cut_lists.specs.Ranked.{IsOrder};
 ghost use Rattle.cut_rings.specs.Inverse.{IsInverse};
 
 use std::alloc::{AllocError, Global};

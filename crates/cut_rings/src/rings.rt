@@ -2,12 +2,12 @@ ghost use Rattle.std.specs.Prelude.{◌≡◌, ◌<◌, ◌≤◌, ◌⊎◌, �
 ghost use Rattle.cut_plan.specs.Cells.{largest};
 ghost use Rattle.cut_rings.specs.Layout.{IsLayout, Observes, observer_of, subject_of};
 ghost use Rattle.cut_rings.specs.Listed.{listed_layout};
-ghost use Rattle.cut_rings.specs.Ranked.{IsOrder};
+ghost use Rattle.cut_lists.specs.Ranked.{IsOrder};
 ghost use Rattle.cut_rings.specs.Hashed.{hashed_layout};
 
 use crate::RingsFault;
 use crate::hashed::{hashed_ring, ring_count};
-use crate::listed::listed_ring;
+use crate::listed::{are_orders, listed_rings};
 use crate::ring::Ring;
 use cut_plan::Plan;
 use std::alloc::{AllocError, Global};
@@ -53,23 +53,23 @@ impl Rings {
 
     /// The rings that lists of the processes 0 to n - 1 are: the position of a process on a ring is its
     /// index in that ring's list (this project's profile). Too few processes or lists are told before a
-    /// list that does not hold each process once.
+    /// list that does not hold each process once, and both before memory is asked for.
     pub fn from_lists(alloc: Global, n: u16, lists: &[Vec<u16>]) -> Result<Rings, RingsFault>
         requires few_nodes { n ≤ 2048 }
         requires few_lists { length lists.now ≤ 32 }
         ensures layout { IfOk result (λ r. r ≡ listed_layout n (map (λ list. list.items) lists.now)) }
         ensures each_once { OnOk result (All (λ list. IsOrder n list.items) lists.now) }
         ensures too_few { IsErrOf result RingsFault.TooFew ↔ ((n < 2) ⊎ (lists.now ≡ [])) }
-        ensures not_permutation { IsErrOf result RingsFault.NotPermutation →
-            (2 ≤ n) × (0 < length lists.now) × Any (λ list. ¬ IsOrder n list.items) lists.now }
+        ensures not_permutation { IsErrOf result RingsFault.NotPermutation ↔
+            ((2 ≤ n) × (0 < length lists.now) × Any (λ list. ¬ IsOrder n list.items) lists.now) }
     {
         if n < 2 || lists.is_empty() {
             return Err(RingsFault::TooFew);
         }
-        let mut rings = Vec::with_capacity(alloc, lists.len())?;
-        for list in lists {
-            rings.push(listed_ring(alloc, n, list.as_slice())?)?;
+        if !are_orders(n, lists) {
+            return Err(RingsFault::NotPermutation);
         }
+        let rings = listed_rings(alloc, n, lists)?;
         Ok(Rings { nodes: n, rings })
     }
 

@@ -8,13 +8,17 @@ use std::test::Fail;
 
 // Plans with each of the seeds below, by which a separate script placed the processes.
 const FIVE: &str =
-    "{\"copies\":1,\"dead\":\"silent\",\"f\":[1],\"faults\":\"crash\",\"h\":[1],\"implicit\":true,\"k\":[2,3],\"l\":[1],\"liars\":0,\"links\":0,\"nodes\":5,\"repeats\":2,\"seed\":\"0000000000000000000000000000000000000000000000000000000000000000\",\"version\":1}";
+    r#"{"copies":1,"dead":"silent","f":[1],"faults":"crash","h":[1],"implicit":true,"k":[2,3],"l":[1],"liars":0,"links":0,"nodes":5,"repeats":2,"seed":"0000000000000000000000000000000000000000000000000000000000000000","version":1}"#;
 
 const SEVEN: &str =
-    "{\"copies\":1,\"dead\":\"silent\",\"f\":[1],\"faults\":\"crash\",\"h\":[1],\"implicit\":true,\"k\":[4],\"l\":[1],\"liars\":0,\"links\":0,\"nodes\":7,\"repeats\":2,\"seed\":\"0123456789abcdef0123456789abcdef0123456789abcdef0123456789abcdef\",\"version\":1}";
+    r#"{"copies":1,"dead":"silent","f":[1],"faults":"crash","h":[1],"implicit":true,"k":[4],"l":[1],"liars":0,"links":0,"nodes":7,"repeats":2,"seed":"0123456789abcdef0123456789abcdef0123456789abcdef0123456789abcdef","version":1}"#;
 
 const TWO: &str =
-    "{\"copies\":1,\"dead\":\"silent\",\"f\":[1],\"faults\":\"crash\",\"h\":[1],\"implicit\":true,\"k\":[2],\"l\":[1],\"liars\":0,\"links\":0,\"nodes\":2,\"repeats\":1,\"seed\":\"ffffffffffffffffffffffffffffffffffffffffffffffffffffffffffffffff\",\"version\":1}";
+    r#"{"copies":1,"dead":"silent","f":[1],"faults":"crash","h":[1],"implicit":true,"k":[2],"l":[1],"liars":0,"links":0,"nodes":2,"repeats":1,"seed":"ffffffffffffffffffffffffffffffffffffffffffffffffffffffffffffffff","version":1}"#;
+
+// Many processes on many rings.
+const MANY: &str =
+    r#"{"copies":1,"dead":"silent","f":[1],"faults":"crash","h":[1],"implicit":true,"k":[31],"l":[1],"liars":0,"links":0,"nodes":1999,"repeats":1,"seed":"0000000000000000000000000000000000000000000000000000000000000000","version":1}"#;
 
 // Whether a ring holds these processes in this order: each is observed by the one before it.
 fn runs(rings: &Rings, ring: u8, order: &[u16]) -> bool {
@@ -37,26 +41,50 @@ fn runs(rings: &Rings, ring: u8, order: &[u16]) -> bool {
 
 #[test]
 fn hashed_rings_are_those_of_the_plan(rt: HostRuntime) -> Result<(), Fail> {
-    let plan = Plan::from_json(rt.alloc(), FIVE.as_bytes())?;
-    let rings = Rings::hashed(rt.alloc(), &plan)?;
-    assert_eq!(rt; rings.len(), 3);
-    assert!(rt; runs(&rings, 0, &[1, 3, 0, 4, 2]));
-    assert!(rt; runs(&rings, 1, &[3, 1, 0, 2, 4]));
-    assert!(rt; runs(&rings, 2, &[0, 1, 2, 4, 3]));
+    let rows: [(&str, &[&[u16]]); 3] = [
+        (
+            FIVE,
+            &[&[1, 3, 0, 4, 2], &[3, 1, 0, 2, 4], &[0, 1, 2, 4, 3]],
+        ),
+        (
+            SEVEN,
+            &[
+                &[1, 2, 3, 5, 0, 4, 6],
+                &[4, 0, 6, 5, 2, 3, 1],
+                &[5, 4, 2, 3, 6, 1, 0],
+                &[4, 2, 1, 3, 6, 5, 0],
+            ],
+        ),
+        (TWO, &[&[1, 0], &[1, 0]]),
+    ];
+    for (text, orders) in rows {
+        let plan = Plan::from_json(rt.alloc(), text.as_bytes())?;
+        let rings = Rings::hashed(rt.alloc(), &plan)?;
+        assert_eq!(rt; usize::from(rings.len()), orders.len(), "of {text}");
+        for (ring, order) in orders.iter().enumerate() {
+            assert!(rt;
+                ring < 32 && runs(&rings, ring as u8, order),
+                "ring {ring} of {text}"
+            );
+        }
+    }
+    Ok(())
+}
 
-    let plan = Plan::from_json(rt.alloc(), SEVEN.as_bytes())?;
+#[test]
+fn many_processes_on_many_rings(rt: HostRuntime) -> Result<(), Fail> {
+    let plan = Plan::from_json(rt.alloc(), MANY.as_bytes())?;
     let rings = Rings::hashed(rt.alloc(), &plan)?;
-    assert_eq!(rt; rings.len(), 4);
-    assert!(rt; runs(&rings, 0, &[1, 2, 3, 5, 0, 4, 6]));
-    assert!(rt; runs(&rings, 1, &[4, 0, 6, 5, 2, 3, 1]));
-    assert!(rt; runs(&rings, 2, &[5, 4, 2, 3, 6, 1, 0]));
-    assert!(rt; runs(&rings, 3, &[4, 2, 1, 3, 6, 5, 0]));
-
-    let plan = Plan::from_json(rt.alloc(), TWO.as_bytes())?;
-    let rings = Rings::hashed(rt.alloc(), &plan)?;
-    assert_eq!(rt; rings.len(), 2);
-    assert!(rt; runs(&rings, 0, &[1, 0]));
-    assert!(rt; runs(&rings, 1, &[1, 0]));
+    assert_eq!(rt; (rings.len(), rings.nodes()), (31, 1999));
+    let order: Vec<u16> = (0..1999).rev().collect(rt.alloc())?;
+    let mut lists: Vec<Vec<u16>> = Vec::new(rt.alloc());
+    for _ in 0..31 {
+        lists.push(Vec::from_slice(rt.alloc(), order.as_slice())?)?;
+    }
+    assert!(rt; lists.len() <= 32);
+    let rings = Rings::from_lists(rt.alloc(), 1999, lists.as_slice())?;
+    assert_eq!(rt; (rings.len(), rings.nodes()), (31, 1999));
+    assert!(rt; runs(&rings, 30, order.as_slice()));
     Ok(())
 }
 
@@ -96,68 +124,43 @@ fn listed_rings_are_the_lists(rt: HostRuntime) -> Result<(), Fail> {
     Ok(())
 }
 
-// The number of the edge of a ring and a subject.
-fn number_of(ring: u8, subject: u16, k: u8) -> u16
-    requires ring { ring < k }
-    requires rings { k ≤ 32 }
-    requires subject { subject < 2048 }
-{
-    let edge = Edge { ring, subject };
-    edge.number(k)
-}
-
 #[test]
 fn edges_are_numbered_by_subject_and_ring(rt: HostRuntime) {
-    assert_eq!(rt; number_of(0, 0, 1), 0);
-    assert_eq!(rt; number_of(2, 0, 3), 2);
-    assert_eq!(rt; number_of(0, 1, 3), 3);
-    assert_eq!(rt; number_of(1, 4, 10), 41);
-    assert_eq!(rt; number_of(31, 2047, 32), 65_535);
-}
-
-// The fault of one list, printed.
-fn told(alloc: Global, nodes: u16, list: Vec<u16>) -> Result<String, AllocError>
-    requires { nodes ≤ 2048 }
-{
-    let lists = vec![in alloc; list]?;
-    match Rings::from_lists(alloc, nodes, lists.as_slice()) {
-        Ok(_) => format!(in alloc; "none"),
-        Err(fault) => format!(in alloc; "{} {fault}", fault.number()),
+    let rows = [
+        (0, 0, 1, 0),
+        (2, 0, 3, 2),
+        (0, 1, 3, 3),
+        (1, 4, 10, 41),
+        (31, 2047, 32, 65_535),
+    ];
+    for (ring, subject, k, number) in rows {
+        let edge = Edge { ring, subject };
+        assert!(rt; ring < k && k <= 32 && subject < 2048);
+        assert_eq!(rt; edge.number(k), number, "of {ring} {subject} {k}");
     }
 }
 
 #[test]
 fn lists_that_are_no_rings_are_told(rt: HostRuntime) -> Result<(), Fail> {
     let alloc = rt.alloc();
-    assert_eq!(rt;
-        told(alloc, 1, vec![in alloc; 0]?)?.as_str(),
-        "12 12 TooFew"
-    );
-    assert_eq!(rt;
-        told(alloc, 1, vec![in alloc; 1, 1]?)?.as_str(),
-        "12 12 TooFew"
-    );
-    assert_eq!(rt;
-        told(alloc, 4, vec![in alloc; 0, 0, 2, 3]?)?.as_str(),
-        "11 11 NotPermutation"
-    );
-    assert_eq!(rt;
-        told(alloc, 4, vec![in alloc; 0, 1, 2]?)?.as_str(),
-        "11 11 NotPermutation"
-    );
-    assert_eq!(rt;
-        told(alloc, 4, vec![in alloc; 0, 1, 2, 4]?)?.as_str(),
-        "11 11 NotPermutation"
-    );
-    assert_eq!(rt;
-        told(alloc, 4, vec![in alloc; 3, 0, 2, 1]?)?.as_str(),
-        "none"
-    );
+    let rows: [(u16, &[u16], &str); 6] = [
+        (1, &[0], "12 TooFew"),
+        (1, &[1, 1], "12 TooFew"),
+        (4, &[0, 0, 2, 3], "11 NotPermutation"),
+        (4, &[0, 1, 2], "11 NotPermutation"),
+        (4, &[0, 1, 2, 4], "11 NotPermutation"),
+        (4, &[0, 1, 2, 3, 0], "11 NotPermutation"),
+    ];
+    for (nodes, list, text) in rows {
+        let whole = vec![in alloc; 0, 1, 2, 3]?;
+        let lists = vec![in alloc; whole, Vec::from_slice(alloc, list)?]?;
+        assert!(rt; nodes <= 2048 && lists.len() <= 32);
+        match Rings::from_lists(alloc, nodes, lists.as_slice()) {
+            Ok(_) => Err("rings were made")?,
+            Err(fault) => assert_eq!(rt; fault.to_string(alloc)?.as_str(), text, "of {list:?}"),
+        }
+    }
     let none = Rings::from_lists(alloc, 4, &[]);
     assert!(rt; matches!(none, Err(RingsFault::TooFew)));
-    assert_eq!(rt;
-        format!(in alloc; "{}", RingsFault::Memory)?.as_str(),
-        "0 Memory"
-    );
     Ok(())
 }

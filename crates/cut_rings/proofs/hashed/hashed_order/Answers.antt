@@ -3,8 +3,8 @@ use Rattle.std.specs.Ordering.{nat_cmp}
 use Rattle.std.proofs.Common.{map, List, ℕ, ap, sym, subst, ◌∙◌}
 use Rattle.cut_rings.specs.Hashed.{compare_hashed, digest_of}
 use Rattle.std.proofs.lemmas.Result.{IfOk-weaker}
-use Rattle.cut_rings.specs.Ranked.{IsRanked}
-use Rattle.cut_rings.proofs.Keyed.{ranked, compare_by}
+use Rattle.cut_lists.specs.Ranked.{IsRanked}
+use Rattle.cut_lists.proofs.Keyed.{ranked, compare_by}
 use Rattle.cut_rings.proofs.hashed.hashed_order.Goals as goal
 
 pub returns : goal.returns

@@ -1,6 +1,6 @@
 use Rattle.std.proofs.Common.{List, ℕ, sym, subst}
 use Rattle.cut_rings.specs.Hashed.{compare_hashed}
-use Rattle.cut_rings.specs.Ranked.{IsRanked}
+use Rattle.cut_lists.specs.Ranked.{IsRanked}
 use Rattle.cut_rings.proofs.Orders.{ranked_positions}
 use Rattle.cut_rings.proofs.Results.{IfOk-both}
 use Rattle.cut_rings.proofs.hashed.hashed_ring.Goals as goal

@@ -1,6 +1,7 @@
 use Rattle.std.proofs.Common.{◌≡◌, ◌<◌, length, get_or, arith, ◌∙◌}
 use Rattle.std.proofs.lemmas.List.{length-set}
-use Rattle.cut_rings.proofs.Orders.{order_is_below, length-order, placed_more, is_inverse}
+use Rattle.cut_lists.proofs.Orders.{order_is_below, length-order}
+use Rattle.cut_rings.proofs.Orders.{placed_more, is_inverse}
 use Rattle.cut_rings.proofs.ring.places.Goals as goal
 
 pub overflow_cast-place : goal.overflow_cast-place
