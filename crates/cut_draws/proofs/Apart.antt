@@ -16,13 +16,9 @@ use Rattle.cut_rings.specs.declared.edge.Edge.{Edge}
 use Rattle.cut_rings.specs.Edges.{edge_number}
 use Rattle.cut_draws.specs.declared.delivery.Delivery.{Delivery}
 use Rattle.cut_draws.specs.declared.keyed.Keyed.{Keyed}
-use Rattle.cut_draws.specs.Deliveries.{are_distinct, copies_of, all_deliveries}
+use Rattle.cut_draws.specs.Keyed.{compare_keyed}
+use Rattle.cut_draws.specs.DeliveryOrder.{are_distinct, copies_of, all_deliveries}
 use Rattle.cut_draws.proofs.Copies.{all_of_copies}
-
--- how two deliveries with their keys compare, as tuples do
-abbrev pub compare_keyed : Keyed → Keyed → Ordering
-compare_keyed a b =
-    ordering_then (ordering_then (nat_cmp a.key b.key) (nat_cmp a.number b.number)) (nat_cmp a.delivery.copy b.delivery.copy)
 
 pub compare_keyed_total : IsTotalOrder compare_keyed
 compare_keyed_total =

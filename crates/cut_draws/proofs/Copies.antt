@@ -1,24 +1,18 @@
 -- Every copy of every edge, and what is known of each.
-use Rattle.std.proofs.Common.{◌≡◌, ℕ, zero, suc, ◌+◌, ◌*◌, List, [], ◌∷◌, ◌++◌, length, ap, sym, ◌∙◌, arith, append-nil}
+use Rattle.std.proofs.Common.{◌≡◌, ℕ, zero, suc, ◌+◌, ◌*◌, List, [], ◌∷◌, ◌++◌, length, ap, ◌∙◌, arith, append-nil}
 use Rattle.std.specs.List.{All, flat_map, range_with_len}
-use Rattle.std.proofs.lemmas.List.{length-map, length-append, map-id}
+use Rattle.std.proofs.lemmas.List.{length-map, length-append}
 use Rattle.std.proofs.lemmas.List.Elements.{All-head, All-tail, All-nil, All-append, All-map}
-use Rattle.std.proofs.lemmas.List.FromFn.{map-range_with_len_more}
 use Rattle.std.proofs.lemmas.List.Concat.{flat_map-append}
+use Rattle.cut_lists.proofs.Ranges.{range_with_len_more}
 use Rattle.cut_rings.specs.declared.edge.Edge.{Edge}
 use Rattle.cut_draws.specs.declared.delivery.Delivery.{Delivery}
-use Rattle.cut_draws.specs.Deliveries.{copies_of, all_deliveries}
-
-range_with_len_more : (n : ℕ) → range_with_len 0 (n + 1) ≡ range_with_len 0 n ++ n ∷ []
-range_with_len_more n =
-    sym (map-id (range_with_len 0 (n + 1)))
-    ∙ map-range_with_len_more (λ x. x) 0 n n (omega arith)
-    ∙ ap (λ xs. xs ++ n ∷ []) (map-id (range_with_len 0 n))
+use Rattle.cut_draws.specs.DeliveryOrder.{copies_of, all_deliveries}
 
 -- one more copy of each edge
 pub one_more_copy : (edges : List Edge) (c : ℕ) → all_deliveries edges (c + 1) ≡ all_deliveries edges c ++ copies_of edges c
 one_more_copy edges c =
-    ap (flat_map (λ i. copies_of edges i)) (range_with_len_more c)
+    ap (flat_map (λ i. copies_of edges i)) (range_with_len_more 0 c c (omega arith))
     ∙ flat_map-append (λ i. copies_of edges i) (range_with_len 0 c) (c ∷ [])
     ∙ ap (λ xs. all_deliveries edges c ++ xs) (append-nil (copies_of edges c))
 

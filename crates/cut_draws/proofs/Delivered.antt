@@ -10,16 +10,17 @@ use Rattle.std.proofs.lemmas.List.Elements.{All-map}
 use Rattle.std.proofs.lemmas.List.Sums.{AllPass-from_list_all, list_all-from_AllPass}
 use Rattle.std.proofs.lemmas.List.Sorted.{IsPermutation-map, All-permutation, length_permutation, list_any-IsPermutation}
 use Rattle.cut_rings.specs.declared.edge.Edge.{Edge}
-use Rattle.cut_rings.specs.Edges.{EdgeSet, is_edge, edge_number, first_of, is_within, are_within}
-use Rattle.cut_rings.proofs.Ranks.{rank_is_index}
-use Rattle.cut_rings.proofs.Keyed.{count_by-map, map-map}
+use Rattle.cut_rings.specs.Edges.{EdgeSet, is_edge, edge_number, first_of, is_edge_of, are_edges_of}
+use Rattle.cut_lists.proofs.Ranks.{rank_is_index}
+use Rattle.cut_lists.proofs.Maps.{count_by-map, map-map, list_any-map}
 use Rattle.cut_draws.specs.declared.delivery.Delivery.{Delivery}
 use Rattle.cut_draws.specs.declared.keyed.Keyed.{Keyed}
 use Rattle.cut_draws.specs.Source.{Source, key_at}
-use Rattle.cut_draws.specs.Deliveries.{are_distinct, all_deliveries, delivery_place, IsOrderOf}
+use Rattle.cut_draws.specs.Keyed.{compare_keyed}
+use Rattle.cut_draws.specs.DeliveryOrder.{are_distinct, all_deliveries, delivery_place, IsDeliveryOrder}
 use Rattle.cut_draws.proofs.Copies.{all_of_copies, count_of_copies}
-use Rattle.cut_draws.proofs.Apart.{compare_keyed, compare_keyed_total, keyed_by, keyed_distinct}
-use Rattle.cut_draws.proofs.Prefixes.{any_before, list_any-map}
+use Rattle.cut_draws.proofs.Apart.{compare_keyed_total, keyed_by, keyed_distinct}
+use Rattle.cut_draws.proofs.Prefixes.{any_before}
 
 -- how two deliveries compare, by what their keys are
 abbrev pub compare_by : (Delivery → ℕ) → ℕ → Delivery → Delivery → Ordering
@@ -89,17 +90,17 @@ count : (key : Delivery → ℕ) (k : ℕ) (edges : List Edge) (copies : ℕ) (o
 count key k edges copies order is =
     length_permutation (all_deliveries edges copies) order is.each_once ∙ count_of_copies edges 0 copies
 
-still_within : (key : Delivery → ℕ) (k : ℕ) (edges : List Edge) (copies : ℕ) (order : List Delivery) → IsDelivered key k edges copies order → (n : ℕ) → are_within k n edges ≡ true → are_within k n (map (λ x. x.edge) order) ≡ true
+still_within : (key : Delivery → ℕ) (k : ℕ) (edges : List Edge) (copies : ℕ) (order : List Delivery) → IsDelivered key k edges copies order → (n : ℕ) → are_edges_of k n edges ≡ true → are_edges_of k n (map (λ x. x.edge) order) ≡ true
 still_within key k edges copies order is n within =
-    let P : Delivery → Type 0 = λ x. is_within k n x.edge ≡ true in
+    let P : Delivery → Type 0 = λ x. is_edge_of k n x.edge ≡ true in
     let all : All P (all_deliveries edges copies) =
-    all_of_copies P edges (range_with_len 0 copies) (λ _ _ _. AllPass-from_list_all (λ e. is_within k n e) edges within)
+    all_of_copies P edges (range_with_len 0 copies) (λ _ _ _. AllPass-from_list_all (λ e. is_edge_of k n e) edges within)
     in
-    list_all-from_AllPass (λ e. is_within k n e) (map (λ x. x.edge) order)
-    (All-map (λ e. is_within k n e ≡ true) (λ x. x.edge) order (All-permutation P (all_deliveries edges copies) order is.each_once all))
+    list_all-from_AllPass (λ e. is_edge_of k n e) (map (λ x. x.edge) order)
+    (All-map (λ e. is_edge_of k n e ≡ true) (λ x. x.edge) order (All-permutation P (all_deliveries edges copies) order is.each_once all))
 
 -- so the list is in the order in which the deliveries come
-pub ordered : (d : Source) (receiver k : ℕ) (edges : List Edge) (copies : ℕ) (order : List Delivery) → IsDelivered (λ x. key_at d (delivery_place receiver k x)) k edges copies order → IsOrderOf d receiver k edges copies order
+pub ordered : (d : Source) (receiver k : ℕ) (edges : List Edge) (copies : ℕ) (order : List Delivery) → IsDelivered (λ x. key_at d (delivery_place receiver k x)) k edges copies order → IsDeliveryOrder d receiver k edges copies order
 ordered d receiver k edges copies order is =
     let key : Delivery → ℕ = λ x. key_at d (delivery_place receiver k x) in
     record {

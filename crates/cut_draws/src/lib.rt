@@ -6,13 +6,15 @@
 #![tactic(auto)]
 
 mod delivery;
+mod delivery_order;
 mod draws;
 mod keyed;
-mod order;
+mod process_order;
 
 pub use delivery::Delivery;
+pub use delivery_order::DeliveryOrder;
 pub use draws::Draws;
-pub use order::DeliveryOrder;
+pub use process_order::ProcessOrder;
 
 #[cfg(test)]
 mod tests;

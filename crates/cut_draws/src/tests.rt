@@ -1,5 +1,7 @@
-use crate::{Delivery, DeliveryOrder, Draws};
+use crate::keyed::{Keyed, sort};
+use crate::{Delivery, DeliveryOrder, Draws, ProcessOrder};
 use cut_rings::Edge;
+use std::alloc::{AllocError, Global};
 use std::test::Fail;
 
 const ZEROS: [u8; 32] = [0; 32];
@@ -13,116 +15,116 @@ const STEPS: [u8; 32] = [
 
 // The expected values below come from a separate script that computes the cipher's blocks itself.
 
-// Whether the draws have these keys at these places.
-fn has_keys(draws: &mut Draws, expected: &[(u64, u64)]) -> bool {
-    for (place, key) in expected {
-        if *place >= 4_294_967_296 || draws.key(*place) != *key {
-            return false;
-        }
-    }
-    true
-}
-
 #[test]
 fn keys_at_places(rt: HostRuntime) {
-    let mut draws = Draws::new(ZEROS, 0);
-    assert!(rt;
-        has_keys(
-            &mut draws,
-            &[
-                (0, 3_453_979_709_098_975_113),
-                (1, 15_438_444_568_545_614_719),
-                (2, 16_769_253_816_244_963_615),
-                (14, 13_329_945_953_658_866_702),
-                (15, 4_827_309_105_091_358_418),
-                (16, 1_007_309_685_008_737_770),
-                (62, 4_043_282_951_218_100_578),
-                (63, 125_952_777_600_890_856),
-                (1048576, 13_662_141_138_316_179_140),
-                (1074790398, 2_253_449_605_149_535_667)
-            ]
-        )
-    );
-    let mut draws = Draws::new(ZEROS, 4095999999);
-    assert!(rt;
-        has_keys(
-            &mut draws,
-            &[
-                (0, 1_479_641_028_294_521_055),
-                (1, 18_345_044_604_836_445_862),
-                (2, 3_745_023_081_836_197_883),
-                (14, 393_792_736_822_130_757),
-                (15, 7_019_273_735_943_467_975),
-                (16, 17_015_641_487_063_061_933),
-                (62, 2_940_390_934_694_524_772),
-                (63, 16_951_258_059_634_961_883),
-                (1048576, 13_978_065_396_296_651_861),
-                (1074790398, 6_661_752_569_563_899_352)
-            ]
-        )
-    );
-    let mut draws = Draws::new(STEPS, 4095999999);
-    assert!(rt;
-        has_keys(
-            &mut draws,
-            &[
-                (0, 4_574_686_602_887_010_799),
-                (1, 4_886_856_323_805_080_082),
-                (2, 5_820_315_458_369_784_225),
-                (14, 11_004_506_661_193_140_445),
-                (15, 348_546_137_091_375_197),
-                (16, 8_154_471_212_882_438_253),
-                (62, 5_385_512_404_805_969_313),
-                (63, 11_379_300_628_393_560_317),
-                (1048576, 10_660_880_656_883_333_660),
-                (1074790398, 16_733_286_135_994_578_800)
-            ]
-        )
-    );
-    let mut draws = Draws::new(ONES, 0);
-    assert!(rt;
-        has_keys(
-            &mut draws,
-            &[
-                (0, 5_269_670_306_348_695_117),
-                (1, 4_996_319_707_844_849_960),
-                (2, 8_818_102_119_953_885_077),
-                (14, 7_285_056_342_026_814_943),
-                (15, 3_113_964_123_913_662_095),
-                (16, 5_273_484_884_439_072_568),
-                (62, 10_601_445_878_158_210_088),
-                (63, 8_729_722_275_992_009_321),
-                (1048576, 12_604_058_925_985_099_883),
-                (1074790398, 2_809_400_355_360_571_979)
-            ]
-        )
-    );
+    let places = [0, 1, 2, 14, 15, 16, 62, 63, 1048576, 1074790398];
+    let rows = [
+        (
+            ZEROS,
+            0,
+            [
+                3_453_979_709_098_975_113,
+                15_438_444_568_545_614_719,
+                16_769_253_816_244_963_615,
+                13_329_945_953_658_866_702,
+                4_827_309_105_091_358_418,
+                1_007_309_685_008_737_770,
+                4_043_282_951_218_100_578,
+                125_952_777_600_890_856,
+                13_662_141_138_316_179_140,
+                2_253_449_605_149_535_667,
+            ],
+        ),
+        (
+            ZEROS,
+            4095999999,
+            [
+                1_479_641_028_294_521_055,
+                18_345_044_604_836_445_862,
+                3_745_023_081_836_197_883,
+                393_792_736_822_130_757,
+                7_019_273_735_943_467_975,
+                17_015_641_487_063_061_933,
+                2_940_390_934_694_524_772,
+                16_951_258_059_634_961_883,
+                13_978_065_396_296_651_861,
+                6_661_752_569_563_899_352,
+            ],
+        ),
+        (
+            STEPS,
+            4095999999,
+            [
+                4_574_686_602_887_010_799,
+                4_886_856_323_805_080_082,
+                5_820_315_458_369_784_225,
+                11_004_506_661_193_140_445,
+                348_546_137_091_375_197,
+                8_154_471_212_882_438_253,
+                5_385_512_404_805_969_313,
+                11_379_300_628_393_560_317,
+                10_660_880_656_883_333_660,
+                16_733_286_135_994_578_800,
+            ],
+        ),
+        (
+            ONES,
+            0,
+            [
+                5_269_670_306_348_695_117,
+                4_996_319_707_844_849_960,
+                8_818_102_119_953_885_077,
+                7_285_056_342_026_814_943,
+                3_113_964_123_913_662_095,
+                5_273_484_884_439_072_568,
+                10_601_445_878_158_210_088,
+                8_729_722_275_992_009_321,
+                12_604_058_925_985_099_883,
+                2_809_400_355_360_571_979,
+            ],
+        ),
+    ];
+    for (seed, trial, keys) in rows {
+        let mut draws = Draws::new(seed, trial);
+        for (place, key) in places.into_iter().zip(keys) {
+            assert!(rt; place < 4_294_967_296);
+            assert_eq!(rt; draws.key(place), key, "at {place} of {trial}");
+        }
+    }
 }
 
 #[test]
 fn process_orders(rt: HostRuntime) -> Result<(), Fail> {
     let alloc = rt.alloc();
-    let order = Draws::new(ZEROS, 0).process_order(alloc, 5)?;
-    assert_eq!(rt; order.as_slice(), [0, 4, 3, 2, 1].as_slice());
-    let order = Draws::new(ZEROS, 4095999999).process_order(alloc, 5)?;
-    assert_eq!(rt; order.as_slice(), [2, 0, 3, 1, 4].as_slice());
-    let order = Draws::new(STEPS, 4095999999).process_order(alloc, 7)?;
-    assert_eq!(rt; order.as_slice(), [0, 1, 3, 6, 4, 5, 2].as_slice());
-    let order = Draws::new(ONES, 0).process_order(alloc, 2)?;
-    assert_eq!(rt; order.as_slice(), [0, 1].as_slice());
-    let order = Draws::new(ZEROS, 0).process_order(alloc, 1)?;
-    assert_eq!(rt; order.as_slice(), [0].as_slice());
-    let order = Draws::new(ZEROS, 0).process_order(alloc, 0)?;
-    assert!(rt; order.is_empty());
+    let rows: [([u8; 32], u32, u16, &[u16]); 6] = [
+        (ZEROS, 0, 5, &[0, 4, 3, 2, 1]),
+        (ZEROS, 4095999999, 5, &[2, 0, 3, 1, 4]),
+        (STEPS, 4095999999, 7, &[0, 1, 3, 6, 4, 5, 2]),
+        (ONES, 0, 2, &[0, 1]),
+        (ZEROS, 0, 1, &[0]),
+        (ZEROS, 0, 0, &[]),
+    ];
+    let mut order = ProcessOrder::new(alloc);
+    for (seed, trial, n, expected) in rows {
+        let mut draws = Draws::new(seed, trial);
+        let made = draws.process_order(alloc, n)?;
+        assert_eq!(rt; made.as_slice(), expected, "of {n} in {trial}");
+        draws.order_processes(&mut order, n)?;
+        assert_eq!(rt; order.len(), expected.len(), "of {n} in {trial}");
+        for (i, process) in expected.iter().enumerate() {
+            assert!(rt; i < order.len());
+            assert_eq!(rt; order.get(i), *process, "at {i} of {n} in {trial}");
+        }
+    }
     Ok(())
 }
 
-// Whether deliveries are of these edges, each a ring and a subject, in this order.
-fn are_of(deliveries: &[Delivery], expected: &[(u8, u16)]) -> bool {
-    deliveries.len() == expected.len()
-        && deliveries.iter().zip(expected).all(|(delivery, (ring, subject))| delivery.edge.ring
-            == *ring
-            && delivery.edge.subject == *subject)
+// The edges of these rings and subjects.
+fn edges_of(alloc: Global, pairs: &[(u8, u16)]) -> Result<Vec<Edge>, AllocError> {
+    pairs
+        .iter()
+        .map(|&(ring, subject)| Edge { ring, subject })
+        .collect(alloc)
 }
 
 #[test]
@@ -155,17 +157,10 @@ fn deliveries_of_the_first_trial(rt: HostRuntime) -> Result<(), Fail> {
             subject: 3,
         },
     ];
-    let order = draws.deliveries(alloc, 4, 3, &edges, 1)?;
-    assert!(rt;
-        are_of(
-            order.as_slice(),
-            &[(0, 0), (1, 0), (2, 3), (0, 2), (2, 0), (1, 3)]
-        )
-    );
-    let order = draws.deliveries(alloc, 4, 3, &edges, 2)?;
-    assert!(rt;
-        are_of(
-            order.as_slice(),
+    let rows: [(u8, &[(u8, u16)]); 2] = [
+        (1, &[(0, 0), (1, 0), (2, 3), (0, 2), (2, 0), (1, 3)]),
+        (
+            2,
             &[
                 (0, 0),
                 (1, 0),
@@ -178,10 +173,23 @@ fn deliveries_of_the_first_trial(rt: HostRuntime) -> Result<(), Fail> {
                 (1, 3),
                 (1, 3),
                 (0, 2),
-                (0, 0)
-            ]
-        )
-    );
+                (0, 0),
+            ],
+        ),
+    ];
+    for (copies, expected) in rows {
+        assert!(rt; copies <= 4);
+        let order = draws.deliveries(alloc, 4, 3, &edges, copies)?;
+        let came = order
+            .iter()
+            .map(|delivery| delivery.edge)
+            .collect::<Vec<Edge>>(alloc)?;
+        assert_eq!(rt;
+            came.as_slice(),
+            edges_of(alloc, expected)?.as_slice(),
+            "with {copies} copies"
+        );
+    }
     Ok(())
 }
 
@@ -223,10 +231,9 @@ fn deliveries_of_a_late_trial(rt: HostRuntime) -> Result<(), Fail> {
             subject: 5,
         },
     ];
-    let order = draws.deliveries(alloc, 6, 4, &edges, 1)?;
-    assert!(rt;
-        are_of(
-            order.as_slice(),
+    let rows: [(u8, &[(u8, u16)]); 2] = [
+        (
+            1,
             &[
                 (0, 2),
                 (2, 0),
@@ -235,14 +242,11 @@ fn deliveries_of_a_late_trial(rt: HostRuntime) -> Result<(), Fail> {
                 (3, 3),
                 (0, 5),
                 (0, 0),
-                (3, 0)
-            ]
-        )
-    );
-    let order = draws.deliveries(alloc, 6, 4, &edges, 2)?;
-    assert!(rt;
-        are_of(
-            order.as_slice(),
+                (3, 0),
+            ],
+        ),
+        (
+            2,
             &[
                 (0, 2),
                 (0, 0),
@@ -259,10 +263,23 @@ fn deliveries_of_a_late_trial(rt: HostRuntime) -> Result<(), Fail> {
                 (0, 0),
                 (2, 0),
                 (3, 0),
-                (0, 2)
-            ]
-        )
-    );
+                (0, 2),
+            ],
+        ),
+    ];
+    for (copies, expected) in rows {
+        assert!(rt; copies <= 4);
+        let order = draws.deliveries(alloc, 6, 4, &edges, copies)?;
+        let came = order
+            .iter()
+            .map(|delivery| delivery.edge)
+            .collect::<Vec<Edge>>(alloc)?;
+        assert_eq!(rt;
+            came.as_slice(),
+            edges_of(alloc, expected)?.as_slice(),
+            "with {copies} copies"
+        );
+    }
     Ok(())
 }
 
@@ -297,5 +314,49 @@ fn an_order_is_filled_again(rt: HostRuntime) -> Result<(), Fail> {
     assert_eq!(rt; order.get(0), Delivery { edge, copy: 0 });
     draws.order_deliveries(&mut order, 1, 1, &[], 4)?;
     assert_eq!(rt; order.len(), 0);
+    Ok(())
+}
+
+// Deliveries with drawn keys, of which only the bits of a mask are kept.
+fn drawn(alloc: Global, count: u16, mask: u64) -> Result<Vec<Keyed>, AllocError> {
+    let mut draws = Draws::new(STEPS, 1);
+    let mut keyed = Vec::new(alloc);
+    for i in 0..count {
+        let edge = Edge {
+            ring: 0,
+            subject: i,
+        };
+        keyed.push(Keyed {
+            key: draws.key(2 * u64::from(i)) & mask,
+            number: (u64::from(i) * 7919 % 65_536) as u16,
+            delivery: Delivery {
+                edge,
+                copy: (i % 4) as u8,
+            },
+        })?;
+    }
+    Ok(keyed)
+}
+
+// Keys that tie in their high 48 bits are sorted exactly, and so are those that don't.
+#[test]
+fn packed_and_exact_sorts_agree(rt: HostRuntime) -> Result<(), Fail> {
+    let alloc = rt.alloc();
+    let mut packed = Vec::new(alloc);
+    let mut gathered = Vec::new(alloc);
+    for mask in [u64::MAX, 0xffff_ffff_ffff_0000, 0xf_ffff, 65_535, 3, 0] {
+        for count in [0, 1, 2, 100, 1999] {
+            let mut keyed = drawn(alloc, count, mask)?;
+            let mut exact = drawn(alloc, count, mask)?;
+            sort(&mut keyed, &mut packed, &mut gathered)?;
+            exact.sort_unstable_by_key(|x| (x.key, x.number, x.delivery.copy));
+            assert_eq!(rt; keyed.len(), exact.len(), "of {count} under {mask}");
+            let agree = keyed
+                .iter()
+                .zip(exact.iter())
+                .all(|(a, b)| a.delivery == b.delivery);
+            assert!(rt; agree, "of {count} under {mask}");
+        }
+    }
     Ok(())
 }

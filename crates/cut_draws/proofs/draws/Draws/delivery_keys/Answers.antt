@@ -1,17 +1,17 @@
 use Rattle.std.proofs.Common.{◌∙◌, ◌++◌, map, ap, sym}
 use Rattle.std.proofs.lemmas.List.{map-append}
-use Rattle.cut_draws.specs.Deliveries.{all_deliveries, copies_of}
+use Rattle.cut_draws.specs.DeliveryOrder.{all_deliveries, copies_of}
 use Rattle.cut_draws.specs.Keyed.{keyed_of}
 use Rattle.cut_draws.proofs.Copies.{one_more_copy}
 use Rattle.cut_draws.proofs.draws.Draws.delivery_keys.Goals as goal
 
 pub loop-copy-preserved : goal.loop-copy-preserved
 loop-copy-preserved c =
-    let edges = c.args.edges.now in
+    let edges = c.args.arrivals.edges.now in
     let copy = c.loop-copy.copy in
     let self = c.args.self.now in
-    let receiver = c.args.receiver in
-    let k = c.args.k in
+    let receiver = c.args.arrivals.receiver in
+    let k = c.args.arrivals.k in
     record {
       same = c.copy_keys.ensures.same ∙ c.loop-copy.invariant.same;
       keys =

@@ -2,7 +2,7 @@ use Rattle.std.proofs.Common.{◌≡◌, ◌∙◌, ◌++◌, ◌∷◌, [], ◌
 use Rattle.std.specs.List.{range_with_len}
 use Rattle.std.proofs.lemmas.List.FromFn.{map-range_with_len_more}
 use Rattle.cut_draws.specs.Source.{key_at}
-use Rattle.cut_draws.specs.Order.{process_place}
+use Rattle.cut_draws.specs.ProcessOrder.{process_place}
 use Rattle.cut_draws.proofs.draws.Draws.process_keys.Goals as goal
 
 keys_more : (f : ℕ → ℕ) (n key : ℕ) (before after : List (ℕ × ℕ)) → after ≡ before ++ (key, n) ∷ [] → key ≡ f n → before ≡ map (λ p. (f p, p)) (range_with_len 0 n) → after ≡ map (λ p. (f p, p)) (range_with_len 0 (n + 1))

@@ -1,7 +1,7 @@
 use Rattle.std.proofs.Common.{◌≡◌, map}
 use Rattle.std.specs.List.{range_with_len}
 use Rattle.cut_draws.specs.Source.{key_at}
-use Rattle.cut_draws.specs.Order.{process_place}
+use Rattle.cut_draws.specs.ProcessOrder.{process_place}
 use Rattle.cut_draws.proofs.draws.Draws.process_keys.Given as goal
 
 abbrev pub invariant-loop-process : goal.invariant-loop-process

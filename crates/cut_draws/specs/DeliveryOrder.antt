@@ -6,7 +6,7 @@ use Rattle.std.specs.List.{range_with_len, flat_map, list_any}
 use Rattle.std.specs.declared.cmp.Ordering.{Ordering}
 use Rattle.std.specs.Ordering.{nat_cmp, ordering_then, is_lt}
 use Rattle.cut_rings.specs.declared.edge.Edge.{Edge}
-use Rattle.cut_rings.specs.Edges.{EdgeSet, is_edge, edge_number, first_of, are_within}
+use Rattle.cut_rings.specs.Edges.{EdgeSet, is_edge, edge_number, first_of, are_edges_of}
 use Rattle.cut_draws.specs.declared.delivery.Delivery.{Delivery}
 use Rattle.cut_draws.specs.Source.{Source, key_at}
 
@@ -47,7 +47,7 @@ early d receiver k edges copies n ring subject =
     (all_deliveries edges copies)
 
 -- a list of all deliveries at a receiver, in the order in which they come
-pub record IsOrderOf (d : Source) (receiver k : ℕ) (edges : List Edge) (copies : ℕ) (order : List Delivery) : Type 0 where
+pub record IsDeliveryOrder (d : Source) (receiver k : ℕ) (edges : List Edge) (copies : ℕ) (order : List Delivery) : Type 0 where
   -- it holds each delivery once
   pub each_once : IsPermutation (all_deliveries edges copies) order
   -- each stands at the number of those that come before it
@@ -57,4 +57,4 @@ pub record IsOrderOf (d : Source) (receiver k : ℕ) (edges : List Edge) (copies
   -- there are as many as copies of all edges
   pub count : length order ≡ copies * length edges
   -- its edges are of the first k rings and of n processes where all given edges are
-  pub still_within : (n : ℕ) → IsTrue (are_within k n edges) → IsTrue (are_within k n (map (λ x. x.edge) order))
+  pub still_within : (n : ℕ) → IsTrue (are_edges_of k n edges) → IsTrue (are_edges_of k n (map (λ x. x.edge) order))
