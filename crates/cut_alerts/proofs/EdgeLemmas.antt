@@ -1,19 +1,19 @@
 -- Lists of edges that ascend by number, and how the list of alerted edges grows.
-use Rattle.std.proofs.Common.{add-one, ◌≡◌, ℕ, zero, suc, ◌+◌, ◌*◌, ◌<◌, ◌≤◌, Bool, true, false, cond, List, [], ◌∷◌, ◌++◌, length, length-append, zero-mul, map, filter, refl, sym, ap, ◌∙◌, arith, append_assoc, append-nil, nat_lt, ◌==◌, not}
-use Rattle.std.proofs.lemmas.Bool.{and_parts, and_from, or_from, ne_eqb, lt-ltb}
-use Rattle.cut_alerts.proofs.RangeLemmas.{range_more}
-use Rattle.std.proofs.Math.Nat.{add-mul}
-use Rattle.std.specs.Prelude.{slice_index}
-use Rattle.std.specs.List.{range_with_len, flat_map, list_any, list_all}
+use Rattle.std.proofs.Common.{add-one, ◌≡◌, ℕ, zero, suc, ◌+◌, ◌*◌, ◌<◌, ◌≤◌, ◌⊎◌, inl, inr, subst, get_or, Bool, true, false, cond, List, [], ◌∷◌, ◌++◌, length, length-append, zero-mul, map, filter, refl, sym, ap, ◌∙◌, arith, append_assoc, append-nil, nat_lt, ◌==◌, not}
+use Rattle.std.proofs.lemmas.Bool.{ltb-true, and_parts, and_from, or_from, ne_eqb, lt-ltb}
+use Rattle.cut_lists.proofs.Ranges.{range_with_len_more}
+use Rattle.std.proofs.Math.Nat.{add-mul, eq-or-lt_of_le}
+use Rattle.std.specs.Prelude.{slice_index, ◌↔◌}
+use Rattle.std.specs.List.{Contains, range_with_len, flat_map, list_any, list_all}
 use Rattle.std.specs.List.Sorted.{IsStrictlyIncreasing}
-use Rattle.std.proofs.lemmas.List.FromFn.{filter_of_map_range_with_len_more, length-map-range_with_len}
-use Rattle.std.proofs.lemmas.List.Sums.{length-filter, count_by-le-length}
-use Rattle.std.proofs.lemmas.List.Elements.{filter-append}
+use Rattle.std.proofs.lemmas.List.FromFn.{filter_of_map_range_with_len_more, length-map-range_with_len, get_or-map-range_with_len}
+use Rattle.std.proofs.lemmas.List.Sums.{AllPass-from_list_all, length-filter, count_by-le-length}
+use Rattle.std.proofs.lemmas.List.Elements.{filter-append, filter_passes, All-contains, Contains-append_left, Contains-append_right}
 use Rattle.std.proofs.lemmas.List.Concat.{flat_map-append}
 use Rattle.std.proofs.lemmas.List.Folds.{list_all-append}
 use Rattle.cut_rings.specs.declared.edge.Edge.{Edge}
-use Rattle.cut_rings.specs.Edges.{edge_number, is_within, are_within}
-use Rattle.cut_draws.specs.Deliveries.{are_distinct}
+use Rattle.cut_rings.specs.Edges.{edge_number, is_edge_of, are_edges_of}
+use Rattle.cut_draws.specs.DeliveryOrder.{are_distinct}
 use Rattle.cut_alerts.specs.Alerted.{edges_of, all_edges}
 
 abbrev pub edge : ℕ → ℕ → Edge
@@ -41,7 +41,7 @@ skipped_more test s ring base ys fails is =
 -- the edges of one more subject
 pub all_edges_more : (k s : ℕ) → all_edges k (s + 1) ≡ all_edges k s ++ edges_of k s
 all_edges_more k s =
-    ap (λ xs. flat_map (λ s. edges_of k s) xs) (range_more 0 s s (omega arith))
+    ap (λ xs. flat_map (λ s. edges_of k s) xs) (range_with_len_more 0 s s (omega arith))
     ∙ flat_map-append (λ s. edges_of k s) (range_with_len 0 s) (s ∷ [])
     ∙ ap (λ ys. all_edges k s ++ ys) (append-nil (edges_of k s))
 
@@ -64,24 +64,24 @@ list_all-filter p q (x ∷ xs) h =
       | false ↦ rest
     ]
 
-edges_within : (k n s a j : ℕ) → a + j ≤ k → s < n → list_all (λ e. is_within k n e) (map (λ ring. edge ring s) (range_with_len a j)) ≡ true
+edges_within : (k n s a j : ℕ) → a + j ≤ k → s < n → list_all (λ e. is_edge_of k n e) (map (λ ring. edge ring s) (range_with_len a j)) ≡ true
 edges_within k n s a zero fits below = refl
 edges_within k n s a (suc j) fits below =
     let rest = edges_within k n s (a + 1) j (omega arith) below in
-    let here : is_within k n (edge a s) ≡ true = and_from (nat_lt a k) (nat_lt s n) (lt-ltb a k (omega arith)) (lt-ltb s n below) in
-    and_from (is_within k n (edge a s)) (list_all (λ e. is_within k n e) (map (λ ring. edge ring s) (range_with_len (a + 1) j))) here rest
+    let here : is_edge_of k n (edge a s) ≡ true = and_from (nat_lt a k) (nat_lt s n) (lt-ltb a k (omega arith)) (lt-ltb s n below) in
+    and_from (is_edge_of k n (edge a s)) (list_all (λ e. is_edge_of k n e) (map (λ ring. edge ring s) (range_with_len (a + 1) j))) here rest
 
-subjects_within : (k n a m : ℕ) → a + m ≤ n → list_all (λ e. is_within k n e) (flat_map (λ s. edges_of k s) (range_with_len a m)) ≡ true
+subjects_within : (k n a m : ℕ) → a + m ≤ n → list_all (λ e. is_edge_of k n e) (flat_map (λ s. edges_of k s) (range_with_len a m)) ≡ true
 subjects_within k n a zero fits = refl
 subjects_within k n a (suc m) fits =
     let rest = subjects_within k n (a + 1) m (omega arith) in
     let here = edges_within k n a 0 k (omega arith) (omega arith) in
-    list_all-append (λ e. is_within k n e) (edges_of k a) (flat_map (λ s. edges_of k s) (range_with_len (a + 1) m))
-    ∙ and_from (list_all (λ e. is_within k n e) (edges_of k a)) (list_all (λ e. is_within k n e) (flat_map (λ s. edges_of k s) (range_with_len (a + 1) m))) here rest
+    list_all-append (λ e. is_edge_of k n e) (edges_of k a) (flat_map (λ s. edges_of k s) (range_with_len (a + 1) m))
+    ∙ and_from (list_all (λ e. is_edge_of k n e) (edges_of k a)) (list_all (λ e. is_edge_of k n e) (flat_map (λ s. edges_of k s) (range_with_len (a + 1) m))) here rest
 
 -- edges that pass a test are edges of their rings and processes
-pub within_all : (test : Edge → Bool) (k m n : ℕ) → m ≤ n → are_within k n (filter test (all_edges k m)) ≡ true
-within_all test k m n fits = list_all-filter (λ e. is_within k n e) test (all_edges k m) (subjects_within k n 0 m (omega arith))
+pub within_all : (test : Edge → Bool) (k m n : ℕ) → m ≤ n → are_edges_of k n (filter test (all_edges k m)) ≡ true
+within_all test k m n fits = list_all-filter (λ e. is_edge_of k n e) test (all_edges k m) (subjects_within k n 0 m (omega arith))
 
 -- there are no more than there are processes times rings
 length-subjects : (k a m : ℕ) → length (flat_map (λ s. edges_of k s) (range_with_len a m)) ≡ m * k
@@ -160,3 +160,47 @@ increasing_at k low (e ∷ f ∷ es) up (suc i) within = increasing_at k (edge_n
 pub increasing_all : (test : Edge → Bool) (k n : ℕ) → IsStrictlyIncreasing (map (λ e. edge_number k e) (filter test (all_edges k n)))
 increasing_all test k n i within =
     rw (add-one i) (increasing_at k 0 (filter test (all_edges k n)) (ascends_all test k n) i (omega (arith, within)))
+
+-- ---- which edges there are
+
+kept_at : (test : Edge → Bool) (es : List Edge) (e : Edge) (i : ℕ) → i < length es → get_or es i e ≡ e → test e ≡ true → Contains (filter test es) e
+kept_at test [] e i within at passes = absurd (omega arith)
+kept_at test (x ∷ xs) e zero within at passes =
+    subst (λ b. Contains (cond b (x ∷ filter test xs) (filter test xs)) e) (sym (ap test at ∙ passes)) (0, omega arith, at)
+kept_at test (x ∷ xs) e (suc i) within at passes =
+    let rest = kept_at test xs e i (omega arith) at passes in
+    elim (test x) as (λ b. Contains (cond b (x ∷ filter test xs) (filter test xs)) e) [
+      | true ↦ Contains-append_right (x ∷ []) (filter test xs) e rest
+      | false ↦ rest
+    ]
+
+subjects_have : (k a m : ℕ) (e : Edge) → e.ring < k → a ≤ e.subject → e.subject < a + m → Contains (flat_map (λ s. edges_of k s) (range_with_len a m)) e
+subjects_have k a zero e on_ring low high = absurd (omega arith)
+subjects_have k a (suc m) e on_ring low high = by (λ later. subjects_have k (a + 1) m e on_ring later (omega arith)) (eq-or-lt_of_le low)
+  where
+    others : List Edge
+    others = flat_map (λ s. edges_of k s) (range_with_len (a + 1) m)
+
+    by : (a + 1 ≤ e.subject → Contains others e) → (a ≡ e.subject) ⊎ (a < e.subject) → Contains (edges_of k a ++ others) e
+    by rest (inl same) =
+        let long : length (edges_of k a) ≡ k = length-map-range_with_len (λ ring. edge ring a) 0 k in
+        let at : get_or (edges_of k a) e.ring e ≡ edge e.ring a = get_or-map-range_with_len (λ ring. edge ring a) 0 k e.ring e.ring e on_ring (omega arith) in
+        Contains-append_left (edges_of k a) others e (e.ring, omega arith, at ∙ ap (edge e.ring) same)
+    by rest (inr later) = Contains-append_right (edges_of k a) others e (rest (omega arith))
+
+pub member_all : (test : Edge → Bool) (k n : ℕ) (e : Edge) → Contains (filter test (all_edges k n)) e ↔ ((e.ring < k) × (e.subject < n) × (test e ≡ true))
+member_all test k n e = (to, from)
+  where
+    found : List Edge
+    found = filter test (all_edges k n)
+
+    to : Contains found e → (e.ring < k) × (e.subject < n) × (test e ≡ true)
+    to has =
+        let in_range = All-contains (λ x. is_edge_of k n x ≡ true) found e (AllPass-from_list_all (λ x. is_edge_of k n x) found (within_all test k n n (omega arith))) has in
+        let parts = and_parts (nat_lt e.ring k) (nat_lt e.subject n) in_range in
+        (ltb-true e.ring k parts.0, ltb-true e.subject n parts.1, All-contains (λ x. test x ≡ true) found e (filter_passes test (all_edges k n)) has)
+
+    from : (e.ring < k) × (e.subject < n) × (test e ≡ true) → Contains found e
+    from is =
+        let has = subjects_have k 0 n e is.0 (omega arith) (omega (arith, is.1)) in
+        kept_at test (all_edges k n) e has.0 has.1 has.2 is.2

@@ -1,4 +1,3 @@
 pub mod EdgeLemmas
 pub mod RankLemmas
-pub mod RangeLemmas
-pub mod NamingLemmas
+pub mod Legal

@@ -1,9 +1,9 @@
 -- Which edges are alerted. (That an observer reports a subject that it can't hear is the Rapid
 -- paper's; the four cases are this project's profile.)
-use Rattle.std.specs.Prelude.{ℕ, ◌&&◌, ◌||◌, Bool, true, false, not, List, map, filter}
+use Rattle.std.specs.Prelude.{ℕ, ◌<◌, ◌&&◌, ◌||◌, Bool, true, false, not, List, map, filter, IsTrue}
 use Rattle.std.specs.List.{range_with_len, flat_map}
-use Rattle.cut_plan.specs.declared.rule.Dead.{Dead}
-use Rattle.cut_plan.specs.declared.rule.Dead.TheVariants.{Silent, Speak}
+use Rattle.cut_plan.specs.declared.dead.Dead.{Dead}
+use Rattle.cut_plan.specs.declared.dead.Dead.TheVariants.{Silent, Speak}
 use Rattle.cut_rings.specs.declared.edge.Edge.{Edge}
 use Rattle.cut_rings.specs.Layout.{Layout, observer_of}
 use Rattle.cut_alerts.specs.Assignment.{Assignment, has_crashed, is_deaf, is_target, is_liar, is_cut}
@@ -25,6 +25,10 @@ alerts_about a o s =
 -- whether an edge is alerted: its observer raises an alert about its subject
 abbrev pub is_alerted : Layout → Assignment → Edge → Bool
 is_alerted r a e = alerts_about a (observer_of r e.ring e.subject) e.subject
+
+-- an alerted edge of the first k rings
+abbrev pub IsAlerted : Layout → Assignment → ℕ → Edge → Type 0
+IsAlerted r a k e = (e.ring < k) × (e.subject < r.nodes) × IsTrue (is_alerted r a e)
 
 -- the edges of a subject on the first k rings, in order of the rings
 abbrev pub edges_of : ℕ → ℕ → List Edge

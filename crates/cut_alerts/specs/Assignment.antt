@@ -1,6 +1,6 @@
 -- The roles of all processes in a trial (this project's profile).
 use Rattle.std.specs.Prelude.{ℕ, ◌==◌, ◌||◌, Bool, true, false, List, slice_index_or}
-use Rattle.cut_plan.specs.declared.rule.Dead.{Dead}
+use Rattle.cut_plan.specs.declared.dead.Dead.{Dead}
 use Rattle.cut_alerts.specs.declared.role.Role.{Role}
 use Rattle.cut_alerts.specs.declared.role.Role.TheVariants.{Healthy, Crashed, Deaf, Liar, LinkSource}
 

@@ -3,20 +3,20 @@
 -- the first ring.
 use Rattle.std.specs.Prelude.{ℕ, ◌+◌, map, nat_lt, if◌then◌else◌}
 use Rattle.std.specs.List.{range_with_len}
-use Rattle.cut_plan.specs.declared.rule.Faults as faults
-use Rattle.cut_plan.specs.declared.rule.Faults.TheVariants as faults_are
+use Rattle.cut_plan.specs.declared.faults.Faults.{Faults}
+use Rattle.cut_plan.specs.declared.faults.Faults.TheVariants as fault
 use Rattle.cut_plan.specs.Values.{Values}
 use Rattle.cut_rings.specs.Layout.{Layout, subject_of}
 use Rattle.cut_draws.specs.Source.{Source}
-use Rattle.cut_draws.specs.Order.{process_rank}
+use Rattle.cut_draws.specs.ProcessOrder.{process_rank}
 use Rattle.cut_alerts.specs.declared.role.Role.{Role}
 use Rattle.cut_alerts.specs.declared.role.Role.TheVariants.{Healthy, Crashed, Deaf, Liar, LinkSource}
 use Rattle.cut_alerts.specs.Assignment.{Assignment}
 
 -- what a target is, where targets fail in this way
-abbrev pub target_role : faults.Faults → Role
-target_role faults_are.Crash = Crashed
-target_role faults_are.Deaf = Deaf
+abbrev pub target_role : Faults → Role
+target_role fault.Crash = Crashed
+target_role fault.Deaf = Deaf
 
 -- the role of process p, where it has this rank
 abbrev pub ranked_role : Values → ℕ → Layout → ℕ → ℕ → Role

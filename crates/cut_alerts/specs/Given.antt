@@ -1,8 +1,8 @@
 -- The roles that lists of targets, liars and cut links give (this project's profile).
-use Rattle.std.specs.Prelude.{◌≢◌, ℕ, ◌<◌, ◌≤◌, ◌==◌, ◌++◌, List, [], ◌∷◌, map, count_by, if◌then◌else◌}
-use Rattle.std.specs.List.{All, list_any, range_with_len}
-use Rattle.cut_plan.specs.declared.rule.Dead.{Dead}
-use Rattle.cut_plan.specs.declared.rule.Faults.{Faults}
+use Rattle.std.specs.Prelude.{◌≢◌, ℕ, ◌<◌, ◌≤◌, ◌==◌, ◌&&◌, ◌++◌, Bool, not, List, map, count_by, nat_lt, nat_le, unwrap_or, option_map, if◌then◌else◌}
+use Rattle.std.specs.List.{All, list_any, list_all, find, range_with_len}
+use Rattle.cut_plan.specs.declared.dead.Dead.{Dead}
+use Rattle.cut_plan.specs.declared.faults.Faults.{Faults}
 use Rattle.cut_alerts.specs.declared.role.Role.{Role}
 use Rattle.cut_alerts.specs.declared.role.Role.TheVariants.{Healthy, Liar, LinkSource}
 use Rattle.cut_alerts.specs.Assignment.{Assignment}
@@ -16,28 +16,52 @@ all_named targets liars links = targets ++ liars ++ map (λ l. l.0) links
 abbrev pub AreLinks : ℕ → List (ℕ × ℕ) → Type 0
 AreLinks n links = All (λ l. (l.1 < n) × (l.0 ≢ l.1)) links
 
+-- how often p is named
+abbrev pub times_named : List ℕ → List ℕ → List (ℕ × ℕ) → ℕ → ℕ
+times_named targets liars links p = count_by (λ q. q == p) (all_named targets liars links)
+
 -- lists that give each of n processes one role
 pub record IsLegal (n : ℕ) (targets liars : List ℕ) (links : List (ℕ × ℕ)) : Type 0 where
   -- a process that is named is one of the n
   pub in_range : All (λ p. p < n) (all_named targets liars links)
-  -- none is named twice
-  pub once : (p : ℕ) → count_by (λ q. q == p) (all_named targets liars links) ≤ 1
+  -- none of them is named twice
+  pub once : (p : ℕ) → p < n → times_named targets liars links p ≤ 1
   pub linked : AreLinks n links
+
+-- ---- the same, as tests
+
+abbrev pub are_below : ℕ → List ℕ → Bool
+are_below n processes = list_all (λ p. nat_lt p n) processes
+
+abbrev pub are_sources : ℕ → List (ℕ × ℕ) → Bool
+are_sources n links = list_all (λ l. nat_lt l.0 n) links
+
+abbrev pub are_links : ℕ → List (ℕ × ℕ) → Bool
+are_links n links = list_all (λ l. nat_lt l.1 n && not (l.0 == l.1)) links
+
+abbrev pub are_named_once : ℕ → List ℕ → List ℕ → List (ℕ × ℕ) → Bool
+are_named_once n targets liars links = list_all (λ p. nat_le (times_named targets liars links p) 1) (range_with_len 0 n)
+
+abbrev pub is_legal : ℕ → List ℕ → List ℕ → List (ℕ × ℕ) → Bool
+is_legal n targets liars links =
+    are_below n targets && are_below n liars && are_sources n links
+    && are_named_once n targets liars links && are_links n links
+
+-- ---- the roles
 
 -- p as the source of a link, if it is
 abbrev pub source_role : List (ℕ × ℕ) → ℕ → Role
-source_role [] p = Healthy
-source_role (l ∷ links) p = if l.0 == p then LinkSource l.1 else source_role links p
+source_role links p = unwrap_or (option_map (λ l. LinkSource l.1) (find (λ l. l.0 == p) links)) Healthy
 
 -- the role of p: that of a target, a liar or a link source where it is among these, and else healthy
-abbrev pub given_role : Faults → List ℕ → List ℕ → List (ℕ × ℕ) → ℕ → Role
-given_role faults targets liars links p =
-    if list_any (λ q. q == p) targets then target_role faults
+abbrev pub given_role : Role → List ℕ → List ℕ → List (ℕ × ℕ) → ℕ → Role
+given_role target targets liars links p =
+    if list_any (λ q. q == p) targets then target
     else (if list_any (λ q. q == p) liars then Liar else source_role links p)
 
 -- the roles of n processes
 abbrev pub given : ℕ → List ℕ → List ℕ → List (ℕ × ℕ) → Faults → Dead → Assignment
 given n targets liars links faults dead = record {
-  roles = map (λ p. given_role faults targets liars links p) (range_with_len 0 n);
+  roles = map (λ p. given_role (target_role faults) targets liars links p) (range_with_len 0 n);
   dead = dead;
 }

@@ -1,6 +1,5 @@
-pub mod FaultNumber
+pub mod Faults
 pub mod Assignment
 pub mod Drawn
 pub mod Alerted
-pub mod Naming
 pub mod Given

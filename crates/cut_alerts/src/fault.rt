@@ -1,30 +1,42 @@
 ghost use Rattle.std.specs.Prelude.{◌≡◌};
-ghost use Rattle.cut_alerts.specs.FaultNumber.{number_of};
+ghost use Rattle.cut_alerts.specs.Faults.{code_of};
 
+use cut_faults::FaultCode;
 use std::alloc::AllocError;
+use std::fmt;
 use thiserror::Error;
 
 /// Why roles can't be given as asked. Printed, it is its number and its name.
 #[derive(Debug, Drop, Error)]
 pub enum RolesFault {
     /// A growth of memory was refused.
-    #[error("0 Memory")]
     Memory,
     /// A process is out of range, or is named twice among targets, liars and link sources, or the ends
     /// of a link are one process.
-    #[error("13 BadRole")]
     BadRole,
 }
 
 impl RolesFault {
-    /// The fault's number in the program's list of faults.
-    pub fn number(&self) -> u16
-        ensures { result ≡ number_of self.now }
+    /// The fault in the program's list of faults.
+    pub fn code(&self) -> FaultCode
+        ensures { result ≡ code_of self.now }
     {
         match self {
-            RolesFault::Memory => 0,
-            RolesFault::BadRole => 13,
+            RolesFault::Memory => FaultCode::Memory,
+            RolesFault::BadRole => FaultCode::BadRole,
         }
+    }
+}
+
+impl fmt::Display for RolesFault {
+    ghost use Rattle.std.specs.Prelude.{Some};
+    ghost use Rattle.cut_faults.specs.Codes.{code_text};
+    ghost use Rattle.cut_alerts.specs.Faults.{code_of};
+
+    ghost output = { λ fault. Some (code_text (code_of fault)) };
+
+    fn fmt<W: fmt::Write>(&self, f: &mut fmt::Formatter<W>) -> fmt::Result {
+        write!(f, "{}", self.code())
     }
 }
 

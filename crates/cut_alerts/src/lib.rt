@@ -5,13 +5,13 @@
 //! on monitoring; who fails and how is this project's profile).
 #![tactic(auto)]
 
-mod edges;
+mod alerted;
 mod fault;
-mod naming;
+mod given;
 mod role;
 mod roles;
 
-pub use edges::{alerts, is_alert};
+pub use alerted::{alerts, alerts_into, is_alert};
 pub use fault::RolesFault;
 pub use role::Role;
 pub use roles::Roles;

@@ -1,12 +1,12 @@
-ghost use Rattle.std.specs.Prelude.{◌≡◌, ◌<◌, length, IfOk, OnOk, IsErrOf};
+ghost use Rattle.std.specs.Prelude.{◌≡◌, ◌<◌, ◌↔◌, [], length, IfOk, OnOk, OnErr, IsErrOf};
 ghost use Rattle.cut_plan.specs.Cells.{IsCellOf};
 ghost use Rattle.cut_alerts.specs.Assignment.{role_at, is_target, is_cut};
 ghost use Rattle.cut_alerts.specs.Drawn.{drawn, ranked_role, target_role};
-ghost use Rattle.cut_alerts.specs.Given.{given, IsLegal, AreLinks};
+ghost use Rattle.cut_alerts.specs.Given.{given, IsLegal};
 
-use crate::naming::{are_links, name_all, name_sources};
+use crate::given::{are_legal, given_roles};
 use crate::{Role, RolesFault};
-use cut_draws::Draws;
+use cut_draws::{Draws, ProcessOrder};
 use cut_plan::{Cell, Dead, Faults, Plan};
 use cut_rings::Rings;
 use std::alloc::{AllocError, Global};
@@ -33,6 +33,16 @@ impl Model for Roles {
 }
 
 impl Roles {
+    /// The roles of no process.
+    pub fn none(alloc: Global) -> Roles
+        ensures { result.roles ≡ [] }
+    {
+        Roles {
+            roles: Vec::new(alloc),
+            dead: Dead::Silent,
+        }
+    }
+
     /// The roles that a trial of a cell draws: the processes of least rank by the trial's keys are the
     /// targets, the next ones the liars, the next ones the sources of cut links (this project's
     /// profile). Fails only for want of memory.
@@ -48,24 +58,44 @@ impl Roles {
         ensures drawn { IfOk result (λ r. r ≡ drawn plan.now cell.f draws.old rings.now) }
         ensures same { draws.new ≡ draws.old }
     {
+        let mut roles = Roles::none(alloc);
+        let mut order = ProcessOrder::new(alloc);
+        roles.draw(plan, cell, draws, &mut order, rings)?;
+        Ok(roles)
+    }
+
+    /// Puts the roles that a trial of a cell draws, as `of_trial` gives them, in place of other roles,
+    /// in the memory that these and the order have. Fails only for want of memory, and the roles are as
+    /// they were then.
+    pub fn draw(
+        &mut self,
+        plan: &Plan,
+        cell: Cell,
+        draws: &mut Draws,
+        order: &mut ProcessOrder,
+        rings: &Rings,
+    ) -> Result<(), AllocError>
+        requires cell { IsCellOf plan.now cell }
+        requires nodes { rings.now.nodes ≡ plan.now.nodes }
+        ensures drawn { OnOk result (self.new ≡ drawn plan.now cell.f draws.old rings.now) }
+        ensures err { OnErr result (self.new ≡ self.old) }
+        ensures same { draws.new ≡ draws.old }
+    {
         let n = rings.nodes();
-        let order = draws.process_order(alloc, n)?;
-        let mut roles = vec![in alloc; Role::Healthy; usize::from(n)]?;
-        for (rank, process) in order.iter().enumerate() {
-            let role = ranked_role(plan, cell, rings, *process, rank as u16);
-            roles[usize::from(*process)] = role;
+        draws.order_processes(order, n)?;
+        self.roles.resize(usize::from(n), Role::Healthy)?;
+        for rank in 0..n {
+            let process = order.get(usize::from(rank));
+            self.roles[usize::from(process)] = ranked_role(plan, cell, rings, process, rank);
         }
-        Ok(Roles {
-            roles,
-            dead: plan.dead(),
-        })
+        self.dead = plan.dead();
+        Ok(())
     }
 
     /// The roles of `nodes` processes by lists: of the targets, which fail as `faults` says, of the
     /// liars, and of the cut links, each from its source to another process. All others are healthy.
     /// BadRole exactly where a process is not below `nodes`, where one is named twice among targets,
-    /// liars and sources, or where a link has equal ends; where memory for the roles is refused, only
-    /// the ends of links have been tested (this project's profile).
+    /// liars and sources, or where a link has equal ends (this project's profile).
     pub fn given(
         alloc: Global,
         nodes: u16,
@@ -79,16 +109,12 @@ impl Roles {
             (λ r. r ≡ given nodes targets.now liars.now links.now faults dead) }
         ensures legal { OnOk result (IsLegal nodes targets.now liars.now links.now) }
         ensures bad_role { IsErrOf result RolesFault.BadRole
-            → ¬ IsLegal nodes targets.now liars.now links.now }
-        ensures bad_link { ¬ AreLinks nodes links.now → IsErrOf result RolesFault.BadRole }
+            ↔ ¬ IsLegal nodes targets.now liars.now links.now }
     {
-        if !are_links(nodes, links) {
+        if !are_legal(nodes, targets, liars, links) {
             return Err(RolesFault::BadRole);
         }
-        let mut roles = vec![in alloc; Role::Healthy; usize::from(nodes)]?;
-        name_all(&mut roles, targets, target_role(faults))?;
-        name_all(&mut roles, liars, Role::Liar)?;
-        name_sources(&mut roles, links)?;
+        let roles = given_roles(alloc, nodes, targets, liars, links, target_role(faults))?;
         Ok(Roles { roles, dead })
     }
 

@@ -1,5 +1,5 @@
-use crate::{Roles, RolesFault, alerts, is_alert};
-use cut_draws::Draws;
+use crate::{Roles, alerts, alerts_into, is_alert};
+use cut_draws::{Draws, ProcessOrder};
 use cut_plan::{Dead, Faults, Plan};
 use cut_rings::{Edge, Rings};
 use std::alloc::{AllocError, Global};
@@ -49,21 +49,6 @@ fn check(
         expected.as_slice(),
         "of {targets:?} {liars:?} {links:?}"
     );
-    Ok(())
-}
-
-fn check_refused(
-    rt: &impl Abort,
-    alloc: Global,
-    (targets, liars, links): Lists,
-) -> Result<(), Fail> {
-    match Roles::given(alloc, 4, targets, liars, links, Faults::Crash, Dead::Silent) {
-        Ok(_) => Err("roles were given")?,
-        Err(fault) => {
-            assert_eq!(rt; fault.number(), 13);
-            assert_eq!(rt; format!(in alloc; "{fault}")?.as_str(), "13 BadRole");
-        }
-    }
     Ok(())
 }
 
@@ -121,16 +106,49 @@ fn alerts_of_the_deaf_of_liars_and_of_cut_links(rt: HostRuntime) -> Result<(), F
 #[test]
 fn roles_that_are_refused(rt: HostRuntime) -> Result<(), Fail> {
     let alloc = rt.alloc();
-    check_refused(&rt, alloc, (&[2], &[], &[(2, 1)]))?;
-    check_refused(&rt, alloc, (&[], &[], &[(1, 1)]))?;
-    check_refused(&rt, alloc, (&[4], &[], &[]))?;
-    check_refused(&rt, alloc, (&[1], &[1], &[]))?;
-    check_refused(&rt, alloc, (&[], &[], &[(0, 4)]))?;
-    check_refused(&rt, alloc, (&[], &[3, 3], &[]))?;
+    let rows: [Lists; 7] = [
+        (&[2], &[], &[(2, 1)]),
+        (&[], &[], &[(1, 1)]),
+        (&[4], &[], &[]),
+        (&[1], &[1], &[]),
+        (&[], &[], &[(0, 4)]),
+        (&[], &[], &[(4, 0)]),
+        (&[], &[3, 3], &[]),
+    ];
+    for (targets, liars, links) in rows {
+        match Roles::given(alloc, 4, targets, liars, links, Faults::Crash, Dead::Silent) {
+            Ok(_) => Err("roles were given")?,
+            Err(fault) => {
+                let text = fault.to_string(alloc)?;
+                assert_eq!(rt;
+                    text.as_str(),
+                    "13 BadRole",
+                    "of {targets:?} {liars:?} {links:?}"
+                );
+            }
+        }
+    }
+    Ok(())
+}
+
+#[test]
+fn a_list_is_filled_again(rt: HostRuntime) -> Result<(), Fail> {
+    let alloc = rt.alloc();
+    let rings = four(&rt, alloc)?;
+    assert!(rt; rings.nodes() == 4 && rings.len() == 3);
+    let roles = Roles::given(alloc, 4, &[1], &[], &[], Faults::Crash, Dead::Silent)?;
+    let none = Roles::given(alloc, 4, &[], &[], &[], Faults::Crash, Dead::Silent)?;
+    assert!(rt; roles.nodes() == 4 && none.nodes() == 4);
+    let mut edges = Vec::new(alloc);
+    alerts_into(&mut edges, &rings, 3, &roles)?;
+    assert_eq!(rt; edges.len(), 3);
+    alerts_into(&mut edges, &rings, 2, &roles)?;
     assert_eq!(rt;
-        format!(in alloc; "{}", RolesFault::Memory)?.as_str(),
-        "0 Memory"
+        edges.as_slice(),
+        edges_of(alloc, &[(0, 1), (1, 1)])?.as_slice()
     );
+    alerts_into(&mut edges, &rings, 3, &none)?;
+    assert!(rt; edges.is_empty());
     Ok(())
 }
 
@@ -165,7 +183,9 @@ fn check_drawn(
     let rings = Rings::hashed(alloc, &plan)?;
     let mut draws = Draws::new(plan.seed(), trial);
     assert!(rt; plan.cells() > 0);
-    let drawn = Roles::of_trial(alloc, &plan, plan.cell(0), &mut draws, &rings)?;
+    let mut drawn = Roles::of_trial(alloc, &plan, plan.cell(0), &mut draws, &rings)?;
+    let mut order = ProcessOrder::new(alloc);
+    drawn.draw(&plan, plan.cell(0), &mut draws, &mut order, &rings)?;
     let nodes = plan.nodes();
     let given = Roles::given(
         alloc,

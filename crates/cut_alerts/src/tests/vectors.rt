@@ -9,27 +9,27 @@ use std::test::Fail;
 
 // Five processes, with targets that crash.
 const FIVE_CRASH: &str =
-    "{\"copies\":1,\"dead\":\"speak\",\"f\":[1],\"faults\":\"crash\",\"h\":[1],\"implicit\":true,\"k\":[3],\"l\":[1],\"liars\":1,\"links\":1,\"nodes\":5,\"repeats\":1,\"seed\":\"0000000000000000000000000000000000000000000000000000000000000000\",\"version\":1}";
+    r#"{"copies":1,"dead":"speak","f":[1],"faults":"crash","h":[1],"implicit":true,"k":[3],"l":[1],"liars":1,"links":1,"nodes":5,"repeats":1,"seed":"0000000000000000000000000000000000000000000000000000000000000000","version":1}"#;
 
 // Five processes, with deaf targets.
 const FIVE_DEAF: &str =
-    "{\"copies\":1,\"dead\":\"speak\",\"f\":[1],\"faults\":\"deaf\",\"h\":[1],\"implicit\":true,\"k\":[3],\"l\":[1],\"liars\":1,\"links\":1,\"nodes\":5,\"repeats\":1,\"seed\":\"0000000000000000000000000000000000000000000000000000000000000000\",\"version\":1}";
+    r#"{"copies":1,"dead":"speak","f":[1],"faults":"deaf","h":[1],"implicit":true,"k":[3],"l":[1],"liars":1,"links":1,"nodes":5,"repeats":1,"seed":"0000000000000000000000000000000000000000000000000000000000000000","version":1}"#;
 
 // Seven processes, with targets that crash.
 const SEVEN_CRASH: &str =
-    "{\"copies\":1,\"dead\":\"speak\",\"f\":[1],\"faults\":\"crash\",\"h\":[1],\"implicit\":true,\"k\":[4],\"l\":[1],\"liars\":1,\"links\":1,\"nodes\":7,\"repeats\":1,\"seed\":\"0123456789abcdef0123456789abcdef0123456789abcdef0123456789abcdef\",\"version\":1}";
+    r#"{"copies":1,"dead":"speak","f":[1],"faults":"crash","h":[1],"implicit":true,"k":[4],"l":[1],"liars":1,"links":1,"nodes":7,"repeats":1,"seed":"0123456789abcdef0123456789abcdef0123456789abcdef0123456789abcdef","version":1}"#;
 
 // Seven processes, with deaf targets.
 const SEVEN_DEAF: &str =
-    "{\"copies\":1,\"dead\":\"speak\",\"f\":[1],\"faults\":\"deaf\",\"h\":[1],\"implicit\":true,\"k\":[4],\"l\":[1],\"liars\":1,\"links\":1,\"nodes\":7,\"repeats\":1,\"seed\":\"0123456789abcdef0123456789abcdef0123456789abcdef0123456789abcdef\",\"version\":1}";
+    r#"{"copies":1,"dead":"speak","f":[1],"faults":"deaf","h":[1],"implicit":true,"k":[4],"l":[1],"liars":1,"links":1,"nodes":7,"repeats":1,"seed":"0123456789abcdef0123456789abcdef0123456789abcdef0123456789abcdef","version":1}"#;
 
 // Two processes, with targets that crash.
 const TWO_CRASH: &str =
-    "{\"copies\":1,\"dead\":\"speak\",\"f\":[1],\"faults\":\"crash\",\"h\":[1],\"implicit\":true,\"k\":[2],\"l\":[1],\"liars\":0,\"links\":0,\"nodes\":2,\"repeats\":1,\"seed\":\"ffffffffffffffffffffffffffffffffffffffffffffffffffffffffffffffff\",\"version\":1}";
+    r#"{"copies":1,"dead":"speak","f":[1],"faults":"crash","h":[1],"implicit":true,"k":[2],"l":[1],"liars":0,"links":0,"nodes":2,"repeats":1,"seed":"ffffffffffffffffffffffffffffffffffffffffffffffffffffffffffffffff","version":1}"#;
 
 // Two processes, with deaf targets.
 const TWO_DEAF: &str =
-    "{\"copies\":1,\"dead\":\"speak\",\"f\":[1],\"faults\":\"deaf\",\"h\":[1],\"implicit\":true,\"k\":[2],\"l\":[1],\"liars\":0,\"links\":0,\"nodes\":2,\"repeats\":1,\"seed\":\"ffffffffffffffffffffffffffffffffffffffffffffffffffffffffffffffff\",\"version\":1}";
+    r#"{"copies":1,"dead":"speak","f":[1],"faults":"deaf","h":[1],"implicit":true,"k":[2],"l":[1],"liars":0,"links":0,"nodes":2,"repeats":1,"seed":"ffffffffffffffffffffffffffffffffffffffffffffffffffffffffffffffff","version":1}"#;
 
 // The alerted edges of these roles, with crashed targets and with deaf ones, where the dead speak.
 fn check_both(

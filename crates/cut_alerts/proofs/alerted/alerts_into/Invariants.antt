@@ -1,6 +1,6 @@
 use Rattle.std.proofs.Common.{◌≡◌, filter}
 use Rattle.cut_alerts.specs.Alerted.{is_alerted, all_edges}
-use Rattle.cut_alerts.proofs.edges.alerts.Given as goal
+use Rattle.cut_alerts.proofs.alerted.alerts_into.Given as goal
 
 abbrev pub invariant-loop-subject : goal.invariant-loop-subject
 invariant-loop-subject l =

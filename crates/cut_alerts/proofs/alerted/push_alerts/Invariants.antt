@@ -1,6 +1,6 @@
 use Rattle.std.proofs.Common.{◌≡◌, ◌++◌, filter}
 use Rattle.cut_alerts.specs.Alerted.{is_alerted, edges_of}
-use Rattle.cut_alerts.proofs.edges.push_alerts.Given as goal
+use Rattle.cut_alerts.proofs.alerted.push_alerts.Given as goal
 
 abbrev pub invariant-loop-ring : goal.invariant-loop-ring
 invariant-loop-ring l =

@@ -2,7 +2,7 @@ use Rattle.std.proofs.Common.{sym, ◌∙◌}
 use Rattle.cut_rings.specs.declared.edge.Edge.{Edge}
 use Rattle.cut_alerts.specs.Alerted.{is_alerted}
 use Rattle.cut_alerts.proofs.EdgeLemmas.{kept_more, skipped_more}
-use Rattle.cut_alerts.proofs.edges.push_alerts.Goals as goal
+use Rattle.cut_alerts.proofs.alerted.push_alerts.Goals as goal
 
 pub loop-ring-preserved-then-not-is_alert : goal.loop-ring-preserved-then-not-is_alert
 loop-ring-preserved-then-not-is_alert c =

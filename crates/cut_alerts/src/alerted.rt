@@ -1,8 +1,8 @@
-ghost use Rattle.std.specs.Prelude.{◌≡◌, ◌≤◌, ◌<◌, ◌++◌, ◌*◌, ℕ, length, map, filter, IfOk, OnOk, IsTrue};
+ghost use Rattle.std.specs.Prelude.{◌≡◌, ◌≤◌, ◌<◌, ◌↔◌, ◌++◌, ◌*◌, ℕ, length, map, filter, Contains, IfOk, OnOk, IsTrue};
 ghost use Rattle.std.specs.List.Sorted.{IsStrictlyIncreasing};
-ghost use Rattle.cut_rings.specs.Edges.{are_within, edge_number};
-ghost use Rattle.cut_draws.specs.Deliveries.{are_distinct};
-ghost use Rattle.cut_alerts.specs.Alerted.{is_alerted, alert_list, edges_of};
+ghost use Rattle.cut_rings.specs.Edges.{are_edges_of, edge_number};
+ghost use Rattle.cut_draws.specs.DeliveryOrder.{are_distinct};
+ghost use Rattle.cut_alerts.specs.Alerted.{is_alerted, alert_list, edges_of, IsAlerted};
 
 use crate::{Role, Roles};
 use cut_plan::Dead;
@@ -34,17 +34,45 @@ pub fn alerts(alloc: Global, rings: &Rings, k: u8, roles: &Roles) -> Result<Vec<
     requires rings { k ≤ length rings.now.positions }
     requires nodes { length roles.now.roles ≡ rings.now.nodes }
     ensures value { IfOk result (λ edges. edges.items ≡ alert_list rings.now roles.now k) }
-    ensures within { IfOk result (λ edges. (n : ℕ) → rings.now.nodes ≤ n → IsTrue (are_within k n edges.items)) }
+    ensures member { IfOk result (λ edges. (e : Edge) →
+        Contains edges.items e ↔ IsAlerted rings.now roles.now k e) }
+    ensures within { IfOk result
+        (λ edges. (n : ℕ) → rings.now.nodes ≤ n → IsTrue (are_edges_of k n edges.items)) }
     ensures distinct { IfOk result (λ edges. IsTrue (are_distinct k edges.items)) }
     ensures ascending { IfOk result
         (λ edges. IsStrictlyIncreasing (map (λ e. edge_number k e) edges.items)) }
     ensures few { IfOk result (λ edges. length edges.items ≤ rings.now.nodes * k) }
 {
     let mut edges = Vec::new(alloc);
-    for subject in 0..rings.nodes() {
-        push_alerts(&mut edges, rings, k, roles, subject)?;
-    }
+    alerts_into(&mut edges, rings, k, roles)?;
     Ok(edges)
+}
+
+/// Puts the alerted edges of the first `k` rings into a list, as `alerts` gives them, in place of what
+/// it held. Fails only for want of memory; which of the edges the list then holds is left open.
+pub fn alerts_into(
+    edges: &mut Vec<Edge>,
+    rings: &Rings,
+    k: u8,
+    roles: &Roles,
+) -> Result<(), AllocError>
+    requires rings { k ≤ length rings.now.positions }
+    requires nodes { length roles.now.roles ≡ rings.now.nodes }
+    ensures value { OnOk result (edges.new.items ≡ alert_list rings.now roles.now k) }
+    ensures member { OnOk result ((e : Edge) →
+        Contains edges.new.items e ↔ IsAlerted rings.now roles.now k e) }
+    ensures within { OnOk result
+        ((n : ℕ) → rings.now.nodes ≤ n → IsTrue (are_edges_of k n edges.new.items)) }
+    ensures distinct { OnOk result (IsTrue (are_distinct k edges.new.items)) }
+    ensures ascending { OnOk result
+        (IsStrictlyIncreasing (map (λ e. edge_number k e) edges.new.items)) }
+    ensures few { OnOk result (length edges.new.items ≤ rings.now.nodes * k) }
+{
+    edges.clear();
+    for subject in 0..rings.nodes() {
+        push_alerts(edges, rings, k, roles, subject)?;
+    }
+    Ok(())
 }
 
 /// Adds the alerted edges of one subject, ring by ring.
