@@ -1,10 +1,11 @@
 -- What a recount finds depends only on the edges of the rule's rings and of the processes.
-use Rattle.std.proofs.Common.{◌≡◌, ℕ, ◌<◌, ◌&&◌, ◌||◌, not, nat_le, nat_lt, ap, ◌∙◌, arith}
+use Rattle.std.proofs.Common.{◌≡◌, ℕ, ◌<◌, ◌&&◌, ◌||◌, nat_le, nat_lt, ap, ◌∙◌, arith}
 use Rattle.cut_rings.specs.Layout.{Layout, observer_of}
 use Rattle.cut_rings.specs.Edges.{EdgeSet}
 use Rattle.cut_detector.specs.Rule.{Rule}
 use Rattle.cut_detector.specs.Counts.{reports_of, is_reported, is_gained, is_full, full_count, is_stable, is_unstable, is_some_stable, is_some_unstable, is_settled, stable_members}
-use Rattle.cut_detector.proofs.Ranges.{AgreeOn, count_by_agree, list_any_agree, filter_agree_on}
+use Rattle.cut_lists.proofs.Counts.{some_and_none_agree}
+use Rattle.cut_lists.proofs.Ranges.{AgreeOn, count_by_agree, filter_agree_on}
 
 -- two sets have the same edges on the first k rings and of n processes
 pub record SameEdges (k n : ℕ) (E F : EdgeSet) : Type 0 where
@@ -48,9 +49,7 @@ is_unstable-same r rule E F observers edges = record { same = λ s _ below. ap (
 pub is_settled-same : (r : Layout) (rule : Rule) (E F : EdgeSet) → HasObservers r rule.k → SameEdges rule.k r.nodes E F → is_settled r rule E ≡ is_settled r rule F
 unfolding is_settled is_some_stable is_some_unstable
 is_settled-same r rule E F observers edges =
-    let stable : is_some_stable r rule E ≡ is_some_stable r rule F = list_any_agree _ _ 0 r.nodes (is_stable-same r rule E F observers edges) in
-    let unstable : is_some_unstable r rule E ≡ is_some_unstable r rule F = list_any_agree _ _ 0 r.nodes (is_unstable-same r rule E F observers edges) in
-    ap (λ b. b && not (is_some_unstable r rule E)) stable ∙ ap (λ b. is_some_stable r rule F && not b) unstable
+    some_and_none_agree _ _ _ _ r.nodes (is_stable-same r rule E F observers edges) (is_unstable-same r rule E F observers edges)
 
 pub stable_members-same : (r : Layout) (rule : Rule) (E F : EdgeSet) → HasObservers r rule.k → SameEdges rule.k r.nodes E F → stable_members r rule E ≡ stable_members r rule F
 unfolding stable_members

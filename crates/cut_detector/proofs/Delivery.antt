@@ -1,68 +1,111 @@
--- One delivery, from the fields that a detector keeps.
-use Rattle.std.proofs.Common.{◌≡◌, ℕ, ◌+◌, ◌≤◌, Bool, true, false, cond, List, length, set, Some, None, IsTrue, IsSome, IsNone, is_some, nat_lt, ap, sym, subst, ◌∙◌, arith}
-use Rattle.std.proofs.lemmas.Bool.{ltb-true}
+-- One delivery, from what a detector keeps.
+use Rattle.std.proofs.Common.{◌≡◌, ℕ, ◌+◌, ◌<◌, ◌≤◌, Bool, true, false, cond, List, [], ◌∷◌, ◌++◌, length, vec_capacity, IsTrue, Option, Some, None, replicate, is_some, nat_lt, refl, ap, sym, subst, ◌∙◌, arith}
+use Rattle.std.proofs.lemmas.Bool.{both_ways, ltb-true, and_parts}
 use Rattle.cut_rings.specs.declared.edge.Edge.{Edge}
-use Rattle.cut_rings.specs.Layout.{Layout, IsLayout}
-use Rattle.cut_rings.specs.Edges.{is_within, edge_number}
+use Rattle.cut_rings.specs.Layout.{Layout}
+use Rattle.cut_rings.specs.Edges.{EdgeSet, is_edge_of}
 use Rattle.cut_detector.specs.declared.detector.Detector.TheInside.{Inside}
-use Rattle.cut_detector.specs.declared.proposal.Proposal as declared
-use Rattle.cut_detector.specs.Table.{edges_in}
-use Rattle.cut_detector.specs.Proposal.{proposal_at}
-use Rattle.cut_detector.specs.State.{State, TakesEdge}
-use Rattle.cut_detector.specs.Inside.{state_of, IsSound}
+use Rattle.cut_detector.specs.declared.proposal.Proposal.{Proposal}
+use Rattle.cut_detector.specs.Rule.{Rule, rule_in}
+use Rattle.cut_detector.specs.Counts.{is_settled, stable_members}
+use Rattle.cut_detector.specs.Masks.{edges_in, with_edge}
+use Rattle.cut_detector.specs.Proposal.{settled_proposal}
+use Rattle.cut_detector.specs.State.{State, TakesEdge, HasDelivered, fresh}
+use Rattle.cut_detector.specs.Inside.{IsSound, state_of, layout_of, rule_of_inside, reported_of}
 use Rattle.cut_detector.proofs.Agreement.{HasObservers}
 use Rattle.cut_detector.proofs.Observers.{observer_of-lt}
-use Rattle.cut_detector.proofs.Tables.{both, edges_in-set}
+use Rattle.cut_detector.proofs.Bits.{edges_in-with_edge}
+use Rattle.cut_detector.proofs.Settling.{is_settled-empty, edges_in-empty}
+use Rattle.cut_detector.proofs.History.{HasDelivered_push}
 
--- on the rings of a layout each process has an observer
-pub has_observers : (r : Layout) (k : ℕ) → IsLayout r → k ≤ length r.positions → HasObservers r k
-has_observers r k layout enough = record { in_range = λ ring subject low process. observer_of-lt r layout ring subject (omega arith) process }
+-- what a delivery changes, to a detector that is seen as `old`
+pub record Delivers (d e : Inside) (old : State) (edge : Edge) : Type 0 where
+  pub seen : state_of d ≡ old
+  pub layout : layout_of e ≡ layout_of d
+  pub rule : e.reports.tally.rule ≡ d.reports.tally.rule
+  pub reported : e.reports.reported.masks.items ≡ with_edge d.reports.reported.masks.items edge
+  pub deliveries : e.deliveries ≡ d.deliveries + 1
+  pub within : IsTrue (is_edge_of old.rule.k old.layout.nodes edge)
 
-pub observers_of : (d : Inside) (old : State) → state_of d ≡ old → IsSound d → HasObservers old.layout old.rule.k
-observers_of d old seen sound =
-    let P : State → Type 0 = λ x. HasObservers x.layout x.rule.k in
-    subst P seen (has_observers d.rings.now d.k sound.layout sound.rings)
+pub takes : (d e : Inside) (old : State) (edge : Edge) → Delivers d e old edge → TakesEdge old (state_of e) edge
+takes d e old edge delivers =
+    let reports = d.reports in
+    let subject : edge.subject < old.layout.nodes = ltb-true _ _ (and_parts (nat_lt edge.ring old.rule.k) _ delivers.within).1 in
+    let inside : edge.subject < length reports.reported.masks.items = omega (arith, ap (λ x. x.layout.nodes) delivers.seen, reports.reported_long, reports.reported.masks.ok.0) in
+    subst (λ x. TakesEdge x (state_of e) edge) delivers.seen (record {
+      deliveries = delivers.deliveries;
+      edges = λ ring p below process. ap (λ xs. edges_in xs ring p) delivers.reported ∙ edges_in-with_edge reports.reported.masks.items edge inside ring p;
+      proposal =
+          ap (λ r. settled_proposal r (rule_of_inside e) (reported_of e) e.deliveries) delivers.layout
+          ∙ ap (λ x. settled_proposal (layout_of d) (rule_in x) (reported_of e) e.deliveries) delivers.rule;
+    })
 
--- an edge that is written into the table is taken
-pub taken_at : (d : Inside) (old new : State) (edge : Edge) → state_of d ≡ old → IsSound d → IsTrue (is_within old.rule.k old.layout.nodes edge) → new.layout ≡ (state_of d).layout → new.rule ≡ (state_of d).rule → new.edges ≡ set d.edges.items (edge_number d.k edge) true → new.deliveries ≡ d.deliveries + 1 → new.proposal ≡ proposal_at (state_of d).layout (state_of d).rule (edges_in d.k new.edges) new.deliveries → TakesEdge old new edge
-taken_at d old new edge seen sound within layout rule written counted proposed = subst P seen take within
+is_some-settled : (r : Layout) (rule : Rule) (E : EdgeSet) (n : ℕ) → is_some (settled_proposal r rule E n) ≡ is_settled r rule E
+is_some-settled r rule E n = go (is_settled r rule E) (record { members = stable_members r rule E; at = n })
   where
-    P : State → Type 0
-    P x = IsTrue (is_within x.rule.k x.layout.nodes edge) → TakesEdge x new edge
+    go : (b : Bool) (p : Proposal) → is_some (cond b (Some p) None) ≡ b
+    go true p = refl
+    go false p = refl
 
-    k : new.rule.k ≡ d.k
-    k = ap (λ x. x.k) rule
+pub is_some-proposal : (d : Inside) (old : State) (b : Bool) → state_of d ≡ old → b ≡ is_settled (layout_of d) (rule_of_inside d) (reported_of d) → is_some old.proposal ≡ b
+is_some-proposal d old b seen is = ap (λ x. is_some x.proposal) (sym seen) ∙ is_some-settled (layout_of d) (rule_of_inside d) (reported_of d) d.deliveries ∙ sym is
 
-    take : P (state_of d)
-    take inside =
-        let parts = both (nat_lt edge.ring d.k) (nat_lt edge.subject d.rings.now.nodes) inside in
-        record {
-          deliveries = counted;
-          edges = λ ring subject below process.
-              ap (λ n. edges_in n new.edges ring subject) k
-              ∙ ap (λ xs. edges_in d.k xs ring subject) written
-              ∙ edges_in-set d.k d.rings.now.nodes d.edges.items edge sound.table (ltb-true _ _ parts.0) (ltb-true _ _ parts.1) ring subject below process;
-          proposal = proposed ∙ ap (λ n. proposal_at (state_of d).layout (state_of d).rule (edges_in n new.edges) new.deliveries) (sym k);
-        }
+-- on its rings each process has an observer
+observers_of : (d : Inside) (old : State) → state_of d ≡ old → HasObservers old.layout old.rule.k
+observers_of d old seen =
+    subst (λ x. HasObservers x.layout x.rule.k) seen (record { in_range = λ ring subject low process. observer_of-lt (layout_of d) d.reports.layout ring subject (omega (arith, d.reports.rings_enough)) process })
 
--- what stands where there is a proposal, and where there is none
-pub waiting : (b s : Bool) (p q : declared.Proposal) → b ≡ false → s ≡ false → cond b (Some p) None ≡ cond s (Some q) None
-waiting b s p q e f = ap (λ x. cond x (Some p) None) e ∙ sym (ap (λ x. cond x (Some q) None) f)
+-- a delivery that counts makes the history longer by one
+pub history : (d e : Inside) (old : State) (edge : Edge) (delivered : List Edge) → Delivers d e old edge → is_some old.proposal ≡ false → HasDelivered old delivered → HasDelivered (state_of e) (delivered ++ edge ∷ [])
+history d e old edge delivered delivers none holds =
+    HasDelivered_push old (state_of e) edge delivered (observers_of d old delivers.seen) (delivers.layout ∙ ap (λ x. x.layout) delivers.seen) (ap rule_in delivers.rule ∙ ap (λ x. x.rule) delivers.seen) (λ some. absurd (let h : ⊥ = cc in h)) (λ _. takes d e old edge delivers) holds
 
-abbrev proposal_with : List ℕ → ℕ → declared.Proposal
-proposal_with xs n = record { members = xs; at = n }
+-- one that comes after the proposal leaves it as it is
+pub history-settled : (d : Inside) (old : State) (edge : Edge) (delivered : List Edge) → state_of d ≡ old → is_some old.proposal ≡ true → HasDelivered old delivered → HasDelivered old (delivered ++ edge ∷ [])
+history-settled d old edge delivered seen some holds =
+    HasDelivered_push old old edge delivered (observers_of d old seen) refl refl (λ _. refl) (λ none. absurd (let h : ⊥ = cc in h)) holds
 
-pub settling : (s : Bool) (xs ys : List ℕ) (n : ℕ) → xs ≡ ys → s ≡ true → Some (proposal_with xs n) ≡ cond s (Some (proposal_with ys n)) None
-settling s xs ys n e f = ap (λ zs. Some (proposal_with zs n)) e ∙ sym (ap (λ x. cond x (Some (proposal_with ys n)) None) f)
+-- a detector that has no reported edge
+pub record IsEmpty (d : Inside) (r : Layout) (x : Rule) : Type 0 where
+  pub layout : layout_of d ≡ r
+  pub rule : rule_of_inside d ≡ x
+  pub reported : d.reports.reported.masks.items ≡ replicate r.nodes 0
+  pub deliveries : d.deliveries ≡ 0
 
-pub some_at : (d : Inside) (old : State) → state_of d ≡ old → d.settled ≡ true → IsSome old.proposal
-some_at d old seen is = ap (λ x. is_some x.proposal) (sym seen) ∙ go d.settled _ is
+pub unsettled : (d : Inside) (r : Layout) (rule : Rule) → IsEmpty d r rule → is_settled (layout_of d) (rule_of_inside d) (reported_of d) ≡ false
+unsettled d r rule empty =
+    ap (λ xs. is_settled (layout_of d) (rule_of_inside d) (edges_in xs)) empty.reported
+    ∙ is_settled-empty (layout_of d) (rule_of_inside d) r.nodes d.reports.tally.rule.low d.reports.tally.rule.thresholds
+
+pub is_fresh : (d : Inside) (r : Layout) (rule : Rule) → IsEmpty d r rule → state_of d ≡ fresh r rule
+is_fresh d r rule empty =
+    ap (λ b. with_proposal r' rule' xs d.deliveries (cond b (Some p) None)) (unsettled d r rule empty)
+    ∙ ap (λ l. with_proposal l rule' xs d.deliveries None) empty.layout
+    ∙ ap (λ x. with_proposal r x xs d.deliveries None) empty.rule
+    ∙ ap (λ ys. with_proposal r rule ys d.deliveries None) empty.reported
+    ∙ ap (λ n. with_proposal r rule (replicate r.nodes 0) n None) empty.deliveries
   where
-    go : (b : Bool) (p : declared.Proposal) → b ≡ true → is_some (cond b (Some p) None) ≡ true
-    go b p e = ap (λ x. is_some (cond x (Some p) None)) e
+    with_proposal : Layout → Rule → List ℕ → ℕ → Option Proposal → State
+    with_proposal l x ys n q = record { layout = l; rule = x; edges = ys; deliveries = n; proposal = q }
 
-pub none_at : (d : Inside) (old : State) → state_of d ≡ old → d.settled ≡ false → IsNone old.proposal
-none_at d old seen is = ap (λ x. is_some x.proposal) (sym seen) ∙ go d.settled _ is
-  where
-    go : (b : Bool) (p : declared.Proposal) → b ≡ false → is_some (cond b (Some p) None) ≡ false
-    go b p e = ap (λ x. is_some (cond x (Some p) None)) e
+    r' : Layout
+    r' = layout_of d
+
+    rule' : Rule
+    rule' = rule_of_inside d
+
+    xs : List ℕ
+    xs = d.reports.reported.masks.items
+
+    p : Proposal
+    p = record { members = stable_members r' rule' (reported_of d); at = d.deliveries }
+
+-- nothing has been delivered to a fresh one
+pub fresh-delivered : (r : Layout) (rule : Rule) → HasDelivered (fresh r rule) []
+fresh-delivered r rule = record { proposal = refl; deliveries = λ _. refl; edges = λ _ ring s _ _. edges_in-empty r.nodes ring s }
+
+pub IsSound-empty : (d : Inside) (r : Layout) (rule : Rule) → IsEmpty d r rule → (layout_of d).nodes ≤ vec_capacity d.members → IsSound d
+IsSound-empty d r rule empty room = record {
+  members = λ settled. absurd (both_ways _ (unsettled d r rule empty) settled);
+  room = room;
+}

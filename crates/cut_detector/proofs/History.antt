@@ -9,7 +9,7 @@ use Rattle.cut_rings.specs.Layout.{Layout}
 use Rattle.cut_rings.specs.Edges.{EdgeSet, first_of, set_of, is_edge}
 use Rattle.cut_detector.specs.Rule.{Rule}
 use Rattle.cut_detector.specs.Counts.{is_settled, stable_members}
-use Rattle.cut_detector.specs.Proposal.{proposal_of, proposal_at}
+use Rattle.cut_detector.specs.Proposal.{proposal_of, settled_proposal}
 use Rattle.cut_detector.specs.State.{State, has_edge, HasDelivered, TakesEdge}
 use Rattle.cut_detector.specs.declared.proposal.Proposal as declared
 use Rattle.cut_detector.proofs.Agreement.{SameEdges, HasObservers, is_settled-same, stable_members-same}
@@ -53,28 +53,28 @@ or_else-first_or true p x y = refl
 or_else-first_or false p x y = refl
 
 -- one more place counts where nothing was found before it
-pub found-more : (r : Layout) (rule : Rule) (E : ℕ → EdgeSet) (a n j : ℕ) → a + n ≡ j → found r rule E a (suc n) ≡ or_else (found r rule E a n) (proposal_at r rule (E j) j)
+pub found-more : (r : Layout) (rule : Rule) (E : ℕ → EdgeSet) (a n j : ℕ) → a + n ≡ j → found r rule E a (suc n) ≡ or_else (found r rule E a n) (settled_proposal r rule (E j) j)
 found-more r rule E a zero j e =
-    found-suc r rule E a zero ∙ ap (λ m. proposal_at r rule (E m) m) (let w : a ≡ j = omega arith in w)
+    found-suc r rule E a zero ∙ ap (λ m. settled_proposal r rule (E m) m) (let w : a ≡ j = omega arith in w)
 found-more r rule E a (suc n) j e =
     found-suc r rule E a (suc n)
     ∙ ap (λ q. first_or r rule (E a) a q) (found-more r rule E (a + 1) n j (omega arith))
-    ∙ or_else-first_or (is_settled r rule (E a)) _ (found r rule E (a + 1) n) (proposal_at r rule (E j) j)
-    ∙ ap (λ q. or_else q (proposal_at r rule (E j) j)) (sym (found-suc r rule E a n))
+    ∙ or_else-first_or (is_settled r rule (E a)) _ (found r rule E (a + 1) n) (settled_proposal r rule (E j) j)
+    ∙ ap (λ q. or_else q (settled_proposal r rule (E j) j)) (sym (found-suc r rule E a n))
 
 -- a longer list proposes what the list did, or else at its own end
-pub proposal_of_push : (r : Layout) (rule : Rule) (edges : List Edge) (edge : Edge) → proposal_of r rule (first_of (edges ++ edge ∷ [])) (length (edges ++ edge ∷ [])) ≡ or_else (proposal_of r rule (first_of edges) (length edges)) (proposal_at r rule (set_of (edges ++ edge ∷ [])) (length edges + 1))
+pub proposal_of_push : (r : Layout) (rule : Rule) (edges : List Edge) (edge : Edge) → proposal_of r rule (first_of (edges ++ edge ∷ [])) (length (edges ++ edge ∷ [])) ≡ or_else (proposal_of r rule (first_of edges) (length edges)) (settled_proposal r rule (set_of (edges ++ edge ∷ [])) (length edges + 1))
 proposal_of_push r rule edges edge =
     let longer : length (edges ++ edge ∷ []) ≡ suc (length edges) = length-append edges (edge ∷ []) ∙ (let w : length edges + 1 ≡ suc (length edges) = omega arith in w) in
     let whole : take (length edges + 1) (edges ++ edge ∷ []) ≡ edges ++ edge ∷ [] = take_all _ _ (omega arith) in
     ap (λ n. proposal_of r rule (first_of (edges ++ edge ∷ [])) n) longer
     ∙ found-more r rule (first_of (edges ++ edge ∷ [])) 1 (length edges) (length edges + 1) (omega arith)
-    ∙ ap (λ q. or_else q (proposal_at r rule (first_of (edges ++ edge ∷ []) (length edges + 1)) (length edges + 1)))
+    ∙ ap (λ q. or_else q (settled_proposal r rule (first_of (edges ++ edge ∷ []) (length edges + 1)) (length edges + 1)))
     (found-same r rule (first_of (edges ++ edge ∷ [])) (first_of edges) 1 (length edges) (λ m low high. ap set_of (take-append-le m edges (edge ∷ []) (omega arith))))
-    ∙ ap (λ xs. or_else (proposal_of r rule (first_of edges) (length edges)) (proposal_at r rule (set_of xs) (length edges + 1))) whole
+    ∙ ap (λ xs. or_else (proposal_of r rule (first_of edges) (length edges)) (settled_proposal r rule (set_of xs) (length edges + 1))) whole
 
-pub proposal_at-same : (r : Layout) (rule : Rule) (E F : EdgeSet) (n : ℕ) → HasObservers r rule.k → SameEdges rule.k r.nodes E F → proposal_at r rule E n ≡ proposal_at r rule F n
-proposal_at-same r rule E F n observers edges =
+pub settled_proposal-same : (r : Layout) (rule : Rule) (E F : EdgeSet) (n : ℕ) → HasObservers r rule.k → SameEdges rule.k r.nodes E F → settled_proposal r rule E n ≡ settled_proposal r rule F n
+settled_proposal-same r rule E F n observers edges =
     ap (λ b. cond b (Some (record { members = stable_members r rule E; at = n })) None) (is_settled-same r rule E F observers edges)
     ∙ ap (λ xs. cond (is_settled r rule F) (Some (record { members = xs; at = n })) None) (stable_members-same r rule E F observers edges)
 
@@ -91,7 +91,7 @@ HasDelivered_push old new edge edges observers layout rule settled taken deliver
         let P : State → Type 0 = λ d. HasDelivered d (edges ++ edge ∷ []) in
         let short : proposal_of old.layout old.rule (first_of edges) (length edges) ≡ Some p = sym delivered.proposal ∙ is in
         subst P (sym (settled some)) (record {
-          proposal = is ∙ sym (proposal_of_push old.layout old.rule edges edge ∙ ap (λ q. or_else q (proposal_at old.layout old.rule (set_of (edges ++ edge ∷ [])) (length edges + 1))) short);
+          proposal = is ∙ sym (proposal_of_push old.layout old.rule edges edge ∙ ap (λ q. or_else q (settled_proposal old.layout old.rule (set_of (edges ++ edge ∷ [])) (length edges + 1))) short);
           deliveries = λ none. absurd (let h : ⊥ = cc in h);
           edges = λ none. absurd (let h : ⊥ = cc in h);
         })
@@ -112,9 +112,9 @@ HasDelivered_push old new edge edges observers layout rule settled taken deliver
         record {
           proposal =
               takes.proposal
-              ∙ ap (λ n. proposal_at old.layout old.rule (has_edge new) n) count
-              ∙ proposal_at-same old.layout old.rule (has_edge new) (set_of (edges ++ edge ∷ [])) (length edges + 1) observers same
-              ∙ ap (λ q. or_else q (proposal_at old.layout old.rule (set_of (edges ++ edge ∷ [])) (length edges + 1))) (sym short)
+              ∙ ap (λ n. settled_proposal old.layout old.rule (has_edge new) n) count
+              ∙ settled_proposal-same old.layout old.rule (has_edge new) (set_of (edges ++ edge ∷ [])) (length edges + 1) observers same
+              ∙ ap (λ q. or_else q (settled_proposal old.layout old.rule (set_of (edges ++ edge ∷ [])) (length edges + 1))) (sym short)
               ∙ sym (proposal_of_push old.layout old.rule edges edge)
               ∙ ap (λ l. proposal_of l old.rule (first_of (edges ++ edge ∷ [])) (length (edges ++ edge ∷ []))) (sym layout)
               ∙ ap (λ x. proposal_of new.layout x (first_of (edges ++ edge ∷ [])) (length (edges ++ edge ∷ []))) (sym rule);

@@ -1,10 +1,14 @@
-pub mod Ranges
+pub mod Bits
+pub mod Counting
 pub mod Observers
 pub mod Agreement
-pub mod Tables
+pub mod Neighbours
 pub mod History
-pub mod Delivery
 pub mod Modes
 pub mod Places
+pub mod Entering
+pub mod Settling
+pub mod Delivery
 pub mod Watermarks
 pub mod Repeats
+pub mod Gaps

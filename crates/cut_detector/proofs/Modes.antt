@@ -1,18 +1,37 @@
 -- What reports alone say of a process's mode.
-use Rattle.std.proofs.Common.{◌≡◌, ℕ, zero, suc, ◌+◌, ◌<◌, ◌≤◌, Bool, true, false, cond, ◌&&◌, ◌||◌, nat_le, nat_lt, IsTrue, refl, ap, sym, ◌∙◌, arith}
-use Rattle.std.specs.List.{range_with_len, count_by}
+use Rattle.std.proofs.Common.{◌≡◌, ℕ, ◌<◌, ◌≤◌, Bool, true, false, cond, ◌&&◌, ◌||◌, nat_le, IsTrue, refl, ap, sym, ◌∙◌, arith}
+use Rattle.std.specs.List.{range_with_len}
 use Rattle.std.proofs.Math.Bool.{or-false}
-use Rattle.std.proofs.lemmas.Bool.{leb-true, le-leb, ltb-true, false_from_ne_true}
-use Rattle.std.proofs.lemmas.List.Sums.{sum_by-le-sum_by, sum_by-cons}
+use Rattle.std.proofs.lemmas.Bool.{and_parts, and_from, leb-true, le-leb, ltb-true, lt-ltb, false_from_ne_true}
+use Rattle.std.proofs.lemmas.List.Sums.{sum_by-le-sum_by}
 use Rattle.cut_rings.specs.Layout.{Layout, observer_of}
 use Rattle.cut_rings.specs.Edges.{EdgeSet}
 use Rattle.cut_detector.specs.Rule.{Rule}
 use Rattle.cut_detector.specs.Counts.{reports_of, is_reported, is_gained, is_full, full_count, is_stable, is_unstable}
 use Rattle.cut_detector.specs.Laws.{ReportsTargetsAlone}
-use Rattle.cut_detector.proofs.Ranges.{count_by_agree}
-use Rattle.cut_detector.proofs.Tables.{both}
+use Rattle.cut_lists.proofs.Ranges.{count_by_agree}
+use Rattle.cut_lists.proofs.Ranks.{count_by_none}
 
-or_keeps : (x y : Bool) → cond x 1 0 ≤ cond (x || y) 1 0
+-- stable and unstable, as bounds on how many rings count
+pub stable-is : (r : Layout) (rule : Rule) (E : EdgeSet) (s : ℕ) → IsTrue (is_stable r rule E s) → rule.h ≤ full_count r rule E s
+unfolding is_stable
+stable-is r rule E s is = leb-true _ _ is
+
+pub is_stable-from : (r : Layout) (rule : Rule) (E : EdgeSet) (s : ℕ) → rule.h ≤ full_count r rule E s → IsTrue (is_stable r rule E s)
+unfolding is_stable
+is_stable-from r rule E s many = le-leb _ _ many
+
+pub unstable-is : (r : Layout) (rule : Rule) (E : EdgeSet) (s : ℕ) → IsTrue (is_unstable r rule E s) → (rule.l ≤ full_count r rule E s) × (full_count r rule E s < rule.h)
+unfolding is_unstable
+unstable-is r rule E s is =
+    let parts = and_parts (nat_le rule.l (full_count r rule E s)) _ is in
+    (leb-true _ _ parts.0, ltb-true _ _ parts.1)
+
+pub is_unstable-from : (r : Layout) (rule : Rule) (E : EdgeSet) (s : ℕ) → rule.l ≤ full_count r rule E s → full_count r rule E s < rule.h → IsTrue (is_unstable r rule E s)
+unfolding is_unstable
+is_unstable-from r rule E s low high = and_from _ _ (le-leb _ _ low) (lt-ltb _ _ high)
+
+pub or_keeps : (x y : Bool) → cond x 1 0 ≤ cond (x || y) 1 0
 or_keeps true y = omega arith
 or_keeps false y = omega arith
 
@@ -50,21 +69,12 @@ is_stable-equal r rule E s equal = go (is_reported rule E s) refl
     go false is = ap (nat_le rule.h) (full_count-unreported r rule E s is)
 
 pub is_unstable-equal : (r : Layout) (rule : Rule) (E : EdgeSet) (s : ℕ) → rule.l ≡ rule.h → IsTrue (is_unstable r rule E s) → ⊥
-unfolding is_unstable
-is_unstable-equal r rule E s equal is =
-    let parts = both (nat_le rule.l (full_count r rule E s)) (nat_lt (full_count r rule E s) rule.h) is in
-    let low : rule.l ≤ full_count r rule E s = leb-true _ _ parts.0 in
-    let high : full_count r rule E s < rule.h = ltb-true _ _ parts.1 in
-    omega arith
+is_unstable-equal r rule E s equal is = let parts = unstable-is r rule E s is in omega (arith, parts.0, parts.1)
 
 -- a process that no edge is about has no report
-no_reports : (rule : Rule) (E : EdgeSet) (s : ℕ) → ((k : ℕ) → k < rule.k → E k s ≡ false) → reports_of rule E s ≡ 0
+pub no_reports : (rule : Rule) (E : EdgeSet) (s : ℕ) → ((k : ℕ) → k < rule.k → E k s ≡ false) → reports_of rule E s ≡ 0
 no_reports rule E s none =
-    count_by_agree (λ k. E k s) (λ _. false) 0 rule.k (record { same = λ k _ below. none k (omega arith) }) ∙ count_by_never rule.k 0
-  where
-    count_by_never : (n a : ℕ) → count_by (λ _. false) (range_with_len a n) ≡ 0
-    count_by_never zero a = refl
-    count_by_never (suc n) a = sum_by-cons (λ _. cond false 1 0) a (range_with_len (a + 1) n) ∙ ap (λ m. 0 + m) (count_by_never n (a + 1))
+    count_by_agree (λ k. E k s) (λ _. false) 0 rule.k (record { same = λ k _ below. none k (omega arith) }) ∙ count_by_none (λ _. false) (range_with_len 0 rule.k) (λ _ _ _. refl)
 
 pub full_count-others : (r : Layout) (rule : Rule) (E : EdgeSet) (is_target : ℕ → Bool) → 1 ≤ rule.l → ReportsTargetsAlone r rule E is_target → (s : ℕ) → s < r.nodes → is_target s ≡ false → full_count r rule E s ≡ 0
 unfolding is_reported
@@ -89,11 +99,10 @@ is_stable-targets r rule E is_target low high reports s process = go (is_target 
         false_from_ne_true _ (λ t. let w : rule.h ≤ full_count r rule E s = leb-true _ _ t in omega arith) ∙ sym is
 
 pub is_unstable-targets : (r : Layout) (rule : Rule) (E : EdgeSet) (is_target : ℕ → Bool) → 1 ≤ rule.l → rule.l ≤ rule.h → ReportsTargetsAlone r rule E is_target → (s : ℕ) → s < r.nodes → IsTrue (is_unstable r rule E s) → ⊥
-unfolding is_unstable
 is_unstable-targets r rule E is_target low high reports s process unstable = go (is_target s) refl
   where
     parts : (rule.l ≤ full_count r rule E s) × (full_count r rule E s < rule.h)
-    parts = let w = both (nat_le rule.l (full_count r rule E s)) (nat_lt (full_count r rule E s) rule.h) unstable in (leb-true _ _ w.0, ltb-true _ _ w.1)
+    parts = unstable-is r rule E s unstable
 
     go : (b : Bool) → is_target s ≡ b → ⊥
     go true is =

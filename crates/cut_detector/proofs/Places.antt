@@ -2,7 +2,7 @@
 use Rattle.std.proofs.Common.{◌≡◌, ℕ, zero, suc, ◌+◌, ◌<◌, ◌≤◌, ◌↔◌, inl, inr, Bool, true, false, cond, ◌&&◌, not, List, Option, Some, None, MatchOption, IsTrue, refl, ap, sym, subst, ◌∙◌, arith}
 use Rattle.std.specs.List.{range_with_len, Contains}
 use Rattle.std.specs.List.Sorted.{IsStrictlyIncreasing}
-use Rattle.std.proofs.lemmas.Bool.{cases_lt}
+use Rattle.std.proofs.lemmas.Bool.{and_parts, cases_lt}
 use Rattle.std.proofs.lemmas.List.Kept.{IsStrictlyIncreasing-filter}
 use Rattle.cut_rings.specs.Layout.{Layout}
 use Rattle.cut_rings.specs.Edges.{EdgeSet}
@@ -11,8 +11,7 @@ use Rattle.cut_detector.specs.Counts.{is_stable, is_unstable, is_some_stable, is
 use Rattle.cut_detector.specs.Proposal.{proposal_of}
 use Rattle.cut_detector.specs.Laws.{IsSettled, IsOfLeastPlace}
 use Rattle.cut_detector.specs.declared.proposal.Proposal as declared
-use Rattle.cut_detector.proofs.Ranges.{passing, list_any_passing, none_passing, list_any_none_passing, Contains-filter_of, Contains_filter, range-rises}
-use Rattle.cut_detector.proofs.Tables.{both}
+use Rattle.cut_lists.proofs.Ranges.{passing, list_any_passing, none_passing, list_any_none_passing, Contains-filter_of, Contains_filter, range-rises}
 use Rattle.cut_detector.proofs.History.{found, found-suc, made}
 
 not_true : (b : Bool) → not b ≡ true → b ≡ false
@@ -22,7 +21,7 @@ not_true false e = refl
 pub IsSettled-from : (r : Layout) (rule : Rule) (E : EdgeSet) → is_settled r rule E ≡ true → IsSettled r rule E
 unfolding is_settled is_some_stable is_some_unstable
 IsSettled-from r rule E e =
-    let parts = both (is_some_stable r rule E) (not (is_some_unstable r rule E)) e in
+    let parts = and_parts (is_some_stable r rule E) (not (is_some_unstable r rule E)) e in
     let at = passing (λ s. is_stable r rule E s) 0 r.nodes parts.0 in
     let none : is_some_unstable r rule E ≡ false = not_true _ parts.1 in
     record {

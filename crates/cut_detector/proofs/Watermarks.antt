@@ -1,5 +1,5 @@
 -- What equal watermarks leave of the modes.
-use Rattle.std.proofs.Common.{◌≡◌, ℕ, ◌<◌, ◌≤◌, ◌↔◌, Bool, true, false, ◌&&◌, not, List, Option, Some, None, option_map, MatchOption, IsTrue, refl, ap, sym, ◌∙◌, arith}
+use Rattle.std.proofs.Common.{◌≡◌, ℕ, ◌<◌, ◌≤◌, ◌↔◌, Bool, true, false, List, Option, Some, None, option_map, MatchOption, IsTrue, refl, ap, sym, ◌∙◌, arith}
 use Rattle.std.specs.List.{range_with_len, find}
 use Rattle.std.proofs.lemmas.Bool.{leb-true, le-leb, false_from_ne_true}
 use Rattle.cut_rings.specs.Layout.{Layout}
@@ -8,7 +8,8 @@ use Rattle.cut_detector.specs.Rule.{Rule, rule_of}
 use Rattle.cut_detector.specs.Counts.{reports_of, is_stable, is_unstable, is_some_stable, is_some_unstable, is_settled, stable_members}
 use Rattle.cut_detector.specs.Proposal.{proposal_of}
 use Rattle.cut_detector.specs.declared.proposal.Proposal as declared
-use Rattle.cut_detector.proofs.Ranges.{AgreeOn, list_any_agree, filter_agree_on}
+use Rattle.cut_lists.proofs.Counts.{some_and_none_agree}
+use Rattle.cut_lists.proofs.Ranges.{AgreeOn, filter_agree_on}
 use Rattle.cut_detector.proofs.Modes.{is_stable-equal, is_unstable-equal}
 use Rattle.cut_detector.proofs.Places.{is_settled-from, found_is, NoneAmong, IsFirst}
 
@@ -30,9 +31,7 @@ unstable_agrees r k h E = record { same = λ s _ _. never_unstable r (rule_of k 
 settled_agrees : (r : Layout) (k h : ℕ) (E : EdgeSet) → is_settled r (rule_of k h h true) E ≡ is_settled r (rule_of k h h false) E
 unfolding is_settled is_some_stable is_some_unstable
 settled_agrees r k h E =
-    let some : is_some_stable r (rule_of k h h true) E ≡ is_some_stable r (rule_of k h h false) E = list_any_agree _ _ 0 r.nodes (stable_agrees r k h E) in
-    let none : is_some_unstable r (rule_of k h h true) E ≡ is_some_unstable r (rule_of k h h false) E = list_any_agree _ _ 0 r.nodes (unstable_agrees r k h E) in
-    ap (λ b. b && not (is_some_unstable r (rule_of k h h true) E)) some ∙ ap (λ b. is_some_stable r (rule_of k h h false) E && not b) none
+    some_and_none_agree _ _ _ _ r.nodes (stable_agrees r k h E) (unstable_agrees r k h E)
 
 members_agree : (r : Layout) (k h : ℕ) (E : EdgeSet) → stable_members r (rule_of k h h true) E ≡ stable_members r (rule_of k h h false) E
 unfolding stable_members

@@ -7,26 +7,30 @@ use Rattle.cut_rings.specs.Layout.{Layout, observer_of}
 use Rattle.cut_rings.specs.Edges.{EdgeSet}
 use Rattle.cut_detector.specs.Rule.{Rule}
 
+-- on how many of the first k rings a set has the edge to s
+abbrev pub ring_count : ℕ → EdgeSet → ℕ → ℕ
+ring_count k E s = count_by (λ ring. E ring s) (range_with_len 0 k)
+
 -- on how many distinct rings s is reported
 abbrev pub reports_of : Rule → EdgeSet → ℕ → ℕ
-reports_of rule E s = count_by (λ k. E k s) (range_with_len 0 rule.k)
+reports_of rule E s = ring_count rule.k E s
 
 -- whether s is reported on at least L rings
 unfoldable pub is_reported : Rule → EdgeSet → ℕ → Bool
 is_reported rule E s = nat_le rule.l (reports_of rule E s)
 
--- whether s gains ring k: implicit alerts are on, and s and its observer on that ring are both
+-- whether s gains a ring: implicit alerts are on, and s and its observer on that ring are both
 -- reported on at least L rings
 abbrev pub is_gained : Layout → Rule → EdgeSet → ℕ → ℕ → Bool
-is_gained r rule E k s = rule.implicit && is_reported rule E s && is_reported rule E (observer_of r k s)
+is_gained r rule E ring s = rule.implicit && is_reported rule E s && is_reported rule E (observer_of r ring s)
 
--- whether ring k counts for s: it is reported there, or gains it
+-- whether a ring counts for s: s is reported there, or gains it
 unfoldable pub is_full : Layout → Rule → EdgeSet → ℕ → ℕ → Bool
-is_full r rule E k s = E k s || is_gained r rule E k s
+is_full r rule E ring s = E ring s || is_gained r rule E ring s
 
 -- how many rings count for s
 abbrev pub full_count : Layout → Rule → EdgeSet → ℕ → ℕ
-full_count r rule E s = count_by (λ k. is_full r rule E k s) (range_with_len 0 rule.k)
+full_count r rule E s = ring_count rule.k (is_full r rule E) s
 
 -- stable: at least H rings count
 unfoldable pub is_stable : Layout → Rule → EdgeSet → ℕ → Bool

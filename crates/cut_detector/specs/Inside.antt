@@ -1,24 +1,34 @@
--- How a `Detector` is kept: a table of truth values by edge number, and the members of its proposal.
-use Rattle.std.specs.Prelude.{◌≡◌, ◌*◌, ◌≤◌, length, vec_capacity, Some, None, if◌then◌else◌}
+-- How a `Detector` is kept: the reported edges with the rings that count, and the members of its
+-- proposal.
+use Rattle.std.specs.Prelude.{◌≡◌, ◌≤◌, vec_capacity, IsTrue}
 use Rattle.cut_detector.specs.declared.detector.Detector.TheInside.{Inside}
-use Rattle.cut_rings.specs.Layout.{IsLayout}
-use Rattle.cut_detector.specs.Rule.{rule_of}
+use Rattle.cut_rings.specs.Layout.{Layout}
+use Rattle.cut_rings.specs.Edges.{EdgeSet}
+use Rattle.cut_detector.specs.Rule.{Rule, rule_in}
+use Rattle.cut_detector.specs.Counts.{is_settled, stable_members}
+use Rattle.cut_detector.specs.Proposal.{settled_proposal}
+use Rattle.cut_detector.specs.Masks.{edges_in}
 use Rattle.cut_detector.specs.State.{State}
+
+abbrev pub layout_of : Inside → Layout
+layout_of d = d.reports.rings.now
+
+abbrev pub rule_of_inside : Inside → Rule
+rule_of_inside d = rule_in d.reports.tally.rule
+
+abbrev pub reported_of : Inside → EdgeSet
+reported_of d = edges_in d.reports.reported.masks.items
 
 abbrev pub state_of : Inside → State
 state_of d = record {
-  layout = d.rings.now;
-  rule = rule_of d.k d.h d.l d.implicit;
-  edges = d.edges.items;
+  layout = layout_of d;
+  rule = rule_of_inside d;
+  edges = d.reports.reported.masks.items;
   deliveries = d.deliveries;
-  proposal = if d.settled then Some (record { members = d.members.items; at = d.deliveries }) else None;
+  proposal = settled_proposal (layout_of d) (rule_of_inside d) (reported_of d) d.deliveries;
 }
 
 pub record IsSound (d : Inside) : Type 0 where
-  pub low : 1 ≤ d.l
-  pub thresholds : d.l ≤ d.h
-  pub high : d.h ≤ d.k
-  pub rings : d.k ≤ length d.rings.now.positions
-  pub layout : IsLayout d.rings.now
-  pub table : length d.edges.items ≡ d.rings.now.nodes * d.k
-  pub room : d.rings.now.nodes ≤ vec_capacity d.members
+  -- where it proposes, these are the members
+  pub members : IsTrue (is_settled (layout_of d) (rule_of_inside d) (reported_of d)) → d.members.items ≡ stable_members (layout_of d) (rule_of_inside d) (reported_of d)
+  pub room : (layout_of d).nodes ≤ vec_capacity d.members

@@ -1,5 +1,5 @@
 -- Laws of cut detection, in the words of the Rapid paper's section on multi-process cut detection.
-use Rattle.std.specs.Prelude.{◌≡◌, ℕ, ◌<◌, ◌≤◌, ◌↔◌, Bool, true, false, List, ◌∷◌, ◌++◌, length, Option, option_map, MatchOption, IsTrue, Contains}
+use Rattle.std.specs.Prelude.{◌≡◌, ℕ, ◌<◌, ◌≤◌, ◌↔◌, ◌⊎◌, ⊤, Bool, true, false, List, ◌∷◌, ◌++◌, length, Option, option_map, MatchOption, if◌then◌else◌, nat_le, suc, IsTrue, Contains}
 use Rattle.std.specs.List.Sorted.{IsStrictlyIncreasing}
 use Rattle.cut_rings.specs.declared.edge.Edge.{Edge}
 use Rattle.cut_rings.specs.Layout.{Layout}
@@ -7,7 +7,7 @@ use Rattle.cut_rings.specs.Edges.{EdgeSet, first_of}
 use Rattle.cut_detector.specs.Rule.{Rule, rule_of}
 use Rattle.cut_detector.specs.Counts.{reports_of, is_stable, is_unstable}
 use Rattle.cut_detector.specs.Proposal.{proposal_of}
-use Rattle.cut_detector.specs.declared.proposal.Proposal as declared
+use Rattle.cut_detector.specs.declared.proposal.Proposal.{Proposal}
 
 -- some process is stable and none is unstable
 pub record IsSettled (r : Layout) (rule : Rule) (E : EdgeSet) : Type 0 where
@@ -16,7 +16,7 @@ pub record IsSettled (r : Layout) (rule : Rule) (E : EdgeSet) : Type 0 where
 
 -- a proposal that is made at the least of `count` places at which some process is stable and none is
 -- unstable, and whose members are exactly the stable processes there
-pub record IsOfLeastPlace (r : Layout) (rule : Rule) (E : ℕ → EdgeSet) (count : ℕ) (p : declared.Proposal) : Type 0 where
+pub record IsOfLeastPlace (r : Layout) (rule : Rule) (E : ℕ → EdgeSet) (count : ℕ) (p : Proposal) : Type 0 where
   pub from_first : 1 ≤ p.at
   pub to_last : p.at ≤ count
   pub settled : IsSettled r rule (E p.at)
@@ -32,15 +32,29 @@ ProposesAtLeastPlace =
     ((n : ℕ) → 1 ≤ n → n ≤ count → ¬ IsSettled r rule (E n))
     (IsOfLeastPlace r rule E count)
 
--- the members that are proposed after a list of deliveries, if there is a proposal
+-- the proposal after a list of deliveries, if there is one
+abbrev pub proposal_after : Layout → Rule → List Edge → Option Proposal
+proposal_after r rule edges = proposal_of r rule (first_of edges) (length edges)
+
+-- its members
 abbrev pub members_after : Layout → Rule → List Edge → Option (List ℕ)
-members_after r rule edges = option_map (λ p. p.members) (proposal_of r rule (first_of edges) (length edges))
+members_after r rule edges = option_map (λ p. p.members) (proposal_after r rule edges)
 
 -- an edge that is delivered once more, at any later place, changes no members
 abbrev pub RepeatsChangeNoMembers : Type 0
 RepeatsChangeNoMembers =
     (r : Layout) (rule : Rule) (before after : List Edge) (edge : Edge) → Contains before edge →
     members_after r rule (before ++ edge ∷ after) ≡ members_after r rule (before ++ after)
+
+-- the proposal with its place one later, where that is after the first n
+abbrev pub delayed : ℕ → Proposal → Proposal
+delayed n p = record { members = p.members; at = if nat_le p.at n then p.at else suc p.at }
+
+-- and it is counted itself, but changes no place else: what is proposed after it is proposed one later
+abbrev pub RepeatsDelayByOne : Type 0
+RepeatsDelayByOne =
+    (r : Layout) (rule : Rule) (before after : List Edge) (edge : Edge) → Contains before edge →
+    proposal_after r rule (before ++ edge ∷ after) ≡ option_map (delayed (length before)) (proposal_after r rule (before ++ after))
 
 -- with L = H a process is stable exactly where at least H distinct rings report it
 abbrev pub StableByReportsAlone : Type 0
@@ -85,3 +99,44 @@ TargetsAloneLeaveNoneUnstable =
     (r : Layout) (rule : Rule) (E : EdgeSet) (is_target : ℕ → Bool) → 1 ≤ rule.l → rule.l ≤ rule.h →
     ReportsTargetsAlone r rule E is_target →
     (s : ℕ) → s < r.nodes → ¬ IsTrue (is_unstable r rule E s)
+
+-- sets of edges of which none loses an edge that an earlier one has
+abbrev pub Grows : (ℕ → EdgeSet) → Type 0
+Grows E = (m n ring s : ℕ) → m ≤ n → IsTrue (E m ring s) → IsTrue (E n ring s)
+
+-- where q proposes p does, at the same place or before, and members of q alone
+abbrev pub ProposesBefore : Option Proposal → Option Proposal → Type 0
+ProposesBefore p q =
+    MatchOption q ⊤ (λ later. MatchOption p ⊥ (λ sooner. (sooner.at ≤ later.at) × ((s : ℕ) → Contains sooner.members s → Contains later.members s)))
+
+-- who proposes with a higher H proposes with a lower one too, no later, and no further members
+abbrev pub AWiderGapProposesLater : Type 0
+AWiderGapProposesLater =
+    (r : Layout) (k g h l : ℕ) (implicit : Bool) (E : ℕ → EdgeSet) (count : ℕ) → l ≤ h → h ≤ g → Grows E →
+    ProposesBefore (proposal_of r (rule_of k h l implicit) E count) (proposal_of r (rule_of k g l implicit) E count)
+
+-- without implicit alerts so does who proposes with a lower L: the gap is wider at both ends
+abbrev pub AGapWiderAtBothEndsProposesLater : Type 0
+AGapWiderAtBothEndsProposesLater =
+    (r : Layout) (k g h l m : ℕ) (E : ℕ → EdgeSet) (count : ℕ) → m ≤ l → l ≤ h → h ≤ g → Grows E →
+    ProposesBefore (proposal_of r (rule_of k h l false) E count) (proposal_of r (rule_of k g m false) E count)
+
+-- the sets of the first entries of a list of edges lose none, so that both laws are ones on lists
+abbrev pub FirstEdgesGrow : Type 0
+FirstEdgesGrow = (edges : List Edge) → Grows (first_of edges)
+
+-- stable or unstable
+abbrev pub IsMarked : Layout → Rule → EdgeSet → ℕ → Type 0
+IsMarked r rule E s = IsTrue (is_stable r rule E s) ⊎ IsTrue (is_unstable r rule E s)
+
+-- what is stable without implicit alerts is stable with them
+abbrev pub ImplicitAlertsKeepStable : Type 0
+ImplicitAlertsKeepStable =
+    (r : Layout) (k h l : ℕ) (E : EdgeSet) (s : ℕ) →
+    IsTrue (is_stable r (rule_of k h l false) E s) → IsTrue (is_stable r (rule_of k h l true) E s)
+
+-- what is stable or unstable without implicit alerts is so with them
+abbrev pub ImplicitAlertsKeepMarked : Type 0
+ImplicitAlertsKeepMarked =
+    (r : Layout) (k h l : ℕ) (E : EdgeSet) (s : ℕ) → l ≤ h →
+    IsMarked r (rule_of k h l false) E s → IsMarked r (rule_of k h l true) E s

@@ -1,8 +1,9 @@
 pub mod Rule
 pub mod Counts
 pub mod Proposal
-pub mod Table
+pub mod Masks
+pub mod Tally
+pub mod Gains
 pub mod State
-pub mod Recount
 pub mod Laws
 pub mod Inside

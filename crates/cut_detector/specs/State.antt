@@ -1,32 +1,32 @@
 -- A detector as contracts see it.
-use Rattle.std.specs.Prelude.{◌≡◌, ℕ, ◌+◌, ◌*◌, ◌<◌, ◌||◌, Bool, false, List, length, replicate, Option, None, IsNone}
+use Rattle.std.specs.Prelude.{◌≡◌, ℕ, ◌+◌, ◌<◌, ◌||◌, Bool, List, length, replicate, Option, None, IsNone}
 use Rattle.cut_rings.specs.declared.edge.Edge.{Edge}
 use Rattle.cut_rings.specs.Layout.{Layout}
 use Rattle.cut_rings.specs.Edges.{first_of, set_of, is_edge}
 use Rattle.cut_detector.specs.Rule.{Rule}
-use Rattle.cut_detector.specs.Table.{edges_in}
-use Rattle.cut_detector.specs.Proposal.{proposal_of, proposal_at}
-use Rattle.cut_detector.specs.declared.proposal.Proposal as declared
+use Rattle.cut_detector.specs.Masks.{edges_in}
+use Rattle.cut_detector.specs.Proposal.{proposal_of, settled_proposal}
+use Rattle.cut_detector.specs.declared.proposal.Proposal.{Proposal}
 
--- its rings and rule, the set of delivered edges as a table by edge number, the number of deliveries,
--- and the proposal
+-- its rings and rule, the set of delivered edges as the masks of the processes, the number of
+-- deliveries, and the proposal
 pub record State : Type 0 where
   pub layout : Layout
   pub rule : Rule
-  pub edges : List Bool
+  pub edges : List ℕ
   pub deliveries : ℕ
-  pub proposal : Option declared.Proposal
+  pub proposal : Option Proposal
 
 -- whether the edge of a ring and a subject has been delivered
 abbrev pub has_edge : State → ℕ → ℕ → Bool
-has_edge d ring subject = edges_in d.rule.k d.edges ring subject
+has_edge d ring subject = edges_in d.edges ring subject
 
 -- a detector to which nothing has been delivered
 abbrev pub fresh : Layout → Rule → State
 fresh r rule = record {
   layout = r;
   rule = rule;
-  edges = replicate (r.nodes * rule.k) false;
+  edges = replicate r.nodes 0;
   deliveries = 0;
   proposal = None;
 }
@@ -36,7 +36,7 @@ fresh r rule = record {
 pub record TakesEdge (old new : State) (edge : Edge) : Type 0 where
   pub deliveries : new.deliveries ≡ old.deliveries + 1
   pub edges : (ring subject : ℕ) → ring < old.rule.k → subject < old.layout.nodes → has_edge new ring subject ≡ (has_edge old ring subject || is_edge ring subject edge)
-  pub proposal : new.proposal ≡ proposal_at old.layout old.rule (has_edge new) new.deliveries
+  pub proposal : new.proposal ≡ settled_proposal old.layout old.rule (has_edge new) new.deliveries
 
 -- these edges have been delivered, in this order, since the detector was made or reset
 pub record HasDelivered (d : State) (delivered : List Edge) : Type 0 where

@@ -1,11 +1,12 @@
-ghost use Rattle.std.specs.Prelude.{◌≡◌, ◌+◌, ◌≤◌, ◌<◌, ◌^◌, ◌↔◌, ◌∷◌, ◌++◌, [], List, length, replicate, false, IfOk, IsSome, IsNone, IsTrue};
+ghost use Rattle.std.specs.Prelude.{◌≡◌, ◌+◌, ◌≤◌, ◌<◌, ◌^◌, ◌↔◌, ◌∷◌, ◌++◌, [], List, length, option_map, IfOk, IsSome, IsNone, IsTrue};
 ghost use Rattle.cut_rings.specs.declared.edge.Edge.{Edge};
-ghost use Rattle.cut_rings.specs.Edges.{first_of, is_within, are_within};
+ghost use Rattle.cut_rings.specs.Edges.{first_of, is_edge_of, are_edges_of};
 ghost use Rattle.cut_detector.specs.Rule.{rule_of};
 ghost use Rattle.cut_detector.specs.Proposal.{proposal_of};
 ghost use Rattle.cut_detector.specs.State.{fresh, HasDelivered, TakesEdge};
 
-use crate::recount::Recount;
+use crate::reports::Reports;
+use crate::rule::Rule;
 use crate::{Members, Proposal, Step};
 use cut_rings::{Edge, Rings};
 use std::alloc::{AllocError, Global};
@@ -15,14 +16,8 @@ use std::marker::Model;
 /// rings and rule, its set of edges, its number of deliveries and its proposal.
 #[derive(Debug, Drop)]
 pub struct Detector<'a> {
-    rings: &'a Rings,
-    k: u8,
-    h: u8,
-    l: u8,
-    implicit: bool,
-    edges: Vec<bool>,
+    reports: Reports<'a>,
     deliveries: u64,
-    settled: bool,
     members: Vec<u16>,
 }
 
@@ -58,18 +53,12 @@ impl<'a> Detector<'a> {
         ensures made { IfOk result (λ d. d ≡ fresh rings.now (rule_of k h l implicit)) }
         ensures empty { IfOk result (λ d. HasDelivered d []) }
     {
-        let nodes = usize::from(rings.nodes());
-        let edges = vec![in alloc; false; nodes * usize::from(k)]?;
-        let members = Vec::with_capacity(alloc, nodes)?;
+        let members = Vec::with_capacity(alloc, usize::from(rings.nodes()))?;
+        let rule = Rule { k, h, l, implicit };
+        let reports = Reports::new(alloc, rings, rule)?;
         Ok(Detector {
-            rings,
-            k,
-            h,
-            l,
-            implicit,
-            edges,
+            reports,
             deliveries: 0,
-            settled: false,
             members,
         })
     }
@@ -79,7 +68,7 @@ impl<'a> Detector<'a> {
     /// multi-process cut detection). From then on deliveries change nothing. It counts below 2^63
     /// deliveries, this project's profile.
     pub fn deliver(&mut self, edge: Edge) -> Step
-        requires within { IsTrue (is_within self.old.rule.k self.old.layout.nodes edge) }
+        requires within { IsTrue (is_edge_of self.old.rule.k self.old.layout.nodes edge) }
         requires few { self.old.deliveries < 2 ^ 63 }
         ensures step { (result ≡ Step.Settled) ↔ IsSome self.new.proposal }
 
@@ -92,26 +81,15 @@ impl<'a> Detector<'a> {
         ensures history { (delivered : List Edge) → HasDelivered self.old delivered →
             HasDelivered self.new (delivered ++ edge ∷ []) }
     {
-        if self.settled {
+        if self.reports.is_settled() {
             return Step::Settled;
         }
-        let index = usize::from(edge.number(self.k));
-        self.edges[index] = true;
         self.deliveries += 1;
-        let recount = Recount {
-            rings: self.rings,
-            k: self.k,
-            h: self.h,
-            l: self.l,
-            implicit: self.implicit,
-            table: self.edges.as_slice(),
-        };
-        let settled = recount.is_settled();
-        if !settled {
+        self.reports.add(edge);
+        if !self.reports.is_settled() {
             return Step::Waiting;
         }
-        recount.stable_members(&mut self.members);
-        self.settled = true;
+        self.reports.gather(&mut self.members);
         Step::Settled
     }
 
@@ -119,7 +97,7 @@ impl<'a> Detector<'a> {
     pub fn proposal(&self, alloc: Global) -> Result<Option<Proposal>, AllocError>
         ensures { IfOk result (λ p. p ≡ self.now.proposal) }
     {
-        if !self.settled {
+        if !self.reports.is_settled() {
             return Ok(None);
         }
         let members = Members::from_vec(Vec::from_slice(alloc, self.members.as_slice())?);
@@ -127,6 +105,17 @@ impl<'a> Detector<'a> {
             members,
             at: self.deliveries,
         }))
+    }
+
+    /// The members of its proposal, ascending; `None` while it waits.
+    pub fn members(&self) -> Option<&[u16]>
+        ensures { option_map (λ s. s.now) result ≡ option_map (λ p. p.members) self.now.proposal }
+    {
+        if self.reports.is_settled() {
+            Some(self.members.as_slice())
+        } else {
+            None
+        }
     }
 
     /// How many edges were delivered since it was made or reset; where it settled, up to that place.
@@ -141,18 +130,8 @@ impl<'a> Detector<'a> {
         ensures fresh { self.new ≡ fresh self.old.layout self.old.rule }
         ensures empty { HasDelivered self.new [] }
     {
-        forget(&mut self.edges);
+        self.reports.clear();
         self.deliveries = 0;
-        self.settled = false;
-    }
-}
-
-// Makes a table that of no edge.
-fn forget(table: &mut [bool])
-    ensures { table.new ≡ replicate (length table.old) false }
-{
-    for edge in table.iter_mut() {
-        *edge = false;
     }
 }
 
@@ -171,7 +150,7 @@ pub fn replay(
     requires thresholds { l ≤ h }
     requires high { h ≤ k }
     requires rings { k ≤ length rings.now.positions }
-    requires within { IsTrue (are_within k rings.now.nodes edges.now) }
+    requires within { IsTrue (are_edges_of k rings.now.nodes edges.now) }
     ensures { IfOk result
         (λ p. p ≡ proposal_of rings.now (rule_of k h l implicit) (first_of edges.now) (length edges.now)) }
 {

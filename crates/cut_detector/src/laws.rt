@@ -3,12 +3,18 @@
 ghost use Rattle.cut_detector.specs.Laws.{
   ProposesAtLeastPlace,
   RepeatsChangeNoMembers,
+  RepeatsDelayByOne,
   StableByReportsAlone,
   NoneIsUnstable,
   ImplicitAlertsChangeNothing,
   ProposesAtFirstStable,
   StableAreTargets,
   TargetsAloneLeaveNoneUnstable,
+  AWiderGapProposesLater,
+  AGapWiderAtBothEndsProposesLater,
+  FirstEdgesGrow,
+  ImplicitAlertsKeepStable,
+  ImplicitAlertsKeepMarked,
 };
 
 /// A process proposes all stable processes as soon as there is one and none is unstable, and no
@@ -18,8 +24,10 @@ pub fn proposes_at_least_place()
 {}
 
 /// An alert that is delivered again changes no members of the proposal: tallies count distinct rings.
+/// The place is the same where the proposal comes before the repeat, and else the next one.
 pub fn repeats_change_no_members()
-    ensures { RepeatsChangeNoMembers }
+    ensures members { RepeatsChangeNoMembers }
+    ensures place { RepeatsDelayByOne }
 {}
 
 /// Where L and H are equal, a process is stable exactly where H distinct rings report it, none is
@@ -37,4 +45,21 @@ pub fn equal_watermarks()
 pub fn targets_alone()
     ensures stable { StableAreTargets }
     ensures unstable { TargetsAloneLeaveNoneUnstable }
+{}
+
+/// Who proposes with a higher H proposes with a lower one too, at the same place or an earlier one,
+/// and of the later members alone. Without implicit alerts the same holds of a lower L in place of a
+/// higher H, and of both. So a wider gap between the watermarks waits longer, and for more. This is for
+/// sets of edges that only grow, as the first entries of a list do.
+pub fn a_wider_gap_proposes_later()
+    ensures high { AWiderGapProposesLater }
+    ensures both { AGapWiderAtBothEndsProposesLater }
+    ensures lists { FirstEdgesGrow }
+{}
+
+/// Implicit alerts only add: what is stable, and what is stable or unstable, contains what it is
+/// without them.
+pub fn implicit_alerts_only_add()
+    ensures stable { ImplicitAlertsKeepStable }
+    ensures marked { ImplicitAlertsKeepMarked }
 {}

@@ -1,4 +1,4 @@
-//! Multi-process cut detection, by recounting.
+//! Multi-process cut detection.
 //!
 //! A process that receives alerts counts, for each subject, the distinct rings on which it was
 //! reported. A subject with at least H is stable, one with at least L and fewer than H is unstable.
@@ -7,10 +7,14 @@
 #![tactic(auto)]
 
 mod detector;
+mod gains;
 pub mod laws;
+mod masks;
 mod proposal;
-mod recount;
+mod reports;
+mod rule;
 mod step;
+mod tally;
 #[cfg(test)]
 mod tests;
 

@@ -1,5 +1,5 @@
 ghost use Rattle.std.specs.Prelude.{◌≡◌};
-ghost use Rattle.cut_rings.specs.Edges.{are_within};
+ghost use Rattle.cut_rings.specs.Edges.{are_edges_of};
 
 use crate::{Detector, Step, replay};
 use cut_rings::{Edge, Rings};
@@ -7,6 +7,7 @@ use std::alloc::{AllocError, Global};
 use std::process::Abort;
 use std::test::Fail;
 
+mod recount;
 mod vectors;
 
 fn rings_of(rt: &impl Abort, alloc: Global, nodes: u16, lists: &[&[u16]]) -> Result<Rings, Fail> {
@@ -30,14 +31,15 @@ fn edges_of(alloc: Global, pairs: &[(u8, u16)]) -> Result<Vec<Edge>, AllocError>
 }
 
 fn all_within(k: u8, nodes: u16, edges: &[Edge]) -> bool
-    ensures { result ≡ are_within k nodes edges.now }
+    ensures { result ≡ are_edges_of k nodes edges.now }
 {
     edges
         .iter()
         .all(|edge| edge.ring < k && edge.subject < nodes)
 }
 
-// What is proposed after these deliveries is `members` at `at`, or nothing where `at` is 0.
+// What is proposed after these deliveries is `members` at `at`, or nothing where `at` is 0; and a
+// recount proposes it too.
 fn check(
     rt: &impl Abort,
     alloc: Global,
@@ -50,6 +52,7 @@ fn check(
     let k = rings.len();
     assert!(rt; 1 <= l && l <= h && h <= k);
     assert!(rt; all_within(k, rings.nodes(), &edges));
+    recount::compare(rt, alloc, rings, (h, l, implicit), &edges, 0)?;
     match replay(alloc, rings, k, h, l, implicit, &edges)? {
         Some(proposal) => {
             assert_eq!(rt;
@@ -91,6 +94,33 @@ fn order_matters_only_above_the_low_watermark(rt: HostRuntime) -> Result<(), Fai
     check(&rt, alloc, &rings, (3, 2, false), &early, (&[1], 3))?;
     let last = [(2, 0), (1, 3), (0, 2), (2, 1), (1, 1), (0, 1)];
     check(&rt, alloc, &rings, (3, 2, false), &last, (&[1], 6))?;
+    Ok(())
+}
+
+// The order of six alerts that has this number, of 720: for each place, which of those left stands there.
+fn ordered(mut pairs: [(u8, u16); 6], number: usize) -> [(u8, u16); 6] {
+    let mut rest = number;
+    for place in 0..6 {
+        pairs.swap(place, place + rest % (6 - place));
+        rest /= 6 - place;
+    }
+    pairs
+}
+
+// Of these alerts only those about process 1 come on two rings or more, so it is proposed with the last
+// of its three.
+#[test]
+fn no_order_matters_above_the_low_watermark(rt: HostRuntime) -> Result<(), Fail> {
+    let alloc = rt.alloc();
+    let rings = four(&rt, alloc)?;
+    let pairs = [(0, 1), (1, 1), (2, 1), (0, 2), (1, 3), (2, 0)];
+    for number in 0..720 {
+        let order = ordered(pairs, number);
+        let last = order.iter().rposition(|&(_, subject)| subject == 1);
+        let at = last.ok_or("no alert about process 1")? as u64 + 1;
+        check(&rt, alloc, &rings, (3, 2, false), &order, (&[1], at))?;
+        check(&rt, alloc, &rings, (3, 2, true), &order, (&[1], at))?;
+    }
     Ok(())
 }
 

@@ -1,5 +1,8 @@
-use Rattle.cut_detector.proofs.Repeats.{repeats_change_nothing}
+use Rattle.cut_detector.proofs.Repeats.{proposed-delayed, members_after-repeat}
 use Rattle.cut_detector.proofs.laws.repeats_change_no_members.Goals as goal
 
-pub returns : goal.returns
-returns c = repeats_change_nothing
+pub returns-clause-members : goal.returns-clause-members
+returns-clause-members c = members_after-repeat
+
+pub returns-clause-place : goal.returns-clause-place
+returns-clause-place c = proposed-delayed

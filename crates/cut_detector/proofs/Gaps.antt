@@ -1,0 +1,136 @@
+-- What a wider gap between L and H and implicit alerts change.
+use Rattle.std.proofs.Common.{◌≡◌, inl, inr, ℕ, ◌<◌, ◌≤◌, Bool, true, false, cond, ◌&&◌, ◌||◌, IsTrue, List, Option, Some, None, MatchOption, refl, arith}
+use Rattle.std.specs.List.{range_with_len}
+use Rattle.std.proofs.lemmas.Bool.{cases_lt, leb-true, le-leb, and_parts, and_from, or_cases, or_left, or_right}
+use Rattle.std.proofs.lemmas.List.Sums.{sum_by-le-sum_by}
+use Rattle.cut_rings.specs.Layout.{Layout, observer_of}
+use Rattle.cut_rings.specs.declared.edge.Edge.{Edge}
+use Rattle.cut_rings.specs.Edges.{EdgeSet, first_of, is_edge}
+use Rattle.cut_lists.proofs.Counts.{list_any_take-le}
+use Rattle.cut_detector.specs.Rule.{Rule, rule_of}
+use Rattle.cut_detector.specs.Counts.{ring_count, is_reported, is_full, full_count, is_stable}
+use Rattle.cut_detector.specs.Proposal.{proposal_of}
+use Rattle.cut_detector.specs.declared.proposal.Proposal.{Proposal}
+use Rattle.cut_detector.specs.Laws.{IsSettled, IsOfLeastPlace, Grows, ProposesBefore, IsMarked}
+use Rattle.cut_detector.proofs.Modes.{stable-is, is_stable-from, unstable-is, is_unstable-from}
+use Rattle.cut_detector.proofs.Places.{proposes}
+
+cond-le : (x y : Bool) → (x ≡ true → y ≡ true) → cond x 1 0 ≤ cond y 1 0
+cond-le true true keeps = omega arith
+cond-le true false keeps = absurd (let h : false ≡ true = keeps refl in cc)
+cond-le false y keeps = omega arith
+
+-- each edge of E is one of F
+record IsWithin (E F : EdgeSet) : Type 0 where
+  all : (ring s : ℕ) → E ring s ≡ true → F ring s ≡ true
+
+ring_count-le : (k : ℕ) (E F : EdgeSet) (s : ℕ) → IsWithin E F → ring_count k E s ≤ ring_count k F s
+ring_count-le k E F s within = sum_by-le-sum_by _ _ (range_with_len 0 k) (λ ring. cond-le (E ring s) (F ring s) (within.all ring s))
+
+is_reported-more : (rule : Rule) (E F : EdgeSet) (s : ℕ) → IsWithin E F → is_reported rule E s ≡ true → is_reported rule F s ≡ true
+unfolding is_reported
+is_reported-more rule E F s within is =
+    let many : rule.l ≤ ring_count rule.k E s = leb-true _ _ is in
+    let more : ring_count rule.k E s ≤ ring_count rule.k F s = ring_count-le rule.k E F s within in
+    le-leb _ _ (omega arith)
+
+is_full-more : (r : Layout) (rule : Rule) (E F : EdgeSet) → IsWithin E F → IsWithin (is_full r rule E) (is_full r rule F)
+unfolding is_full
+is_full-more r rule E F within = record {
+  all = λ ring s is. elim (or_cases (E ring s) _ is) [
+    | inl reported ↦ or_left _ _ (within.all ring s reported)
+    | inr gained ↦ (let o : ℕ = observer_of r ring s in
+        let parts = and_parts (rule.implicit && is_reported rule E s) (is_reported rule E o) gained in
+        let own = and_parts rule.implicit (is_reported rule E s) parts.0 in
+        or_right (F ring s) _ (and_from _ _ (and_from _ _ own.0 (is_reported-more rule E F s within own.1)) (is_reported-more rule E F o within parts.1)))
+  ];
+}
+
+-- where edges are added no ring stops counting
+full_count-grows : (r : Layout) (rule : Rule) (E F : EdgeSet) (s : ℕ) → IsWithin E F → full_count r rule E s ≤ full_count r rule F s
+full_count-grows r rule E F s within = ring_count-le rule.k (is_full r rule E) (is_full r rule F) s (is_full-more r rule E F within)
+
+-- the gap of one rule lies within that of another, and the same rings count
+record IsWithinGap (r : Layout) (inner outer : Rule) : Type 0 where
+  low : outer.l ≤ inner.l
+  gap : inner.l ≤ inner.h
+  high : inner.h ≤ outer.h
+  same : (E : EdgeSet) (s : ℕ) → full_count r outer E s ≡ full_count r inner E s
+
+proposes-before : (r : Layout) (inner outer : Rule) (E : ℕ → EdgeSet) (count : ℕ) → IsWithinGap r inner outer → Grows E → ProposesBefore (proposal_of r inner E count) (proposal_of r outer E count)
+proposes-before r inner outer E count wide grows = go (proposal_of r outer E count) (proposal_of r inner E count) (proposes r outer E count) (proposes r inner E count)
+  where
+    settled : (n : ℕ) → IsSettled r outer (E n) → IsSettled r inner (E n)
+    settled n is =
+        let s = is.some_stable.0 in
+        let many : outer.h ≤ full_count r outer (E n) s = stable-is r outer (E n) s is.some_stable.2 in
+        record {
+          some_stable = (s, is.some_stable.1, is_stable-from r inner (E n) s (omega (arith, wide.high, wide.same (E n) s)));
+          none_unstable = λ q process t.
+              let parts = unstable-is r inner (E n) q t in
+              let same : full_count r outer (E n) q ≡ full_count r inner (E n) q = wide.same (E n) q in
+              is.none_unstable q process (is_unstable-from r outer (E n) q (omega (arith, wide.low, parts.0)) (omega (arith, wide.high, parts.1)));
+        }
+
+    member : (m n s : ℕ) → m ≤ n → s < r.nodes → IsSettled r outer (E n) → IsTrue (is_stable r inner (E m) s) → IsTrue (is_stable r outer (E n) s)
+    member m n s before process is stable =
+        let many : inner.h ≤ full_count r inner (E m) s = stable-is r inner (E m) s stable in
+        let more : full_count r inner (E m) s ≤ full_count r inner (E n) s = full_count-grows r inner (E m) (E n) s (record { all = λ ring q e. grows m n ring q before e }) in
+        let same : full_count r outer (E n) s ≡ full_count r inner (E n) s = wide.same (E n) s in
+        elim (cases_lt (full_count r outer (E n) s) outer.h) [
+          | inl unstable ↦ absurd (is.none_unstable s process (is_unstable-from r outer (E n) s (omega (arith, wide.low, wide.gap)) unstable))
+          | inr enough ↦ is_stable-from r outer (E n) s enough
+        ]
+
+    go : (p q : Option Proposal) → MatchOption p ((n : ℕ) → 1 ≤ n → n ≤ count → IsSettled r outer (E n) → ⊥) (IsOfLeastPlace r outer E count) → MatchOption q ((n : ℕ) → 1 ≤ n → n ≤ count → IsSettled r inner (E n) → ⊥) (IsOfLeastPlace r inner E count) → ProposesBefore q p
+    go None q first second = tt
+    go (Some p) None first second = second p.at first.from_first first.to_last (settled p.at first.settled)
+    go (Some p) (Some q) first second =
+        let before : q.at ≤ p.at = elim (cases_lt p.at q.at) [
+          | inl later ↦ absurd (second.least p.at first.from_first later (settled p.at first.settled))
+          | inr in_time ↦ in_time
+        ] in (
+          before,
+          (λ s at.
+              let found = (second.members s).0 at in
+              (first.members s).1 (found.0, member q.at p.at s before found.0 first.settled found.1)),
+        )
+
+pub higher-before : (r : Layout) (k g h l : ℕ) (implicit : Bool) (E : ℕ → EdgeSet) (count : ℕ) → l ≤ h → h ≤ g → Grows E
+    → ProposesBefore (proposal_of r (rule_of k h l implicit) E count) (proposal_of r (rule_of k g l implicit) E count)
+unfolding is_full is_reported
+higher-before r k g h l implicit E count gap high =
+    proposes-before r (rule_of k h l implicit) (rule_of k g l implicit) E count (record { low = omega arith; gap = gap; high = high; same = λ E s. refl })
+
+pub wider-before : (r : Layout) (k g h l m : ℕ) (E : ℕ → EdgeSet) (count : ℕ) → m ≤ l → l ≤ h → h ≤ g → Grows E
+    → ProposesBefore (proposal_of r (rule_of k h l false) E count) (proposal_of r (rule_of k g m false) E count)
+unfolding is_full is_reported
+wider-before r k g h l m E count low gap high =
+    proposes-before r (rule_of k h l false) (rule_of k g m false) E count (record { low = low; gap = gap; high = high; same = λ E s. refl })
+
+-- an edge of the first m entries is one of the first n
+pub first_of-grows : (edges : List Edge) → Grows (first_of edges)
+first_of-grows edges m n ring s before is = list_any_take-le (λ e. is_edge ring s e) m n edges before is
+
+full_count-on : (r : Layout) (k h l : ℕ) (E : EdgeSet) (s : ℕ) → full_count r (rule_of k h l false) E s ≤ full_count r (rule_of k h l true) E s
+unfolding is_full is_reported
+full_count-on r k h l E s = sum_by-le-sum_by _ _ (range_with_len 0 k) (λ ring. without (E ring s) _)
+  where
+    without : (x y : Bool) → cond (x || false) 1 0 ≤ cond (x || y) 1 0
+    without true y = omega arith
+    without false y = omega arith
+
+pub is_stable-on : (r : Layout) (k h l : ℕ) (E : EdgeSet) (s : ℕ) → IsTrue (is_stable r (rule_of k h l false) E s) → IsTrue (is_stable r (rule_of k h l true) E s)
+is_stable-on r k h l E s is =
+    let many : h ≤ full_count r (rule_of k h l false) E s = stable-is r (rule_of k h l false) E s is in
+    is_stable-from r (rule_of k h l true) E s (omega (arith, full_count-on r k h l E s))
+
+pub IsMarked-on : (r : Layout) (k h l : ℕ) (E : EdgeSet) (s : ℕ) → l ≤ h → IsMarked r (rule_of k h l false) E s → IsMarked r (rule_of k h l true) E s
+IsMarked-on r k h l E s low marked = elim (cases_lt (full_count r (rule_of k h l true) E s) h) [
+  | inl below ↦ inr (is_unstable-from r (rule_of k h l true) E s (omega (arith, full_count-on r k h l E s, marked_low marked)) below)
+  | inr enough ↦ inl (is_stable-from r (rule_of k h l true) E s enough)
+]
+  where
+    marked_low : IsMarked r (rule_of k h l false) E s → l ≤ full_count r (rule_of k h l false) E s
+    marked_low (inl is) = let many : h ≤ full_count r (rule_of k h l false) E s = stable-is r (rule_of k h l false) E s is in omega arith
+    marked_low (inr is) = (unstable-is r (rule_of k h l false) E s is).0
