@@ -1,34 +1,30 @@
 -- The sums over trials of one cell are possible: those of one trial are, and adding keeps it.
-use Rattle.std.proofs.Common.{◌≡◌, ℕ, zero, suc, ◌+◌, ◌-◌, ◌/◌, ◌<◌, ◌≤◌, ◌==◌, ◌&&◌, true, List, [], ◌∷◌, Option, Some, None, length, get_or, sym, ap, ◌∙◌, subst, arith, nat_lt, nat_le}
+use Rattle.std.proofs.Common.{◌≡◌, ℕ, ◌+◌, ◌-◌, ◌<◌, true, List, [], ◌∷◌, Option, Some, None, length, sym, ap, ◌∙◌, subst, arith}
 use Rattle.std.specs.Prelude.{All, IsTrue}
 use Rattle.std.specs.List.{sum_by}
-use Rattle.std.proofs.Math.Nat.{add-mul, div-mul-le_self, zero-mul, div-zero}
-use Rattle.std.proofs.lemmas.Bool.{eqb-true}
-use Rattle.std.proofs.lemmas.Nat.{le-div}
+use Rattle.std.proofs.Math.Nat.{add-mul, zero-mul}
 use Rattle.std.proofs.lemmas.List.{length-map}
 use Rattle.std.proofs.lemmas.List.Elements.{All-head, All-tail}
 use Rattle.std.proofs.lemmas.List.FromFn.{length-range_with_len, get_or-range_with_len}
 use Rattle.std.proofs.lemmas.List.Sums.{sum_by-cons}
 use Rattle.cut_plan.specs.declared.cell.Cell.{Cell}
 use Rattle.cut_plan.specs.Values.{Values}
-use Rattle.cut_plan.specs.Cells.{cells_of, trials_of}
 use Rattle.cut_draws.specs.Source.{Source, source_of}
 use Rattle.cut_detector.specs.declared.proposal.Proposal.{Proposal}
-use Rattle.cut_detector.proofs.Tables.{both}
 use Rattle.cut_alerts.specs.Assignment.{Assignment}
 use Rattle.cut_alerts.specs.Drawn.{drawn}
 use Rattle.cut_alerts.specs.Alerted.{alert_list}
 use Rattle.cut_trial.specs.declared.totals.Totals.{Totals}
 use Rattle.cut_trial.specs.declared.piece.Piece.{Piece}
-use Rattle.cut_trial.specs.Judged.{judged, receivers_of}
+use Rattle.cut_trial.specs.Verdicts.{judged, receivers_of}
 use Rattle.cut_trial.specs.FastRound.{cast_of}
-use Rattle.cut_trial.specs.Outcome.{rings_of, proposal_at, proposals_of, cell_at, no_cell, outcome}
+use Rattle.cut_trial.specs.Outcome.{rings_of, receiver_proposal, proposals_of, cell_at, outcome}
 use Rattle.cut_trial.specs.Sum.{each_number, plus, sum_of, trials_in, is_piece}
 use Rattle.cut_trial.specs.Possible.{ArePossible}
-use Rattle.cut_trial.proofs.CastLemmas.{few_cast}
-use Rattle.cut_trial.proofs.Quorums.{counts_apart}
+use Rattle.cut_trial.proofs.FastRound.{few_cast, counts_apart}
+use Rattle.cut_trial.proofs.Pieces.{piece_facts}
 use Rattle.cut_trial.proofs.Receivers.{receivers_are_the_rest}
-use Rattle.cut_trial.proofs.SumLemmas.{few_votes_cast, decided_once, right_is_decided}
+use Rattle.cut_trial.proofs.Sum.{few_votes_cast, decided_once, right_is_decided}
 
 -- ---- one trial
 
@@ -47,7 +43,7 @@ possible_outcome v t =
     let d : Source = source_of v.seed t in
     let a : Assignment = drawn v c.f d (rings_of v) in
     let ps : List (Option Proposal) = proposals_of v c (rings_of v) d a in
-    let all : length ps ≡ v.nodes - c.f = length-map (receivers_of a) (λ j. proposal_at v c (rings_of v) d (alert_list (rings_of v) a c.k) j) ∙ receivers_are_the_rest v c.f d (rings_of v) in
+    let all : length ps ≡ v.nodes - c.f = length-map (receivers_of a) (λ j. receiver_proposal v c (rings_of v) d (alert_list (rings_of v) a c.k) j) ∙ receivers_are_the_rest v c.f d (rings_of v) in
     record {
       receivers = omega arith;
       conflicts = omega (arith, all, counts_apart (λ p. (judged a p).conflict) (λ p. (judged a p).silent) ps (silent_is_no_conflict a));
@@ -94,23 +90,10 @@ trials_possible v c (t ∷ ts) same =
 
 -- ---- pieces
 
-div_le : (k a b : ℕ) → a ≤ b → a / k ≤ b / k
-div_le zero a b le = omega (arith, div-zero a)
-div_le (suc k) a b le = le-div (a / suc k) b (suc k) (omega arith) (omega (arith, le, div-mul-le_self a (suc k)))
-
--- between two numbers of one quotient all have it
-same_quotient : (k a n b : ℕ) → a ≤ n → n ≤ b → a / k ≡ b / k → n / k ≡ a / k
-same_quotient k a n b from to same = omega (arith, div_le k a n from, div_le k n b to, same)
-
 pub pieces_possible : (v : Values) (p : Piece) → IsTrue (is_piece v p) → ArePossible p.count (v.nodes - (cell_at v p.first).f) (sum_of v (trials_in p))
 pieces_possible v p piece =
-    let last : ℕ = p.first + p.count - 1 in
-    let ends : p.first / v.repeats ≡ last / v.repeats =
-    eqb-true (p.first / v.repeats) (last / v.repeats) (both (nat_lt 0 p.count && nat_le (p.first + p.count) (trials_of v)) (p.first / v.repeats == last / v.repeats) piece).1 in
     let long : length (trials_in p) ≡ p.count = length-range_with_len p.first p.count in
-    let cell : (i : ℕ) → i < p.count → cell_at v (p.first + i) ≡ cell_at v p.first =
-    λ i below. ap (λ n. get_or (cells_of v) n no_cell) (same_quotient v.repeats p.first (p.first + i) last (omega arith) (omega arith) ends) in
     let same : All (λ t. cell_at v t ≡ cell_at v p.first) (trials_in p) =
     λ i d lt. (let below : i < p.count = omega (arith, long, lt) in
-    ap (λ t. cell_at v t) (get_or-range_with_len p.first p.count i d below) ∙ cell i below) in
+    ap (λ t. cell_at v t) (get_or-range_with_len p.first p.count i d below) ∙ (piece_facts v p piece).cell (p.first + i) (omega arith) (omega arith)) in
     subst (λ n. ArePossible n (v.nodes - (cell_at v p.first).f) (sum_of v (trials_in p))) long (trials_possible v (cell_at v p.first) (trials_in p) same)

@@ -1,5 +1,5 @@
 -- The receivers of a trial: ranks are a bijection, so as many processes are targets as the cell fails.
-use Rattle.std.proofs.Common.{◌≡◌, ◌≢◌, ℕ, zero, suc, ◌+◌, ◌-◌, ◌<◌, ◌≤◌, Bool, true, false, cond, List, [], ◌∷◌, length, get_or, map, not, nat_lt, inl, inr, refl, sym, ap, ◌∙◌, arith, zero-add}
+use Rattle.std.proofs.Common.{◌≡◌, ◌≢◌, ℕ, zero, suc, ◌+◌, ◌-◌, ◌<◌, Bool, true, false, cond, [], ◌∷◌, length, get_or, map, not, nat_lt, inl, inr, refl, sym, ap, ◌∙◌, arith, zero-add}
 use Rattle.std.specs.Prelude.{count_by, ◌||◌, if◌then◌else◌}
 use Rattle.std.specs.List.{range_with_len}
 use Rattle.std.specs.declared.cmp.Ordering.{Ordering}
@@ -10,52 +10,31 @@ use Rattle.std.proofs.lemmas.Bool.{eqb-true, lt-ltb, le-ltb, cases_lt}
 use Rattle.std.proofs.lemmas.Cmp.{nat_cmp_total, then_total, on_total, tied_itself}
 use Rattle.std.proofs.lemmas.List.FromFn.{length-range_with_len, get_or-range_with_len, length-map-range_with_len, get_or-map-range_with_len}
 use Rattle.std.proofs.lemmas.List.Sorted.{sum_by-IsPermutation}
-use Rattle.std.proofs.lemmas.List.Sums.{sum_by-cons, sum_by-append, length-filter, count_by-le-length}
-use Rattle.cut_plan.specs.declared.rule.Faults as faults
-use Rattle.cut_plan.specs.declared.rule.Faults.TheVariants as faults_are
+use Rattle.std.proofs.lemmas.List.Sums.{sum_by-append, length-filter, count_by-le-length}
+use Rattle.cut_plan.specs.declared.faults.Faults as faults
+use Rattle.cut_plan.specs.declared.faults.Faults.TheVariants as faults_are
 use Rattle.cut_plan.specs.Values.{Values}
 use Rattle.cut_rings.specs.Layout.{Layout, subject_of}
-use Rattle.cut_rings.specs.Ranked.{IsOrder}
-use Rattle.cut_rings.proofs.Orders.{order_from}
-use Rattle.cut_rings.proofs.Keyed.{count_by-map}
+use Rattle.cut_lists.specs.Ranked.{IsOrder}
+use Rattle.cut_lists.proofs.Orders.{order_from}
+use Rattle.cut_lists.proofs.Parts.{count_less}
+use Rattle.cut_lists.proofs.Maps.{count_by-map}
 use Rattle.cut_draws.specs.Source.{Source, key_at}
-use Rattle.cut_draws.specs.Order.{process_place, process_rank}
+use Rattle.cut_draws.specs.ProcessOrder.{process_place, process_rank}
 use Rattle.cut_alerts.specs.declared.role.Role.{Role}
 use Rattle.cut_alerts.specs.declared.role.Role.TheVariants.{Healthy, Liar, LinkSource}
 use Rattle.cut_alerts.specs.Assignment.{is_crashed_role, is_deaf_role, is_target}
 use Rattle.cut_alerts.specs.Drawn.{drawn, target_role, ranked_role}
-use Rattle.cut_alerts.proofs.RangeLemmas.{range_more}
-use Rattle.cut_trial.specs.Judged.{receivers_of}
+use Rattle.cut_lists.proofs.Ranges.{range_with_len_more}
+use Rattle.cut_trial.specs.Verdicts.{receivers_of}
 
 -- ---- counts
-
-bit_le : (a b : Bool) → (a ≡ true → b ≡ true) → cond a 1 0 ≤ cond b 1 0
-bit_le true true implies = omega arith
-bit_le true false implies = absurd (let bad : false ≡ true = implies refl in cc)
-bit_le false true implies = omega arith
-bit_le false false implies = omega arith
-
-count_le : {X : Type 0} (s t : X → Bool) (xs : List X) → ((x : X) → s x ≡ true → t x ≡ true) → count_by s xs ≤ count_by t xs
-count_le s t [] implies = omega arith
-count_le s t (x ∷ xs) implies =
-    omega (arith, count_le s t xs implies, bit_le (s x) (t x) (implies x), sum_by-cons (λ y. cond (s y) 1 0) x xs, sum_by-cons (λ y. cond (t y) 1 0) x xs)
-
--- a test that another implies, and that some element fails which passes the other, is passed by fewer
-count_less : {X : Type 0} (s t : X → Bool) (xs : List X) (k : ℕ) (d : X) → ((x : X) → s x ≡ true → t x ≡ true) → k < length xs → s (get_or xs k d) ≡ false → t (get_or xs k d) ≡ true → count_by s xs < count_by t xs
-count_less s t [] k d implies lt fails passes = absurd (omega arith)
-count_less s t (x ∷ xs) zero d implies lt fails passes =
-    let out : cond {A = ℕ} (s x) 1 0 ≡ 0 = ap (λ b. cond {A = ℕ} b 1 0) fails in
-    let into : cond {A = ℕ} (t x) 1 0 ≡ 1 = ap (λ b. cond {A = ℕ} b 1 0) passes in
-    omega (arith, count_le s t xs implies, out, into, sum_by-cons (λ y. cond (s y) 1 0) x xs, sum_by-cons (λ y. cond (t y) 1 0) x xs)
-count_less s t (x ∷ xs) (suc k) d implies lt fails passes =
-    let rest : count_by s xs < count_by t xs = count_less s t xs k d implies (omega arith) fails passes in
-    omega (arith, rest, bit_le (s x) (t x) (implies x), sum_by-cons (λ y. cond (s y) 1 0) x xs, sum_by-cons (λ y. cond (t y) 1 0) x xs)
 
 count_more : (p : ℕ → Bool) (m : ℕ) → count_by p (range_with_len 0 (suc m)) ≡ count_by p (range_with_len 0 m) + cond (p m) 1 0
 count_more p m =
     let one : suc m ≡ m + 1 = omega arith in
     ap (λ k. count_by p (range_with_len 0 k)) one
-    ∙ ap (λ xs. count_by p xs) (range_more 0 m m (zero-add m))
+    ∙ ap (λ xs. count_by p xs) (range_with_len_more 0 m m (zero-add m))
     ∙ sum_by-append (λ y. cond (p y) 1 0) (range_with_len 0 m) (m ∷ [])
     ∙ ap (λ k. count_by p (range_with_len 0 m) + k) (zero-add (cond (p m) 1 0))
 

@@ -1,13 +1,7 @@
--- How a `Ballot` is kept: by a tally for each list of members that was proposed.
-use Rattle.std.specs.Prelude.{List, map}
-use Rattle.cut_trial.specs.declared.ballot.Tally.{Tally}
-use Rattle.cut_trial.specs.declared.ballot.Ballot.TheInside.{Inside}
-use Rattle.cut_trial.specs.Ballots.{Count}
+-- How a `Ballot` is kept: as a map from members to votes.
+use Rattle.std.specs.Prelude.{ℕ, List, map}
+use Rattle.cut_trial.specs.declared.fast_round.Ballot.TheInside.{Inside}
 
--- what a tally says
-abbrev pub count_of : Tally → Count
-count_of t = record { members = t.members; votes = t.votes }
-
--- what all of them say
-abbrev pub counts_of : Inside → List Count
-counts_of b = map count_of b.tallies.items
+-- the entries of the map
+abbrev pub entries_of : Inside → List (List ℕ × ℕ)
+entries_of b = map (λ e. (e.0.items, e.1)) b.votes.entries

@@ -1,14 +1,22 @@
 -- Laws of the fast round, of sums over trials, and of receivers.
-use Rattle.std.specs.Prelude.{◌≡◌, ℕ, ◌+◌, ◌-◌, ◌≤◌, List, ◌++◌, length, All, IsTrue}
+use Rattle.std.specs.Prelude.{◌≡◌, ℕ, ◌+◌, ◌-◌, ◌<◌, ◌≤◌, ◌||◌, false, List, ◌++◌, length, All, IsTrue}
 use Rattle.cut_plan.specs.declared.cell.Cell.{Cell}
+use Rattle.cut_plan.specs.declared.dead.Dead.TheVariants.{Speak}
+use Rattle.cut_plan.specs.declared.faults.Faults.TheVariants.{Crash}
+use Rattle.cut_plan.specs.Cells.{trial_count}
+use Rattle.cut_plan.specs.Plan.{IsPlan}
 use Rattle.cut_plan.specs.Values.{Values}
 use Rattle.cut_rings.specs.Layout.{Layout}
 use Rattle.cut_draws.specs.Source.{Source}
 use Rattle.cut_alerts.specs.Drawn.{drawn}
+use Rattle.cut_rings.specs.declared.edge.Edge.{Edge}
+use Rattle.cut_alerts.specs.Assignment.{Assignment}
+use Rattle.cut_trial.specs.declared.outcome.Verdict.{Verdict}
 use Rattle.cut_trial.specs.declared.piece.Piece.{Piece}
-use Rattle.cut_trial.specs.Judged.{receivers_of}
+use Rattle.cut_trial.specs.declared.totals.Totals.{Totals}
+use Rattle.cut_trial.specs.Verdicts.{receivers_of, judged}
 use Rattle.cut_trial.specs.FastRound.{quorum_of, votes_of, most_votes}
-use Rattle.cut_trial.specs.Outcome.{cell_at, outcome}
+use Rattle.cut_trial.specs.Outcome.{receiver_proposal, cell_outcome, cell_at, outcome}
 use Rattle.cut_trial.specs.Sum.{plus, sum_of, trials_in, is_piece}
 use Rattle.cut_trial.specs.Possible.{ArePossible}
 
@@ -52,6 +60,74 @@ PartsAddUp =
 abbrev pub ReceiversAreTheRest : Type 0
 ReceiversAreTheRest =
     (v : Values) (f : ℕ) (d : Source) (r : Layout) → length (receivers_of (drawn v f d r)) ≡ v.nodes - f
+
+-- where no process fails, none lies and no link is cut, every receiver is silent
+abbrev pub SilentWhereNothingFails : Type 0
+SilentWhereNothingFails =
+    (v : Values) (t : ℕ) → (cell_at v t).f ≡ 0 → v.liars ≡ 0 → v.links ≡ 0 → (outcome v t).silent ≡ v.nodes
+
+-- a plan whose processes fail by crashes alone: no target is deaf, none lies and no link is cut
+pub record OnlyCrashes (v : Values) : Type 0 where
+  pub crash : v.faults ≡ Crash
+  pub no_liars : v.liars ≡ 0
+  pub no_links : v.links ≡ 0
+
+-- then no receiver proposes a process that has not crashed
+abbrev pub NoneProposesOthers : Type 0
+NoneProposesOthers =
+    (v : Values) (t : ℕ) → IsPlan v → t < trial_count v → OnlyCrashes v → (outcome v t).extra ≡ 0
+
+-- and where crashed observers raise alerts too, and some process has crashed, every receiver proposes
+abbrev pub NoneIsSilentWhereObserversSpeak : Type 0
+NoneIsSilentWhereObserversSpeak =
+    (v : Values) (t : ℕ) → IsPlan v → t < trial_count v → OnlyCrashes v → v.dead ≡ Speak →
+    1 ≤ (cell_at v t).f → (outcome v t).silent ≡ 0
+
+-- the cell with other watermarks
+abbrev pub with_marks : Cell → ℕ → ℕ → Cell
+with_marks c h l = record { k = c.k; h = h; l = l; f = c.f }
+
+-- a verdict, and that on a receiver which waits longer: no silence ends, no conflict is new, and who names
+-- a process that is no target still does so, or is silent
+pub record IsMoreCautious (verdict longer : Verdict) : Type 0 where
+  pub silent : IsTrue verdict.silent → IsTrue longer.silent
+  pub conflict : IsTrue longer.conflict → IsTrue verdict.conflict
+  pub extra : IsTrue verdict.extra → IsTrue (longer.extra || longer.silent)
+
+-- the same of the numbers of a trial
+pub record AreMoreCautious (totals longer : Totals) : Type 0 where
+  pub receivers : longer.receivers ≡ totals.receivers
+  pub conflicts : longer.conflicts ≤ totals.conflicts
+  pub silent : totals.silent ≤ longer.silent
+  pub extra : totals.extra + totals.silent ≤ longer.extra + longer.silent
+
+-- with a higher H every receiver is judged so, by the same roles, draws and alerts
+abbrev pub HigherHIsMoreCautious : Type 0
+HigherHIsMoreCautious =
+    (v : Values) (c : Cell) (h : ℕ) (r : Layout) (d : Source) (a : Assignment) (edges : List Edge) (j : ℕ) →
+    c.l ≤ c.h → c.h ≤ h →
+    IsMoreCautious (judged a (receiver_proposal v c r d edges j))
+    (judged a (receiver_proposal v (with_marks c h c.l) r d edges j))
+
+-- so in every trial no receiver's silence ends, and no conflict is new
+abbrev pub HigherHHasFewerConflicts : Type 0
+HigherHHasFewerConflicts =
+    (v : Values) (c : Cell) (h : ℕ) (r : Layout) (d : Source) → c.l ≤ c.h → c.h ≤ h →
+    AreMoreCautious (cell_outcome v c r d) (cell_outcome v (with_marks c h c.l) r d)
+
+-- without implicit alerts a gap that is wider at both ends does the same
+abbrev pub AWiderGapIsMoreCautious : Type 0
+AWiderGapIsMoreCautious =
+    (v : Values) (c : Cell) (h l : ℕ) (r : Layout) (d : Source) (a : Assignment) (edges : List Edge) (j : ℕ) →
+    v.implicit ≡ false → l ≤ c.l → c.l ≤ c.h → c.h ≤ h →
+    IsMoreCautious (judged a (receiver_proposal v c r d edges j))
+    (judged a (receiver_proposal v (with_marks c h l) r d edges j))
+
+abbrev pub AWiderGapHasFewerConflicts : Type 0
+AWiderGapHasFewerConflicts =
+    (v : Values) (c : Cell) (h l : ℕ) (r : Layout) (d : Source) →
+    v.implicit ≡ false → l ≤ c.l → c.l ≤ c.h → c.h ≤ h →
+    AreMoreCautious (cell_outcome v c r d) (cell_outcome v (with_marks c h l) r d)
 
 -- the sums over any trials that are all of one cell are possible
 abbrev pub TrialsHavePossibleTotals : Type 0

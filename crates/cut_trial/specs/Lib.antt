@@ -1,9 +1,7 @@
-pub mod FaultNumber
-pub mod Judged
+pub mod FaultCode
+pub mod Verdicts
 pub mod FastRound
-pub mod Ballots
 pub mod BallotInside
-pub mod Judgements
 pub mod Outcome
 pub mod Sum
 pub mod Computed

@@ -1,5 +1,5 @@
--- What a trial gives.
-use Rattle.std.specs.Prelude.{ℕ, ◌-◌, ◌/◌, Bool, List, map, length, count_by, nat_le, slice_index_or, if◌then◌else◌, Option}
+-- What a trial gives: what its receivers propose, what they are judged to be, and its seven numbers.
+use Rattle.std.specs.Prelude.{◌≡◌, ℕ, ◌-◌, ◌/◌, Bool, List, map, length, count_by, nat_le, slice_index_or, if◌then◌else◌, Option}
 use Rattle.cut_plan.specs.declared.cell.Cell.{Cell}
 use Rattle.cut_plan.specs.Values.{Values}
 use Rattle.cut_plan.specs.Cells.{cells_of, largest}
@@ -7,38 +7,50 @@ use Rattle.cut_rings.specs.declared.edge.Edge.{Edge}
 use Rattle.cut_rings.specs.Layout.{Layout}
 use Rattle.cut_rings.specs.Hashed.{hashed_layout}
 use Rattle.cut_draws.specs.Source.{Source, source_of}
-use Rattle.cut_draws.specs.Deliveries.{all_deliveries, early}
+use Rattle.cut_draws.specs.DeliveryOrder.{all_deliveries, early}
 use Rattle.cut_alerts.specs.Assignment.{Assignment}
 use Rattle.cut_alerts.specs.Drawn.{drawn}
 use Rattle.cut_alerts.specs.Alerted.{alert_list}
 use Rattle.cut_detector.specs.Rule.{rule_of}
 use Rattle.cut_detector.specs.Proposal.{proposal_of}
 use Rattle.cut_detector.specs.declared.proposal.Proposal.{Proposal}
+use Rattle.cut_trial.specs.declared.outcome.Outcome as declared
 use Rattle.cut_trial.specs.declared.totals.Totals.{Totals}
-use Rattle.cut_trial.specs.Judged.{receivers_of, targets_of, judged}
-use Rattle.cut_trial.specs.FastRound.{quorum_of, votes_of, most_votes, cast_of}
+use Rattle.cut_trial.specs.Verdicts.{receivers_of, targets_of, judged}
+use Rattle.cut_trial.specs.FastRound.{quorum_of, votes_of, most_votes, cast_of, HasCounted}
 
 -- the rings of a plan
 abbrev pub rings_of : Values → Layout
 rings_of v = hashed_layout v.seed v.nodes (largest v.k)
 
 -- what receiver j proposes, in a cell, by the draws d, where these edges are alerted
-abbrev pub proposal_at : Values → Cell → Layout → Source → List Edge → ℕ → Option Proposal
-proposal_at v c r d edges j =
+abbrev pub receiver_proposal : Values → Cell → Layout → Source → List Edge → ℕ → Option Proposal
+receiver_proposal v c r d edges j =
     proposal_of r (rule_of c.k c.h c.l v.implicit) (λ n. early d j c.k edges v.copies n)
     (length (all_deliveries edges v.copies))
 
 -- what each receiver proposes, in the order of the receivers
 abbrev pub proposals_of : Values → Cell → Layout → Source → Assignment → List (Option Proposal)
-proposals_of v c r d a = map (λ j. proposal_at v c r d (alert_list r a c.k) j) (receivers_of a)
+proposals_of v c r d a = map (λ j. receiver_proposal v c r d (alert_list r a c.k) j) (receivers_of a)
+
+-- the verdicts on these proposals, and on the silences among them, are counted
+pub record HasVerdicts (a : Assignment) (o : declared.Outcome) (proposals : List (Option Proposal)) : Type 0 where
+  pub conflicts : o.conflicts ≡ count_by (λ p. (judged a p).conflict) proposals
+  pub silent : o.silent ≡ count_by (λ p. (judged a p).silent) proposals
+  pub extra : o.extra ≡ count_by (λ p. (judged a p).extra) proposals
+
+-- the receivers that made these proposals have been judged by the roles, and their votes are counted
+pub record HasJudged (a : Assignment) (o : declared.Outcome) (proposals : List (Option Proposal)) : Type 0 where
+  pub verdicts : HasVerdicts a o proposals
+  pub votes : HasCounted o.ballot (cast_of proposals)
 
 -- 1 for a fact that holds, 0 for one that does not
 abbrev pub one_if : Bool → ℕ
 one_if b = if b then 1 else 0
 
 -- the seven numbers of a trial, from the proposals of its receivers
-abbrev pub numbers_of : Values → Cell → Assignment → List (Option Proposal) → Totals
-numbers_of v c a proposals = record {
+abbrev pub totals_of : Values → Cell → Assignment → List (Option Proposal) → Totals
+totals_of v c a proposals = record {
   receivers = v.nodes - c.f;
   conflicts = count_by (λ p. (judged a p).conflict) proposals;
   silent = count_by (λ p. (judged a p).silent) proposals;
@@ -50,7 +62,7 @@ numbers_of v c a proposals = record {
 
 -- the seven numbers of a trial of a cell, by the draws d and the rings r
 abbrev pub cell_outcome : Values → Cell → Layout → Source → Totals
-cell_outcome v c r d = numbers_of v c (drawn v c.f d r) (proposals_of v c r d (drawn v c.f d r))
+cell_outcome v c r d = totals_of v c (drawn v c.f d r) (proposals_of v c r d (drawn v c.f d r))
 
 -- a cell of no rings, which stands for a cell that a plan lacks
 abbrev pub no_cell : Cell

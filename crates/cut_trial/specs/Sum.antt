@@ -2,7 +2,7 @@
 use Rattle.std.specs.Prelude.{ℕ, ◌+◌, ◌-◌, ◌*◌, ◌/◌, ◌≤◌, ◌==◌, ◌&&◌, Bool, List, nat_lt, nat_le}
 use Rattle.std.specs.List.{range_with_len, sum_by}
 use Rattle.cut_plan.specs.Values.{Values}
-use Rattle.cut_plan.specs.Cells.{trials_of}
+use Rattle.cut_plan.specs.Cells.{trial_count}
 use Rattle.cut_trial.specs.declared.totals.Totals.{Totals}
 use Rattle.cut_trial.specs.declared.piece.Piece.{Piece}
 use Rattle.cut_trial.specs.Outcome.{outcome}
@@ -44,7 +44,7 @@ trials_in p = range_with_len p.first p.count
 -- a piece of a plan: not empty, up to the last trial at most, and in one cell
 abbrev pub is_piece : Values → Piece → Bool
 is_piece v p =
-    nat_lt 0 p.count && nat_le (p.first + p.count) (trials_of v)
+    nat_lt 0 p.count && nat_le (p.first + p.count) (trial_count v)
     && (p.first / v.repeats == (p.first + p.count - 1) / v.repeats)
 
 -- the trials of cell number c

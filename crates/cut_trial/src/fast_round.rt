@@ -1,5 +1,10 @@
-ghost use Rattle.std.specs.Prelude.{◌≡◌, ◌≤◌};
-ghost use Rattle.cut_trial.specs.FastRound.{quorum_of};
+ghost use Rattle.std.specs.Prelude.{◌≡◌, ◌≤◌, ◌^◌, ◌-◌, ◌<◌, [], ◌∷◌, ◌++◌, List, ℕ, length, OnOk, OnErr};
+ghost use Rattle.cut_trial.specs.FastRound.{quorum_of, votes_of, most_votes, HasCounted};
+
+use cut_detector::Proposal;
+use std::alloc::{AllocError, Global};
+use std::collections::HashMap;
+use std::marker::Model;
 
 /// How many equal proposals decide among `n` processes: all but a quarter of the others, rounded down.
 /// (The fast round is the Rapid paper's; that failed processes count among the `n` is this project's
@@ -9,4 +14,85 @@ pub fn quorum(n: u16) -> u16
     ensures { result ≡ quorum_of n }
 {
     n - (n - 1) / 4
+}
+
+/// The votes of a trial's fast round (the Rapid paper's leaderless agreement, which counts identical
+/// proposals). Contracts see, for each list of members that was proposed, how many proposals have it.
+#[derive(Debug, Drop)]
+pub struct Ballot {
+    alloc: Global,
+    votes: HashMap<Vec<u16>, u64>,
+}
+
+impl Model for Ballot {
+    ghost use Rattle.std.specs.Prelude.{List, ℕ};
+
+    ghost Value = { List (List ℕ × ℕ) };
+
+    ghost use Rattle.cut_trial.specs.BallotInside.{entries_of};
+
+    ghost view = { entries_of };
+}
+
+impl Ballot {
+    /// A ballot without votes.
+    pub fn new(alloc: Global) -> Ballot
+        ensures { HasCounted result [] }
+    {
+        Ballot {
+            alloc,
+            votes: HashMap::new(alloc),
+        }
+    }
+
+    /// Forgets all votes, and keeps the memory of its table.
+    pub fn clear(&mut self)
+        ensures { HasCounted self.new [] }
+    {
+        self.votes.clear();
+    }
+
+    /// Counts a proposal. Fails only for want of memory, and then counts nothing.
+    pub fn add(&mut self, proposal: &Proposal) -> Result<(), AllocError>
+        ensures counted { OnOk result ((cast : List (List ℕ)) → length cast < 2 ^ 64 - 1 →
+            HasCounted self.old cast → HasCounted self.new (cast ++ proposal.now.members ∷ [])) }
+        ensures err { OnErr result (self.new ≡ self.old) }
+    {
+        self.add_members(proposal.members.as_slice())
+    }
+
+    /// Counts a proposal with these members, which are copied where no proposal had them before.
+    pub(crate) fn add_members(&mut self, members: &[u16]) -> Result<(), AllocError>
+        ensures counted { OnOk result ((cast : List (List ℕ)) → length cast < 2 ^ 64 - 1 →
+            HasCounted self.old cast → HasCounted self.new (cast ++ members.now ∷ [])) }
+        ensures err { OnErr result (self.new ≡ self.old) }
+    {
+        match self.votes.get_mut(members) {
+            Some(votes) => *votes = votes.saturating_add(1),
+            None => {
+                let copy = Vec::from_slice(self.alloc, members)?;
+                self.votes.insert(copy, 1)?;
+            }
+        }
+        Ok(())
+    }
+
+    /// The largest number of proposals with equal members, 0 where there is none.
+    pub fn largest(&self) -> u64
+        ensures { (cast : List (List ℕ)) → HasCounted self.now cast → result ≡ most_votes cast }
+    {
+        let mut most = 0;
+        for votes in self.votes.values() {
+            most = most.max(*votes);
+        }
+        most
+    }
+
+    /// How many proposals have exactly these members.
+    pub fn votes_for(&self, members: &[u16]) -> u64
+        ensures { (cast : List (List ℕ)) → HasCounted self.now cast →
+            result ≡ votes_of cast members.now }
+    {
+        self.votes.get(members).copied().unwrap_or(0)
+    }
 }

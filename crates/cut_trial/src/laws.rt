@@ -1,5 +1,5 @@
-//! Laws of trials: of the fast round, of sums over trials, and of receivers. Each function does nothing,
-//! and its contract is the law.
+//! Laws of trials: of the fast round, of sums over trials, and of receivers. Each function does nothing
+//! but call the laws of other crates that it follows from, and its contract is the law.
 
 ghost use Rattle.cut_trial.specs.Laws.{
   QuorumsAgree,
@@ -10,9 +10,19 @@ ghost use Rattle.cut_trial.specs.Laws.{
   PiecesJoin,
   PartsAddUp,
   ReceiversAreTheRest,
+  SilentWhereNothingFails,
+  NoneProposesOthers,
+  NoneIsSilentWhereObserversSpeak,
+  HigherHIsMoreCautious,
+  HigherHHasFewerConflicts,
+  AWiderGapIsMoreCautious,
+  AWiderGapHasFewerConflicts,
   TrialsHavePossibleTotals,
   PiecesHavePossibleTotals,
 };
+
+use cut_detector::laws::{a_wider_gap_proposes_later, proposes_at_least_place, targets_alone};
+use cut_plan::cells_are_the_combinations;
 
 /// The fast round agrees: of at most n proposals, one for each process at most, two quorums have one
 /// in common, so no two different proposals can both be decided.
@@ -40,6 +50,44 @@ pub fn sums_add_up()
 pub fn receivers_are_the_rest()
     ensures { ReceiversAreTheRest }
 {}
+
+/// Where no process fails, none lies and no link is cut, nothing is alerted, so no receiver announces
+/// anything.
+pub fn silent_where_nothing_fails()
+    ensures { SilentWhereNothingFails }
+{}
+
+/// Where processes fail by crashes alone, no receiver proposes one that has not crashed, whatever the
+/// orders in which alerts come. Where crashed observers raise alerts too, and some process has crashed,
+/// every receiver proposes: at the end it has heard of each crashed process on all rings, and of no other.
+pub fn only_crashes()
+    ensures others { NoneProposesOthers }
+    ensures silent { NoneIsSilentWhereObserversSpeak }
+{
+    cells_are_the_combinations();
+    targets_alone();
+    proposes_at_least_place();
+}
+
+/// With a higher H, by the same draws, no receiver that was silent proposes and none becomes a conflict;
+/// one that names a process that has not failed still does so, or is silent. So conflicts can only fall as
+/// H rises, and silences only grow. (The Rapid paper's section on the sensitivity to K, H and L measures
+/// this.)
+pub fn higher_h()
+    ensures verdicts { HigherHIsMoreCautious }
+    ensures totals { HigherHHasFewerConflicts }
+{
+    a_wider_gap_proposes_later();
+}
+
+/// Where no implicit alerts are added, a lower L does the same as a higher H, and so do both together: a
+/// wider gap.
+pub fn wider_gap()
+    ensures verdicts { AWiderGapIsMoreCautious }
+    ensures totals { AWiderGapHasFewerConflicts }
+{
+    a_wider_gap_proposes_later();
+}
 
 /// The sums over trials of one cell, as those of a piece are, are possible ones: the receivers are all
 /// processes less the cell's failed ones, once for each trial; no receiver is silent and a conflict, or

@@ -5,26 +5,25 @@
 //! the leaderless fast round of the Rapid paper counts them.
 #![tactic(auto)]
 
-mod ballot;
 mod fast_round;
 mod fault;
-mod judge;
-mod judgement;
-mod judgements;
+mod hearing;
 pub mod laws;
+mod outcome;
 mod piece;
 mod replays;
+mod study;
 mod totals;
 mod trial;
+mod verdicts;
 
-pub use ballot::Ballot;
-pub use fast_round::quorum;
+pub use fast_round::{Ballot, quorum};
 pub use fault::TrialFault;
-pub use judge::verdict;
-pub use judgement::Verdict;
-pub use piece::{Piece, PieceResult, run_piece};
+pub use outcome::Verdict;
+pub use piece::{Piece, PieceResult, is_piece, run_piece};
 pub use totals::Totals;
 pub use trial::run_trial;
+pub use verdicts::verdict;
 
 #[cfg(test)]
 mod tests;

@@ -3,7 +3,9 @@ ghost use Rattle.cut_plan.specs.Plan.{IsPlan};
 ghost use Rattle.cut_trial.specs.Outcome.{rings_of};
 ghost use Rattle.cut_trial.specs.Sum.{is_piece, sum_of, trials_in, IsAtMost};
 
-use crate::{Totals, TrialFault, run_trial};
+use crate::study::Study;
+use crate::trial::Trials;
+use crate::{Totals, TrialFault};
 use cut_plan::Plan;
 use cut_rings::Rings;
 use std::alloc::{AllocError, Global};
@@ -79,7 +81,7 @@ pub fn run_piece(
     if !is_piece(plan, piece) {
         return Err(TrialFault::BadPiece);
     }
-    let totals = sum_piece(alloc, plan, rings, piece)?;
+    let totals = sum_piece(alloc, Study::new(plan, rings), piece)?;
     let plan = plan.try_clone(alloc)?;
     Ok(PieceResult {
         plan,
@@ -89,9 +91,8 @@ pub fn run_piece(
 }
 
 /// Whether a piece is one of a plan: not empty, up to the last trial at most, and in one cell.
-fn is_piece(plan: &Plan, piece: Piece) -> bool
+pub fn is_piece(plan: &Plan, piece: Piece) -> bool
     ensures value { result ≡ is_piece plan.now piece }
-    ensures end { IsTrue result → piece.first + piece.count < 2 ^ 32 }
     ensures plan { IsPlan plan.now }
 {
     let repeats = u64::from(plan.repeats());
@@ -101,19 +102,18 @@ fn is_piece(plan: &Plan, piece: Piece) -> bool
 }
 
 /// The sums over a piece's trials.
-fn sum_piece(alloc: Global, plan: &Plan, rings: &Rings, piece: Piece) -> Result<Totals, AllocError>
-    requires rings { rings.now ≡ rings_of plan.now }
-    requires piece { IsTrue (is_piece plan.now piece) }
-    requires end { piece.first + piece.count < 2 ^ 32 }
-    requires plan { IsPlan plan.now }
-    ensures value { IfOk result (λ totals. totals ≡ sum_of plan.now (trials_in piece)) }
+fn sum_piece(alloc: Global, study: Study<'_>, piece: Piece) -> Result<Totals, AllocError>
+    requires { IsTrue (is_piece study.plan.now piece) }
+    ensures value { IfOk result (λ totals. totals ≡ sum_of study.entry.plan.now (trials_in piece)) }
     ensures few { IfOk result (λ totals. IsAtMost (2048 * piece.count) totals) }
 {
+    let plan = study.plan;
+    let cell = plan.cell(plan.cell_of(piece.first));
+    let mut trials = Trials::new(alloc, study, cell)?;
     let mut totals = Totals::ZERO;
     let end = piece.first + piece.count;
     for trial in piece.first..end {
-        let outcome = run_trial(alloc, plan, rings, trial)?;
-        totals = totals.plus(outcome);
+        totals = totals.plus(trials.run(trial)?);
     }
     Ok(totals)
 }

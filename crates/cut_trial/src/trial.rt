@@ -1,20 +1,16 @@
-ghost use Rattle.std.specs.Prelude.{◌≡◌, ◌^◌, ◌<◌, ◌≤◌, ℕ, length, map, IfOk, IsTrue};
-ghost use Rattle.cut_draws.specs.Deliveries.{are_distinct};
-ghost use Rattle.cut_plan.specs.Cells.{IsCellOf, trials_of};
-ghost use Rattle.cut_rings.specs.Edges.{are_within};
-ghost use Rattle.cut_detector.specs.Rule.{rule_of};
-ghost use Rattle.cut_trial.specs.Judged.{targets_of, receivers_of};
-ghost use Rattle.cut_trial.specs.Judgements.{HasJudged};
-ghost use Rattle.cut_trial.specs.Outcome.{rings_of, proposal_at, outcome};
+ghost use Rattle.std.specs.Prelude.{◌≡◌, ◌<◌, length, map, IfOk, OnOk};
+ghost use Rattle.cut_plan.specs.Cells.{IsCellOf, trial_count};
+ghost use Rattle.cut_trial.specs.Verdicts.{targets_of, receivers_of};
+ghost use Rattle.cut_trial.specs.Outcome.{rings_of, receiver_proposal, cell_at, outcome, HasJudged};
 
 use crate::Totals;
-use crate::judgements::Judgements;
+use crate::outcome::Outcome;
 use crate::replays::Replays;
-use cut_alerts::{Roles, alerts};
-use cut_detector::Detector;
-use cut_draws::Draws;
+use crate::study::Study;
+use cut_alerts::Roles;
+use cut_draws::{Draws, ProcessOrder};
 use cut_plan::{Cell, Plan};
-use cut_rings::{Edge, Rings};
+use cut_rings::Rings;
 use std::alloc::{AllocError, Global};
 
 /// The outcome of a trial of a plan, whose rings these are. Trials are numbered through all cells.
@@ -27,62 +23,103 @@ pub fn run_trial(
     rings: &Rings,
     trial: u32,
 ) -> Result<Totals, AllocError>
-    requires trial { trial < trials_of plan.now }
+    requires trial { trial < trial_count plan.now }
     requires rings { rings.now ≡ rings_of plan.now }
     ensures { IfOk result (λ totals. totals ≡ outcome plan.now trial) }
 {
     let cell = plan.cell(plan.cell_of(trial));
-    let mut draws = Draws::new(plan.seed(), trial);
-    let roles = Roles::of_trial(alloc, plan, cell, &mut draws, rings)?;
-    let edges = alerts(alloc, rings, cell.k, &roles)?;
-    let targets = targets_of(alloc, &roles)?;
-    let detector = Detector::new(alloc, rings, cell.k, cell.h, cell.l, plan.implicit())?;
-    let mut replays = Replays::new(alloc, draws, detector);
-    let judged = judge_receivers(alloc, plan, cell, &roles, edges.as_slice(), &mut replays)?;
-    Ok(judged.totals(plan, cell, targets.as_slice()))
+    let mut trials = Trials::new(alloc, Study::new(plan, rings), cell)?;
+    trials.run(trial)
 }
 
-/// The targets, ascending.
-fn targets_of(alloc: Global, roles: &Roles) -> Result<Vec<u16>, AllocError>
-    ensures { IfOk result (λ targets. targets.items ≡ targets_of roles.now) }
+/// What runs the trials of a cell, one after another, in memory that they share.
+#[derive(Drop)]
+pub(crate) struct Trials<'a> {
+    pub replays: Replays<'a>,
+    roles: Roles,
+    processes: ProcessOrder,
+    targets: Vec<u16>,
+    outcome: Outcome,
+}
+
+impl<'a> Trials<'a> {
+    /// What runs the trials of this cell.
+    pub fn new(alloc: Global, study: Study<'a>, cell: Cell) -> Result<Trials<'a>, AllocError>
+        requires { IsCellOf study.plan.now cell }
+        ensures study { IfOk result (λ t. t.replays.study.plan.now ≡ study.entry.plan.now) }
+        ensures cell { IfOk result (λ t. t.replays.cell ≡ cell) }
+    {
+        Ok(Trials {
+            replays: Replays::new(alloc, study, cell)?,
+            roles: Roles::none(alloc),
+            processes: ProcessOrder::new(alloc),
+            targets: Vec::new(alloc),
+            outcome: Outcome::new(alloc),
+        })
+    }
+
+    /// The outcome of a trial of the cell.
+    pub fn run(&mut self, trial: u32) -> Result<Totals, AllocError>
+        requires { self.old.replays.cell ≡ cell_at self.old.replays.study.plan.now trial }
+        ensures outcome { IfOk result (λ totals. totals ≡ outcome self.old.replays.study.plan.now trial) }
+        ensures study { self.new.replays.study ≡ self.old.replays.study }
+        ensures cell { self.new.replays.cell ≡ self.old.replays.cell }
+    {
+        let Study { plan, rings } = self.replays.study;
+        let cell = self.replays.cell;
+        let mut draws = Draws::new(plan.seed(), trial);
+        let order = &mut self.processes;
+        self.roles.draw(plan, cell, &mut draws, order, rings)?;
+        self.replays.alert(&self.roles)?;
+        list_targets(&mut self.targets, &self.roles)?;
+        let targets = self.targets.as_slice();
+        judge_receivers(
+            &mut self.outcome,
+            &mut self.replays,
+            &mut draws,
+            &self.roles,
+            targets,
+        )?;
+        Ok(self.outcome.totals(plan, cell, targets))
+    }
+}
+
+/// Lists the targets, ascending, in place of what the list held.
+fn list_targets(targets: &mut Vec<u16>, roles: &Roles) -> Result<(), AllocError>
+    ensures { OnOk result (targets.new.items ≡ targets_of roles.now) }
 {
-    let mut targets = Vec::new(alloc);
+    targets.clear();
     for process in 0..roles.nodes() {
         if !roles.is_target(process) {
             continue;
         }
         targets.push(process)?;
     }
-    Ok(targets)
+    Ok(())
 }
 
 /// Judges each receiver by what it proposes.
 fn judge_receivers(
-    alloc: Global,
-    plan: &Plan,
-    cell: Cell,
-    roles: &Roles,
-    edges: &[Edge],
+    outcome: &mut Outcome,
     replays: &mut Replays<'_>,
-) -> Result<Judgements, AllocError>
-    requires cell { IsCellOf plan.now cell }
-    requires nodes { length roles.now.roles ≤ 2048 }
-    requires rings { cell.k ≤ 32 }
-    requires layout { replays.old.detector.layout.nodes ≤ 2048 }
-    requires rule { replays.old.detector.rule ≡ rule_of cell.k cell.h cell.l plan.now.implicit }
-    requires within { (n : ℕ) → replays.old.detector.layout.nodes ≤ n → IsTrue (are_within cell.k n edges.now) }
-    requires distinct { IsTrue (are_distinct cell.k edges.now) }
-    requires few { length edges.now ≤ 2 ^ 16 }
-    ensures { IfOk result (λ judged. HasJudged roles.now judged
-        (map (λ j. proposal_at plan.now cell replays.old.detector.layout replays.old.draws edges.now j) (receivers_of roles.now))) }
+    draws: &mut Draws,
+    roles: &Roles,
+    targets: &[u16],
+) -> Result<(), AllocError>
+    requires nodes { length roles.now.roles ≡ replays.old.study.plan.now.nodes }
+    requires targets { targets.now ≡ targets_of roles.now }
+    ensures judged { OnOk result (HasJudged roles.now outcome.new
+        (map (λ j. receiver_proposal replays.old.study.plan.now replays.old.cell replays.old.study.rings.now draws.old replays.old.edges.items j) (receivers_of roles.now))) }
+    ensures study { replays.new.study ≡ replays.old.study }
+    ensures cell { replays.new.cell ≡ replays.old.cell }
 {
-    let mut judged = Judgements::new(alloc);
+    outcome.clear();
     for receiver in 0..roles.nodes() {
         if roles.is_target(receiver) {
             continue;
         }
-        let proposal = replays.proposal_at(alloc, plan, cell, edges, receiver)?;
-        judged.add(proposal, roles)?;
+        replays.hear(draws, receiver)?;
+        outcome.add(replays.detector.members(), roles, targets)?;
     }
-    Ok(judged)
+    Ok(())
 }

@@ -1,4 +1,4 @@
-use Rattle.cut_trial.proofs.Quorums as lemmas
+use Rattle.cut_trial.proofs.FastRound as lemmas
 use Rattle.cut_trial.proofs.laws.quorums_agree.Goals as goal
 
 pub returns : goal.returns

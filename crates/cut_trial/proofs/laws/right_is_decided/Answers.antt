@@ -1,5 +1,5 @@
-use Rattle.cut_trial.proofs.Quorums.{most_votes_are_most}
-use Rattle.cut_trial.proofs.SumLemmas.{right_is_decided, decided_once}
+use Rattle.cut_trial.proofs.FastRound.{most_votes_are_most}
+use Rattle.cut_trial.proofs.Sum.{right_is_decided, decided_once}
 use Rattle.cut_trial.proofs.laws.right_is_decided.Goals as goal
 
 pub returns-clause-most : goal.returns-clause-most

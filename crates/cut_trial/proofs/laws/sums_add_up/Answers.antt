@@ -1,4 +1,4 @@
-use Rattle.cut_trial.proofs.SumLemmas.{sums_add_up, pieces_join, parts_add_up}
+use Rattle.cut_trial.proofs.Sum.{sums_add_up, pieces_join, parts_add_up}
 use Rattle.cut_trial.proofs.laws.sums_add_up.Goals as goal
 
 pub returns-clause-lists : goal.returns-clause-lists

@@ -7,5 +7,5 @@ pub invariant_of-result : goal.invariant_of-result
 invariant_of-result c = record {
   piece = ap (λ (v : Values). is_piece v c.args.piece) c.in_ok-plan.ensures.value ∙ sym c.is_piece.ensures.value ∙ cc;
   few = c.in_ok-totals.ensures.few;
-  totals = c.in_ok-totals.ensures.value ∙ ap (λ (v : Values). sum_of v (trials_in c.args.piece)) (sym c.in_ok-plan.ensures.value);
+  totals = c.in_ok-totals.ensures.value ∙ ap (λ (v : Values). sum_of v (trials_in c.args.piece)) (c.new.ensures.plan ∙ sym c.in_ok-plan.ensures.value);
 }

@@ -1,0 +1,12 @@
+use Rattle.std.proofs.Common.{◌≡◌, ◌≤◌, map, take}
+use Rattle.cut_draws.specs.declared.delivery.Delivery.{Delivery}
+use Rattle.cut_detector.specs.State.{HasDelivered}
+use Rattle.cut_trial.proofs.hearing.hear_all.Given as goal
+
+abbrev pub invariant-loop-i : goal.invariant-loop-i
+invariant-loop-i l = record {
+  delivered : HasDelivered l.detector (map (λ (x : Delivery). x.edge) (take l.i l.order));
+  layout : l.detector.layout ≡ l.fn.detector.layout;
+  rule : l.detector.rule ≡ l.fn.detector.rule;
+  few : l.detector.deliveries ≤ l.i;
+}

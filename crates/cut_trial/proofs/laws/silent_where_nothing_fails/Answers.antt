@@ -1,0 +1,5 @@
+use Rattle.cut_trial.proofs.Quiet as lemmas
+use Rattle.cut_trial.proofs.laws.silent_where_nothing_fails.Goals as goal
+
+pub returns : goal.returns
+returns c = lemmas.silent_where_nothing_fails

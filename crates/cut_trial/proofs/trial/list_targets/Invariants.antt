@@ -1,0 +1,7 @@
+use Rattle.std.proofs.Common.{◌≡◌, filter}
+use Rattle.std.specs.List.{range_with_len}
+use Rattle.cut_alerts.specs.Assignment.{is_target}
+use Rattle.cut_trial.proofs.trial.list_targets.Given as goal
+
+abbrev pub invariant-loop-process : goal.invariant-loop-process
+invariant-loop-process l = l.targets.items ≡ filter (λ p. is_target l.roles p) (range_with_len 0 l.process)
