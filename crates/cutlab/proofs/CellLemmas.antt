@@ -8,7 +8,7 @@ use Rattle.std.proofs.lemmas.List.Sums.{sum_by-cons}
 use Rattle.std.proofs.Math.Nat.{mul-le-mul_right}
 use Rattle.cut_plan.specs.declared.cell.Cell.{Cell}
 use Rattle.cut_plan.specs.Values.{Values}
-use Rattle.cut_plan.specs.Cells.{cells_of, trials_of}
+use Rattle.cut_plan.specs.Cells.{cells_of, trial_count}
 use Rattle.cut_plan.specs.Plan.{IsPlan}
 use Rattle.cut_trial.specs.Outcome.{cell_at, no_cell, outcome}
 use Rattle.cut_trial.specs.Sum.{is_piece, sum_of, trials_of_cell}
@@ -26,9 +26,9 @@ last_cell i r some =
 pub whole_cell : (v : Values) (i : ℕ) → IsPlan v → i < length (cells_of v) → is_piece v (record { first = i * v.repeats; count = v.repeats }) ≡ true
 whole_cell v i plan below =
     let r : ℕ = v.repeats in
-    let ends : i * r + r ≤ trials_of v = (let le : (i + 1) * r ≤ length (cells_of v) * r = mul-le-mul_right r (omega arith) in omega (arith, le, add-mul i 1 r)) in
-    and_from (nat_lt 0 r && nat_le (i * r + r) (trials_of v)) ((i * r) / r == (i * r + r - 1) / r)
-    (and_from (nat_lt 0 r) (nat_le (i * r + r) (trials_of v)) (lt-ltb 0 r plan.some_repeats) (le-leb (i * r + r) (trials_of v) ends))
+    let ends : i * r + r ≤ trial_count v = (let le : (i + 1) * r ≤ length (cells_of v) * r = mul-le-mul_right r (omega arith) in omega (arith, le, add-mul i 1 r)) in
+    and_from (nat_lt 0 r && nat_le (i * r + r) (trial_count v)) ((i * r) / r == (i * r + r - 1) / r)
+    (and_from (nat_lt 0 r) (nat_le (i * r + r) (trial_count v)) (lt-ltb 0 r plan.some_repeats) (le-leb (i * r + r) (trial_count v) ends))
     (eq-eqb ((i * r) / r) ((i * r + r - 1) / r) (first_cell i r plan.some_repeats ∙ sym (last_cell i r plan.some_repeats)))
 
 some_sum : (f : ℕ → ℕ) (a n : ℕ) → 0 < n → 0 < f a → 0 < sum_by f (range_with_len a n)

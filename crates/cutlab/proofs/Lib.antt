@@ -2,3 +2,4 @@ pub mod RowLemmas
 pub mod RunLemmas
 pub mod CellLemmas
 pub mod InputLemmas
+pub mod SightLemmas

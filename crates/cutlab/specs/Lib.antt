@@ -1,6 +1,7 @@
-pub mod FaultNumber
+pub mod Faults
 pub mod Table
 pub mod Check
 pub mod Line
-pub mod Failures
+pub mod Watched
 pub mod Run
+pub mod Program

@@ -1,9 +1,9 @@
 -- The commands of the program, and what its command line asks for.
-use Rattle.std.specs.Prelude.{◌≡◌, ◌⊎◌, ℕ, List, true, codes, Option, Some, None, option_and_then, if◌then◌else◌}
+use Rattle.std.specs.Prelude.{◌≡◌, ◌⊎◌, ℕ, List, [], true, codes, Option, Some, None, option_and_then, if◌then◌else◌}
 use Rattle.std.specs.Str.{bytes_eq}
 use Rattle.clap.specs.Words.{App, IsAmong, fault_of, new_app, subcommand_of, with_subcommand}
 use Rattle.clap.specs.declared.error.kind.ErrorKind.{ErrorKind}
-use Rattle.clap.specs.declared.error.kind.ErrorKind.TheVariants.{DisplayHelp, DisplayVersion, OutOfMemory}
+use Rattle.clap.specs.declared.error.kind.ErrorKind.TheVariants.{DisplayHelp, DisplayVersion, MissingSubcommand, OutOfMemory}
 use Rattle.cutlab.specs.declared.line.Job.{Job}
 use Rattle.cutlab.specs.declared.line.Job.TheVariants.{Run, Check}
 
@@ -22,16 +22,20 @@ program_app = let bare : App = new_app (codes "cutlab") in
 abbrev pub job_of_line : List (List ℕ) → Option Job
 job_of_line words = option_and_then (λ p. job_named p.0) (subcommand_of program_app words)
 
--- the status with which the program ends where clap gives no matches: 0 where help was asked for, and 2
--- at a mistake
+-- the status with which the program ends where clap gives no matches: 0 where help was asked for, 5 where
+-- memory ran out, and 2 at a mistake
 abbrev pub status_of_kind : ErrorKind → ℕ
 status_of_kind DisplayHelp = 0
 status_of_kind DisplayVersion = 0
 status_of_kind OutOfMemory = 5
 status_of_kind kind = 2
 
--- the statuses that a command line without a job may end with, apart from that of want of memory: that
--- of a fault which clap finds in it, or 2 where clap finds none
+-- why a command line gives no job: clap found this in it, memory ran out, or no job is named
+abbrev pub IsAsked : List (List ℕ) → ErrorKind → Type 0
+IsAsked words kind =
+    IsAmong kind (fault_of program_app words) ⊎ (kind ≡ OutOfMemory)
+    ⊎ ((job_of_line words ≡ None) × (fault_of program_app words ≡ []) × (kind ≡ MissingSubcommand))
+
+-- the status of a command line without a job: exactly that of what clap found
 abbrev pub EndsLine : List (List ℕ) → ℕ → Type 0
-EndsLine words status = ((kind : ErrorKind) × IsAmong kind (fault_of program_app words) × (status ≡ status_of_kind kind))
-    ⊎ ((job_of_line words ≡ None) × (status ≡ 2))
+EndsLine words status = (kind : ErrorKind) × IsAsked words kind × (status ≡ status_of_kind kind)

@@ -1,9 +1,12 @@
 -- What a run of the program leaves, over lists of bytes.
-use Rattle.std.specs.Prelude.{◌≡◌, ◌≤◌, ℕ, ◌<◌, List, [], length, take, Option, Result, Ok, Err, IfSome, IfOk, IfErr, ⊤}
-use Rattle.std.specs.Io.KnownBytes.{Appends, Consumes}
+use Rattle.std.specs.Prelude.{◌⊎◌, Some, None, nat_lt, if◌then◌else◌, ◌≡◌, ◌≤◌, ℕ, not, IsTrue, ◌<◌, List, [], length, take, Option, Result, Ok, Err, IfSome, IfOk, IfErr, ⊤}
+use Rattle.std.specs.Str.{is_utf8}
+use Rattle.std.specs.Io.KnownBytes.{Appends, Consumes, Keeps}
+use Rattle.cut_plan.specs.declared.refusal.Refusal.{Refusal}
+use Rattle.cut_plan.specs.declared.refusal.Refusal.TheVariants.{NotJson, PlanTooLong}
 use Rattle.cut_plan.specs.Values.{Values}
 use Rattle.cut_plan.specs.Accepted.{plan_of}
-use Rattle.cutlab.specs.Failures.{one_more}
+use Rattle.cutlab.specs.Faults.{is_write}
 use Rattle.cutlab.specs.Table.{table}
 use Rattle.cutlab.specs.Check.{check_text}
 use Rattle.cutlab.specs.declared.line.Job.{Job}
@@ -21,7 +24,7 @@ answer_of Check = check_text
 abbrev pub Answers : (Values → List ℕ) → List ℕ → Result ⊤ CliFault → List ℕ → Type 0
 Answers answer input (Ok done) out = (v : Values) × (plan_of input ≡ Ok v) × (out ≡ answer v)
 Answers answer input (Err Memory) out = out ≡ []
-Answers answer input (Err (Plan fault)) out = (plan_of input ≡ Err fault) × (out ≡ [])
+Answers answer input (Err (Plan refusal)) out = (plan_of input ≡ Err refusal) × (out ≡ [])
 Answers answer input (Err Read) out = out ≡ []
 Answers answer input (Err (Write sent)) out = (v : Values) × (plan_of input ≡ Ok v) × (out ≡ take sent (answer v)) × (sent < length (answer v))
 
@@ -35,36 +38,29 @@ pub record Ends (answer : Values → List ℕ) (input before after : Option (Lis
   pub appended : Appends before after written
   pub answers : Answers answer read result written
 
--- a fault before anything is written: where it is the plan's, it is exactly that of the bytes
-abbrev pub Refuses : List ℕ → CliFault → Type 0
-Refuses bytes Memory = ⊤
-Refuses bytes (Plan fault) = plan_of bytes ≡ Err fault
-Refuses bytes Read = ⊤
-Refuses bytes (Write sent) = ⊥
+-- a fault before anything is written: a write did not fail, and a refusal is exactly that of the bytes
+abbrev pub IsToldOf : List ℕ → CliFault → Type 0
+IsToldOf bytes (Plan refusal) = plan_of bytes ≡ Err refusal
+IsToldOf bytes fault = IsTrue (not (is_write fault))
 
 -- what reading a plan gives, over what is known of the input
-pub record Reads (input : Option (List ℕ)) (result : Result Values CliFault) : Type 0 where
+pub record GivesPlan (input : Option (List ℕ)) (result : Result Values CliFault) : Type 0 where
   pub read : List ℕ
   pub given : IfSome input (λ all. plan_of all ≡ plan_of read)
   pub ok : IfOk result (λ v. plan_of read ≡ Ok v)
-  pub err : IfErr result (λ e. Refuses read e)
+  pub err : IfErr result (λ e. IsToldOf read e)
 
 -- what is left of an input where at most this many bytes of it were read
-abbrev pub ReadsAtMost : ℕ → Option (List ℕ) → Option (List ℕ) → Type 0
-ReadsAtMost limit before after = (bytes : List ℕ) × Consumes before after bytes × (length bytes ≤ limit)
+abbrev pub ConsumesAtMost : ℕ → Option (List ℕ) → Option (List ℕ) → Type 0
+ConsumesAtMost limit before after = (bytes : List ℕ) × Consumes before after bytes × (length bytes ≤ limit)
 
--- the count of failed reads after a call: one more exactly where the answer is Read
-abbrev pub failed_reads : {T : Type 0} → Result T CliFault → ℕ → ℕ
-failed_reads (Ok done) n = n
-failed_reads (Err Memory) n = n
-failed_reads (Err (Plan fault)) n = n
-failed_reads (Err Read) n = one_more n
-failed_reads (Err (Write sent)) n = n
+-- the refusal of a text that shows as soon as it is read: it is too long, or no UTF-8
+abbrev pub refused_at_sight : List ℕ → Option Refusal
+refused_at_sight text = if nat_lt 65536 (length text) then Some PlanTooLong else (if is_utf8 text then None else Some NotJson)
 
--- the count of failed writes after a call: one more exactly where the answer is Write
-abbrev pub failed_writes : {T : Type 0} → Result T CliFault → ℕ → ℕ
-failed_writes (Ok done) n = n
-failed_writes (Err Memory) n = n
-failed_writes (Err (Plan fault)) n = n
-failed_writes (Err Read) n = n
-failed_writes (Err (Write sent)) n = one_more n
+-- such an input is refused so without memory: another fault comes only where a read failed, or where memory
+-- was refused before anything was read
+abbrev pub IsToldAtSight : Option (List ℕ) → Option (List ℕ) → Option CliFault → Type 0
+IsToldAtSight before after fault =
+    IfSome before (λ all. IfSome (refused_at_sight all) (λ refusal.
+    (fault ≡ Some (Plan refusal)) ⊎ (fault ≡ Some Read) ⊎ ((fault ≡ Some Memory) × Keeps before after)))

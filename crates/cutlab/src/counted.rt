@@ -1,8 +1,9 @@
 ghost use Rattle.std.specs.Prelude.{◌≡◌, ◌<◌, length, IfOk};
 ghost use Rattle.std.specs.Io.{ReadsAtMost, WritesAtMost};
 ghost use Rattle.std.specs.Io.KnownBytes.{ReadConsumes, WriteAppends, Keeps};
-ghost use Rattle.cutlab.specs.Failures.{one_more, counted};
+ghost use Rattle.cut_faults.specs.Failures.{one_more, counted};
 
+use cut_faults::Failures;
 use std::io::{self, ErrorKind, Read, Write};
 use std::marker::Model;
 
@@ -12,11 +13,11 @@ use std::marker::Model;
 #[derive(Debug, Drop)]
 pub struct Counted<S> {
     stream: S,
-    failures: u64,
+    failures: Failures,
 }
 
 impl<S> Model for Counted<S> {
-    ghost use Rattle.cutlab.specs.Failures.{Watched, watched_code};
+    ghost use Rattle.cutlab.specs.Watched.{Watched, watched_code};
 
     ghost Value = { Watched S };
 
@@ -32,7 +33,7 @@ impl<S> Counted<S> {
     {
         Counted {
             stream,
-            failures: 0,
+            failures: Failures::none(),
         }
     }
 
@@ -40,14 +41,7 @@ impl<S> Counted<S> {
     pub fn failures(&self) -> u64
         ensures { result ≡ self.now.failures }
     {
-        self.failures
-    }
-
-    /// Counts a call that failed.
-    fn count_failure(&mut self)
-        ensures { self.new ≡ record self.old { failures = one_more self.old.failures } }
-    {
-        self.failures = self.failures.saturating_add(1);
+        self.failures.count()
     }
 }
 
@@ -61,7 +55,7 @@ impl<R: Read> Read for Counted<R> {
     {
         let result = self.stream.read(buf);
         if result.is_err() {
-            self.count_failure();
+            self.failures.add();
         }
         result
     }
@@ -81,7 +75,7 @@ impl<W: Write> Write for Counted<W> {
             result => result,
         };
         if result.is_err() {
-            self.count_failure();
+            self.failures.add();
         }
         result
     }
@@ -92,7 +86,7 @@ impl<W: Write> Write for Counted<W> {
     {
         let result = self.stream.flush();
         if result.is_err() {
-            self.count_failure();
+            self.failures.add();
         }
         result
     }

@@ -1,5 +1,7 @@
-ghost use Rattle.std.specs.Prelude.{◌≡◌, ◌≤◌, length, take, IfOk, IfSome, IfErr, ◌⊎◌};
-ghost use Rattle.cutlab.specs.Run.{ReadsAtMost, failed_reads};
+ghost use Rattle.std.specs.Prelude.{◌≡◌, ◌≤◌, length, take, IfOk, IfSome, IfErr, IsErrOf, ◌⊎◌};
+ghost use Rattle.std.specs.Io.KnownBytes.{Keeps};
+ghost use Rattle.cutlab.specs.Faults.{failed_reads};
+ghost use Rattle.cutlab.specs.Run.{ConsumesAtMost};
 
 use crate::{CliFault, Counted};
 use std::alloc::Global;
@@ -17,7 +19,9 @@ pub(crate) fn read_text<R: Read>(
     ensures ok { IfOk result
         (λ text. IfSome (R.remaining input.old.stream) (λ bytes. text.items ≡ take limit bytes)) }
     ensures err { IfErr result (λ e. (e ≡ CliFault.Memory) ⊎ (e ≡ CliFault.Read)) }
-    ensures limit { ReadsAtMost limit (R.remaining input.old.stream) (R.remaining input.new.stream) }
+    ensures unread { IsErrOf result CliFault.Memory
+        → Keeps (R.remaining input.old.stream) (R.remaining input.new.stream) }
+    ensures limit { ConsumesAtMost limit (R.remaining input.old.stream) (R.remaining input.new.stream) }
     ensures failures { input.new.failures ≡ failed_reads result input.old.failures }
 {
     let mut text = vec![in alloc; 0u8; limit]?;
@@ -32,7 +36,7 @@ fn fill<R: Read>(input: &mut Counted<R>, buffer: &mut [u8]) -> Result<usize, Cli
     ensures ok { IfOk result (λ n. IfSome (R.remaining input.old.stream)
         (λ bytes. take n buffer.new ≡ take (length buffer.new) bytes)) }
     ensures err { IfErr result (λ e. e ≡ CliFault.Read) }
-    ensures limit { ReadsAtMost (length buffer.old) (R.remaining input.old.stream) (R.remaining input.new.stream) }
+    ensures limit { ConsumesAtMost (length buffer.old) (R.remaining input.old.stream) (R.remaining input.new.stream) }
     ensures failures { input.new.failures ≡ failed_reads result input.old.failures }
 {
     let mut filled = 0;

@@ -1,5 +1,5 @@
-ghost use Rattle.std.specs.Prelude.{◌≡◌, ◌⊎◌, map, IfOk, IfErr, Some};
-ghost use Rattle.clap.specs.Words.{app_of, kind_of};
+ghost use Rattle.std.specs.Prelude.{◌≡◌, [], map, IfOk, IfErr, Some};
+ghost use Rattle.clap.specs.Words.{app_of, fault_of, kind_of};
 ghost use Rattle.cutlab.specs.Line.{job_named, job_of_line, program_app, status_of_kind, EndsLine};
 
 use clap::error::ErrorKind;
@@ -22,25 +22,27 @@ pub enum Job {
 pub struct LineFault {
     /// 0 for help, 2 for a mistake, 5 for want of memory.
     pub status: u8,
-    /// What is printed.
+    /// What is printed, as clap writes it; empty where memory for it was refused.
     pub text: String,
 }
 
-/// Reads a command line, whose first word is the program's name.
+/// Reads a command line, whose first word is the program's name. There is a job only where clap finds no
+/// fault in the words, and else exactly the status of what it found.
 pub fn parse_line<S: AsStr>(alloc: Global, words: &[S]) -> Result<Job, LineFault>
     ensures ok { IfOk result (λ job. job_of_line (map S.text words.now) ≡ Some job) }
-    ensures err { IfErr result (λ e. (e.status ≡ 5) ⊎ EndsLine (map S.text words.now) e.status) }
+    ensures faultless { IfOk result (λ _. fault_of program_app (map S.text words.now) ≡ []) }
+    ensures err { IfErr result (λ e. EndsLine (map S.text words.now) e.status) }
 {
-    let Ok(command) = program(alloc) else {
-        return Err(without_memory(alloc));
+    let Ok(command) = commands(alloc) else {
+        return Err(line_fault(alloc, ErrorKind::OutOfMemory, None));
     };
     let matches = match command.try_get_matches_from(words) {
         Ok(matches) => matches,
-        Err(error) => return Err(line_fault(alloc, &error)),
+        Err(error) => return Err(line_fault(alloc, error.kind(), Some(&error))),
     };
     match matches.subcommand_name().and_then(job_named) {
         Some(job) => Ok(job),
-        None => Err(mistake(alloc)),
+        None => Err(line_fault(alloc, ErrorKind::MissingSubcommand, None)),
     }
 }
 
@@ -56,7 +58,7 @@ fn job_named(name: &str) -> Option<Job>
 }
 
 /// The program's commands.
-fn program<'a>(alloc: Global) -> Result<Command<'a>, AllocError>
+fn commands<'a>(alloc: Global) -> Result<Command<'a>, AllocError>
     ensures { IfOk result (λ command. app_of command ≡ program_app) }
 {
     Command::new(alloc, "cutlab")
@@ -70,37 +72,27 @@ fn program<'a>(alloc: Global) -> Result<Command<'a>, AllocError>
         ))
 }
 
-/// What is printed for a command line that clap refuses, and for help.
-fn line_fault(alloc: Global, error: &Error) -> LineFault
-    ensures { (result.status ≡ 5) ⊎ (result.status ≡ status_of_kind (kind_of error.now)) }
+/// What is told of a command line in which clap found this, with clap's text where it has one.
+fn line_fault(alloc: Global, kind: ErrorKind, error: Option<&Error>) -> LineFault
+    ensures { result.status ≡ status_of_kind kind }
 {
-    let Ok(text) = error.to_string(alloc) else {
-        return without_memory(alloc);
+    let text = match error {
+        Some(error) => error.to_string(alloc),
+        None => kind.to_string(alloc),
     };
-    let status = match error.kind() {
-        ErrorKind::OutOfMemory => 5,
-        ErrorKind::DisplayHelp | ErrorKind::DisplayVersion => 0,
-        _ => 2,
-    };
-    LineFault { status, text }
-}
-
-/// A command line without a job.
-fn mistake(alloc: Global) -> LineFault
-    ensures { result.status ≡ 2 }
-{
     LineFault {
-        status: 2,
-        text: String::new(alloc),
+        status: status_of_kind(kind),
+        text: text.unwrap_or(String::new(alloc)),
     }
 }
 
-/// A command line that could not be read for want of memory.
-fn without_memory(alloc: Global) -> LineFault
-    ensures { result.status ≡ 5 }
+/// The status with which the program ends where clap found this.
+pub(crate) fn status_of_kind(kind: ErrorKind) -> u8
+    ensures { result ≡ status_of_kind kind }
 {
-    LineFault {
-        status: 5,
-        text: String::new(alloc),
+    match kind {
+        ErrorKind::OutOfMemory => 5,
+        ErrorKind::DisplayHelp | ErrorKind::DisplayVersion => 0,
+        _ => 2,
     }
 }

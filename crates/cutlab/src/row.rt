@@ -13,14 +13,8 @@ pub(crate) fn row(alloc: Global, numbers: &[u64]) -> Result<Vec<u8>, AllocError>
 {
     let record = record_of(alloc, numbers)?;
     let mut writer = WriterBuilder::new().from_writer(Vec::new(alloc));
-    match writer.write_byte_record(&record) {
-        Ok(()) => {}
-        Err(_) => return Err(AllocError),
-    }
-    match writer.into_inner() {
-        Ok(text) => Ok(text),
-        Err(_) => Err(AllocError),
-    }
+    writer.write_byte_record(&record).map_err(|_| AllocError)?;
+    writer.into_inner().map_err(|_| AllocError)
 }
 
 /// The numbers in decimal, as the fields of a record.

@@ -2,7 +2,9 @@ ghost use Rattle.std.specs.Prelude.{◌≡◌, ◌++◌, ◌<◌, ℕ, length, t
 ghost use Rattle.std.specs.Io.KnownBytes.{Appends};
 ghost use Rattle.cutlab.specs.Table.{table};
 ghost use Rattle.cutlab.specs.Check.{check_text, number_line};
-ghost use Rattle.cutlab.specs.Run.{Ends, Reads, ReadsAtMost, answer_of, failed_reads, failed_writes};
+ghost use Rattle.cutlab.specs.Faults.{failed_reads, failed_writes};
+ghost use Rattle.cutlab.specs.Run.{Ends, GivesPlan, ConsumesAtMost, IsToldAtSight, answer_of};
+ghost use Rattle.std.specs.Result.{result_err};
 
 use crate::input::{LIMIT, read_text};
 use crate::send::send_all;
@@ -17,7 +19,8 @@ use std::io::{Read, Write};
 ///
 /// At most 65,537 bytes are read. What was written is the whole table at `Ok`, its first bytes where a
 /// write failed, and nothing at any other fault. Read comes exactly where a read failed, and Write
-/// exactly where a write failed or took nothing.
+/// exactly where a write failed or took nothing. What is too long or no UTF-8 is refused without memory
+/// once it is read.
 pub fn run_io<R: Read, W: Write>(
     alloc: Global,
     input: &mut Counted<R>,
@@ -25,7 +28,8 @@ pub fn run_io<R: Read, W: Write>(
 ) -> Result<(), CliFault>
     ensures ends { Ends table (R.remaining input.old.stream)
         (W.contents output.old.stream) (W.contents output.new.stream) result }
-    ensures limit { ReadsAtMost 65537 (R.remaining input.old.stream) (R.remaining input.new.stream) }
+    ensures limit { ConsumesAtMost 65537 (R.remaining input.old.stream) (R.remaining input.new.stream) }
+    ensures sight { IsToldAtSight (R.remaining input.old.stream) (R.remaining input.new.stream) (result_err result) }
     ensures reads { input.new.failures ≡ failed_reads result input.old.failures }
     ensures writes { output.new.failures ≡ failed_writes result output.old.failures }
 {
@@ -42,7 +46,8 @@ pub fn check_io<R: Read, W: Write>(
 ) -> Result<(), CliFault>
     ensures ends { Ends check_text (R.remaining input.old.stream)
         (W.contents output.old.stream) (W.contents output.new.stream) result }
-    ensures limit { ReadsAtMost 65537 (R.remaining input.old.stream) (R.remaining input.new.stream) }
+    ensures limit { ConsumesAtMost 65537 (R.remaining input.old.stream) (R.remaining input.new.stream) }
+    ensures sight { IsToldAtSight (R.remaining input.old.stream) (R.remaining input.new.stream) (result_err result) }
     ensures reads { input.new.failures ≡ failed_reads result input.old.failures }
     ensures writes { output.new.failures ≡ failed_writes result output.old.failures }
 {
@@ -50,7 +55,7 @@ pub fn check_io<R: Read, W: Write>(
 }
 
 /// Reads a plan and writes what a job answers to it.
-fn answer<R: Read, W: Write>(
+pub(crate) fn answer<R: Read, W: Write>(
     alloc: Global,
     job: Job,
     input: &mut Counted<R>,
@@ -58,13 +63,15 @@ fn answer<R: Read, W: Write>(
 ) -> Result<(), CliFault>
     ensures ends { Ends (answer_of job) (R.remaining input.old.stream)
         (W.contents output.old.stream) (W.contents output.new.stream) result }
-    ensures limit { ReadsAtMost 65537 (R.remaining input.old.stream) (R.remaining input.new.stream) }
+    ensures limit { ConsumesAtMost 65537 (R.remaining input.old.stream) (R.remaining input.new.stream) }
+    ensures sight { IsToldAtSight (R.remaining input.old.stream) (R.remaining input.new.stream) (result_err result) }
     ensures reads { input.new.failures ≡ failed_reads result input.old.failures }
     ensures writes { output.new.failures ≡ failed_writes result output.old.failures }
 {
     let plan = read_plan(alloc, input)?;
     let text = answer_text(alloc, job, &plan)?;
-    send(output, text.as_slice())
+    send_all(output, text.as_slice())?;
+    Ok(())
 }
 
 /// What a job answers to a plan.
@@ -79,8 +86,9 @@ fn answer_text(alloc: Global, job: Job, plan: &Plan) -> Result<Vec<u8>, AllocErr
 
 /// Reads a plan, whose first fault is the answer where there is one.
 fn read_plan<R: Read>(alloc: Global, input: &mut Counted<R>) -> Result<Plan, CliFault>
-    ensures reads { Reads (R.remaining input.old.stream) result }
-    ensures limit { ReadsAtMost 65537 (R.remaining input.old.stream) (R.remaining input.new.stream) }
+    ensures reads { GivesPlan (R.remaining input.old.stream) result }
+    ensures sight { IsToldAtSight (R.remaining input.old.stream) (R.remaining input.new.stream) (result_err result) }
+    ensures limit { ConsumesAtMost 65537 (R.remaining input.old.stream) (R.remaining input.new.stream) }
     ensures failures { input.new.failures ≡ failed_reads result input.old.failures }
 {
     let text = read_text(alloc, input, LIMIT)?;
@@ -108,18 +116,4 @@ fn push_line(alloc: Global, text: &mut String, word: &str, number: u32) -> Resul
     text.push_str(digits.as_str())?;
     text.push_str("\n")?;
     Ok(())
-}
-
-/// Writes an answer.
-fn send<W: Write>(output: &mut Counted<W>, text: &[u8]) -> Result<(), CliFault>
-    ensures ok { OnOk result
-        (Appends (W.contents output.old.stream) (W.contents output.new.stream) text.now) }
-    ensures err { IfErr result (λ e. (sent : ℕ) × (e ≡ CliFault.Write sent) × (sent < length text.now)
-        × Appends (W.contents output.old.stream) (W.contents output.new.stream) (take sent text.now)) }
-    ensures failures { output.new.failures ≡ failed_writes result output.old.failures }
-{
-    match send_all(output, text) {
-        Ok(()) => Ok(()),
-        Err(sent) => Err(CliFault::Write(sent.bytes)),
-    }
 }

@@ -1,6 +1,7 @@
 ghost use Rattle.std.specs.Prelude.{◌≡◌, ◌<◌, length, take, OnOk, IfErr};
 ghost use Rattle.std.specs.Io.KnownBytes.{Appends};
-ghost use Rattle.cutlab.specs.Failures.{counted};
+ghost use Rattle.cut_faults.specs.Failures.{counted};
+ghost use Rattle.cutlab.specs.Program.{stream_of, IsSent};
 
 use crate::Counted;
 use std::io::Write;
@@ -20,6 +21,7 @@ pub(crate) fn send_all<W: Write>(output: &mut Counted<W>, bytes: &[u8]) -> Resul
         Appends (W.contents output.old.stream) (W.contents output.new.stream) (take sent.bytes bytes.now)) }
     ensures fewer { IfErr result (λ sent. sent.bytes < length bytes.now) }
     ensures failures { output.new.failures ≡ counted result output.old.failures }
+    ensures sent { IsSent bytes.now (stream_of W.contents output.old output.new) }
 {
     let mut sent = 0;
     while sent < bytes.len() {

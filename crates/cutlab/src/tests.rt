@@ -3,7 +3,6 @@
 
 mod commands;
 mod devices;
-mod pieces;
 mod refusals;
 mod studies;
 mod tables;
@@ -33,6 +32,11 @@ fn table_with(alloc: Global, lines: &str) -> Result<String, AllocError> {
     let mut text = String::from_str(alloc, NAMES)?;
     text.push_str(lines)?;
     Ok(text)
+}
+
+/// The whole table of the plan.
+fn plan_table(alloc: Global) -> Result<String, AllocError> {
+    table_with(alloc, "1,1,1,1,2,8,0,0,0,8,2,2,0\n")
 }
 
 /// Runs the plan of a reader and writes its table to a writer.

@@ -1,49 +1,223 @@
-//! Command lines, and what is told of those that name no job.
+//! The program over its words and streams, for every job and kind of line.
 
-use crate::{Job, parse_line};
+use super::devices::{Act, Device};
+use super::{PLAN, plan_table, plan_with};
+use crate::line::status_of_kind;
+use crate::{Counted, Job, end_unread, parse_line, run_words};
+use clap::error::ErrorKind;
 use std::alloc::Global;
+use std::io;
 use std::test::Fail;
 
-/// The job that these words name, or the status with which they end.
-fn answer(alloc: Global, words: &[&str]) -> Result<Job, u8> {
-    match parse_line(alloc, words) {
-        Ok(job) => Ok(job),
-        Err(fault) => Err(fault.status),
+/// What the program left: its status, its output and its errors.
+#[derive(Drop)]
+struct Left {
+    status: u8,
+    output: Vec<u8>,
+    errors: Vec<u8>,
+}
+
+/// What the program leaves, given these words and this input.
+fn left_by(alloc: Global, words: &[&str], input: &str) -> Left {
+    let mut output = Vec::new(alloc);
+    let mut errors = Vec::new(alloc);
+    let status = run_words(
+        alloc,
+        words,
+        &mut Counted::new(input.as_bytes()),
+        &mut Counted::new(&mut output),
+        &mut Counted::new(&mut errors),
+    );
+    Left {
+        status,
+        output,
+        errors,
     }
 }
 
-/// Whether what is told of these words has this text in it.
-fn is_told(alloc: Global, words: &[&str], text: &str) -> bool {
-    match parse_line(alloc, words) {
-        Ok(_) => false,
-        Err(fault) => fault.text.contains(text),
+/// Whether some bytes are a text with this in it.
+fn has(bytes: &[u8], part: &str) -> bool {
+    match std::str::from_utf8(bytes) {
+        Ok(text) => text.contains(part),
+        Err(_) => false,
     }
 }
 
 #[test]
-fn names_jobs(rt: HostRuntime) -> Result<(), Fail> {
-    assert_eq!(rt; answer(rt.alloc(), &["cutlab", "run"]), Ok(Job::Run));
-    assert_eq!(rt; answer(rt.alloc(), &["cutlab", "check"]), Ok(Job::Check));
+fn jobs_are_named(rt: HostRuntime) {
+    let alloc = rt.alloc();
+    assert!(rt; matches!(parse_line(alloc, &["cutlab", "run"]), Ok(Job::Run)));
+    assert!(rt; matches!(parse_line(alloc, &["cutlab", "check"]), Ok(Job::Check)));
+}
+
+#[test]
+fn jobs_write_their_answer(rt: HostRuntime) -> Result<(), Fail> {
+    let alloc = rt.alloc();
+    let table = plan_table(alloc)?;
+    let rows = [
+        ("run", table.as_str()),
+        ("check", "cells 1\ntrials 2\nquorum 4\n"),
+    ];
+    for (job, answer) in rows {
+        let left = left_by(alloc, &["cutlab", job], PLAN);
+        assert_eq!(rt; left.status, 0, "{job}");
+        assert!(rt; left.output.as_slice() == answer.as_bytes(), "{job}");
+        assert!(rt; left.errors.is_empty(), "{job}");
+    }
     Ok(())
 }
 
 #[test]
-fn refuses_other_words(rt: HostRuntime) -> Result<(), Fail> {
+fn a_fault_is_one_line_of_errors(rt: HostRuntime) -> Result<(), Fail> {
     let alloc = rt.alloc();
-    assert_eq!(rt; answer(alloc, &["cutlab"]), Err(2));
-    assert_eq!(rt; answer(alloc, &["cutlab", "frob"]), Err(2));
-    assert_eq!(rt; answer(alloc, &["cutlab", "run", "plan.json"]), Err(2));
-    assert_eq!(rt; answer(alloc, &["cutlab", "--frob"]), Err(2));
-    assert!(rt; is_told(alloc, &["cutlab", "frob"], "unrecognized subcommand 'frob'"));
+    let no_cell = plan_with(alloc, &[(r#""h":[1]"#, r#""h":[3]"#)])?;
+    let no_seed = plan_with(alloc, &[("seed", "seeds")])?;
+    let rows = [
+        ("", "cutlab: fault 1 NotJson\n"),
+        ("[]", "cutlab: fault 2 NotObject\n"),
+        (no_seed.as_str(), "cutlab: fault 3 UnknownField\n"),
+        ("{}", "cutlab: fault 4 MissingField copies\n"),
+        (no_cell.as_str(), "cutlab: fault 8 NoCell\n"),
+    ];
+    for (text, line) in rows {
+        for job in ["run", "check"] {
+            let left = left_by(alloc, &["cutlab", job], text);
+            assert_eq!(rt; left.status, 3, "{line}");
+            assert!(rt; left.output.is_empty(), "{line}");
+            assert!(rt; left.errors.as_slice() == line.as_bytes(), "{line}");
+        }
+    }
     Ok(())
 }
 
 #[test]
-fn helps(rt: HostRuntime) -> Result<(), Fail> {
+fn help_is_output(rt: HostRuntime) {
+    let rows: [&[&str]; 3] = [
+        &["cutlab", "--help"],
+        &["cutlab", "help"],
+        &["cutlab", "run", "--help"],
+    ];
+    for words in rows {
+        let left = left_by(rt.alloc(), words, PLAN);
+        assert_eq!(rt; left.status, 0, "{words:?}");
+        assert!(rt; has(&left.output, "Usage: cutlab"), "{words:?}");
+        assert!(rt; left.errors.is_empty(), "{words:?}");
+    }
+}
+
+#[test]
+fn mistakes_are_errors(rt: HostRuntime) {
+    let rows: [(&[&str], &str); 5] = [
+        (&["cutlab"], "Usage: cutlab <COMMAND>"),
+        (&["cutlab", "frob"], "unrecognized subcommand 'frob'"),
+        (
+            &["cutlab", "run", "plan.json"],
+            "unexpected argument 'plan.json' found",
+        ),
+        (
+            &["cutlab", "check", "--all"],
+            "unexpected argument '--all' found",
+        ),
+        (&["cutlab", "--frob"], "unexpected argument '--frob' found"),
+    ];
+    for (words, part) in rows {
+        let left = left_by(rt.alloc(), words, PLAN);
+        assert_eq!(rt; left.status, 2, "{part}");
+        assert!(rt; left.output.is_empty(), "{part}");
+        assert!(rt; has(&left.errors, part), "{part}");
+    }
+}
+
+#[test]
+fn each_kind_has_its_status(rt: HostRuntime) {
+    let rows = [
+        (ErrorKind::InvalidValue, 2),
+        (ErrorKind::UnknownArgument, 2),
+        (ErrorKind::InvalidSubcommand, 2),
+        (ErrorKind::NoEquals, 2),
+        (ErrorKind::ValueValidation, 2),
+        (ErrorKind::TooManyValues, 2),
+        (ErrorKind::TooFewValues, 2),
+        (ErrorKind::WrongNumberOfValues, 2),
+        (ErrorKind::ArgumentConflict, 2),
+        (ErrorKind::MissingRequiredArgument, 2),
+        (ErrorKind::MissingSubcommand, 2),
+        (ErrorKind::DisplayHelp, 0),
+        (ErrorKind::DisplayHelpOnMissingArgumentOrSubcommand, 2),
+        (ErrorKind::DisplayVersion, 0),
+        (ErrorKind::Io, 2),
+        (ErrorKind::Format, 2),
+        (ErrorKind::OutOfMemory, 5),
+    ];
+    for (kind, status) in rows {
+        assert_eq!(rt; status_of_kind(kind), status, "{kind:?}");
+    }
+}
+
+#[test]
+fn a_failed_output_is_told(rt: HostRuntime) -> Result<(), Fail> {
     let alloc = rt.alloc();
-    assert_eq!(rt; answer(alloc, &["cutlab", "--help"]), Err(0));
-    assert_eq!(rt; answer(alloc, &["cutlab", "run", "--help"]), Err(0));
-    assert_eq!(rt; answer(alloc, &["cutlab", "help"]), Err(0));
-    assert!(rt; is_told(alloc, &["cutlab", "--help"], "Usage: cutlab <COMMAND>"));
+    let rows = [
+        ("run", 0, "cutlab: fault 31 Write 0\n"),
+        ("run", 2, "cutlab: fault 31 Write 14\n"),
+        ("check", 1, "cutlab: fault 31 Write 7\n"),
+        ("--help", 3, "cutlab: fault 31 Write 21\n"),
+    ];
+    for (word, at, line) in rows {
+        let mut output = Device::new(alloc, b"", 7, at, Act::Nothing);
+        let mut errors = Vec::new(alloc);
+        let status = run_words(
+            alloc,
+            &["cutlab", word],
+            &mut Counted::new(PLAN.as_bytes()),
+            &mut Counted::new(&mut output),
+            &mut Counted::new(&mut errors),
+        );
+        assert_eq!(rt; status, 4, "{word}");
+        assert!(rt; errors.as_slice() == line.as_bytes(), "{word}");
+    }
     Ok(())
+}
+
+#[test]
+fn errors_that_fail_leave_the_status(rt: HostRuntime) {
+    let rows: [(&[&str], &str, u8); 3] = [
+        (&["cutlab", "run"], "[]", 3),
+        (&["cutlab", "frob"], "", 2),
+        (&["cutlab", "check"], PLAN, 0),
+    ];
+    for (words, text, wanted) in rows {
+        let alloc = rt.alloc();
+        let mut output = Vec::new(alloc);
+        let mut errors = Device::new(alloc, b"", 7, 0, Act::Fail(io::ErrorKind::BrokenPipe));
+        let status = run_words(
+            alloc,
+            words,
+            &mut Counted::new(text.as_bytes()),
+            &mut Counted::new(&mut output),
+            &mut Counted::new(&mut errors),
+        );
+        assert_eq!(rt; status, wanted, "{words:?}");
+    }
+}
+
+#[test]
+fn words_that_are_not_read(rt: HostRuntime) {
+    let rows = [
+        (
+            io::ErrorKind::InvalidData,
+            2,
+            "error: a word of the command line is not UTF-8\n",
+        ),
+        (io::ErrorKind::OutOfMemory, 5, "cutlab: fault 0 Memory\n"),
+    ];
+    for (kind, status, line) in rows {
+        let mut errors = Vec::new(rt.alloc());
+        assert_eq!(rt;
+            end_unread(kind, &mut Counted::new(&mut errors)),
+            status,
+            "{line}"
+        );
+        assert!(rt; errors.as_slice() == line.as_bytes(), "{line}");
+    }
 }

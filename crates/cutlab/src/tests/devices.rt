@@ -1,23 +1,23 @@
 //! Readers and writers that do little at a time, and that fail at each of their calls in turn.
 
-use super::{PLAN, check, run, table_with};
+use super::{PLAN, check, plan_table, run};
 use crate::{CliFault, Counted};
-use std::alloc::{AllocError, Global};
+use std::alloc::Global;
 use std::io::{self, ErrorKind, Read, Write};
 use std::test::Fail;
 
 /// What a device does at a call.
 #[derive(Clone, Copy, Debug, PartialEq, Eq)]
-enum Act {
+pub(super) enum Act {
     Fail(ErrorKind),
     Nothing,
 }
 
 /// A device that moves at most `step` bytes a call, and at call `at`, counted from 0, does `act`.
 #[derive(Drop)]
-struct Device<'a> {
+pub(super) struct Device<'a> {
     input: &'a [u8],
-    output: Vec<u8>,
+    pub(super) output: Vec<u8>,
     step: usize,
     calls: usize,
     at: usize,
@@ -25,7 +25,13 @@ struct Device<'a> {
 }
 
 impl<'a> Device<'a> {
-    fn new(alloc: Global, input: &'a [u8], step: usize, at: usize, act: Act) -> Device<'a> {
+    pub(super) fn new(
+        alloc: Global,
+        input: &'a [u8],
+        step: usize,
+        at: usize,
+        act: Act,
+    ) -> Device<'a> {
         Device {
             input,
             output: Vec::new(alloc),
@@ -93,11 +99,6 @@ fn stops_at_write(alloc: Global, table: &str, step: usize, at: usize, act: Act) 
         }
         _ => false,
     }
-}
-
-/// The whole table of the plan.
-fn plan_table(alloc: Global) -> Result<String, AllocError> {
-    table_with(alloc, "1,1,1,1,2,8,0,0,0,8,2,2,0\n")
 }
 
 #[test]
@@ -171,31 +172,116 @@ fn reads_no_further_than_the_limit(rt: HostRuntime) -> Result<(), Fail> {
     Ok(())
 }
 
+/// Every kind of failure that a device can tell.
+const KINDS: [ErrorKind; 41] = [
+    ErrorKind::NotFound,
+    ErrorKind::PermissionDenied,
+    ErrorKind::ConnectionRefused,
+    ErrorKind::ConnectionReset,
+    ErrorKind::HostUnreachable,
+    ErrorKind::NetworkUnreachable,
+    ErrorKind::ConnectionAborted,
+    ErrorKind::NotConnected,
+    ErrorKind::AddrInUse,
+    ErrorKind::AddrNotAvailable,
+    ErrorKind::NetworkDown,
+    ErrorKind::BrokenPipe,
+    ErrorKind::AlreadyExists,
+    ErrorKind::WouldBlock,
+    ErrorKind::NotADirectory,
+    ErrorKind::IsADirectory,
+    ErrorKind::DirectoryNotEmpty,
+    ErrorKind::ReadOnlyFilesystem,
+    ErrorKind::FilesystemLoop,
+    ErrorKind::StaleNetworkFileHandle,
+    ErrorKind::InvalidInput,
+    ErrorKind::InvalidData,
+    ErrorKind::TimedOut,
+    ErrorKind::WriteZero,
+    ErrorKind::StorageFull,
+    ErrorKind::NotSeekable,
+    ErrorKind::QuotaExceeded,
+    ErrorKind::FileTooLarge,
+    ErrorKind::ResourceBusy,
+    ErrorKind::ExecutableFileBusy,
+    ErrorKind::Deadlock,
+    ErrorKind::CrossesDevices,
+    ErrorKind::TooManyLinks,
+    ErrorKind::InvalidFilename,
+    ErrorKind::ArgumentListTooLong,
+    ErrorKind::Interrupted,
+    ErrorKind::Unsupported,
+    ErrorKind::UnexpectedEof,
+    ErrorKind::OutOfMemory,
+    ErrorKind::InProgress,
+    ErrorKind::Other,
+];
+
+/// Whether a device that failed at one call of three, and at no other, is handed on and counted so: each
+/// call once, the failure as it is.
+fn is_counted(failures: u64, calls: usize, told: Option<ErrorKind>, kind: ErrorKind) -> bool {
+    failures == 1 && calls == 3 && told == Some(kind)
+}
+
+/// The kind of a call's failure.
+fn kind_of<T: Drop>(answer: io::Result<T>) -> Option<ErrorKind> {
+    match answer {
+        Ok(_) => None,
+        Err(error) => Some(error.kind()),
+    }
+}
+
 #[test]
 fn calls_that_fail_are_counted(rt: HostRuntime) -> Result<(), Fail> {
     let alloc = rt.alloc();
-    let mut buffer = [0u8; 4];
-    let device = Device::new(alloc, b"table", 2, 1, Act::Fail(ErrorKind::Interrupted));
-    let mut input = Counted::new(device);
-    assert_eq!(rt; input.read(&mut buffer)?, 2);
-    assert_eq!(rt; input.failures(), 0);
-    assert!(rt; input.read(&mut buffer).is_err());
-    assert_eq!(rt; input.failures(), 1);
-    assert_eq!(rt; input.read(&mut buffer)?, 2);
-    assert_eq!(rt; input.failures(), 1);
-    let mut output = Counted::new(Device::new(alloc, b"", 2, 1, Act::Nothing));
-    assert_eq!(rt; output.write(b"table")?, 2);
-    assert_eq!(rt; output.failures(), 0);
-    match output.write(b"ble") {
-        Ok(_) => assert!(rt; false, "taken"),
-        Err(error) => assert!(rt; error.kind() == ErrorKind::WriteZero),
+    for kind in KINDS {
+        for size in [1, 4_096, 65_537] {
+            let mut buffer = vec![in alloc; 7u8; size]?;
+            let bytes = vec![in alloc; 9u8; 70_000]?;
+            let mut device = Device::new(alloc, &bytes, 70_000, 1, Act::Fail(kind));
+            let mut input = Counted::new(&mut device);
+            assert_eq!(rt; input.read(&mut buffer)?, size.min(70_000), "{kind:?}");
+            let told = kind_of(input.read(&mut buffer));
+            assert!(rt; input.read(&mut buffer)? > 0, "{kind:?}");
+            let failures = input.failures();
+            assert!(rt;
+                is_counted(failures, device.calls, told, kind),
+                "read {kind:?}"
+            );
+
+            let mut device = Device::new(alloc, b"", 70_000, 1, Act::Fail(kind));
+            let mut output = Counted::new(&mut device);
+            assert_eq!(rt; output.write(&buffer)?, size, "{kind:?}");
+            let told = kind_of(output.write(&buffer));
+            assert_eq!(rt; output.write(&buffer)?, size, "{kind:?}");
+            let failures = output.failures();
+            assert!(rt;
+                is_counted(failures, device.calls, told, kind),
+                "write {kind:?}"
+            );
+        }
+        let mut device = Device::new(alloc, b"", 1, 1, Act::Fail(kind));
+        let mut output = Counted::new(&mut device);
+        output.flush()?;
+        let told = kind_of(output.flush());
+        output.flush()?;
+        let failures = output.failures();
+        assert!(rt;
+            is_counted(failures, device.calls, told, kind),
+            "flush {kind:?}"
+        );
     }
+    Ok(())
+}
+
+#[test]
+fn a_write_that_takes_nothing_is_a_failure(rt: HostRuntime) -> Result<(), Fail> {
+    let alloc = rt.alloc();
+    let mut device = Device::new(alloc, b"", 2, 1, Act::Nothing);
+    let mut output = Counted::new(&mut device);
+    assert_eq!(rt; output.write(b"table")?, 2);
+    assert_eq!(rt; kind_of(output.write(b"ble")), Some(ErrorKind::WriteZero));
+    assert_eq!(rt; output.write(b"")?, 0);
     assert_eq!(rt; output.failures(), 1);
-    assert_eq!(rt; output.write(b"ble")?, 2);
-    output.flush()?;
-    assert_eq!(rt; output.failures(), 1);
-    let mut stuck = Counted::new(Device::new(alloc, b"", 2, 0, Act::Fail(ErrorKind::Other)));
-    assert!(rt; stuck.flush().is_err());
-    assert_eq!(rt; stuck.failures(), 1);
     Ok(())
 }

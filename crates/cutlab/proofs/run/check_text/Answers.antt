@@ -1,5 +1,5 @@
 use Rattle.std.proofs.Common.{◌≡◌, ◌++◌, ℕ, List, length, codes, ap, ◌∙◌}
-use Rattle.cut_plan.specs.Cells.{cells_of, trials_of}
+use Rattle.cut_plan.specs.Cells.{cells_of, trial_count}
 use Rattle.cut_trial.specs.FastRound.{quorum_of}
 use Rattle.cutlab.specs.Check.{check_text, number_line}
 use Rattle.cutlab.proofs.run.check_text.Goals as goal
@@ -17,4 +17,4 @@ returns c =
     ∙ ap (λ xs. third (second (first xs))) c.new-text.ensures.bytes
     ∙ ap (λ i. lines i c.trials.result c.from.result) c.cells.ensures.value
     ∙ ap (λ j. lines (length (cells_of v)) j c.from.result) c.trials.ensures.value
-    ∙ ap (λ k. lines (length (cells_of v)) (trials_of v) k) quorum_is
+    ∙ ap (λ k. lines (length (cells_of v)) (trial_count v) k) quorum_is

@@ -2,7 +2,7 @@ use Rattle.std.proofs.Common.{◌≡◌, ◌++◌, ◌∷◌, [], ℕ, List, len
 use Rattle.std.specs.List.{range_with_len, flat_map}
 use Rattle.std.proofs.lemmas.List.Concat.{flat_map-append}
 use Rattle.cut_plan.specs.Cells.{cells_of}
-use Rattle.cut_alerts.proofs.RangeLemmas.{range_more}
+use Rattle.cut_lists.proofs.Ranges.{range_with_len_more}
 use Rattle.cutlab.specs.Table.{header, line_of, table}
 use Rattle.cutlab.proofs.table.table_of.Goals as goal
 
@@ -11,7 +11,7 @@ loop-number-preserved c =
     let f : ℕ → List ℕ = λ i. line_of c.args.plan.now i in
     let n : ℕ = c.loop-number.number in
     let more : flat_map f (range_with_len 0 (n + 1)) ≡ flat_map f (range_with_len 0 n) ++ f n =
-    ap (λ xs. flat_map f xs) (range_more 0 n n (zero-add n)) ∙ flat_map-append f (range_with_len 0 n) (n ∷ []) ∙ ap (λ ys. flat_map f (range_with_len 0 n) ++ ys) (append-nil (f n)) in
+    ap (λ xs. flat_map f xs) (range_with_len_more 0 n n (zero-add n)) ∙ flat_map-append f (range_with_len 0 n) (n ∷ []) ∙ ap (λ ys. flat_map f (range_with_len 0 n) ++ ys) (append-nil (f n)) in
     c.in_ok-extend_from_slice.ensures.items
     ∙ ap (λ xs. xs ++ c.as_slice.result.now) c.loop-number.invariant
     ∙ ap (λ ys. (header ++ flat_map f (range_with_len 0 n)) ++ ys) (c.as_slice.ensures.value ∙ c.in_ok-line.ensures)

@@ -2,7 +2,7 @@ use Rattle.std.proofs.Common.{rules, ap, ap₂, true, codes, ◌≡◌, ◌∙�
 use Rattle.std.proofs.lemmas.Result.{IfOk-weaker}
 use Rattle.clap.specs.Words.{App, Shape, app_of, new_app, with_subcommand}
 use Rattle.clap.specs.Simple.{app_of_fields}
-use Rattle.cutlab.proofs.line.program.Goals as goal
+use Rattle.cutlab.proofs.line.commands.Goals as goal
 
 -- a command that needs a subcommand, and one that shows its help without a word
 abbrev requires_one : App → App

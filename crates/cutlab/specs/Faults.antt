@@ -1,0 +1,76 @@
+-- The program's faults: their places in the list of faults, their lines, and how the program ends.
+use Rattle.std.specs.Prelude.{ℕ, ◌++◌, List, [], ◌∷◌, Bool, true, false, codes, Result, Ok, Err, ⊤, if◌then◌else◌}
+use Rattle.std.specs.Fmt.{decimal}
+use Rattle.cut_faults.specs.declared.code.FaultCode.{FaultCode}
+use Rattle.cut_faults.specs.declared.code.FaultCode.TheVariants as code
+use Rattle.cut_faults.specs.Codes as codes_of
+use Rattle.cut_faults.specs.Failures.{one_more}
+use Rattle.cut_plan.specs.declared.refusal.PlanFault.{PlanFault}
+use Rattle.cut_plan.specs.declared.refusal.PlanFault.TheVariants as plan
+use Rattle.cut_plan.specs.Refusals.{code_of_refusal, refusal_text}
+use Rattle.cutlab.specs.declared.fault.CliFault.{CliFault}
+use Rattle.cutlab.specs.declared.fault.CliFault.TheVariants.{Memory, Plan, Read, Write}
+
+-- a fault in the program's list of faults
+abbrev pub code_of : CliFault → FaultCode
+code_of Memory = code.Memory
+code_of (Plan refusal) = code_of_refusal refusal
+code_of Read = code.Read
+code_of (Write sent) = code.Write
+
+-- its number there
+abbrev pub number_of : CliFault → ℕ
+number_of fault = codes_of.number_of (code_of fault)
+
+-- the status with which the program ends
+abbrev pub status_of : CliFault → ℕ
+status_of fault = codes_of.status_of (code_of fault)
+
+-- the status with which a command ends
+abbrev pub status_of_end : Result ⊤ CliFault → ℕ
+status_of_end (Ok done) = 0
+status_of_end (Err fault) = status_of fault
+
+-- what a fault says of itself: number, name, and what it carries
+abbrev pub words_of : CliFault → List ℕ
+words_of (Plan refusal) = refusal_text refusal
+words_of (Write sent) = codes_of.text_carrying code.Write (decimal sent)
+words_of fault = codes_of.code_text (code_of fault)
+
+-- the fault as it is printed
+abbrev pub fault_text : CliFault → List ℕ
+fault_text fault = codes "cutlab: fault " ++ words_of fault
+
+-- its line
+abbrev pub fault_line : CliFault → List ℕ
+fault_line fault = fault_text fault ++ 10 ∷ []
+
+-- the fault of the program where a plan was not made
+abbrev pub fault_of_plan : PlanFault → CliFault
+fault_of_plan plan.Memory = Memory
+fault_of_plan (plan.Refused refusal) = Plan refusal
+
+-- ---- counts of failed calls
+
+-- a read failed
+abbrev pub is_read : CliFault → Bool
+is_read Read = true
+is_read fault = false
+
+-- a write of the answer failed
+abbrev pub is_write : CliFault → Bool
+is_write (Write sent) = true
+is_write fault = false
+
+-- the count after a call: one more exactly where it ends with such a fault
+abbrev pub failures_by : {T : Type 0} → (CliFault → Bool) → Result T CliFault → ℕ → ℕ
+failures_by test (Ok done) n = n
+failures_by test (Err fault) n = if test fault then one_more n else n
+
+-- the count of failed reads after a call
+abbrev pub failed_reads : {T : Type 0} → Result T CliFault → ℕ → ℕ
+failed_reads result n = failures_by is_read result n
+
+-- the count of failed writes after a call
+abbrev pub failed_writes : {T : Type 0} → Result T CliFault → ℕ → ℕ
+failed_writes result n = failures_by is_write result n
