@@ -1,4 +1,4 @@
-ghost use Rattle.std.specs.Prelude.{◌≡◌};
+ghost use Rattle.std.specs.Prelude.{◌≡◌, ◌≤◌, length};
 ghost use Rattle.cut_faults.specs.Codes.{all_codes, number_of, name_of, status_of, code_numbered, name_numbered, status_numbered};
 
 use std::fmt;
@@ -142,9 +142,10 @@ impl FaultCode {
         }
     }
 
-    /// The fault's name, as it is printed.
+    /// The fault's name, as it is printed: at most 16 bytes.
     pub fn name(self) -> &'static str
-        ensures { result.now ≡ name_of self }
+        ensures name { result.now ≡ name_of self }
+        ensures short { length result.now ≤ 16 }
     {
         match self {
             FaultCode::Memory | FaultCode::WorkMemory => "Memory",

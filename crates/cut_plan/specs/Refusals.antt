@@ -1,5 +1,5 @@
 -- What is told of a text that is no accepted plan.
-use Rattle.std.specs.Prelude.{◌≡◌, ℕ, List, Result, Err, ⊤}
+use Rattle.std.specs.Prelude.{◌≡◌, ℕ, List, Option, Some, None, Result, Err, ⊤}
 use Rattle.cut_faults.specs.declared.code.FaultCode.{FaultCode}
 use Rattle.cut_faults.specs.declared.code.FaultCode.TheVariants as code
 use Rattle.cut_faults.specs.Codes.{code_text, text_carrying}
@@ -7,6 +7,7 @@ use Rattle.cut_plan.specs.declared.refusal.Refusal.{Refusal}
 use Rattle.cut_plan.specs.declared.refusal.Refusal.TheVariants.{NotJson, NotObject, UnknownField, MissingField, WrongKind, OutOfRange, NotRising, NoCell, TooManyFaults, TooManyTrials, PlanTooLong}
 use Rattle.cut_plan.specs.declared.refusal.PlanFault.{PlanFault}
 use Rattle.cut_plan.specs.declared.refusal.PlanFault.TheVariants.{Memory, Refused}
+use Rattle.cut_plan.specs.declared.field.Field.{Field}
 use Rattle.cut_plan.specs.Fields.{name_of}
 
 -- a refusal in the program's list of faults
@@ -22,6 +23,14 @@ code_of_refusal NoCell = code.NoCell
 code_of_refusal TooManyFaults = code.TooManyFaults
 code_of_refusal TooManyTrials = code.TooManyTrials
 code_of_refusal PlanTooLong = code.PlanTooLong
+
+-- the field that a refusal carries
+abbrev pub field_of_refusal : Refusal → Option Field
+field_of_refusal (MissingField field) = Some field
+field_of_refusal (WrongKind field) = Some field
+field_of_refusal (OutOfRange field) = Some field
+field_of_refusal (NotRising field) = Some field
+field_of_refusal refusal = None
 
 -- a refusal as it is printed: number, name, and the field that it carries
 abbrev pub refusal_text : Refusal → List ℕ

@@ -1,4 +1,4 @@
-ghost use Rattle.std.specs.Prelude.{◌≡◌, Some};
+ghost use Rattle.std.specs.Prelude.{◌≡◌, ◌≤◌, Some, length};
 ghost use Rattle.cut_plan.specs.Fields.{name_of, kind_of, all_fields};
 
 use crate::kind::Kind;
@@ -24,9 +24,10 @@ pub enum Field {
 }
 
 impl Field {
-    /// The field's name in the JSON object.
+    /// The field's name in the JSON object: at most 8 bytes.
     pub fn name(self) -> &'static str
-        ensures { result.now ≡ name_of self }
+        ensures name { result.now ≡ name_of self }
+        ensures short { length result.now ≤ 8 }
     {
         match self {
             Field::Copies => "copies",

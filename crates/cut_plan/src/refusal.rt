@@ -1,5 +1,5 @@
 ghost use Rattle.std.specs.Prelude.{◌≡◌};
-ghost use Rattle.cut_plan.specs.Refusals.{code_of_refusal, code_of};
+ghost use Rattle.cut_plan.specs.Refusals.{code_of_refusal, code_of, field_of_refusal};
 
 use crate::Field;
 use cut_faults::FaultCode;
@@ -54,6 +54,19 @@ impl Refusal {
             Refusal::PlanTooLong => FaultCode::PlanTooLong,
         }
     }
+
+    /// The field that the refusal carries, if it carries one.
+    pub fn field(self) -> Option<Field>
+        ensures { result ≡ field_of_refusal self }
+    {
+        match self {
+            Refusal::MissingField(field)
+            | Refusal::WrongKind(field)
+            | Refusal::OutOfRange(field)
+            | Refusal::NotRising(field) => Some(field),
+            _ => None,
+        }
+    }
 }
 
 impl fmt::Display for Refusal {
@@ -64,12 +77,9 @@ impl fmt::Display for Refusal {
 
     fn fmt<W: fmt::Write>(&self, f: &mut fmt::Formatter<W>) -> fmt::Result {
         let code = self.code();
-        match self {
-            Refusal::MissingField(field)
-            | Refusal::WrongKind(field)
-            | Refusal::OutOfRange(field)
-            | Refusal::NotRising(field) => write!(f, "{code} {field}"),
-            _ => write!(f, "{code}"),
+        match self.field() {
+            Some(field) => write!(f, "{code} {field}"),
+            None => write!(f, "{code}"),
         }
     }
 }
