@@ -6,6 +6,7 @@ use Rattle.std.specs.Ordering.{nat_cmp, is_eq}
 use Rattle.std.specs.declared.cmp.Ordering.TheVariants.{Less, Equal, Greater}
 use Rattle.std.specs.Cmp.{nat_cmp_is}
 use Rattle.std.specs.BTreeSet.{BTreeSet}
+use Rattle.std.proofs.Math.Bool.{and-true}
 use Rattle.std.proofs.lemmas.Bool.{cases_order, cases_lt, eq-eqb, eqb-true, ne_eqb, lt-ltb, le-ltb}
 use Rattle.std.proofs.lemmas.Bool.Decides.{Decides-eqb}
 use Rattle.std.proofs.lemmas.Cmp.{nat_cmp_total, nat_eq_equiv}
@@ -15,7 +16,7 @@ use Rattle.std.proofs.lemmas.Map.Keys.{IsDistinct-IsPermutation, IsStrictlyIncre
 use Rattle.std.proofs.lemmas.Map.Lookups.{btree_set_from_contains, exact_unsigned}
 use Rattle.std.proofs.lemmas.Map.Made.{AllPairs-from_IsDistinct, IsDistinct-from_AllPairs}
 use Rattle.std.proofs.lemmas.Map.Views.{any-filter_same}
-use Rattle.cut_lists.proofs.Ranges.{range-rises, list_any_passing, list_any_none_passing}
+use Rattle.cut_lists.proofs.Ranges.{filter_agree_on, range-rises, list_any_passing, list_any_none_passing}
 
 IsDistinct-filter : (p : ℕ → Bool) (xs : List ℕ) → IsDistinct ◌==◌ xs → IsDistinct ◌==◌ (filter p xs)
 IsDistinct-filter p xs distinct = IsDistinct-from_AllPairs Decides-eqb _ (AllPairs-filter (λ (x y : ℕ). x ≡ y → ⊥) p xs (AllPairs-from_IsDistinct Decides-eqb xs distinct))
@@ -40,6 +41,17 @@ ranged n q = elim (cases_lt q n) [
   | inl below ↦ list_any_passing (λ k. q == k) 0 n q (omega arith) (omega arith) (eq-eqb q q refl) ∙ sym (lt-ltb q n below)
   | inr above ↦ list_any_none_passing (λ k. q == k) 0 n (λ i _ low e. let same : q ≡ i = eqb-true q i e in omega arith) ∙ sym (le-ltb q n above)
 ]
+
+-- what passes in a range is what the range has of it
+pub filter-again : (p : ℕ → Bool) (n : ℕ)
+    → filter p (range_with_len 0 n)
+    ≡ filter (λ q. list_any (λ k. k == q) (filter p (range_with_len 0 n))) (range_with_len 0 n)
+filter-again p n =
+    filter_agree_on p (λ q. list_any (λ k. k == q) (filter p (range_with_len 0 n))) 0 n (record {
+      same = λ q _ low. sym (ap (λ b. p q && b) (ranged n q ∙ lt-ltb q n (omega arith)) ∙ and-true (p q))
+          ∙ sym (kept p (range_with_len 0 n) q)
+          ∙ ap (λ t. list_any t (filter p (range_with_len 0 n))) (λ i k. nat_eq_equiv.symm q k i);
+    })
 
 where_true : (b x y : Bool) → (b ≡ true → x ≡ y) → b && x ≡ b && y
 where_true true x y same = same refl

@@ -1,7 +1,9 @@
 -- How many of a list pass a test, and whether some do.
-use Rattle.std.proofs.Common.{◌≡◌, inl, inr, ℕ, zero, suc, ◌+◌, ◌<◌, ◌≤◌, Bool, true, false, cond, ◌==◌, ◌&&◌, ◌||◌, List, [], ◌∷◌, IsTrue, not, nat_lt, take, refl, ap, sym, ◌∙◌, arith}
-use Rattle.std.specs.List.{range_with_len, count_by, list_any}
+use Rattle.std.proofs.Common.{◌≡◌, inl, inr, ℕ, zero, suc, ◌+◌, ◌<◌, ◌≤◌, Bool, true, false, cond, ◌==◌, ◌&&◌, ◌||◌, List, [], ◌∷◌, IsTrue, not, nat_lt, length, get_or, take, filter, refl, ap, sym, ◌∙◌, arith}
+use Rattle.std.specs.List.{range_with_len, count_by, list_any, All, Contains}
 use Rattle.std.proofs.lemmas.Bool.{cases_eq, ne_eqb, lt-ltb, or_left, or_right, or_cases}
+use Rattle.std.proofs.lemmas.List.Elements.{All-head, All-tail, Contains-get_or}
+use Rattle.std.proofs.lemmas.List.Folds.{Any-from_list_any, list_any_at}
 use Rattle.std.proofs.lemmas.List.Sums.{sum_by-cons}
 use Rattle.cut_lists.proofs.Ranges.{AgreeOn, count_by_agree, list_any_agree}
 
@@ -58,3 +60,59 @@ list_any_take-le p (suc m) (suc n) (x ∷ xs) before is = elim (or_cases (p x) _
   | inl here ↦ or_left (p x) _ here
   | inr later ↦ or_right (p x) _ (list_any_take-le p m n xs (omega arith) later)
 ]
+
+-- some element passes a test that another implies
+pub list_any-implied : {X : Type 0} (s t : X → Bool) (xs : List X) → ((x : X) → s x ≡ true → t x ≡ true)
+    → list_any s xs ≡ true → list_any t xs ≡ true
+list_any-implied s t xs implies is =
+    let at = Any-from_list_any s xs is in
+    list_any_at t xs at.0 at.1 at.2 (implies (get_or xs at.0 at.1) (ap s at.3 ∙ at.4))
+
+-- and some element of a list that has all of another's
+pub list_any-among : {X : Type 0} (t : X → Bool) (xs ys : List X)
+    → ((x : X) → Contains xs x → Contains ys x) → list_any t xs ≡ true → list_any t ys ≡ true
+list_any-among t xs ys among is =
+    let at = Any-from_list_any t xs is in
+    let found = among (get_or xs at.0 at.1) (Contains-get_or xs at.0 at.1 at.2) in
+    list_any_at t ys found.0 (get_or xs at.0 at.1) found.1 (ap t (found.2 ∙ at.3) ∙ at.4)
+
+-- nothing is kept where nothing passes
+pub filter-none : {X : Type 0} (p : X → Bool) (xs : List X) → All (λ x. p x ≡ false) xs → filter p xs ≡ []
+filter-none p [] none = refl
+filter-none p (x ∷ xs) none =
+    ap (λ b. cond b (x ∷ filter p xs) (filter p xs)) (All-head (λ y. p y ≡ false) x xs none)
+    ∙ filter-none p xs (All-tail (λ y. p y ≡ false) x xs none)
+
+-- ---- two tests that no element passes both
+
+some_bit : (b c : Bool) → b || c ≡ true → 1 ≤ cond b 1 0 + cond c 1 0
+some_bit true c e = omega arith
+some_bit false true e = omega arith
+some_bit false false e = cc
+
+bits_into : (a b c d : Bool) → (a ≡ true → b ≡ true → ⊥) → (a || b ≡ true → c || d ≡ true)
+    → cond a 1 0 + cond b 1 0 ≤ cond c 1 0 + cond d 1 0
+bits_into true true c d apart into = absurd (apart refl refl)
+bits_into true false c d apart into = some_bit c d (into refl)
+bits_into false true c d apart into = some_bit c d (into refl)
+bits_into false false c d apart into = omega arith
+
+-- they are passed by no more together than two others, one of which each element then passes
+pub counts-into : {X : Type 0} (p q s t : X → Bool) (xs : List X) → ((x : X) → p x ≡ true → q x ≡ true → ⊥)
+    → ((x : X) → p x || q x ≡ true → s x || t x ≡ true)
+    → count_by p xs + count_by q xs ≤ count_by s xs + count_by t xs
+counts-into p q s t [] apart into = omega arith
+counts-into {X} p q s t (x ∷ xs) apart into =
+    let here = bits_into (p x) (q x) (s x) (t x) (apart x) (into x) in
+    let cons : (r : X → Bool) → count_by r (x ∷ xs) ≡ cond (r x) 1 0 + count_by r xs =
+    λ r. sum_by-cons (λ y. cond (r y) 1 0) x xs in
+    omega (arith, here, counts-into p q s t xs apart into, cons p, cons q, cons s, cons t)
+
+-- and by no more than there are
+pub counts-apart : {X : Type 0} (p q : X → Bool) (xs : List X) → ((x : X) → p x ≡ true → q x ≡ true → ⊥)
+    → count_by p xs + count_by q xs ≤ length xs
+counts-apart p q [] apart = omega arith
+counts-apart p q (x ∷ xs) apart =
+    let here = bits_into (p x) (q x) true false (apart x) (λ _. refl) in
+    let rest = counts-apart p q xs apart in
+    omega (arith, here, rest, sum_by-cons (λ y. cond (p y) 1 0) x xs, sum_by-cons (λ y. cond (q y) 1 0) x xs)

@@ -1,5 +1,6 @@
 pub mod Ascending
 pub mod Counts
+pub mod Finds
 pub mod Greatest
 pub mod Keyed
 pub mod Listed
@@ -8,6 +9,7 @@ pub mod Ones
 pub mod Orders
 pub mod Parts
 pub mod Pigeonhole
+pub mod RankOrders
 pub mod Ranges
 pub mod Ranks
 pub mod Rounds

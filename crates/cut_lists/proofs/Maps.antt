@@ -1,6 +1,7 @@
 -- Maps under other maps, counts and tests.
 use Rattle.std.proofs.Common.{◌≡◌, ◌+◌, ◌||◌, Bool, List, [], ◌∷◌, map, cond, refl, ap, sym, ◌∙◌}
-use Rattle.std.specs.List.{count_by, list_any}
+use Rattle.std.specs.List.{count_by, list_any, flat_map}
+use Rattle.std.proofs.lemmas.List.Folds.{list_any-append}
 use Rattle.std.proofs.lemmas.List.Sums.{sum_by-cons}
 
 pub count_by-map : {X Y : Type 0} (p : Y → Bool) (f : X → Y) (xs : List X) → count_by p (map f xs) ≡ count_by (λ x. p (f x)) xs
@@ -14,3 +15,9 @@ map-map f g (x ∷ xs) = ap (λ zs. g (f x) ∷ zs) (map-map f g xs)
 pub list_any-map : {X Y : Type 0} (p : Y → Bool) (f : X → Y) (xs : List X) → list_any p (map f xs) ≡ list_any (λ x. p (f x)) xs
 list_any-map p f [] = refl
 list_any-map p f (x ∷ xs) = ap (λ b. p (f x) || b) (list_any-map p f xs)
+
+pub list_any-flat_map : {X Y : Type 0} (p : Y → Bool) (f : X → List Y) (xs : List X)
+    → list_any p (flat_map f xs) ≡ list_any (λ x. list_any p (f x)) xs
+list_any-flat_map p f [] = refl
+list_any-flat_map p f (x ∷ xs) = list_any-append p (f x) (flat_map f xs)
+    ∙ ap (λ b. list_any p (f x) || b) (list_any-flat_map p f xs)

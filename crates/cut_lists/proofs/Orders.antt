@@ -11,15 +11,13 @@ use Rattle.std.proofs.lemmas.List.FromFn.{length-range_with_len, get_or-range_wi
 use Rattle.std.proofs.lemmas.List.Sorted.{IsPermutation-refl, IsPermutation-remove, IsPermutation-trans, IsPermutation-cons, IsPermutation-sym, length_permutation, All-permutation, Contains-permutation}
 use Rattle.std.proofs.lemmas.Map.Keys.{IsDistinct-from_apart, apart_from_distinct, IsDistinct-IsPermutation}
 use Rattle.cut_lists.specs.Ranked.{IsOrder}
+use Rattle.cut_lists.proofs.Ranges.{All-range_with_len}
 
 pub length-order : (n : ℕ) (order : List ℕ) → IsOrder n order → length order ≡ n
 length-order n order is = length_permutation (range_with_len 0 n) order is ∙ length-range_with_len 0 n
 
 pub range_is_below : (n : ℕ) → All (λ p. p < n) (range_with_len 0 n)
-range_is_below n k d within =
-    let long : length (range_with_len 0 n) ≡ n = length-range_with_len 0 n in
-    let at : get_or (range_with_len 0 n) k d ≡ 0 + k = get_or-range_with_len 0 n k d (omega arith) in
-    omega arith
+range_is_below n = All-range_with_len (λ p. p < n) 0 n (λ i _ below. omega arith)
 
 pub order_is_below : (n : ℕ) (order : List ℕ) → IsOrder n order → (i d : ℕ) → i < length order → get_or order i d < n
 order_is_below n order is i d within = All-permutation (λ p. p < n) (range_with_len 0 n) order is (range_is_below n) i d within

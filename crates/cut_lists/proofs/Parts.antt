@@ -1,18 +1,10 @@
 -- How many elements pass a test, part by part.
-use Rattle.std.proofs.Common.{◌≡◌, ℕ, zero, suc, ◌+◌, ◌<◌, Bool, true, false, not, cond, List, [], ◌∷◌, filter, length, get_or, nat_lt, sym, refl, ap, subst, arith}
-use Rattle.std.specs.Prelude.{count_by, ◌≤◌, ◌&&◌, ◌||◌}
-use Rattle.std.specs.List.{list_any}
+use Rattle.std.proofs.Common.{◌≡◌, ℕ, zero, suc, ◌+◌, ◌<◌, Bool, true, false, not, cond, List, [], ◌∷◌, filter, length, get_or, sym, refl, ap, subst, arith}
+use Rattle.std.specs.Prelude.{count_by, ◌≤◌, ◌&&◌}
 use Rattle.std.proofs.lemmas.List.Sums.{sum_by-cons}
 
 pub count_first : {X : Type 0} (p : X → Bool) (x : X) (xs : List X) → count_by p (x ∷ xs) ≡ cond (p x) 1 0 + count_by p xs
 count_first p x xs = sum_by-cons (λ y. cond (p y) 1 0) x xs
-
-pub any_count : {X : Type 0} (p : X → Bool) (xs : List X) → list_any p xs ≡ nat_lt 0 (count_by p xs)
-any_count p [] = refl
-any_count p (x ∷ xs) =
-    let rest = any_count p xs in
-    subst (λ n. list_any p (x ∷ xs) ≡ nat_lt 0 n) (sym (count_first p x xs))
-    (elim (p x) as (λ b. (b || list_any p xs) ≡ nat_lt 0 (cond b 1 0 + count_by p xs)) [ true ↦ grind arith | false ↦ grind (arith, rest) ])
 
 -- of those that pass t, some pass s and the others don't
 pub count_parts : {X : Type 0} (s t : X → Bool) (xs : List X) → count_by t (filter s xs) + count_by (λ x. t x && not (s x)) xs ≡ count_by t xs

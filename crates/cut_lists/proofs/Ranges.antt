@@ -1,5 +1,5 @@
 -- Tests, counts and filters over the numbers of a range.
-use Rattle.std.proofs.Common.{◌≡◌, ℕ, zero, suc, ◌+◌, ◌<◌, ◌≤◌, Bool, true, false, cond, ◌||◌, List, [], ◌∷◌, ◌++◌, map, length, get_or, inl, inr, subst, ap, sym, ◌∙◌, refl, append-nil, arith, add-one}
+use Rattle.std.proofs.Common.{◌≡◌, ℕ, zero, suc, ◌+◌, ◌-◌, ◌<◌, ◌≤◌, Bool, true, false, cond, ◌||◌, List, [], ◌∷◌, ◌++◌, map, length, get_or, inl, inr, subst, ap, sym, ◌∙◌, refl, append-nil, arith, add-one, add-zero, zero-add}
 use Rattle.std.specs.List.{range_with_len, filter, list_any, count_by, Contains, All}
 use Rattle.std.specs.List.Sorted.{IsStrictlyIncreasing}
 use Rattle.std.proofs.Math.Bool.{or-true}
@@ -8,6 +8,21 @@ use Rattle.std.proofs.lemmas.List.FromFn.{length-range_with_len, get_or-range_wi
 use Rattle.std.proofs.lemmas.List.Elements.{filter-append, filter_passes, All-filter, All-contains, Contains-append_left, Contains-append_right}
 use Rattle.std.proofs.lemmas.List.{map-append}
 use Rattle.std.proofs.lemmas.List.Sums.{sum_by-cons, length-filter, count_by-le-length}
+
+-- what holds from a up to a + n holds of each number of the range
+pub All-range_with_len : (P : ℕ → Type 0) (a n : ℕ) → ((i : ℕ) → a ≤ i → i < a + n → P i)
+    → All P (range_with_len a n)
+All-range_with_len P a n each k d within =
+    let below : k < n = omega (arith, length-range_with_len a n) in
+    subst P (sym (get_or-range_with_len a n k d below)) (each (a + k) (omega arith) (omega arith))
+
+-- and each of these numbers is in it
+pub Contains-range_with_len : (a n i : ℕ) → a ≤ i → i < a + n → Contains (range_with_len a n) i
+Contains-range_with_len a n i low high = (
+  i - a,
+  omega (arith, length-range_with_len a n),
+  (let at : a + (i - a) ≡ i = omega arith in get_or-range_with_len a n (i - a) i (omega arith) ∙ at),
+)
 
 -- one more number stands at the end
 pub range_with_len_more : (a n j : ℕ) → a + n ≡ j → range_with_len a (n + 1) ≡ range_with_len a n ++ j ∷ []
@@ -91,10 +106,7 @@ list_any_none_passing p a n none = false_from_ne_true _ (λ t. let at = passing 
 pub Contains-filter_of : (p : ℕ → Bool) (a n s : ℕ) → Contains (filter p (range_with_len a n)) s → PassesAt p a n s
 Contains-filter_of p a n s at =
     let InRange : ℕ → Type 0 = λ x. (a ≤ x) × (x < a + n) in
-    let all : All InRange (range_with_len a n) = (λ k d low.
-    let below : k < n = omega (arith, length-range_with_len a n, low) in
-    let e : get_or (range_with_len a n) k d ≡ a + k = get_or-range_with_len a n k d below in
-    (omega arith, omega arith)) in
+    let all : All InRange (range_with_len a n) = All-range_with_len InRange a n (λ i low high. (low, high)) in
     let range = All-contains InRange (filter p (range_with_len a n)) s (All-filter p InRange (range_with_len a n) all) at in
     record {
       from = range.0;
@@ -139,6 +151,17 @@ map_filter_kept f p n passes = ap (λ xs. map f xs) (filter_more_kept p n passes
 
 pub map_filter_skipped : {X : Type 0} (f : ℕ → X) (p : ℕ → Bool) (n : ℕ) → p n ≡ false → map f (filter p (range_with_len 0 (n + 1))) ≡ map f (filter p (range_with_len 0 n))
 map_filter_skipped f p n fails = ap (λ xs. map f xs) (filter_more_skipped p n fails)
+
+-- a list of n and one of the numbers after them
+pub ranges-join : (a m n : ℕ) → range_with_len a m ++ range_with_len (a + m) n ≡ range_with_len a (m + n)
+ranges-join a zero n = ap (λ b. range_with_len b n) (add-zero a)
+    ∙ ap (λ k. range_with_len a k) (sym (zero-add n))
+ranges-join a (suc m) n =
+    let start : a + suc m ≡ a + 1 + m = omega arith in
+    let count : suc m + n ≡ suc (m + n) = omega arith in
+    ap (λ b. a ∷ (range_with_len (a + 1) m ++ range_with_len b n)) start
+    ∙ ap (λ xs. a ∷ xs) (ranges-join (a + 1) m n)
+    ∙ ap (λ k. range_with_len a k) (sym count)
 
 -- no more numbers pass than there are
 pub few_filtered : (p : ℕ → Bool) (n : ℕ) → length (filter p (range_with_len 0 n)) ≤ n

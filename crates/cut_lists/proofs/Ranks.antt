@@ -6,14 +6,15 @@ use Rattle.std.specs.declared.cmp.Ordering.TheVariants.{Less, Equal, Greater}
 use Rattle.std.specs.Ordering.{is_lt, is_eq, eq_by_cmp, ordering_reverse}
 use Rattle.std.specs.Cmp.{IsTotalOrder}
 use Rattle.std.proofs.Math.Nat.{eq-or-lt_of_le}
-use Rattle.std.specs.List.{All, IsDistinct, count_by}
+use Rattle.std.specs.List.{All, Contains, IsDistinct, count_by}
 use Rattle.std.specs.List.Sorted.{IsPermutation, IsSorted}
 use Rattle.std.proofs.lemmas.Cmp.{tied_itself}
 use Rattle.std.proofs.lemmas.List.{length-take-le, length-drop, get_or-take, get_or-drop, get_or_default}
 use Rattle.std.proofs.lemmas.List.Elements.{All-head, All-tail}
 use Rattle.std.proofs.lemmas.List.Sorted.{ranks_by, sorted_far, sum_by-IsPermutation}
-use Rattle.std.proofs.lemmas.List.Sums.{sum_by-cons, sum_by-take-drop}
+use Rattle.std.proofs.lemmas.List.Sums.{sum_by-cons, sum_by-take-drop, count_by-le-length}
 use Rattle.std.proofs.lemmas.Map.Keys.{apart_from_distinct, IsDistinct-IsPermutation}
+use Rattle.cut_lists.proofs.Parts.{count_less}
 
 pub count_by_all : {X : Type 0} (p : X → Bool) (xs : List X) → All (λ x. p x ≡ true) xs → count_by p xs ≡ length xs
 count_by_all p [] all = refl
@@ -30,6 +31,31 @@ count_by_none p (x ∷ xs) all =
     let rest : count_by p xs ≡ 0 = count_by_none p xs (All-tail (λ x. p x ≡ false) x xs all) in
     let here : cond {A = ℕ} (p x) 1 0 ≡ 0 = ap (λ (b : Bool). cond {A = ℕ} b 1 0) head in
     sum_by-cons (λ x. cond (p x) 1 0) x xs ∙ (let goal : cond {A = ℕ} (p x) 1 0 + count_by p xs ≡ 0 = omega arith in goal)
+
+-- fewer elements come before one of a list than there are
+pub rank-below : {X : Type 0} {R : X → X → Ordering} → IsTotalOrder R → (xs : List X) (x : X)
+    → Contains xs x → count_by (λ y. is_lt (R y x)) xs < length xs
+rank-below {X} {R} total xs x at =
+    omega (
+      arith,
+      count_less (λ y. is_lt (R y x)) (λ _. true) xs at.0 x (λ _ _. refl) at.1
+          (ap (λ y. is_lt (R y x)) at.2 ∙ ap is_lt (tied_itself total x)) refl,
+      count_by-le-length (λ (_ : X). true) xs,
+    )
+
+is_less : (r : Ordering) → is_lt r ≡ true → r ≡ Less
+is_less Less e = refl
+is_less Equal e = cc
+is_less Greater e = cc
+
+-- and fewer come before a lesser one
+pub rank-less : {X : Type 0} {R : X → X → Ordering} → IsTotalOrder R → (xs : List X) (x y : X)
+    → Contains xs x → R x y ≡ Less → count_by (λ z. is_lt (R z x)) xs < count_by (λ z. is_lt (R z y)) xs
+rank-less {R = R} total xs x y at less =
+    count_less (λ z. is_lt (R z x)) (λ z. is_lt (R z y)) xs at.0 x
+    (λ z e. ap is_lt (total.trans z x y (is_less (R z x) e) less)) at.1
+    (ap (λ z. is_lt (R z x)) at.2 ∙ ap is_lt (tied_itself total x))
+    (ap (λ z. is_lt (R z y)) at.2 ∙ ap is_lt less)
 
 -- each element is less than those after it
 abbrev pub Rises : {X : Type 0} → (X → X → Ordering) → List X → Type 0

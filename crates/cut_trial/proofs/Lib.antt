@@ -1,12 +1,11 @@
+pub mod Words
 pub mod FastRound
 pub mod Ascending
 pub mod Settled
 pub mod Outcomes
 pub mod Sum
-pub mod Receivers
+pub mod Roles
 pub mod Pieces
-pub mod Possible
-pub mod Quiet
 pub mod Heard
 pub mod Crashes
 pub mod Cautious

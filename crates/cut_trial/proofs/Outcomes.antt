@@ -1,64 +1,107 @@
--- A trial's numbers are its outcome, once its parts are those of the plan.
-use Rattle.std.proofs.Common.{◌≡◌, ℕ, ◌+◌, ◌^◌, ◌<◌, ◌≤◌, min, Bool, true, false, cond, List, [], ◌∷◌, ◌++◌, Option, Some, None, option_map, get_or, ◌/◌, map, length, refl, sym, ap, ◌∙◌, arith}
-use Rattle.std.specs.Prelude.{count_by, slice_get}
-use Rattle.std.proofs.lemmas.Option.{get_or_from_slice_get}
-use Rattle.std.proofs.lemmas.List.Sums.{count_by-le-length}
-use mir.Val.{bool_byte}
-use Rattle.cut_detector.specs.declared.proposal.Proposal.{Proposal}
-use Rattle.cut_trial.proofs.FastRound.{byte_of, count_by-push}
+-- One trial: its numbers are its outcome once its parts are those of the plan, and they are possible ones.
+use Rattle.std.proofs.Common.{◌≡◌, ℕ, ◌+◌, ◌-◌, ◌/◌, ◌^◌, ◌<◌, ◌≤◌, min, Bool, true, cond, List, [], ◌∷◌, ◌++◌, Option, Some, None, option_map, get_or, map, filter, not, length, refl, sym, ap, ◌∙◌, arith, nat_le}
+use Rattle.cut_trial.proofs.Words.{count_by, slice_get, range_with_len, Cell, Values, cells_of, largest, Edge, Layout, Source, source_of, Assignment, is_target, drawn, alert_list, Proposal, receivers_of, targets_of, judged, quorum_of, votes_of, most_votes, cast_of, rings_of, receiver_proposal, totals_of, cell_at, no_cell, one_if, outcome, ArePossible}
+use Rattle.std.proofs.lemmas.List.{length-map, length_push}
 use Rattle.std.proofs.lemmas.List.FromFn.{length-map-range_with_len}
-use Rattle.cut_plan.specs.declared.cell.Cell.{Cell}
-use Rattle.cut_plan.specs.Values.{Values}
-use Rattle.cut_plan.specs.Cells.{cells_of, largest}
-use Rattle.cut_rings.specs.declared.edge.Edge.{Edge}
-use Rattle.cut_rings.specs.Layout.{Layout}
-use Rattle.cut_draws.specs.Source.{Source, source_of}
-use Rattle.cut_alerts.specs.Assignment.{Assignment}
-use Rattle.cut_alerts.specs.Drawn.{drawn}
-use Rattle.cut_alerts.specs.Alerted.{alert_list}
-use Rattle.cut_trial.specs.declared.totals.Totals.{Totals}
-use Rattle.cut_trial.specs.Verdicts.{receivers_of}
-use Rattle.cut_trial.specs.Outcome.{rings_of, receiver_proposal, proposals_of, totals_of, cell_outcome, cell_at, no_cell, outcome}
+use Rattle.std.proofs.lemmas.List.Sums.{count_by-le-length, sum_by_push}
+use Rattle.std.proofs.lemmas.Option.{get_or_from_slice_get}
+use mir.Val.{bool_byte}
+use Rattle.cut_lists.proofs.Counts.{counts-apart}
+use Rattle.cut_trial.specs.declared.replays.Replays.{Replays}
+use Rattle.cut_trial.proofs.FastRound.{byte_of, few_cast, few_votes_cast, most_votes_are_most, one_if-le}
+use Rattle.cut_trial.proofs.Roles.{receivers_are_the_rest}
 
-pub outcome_from : (v : Values) (t : ℕ) (c : Cell) (r : Layout) (d after : Source) (a : Assignment) (edges : List Edge)
-    → c ≡ cell_at v t → r ≡ rings_of v → d ≡ source_of v.seed t → after ≡ d → a ≡ drawn v c.f d r → edges ≡ alert_list r a c.k
+-- ---- the parts of a trial
+
+pub outcome_from : (v : Values) (t : ℕ) (c : Cell) (r : Layout) (d after : Source) (a : Assignment)
+    (edges : List Edge)
+    → c ≡ cell_at v t → r ≡ rings_of v → d ≡ source_of v.seed t → after ≡ d → a ≡ drawn v c.f d r
+    → edges ≡ alert_list r a c.k
     → totals_of v c a (map (λ j. receiver_proposal v c r after edges j) (receivers_of a)) ≡ outcome v t
 unfolding outcome
 outcome_from v t c r d after a edges cell_is rings_are draws_are same roles_are edges_are =
-    let by : Source → List Edge → Totals = λ x y. totals_of v c a (map (λ j. receiver_proposal v c r x y j) (receivers_of a)) in
-    ap (λ (x : Source). by x edges) same
-    ∙ ap (λ (y : List Edge). by d y) edges_are
-    ∙ ap (λ (x : Assignment). totals_of v c x (proposals_of v c r d x)) roles_are
-    ∙ ap (λ (x : Cell). cell_outcome v x r d) cell_is
-    ∙ ap (λ (x : Layout). cell_outcome v (cell_at v t) x d) rings_are
-    ∙ ap (λ (x : Source). cell_outcome v (cell_at v t) (rings_of v) x) draws_are
+    rw (same, edges_are, roles_are, cell_is, rings_are, draws_are)
 
 -- a plan has as many rings as its largest number of rings
 pub rings_length : (v : Values) (r : Layout) → r ≡ rings_of v → length r.positions ≡ largest v.k
 rings_length v r is = ap (λ (x : Layout). length x.positions) is ∙ length-map-range_with_len _ 0 (largest v.k)
 
--- every process has a role
-pub roles_length : (v : Values) (f : ℕ) (d : Source) (r : Layout) (a : Assignment) → a ≡ drawn v f d r → length a.roles ≡ v.nodes
-roles_length v f d r a is = ap (λ (x : Assignment). length x.roles) is ∙ length-map-range_with_len _ 0 v.nodes
+-- the cell that is read at a trial's place is the trial's
+pub cell_read : (v : Values) (t i : ℕ) (c : Cell) → slice_get (cells_of v) i ≡ Some c → i ≡ t / v.repeats
+    → c ≡ cell_at v t
+cell_read v t i c at place = sym (get_or_from_slice_get (cells_of v) i c no_cell at)
+    ∙ ap (λ k. get_or (cells_of v) k no_cell) place
 
 -- a count with one receiver more
-pub count_more : (p : Option Proposal → Bool) (ps : List (Option Proposal)) (x : Option Proposal) (b : Bool) (old n r : ℕ)
-    → length ps < 2 ^ 32 → old ≡ count_by p ps → b ≡ p x → n ≡ bool_byte b → r ≡ min (old + n) 18446744073709551615 → r ≡ count_by p (ps ++ x ∷ [])
+pub count_more : (p : Option Proposal → Bool) (ps : List (Option Proposal)) (x : Option Proposal)
+    (b : Bool) (old n r : ℕ)
+    → length ps < 2 ^ 32 → old ≡ count_by p ps → b ≡ p x → n ≡ bool_byte b
+    → r ≡ min (old + n) 18446744073709551615 → r ≡ count_by p (ps ++ x ∷ [])
 count_more p ps x b old n r few was same one is =
-    let n_is : n ≡ cond (p x) 1 0 = one ∙ byte_of b ∙ ap (λ d. cond d 1 0) same in
-    let small : cond (p x) 1 0 ≤ 1 = elim (p x) as (λ d. cond d 1 0 ≤ 1) [ true ↦ omega arith | false ↦ omega arith ] in
-    let sum : r ≡ count_by p ps + cond (p x) 1 0 = omega (arith, few, was, is, n_is, small, count_by-le-length p ps) in
-    sum ∙ sym (count_by-push p ps x)
+    let bit : cond {A = ℕ} b 1 0 ≡ cond (p x) 1 0 = ap (λ d. cond {A = ℕ} d 1 0) same in
+    let all = count_by-le-length p (ps ++ x ∷ []) in
+    let more = sum_by_push (λ y. cond (p y) 1 0) ps x in
+    omega (arith, few, was, one, is, bit, all, more, byte_of b, length_push ps x)
 
 -- what a receiver proposed, by its members
 pub none_proposed : (p : Option Proposal) → None ≡ option_map (λ (x : Proposal). x.members) p → p ≡ None
 none_proposed None is = refl
 none_proposed (Some p) is = cc
 
-pub some_proposed : (p : Option Proposal) (m : List ℕ) → Some m ≡ option_map (λ (x : Proposal). x.members) p → (q : Proposal) × (p ≡ Some q) × (q.members ≡ m)
+pub some_proposed : (p : Option Proposal) (m : List ℕ) → Some m ≡ option_map (λ (x : Proposal). x.members) p
+    → (q : Proposal) × (p ≡ Some q) × (q.members ≡ m)
 some_proposed None m is = absurd (cc)
 some_proposed (Some q) m is = (q, refl, cc)
 
--- the cell that is read at a trial's place is the trial's
-pub cell_read : (v : Values) (t i : ℕ) (c : Cell) → slice_get (cells_of v) i ≡ Some c → i ≡ t / v.repeats → c ≡ cell_at v t
-cell_read v t i c at place = sym (get_or_from_slice_get (cells_of v) i c no_cell at) ∙ ap (λ k. get_or (cells_of v) k no_cell) place
+-- what a receiver proposes in these replays, by the draws d
+abbrev pub proposed_by : Replays → Source → ℕ → Option Proposal
+proposed_by x d j = receiver_proposal x.study.plan.now x.cell x.study.rings.now d x.edges.items j
+
+-- what the receivers among the first n processes propose
+abbrev pub first_proposals : Replays → Source → Assignment → ℕ → List (Option Proposal)
+first_proposals x d a n = map (proposed_by x d) (filter (λ p. not (is_target a p)) (range_with_len 0 n))
+
+-- ---- the whole of a trial
+
+abbrev pub roles_in : Values → ℕ → Assignment
+roles_in v t = drawn v (cell_at v t).f (source_of v.seed t) (rings_of v)
+
+abbrev pub edges_in : Values → ℕ → List Edge
+edges_in v t = alert_list (rings_of v) (roles_in v t) (cell_at v t).k
+
+abbrev pub proposed_in : Values → ℕ → ℕ → Option Proposal
+proposed_in v t j = receiver_proposal v (cell_at v t) (rings_of v) (source_of v.seed t) (edges_in v t) j
+
+silent_is_no_conflict : (a : Assignment) (p : Option Proposal) → (judged a p).conflict ≡ true
+    → (judged a p).silent ≡ true → ⊥
+silent_is_no_conflict a None conflict silent = cc
+silent_is_no_conflict a (Some p) conflict silent = cc
+
+pub silent_is_not_extra : (a : Assignment) (p : Option Proposal) → (judged a p).extra ≡ true
+    → (judged a p).silent ≡ true → ⊥
+silent_is_not_extra a None extra silent = cc
+silent_is_not_extra a (Some p) extra silent = cc
+
+one_if-at_most : (q a : ℕ) → one_if (nat_le q a) ≤ 1
+one_if-at_most q a = grind arith
+
+pub possible_outcome : (v : Values) (t : ℕ) → ArePossible 1 (v.nodes - (cell_at v t).f) (outcome v t)
+unfolding outcome
+possible_outcome v t =
+    let a : Assignment = roles_in v t in
+    let ps : List (Option Proposal) = map (λ j. proposed_in v t j) (receivers_of a) in
+    let rest = receivers_are_the_rest v (cell_at v t).f (source_of v.seed t) (rings_of v) in
+    let all = length-map (receivers_of a) (λ j. proposed_in v t j) ∙ rest in
+    let silent : Option Proposal → Bool = λ p. (judged a p).silent in
+    let conflicts = counts-apart (λ p. (judged a p).conflict) silent ps (silent_is_no_conflict a) in
+    let extra = counts-apart (λ p. (judged a p).extra) silent ps (silent_is_not_extra a) in
+    let most = most_votes_are_most (cast_of ps) (targets_of a) in
+    record {
+      receivers = omega arith;
+      conflicts = omega (arith, all, conflicts);
+      extra = omega (arith, all, extra);
+      votes = omega (arith, all, few_votes_cast (cast_of ps), few_cast ps);
+      decided = one_if-at_most (quorum_of v.nodes) (most_votes (cast_of ps));
+      right = one_if-le (quorum_of v.nodes) (votes_of (cast_of ps) (targets_of a))
+          (most_votes (cast_of ps)) most;
+    }

@@ -1,6 +1,5 @@
 use Rattle.std.proofs.Common.{◌≡◌, ◌≤◌, map, take}
-use Rattle.cut_draws.specs.declared.delivery.Delivery.{Delivery}
-use Rattle.cut_detector.specs.State.{HasDelivered}
+use Rattle.cut_trial.proofs.Words.{Delivery, HasDelivered}
 use Rattle.cut_trial.proofs.hearing.hear_all.Given as goal
 
 abbrev pub invariant-loop-i : goal.invariant-loop-i

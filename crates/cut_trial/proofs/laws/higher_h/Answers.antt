@@ -6,4 +6,6 @@ returns-clause-verdicts c = lemmas.higher_h c.a_wider_gap_proposes_later.ensures
 
 pub returns-clause-totals : goal.returns-clause-totals
 returns-clause-totals c =
-    λ v k h r d first second. lemmas.totals_cautious v k h k.l r d (λ a edges j. lemmas.higher_h c.a_wider_gap_proposes_later.ensures.high v k h r d a edges j first second)
+    λ v k h r d first second. lemmas.totals_cautious v k h k.l r d
+    (λ a edges j. lemmas.higher_h c.a_wider_gap_proposes_later.ensures.high v k h r d a edges
+    j first second)

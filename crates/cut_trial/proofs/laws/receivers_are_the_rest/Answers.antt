@@ -1,4 +1,4 @@
-use Rattle.cut_trial.proofs.Receivers as lemmas
+use Rattle.cut_trial.proofs.Roles as lemmas
 use Rattle.cut_trial.proofs.laws.receivers_are_the_rest.Goals as goal
 
 pub returns : goal.returns

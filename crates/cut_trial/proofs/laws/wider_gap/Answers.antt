@@ -2,9 +2,11 @@ use Rattle.cut_trial.proofs.Cautious as lemmas
 use Rattle.cut_trial.proofs.laws.wider_gap.Goals as goal
 
 pub returns-clause-verdicts : goal.returns-clause-verdicts
-returns-clause-verdicts c = lemmas.wider_gap c.a_wider_gap_proposes_later.ensures.both
+returns-clause-verdicts c =
+    λ v k h l r d. lemmas.wider_gap v k h l r d c.a_wider_gap_proposes_later.ensures.both
 
 pub returns-clause-totals : goal.returns-clause-totals
-returns-clause-totals c =
-    λ v k h l r d first second third fourth. lemmas.totals_cautious v k h l r d
-    (λ a edges j. lemmas.wider_gap c.a_wider_gap_proposes_later.ensures.both v k h l r d a edges j first second third fourth)
+returns-clause-totals c = λ v k h l r d explicit lower within higher.
+    lemmas.totals_cautious v k h l r d
+    (λ a edges j. lemmas.wider_gap v k h l r d c.a_wider_gap_proposes_later.ensures.both a edges j
+    explicit lower within higher)

@@ -1,13 +1,15 @@
-use Rattle.std.proofs.Common.{◌≡◌, ◌+◌, ◌-◌, ◌*◌, ◌^◌, ℕ, sym, ap, ◌∙◌, subst, arith, rules}
-use Rattle.std.specs.List.{range_with_len}
-use Rattle.cut_plan.specs.Values.{Values}
-use Rattle.cut_trial.specs.declared.totals.Totals.{Totals}
-use Rattle.cut_trial.specs.Outcome.{cell_at, outcome}
-use Rattle.cut_trial.specs.Sum.{plus, sum_of, IsAtMost}
-use Rattle.cut_trial.proofs.Outcomes.{cell_read}
+use Rattle.std.proofs.Common.{◌≡◌, ◌+◌, ◌-◌, ◌*◌, ◌^◌, ◌≤◌, ℕ, sym, ap, ◌∙◌, arith}
+use Rattle.cut_trial.proofs.Words.{IsTrue, range_with_len, IsPlan, Values, Piece, cell_at, sum_of, is_piece, IsAtMost}
+use Rattle.cut_trial.proofs.Outcomes.{cell_read, possible_outcome}
 use Rattle.cut_trial.proofs.Pieces.{piece_facts, few_trials}
-use Rattle.cut_trial.proofs.Sum.{sum_more, at_most_more, at_most_above, outcome_bound}
+use Rattle.cut_trial.proofs.Sum.{sum_more, first_possible, few_in}
 use Rattle.cut_trial.proofs.piece.sum_piece.Goals as goal
+
+-- the sums over the first trials of a piece are small
+few_first : (v : Values) (p : Piece) (n m : ℕ) → IsPlan v → IsTrue (is_piece v p) → n ≤ p.count
+    → 2048 * n ≤ m → IsAtMost m (sum_of v (range_with_len p.first n))
+few_first v p n m plan piece within below =
+    few_in n _ m _ (first_possible v p n piece within) (omega (arith, plan.few_nodes)) below
 
 pub cell_of-requires : goal.cell_of-requires
 cell_of-requires c =
@@ -16,45 +18,49 @@ cell_of-requires c =
 
 pub overflow_add-end : goal.overflow_add-end
 overflow_add-end c =
-    omega (arith, (piece_facts c.args.study.plan.now c.args.piece c.requires).end, few_trials c.args.study.plan.now c.args.study.accepted)
+    let facts = piece_facts c.args.study.plan.now c.args.piece c.requires in
+    omega (arith, facts.end, few_trials c.args.study.plan.now c.args.study.accepted)
 
 pub loop-trial-init : goal.loop-trial-init
 loop-trial-init c =
     let none : 0 ≡ c.args.piece.first - c.args.piece.first = omega arith in
     record {
       totals = ap (λ n. sum_of c.args.study.plan.now (range_with_len c.args.piece.first n)) none;
-      few = search rules;
       plan = c.in_ok-trials.ensures.study;
-      cell = c.in_ok-trials.ensures.cell ∙ cell_read c.args.study.plan.now c.args.piece.first c.cell_of.result c.cell-cell.result c.cell-cell.ensures.value c.cell_of.ensures.value;
+      cell = c.in_ok-trials.ensures.cell
+          ∙ cell_read c.args.study.plan.now c.args.piece.first c.cell_of.result c.cell-cell.result
+          c.cell-cell.ensures.value c.cell_of.ensures.value;
     }
 
 pub run-requires : goal.run-requires
 run-requires c =
     let t : ℕ = c.loop-trial.trial in
-    c.loop-trial.invariant.cell ∙ sym ((piece_facts c.args.study.plan.now c.args.piece c.requires).cell t (omega arith) (omega arith))
+    let facts = piece_facts c.args.study.plan.now c.args.piece c.requires in
+    c.loop-trial.invariant.cell ∙ sym (facts.cell t (omega arith) (omega arith))
     ∙ ap (λ (v : Values). cell_at v t) (sym c.loop-trial.invariant.plan)
+
+pub plus-totals-requires-clause-self_fits : goal.plus-totals-requires-clause-self_fits
+plus-totals-requires-clause-self_fits c =
+    rw c.loop-trial.invariant.totals
+    (few_first c.args.study.plan.now c.args.piece (c.loop-trial.trial - c.args.piece.first) (2 ^ 62)
+    c.args.study.accepted c.requires (omega arith) (omega arith))
 
 pub plus-totals-requires-clause-other_fits : goal.plus-totals-requires-clause-other_fits
 plus-totals-requires-clause-other_fits c =
-    at_most_above 2048 (2 ^ 62) c.in_ok-run.field-0 (omega arith)
-    (subst (λ (x : Totals). IsAtMost 2048 x) (sym c.in_ok-run.ensures.outcome) (outcome_bound c.loop-trial.trials.replays.study.plan.now c.loop-trial.trial c.loop-trial.trials.replays.study.accepted))
+    let study = c.loop-trial.trials.replays.study in
+    rw c.in_ok-run.ensures.outcome
+    (few_in 1 _ (2 ^ 62) _ (possible_outcome study.plan.now c.loop-trial.trial)
+    (omega (arith, study.accepted.few_nodes)) (omega arith))
 
 pub loop-trial-preserved : goal.loop-trial-preserved
 loop-trial-preserved c =
     let n : ℕ = c.loop-trial.trial - c.args.piece.first in
     let n_more : c.loop-trial.trial + 1 - c.args.piece.first ≡ n + 1 = omega arith in
-    let v = c.args.study.plan.now in
-    let done = sum_of v (range_with_len c.args.piece.first n) in
-    let one = outcome v c.loop-trial.trial in
     let held = c.loop-trial.invariant in
-    let is_one : c.in_ok-run.field-0 ≡ one = c.in_ok-run.ensures.outcome ∙ ap (λ (x : Values). outcome x c.loop-trial.trial) held.plan in
-    let is : c.plus-totals.result ≡ plus done one =
-    c.plus-totals.ensures ∙ ap (λ (x : Totals). plus x c.in_ok-run.field-0) held.totals ∙ ap (λ (x : Totals). plus done x) is_one in
-    let few = at_most_more 2048 (2048 * n) c.loop-trial.totals one held.few (outcome_bound v c.loop-trial.trial c.args.study.accepted) in
     record {
-      totals = is ∙ sym (sum_more v c.args.piece.first n c.loop-trial.trial (omega arith)) ∙ ap (λ m. sum_of v (range_with_len c.args.piece.first m)) (sym n_more);
-      few = at_most_above (2048 * n + 2048) (2048 * (c.loop-trial.trial + 1 - c.args.piece.first)) c.plus-totals.result (omega arith)
-          (subst (λ (x : Totals). IsAtMost (2048 * n + 2048) x) (ap (λ (x : Totals). plus x one) held.totals ∙ sym is) few);
+      totals = c.plus-totals.ensures
+          ∙ rw (held.totals, c.in_ok-run.ensures.outcome, held.plan, n_more)
+          (sym (sum_more c.args.study.plan.now c.args.piece.first n c.loop-trial.trial (omega arith)));
       plan = ap (λ s. s.plan.now) c.run.ensures.study ∙ held.plan;
       cell = c.run.ensures.cell ∙ held.cell;
     }
@@ -62,4 +68,11 @@ loop-trial-preserved c =
 pub returns-clause-value : goal.returns-clause-value
 returns-clause-value c =
     let all : c.loop-trial.trial - c.args.piece.first ≡ c.args.piece.count = omega arith in
-    c.loop-trial.invariant.totals ∙ ap (λ n. sum_of c.args.study.plan.now (range_with_len c.args.piece.first n)) all
+    rw all at c.loop-trial.invariant.totals
+
+pub returns-clause-few : goal.returns-clause-few
+returns-clause-few c =
+    let all : c.loop-trial.trial - c.args.piece.first ≡ c.args.piece.count = omega arith in
+    rw (c.loop-trial.invariant.totals, all)
+    (few_first c.args.study.plan.now c.args.piece c.args.piece.count (2048 * c.args.piece.count)
+    c.args.study.accepted c.requires (omega arith) (omega arith))

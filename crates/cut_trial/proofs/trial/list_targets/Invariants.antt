@@ -1,6 +1,5 @@
 use Rattle.std.proofs.Common.{◌≡◌, filter}
-use Rattle.std.specs.List.{range_with_len}
-use Rattle.cut_alerts.specs.Assignment.{is_target}
+use Rattle.cut_trial.proofs.Words.{range_with_len, is_target}
 use Rattle.cut_trial.proofs.trial.list_targets.Given as goal
 
 abbrev pub invariant-loop-process : goal.invariant-loop-process

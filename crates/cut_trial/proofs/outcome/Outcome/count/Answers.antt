@@ -1,12 +1,14 @@
 use Rattle.std.proofs.Common.{ap}
-use Rattle.cut_trial.specs.declared.outcome.Verdict.{Verdict}
-use Rattle.cut_trial.specs.Verdicts.{judged}
+use Rattle.cut_trial.proofs.Words.{Verdict, judged}
 use Rattle.cut_trial.proofs.Outcomes.{count_more}
 use Rattle.cut_trial.proofs.outcome.Outcome.count.Goals as goal
 
 pub returns-clause-verdicts : goal.returns-clause-verdicts
 returns-clause-verdicts c = λ a p before is few h. record {
-  conflicts = count_more (λ x. (judged a x).conflict) before p _ _ _ _ few h.conflicts (ap (λ (v : Verdict). v.conflict) is) c.from.ensures c.saturating_add-self.ensures;
-  silent = count_more (λ x. (judged a x).silent) before p _ _ _ _ few h.silent (ap (λ (v : Verdict). v.silent) is) c.from-2.ensures c.saturating_add-self-2.ensures;
-  extra = count_more (λ x. (judged a x).extra) before p _ _ _ _ few h.extra (ap (λ (v : Verdict). v.extra) is) c.from-3.ensures c.saturating_add-self-3.ensures;
+  conflicts = count_more (λ x. (judged a x).conflict) before p _ _ _ _ few h.conflicts
+      (ap (λ (v : Verdict). v.conflict) is) c.from.ensures c.saturating_add-self.ensures;
+  silent = count_more (λ x. (judged a x).silent) before p _ _ _ _ few h.silent
+      (ap (λ (v : Verdict). v.silent) is) c.from-2.ensures c.saturating_add-self-2.ensures;
+  extra = count_more (λ x. (judged a x).extra) before p _ _ _ _ few h.extra
+      (ap (λ (v : Verdict). v.extra) is) c.from-3.ensures c.saturating_add-self-3.ensures;
 }

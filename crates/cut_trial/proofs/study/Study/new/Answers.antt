@@ -1,5 +1,5 @@
 use Rattle.std.proofs.Common.{ap, arith}
-use Rattle.cut_rings.specs.Layout.{Layout}
+use Rattle.cut_trial.proofs.Words.{Layout}
 use Rattle.cut_trial.proofs.Outcomes.{rings_length}
 use Rattle.cut_trial.proofs.study.Study.new.Goals as goal
 
