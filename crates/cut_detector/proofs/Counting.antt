@@ -1,11 +1,12 @@
 -- Counts of processes by the rings that count for them.
-use Rattle.std.proofs.Common.{◌≡◌, inl, inr, ℕ, ◌+◌, ◌<◌, ◌≤◌, Bool, true, false, cond, ◌==◌, ◌&&◌, List, [], ◌∷◌, ◌++◌, IsTrue, not, nat_lt, length, get_or, replicate, vec_len, refl, ap, sym, subst, ◌∙◌, arith, ◌⊎◌, pow_pos, get_or-set_other, All}
+use Rattle.std.proofs.Common.{◌≡◌, inl, inr, ℕ, ◌+◌, ◌<◌, ◌≤◌, Bool, true, false, cond, ◌==◌, ◌&&◌, List, [], ◌∷◌, ◌++◌, IsTrue, not, nat_lt, nat_le, length, get_or, replicate, vec_len, refl, ap, sym, subst, ◌∙◌, arith, ◌⊎◌, pow_pos, get_or-set_other, All}
 use Rattle.std.specs.List.{range_with_len, count_by, list_any}
 use Rattle.std.specs.Int.{bit_at}
 use Rattle.std.specs.Int.RustNames.{count_ones}
-use Rattle.std.proofs.lemmas.Bool.{cases_lt, eq-eqb, lt-ltb, and_from, or_right}
+use Rattle.std.proofs.lemmas.Bool.Decides.{nat_tests}
+use Rattle.std.proofs.lemmas.Bool.{cases_lt, cases_eq, eq-eqb, ne_eqb, lt-ltb, and_from, or_right}
 use Rattle.std.proofs.lemmas.List.{get_or-replicate, get_or_past, length-replicate}
-use Rattle.std.proofs.lemmas.List.Sums.{count_by-le-length}
+use Rattle.std.proofs.lemmas.List.Sums.{count_by-le-length, sum_by-cons}
 use Rattle.std.proofs.lemmas.List.FromFn.{length-range_with_len}
 use Rattle.cut_rings.specs.declared.edge.Edge.{Edge}
 use Rattle.cut_lists.proofs.Counts.{list_any-count_by, count_by-differ, not_above}
@@ -13,11 +14,11 @@ use Rattle.cut_lists.proofs.Listed.{IsListed, IsListed-push, IsListed-empty, lis
 use Rattle.cut_lists.proofs.Ones.{count_by-ones}
 use Rattle.cut_lists.proofs.Ranks.{count_by_none}
 use Rattle.cut_lists.proofs.Ranges.{list_any_passing}
-use Rattle.cut_detector.specs.declared.rule.Rule.{Rule}
 use Rattle.cut_detector.specs.declared.masks.Masks.{Masks}
+use Rattle.cut_detector.specs.declared.tally.Tally.{Tally}
 use Rattle.cut_detector.specs.Counts.{ring_count}
 use Rattle.cut_detector.specs.Masks.{edges_in, AddsEdge}
-use Rattle.cut_detector.specs.Tally.{rings_full, stable_in, unstable_in, stable_count, unstable_count, processes_with, IsTouched}
+use Rattle.cut_detector.specs.Tally.{rings_full, stable_in, unstable_in, marked_in, stable_count, marked_count, processes_with, IsTouched}
 use Rattle.cut_detector.proofs.Bits.{edges_in-with_edge}
 
 -- the rings of other processes stay as they were
@@ -52,14 +53,31 @@ pub processes_with-le : (test : ℕ → Bool) (full : Masks) → processes_with 
 processes_with-le test full =
     omega (arith, count_by-le-length test (range_with_len 0 (vec_len full.masks)), length-range_with_len 0 (vec_len full.masks))
 
+-- each that passes one test passes just one of two others
+count_by-parts : (p q r : ℕ → Bool) (xs : List ℕ) → ((s : ℕ) → cond {A = ℕ} (p s) 1 0 ≡ cond (q s) 1 0 + cond (r s) 1 0) → count_by p xs ≡ count_by q xs + count_by r xs
+count_by-parts p q r [] parts = refl
+count_by-parts p q r (s ∷ xs) parts =
+    omega (arith, parts s, count_by-parts p q r xs parts, sum_by-cons (λ i. cond (p i) 1 0) s xs, sum_by-cons (λ i. cond (q i) 1 0) s xs, sum_by-cons (λ i. cond (r i) 1 0) s xs)
+
+-- at least L rings are at least H, or fewer
+marked_parts : (l h n : ℕ) → l ≤ h → cond {A = ℕ} (nat_le l n) 1 0 ≡ cond (nat_le h n) 1 0 + cond (nat_le l n && nat_lt n h) 1 0
+marked_parts l h n below = grind (arith, nat_tests)
+
 -- settled by the two counts
-pub settled_by : (rule : Rule) (full : Masks) (stable unstable : ℕ) → stable ≡ stable_count rule full → unstable ≡ unstable_count rule full
-    → nat_lt 0 stable && (unstable == 0) ≡ list_any (stable_in rule full) (range_with_len 0 (vec_len full.masks)) && not (list_any (unstable_in rule full) (range_with_len 0 (vec_len full.masks)))
-settled_by rule full stable unstable e f =
-    ap (λ n. nat_lt 0 n && (unstable == 0)) e
-    ∙ ap (λ b. b && (unstable == 0)) (sym (list_any-count_by (stable_in rule full) _))
-    ∙ ap (λ b. list_any (stable_in rule full) (range_with_len 0 (vec_len full.masks)) && b)
-    (not_above unstable ∙ ap (λ n. not (nat_lt 0 n)) f ∙ ap not (sym (list_any-count_by (unstable_in rule full) _)))
+pub settled_by : (t : Tally) → nat_lt 0 t.stable && (t.stable == t.marked)
+    ≡ list_any (stable_in t.rule t.full) (range_with_len 0 (vec_len t.full.masks)) && not (list_any (unstable_in t.rule t.full) (range_with_len 0 (vec_len t.full.masks)))
+settled_by t =
+    let all : List ℕ = range_with_len 0 (vec_len t.full.masks) in
+    let unstable : ℕ = count_by (unstable_in t.rule t.full) all in
+    let parts : marked_count t.rule t.full ≡ stable_count t.rule t.full + unstable =
+    count_by-parts (marked_in t.rule t.full) (stable_in t.rule t.full) (unstable_in t.rule t.full) all (λ s. marked_parts t.rule.l t.rule.h (rings_full t.full s) t.rule.thresholds) in
+    ap (λ b. nat_lt 0 t.stable && b) (elim (cases_eq unstable 0) [
+      | inl none ↦ eq-eqb t.stable t.marked (omega (arith, t.stable_counted, t.marked_counted)) ∙ sym (eq-eqb unstable 0 none)
+      | inr some ↦ ne_eqb t.stable t.marked (λ same. some (omega (arith, t.stable_counted, t.marked_counted))) ∙ sym (ne_eqb unstable 0 some)
+    ])
+    ∙ ap (λ n. nat_lt 0 n && (unstable == 0)) t.stable_counted
+    ∙ ap (λ b. b && (unstable == 0)) (sym (list_any-count_by (stable_in t.rule t.full) all))
+    ∙ ap (λ b. list_any (stable_in t.rule t.full) all && b) (not_above unstable ∙ ap not (sym (list_any-count_by (unstable_in t.rule t.full) all)))
 
 -- a number of processes once the rings of one have changed, from what the code counts
 pub moved_count : (test : ℕ → Bool) (old new : Masks) (edge : Edge) {count m n : ℕ} {before after : Bool} → AddsEdge old new edge → edge.subject < vec_len old.masks

@@ -1,24 +1,25 @@
--- What a wider gap between L and H and implicit alerts change.
-use Rattle.std.proofs.Common.{◌≡◌, inl, inr, ℕ, ◌<◌, ◌≤◌, Bool, true, false, cond, ◌&&◌, ◌||◌, IsTrue, List, Option, Some, None, MatchOption, refl, arith}
-use Rattle.std.specs.List.{range_with_len}
-use Rattle.std.proofs.lemmas.Bool.{cases_lt, leb-true, le-leb, and_parts, and_from, or_cases, or_left, or_right}
+-- What equal watermarks, a wider gap between them and implicit alerts change.
+use Rattle.std.proofs.Common.{◌≡◌, inl, inr, ℕ, ◌<◌, ◌≤◌, Bool, true, false, cond, ◌&&◌, ◌||◌, IsTrue, List, Option, Some, None, MatchOption, refl, arith, ◌↔◌, option_map, ap, sym, ◌∙◌}
+use Rattle.std.specs.List.{range_with_len, find}
+use Rattle.std.proofs.lemmas.Bool.Decides.{nat_tests}
+use Rattle.std.proofs.lemmas.Bool.{cases_lt, leb-true, le-leb, and_parts, and_from, or_cases, or_left, or_right, false_from_ne_true}
 use Rattle.std.proofs.lemmas.List.Sums.{sum_by-le-sum_by}
 use Rattle.cut_rings.specs.Layout.{Layout, observer_of}
 use Rattle.cut_rings.specs.declared.edge.Edge.{Edge}
 use Rattle.cut_rings.specs.Edges.{EdgeSet, first_of, is_edge}
-use Rattle.cut_lists.proofs.Counts.{list_any_take-le}
 use Rattle.cut_detector.specs.Rule.{Rule, rule_of}
-use Rattle.cut_detector.specs.Counts.{ring_count, is_reported, is_full, full_count, is_stable}
+use Rattle.cut_detector.specs.Counts.{ring_count, is_reported, is_gained, is_full, full_count, is_stable, reports_of, is_unstable, is_some_stable, is_some_unstable, is_settled, stable_members}
 use Rattle.cut_detector.specs.Proposal.{proposal_of}
 use Rattle.cut_detector.specs.declared.proposal.Proposal.{Proposal}
 use Rattle.cut_detector.specs.Laws.{IsSettled, IsOfLeastPlace, Grows, ProposesBefore, IsMarked}
-use Rattle.cut_detector.proofs.Modes.{stable-is, is_stable-from, unstable-is, is_unstable-from}
-use Rattle.cut_detector.proofs.Places.{proposes}
+use Rattle.cut_detector.specs.declared.proposal.Proposal as declared
+use Rattle.cut_lists.proofs.Counts.{list_any_take-le, some_and_none_agree}
+use Rattle.cut_lists.proofs.Ranges.{AgreeOn, filter_agree_on}
+use Rattle.cut_detector.proofs.Modes.{stable-is, is_stable-from, unstable-is, is_unstable-from, is_stable-equal, equal_none_unstable}
+use Rattle.cut_detector.proofs.Places.{proposes, is_settled-from, found_is, NoneAmong, IsFirst}
 
 cond-le : (x y : Bool) → (x ≡ true → y ≡ true) → cond x 1 0 ≤ cond y 1 0
-cond-le true true keeps = omega arith
-cond-le true false keeps = absurd (let h : false ≡ true = keeps refl in cc)
-cond-le false y keeps = omega arith
+cond-le x y keeps = grind (arith, nat_tests)
 
 -- each edge of E is one of F
 record IsWithin (E F : EdgeSet) : Type 0 where
@@ -96,37 +97,36 @@ proposes-before r inner outer E count wide grows = go (proposal_of r outer E cou
               (first.members s).1 (found.0, member q.at p.at s before found.0 first.settled found.1)),
         )
 
-pub higher-before : (r : Layout) (k g h l : ℕ) (implicit : Bool) (E : ℕ → EdgeSet) (count : ℕ) → l ≤ h → h ≤ g → Grows E
+pub higher_before : (r : Layout) (k g h l : ℕ) (implicit : Bool) (E : ℕ → EdgeSet) (count : ℕ) → l ≤ h → h ≤ g → Grows E
     → ProposesBefore (proposal_of r (rule_of k h l implicit) E count) (proposal_of r (rule_of k g l implicit) E count)
 unfolding is_full is_reported
-higher-before r k g h l implicit E count gap high =
+higher_before r k g h l implicit E count gap high =
     proposes-before r (rule_of k h l implicit) (rule_of k g l implicit) E count (record { low = omega arith; gap = gap; high = high; same = λ E s. refl })
 
-pub wider-before : (r : Layout) (k g h l m : ℕ) (E : ℕ → EdgeSet) (count : ℕ) → m ≤ l → l ≤ h → h ≤ g → Grows E
+pub wider_before : (r : Layout) (k g h l m : ℕ) (E : ℕ → EdgeSet) (count : ℕ) → m ≤ l → l ≤ h → h ≤ g → Grows E
     → ProposesBefore (proposal_of r (rule_of k h l false) E count) (proposal_of r (rule_of k g m false) E count)
 unfolding is_full is_reported
-wider-before r k g h l m E count low gap high =
+wider_before r k g h l m E count low gap high =
     proposes-before r (rule_of k h l false) (rule_of k g m false) E count (record { low = low; gap = gap; high = high; same = λ E s. refl })
 
 -- an edge of the first m entries is one of the first n
-pub first_of-grows : (edges : List Edge) → Grows (first_of edges)
-first_of-grows edges m n ring s before is = list_any_take-le (λ e. is_edge ring s e) m n edges before is
+pub first_of_grows : (edges : List Edge) → Grows (first_of edges)
+first_of_grows edges m n ring s before is = list_any_take-le (λ e. is_edge ring s e) m n edges before is
+
+without : (x y : Bool) → cond (x || false) 1 0 ≤ cond (x || y) 1 0
+without x y = grind (arith, nat_tests)
 
 full_count-on : (r : Layout) (k h l : ℕ) (E : EdgeSet) (s : ℕ) → full_count r (rule_of k h l false) E s ≤ full_count r (rule_of k h l true) E s
 unfolding is_full is_reported
-full_count-on r k h l E s = sum_by-le-sum_by _ _ (range_with_len 0 k) (λ ring. without (E ring s) _)
-  where
-    without : (x y : Bool) → cond (x || false) 1 0 ≤ cond (x || y) 1 0
-    without true y = omega arith
-    without false y = omega arith
+full_count-on r k h l E s = sum_by-le-sum_by _ _ (range_with_len 0 k) (λ ring. without (E ring s) (is_gained r (rule_of k h l true) E ring s))
 
-pub is_stable-on : (r : Layout) (k h l : ℕ) (E : EdgeSet) (s : ℕ) → IsTrue (is_stable r (rule_of k h l false) E s) → IsTrue (is_stable r (rule_of k h l true) E s)
-is_stable-on r k h l E s is =
+pub stable_on : (r : Layout) (k h l : ℕ) (E : EdgeSet) (s : ℕ) → IsTrue (is_stable r (rule_of k h l false) E s) → IsTrue (is_stable r (rule_of k h l true) E s)
+stable_on r k h l E s is =
     let many : h ≤ full_count r (rule_of k h l false) E s = stable-is r (rule_of k h l false) E s is in
     is_stable-from r (rule_of k h l true) E s (omega (arith, full_count-on r k h l E s))
 
-pub IsMarked-on : (r : Layout) (k h l : ℕ) (E : EdgeSet) (s : ℕ) → l ≤ h → IsMarked r (rule_of k h l false) E s → IsMarked r (rule_of k h l true) E s
-IsMarked-on r k h l E s low marked = elim (cases_lt (full_count r (rule_of k h l true) E s) h) [
+pub marked_on : (r : Layout) (k h l : ℕ) (E : EdgeSet) (s : ℕ) → l ≤ h → IsMarked r (rule_of k h l false) E s → IsMarked r (rule_of k h l true) E s
+marked_on r k h l E s low marked = elim (cases_lt (full_count r (rule_of k h l true) E s) h) [
   | inl below ↦ inr (is_unstable-from r (rule_of k h l true) E s (omega (arith, full_count-on r k h l E s, marked_low marked)) below)
   | inr enough ↦ inl (is_stable-from r (rule_of k h l true) E s enough)
 ]
@@ -134,3 +134,54 @@ IsMarked-on r k h l E s low marked = elim (cases_lt (full_count r (rule_of k h l
     marked_low : IsMarked r (rule_of k h l false) E s → l ≤ full_count r (rule_of k h l false) E s
     marked_low (inl is) = let many : h ≤ full_count r (rule_of k h l false) E s = stable-is r (rule_of k h l false) E s is in omega arith
     marked_low (inr is) = (unstable-is r (rule_of k h l false) E s is).0
+
+pub stable_by_reports : (r : Layout) (rule : Rule) (E : EdgeSet) (s : ℕ) → rule.l ≡ rule.h → IsTrue (is_stable r rule E s) ↔ (rule.h ≤ reports_of rule E s)
+stable_by_reports r rule E s equal = (
+  (λ is. leb-true _ _ (sym (is_stable-equal r rule E s equal) ∙ is)),
+  (λ many. is_stable-equal r rule E s equal ∙ le-leb _ _ many),
+)
+
+stable_agrees : (r : Layout) (k h : ℕ) (E : EdgeSet) → AgreeOn (λ s. is_stable r (rule_of k h h true) E s) (λ s. is_stable r (rule_of k h h false) E s) 0 r.nodes
+stable_agrees r k h E = record { same = λ s _ _. is_stable-equal r (rule_of k h h true) E s refl ∙ sym (is_stable-equal r (rule_of k h h false) E s refl) }
+
+never_unstable : (r : Layout) (rule : Rule) (E : EdgeSet) (s : ℕ) → rule.l ≡ rule.h → is_unstable r rule E s ≡ false
+never_unstable r rule E s equal = false_from_ne_true _ (λ t. equal_none_unstable r rule E s equal t)
+
+unstable_agrees : (r : Layout) (k h : ℕ) (E : EdgeSet) → AgreeOn (λ s. is_unstable r (rule_of k h h true) E s) (λ s. is_unstable r (rule_of k h h false) E s) 0 r.nodes
+unstable_agrees r k h E = record { same = λ s _ _. never_unstable r (rule_of k h h true) E s refl ∙ sym (never_unstable r (rule_of k h h false) E s refl) }
+
+settled_agrees : (r : Layout) (k h : ℕ) (E : EdgeSet) → is_settled r (rule_of k h h true) E ≡ is_settled r (rule_of k h h false) E
+unfolding is_settled is_some_stable is_some_unstable
+settled_agrees r k h E =
+    some_and_none_agree _ _ _ _ r.nodes (stable_agrees r k h E) (unstable_agrees r k h E)
+
+members_agree : (r : Layout) (k h : ℕ) (E : EdgeSet) → stable_members r (rule_of k h h true) E ≡ stable_members r (rule_of k h h false) E
+unfolding stable_members
+members_agree r k h E = filter_agree_on _ _ 0 r.nodes (stable_agrees r k h E)
+
+abbrev proposal_by : (EdgeSet → Bool) → (EdgeSet → List ℕ) → (ℕ → EdgeSet) → ℕ → Option declared.Proposal
+proposal_by settled members E count = option_map {U = declared.Proposal} (λ n. record { members = members (E n); at = n }) (find (λ n. settled (E n)) (range_with_len 1 count))
+
+pub implicit_changes_nothing : (r : Layout) (k h : ℕ) (E : ℕ → EdgeSet) (count : ℕ) → proposal_of r (rule_of k h h true) E count ≡ proposal_of r (rule_of k h h false) E count
+implicit_changes_nothing r k h E count =
+    let settled : ◌≡◌ {A = EdgeSet → Bool} (is_settled r (rule_of k h h true)) (is_settled r (rule_of k h h false)) = λ i F. settled_agrees r k h F i in
+    let members : ◌≡◌ {A = EdgeSet → List ℕ} (stable_members r (rule_of k h h true)) (stable_members r (rule_of k h h false)) = λ i F. members_agree r k h F i in
+    ap (λ (f : EdgeSet → Bool). proposal_by f (stable_members r (rule_of k h h true)) E count) settled
+    ∙ ap (λ (g : EdgeSet → List ℕ). proposal_by (is_settled r (rule_of k h h false)) g E count) members
+
+pub first_stable : (r : Layout) (rule : Rule) (E : ℕ → EdgeSet) (count : ℕ) → rule.l ≡ rule.h → MatchOption (proposal_of r rule E count) ((n s : ℕ) → 1 ≤ n → n ≤ count → s < r.nodes → IsTrue (is_stable r rule (E n) s) → ⊥) (λ p. (n s : ℕ) → 1 ≤ n → n < p.at → s < r.nodes → IsTrue (is_stable r rule (E n) s) → ⊥)
+first_stable r rule E count equal = go (proposal_of r rule E count) (found_is r rule E 1 count)
+  where
+    unstable : (n s : ℕ) → is_settled r rule (E n) ≡ false → s < r.nodes → IsTrue (is_stable r rule (E n) s) → ⊥
+    unstable n s fails process is =
+        let w : is_settled r rule (E n) ≡ true = is_settled-from r rule (E n) (record { some_stable = (s, process, is); none_unstable = λ q _ t. equal_none_unstable r rule (E n) q equal t }) in
+        cc
+
+    go : (q : Option declared.Proposal) → MatchOption q (NoneAmong r rule E 1 count) (IsFirst r rule E 1 count) → MatchOption q ((n s : ℕ) → 1 ≤ n → n ≤ count → s < r.nodes → IsTrue (is_stable r rule (E n) s) → ⊥) (λ p. (n s : ℕ) → 1 ≤ n → n < p.at → s < r.nodes → IsTrue (is_stable r rule (E n) s) → ⊥)
+    go None none = λ n s low high process is. unstable n s (none n low (omega arith)) process is
+    go (Some p) first = λ n s low high process is. unstable n s (first.least n low high) process is
+
+-- the laws, by what they are about
+pub ruleset equal_watermarks = (stable_by_reports, equal_none_unstable, implicit_changes_nothing, first_stable)
+
+pub ruleset wider_gap = (higher_before, wider_before, first_of_grows)

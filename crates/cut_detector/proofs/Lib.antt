@@ -1,6 +1,5 @@
 pub mod Bits
 pub mod Counting
-pub mod Observers
 pub mod Agreement
 pub mod Neighbours
 pub mod History
@@ -8,7 +7,4 @@ pub mod Modes
 pub mod Places
 pub mod Entering
 pub mod Settling
-pub mod Delivery
-pub mod Watermarks
-pub mod Repeats
 pub mod Gaps

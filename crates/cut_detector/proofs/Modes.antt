@@ -1,8 +1,9 @@
 -- What reports alone say of a process's mode.
-use Rattle.std.proofs.Common.{◌≡◌, ℕ, ◌<◌, ◌≤◌, Bool, true, false, cond, ◌&&◌, ◌||◌, nat_le, IsTrue, refl, ap, sym, ◌∙◌, arith}
+use Rattle.std.proofs.Common.{◌≡◌, inr, inl, ℕ, ◌<◌, ◌≤◌, Bool, true, false, cond, ◌&&◌, ◌||◌, nat_le, IsTrue, refl, ap, sym, ◌∙◌, arith}
 use Rattle.std.specs.List.{range_with_len}
 use Rattle.std.proofs.Math.Bool.{or-false}
-use Rattle.std.proofs.lemmas.Bool.{and_parts, and_from, leb-true, le-leb, ltb-true, lt-ltb, false_from_ne_true}
+use Rattle.std.proofs.lemmas.Bool.Decides.{nat_tests}
+use Rattle.std.proofs.lemmas.Bool.{cases_Bool, and_parts, and_from, leb-true, le-leb, ltb-true, lt-ltb, false_from_ne_true}
 use Rattle.std.proofs.lemmas.List.Sums.{sum_by-le-sum_by}
 use Rattle.cut_rings.specs.Layout.{Layout, observer_of}
 use Rattle.cut_rings.specs.Edges.{EdgeSet}
@@ -32,8 +33,7 @@ unfolding is_unstable
 is_unstable-from r rule E s low high = and_from _ _ (le-leb _ _ low) (lt-ltb _ _ high)
 
 pub or_keeps : (x y : Bool) → cond x 1 0 ≤ cond (x || y) 1 0
-or_keeps true y = omega arith
-or_keeps false y = omega arith
+or_keeps x y = grind (arith, nat_tests)
 
 -- every reported ring counts
 pub reports_of-le : (r : Layout) (rule : Rule) (E : EdgeSet) (s : ℕ) → reports_of rule E s ≤ full_count r rule E s
@@ -41,35 +41,41 @@ unfolding is_full
 reports_of-le r rule E s =
     sum_by-le-sum_by (λ k. cond (E k s) 1 0) (λ k. cond (is_full r rule E k s) 1 0) (range_with_len 0 rule.k) (λ k. or_keeps (E k s) (is_gained r rule E k s))
 
-no_gain : (x y : Bool) → x && false && y ≡ false
-no_gain true y = refl
-no_gain false y = refl
+pub no_gain : (i x y : Bool) → x ≡ false → i && x && y ≡ false
+no_gain i x y e = grind arith
 
 -- a process that is reported on fewer than L rings gains none
-pub full_count-unreported : (r : Layout) (rule : Rule) (E : EdgeSet) (s : ℕ) → is_reported rule E s ≡ false → full_count r rule E s ≡ reports_of rule E s
+pub is_full-unreported : (r : Layout) (rule : Rule) (E : EdgeSet) (ring s : ℕ) → is_reported rule E s ≡ false → is_full r rule E ring s ≡ E ring s
 unfolding is_full
+is_full-unreported r rule E ring s unreported =
+    ap (λ b. E ring s || b) (no_gain rule.implicit (is_reported rule E s) (is_reported rule E (observer_of r ring s)) unreported) ∙ or-false (E ring s)
+
+pub full_count-unreported : (r : Layout) (rule : Rule) (E : EdgeSet) (s : ℕ) → is_reported rule E s ≡ false → full_count r rule E s ≡ reports_of rule E s
 full_count-unreported r rule E s unreported =
-    count_by_agree (λ k. is_full r rule E k s) (λ k. E k s) 0 rule.k (record {
-      same = λ k _ _.
-          ap (λ b. E k s || (rule.implicit && b && is_reported rule E (observer_of r k s))) unreported
-          ∙ ap (λ b. E k s || b) (no_gain rule.implicit (is_reported rule E (observer_of r k s)))
-          ∙ or-false (E k s);
-    })
+    count_by_agree _ _ 0 rule.k (record { same = λ ring _ _. is_full-unreported r rule E ring s unreported })
+
+at_least : (t : Bool) (h n : ℕ) → (t ≡ true → h ≤ n) → (t ≡ false → n < h) → nat_le h n ≡ t
+at_least t h n enough few = grind (arith, nat_tests)
+
+below : (l n : ℕ) → nat_le l n ≡ false → n < l
+below l n e = grind (arith, nat_tests)
+
+-- at least L rings count for a process exactly where it is reported on at least L
+pub marked-is : (r : Layout) (rule : Rule) (E : EdgeSet) (s : ℕ) → nat_le rule.l (full_count r rule E s) ≡ is_reported rule E s
+unfolding is_reported
+marked-is r rule E s =
+    at_least (is_reported rule E s) rule.l (full_count r rule E s)
+    (λ is. let many : rule.l ≤ reports_of rule E s = leb-true _ _ is in omega (arith, reports_of-le r rule E s))
+    (λ is. let few : reports_of rule E s < rule.l = below _ _ is in omega (arith, full_count-unreported r rule E s is))
 
 -- with L = H, stable by reports alone
 pub is_stable-equal : (r : Layout) (rule : Rule) (E : EdgeSet) (s : ℕ) → rule.l ≡ rule.h → is_stable r rule E s ≡ nat_le rule.h (reports_of rule E s)
 unfolding is_stable is_reported
-is_stable-equal r rule E s equal = go (is_reported rule E s) refl
-  where
-    go : (b : Bool) → is_reported rule E s ≡ b → nat_le rule.h (full_count r rule E s) ≡ nat_le rule.h (reports_of rule E s)
-    go true is =
-        let many : rule.l ≤ reports_of rule E s = leb-true _ _ is in
-        let more : reports_of rule E s ≤ full_count r rule E s = reports_of-le r rule E s in
-        le-leb rule.h (full_count r rule E s) (omega arith) ∙ sym (le-leb rule.h (reports_of rule E s) (omega arith))
-    go false is = ap (nat_le rule.h) (full_count-unreported r rule E s is)
+is_stable-equal r rule E s equal =
+    ap (λ n. nat_le n (full_count r rule E s)) (sym equal) ∙ marked-is r rule E s ∙ ap (λ n. nat_le n (reports_of rule E s)) equal
 
-pub is_unstable-equal : (r : Layout) (rule : Rule) (E : EdgeSet) (s : ℕ) → rule.l ≡ rule.h → IsTrue (is_unstable r rule E s) → ⊥
-is_unstable-equal r rule E s equal is = let parts = unstable-is r rule E s is in omega (arith, parts.0, parts.1)
+pub equal_none_unstable : (r : Layout) (rule : Rule) (E : EdgeSet) (s : ℕ) → rule.l ≡ rule.h → IsTrue (is_unstable r rule E s) → ⊥
+equal_none_unstable r rule E s equal is = let parts = unstable-is r rule E s is in omega (arith, parts.0, parts.1)
 
 -- a process that no edge is about has no report
 pub no_reports : (rule : Rule) (E : EdgeSet) (s : ℕ) → ((k : ℕ) → k < rule.k → E k s ≡ false) → reports_of rule E s ≡ 0
@@ -85,30 +91,20 @@ full_count-others r rule E is_target low reports s process other =
     let unreported : is_reported rule E s ≡ false = false_from_ne_true _ (λ t. let w : rule.l ≤ reports_of rule E s = leb-true _ _ t in omega arith) in
     full_count-unreported r rule E s unreported ∙ none
 
-pub is_stable-targets : (r : Layout) (rule : Rule) (E : EdgeSet) (is_target : ℕ → Bool) → 1 ≤ rule.l → rule.l ≤ rule.h → ReportsTargetsAlone r rule E is_target → (s : ℕ) → s < r.nodes → is_stable r rule E s ≡ is_target s
+pub stable_are_targets : (r : Layout) (rule : Rule) (E : EdgeSet) (is_target : ℕ → Bool) → 1 ≤ rule.l → rule.l ≤ rule.h → ReportsTargetsAlone r rule E is_target → (s : ℕ) → s < r.nodes → is_stable r rule E s ≡ is_target s
 unfolding is_stable
-is_stable-targets r rule E is_target low high reports s process = go (is_target s) refl
-  where
-    go : (b : Bool) → is_target s ≡ b → nat_le rule.h (full_count r rule E s) ≡ is_target s
-    go true is =
-        let many : rule.h ≤ reports_of rule E s = reports.each s process is in
-        let more : reports_of rule E s ≤ full_count r rule E s = reports_of-le r rule E s in
-        le-leb rule.h (full_count r rule E s) (omega arith) ∙ sym is
-    go false is =
-        let none : full_count r rule E s ≡ 0 = full_count-others r rule E is_target low reports s process is in
-        false_from_ne_true _ (λ t. let w : rule.h ≤ full_count r rule E s = leb-true _ _ t in omega arith) ∙ sym is
+stable_are_targets r rule E is_target low high reports s process =
+    at_least (is_target s) rule.h (full_count r rule E s)
+    (λ is. let many : rule.h ≤ reports_of rule E s = reports.each s process is in omega (arith, reports_of-le r rule E s))
+    (λ is. omega (arith, full_count-others r rule E is_target low reports s process is))
 
-pub is_unstable-targets : (r : Layout) (rule : Rule) (E : EdgeSet) (is_target : ℕ → Bool) → 1 ≤ rule.l → rule.l ≤ rule.h → ReportsTargetsAlone r rule E is_target → (s : ℕ) → s < r.nodes → IsTrue (is_unstable r rule E s) → ⊥
-is_unstable-targets r rule E is_target low high reports s process unstable = go (is_target s) refl
-  where
-    parts : (rule.l ≤ full_count r rule E s) × (full_count r rule E s < rule.h)
-    parts = unstable-is r rule E s unstable
+pub targets_leave_none_unstable : (r : Layout) (rule : Rule) (E : EdgeSet) (is_target : ℕ → Bool) → 1 ≤ rule.l → rule.l ≤ rule.h → ReportsTargetsAlone r rule E is_target → (s : ℕ) → s < r.nodes → IsTrue (is_unstable r rule E s) → ⊥
+targets_leave_none_unstable r rule E is_target low high reports s process unstable =
+    let parts = unstable-is r rule E s unstable in
+    elim (cases_Bool (is_target s)) [
+      | inl is ↦ (let many : rule.h ≤ reports_of rule E s = reports.each s process is in omega (arith, parts.1, reports_of-le r rule E s))
+      | inr is ↦ omega (arith, parts.0, full_count-others r rule E is_target low reports s process is)
+    ]
 
-    go : (b : Bool) → is_target s ≡ b → ⊥
-    go true is =
-        let many : rule.h ≤ reports_of rule E s = reports.each s process is in
-        let more : reports_of rule E s ≤ full_count r rule E s = reports_of-le r rule E s in
-        omega (arith, parts.1)
-    go false is =
-        let none : full_count r rule E s ≡ 0 = full_count-others r rule E is_target low reports s process is in
-        omega (arith, parts.0)
+-- the law on targets, in both its parts
+pub ruleset targets = (stable_are_targets, targets_leave_none_unstable)

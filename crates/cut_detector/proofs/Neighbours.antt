@@ -1,17 +1,34 @@
--- What a process gains where it, or its observer, enters the reported ones.
+-- Who observes whom, and what a process gains where it, or its observer, enters the reported ones.
 use Rattle.std.proofs.Common.{◌≡◌, inl, inr, ℕ, ◌+◌, ◌%◌, ◌<◌, Bool, true, false, cond, ◌==◌, ◌&&◌, ◌||◌, List, length, nat_lt, refl, ap, sym, ◌∙◌, arith}
-use Rattle.std.proofs.Math.Bool.{or-false}
-use Rattle.std.proofs.lemmas.Bool.{cases_lt, cases_eq, eq-eqb, eqb-true, ne_eqb, lt-ltb, le-ltb}
+use Rattle.std.proofs.Math.Bool.{or-false, and-true}
+use Rattle.std.proofs.lemmas.Bool.Decides.{nat_tests}
+use Rattle.std.proofs.lemmas.Bool.{and_right, cases_lt, cases_eq, eq-eqb, eqb-true, ne_eqb}
 use Rattle.std.proofs.lemmas.List.{length-set}
-use Rattle.std.proofs.lemmas.List.Sums.{passes_at_first}
+use Rattle.std.proofs.lemmas.List.Sums.{passes_at_first, fails_before_first}
 use Rattle.cut_rings.specs.declared.edge.Edge.{Edge}
 use Rattle.cut_rings.specs.Layout.{Layout, IsLayout, Observes, positions_on, position_of, observer_of}
 use Rattle.cut_rings.specs.Edges.{EdgeSet, is_edge}
 use Rattle.cut_detector.specs.Masks.{edges_in, with_edge}
 use Rattle.cut_detector.specs.Gains.{is_near}
-use Rattle.cut_lists.proofs.Rounds.{next_one}
-use Rattle.cut_detector.proofs.Observers.{observer_of-lt}
+use Rattle.cut_lists.proofs.Rounds.{next_one, before}
+use Rattle.cut_lists.proofs.Pigeonhole.{none_missed}
 use Rattle.cut_detector.proofs.Bits.{edges_in-with_edge}
+
+-- the observer is a process
+pub observer_of-lt : (r : Layout) → IsLayout r → (k s : ℕ) → k < length r.positions → s < r.nodes → observer_of r k s < r.nodes
+observer_of-lt r layout k s ring process =
+    let test : ℕ → Bool = λ place. (place + 1) % r.nodes == position_of r k s in
+    let place = before r.nodes (position_of r k s) (layout.in_range k s ring process) in
+    elim (cases_lt (observer_of r k s) r.nodes) [
+      | inl below ↦ below
+      | inr beyond ↦ absurd (none_missed r.nodes place.0 (λ p. position_of r k p) place.1.below
+          (λ p low. layout.in_range k p ring low)
+          (λ p q low high e. layout.distinct k p q ring low high e)
+          (λ p low e.
+          let fails : test (position_of r k p) ≡ false = fails_before_first test (positions_on r k) p 0 (omega arith) in
+          let passes : test (position_of r k p) ≡ true = ap test e ∙ eq-eqb _ _ place.1.next in
+          cc))
+    ]
 
 -- the observer observes
 observes : (r : Layout) → IsLayout r → (k p : ℕ) → k < length r.positions → p < r.nodes → Observes r k (observer_of r k p) p
@@ -33,38 +50,21 @@ observer_of-is r layout k s u p ring observer subject process sees = elim (cases
 
 -- an edge that is added where a test says so
 added : (masks : List ℕ) (edge : Edge) (b : Bool) → edge.subject < length masks → (ring p : ℕ) → edges_in (cond b (with_edge masks edge) masks) ring p ≡ (edges_in masks ring p || (is_edge ring p edge && b))
-added masks edge true inside ring p = edges_in-with_edge masks edge inside ring p ∙ ap (λ x. edges_in masks ring p || x) (and_one (is_edge ring p edge))
-  where
-    and_one : (x : Bool) → x ≡ x && true
-    and_one true = refl
-    and_one false = refl
-added masks edge false inside ring p = sym (ap (λ x. edges_in masks ring p || x) (and_none (is_edge ring p edge)) ∙ or-false _)
-  where
-    and_none : (x : Bool) → x && false ≡ false
-    and_none true = refl
-    and_none false = refl
+added masks edge true inside ring p = edges_in-with_edge masks edge inside ring p ∙ ap (λ x. edges_in masks ring p || x) (sym (and-true (is_edge ring p edge)))
+added masks edge false inside ring p = sym (ap (λ x. edges_in masks ring p || x) (and_right (is_edge ring p edge) false refl) ∙ or-false _)
 
 pub length-added : (masks : List ℕ) (edge : Edge) (b : Bool) → length (cond b (with_edge masks edge) masks) ≡ length masks
 length-added masks edge true = length-set masks edge.subject _
 length-added masks edge false = refl
 
-either : (a x y g : Bool) → (a || (x && g)) || (y && g) ≡ a || ((x || y) && g)
-either true x y g = refl
-either false true y true = refl
-either false true true false = refl
-either false true false false = refl
-either false false y g = refl
-
--- a test at a number that is compared
-moved : (G : ℕ → Bool) (s p : ℕ) → (s == p) && G s ≡ (p == s) && G p
-moved G s p = elim (cases_eq s p) [
-  | inl same ↦ ap (λ b. b && G s) (eq-eqb s p same) ∙ ap G same ∙ sym (ap (λ b. b && G p) (eq-eqb p s (sym same)))
-  | inr other ↦ ap (λ b. b && G s) (ne_eqb s p other) ∙ sym (ap (λ b. b && G p) (ne_eqb p s (λ e. other (sym e))))
-]
-
 -- the rings before i that count are those which counted, and those that s or its subjects gain
 abbrev pub with_gains : Layout → (ℕ → ℕ → Bool) → ℕ → ℕ → EdgeSet → EdgeSet
 with_gains r gained s i F ring p = F ring p || (nat_lt ring i && (is_near r s ring p && gained ring p))
+
+one_more : (i ring s u p o : ℕ) (before mid after f : Bool) (gained : ℕ → ℕ → Bool) → mid ≡ (before || (((i == ring) && (s == p)) && gained i s)) → after ≡ (mid || (((i == ring) && (u == p)) && gained i u))
+    → before ≡ (f || (nat_lt ring i && (((p == s) || (o == s)) && gained ring p))) → (i ≡ ring → (o == s) ≡ (p == u))
+    → after ≡ (f || (nat_lt ring (i + 1) && (((p == s) || (o == s)) && gained ring p)))
+one_more i ring s u p o before mid after f gained first second held sees = grind (arith, nat_tests)
 
 -- one ring more
 pub with_gains-more : (r : Layout) → IsLayout r → (gained : ℕ → ℕ → Bool) (s i u : ℕ) → i < length r.positions → s < r.nodes → u < r.nodes → Observes r i s u
@@ -73,33 +73,19 @@ pub with_gains-more : (r : Layout) → IsLayout r → (gained : ℕ → ℕ → 
     → (ring p : ℕ) → p < r.nodes → edges_in before ring p ≡ with_gains r gained s i F ring p → edges_in after ring p ≡ with_gains r gained s (i + 1) F ring p
 with_gains-more r layout gained s i u ring_in observer subject sees F before mid after long first second ring p process held =
     let long_mid : length mid ≡ r.nodes = ap length first ∙ length-added before (record { ring = i; subject = s }) (gained i s) ∙ long in
-    ap (λ xs. edges_in xs ring p) second
-    ∙ added mid (record { ring = i; subject = u }) (gained i u) (omega arith) ring p
-    ∙ ap (λ xs. edges_in xs ring p || (((i == ring) && (u == p)) && gained i u)) first
-    ∙ ap (λ b. b || (((i == ring) && (u == p)) && gained i u)) (added before (record { ring = i; subject = s }) (gained i s) (omega arith) ring p)
-    ∙ ap (λ b. (b || (((i == ring) && (s == p)) && gained i s)) || (((i == ring) && (u == p)) && gained i u)) held
-    ∙ elim (cases_eq i ring) [
-      | inl at ↦ here at
-      | inr other ↦ apart other
-    ]
-  where
-    here : i ≡ ring → (with_gains r gained s i F ring p || (((i == ring) && (s == p)) && gained i s)) || (((i == ring) && (u == p)) && gained i u) ≡ with_gains r gained s (i + 1) F ring p
-    here at =
-        ap (λ b. (with_gains r gained s i F ring p || ((b && (s == p)) && gained i s)) || ((b && (u == p)) && gained i u)) (eq-eqb i ring at)
-        ∙ ap (λ b. ((F ring p || (b && (is_near r s ring p && gained ring p))) || ((s == p) && gained i s)) || ((u == p) && gained i u)) (le-ltb ring i (omega arith))
-        ∙ ap (λ b. (b || ((s == p) && gained i s)) || ((u == p) && gained i u)) (or-false (F ring p))
-        ∙ ap (λ b. (F ring p || b) || ((u == p) && gained i u)) (moved (gained i) s p)
-        ∙ ap (λ b. (F ring p || ((p == s) && gained i p)) || b) (moved (gained i) u p)
-        ∙ either (F ring p) (p == s) (p == u) (gained i p)
-        ∙ ap (λ b. F ring p || (((p == s) || b) && gained i p)) (sym (observer_of-is r layout i s u p ring_in observer subject process sees))
-        ∙ ap (λ k. F ring p || (is_near r s k p && gained k p)) at
-        ∙ ap (λ b. F ring p || (b && (is_near r s ring p && gained ring p))) (sym (lt-ltb ring (i + 1) (omega arith)))
+    one_more i ring s u p (observer_of r ring p) (edges_in before ring p) (edges_in mid ring p) (edges_in after ring p) (F ring p) gained
+    (ap (λ xs. edges_in xs ring p) first ∙ added before (record { ring = i; subject = s }) (gained i s) (omega arith) ring p)
+    (ap (λ xs. edges_in xs ring p) second ∙ added mid (record { ring = i; subject = u }) (gained i u) (omega arith) ring p)
+    held
+    (λ at. ap (λ k. observer_of r k p == s) (sym at) ∙ observer_of-is r layout i s u p ring_in observer subject process sees)
 
-    apart : (i ≡ ring → ⊥) → (with_gains r gained s i F ring p || (((i == ring) && (s == p)) && gained i s)) || (((i == ring) && (u == p)) && gained i u) ≡ with_gains r gained s (i + 1) F ring p
-    apart other =
-        ap (λ b. (with_gains r gained s i F ring p || ((b && (s == p)) && gained i s)) || ((b && (u == p)) && gained i u)) (ne_eqb i ring other)
-        ∙ or-false _ ∙ or-false _
-        ∙ ap (λ b. F ring p || (b && (is_near r s ring p && gained ring p))) (elim (cases_lt ring i) [
-          | inl below ↦ lt-ltb ring i below ∙ sym (lt-ltb ring (i + 1) (omega arith))
-          | inr above ↦ le-ltb ring i above ∙ sym (le-ltb ring (i + 1) (omega arith))
-        ])
+-- without implicit alerts none is gained
+pub gained_off : (i x y : Bool) → i ≡ false → i && x && y ≡ false
+gained_off i x y off = grind arith
+
+-- where a process is reported, it gains by what its observer is, and its subjects by what they are
+pub gained_own : (i x y : Bool) → i ≡ true → x ≡ true → i && x && y ≡ y
+gained_own i x y on is = grind arith
+
+pub gained_theirs : (i x y : Bool) → i ≡ true → y ≡ true → i && x && y ≡ x
+gained_theirs i x y on is = grind arith

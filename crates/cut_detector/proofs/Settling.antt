@@ -9,15 +9,13 @@ use Rattle.cut_lists.proofs.Counts.{some_and_none_agree}
 use Rattle.cut_lists.proofs.Ranges.{AgreeOn, count_by_agree, list_any_none_passing, filter_agree_on}
 use Rattle.cut_rings.specs.Layout.{Layout, observer_of}
 use Rattle.cut_rings.specs.Edges.{EdgeSet}
-use Rattle.cut_detector.specs.declared.rule.Rule as kept
-use Rattle.cut_detector.specs.declared.masks.Masks.{Masks}
+use Rattle.cut_detector.specs.declared.reports.Reports.{Reports}
 use Rattle.cut_detector.specs.Rule.{Rule, rule_in}
 use Rattle.cut_detector.specs.Counts.{ring_count, reports_of, is_reported, is_full, full_count, is_stable, is_unstable, is_some_stable, is_some_unstable, is_settled, stable_members}
 use Rattle.cut_detector.specs.Masks.{edges_in}
-use Rattle.cut_detector.specs.Tally.{rings_full, stable_in, unstable_in, IsTouched}
+use Rattle.cut_detector.specs.Tally.{rings_full, stable_in, unstable_in}
 use Rattle.cut_detector.specs.Gains.{HoldsFull}
-use Rattle.cut_detector.proofs.Modes.{reports_of-le, no_reports}
-use Rattle.cut_detector.proofs.Entering.{no_gain}
+use Rattle.cut_detector.proofs.Modes.{reports_of-le, no_reports, no_gain}
 use Rattle.cut_detector.proofs.Counting.{touched-each, rings_full-zero}
 
 pub edges_in-empty : (n ring s : ℕ) → edges_in (replicate n 0) ring s ≡ false
@@ -45,50 +43,45 @@ is_settled-empty r rule n low high =
     let none : full_count r rule E s ≡ 0 = no_reports rule (is_full r rule E) s (λ ring _. is_full-empty r rule n ring s low) in
     omega arith))
 
-pub HoldsFull-empty : (r : Layout) (rule : Rule) (reported full : List ℕ) (m n : ℕ) → 1 ≤ rule.l → reported ≡ replicate m 0 → full ≡ replicate n 0 → HoldsFull r rule reported full
-HoldsFull-empty r rule reported full m n low none empty ring s _ _ =
+pub HoldsFull_empty : (r : Layout) (rule : Rule) (reported full : List ℕ) (m n : ℕ) → 1 ≤ rule.l → reported ≡ replicate m 0 → full ≡ replicate n 0 → HoldsFull r rule reported full
+HoldsFull_empty r rule reported full m n low none empty ring s _ _ =
     ap (λ xs. edges_in xs ring s) empty ∙ edges_in-empty n ring s ∙ sym (ap (λ xs. is_full r rule (edges_in xs) ring s) none ∙ is_full-empty r rule m ring s low)
 
--- with these facts the tally counts what the definitions do
-pub record Tallies (r : Layout) (rule : kept.Rule) (full : Masks) (reported : List ℕ) : Type 0 where
-  pub k : full.k ≡ rule.k
-  pub long : vec_len full.masks ≡ r.nodes
-  pub holds : HoldsFull r (rule_in rule) reported full.masks.items
+-- the tally counts what the definitions do
+pub rings_full-is : (s : Reports) (p : ℕ) → p < s.rings.now.nodes → rings_full s.tally.full p ≡ full_count s.rings.now (rule_in s.tally.rule) (edges_in s.reported.masks.items) p
+rings_full-is s p inside =
+    ap (λ k. ring_count k (edges_in s.tally.full.masks.items) p) s.tally.rings
+    ∙ count_by_agree _ _ 0 s.tally.rule.k (record { same = λ ring _ below. s.full ring p (omega arith) inside })
 
-rings_full-is : (r : Layout) (rule : kept.Rule) (full : Masks) (reported : List ℕ) → Tallies r rule full reported → (s : ℕ) → s < r.nodes → rings_full full s ≡ full_count r (rule_in rule) (edges_in reported) s
-rings_full-is r rule full reported t s inside =
-    ap (λ k. ring_count k (edges_in full.masks.items) s) t.k
-    ∙ count_by_agree _ _ 0 rule.k (record { same = λ ring _ below. t.holds ring s (omega arith) inside })
-
-stable_in-is : (r : Layout) (rule : kept.Rule) (full : Masks) (reported : List ℕ) → Tallies r rule full reported → AgreeOn (stable_in rule full) (is_stable r (rule_in rule) (edges_in reported)) 0 r.nodes
+stable_in-is : (s : Reports) → AgreeOn (stable_in s.tally.rule s.tally.full) (is_stable s.rings.now (rule_in s.tally.rule) (edges_in s.reported.masks.items)) 0 s.rings.now.nodes
 unfolding is_stable
-stable_in-is r rule full reported t = record { same = λ s _ below. ap (nat_le rule.h) (rings_full-is r rule full reported t s (omega arith)) }
+stable_in-is s = record { same = λ p _ below. ap (nat_le s.tally.rule.h) (rings_full-is s p (omega arith)) }
 
-unstable_in-is : (r : Layout) (rule : kept.Rule) (full : Masks) (reported : List ℕ) → Tallies r rule full reported → AgreeOn (unstable_in rule full) (is_unstable r (rule_in rule) (edges_in reported)) 0 r.nodes
+unstable_in-is : (s : Reports) → AgreeOn (unstable_in s.tally.rule s.tally.full) (is_unstable s.rings.now (rule_in s.tally.rule) (edges_in s.reported.masks.items)) 0 s.rings.now.nodes
 unfolding is_unstable
-unstable_in-is r rule full reported t = record { same = λ s _ below. ap (λ n. nat_le rule.l n && nat_lt n rule.h) (rings_full-is r rule full reported t s (omega arith)) }
+unstable_in-is s = record { same = λ p _ below. ap (λ n. nat_le s.tally.rule.l n && nat_lt n s.tally.rule.h) (rings_full-is s p (omega arith)) }
 
-pub settled-is : (r : Layout) (rule : kept.Rule) (full : Masks) (reported : List ℕ) → Tallies r rule full reported
-    → list_any (stable_in rule full) (range_with_len 0 (vec_len full.masks)) && not (list_any (unstable_in rule full) (range_with_len 0 (vec_len full.masks))) ≡ is_settled r (rule_in rule) (edges_in reported)
+pub settled_is : (s : Reports) → list_any (stable_in s.tally.rule s.tally.full) (range_with_len 0 (vec_len s.tally.full.masks)) && not (list_any (unstable_in s.tally.rule s.tally.full) (range_with_len 0 (vec_len s.tally.full.masks)))
+    ≡ is_settled s.rings.now (rule_in s.tally.rule) (edges_in s.reported.masks.items)
 unfolding is_settled is_some_stable is_some_unstable
-settled-is r rule full reported t =
-    ap (λ n. list_any (stable_in rule full) (range_with_len 0 n) && not (list_any (unstable_in rule full) (range_with_len 0 n))) t.long
-    ∙ some_and_none_agree _ _ _ _ r.nodes (stable_in-is r rule full reported t) (unstable_in-is r rule full reported t)
+settled_is s =
+    ap (λ n. list_any (stable_in s.tally.rule s.tally.full) (range_with_len 0 n) && not (list_any (unstable_in s.tally.rule s.tally.full) (range_with_len 0 n))) s.full_long
+    ∙ some_and_none_agree _ _ _ _ s.rings.now.nodes (stable_in-is s) (unstable_in-is s)
 
-pub members-are : (r : Layout) (rule : kept.Rule) (full : Masks) (reported : List ℕ) → Tallies r rule full reported
-    → filter (stable_in rule full) (range_with_len 0 (vec_len full.masks)) ≡ stable_members r (rule_in rule) (edges_in reported)
+pub members_are : (s : Reports) → filter (stable_in s.tally.rule s.tally.full) (range_with_len 0 (vec_len s.tally.full.masks)) ≡ stable_members s.rings.now (rule_in s.tally.rule) (edges_in s.reported.masks.items)
 unfolding stable_members
-members-are r rule full reported t =
-    ap (λ n. filter (stable_in rule full) (range_with_len 0 n)) t.long ∙ filter_agree_on _ _ 0 r.nodes (stable_in-is r rule full reported t)
+members_are s =
+    ap (λ n. filter (stable_in s.tally.rule s.tally.full) (range_with_len 0 n)) s.full_long ∙ filter_agree_on _ _ 0 s.rings.now.nodes (stable_in-is s)
 
 -- each reported process is touched
-pub reported-touched : (r : Layout) (rule : kept.Rule) (full : Masks) (reported : Masks) (touched : List ℕ) → Tallies r rule full reported.masks.items → reported.k ≡ rule.k → vec_len reported.masks ≡ r.nodes → IsTouched full touched
-    → (s : ℕ) → 0 < ring_count reported.k (edges_in reported.masks.items) s → IsTrue (list_any (λ p. s == p) touched)
-reported-touched r rule full reported touched t k long touches s some = elim (cases_lt s r.nodes) [
+pub reported-touched : (s : Reports) (p : ℕ) → 0 < ring_count s.reported.k (edges_in s.reported.masks.items) p → IsTrue (list_any (λ q. p == q) s.tally.touched.items)
+reported-touched s p some = elim (cases_lt p s.rings.now.nodes) [
   | inl inside ↦ (
-      let counted : ring_count reported.k (edges_in reported.masks.items) s ≡ reports_of (rule_in rule) (edges_in reported.masks.items) s = ap (λ n. ring_count n (edges_in reported.masks.items) s) k in
-      let more : reports_of (rule_in rule) (edges_in reported.masks.items) s ≤ full_count r (rule_in rule) (edges_in reported.masks.items) s = reports_of-le r (rule_in rule) (edges_in reported.masks.items) s in
-      let full_too : rings_full full s ≡ full_count r (rule_in rule) (edges_in reported.masks.items) s = rings_full-is r rule full reported.masks.items t s inside in
-      touched-each full touched touches s (omega arith))
-  | inr past ↦ absurd (let none : ring_count reported.k (edges_in reported.masks.items) s ≡ 0 = rings_full-zero reported s (get_or_past reported.masks.items s 0 (omega (arith, reported.masks.ok.0))) in omega arith)
+      let R : Rule = rule_in s.tally.rule in
+      let E : EdgeSet = edges_in s.reported.masks.items in
+      let counted : ring_count s.reported.k E p ≡ reports_of R E p = ap (λ n. ring_count n E p) s.same_rings in
+      let more : reports_of R E p ≤ full_count s.rings.now R E p = reports_of-le s.rings.now R E p in
+      let full_too : rings_full s.tally.full p ≡ full_count s.rings.now R E p = rings_full-is s p inside in
+      touched-each s.tally.full s.tally.touched.items s.tally.touches p (omega arith))
+  | inr past ↦ absurd (let none : ring_count s.reported.k (edges_in s.reported.masks.items) p ≡ 0 = rings_full-zero s.reported p (get_or_past s.reported.masks.items p 0 (omega (arith, s.reported.masks.ok.0, s.reported_long))) in omega arith)
 ]

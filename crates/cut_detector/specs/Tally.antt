@@ -1,4 +1,4 @@
--- How many processes are stable and unstable, where a set of edges says which rings count for each.
+-- How many processes are stable, and how many stable or unstable, where a set of edges says which rings count for each.
 use Rattle.std.specs.Prelude.{◌≡◌, ℕ, ◌==◌, ◌&&◌, Bool, List, count_by, nat_lt, nat_le, vec_len}
 use Rattle.std.specs.List.{range_with_len, list_any}
 use Rattle.cut_detector.specs.declared.rule.Rule.{Rule}
@@ -14,6 +14,10 @@ rings_full full s = ring_count full.k (edges_in full.masks.items) s
 abbrev pub stable_in : Rule → Masks → ℕ → Bool
 stable_in rule full s = nat_le rule.h (rings_full full s)
 
+-- whether at least L rings count for s
+abbrev pub marked_in : Rule → Masks → ℕ → Bool
+marked_in rule full s = nat_le rule.l (rings_full full s)
+
 -- whether at least L and fewer than H rings count for s
 abbrev pub unstable_in : Rule → Masks → ℕ → Bool
 unstable_in rule full s = nat_le rule.l (rings_full full s) && nat_lt (rings_full full s) rule.h
@@ -25,8 +29,8 @@ processes_with test full = count_by test (range_with_len 0 (vec_len full.masks))
 abbrev pub stable_count : Rule → Masks → ℕ
 stable_count rule full = processes_with (stable_in rule full) full
 
-abbrev pub unstable_count : Rule → Masks → ℕ
-unstable_count rule full = processes_with (unstable_in rule full) full
+abbrev pub marked_count : Rule → Masks → ℕ
+marked_count rule full = processes_with (marked_in rule full) full
 
 -- the list has the processes for which some ring counts, and no other
 abbrev pub IsTouched : Masks → List ℕ → Type 0

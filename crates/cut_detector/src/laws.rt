@@ -19,12 +19,14 @@ ghost use Rattle.cut_detector.specs.Laws.{
 
 /// A process proposes all stable processes as soon as there is one and none is unstable, and no
 /// earlier delivery left it so.
+#[tactic(auto, using(crate::proofs::Places::proposes))]
 pub fn proposes_at_least_place()
     ensures { ProposesAtLeastPlace }
 {}
 
 /// An alert that is delivered again changes no members of the proposal: tallies count distinct rings.
 /// The place is the same where the proposal comes before the repeat, and else the next one.
+#[tactic(auto, using(crate::proofs::Places::repeats))]
 pub fn repeats_change_no_members()
     ensures members { RepeatsChangeNoMembers }
     ensures place { RepeatsDelayByOne }
@@ -33,6 +35,7 @@ pub fn repeats_change_no_members()
 /// Where L and H are equal, a process is stable exactly where H distinct rings report it, none is
 /// unstable, implicit alerts change nothing, and the proposal is made at the first delivery after
 /// which some process is stable.
+#[tactic(auto, using(crate::proofs::Gaps::equal_watermarks))]
 pub fn equal_watermarks()
     ensures stable { StableByReportsAlone }
     ensures unstable { NoneIsUnstable }
@@ -42,6 +45,7 @@ pub fn equal_watermarks()
 
 /// Where all alerts are about some targets, and at least H rings report each of them, exactly the
 /// targets are stable and no process is unstable, with implicit alerts and without.
+#[tactic(auto, using(crate::proofs::Modes::targets))]
 pub fn targets_alone()
     ensures stable { StableAreTargets }
     ensures unstable { TargetsAloneLeaveNoneUnstable }
@@ -51,6 +55,7 @@ pub fn targets_alone()
 /// and of the later members alone. Without implicit alerts the same holds of a lower L in place of a
 /// higher H, and of both. So a wider gap between the watermarks waits longer, and for more. This is for
 /// sets of edges that only grow, as the first entries of a list do.
+#[tactic(auto, using(crate::proofs::Gaps::wider_gap))]
 pub fn a_wider_gap_proposes_later()
     ensures high { AWiderGapProposesLater }
     ensures both { AGapWiderAtBothEndsProposesLater }
@@ -59,6 +64,7 @@ pub fn a_wider_gap_proposes_later()
 
 /// Implicit alerts only add: what is stable, and what is stable or unstable, contains what it is
 /// without them.
+#[tactic(auto, using(crate::proofs::Gaps::stable_on, crate::proofs::Gaps::marked_on))]
 pub fn implicit_alerts_only_add()
     ensures stable { ImplicitAlertsKeepStable }
     ensures marked { ImplicitAlertsKeepMarked }

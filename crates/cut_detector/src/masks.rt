@@ -13,11 +13,19 @@ pub struct Masks {
     ghost below: { All (λ mask. mask < 2 ^ k) masks.items },
 }
 
+/// On how many rings a set had the edge to a process, and has it now.
+#[derive(Clone, Copy, Debug)]
+pub struct Change {
+    pub before: u32,
+    pub after: u32,
+}
+
 impl Masks {
     ghost use Rattle.cut_detector.specs.Counts.{ring_count};
     ghost use Rattle.cut_detector.specs.Masks.{edges_in, AddsEdge};
 
     /// The set of no edge, with room for edges to `nodes` processes.
+    #[tactic(auto, using(crate::proofs::Bits::below_replicate))]
     pub fn new(alloc: Global, nodes: u16, k: u8) -> Result<Masks, AllocError>
         requires { k ≤ 32 }
         ensures k { IfOk result (λ m. m.k ≡ k) }
@@ -35,14 +43,22 @@ impl Masks {
         self.masks[usize::from(subject)].count_ones()
     }
 
-    /// Adds an edge.
-    pub fn add(&mut self, edge: Edge)
+    /// Adds an edge, and tells how many edges to its subject there were and are.
+    pub fn add(&mut self, edge: Edge) -> Change
         requires ring { edge.ring < self.old.k }
         requires subject { edge.subject < vec_len self.old.masks }
-        ensures { AddsEdge self.old self.new edge }
+        ensures added { AddsEdge self.old self.new edge }
+        ensures before { result.before ≡ ring_count self.old.k (edges_in self.old.masks.items) edge.subject }
+        ensures after { result.after ≡ ring_count self.new.k (edges_in self.new.masks.items) edge.subject }
     {
         let subject = usize::from(edge.subject);
-        self.masks[subject] |= 1 << edge.ring;
+        let before = self.masks[subject];
+        let after = before | (1 << edge.ring);
+        self.masks[subject] = after;
+        Change {
+            before: before.count_ones(),
+            after: after.count_ones(),
+        }
     }
 
     /// Empties the set, which has edges to these processes alone.

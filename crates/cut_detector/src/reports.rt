@@ -53,11 +53,8 @@ impl<'a> Reports<'a> {
         ensures reported { self.new.reported.masks.items ≡ with_edge self.old.reported.masks.items edge }
     {
         let rule = self.tally.rule;
-        let before = self.reported.count(edge.subject);
         self.reported.add(edge);
-        self.tally.add(edge);
-        let after = self.reported.count(edge.subject);
-        if !rule.is_reported(before) && rule.is_reported(after) {
+        if self.tally.add(edge) {
             let gains = Gains {
                 rings: self.rings,
                 rule,
@@ -68,6 +65,7 @@ impl<'a> Reports<'a> {
     }
 
     /// Whether some process is stable and none is unstable.
+    #[tactic(auto, using(crate::proofs::Settling::settled_is))]
     pub fn is_settled(&self) -> bool
         ensures { result ≡
             is_settled self.now.rings.now (rule_in self.now.tally.rule) (edges_in self.now.reported.masks.items) }
@@ -76,6 +74,7 @@ impl<'a> Reports<'a> {
     }
 
     /// Puts the stable processes into `members`, ascending, in place of what it held. It has room.
+    #[tactic(auto, using(crate::proofs::Settling::members_are))]
     pub fn gather(&self, members: &mut Vec<u16>)
         requires { self.now.rings.now.nodes ≤ vec_capacity members.old }
         ensures members { members.new.items ≡

@@ -1,4 +1,4 @@
-ghost use Rattle.std.specs.Prelude.{◌≡◌, ◌≤◌, ◌&&◌, nat_le, nat_lt};
+ghost use Rattle.std.specs.Prelude.{◌≡◌, ◌≤◌, nat_le};
 
 /// The parameters of cut detection: K rings, the high watermark H, the low watermark L, and whether
 /// implicit alerts are added.
@@ -15,7 +15,7 @@ pub struct Rule {
 }
 
 impl Rule {
-    /// Whether a process with so many reported rings is reported.
+    /// Whether a process with so many rings is reported, and so stable or unstable.
     pub fn is_reported(self, rings: u32) -> bool
         ensures { result ≡ nat_le self.l rings }
     {
@@ -27,12 +27,5 @@ impl Rule {
         ensures { result ≡ nat_le self.h rings }
     {
         u32::from(self.h) <= rings
-    }
-
-    /// Whether a process for which so many rings count is unstable.
-    pub fn is_unstable(self, rings: u32) -> bool
-        ensures { result ≡ (nat_le self.l rings && nat_lt rings self.h) }
-    {
-        u32::from(self.l) <= rings && rings < u32::from(self.h)
     }
 }

@@ -2,25 +2,26 @@ ghost use Rattle.std.specs.Prelude.{◌≡◌, ◌==◌, ◌<◌, ◌≤◌, ◌
 ghost use Rattle.std.specs.List.{range_with_len, list_any, IsDistinct};
 ghost use Rattle.std.proofs.Props.{props};
 ghost use Rattle.cut_detector.specs.Masks.{with_edge};
-ghost use Rattle.cut_detector.specs.Tally.{IsTouched, stable_in, unstable_in, stable_count, unstable_count};
+ghost use Rattle.cut_detector.specs.Tally.{IsTouched, stable_in, unstable_in, marked_in, stable_count, marked_count};
 
-use crate::masks::Masks;
+use crate::masks::{Change, Masks};
 use crate::rule::Rule;
 use cut_rings::Edge;
 use std::alloc::{AllocError, Global};
 
-/// Which rings count for each process, and how many processes that makes stable and unstable.
+/// Which rings count for each process, and how many processes that makes stable, and how many stable or
+/// unstable.
 #[derive(Debug, Drop)]
 pub struct Tally {
     pub rule: Rule,
     pub full: Masks,
-    stable: u16,
-    unstable: u16,
+    stable: u32,
     pub touched: Vec<u16>,
+    marked: u32,
     ghost rings: { full.k ≡ rule.k },
     ghost few: { vec_len full.masks ≤ 2048 },
     ghost stable_counted: { stable ≡ stable_count rule full },
-    ghost unstable_counted: { unstable ≡ unstable_count rule full },
+    ghost marked_counted: { marked ≡ marked_count rule full },
     ghost room: { vec_len full.masks ≤ vec_capacity touched },
     ghost distinct: { IsDistinct ◌==◌ touched.items } by { Prim.hlevel props },
     ghost touches: { IsTouched full touched.items },
@@ -39,38 +40,37 @@ impl Tally {
             rule,
             full,
             stable: 0,
-            unstable: 0,
             touched,
+            marked: 0,
         })
     }
 
-    /// Lets an edge's ring count for its subject.
-    pub fn add(&mut self, edge: Edge)
+    /// Lets an edge's ring count for its subject, and says whether L rings count for it only now.
+    pub fn add(&mut self, edge: Edge) -> bool
         requires ring { edge.ring < self.old.rule.k }
         requires subject { edge.subject < vec_len self.old.full.masks }
         ensures rule { self.new.rule ≡ self.old.rule }
         ensures full { self.new.full.masks.items ≡ with_edge self.old.full.masks.items edge }
+        ensures marks { result ≡ (marked_in self.old.rule self.new.full edge.subject
+            && not (marked_in self.old.rule self.old.full edge.subject)) }
     {
-        let before = self.full.count(edge.subject);
-        self.full.add(edge);
-        let after = self.full.count(edge.subject);
         let rule = self.rule;
+        let Change { before, after } = self.full.add(edge);
         self.stable = moved(self.stable, rule.is_stable(before), rule.is_stable(after));
-        self.unstable = moved(
-            self.unstable,
-            rule.is_unstable(before),
-            rule.is_unstable(after),
-        );
+        let marked = self.marked;
+        self.marked = moved(marked, rule.is_reported(before), rule.is_reported(after));
         touch(&mut self.touched, edge.subject, before == 0);
+        marked < self.marked
     }
 
     /// Whether some process is stable and none is unstable.
+    #[tactic(auto, using(crate::proofs::Counting::settled_by))]
     pub fn is_settled(&self) -> bool
         ensures { result ≡
             (list_any (stable_in self.now.rule self.now.full) (range_with_len 0 (vec_len self.now.full.masks))
             && not (list_any (unstable_in self.now.rule self.now.full) (range_with_len 0 (vec_len self.now.full.masks)))) }
     {
-        self.stable > 0 && self.unstable == 0
+        self.stable > 0 && self.stable == self.marked
     }
 
     /// Puts the stable processes into `members`, ascending, in place of what it held. It has room.
@@ -97,17 +97,17 @@ impl Tally {
         self.full.clear(&self.touched);
         self.touched.clear();
         self.stable = 0;
-        self.unstable = 0;
+        self.marked = 0;
     }
 }
 
 // How many there are once one of them is in place of another, if at all.
-fn moved(count: u16, before: bool, after: bool) -> u16
+fn moved(count: u32, before: bool, after: bool) -> u32
     requires few { count ≤ 2048 }
     requires counted { cond before 1 0 ≤ count + cond after 1 0 }
     ensures { result + cond before 1 0 ≡ count + cond after 1 0 }
 {
-    count + u16::from(after) - u16::from(before)
+    count + u32::from(after) - u32::from(before)
 }
 
 // Notes a process, where it is new to the list. There is room for it.

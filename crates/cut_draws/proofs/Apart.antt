@@ -1,5 +1,5 @@
 -- Edges whose numbers differ give copies of which no two compare as equal.
-use Rattle.std.proofs.Common.{◌≡◌, ◌≢◌, ℕ, zero, suc, ◌+◌, ◌-◌, ◌<◌, ◌≤◌, ◌⊎◌, ◌==◌, inl, inr, Bool, true, false, not, List, [], ◌∷◌, ◌++◌, map, length, get_or, refl, ap, sym, ◌∙◌, arith}
+use Rattle.std.proofs.Common.{◌≡◌, ◌≢◌, ℕ, zero, suc, ◌+◌, ◌-◌, ◌<◌, ◌≤◌, ◌⊎◌, ◌==◌, inl, inr, Bool, true, false, not, List, [], ◌∷◌, ◌++◌, length, get_or, refl, ap, sym, ◌∙◌, arith}
 use Rattle.std.specs.declared.cmp.Ordering.{Ordering}
 use Rattle.std.specs.declared.cmp.Ordering.TheVariants.{Less, Equal, Greater}
 use Rattle.std.specs.Ordering.{nat_cmp, ordering_then, is_eq, eq_by_cmp}
@@ -15,15 +15,17 @@ use Rattle.std.proofs.lemmas.Map.Keys.{IsDistinct-from_apart}
 use Rattle.cut_rings.specs.declared.edge.Edge.{Edge}
 use Rattle.cut_rings.specs.Edges.{edge_number}
 use Rattle.cut_draws.specs.declared.delivery.Delivery.{Delivery}
-use Rattle.cut_draws.specs.declared.keyed.Keyed.{Keyed}
-use Rattle.cut_draws.specs.Keyed.{compare_keyed}
 use Rattle.cut_draws.specs.DeliveryOrder.{are_distinct, copies_of, all_deliveries}
 use Rattle.cut_draws.proofs.Copies.{all_of_copies}
 
-pub compare_keyed_total : IsTotalOrder compare_keyed
-compare_keyed_total =
-    then_total (then_total (on_total (λ x. x.key) nat_cmp_total) (on_total (λ x. x.number) nat_cmp_total))
-    (on_total (λ x. x.delivery.copy) nat_cmp_total)
+-- how two deliveries compare, by what their keys are
+abbrev pub compare_by : (Delivery → ℕ) → ℕ → Delivery → Delivery → Ordering
+compare_by key k y x =
+    ordering_then (nat_cmp (key y) (key x)) (ordering_then (nat_cmp (edge_number k y.edge) (edge_number k x.edge)) (nat_cmp y.copy x.copy))
+
+pub compare_by_total : (key : Delivery → ℕ) (k : ℕ) → IsTotalOrder (compare_by key k)
+compare_by_total key k =
+    then_total (on_total key nat_cmp_total) (then_total (on_total (λ x. edge_number k x.edge) nat_cmp_total) (on_total (λ x. x.copy) nat_cmp_total))
 
 -- no two elements pass a test
 abbrev pub Apart : {X : Type 0} → (X → X → Bool) → List X → Type 0
@@ -81,20 +83,17 @@ by_first Less s e = refl
 by_first Equal s e = cc
 by_first Greater s e = refl
 
--- a delivery with its key and its edge's number
-abbrev pub keyed_by : (Delivery → ℕ) → ℕ → Delivery → Keyed
-keyed_by key k x = record { key = key x; number = edge_number k x.edge; delivery = x }
-
 -- whether two deliveries compare as equal
 abbrev pub ties : (Delivery → ℕ) → ℕ → Delivery → Delivery → Bool
-ties key k x y = eq_by_cmp compare_keyed (keyed_by key k x) (keyed_by key k y)
+ties key k x y = eq_by_cmp (compare_by key k) x y
 
 other_number : (key : Delivery → ℕ) (k : ℕ) (x y : Delivery) → edge_number k x.edge ≢ edge_number k y.edge → ties key k x y ≡ false
 other_number key k x y differ =
-    by_first _ (nat_cmp x.copy y.copy) (by_second _ (nat_cmp (edge_number k x.edge) (edge_number k y.edge)) (untied _ _ differ))
+    by_second (nat_cmp (key x) (key y)) _ (by_first _ (nat_cmp x.copy y.copy) (untied _ _ differ))
 
 other_copy : (key : Delivery → ℕ) (k : ℕ) (x y : Delivery) → x.copy ≢ y.copy → ties key k x y ≡ false
-other_copy key k x y differ = by_second _ (nat_cmp x.copy y.copy) (untied _ _ differ)
+other_copy key k x y differ =
+    by_second (nat_cmp (key x) (key y)) _ (by_second (nat_cmp (edge_number k x.edge) (edge_number k y.edge)) (nat_cmp x.copy y.copy) (untied _ _ differ))
 
 one_copy_apart : (key : Delivery → ℕ) (k : ℕ) (edges : List Edge) (c : ℕ) → are_distinct k edges ≡ true → Apart (ties key k) (copies_of edges c)
 one_copy_apart key k edges c distinct i j x before within =
@@ -127,15 +126,7 @@ copies_apart key k edges a (suc n) distinct =
     apart_append (ties key k) (copies_of edges a) (flat_map (λ c. copies_of edges c) (range_with_len (a + 1) n))
     (one_copy_apart key k edges a distinct) (copies_apart key k edges (a + 1) n distinct) (later_copies_apart key k edges a n)
 
--- so the pairs of key and delivery are distinct
-pub keyed_distinct : (key : Delivery → ℕ) (k : ℕ) (edges : List Edge) (copies : ℕ) → are_distinct k edges ≡ true → IsDistinct (eq_by_cmp compare_keyed) (map (keyed_by key k) (all_deliveries edges copies))
-keyed_distinct key k edges copies distinct =
-    let xs : List Delivery = all_deliveries edges copies in
-    IsDistinct-from_apart (eq_by_cmp compare_keyed) (map (keyed_by key k) xs) (λ i j y before within.
-    let long : length (map (keyed_by key k) xs) ≡ length xs = length-map xs (keyed_by key k) in
-    let d : Delivery = y.delivery in
-    let low : get_or (map (keyed_by key k) xs) i y ≡ keyed_by key k (get_or xs i d) = get_or-map (keyed_by key k) xs i d y (omega arith) in
-    let high : get_or (map (keyed_by key k) xs) j y ≡ keyed_by key k (get_or xs j d) = get_or-map (keyed_by key k) xs j d y (omega arith) in
-    ap (λ z. eq_by_cmp compare_keyed z (get_or (map (keyed_by key k) xs) j y)) low
-    ∙ ap (eq_by_cmp compare_keyed (keyed_by key k (get_or xs i d))) high
-    ∙ copies_apart key k edges 0 copies distinct i j d before (omega arith))
+-- so no two deliveries are alike
+pub deliveries_distinct : (key : Delivery → ℕ) (k : ℕ) (edges : List Edge) (copies : ℕ) → are_distinct k edges ≡ true → IsDistinct (ties key k) (all_deliveries edges copies)
+deliveries_distinct key k edges copies distinct =
+    IsDistinct-from_apart (ties key k) (all_deliveries edges copies) (copies_apart key k edges 0 copies distinct)

@@ -1,6 +1,6 @@
 pub mod Copies
 pub mod Apart
 pub mod Prefixes
-pub mod Packed
+pub mod Unpacked
 pub mod Processes
 pub mod Delivered

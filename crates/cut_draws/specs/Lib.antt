@@ -1,4 +1,4 @@
 pub mod Source
 pub mod ProcessOrder
 pub mod DeliveryOrder
-pub mod Keyed
+pub mod Packed

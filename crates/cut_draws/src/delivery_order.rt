@@ -1,9 +1,9 @@
-ghost use Rattle.std.specs.Prelude.{◌≡◌, [], ◌++◌, ◌<◌, ◌≤◌, length, map, slice_get, IfOk, OnOk, OnErr, IsTrue, Some};
-ghost use Rattle.cut_rings.specs.Edges.{are_edges_of};
-ghost use Rattle.cut_draws.specs.DeliveryOrder.{all_deliveries, copies_of, are_distinct, IsDeliveryOrder};
-ghost use Rattle.cut_draws.specs.Keyed.{keyed_of};
+ghost use Rattle.std.specs.Prelude.{◌≡◌, [], ◌++◌, ◌<◌, ◌≤◌, ◌^◌, length, map, slice_get, IfOk, OnOk, OnErr, IsTrue, Some, All};
+ghost use Rattle.cut_rings.specs.Edges.{is_edge_of, are_edges_of};
+ghost use Rattle.cut_draws.specs.DeliveryOrder.{all_deliveries, copies_of, are_distinct, delivery_place, IsDeliveryOrder};
+ghost use Rattle.cut_draws.specs.Packed.{delivery_in, packed_at, keyed_at};
 
-use crate::keyed::{Keyed, deliveries_of, sort};
+use crate::packed::{Keyed, deliveries_in, delivery_in, keys_rise, packed, repack, sort_keyed};
 use crate::{Delivery, Draws};
 use cut_rings::Edge;
 use std::alloc::{AllocError, Global};
@@ -20,19 +20,19 @@ const EDGES: u64 = 65_536;
 /// filled again for another receiver. Contracts see the list of the deliveries.
 #[derive(Debug, Drop)]
 pub struct DeliveryOrder {
-    keyed: Vec<Keyed>,
-    /// What the sort works in.
     packed: Vec<u64>,
-    gathered: Vec<Keyed>,
+    /// What deliveries whose packed keys tie are sorted in.
+    keyed: Vec<Keyed>,
 }
 
 impl Model for DeliveryOrder {
     ghost use Rattle.std.specs.Prelude.{List, map};
     ghost use Rattle.cut_draws.specs.declared.delivery.Delivery.{Delivery};
+    ghost use Rattle.cut_draws.specs.Packed.{delivery_in};
 
     ghost Value = { List Delivery };
 
-    ghost view = { λ o. map (λ x. x.delivery) o.keyed.items };
+    ghost view = { λ o. map (λ x. delivery_in x) o.packed.items };
 }
 
 impl DeliveryOrder {
@@ -41,9 +41,8 @@ impl DeliveryOrder {
         ensures { result ≡ [] }
     {
         DeliveryOrder {
-            keyed: Vec::new(alloc),
             packed: Vec::new(alloc),
-            gathered: Vec::new(alloc),
+            keyed: Vec::new(alloc),
         }
     }
 
@@ -51,22 +50,23 @@ impl DeliveryOrder {
     pub fn len(&self) -> usize
         ensures { result ≡ length self.now }
     {
-        self.keyed.len()
+        self.packed.len()
     }
 
     /// The delivery at a place, from 0.
+    #[inline]
     pub fn get(&self, i: usize) -> Delivery
         requires { i < length self.now }
         ensures { slice_get self.now i ≡ Some result }
     {
-        self.keyed[i].delivery
+        delivery_in(self.packed[i])
     }
 
     /// The deliveries as a `Vec`.
     fn to_vec(&self, alloc: Global) -> Result<Vec<Delivery>, AllocError>
         ensures { IfOk result (λ v. v.items ≡ self.now) }
     {
-        deliveries_of(alloc, self.keyed.as_slice())
+        deliveries_in(alloc, self.packed.as_slice())
     }
 }
 
@@ -82,6 +82,21 @@ struct Arrivals<'a> {
     ghost few_copies: { copies ≤ 4 },
     ghost in_range: { IsTrue (are_edges_of k 2048 edges.now) },
     ghost distinct: { IsTrue (are_distinct k edges.now) },
+}
+
+impl Arrivals<'_> {
+    /// The place of a delivery's key.
+    #[inline]
+    fn place(self, delivery: Delivery) -> u64
+        requires edge { IsTrue (is_edge_of self.k 2048 delivery.edge) }
+        requires copy { delivery.copy < 4 }
+        ensures value { result ≡ delivery_place self.entry.receiver self.entry.k delivery }
+        ensures in_range { result < 2 ^ 32 }
+    {
+        let number = u64::from(delivery.edge.number(self.k));
+        let row = u64::from(delivery.copy) * RECEIVERS + u64::from(self.receiver);
+        FIRST_DELIVERY + 2 * (row * EDGES + number)
+    }
 }
 
 impl Draws {
@@ -138,7 +153,7 @@ impl Draws {
         };
         let filled = self.fill(order, arrivals);
         if filled.is_err() {
-            order.keyed.clear();
+            order.packed.clear();
         }
         filled
     }
@@ -149,55 +164,74 @@ impl Draws {
             arrivals.entry.edges.now arrivals.entry.copies order.new) }
         ensures same { self.new ≡ self.old }
     {
-        self.delivery_keys(&mut order.keyed, arrivals)?;
-        sort(&mut order.keyed, &mut order.packed, &mut order.gathered)?;
+        self.pack(&mut order.packed, arrivals)?;
+        order.packed.sort_unstable();
+        if keys_rise(order.packed.as_slice()) {
+            return Ok(());
+        }
+        self.draw_again(&mut order.keyed, order.packed.as_slice(), arrivals)?;
+        sort_keyed(&mut order.keyed);
+        repack(&mut order.packed, order.keyed.as_slice())?;
         Ok(())
     }
 
-    /// Every copy of every edge with its key, the copies in turn, in place of what the list held.
-    fn delivery_keys(
-        &mut self,
-        keyed: &mut Vec<Keyed>,
-        arrivals: Arrivals,
-    ) -> Result<(), AllocError>
-        ensures keys { OnOk result (keyed.new.items
-            ≡ map (λ x. keyed_of self.old arrivals.entry.receiver arrivals.entry.k x)
+    /// Every copy of every edge under its key, the copies in turn, in place of what the list held.
+    fn pack(&mut self, packed: &mut Vec<u64>, arrivals: Arrivals) -> Result<(), AllocError>
+        ensures keys { OnOk result (packed.new.items
+            ≡ map (λ x. packed_at self.old arrivals.entry.receiver arrivals.entry.k x)
             (all_deliveries arrivals.entry.edges.now arrivals.entry.copies)) }
         ensures same { self.new ≡ self.old }
     {
-        keyed.clear();
-        keyed.reserve(
-            arrivals
-                .edges
-                .len()
-                .saturating_mul(usize::from(arrivals.copies)),
-        )?;
+        packed.clear();
+        let copies = usize::from(arrivals.copies);
+        packed.reserve(arrivals.edges.len().saturating_mul(copies))?;
         for copy in 0..arrivals.copies {
-            self.copy_keys(keyed, arrivals, copy)?;
+            self.pack_copy(packed, arrivals, copy)?;
         }
         Ok(())
     }
 
-    /// Adds one copy of every edge with its key. Where the edges ascend by number, so do the places.
-    fn copy_keys(
+    /// Adds one copy of every edge under its key. Where the edges ascend by number, so do the places.
+    fn pack_copy(
         &mut self,
-        keyed: &mut Vec<Keyed>,
+        words: &mut Vec<u64>,
         arrivals: Arrivals,
         copy: u8,
     ) -> Result<(), AllocError>
         requires { copy < 4 }
-        ensures keys { OnOk result (keyed.new.items ≡ keyed.old.items
-            ++ map (λ x. keyed_of self.old arrivals.entry.receiver arrivals.entry.k x)
+        ensures keys { OnOk result (words.new.items ≡ words.old.items
+            ++ map (λ x. packed_at self.old arrivals.entry.receiver arrivals.entry.k x)
             (copies_of arrivals.entry.edges.now copy)) }
         ensures same { self.new ≡ self.old }
     {
-        let row = u64::from(copy) * RECEIVERS + u64::from(arrivals.receiver);
         for edge in arrivals.edges {
-            let number = edge.number(arrivals.k);
+            let delivery = Delivery { edge: *edge, copy };
+            let key = self.key(arrivals.place(delivery));
+            words.push(packed(key, delivery))?;
+        }
+        Ok(())
+    }
+
+    /// Packed deliveries with all that they are ordered by, in place of what the list held.
+    fn draw_again(
+        &mut self,
+        keyed: &mut Vec<Keyed>,
+        words: &[u64],
+        arrivals: Arrivals,
+    ) -> Result<(), AllocError>
+        requires { All (λ w. IsTrue (is_edge_of arrivals.k 2048 (delivery_in w).edge)) words.now }
+        ensures keys { OnOk result
+            (keyed.new.items ≡ map (λ w. keyed_at self.old arrivals.entry.receiver arrivals.entry.k w) words.now) }
+        ensures same { self.new ≡ self.old }
+    {
+        keyed.clear();
+        for word in words {
+            let delivery = delivery_in(*word);
             keyed.push(Keyed {
-                key: self.key(FIRST_DELIVERY + 2 * (row * EDGES + u64::from(number))),
-                number,
-                delivery: Delivery { edge: *edge, copy },
+                key: self.key(arrivals.place(delivery)),
+                number: delivery.edge.number(arrivals.k),
+                copy: delivery.copy,
+                packed: *word,
             })?;
         }
         Ok(())

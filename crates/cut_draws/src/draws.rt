@@ -50,24 +50,37 @@ impl Draws {
     }
 
     /// The key at a place below 2^32: the word there, as the high half, and the next word (words as in
-    /// RFC 8439, with 8 rounds). To words that are computed already the generator goes by steps.
-    #[inline]
+    /// RFC 8439, with 8 rounds). Places that follow one another cost no search.
+    #[inline(always)]
     pub fn key(&mut self, place: u64) -> u64
         requires { place < 2 ^ 32 }
         ensures value { result ≡ key_at self.old place }
         ensures same { self.new ≡ self.old }
     {
-        if self.here <= place && place < self.end {
-            skip(&mut self.words, place - self.here);
-        } else {
-            self.words.set_word_pos(u128::from(place));
-            self.end = place / BLOCK * BLOCK + COMPUTED;
+        if place != self.here || place >= self.end {
+            self.end = seek(&mut self.words, self.here, self.end, place);
         }
         self.here = place + 2;
         let high = u64::from(self.words.next_word());
         let low = u64::from(self.words.next_word());
         high * 4_294_967_296 + low
     }
+}
+
+/// Takes a generator from one place to another, and gives the end of the words that it has computed
+/// then. To such words it goes by steps.
+#[inline(never)]
+fn seek(words: &mut ChaCha8Rng, here: u64, end: u64, place: u64) -> u64
+    requires here { words.old.word_pos ≡ here }
+    requires place { place < 2 ^ 32 }
+    ensures { words.new ≡ record words.old { word_pos = place } }
+{
+    if here <= place && place < end {
+        skip(words, place - here);
+        return end;
+    }
+    words.set_word_pos(u128::from(place));
+    place / BLOCK * BLOCK + COMPUTED
 }
 
 /// Takes a generator past some words.

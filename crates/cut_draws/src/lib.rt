@@ -8,7 +8,7 @@
 mod delivery;
 mod delivery_order;
 mod draws;
-mod keyed;
+mod packed;
 mod process_order;
 
 pub use delivery::Delivery;

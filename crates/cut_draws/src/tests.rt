@@ -1,4 +1,4 @@
-use crate::keyed::{Keyed, sort};
+use crate::packed::{Keyed, keys_rise, repack, sort_keyed};
 use crate::{Delivery, DeliveryOrder, Draws, ProcessOrder};
 use cut_rings::Edge;
 use std::alloc::{AllocError, Global};
@@ -317,46 +317,31 @@ fn an_order_is_filled_again(rt: HostRuntime) -> Result<(), Fail> {
     Ok(())
 }
 
-// Deliveries with drawn keys, of which only the bits of a mask are kept.
-fn drawn(alloc: Global, count: u16, mask: u64) -> Result<Vec<Keyed>, AllocError> {
-    let mut draws = Draws::new(STEPS, 1);
+// Deliveries are put in order of key, then of number, then of copy.
+#[test]
+fn tied_keys_are_sorted_by_number_and_copy(rt: HostRuntime) -> Result<(), Fail> {
+    let alloc = rt.alloc();
     let mut keyed = Vec::new(alloc);
-    for i in 0..count {
-        let edge = Edge {
-            ring: 0,
-            subject: i,
-        };
+    let rows: [(u64, u16, u8); 5] = [(5, 2, 1), (5, 1, 3), (4, 9, 2), (5, 2, 0), (6, 0, 0)];
+    for (place, (key, number, copy)) in rows.iter().enumerate() {
         keyed.push(Keyed {
-            key: draws.key(2 * u64::from(i)) & mask,
-            number: (u64::from(i) * 7919 % 65_536) as u16,
-            delivery: Delivery {
-                edge,
-                copy: (i % 4) as u8,
-            },
+            key: *key,
+            number: *number,
+            copy: *copy,
+            packed: place as u64,
         })?;
     }
-    Ok(keyed)
+    let mut packed = Vec::new(alloc);
+    sort_keyed(&mut keyed);
+    repack(&mut packed, keyed.as_slice())?;
+    assert_eq!(rt; packed.as_slice(), [2, 1, 3, 0, 4].as_slice());
+    Ok(())
 }
 
-// Keys that tie in their high 48 bits are sorted exactly, and so are those that don't.
+// Keys that differ in the low 18 bits alone tie.
 #[test]
-fn packed_and_exact_sorts_agree(rt: HostRuntime) -> Result<(), Fail> {
-    let alloc = rt.alloc();
-    let mut packed = Vec::new(alloc);
-    let mut gathered = Vec::new(alloc);
-    for mask in [u64::MAX, 0xffff_ffff_ffff_0000, 0xf_ffff, 65_535, 3, 0] {
-        for count in [0, 1, 2, 100, 1999] {
-            let mut keyed = drawn(alloc, count, mask)?;
-            let mut exact = drawn(alloc, count, mask)?;
-            sort(&mut keyed, &mut packed, &mut gathered)?;
-            exact.sort_unstable_by_key(|x| (x.key, x.number, x.delivery.copy));
-            assert_eq!(rt; keyed.len(), exact.len(), "of {count} under {mask}");
-            let agree = keyed
-                .iter()
-                .zip(exact.iter())
-                .all(|(a, b)| a.delivery == b.delivery);
-            assert!(rt; agree, "of {count} under {mask}");
-        }
-    }
-    Ok(())
+fn tied_keys_do_not_rise(rt: HostRuntime) {
+    assert!(rt; keys_rise(&[262_143, 262_144, 524_288]));
+    assert!(rt; !keys_rise(&[262_144, 262_145]));
+    assert!(rt; !keys_rise(&[524_288, 262_144]));
 }

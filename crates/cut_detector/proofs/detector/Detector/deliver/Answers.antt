@@ -1,7 +1,7 @@
 -- Each exit of a delivery: settled before, still waiting, settled now.
 use Rattle.std.proofs.Common.{◌+◌, refl, ◌∙◌}
 use Rattle.cut_detector.specs.declared.detector.Detector.TheInside.{Inside}
-use Rattle.cut_detector.proofs.Delivery.{Delivers, takes, history, history-settled, is_some-proposal}
+use Rattle.cut_detector.proofs.History.{Delivers, takes, history, history-settled, is_some-proposal}
 use Rattle.cut_detector.proofs.detector.Detector.deliver.Goals as goal
 
 pub returns-then-is_settled-clause-history : goal.returns-then-is_settled-clause-history

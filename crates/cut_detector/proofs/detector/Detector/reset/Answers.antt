@@ -3,7 +3,7 @@ use Rattle.std.proofs.Common.{[], replicate, ap, sym, subst, ◌∙◌, refl, ar
 use Rattle.cut_detector.specs.declared.detector.Detector.TheInside.{Inside}
 use Rattle.cut_detector.specs.Rule.{rule_in}
 use Rattle.cut_detector.specs.State.{HasDelivered}
-use Rattle.cut_detector.proofs.Delivery.{IsEmpty, IsSound-empty, is_fresh, fresh-delivered}
+use Rattle.cut_detector.proofs.History.{IsEmpty, IsSound-empty, is_fresh, fresh-delivered}
 use Rattle.cut_detector.proofs.detector.Detector.reset.Goals as goal
 
 left : goal.After-self-1 → Inside

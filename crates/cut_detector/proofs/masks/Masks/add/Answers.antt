@@ -1,21 +1,38 @@
 -- The written mask is that of one edge more.
-use Rattle.std.proofs.Common.{◌≡◌, ℕ, ◌*◌, ◌%◌, ◌^◌, ◌<◌, set, get_or, List, All, bit_or, ap, sym, subst, ◌∙◌, arith}
-use Rattle.std.proofs.lemmas.List.{get_or_read}
-use Rattle.cut_detector.specs.Masks.{with_edge}
-use Rattle.cut_detector.proofs.Bits.{below-with_edge, shifted_one}
+use Rattle.std.proofs.Common.{◌*◌, ◌%◌, ◌^◌, ◌<◌, set, length, bit_or, rules, refl, ap, sym, ◌∙◌, arith}
+use Rattle.std.specs.Int.RustNames.{count_ones}
+use Rattle.std.proofs.lemmas.Grind.{get_or-set_at}
+use Rattle.std.proofs.lemmas.List.{length-set}
+use Rattle.cut_detector.proofs.Bits.{mask-read, written, below-written, ones-are}
 use Rattle.cut_detector.proofs.masks.Masks.add.Goals as goal
-
-written : (c : goal.After-self-1) → set c.args.self.now.masks.items c.from-subject.result (bit_or c.index_mut.result.now (1 * 2 ^ c.args.edge.ring % 4294967296)) ≡ with_edge c.args.self.now.masks.items c.args.edge
-written c =
-    let m = c.args.self.now in
-    let old : c.index_mut.result.now ≡ get_or m.masks.items c.args.edge.subject 0 =
-    get_or_read m.masks.items _ _ (omega (arith, m.masks.ok.0)) c.index_mut.ensures.value 0 ∙ ap (λ i. get_or m.masks.items i 0) c.from-subject.ensures in
-    ap (λ i. set m.masks.items i (bit_or c.index_mut.result.now (1 * 2 ^ c.args.edge.ring % 4294967296))) c.from-subject.ensures
-    ∙ ap (λ n. set m.masks.items c.args.edge.subject (bit_or n (1 * 2 ^ c.args.edge.ring % 4294967296))) old
-    ∙ ap (λ n. set m.masks.items c.args.edge.subject (bit_or (get_or m.masks.items c.args.edge.subject 0) n)) (shifted_one c.args.edge.ring m.k c.requires.ring m.few)
 
 pub invariant_of-self-clause-below : goal.invariant_of-self-clause-below
 invariant_of-self-clause-below c =
     let m = c.args.self.now in
-    let P : List ℕ → Type 0 = All (λ mask. mask < 2 ^ m.k) in
-    subst P (sym (written c)) (below-with_edge m.k m.masks.items c.args.edge c.requires.ring (omega (arith, m.masks.ok.0)) m.below)
+    let e = c.args.edge in
+    let old = mask-read m e.subject _ _ c.requires.subject c.from-subject.ensures c.index-before.ensures in
+    below-written m e _ _ c.requires.ring c.requires.subject c.from-subject.ensures old
+
+pub returns-clause-added : goal.returns-clause-added
+returns-clause-added c =
+    let m = c.args.self.now in
+    let old = mask-read m c.args.edge.subject _ _ c.requires.subject c.from-subject.ensures c.index-before.ensures in
+    record { masks = written m c.args.edge _ _ c.requires.ring c.from-subject.ensures old; long = (search rules); k = refl }
+
+pub returns-clause-before : goal.returns-clause-before
+returns-clause-before c =
+    let m = c.args.self.now in
+    let s = c.args.edge.subject in
+    ap count_ones (mask-read m s _ _ c.requires.subject c.from-subject.ensures c.index-before.ensures) ∙ ones-are m.k s m.masks.items m.below (omega (arith, m.masks.ok.0))
+
+pub returns-clause-after : goal.returns-clause-after
+returns-clause-after c =
+    let m = c.args.self.now in
+    let e = c.args.edge in
+    let i = c.from-subject.result in
+    let mask = bit_or c.index-before.result.now (1 * 2 ^ e.ring % 4294967296) in
+    let inside : i < length m.masks.items = omega (arith, m.masks.ok.0, c.requires.subject, c.from-subject.ensures) in
+    let old = mask-read m e.subject _ _ c.requires.subject c.from-subject.ensures c.index-before.ensures in
+    let below = below-written m e _ _ c.requires.ring c.requires.subject c.from-subject.ensures old in
+    let long : e.subject < length (set m.masks.items i mask) = omega (arith, length-set m.masks.items i mask, c.from-subject.ensures, inside) in
+    ap count_ones (sym (get_or-set_at m.masks.items i e.subject mask 0 (sym c.from-subject.ensures) inside)) ∙ ones-are m.k e.subject (set m.masks.items i mask) below long

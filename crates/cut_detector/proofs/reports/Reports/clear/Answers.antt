@@ -3,7 +3,7 @@ use Rattle.std.proofs.Common.{◌≡◌, ◌<◌, ◌==◌, All, vec_len, ap, sy
 use Rattle.std.specs.List.{list_any}
 use Rattle.cut_detector.specs.Rule.{rule_in}
 use Rattle.cut_detector.proofs.Counting.{touched-all}
-use Rattle.cut_detector.proofs.Settling.{reported-touched, HoldsFull-empty}
+use Rattle.cut_detector.proofs.Settling.{reported-touched, HoldsFull_empty}
 use Rattle.cut_detector.proofs.reports.Reports.clear.Goals as goal
 
 pub clear-requires-clause-within : goal.clear-requires-clause-within
@@ -16,9 +16,9 @@ pub clear-requires-clause-alone : goal.clear-requires-clause-alone
 clear-requires-clause-alone c p some =
     let s = c.args.self.now in
     ap (λ xs. list_any (λ q. p == q) xs) c.deref.ensures.value
-    ∙ reported-touched s.rings.now s.tally.rule s.tally.full s.reported s.tally.touched.items (record { k = s.tally.rings; long = s.full_long; holds = s.full }) s.same_rings s.reported_long s.tally.touches p some
+    ∙ reported-touched s p some
 
 pub invariant_of-self-2-clause-full : goal.invariant_of-self-2-clause-full
 invariant_of-self-2-clause-full c =
     let t = c.clear-2.new.self in
-    HoldsFull-empty c.args.self.now.rings.now (rule_in t.rule) _ _ _ _ t.rule.low c.clear.ensures.masks c.clear-2.ensures.full
+    HoldsFull_empty c.args.self.now.rings.now (rule_in t.rule) _ _ _ _ t.rule.low c.clear.ensures.masks c.clear-2.ensures.full

@@ -1,7 +1,7 @@
 -- The touched processes are those of which a ring counts, and then none counts.
-use Rattle.std.proofs.Common.{◌&&◌, ◌<◌, nat_le, nat_lt, ◌==◌, All, vec_len, sym, ap, subst, ◌∙◌, arith}
+use Rattle.std.proofs.Common.{◌<◌, nat_le, ◌==◌, All, vec_len, sym, ap, subst, ◌∙◌, arith}
 use Rattle.std.specs.List.{list_any}
-use Rattle.std.proofs.lemmas.Bool.{lt-leb, and_left}
+use Rattle.std.proofs.lemmas.Bool.{lt-leb}
 use Rattle.cut_detector.proofs.Counting.{processes_with-empty, IsTouched-empty, touched-all, touched-each}
 use Rattle.cut_lists.proofs.Listed.{IsDistinct-empty}
 use Rattle.cut_detector.proofs.tally.Tally.clear.Goals as goal
@@ -21,10 +21,10 @@ invariant_of-self-clause-stable_counted c =
     let t = c.args.self.now in
     processes_with-empty (λ n. nat_le t.rule.h n) c.clear.new.self _ c.clear.ensures.masks (lt-leb t.rule.h 0 (omega (arith, t.rule.low, t.rule.thresholds)))
 
-pub invariant_of-self-clause-unstable_counted : goal.invariant_of-self-clause-unstable_counted
-invariant_of-self-clause-unstable_counted c =
+pub invariant_of-self-clause-marked_counted : goal.invariant_of-self-clause-marked_counted
+invariant_of-self-clause-marked_counted c =
     let t = c.args.self.now in
-    processes_with-empty (λ n. nat_le t.rule.l n && nat_lt n t.rule.h) c.clear.new.self _ c.clear.ensures.masks (and_left _ _ (lt-leb t.rule.l 0 (omega (arith, t.rule.low))))
+    processes_with-empty (λ n. nat_le t.rule.l n) c.clear.new.self _ c.clear.ensures.masks (lt-leb t.rule.l 0 t.rule.low)
 
 pub invariant_of-self-clause-touches : goal.invariant_of-self-clause-touches
 invariant_of-self-clause-touches c = IsTouched-empty c.clear.new.self _ c.clear-2.new.self.items c.clear.ensures.masks c.clear-2.ensures.items
