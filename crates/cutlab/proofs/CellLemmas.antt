@@ -1,18 +1,13 @@
--- The trials of a whole cell are a piece, and have some receivers.
-use Rattle.std.proofs.Common.{◌≡◌, ◌==◌, ◌&&◌, ℕ, zero, suc, ◌+◌, ◌-◌, ◌*◌, ◌/◌, ◌<◌, ◌≤◌, true, nat_lt, nat_le, length, get_or, sym, ap, ◌∙◌, arith, eq-eqb, add-zero}
+-- The trials of a whole cell are a piece.
+use Rattle.std.proofs.Common.{◌≡◌, ◌==◌, ◌&&◌, ℕ, ◌+◌, ◌-◌, ◌*◌, ◌/◌, ◌<◌, ◌≤◌, true, nat_lt, nat_le, length, sym, ap, ◌∙◌, arith, eq-eqb, add-zero}
 use Rattle.std.proofs.Math.Nat.{add-mul}
-use Rattle.std.specs.List.{range_with_len, sum_by}
 use Rattle.std.proofs.lemmas.Bool.{and_from, lt-ltb, le-leb}
 use Rattle.std.proofs.lemmas.Nat.{div-mul-add}
-use Rattle.std.proofs.lemmas.List.Sums.{sum_by-cons}
 use Rattle.std.proofs.Math.Nat.{mul-le-mul_right}
-use Rattle.cut_plan.specs.declared.cell.Cell.{Cell}
 use Rattle.cut_plan.specs.Values.{Values}
 use Rattle.cut_plan.specs.Cells.{cells_of, trial_count}
 use Rattle.cut_plan.specs.Plan.{IsPlan}
-use Rattle.cut_trial.specs.Outcome.{cell_at, no_cell, outcome}
-use Rattle.cut_trial.specs.Sum.{is_piece, sum_of, trials_of_cell}
-use Rattle.cutlab.specs.Table.{cell_numbered}
+use Rattle.cut_trial.specs.Sum.{is_piece}
 
 -- the number of a trial's cell, for the first and the last trial of cell i
 first_cell : (i r : ℕ) → 0 < r → (i * r) / r ≡ i
@@ -30,15 +25,3 @@ whole_cell v i plan below =
     and_from (nat_lt 0 r && nat_le (i * r + r) (trial_count v)) ((i * r) / r == (i * r + r - 1) / r)
     (and_from (nat_lt 0 r) (nat_le (i * r + r) (trial_count v)) (lt-ltb 0 r plan.some_repeats) (le-leb (i * r + r) (trial_count v) ends))
     (eq-eqb ((i * r) / r) ((i * r + r - 1) / r) (first_cell i r plan.some_repeats ∙ sym (last_cell i r plan.some_repeats)))
-
-some_sum : (f : ℕ → ℕ) (a n : ℕ) → 0 < n → 0 < f a → 0 < sum_by f (range_with_len a n)
-some_sum f a zero some here = absurd (omega arith)
-some_sum f a (suc n) some here = omega (arith, here, sum_by-cons f a (range_with_len (a + 1) n))
-
--- a cell that leaves a process has some receivers
-pub some_receivers : (v : Values) (i : ℕ) → IsPlan v → (cell_numbered v i).f < v.nodes → 0 < (sum_of v (trials_of_cell v i)).receivers
-unfolding outcome
-some_receivers v i plan left =
-    let cell : cell_at v (i * v.repeats) ≡ cell_numbered v i = ap (λ n. get_or (cells_of v) n no_cell) (first_cell i v.repeats plan.some_repeats) in
-    some_sum (λ t. v.nodes - (cell_at v t).f) (i * v.repeats) v.repeats plan.some_repeats
-    (omega (arith, left, ap (λ (c : Cell). c.f) cell))

@@ -1,4 +1,3 @@
-pub mod RowLemmas
 pub mod RunLemmas
 pub mod CellLemmas
 pub mod InputLemmas

@@ -9,8 +9,7 @@ use Rattle.cut_plan.specs.declared.refusal.Refusal.TheVariants.{PlanTooLong}
 use Rattle.cut_plan.specs.declared.refusal.PlanFault.{PlanFault}
 use Rattle.cut_plan.specs.declared.refusal.PlanFault.TheVariants as plan
 use Rattle.cut_plan.specs.Refusals as plans
-use Rattle.std.proofs.lemmas.Fmt.{decimal_digit}
-use Rattle.std.specs.Prelude.{codes, ◌++◌, ◌∷◌, ◌≢◌}
+use Rattle.std.specs.Prelude.{◌≢◌}
 use Rattle.std.specs.declared.io.ErrorKind as io
 use Rattle.std.specs.declared.io.ErrorKind.TheVariants.{InvalidData}
 use Rattle.cutlab.specs.Program.{unread_status, unread_text}
@@ -80,10 +79,6 @@ given_front (Some all) text h = plan_of-front all ∙ ap (λ xs. plan_of xs) (sy
 pub refused : (text : List ℕ) (fault : PlanFault) → plans.IsToldOf (plan_of text) fault → IsToldOf text (fault_of_plan fault)
 refused text plan.Memory h = refl
 refused text (plan.Refused refusal) h = h
-
--- the line of want of memory
-pub memory_line : fault_line Memory ≡ codes "cutlab: fault 0 Memory" ++ 10 ∷ []
-memory_line = ap (λ (digits : List ℕ). (codes "cutlab: fault " ++ (digits ++ 32 ∷ codes "Memory")) ++ 10 ∷ []) (decimal_digit 0 (omega arith))
 
 -- words that can't be read for another reason than that one of them is not UTF-8
 pub unread_otherwise : (kind : io.ErrorKind) → kind ≢ InvalidData → (unread_status kind ≡ 5) × (unread_text kind ≡ fault_line Memory)

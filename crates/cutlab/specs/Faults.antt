@@ -1,5 +1,5 @@
 -- The program's faults: their places in the list of faults, their lines, and how the program ends.
-use Rattle.std.specs.Prelude.{ℕ, ◌++◌, List, [], ◌∷◌, Bool, true, false, codes, Result, Ok, Err, ⊤, if◌then◌else◌}
+use Rattle.std.specs.Prelude.{ℕ, ◌++◌, List, [], ◌∷◌, Bool, true, false, codes, Option, Some, None, Result, Ok, Err, ⊤, if◌then◌else◌}
 use Rattle.std.specs.Fmt.{decimal}
 use Rattle.cut_faults.specs.declared.code.FaultCode.{FaultCode}
 use Rattle.cut_faults.specs.declared.code.FaultCode.TheVariants as code
@@ -7,6 +7,8 @@ use Rattle.cut_faults.specs.Codes as codes_of
 use Rattle.cut_faults.specs.Failures.{one_more}
 use Rattle.cut_plan.specs.declared.refusal.PlanFault.{PlanFault}
 use Rattle.cut_plan.specs.declared.refusal.PlanFault.TheVariants as plan
+use Rattle.cut_plan.specs.declared.field.Field.{Field}
+use Rattle.cut_plan.specs.Fields.{name_of}
 use Rattle.cut_plan.specs.Refusals.{code_of_refusal, refusal_text}
 use Rattle.cutlab.specs.declared.fault.CliFault.{CliFault}
 use Rattle.cutlab.specs.declared.fault.CliFault.TheVariants.{Memory, Plan, Read, Write}
@@ -30,6 +32,11 @@ status_of fault = codes_of.status_of (code_of fault)
 abbrev pub status_of_end : Result ⊤ CliFault → ℕ
 status_of_end (Ok done) = 0
 status_of_end (Err fault) = status_of fault
+
+-- a blank and a field's name, where there is a field
+abbrev pub field_words : Option Field → List ℕ
+field_words None = []
+field_words (Some field) = 32 ∷ name_of field
 
 -- what a fault says of itself: number, name, and what it carries
 abbrev pub words_of : CliFault → List ℕ

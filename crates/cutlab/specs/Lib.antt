@@ -1,5 +1,4 @@
 pub mod Faults
-pub mod Table
 pub mod Check
 pub mod Line
 pub mod Watched

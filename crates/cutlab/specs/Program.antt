@@ -52,11 +52,10 @@ pub record IsUnread (s : Stream) : Type 0 where
   pub none_failed : s.failures_after ≡ s.failures_before
 
 -- how the end of a command is told on the errors and by the status: nothing and 0 where it was done, else
--- the fault's line and status; where memory for the line was refused, that is told in its place
+-- the fault's line and status
 abbrev pub TellsEnd : Result ⊤ CliFault → Stream → ℕ → Type 0
 TellsEnd (Ok done) errors status = IsWhole [] errors × (status ≡ 0)
-TellsEnd (Err fault) errors status =
-    (told : CliFault) × ((told ≡ fault) ⊎ (told ≡ Memory)) × IsSent (fault_line told) errors × (status ≡ status_of told)
+TellsEnd (Err fault) errors status = IsSent (fault_line fault) errors × (status ≡ status_of fault)
 
 -- the words name a job, and clap finds no fault in them: the job ran, and its end is told
 pub record RunsJob (words : List (List ℕ)) (input output errors : Stream) (status : ℕ) : Type 0 where

@@ -7,7 +7,7 @@ use Rattle.cut_plan.specs.declared.refusal.Refusal.TheVariants.{NotJson, PlanToo
 use Rattle.cut_plan.specs.Values.{Values}
 use Rattle.cut_plan.specs.Accepted.{plan_of}
 use Rattle.cutlab.specs.Faults.{is_write}
-use Rattle.cutlab.specs.Table.{table}
+use Rattle.cut_lines.specs.Lines.{table}
 use Rattle.cutlab.specs.Check.{check_text}
 use Rattle.cutlab.specs.declared.line.Job.{Job}
 use Rattle.cutlab.specs.declared.line.Job.TheVariants.{Run, Check}

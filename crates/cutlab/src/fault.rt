@@ -1,12 +1,18 @@
-ghost use Rattle.std.specs.Prelude.{◌≡◌};
-ghost use Rattle.cutlab.specs.Faults.{code_of, number_of, status_of};
+ghost use Rattle.std.specs.Prelude.{◌≡◌, ◌≤◌, ◌++◌, ◌∷◌, length};
+ghost use Rattle.std.specs.Fmt.{decimal};
+ghost use Rattle.cutlab.specs.Faults.{code_of, number_of, status_of, fault_text, field_words};
 
 use crate::send::Sent;
+use arrayvec::ArrayString;
 use cut_faults::FaultCode;
-use cut_plan::{PlanFault, Refusal};
+use cut_plan::{Field, PlanFault, Refusal};
+use itoa::Buffer;
 use std::alloc::AllocError;
 use std::fmt;
 use thiserror::Error;
+
+/// A printed fault, or its line, which lies in the value itself.
+pub type FaultText = ArrayString<64>;
 
 /// Why a command of the program ended without its answer. Printed, it is the line that the program
 /// writes on standard error.
@@ -49,6 +55,49 @@ impl CliFault {
     {
         self.code().status()
     }
+
+    /// The fault as it is printed: its number, its name and what it carries. This takes no memory.
+    pub fn text(&self) -> FaultText
+        ensures text { result.bytes ≡ fault_text self.now }
+        ensures short { length result.bytes ≤ 58 }
+    {
+        let code = self.code();
+        let mut digits = Buffer::new();
+        let mut text = FaultText::new();
+        text.push_str("cutlab: fault ");
+        text.push_str(digits.format(code.number()));
+        text.push_str(" ");
+        text.push_str(code.name());
+        match self {
+            CliFault::Plan(refusal) => push_field(&mut text, refusal.field()),
+            CliFault::Write(sent) => push_number(&mut text, *sent),
+            CliFault::Memory | CliFault::Read => {}
+        }
+        text
+    }
+}
+
+/// Adds a blank and the field that a refusal carries, if it carries one.
+fn push_field(text: &mut FaultText, field: Option<Field>)
+    requires { length text.old.bytes ≤ 37 }
+    ensures text { text.new.bytes ≡ text.old.bytes ++ field_words field }
+    ensures short { length text.new.bytes ≤ 58 }
+{
+    if let Some(field) = field {
+        text.push_str(" ");
+        text.push_str(field.name());
+    }
+}
+
+/// Adds a blank and a number in decimal.
+fn push_number(text: &mut FaultText, number: u64)
+    requires { length text.old.bytes ≤ 37 }
+    ensures text { text.new.bytes ≡ text.old.bytes ++ 32 ∷ decimal number }
+    ensures short { length text.new.bytes ≤ 58 }
+{
+    let mut digits = Buffer::new();
+    text.push_str(" ");
+    text.push_str(digits.format(number));
 }
 
 impl fmt::Display for CliFault {
@@ -58,12 +107,7 @@ impl fmt::Display for CliFault {
     ghost output = { λ fault. Some (fault_text fault) };
 
     fn fmt<W: fmt::Write>(&self, f: &mut fmt::Formatter<W>) -> fmt::Result {
-        let code = self.code();
-        match self {
-            CliFault::Plan(refusal) => write!(f, "cutlab: fault {refusal}"),
-            CliFault::Write(sent) => write!(f, "cutlab: fault {code} {sent}"),
-            CliFault::Memory | CliFault::Read => write!(f, "cutlab: fault {code}"),
-        }
+        f.write_str(self.text().as_str())
     }
 }
 

@@ -7,7 +7,6 @@ mod fault;
 mod input;
 mod line;
 mod program;
-mod row;
 mod run;
 mod send;
 mod table;

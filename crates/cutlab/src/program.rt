@@ -1,17 +1,15 @@
 //! The program, over its words and streams.
-ghost use Rattle.std.specs.Prelude.{◌≡◌, map, length, string_bytes, Result, ⊤, IfOk, IfErr};
-ghost use Rattle.cutlab.specs.Faults.{fault_line, status_of};
+ghost use Rattle.std.specs.Prelude.{◌≡◌, map, string_bytes, Result, ⊤};
+ghost use Rattle.cutlab.specs.Faults.{fault_line};
 ghost use Rattle.cutlab.specs.Program.{stream_of, HasEnded, IsSent, TellsEnd, TellsLine, unread_status, unread_text};
 
 use crate::run::answer;
 use crate::send::send_all;
 use crate::{CliFault, Counted, LineFault, parse_line};
-use std::alloc::{AllocError, Global};
+use std::alloc::Global;
 use std::convert::AsStr;
 use std::io::{ErrorKind, Read, Write};
 
-/// The line of want of memory, which is told without memory.
-const MEMORY_LINE: &[u8] = b"cutlab: fault 0 Memory\n";
 /// The line of a word that is not UTF-8.
 const UNREADABLE_LINE: &[u8] = b"error: a word of the command line is not UTF-8\n";
 
@@ -33,48 +31,34 @@ pub fn run_words<S: AsStr, R: Read, W: Write, E: Write>(
     match parse_line(alloc, words) {
         Ok(job) => {
             let ended = answer(alloc, job, input, output);
-            end(alloc, ended, errors)
+            end(ended, errors)
         }
-        Err(fault) => end_line(alloc, &fault, output, errors),
+        Err(fault) => end_line(&fault, output, errors),
     }
 }
 
 /// Ends as a command did.
-fn end<E: Write>(alloc: Global, ended: Result<(), CliFault>, errors: &mut Counted<E>) -> u8
+fn end<E: Write>(ended: Result<(), CliFault>, errors: &mut Counted<E>) -> u8
     ensures { TellsEnd ended (stream_of E.contents errors.old errors.new) result }
 {
     match ended {
         Ok(()) => 0,
-        Err(fault) => end_fault(alloc, fault, errors),
+        Err(fault) => end_fault(&fault, errors),
     }
 }
 
-/// Ends with a fault, which is told by its line; where memory for the line is refused, that is told.
-fn end_fault<E: Write>(alloc: Global, fault: CliFault, errors: &mut Counted<E>) -> u8
-    ensures { TellsEnd (Err fault) (stream_of E.contents errors.old errors.new) result }
+/// Ends with a fault, which is told by its line. This takes no memory.
+fn end_fault<E: Write>(fault: &CliFault, errors: &mut Counted<E>) -> u8
+    ensures { TellsEnd (Err fault.now) (stream_of E.contents errors.old errors.new) result }
 {
-    match line_of(alloc, &fault) {
-        Ok(line) => {
-            let _ = send_all(errors, line.as_bytes());
-            fault.status()
-        }
-        Err(_) => {
-            let _ = send_all(errors, MEMORY_LINE);
-            CliFault::Memory.status()
-        }
-    }
-}
-
-/// The line of a fault.
-fn line_of(alloc: Global, fault: &CliFault) -> Result<String, AllocError>
-    ensures { IfOk result (λ line. string_bytes line ≡ fault_line fault.now) }
-{
-    format!(in alloc; "{fault}\n")
+    let mut line = fault.text();
+    line.push_str("\n");
+    let _ = send_all(errors, line.as_bytes());
+    fault.status()
 }
 
 /// Ends where the words name no job: help goes to the output, and a mistake to the errors.
 fn end_line<W: Write, E: Write>(
-    alloc: Global,
     fault: &LineFault,
     output: &mut Counted<W>,
     errors: &mut Counted<E>,
@@ -84,12 +68,12 @@ fn end_line<W: Write, E: Write>(
 {
     let text = fault.text.as_bytes();
     if text.is_empty() {
-        return end_fault(alloc, CliFault::Memory, errors);
+        return end_fault(&CliFault::Memory, errors);
     }
     if fault.status == 0 {
         return match send_all(output, text) {
             Ok(()) => 0,
-            Err(sent) => end_fault(alloc, CliFault::from(sent), errors),
+            Err(sent) => end_fault(&CliFault::Write(sent.bytes), errors),
         };
     }
     let _ = send_all(errors, text);
@@ -106,9 +90,6 @@ pub fn end_unread<E: Write>(kind: ErrorKind, errors: &mut Counted<E>) -> u8
             let _ = send_all(errors, UNREADABLE_LINE);
             2
         }
-        _ => {
-            let _ = send_all(errors, MEMORY_LINE);
-            5
-        }
+        _ => end_fault(&CliFault::Memory, errors),
     }
 }

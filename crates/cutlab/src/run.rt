@@ -1,6 +1,6 @@
 ghost use Rattle.std.specs.Prelude.{◌≡◌, ◌++◌, ◌<◌, ℕ, length, take, string_bytes, IfOk, IfErr, OnOk};
 ghost use Rattle.std.specs.Io.KnownBytes.{Appends};
-ghost use Rattle.cutlab.specs.Table.{table};
+ghost use Rattle.cut_lines.specs.Lines.{table};
 ghost use Rattle.cutlab.specs.Check.{check_text, number_line};
 ghost use Rattle.cutlab.specs.Faults.{failed_reads, failed_writes};
 ghost use Rattle.cutlab.specs.Run.{Ends, GivesPlan, ConsumesAtMost, IsToldAtSight, answer_of};

@@ -1,11 +1,10 @@
-use Rattle.std.proofs.Common.{◌≡◌, ◌*◌, ◌<◌, ℕ, Bool, Result, Err, sym, ap, ◌∙◌, subst}
+use Rattle.std.proofs.Common.{◌*◌, ℕ, Bool, Result, Err, ap, ◌∙◌}
 use Rattle.std.specs.List.{range_with_len}
 use Rattle.std.proofs.lemmas.Bool.{both_ways}
 use Rattle.cut_trial.specs.Computed.{Computed}
 use Rattle.cut_trial.specs.declared.fault.TrialFault.{TrialFault}
-use Rattle.cut_trial.specs.declared.totals.Totals.{Totals}
-use Rattle.cut_trial.specs.Sum.{is_piece, sum_of, trials_in, trials_of_cell}
-use Rattle.cutlab.proofs.CellLemmas.{whole_cell, some_receivers}
+use Rattle.cut_trial.specs.Sum.{is_piece, sum_of, trials_in}
+use Rattle.cutlab.proofs.CellLemmas.{whole_cell}
 use Rattle.cutlab.proofs.table.cell_totals.Goals as goal
 
 pub unreachable-requires : goal.unreachable-requires
@@ -21,11 +20,3 @@ returns-in-Ok-clause-value c =
     let v = c.args.plan.now in
     c.totals.ensures.value ∙ ap (λ (r : Computed). sum_of r.plan (trials_in r.piece)) c.in-Ok.ensures.ok
     ∙ ap (λ r. sum_of v (range_with_len (c.args.number * r) r)) c.repeats-repeats.ensures.value
-
-pub returns-in-Ok-clause-some : goal.returns-in-Ok-clause-some
-returns-in-Ok-clause-some c =
-    let v = c.args.plan.now in
-    let is : c.totals.result ≡ sum_of v (trials_of_cell v c.args.number) =
-    c.totals.ensures.value ∙ ap (λ (r : Computed). sum_of r.plan (trials_in r.piece)) c.in-Ok.ensures.ok
-    ∙ ap (λ r. sum_of v (range_with_len (c.args.number * r) r)) c.repeats-repeats.ensures.value in
-    subst (λ (x : Totals). 0 < x.receivers) (sym is) (some_receivers v c.args.number c.repeats-repeats.ensures.plan c.requires.left)

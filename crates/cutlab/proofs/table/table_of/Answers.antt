@@ -3,7 +3,7 @@ use Rattle.std.specs.List.{range_with_len, flat_map}
 use Rattle.std.proofs.lemmas.List.Concat.{flat_map-append}
 use Rattle.cut_plan.specs.Cells.{cells_of}
 use Rattle.cut_lists.proofs.Ranges.{range_with_len_more}
-use Rattle.cutlab.specs.Table.{header, line_of, table}
+use Rattle.cut_lines.specs.Lines.{header, line_of, table}
 use Rattle.cutlab.proofs.table.table_of.Goals as goal
 
 pub loop-number-preserved : goal.loop-number-preserved

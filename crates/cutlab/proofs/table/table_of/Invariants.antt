@@ -1,6 +1,6 @@
 use Rattle.std.proofs.Common.{◌≡◌, ◌++◌}
 use Rattle.std.specs.List.{range_with_len, flat_map}
-use Rattle.cutlab.specs.Table.{header, line_of}
+use Rattle.cut_lines.specs.Lines.{header, line_of}
 use Rattle.cutlab.proofs.table.table_of.Given as goal
 
 abbrev pub invariant-loop-number : goal.invariant-loop-number

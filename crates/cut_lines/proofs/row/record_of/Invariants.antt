@@ -1,7 +1,7 @@
 use Rattle.std.proofs.Common.{◌≡◌, [], take, map}
 use Rattle.std.specs.Fmt.{decimal}
 use Rattle.csv.specs.Records.{fields_of, partial_of}
-use Rattle.cutlab.proofs.row.record_of.Given as goal
+use Rattle.cut_lines.proofs.row.record_of.Given as goal
 
 abbrev pub invariant-loop-number : goal.invariant-loop-number
 invariant-loop-number l = record {

@@ -18,7 +18,7 @@ comma_line numbers = join_with_byte 44 (map decimal numbers) ++ 10 ∷ []
 abbrev pub header : List ℕ
 header = codes "k,h,l,f,trials,receivers,conflicts,silent,extra,votes,decided,right,ppm" ++ 10 ∷ []
 
--- conflicts in a million receivers, rounded down
+-- conflicts in a million receivers, rounded down; 0 where there are no receivers
 abbrev pub ppm_of : Totals → ℕ
 ppm_of x = x.conflicts * 1000000 / x.receivers
 
@@ -32,9 +32,13 @@ columns v c x =
 abbrev pub cell_numbered : Values → ℕ → Cell
 cell_numbered v i = slice_index_or (cells_of v) i no_cell
 
+-- the line of a cell, with these sums over its trials
+abbrev pub line_with : Values → ℕ → Totals → List ℕ
+line_with v i x = comma_line (columns v (cell_numbered v i) x)
+
 -- the line of a cell
 abbrev pub line_of : Values → ℕ → List ℕ
-line_of v i = comma_line (columns v (cell_numbered v i) (sum_of v (trials_of_cell v i)))
+line_of v i = line_with v i (sum_of v (trials_of_cell v i))
 
 -- the header, and the lines of the cells in order
 unfoldable pub table : Values → List ℕ

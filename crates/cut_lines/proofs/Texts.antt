@@ -1,12 +1,12 @@
 -- The text of a record of numbers has no quotes.
-use Rattle.std.proofs.Common.{◌≡◌, ◌==◌, ◌||◌, ℕ, suc, get_or, append-nil, ◌+◌, ◌%◌, length-append, ◌<◌, ◌≤◌, false, cond, List, [], ◌∷◌, ◌++◌, length, map, ◌^◌, refl, ap, ◌∙◌, arith}
+use Rattle.std.proofs.Common.{◌≡◌, ◌==◌, ◌||◌, ℕ, suc, get_or, append-nil, ◌+◌, ◌*◌, ◌%◌, length-append, ◌<◌, ◌≤◌, false, cond, List, [], ◌∷◌, ◌++◌, length, map, ◌^◌, refl, ap, ◌∙◌, arith}
 use Rattle.std.specs.Fmt.{decimal}
 use Rattle.std.specs.List.{list_any, join_with_byte}
 use Rattle.csv.specs.Writing.{default_writer, needs_byte, field_text, quoted, fields_text, is_blank, row_body, row_text}
 use Rattle.std.proofs.lemmas.Bool.{or_from, ne_eqb}
-use Rattle.std.proofs.lemmas.Fmt.{decimal_by_steps}
+use Rattle.std.proofs.lemmas.Fmt.{decimal_by_steps, length-decimal-le}
 use Rattle.std.proofs.lemmas.List.Folds.{list_any-append}
-use Rattle.cutlab.specs.Table.{comma_line}
+use Rattle.cut_lines.specs.Lines.{comma_line}
 
 digit_needs_none : (b : ℕ) → 48 ≤ b → b ≤ 57 → needs_byte default_writer b ≡ false
 digit_needs_none b low high =
@@ -68,3 +68,16 @@ row_text-numbers n ns fit =
 pub numbers_line : (ns : List ℕ) → 0 < length ns → ((k : ℕ) → k < length ns → get_or ns k 0 < 2 ^ 64) → row_text default_writer (map decimal ns) ≡ comma_line ns
 numbers_line [] some fit = absurd (omega arith)
 numbers_line (n ∷ ns) some fit = row_text-numbers n ns fit
+
+short_decimal : (n : ℕ) → n < 2 ^ 64 → length (decimal n) ≤ 20
+short_decimal n fits = length-decimal-le 20 n (omega arith) (omega (arith, fits)) fits
+
+-- a line has at most 20 digits and one other byte for each number
+pub short_line : (ns : List ℕ) → 0 < length ns → ((k : ℕ) → k < length ns → get_or ns k 0 < 2 ^ 64) → length (comma_line ns) ≤ 21 * length ns
+short_line [] some fit = absurd (omega arith)
+short_line (n ∷ []) some fit = omega (arith, short_decimal n (fit 0 (omega arith)), length-append (decimal n) (10 ∷ []))
+short_line (n ∷ m ∷ ns) some fit =
+    let rest : List ℕ = join_with_byte 44 (map decimal (m ∷ ns)) in
+    let whole : length (comma_line (n ∷ m ∷ ns)) ≡ length (decimal n) + (length rest + 1 + 1) =
+    length-append (decimal n ++ 44 ∷ rest) (10 ∷ []) ∙ (let w = length-append (decimal n) (44 ∷ rest) in omega (arith, w)) in
+    omega (arith, whole, length-append rest (10 ∷ []), short_decimal n (fit 0 (omega arith)), short_line (m ∷ ns) (omega arith) (λ k low. fit (suc k) (omega arith)))

@@ -1,7 +1,7 @@
-ghost use Rattle.std.specs.Prelude.{◌≡◌, ◌<◌, length, map, IfOk};
+ghost use Rattle.std.specs.Prelude.{◌≡◌, ◌*◌, ◌<◌, ◌≤◌, length, map, IfOk};
 ghost use Rattle.std.specs.Fmt.{decimal};
 ghost use Rattle.csv.specs.Records.{fields_of};
-ghost use Rattle.cutlab.specs.Table.{comma_line};
+ghost use Rattle.cut_lines.specs.Lines.{comma_line};
 
 use csv::{ByteRecord, WriterBuilder};
 use std::alloc::{AllocError, Global};
@@ -9,7 +9,8 @@ use std::alloc::{AllocError, Global};
 /// A line of a table: numbers in decimal with commas between them, and a line feed.
 pub(crate) fn row(alloc: Global, numbers: &[u64]) -> Result<Vec<u8>, AllocError>
     requires { 0 < length numbers.now }
-    ensures { IfOk result (λ text. text.items ≡ comma_line numbers.now) }
+    ensures text { IfOk result (λ text. text.items ≡ comma_line numbers.now) }
+    ensures short { IfOk result (λ text. length text.items ≤ 21 * length numbers.now) }
 {
     let record = record_of(alloc, numbers)?;
     let mut writer = WriterBuilder::new().from_writer(Vec::new(alloc));

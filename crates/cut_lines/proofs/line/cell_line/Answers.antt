@@ -1,0 +1,22 @@
+use Rattle.std.proofs.Common.{◌≡◌, ℕ, List, [], ◌∷◌, IfOk, ap, sym, ◌∙◌, subst}
+use Rattle.std.proofs.lemmas.Option.{get_or_from_slice_get}
+use Rattle.cut_plan.specs.declared.cell.Cell.{Cell}
+use Rattle.cut_plan.specs.Cells.{cells_of}
+use Rattle.cut_trial.specs.declared.totals.Totals.{Totals}
+use Rattle.cut_trial.specs.Outcome.{no_cell}
+use Rattle.cut_lines.specs.Lines.{comma_line, columns, cell_numbered, line_with}
+use Rattle.cut_lines.proofs.line.cell_line.Goals as goal
+
+pub returns-clause-line : goal.returns-clause-line
+returns-clause-line c =
+    let v = c.args.plan.now in
+    let x : Totals = c.args.totals in
+    let cell_is : c.cell-cell.result ≡ cell_numbered v c.args.number = sym (get_or_from_slice_get (cells_of v) c.args.number c.cell-cell.result no_cell c.cell-cell.ensures.value) in
+    let written : List ℕ =
+    c.from.result ∷ c.from-2.result ∷ c.from-3.result ∷ c.from-4.result ∷ c.from-5.result ∷ x.receivers ∷ x.conflicts ∷ x.silent
+    ∷ x.extra ∷ x.votes ∷ x.decided ∷ x.right ∷ c.ppm_of.result ∷ [] in
+    let repeats : c.from-5.result ≡ v.repeats = c.from-5.ensures ∙ c.repeats.ensures.value in
+    let by_cell : written ≡ columns v c.cell-cell.result x = cc (c.from.ensures, c.from-2.ensures, c.from-3.ensures, c.from-4.ensures, repeats, c.ppm_of.ensures) in
+    let line : comma_line written ≡ line_with v c.args.number x =
+    ap (λ (xs : List ℕ). comma_line xs) by_cell ∙ ap (λ (d : Cell). comma_line (columns v d x)) cell_is in
+    subst (λ (xs : List ℕ). IfOk c.row.result (λ line. line.items ≡ xs)) line c.row.ensures.text

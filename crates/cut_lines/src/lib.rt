@@ -1,0 +1,12 @@
+//! The lines of a study's table: the header, and the line of a cell with the sums over its trials.
+//!
+//! A table is comma-separated values, in decimal and without quotes, each line with a line feed. It is
+//! what the program prints, and what a server's replies carry, so its text stands here alone.
+#![tactic(auto)]
+
+mod line;
+mod row;
+#[cfg(test)]
+mod tests;
+
+pub use line::{cell_line, header};
