@@ -1,0 +1,127 @@
+-- What can be written of a table, and what has been: a front of it.
+use Rattle.std.proofs.Common.{◌≡◌, ℕ, ◌+◌, ◌*◌, ◌<◌, ◌≤◌, Bool, true, false, cond, List, [], ◌∷◌, ◌++◌, length, take, drop, refl, sym, ap, ◌∙◌, arith, append_assoc, length-append, length-take-le, take-append-drop}
+use Rattle.std.specs.List.{range_with_len, flat_map, list_all, take_while, prefix_len}
+use Rattle.std.proofs.Math.Nat.{mul-le-mul_right, add-mul}
+use Rattle.std.proofs.Math.Seq.{take-append_seam}
+use Rattle.std.proofs.lemmas.List.{take-append-le}
+use Rattle.std.proofs.lemmas.Bool.{and_parts}
+use Rattle.std.proofs.lemmas.List.Concat.{flat_map-append, flat_map-cons}
+use Rattle.std.proofs.lemmas.List.Sums.{take_while-cons}
+use Rattle.cut_plan.specs.Values.{Values}
+use Rattle.cut_plan.specs.Cells.{cells_of, trial_count}
+use Rattle.cut_trial.specs.declared.totals.Totals.{Totals}
+use Rattle.cut_trial.specs.Sum.{trials_of_cell}
+use Rattle.cut_lines.specs.Lines.{header, line_of, line_with, table}
+use Rattle.cut_ledger.specs.Contents.{Contents, has, cell_done, cell_sum, is_complete, all_trials}
+use Rattle.cut_ledger.specs.Machine.{available}
+use Rattle.cut_ledger.specs.Reached.{IsFounded}
+use Rattle.cut_ledger.proofs.LawSums.{done_sums, passes_at}
+use Rattle.cut_ledger.proofs.Numbers.{list_all_passing}
+
+-- ---- fronts of lists
+
+-- two words that agree where a test passes, on the front that passes
+flat_map_front : {X Y : Type 0} (f g : X → List Y) (p : X → Bool) (xs : List X) → ((x : X) → p x ≡ true → f x ≡ g x) → flat_map f (take_while p xs) ≡ flat_map g (take_while p xs)
+flat_map_front f g p [] same = refl
+flat_map_front {X} {Y} f g p (x ∷ xs) same = go (p x) refl (flat_map_front f g p xs same)
+  where
+    front : (b : Bool) → p x ≡ b → take_while p (x ∷ xs) ≡ cond b (x ∷ take_while p xs) []
+    front b is = take_while-cons p x xs ∙ ap (λ c. cond c (x ∷ take_while p xs) []) is
+    go : (b : Bool) → p x ≡ b → flat_map f (take_while p xs) ≡ flat_map g (take_while p xs) → flat_map f (take_while p (x ∷ xs)) ≡ flat_map g (take_while p (x ∷ xs))
+    go true is rest =
+        ap (flat_map f) (front true is) ∙ flat_map-cons f x (take_while p xs)
+        ∙ ap (λ ys. ys ++ flat_map f (take_while p xs)) (same x is) ∙ ap (λ ys. g x ++ ys) rest
+        ∙ sym (ap (flat_map g) (front true is) ∙ flat_map-cons g x (take_while p xs))
+    go false is rest = ap (flat_map f) (front false is) ∙ sym (ap (flat_map g) (front false is))
+
+-- the front grows with what passes
+longer_front : {X Y : Type 0} (f : X → List Y) (p q : X → Bool) (xs : List X) → ((x : X) → p x ≡ true → q x ≡ true) → length (flat_map f (take_while p xs)) ≤ length (flat_map f (take_while q xs))
+longer_front f p q [] more = omega arith
+longer_front {X} {Y} f p q (x ∷ xs) more = go (p x) refl (longer_front f p q xs more)
+  where
+    front : (r : X → Bool) (b : Bool) → r x ≡ b → take_while r (x ∷ xs) ≡ cond b (x ∷ take_while r xs) []
+    front r b is = take_while-cons r x xs ∙ ap (λ c. cond c (x ∷ take_while r xs) []) is
+    long : (r : X → Bool) → r x ≡ true → length (flat_map f (take_while r (x ∷ xs))) ≡ length (f x) + length (flat_map f (take_while r xs))
+    long r is = ap (λ ys. length (flat_map f ys)) (front r true is) ∙ ap (λ ys. length ys) (flat_map-cons f x (take_while r xs)) ∙ length-append (f x) (flat_map f (take_while r xs))
+    go : (b : Bool) → p x ≡ b → length (flat_map f (take_while p xs)) ≤ length (flat_map f (take_while q xs)) → length (flat_map f (take_while p (x ∷ xs))) ≤ length (flat_map f (take_while q (x ∷ xs)))
+    go true is rest = omega (arith, rest, long p is, long q (more x is))
+    go false is rest = omega (arith, ap (λ ys. length (flat_map f ys)) (front p false is))
+
+-- where all passes the front is the whole
+whole_front : {X : Type 0} (p : X → Bool) (xs : List X) → list_all p xs ≡ true → take_while p xs ≡ xs
+whole_front p [] all = refl
+whole_front {X} p (x ∷ xs) all =
+    let parts = and_parts (p x) (list_all p xs) all in
+    take_while-cons p x xs ∙ ap (λ c. cond c (x ∷ take_while p xs) []) parts.0 ∙ ap (λ ys. x ∷ ys) (whole_front p xs parts.1)
+
+-- ---- what can be written
+
+-- a trial of a cell of the plan is one of the plan
+in_plan : (c n r t : ℕ) → c < n → t < c * r + r → t < n * r
+in_plan c n r t low at = let le : (c + 1) * r ≤ n * r = mul-le-mul_right r (omega (arith, low)) in omega (arith, le, add-mul c 1 r, at)
+
+-- the lines of the cells in front that are done, as the table has them
+abbrev pub lines_done : Values → Contents → List ℕ
+lines_done v l = flat_map (λ c. line_of v c) (take_while (cell_done l) (range_with_len 0 (length (cells_of v))))
+
+pub available_is : (v : Values) (l : Contents) → IsFounded v l → available l ≡ header ++ lines_done v l
+available_is v l sound =
+    ap (λ w. header ++ flat_map (λ c. line_with w c (cell_sum l c)) (take_while (cell_done l) (range_with_len 0 (length (cells_of w))))) sound.plan
+    ∙ ap (λ ys. header ++ ys) (flat_map_front (λ c. line_with v c (cell_sum l c)) (λ c. line_of v c) (cell_done l) (range_with_len 0 (length (cells_of v)))
+        (λ c done. ap (λ (x : Totals). line_with v c x) (done_sums v l c sound.plan sound.some sound.base sound.apart done)))
+
+-- it is a front of the table
+pub available_front : (v : Values) (l : Contents) → IsFounded v l → (rest : List ℕ) × (table v ≡ available l ++ rest)
+unfolding table
+available_front v l sound =
+    let all : List ℕ = range_with_len 0 (length (cells_of v)) in
+    let n : ℕ = prefix_len (cell_done l) all in
+    let lines : List ℕ → List ℕ = λ cs. flat_map (λ c. line_of v c) cs in
+    (lines (drop n all),
+    ap (λ cs. header ++ lines cs) (sym (take-append-drop n all)) ∙ ap (λ ys. header ++ ys) (flat_map-append (λ c. line_of v c) (take n all) (drop n all))
+    ∙ sym (append_assoc header (lines (take n all)) (lines (drop n all)))
+    ∙ ap (λ ys. ys ++ lines (drop n all)) (sym (available_is v l sound)))
+
+-- and grows with what is held
+pub available_grows : (v : Values) (k l : Contents) → IsFounded v k → IsFounded v l → ((c : ℕ) → cell_done k c ≡ true → cell_done l c ≡ true) → length (available k) ≤ length (available l)
+available_grows v k l fewer more grows =
+    let longer = longer_front (λ c. line_of v c) (cell_done k) (cell_done l) (range_with_len 0 (length (cells_of v))) grows in
+    omega (arith, longer,
+    ap (λ ys. length ys) (available_is v k fewer), length-append header (lines_done v k),
+    ap (λ ys. length ys) (available_is v l more), length-append header (lines_done v l))
+
+-- where every trial is held it is the table
+pub available_whole : (v : Values) (l : Contents) → IsFounded v l → is_complete l ≡ true → available l ≡ table v
+unfolding table
+available_whole v l sound complete =
+    let held : (t : ℕ) → t < trial_count v → has l t ≡ true = λ t low.
+    passes_at (has l) 0 (trial_count v) (ap (λ w. list_all (has l) (all_trials w)) (sym sound.plan) ∙ complete) t (omega arith) (omega (arith, low)) in
+    let done : (c : ℕ) → 0 ≤ c → c < 0 + length (cells_of v) → cell_done l c ≡ true = λ c low high.
+    ap (λ w. list_all (has l) (trials_of_cell w c)) sound.plan
+        ∙ list_all_passing (has l) (c * v.repeats) v.repeats (λ t from to. held t (in_plan c (length (cells_of v)) v.repeats t (omega (arith, high)) to)) in
+    available_is v l sound
+    ∙ ap (λ cs. header ++ flat_map (λ c. line_of v c) cs) (whole_front (cell_done l) (range_with_len 0 (length (cells_of v))) (list_all_passing (cell_done l) 0 (length (cells_of v)) done))
+
+-- ---- what has been written
+
+-- the first bytes of a text have been written, no more than a front of it has
+pub record Written (text : List ℕ) (sent : ℕ) (bytes : List ℕ) (front : List ℕ) : Type 0 where
+  pub within : sent ≤ length front
+  pub first : bytes ≡ take sent text
+
+pub written_more : (text front rest bytes : List ℕ) (sent n : ℕ) → text ≡ front ++ rest → Written text sent bytes front
+    → Written text (sent + length (take n (drop sent front))) (bytes ++ take n (drop sent front)) front
+written_more text front rest bytes sent n whole before =
+    let more : List ℕ = take n (drop sent front) in
+    let last : List ℕ = drop n (drop sent front) in
+    let first : List ℕ = take sent front in
+    let split : front ≡ (first ++ more) ++ last = sym (take-append-drop sent front) ∙ ap (λ xs. first ++ xs) (sym (take-append-drop n (drop sent front))) ∙ sym (append_assoc first more last) in
+    let long : length first ≡ sent = length-take-le sent front before.within in
+    let size : length (first ++ more) ≡ sent + length more = length-append first more ∙ ap (λ k. k + length more) long in
+    let text_is : text ≡ (first ++ more) ++ (last ++ rest) = whole ∙ ap (λ xs. xs ++ rest) split ∙ append_assoc (first ++ more) last rest in
+    let start : take sent text ≡ first = ap (λ xs. take sent xs) whole ∙ take-append-le sent front rest before.within in
+    record {
+      within = omega (arith, size, length-append (first ++ more) last, ap (λ xs. length xs) split);
+      first = ap (λ xs. xs ++ more) (before.first ∙ start)
+          ∙ sym (ap (λ xs. take (sent + length more) xs) text_is ∙ ap (λ k. take k ((first ++ more) ++ (last ++ rest))) (sym size) ∙ take-append_seam (first ++ more) (last ++ rest));
+    }

@@ -1,0 +1,14 @@
+pub mod Numbers
+pub mod RangeLemmas
+pub mod GapLemmas
+pub mod LawSums
+pub mod LawBytes
+pub mod Law
+pub mod Events
+pub mod CellLemmas
+pub mod AddLemmas
+pub mod SlipLemmas
+pub mod RefusalLemmas
+pub mod TrueSlips
+pub mod GapPieces
+pub mod CoverLemmas

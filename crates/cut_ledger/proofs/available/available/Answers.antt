@@ -1,0 +1,55 @@
+use Rattle.std.proofs.Common.{◌≡◌, ◌∙◌, ◌≤◌, ◌+◌, ◌++◌, ◌∷◌, [], ℕ, zero, suc, List, length, take, refl, ap, sym, zero-add, arith, append_assoc, append-nil}
+use Rattle.std.specs.List.{range_with_len, prefix_len, flat_map}
+use Rattle.std.proofs.lemmas.List.Concat.{flat_map-append}
+use Rattle.std.proofs.lemmas.List.FromFn.{length-range_with_len}
+use Rattle.std.proofs.lemmas.List.Sums.{prefix_len-le-length}
+use Rattle.cut_lists.proofs.Ranges.{range_with_len_more}
+use Rattle.cut_plan.specs.Values.{Values}
+use Rattle.cut_plan.specs.Cells.{cells_of}
+use Rattle.cut_lines.specs.Lines.{header, line_with}
+use Rattle.cut_trial.specs.declared.totals.Totals.{Totals}
+use Rattle.cut_ledger.specs.Contents.{Contents, cell_done, cell_sum}
+use Rattle.cut_ledger.proofs.available.available.Goals as goal
+
+-- the first numbers of a range are a range
+take_range : (a n k : ℕ) → k ≤ n → take k (range_with_len a n) ≡ range_with_len a k
+take_range a n zero few = refl
+take_range a zero (suc k) few = absurd (omega arith)
+take_range a (suc n) (suc k) few = ap (λ xs. a ∷ xs) (take_range (a + 1) n k (omega arith))
+
+-- how many cells are done in front
+in_front : (l : Contents) (k : ℕ) → k ≡ prefix_len (cell_done l) (range_with_len 0 (length (cells_of l.plan))) → k ≤ length (cells_of l.plan)
+in_front l k is = omega (arith, is, prefix_len-le-length (cell_done l) (range_with_len 0 (length (cells_of l.plan))), length-range_with_len 0 (length (cells_of l.plan)))
+
+pub cell_sum-requires : goal.cell_sum-requires
+cell_sum-requires c = omega (arith, in_front c.args.ledger.now.contents c.cells_done-cell-end.result c.cells_done-cell-end.ensures, c.loop-cell-test.true)
+
+pub cell_line-requires-clause-number : goal.cell_line-requires-clause-number
+cell_line-requires-clause-number c =
+    omega (arith, in_front c.args.ledger.now.contents c.cells_done-cell-end.result c.cells_done-cell-end.ensures, c.loop-cell-test.true, ap (λ (v : Values). length (cells_of v)) c.plan.ensures.value)
+
+pub loop-cell-preserved : goal.loop-cell-preserved
+loop-cell-preserved c =
+    let l : Contents = c.args.ledger.now.contents in
+    let f : ℕ → List ℕ = λ i. line_with l.plan i (cell_sum l i) in
+    let n : ℕ = c.loop-cell.cell in
+    let more : flat_map f (range_with_len 0 (n + 1)) ≡ flat_map f (range_with_len 0 n) ++ f n =
+    ap (λ xs. flat_map f xs) (range_with_len_more 0 n n (zero-add n)) ∙ flat_map-append f (range_with_len 0 n) (n ∷ []) ∙ ap (λ ys. flat_map f (range_with_len 0 n) ++ ys) (append-nil (f n)) in
+    let line : c.as_slice.result.now ≡ f n =
+    c.as_slice.ensures.value ∙ c.in_ok-line.ensures.line ∙ ap (λ (v : Values). line_with v n c.cell_sum.result) c.plan.ensures.value ∙ ap (λ (x : Totals). line_with l.plan n x) c.cell_sum.ensures.value in
+    c.in_ok-extend_from_slice.ensures.items
+    ∙ ap (λ xs. xs ++ c.as_slice.result.now) c.loop-cell.invariant
+    ∙ ap (λ ys. (header ++ flat_map f (range_with_len 0 n)) ++ ys) line
+    ∙ append_assoc header (flat_map f (range_with_len 0 n)) (f n)
+    ∙ ap (λ ys. header ++ ys) (sym more)
+
+pub returns : goal.returns
+returns c =
+    let l : Contents = c.args.ledger.now.contents in
+    let n : ℕ = length (cells_of l.plan) in
+    let f : ℕ → List ℕ = λ i. line_with l.plan i (cell_sum l i) in
+    let k : ℕ = c.cells_done-cell-end.result in
+    let all : c.loop-cell.cell ≡ k = omega (arith, c.loop-cell-test.false, c.loop-cell.auto.cell-end) in
+    let front : range_with_len 0 c.loop-cell.cell ≡ take (prefix_len (cell_done l) (range_with_len 0 n)) (range_with_len 0 n) =
+    ap (λ i. range_with_len 0 i) all ∙ sym (take_range 0 n k (in_front l k c.cells_done-cell-end.ensures)) ∙ ap (λ i. take i (range_with_len 0 n)) c.cells_done-cell-end.ensures in
+    c.loop-cell.invariant ∙ ap (λ xs. header ++ flat_map f xs) front

@@ -1,0 +1,10 @@
+use Rattle.std.proofs.Common.{◌≡◌, ◌*◌, not}
+use Rattle.std.specs.List.{flat_map, range_with_len}
+use Rattle.cut_ledger.specs.Contents.{has}
+use Rattle.cut_ledger.specs.Gaps.{runs}
+use Rattle.cut_ledger.proofs.ledger.Ledger.gaps.Given as goal
+
+-- the gaps of the cells so far
+abbrev pub invariant-loop-cell : goal.invariant-loop-cell
+invariant-loop-cell l =
+    l.gaps.items ≡ flat_map (λ c. runs (λ t. not (has l.self.contents t)) (c * l.self.contents.plan.repeats) l.self.contents.plan.repeats) (range_with_len 0 l.cell-index)

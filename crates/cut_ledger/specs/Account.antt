@@ -1,0 +1,12 @@
+-- A ledger as contracts see it.
+use Rattle.std.specs.Prelude.{ℕ, Bool, false, List, slice_index_or}
+use Rattle.cut_ledger.specs.Contents.{Contents}
+
+-- what it holds, and of each cell whether a piece of it can be added without memory
+pub record Account : Type 0 where
+  pub contents : Contents
+  pub room : List Bool
+
+-- whether there is room in cell number c
+abbrev pub has_room : Account → ℕ → Bool
+has_room a c = slice_index_or a.room c false

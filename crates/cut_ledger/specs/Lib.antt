@@ -1,0 +1,15 @@
+pub mod Contents
+pub mod Gaps
+pub mod Slips
+pub mod Refusals
+pub mod FaultCode
+pub mod Account
+pub mod Ranges
+pub mod RangesInside
+pub mod Machine
+pub mod World
+pub mod Kept
+pub mod LedgerInside
+pub mod Reached
+pub mod RunInside
+pub mod Laws

@@ -1,0 +1,38 @@
+-- Which slips a ledger can begin with.
+use Rattle.std.specs.Prelude.{◌≡◌, ℕ, ◌-◌, ◌≤◌, ◌<◌, false, List, length, take, slice_index_or, IsTrue, ⊤}
+use Rattle.cut_plan.specs.Values.{Values}
+use Rattle.cut_trial.specs.Outcome.{cell_at}
+use Rattle.cut_trial.specs.Possible.{ArePossible}
+use Rattle.cut_trial.specs.Sum.{is_piece}
+use Rattle.cut_ledger.specs.declared.slip.Slip.{Slip}
+use Rattle.cut_ledger.specs.declared.fault.LedgerFault.{LedgerFault}
+use Rattle.cut_ledger.specs.declared.fault.LedgerFault.TheVariants.{Memory, BadSlip}
+use Rattle.cut_ledger.specs.Contents.{over_base, overlaps}
+
+-- a good slip, after others: of a piece, none of whose trials they have, with totals that are possible
+pub record IsGood (v : Values) (earlier : List Slip) (s : Slip) : Type 0 where
+  pub piece : IsTrue (is_piece v s.piece)
+  pub apart : overlaps (over_base v earlier) s.piece ≡ false
+  pub possible : ArePossible s.piece.count (v.nodes - (cell_at v s.piece.first).f) s.totals
+
+-- the first n slips are good, each after those before it
+abbrev pub AreGoodUpTo : Values → List Slip → ℕ → Type 0
+AreGoodUpTo v ss n =
+    (i : ℕ) (d : Slip) → i < n → i < length ss → IsGood v (take i ss) (slice_index_or ss i d)
+
+-- all of them are
+abbrev pub AreGood : Values → List Slip → Type 0
+AreGood v ss = AreGoodUpTo v ss (length ss)
+
+-- slip number n, from 1, is the first that is not good
+pub record IsFirstBad (v : Values) (ss : List Slip) (n : ℕ) : Type 0 where
+  pub numbered : 1 ≤ n
+  pub within : n ≤ length ss
+  pub earlier : AreGoodUpTo v ss (n - 1)
+  pub bad : (d : Slip) → IsGood v (take (n - 1) ss) (slice_index_or ss (n - 1) d) → ⊥
+
+-- what a fault says of slips: it is want of memory, which says nothing, or tells the first bad one
+abbrev pub IsToldOf : Values → List Slip → LedgerFault → Type 0
+IsToldOf v ss Memory = ⊤
+IsToldOf v ss (BadSlip n) = IsFirstBad v ss n
+IsToldOf v ss _ = ⊥

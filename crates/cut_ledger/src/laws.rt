@@ -1,0 +1,51 @@
+//! What is true of every ledger, and of every run of a study, whatever happens to it. Each function does
+//! nothing that is seen, and its contract is the law.
+
+ghost use Rattle.std.specs.Prelude.{ℕ, Bool, List};
+ghost use Rattle.std.specs.List.{AllByRecursion};
+ghost use Rattle.cut_plan.specs.Values.{Values};
+ghost use Rattle.cut_plan.specs.Plan.{IsPlan};
+ghost use Rattle.cut_ledger.specs.Laws.{GapsCover, PiecesCover, SamePlansAreEqual};
+ghost use Rattle.cut_ledger.specs.declared.event.Event.{Event};
+ghost use Rattle.cut_ledger.specs.Machine.{start};
+ghost use Rattle.cut_ledger.specs.World.{begun, run, HasTrueResult, IsRight, TellAlike};
+
+use cut_plan::canonical_text_reads_back;
+
+/// The gaps, and the pieces of any size that they are cut into, have exactly the trials that are not held,
+/// each of them once.
+pub fn gaps_are_what_is_not_held()
+    ensures gaps { GapsCover }
+    ensures pieces { PiecesCover }
+{}
+
+/// Plans are told apart by their canonical texts, and a plan can be read back from its own: so plans that
+/// are the same are equal in every value.
+pub fn same_plans_are_equal()
+    ensures { SamePlansAreEqual }
+{
+    canonical_text_reads_back();
+}
+
+/// Every run is right: over every list of events, resumptions after crashes included, and any results of
+/// any plans, what the present wire took is the front of the plan's table, and all of it where the run
+/// answers that it is done; each trial is held at most once; where all are held the whole table can be
+/// written; and the slips that are kept are true, no trial being in two of them.
+pub fn every_run_is_right()
+    ensures { (journal : Bool) (v : Values) (size : ℕ) (events : List Event) → IsPlan v
+        → AllByRecursion HasTrueResult events → IsRight v (run (begun (start v size journal)) events) }
+{
+    canonical_text_reads_back();
+}
+
+/// One plan, one table: two runs of a plan that hold every trial, or that are done, tell the same table,
+/// whatever their divisions, the sizes of their pieces, the order, loss and repetition of results, their
+/// wires and their crashes were.
+pub fn one_plan_has_one_table()
+    ensures { (v : Values) (journal other_journal : Bool) (size other_size : ℕ) (events others : List Event)
+        → IsPlan v → AllByRecursion HasTrueResult events → AllByRecursion HasTrueResult others
+        → TellAlike (run (begun (start v size journal)) events)
+            (run (begun (start v other_size other_journal)) others) }
+{
+    canonical_text_reads_back();
+}

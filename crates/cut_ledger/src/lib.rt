@@ -1,0 +1,30 @@
+//! The ledger of a study: which trials are held, and the sums over them.
+//!
+//! A ledger begins with slips, which an earlier run of the study left, and takes the results of pieces,
+//! in any order. Each trial is counted once at most. A `Run` is a study with its ledger and one wire at a
+//! time, as a machine of the events that happen to it; [`laws`] say what every run keeps.
+#![tactic(auto)]
+
+mod available;
+mod base;
+mod bytes;
+mod cells;
+mod event;
+mod fault;
+mod kept;
+pub mod laws;
+mod ledger;
+mod ranges;
+mod run;
+mod slip;
+
+pub use base::Base;
+pub use bytes::Bytes;
+pub use event::{Event, Reply};
+pub use fault::LedgerFault;
+pub use ledger::Ledger;
+pub use run::Run;
+pub use slip::Slip;
+
+#[cfg(test)]
+mod tests;
