@@ -1,0 +1,117 @@
+ghost use Rattle.std.specs.Prelude.{◌≡◌, ◌==◌, IsErr, if◌then◌else◌};
+ghost use Rattle.cut_faults.specs.Failures.{one_more};
+ghost use Rattle.cut_table.specs.Traffic.{no_traffic};
+
+use crate::{Wire, WireFault};
+use cut_faults::Failures;
+use std::alloc::Global;
+use std::marker::Model;
+
+/// A wire in memory: its reads give the bytes of an input, and its writes add to an output.
+///
+/// A call moves at most `per` bytes; with `per` 0 each call fails. So does a write whose bytes don't find
+/// memory.
+#[derive(Debug, Drop)]
+pub struct MemoryWire {
+    input: Vec<u8>,
+    given: usize,
+    output: Vec<u8>,
+    ends: u64,
+    per: usize,
+    failures: Failures,
+}
+
+impl Model for MemoryWire {
+    ghost use Rattle.std.specs.Prelude.{◌≤◌, length, take};
+    ghost use Rattle.cut_table.specs.Memory.{Memory};
+
+    ghost Value = { Memory };
+
+    ghost view = { λ w. record {
+      input = w.input.items;
+      traffic = record { taken = w.output.items; given = take w.given w.input.items; ends = w.ends };
+      per = w.per;
+      failures = w.failures;
+    } };
+
+    ghost invariant = { λ w. w.given ≤ length w.input.items };
+}
+
+impl MemoryWire {
+    /// A wire over this input, over which nothing has passed yet.
+    pub fn new(alloc: Global, input: Vec<u8>, per: usize) -> MemoryWire
+        ensures { result ≡ record { input = input.items; traffic = no_traffic; per = per; failures = 0 } }
+    {
+        MemoryWire {
+            input,
+            given: 0,
+            output: Vec::new(alloc),
+            ends: 0,
+            per,
+            failures: Failures::none(),
+        }
+    }
+
+    /// The bytes that its writes took.
+    pub fn taken(&self) -> &[u8]
+        ensures { result.now ≡ self.now.traffic.taken }
+    {
+        self.output.as_slice()
+    }
+
+    /// Fails a call, and counts it.
+    pub(crate) fn fail(&mut self) -> Result<usize, WireFault>
+        ensures err { IsErr result }
+        ensures count { self.new ≡ record self.old { failures = one_more self.old.failures } }
+    {
+        self.failures.add();
+        Err(WireFault)
+    }
+}
+
+impl Wire for MemoryWire {
+    ghost use Rattle.std.specs.Prelude.{⊤};
+
+    ghost traffic = { λ w. w.traffic };
+
+    ghost tells = { λ _. ⊤ };
+
+    ghost faults = { λ w. w.failures };
+
+    fn read(&mut self, buffer: &mut [u8]) -> Result<usize, WireFault> {
+        if self.per == 0 {
+            return self.fail();
+        }
+        let rest = &self.input[self.given..];
+        let moved = rest.len().min(self.per).min(buffer.len());
+        buffer[..moved].copy_from_slice(&rest[..moved]);
+        self.ends = ends_after(self.ends, moved);
+        self.given += moved;
+        Ok(moved)
+    }
+
+    fn write(&mut self, bytes: &[u8]) -> Result<usize, WireFault> {
+        let moved = bytes.len().min(self.per);
+        if moved == 0 && !bytes.is_empty() {
+            return self.fail();
+        }
+        match self.output.extend_from_slice(&bytes[..moved]) {
+            Ok(()) => Ok(moved),
+            Err(_) => self.fail(),
+        }
+    }
+
+    fn failures(&self) -> u64 {
+        self.failures.count()
+    }
+}
+
+/// How many reads gave the end of the input, after one that gave so many bytes.
+fn ends_after(ends: u64, moved: usize) -> u64
+    ensures { result ≡ (if moved == 0 then one_more ends else ends) }
+{
+    match moved {
+        0 => ends.saturating_add(1),
+        _ => ends,
+    }
+}

@@ -1,0 +1,30 @@
+ghost use Rattle.std.specs.Prelude.{◌≡◌, ◌<◌, ◌↔◌, length, IfErr};
+ghost use Rattle.cut_faults.specs.Failures.{counted};
+ghost use Rattle.cut_table.specs.Traffic.{Sends};
+
+use crate::Wire;
+
+/// How many bytes a wire took before a write of it failed.
+#[derive(Clone, Copy, Debug, PartialEq, Eq)]
+pub struct Sent {
+    /// The number of bytes.
+    pub bytes: u64,
+}
+
+/// Writes all the bytes, by as many writes as it takes. A write that fails is the last. This takes no
+/// memory of its own.
+pub fn send_all<W: Wire>(wire: &mut W, bytes: &[u8]) -> Result<(), Sent>
+    ensures told { W.tells wire.old → Sends result bytes.now (W.traffic wire.old) (W.traffic wire.new) }
+    ensures fewer { IfErr result (λ sent. sent.bytes < length bytes.now) }
+    ensures tells { W.tells wire.old ↔ W.tells wire.new }
+    ensures faults { W.faults wire.new ≡ counted result (W.faults wire.old) }
+{
+    let mut sent = 0;
+    while sent < bytes.len() {
+        match wire.write(&bytes[sent..]) {
+            Ok(n) => sent += n,
+            Err(_) => return Err(Sent { bytes: sent as u64 }),
+        }
+    }
+    Ok(())
+}
