@@ -1,11 +1,6 @@
 -- What a recount finds depends only on the edges of the rule's rings and of the processes.
-use Rattle.std.proofs.Common.{◌≡◌, ℕ, ◌<◌, ◌&&◌, ◌||◌, nat_le, nat_lt, ap, ◌∙◌, arith}
-use Rattle.cut_rings.specs.Layout.{Layout, observer_of}
-use Rattle.cut_rings.specs.Edges.{EdgeSet}
-use Rattle.cut_detector.specs.Rule.{Rule}
-use Rattle.cut_detector.specs.Counts.{reports_of, is_reported, is_gained, is_full, full_count, is_stable, is_unstable, is_some_stable, is_some_unstable, is_settled, stable_members}
-use Rattle.cut_lists.proofs.Counts.{some_and_none_agree}
-use Rattle.cut_lists.proofs.Ranges.{AgreeOn, count_by_agree, filter_agree_on}
+use Rattle.std.proofs.Common.{cond, Some, None, ◌≡◌, ℕ, ◌<◌, ◌&&◌, ◌||◌, nat_le, nat_lt, ap, ◌∙◌, arith}
+use Rattle.cut_detector.proofs.Words.{settled_proposal, AgreeOn, EdgeSet, Layout, Rule, count_by_agree, filter_agree_on, full_count, is_full, is_gained, is_reported, is_settled, is_some_stable, is_some_unstable, is_stable, is_unstable, observer_of, reports_of, some_and_none_agree, stable_members}
 
 -- two sets have the same edges on the first k rings and of n processes
 pub record SameEdges (k n : ℕ) (E F : EdgeSet) : Type 0 where
@@ -46,11 +41,13 @@ is_unstable-same : (r : Layout) (rule : Rule) (E F : EdgeSet) → HasObservers r
 unfolding is_unstable
 is_unstable-same r rule E F observers edges = record { same = λ s _ below. ap (λ n. nat_le rule.l n && nat_lt n rule.h) (full_count-same r rule E F observers edges s (omega arith)) }
 
-pub is_settled-same : (r : Layout) (rule : Rule) (E F : EdgeSet) → HasObservers r rule.k → SameEdges rule.k r.nodes E F → is_settled r rule E ≡ is_settled r rule F
+is_settled-same : (r : Layout) (rule : Rule) (E F : EdgeSet) → HasObservers r rule.k → SameEdges rule.k r.nodes E F → is_settled r rule E ≡ is_settled r rule F
 unfolding is_settled is_some_stable is_some_unstable
 is_settled-same r rule E F observers edges =
     some_and_none_agree _ _ _ _ r.nodes (is_stable-same r rule E F observers edges) (is_unstable-same r rule E F observers edges)
 
-pub stable_members-same : (r : Layout) (rule : Rule) (E F : EdgeSet) → HasObservers r rule.k → SameEdges rule.k r.nodes E F → stable_members r rule E ≡ stable_members r rule F
+pub settled_proposal-same : (r : Layout) (rule : Rule) (E F : EdgeSet) (n : ℕ) → HasObservers r rule.k → SameEdges rule.k r.nodes E F → settled_proposal r rule E n ≡ settled_proposal r rule F n
 unfolding stable_members
-stable_members-same r rule E F observers edges = filter_agree_on _ _ 0 r.nodes (is_stable-same r rule E F observers edges)
+settled_proposal-same r rule E F n observers edges =
+    ap (λ b. cond b (Some (record { members = stable_members r rule E; at = n })) None) (is_settled-same r rule E F observers edges)
+    ∙ ap (λ xs. cond (is_settled r rule F) (Some (record { members = xs; at = n })) None) (filter_agree_on _ _ 0 r.nodes (is_stable-same r rule E F observers edges))

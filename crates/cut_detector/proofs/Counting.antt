@@ -1,24 +1,12 @@
 -- Counts of processes by the rings that count for them.
-use Rattle.std.proofs.Common.{◌≡◌, inl, inr, ℕ, ◌+◌, ◌<◌, ◌≤◌, Bool, true, false, cond, ◌==◌, ◌&&◌, List, [], ◌∷◌, ◌++◌, IsTrue, not, nat_lt, nat_le, length, get_or, replicate, vec_len, refl, ap, sym, subst, ◌∙◌, arith, ◌⊎◌, pow_pos, get_or-set_other, All}
-use Rattle.std.specs.List.{range_with_len, count_by, list_any}
-use Rattle.std.specs.Int.{bit_at}
+use Rattle.std.proofs.Common.{◌≡◌, inl, inr, ℕ, ◌+◌, ◌<◌, ◌≤◌, Bool, true, false, cond, ◌==◌, ◌&&◌, List, [], ◌∷◌, ◌++◌, IsTrue, not, nat_lt, nat_le, length, get_or, replicate, vec_len, refl, ap, sym, subst, ◌∙◌, arith, pow_pos, get_or-set_other}
+use Rattle.cut_detector.proofs.Words.{AddsEdge, All, Edge, IsTouched, Masks, Tally, and_from, bit_at, cases_lt, count_by, count_by-ones, count_by_none, edges_in, eq-eqb, get_or_past, list_any, list_any_passing, lt-ltb, marked_in, nat_tests, or_right, processes_with, range_with_len, ring_count, rings_full, stable_in, unstable_in}
 use Rattle.std.specs.Int.RustNames.{count_ones}
-use Rattle.std.proofs.lemmas.Bool.Decides.{nat_tests}
-use Rattle.std.proofs.lemmas.Bool.{cases_lt, cases_eq, eq-eqb, ne_eqb, lt-ltb, and_from, or_right}
-use Rattle.std.proofs.lemmas.List.{get_or-replicate, get_or_past, length-replicate}
-use Rattle.std.proofs.lemmas.List.Sums.{count_by-le-length, sum_by-cons}
+use Rattle.std.proofs.lemmas.List.Sums.{count_by-le-length}
 use Rattle.std.proofs.lemmas.List.FromFn.{length-range_with_len}
-use Rattle.cut_rings.specs.declared.edge.Edge.{Edge}
-use Rattle.cut_lists.proofs.Counts.{list_any-count_by, count_by-differ, not_above}
+use Rattle.cut_lists.proofs.BitSets.{get_or-zeros}
+use Rattle.cut_lists.proofs.Counts.{list_any-count_by, count_by-differ, some_and_none-count}
 use Rattle.cut_lists.proofs.Listed.{IsListed, IsListed-push, IsListed-empty, listed-all}
-use Rattle.cut_lists.proofs.Ones.{count_by-ones}
-use Rattle.cut_lists.proofs.Ranks.{count_by_none}
-use Rattle.cut_lists.proofs.Ranges.{list_any_passing}
-use Rattle.cut_detector.specs.declared.masks.Masks.{Masks}
-use Rattle.cut_detector.specs.declared.tally.Tally.{Tally}
-use Rattle.cut_detector.specs.Counts.{ring_count}
-use Rattle.cut_detector.specs.Masks.{edges_in, AddsEdge}
-use Rattle.cut_detector.specs.Tally.{rings_full, stable_in, unstable_in, marked_in, stable_count, marked_count, processes_with, IsTouched}
 use Rattle.cut_detector.proofs.Bits.{edges_in-with_edge}
 
 -- the rings of other processes stay as they were
@@ -40,24 +28,10 @@ rings_full-subject old new edge has ring subject =
     sym (list_any-count_by (λ ring. edges_in new.masks.items ring edge.subject) (range_with_len 0 new.k))
     ∙ list_any_passing (λ ring. edges_in new.masks.items ring edge.subject) 0 new.k edge.ring (omega arith) (omega (arith, has.k)) there
 
--- what one edge more does to the number of processes of which a test of their rings holds
-pub processes_with-edge : (test : ℕ → Bool) (old new : Masks) (edge : Edge) → AddsEdge old new edge → edge.subject < vec_len old.masks
-    → processes_with (λ s. test (rings_full new s)) new + cond (test (rings_full old edge.subject)) 1 0 ≡ processes_with (λ s. test (rings_full old s)) old + cond (test (rings_full new edge.subject)) 1 0
-processes_with-edge test old new edge has subject =
-    ap (λ n. count_by (λ s. test (rings_full new s)) (range_with_len 0 n) + cond (test (rings_full old edge.subject)) 1 0) has.long
-    ∙ count_by-differ (λ s. test (rings_full old s)) (λ s. test (rings_full new s)) 0 (vec_len old.masks) edge.subject
-    (record { others = λ s other. ap test (sym (rings_full-other old new edge has s other)) }) (omega arith) (omega arith)
-
 -- a count of processes is at most their number
 pub processes_with-le : (test : ℕ → Bool) (full : Masks) → processes_with test full ≤ vec_len full.masks
 processes_with-le test full =
     omega (arith, count_by-le-length test (range_with_len 0 (vec_len full.masks)), length-range_with_len 0 (vec_len full.masks))
-
--- each that passes one test passes just one of two others
-count_by-parts : (p q r : ℕ → Bool) (xs : List ℕ) → ((s : ℕ) → cond {A = ℕ} (p s) 1 0 ≡ cond (q s) 1 0 + cond (r s) 1 0) → count_by p xs ≡ count_by q xs + count_by r xs
-count_by-parts p q r [] parts = refl
-count_by-parts p q r (s ∷ xs) parts =
-    omega (arith, parts s, count_by-parts p q r xs parts, sum_by-cons (λ i. cond (p i) 1 0) s xs, sum_by-cons (λ i. cond (q i) 1 0) s xs, sum_by-cons (λ i. cond (r i) 1 0) s xs)
 
 -- at least L rings are at least H, or fewer
 marked_parts : (l h n : ℕ) → l ≤ h → cond {A = ℕ} (nat_le l n) 1 0 ≡ cond (nat_le h n) 1 0 + cond (nat_le l n && nat_lt n h) 1 0
@@ -67,27 +41,17 @@ marked_parts l h n below = grind (arith, nat_tests)
 pub settled_by : (t : Tally) → nat_lt 0 t.stable && (t.stable == t.marked)
     ≡ list_any (stable_in t.rule t.full) (range_with_len 0 (vec_len t.full.masks)) && not (list_any (unstable_in t.rule t.full) (range_with_len 0 (vec_len t.full.masks)))
 settled_by t =
-    let all : List ℕ = range_with_len 0 (vec_len t.full.masks) in
-    let unstable : ℕ = count_by (unstable_in t.rule t.full) all in
-    let parts : marked_count t.rule t.full ≡ stable_count t.rule t.full + unstable =
-    count_by-parts (marked_in t.rule t.full) (stable_in t.rule t.full) (unstable_in t.rule t.full) all (λ s. marked_parts t.rule.l t.rule.h (rings_full t.full s) t.rule.thresholds) in
-    ap (λ b. nat_lt 0 t.stable && b) (elim (cases_eq unstable 0) [
-      | inl none ↦ eq-eqb t.stable t.marked (omega (arith, t.stable_counted, t.marked_counted)) ∙ sym (eq-eqb unstable 0 none)
-      | inr some ↦ ne_eqb t.stable t.marked (λ same. some (omega (arith, t.stable_counted, t.marked_counted))) ∙ sym (ne_eqb unstable 0 some)
-    ])
-    ∙ ap (λ n. nat_lt 0 n && (unstable == 0)) t.stable_counted
-    ∙ ap (λ b. b && (unstable == 0)) (sym (list_any-count_by (stable_in t.rule t.full) all))
-    ∙ ap (λ b. list_any (stable_in t.rule t.full) all && b) (not_above unstable ∙ ap not (sym (list_any-count_by (unstable_in t.rule t.full) all)))
+    rw (t.stable_counted, t.marked_counted) (sym (some_and_none-count (marked_in t.rule t.full) (stable_in t.rule t.full) (unstable_in t.rule t.full) (range_with_len 0 (vec_len t.full.masks))
+    (λ s. marked_parts t.rule.l t.rule.h (rings_full t.full s) t.rule.thresholds)))
 
 -- a number of processes once the rings of one have changed, from what the code counts
 pub moved_count : (test : ℕ → Bool) (old new : Masks) (edge : Edge) {count m n : ℕ} {before after : Bool} → AddsEdge old new edge → edge.subject < vec_len old.masks
     → m ≡ rings_full old edge.subject → n ≡ rings_full new edge.subject → before ≡ test m → after ≡ test n → count ≡ processes_with (λ s. test (rings_full old s)) old
     → processes_with (λ s. test (rings_full new s)) new + cond before 1 0 ≡ count + cond after 1 0
-moved_count test old new edge {count = count} has subject first last was is counted =
-    ap (λ b. processes_with (λ s. test (rings_full new s)) new + cond b 1 0) (was ∙ ap test first)
-    ∙ processes_with-edge test old new edge has subject
-    ∙ ap (λ n. n + cond (test (rings_full new edge.subject)) 1 0) (sym counted)
-    ∙ ap (λ b. count + cond b 1 0) (sym (is ∙ ap test last))
+moved_count test old new edge {count} {m} {n} {before} {after} has subject first last was is counted =
+    let differ = count_by-differ (λ s. test (rings_full old s)) (λ s. test (rings_full new s)) 0 (vec_len old.masks) edge.subject
+    (record { others = λ s other. ap test (sym (rings_full-other old new edge has s other)) }) (omega arith) (omega arith) in
+    rw (has.long, was, is, first, last, counted) differ
 
 -- the subject is touched, where it was not
 pub IsTouched-touch : (old new : Masks) (edge : Edge) (xs : List ℕ) (is_new : Bool) → AddsEdge old new edge → edge.ring < old.k → edge.subject < vec_len old.masks → IsTouched old xs → is_new ≡ not (nat_lt 0 (rings_full old edge.subject)) → IsTouched new (cond is_new (xs ++ edge.subject ∷ []) xs)
@@ -103,11 +67,7 @@ rings_full-zero full s none =
     ap (λ m. count_by (λ ring. bit_at m ring == 1) (range_with_len 0 full.k)) none ∙ count_by-ones full.k 0 (pow_pos full.k)
 
 rings_full-empty : (full : Masks) (n : ℕ) → full.masks.items ≡ replicate n 0 → (s : ℕ) → rings_full full s ≡ 0
-rings_full-empty full n empty s = rings_full-zero full s (ap (λ xs. get_or xs s 0) empty ∙ zero_at (cases_lt s n))
-  where
-    zero_at : (s < n) ⊎ (n ≤ s) → ◌≡◌ {A = ℕ} (get_or (replicate n 0) s 0) 0
-    zero_at (inl inside) = get_or-replicate n s 0 0 inside
-    zero_at (inr past) = get_or_past (replicate n 0) s 0 (omega (arith, length-replicate {A = ℕ} n 0))
+rings_full-empty full n empty s = rings_full-zero full s (ap (λ xs. get_or xs s 0) empty ∙ get_or-zeros n s)
 
 pub IsTouched-empty : (full : Masks) (n : ℕ) (xs : List ℕ) → full.masks.items ≡ replicate n 0 → xs ≡ [] → IsTouched full xs
 IsTouched-empty full n xs empty e = IsListed-empty (λ s. nat_lt 0 (rings_full full s)) (vec_len full.masks) xs e (λ s. ap (nat_lt 0) (rings_full-empty full n empty s))

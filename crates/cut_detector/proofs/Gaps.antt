@@ -1,50 +1,20 @@
 -- What equal watermarks, a wider gap between them and implicit alerts change.
-use Rattle.std.proofs.Common.{◌≡◌, inl, inr, ℕ, ◌<◌, ◌≤◌, Bool, true, false, cond, ◌&&◌, ◌||◌, IsTrue, List, Option, Some, None, MatchOption, refl, arith, ◌↔◌, option_map, ap, sym, ◌∙◌}
-use Rattle.std.specs.List.{range_with_len, find}
-use Rattle.std.proofs.lemmas.Bool.Decides.{nat_tests}
-use Rattle.std.proofs.lemmas.Bool.{cases_lt, leb-true, le-leb, and_parts, and_from, or_cases, or_left, or_right, false_from_ne_true}
-use Rattle.std.proofs.lemmas.List.Sums.{sum_by-le-sum_by}
-use Rattle.cut_rings.specs.Layout.{Layout, observer_of}
-use Rattle.cut_rings.specs.declared.edge.Edge.{Edge}
-use Rattle.cut_rings.specs.Edges.{EdgeSet, first_of, is_edge}
-use Rattle.cut_detector.specs.Rule.{Rule, rule_of}
-use Rattle.cut_detector.specs.Counts.{ring_count, is_reported, is_gained, is_full, full_count, is_stable, reports_of, is_unstable, is_some_stable, is_some_unstable, is_settled, stable_members}
-use Rattle.cut_detector.specs.Proposal.{proposal_of}
-use Rattle.cut_detector.specs.declared.proposal.Proposal.{Proposal}
-use Rattle.cut_detector.specs.Laws.{IsSettled, IsOfLeastPlace, Grows, ProposesBefore, IsMarked}
-use Rattle.cut_detector.specs.declared.proposal.Proposal as declared
-use Rattle.cut_lists.proofs.Counts.{list_any_take-le, some_and_none_agree}
-use Rattle.cut_lists.proofs.Ranges.{AgreeOn, filter_agree_on}
-use Rattle.cut_detector.proofs.Modes.{stable-is, is_stable-from, unstable-is, is_unstable-from, is_stable-equal, equal_none_unstable}
-use Rattle.cut_detector.proofs.Places.{proposes, is_settled-from, found_is, NoneAmong, IsFirst}
+use Rattle.std.proofs.Common.{◌≡◌, inl, inr, ℕ, ◌<◌, ◌≤◌, Bool, true, false, ◌&&◌, ◌||◌, IsTrue, List, Option, Some, None, MatchOption, refl, arith, ◌↔◌, option_map, ap, sym, ◌∙◌}
+use Rattle.cut_detector.proofs.Words.{or-false, AgreeOn, Edge, EdgeSet, Grows, IsMarked, IsOfLeastPlace, IsSettled, Layout, Proposal, ProposesBefore, Rule, cases_lt, false_from_ne_true, filter_agree_on, find, first_of, full_count, is_edge, is_full, is_reported, is_settled, is_some_stable, is_some_unstable, is_stable, is_unstable, le-leb, leb-true, observer_of, proposal_of, range_with_len, reports_of, rule_of, some_and_none_agree, stable_members}
+use Rattle.std.proofs.lemmas.Bool.{or_left}
+use Rattle.cut_lists.proofs.Counts.{list_any_take-le}
+use Rattle.cut_detector.proofs.Modes.{IsWithin, ring_count-le, is_reported-more, stable-is, is_stable-from, unstable-is, is_unstable-from, is_stable-equal, equal_none_unstable}
+use Rattle.cut_detector.proofs.Places.{NoneSettled, proposes}
 
-cond-le : (x y : Bool) → (x ≡ true → y ≡ true) → cond x 1 0 ≤ cond y 1 0
-cond-le x y keeps = grind (arith, nat_tests)
-
--- each edge of E is one of F
-record IsWithin (E F : EdgeSet) : Type 0 where
-  all : (ring s : ℕ) → E ring s ≡ true → F ring s ≡ true
-
-ring_count-le : (k : ℕ) (E F : EdgeSet) (s : ℕ) → IsWithin E F → ring_count k E s ≤ ring_count k F s
-ring_count-le k E F s within = sum_by-le-sum_by _ _ (range_with_len 0 k) (λ ring. cond-le (E ring s) (F ring s) (within.all ring s))
-
-is_reported-more : (rule : Rule) (E F : EdgeSet) (s : ℕ) → IsWithin E F → is_reported rule E s ≡ true → is_reported rule F s ≡ true
-unfolding is_reported
-is_reported-more rule E F s within is =
-    let many : rule.l ≤ ring_count rule.k E s = leb-true _ _ is in
-    let more : ring_count rule.k E s ≤ ring_count rule.k F s = ring_count-le rule.k E F s within in
-    le-leb _ _ (omega arith)
+keeps : (e f i x y u v : Bool) → (e ≡ true → f ≡ true) → (x ≡ true → u ≡ true) → (y ≡ true → v ≡ true)
+    → e || (i && x && y) ≡ true → f || (i && u && v) ≡ true
+keeps e f i x y u v a b c is = grind arith
 
 is_full-more : (r : Layout) (rule : Rule) (E F : EdgeSet) → IsWithin E F → IsWithin (is_full r rule E) (is_full r rule F)
 unfolding is_full
 is_full-more r rule E F within = record {
-  all = λ ring s is. elim (or_cases (E ring s) _ is) [
-    | inl reported ↦ or_left _ _ (within.all ring s reported)
-    | inr gained ↦ (let o : ℕ = observer_of r ring s in
-        let parts = and_parts (rule.implicit && is_reported rule E s) (is_reported rule E o) gained in
-        let own = and_parts rule.implicit (is_reported rule E s) parts.0 in
-        or_right (F ring s) _ (and_from _ _ (and_from _ _ own.0 (is_reported-more rule E F s within own.1)) (is_reported-more rule E F o within parts.1)))
-  ];
+  all = λ ring s. keeps _ _ rule.implicit _ _ _ _ (within.all ring s)
+      (is_reported-more rule E F s within) (is_reported-more rule E F (observer_of r ring s) within);
 }
 
 -- where edges are added no ring stops counting
@@ -83,7 +53,8 @@ proposes-before r inner outer E count wide grows = go (proposal_of r outer E cou
           | inr enough ↦ is_stable-from r outer (E n) s enough
         ]
 
-    go : (p q : Option Proposal) → MatchOption p ((n : ℕ) → 1 ≤ n → n ≤ count → IsSettled r outer (E n) → ⊥) (IsOfLeastPlace r outer E count) → MatchOption q ((n : ℕ) → 1 ≤ n → n ≤ count → IsSettled r inner (E n) → ⊥) (IsOfLeastPlace r inner E count) → ProposesBefore q p
+    go : (p q : Option Proposal) → MatchOption p (NoneSettled r outer E count) (IsOfLeastPlace r outer E count)
+        → MatchOption q (NoneSettled r inner E count) (IsOfLeastPlace r inner E count) → ProposesBefore q p
     go None q first second = tt
     go (Some p) None first second = second p.at first.from_first first.to_last (settled p.at first.settled)
     go (Some p) (Some q) first second =
@@ -113,12 +84,10 @@ wider_before r k g h l m E count low gap high =
 pub first_of_grows : (edges : List Edge) → Grows (first_of edges)
 first_of_grows edges m n ring s before is = list_any_take-le (λ e. is_edge ring s e) m n edges before is
 
-without : (x y : Bool) → cond (x || false) 1 0 ≤ cond (x || y) 1 0
-without x y = grind (arith, nat_tests)
-
 full_count-on : (r : Layout) (k h l : ℕ) (E : EdgeSet) (s : ℕ) → full_count r (rule_of k h l false) E s ≤ full_count r (rule_of k h l true) E s
 unfolding is_full is_reported
-full_count-on r k h l E s = sum_by-le-sum_by _ _ (range_with_len 0 k) (λ ring. without (E ring s) (is_gained r (rule_of k h l true) E ring s))
+full_count-on r k h l E s =
+    ring_count-le k _ (is_full r (rule_of k h l true) E) s (record { all = λ ring q e. or_left (E ring q) _ (sym (or-false (E ring q)) ∙ e) })
 
 pub stable_on : (r : Layout) (k h l : ℕ) (E : EdgeSet) (s : ℕ) → IsTrue (is_stable r (rule_of k h l false) E s) → IsTrue (is_stable r (rule_of k h l true) E s)
 stable_on r k h l E s is =
@@ -159,8 +128,8 @@ members_agree : (r : Layout) (k h : ℕ) (E : EdgeSet) → stable_members r (rul
 unfolding stable_members
 members_agree r k h E = filter_agree_on _ _ 0 r.nodes (stable_agrees r k h E)
 
-abbrev proposal_by : (EdgeSet → Bool) → (EdgeSet → List ℕ) → (ℕ → EdgeSet) → ℕ → Option declared.Proposal
-proposal_by settled members E count = option_map {U = declared.Proposal} (λ n. record { members = members (E n); at = n }) (find (λ n. settled (E n)) (range_with_len 1 count))
+abbrev proposal_by : (EdgeSet → Bool) → (EdgeSet → List ℕ) → (ℕ → EdgeSet) → ℕ → Option Proposal
+proposal_by settled members E count = option_map {U = Proposal} (λ n. record { members = members (E n); at = n }) (find (λ n. settled (E n)) (range_with_len 1 count))
 
 pub implicit_changes_nothing : (r : Layout) (k h : ℕ) (E : ℕ → EdgeSet) (count : ℕ) → proposal_of r (rule_of k h h true) E count ≡ proposal_of r (rule_of k h h false) E count
 implicit_changes_nothing r k h E count =
@@ -169,17 +138,25 @@ implicit_changes_nothing r k h E count =
     ap (λ (f : EdgeSet → Bool). proposal_by f (stable_members r (rule_of k h h true)) E count) settled
     ∙ ap (λ (g : EdgeSet → List ℕ). proposal_by (is_settled r (rule_of k h h false)) g E count) members
 
-pub first_stable : (r : Layout) (rule : Rule) (E : ℕ → EdgeSet) (count : ℕ) → rule.l ≡ rule.h → MatchOption (proposal_of r rule E count) ((n s : ℕ) → 1 ≤ n → n ≤ count → s < r.nodes → IsTrue (is_stable r rule (E n) s) → ⊥) (λ p. (n s : ℕ) → 1 ≤ n → n < p.at → s < r.nodes → IsTrue (is_stable r rule (E n) s) → ⊥)
-first_stable r rule E count equal = go (proposal_of r rule E count) (found_is r rule E 1 count)
-  where
-    unstable : (n s : ℕ) → is_settled r rule (E n) ≡ false → s < r.nodes → IsTrue (is_stable r rule (E n) s) → ⊥
-    unstable n s fails process is =
-        let w : is_settled r rule (E n) ≡ true = is_settled-from r rule (E n) (record { some_stable = (s, process, is); none_unstable = λ q _ t. equal_none_unstable r rule (E n) q equal t }) in
-        cc
+-- no process is stable at places with a property
+abbrev NoneStable : Layout → Rule → (ℕ → EdgeSet) → (ℕ → Type 0) → Type 0
+NoneStable r rule E P = (n s : ℕ) → 1 ≤ n → P n → s < r.nodes → IsTrue (is_stable r rule (E n) s) → ⊥
 
-    go : (q : Option declared.Proposal) → MatchOption q (NoneAmong r rule E 1 count) (IsFirst r rule E 1 count) → MatchOption q ((n s : ℕ) → 1 ≤ n → n ≤ count → s < r.nodes → IsTrue (is_stable r rule (E n) s) → ⊥) (λ p. (n s : ℕ) → 1 ≤ n → n < p.at → s < r.nodes → IsTrue (is_stable r rule (E n) s) → ⊥)
-    go None none = λ n s low high process is. unstable n s (none n low (omega arith)) process is
-    go (Some p) first = λ n s low high process is. unstable n s (first.least n low high) process is
+pub first_stable : (r : Layout) (rule : Rule) (E : ℕ → EdgeSet) (count : ℕ) → rule.l ≡ rule.h
+    → MatchOption (proposal_of r rule E count)
+    (NoneStable r rule E (λ n. n ≤ count)) (λ p. NoneStable r rule E (λ n. n < p.at))
+first_stable r rule E count equal = go (proposal_of r rule E count) (proposes r rule E count)
+  where
+    unstable : (n s : ℕ) → (IsSettled r rule (E n) → ⊥) → s < r.nodes → IsTrue (is_stable r rule (E n) s) → ⊥
+    unstable n s fails process is = fails (record {
+      some_stable = (s, process, is);
+      none_unstable = λ q _ t. equal_none_unstable r rule (E n) q equal t;
+    })
+
+    go : (q : Option Proposal) → MatchOption q (NoneSettled r rule E count) (IsOfLeastPlace r rule E count)
+        → MatchOption q (NoneStable r rule E (λ n. n ≤ count)) (λ p. NoneStable r rule E (λ n. n < p.at))
+    go None none = λ n s low high. unstable n s (none n low high)
+    go (Some p) first = λ n s low high. unstable n s (first.least n low high)
 
 -- the laws, by what they are about
 pub ruleset equal_watermarks = (stable_by_reports, equal_none_unstable, implicit_changes_nothing, first_stable)

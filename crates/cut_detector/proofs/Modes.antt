@@ -1,17 +1,7 @@
 -- What reports alone say of a process's mode.
 use Rattle.std.proofs.Common.{◌≡◌, inr, inl, ℕ, ◌<◌, ◌≤◌, Bool, true, false, cond, ◌&&◌, ◌||◌, nat_le, IsTrue, refl, ap, sym, ◌∙◌, arith}
-use Rattle.std.specs.List.{range_with_len}
-use Rattle.std.proofs.Math.Bool.{or-false}
-use Rattle.std.proofs.lemmas.Bool.Decides.{nat_tests}
-use Rattle.std.proofs.lemmas.Bool.{cases_Bool, and_parts, and_from, leb-true, le-leb, ltb-true, lt-ltb, false_from_ne_true}
-use Rattle.std.proofs.lemmas.List.Sums.{sum_by-le-sum_by}
-use Rattle.cut_rings.specs.Layout.{Layout, observer_of}
-use Rattle.cut_rings.specs.Edges.{EdgeSet}
-use Rattle.cut_detector.specs.Rule.{Rule}
-use Rattle.cut_detector.specs.Counts.{reports_of, is_reported, is_gained, is_full, full_count, is_stable, is_unstable}
-use Rattle.cut_detector.specs.Laws.{ReportsTargetsAlone}
-use Rattle.cut_lists.proofs.Ranges.{count_by_agree}
-use Rattle.cut_lists.proofs.Ranks.{count_by_none}
+use Rattle.cut_detector.proofs.Words.{ring_count, EdgeSet, Layout, ReportsTargetsAlone, Rule, and_from, and_parts, count_by_agree, count_by_none, false_from_ne_true, full_count, is_full, is_reported, is_stable, is_unstable, le-leb, leb-true, lt-ltb, ltb-true, nat_tests, observer_of, or-false, range_with_len, reports_of, sum_by-le-sum_by}
+use Rattle.std.proofs.lemmas.Bool.{or_left, cases_Bool}
 
 -- stable and unstable, as bounds on how many rings count
 pub stable-is : (r : Layout) (rule : Rule) (E : EdgeSet) (s : ℕ) → IsTrue (is_stable r rule E s) → rule.h ≤ full_count r rule E s
@@ -32,14 +22,27 @@ pub is_unstable-from : (r : Layout) (rule : Rule) (E : EdgeSet) (s : ℕ) → ru
 unfolding is_unstable
 is_unstable-from r rule E s low high = and_from _ _ (le-leb _ _ low) (lt-ltb _ _ high)
 
-pub or_keeps : (x y : Bool) → cond x 1 0 ≤ cond (x || y) 1 0
-or_keeps x y = grind (arith, nat_tests)
+cond-le : (x y : Bool) → (x ≡ true → y ≡ true) → cond x 1 0 ≤ cond y 1 0
+cond-le x y keeps = grind (arith, nat_tests)
+
+-- each edge of E is one of F
+pub record IsWithin (E F : EdgeSet) : Type 0 where
+  pub all : (ring s : ℕ) → E ring s ≡ true → F ring s ≡ true
+
+pub ring_count-le : (k : ℕ) (E F : EdgeSet) (s : ℕ) → IsWithin E F → ring_count k E s ≤ ring_count k F s
+ring_count-le k E F s within = sum_by-le-sum_by _ _ (range_with_len 0 k) (λ ring. cond-le (E ring s) (F ring s) (within.all ring s))
+
+pub is_reported-more : (rule : Rule) (E F : EdgeSet) (s : ℕ) → IsWithin E F → is_reported rule E s ≡ true → is_reported rule F s ≡ true
+unfolding is_reported
+is_reported-more rule E F s within is =
+    let many : rule.l ≤ ring_count rule.k E s = leb-true _ _ is in
+    let more : ring_count rule.k E s ≤ ring_count rule.k F s = ring_count-le rule.k E F s within in
+    le-leb _ _ (omega arith)
 
 -- every reported ring counts
 pub reports_of-le : (r : Layout) (rule : Rule) (E : EdgeSet) (s : ℕ) → reports_of rule E s ≤ full_count r rule E s
 unfolding is_full
-reports_of-le r rule E s =
-    sum_by-le-sum_by (λ k. cond (E k s) 1 0) (λ k. cond (is_full r rule E k s) 1 0) (range_with_len 0 rule.k) (λ k. or_keeps (E k s) (is_gained r rule E k s))
+reports_of-le r rule E s = ring_count-le rule.k E (is_full r rule E) s (record { all = λ ring q e. or_left (E ring q) _ e })
 
 pub no_gain : (i x y : Bool) → x ≡ false → i && x && y ≡ false
 no_gain i x y e = grind arith

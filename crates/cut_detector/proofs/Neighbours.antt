@@ -1,15 +1,7 @@
 -- Who observes whom, and what a process gains where it, or its observer, enters the reported ones.
 use Rattle.std.proofs.Common.{◌≡◌, inl, inr, ℕ, ◌+◌, ◌%◌, ◌<◌, Bool, true, false, cond, ◌==◌, ◌&&◌, ◌||◌, List, length, nat_lt, refl, ap, sym, ◌∙◌, arith}
-use Rattle.std.proofs.Math.Bool.{or-false, and-true}
-use Rattle.std.proofs.lemmas.Bool.Decides.{nat_tests}
-use Rattle.std.proofs.lemmas.Bool.{and_right, cases_lt, cases_eq, eq-eqb, eqb-true, ne_eqb}
-use Rattle.std.proofs.lemmas.List.{length-set}
+use Rattle.cut_detector.proofs.Words.{Edge, EdgeSet, IsLayout, Layout, Observes, and-true, and_right, cases_eq, cases_lt, edges_in, eq-eqb, eqb-true, is_edge, is_near, length-set, nat_tests, ne_eqb, observer_of, or-false, position_of, positions_on, with_edge}
 use Rattle.std.proofs.lemmas.List.Sums.{passes_at_first, fails_before_first}
-use Rattle.cut_rings.specs.declared.edge.Edge.{Edge}
-use Rattle.cut_rings.specs.Layout.{Layout, IsLayout, Observes, positions_on, position_of, observer_of}
-use Rattle.cut_rings.specs.Edges.{EdgeSet, is_edge}
-use Rattle.cut_detector.specs.Masks.{edges_in, with_edge}
-use Rattle.cut_detector.specs.Gains.{is_near}
 use Rattle.cut_lists.proofs.Rounds.{next_one, before}
 use Rattle.cut_lists.proofs.Pigeonhole.{none_missed}
 use Rattle.cut_detector.proofs.Bits.{edges_in-with_edge}

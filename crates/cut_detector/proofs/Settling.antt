@@ -1,37 +1,17 @@
 -- What masks of the rings that count say of the modes of the processes.
-use Rattle.std.proofs.Common.{◌≡◌, inl, inr, ◌⊎◌, ℕ, ◌<◌, ◌≤◌, false, ◌==◌, ◌&&◌, ◌||◌, IsTrue, not, List, get_or, replicate, vec_len, nat_le, nat_lt, ap, sym, ◌∙◌, arith}
-use Rattle.std.specs.List.{range_with_len, list_any, filter}
-use Rattle.std.specs.Int.{bit_at}
-use Rattle.std.proofs.lemmas.Bool.{cases_lt, lt-leb, leb-true, and_left}
-use Rattle.std.proofs.lemmas.List.{get_or-replicate, get_or_past, length-replicate}
-use Rattle.std.proofs.lemmas.Nat.Bits.{bit_at-zero}
-use Rattle.cut_lists.proofs.Counts.{some_and_none_agree}
-use Rattle.cut_lists.proofs.Ranges.{AgreeOn, count_by_agree, list_any_none_passing, filter_agree_on}
-use Rattle.cut_rings.specs.Layout.{Layout, observer_of}
-use Rattle.cut_rings.specs.Edges.{EdgeSet}
-use Rattle.cut_detector.specs.declared.reports.Reports.{Reports}
-use Rattle.cut_detector.specs.Rule.{Rule, rule_in}
-use Rattle.cut_detector.specs.Counts.{ring_count, reports_of, is_reported, is_full, full_count, is_stable, is_unstable, is_some_stable, is_some_unstable, is_settled, stable_members}
-use Rattle.cut_detector.specs.Masks.{edges_in}
-use Rattle.cut_detector.specs.Tally.{rings_full, stable_in, unstable_in}
-use Rattle.cut_detector.specs.Gains.{HoldsFull}
+use Rattle.std.proofs.Common.{◌≡◌, inl, inr, ℕ, ◌<◌, ◌≤◌, false, ◌==◌, ◌&&◌, ◌||◌, IsTrue, not, List, replicate, vec_len, nat_le, nat_lt, ap, sym, ◌∙◌, arith}
+use Rattle.cut_detector.proofs.Words.{AgreeOn, EdgeSet, HoldsFull, Layout, Reports, Rule, and_left, cases_lt, count_by_agree, edges_in, filter, filter_agree_on, full_count, get_or_past, is_full, is_reported, is_settled, is_some_stable, is_some_unstable, is_stable, is_unstable, leb-true, list_any, list_any_none_passing, lt-leb, observer_of, range_with_len, reports_of, ring_count, rings_full, rule_in, some_and_none_agree, stable_in, stable_members, unstable_in}
+use Rattle.cut_lists.proofs.BitSets.{has_bit-zeros}
 use Rattle.cut_detector.proofs.Modes.{reports_of-le, no_reports, no_gain}
 use Rattle.cut_detector.proofs.Counting.{touched-each, rings_full-zero}
-
-pub edges_in-empty : (n ring s : ℕ) → edges_in (replicate n 0) ring s ≡ false
-edges_in-empty n ring s = ap (λ m. bit_at m ring == 1) (zero_at (cases_lt s n)) ∙ ap (λ b. b == 1) (bit_at-zero ring)
-  where
-    zero_at : (s < n) ⊎ (n ≤ s) → ◌≡◌ {A = ℕ} (get_or (replicate n 0) s 0) 0
-    zero_at (inl inside) = get_or-replicate n s 0 0 inside
-    zero_at (inr past) = get_or_past (replicate n 0) s 0 (omega (arith, length-replicate {A = ℕ} n 0))
 
 -- with no edge no ring counts
 is_full-empty : (r : Layout) (rule : Rule) (n ring s : ℕ) → 1 ≤ rule.l → is_full r rule (edges_in (replicate n 0)) ring s ≡ false
 unfolding is_full is_reported
 is_full-empty r rule n ring s low =
     let E : EdgeSet = edges_in (replicate n 0) in
-    let unreported : is_reported rule E s ≡ false = ap (nat_le rule.l) (no_reports rule E s (λ k _. edges_in-empty n k s)) ∙ lt-leb rule.l 0 low in
-    ap (λ b. b || (rule.implicit && is_reported rule E s && is_reported rule E (observer_of r ring s))) (edges_in-empty n ring s)
+    let unreported : is_reported rule E s ≡ false = ap (nat_le rule.l) (no_reports rule E s (λ k _. has_bit-zeros n k s)) ∙ lt-leb rule.l 0 low in
+    ap (λ b. b || (rule.implicit && is_reported rule E s && is_reported rule E (observer_of r ring s))) (has_bit-zeros n ring s)
     ∙ no_gain rule.implicit _ _ unreported
 
 pub is_settled-empty : (r : Layout) (rule : Rule) (n : ℕ) → 1 ≤ rule.l → rule.l ≤ rule.h → is_settled r rule (edges_in (replicate n 0)) ≡ false
@@ -45,7 +25,7 @@ is_settled-empty r rule n low high =
 
 pub HoldsFull_empty : (r : Layout) (rule : Rule) (reported full : List ℕ) (m n : ℕ) → 1 ≤ rule.l → reported ≡ replicate m 0 → full ≡ replicate n 0 → HoldsFull r rule reported full
 HoldsFull_empty r rule reported full m n low none empty ring s _ _ =
-    ap (λ xs. edges_in xs ring s) empty ∙ edges_in-empty n ring s ∙ sym (ap (λ xs. is_full r rule (edges_in xs) ring s) none ∙ is_full-empty r rule m ring s low)
+    ap (λ xs. edges_in xs ring s) empty ∙ has_bit-zeros n ring s ∙ sym (ap (λ xs. is_full r rule (edges_in xs) ring s) none ∙ is_full-empty r rule m ring s low)
 
 -- the tally counts what the definitions do
 pub rings_full-is : (s : Reports) (p : ℕ) → p < s.rings.now.nodes → rings_full s.tally.full p ≡ full_count s.rings.now (rule_in s.tally.rule) (edges_in s.reported.masks.items) p

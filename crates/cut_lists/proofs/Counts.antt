@@ -1,7 +1,7 @@
 -- How many of a list pass a test, and whether some do.
 use Rattle.std.proofs.Common.{◌≡◌, inl, inr, ℕ, zero, suc, ◌+◌, ◌<◌, ◌≤◌, Bool, true, false, cond, ◌==◌, ◌&&◌, ◌||◌, List, [], ◌∷◌, IsTrue, not, nat_lt, length, get_or, take, filter, refl, ap, sym, ◌∙◌, arith}
 use Rattle.std.specs.List.{range_with_len, count_by, list_any, All, Contains}
-use Rattle.std.proofs.lemmas.Bool.{cases_eq, ne_eqb, lt-ltb, or_left, or_right, or_cases}
+use Rattle.std.proofs.lemmas.Bool.{cases_eq, eq-eqb, ne_eqb, lt-ltb, or_left, or_right, or_cases}
 use Rattle.std.proofs.lemmas.List.Elements.{All-head, All-tail, Contains-get_or}
 use Rattle.std.proofs.lemmas.List.Folds.{Any-from_list_any, list_any_at}
 use Rattle.std.proofs.lemmas.List.Sums.{sum_by-cons}
@@ -116,3 +116,26 @@ counts-apart p q (x ∷ xs) apart =
     let here = bits_into (p x) (q x) true false (apart x) (λ _. refl) in
     let rest = counts-apart p q xs apart in
     omega (arith, here, rest, sum_by-cons (λ y. cond (p y) 1 0) x xs, sum_by-cons (λ y. cond (q y) 1 0) x xs)
+
+-- each that passes one test passes just one of two others
+pub count_by-parts : {X : Type 0} (p q r : X → Bool) (xs : List X)
+    → ((x : X) → cond {A = ℕ} (p x) 1 0 ≡ cond (q x) 1 0 + cond (r x) 1 0)
+    → count_by p xs ≡ count_by q xs + count_by r xs
+count_by-parts p q r [] parts = refl
+count_by-parts {X} p q r (x ∷ xs) parts =
+    let cons : (t : X → Bool) → count_by t (x ∷ xs) ≡ cond (t x) 1 0 + count_by t xs =
+    λ t. sum_by-cons (λ y. cond (t y) 1 0) x xs in
+    omega (arith, parts x, count_by-parts p q r xs parts, cons p, cons q, cons r)
+
+-- then some pass the second and none the third where some do and these are as many as pass the first
+pub some_and_none-count : {X : Type 0} (p q r : X → Bool) (xs : List X)
+    → ((x : X) → cond {A = ℕ} (p x) 1 0 ≡ cond (q x) 1 0 + cond (r x) 1 0)
+    → list_any q xs && not (list_any r xs) ≡ nat_lt 0 (count_by q xs) && (count_by q xs == count_by p xs)
+some_and_none-count p q r xs parts =
+    let same = count_by-parts p q r xs parts in
+    ap (λ b. b && not (list_any r xs)) (list_any-count_by q xs)
+    ∙ ap (λ b. nat_lt 0 (count_by q xs) && not b) (list_any-count_by r xs)
+    ∙ ap (λ b. nat_lt 0 (count_by q xs) && b) (sym (not_above (count_by r xs)) ∙ elim (cases_eq (count_by r xs) 0) [
+      | inl none ↦ eq-eqb (count_by r xs) 0 none ∙ sym (eq-eqb (count_by q xs) (count_by p xs) (omega (arith, same)))
+      | inr some ↦ ne_eqb (count_by r xs) 0 some ∙ sym (ne_eqb (count_by q xs) (count_by p xs) (λ e. some (omega (arith, same))))
+    ])

@@ -1,11 +1,13 @@
 pub mod Ascending
 pub mod Counts
 pub mod Finds
+pub mod Firsts
 pub mod Greatest
 pub mod Keyed
 pub mod Listed
 pub mod Maps
 pub mod Ones
+pub mod BitSets
 pub mod Orders
 pub mod Parts
 pub mod Pigeonhole

@@ -1,7 +1,7 @@
 -- A turn of the loop delivers one entry more.
 use Rattle.std.proofs.Common.{sym, subst, ◌∙◌, arith}
+use Rattle.cut_detector.proofs.Words.{HasDelivered}
 use Rattle.std.proofs.lemmas.List.{take_more}
-use Rattle.cut_detector.specs.State.{HasDelivered}
 use Rattle.cut_detector.proofs.detector.replay.Goals as goal
 
 pub loop-edge-preserved : goal.loop-edge-preserved

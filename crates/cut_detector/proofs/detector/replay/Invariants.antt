@@ -1,6 +1,5 @@
 use Rattle.std.proofs.Common.{◌≡◌, ◌≤◌, take}
-use Rattle.cut_detector.specs.Rule.{rule_of}
-use Rattle.cut_detector.specs.State.{HasDelivered}
+use Rattle.cut_detector.proofs.Words.{HasDelivered, rule_of}
 use Rattle.cut_detector.proofs.detector.replay.Given as goal
 
 abbrev pub invariant-loop-edge : goal.invariant-loop-edge

@@ -1,12 +1,12 @@
 -- Each exit of a delivery: settled before, still waiting, settled now.
 use Rattle.std.proofs.Common.{◌+◌, refl, ◌∙◌}
-use Rattle.cut_detector.specs.declared.detector.Detector.TheInside.{Inside}
+use Rattle.cut_detector.proofs.Words.{Inside}
 use Rattle.cut_detector.proofs.History.{Delivers, takes, history, history-settled, is_some-proposal}
 use Rattle.cut_detector.proofs.detector.Detector.deliver.Goals as goal
 
 pub returns-then-is_settled-clause-history : goal.returns-then-is_settled-clause-history
 returns-then-is_settled-clause-history c delivered =
-    history-settled c.self.inside _ c.args.edge delivered c.self.view_is (is_some-proposal c.self.inside _ _ c.self.view_is c.is_settled.ensures ∙ c.if-is_settled.true)
+    history-settled _ c.args.edge delivered (is_some-proposal c.self.inside _ _ c.self.view_is c.is_settled.ensures ∙ c.if-is_settled.true)
 
 abbrev waiting : goal.Then-not-is_settled → Inside
 waiting c = record { reports = c.add.new.self; deliveries = c.self.inside.deliveries + 1; members = c.self.inside.members }

@@ -1,8 +1,6 @@
 -- What is made has no reported edge.
 use Rattle.std.proofs.Common.{[], ap, sym, subst, refl, arith}
-use Rattle.cut_detector.specs.declared.detector.Detector.TheInside.{Inside}
-use Rattle.cut_detector.specs.Rule.{rule_in, rule_of}
-use Rattle.cut_detector.specs.State.{HasDelivered}
+use Rattle.cut_detector.proofs.Words.{HasDelivered, Inside, rule_in, rule_of}
 use Rattle.cut_detector.proofs.History.{IsEmpty, IsSound-empty, is_fresh, fresh-delivered}
 use Rattle.cut_detector.proofs.detector.Detector.new.Goals as goal
 

@@ -1,8 +1,6 @@
 -- What is left has no reported edge.
 use Rattle.std.proofs.Common.{[], replicate, ap, sym, subst, ◌∙◌, refl, arith}
-use Rattle.cut_detector.specs.declared.detector.Detector.TheInside.{Inside}
-use Rattle.cut_detector.specs.Rule.{rule_in}
-use Rattle.cut_detector.specs.State.{HasDelivered}
+use Rattle.cut_detector.proofs.Words.{HasDelivered, Inside, rule_in}
 use Rattle.cut_detector.proofs.History.{IsEmpty, IsSound-empty, is_fresh, fresh-delivered}
 use Rattle.cut_detector.proofs.detector.Detector.reset.Goals as goal
 

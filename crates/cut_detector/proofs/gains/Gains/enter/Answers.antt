@@ -1,11 +1,6 @@
 -- Without implicit alerts nothing is gained. With them one ring more, and at the end all rings.
 use Rattle.std.proofs.Common.{◌≡◌, ◌<◌, ◌||◌, ◌&&◌, length, cond, refl, ap, sym, ◌∙◌, arith}
-use Rattle.std.proofs.Math.Bool.{or-false}
-use Rattle.std.proofs.lemmas.Bool.{lt-ltb, eq-eqb, eqb-true, and_right}
-use Rattle.cut_rings.specs.Layout.{observer_of}
-use Rattle.cut_detector.specs.Counts.{is_reported, is_gained}
-use Rattle.cut_detector.specs.Masks.{edges_in, with_edge}
-use Rattle.cut_detector.specs.Gains.{rule_of_gains, reported_in, is_near}
+use Rattle.cut_detector.proofs.Words.{and_right, edges_in, eq-eqb, eqb-true, is_gained, is_near, is_reported, lt-ltb, observer_of, or-false, reported_in, rule_of_gains, with_edge}
 use Rattle.cut_detector.proofs.Neighbours.{with_gains-more, length-added, observer_of-is, gained_off, gained_own, gained_theirs}
 use Rattle.cut_detector.proofs.gains.Gains.enter.Goals as goal
 

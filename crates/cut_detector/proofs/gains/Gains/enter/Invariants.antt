@@ -1,7 +1,5 @@
 use Rattle.std.proofs.Common.{◌≡◌, ℕ, ◌<◌, vec_len}
-use Rattle.cut_detector.specs.Counts.{is_gained}
-use Rattle.cut_detector.specs.Masks.{edges_in}
-use Rattle.cut_detector.specs.Gains.{rule_of_gains, reported_in}
+use Rattle.cut_detector.proofs.Words.{edges_in, is_gained, reported_in, rule_of_gains}
 use Rattle.cut_detector.proofs.Neighbours.{with_gains}
 use Rattle.cut_detector.proofs.gains.Gains.enter.Given as goal
 

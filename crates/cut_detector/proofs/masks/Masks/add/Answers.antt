@@ -1,8 +1,7 @@
 -- The written mask is that of one edge more.
 use Rattle.std.proofs.Common.{◌*◌, ◌%◌, ◌^◌, ◌<◌, set, length, bit_or, rules, refl, ap, sym, ◌∙◌, arith}
+use Rattle.cut_detector.proofs.Words.{get_or-set_at, length-set}
 use Rattle.std.specs.Int.RustNames.{count_ones}
-use Rattle.std.proofs.lemmas.Grind.{get_or-set_at}
-use Rattle.std.proofs.lemmas.List.{length-set}
 use Rattle.cut_detector.proofs.Bits.{mask-read, written, below-written, ones-are}
 use Rattle.cut_detector.proofs.masks.Masks.add.Goals as goal
 

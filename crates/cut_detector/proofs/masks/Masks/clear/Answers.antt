@@ -1,7 +1,6 @@
 use Rattle.std.proofs.Common.{◌≡◌, ◌==◌, cond, length, vec_len, replicate, get_or, ap, ◌∙◌, arith}
-use Rattle.std.specs.List.{list_any}
-use Rattle.std.proofs.lemmas.List.{take_all}
-use Rattle.cut_detector.proofs.Bits.{cleared}
+use Rattle.cut_detector.proofs.Words.{list_any, take_all}
+use Rattle.cut_lists.proofs.BitSets.{cleared}
 use Rattle.cut_detector.proofs.masks.Masks.clear.Goals as goal
 
 pub returns-clause-masks : goal.returns-clause-masks

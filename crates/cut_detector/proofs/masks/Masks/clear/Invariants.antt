@@ -1,5 +1,5 @@
 use Rattle.std.proofs.Common.{◌≡◌, ℕ, ◌==◌, cond, take, length, slice_index}
-use Rattle.std.specs.List.{list_any}
+use Rattle.cut_detector.proofs.Words.{list_any}
 use Rattle.cut_detector.proofs.masks.Masks.clear.Given as goal
 
 abbrev pub invariant-loop-subject : goal.invariant-loop-subject

@@ -8,7 +8,7 @@ enter-requires-clause-reported c = (enters c.args.self.now c.add.new.self c.add-
 
 pub invariant_of-self-clause-full : goal.invariant_of-self-clause-full
 invariant_of-self-clause-full c =
-    HoldsFull-entered c.args.self.now c.add.new.self c.add-2.new.self c.enter.new.tally c.args.edge _ (search rules) c.if-add.true c.enter.ensures.rule c.enter.ensures.full.full
+    HoldsFull-entered c.args.self.now c.add.new.self c.add-2.new.self c.args.edge _ (search rules) c.enter.new.tally c.if-add.true c.enter.ensures.rule c.enter.ensures.full.full
 
 pub invariant_of-self-else-add-clause-full : goal.invariant_of-self-else-add-clause-full
 invariant_of-self-else-add-clause-full c =

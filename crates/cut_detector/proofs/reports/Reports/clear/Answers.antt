@@ -1,7 +1,6 @@
 -- The reported processes are among the touched ones.
-use Rattle.std.proofs.Common.{◌≡◌, ◌<◌, ◌==◌, All, vec_len, ap, sym, subst, ◌∙◌}
-use Rattle.std.specs.List.{list_any}
-use Rattle.cut_detector.specs.Rule.{rule_in}
+use Rattle.std.proofs.Common.{◌≡◌, ◌<◌, ◌==◌, vec_len, ap, sym, subst, ◌∙◌}
+use Rattle.cut_detector.proofs.Words.{All, list_any, rule_in}
 use Rattle.cut_detector.proofs.Counting.{touched-all}
 use Rattle.cut_detector.proofs.Settling.{reported-touched, HoldsFull_empty}
 use Rattle.cut_detector.proofs.reports.Reports.clear.Goals as goal

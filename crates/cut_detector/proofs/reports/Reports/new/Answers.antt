@@ -1,4 +1,4 @@
-use Rattle.cut_detector.specs.Rule.{rule_in}
+use Rattle.cut_detector.proofs.Words.{rule_in}
 use Rattle.cut_detector.proofs.Settling.{HoldsFull_empty}
 use Rattle.cut_detector.proofs.reports.Reports.new.Goals as goal
 

@@ -1,12 +1,7 @@
 -- The counts and the list of touched processes, once an edge counts.
 use Rattle.std.proofs.Common.{◌≡◌, ℕ, ◌==◌, ◌&&◌, Bool, false, nat_le, nat_lt, vec_len, not, cond, ◌+◌, ap, sym, subst, ◌∙◌, arith}
-use Rattle.std.specs.List.{IsDistinct}
-use Rattle.std.proofs.lemmas.Bool.Decides.{nat_tests}
-use Rattle.std.proofs.lemmas.Bool.{eqb-true}
-use Rattle.cut_lists.proofs.Counts.{not_above}
+use Rattle.cut_detector.proofs.Words.{IsDistinct, IsTouched, Tally, eqb-true, marked_in, nat_tests, not_above, rings_full, stable_in}
 use Rattle.cut_lists.proofs.Listed.{IsDistinct-listed, listed-room}
-use Rattle.cut_detector.specs.declared.tally.Tally.{Tally}
-use Rattle.cut_detector.specs.Tally.{stable_in, marked_in, rings_full, IsTouched}
 use Rattle.cut_detector.proofs.Counting.{moved_count, processes_with-le, IsTouched-touch}
 use Rattle.cut_detector.proofs.tally.Tally.add.Goals as goal
 

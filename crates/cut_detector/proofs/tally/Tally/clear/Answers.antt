@@ -1,9 +1,7 @@
 -- The touched processes are those of which a ring counts, and then none counts.
-use Rattle.std.proofs.Common.{◌<◌, nat_le, ◌==◌, All, vec_len, sym, ap, subst, ◌∙◌, arith}
-use Rattle.std.specs.List.{list_any}
-use Rattle.std.proofs.lemmas.Bool.{lt-leb}
+use Rattle.std.proofs.Common.{◌<◌, nat_le, ◌==◌, vec_len, sym, ap, subst, ◌∙◌, arith}
+use Rattle.cut_detector.proofs.Words.{All, IsDistinct-empty, list_any, lt-leb}
 use Rattle.cut_detector.proofs.Counting.{processes_with-empty, IsTouched-empty, touched-all, touched-each}
-use Rattle.cut_lists.proofs.Listed.{IsDistinct-empty}
 use Rattle.cut_detector.proofs.tally.Tally.clear.Goals as goal
 
 pub clear-requires-clause-within : goal.clear-requires-clause-within

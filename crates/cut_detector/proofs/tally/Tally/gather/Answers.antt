@@ -1,11 +1,6 @@
 -- The touched processes that are stable, sorted, are the stable ones.
-use Rattle.std.proofs.Common.{◌≡◌, ◌&&◌, ◌<◌, ◌≤◌, All, nat_lt, vec_len, vec_capacity, rules, subst, ap, sym, ◌∙◌, arith}
-use Rattle.std.specs.List.{filter}
-use Rattle.std.specs.List.Sorted.{IsPermutation}
-use Rattle.std.proofs.lemmas.Bool.{leb-true, lt-ltb}
-use Rattle.std.proofs.lemmas.List.{take_all}
-use Rattle.std.proofs.Math.Bool.{and-true}
-use Rattle.cut_detector.specs.Tally.{stable_in, rings_full}
+use Rattle.std.proofs.Common.{◌≡◌, ◌&&◌, ◌<◌, ◌≤◌, nat_lt, vec_len, vec_capacity, rules, subst, ap, sym, ◌∙◌, arith}
+use Rattle.cut_detector.proofs.Words.{All, IsPermutation, and-true, filter, leb-true, lt-ltb, rings_full, stable_in, take_all}
 use Rattle.cut_lists.proofs.Ascending.{sorted-filter}
 use Rattle.cut_lists.proofs.Listed.{listed-few}
 use Rattle.cut_detector.proofs.Counting.{touched-all}

@@ -1,6 +1,5 @@
 use Rattle.std.proofs.Common.{◌≡◌, ◌≤◌, vec_len, vec_capacity, take}
-use Rattle.std.specs.List.{filter}
-use Rattle.cut_detector.specs.Tally.{stable_in}
+use Rattle.cut_detector.proofs.Words.{filter, stable_in}
 use Rattle.cut_detector.proofs.tally.Tally.gather.Given as goal
 
 abbrev pub invariant-loop-subject : goal.invariant-loop-subject

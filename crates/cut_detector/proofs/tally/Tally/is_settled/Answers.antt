@@ -1,5 +1,5 @@
 use Rattle.std.proofs.Common.{◌==◌, ◌&&◌, ap, sym, ◌∙◌}
-use Rattle.std.proofs.lemmas.Bool.{lt-ltb}
+use Rattle.cut_detector.proofs.Words.{lt-ltb}
 use Rattle.cut_detector.proofs.Counting.{settled_by}
 use Rattle.cut_detector.proofs.tally.Tally.is_settled.Goals as goal
 

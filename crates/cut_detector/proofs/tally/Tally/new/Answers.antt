@@ -1,8 +1,7 @@
 -- In empty masks no process is stable or unstable.
 use Rattle.std.proofs.Common.{nat_le, arith}
-use Rattle.std.proofs.lemmas.Bool.{lt-leb}
+use Rattle.cut_detector.proofs.Words.{IsDistinct-empty, lt-leb}
 use Rattle.cut_detector.proofs.Counting.{processes_with-empty, IsTouched-empty}
-use Rattle.cut_lists.proofs.Listed.{IsDistinct-empty}
 use Rattle.cut_detector.proofs.tally.Tally.new.Goals as goal
 
 pub invariant_of-result-clause-stable_counted : goal.invariant_of-result-clause-stable_counted
