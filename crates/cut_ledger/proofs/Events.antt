@@ -133,8 +133,8 @@ taken_reached v s r h a =
           (λ _. all-append (IsTrueSlip v) s.kept (slip_of r ∷ []) h.kept (true_slip v s r a, tt)) (λ _. h.kept);
       apart = λ t. cond_both s.has_journal (s.kept ++ slip_of r ∷ []) s.kept (λ slips. times_in (pieces_of_slips slips) t ≤ one_if (has (with_piece l p) t))
           (λ _. (let split : times_in (pieces_of_slips (s.kept ++ slip_of r ∷ [])) t ≡ times_in (pieces_of_slips s.kept) t + one_if (is_in p t) =
-              ap (λ ps. times_in ps t) (map-append (λ (q : Slip). q.piece) s.kept (slip_of r ∷ [])) ∙ times_push (pieces_of_slips s.kept) p t in
-              omega (arith, split, now.ones t, h.apart t)))
+          ap (λ ps. times_in ps t) (map-append (λ (q : Slip). q.piece) s.kept (slip_of r ∷ [])) ∙ times_push (pieces_of_slips s.kept) p t in
+          omega (arith, split, now.ones t, h.apart t)))
           (λ _. omega (arith, now.ones t, h.apart t));
       doubtful = subst (λ (o : Option Slip). IfSome o (λ q. IsDoubtful v (with_piece l p) q)) (sym (h.frozen a.unbroken)) tt;
       frozen = h.frozen;
@@ -154,17 +154,19 @@ failed_reached v s r h a = record {
 -- ---- resumptions
 
 -- slips that are found are true and apart
-pub found : (v : Values) (l : Contents) (kept : List Slip) (d : Option Slip) (keep : Bool) → AllByRecursion (IsTrueSlip v) kept → ((t : ℕ) → times_in (pieces_of_slips kept) t ≤ one_if (has l t)) → IfSome d (λ s. IsDoubtful v l s)
-    → AllByRecursion (IsTrueSlip v) (kept ++ cond keep (some_slip d) []) × ((t : ℕ) → times_in (pieces_of_slips (kept ++ cond keep (some_slip d) [])) t ≤ 1)
-found v l kept d false each apart doubt =
+pub found : (v : Values) (l : Contents) (journal : Bool) (kept : List Slip) (d : Option Slip) (keep : Bool) → AllByRecursion (IsTrueSlip v) kept → ((t : ℕ) → times_in (pieces_of_slips kept) t ≤ one_if (has l t)) → IfSome d (λ s. IsDoubtful v l s)
+    → AllByRecursion (IsTrueSlip v) (cond journal (kept ++ cond keep (some_slip d) []) []) × ((t : ℕ) → times_in (pieces_of_slips (cond journal (kept ++ cond keep (some_slip d) []) [])) t ≤ 1)
+found v l false kept d keep each apart doubt = (tt, λ t. omega arith)
+found v l true kept d false each apart doubt =
     (all-append (IsTrueSlip v) kept [] each tt, λ t. (let e : times_in (pieces_of_slips (kept ++ [])) t ≡ times_in (pieces_of_slips kept) t = ap (λ ss. times_in (pieces_of_slips ss) t) (append-nil kept) in omega (arith, e, apart t, one_if-le (has l t))))
-found v l kept None true each apart doubt =
+found v l true kept None true each apart doubt =
     (all-append (IsTrueSlip v) kept [] each tt, λ t. (let e : times_in (pieces_of_slips (kept ++ [])) t ≡ times_in (pieces_of_slips kept) t = ap (λ ss. times_in (pieces_of_slips ss) t) (append-nil kept) in omega (arith, e, apart t, one_if-le (has l t))))
-found v l kept (Some s) true each apart doubt =
-    (all-append (IsTrueSlip v) kept (s ∷ []) each (doubt.is_true, tt),
-    λ t. (let split : times_in (pieces_of_slips (kept ++ s ∷ [])) t ≡ times_in (pieces_of_slips kept) t + one_if (is_in s.piece t) =
-        ap (λ ps. times_in ps t) (map-append (λ (q : Slip). q.piece) kept (s ∷ [])) ∙ times_push (pieces_of_slips kept) s.piece t in
-        omega (arith, split, apart t, one_of_both (has l t) (is_in s.piece t) (doubt.free t))))
+found v l true kept (Some s) true each apart doubt = (
+  all-append (IsTrueSlip v) kept (s ∷ []) each (doubt.is_true, tt),
+  λ t. (let split : times_in (pieces_of_slips (kept ++ s ∷ [])) t ≡ times_in (pieces_of_slips kept) t + one_if (is_in s.piece t) =
+      ap (λ ps. times_in ps t) (map-append (λ (q : Slip). q.piece) kept (s ∷ [])) ∙ times_push (pieces_of_slips kept) s.piece t in
+      omega (arith, split, apart t, one_of_both (has l t) (is_in s.piece t) (doubt.free t))),
+)
   where
     one_of_both : (held here : Bool) → (here ≡ true → held ≡ false) → one_if held + one_if here ≤ 1
     one_of_both true true free = absurd (let no : ⊥ = (let e = free refl in cc) in no)
@@ -174,7 +176,7 @@ found v l kept (Some s) true each apart doubt =
 
 reopened : (v : Values) (w : World) (keep : Bool) (size : ℕ) → IsReached v w.state → Holds v (begun (opened w.state.ledger.plan w.state.has_journal (slips_found w.state keep) size))
 reopened v w keep size h =
-    let good = found v w.state.ledger w.state.kept w.state.doubtful keep h.kept h.apart h.doubtful in
+    let good = found v w.state.ledger w.state.has_journal w.state.kept w.state.doubtful keep h.kept h.apart h.doubtful in
     subst (λ (u : Values). Holds v (begun (opened u w.state.has_journal (slips_found w.state keep) size))) (sym h.ledger.plan)
     (opened_holds v h.ledger.some w.state.has_journal (slips_found w.state keep) size good.0 good.1)
 

@@ -59,6 +59,7 @@ times_once (s ∷ ss) t few = go (is_in s.piece t) refl (times_once ss t (apart_
   where
     sum : times_in (pieces_of_slips (s ∷ ss)) t ≡ cond (is_in s.piece t) 1 0 + times_in (pieces_of_slips ss) t
     sum = count_first (λ p. is_in p t) s.piece (pieces_of_slips ss)
+
     go : (b : Bool) → is_in s.piece t ≡ b → times_in (pieces_of_slips ss) t ≡ one_if (is_in_base ss t) → times_in (pieces_of_slips (s ∷ ss)) t ≡ one_if (is_in_base (s ∷ ss) t)
     go true is rest =
         let one : cond {A = ℕ} (is_in s.piece t) 1 0 ≡ 1 = ap (λ b. cond {A = ℕ} b 1 0) is in

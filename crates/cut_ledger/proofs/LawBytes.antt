@@ -27,6 +27,7 @@ flat_map_front {X} {Y} f g p (x ∷ xs) same = go (p x) refl (flat_map_front f g
   where
     front : (b : Bool) → p x ≡ b → take_while p (x ∷ xs) ≡ cond b (x ∷ take_while p xs) []
     front b is = take_while-cons p x xs ∙ ap (λ c. cond c (x ∷ take_while p xs) []) is
+
     go : (b : Bool) → p x ≡ b → flat_map f (take_while p xs) ≡ flat_map g (take_while p xs) → flat_map f (take_while p (x ∷ xs)) ≡ flat_map g (take_while p (x ∷ xs))
     go true is rest =
         ap (flat_map f) (front true is) ∙ flat_map-cons f x (take_while p xs)
@@ -41,8 +42,10 @@ longer_front {X} {Y} f p q (x ∷ xs) more = go (p x) refl (longer_front f p q x
   where
     front : (r : X → Bool) (b : Bool) → r x ≡ b → take_while r (x ∷ xs) ≡ cond b (x ∷ take_while r xs) []
     front r b is = take_while-cons r x xs ∙ ap (λ c. cond c (x ∷ take_while r xs) []) is
+
     long : (r : X → Bool) → r x ≡ true → length (flat_map f (take_while r (x ∷ xs))) ≡ length (f x) + length (flat_map f (take_while r xs))
     long r is = ap (λ ys. length (flat_map f ys)) (front r true is) ∙ ap (λ ys. length ys) (flat_map-cons f x (take_while r xs)) ∙ length-append (f x) (flat_map f (take_while r xs))
+
     go : (b : Bool) → p x ≡ b → length (flat_map f (take_while p xs)) ≤ length (flat_map f (take_while q xs)) → length (flat_map f (take_while p (x ∷ xs))) ≤ length (flat_map f (take_while q (x ∷ xs)))
     go true is rest = omega (arith, rest, long p is, long q (more x is))
     go false is rest = omega (arith, ap (λ ys. length (flat_map f ys)) (front p false is))
@@ -68,7 +71,7 @@ pub available_is : (v : Values) (l : Contents) → IsFounded v l → available l
 available_is v l sound =
     ap (λ w. header ++ flat_map (λ c. line_with w c (cell_sum l c)) (take_while (cell_done l) (range_with_len 0 (length (cells_of w))))) sound.plan
     ∙ ap (λ ys. header ++ ys) (flat_map_front (λ c. line_with v c (cell_sum l c)) (λ c. line_of v c) (cell_done l) (range_with_len 0 (length (cells_of v)))
-        (λ c done. ap (λ (x : Totals). line_with v c x) (done_sums v l c sound.plan sound.some sound.base sound.apart done)))
+    (λ c done. ap (λ (x : Totals). line_with v c x) (done_sums v l c sound.plan sound.some sound.base sound.apart done)))
 
 -- it is a front of the table
 pub available_front : (v : Values) (l : Contents) → IsFounded v l → (rest : List ℕ) × (table v ≡ available l ++ rest)
@@ -76,19 +79,25 @@ unfolding table
 available_front v l sound =
     let all : List ℕ = range_with_len 0 (length (cells_of v)) in
     let n : ℕ = prefix_len (cell_done l) all in
-    let lines : List ℕ → List ℕ = λ cs. flat_map (λ c. line_of v c) cs in
-    (lines (drop n all),
-    ap (λ cs. header ++ lines cs) (sym (take-append-drop n all)) ∙ ap (λ ys. header ++ ys) (flat_map-append (λ c. line_of v c) (take n all) (drop n all))
-    ∙ sym (append_assoc header (lines (take n all)) (lines (drop n all)))
-    ∙ ap (λ ys. ys ++ lines (drop n all)) (sym (available_is v l sound)))
+    let lines : List ℕ → List ℕ = λ cs. flat_map (λ c. line_of v c) cs in (
+      lines (drop n all),
+      ap (λ cs. header ++ lines cs) (sym (take-append-drop n all)) ∙ ap (λ ys. header ++ ys) (flat_map-append (λ c. line_of v c) (take n all) (drop n all))
+          ∙ sym (append_assoc header (lines (take n all)) (lines (drop n all)))
+          ∙ ap (λ ys. ys ++ lines (drop n all)) (sym (available_is v l sound)),
+    )
 
 -- and grows with what is held
 pub available_grows : (v : Values) (k l : Contents) → IsFounded v k → IsFounded v l → ((c : ℕ) → cell_done k c ≡ true → cell_done l c ≡ true) → length (available k) ≤ length (available l)
 available_grows v k l fewer more grows =
     let longer = longer_front (λ c. line_of v c) (cell_done k) (cell_done l) (range_with_len 0 (length (cells_of v))) grows in
-    omega (arith, longer,
-    ap (λ ys. length ys) (available_is v k fewer), length-append header (lines_done v k),
-    ap (λ ys. length ys) (available_is v l more), length-append header (lines_done v l))
+    omega (
+      arith,
+      longer,
+      ap (λ ys. length ys) (available_is v k fewer),
+      length-append header (lines_done v k),
+      ap (λ ys. length ys) (available_is v l more),
+      length-append header (lines_done v l),
+    )
 
 -- where every trial is held it is the table
 pub available_whole : (v : Values) (l : Contents) → IsFounded v l → is_complete l ≡ true → available l ≡ table v
@@ -98,7 +107,7 @@ available_whole v l sound complete =
     passes_at (has l) 0 (trial_count v) (ap (λ w. list_all (has l) (all_trials w)) (sym sound.plan) ∙ complete) t (omega arith) (omega (arith, low)) in
     let done : (c : ℕ) → 0 ≤ c → c < 0 + length (cells_of v) → cell_done l c ≡ true = λ c low high.
     ap (λ w. list_all (has l) (trials_of_cell w c)) sound.plan
-        ∙ list_all_passing (has l) (c * v.repeats) v.repeats (λ t from to. held t (in_plan c (length (cells_of v)) v.repeats t (omega (arith, high)) to)) in
+    ∙ list_all_passing (has l) (c * v.repeats) v.repeats (λ t from to. held t (in_plan c (length (cells_of v)) v.repeats t (omega (arith, high)) to)) in
     available_is v l sound
     ∙ ap (λ cs. header ++ flat_map (λ c. line_of v c) cs) (whole_front (cell_done l) (range_with_len 0 (length (cells_of v))) (list_all_passing (cell_done l) 0 (length (cells_of v)) done))
 

@@ -103,7 +103,7 @@ piece_more v s ss c lies apart =
       outside = λ t none. outside_first s ss t (false_from_ne_true (is_in p t) (λ here. let at = is_in-bounds p t here in none at.0 at.1));
     } in
     let each : (x : Totals → ℕ) → sum_by (λ t. x (outcome v t)) (filter (is_in_base (s ∷ ss)) (trials_of_cell v c))
-        ≡ sum_by (λ t. x (outcome v t)) (trials_in p) + sum_by (λ t. x (outcome v t)) (filter (is_in_base ss) (trials_of_cell v c)) = λ x.
+    ≡ sum_by (λ t. x (outcome v t)) (trials_in p) + sum_by (λ t. x (outcome v t)) (filter (is_in_base ss) (trials_of_cell v c)) = λ x.
     omega (arith, sum_of_more (λ t. x (outcome v t)) (is_in_base ss) (is_in_base (s ∷ ss)) (c * v.repeats) v.repeats p.first p.count part) in
     ap (λ (g : (Totals → ℕ) → ℕ). each_number g) (λ i x. each x i)
 
@@ -115,10 +115,13 @@ base_sums v (s ∷ ss) c some each apart = go (s.piece.first / v.repeats == c) r
   where
     cell : List ℕ
     cell = trials_of_cell v c
+
     lies : LiesIn s.piece (s.piece.first / v.repeats) v.repeats
     lies = lies_in_cell v s.piece some each.0.piece
+
     kept : (b : Bool) → (s.piece.first / v.repeats == c) ≡ b → slips_of_cell v (s ∷ ss) c ≡ cond b (s ∷ slips_of_cell v ss c) (slips_of_cell v ss c)
     kept b is = ap (λ x. cond x (s ∷ slips_of_cell v ss c) (slips_of_cell v ss c)) is
+
     go : (b : Bool) → (s.piece.first / v.repeats == c) ≡ b → slip_sum (slips_of_cell v ss c) ≡ sum_of v (filter (is_in_base ss) cell) → slip_sum (slips_of_cell v (s ∷ ss) c) ≡ sum_of v (filter (is_in_base (s ∷ ss)) cell)
     go true is rest =
         let here : LiesIn s.piece c v.repeats = subst (λ (d : ℕ). LiesIn s.piece d v.repeats) (eqb-true (s.piece.first / v.repeats) c is) lies in
@@ -128,10 +131,10 @@ base_sums v (s ∷ ss) c some each apart = go (s.piece.first / v.repeats == c) r
     go false is rest =
         let elsewhere : (t : ℕ) → c * v.repeats ≤ t → t < c * v.repeats + v.repeats → is_in s.piece t ≡ false = λ t low high.
         false_from_ne_true (is_in s.piece t) (λ at. let in' = is_in-bounds s.piece t at in
-            eqb-false (s.piece.first / v.repeats) c is (one_cell (s.piece.first / v.repeats) c v.repeats t (omega (arith, lies.starts, in'.0)) (omega (arith, lies.ends, in'.1)) low high)) in
+        eqb-false (s.piece.first / v.repeats) c is (one_cell (s.piece.first / v.repeats) c v.repeats t (omega (arith, lies.starts, in'.0)) (omega (arith, lies.ends, in'.1)) low high)) in
         ap (λ x. slip_sum x) (kept false is) ∙ rest
         ∙ ap (λ x. sum_of v x) (sym (filter_agree_on (is_in_base (s ∷ ss)) (is_in_base ss) (c * v.repeats) v.repeats
-            (record { same = λ t low high. outside_first s ss t (elsewhere t low high) })))
+        (record { same = λ t low high. outside_first s ss t (elsewhere t low high) })))
 
 -- a cell whose trials are all held has the sums over all of them
 pub done_sums : (v : Values) (l : Contents) (c : ℕ) → l.plan ≡ v → 0 < v.repeats → AllByRecursion (IsTrueSlip v) l.base → ((t : ℕ) → times_in (pieces_of_slips l.base) t ≤ 1)

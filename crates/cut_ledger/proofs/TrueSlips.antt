@@ -30,7 +30,7 @@ good_after : PiecesHavePossibleTotals → (v : Values) (pre post : List Slip) (s
 good_after possible v pre post s is each apart =
     let split : (t : ℕ) → times_in (pieces_of_slips (pre ++ s ∷ post)) t ≡ times_in (pieces_of_slips pre) t + (cond (is_in s.piece t) 1 0 + times_in (pieces_of_slips post) t) = λ t.
     ap (λ ps. times_in ps t) (map-append (λ (q : Slip). q.piece) pre (s ∷ post)) ∙ times-append (pieces_of_slips pre) (pieces_of_slips (s ∷ post)) t
-        ∙ ap (λ n. times_in (pieces_of_slips pre) t + n) (count_first (λ p. is_in p t) s.piece (pieces_of_slips post)) in
+    ∙ ap (λ n. times_in (pieces_of_slips pre) t + n) (count_first (λ p. is_in p t) s.piece (pieces_of_slips post)) in
     record {
       piece = is.piece;
       apart = list_any_none_passing (has (over_base v pre)) s.piece.first s.piece.count (λ t low high held.

@@ -78,9 +78,10 @@ abbrev pub some_slip : Option Slip → List Slip
 some_slip None = []
 some_slip (Some slip) = slip ∷ []
 
--- the slips that are found at a resumption: those that are kept, and the doubtful one if it is
+-- the slips that are found at a resumption: with a journal those that are kept, and the doubtful one if it
+-- is, and else none
 abbrev pub slips_found : State → Bool → List Slip
-slips_found s keep = s.kept ++ (if keep then some_slip s.doubtful else [])
+slips_found s keep = if s.has_journal then s.kept ++ (if keep then some_slip s.doubtful else []) else []
 
 -- ---- results
 

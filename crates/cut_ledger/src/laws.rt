@@ -45,7 +45,7 @@ pub fn one_plan_has_one_table()
     ensures { (v : Values) (journal other_journal : Bool) (size other_size : ℕ) (events others : List Event)
         → IsPlan v → AllByRecursion HasTrueResult events → AllByRecursion HasTrueResult others
         → TellAlike (run (begun (start v size journal)) events)
-            (run (begun (start v other_size other_journal)) others) }
+        (run (begun (start v other_size other_journal)) others) }
 {
     canonical_text_reads_back();
 }

@@ -48,12 +48,7 @@ impl Model for Run {
 impl Run {
     /// A study that begins: its trials are divided into pieces of this size, and slips are kept if it has a
     /// journal.
-    pub fn start(
-        alloc: Global,
-        plan: Plan,
-        size: u32,
-        has_journal: bool,
-    ) -> Result<Run, AllocError>
+    pub fn start(alloc: Global, plan: Plan, size: u32, has_journal: bool) -> Result<Run, AllocError>
         requires { 0 < size }
         ensures { IfOk result (λ run. run ≡ start plan size has_journal) }
     {
@@ -207,10 +202,13 @@ impl Run {
         Ok(Reply::Opened)
     }
 
-    /// The slips that are found at a resumption.
+    /// The slips that are found at a resumption: none without a journal.
     fn slips_found(&self, alloc: Global, keep: bool) -> Result<Vec<Slip>, AllocError>
         ensures { IfOk result (λ slips. slips.items ≡ slips_found self.now keep) }
     {
+        if !self.has_journal {
+            return Ok(Vec::new(alloc));
+        }
         let mut slips = Vec::from_slice(alloc, self.kept.as_slice())?;
         if let (true, Some(slip)) = (keep, self.doubtful) {
             slips.push(slip)?;

@@ -10,6 +10,7 @@ use std::alloc::{AllocError, Global};
 use std::test::Fail;
 
 mod listing;
+mod runs;
 
 // A plan of one k, h and l, whose processes fail by crashes.
 fn plan_of(

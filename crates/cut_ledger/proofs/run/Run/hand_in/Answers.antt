@@ -21,7 +21,7 @@ invariant_of-self-in-Continue-branch-3 c =
     let full : IsReached v (taken s r) = taken_reached v s r c.self.invariant accepted in
     let kept : c.push.new.self.items ≡ (taken s r).kept =
     c.in_ok-push.ensures.items ∙ ap (λ (xs : List Slip). xs ++ c.slip_of-slip.result ∷ []) c.in_ok-reserve.ensures.items
-        ∙ ap (λ (slip : Slip). s.kept ++ slip ∷ []) c.slip_of-slip.ensures.slip ∙ sym (cond-true s.has_journal (s.kept ++ slip_of r ∷ []) s.kept c.if-self.true) in
+    ∙ ap (λ (slip : Slip). s.kept ++ slip ∷ []) c.slip_of-slip.ensures.slip ∙ sym (cond-true s.has_journal (s.kept ++ slip_of r ∷ []) s.kept c.if-self.true) in
     own_plan v _ (sent_reached v (taken s r) _ full c.in_ok-take.ensures.ok kept refl refl full.sent)
 
 pub invariant_of-self-else-self : goal.invariant_of-self-else-self

@@ -15,9 +15,9 @@ returns-clause-bytes c =
     let same : sent ≡ s.sent = ap (λ (x : State). x.sent) c.self.view_is in
     let part : take c.min-count.result (take (length text - sent) (drop sent text)) ≡ next_bytes s c.args.limit =
     ap (λ xs. take c.min-count.result xs) rest
-        ∙ ap (λ n. take n (drop sent text)) (c.min-count.ensures ∙ ap (λ xs. min (length xs) c.args.limit) rest ∙ (let swap : min (length (drop sent text)) c.args.limit ≡ min c.args.limit (length (drop sent text)) = omega arith in swap))
-        ∙ take_min c.args.limit (drop sent text) ∙ ap (λ n. take c.args.limit (drop n text)) same ∙ ap (λ xs. take c.args.limit (drop s.sent xs)) all
-        ∙ sym (cond-false s.wire_lost [] (take c.args.limit (drop s.sent (available s.ledger))) c.requires) in
+    ∙ ap (λ n. take n (drop sent text)) (c.min-count.ensures ∙ ap (λ xs. min (length xs) c.args.limit) rest ∙ (let swap : min (length (drop sent text)) c.args.limit ≡ min c.args.limit (length (drop sent text)) = omega arith in swap))
+    ∙ take_min c.args.limit (drop sent text) ∙ ap (λ n. take c.args.limit (drop n text)) same ∙ ap (λ xs. take c.args.limit (drop s.sent xs)) all
+    ∙ sym (cond-false s.wire_lost [] (take c.args.limit (drop s.sent (available s.ledger))) c.requires) in
     IfOk-weaker c.from_slice.result _ _ (λ v is. is ∙ part) c.from_slice.ensures.items
 
 pub returns-clause-small : goal.returns-clause-small

@@ -19,4 +19,3 @@ returns c =
     let each : c.in_ok-lost.lost.items ≡ map (λ p. false) c.in_ok-division.division.items =
     lost ∙ splat_is_map c.in_ok-division.division.items c.len.result false (omega (arith, c.len.ensures, c.in_ok-division.division.ok)) in
     cc (each, c.in_ok-division.ensures.value, c.requires.ledger)
-

@@ -17,7 +17,7 @@ no_slip = record { piece = record { first = 0; count = 0 }; totals = each_number
 pub open-requires-clause-apart : goal.open-requires-clause-apart
 open-requires-clause-apart c =
     let s : State = state_of c.self.inside in
-    let good = found s.ledger.plan s.ledger s.kept s.doubtful c.args.keep c.self.invariant.kept c.self.invariant.apart c.self.invariant.doubtful in
+    let good = found s.ledger.plan s.ledger s.has_journal s.kept s.doubtful c.args.keep c.self.invariant.kept c.self.invariant.apart c.self.invariant.doubtful in
     let slips : c.in_ok-slips.slips.items ≡ slips_found s c.args.keep = c.in_ok-slips.ensures ∙ ap (λ (x : State). slips_found x c.args.keep) (sym c.self.view_is) in
     subst (λ (ss : List Slip). (t : ℕ) → times_in (pieces_of_slips ss) t ≤ 1) (sym slips) good.1
 
@@ -25,7 +25,7 @@ pub unreachable-requires : goal.unreachable-requires
 unreachable-requires c =
     let s : State = state_of c.self.inside in
     let v : Values = s.ledger.plan in
-    let good = found s.ledger.plan s.ledger s.kept s.doubtful c.args.keep c.self.invariant.kept c.self.invariant.apart c.self.invariant.doubtful in
+    let good = found s.ledger.plan s.ledger s.has_journal s.kept s.doubtful c.args.keep c.self.invariant.kept c.self.invariant.apart c.self.invariant.doubtful in
     let slips : c.in_ok-slips.slips.items ≡ slips_found s c.args.keep = c.in_ok-slips.ensures ∙ ap (λ (x : State). slips_found x c.args.keep) (sym c.self.view_is) in
     let fine : AreGood v c.in_ok-slips.slips.items = subst (λ (ss : List Slip). AreGood v ss) (sym slips) (true_are_good c.pieces_have_possible_totals.ensures.pieces v (slips_found s c.args.keep) good.0 good.1) in
     let told : IsToldOf c.in_ok-plan.plan c.as_slice.result.now (BadSlip c.in-Err-BadSlip.field-0-0) = rw c.in-Err-BadSlip.field-0-is at c.in-Err-BadSlip.ensures.err in
