@@ -8,7 +8,8 @@ use std::test::Fail;
 
 /// A study of two cells: two trials of five processes with one crash, and two without.
 fn plan(alloc: Global) -> Result<Plan, PlanFault> {
-    let text = br#"{"copies":1,"dead":"silent","f":[0,1],"faults":"crash","h":[1],"implicit":true,"k":[1],"l":[1],"liars":0,"links":0,"nodes":5,"repeats":2,"seed":"0000000000000000000000000000000000000000000000000000000000000000","version":1}"#;
+    let text =
+        br#"{"copies":1,"dead":"silent","f":[0,1],"faults":"crash","h":[1],"implicit":true,"k":[1],"l":[1],"liars":0,"links":0,"nodes":5,"repeats":2,"seed":"0000000000000000000000000000000000000000000000000000000000000000","version":1}"#;
     Plan::from_json(alloc, text)
 }
 

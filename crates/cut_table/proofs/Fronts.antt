@@ -53,9 +53,9 @@ available_splits l n few done =
     let all : ℕ = length (cells_of l.plan) in
     let split : take_while (cell_done l) (range_with_len 0 all) ≡ range_with_len 0 n ++ take_while (cell_done l) (range_with_len n (all - n)) =
     take_while-front (cell_done l) 0 (range_with_len 0 all) n (omega (arith, few, length-range_with_len 0 all))
-        (λ k low. ap (cell_done l) (get_or-range_with_len 0 all k 0 (omega (arith, low, few)) ∙ zero-add k) ∙ done k low)
-        ∙ ap (λ xs. xs ++ take_while (cell_done l) (drop n (range_with_len 0 all))) (take_range 0 all n few)
-        ∙ ap (λ xs. range_with_len 0 n ++ take_while (cell_done l) xs) (drop_range 0 all n few ∙ ap (λ b. range_with_len b (all - n)) (zero-add n)) in
+    (λ k low. ap (cell_done l) (get_or-range_with_len 0 all k 0 (omega (arith, low, few)) ∙ zero-add k) ∙ done k low)
+    ∙ ap (λ xs. xs ++ take_while (cell_done l) (drop n (range_with_len 0 all))) (take_range 0 all n few)
+    ∙ ap (λ xs. range_with_len 0 n ++ take_while (cell_done l) xs) (drop_range 0 all n few ∙ ap (λ b. range_with_len b (all - n)) (zero-add n)) in
     ap (λ xs. header ++ flat_map (row_of l) xs) split
     ∙ ap (λ xs. header ++ xs) (flat_map-append (row_of l) (range_with_len 0 n) (take_while (cell_done l) (range_with_len n (all - n))))
     ∙ sym (append_assoc header (flat_map (row_of l) (range_with_len 0 n)) (behind l n))
@@ -80,7 +80,7 @@ take_more whole front line rest before n is long low high =
     let size : length (front ++ part) ≡ n = length-append front part ∙ (let l = length-take-le (n - before) line (omega (arith, high)) in omega (arith, l, long, low)) in
     let parts : whole ≡ (front ++ part) ++ (drop (n - before) line ++ rest) =
     is ∙ ap (λ xs. (front ++ xs) ++ rest) (sym (take-append-drop (n - before) line))
-        ∙ ap (λ xs. xs ++ rest) (sym (append_assoc front part (drop (n - before) line))) ∙ append_assoc (front ++ part) (drop (n - before) line) rest in
+    ∙ ap (λ xs. xs ++ rest) (sym (append_assoc front part (drop (n - before) line))) ∙ append_assoc (front ++ part) (drop (n - before) line) rest in
     take_front whole (front ++ part) (drop (n - before) line ++ rest) n parts (sym size)
 
 -- ---- what a wire took
@@ -101,6 +101,7 @@ pub cut_off : (l : Contents) (front line rest : List ℕ) (before : ℕ) (e : Ta
 cut_off l front line rest before (Memory n) old mid new whole long between first sends = absurd between
 cut_off l front line rest before (NotDone n) old mid new whole long between first sends = absurd between
 cut_off l front line rest before (Write n) old mid new whole long between first sends =
-    let part : List ℕ = take (n - before) line in
-    (wrote_more old mid new front part first sends ∙ ap (λ (xs : List ℕ). wrote old xs) (sym (take_more (available l) front line rest before n whole long between.0 between.1)),
-    omega (arith, between.1, long, ap (λ xs. length xs) whole, length-append (front ++ line) rest, length-append front line))
+    let part : List ℕ = take (n - before) line in (
+      wrote_more old mid new front part first sends ∙ ap (λ (xs : List ℕ). wrote old xs) (sym (take_more (available l) front line rest before n whole long between.0 between.1)),
+      omega (arith, between.1, long, ap (λ xs. length xs) whole, length-append (front ++ line) rest, length-append front line),
+    )

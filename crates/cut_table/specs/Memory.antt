@@ -16,4 +16,3 @@ rest_of m = drop (length m.traffic.given) m.input
 -- how many bytes a read moves to a buffer of this length
 abbrev pub read_moves : Memory → ℕ → ℕ
 read_moves m room = min (min (length (rest_of m)) m.per) room
-

@@ -27,13 +27,7 @@ impl Model for FaultyWire {
 
 impl FaultyWire {
     /// A wire over this input, of which a call moves at most `per` bytes.
-    pub fn new(
-        alloc: Global,
-        input: Vec<u8>,
-        per: usize,
-        room: usize,
-        fail_read: u64,
-    ) -> FaultyWire
+    pub fn new(alloc: Global, input: Vec<u8>, per: usize, room: usize, fail_read: u64) -> FaultyWire
         ensures { result ≡ record {
           memory = record { input = input.items; traffic = no_traffic; per = per; failures = 0 };
           room = Some room;

@@ -26,11 +26,7 @@ pub fn row(alloc: Global, ledger: &Ledger, cell: u32) -> Result<Vec<u8>, RowFaul
 }
 
 /// Writes the header, and the lines of the cells in order, up to the first cell that is not done.
-pub fn emit_table<W: Wire>(
-    alloc: Global,
-    ledger: &Ledger,
-    wire: &mut W,
-) -> Result<(), TableFault>
+pub fn emit_table<W: Wire>(alloc: Global, ledger: &Ledger, wire: &mut W) -> Result<(), TableFault>
     ensures told { W.tells wire.old → Emits ledger.now.contents result (W.traffic wire.old) (W.traffic wire.new) }
     ensures ended { IsEnded ledger.now.contents result }
     ensures tells { W.tells wire.old ↔ W.tells wire.new }

@@ -11,11 +11,14 @@ use std::alloc::Global;
 use std::test::Fail;
 
 /// A study of one cell: two trials of five processes, of which one crashes.
-const PLAN: &[u8] = br#"{"copies":1,"dead":"silent","f":[1],"faults":"crash","h":[1],"implicit":true,"k":[1],"l":[1],"liars":0,"links":0,"nodes":5,"repeats":2,"seed":"0000000000000000000000000000000000000000000000000000000000000000","version":1}"#;
+const PLAN: &[u8] =
+    br#"{"copies":1,"dead":"silent","f":[1],"faults":"crash","h":[1],"implicit":true,"k":[1],"l":[1],"liars":0,"links":0,"nodes":5,"repeats":2,"seed":"0000000000000000000000000000000000000000000000000000000000000000","version":1}"#;
 /// The same study with four processes.
-const SMALLER: &[u8] = br#"{"copies":1,"dead":"silent","f":[1],"faults":"crash","h":[1],"implicit":true,"k":[1],"l":[1],"liars":0,"links":0,"nodes":4,"repeats":2,"seed":"0000000000000000000000000000000000000000000000000000000000000000","version":1}"#;
+const SMALLER: &[u8] =
+    br#"{"copies":1,"dead":"silent","f":[1],"faults":"crash","h":[1],"implicit":true,"k":[1],"l":[1],"liars":0,"links":0,"nodes":4,"repeats":2,"seed":"0000000000000000000000000000000000000000000000000000000000000000","version":1}"#;
 /// Its table.
-const TABLE: &[u8] = b"k,h,l,f,trials,receivers,conflicts,silent,extra,votes,decided,right,ppm\n1,1,1,1,2,8,0,0,0,8,2,2,0\n";
+const TABLE: &[u8] =
+    b"k,h,l,f,trials,receivers,conflicts,silent,extra,votes,decided,right,ppm\n1,1,1,1,2,8,0,0,0,8,2,2,0\n";
 
 /// A ledger of the plan that holds a piece, where it has some trials.
 fn ledger_with(alloc: Global, piece: Piece) -> Result<Ledger, Fail> {
@@ -143,10 +146,22 @@ fn a_wire_that_moves_nothing_fails(rt: HostRuntime) -> Result<(), Fail> {
 #[test]
 fn faults_are_printed(rt: HostRuntime) -> Result<(), Fail> {
     let alloc = rt.alloc();
-    assert_eq!(rt; RowFault::NotDone(7).to_string(alloc)?.as_str(), "18 NotDone 7");
+    assert_eq!(rt;
+        RowFault::NotDone(7).to_string(alloc)?.as_str(),
+        "18 NotDone 7"
+    );
     assert_eq!(rt; RowFault::Memory.to_string(alloc)?.as_str(), "0 Memory");
-    assert_eq!(rt; TableFault::Write(80).to_string(alloc)?.as_str(), "31 Write 80");
-    assert_eq!(rt; TableFault::Memory(72).to_string(alloc)?.as_str(), "0 Memory 72");
-    assert_eq!(rt; TableFault::NotDone(2).to_string(alloc)?.as_str(), "18 NotDone 2");
+    assert_eq!(rt;
+        TableFault::Write(80).to_string(alloc)?.as_str(),
+        "31 Write 80"
+    );
+    assert_eq!(rt;
+        TableFault::Memory(72).to_string(alloc)?.as_str(),
+        "0 Memory 72"
+    );
+    assert_eq!(rt;
+        TableFault::NotDone(2).to_string(alloc)?.as_str(),
+        "18 NotDone 2"
+    );
     Ok(())
 }

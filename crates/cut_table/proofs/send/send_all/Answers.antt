@@ -17,7 +17,7 @@ loop-sent-preserved g c =
       told = λ t. c.in-Ok.ensures.told (c.loop-sent.invariant.tells.0 t)
           ∙ ap (λ (x : Traffic). wrote x (take c.in-Ok.n (take (length bytes - sent) (drop sent bytes)))) (c.loop-sent.invariant.told t)
           ∙ ap (λ (xs : List ℕ). (let y : Traffic = record { taken = xs; given = first.given; ends = first.ends } in y))
-              (append_assoc first.taken (take sent bytes) (take c.in-Ok.n (take (length bytes - sent) (drop sent bytes))) ∙ ap (λ (xs : List ℕ). first.taken ++ xs) more);
+          (append_assoc first.taken (take sent bytes) (take c.in-Ok.n (take (length bytes - sent) (drop sent bytes))) ∙ ap (λ (xs : List ℕ). first.taken ++ xs) more);
       tells = (λ t. c.in-Ok.ensures.tells.0 (c.loop-sent.invariant.tells.0 t), λ t. c.loop-sent.invariant.tells.1 (c.in-Ok.ensures.tells.1 t));
       faults = c.in-Ok.ensures.faults ∙ c.loop-sent.invariant.faults;
     }

@@ -23,7 +23,7 @@ returns-in_err-sent-clause-told g c =
     let lines : List ℕ = behind l 0 in
     let whole : available l ≡ ([] ++ line) ++ lines = available_splits l 0 (omega arith) (λ k low. absurd (omega (arith, low))) ∙ ap (λ xs. xs ++ lines) (append-nil header ∙ sym c.header.ensures) in
     λ told. subst (λ (x : Result ⊤ TableFault). Emits l x old new) (sym p.1)
-        (rw p.2 (cut_off l [] line lines 0 c.in_err-sent.field-0.0 old old new whole (omega arith) c.in_err-sent.ensures.err (wrote_none old) (c.in_err-sent.ensures.told told)))
+    (rw p.2 (cut_off l [] line lines 0 c.in_err-sent.field-0.0 old old new whole (omega arith) c.in_err-sent.ensures.err (wrote_none old) (c.in_err-sent.ensures.told told)))
 
 pub returns-in-Err-NotDone-clause-told : goal.returns-in-Err-NotDone-clause-told
 returns-in-Err-NotDone-clause-told g c =
@@ -39,8 +39,10 @@ returns-in-Err-Memory-clause-told g c =
     let n : ℕ = c.loop-cell.cell in
     let low : n < length (cells_of l.plan) = omega (arith, c.loop-cell-test.true, c.cells-cell-end.ensures.value, ap (λ (v : Values). length (cells_of v)) c.plan.ensures.value) in
     let whole = available_splits l n (omega (arith, low)) c.loop-cell.invariant.done in
-    λ told. (c.loop-cell.invariant.told told ∙ ap (λ (xs : List ℕ). wrote (g.W.Wire.traffic c.args.wire.now) xs) (sym (take_front (available l) (front_of l n) (behind l n) c.loop-cell.sent whole c.loop-cell.invariant.count)),
-    omega (arith, c.loop-cell.invariant.count, ap (λ xs. length xs) whole, length-append (front_of l n) (behind l n)))
+    λ told. (
+      c.loop-cell.invariant.told told ∙ ap (λ (xs : List ℕ). wrote (g.W.Wire.traffic c.args.wire.now) xs) (sym (take_front (available l) (front_of l n) (behind l n) c.loop-cell.sent whole c.loop-cell.invariant.count)),
+      omega (arith, c.loop-cell.invariant.count, ap (λ xs. length xs) whole, length-append (front_of l n) (behind l n)),
+    )
 
 pub returns-in_err-sent-2-clause-told : goal.returns-in_err-sent-2-clause-told
 returns-in_err-sent-2-clause-told g c =
@@ -59,8 +61,8 @@ returns-in_err-sent-2-clause-told g c =
     let whole : available l ≡ (front_of l n ++ line) ++ behind l (n + 1) =
     available_splits l (n + 1) (omega (arith, low)) done ∙ ap (λ xs. xs ++ behind l (n + 1)) (front_more l n ∙ ap (λ xs. front_of l n ++ xs) (sym is)) in
     λ told. subst (λ (x : Result ⊤ TableFault). Emits l x old new) (sym p.1)
-        (rw p.2 (cut_off l (front_of l n) line (behind l (n + 1)) c.loop-cell.sent c.in_err-sent-2.field-0.0 old (g.W.Wire.traffic c.loop-cell.wire) new whole
-            c.loop-cell.invariant.count c.in_err-sent-2.ensures.err (c.loop-cell.invariant.told told) (c.in_err-sent-2.ensures.told (c.loop-cell.invariant.tells.0 told))))
+    (rw p.2 (cut_off l (front_of l n) line (behind l (n + 1)) c.loop-cell.sent c.in_err-sent-2.field-0.0 old (g.W.Wire.traffic c.loop-cell.wire) new whole
+    c.loop-cell.invariant.count c.in_err-sent-2.ensures.err (c.loop-cell.invariant.told told) (c.in_err-sent-2.ensures.told (c.loop-cell.invariant.tells.0 told))))
 
 pub loop-cell-preserved : goal.loop-cell-preserved
 loop-cell-preserved g c =
@@ -88,4 +90,4 @@ returns-clause-told g c =
     let n : ℕ = c.loop-cell.cell in
     let all : n ≡ length (cells_of l.plan) = omega (arith, c.loop-cell-test.false, c.loop-cell.auto.cell-end, c.cells-cell-end.ensures.value, ap (λ (v : Values). length (cells_of v)) c.plan.ensures.value) in
     λ told. c.loop-cell.invariant.told told ∙ ap (λ (xs : List ℕ). wrote (g.W.Wire.traffic c.args.wire.now) xs)
-        (sym (available_ends l n (omega (arith, all)) c.loop-cell.invariant.done (λ low. absurd (omega (arith, low, all)))))
+    (sym (available_ends l n (omega (arith, all)) c.loop-cell.invariant.done (λ low. absurd (omega (arith, low, all)))))
