@@ -17,6 +17,7 @@ fn plan(alloc: Global) -> Result<Plan, PlanFault> {
 fn lines_are_numbers_with_commas(rt: HostRuntime) -> Result<(), Fail> {
     let alloc = rt.alloc();
     let plan = plan(alloc)?;
+    assert_eq!(rt; plan.cells(), 2);
     let totals = Totals {
         receivers: 6,
         conflicts: 1,
