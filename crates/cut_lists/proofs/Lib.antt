@@ -1,8 +1,12 @@
+pub mod Additions
 pub mod Ascending
 pub mod Counts
 pub mod Finds
 pub mod Firsts
+pub mod FlatMaps
+pub mod Fronts
 pub mod Greatest
+pub mod Intervals
 pub mod Keyed
 pub mod Listed
 pub mod Maps

@@ -1,3 +1,12 @@
-//! Lemmas on lists that several crates share: ranges and what is filtered from them, ranks in sorted
-//! lists, maps, and the greatest number of a list. The crate has no code: `proofs/` is what it offers.
+//! Lemmas on lists that several crates share. The crate has no code: `proofs/` is what it offers, by module:
+//!
+//! - numbers of a range: `Ranges` (tests, counts and filters over them), `Intervals` (tests that all of them
+//!   pass, and their first ones), `Additions` (sums and counts where a part passes that did not), `Firsts`
+//!   (the first that passes), `Listed` (lists of exactly those that pass), `Pigeonhole`, `Rounds` (places
+//!   round a ring);
+//! - elements of any list: `Counts` and `Parts` (how many pass a test), `Finds` (the first that passes),
+//!   `Fronts` (what is in front of the first that fails), `Maps` and `FlatMaps`;
+//! - order: `Ascending`, `Greatest`, `Keyed` (numbers sorted by a key), `Orders` (lists that hold each of the
+//!   first numbers once), `Ranks` and `RankOrders` (how many come before);
+//! - masks: `Ones` (their bits counted), `BitSets` (lists of them as sets of pairs).
 #![tactic(auto)]

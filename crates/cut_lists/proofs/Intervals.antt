@@ -1,0 +1,116 @@
+-- Numbers from one up to another, and tests that all of them pass.
+use Rattle.std.proofs.Common.{◌≡◌, ℕ, zero, suc, ◌+◌, ◌-◌, ◌<◌, ◌≤◌, inl, inr, Bool, true, false, ◌&&◌, ◌||◌}
+use Rattle.std.proofs.Common.{◌∷◌, map, length, take, drop, get_or, nat_lt, nat_le, refl, sym, ap, ◌∙◌}
+use Rattle.std.proofs.Common.{arith, add-zero}
+use Rattle.std.specs.List.{range_with_len, list_all, prefix_len}
+use Rattle.std.proofs.lemmas.Bool.{both_ways, cases_Bool, cases_lt, lt-ltb, le-ltb, le-leb, lt-leb}
+use Rattle.std.proofs.lemmas.List.Folds.{list_all_at}
+use Rattle.std.proofs.lemmas.List.FromFn.{length-range_with_len, get_or-range_with_len}
+use Rattle.std.proofs.lemmas.List.Sums.{list_all-from_AllPass, prefix_len_is}
+use Rattle.cut_lists.proofs.Ranges.{All-range_with_len}
+
+-- ---- a number between two others
+
+-- from a on, below b
+abbrev pub within : ℕ → ℕ → ℕ → Bool
+within a b t = nat_le a t && nat_lt t b
+
+pub within_is : (a b t : ℕ) → a ≤ t → t < b → within a b t ≡ true
+within_is a b t low high = ap (λ x. x && nat_lt t b) (le-leb a t low) ∙ lt-ltb t b high
+
+pub within_below : (a b t : ℕ) → t < a → within a b t ≡ false
+within_below a b t low = ap (λ x. x && nat_lt t b) (lt-leb a t low)
+
+pub within_above : (a b t : ℕ) → b ≤ t → within a b t ≡ false
+within_above a b t high = elim (cases_lt t a) [
+  | inl low ↦ within_below a b t low
+  | inr low ↦ ap (λ x. x && nat_lt t b) (le-leb a t low) ∙ le-ltb t b high
+]
+
+-- none is between one and itself
+pub within_none : (a t : ℕ) → within a a t ≡ false
+within_none a t = elim (cases_lt t a) [
+  | inl low ↦ within_below a a t low
+  | inr high ↦ within_above a a t high
+]
+
+pub within_joined : (a b c t : ℕ) → a ≤ b → b ≤ c → within a c t ≡ within a b t || within b c t
+within_joined a b c t ab bc = elim (cases_lt t b) [
+  | inl low ↦ elim (cases_lt t a) [
+    | inl out ↦ within_below a c t out
+        ∙ sym (ap (λ x. x || within b c t) (within_below a b t out) ∙ within_below b c t low)
+    | inr in' ↦ within_is a c t in' (omega arith)
+        ∙ sym (ap (λ x. x || within b c t) (within_is a b t in' low))
+  ]
+  | inr high ↦ elim (cases_lt t c) [
+    | inl in' ↦ within_is a c t (omega arith) in'
+        ∙ sym (ap (λ x. x || within b c t) (within_above a b t high) ∙ within_is b c t high in')
+    | inr out ↦ within_above a c t out
+        ∙ sym (ap (λ x. x || within b c t) (within_above a b t high) ∙ within_above b c t out)
+  ]
+]
+
+-- ---- a test that all numbers of a range pass
+
+pub list_all_passing : (p : ℕ → Bool) (a n : ℕ) → ((t : ℕ) → a ≤ t → t < a + n → p t ≡ true)
+    → list_all p (range_with_len a n) ≡ true
+list_all_passing p a n each =
+    list_all-from_AllPass p (range_with_len a n) (All-range_with_len (λ t. p t ≡ true) a n each)
+
+pub list_all_failing : (p : ℕ → Bool) (a n t : ℕ) → a ≤ t → t < a + n → p t ≡ false
+    → list_all p (range_with_len a n) ≡ false
+list_all_failing p a n t low high fails =
+    let long : length (range_with_len a n) ≡ n = length-range_with_len a n in
+    let at : get_or (range_with_len a n) (t - a) 0 ≡ t =
+    get_or-range_with_len a n (t - a) 0 (omega arith) ∙ omega arith in
+    list_all_at p (range_with_len a n) (t - a) 0 (omega arith) (ap p at ∙ fails)
+
+-- what passes on all of a range passes at each number of it
+pub passes_at : (p : ℕ → Bool) (a n : ℕ) → list_all p (range_with_len a n) ≡ true
+    → (t : ℕ) → a ≤ t → t < a + n → p t ≡ true
+passes_at p a n all t low high = elim (cases_Bool (p t)) [
+  | inl passes ↦ passes
+  | inr fails ↦ absurd (both_ways _ (list_all_failing p a n t low high fails) all)
+]
+
+-- how many numbers of a range are in front of the first that fails
+pub first_failing : (p : ℕ → Bool) (a m n : ℕ) → m ≤ n → ((t : ℕ) → a ≤ t → t < a + m → p t ≡ true)
+    → (m < n → p (a + m) ≡ false) → prefix_len p (range_with_len a n) ≡ m
+first_failing p a m n few passes stops =
+    let long : length (range_with_len a n) ≡ n = length-range_with_len a n in
+    prefix_len_is p (range_with_len a n) m 0 (omega arith)
+    (λ k low. ap p (get_or-range_with_len a n k 0 (omega arith)) ∙ passes (a + k) (omega arith) (omega arith))
+    (λ more. ap p (get_or-range_with_len a n m 0 (omega arith)) ∙ stops (omega arith))
+
+-- ---- tests that agree
+
+pub list_all_agree : (p q : ℕ → Bool) (a n : ℕ) → ((t : ℕ) → a ≤ t → t < a + n → p t ≡ q t)
+    → list_all p (range_with_len a n) ≡ list_all q (range_with_len a n)
+list_all_agree p q a zero agree = refl
+list_all_agree p q a (suc n) agree =
+    ap (λ b. b && list_all p (range_with_len (a + 1) n)) (agree a (omega arith) (omega arith))
+    ∙ ap (λ b. q a && b) (list_all_agree p q (a + 1) n (λ t low high. agree t (omega arith) (omega arith)))
+
+pub map_agree : {X : Type 0} (f g : ℕ → X) (a n : ℕ) → ((t : ℕ) → a ≤ t → t < a + n → f t ≡ g t)
+    → map f (range_with_len a n) ≡ map g (range_with_len a n)
+map_agree f g a zero agree = refl
+map_agree f g a (suc n) agree =
+    ap (λ x. x ∷ map f (range_with_len (a + 1) n)) (agree a (omega arith) (omega arith))
+    ∙ ap (λ xs. g a ∷ xs) (map_agree f g (a + 1) n (λ t low high. agree t (omega arith) (omega arith)))
+
+-- ---- the first numbers of a range, and the rest
+
+pub take_range : (a n k : ℕ) → k ≤ n → take k (range_with_len a n) ≡ range_with_len a k
+take_range a n zero few = refl
+take_range a zero (suc k) few = absurd (omega arith)
+take_range a (suc n) (suc k) few = ap (λ xs. a ∷ xs) (take_range (a + 1) n k (omega arith))
+
+pub drop_range : (a n k : ℕ) → k ≤ n → drop k (range_with_len a n) ≡ range_with_len (a + k) (n - k)
+drop_range a n zero few =
+    ap (λ b. range_with_len b n) (sym (add-zero a))
+    ∙ ap (λ m. range_with_len (a + 0) m) (let e : n ≡ n - 0 = omega arith in e)
+drop_range a zero (suc k) few = absurd (omega arith)
+drop_range a (suc n) (suc k) few =
+    drop_range (a + 1) n k (omega arith)
+    ∙ ap (λ b. range_with_len b (n - k)) (let e : a + 1 + k ≡ a + suc k = omega arith in e)
+    ∙ ap (λ m. range_with_len (a + suc k) m) (let e : n - k ≡ suc n - suc k = omega arith in e)
