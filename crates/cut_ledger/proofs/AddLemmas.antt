@@ -1,25 +1,20 @@
 -- A piece with its sums added to a ledger's cells: what is held and summed then.
-use Rattle.std.proofs.Common.{◌≡◌, ℕ, ◌+◌, ◌*◌, ◌/◌, ◌<◌, ◌≤◌, ◌⊎◌, inl, inr, Bool, true, false, ◌==◌, ◌&&◌, ◌||◌, not, cond, List, [], ◌∷◌, ◌++◌, length, set, refl, sym, ap, ◌∙◌, subst, arith, append-nil}
-use Rattle.std.specs.Prelude.{IsTrue}
-use Rattle.std.specs.List.{list_any, sum_by, count_by}
+use Rattle.std.proofs.Common.{◌≡◌, ℕ, ◌+◌, ◌*◌, ◌/◌, ◌<◌, ◌≤◌, ◌⊎◌, inl, inr, Bool, true, false, ◌==◌, ◌&&◌, ◌||◌, not, cond, List, [], ◌∷◌, ◌++◌, map, get_or, length, set, refl, sym, ap, ◌∙◌, subst, arith, append-nil}
 use Rattle.std.proofs.Math.Bool.{or-false}
 use Rattle.std.proofs.lemmas.Bool.{cases_eq, eq-eqb, ne_eqb, false_from_ne_true, or_cases, or_left, or_right, and_left, not_from_false}
-use Rattle.std.proofs.lemmas.List.{get_or-set_same, get_or-set_other, length-set}
+use Rattle.std.proofs.lemmas.List.{get_or-set_same, get_or-set_other, length-set, length-map, map-set}
 use Rattle.std.proofs.lemmas.List.Elements.{filter-append, filter_agree}
 use Rattle.std.proofs.lemmas.List.Folds.{list_any-append}
 use Rattle.std.proofs.lemmas.List.Sums.{sum_by_push}
 use Rattle.cut_lists.proofs.Ranges.{filter_agree_on, count_by_agree, none_passing}
-use Rattle.cut_plan.specs.Values.{Values}
-use Rattle.cut_trial.specs.declared.piece.Piece.{Piece}
-use Rattle.cut_trial.specs.declared.totals.Totals.{Totals}
+use Rattle.cut_lists.proofs.Additions.{PassesPart, count_of_more, sum_of_more}
 use Rattle.cut_trial.specs.Outcome.{outcome}
-use Rattle.cut_trial.specs.Sum.{each_number, plus, sum_of, trials_in, trials_of_cell, is_piece, IsAtMost}
-use Rattle.cut_ledger.specs.declared.kept.Kept.{Kept}
-use Rattle.cut_ledger.specs.declared.slip.Slip.{Slip}
-use Rattle.cut_ledger.specs.Contents.{has, held_where, with_piece, is_in, is_in_base, slips_of_cell, further_trials, sum_where}
-use Rattle.cut_ledger.specs.Kept.{no_cell, cell_at, is_kept, IsKeptOf, AreKept, IsAdded, IsAddedTo, contents_in}
-use Rattle.cut_ledger.specs.Ranges.{is_held}
-use Rattle.cut_ledger.proofs.Numbers.{PassesPart, sum_of_more, count_of_more}
+use Rattle.cut_ledger.specs.Kept.{cell_at}
+use Rattle.cut_ledger.proofs.Words.{AreKept, IsAdded, IsAddedTo, IsAtMost, IsKeptOf, IsTrue, Kept, Piece}
+use Rattle.cut_ledger.proofs.Words.{Slip, Totals, Values, contents_in, count_by, each_number, further_trials}
+use Rattle.cut_ledger.proofs.Words.{has, held_where, is_held, is_in, is_in_base, is_kept, is_piece, list_any}
+use Rattle.cut_ledger.proofs.Words.{no_cell, plus, slips_of_cell, sum_by, sum_of, sum_where, trials_in}
+use Rattle.cut_ledger.proofs.Words.{trials_of_cell, with_piece}
 use Rattle.cut_ledger.proofs.CellLemmas.{PieceFacts, piece_facts, in_piece, piece_cell, kept_at, meets_cell, held_agree, has_kept, IsMore, kept_more, more_part, more_elsewhere}
 
 -- ---- what is known of the call
@@ -202,10 +197,23 @@ taken_kept v base cells k p adding =
     (λ d other. same_sums v base (is_kept v cells) (is_kept v news) d (λ t a b. more_elsewhere (is_kept v cells) (is_kept v news) v p c d t known.facts known.more other a b))
     (λ t e. known.more.same t ∙ or_left (is_kept v cells t) (is_in p t) (adding.kept.based t e))
 
+-- in which cells there is room, where one is set
+abbrev pub rooms : List Kept → List Bool
+rooms cells = map (λ (k : Kept). k.trials.room) cells
+
+others_stay : (cells : List Kept) (c : ℕ) (k : Kept) → c < length cells
+    → rooms (set cells c k) ≡ set (rooms cells) c (get_or (rooms (set cells c k)) c false)
+others_stay cells c k within =
+    let one = map-set (λ (x : Kept). x.trials.room) cells c k in
+    let long = length-map cells (λ (x : Kept). x.trials.room) in
+    let here = get_or-set_same (rooms cells) c k.trials.room false (omega (arith, long, within)) in
+    one ∙ ap (λ b. set (rooms cells) c b) (sym (ap (λ xs. get_or xs c false) one ∙ here))
+
 -- a result taken: the cells that follow, and what the ledger is then
 pub record Took (v : Values) (base : List Slip) (olds news : List Kept) (p : Piece) : Type 0 where
   pub kept : AreKept v base news
   pub contents : contents_in v base news ≡ with_piece (contents_in v base olds) p
+  pub others : rooms news ≡ set (rooms olds) (p.first / v.repeats) (get_or (rooms news) (p.first / v.repeats) false)
 
 pub took : (v : Values) (base : List Slip) (olds news : List Kept) (p : Piece) → AreKept v base olds → IsTrue (is_piece v p) → list_any (is_kept v olds) (trials_in p) ≡ false → IsAtMost (2048 * p.count) (sum_of v (trials_in p)) → IsAddedTo v olds news p (sum_of v (trials_in p)) → Took v base olds news p
 took v base olds news p kept piece apart few to =
@@ -224,6 +232,7 @@ took v base olds news p kept piece apart few to =
     (record {
       kept = taken_kept v base olds to.cell p adding;
       contents = ap (λ (bs : List Bool). record { plan = v; base = base; held = bs }) held;
+      others = others_stay olds (p.first / v.repeats) to.cell known.within;
     })
 
 -- and a slip, which is one of the base from then on

@@ -1,7 +1,5 @@
 -- The cells of a ledger: which trials are held, and the sums over them, as a piece is added.
 use Rattle.std.proofs.Common.{◌≡◌, ℕ, zero, suc, ◌+◌, ◌-◌, ◌*◌, ◌/◌, ◌<◌, ◌≤◌, ◌^◌, ◌⊎◌, inl, inr, Bool, true, false, ◌==◌, ◌&&◌, ◌||◌, not, List, [], ◌∷◌, ◌++◌, map, length, get_or, set, nat_lt, nat_le, sym, ap, ◌∙◌, subst, arith, zero-add}
-use Rattle.std.specs.Prelude.{IsTrue}
-use Rattle.std.specs.List.{range_with_len, list_all, list_any, flat_map, sum_by}
 use Rattle.std.proofs.Math.Nat.{div-mul-le_self, lt-div-mul-add, zero-mul}
 use Rattle.std.proofs.Math.Bool.{or-false, and-true}
 use Rattle.std.proofs.lemmas.Bool.{cases_eq, cases_lt, false_from_ne_true, and_parts, eqb-true, ltb-true, leb-true, or_right, and_left}
@@ -10,21 +8,18 @@ use Rattle.std.proofs.lemmas.List.Folds.{list_all-append}
 use Rattle.std.proofs.lemmas.List.Sums.{count_by-le-length}
 use Rattle.std.proofs.lemmas.List.FromFn.{length-range_with_len, get_or-map-range_with_len, length-map-range_with_len}
 use Rattle.std.proofs.lemmas.Nat.{div-mul-add, div_below, le-div}
-use Rattle.cut_lists.proofs.Ranges.{list_any_agree, range_with_len_more}
-use Rattle.cut_plan.specs.Values.{Values}
-use Rattle.cut_plan.specs.Cells.{cells_of, trial_count}
-use Rattle.cut_plan.specs.Plan.{IsPlan}
-use Rattle.cut_trial.specs.declared.piece.Piece.{Piece}
-use Rattle.cut_trial.specs.declared.totals.Totals.{Totals}
+use Rattle.cut_ledger.proofs.Words.{AreKept, AreOver, IsAdded, IsAtMost, IsKeptOf, IsPlan, IsTrue, Kept}
+use Rattle.cut_ledger.proofs.Words.{Piece, Slip, Totals, Values, account_in, cells_of, contents_in}
+use Rattle.cut_ledger.proofs.Words.{each_number, flat_map, further_trials, has, held_where, is_held, is_in}
+use Rattle.cut_ledger.proofs.Words.{is_in_base, is_in_some, is_kept, is_piece, list_all, list_any, no_cell}
+use Rattle.cut_ledger.proofs.Words.{overlaps, range_with_len, runs, sum_by, sum_where, trial_count, trials_in}
+use Rattle.cut_ledger.proofs.Words.{trials_of_cell}
+use Rattle.cut_lists.proofs.Ranges.{list_any_agree, range_with_len_more, ranges-join}
+use Rattle.cut_lists.proofs.Additions.{PassesPart}
+use Rattle.cut_lists.proofs.Counts.{filter-none}
+use Rattle.cut_lists.proofs.Intervals.{list_all_agree, map_agree, within_is}
 use Rattle.cut_trial.specs.Outcome.{outcome}
-use Rattle.cut_trial.specs.Sum.{each_number, trials_in, trials_of_cell, is_piece, IsAtMost}
-use Rattle.cut_ledger.specs.declared.kept.Kept.{Kept}
-use Rattle.cut_ledger.specs.declared.slip.Slip.{Slip}
-use Rattle.cut_ledger.specs.Contents.{has, held_where, is_in, is_in_base, overlaps, further_trials, sum_where}
-use Rattle.cut_ledger.specs.Gaps.{runs}
-use Rattle.cut_ledger.specs.Kept.{no_cell, cell_at, is_kept, IsKeptOf, AreKept, AreOver, IsAdded, contents_in, account_in}
-use Rattle.cut_ledger.specs.Ranges.{is_held, is_in_some}
-use Rattle.cut_ledger.proofs.Numbers.{within_is, map_agree, list_all_agree, filter_none, ranges_join, PassesPart}
+use Rattle.cut_ledger.specs.Kept.{cell_at}
 
 -- ---- trials and their cells
 
@@ -48,15 +43,15 @@ pub record PieceFacts (v : Values) (p : Piece) (c : ℕ) : Type 0 where
   pub starts : c * v.repeats ≤ p.first
   pub ends : p.first + p.count ≤ c * v.repeats + v.repeats
 
-pub piece_facts : (v : Values) (p : Piece) → IsPlan v → IsTrue (is_piece v p) → PieceFacts v p (p.first / v.repeats)
-piece_facts v p plan piece =
+pub piece_in_cell : (v : Values) (p : Piece) → 0 < v.repeats → IsTrue (is_piece v p)
+    → PieceFacts v p (p.first / v.repeats)
+piece_in_cell v p repeats piece =
     let r : ℕ = v.repeats in
     let last : ℕ = p.first + p.count - 1 in
     let parts = and_parts (nat_lt 0 p.count && nat_le (p.first + p.count) (trial_count v)) (p.first / r == last / r) piece in
     let ends = and_parts (nat_lt 0 p.count) (nat_le (p.first + p.count) (trial_count v)) parts.0 in
     let some : 0 < p.count = ltb-true 0 p.count ends.0 in
     let end : p.first + p.count ≤ trial_count v = leb-true (p.first + p.count) (trial_count v) ends.1 in
-    let repeats : 0 < r = (let w = plan.some_repeats in omega arith) in
     let one : p.first / r ≡ last / r = eqb-true (p.first / r) (last / r) parts.1 in
     let first-in = in_cell r p.first repeats in
     let last-in = in_cell r last repeats in
@@ -68,6 +63,9 @@ piece_facts v p plan piece =
       starts = first-in.low;
       ends = (let w = last-in.high in omega arith);
     }
+
+pub piece_facts : (v : Values) (p : Piece) → IsPlan v → IsTrue (is_piece v p) → PieceFacts v p (p.first / v.repeats)
+piece_facts v p plan piece = piece_in_cell v p plan.some_repeats piece
 
 pub in_piece : (p : Piece) (t : ℕ) → is_in p t ≡ true → (p.first ≤ t) × (t < p.first + p.count)
 in_piece p t e =
@@ -199,7 +197,7 @@ all_cells p r (suc m) =
     let more : suc m ≡ m + 1 = omega arith in
     let cell : ℕ → Bool = λ c. list_all p (range_with_len (c * r) r) in
     ap (λ n. list_all p (range_with_len 0 n)) count
-    ∙ ap (list_all p) (sym (ranges_join 0 (m * r) r))
+    ∙ ap (list_all p) (sym (ranges-join 0 (m * r) r))
     ∙ list_all-append p (range_with_len 0 (m * r)) (range_with_len (0 + m * r) r)
     ∙ ap (λ n. list_all p (range_with_len 0 (m * r)) && list_all p (range_with_len n r)) (zero-add (m * r))
     ∙ ap (λ b. b && cell m) (all_cells p r m)
@@ -244,7 +242,7 @@ empty_over v cells plan long empties = record {
     ]
 
     trials : (c : ℕ) → further_trials v [] (is_kept v cells) c ≡ []
-    trials c = filter_none (λ t. is_kept v cells t && not (is_in_base [] t)) (trials_of_cell v c) (λ k d low. and_left (is_kept v cells (get_or (trials_of_cell v c) k d)) (not (is_in_base [] (get_or (trials_of_cell v c) k d))) (none (get_or (trials_of_cell v c) k d)))
+    trials c = filter-none (λ t. is_kept v cells t && not (is_in_base [] t)) (trials_of_cell v c) (λ k d low. and_left (is_kept v cells (get_or (trials_of_cell v c) k d)) (not (is_in_base [] (get_or (trials_of_cell v c) k d))) (none (get_or (trials_of_cell v c) k d)))
 
 -- ---- a change of memory alone
 

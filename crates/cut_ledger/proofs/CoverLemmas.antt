@@ -1,22 +1,19 @@
 -- Gaps, and the pieces that they are cut into, cover what is not held, each trial once.
-use Rattle.std.proofs.Common.{◌≡◌, ℕ, zero, suc, ◌+◌, ◌-◌, ◌*◌, ◌<◌, ◌≤◌, ◌⊎◌, inl, inr, Bool, true, false, not, cond, min, List, [], ◌∷◌, ◌++◌, All, map, filter, length, get_or, refl, sym, ap, ◌∙◌, subst, arith, append-nil, zero-add}
-use Rattle.std.specs.Int.{div_ceil}
-use Rattle.std.specs.List.{range_with_len, flat_map, prefix_len}
+use Rattle.std.proofs.Common.{◌≡◌, ℕ, zero, suc, ◌+◌, ◌-◌, ◌*◌, ◌<◌, ◌≤◌, ◌⊎◌, inl, inr, Bool, true, false, not, cond, min, List, [], ◌∷◌, ◌++◌, map, filter, length, get_or, refl, sym, ap, ◌∙◌, subst, arith, append-nil, zero-add}
 use Rattle.std.proofs.Math.Nat.{zero-mul}
 use Rattle.std.proofs.lemmas.Bool.{cases_lt, lt-ltb, le-ltb}
 use Rattle.std.proofs.lemmas.Grind.{flat_map-append, div_ceil_times}
 use Rattle.std.proofs.lemmas.List.Elements.{filter-append}
 use Rattle.std.proofs.lemmas.List.FromFn.{length-range_with_len, get_or-range_with_len, map-range_with_len_more}
 use Rattle.std.proofs.lemmas.List.Sums.{prefix_len-le-length, prefix_len_passes, prefix_len_stops}
-use Rattle.cut_plan.specs.Cells.{cells_of, trial_count}
-use Rattle.cut_trial.specs.declared.piece.Piece.{Piece}
-use Rattle.cut_trial.specs.Sum.{trials_in}
-use Rattle.cut_ledger.specs.Contents.{Contents, has, all_trials}
-use Rattle.cut_ledger.specs.Gaps.{runs, gaps_of, part_of, parts_of, pieces_of}
-use Rattle.cut_ledger.specs.Ranges.{gap_between}
+use Rattle.cut_lists.proofs.Additions.{filter-all}
+use Rattle.cut_lists.proofs.FlatMaps.{flat_map-flat_map, flat_map-agree}
+use Rattle.cut_lists.proofs.Ranges.{All-range_with_len, ranges-join}
+use Rattle.cut_ledger.proofs.Words.{Contents, Piece, all_trials, cells_of, div_ceil, flat_map, gap_between}
+use Rattle.cut_ledger.proofs.Words.{gaps_of, has, part_of, parts_of, pieces_of, prefix_len, range_with_len}
+use Rattle.cut_ledger.proofs.Words.{runs, trial_count, trials_in}
 use Rattle.cut_ledger.proofs.GapLemmas.{Gives, runs_cut, runs_last}
 use Rattle.cut_ledger.proofs.GapPieces.{part_within}
-use Rattle.cut_ledger.proofs.Numbers.{all_of_range, filter_all, ranges_join}
 
 -- ---- runs
 
@@ -32,7 +29,7 @@ gap_trials low (suc m) =
     ∙ ap (range_with_len low) long
 
 passes_all : (test : ℕ → Bool) (low m : ℕ) → Gives test true low (low + m) → filter test (range_with_len low m) ≡ range_with_len low m
-passes_all test low m passes = filter_all test (range_with_len low m) (all_of_range (λ t. test t ≡ true) low m passes)
+passes_all test low m passes = filter-all test (range_with_len low m) (All-range_with_len (λ t. test t ≡ true) low m passes)
 
 -- the runs of a test, one after another, are what passes it
 runs_cover_by : (fuel : ℕ) (test : ℕ → Bool) (low n : ℕ) → n ≤ fuel → flat_map trials_in (runs test low n) ≡ filter test (range_with_len low n)
@@ -68,7 +65,7 @@ runs_cover_by (suc fuel) test low n le = by (λ a k few. runs_cover_by fuel test
         let out : Gives test false (low + m) (low + (m + 1)) = λ t from to. (let same : t ≡ low + m = omega arith in ap test same ∙ fails) in
         let later = shorter (low + (m + 1)) rest (omega arith) in
         let front : filter test (range_with_len low (m + 1)) ≡ range_with_len low m =
-        ap (filter test) (sym (ranges_join low m 1))
+        ap (filter test) (sym (ranges-join low m 1))
         ∙ filter-append test (range_with_len low m) (range_with_len (low + m) 1)
         ∙ ap (λ xs. xs ++ filter test (range_with_len (low + m) 1)) (passes_all test low m passes)
         ∙ ap (λ b. range_with_len low m ++ cond b ((low + m) ∷ []) []) fails
@@ -81,24 +78,13 @@ runs_cover_by (suc fuel) test low n le = by (λ a k few. runs_cover_by fuel test
         ∙ ap (λ xs. range_with_len low m ++ xs) later
         ∙ ap (λ xs. xs ++ filter test (range_with_len (low + (m + 1)) rest)) (sym front)
         ∙ sym (filter-append test (range_with_len low (m + 1)) (range_with_len (low + (m + 1)) rest))
-        ∙ ap (filter test) (ranges_join low (m + 1) rest)
+        ∙ ap (filter test) (ranges-join low (m + 1) rest)
         ∙ ap (λ k. filter test (range_with_len low k)) parts
 
 pub runs_cover : (test : ℕ → Bool) (low n : ℕ) → flat_map trials_in (runs test low n) ≡ filter test (range_with_len low n)
 runs_cover test low n = runs_cover_by n test low n (omega arith)
 
 -- ---- cells
-
-flat_map-flat_map : {X Y Z : Type 0} (g : Y → List Z) (f : X → List Y) (xs : List X) → flat_map g (flat_map f xs) ≡ flat_map (λ x. flat_map g (f x)) xs
-flat_map-flat_map g f [] = refl
-flat_map-flat_map g f (x ∷ xs) =
-    flat_map-append g (f x) (flat_map f xs) ∙ ap (λ ys. flat_map g (f x) ++ ys) (flat_map-flat_map g f xs)
-
-flat_map-agree : {X Y : Type 0} (f g : X → List Y) (xs : List X) → All (λ x. f x ≡ g x) xs → flat_map f xs ≡ flat_map g xs
-flat_map-agree f g [] all = refl
-flat_map-agree f g (x ∷ xs) all =
-    ap (λ ys. ys ++ flat_map f xs) (all 0 x (omega arith))
-    ∙ ap (λ ys. g x ++ ys) (flat_map-agree f g xs (λ k d low. all (suc k) d (omega arith)))
 
 -- what passes of each cell in turn is what passes
 by_cells : (test : ℕ → Bool) (r a m : ℕ) → flat_map (λ c. filter test (range_with_len (c * r) r)) (range_with_len a m) ≡ filter test (range_with_len (a * r) (m * r))
@@ -109,7 +95,7 @@ by_cells test r a (suc m) =
     ap (λ xs. filter test (range_with_len (a * r) r) ++ xs) (by_cells test r (a + 1) m)
     ∙ ap (λ k. filter test (range_with_len (a * r) r) ++ filter test (range_with_len k (m * r))) next
     ∙ sym (filter-append test (range_with_len (a * r) r) (range_with_len (a * r + r) (m * r)))
-    ∙ ap (filter test) (ranges_join (a * r) r (m * r))
+    ∙ ap (filter test) (ranges-join (a * r) r (m * r))
     ∙ ap (λ k. filter test (range_with_len (a * r) k)) (sym count)
 
 pub gaps_cover : (l : Contents) → flat_map trials_in (gaps_of l) ≡ filter (λ t. not (has l t)) (all_trials l.plan)
@@ -140,7 +126,7 @@ parts_cover_to size p (suc n) some le =
     ∙ ap (λ xs. flat_map trials_in (map part (range_with_len 0 n)) ++ xs) (append-nil (trials_in (part n)))
     ∙ ap (λ xs. xs ++ trials_in (part n)) (parts_cover_to size p n some (omega arith))
     ∙ ap (λ k. range_with_len p.first k ++ trials_in (part n)) before
-    ∙ ranges_join p.first (n * size) last
+    ∙ ranges-join p.first (n * size) last
     ∙ ap (range_with_len p.first) after
 
 pub parts_cover : (size : ℕ) (p : Piece) → 1 ≤ size → flat_map trials_in (parts_of size p) ≡ trials_in p

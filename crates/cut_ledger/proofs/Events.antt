@@ -1,42 +1,31 @@
 -- Each event leaves true what holds of a run.
 use Rattle.std.proofs.Common.{◌≡◌, ℕ, ◌+◌, ◌*◌, ◌<◌, ◌≤◌, ◌==◌, ◌&&◌, ◌||◌, inl, inr, Bool, true, false, not, cond, List, [], ◌∷◌, ◌++◌, Option, Some, None, IfSome, length, take, drop, refl, sym, ap, ◌∙◌, arith, append_assoc, append-nil, take-append-drop, take_all, IsTrue, subst}
-use Rattle.std.specs.Prelude.{option_map, slice_get, slice_index_or}
-use Rattle.std.specs.List.{list_any, AllByRecursion}
+use Rattle.std.specs.Prelude.{slice_get}
 use Rattle.std.proofs.lemmas.List.{map-append}
 use Rattle.std.proofs.lemmas.Bool.{and_parts, or_cases, or_left, cond_both, eqb-true}
-use Rattle.cut_faults.specs.declared.code.FaultCode.{FaultCode}
 use Rattle.cut_faults.specs.declared.code.FaultCode.TheVariants as code
-use Rattle.cut_plan.specs.Values.{Values}
-use Rattle.cut_plan.specs.Cells.{trial_count}
-use Rattle.cut_plan.specs.Plan.{IsPlan}
-use Rattle.cut_trial.specs.Computed.{Computed}
-use Rattle.cut_trial.specs.Outcome.{one_if}
-use Rattle.cut_trial.specs.declared.piece.Piece.{Piece}
-use Rattle.cut_trial.specs.Sum.{is_piece, sum_of, trials_in}
+use Rattle.cut_lists.proofs.Intervals.{list_all_passing, passes_at}
 use Rattle.cut_lists.proofs.Ranges.{none_passing}
 use Rattle.cut_lines.specs.Lines.{table}
-use Rattle.cut_ledger.specs.declared.slip.Slip.{Slip}
-use Rattle.cut_ledger.specs.declared.event.Event.{Event}
 use Rattle.cut_ledger.specs.declared.event.Event.TheVariants.{Draw, HandIn, HandInDiskFails, Lose, CrashReopen, Emit, WireFails, NewWire, Finish}
 use Rattle.cut_ledger.specs.declared.event.Reply as replies
 use Rattle.cut_ledger.specs.declared.event.Reply.TheVariants as reply
 use Rattle.cut_ledger.specs.declared.fault.LedgerFault.TheVariants.{Overlap, Stranger}
-use Rattle.cut_ledger.specs.Contents.{Contents, has, is_in, with_piece, overlaps, cell_done, is_complete}
-use Rattle.cut_ledger.specs.FaultCode.{code_of}
-use Rattle.cut_ledger.specs.Refusals.{CanTake, is_same_plan}
-use Rattle.cut_ledger.specs.Machine.{State, available, opened, start, some_slip, slips_found, slip_of, refused_code, taken, failed, unless_refused, accepted_unless, drawn_piece, is_finished, reply_to, after}
-use Rattle.cut_ledger.specs.World.{World, begun, step, run, bytes_after, accepted_after, times_in, pieces_of_slips, IsTrueSlip, HasTrueResult, IsRight, TellAlike}
-use Rattle.cut_ledger.proofs.LawSums.{is_in-bounds}
+use Rattle.cut_ledger.specs.Refusals.{is_same_plan}
+use Rattle.cut_ledger.proofs.Words.{AllByRecursion, CanTake, Computed, Contents, Event, FaultCode}
+use Rattle.cut_ledger.proofs.Words.{HasTrueResult, IsDoubtful, IsFounded, IsPlan, IsReached, IsRight}
+use Rattle.cut_ledger.proofs.Words.{IsTrueSlip, Ok, Piece, Refusal, Result, Slip, State, TellAlike, Values}
+use Rattle.cut_ledger.proofs.Words.{World, accepted_after, accepted_unless, after, available, begun}
+use Rattle.cut_ledger.proofs.Words.{bytes_after, cell_done, code_of, drawn_piece, failed, has, is_complete}
+use Rattle.cut_ledger.proofs.Words.{is_finished, is_in, is_piece, list_any, one_if, opened, option_map}
+use Rattle.cut_ledger.proofs.Words.{overlaps, pieces_of_slips, refused_code, reply_to, run, same_text}
+use Rattle.cut_ledger.proofs.Words.{slice_index_or, slip_of, slips_found, some_slip, start, step, sum_of}
+use Rattle.cut_ledger.proofs.Words.{taken, times_in, trial_count, trials_in, unless_refused, with_piece}
+use Rattle.cut_ledger.proofs.CellLemmas.{in_piece}
 use Rattle.cut_ledger.proofs.LawBytes.{Written, available_front, available_grows, available_whole, written_more}
-use Rattle.cut_ledger.proofs.Numbers.{list_all_passing}
-use Rattle.cut_ledger.proofs.LawSums.{passes_at}
 use Rattle.cut_ledger.proofs.Law.{Holds, held_within, piece_within, times_push, all-append, one_if-le, opened_holds, start_holds}
-use Rattle.cut_ledger.specs.Reached.{IsDoubtful, IsFounded, IsReached}
 use Rattle.cut_plan.specs.Accepted.{plan_of}
 use Rattle.cut_plan.specs.Canonical.{canonical_text}
-use Rattle.std.specs.Cmp.Lexicographic.{same_text}
-use Rattle.std.specs.Prelude.{Ok, Result}
-use Rattle.cut_plan.specs.declared.refusal.Refusal.{Refusal}
 
 -- ---- results that are taken
 
@@ -75,7 +64,7 @@ accepts reads v s r good h result none =
       unbroken = known.0;
       plan = sym plan;
       piece = subst (λ (u : Values). IsTrue (is_piece u r.piece)) (sym plan) result.1;
-      free = λ t here. (let at = is_in-bounds r.piece t here in none_passing (has l) r.piece.first r.piece.count t known.2 at.0 at.1);
+      free = λ t here. (let at = in_piece r.piece t here in none_passing (has l) r.piece.first r.piece.count t known.2 at.0 at.1);
     }
 
 -- the same, of one that the ledger can take
@@ -86,7 +75,7 @@ can_take v s r h unbroken free piece =
       unbroken = unbroken;
       plan = plan;
       piece = subst (λ (u : Values). IsTrue (is_piece u r.piece)) plan piece;
-      free = λ t here. (let at = is_in-bounds r.piece t here in none_passing (has s.ledger) r.piece.first r.piece.count t free.apart at.0 at.1);
+      free = λ t here. (let at = in_piece r.piece t here in none_passing (has s.ledger) r.piece.first r.piece.count t free.apart at.0 at.1);
     }
 
 true_slip : (v : Values) (s : State) (r : Computed) → Accepts v s r → IsTrueSlip v (slip_of r)
@@ -153,26 +142,27 @@ failed_reached v s r h a = record {
 
 -- ---- resumptions
 
+-- the kept ones alone are
+kept_alone : (v : Values) (l : Contents) (kept : List Slip) → AllByRecursion (IsTrueSlip v) kept
+    → ((t : ℕ) → times_in (pieces_of_slips kept) t ≤ one_if (has l t))
+    → AllByRecursion (IsTrueSlip v) (kept ++ []) × ((t : ℕ) → times_in (pieces_of_slips (kept ++ [])) t ≤ 1)
+kept_alone v l kept each apart =
+    subst (λ ss. AllByRecursion (IsTrueSlip v) ss × ((t : ℕ) → times_in (pieces_of_slips ss) t ≤ 1))
+    (sym (append-nil kept)) (each, λ t. omega (arith, apart t, one_if-le (has l t)))
+
 -- slips that are found are true and apart
 pub found : (v : Values) (l : Contents) (journal : Bool) (kept : List Slip) (d : Option Slip) (keep : Bool) → AllByRecursion (IsTrueSlip v) kept → ((t : ℕ) → times_in (pieces_of_slips kept) t ≤ one_if (has l t)) → IfSome d (λ s. IsDoubtful v l s)
     → AllByRecursion (IsTrueSlip v) (cond journal (kept ++ cond keep (some_slip d) []) []) × ((t : ℕ) → times_in (pieces_of_slips (cond journal (kept ++ cond keep (some_slip d) []) [])) t ≤ 1)
 found v l false kept d keep each apart doubt = (tt, λ t. omega arith)
-found v l true kept d false each apart doubt =
-    (all-append (IsTrueSlip v) kept [] each tt, λ t. (let e : times_in (pieces_of_slips (kept ++ [])) t ≡ times_in (pieces_of_slips kept) t = ap (λ ss. times_in (pieces_of_slips ss) t) (append-nil kept) in omega (arith, e, apart t, one_if-le (has l t))))
-found v l true kept None true each apart doubt =
-    (all-append (IsTrueSlip v) kept [] each tt, λ t. (let e : times_in (pieces_of_slips (kept ++ [])) t ≡ times_in (pieces_of_slips kept) t = ap (λ ss. times_in (pieces_of_slips ss) t) (append-nil kept) in omega (arith, e, apart t, one_if-le (has l t))))
+found v l true kept d false each apart doubt = kept_alone v l kept each apart
+found v l true kept None true each apart doubt = kept_alone v l kept each apart
 found v l true kept (Some s) true each apart doubt = (
   all-append (IsTrueSlip v) kept (s ∷ []) each (doubt.is_true, tt),
   λ t. (let split : times_in (pieces_of_slips (kept ++ s ∷ [])) t ≡ times_in (pieces_of_slips kept) t + one_if (is_in s.piece t) =
       ap (λ ps. times_in ps t) (map-append (λ (q : Slip). q.piece) kept (s ∷ [])) ∙ times_push (pieces_of_slips kept) s.piece t in
-      omega (arith, split, apart t, one_of_both (has l t) (is_in s.piece t) (doubt.free t))),
+      let both = one_more (has l t) (is_in s.piece t) (doubt.free t) in
+      omega (arith, split, apart t, both, one_if-le (has l t || is_in s.piece t))),
 )
-  where
-    one_of_both : (held here : Bool) → (here ≡ true → held ≡ false) → one_if held + one_if here ≤ 1
-    one_of_both true true free = absurd (let no : ⊥ = (let e = free refl in cc) in no)
-    one_of_both true false free = omega arith
-    one_of_both false true free = omega arith
-    one_of_both false false free = omega arith
 
 reopened : (v : Values) (w : World) (keep : Bool) (size : ℕ) → IsReached v w.state → Holds v (begun (opened w.state.ledger.plan w.state.has_journal (slips_found w.state keep) size))
 reopened v w keep size h =

@@ -1,15 +1,14 @@
 -- The gaps around ranges are the greatest runs of what is in none of them.
 use Rattle.std.proofs.Common.{◌≡◌, ℕ, zero, suc, ◌+◌, ◌-◌, ◌<◌, ◌≤◌, inl, inr, Bool, true, false, ◌==◌, ◌&&◌, ◌||◌, not, cond, List, [], ◌∷◌, ◌++◌, map, filter, length, drop, get_or, refl, sym, ap, ◌∙◌, subst, arith, append_assoc, append-nil}
-use Rattle.std.specs.List.{range_with_len, take_while}
 use Rattle.std.proofs.lemmas.Bool.{cases_eq, eq-eqb, ne_eqb, lt-ltb, le-ltb, and_right, not_from_true, not_from_false, or_left}
 use Rattle.std.proofs.lemmas.List.{map-append, drop_more}
+use Rattle.std.proofs.lemmas.List.Folds.{length-prefix_len}
 use Rattle.std.proofs.lemmas.List.Elements.{filter-append}
-use Rattle.cut_lists.proofs.Ranges.{filter_agree_on}
-use Rattle.cut_trial.specs.declared.piece.Piece.{Piece}
-use Rattle.cut_ledger.specs.declared.ranges.Range.{Range}
-use Rattle.cut_ledger.specs.Gaps.{begins, run_at, runs}
-use Rattle.cut_ledger.specs.Ranges.{is_in_range, is_in_some, AreRanges, gap_between, gaps_around}
-use Rattle.cut_ledger.proofs.Numbers.{all_of_range, filter_none, front_of, ranges_join, within_above, within_is}
+use Rattle.cut_lists.proofs.Ranges.{filter_agree_on, All-range_with_len, ranges-join}
+use Rattle.cut_lists.proofs.Counts.{filter-none}
+use Rattle.cut_lists.proofs.Intervals.{first_failing, within_above, within_is}
+use Rattle.cut_ledger.proofs.Words.{AreRanges, Piece, Range, begins, gap_between, gaps_around, is_in_range}
+use Rattle.cut_ledger.proofs.Words.{is_in_some, range_with_len, run_at, runs, take_while}
 use Rattle.cut_ledger.proofs.RangeLemmas.{none_below}
 
 -- each number from one up to another passes a test, or fails it
@@ -32,7 +31,7 @@ begin_front test low (suc m) passes =
     ∙ or_left (low == low) (not (test (low - 1))) (eq-eqb low low refl)
     in
     let others : filter (begins test low) (range_with_len (low + 1) m) ≡ [] =
-    filter_none (begins test low) (range_with_len (low + 1) m) (all_of_range (λ t. begins test low t ≡ false) (low + 1) m (λ t from to.
+    filter-none (begins test low) (range_with_len (low + 1) m) (All-range_with_len (λ t. begins test low t ≡ false) (low + 1) m (λ t from to.
     and_right (test t) (t == low || not (test (t - 1)))
     (ap (λ b. b || not (test (t - 1))) (ne_eqb t low (λ e. omega arith))
     ∙ not_from_true (test (t - 1)) (passes (t - 1) (omega arith) (omega arith)))))
@@ -48,7 +47,7 @@ gap_is test low (suc m) n few passes stops =
     let long : low + n - low ≡ n = omega arith in
     let count : length (take_while test (range_with_len low (low + n - low))) ≡ low + suc m - low =
     ap (λ k. length (take_while test (range_with_len low k))) long
-    ∙ front_of test low (suc m) n few passes stops
+    ∙ length-prefix_len test (range_with_len low n) ∙ first_failing test low (suc m) n few passes stops
     ∙ omega arith
     in
     let p : Piece = record { first = low; count = low + suc m - low } in
@@ -76,9 +75,9 @@ runs_cut test low m k n some passes fails =
     let from : ℕ = low + (m + k) in
     let high : low + (m + k + n) ≡ from + n = omega arith in
     let parts : range_with_len low (m + k + n) ≡ (range_with_len low m ++ range_with_len (low + m) k) ++ range_with_len from n =
-    sym (ranges_join low (m + k) n) ∙ ap (λ xs. xs ++ range_with_len from n) (sym (ranges_join low m k)) in
+    sym (ranges-join low (m + k) n) ∙ ap (λ xs. xs ++ range_with_len from n) (sym (ranges-join low m k)) in
     let none : filter (begins test low) (range_with_len (low + m) k) ≡ [] =
-    filter_none (begins test low) (range_with_len (low + m) k) (all_of_range (λ t. begins test low t ≡ false) (low + m) k (λ t a b. ap (λ x. x && (t == low || not (test (t - 1)))) (fails t a (omega arith)))) in
+    filter-none (begins test low) (range_with_len (low + m) k) (All-range_with_len (λ t. begins test low t ≡ false) (low + m) k (λ t a b. ap (λ x. x && (t == low || not (test (t - 1)))) (fails t a (omega arith)))) in
     let later : filter (begins test low) (range_with_len from n) ≡ filter (begins test from) (range_with_len from n) =
     filter_agree_on (begins test low) (begins test from) from n (record { same = λ t a b. begins_anew test low from t (omega arith) (fails (from - 1) (omega arith) (omega arith)) a }) in
     let starts : filter (begins test low) (range_with_len low (m + k + n)) ≡ first_of low m ++ filter (begins test from) (range_with_len from n) =

@@ -1,31 +1,20 @@
 -- Gaps and their parts are pieces of the plan.
-use Rattle.std.proofs.Common.{◌≡◌, ℕ, zero, suc, ◌+◌, ◌-◌, ◌*◌, ◌/◌, ◌<◌, ◌≤◌, Bool, true, false, not, ◌==◌, ◌&&◌, ◌||◌, cond, List, [], ◌∷◌, All, map, filter, length, get_or, nat_lt, nat_le, refl, sym, ap, ◌∙◌, arith}
-use Rattle.std.specs.Prelude.{IsTrue}
-use Rattle.std.specs.Int.{div_ceil}
-use Rattle.std.specs.List.{range_with_len, flat_map, take_while, prefix_len}
+use Rattle.std.proofs.Common.{◌≡◌, ℕ, zero, suc, ◌+◌, ◌-◌, ◌*◌, ◌/◌, ◌<◌, ◌≤◌, Bool, true, false, not, ◌==◌, ◌&&◌, ◌||◌, cond, ◌∷◌, All, map, filter, length, get_or, nat_lt, nat_le, refl, sym, ap, ◌∙◌, arith}
 use Rattle.std.proofs.Math.Nat.{mul-le-mul_right}
 use Rattle.std.proofs.lemmas.Bool.{and_from, and_parts, eq-eqb, lt-ltb, le-leb}
 use Rattle.std.proofs.lemmas.Grind.{div_ceil_times}
-use Rattle.std.proofs.lemmas.List.Elements.{All-nil, All-cons, All-append, All-head, All-tail, All-map}
+use Rattle.std.proofs.lemmas.List.Elements.{All-nil, All-cons, All-map}
 use Rattle.std.proofs.lemmas.List.Folds.{length-prefix_len}
 use Rattle.std.proofs.lemmas.List.FromFn.{length-range_with_len}
 use Rattle.std.proofs.lemmas.List.Sums.{prefix_len-le-length}
-use Rattle.cut_plan.specs.Values.{Values}
-use Rattle.cut_plan.specs.Cells.{cells_of, trial_count}
-use Rattle.cut_plan.specs.Plan.{IsPlan}
-use Rattle.cut_trial.specs.declared.piece.Piece.{Piece}
-use Rattle.cut_trial.specs.Sum.{is_piece}
-use Rattle.cut_ledger.specs.Contents.{Contents, has}
-use Rattle.cut_ledger.specs.Gaps.{begins, run_at, runs, gaps_of, part_of, parts_of, pieces_of}
+use Rattle.cut_lists.proofs.FlatMaps.{All-flat_map}
+use Rattle.cut_lists.proofs.Ranges.{All-range_with_len}
+use Rattle.cut_ledger.proofs.Words.{Contents, IsPlan, IsTrue, Piece, Values, begins, cells_of, div_ceil}
+use Rattle.cut_ledger.proofs.Words.{gaps_of, has, is_piece, part_of, parts_of, pieces_of}
+use Rattle.cut_ledger.proofs.Words.{prefix_len, range_with_len, run_at, runs, take_while, trial_count}
 use Rattle.cut_ledger.proofs.CellLemmas.{piece_facts, cell_is}
-use Rattle.cut_ledger.proofs.Numbers.{all_of_range}
 
--- ---- lists of pieces
-
-All-flat_map : {X Y : Type 0} (P : Y → Type 0) (f : X → List Y) (xs : List X) → All (λ x. All P (f x)) xs → All P (flat_map f xs)
-All-flat_map P f [] all = All-nil P
-All-flat_map P f (x ∷ xs) all =
-    All-append P (f x) (flat_map f xs) (All-head (λ x. All P (f x)) x xs all) (All-flat_map P f xs (All-tail (λ x. All P (f x)) x xs all))
+-- ---- pieces
 
 -- what a cell's trials hold is a piece
 pub piece_within : (v : Values) (p : Piece) (c : ℕ) → 0 < p.count → c < length (cells_of v) → c * v.repeats ≤ p.first → p.first + p.count ≤ c * v.repeats + v.repeats → IsTrue (is_piece v p)
@@ -75,7 +64,7 @@ gaps_are_pieces l =
     let v : Values = l.plan in
     let free : ℕ → Bool = λ t. not (has l t) in
     All-flat_map (λ p. IsTrue (is_piece v p)) (λ c. runs free (c * v.repeats) v.repeats) (range_with_len 0 (length (cells_of v)))
-    (all_of_range (λ c. All (λ p. IsTrue (is_piece v p)) (runs free (c * v.repeats) v.repeats)) 0 (length (cells_of v)) (λ c _ cell.
+    (All-range_with_len (λ c. All (λ p. IsTrue (is_piece v p)) (runs free (c * v.repeats) v.repeats)) 0 (length (cells_of v)) (λ c _ cell.
     runs_all (λ p. IsTrue (is_piece v p)) free (c * v.repeats) (c * v.repeats + v.repeats) (c * v.repeats) v.repeats (λ t from to passes.
     let run = run_is free (c * v.repeats + v.repeats) t to passes in
     piece_within v (run_at free (c * v.repeats + v.repeats) t) c run.some (omega arith) from run.ends)))
@@ -95,7 +84,7 @@ parts_are_pieces v size p plan some piece =
     let starts = facts.starts in
     let ends = facts.ends in
     All-map (λ q. IsTrue (is_piece v q)) (part_of size p) (range_with_len 0 (div_ceil p.count size))
-    (all_of_range (λ i. IsTrue (is_piece v (part_of size p i))) 0 (div_ceil p.count size) (λ i _ low.
+    (All-range_with_len (λ i. IsTrue (is_piece v (part_of size p i))) 0 (div_ceil p.count size) (λ i _ low.
     let inside : i * size < p.count = part_within size i p.count some (omega arith) in
     piece_within v (part_of size p i) (p.first / v.repeats) (omega arith) facts.cell (omega arith) (omega arith)))
 

@@ -1,24 +1,16 @@
 -- What every event leaves true of a run.
 use Rattle.std.proofs.Common.{◌≡◌, ℕ, ◌+◌, ◌<◌, ◌≤◌, ◌&&◌, ◌||◌, inl, inr, Bool, true, false, cond, List, [], ◌∷◌, ◌++◌, take, nat_lt, nat_le, refl, sym, ap, ◌∙◌, arith, append-nil, IsTrue, zero-add}
-use Rattle.std.specs.Prelude.{slice_index_or}
-use Rattle.std.specs.List.{AllByRecursion}
 use Rattle.std.proofs.lemmas.Bool.{and_parts, and_right, or_cases, leb-true, cases_lt, lt-ltb, le-ltb}
 use Rattle.std.proofs.Math.ListN.{get_or-eq_default}
 use Rattle.std.proofs.lemmas.List.Sums.{sum_by-append, sum_by_push}
 use Rattle.std.proofs.lemmas.List.FromFn.{get_or-map-range_with_len, length-map-range_with_len}
-use Rattle.cut_plan.specs.Values.{Values}
-use Rattle.cut_plan.specs.Cells.{trial_count}
-use Rattle.cut_trial.specs.Outcome.{one_if}
-use Rattle.cut_trial.specs.declared.piece.Piece.{Piece}
-use Rattle.cut_trial.specs.Sum.{is_piece}
 use Rattle.cut_lists.proofs.Parts.{count_first}
 use Rattle.cut_lines.specs.Lines.{table}
-use Rattle.cut_ledger.specs.declared.slip.Slip.{Slip}
-use Rattle.cut_ledger.specs.Contents.{has, held_where, is_in, is_in_base, over_base}
-use Rattle.cut_ledger.specs.Machine.{opened, start}
-use Rattle.cut_ledger.specs.World.{World, begun, times_in, pieces_of_slips, IsTrueSlip}
-use Rattle.cut_ledger.specs.Reached.{IsReached}
-use Rattle.cut_ledger.proofs.LawSums.{is_in-bounds, apart_rest}
+use Rattle.cut_ledger.proofs.Words.{AllByRecursion, IsReached, IsTrueSlip, Piece, Slip, Values, World, begun}
+use Rattle.cut_ledger.proofs.Words.{has, held_where, is_in, is_in_base, is_piece, one_if, opened, over_base}
+use Rattle.cut_ledger.proofs.Words.{pieces_of_slips, slice_index_or, start, times_in, trial_count}
+use Rattle.cut_ledger.proofs.CellLemmas.{in_piece}
+use Rattle.cut_ledger.proofs.LawSums.{apart_rest}
 
 -- ---- what is held
 
@@ -42,7 +34,7 @@ pub piece_within : (v : Values) (p : Piece) (t : ℕ) → IsTrue (is_piece v p) 
 piece_within v p t piece here =
     let parts = and_parts (nat_lt 0 p.count) (nat_le (p.first + p.count) (trial_count v)) (and_parts _ _ piece).0 in
     let ends : p.first + p.count ≤ trial_count v = leb-true (p.first + p.count) (trial_count v) parts.1 in
-    omega (arith, ends, (is_in-bounds p t here).1)
+    omega (arith, ends, (in_piece p t here).1)
 
 -- ---- how often a trial is in pieces
 

@@ -1,66 +1,22 @@
 -- What can be written of a table, and what has been: a front of it.
-use Rattle.std.proofs.Common.{◌≡◌, ℕ, ◌+◌, ◌*◌, ◌<◌, ◌≤◌, Bool, true, false, cond, List, [], ◌∷◌, ◌++◌, length, take, drop, refl, sym, ap, ◌∙◌, arith, append_assoc, length-append, length-take-le, take-append-drop}
-use Rattle.std.specs.List.{range_with_len, flat_map, list_all, take_while, prefix_len}
+use Rattle.std.proofs.Common.{◌≡◌, ℕ, ◌+◌, ◌*◌, ◌<◌, ◌≤◌, true, List, ◌++◌, length, take, drop, sym, ap, ◌∙◌, arith, append_assoc, length-append, length-take-le, take-append-drop}
 use Rattle.std.proofs.Math.Nat.{mul-le-mul_right, add-mul}
 use Rattle.std.proofs.Math.Seq.{take-append_seam}
 use Rattle.std.proofs.lemmas.List.{take-append-le}
-use Rattle.std.proofs.lemmas.Bool.{and_parts}
-use Rattle.std.proofs.lemmas.List.Concat.{flat_map-append, flat_map-cons}
-use Rattle.std.proofs.lemmas.List.Sums.{take_while-cons}
-use Rattle.cut_plan.specs.Values.{Values}
-use Rattle.cut_plan.specs.Cells.{cells_of, trial_count}
-use Rattle.cut_trial.specs.declared.totals.Totals.{Totals}
-use Rattle.cut_trial.specs.Sum.{trials_of_cell}
-use Rattle.cut_lines.specs.Lines.{header, line_of, line_with, table}
-use Rattle.cut_ledger.specs.Contents.{Contents, has, cell_done, cell_sum, is_complete, all_trials}
-use Rattle.cut_ledger.specs.Machine.{available}
-use Rattle.cut_ledger.specs.Reached.{IsFounded}
-use Rattle.cut_ledger.proofs.LawSums.{done_sums, passes_at}
-use Rattle.cut_ledger.proofs.Numbers.{list_all_passing}
-
--- ---- fronts of lists
-
--- two words that agree where a test passes, on the front that passes
-flat_map_front : {X Y : Type 0} (f g : X → List Y) (p : X → Bool) (xs : List X) → ((x : X) → p x ≡ true → f x ≡ g x) → flat_map f (take_while p xs) ≡ flat_map g (take_while p xs)
-flat_map_front f g p [] same = refl
-flat_map_front {X} {Y} f g p (x ∷ xs) same = go (p x) refl (flat_map_front f g p xs same)
-  where
-    front : (b : Bool) → p x ≡ b → take_while p (x ∷ xs) ≡ cond b (x ∷ take_while p xs) []
-    front b is = take_while-cons p x xs ∙ ap (λ c. cond c (x ∷ take_while p xs) []) is
-
-    go : (b : Bool) → p x ≡ b → flat_map f (take_while p xs) ≡ flat_map g (take_while p xs) → flat_map f (take_while p (x ∷ xs)) ≡ flat_map g (take_while p (x ∷ xs))
-    go true is rest =
-        ap (flat_map f) (front true is) ∙ flat_map-cons f x (take_while p xs)
-        ∙ ap (λ ys. ys ++ flat_map f (take_while p xs)) (same x is) ∙ ap (λ ys. g x ++ ys) rest
-        ∙ sym (ap (flat_map g) (front true is) ∙ flat_map-cons g x (take_while p xs))
-    go false is rest = ap (flat_map f) (front false is) ∙ sym (ap (flat_map g) (front false is))
-
--- the front grows with what passes
-longer_front : {X Y : Type 0} (f : X → List Y) (p q : X → Bool) (xs : List X) → ((x : X) → p x ≡ true → q x ≡ true) → length (flat_map f (take_while p xs)) ≤ length (flat_map f (take_while q xs))
-longer_front f p q [] more = omega arith
-longer_front {X} {Y} f p q (x ∷ xs) more = go (p x) refl (longer_front f p q xs more)
-  where
-    front : (r : X → Bool) (b : Bool) → r x ≡ b → take_while r (x ∷ xs) ≡ cond b (x ∷ take_while r xs) []
-    front r b is = take_while-cons r x xs ∙ ap (λ c. cond c (x ∷ take_while r xs) []) is
-
-    long : (r : X → Bool) → r x ≡ true → length (flat_map f (take_while r (x ∷ xs))) ≡ length (f x) + length (flat_map f (take_while r xs))
-    long r is = ap (λ ys. length (flat_map f ys)) (front r true is) ∙ ap (λ ys. length ys) (flat_map-cons f x (take_while r xs)) ∙ length-append (f x) (flat_map f (take_while r xs))
-
-    go : (b : Bool) → p x ≡ b → length (flat_map f (take_while p xs)) ≤ length (flat_map f (take_while q xs)) → length (flat_map f (take_while p (x ∷ xs))) ≤ length (flat_map f (take_while q (x ∷ xs)))
-    go true is rest = omega (arith, rest, long p is, long q (more x is))
-    go false is rest = omega (arith, ap (λ ys. length (flat_map f ys)) (front p false is))
-
--- where all passes the front is the whole
-whole_front : {X : Type 0} (p : X → Bool) (xs : List X) → list_all p xs ≡ true → take_while p xs ≡ xs
-whole_front p [] all = refl
-whole_front {X} p (x ∷ xs) all =
-    let parts = and_parts (p x) (list_all p xs) all in
-    take_while-cons p x xs ∙ ap (λ c. cond c (x ∷ take_while p xs) []) parts.0 ∙ ap (λ ys. x ∷ ys) (whole_front p xs parts.1)
+use Rattle.std.proofs.lemmas.List.Concat.{flat_map-append}
+use Rattle.cut_lists.proofs.Fronts.{flat_map_front, longer_front, whole_front}
+use Rattle.cut_lists.proofs.Intervals.{list_all_passing, passes_at}
+use Rattle.cut_lines.specs.Lines.{table}
+use Rattle.cut_ledger.proofs.Words.{Contents, IsFounded, Totals, Values, all_trials, available, cell_done}
+use Rattle.cut_ledger.proofs.Words.{cell_sum, cells_of, flat_map, has, header, is_complete, line_of}
+use Rattle.cut_ledger.proofs.Words.{line_with, list_all, prefix_len, range_with_len, take_while, trial_count}
+use Rattle.cut_ledger.proofs.Words.{trials_of_cell}
+use Rattle.cut_ledger.proofs.LawSums.{done_sums}
 
 -- ---- what can be written
 
 -- a trial of a cell of the plan is one of the plan
-in_plan : (c n r t : ℕ) → c < n → t < c * r + r → t < n * r
+pub in_plan : (c n r t : ℕ) → c < n → t < c * r + r → t < n * r
 in_plan c n r t low at = let le : (c + 1) * r ≤ n * r = mul-le-mul_right r (omega (arith, low)) in omega (arith, le, add-mul c 1 r, at)
 
 -- the lines of the cells in front that are done, as the table has them

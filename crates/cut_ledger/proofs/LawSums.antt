@@ -1,62 +1,19 @@
 -- The sums of a cell whose base is true: those of its held trials, each once.
-use Rattle.std.proofs.Common.{◌≡◌, ℕ, ◌+◌, ◌*◌, ◌-◌, ◌/◌, ◌<◌, ◌≤◌, ◌==◌, ◌&&◌, ◌||◌, inl, inr, Bool, true, false, not, cond, List, [], ◌∷◌, filter, refl, sym, ap, ◌∙◌, arith, IsTrue, subst}
-use Rattle.std.specs.List.{range_with_len, list_all, sum_by, AllByRecursion}
-use Rattle.std.proofs.Math.Nat.{div-mul-le_self, lt-div-mul-add, mul-le-mul_right, add-mul}
-use Rattle.std.proofs.lemmas.Bool.{and_parts, cases_Bool, cases_order, both_ways, eqb-true, eqb-false, leb-true, ltb-true, false_from_ne_true}
+use Rattle.std.proofs.Common.{◌≡◌, ℕ, ◌+◌, ◌*◌, ◌/◌, ◌<◌, ◌≤◌, ◌==◌, ◌&&◌, ◌||◌, inl, inr, Bool, true, false, not, cond, List, [], ◌∷◌, filter, refl, sym, ap, ◌∙◌, arith, subst}
+use Rattle.std.proofs.lemmas.Bool.{cases_Bool, eqb-true, eqb-false, false_from_ne_true}
 use Rattle.std.proofs.lemmas.List.Filters.{sum_by-filter_both}
 use Rattle.std.proofs.lemmas.List.Sums.{sum_by-cons}
-use Rattle.cut_plan.specs.Values.{Values}
-use Rattle.cut_trial.specs.declared.piece.Piece.{Piece}
-use Rattle.cut_trial.specs.declared.totals.Totals.{Totals}
+use Rattle.cut_lists.proofs.Additions.{PassesPart, sum_of_more}
+use Rattle.cut_lists.proofs.Counts.{filter-none}
+use Rattle.cut_lists.proofs.Intervals.{passes_at, within_is}
 use Rattle.cut_trial.specs.Outcome.{outcome}
-use Rattle.cut_trial.specs.Sum.{each_number, plus, sum_of, trials_in, trials_of_cell, is_piece}
 use Rattle.cut_lists.proofs.Ranges.{filter_agree_on}
 use Rattle.cut_lists.proofs.Parts.{count_first}
-use Rattle.cut_ledger.specs.declared.slip.Slip.{Slip}
-use Rattle.cut_ledger.specs.Contents.{Contents, has, is_in, is_in_base, cell_done, cell_sum, slip_sum, slips_of_cell, further_trials}
-use Rattle.cut_ledger.specs.World.{IsTrueSlip, times_in, pieces_of_slips}
-use Rattle.cut_ledger.proofs.Numbers.{PassesPart, sum_of_more, filter_none, list_all_failing, within_is}
-
--- what passes on all of a range passes at each number of it
-pub passes_at : (p : ℕ → Bool) (a n : ℕ) → list_all p (range_with_len a n) ≡ true → (t : ℕ) → a ≤ t → t < a + n → p t ≡ true
-passes_at p a n all t low high = elim (cases_Bool (p t)) [
-  | inl passes ↦ passes
-  | inr fails ↦ absurd (both_ways _ (list_all_failing p a n t low high fails) all)
-]
-
--- ---- pieces and cells
-
--- where the trials of a piece lie: in its cell
-pub record LiesIn (p : Piece) (c r : ℕ) : Type 0 where
-  pub some : 0 < p.count
-  pub starts : c * r ≤ p.first
-  pub ends : p.first + p.count ≤ c * r + r
-
-pub lies_in_cell : (v : Values) (p : Piece) → 0 < v.repeats → IsTrue (is_piece v p) → LiesIn p (p.first / v.repeats) v.repeats
-lies_in_cell v p some piece =
-    let r : ℕ = v.repeats in
-    let c : ℕ = p.first / r in
-    let parts = and_parts _ _ piece in
-    let one : c ≡ (p.first + p.count - 1) / r = eqb-true c ((p.first + p.count - 1) / r) parts.1 in
-    let count : 0 < p.count = ltb-true 0 p.count (and_parts _ _ parts.0).0 in
-    let low : c * r ≤ p.first = div-mul-le_self p.first r in
-    let high : p.first + p.count - 1 < (p.first + p.count - 1) / r * r + r = lt-div-mul-add some in
-    let same : (p.first + p.count - 1) / r * r ≡ c * r = ap (λ n. n * r) (sym one) in
-    record { some = count; starts = low; ends = omega (arith, high, same, count) }
-
--- a trial is in one cell
-one_cell : (c d r t : ℕ) → c * r ≤ t → t < c * r + r → d * r ≤ t → t < d * r + r → c ≡ d
-one_cell c d r t cl ch dl dh = elim (cases_order c d) [
-  | inl same ↦ same
-  | inr (inl less) ↦ absurd (let le : (c + 1) * r ≤ d * r = mul-le-mul_right r (omega (arith, less)) in omega (arith, le, add-mul c 1 r, ch, dl))
-  | inr (inr more) ↦ absurd (let le : (d + 1) * r ≤ c * r = mul-le-mul_right r (omega (arith, more)) in omega (arith, le, add-mul d 1 r, dh, cl))
-]
-
-pub is_in-bounds : (p : Piece) (t : ℕ) → is_in p t ≡ true → (p.first ≤ t) × (t < p.first + p.count)
-is_in-bounds p t e = let parts = and_parts _ _ e in (leb-true p.first t parts.0, ltb-true t (p.first + p.count) parts.1)
-
-pub is_in-from : (p : Piece) (t : ℕ) → p.first ≤ t → t < p.first + p.count → is_in p t ≡ true
-is_in-from p t low high = within_is p.first (p.first + p.count) t low high
+use Rattle.cut_ledger.proofs.Words.{AllByRecursion, Contents, IsTrueSlip, Piece, Slip, Totals, Values}
+use Rattle.cut_ledger.proofs.Words.{cell_done, cell_sum, each_number, further_trials, has, is_in, is_in_base}
+use Rattle.cut_ledger.proofs.Words.{list_all, pieces_of_slips, plus, slip_sum}
+use Rattle.cut_ledger.proofs.Words.{slips_of_cell, sum_by, sum_of, times_in, trials_in, trials_of_cell}
+use Rattle.cut_ledger.proofs.CellLemmas.{PieceFacts, piece_in_cell, in_piece, piece_cell, cell_is}
 
 -- ---- a base whose pieces are apart
 
@@ -91,16 +48,16 @@ one_slip_more s ss =
     ap (λ (g : (Totals → ℕ) → ℕ). each_number g) (λ i x. each x i)
 
 -- the trials of a slip's piece come to those of the others
-piece_more : (v : Values) (s : Slip) (ss : List Slip) (c : ℕ) → LiesIn s.piece c v.repeats → ((t : ℕ) → times_in (pieces_of_slips (s ∷ ss)) t ≤ 1)
+piece_more : (v : Values) (s : Slip) (ss : List Slip) (c : ℕ) → PieceFacts v s.piece c → ((t : ℕ) → times_in (pieces_of_slips (s ∷ ss)) t ≤ 1)
     → sum_of v (filter (is_in_base (s ∷ ss)) (trials_of_cell v c)) ≡ plus (sum_of v (trials_in s.piece)) (sum_of v (filter (is_in_base ss) (trials_of_cell v c)))
-piece_more v s ss c lies apart =
+piece_more v s ss c facts apart =
     let p : Piece = s.piece in
     let part : PassesPart (is_in_base ss) (is_in_base (s ∷ ss)) (c * v.repeats) v.repeats p.first p.count =
     record {
-      starts = lies.starts;
-      ends = lies.ends;
-      inside = λ t low high. (let here = is_in-from p t low high in (none_in_base ss t (apart_first s ss t (apart t) here), ap (λ b. b || is_in_base ss t) here));
-      outside = λ t none. outside_first s ss t (false_from_ne_true (is_in p t) (λ here. let at = is_in-bounds p t here in none at.0 at.1));
+      starts = facts.starts;
+      ends = facts.ends;
+      inside = λ t low high. (let here = within_is p.first (p.first + p.count) t low high in (none_in_base ss t (apart_first s ss t (apart t) here), ap (λ b. b || is_in_base ss t) here));
+      outside = λ t none. outside_first s ss t (false_from_ne_true (is_in p t) (λ here. let at = in_piece p t here in none at.0 at.1));
     } in
     let each : (x : Totals → ℕ) → sum_by (λ t. x (outcome v t)) (filter (is_in_base (s ∷ ss)) (trials_of_cell v c))
     ≡ sum_by (λ t. x (outcome v t)) (trials_in p) + sum_by (λ t. x (outcome v t)) (filter (is_in_base ss) (trials_of_cell v c)) = λ x.
@@ -110,28 +67,29 @@ piece_more v s ss c lies apart =
 -- the totals of the slips of a cell are the sums over the cell's trials that are in the base
 pub base_sums : (v : Values) (ss : List Slip) (c : ℕ) → 0 < v.repeats → AllByRecursion (IsTrueSlip v) ss → ((t : ℕ) → times_in (pieces_of_slips ss) t ≤ 1)
     → slip_sum (slips_of_cell v ss c) ≡ sum_of v (filter (is_in_base ss) (trials_of_cell v c))
-base_sums v [] c some each apart = sym (ap (λ xs. sum_of v xs) (filter_none (is_in_base []) (trials_of_cell v c) (λ k d low. refl)))
+base_sums v [] c some each apart = sym (ap (λ xs. sum_of v xs) (filter-none (is_in_base []) (trials_of_cell v c) (λ k d low. refl)))
 base_sums v (s ∷ ss) c some each apart = go (s.piece.first / v.repeats == c) refl (base_sums v ss c some each.1 (λ t. apart_rest s ss t (apart t)))
   where
     cell : List ℕ
     cell = trials_of_cell v c
 
-    lies : LiesIn s.piece (s.piece.first / v.repeats) v.repeats
-    lies = lies_in_cell v s.piece some each.0.piece
+    facts : PieceFacts v s.piece (s.piece.first / v.repeats)
+    facts = piece_in_cell v s.piece some each.0.piece
 
     kept : (b : Bool) → (s.piece.first / v.repeats == c) ≡ b → slips_of_cell v (s ∷ ss) c ≡ cond b (s ∷ slips_of_cell v ss c) (slips_of_cell v ss c)
     kept b is = ap (λ x. cond x (s ∷ slips_of_cell v ss c) (slips_of_cell v ss c)) is
 
     go : (b : Bool) → (s.piece.first / v.repeats == c) ≡ b → slip_sum (slips_of_cell v ss c) ≡ sum_of v (filter (is_in_base ss) cell) → slip_sum (slips_of_cell v (s ∷ ss) c) ≡ sum_of v (filter (is_in_base (s ∷ ss)) cell)
     go true is rest =
-        let here : LiesIn s.piece c v.repeats = subst (λ (d : ℕ). LiesIn s.piece d v.repeats) (eqb-true (s.piece.first / v.repeats) c is) lies in
+        let here : PieceFacts v s.piece c = subst (PieceFacts v s.piece) (eqb-true (s.piece.first / v.repeats) c is) facts in
         ap (λ x. slip_sum x) (kept true is) ∙ one_slip_more s (slips_of_cell v ss c)
         ∙ ap (λ x. plus x (slip_sum (slips_of_cell v ss c))) each.0.totals ∙ ap (λ x. plus (sum_of v (trials_in s.piece)) x) rest
         ∙ sym (piece_more v s ss c here apart)
     go false is rest =
         let elsewhere : (t : ℕ) → c * v.repeats ≤ t → t < c * v.repeats + v.repeats → is_in s.piece t ≡ false = λ t low high.
-        false_from_ne_true (is_in s.piece t) (λ at. let in' = is_in-bounds s.piece t at in
-        eqb-false (s.piece.first / v.repeats) c is (one_cell (s.piece.first / v.repeats) c v.repeats t (omega (arith, lies.starts, in'.0)) (omega (arith, lies.ends, in'.1)) low high)) in
+        false_from_ne_true (is_in s.piece t) (λ at. let in' = in_piece s.piece t at in
+        eqb-false (s.piece.first / v.repeats) c is
+        (sym (piece_cell v s.piece (s.piece.first / v.repeats) t facts in'.0 in'.1) ∙ cell_is v.repeats c t low high)) in
         ap (λ x. slip_sum x) (kept false is) ∙ rest
         ∙ ap (λ x. sum_of v x) (sym (filter_agree_on (is_in_base (s ∷ ss)) (is_in_base ss) (c * v.repeats) v.repeats
         (record { same = λ t low high. outside_first s ss t (elsewhere t low high) })))

@@ -1,4 +1,4 @@
-pub mod Numbers
+pub mod Words
 pub mod RangeLemmas
 pub mod GapLemmas
 pub mod LawSums
@@ -12,3 +12,4 @@ pub mod RefusalLemmas
 pub mod TrueSlips
 pub mod GapPieces
 pub mod CoverLemmas
+pub mod FillLemmas

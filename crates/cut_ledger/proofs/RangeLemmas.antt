@@ -1,16 +1,15 @@
 -- Ranges that ascend and don't touch: what of them a trial can be in, and one more put among them.
-use Rattle.std.proofs.Common.{◌≡◌, ℕ, zero, suc, ◌+◌, ◌-◌, ◌<◌, ◌≤◌, inl, inr, Bool, true, false, ◌==◌, ◌&&◌, ◌||◌, cond, List, [], ◌∷◌, ◌++◌, All, length, get_or, take, drop, nat_lt, refl, sym, ap, ◌∙◌, subst, arith}
-use Rattle.std.specs.List.{range_with_len, list_all, list_any, AllWithin}
-use Rattle.std.specs.List.Sorted.{IsNonDecreasingBy, IsPartitionPoint}
+use Rattle.std.proofs.Common.{◌≡◌, length-take, ℕ, zero, suc, ◌+◌, ◌-◌, ◌<◌, ◌≤◌, inl, inr, Bool, true, false, ◌==◌, ◌&&◌, ◌||◌, cond, List, [], ◌∷◌, ◌++◌, All, length, get_or, take, drop, nat_lt, refl, sym, ap, ◌∙◌, subst, arith}
 use Rattle.std.proofs.Math.Bool.{or_assoc}
 use Rattle.std.proofs.lemmas.Bool.{cases_lt, eqb-true, eqb-false, le-ltb, lt-ltb, or_parts, or_from, or_left}
 use Rattle.std.proofs.lemmas.List.{drop_more, drop_all, get_or-take, take-append-drop, take_at, drop_at, length-take-le}
 use Rattle.std.proofs.lemmas.List.Elements.{All-head, All-tail, All-weaker}
 use Rattle.std.proofs.lemmas.List.Folds.{list_any-append}
+use Rattle.cut_ledger.proofs.Words.{AllWithin, AreRanges, IsNonDecreasingBy, IsPartitionPoint, Range}
+use Rattle.cut_ledger.proofs.Words.{is_in_range, is_in_some, joined_end, joined_start, list_all, list_any}
+use Rattle.cut_ledger.proofs.Words.{range_with_len, rest_after, rest_behind}
 use Rattle.cut_lists.proofs.Ranges.{list_any_passing, list_any_none_passing, list_any_agree, none_passing}
-use Rattle.cut_ledger.specs.declared.ranges.Range.{Range}
-use Rattle.cut_ledger.specs.Ranges.{is_in_range, is_in_some, AreRanges, joined_start, rest_after, joined_end, rest_behind}
-use Rattle.cut_ledger.proofs.Numbers.{within, within_is, within_below, within_above, within_joined, list_all_passing, list_all_failing}
+use Rattle.cut_lists.proofs.Intervals.{list_all_failing, list_all_passing, within, within_above, within_below, within_is, within_joined, within_none}
 
 -- what holds of the first range, if there is one
 abbrev pub OfFirst : (Range → Type 0) → List Range → Type 0
@@ -86,15 +85,8 @@ ends_rise low high rs are i j d le within = go low rs are i j d le within
 
 pub front_all : (P : Range → Type 0) (rs : List Range) (i : ℕ) → AllWithin P rs 0 i → All P (take i rs)
 front_all P rs i each k d low =
-    let short : k < i = front_index rs i k low in
+    let short : k < i = omega (arith, low, length-take i rs) in
     subst P (sym (get_or-take i rs k d short)) (each k d (omega arith) short)
-  where
-    front_index : (rs : List Range) (i k : ℕ) → k < length (take i rs) → k < i
-    front_index [] zero k low = absurd (omega arith)
-    front_index [] (suc i) k low = absurd (omega arith)
-    front_index (r ∷ rs) zero k low = absurd (omega arith)
-    front_index (r ∷ rs) (suc i) zero low = omega arith
-    front_index (r ∷ rs) (suc i) (suc k) low = (let w = front_index rs i k (omega arith) in omega arith)
 
 pub first_behind : (P : Range → Type 0) (rs : List Range) (i : ℕ) → AllWithin P rs i (length rs) → OfFirst P (drop i rs)
 first_behind P rs i each = elim (cases_lt i (length rs)) [
@@ -200,15 +192,9 @@ all_behind low high from to (r ∷ rs) some are above clear =
 
 pub joins_before : (low high from to : ℕ) (olds : List Range) → from < to → low ≤ from → AreRanges low high olds → OfFirst (λ r. from ≤ r.end) olds → IsClear olds from to → JoinsBefore low high from to olds (joined_start from olds) (rest_after from olds)
 joins_before low high from to [] some le are first clear =
-    record { starts = le; before = omega arith; ranges = tt; same = λ t. sym (ap (λ b. b || false) (empty t)) }
-  where
-    empty : (t : ℕ) → within from from t ≡ false
-    empty t = elim (cases_lt t from) [ inl low' ↦ within_below from from t low' | inr high' ↦ within_above from from t high' ]
+    record { starts = le; before = omega arith; ranges = tt; same = λ t. sym (ap (λ b. b || false) (within_none from t)) }
 joins_before low high from to (r ∷ rs) some le are first clear = by (r.end == from) refl
   where
-    empty : (t : ℕ) → within from from t ≡ false
-    empty t = elim (cases_lt t from) [ inl low' ↦ within_below from from t low' | inr high' ↦ within_above from from t high' ]
-
     by : (b : Bool) → (r.end == from) ≡ b → JoinsBefore low high from to (r ∷ rs) (cond b r.start from) (cond b rs (r ∷ rs))
     by true ends =
         let end : r.end ≡ from = eqb-true r.end from ends in
@@ -225,20 +211,14 @@ joins_before low high from to (r ∷ rs) some le are first clear = by (r.end == 
           starts = le;
           before = omega arith;
           ranges = ranges_from low high to (r ∷ rs) are (begins_behind from to r rs some are.1 long clear);
-          same = λ t. sym (ap (λ b. b || is_in_some (r ∷ rs) t) (empty t));
+          same = λ t. sym (ap (λ b. b || is_in_some (r ∷ rs) t) (within_none from t));
         }
 
 pub joins_behind : (high to : ℕ) (olds : List Range) → to ≤ high → AreRanges to high olds → JoinsBehind high to olds (joined_end to olds) (rest_behind to olds)
 joins_behind high to [] le are =
-    record { behind = omega arith; ends = le; ranges = tt; same = λ t. sym (ap (λ b. b || false) (empty t)) }
-  where
-    empty : (t : ℕ) → within to to t ≡ false
-    empty t = elim (cases_lt t to) [ inl low' ↦ within_below to to t low' | inr high' ↦ within_above to to t high' ]
+    record { behind = omega arith; ends = le; ranges = tt; same = λ t. sym (ap (λ b. b || false) (within_none to t)) }
 joins_behind high to (r ∷ rs) le are = by (r.start == to) refl
   where
-    empty : (t : ℕ) → within to to t ≡ false
-    empty t = elim (cases_lt t to) [ inl low' ↦ within_below to to t low' | inr high' ↦ within_above to to t high' ]
-
     by : (b : Bool) → (r.start == to) ≡ b → JoinsBehind high to (r ∷ rs) (cond b r.end to) (cond b rs (r ∷ rs))
     by true starts =
         let start : r.start ≡ to = eqb-true r.start to starts in
@@ -255,7 +235,7 @@ joins_behind high to (r ∷ rs) le are = by (r.start == to) refl
           behind = omega arith;
           ends = le;
           ranges = ranges_from to high (to + 1) (r ∷ rs) are (omega arith);
-          same = λ t. sym (ap (λ b. b || is_in_some (r ∷ rs) t) (empty t));
+          same = λ t. sym (ap (λ b. b || is_in_some (r ∷ rs) t) (within_none to t));
         }
 
 -- ---- the ranges that `put` leaves

@@ -1,14 +1,11 @@
 -- Plans are the same where their texts are.
 use Rattle.std.proofs.Common.{◌≡◌, Bool, true, false, Some, None, cond, ap, sym, ◌∙◌}
-use Rattle.cut_trial.specs.Computed.{Computed}
+use Rattle.cut_ledger.proofs.Words.{Computed, Contents, IsTrue, Values, overlaps, refl, refusal_of, ◌↔◌}
 use Rattle.cut_ledger.specs.declared.fault.LedgerFault.TheVariants.{Stranger, Overlap}
-use Rattle.cut_ledger.specs.Contents.{Contents, overlaps}
-use Rattle.std.specs.Prelude.{IsTrue, ◌↔◌, refl}
 use Rattle.std.proofs.lemmas.Bool.Decides.{Decides-eqb, same_from_decides}
 use Rattle.std.proofs.lemmas.Slice.Eq.{slice_eq-Decides}
 use Rattle.cut_plan.specs.Canonical.{canonical_text}
-use Rattle.cut_plan.specs.Values.{Values}
-use Rattle.cut_ledger.specs.Refusals.{is_same_plan, refusal_of}
+use Rattle.cut_ledger.specs.Refusals.{is_same_plan}
 
 pub same_plan : (a b : Values) (r : Bool) → (IsTrue r ↔ (canonical_text a ≡ canonical_text b)) → is_same_plan a b ≡ r
 unfolding is_same_plan

@@ -1,23 +1,15 @@
 -- Good slips, and cells that hold what slips tell.
 use Rattle.std.proofs.Common.{◌≡◌, ℕ, ◌+◌, ◌-◌, ◌*◌, ◌/◌, ◌<◌, ◌≤◌, inl, inr, Bool, true, false, ◌||◌, List, [], ◌∷◌, ◌++◌, length, take, get_or, refl, sym, ap, ◌∙◌, subst, arith}
-use Rattle.std.specs.Prelude.{IsTrue, ◌↔◌}
-use Rattle.std.specs.List.{list_any}
 use Rattle.std.proofs.Math.Nat.{mul-le-mul_left}
 use Rattle.std.proofs.lemmas.Bool.{cases_lt}
 use Rattle.std.proofs.lemmas.List.{get_or_default}
 use Rattle.cut_lists.proofs.Ranges.{list_any_agree}
-use Rattle.cut_plan.specs.Values.{Values}
-use Rattle.cut_plan.specs.Plan.{IsPlan}
-use Rattle.cut_trial.specs.declared.piece.Piece.{Piece}
 use Rattle.cut_trial.specs.Outcome as trial
-use Rattle.cut_trial.specs.Possible.{ArePossible}
-use Rattle.cut_trial.specs.Sum.{trials_in, is_piece, IsAtMost}
-use Rattle.cut_ledger.specs.declared.kept.Kept.{Kept}
-use Rattle.cut_ledger.specs.declared.slip.Slip.{Slip}
-use Rattle.cut_ledger.specs.Contents.{has, is_in, is_in_base, over_base, overlaps}
-use Rattle.cut_ledger.specs.Kept.{cell_at, is_kept, AreOver, IsAddedTo, contents_in}
-use Rattle.cut_ledger.specs.Ranges.{is_held}
-use Rattle.cut_ledger.specs.Slips.{IsGood, AreGoodUpTo}
+use Rattle.cut_ledger.specs.Kept.{cell_at}
+use Rattle.cut_ledger.proofs.Words.{AreGoodUpTo, AreOver, ArePossible, IsAddedTo, IsAtMost, IsGood, IsPlan}
+use Rattle.cut_ledger.proofs.Words.{IsTrue, Kept, Piece, Slip, Values, contents_in, has, is_held, is_in}
+use Rattle.cut_ledger.proofs.Words.{is_in_base, is_kept, is_piece, list_any, over_base, overlaps, trials_in}
+use Rattle.cut_ledger.proofs.Words.{◌↔◌}
 use Rattle.cut_ledger.proofs.CellLemmas.{PieceFacts, piece_facts, has_where, held_agree, meets_cell}
 use Rattle.cut_ledger.proofs.AddLemmas.{Adding, added_is, slip_kept, in_base_more}
 

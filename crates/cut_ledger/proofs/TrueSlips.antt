@@ -1,21 +1,15 @@
 -- True slips that are apart are good ones to begin with.
 use Rattle.std.proofs.Common.{◌≡◌, ℕ, zero, suc, ◌+◌, ◌-◌, ◌≤◌, true, cond, List, [], ◌∷◌, ◌++◌, take, drop, get_or, sym, ap, ◌∙◌, subst, arith, take-append-drop}
-use Rattle.std.specs.List.{AllByRecursion}
 use Rattle.std.proofs.Math.Seq.{drop-cons}
 use Rattle.std.proofs.lemmas.List.{map-append}
 use Rattle.std.proofs.lemmas.List.Elements.{All-from_recursion}
 use Rattle.cut_lists.proofs.Parts.{count_first}
+use Rattle.cut_lists.proofs.Intervals.{within_is}
 use Rattle.cut_lists.proofs.Ranges.{list_any_none_passing}
-use Rattle.cut_plan.specs.Values.{Values}
-use Rattle.cut_trial.specs.Laws.{PiecesHavePossibleTotals}
-use Rattle.cut_trial.specs.Outcome.{cell_at, one_if}
-use Rattle.cut_trial.specs.Possible.{ArePossible}
-use Rattle.cut_trial.specs.declared.totals.Totals.{Totals}
-use Rattle.cut_ledger.specs.declared.slip.Slip.{Slip}
-use Rattle.cut_ledger.specs.Contents.{has, is_in, is_in_base, over_base}
-use Rattle.cut_ledger.specs.Slips.{IsGood, AreGood}
-use Rattle.cut_ledger.specs.World.{IsTrueSlip, times_in, pieces_of_slips}
-use Rattle.cut_ledger.proofs.LawSums.{is_in-from}
+use Rattle.cut_trial.specs.Outcome.{cell_at}
+use Rattle.cut_ledger.proofs.Words.{AllByRecursion, AreGood, ArePossible, IsGood, IsTrueSlip}
+use Rattle.cut_ledger.proofs.Words.{PiecesHavePossibleTotals, Slip, Totals, Values, has, is_in, is_in_base}
+use Rattle.cut_ledger.proofs.Words.{one_if, over_base, pieces_of_slips, times_in}
 use Rattle.cut_ledger.proofs.Law.{held_within, base_within, times-append, times_once}
 
 -- the slips before one that are true
@@ -34,7 +28,7 @@ good_after possible v pre post s is each apart =
     record {
       piece = is.piece;
       apart = list_any_none_passing (has (over_base v pre)) s.piece.first s.piece.count (λ t low high held.
-          (let here : cond {A = ℕ} (is_in s.piece t) 1 0 ≡ 1 = ap (λ b. cond {A = ℕ} b 1 0) (is_in-from s.piece t low high) in
+          (let here : cond {A = ℕ} (is_in s.piece t) 1 0 ≡ 1 = ap (λ b. cond {A = ℕ} b 1 0) (within_is s.piece.first (s.piece.first + s.piece.count) t low high) in
           let before : is_in_base pre t ≡ true = sym (held_within v (is_in_base pre) t (base_within v pre t each)) ∙ held in
           let once : times_in (pieces_of_slips pre) t ≡ 1 = times_once pre t (omega (arith, split t, apart t)) ∙ ap (λ b. one_if b) before in
           omega (arith, split t, apart t, here, once)));

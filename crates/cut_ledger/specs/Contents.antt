@@ -1,5 +1,6 @@
 -- What a ledger holds: a plan, its base, and a set of trials.
-use Rattle.std.specs.Prelude.{ℕ, ◌+◌, ◌/◌, ◌==◌, ◌&&◌, ◌||◌, Bool, false, not, List, map, filter, slice_index_or, nat_lt, nat_le}
+use Rattle.std.specs.Prelude.{ℕ, ◌+◌, ◌/◌, ◌==◌, ◌&&◌, ◌||◌, Bool, false, not, List, map, filter}
+use Rattle.std.specs.Prelude.{slice_index_or, nat_lt, nat_le}
 use Rattle.std.specs.List.{range_with_len, list_any, list_all, sum_by}
 use Rattle.cut_plan.specs.Values.{Values}
 use Rattle.cut_plan.specs.Cells.{trial_count}

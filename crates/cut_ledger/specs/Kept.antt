@@ -1,5 +1,6 @@
 -- How a ledger keeps what it holds: by cells. Only the crate's private clauses cite it.
-use Rattle.std.specs.Prelude.{◌≡◌, ℕ, ◌+◌, ◌*◌, ◌/◌, ◌<◌, ◌||◌, Bool, true, false, List, [], length, slice_index_or, slice_set, map, count_by}
+use Rattle.std.specs.Prelude.{◌≡◌, ℕ, ◌+◌, ◌*◌, ◌/◌, ◌<◌, ◌||◌, Bool, true, false, List, [], length}
+use Rattle.std.specs.Prelude.{slice_index_or, slice_set, map, count_by}
 use Rattle.cut_plan.specs.Values.{Values}
 use Rattle.cut_plan.specs.Cells.{cells_of}
 use Rattle.cut_plan.specs.Plan.{IsPlan}

@@ -1,12 +1,18 @@
 -- Laws of gaps, of the pieces that they are cut into, and of plans that are the same.
-use Rattle.std.specs.Prelude.{◌≡◌, ℕ, ◌≤◌, ◌↔◌, not, filter, IsTrue}
-use Rattle.std.specs.List.{flat_map}
+use Rattle.std.specs.Prelude.{◌≡◌, ℕ, ◌<◌, ◌≤◌, ◌↔◌, not, filter, List, Some, fold, length, take, slice_get, true, false, IsTrue}
+use Rattle.std.specs.List.{flat_map, AllByRecursion}
+use Rattle.cut_plan.specs.Cells.{cells_of}
 use Rattle.cut_plan.specs.Plan.{IsPlan}
 use Rattle.cut_plan.specs.Values.{Values}
+use Rattle.cut_trial.specs.declared.piece.Piece.{Piece}
 use Rattle.cut_trial.specs.Sum.{trials_in}
-use Rattle.cut_ledger.specs.Contents.{Contents, has, all_trials}
+use Rattle.cut_lines.specs.Lines.{table}
+use Rattle.cut_ledger.specs.declared.slip.Slip.{Slip}
+use Rattle.cut_ledger.specs.Contents.{Contents, has, all_trials, over_base, with_piece, overlaps, cell_done, is_complete}
 use Rattle.cut_ledger.specs.Gaps.{gaps_of, pieces_of}
+use Rattle.cut_ledger.specs.Machine.{available}
 use Rattle.cut_ledger.specs.Refusals.{is_same_plan}
+use Rattle.cut_ledger.specs.World.{IsTrueSlip, pieces_of_slips, times_in}
 
 -- the gaps, trial by trial, are the trials that are not held: each once, ascending
 abbrev pub GapsCover : Type 0
@@ -21,3 +27,27 @@ PiecesCover =
 -- two accepted plans are the same where they are equal
 abbrev pub SamePlansAreEqual : Type 0
 SamePlansAreEqual = (a b : Values) → IsPlan a → IsPlan b → IsTrue (is_same_plan a b) ↔ (a ≡ b)
+
+-- a ledger to which pieces are added, one after another
+abbrev pub with_pieces : Contents → List Piece → Contents
+with_pieces l ps = fold with_piece l ps
+
+-- pieces that can be added in their order, each of them free of those before it, and that hold every trial then
+pub record AreFilling (l : Contents) (ps : List Piece) : Type 0 where
+  pub apart : (i : ℕ) (p : Piece) → slice_get ps i ≡ Some p → overlaps (with_pieces l (take i ps)) p ≡ false
+  pub complete : is_complete (with_pieces l ps) ≡ true
+
+-- the pieces of any size that the gaps of a ledger are cut into are such
+abbrev pub PiecesFill : Type 0
+PiecesFill = (l : Contents) (size : ℕ) → 1 ≤ size → AreFilling l (pieces_of l size)
+
+-- and where they are added to true slips that are apart, or to none, what can be written is the table
+abbrev pub FilledTellTheTable : Type 0
+FilledTellTheTable =
+    (v : Values) (ss : List Slip) (size : ℕ) → 1 ≤ size → IsPlan v → AllByRecursion (IsTrueSlip v) ss
+    → ((t : ℕ) → times_in (pieces_of_slips ss) t ≤ 1)
+    → available (with_pieces (over_base v ss) (pieces_of (over_base v ss) size)) ≡ table v
+
+-- where every trial of a ledger is held, every cell is done
+abbrev pub CompleteIsDone : Type 0
+CompleteIsDone = (l : Contents) → is_complete l ≡ true → (c : ℕ) → c < length (cells_of l.plan) → cell_done l c ≡ true

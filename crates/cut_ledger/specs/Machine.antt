@@ -1,6 +1,8 @@
 -- One study with one wire at a time, as a machine: its state, the events that come to it, and what it
 -- answers (this project's profile).
-use Rattle.std.specs.Prelude.{ℕ, ◌+◌, ◌<◌, ◌==◌, ◌&&◌, ◌++◌, Bool, ⊤, true, false, not, nat_lt, List, [], ◌∷◌, map, length, take, drop, Option, Some, None, unwrap_or, option_map, slice_get, slice_index_or, slice_set, if◌then◌else◌}
+use Rattle.std.specs.Prelude.{◌≡◌, ℕ, ◌+◌, ◌<◌, ◌==◌, ◌&&◌, ◌++◌, Bool, ⊤, true, false, not, nat_lt, List, []}
+use Rattle.std.specs.Prelude.{◌∷◌, map, length, take, drop, Option, Some, None, IsSome, unwrap_or, option_map}
+use Rattle.std.specs.Prelude.{slice_get, slice_index_or, slice_set, if◌then◌else◌}
 use Rattle.std.specs.List.{range_with_len, flat_map, list_any, take_while}
 use Rattle.cut_faults.specs.declared.code.FaultCode.{FaultCode}
 use Rattle.cut_faults.specs.declared.code.FaultCode.TheVariants as code
@@ -12,7 +14,8 @@ use Rattle.cut_trial.specs.Sum.{sum_of, trials_in}
 use Rattle.cut_lines.specs.Lines.{header, line_with}
 use Rattle.cut_ledger.specs.declared.slip.Slip.{Slip}
 use Rattle.cut_ledger.specs.declared.event.Event.{Event}
-use Rattle.cut_ledger.specs.declared.event.Event.TheVariants.{Draw, HandIn, HandInDiskFails, Lose, CrashReopen, Emit, WireFails, NewWire, Finish}
+use Rattle.cut_ledger.specs.declared.event.Event.TheVariants.{Draw, HandIn, HandInDiskFails, Lose}
+use Rattle.cut_ledger.specs.declared.event.Event.TheVariants.{CrashReopen, Emit, WireFails, NewWire, Finish}
 use Rattle.cut_ledger.specs.declared.event.Reply as replies
 use Rattle.cut_ledger.specs.declared.event.Reply.TheVariants as reply
 use Rattle.cut_ledger.specs.Contents.{Contents, over_base, with_piece, cell_done, cell_sum, is_complete}
@@ -156,3 +159,17 @@ after s Finish = s
 abbrev pub IsSized : Event → Type 0
 IsSized (CrashReopen keep size) = 0 < size
 IsSized event = ⊤
+
+-- whether only the length of the table is left to ask: every trial is held, and the wire is good
+abbrev pub is_all_held : State → Bool
+is_all_held s = is_complete s.ledger && not s.wire_lost
+
+-- an event that is answered without memory. Some is needed to take a result that is not refused, to open a
+-- study, to write to a good wire, and to tell how long the whole table is.
+abbrev pub TakesNone : State → Event → Type 0
+TakesNone s (HandIn r) = IsSome (refused_code s r)
+TakesNone s (CrashReopen keep size) = ⊥
+TakesNone s (Emit n) = s.wire_lost ≡ true
+TakesNone s (WireFails n) = s.wire_lost ≡ true
+TakesNone s Finish = is_all_held s ≡ false
+TakesNone s event = ⊤

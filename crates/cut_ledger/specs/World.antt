@@ -9,7 +9,8 @@ use Rattle.cut_trial.specs.Sum.{is_piece, sum_of, trials_in}
 use Rattle.cut_lines.specs.Lines.{table}
 use Rattle.cut_ledger.specs.declared.slip.Slip.{Slip}
 use Rattle.cut_ledger.specs.declared.event.Event.{Event}
-use Rattle.cut_ledger.specs.declared.event.Event.TheVariants.{HandIn, HandInDiskFails, CrashReopen, NewWire, Finish}
+use Rattle.cut_ledger.specs.declared.event.Event.TheVariants.{HandIn, HandInDiskFails, CrashReopen, NewWire}
+use Rattle.cut_ledger.specs.declared.event.Event.TheVariants.{Finish}
 use Rattle.cut_ledger.specs.declared.event.Reply as replies
 use Rattle.cut_ledger.specs.declared.event.Reply.TheVariants as reply
 use Rattle.cut_ledger.specs.Contents.{is_in, has, is_complete}
@@ -83,7 +84,8 @@ pub record IsRight (v : Values) (w : World) : Type 0 where
   pub whole : reply_to w.state Finish ≡ reply.Done → w.bytes ≡ table v
   -- a trial is in one piece at most of those of the base and those accepted since, and in one exactly where
   -- it is held
-  pub once : (t : ℕ) → times_in (pieces_of_slips w.state.ledger.base ++ w.accepted) t ≡ one_if (has w.state.ledger t)
+  pub once : (t : ℕ) →
+      times_in (pieces_of_slips w.state.ledger.base ++ w.accepted) t ≡ one_if (has w.state.ledger t)
   -- where every trial is held, the whole table can be written
   pub offered : IsTrue (is_complete w.state.ledger) → available w.state.ledger ≡ table v
   -- the slips that are kept are true, and no trial is in two of them
@@ -92,5 +94,7 @@ pub record IsRight (v : Values) (w : World) : Type 0 where
 
 -- two runs that hold every trial can write the same bytes, and two that are done have written the same
 pub record TellAlike (a b : World) : Type 0 where
-  pub offered : IsTrue (is_complete a.state.ledger) → IsTrue (is_complete b.state.ledger) → available a.state.ledger ≡ available b.state.ledger
-  pub written : reply_to a.state Finish ≡ reply.Done → reply_to b.state Finish ≡ reply.Done → a.bytes ≡ b.bytes
+  pub offered : IsTrue (is_complete a.state.ledger) → IsTrue (is_complete b.state.ledger) →
+      available a.state.ledger ≡ available b.state.ledger
+  pub written : reply_to a.state Finish ≡ reply.Done → reply_to b.state Finish ≡ reply.Done →
+      a.bytes ≡ b.bytes

@@ -5,7 +5,7 @@ ghost use Rattle.std.specs.Prelude.{ℕ, Bool, List};
 ghost use Rattle.std.specs.List.{AllByRecursion};
 ghost use Rattle.cut_plan.specs.Values.{Values};
 ghost use Rattle.cut_plan.specs.Plan.{IsPlan};
-ghost use Rattle.cut_ledger.specs.Laws.{GapsCover, PiecesCover, SamePlansAreEqual};
+ghost use Rattle.cut_ledger.specs.Laws.{GapsCover, PiecesCover, SamePlansAreEqual, PiecesFill, CompleteIsDone, FilledTellTheTable};
 ghost use Rattle.cut_ledger.specs.declared.event.Event.{Event};
 ghost use Rattle.cut_ledger.specs.Machine.{start};
 ghost use Rattle.cut_ledger.specs.World.{begun, run, HasTrueResult, IsRight, TellAlike};
@@ -17,6 +17,15 @@ use cut_plan::canonical_text_reads_back;
 pub fn gaps_are_what_is_not_held()
     ensures gaps { GapsCover }
     ensures pieces { PiecesCover }
+{}
+
+/// The pieces of any size that a ledger lacks can be added in their order: none of them meets one before it,
+/// and then every trial is held and every cell is done. Where the ledger began with true slips, or with none,
+/// the whole table of its plan can be written then.
+pub fn pieces_fill_a_ledger()
+    ensures fill { PiecesFill }
+    ensures done { CompleteIsDone }
+    ensures table { FilledTellTheTable }
 {}
 
 /// Plans are told apart by their canonical texts, and a plan can be read back from its own: so plans that

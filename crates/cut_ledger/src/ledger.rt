@@ -1,9 +1,11 @@
-ghost use Rattle.std.specs.Prelude.{◌≡◌, ℕ, ◌+◌, ◌/◌, ◌<◌, ◌≤◌, ◌^◌, ◌↔◌, ◌++◌, [], true, length, slice_set, Some, None, IsTrue, IfOk, OnOk, OnErr, IfErr, IsOk, IfNone, All};
+ghost use Rattle.std.specs.Prelude.{◌≡◌, ℕ, ◌+◌, ◌/◌, ◌<◌, ◌≤◌, ◌^◌, ◌↔◌, ◌++◌, [], true, length, slice_set};
+ghost use Rattle.std.specs.Prelude.{Some, None, IsTrue, IfOk, OnOk, OnErr, IfErr, IsOk, IfNone, All};
 ghost use Rattle.cut_plan.specs.Cells.{cells_of, trial_count};
 ghost use Rattle.cut_plan.specs.Plan.{IsPlan};
 ghost use Rattle.cut_trial.specs.Sum.{is_piece};
-ghost use Rattle.cut_ledger.specs.Account.{has_room};
-ghost use Rattle.cut_ledger.specs.Contents.{has, over_base, with_piece, cell_of_piece, cell_done, cell_sum, is_complete};
+ghost use Rattle.cut_ledger.specs.Account.{has_room, KeepsOtherRoom};
+ghost use Rattle.cut_ledger.specs.Contents.{has, over_base, with_piece, cell_of_piece, cell_done, cell_sum};
+ghost use Rattle.cut_ledger.specs.Contents.{is_complete};
 ghost use Rattle.cut_ledger.specs.Gaps.{gaps_of, parts_of, pieces_of};
 ghost use Rattle.cut_ledger.specs.Kept.{AreOver};
 ghost use Rattle.cut_ledger.specs.Refusals.{CanTake, refusal_of, fault_of_offer};
@@ -194,6 +196,8 @@ impl Ledger {
     pub fn take(&mut self, offered: &PieceResult) -> Result<(), AllocError>
         requires { CanTake self.old.contents offered.now }
         ensures ok { OnOk result (self.new.contents ≡ with_piece self.old.contents offered.now.piece) }
+        ensures others { OnOk result
+            (KeepsOtherRoom self.old self.new (cell_of_piece self.old.contents offered.now.piece)) }
         ensures room { IsTrue (has_room self.old (cell_of_piece self.old.contents offered.now.piece)) →
             IsOk result }
         ensures err { OnErr result (self.new ≡ self.old) }
@@ -210,6 +214,8 @@ impl Ledger {
     pub fn offer(&mut self, offered: &PieceResult) -> Result<(), LedgerFault>
         ensures free { OnOk result (refusal_of self.old.contents offered.now ≡ None) }
         ensures taken { OnOk result (self.new.contents ≡ with_piece self.old.contents offered.now.piece) }
+        ensures others { OnOk result
+            (KeepsOtherRoom self.old self.new (cell_of_piece self.old.contents offered.now.piece)) }
         ensures err { IfErr result (λ e. e ≡ fault_of_offer (refusal_of self.old.contents offered.now)) }
         ensures unchanged { OnErr result (self.new ≡ self.old) }
         ensures room { IsTrue (has_room self.old (cell_of_piece self.old.contents offered.now.piece)) →

@@ -1,10 +1,12 @@
-ghost use Rattle.std.specs.Prelude.{◌≡◌, ℕ, ◌+◌, ◌-◌, ◌<◌, ◌≤◌, ◌^◌, ◌||◌, ◌++◌, [], Bool, false, true, not, take, drop, length, vec_len, vec_capacity, OnOk, OnErr, IsOk, IsTrue};
+ghost use Rattle.std.specs.Prelude.{◌≡◌, ℕ, ◌+◌, ◌-◌, ◌<◌, ◌≤◌, ◌^◌, ◌||◌, ◌++◌, [], Bool, false, true, not};
+ghost use Rattle.std.specs.Prelude.{take, drop, length, vec_len, vec_capacity, OnOk, OnErr, IsOk, IsTrue};
 ghost use Rattle.std.specs.List.{list_any, list_all, range_with_len};
 ghost use Rattle.std.specs.List.Sorted.{IsPartitionPoint};
 ghost use Rattle.cut_trial.specs.Sum.{trials_in};
 ghost use Rattle.cut_ledger.specs.Contents.{is_in};
 ghost use Rattle.cut_ledger.specs.Gaps.{runs};
-ghost use Rattle.cut_ledger.specs.Ranges.{is_held, joined_start, rest_after, joined_end, rest_behind, gap_between};
+ghost use Rattle.cut_ledger.specs.Ranges.{is_held, joined_start, rest_after, joined_end, rest_behind};
+ghost use Rattle.cut_ledger.specs.Ranges.{gap_between};
 
 use cut_trial::Piece;
 use std::alloc::{AllocError, Global};

@@ -1,10 +1,13 @@
-ghost use Rattle.std.specs.Prelude.{◌≡◌, ℕ, ◌<◌, ◌≤◌, ◌||◌, ◌+◌, ◌^◌, false, length, IsTrue, IfNone, IfOk, OnOk, OnErr};
+ghost use Rattle.std.specs.Prelude.{◌≡◌, ℕ, ◌<◌, ◌≤◌, ◌||◌, ◌+◌, ◌^◌, false, true, length, IsTrue, IsOk};
+ghost use Rattle.std.specs.Prelude.{IsSome, IfNone, IfOk, OnOk, OnErr};
 ghost use Rattle.std.specs.List.{AllByRecursion, list_any};
 ghost use Rattle.cut_ledger.specs.declared.event.Event.TheVariants as event;
 ghost use Rattle.cut_trial.specs.Sum.{is_piece};
 ghost use Rattle.cut_ledger.specs.Contents.{over_base};
 ghost use Rattle.cut_ledger.specs.Refusals.{CanTake};
-ghost use Rattle.cut_ledger.specs.Machine.{start, opened, available, slips_found, next_bytes, is_finished, refused_code, slip_of, reply_to, after, IsSized};
+ghost use Rattle.cut_ledger.specs.Machine.{start, opened, available, slips_found, next_bytes, is_finished};
+ghost use Rattle.cut_ledger.specs.Machine.{refused_code, slip_of, reply_to, after, is_all_held, IsSized};
+ghost use Rattle.cut_ledger.specs.Machine.{TakesNone};
 ghost use Rattle.cut_ledger.specs.World.{IsTrueSlip, times_in, pieces_of_slips};
 
 use crate::available::available;
@@ -87,11 +90,14 @@ impl Run {
         })
     }
 
-    /// What the run answers to an event, after which it is in the state that follows.
+    /// What the run answers to an event, after which it is in the state that follows. Memory is wanted only
+    /// to take a result that is not refused, to resume, to write to a good wire, and to tell at the end how
+    /// long the whole table is.
     pub fn apply(&mut self, alloc: Global, event: Event) -> Result<Reply, AllocError>
         requires { IsSized event }
         ensures reply { IfOk result (λ reply. reply ≡ reply_to self.old event) }
         ensures after { OnOk result (self.new ≡ after self.old event) }
+        ensures free { TakesNone self.old event → IsOk result }
         ensures err { OnErr result (self.new ≡ self.old) }
     {
         match event {
@@ -140,6 +146,7 @@ impl Run {
     fn hand_in(&mut self, offered: &PieceResult) -> Result<Reply, AllocError>
         ensures reply { IfOk result (λ reply. reply ≡ reply_to self.old (event.HandIn offered.now)) }
         ensures after { OnOk result (self.new ≡ after self.old (event.HandIn offered.now)) }
+        ensures free { IsSome (refused_code self.old offered.now) → IsOk result }
         ensures err { OnErr result (self.new ≡ self.old) }
     {
         if let Some(code) = self.refusal(offered) {
@@ -219,7 +226,9 @@ impl Run {
     /// The wire takes the next bytes that there are for it, and may fail then.
     fn emit(&mut self, alloc: Global, limit: u64, fails: bool) -> Result<Reply, AllocError>
         ensures reply { IfOk result (λ reply. reply ≡ reply_to self.old (event.Emit limit)) }
-        ensures after { OnOk result (self.new ≡ record (after self.old (event.Emit limit)) { wire_lost = self.old.wire_lost || fails }) }
+        ensures after { OnOk result (self.new
+            ≡ record (after self.old (event.Emit limit)) { wire_lost = self.old.wire_lost || fails }) }
+        ensures free { self.old.wire_lost ≡ true → IsOk result }
         ensures err { OnErr result (self.new ≡ self.old) }
     {
         if self.wire_lost {
@@ -257,6 +266,7 @@ impl Run {
     fn finish(&mut self, alloc: Global) -> Result<Reply, AllocError>
         ensures reply { IfOk result (λ reply. reply ≡ reply_to self.old event.Finish) }
         ensures after { self.new ≡ self.old }
+        ensures free { is_all_held self.old ≡ false → IsOk result }
     {
         if self.is_finished(alloc)? {
             return Ok(Reply::Done);
@@ -279,10 +289,14 @@ impl Run {
 
     /// Whether every trial is held, and the wire has taken the whole table.
     fn is_finished(&self, alloc: Global) -> Result<bool, AllocError>
-        ensures { IfOk result (λ is. is ≡ is_finished self.now) }
+        ensures value { IfOk result (λ is. is ≡ is_finished self.now) }
+        ensures free { is_all_held self.now ≡ false → IsOk result }
     {
+        if self.wire_lost || !self.ledger.complete() {
+            return Ok(false);
+        }
         let text = available(alloc, &self.ledger)?;
-        Ok(self.ledger.complete() && (!self.wire_lost && self.sent == text.len()))
+        Ok(self.sent == text.len())
     }
 }
 

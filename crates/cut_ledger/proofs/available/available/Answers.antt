@@ -1,21 +1,12 @@
-use Rattle.std.proofs.Common.{◌≡◌, ◌∙◌, ◌≤◌, ◌+◌, ◌++◌, ◌∷◌, [], ℕ, zero, suc, List, length, take, refl, ap, sym, zero-add, arith, append_assoc, append-nil}
-use Rattle.std.specs.List.{range_with_len, prefix_len, flat_map}
+use Rattle.std.proofs.Common.{◌≡◌, ◌∙◌, ◌≤◌, ◌+◌, ◌++◌, ◌∷◌, [], ℕ, List, length, take, ap, sym, zero-add, arith, append_assoc, append-nil}
 use Rattle.std.proofs.lemmas.List.Concat.{flat_map-append}
 use Rattle.std.proofs.lemmas.List.FromFn.{length-range_with_len}
 use Rattle.std.proofs.lemmas.List.Sums.{prefix_len-le-length}
+use Rattle.cut_lists.proofs.Intervals.{take_range}
 use Rattle.cut_lists.proofs.Ranges.{range_with_len_more}
-use Rattle.cut_plan.specs.Values.{Values}
-use Rattle.cut_plan.specs.Cells.{cells_of}
-use Rattle.cut_lines.specs.Lines.{header, line_with}
-use Rattle.cut_trial.specs.declared.totals.Totals.{Totals}
-use Rattle.cut_ledger.specs.Contents.{Contents, cell_done, cell_sum}
+use Rattle.cut_ledger.proofs.Words.{Contents, Totals, Values, cell_done, cell_sum, cells_of, flat_map, header}
+use Rattle.cut_ledger.proofs.Words.{line_with, prefix_len, range_with_len}
 use Rattle.cut_ledger.proofs.available.available.Goals as goal
-
--- the first numbers of a range are a range
-take_range : (a n k : ℕ) → k ≤ n → take k (range_with_len a n) ≡ range_with_len a k
-take_range a n zero few = refl
-take_range a zero (suc k) few = absurd (omega arith)
-take_range a (suc n) (suc k) few = ap (λ xs. a ∷ xs) (take_range (a + 1) n k (omega arith))
 
 -- how many cells are done in front
 in_front : (l : Contents) (k : ℕ) → k ≡ prefix_len (cell_done l) (range_with_len 0 (length (cells_of l.plan))) → k ≤ length (cells_of l.plan)

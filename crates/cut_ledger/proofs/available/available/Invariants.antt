@@ -1,7 +1,5 @@
 use Rattle.std.proofs.Common.{◌≡◌, ◌++◌}
-use Rattle.std.specs.List.{range_with_len, flat_map}
-use Rattle.cut_lines.specs.Lines.{header, line_with}
-use Rattle.cut_ledger.specs.Contents.{cell_sum}
+use Rattle.cut_ledger.proofs.Words.{cell_sum, flat_map, header, line_with, range_with_len}
 use Rattle.cut_ledger.proofs.available.available.Given as goal
 
 -- the header and the lines so far

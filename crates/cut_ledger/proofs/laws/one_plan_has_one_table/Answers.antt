@@ -1,5 +1,4 @@
-use Rattle.cut_ledger.specs.Machine.{start}
-use Rattle.cut_ledger.specs.World.{begun, run}
+use Rattle.cut_ledger.proofs.Words.{begun, run, start}
 use Rattle.cut_ledger.proofs.Events.{law, alike}
 use Rattle.cut_ledger.proofs.laws.one_plan_has_one_table.Goals as goal
 

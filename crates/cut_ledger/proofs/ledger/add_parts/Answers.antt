@@ -1,10 +1,7 @@
 -- One part more stands at the end, until all are there.
 use Rattle.std.proofs.Common.{◌≡◌, ℕ, ◌+◌, ◌*◌, ◌++◌, ◌∷◌, [], map, sym, ap, ◌∙◌, append_assoc, arith}
-use Rattle.std.specs.Int.{div_ceil}
-use Rattle.std.specs.List.{range_with_len}
 use Rattle.std.proofs.lemmas.List.FromFn.{map-range_with_len_more}
-use Rattle.cut_trial.specs.declared.piece.Piece.{Piece}
-use Rattle.cut_ledger.specs.Gaps.{part_of}
+use Rattle.cut_ledger.proofs.Words.{Piece, div_ceil, part_of, range_with_len}
 use Rattle.cut_ledger.proofs.ledger.add_parts.Goals as goal
 
 pub loop-i-preserved : goal.loop-i-preserved

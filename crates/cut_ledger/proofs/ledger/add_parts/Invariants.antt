@@ -1,6 +1,5 @@
 use Rattle.std.proofs.Common.{◌≡◌, ◌++◌, map}
-use Rattle.std.specs.List.{range_with_len}
-use Rattle.cut_ledger.specs.Gaps.{part_of}
+use Rattle.cut_ledger.proofs.Words.{part_of, range_with_len}
 use Rattle.cut_ledger.proofs.ledger.add_parts.Given as goal
 
 -- the parts so far stand behind what was there

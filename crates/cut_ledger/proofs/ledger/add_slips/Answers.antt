@@ -1,9 +1,7 @@
 -- A slip that is good is one more of what is held; the first that is not is told.
 use Rattle.std.proofs.Common.{◌≡◌, ℕ, ◌+◌, ◌-◌, ◌<◌, List, length, take, get_or, refl, sym, subst, ◌∙◌, arith}
 use Rattle.std.proofs.lemmas.List.{get_or_default, take_more}
-use Rattle.cut_ledger.specs.declared.slip.Slip.{Slip}
-use Rattle.cut_ledger.specs.Kept.{AreOver}
-use Rattle.cut_ledger.specs.Slips.{IsGood, AreGoodUpTo}
+use Rattle.cut_ledger.proofs.Words.{AreGoodUpTo, AreOver, IsGood, Slip}
 use Rattle.cut_ledger.proofs.CellLemmas.{piece_facts}
 use Rattle.cut_ledger.proofs.SlipLemmas.{good_more, over_more, overlaps_is, possible_few}
 use Rattle.cut_ledger.proofs.ledger.add_slips.Goals as goal

@@ -1,6 +1,5 @@
 use Rattle.std.proofs.Common.{take}
-use Rattle.cut_ledger.specs.Kept.{AreOver}
-use Rattle.cut_ledger.specs.Slips.{AreGoodUpTo}
+use Rattle.cut_ledger.proofs.Words.{AreGoodUpTo, AreOver}
 use Rattle.cut_ledger.proofs.ledger.add_slips.Given as goal
 
 -- the slips so far are good, and are what is held

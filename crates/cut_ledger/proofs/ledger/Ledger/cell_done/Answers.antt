@@ -1,9 +1,8 @@
 -- The cell's ranges tell of each of its trials whether it is held.
 use Rattle.std.proofs.Common.{◌≡◌, ◌<◌, length, sym, ap, ◌∙◌, arith}
-use Rattle.std.specs.List.{list_all}
 use Rattle.std.proofs.lemmas.List.{get_or_read}
-use Rattle.cut_trial.specs.Sum.{trials_of_cell}
-use Rattle.cut_ledger.specs.Kept.{no_cell, cell_at}
+use Rattle.cut_ledger.specs.Kept.{cell_at}
+use Rattle.cut_ledger.proofs.Words.{list_all, no_cell, trials_of_cell}
 use Rattle.cut_ledger.proofs.CellLemmas.{full_cell, has_is}
 use Rattle.cut_ledger.proofs.ledger.Ledger.cell_done.Goals as goal
 

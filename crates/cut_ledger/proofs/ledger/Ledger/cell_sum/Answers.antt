@@ -3,9 +3,8 @@ use Rattle.std.proofs.Common.{◌≡◌, ◌<◌, ◌*◌, ℕ, Bool, length, ap
 use Rattle.std.proofs.lemmas.List.{get_or_read}
 use Rattle.std.proofs.lemmas.List.FromFn.{length-range_with_len}
 use Rattle.std.proofs.lemmas.List.Sums.{count_by-le-length}
-use Rattle.cut_trial.specs.Sum.{trials_of_cell}
-use Rattle.cut_ledger.specs.declared.kept.Kept.{Kept}
-use Rattle.cut_ledger.specs.Kept.{no_cell, cell_at, is_kept}
+use Rattle.cut_ledger.specs.Kept.{cell_at}
+use Rattle.cut_ledger.proofs.Words.{Kept, is_kept, no_cell, trials_of_cell}
 use Rattle.cut_ledger.proofs.CellLemmas.{summed_cell}
 use Rattle.cut_ledger.proofs.ledger.Ledger.cell_sum.Goals as goal
 

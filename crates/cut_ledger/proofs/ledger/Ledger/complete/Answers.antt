@@ -1,12 +1,10 @@
 -- The plan's trials are those of its cells, one cell after another.
 use Rattle.std.proofs.Common.{◌≡◌, ℕ, ◌+◌, ◌<◌, Bool, true, ◌&&◌, ◌∷◌, [], length, refl, sym, ap, ◌∙◌, arith}
-use Rattle.std.specs.List.{range_with_len, list_all}
 use Rattle.std.proofs.lemmas.Bool.{and_from}
 use Rattle.std.proofs.lemmas.List.Folds.{list_all-append}
 use Rattle.cut_lists.proofs.Ranges.{range_with_len_more}
-use Rattle.cut_plan.specs.Cells.{cells_of}
-use Rattle.cut_ledger.specs.Contents.{Contents, has, cell_done, is_complete}
-use Rattle.cut_ledger.proofs.Numbers.{list_all_failing}
+use Rattle.cut_lists.proofs.Intervals.{list_all_failing}
+use Rattle.cut_ledger.proofs.Words.{Contents, cell_done, cells_of, has, is_complete, list_all, range_with_len}
 use Rattle.cut_ledger.proofs.CellLemmas.{all_cells}
 use Rattle.cut_ledger.proofs.ledger.Ledger.complete.Goals as goal
 

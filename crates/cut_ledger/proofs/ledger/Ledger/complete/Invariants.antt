@@ -1,6 +1,5 @@
 use Rattle.std.proofs.Common.{◌≡◌, true}
-use Rattle.std.specs.List.{range_with_len, list_all}
-use Rattle.cut_ledger.specs.Contents.{cell_done}
+use Rattle.cut_ledger.proofs.Words.{cell_done, list_all, range_with_len}
 use Rattle.cut_ledger.proofs.ledger.Ledger.complete.Given as goal
 
 -- each cell so far is done

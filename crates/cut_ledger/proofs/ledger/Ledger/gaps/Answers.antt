@@ -1,14 +1,9 @@
 -- Each cell adds its own gaps.
 use Rattle.std.proofs.Common.{◌≡◌, ℕ, ◌*◌, ◌<◌, ◌++◌, not, List, length, sym, ap, subst, ◌∙◌, arith}
-use Rattle.std.specs.Prelude.{All, IsTrue}
-use Rattle.std.specs.List.{flat_map, range_with_len}
 use Rattle.std.proofs.lemmas.List.{get_or_read}
-use Rattle.cut_plan.specs.Cells.{cells_of}
-use Rattle.cut_trial.specs.declared.piece.Piece.{Piece}
-use Rattle.cut_trial.specs.Sum.{is_piece}
-use Rattle.cut_ledger.specs.Contents.{Contents, has}
-use Rattle.cut_ledger.specs.Gaps.{runs, gaps_of}
-use Rattle.cut_ledger.specs.Kept.{no_cell, cell_at, contents_in}
+use Rattle.cut_ledger.specs.Kept.{cell_at}
+use Rattle.cut_ledger.proofs.Words.{All, Contents, IsTrue, Piece, cells_of, contents_in, flat_map, gaps_of}
+use Rattle.cut_ledger.proofs.Words.{has, is_piece, no_cell, range_with_len, runs}
 use Rattle.cut_ledger.proofs.CellLemmas.{gaps_of_cell, one_cell_more}
 use Rattle.cut_ledger.proofs.GapPieces.{gaps_are_pieces}
 use Rattle.cut_ledger.proofs.ledger.Ledger.gaps.Goals as goal

@@ -1,7 +1,5 @@
 use Rattle.std.proofs.Common.{◌≡◌, ◌*◌, not}
-use Rattle.std.specs.List.{flat_map, range_with_len}
-use Rattle.cut_ledger.specs.Contents.{has}
-use Rattle.cut_ledger.specs.Gaps.{runs}
+use Rattle.cut_ledger.proofs.Words.{flat_map, has, range_with_len, runs}
 use Rattle.cut_ledger.proofs.ledger.Ledger.gaps.Given as goal
 
 -- the gaps of the cells so far

@@ -2,9 +2,8 @@
 use Rattle.std.proofs.Common.{◌≡◌, ℕ, sym, ap, ◌∙◌, arith}
 use Rattle.std.proofs.Math.Bool.{or-false}
 use Rattle.std.proofs.lemmas.List.{get_or_read}
-use Rattle.cut_ledger.specs.declared.kept.Kept.{Kept}
-use Rattle.cut_ledger.specs.Kept.{no_cell, cell_at}
-use Rattle.cut_ledger.specs.Ranges.{is_held}
+use Rattle.cut_ledger.specs.Kept.{cell_at}
+use Rattle.cut_ledger.proofs.Words.{Kept, is_held, no_cell}
 use Rattle.cut_ledger.proofs.CellLemmas.{has_kept, kept_at}
 use Rattle.cut_ledger.proofs.ledger.Ledger.has.Goals as goal
 

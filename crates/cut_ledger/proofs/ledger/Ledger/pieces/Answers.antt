@@ -1,13 +1,8 @@
 -- A gap ends within the plan, and its parts are pieces as it is.
 use Rattle.std.proofs.Common.{◌≡◌, List, length, get_or, sym, ap, subst, ◌∙◌, arith}
-use Rattle.std.specs.Prelude.{All, IsTrue}
-use Rattle.std.specs.List.{flat_map}
 use Rattle.std.proofs.lemmas.List.{take_all}
 use Rattle.std.proofs.lemmas.Nat.{mul-le}
-use Rattle.cut_plan.specs.Cells.{cells_of}
-use Rattle.cut_trial.specs.declared.piece.Piece.{Piece}
-use Rattle.cut_trial.specs.Sum.{is_piece}
-use Rattle.cut_ledger.specs.Gaps.{parts_of, pieces_of}
+use Rattle.cut_ledger.proofs.Words.{All, IsTrue, Piece, cells_of, flat_map, is_piece, parts_of, pieces_of}
 use Rattle.cut_ledger.proofs.CellLemmas.{piece_facts}
 use Rattle.cut_ledger.proofs.GapPieces.{pieces_are_pieces}
 use Rattle.cut_ledger.proofs.ledger.Ledger.pieces.Goals as goal

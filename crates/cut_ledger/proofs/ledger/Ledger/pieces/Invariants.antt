@@ -1,6 +1,5 @@
 use Rattle.std.proofs.Common.{◌≡◌, take}
-use Rattle.std.specs.List.{flat_map}
-use Rattle.cut_ledger.specs.Gaps.{parts_of}
+use Rattle.cut_ledger.proofs.Words.{flat_map, parts_of}
 use Rattle.cut_ledger.proofs.ledger.Ledger.pieces.Given as goal
 
 -- the parts of the gaps so far

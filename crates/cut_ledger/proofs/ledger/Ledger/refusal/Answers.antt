@@ -1,13 +1,7 @@
 -- The tests of the code are those of the definition, in its order.
 use Rattle.std.proofs.Common.{◌≡◌, Bool, true, false, List, refl, sym, ap, ◌∙◌}
-use Rattle.std.specs.List.{list_any}
-use Rattle.cut_trial.specs.declared.piece.Piece.{Piece}
-use Rattle.cut_plan.specs.Values.{Values}
-use Rattle.cut_trial.specs.Sum.{trials_in}
-use Rattle.cut_ledger.specs.declared.kept.Kept.{Kept}
-use Rattle.cut_ledger.specs.declared.slip.Slip.{Slip}
-use Rattle.cut_ledger.specs.Contents.{overlaps}
-use Rattle.cut_ledger.specs.Kept.{is_kept, AreKept, contents_in}
+use Rattle.cut_ledger.proofs.Words.{AreKept, Kept, Piece, Slip, Values, contents_in, is_kept, list_any}
+use Rattle.cut_ledger.proofs.Words.{overlaps, trials_in}
 use Rattle.cut_ledger.proofs.CellLemmas.{overlaps_kept}
 use Rattle.cut_ledger.proofs.RefusalLemmas.{same_plan, refusal_other, refusal_held, refusal_none}
 use Rattle.cut_ledger.proofs.ledger.Ledger.refusal.Goals as goal

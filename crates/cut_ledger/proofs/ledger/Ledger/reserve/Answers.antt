@@ -1,12 +1,9 @@
 -- Only the room of one cell changes.
 use Rattle.std.proofs.Common.{◌≡◌, ◌<◌, true, Result, Ok, Err, length, refl, ap, subst, arith}
-use Rattle.std.specs.Result.{OnOk, OnErr}
 use Rattle.std.proofs.lemmas.List.{get_or_read}
 use Rattle.std.proofs.lemmas.Result.{on_ok_weaker}
-use Rattle.cut_trial.specs.declared.totals.Totals.{Totals}
-use Rattle.cut_ledger.specs.declared.kept.Kept.{Kept}
-use Rattle.cut_ledger.specs.Kept.{no_cell, cell_at}
-use Rattle.cut_ledger.specs.Ranges.{Spread}
+use Rattle.cut_ledger.specs.Kept.{cell_at}
+use Rattle.cut_ledger.proofs.Words.{Kept, OnErr, OnOk, Spread, Totals, no_cell}
 use Rattle.cut_ledger.proofs.CellLemmas.{IsAlike, are_kept_alike, room_made}
 use Rattle.cut_ledger.proofs.ledger.Ledger.reserve.Goals as goal
 

@@ -1,18 +1,11 @@
 -- The piece's cell takes it, with the sums of its trials.
-use Rattle.std.proofs.Common.{◌≡◌, ◌*◌, ◌++◌, false, List, Result, Ok, Err, length, take, drop, sym, ap, subst, ◌∙◌, arith}
-use Rattle.std.specs.Prelude.{IsTrue}
-use Rattle.std.specs.List.{list_any}
-use Rattle.std.specs.Result.{OnOk, OnErr}
+use Rattle.std.proofs.Common.{◌≡◌, ℕ, ◌*◌, ◌/◌, ◌++◌, false, List, get_or, set, Result, Ok, Err, length, take, drop, sym, ap, subst, ◌∙◌, arith}
 use Rattle.std.proofs.lemmas.List.{take_at}
 use Rattle.std.proofs.lemmas.Result.{on_ok_weaker}
-use Rattle.cut_plan.specs.Values.{Values}
-use Rattle.cut_trial.specs.declared.piece.Piece.{Piece}
-use Rattle.cut_trial.specs.declared.totals.Totals.{Totals}
-use Rattle.cut_trial.specs.Sum.{is_piece, sum_of, trials_in, IsAtMost}
-use Rattle.cut_ledger.specs.declared.kept.Kept.{Kept}
-use Rattle.cut_ledger.specs.declared.slip.Slip.{Slip}
-use Rattle.cut_ledger.specs.Kept.{is_kept, AreKept, IsAddedTo, contents_in}
-use Rattle.cut_ledger.proofs.AddLemmas.{Took, took}
+use Rattle.cut_ledger.proofs.Words.{AreKept, IsAddedTo, IsAtMost, IsTrue, Kept, OnErr, OnOk, Piece, Slip}
+use Rattle.cut_ledger.proofs.Words.{Totals, Values, contents_in, is_kept, is_piece, list_any, sum_of}
+use Rattle.cut_ledger.proofs.Words.{trials_in}
+use Rattle.cut_ledger.proofs.AddLemmas.{Took, took, rooms}
 use Rattle.cut_ledger.proofs.CellLemmas.{overlaps_kept}
 use Rattle.cut_ledger.proofs.ledger.Ledger.take.Goals as goal
 
@@ -62,3 +55,11 @@ returns-clause-ok c =
     let l = c.self.inside in
     rw (← c.self.view_is)
     (on_ok_weaker c.add.result (λ to. ap (contents_in l.plan l.base) (left c) ∙ (now c to).contents) c.add.ensures.ok)
+
+pub returns-clause-others : goal.returns-clause-others
+returns-clause-others c =
+    let l = c.self.inside in
+    let n : ℕ = c.args.offered.now.piece.first / l.plan.repeats in
+    let stay : List Kept → Type 0 = λ cells. rooms cells ≡ set (rooms l.cells.items) n (get_or (rooms cells) n false) in
+    rw (← c.self.view_is)
+    (on_ok_weaker c.add.result (λ to. subst stay (sym (left c)) (now c to).others) c.add.ensures.ok)

@@ -1,10 +1,8 @@
 -- The search ends where no further range ends before the trial.
 use Rattle.std.proofs.Common.{◌<◌, ◌≤◌, List, nat_lt, sym, ap, subst, rules, ◌∙◌}
-use Rattle.std.specs.List.Sorted.{IsPartitionPoint}
 use Rattle.std.proofs.lemmas.Bool.{ltb-true, ltb-false}
 use Rattle.std.proofs.lemmas.List.Sorted.{IsPartitionPoint-from_clause, IsPartitionedBy-ltb}
-use Rattle.cut_ledger.specs.declared.ranges.Range.{Range}
-use Rattle.cut_ledger.specs.Ranges.{AreRanges}
+use Rattle.cut_ledger.proofs.Words.{AreRanges, IsPartitionPoint, Range}
 use Rattle.cut_ledger.proofs.RangeLemmas.{ends_rise}
 use Rattle.cut_ledger.proofs.ranges.Ranges.ending_before.Goals as goal
 

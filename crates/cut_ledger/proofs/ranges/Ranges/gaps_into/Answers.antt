@@ -2,9 +2,7 @@
 use Rattle.std.proofs.Common.{◌≡◌, ℕ, ◌-◌, ◌++◌, ◌<◌, List, length, ap, sym, ◌∙◌, arith}
 use Rattle.std.proofs.lemmas.List.{drop_all}
 use Rattle.std.proofs.lemmas.Result.{on_ok_weaker}
-use Rattle.cut_ledger.specs.declared.ranges.Range.{Range}
-use Rattle.cut_ledger.specs.Gaps.{runs}
-use Rattle.cut_ledger.specs.Ranges.{gap_between, gaps_around}
+use Rattle.cut_ledger.proofs.Words.{Range, gap_between, gaps_around, runs}
 use Rattle.cut_ledger.proofs.GapLemmas.{gaps_are, gaps_step, next_gap}
 use Rattle.cut_ledger.proofs.ranges.Ranges.gaps_into.Goals as goal
 

@@ -1,9 +1,8 @@
 -- The first range is the whole cell, or some trial is in none.
 use Rattle.std.proofs.Common.{◌≡◌, ℕ, ◌-◌, ◌<◌, ◌==◌, ◌&&◌, List, [], ◌∷◌, Some, ap, sym, ◌∙◌}
-use Rattle.std.specs.List.{slice_get, list_all, range_with_len}
+use Rattle.std.specs.List.{slice_get}
 use Rattle.std.proofs.lemmas.Bool.{eq-eqb, ne_eqb}
-use Rattle.cut_ledger.specs.declared.ranges.Range.{Range}
-use Rattle.cut_ledger.specs.Ranges.{AreRanges, is_in_some}
+use Rattle.cut_ledger.proofs.Words.{AreRanges, Range, is_in_some, list_all, range_with_len}
 use Rattle.cut_ledger.proofs.RangeLemmas.{full_is, is_whole}
 use Rattle.cut_ledger.proofs.ranges.Ranges.is_full.Goals as goal
 

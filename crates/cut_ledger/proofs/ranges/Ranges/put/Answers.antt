@@ -1,7 +1,6 @@
 -- The ranges at the end are those of before with the piece put in.
 use Rattle.std.proofs.Common.{◌≡◌, ℕ, ◌+◌, ◌++◌, List, take, drop, ◌∙◌, ap, sym, subst}
-use Rattle.cut_ledger.specs.declared.ranges.Range.{Range}
-use Rattle.cut_ledger.specs.Ranges.{joined_start, rest_after}
+use Rattle.cut_ledger.proofs.Words.{Range, joined_start, rest_after}
 use Rattle.cut_ledger.proofs.RangeLemmas.{HavePut, joined, put_is, steps_are}
 use Rattle.cut_ledger.proofs.ranges.Ranges.put.Goals as goal
 

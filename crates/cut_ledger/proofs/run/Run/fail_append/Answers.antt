@@ -1,10 +1,5 @@
 use Rattle.std.proofs.Common.{◌≡◌, ◌∙◌, Some, false, sym, ap, refl, subst}
-use Rattle.cut_plan.specs.Values.{Values}
-use Rattle.cut_trial.specs.Computed.{Computed}
-use Rattle.cut_ledger.specs.declared.slip.Slip.{Slip}
-use Rattle.cut_ledger.specs.Machine.{State, failed}
-use Rattle.cut_ledger.specs.Refusals.{CanTake}
-use Rattle.cut_ledger.specs.RunInside.{state_of}
+use Rattle.cut_ledger.proofs.Words.{CanTake, Computed, Slip, State, Values, failed, state_of}
 use Rattle.cut_ledger.proofs.Events.{Accepts, can_take, failed_reached, sent_reached}
 use Rattle.cut_ledger.proofs.run.Run.fail_append.Goals as goal
 

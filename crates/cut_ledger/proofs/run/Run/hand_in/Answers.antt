@@ -1,12 +1,7 @@
 use Rattle.std.proofs.Common.{◌≡◌, ◌∙◌, ◌++◌, ◌∷◌, [], List, false, sym, ap, refl, subst}
 use Rattle.std.proofs.lemmas.Bool.{cond-true, cond-false}
-use Rattle.cut_plan.specs.Values.{Values}
-use Rattle.cut_trial.specs.Computed.{Computed}
-use Rattle.cut_ledger.specs.declared.slip.Slip.{Slip}
-use Rattle.cut_ledger.specs.Machine.{State, taken, slip_of}
-use Rattle.cut_ledger.specs.Reached.{IsReached}
-use Rattle.cut_ledger.specs.Refusals.{CanTake}
-use Rattle.cut_ledger.specs.RunInside.{state_of}
+use Rattle.cut_ledger.proofs.Words.{CanTake, Computed, IsReached, Slip, State, Values, slip_of, state_of}
+use Rattle.cut_ledger.proofs.Words.{taken}
 use Rattle.cut_ledger.proofs.Events.{Accepts, can_take, taken_reached, sent_reached, own_plan}
 use Rattle.cut_ledger.proofs.run.Run.hand_in.Goals as goal
 

@@ -1,7 +1,6 @@
 use Rattle.std.proofs.Common.{◌≡◌, ◌∙◌, false, map, replicate, arith, refl}
 use Rattle.std.proofs.lemmas.Simd.{splat_is_map}
-use Rattle.cut_plan.specs.Values.{Values}
-use Rattle.cut_ledger.specs.Machine.{opened}
+use Rattle.cut_ledger.proofs.Words.{Values, opened}
 use Rattle.cut_ledger.proofs.Law.{opened_reached}
 use Rattle.cut_ledger.proofs.Events.{sent_reached}
 use Rattle.cut_ledger.proofs.run.Run.open.Goals as goal

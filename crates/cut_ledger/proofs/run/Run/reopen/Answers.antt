@@ -1,12 +1,7 @@
 use Rattle.std.proofs.Common.{◌≡◌, ◌∙◌, ◌≤◌, ◌-◌, ℕ, List, sym, ap, subst, arith}
-use Rattle.cut_plan.specs.Values.{Values}
-use Rattle.cut_ledger.specs.declared.slip.Slip.{Slip}
-use Rattle.cut_ledger.specs.Machine.{State, slips_found}
-use Rattle.cut_ledger.specs.RunInside.{state_of}
-use Rattle.cut_ledger.specs.Slips.{AreGood, IsFirstBad, IsToldOf}
 use Rattle.cut_ledger.specs.declared.fault.LedgerFault.TheVariants.{BadSlip}
-use Rattle.cut_trial.specs.Sum.{each_number}
-use Rattle.cut_ledger.specs.World.{times_in, pieces_of_slips}
+use Rattle.cut_ledger.proofs.Words.{AreGood, IsFirstBad, IsToldOf, Slip, State, Values, each_number}
+use Rattle.cut_ledger.proofs.Words.{pieces_of_slips, slips_found, state_of, times_in}
 use Rattle.cut_ledger.proofs.Events.{found}
 use Rattle.cut_ledger.proofs.TrueSlips.{true_are_good}
 use Rattle.cut_ledger.proofs.run.Run.reopen.Goals as goal

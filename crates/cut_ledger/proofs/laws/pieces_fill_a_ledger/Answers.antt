@@ -1,0 +1,5 @@
+use Rattle.cut_ledger.proofs.FillLemmas.{pieces_fill, complete_is_done, filled_tell}
+use Rattle.cut_ledger.proofs.laws.pieces_fill_a_ledger.Goals as goal
+
+pub returns : goal.returns
+returns c = record { fill = pieces_fill; done = complete_is_done; table = filled_tell }
