@@ -1,10 +1,15 @@
 -- The lines of a table, as they are written one after another.
-use Rattle.std.proofs.Common.{◌≡◌, ◌∙◌, ◌<◌, ◌≤◌, ◌+◌, ◌-◌, ◌++◌, ◌∷◌, [], ℕ, zero, suc, Bool, true, false, List, length, take, drop, get_or, cond, refl, ap, sym, zero-add, add-zero, arith, append_assoc, append-nil, length-append, length-take-le, take-append-drop}
+use Rattle.std.proofs.Common.{◌≡◌, ◌∙◌, ◌<◌, ◌≤◌, ◌+◌, ◌-◌, ◌++◌, ◌∷◌, [], ℕ, zero, suc, true, false}
+use Rattle.std.proofs.Common.{List, length, take, drop, cond, refl, ap, sym, zero-add}
+use Rattle.std.proofs.Common.{arith, append_assoc, append-nil, length-append, length-take-le}
+use Rattle.std.proofs.Common.{take-append-drop}
 use Rattle.std.specs.List.{range_with_len, take_while, flat_map}
 use Rattle.std.proofs.Math.Seq.{take-append_seam}
 use Rattle.std.proofs.lemmas.List.Concat.{flat_map-append}
 use Rattle.std.proofs.lemmas.List.FromFn.{length-range_with_len, get_or-range_with_len}
 use Rattle.std.proofs.lemmas.List.Sums.{take_while-cons}
+use Rattle.cut_lists.proofs.Fronts.{take_while-front}
+use Rattle.cut_lists.proofs.Intervals.{take_range, drop_range}
 use Rattle.cut_lists.proofs.Ranges.{range_with_len_more}
 use Rattle.cut_plan.specs.Cells.{cells_of}
 use Rattle.cut_lines.specs.Lines.{header}
@@ -14,7 +19,7 @@ use Rattle.std.specs.Prelude.{Err}
 use Rattle.cut_table.specs.declared.fault.TableFault.{TableFault}
 use Rattle.cut_table.specs.declared.fault.TableFault.TheVariants.{Memory, NotDone, Write}
 use Rattle.cut_table.specs.Traffic.{Traffic, wrote}
-use Rattle.cut_table.specs.Table.{row_of, Emits, IsWriteBetween, SendsAfter}
+use Rattle.cut_table.specs.Table.{row_of, Emits, IsEnded, IsWriteBetween, SendsAfter}
 
 -- the header and the lines of the first n cells
 abbrev pub front_of : Contents → ℕ → List ℕ
@@ -23,85 +28,109 @@ front_of l n = header ++ flat_map (row_of l) (range_with_len 0 n)
 pub front_more : (l : Contents) (n : ℕ) → front_of l (n + 1) ≡ front_of l n ++ row_of l n
 front_more l n =
     ap (λ xs. header ++ flat_map (row_of l) xs) (range_with_len_more 0 n n (zero-add n))
-    ∙ ap (λ xs. header ++ xs) (flat_map-append (row_of l) (range_with_len 0 n) (n ∷ []) ∙ ap (λ ys. flat_map (row_of l) (range_with_len 0 n) ++ ys) (append-nil (row_of l n)))
+    ∙ ap (λ xs. header ++ xs) (flat_map-append (row_of l) (range_with_len 0 n) (n ∷ [])
+    ∙ ap (λ ys. flat_map (row_of l) (range_with_len 0 n) ++ ys) (append-nil (row_of l n)))
     ∙ sym (append_assoc header (flat_map (row_of l) (range_with_len 0 n)) (row_of l n))
-
--- what passes in front stays in front
-take_while-front : {X : Type 0} (p : X → Bool) (d : X) (xs : List X) (n : ℕ) → n ≤ length xs → ((k : ℕ) → k < n → p (get_or xs k d) ≡ true) → take_while p xs ≡ take n xs ++ take_while p (drop n xs)
-take_while-front p d xs zero few passes = refl
-take_while-front p d [] (suc n) few passes = absurd (omega arith)
-take_while-front p d (x ∷ xs) (suc n) few passes =
-    take_while-cons p x xs ∙ ap (λ b. cond b (x ∷ take_while p xs) []) (passes 0 (omega arith))
-    ∙ ap (λ ys. x ∷ ys) (take_while-front p d xs n (omega arith) (λ k low. passes (suc k) (omega arith)))
-
-take_range : (a n k : ℕ) → k ≤ n → take k (range_with_len a n) ≡ range_with_len a k
-take_range a n zero few = refl
-take_range a zero (suc k) few = absurd (omega arith)
-take_range a (suc n) (suc k) few = ap (λ xs. a ∷ xs) (take_range (a + 1) n k (omega arith))
-
-drop_range : (a n k : ℕ) → k ≤ n → drop k (range_with_len a n) ≡ range_with_len (a + k) (n - k)
-drop_range a n zero few = ap (λ b. range_with_len b n) (sym (add-zero a)) ∙ ap (λ m. range_with_len (a + 0) m) (let e : n ≡ n - 0 = omega arith in e)
-drop_range a zero (suc k) few = absurd (omega arith)
-drop_range a (suc n) (suc k) few = drop_range (a + 1) n k (omega arith) ∙ ap (λ b. range_with_len b (n - k)) (let e : a + 1 + k ≡ a + suc k = omega arith in e) ∙ ap (λ m. range_with_len (a + suc k) m) (let e : n - k ≡ suc n - suc k = omega arith in e)
 
 -- the lines behind the first n cells, which are done
 abbrev pub behind : Contents → ℕ → List ℕ
 behind l n = flat_map (row_of l) (take_while (cell_done l) (range_with_len n (length (cells_of l.plan) - n)))
 
-pub available_splits : (l : Contents) (n : ℕ) → n ≤ length (cells_of l.plan) → ((k : ℕ) → k < n → cell_done l k ≡ true) → available l ≡ front_of l n ++ behind l n
+pub available_splits : (l : Contents) (n : ℕ) → n ≤ length (cells_of l.plan)
+    → ((k : ℕ) → k < n → cell_done l k ≡ true) → available l ≡ front_of l n ++ behind l n
 available_splits l n few done =
     let all : ℕ = length (cells_of l.plan) in
-    let split : take_while (cell_done l) (range_with_len 0 all) ≡ range_with_len 0 n ++ take_while (cell_done l) (range_with_len n (all - n)) =
-    take_while-front (cell_done l) 0 (range_with_len 0 all) n (omega (arith, few, length-range_with_len 0 all))
-    (λ k low. ap (cell_done l) (get_or-range_with_len 0 all k 0 (omega (arith, low, few)) ∙ zero-add k) ∙ done k low)
+    let split : take_while (cell_done l) (range_with_len 0 all) ≡ range_with_len 0 n ++ take_while
+    (cell_done l) (range_with_len n (all - n)) =
+    take_while-front (cell_done l) 0 (range_with_len 0 all) n
+    (omega (arith, few, length-range_with_len 0 all))
+    (λ k low. ap (cell_done l) (get_or-range_with_len 0 all k 0 (omega (arith, low, few)) ∙ zero-add k)
+    ∙ done k low)
     ∙ ap (λ xs. xs ++ take_while (cell_done l) (drop n (range_with_len 0 all))) (take_range 0 all n few)
-    ∙ ap (λ xs. range_with_len 0 n ++ take_while (cell_done l) xs) (drop_range 0 all n few ∙ ap (λ b. range_with_len b (all - n)) (zero-add n)) in
+    ∙ ap (λ xs. range_with_len 0 n ++ take_while (cell_done l) xs) (drop_range 0 all n few
+    ∙ ap (λ b. range_with_len b (all - n)) (zero-add n)) in
     ap (λ xs. header ++ flat_map (row_of l) xs) split
-    ∙ ap (λ xs. header ++ xs) (flat_map-append (row_of l) (range_with_len 0 n) (take_while (cell_done l) (range_with_len n (all - n))))
+    ∙ ap (λ xs. header ++ xs)
+    (flat_map-append (row_of l) (range_with_len 0 n)
+    (take_while (cell_done l) (range_with_len n (all - n))))
     ∙ sym (append_assoc header (flat_map (row_of l) (range_with_len 0 n)) (behind l n))
 
-none_behind : (l : Contents) (n m : ℕ) → (0 < m → cell_done l n ≡ false) → flat_map (row_of l) (take_while (cell_done l) (range_with_len n m)) ≡ []
+none_behind : (l : Contents) (n m : ℕ) → (0 < m → cell_done l n ≡ false)
+    → flat_map (row_of l) (take_while (cell_done l) (range_with_len n m)) ≡ []
 none_behind l n zero undone = refl
-none_behind l n (suc m) undone = ap (flat_map (row_of l)) (take_while-cons (cell_done l) n (range_with_len (n + 1) m) ∙ ap (λ b. cond b (n ∷ take_while (cell_done l) (range_with_len (n + 1) m)) []) (undone (omega arith)))
+none_behind l n (suc m) undone =
+    ap (flat_map (row_of l)) (take_while-cons (cell_done l) n (range_with_len (n + 1) m)
+    ∙ ap (λ b. cond b (n ∷ take_while (cell_done l) (range_with_len (n + 1) m)) [])
+    (undone (omega arith)))
 
 -- up to the first cell that is not done, it is the front
-pub available_ends : (l : Contents) (n : ℕ) → n ≤ length (cells_of l.plan) → ((k : ℕ) → k < n → cell_done l k ≡ true) → (n < length (cells_of l.plan) → cell_done l n ≡ false) → available l ≡ front_of l n
+pub available_ends : (l : Contents) (n : ℕ) → n ≤ length (cells_of l.plan)
+    → ((k : ℕ) → k < n → cell_done l k ≡ true) → (n < length (cells_of l.plan) → cell_done l n ≡ false)
+    → available l ≡ front_of l n
 available_ends l n few done undone =
-    available_splits l n few done ∙ ap (λ xs. front_of l n ++ xs) (none_behind l n (length (cells_of l.plan) - n) (λ some. undone (omega (arith, some)))) ∙ append-nil (front_of l n)
+    available_splits l n few done
+    ∙ ap (λ xs. front_of l n ++ xs)
+    (none_behind l n (length (cells_of l.plan) - n) (λ some. undone (omega (arith, some))))
+    ∙ append-nil (front_of l n)
 
 -- the first bytes of a front are those of the whole
-pub take_front : (whole front rest : List ℕ) (n : ℕ) → whole ≡ front ++ rest → n ≡ length front → take n whole ≡ front
-take_front whole front rest n is long = ap (λ xs. take n xs) is ∙ ap (λ k. take k (front ++ rest)) long ∙ take-append_seam front rest
+pub take_front : (whole front rest : List ℕ) (n : ℕ) → whole ≡ front ++ rest → n ≡ length front
+    → take n whole ≡ front
+take_front whole front rest n is long = ap (λ xs. take n xs) is ∙ ap (λ k. take k (front ++ rest)) long
+    ∙ take-append_seam front rest
 
 -- or a part more
-pub take_more : (whole front line rest : List ℕ) (before n : ℕ) → whole ≡ (front ++ line) ++ rest → before ≡ length front → before ≤ n → n < before + length line → take n whole ≡ front ++ take (n - before) line
+pub take_more : (whole front line rest : List ℕ) (before n : ℕ) → whole ≡ (front ++ line) ++ rest
+    → before ≡ length front → before ≤ n → n < before + length line
+    → take n whole ≡ front ++ take (n - before) line
 take_more whole front line rest before n is long low high =
     let part : List ℕ = take (n - before) line in
-    let size : length (front ++ part) ≡ n = length-append front part ∙ (let l = length-take-le (n - before) line (omega (arith, high)) in omega (arith, l, long, low)) in
+    let size : length (front ++ part) ≡ n = length-append front part
+    ∙ (let l = length-take-le (n - before) line (omega (arith, high)) in omega (arith, l, long, low)) in
     let parts : whole ≡ (front ++ part) ++ (drop (n - before) line ++ rest) =
     is ∙ ap (λ xs. (front ++ xs) ++ rest) (sym (take-append-drop (n - before) line))
-    ∙ ap (λ xs. xs ++ rest) (sym (append_assoc front part (drop (n - before) line))) ∙ append_assoc (front ++ part) (drop (n - before) line) rest in
+    ∙ ap (λ xs. xs ++ rest) (sym (append_assoc front part (drop (n - before) line)))
+    ∙ append_assoc (front ++ part) (drop (n - before) line) rest in
     take_front whole (front ++ part) (drop (n - before) line ++ rest) n parts (sym size)
 
 -- ---- what a wire took
 
 wrote_twice : (t : Traffic) (xs ys : List ℕ) → wrote (wrote t xs) ys ≡ wrote t (xs ++ ys)
-wrote_twice t xs ys = ap (λ (taken : List ℕ). (let u : Traffic = record { taken = taken; given = t.given; ends = t.ends } in u)) (append_assoc t.taken xs ys)
+wrote_twice t xs ys =
+    ap (λ (taken : List ℕ). (let u : Traffic = record { taken = taken; given = t.given; ends = t.ends } in u))
+    (append_assoc t.taken xs ys)
 
 pub wrote_none : (t : Traffic) → t ≡ wrote t []
-wrote_none t = ap (λ (taken : List ℕ). (let u : Traffic = record { taken = taken; given = t.given; ends = t.ends } in u)) (sym (append-nil t.taken))
+wrote_none t =
+    ap (λ (taken : List ℕ). (let u : Traffic = record { taken = taken; given = t.given; ends = t.ends } in u))
+    (sym (append-nil t.taken))
 
 -- a line more
-pub wrote_more : (old mid new : Traffic) (front line : List ℕ) → mid ≡ wrote old front → new ≡ wrote mid line → new ≡ wrote old (front ++ line)
-wrote_more old mid new front line before is = is ∙ ap (λ (t : Traffic). wrote t line) before ∙ wrote_twice old front line
+pub wrote_more : (old mid new : Traffic) (front line : List ℕ) → mid ≡ wrote old front → new ≡ wrote mid line
+    → new ≡ wrote old (front ++ line)
+wrote_more old mid new front line before is = is ∙ ap (λ (t : Traffic). wrote t line) before
+    ∙ wrote_twice old front line
 
 -- a write of a line that failed
-pub cut_off : (l : Contents) (front line rest : List ℕ) (before : ℕ) (e : TableFault) (old mid new : Traffic) → available l ≡ (front ++ line) ++ rest → before ≡ length front
-    → IsWriteBetween before (before + length line) e → mid ≡ wrote old front → SendsAfter before (Err e) line mid new → Emits l (Err e) old new
+pub cut_off : (l : Contents) (front line rest : List ℕ) (before : ℕ) (e : TableFault) (old mid new : Traffic)
+    → available l ≡ (front ++ line) ++ rest → before ≡ length front
+    → IsWriteBetween before (before + length line) e
+    → mid ≡ wrote old front → SendsAfter before (Err e) line mid new → Emits l (Err e) old new
 cut_off l front line rest before (Memory n) old mid new whole long between first sends = absurd between
 cut_off l front line rest before (NotDone n) old mid new whole long between first sends = absurd between
 cut_off l front line rest before (Write n) old mid new whole long between first sends =
-    let part : List ℕ = take (n - before) line in (
-      wrote_more old mid new front part first sends ∙ ap (λ (xs : List ℕ). wrote old xs) (sym (take_more (available l) front line rest before n whole long between.0 between.1)),
-      omega (arith, between.1, long, ap (λ xs. length xs) whole, length-append (front ++ line) rest, length-append front line),
-    )
+    wrote_more old mid new front (take (n - before) line) first sends
+    ∙ ap (λ (xs : List ℕ). wrote old xs)
+    (sym (take_more (available l) front line rest before n whole long between.0 between.1))
+
+-- it was before the last byte
+pub cut_short : (l : Contents) (front line rest : List ℕ) (before : ℕ) (e : TableFault)
+    → available l ≡ (front ++ line) ++ rest → before ≡ length front
+    → IsWriteBetween before (before + length line) e
+    → IsEnded l (Err e)
+cut_short l front line rest before (Memory n) whole long between = absurd between
+cut_short l front line rest before (NotDone n) whole long between = absurd between
+cut_short l front line rest before (Write n) whole long between =
+    let size = length-append front line in
+    let all = length-append (front ++ line) rest in
+    omega (arith, between.1, long, ap (λ xs. length xs) whole, all, size)

@@ -1,11 +1,10 @@
 -- What is written of a table, from a ledger.
 use Rattle.std.specs.Prelude.{◌≡◌, ◌<◌, ◌≤◌, ◌-◌, ℕ, true, false, List, length, take, Result, Ok, Err, ⊤}
-use Rattle.cut_faults.specs.Failures.{one_more}
 use Rattle.cut_plan.specs.Cells.{cells_of}
 use Rattle.cut_lines.specs.Lines.{line_with}
 use Rattle.cut_ledger.specs.Contents.{Contents, cell_done, cell_sum}
 use Rattle.cut_ledger.specs.Machine.{available}
-use Rattle.cut_table.specs.Traffic.{Traffic, wrote}
+use Rattle.cut_table.specs.Traffic.{Traffic, Failed, wrote, write_failed}
 use Rattle.cut_table.specs.declared.fault.RowFault.{RowFault}
 use Rattle.cut_table.specs.declared.fault.RowFault.TheVariants as row
 use Rattle.cut_table.specs.declared.fault.TableFault.{TableFault}
@@ -30,24 +29,26 @@ pub record IsFirstUndone (l : Contents) (c : ℕ) : Type 0 where
 abbrev pub AreDone : Contents → Type 0
 AreDone l = (i : ℕ) → i < length (cells_of l.plan) → cell_done l i ≡ true
 
--- why the writing of a table ended: every cell was done, or that one is the first which is not
+-- why the writing of a table ended: every cell was done, or that one is the first which is not, or a write
+-- failed before the last byte, or memory ran out when so many of the bytes were sent
 abbrev pub IsEnded : Contents → Result ⊤ TableFault → Type 0
 IsEnded l (Ok done) = AreDone l
 IsEnded l (Err (NotDone c)) = IsFirstUndone l c
-IsEnded l (Err fault) = ⊤
+IsEnded l (Err (Write sent)) = sent < length (available l)
+IsEnded l (Err (Memory sent)) = sent ≤ length (available l)
 
--- what a wire took: the header and the lines of the done cells in front, or exactly as many of the first bytes
--- of them as are told
+-- what a wire took: the header and the lines of the done cells in front, or exactly as many of the first
+-- bytes of them as are told
 abbrev pub Emits : Contents → Result ⊤ TableFault → Traffic → Traffic → Type 0
 Emits l (Ok done) old new = new ≡ wrote old (available l)
 Emits l (Err (NotDone c)) old new = new ≡ wrote old (available l)
-Emits l (Err (Write sent)) old new = (new ≡ wrote old (take sent (available l))) × (sent < length (available l))
-Emits l (Err (Memory sent)) old new = (new ≡ wrote old (take sent (available l))) × (sent ≤ length (available l))
+Emits l (Err (Write sent)) old new = new ≡ wrote old (take sent (available l))
+Emits l (Err (Memory sent)) old new = new ≡ wrote old (take sent (available l))
 
--- the count of failed calls after a table was written: one more exactly where a write failed
-abbrev pub failed_writes : Result ⊤ TableFault → ℕ → ℕ
-failed_writes (Err (Write sent)) n = one_more n
-failed_writes result n = n
+-- the counts of failed calls after a table was written: one write more exactly where a write failed
+abbrev pub failed_writes : Result ⊤ TableFault → Failed → Failed
+failed_writes (Err (Write sent)) f = write_failed f
+failed_writes result f = f
 
 -- ---- inside
 
@@ -56,7 +57,8 @@ abbrev pub IsWriteBetween : ℕ → ℕ → TableFault → Type 0
 IsWriteBetween low high (Write n) = (low ≤ n) × (n < high)
 IsWriteBetween low high fault = ⊥
 
--- bytes were sent after so many others: all of them, or as many of the first as the told number is above those
+-- bytes were sent after so many others: all of them, or as many of the first as the told number is above
+-- those
 abbrev pub SendsAfter : ℕ → Result ℕ TableFault → List ℕ → Traffic → Traffic → Type 0
 SendsAfter before (Ok n) bytes old new = new ≡ wrote old bytes
 SendsAfter before (Err (Write n)) bytes old new = new ≡ wrote old (take (n - before) bytes)

@@ -1,5 +1,5 @@
 ghost use Rattle.std.specs.Prelude.{◌≡◌, Some};
-ghost use Rattle.cut_table.specs.Traffic.{no_traffic};
+ghost use Rattle.cut_table.specs.Traffic.{no_traffic, none_failed};
 
 use crate::{MemoryWire, Wire, WireFault};
 use std::alloc::Global;
@@ -29,7 +29,7 @@ impl FaultyWire {
     /// A wire over this input, of which a call moves at most `per` bytes.
     pub fn new(alloc: Global, input: Vec<u8>, per: usize, room: usize, fail_read: u64) -> FaultyWire
         ensures { result ≡ record {
-          memory = record { input = input.items; traffic = no_traffic; per = per; failures = 0 };
+          memory = record { input = input.items; traffic = no_traffic; per = per; failed = none_failed };
           room = Some room;
           fail_in = fail_read;
         } }
@@ -50,30 +50,41 @@ impl FaultyWire {
 }
 
 impl Wire for FaultyWire {
-    ghost use Rattle.std.specs.Prelude.{⊤};
+    ghost use Rattle.std.specs.Prelude.{⊤, ◌<◌, ◌≤◌, length, IfOk};
+    ghost use Rattle.cut_table.specs.Traffic.{Writes, after_write};
+    ghost use Rattle.cut_table.specs.Faulty.{HasReadInTurn, HasWrittenInRoom};
 
     ghost traffic = { λ w. w.memory.traffic };
 
     ghost tells = { λ _. ⊤ };
 
-    ghost faults = { λ w. w.memory.failures };
+    ghost faults = { λ w. w.memory.failed };
 
-    fn read(&mut self, buffer: &mut [u8]) -> Result<usize, WireFault> {
+    fn read(&mut self, buffer: &mut [u8]) -> Result<usize, WireFault>
+        requires { 0 < length buffer.old }
+        ensures exact { HasReadInTurn self.old result buffer.old buffer.new self.new }
+    {
         let due = self.fail_in;
         self.fail_in = due.saturating_sub(1);
         if due == 1 {
-            return self.memory.fail();
+            return self.memory.fail_read();
         }
         self.memory.read(buffer)
     }
 
-    fn write(&mut self, bytes: &[u8]) -> Result<usize, WireFault> {
+    fn write(&mut self, bytes: &[u8]) -> Result<usize, WireFault>
+        ensures exact { HasWrittenInRoom self.old result bytes.now self.new }
+        ensures bound { IfOk result (λ n. n ≤ length bytes.now) }
+        ensures some { 0 < length bytes.now → IfOk result (λ n. 0 < n) }
+        ensures told { Writes result bytes.now self.old.memory.traffic self.new.memory.traffic }
+        ensures faults { self.new.memory.failed ≡ after_write result self.old.memory.failed }
+    {
         let Some(room) = self.room else {
             return self.memory.write(bytes);
         };
         if room == 0 && !bytes.is_empty() {
             self.room = None;
-            return self.memory.fail();
+            return self.memory.fail_write();
         }
         let taken = self.memory.write(&bytes[..room.min(bytes.len())])?;
         self.room = Some(room - taken);

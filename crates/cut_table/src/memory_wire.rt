@@ -1,6 +1,6 @@
 ghost use Rattle.std.specs.Prelude.{◌≡◌, ◌==◌, IsErr, if◌then◌else◌};
 ghost use Rattle.cut_faults.specs.Failures.{one_more};
-ghost use Rattle.cut_table.specs.Traffic.{no_traffic};
+ghost use Rattle.cut_table.specs.Traffic.{no_traffic, none_failed, read_failed, write_failed};
 
 use crate::{Wire, WireFault};
 use cut_faults::Failures;
@@ -9,8 +9,8 @@ use std::marker::Model;
 
 /// A wire in memory: its reads give the bytes of an input, and its writes add to an output.
 ///
-/// A call moves at most `per` bytes; with `per` 0 each call fails. So does a write whose bytes don't find
-/// memory.
+/// A call moves at most `per` bytes; with `per` 0 each read fails, and each write of some bytes. So does a
+/// write whose bytes don't find memory.
 #[derive(Debug, Drop)]
 pub struct MemoryWire {
     input: Vec<u8>,
@@ -18,7 +18,8 @@ pub struct MemoryWire {
     output: Vec<u8>,
     ends: u64,
     per: usize,
-    failures: Failures,
+    failed_reads: Failures,
+    failed_writes: Failures,
 }
 
 impl Model for MemoryWire {
@@ -31,7 +32,7 @@ impl Model for MemoryWire {
       input = w.input.items;
       traffic = record { taken = w.output.items; given = take w.given w.input.items; ends = w.ends };
       per = w.per;
-      failures = w.failures;
+      failed = record { reads = w.failed_reads; writes = w.failed_writes };
     } };
 
     ghost invariant = { λ w. w.given ≤ length w.input.items };
@@ -40,7 +41,7 @@ impl Model for MemoryWire {
 impl MemoryWire {
     /// A wire over this input, over which nothing has passed yet.
     pub fn new(alloc: Global, input: Vec<u8>, per: usize) -> MemoryWire
-        ensures { result ≡ record { input = input.items; traffic = no_traffic; per = per; failures = 0 } }
+        ensures { result ≡ record { input = input.items; traffic = no_traffic; per = per; failed = none_failed } }
     {
         MemoryWire {
             input,
@@ -48,7 +49,8 @@ impl MemoryWire {
             output: Vec::new(alloc),
             ends: 0,
             per,
-            failures: Failures::none(),
+            failed_reads: Failures::none(),
+            failed_writes: Failures::none(),
         }
     }
 
@@ -59,28 +61,41 @@ impl MemoryWire {
         self.output.as_slice()
     }
 
-    /// Fails a call, and counts it.
-    pub(crate) fn fail(&mut self) -> Result<usize, WireFault>
+    /// Fails a read, and counts it.
+    pub(crate) fn fail_read(&mut self) -> Result<usize, WireFault>
         ensures err { IsErr result }
-        ensures count { self.new ≡ record self.old { failures = one_more self.old.failures } }
+        ensures count { self.new ≡ record self.old { failed = read_failed self.old.failed } }
     {
-        self.failures.add();
+        self.failed_reads.add();
+        Err(WireFault)
+    }
+
+    /// Fails a write, and counts it.
+    pub(crate) fn fail_write(&mut self) -> Result<usize, WireFault>
+        ensures err { IsErr result }
+        ensures count { self.new ≡ record self.old { failed = write_failed self.old.failed } }
+    {
+        self.failed_writes.add();
         Err(WireFault)
     }
 }
 
 impl Wire for MemoryWire {
-    ghost use Rattle.std.specs.Prelude.{⊤};
+    ghost use Rattle.std.specs.Prelude.{⊤, ◌<◌, length};
+    ghost use Rattle.cut_table.specs.Memory.{HasRead, HasWritten};
 
     ghost traffic = { λ w. w.traffic };
 
     ghost tells = { λ _. ⊤ };
 
-    ghost faults = { λ w. w.failures };
+    ghost faults = { λ w. w.failed };
 
-    fn read(&mut self, buffer: &mut [u8]) -> Result<usize, WireFault> {
+    fn read(&mut self, buffer: &mut [u8]) -> Result<usize, WireFault>
+        requires { 0 < length buffer.old }
+        ensures exact { HasRead self.old result buffer.old buffer.new self.new }
+    {
         if self.per == 0 {
-            return self.fail();
+            return self.fail_read();
         }
         let rest = &self.input[self.given..];
         let moved = rest.len().min(self.per).min(buffer.len());
@@ -90,19 +105,23 @@ impl Wire for MemoryWire {
         Ok(moved)
     }
 
-    fn write(&mut self, bytes: &[u8]) -> Result<usize, WireFault> {
+    fn write(&mut self, bytes: &[u8]) -> Result<usize, WireFault>
+        ensures exact { HasWritten self.old result bytes.now self.new }
+    {
         let moved = bytes.len().min(self.per);
         if moved == 0 && !bytes.is_empty() {
-            return self.fail();
+            return self.fail_write();
         }
         match self.output.extend_from_slice(&bytes[..moved]) {
             Ok(()) => Ok(moved),
-            Err(_) => self.fail(),
+            Err(_) => self.fail_write(),
         }
     }
 
     fn failures(&self) -> u64 {
-        self.failures.count()
+        self.failed_reads
+            .count()
+            .saturating_add(self.failed_writes.count())
     }
 }
 

@@ -1,6 +1,5 @@
 ghost use Rattle.std.specs.Prelude.{◌≡◌, ◌<◌, ◌↔◌, length, IfErr};
-ghost use Rattle.cut_faults.specs.Failures.{counted};
-ghost use Rattle.cut_table.specs.Traffic.{Sends};
+ghost use Rattle.cut_table.specs.Traffic.{Sends, after_write};
 
 use crate::Wire;
 
@@ -17,7 +16,7 @@ pub fn send_all<W: Wire>(wire: &mut W, bytes: &[u8]) -> Result<(), Sent>
     ensures told { W.tells wire.old → Sends result bytes.now (W.traffic wire.old) (W.traffic wire.new) }
     ensures fewer { IfErr result (λ sent. sent.bytes < length bytes.now) }
     ensures tells { W.tells wire.old ↔ W.tells wire.new }
-    ensures faults { W.faults wire.new ≡ counted result (W.faults wire.old) }
+    ensures faults { W.faults wire.new ≡ after_write result (W.faults wire.old) }
 {
     let mut sent = 0;
     while sent < bytes.len() {

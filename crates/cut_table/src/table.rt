@@ -1,16 +1,17 @@
 ghost use Rattle.std.specs.Prelude.{◌≡◌, ◌+◌, ◌^◌, ◌<◌, ◌≤◌, ◌↔◌, true, length, IfOk, IfErr, OnOk};
-ghost use Rattle.cut_faults.specs.Failures.{counted};
 ghost use Rattle.cut_plan.specs.Cells.{cells_of};
 ghost use Rattle.cut_ledger.specs.Contents.{cell_done};
-ghost use Rattle.cut_table.specs.Table.{row_of, Emits, IsRowFault, IsEnded, failed_writes, IsWriteBetween, SendsAfter};
+ghost use Rattle.cut_table.specs.Traffic.{after_write};
+ghost use Rattle.cut_table.specs.Table.{row_of, Emits, IsRowFault, IsEnded, failed_writes};
+ghost use Rattle.cut_table.specs.Table.{IsWriteBetween, SendsAfter};
 
 use crate::{RowFault, TableFault, Wire, send_all};
 use cut_ledger::Ledger;
 use cut_lines::{cell_line, header};
 use std::alloc::Global;
 
-/// The line of a cell, whose trials are all held, with a line feed. It has at most 273 bytes. Want of memory is
-/// told only where they are all held.
+/// The line of a cell, whose trials are all held, with a line feed. It has at most 273 bytes. Want of memory
+/// is told only where they are all held.
 pub fn row(alloc: Global, ledger: &Ledger, cell: u32) -> Result<Vec<u8>, RowFault>
     requires { cell < length (cells_of ledger.now.contents.plan) }
     ensures ok { IfOk result (λ line. line.items ≡ row_of ledger.now.contents cell) }
@@ -25,9 +26,11 @@ pub fn row(alloc: Global, ledger: &Ledger, cell: u32) -> Result<Vec<u8>, RowFaul
     Ok(line)
 }
 
-/// Writes the header, and the lines of the cells in order, up to the first cell that is not done.
+/// Writes the header, and the lines of the cells in order, up to the first cell that is not done. A fault
+/// tells no more bytes sent than there are, and fewer where a write failed.
 pub fn emit_table<W: Wire>(alloc: Global, ledger: &Ledger, wire: &mut W) -> Result<(), TableFault>
-    ensures told { W.tells wire.old → Emits ledger.now.contents result (W.traffic wire.old) (W.traffic wire.new) }
+    ensures told { W.tells wire.old →
+        Emits ledger.now.contents result (W.traffic wire.old) (W.traffic wire.new) }
     ensures ended { IsEnded ledger.now.contents result }
     ensures tells { W.tells wire.old ↔ W.tells wire.new }
     ensures faults { W.faults wire.new ≡ failed_writes result (W.faults wire.old) }
@@ -49,9 +52,10 @@ fn send<W: Wire>(wire: &mut W, sent: u64, bytes: &[u8]) -> Result<u64, TableFaul
     requires { sent + length bytes.now < 2 ^ 64 }
     ensures ok { IfOk result (λ n. n ≡ sent + length bytes.now) }
     ensures err { IfErr result (λ e. IsWriteBetween sent (sent + length bytes.now) e) }
-    ensures told { W.tells wire.old → SendsAfter sent result bytes.now (W.traffic wire.old) (W.traffic wire.new) }
+    ensures told { W.tells wire.old →
+        SendsAfter sent result bytes.now (W.traffic wire.old) (W.traffic wire.new) }
     ensures tells { W.tells wire.old ↔ W.tells wire.new }
-    ensures faults { W.faults wire.new ≡ counted result (W.faults wire.old) }
+    ensures faults { W.faults wire.new ≡ after_write result (W.faults wire.old) }
 {
     match send_all(wire, bytes) {
         Ok(()) => Ok(sent + bytes.len() as u64),

@@ -1,6 +1,5 @@
-ghost use Rattle.std.specs.Prelude.{ℕ, ◌≡◌, ◌<◌, ◌≤◌, ◌↔◌, length, IfOk};
-ghost use Rattle.cut_faults.specs.Failures.{counted};
-ghost use Rattle.cut_table.specs.Traffic.{Traffic, Reads, Writes};
+ghost use Rattle.std.specs.Prelude.{◌≡◌, ◌<◌, ◌≤◌, ◌↔◌, length, IfOk};
+ghost use Rattle.cut_table.specs.Traffic.{Traffic, Failed, Reads, Writes, after_read, after_write, all_failed};
 
 use thiserror::Error;
 
@@ -12,8 +11,9 @@ pub struct WireFault;
 /// A device that bytes are read from and written to, which counts its calls that fail.
 ///
 /// An interruption is a failure, and so is a write that takes nothing of some bytes. A call that fails counts
-/// once, and one that does not leaves the count; at 2^64 - 1 it stays. What passed over the wire is spoken of where the wire tells it: a wire in memory does, and one
-/// over a socket doesn't.
+/// once, and one that does not leaves the counts, that of reads and that of writes; at 2^64 - 1 a count
+/// stays. What passed over the wire is spoken of where the wire tells it: a wire in memory does, and one over
+/// a socket doesn't.
 pub trait Wire {
     /// What passed over the wire, where it tells.
     ghost traffic: { Self → Traffic };
@@ -21,8 +21,8 @@ pub trait Wire {
     /// Whether the wire tells what passed over it.
     ghost tells: { Self → Type 0 };
 
-    /// How many of its calls failed.
-    ghost faults: { Self → ℕ };
+    /// How many of its reads failed, and how many of its writes.
+    ghost faults: { Self → Failed };
 
     /// Reads some bytes to the front of the buffer, and tells how many; none are the end of the input.
     fn read(&mut self, buffer: &mut [u8]) -> Result<usize, WireFault>
@@ -30,7 +30,7 @@ pub trait Wire {
         ensures bound { IfOk result (λ n. n ≤ length buffer.new) }
         ensures told { tells self.old → Reads result buffer.new (traffic self.old) (traffic self.new) }
         ensures tells { tells self.old ↔ tells self.new }
-        ensures faults { faults self.new ≡ counted result (faults self.old) };
+        ensures faults { faults self.new ≡ after_read result (faults self.old) };
 
     /// Writes some of the first bytes, and tells how many: at least one, where there is one.
     fn write(&mut self, bytes: &[u8]) -> Result<usize, WireFault>
@@ -38,11 +38,11 @@ pub trait Wire {
         ensures some { 0 < length bytes.now → IfOk result (λ n. 0 < n) }
         ensures told { tells self.old → Writes result bytes.now (traffic self.old) (traffic self.new) }
         ensures tells { tells self.old ↔ tells self.new }
-        ensures faults { faults self.new ≡ counted result (faults self.old) };
+        ensures faults { faults self.new ≡ after_write result (faults self.old) };
 
-    /// How many of its calls failed.
+    /// How many of its calls failed, reads and writes together.
     fn failures(&self) -> u64
-        ensures { result ≡ faults self.now };
+        ensures { result ≡ all_failed (faults self.now) };
 }
 
 /// A wire that is lent is one.

@@ -1,4 +1,5 @@
-use Rattle.std.proofs.Common.{◌≡◌, ◌∙◌, ◌<◌, ◌+◌, ◌++◌, [], inl, inr, ℕ, List, Result, true, false, length, sym, ap, subst, arith, length-append, append-nil}
+use Rattle.std.proofs.Common.{◌≡◌, ◌∙◌, ◌<◌, ◌+◌, ◌++◌, [], inl, inr, ℕ, List, Result, true, false, length}
+use Rattle.std.proofs.Common.{sym, ap, subst, arith, length-append, append-nil}
 use Rattle.std.specs.Bool.{⊤}
 use Rattle.std.proofs.lemmas.Bool.{cases_lt}
 use Rattle.std.proofs.lemmas.Result.{err_from_is_err_and}
@@ -9,9 +10,24 @@ use Rattle.cut_ledger.specs.Contents.{Contents, cell_done}
 use Rattle.cut_ledger.specs.Machine.{available}
 use Rattle.cut_table.specs.declared.fault.TableFault.{TableFault}
 use Rattle.cut_table.specs.Traffic.{Traffic, wrote}
-use Rattle.cut_table.specs.Table.{row_of, Emits}
-use Rattle.cut_table.proofs.Fronts.{front_of, front_more, behind, available_splits, available_ends, take_front, wrote_none, wrote_more, cut_off}
+use Rattle.cut_table.specs.Table.{row_of, Emits, IsEnded}
+use Rattle.cut_table.proofs.Fronts.{front_of, front_more, behind, available_splits, available_ends}
+use Rattle.cut_table.proofs.Fronts.{take_front, wrote_none, wrote_more, cut_off, cut_short}
 use Rattle.cut_table.proofs.table.emit_table.Goals as goal
+
+-- one cell more is done
+one_more_done : (l : Contents) (n : ℕ) → ((k : ℕ) → k < n → cell_done l k ≡ true) → cell_done l n ≡ true
+    → (k : ℕ) → k < n + 1 → cell_done l k ≡ true
+one_more_done l n before here k below = elim (cases_lt k n) [
+  | inl less ↦ before k less
+  | inr last ↦ (let same : k ≡ n = omega arith in ap (λ i. cell_done l i) same ∙ here)
+]
+
+-- the header is in front of the lines
+header_first : (l : Contents) (line : List ℕ) → line ≡ header → available l ≡ ([] ++ line) ++ behind l 0
+header_first l line is =
+    available_splits l 0 (omega arith) (λ k low. absurd (omega (arith, low)))
+    ∙ ap (λ xs. xs ++ behind l 0) (append-nil header ∙ sym is)
 
 pub returns-in_err-sent-clause-told : goal.returns-in_err-sent-clause-told
 returns-in_err-sent-clause-told g c =
@@ -20,29 +36,80 @@ returns-in_err-sent-clause-told g c =
     let new : Traffic = g.W.Wire.traffic c.send.new.wire in
     let p = err_from_is_err_and c.from_residual.result c.from_residual.ensures.1 in
     let line : List ℕ = c.header.result.now in
-    let lines : List ℕ = behind l 0 in
-    let whole : available l ≡ ([] ++ line) ++ lines = available_splits l 0 (omega arith) (λ k low. absurd (omega (arith, low))) ∙ ap (λ xs. xs ++ lines) (append-nil header ∙ sym c.header.ensures) in
+    let whole = header_first l line c.header.ensures in
     λ told. subst (λ (x : Result ⊤ TableFault). Emits l x old new) (sym p.1)
-    (rw p.2 (cut_off l [] line lines 0 c.in_err-sent.field-0.0 old old new whole (omega arith) c.in_err-sent.ensures.err (wrote_none old) (c.in_err-sent.ensures.told told)))
+    (rw p.2 (cut_off l [] line (behind l 0) 0 c.in_err-sent.field-0.0 old old new whole (omega arith)
+    c.in_err-sent.ensures.err (wrote_none old) (c.in_err-sent.ensures.told told)))
+
+pub returns-in_err-sent-clause-ended : goal.returns-in_err-sent-clause-ended
+returns-in_err-sent-clause-ended g c =
+    let l : Contents = c.args.ledger.now.contents in
+    let p = err_from_is_err_and c.from_residual.result c.from_residual.ensures.1 in
+    let line : List ℕ = c.header.result.now in
+    let whole = header_first l line c.header.ensures in
+    subst (λ (x : Result ⊤ TableFault). IsEnded l x) (sym p.1)
+    (rw p.2 (cut_short l [] line (behind l 0) 0 c.in_err-sent.field-0.0 whole
+    (omega arith) c.in_err-sent.ensures.err))
 
 pub returns-in-Err-NotDone-clause-told : goal.returns-in-Err-NotDone-clause-told
 returns-in-Err-NotDone-clause-told g c =
     let l : Contents = c.args.ledger.now.contents in
     let n : ℕ = c.loop-cell.cell in
     let undone : cell_done l n ≡ false = (rw c.in-Err-NotDone.field-0-is at c.in-Err-NotDone.ensures.err).1 in
-    let low : n < length (cells_of l.plan) = omega (arith, c.loop-cell-test.true, c.cells-cell-end.ensures.value, ap (λ (v : Values). length (cells_of v)) c.plan.ensures.value) in
-    λ told. c.loop-cell.invariant.told told ∙ ap (λ (xs : List ℕ). wrote (g.W.Wire.traffic c.args.wire.now) xs) (sym (available_ends l n (omega (arith, low)) c.loop-cell.invariant.done (λ _. undone)))
+    let low : n < length (cells_of l.plan) =
+    omega (
+      arith,
+      c.loop-cell-test.true,
+      c.cells-cell-end.ensures.value,
+      ap (λ (v : Values). length (cells_of v)) c.plan.ensures.value,
+    ) in
+    λ told. c.loop-cell.invariant.told told
+    ∙ ap (λ (xs : List ℕ). wrote (g.W.Wire.traffic c.args.wire.now) xs)
+    (sym (available_ends l n (omega (arith, low)) c.loop-cell.invariant.done (λ _. undone)))
 
 pub returns-in-Err-Memory-clause-told : goal.returns-in-Err-Memory-clause-told
 returns-in-Err-Memory-clause-told g c =
     let l : Contents = c.args.ledger.now.contents in
     let n : ℕ = c.loop-cell.cell in
-    let low : n < length (cells_of l.plan) = omega (arith, c.loop-cell-test.true, c.cells-cell-end.ensures.value, ap (λ (v : Values). length (cells_of v)) c.plan.ensures.value) in
+    let low : n < length (cells_of l.plan) =
+    omega (
+      arith,
+      c.loop-cell-test.true,
+      c.cells-cell-end.ensures.value,
+      ap (λ (v : Values). length (cells_of v)) c.plan.ensures.value,
+    ) in
     let whole = available_splits l n (omega (arith, low)) c.loop-cell.invariant.done in
-    λ told. (
-      c.loop-cell.invariant.told told ∙ ap (λ (xs : List ℕ). wrote (g.W.Wire.traffic c.args.wire.now) xs) (sym (take_front (available l) (front_of l n) (behind l n) c.loop-cell.sent whole c.loop-cell.invariant.count)),
-      omega (arith, c.loop-cell.invariant.count, ap (λ xs. length xs) whole, length-append (front_of l n) (behind l n)),
+    λ told. c.loop-cell.invariant.told told
+    ∙ ap (λ (xs : List ℕ). wrote (g.W.Wire.traffic c.args.wire.now) xs)
+    (sym (take_front (available l) (front_of l n)
+    (behind l n) c.loop-cell.sent whole c.loop-cell.invariant.count))
+
+pub returns-in-Err-Memory-clause-ended : goal.returns-in-Err-Memory-clause-ended
+returns-in-Err-Memory-clause-ended g c =
+    let l : Contents = c.args.ledger.now.contents in
+    let n : ℕ = c.loop-cell.cell in
+    let low : n < length (cells_of l.plan) =
+    omega (
+      arith,
+      c.loop-cell-test.true,
+      c.cells-cell-end.ensures.value,
+      ap (λ (v : Values). length (cells_of v)) c.plan.ensures.value,
+    ) in
+    let whole = available_splits l n (omega (arith, low)) c.loop-cell.invariant.done in
+    omega (
+      arith,
+      c.loop-cell.invariant.count,
+      ap (λ xs. length xs) whole,
+      length-append (front_of l n) (behind l n),
     )
+
+-- the line of a done cell stands behind those before it
+line_next : (l : Contents) (n : ℕ) (line : List ℕ) → n < length (cells_of l.plan)
+    → ((k : ℕ) → k < n → cell_done l k ≡ true) → cell_done l n ≡ true → line ≡ row_of l n
+    → available l ≡ (front_of l n ++ line) ++ behind l (n + 1)
+line_next l n line low before here is =
+    available_splits l (n + 1) (omega (arith, low)) (one_more_done l n before here)
+    ∙ ap (λ xs. xs ++ behind l (n + 1)) (front_more l n ∙ ap (λ xs. front_of l n ++ xs) (sym is))
 
 pub returns-in_err-sent-2-clause-told : goal.returns-in_err-sent-2-clause-told
 returns-in_err-sent-2-clause-told g c =
@@ -50,19 +117,43 @@ returns-in_err-sent-2-clause-told g c =
     let n : ℕ = c.loop-cell.cell in
     let old : Traffic = g.W.Wire.traffic c.args.wire.now in
     let new : Traffic = g.W.Wire.traffic c.send-in-loop-cell.new.wire in
-    let p = err_from_is_err_and c.from_residual-in_err-sent-2.result c.from_residual-in_err-sent-2.ensures.1 in
+    let p = err_from_is_err_and c.from_residual-in_err-sent-2.result
+    c.from_residual-in_err-sent-2.ensures.1 in
     let line : List ℕ = c.as_slice.result.now in
-    let is : line ≡ row_of l n = c.as_slice.ensures.value ∙ c.in-Ok.ensures.ok in
-    let low : n < length (cells_of l.plan) = omega (arith, c.loop-cell-test.true, c.cells-cell-end.ensures.value, ap (λ (v : Values). length (cells_of v)) c.plan.ensures.value) in
-    let done : (k : ℕ) → k < n + 1 → cell_done l k ≡ true = λ k below. elim (cases_lt k n) [
-      | inl before ↦ c.loop-cell.invariant.done k before
-      | inr last ↦ (let here : k ≡ n = omega arith in ap (λ i. cell_done l i) here ∙ c.in-Ok.ensures.done)
-    ] in
-    let whole : available l ≡ (front_of l n ++ line) ++ behind l (n + 1) =
-    available_splits l (n + 1) (omega (arith, low)) done ∙ ap (λ xs. xs ++ behind l (n + 1)) (front_more l n ∙ ap (λ xs. front_of l n ++ xs) (sym is)) in
+    let low : n < length (cells_of l.plan) =
+    omega (
+      arith,
+      c.loop-cell-test.true,
+      c.cells-cell-end.ensures.value,
+      ap (λ (v : Values). length (cells_of v)) c.plan.ensures.value,
+    ) in
+    let whole = line_next l n line low c.loop-cell.invariant.done c.in-Ok.ensures.done
+    (c.as_slice.ensures.value ∙ c.in-Ok.ensures.ok) in
     λ told. subst (λ (x : Result ⊤ TableFault). Emits l x old new) (sym p.1)
-    (rw p.2 (cut_off l (front_of l n) line (behind l (n + 1)) c.loop-cell.sent c.in_err-sent-2.field-0.0 old (g.W.Wire.traffic c.loop-cell.wire) new whole
-    c.loop-cell.invariant.count c.in_err-sent-2.ensures.err (c.loop-cell.invariant.told told) (c.in_err-sent-2.ensures.told (c.loop-cell.invariant.tells.0 told))))
+    (rw p.2 (cut_off l (front_of l n) line (behind l (n + 1)) c.loop-cell.sent c.in_err-sent-2.field-0.0 old
+    (g.W.Wire.traffic c.loop-cell.wire) new whole
+    c.loop-cell.invariant.count c.in_err-sent-2.ensures.err (c.loop-cell.invariant.told told)
+    (c.in_err-sent-2.ensures.told (c.loop-cell.invariant.tells.0 told))))
+
+pub returns-in_err-sent-2-clause-ended : goal.returns-in_err-sent-2-clause-ended
+returns-in_err-sent-2-clause-ended g c =
+    let l : Contents = c.args.ledger.now.contents in
+    let n : ℕ = c.loop-cell.cell in
+    let p = err_from_is_err_and c.from_residual-in_err-sent-2.result
+    c.from_residual-in_err-sent-2.ensures.1 in
+    let line : List ℕ = c.as_slice.result.now in
+    let low : n < length (cells_of l.plan) =
+    omega (
+      arith,
+      c.loop-cell-test.true,
+      c.cells-cell-end.ensures.value,
+      ap (λ (v : Values). length (cells_of v)) c.plan.ensures.value,
+    ) in
+    let whole = line_next l n line low c.loop-cell.invariant.done c.in-Ok.ensures.done
+    (c.as_slice.ensures.value ∙ c.in-Ok.ensures.ok) in
+    subst (λ (x : Result ⊤ TableFault). IsEnded l x) (sym p.1)
+    (rw p.2 (cut_short l (front_of l n) line (behind l (n + 1)) c.loop-cell.sent c.in_err-sent-2.field-0.0
+    whole c.loop-cell.invariant.count c.in_err-sent-2.ensures.err))
 
 pub loop-cell-preserved : goal.loop-cell-preserved
 loop-cell-preserved g c =
@@ -71,16 +162,31 @@ loop-cell-preserved g c =
     let line : c.as_slice.result.now ≡ row_of l n = c.as_slice.ensures.value ∙ c.in-Ok.ensures.ok in
     let more : front_of l (n + 1) ≡ front_of l n ++ row_of l n = front_more l n in
     record {
-      done = λ k low. elim (cases_lt k n) [
-        | inl before ↦ c.loop-cell.invariant.done k before
-        | inr last ↦ (let here : k ≡ n = omega arith in ap (λ i. cell_done l i) here ∙ c.in-Ok.ensures.done)
-      ];
-      count = omega (arith, c.in_ok-sent-2.ensures.ok, c.loop-cell.invariant.count, ap (λ xs. length xs) line, ap (λ xs. length xs) more, length-append (front_of l n) (row_of l n));
-      few = omega (arith, c.in_ok-sent-2.ensures.ok, c.loop-cell.invariant.few, ap (λ xs. length xs) c.as_slice.ensures.value, c.in-Ok.ensures.short);
-      told = λ told. wrote_more (g.W.Wire.traffic c.args.wire.now) (g.W.Wire.traffic c.loop-cell.wire) (g.W.Wire.traffic c.send-in-loop-cell.new.wire) (front_of l n) c.as_slice.result.now
+      done = one_more_done l n c.loop-cell.invariant.done c.in-Ok.ensures.done;
+      count = omega (
+        arith,
+        c.in_ok-sent-2.ensures.ok,
+        c.loop-cell.invariant.count,
+        ap (λ xs. length xs) line,
+        ap (λ xs. length xs) more,
+        length-append (front_of l n) (row_of l n),
+      );
+      few = omega (
+        arith,
+        c.in_ok-sent-2.ensures.ok,
+        c.loop-cell.invariant.few,
+        ap (λ xs. length xs) c.as_slice.ensures.value,
+        c.in-Ok.ensures.short,
+      );
+      told = λ told. wrote_more (g.W.Wire.traffic c.args.wire.now) (g.W.Wire.traffic c.loop-cell.wire)
+          (g.W.Wire.traffic c.send-in-loop-cell.new.wire) (front_of l n) c.as_slice.result.now
           (c.loop-cell.invariant.told told) (c.in_ok-sent-2.ensures.told (c.loop-cell.invariant.tells.0 told))
-          ∙ ap (λ (xs : List ℕ). wrote (g.W.Wire.traffic c.args.wire.now) xs) (ap (λ xs. front_of l n ++ xs) line ∙ sym more);
-      tells = (λ t. c.in_ok-sent-2.ensures.tells.0 (c.loop-cell.invariant.tells.0 t), λ t. c.loop-cell.invariant.tells.1 (c.in_ok-sent-2.ensures.tells.1 t));
+          ∙ ap (λ (xs : List ℕ). wrote (g.W.Wire.traffic c.args.wire.now) xs)
+          (ap (λ xs. front_of l n ++ xs) line ∙ sym more);
+      tells = (
+        λ t. c.in_ok-sent-2.ensures.tells.0 (c.loop-cell.invariant.tells.0 t),
+        λ t. c.loop-cell.invariant.tells.1 (c.in_ok-sent-2.ensures.tells.1 t),
+      );
       faults = c.in_ok-sent-2.ensures.faults ∙ c.loop-cell.invariant.faults;
     }
 
@@ -88,6 +194,15 @@ pub returns-clause-told : goal.returns-clause-told
 returns-clause-told g c =
     let l : Contents = c.args.ledger.now.contents in
     let n : ℕ = c.loop-cell.cell in
-    let all : n ≡ length (cells_of l.plan) = omega (arith, c.loop-cell-test.false, c.loop-cell.auto.cell-end, c.cells-cell-end.ensures.value, ap (λ (v : Values). length (cells_of v)) c.plan.ensures.value) in
-    λ told. c.loop-cell.invariant.told told ∙ ap (λ (xs : List ℕ). wrote (g.W.Wire.traffic c.args.wire.now) xs)
-    (sym (available_ends l n (omega (arith, all)) c.loop-cell.invariant.done (λ low. absurd (omega (arith, low, all)))))
+    let all : n ≡ length (cells_of l.plan) =
+    omega (
+      arith,
+      c.loop-cell-test.false,
+      c.loop-cell.auto.cell-end,
+      c.cells-cell-end.ensures.value,
+      ap (λ (v : Values). length (cells_of v)) c.plan.ensures.value,
+    ) in
+    λ told. c.loop-cell.invariant.told told
+    ∙ ap (λ (xs : List ℕ). wrote (g.W.Wire.traffic c.args.wire.now) xs)
+    (sym (available_ends l n (omega (arith, all)) c.loop-cell.invariant.done
+    (λ low. absurd (omega (arith, low, all)))))
