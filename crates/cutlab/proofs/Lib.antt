@@ -1,4 +1,5 @@
 pub mod RunLemmas
-pub mod CellLemmas
 pub mod InputLemmas
-pub mod SightLemmas
+pub mod StreamLemmas
+pub mod StudyLemmas
+pub mod LineLemmas

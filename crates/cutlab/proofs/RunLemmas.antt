@@ -1,84 +1,134 @@
--- How a run ends, by its parts.
-use Rattle.std.proofs.Common.{true, false, ◌≡◌, ◌<◌, ℕ, List, [], Option, Some, None, Ok, Err, IfSome, length, take, refl, sym, ap, ◌∙◌, subst, arith, nat_lt, unwrap_or, ◌⊎◌, inl, inr}
-use Rattle.std.specs.Io.KnownBytes.{Appends}
-use Rattle.std.proofs.KnownBytes.{Appends-nil}
-use Rattle.std.proofs.lemmas.Bool.{lt-ltb, cases_lt, cond-true}
-use Rattle.std.proofs.lemmas.List.{take_all, length-take}
+-- How a command ends, by its parts.
+use Rattle.std.proofs.Common.{true, false, ◌≡◌, ◌++◌, ◌<◌, ◌≤◌, ℕ, List, [], Bool, Some, None, Result, Ok, Err, cond, length, take, refl, sym, ap, ◌∙◌, arith, append-nil, nat_lt, inl, inr}
+use Rattle.std.specs.Prelude.{◌≢◌, IfErr, IsErrOf}
+use Rattle.std.specs.Bool.{⊤}
+use Rattle.std.specs.Str.{is_utf8}
+use Rattle.std.specs.declared.io.ErrorKind as io
+use Rattle.std.specs.declared.io.ErrorKind.TheVariants.{InvalidData}
+use Rattle.std.proofs.lemmas.Bool.{ltb-true}
+use Rattle.std.proofs.lemmas.Bool.Decides.{nat_tests}
 use Rattle.cut_plan.specs.Values.{Values}
-use Rattle.cut_plan.specs.declared.refusal.Refusal.TheVariants.{PlanTooLong}
+use Rattle.cut_plan.specs.Accepted.{plan_of}
+use Rattle.cut_plan.specs.declared.refusal.Refusal.TheVariants.{NotJson, PlanTooLong}
 use Rattle.cut_plan.specs.declared.refusal.PlanFault.{PlanFault}
 use Rattle.cut_plan.specs.declared.refusal.PlanFault.TheVariants as plan
 use Rattle.cut_plan.specs.Refusals as plans
-use Rattle.std.specs.Prelude.{◌≢◌}
-use Rattle.std.specs.declared.io.ErrorKind as io
-use Rattle.std.specs.declared.io.ErrorKind.TheVariants.{InvalidData}
-use Rattle.cutlab.specs.Program.{unread_status, unread_text}
+use Rattle.cut_table.specs.Traffic.{Traffic, Failed, Sends, wrote, after_write}
+use Rattle.cut_table.specs.declared.send.Sent.{Sent}
+use Rattle.cutlab.specs.Program.{IsSent, unread_status, unread_text}
 use Rattle.cutlab.specs.Faults.{fault_of_plan, fault_line}
-use Rattle.cut_plan.specs.Accepted.{plan_of}
+use Rattle.cutlab.specs.Run.{Ends, GivesPlan, IsReadThrough, IsToldOf, refused_at_sight}
 use Rattle.cutlab.specs.declared.fault.CliFault.{CliFault}
 use Rattle.cutlab.specs.declared.fault.CliFault.TheVariants.{Memory, Plan, Read, Write}
-use Rattle.cutlab.specs.Run.{Ends, GivesPlan, IsToldOf}
 
-too_long : (xs : List ℕ) → 65536 < length xs → plan_of xs ≡ Err PlanTooLong
-unfolding plan_of
-too_long xs long = cond-true (nat_lt 65536 (length xs)) _ _ (lt-ltb 65536 (length xs) long)
+-- ---- reading
 
--- the front of an input, one byte longer than a plan may be, is the plan that the input is
-pub plan_of-front : (all : List ℕ) → plan_of all ≡ plan_of (take 65537 all)
-plan_of-front all = elim (cases_lt 65536 (length all)) [
-  | inl long ↦ too_long all long ∙ sym (too_long (take 65537 all) (omega (arith, length-take 65537 all)))
-  | inr short ↦ ap (λ xs. plan_of xs) (sym (take_all 65537 all (omega arith)))
-]
+-- a text of which a plan was not made for want of memory is not refused at sight
+pub not_at_sight : (text : List ℕ) (r : Result Values PlanFault) → (65536 < length text → IsErrOf r (plan.Refused PlanTooLong))
+    → (length text ≤ 65536 → is_utf8 text ≡ false → IsErrOf r (plan.Refused NotJson)) → r ≡ Err plan.Memory → refused_at_sight text ≡ None
+not_at_sight text r long no_text is = by (nat_lt 65536 (length text)) (is_utf8 text) refl refl
+  where
+    by : (b u : Bool) → nat_lt 65536 (length text) ≡ b → is_utf8 text ≡ u → cond b (Some PlanTooLong) (cond u None (Some NotJson)) ≡ None
+    by true u is_long is_text = absurd (let bad = rw is at long (ltb-true 65536 (length text) is_long) in cc)
+    by false true is_long is_text = refl
+    by false false is_long is_text = absurd (let bad = rw is at no_text (short is_long) is_text in cc)
+      where
+        short : nat_lt 65536 (length text) ≡ false → length text ≤ 65536
+        short fails = grind (arith, nat_tests)
 
-known_or_none : (x : Option (List ℕ)) → IfSome x (λ all. plan_of all ≡ plan_of (unwrap_or x []))
-known_or_none None = tt
-known_or_none (Some xs) = refl
+-- what is told of a text of which no plan was made
+pub refused : (text : List ℕ) (fault : PlanFault) (old new : Traffic) → IsReadThrough 65537 text old new → plans.IsToldOf (plan_of text) fault
+    → (fault ≡ plan.Memory → refused_at_sight text ≡ None) → IsToldOf text (Err (fault_of_plan fault)) old new
+refused text plan.Memory old new whole told sight = inr (whole, sight refl)
+refused text (plan.Refused refusal) old new whole told sight = (whole, told)
+
+-- ---- ending
 
 -- a fault before anything is written
-pub ends_refused : (answer : Values → List ℕ) (input before : Option (List ℕ)) (e : CliFault) → GivesPlan input (Err e) → Ends answer input before before (Err e)
-ends_refused answer input before Memory r = record { read = r.read; given = r.given; written = []; appended = Appends-nil before; answers = refl }
-ends_refused answer input before (Plan fault) r = record { read = r.read; given = r.given; written = []; appended = Appends-nil before; answers = (r.err, refl) }
-ends_refused answer input before Read r = record { read = r.read; given = r.given; written = []; appended = Appends-nil before; answers = refl }
-ends_refused answer input before (Write sent) r = absurd (let wrote : false ≡ true = r.err in cc)
-
-pub ends_without_memory : (answer : Values → List ℕ) (input before : Option (List ℕ)) (v : Values) → GivesPlan input (Ok v) → Ends answer input before before (Err Memory)
-ends_without_memory answer input before v r = record { read = r.read; given = r.given; written = []; appended = Appends-nil before; answers = refl }
-
--- the answer was sent
-pub ends_sent : (answer : Values → List ℕ) (input before after : Option (List ℕ)) (v : Values) (text : List ℕ) → GivesPlan input (Ok v) → text ≡ answer v → Appends before after text → Ends answer input before after (Ok tt)
-ends_sent answer input before after v text r is sent = record { read = r.read; given = r.given; written = text; appended = sent; answers = (v, r.ok, is) }
-
--- or a part of it
-pub ends_cut : (answer : Values → List ℕ) (input before after : Option (List ℕ)) (v : Values) (text : List ℕ) (sent : ℕ) → GivesPlan input (Ok v) → text ≡ answer v → sent < length text → Appends before after (take sent text) → Ends answer input before after (Err (Write sent))
-ends_cut answer input before after v text sent r is fewer part = record {
-  read = r.read;
-  given = r.given;
-  written = take sent text;
-  appended = part;
-  answers = (v, r.ok, ap (λ xs. take sent xs) is, omega (arith, fewer, ap (λ xs. length xs) is));
-}
-
--- reading without memory, or where a read failed
-pub reads_nothing : (input : Option (List ℕ)) (e : CliFault) → (e ≡ Memory) ⊎ (e ≡ Read) → GivesPlan input (Err e)
-reads_nothing input e which = record {
-  read = unwrap_or input [];
-  given = known_or_none input;
-  ok = tt;
-  err = elim which [
-    | inl memory ↦ subst (λ (x : CliFault). IsToldOf (unwrap_or input []) x) (sym memory) refl
-    | inr failed ↦ subst (λ (x : CliFault). IsToldOf (unwrap_or input []) x) (sym failed) refl
+pub ends_refused : (answer : Values → List ℕ) (e : CliFault) (old new : Traffic) → GivesPlan (Err e) old new → Ends answer old new (Err e)
+ends_refused answer Memory old new r = record {
+  read = r.text;
+  given = r.read.given;
+  written = [];
+  taken = r.read.taken ∙ sym (append-nil old.taken);
+  answers = elim r.told [
+    | inl none ↦ inl (none.0, refl, none.1)
+    | inr whole ↦ inr (whole.0, whole.1, inl refl)
   ];
 }
+ends_refused answer (Plan refusal) old new r = record {
+  read = r.text;
+  given = r.read.given;
+  written = [];
+  taken = r.read.taken ∙ sym (append-nil old.taken);
+  answers = (r.told.0, r.told.1, refl);
+}
+ends_refused answer Read old new r = record {
+  read = r.text;
+  given = r.read.given;
+  written = [];
+  taken = r.read.taken ∙ sym (append-nil old.taken);
+  answers = (r.told, refl);
+}
+ends_refused answer (Write sent) old new r = absurd r.told
 
--- reading the front of the input
-pub given_front : (input : Option (List ℕ)) (text : List ℕ) → IfSome input (λ all. text ≡ take 65537 all) → IfSome input (λ all. plan_of all ≡ plan_of text)
-given_front None text h = tt
-given_front (Some all) text h = plan_of-front all ∙ ap (λ xs. plan_of xs) (sym h)
+-- an accepted plan is not refused at sight
+accepted_at_sight : (text : List ℕ) (v : Values) → plan_of text ≡ Ok v → refused_at_sight text ≡ None
+unfolding plan_of
+accepted_at_sight text v is = by (nat_lt 65536 (length text)) (is_utf8 text) refl refl
+  where
+    by : (b u : Bool) → nat_lt 65536 (length text) ≡ b → is_utf8 text ≡ u → cond b (Some PlanTooLong) (cond u None (Some NotJson)) ≡ None
+    by true u is_long is_text = absurd (let bad = rw is_long at is in cc)
+    by false true is_long is_text = refl
+    by false false is_long is_text = absurd (let bad = rw (is_long, is_text) at is in cc)
 
--- what is told of a plan that was not made
-pub refused : (text : List ℕ) (fault : PlanFault) → plans.IsToldOf (plan_of text) fault → IsToldOf text (fault_of_plan fault)
-refused text plan.Memory h = refl
-refused text (plan.Refused refusal) h = h
+-- memory ran out before anything was written
+pub ends_without_memory : (answer : Values → List ℕ) (v : Values) (old new : Traffic) → GivesPlan (Ok v) old new → Ends answer old new (Err Memory)
+ends_without_memory answer v old new r = record {
+  read = r.text;
+  given = r.read.given;
+  written = [];
+  taken = r.read.taken ∙ sym (append-nil old.taken);
+  answers = inr (r.told.0, accepted_at_sight r.text v r.told.1, inl refl);
+}
+
+-- or after some first bytes of the answer
+pub ends_short : (answer : Values → List ℕ) (v : Values) (sent : ℕ) (old mid : Traffic) → GivesPlan (Ok v) old mid → Ends answer old (wrote mid (take sent (answer v))) (Err Memory)
+ends_short answer v sent old mid r = record {
+  read = r.text;
+  given = r.read.given;
+  written = take sent (answer v);
+  taken = ap (λ (xs : List ℕ). xs ++ take sent (answer v)) r.read.taken;
+  answers = inr (r.told.0, accepted_at_sight r.text v r.told.1, inr (record { plan = v; read = r.told.1; count = sent; front = refl }));
+}
+
+-- the answer was sent
+pub ends_sent : (answer : Values → List ℕ) (v : Values) (old mid : Traffic) → GivesPlan (Ok v) old mid → Ends answer old (wrote mid (answer v)) (Ok tt)
+ends_sent answer v old mid r = record {
+  read = r.text;
+  given = r.read.given;
+  written = answer v;
+  taken = ap (λ (xs : List ℕ). xs ++ answer v) r.read.taken;
+  answers = (r.told.0, (v, r.told.1, refl));
+}
+
+-- or a part of it
+pub ends_cut : (answer : Values → List ℕ) (v : Values) (sent : ℕ) (old mid : Traffic) → GivesPlan (Ok v) old mid → sent < length (answer v)
+    → Ends answer old (wrote mid (take sent (answer v))) (Err (Write sent))
+ends_cut answer v sent old mid r fewer = record {
+  read = r.text;
+  given = r.read.given;
+  written = take sent (answer v);
+  taken = ap (λ (xs : List ℕ). xs ++ take sent (answer v)) r.read.taken;
+  answers = (r.told.0, (v, r.told.1, refl, fewer));
+}
+
+-- a text was sent, or a part of it up to a write that failed
+pub sent_is : (text : List ℕ) (result : Result ⊤ Sent) (tells : Type 0) (old new : Traffic) (before after : Failed) → (tells → Sends result text old new)
+    → IfErr result (λ s. s.bytes < length text) → after ≡ after_write result before
+    → IsSent text (record { tells = tells; before = old; after = new; failed_before = before; failed_after = after })
+sent_is text (Ok done) tells old new before after told fewer failed = inl (record { wrote = told; none_failed = failed })
+sent_is text (Err s) tells old new before after told fewer failed = inr (s.bytes, record { fewer = fewer; wrote = λ t. (told t).0; failed = failed })
 
 -- words that can't be read for another reason than that one of them is not UTF-8
 pub unread_otherwise : (kind : io.ErrorKind) → kind ≢ InvalidData → (unread_status kind ≡ 5) × (unread_text kind ≡ fault_line Memory)

@@ -1,10 +1,10 @@
 -- The program's faults: their places in the list of faults, their lines, and how the program ends.
-use Rattle.std.specs.Prelude.{ℕ, ◌++◌, List, [], ◌∷◌, Bool, true, false, codes, Option, Some, None, Result, Ok, Err, ⊤, if◌then◌else◌}
+use Rattle.std.specs.Prelude.{ℕ, ◌++◌, List, [], ◌∷◌, codes, Option, Some, None, Result, Ok, Err, ⊤}
 use Rattle.std.specs.Fmt.{decimal}
 use Rattle.cut_faults.specs.declared.code.FaultCode.{FaultCode}
 use Rattle.cut_faults.specs.declared.code.FaultCode.TheVariants as code
 use Rattle.cut_faults.specs.Codes as codes_of
-use Rattle.cut_faults.specs.Failures.{one_more}
+use Rattle.cut_table.specs.Traffic.{Failed, read_failed, write_failed}
 use Rattle.cut_plan.specs.declared.refusal.PlanFault.{PlanFault}
 use Rattle.cut_plan.specs.declared.refusal.PlanFault.TheVariants as plan
 use Rattle.cut_plan.specs.declared.field.Field.{Field}
@@ -59,25 +59,8 @@ fault_of_plan (plan.Refused refusal) = Plan refusal
 
 -- ---- counts of failed calls
 
--- a read failed
-abbrev pub is_read : CliFault → Bool
-is_read Read = true
-is_read fault = false
-
--- a write of the answer failed
-abbrev pub is_write : CliFault → Bool
-is_write (Write sent) = true
-is_write fault = false
-
--- the count after a call: one more exactly where it ends with such a fault
-abbrev pub failures_by : {T : Type 0} → (CliFault → Bool) → Result T CliFault → ℕ → ℕ
-failures_by test (Ok done) n = n
-failures_by test (Err fault) n = if test fault then one_more n else n
-
--- the count of failed reads after a call
-abbrev pub failed_reads : {T : Type 0} → Result T CliFault → ℕ → ℕ
-failed_reads result n = failures_by is_read result n
-
--- the count of failed writes after a call
-abbrev pub failed_writes : {T : Type 0} → Result T CliFault → ℕ → ℕ
-failed_writes result n = failures_by is_write result n
+-- the counts of a wire's failed calls after a command: one more exactly where it ends with such a fault
+abbrev pub failed_calls : {T : Type 0} → Result T CliFault → Failed → Failed
+failed_calls (Err Read) f = read_failed f
+failed_calls (Err (Write sent)) f = write_failed f
+failed_calls result f = f

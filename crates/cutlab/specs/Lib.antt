@@ -1,6 +1,6 @@
 pub mod Faults
 pub mod Check
 pub mod Line
-pub mod Watched
+pub mod Streams
 pub mod Run
 pub mod Program

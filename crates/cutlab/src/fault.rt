@@ -2,10 +2,10 @@ ghost use Rattle.std.specs.Prelude.{◌≡◌, ◌≤◌, ◌++◌, ◌∷◌, l
 ghost use Rattle.std.specs.Fmt.{decimal};
 ghost use Rattle.cutlab.specs.Faults.{code_of, number_of, status_of, fault_text, field_words};
 
-use crate::send::Sent;
 use arrayvec::ArrayString;
 use cut_faults::FaultCode;
 use cut_plan::{Field, PlanFault, Refusal};
+use cut_table::Sent;
 use itoa::Buffer;
 use std::alloc::AllocError;
 use std::fmt;

@@ -2,18 +2,16 @@
 //! for the parameters K, H and L of Rapid's cut detection.
 #![tactic(auto)]
 
-mod counted;
 mod fault;
 mod input;
 mod line;
 mod program;
 mod run;
-mod send;
-mod table;
+mod stream_wire;
+mod study;
 #[cfg(test)]
 mod tests;
 
-pub use counted::Counted;
 pub use fault::CliFault;
 pub use line::{Job, LineFault, parse_line};
 pub use program::{end_unread, run_words};
@@ -22,16 +20,16 @@ use std::alloc::Global;
 use std::env::Env;
 use std::process::ExitCode;
 use std::{env, io};
+pub use stream_wire::StreamWire;
 
 fn main(rt: HostRuntime) -> ExitCode {
-    let mut errors = Counted::new(rt.stderr());
+    let mut errors = StreamWire::new(io::empty(), rt.stderr());
     let words = match words_of(&rt) {
         Ok(words) => words,
         Err(error) => return ExitCode::from(end_unread(error.kind(), &mut errors)),
     };
-    let mut input = Counted::new(rt.stdin());
-    let mut output = Counted::new(rt.stdout());
-    ExitCode::from(run_words(rt.alloc(), &words, &mut input, &mut output, &mut errors))
+    let mut wire = StreamWire::new(rt.stdin(), rt.stdout());
+    ExitCode::from(run_words(rt.alloc(), &words, &mut wire, &mut errors))
 }
 
 /// The words of the command line, the program's name first.

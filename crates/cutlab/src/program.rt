@@ -1,14 +1,13 @@
-//! The program, over its words and streams.
+//! The program, over its words and wires.
 ghost use Rattle.std.specs.Prelude.{◌≡◌, map, string_bytes, Result, ⊤};
-ghost use Rattle.cutlab.specs.Faults.{fault_line};
-ghost use Rattle.cutlab.specs.Program.{stream_of, HasEnded, IsSent, TellsEnd, TellsLine, unread_status, unread_text};
+ghost use Rattle.cutlab.specs.Program.{passage_of, HasEnded, IsSent, TellsEnd, TellsLine, unread_status, unread_text};
 
 use crate::run::answer;
-use crate::send::send_all;
-use crate::{CliFault, Counted, LineFault, parse_line};
+use crate::{CliFault, LineFault, parse_line};
+use cut_table::{Wire, send_all};
 use std::alloc::Global;
 use std::convert::AsStr;
-use std::io::{ErrorKind, Read, Write};
+use std::io::ErrorKind;
 
 /// The line of a word that is not UTF-8.
 const UNREADABLE_LINE: &[u8] = b"error: a word of the command line is not UTF-8\n";
@@ -16,30 +15,30 @@ const UNREADABLE_LINE: &[u8] = b"error: a word of the command line is not UTF-8\
 /// The program: it does what the words ask for, the first of which is its own name, and answers the
 /// status with which it ends.
 ///
-/// A command reads its plan from `input` and writes its answer to `output`; its fault is one line on
-/// `errors`. Help goes to `output`, what is wrong with the words to `errors`, both as clap writes them.
-pub fn run_words<S: AsStr, R: Read, W: Write, E: Write>(
+/// A command reads its plan from `wire` and writes its answer to it; its fault is one line on `errors`, from
+/// which nothing is read. Help goes to `wire`, what is wrong with the words to `errors`, both as clap writes
+/// them.
+pub fn run_words<S: AsStr, W: Wire, E: Wire>(
     alloc: Global,
     words: &[S],
-    input: &mut Counted<R>,
-    output: &mut Counted<W>,
-    errors: &mut Counted<E>,
+    wire: &mut W,
+    errors: &mut E,
 ) -> u8
-    ensures { HasEnded (map S.text words.now) (stream_of R.remaining input.old input.new)
-        (stream_of W.contents output.old output.new) (stream_of E.contents errors.old errors.new) result }
+    ensures { HasEnded (map S.text words.now) (passage_of W.tells W.traffic W.faults wire.old wire.new)
+        (passage_of E.tells E.traffic E.faults errors.old errors.new) result }
 {
     match parse_line(alloc, words) {
         Ok(job) => {
-            let ended = answer(alloc, job, input, output);
+            let ended = answer(alloc, job, wire);
             end(ended, errors)
         }
-        Err(fault) => end_line(&fault, output, errors),
+        Err(fault) => end_line(&fault, wire, errors),
     }
 }
 
 /// Ends as a command did.
-fn end<E: Write>(ended: Result<(), CliFault>, errors: &mut Counted<E>) -> u8
-    ensures { TellsEnd ended (stream_of E.contents errors.old errors.new) result }
+fn end<E: Wire>(ended: Result<(), CliFault>, errors: &mut E) -> u8
+    ensures { TellsEnd ended (passage_of E.tells E.traffic E.faults errors.old errors.new) result }
 {
     match ended {
         Ok(()) => 0,
@@ -48,48 +47,52 @@ fn end<E: Write>(ended: Result<(), CliFault>, errors: &mut Counted<E>) -> u8
 }
 
 /// Ends with a fault, which is told by its line. This takes no memory.
-fn end_fault<E: Write>(fault: &CliFault, errors: &mut Counted<E>) -> u8
-    ensures { TellsEnd (Err fault.now) (stream_of E.contents errors.old errors.new) result }
+fn end_fault<E: Wire>(fault: &CliFault, errors: &mut E) -> u8
+    ensures { TellsEnd (Err fault.now) (passage_of E.tells E.traffic E.faults errors.old errors.new) result }
 {
     let mut line = fault.text();
     line.push_str("\n");
-    let _ = send_all(errors, line.as_bytes());
+    tell(line.as_bytes(), errors);
     fault.status()
 }
 
 /// Ends where the words name no job: help goes to the output, and a mistake to the errors.
-fn end_line<W: Write, E: Write>(
-    fault: &LineFault,
-    output: &mut Counted<W>,
-    errors: &mut Counted<E>,
-) -> u8
+fn end_line<W: Wire, E: Wire>(fault: &LineFault, wire: &mut W, errors: &mut E) -> u8
     ensures { TellsLine fault.now.status (string_bytes fault.now.text)
-        (stream_of W.contents output.old output.new) (stream_of E.contents errors.old errors.new) result }
+        (passage_of W.tells W.traffic W.faults wire.old wire.new)
+        (passage_of E.tells E.traffic E.faults errors.old errors.new) result }
 {
     let text = fault.text.as_bytes();
     if text.is_empty() {
         return end_fault(&CliFault::Memory, errors);
     }
     if fault.status == 0 {
-        return match send_all(output, text) {
+        return match send_all(wire, text) {
             Ok(()) => 0,
             Err(sent) => end_fault(&CliFault::Write(sent.bytes), errors),
         };
     }
-    let _ = send_all(errors, text);
+    tell(text, errors);
     fault.status
 }
 
 /// Ends where the words can't be read: one of them is not UTF-8, or memory for them was refused.
-pub fn end_unread<E: Write>(kind: ErrorKind, errors: &mut Counted<E>) -> u8
+pub fn end_unread<E: Wire>(kind: ErrorKind, errors: &mut E) -> u8
     ensures status { result ≡ unread_status kind }
-    ensures told { IsSent (unread_text kind) (stream_of E.contents errors.old errors.new) }
+    ensures told { IsSent (unread_text kind) (passage_of E.tells E.traffic E.faults errors.old errors.new) }
 {
     match kind {
         ErrorKind::InvalidData => {
-            let _ = send_all(errors, UNREADABLE_LINE);
+            tell(UNREADABLE_LINE, errors);
             2
         }
         _ => end_fault(&CliFault::Memory, errors),
     }
+}
+
+/// Writes a text as far as the wire takes it.
+fn tell<E: Wire>(text: &[u8], errors: &mut E)
+    ensures { IsSent text.now (passage_of E.tells E.traffic E.faults errors.old errors.new) }
+{
+    let _ = send_all(errors, text);
 }

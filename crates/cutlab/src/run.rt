@@ -1,97 +1,74 @@
-ghost use Rattle.std.specs.Prelude.{◌≡◌, ◌++◌, ◌<◌, ℕ, length, take, string_bytes, IfOk, IfErr, OnOk};
-ghost use Rattle.std.specs.Io.KnownBytes.{Appends};
+ghost use Rattle.std.specs.Prelude.{◌≡◌, ◌≤◌, ◌++◌, ◌↔◌, string_bytes, IfOk, IfErr, OnOk};
 ghost use Rattle.cut_lines.specs.Lines.{table};
 ghost use Rattle.cutlab.specs.Check.{check_text, number_line};
-ghost use Rattle.cutlab.specs.Faults.{failed_reads, failed_writes};
-ghost use Rattle.cutlab.specs.Run.{Ends, GivesPlan, ConsumesAtMost, IsToldAtSight, answer_of};
-ghost use Rattle.std.specs.Result.{result_err};
+ghost use Rattle.cutlab.specs.Faults.{failed_calls};
+ghost use Rattle.cutlab.specs.Line.{IsSized};
+ghost use Rattle.cutlab.specs.Run.{Ends, GivesPlan, answer_of};
 
 use crate::input::{LIMIT, read_text};
-use crate::send::send_all;
-use crate::table::table_of;
-use crate::{CliFault, Counted, Job};
+use crate::study::study;
+use crate::{CliFault, Job};
 use cut_plan::Plan;
+use cut_table::{TableFault, Wire, emit_table, send_all};
 use cut_trial::quorum;
 use std::alloc::{AllocError, Global};
-use std::io::{Read, Write};
 
-/// Reads a plan, runs its study and writes its table.
+/// Reads a plan from a wire, runs its study by pieces of this many trials, and writes its table to the wire.
 ///
-/// At most 65,537 bytes are read. What was written is the whole table at `Ok`, its first bytes where a
-/// write failed, and nothing at any other fault. Read comes exactly where a read failed, and Write
-/// exactly where a write failed or took nothing. What is too long or no UTF-8 is refused without memory
-/// once it is read.
-pub fn run_io<R: Read, W: Write>(
-    alloc: Global,
-    input: &mut Counted<R>,
-    output: &mut Counted<W>,
-) -> Result<(), CliFault>
-    ensures ends { Ends table (R.remaining input.old.stream)
-        (W.contents output.old.stream) (W.contents output.new.stream) result }
-    ensures limit { ConsumesAtMost 65537 (R.remaining input.old.stream) (R.remaining input.new.stream) }
-    ensures sight { IsToldAtSight (R.remaining input.old.stream) (R.remaining input.new.stream) (result_err result) }
-    ensures reads { input.new.failures ≡ failed_reads result input.old.failures }
-    ensures writes { output.new.failures ≡ failed_writes result output.old.failures }
+/// At most 65,537 bytes are read. What was written is the whole table at `Ok`, its first bytes where a write
+/// failed or memory for a line was refused, and nothing at any other fault. Read comes exactly where a read
+/// failed, and Write exactly where a write failed or took nothing. What is too long or no UTF-8 is refused
+/// without memory once it is read.
+pub fn run_io<W: Wire>(alloc: Global, wire: &mut W, piece_size: u32) -> Result<(), CliFault>
+    requires { 1 ≤ piece_size }
+    ensures ends { W.tells wire.old → Ends table (W.traffic wire.old) (W.traffic wire.new) result }
+    ensures tells { W.tells wire.old ↔ W.tells wire.new }
+    ensures faults { W.faults wire.new ≡ failed_calls result (W.faults wire.old) }
 {
-    answer(alloc, Job::Run, input, output)
+    let plan = read_plan(alloc, wire)?;
+    let ledger = study(alloc, plan, piece_size)?;
+    match emit_table(alloc, &ledger, wire) {
+        Ok(()) => Ok(()),
+        Err(TableFault::Memory(_)) => Err(CliFault::Memory),
+        Err(TableFault::Write(sent)) => Err(CliFault::Write(sent)),
+        Err(TableFault::NotDone(_)) => unreachable!(),
+    }
 }
 
-/// Reads a plan and writes how many cells and trials it has, and the quorum of its processes.
+/// Reads a plan from a wire and writes how many cells and trials it has, and the quorum of its processes.
 ///
 /// What is read and written, and each fault, is as in `run_io`.
-pub fn check_io<R: Read, W: Write>(
-    alloc: Global,
-    input: &mut Counted<R>,
-    output: &mut Counted<W>,
-) -> Result<(), CliFault>
-    ensures ends { Ends check_text (R.remaining input.old.stream)
-        (W.contents output.old.stream) (W.contents output.new.stream) result }
-    ensures limit { ConsumesAtMost 65537 (R.remaining input.old.stream) (R.remaining input.new.stream) }
-    ensures sight { IsToldAtSight (R.remaining input.old.stream) (R.remaining input.new.stream) (result_err result) }
-    ensures reads { input.new.failures ≡ failed_reads result input.old.failures }
-    ensures writes { output.new.failures ≡ failed_writes result output.old.failures }
+pub fn check_io<W: Wire>(alloc: Global, wire: &mut W) -> Result<(), CliFault>
+    ensures ends { W.tells wire.old → Ends check_text (W.traffic wire.old) (W.traffic wire.new) result }
+    ensures tells { W.tells wire.old ↔ W.tells wire.new }
+    ensures faults { W.faults wire.new ≡ failed_calls result (W.faults wire.old) }
 {
-    answer(alloc, Job::Check, input, output)
-}
-
-/// Reads a plan and writes what a job answers to it.
-pub(crate) fn answer<R: Read, W: Write>(
-    alloc: Global,
-    job: Job,
-    input: &mut Counted<R>,
-    output: &mut Counted<W>,
-) -> Result<(), CliFault>
-    ensures ends { Ends (answer_of job) (R.remaining input.old.stream)
-        (W.contents output.old.stream) (W.contents output.new.stream) result }
-    ensures limit { ConsumesAtMost 65537 (R.remaining input.old.stream) (R.remaining input.new.stream) }
-    ensures sight { IsToldAtSight (R.remaining input.old.stream) (R.remaining input.new.stream) (result_err result) }
-    ensures reads { input.new.failures ≡ failed_reads result input.old.failures }
-    ensures writes { output.new.failures ≡ failed_writes result output.old.failures }
-{
-    let plan = read_plan(alloc, input)?;
-    let text = answer_text(alloc, job, &plan)?;
-    send_all(output, text.as_slice())?;
+    let plan = read_plan(alloc, wire)?;
+    let text = check_text(alloc, &plan)?;
+    send_all(wire, text.as_bytes())?;
     Ok(())
 }
 
-/// What a job answers to a plan.
-fn answer_text(alloc: Global, job: Job, plan: &Plan) -> Result<Vec<u8>, AllocError>
-    ensures { IfOk result (λ text. text.items ≡ answer_of job plan.now) }
+/// Does a job over a wire.
+pub(crate) fn answer<W: Wire>(alloc: Global, job: Job, wire: &mut W) -> Result<(), CliFault>
+    requires { IsSized job }
+    ensures ends { W.tells wire.old → Ends (answer_of job) (W.traffic wire.old) (W.traffic wire.new) result }
+    ensures tells { W.tells wire.old ↔ W.tells wire.new }
+    ensures faults { W.faults wire.new ≡ failed_calls result (W.faults wire.old) }
 {
     match job {
-        Job::Run => table_of(alloc, plan),
-        Job::Check => Ok(check_text(alloc, plan)?.into_bytes()),
+        Job::Run { piece } => run_io(alloc, wire, piece),
+        Job::Check => check_io(alloc, wire),
     }
 }
 
 /// Reads a plan, whose first fault is the answer where there is one.
-fn read_plan<R: Read>(alloc: Global, input: &mut Counted<R>) -> Result<Plan, CliFault>
-    ensures reads { GivesPlan (R.remaining input.old.stream) result }
-    ensures sight { IsToldAtSight (R.remaining input.old.stream) (R.remaining input.new.stream) (result_err result) }
-    ensures limit { ConsumesAtMost 65537 (R.remaining input.old.stream) (R.remaining input.new.stream) }
-    ensures failures { input.new.failures ≡ failed_reads result input.old.failures }
+fn read_plan<W: Wire>(alloc: Global, wire: &mut W) -> Result<Plan, CliFault>
+    ensures told { W.tells wire.old → GivesPlan result (W.traffic wire.old) (W.traffic wire.new) }
+    ensures tells { W.tells wire.old ↔ W.tells wire.new }
+    ensures faults { W.faults wire.new ≡ failed_calls result (W.faults wire.old) }
 {
-    let text = read_text(alloc, input, LIMIT)?;
+    let text = read_text(alloc, wire, LIMIT)?;
     Ok(Plan::from_json(alloc, text.as_slice())?)
 }
 

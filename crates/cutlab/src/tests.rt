@@ -7,7 +7,7 @@ mod refusals;
 mod studies;
 mod tables;
 
-use crate::{CliFault, Counted, check_io, run_io};
+use crate::{CliFault, StreamWire, check_io, run_io};
 use std::alloc::{AllocError, Global};
 use std::io::{Read, Write};
 
@@ -45,7 +45,14 @@ fn run<R: Read + Drop, W: Write + Drop>(
     input: R,
     output: W,
 ) -> Result<(), CliFault> {
-    run_io(alloc, &mut Counted::new(input), &mut Counted::new(output))
+    run_io(alloc, &mut StreamWire::new(input, output), 16)
+}
+
+/// What `run_io` writes for this text by pieces of this size.
+fn table_by(alloc: Global, text: &[u8], size: u32) -> Result<Vec<u8>, CliFault> {
+    let mut output = Vec::new(alloc);
+    run_io(alloc, &mut StreamWire::new(text, &mut output), size.max(1))?;
+    Ok(output)
 }
 
 /// Checks the plan of a reader and writes what it has to a writer.
@@ -54,7 +61,7 @@ fn check<R: Read + Drop, W: Write + Drop>(
     input: R,
     output: W,
 ) -> Result<(), CliFault> {
-    check_io(alloc, &mut Counted::new(input), &mut Counted::new(output))
+    check_io(alloc, &mut StreamWire::new(input, output))
 }
 
 /// What `run_io` writes for this text, which it must take.

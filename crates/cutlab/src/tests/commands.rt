@@ -3,7 +3,7 @@
 use super::devices::{Act, Device};
 use super::{PLAN, plan_table, plan_with};
 use crate::line::status_of_kind;
-use crate::{Counted, Job, end_unread, parse_line, run_words};
+use crate::{Job, StreamWire, end_unread, parse_line, run_words};
 use clap::error::ErrorKind;
 use std::alloc::Global;
 use std::io;
@@ -24,9 +24,8 @@ fn left_by(alloc: Global, words: &[&str], input: &str) -> Left {
     let status = run_words(
         alloc,
         words,
-        &mut Counted::new(input.as_bytes()),
-        &mut Counted::new(&mut output),
-        &mut Counted::new(&mut errors),
+        &mut StreamWire::new(input.as_bytes(), &mut output),
+        &mut StreamWire::new(io::empty(), &mut errors),
     );
     Left {
         status,
@@ -46,8 +45,23 @@ fn has(bytes: &[u8], part: &str) -> bool {
 #[test]
 fn jobs_are_named(rt: HostRuntime) {
     let alloc = rt.alloc();
-    assert!(rt; matches!(parse_line(alloc, &["cutlab", "run"]), Ok(Job::Run)));
-    assert!(rt; matches!(parse_line(alloc, &["cutlab", "check"]), Ok(Job::Check)));
+    let rows: [(&[&str], Job); 6] = [
+        (&["cutlab", "check"], Job::Check),
+        (&["cutlab", "run"], Job::Run { piece: 16 }),
+        (&["cutlab", "run", "--piece", "1"], Job::Run { piece: 1 }),
+        (&["cutlab", "run", "--piece=7"], Job::Run { piece: 7 }),
+        (&["cutlab", "run", "--piece", "+20"], Job::Run { piece: 20 }),
+        (
+            &["cutlab", "run", "--piece", "1000000"],
+            Job::Run { piece: 1_000_000 },
+        ),
+    ];
+    for (words, wanted) in rows {
+        match parse_line(alloc, words) {
+            Ok(job) => assert_eq!(rt; job, wanted, "{words:?}"),
+            Err(_) => assert!(rt; false, "{words:?}"),
+        }
+    }
 }
 
 #[test]
@@ -107,7 +121,23 @@ fn help_is_output(rt: HostRuntime) {
 
 #[test]
 fn mistakes_are_errors(rt: HostRuntime) {
-    let rows: [(&[&str], &str); 5] = [
+    let rows: [(&[&str], &str); 9] = [
+        (
+            &["cutlab", "run", "--piece", "0"],
+            "0 is not in 1..=1000000",
+        ),
+        (
+            &["cutlab", "run", "--piece", "1000001"],
+            "1000001 is not in 1..=1000000",
+        ),
+        (
+            &["cutlab", "run", "--piece", "few"],
+            "invalid value 'few' for '--piece <TRIALS>'",
+        ),
+        (
+            &["cutlab", "check", "--piece", "1"],
+            "unexpected argument '--piece' found",
+        ),
         (&["cutlab"], "Usage: cutlab <COMMAND>"),
         (&["cutlab", "frob"], "unrecognized subcommand 'frob'"),
         (
@@ -169,9 +199,8 @@ fn a_failed_output_is_told(rt: HostRuntime) -> Result<(), Fail> {
         let status = run_words(
             alloc,
             &["cutlab", word],
-            &mut Counted::new(PLAN.as_bytes()),
-            &mut Counted::new(&mut output),
-            &mut Counted::new(&mut errors),
+            &mut StreamWire::new(PLAN.as_bytes(), &mut output),
+            &mut StreamWire::new(io::empty(), &mut errors),
         );
         assert_eq!(rt; status, 4, "{word}");
         assert!(rt; errors.as_slice() == line.as_bytes(), "{word}");
@@ -193,9 +222,8 @@ fn errors_that_fail_leave_the_status(rt: HostRuntime) {
         let status = run_words(
             alloc,
             words,
-            &mut Counted::new(text.as_bytes()),
-            &mut Counted::new(&mut output),
-            &mut Counted::new(&mut errors),
+            &mut StreamWire::new(text.as_bytes(), &mut output),
+            &mut StreamWire::new(io::empty(), &mut errors),
         );
         assert_eq!(rt; status, wanted, "{words:?}");
     }
@@ -214,7 +242,7 @@ fn words_that_are_not_read(rt: HostRuntime) {
     for (kind, status, line) in rows {
         let mut errors = Vec::new(rt.alloc());
         assert_eq!(rt;
-            end_unread(kind, &mut Counted::new(&mut errors)),
+            end_unread(kind, &mut StreamWire::new(io::empty(), &mut errors)),
             status,
             "{line}"
         );

@@ -1,8 +1,9 @@
 //! Readers and writers that do little at a time, and that fail at each of their calls in turn.
 
 use super::{PLAN, check, plan_table, run};
-use crate::{CliFault, Counted};
-use std::alloc::Global;
+use crate::{CliFault, StreamWire};
+use cut_table::{Wire, WireFault};
+use std::alloc::{AllocError, Global};
 use std::io::{self, ErrorKind, Read, Write};
 use std::test::Fail;
 
@@ -86,10 +87,20 @@ fn stops_at_read(alloc: Global, at: usize, kind: ErrorKind) -> bool {
     }
 }
 
+/// How many bytes so many writes take, of at most `step` bytes each and none over the end of a line: the table
+/// has a line of 72 bytes and one of 26.
+fn taken_by(step: usize, writes: usize) -> usize {
+    let first = 72usize.div_ceil(step.max(1));
+    match writes.checked_sub(first) {
+        None => writes.saturating_mul(step).min(72),
+        Some(more) => more.saturating_mul(step).min(26) + 72,
+    }
+}
+
 /// Writes the plan's table to a writer whose call `at` does `act`. Whether the answer is Write with
 /// the bytes that the writer took, which are the table's first, and no call came after that one.
 fn stops_at_write(alloc: Global, table: &str, step: usize, at: usize, act: Act) -> bool {
-    let taken = at.saturating_mul(step);
+    let taken = taken_by(step, at);
     let mut output = Device::new(alloc, b"", step, at, act);
     match run(alloc, PLAN.as_bytes(), &mut output) {
         Err(CliFault::Write(sent)) => {
@@ -133,7 +144,7 @@ fn each_write_fails(rt: HostRuntime) -> Result<(), Fail> {
                 "write {at}"
             );
         }
-        for at in 0..table.len() / 7 {
+        for at in 0..15 {
             assert!(rt;
                 stops_at_write(alloc, table.as_str(), 7, at, act),
                 "write {at}"
@@ -217,18 +228,47 @@ const KINDS: [ErrorKind; 41] = [
     ErrorKind::Other,
 ];
 
-/// Whether a device that failed at one call of three, and at no other, is handed on and counted so: each
-/// call once, the failure as it is.
-fn is_counted(failures: u64, calls: usize, told: Option<ErrorKind>, kind: ErrorKind) -> bool {
-    failures == 1 && calls == 3 && told == Some(kind)
+/// Whether a wire over a reader that fails at its second call of three makes each call once, and counts and
+/// tells that failure alone.
+fn counts_a_read(alloc: Global, kind: ErrorKind, size: usize) -> Result<bool, AllocError> {
+    let mut buffer = vec![in alloc; 7u8; size]?;
+    if buffer.is_empty() {
+        return Ok(false);
+    }
+    let bytes = vec![in alloc; 9u8; 70_000]?;
+    let mut device = Device::new(alloc, &bytes, 70_000, 1, Act::Fail(kind));
+    let mut wire = StreamWire::new(&mut device, io::sink());
+    let first = wire.read(&mut buffer);
+    let second = wire.read(&mut buffer);
+    let third = wire.read(&mut buffer);
+    let failures = wire.failures();
+    drop(wire);
+    Ok(
+        first == Ok(size)
+            && second == Err(WireFault)
+            && third.is_ok()
+            && failures == 1
+            && device.calls == 3,
+    )
 }
 
-/// The kind of a call's failure.
-fn kind_of<T: Drop>(answer: io::Result<T>) -> Option<ErrorKind> {
-    match answer {
-        Ok(_) => None,
-        Err(error) => Some(error.kind()),
-    }
+/// The same of a writer.
+fn counts_a_write(alloc: Global, kind: ErrorKind, size: usize) -> Result<bool, AllocError> {
+    let buffer = vec![in alloc; 7u8; size]?;
+    let mut device = Device::new(alloc, b"", 70_000, 1, Act::Fail(kind));
+    let mut wire = StreamWire::new(io::empty(), &mut device);
+    let first = wire.write(&buffer);
+    let second = wire.write(&buffer);
+    let third = wire.write(&buffer);
+    let failures = wire.failures();
+    drop(wire);
+    Ok(
+        first == Ok(size)
+            && second == Err(WireFault)
+            && third == Ok(size)
+            && failures == 1
+            && device.calls == 3,
+    )
 }
 
 #[test]
@@ -236,52 +276,20 @@ fn calls_that_fail_are_counted(rt: HostRuntime) -> Result<(), Fail> {
     let alloc = rt.alloc();
     for kind in KINDS {
         for size in [1, 4_096, 65_537] {
-            let mut buffer = vec![in alloc; 7u8; size]?;
-            let bytes = vec![in alloc; 9u8; 70_000]?;
-            let mut device = Device::new(alloc, &bytes, 70_000, 1, Act::Fail(kind));
-            let mut input = Counted::new(&mut device);
-            assert_eq!(rt; input.read(&mut buffer)?, size.min(70_000), "{kind:?}");
-            let told = kind_of(input.read(&mut buffer));
-            assert!(rt; input.read(&mut buffer)? > 0, "{kind:?}");
-            let failures = input.failures();
-            assert!(rt;
-                is_counted(failures, device.calls, told, kind),
-                "read {kind:?}"
-            );
-
-            let mut device = Device::new(alloc, b"", 70_000, 1, Act::Fail(kind));
-            let mut output = Counted::new(&mut device);
-            assert_eq!(rt; output.write(&buffer)?, size, "{kind:?}");
-            let told = kind_of(output.write(&buffer));
-            assert_eq!(rt; output.write(&buffer)?, size, "{kind:?}");
-            let failures = output.failures();
-            assert!(rt;
-                is_counted(failures, device.calls, told, kind),
-                "write {kind:?}"
-            );
+            assert!(rt; counts_a_read(alloc, kind, size)?, "read {kind:?}");
+            assert!(rt; counts_a_write(alloc, kind, size)?, "write {kind:?}");
         }
-        let mut device = Device::new(alloc, b"", 1, 1, Act::Fail(kind));
-        let mut output = Counted::new(&mut device);
-        output.flush()?;
-        let told = kind_of(output.flush());
-        output.flush()?;
-        let failures = output.failures();
-        assert!(rt;
-            is_counted(failures, device.calls, told, kind),
-            "flush {kind:?}"
-        );
     }
     Ok(())
 }
 
 #[test]
-fn a_write_that_takes_nothing_is_a_failure(rt: HostRuntime) -> Result<(), Fail> {
+fn a_write_that_takes_nothing_is_a_failure(rt: HostRuntime) {
     let alloc = rt.alloc();
     let mut device = Device::new(alloc, b"", 2, 1, Act::Nothing);
-    let mut output = Counted::new(&mut device);
-    assert_eq!(rt; output.write(b"table")?, 2);
-    assert_eq!(rt; kind_of(output.write(b"ble")), Some(ErrorKind::WriteZero));
-    assert_eq!(rt; output.write(b"")?, 0);
-    assert_eq!(rt; output.failures(), 1);
-    Ok(())
+    let mut wire = StreamWire::new(io::empty(), &mut device);
+    assert_eq!(rt; wire.write(b"table"), Ok(2));
+    assert_eq!(rt; wire.write(b"ble"), Err(WireFault));
+    assert_eq!(rt; wire.write(b""), Ok(0));
+    assert_eq!(rt; wire.failures(), 1);
 }

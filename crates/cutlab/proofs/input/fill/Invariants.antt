@@ -1,12 +1,16 @@
-use Rattle.std.proofs.Common.{◌≡◌, length, ◌-◌, ◌≤◌, take}
-use Rattle.std.specs.Io.KnownBytes.{Consumes}
+use Rattle.std.proofs.Common.{◌≡◌, ◌-◌, ◌≤◌, length, take}
+use Rattle.std.specs.Prelude.{◌↔◌}
+use Rattle.cutlab.specs.Run.{HasRead}
 use Rattle.cutlab.proofs.input.fill.Given as goal
 
+-- the front of the buffer was read, the end was not given, and no call failed
 abbrev pub invariant-loop-filled : goal.invariant-loop-filled
 invariant-loop-filled g l = record {
   within : l.filled ≤ length l.buffer;
-  read : Consumes (g.R.Read.remaining l.fn.input.stream) (g.R.Read.remaining l.input.stream) (take l.filled l.buffer);
-  failures : l.input.failures ≡ l.fn.input.failures;
+  read : g.W.Wire.tells l.fn.wire → HasRead (take l.filled l.buffer) (g.W.Wire.traffic l.fn.wire) (g.W.Wire.traffic l.wire);
+  goes_on : g.W.Wire.tells l.fn.wire → (g.W.Wire.traffic l.wire).ends ≡ (g.W.Wire.traffic l.fn.wire).ends;
+  tells : g.W.Wire.tells l.fn.wire ↔ g.W.Wire.tells l.wire;
+  faults : g.W.Wire.faults l.wire ≡ g.W.Wire.faults l.fn.wire;
 }
 
 abbrev pub decreases-loop-filled : goal.decreases-loop-filled
