@@ -1,0 +1,9 @@
+pub mod Additions
+pub mod Allowed
+pub mod Ends
+pub mod Keeps
+pub mod Logs
+pub mod Parts
+pub mod Seats
+pub mod Sums
+pub mod Weights

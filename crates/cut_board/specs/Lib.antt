@@ -1,0 +1,10 @@
+pub mod FaultCode
+pub mod Gathered
+pub mod Laws
+pub mod Names
+pub mod Refusals
+pub mod Rule
+pub mod Steps
+pub mod Totals
+pub mod Views
+pub mod Words
