@@ -1,0 +1,4 @@
+pub mod State
+pub mod Memory
+pub mod Faulty
+pub mod Laws

@@ -1,0 +1,90 @@
+-- What is on a disk: what reads give, and what a crash may leave (this project's model of a disk).
+use Rattle.std.specs.Prelude.{◌≡◌, ◌<◌, ◌≤◌, ◌+◌, ◌&&◌, ◌++◌, ◌⊎◌, ℕ, Bool, false, List, [], ◌∷◌, length, take, drop, max, slice_index, nat_lt, nat_le, Result, Ok, Err, ⊤}
+use Rattle.std.specs.List.{list_any, AllByRecursion}
+
+-- the places from `start` on, up to the one before `stop`
+pub record Span : Type 0 where
+  pub start : ℕ
+  pub stop : ℕ
+
+-- what is sure to be on the disk: its bytes at the last sync that succeeded, and the spans that were to be
+-- written by the writes begun since then, those that failed too
+pub record Stable : Type 0 where
+  pub synced : List ℕ
+  pub spans : List Span
+
+-- whether a place is in a span
+abbrev pub covers : ℕ → Span → Bool
+covers i span = nat_le span.start i && nat_lt i span.stop
+
+-- the greatest of a length and of the places where spans end
+abbrev pub reach : ℕ → List Span → ℕ
+reach n [] = n
+reach n (span ∷ spans) = max span.stop (reach n spans)
+
+-- what a crash may leave now: it is as long as what was synced, or longer, as far as a span goes; and at each
+-- place that was synced and is in no span it has the byte that was synced
+pub record IsImage (s : Stable) (bytes : List ℕ) : Type 0 where
+  pub no_shorter : length s.synced ≤ length bytes
+  pub no_longer : length bytes ≤ reach (length s.synced) s.spans
+  pub same : (i : ℕ) → i < length s.synced → list_any (covers i) s.spans ≡ false → slice_index bytes i ≡ slice_index s.synced i
+
+-- what reads give, what is sure, and what was sure before that since the disk was made, the newest first
+pub record DiskState : Type 0 where
+  pub bytes : List ℕ
+  pub stable : Stable
+  pub past : List Stable
+
+-- all that was written is sure
+abbrev pub settled : List ℕ → Stable
+settled bytes = record { synced = bytes; spans = [] }
+
+-- a disk of these bytes, to which nothing has happened
+abbrev pub fresh : List ℕ → DiskState
+fresh bytes = record { bytes = bytes; stable = settled bytes; past = [] }
+
+-- bytes over which others were written from a place on
+abbrev pub overwritten : List ℕ → ℕ → List ℕ → List ℕ
+overwritten bytes at put = take at bytes ++ put ++ drop (at + length put) bytes
+
+-- a write was begun, and left these bytes
+abbrev pub begun : DiskState → ℕ → ℕ → List ℕ → DiskState
+begun d at stop bytes = record {
+  bytes = bytes;
+  stable = record { synced = d.stable.synced; spans = record { start = at; stop = stop } ∷ d.stable.spans };
+  past = d.stable ∷ d.past;
+}
+
+-- all was written
+abbrev pub written : DiskState → ℕ → List ℕ → DiskState
+written d at put = begun d at (at + length put) (overwritten d.bytes at put)
+
+-- all was made sure
+abbrev pub synced : DiskState → DiskState
+synced d = record { bytes = d.bytes; stable = settled d.bytes; past = d.stable ∷ d.past }
+
+-- what a write may leave of bytes that goes wrong under way: they are as before but from `at` up to `stop`
+pub record IsTorn (at stop : ℕ) (old new : List ℕ) : Type 0 where
+  pub no_shorter : length old ≤ length new
+  pub no_longer : length new ≤ max stop (length old)
+  pub same : (i : ℕ) → i < length old → covers i (record { start = at; stop = stop }) ≡ false → slice_index new i ≡ slice_index old i
+
+-- a write wrote all; or it failed before it was begun, or after that
+abbrev pub Writes : {E : Type 0} → Result ⊤ E → ℕ → List ℕ → DiskState → DiskState → Type 0
+Writes (Ok done) at put old new = new ≡ written old at put
+Writes (Err fault) at put old new =
+    (new ≡ old) ⊎ ((torn : List ℕ) × (IsTorn at (at + length put) old.bytes torn × (new ≡ begun old at (at + length put) torn)))
+
+-- a sync made all sure, or it failed and nothing
+abbrev pub Syncs : {E : Type 0} → Result ⊤ E → DiskState → DiskState → Type 0
+Syncs (Ok done) old new = new ≡ synced old
+Syncs (Err fault) old new = new ≡ old
+
+-- ---- moments
+
+-- from one state of a disk to a later one, each image at each moment had this property: the moments are those
+-- at both ends, those between the calls of the disk, and those inside of each
+pub record Throughout (old new : DiskState) (P : List ℕ → Type 0) : Type 0 where
+  pub since : List Stable
+  pub goes_on : new.past ≡ since ++ old.past
+  pub each : AllByRecursion (λ s. (image : List ℕ) → IsImage s image → P image) (new.stable ∷ since)
