@@ -1,0 +1,10 @@
+pub mod Counts
+pub mod Crashes
+pub mod Makings
+pub mod Fronts
+pub mod GoodSlips
+pub mod Headers
+pub mod Moments
+pub mod Readings
+pub mod SlipBytes
+pub mod Appends

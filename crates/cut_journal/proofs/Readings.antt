@@ -1,0 +1,430 @@
+-- How bytes are read.
+use Rattle.std.proofs.Common.{◌≡◌, ◌∙◌, ◌≤◌, ◌<◌, ◌+◌, ◌-◌, ◌++◌, ◌==◌, ◌&&◌, ◌⊎◌, inl, inr, ℕ, zero, suc, Bool, true, false, not, cond, List, [], ◌∷◌, Result, Ok, Err, length, take, get_or, slice_range, slice_index, nat_lt, nat_le, refl, sym, ap, subst, arith, zero-add}
+use Rattle.std.specs.Prelude.{bytes_eq, codes, Option, Some, None, IfErr}
+use Rattle.std.specs.List.{prefix_len, range_with_len}
+use Rattle.std.specs.Int.{w32, from_be_bytes}
+use Rattle.std.proofs.lemmas.Bool.{cases_lt}
+use Rattle.std.proofs.lemmas.Bool.Decides.{nat_tests, Decides-ltb, Decides-eqb}
+use Rattle.std.proofs.lemmas.Slice.Eq.{bytes_eq-Decides}
+use Rattle.std.proofs.lemmas.List.{get_or-take}
+use Rattle.std.proofs.lemmas.List.FromFn.{length-range_with_len, get_or-range_with_len, length-map-range_with_len, map-range_with_len_more}
+use Rattle.std.proofs.lemmas.List.Sums.{prefix_len-le-length, prefix_len_passes, prefix_len_stops}
+use Rattle.sha2.specs.Sha256.{sha256}
+use Rattle.cut_plan.specs.Values.{Values}
+use Rattle.cut_plan.specs.Canonical.{canonical_text}
+use Rattle.cut_disks.specs.State.{DiskState}
+use Rattle.cut_ledger.specs.declared.slip.Slip.{Slip}
+use Rattle.cut_journal.specs.declared.fault.JournalFault.{JournalFault}
+use Rattle.cut_journal.specs.declared.fault.JournalFault.TheVariants.{Memory, Disk, Broken, NoStudy, OtherPlan, Damaged, Held}
+use Rattle.cut_journal.specs.File.{open_gate, front_of, gate_place}
+use Rattle.cut_journal.specs.Reading.{is_study, is_of_plan, text_length, can_have_header, has_header, is_open, body_at, is_whole, is_slip, slip_in, slip_count, whole_count, first_slips, slips_reading, reading}
+use Rattle.cut_journal.specs.Opening.{IsReopenFault}
+use Rattle.cut_journal.specs.Steps.{AreWhole, IsSlipFault}
+use Rattle.cut_journal.proofs.Headers.{front_has_header}
+use Rattle.cut_journal.proofs.Counts.{prefix_is, map_alike, get_or_past, alike_place, alike_front, alike_part}
+
+pub both : (a b : Bool) → (a && b) ≡ true → (a ≡ true) × (b ≡ true)
+both true b is = (refl, is)
+both false b is = absurd (cc)
+
+pub together : (a b : Bool) → a ≡ true → b ≡ true → (a && b) ≡ true
+together a b p q = cc
+
+pub cases_bool : (b : Bool) → (b ≡ true) ⊎ (b ≡ false)
+cases_bool true = inl refl
+cases_bool false = inr refl
+
+ok_same : (xs ys : List Slip) → (let r : Result (List Slip) JournalFault = Ok xs in r) ≡ Ok ys → xs ≡ ys
+ok_same xs ys same = cc
+
+ok_not : (xs : List Slip) (fault : JournalFault) → (let r : Result (List Slip) JournalFault = Ok xs in r) ≡ Err fault → ⊥
+ok_not xs fault same = cc
+
+damaged_not : (number : ℕ) → (let r : Result (List Slip) JournalFault = Err (Damaged number) in r) ≡ Err NoStudy → ⊥
+damaged_not number same = cc
+
+-- bytes are the file of a study of a plan, with n slips
+pub record Holds (v : Values) (bytes : List ℕ) (n : ℕ) : Type 0 where
+  pub front : is_of_plan v bytes ≡ true
+  pub whole : AreWhole v bytes n
+  pub closed : is_open v bytes n ≡ false
+
+-- ---- the front
+
+pub of_plan_is : (v : Values) (bytes : List ℕ) → is_of_plan v bytes ≡ true → (gate_place v 0 < length bytes) × (take (gate_place v 0) bytes ≡ front_of v)
+unfolding is_of_plan
+of_plan_is v bytes is =
+    let parts = both (nat_lt (gate_place v 0) (length bytes)) (bytes_eq (take (gate_place v 0) bytes) (front_of v)) is in
+    ((Decides-ltb (gate_place v 0) (length bytes)).0 parts.0, (bytes_eq-Decides (take (gate_place v 0) bytes) (front_of v)).0 parts.1)
+
+pub of_plan_from : (v : Values) (bytes : List ℕ) → gate_place v 0 < length bytes → take (gate_place v 0) bytes ≡ front_of v → is_of_plan v bytes ≡ true
+unfolding is_of_plan
+of_plan_from v bytes long is =
+    together (nat_lt (gate_place v 0) (length bytes)) (bytes_eq (take (gate_place v 0) bytes) (front_of v))
+    ((Decides-ltb (gate_place v 0) (length bytes)).1 long) ((bytes_eq-Decides (take (gate_place v 0) bytes) (front_of v)).1 is)
+
+pub plan_has_header : (v : Values) (bytes : List ℕ) → length (canonical_text v) ≤ 65536 → is_of_plan v bytes ≡ true → has_header bytes ≡ true
+plan_has_header v bytes short is = let parts = of_plan_is v bytes is in front_has_header v bytes short parts.0 parts.1
+
+front_opens : (v : Values) → get_or (front_of v) 0 0 ≡ open_gate
+unfolding front_of
+front_opens v = refl
+
+-- a study of the plan is a study
+pub front_is_study : (v : Values) (bytes : List ℕ) → is_of_plan v bytes ≡ true → is_study bytes ≡ true
+front_is_study v bytes is =
+    let parts = of_plan_is v bytes is in
+    let first : get_or bytes 0 0 ≡ open_gate = sym (get_or-take (gate_place v 0) bytes 0 0 (omega arith)) ∙ ap (λ l. get_or l 0 0) parts.1 ∙ front_opens v in
+    together (nat_lt 1 (length bytes)) (slice_index bytes 0 == open_gate)
+    ((Decides-ltb 1 (length bytes)).1 (omega (arith, parts.0))) ((Decides-eqb (slice_index bytes 0) open_gate).1 first)
+
+-- ---- the slips
+
+whole_is : (v : Values) (bytes : List ℕ) (i : ℕ) → is_whole v bytes i ≡ true → (gate_place v (i + 1) < length bytes) × (is_slip v (body_at v bytes i) ≡ true)
+whole_is v bytes i is =
+    let parts = both (nat_lt (gate_place v (i + 1)) (length bytes)) (is_slip v (body_at v bytes i)) is in
+    ((Decides-ltb (gate_place v (i + 1)) (length bytes)).0 parts.0, parts.1)
+
+pub whole_from : (v : Values) (bytes : List ℕ) (i : ℕ) → gate_place v (i + 1) < length bytes → is_slip v (body_at v bytes i) ≡ true → is_whole v bytes i ≡ true
+whole_from v bytes i long is =
+    together (nat_lt (gate_place v (i + 1)) (length bytes)) (is_slip v (body_at v bytes i)) ((Decides-ltb (gate_place v (i + 1)) (length bytes)).1 long) is
+
+-- the gate behind whole slips is there
+pub gate_there : (v : Values) (bytes : List ℕ) (n : ℕ) → is_of_plan v bytes ≡ true → AreWhole v bytes n → gate_place v n < length bytes
+gate_there v bytes zero front whole = (of_plan_is v bytes front).0
+gate_there v bytes (suc n) front whole =
+    let there = (whole_is v bytes n (whole n (omega arith)).1).0 in
+    omega (arith, there)
+
+count_is : (v : Values) (bytes : List ℕ) (n : ℕ) → Holds v bytes n → slip_count v bytes ≡ n
+unfolding slip_count
+count_is v bytes n holds =
+    let there = gate_there v bytes n holds.front holds.whole in
+    prefix_is (is_open v bytes) (length bytes) n (omega (arith, there)) (λ i low. (holds.whole i low).0) (λ low. holds.closed)
+
+whole_count_is : (v : Values) (bytes : List ℕ) (n k : ℕ) → slip_count v bytes ≡ n → k ≤ n → ((i : ℕ) → i < k → is_whole v bytes i ≡ true) → (k < n → is_whole v bytes k ≡ false) → whole_count v bytes ≡ k
+unfolding whole_count
+whole_count_is v bytes n k count few whole stops =
+    ap (λ m. prefix_len (is_whole v bytes) (range_with_len 0 m)) count ∙ prefix_is (is_whole v bytes) n k few whole stops
+
+-- what bytes are read as, by what the tests of their front say
+choice : Bool → Bool → Bool → Result (List Slip) JournalFault → Result (List Slip) JournalFault
+choice study header front slips = cond (not study) (Err NoStudy) (cond (not header) (Err (Damaged 0)) (cond (not front) (Err OtherPlan) slips))
+
+choice_is : (v : Values) (bytes : List ℕ) → reading v bytes ≡ choice (is_study bytes) (has_header bytes) (is_of_plan v bytes) (slips_reading v bytes)
+unfolding choice reading
+choice_is v bytes = refl
+
+choice_none : (study header front : Bool) (read : Result (List Slip) JournalFault) → study ≡ false → choice study header front read ≡ Err NoStudy
+unfolding choice
+choice_none false header front read none = refl
+choice_none true header front read none = absurd (cc)
+
+choice_damaged : (study header front : Bool) (read : Result (List Slip) JournalFault) → study ≡ true → header ≡ false → choice study header front read ≡ Err (Damaged 0)
+unfolding choice
+choice_damaged true false front read some none = refl
+choice_damaged true true front read some none = absurd (cc)
+choice_damaged false header front read some none = absurd (cc)
+
+choice_other : (study header front : Bool) (read : Result (List Slip) JournalFault) → study ≡ true → header ≡ true → front ≡ false → choice study header front read ≡ Err OtherPlan
+unfolding choice
+choice_other true true false read some whole none = refl
+choice_other true true true read some whole none = absurd (cc)
+choice_other true false front read some whole none = absurd (cc)
+choice_other false header front read some whole none = absurd (cc)
+
+choice_plan : (study header front : Bool) (read : Result (List Slip) JournalFault) → study ≡ true → header ≡ true → front ≡ true → choice study header front read ≡ read
+unfolding choice
+choice_plan true true true read some whole is = refl
+choice_plan true true false read some whole is = absurd (cc)
+choice_plan true false front read some whole is = absurd (cc)
+choice_plan false header front read some whole is = absurd (cc)
+
+choice_some : (study header front : Bool) (read : Result (List Slip) JournalFault) → study ≡ true → (read ≡ Err NoStudy → ⊥) → choice study header front read ≡ Err NoStudy → ⊥
+unfolding choice
+choice_some true true true read study some is = some is
+choice_some true true false read study some is = absurd (cc)
+choice_some true false front read study some is = absurd (cc)
+choice_some false header front read study some is = absurd (cc)
+
+choice_ok : (study header front : Bool) (read : Result (List Slip) JournalFault) (slips : List Slip) → choice study header front read ≡ Ok slips → (front ≡ true) × (read ≡ Ok slips)
+unfolding choice
+choice_ok true true true read slips is = (refl, is)
+choice_ok true true false read slips is = absurd (ok_not slips OtherPlan (sym is))
+choice_ok true false front read slips is = absurd (ok_not slips (Damaged 0) (sym is))
+choice_ok false header front read slips is = absurd (ok_not slips NoStudy (sym is))
+
+-- a study of the plan
+pub plan_read : (v : Values) (bytes : List ℕ) → has_header bytes ≡ true → is_of_plan v bytes ≡ true → reading v bytes ≡ slips_reading v bytes
+plan_read v bytes header front =
+    choice_is v bytes ∙ choice_plan (is_study bytes) (has_header bytes) (is_of_plan v bytes) (slips_reading v bytes) (front_is_study v bytes front) header front
+
+-- what the slips are read as, by how many there are and how many are whole
+told : Values → List ℕ → ℕ → ℕ → Result (List Slip) JournalFault
+told v bytes whole count = cond (whole == count) (Ok (first_slips v bytes count)) (Err (Damaged (whole + 1)))
+
+told_all : (v : Values) (bytes : List ℕ) (whole count : ℕ) → whole ≡ count → told v bytes whole count ≡ Ok (first_slips v bytes count)
+unfolding told
+told_all v bytes whole count is =
+    ap (λ (b : Bool). (let r : Result (List Slip) JournalFault = cond b (Ok (first_slips v bytes count)) (Err (Damaged (whole + 1))) in r)) ((Decides-eqb whole count).1 is)
+
+told_fewer : (v : Values) (bytes : List ℕ) (whole count : ℕ) → whole < count → told v bytes whole count ≡ Err (Damaged (whole + 1))
+unfolding told
+told_fewer v bytes whole count few =
+    let test : (whole == count) ≡ false = grind (arith, nat_tests) in
+    ap (λ (b : Bool). (let r : Result (List Slip) JournalFault = cond b (Ok (first_slips v bytes count)) (Err (Damaged (whole + 1))) in r)) test
+
+told_is : (v : Values) (bytes : List ℕ) → slips_reading v bytes ≡ told v bytes (whole_count v bytes) (slip_count v bytes)
+unfolding told
+told_is v bytes = refl
+
+pub slips_read : (v : Values) (bytes : List ℕ) (n : ℕ) → Holds v bytes n → slips_reading v bytes ≡ Ok (first_slips v bytes n)
+slips_read v bytes n holds =
+    let count = count_is v bytes n holds in
+    let whole = whole_count_is v bytes n n count (omega arith) (λ i low. (holds.whole i low).1) (λ low. absurd (omega (arith, low))) in
+    told_is v bytes ∙ told_all v bytes (whole_count v bytes) (slip_count v bytes) (whole ∙ sym count) ∙ ap (λ m. Ok (first_slips v bytes m)) count
+
+pub holds_reads : (v : Values) (bytes : List ℕ) (n : ℕ) → length (canonical_text v) ≤ 65536 → Holds v bytes n → reading v bytes ≡ Ok (first_slips v bytes n)
+holds_reads v bytes n short holds = plan_read v bytes (plan_has_header v bytes short holds.front) holds.front ∙ slips_read v bytes n holds
+
+open_there : (v : Values) (bytes : List ℕ) (i : ℕ) → is_open v bytes i ≡ true → gate_place v i < length bytes
+open_there v bytes i opens = elim (cases_lt (gate_place v i) (length bytes)) [
+  | inl there ↦ there
+  | inr past ↦ (let none : get_or bytes (gate_place v i) 0 ≡ 0 = get_or_past bytes (gate_place v i) past in
+      let some : get_or bytes (gate_place v i) 0 ≡ open_gate = (Decides-eqb (slice_index bytes (gate_place v i)) open_gate).0 opens in
+      absurd (omega (arith, none, some)))
+]
+
+-- the count of slips by what stands at its gate
+counted : (v : Values) (bytes : List ℕ) (i : ℕ) → i < slip_count v bytes → is_open v bytes i ≡ true
+unfolding slip_count
+counted v bytes i low =
+    let few = prefix_len-le-length (is_open v bytes) (range_with_len 0 (length bytes)) in
+    let long = length-range_with_len 0 (length bytes) in
+    ap (is_open v bytes) (sym (get_or-range_with_len 0 (length bytes) i 0 (omega (arith, few, long, low)) ∙ zero-add i))
+    ∙ prefix_len_passes (is_open v bytes) (range_with_len 0 (length bytes)) i 0 low
+
+uncounted : (v : Values) (bytes : List ℕ) → slip_count v bytes < length bytes → is_open v bytes (slip_count v bytes) ≡ false
+unfolding slip_count
+uncounted v bytes low =
+    ap (is_open v bytes) (sym (get_or-range_with_len 0 (length bytes) (slip_count v bytes) 0 low ∙ zero-add (slip_count v bytes)))
+    ∙ prefix_len_stops (is_open v bytes) (range_with_len 0 (length bytes)) 0 (omega (arith, low, length-range_with_len 0 (length bytes)))
+
+count_few : (v : Values) (bytes : List ℕ) → is_of_plan v bytes ≡ true → slip_count v bytes < length bytes
+count_few v bytes front = elim (cases_lt (slip_count v bytes) (length bytes)) [
+  | inl low ↦ low
+  | inr past ↦ (let some = (of_plan_is v bytes front).0 in
+      let last = open_there v bytes (slip_count v bytes - 1) (counted v bytes (slip_count v bytes - 1) (omega (arith, past, some))) in
+      absurd (omega (arith, last, past, some)))
+]
+
+-- a slip with an open gate, behind slips that are whole, and is not so
+pub damage_read : (v : Values) (bytes : List ℕ) (i : ℕ) → is_of_plan v bytes ≡ true → AreWhole v bytes i → is_open v bytes i ≡ true → is_whole v bytes i ≡ false
+    → slips_reading v bytes ≡ Err (Damaged (i + 1))
+damage_read v bytes i front before opens broken =
+    let high : i < slip_count v bytes = elim (cases_lt i (slip_count v bytes)) [
+      | inl low ↦ low
+      | inr past ↦ elim (cases_lt (slip_count v bytes) i) [
+        | inl less ↦ (let stops = uncounted v bytes (count_few v bytes front) in let goes = (before (slip_count v bytes) less).0 in absurd (cc))
+        | inr same ↦ (let here : slip_count v bytes ≡ i = omega arith in
+            let stops = ap (is_open v bytes) (sym here) ∙ uncounted v bytes (count_few v bytes front) in absurd (cc))
+      ]
+    ] in
+    let whole = whole_count_is v bytes (slip_count v bytes) i refl (omega arith) (λ k low. (before k low).1) (λ low. broken) in
+    told_is v bytes ∙ told_fewer v bytes (whole_count v bytes) (slip_count v bytes) (omega (arith, whole, high)) ∙ ap (λ k. Err (Damaged (k + 1))) whole
+
+whole_counted : (v : Values) (bytes : List ℕ) (i : ℕ) → i < whole_count v bytes → is_whole v bytes i ≡ true
+unfolding whole_count
+whole_counted v bytes i low =
+    let few = prefix_len-le-length (is_whole v bytes) (range_with_len 0 (slip_count v bytes)) in
+    let long = length-range_with_len 0 (slip_count v bytes) in
+    ap (is_whole v bytes) (sym (get_or-range_with_len 0 (slip_count v bytes) i 0 (omega (arith, few, long, low)) ∙ zero-add i))
+    ∙ prefix_len_passes (is_whole v bytes) (range_with_len 0 (slip_count v bytes)) i 0 low
+
+told_cases : (v : Values) (bytes : List ℕ) (whole count : ℕ) (slips : List Slip) → told v bytes whole count ≡ Ok slips → (whole ≡ count) × (slips ≡ first_slips v bytes count)
+unfolding told
+told_cases v bytes whole count slips is = elim (cases_bool (whole == count)) [
+  | inl test ↦ (
+    (Decides-eqb whole count).0 test,
+    ok_same slips (first_slips v bytes count)
+        (sym is ∙ ap (λ (b : Bool). (let r : Result (List Slip) JournalFault = cond b (Ok (first_slips v bytes count)) (Err (Damaged (whole + 1))) in r)) test),
+  )
+  | inr test ↦ absurd (ok_not slips (Damaged (whole + 1))
+      (sym is ∙ ap (λ (b : Bool). (let r : Result (List Slip) JournalFault = cond b (Ok (first_slips v bytes count)) (Err (Damaged (whole + 1))) in r)) test))
+]
+
+told_some : (v : Values) (bytes : List ℕ) (whole count : ℕ) → told v bytes whole count ≡ Err NoStudy → ⊥
+unfolding told
+told_some v bytes whole count is = elim (cases_bool (whole == count)) [
+  | inl test ↦ ok_not (first_slips v bytes count) NoStudy
+      (sym (ap (λ (b : Bool). (let r : Result (List Slip) JournalFault = cond b (Ok (first_slips v bytes count)) (Err (Damaged (whole + 1))) in r)) test) ∙ is)
+  | inr test ↦ damaged_not (whole + 1)
+      (sym (ap (λ (b : Bool). (let r : Result (List Slip) JournalFault = cond b (Ok (first_slips v bytes count)) (Err (Damaged (whole + 1))) in r)) test) ∙ is)
+]
+
+-- where there is no study, that is all that is said; where there is one, something else
+pub none_read : (v : Values) (bytes : List ℕ) → is_study bytes ≡ false → reading v bytes ≡ Err NoStudy
+none_read v bytes none = choice_is v bytes ∙ choice_none (is_study bytes) (has_header bytes) (is_of_plan v bytes) (slips_reading v bytes) none
+
+pub some_read : (v : Values) (bytes : List ℕ) → is_study bytes ≡ true → reading v bytes ≡ Err NoStudy → ⊥
+some_read v bytes some is =
+    choice_some (is_study bytes) (has_header bytes) (is_of_plan v bytes) (slips_reading v bytes) some (λ read. told_some v bytes (whole_count v bytes) (slip_count v bytes) (sym (told_is v bytes) ∙ read))
+    (sym (choice_is v bytes) ∙ is)
+
+-- a study without a whole header, and one of another plan
+pub damaged_read : (v : Values) (bytes : List ℕ) → is_study bytes ≡ true → has_header bytes ≡ false → reading v bytes ≡ Err (Damaged 0)
+damaged_read v bytes some header = choice_is v bytes ∙ choice_damaged (is_study bytes) (has_header bytes) (is_of_plan v bytes) (slips_reading v bytes) some header
+
+pub other_read : (v : Values) (bytes : List ℕ) → is_study bytes ≡ true → has_header bytes ≡ true → is_of_plan v bytes ≡ false → reading v bytes ≡ Err OtherPlan
+other_read v bytes some header front = choice_is v bytes ∙ choice_other (is_study bytes) (has_header bytes) (is_of_plan v bytes) (slips_reading v bytes) some header front
+
+-- bytes that say slips
+pub reads_holds : (v : Values) (bytes : List ℕ) (slips : List Slip) → reading v bytes ≡ Ok slips → Holds v bytes (length slips) × (slips ≡ first_slips v bytes (length slips))
+reads_holds v bytes slips is =
+    let parts = choice_ok (is_study bytes) (has_header bytes) (is_of_plan v bytes) (slips_reading v bytes) slips (sym (choice_is v bytes) ∙ is) in
+    let counts = told_cases v bytes (whole_count v bytes) (slip_count v bytes) slips (sym (told_is v bytes) ∙ parts.1) in
+    let long : length slips ≡ slip_count v bytes = ap (λ (l : List Slip). length l) counts.1 ∙ length-map-range_with_len (λ i. slip_in (body_at v bytes i)) 0 (slip_count v bytes) in
+    let holds : Holds v bytes (slip_count v bytes) = record {
+      front = parts.0;
+      whole = λ i low. (counted v bytes i low, whole_counted v bytes i (omega (arith, counts.0, low)));
+      closed = uncounted v bytes (count_few v bytes parts.0);
+    } in
+    (subst (λ (n : ℕ). Holds v bytes n) (sym long) holds, counts.1 ∙ ap (λ (n : ℕ). first_slips v bytes n) (sym long))
+
+-- ---- bytes that begin alike
+
+slip_same : (v : Values) (m i : ℕ) (bytes others : List ℕ) → take m others ≡ take m bytes → gate_place v (i + 1) ≤ m → body_at v others i ≡ body_at v bytes i
+slip_same v m i bytes others alike low = alike_part m (gate_place v i + 1) (gate_place v (i + 1)) others bytes alike low
+
+open_same : (v : Values) (m i : ℕ) (bytes others : List ℕ) → take m others ≡ take m bytes → gate_place v i < m → is_open v others i ≡ is_open v bytes i
+open_same v m i bytes others alike low = ap (λ (b : ℕ). b == open_gate) (alike_place m (gate_place v i) others bytes alike low)
+
+-- the slips in front of a place are the same
+pub before_same : (v : Values) (n : ℕ) (bytes others : List ℕ) → is_of_plan v bytes ≡ true → AreWhole v bytes n
+    → take (gate_place v n) others ≡ take (gate_place v n) bytes → gate_place v n < length others
+    → (is_of_plan v others ≡ true) × (AreWhole v others n) × (first_slips v others n ≡ first_slips v bytes n)
+before_same v n bytes others front whole alike long =
+    let m : ℕ = gate_place v n in
+    let parts = of_plan_is v bytes front in (
+      of_plan_from v others (omega (arith, long)) (alike_front m (gate_place v 0) others bytes alike (omega arith) ∙ parts.1),
+      λ i low. (
+        open_same v m i bytes others alike (omega (arith, low)) ∙ (whole i low).0,
+        whole_from v others i (omega (arith, low, long)) (ap (is_slip v) (slip_same v m i bytes others alike (omega (arith, low))) ∙ (whole_is v bytes i (whole i low).1).1),
+      ),
+      map_alike (λ i. slip_in (body_at v others i)) (λ i. slip_in (body_at v bytes i)) n (λ i low. ap slip_in (slip_same v m i bytes others alike (omega (arith, low)))),
+    )
+
+-- where the gate behind them is closed, that is all
+pub closed_read : (v : Values) (n : ℕ) (bytes others : List ℕ) → length (canonical_text v) ≤ 65536 → is_of_plan v bytes ≡ true → AreWhole v bytes n
+    → take (gate_place v n) others ≡ take (gate_place v n) bytes → gate_place v n < length others → is_open v others n ≡ false
+    → reading v others ≡ Ok (first_slips v bytes n)
+closed_read v n bytes others short front whole alike long shut =
+    let same = before_same v n bytes others front whole alike long in
+    holds_reads v others n short (record { front = same.0; whole = same.1; closed = shut }) ∙ ap (λ (l : List Slip). Ok l) same.2
+
+-- where it is open, and a slip stands whole behind it, before a closed gate, that is one more
+pub opened_read : (v : Values) (n : ℕ) (bytes others : List ℕ) (slip : Slip) → length (canonical_text v) ≤ 65536 → is_of_plan v bytes ≡ true → AreWhole v bytes n
+    → take (gate_place v n) others ≡ take (gate_place v n) bytes → gate_place v (n + 1) < length others → is_open v others n ≡ true
+    → is_slip v (body_at v others n) ≡ true → slip_in (body_at v others n) ≡ slip → is_open v others (n + 1) ≡ false
+    → reading v others ≡ Ok (first_slips v bytes n ++ slip ∷ [])
+opened_read v n bytes others slip short front whole alike long opens is says shut =
+    let same = before_same v n bytes others front whole alike (omega (arith, long)) in
+    let more : AreWhole v others (n + 1) = λ i low. elim (cases_lt i n) [
+      | inl before ↦ same.1 i before
+      | inr last ↦ (let here : i ≡ n = omega arith in (ap (is_open v others) here ∙ opens, ap (is_whole v others) here ∙ whole_from v others n long is))
+    ] in
+    holds_reads v others (n + 1) short (record { front = same.0; whole = more; closed = shut })
+    ∙ ap (λ (l : List Slip). Ok l) (map-range_with_len_more (λ i. slip_in (body_at v others i)) 0 n n (zero-add n)
+    ∙ ap (λ (l : List Slip). l ++ slip_in (body_at v others n) ∷ []) same.2 ∙ ap (λ (x : Slip). first_slips v bytes n ++ x ∷ []) says)
+
+-- one whole slip more
+pub one_more_whole : (v : Values) (bytes : List ℕ) (n : ℕ) → AreWhole v bytes n → is_open v bytes n ≡ true → is_whole v bytes n ≡ true → AreWhole v bytes (n + 1)
+one_more_whole v bytes n whole opens is = λ i low. elim (cases_lt i n) [
+  | inl before ↦ whole i before
+  | inr last ↦ (let here : i ≡ n = omega arith in (ap (is_open v bytes) here ∙ opens, ap (is_whole v bytes) here ∙ is))
+]
+
+-- ---- headers
+
+pub not_plan : (v : Values) (bytes : List ℕ) → length bytes ≤ gate_place v 0 → is_of_plan v bytes ≡ false
+unfolding is_of_plan
+not_plan v bytes short =
+    let test : nat_lt (gate_place v 0) (length bytes) ≡ false = grind (arith, nat_tests) in
+    ap (λ (b : Bool). b && bytes_eq (take (gate_place v 0) bytes) (front_of v)) test
+
+pub plan_test : (v : Values) (bytes front : List ℕ) (n : ℕ) → gate_place v 0 < length bytes → n ≡ gate_place v 0 → front ≡ front_of v
+    → bytes_eq (slice_range bytes 0 n) front ≡ is_of_plan v bytes
+unfolding is_of_plan
+plan_test v bytes front n long size made =
+    let k : n - 0 ≡ gate_place v 0 = omega (arith, size) in
+    let test : nat_lt (gate_place v 0) (length bytes) ≡ true = (Decides-ltb (gate_place v 0) (length bytes)).1 long in
+    ap (λ (m : ℕ). bytes_eq (take m bytes) front) k ∙ ap (bytes_eq (take (gate_place v 0) bytes)) made
+    ∙ sym (ap (λ (b : Bool). b && bytes_eq (take (gate_place v 0) bytes) (front_of v)) test)
+
+-- whether a header can be there, by its four tests
+pub header_test : (bytes : List ℕ) (a b c d : Bool) → a ≡ nat_le 13 (length bytes) → b ≡ bytes_eq (slice_range bytes 1 9) (codes "CUTLAB01") → c ≡ nat_le (text_length bytes) 65536
+    → d ≡ nat_le (text_length bytes + 46) (length bytes) → can_have_header bytes ≡ (((a && b) && c) && d)
+unfolding can_have_header
+header_test bytes a b c d p q r s = sym (rw (p, q, r, s) refl)
+
+-- the length in a header, where one can be there, by the same tests
+pub text_told : (bytes : List ℕ) (a b c d : Bool) (found : Option ℕ) → a ≡ nat_le 13 (length bytes) → b ≡ bytes_eq (slice_range bytes 1 9) (codes "CUTLAB01") → c ≡ nat_le (text_length bytes) 65536
+    → d ≡ nat_le (text_length bytes + 46) (length bytes) → found ≡ cond (((a && b) && c) && d) (Some (text_length bytes)) None → found ≡ cond (can_have_header bytes) (Some (text_length bytes)) None
+text_told bytes a b c d found p q r s is = is ∙ sym (ap (λ (x : Bool). (let o : Option ℕ = cond x (Some (text_length bytes)) None in o)) (header_test bytes a b c d p q r s))
+
+pub text_read : (old mid : DiskState) (digits : List ℕ) (text : ℕ) → text ≡ from_be_bytes w32 digits → digits ≡ slice_range mid.bytes 9 13 → mid ≡ old → text ≡ text_length old.bytes
+text_read old mid digits text is read same = is ∙ ap (from_be_bytes w32) (read ∙ ap (λ (d : DiskState). slice_range d.bytes 9 13) same)
+
+-- what the length in a header says of the header
+pub text_none : (bytes : List ℕ) (found : Option ℕ) → found ≡ cond (can_have_header bytes) (Some (text_length bytes)) None → found ≡ None → has_header bytes ≡ false
+unfolding has_header
+text_none bytes found told none = elim (cases_bool (can_have_header bytes)) [
+  | inl can ↦ (let same : Some (text_length bytes) ≡ None = sym (told ∙ ap (λ (b : Bool). (let o : Option ℕ = cond b (Some (text_length bytes)) None in o)) can) ∙ none in absurd (cc (same)))
+  | inr cannot ↦ ap (λ (b : Bool). b && bytes_eq (sha256 (slice_range bytes 1 (text_length bytes + 13))) (slice_range bytes (text_length bytes + 13) (text_length bytes + 45))) cannot
+]
+
+pub text_some : (bytes : List ℕ) (found : Option ℕ) (text : ℕ) → found ≡ cond (can_have_header bytes) (Some (text_length bytes)) None → found ≡ Some text
+    → (can_have_header bytes ≡ true) × (text ≡ text_length bytes)
+text_some bytes found text told some = elim (cases_bool (can_have_header bytes)) [
+  | inl can ↦ (can, (let same : Some text ≡ Some (text_length bytes) = sym some ∙ told ∙ ap (λ (b : Bool). (let o : Option ℕ = cond b (Some (text_length bytes)) None in o)) can in cc (same)))
+  | inr cannot ↦ (let same : Some text ≡ None = sym some ∙ told ∙ ap (λ (b : Bool). (let o : Option ℕ = cond b (Some (text_length bytes)) None in o)) cannot in absurd (cc (same)))
+]
+
+pub header_room : (bytes : List ℕ) → can_have_header bytes ≡ true → text_length bytes + 46 ≤ length bytes
+unfolding can_have_header
+header_room bytes can =
+    let parts = both (nat_le 13 (length bytes) && bytes_eq (slice_range bytes 1 9) (codes "CUTLAB01") && nat_le (text_length bytes) 65536) (nat_le (text_length bytes + 46) (length bytes)) can in
+    grind (arith, nat_tests, parts.1)
+
+pub digest_test : (old mid : DiskState) (n : ℕ) (has : Bool) → mid ≡ old → can_have_header old.bytes ≡ true → n ≡ text_length old.bytes + 12
+    → has ≡ bytes_eq (sha256 (slice_range mid.bytes 1 (n + 1))) (slice_range mid.bytes (n + 1) (n + 33)) → has ≡ has_header old.bytes
+unfolding has_header
+digest_test old mid n has same can size is =
+    let t : ℕ = text_length old.bytes in
+    let a : n + 1 ≡ t + 13 = omega (arith, size) in
+    let b : n + 33 ≡ t + 45 = omega (arith, size) in
+    is ∙ ap (λ (d : DiskState). bytes_eq (sha256 (slice_range d.bytes 1 (n + 1))) (slice_range d.bytes (n + 1) (n + 33))) same
+    ∙ ap (λ (k : ℕ). bytes_eq (sha256 (slice_range old.bytes 1 k)) (slice_range old.bytes k (n + 33))) a
+    ∙ ap (λ (k : ℕ). bytes_eq (sha256 (slice_range old.bytes 1 (t + 13))) (slice_range old.bytes (t + 13) k)) b
+    ∙ sym (ap (λ (b : Bool). b && bytes_eq (sha256 (slice_range old.bytes 1 (t + 13))) (slice_range old.bytes (t + 13) (t + 45))) can)
+
+-- ---- a study that is read to its end
+
+pub shown_is : (shown : Bool) → not shown ≡ false → shown ≡ true
+shown_is true is = refl
+shown_is false is = absurd (cc)
+
+pub shown_none : (shown : Bool) → not shown ≡ true → shown ≡ false
+shown_none true is = absurd (cc)
+shown_none false is = refl
+
+pub slips_refused : {T : Type 0} (result : Result T JournalFault) (v : Values) (bytes : List ℕ) (read : Result (List Slip) JournalFault) → reading v bytes ≡ read → IfErr result IsSlipFault
+    → IfErr result (λ e. (number : ℕ) → e ≡ Damaged number → read ≡ Err e) → IfErr result (IsReopenFault v bytes)
+slips_refused (Ok found) v bytes read is faults refused = tt
+slips_refused (Err Memory) v bytes read is faults refused = tt
+slips_refused (Err Disk) v bytes read is faults refused = tt
+slips_refused (Err (Damaged number)) v bytes read is faults refused = is ∙ refused number refl
+slips_refused (Err NoStudy) v bytes read is faults refused = absurd (faults)
+slips_refused (Err OtherPlan) v bytes read is faults refused = absurd (faults)
+slips_refused (Err Broken) v bytes read is faults refused = absurd (faults)
+slips_refused (Err Held) v bytes read is faults refused = absurd (faults)

@@ -1,0 +1,22 @@
+use Rattle.std.proofs.Common.{◌≡◌, ◌<◌, ◌-◌, length}
+use Rattle.std.specs.Prelude.{◌↔◌}
+use Rattle.cut_journal.specs.File.{gate_place}
+use Rattle.cut_journal.specs.Reading.{first_slips}
+use Rattle.cut_journal.specs.Steps.{AreWhole}
+use Rattle.cut_journal.proofs.slips.read_slips.Given as goal
+
+-- the slips so far are whole, and the disk is as before
+abbrev pub invariant-loop-slips : goal.invariant-loop-slips
+invariant-loop-slips g l = record {
+  number : l.gate.number ≡ length l.slips.items;
+  place : l.gate.place ≡ gate_place l.study l.gate.number;
+  within : l.gate.place < l.size;
+  honest : g.D.Disk.is_honest l.fn.disk ↔ g.D.Disk.is_honest l.disk;
+  same : g.D.Disk.is_honest l.fn.disk → g.D.Disk.state l.disk ≡ g.D.Disk.state l.fn.disk;
+  whole : g.D.Disk.is_honest l.fn.disk → AreWhole l.study (g.D.Disk.state l.fn.disk).bytes l.gate.number;
+  slips : g.D.Disk.is_honest l.fn.disk → l.slips.items ≡ first_slips l.study (g.D.Disk.state l.fn.disk).bytes l.gate.number;
+  faults : g.D.Disk.faults l.disk ≡ g.D.Disk.faults l.fn.disk;
+}
+
+abbrev pub decreases-loop-slips : goal.decreases-loop-slips
+decreases-loop-slips g l = l.size - l.gate.place

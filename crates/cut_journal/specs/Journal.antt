@@ -1,0 +1,67 @@
+-- A journal as contracts see it, what is true of it between calls, and what an append leaves.
+use Rattle.std.specs.Prelude.{◌≡◌, ◌⊎◌, ◌++◌, ◌+◌, ℕ, List, [], ◌∷◌, length, take, Option, Some, None, Result, Ok, Err, ⊤}
+use Rattle.cut_faults.specs.Failures.{one_more}
+use Rattle.cut_plan.specs.Values.{Values}
+use Rattle.cut_disks.specs.State.{DiskState, IsImage, settled}
+use Rattle.cut_ledger.specs.declared.slip.Slip.{Slip}
+use Rattle.cut_journal.specs.declared.fault.JournalFault.{JournalFault}
+use Rattle.cut_journal.specs.declared.fault.JournalFault.TheVariants.{Broken, OtherPlan, Disk}
+use Rattle.cut_journal.specs.Reading.{reading}
+
+-- the disk, the plan of the study, how many slips are kept, and the slip of an append in which the disk failed,
+-- which may be kept too
+pub record Log (D : Type 0) : Type 0 where
+  pub disk : D
+  pub plan : Values
+  pub count : ℕ
+  pub doubtful : Option Slip
+
+-- the slips that bytes say, none where they say no study of the plan
+abbrev pub slips_of : Result (List Slip) JournalFault → List Slip
+slips_of (Ok slips) = slips
+slips_of (Err fault) = []
+
+-- the kept slips: the first so many of those that the bytes of the disk say
+abbrev pub kept_slips : Values → ℕ → DiskState → List Slip
+kept_slips v count d = take count (slips_of (reading v d.bytes))
+
+-- bytes say these slips, or these and the doubtful one
+abbrev pub ReadsAs : Values → List Slip → Option Slip → List ℕ → Type 0
+ReadsAs v slips doubtful bytes =
+    (reading v bytes ≡ Ok slips)
+    ⊎ ((slip : Slip) × ((doubtful ≡ Some slip) × (reading v bytes ≡ Ok (slips ++ slip ∷ []))))
+
+-- what is true of an honest disk between the calls of its journal: as many slips are kept as the journal
+-- counts; what reads give, and whatever a crash may leave, says these, or these and the doubtful one; and where
+-- there is no doubtful one, all that was written is sure
+pub record IsSound (v : Values) (count : ℕ) (doubtful : Option Slip) (d : DiskState) : Type 0 where
+  pub counted : length (kept_slips v count d) ≡ count
+  pub bytes : ReadsAs v (kept_slips v count d) doubtful d.bytes
+  pub images : (image : List ℕ) → IsImage d.stable image → ReadsAs v (kept_slips v count d) doubtful image
+  pub sure : doubtful ≡ None → d.stable ≡ settled d.bytes
+
+-- ---- an append
+
+-- the faults that an append may answer
+abbrev pub IsAppendFault : JournalFault → Type 0
+IsAppendFault Broken = ⊤
+IsAppendFault OtherPlan = ⊤
+IsAppendFault Disk = ⊤
+IsAppendFault fault = ⊥
+
+-- what a journal is after an append: one more slip is kept; or the disk failed, and the slip is doubtful; or it
+-- is as before
+abbrev pub Leaves : {D : Type 0} → Result ℕ JournalFault → Slip → Log D → Log D → Type 0
+Leaves (Ok number) slip old new = (new.plan ≡ old.plan) × (new.count ≡ old.count + 1) × (new.doubtful ≡ None)
+Leaves (Err Disk) slip old new = (new.plan ≡ old.plan) × (new.count ≡ old.count) × (new.doubtful ≡ Some slip)
+Leaves (Err fault) slip old new = new ≡ old
+
+-- the slips that are kept after an append
+abbrev pub slips_after : Result ℕ JournalFault → Slip → List Slip → List Slip
+slips_after (Ok number) slip slips = slips ++ slip ∷ []
+slips_after (Err fault) slip slips = slips
+
+-- how many calls of the disk failed after a call of a journal: one more exactly where it answers that fault
+abbrev pub disk_faults : {T : Type 0} → Result T JournalFault → ℕ → ℕ
+disk_faults (Err Disk) n = one_more n
+disk_faults result n = n

@@ -1,0 +1,67 @@
+-- What the making and the reopening of a journal leave of a disk.
+use Rattle.std.specs.Prelude.{◌≡◌, ◌≢◌, ◌⊎◌, ℕ, List, [], Ok, Err, ⊤}
+use Rattle.cut_plan.specs.Values.{Values}
+use Rattle.cut_disks.specs.State.{DiskState, synced, Throughout}
+use Rattle.cut_journal.specs.declared.fault.JournalFault.{JournalFault}
+use Rattle.cut_journal.specs.declared.fault.JournalFault.TheVariants.{Memory, Disk, NoStudy, OtherPlan, Damaged, Held}
+use Rattle.cut_journal.specs.Reading.{reading}
+
+-- ---- reopening
+
+-- what bytes say of a reopening that was refused: the fault is the one that they are read with; want of memory
+-- and a failing disk say nothing of them, and no other fault comes
+abbrev pub IsReopenFault : Values → List ℕ → JournalFault → Type 0
+IsReopenFault v bytes Memory = ⊤
+IsReopenFault v bytes Disk = ⊤
+IsReopenFault v bytes NoStudy = reading v bytes ≡ Err NoStudy
+IsReopenFault v bytes OtherPlan = reading v bytes ≡ Err OtherPlan
+IsReopenFault v bytes (Damaged number) = reading v bytes ≡ Err (Damaged number)
+IsReopenFault v bytes fault = ⊥
+
+-- the faults that a reopening may answer, of whichever disk
+abbrev pub MayRefuse : JournalFault → Type 0
+MayRefuse Memory = ⊤
+MayRefuse Disk = ⊤
+MayRefuse NoStudy = ⊤
+MayRefuse OtherPlan = ⊤
+MayRefuse (Damaged number) = ⊤
+MayRefuse fault = ⊥
+
+-- the faults of a step that only reads
+abbrev pub IsReadFault : JournalFault → Type 0
+IsReadFault Memory = ⊤
+IsReadFault Disk = ⊤
+IsReadFault fault = ⊥
+
+-- what is on the disk: as before, but for a first sync that made all sure; nothing else where it was read to
+-- its end
+abbrev pub IsRead : JournalFault → DiskState → DiskState → Type 0
+IsRead Memory old new = (new ≡ old) ⊎ (new ≡ synced old)
+IsRead Disk old new = (new ≡ old) ⊎ (new ≡ synced old)
+IsRead fault old new = new ≡ synced old
+
+-- ---- making
+
+-- the faults that the making of a journal may answer
+abbrev pub MayNotMake : JournalFault → Type 0
+MayNotMake Memory = ⊤
+MayNotMake Disk = ⊤
+MayNotMake Held = ⊤
+MayNotMake fault = ⊥
+
+-- bytes say no study, or one of the plan without slips
+abbrev pub IsNewStudy : Values → List ℕ → Type 0
+IsNewStudy v bytes = (reading v bytes ≡ Err NoStudy) ⊎ (reading v bytes ≡ Ok [])
+
+-- what is on the disk at the end: as before; or, from the first sync on, each crash at each moment leaves no
+-- study, or one without slips
+abbrev pub IsBegun : Values → DiskState → DiskState → Type 0
+IsBegun v old new = (new ≡ old) ⊎ Throughout (synced old) new (IsNewStudy v)
+
+-- what is on the disk where no journal was made: Held comes exactly where there is a study already, and then
+-- nothing was written; want of memory comes before anything is done
+abbrev pub IsNotMade : Values → JournalFault → DiskState → DiskState → Type 0
+IsNotMade v Held old new = (reading v old.bytes ≢ Err NoStudy) × (new ≡ synced old)
+IsNotMade v Memory old new = new ≡ old
+IsNotMade v Disk old new = (reading v old.bytes ≡ Err NoStudy → IsBegun v old new) × (reading v old.bytes ≢ Err NoStudy → (new ≡ old) ⊎ (new ≡ synced old))
+IsNotMade v fault old new = ⊥

@@ -1,0 +1,106 @@
+-- What the bytes of a file say: the slips of a study of a plan, or why they don't say any (this project's
+-- format).
+use Rattle.std.specs.Prelude.{ℕ, ◌+◌, ◌*◌, ◌^◌, ◌==◌, ◌&&◌, ◌++◌, Bool, not, List, length, map, take, drop, slice_index, slice_range, nat_lt, nat_le, bytes_eq, codes, if◌then◌else◌, Result, Ok, Err}
+use Rattle.std.specs.List.{prefix_len, range_with_len}
+use Rattle.std.specs.Int.{w32, w64, from_be_bytes}
+use Rattle.sha2.specs.Sha256.{sha256}
+use Rattle.cut_plan.specs.Values.{Values}
+use Rattle.cut_ledger.specs.declared.slip.Slip.{Slip}
+use Rattle.cut_journal.specs.declared.fault.JournalFault.{JournalFault}
+use Rattle.cut_journal.specs.declared.fault.JournalFault.TheVariants.{NoStudy, Damaged, OtherPlan}
+use Rattle.cut_journal.specs.File.{open_gate, front_of, header_digest, gate_place}
+
+-- ---- the header
+
+-- whether there is a study, of whichever plan: more than one byte, and the gate of the study open
+abbrev pub is_study : List ℕ → Bool
+is_study bytes = nat_lt 1 (length bytes) && (slice_index bytes 0 == open_gate)
+
+-- the length that the header says of the plan's text
+abbrev pub text_length : List ℕ → ℕ
+text_length bytes = from_be_bytes w32 (slice_range bytes 9 13)
+
+-- whether a header of that length can be there, with the gate of a first slip
+unfoldable pub can_have_header : List ℕ → Bool
+can_have_header bytes =
+    nat_le 13 (length bytes) && bytes_eq (slice_range bytes 1 9) (codes "CUTLAB01")
+    && nat_le (text_length bytes) 65536 && nat_le (text_length bytes + 46) (length bytes)
+
+-- whether there is a whole header, of whichever plan, and the gate of a first slip
+unfoldable pub has_header : List ℕ → Bool
+has_header bytes =
+    can_have_header bytes
+    && bytes_eq (sha256 (slice_range bytes 1 (text_length bytes + 13))) (slice_range bytes (text_length bytes + 13) (text_length bytes + 45))
+
+-- whether bytes begin as the file of a study of this plan does, and have the gate of a first slip
+unfoldable pub is_of_plan : Values → List ℕ → Bool
+is_of_plan v bytes =
+    nat_lt (gate_place v 0) (length bytes) && bytes_eq (take (gate_place v 0) bytes) (front_of v)
+
+-- ---- a slip, by what stands behind its gate
+
+-- a number of the nine
+unfoldable pub number_at : List ℕ → ℕ → ℕ
+number_at body i = from_be_bytes w64 (slice_range body (8 * i) (8 * i + 8))
+
+abbrev pub slip_in : List ℕ → Slip
+slip_in body = record {
+  piece = record { first = number_at body 0; count = number_at body 1 };
+  totals = record {
+    receivers = number_at body 2;
+    conflicts = number_at body 3;
+    silent = number_at body 4;
+    extra = number_at body 5;
+    votes = number_at body 6;
+    decided = number_at body 7;
+    right = number_at body 8;
+  };
+}
+
+-- whether it is a slip that was written whole: its digest is right, and the numbers of its piece have 32 bits
+unfoldable pub is_slip : Values → List ℕ → Bool
+is_slip v body =
+    bytes_eq (sha256 (header_digest v ++ take 72 body)) (drop 72 body)
+    && nat_lt (number_at body 0) (2 ^ 32) && nat_lt (number_at body 1) (2 ^ 32)
+
+-- ---- the slips
+
+-- whether the gate of a slip is open, the first being number 0
+abbrev pub is_open : Values → List ℕ → ℕ → Bool
+is_open v bytes i = slice_index bytes (gate_place v i) == open_gate
+
+-- what stands between that gate and the next
+abbrev pub body_at : Values → List ℕ → ℕ → List ℕ
+body_at v bytes i = slice_range bytes (gate_place v i + 1) (gate_place v (i + 1))
+
+-- whether a slip is whole: it is one, and the next gate is there
+abbrev pub is_whole : Values → List ℕ → ℕ → Bool
+is_whole v bytes i = nat_lt (gate_place v (i + 1)) (length bytes) && is_slip v (body_at v bytes i)
+
+-- how many slips there are: those with open gates, up to the first closed one
+unfoldable pub slip_count : Values → List ℕ → ℕ
+slip_count v bytes = prefix_len (is_open v bytes) (range_with_len 0 (length bytes))
+
+-- how many of them in front are whole
+unfoldable pub whole_count : Values → List ℕ → ℕ
+whole_count v bytes = prefix_len (is_whole v bytes) (range_with_len 0 (slip_count v bytes))
+
+-- the first so many slips
+abbrev pub first_slips : Values → List ℕ → ℕ → List Slip
+first_slips v bytes n = map (λ i. slip_in (body_at v bytes i)) (range_with_len 0 n)
+
+-- ---- the reading
+
+-- the slips of a study of this plan, or the number, from 1, of the first that is not whole
+abbrev pub slips_reading : Values → List ℕ → Result (List Slip) JournalFault
+slips_reading v bytes =
+    if whole_count v bytes == slip_count v bytes then Ok (first_slips v bytes (slip_count v bytes))
+    else Err (Damaged (whole_count v bytes + 1))
+
+-- what the bytes say, read as a study of this plan, told in this order: whether there is a study, whether its
+-- header is whole, whether it is of this plan, and the slips
+unfoldable pub reading : Values → List ℕ → Result (List Slip) JournalFault
+reading v bytes =
+    if not (is_study bytes) then Err NoStudy
+    else (if not (has_header bytes) then Err (Damaged 0)
+    else (if not (is_of_plan v bytes) then Err OtherPlan else slips_reading v bytes))

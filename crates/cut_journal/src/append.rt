@@ -1,0 +1,43 @@
+ghost use Rattle.std.specs.Prelude.{◌≡◌, ◌+◌, ◌<◌, ◌≤◌, ◌^◌, ◌↔◌, ◌++◌, [], ◌∷◌, None, Some, Ok, length, OnOk};
+ghost use Rattle.cut_faults.specs.Failures.{counted};
+ghost use Rattle.cut_disks.specs.State.{settled, Throughout};
+ghost use Rattle.cut_journal.specs.File.{gate_place};
+ghost use Rattle.cut_journal.specs.Reading.{reading};
+ghost use Rattle.cut_journal.specs.Journal.{kept_slips, ReadsAs, IsSound};
+ghost use Rattle.cut_journal.specs.Steps.{Leave};
+
+use crate::file::{Gate, OPEN_GATE, Study};
+use crate::through::write_through;
+use cut_disks::laws::writes_stay_in_their_span;
+use cut_disks::{Disk, DiskFault};
+use cut_ledger::Slip;
+
+/// Keeps a slip: writes it behind its gate, which is closed, and then opens the gate.
+pub(crate) fn keep<D: Disk>(
+    disk: &mut D,
+    study: &Study,
+    gate: Gate,
+    slip: Slip,
+) -> Result<(), DiskFault>
+    requires place { gate.place ≡ gate_place study.now gate.number }
+    requires bound { gate.place < 2 ^ 63 }
+    requires sound { D.is_honest disk.old → IsSound study.now gate.number None (D.state disk.old) }
+    ensures moments { D.is_honest disk.old → Throughout (D.state disk.old) (D.state disk.new)
+        (ReadsAs study.now (kept_slips study.now gate.number (D.state disk.old)) (Some slip)) }
+    ensures left { D.is_honest disk.old →
+        Leave (ReadsAs study.now (kept_slips study.now gate.number (D.state disk.old)) (Some slip))
+        (D.state disk.new) }
+    ensures kept { D.is_honest disk.old → OnOk result (reading study.now (D.state disk.new).bytes
+        ≡ Ok (kept_slips study.now gate.number (D.state disk.old) ++ slip ∷ [])) }
+    ensures sure { D.is_honest disk.old →
+        OnOk result ((D.state disk.new).stable ≡ settled (D.state disk.new).bytes) }
+    ensures bound { OnOk result (gate.place + 105 < 2 ^ 63) }
+    ensures honest { D.is_honest disk.old ↔ D.is_honest disk.new }
+    ensures faults { D.faults disk.new ≡ counted result (D.faults disk.old) }
+{
+    study.is_short();
+    writes_stay_in_their_span();
+    let bytes = study.slip_bytes(slip);
+    write_through(disk, gate.place + 1, &bytes)?;
+    write_through(disk, gate.place, &[OPEN_GATE])
+}

@@ -1,0 +1,199 @@
+ghost use Rattle.std.specs.Prelude.{ℕ, List, ◌≡◌, ◌≢◌, ◌⊎◌, ◌+◌, ◌<◌, ◌≤◌, ◌^◌, ◌↔◌, ◌++◌, [], ◌∷◌, None, Some, Ok, Err, length, unwrap_or, IfOk, IfErr, OnOk, IsErrOf, IsSome};
+ghost use Rattle.cut_plan.specs.Values.{Values};
+ghost use Rattle.cut_disks.specs.State.{IsImage, settled, synced, Throughout};
+ghost use Rattle.cut_ledger.specs.Machine.{slip_of};
+ghost use Rattle.cut_journal.specs.Reading.{reading};
+ghost use Rattle.cut_journal.specs.Journal.{Log, kept_slips, ReadsAs, IsSound, IsAppendFault, Leaves, slips_after, disk_faults};
+ghost use Rattle.cut_journal.specs.Opening.{IsReopenFault, MayRefuse, IsRead, IsBegun, IsNotMade, MayNotMake};
+
+use crate::JournalFault;
+use crate::append::keep;
+use crate::create::make;
+use crate::file::{Gate, SLIP_BYTES, Study};
+use crate::reopen::find;
+use crate::slips::Slips;
+use cut_disks::Disk;
+use cut_ledger::Slip;
+use cut_plan::Plan;
+use cut_trial::PieceResult;
+use std::alloc::Global;
+use std::marker::Model;
+
+/// The journal of a study, on a disk. Contracts see the disk, the plan, how many slips are kept, and the
+/// slip of an append in which the disk failed.
+///
+/// What is said of the bytes is said of an honest disk.
+#[derive(Drop)]
+pub struct Journal<D: Disk> {
+    disk: D,
+    study: Study,
+    gate: Gate,
+    doubtful: Option<Slip>,
+}
+
+impl<D: Disk> Model for Journal<D> {
+    ghost use Rattle.std.specs.Prelude.{◌≡◌, ◌<◌, ◌^◌};
+    ghost use Rattle.cut_journal.specs.Journal.{Log, IsSound};
+    ghost use Rattle.cut_journal.specs.File.{gate_place};
+
+    ghost Value = { Log D };
+
+    ghost view = { λ j.
+        record { disk = j.disk; plan = j.study; count = j.gate.number; doubtful = j.doubtful } };
+
+    ghost invariant = { λ j.
+        (j.gate.place ≡ gate_place j.study j.gate.number)
+        × (j.gate.place < 2 ^ 63)
+        × (D.is_honest j.disk → IsSound j.study j.gate.number j.doubtful (D.state j.disk)) };
+}
+
+impl<D: Disk> Journal<D> {
+    /// Makes the journal of a study on a disk that holds none. The disk is handed back where none is made:
+    /// it holds a study already, it failed, or memory was wanting.
+    pub fn create(alloc: Global, disk: D, plan: &Plan) -> Result<Journal<D>, (JournalFault, D)>
+        ensures plan { IfOk result (λ journal. journal.plan ≡ plan.now) }
+        ensures empty { IfOk result (λ journal. (journal.count ≡ 0) × (journal.doubtful ≡ None)) }
+        ensures made { D.is_honest disk →
+            IfOk result (λ journal. (reading plan.now (D.state disk).bytes ≡ Err JournalFault.NoStudy)
+            × (reading plan.now (D.state journal.disk).bytes ≡ Ok [])) }
+        ensures begun { D.is_honest disk →
+            IfOk result (λ journal. IsBegun plan.now (D.state disk) (D.state journal.disk)) }
+        ensures refused { D.is_honest disk →
+            IfErr result (λ e. IsNotMade plan.now e.0 (D.state disk) (D.state e.1)) }
+        ensures may { IfErr result (λ e. MayNotMake e.0) }
+        ensures honest { IfOk result (λ journal. D.is_honest disk ↔ D.is_honest journal.disk) }
+        ensures honest_back { IfErr result (λ e. D.is_honest disk ↔ D.is_honest e.1) }
+        ensures faults { IfOk result (λ journal. D.faults journal.disk ≡ D.faults disk) }
+        ensures faults_back { IfErr result (λ e. D.faults e.1 ≡ disk_faults {T = ℕ} (Err e.0) (D.faults disk)) }
+    {
+        let mut disk = disk;
+        let study = match Study::of(alloc, plan) {
+            Ok(study) => study,
+            Err(_) => return Err((JournalFault::Memory, disk)),
+        };
+        match make(alloc, &mut disk, &study) {
+            Ok(()) => {
+                let gate = study.first_gate();
+                Ok(Journal {
+                    disk,
+                    study,
+                    gate,
+                    doubtful: None,
+                })
+            }
+            Err(fault) => Err((fault, disk)),
+        }
+    }
+
+    /// Opens the journal of a study again, with the slips that are kept. The disk is handed back where it
+    /// holds no study, or one of another plan, or is damaged, where it failed, or memory was wanting.
+    ///
+    /// Nothing is written.
+    pub fn reopen(
+        alloc: Global,
+        disk: D,
+        plan: &Plan,
+    ) -> Result<(Journal<D>, Vec<Slip>), (JournalFault, D)>
+        ensures plan { IfOk result (λ r. r.0.plan ≡ plan.now) }
+        ensures count { IfOk result (λ r. (r.0.count ≡ length r.1.items) × (r.0.doubtful ≡ None)) }
+        ensures read { D.is_honest disk →
+            IfOk result (λ r. reading plan.now (D.state disk).bytes ≡ Ok r.1.items) }
+        ensures settled { D.is_honest disk → IfOk result (λ r. D.state r.0.disk ≡ synced (D.state disk)) }
+        ensures refused { D.is_honest disk →
+            IfErr result (λ e. IsReopenFault plan.now (D.state disk).bytes e.0) }
+        ensures may { IfErr result (λ e. MayRefuse e.0) }
+        ensures left { D.is_honest disk → IfErr result (λ e. IsRead e.0 (D.state disk) (D.state e.1)) }
+        ensures honest { IfOk result (λ r. D.is_honest disk ↔ D.is_honest r.0.disk) }
+        ensures honest_back { IfErr result (λ e. D.is_honest disk ↔ D.is_honest e.1) }
+        ensures faults { IfOk result (λ r. D.faults r.0.disk ≡ D.faults disk) }
+        ensures faults_back { IfErr result (λ e. D.faults e.1 ≡ disk_faults {T = ℕ} (Err e.0) (D.faults disk)) }
+    {
+        let mut disk = disk;
+        let study = match Study::of(alloc, plan) {
+            Ok(study) => study,
+            Err(_) => return Err((JournalFault::Memory, disk)),
+        };
+        match find(alloc, &mut disk, &study) {
+            Ok(found) => {
+                let Slips { slips, gate } = found;
+                let journal = Journal {
+                    disk,
+                    study,
+                    gate,
+                    doubtful: None,
+                };
+                Ok((journal, slips))
+            }
+            Err(fault) => Err((fault, disk)),
+        }
+    }
+
+    /// Keeps what a result says of its piece, and answers the slip's number, from 1. Takes no memory.
+    ///
+    /// Where the disk fails it is not known whether the slip is kept, and nothing is taken any more.
+    pub fn append(&mut self, offered: &PieceResult) -> Result<u64, JournalFault>
+        ensures broken { IsErrOf result JournalFault.Broken ↔ IsSome self.old.doubtful }
+        ensures other_plan { IsErrOf result JournalFault.OtherPlan
+            ↔ ((self.old.doubtful ≡ None) × (offered.now.plan ≢ self.old.plan)) }
+        ensures others { IfErr result IsAppendFault }
+        ensures number { IfOk result (λ number. number ≡ self.new.count) }
+        ensures left { Leaves result (slip_of offered.now) self.old self.new }
+        ensures moments { D.is_honest self.old.disk →
+            Throughout (D.state self.old.disk) (D.state self.new.disk)
+            (ReadsAs self.old.plan (kept_slips self.old.plan self.old.count (D.state self.old.disk))
+            (Some (unwrap_or self.old.doubtful (slip_of offered.now)))) }
+        ensures kept { D.is_honest self.old.disk →
+            kept_slips self.new.plan self.new.count (D.state self.new.disk)
+            ≡ slips_after result (slip_of offered.now)
+            (kept_slips self.old.plan self.old.count (D.state self.old.disk)) }
+        ensures acknowledged { D.is_honest self.old.disk → OnOk result ((image : List ℕ)
+            → IsImage (D.state self.new.disk).stable image
+            → reading self.old.plan image
+            ≡ Ok (kept_slips self.new.plan self.new.count (D.state self.new.disk))) }
+        ensures honest { D.is_honest self.old.disk ↔ D.is_honest self.new.disk }
+        ensures faults { D.faults self.new.disk ≡ disk_faults result (D.faults self.old.disk) }
+    {
+        if self.doubtful.is_some() {
+            return Err(JournalFault::Broken);
+        }
+        if !self.study.plan().same(offered.plan()) {
+            return Err(JournalFault::OtherPlan);
+        }
+        let slip = Slip {
+            piece: offered.piece(),
+            totals: offered.totals(),
+        };
+        match keep(&mut self.disk, &self.study, self.gate, slip) {
+            Ok(()) => {
+                self.gate = Gate {
+                    number: self.gate.number + 1,
+                    place: self.gate.place + SLIP_BYTES,
+                };
+                Ok(self.gate.number)
+            }
+            Err(_) => {
+                self.doubtful = Some(slip);
+                Err(JournalFault::Disk)
+            }
+        }
+    }
+
+    /// The disk. Between calls, whatever a crash may leave of an honest one is read as the slips that are
+    /// kept, or as these and the doubtful one.
+    pub fn disk(&self) -> &D
+        ensures disk { result.now ≡ self.now.disk }
+        ensures sound { D.is_honest self.now.disk →
+            IsSound self.now.plan self.now.count self.now.doubtful (D.state self.now.disk) }
+    {
+        &self.disk
+    }
+
+    /// Gives the disk back.
+    pub fn into_disk(self) -> D
+        ensures disk { result ≡ self.disk }
+        ensures sound { D.is_honest self.disk →
+            IsSound self.plan self.count self.doubtful (D.state self.disk) }
+    {
+        self.disk
+    }
+}

@@ -1,0 +1,38 @@
+//! What is true of every journal of a run, whatever crash comes. Each function does nothing that is seen, and
+//! its contract is the law.
+
+ghost use Rattle.cut_journal.specs.Laws.{AppendsFollow, CrashesBetweenCalls, CrashesInAppends, OpeningsFollow, OtherEventsFollow, ResumedSlipsAreGood};
+
+use cut_disks::Disk;
+use cut_ledger::laws::every_run_is_right;
+use cut_trial::laws::pieces_have_possible_totals;
+
+/// A crash is a resumption of the run, as the machine has it: whatever is left of the disk, between two calls
+/// or at any moment of an append, says the slips that the run finds with one choice whether the slip whose
+/// append was under way is kept.
+pub fn crashes_are_resumptions()
+    ensures between { CrashesBetweenCalls }
+    ensures within { CrashesInAppends }
+{}
+
+/// A journal that was made or opened again is that of the run that is opened over its slips, and stays so
+/// whatever happens that is no result and no crash.
+pub fn journals_begin_with_their_runs()
+    ensures opening { OpeningsFollow }
+    ensures others { OtherEventsFollow }
+{}
+
+/// An append that succeeds is a result that the run takes, and one in which the disk failed is a result whose
+/// append failed: after both the journal is that of the run again.
+pub fn appends_follow_the_run<D: Disk>()
+    ensures { AppendsFollow D }
+{}
+
+/// The slips that a run finds after a crash, whatever came before it, are true and no trial is in two of
+/// them: so a ledger begins with them, and none is a bad one.
+pub fn resumed_slips_are_good()
+    ensures { ResumedSlipsAreGood }
+{
+    every_run_is_right();
+    pieces_have_possible_totals();
+}

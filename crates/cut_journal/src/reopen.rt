@@ -1,0 +1,172 @@
+ghost use Rattle.std.specs.Prelude.{ℕ, Err, ◌≡◌, ◌⊎◌, ◌+◌, ◌<◌, ◌≤◌, ◌^◌, ◌↔◌, Ok, Some, None, if◌then◌else◌, bytes_eq, slice_range, length, IfOk, IfErr, IfSome, IsTrue};
+ghost use Rattle.cut_faults.specs.Failures.{counted};
+ghost use Rattle.sha2.specs.Sha256.{sha256};
+ghost use Rattle.cut_disks.specs.State.{synced};
+ghost use Rattle.cut_journal.specs.File.{gate_place};
+ghost use Rattle.cut_journal.specs.Reading.{is_of_plan, can_have_header, has_header, text_length, reading};
+ghost use Rattle.cut_journal.specs.Journal.{disk_faults};
+ghost use Rattle.cut_journal.specs.Opening.{IsReopenFault, IsReadFault, MayRefuse, IsRead};
+
+use crate::JournalFault;
+use crate::file::{MAGIC, Study, digest_of};
+use crate::look::look_first;
+use crate::slips::{Slips, read_slips};
+use cut_disks::{Disk, DiskFault};
+use std::alloc::Global;
+
+/// The slips of a study that a disk holds, and why there are none.
+pub(crate) fn find<D: Disk>(
+    alloc: Global,
+    disk: &mut D,
+    study: &Study,
+) -> Result<Slips, JournalFault>
+    ensures told { D.is_honest disk.old →
+        IfOk result (λ found. reading study.now (D.state disk.old).bytes ≡ Ok found.slips.items) }
+    ensures settled { D.is_honest disk.old →
+        IfOk result (λ found. D.state disk.new ≡ synced (D.state disk.old)) }
+    ensures refused { D.is_honest disk.old →
+        IfErr result (λ e. IsReopenFault study.now (D.state disk.old).bytes e) }
+    ensures may { IfErr result MayRefuse }
+    ensures left { D.is_honest disk.old →
+        IfErr result (λ e. IsRead e (D.state disk.old) (D.state disk.new)) }
+    ensures number { IfOk result (λ found. found.gate.number ≡ length found.slips.items) }
+    ensures place { IfOk result (λ found. found.gate.place ≡ gate_place study.now found.gate.number) }
+    ensures bound { IfOk result (λ found. found.gate.place < 2 ^ 63) }
+    ensures honest { D.is_honest disk.old ↔ D.is_honest disk.new }
+    ensures faults { D.faults disk.new ≡ disk_faults result (D.faults disk.old) }
+{
+    let shown = match look_first(disk) {
+        Ok(shown) => shown,
+        Err(_) => return Err(JournalFault::Disk),
+    };
+    if !shown.is_study {
+        return Err(JournalFault::NoStudy);
+    }
+    match has_header(alloc, disk, shown.length) {
+        Ok(true) => {}
+        Ok(false) => return Err(JournalFault::Damaged(0)),
+        Err(fault) => return Err(fault),
+    }
+    match is_of_plan(alloc, disk, study, shown.length) {
+        Ok(true) => read_slips(alloc, disk, study, shown.length),
+        Ok(false) => Err(JournalFault::OtherPlan),
+        Err(fault) => Err(fault),
+    }
+}
+
+/// Whether a disk of this length begins as the file of a study does.
+fn is_of_plan<D: Disk>(
+    alloc: Global,
+    disk: &mut D,
+    study: &Study,
+    size: u64,
+) -> Result<bool, JournalFault>
+    requires size { D.is_honest disk.old → size ≡ length (D.state disk.old).bytes }
+    ensures told { D.is_honest disk.old →
+        IfOk result (λ is. is ≡ is_of_plan study.now (D.state disk.old).bytes) }
+    ensures within { IfOk result (λ is. IsTrue is → gate_place study.now 0 < size) }
+    ensures fault { IfErr result IsReadFault }
+    ensures same { D.is_honest disk.old → D.state disk.new ≡ D.state disk.old }
+    ensures honest { D.is_honest disk.old ↔ D.is_honest disk.new }
+    ensures faults { D.faults disk.new ≡ disk_faults result (D.faults disk.old) }
+{
+    let front = study.front();
+    if size <= front.len() as u64 {
+        return Ok(false);
+    }
+    let mut found = match vec![in alloc; 0; front.len()] {
+        Ok(found) => found,
+        Err(_) => return Err(JournalFault::Memory),
+    };
+    match begins_as(disk, &mut found, front) {
+        Ok(begins) => Ok(begins),
+        Err(_) => Err(JournalFault::Disk),
+    }
+}
+
+/// Whether a disk begins as these bytes do, which are read into as many others.
+fn begins_as<D: Disk>(disk: &mut D, found: &mut [u8], front: &[u8]) -> Result<bool, DiskFault>
+    requires { D.is_honest disk.old → length found.old ≤ length (D.state disk.old).bytes }
+    ensures told { D.is_honest disk.old → IfOk result (λ begins.
+        begins ≡ bytes_eq (slice_range (D.state disk.old).bytes 0 (length found.old)) front.now) }
+    ensures same { D.is_honest disk.old → D.state disk.new ≡ D.state disk.old }
+    ensures honest { D.is_honest disk.old ↔ D.is_honest disk.new }
+    ensures faults { D.faults disk.new ≡ counted result (D.faults disk.old) }
+{
+    disk.read(0, found)?;
+    Ok(*found == *front)
+}
+
+/// Whether a disk of this length begins with a whole header, of whichever plan.
+fn has_header<D: Disk>(alloc: Global, disk: &mut D, size: u64) -> Result<bool, JournalFault>
+    requires size { D.is_honest disk.old → size ≡ length (D.state disk.old).bytes }
+    ensures told { D.is_honest disk.old →
+        IfOk result (λ has. has ≡ has_header (D.state disk.old).bytes) }
+    ensures fault { IfErr result IsReadFault }
+    ensures same { D.is_honest disk.old → D.state disk.new ≡ D.state disk.old }
+    ensures honest { D.is_honest disk.old ↔ D.is_honest disk.new }
+    ensures faults { D.faults disk.new ≡ disk_faults result (D.faults disk.old) }
+{
+    let text = match text_length(disk, size) {
+        Ok(Some(text)) => text,
+        Ok(None) => return Ok(false),
+        Err(_) => return Err(JournalFault::Disk),
+    };
+    let mut header = match vec![in alloc; 0; text as usize + 12] {
+        Ok(header) => header,
+        Err(_) => return Err(JournalFault::Memory),
+    };
+    match has_digest(disk, &mut header) {
+        Ok(has) => Ok(has),
+        Err(_) => Err(JournalFault::Disk),
+    }
+}
+
+/// The length of the text in a header, if the header can be whole.
+fn text_length<D: Disk>(disk: &mut D, size: u64) -> Result<Option<u32>, DiskFault>
+    requires size { D.is_honest disk.old → size ≡ length (D.state disk.old).bytes }
+    ensures told { D.is_honest disk.old → IfOk result (λ found. found
+        ≡ (if can_have_header (D.state disk.old).bytes then Some (text_length (D.state disk.old).bytes)
+        else None)) }
+    ensures short { IfOk result (λ found. IfSome found (λ text. text ≤ 65536)) }
+    ensures same { D.is_honest disk.old → D.state disk.new ≡ D.state disk.old }
+    ensures honest { D.is_honest disk.old ↔ D.is_honest disk.new }
+    ensures faults { D.faults disk.new ≡ counted result (D.faults disk.old) }
+{
+    if size < 13 {
+        return Ok(None);
+    }
+    let mut magic = [0; 8];
+    disk.read(1, &mut magic)?;
+    let mut digits = [0; 4];
+    disk.read(9, &mut digits)?;
+    let text = u32::from_be_bytes(digits);
+    let is_ours = magic == MAGIC;
+    if !is_ours {
+        return Ok(None);
+    }
+    if text > 65_536 {
+        return Ok(None);
+    }
+    if size < u64::from(text) + 46 {
+        return Ok(None);
+    }
+    Ok(Some(text))
+}
+
+/// Whether the digest of a header that fills these bytes stands behind it.
+fn has_digest<D: Disk>(disk: &mut D, header: &mut [u8]) -> Result<bool, DiskFault>
+    requires within { D.is_honest disk.old → length header.old + 33 ≤ length (D.state disk.old).bytes }
+    requires bound { length header.old ≤ 65548 }
+    ensures told { D.is_honest disk.old → IfOk result (λ has. has ≡ bytes_eq
+        (sha256 (slice_range (D.state disk.old).bytes 1 (length header.old + 1)))
+        (slice_range (D.state disk.old).bytes (length header.old + 1) (length header.old + 33))) }
+    ensures same { D.is_honest disk.old → D.state disk.new ≡ D.state disk.old }
+    ensures honest { D.is_honest disk.old ↔ D.is_honest disk.new }
+    ensures faults { D.faults disk.new ≡ counted result (D.faults disk.old) }
+{
+    disk.read(1, header)?;
+    let mut digest = [0; 32];
+    disk.read(header.len() as u64 + 1, &mut digest)?;
+    Ok(digest_of(header) == digest)
+}

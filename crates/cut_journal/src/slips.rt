@@ -1,0 +1,96 @@
+ghost use Rattle.std.specs.Prelude.{ℕ, ◌≡◌, ◌+◌, ◌*◌, ◌<◌, ◌≤◌, ◌^◌, ◌↔◌, false, length, IfOk, IfErr, IfSome, IsTrue};
+ghost use Rattle.cut_journal.specs.File.{gate_place};
+ghost use Rattle.cut_journal.specs.Reading.{is_of_plan, slips_reading};
+ghost use Rattle.cut_journal.specs.Journal.{disk_faults};
+ghost use Rattle.cut_journal.specs.Steps.{IsNext, IsSlipFault, AreWhole};
+
+use crate::JournalFault;
+use crate::file::{Gate, SLIP_BYTES, Study};
+use crate::look::read_gate;
+use cut_disks::Disk;
+use cut_ledger::Slip;
+use std::alloc::Global;
+
+/// The slips of a study, and the gate behind them.
+#[derive(Drop)]
+pub(crate) struct Slips {
+    /// The slips.
+    pub slips: Vec<Slip>,
+    /// The gate behind the last of them.
+    pub gate: Gate,
+}
+
+/// Reads the slips of a study, whose file has this length, up to the first closed gate.
+pub(crate) fn read_slips<D: Disk>(
+    alloc: Global,
+    disk: &mut D,
+    study: &Study,
+    size: u64,
+) -> Result<Slips, JournalFault>
+    requires within { gate_place study.now 0 < size }
+    requires bound { size < 2 ^ 63 }
+    requires size { D.is_honest disk.old → size ≡ length (D.state disk.old).bytes }
+    requires front { D.is_honest disk.old → IsTrue (is_of_plan study.now (D.state disk.old).bytes) }
+    ensures told { D.is_honest disk.old →
+        IfOk result (λ found. slips_reading study.now (D.state disk.old).bytes ≡ Ok found.slips.items) }
+    ensures refused { D.is_honest disk.old →
+        IfErr result (λ e. (number : ℕ) → e ≡ JournalFault.Damaged number
+        → slips_reading study.now (D.state disk.old).bytes ≡ Err e) }
+    ensures faults_told { IfErr result IsSlipFault }
+    ensures number { IfOk result (λ found. found.gate.number ≡ length found.slips.items) }
+    ensures place { IfOk result (λ found. found.gate.place ≡ gate_place study.now found.gate.number) }
+    ensures bound { IfOk result (λ found. found.gate.place < 2 ^ 63) }
+    ensures same { D.is_honest disk.old → D.state disk.new ≡ D.state disk.old }
+    ensures honest { D.is_honest disk.old ↔ D.is_honest disk.new }
+    ensures faults { D.faults disk.new ≡ disk_faults result (D.faults disk.old) }
+{
+    let mut slips = Vec::new(alloc);
+    let mut gate = study.first_gate();
+    while let Some(slip) = next_slip(disk, study, gate, size)? {
+        match slips.push(slip) {
+            Ok(()) => {}
+            Err(_) => return Err(JournalFault::Memory),
+        }
+        gate = Gate {
+            number: gate.number + 1,
+            place: gate.place + SLIP_BYTES,
+        };
+    }
+    Ok(Slips { slips, gate })
+}
+
+/// Reads the slip behind a gate, if that is open.
+fn next_slip<D: Disk>(
+    disk: &mut D,
+    study: &Study,
+    gate: Gate,
+    size: u64,
+) -> Result<Option<Slip>, JournalFault>
+    requires place { gate.place ≡ gate_place study.now gate.number }
+    requires within { gate.place < size }
+    requires bound { size < 2 ^ 63 }
+    requires size { D.is_honest disk.old → size ≡ length (D.state disk.old).bytes }
+    ensures told { D.is_honest disk.old → IsNext result study.now (D.state disk.old).bytes gate.number }
+    ensures faults_told { IfErr result IsSlipFault }
+    ensures reach { IfOk result (λ slip. IfSome slip (λ s. gate.place + 105 < size)) }
+    ensures same { D.is_honest disk.old → D.state disk.new ≡ D.state disk.old }
+    ensures honest { D.is_honest disk.old ↔ D.is_honest disk.new }
+    ensures faults { D.faults disk.new ≡ disk_faults result (D.faults disk.old) }
+{
+    match read_gate(disk, gate.place) {
+        Ok(true) => {}
+        Ok(false) => return Ok(None),
+        Err(_) => return Err(JournalFault::Disk),
+    }
+    if size - gate.place <= SLIP_BYTES {
+        return Err(JournalFault::Damaged(gate.number + 1));
+    }
+    let mut body = [0; 104];
+    if disk.read(gate.place + 1, &mut body).is_err() {
+        return Err(JournalFault::Disk);
+    }
+    match study.slip_in(&body) {
+        Some(slip) => Ok(Some(slip)),
+        None => Err(JournalFault::Damaged(gate.number + 1)),
+    }
+}
