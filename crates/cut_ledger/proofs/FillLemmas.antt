@@ -1,7 +1,7 @@
 -- The pieces that a ledger lacks, added one after another.
-use Rattle.std.proofs.Common.{◌≡◌, ℕ, zero, suc, ◌+◌, ◌*◌, ◌<◌, ◌≤◌, ◌==◌, ◌&&◌, ◌||◌, inl, inr, Bool, true, false, not, cond, List, [], ◌∷◌, ◌++◌, Some, filter, fold, length, take, drop, get_or, slice_get, nat_lt, nat_le, refl, sym, ap, subst, ◌∙◌, arith, zero-add}
+use Rattle.std.proofs.Common.{◌≡◌, ℕ, zero, suc, ◌+◌, ◌*◌, ◌<◌, ◌≤◌, ◌==◌, ◌&&◌, ◌||◌, inl, inr, Bool, true, false, not, cond, List, [], ◌∷◌, ◌++◌, Some, filter, length, take, drop, slice_get, nat_lt, nat_le, refl, sym, ap, ◌∙◌, arith, zero-add}
 use Rattle.std.specs.Prelude.{count_by, slice_index_or}
-use Rattle.std.specs.List.{range_with_len, flat_map, list_any, list_all, AllByRecursion}
+use Rattle.std.specs.List.{range_with_len, flat_map, list_any, list_all}
 use Rattle.std.proofs.Math.Seq.{split_at}
 use Rattle.std.proofs.lemmas.Bool.{and_parts, or_cases, cases_lt, eqb-true, lt-ltb, le-leb, le-ltb, ltb-true}
 use Rattle.std.proofs.lemmas.Bool.Decides.{nat_tests}
@@ -13,18 +13,18 @@ use Rattle.cut_plan.specs.Plan.{IsPlan}
 use Rattle.cut_trial.specs.declared.piece.Piece.{Piece}
 use Rattle.cut_trial.specs.Sum.{trials_in}
 use Rattle.cut_lists.proofs.Counts.{list_any-count_by}
-use Rattle.cut_lists.proofs.Intervals.{list_all_passing, passes_at, within_is}
+use Rattle.cut_lists.proofs.Intervals.{list_all_passing, map_agree, passes_at, within_is}
 use Rattle.cut_lists.proofs.Parts.{count_first, count_parts}
 use Rattle.cut_lists.proofs.Ranks.{count_by_none}
 use Rattle.cut_lists.proofs.Ranges.{AgreeOn, count_by_agree, list_any_none_passing, All-range_with_len}
 use Rattle.cut_lines.specs.Lines.{table}
 use Rattle.cut_ledger.specs.declared.slip.Slip.{Slip}
-use Rattle.cut_ledger.specs.Contents.{Contents, has, held_where, is_in, is_in_base, over_base, with_piece, overlaps, cell_done, is_complete, all_trials}
+use Rattle.cut_ledger.specs.Contents.{Contents, has, held_where, is_in, is_in_base, over_base, filled, with_piece, overlaps, cell_done, is_complete, all_trials}
 use Rattle.cut_ledger.specs.Gaps.{pieces_of}
 use Rattle.cut_ledger.specs.Laws.{with_pieces, AreFilling}
-use Rattle.cut_ledger.specs.Machine.{available}
+use Rattle.cut_ledger.specs.Machine.{available, table_over}
 use Rattle.cut_ledger.specs.Reached.{IsFounded}
-use Rattle.cut_ledger.specs.World.{IsTrueSlip, pieces_of_slips, times_in}
+use Rattle.cut_ledger.specs.World.{AreTrue, times_in}
 use Rattle.cut_ledger.proofs.CoverLemmas.{pieces_cover}
 use Rattle.cut_ledger.proofs.Law.{held_at, times-append}
 use Rattle.cut_ledger.proofs.LawBytes.{available_whole, in_plan}
@@ -117,22 +117,14 @@ has_more l (p ∷ ps) t low =
     ∙ ap (λ b. b || list_any (λ q. is_in q t) ps) (held_at l.plan (λ k. has l k || is_in p k) t ∙ ap (λ b. b && (has l t || is_in p t)) (lt-ltb t (trial_count l.plan) low))
     ∙ or_assoc (has l t) (is_in p t) (list_any (λ q. is_in q t) ps)
 
--- the plan stays, and so does the base
+-- the plan stays
 plan_stays : (l : Contents) (ps : List Piece) → (with_pieces l ps).plan ≡ l.plan
 plan_stays l [] = refl
 plan_stays l (p ∷ ps) = plan_stays (with_piece l p) ps
 
-base_stays : (l : Contents) (ps : List Piece) → (with_pieces l ps).base ≡ l.base
-base_stays l [] = refl
-base_stays l (p ∷ ps) = base_stays (with_piece l p) ps
-
 -- only trials of the plan are held
 held_in_plan : (v : Values) (test : ℕ → Bool) (t : ℕ) → slice_index_or (held_where v test) t false ≡ true → t < trial_count v
 held_in_plan v test t held = ltb-true t (trial_count v) (and_parts (nat_lt t (trial_count v)) (test t) (sym (held_at v test t) ∙ held)).0
-
-within : (v : Values) (l : Contents) (ps : List Piece) → l.plan ≡ v → ((t : ℕ) → has l t ≡ true → t < trial_count v) → (t : ℕ) → has (with_pieces l ps) t ≡ true → t < trial_count v
-within v l [] is old t held = old t held
-within v l (p ∷ ps) is old t held = within v (with_piece l p) ps is (λ k at. rw is at (held_in_plan l.plan (λ i. has l i || is_in p i) k at)) t held
 
 -- ---- the pieces
 
@@ -209,22 +201,48 @@ complete l size some =
         ∙ ap (nat_lt 0) (times_free l size t some low free)
 
 pub pieces_fill : (l : Contents) (size : ℕ) → 1 ≤ size → AreFilling l (pieces_of l size)
-pieces_fill l size some = record { apart = λ i p at. apart l size i p some at; complete = complete l size some }
+pieces_fill l size some = record {
+  plan = λ i. plan_stays l (take i (pieces_of l size));
+  apart = λ i p at. apart l size i p some at;
+  complete = complete l size some;
+}
 
--- and over true slips what can be written is the table
-pub filled_tell : (v : Values) (ss : List Slip) (size : ℕ) → 1 ≤ size → IsPlan v → AllByRecursion (IsTrueSlip v) ss → ((t : ℕ) → times_in (pieces_of_slips ss) t ≤ 1)
-    → available (with_pieces (over_base v ss) (pieces_of (over_base v ss) size)) ≡ table v
-filled_tell v ss size some plan true_slips are_apart =
-    let l : Contents = over_base v ss in
-    let ps : List Piece = pieces_of l size in
-    let founded : IsFounded v (with_pieces l ps) = record {
-      plan = plan_stays l ps;
+-- ---- what can be written then
+
+-- a ledger to which pieces were added holds the trials that pass some test
+holds_some : (v : Values) (ss : List Slip) (f : ℕ → Bool) (ps : List Piece)
+    → (g : ℕ → Bool) × (with_pieces (record { plan = v; base = ss; held = held_where v f }) ps ≡ record { plan = v; base = ss; held = held_where v g })
+holds_some v ss f [] = (f, refl)
+holds_some v ss f (p ∷ ps) = holds_some v ss (λ t. has (record { plan = v; base = ss; held = held_where v f }) t || is_in p t) ps
+
+-- where it holds every trial, it is the one that does
+filled_is : (v : Values) (ss : List Slip) (g : ℕ → Bool) → is_complete (record { plan = v; base = ss; held = held_where v g }) ≡ true
+    → held_where v g ≡ held_where v (λ t. true)
+filled_is v ss g all = map_agree g (λ t. true) 0 (trial_count v) (λ t from to.
+    (let low : t < trial_count v = omega (arith, to) in
+    let held : has (record { plan = v; base = ss; held = held_where v g }) t ≡ true =
+    passes_at (has (record { plan = v; base = ss; held = held_where v g })) 0 (trial_count v) all t (omega arith) (omega (arith, low)) in
+    sym (ap (λ b. b && g t) (lt-ltb t (trial_count v) low)) ∙ sym (held_at v g t) ∙ held))
+
+pub filled_tell : (v : Values) (ss : List Slip) (size : ℕ) → 1 ≤ size → available (with_pieces (over_base v ss) (pieces_of (over_base v ss) size)) ≡ table_over v ss
+filled_tell v ss size some =
+    let ps : List Piece = pieces_of (over_base v ss) size in
+    let found = holds_some v ss (is_in_base ss) ps in
+    let all : is_complete (record { plan = v; base = ss; held = held_where v found.0 }) ≡ true = ap is_complete (sym found.1) ∙ complete (over_base v ss) size some in
+    ap available found.1 ∙ ap (λ (held : List Bool). available (record { plan = v; base = ss; held = held })) (filled_is v ss found.0 all)
+
+-- over true slips it is the table of the plan
+pub true_tell : (v : Values) (ss : List Slip) → IsPlan v → AreTrue v ss → table_over v ss ≡ table v
+true_tell v ss plan are =
+    let l : Contents = filled v ss in
+    let founded : IsFounded v l = record {
+      plan = refl;
       some = plan.some_repeats;
-      within = within v l ps refl (λ t held. held_in_plan v (is_in_base ss) t held);
-      base = subst (AllByRecursion (IsTrueSlip v)) (sym (base_stays l ps)) true_slips;
-      apart = λ t. subst (λ (xs : List Slip). times_in (pieces_of_slips xs) t ≤ 1) (sym (base_stays l ps)) (are_apart t);
+      within = λ t here. held_in_plan v (λ k. true) t here;
+      base = are.each;
+      apart = are.apart;
     } in
-    available_whole v (with_pieces l ps) founded (complete l size some)
+    available_whole v l founded (list_all_passing (has l) 0 (trial_count v) (λ t from to. held_at v (λ k. true) t ∙ ap (λ b. b && true) (lt-ltb t (trial_count v) (omega (arith, to)))))
 
 -- where every trial is held every cell is done
 pub complete_is_done : (l : Contents) → is_complete l ≡ true → (c : ℕ) → c < length (cells_of l.plan) → cell_done l c ≡ true

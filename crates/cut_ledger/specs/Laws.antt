@@ -1,6 +1,6 @@
 -- Laws of gaps, of the pieces that they are cut into, and of plans that are the same.
-use Rattle.std.specs.Prelude.{◌≡◌, ℕ, ◌<◌, ◌≤◌, ◌↔◌, not, filter, List, Some, fold, length, take, slice_get, true, false, IsTrue}
-use Rattle.std.specs.List.{flat_map, AllByRecursion}
+use Rattle.std.specs.Prelude.{◌≡◌, ℕ, ◌<◌, ◌≤◌, ◌↔◌, not, filter, List, [], Some, fold, length, take, slice_get, true, false, IsTrue}
+use Rattle.std.specs.List.{flat_map}
 use Rattle.cut_plan.specs.Cells.{cells_of}
 use Rattle.cut_plan.specs.Plan.{IsPlan}
 use Rattle.cut_plan.specs.Values.{Values}
@@ -10,9 +10,10 @@ use Rattle.cut_lines.specs.Lines.{table}
 use Rattle.cut_ledger.specs.declared.slip.Slip.{Slip}
 use Rattle.cut_ledger.specs.Contents.{Contents, has, all_trials, over_base, with_piece, overlaps, cell_done, is_complete}
 use Rattle.cut_ledger.specs.Gaps.{gaps_of, pieces_of}
-use Rattle.cut_ledger.specs.Machine.{available}
+use Rattle.cut_ledger.specs.Machine.{available, table_over}
 use Rattle.cut_ledger.specs.Refusals.{is_same_plan}
-use Rattle.cut_ledger.specs.World.{IsTrueSlip, pieces_of_slips, times_in}
+use Rattle.cut_ledger.specs.Slips.{AreGood}
+use Rattle.cut_ledger.specs.World.{AreTrue}
 
 -- the gaps, trial by trial, are the trials that are not held: each once, ascending
 abbrev pub GapsCover : Type 0
@@ -32,8 +33,10 @@ SamePlansAreEqual = (a b : Values) → IsPlan a → IsPlan b → IsTrue (is_same
 abbrev pub with_pieces : Contents → List Piece → Contents
 with_pieces l ps = fold with_piece l ps
 
--- pieces that can be added in their order, each of them free of those before it, and that hold every trial then
+-- pieces that can be added in their order, each of them free of those before it, and that hold every trial then;
+-- the plan stays
 pub record AreFilling (l : Contents) (ps : List Piece) : Type 0 where
+  pub plan : (i : ℕ) → (with_pieces l (take i ps)).plan ≡ l.plan
   pub apart : (i : ℕ) (p : Piece) → slice_get ps i ≡ Some p → overlaps (with_pieces l (take i ps)) p ≡ false
   pub complete : is_complete (with_pieces l ps) ≡ true
 
@@ -41,12 +44,23 @@ pub record AreFilling (l : Contents) (ps : List Piece) : Type 0 where
 abbrev pub PiecesFill : Type 0
 PiecesFill = (l : Contents) (size : ℕ) → 1 ≤ size → AreFilling l (pieces_of l size)
 
--- and where they are added to true slips that are apart, or to none, what can be written is the table
-abbrev pub FilledTellTheTable : Type 0
-FilledTellTheTable =
-    (v : Values) (ss : List Slip) (size : ℕ) → 1 ≤ size → IsPlan v → AllByRecursion (IsTrueSlip v) ss
-    → ((t : ℕ) → times_in (pieces_of_slips ss) t ≤ 1)
-    → available (with_pieces (over_base v ss) (pieces_of (over_base v ss) size)) ≡ table v
+-- and what can be written then is the table over the ledger's slips
+abbrev pub FilledTellTheirTable : Type 0
+FilledTellTheirTable =
+    (v : Values) (ss : List Slip) (size : ℕ) → 1 ≤ size
+    → available (with_pieces (over_base v ss) (pieces_of (over_base v ss) size)) ≡ table_over v ss
+
+-- slips that are true and apart are good ones to begin a ledger with
+abbrev pub TrueSlipsAreGood : Type 0
+TrueSlipsAreGood = (v : Values) (ss : List Slip) → AreTrue v ss → AreGood v ss
+
+-- and the table over them is the table of the plan
+abbrev pub TrueSlipsTellTheTable : Type 0
+TrueSlipsTellTheTable = (v : Values) (ss : List Slip) → IsPlan v → AreTrue v ss → table_over v ss ≡ table v
+
+-- no slips are true ones
+abbrev pub NoSlipsAreTrue : Type 0
+NoSlipsAreTrue = (v : Values) → AreTrue v []
 
 -- where every trial of a ledger is held, every cell is done
 abbrev pub CompleteIsDone : Type 0

@@ -68,6 +68,11 @@ pub record IsTrueSlip (v : Values) (s : Slip) : Type 0 where
   pub piece : IsTrue (is_piece v s.piece)
   pub totals : s.totals ≡ sum_of v (trials_in s.piece)
 
+-- slips that are true, and no trial is in two of them
+pub record AreTrue (v : Values) (ss : List Slip) : Type 0 where
+  pub each : AllByRecursion (IsTrueSlip v) ss
+  pub apart : (t : ℕ) → times_in (pieces_of_slips ss) t ≤ 1
+
 -- the result of an event is one of a piece of its own plan, as every `PieceResult` is
 abbrev pub HasTrueResult : Event → Type 0
 HasTrueResult (HandIn r) = IsPlan r.plan × IsTrue (is_piece r.plan r.piece)

@@ -5,12 +5,15 @@ ghost use Rattle.std.specs.Prelude.{ℕ, Bool, List};
 ghost use Rattle.std.specs.List.{AllByRecursion};
 ghost use Rattle.cut_plan.specs.Values.{Values};
 ghost use Rattle.cut_plan.specs.Plan.{IsPlan};
-ghost use Rattle.cut_ledger.specs.Laws.{GapsCover, PiecesCover, SamePlansAreEqual, PiecesFill, CompleteIsDone, FilledTellTheTable};
+ghost use Rattle.cut_ledger.specs.Laws.{GapsCover, PiecesCover, SamePlansAreEqual};
+ghost use Rattle.cut_ledger.specs.Laws.{PiecesFill, CompleteIsDone, FilledTellTheirTable};
+ghost use Rattle.cut_ledger.specs.Laws.{TrueSlipsAreGood, TrueSlipsTellTheTable, NoSlipsAreTrue};
 ghost use Rattle.cut_ledger.specs.declared.event.Event.{Event};
 ghost use Rattle.cut_ledger.specs.Machine.{start};
 ghost use Rattle.cut_ledger.specs.World.{begun, run, HasTrueResult, IsRight, TellAlike};
 
 use cut_plan::canonical_text_reads_back;
+use cut_trial::laws::pieces_have_possible_totals;
 
 /// The gaps, and the pieces of any size that they are cut into, have exactly the trials that are not held,
 /// each of them once.
@@ -20,13 +23,24 @@ pub fn gaps_are_what_is_not_held()
 {}
 
 /// The pieces of any size that a ledger lacks can be added in their order: none of them meets one before it,
-/// and then every trial is held and every cell is done. Where the ledger began with true slips, or with none,
-/// the whole table of its plan can be written then.
+/// and then every trial is held and every cell is done. What can be written then is the table over the slips
+/// that the ledger began with.
 pub fn pieces_fill_a_ledger()
     ensures fill { PiecesFill }
     ensures done { CompleteIsDone }
-    ensures table { FilledTellTheTable }
+    ensures table { FilledTellTheirTable }
 {}
+
+/// Slips that are true, no trial of which is in two, are good ones to begin a ledger with, and the table over
+/// them is the table of the plan: so a study that is resumed from such slips, or from none, tells what a study
+/// does that ran at once.
+pub fn true_slips_tell_the_table()
+    ensures good { TrueSlipsAreGood }
+    ensures table { TrueSlipsTellTheTable }
+    ensures none { NoSlipsAreTrue }
+{
+    pieces_have_possible_totals();
+}
 
 /// Plans are told apart by their canonical texts, and a plan can be read back from its own: so plans that
 /// are the same are equal in every value.

@@ -172,6 +172,7 @@ impl Ledger {
     pub fn reserve(&mut self, cell: u32) -> Result<(), AllocError>
         requires { cell < length (cells_of self.old.contents.plan) }
         ensures ok { OnOk result (self.new ≡ record self.old { room = slice_set self.old.room cell true }) }
+        ensures room { OnOk result (IsTrue (has_room self.new cell)) }
         ensures err { OnErr result (self.new ≡ self.old) }
     {
         self.cells[cell as usize].trials.reserve()

@@ -1,6 +1,6 @@
 -- Only the room of one cell changes.
-use Rattle.std.proofs.Common.{◌≡◌, ◌<◌, true, Result, Ok, Err, length, refl, ap, subst, arith}
-use Rattle.std.proofs.lemmas.List.{get_or_read}
+use Rattle.std.proofs.Common.{◌≡◌, ◌∙◌, ◌<◌, true, false, Result, Ok, Err, length, set, refl, ap, subst, arith}
+use Rattle.std.proofs.lemmas.List.{get_or_read, get_or-map, get_or-set_same, length-set}
 use Rattle.std.proofs.lemmas.Result.{on_ok_weaker}
 use Rattle.cut_ledger.specs.Kept.{cell_at}
 use Rattle.cut_ledger.proofs.Words.{Kept, OnErr, OnOk, Spread, Totals, no_cell}
@@ -30,3 +30,14 @@ returns-clause-ok c =
     let low = rw (← c.self.view_is) at c.requires in
     let made = room_made c.self.inside.plan c.self.inside.base c.self.inside.cells.items c.args.cell (record { trials = c.reserve.new.self; totals = c.index_mut.result.now.totals }) (omega (arith, c.self.invariant.long)) (alike c) in
     rw (← c.self.view_is) (on_ok_weaker c.reserve.result (λ e. made (ap (λ s. s.room) e)) c.reserve.ensures.ok)
+
+pub returns-clause-room : goal.returns-clause-room
+returns-clause-room c =
+    let low = rw (← c.self.view_is) at c.requires in
+    let cells = c.self.inside.cells.items in
+    let within : c.args.cell < length cells = omega (arith, c.self.invariant.long) in
+    let new : Kept = record { trials = c.reserve.new.self; totals = c.index_mut.result.now.totals } in
+    let there : c.args.cell < length (set cells c.args.cell new) = omega (arith, within, length-set cells c.args.cell new) in
+    on_ok_weaker c.reserve.result
+    (λ e. get_or-map (λ (k : Kept). k.trials.room) (set cells c.args.cell new) c.args.cell no_cell false there
+    ∙ ap (λ (k : Kept). k.trials.room) (get_or-set_same cells c.args.cell new no_cell within) ∙ ap (λ (s : Spread). s.room) e) c.reserve.ensures.ok
