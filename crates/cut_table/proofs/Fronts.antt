@@ -16,10 +16,10 @@ use Rattle.cut_lines.specs.Lines.{header}
 use Rattle.cut_ledger.specs.Contents.{Contents, cell_done}
 use Rattle.cut_ledger.specs.Machine.{available}
 use Rattle.std.specs.Prelude.{Err}
-use Rattle.cut_table.specs.declared.fault.TableFault.{TableFault}
-use Rattle.cut_table.specs.declared.fault.TableFault.TheVariants.{Memory, NotDone, Write}
-use Rattle.cut_table.specs.Traffic.{Traffic, wrote}
-use Rattle.cut_table.specs.Table.{row_of, Emits, IsEnded, IsWriteBetween, SendsAfter}
+use Rattle.cut_table.specs.declared.send.Sent.{Sent}
+use Rattle.cut_table.specs.declared.fault.TableFault.TheVariants.{Write}
+use Rattle.cut_table.specs.Traffic.{Traffic, wrote, IsSentBetween, SendsAfter}
+use Rattle.cut_table.specs.Table.{row_of, Emits, IsEnded}
 
 -- the header and the lines of the first n cells
 abbrev pub front_of : Contents → ℕ → List ℕ
@@ -112,25 +112,21 @@ wrote_more old mid new front line before is = is ∙ ap (λ (t : Traffic). wrote
     ∙ wrote_twice old front line
 
 -- a write of a line that failed
-pub cut_off : (l : Contents) (front line rest : List ℕ) (before : ℕ) (e : TableFault) (old mid new : Traffic)
+pub cut_off : (l : Contents) (front line rest : List ℕ) (before : ℕ) (part : Sent) (old mid new : Traffic)
     → available l ≡ (front ++ line) ++ rest → before ≡ length front
-    → IsWriteBetween before (before + length line) e
-    → mid ≡ wrote old front → SendsAfter before (Err e) line mid new → Emits l (Err e) old new
-cut_off l front line rest before (Memory n) old mid new whole long between first sends = absurd between
-cut_off l front line rest before (NotDone n) old mid new whole long between first sends = absurd between
-cut_off l front line rest before (Write n) old mid new whole long between first sends =
-    wrote_more old mid new front (take (n - before) line) first sends
+    → IsSentBetween before (before + length line) part
+    → mid ≡ wrote old front → SendsAfter before (Err part) line mid new → Emits l (Err (Write part.bytes)) old new
+cut_off l front line rest before part old mid new whole long between first sends =
+    wrote_more old mid new front (take (part.bytes - before) line) first sends
     ∙ ap (λ (xs : List ℕ). wrote old xs)
-    (sym (take_more (available l) front line rest before n whole long between.0 between.1))
+    (sym (take_more (available l) front line rest before part.bytes whole long between.0 between.1))
 
 -- it was before the last byte
-pub cut_short : (l : Contents) (front line rest : List ℕ) (before : ℕ) (e : TableFault)
+pub cut_short : (l : Contents) (front line rest : List ℕ) (before : ℕ) (part : Sent)
     → available l ≡ (front ++ line) ++ rest → before ≡ length front
-    → IsWriteBetween before (before + length line) e
-    → IsEnded l (Err e)
-cut_short l front line rest before (Memory n) whole long between = absurd between
-cut_short l front line rest before (NotDone n) whole long between = absurd between
-cut_short l front line rest before (Write n) whole long between =
+    → IsSentBetween before (before + length line) part
+    → IsEnded l (Err (Write part.bytes))
+cut_short l front line rest before part whole long between =
     let size = length-append front line in
     let all = length-append (front ++ line) rest in
     omega (arith, between.1, long, ap (λ xs. length xs) whole, all, size)

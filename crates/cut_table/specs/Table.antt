@@ -1,5 +1,5 @@
 -- What is written of a table, from a ledger.
-use Rattle.std.specs.Prelude.{◌≡◌, ◌<◌, ◌≤◌, ◌-◌, ℕ, true, false, List, length, take, Result, Ok, Err, ⊤}
+use Rattle.std.specs.Prelude.{◌≡◌, ◌<◌, ◌≤◌, ℕ, true, false, List, length, take, Result, Ok, Err, ⊤}
 use Rattle.cut_plan.specs.Cells.{cells_of}
 use Rattle.cut_lines.specs.Lines.{line_with}
 use Rattle.cut_ledger.specs.Contents.{Contents, cell_done, cell_sum}
@@ -49,17 +49,3 @@ Emits l (Err (Memory sent)) old new = new ≡ wrote old (take sent (available l)
 abbrev pub failed_writes : Result ⊤ TableFault → Failed → Failed
 failed_writes (Err (Write sent)) f = write_failed f
 failed_writes result f = f
-
--- ---- inside
-
--- a failed write after so many bytes, not below low and below high
-abbrev pub IsWriteBetween : ℕ → ℕ → TableFault → Type 0
-IsWriteBetween low high (Write n) = (low ≤ n) × (n < high)
-IsWriteBetween low high fault = ⊥
-
--- bytes were sent after so many others: all of them, or as many of the first as the told number is above
--- those
-abbrev pub SendsAfter : ℕ → Result ℕ TableFault → List ℕ → Traffic → Traffic → Type 0
-SendsAfter before (Ok n) bytes old new = new ≡ wrote old bytes
-SendsAfter before (Err (Write n)) bytes old new = new ≡ wrote old (take (n - before) bytes)
-SendsAfter before (Err fault) bytes old new = ⊥

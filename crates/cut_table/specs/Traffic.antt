@@ -1,5 +1,5 @@
 -- What passes over a wire, by its calls.
-use Rattle.std.specs.Prelude.{◌≡◌, ◌+◌, ◌-◌, ◌^◌, ◌<◌, ◌==◌, ℕ, List, [], ◌++◌, length, min, take}
+use Rattle.std.specs.Prelude.{◌≡◌, ◌+◌, ◌-◌, ◌^◌, ◌<◌, ◌≤◌, ◌==◌, ℕ, List, [], ◌++◌, length, min, take}
 use Rattle.std.specs.Prelude.{Result, Ok, Err, ⊤, if◌then◌else◌}
 use Rattle.cut_faults.specs.Failures.{one_more}
 use Rattle.cut_table.specs.declared.send.Sent.{Sent}
@@ -40,6 +40,16 @@ Reads (Err e) buffer old new = new ≡ old
 abbrev pub Sends : Result ⊤ Sent → List ℕ → Traffic → Traffic → Type 0
 Sends (Ok done) bytes old new = new ≡ wrote old bytes
 Sends (Err sent) bytes old new = (new ≡ wrote old (take sent.bytes bytes)) × (sent.bytes < length bytes)
+
+-- so many bytes were sent, not fewer than low and fewer than high
+abbrev pub IsSentBetween : ℕ → ℕ → Sent → Type 0
+IsSentBetween low high sent = (low ≤ sent.bytes) × (sent.bytes < high)
+
+-- bytes were written behind so many others: all of them, or as many of the first as the told number is above
+-- those
+abbrev pub SendsAfter : ℕ → Result ℕ Sent → List ℕ → Traffic → Traffic → Type 0
+SendsAfter before (Ok n) bytes old new = new ≡ wrote old bytes
+SendsAfter before (Err sent) bytes old new = new ≡ wrote old (take (sent.bytes - before) bytes)
 
 -- ---- calls that fail
 

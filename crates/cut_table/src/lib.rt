@@ -15,7 +15,7 @@ mod wire;
 pub use fault::{RowFault, TableFault};
 pub use faulty_wire::FaultyWire;
 pub use memory_wire::MemoryWire;
-pub use send::{Sent, send_all};
+pub use send::{Sent, send_after, send_all};
 pub use table::{emit_table, row};
 pub use wire::{Wire, WireFault};
 

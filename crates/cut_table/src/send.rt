@@ -1,5 +1,5 @@
-ghost use Rattle.std.specs.Prelude.{◌≡◌, ◌<◌, ◌↔◌, length, IfErr};
-ghost use Rattle.cut_table.specs.Traffic.{Sends, after_write};
+ghost use Rattle.std.specs.Prelude.{◌≡◌, ◌+◌, ◌^◌, ◌<◌, ◌↔◌, length, IfOk, IfErr};
+ghost use Rattle.cut_table.specs.Traffic.{Sends, SendsAfter, IsSentBetween, after_write};
 
 use crate::Wire;
 
@@ -26,4 +26,23 @@ pub fn send_all<W: Wire>(wire: &mut W, bytes: &[u8]) -> Result<(), Sent>
         }
     }
     Ok(())
+}
+
+/// Writes all the bytes behind so many that were sent before, and tells how many are sent then, also where a
+/// write fails.
+pub fn send_after<W: Wire>(wire: &mut W, sent: u64, bytes: &[u8]) -> Result<u64, Sent>
+    requires { sent + length bytes.now < 2 ^ 64 }
+    ensures ok { IfOk result (λ n. n ≡ sent + length bytes.now) }
+    ensures err { IfErr result (λ part. IsSentBetween sent (sent + length bytes.now) part) }
+    ensures told { W.tells wire.old →
+        SendsAfter sent result bytes.now (W.traffic wire.old) (W.traffic wire.new) }
+    ensures tells { W.tells wire.old ↔ W.tells wire.new }
+    ensures faults { W.faults wire.new ≡ after_write result (W.faults wire.old) }
+{
+    match send_all(wire, bytes) {
+        Ok(()) => Ok(sent + bytes.len() as u64),
+        Err(part) => Err(Sent {
+            bytes: sent + part.bytes,
+        }),
+    }
 }

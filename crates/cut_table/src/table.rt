@@ -1,11 +1,9 @@
-ghost use Rattle.std.specs.Prelude.{◌≡◌, ◌+◌, ◌^◌, ◌<◌, ◌≤◌, ◌↔◌, true, length, IfOk, IfErr, OnOk};
+ghost use Rattle.std.specs.Prelude.{◌≡◌, ◌<◌, ◌≤◌, ◌↔◌, true, length, IfOk, IfErr, OnOk};
 ghost use Rattle.cut_plan.specs.Cells.{cells_of};
 ghost use Rattle.cut_ledger.specs.Contents.{cell_done};
-ghost use Rattle.cut_table.specs.Traffic.{after_write};
 ghost use Rattle.cut_table.specs.Table.{row_of, Emits, IsRowFault, IsEnded, failed_writes};
-ghost use Rattle.cut_table.specs.Table.{IsWriteBetween, SendsAfter};
 
-use crate::{RowFault, TableFault, Wire, send_all};
+use crate::{RowFault, TableFault, Wire, send_after};
 use cut_ledger::Ledger;
 use cut_lines::{cell_line, header};
 use std::alloc::Global;
@@ -35,30 +33,14 @@ pub fn emit_table<W: Wire>(alloc: Global, ledger: &Ledger, wire: &mut W) -> Resu
     ensures tells { W.tells wire.old ↔ W.tells wire.new }
     ensures faults { W.faults wire.new ≡ failed_writes result (W.faults wire.old) }
 {
-    let mut sent = send(wire, 0, header())?;
+    let mut sent = send_after(wire, 0, header())?;
     for cell in 0..ledger.plan().cells() {
         let line = match row(alloc, ledger, cell) {
             Ok(line) => line,
             Err(RowFault::NotDone(undone)) => return Err(TableFault::NotDone(undone)),
             Err(RowFault::Memory) => return Err(TableFault::Memory(sent)),
         };
-        sent = send(wire, sent, line.as_slice())?;
+        sent = send_after(wire, sent, line.as_slice())?;
     }
     Ok(())
-}
-
-/// Sends bytes after so many others, and tells how many are sent then.
-fn send<W: Wire>(wire: &mut W, sent: u64, bytes: &[u8]) -> Result<u64, TableFault>
-    requires { sent + length bytes.now < 2 ^ 64 }
-    ensures ok { IfOk result (λ n. n ≡ sent + length bytes.now) }
-    ensures err { IfErr result (λ e. IsWriteBetween sent (sent + length bytes.now) e) }
-    ensures told { W.tells wire.old →
-        SendsAfter sent result bytes.now (W.traffic wire.old) (W.traffic wire.new) }
-    ensures tells { W.tells wire.old ↔ W.tells wire.new }
-    ensures faults { W.faults wire.new ≡ after_write result (W.faults wire.old) }
-{
-    match send_all(wire, bytes) {
-        Ok(()) => Ok(sent + bytes.len() as u64),
-        Err(part) => Err(TableFault::Write(sent + part.bytes)),
-    }
 }

@@ -33,7 +33,7 @@ pub returns-in_err-sent-clause-told : goal.returns-in_err-sent-clause-told
 returns-in_err-sent-clause-told g c =
     let l : Contents = c.args.ledger.now.contents in
     let old : Traffic = g.W.Wire.traffic c.args.wire.now in
-    let new : Traffic = g.W.Wire.traffic c.send.new.wire in
+    let new : Traffic = g.W.Wire.traffic c.send_after.new.wire in
     let p = err_from_is_err_and c.from_residual.result c.from_residual.ensures.1 in
     let line : List ℕ = c.header.result.now in
     let whole = header_first l line c.header.ensures in
@@ -116,7 +116,7 @@ returns-in_err-sent-2-clause-told g c =
     let l : Contents = c.args.ledger.now.contents in
     let n : ℕ = c.loop-cell.cell in
     let old : Traffic = g.W.Wire.traffic c.args.wire.now in
-    let new : Traffic = g.W.Wire.traffic c.send-in-loop-cell.new.wire in
+    let new : Traffic = g.W.Wire.traffic c.send_after-in-loop-cell.new.wire in
     let p = err_from_is_err_and c.from_residual-in_err-sent-2.result
     c.from_residual-in_err-sent-2.ensures.1 in
     let line : List ℕ = c.as_slice.result.now in
@@ -179,7 +179,7 @@ loop-cell-preserved g c =
         c.in-Ok.ensures.short,
       );
       told = λ told. wrote_more (g.W.Wire.traffic c.args.wire.now) (g.W.Wire.traffic c.loop-cell.wire)
-          (g.W.Wire.traffic c.send-in-loop-cell.new.wire) (front_of l n) c.as_slice.result.now
+          (g.W.Wire.traffic c.send_after-in-loop-cell.new.wire) (front_of l n) c.as_slice.result.now
           (c.loop-cell.invariant.told told) (c.in_ok-sent-2.ensures.told (c.loop-cell.invariant.tells.0 told))
           ∙ ap (λ (xs : List ℕ). wrote (g.W.Wire.traffic c.args.wire.now) xs)
           (ap (λ xs. front_of l n ++ xs) line ∙ sym more);
