@@ -2,6 +2,7 @@
 use Rattle.std.specs.Prelude.{◌≡◌, ◌≢◌, ◌⊎◌, ℕ, List, [], Ok, Err, ⊤}
 use Rattle.cut_plan.specs.Values.{Values}
 use Rattle.cut_disks.specs.State.{DiskState, synced, Throughout}
+use Rattle.cut_ledger.specs.declared.slip.Slip.{Slip}
 use Rattle.cut_journal.specs.declared.fault.JournalFault.{JournalFault}
 use Rattle.cut_journal.specs.declared.fault.JournalFault.TheVariants.{Memory, Disk, NoStudy, OtherPlan, Damaged, Held}
 use Rattle.cut_journal.specs.Reading.{reading}
@@ -65,3 +66,34 @@ IsNotMade v Held old new = (reading v old.bytes ≢ Err NoStudy) × (new ≡ syn
 IsNotMade v Memory old new = new ≡ old
 IsNotMade v Disk old new = (reading v old.bytes ≡ Err NoStudy → IsBegun v old new) × (reading v old.bytes ≢ Err NoStudy → (new ≡ old) ⊎ (new ≡ synced old))
 IsNotMade v fault old new = ⊥
+
+-- ---- opening, whether there is a study or not
+
+-- the slips that are found: those that bytes say, or none where they say no study
+abbrev pub IsFoundOn : Values → List ℕ → List Slip → Type 0
+IsFoundOn v bytes slips = (reading v bytes ≡ Ok slips) ⊎ ((reading v bytes ≡ Err NoStudy) × (slips ≡ []))
+
+-- what bytes say where none is opened; want of memory and a failing disk say nothing of them, and no other fault
+-- comes
+abbrev pub IsOpenFault : Values → List ℕ → JournalFault → Type 0
+IsOpenFault v bytes Memory = ⊤
+IsOpenFault v bytes Disk = ⊤
+IsOpenFault v bytes OtherPlan = reading v bytes ≡ Err OtherPlan
+IsOpenFault v bytes (Damaged number) = reading v bytes ≡ Err (Damaged number)
+IsOpenFault v bytes fault = ⊥
+
+-- the faults of an opening, of whichever disk
+abbrev pub MayNotOpen : JournalFault → Type 0
+MayNotOpen Memory = ⊤
+MayNotOpen Disk = ⊤
+MayNotOpen OtherPlan = ⊤
+MayNotOpen (Damaged number) = ⊤
+MayNotOpen Held = ⊤
+MayNotOpen fault = ⊥
+
+-- what is on the disk at the end: as before, but for a first sync that made all sure; or, where there was no
+-- study, from the second sync on each crash at each moment leaves none, or one without slips
+abbrev pub IsOpening : Values → DiskState → DiskState → Type 0
+IsOpening v old new =
+    (new ≡ old) ⊎ ((new ≡ synced old)
+    ⊎ ((reading v old.bytes ≡ Err NoStudy) × Throughout (synced (synced old)) new (IsNewStudy v)))

@@ -9,7 +9,7 @@ use thiserror::Error;
 
 /// Why a journal was not opened, or did not take a slip. Printed, it is its number, its name and the slip's
 /// number.
-#[derive(Debug, Drop, Error)]
+#[derive(Debug, Drop, PartialEq, Eq, Error)]
 pub enum JournalFault {
     /// A growth of memory was refused.
     Memory,

@@ -4,8 +4,7 @@
 ghost use Rattle.cut_journal.specs.Laws.{AppendsFollow, CrashesBetweenCalls, CrashesInAppends, OpeningsFollow, OtherEventsFollow, ResumedSlipsAreGood};
 
 use cut_disks::Disk;
-use cut_ledger::laws::every_run_is_right;
-use cut_trial::laws::pieces_have_possible_totals;
+use cut_ledger::laws::{every_run_is_right, true_slips_tell_the_table};
 
 /// A crash is a resumption of the run, as the machine has it: whatever is left of the disk, between two calls
 /// or at any moment of an append, says the slips that the run finds with one choice whether the slip whose
@@ -34,5 +33,5 @@ pub fn resumed_slips_are_good()
     ensures { ResumedSlipsAreGood }
 {
     every_run_is_right();
-    pieces_have_possible_totals();
+    true_slips_tell_the_table();
 }

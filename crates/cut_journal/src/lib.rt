@@ -12,6 +12,7 @@ mod file;
 mod journal;
 pub mod laws;
 mod look;
+mod open;
 mod reopen;
 mod slips;
 mod through;

@@ -308,6 +308,39 @@ fn held_and_other_plans(rt: HostRuntime) -> Result<(), Fail> {
     Ok(())
 }
 
+// What an opening finds: how many slips, or the line of a fault, and the disk that it hands back.
+fn opened(alloc: Global, disk: MemoryDisk, plan: &Plan) -> Result<(String, MemoryDisk), Fail> {
+    Ok(match Journal::open(alloc, disk, plan) {
+        Ok((journal, slips)) => (
+            format!(in alloc; "{} slips", slips.len())?,
+            journal.into_disk(),
+        ),
+        Err((fault, disk)) => (format!(in alloc; "{fault}")?, disk),
+    })
+}
+
+#[test]
+fn a_journal_is_opened_or_made(rt: HostRuntime) -> Result<(), Fail> {
+    let alloc = rt.alloc();
+    let plan = Plan::from_json(alloc, SMALL.as_bytes())?;
+    let (line, disk) = opened(alloc, MemoryDisk::of(alloc, Vec::new(alloc))?, &plan)?;
+    assert_eq!(rt; line.as_str(), "0 slips");
+    assert_eq!(rt; disk.bytes().len(), 267);
+    let (line, disk) = opened(alloc, disk, &plan)?;
+    assert_eq!(rt; line.as_str(), "0 slips");
+    assert_eq!(rt; disk.bytes().len(), 267);
+    let file = small_file(alloc, &plan)?;
+    let copy = Vec::from_slice(alloc, file.as_slice())?;
+    let (line, disk) = opened(alloc, MemoryDisk::of(alloc, copy)?, &plan)?;
+    assert_eq!(rt; line.as_str(), "1 slips");
+    let [other, ..] = files();
+    let other = plan_in(alloc, other.split("\n\n").next().unwrap_or(""))?;
+    let (line, disk) = opened(alloc, disk, &other)?;
+    assert_eq!(rt; line.as_str(), "23 OtherPlan");
+    assert!(rt; disk.bytes() == file.as_slice());
+    Ok(())
+}
+
 // Each device call of a reopening fails in turn: the disk is handed back with one failed call and its bytes,
 // and the study is there again.
 #[test]
