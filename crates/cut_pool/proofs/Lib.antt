@@ -1,0 +1,13 @@
+pub mod Resumed
+pub mod Legal
+pub mod Refused
+pub mod Losses
+pub mod Entered
+pub mod OpenedBooks
+pub mod Sums
+pub mod FullLines
+pub mod Tables
+pub mod Conclusions
+pub mod Apart
+pub mod Audits
+pub mod Crossing

@@ -1,0 +1,11 @@
+use Rattle.std.proofs.Common.{List, refl, sym, subst}
+use Rattle.cut_plan.specs.Plan.{IsPlan}
+use Rattle.cut_ledger.specs.Account.{Account}
+use Rattle.cut_pool.specs.declared.call.Call.{Call}
+use Rattle.cut_pool.specs.History.{Opening, IsLegal, opened_by}
+use Rattle.cut_pool.proofs.history.History.begin.Goals as goal
+
+pub invariant_of-result : goal.invariant_of-result
+invariant_of-result c =
+    let o : Opening = record { plan = c.of.result.value.contents.plan; has_journal = c.of-2.result.value; base = c.of.result.value.contents.base; size = c.of-3.result.value } in
+    (subst (λ (a : Account). IsPlan a.contents.plan) (sym c.of.ensures) c.plan.ensures.plan, subst (λ (l : List Call). IsLegal o l) (sym c.in_ok-with_capacity.ensures.items) (opened_by o, refl))

@@ -1,0 +1,336 @@
+ghost use Rattle.std.specs.Prelude.{◌≡◌, ◌+◌, ◌<◌, ◌≤◌, true, [], length, take, Some, None, IfOk, IfSome, OnErr, IfErr};
+ghost use Rattle.cut_plan.specs.Cells.{cells_of};
+ghost use Rattle.cut_pool.specs.Lines.{full_line};
+ghost use Rattle.cut_pool.specs.Report.{calls_told};
+ghost use Rattle.cut_pool.specs.Slot.{calls_in, IsFresh, IsBegun, base_of, kept_of, unkept_of, Matches, TakesResult, TakesLoss, GivesLine, calls_of, losses_of, lines_of};
+
+use crate::accounts::Accounts;
+use crate::opening::open_book;
+use crate::{Book, BookFault, LineFault, Opened, Shelf, SlotReport, SubmitFault, Tally};
+use cut_disks::Disk;
+use cut_plan::Plan;
+use cut_trial::{Piece, PieceResult};
+use std::alloc::Global;
+use std::sync::ledger::Share;
+use std::sync::{Mutex, Wait};
+
+/// Whether a slot has the book of a plan.
+#[derive(Clone, Copy)]
+pub(crate) enum Match {
+    /// It has no book.
+    Free,
+    /// It has.
+    Same,
+    /// It has the book of another plan.
+    Other,
+}
+
+/// Why a call of a slot's book did nothing.
+#[derive(Drop)]
+pub(crate) enum CallFault {
+    /// There is no book.
+    NoBook,
+    /// No further call can be counted.
+    Full,
+    /// The book refused it.
+    Refused(BookFault),
+}
+
+/// A place for the book of one study in a hall, with how many calls it had.
+#[derive(Drop)]
+pub(crate) struct Slot<D: Disk, K: Tally> {
+    book: Option<Book<D>>,
+    kept: Share<K>,
+    stopped: bool,
+    ghost one_part: { kept.parts ≡ 1 },
+    ghost counted: { kept.amount ≡ calls_in book },
+    ghost first: { take (length (base_of book)) (kept_of book) ≡ base_of book },
+    ghost unkept: { unkept_of book ≡ [] },
+}
+
+impl<D: Disk + Drop, K: Tally> Slot<D, K> {
+    /// A slot without a book.
+    pub(crate) fn free(kept: Share<K>) -> Slot<D, K>
+        requires { (kept.parts ≡ 1) × (kept.amount ≡ 0) }
+        ensures { result.book ≡ None }
+    {
+        Slot {
+            book: None,
+            kept,
+            stopped: false,
+        }
+    }
+
+    /// A slot with the book of a study, of which nothing was asked yet.
+    pub(crate) fn of_book(book: Book<D>, kept: Share<K>) -> Slot<D, K>
+        requires part { (kept.parts ≡ 1) × (kept.amount ≡ 0) }
+        requires fresh { IsFresh book.state.ledger.plan book.size book }
+        ensures { result.book ≡ Some book }
+    {
+        Slot {
+            book: Some(book),
+            kept,
+            stopped: false,
+        }
+    }
+
+    /// Whether it has the book of a plan.
+    pub(crate) fn match_with(&self, plan: &Plan) -> Match
+        ensures { Matches result self.now.book plan.now }
+    {
+        let Some(book) = &self.book else {
+            return Match::Free;
+        };
+        if book.ledger().plan().same(plan) {
+            Match::Same
+        } else {
+            Match::Other
+        }
+    }
+
+    /// Hands a result to the book.
+    pub(crate) fn hand_in<M: Tally, R: Wait>(
+        &mut self,
+        rt: &R,
+        accounts: &Mutex<Accounts<M, K>>,
+        made: &mut Share<M>,
+        offered: &PieceResult,
+    ) -> Result<(), CallFault>
+        requires { made.old.parts ≡ 1 }
+        ensures taken { TakesResult result offered.now self.old.book self.new.book }
+        ensures calls { calls_in self.new.book ≡ calls_in self.old.book + calls_of result }
+        ensures made { made.new.amount ≡ made.old.amount + calls_of result }
+        ensures parts { made.new.parts ≡ 1 }
+    {
+        let Slot {
+            book,
+            kept,
+            stopped: _,
+        } = self;
+        let Some(book) = book else {
+            return Err(CallFault::NoBook);
+        };
+        if accounts.lock(rt).enter(made, kept).is_err() {
+            return Err(CallFault::Full);
+        }
+        match book.hand_in(offered) {
+            Ok(()) => Ok(()),
+            Err(BookFault::Memory) => {
+                accounts.lock(rt).take_back(made, kept);
+                Err(CallFault::Refused(BookFault::Memory))
+            }
+            Err(fault) => Err(CallFault::Refused(fault)),
+        }
+    }
+
+    /// Tells the book that a piece is lost.
+    pub(crate) fn lose<M: Tally, R: Wait>(
+        &mut self,
+        rt: &R,
+        accounts: &Mutex<Accounts<M, K>>,
+        made: &mut Share<M>,
+        piece: u64,
+    ) -> Result<(), CallFault>
+        requires { made.old.parts ≡ 1 }
+        ensures taken { TakesLoss result piece self.old.book self.new.book }
+        ensures calls { calls_in self.new.book ≡ calls_in self.old.book + losses_of result }
+        ensures made { made.new.amount ≡ made.old.amount + losses_of result }
+        ensures parts { made.new.parts ≡ 1 }
+    {
+        let Slot {
+            book,
+            kept,
+            stopped: _,
+        } = self;
+        let Some(book) = book else {
+            return Err(CallFault::NoBook);
+        };
+        if accounts.lock(rt).enter(made, kept).is_err() {
+            return Err(CallFault::Full);
+        }
+        match book.lose(piece) {
+            Ok(()) => Ok(()),
+            Err(fault) => {
+                accounts.lock(rt).take_back(made, kept);
+                Err(CallFault::Refused(fault))
+            }
+        }
+    }
+
+    /// The line of a cell of an opened study, once every trial of it is held; none while it can still come.
+    pub(crate) fn line<M: Tally, R: Wait>(
+        &mut self,
+        rt: &R,
+        alloc: Global,
+        accounts: &Mutex<Accounts<M, K>>,
+        made: &mut Share<M>,
+        opened: &Opened,
+        cell: u32,
+    ) -> Result<Option<Vec<u8>>, LineFault>
+        requires cell { cell < length (cells_of opened.now.plan) }
+        requires part { made.old.parts ≡ 1 }
+        ensures line { IfOk result (λ found.
+            IfSome found (λ line. line.items ≡ full_line opened.now.plan opened.now.base cell)) }
+        ensures short { IfOk result (λ found. IfSome found (λ line. length line.items ≤ 273)) }
+        ensures given { GivesLine result cell self.old.book self.new.book }
+        ensures calls { calls_in self.new.book ≡ calls_in self.old.book + lines_of result }
+        ensures made { made.new.amount ≡ made.old.amount + lines_of result }
+        ensures parts { made.new.parts ≡ 1 }
+    {
+        let Slot {
+            book,
+            kept,
+            stopped,
+        } = self;
+        let Some(book) = book else {
+            return Err(LineFault::AuditMismatch);
+        };
+        if !is_opened_as(book, opened) {
+            return Err(LineFault::AuditMismatch);
+        }
+        if !book.ledger().cell_done(cell) {
+            may_still_come(book, *stopped || accounts.lock(rt).is_full())?;
+            return Ok(None);
+        }
+        if accounts.lock(rt).enter(made, kept).is_err() {
+            return Err(LineFault::Stopped);
+        }
+        match book.row(alloc, cell) {
+            Ok(line) => Ok(Some(line)),
+            Err(_) => {
+                accounts.lock(rt).take_back(made, kept);
+                Err(LineFault::WorkMemory)
+            }
+        }
+    }
+
+    /// Begins a study in a slot that has no book: its disk comes from the shelf, and the journal on it is
+    /// opened again, or made where it holds no study. Where it is refused the slot is as it was.
+    pub(crate) fn begin<S: Shelf<D>>(
+        &mut self,
+        alloc: Global,
+        study: u32,
+        plan: Plan,
+        shelf: &S,
+        piece_size: u32,
+    ) -> Result<Opened, SubmitFault>
+        requires free { self.old.book ≡ None }
+        requires size { 1 ≤ piece_size }
+        ensures opened { IfOk result (λ o. (o.study ≡ study) × (o.plan ≡ plan)) }
+        ensures begun { IfOk result (λ o. IsBegun o piece_size self.new.book) }
+        ensures err { OnErr result (self.new ≡ self.old) }
+    {
+        let copy = plan.try_clone(alloc)?;
+        let book = open_book(alloc, plan, shelf, piece_size)?;
+        let base = book.ledger().base().try_clone(alloc)?;
+        self.book = Some(book);
+        Ok(Opened {
+            study,
+            plan: copy,
+            base,
+        })
+    }
+
+    /// What was opened in the slot, which has the book of this plan.
+    pub(crate) fn opened(
+        &self,
+        alloc: Global,
+        study: u32,
+        plan: &Plan,
+    ) -> Result<Opened, SubmitFault>
+        requires { Matches Match.Same self.now.book plan.now }
+        ensures opened { IfOk result (λ o. (o.study ≡ study) × (o.plan ≡ plan.now)) }
+        ensures base { IfOk result (λ o. o.base ≡ base_of self.now.book) }
+    {
+        let Some(book) = &self.book else {
+            unreachable!()
+        };
+        let base = book.ledger().base().try_clone(alloc)?;
+        let plan = plan.try_clone(alloc)?;
+        Ok(Opened { study, plan, base })
+    }
+
+    /// Ends the work in the slot.
+    pub(crate) fn stop(&mut self)
+        ensures { self.new.book ≡ self.old.book }
+    {
+        self.stopped = true;
+    }
+
+    /// Whether the work in the slot was ended.
+    pub(crate) fn is_stopped(&self) -> bool
+        ensures { result ≡ self.now.stopped }
+    {
+        self.stopped
+    }
+
+    /// Ends the slot: what became of it, and the share of its calls.
+    pub(crate) fn end(self) -> (SlotReport, Share<K>)
+        ensures part { result.1.parts ≡ 1 }
+        ensures calls { result.1.amount ≡ calls_told result.0.history }
+    {
+        let Slot {
+            book,
+            kept,
+            stopped: _,
+        } = self;
+        let Some(book) = book else {
+            return (SlotReport::new(None, false), kept);
+        };
+        let complete = book.ledger().complete();
+        let (history, _) = book.into_parts();
+        (SlotReport::new(Some(history), complete), kept)
+    }
+
+    /// Whether there is nothing to work on yet: there is no book, and the work was not ended.
+    pub(crate) fn is_idle(&self) -> bool {
+        self.book.is_none() && !self.stopped
+    }
+
+    /// A copy of the study's plan, if there is a study, and memory for it.
+    pub(crate) fn plan(&self, alloc: Global) -> Option<Plan> {
+        match &self.book {
+            Some(book) => book.ledger().plan().try_clone(alloc).ok(),
+            None => None,
+        }
+    }
+
+    /// Whether there is a study, and this cell of it is done.
+    pub(crate) fn is_done(&self, cell: u32) -> bool {
+        match &self.book {
+            Some(book) => cell < book.ledger().plan().cells() && book.ledger().cell_done(cell),
+            None => false,
+        }
+    }
+
+    /// The piece of a number in the book's division.
+    pub(crate) fn piece(&self, number: u64) -> Option<Piece> {
+        match &self.book {
+            Some(book) => book.piece(number),
+            None => None,
+        }
+    }
+}
+
+/// Whether a book is of an opened study: of its plan, and begun with its slips.
+fn is_opened_as<D: Disk + Drop>(book: &Book<D>, opened: &Opened) -> bool
+    ensures { result ≡ true → (book.now.state.ledger.plan ≡ opened.now.plan)
+        × (book.now.state.ledger.base ≡ opened.now.base) }
+{
+    let ledger = book.ledger();
+    ledger.plan().same(&opened.plan) && ledger.same_base(&opened.base)
+}
+
+/// Whether a cell that is not done can still be: the book is whole, no piece is lost, and work goes on.
+fn may_still_come<D: Disk + Drop>(book: &Book<D>, stopped: bool) -> Result<(), LineFault> {
+    if book.is_broken() {
+        return Err(LineFault::Checkpoint);
+    }
+    if book.has_lost() {
+        return Err(LineFault::WorkMemory);
+    }
+    if stopped {
+        return Err(LineFault::Stopped);
+    }
+    Ok(())
+}

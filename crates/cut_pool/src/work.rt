@@ -1,0 +1,280 @@
+ghost use Rattle.std.specs.Prelude.{◌≡◌, ◌<◌, ◌≤◌};
+ghost use Rattle.cut_trial.specs.Outcome.{rings_of};
+
+use crate::slot::CallFault;
+use crate::{BookFault, Gate, Hall, Pass, Tally};
+use cut_disks::Disk;
+use cut_plan::Plan;
+use cut_rings::Rings;
+use cut_trial::{Piece, PieceResult, run_piece};
+use std::alloc::Global;
+use std::sync::Wait;
+
+/// What a worker needs for the pieces of a study: a copy of its plan, with the rings.
+#[derive(Drop)]
+pub(crate) struct Bench {
+    plan: Plan,
+    rings: Rings,
+    ghost of_plan: { rings ≡ rings_of plan },
+}
+
+/// How a worker goes on after a turn.
+#[derive(Clone, Copy, PartialEq, Eq)]
+enum Next {
+    /// With the next piece of the study.
+    Piece,
+    /// With another study, since this one's pieces are all drawn.
+    Study,
+    /// Not at all.
+    Nothing,
+}
+
+/// A piece that was drawn: the number of its study, its own, and what it is.
+#[derive(Clone, Copy)]
+struct Drawn {
+    study: u32,
+    number: u64,
+    piece: Piece,
+}
+
+impl Bench {
+    /// The bench of a plan's study, if there is memory for it.
+    fn new(alloc: Global, plan: Plan) -> Option<Bench> {
+        let rings = Rings::hashed(alloc, &plan).ok()?;
+        Some(Bench { plan, rings })
+    }
+
+    /// Runs a piece, if there is memory for it.
+    fn run(&self, alloc: Global, piece: Piece) -> Option<PieceResult> {
+        run_piece(alloc, &self.plan, &self.rings, piece).ok()
+    }
+}
+
+impl<D: Disk + Drop, M: Tally, K: Tally> Hall<D, M, K> {
+    /// Works on the studies in the order of their slots, on each as long as pieces of it can be drawn, and then
+    /// waits for the next. Each piece is drawn, runs once the gate lets it pass, and is handed in; an accepted
+    /// one is counted on the board. A piece for which memory is wanting is told lost, and a study whose disk has
+    /// failed is left.
+    ///
+    /// It returns after `stop`, and where nothing more can be drawn by this pass, or counted by the hall.
+    pub fn work<R: Wait, G: Gate>(&self, rt: &R, alloc: Global, pass: &mut Pass<M>, gate: &G)
+        requires { pass.old.hall ≡ self.now.id }
+        ensures own { pass.new.hall ≡ pass.old.hall }
+        ensures made { pass.old.made ≤ pass.new.made }
+    {
+        for study in 0..self.places.len() as u32 {
+            if self.wait_for_study(rt, study) || !self.work_off(rt, alloc, pass, gate, study) {
+                return;
+            }
+        }
+        self.wait_for_stop(rt);
+    }
+
+    /// Works on the pieces of a study until none are left to be drawn. Tells whether the worker may go on with
+    /// another study.
+    pub(crate) fn work_off<R: Wait, G: Gate>(
+        &self,
+        rt: &R,
+        alloc: Global,
+        pass: &mut Pass<M>,
+        gate: &G,
+        study: u32,
+    ) -> bool
+        requires own { pass.old.hall ≡ self.now.id }
+        requires slot { study < self.now.slots }
+        ensures own { pass.new.hall ≡ pass.old.hall }
+        ensures made { pass.old.made ≤ pass.new.made }
+    {
+        let mut bench = None;
+        for _ in rt.forever() {
+            match self.turn(rt, alloc, pass, gate, study, &mut bench) {
+                Next::Piece => {}
+                Next::Study => return true,
+                Next::Nothing => return false,
+            }
+        }
+        unreachable!()
+    }
+
+    /// Works on the pieces of a study until a cell of it is done, or none are left to be drawn.
+    pub(crate) fn work_towards<R: Wait, G: Gate>(
+        &self,
+        rt: &R,
+        alloc: Global,
+        pass: &mut Pass<M>,
+        gate: &G,
+        study: u32,
+        cell: u32,
+        bench: &mut Option<Bench>,
+    )
+        requires own { pass.old.hall ≡ self.now.id }
+        requires slot { study < self.now.slots }
+        ensures own { pass.new.hall ≡ pass.old.hall }
+        ensures made { pass.old.made ≤ pass.new.made }
+    {
+        for _ in rt.forever() {
+            if self.is_done(rt, study, cell) {
+                return;
+            }
+            match self.turn(rt, alloc, pass, gate, study, bench) {
+                Next::Piece => {}
+                Next::Study | Next::Nothing => return,
+            }
+        }
+    }
+
+    /// Draws a piece of a study, runs it and hands it in.
+    fn turn<R: Wait, G: Gate>(
+        &self,
+        rt: &R,
+        alloc: Global,
+        pass: &mut Pass<M>,
+        gate: &G,
+        study: u32,
+        bench: &mut Option<Bench>,
+    ) -> Next
+        requires own { pass.old.hall ≡ self.now.id }
+        requires slot { study < self.now.slots }
+        ensures own { pass.new.hall ≡ pass.old.hall }
+        ensures made { pass.old.made ≤ pass.new.made }
+    {
+        if self.is_stopped(rt, study) {
+            return Next::Nothing;
+        }
+        let Ok(number) = self.board.draw(&mut pass.seat, study) else {
+            return Next::Nothing;
+        };
+        let Some(piece) = self.piece(rt, study, number) else {
+            return Next::Study;
+        };
+        gate.pass(rt, piece);
+        let drawn = Drawn {
+            study,
+            number,
+            piece,
+        };
+        match self.compute(rt, alloc, drawn, bench) {
+            Some(result) => self.hand_in(rt, pass, drawn, &result),
+            None => self.lose(rt, pass, drawn),
+        }
+    }
+
+    /// Runs a piece, if there is memory for it.
+    fn compute<R: Wait>(
+        &self,
+        rt: &R,
+        alloc: Global,
+        drawn: Drawn,
+        bench: &mut Option<Bench>,
+    ) -> Option<PieceResult>
+        requires { drawn.study < self.now.slots }
+    {
+        if bench.is_none() {
+            let plan = self.plan(rt, alloc, drawn.study)?;
+            *bench = Some(Bench::new(alloc, plan)?);
+        }
+        match bench {
+            Some(bench) => bench.run(alloc, drawn.piece),
+            None => None,
+        }
+    }
+
+    /// Hands a result in. Where it is accepted its trials are counted before the lock is given back. A study
+    /// whose disk has failed takes no more, so the worker leaves it.
+    fn hand_in<R: Wait>(
+        &self,
+        rt: &R,
+        pass: &mut Pass<M>,
+        drawn: Drawn,
+        offered: &PieceResult,
+    ) -> Next
+        requires own { pass.old.hall ≡ self.now.id }
+        requires slot { drawn.study < self.now.slots }
+        ensures own { pass.new.hall ≡ pass.old.hall }
+        ensures made { pass.old.made ≤ pass.new.made }
+    {
+        let place = &self.places[drawn.study as usize];
+        let mut slot = place.slot.lock(rt);
+        let next = match slot.hand_in(rt, &self.accounts, &mut pass.made, offered) {
+            Ok(()) => {
+                let trials = u64::from(drawn.piece.count);
+                let _ = self.board.count(&mut pass.seat, drawn.study, trials);
+                Next::Piece
+            }
+            Err(CallFault::Full) => Next::Nothing,
+            Err(CallFault::Refused(BookFault::Memory)) => {
+                let _ = slot.lose(rt, &self.accounts, &mut pass.made, drawn.number);
+                Next::Piece
+            }
+            Err(CallFault::Refused(BookFault::Checkpoint)) => Next::Study,
+            Err(_) => Next::Piece,
+        };
+        place.changed.notify_all();
+        next
+    }
+
+    /// Tells a piece lost.
+    fn lose<R: Wait>(&self, rt: &R, pass: &mut Pass<M>, drawn: Drawn) -> Next
+        requires own { pass.old.hall ≡ self.now.id }
+        requires slot { drawn.study < self.now.slots }
+        ensures own { pass.new.hall ≡ pass.old.hall }
+        ensures made { pass.old.made ≤ pass.new.made }
+    {
+        let place = &self.places[drawn.study as usize];
+        let mut slot = place.slot.lock(rt);
+        let told = slot.lose(rt, &self.accounts, &mut pass.made, drawn.number);
+        place.changed.notify_all();
+        match told {
+            Err(CallFault::Full) => Next::Nothing,
+            _ => Next::Piece,
+        }
+    }
+
+    /// Whether the work in a slot was ended.
+    fn is_stopped<R: Wait>(&self, rt: &R, study: u32) -> bool
+        requires { study < self.now.slots }
+    {
+        self.places[study as usize].slot.lock(rt).is_stopped()
+    }
+
+    /// Whether a cell of a study is done.
+    fn is_done<R: Wait>(&self, rt: &R, study: u32, cell: u32) -> bool
+        requires { study < self.now.slots }
+    {
+        self.places[study as usize].slot.lock(rt).is_done(cell)
+    }
+
+    /// The piece of a number in a study's division.
+    fn piece<R: Wait>(&self, rt: &R, study: u32, number: u64) -> Option<Piece>
+        requires { study < self.now.slots }
+    {
+        self.places[study as usize].slot.lock(rt).piece(number)
+    }
+
+    /// A copy of a study's plan, if there is memory for it.
+    fn plan<R: Wait>(&self, rt: &R, alloc: Global, study: u32) -> Option<Plan>
+        requires { study < self.now.slots }
+    {
+        self.places[study as usize].slot.lock(rt).plan(alloc)
+    }
+
+    /// Waits until a slot has a study, or the work in it is ended: whether it is.
+    fn wait_for_study<R: Wait>(&self, rt: &R, study: u32) -> bool
+        requires { study < self.now.slots }
+    {
+        let place = &self.places[study as usize];
+        let slot = place
+            .changed
+            .wait_while(rt, place.slot.lock(rt), |slot| slot.is_idle());
+        slot.is_stopped()
+    }
+
+    /// Waits until the work is ended.
+    fn wait_for_stop<R: Wait>(&self, rt: &R) {
+        if let Some(place) = self.places.first() {
+            place
+                .changed
+                .wait_while(rt, place.slot.lock(rt), |slot| !slot.is_stopped());
+        }
+    }
+}
