@@ -1,0 +1,12 @@
+pub mod Frames
+pub mod Streams
+pub mod Looks
+pub mod Pieces
+pub mod Written
+pub mod Answered
+pub mod Heard
+pub mod Sendings
+pub mod Turns
+pub mod Courses
+pub mod Feeding
+pub mod Served

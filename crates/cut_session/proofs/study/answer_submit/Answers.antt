@@ -1,0 +1,8 @@
+use Rattle.cut_session.proofs.Sendings.{plan_answered}
+use Rattle.cut_session.proofs.study.answer_submit.Goals as goal
+
+pub returns-in-Ok-submit-clause-told : goal.returns-in-Ok-submit-clause-told
+returns-in-Ok-submit-clause-told g c = λ told.
+    plan_answered c.args.text.now c.in-Ok.plan c.in-Ok-submit.opened.plan c.args.sent c.send_table.result
+    (g.W.Wire.traffic c.args.wire.now) (g.W.Wire.traffic c.send_table.new.wire) c.in-Ok.ensures.ok
+    c.in-Ok-submit.ensures.plan (c.send_table.ensures.told told)

@@ -1,0 +1,107 @@
+-- What a server may reply to requests (this project's format).
+use Rattle.std.specs.Prelude.{◌≡◌, ◌<◌, ◌≤◌, ◌⊎◌, ◌++◌, ℕ, List, [], ◌∷◌, length, Result, Ok, Err}
+use Rattle.std.specs.Int.{w16, w32, w64, to_be_bytes, from_be_bytes}
+use Rattle.std.specs.List.{range_with_len, flat_map}
+use Rattle.cut_faults.specs.declared.code.FaultCode.{FaultCode}
+use Rattle.cut_faults.specs.declared.code.FaultCode.TheVariants as code
+use Rattle.cut_faults.specs.Codes.{number_of}
+use Rattle.cut_plan.specs.declared.refusal.Refusal.{Refusal}
+use Rattle.cut_plan.specs.Accepted.{plan_of}
+use Rattle.cut_plan.specs.Cells.{cells_of}
+use Rattle.cut_plan.specs.Refusals.{code_of_refusal}
+use Rattle.cut_plan.specs.Values.{Values}
+use Rattle.cut_board.specs.declared.view.View.{View}
+use Rattle.cut_board.specs.Views.{seen_in}
+use Rattle.cut_lines.specs.Lines.{header}
+use Rattle.cut_ledger.specs.declared.slip.Slip.{Slip}
+use Rattle.cut_pool.specs.declared.submit_fault.SubmitFault.{SubmitFault}
+use Rattle.cut_pool.specs.declared.line_fault.LineFault.{LineFault}
+use Rattle.cut_pool.specs.HallFaults.{code_of_submit, code_of_line}
+use Rattle.cut_pool.specs.Lines.{full_line}
+use Rattle.cut_session.specs.declared.kind.Kind.{Kind}
+use Rattle.cut_session.specs.declared.kind.Kind.TheVariants as kind
+use Rattle.cut_session.specs.declared.message.Message.{Message}
+use Rattle.cut_session.specs.Frames.{frame}
+
+-- ---- the parts of replies
+
+-- that a request failed, with the fault's number
+abbrev pub error_frame : FaultCode → List ℕ
+error_frame fault = frame kind.Fault (to_be_bytes w16 (number_of fault))
+
+-- that a table is whole
+abbrev pub end_frame : List ℕ
+end_frame = frame kind.Done []
+
+-- the frame of a cell's line, over the slips that the study began with
+abbrev pub row_frame : Values → List Slip → ℕ → List ℕ
+row_frame plan base cell = frame kind.Row (full_line plan base cell)
+
+-- the frames of the header and of the lines of the first n cells
+unfoldable pub rows_to : Values → List Slip → ℕ → List ℕ
+rows_to plan base n = frame kind.Row header ++ flat_map (row_frame plan base) (range_with_len 0 n)
+
+-- ---- the reply to a plan
+
+-- the whole table, over some slips: other sessions and a disk decide which a study began with
+abbrev pub IsTable : Values → List ℕ → Type 0
+IsTable plan out = (base : List Slip) × (out ≡ rows_to plan base (length (cells_of plan)) ++ end_frame)
+
+-- the lines before one that didn't come, and why it didn't
+abbrev pub IsBrokenOff : Values → List ℕ → Type 0
+IsBrokenOff plan out =
+    (base : List Slip) × (n : ℕ) × (fault : LineFault) × (n < length (cells_of plan))
+    × (out ≡ rows_to plan base n ++ error_frame (code_of_line fault))
+
+-- why the hall took no study of the plan
+abbrev pub IsNotTaken : List ℕ → Type 0
+IsNotTaken out = (fault : SubmitFault) × (out ≡ error_frame (code_of_submit fault))
+
+-- to an accepted plan
+abbrev pub AnswersPlan : Values → List ℕ → Type 0
+AnswersPlan plan out = IsTable plan out ⊎ (IsBrokenOff plan out ⊎ IsNotTaken out)
+
+-- to a text that is a plan, or that is refused
+abbrev pub AnswersRead : Result Values Refusal → List ℕ → Type 0
+AnswersRead (Ok plan) out = AnswersPlan plan out
+AnswersRead (Err refusal) out = out ≡ error_frame (code_of_refusal refusal)
+
+-- to a text, for whose reading memory may be wanting
+abbrev pub AnswersText : List ℕ → List ℕ → Type 0
+AnswersText text out = (out ≡ error_frame code.WorkMemory) ⊎ AnswersRead (plan_of text) out
+
+-- ---- the reply to a question for a count
+
+-- of no study has less been seen
+abbrev pub Rises : View → View → Type 0
+Rises low high = (study : ℕ) → seen_in study low ≤ seen_in study high
+
+-- the count that the session has seen now, which is no less than what it had seen before
+abbrev pub TellsCount : View → View → ℕ → List ℕ → Type 0
+TellsCount low high study out =
+    (seen_in study low ≤ seen_in study high) × (out ≡ frame kind.Count (to_be_bytes w64 (seen_in study high)))
+
+-- that there is no slot of this number, exactly where there is none
+abbrev pub AnswersCount : ℕ → View → View → ℕ → List ℕ → Type 0
+AnswersCount slots low high study out =
+    ((study < slots) × TellsCount low high study out) ⊎ ((slots ≤ study) × (out ≡ error_frame code.NoSlot))
+
+-- ---- the replies to requests
+
+-- to one request, in a hall of so many slots, by a session that had seen low and has seen high. None follows
+-- a message that quits; what is no request has no reply.
+abbrev pub AnswersKind : ℕ → View → View → Kind → List ℕ → List ℕ → Type 0
+AnswersKind slots low high kind.Submit payload out = AnswersText payload out
+AnswersKind slots low high kind.Count payload out = AnswersCount slots low high (from_be_bytes w32 payload) out
+AnswersKind slots low high kind.Quit payload out = ⊥
+AnswersKind slots low high other payload out = out ≡ []
+
+abbrev pub Answers : ℕ → View → View → Message → List ℕ → Type 0
+Answers slots low high m out = Rises low high × AnswersKind slots low high m.kind m.payload out
+
+-- to several in order: what was seen after one is what had been seen before the next
+abbrev pub AnswersAll : ℕ → View → View → List Message → List ℕ → Type 0
+AnswersAll slots low high [] out = Rises low high × (out ≡ [])
+AnswersAll slots low high (m ∷ ms) out =
+    (middle : View) × (first : List ℕ) × (others : List ℕ) × Answers slots low middle m first
+    × AnswersAll slots middle high ms others × (out ≡ first ++ others)

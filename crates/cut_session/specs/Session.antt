@@ -1,0 +1,108 @@
+-- How a session goes and how it ends.
+use Rattle.std.specs.Prelude.{◌≡◌, ◌<◌, ◌≤◌, ◌⊎◌, ◌++◌, ℕ, List, [], ◌∷◌, length, take, Some, None}
+use Rattle.cut_faults.specs.Failures.{one_more}
+use Rattle.cut_board.specs.declared.view.View.{View}
+use Rattle.cut_table.specs.Traffic.{Traffic, Failed, read_failed, write_failed}
+use Rattle.cut_session.specs.declared.side.Side.TheVariants.{Requests}
+use Rattle.cut_session.specs.declared.kind.Kind.TheVariants as kind
+use Rattle.cut_session.specs.declared.message.Message.{Message}
+use Rattle.cut_session.specs.declared.session_end.SessionEnd.{SessionEnd}
+use Rattle.cut_session.specs.declared.session_end.SessionEnd.TheVariants.{Quit, EndOfInput, Fault, Write}
+use Rattle.cut_session.specs.declared.session_end.SessionFault.{SessionFault}
+use Rattle.cut_session.specs.declared.session_end.SessionFault.TheVariants as session
+use Rattle.cut_session.specs.FaultCode.{code_of_session}
+use Rattle.cut_session.specs.Frames.{fault_at}
+use Rattle.cut_session.specs.Reading.{Splits}
+use Rattle.cut_session.specs.Answering.{AnswersAll, error_frame}
+
+-- how many requests a session answers
+abbrev pub request_limit : ℕ
+request_limit = 1000000
+
+-- what a session has read and replied: a stream, its messages, of which the first ones are answered, and the
+-- bytes behind them; what the last read gave and no reader took; and the replies
+pub record Course : Type 0 where
+  pub stream : List ℕ
+  pub answered : List Message
+  pub unanswered : List Message
+  pub rest : List ℕ
+  pub last : List ℕ
+  pub out : List ℕ
+
+-- the messages are those of the stream, no more are answered than may be, and the replies are some that a
+-- hall of so many slots may give, where the session had seen low at its begin and has seen high
+pub record IsCourse (slots : ℕ) (low high : View) (c : Course) : Type 0 where
+  pub splits : Splits Requests c.stream (c.answered ++ c.unanswered) c.rest
+  pub few : length c.answered ≤ request_limit
+  pub replies : AnswersAll slots low high c.answered c.out
+
+-- every message is answered, and every byte that was given was read
+abbrev pub IsAnswered : Course → Type 0
+IsAnswered c = (c.unanswered ≡ []) × (c.last ≡ [])
+
+-- the first of some messages quits
+abbrev pub QuitsAtOnce : List Message → Type 0
+QuitsAtOnce [] = ⊥
+QuitsAtOnce (m ∷ ms) = m.kind ≡ kind.Quit
+
+-- a fault ends the session: memory was wanting for what the last read gave; or the input cannot go on, or goes
+-- on no further, behind the messages that are answered; or there are more messages than may be answered
+abbrev pub IsDue : SessionFault → Course → Type 0
+IsDue session.Memory c =
+    (c.unanswered ≡ []) × (0 < length c.last) × (length c.last ≤ 4096) × (fault_at Requests c.rest ≡ None)
+IsDue session.Read c = IsAnswered c × (fault_at Requests c.rest ≡ None)
+IsDue session.Truncated c = IsAnswered c × (fault_at Requests c.rest ≡ None) × (c.rest ≡ [] → ⊥)
+IsDue session.TooManyRequests c =
+    (length c.answered ≡ request_limit) × (0 < length c.unanswered) × (c.last ≡ [])
+IsDue (session.Stream fault) c = IsAnswered c × (fault_at Requests c.rest ≡ Some fault)
+
+-- ---- what passed over the wire
+
+-- the replies with the frame of the fault that ended the session
+abbrev pub replies_to : SessionFault → Course → List ℕ
+replies_to fault c = c.out ++ error_frame (code_of_session fault)
+
+-- how many reads gave the end of the input, after a session that a fault ended
+abbrev pub ends_at : SessionFault → ℕ → ℕ
+ends_at session.Truncated n = one_more n
+ends_at fault n = n
+
+-- a wire that gave what the session read, and the end so often, and took these bytes
+abbrev pub passed : Course → List ℕ → ℕ → Traffic → Traffic
+passed c taken ends old =
+    record { taken = old.taken ++ taken; given = old.given ++ (c.stream ++ c.last); ends = ends }
+
+-- a write of a reply failed, the last of those to the messages that are answered
+abbrev pub CutsReply : ℕ → Course → Traffic → Traffic → Type 0
+CutsReply sent c old new =
+    (c.last ≡ []) × (sent < length c.out) × (new ≡ passed c (take sent c.out) old.ends old)
+
+-- a write of the frame failed that tells the fault which ended the session
+abbrev pub CutsEnd : ℕ → Course → Traffic → Traffic → Type 0
+CutsEnd sent c old new =
+    (fault : SessionFault) × IsDue fault c × (length c.out ≤ sent) × (sent < length (replies_to fault c))
+    × (new ≡ passed c (take sent (replies_to fault c)) (ends_at fault old.ends) old)
+
+-- how a session ends, and what its wire took and gave: all replies to the messages before one that quits; all
+-- replies, where the input ended behind them; the replies and the fault's frame; or exactly as many of the
+-- first bytes of these as are told
+abbrev pub EndsAs : SessionEnd → Course → Traffic → Traffic → Type 0
+EndsAs Quit c old new =
+    QuitsAtOnce c.unanswered × (length c.answered < request_limit) × (c.last ≡ [])
+    × (new ≡ passed c c.out old.ends old)
+EndsAs EndOfInput c old new =
+    IsAnswered c × (c.rest ≡ []) × (new ≡ passed c c.out (one_more old.ends) old)
+EndsAs (Fault fault) c old new =
+    IsDue fault c × (new ≡ passed c (replies_to fault c) (ends_at fault old.ends) old)
+EndsAs (Write sent) c old new = CutsReply sent c old new ⊎ CutsEnd sent c old new
+
+abbrev pub Ends : ℕ → View → View → SessionEnd → Traffic → Traffic → Type 0
+Ends slots low high end old new = (c : Course) × IsCourse slots low high c × EndsAs end c old new
+
+-- ---- calls that failed
+
+-- of the wire: a read exactly where that is told, or where telling it failed; a write exactly where one is told
+abbrev pub HasFailed : SessionEnd → Failed → Failed → Type 0
+HasFailed (Write sent) old new = (new ≡ write_failed old) ⊎ (new ≡ write_failed (read_failed old))
+HasFailed (Fault session.Read) old new = new ≡ read_failed old
+HasFailed end old new = new ≡ old

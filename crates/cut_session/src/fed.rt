@@ -1,0 +1,10 @@
+use crate::{Message, StreamFault};
+
+/// What a reader says of a piece of a stream.
+#[derive(Debug, Drop)]
+pub struct Fed {
+    /// The messages that the piece completed, in order.
+    pub messages: Vec<Message>,
+    /// What is wrong with the stream behind these messages, if something is.
+    pub fault: Option<StreamFault>,
+}

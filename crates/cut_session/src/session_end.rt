@@ -1,0 +1,63 @@
+ghost use Rattle.std.specs.Prelude.{◌≡◌};
+ghost use Rattle.cut_session.specs.FaultCode.{code_of_session};
+
+use crate::StreamFault;
+use cut_faults::FaultCode;
+use std::fmt;
+use thiserror::Error;
+
+/// How a session ended.
+#[derive(Clone, Copy, Debug, PartialEq, Eq)]
+pub enum SessionEnd {
+    /// The client told that no further request comes.
+    Quit,
+    /// The input ended between two messages.
+    EndOfInput,
+    /// This fault ended it, and the client was told so.
+    Fault(SessionFault),
+    /// A write of the wire failed, after the wire had taken this many bytes of replies.
+    Write(u64),
+}
+
+/// What can end a session. Printed, it is its number and its name.
+#[derive(Clone, Copy, Debug, PartialEq, Eq, Error)]
+pub enum SessionFault {
+    /// A growth of memory was refused to the reader of requests.
+    Memory,
+    /// A read of the wire failed.
+    Read,
+    /// The input ended inside a message.
+    Truncated,
+    /// There are more than 1,000,000 requests.
+    TooManyRequests,
+    /// Something that is no request stands in the input.
+    Stream(StreamFault),
+}
+
+impl SessionFault {
+    /// The fault in the program's list of faults.
+    pub fn code(self) -> FaultCode
+        ensures { result ≡ code_of_session self }
+    {
+        match self {
+            SessionFault::Memory => FaultCode::WorkMemory,
+            SessionFault::Read => FaultCode::Read,
+            SessionFault::Truncated => FaultCode::Truncated,
+            SessionFault::TooManyRequests => FaultCode::TooManyRequests,
+            SessionFault::Stream(fault) => fault.code(),
+        }
+    }
+}
+
+impl fmt::Display for SessionFault {
+    ghost use Rattle.std.specs.Prelude.{Some};
+    ghost use Rattle.cut_faults.specs.Codes.{code_text};
+    ghost use Rattle.cut_session.specs.FaultCode.{code_of_session};
+
+    ghost output = { λ fault. Some (code_text (code_of_session fault)) };
+
+    fn fmt<W: fmt::Write>(&self, f: &mut fmt::Formatter<W>) -> fmt::Result {
+        let code = self.code();
+        write!(f, "{code}")
+    }
+}
