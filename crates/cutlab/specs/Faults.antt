@@ -10,8 +10,13 @@ use Rattle.cut_plan.specs.declared.refusal.PlanFault.TheVariants as plan
 use Rattle.cut_plan.specs.declared.field.Field.{Field}
 use Rattle.cut_plan.specs.Fields.{name_of}
 use Rattle.cut_plan.specs.Refusals.{code_of_refusal, refusal_text}
+use Rattle.cut_journal.specs.declared.fault.JournalFault.{JournalFault}
+use Rattle.cut_journal.specs.declared.fault.JournalFault.TheVariants as journal
+use Rattle.cut_journal.specs.FaultCode as journal_codes
 use Rattle.cutlab.specs.declared.fault.CliFault.{CliFault}
-use Rattle.cutlab.specs.declared.fault.CliFault.TheVariants.{Memory, Plan, Read, Write}
+use Rattle.cut_pool.specs.declared.run_fault.RunFault.{RunFault}
+use Rattle.cut_pool.specs.declared.run_fault.RunFault.TheVariants as study
+use Rattle.cutlab.specs.declared.fault.CliFault.TheVariants.{Memory, Plan, Read, Write, Journal, BadSlip, Checkpoint, WorkMemory, AuditMismatch}
 
 -- a fault in the program's list of faults
 abbrev pub code_of : CliFault → FaultCode
@@ -19,6 +24,11 @@ code_of Memory = code.Memory
 code_of (Plan refusal) = code_of_refusal refusal
 code_of Read = code.Read
 code_of (Write sent) = code.Write
+code_of (Journal fault) = journal_codes.code_of fault
+code_of (BadSlip number) = code.BadSlip
+code_of Checkpoint = code.Checkpoint
+code_of WorkMemory = code.WorkMemory
+code_of AuditMismatch = code.AuditMismatch
 
 -- its number there
 abbrev pub number_of : CliFault → ℕ
@@ -42,6 +52,8 @@ field_words (Some field) = 32 ∷ name_of field
 abbrev pub words_of : CliFault → List ℕ
 words_of (Plan refusal) = refusal_text refusal
 words_of (Write sent) = codes_of.text_carrying code.Write (decimal sent)
+words_of (Journal fault) = journal_codes.fault_text fault
+words_of (BadSlip number) = codes_of.text_carrying code.BadSlip (decimal number)
 words_of fault = codes_of.code_text (code_of fault)
 
 -- the fault as it is printed
@@ -56,6 +68,19 @@ fault_line fault = fault_text fault ++ 10 ∷ []
 abbrev pub fault_of_plan : PlanFault → CliFault
 fault_of_plan plan.Memory = Memory
 fault_of_plan (plan.Refused refusal) = Plan refusal
+
+-- the fault of the program where a journal was not opened
+abbrev pub fault_of_journal : JournalFault → CliFault
+fault_of_journal journal.Memory = Memory
+fault_of_journal fault = Journal fault
+
+-- the fault of the program where a study was not run to its end
+abbrev pub fault_of_study : RunFault → CliFault
+fault_of_study (study.BadSlip number) = BadSlip number
+fault_of_study study.Checkpoint = Checkpoint
+fault_of_study (study.Write sent) = Write sent
+fault_of_study study.WorkMemory = WorkMemory
+fault_of_study study.AuditMismatch = AuditMismatch
 
 -- ---- counts of failed calls
 

@@ -1,7 +1,7 @@
 -- The commands of the program, and what its command line asks for.
-use Rattle.std.specs.Prelude.{◌≡◌, ◌⊎◌, ◌≤◌, ℕ, List, [], ◌∷◌, true, codes, pos, Option, Some, None, ⊤}
+use Rattle.std.specs.Prelude.{◌≡◌, ◌⊎◌, ◌≤◌, ℕ, List, [], ◌∷◌, true, codes, pos, Option, Some, None, option_map, ⊤}
 use Rattle.std.specs.Str.Parse.{IsNumeral, digits_value, without_leading_plus}
-use Rattle.clap.specs.Words.{App, IsAmong, Row, Rule, Text, fault_of, new_app, new_rule, one_of, subcommand_of, with_rule, with_subcommand}
+use Rattle.clap.specs.Words.{App, IsAmong, first_of, Row, Rule, Text, fault_of, new_app, new_rule, one_of, subcommand_of, with_rule, with_subcommand}
 use Rattle.clap.specs.declared.builder.value_parser.ValueParser.TheVariants as parsers
 use Rattle.clap.specs.declared.error.kind.ErrorKind.{ErrorKind}
 use Rattle.clap.specs.declared.error.kind.ErrorKind.TheVariants.{DisplayHelp, DisplayVersion, MissingSubcommand, OutOfMemory}
@@ -17,27 +17,60 @@ piece_rule = record (new_rule (codes "piece")) {
   parser = Some (parsers.Signed (pos 1) (pos 1000000));
 }
 
+-- the option `--workers`: a number from 1 to 64, which is 1 where it is not given
+abbrev pub workers_rule : Rule
+workers_rule = record (new_rule (codes "workers")) {
+  long = Some (codes "workers");
+  value_names = 1;
+  defaults = codes "1" ∷ [];
+  parser = Some (parsers.Signed (pos 1) (pos 64));
+}
+
+-- the option `--checkpoint`: the file that a study is kept in, if it is given
+abbrev pub checkpoint_rule : Rule
+checkpoint_rule = record (new_rule (codes "checkpoint")) {
+  long = Some (codes "checkpoint");
+  value_names = 1;
+}
+
 -- the program as clap sees it: it needs one of two subcommands, and without a word it shows its help
-abbrev pub program_app : App
+unfoldable pub program_app : App
 program_app = let bare : App = new_app (codes "cutlab") in
     with_subcommand
     (with_subcommand (record bare { top = record bare.top { subcommand_required = true; arg_required_else_help = true } })
-    (with_rule (new_app (codes "run")) piece_rule).top)
+    (with_rule (with_rule (with_rule (new_app (codes "run")) piece_rule) workers_rule) checkpoint_rule).top)
     (new_app (codes "check")).top
 
--- the number that a subcommand's matches give for the size of a piece
-pub record GivesPiece (rows : List Row) (n : ℕ) : Type 0 where
+-- the number, from 1 to a greatest one, that a subcommand's matches give for an option
+pub record GivesNumber (option : Text) (most : ℕ) (rows : List Row) (n : ℕ) : Type 0 where
   pub text : Text
-  pub given : one_of (codes "piece") rows ≡ Some text
+  pub given : one_of option rows ≡ Some text
   pub numeral : IsNumeral 10 (without_leading_plus text)
   pub value : digits_value 10 (without_leading_plus text) ≡ n
   pub some : 1 ≤ n
-  pub few : n ≤ 1000000
+  pub few : n ≤ most
+
+-- the size of a piece, and the number of workers
+abbrev pub GivesPiece : List Row → ℕ → Type 0
+GivesPiece rows n = GivesNumber (codes "piece") 1000000 rows n
+
+abbrev pub GivesWorkers : List Row → ℕ → Type 0
+GivesWorkers rows n = GivesNumber (codes "workers") 64 rows n
+
+-- the checkpoint that they give, or none
+abbrev pub GivesCheckpoint : List Row → Option Text → Type 0
+GivesCheckpoint rows file = first_of (codes "checkpoint") rows ≡ file
+
+-- a run, by the matches of `run`
+abbrev pub GivesRun : List Row → Job → Type 0
+GivesRun rows (Run piece workers file) =
+    GivesPiece rows piece × GivesWorkers rows workers × GivesCheckpoint rows (option_map (λ s. s.now) file)
+GivesRun rows Check = ⊥
 
 -- the job of a subcommand, by its name and its matches
 abbrev pub IsJobOf : Option (Text × List Row) → Job → Type 0
 IsJobOf None job = ⊥
-IsJobOf (Some sub) (Run n) = (sub.0 ≡ codes "run") × GivesPiece sub.1 n
+IsJobOf (Some sub) (Run piece workers file) = (sub.0 ≡ codes "run") × GivesRun sub.1 (Run piece workers file)
 IsJobOf (Some sub) Check = sub.0 ≡ codes "check"
 
 -- the job that a command line names
@@ -66,7 +99,7 @@ IsAsked words kind =
 abbrev pub EndsLine : List Text → ℕ → Type 0
 EndsLine words status = (kind : ErrorKind) × IsAsked words kind × (status ≡ status_of_kind kind)
 
--- a job's pieces have some trials, and no more than the option allows
+-- the pieces of a job have some trials, and it has some workers, and no more than the options allow
 abbrev pub IsSized : Job → Type 0
-IsSized (Run n) = (1 ≤ n) × (n ≤ 1000000)
+IsSized (Run piece workers file) = (1 ≤ piece) × (piece ≤ 1000000) × (1 ≤ workers) × (workers ≤ 64)
 IsSized Check = ⊤

@@ -7,7 +7,7 @@ use Rattle.clap.specs.declared.error.kind.ErrorKind.{ErrorKind}
 use Rattle.cut_table.specs.Traffic.{Traffic, Failed, wrote, write_failed}
 use Rattle.cutlab.specs.Line.{program_app, NamesJob, status_of_kind, IsAsked}
 use Rattle.cutlab.specs.Faults.{fault_line, status_of, failed_calls}
-use Rattle.cutlab.specs.Run.{Ends, answer_of}
+use Rattle.cutlab.specs.Run.{EndsJob}
 use Rattle.cutlab.specs.declared.line.Job.{Job}
 use Rattle.cutlab.specs.declared.fault.CliFault.{CliFault}
 use Rattle.cutlab.specs.declared.fault.CliFault.TheVariants.{Memory, Write}
@@ -57,7 +57,7 @@ pub record RunsJob (words : List (List ℕ)) (wire errors : Passage) (status : �
   pub named : NamesJob words job
   pub faultless : fault_of program_app words ≡ []
   pub ended : Result ⊤ CliFault
-  pub ends : wire.tells → Ends (answer_of job) wire.before wire.after ended
+  pub ends : wire.tells → EndsJob job wire.before wire.after ended
   pub failed : wire.failed_after ≡ failed_calls ended wire.failed_before
   pub told : TellsEnd ended errors status
 

@@ -6,18 +6,15 @@ use Rattle.cut_plan.specs.declared.refusal.Refusal.{Refusal}
 use Rattle.cut_plan.specs.declared.refusal.Refusal.TheVariants.{NotJson, PlanTooLong}
 use Rattle.cut_plan.specs.Values.{Values}
 use Rattle.cut_plan.specs.Accepted.{plan_of}
-use Rattle.cut_lines.specs.Lines.{table}
-use Rattle.cut_table.specs.Traffic.{Traffic}
+use Rattle.cut_table.specs.Traffic.{Traffic, wrote}
+use Rattle.cut_journal.specs.declared.fault.JournalFault.TheVariants.{Disk}
 use Rattle.cutlab.specs.Check.{check_text}
+use Rattle.cutlab.specs.Study.{file_task, plain_task}
+use Rattle.cutlab.specs.Task.{Task}
 use Rattle.cutlab.specs.declared.line.Job.{Job}
 use Rattle.cutlab.specs.declared.line.Job.TheVariants.{Run, Check}
 use Rattle.cutlab.specs.declared.fault.CliFault.{CliFault}
-use Rattle.cutlab.specs.declared.fault.CliFault.TheVariants.{Memory, Plan, Read, Write}
-
--- what a job answers to a plan; the size of the pieces that a study is cut into changes nothing
-abbrev pub answer_of : Job → Values → List ℕ
-answer_of (Run size) = table
-answer_of Check = check_text
+use Rattle.cutlab.specs.declared.fault.CliFault.TheVariants.{Memory, Plan, Read, Write, Journal, BadSlip, Checkpoint, WorkMemory, AuditMismatch}
 
 -- ---- reading
 
@@ -42,36 +39,73 @@ refused_at_sight text = if nat_lt 65536 (length text) then Some PlanTooLong else
 
 -- ---- answering
 
--- the first bytes of what is answered to the plan of a text
-pub record IsFront (answer : Values → List ℕ) (text written : List ℕ) : Type 0 where
+-- the first bytes of an answer to the plan of a text
+pub record IsFront (task : Task) (text written : List ℕ) : Type 0 where
   pub plan : Values
   pub read : plan_of text ≡ Ok plan
+  pub whole : List ℕ
+  pub answer : task.answers plan whole
   pub count : ℕ
-  pub front : written ≡ take count (answer plan)
+  pub front : written ≡ take count whole
 
--- what a command wrote, having read a text: all of its answer at Ok, its first bytes where a write failed, and
--- nothing where the text is refused or a read failed. Where memory ran out it had read nothing yet, or a text
--- that is not refused at sight, and wrote nothing or some first bytes of its answer
-abbrev pub Answers : (Values → List ℕ) → List ℕ → Result ⊤ CliFault → List ℕ → Traffic → Traffic → Type 0
-Answers answer text (Ok done) written old new =
-    IsReadThrough 65537 text old new × ((v : Values) × (plan_of text ≡ Ok v) × (written ≡ answer v))
-Answers answer text (Err Memory) written old new =
-    ((text ≡ []) × (written ≡ []) × (new.ends ≡ old.ends))
-    ⊎ (IsReadThrough 65537 text old new × (refused_at_sight text ≡ None) × ((written ≡ []) ⊎ IsFront answer text written))
-Answers answer text (Err (Plan refusal)) written old new =
-    IsReadThrough 65537 text old new × (plan_of text ≡ Err refusal) × (written ≡ [])
-Answers answer text (Err Read) written old new = IsReadPartly 65537 text old new × (written ≡ [])
-Answers answer text (Err (Write sent)) written old new =
+-- a text is a plan, and a task may fail with it by a fault of its own
+pub record FailsWith (task : Task) (text : List ℕ) (fault : CliFault) : Type 0 where
+  pub plan : Values
+  pub read : plan_of text ≡ Ok plan
+  pub fails : task.fails plan fault
+
+-- memory ran out when nothing was read yet, or a text that is not refused at sight
+abbrev pub IsReadUnrefused : List ℕ → Traffic → Traffic → Type 0
+IsReadUnrefused text old new =
+    ((text ≡ []) × (new.ends ≡ old.ends))
+    ⊎ (IsReadThrough 65537 text old new × (refused_at_sight text ≡ None))
+
+-- what a command wrote, having read a text: all of its answer at Ok, and as many of its first bytes as are told
+-- where a write failed; nothing where a read failed, the text or its plan is refused, memory was wanting before
+-- the plan was worked on, the checkpoint was not opened or a slip of it is bad; and some first bytes of its answer
+-- where the checkpoint, memory or the audit stopped a study that had begun, or nothing where memory did so before
+abbrev pub Answers : Task → List ℕ → Result ⊤ CliFault → List ℕ → Traffic → Traffic → Type 0
+Answers task text (Ok done) written old new =
+    IsReadThrough 65537 text old new × ((v : Values) × (plan_of text ≡ Ok v) × task.answers v written)
+Answers task text (Err (Write sent)) written old new =
     IsReadThrough 65537 text old new
-    × ((v : Values) × (plan_of text ≡ Ok v) × (written ≡ take sent (answer v)) × (sent < length (answer v)))
+    × ((front : IsFront task text written) × (front.count ≡ sent) × (sent < length front.whole))
+Answers task text (Err Read) written old new = IsReadPartly 65537 text old new × (written ≡ [])
+Answers task text (Err (Plan refusal)) written old new =
+    IsReadThrough 65537 text old new × (plan_of text ≡ Err refusal) × (written ≡ [])
+Answers task text (Err Memory) written old new = IsReadUnrefused text old new × (written ≡ [])
+Answers task text (Err (Journal fault)) written old new =
+    IsReadThrough 65537 text old new × FailsWith task text (Journal fault) × (written ≡ [])
+Answers task text (Err (BadSlip number)) written old new =
+    IsReadThrough 65537 text old new × FailsWith task text (BadSlip number) × (written ≡ [])
+Answers task text (Err WorkMemory) written old new =
+    IsReadThrough 65537 text old new × FailsWith task text WorkMemory × ((written ≡ []) ⊎ IsFront task text written)
+Answers task text (Err Checkpoint) written old new =
+    IsReadThrough 65537 text old new × FailsWith task text Checkpoint × IsFront task text written
+Answers task text (Err AuditMismatch) written old new =
+    IsReadThrough 65537 text old new × FailsWith task text AuditMismatch × IsFront task text written
 
 -- how a command ends: what it read and what it wrote, which is its answer to that
-pub record Ends (answer : Values → List ℕ) (old new : Traffic) (result : Result ⊤ CliFault) : Type 0 where
+pub record Ends (task : Task) (old new : Traffic) (result : Result ⊤ CliFault) : Type 0 where
   pub read : List ℕ
   pub given : new.given ≡ old.given ++ read
   pub written : List ℕ
   pub taken : new.taken ≡ old.taken ++ written
-  pub answers : Answers answer read result written old new
+  pub answers : Answers task read result written old new
+
+-- the answer of `check`
+abbrev pub check_task : Task
+check_task = record { answers = λ v whole. whole ≡ check_text v; fails = λ v fault. ⊥ }
+
+-- how a study ends that is kept in a file: one whose file does not open reads and writes nothing
+abbrev pub EndsFile : Traffic → Traffic → Result ⊤ CliFault → Type 0
+EndsFile old new result = ((result ≡ Err (Journal Disk)) × (new ≡ old)) ⊎ Ends file_task old new result
+
+-- how a job ends
+abbrev pub EndsJob : Job → Traffic → Traffic → Result ⊤ CliFault → Type 0
+EndsJob (Run piece workers None) old new result = Ends plain_task old new result
+EndsJob (Run piece workers (Some file)) old new result = EndsFile old new result
+EndsJob Check old new result = Ends check_task old new result
 
 -- ---- inside
 
@@ -85,11 +119,10 @@ GivesText limit (Err fault) old new = ⊥
 -- what was read, and the plan that it is or why there is none
 abbrev pub IsToldOf : List ℕ → Result Values CliFault → Traffic → Traffic → Type 0
 IsToldOf text (Ok v) old new = IsReadThrough 65537 text old new × (plan_of text ≡ Ok v)
-IsToldOf text (Err Memory) old new =
-    ((text ≡ []) × (new.ends ≡ old.ends)) ⊎ (IsReadThrough 65537 text old new × (refused_at_sight text ≡ None))
+IsToldOf text (Err Memory) old new = IsReadUnrefused text old new
 IsToldOf text (Err (Plan refusal)) old new = IsReadThrough 65537 text old new × (plan_of text ≡ Err refusal)
 IsToldOf text (Err Read) old new = IsReadPartly 65537 text old new
-IsToldOf text (Err (Write sent)) old new = ⊥
+IsToldOf text (Err fault) old new = ⊥
 
 -- what reading a plan gives
 pub record GivesPlan (result : Result Values CliFault) (old new : Traffic) : Type 0 where
@@ -101,6 +134,32 @@ pub record GivesPlan (result : Result Values CliFault) (old new : Traffic) : Typ
 abbrev pub text_of : {A : Type 0} → Result (Vec ℕ A) CliFault → Result (List ℕ) CliFault
 text_of (Ok text) = Ok text.items
 text_of (Err fault) = Err fault
+
+-- some first bytes of an answer to a plan were written
+pub record LeavesFront (task : Task) (v : Values) (old new : Traffic) : Type 0 where
+  pub whole : List ℕ
+  pub answer : task.answers v whole
+  pub count : ℕ
+  pub front : new ≡ wrote old (take count whole)
+
+-- what a task leaves that has begun with a plan: as in `Answers`
+abbrev pub Leaves : Task → Values → Result ⊤ CliFault → Traffic → Traffic → Type 0
+Leaves task v (Ok done) old new = (whole : List ℕ) × task.answers v whole × (new ≡ wrote old whole)
+Leaves task v (Err (Write sent)) old new =
+    (front : LeavesFront task v old new) × (front.count ≡ sent) × (sent < length front.whole)
+Leaves task v (Err Memory) old new = new ≡ old
+Leaves task v (Err (Journal fault)) old new = task.fails v (Journal fault) × (new ≡ old)
+Leaves task v (Err (BadSlip number)) old new = task.fails v (BadSlip number) × (new ≡ old)
+Leaves task v (Err WorkMemory) old new = task.fails v WorkMemory × ((new ≡ old) ⊎ LeavesFront task v old new)
+Leaves task v (Err Checkpoint) old new = task.fails v Checkpoint × LeavesFront task v old new
+Leaves task v (Err AuditMismatch) old new = task.fails v AuditMismatch × LeavesFront task v old new
+Leaves task v (Err fault) old new = ⊥
+
+-- why a journal is not opened: memory was wanting, or the task may fail so
+abbrev pub IsNotOpened : Task → Values → CliFault → Type 0
+IsNotOpened task v Memory = ⊤
+IsNotOpened task v (Journal fault) = task.fails v (Journal fault)
+IsNotOpened task v fault = ⊥
 
 -- what filling a buffer of this length leaves: its front was read
 abbrev pub FillsFrom : ℕ → Result ℕ CliFault → List ℕ → Traffic → Traffic → Type 0

@@ -4,7 +4,9 @@ ghost use Rattle.cutlab.specs.Faults.{code_of, number_of, status_of, fault_text,
 
 use arrayvec::ArrayString;
 use cut_faults::FaultCode;
+use cut_journal::JournalFault;
 use cut_plan::{Field, PlanFault, Refusal};
+use cut_pool::RunFault;
 use cut_table::Sent;
 use itoa::Buffer;
 use std::alloc::AllocError;
@@ -26,6 +28,16 @@ pub enum CliFault {
     Read,
     /// A write of the answer failed, after this many of its bytes were taken.
     Write(u64),
+    /// The checkpoint was not opened.
+    Journal(JournalFault),
+    /// The slip of this number in the checkpoint, from 1, is none of the plan.
+    BadSlip(u64),
+    /// The checkpoint took no more.
+    Checkpoint,
+    /// A growth of memory was refused to a study that was run.
+    WorkMemory,
+    /// What a study counted and what it accepted differ, or it could count no further.
+    AuditMismatch,
 }
 
 impl CliFault {
@@ -38,6 +50,11 @@ impl CliFault {
             CliFault::Plan(refusal) => refusal.code(),
             CliFault::Read => FaultCode::Read,
             CliFault::Write(_) => FaultCode::Write,
+            CliFault::Journal(fault) => fault.code(),
+            CliFault::BadSlip(_) => FaultCode::BadSlip,
+            CliFault::Checkpoint => FaultCode::Checkpoint,
+            CliFault::WorkMemory => FaultCode::WorkMemory,
+            CliFault::AuditMismatch => FaultCode::AuditMismatch,
         }
     }
 
@@ -70,8 +87,15 @@ impl CliFault {
         text.push_str(code.name());
         match self {
             CliFault::Plan(refusal) => push_field(&mut text, refusal.field()),
-            CliFault::Write(sent) => push_number(&mut text, *sent),
-            CliFault::Memory | CliFault::Read => {}
+            CliFault::Write(number)
+            | CliFault::BadSlip(number)
+            | CliFault::Journal(JournalFault::Damaged(number)) => push_number(&mut text, *number),
+            CliFault::Memory
+            | CliFault::Read
+            | CliFault::Journal(_)
+            | CliFault::Checkpoint
+            | CliFault::WorkMemory
+            | CliFault::AuditMismatch => {}
         }
         text
     }
@@ -132,6 +156,37 @@ impl From<PlanFault> for CliFault {
         match fault {
             PlanFault::Memory => CliFault::Memory,
             PlanFault::Refused(refusal) => CliFault::Plan(refusal),
+        }
+    }
+}
+
+impl From<JournalFault> for CliFault {
+    ghost use Rattle.std.specs.Prelude.{◌≡◌};
+    ghost use Rattle.cutlab.specs.Faults.{fault_of_journal};
+
+    ghost from_gives = { λ fault e. e ≡ fault_of_journal fault };
+
+    fn from(fault: JournalFault) -> CliFault {
+        match fault {
+            JournalFault::Memory => CliFault::Memory,
+            fault => CliFault::Journal(fault),
+        }
+    }
+}
+
+impl From<RunFault> for CliFault {
+    ghost use Rattle.std.specs.Prelude.{◌≡◌};
+    ghost use Rattle.cutlab.specs.Faults.{fault_of_study};
+
+    ghost from_gives = { λ fault e. e ≡ fault_of_study fault };
+
+    fn from(fault: RunFault) -> CliFault {
+        match fault {
+            RunFault::BadSlip(number) => CliFault::BadSlip(number),
+            RunFault::Checkpoint => CliFault::Checkpoint,
+            RunFault::Write(sent) => CliFault::Write(sent),
+            RunFault::WorkMemory => CliFault::WorkMemory,
+            RunFault::AuditMismatch => CliFault::AuditMismatch,
         }
     }
 }

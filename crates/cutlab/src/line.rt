@@ -1,6 +1,7 @@
-ghost use Rattle.std.specs.Prelude.{◌≡◌, ℕ, [], false, map, IfOk, IfErr, IfSome, IfNone};
+ghost use Rattle.std.specs.Prelude.{◌≡◌, ◌≤◌, ℕ, [], false, map, IfOk, IfErr, IfSome, IfNone};
 ghost use Rattle.clap.specs.Words.{app_of, fault_of, found_of, rows_of, rule_of, subcommand_rows_of};
-ghost use Rattle.cutlab.specs.Line.{piece_rule, program_app, status_of_kind, EndsLine, GivesPiece, IsJobOf, IsSized, NamesJob};
+ghost use Rattle.cutlab.specs.Line.{checkpoint_rule, piece_rule, workers_rule, program_app, status_of_kind};
+ghost use Rattle.cutlab.specs.Line.{EndsLine, GivesNumber, GivesRun, IsJobOf, IsSized, NamesJob};
 ghost use Rattle.cutlab.specs.declared.line.Job.{Job};
 
 use clap::error::ErrorKind;
@@ -11,13 +12,20 @@ use std::convert::AsStr;
 /// How many trials a piece of a study has at most.
 const PIECE_MOST: u32 = 1_000_000;
 
+/// How many workers a study has at most.
+const WORKERS_MOST: u32 = 64;
+
 /// A command of the program, with its values.
 #[derive(Clone, Copy, Debug, PartialEq, Eq)]
-pub enum Job {
+pub enum Job<'a> {
     /// Read a plan and print its table.
     Run {
         /// How many trials the pieces have that the study is cut into, the last of a cell fewer.
         piece: u32,
+        /// How many threads work on the study.
+        workers: u32,
+        /// The file that the study is kept in and goes on from, if there is one.
+        checkpoint: Option<&'a str>,
     },
     /// Read a plan and print how many cells and trials it has, and the quorum of its processes.
     Check,
@@ -35,7 +43,7 @@ pub struct LineFault {
 
 /// Reads a command line, whose first word is the program's name. There is a job only where clap finds no
 /// fault in the words, and else exactly the status of what it found.
-pub fn parse_line<S: AsStr>(alloc: Global, words: &[S]) -> Result<Job, LineFault>
+pub fn parse_line<'a, S: AsStr>(alloc: Global, words: &'a [S]) -> Result<Job<'a>, LineFault>
     ensures ok { IfOk result (λ job. NamesJob (map S.text words.now) job) }
     ensures sized { IfOk result (λ job. IsSized job) }
     ensures faultless { IfOk result (λ _. fault_of program_app (map S.text words.now) ≡ []) }
@@ -55,32 +63,45 @@ pub fn parse_line<S: AsStr>(alloc: Global, words: &[S]) -> Result<Job, LineFault
 }
 
 /// The job that the matches of a command line name.
-fn job_of(matches: &ArgMatches) -> Option<Job>
+fn job_of<'a>(matches: &ArgMatches<'a>) -> Option<Job<'a>>
     ensures some { IfSome result (λ job. IsJobOf (subcommand_rows_of matches.now) job) }
     ensures sized { IfSome result (λ job. IsSized job) }
     ensures none { IfNone result ((job : Job) → IsJobOf (subcommand_rows_of matches.now) job → ⊥) }
 {
     let (name, given) = matches.subcommand()?;
     match name {
-        "run" => match piece_size(given) {
-            Some(piece) => Some(Job::Run { piece }),
-            None => None,
-        },
+        "run" => run_job(given),
         "check" => Some(Job::Check),
         _ => None,
     }
 }
 
-/// How many trials a piece has, by the matches of `run`.
-fn piece_size(given: &ArgMatches) -> Option<u32>
-    ensures some { IfSome result (λ n. GivesPiece (rows_of (found_of given.now)) n) }
-    ensures none { IfNone result ((n : ℕ) → GivesPiece (rows_of (found_of given.now)) n → ⊥) }
+/// The run that the matches of `run` give.
+fn run_job<'a>(given: &ArgMatches<'a>) -> Option<Job<'a>>
+    ensures some { IfSome result (λ job. GivesRun (rows_of (found_of given.now)) job) }
+    ensures sized { IfSome result (λ job. IsSized job) }
+    ensures none { IfNone result ((job : Job) → GivesRun (rows_of (found_of given.now)) job → ⊥) }
 {
-    let piece = given.get_one::<u32>("piece")?;
-    if piece < 1 || piece > PIECE_MOST {
+    let piece = number_given(given, "piece", PIECE_MOST)?;
+    let workers = number_given(given, "workers", WORKERS_MOST)?;
+    Some(Job::Run {
+        piece,
+        workers,
+        checkpoint: given.get_str("checkpoint"),
+    })
+}
+
+/// The number, from 1 to a greatest one, that the matches give for an option.
+fn number_given(given: &ArgMatches, option: &str, most: u32) -> Option<u32>
+    ensures some { IfSome result (λ n. GivesNumber option.now most (rows_of (found_of given.now)) n) }
+    ensures none { IfNone result
+        ((n : ℕ) → GivesNumber option.now most (rows_of (found_of given.now)) n → ⊥) }
+{
+    let number = given.get_one::<u32>(option)?;
+    if number < 1 || number > most {
         return None;
     }
-    Some(piece)
+    Some(number)
 }
 
 /// The program's commands.
@@ -89,7 +110,9 @@ fn commands<'a>(alloc: Global) -> Result<Command<'a>, AllocError>
 {
     let run = Command::new(alloc, "run")
         .about("Read a plan and print its table")
-        .arg(piece_option(alloc))?;
+        .arg(piece_option(alloc))?
+        .arg(workers_option(alloc))?
+        .arg(checkpoint_option(alloc))?;
     let check = Command::new(alloc, "check").about(
         "Read a plan and print its cells, its trials and the quorum",
     );
@@ -113,6 +136,30 @@ fn piece_option<'a>(alloc: Global) -> Arg<'a>
         .value_parser(clap::value_parser!(u32).range(1..=1_000_000))
         .default_value("16")
         .help("How many trials are run as one piece, from 1 to 1000000")
+}
+
+/// The option that says how many threads work on a study.
+fn workers_option<'a>(alloc: Global) -> Arg<'a>
+    ensures rule { rule_of result ≡ workers_rule }
+    ensures local { result.global ≡ false }
+{
+    Arg::new(alloc, "workers")
+        .long("workers")
+        .value_name("COUNT")
+        .value_parser(clap::value_parser!(u32).range(1..=64))
+        .default_value("1")
+        .help("How many threads work on the study, from 1 to 64")
+}
+
+/// The option that names the file of a checkpoint.
+fn checkpoint_option<'a>(alloc: Global) -> Arg<'a>
+    ensures rule { rule_of result ≡ checkpoint_rule }
+    ensures local { result.global ≡ false }
+{
+    Arg::new(alloc, "checkpoint")
+        .long("checkpoint")
+        .value_name("FILE")
+        .help("Keep the study in this file, and go on from what it holds")
 }
 
 /// What is told of a command line in which clap found this, with clap's text where it has one.

@@ -29,7 +29,7 @@ fn main(rt: HostRuntime) -> ExitCode {
         Err(error) => return ExitCode::from(end_unread(error.kind(), &mut errors)),
     };
     let mut wire = StreamWire::new(rt.stdin(), rt.stdout());
-    ExitCode::from(run_words(rt.alloc(), &words, &mut wire, &mut errors))
+    ExitCode::from(run_words(&rt, &rt, &words, &mut wire, &mut errors))
 }
 
 /// The words of the command line, the program's name first.

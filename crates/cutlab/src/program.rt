@@ -5,9 +5,10 @@ ghost use Rattle.cutlab.specs.Program.{passage_of, HasEnded, IsSent, TellsEnd, T
 use crate::run::answer;
 use crate::{CliFault, LineFault, parse_line};
 use cut_table::{Wire, send_all};
-use std::alloc::Global;
 use std::convert::AsStr;
 use std::io::ErrorKind;
+use std::sync::Wait;
+use std::thread::Threads;
 
 /// The line of a word that is not UTF-8.
 const UNREADABLE_LINE: &[u8] = b"error: a word of the command line is not UTF-8\n";
@@ -17,19 +18,25 @@ const UNREADABLE_LINE: &[u8] = b"error: a word of the command line is not UTF-8\
 ///
 /// A command reads its plan from `wire` and writes its answer to it; its fault is one line on `errors`, from
 /// which nothing is read. Help goes to `wire`, what is wrong with the words to `errors`, both as clap writes
-/// them.
-pub fn run_words<S: AsStr, W: Wire, E: Wire>(
-    alloc: Global,
+/// them. The file of a checkpoint is opened by `host`, and the threads of a study are made by `rt`.
+pub fn run_words<R, S, W, E>(
+    host: &HostRuntime,
+    rt: &R,
     words: &[S],
     wire: &mut W,
     errors: &mut E,
 ) -> u8
+where
+    R: Threads + Wait + Sync,
+    S: AsStr,
+    W: Wire,
+    E: Wire,
     ensures { HasEnded (map S.text words.now) (passage_of W.tells W.traffic W.faults wire.old wire.new)
         (passage_of E.tells E.traffic E.faults errors.old errors.new) result }
 {
-    match parse_line(alloc, words) {
+    match parse_line(host.alloc(), words) {
         Ok(job) => {
-            let ended = answer(alloc, job, wire);
+            let ended = answer(host, rt, job, wire);
             end(ended, errors)
         }
         Err(fault) => end_line(&fault, wire, errors),

@@ -1,45 +1,94 @@
 ghost use Rattle.std.specs.Prelude.{◌≡◌, ◌≤◌, ◌++◌, ◌↔◌, string_bytes, IfOk, IfErr, OnOk};
-ghost use Rattle.cut_lines.specs.Lines.{table};
 ghost use Rattle.cutlab.specs.Check.{check_text, number_line};
 ghost use Rattle.cutlab.specs.Faults.{failed_calls};
 ghost use Rattle.cutlab.specs.Line.{IsSized};
-ghost use Rattle.cutlab.specs.Run.{Ends, GivesPlan, answer_of};
+ghost use Rattle.cutlab.specs.Run.{Ends, EndsFile, EndsJob, GivesPlan, check_task};
+ghost use Rattle.cutlab.specs.Study.{IsTrueStore, study_task, table_task};
 
 use crate::input::{LIMIT, read_text};
 use crate::study::study;
 use crate::{CliFault, Job};
-use cut_plan::Plan;
-use cut_table::{TableFault, Wire, emit_table, send_all};
+use cut_disks::{Disk, FileDisk};
+use cut_journal::JournalFault;
+use cut_ledger::laws::true_slips_tell_the_table;
+use cut_plan::{Plan, accepted_texts_give_plans};
+use cut_table::{Wire, send_all};
 use cut_trial::quorum;
 use std::alloc::{AllocError, Global};
+use std::sync::Wait;
+use std::thread::Threads;
 
-/// Reads a plan from a wire, runs its study by pieces of this many trials, and writes its table to the wire.
+/// Reads a plan from a wire, runs its study by so many workers in threads of their own, in pieces of this
+/// many trials, and writes its table to the wire, each line as soon as its cell and those before it are done.
 ///
-/// At most 65,537 bytes are read. What was written is the whole table at `Ok`, its first bytes where a write
-/// failed or memory for a line was refused, and nothing at any other fault. Read comes exactly where a read
-/// failed, and Write exactly where a write failed or took nothing. What is too long or no UTF-8 is refused
-/// without memory once it is read.
-pub fn run_io<W: Wire>(alloc: Global, wire: &mut W, piece_size: u32) -> Result<(), CliFault>
-    requires { 1 ≤ piece_size }
-    ensures ends { W.tells wire.old → Ends table (W.traffic wire.old) (W.traffic wire.new) result }
+/// With a disk the study is kept there: it goes on from the slips that the disk holds, or begins where it
+/// holds none, and each piece is kept once it is done.
+///
+/// For every plan, piece size, number of workers, checkpoint and wire, what the wire took is a prefix of the
+/// plan's table, trial by trial as it is defined: all of it at `Ok`, and exactly as many bytes as are told
+/// where a write failed. That is the clause `table`, of a wire that tells what passes over it, and without a
+/// disk or over an honest one that holds no study, or true slips, as those are that this program writes. Over
+/// any other disk the clause `ends` says the same of the table over the slips that were found there.
+///
+/// At most 65,537 bytes are read. Nothing is written at a fault of the reading, the plan, the opening of the
+/// checkpoint or its slips; some first bytes may be written where the checkpoint, memory or the audit stop a
+/// study that has begun. Read comes exactly where a read failed, and Write exactly where a write failed or
+/// took nothing. What is too long or no UTF-8 is refused without memory once it is read.
+pub fn run_io<W, D, R>(
+    rt: &R,
+    alloc: Global,
+    wire: &mut W,
+    piece_size: u32,
+    workers: u32,
+    disk: Option<D>,
+) -> Result<(), CliFault>
+where
+    W: Wire,
+    D: Disk + Drop + Send,
+    R: Threads + Wait + Sync,
+    requires size { 1 ≤ piece_size }
+    requires workers { (1 ≤ workers) × (workers ≤ 64) }
+    ensures ends { W.tells wire.old →
+        Ends (study_task D.is_honest D.state disk) (W.traffic wire.old) (W.traffic wire.new) result }
+    ensures table { W.tells wire.old → IsTrueStore D.is_honest D.state disk →
+        Ends (table_task D.is_honest D.state disk) (W.traffic wire.old) (W.traffic wire.new) result }
+    ensures tells { W.tells wire.old ↔ W.tells wire.new }
+    ensures faults { W.faults wire.new ≡ failed_calls result (W.faults wire.old) }
+{
+    accepted_texts_give_plans();
+    true_slips_tell_the_table();
+    run(rt, alloc, wire, piece_size, workers, disk)
+}
+
+/// The same, told of the slips that the disk holds, whichever they are.
+fn run<W, D, R>(
+    rt: &R,
+    alloc: Global,
+    wire: &mut W,
+    piece_size: u32,
+    workers: u32,
+    disk: Option<D>,
+) -> Result<(), CliFault>
+where
+    W: Wire,
+    D: Disk + Drop + Send,
+    R: Threads + Wait + Sync,
+    requires size { 1 ≤ piece_size }
+    requires workers { (1 ≤ workers) × (workers ≤ 64) }
+    ensures ends { W.tells wire.old →
+        Ends (study_task D.is_honest D.state disk) (W.traffic wire.old) (W.traffic wire.new) result }
     ensures tells { W.tells wire.old ↔ W.tells wire.new }
     ensures faults { W.faults wire.new ≡ failed_calls result (W.faults wire.old) }
 {
     let plan = read_plan(alloc, wire)?;
-    let ledger = study(alloc, plan, piece_size)?;
-    match emit_table(alloc, &ledger, wire) {
-        Ok(()) => Ok(()),
-        Err(TableFault::Memory(_)) => Err(CliFault::Memory),
-        Err(TableFault::Write(sent)) => Err(CliFault::Write(sent)),
-        Err(TableFault::NotDone(_)) => unreachable!(),
-    }
+    study(rt, alloc, &plan, piece_size, workers, disk, wire)
 }
 
 /// Reads a plan from a wire and writes how many cells and trials it has, and the quorum of its processes.
 ///
 /// What is read and written, and each fault, is as in `run_io`.
 pub fn check_io<W: Wire>(alloc: Global, wire: &mut W) -> Result<(), CliFault>
-    ensures ends { W.tells wire.old → Ends check_text (W.traffic wire.old) (W.traffic wire.new) result }
+    ensures ends { W.tells wire.old → Ends check_task (W.traffic wire.old) (W.traffic wire.new) result }
     ensures tells { W.tells wire.old ↔ W.tells wire.new }
     ensures faults { W.faults wire.new ≡ failed_calls result (W.faults wire.old) }
 {
@@ -49,16 +98,58 @@ pub fn check_io<W: Wire>(alloc: Global, wire: &mut W) -> Result<(), CliFault>
     Ok(())
 }
 
-/// Does a job over a wire.
-pub(crate) fn answer<W: Wire>(alloc: Global, job: Job, wire: &mut W) -> Result<(), CliFault>
+/// Does a job over a wire. The file of a checkpoint is opened by `host` before anything is read.
+pub(crate) fn answer<W, R>(
+    host: &HostRuntime,
+    rt: &R,
+    job: Job,
+    wire: &mut W,
+) -> Result<(), CliFault>
+where
+    W: Wire,
+    R: Threads + Wait + Sync,
     requires { IsSized job }
-    ensures ends { W.tells wire.old → Ends (answer_of job) (W.traffic wire.old) (W.traffic wire.new) result }
+    ensures ends { W.tells wire.old → EndsJob job.entry (W.traffic wire.old) (W.traffic wire.new) result }
     ensures tells { W.tells wire.old ↔ W.tells wire.new }
     ensures faults { W.faults wire.new ≡ failed_calls result (W.faults wire.old) }
 {
+    let alloc = host.alloc();
     match job {
-        Job::Run { piece } => run_io(alloc, wire, piece),
+        Job::Run {
+            piece,
+            workers,
+            checkpoint: None,
+        } => run_io::<W, FileDisk, R>(rt, alloc, wire, piece, workers, None),
+        Job::Run {
+            piece,
+            workers,
+            checkpoint: Some(path),
+        } => run_file(host, rt, wire, piece, workers, path),
         Job::Check => check_io(alloc, wire),
+    }
+}
+
+/// Runs a study that is kept in the file at a path.
+fn run_file<W, R>(
+    host: &HostRuntime,
+    rt: &R,
+    wire: &mut W,
+    piece_size: u32,
+    workers: u32,
+    path: &str,
+) -> Result<(), CliFault>
+where
+    W: Wire,
+    R: Threads + Wait + Sync,
+    requires size { 1 ≤ piece_size }
+    requires workers { (1 ≤ workers) × (workers ≤ 64) }
+    ensures ends { W.tells wire.old → EndsFile (W.traffic wire.old) (W.traffic wire.new) result }
+    ensures tells { W.tells wire.old ↔ W.tells wire.new }
+    ensures faults { W.faults wire.new ≡ failed_calls result (W.faults wire.old) }
+{
+    match FileDisk::open(host, path) {
+        Ok(disk) => run_io(rt, host.alloc(), wire, piece_size, workers, Some(disk)),
+        Err(_) => Err(CliFault::Journal(JournalFault::Disk)),
     }
 }
 

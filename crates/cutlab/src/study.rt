@@ -1,56 +1,69 @@
-ghost use Rattle.std.specs.Prelude.{◌≡◌, ◌≤◌, false, IfOk, OnOk, IsTrue};
-ghost use Rattle.cut_ledger.specs.Contents.{with_piece, overlaps};
-ghost use Rattle.cut_ledger.specs.Machine.{available};
-ghost use Rattle.cut_lines.specs.Lines.{table};
-ghost use Rattle.cut_table.specs.Table.{AreDone};
-ghost use Rattle.cut_trial.specs.Outcome.{rings_of};
-ghost use Rattle.cut_trial.specs.Sum.{is_piece};
+ghost use Rattle.std.specs.Prelude.{◌≡◌, ◌≤◌, ◌↔◌, Ok, is_some, length, IfOk, IfErr, IfSome};
+ghost use Rattle.cut_journal.specs.Reading.{reading};
+ghost use Rattle.cut_pool.specs.Running.{slips_of};
+ghost use Rattle.cutlab.specs.Faults.{failed_calls};
+ghost use Rattle.cutlab.specs.Run.{IsNotOpened, Leaves};
+ghost use Rattle.cutlab.specs.Study.{BeginsWith, IsReady, study_task};
 
-use cut_ledger::laws::{pieces_fill_a_ledger, same_plans_are_equal};
-use cut_ledger::{Ledger, LedgerFault};
+use crate::CliFault;
+use cut_disks::Disk;
+use cut_journal::Journal;
+use cut_ledger::Slip;
 use cut_plan::Plan;
-use cut_rings::Rings;
-use cut_trial::{Piece, TrialFault, run_piece};
-use std::alloc::{AllocError, Global};
+use cut_pool::{OpenGate, run_study};
+use cut_table::Wire;
+use std::alloc::Global;
+use std::sync::Wait;
+use std::thread::Threads;
 
-/// Runs every trial of a plan, by pieces of this size, and gives the ledger that holds them.
-pub(crate) fn study(alloc: Global, plan: Plan, piece_size: u32) -> Result<Ledger, AllocError>
-    requires { 1 ≤ piece_size }
-    ensures done { IfOk result (λ l. AreDone l.contents) }
-    ensures table { IfOk result (λ l. available l.contents ≡ table plan) }
+/// Runs the study of a plan by so many workers, in pieces of this size, and writes its table to the wire. It
+/// goes on from the slips that the disk holds, where there is one, and is kept there.
+pub(crate) fn study<D, W, R>(
+    rt: &R,
+    alloc: Global,
+    plan: &Plan,
+    piece_size: u32,
+    workers: u32,
+    disk: Option<D>,
+    wire: &mut W,
+) -> Result<(), CliFault>
+where
+    D: Disk + Drop + Send,
+    W: Wire,
+    R: Threads + Wait + Sync,
+    requires size { 1 ≤ piece_size }
+    requires workers { (1 ≤ workers) × (workers ≤ 64) }
+    ensures told { W.tells wire.old → Leaves (study_task D.is_honest D.state disk) plan.now result
+        (W.traffic wire.old) (W.traffic wire.new) }
+    ensures tells { W.tells wire.old ↔ W.tells wire.new }
+    ensures faults { W.faults wire.new ≡ failed_calls result (W.faults wire.old) }
 {
-    pieces_fill_a_ledger();
-    let rings = Rings::hashed(alloc, &plan)?;
-    let mut ledger = Ledger::fresh(alloc, plan)?;
-    let pieces = ledger.pieces(alloc, piece_size)?;
-    for piece in &pieces {
-        add_piece(alloc, &mut ledger, &rings, *piece)?;
+    let kept = open_journal(alloc, disk, plan)?;
+    match run_study(rt, alloc, plan, piece_size, workers, kept, wire, &OpenGate) {
+        Ok(_done) => Ok(()),
+        Err(fault) => Err(CliFault::from(fault)),
     }
-    Ok(ledger)
 }
 
-/// Runs a piece of which no trial is held, and adds it to the ledger.
-fn add_piece(
+/// The journal of a study on a disk, if there is one, with the slips that are kept in it.
+fn open_journal<D: Disk + Drop>(
     alloc: Global,
-    ledger: &mut Ledger,
-    rings: &Rings,
-    piece: Piece,
-) -> Result<(), AllocError>
-    requires rings { rings.now ≡ rings_of ledger.old.contents.plan }
-    requires piece { IsTrue (is_piece ledger.old.contents.plan piece) }
-    requires free { overlaps ledger.old.contents piece ≡ false }
-    ensures { OnOk result (ledger.new.contents ≡ with_piece ledger.old.contents piece) }
+    disk: Option<D>,
+    plan: &Plan,
+) -> Result<Option<(Journal<D>, Vec<Slip>)>, CliFault>
+    ensures begins { IfOk result (λ kept. BeginsWith D.is_honest D.state disk plan.now (slips_of kept)) }
+    ensures some { IfOk result (λ kept. is_some kept ≡ is_some disk) }
+    ensures ready { IfOk result (λ kept. IfSome kept (λ k. IsReady plan.now k.0)) }
+    ensures count { IfOk result (λ kept. IfSome kept (λ k. k.0.count ≡ length k.1.items)) }
+    ensures read { IfOk result (λ kept. IfSome kept (λ k. D.is_honest k.0.disk →
+        reading plan.now (D.state k.0.disk).bytes ≡ Ok k.1.items)) }
+    ensures err { IfErr result (λ e. IsNotOpened (study_task D.is_honest D.state disk) plan.now e) }
 {
-    same_plans_are_equal();
-    let computed = match run_piece(alloc, ledger.plan(), rings, piece) {
-        Ok(computed) => computed,
-        Err(TrialFault::Memory) => return Err(AllocError),
-        Err(TrialFault::BadPiece) => unreachable!(),
+    let Some(disk) = disk else {
+        return Ok(None);
     };
-    match ledger.offer(&computed) {
-        Ok(()) => Ok(()),
-        Err(LedgerFault::Memory) => Err(AllocError),
-        Err(LedgerFault::Stranger) | Err(LedgerFault::Overlap) | Err(LedgerFault::BadSlip(_)) =>
-            unreachable!(),
+    match Journal::open(alloc, disk, plan) {
+        Ok((journal, slips)) => Ok(Some((journal, slips))),
+        Err((fault, _)) => Err(CliFault::from(fault)),
     }
 }

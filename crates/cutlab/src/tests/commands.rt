@@ -5,9 +5,10 @@ use super::{PLAN, plan_table, plan_with};
 use crate::line::status_of_kind;
 use crate::{Job, StreamWire, end_unread, parse_line, run_words};
 use clap::error::ErrorKind;
-use std::alloc::Global;
-use std::io;
+use std::sync::Wait;
 use std::test::Fail;
+use std::thread::Threads;
+use std::{fs, io};
 
 /// What the program left: its status, its output and its errors.
 #[derive(Drop)]
@@ -18,11 +19,18 @@ struct Left {
 }
 
 /// What the program leaves, given these words and this input.
-fn left_by(alloc: Global, words: &[&str], input: &str) -> Left {
+fn left_by<T: Threads + Wait + Sync>(
+    host: &HostRuntime,
+    rt: &T,
+    words: &[&str],
+    input: &str,
+) -> Left {
+    let alloc = host.alloc();
     let mut output = Vec::new(alloc);
     let mut errors = Vec::new(alloc);
     let status = run_words(
-        alloc,
+        host,
+        rt,
         words,
         &mut StreamWire::new(input.as_bytes(), &mut output),
         &mut StreamWire::new(io::empty(), &mut errors),
@@ -42,18 +50,45 @@ fn has(bytes: &[u8], part: &str) -> bool {
     }
 }
 
+/// A run by pieces of this size and one worker that is not kept.
+fn run_by<'a>(piece: u32) -> Job<'a> {
+    run_with(piece, 1)
+}
+
+/// A run by pieces of this size and so many workers that is not kept.
+fn run_with<'a>(piece: u32, workers: u32) -> Job<'a> {
+    Job::Run {
+        piece,
+        workers,
+        checkpoint: None,
+    }
+}
+
 #[test]
 fn jobs_are_named(rt: HostRuntime) {
     let alloc = rt.alloc();
-    let rows: [(&[&str], Job); 6] = [
+    let rows: [(&[&str], Job); 8] = [
         (&["cutlab", "check"], Job::Check),
-        (&["cutlab", "run"], Job::Run { piece: 16 }),
-        (&["cutlab", "run", "--piece", "1"], Job::Run { piece: 1 }),
-        (&["cutlab", "run", "--piece=7"], Job::Run { piece: 7 }),
-        (&["cutlab", "run", "--piece", "+20"], Job::Run { piece: 20 }),
+        (&["cutlab", "run"], run_by(16)),
+        (&["cutlab", "run", "--piece", "1"], run_by(1)),
+        (&["cutlab", "run", "--piece=7"], run_by(7)),
+        (&["cutlab", "run", "--piece", "+20"], run_by(20)),
+        (&["cutlab", "run", "--piece", "1000000"], run_by(1_000_000)),
         (
-            &["cutlab", "run", "--piece", "1000000"],
-            Job::Run { piece: 1_000_000 },
+            &["cutlab", "run", "--checkpoint", "a.cut", "--piece", "2"],
+            Job::Run {
+                piece: 2,
+                workers: 1,
+                checkpoint: Some("a.cut"),
+            },
+        ),
+        (
+            &["cutlab", "run", "--checkpoint="],
+            Job::Run {
+                piece: 16,
+                workers: 1,
+                checkpoint: Some(""),
+            },
         ),
     ];
     for (words, wanted) in rows {
@@ -65,18 +100,68 @@ fn jobs_are_named(rt: HostRuntime) {
 }
 
 #[test]
+fn workers_are_named(rt: HostRuntime) {
+    let alloc = rt.alloc();
+    let rows: [(&[&str], Job); 4] = [
+        (&["cutlab", "run", "--workers", "1"], run_with(16, 1)),
+        (&["cutlab", "run", "--workers", "64"], run_with(16, 64)),
+        (
+            &["cutlab", "run", "--workers=3", "--piece", "2"],
+            run_with(2, 3),
+        ),
+        (
+            &["cutlab", "run", "--checkpoint", "a.cut", "--workers", "2"],
+            Job::Run {
+                piece: 16,
+                workers: 2,
+                checkpoint: Some("a.cut"),
+            },
+        ),
+    ];
+    for (words, wanted) in rows {
+        match parse_line(alloc, words) {
+            Ok(job) => assert_eq!(rt; job, wanted, "{words:?}"),
+            Err(_) => assert!(rt; false, "{words:?}"),
+        }
+    }
+}
+
+#[test]
+fn workers_out_of_range_are_mistakes(rt: HostRuntime) {
+    let rows: [(&[&str], &str); 4] = [
+        (&["cutlab", "run", "--workers", "0"], "0 is not in 1..=64"),
+        (&["cutlab", "run", "--workers", "65"], "65 is not in 1..=64"),
+        (
+            &["cutlab", "run", "--workers", "x"],
+            "invalid value 'x' for '--workers <COUNT>'",
+        ),
+        (
+            &["cutlab", "check", "--workers", "1"],
+            "unexpected argument '--workers' found",
+        ),
+    ];
+    for (words, part) in rows {
+        let left = left_by(&rt, &rt, words, PLAN);
+        assert_eq!(rt; left.status, 2, "{part}");
+        assert!(rt; left.output.is_empty(), "{part}");
+        assert!(rt; has(&left.errors, part), "{part}");
+    }
+}
+
+#[test]
 fn jobs_write_their_answer(rt: HostRuntime) -> Result<(), Fail> {
     let alloc = rt.alloc();
     let table = plan_table(alloc)?;
-    let rows = [
-        ("run", table.as_str()),
-        ("check", "cells 1\ntrials 2\nquorum 4\n"),
+    let rows: [(&[&str], &str); 3] = [
+        (&["cutlab", "run"], table.as_str()),
+        (&["cutlab", "run", "--workers", "3"], table.as_str()),
+        (&["cutlab", "check"], "cells 1\ntrials 2\nquorum 4\n"),
     ];
-    for (job, answer) in rows {
-        let left = left_by(alloc, &["cutlab", job], PLAN);
-        assert_eq!(rt; left.status, 0, "{job}");
-        assert!(rt; left.output.as_slice() == answer.as_bytes(), "{job}");
-        assert!(rt; left.errors.is_empty(), "{job}");
+    for (words, answer) in rows {
+        let left = left_by(&rt, &rt, words, PLAN);
+        assert_eq!(rt; left.status, 0, "{words:?}");
+        assert!(rt; left.output.as_slice() == answer.as_bytes(), "{words:?}");
+        assert!(rt; left.errors.is_empty(), "{words:?}");
     }
     Ok(())
 }
@@ -95,12 +180,47 @@ fn a_fault_is_one_line_of_errors(rt: HostRuntime) -> Result<(), Fail> {
     ];
     for (text, line) in rows {
         for job in ["run", "check"] {
-            let left = left_by(alloc, &["cutlab", job], text);
+            let left = left_by(&rt, &rt, &["cutlab", job], text);
             assert_eq!(rt; left.status, 3, "{line}");
             assert!(rt; left.output.is_empty(), "{line}");
             assert!(rt; left.errors.as_slice() == line.as_bytes(), "{line}");
         }
     }
+    Ok(())
+}
+
+/// A folder, which is no file of a checkpoint.
+const FOLDER: &str = "cutlab_commands_test";
+
+#[test]
+fn a_checkpoint_is_opened_first(rt: HostRuntime) -> Result<(), Fail> {
+    let _ = fs::remove_dir_all(&rt, FOLDER);
+    fs::create_dir(&rt, FOLDER)?;
+    for path in [FOLDER, "cutlab_commands_test/none/study.cut", ""] {
+        let left = left_by(&rt, &rt, &["cutlab", "run", "--checkpoint", path], "[]");
+        assert_eq!(rt; left.status, 4, "{path}");
+        assert!(rt; left.output.is_empty(), "{path}");
+        assert!(rt;
+            left.errors.as_slice() == b"cutlab: fault 20 Disk\n".as_slice(),
+            "{path}"
+        );
+    }
+    let words = [
+        "cutlab",
+        "run",
+        "--piece",
+        "1",
+        "--checkpoint",
+        "cutlab_commands_test/study.cut",
+    ];
+    let table = plan_table(rt.alloc())?;
+    for _ in 0..2 {
+        let left = left_by(&rt, &rt, &words, PLAN);
+        assert_eq!(rt; left.status, 0);
+        assert!(rt; left.output.as_slice() == table.as_bytes());
+        assert_eq!(rt; fs::read(&rt, "cutlab_commands_test/study.cut")?.len(), 477);
+    }
+    fs::remove_dir_all(&rt, FOLDER)?;
     Ok(())
 }
 
@@ -112,7 +232,7 @@ fn help_is_output(rt: HostRuntime) {
         &["cutlab", "run", "--help"],
     ];
     for words in rows {
-        let left = left_by(rt.alloc(), words, PLAN);
+        let left = left_by(&rt, &rt, words, PLAN);
         assert_eq!(rt; left.status, 0, "{words:?}");
         assert!(rt; has(&left.output, "Usage: cutlab"), "{words:?}");
         assert!(rt; left.errors.is_empty(), "{words:?}");
@@ -151,7 +271,7 @@ fn mistakes_are_errors(rt: HostRuntime) {
         (&["cutlab", "--frob"], "unexpected argument '--frob' found"),
     ];
     for (words, part) in rows {
-        let left = left_by(rt.alloc(), words, PLAN);
+        let left = left_by(&rt, &rt, words, PLAN);
         assert_eq!(rt; left.status, 2, "{part}");
         assert!(rt; left.output.is_empty(), "{part}");
         assert!(rt; has(&left.errors, part), "{part}");
@@ -197,7 +317,8 @@ fn a_failed_output_is_told(rt: HostRuntime) -> Result<(), Fail> {
         let mut output = Device::new(alloc, b"", 7, at, Act::Nothing);
         let mut errors = Vec::new(alloc);
         let status = run_words(
-            alloc,
+            &rt,
+            &rt,
             &["cutlab", word],
             &mut StreamWire::new(PLAN.as_bytes(), &mut output),
             &mut StreamWire::new(io::empty(), &mut errors),
@@ -220,7 +341,8 @@ fn errors_that_fail_leave_the_status(rt: HostRuntime) {
         let mut output = Vec::new(alloc);
         let mut errors = Device::new(alloc, b"", 7, 0, Act::Fail(io::ErrorKind::BrokenPipe));
         let status = run_words(
-            alloc,
+            &rt,
+            &rt,
             words,
             &mut StreamWire::new(text.as_bytes(), &mut output),
             &mut StreamWire::new(io::empty(), &mut errors),

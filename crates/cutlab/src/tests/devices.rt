@@ -5,7 +5,9 @@ use crate::{CliFault, StreamWire};
 use cut_table::{Wire, WireFault};
 use std::alloc::{AllocError, Global};
 use std::io::{self, ErrorKind, Read, Write};
+use std::sync::Wait;
 use std::test::Fail;
+use std::thread::Threads;
 
 /// What a device does at a call.
 #[derive(Clone, Copy, Debug, PartialEq, Eq)]
@@ -78,10 +80,15 @@ impl<'a> Write for Device<'a> {
 
 /// Runs the plan from a reader whose call `at` fails. Whether the answer is Read, nothing is written,
 /// and no call came after the one that failed.
-fn stops_at_read(alloc: Global, at: usize, kind: ErrorKind) -> bool {
+fn stops_at_read<T: Threads + Wait + Sync>(
+    rt: &T,
+    alloc: Global,
+    at: usize,
+    kind: ErrorKind,
+) -> bool {
     let mut input = Device::new(alloc, PLAN.as_bytes(), 1, at, Act::Fail(kind));
     let mut output = Vec::new(alloc);
-    match run(alloc, &mut input, &mut output) {
+    match run(rt, alloc, &mut input, &mut output) {
         Err(CliFault::Read) => output.is_empty() && input.calls == at.saturating_add(1),
         _ => false,
     }
@@ -99,10 +106,17 @@ fn taken_by(step: usize, writes: usize) -> usize {
 
 /// Writes the plan's table to a writer whose call `at` does `act`. Whether the answer is Write with
 /// the bytes that the writer took, which are the table's first, and no call came after that one.
-fn stops_at_write(alloc: Global, table: &str, step: usize, at: usize, act: Act) -> bool {
+fn stops_at_write<T: Threads + Wait + Sync>(
+    rt: &T,
+    alloc: Global,
+    table: &str,
+    step: usize,
+    at: usize,
+    act: Act,
+) -> bool {
     let taken = taken_by(step, at);
     let mut output = Device::new(alloc, b"", step, at, act);
-    match run(alloc, PLAN.as_bytes(), &mut output) {
+    match run(rt, alloc, PLAN.as_bytes(), &mut output) {
         Err(CliFault::Write(sent)) => {
             sent == taken as u64
                 && Some(output.output.as_slice()) == table.as_bytes().get(..taken)
@@ -117,11 +131,11 @@ fn each_read_fails(rt: HostRuntime) -> Result<(), Fail> {
     // A call for each byte, and one that tells the end.
     for at in 0..PLAN.len() + 1 {
         assert!(rt;
-            stops_at_read(rt.alloc(), at, ErrorKind::Other),
+            stops_at_read(&rt, rt.alloc(), at, ErrorKind::Other),
             "read {at}"
         );
         assert!(rt;
-            stops_at_read(rt.alloc(), at, ErrorKind::Interrupted),
+            stops_at_read(&rt, rt.alloc(), at, ErrorKind::Interrupted),
             "read {at}"
         );
     }
@@ -140,13 +154,13 @@ fn each_write_fails(rt: HostRuntime) -> Result<(), Fail> {
     for act in acts {
         for at in 0..table.len() {
             assert!(rt;
-                stops_at_write(alloc, table.as_str(), 1, at, act),
+                stops_at_write(&rt, alloc, table.as_str(), 1, at, act),
                 "write {at}"
             );
         }
         for at in 0..15 {
             assert!(rt;
-                stops_at_write(alloc, table.as_str(), 7, at, act),
+                stops_at_write(&rt, alloc, table.as_str(), 7, at, act),
                 "write {at}"
             );
         }
@@ -160,7 +174,7 @@ fn one_byte_at_a_time(rt: HostRuntime) -> Result<(), Fail> {
     let table = plan_table(alloc)?;
     let mut input = Device::new(alloc, PLAN.as_bytes(), 1, usize::MAX, Act::Nothing);
     let mut output = Device::new(alloc, b"", 1, usize::MAX, Act::Nothing);
-    run(alloc, &mut input, &mut output)?;
+    run(&rt, alloc, &mut input, &mut output)?;
     assert!(rt; output.output.as_slice() == table.as_bytes());
     assert_eq!(rt; output.calls, table.len());
     assert_eq!(rt; input.calls, PLAN.len() + 1);
@@ -177,7 +191,7 @@ fn reads_no_further_than_the_limit(rt: HostRuntime) -> Result<(), Fail> {
     let blanks = vec![in alloc; b' '; 70_000]?;
     let mut input = Device::new(alloc, &blanks, 1_000, usize::MAX, Act::Nothing);
     let mut output = Vec::new(alloc);
-    assert!(rt; run(alloc, &mut input, &mut output).is_err());
+    assert!(rt; run(&rt, alloc, &mut input, &mut output).is_err());
     assert_eq!(rt; input.input.len(), 70_000 - 65_537);
     assert!(rt; output.is_empty());
     Ok(())

@@ -1,34 +1,62 @@
 //! Tables of small studies that were worked out by hand, and of studies that were computed elsewhere.
 
 use super::studies::{MANY_CELLS, ONE_CELL, Study};
-use super::{check_for, plan_with, table_by, table_for, table_with};
+use super::{check_for, plan_with, table_by, table_with};
 use std::alloc::{AllocError, Global};
+use std::sync::Wait;
 use std::test::Fail;
+use std::thread::Threads;
+
+/// How a study may be run: how many trials a piece has at most, and by how many workers.
+const WAYS: [(u32, u32); 9] = [
+    (1, 1),
+    (2, 1),
+    (16, 1),
+    (1, 2),
+    (2, 2),
+    (16, 2),
+    (1, 3),
+    (2, 3),
+    (16, 3),
+];
 
 /// Whether the plan, so edited, has exactly these lines in its table.
-fn has_lines(alloc: Global, edits: &[(&str, &str)], lines: &str) -> Result<bool, AllocError> {
+fn has_lines<T: Threads + Wait + Sync>(
+    rt: &T,
+    alloc: Global,
+    edits: &[(&str, &str)],
+    lines: &str,
+) -> Result<bool, AllocError> {
     let plan = plan_with(alloc, edits)?;
-    has_table(alloc, plan.as_str(), lines)
+    has_table(rt, alloc, plan.as_str(), lines)
 }
 
-/// Whether the plan has exactly these lines in its table.
-fn has_table(alloc: Global, plan: &str, lines: &str) -> Result<bool, AllocError> {
+/// Whether the plan has exactly these lines in its table, in whichever way it is run.
+fn has_table<T: Threads + Wait + Sync>(
+    rt: &T,
+    alloc: Global,
+    plan: &str,
+    lines: &str,
+) -> Result<bool, AllocError> {
     let expected = table_with(alloc, lines)?;
-    match table_for(alloc, plan.as_bytes()) {
-        Ok(table) => Ok(table.as_slice() == expected.as_bytes()),
-        Err(_) => Ok(false),
+    for (size, workers) in WAYS {
+        match table_by(rt, alloc, plan.as_bytes(), size, workers) {
+            Ok(table) if table.as_slice() == expected.as_bytes() => {}
+            _ => return Ok(false),
+        }
     }
+    Ok(true)
 }
 
-/// The first of the studies whose table is otherwise, by pieces of some size.
-fn first_wrong(alloc: Global, studies: &[Study]) -> Result<Option<usize>, AllocError> {
+/// The first of the studies whose table is otherwise.
+fn first_wrong<T: Threads + Wait + Sync>(
+    rt: &T,
+    alloc: Global,
+    studies: &[Study],
+) -> Result<Option<usize>, AllocError> {
     for (number, (plan, lines)) in studies.iter().enumerate() {
-        let expected = table_with(alloc, lines)?;
-        for size in [1, 2, 7, 1_000] {
-            match table_by(alloc, plan.as_bytes(), size) {
-                Ok(table) if table.as_slice() == expected.as_bytes() => {}
-                _ => return Ok(Some(number)),
-            }
+        if !has_table(rt, alloc, plan, lines)? {
+            return Ok(Some(number));
         }
     }
     Ok(None)
@@ -38,8 +66,8 @@ fn first_wrong(alloc: Global, studies: &[Study]) -> Result<Option<usize>, AllocE
 fn one_process_crashes(rt: HostRuntime) -> Result<(), Fail> {
     let alloc = rt.alloc();
     let lines = "1,1,1,1,2,8,0,0,0,8,2,2,0\n";
-    assert!(rt; has_lines(alloc, &[], lines)?);
-    assert!(rt; has_lines(alloc, &[("\"copies\":1", "\"copies\":4")], lines)?);
+    assert!(rt; has_lines(&rt, alloc, &[], lines)?);
+    assert!(rt; has_lines(&rt, alloc, &[("\"copies\":1", "\"copies\":4")], lines)?);
     Ok(())
 }
 
@@ -47,10 +75,17 @@ fn one_process_crashes(rt: HostRuntime) -> Result<(), Fail> {
 fn no_process_fails(rt: HostRuntime) -> Result<(), Fail> {
     let alloc = rt.alloc();
     let none = ("\"f\":[1]", "\"f\":[0]");
-    assert!(rt; has_lines(alloc, &[none], "1,1,1,0,2,10,0,10,0,0,0,0,0\n")?);
+    assert!(rt; has_lines(&rt, alloc, &[none], "1,1,1,0,2,10,0,10,0,0,0,0,0\n")?);
     let liar = ("\"liars\":0", "\"liars\":1");
     let once = ("\"repeats\":2", "\"repeats\":1");
-    assert!(rt; has_lines(alloc, &[none, liar, once], "1,1,1,0,1,5,0,0,5,5,1,0,0\n")?);
+    assert!(rt;
+        has_lines(
+            &rt,
+            alloc,
+            &[none, liar, once],
+            "1,1,1,0,1,5,0,0,5,5,1,0,0\n"
+        )?
+    );
     Ok(())
 }
 
@@ -62,8 +97,8 @@ fn one_process_is_left(rt: HostRuntime) -> Result<(), Fail> {
     let thrice = ("\"repeats\":2", "\"repeats\":3");
     let speak = ("silent", "speak");
     let lines = "1,1,1,2,3,3,3,0,0,3,0,0,1000000\n";
-    assert!(rt; has_lines(alloc, &[three, two, thrice], lines)?);
-    assert!(rt; has_lines(alloc, &[three, two, thrice, speak], lines)?);
+    assert!(rt; has_lines(&rt, alloc, &[three, two, thrice], lines)?);
+    assert!(rt; has_lines(&rt, alloc, &[three, two, thrice, speak], lines)?);
     Ok(())
 }
 
@@ -71,7 +106,14 @@ fn one_process_is_left(rt: HostRuntime) -> Result<(), Fail> {
 fn two_processes(rt: HostRuntime) -> Result<(), Fail> {
     let pair = ("\"nodes\":5", "\"nodes\":2");
     let once = ("\"repeats\":2", "\"repeats\":1");
-    assert!(rt; has_lines(rt.alloc(), &[pair, once], "1,1,1,1,1,1,0,0,0,1,0,0,0\n")?);
+    assert!(rt;
+        has_lines(
+            &rt,
+            rt.alloc(),
+            &[pair, once],
+            "1,1,1,1,1,1,0,0,0,1,0,0,0\n"
+        )?
+    );
     Ok(())
 }
 
@@ -83,17 +125,17 @@ fn three_rings(rt: HostRuntime) -> Result<(), Fail> {
     let copies = ("\"copies\":1", "\"copies\":4");
     let explicit = ("true", "false");
     let lines = "3,3,1,1,2,8,0,0,0,8,2,2,0\n";
-    assert!(rt; has_lines(alloc, &[rings, high], lines)?);
-    assert!(rt; has_lines(alloc, &[rings, high, explicit], lines)?);
-    assert!(rt; has_lines(alloc, &[rings, high, copies], lines)?);
-    assert!(rt; has_lines(alloc, &[rings, high, copies, explicit], lines)?);
+    assert!(rt; has_lines(&rt, alloc, &[rings, high], lines)?);
+    assert!(rt; has_lines(&rt, alloc, &[rings, high, explicit], lines)?);
+    assert!(rt; has_lines(&rt, alloc, &[rings, high, copies], lines)?);
+    assert!(rt; has_lines(&rt, alloc, &[rings, high, copies, explicit], lines)?);
     Ok(())
 }
 
 #[test]
 fn studies_computed_elsewhere(rt: HostRuntime) -> Result<(), Fail> {
-    assert_eq!(rt; first_wrong(rt.alloc(), &ONE_CELL)?, None);
-    assert_eq!(rt; first_wrong(rt.alloc(), &MANY_CELLS)?, None);
+    assert_eq!(rt; first_wrong(&rt, rt.alloc(), &ONE_CELL)?, None);
+    assert_eq!(rt; first_wrong(&rt, rt.alloc(), &MANY_CELLS)?, None);
     Ok(())
 }
 

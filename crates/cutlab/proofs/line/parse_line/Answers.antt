@@ -7,11 +7,11 @@ use Rattle.cutlab.specs.Line.{program_app, status_of_kind, IsAsked, IsJobOf, Nam
 use Rattle.cutlab.proofs.line.parse_line.Goals as goal
 
 is_free : is_simple_and_free program_app ≡ true
-unfolding clap_on_literals
+unfolding clap_on_literals program_app
 is_free = refl
 
 is_plain : is_simple program_app ≡ true
-unfolding clap_on_literals
+unfolding clap_on_literals program_app
 is_plain = refl
 
 pub returns-in_default-clause-err : goal.returns-in_default-clause-err
