@@ -1,7 +1,6 @@
 -- The canonical text of a plan reads as the JSON value that was built of it.
-use Rattle.std.proofs.Common.{◌≡◌, ℕ, ◌^◌, ◌≤◌, ◌<◌, List, [], ◌∷◌, map, ◌&&◌, nat_lt, nat_le, Some, option_map, option_and_then, refl, sym, ap, ◌∙◌, arith, append-nil}
-use Rattle.std.proofs.lemmas.Bool.{ltb-true}
-use Rattle.std.specs.List.{AllByRecursion, fold}
+use Rattle.std.proofs.Common.{◌≡◌, ℕ, ◌^◌, ◌≤◌, ◌<◌, List, [], ◌∷◌, map, Some, option_map, option_and_then, refl, sym, ap, ◌∙◌, arith, append-nil}
+use Rattle.std.specs.List.{fold}
 use Rattle.json.specs.Json as json
 use Rattle.json.specs.Print.{print}
 use Rattle.json.specs.Tree.{json_tokens, HasNumbers, ItemsHaveNumbers, MembersHaveNumbers, depth, items_depth, members_depth}
@@ -15,13 +14,12 @@ use Rattle.serde_json.specs.Written.{outline, items_outline, members_outline}
 use Rattle.serde_json.proofs.Numbers.{number_of-decimal}
 use Rattle.serde_json.proofs.Texts.{print-outline}
 use Rattle.cut_plan.specs.declared.field.Field.{Field}
-use Rattle.cut_plan.specs.declared.field.Field.TheVariants as field
 use Rattle.cut_plan.specs.Values.{Values}
-use Rattle.cut_plan.specs.Plan.{IsPlan, IsScale}
+use Rattle.cut_plan.specs.Plan.{IsPlan}
 use Rattle.cut_plan.specs.Fields.{name_of, all_fields}
-use Rattle.cut_plan.specs.Canonical.{number_data, field_data, members_with, data_of, canonical_text}
-use Rattle.cut_plan.proofs.Every.{every-list_all}
-use Rattle.cut_plan.proofs.Checked.{within_bounds}
+use Rattle.cut_plan.specs.Datum.{Datum, one, many, word, truth, json_of, number_data}
+use Rattle.cut_plan.specs.Canonical.{datum, field_data, members_with, data_of, canonical_text}
+use Rattle.cut_plan.proofs.Tame.{AreSmall, IsTame, tame}
 use Rattle.cut_plan.proofs.Writing.{with_all_fields}
 
 -- ---- what is read of a printed value
@@ -33,19 +31,7 @@ printed_reads j d numbers shallow reads =
     ∙ ap (λ o. option_and_then of_json (option_and_then (λ p. json.if_last p.0 p.1) o)) (value-json_tokens j 127 [] shallow)
     ∙ reads
 
--- ---- the numbers of a plan are small
-
-abbrev pub AreSmall : List ℕ → Type 0
-AreSmall xs = AllByRecursion (λ x. x < 10000) xs
-
-pub scale_small : (xs : List ℕ) → IsScale xs → AreSmall xs
-scale_small xs scale =
-    every-list_all (λ x. nat_le 1 x && nat_le x 32) (λ x. x < 10000) (λ x e. let b = within_bounds 1 32 x e in let top : x ≤ 32 = b.1 in omega arith) xs scale.range
-
-pub failed_small : (v : Values) → IsPlan v → AreSmall v.f
-failed_small v plan =
-    let few = plan.few_nodes in
-    every-list_all (λ f. nat_lt f v.nodes) (λ f. f < 10000) (λ f e. let below = ltb-true f v.nodes e in omega arith) v.f plan.fs
+-- ---- each of the four kinds
 
 items_numbers : (xs : List ℕ) → AreSmall xs → ItemsHaveNumbers (items_outline (items_of (map number_data xs)))
 items_numbers [] small = tt
@@ -62,74 +48,41 @@ items_read (x ∷ xs) small =
     let fits : x < 2 ^ 64 = omega arith in
     rw (number_of-decimal x fits, items_read xs small.1) refl
 
--- ---- field by field
+tame_numbers : (x : Datum) → IsTame x → HasNumbers (outline (json_of x))
+tame_numbers (one n) h = IsNumber-decimal n (omega arith)
+tame_numbers (many xs) h = items_numbers xs h.small
+tame_numbers (word bytes) h = tt
+tame_numbers (truth b) h = tt
 
-field_numbers : (v : Values) → IsPlan v → (field : Field) → HasNumbers (outline (field_data v field))
-field_numbers v plan field.Copies = let top = plan.few_copies in IsNumber-decimal v.copies (omega arith)
-field_numbers v plan field.Dead = tt
-field_numbers v plan field.F = items_numbers v.f (failed_small v plan)
-field_numbers v plan field.Faults = tt
-field_numbers v plan field.H = items_numbers v.h (scale_small v.h plan.hs)
-field_numbers v plan field.Implicit = tt
-field_numbers v plan field.K = items_numbers v.k (scale_small v.k plan.ks)
-field_numbers v plan field.L = items_numbers v.l (scale_small v.l plan.ls)
-field_numbers v plan field.Liars = let top = plan.liars in IsNumber-decimal v.liars (omega arith)
-field_numbers v plan field.Links = let top = plan.links in IsNumber-decimal v.links (omega arith)
-field_numbers v plan field.Nodes = let top = plan.few_nodes in IsNumber-decimal v.nodes (omega arith)
-field_numbers v plan field.Repeats = let top = plan.few_repeats in IsNumber-decimal v.repeats (omega arith)
-field_numbers v plan field.Seed = tt
-field_numbers v plan field.Version = let one = plan.version in IsNumber-decimal v.version (omega arith)
+shallow_datum : (x : Datum) → depth (outline (json_of x)) ≤ 1
+shallow_datum (one n) = omega arith
+shallow_datum (many xs) = omega (arith, items_shallow xs)
+shallow_datum (word bytes) = omega arith
+shallow_datum (truth b) = omega arith
 
-field_shallow : (v : Values) (field : Field) → depth (outline (field_data v field)) ≤ 1
-field_shallow v field.Copies = omega arith
-field_shallow v field.Dead = omega arith
-field_shallow v field.F = omega (arith, items_shallow v.f)
-field_shallow v field.Faults = omega arith
-field_shallow v field.H = omega (arith, items_shallow v.h)
-field_shallow v field.Implicit = omega arith
-field_shallow v field.K = omega (arith, items_shallow v.k)
-field_shallow v field.L = omega (arith, items_shallow v.l)
-field_shallow v field.Liars = omega arith
-field_shallow v field.Links = omega arith
-field_shallow v field.Nodes = omega arith
-field_shallow v field.Repeats = omega arith
-field_shallow v field.Seed = omega arith
-field_shallow v field.Version = omega arith
+tame_reads : (x : Datum) → IsTame x → of_json (outline (json_of x)) ≡ Some (json_of x)
+tame_reads (one n) h = let fits : n < 2 ^ 64 = omega arith in ap (option_map number) (number_of-decimal n fits)
+tame_reads (many xs) h = ap (option_map array) (items_read xs h.small)
+tame_reads (word bytes) h = refl
+tame_reads (truth b) h = refl
 
-number_reads : (n : ℕ) → n < 2 ^ 64 → of_json (outline (number_data n)) ≡ Some (number_data n)
-number_reads n fits = ap (option_map number) (number_of-decimal n fits)
-
-field_reads : (v : Values) → IsPlan v → (field : Field) → of_json (outline (field_data v field)) ≡ Some (field_data v field)
-field_reads v plan field.Copies = let top = plan.few_copies in number_reads v.copies (omega arith)
-field_reads v plan field.Dead = refl
-field_reads v plan field.F = ap (option_map array) (items_read v.f (failed_small v plan))
-field_reads v plan field.Faults = refl
-field_reads v plan field.H = ap (option_map array) (items_read v.h (scale_small v.h plan.hs))
-field_reads v plan field.Implicit = refl
-field_reads v plan field.K = ap (option_map array) (items_read v.k (scale_small v.k plan.ks))
-field_reads v plan field.L = ap (option_map array) (items_read v.l (scale_small v.l plan.ls))
-field_reads v plan field.Liars = let top = plan.liars in number_reads v.liars (omega arith)
-field_reads v plan field.Links = let top = plan.links in number_reads v.links (omega arith)
-field_reads v plan field.Nodes = let top = plan.few_nodes in number_reads v.nodes (omega arith)
-field_reads v plan field.Repeats = let top = plan.few_repeats in number_reads v.repeats (omega arith)
-field_reads v plan field.Seed = refl
-field_reads v plan field.Version = let one = plan.version in number_reads v.version (omega arith)
+-- ---- the members
 
 members_numbers : (v : Values) → IsPlan v → (fields : List Field) → MembersHaveNumbers (members_outline (members_with v fields))
 members_numbers v plan [] = tt
-members_numbers v plan (field ∷ fields) = (field_numbers v plan field, members_numbers v plan fields)
+members_numbers v plan (field ∷ fields) = (tame_numbers (datum v field) (tame v plan field).0, members_numbers v plan fields)
 
 members_shallow : (v : Values) (fields : List Field) → members_depth (members_outline (members_with v fields)) ≤ 1
 members_shallow v [] = omega arith
 members_shallow v (field ∷ fields) =
-    let first = field_shallow v field in
+    let first = shallow_datum (datum v field) in
     let rest = members_shallow v fields in
     omega (arith, first, rest)
 
 members_read : (v : Values) → IsPlan v → (fields : List Field) (found : Members)
     → of_members (members_outline (members_with v fields)) found ≡ Some (fold (λ ms field. put (name_of field) (field_data v field) ms) found fields)
 members_read v plan [] found = refl
-members_read v plan (field ∷ fields) found = rw (field_reads v plan field) (members_read v plan fields (put (name_of field) (field_data v field) found))
+members_read v plan (field ∷ fields) found = rw (tame_reads (datum v field) (tame v plan field).0) (members_read v plan fields (put (name_of field) (field_data v field) found))
 
 -- the value that was built reads back
 data_numbers : (v : Values) → IsPlan v → HasNumbers (outline (data_of v))

@@ -29,7 +29,7 @@ find_none holds (field ∷ fields) h =
     let parts = find_cons holds (holds field) field _ h in
     (parts.0, find_none holds fields parts.1)
 
-every_field : (P : Field → Type 0) → AllByRecursion P all_fields → (field : Field) → P field
+pub every_field : (P : Field → Type 0) → AllByRecursion P all_fields → (field : Field) → P field
 unfolding all_fields
 every_field P h Copies = h.0
 every_field P h Dead = h.1.0

@@ -8,6 +8,7 @@ pub mod PlanFacts
 pub mod TextsOfPlans
 pub mod Writing
 pub mod Members
+pub mod Tame
 pub mod CanonicalAccepted
 pub mod CanonicalReads
 pub mod Length

@@ -3,11 +3,12 @@ use Rattle.std.proofs.Common.{◌≡◌, ℕ, ◌≤◌, List, [], ◌∷◌, ma
 use Rattle.std.proofs.lemmas.List.{take_all}
 use Rattle.serde_json.specs.Data.{object}
 use Rattle.serde_json.specs.View.{items_of}
-use Rattle.serde_json.specs.Written.{has_float, items_have_float}
+use Rattle.serde_json.specs.Written.{has_float, items_have_float, members_have_float}
 use Rattle.cut_plan.specs.declared.field.Field.{Field}
 use Rattle.cut_plan.specs.Values.{Values}
 use Rattle.cut_plan.specs.Fields.{all_fields}
-use Rattle.cut_plan.specs.Canonical.{number_data, data_of}
+use Rattle.cut_plan.specs.Datum.{Datum, one, many, word, truth, json_of, number_data}
+use Rattle.cut_plan.specs.Canonical.{datum, members_with, data_of}
 use Rattle.cut_plan.specs.Look.{with_fields}
 
 pub with_all_fields : (v : Values) → object (with_fields v all_fields) ≡ data_of v
@@ -18,9 +19,19 @@ no_item_floats : (xs : List ℕ) → items_have_float (items_of (map number_data
 no_item_floats [] = refl
 no_item_floats (x ∷ xs) = no_item_floats xs
 
+no_datum_floats : (x : Datum) → has_float (json_of x) ≡ false
+no_datum_floats (one n) = refl
+no_datum_floats (many xs) = no_item_floats xs
+no_datum_floats (word bytes) = refl
+no_datum_floats (truth b) = refl
+
+no_member_floats : (v : Values) (fields : List Field) → members_have_float (members_with v fields) ≡ false
+no_member_floats v [] = refl
+no_member_floats v (field ∷ fields) = rw (no_datum_floats (datum v field)) (no_member_floats v fields)
+
 pub no_floats : (v : Values) → has_float (data_of v) ≡ false
-unfolding all_fields data_of
-no_floats v = rw (no_item_floats v.f, no_item_floats v.h, no_item_floats v.k, no_item_floats v.l) refl
+unfolding data_of
+no_floats v = no_member_floats v all_fields
 
 pub take_fields : (fields : List Field) (i : ℕ) → fields ≡ all_fields → 14 ≤ i → take i fields ≡ all_fields
 unfolding all_fields

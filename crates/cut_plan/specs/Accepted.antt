@@ -1,13 +1,13 @@
 -- Which texts are accepted plans, and the first fault of any other (this project's profile). The checks run in
 -- the order below, each over all fields before the next begins.
-use Rattle.std.specs.Prelude.{◌≡◌, ℕ, ◌+◌, ◌&&◌, List, [], length, Bool, true, false, not, nat_le, nat_lt, if◌then◌else◌, Option, Some, None, is_some, unwrap_or, Result, Ok, Err, ⊤}
+use Rattle.std.specs.Prelude.{◌≡◌, ℕ, ◌+◌, ◌&&◌, List, [], length, Bool, true, not, nat_le, nat_lt, if◌then◌else◌, Option, Some, None, is_some, unwrap_or, Result, Ok, Err, ⊤}
 use Rattle.std.specs.Bool.{⊤}
 use Rattle.std.specs.List.{list_all, find}
 use Rattle.std.specs.Str.{is_utf8}
 use Rattle.std.specs.Result.{is_ok, result_ok}
 use Rattle.hex.specs.Hex.{decode_sized}
 use Rattle.serde_json.specs.Data.{Data}
-use Rattle.serde_json.specs.Find.{get, as_bool, as_object}
+use Rattle.serde_json.specs.Find.{get, as_object}
 use Rattle.serde_json.specs.Read.{read}
 use Rattle.cut_plan.specs.declared.refusal.Refusal.{Refusal}
 use Rattle.cut_plan.specs.declared.refusal.Refusal.TheVariants.{NotJson, NotObject, UnknownField, MissingField, WrongKind, OutOfRange, NotRising, NoCell, TooManyFaults, TooManyTrials, PlanTooLong}
@@ -19,7 +19,8 @@ use Rattle.cut_plan.specs.Words.{dead_of, faults_of}
 use Rattle.cut_plan.specs.Values.{Values}
 use Rattle.cut_plan.specs.Cells.{cells_of, largest}
 use Rattle.cut_plan.specs.Plan.{all_within, is_rising}
-use Rattle.cut_plan.specs.Fields.{name_of, all_fields, is_named, kind_of, keys, is_of, member_at, number_at, numbers_at, text_at}
+use Rattle.cut_plan.specs.Datum.{Datum, datum_in, number_of, numbers_of, text_of, truth_of}
+use Rattle.cut_plan.specs.Fields.{name_of, all_fields, is_named, kind_of, keys, is_of, member_at, numbers_at}
 
 -- ---- what is asked of each field
 
@@ -43,23 +44,31 @@ has_some xs = nat_lt 0 (length xs)
 abbrev pub is_in_scale : List ℕ → Bool
 is_in_scale xs = has_some xs && all_within 1 32 xs
 
--- whether the field's value is in the field's range; an empty list is not, nor a text that is none of the words
--- or not 64 hexadecimal digits
+-- what a field says
+abbrev pub datum_at : Data → Field → Datum
+datum_at d field = datum_in (kind_of field) (member_at d field)
+
+-- whether what a field says is in the field's range; an empty list is not, nor a text that is none of the words or
+-- not 64 hexadecimal digits
+abbrev pub in_range : (Field → Datum) → Field → Bool
+in_range at field.Copies = is_within 1 4 (number_of (at field.Copies))
+in_range at field.Dead = is_some (dead_of (text_of (at field.Dead)))
+in_range at field.F = has_some (numbers_of (at field.F)) && list_all (λ f. nat_lt f (number_of (at field.Nodes))) (numbers_of (at field.F))
+in_range at field.Faults = is_some (faults_of (text_of (at field.Faults)))
+in_range at field.H = is_in_scale (numbers_of (at field.H))
+in_range at field.Implicit = true
+in_range at field.K = is_in_scale (numbers_of (at field.K))
+in_range at field.L = is_in_scale (numbers_of (at field.L))
+in_range at field.Liars = is_within 0 2048 (number_of (at field.Liars))
+in_range at field.Links = is_within 0 2048 (number_of (at field.Links))
+in_range at field.Nodes = is_within 2 2048 (number_of (at field.Nodes))
+in_range at field.Repeats = is_within 1 1000000 (number_of (at field.Repeats))
+in_range at field.Seed = is_ok (decode_sized (text_of (at field.Seed)) 32)
+in_range at field.Version = is_within 1 1 (number_of (at field.Version))
+
+-- whether the field's value, which is of the field's kind, is in the field's range
 abbrev pub is_in_range : Data → Field → Bool
-is_in_range d field.Copies = is_within 1 4 (number_at d field.Copies)
-is_in_range d field.Dead = is_some (dead_of (text_at d field.Dead))
-is_in_range d field.F = has_some (numbers_at d field.F) && list_all (λ f. nat_lt f (number_at d field.Nodes)) (numbers_at d field.F)
-is_in_range d field.Faults = is_some (faults_of (text_at d field.Faults))
-is_in_range d field.H = is_in_scale (numbers_at d field.H)
-is_in_range d field.Implicit = true
-is_in_range d field.K = is_in_scale (numbers_at d field.K)
-is_in_range d field.L = is_in_scale (numbers_at d field.L)
-is_in_range d field.Liars = is_within 0 2048 (number_at d field.Liars)
-is_in_range d field.Links = is_within 0 2048 (number_at d field.Links)
-is_in_range d field.Nodes = is_within 2 2048 (number_at d field.Nodes)
-is_in_range d field.Repeats = is_within 1 1000000 (number_at d field.Repeats)
-is_in_range d field.Seed = is_ok (decode_sized (text_at d field.Seed) 32)
-is_in_range d field.Version = is_within 1 1 (number_at d field.Version)
+is_in_range d field = in_range (datum_at d) field
 
 -- whether the field's numbers rise strictly; a field of another kind has none
 abbrev pub rises_at : Data → Field → Bool
@@ -95,24 +104,28 @@ field_check d =
 abbrev pub IsChecked : Data → Type 0
 IsChecked d = field_check d ≡ Ok tt
 
+-- the values that fields say
+abbrev pub values_at : (Field → Datum) → Values
+values_at at = record {
+  copies = number_of (at field.Copies);
+  dead = unwrap_or (dead_of (text_of (at field.Dead))) Silent;
+  f = numbers_of (at field.F);
+  faults = unwrap_or (faults_of (text_of (at field.Faults))) Crash;
+  h = numbers_of (at field.H);
+  implicit = truth_of (at field.Implicit);
+  k = numbers_of (at field.K);
+  l = numbers_of (at field.L);
+  liars = number_of (at field.Liars);
+  links = number_of (at field.Links);
+  nodes = number_of (at field.Nodes);
+  repeats = number_of (at field.Repeats);
+  seed = unwrap_or (result_ok (decode_sized (text_of (at field.Seed)) 32)) [];
+  version = number_of (at field.Version);
+}
+
 -- what the object's fields say
 abbrev pub values_in : Data → Values
-values_in d = record {
-  copies = number_at d field.Copies;
-  dead = unwrap_or (dead_of (text_at d field.Dead)) Silent;
-  f = numbers_at d field.F;
-  faults = unwrap_or (faults_of (text_at d field.Faults)) Crash;
-  h = numbers_at d field.H;
-  implicit = unwrap_or (as_bool (member_at d field.Implicit)) false;
-  k = numbers_at d field.K;
-  l = numbers_at d field.L;
-  liars = number_at d field.Liars;
-  links = number_at d field.Links;
-  nodes = number_at d field.Nodes;
-  repeats = number_at d field.Repeats;
-  seed = unwrap_or (result_ok (decode_sized (text_at d field.Seed) 32)) [];
-  version = number_at d field.Version;
-}
+values_in d = values_at (datum_at d)
 
 -- the limits on the number of cells, on the faults, and on the cells again: some cell, no more faults than
 -- processes, and no more than 4096 cells

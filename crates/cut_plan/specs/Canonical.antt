@@ -1,39 +1,35 @@
 -- The one text of a plan: compact JSON, its keys in byte order, the seed in lower-case hexadecimal digits.
-use Rattle.std.specs.Prelude.{ℕ, List, [], ◌∷◌, map}
+use Rattle.std.specs.Prelude.{ℕ, List, [], ◌∷◌}
 use Rattle.hex.specs.Hex.{encode_lower}
-use Rattle.serde_json.specs.Data.{Data, boolean, number, string, array, object, unsigned, Members, no_members, member}
-use Rattle.serde_json.specs.View.{items_of}
+use Rattle.serde_json.specs.Data.{Data, object, Members, no_members, member}
 use Rattle.serde_json.specs.Written.{compact_text}
 use Rattle.cut_plan.specs.declared.field.Field.{Field}
 use Rattle.cut_plan.specs.declared.field.Field.TheVariants as field
 use Rattle.cut_plan.specs.Values.{Values}
 use Rattle.cut_plan.specs.Words.{dead_word, faults_word}
 use Rattle.cut_plan.specs.Fields.{name_of, all_fields}
+use Rattle.cut_plan.specs.Datum.{Datum, one, many, word, truth, json_of}
 
--- a number, as JSON
-abbrev pub number_data : ℕ → Data
-number_data n = number (unsigned n)
-
--- numbers, as JSON
-abbrev pub numbers_data : List ℕ → Data
-numbers_data xs = array (items_of (map number_data xs))
+-- what a plan's values say in each field
+abbrev pub datum : Values → Field → Datum
+datum v field.Copies = one v.copies
+datum v field.Dead = word (dead_word v.dead)
+datum v field.F = many v.f
+datum v field.Faults = word (faults_word v.faults)
+datum v field.H = many v.h
+datum v field.Implicit = truth v.implicit
+datum v field.K = many v.k
+datum v field.L = many v.l
+datum v field.Liars = one v.liars
+datum v field.Links = one v.links
+datum v field.Nodes = one v.nodes
+datum v field.Repeats = one v.repeats
+datum v field.Seed = word (encode_lower v.seed)
+datum v field.Version = one v.version
 
 -- a field's value, as JSON
 abbrev pub field_data : Values → Field → Data
-field_data v field.Copies = number_data v.copies
-field_data v field.Dead = string (dead_word v.dead)
-field_data v field.F = numbers_data v.f
-field_data v field.Faults = string (faults_word v.faults)
-field_data v field.H = numbers_data v.h
-field_data v field.Implicit = boolean v.implicit
-field_data v field.K = numbers_data v.k
-field_data v field.L = numbers_data v.l
-field_data v field.Liars = number_data v.liars
-field_data v field.Links = number_data v.links
-field_data v field.Nodes = number_data v.nodes
-field_data v field.Repeats = number_data v.repeats
-field_data v field.Seed = string (encode_lower v.seed)
-field_data v field.Version = number_data v.version
+field_data v field = json_of (datum v field)
 
 -- the members of some fields, in the order of the list
 abbrev pub members_with : Values → List Field → Members

@@ -4,6 +4,7 @@ pub mod Cells
 pub mod Plan
 pub mod Inside
 pub mod Fields
+pub mod Datum
 pub mod Accepted
 pub mod Canonical
 pub mod Look

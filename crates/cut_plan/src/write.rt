@@ -1,7 +1,7 @@
 //! Lists of numbers, as JSON.
 ghost use Rattle.std.specs.Prelude.{◌≡◌, IfOk};
 ghost use Rattle.serde_json.specs.View.{view};
-ghost use Rattle.cut_plan.specs.Canonical.{numbers_data};
+ghost use Rattle.cut_plan.specs.Datum.{numbers_data};
 
 use serde_json::Value;
 use std::alloc::{AllocError, Global};

@@ -1,6 +1,6 @@
 use Rattle.std.proofs.Common.{◌≡◌, map, take}
 use Rattle.serde_json.specs.View.{view}
-use Rattle.cut_plan.specs.Canonical.{number_data}
+use Rattle.cut_plan.specs.Datum.{number_data}
 use Rattle.cut_plan.proofs.write.bytes_value.Given as goal
 
 abbrev pub invariant-loop-number : goal.invariant-loop-number
