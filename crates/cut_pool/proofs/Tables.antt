@@ -1,6 +1,6 @@
 -- The table over slips, as it is written line by line.
 use Rattle.std.proofs.Common.{◌≡◌, ◌∙◌, ◌<◌, ◌≤◌, ◌+◌, ◌-◌, ◌*◌, ◌++◌, ◌∷◌, [], ℕ, true}
-use Rattle.std.proofs.Common.{List, length, take, drop, Err, refl, ap, sym, zero-add}
+use Rattle.std.proofs.Common.{List, length, take, drop, Err, ap, sym, zero-add}
 use Rattle.std.proofs.Common.{arith, append_assoc, append-nil, length-append, length-take-le}
 use Rattle.std.proofs.Common.{take-append-drop}
 use Rattle.std.specs.List.{range_with_len, flat_map}

@@ -8,14 +8,14 @@ use Rattle.cut_pool.specs.declared.not_closed.NotClosed.TheVariants.{Memory, Aud
 use Rattle.cut_pool.specs.Pass.{Holding}
 use Rattle.cut_pool.specs.Report.{made_in_all, counted_in_all}
 
--- why a hall of so many passes was not closed, to which these were brought: some are missing, and what was
--- brought comes back; or the passes counted another number of a study than its history accepted; or memory
--- is wanting
-abbrev pub IsNotClosed : {T : Type 0} → (T → Type 0) → ℕ → List Holding → NotClosed T → Type 0
-IsNotClosed comes_back all passes Memory = all ≤ length passes
-IsNotClosed comes_back all passes (AuditMismatch m) =
-    (all ≤ length passes) × (m.counted ≡ counted_in_all m.study passes)
-IsNotClosed comes_back all passes (SeatMissing brought) = (length passes < all) × comes_back brought
+-- why a hall of so many slots and passes was not closed, to which these were brought: some are missing, and
+-- what was brought comes back; or of the study of one of its slots the passes counted another number than its
+-- history accepted; or memory is wanting
+abbrev pub IsNotClosed : {T : Type 0} → (T → Type 0) → ℕ → ℕ → List Holding → NotClosed T → Type 0
+IsNotClosed comes_back slots all passes Memory = all ≤ length passes
+IsNotClosed comes_back slots all passes (AuditMismatch m) =
+    (all ≤ length passes) × (m.study < slots) × (m.counted ≡ counted_in_all m.study passes)
+IsNotClosed comes_back slots all passes (SeatMissing brought) = (length passes < all) × comes_back brought
 
 -- ---- inside
 

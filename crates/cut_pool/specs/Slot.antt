@@ -1,14 +1,22 @@
 -- A slot of a hall, and what one call of its book does to it.
-use Rattle.std.specs.Prelude.{◌≡◌, ◌++◌, ℕ, true, List, [], ◌∷◌, length, is_some, Option, Some, None, if◌then◌else◌}
-use Rattle.std.specs.Prelude.{Result, Ok, Err, ⊤}
+use Rattle.std.specs.Prelude.{◌≡◌, ◌++◌, ◌<◌, ℕ, true, false, List, [], ◌∷◌, length, slice_get, is_some}
+use Rattle.std.specs.Prelude.{Option, Some, None, if◌then◌else◌, Result, Ok, Err, ⊤}
+use Rattle.std.specs.List.{list_any}
+use Rattle.cut_faults.specs.declared.code.FaultCode.TheVariants as code
+use Rattle.cut_plan.specs.Cells.{cells_of}
 use Rattle.cut_plan.specs.Values.{Values}
+use Rattle.cut_trial.specs.declared.piece.Piece.{Piece}
 use Rattle.cut_trial.specs.Computed.{Computed}
 use Rattle.cut_ledger.specs.declared.event.Event.TheVariants as event
 use Rattle.cut_ledger.specs.declared.slip.Slip.{Slip}
-use Rattle.cut_ledger.specs.Machine.{after, opened}
+use Rattle.cut_ledger.specs.declared.event.Reply.TheVariants as reply
+use Rattle.cut_ledger.specs.Contents.{cell_done}
+use Rattle.cut_ledger.specs.Machine.{State, reply_to, after, opened}
 use Rattle.cut_pool.specs.declared.call.Answer.TheVariants as answer
 use Rattle.cut_pool.specs.declared.call.Call.TheVariants as call
 use Rattle.cut_pool.specs.declared.fault.BookFault.TheVariants as book
+use Rattle.cut_pool.specs.declared.line_fault.LineFault.{LineFault}
+use Rattle.cut_pool.specs.declared.line_fault.LineFault.TheVariants as line
 use Rattle.cut_pool.specs.declared.opened.Opened.{Opened}
 use Rattle.cut_pool.specs.declared.slot.CallFault.{CallFault}
 use Rattle.cut_pool.specs.declared.slot.CallFault.TheVariants.{NoBook, Full, Refused}
@@ -66,22 +74,79 @@ TakesResult (Err NoBook) r old new = (old ≡ None) × (new ≡ None)
 TakesResult (Err Full) r old new = new ≡ old
 TakesResult result r old new = ⊥
 
--- a piece was told lost, or nothing was done
+-- a piece was told lost; or it can't be, or there is no book, or no call could be counted, and then nothing
+-- was done
 abbrev pub TakesLoss : {D : Type 0} → Result ⊤ CallFault → ℕ → Option (Progress D) → Option (Progress D) → Type 0
 TakesLoss (Ok done) piece (Some old) (Some new) =
-    new ≡ record old {
+    (reply_to old.state (event.Lose piece) ≡ reply.Noted)
+    × (new ≡ record old {
       state = after old.state (event.Lose piece);
       calls = old.calls ++ call.Lose piece ∷ [];
-    }
-TakesLoss (Err fault) piece old new = new ≡ old
+    })
+TakesLoss (Err (Refused fault)) piece (Some old) new =
+    (fault ≡ book.BadPiece) × (reply_to old.state (event.Lose piece) ≡ reply.Refused code.BadPiece)
+    × (new ≡ Some old)
+TakesLoss (Err NoBook) piece old new = (old ≡ None) × (new ≡ None)
+TakesLoss (Err Full) piece old new = new ≡ old
 TakesLoss result piece old new = ⊥
 
 -- a line was given, and the book had that call and is else as it was; or nothing was done
 abbrev pub GivesLine : {T E D : Type 0} → Result (Option T) E → ℕ → Option (Progress D) → Option (Progress D) → Type 0
-GivesLine (Ok (Some line)) cell (Some old) (Some new) =
+GivesLine (Ok (Some given)) cell (Some old) (Some new) =
     new ≡ record old { calls = old.calls ++ call.Row cell true ∷ [] }
-GivesLine (Ok (Some line)) cell old new = ⊥
+GivesLine (Ok (Some given)) cell old new = ⊥
 GivesLine result cell old new = new ≡ old
+
+-- the book is that of an opened study: of its plan, and begun with its slips
+abbrev pub IsOpenedAs : {D : Type 0} → Opened → Progress D → Type 0
+IsOpenedAs o b = (b.state.ledger.plan ≡ o.plan) × (b.state.ledger.base ≡ o.base)
+
+-- what this fault tells of a study whose cell is not done: an append failed; or else a piece is lost; or else
+-- only that the work was ended
+abbrev pub TellsUndone : LineFault → State → Type 0
+TellsUndone line.Checkpoint s = s.broken ≡ true
+TellsUndone line.WorkMemory s = (s.broken ≡ false) × (list_any (λ is_lost. is_lost) s.lost ≡ true)
+TellsUndone line.Stopped s = (s.broken ≡ false) × (list_any (λ is_lost. is_lost) s.lost ≡ false)
+TellsUndone line.AuditMismatch s = ⊥
+
+-- how a slot answers who asks for the line of a cell of an opened study, by its book: there is none, or
+-- another one; or the cell is done, and there is the line, or memory was wanting for it, or no call could be
+-- counted; or it is not done, and can still be, or can't, as told
+abbrev pub AnswersLine : {T D : Type 0} → Result (Option T) LineFault → Opened → ℕ → Option (Progress D)
+    → Type 0
+AnswersLine (Ok (Some found)) o cell None = ⊥
+AnswersLine (Ok (Some found)) o cell (Some b) = IsOpenedAs o b × (cell_done b.state.ledger cell ≡ true)
+AnswersLine (Ok None) o cell None = ⊥
+AnswersLine (Ok None) o cell (Some b) =
+    IsOpenedAs o b × (cell_done b.state.ledger cell ≡ false)
+    × (b.state.broken ≡ false) × (list_any (λ is_lost. is_lost) b.state.lost ≡ false)
+AnswersLine (Err line.AuditMismatch) o cell None = ⊤
+AnswersLine (Err fault) o cell None = ⊥
+AnswersLine (Err line.AuditMismatch) o cell (Some b) = IsOpenedAs o b → ⊥
+AnswersLine (Err line.Checkpoint) o cell (Some b) =
+    IsOpenedAs o b × (cell_done b.state.ledger cell ≡ false) × (b.state.broken ≡ true)
+AnswersLine (Err line.WorkMemory) o cell (Some b) =
+    IsOpenedAs o b × (cell_done b.state.ledger cell ≡ false → TellsUndone line.WorkMemory b.state)
+AnswersLine (Err line.Stopped) o cell (Some b) =
+    IsOpenedAs o b × (cell_done b.state.ledger cell ≡ false → TellsUndone line.Stopped b.state)
+
+-- ---- readers
+
+-- the piece of a number, if there is a book and such a piece
+abbrev pub piece_at : {D : Type 0} → Option (Progress D) → ℕ → Option Piece
+piece_at None number = None
+piece_at (Some b) number = slice_get b.state.division number
+
+-- there is a book, and this cell of it is done
+abbrev pub HasDone : {D : Type 0} → Option (Progress D) → ℕ → Type 0
+HasDone None cell = ⊥
+HasDone (Some b) cell =
+    (cell < length (cells_of b.state.ledger.plan)) × (cell_done b.state.ledger cell ≡ true)
+
+-- there is a book, of this plan
+abbrev pub HasPlan : {D : Type 0} → Option (Progress D) → Values → Type 0
+HasPlan None v = ⊥
+HasPlan (Some b) v = b.state.ledger.plan ≡ v
 
 -- ---- how many calls that is
 
@@ -99,10 +164,10 @@ losses_of (Err fault) = 0
 
 -- asked for a line: one where there is a line
 abbrev pub lines_of : {T E : Type 0} → Result (Option T) E → ℕ
-lines_of (Ok (Some line)) = 1
+lines_of (Ok (Some given)) = 1
 lines_of result = 0
 
 -- waited for a line: one where it came
 abbrev pub rows_of : {T E : Type 0} → Result T E → ℕ
-rows_of (Ok line) = 1
+rows_of (Ok given) = 1
 rows_of (Err fault) = 0

@@ -42,7 +42,8 @@ impl<D: Disk + Drop, M: Tally, K: Tally> Hall<D, M, K> {
         ensures calls { IfOk result (λ slots. calls_in_all slots ≡ made_in_all passes.items) }
         ensures audit { IfOk result (λ slots. IsAudited slots passes.items) }
         ensures why { IfErr result (λ e. IsNotClosed
-            (λ back. (back.0 ≡ self) × (back.1.items ≡ passes.items)) self.passes passes.items e) }
+            (λ back. (back.0 ≡ self) × (back.1.items ≡ passes.items))
+            self.slots self.passes passes.items e) }
     {
         if passes.len() < self.passes as usize {
             return Err(NotClosed::SeatMissing((self, passes)));

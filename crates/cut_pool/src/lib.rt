@@ -60,6 +60,12 @@ pub use tally::Tally;
 #[cfg(test)]
 mod hall_tests;
 #[cfg(test)]
+mod run_tests;
+#[cfg(test)]
+mod storm_tests;
+#[cfg(test)]
 mod study_tests;
+#[cfg(test)]
+mod table_tests;
 #[cfg(test)]
 mod tests;

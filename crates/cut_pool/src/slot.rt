@@ -1,8 +1,11 @@
-ghost use Rattle.std.specs.Prelude.{◌≡◌, ◌+◌, ◌<◌, ◌≤◌, true, [], length, take, Some, None, IfOk, IfSome, OnErr, IfErr};
+ghost use Rattle.std.specs.Prelude.{◌≡◌, ◌+◌, ◌<◌, ◌≤◌, ◌&&◌, ◌↔◌, true, false, not, [], length, take};
+ghost use Rattle.std.specs.Prelude.{Some, None, is_some, IsTrue, IfOk, IfSome, OnOk, OnErr, IfErr, IsErrOf};
+ghost use Rattle.std.specs.List.{list_any};
 ghost use Rattle.cut_plan.specs.Cells.{cells_of};
 ghost use Rattle.cut_pool.specs.Lines.{full_line};
 ghost use Rattle.cut_pool.specs.Report.{calls_told};
 ghost use Rattle.cut_pool.specs.Slot.{calls_in, IsFresh, IsBegun, base_of, kept_of, unkept_of, Matches, TakesResult, TakesLoss, GivesLine, calls_of, losses_of, lines_of};
+ghost use Rattle.cut_pool.specs.Slot.{IsOpenedAs, TellsUndone, AnswersLine, piece_at, HasDone, HasPlan};
 
 use crate::accounts::Accounts;
 use crate::opening::open_book;
@@ -173,6 +176,7 @@ impl<D: Disk + Drop, K: Tally> Slot<D, K> {
             IfSome found (λ line. line.items ≡ full_line opened.now.plan opened.now.base cell)) }
         ensures short { IfOk result (λ found. IfSome found (λ line. length line.items ≤ 273)) }
         ensures given { GivesLine result cell self.old.book self.new.book }
+        ensures answers { AnswersLine result opened.now cell self.old.book }
         ensures calls { calls_in self.new.book ≡ calls_in self.old.book + lines_of result }
         ensures made { made.new.amount ≡ made.old.amount + lines_of result }
         ensures parts { made.new.parts ≡ 1 }
@@ -252,7 +256,8 @@ impl<D: Disk + Drop, K: Tally> Slot<D, K> {
 
     /// Ends the work in the slot.
     pub(crate) fn stop(&mut self)
-        ensures { self.new.book ≡ self.old.book }
+        ensures book { self.new.book ≡ self.old.book }
+        ensures stopped { self.new.stopped ≡ true }
     {
         self.stopped = true;
     }
@@ -283,12 +288,16 @@ impl<D: Disk + Drop, K: Tally> Slot<D, K> {
     }
 
     /// Whether there is nothing to work on yet: there is no book, and the work was not ended.
-    pub(crate) fn is_idle(&self) -> bool {
+    pub(crate) fn is_idle(&self) -> bool
+        ensures { result ≡ (not (is_some self.now.book) && not self.now.stopped) }
+    {
         self.book.is_none() && !self.stopped
     }
 
     /// A copy of the study's plan, if there is a study, and memory for it.
-    pub(crate) fn plan(&self, alloc: Global) -> Option<Plan> {
+    pub(crate) fn plan(&self, alloc: Global) -> Option<Plan>
+        ensures { IfSome result (λ plan. HasPlan self.now.book plan) }
+    {
         match &self.book {
             Some(book) => book.ledger().plan().try_clone(alloc).ok(),
             None => None,
@@ -296,7 +305,9 @@ impl<D: Disk + Drop, K: Tally> Slot<D, K> {
     }
 
     /// Whether there is a study, and this cell of it is done.
-    pub(crate) fn is_done(&self, cell: u32) -> bool {
+    pub(crate) fn is_done(&self, cell: u32) -> bool
+        ensures { IsTrue result ↔ HasDone self.now.book cell }
+    {
         match &self.book {
             Some(book) => cell < book.ledger().plan().cells() && book.ledger().cell_done(cell),
             None => false,
@@ -304,7 +315,9 @@ impl<D: Disk + Drop, K: Tally> Slot<D, K> {
     }
 
     /// The piece of a number in the book's division.
-    pub(crate) fn piece(&self, number: u64) -> Option<Piece> {
+    pub(crate) fn piece(&self, number: u64) -> Option<Piece>
+        ensures { result ≡ piece_at self.now.book number }
+    {
         match &self.book {
             Some(book) => book.piece(number),
             None => None,
@@ -314,15 +327,20 @@ impl<D: Disk + Drop, K: Tally> Slot<D, K> {
 
 /// Whether a book is of an opened study: of its plan, and begun with its slips.
 fn is_opened_as<D: Disk + Drop>(book: &Book<D>, opened: &Opened) -> bool
-    ensures { result ≡ true → (book.now.state.ledger.plan ≡ opened.now.plan)
-        × (book.now.state.ledger.base ≡ opened.now.base) }
+    ensures yes { result ≡ true → IsOpenedAs opened.now book.now }
+    ensures no { result ≡ false → IsOpenedAs opened.now book.now → ⊥ }
 {
     let ledger = book.ledger();
     ledger.plan().same(&opened.plan) && ledger.same_base(&opened.base)
 }
 
 /// Whether a cell that is not done can still be: the book is whole, no piece is lost, and work goes on.
-fn may_still_come<D: Disk + Drop>(book: &Book<D>, stopped: bool) -> Result<(), LineFault> {
+fn may_still_come<D: Disk + Drop>(book: &Book<D>, stopped: bool) -> Result<(), LineFault>
+    ensures ok { OnOk result ((book.now.state.broken ≡ false)
+        × (list_any (λ is_lost. is_lost) book.now.state.lost ≡ false) × (stopped ≡ false)) }
+    ensures err { IfErr result (λ fault. TellsUndone fault book.now.state) }
+    ensures stopped { IsErrOf result LineFault.Stopped → stopped ≡ true }
+{
     if book.is_broken() {
         return Err(LineFault::Checkpoint);
     }

@@ -23,7 +23,7 @@ const TABLE: &[u8] =
     b"k,h,l,f,trials,receivers,conflicts,silent,extra,votes,decided,right,ppm\n1,1,1,1,2,8,0,0,0,8,2,2,0\n";
 
 /// A journal with the slips that are kept in it.
-type Kept<D> = (Journal<D>, Vec<Slip>);
+pub(crate) type Kept<D> = (Journal<D>, Vec<Slip>);
 
 fn plan(alloc: Global) -> Result<Plan, Fail> {
     Ok(Plan::from_json(alloc, STUDY.as_bytes())?)
@@ -34,7 +34,11 @@ fn wire(alloc: Global, per: usize) -> MemoryWire {
     MemoryWire::new(alloc, Vec::new(alloc), per)
 }
 
-fn journal_on<D: Disk + Drop>(alloc: Global, disk: D, plan: &Plan) -> Result<Kept<D>, Fail>
+pub(crate) fn journal_on<D: Disk + Drop>(
+    alloc: Global,
+    disk: D,
+    plan: &Plan,
+) -> Result<Kept<D>, Fail>
     ensures kept { IfOk result (λ k.
         (k.0.plan ≡ plan.now) × (k.0.count ≡ length k.1.items) × (k.0.doubtful ≡ None)) }
     ensures read { IfOk result (λ k. D.is_honest k.0.disk
@@ -48,7 +52,7 @@ fn journal_on<D: Disk + Drop>(alloc: Global, disk: D, plan: &Plan) -> Result<Kep
 
 /// What is told of a run: the bytes that were sent, the accepted trials, the calls and whether the study is complete,
 /// or the fault.
-fn told(alloc: Global, answer: Result<Done, RunFault>) -> Result<String, AllocError> {
+pub(crate) fn told(alloc: Global, answer: Result<Done, RunFault>) -> Result<String, AllocError> {
     let done = match answer {
         Ok(done) => done,
         Err(fault) => return format!(in alloc; "{fault}"),

@@ -1,4 +1,4 @@
-ghost use Rattle.std.specs.Prelude.{◌≡◌, ◌<◌, ◌≤◌};
+ghost use Rattle.std.specs.Prelude.{◌≡◌, ◌<◌, ◌≤◌, IfSome};
 ghost use Rattle.cut_trial.specs.Outcome.{rings_of};
 
 use crate::slot::CallFault;
@@ -39,13 +39,17 @@ struct Drawn {
 
 impl Bench {
     /// The bench of a plan's study, if there is memory for it.
-    fn new(alloc: Global, plan: Plan) -> Option<Bench> {
+    fn new(alloc: Global, plan: Plan) -> Option<Bench>
+        ensures { IfSome result (λ bench. bench.plan ≡ plan) }
+    {
         let rings = Rings::hashed(alloc, &plan).ok()?;
         Some(Bench { plan, rings })
     }
 
     /// Runs a piece, if there is memory for it.
-    fn run(&self, alloc: Global, piece: Piece) -> Option<PieceResult> {
+    fn run(&self, alloc: Global, piece: Piece) -> Option<PieceResult>
+        ensures { IfSome result (λ r. r ≡ record { plan = self.now.plan; piece = piece }) }
+    {
         run_piece(alloc, &self.plan, &self.rings, piece).ok()
     }
 }
@@ -168,6 +172,7 @@ impl<D: Disk + Drop, M: Tally, K: Tally> Hall<D, M, K> {
         bench: &mut Option<Bench>,
     ) -> Option<PieceResult>
         requires { drawn.study < self.now.slots }
+        ensures { IfSome result (λ r. r.piece ≡ drawn.piece) }
     {
         if bench.is_none() {
             let plan = self.plan(rt, alloc, drawn.study)?;

@@ -9,7 +9,7 @@ use Rattle.cut_table.specs.Traffic.{Traffic, wrote}
 use Rattle.cut_pool.specs.declared.emit.EmitFault.{EmitFault}
 use Rattle.cut_pool.specs.Lines.{full_line}
 use Rattle.cut_pool.specs.Pass.{Holding}
-use Rattle.cut_pool.specs.Emission.{Emits, IsEmitted, failed_in_emission}
+use Rattle.cut_pool.specs.Emission.{Emits, IsEmitted}
 use Rattle.cut_pool.proofs.Tables.{front_of, front_more, behind, table_splits, table_ends, line_next, header_first}
 use Rattle.cut_pool.proofs.Tables.{take_front, wrote_none, wrote_more, cut_off, cut_short}
 use Rattle.cut_pool.proofs.emit.emit.Goals as goal

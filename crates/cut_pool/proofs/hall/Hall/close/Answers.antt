@@ -61,7 +61,9 @@ returns-clause-why g c =
     ap (λ (ts : List StudyTotals). slice_get ts study) c.in-Ok-finish.ensures.totals ∙ total_at n views study low in
     let enough = c.in-Ok-finish.ensures.whole in
     let many = c.in-Ok.ensures.parts.many in
-    let all = ap (λ (r : Rooms). r.passes) c.self.view_is in (
+    let all = ap (λ (r : Rooms). r.passes) c.self.view_is in
+    let slots = ap (λ (r : Rooms). r.slots) c.self.view_is in (
       omega (arith, enough, many, all),
+      omega (arith, low, slots),
       sym (c.in-Err.ensures.differs (total_of views study) told) ∙ c.in-Ok.ensures.parts.counted study,
     )

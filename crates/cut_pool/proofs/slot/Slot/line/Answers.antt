@@ -6,7 +6,7 @@ use Rattle.cut_pool.proofs.slot.Slot.line.Goals as goal
 pub returns-in-Ok-clause-line : goal.returns-in-Ok-clause-line
 returns-in-Ok-clause-line g c =
     let book = c.in-Some.book in
-    let same = c.is_opened_as.ensures (c.if-not-is_opened_as.false) in
+    let same = c.is_opened_as.ensures.yes (c.if-not-is_opened_as.false) in
     c.in-Ok.ensures.line
     ∙ done_line book.state.ledger c.args.cell c.in-Ok.ensures.asked.0
     ∙ ap (λ v. full_line v book.state.ledger.base c.args.cell) same.0
