@@ -5,7 +5,7 @@ use Rattle.std.proofs.lemmas.Bool.Decides.{nat_tests}
 use Rattle.std.proofs.Math.Seq.{take-append-add}
 use Rattle.cut_faults.specs.Failures.{one_more}
 use Rattle.cut_board.specs.declared.view.View.{View}
-use Rattle.cut_table.specs.Traffic.{Traffic, wrote, gave}
+use Rattle.cut_table.specs.Traffic.{Traffic, Failed, wrote, gave, read_failed}
 use Rattle.cut_session.specs.declared.side.Side.{Side}
 use Rattle.cut_session.specs.declared.side.Side.TheVariants.{Requests}
 use Rattle.cut_session.specs.declared.message.Message.{Message}
@@ -20,8 +20,8 @@ use Rattle.cut_session.specs.FaultCode.{code_of_session}
 use Rattle.cut_session.specs.Frames.{fault_at}
 use Rattle.cut_session.specs.Reading.{Splits, Reading, HasRead, end_of}
 use Rattle.cut_session.specs.Answering.{Rises, error_frame}
-use Rattle.cut_session.specs.Session.{request_limit, Course, IsCourse, IsDue, replies_to, ends_at, passed, EndsAs, Ends}
-use Rattle.cut_session.specs.Serving.{Leaves, IsServing, Goes}
+use Rattle.cut_session.specs.Session.{request_limit, Course, IsCourse, IsDue, replies_to, ends_at, failed_by, passed, EndsAs, Ends}
+use Rattle.cut_session.specs.Serving.{Leaves, failed_leaving, IsServing, Goes}
 
 -- ---- the wire of a session
 
@@ -40,16 +40,16 @@ wired_more old mid new given out more ends before is =
 -- ---- a fault ends it
 
 pub leaves : (slots : ℕ) (low high : View) (c : Course) (fault : SessionFault) (result : SessionEnd) (before : ℕ)
-    (old mid new : Traffic) → IsCourse slots low high c → IsDue fault c → before ≡ length c.out
+    (old mid new : Traffic) (f g : Failed) → IsCourse slots low high c → IsDue fault c → before ≡ length c.out
     → mid ≡ passed c c.out (ends_at fault old.ends) old → Leaves fault before result mid new
-    → Ends slots low high result old new
-leaves slots low high c fault (end.Fault told) before old mid new is due sum first l =
+    → g ≡ failed_leaving result (failed_by fault f) → Ends slots low high result old new f g
+leaves slots low high c fault (end.Fault told) before old mid new f g is due sum first l failed =
     let whole : new ≡ passed c (replies_to fault c) (ends_at fault old.ends) old =
     wired_more old mid new (old.given ++ (c.stream ++ c.last)) c.out (error_frame (code_of_session fault))
     (ends_at fault old.ends) first l.1 in
-    let ends : EndsAs (end.Fault fault) c old new = (due, whole) in
-    (c, is, subst (λ (f : SessionFault). EndsAs (end.Fault f) c old new) (sym l.0) ends)
-leaves slots low high c fault (end.Write n) before old mid new is due sum first l =
+    let ends : EndsAs slots low high (end.Fault fault) c old new f g = (due, whole) in
+    (c, is, subst (λ (t : SessionFault). EndsAs slots low high (end.Fault t) c old new f g) (sym l.0) ends)
+leaves slots low high c fault (end.Write n) before old mid new f g is due sum first l failed =
     let frame : List ℕ = error_frame (code_of_session fault) in
     let part : List ℕ = take (n - before) frame in
     let whole : new ≡ passed c (c.out ++ part) (ends_at fault old.ends) old =
@@ -58,15 +58,16 @@ leaves slots low high c fault (end.Write n) before old mid new is due sum first 
     ap (λ (k : ℕ). c.out ++ take k frame) (omega (arith, sum, l.sums.0))
     ∙ sym (ap (λ (k : ℕ). take k (c.out ++ frame)) (omega (arith, sum, l.sums.0))
     ∙ take-append-add c.out frame (n - length c.out)) in
-    let ends : EndsAs (end.Write n) c old new = inr (
+    let ends : EndsAs slots low high (end.Write n) c old new f g = inr (
       fault,
       due,
       omega (arith, sum, l.sums.0),
       omega (arith, sum, l.sums.1, length-append c.out frame),
       whole ∙ ap (λ (l : List ℕ). passed c l (ends_at fault old.ends) old) cut,
+      failed,
     ) in
     (c, is, ends)
-leaves slots low high c fault other before old mid new is due sum first l = absurd l
+leaves slots low high c fault other before old mid new f g is due sum first l failed = absurd l
 
 -- ---- between two reads
 
@@ -174,54 +175,60 @@ some_held None [] e right ends none = cc
 some_held None (b ∷ held) e right ends none = cc
 
 pub ends_between : (slots : ℕ) (low high : View) (r : Reading) (done : Served) (buffer : List ℕ) (n : ℕ)
-    (old now new : Traffic) → IsServing slots low high r done [] old now → done.requests ≤ request_limit
-    → new ≡ gave now buffer n → n ≡ 0 → end_of r.fault r.held ≡ Ok tt
-    → Ends slots low high end.EndOfInput old new
-ends_between slots low high r done buffer n old now new s few is none whole =
+    (old now new : Traffic) (f g : Failed) → IsServing slots low high r done [] old now
+    → done.requests ≤ request_limit → new ≡ gave now buffer n → n ≡ 0 → end_of r.fault r.held ≡ Ok tt
+    → Ends slots low high end.EndOfInput old new f g
+ends_between slots low high r done buffer n old now new f g s few is none whole =
     let rest : s.read.rest ≡ [] = sym (s.read.held s.right) ∙ none_held r.fault r.held s.right whole in
-    let ends : EndsAs end.EndOfInput (course_of [] s) old new =
+    let ends : EndsAs slots low high end.EndOfInput (course_of [] s) old new f g =
     ((refl, refl), rest, wired_end slots low high r done buffer n old now new s is none) in
     (course_of [] s, is_course slots low high r done [] [] old now s few, ends)
 
 pub ends_within : (slots : ℕ) (low high : View) (r : Reading) (done : Served) (buffer : List ℕ) (n : ℕ)
-    (result : SessionEnd) (e : EndFault) (old now mid new : Traffic)
+    (result : SessionEnd) (e : EndFault) (old now mid new : Traffic) (f g : Failed)
     → IsServing slots low high r done [] old now → done.requests ≤ request_limit
     → mid ≡ gave now buffer n → n ≡ 0 → end_of r.fault r.held ≡ Err e
-    → Leaves session.Truncated done.sent result mid new → Ends slots low high result old new
-ends_within slots low high r done buffer n result e old now mid new s few is none part l =
+    → Leaves session.Truncated done.sent result mid new → g ≡ failed_leaving result f
+    → Ends slots low high result old new f g
+ends_within slots low high r done buffer n result e old now mid new f g s few is none part l failed =
     let c : Course = course_of [] s in
     let due : IsDue session.Truncated c = (
       (refl, refl),
       right_behind slots low high r done [] old now s,
       λ empty. some_held r.fault r.held e s.right part (s.read.held s.right ∙ empty),
     ) in
-    leaves slots low high c session.Truncated result done.sent old mid new
+    leaves slots low high c session.Truncated result done.sent old mid new f g
     (is_course slots low high r done [] [] old now s few) due s.sums
-    (wired_end slots low high r done buffer n old now mid s is none) l
+    (wired_end slots low high r done buffer n old now mid s is none) l failed
 
 -- or failed
 pub ends_unread : (slots : ℕ) (low high : View) (r : Reading) (done : Served) (result : SessionEnd)
-    (old now mid new : Traffic) → IsServing slots low high r done [] old now → done.requests ≤ request_limit
-    → mid ≡ now → Leaves session.Read done.sent result mid new → Ends slots low high result old new
-ends_unread slots low high r done result old now mid new s few same l =
+    (old now mid new : Traffic) (f g : Failed) → IsServing slots low high r done [] old now
+    → done.requests ≤ request_limit → mid ≡ now → Leaves session.Read done.sent result mid new
+    → g ≡ failed_leaving result (read_failed f) → Ends slots low high result old new f g
+ends_unread slots low high r done result old now mid new f g s few same l failed =
     let c : Course = course_of [] s in
     let due : IsDue session.Read c = ((refl, refl), right_behind slots low high r done [] old now s) in
-    leaves slots low high c session.Read result done.sent old mid new
-    (is_course slots low high r done [] [] old now s few) due s.sums (same ∙ s.wire) l
+    leaves slots low high c session.Read result done.sent old mid new f g
+    (is_course slots low high r done [] [] old now s few) due s.sums (same ∙ s.wire) l failed
 
 -- or memory was wanting for what it gave
 pub ends_full : (slots : ℕ) (low high : View) (r : Reading) (done : Served) (piece : List ℕ) (result : SessionEnd)
-    (old now new : Traffic) → IsServing slots low high r done piece old now → done.requests ≤ request_limit
-    → 0 < length piece → length piece ≤ 4096
-    → Leaves session.Memory done.sent result now new → Ends slots low high result old new
-ends_full slots low high r done piece result old now new s few some short l =
+    (old now new : Traffic) (f g : Failed) → IsServing slots low high r done piece old now
+    → done.requests ≤ request_limit → 0 < length piece → length piece ≤ 4096
+    → Leaves session.Memory done.sent result now new → g ≡ failed_leaving result f
+    → Ends slots low high result old new f g
+ends_full slots low high r done piece result old now new f g s few some short l failed =
     let c : Course = course_of piece s in
     let due : IsDue session.Memory c =
     (refl, some, short, right_behind slots low high r done piece old now s) in
-    leaves slots low high c session.Memory result done.sent old now new
-    (is_course slots low high r done piece piece old now s few) due s.sums s.wire l
+    leaves slots low high c session.Memory result done.sent old now new f g
+    (is_course slots low high r done piece piece old now s few) due s.sums s.wire l failed
 
 -- what was made of a piece
-pub goes : (slots : ℕ) (low high : View) (x y : Result Served SessionEnd) (r : Reading) (old new : Traffic) → x ≡ y
-    → Goes slots low high x r old new → Goes slots low high y r old new
-goes slots low high x y r old new same g = subst (λ (z : Result Served SessionEnd). Goes slots low high z r old new) same g
+pub goes : (slots : ℕ) (low high : View) (x y : Result Served SessionEnd) (r : Reading) (old new : Traffic)
+    (before f g : Failed) → x ≡ y → before ≡ f → Goes slots low high x r old new before g
+    → Goes slots low high y r old new f g
+goes slots low high x y r old new before f g same none is =
+    subst (λ (h : Failed). Goes slots low high y r old new h g) none
+    (subst (λ (z : Result Served SessionEnd). Goes slots low high z r old new before g) same is)

@@ -1,9 +1,10 @@
 -- What a session makes of a piece of its input.
-use Rattle.std.proofs.Common.{◌≡◌, ◌∙◌, ◌+◌, ◌-◌, ◌<◌, ◌≤◌, ◌++◌, ℕ, List, [], length, take, Some, None, Ok, Err, inl, refl, sym, ap, subst, arith, append_assoc, append-nil, length-append}
+use Rattle.std.proofs.Common.{◌≡◌, ◌∙◌, ◌+◌, ◌-◌, ◌<◌, ◌≤◌, ◌++◌, ℕ, List, [], ◌∷◌, length, take, Some, None, Ok, Err, inl, refl, sym, ap, subst, arith, append_assoc, append-nil, length-append}
+use Rattle.std.proofs.lemmas.List.{take-append-le}
 use Rattle.std.proofs.Math.Seq.{take-append-add}
 use Rattle.cut_board.specs.declared.view.View.{View}
 use Rattle.cut_table.specs.declared.send.Sent.{Sent}
-use Rattle.cut_table.specs.Traffic.{Traffic, wrote}
+use Rattle.cut_table.specs.Traffic.{Traffic, Failed, wrote, write_failed}
 use Rattle.cut_session.specs.declared.side.Side.{Side}
 use Rattle.cut_session.specs.declared.side.Side.TheVariants.{Requests}
 use Rattle.cut_session.specs.declared.message.Message.{Message}
@@ -14,10 +15,11 @@ use Rattle.cut_session.specs.declared.session_end.SessionEnd.TheVariants as end
 use Rattle.cut_session.specs.declared.session_end.SessionFault.TheVariants as session
 use Rattle.cut_session.specs.Reading.{Splits, Reading, HasRead}
 use Rattle.cut_session.specs.Answering.{AnswersAll}
-use Rattle.cut_session.specs.Session.{request_limit, Course, IsCourse, QuitsAtOnce, IsDue, passed, EndsAs, Ends}
-use Rattle.cut_session.specs.Serving.{Sends, Leaves, IsServing}
+use Rattle.cut_session.specs.Session.{request_limit, Course, IsCourse, QuitsAtOnce, IsDue, LastReply, passed, EndsAs, Ends}
+use Rattle.cut_session.specs.Serving.{Sends, Leaves, failed_leaving, IsServing}
 use Rattle.cut_session.proofs.Courses.{Wired, wired_more, leaves, fault_of}
 use Rattle.cut_session.proofs.Turns.{all_then}
+use Rattle.cut_session.proofs.Cuts.{CutIn, cut_in}
 
 -- a piece was read that completes messages, of which the first ones are answered
 pub record IsFed (slots : ℕ) (low middle high : View) (r next : Reading) (done : Served) (piece : List ℕ)
@@ -68,10 +70,10 @@ module _ {slots : ℕ} {low middle high : View} {r next : Reading} {done : Serve
   fed_sum n is = omega (arith, is, s.sums, length-append s.out out)
 
   -- a message quits
-  pub fed_quits : (new : Traffic) → new ≡ wrote now out → QuitsAtOnce unanswered
-      → done.requests + length answered < request_limit → Ends slots low high end.Quit old new
-  fed_quits new is quits few =
-      let ends : EndsAs end.Quit fed_course old new = (
+  pub fed_quits : (new : Traffic) (f g : Failed) → new ≡ wrote now out → QuitsAtOnce unanswered
+      → done.requests + length answered < request_limit → Ends slots low high end.Quit old new f g
+  fed_quits new f g is quits few =
+      let ends : EndsAs slots low high end.Quit fed_course old new f g = (
         quits,
         omega (arith, few, s.requests, length-append s.messages answered),
         refl,
@@ -79,48 +81,102 @@ module _ {slots : ℕ} {low middle high : View} {r next : Reading} {done : Serve
       ) in
       (fed_course, is_fed_course, ends)
 
+  -- its course up to the message to which the reply is cut
+  abbrev pub cut_course : (n : ℕ)
+      → CutIn slots low high (s.messages ++ answered) (s.out ++ out) n → Course
+  cut_course n cut = record {
+    stream = s.stream ++ piece;
+    answered = cut.before ++ cut.here ∷ [];
+    unanswered = cut.after ++ unanswered;
+    rest = f.read.rest;
+    last = [];
+    out = cut.first ++ cut.reply;
+  }
+
+  is_cut_course : (n : ℕ) → (cut : CutIn slots low high (s.messages ++ answered) (s.out ++ out) n)
+      → IsCourse slots low high (cut_course n cut)
+  is_cut_course n cut =
+      let parts : s.messages ++ answered ≡ (cut.before ++ cut.here ∷ []) ++ cut.after =
+      cut.parts ∙ sym (append_assoc cut.before (cut.here ∷ []) cut.after) in
+      record {
+        splits = subst (λ (l : List Message). Splits Requests (s.stream ++ piece) l f.read.rest)
+            (ap (λ (l : List Message). l ++ unanswered) parts
+            ∙ append_assoc (cut.before ++ cut.here ∷ []) cut.after unanswered) is_fed_course.splits;
+        few = omega (
+          arith,
+          is_fed_course.few,
+          ap (λ (l : List Message). length l) parts,
+          length-append (cut.before ++ cut.here ∷ []) cut.after,
+        );
+        replies = all_then slots low cut.middle high cut.before (cut.here ∷ []) cut.first cut.reply cut.replies
+            cut.answers;
+      }
+
   -- a write of a reply fails
-  pub fed_cut : (p : Sent) (new : Traffic) → Sends done.sent (Err p) out now new
-      → Ends slots low high (end.Write p.bytes) old new
-  fed_cut p new sends =
+  pub fed_cut : (p : Sent) (new : Traffic) (g h : Failed) → Sends done.sent (Err p) out now new
+      → h ≡ write_failed g → Ends slots low high (end.Write p.bytes) old new g h
+  fed_cut p new g h sends failed =
       let n : ℕ = p.bytes in
       let same : n - done.sent ≡ n - length s.out = ap (λ (k : ℕ). n - k) s.sums in
       let parts : n ≡ length s.out + (n - length s.out) = omega (arith, sends.sums.0, s.sums) in
-      let cut : s.out ++ take (n - done.sent) out ≡ take n (s.out ++ out) =
+      let front : s.out ++ take (n - done.sent) out ≡ take n (s.out ++ out) =
       ap (λ (k : ℕ). s.out ++ take k out) same
       ∙ sym (ap (λ (k : ℕ). take k (s.out ++ out)) parts ∙ take-append-add s.out out (n - length s.out)) in
-      let ends : EndsAs (end.Write n) fed_course old new = inl (
+      let cut : CutIn slots low high (s.messages ++ answered) (s.out ++ out) n =
+      cut_in slots low high (s.messages ++ answered) (s.out ++ out) n is_fed_course.replies
+      (omega (arith, sends.sums.1, s.sums, length-append s.out out)) in
+      let c : Course = cut_course n cut in
+      let short : take n (s.out ++ out) ≡ take n c.out =
+      ap (λ (l : List ℕ). take n l) cut.joined
+      ∙ take-append-le n c.out cut.rest (omega (arith, cut.part)) in
+      let reply : LastReply slots low high c = record {
+        before = cut.before;
+        here = cut.here;
+        middle = cut.middle;
+        first = cut.first;
+        reply = cut.reply;
+        parts = refl;
+        replies = cut.replies;
+        answers = cut.answers;
+        joined = refl;
+      } in
+      let ends : EndsAs slots low high (end.Write n) c old new g h = inl (
+        reply,
+        cut.from,
+        cut.part,
         refl,
-        omega (arith, sends.sums.1, s.sums, length-append s.out out),
         fed_wire (take (n - done.sent) out) new sends.took
-            ∙ ap (λ (l : List ℕ). passed fed_course l old.ends old) cut,
+            ∙ ap (λ (l : List ℕ). passed fed_course l old.ends old) (front ∙ short),
+        failed,
       ) in
-      (fed_course, is_fed_course, ends)
+      (c, is_cut_course n cut, ends)
 
   -- no more messages may be answered
-  pub fed_limit : (n : ℕ) (result : SessionEnd) (mid new : Traffic) → Sends done.sent (Ok n) out now mid
-      → done.requests + length answered ≡ request_limit → 0 < length unanswered
-      → Leaves session.TooManyRequests n result mid new → Ends slots low high result old new
-  fed_limit n result mid new sends all some l =
+  pub fed_limit : (n : ℕ) (result : SessionEnd) (mid new : Traffic) (g h : Failed)
+      → Sends done.sent (Ok n) out now mid → done.requests + length answered ≡ request_limit
+      → 0 < length unanswered → Leaves session.TooManyRequests n result mid new → h ≡ failed_leaving result g
+      → Ends slots low high result old new g h
+  fed_limit n result mid new g h sends all some l failed =
       let due : IsDue session.TooManyRequests fed_course = (
         omega (arith, all, s.requests, length-append s.messages answered),
         some,
         refl,
       ) in
-      leaves slots low high fed_course session.TooManyRequests result n old mid new is_fed_course due
-      (fed_sum n sends.sums) (fed_wire out mid sends.took) l
+      leaves slots low high fed_course session.TooManyRequests result n old mid new g h is_fed_course due
+      (fed_sum n sends.sums) (fed_wire out mid sends.took) l failed
 
   -- a fault stands behind them
-  pub fed_fault : (n : ℕ) (fault : StreamFault) (result : SessionEnd) (mid new : Traffic)
+  pub fed_fault : (n : ℕ) (fault : StreamFault) (result : SessionEnd) (mid new : Traffic) (g h : Failed)
       → Sends done.sent (Ok n) out now mid → unanswered ≡ [] → next.fault ≡ Some fault
-      → Leaves (session.Stream fault) n result mid new → Ends slots low high result old new
-  fed_fault n fault result mid new sends none wrong l =
+      → Leaves (session.Stream fault) n result mid new → h ≡ failed_leaving result g
+      → Ends slots low high result old new g h
+  fed_fault n fault result mid new g h sends none wrong l failed =
       let due : IsDue (session.Stream fault) fed_course = (
         (none, refl),
         fault_of next (s.stream ++ piece) (s.messages ++ more) (Some fault) f.read (f.side ∙ s.side) wrong,
       ) in
-      leaves slots low high fed_course (session.Stream fault) result n old mid new is_fed_course due
-      (fed_sum n sends.sums) (fed_wire out mid sends.took) l
+      leaves slots low high fed_course (session.Stream fault) result n old mid new g h is_fed_course due
+      (fed_sum n sends.sums) (fed_wire out mid sends.took) l failed
 
   -- the session goes on
   pub fed_on : (n : ℕ) (later : Served) (new : Traffic) → Sends done.sent (Ok n) out now new → unanswered ≡ []

@@ -1,9 +1,9 @@
 -- An answer that is heard read by read.
-use Rattle.std.proofs.Common.{◌≡◌, ◌∙◌, ◌+◌, ◌<◌, ◌≤◌, ◌++◌, ℕ, Bool, false, List, [], length, take, nat_eq, Option, Some, None, Result, Ok, Err, refl, sym, ap, subst, arith, append_assoc, append-nil, length-append, length-take-le}
+use Rattle.std.proofs.Common.{◌≡◌, ◌∙◌, ◌+◌, ◌^◌, ◌<◌, ◌≤◌, ◌++◌, ℕ, Bool, false, List, [], length, take, nat_eq, Option, Some, None, Result, Ok, Err, refl, sym, ap, subst, arith, append_assoc, append-nil, length-append, length-take-le}
 use Rattle.std.specs.Prelude.{if◌then◌else◌}
 use Rattle.std.proofs.lemmas.Bool.Decides.{nat_tests}
 use Rattle.cut_faults.specs.Failures.{one_more}
-use Rattle.cut_table.specs.Traffic.{Traffic, gave}
+use Rattle.cut_table.specs.Traffic.{Traffic, gave, no_traffic, wrote}
 use Rattle.cut_session.specs.declared.side.Side.{Side}
 use Rattle.cut_session.specs.declared.side.Side.TheVariants.{Replies}
 use Rattle.cut_session.specs.declared.message.Message.{Message}
@@ -14,7 +14,7 @@ use Rattle.cut_session.specs.declared.replies.Progress.{Progress}
 use Rattle.cut_session.specs.declared.replies.Progress.TheVariants.{More, Done}
 use Rattle.cut_session.specs.Frames.{fault_at}
 use Rattle.cut_session.specs.Reading.{Splits, Reading, HasRead}
-use Rattle.cut_session.specs.Asking.{request, heard, Passes, Hears, Asks}
+use Rattle.cut_session.specs.Asking.{request, heard, Passes, Hears, Asks, AsksSomeone}
 use Rattle.cut_session.specs.Listening.{IsOfReplies, Steps}
 use Rattle.cut_session.proofs.Answered.{passes_then}
 
@@ -28,6 +28,11 @@ pub record Listens (plan : List ℕ) (r : Reading) (reads : ℕ) (old now o p : 
   pub long : reads ≤ length stream
   pub wire : now ≡ heard plan stream old
   pub passed : Passes messages (Ok More) o p
+
+-- the same over some wire that tells what passes, over which nothing had passed
+pub record ListensSomewhere (plan : List ℕ) (r : Reading) (reads : ℕ) (o p : Traffic) : Type 0 where
+  pub now : Traffic
+  pub listens : Listens plan r reads no_traffic now o p
 
 -- a wire that took the request, gave some bytes, and ended so often
 abbrev made : List ℕ → Traffic → List ℕ → ℕ → Traffic
@@ -188,3 +193,91 @@ has_failed plan buffer n x fault r next reads old now new o p q l is of short t 
     failed plan buffer (take n buffer) n r next reads fault old now new o p q l t.gives t.some refl
     (omega (arith, size, short, t.within)) t.side of
     (same_steps x (Err fault) r next l.stream (take n buffer) l.messages p q is t.steps)
+
+-- ---- where no more comes
+
+-- a client that listens has the lines of what it heard
+pub unread : (plan : List ℕ) (r : Reading) (reads : ℕ) (old now o p : Traffic) → Listens plan r reads old now o p
+    → Hears plan (Err ask.Read) old now o p
+unread plan r reads old now o p l = record {
+  stream = l.stream;
+  messages = l.messages;
+  rest = l.read.rest;
+  last = [];
+  splits = splits_there r l.stream l.messages l.read l.side;
+  ends = (l.passed, fault_there r l.stream l.messages None l.read l.side l.right);
+  unread = refl;
+  wire = wire_still plan l.stream old now l.wire;
+}
+
+pub ended : (plan : List ℕ) (r : Reading) (reads : ℕ) (buffer : List ℕ) (n : ℕ) (old now new o p : Traffic) → Listens plan r reads old now o p
+    → new ≡ gave now buffer n → n ≡ 0 → Hears plan (Err ask.Truncated) old new o p
+ended plan r reads buffer n old now new o p l is none = record {
+  stream = l.stream;
+  messages = l.messages;
+  rest = l.read.rest;
+  last = [];
+  splits = splits_there r l.stream l.messages l.read l.side;
+  ends = (l.passed, fault_there r l.stream l.messages None l.read l.side l.right);
+  unread = refl;
+  wire = is ∙ ap (λ (k : ℕ). gave now buffer k) none
+      ∙ ap (λ (t : Traffic). gave t buffer 0) (wire_still plan l.stream old now l.wire)
+      ∙ ap (λ (g : List ℕ). record (heard plan (l.stream ++ []) old) { given = g; ends = one_more old.ends })
+      (append-nil (old.given ++ (l.stream ++ [])));
+}
+
+pub truncated : (plan : List ℕ) (r : Reading) (reads : ℕ) (old now o p : Traffic) → Listens plan r reads old now o p
+    → AsksSomeone plan (Err ask.Truncated) o p
+truncated plan r reads old now o p l =
+    let ended : Traffic = record (heard plan (l.stream ++ []) old) { ends = one_more old.ends } in (
+      old,
+      ended,
+      record {
+        stream = l.stream;
+        messages = l.messages;
+        rest = l.read.rest;
+        last = [];
+        splits = splits_there r l.stream l.messages l.read l.side;
+        ends = (l.passed, fault_there r l.stream l.messages None l.read l.side l.right);
+        unread = refl;
+        wire = refl;
+      },
+    )
+
+pub endless : (plan : List ℕ) (r : Reading) (reads : ℕ) (old now o p : Traffic) → Listens plan r reads old now o p
+    → 2 ^ 32 ≤ reads → Hears plan (Err ask.Endless) old now o p
+endless plan r reads old now o p l many = record {
+  stream = l.stream;
+  messages = l.messages;
+  rest = l.read.rest;
+  last = [];
+  splits = splits_there r l.stream l.messages l.read l.side;
+  ends = (
+    l.passed,
+    fault_there r l.stream l.messages None l.read l.side l.right,
+    omega (arith, l.long, many),
+  );
+  unread = refl;
+  wire = wire_still plan l.stream old now l.wire;
+}
+
+-- a request of which nothing was sent
+pub unsent : (plan : List ℕ) (o : Traffic) → AsksSomeone plan (Err ask.Request) o o
+unsent plan o = (no_traffic, wrote no_traffic [], ((0, omega arith, refl), refl))
+
+-- a client that has sent its request
+pub begins : (plan : List ℕ) (r : Reading) (o : Traffic) → HasRead r [] [] → r.fault ≡ None → r.side ≡ Replies
+    → ListensSomewhere plan r 0 o o
+begins plan r o read right side = record {
+  now = heard plan [] no_traffic;
+  listens = record {
+    stream = [];
+    messages = [];
+    read = read;
+    right = right;
+    side = side;
+    long = omega arith;
+    wire = refl;
+    passed = (tt, ap (λ (l : List ℕ). record o { taken = l }) (sym (append-nil o.taken)));
+  };
+}

@@ -7,6 +7,7 @@ pub mod Answered
 pub mod Heard
 pub mod Sendings
 pub mod Turns
+pub mod Cuts
 pub mod Courses
 pub mod Feeding
 pub mod Served

@@ -3,7 +3,7 @@ use Rattle.std.proofs.Common.{◌≡◌, ◌∙◌, ◌+◌, ◌<◌, ◌≤◌,
 use Rattle.std.proofs.lemmas.List.{length-drop, drop_all}
 use Rattle.cut_board.specs.declared.view.View.{View}
 use Rattle.cut_table.specs.declared.send.Sent.{Sent}
-use Rattle.cut_table.specs.Traffic.{Traffic}
+use Rattle.cut_table.specs.Traffic.{Traffic, Failed, after_write}
 use Rattle.cut_session.specs.declared.message.Message.{Message}
 use Rattle.cut_session.specs.declared.fault.StreamFault.{StreamFault}
 use Rattle.cut_session.specs.declared.answer.Turn.{Turn}
@@ -15,7 +15,7 @@ use Rattle.cut_session.specs.declared.session_end.SessionFault.TheVariants as se
 use Rattle.cut_session.specs.Reading.{Reading, HasRead}
 use Rattle.cut_session.specs.Answering.{AnswersAll}
 use Rattle.cut_session.specs.Session.{request_limit, QuitsAtOnce, Ends}
-use Rattle.cut_session.specs.Serving.{Replies, ServesFirst, ServesAll, Leaves, IsServing}
+use Rattle.cut_session.specs.Serving.{Replies, ServesFirst, ServesAll, Leaves, failed_leaving, IsServing}
 use Rattle.cut_session.proofs.Feeding.{IsFed, fed_quits, fed_cut, fed_limit, fed_fault, fed_on}
 
 quits_some : (ms : List Message) → QuitsAtOnce ms → 0 < length ms
@@ -31,6 +31,13 @@ all_answered : (slots : ℕ) (low high : View) (ms : List Message) (before n : �
     → Replies (AnswersAll slots low high ms) before (Ok n) old new
 all_answered slots low high ms before n x old new is serves =
     subst (λ (y : Result Turn Sent). ServesAll slots low high ms before y old new) is serves
+
+-- where no write of a reply failed
+failed_before : (x : Result Turn Sent) (n : ℕ) (result : SessionEnd) (f between g : Failed) → x ≡ Ok (On n)
+    → between ≡ after_write x f → g ≡ failed_leaving result between → g ≡ failed_leaving result f
+failed_before x n result f between g is none failed =
+    failed
+    ∙ ap (λ (h : Failed). failed_leaving result h) (none ∙ ap (λ (y : Result Turn Sent). after_write y f) is)
 
 module _ {slots : ℕ} {low middle high : View} {r next : Reading} {done : Served} {piece : List ℕ}
     {old now : Traffic} (s : IsServing slots low middle r done piece old now) (more shown : List Message) (count : ℕ)
@@ -68,13 +75,14 @@ module _ {slots : ℕ} {low middle high : View} {r next : Reading} {done : Serve
     few = omega (arith, few, length-take-le count shown within);
   }
 
-  pub served_over : (x : Result Turn Sent) (new : Traffic) → x ≡ Ok Over
-      → ServesAll slots middle high (take count shown) done.sent x now new → Ends slots low high end.Quit old new
-  served_over x new is serves =
+  pub served_over : (x : Result Turn Sent) (new : Traffic) (f g : Failed) → x ≡ Ok Over
+      → ServesAll slots middle high (take count shown) done.sent x now new
+      → Ends slots low high end.Quit old new f g
+  served_over x new g h is serves =
       let over = subst (λ (y : Result Turn Sent). ServesAll slots middle high (take count shown) done.sent y now new)
       is serves in
       let f : ServesFirst slots middle high (take count shown) done.sent (Ok over.0) now new = over.1 in
-      fed_quits (first_fed (Ok over.0) new f) new f.replies.2.took
+      fed_quits (first_fed (Ok over.0) new f) new g h f.replies.2.took
       (quits_more f.unanswered (drop count shown) over.2)
       (omega (
         arith,
@@ -85,30 +93,36 @@ module _ {slots : ℕ} {low middle high : View} {r next : Reading} {done : Serve
         length-append f.answered f.unanswered,
       ))
 
-  pub served_cut : (x : Result Turn Sent) (p : Sent) (new : Traffic) → x ≡ Err p
-      → ServesAll slots middle high (take count shown) done.sent x now new
-      → Ends slots low high (end.Write p.bytes) old new
-  served_cut x p new is serves =
+  pub served_cut : (x : Result Turn Sent) (p : Sent) (new : Traffic) (f g : Failed) → x ≡ Err p
+      → ServesAll slots middle high (take count shown) done.sent x now new → g ≡ after_write x f
+      → Ends slots low high (end.Write p.bytes) old new f g
+  served_cut x p new g h is serves failed =
       let f : ServesFirst slots middle high (take count shown) done.sent (Err p) now new =
       subst (λ (y : Result Turn Sent). ServesAll slots middle high (take count shown) done.sent y now new) is serves in
-      fed_cut (first_fed (Err p) new f) p new f.replies.2
+      fed_cut (first_fed (Err p) new f) p new g h f.replies.2
+      (failed ∙ ap (λ (y : Result Turn Sent). after_write y g) is)
 
-  pub served_limit : (x : Result Turn Sent) (n : ℕ) (result : SessionEnd) (mid new : Traffic) → x ≡ Ok (On n)
-      → ServesAll slots middle high (take count shown) done.sent x now mid
+  pub served_limit : (x : Result Turn Sent) (n : ℕ) (result : SessionEnd) (mid new : Traffic)
+      (f between g : Failed) → x ≡ Ok (On n) → ServesAll slots middle high (take count shown) done.sent x now mid
       → done.requests + count ≡ request_limit → count < length shown
-      → Leaves session.TooManyRequests n result mid new → Ends slots low high result old new
-  served_limit x n result mid new is serves all some l =
+      → Leaves session.TooManyRequests n result mid new → between ≡ after_write x f
+      → g ≡ failed_leaving result between → Ends slots low high result old new f g
+  served_limit x n result mid new f between g is serves all some l none failed =
       let a = all_answered slots middle high (take count shown) done.sent n x now mid is serves in
-      fed_limit (all_fed a.0 a.1) n result mid new a.2 (omega (arith, all, length-take-le count shown within))
-      (omega (arith, some, length-drop count shown)) l
+      fed_limit (all_fed a.0 a.1) n result mid new f g a.2
+      (omega (arith, all, length-take-le count shown within)) (omega (arith, some, length-drop count shown)) l
+      (failed_before x n result f between g is none failed)
 
   pub served_fault : (x : Result Turn Sent) (n : ℕ) (fault : StreamFault) (result : SessionEnd) (mid new : Traffic)
-      → x ≡ Ok (On n) → ServesAll slots middle high (take count shown) done.sent x now mid
+      (f between g : Failed) → x ≡ Ok (On n)
+      → ServesAll slots middle high (take count shown) done.sent x now mid
       → length shown ≤ count → next.fault ≡ Some fault
-      → Leaves (session.Stream fault) n result mid new → Ends slots low high result old new
-  served_fault x n fault result mid new is serves all wrong l =
+      → Leaves (session.Stream fault) n result mid new → between ≡ after_write x f
+      → g ≡ failed_leaving result between → Ends slots low high result old new f g
+  served_fault x n fault result mid new f between g is serves all wrong l none failed =
       let a = all_answered slots middle high (take count shown) done.sent n x now mid is serves in
-      fed_fault (all_fed a.0 a.1) n fault result mid new a.2 (drop_all count shown all) wrong l
+      fed_fault (all_fed a.0 a.1) n fault result mid new f g a.2 (drop_all count shown all) wrong l
+      (failed_before x n result f between g is none failed)
 
   pub served_on : (x : Result Turn Sent) (n : ℕ) (later : Served) (new : Traffic) → x ≡ Ok (On n)
       → ServesAll slots middle high (take count shown) done.sent x now new → length shown ≤ count

@@ -124,6 +124,10 @@ Asks plan (Err ask.Request) old new out_old out_new =
     IsCutOff (request plan) old new × (out_new ≡ out_old)
 Asks plan result old new out_old out_new = Hears plan result old new out_old out_new
 
+-- the same over a wire of which nothing is known: what the output took are lines of some answer
+abbrev pub AsksSomeone : List ℕ → Result ⊤ AskFault → Traffic → Traffic → Type 0
+AsksSomeone plan result out_old out_new = (old : Traffic) × (new : Traffic) × Asks plan result old new out_old out_new
+
 -- ---- calls that failed
 
 -- of the wire: one write exactly where a write of the request failed, one read exactly where a read

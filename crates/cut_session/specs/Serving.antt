@@ -106,9 +106,10 @@ pub record IsServing (slots : ℕ) (low high : View) (r : Reading) (done : Serve
   }
 
 -- after a piece the session goes on, or has ended
-abbrev pub Goes : ℕ → View → View → Result Served SessionEnd → Reading → Traffic → Traffic → Type 0
-Goes slots low high (Ok done) r old new = IsServing slots low high r done [] old new
-Goes slots low high (Err end) r old new = Ends slots low high end old new
+abbrev pub Goes : ℕ → View → View → Result Served SessionEnd → Reading → Traffic → Traffic → Failed → Failed
+    → Type 0
+Goes slots low high (Ok done) r old new f g = IsServing slots low high r done [] old new
+Goes slots low high (Err end) r old new f g = Ends slots low high end old new f g
 
 -- the counts of failed calls after it; no read failed
 abbrev pub HasFailedAt : Result Served SessionEnd → Failed → Failed → Type 0

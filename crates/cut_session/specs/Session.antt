@@ -45,8 +45,8 @@ abbrev pub QuitsAtOnce : List Message → Type 0
 QuitsAtOnce [] = ⊥
 QuitsAtOnce (m ∷ ms) = m.kind ≡ kind.Quit
 
--- a fault ends the session: memory was wanting for what the last read gave; or the input cannot go on, or goes
--- on no further, behind the messages that are answered; or there are more messages than may be answered
+-- a fault ends the session: memory was wanting for what the last read gave; or the input cannot go on, or
+-- goes on no further, behind the messages that are answered; or there are more messages than may be answered
 abbrev pub IsDue : SessionFault → Course → Type 0
 IsDue session.Memory c =
     (c.unanswered ≡ []) × (0 < length c.last) × (length c.last ≤ 4096) × (fault_at Requests c.rest ≡ None)
@@ -72,36 +72,58 @@ abbrev pub passed : Course → List ℕ → ℕ → Traffic → Traffic
 passed c taken ends old =
     record { taken = old.taken ++ taken; given = old.given ++ (c.stream ++ c.last); ends = ends }
 
--- a write of a reply failed, the last of those to the messages that are answered
-abbrev pub CutsReply : ℕ → Course → Traffic → Traffic → Type 0
-CutsReply sent c old new =
-    (c.last ≡ []) × (sent < length c.out) × (new ≡ passed c (take sent c.out) old.ends old)
+-- the last of the messages that are answered, with the replies to those before it and the reply to it
+pub record LastReply (slots : ℕ) (low high : View) (c : Course) : Type 0 where
+  pub before : List Message
+  pub here : Message
+  pub middle : View
+  pub first : List ℕ
+  pub reply : List ℕ
+  pub parts : c.answered ≡ before ++ here ∷ []
+  pub replies : AnswersAll slots low middle before first
+  pub answers : AnswersAll slots middle high (here ∷ []) reply
+  pub joined : c.out ≡ first ++ reply
+
+-- the counts of failed calls where a fault is due: one read more exactly where it is that a read failed
+abbrev pub failed_by : SessionFault → Failed → Failed
+failed_by session.Read f = read_failed f
+failed_by fault f = f
+
+-- a write failed of the last reply: those before it were sent whole, and it was not
+abbrev pub CutsReply : ℕ → View → View → ℕ → Course → Traffic → Traffic → Failed → Failed → Type 0
+CutsReply slots low high sent c old new f g =
+    (l : LastReply slots low high c) × (length l.first ≤ sent) × (sent < length c.out) × (c.last ≡ [])
+    × (new ≡ passed c (take sent c.out) old.ends old) × (g ≡ write_failed f)
 
 -- a write of the frame failed that tells the fault which ended the session
-abbrev pub CutsEnd : ℕ → Course → Traffic → Traffic → Type 0
-CutsEnd sent c old new =
+abbrev pub CutsEnd : ℕ → Course → Traffic → Traffic → Failed → Failed → Type 0
+CutsEnd sent c old new f g =
     (fault : SessionFault) × IsDue fault c × (length c.out ≤ sent) × (sent < length (replies_to fault c))
     × (new ≡ passed c (take sent (replies_to fault c)) (ends_at fault old.ends) old)
+    × (g ≡ write_failed (failed_by fault f))
 
 -- how a session ends, and what its wire took and gave: all replies to the messages before one that quits; all
 -- replies, where the input ended behind them; the replies and the fault's frame; or exactly as many of the
--- first bytes of these as are told
-abbrev pub EndsAs : SessionEnd → Course → Traffic → Traffic → Type 0
-EndsAs Quit c old new =
+-- first bytes of these as are told, where a write failed, and then which calls failed in all
+abbrev pub EndsAs : ℕ → View → View → SessionEnd → Course → Traffic → Traffic → Failed → Failed → Type 0
+EndsAs slots low high Quit c old new f g =
     QuitsAtOnce c.unanswered × (length c.answered < request_limit) × (c.last ≡ [])
     × (new ≡ passed c c.out old.ends old)
-EndsAs EndOfInput c old new =
+EndsAs slots low high EndOfInput c old new f g =
     IsAnswered c × (c.rest ≡ []) × (new ≡ passed c c.out (one_more old.ends) old)
-EndsAs (Fault fault) c old new =
+EndsAs slots low high (Fault fault) c old new f g =
     IsDue fault c × (new ≡ passed c (replies_to fault c) (ends_at fault old.ends) old)
-EndsAs (Write sent) c old new = CutsReply sent c old new ⊎ CutsEnd sent c old new
+EndsAs slots low high (Write sent) c old new f g =
+    CutsReply slots low high sent c old new f g ⊎ CutsEnd sent c old new f g
 
-abbrev pub Ends : ℕ → View → View → SessionEnd → Traffic → Traffic → Type 0
-Ends slots low high end old new = (c : Course) × IsCourse slots low high c × EndsAs end c old new
+abbrev pub Ends : ℕ → View → View → SessionEnd → Traffic → Traffic → Failed → Failed → Type 0
+Ends slots low high end old new f g =
+    (c : Course) × IsCourse slots low high c × EndsAs slots low high end c old new f g
 
 -- ---- calls that failed
 
--- of the wire: a read exactly where that is told, or where telling it failed; a write exactly where one is told
+-- of any wire: a write exactly where one is told, and a read exactly where that is told, or where telling it
+-- failed
 abbrev pub HasFailed : SessionEnd → Failed → Failed → Type 0
 HasFailed (Write sent) old new = (new ≡ write_failed old) ⊎ (new ≡ write_failed (read_failed old))
 HasFailed (Fault session.Read) old new = new ≡ read_failed old

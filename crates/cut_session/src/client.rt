@@ -1,6 +1,6 @@
 ghost use Rattle.std.specs.Prelude.{◌≡◌, ◌+◌, ◌^◌, ◌<◌, ◌≤◌, ◌↔◌, ◌++◌, length, IsErrOf};
 ghost use Rattle.cut_table.specs.Traffic.{Sends, after_write};
-ghost use Rattle.cut_session.specs.Asking.{request, Asks, wire_failed, output_failed};
+ghost use Rattle.cut_session.specs.Asking.{request, Asks, AsksSomeone, wire_failed, output_failed};
 
 use crate::frame::send_after;
 use crate::replies::{Progress, take_piece};
@@ -28,6 +28,8 @@ pub fn ask<W: Wire, O: Wire>(
 ) -> Result<(), AskFault>
     ensures told { W.tells wire.old → O.tells output.old → Asks plan_text.now result
         (W.traffic wire.old) (W.traffic wire.new) (O.traffic output.old) (O.traffic output.new) }
+    ensures lines { O.tells output.old →
+        AsksSomeone plan_text.now result (O.traffic output.old) (O.traffic output.new) }
     ensures long { IsErrOf result AskFault.PlanTooLong ↔ 65536 < length plan_text.now }
     ensures unsent { 65536 < length plan_text.now →
         (wire.new ≡ wire.old) × (output.new ≡ output.old) }

@@ -26,7 +26,8 @@ pub(crate) fn take_piece<O: Wire>(
     output: &mut O,
 ) -> Result<Progress, AskFault>
     ensures told { (stream : List ℕ) (messages : List Message) →
-        HasRead reader.old stream messages → O.tells output.old → Steps result reader.old reader.new stream piece.now messages
+        HasRead reader.old stream messages → O.tells output.old →
+        Steps result reader.old reader.new stream piece.now messages
         (O.traffic output.old) (O.traffic output.new) }
     ensures kinds { IfErr result IsOfReplies }
     ensures side { reader.new.side ≡ reader.old.side }

@@ -54,7 +54,7 @@ where
     R: Wait,
     requires { pass.old.hall ≡ hall.now.id }
     ensures told { W.tells wire.old → Ends hall.now.slots pass.old.view pass.new.view result
-        (W.traffic wire.old) (W.traffic wire.new) }
+        (W.traffic wire.old) (W.traffic wire.new) (W.faults wire.old) (W.faults wire.new) }
     ensures cause { HasFailed result (W.faults wire.old) (W.faults wire.new) }
     ensures own { pass.new.hall ≡ pass.old.hall }
     ensures rises { Rises pass.old.view pass.new.view }
@@ -112,7 +112,8 @@ where
     requires short { length piece.now ≤ 4096 }
     ensures told { (low : View) (old : Traffic) → W.tells wire.old →
         IsServing hall.now.slots low pass.old.view reader.old done piece.now old (W.traffic wire.old) →
-        Goes hall.now.slots low pass.new.view result reader.new old (W.traffic wire.new) }
+        Goes hall.now.slots low pass.new.view result reader.new old (W.traffic wire.new)
+        (W.faults wire.old) (W.faults wire.new) }
     ensures few { IfOk result (λ more. more.requests ≤ 1000000) }
     ensures room { IfOk result (λ more. more.sent ≤ 2 ^ 21 * more.requests) }
     ensures own { pass.new.hall ≡ pass.old.hall }

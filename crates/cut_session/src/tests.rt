@@ -6,10 +6,12 @@ use std::alloc::Global;
 use std::test::Fail;
 
 mod asking;
+mod drawn;
+mod halls;
 mod serving;
 mod vectors;
 
-use vectors::streams;
+use vectors::{Stream, sessions};
 
 /// What a stream says: the letter and the length of each message, and the fault at the end or
 /// `whole`.
@@ -116,23 +118,36 @@ fn plainly(alloc: Global, side: Side, bytes: &[u8]) -> Result<Said, Fail> {
     Ok(Said { messages, end })
 }
 
+/// Reads a stream in pieces of several lengths: whether each reading is the one that was worked out.
+fn is_read(alloc: Global, stream: Stream) -> Result<bool, Fail> {
+    let bytes = from_hex(alloc, stream.bytes)?;
+    let cuts: [&[usize]; 5] = [
+        &[1],
+        &[100_000],
+        &[4096],
+        &[7, 1, 30, 2],
+        &[5, 13, 1, 1, 64, 3],
+    ];
+    let mut is_right = true;
+    for cut in cuts {
+        let said = in_pieces(alloc, stream.side, bytes.as_slice(), cut)?;
+        is_right = is_right
+            && said.messages.as_str() == stream.messages
+            && said.end.as_str() == stream.end;
+    }
+    Ok(is_right)
+}
+
 #[test]
 fn streams_are_read_however_they_are_cut(rt: HostRuntime) -> Result<(), Fail> {
     let alloc = rt.alloc();
-    for stream in streams() {
-        let bytes = from_hex(alloc, stream.bytes)?;
-        let cuts: [&[usize]; 5] = [
-            &[1],
-            &[100_000],
-            &[4096],
-            &[7, 1, 30, 2],
-            &[5, 13, 1, 1, 64, 3],
-        ];
-        for cut in cuts {
-            let said = in_pieces(alloc, stream.side, bytes.as_slice(), cut)?;
-            assert_eq!(rt; said.messages.as_str(), stream.messages);
-            assert_eq!(rt; said.end.as_str(), stream.end);
-        }
+    for session in sessions() {
+        assert!(rt; is_read(alloc, session.sent)?, "{}", session.sent.bytes);
+        assert!(rt;
+            is_read(alloc, session.replies)?,
+            "{}",
+            session.replies.bytes
+        );
     }
     Ok(())
 }

@@ -1,6 +1,7 @@
 //! A client over answers that were worked out by hand, and with each call of its wires failing.
 
-use crate::tests::{from_hex, streams};
+use crate::tests::from_hex;
+use crate::tests::vectors::{Stream, sessions};
 use crate::{AskFault, StreamFault, ask};
 use cut_table::{FaultyWire, MemoryWire, Wire};
 use std::alloc::Global;
@@ -143,18 +144,26 @@ fn a_failed_write_is_told(rt: HostRuntime) -> Result<(), Fail> {
     Ok(())
 }
 
+/// Why a client stops whose answer is this stream, and how many bytes of lines it has then.
+fn asked(alloc: Global, stream: Stream) -> Result<String, Fail> {
+    let mut wire = MemoryWire::new(alloc, from_hex(alloc, stream.bytes)?, 50);
+    let mut output = MemoryWire::new(alloc, Vec::new(alloc), 50);
+    let why = match ask(alloc, PLAN, &mut wire, &mut output) {
+        Ok(()) => String::from_str(alloc, "done")?,
+        Err(fault) => format!(in alloc; "{}", fault.number())?,
+    };
+    Ok(format!(in alloc; "{} {}", why.as_str(), output.taken().len())?)
+}
+
 #[test]
 fn answers_end_where_the_first_last_reply_stands(rt: HostRuntime) -> Result<(), Fail> {
     let alloc = rt.alloc();
-    for stream in streams() {
-        let mut wire = MemoryWire::new(alloc, from_hex(alloc, stream.bytes)?, 50);
-        let mut output = MemoryWire::new(alloc, Vec::new(alloc), 50);
-        let why = match ask(alloc, PLAN, &mut wire, &mut output) {
-            Ok(()) => String::from_str(alloc, "done")?,
-            Err(fault) => format!(in alloc; "{}", fault.number())?,
-        };
-        let asked = format!(in alloc; "{} {}", why.as_str(), output.taken().len())?;
-        assert_eq!(rt; asked.as_str(), stream.asked);
+    for session in sessions() {
+        assert_eq!(rt; asked(alloc, session.sent)?.as_str(), session.sent.asked);
+        assert_eq!(rt;
+            asked(alloc, session.replies)?.as_str(),
+            session.replies.asked
+        );
     }
     Ok(())
 }

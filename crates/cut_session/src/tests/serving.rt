@@ -1,20 +1,16 @@
-//! Sessions over wires in memory, each in a hall of one slot whose study is done.
-ghost use Rattle.std.specs.Prelude.{◌≡◌};
+//! Sessions over wires in memory, in halls whose studies are done.
 
 use crate::tests::asking::{COUNT, FIRST, PLAN, SECOND, joined};
-use crate::{SessionEnd, SessionFault, StreamFault, session};
+use crate::tests::from_hex;
+use crate::tests::halls::{EMPTY, House, serve};
+use crate::tests::vectors::sessions;
+use crate::{SessionEnd, SessionFault};
 use cut_disks::MemoryDisk;
-use cut_plan::Plan;
-use cut_pool::{Gate, Hall, NoShelf, Pass, Tally};
-use cut_table::FaultyWire;
-use cut_trial::Piece;
-use std::alloc::Global;
-use std::marker::Brand;
+use cut_pool::NoShelf;
+use cut_table::{FaultyWire, MemoryWire, Wire};
+use std::alloc::{AllocError, Global};
 use std::sync::Wait;
-use std::sync::ledger::Blank;
 use std::test::Fail;
-
-type Small<M, K> = Hall<MemoryDisk, M, K>;
 
 /// Another study: one trial with a liar in place of the failed process.
 const OTHER: &[u8] =
@@ -27,60 +23,16 @@ const ASK: &[u8] = b"S\0\0\0\x04\0\0\0\0";
 
 const QUIT: &[u8] = b"Q\0\0\0\0";
 
-/// A gate that ends the work while the piece of the second trial is worked on.
-#[derive(Clone, Copy)]
-struct LastGate<'h, M: Tally, K: Tally> {
-    hall: &'h Small<M, K>,
-}
-
-impl<M: Tally, K: Tally> Gate for LastGate<'_, M, K> {
-    fn pass<R: Wait>(&self, rt: &R, piece: Piece) {
-        if piece.first == 1 {
-            self.hall.stop(rt);
-        }
-    }
-}
-
-/// Submits the plan to a hall, and does the work on both its trials.
-fn work_through<M: Tally, K: Tally, R: Wait>(
-    rt: &R,
-    alloc: Global,
-    hall: &Small<M, K>,
-    pass: &mut Pass<M>,
-) -> Result<(), Fail>
-    requires { pass.old.hall ≡ hall.now.id }
-{
-    let plan = Plan::from_json(alloc, PLAN)?;
-    hall.submit(rt, alloc, pass, plan, &NoShelf)?;
-    hall.work(rt, alloc, pass, &LastGate { hall });
-    Ok(())
-}
-
-/// A session over this wire.
-fn served<M: Tally, K: Tally, R: Wait>(
-    rt: &R,
-    alloc: Global,
-    wire: &mut FaultyWire,
-    made: Blank,
-    kept: Blank,
-) -> Result<SessionEnd, Fail>
-    requires made { (made.name ≡ M.name) × (made.parts ≡ M.parts) × (M.all ≡ M.parts) × (M.all ≡ 2) }
-    requires kept { (kept.name ≡ K.name) × (kept.parts ≡ K.parts) × (K.all ≡ K.parts) × (K.all ≡ 1) }
-{
-    let (hall, mut passes): (Small<M, K>, Vec<Pass<M>>) = Hall::start(alloc, 1, 2, 1, made, kept)?;
-    let Some(mut first) = passes.pop() else {
-        unreachable!()
-    };
-    let Some(mut second) = passes.pop() else {
-        unreachable!()
-    };
-    work_through(rt, alloc, &hall, &mut first)?;
-    Ok(session(rt, alloc, &hall, &mut second, &NoShelf, wire))
-}
+/// A hall whose only slot has the study of the exchange, which is done.
+const HOUSE: House = House {
+    slots: 1,
+    size: 2,
+    pieces: 1,
+};
 
 /// How a session ends to which these bytes come one by one, and what its wire takes, which has room for so
 /// many bytes and of whose reads that of this number fails.
-fn serve<R: Wait>(
+fn exchanged<R: Wait>(
     rt: &R,
     alloc: Global,
     input: Vec<u8>,
@@ -88,7 +40,15 @@ fn serve<R: Wait>(
     fail_read: u64,
 ) -> Result<(SessionEnd, Vec<u8>), Fail> {
     let mut wire = FaultyWire::new(alloc, input, 1, room, fail_read);
-    let end = served::<Brand, Brand, _>(rt, alloc, &mut wire, Blank::new(2), Blank::new(1))?;
+    let before = joined(alloc, &[SUBMIT, PLAN])?;
+    let end = serve::<MemoryDisk, _, _, _>(
+        rt,
+        alloc,
+        HOUSE,
+        before.as_slice(),
+        &NoShelf,
+        &mut wire,
+    )?;
     Ok((end, Vec::from_slice(alloc, wire.taken())?))
 }
 
@@ -105,12 +65,41 @@ fn is_front(taken: &[u8], replies: &[u8], before: usize, frame: &[u8]) -> bool {
     front.len() == before && replies.starts_with(front) && behind == frame
 }
 
+fn told(alloc: Global, end: SessionEnd) -> Result<String, AllocError> {
+    match end {
+        SessionEnd::Quit => String::from_str(alloc, "Quit"),
+        SessionEnd::EndOfInput => String::from_str(alloc, "EndOfInput"),
+        SessionEnd::Fault(fault) => format!(in alloc; "Fault {}", fault.code().number()),
+        SessionEnd::Write(sent) => format!(in alloc; "Write {sent}"),
+    }
+}
+
 #[test]
-fn a_plan_and_a_count_are_answered(rt: HostRuntime) -> Result<(), Fail> {
+fn sessions_go_as_they_were_worked_out(rt: HostRuntime) -> Result<(), Fail> {
     let alloc = rt.alloc();
-    let (sent, replies) = exchange(alloc)?;
-    let (end, taken) = serve(&rt, alloc, sent, 1000, 0)?;
-    assert!(rt; end == SessionEnd::Quit && taken == replies);
+    for session in sessions() {
+        let replies = from_hex(alloc, session.replies.bytes)?;
+        for per in [1, 3, 10, 100, 5000] {
+            let sent = from_hex(alloc, session.sent.bytes)?;
+            let house = House {
+                slots: 2,
+                size: 1_000_000,
+                pieces: session.cells,
+            };
+            let before = Vec::from_slice(alloc, sent.as_slice())?;
+            let mut wire = MemoryWire::new(alloc, sent, per);
+            let end = serve::<MemoryDisk, _, _, _>(
+                &rt,
+                alloc,
+                house,
+                before.as_slice(),
+                &NoShelf,
+                &mut wire,
+            )?;
+            assert_eq!(rt; told(alloc, end)?.as_str(), session.end);
+            assert!(rt; wire.taken() == replies.as_slice());
+        }
+    }
     Ok(())
 }
 
@@ -120,50 +109,8 @@ fn the_slots_are_full_for_another_plan(rt: HostRuntime) -> Result<(), Fail> {
     let sent = joined(alloc, &[SUBMIT, PLAN, SUBMIT, OTHER, SUBMIT, PLAN])?;
     let full: &[u8] = b"E\0\0\0\x02\0\x1d";
     let replies = joined(alloc, &[FIRST, SECOND, full, FIRST, SECOND])?;
-    let (end, taken) = serve(&rt, alloc, sent, 1000, 0)?;
+    let (end, taken) = exchanged(&rt, alloc, sent, 1000, 0)?;
     assert!(rt; end == SessionEnd::EndOfInput && taken == replies);
-    Ok(())
-}
-
-#[test]
-fn faults_of_the_input_are_told(rt: HostRuntime) -> Result<(), Fail> {
-    let alloc = rt.alloc();
-    let stream = |fault| SessionEnd::Fault(SessionFault::Stream(fault));
-    let rows: [(&[u8], &[u8], SessionEnd); 9] = [
-        (b"X", b"E\0\0\0\x02\0\x28", stream(StreamFault::BadKind)),
-        (
-            b"R\0\x01\0\x01",
-            b"E\0\0\0\x02\0\x29",
-            stream(StreamFault::TooLong),
-        ),
-        (
-            b"S\0\0\0\x03",
-            b"E\0\0\0\x02\0\x2d",
-            stream(StreamFault::BadLength),
-        ),
-        (
-            b"R\0",
-            b"E\0\0\0\x02\0\x2a",
-            SessionEnd::Fault(SessionFault::Truncated),
-        ),
-        (
-            b"S\0\0\0\x04\0\0\0\x40",
-            b"E\0\0\0\x02\0\x1a",
-            SessionEnd::EndOfInput,
-        ),
-        (
-            b"R\0\0\0\x02[]",
-            b"E\0\0\0\x02\0\x02",
-            SessionEnd::EndOfInput,
-        ),
-        (b"", b"", SessionEnd::EndOfInput),
-        (b"Q\0\0\0\0X", b"", SessionEnd::Quit),
-        (b"Q\0\0\0\0S\0\0\0\x04\0\0\0\x40", b"", SessionEnd::Quit),
-    ];
-    for (sent, replies, end) in rows {
-        let (found, taken) = serve(&rt, alloc, Vec::from_slice(alloc, sent)?, 1000, 0)?;
-        assert!(rt; found == end && taken.as_slice() == replies);
-    }
     Ok(())
 }
 
@@ -173,7 +120,7 @@ fn a_failed_write_tells_what_was_sent(rt: HostRuntime) -> Result<(), Fail> {
     let (sent, replies) = exchange(alloc)?;
     for room in 0..127 {
         let input = Vec::from_slice(alloc, sent.as_slice())?;
-        let (end, taken) = serve(&rt, alloc, input, room, 0)?;
+        let (end, taken) = exchanged(&rt, alloc, input, room, 0)?;
         let right = match room {
             126 => SessionEnd::Quit,
             _ => SessionEnd::Write(room as u64),
@@ -200,12 +147,26 @@ fn a_failed_read_is_told_behind_the_replies(rt: HostRuntime) -> Result<(), Fail>
             _ => 126,
         };
         let input = Vec::from_slice(alloc, sent.as_slice())?;
-        let (end, taken) = serve(&rt, alloc, input, 1000, read)?;
+        let (end, taken) = exchanged(&rt, alloc, input, 1000, read)?;
         let is_told = is_front(taken.as_slice(), replies.as_slice(), before, UNREAD);
         assert!(rt;
             end == SessionEnd::Fault(SessionFault::Read) && is_told,
             "read {read}"
         );
+    }
+    Ok(())
+}
+
+#[test]
+fn a_failed_write_of_the_last_frame_is_told(rt: HostRuntime) -> Result<(), Fail> {
+    let alloc = rt.alloc();
+    let (sent, _) = exchange(alloc)?;
+    for room in 0..7 {
+        let input = Vec::from_slice(alloc, sent.as_slice())?;
+        let mut wire = FaultyWire::new(alloc, input, 1, room, 9);
+        let end = serve::<MemoryDisk, _, _, _>(&rt, alloc, EMPTY, &[], &NoShelf, &mut wire)?;
+        assert!(rt; end == SessionEnd::Write(room as u64) && wire.taken() == &UNREAD[..room]);
+        assert_eq!(rt; wire.failures(), 2);
     }
     Ok(())
 }
@@ -232,7 +193,7 @@ fn an_input_may_end_between_messages_only(rt: HostRuntime) -> Result<(), Fail> {
     for cut in 0..241 {
         let (before, right) = after_cut(cut);
         let input = Vec::from_slice(alloc, sent.as_slice().get(..cut).unwrap_or_default())?;
-        let (end, taken) = serve(&rt, alloc, input, 1000, 0)?;
+        let (end, taken) = exchanged(&rt, alloc, input, 1000, 0)?;
         let told = match right {
             SessionEnd::Fault(_) => CUT,
             _ => b"",

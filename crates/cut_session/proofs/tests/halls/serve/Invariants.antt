@@ -1,4 +1,4 @@
-use Rattle.cut_session.proofs.tests.serving.serve.Given as goal
+use Rattle.cut_session.proofs.tests.halls.serve.Given as goal
 
 abbrev pub ghosts-served-M-Ledger : goal.ghosts-served-M-Ledger
 ghosts-served-M-Ledger g a = record { name = a.made.name; parts = a.made.parts }
