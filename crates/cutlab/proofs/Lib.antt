@@ -3,3 +3,5 @@ pub mod InputLemmas
 pub mod StreamLemmas
 pub mod StudyLemmas
 pub mod LineLemmas
+pub mod AskLemmas
+pub mod AttendLemmas

@@ -1,5 +1,5 @@
--- The number of an option, as a command line gives it.
-use Rattle.std.proofs.Common.{◌≡◌, ◌≤◌, ◌<◌, ◌^◌, ℕ, List, Option, Some, None, Result, refl, sym, ◌∙◌, arith}
+-- What a command line gives.
+use Rattle.std.proofs.Common.{◌≡◌, ◌≤◌, ◌<◌, ◌^◌, ℕ, List, Option, Some, None, Result, refl, sym, ap, ◌∙◌, slice_index, arith}
 use Rattle.std.specs.Str.Parse.{ParsesUnsigned, ExplainsUnsignedError, HasUnsignedDigitsIfOk}
 use Rattle.std.specs.declared.num.ParseIntError.{ParseIntError}
 use Rattle.clap.specs.Words.{Row, Text, one_of}
@@ -32,3 +32,7 @@ is_given option most rows m some reads low high = by (one_of option rows) refl
     by (Some t) found =
         let read = reads t found in
         record { text = t; given = found; numeral = read.0.0.0; value = sym read.0.1; some = low; few = high }
+
+-- two words that begin with different letters are not the same
+pub other_word : (word other : Text) (a b : ℕ) → word ≡ other → slice_index word 0 ≡ a → slice_index other 0 ≡ b → (a ≡ b → ⊥) → ⊥
+other_word word other a b same first second differ = differ (sym first ∙ ap (λ (t : Text). slice_index t 0) same ∙ second)

@@ -15,7 +15,7 @@ use Rattle.cutlab.specs.Faults.{fault_line}
 use Rattle.cutlab.specs.Run.{Answers, Ends, FailsWith, GivesPlan, IsFront, IsReadThrough, Leaves, refused_at_sight}
 use Rattle.cutlab.specs.Task.{Task}
 use Rattle.cutlab.specs.declared.fault.CliFault.{CliFault}
-use Rattle.cutlab.specs.declared.fault.CliFault.TheVariants.{Memory, Plan, Read, Write, Journal, BadSlip, Checkpoint, WorkMemory, AuditMismatch}
+use Rattle.cutlab.specs.declared.fault.CliFault.TheVariants.{Memory, Plan, Read, Socket, Asked, Write, Journal, Folder, BadSlip, Checkpoint, WorkMemory, AuditMismatch}
 
 -- ---- reading
 
@@ -105,6 +105,9 @@ ends_left task v (Err AuditMismatch) old mid new r left =
     (λ text read through. (through, record { plan = v; read = read; fails = left.0 }, front_of task v text f.whole f.count read f.answer)))
 ends_left task v (Err (Plan refusal)) old mid new r left = absurd left
 ends_left task v (Err Read) old mid new r left = absurd left
+ends_left task v (Err Socket) old mid new r left = absurd left
+ends_left task v (Err (Asked fault)) old mid new r left = absurd left
+ends_left task v (Err Folder) old mid new r left = absurd left
 
 -- ---- one task as another
 
@@ -132,6 +135,9 @@ unfolding front_as
 answers_as a b text (Ok done) written old new weak is = (is.0, (is.1.0, is.1.1, weak.answers text is.1.0 written is.1.1 is.1.2))
 answers_as a b text (Err (Write sent)) written old new weak is = (is.0, (front_as a b text written weak is.1.0, is.1.1, is.1.2))
 answers_as a b text (Err Read) written old new weak is = is
+answers_as a b text (Err Socket) written old new weak is = is
+answers_as a b text (Err (Asked fault)) written old new weak is = is
+answers_as a b text (Err Folder) written old new weak is = is
 answers_as a b text (Err (Plan refusal)) written old new weak is = is
 answers_as a b text (Err Memory) written old new weak is = is
 answers_as a b text (Err (Journal fault)) written old new weak is = (is.0, fails_as a b text (Journal fault) weak is.1, is.2)

@@ -14,7 +14,7 @@ use Rattle.cut_pool.specs.Running.{HasEnded, Takes, WroteFront}
 use Rattle.cut_pool.specs.declared.run_fault.RunFault.{RunFault}
 use Rattle.cut_pool.specs.declared.run_fault.RunFault.TheVariants as study
 use Rattle.cutlab.specs.declared.fault.CliFault.{CliFault}
-use Rattle.cutlab.specs.declared.fault.CliFault.TheVariants.{Memory, Plan, Read, Write, Journal, BadSlip, Checkpoint, WorkMemory, AuditMismatch}
+use Rattle.cutlab.specs.declared.fault.CliFault.TheVariants.{Memory, Plan, Read, Socket, Asked, Write, Journal, Folder, BadSlip, Checkpoint, WorkMemory, AuditMismatch}
 use Rattle.cutlab.specs.Faults.{fault_of_study}
 use Rattle.cutlab.specs.Run.{Leaves, LeavesFront}
 use Rattle.cutlab.specs.Study.{BeginsWith, IsTrueStore, StudyTells, StudyFails, StoreFails, study_task, table_task, file_task}
@@ -90,6 +90,9 @@ module _ {D : Type 0} (is_honest : D → Type 0) (state : D → DiskState) where
   fails_true None v Memory good none plan store is = is
   fails_true None v (Plan refusal) good none plan store is = is
   fails_true None v Read good none plan store is = is
+  fails_true None v Socket good none plan store is = is
+  fails_true None v (Asked told) good none plan store is = is
+  fails_true None v Folder good none plan store is = is
   fails_true None v (Write sent) good none plan store is = is
   fails_true None v (Journal fault) good none plan store is = is
   fails_true None v (BadSlip number) good none plan store is = is
@@ -99,6 +102,9 @@ module _ {D : Type 0} (is_honest : D → Type 0) (state : D → DiskState) where
   fails_true (Some d) v Memory good none plan store is = is
   fails_true (Some d) v (Plan refusal) good none plan store is = is
   fails_true (Some d) v Read good none plan store is = is
+  fails_true (Some d) v Socket good none plan store is = is
+  fails_true (Some d) v (Asked told) good none plan store is = is
+  fails_true (Some d) v Folder good none plan store is = is
   fails_true (Some d) v (Write sent) good none plan store is = is
   fails_true (Some d) v (Journal fault) good none plan store is = (is.0, is.1 store.0)
   fails_true (Some d) v (BadSlip number) good none plan store is =
@@ -130,6 +136,9 @@ module _ {D : Type 0} (is_honest : D → Type 0) (state : D → DiskState) where
       fails v Memory is = is
       fails v (Plan refusal) is = is
       fails v Read is = is
+      fails v Socket is = is
+      fails v (Asked told) is = is
+      fails v Folder is = is
       fails v (Write sent) is = is
       fails v (Journal fault) is = is.0
       fails v (BadSlip number) is = (is.0, is.2)

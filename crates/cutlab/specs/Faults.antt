@@ -8,35 +8,44 @@ use Rattle.cut_table.specs.Traffic.{Failed, read_failed, write_failed}
 use Rattle.cut_plan.specs.declared.refusal.PlanFault.{PlanFault}
 use Rattle.cut_plan.specs.declared.refusal.PlanFault.TheVariants as plan
 use Rattle.cut_plan.specs.declared.field.Field.{Field}
-use Rattle.cut_plan.specs.Fields.{name_of}
-use Rattle.cut_plan.specs.Refusals.{code_of_refusal, refusal_text}
+use Rattle.cut_plan.specs.Fields.{name_of as field_name}
+use Rattle.cut_plan.specs.Refusals.{code_of_refusal, field_of_refusal}
 use Rattle.cut_journal.specs.declared.fault.JournalFault.{JournalFault}
 use Rattle.cut_journal.specs.declared.fault.JournalFault.TheVariants as journal
 use Rattle.cut_journal.specs.FaultCode as journal_codes
 use Rattle.cutlab.specs.declared.fault.CliFault.{CliFault}
 use Rattle.cut_pool.specs.declared.run_fault.RunFault.{RunFault}
 use Rattle.cut_pool.specs.declared.run_fault.RunFault.TheVariants as study
-use Rattle.cutlab.specs.declared.fault.CliFault.TheVariants.{Memory, Plan, Read, Write, Journal, BadSlip, Checkpoint, WorkMemory, AuditMismatch}
+use Rattle.cutlab.specs.declared.fault.CliFault.TheVariants.{Memory, Plan, Read, Socket, Asked, Write, Journal, Folder, BadSlip, Checkpoint, WorkMemory, AuditMismatch}
+use Rattle.cut_session.specs.Asking.{output_failed}
+use Rattle.cut_session.specs.FaultCode.{number_of_ask}
 
--- a fault in the program's list of faults
-abbrev pub code_of : CliFault → FaultCode
-code_of Memory = code.Memory
-code_of (Plan refusal) = code_of_refusal refusal
-code_of Read = code.Read
-code_of (Write sent) = code.Write
-code_of (Journal fault) = journal_codes.code_of fault
-code_of (BadSlip number) = code.BadSlip
-code_of Checkpoint = code.Checkpoint
-code_of WorkMemory = code.WorkMemory
-code_of AuditMismatch = code.AuditMismatch
-
--- its number there
+-- a fault's number in the program's list of faults, or what a server told
 abbrev pub number_of : CliFault → ℕ
-number_of fault = codes_of.number_of (code_of fault)
+number_of Memory = codes_of.number_of code.Memory
+number_of (Plan refusal) = codes_of.number_of (code_of_refusal refusal)
+number_of Read = codes_of.number_of code.Read
+number_of Socket = codes_of.number_of code.Read
+number_of (Asked fault) = number_of_ask fault
+number_of (Write sent) = codes_of.number_of code.Write
+number_of (Journal fault) = codes_of.number_of (journal_codes.code_of fault)
+number_of Folder = codes_of.number_of code.Disk
+number_of (BadSlip number) = codes_of.number_of code.BadSlip
+number_of Checkpoint = codes_of.number_of code.Checkpoint
+number_of WorkMemory = codes_of.number_of code.WorkMemory
+number_of AuditMismatch = codes_of.number_of code.AuditMismatch
+
+-- the fault in that list, where it is there
+abbrev pub code_of : CliFault → Option FaultCode
+code_of fault = codes_of.code_numbered (number_of fault)
+
+-- its name, `Unknown` where it is not
+abbrev pub name_of : CliFault → List ℕ
+name_of fault = codes_of.name_numbered (number_of fault)
 
 -- the status with which the program ends
 abbrev pub status_of : CliFault → ℕ
-status_of fault = codes_of.status_of (code_of fault)
+status_of fault = codes_of.status_numbered (number_of fault)
 
 -- the status with which a command ends
 abbrev pub status_of_end : Result ⊤ CliFault → ℕ
@@ -46,15 +55,19 @@ status_of_end (Err fault) = status_of fault
 -- a blank and a field's name, where there is a field
 abbrev pub field_words : Option Field → List ℕ
 field_words None = []
-field_words (Some field) = 32 ∷ name_of field
+field_words (Some field) = 32 ∷ field_name field
+
+-- what a fault carries, behind a blank
+abbrev pub carried_by : CliFault → List ℕ
+carried_by (Plan refusal) = field_words (field_of_refusal refusal)
+carried_by (Write sent) = 32 ∷ decimal sent
+carried_by (Journal (journal.Damaged number)) = 32 ∷ decimal number
+carried_by (BadSlip number) = 32 ∷ decimal number
+carried_by fault = []
 
 -- what a fault says of itself: number, name, and what it carries
 abbrev pub words_of : CliFault → List ℕ
-words_of (Plan refusal) = refusal_text refusal
-words_of (Write sent) = codes_of.text_carrying code.Write (decimal sent)
-words_of (Journal fault) = journal_codes.fault_text fault
-words_of (BadSlip number) = codes_of.text_carrying code.BadSlip (decimal number)
-words_of fault = codes_of.code_text (code_of fault)
+words_of fault = codes_of.text_with (number_of fault) (name_of fault) ++ carried_by fault
 
 -- the fault as it is printed
 abbrev pub fault_text : CliFault → List ℕ
@@ -88,4 +101,5 @@ fault_of_study study.AuditMismatch = AuditMismatch
 abbrev pub failed_calls : {T : Type 0} → Result T CliFault → Failed → Failed
 failed_calls (Err Read) f = read_failed f
 failed_calls (Err (Write sent)) f = write_failed f
+failed_calls (Err (Asked fault)) f = output_failed {T = ⊤} (Err fault) f
 failed_calls result f = f

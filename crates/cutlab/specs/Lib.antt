@@ -5,4 +5,8 @@ pub mod Streams
 pub mod Task
 pub mod Study
 pub mod Run
+pub mod Ask
+pub mod Serve
+pub mod Shelf
+pub mod Jobs
 pub mod Program

@@ -5,8 +5,9 @@ use Rattle.clap.specs.Words.{App, IsAmong, first_of, Row, Rule, Text, fault_of, 
 use Rattle.clap.specs.declared.builder.value_parser.ValueParser.TheVariants as parsers
 use Rattle.clap.specs.declared.error.kind.ErrorKind.{ErrorKind}
 use Rattle.clap.specs.declared.error.kind.ErrorKind.TheVariants.{DisplayHelp, DisplayVersion, MissingSubcommand, OutOfMemory}
+use Rattle.cutlab.specs.Serve.{IsStaffed}
 use Rattle.cutlab.specs.declared.line.Job.{Job}
-use Rattle.cutlab.specs.declared.line.Job.TheVariants.{Run, Check}
+use Rattle.cutlab.specs.declared.line.Job.TheVariants.{Run, Check, Serve, Ask}
 
 -- the option `--piece`: a number from 1 to 1,000,000, which is 16 where it is not given
 abbrev pub piece_rule : Rule
@@ -33,13 +34,43 @@ checkpoint_rule = record (new_rule (codes "checkpoint")) {
   value_names = 1;
 }
 
--- the program as clap sees it: it needs one of two subcommands, and without a word it shows its help
+-- the word `SOCKET`: the path of a server's socket
+abbrev pub socket_rule : Rule
+socket_rule = record (new_rule (codes "socket")) { value_names = 1; required = true }
+
+-- an option of a server: how many of something it has, a number from 1 to 64, which has to be given
+abbrev pub crew_rule : Text → Rule
+crew_rule name = record (new_rule name) {
+  long = Some name;
+  value_names = 1;
+  parser = Some (parsers.Signed (pos 1) (pos 64));
+  required = true;
+}
+
+-- the option `--dir`: the folder that its studies are kept in, if it is given
+abbrev pub folder_rule : Rule
+folder_rule = record (new_rule (codes "dir")) { long = Some (codes "dir"); value_names = 1 }
+
+-- the subcommands
+abbrev pub run_app : App
+run_app = with_rule (with_rule (with_rule (new_app (codes "run")) piece_rule) workers_rule) checkpoint_rule
+
+abbrev pub check_app : App
+check_app = new_app (codes "check")
+
+abbrev pub serve_app : App
+serve_app =
+    with_rule (with_rule (with_rule (with_rule (with_rule (new_app (codes "serve")) socket_rule) (crew_rule (codes "workers")))
+    (crew_rule (codes "sessions"))) (crew_rule (codes "studies"))) folder_rule
+
+abbrev pub ask_app : App
+ask_app = with_rule (new_app (codes "ask")) socket_rule
+
+-- the program as clap sees it: it needs one of its subcommands, and without a word it shows its help
 unfoldable pub program_app : App
 program_app = let bare : App = new_app (codes "cutlab") in
-    with_subcommand
-    (with_subcommand (record bare { top = record bare.top { subcommand_required = true; arg_required_else_help = true } })
-    (with_rule (with_rule (with_rule (new_app (codes "run")) piece_rule) workers_rule) checkpoint_rule).top)
-    (new_app (codes "check")).top
+    let asking : App = record bare { top = record bare.top { subcommand_required = true; arg_required_else_help = true } } in
+    with_subcommand (with_subcommand (with_subcommand (with_subcommand asking run_app.top) check_app.top) serve_app.top) ask_app.top
 
 -- the number, from 1 to a greatest one, that a subcommand's matches give for an option
 pub record GivesNumber (option : Text) (most : ℕ) (rows : List Row) (n : ℕ) : Type 0 where
@@ -61,17 +92,37 @@ GivesWorkers rows n = GivesNumber (codes "workers") 64 rows n
 abbrev pub GivesCheckpoint : List Row → Option Text → Type 0
 GivesCheckpoint rows file = first_of (codes "checkpoint") rows ≡ file
 
--- a run, by the matches of `run`
-abbrev pub GivesRun : List Row → Job → Type 0
-GivesRun rows (Run piece workers file) =
+-- the socket that they give
+abbrev pub GivesSocket : List Row → Text → Type 0
+GivesSocket rows path = first_of (codes "socket") rows ≡ Some path
+
+-- the subcommand of a job
+abbrev pub command_of : Job → Text
+command_of (Run piece workers file) = codes "run"
+command_of Check = codes "check"
+command_of (Serve socket crew folder) = codes "serve"
+command_of (Ask socket) = codes "ask"
+
+-- the values of a job, by the matches of its subcommand
+abbrev pub Gives : List Row → Job → Type 0
+Gives rows (Run piece workers file) =
     GivesPiece rows piece × GivesWorkers rows workers × GivesCheckpoint rows (option_map (λ s. s.now) file)
-GivesRun rows Check = ⊥
+Gives rows Check = ⊤
+Gives rows (Serve socket crew folder) =
+    GivesSocket rows socket.now × GivesNumber (codes "workers") 64 rows crew.workers
+    × GivesNumber (codes "sessions") 64 rows crew.sessions × GivesNumber (codes "studies") 64 rows crew.studies
+    × (first_of (codes "dir") rows ≡ option_map (λ s. s.now) folder)
+Gives rows (Ask socket) = GivesSocket rows socket.now
 
 -- the job of a subcommand, by its name and its matches
 abbrev pub IsJobOf : Option (Text × List Row) → Job → Type 0
 IsJobOf None job = ⊥
-IsJobOf (Some sub) (Run piece workers file) = (sub.0 ≡ codes "run") × GivesRun sub.1 (Run piece workers file)
-IsJobOf (Some sub) Check = sub.0 ≡ codes "check"
+IsJobOf (Some sub) job = (sub.0 ≡ command_of job) × Gives sub.1 job
+
+-- the matches of a subcommand give a job of it, or none
+abbrev pub GivesJob : Text → List Row → Option Job → Type 0
+GivesJob name rows (Some job) = (command_of job ≡ name) × Gives rows job
+GivesJob name rows None = (job : Job) → command_of job ≡ name → Gives rows job → ⊥
 
 -- the job that a command line names
 abbrev pub NamesJob : List Text → Job → Type 0
@@ -103,3 +154,5 @@ EndsLine words status = (kind : ErrorKind) × IsAsked words kind × (status ≡ 
 abbrev pub IsSized : Job → Type 0
 IsSized (Run piece workers file) = (1 ≤ piece) × (piece ≤ 1000000) × (1 ≤ workers) × (workers ≤ 64)
 IsSized Check = ⊤
+IsSized (Serve socket crew folder) = IsStaffed crew
+IsSized (Ask socket) = ⊤

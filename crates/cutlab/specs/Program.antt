@@ -7,7 +7,7 @@ use Rattle.clap.specs.declared.error.kind.ErrorKind.{ErrorKind}
 use Rattle.cut_table.specs.Traffic.{Traffic, Failed, wrote, write_failed}
 use Rattle.cutlab.specs.Line.{program_app, NamesJob, status_of_kind, IsAsked}
 use Rattle.cutlab.specs.Faults.{fault_line, status_of, failed_calls}
-use Rattle.cutlab.specs.Run.{EndsJob}
+use Rattle.cutlab.specs.Jobs.{EndsJob}
 use Rattle.cutlab.specs.declared.line.Job.{Job}
 use Rattle.cutlab.specs.declared.fault.CliFault.{CliFault}
 use Rattle.cutlab.specs.declared.fault.CliFault.TheVariants.{Memory, Write}

@@ -9,10 +9,8 @@ use Rattle.cut_plan.specs.Accepted.{plan_of}
 use Rattle.cut_table.specs.Traffic.{Traffic, wrote}
 use Rattle.cut_journal.specs.declared.fault.JournalFault.TheVariants.{Disk}
 use Rattle.cutlab.specs.Check.{check_text}
-use Rattle.cutlab.specs.Study.{file_task, plain_task}
+use Rattle.cutlab.specs.Study.{file_task}
 use Rattle.cutlab.specs.Task.{Task}
-use Rattle.cutlab.specs.declared.line.Job.{Job}
-use Rattle.cutlab.specs.declared.line.Job.TheVariants.{Run, Check}
 use Rattle.cutlab.specs.declared.fault.CliFault.{CliFault}
 use Rattle.cutlab.specs.declared.fault.CliFault.TheVariants.{Memory, Plan, Read, Write, Journal, BadSlip, Checkpoint, WorkMemory, AuditMismatch}
 
@@ -84,6 +82,7 @@ Answers task text (Err Checkpoint) written old new =
     IsReadThrough 65537 text old new × FailsWith task text Checkpoint × IsFront task text written
 Answers task text (Err AuditMismatch) written old new =
     IsReadThrough 65537 text old new × FailsWith task text AuditMismatch × IsFront task text written
+Answers task text (Err fault) written old new = ⊥
 
 -- how a command ends: what it read and what it wrote, which is its answer to that
 pub record Ends (task : Task) (old new : Traffic) (result : Result ⊤ CliFault) : Type 0 where
@@ -100,12 +99,6 @@ check_task = record { answers = λ v whole. whole ≡ check_text v; fails = λ v
 -- how a study ends that is kept in a file: one whose file does not open reads and writes nothing
 abbrev pub EndsFile : Traffic → Traffic → Result ⊤ CliFault → Type 0
 EndsFile old new result = ((result ≡ Err (Journal Disk)) × (new ≡ old)) ⊎ Ends file_task old new result
-
--- how a job ends
-abbrev pub EndsJob : Job → Traffic → Traffic → Result ⊤ CliFault → Type 0
-EndsJob (Run piece workers None) old new result = Ends plain_task old new result
-EndsJob (Run piece workers (Some file)) old new result = EndsFile old new result
-EndsJob Check old new result = Ends check_task old new result
 
 -- ---- inside
 

@@ -1,12 +1,13 @@
 ghost use Rattle.std.specs.Prelude.{◌≡◌, ◌≤◌, ◌++◌, ◌∷◌, length};
 ghost use Rattle.std.specs.Fmt.{decimal};
-ghost use Rattle.cutlab.specs.Faults.{code_of, number_of, status_of, fault_text, field_words};
+ghost use Rattle.cutlab.specs.Faults.{code_of, name_of, number_of, status_of, fault_text, field_words};
 
 use arrayvec::ArrayString;
-use cut_faults::FaultCode;
+use cut_faults::{FaultCode, status_of_number};
 use cut_journal::JournalFault;
 use cut_plan::{Field, PlanFault, Refusal};
 use cut_pool::RunFault;
+use cut_session::AskFault;
 use cut_table::Sent;
 use itoa::Buffer;
 use std::alloc::AllocError;
@@ -26,10 +27,16 @@ pub enum CliFault {
     Plan(Refusal),
     /// A read of the plan failed.
     Read,
+    /// A socket was not connected to, not bound, or gave no connection.
+    Socket,
+    /// A server that was asked for a table gave none.
+    Asked(AskFault),
     /// A write of the answer failed, after this many of its bytes were taken.
     Write(u64),
     /// The checkpoint was not opened.
     Journal(JournalFault),
+    /// The folder of the checkpoints is no folder.
+    Folder,
     /// The slip of this number in the checkpoint, from 1, is none of the plan.
     BadSlip(u64),
     /// The checkpoint took no more.
@@ -41,36 +48,50 @@ pub enum CliFault {
 }
 
 impl CliFault {
-    /// The fault in the program's list of faults.
-    pub fn code(&self) -> FaultCode
-        ensures { result ≡ code_of self.now }
+    /// The fault's number in the program's list of faults, or one that a server told and the list lacks.
+    pub fn number(&self) -> u16
+        ensures { result ≡ number_of self.now }
     {
-        match self {
+        let code = match self {
+            CliFault::Asked(fault) => return fault.number(),
             CliFault::Memory => FaultCode::Memory,
             CliFault::Plan(refusal) => refusal.code(),
-            CliFault::Read => FaultCode::Read,
+            CliFault::Read | CliFault::Socket => FaultCode::Read,
             CliFault::Write(_) => FaultCode::Write,
             CliFault::Journal(fault) => fault.code(),
+            CliFault::Folder => FaultCode::Disk,
             CliFault::BadSlip(_) => FaultCode::BadSlip,
             CliFault::Checkpoint => FaultCode::Checkpoint,
             CliFault::WorkMemory => FaultCode::WorkMemory,
             CliFault::AuditMismatch => FaultCode::AuditMismatch,
+        };
+        code.number()
+    }
+
+    /// The fault in that list, if it is there.
+    pub fn code(&self) -> Option<FaultCode>
+        ensures { result ≡ code_of self.now }
+    {
+        FaultCode::of_number(self.number())
+    }
+
+    /// The fault's name, `Unknown` where the list lacks it.
+    pub fn name(&self) -> &'static str
+        ensures name { result.now ≡ name_of self.now }
+        ensures short { length result.now ≤ 16 }
+    {
+        match self.code() {
+            Some(code) => code.name(),
+            None => "Unknown",
         }
     }
 
-    /// The fault's number in that list.
-    pub fn number(&self) -> u16
-        ensures { result ≡ number_of self.now }
-    {
-        self.code().number()
-    }
-
-    /// The status with which the program ends: 3 where a plan is refused, 4 where a device failed, 5
-    /// where memory was wanting.
+    /// The status with which the program ends: 3 where a plan is refused, 5 where memory was wanting, and 4 at
+    /// any other fault.
     pub fn status(&self) -> u8
         ensures { result ≡ status_of self.now }
     {
-        self.code().status()
+        status_of_number(self.number())
     }
 
     /// The fault as it is printed: its number, its name and what it carries. This takes no memory.
@@ -78,13 +99,12 @@ impl CliFault {
         ensures text { result.bytes ≡ fault_text self.now }
         ensures short { length result.bytes ≤ 58 }
     {
-        let code = self.code();
         let mut digits = Buffer::new();
         let mut text = FaultText::new();
         text.push_str("cutlab: fault ");
-        text.push_str(digits.format(code.number()));
+        text.push_str(digits.format(self.number()));
         text.push_str(" ");
-        text.push_str(code.name());
+        text.push_str(self.name());
         match self {
             CliFault::Plan(refusal) => push_field(&mut text, refusal.field()),
             CliFault::Write(number)
@@ -92,7 +112,10 @@ impl CliFault {
             | CliFault::Journal(JournalFault::Damaged(number)) => push_number(&mut text, *number),
             CliFault::Memory
             | CliFault::Read
+            | CliFault::Socket
+            | CliFault::Asked(_)
             | CliFault::Journal(_)
+            | CliFault::Folder
             | CliFault::Checkpoint
             | CliFault::WorkMemory
             | CliFault::AuditMismatch => {}

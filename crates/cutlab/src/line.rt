@@ -1,9 +1,11 @@
-ghost use Rattle.std.specs.Prelude.{◌≡◌, ◌≤◌, ℕ, [], false, map, IfOk, IfErr, IfSome, IfNone};
-ghost use Rattle.clap.specs.Words.{app_of, fault_of, found_of, rows_of, rule_of, subcommand_rows_of};
-ghost use Rattle.cutlab.specs.Line.{checkpoint_rule, piece_rule, workers_rule, program_app, status_of_kind};
-ghost use Rattle.cutlab.specs.Line.{EndsLine, GivesNumber, GivesRun, IsJobOf, IsSized, NamesJob};
+ghost use Rattle.std.specs.Prelude.{◌≡◌, ◌≤◌, ℕ, [], codes, false, map, IfOk, IfErr, IfSome, IfNone};
+ghost use Rattle.clap.specs.Words.{app_of, fault_of, found_of, rows_of, rule_of, subcommand_rows_of, with_subcommand};
+ghost use Rattle.cutlab.specs.Line.{checkpoint_rule, piece_rule, socket_rule, workers_rule};
+ghost use Rattle.cutlab.specs.Line.{ask_app, check_app, crew_rule, folder_rule, program_app, run_app, serve_app, status_of_kind};
+ghost use Rattle.cutlab.specs.Line.{EndsLine, GivesJob, GivesNumber, IsJobOf, IsSized, NamesJob};
 ghost use Rattle.cutlab.specs.declared.line.Job.{Job};
 
+use crate::Crew;
 use clap::error::ErrorKind;
 use clap::{Arg, ArgMatches, Command, Error};
 use std::alloc::{AllocError, Global};
@@ -14,6 +16,22 @@ const PIECE_MOST: u32 = 1_000_000;
 
 /// How many workers a study has at most.
 const WORKERS_MOST: u32 = 64;
+
+/// What is behind the help of each command: an example, and where more is told.
+const GUIDE: &str = "A plan is read from standard input. docs/GUIDE.md tells more.";
+
+const RUN_EXAMPLE: &str =
+    "Example: cutlab run --workers 4 --checkpoint study.cut < plan.json\ndocs/GUIDE.md tells more.";
+
+const CHECK_EXAMPLE: &str = "Example: cutlab check < plan.json\ndocs/GUIDE.md tells more.";
+
+const SERVE_EXAMPLE: &str =
+    "Example: cutlab serve cutlab.sock --workers 4 --sessions 2 --studies 2 --dir studies\ndocs/GUIDE.md tells more.";
+
+const ASK_EXAMPLE: &str = "Example: cutlab ask cutlab.sock < plan.json\ndocs/GUIDE.md tells more.";
+
+/// How many workers, sessions and studies a server has at most, of each.
+const CREW_MOST: u32 = 64;
 
 /// A command of the program, with its values.
 #[derive(Clone, Copy, Debug, PartialEq, Eq)]
@@ -29,6 +47,20 @@ pub enum Job<'a> {
     },
     /// Read a plan and print how many cells and trials it has, and the quorum of its processes.
     Check,
+    /// Serve clients at a socket, and print how many trials were accepted.
+    Serve {
+        /// The path of the server's socket.
+        socket: &'a str,
+        /// How many workers, sessions and studies there are.
+        crew: Crew,
+        /// The folder that the studies are kept in, if there is one.
+        folder: Option<&'a str>,
+    },
+    /// Read a plan and print the table that a server has for it.
+    Ask {
+        /// The path of the server's socket.
+        socket: &'a str,
+    },
 }
 
 /// A command line that names no job: the status with which the program ends, and the text that it
@@ -72,15 +104,16 @@ fn job_of<'a>(matches: &ArgMatches<'a>) -> Option<Job<'a>>
     match name {
         "run" => run_job(given),
         "check" => Some(Job::Check),
+        "serve" => serve_job(given),
+        "ask" => ask_job(given),
         _ => None,
     }
 }
 
 /// The run that the matches of `run` give.
 fn run_job<'a>(given: &ArgMatches<'a>) -> Option<Job<'a>>
-    ensures some { IfSome result (λ job. GivesRun (rows_of (found_of given.now)) job) }
+    ensures gives { GivesJob (codes "run") (rows_of (found_of given.now)) result }
     ensures sized { IfSome result (λ job. IsSized job) }
-    ensures none { IfNone result ((job : Job) → GivesRun (rows_of (found_of given.now)) job → ⊥) }
 {
     let piece = number_given(given, "piece", PIECE_MOST)?;
     let workers = number_given(given, "workers", WORKERS_MOST)?;
@@ -89,6 +122,35 @@ fn run_job<'a>(given: &ArgMatches<'a>) -> Option<Job<'a>>
         workers,
         checkpoint: given.get_str("checkpoint"),
     })
+}
+
+/// The server that the matches of `serve` give.
+fn serve_job<'a>(given: &ArgMatches<'a>) -> Option<Job<'a>>
+    ensures gives { GivesJob (codes "serve") (rows_of (found_of given.now)) result }
+    ensures sized { IfSome result (λ job. IsSized job) }
+{
+    let socket = given.get_str("socket")?;
+    let workers = number_given(given, "workers", CREW_MOST)?;
+    let sessions = number_given(given, "sessions", CREW_MOST)?;
+    let studies = number_given(given, "studies", CREW_MOST)?;
+    Some(Job::Serve {
+        socket,
+        crew: Crew {
+            workers,
+            sessions,
+            studies,
+        },
+        folder: given.get_str("dir"),
+    })
+}
+
+/// The question that the matches of `ask` give.
+fn ask_job<'a>(given: &ArgMatches<'a>) -> Option<Job<'a>>
+    ensures gives { GivesJob (codes "ask") (rows_of (found_of given.now)) result }
+    ensures sized { IfSome result (λ job. IsSized job) }
+{
+    let socket = given.get_str("socket")?;
+    Some(Job::Ask { socket })
 }
 
 /// The number, from 1 to a greatest one, that the matches give for an option.
@@ -108,21 +170,109 @@ fn number_given(given: &ArgMatches, option: &str, most: u32) -> Option<u32>
 fn commands<'a>(alloc: Global) -> Result<Command<'a>, AllocError>
     ensures { IfOk result (λ command. app_of command ≡ program_app) }
 {
+    let program = Command::new(alloc, "cutlab")
+        .bin_name("cutlab")?
+        .about("How often processes propose a cut that misses failed ones, for each K, H, L and F")
+        .after_help(GUIDE)
+        .subcommand_required(true)
+        .arg_required_else_help(true);
+    let program = add_check(alloc, add_run(alloc, program)?)?;
+    add_ask(alloc, add_serve(alloc, program)?)
+}
+
+/// Adds the command `run`.
+fn add_run<'a>(alloc: Global, program: Command<'a>) -> Result<Command<'a>, AllocError>
+    ensures { IfOk result (λ r. app_of r ≡ with_subcommand (app_of program.entry) run_app.top) }
+{
     let run = Command::new(alloc, "run")
         .about("Read a plan and print its table")
+        .after_help(RUN_EXAMPLE)
         .arg(piece_option(alloc))?
         .arg(workers_option(alloc))?
         .arg(checkpoint_option(alloc))?;
-    let check = Command::new(alloc, "check").about(
-        "Read a plan and print its cells, its trials and the quorum",
-    );
-    Command::new(alloc, "cutlab")
-        .bin_name("cutlab")?
-        .about("How often processes propose a cut that misses failed ones, for each K, H, L and F")
-        .subcommand_required(true)
-        .arg_required_else_help(true)
-        .subcommand(run)?
-        .subcommand(check)
+    program.subcommand(run)
+}
+
+/// Adds the command `check`.
+fn add_check<'a>(alloc: Global, program: Command<'a>) -> Result<Command<'a>, AllocError>
+    ensures { IfOk result (λ r. app_of r ≡ with_subcommand (app_of program.entry) check_app.top) }
+{
+    let check = Command::new(alloc, "check")
+        .about("Read a plan and print its cells, its trials and the quorum")
+        .after_help(CHECK_EXAMPLE);
+    program.subcommand(check)
+}
+
+/// Adds the command `serve`.
+fn add_serve<'a>(alloc: Global, program: Command<'a>) -> Result<Command<'a>, AllocError>
+    ensures { IfOk result (λ r. app_of r ≡ with_subcommand (app_of program.entry) serve_app.top) }
+{
+    let serve = Command::new(alloc, "serve")
+        .about("Serve clients at a socket, and print how many trials were accepted")
+        .after_help(SERVE_EXAMPLE)
+        .arg(socket_word(alloc))?
+        .arg(crew_option(
+            alloc,
+            "workers",
+            "How many threads work on the studies, from 1 to 64",
+        ))?
+        .arg(crew_option(
+            alloc,
+            "sessions",
+            "How many connections are taken, from 1 to 64",
+        ))?
+        .arg(crew_option(
+            alloc,
+            "studies",
+            "For how many studies there is room, from 1 to 64",
+        ))?
+        .arg(folder_option(alloc))?;
+    program.subcommand(serve)
+}
+
+/// Adds the command `ask`.
+fn add_ask<'a>(alloc: Global, program: Command<'a>) -> Result<Command<'a>, AllocError>
+    ensures { IfOk result (λ r. app_of r ≡ with_subcommand (app_of program.entry) ask_app.top) }
+{
+    let ask = Command::new(alloc, "ask")
+        .about("Read a plan, ask a server for its table and print it")
+        .after_help(ASK_EXAMPLE)
+        .arg(socket_word(alloc))?;
+    program.subcommand(ask)
+}
+
+/// An option that says how many of something a server has.
+fn crew_option<'a>(alloc: Global, name: &'a str, help: &'a str) -> Arg<'a>
+    ensures rule { rule_of result ≡ crew_rule name.entry.now }
+    ensures local { result.global ≡ false }
+{
+    Arg::new(alloc, name)
+        .long(name)
+        .value_name("COUNT")
+        .value_parser(clap::value_parser!(u32).range(1..=64))
+        .required(true)
+        .help(help)
+}
+
+/// The option that names the folder of a server's checkpoints.
+fn folder_option<'a>(alloc: Global) -> Arg<'a>
+    ensures rule { rule_of result ≡ folder_rule }
+    ensures local { result.global ≡ false }
+{
+    Arg::new(alloc, "dir").long("dir").value_name("DIR").help(
+        "Keep each study in a file of this folder, and go on from what it holds",
+    )
+}
+
+/// The word that names a socket.
+fn socket_word<'a>(alloc: Global) -> Arg<'a>
+    ensures rule { rule_of result ≡ socket_rule }
+    ensures local { result.global ≡ false }
+{
+    Arg::new(alloc, "socket")
+        .value_name("SOCKET")
+        .required(true)
+        .help("The path of the server's socket")
 }
 
 /// The option that says how many trials are run as one piece.

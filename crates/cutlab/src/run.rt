@@ -1,11 +1,14 @@
 ghost use Rattle.std.specs.Prelude.{◌≡◌, ◌≤◌, ◌++◌, ◌↔◌, string_bytes, IfOk, IfErr, OnOk};
 ghost use Rattle.cutlab.specs.Check.{check_text, number_line};
 ghost use Rattle.cutlab.specs.Faults.{failed_calls};
+ghost use Rattle.cutlab.specs.Jobs.{EndsJob};
 ghost use Rattle.cutlab.specs.Line.{IsSized};
-ghost use Rattle.cutlab.specs.Run.{Ends, EndsFile, EndsJob, GivesPlan, check_task};
+ghost use Rattle.cutlab.specs.Run.{Ends, EndsFile, GivesPlan, check_task};
 ghost use Rattle.cutlab.specs.Study.{IsTrueStore, study_task, table_task};
 
+use crate::ask::ask_at;
 use crate::input::{LIMIT, read_text};
+use crate::serve::serve_at;
 use crate::study::study;
 use crate::{CliFault, Job};
 use cut_disks::{Disk, FileDisk};
@@ -126,6 +129,12 @@ where
             checkpoint: Some(path),
         } => run_file(host, rt, wire, piece, workers, path),
         Job::Check => check_io(alloc, wire),
+        Job::Serve {
+            socket,
+            crew,
+            folder,
+        } => serve_at(host, rt, socket, crew, folder, wire),
+        Job::Ask { socket } => ask_at(host, wire, socket),
     }
 }
 

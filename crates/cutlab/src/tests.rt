@@ -1,10 +1,12 @@
 //! What no contract says: tables that were computed apart from this program, the texts of faults, and
 //! devices that fail.
 
+mod asking;
 mod checkpoints;
 mod commands;
 mod devices;
 mod refusals;
+mod serving;
 mod studies;
 mod tables;
 

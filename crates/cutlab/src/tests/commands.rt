@@ -3,7 +3,7 @@
 use super::devices::{Act, Device};
 use super::{PLAN, plan_table, plan_with};
 use crate::line::status_of_kind;
-use crate::{Job, StreamWire, end_unread, parse_line, run_words};
+use crate::{Crew, Job, StreamWire, end_unread, parse_line, run_words};
 use clap::error::ErrorKind;
 use std::sync::Wait;
 use std::test::Fail;
@@ -67,8 +67,29 @@ fn run_with<'a>(piece: u32, workers: u32) -> Job<'a> {
 #[test]
 fn jobs_are_named(rt: HostRuntime) {
     let alloc = rt.alloc();
-    let rows: [(&[&str], Job); 8] = [
+    let rows: [(&[&str], Job); 10] = [
         (&["cutlab", "check"], Job::Check),
+        (
+            &[
+                "cutlab",
+                "serve",
+                "a.sock",
+                "--workers=64",
+                "--studies=3",
+                "--sessions=1",
+                "--dir=kept",
+            ],
+            Job::Serve {
+                socket: "a.sock",
+                crew: Crew {
+                    workers: 64,
+                    sessions: 1,
+                    studies: 3,
+                },
+                folder: Some("kept"),
+            },
+        ),
+        (&["cutlab", "ask", "a.sock"], Job::Ask { socket: "a.sock" }),
         (&["cutlab", "run"], run_by(16)),
         (&["cutlab", "run", "--piece", "1"], run_by(1)),
         (&["cutlab", "run", "--piece=7"], run_by(7)),
@@ -226,22 +247,35 @@ fn a_checkpoint_is_opened_first(rt: HostRuntime) -> Result<(), Fail> {
 
 #[test]
 fn help_is_output(rt: HostRuntime) {
-    let rows: [&[&str]; 3] = [
-        &["cutlab", "--help"],
-        &["cutlab", "help"],
-        &["cutlab", "run", "--help"],
+    let rows: [(&[&str], &str); 6] = [
+        (&["cutlab", "--help"], "docs/GUIDE.md"),
+        (&["cutlab", "help"], "docs/GUIDE.md"),
+        (&["cutlab", "run", "--help"], "Example: cutlab run"),
+        (&["cutlab", "check", "--help"], "Example: cutlab check"),
+        (&["cutlab", "serve", "--help"], "Example: cutlab serve"),
+        (&["cutlab", "ask", "--help"], "Example: cutlab ask"),
     ];
-    for words in rows {
+    for (words, part) in rows {
         let left = left_by(&rt, &rt, words, PLAN);
         assert_eq!(rt; left.status, 0, "{words:?}");
         assert!(rt; has(&left.output, "Usage: cutlab"), "{words:?}");
+        assert!(rt; has(&left.output, part), "{words:?}");
         assert!(rt; left.errors.is_empty(), "{words:?}");
     }
 }
 
 #[test]
 fn mistakes_are_errors(rt: HostRuntime) {
-    let rows: [(&[&str], &str); 9] = [
+    let rows: [(&[&str], &str); 12] = [
+        (&["cutlab", "ask"], "required arguments were not provided"),
+        (
+            &["cutlab", "serve", "a.sock", "--workers", "1"],
+            "required arguments were not provided",
+        ),
+        (
+            &["cutlab", "serve", "a.sock", "--sessions", "65"],
+            "65 is not in 1..=64",
+        ),
         (
             &["cutlab", "run", "--piece", "0"],
             "0 is not in 1..=1000000",

@@ -1,33 +1,39 @@
-use Rattle.std.proofs.Common.{◌∙◌, ℕ, List, Option, sym, subst, codes}
-use Rattle.std.specs.Prelude.{IfNone}
+use Rattle.std.proofs.Common.{◌∙◌, ℕ, List, Option, None, refl, sym, subst, codes, arith}
 use Rattle.clap.specs.Words.{Row, found_of, rows_of}
 use Rattle.clap.proofs.WalkLemmas.{first_value-rows}
 use Rattle.cutlab.specs.declared.line.Job.{Job}
-use Rattle.cutlab.specs.declared.line.Job.TheVariants.{Run, Check}
-use Rattle.cutlab.specs.Line.{GivesPiece, GivesRun, GivesWorkers}
+use Rattle.cutlab.specs.declared.line.Job.TheVariants.{Run, Check, Serve, Ask}
+use Rattle.cutlab.specs.Line.{GivesJob, GivesPiece, GivesWorkers}
+use Rattle.cutlab.proofs.LineLemmas.{other_word}
 use Rattle.cutlab.proofs.line.run_job.Goals as goal
 
 -- matches that give no size give no run
-no_size : (rows : List Row) → ((n : ℕ) → GivesPiece rows n → ⊥) → (job : Job) → GivesRun rows job → ⊥
-no_size rows none (Run piece workers file) gives = none piece gives.0
-no_size rows none Check gives = gives
+no_size : (rows : List Row) → ((n : ℕ) → GivesPiece rows n → ⊥) → GivesJob (codes "run") rows None
+no_size rows none (Run piece workers file) is gives = none piece gives.0
+no_size rows none Check is gives = other_word (codes "check") (codes "run") 99 114 is refl refl (λ bad. omega (arith, bad))
+no_size rows none (Serve socket crew folder) is gives =
+    other_word (codes "serve") (codes "run") 115 114 is refl refl (λ bad. omega (arith, bad))
+no_size rows none (Ask socket) is gives = other_word (codes "ask") (codes "run") 97 114 is refl refl (λ bad. omega (arith, bad))
 
 -- and none those that give no number of workers
-no_workers : (rows : List Row) → ((n : ℕ) → GivesWorkers rows n → ⊥) → (job : Job) → GivesRun rows job → ⊥
-no_workers rows none (Run piece workers file) gives = none workers gives.1
-no_workers rows none Check gives = gives
+no_workers : (rows : List Row) → ((n : ℕ) → GivesWorkers rows n → ⊥) → GivesJob (codes "run") rows None
+no_workers rows none (Run piece workers file) is gives = none workers gives.1
+no_workers rows none Check is gives = other_word (codes "check") (codes "run") 99 114 is refl refl (λ bad. omega (arith, bad))
+no_workers rows none (Serve socket crew folder) is gives =
+    other_word (codes "serve") (codes "run") 115 114 is refl refl (λ bad. omega (arith, bad))
+no_workers rows none (Ask socket) is gives = other_word (codes "ask") (codes "run") 97 114 is refl refl (λ bad. omega (arith, bad))
 
-pub returns-in_err-piece-clause-none : goal.returns-in_err-piece-clause-none
-returns-in_err-piece-clause-none c =
+pub returns-in_err-piece-clause-gives : goal.returns-in_err-piece-clause-gives
+returns-in_err-piece-clause-gives c =
     let rows : List Row = rows_of (found_of c.args.given.now) in
-    subst (λ (o : Option Job). IfNone o ((job : Job) → GivesRun rows job → ⊥)) (sym c.from_residual.ensures) (no_size rows c.in_err-piece.ensures.none)
+    subst (λ (o : Option Job). GivesJob (codes "run") rows o) (sym c.from_residual.ensures) (no_size rows c.in_err-piece.ensures.none)
 
-pub returns-in_err-workers-clause-none : goal.returns-in_err-workers-clause-none
-returns-in_err-workers-clause-none c =
+pub returns-in_err-workers-clause-gives : goal.returns-in_err-workers-clause-gives
+returns-in_err-workers-clause-gives c =
     let rows : List Row = rows_of (found_of c.args.given.now) in
-    subst (λ (o : Option Job). IfNone o ((job : Job) → GivesRun rows job → ⊥)) (sym c.from_residual-in_err-workers.ensures) (no_workers rows c.in_err-workers.ensures.none)
+    subst (λ (o : Option Job). GivesJob (codes "run") rows o) (sym c.from_residual-in_err-workers.ensures) (no_workers rows c.in_err-workers.ensures.none)
 
-pub returns-clause-some : goal.returns-clause-some
-returns-clause-some c =
+pub returns-clause-gives : goal.returns-clause-gives
+returns-clause-gives c =
     let found = found_of c.args.given.now in
-    (c.in_ok-piece.ensures.some, c.in_ok-workers.ensures.some, sym (first_value-rows found (codes "checkpoint")) ∙ sym c.get_str.ensures)
+    (refl, (c.in_ok-piece.ensures.some, c.in_ok-workers.ensures.some, sym (first_value-rows found (codes "checkpoint")) ∙ sym c.get_str.ensures))

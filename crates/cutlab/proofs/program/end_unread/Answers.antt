@@ -1,4 +1,5 @@
 use Rattle.std.proofs.Common.{List, ℕ, subst, sym, ◌∙◌}
+use Rattle.cut_faults.specs.Codes as codes_of
 use Rattle.cutlab.specs.Program.{IsSent, passage_of}
 use Rattle.cutlab.proofs.RunLemmas.{unread_otherwise}
 use Rattle.cutlab.proofs.program.end_unread.Goals as goal
@@ -7,6 +8,7 @@ pub returns-in-InvalidData-clause-told : goal.returns-in-InvalidData-clause-told
 returns-in-InvalidData-clause-told g c = rw c.in-InvalidData.is c.tell.ensures
 
 pub returns-in_default : goal.returns-in_default
+unfolding codes_of.all_codes
 returns-in_default g c =
     let known = unread_otherwise c.args.kind c.in_default.not-InvalidData in
     record {

@@ -1,0 +1,18 @@
+-- What each job leaves on the program's wire.
+use Rattle.std.specs.Prelude.{Some, None, Result, ⊤}
+use Rattle.cut_table.specs.Traffic.{Traffic}
+use Rattle.cutlab.specs.Ask.{EndsAsk}
+use Rattle.cutlab.specs.Run.{Ends, EndsFile, check_task}
+use Rattle.cutlab.specs.Serve.{TellsReport}
+use Rattle.cutlab.specs.Study.{plain_task}
+use Rattle.cutlab.specs.declared.line.Job.{Job}
+use Rattle.cutlab.specs.declared.line.Job.TheVariants.{Run, Check, Serve, Ask}
+use Rattle.cutlab.specs.declared.fault.CliFault.{CliFault}
+
+-- how a job ends
+abbrev pub EndsJob : Job → Traffic → Traffic → Result ⊤ CliFault → Type 0
+EndsJob (Run piece workers None) old new result = Ends plain_task old new result
+EndsJob (Run piece workers (Some file)) old new result = EndsFile old new result
+EndsJob Check old new result = Ends check_task old new result
+EndsJob (Serve socket crew folder) old new result = TellsReport crew.studies result old new
+EndsJob (Ask socket) old new result = EndsAsk old new result
