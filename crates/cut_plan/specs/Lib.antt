@@ -1,6 +1,7 @@
 pub mod Words
 pub mod Values
 pub mod Cells
+pub mod Targets
 pub mod Plan
 pub mod Inside
 pub mod Fields

@@ -8,6 +8,7 @@ ghost use Rattle.cut_plan.specs.declared.refusal.PlanFault.TheVariants.{Refused}
 ghost use Rattle.cut_plan.specs.declared.refusal.Refusal.TheVariants.{NotJson, PlanTooLong};
 ghost use Rattle.cut_plan.specs.Cells.{cells_of, trial_count, IsCellOf};
 ghost use Rattle.cut_plan.specs.Plan.{IsPlan};
+ghost use Rattle.cut_plan.specs.Targets.{deaf_of};
 
 use crate::check::{dead_at, faults_at, seed_at};
 use crate::combine::combine;
@@ -140,6 +141,19 @@ impl Plan {
         ensures plan { IsPlan self.now }
     {
         self.faults
+    }
+
+    /// How many of `f` targets are deaf, the others having crashed: none where targets crash, and all
+    /// where they are deaf.
+    pub fn deaf_of(&self, f: u16) -> u16
+        ensures value { result ≡ deaf_of self.now f }
+        ensures most { result ≤ f }
+        ensures plan { IsPlan self.now }
+    {
+        match self.faults {
+            Faults::Crash => 0,
+            Faults::Deaf => f,
+        }
     }
 
     /// The high watermarks, strictly rising, each 1 to 32.

@@ -152,6 +152,16 @@ fn tells_what_it_read(rt: HostRuntime) -> Result<(), Fail> {
 }
 
 #[test]
+fn counts_deaf_targets(rt: HostRuntime) -> Result<(), Fail> {
+    let alloc = rt.alloc();
+    let crash = Plan::from_json(alloc, PLAN.as_bytes())?;
+    assert_eq!(rt; (crash.deaf_of(0), crash.deaf_of(1)), (0, 0));
+    let deaf = Plan::from_json(alloc, LARGE.as_bytes())?;
+    assert_eq!(rt; (deaf.deaf_of(0), deaf.deaf_of(16)), (0, 16));
+    Ok(())
+}
+
+#[test]
 fn lists_cells_in_order(rt: HostRuntime) -> Result<(), Fail> {
     let plan = Plan::from_json(rt.alloc(), LARGE.as_bytes())?;
     let cells = [
