@@ -1,13 +1,28 @@
 -- When lists give each process one role, and the test for it.
-use Rattle.std.proofs.Common.{◌≡◌, ◌≢◌, ℕ, ◌<◌, ◌==◌, ◌&&◌, Bool, true, not, List, ◌++◌, map, length, nat_lt, nat_le, ap, sym, ◌∙◌, zero-add, arith}
+use Rattle.std.proofs.Common.{◌≡◌, ◌≢◌, ℕ, ◌+◌, ◌<◌, ◌==◌, ◌&&◌, Bool, true, not, List, ◌++◌, map, length, nat_lt, nat_le, cond, ap, sym, ◌∙◌, zero-add, arith}
 use Rattle.std.specs.Prelude.{◌↔◌}
-use Rattle.std.specs.List.{range_with_len}
+use Rattle.std.specs.List.{count_by, range_with_len}
 use Rattle.std.proofs.lemmas.Bool.{ltb-true, leb-true, lt-ltb, le-leb, eqb-false, ne_eqb, not-true, not_from_false, and_parts, and_from}
 use Rattle.std.proofs.lemmas.List.Elements.{All-weaker}
-use Rattle.std.proofs.lemmas.List.Sums.{AllPass-from_list_all, list_all-from_AllPass}
+use Rattle.std.proofs.lemmas.List.Sums.{sum_by-append, AllPass-from_list_all, list_all-from_AllPass}
 use Rattle.std.proofs.lemmas.List.Folds.{list_all-append, list_all-map}
 use Rattle.std.proofs.lemmas.List.FromFn.{length-range_with_len, get_or-range_with_len}
+use Rattle.cut_lists.proofs.Maps.{count_by-map}
 use Rattle.cut_alerts.specs.Given.{all_named, times_named, are_below, are_sources, are_named_once, are_links, is_legal, IsLegal}
+
+-- how often a process is named: how often in each list
+pub times_named-lists : (crashed deaf liars : List ℕ) (links : List (ℕ × ℕ)) (p : ℕ)
+    → times_named (crashed ++ deaf) liars links p
+    ≡ count_by (λ q. q == p) crashed + count_by (λ q. q == p) deaf + count_by (λ q. q == p) liars + count_by (λ l. l.0 == p) links
+times_named-lists crashed deaf liars links p =
+    let one : ℕ → ℕ = λ q. cond (q == p) 1 0 in
+    omega (
+      arith,
+      sum_by-append one (crashed ++ deaf ++ liars) (map (λ l. l.0) links),
+      sum_by-append one (crashed ++ deaf) liars,
+      sum_by-append one crashed deaf,
+      count_by-map (λ q. q == p) (λ (l : ℕ × ℕ). l.0) links,
+    )
 
 pub legal : (n : ℕ) (targets liars : List ℕ) (links : List (ℕ × ℕ)) → (is_legal n targets liars links ≡ true) ↔ IsLegal n targets liars links
 legal n targets liars links = (to, from)

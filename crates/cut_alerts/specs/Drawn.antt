@@ -1,11 +1,10 @@
 -- The roles that a trial draws (this project's profile): processes ascend by key and number; the first
--- of them are targets, the next liars, the next link sources, whose cut link goes to their subject on
--- the first ring.
-use Rattle.std.specs.Prelude.{ℕ, ◌+◌, map, nat_lt, if◌then◌else◌}
+-- of them are targets, of which the first have crashed and the others are deaf; the next are liars, the
+-- next link sources, whose cut link goes to their subject on the first ring.
+use Rattle.std.specs.Prelude.{ℕ, ◌+◌, ◌-◌, map, nat_lt, if◌then◌else◌}
 use Rattle.std.specs.List.{range_with_len}
-use Rattle.cut_plan.specs.declared.faults.Faults.{Faults}
-use Rattle.cut_plan.specs.declared.faults.Faults.TheVariants as fault
 use Rattle.cut_plan.specs.Values.{Values}
+use Rattle.cut_plan.specs.Targets.{deaf_of}
 use Rattle.cut_rings.specs.Layout.{Layout, subject_of}
 use Rattle.cut_draws.specs.Source.{Source}
 use Rattle.cut_draws.specs.ProcessOrder.{process_rank}
@@ -13,17 +12,13 @@ use Rattle.cut_alerts.specs.declared.role.Role.{Role}
 use Rattle.cut_alerts.specs.declared.role.Role.TheVariants.{Healthy, Crashed, Deaf, Liar, LinkSource}
 use Rattle.cut_alerts.specs.Assignment.{Assignment}
 
--- what a target is, where targets fail in this way
-abbrev pub target_role : Faults → Role
-target_role fault.Crash = Crashed
-target_role fault.Deaf = Deaf
-
--- the role of process p, where it has this rank
+-- the role of process p, where it has this rank, and the last deaf_of v f of the f targets are deaf
 abbrev pub ranked_role : Values → ℕ → Layout → ℕ → ℕ → Role
 ranked_role v f r p rank =
-    if nat_lt rank f then target_role v.faults
+    if nat_lt rank (f - deaf_of v f) then Crashed
+    else (if nat_lt rank f then Deaf
     else (if nat_lt rank (f + v.liars) then Liar
-    else (if nat_lt rank (f + v.liars + v.links) then LinkSource (subject_of r 0 p) else Healthy))
+    else (if nat_lt rank (f + v.liars + v.links) then LinkSource (subject_of r 0 p) else Healthy)))
 
 -- the roles of a trial of a cell with f failed processes, by the trial's draws
 abbrev pub drawn : Values → ℕ → Source → Layout → Assignment

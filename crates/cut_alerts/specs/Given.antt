@@ -1,12 +1,12 @@
 -- The roles that lists of targets, liars and cut links give (this project's profile).
-use Rattle.std.specs.Prelude.{◌≢◌, ℕ, ◌<◌, ◌≤◌, ◌==◌, ◌&&◌, ◌++◌, Bool, not, List, map, count_by, nat_lt, nat_le, unwrap_or, option_map, if◌then◌else◌}
+use Rattle.std.specs.Prelude.{◌≢◌, ℕ, ◌<◌, ◌≤◌, ◌==◌, ◌&&◌, ◌++◌, Bool, not, List, [], map, count_by, nat_lt, nat_le, unwrap_or, option_map, if◌then◌else◌}
 use Rattle.std.specs.List.{All, list_any, list_all, find, range_with_len}
 use Rattle.cut_plan.specs.declared.dead.Dead.{Dead}
 use Rattle.cut_plan.specs.declared.faults.Faults.{Faults}
+use Rattle.cut_plan.specs.declared.faults.Faults.TheVariants as fault
 use Rattle.cut_alerts.specs.declared.role.Role.{Role}
-use Rattle.cut_alerts.specs.declared.role.Role.TheVariants.{Healthy, Liar, LinkSource}
+use Rattle.cut_alerts.specs.declared.role.Role.TheVariants.{Healthy, Crashed, Deaf, Liar, LinkSource}
 use Rattle.cut_alerts.specs.Assignment.{Assignment}
-use Rattle.cut_alerts.specs.Drawn.{target_role}
 
 -- the processes that have a role other than healthy: targets, liars, and the sources of links
 abbrev pub all_named : List ℕ → List ℕ → List (ℕ × ℕ) → List ℕ
@@ -53,15 +53,21 @@ is_legal n targets liars links =
 abbrev pub source_role : List (ℕ × ℕ) → ℕ → Role
 source_role links p = unwrap_or (option_map (λ l. LinkSource l.1) (find (λ l. l.0 == p) links)) Healthy
 
--- the role of p: that of a target, a liar or a link source where it is among these, and else healthy
-abbrev pub given_role : Role → List ℕ → List ℕ → List (ℕ × ℕ) → ℕ → Role
-given_role target targets liars links p =
-    if list_any (λ q. q == p) targets then target
-    else (if list_any (λ q. q == p) liars then Liar else source_role links p)
+-- the role of p: crashed, deaf, a liar or a link source where it is among these, and else healthy
+abbrev pub given_role : List ℕ → List ℕ → List ℕ → List (ℕ × ℕ) → ℕ → Role
+given_role crashed deaf liars links p =
+    if list_any (λ q. q == p) crashed then Crashed
+    else (if list_any (λ q. q == p) deaf then Deaf
+    else (if list_any (λ q. q == p) liars then Liar else source_role links p))
 
--- the roles of n processes
-abbrev pub given : ℕ → List ℕ → List ℕ → List (ℕ × ℕ) → Faults → Dead → Assignment
-given n targets liars links faults dead = record {
-  roles = map (λ p. given_role (target_role faults) targets liars links p) (range_with_len 0 n);
+-- the roles of n processes, where some targets have crashed and others are deaf
+abbrev pub given_mixed : ℕ → List ℕ → List ℕ → List ℕ → List (ℕ × ℕ) → Dead → Assignment
+given_mixed n crashed deaf liars links dead = record {
+  roles = map (λ p. given_role crashed deaf liars links p) (range_with_len 0 n);
   dead = dead;
 }
+
+-- the roles of n processes, where all targets fail in one way
+abbrev pub given : ℕ → List ℕ → List ℕ → List (ℕ × ℕ) → Faults → Dead → Assignment
+given n targets liars links fault.Crash dead = given_mixed n targets [] liars links dead
+given n targets liars links fault.Deaf dead = given_mixed n [] targets liars links dead

@@ -1,4 +1,4 @@
-ghost use Rattle.std.specs.Prelude.{◌≡◌, ◌==◌, nat_le, map, IfOk};
+ghost use Rattle.std.specs.Prelude.{◌≡◌, ◌==◌, ◌++◌, nat_le, map, count_by, IfOk};
 ghost use Rattle.std.specs.List.{find, range_with_len};
 ghost use Rattle.cut_alerts.specs.Given.{is_legal, are_below, are_sources, are_links, are_named_once, times_named, given_role};
 
@@ -6,14 +6,27 @@ use crate::Role;
 use std::alloc::{AllocError, Global};
 
 /// Whether lists give each of the first `nodes` processes one role.
-pub(crate) fn are_legal(nodes: u16, targets: &[u16], liars: &[u16], links: &[(u16, u16)]) -> bool
-    ensures { result ≡ is_legal nodes targets.now liars.now links.now }
+pub(crate) fn are_legal(
+    nodes: u16,
+    crashed: &[u16],
+    deaf: &[u16],
+    liars: &[u16],
+    links: &[(u16, u16)],
+) -> bool
+    ensures { result ≡ is_legal nodes (crashed.now ++ deaf.now) liars.now links.now }
 {
-    are_below(nodes, targets)
+    are_targets(nodes, crashed, deaf)
         && are_below(nodes, liars)
         && are_sources(nodes, links)
-        && are_named_once(nodes, targets, liars, links)
+        && are_named_once(nodes, crashed, deaf, liars, links)
         && are_links(nodes, links)
+}
+
+/// Whether the crashed and the deaf are all of the first `nodes` processes.
+fn are_targets(nodes: u16, crashed: &[u16], deaf: &[u16]) -> bool
+    ensures { result ≡ are_below nodes (crashed.now ++ deaf.now) }
+{
+    are_below(nodes, crashed) && are_below(nodes, deaf)
 }
 
 /// Whether these are all of the first `nodes` processes.
@@ -38,51 +51,80 @@ fn are_links(nodes: u16, links: &[(u16, u16)]) -> bool
 }
 
 /// Whether none of the first `nodes` processes is named twice.
-fn are_named_once(nodes: u16, targets: &[u16], liars: &[u16], links: &[(u16, u16)]) -> bool
-    ensures { result ≡ are_named_once nodes targets.now liars.now links.now }
+fn are_named_once(
+    nodes: u16,
+    crashed: &[u16],
+    deaf: &[u16],
+    liars: &[u16],
+    links: &[(u16, u16)],
+) -> bool
+    ensures { result ≡ are_named_once nodes (crashed.now ++ deaf.now) liars.now links.now }
 {
-    (0..nodes).all(|process| is_named_once(process, targets, liars, links))
+    (0..nodes).all(|process| is_named_once(process, crashed, deaf, liars, links))
 }
 
 /// Whether a process is named at most once.
-fn is_named_once(process: u16, targets: &[u16], liars: &[u16], links: &[(u16, u16)]) -> bool
-    ensures { result ≡ nat_le (times_named targets.now liars.now links.now process) 1 }
+fn is_named_once(
+    process: u16,
+    crashed: &[u16],
+    deaf: &[u16],
+    liars: &[u16],
+    links: &[(u16, u16)],
+) -> bool
+    ensures { result
+        ≡ nat_le (times_named (crashed.now ++ deaf.now) liars.now links.now process) 1 }
 {
-    let as_target = targets.iter().filter(|other| **other == process).count();
-    let as_liar = liars.iter().filter(|other| **other == process).count();
-    let as_source = links.iter().filter(|(from, _)| *from == process).count();
+    let as_target = times_in(process, crashed).saturating_add(times_in(process, deaf));
+    let as_liar = times_in(process, liars);
+    let as_source = times_as_source(process, links);
     as_target.saturating_add(as_liar).saturating_add(as_source) <= 1
+}
+
+/// How often a process stands in a list.
+fn times_in(process: u16, processes: &[u16]) -> usize
+    ensures { result ≡ count_by (λ other. other == process) processes.now }
+{
+    processes.iter().filter(|other| **other == process).count()
+}
+
+/// How many links a process is the source of.
+fn times_as_source(process: u16, links: &[(u16, u16)]) -> usize
+    ensures { result ≡ count_by (λ l. l.0 == process) links.now }
+{
+    links.iter().filter(|(from, _)| *from == process).count()
 }
 
 /// The roles that legal lists give.
 pub(crate) fn given_roles(
     alloc: Global,
     nodes: u16,
-    targets: &[u16],
+    crashed: &[u16],
+    deaf: &[u16],
     liars: &[u16],
     links: &[(u16, u16)],
-    target: Role,
 ) -> Result<Vec<Role>, AllocError>
     ensures { IfOk result (λ roles. roles.items
-        ≡ map (λ p. given_role target targets.now liars.now links.now p) (range_with_len 0 nodes)) }
+        ≡ map (λ p. given_role crashed.now deaf.now liars.now links.now p) (range_with_len 0 nodes)) }
 {
     (0..nodes)
-        .map(|process| given_role(process, targets, liars, links, target))
+        .map(|process| given_role(process, crashed, deaf, liars, links))
         .collect(alloc)
 }
 
 /// The role that lists give a process.
 fn given_role(
     process: u16,
-    targets: &[u16],
+    crashed: &[u16],
+    deaf: &[u16],
     liars: &[u16],
     links: &[(u16, u16)],
-    target: Role,
 ) -> Role
-    ensures { result ≡ given_role target targets.now liars.now links.now process }
+    ensures { result ≡ given_role crashed.now deaf.now liars.now links.now process }
 {
-    if targets.contains(&process) {
-        target
+    if crashed.contains(&process) {
+        Role::Crashed
+    } else if deaf.contains(&process) {
+        Role::Deaf
     } else if liars.contains(&process) {
         Role::Liar
     } else {

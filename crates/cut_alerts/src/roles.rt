@@ -1,8 +1,8 @@
-ghost use Rattle.std.specs.Prelude.{◌≡◌, ◌<◌, ◌↔◌, [], length, IfOk, OnOk, OnErr, IsErrOf};
+ghost use Rattle.std.specs.Prelude.{◌≡◌, ◌<◌, ◌↔◌, ◌++◌, [], length, IfOk, OnOk, OnErr, IsErrOf};
 ghost use Rattle.cut_plan.specs.Cells.{IsCellOf};
 ghost use Rattle.cut_alerts.specs.Assignment.{role_at, is_target, is_cut};
-ghost use Rattle.cut_alerts.specs.Drawn.{drawn, ranked_role, target_role};
-ghost use Rattle.cut_alerts.specs.Given.{given, IsLegal};
+ghost use Rattle.cut_alerts.specs.Drawn.{drawn, ranked_role};
+ghost use Rattle.cut_alerts.specs.Given.{given, given_mixed, IsLegal};
 
 use crate::given::{are_legal, given_roles};
 use crate::{Role, RolesFault};
@@ -44,8 +44,9 @@ impl Roles {
     }
 
     /// The roles that a trial of a cell draws: the processes of least rank by the trial's keys are the
-    /// targets, the next ones the liars, the next ones the sources of cut links (this project's
-    /// profile). Fails only for want of memory.
+    /// targets, of which the last `plan.deaf_of(cell.f)` are deaf while the others have crashed; the
+    /// next ones are the liars, the next ones the sources of cut links (this project's profile). Fails
+    /// only for want of memory.
     pub fn of_trial(
         alloc: Global,
         plan: &Plan,
@@ -111,10 +112,34 @@ impl Roles {
         ensures bad_role { IsErrOf result RolesFault.BadRole
             ↔ ¬ IsLegal nodes targets.now liars.now links.now }
     {
-        if !are_legal(nodes, targets, liars, links) {
+        match faults {
+            Faults::Crash => Roles::given_mixed(alloc, nodes, targets, &[], liars, links, dead),
+            Faults::Deaf => Roles::given_mixed(alloc, nodes, &[], targets, liars, links, dead),
+        }
+    }
+
+    /// The roles of `nodes` processes as `given` gives them, where the targets of one list have crashed
+    /// and those of another are deaf. BadRole exactly where `given` answers it of the two lists together:
+    /// a process that is in both is named twice.
+    pub fn given_mixed(
+        alloc: Global,
+        nodes: u16,
+        crashed: &[u16],
+        deaf: &[u16],
+        liars: &[u16],
+        links: &[(u16, u16)],
+        dead: Dead,
+    ) -> Result<Roles, RolesFault>
+        ensures given { IfOk result
+            (λ r. r ≡ given_mixed nodes crashed.now deaf.now liars.now links.now dead) }
+        ensures legal { OnOk result (IsLegal nodes (crashed.now ++ deaf.now) liars.now links.now) }
+        ensures bad_role { IsErrOf result RolesFault.BadRole
+            ↔ ¬ IsLegal nodes (crashed.now ++ deaf.now) liars.now links.now }
+    {
+        if !are_legal(nodes, crashed, deaf, liars, links) {
             return Err(RolesFault::BadRole);
         }
-        let roles = given_roles(alloc, nodes, targets, liars, links, target_role(faults))?;
+        let roles = given_roles(alloc, nodes, crashed, deaf, liars, links)?;
         Ok(Roles { roles, dead })
     }
 
@@ -163,16 +188,6 @@ impl Roles {
     }
 }
 
-/// What a target is, where targets fail in this way.
-fn target_role(faults: Faults) -> Role
-    ensures { result ≡ target_role faults }
-{
-    match faults {
-        Faults::Crash => Role::Crashed,
-        Faults::Deaf => Role::Deaf,
-    }
-}
-
 /// The role of a process that has this rank among all.
 fn ranked_role(plan: &Plan, cell: Cell, rings: &Rings, process: u16, rank: u16) -> Role
     requires process { process < rings.now.nodes }
@@ -180,10 +195,13 @@ fn ranked_role(plan: &Plan, cell: Cell, rings: &Rings, process: u16, rank: u16) 
     requires cell { IsCellOf plan.now cell }
     ensures { result ≡ ranked_role plan.now cell.f rings.now process rank }
 {
+    let crashed = cell.f - plan.deaf_of(cell.f);
     let liars_end = cell.f + plan.liars();
     let links_end = liars_end + plan.links();
-    if rank < cell.f {
-        target_role(plan.faults())
+    if rank < crashed {
+        Role::Crashed
+    } else if rank < cell.f {
+        Role::Deaf
     } else if rank < liars_end {
         Role::Liar
     } else if rank < links_end {

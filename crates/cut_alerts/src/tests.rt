@@ -104,6 +104,22 @@ fn alerts_of_the_deaf_of_liars_and_of_cut_links(rt: HostRuntime) -> Result<(), F
 }
 
 #[test]
+fn alerts_of_crashed_and_deaf_targets(rt: HostRuntime) -> Result<(), Fail> {
+    let alloc = rt.alloc();
+    let rings = four(&rt, alloc)?;
+    let roles = Roles::given_mixed(alloc, 4, &[2], &[1], &[], &[], Dead::Silent)?;
+    assert!(rt; roles.nodes() == 4 && rings.nodes() == 4 && rings.len() == 3);
+    let found = alerts(alloc, &rings, 3, &roles)?;
+    let about = [(2, 0), (0, 1), (0, 2), (1, 2), (2, 2), (1, 3)];
+    assert_eq!(rt; found.as_slice(), edges_of(alloc, &about)?.as_slice());
+    match Roles::given_mixed(alloc, 4, &[1], &[1], &[], &[], Dead::Silent) {
+        Ok(_) => Err("roles were given")?,
+        Err(fault) => assert_eq!(rt; fault.to_string(alloc)?.as_str(), "13 BadRole"),
+    }
+    Ok(())
+}
+
+#[test]
 fn roles_that_are_refused(rt: HostRuntime) -> Result<(), Fail> {
     let alloc = rt.alloc();
     let rows: [Lists; 7] = [

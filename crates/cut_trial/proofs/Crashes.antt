@@ -2,7 +2,7 @@
 -- so only targets are proposed; and where crashed observers speak, every receiver hears of each target on all
 -- rings, and proposes.
 use Rattle.std.proofs.Common.{◌≡◌, ◌⊎◌, ℕ, ◌/◌, ◌<◌, ◌≤◌, Bool, true, false, not, List, [], ◌∷◌, Option, Some, None, MatchOption, length, get_or, map, nat_lt, nat_le, inl, inr, refl, sym, ap, ◌∙◌, arith}
-use Rattle.cut_trial.proofs.Words.{◌&&◌, ◌||◌, count_by, range_with_len, flat_map, Cell, cells_of, trial_count, IsPlan, Values, Edge, EdgeSet, Layout, observer_of, Source, source_of, all_deliveries, copies_of, early, Assignment, role_at, has_crashed, is_target, alerts_about, is_alerted, alert_list, all_edges, speaks, target_role, Rule, rule_of, ring_count, reports_of, is_reported, is_gained, is_full, full_count, is_stable, proposal_of, IsSettled, IsOfLeastPlace, ProposesAtLeastPlace, ReportsTargetsAlone, StableAreTargets, TargetsAloneLeaveNoneUnstable, Proposal, OnlyCrashes, judged, receivers_of, processes_of, rings_of, receiver_proposal, cell_at, no_cell, outcome}
+use Rattle.cut_trial.proofs.Words.{◌&&◌, ◌||◌, count_by, range_with_len, flat_map, Cell, cells_of, trial_count, IsPlan, deaf_among, Values, Edge, EdgeSet, Layout, observer_of, Source, source_of, all_deliveries, copies_of, early, Assignment, role_at, has_crashed, is_target, alerts_about, is_alerted, alert_list, all_edges, speaks, Rule, rule_of, ring_count, reports_of, is_reported, is_gained, is_full, full_count, is_stable, proposal_of, IsSettled, IsOfLeastPlace, ProposesAtLeastPlace, ReportsTargetsAlone, StableAreTargets, TargetsAloneLeaveNoneUnstable, Proposal, OnlyCrashes, judged, receivers_of, processes_of, rings_of, receiver_proposal, cell_at, no_cell, outcome}
 use Rattle.std.proofs.lemmas.Nat.{div_below}
 use Rattle.std.proofs.lemmas.Bool.{and_from, and_parts, or_left, or_right, lt-ltb, leb-true, ltb-true}
 use Rattle.std.proofs.lemmas.List.Elements.{All-contains, All-map, Contains-get_or}
@@ -60,7 +60,8 @@ crashed_or_healthy : (v : Values) (t : ℕ) → OnlyCrashes v → CrashedOrHealt
 crashed_or_healthy v t only p =
     let by = target_or_healthy v (cell_at v t).f (source_of v.seed t) (rings_of v)
     only.no_liars only.no_links p in
-    elim by [ inl target ↦ inl (target.1 ∙ ap target_role only.crash) | inr well ↦ inr well ]
+    let none = ap (λ how. deaf_among how (cell_at v t).f) only.crash in
+    elim by [ inl target ↦ inl (target.1 none) | inr well ↦ inr well ]
 
 -- alerts are about targets
 alerted_is_target : (a : Assignment) → CrashedOrHealthy a → (o s : ℕ) → alerts_about a o s ≡ true

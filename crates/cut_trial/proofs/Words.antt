@@ -5,6 +5,7 @@ pub use Rattle.cut_plan.specs.declared.cell.Cell.{Cell}
 pub use Rattle.cut_plan.specs.Values.{Values}
 pub use Rattle.cut_plan.specs.Cells.{cells_of, largest, trial_count}
 pub use Rattle.cut_plan.specs.Plan.{IsPlan}
+pub use Rattle.cut_plan.specs.Targets.{deaf_among, deaf_of}
 pub use Rattle.cut_rings.specs.declared.edge.Edge.{Edge}
 pub use Rattle.cut_rings.specs.Edges.{EdgeSet, edge_number, first_of, is_edge, is_edge_of, set_of}
 pub use Rattle.cut_rings.specs.Layout.{Layout, observer_of, subject_of}
@@ -14,7 +15,7 @@ pub use Rattle.cut_draws.specs.ProcessOrder.{compare_processes, process_place, p
 pub use Rattle.cut_draws.specs.DeliveryOrder.{IsDeliveryOrder, all_deliveries, compare_deliveries, copies_of, delivery_place, delivery_rank, early}
 pub use Rattle.cut_alerts.specs.Assignment.{Assignment, has_crashed, is_crashed_role, is_deaf_role, is_target, role_at}
 pub use Rattle.cut_alerts.specs.Alerted.{alert_list, alerts_about, all_edges, edges_of, is_alerted, speaks}
-pub use Rattle.cut_alerts.specs.Drawn.{drawn, ranked_role, target_role}
+pub use Rattle.cut_alerts.specs.Drawn.{drawn, ranked_role}
 pub use Rattle.cut_detector.specs.Rule.{Rule, rule_of}
 pub use Rattle.cut_detector.specs.Counts.{full_count, is_gained, reports_of, ring_count}
 unfoldable pub use Rattle.cut_detector.specs.Counts.{is_full, is_reported, is_settled, is_stable, stable_members}
