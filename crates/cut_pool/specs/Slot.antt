@@ -130,6 +130,24 @@ AnswersLine (Err line.WorkMemory) o cell (Some b) =
 AnswersLine (Err line.Stopped) o cell (Some b) =
     IsOpenedAs o b × (cell_done b.state.ledger cell ≡ false → TellsUndone line.Stopped b.state)
 
+-- how a slot answers who asks once more for a line that was given, by its book: there is none, or another one;
+-- or the cell is done, and there is the line; or it was not given yet; or memory was wanting
+abbrev pub AnswersAgain : {T D : Type 0} → Result (Option T) LineFault → Opened → ℕ → Option (Progress D)
+    → Type 0
+AnswersAgain (Err line.AuditMismatch) o cell None = ⊤
+AnswersAgain result o cell None = ⊥
+AnswersAgain (Ok (Some found)) o cell (Some b) = IsOpenedAs o b × (cell_done b.state.ledger cell ≡ true)
+AnswersAgain (Ok None) o cell (Some b) = IsOpenedAs o b
+AnswersAgain (Err line.AuditMismatch) o cell (Some b) = IsOpenedAs o b → ⊥
+AnswersAgain (Err line.WorkMemory) o cell (Some b) = IsOpenedAs o b
+AnswersAgain (Err other) o cell (Some b) = ⊥
+
+-- why a line can't be given once more: the slot's book is not that study's, or memory was wanting
+abbrev pub CanNotGiveAgain : LineFault → Type 0
+CanNotGiveAgain line.AuditMismatch = ⊤
+CanNotGiveAgain line.WorkMemory = ⊤
+CanNotGiveAgain other = ⊥
+
 -- ---- readers
 
 -- the piece of a number, if there is a book and such a piece

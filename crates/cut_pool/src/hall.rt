@@ -5,7 +5,7 @@ ghost use Rattle.cut_board.specs.Views.{idle, read, seen_in};
 ghost use Rattle.cut_board.specs.Refusals.{IsRefusedBy, read_refusal};
 ghost use Rattle.cut_pool.specs.Hall.{made_more};
 ghost use Rattle.cut_pool.specs.Lines.{full_line};
-ghost use Rattle.cut_pool.specs.Slot.{IsFresh, rows_of};
+ghost use Rattle.cut_pool.specs.Slot.{IsFresh, CanNotGiveAgain, rows_of};
 
 use crate::accounts::Accounts;
 use crate::slot::{Match, Slot};
@@ -124,7 +124,7 @@ impl<D: Disk + Drop, M: Tally, K: Tally> Hall<D, M, K> {
         let given = deal(alloc, &board, seats, made)?;
         let mut places = Vec::new(alloc);
         places.push(Place {
-            slot: Mutex::new(Slot::of_book(book, kept)),
+            slot: Mutex::new(Slot::of_book(alloc, book, kept)),
             changed: Condvar::new(),
         })?;
         let hall = Hall {
@@ -196,6 +196,27 @@ impl<D: Disk + Drop, M: Tally, K: Tally> Hall<D, M, K> {
         self.wait_for_line(rt, alloc, &mut pass.made, opened, cell)
     }
 
+    /// The line of a cell of an opened study, if it was given before; else none, and `next_row` waits for it. It
+    /// is read from the study's trials once more, and is no call of its book: so a line that is asked for again
+    /// and again takes no memory in the history. It has at most 273 bytes.
+    pub fn given_row<R: Wait>(
+        &self,
+        rt: &R,
+        alloc: Global,
+        opened: &Opened,
+        cell: u32,
+    ) -> Result<Option<Vec<u8>>, LineFault>
+        requires slot { opened.now.study < self.now.slots }
+        requires cell { cell < length (cells_of opened.now.plan) }
+        ensures line { IfOk result (λ found.
+            IfSome found (λ line. line.items ≡ full_line opened.now.plan opened.now.base cell)) }
+        ensures short { IfOk result (λ found. IfSome found (λ line. length line.items ≤ 273)) }
+        ensures why { IfErr result CanNotGiveAgain }
+    {
+        let slot = self.places[opened.study as usize].slot.lock(rt);
+        slot.line_again(alloc, opened, cell)
+    }
+
     /// The same, with the share of a pass.
     fn wait_for_line<R: Wait>(
         &self,
@@ -252,7 +273,7 @@ fn places_of<D: Disk + Drop, K: Tally>(
 {
     let mut places = Vec::with_capacity(alloc, slots as usize)?;
     for _ in 0..slots {
-        let slot = Slot::free(rest.split_off(1, 0));
+        let slot = Slot::free(alloc, rest.split_off(1, 0));
         places.push_reserved(Place {
             slot: Mutex::new(slot),
             changed: Condvar::new(),

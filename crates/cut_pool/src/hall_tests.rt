@@ -37,7 +37,7 @@ fn submitted<M: Tally, K: Tally, R: Wait + Abort>(
     Ok(opened)
 }
 
-/// One worker does both pieces, and the line comes.
+/// One worker does both pieces, and the line comes; and then it is there once more, as often as it is asked for.
 fn worked<M: Tally, K: Tally, R: Wait + Abort>(
     rt: &R,
     alloc: Global,
@@ -52,9 +52,15 @@ fn worked<M: Tally, K: Tally, R: Wait + Abort>(
     if !hall.work_off(rt, alloc, pass, &OpenGate, opened.study) || opened.plan.cells() == 0 {
         return Ok(false);
     }
+    let early = hall.given_row(rt, alloc, opened, 0)?;
     let line = hall.next_row(rt, alloc, pass, opened, 0)?;
+    for _ in 0..10 {
+        let again = hall.given_row(rt, alloc, opened, 0)?;
+        assert!(rt; again.as_ref() == Some(&line));
+    }
     let counted = hall.counted(pass, 0)?;
-    Ok(counted == 2 && line.as_slice() == b"1,1,1,1,2,8,0,0,0,8,2,2,0\n".as_slice())
+    let is_line = line.as_slice() == b"1,1,1,1,2,8,0,0,0,8,2,2,0\n".as_slice();
+    Ok(early.is_none() && counted == 2 && is_line)
 }
 
 /// Closes a hall with one pass kept back, and then with both: the accepted trials and the calls of its slot.

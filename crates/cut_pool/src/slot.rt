@@ -5,13 +5,14 @@ ghost use Rattle.cut_plan.specs.Cells.{cells_of};
 ghost use Rattle.cut_pool.specs.Lines.{full_line};
 ghost use Rattle.cut_pool.specs.Report.{calls_told};
 ghost use Rattle.cut_pool.specs.Slot.{calls_in, IsFresh, IsBegun, base_of, kept_of, unkept_of, Matches, TakesResult, TakesLoss, GivesLine, calls_of, losses_of, lines_of};
-ghost use Rattle.cut_pool.specs.Slot.{IsOpenedAs, TellsUndone, AnswersLine, piece_at, HasDone, HasPlan};
+ghost use Rattle.cut_pool.specs.Slot.{IsOpenedAs, TellsUndone, AnswersLine, AnswersAgain, piece_at, HasDone, HasPlan};
 
 use crate::accounts::Accounts;
 use crate::opening::open_book;
 use crate::{Book, BookFault, LineFault, Opened, Shelf, SlotReport, SubmitFault, Tally};
 use cut_disks::Disk;
 use cut_plan::Plan;
+use cut_table::{RowFault, row};
 use cut_trial::{Piece, PieceResult};
 use std::alloc::Global;
 use std::sync::ledger::Share;
@@ -39,12 +40,14 @@ pub(crate) enum CallFault {
     Refused(BookFault),
 }
 
-/// A place for the book of one study in a hall, with how many calls it had.
+/// A place for the book of one study in a hall, with how many calls it had, and which of its lines were given.
 #[derive(Drop)]
 pub(crate) struct Slot<D: Disk, K: Tally> {
     book: Option<Book<D>>,
     kept: Share<K>,
     stopped: bool,
+    /// Of each cell whether its line was given. Where this is shorter, it is not remembered.
+    given: Vec<bool>,
     ghost one_part: { kept.parts ≡ 1 },
     ghost counted: { kept.amount ≡ calls_in book },
     ghost first: { take (length (base_of book)) (kept_of book) ≡ base_of book },
@@ -53,7 +56,7 @@ pub(crate) struct Slot<D: Disk, K: Tally> {
 
 impl<D: Disk + Drop, K: Tally> Slot<D, K> {
     /// A slot without a book.
-    pub(crate) fn free(kept: Share<K>) -> Slot<D, K>
+    pub(crate) fn free(alloc: Global, kept: Share<K>) -> Slot<D, K>
         requires { (kept.parts ≡ 1) × (kept.amount ≡ 0) }
         ensures { result.book ≡ None }
     {
@@ -61,11 +64,13 @@ impl<D: Disk + Drop, K: Tally> Slot<D, K> {
             book: None,
             kept,
             stopped: false,
+            given: Vec::new(alloc),
         }
     }
 
-    /// A slot with the book of a study, of which nothing was asked yet.
-    pub(crate) fn of_book(book: Book<D>, kept: Share<K>) -> Slot<D, K>
+    /// A slot with the book of a study, of which nothing was asked yet. It does not remember which lines it
+    /// gives.
+    pub(crate) fn of_book(alloc: Global, book: Book<D>, kept: Share<K>) -> Slot<D, K>
         requires part { (kept.parts ≡ 1) × (kept.amount ≡ 0) }
         requires fresh { IsFresh book.state.ledger.plan book.size book }
         ensures { result.book ≡ Some book }
@@ -74,6 +79,7 @@ impl<D: Disk + Drop, K: Tally> Slot<D, K> {
             book: Some(book),
             kept,
             stopped: false,
+            given: Vec::new(alloc),
         }
     }
 
@@ -105,11 +111,7 @@ impl<D: Disk + Drop, K: Tally> Slot<D, K> {
         ensures made { made.new.amount ≡ made.old.amount + calls_of result }
         ensures parts { made.new.parts ≡ 1 }
     {
-        let Slot {
-            book,
-            kept,
-            stopped: _,
-        } = self;
+        let Slot { book, kept, .. } = self;
         let Some(book) = book else {
             return Err(CallFault::NoBook);
         };
@@ -140,11 +142,7 @@ impl<D: Disk + Drop, K: Tally> Slot<D, K> {
         ensures made { made.new.amount ≡ made.old.amount + losses_of result }
         ensures parts { made.new.parts ≡ 1 }
     {
-        let Slot {
-            book,
-            kept,
-            stopped: _,
-        } = self;
+        let Slot { book, kept, .. } = self;
         let Some(book) = book else {
             return Err(CallFault::NoBook);
         };
@@ -185,6 +183,7 @@ impl<D: Disk + Drop, K: Tally> Slot<D, K> {
             book,
             kept,
             stopped,
+            given,
         } = self;
         let Some(book) = book else {
             return Err(LineFault::AuditMismatch);
@@ -200,11 +199,45 @@ impl<D: Disk + Drop, K: Tally> Slot<D, K> {
             return Err(LineFault::Stopped);
         }
         match book.row(alloc, cell) {
-            Ok(line) => Ok(Some(line)),
+            Ok(line) => {
+                remember(given, cell);
+                Ok(Some(line))
+            }
             Err(_) => {
                 accounts.lock(rt).take_back(made, kept);
                 Err(LineFault::WorkMemory)
             }
+        }
+    }
+
+    /// The line of a cell of an opened study, if it was given before: it is read from the ledger once more, which
+    /// is no call of the book.
+    pub(crate) fn line_again(
+        &self,
+        alloc: Global,
+        opened: &Opened,
+        cell: u32,
+    ) -> Result<Option<Vec<u8>>, LineFault>
+        requires { cell < length (cells_of opened.now.plan) }
+        ensures line { IfOk result (λ found.
+            IfSome found (λ line. line.items ≡ full_line opened.now.plan opened.now.base cell)) }
+        ensures short { IfOk result (λ found. IfSome found (λ line. length line.items ≤ 273)) }
+        ensures answers { AnswersAgain result opened.now cell self.now.book }
+    {
+        let Some(book) = &self.book else {
+            return Err(LineFault::AuditMismatch);
+        };
+        let is_its_book = is_opened_as(book, opened);
+        if !is_its_book {
+            return Err(LineFault::AuditMismatch);
+        }
+        if self.given.get(cell as usize) != Some(&true) {
+            return Ok(None);
+        }
+        match row(alloc, book.ledger(), cell) {
+            Ok(line) => Ok(Some(line)),
+            Err(RowFault::NotDone(_)) => Ok(None),
+            Err(RowFault::Memory) => Err(LineFault::WorkMemory),
         }
     }
 
@@ -225,9 +258,11 @@ impl<D: Disk + Drop, K: Tally> Slot<D, K> {
         ensures err { OnErr result (self.new ≡ self.old) }
     {
         let copy = plan.try_clone(alloc)?;
+        let given = vec![in alloc; false; plan.cells() as usize]?;
         let book = open_book(alloc, plan, shelf, piece_size)?;
         let base = book.ledger().base().try_clone(alloc)?;
         self.book = Some(book);
+        self.given = given;
         Ok(Opened {
             study,
             plan: copy,
@@ -274,11 +309,7 @@ impl<D: Disk + Drop, K: Tally> Slot<D, K> {
         ensures part { result.1.parts ≡ 1 }
         ensures calls { result.1.amount ≡ calls_told result.0.history }
     {
-        let Slot {
-            book,
-            kept,
-            stopped: _,
-        } = self;
+        let Slot { book, kept, .. } = self;
         let Some(book) = book else {
             return (SlotReport::new(None, false), kept);
         };
@@ -322,6 +353,13 @@ impl<D: Disk + Drop, K: Tally> Slot<D, K> {
             Some(book) => book.piece(number),
             None => None,
         }
+    }
+}
+
+/// Notes that the line of a cell was given.
+fn remember(given: &mut Vec<bool>, cell: u32) {
+    if let Some(is_given) = given.get_mut(cell as usize) {
+        *is_given = true;
     }
 }
 

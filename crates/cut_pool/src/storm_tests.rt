@@ -109,7 +109,27 @@ fn ask_row<M: Tally, K: Tally, R: Wait>(
     }
 }
 
-/// Works on an opened study until a cell is done, and asks for its line.
+/// Asks once more for the line of a cell, which was given.
+fn ask_again<M: Tally, K: Tally, R: Wait>(
+    rt: &R,
+    alloc: Global,
+    hall: &Stormy<M, K>,
+    opened: &Opened,
+    study: Study,
+    cell: u32,
+) -> End
+    requires { opened.now.study < hall.now.slots }
+{
+    if cell >= opened.plan.cells() {
+        return End::Wrong;
+    }
+    match hall.given_row(rt, alloc, opened, cell) {
+        Ok(Some(line)) => end_of_line(study, cell, line.as_slice()),
+        _ => End::Wrong,
+    }
+}
+
+/// Works on an opened study until a cell is done, and asks for its line, twice where it comes.
 fn make_row<M: Tally, K: Tally, R: Wait>(
     rt: &R,
     alloc: Global,
@@ -124,7 +144,10 @@ fn make_row<M: Tally, K: Tally, R: Wait>(
     ensures { pass.new.hall ≡ pass.old.hall }
 {
     hall.work_towards(rt, alloc, pass, &OpenGate, opened.study, cell, &mut None);
-    ask_row(rt, alloc, hall, pass, opened, study, cell)
+    match ask_row(rt, alloc, hall, pass, opened, study, cell) {
+        End::Line => ask_again(rt, alloc, hall, opened, study, cell),
+        end => end,
+    }
 }
 
 /// Tells a piece of a slot's study lost.
