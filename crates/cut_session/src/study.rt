@@ -1,6 +1,7 @@
-ghost use Rattle.std.specs.Prelude.{◌≡◌, ◌+◌, ◌^◌, ◌<◌, ◌≤◌, ◌↔◌, IfOk};
+ghost use Rattle.std.specs.Prelude.{◌≡◌, ◌+◌, ◌^◌, ◌<◌, ◌≤◌, ◌↔◌, length, IfOk};
 ghost use Rattle.cut_plan.specs.Cells.{cells_of};
 ghost use Rattle.cut_table.specs.Traffic.{after_write};
+ghost use Rattle.cut_pool.specs.Lines.{full_line};
 ghost use Rattle.cut_session.specs.Answering.{AnswersPlan, AnswersText};
 ghost use Rattle.cut_session.specs.Serving.{Replies};
 
@@ -10,7 +11,7 @@ use cut_disks::Disk;
 use cut_faults::FaultCode;
 use cut_lines::header;
 use cut_plan::{Plan, PlanFault};
-use cut_pool::{Hall, Opened, Pass, Shelf, Tally};
+use cut_pool::{Hall, LineFault, Opened, Pass, Shelf, Tally};
 use cut_table::{Sent, Wire};
 use std::alloc::Global;
 use std::sync::Wait;
@@ -88,7 +89,7 @@ where
         Err(part) => return Err(part),
     };
     for cell in 0..cells {
-        let line = match hall.next_row(rt, alloc, pass, opened, cell) {
+        let line = match line_of(rt, alloc, hall, pass, opened, cell) {
             Ok(line) => line,
             Err(fault) => return send_fault(wire, sent, fault.code()),
         };
@@ -98,4 +99,32 @@ where
         };
     }
     send_after(wire, sent, Kind::Done, &[])
+}
+
+/// The line of a cell of an opened study: once more where it was given before, and else as soon as it is there.
+fn line_of<D, M, K, R>(
+    rt: &R,
+    alloc: Global,
+    hall: &Hall<D, M, K>,
+    pass: &mut Pass<M>,
+    opened: &Opened,
+    cell: u32,
+) -> Result<Vec<u8>, LineFault>
+where
+    D: Disk + Drop,
+    M: Tally,
+    K: Tally,
+    R: Wait,
+    requires own { pass.old.hall ≡ hall.now.id }
+    requires slot { opened.now.study < hall.now.slots }
+    requires cell { cell < length (cells_of opened.now.plan) }
+    ensures line { IfOk result (λ line. line.items ≡ full_line opened.now.plan opened.now.base cell) }
+    ensures short { IfOk result (λ line. length line.items ≤ 273) }
+    ensures own { pass.new.hall ≡ pass.old.hall }
+    ensures view { pass.new.view ≡ pass.old.view }
+{
+    if let Some(line) = hall.given_row(rt, alloc, opened, cell)? {
+        return Ok(line);
+    }
+    hall.next_row(rt, alloc, pass, opened, cell)
 }

@@ -10,6 +10,7 @@ mod drawn;
 mod halls;
 mod serving;
 mod vectors;
+mod worker;
 
 use vectors::{Stream, sessions};
 
@@ -21,14 +22,26 @@ struct Said {
     end: String,
 }
 
-fn from_hex(alloc: Global, digits: &str) -> Result<Vec<u8>, Fail> {
+/// The bytes of words of hexadecimal digits. A word may tell how often its bytes stand: `20*3` is three blanks.
+fn from_hex(alloc: Global, words: &str) -> Result<Vec<u8>, Fail> {
     let mut bytes = Vec::new(alloc);
+    for word in words.split(' ') {
+        let (digits, times) = word.split_once('*').unwrap_or((word, "1"));
+        for _ in 0..times.parse().unwrap_or(0u32) {
+            push_hex(&mut bytes, digits)?;
+        }
+    }
+    Ok(bytes)
+}
+
+/// Adds the byte of each two digits.
+fn push_hex(bytes: &mut Vec<u8>, digits: &str) -> Result<(), Fail> {
     for pair in digits.as_bytes().chunks_exact(2) {
         let high = (pair[0] as char).to_digit(16).unwrap_or(0) as u8;
         let low = (pair[1] as char).to_digit(16).unwrap_or(0) as u8;
         bytes.push(high.wrapping_mul(16).wrapping_add(low))?;
     }
-    Ok(bytes)
+    Ok(())
 }
 
 fn tell(alloc: Global, text: &mut String, letter: u8, length: usize) -> Result<(), Fail> {

@@ -17,7 +17,7 @@ const OTHER: &[u8] =
     br#"{"copies":1,"dead":"silent","f":[0],"faults":"crash","h":[1],"implicit":true,"k":[1],"l":[1],"liars":1,"links":0,"nodes":5,"repeats":1,"seed":"0000000000000000000000000000000000000000000000000000000000000000","version":1}"#;
 
 /// What is sent in front of either plan, then the question for the count of slot 0, and that nothing follows.
-const SUBMIT: &[u8] = b"R\0\0\0\xdd";
+pub(super) const SUBMIT: &[u8] = b"R\0\0\0\xdd";
 
 const ASK: &[u8] = b"S\0\0\0\x04\0\0\0\0";
 
@@ -65,7 +65,8 @@ fn is_front(taken: &[u8], replies: &[u8], before: usize, frame: &[u8]) -> bool {
     front.len() == before && replies.starts_with(front) && behind == frame
 }
 
-fn told(alloc: Global, end: SessionEnd) -> Result<String, AllocError> {
+/// The word for an end, with its number.
+pub(super) fn told(alloc: Global, end: SessionEnd) -> Result<String, AllocError> {
     match end {
         SessionEnd::Quit => String::from_str(alloc, "Quit"),
         SessionEnd::EndOfInput => String::from_str(alloc, "EndOfInput"),

@@ -4,7 +4,6 @@ use Rattle.cut_plan.specs.Values.{Values}
 use Rattle.cut_table.specs.Traffic.{Traffic}
 use Rattle.cut_ledger.specs.declared.slip.Slip.{Slip}
 use Rattle.cut_session.specs.declared.kind.Kind.TheVariants as kind
-use Rattle.cut_pool.specs.Pass.{Holding}
 use Rattle.cut_pool.specs.Lines.{full_line}
 use Rattle.cut_session.proofs.Sendings.{long_first, long_next, frame_sends, first_rows, next_rows, cut_rows, whole_table, broken_off}
 use Rattle.cut_session.proofs.study.send_table.Goals as goal
@@ -19,13 +18,13 @@ returns-in-Err-clause-told g c = λ told.
     (first_rows plan base c.args.before (Err c.in-Err.part) c.header.result.now old new c.header.ensures tt
     c.in-Err.ensures.err (c.in-Err.ensures.told told))
 
-pub returns-in-Err-next_row-clause-told : goal.returns-in-Err-next_row-clause-told
-returns-in-Err-next_row-clause-told g c = λ told.
+pub returns-in-Err-line_of-clause-told : goal.returns-in-Err-line_of-clause-told
+returns-in-Err-line_of-clause-told g c = λ told.
     let plan : Values = c.args.opened.now.plan in
     let base : List Slip = c.args.opened.now.base in
     let low : c.loop-cell.cell < length (cells_of plan) =
     omega (arith, c.loop-cell-test.true, c.cells-cells.ensures.value) in
-    broken_off plan base c.loop-cell.cell c.args.before c.loop-cell.sent c.send_fault.result c.in-Err-next_row.fault
+    broken_off plan base c.loop-cell.cell c.args.before c.loop-cell.sent c.send_fault.result c.in-Err-line_of.fault
     c.code.result (g.W.Wire.traffic c.args.wire.now) (g.W.Wire.traffic c.loop-cell.wire)
     (g.W.Wire.traffic c.send_fault.new.wire) low c.code.ensures c.loop-cell.invariant.count
     (c.loop-cell.invariant.told told) (c.send_fault.ensures.told (c.loop-cell.invariant.tells.0 told))
@@ -41,7 +40,7 @@ returns-in-Err-send_after-clause-told g c = λ told.
     let low : n + 1 ≤ length (cells_of plan) =
     omega (arith, c.loop-cell-test.true, c.cells-cells.ensures.value) in
     let is : c.as_slice.result.now ≡ full_line plan base n =
-    c.as_slice.ensures.value ∙ c.in-Ok-next_row.ensures.line in
+    c.as_slice.ensures.value ∙ c.in-Ok-line_of.ensures.line in
     cut_rows plan base (n + 1) c.args.before c.in-Err-send_after.part old new low
     (next_rows plan base n c.args.before c.loop-cell.sent (Err c.in-Err-send_after.part) c.as_slice.result.now old mid
     new is c.loop-cell.invariant.count
@@ -72,9 +71,9 @@ loop-cell-preserved g c =
     let base : List Slip = c.args.opened.now.base in
     let n : ℕ = c.loop-cell.cell in
     let line : List ℕ = c.as_slice.result.now in
-    let is : line ≡ full_line plan base n = c.as_slice.ensures.value ∙ c.in-Ok-next_row.ensures.line in
+    let is : line ≡ full_line plan base n = c.as_slice.ensures.value ∙ c.in-Ok-line_of.ensures.line in
     let short : length line ≤ 273 =
-    omega (arith, c.in-Ok-next_row.ensures.short, ap (λ (l : List ℕ). length l) c.as_slice.ensures.value) in
+    omega (arith, c.in-Ok-line_of.ensures.short, ap (λ (l : List ℕ). length l) c.as_slice.ensures.value) in
     record {
       count = omega (
         arith,
@@ -88,8 +87,8 @@ loop-cell-preserved g c =
           (g.W.Wire.traffic c.send_after-in-loop-cell.new.wire) is c.loop-cell.invariant.count
           (c.loop-cell.invariant.told told) c.in-Ok-send_after.ensures.ok tt
           (c.in-Ok-send_after.ensures.told (c.loop-cell.invariant.tells.0 told))).took;
-      own = ap (λ (p : Holding). p.hall) c.in-Ok-next_row.ensures.pass ∙ c.loop-cell.invariant.own;
-      view = ap (λ (p : Holding). p.view) c.in-Ok-next_row.ensures.pass ∙ c.loop-cell.invariant.view;
+      own = c.in-Ok-line_of.ensures.own ∙ c.loop-cell.invariant.own;
+      view = c.in-Ok-line_of.ensures.view ∙ c.loop-cell.invariant.view;
       tells = (
         λ t. c.in-Ok-send_after.ensures.tells.0 (c.loop-cell.invariant.tells.0 t),
         λ t. c.loop-cell.invariant.tells.1 (c.in-Ok-send_after.ensures.tells.1 t),
