@@ -1,3 +1,4 @@
 pub mod EdgeLemmas
 pub mod RankLemmas
 pub mod Legal
+pub mod Deafness

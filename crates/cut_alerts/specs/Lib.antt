@@ -3,3 +3,4 @@ pub mod Assignment
 pub mod Drawn
 pub mod Alerted
 pub mod Given
+pub mod Laws

@@ -8,6 +8,7 @@
 mod alerted;
 mod fault;
 mod given;
+pub mod laws;
 mod role;
 mod roles;
 

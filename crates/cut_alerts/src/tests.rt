@@ -209,7 +209,7 @@ fn check_drawn(
         targets,
         liars,
         links,
-        plan.faults(),
+        plan.faults().ok_or("targets that fail in one way")?,
         plan.dead(),
     )?;
     assert!(rt; drawn.nodes() == nodes && given.nodes() == nodes);

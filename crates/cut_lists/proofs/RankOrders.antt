@@ -50,6 +50,17 @@ ranks-differ {R} total exact n p q low high apart same = by (R p q) refl
         let back : R q p ≡ Less = total.antisymm q p ∙ ap ordering_reverse is in
         omega (arith, rank-less total (range_with_len 0 n) q p (below n q high) back, same)
 
+-- numbers of one rank are one
+pub ranks-tell : {R : ℕ → ℕ → Ordering} → IsTotalOrder R → CmpEqualImpliesEq R → (n p q : ℕ) → p < n → q < n
+    → rank_of R n p ≡ rank_of R n q → p ≡ q
+ranks-tell total exact n p q low high same = elim (cases_lt p q) [
+  | inl less ↦ absurd (ranks-differ total exact n p q low high (λ e. omega (arith, less, e)) same)
+  | inr most ↦ elim (cases_lt q p) [
+    | inl more ↦ absurd (ranks-differ total exact n p q low high (λ e. omega (arith, more, e)) same)
+    | inr least ↦ omega (arith, most, least)
+  ]
+]
+
 pub ranks-are_all : {R : ℕ → ℕ → Ordering} → IsTotalOrder R → CmpEqualImpliesEq R → (n : ℕ)
     → IsOrder n (map (rank_of R n) (range_with_len 0 n))
 ranks-are_all {R} total exact n =

@@ -14,13 +14,14 @@ use Rattle.serde_json.specs.Written.{outline, items_outline, members_outline}
 use Rattle.serde_json.proofs.Numbers.{number_of-decimal}
 use Rattle.serde_json.proofs.Texts.{print-outline}
 use Rattle.cut_plan.specs.declared.field.Field.{Field}
+use Rattle.cut_plan.specs.Versions.{version_of}
 use Rattle.cut_plan.specs.Values.{Values}
 use Rattle.cut_plan.specs.Plan.{IsPlan}
-use Rattle.cut_plan.specs.Fields.{name_of, all_fields}
+use Rattle.cut_plan.specs.Fields.{name_of, fields_of}
 use Rattle.cut_plan.specs.Datum.{Datum, one, many, word, truth, json_of, number_data}
 use Rattle.cut_plan.specs.Canonical.{datum, field_data, members_with, data_of, canonical_text}
 use Rattle.cut_plan.proofs.Tame.{AreSmall, IsTame, tame}
-use Rattle.cut_plan.proofs.Writing.{with_all_fields}
+use Rattle.cut_plan.proofs.Writing.{with_own_fields}
 
 -- ---- what is read of a printed value
 
@@ -87,15 +88,15 @@ members_read v plan (field ∷ fields) found = rw (tame_reads (datum v field) (t
 -- the value that was built reads back
 data_numbers : (v : Values) → IsPlan v → HasNumbers (outline (data_of v))
 unfolding data_of
-data_numbers v plan = members_numbers v plan all_fields
+data_numbers v plan = members_numbers v plan (fields_of (version_of v.failing))
 
 data_shallow : (v : Values) → depth (outline (data_of v)) ≤ 127
 unfolding data_of
-data_shallow v = let shallow = members_shallow v all_fields in omega (arith, shallow)
+data_shallow v = let shallow = members_shallow v (fields_of (version_of v.failing)) in omega (arith, shallow)
 
 data_reads : (v : Values) → IsPlan v → of_json (outline (data_of v)) ≡ Some (data_of v)
 unfolding data_of
-data_reads v plan = ap (option_map object) (members_read v plan all_fields no_members) ∙ ap Some (with_all_fields v)
+data_reads v plan = ap (option_map object) (members_read v plan (fields_of (version_of v.failing)) no_members) ∙ ap Some (with_own_fields v)
 
 pub canonical_reads : (v : Values) → IsPlan v → read (canonical_text v) ≡ Some (data_of v)
 unfolding canonical_text

@@ -5,11 +5,13 @@ use Rattle.std.specs.List.{AllByRecursion, list_all, find}
 use Rattle.serde_json.specs.Data.{Data}
 use Rattle.cut_plan.specs.declared.refusal.Refusal.{Refusal}
 use Rattle.cut_plan.specs.declared.field.Field.{Field}
-use Rattle.cut_plan.specs.declared.field.Field.TheVariants.{Copies, Dead, F, Faults, H, Implicit, K, L, Liars, Links, Nodes, Repeats, Seed, Version}
-use Rattle.cut_plan.specs.Fields.{all_fields, number_at, numbers_at}
-use Rattle.cut_plan.specs.Accepted.{is_present, is_of_kind, is_in_range, is_in_scale, has_some, rises_at, wanted, fault_at, each, field_check}
+use Rattle.cut_plan.specs.declared.field.Field.TheVariants.{F, H, K, L, Nodes}
+use Rattle.cut_plan.specs.declared.version.Version.{Version}
+use Rattle.cut_plan.specs.Fields.{fields_of, number_at, numbers_at}
+use Rattle.cut_plan.specs.Accepted.{is_present, is_of_kind, is_in_range, is_in_scale, has_some, rises_at, wanted, fault_at, each, version_in, checks_by, field_check}
 use Rattle.cut_plan.specs.Plan.{all_within}
 use Rattle.cut_plan.specs.Look.{AreBelow}
+use Rattle.cut_plan.proofs.Versions.{has, every_field}
 
 pub wanted_ok : {A : Type 0} (b : Bool) (fault : Refusal) (later : Result A Refusal) (x : A) → wanted b fault later ≡ Ok x → (b ≡ true) × (later ≡ Ok x)
 wanted_ok true fault later x h = (refl, h)
@@ -29,46 +31,32 @@ find_none holds (field ∷ fields) h =
     let parts = find_cons holds (holds field) field _ h in
     (parts.0, find_none holds fields parts.1)
 
-pub every_field : (P : Field → Type 0) → AllByRecursion P all_fields → (field : Field) → P field
-unfolding all_fields
-every_field P h Copies = h.0
-every_field P h Dead = h.1.0
-every_field P h F = h.1.1.0
-every_field P h Faults = h.1.1.1.0
-every_field P h H = h.1.1.1.1.0
-every_field P h Implicit = h.1.1.1.1.1.0
-every_field P h K = h.1.1.1.1.1.1.0
-every_field P h L = h.1.1.1.1.1.1.1.0
-every_field P h Liars = h.1.1.1.1.1.1.1.1.0
-every_field P h Links = h.1.1.1.1.1.1.1.1.1.0
-every_field P h Nodes = h.1.1.1.1.1.1.1.1.1.1.0
-every_field P h Repeats = h.1.1.1.1.1.1.1.1.1.1.1.0
-every_field P h Seed = h.1.1.1.1.1.1.1.1.1.1.1.1.0
-every_field P h Version = h.1.1.1.1.1.1.1.1.1.1.1.1.1.0
+each_ok : {A : Type 0} (version : Version) (holds : Field → Bool) (fault : Field → Refusal) (later : Result A Refusal) (x : A) → each version holds fault later ≡ Ok x
+    → ((field : Field) → has field version ≡ true → holds field ≡ true) × (later ≡ Ok x)
+each_ok version holds fault later x h =
+    let parts = fault_at_ok (find (λ field. not (holds field)) (fields_of version)) fault later x h in
+    (every_field version (λ field. holds field ≡ true) (find_none holds (fields_of version) parts.0), parts.1)
 
-each_ok : {A : Type 0} (holds : Field → Bool) (fault : Field → Refusal) (later : Result A Refusal) (x : A) → each holds fault later ≡ Ok x
-    → ((field : Field) → holds field ≡ true) × (later ≡ Ok x)
-each_ok holds fault later x h =
-    let parts = fault_at_ok (find (λ field. not (holds field)) all_fields) fault later x h in
-    (every_field (λ field. holds field ≡ true) (find_none holds all_fields parts.0), parts.1)
+-- an object whose fields passed the checks by those of a version
+pub record IsChecked (version : Version) (d : Data) : Type 0 where
+  pub present : (field : Field) → has field version ≡ true → is_present d field ≡ true
+  pub kinds : (field : Field) → has field version ≡ true → is_of_kind d field ≡ true
+  pub ranges : (field : Field) → has field version ≡ true → is_in_range d field ≡ true
+  pub rises : (field : Field) → has field version ≡ true → rises_at d field ≡ true
 
--- an object whose fields passed the checks
-pub record IsChecked (d : Data) : Type 0 where
-  pub present : (field : Field) → is_present d field ≡ true
-  pub kinds : (field : Field) → is_of_kind d field ≡ true
-  pub ranges : (field : Field) → is_in_range d field ≡ true
-  pub rises : (field : Field) → rises_at d field ≡ true
-
-pub checked_facts : (d : Data) → field_check d ≡ Ok tt → IsChecked d
-unfolding field_check
-checked_facts d h =
-    let an_object = wanted_ok _ _ _ tt h in
-    let named = wanted_ok _ _ _ tt an_object.1 in
-    let present = each_ok (is_present d) _ _ tt named.1 in
-    let kinds = each_ok (is_of_kind d) _ _ tt present.1 in
-    let ranges = each_ok (is_in_range d) _ _ tt kinds.1 in
-    let rises = each_ok (rises_at d) _ _ tt ranges.1 in
+facts_by : (version : Version) (d : Data) → checks_by version d ≡ Ok tt → IsChecked version d
+unfolding checks_by
+facts_by version d h =
+    let named = wanted_ok _ _ _ tt h in
+    let present = each_ok version (is_present d) _ _ tt named.1 in
+    let kinds = each_ok version (is_of_kind d) _ _ tt present.1 in
+    let ranges = each_ok version (is_in_range d) _ _ tt kinds.1 in
+    let rises = each_ok version (rises_at d) _ _ tt ranges.1 in
     record { present = present.0; kinds = kinds.0; ranges = ranges.0; rises = rises.0 }
+
+pub checked_facts : (d : Data) → field_check d ≡ Ok tt → IsChecked (version_in d) d
+unfolding field_check
+checked_facts d h = facts_by (version_in d) d (wanted_ok _ _ _ tt h).1
 
 -- a number within bounds
 pub within_bounds : (low high n : ℕ) → (nat_le low n && nat_le n high) ≡ true → (low ≤ n) × (n ≤ high)
@@ -96,19 +84,17 @@ below_at bound [] i some h = some
 below_at bound (x ∷ xs) zero some h = ltb-true x bound (and_parts (nat_lt x bound) _ h).0
 below_at bound (x ∷ xs) (suc i) some h = below_at bound xs i some (and_parts (nat_lt x bound) _ h).1
 
-pub few_nodes : (d : Data) → IsChecked d → (2 ≤ number_at d Nodes) × (number_at d Nodes ≤ 2048)
-few_nodes d known = within_bounds 2 2048 (number_at d Nodes) (known.ranges Nodes)
+pub few_nodes : (d : Data) → field_check d ≡ Ok tt → (2 ≤ number_at d Nodes) × (number_at d Nodes ≤ 2048)
+few_nodes d h = within_bounds 2 2048 (number_at d Nodes) ((checked_facts d h).ranges Nodes refl)
 
 pub h_bytes : (d : Data) → field_check d ≡ Ok tt → AreBelow 256 (numbers_at d H)
-h_bytes d h = scale_bytes (numbers_at d H) ((checked_facts d h).ranges H)
+h_bytes d h = scale_bytes (numbers_at d H) ((checked_facts d h).ranges H refl)
 
 pub k_bytes : (d : Data) → field_check d ≡ Ok tt → AreBelow 256 (numbers_at d K)
-k_bytes d h = scale_bytes (numbers_at d K) ((checked_facts d h).ranges K)
+k_bytes d h = scale_bytes (numbers_at d K) ((checked_facts d h).ranges K refl)
 
 pub l_bytes : (d : Data) → field_check d ≡ Ok tt → AreBelow 256 (numbers_at d L)
-l_bytes d h = scale_bytes (numbers_at d L) ((checked_facts d h).ranges L)
+l_bytes d h = scale_bytes (numbers_at d L) ((checked_facts d h).ranges L refl)
 
 pub f_shorts : (d : Data) → field_check d ≡ Ok tt → AreBelow 65536 (numbers_at d F)
-f_shorts d h =
-    let known = checked_facts d h in
-    failed_shorts (number_at d Nodes) (numbers_at d F) (few_nodes d known).1 (known.ranges F)
+f_shorts d h = failed_shorts (number_at d Nodes) (numbers_at d F) (few_nodes d h).1 ((checked_facts d h).ranges F refl)

@@ -3,22 +3,23 @@ use Rattle.std.proofs.Common.{◌≡◌, ℕ, ◌^◌, ◌+◌, ◌*◌, ◌≤�
 use Rattle.std.proofs.lemmas.Bool.{and_parts, leb-true}
 use Rattle.std.proofs.lemmas.Fmt.{IsAscii-decimal, length-decimal-le}
 use Rattle.std.proofs.lemmas.Str.{IsUtf8-nil, IsUtf8-from_ascii}
-use Rattle.std.specs.List.{list_all}
 use Rattle.json.specs.Print.{escape_byte, escape, quoted, escape_letter}
 use Rattle.json.proofs.Printed.Utf8.{IsUtf8-quoted}
 use Rattle.serde_json.specs.Data.{boolean}
 use Rattle.serde_json.specs.View.{items_of}
 use Rattle.serde_json.specs.Written.{compact_text, items_text, members_text, comma_if}
 use Rattle.cut_plan.specs.declared.field.Field.{Field}
+use Rattle.cut_plan.specs.declared.field.Field.TheVariants as field
+use Rattle.cut_plan.specs.declared.version.Version.{Version}
+use Rattle.cut_plan.specs.declared.version.Version.TheVariants.{One, Two}
+use Rattle.cut_plan.specs.Versions.{version_of}
 use Rattle.cut_plan.specs.declared.kind.Kind.{Kind}
 use Rattle.cut_plan.specs.declared.kind.Kind.TheVariants.{Number, Numbers, Text, Truth}
 use Rattle.cut_plan.specs.Values.{Values}
 use Rattle.cut_plan.specs.Plan.{IsPlan}
-use Rattle.cut_plan.specs.Fields.{name_of, kind_of, all_fields}
+use Rattle.cut_plan.specs.Fields.{name_of, kind_of, fields_of}
 use Rattle.cut_plan.specs.Datum.{Datum, one, many, word, truth, kind_in, json_of, number_data}
 use Rattle.cut_plan.specs.Canonical.{datum, field_data, members_with, data_of, canonical_text}
-use Rattle.cut_plan.proofs.Every.{every-list_all}
-use Rattle.cut_plan.proofs.Checked.{every_field}
 use Rattle.cut_plan.proofs.Members.{kind_at}
 use Rattle.cut_plan.proofs.Tame.{IsPlain, plain_more, plain_both, are_ascii, tested, one_byte, AreSmall, IsTame, tame}
 
@@ -57,14 +58,26 @@ plain_quoted n xs plain =
 abbrev is_short_name : Field → Bool
 is_short_name field = are_ascii (name_of field) && nat_le (length (name_of field)) 8
 
-short_names : list_all is_short_name all_fields ≡ true
-unfolding all_fields
-short_names = refl
+short_name : (field : Field) → is_short_name field ≡ true
+short_name field.Copies = refl
+short_name field.Dead = refl
+short_name field.Deaf = refl
+short_name field.F = refl
+short_name field.Faults = refl
+short_name field.H = refl
+short_name field.Implicit = refl
+short_name field.K = refl
+short_name field.L = refl
+short_name field.Liars = refl
+short_name field.Links = refl
+short_name field.Nodes = refl
+short_name field.Repeats = refl
+short_name field.Seed = refl
+short_name field.Version = refl
 
 plain_name : (field : Field) → IsPlain 8 (name_of field)
 plain_name field =
-    let short = every_field (λ f. is_short_name f ≡ true) (every-list_all is_short_name (λ f. is_short_name f ≡ true) (λ f e. e) all_fields short_names) field in
-    let parts = and_parts (are_ascii (name_of field)) (nat_le (length (name_of field)) 8) short in
+    let parts = and_parts (are_ascii (name_of field)) (nat_le (length (name_of field)) 8) (short_name field) in
     record { utf8 = tested (name_of field) parts.0; short = leb-true (length (name_of field)) 8 parts.1 }
 
 -- ---- lists of numbers
@@ -128,12 +141,14 @@ plain_members v plan later (field ∷ fields) =
     plain_member later (name_of field) (compact_text (field_data v field)) (members_text true (members_with v fields)) (most_of field) (most_with fields)
     (plain_name field) (plain_field v plan field) (plain_members v plan true fields)
 
-few_with : 1 + most_with all_fields ≤ 65536
-unfolding all_fields
-few_with = omega arith
+few_with : (version : Version) → 1 + most_with (fields_of version) ≤ 65536
+unfolding fields_of
+few_with One = omega arith
+few_with Two = omega arith
 
 pub canonical_plain : (v : Values) → IsPlan v → IsPlain 65536 (canonical_text v)
 unfolding canonical_text data_of
 canonical_plain v plan =
-    plain_more (1 + most_with all_fields) 65536 (123 ∷ members_text false (members_with v all_fields)) few_with
-    (plain_both 1 (most_with all_fields) (123 ∷ []) (members_text false (members_with v all_fields)) (one_byte 123 refl) (plain_members v plan false all_fields))
+    let fields = fields_of (version_of v.failing) in
+    plain_more (1 + most_with fields) 65536 (123 ∷ members_text false (members_with v fields)) (few_with (version_of v.failing))
+    (plain_both 1 (most_with fields) (123 ∷ []) (members_text false (members_with v fields)) (one_byte 123 refl) (plain_members v plan false fields))

@@ -1,5 +1,6 @@
 pub mod Every
 pub mod CellFacts
+pub mod Versions
 pub mod Looking
 pub mod Rising
 pub mod Checked
@@ -16,3 +17,4 @@ pub mod RoundTrip
 pub mod Among
 pub mod CellOrder
 pub mod PlansFromTexts
+pub mod Upgrades

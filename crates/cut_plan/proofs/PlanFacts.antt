@@ -1,5 +1,5 @@
 -- What is known of a plan whose checks were passed.
-use Rattle.std.proofs.Common.{◌≡◌, ℕ, suc, ◌+◌, ◌≤◌, ◌<◌, ◌&&◌, List, [], ◌∷◌, length, max, true, nat_lt, nat_le, Result, Ok, Err, refl, sym, ◌∙◌, arith}
+use Rattle.std.proofs.Common.{◌≡◌, ℕ, suc, ◌+◌, ◌≤◌, ◌<◌, ◌&&◌, List, [], ◌∷◌, length, max, true, nat_lt, nat_le, Result, Ok, Err, refl, sym, subst, ◌∙◌, arith}
 use Rattle.std.proofs.lemmas.Bool.{and_parts, ltb-true, leb-true, lt-ltb}
 use Rattle.std.specs.List.{AllByRecursion, list_all, fold}
 use Rattle.std.specs.Option.{unwrap_or}
@@ -8,14 +8,17 @@ use Rattle.hex.specs.Hex.{decode_sized, IsBytes}
 use Rattle.hex.specs.declared.error.FromHexError.{FromHexError}
 use Rattle.hex.proofs.HexLemmas.{decode_sized-ok, decode_sized-twice, decode_of-ok}
 use Rattle.serde_json.specs.Data.{Data}
-use Rattle.cut_plan.specs.declared.field.Field.TheVariants.{Copies, F, H, K, L, Liars, Links, Nodes, Repeats, Seed, Version}
+use Rattle.cut_plan.specs.declared.field.Field.TheVariants.{Copies, Deaf, F, H, K, L, Liars, Links, Nodes, Repeats, Seed}
+use Rattle.cut_plan.specs.declared.version.Version.{Version}
+use Rattle.cut_plan.specs.declared.version.Version.TheVariants.{One, Two}
+use Rattle.cut_plan.specs.Versions.{deaf_in}
 use Rattle.cut_plan.specs.Fields.{number_at, numbers_at, text_at}
-use Rattle.cut_plan.specs.Accepted.{is_in_scale, has_some, field_check, limit_check, limits, values_in}
+use Rattle.cut_plan.specs.Accepted.{is_in_scale, has_some, datum_at, version_in, failing_by, field_check, limit_check, limits, values_in}
 use Rattle.cut_plan.specs.Cells.{cells_of, largest}
 use Rattle.cut_plan.specs.Values.{Values}
 use Rattle.cut_plan.specs.Plan.{all_within, is_rising, IsScale, IsPlan}
 use Rattle.cut_plan.proofs.Every.{every-list_all, every_below_fold}
-use Rattle.cut_plan.proofs.Checked.{checked_facts, wanted_ok, within_bounds}
+use Rattle.cut_plan.proofs.Checked.{IsChecked, checked_facts, wanted_ok, within_bounds}
 use Rattle.cut_plan.proofs.Counting.{rising_length}
 
 -- a list of ring numbers or watermarks has at most 32
@@ -36,27 +39,36 @@ failed_length nodes xs all rises =
     omega (arith, room)
 
 pub few_h : (d : Data) → field_check d ≡ Ok tt → length (numbers_at d H) ≤ 32
-few_h d h = let known = checked_facts d h in scale_length (numbers_at d H) (known.ranges H) (known.rises H)
+few_h d h = let known = checked_facts d h in scale_length (numbers_at d H) (known.ranges H refl) (known.rises H refl)
 
 pub few_k : (d : Data) → field_check d ≡ Ok tt → length (numbers_at d K) ≤ 32
-few_k d h = let known = checked_facts d h in scale_length (numbers_at d K) (known.ranges K) (known.rises K)
+few_k d h = let known = checked_facts d h in scale_length (numbers_at d K) (known.ranges K refl) (known.rises K refl)
 
 pub few_l : (d : Data) → field_check d ≡ Ok tt → length (numbers_at d L) ≤ 32
-few_l d h = let known = checked_facts d h in scale_length (numbers_at d L) (known.ranges L) (known.rises L)
+few_l d h = let known = checked_facts d h in scale_length (numbers_at d L) (known.ranges L refl) (known.rises L refl)
 
 pub few_f : (d : Data) → field_check d ≡ Ok tt → length (numbers_at d F) ≤ 2048
 few_f d h =
     let known = checked_facts d h in
-    let bounds = within_bounds 2 2048 (number_at d Nodes) (known.ranges Nodes) in
-    let all = (and_parts (has_some (numbers_at d F)) (list_all (λ f. nat_lt f (number_at d Nodes)) (numbers_at d F)) (known.ranges F)).1 in
-    let short = failed_length (number_at d Nodes) (numbers_at d F) all (known.rises F) in
+    let bounds = within_bounds 2 2048 (number_at d Nodes) (known.ranges Nodes refl) in
+    let all = (and_parts (has_some (numbers_at d F)) (list_all (λ f. nat_lt f (number_at d Nodes)) (numbers_at d F)) (known.ranges F refl)).1 in
+    let short = failed_length (number_at d Nodes) (numbers_at d F) all (known.rises F refl) in
     omega (arith, short, bounds.1)
 
+pub few_deaf : (version : Version) (d : Data) → IsChecked version d → unwrap_or (deaf_in (failing_by version (datum_at d))) 0 ≤ 2048
+few_deaf One d known = omega arith
+few_deaf Two d known = (within_bounds 0 2048 (number_at d Deaf) (known.ranges Deaf refl)).1
+
+pub deaf_below : (d : Data) → field_check d ≡ Ok tt → version_in d ≡ Two → number_at d Deaf ≤ 2048
+deaf_below d h second =
+    let known : IsChecked Two d = subst (λ version. IsChecked version d) second (checked_facts d h) in
+    (within_bounds 0 2048 (number_at d Deaf) (known.ranges Deaf refl)).1
+
 pub few_liars : (d : Data) → field_check d ≡ Ok tt → number_at d Liars ≤ 2048
-few_liars d h = (within_bounds 0 2048 (number_at d Liars) ((checked_facts d h).ranges Liars)).1
+few_liars d h = (within_bounds 0 2048 (number_at d Liars) ((checked_facts d h).ranges Liars refl)).1
 
 pub few_links : (d : Data) → field_check d ≡ Ok tt → number_at d Links ≤ 2048
-few_links d h = (within_bounds 0 2048 (number_at d Links) ((checked_facts d h).ranges Links)).1
+few_links d h = (within_bounds 0 2048 (number_at d Links) ((checked_facts d h).ranges Links refl)).1
 
 -- ---- the facts of a plan
 
@@ -117,26 +129,25 @@ counted_facts v h = limits_ok (length (cells_of v)) (largest v.f + v.liars + v.l
 pub plan_facts : (d : Data) → field_check d ≡ Ok tt → limit_check (values_in d) ≡ Ok tt → IsPlan (values_in d)
 plan_facts d ok together =
     let known = checked_facts d ok in
-    let version = within_bounds 1 1 (number_at d Version) (known.ranges Version) in
-    let copies = within_bounds 1 4 (number_at d Copies) (known.ranges Copies) in
-    let nodes = within_bounds 2 2048 (number_at d Nodes) (known.ranges Nodes) in
-    let repeats = within_bounds 1 1000000 (number_at d Repeats) (known.ranges Repeats) in
-    let failed = and_parts (has_some (numbers_at d F)) (list_all (λ f. nat_lt f (number_at d Nodes)) (numbers_at d F)) (known.ranges F) in
-    let seed = seed_facts (text_at d Seed) (known.ranges Seed) in
-    let rings = scale_top (numbers_at d K) (known.ranges K) in
+    let copies = within_bounds 1 4 (number_at d Copies) (known.ranges Copies refl) in
+    let nodes = within_bounds 2 2048 (number_at d Nodes) (known.ranges Nodes refl) in
+    let repeats = within_bounds 1 1000000 (number_at d Repeats) (known.ranges Repeats refl) in
+    let failed = and_parts (has_some (numbers_at d F)) (list_all (λ f. nat_lt f (number_at d Nodes)) (numbers_at d F)) (known.ranges F refl) in
+    let seed = seed_facts (text_at d Seed) (known.ranges Seed refl) in
+    let rings = scale_top (numbers_at d K) (known.ranges K refl) in
     let counts = counted_facts (values_in d) together in
     record {
-      version = omega (arith, version.0, version.1);
       some_copies = copies.0;
       few_copies = copies.1;
-      ks = scale_facts (numbers_at d K) (known.ranges K) (known.rises K);
-      hs = scale_facts (numbers_at d H) (known.ranges H) (known.rises H);
-      ls = scale_facts (numbers_at d L) (known.ranges L) (known.rises L);
+      deaf = few_deaf (version_in d) d known;
+      ks = scale_facts (numbers_at d K) (known.ranges K refl) (known.rises K refl);
+      hs = scale_facts (numbers_at d H) (known.ranges H refl) (known.rises H refl);
+      ls = scale_facts (numbers_at d L) (known.ranges L refl) (known.rises L refl);
       most_rings = rings.0;
       some_ring = rings.1;
       some_f = ltb-true 0 (length (numbers_at d F)) failed.0;
       fs = failed.1;
-      fs_rising = known.rises F;
+      fs_rising = known.rises F refl;
       liars = few_liars d ok;
       links = few_links d ok;
       some_nodes = nodes.0;
@@ -151,10 +162,10 @@ plan_facts d ok together =
     }
 
 pub few_copies : (d : Data) → field_check d ≡ Ok tt → number_at d Copies ≤ 4
-few_copies d h = (within_bounds 1 4 (number_at d Copies) ((checked_facts d h).ranges Copies)).1
+few_copies d h = (within_bounds 1 4 (number_at d Copies) ((checked_facts d h).ranges Copies refl)).1
 
 pub few_processes : (d : Data) → field_check d ≡ Ok tt → number_at d Nodes ≤ 2048
-few_processes d h = (within_bounds 2 2048 (number_at d Nodes) ((checked_facts d h).ranges Nodes)).1
+few_processes d h = (within_bounds 2 2048 (number_at d Nodes) ((checked_facts d h).ranges Nodes refl)).1
 
 pub few_repeats : (d : Data) → field_check d ≡ Ok tt → number_at d Repeats ≤ 1000000
-few_repeats d h = (within_bounds 1 1000000 (number_at d Repeats) ((checked_facts d h).ranges Repeats)).1
+few_repeats d h = (within_bounds 1 1000000 (number_at d Repeats) ((checked_facts d h).ranges Repeats refl)).1

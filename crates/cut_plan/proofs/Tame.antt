@@ -1,5 +1,5 @@
 -- What every plan says in each field: small numbers, short lists that rise, short texts, each in the field's range.
-use Rattle.std.proofs.Common.{◌≡◌, ℕ, ◌+◌, ◌≤◌, ◌<◌, List, [], ◌∷◌, ◌++◌, length, length-append, Bool, true, nat_le, nat_lt, ◌&&◌, refl, arith}
+use Rattle.std.proofs.Common.{◌≡◌, ℕ, ◌+◌, ◌≤◌, ◌<◌, List, [], ◌∷◌, ◌++◌, length, length-append, Bool, true, nat_le, nat_lt, ◌&&◌, is_some, unwrap_or, refl, arith}
 use Rattle.std.proofs.lemmas.Bool.{and_from, ltb-true, lt-ltb, le-leb}
 use Rattle.std.proofs.lemmas.Str.{IsUtf8-append, IsUtf8-from_ascii}
 use Rattle.std.proofs.lemmas.Str.Ascii.{IsAscii-nil, IsAscii-cons}
@@ -12,15 +12,20 @@ use Rattle.cut_plan.specs.declared.field.Field.{Field}
 use Rattle.cut_plan.specs.declared.field.Field.TheVariants as field
 use Rattle.cut_plan.specs.declared.dead.Dead.{Dead}
 use Rattle.cut_plan.specs.declared.dead.Dead.TheVariants.{Silent, Speak}
-use Rattle.cut_plan.specs.declared.faults.Faults.{Faults}
 use Rattle.cut_plan.specs.declared.faults.Faults.TheVariants.{Crash, Deaf}
+use Rattle.cut_plan.specs.declared.failing.Failing.{Failing}
+use Rattle.cut_plan.specs.declared.failing.Failing.TheVariants.{Alike, Mixed}
+use Rattle.cut_plan.specs.declared.version.Version.{Version}
+use Rattle.cut_plan.specs.declared.version.Version.TheVariants.{One, Two}
+use Rattle.cut_plan.specs.Versions.{version_number, version_of, deaf_in, faults_text}
 use Rattle.cut_plan.specs.Values.{Values}
 use Rattle.cut_plan.specs.Plan.{IsPlan, IsScale, all_within, is_rising}
-use Rattle.cut_plan.specs.Words.{dead_word, faults_word}
+use Rattle.cut_plan.specs.Words.{dead_word, faults_word, faults_of}
 use Rattle.cut_plan.specs.Datum.{Datum, one, many, word, truth}
 use Rattle.cut_plan.specs.Accepted.{in_range, is_in_scale, has_some, is_within}
 use Rattle.cut_plan.specs.Canonical.{datum}
 use Rattle.cut_plan.proofs.Every.{every-list_all}
+use Rattle.cut_plan.proofs.Versions.{has}
 use Rattle.cut_plan.proofs.Checked.{within_bounds}
 use Rattle.cut_plan.proofs.PlanFacts.{scale_length, failed_length}
 use Rattle.cut_plan.proofs.Members.{dead_back, faults_back, seed_back}
@@ -62,9 +67,10 @@ plain_dead : (dead : Dead) → IsPlain 64 (dead_word dead)
 plain_dead Silent = record { utf8 = tested (dead_word Silent) refl; short = omega arith }
 plain_dead Speak = record { utf8 = tested (dead_word Speak) refl; short = omega arith }
 
-plain_faults : (faults : Faults) → IsPlain 64 (faults_word faults)
-plain_faults Crash = record { utf8 = tested (faults_word Crash) refl; short = omega arith }
-plain_faults Deaf = record { utf8 = tested (faults_word Deaf) refl; short = omega arith }
+plain_faults : (failing : Failing) → IsPlain 64 (faults_text failing)
+plain_faults (Alike Crash) = record { utf8 = tested (faults_word Crash) refl; short = omega arith }
+plain_faults (Alike Deaf) = record { utf8 = tested (faults_word Deaf) refl; short = omega arith }
+plain_faults (Mixed deaf) = record { utf8 = tested [] refl; short = omega arith }
 
 plain_seed : (v : Values) → IsPlan v → IsPlain 64 (encode_lower v.seed)
 plain_seed v plan =
@@ -121,18 +127,32 @@ within low high n above below = and_from (nat_le low n) (nat_le n high) (le-leb 
 some_failed : (v : Values) → IsPlan v → (has_some v.f && list_all (λ f. nat_lt f v.nodes) v.f) ≡ true
 some_failed v plan = and_from (has_some v.f) (list_all (λ f. nat_lt f v.nodes) v.f) (lt-ltb 0 (length v.f) plan.some_f) plan.fs
 
-pub tame : (v : Values) → IsPlan v → (field : Field) → IsTame (datum v field) × (in_range (datum v) field ≡ true)
-tame v plan field.Copies = let top = plan.few_copies in (omega arith, within 1 4 v.copies plan.some_copies top)
-tame v plan field.Dead = (plain_dead v.dead, rw (dead_back v.dead) refl)
-tame v plan field.F = (failed_short v plan, some_failed v plan)
-tame v plan field.Faults = (plain_faults v.faults, rw (faults_back v.faults) refl)
-tame v plan field.H = (scale_short v.h plan.hs, scale_back v.h plan.hs)
-tame v plan field.Implicit = (tt, refl)
-tame v plan field.K = (scale_short v.k plan.ks, scale_back v.k plan.ks)
-tame v plan field.L = (scale_short v.l plan.ls, scale_back v.l plan.ls)
-tame v plan field.Liars = let top = plan.liars in (omega arith, within 0 2048 v.liars (omega arith) top)
-tame v plan field.Links = let top = plan.links in (omega arith, within 0 2048 v.links (omega arith) top)
-tame v plan field.Nodes = let top = plan.few_nodes in (omega arith, within 2 2048 v.nodes plan.some_nodes top)
-tame v plan field.Repeats = let top = plan.few_repeats in (omega arith, within 1 1000000 v.repeats plan.some_repeats top)
-tame v plan field.Seed = (plain_seed v plan, rw (seed_back v plan) refl)
-tame v plan field.Version = let only = plan.version in (omega arith, within 1 1 v.version (omega arith) (omega arith))
+faults_known : (failing : Failing) → has field.Faults (version_of failing) ≡ true → is_some (faults_of (faults_text failing)) ≡ true
+faults_known (Alike faults) own = rw (faults_back faults) refl
+faults_known (Mixed deaf) own = cc own
+
+version_within : (version : Version) → (1 ≤ version_number version) × (version_number version ≤ 2)
+version_within One = (omega arith, omega arith)
+version_within Two = (omega arith, omega arith)
+
+-- what a plan says in each field is small and short, and, of a field of its version, in range
+pub tame : (v : Values) → IsPlan v → (field : Field) → IsTame (datum v field) × (has field (version_of v.failing) ≡ true → in_range (datum v) field ≡ true)
+tame v plan field.Copies = let top = plan.few_copies in (omega arith, λ own. within 1 4 v.copies plan.some_copies top)
+tame v plan field.Dead = (plain_dead v.dead, λ own. rw (dead_back v.dead) refl)
+tame v plan field.Deaf =
+    let top = plan.deaf in
+    (omega (arith, top), λ own. within 0 2048 (unwrap_or (deaf_in v.failing) 0) (omega arith) top)
+tame v plan field.F = (failed_short v plan, λ own. some_failed v plan)
+tame v plan field.Faults = (plain_faults v.failing, λ own. faults_known v.failing own)
+tame v plan field.H = (scale_short v.h plan.hs, λ own. scale_back v.h plan.hs)
+tame v plan field.Implicit = (tt, λ own. refl)
+tame v plan field.K = (scale_short v.k plan.ks, λ own. scale_back v.k plan.ks)
+tame v plan field.L = (scale_short v.l plan.ls, λ own. scale_back v.l plan.ls)
+tame v plan field.Liars = let top = plan.liars in (omega arith, λ own. within 0 2048 v.liars (omega arith) top)
+tame v plan field.Links = let top = plan.links in (omega arith, λ own. within 0 2048 v.links (omega arith) top)
+tame v plan field.Nodes = let top = plan.few_nodes in (omega arith, λ own. within 2 2048 v.nodes plan.some_nodes top)
+tame v plan field.Repeats = let top = plan.few_repeats in (omega arith, λ own. within 1 1000000 v.repeats plan.some_repeats top)
+tame v plan field.Seed = (plain_seed v plan, λ own. rw (seed_back v plan) refl)
+tame v plan field.Version =
+    let bounds = version_within (version_of v.failing) in
+    (omega (arith, bounds.1), λ own. within 1 2 (version_number (version_of v.failing)) bounds.0 bounds.1)

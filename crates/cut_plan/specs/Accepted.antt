@@ -16,11 +16,16 @@ use Rattle.cut_plan.specs.declared.field.Field.TheVariants as field
 use Rattle.cut_plan.specs.declared.dead.Dead.TheVariants.{Silent}
 use Rattle.cut_plan.specs.declared.faults.Faults.TheVariants.{Crash}
 use Rattle.cut_plan.specs.Words.{dead_of, faults_of}
+use Rattle.cut_plan.specs.declared.failing.Failing.{Failing}
+use Rattle.cut_plan.specs.declared.failing.Failing.TheVariants.{Alike, Mixed}
+use Rattle.cut_plan.specs.declared.version.Version.{Version}
+use Rattle.cut_plan.specs.declared.version.Version.TheVariants.{One, Two}
+use Rattle.cut_plan.specs.Versions.{version_by}
 use Rattle.cut_plan.specs.Values.{Values}
 use Rattle.cut_plan.specs.Cells.{cells_of, largest}
 use Rattle.cut_plan.specs.Plan.{all_within, is_rising}
 use Rattle.cut_plan.specs.Datum.{Datum, datum_in, number_of, numbers_of, text_of, truth_of}
-use Rattle.cut_plan.specs.Fields.{name_of, all_fields, is_named, kind_of, keys, is_of, member_at, numbers_at}
+use Rattle.cut_plan.specs.Fields.{name_of, fields_of, is_named, kind_of, keys, is_of, member_at, number_at, numbers_at}
 
 -- ---- what is asked of each field
 
@@ -53,6 +58,7 @@ datum_at d field = datum_in (kind_of field) (member_at d field)
 abbrev pub in_range : (Field → Datum) → Field → Bool
 in_range at field.Copies = is_within 1 4 (number_of (at field.Copies))
 in_range at field.Dead = is_some (dead_of (text_of (at field.Dead)))
+in_range at field.Deaf = is_within 0 2048 (number_of (at field.Deaf))
 in_range at field.F = has_some (numbers_of (at field.F)) && list_all (λ f. nat_lt f (number_of (at field.Nodes))) (numbers_of (at field.F))
 in_range at field.Faults = is_some (faults_of (text_of (at field.Faults)))
 in_range at field.H = is_in_scale (numbers_of (at field.H))
@@ -64,7 +70,7 @@ in_range at field.Links = is_within 0 2048 (number_of (at field.Links))
 in_range at field.Nodes = is_within 2 2048 (number_of (at field.Nodes))
 in_range at field.Repeats = is_within 1 1000000 (number_of (at field.Repeats))
 in_range at field.Seed = is_ok (decode_sized (text_of (at field.Seed)) 32)
-in_range at field.Version = is_within 1 1 (number_of (at field.Version))
+in_range at field.Version = is_within 1 2 (number_of (at field.Version))
 
 -- whether the field's value, which is of the field's kind, is in the field's range
 abbrev pub is_in_range : Data → Field → Bool
@@ -85,24 +91,36 @@ abbrev pub fault_at : {A : Type 0} → Option Field → (Field → Refusal) → 
 fault_at None fault later = later
 fault_at (Some field) fault later = Err (fault field)
 
--- the fault of the first field of which the test fails, else what comes after
-abbrev pub each : {A : Type 0} → (Field → Bool) → (Field → Refusal) → Result A Refusal → Result A Refusal
-each holds fault later = fault_at (find (λ field. not (holds field)) all_fields) fault later
+-- the fault of the first field of a version of which the test fails, else what comes after
+abbrev pub each : {A : Type 0} → Version → (Field → Bool) → (Field → Refusal) → Result A Refusal → Result A Refusal
+each version holds fault later = fault_at (find (λ field. not (holds field)) (fields_of version)) fault later
+
+-- the version by whose fields an object is checked: 2 where its version is the whole number 2, and else 1
+abbrev pub version_in : Data → Version
+version_in d = version_by (number_at d field.Version)
+
+-- the checks on an object's fields by those of a version
+unfoldable pub checks_by : Version → Data → Result ⊤ Refusal
+checks_by version d =
+    wanted (list_all (is_named version) (keys d)) UnknownField
+    (each version (is_present d) MissingField
+    (each version (is_of_kind d) WrongKind
+    (each version (is_in_range d) OutOfRange
+    (each version (rises_at d) NotRising
+    (Ok tt)))))
 
 -- the checks on the object's fields, which take no memory
 unfoldable pub field_check : Data → Result ⊤ Refusal
-field_check d =
-    wanted (is_some (as_object d)) NotObject
-    (wanted (list_all is_named (keys d)) UnknownField
-    (each (is_present d) MissingField
-    (each (is_of_kind d) WrongKind
-    (each (is_in_range d) OutOfRange
-    (each (rises_at d) NotRising
-    (Ok tt))))))
+field_check d = wanted (is_some (as_object d)) NotObject (checks_by (version_in d) d)
 
 -- an object whose fields passed the checks
 abbrev pub IsChecked : Data → Type 0
 IsChecked d = field_check d ≡ Ok tt
+
+-- what fields of a version say of how targets fail
+abbrev pub failing_by : Version → (Field → Datum) → Failing
+failing_by One at = Alike (unwrap_or (faults_of (text_of (at field.Faults))) Crash)
+failing_by Two at = Mixed (number_of (at field.Deaf))
 
 -- the values that fields say
 abbrev pub values_at : (Field → Datum) → Values
@@ -110,7 +128,7 @@ values_at at = record {
   copies = number_of (at field.Copies);
   dead = unwrap_or (dead_of (text_of (at field.Dead))) Silent;
   f = numbers_of (at field.F);
-  faults = unwrap_or (faults_of (text_of (at field.Faults))) Crash;
+  failing = failing_by (version_by (number_of (at field.Version))) at;
   h = numbers_of (at field.H);
   implicit = truth_of (at field.Implicit);
   k = numbers_of (at field.K);
@@ -120,7 +138,6 @@ values_at at = record {
   nodes = number_of (at field.Nodes);
   repeats = number_of (at field.Repeats);
   seed = unwrap_or (result_ok (decode_sized (text_of (at field.Seed)) 32)) [];
-  version = number_of (at field.Version);
 }
 
 -- what the object's fields say

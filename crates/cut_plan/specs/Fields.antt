@@ -5,7 +5,9 @@ use Rattle.std.specs.Str.{bytes_eq}
 use Rattle.serde_json.specs.Data.{Data, null, Items, no_items, item, Members, no_members, member}
 use Rattle.serde_json.specs.Find.{get, as_bool, as_number, as_str, as_array, as_object, as_u64}
 use Rattle.cut_plan.specs.declared.field.Field.{Field}
-use Rattle.cut_plan.specs.declared.field.Field.TheVariants.{Copies, Dead, F, Faults, H, Implicit, K, L, Liars, Links, Nodes, Repeats, Seed, Version}
+use Rattle.cut_plan.specs.declared.field.Field.TheVariants.{Copies, Dead, Deaf, F, Faults, H, Implicit, K, L, Liars, Links, Nodes, Repeats, Seed, Version}
+use Rattle.cut_plan.specs.declared.version.Version as format
+use Rattle.cut_plan.specs.declared.version.Version.TheVariants.{One, Two}
 use Rattle.cut_plan.specs.declared.kind.Kind.{Kind}
 use Rattle.cut_plan.specs.declared.kind.Kind.TheVariants.{Number, Numbers, Text, Truth}
 
@@ -13,6 +15,7 @@ use Rattle.cut_plan.specs.declared.kind.Kind.TheVariants.{Number, Numbers, Text,
 abbrev pub name_of : Field → List ℕ
 name_of Copies = codes "copies"
 name_of Dead = codes "dead"
+name_of Deaf = codes "deaf"
 name_of F = codes "f"
 name_of Faults = codes "faults"
 name_of H = codes "h"
@@ -26,18 +29,29 @@ name_of Repeats = codes "repeats"
 name_of Seed = codes "seed"
 name_of Version = codes "version"
 
--- every field, in byte order of the names
-unfoldable pub all_fields : List Field
-all_fields = Copies ∷ Dead ∷ F ∷ Faults ∷ H ∷ Implicit ∷ K ∷ L ∷ Liars ∷ Links ∷ Nodes ∷ Repeats ∷ Seed ∷ Version ∷ []
+-- the third field of a version
+abbrev pub third : format.Version → Field
+third One = F
+third Two = Deaf
 
--- whether a text is the name of a field
-abbrev pub is_named : List ℕ → Bool
-is_named name = list_any (λ field. bytes_eq (name_of field) name) all_fields
+-- the fourth field of a version
+abbrev pub fourth : format.Version → Field
+fourth One = Faults
+fourth Two = F
+
+-- every field of a version, in byte order of the names: version 1 has faults, version 2 has deaf in its place
+unfoldable pub fields_of : format.Version → List Field
+fields_of version = Copies ∷ Dead ∷ third version ∷ fourth version ∷ H ∷ Implicit ∷ K ∷ L ∷ Liars ∷ Links ∷ Nodes ∷ Repeats ∷ Seed ∷ Version ∷ []
+
+-- whether a text is the name of a field of a version
+abbrev pub is_named : format.Version → List ℕ → Bool
+is_named version name = list_any (λ field. bytes_eq (name_of field) name) (fields_of version)
 
 -- the kind of a field's value
 abbrev pub kind_of : Field → Kind
 kind_of Copies = Number
 kind_of Dead = Text
+kind_of Deaf = Number
 kind_of F = Numbers
 kind_of Faults = Text
 kind_of H = Numbers

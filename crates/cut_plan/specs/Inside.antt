@@ -11,7 +11,7 @@ values_of p = record {
   copies = p.copies;
   dead = p.dead;
   f = p.f.items;
-  faults = p.faults;
+  failing = p.failing;
   h = p.h.items;
   implicit = p.implicit;
   k = p.k.items;
@@ -21,7 +21,6 @@ values_of p = record {
   nodes = p.nodes;
   repeats = p.repeats;
   seed = p.seed;
-  version = p.version;
 }
 
 -- the values are those of an accepted plan, and the cells are theirs

@@ -1,4 +1,5 @@
 pub mod Words
+pub mod Versions
 pub mod Values
 pub mod Cells
 pub mod Targets

@@ -1,6 +1,7 @@
 -- What is known of every accepted plan.
-use Rattle.std.specs.Prelude.{◌≡◌, ℕ, ◌+◌, ◌≤◌, ◌<◌, ◌&&◌, List, [], ◌∷◌, length, Bool, true, nat_le, nat_lt, IsTrue}
+use Rattle.std.specs.Prelude.{◌≡◌, ℕ, ◌+◌, ◌≤◌, ◌<◌, ◌&&◌, List, [], ◌∷◌, length, Bool, true, nat_le, nat_lt, IsTrue, unwrap_or}
 use Rattle.std.specs.List.{list_all}
+use Rattle.cut_plan.specs.Versions.{deaf_in}
 use Rattle.cut_plan.specs.Values.{Values}
 use Rattle.cut_plan.specs.Cells.{cells_of, largest}
 
@@ -22,9 +23,9 @@ pub record IsScale (xs : List ℕ) : Type 0 where
 
 -- an accepted plan: every value in its range, at least one cell, and no more of anything than allowed
 pub record IsPlan (v : Values) : Type 0 where
-  pub version : v.version ≡ 1
   pub some_copies : 1 ≤ v.copies
   pub few_copies : v.copies ≤ 4
+  pub deaf : unwrap_or (deaf_in v.failing) 0 ≤ 2048
   pub ks : IsScale v.k
   pub hs : IsScale v.h
   pub ls : IsScale v.l

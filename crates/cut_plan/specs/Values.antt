@@ -1,8 +1,8 @@
--- What a plan says: its fourteen named values. (This project's profile of the study in the Rapid
+-- What a plan says: its thirteen named values. (This project's profile of the study in the Rapid
 -- paper's section on the sensitivity to K, H and L.)
 use Rattle.std.specs.Prelude.{ℕ, List, Bool}
 use Rattle.cut_plan.specs.declared.dead.Dead.{Dead}
-use Rattle.cut_plan.specs.declared.faults.Faults.{Faults}
+use Rattle.cut_plan.specs.declared.failing.Failing.{Failing}
 
 pub record Values : Type 0 where
   -- how often each alert comes to each receiver
@@ -11,8 +11,8 @@ pub record Values : Type 0 where
   pub dead : Dead
   -- the numbers of failed processes to study
   pub f : List ℕ
-  -- how targets fail
-  pub faults : Faults
+  -- how targets fail, and by it the version of the plan's format
+  pub failing : Failing
   -- the high watermarks to study
   pub h : List ℕ
   -- whether implicit alerts are added
@@ -31,5 +31,3 @@ pub record Values : Type 0 where
   pub repeats : ℕ
   -- the 32 bytes from which rings and draws are made
   pub seed : List ℕ
-  -- the version of the plan's format
-  pub version : ℕ

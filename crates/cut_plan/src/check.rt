@@ -2,8 +2,8 @@
 ghost use Rattle.std.specs.Prelude.{◌≡◌, ◌&&◌, not, true, nat_lt, unwrap_or, Ok};
 ghost use Rattle.std.specs.List.{list_all, find};
 ghost use Rattle.serde_json.specs.View.{view};
-ghost use Rattle.cut_plan.specs.Fields.{all_fields, number_or_zero, text_at};
-ghost use Rattle.cut_plan.specs.Accepted.{is_present, is_of_kind, is_within, has_some, is_in_scale, is_in_range, rises_at, field_check};
+ghost use Rattle.cut_plan.specs.Fields.{fields_of, number_or_zero, text_at};
+ghost use Rattle.cut_plan.specs.Accepted.{IsChecked, datum_at, is_present, is_of_kind, is_within, has_some, is_in_scale, is_in_range, rises_at, version_in, failing_by, checks_by, field_check};
 ghost use Rattle.cut_plan.specs.Words.{dead_of, faults_of};
 ghost use Rattle.hex.specs.Hex.{decode_sized};
 ghost use Rattle.cut_plan.specs.declared.field.Field.TheVariants as field;
@@ -12,17 +12,16 @@ ghost use Rattle.cut_plan.specs.declared.faults.Faults.TheVariants.{Crash};
 ghost use Rattle.cut_plan.specs.Plan.{is_rising};
 ghost use Rattle.cut_plan.specs.Look.{item_numbers};
 
-use crate::field::all_fields;
+use crate::field::fields_of;
 use crate::object::{
     has_only_fields, is_of_kind, is_present, items_at, number_at, number_in, number_or_zero,
-    text_at,
+    text_at, version_in,
 };
-use crate::{Dead, Faults, Field, Refusal};
+use crate::{Dead, Failing, Faults, Field, Refusal, Version};
 use hex::FromHex;
 use serde_json::Value;
 
-/// Checks each field in turn: that the value is an object with exactly a plan's fields, and then
-/// the kind of each, the range of each, and that each list rises. It takes no memory.
+/// Checks that the value is an object, and then its fields by those of its version. It takes no memory.
 #[tactic(auto, unfolding(crate::specs::Accepted::field_check))]
 pub(crate) fn check(value: &Value) -> Result<(), Refusal>
     ensures { result ≡ field_check (view value.now) }
@@ -30,62 +29,71 @@ pub(crate) fn check(value: &Value) -> Result<(), Refusal>
     if !value.is_object() {
         return Err(Refusal::NotObject);
     }
-    if !has_only_fields(value) {
+    check_by(version_in(value), value)
+}
+
+/// Checks each field of a version in turn: that the object has exactly these, and then the kind of
+/// each, the range of each, and that each list rises.
+#[tactic(auto, unfolding(crate::specs::Accepted::checks_by))]
+fn check_by(version: Version, value: &Value) -> Result<(), Refusal>
+    ensures { result ≡ checks_by version (view value.now) }
+{
+    if !has_only_fields(version, value) {
         return Err(Refusal::UnknownField);
     }
-    if let Some(field) = first_missing(value) {
+    if let Some(field) = first_missing(version, value) {
         return Err(Refusal::MissingField(field));
     }
-    if let Some(field) = first_of_wrong_kind(value) {
+    if let Some(field) = first_of_wrong_kind(version, value) {
         return Err(Refusal::WrongKind(field));
     }
-    if let Some(field) = first_out_of_range(value) {
+    if let Some(field) = first_out_of_range(version, value) {
         return Err(Refusal::OutOfRange(field));
     }
-    if let Some(field) = first_not_rising(value) {
+    if let Some(field) = first_not_rising(version, value) {
         return Err(Refusal::NotRising(field));
     }
     Ok(())
 }
 
-/// The first field that the object lacks.
-fn first_missing(value: &Value) -> Option<Field>
-    ensures { result ≡ find (λ field. not (is_present (view value.now) field)) all_fields }
+/// The first field of a version that the object lacks.
+fn first_missing(version: Version, value: &Value) -> Option<Field>
+    ensures { result ≡ find (λ field. not (is_present (view value.now) field)) (fields_of version) }
 {
-    let fields = all_fields();
+    let fields = fields_of(version);
     fields
         .iter()
         .copied()
         .find(|field| !is_present(value, *field))
 }
 
-/// The first field whose value is of another kind.
-fn first_of_wrong_kind(value: &Value) -> Option<Field>
-    ensures { result ≡ find (λ field. not (is_of_kind (view value.now) field)) all_fields }
+/// The first field of a version whose value is of another kind.
+fn first_of_wrong_kind(version: Version, value: &Value) -> Option<Field>
+    ensures { result ≡ find (λ field. not (is_of_kind (view value.now) field)) (fields_of version) }
 {
-    let fields = all_fields();
+    let fields = fields_of(version);
     fields
         .iter()
         .copied()
         .find(|field| !is_of_kind(value, *field))
 }
 
-/// The first field whose value is out of its range.
-fn first_out_of_range(value: &Value) -> Option<Field>
-    ensures { result ≡ find (λ field. not (is_in_range (view value.now) field)) all_fields }
+/// The first field of a version whose value is out of its range.
+fn first_out_of_range(version: Version, value: &Value) -> Option<Field>
+    ensures { result ≡ find (λ field. not (is_in_range (view value.now) field)) (fields_of version) }
 {
-    let fields = all_fields();
+    let fields = fields_of(version);
     fields
         .iter()
         .copied()
         .find(|field| !is_in_range(value, *field))
 }
 
-/// The first field whose list does not rise.
-fn first_not_rising(value: &Value) -> Option<Field>
-    ensures { result ≡ find (λ field. not (rises_at (view value.now) field)) all_fields }
+/// The first field of a version whose list does not rise.
+fn first_not_rising(version: Version, value: &Value) -> Option<Field>
+    ensures { result ≡ find (λ field. not (rises_at (view value.now) field)) (fields_of version) }
 {
-    let fields = all_fields();
+    let fields = fields_of(version);
     fields
         .iter()
         .copied()
@@ -99,6 +107,7 @@ fn is_in_range(value: &Value, field: Field) -> bool
     match field {
         Field::Copies => is_within(1, 4, number_at(value, field)),
         Field::Dead => Dead::of_word(text_at(value, field)).is_some(),
+        Field::Deaf => is_within(0, 2048, number_at(value, field)),
         Field::F => are_below(items_at(value, field), number_at(value, Field::Nodes)),
         Field::Faults => Faults::of_word(text_at(value, field)).is_some(),
         Field::H | Field::K | Field::L => are_in_scale(items_at(value, field)),
@@ -107,7 +116,7 @@ fn is_in_range(value: &Value, field: Field) -> bool
         Field::Nodes => is_within(2, 2048, number_at(value, field)),
         Field::Repeats => is_within(1, 1_000_000, number_at(value, field)),
         Field::Seed => <[u8; 32] as FromHex>::from_hex(text_at(value, field)).is_ok(),
-        Field::Version => is_within(1, 1, number_at(value, field)),
+        Field::Version => is_within(1, 2, number_at(value, field)),
     }
 }
 
@@ -174,8 +183,19 @@ pub(crate) fn dead_at(value: &Value) -> Dead
     Dead::of_word(text_at(value, Field::Dead)).unwrap_or(Dead::Silent)
 }
 
+/// What an object whose fields were checked says of how targets fail.
+pub(crate) fn failing_at(value: &Value) -> Failing
+    requires { IsChecked (view value.now) }
+    ensures { result ≡ failing_by (version_in (view value.now)) (datum_at (view value.now)) }
+{
+    match version_in(value) {
+        Version::One => Failing::Alike(faults_at(value)),
+        Version::Two => Failing::Mixed(number_at(value, Field::Deaf) as u16),
+    }
+}
+
 /// The way in which targets fail that an object names.
-pub(crate) fn faults_at(value: &Value) -> Faults
+fn faults_at(value: &Value) -> Faults
     ensures { result ≡ unwrap_or (faults_of (text_at (view value.now) field.Faults)) Crash }
 {
     Faults::of_word(text_at(value, Field::Faults)).unwrap_or(Faults::Crash)

@@ -1,14 +1,17 @@
 ghost use Rattle.std.specs.Prelude.{◌≡◌, ◌≤◌, Some, length};
-ghost use Rattle.cut_plan.specs.Fields.{name_of, kind_of, all_fields};
+ghost use Rattle.cut_plan.specs.Fields.{name_of, kind_of, third, fourth, fields_of};
 
+use crate::Version;
 use crate::kind::Kind;
 use std::fmt;
 
-/// A field of a plan's JSON object. The variants stand in byte order of the fields' names.
+/// A field of a plan's JSON object. The variants stand in byte order of the fields' names. A plan of
+/// version 1 has all but `deaf`, and one of version 2 all but `faults`.
 #[derive(Clone, Copy, Debug, PartialEq, Eq)]
 pub enum Field {
     Copies,
     Dead,
+    Deaf,
     F,
     Faults,
     H,
@@ -32,6 +35,7 @@ impl Field {
         match self {
             Field::Copies => "copies",
             Field::Dead => "dead",
+            Field::Deaf => "deaf",
             Field::F => "f",
             Field::Faults => "faults",
             Field::H => "h",
@@ -53,6 +57,7 @@ impl Field {
     {
         match self {
             Field::Copies
+            | Field::Deaf
             | Field::Liars
             | Field::Links
             | Field::Nodes
@@ -73,16 +78,36 @@ impl fmt::Display for Field {
     }
 }
 
-/// Every field, in byte order of the names.
-#[tactic(auto, unfolding(crate::specs::Fields::all_fields))]
-pub(crate) fn all_fields() -> [Field; 14]
-    ensures { result ≡ all_fields }
+/// The third field of a version.
+fn third(version: Version) -> Field
+    ensures { result ≡ third version }
+{
+    match version {
+        Version::One => Field::F,
+        Version::Two => Field::Deaf,
+    }
+}
+
+/// The fourth field of a version.
+fn fourth(version: Version) -> Field
+    ensures { result ≡ fourth version }
+{
+    match version {
+        Version::One => Field::Faults,
+        Version::Two => Field::F,
+    }
+}
+
+/// Every field of a version, in byte order of the names.
+#[tactic(auto, unfolding(crate::specs::Fields::fields_of))]
+pub(crate) fn fields_of(version: Version) -> [Field; 14]
+    ensures { result ≡ fields_of version }
 {
     [
         Field::Copies,
         Field::Dead,
-        Field::F,
-        Field::Faults,
+        third(version),
+        fourth(version),
         Field::H,
         Field::Implicit,
         Field::K,

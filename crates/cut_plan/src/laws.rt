@@ -1,10 +1,12 @@
 //! Laws of plans, their cells and their texts.
 ghost use Rattle.std.specs.Prelude.{◌≡◌, ℕ, List, Ok};
+ghost use Rattle.std.specs.List.{Contains};
 ghost use Rattle.cut_plan.specs.Values.{Values};
 ghost use Rattle.cut_plan.specs.Plan.{IsPlan};
 ghost use Rattle.cut_plan.specs.Accepted.{plan_of};
 ghost use Rattle.cut_plan.specs.Canonical.{canonical_text};
 ghost use Rattle.cut_plan.specs.Combinations.{AreCombinations};
+ghost use Rattle.cut_plan.specs.Targets.{deaf_of, upgraded};
 
 /// What any accepted text says is a plan: each value in its range, each list rising, some cell, and
 /// no more of anything than allowed.
@@ -22,4 +24,11 @@ pub fn canonical_text_reads_back()
 /// the high one and that at most the number of rings, each once, in lexical order.
 pub fn cells_are_the_combinations()
     ensures { (v : Values) → IsPlan v → AreCombinations v }
+{}
+
+/// The upgrade of a plan is a plan, and for each number of failed processes that the plan studies as
+/// many of them are deaf.
+pub fn upgrades_fail_alike()
+    ensures plan { (v : Values) → IsPlan v → IsPlan (upgraded v) }
+    ensures deaf { (v : Values) (f : ℕ) → Contains v.f f → deaf_of (upgraded v) f ≡ deaf_of v f }
 {}

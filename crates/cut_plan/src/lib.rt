@@ -8,6 +8,7 @@ mod cell;
 mod check;
 mod combine;
 mod dead;
+mod failing;
 mod faults;
 mod field;
 mod kind;
@@ -17,15 +18,21 @@ mod object;
 mod plan;
 mod read;
 mod refusal;
+mod version;
 mod write;
 
 pub use cell::Cell;
 pub use dead::Dead;
+pub use failing::Failing;
 pub use faults::Faults;
 pub use field::Field;
-pub use laws::{accepted_texts_give_plans, canonical_text_reads_back, cells_are_the_combinations};
+pub use laws::{
+    accepted_texts_give_plans, canonical_text_reads_back, cells_are_the_combinations,
+    upgrades_fail_alike,
+};
 pub use plan::Plan;
 pub use refusal::{PlanFault, Refusal};
+pub use version::Version;
 
 #[cfg(test)]
 mod tests;

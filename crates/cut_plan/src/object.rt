@@ -5,12 +5,12 @@ ghost use Rattle.std.specs.List.{list_all};
 ghost use Rattle.std.specs.BTreeMap.{keys as keys_of};
 ghost use Rattle.serde_json.specs.View.{view};
 ghost use Rattle.cut_plan.specs.Fields.{whole_number, elements, is_of, number_or_zero, number_at, numbers_at, text_at, member_at, keys, is_named};
-ghost use Rattle.cut_plan.specs.Accepted.{is_present, is_of_kind};
+ghost use Rattle.cut_plan.specs.Accepted.{is_present, is_of_kind, version_in};
 ghost use Rattle.cut_plan.specs.Look.{item_numbers};
 
-use crate::Field;
-use crate::field::all_fields;
+use crate::field::fields_of;
 use crate::kind::Kind;
+use crate::{Field, Version};
 use serde_json::{Map, Value};
 
 /// Whether the object has the field.
@@ -114,27 +114,35 @@ pub(crate) fn text_at(value: &Value, field: Field) -> &str
         .unwrap_or("")
 }
 
-/// Whether a text is the name of a field.
-fn is_named(name: &str) -> bool
-    ensures { result ≡ is_named name.now }
+/// The version by whose fields an object is checked: 2 where its version is the whole number 2, and
+/// else 1.
+pub(crate) fn version_in(value: &Value) -> Version
+    ensures { result ≡ version_in (view value.now) }
 {
-    let fields = all_fields();
+    Version::by_number(number_at(value, Field::Version))
+}
+
+/// Whether a text is the name of a field of a version.
+fn is_named(version: Version, name: &str) -> bool
+    ensures { result ≡ is_named version name.now }
+{
+    let fields = fields_of(version);
     fields.iter().any(|field| field.name() == name)
 }
 
-/// Whether each of these keys is the name of a field.
-fn are_named(members: &Map<String, Value>) -> bool
-    ensures { result ≡ list_all (λ key. is_named (string_bytes key)) (keys_of members.now) }
+/// Whether each of these keys is the name of a field of a version.
+fn are_named(version: Version, members: &Map<String, Value>) -> bool
+    ensures { result ≡ list_all (λ key. is_named version (string_bytes key)) (keys_of members.now) }
 {
-    members.keys().all(|key| is_named(key.as_str()))
+    members.keys().all(|key| is_named(version, key.as_str()))
 }
 
-/// Whether each of the object's keys is the name of a field.
-pub(crate) fn has_only_fields(value: &Value) -> bool
-    ensures { result ≡ list_all is_named (keys (view value.now)) }
+/// Whether each of the object's keys is the name of a field of a version.
+pub(crate) fn has_only_fields(version: Version, value: &Value) -> bool
+    ensures { result ≡ list_all (is_named version) (keys (view value.now)) }
 {
     match value.as_object() {
-        Some(members) => are_named(members),
+        Some(members) => are_named(version, members),
         None => true,
     }
 }

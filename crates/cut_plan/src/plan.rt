@@ -6,30 +6,31 @@ ghost use Rattle.cut_plan.specs.Canonical.{canonical_text, data_of, field_data};
 ghost use Rattle.cut_plan.specs.Refusals.{IsToldOf};
 ghost use Rattle.cut_plan.specs.declared.refusal.PlanFault.TheVariants.{Refused};
 ghost use Rattle.cut_plan.specs.declared.refusal.Refusal.TheVariants.{NotJson, PlanTooLong};
-ghost use Rattle.cut_plan.specs.Cells.{cells_of, trial_count, IsCellOf};
+ghost use Rattle.cut_plan.specs.Cells.{cells_of, largest, trial_count, IsCellOf};
 ghost use Rattle.cut_plan.specs.Plan.{IsPlan};
-ghost use Rattle.cut_plan.specs.Targets.{deaf_of};
+ghost use Rattle.cut_plan.specs.Targets.{deaf_of, most_deaf, upgraded};
+ghost use Rattle.cut_plan.specs.Versions.{version_of, faults_in, deaf_in};
 
-use crate::check::{dead_at, faults_at, seed_at};
+use crate::check::{dead_at, failing_at, seed_at};
 use crate::combine::combine;
-use crate::field::all_fields;
+use crate::field::fields_of;
 use crate::make::{Lists, check_together, read_lists};
 use crate::object::{number_at, truth_at};
 use crate::read::read_text;
 use crate::write::{bytes_value, shorts_value};
-use crate::{Cell, Dead, Faults, Field, PlanFault, Refusal};
+use crate::{Cell, Dead, Failing, Faults, Field, PlanFault, Refusal, Version};
 use serde_json::{Map, Value};
 use std::alloc::{AllocError, Global};
 use std::marker::Model;
 use std::str;
 
-/// An accepted plan. Contracts see it as the record of its fourteen named values.
+/// An accepted plan. Contracts see it as the record of its thirteen named values.
 #[derive(Debug, Drop)]
 pub struct Plan {
     copies: u8,
     dead: Dead,
     f: Vec<u16>,
-    faults: Faults,
+    failing: Failing,
     h: Vec<u8>,
     implicit: bool,
     k: Vec<u8>,
@@ -39,7 +40,6 @@ pub struct Plan {
     nodes: u16,
     repeats: u32,
     seed: [u8; 32],
-    version: u64,
     cells: Vec<Cell>,
 }
 
@@ -96,7 +96,7 @@ impl Plan {
             copies: number_at(value, Field::Copies) as u8,
             dead: dead_at(value),
             f,
-            faults: faults_at(value),
+            failing: failing_at(value),
             h,
             implicit: truth_at(value, Field::Implicit),
             k,
@@ -106,7 +106,6 @@ impl Plan {
             nodes: number_at(value, Field::Nodes) as u16,
             repeats: number_at(value, Field::Repeats) as u32,
             seed: seed_at(value),
-            version: number_at(value, Field::Version),
             cells,
         })
     }
@@ -135,24 +134,35 @@ impl Plan {
         self.f.as_slice()
     }
 
-    /// How the targets fail.
-    pub fn faults(&self) -> Faults
-        ensures value { result ≡ self.now.faults }
+    /// The way in which all targets fail, which a plan of version 1 names.
+    pub fn faults(&self) -> Option<Faults>
+        ensures value { result ≡ faults_in self.now.failing }
         ensures plan { IsPlan self.now }
     {
-        self.faults
+        self.failing.faults()
     }
 
-    /// How many of `f` targets are deaf, the others having crashed: none where targets crash, and all
-    /// where they are deaf.
+    /// How many of a cell's targets are deaf, or all where it has fewer: a number that a plan of
+    /// version 2 has, at most 2048.
+    pub fn deaf(&self) -> Option<u16>
+        ensures value { result ≡ deaf_in self.now.failing }
+        ensures plan { IsPlan self.now }
+    {
+        self.failing.deaf()
+    }
+
+    /// How many of `f` targets are deaf, the others having crashed. In a plan of version 1: none where
+    /// targets crash, and all where they are deaf. In a plan of version 2: as many as it says, or all
+    /// where they are fewer.
     pub fn deaf_of(&self, f: u16) -> u16
         ensures value { result ≡ deaf_of self.now f }
         ensures most { result ≤ f }
         ensures plan { IsPlan self.now }
     {
-        match self.faults {
-            Faults::Crash => 0,
-            Faults::Deaf => f,
+        match self.failing {
+            Failing::Alike(Faults::Crash) => 0,
+            Failing::Alike(Faults::Deaf) => f,
+            Failing::Mixed(deaf) => deaf.min(f),
         }
     }
 
@@ -228,12 +238,12 @@ impl Plan {
         self.seed
     }
 
-    /// The version of the plan's format, 1.
-    pub fn version(&self) -> u64
-        ensures value { result ≡ self.now.version }
+    /// The version of the plan's format.
+    pub fn version(&self) -> Version
+        ensures value { result ≡ version_of self.now.failing }
         ensures plan { IsPlan self.now }
     {
-        self.version
+        self.failing.version()
     }
 
     /// How many cells the plan has, 1 to 4096.
@@ -280,7 +290,7 @@ impl Plan {
             copies: self.copies,
             dead: self.dead,
             f: Vec::from_slice(alloc, self.f.as_slice())?,
-            faults: self.faults,
+            failing: self.failing,
             h: Vec::from_slice(alloc, self.h.as_slice())?,
             implicit: self.implicit,
             k: Vec::from_slice(alloc, self.k.as_slice())?,
@@ -290,9 +300,39 @@ impl Plan {
             nodes: self.nodes,
             repeats: self.repeats,
             seed: self.seed,
-            version: self.version,
             cells: Vec::from_slice(alloc, self.cells.as_slice())?,
         })
+    }
+
+    /// The plan of version 2 whose targets fail in the same way, so that every trial has the same
+    /// outcome: none of them is deaf where they crash, and as many as the greatest number of failed
+    /// processes where they are deaf. Of a plan of version 2 it is a copy. Fails only for want of memory.
+    pub fn upgrade(&self, alloc: Global) -> Result<Plan, AllocError>
+        ensures value { IfOk result (λ p. p ≡ upgraded self.now) }
+    {
+        let mut plan = self.try_clone(alloc)?;
+        plan.failing = Failing::Mixed(self.most_deaf());
+        Ok(plan)
+    }
+
+    /// The number of deaf targets by which those of each of the plan's cells fail as they do: in a plan
+    /// of version 1, how many are deaf where most processes fail.
+    fn most_deaf(&self) -> u16
+        ensures value { result ≡ most_deaf self.now.failing self.now.f }
+        ensures most { result ≤ 2048 }
+    {
+        match self.failing {
+            Failing::Alike(_) => self.deaf_of(self.most_failed()),
+            Failing::Mixed(deaf) => deaf,
+        }
+    }
+
+    /// The greatest number of failed processes.
+    fn most_failed(&self) -> u16
+        ensures value { result ≡ largest self.now.f }
+        ensures most { result ≤ 2048 }
+    {
+        self.f.iter().fold(0, |most, f| most.max(*f))
     }
 
     /// Whether two plans say the same, that is, whether their canonical texts are equal.
@@ -312,7 +352,7 @@ impl Plan {
         self.copies == other.copies
             && self.dead == other.dead
             && self.f.as_slice() == other.f.as_slice()
-            && self.faults == other.faults
+            && self.failing == other.failing
             && self.h.as_slice() == other.h.as_slice()
             && self.implicit == other.implicit
             && self.k.as_slice() == other.k.as_slice()
@@ -322,7 +362,6 @@ impl Plan {
             && self.nodes == other.nodes
             && self.repeats == other.repeats
             && self.seed == other.seed
-            && self.version == other.version
     }
 
     /// The plan's one text: compact JSON, keys in byte order, the seed in lower-case digits. Two
@@ -337,7 +376,7 @@ impl Plan {
     fn to_value(&self, alloc: Global) -> Result<Value, AllocError>
         ensures { IfOk result (λ value. view value ≡ data_of self.now) }
     {
-        let fields = all_fields();
+        let fields = fields_of(self.version());
         let mut members = Map::new(alloc);
         for field in &fields {
             let value = self.field_value(alloc, *field)?;
@@ -353,8 +392,9 @@ impl Plan {
         match field {
             Field::Copies => Ok(Value::from(self.copies())),
             Field::Dead => Value::try_from_str(alloc, self.dead().word()),
+            Field::Deaf => Ok(Value::from(self.deaf().unwrap_or(0))),
             Field::F => shorts_value(alloc, self.f()),
-            Field::Faults => Value::try_from_str(alloc, self.faults().word()),
+            Field::Faults => Value::try_from_str(alloc, self.failing.word()),
             Field::H => bytes_value(alloc, self.h()),
             Field::Implicit => Ok(Value::from(self.implicit())),
             Field::K => bytes_value(alloc, self.k()),
@@ -364,7 +404,7 @@ impl Plan {
             Field::Nodes => Ok(Value::from(self.nodes())),
             Field::Repeats => Ok(Value::from(self.repeats())),
             Field::Seed => Ok(Value::from(hex::encode(alloc, &self.seed())?)),
-            Field::Version => Ok(Value::from(self.version())),
+            Field::Version => Ok(Value::from(self.version().number())),
         }
     }
 }

@@ -1,7 +1,7 @@
 mod fields;
 mod values;
 
-use crate::{Cell, Dead, Faults, Plan, PlanFault, Refusal};
+use crate::{Cell, Dead, Faults, Plan, PlanFault, Refusal, Version};
 use std::alloc::{AllocError, Global};
 use std::test::Fail;
 
@@ -17,6 +17,23 @@ const STRAIGHT: &str =
 
 const LARGE: &str =
     r#"{"copies":3,"dead":"speak","f":[2,4,8,16],"faults":"deaf","h":[6,7,8,9],"implicit":false,"k":[10],"l":[1,2,3,4],"liars":7,"links":9,"nodes":1999,"repeats":777777,"seed":"00112233445566778899aabbccddeeff00112233445566778899aabbccddeeff","version":1}"#;
+
+// The first plan in the second version: no target is deaf.
+const MIXED: &str =
+    r#"{"copies":1,"dead":"silent","deaf":0,"f":[1],"h":[1],"implicit":true,"k":[1],"l":[1],"liars":0,"links":0,"nodes":5,"repeats":2,"seed":"0000000000000000000000000000000000000000000000000000000000000000","version":2}"#;
+
+// Two plans of the second version, each with its one text, that were written apart from this program.
+const SOME_DEAF: &str =
+    r#"{"copies": 2, "dead": "silent", "implicit": true, "nodes": 10, "repeats": 1, "seed": "0Eb29Dacc23C9cfA69cfD97DcfcBaAEb3f0a2300e39B2f93cEB2a277b87AF294", "version": 2, "deaf": 1, "k": [3], "h": [1, 2, 3], "l": [1, 2, 3], "f": [3, 7], "liars": 1, "links": 1}"#;
+
+const SOME_DEAF_STRAIGHT: &str =
+    r#"{"copies":2,"dead":"silent","deaf":1,"f":[3,7],"h":[1,2,3],"implicit":true,"k":[3],"l":[1,2,3],"liars":1,"links":1,"nodes":10,"repeats":1,"seed":"0eb29dacc23c9cfa69cfd97dcfcbaaeb3f0a2300e39b2f93ceb2a277b87af294","version":2}"#;
+
+const MANY_DEAF: &str =
+    r#"{"copies": 4, "dead": "silent", "implicit": true, "nodes": 12, "repeats": 1, "seed": "D2E440c4A09DFbabACF4DEB2852bF9ea39D1383ab0b9FcB47Ca9FAB25afC4627", "version": 2, "deaf": 2048, "k": [1], "h": [1], "l": [1], "f": [1, 7], "liars": 1, "links": 0}"#;
+
+const MANY_DEAF_STRAIGHT: &str =
+    r#"{"copies":4,"dead":"silent","deaf":2048,"f":[1,7],"h":[1],"implicit":true,"k":[1],"l":[1],"liars":1,"links":0,"nodes":12,"repeats":1,"seed":"d2e440c4a09dfbabacf4deb2852bf9ea39d1383ab0b9fcb47ca9fab25afc4627","version":2}"#;
 
 // What is told of a text: its fault as it is printed.
 fn told(alloc: Global, text: &[u8]) -> Result<String, AllocError> {
@@ -73,7 +90,9 @@ fn refuses_by_the_first_fault(rt: HostRuntime) -> Result<(), Fail> {
         (r#""repeats":2"#, r#""repeats":1.0"#, "5 WrongKind repeats"),
         (r#""repeats":2"#, r#""repeats":1e0"#, "5 WrongKind repeats"),
         (r#""nodes":5"#, r#""nodes":1"#, "6 OutOfRange f"),
-        (r#""version":1"#, r#""version":2"#, "6 OutOfRange version"),
+        (r#""version":1"#, r#""version":3"#, "6 OutOfRange version"),
+        (r#""version":1"#, r#""version":2"#, "3 UnknownField"),
+        (r#""f":[1]"#, r#""deaf":0,"f":[1]"#, "3 UnknownField"),
         (r#""k":[1]"#, r#""k":[1,1]"#, "7 NotRising k"),
         (r#""h":[1]"#, r#""h":[3]"#, "8 NoCell"),
         (r#""liars":0"#, r#""liars":5"#, "9 TooManyFaults"),
@@ -92,6 +111,23 @@ fn refuses_by_the_first_fault(rt: HostRuntime) -> Result<(), Fail> {
     ];
     for (text, fault) in texts {
         assert_eq!(rt; told(alloc, text)?.as_str(), fault);
+    }
+    Ok(())
+}
+
+// A plan of the second version has a number of deaf targets in place of the word for how they fail.
+#[test]
+fn refuses_second_versions_by_their_first_fault(rt: HostRuntime) -> Result<(), Fail> {
+    let alloc = rt.alloc();
+    let rows = [
+        (r#""x""#, "", "accepted"),
+        (r#""deaf":0,"#, "", "4 MissingField deaf"),
+        (r#""deaf":0"#, r#""deaf":2048"#, "accepted"),
+        (r#""deaf":0"#, r#""deaf":2049"#, "6 OutOfRange deaf"),
+    ];
+    for (own, other, fault) in rows {
+        let text = String::from_str(alloc, MIXED)?.replace(alloc, own, other)?;
+        assert_eq!(rt; told(alloc, text.as_bytes())?.as_str(), fault, "{other}");
     }
     Ok(())
 }
@@ -138,7 +174,8 @@ fn tells_what_it_read(rt: HostRuntime) -> Result<(), Fail> {
     assert_eq!(rt; plan.copies(), 3);
     assert_eq!(rt; plan.dead(), Dead::Speak);
     assert!(rt; plan.f() == &[2, 4, 8, 16][..]);
-    assert_eq!(rt; plan.faults(), Faults::Deaf);
+    assert_eq!(rt; plan.faults(), Some(Faults::Deaf));
+    assert_eq!(rt; plan.deaf(), None);
     assert!(rt; plan.h() == &[6, 7, 8, 9][..]);
     assert!(rt; !plan.implicit());
     assert!(rt; plan.k() == &[10][..]);
@@ -147,7 +184,18 @@ fn tells_what_it_read(rt: HostRuntime) -> Result<(), Fail> {
     assert_eq!(rt; plan.nodes(), 1999);
     assert_eq!(rt; plan.repeats(), 777_777);
     assert_eq!(rt; (plan.seed()[1], plan.seed()[31]), (0x11, 0xff));
-    assert_eq!(rt; plan.version(), 1);
+    assert_eq!(rt; plan.version(), Version::One);
+    Ok(())
+}
+
+#[test]
+fn tells_what_it_read_of_the_second_version(rt: HostRuntime) -> Result<(), Fail> {
+    let plan = Plan::from_json(rt.alloc(), MANY_DEAF.as_bytes())?;
+    assert_eq!(rt; plan.version(), Version::Two);
+    assert_eq!(rt; plan.faults(), None);
+    assert_eq!(rt; plan.deaf(), Some(2048));
+    assert!(rt; plan.f() == &[1, 7][..]);
+    assert_eq!(rt; (Version::One.number(), Version::Two.number()), (1, 2));
     Ok(())
 }
 
@@ -158,6 +206,33 @@ fn counts_deaf_targets(rt: HostRuntime) -> Result<(), Fail> {
     assert_eq!(rt; (crash.deaf_of(0), crash.deaf_of(1)), (0, 0));
     let deaf = Plan::from_json(alloc, LARGE.as_bytes())?;
     assert_eq!(rt; (deaf.deaf_of(0), deaf.deaf_of(16)), (0, 16));
+    let none = Plan::from_json(alloc, MIXED.as_bytes())?;
+    assert_eq!(rt; (none.deaf_of(0), none.deaf_of(1)), (0, 0));
+    let one = Plan::from_json(alloc, SOME_DEAF.as_bytes())?;
+    assert_eq!(rt; (one.deaf_of(0), one.deaf_of(1), one.deaf_of(7)), (0, 1, 1));
+    let all = Plan::from_json(alloc, MANY_DEAF.as_bytes())?;
+    assert_eq!(rt; (all.deaf_of(0), all.deaf_of(7)), (0, 7));
+    Ok(())
+}
+
+#[test]
+fn upgrades_to_the_second_version(rt: HostRuntime) -> Result<(), Fail> {
+    let alloc = rt.alloc();
+    let all_deaf = String::from_str(alloc, LARGE)?
+        .replace(alloc, r#""faults":"deaf","#, "")?
+        .replace(alloc, r#""f":["#, r#""deaf":16,"f":["#)?
+        .replace(alloc, r#""version":1"#, r#""version":2"#)?;
+    let rows = [
+        (PLAN, MIXED),
+        (LARGE, all_deaf.as_str()),
+        (SOME_DEAF, SOME_DEAF_STRAIGHT),
+        (MANY_DEAF, MANY_DEAF_STRAIGHT),
+    ];
+    for (text, upgraded) in rows {
+        let plan = Plan::from_json(alloc, text.as_bytes())?;
+        let canonical = plan.upgrade(alloc)?.canonical(alloc)?;
+        assert!(rt; canonical.as_slice() == upgraded.as_bytes(), "{upgraded}");
+    }
     Ok(())
 }
 
@@ -186,8 +261,16 @@ fn lists_cells_in_order(rt: HostRuntime) -> Result<(), Fail> {
 #[test]
 fn writes_one_text(rt: HostRuntime) -> Result<(), Fail> {
     let alloc = rt.alloc();
-    assert_eq!(rt; PLAN.len(), 221);
-    for (text, canonical) in [(PLAN, PLAN), (SHUFFLED, STRAIGHT), (LARGE, LARGE)] {
+    assert_eq!(rt; (PLAN.len(), MIXED.len()), (221, 213));
+    let rows = [
+        (PLAN, PLAN),
+        (SHUFFLED, STRAIGHT),
+        (LARGE, LARGE),
+        (MIXED, MIXED),
+        (SOME_DEAF, SOME_DEAF_STRAIGHT),
+        (MANY_DEAF, MANY_DEAF_STRAIGHT),
+    ];
+    for (text, canonical) in rows {
         let plan = Plan::from_json(alloc, text.as_bytes())?;
         let written = plan.canonical(alloc)?;
         assert!(rt; written.as_slice() == canonical.as_bytes(), "{text}");
@@ -204,6 +287,9 @@ fn compares_and_copies(rt: HostRuntime) -> Result<(), Fail> {
     assert!(rt; plan.try_clone(alloc)?.same(&plan));
     assert!(rt; shuffled.same(&straight));
     assert!(rt; !plan.same(&straight));
+    let mixed = Plan::from_json(alloc, MIXED.as_bytes())?;
+    assert!(rt; mixed.try_clone(alloc)?.same(&mixed));
+    assert!(rt; !mixed.same(&plan));
     Ok(())
 }
 

@@ -1,9 +1,8 @@
 -- Where nothing fails, no edge is alerted. Where processes fail by crashes alone, only targets are alerted,
 -- so only targets are proposed; and where crashed observers speak, every receiver hears of each target on all
 -- rings, and proposes.
-use Rattle.std.proofs.Common.{◌≡◌, ◌⊎◌, ℕ, ◌/◌, ◌<◌, ◌≤◌, Bool, true, false, not, List, [], ◌∷◌, Option, Some, None, MatchOption, length, get_or, map, nat_lt, nat_le, inl, inr, refl, sym, ap, ◌∙◌, arith}
-use Rattle.cut_trial.proofs.Words.{◌&&◌, ◌||◌, count_by, range_with_len, flat_map, Cell, cells_of, trial_count, IsPlan, deaf_among, Values, Edge, EdgeSet, Layout, observer_of, Source, source_of, all_deliveries, copies_of, early, Assignment, role_at, has_crashed, is_target, alerts_about, is_alerted, alert_list, all_edges, speaks, Rule, rule_of, ring_count, reports_of, is_reported, is_gained, is_full, full_count, is_stable, proposal_of, IsSettled, IsOfLeastPlace, ProposesAtLeastPlace, ReportsTargetsAlone, StableAreTargets, TargetsAloneLeaveNoneUnstable, Proposal, OnlyCrashes, judged, receivers_of, processes_of, rings_of, receiver_proposal, cell_at, no_cell, outcome}
-use Rattle.std.proofs.lemmas.Nat.{div_below}
+use Rattle.std.proofs.Common.{◌≡◌, ◌⊎◌, ℕ, ◌<◌, ◌≤◌, Bool, true, false, not, List, [], ◌∷◌, Option, Some, None, MatchOption, length, get_or, map, nat_lt, nat_le, inl, inr, refl, sym, ap, ◌∙◌, arith}
+use Rattle.cut_trial.proofs.Words.{◌&&◌, ◌||◌, count_by, range_with_len, flat_map, Cell, trial_count, IsPlan, Values, Edge, EdgeSet, Layout, observer_of, Source, source_of, all_deliveries, copies_of, early, Assignment, role_at, has_crashed, is_target, alerts_about, is_alerted, alert_list, all_edges, speaks, Rule, rule_of, ring_count, reports_of, is_reported, is_gained, is_full, full_count, is_stable, proposal_of, IsSettled, IsOfLeastPlace, ProposesAtLeastPlace, ReportsTargetsAlone, StableAreTargets, TargetsAloneLeaveNoneUnstable, Proposal, OnlyCrashes, judged, receivers_of, processes_of, rings_of, receiver_proposal, cell_at, outcome}
 use Rattle.std.proofs.lemmas.Bool.{and_from, and_parts, or_left, or_right, lt-ltb, leb-true, ltb-true}
 use Rattle.std.proofs.lemmas.List.Elements.{All-contains, All-map, Contains-get_or}
 use Rattle.std.proofs.lemmas.List.Folds.{list_any_none}
@@ -18,7 +17,7 @@ use Rattle.cut_plan.specs.declared.dead.Dead.TheVariants.{Speak}
 use Rattle.cut_plan.specs.Combinations.{AreCombinations}
 use Rattle.cut_alerts.specs.declared.role.Role.TheVariants.{Healthy, Crashed}
 use Rattle.cut_trial.proofs.Heard.{listed_is_raised, raised_is_listed, heard_is_listed, listed_is_heard}
-use Rattle.cut_trial.proofs.Outcomes.{roles_in, edges_in, proposed_in}
+use Rattle.cut_trial.proofs.Outcomes.{cell_listed, roles_in, edges_in, proposed_in}
 use Rattle.cut_trial.proofs.Roles.{roles_length, receivers_are_the_rest, target_or_healthy}
 
 -- ---- where nothing fails
@@ -60,8 +59,7 @@ crashed_or_healthy : (v : Values) (t : ℕ) → OnlyCrashes v → CrashedOrHealt
 crashed_or_healthy v t only p =
     let by = target_or_healthy v (cell_at v t).f (source_of v.seed t) (rings_of v)
     only.no_liars only.no_links p in
-    let none = ap (λ how. deaf_among how (cell_at v t).f) only.crash in
-    elim by [ inl target ↦ inl (target.1 none) | inr well ↦ inr well ]
+    elim by [ inl target ↦ inl (target.1 (only.crash (cell_at v t).f)) | inr well ↦ inr well ]
 
 -- alerts are about targets
 alerted_is_target : (a : Assignment) → CrashedOrHealthy a → (o s : ℕ) → alerts_about a o s ≡ true
@@ -186,10 +184,7 @@ module _ (combinations : (w : Values) → IsPlan w → AreCombinations w) (propo
 
   thresholds : HasThresholds v c
   thresholds =
-      let place : t / v.repeats < length (cells_of v) =
-      div_below t v.repeats (length (cells_of v)) (omega (arith, plan.some_repeats)) inside in
-      let is = ((combinations v plan).listed c).0
-      (Contains-get_or (cells_of v) (t / v.repeats) no_cell place) in
+      let is = ((combinations v plan).listed c).0 (cell_listed v t plan inside) in
       let scale = All-contains (λ x. nat_le 1 x && nat_le x 32 ≡ true) v.l c.l
       (AllPass-from_list_all (λ x. nat_le 1 x && nat_le x 32) v.l plan.ls.range) is.l_listed in
       record {

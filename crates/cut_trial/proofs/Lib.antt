@@ -9,3 +9,4 @@ pub mod Pieces
 pub mod Heard
 pub mod Crashes
 pub mod Cautious
+pub mod Upgrades

@@ -1,7 +1,9 @@
 -- One trial: its numbers are its outcome once its parts are those of the plan, and they are possible ones.
 use Rattle.std.proofs.Common.{◌≡◌, ℕ, ◌+◌, ◌-◌, ◌/◌, ◌^◌, ◌<◌, ◌≤◌, min, Bool, true, cond, List, [], ◌∷◌, ◌++◌, Option, Some, None, option_map, get_or, map, filter, not, length, refl, sym, ap, ◌∙◌, arith, nat_le}
-use Rattle.cut_trial.proofs.Words.{count_by, slice_get, range_with_len, Cell, Values, cells_of, largest, Edge, Layout, Source, source_of, Assignment, is_target, drawn, alert_list, Proposal, receivers_of, targets_of, judged, quorum_of, votes_of, most_votes, cast_of, rings_of, receiver_proposal, totals_of, cell_at, no_cell, one_if, outcome, ArePossible}
+use Rattle.cut_trial.proofs.Words.{Contains, count_by, slice_get, range_with_len, Cell, Values, IsPlan, cells_of, largest, trial_count, Edge, Layout, Source, source_of, Assignment, is_target, drawn, alert_list, Proposal, receivers_of, targets_of, judged, quorum_of, votes_of, most_votes, cast_of, rings_of, receiver_proposal, totals_of, cell_at, no_cell, one_if, outcome, ArePossible}
+use Rattle.std.proofs.lemmas.Nat.{div_below}
 use Rattle.std.proofs.lemmas.List.{length-map, length_push}
+use Rattle.std.proofs.lemmas.List.Elements.{Contains-get_or}
 use Rattle.std.proofs.lemmas.List.FromFn.{length-map-range_with_len}
 use Rattle.std.proofs.lemmas.List.Sums.{count_by-le-length, sum_by_push}
 use Rattle.std.proofs.lemmas.Option.{get_or_from_slice_get}
@@ -31,6 +33,12 @@ pub cell_read : (v : Values) (t i : ℕ) (c : Cell) → slice_get (cells_of v) i
     → c ≡ cell_at v t
 cell_read v t i c at place = sym (get_or_from_slice_get (cells_of v) i c no_cell at)
     ∙ ap (λ k. get_or (cells_of v) k no_cell) place
+
+-- the cell of a trial is one of the plan's
+pub cell_listed : (v : Values) (t : ℕ) → IsPlan v → t < trial_count v → Contains (cells_of v) (cell_at v t)
+cell_listed v t plan inside =
+    Contains-get_or (cells_of v) (t / v.repeats) no_cell
+    (div_below t v.repeats (length (cells_of v)) (omega (arith, plan.some_repeats)) inside)
 
 -- a count with one receiver more
 pub count_more : (p : Option Proposal → Bool) (ps : List (Option Proposal)) (x : Option Proposal)

@@ -5,7 +5,7 @@ pub use Rattle.cut_plan.specs.declared.cell.Cell.{Cell}
 pub use Rattle.cut_plan.specs.Values.{Values}
 pub use Rattle.cut_plan.specs.Cells.{cells_of, largest, trial_count}
 pub use Rattle.cut_plan.specs.Plan.{IsPlan}
-pub use Rattle.cut_plan.specs.Targets.{deaf_among, deaf_of}
+pub use Rattle.cut_plan.specs.Targets.{deaf_of}
 pub use Rattle.cut_rings.specs.declared.edge.Edge.{Edge}
 pub use Rattle.cut_rings.specs.Edges.{EdgeSet, edge_number, first_of, is_edge, is_edge_of, set_of}
 pub use Rattle.cut_rings.specs.Layout.{Layout, observer_of, subject_of}

@@ -2,9 +2,9 @@
 use Rattle.std.specs.Prelude.{◌≡◌, ℕ, ◌+◌, ◌-◌, ◌<◌, ◌≤◌, ◌||◌, false, List, ◌++◌, length, All, IsTrue}
 use Rattle.cut_plan.specs.declared.cell.Cell.{Cell}
 use Rattle.cut_plan.specs.declared.dead.Dead.TheVariants.{Speak}
-use Rattle.cut_plan.specs.declared.faults.Faults.TheVariants.{Crash}
 use Rattle.cut_plan.specs.Cells.{trial_count}
 use Rattle.cut_plan.specs.Plan.{IsPlan}
+use Rattle.cut_plan.specs.Targets.{deaf_of, upgraded}
 use Rattle.cut_plan.specs.Values.{Values}
 use Rattle.cut_rings.specs.Layout.{Layout}
 use Rattle.cut_draws.specs.Source.{Source}
@@ -68,7 +68,7 @@ SilentWhereNothingFails =
 
 -- a plan whose processes fail by crashes alone: no target is deaf, none lies and no link is cut
 pub record OnlyCrashes (v : Values) : Type 0 where
-  pub crash : v.faults ≡ Crash
+  pub crash : (f : ℕ) → deaf_of v f ≡ 0
   pub no_liars : v.liars ≡ 0
   pub no_links : v.links ≡ 0
 
@@ -140,3 +140,7 @@ abbrev pub PiecesHavePossibleTotals : Type 0
 PiecesHavePossibleTotals =
     (v : Values) (p : Piece) → IsTrue (is_piece v p) →
     ArePossible p.count (v.nodes - (cell_at v p.first).f) (sum_of v (trials_in p))
+
+-- a plan and its upgrade have the same outcome at each trial
+abbrev pub UpgradesKeepOutcomes : Type 0
+UpgradesKeepOutcomes = (v : Values) (t : ℕ) → IsPlan v → t < trial_count v → outcome (upgraded v) t ≡ outcome v t

@@ -19,10 +19,12 @@ ghost use Rattle.cut_trial.specs.Laws.{
   AWiderGapHasFewerConflicts,
   TrialsHavePossibleTotals,
   PiecesHavePossibleTotals,
+  UpgradesKeepOutcomes,
 };
 
+use cut_alerts::laws::as_many_deaf_draw_alike;
 use cut_detector::laws::{a_wider_gap_proposes_later, proposes_at_least_place, targets_alone};
-use cut_plan::cells_are_the_combinations;
+use cut_plan::{cells_are_the_combinations, upgrades_fail_alike};
 
 /// The fast round agrees: of at most n proposals, one for each process at most, two quorums have one
 /// in common, so no two different proposals can both be decided.
@@ -97,3 +99,13 @@ pub fn pieces_have_possible_totals()
     ensures trials { TrialsHavePossibleTotals }
     ensures pieces { PiecesHavePossibleTotals }
 {}
+
+/// A plan and its upgrade to the second version have the same outcome at every trial: as many targets
+/// of each cell are deaf, so every trial draws the same roles.
+pub fn upgrades_keep_outcomes()
+    ensures { UpgradesKeepOutcomes }
+{
+    cells_are_the_combinations();
+    upgrades_fail_alike();
+    as_many_deaf_draw_alike();
+}

@@ -233,3 +233,39 @@ fn studies(rt: HostRuntime) -> Result<(), Fail> {
     }
     Ok(())
 }
+
+// Two trials of five processes, one of which is deaf, as each version says it.
+const DEAF: [&str; 2] = [
+    r#"{"copies":1,"dead":"silent","f":[1],"faults":"deaf","h":[1],"implicit":true,"k":[1],"l":[1],"liars":0,"links":0,"nodes":5,"repeats":2,"seed":"0000000000000000000000000000000000000000000000000000000000000000","version":1}"#,
+    r#"{"copies":1,"dead":"silent","deaf":1,"f":[1],"h":[1],"implicit":true,"k":[1],"l":[1],"liars":0,"links":0,"nodes":5,"repeats":2,"seed":"0000000000000000000000000000000000000000000000000000000000000000","version":2}"#,
+];
+
+// The numbers of a trial alone.
+fn numbers_of_trial(alloc: Global, text: &str, trial: u32) -> Result<[u64; 7], Fail> {
+    let plan = Plan::from_json(alloc, text.as_bytes())?;
+    let rings = Rings::hashed(alloc, &plan)?;
+    let found = run_piece(
+        alloc,
+        &plan,
+        &rings,
+        Piece {
+            first: trial,
+            count: 1,
+        },
+    )?;
+    Ok(numbers(found.totals()))
+}
+
+#[test]
+fn both_versions_have_the_same_deaf_process(rt: HostRuntime) -> Result<(), Fail> {
+    let alloc = rt.alloc();
+    for trial in 0..2 {
+        let [first, second] = DEAF;
+        assert_eq!(rt;
+            numbers_of_trial(alloc, first, trial)?,
+            numbers_of_trial(alloc, second, trial)?,
+            "trial {trial}"
+        );
+    }
+    Ok(())
+}

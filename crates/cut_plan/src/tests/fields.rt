@@ -7,7 +7,7 @@ pub(super) const TEXTS: &str = r#"3 UnknownField
 4 MissingField l
 {"copies": 2, "dead": "silent", "implicit": false, "nodes": 2, "repeats": 3, "seed": "d680bd8C51E41aff6110e2Aa93CaBFfa9C4dde82621BAaF363b89fB27574b6Bb", "version": 1, "faults": "crash", "k": [1, 2], "h": [1], "f": [2, 9, 11], "liars": 100, "links": 2049}
 ---
-3 UnknownField
+5 WrongKind f
 {"copies": 5, "dead": "Speak", "implicit": false, "nodes": 2, "repeats": 3, "seed": "5DD0fcfbAAb8CD8E1AB8Bb98D6d4E10CB9CA03f17Ef7d276c7502B0DfCd3cF72", "version": 2, "deaf": 0, "k": [1, 2], "h": [2], "l": [1, 2, 3], "f": -1, "liars": 2048, "links": 0}
 ---
 3 UnknownField
@@ -16,23 +16,14 @@ pub(super) const TEXTS: &str = r#"3 UnknownField
 3 UnknownField
 {"h": [1], "version": 2, "l": [1], "deaf": 2048, "copies": 1, "liars": 0, "implicit": false, "repeats": 3, "k": [1], "nodes": 4, "faults": null, "seed": "28cE7AFBe7cB2c3bFC2d15ecb78D3ddEECb6Ba00C6CfB55a5aF8F0dDB1c2DAFE", "f": [1, 2, 3], "dead": "silent", "links": 1}
 ---
-3 UnknownField
-{"links": 0, "h": [2, 3, 4], "implicit": true, "liars": 2048, "nodes": 3, "copies": 4, "k": [3, 4], "repeats": 2, "version": 2, "seed": "6f5d0e74551Bca5e0FcCb1C8e3c83c478Fea2a7E75Afc0bdCD24eDEF5411ACfd", "l": [4], "f": [0], "deaf": 2048, "dead": ""}
----
-3 UnknownField
-{"copies": 1, "dead": "speak", "implicit": false, "nodes": 8, "repeats": 2, "seed": "fea4EfbdBEb7D9fAf49Ac1Eb93533230660ABe9F48b44A7D828a4eDAc3c7BFF0", "version": 2, "deaf": 0, "k": [1], "h": [1], "l": [1], "f": [2, 3, 7], "liars": 0, "links": 2049}
----
-3 UnknownField
+5 WrongKind copies
 {"copies": {}, "dead": "speak", "implicit": true, "nodes": 10, "repeats": [], "seed": "gggggggggggggggggggggggggggggggggggggggggggggggggggggggggggggggg", "version": 2, "deaf": 2, "k": [4, 6], "h": [4], "l": [2, 5], "f": [2, 3, 5], "liars": 2, "links": 2}
 ---
 5 WrongKind nodes
 {"h": [2, 3, 4], "faults": "crash", "version": 1, "nodes": "5", "l": [3, 4], "f": [2], "implicit": false, "seed": "cfDaEcCEa6eC65ED2dC80bDecAbAC31A8B0D20C210bAD00547D5CB472DDFAcdA", "copies": 4, "links": 0, "liars": 2, "k": [1, 3, 4], "repeats": 1, "dead": "silent"}
 ---
-3 UnknownField
+5 WrongKind l
 {"copies": 5, "dead": "silent", "implicit": true, "nodes": 3, "repeats": 4, "seed": "Ea48595bE3F1Ab70D97A0E9191d04CbcB8DB6D3abB19ecFc2850D63b414bcFc4", "version": 2, "deaf": 2, "k": [1], "h": [1], "l": -1, "f": [1, 2], "liars": 0, "links": 0}
----
-3 UnknownField
-{"k": [1, 2, 3], "version": 2, "f": [2, 5, 7], "deaf": 0, "l": [1], "dead": "silent", "implicit": true, "repeats": 4, "h": [2], "seed": "D6faF8dBE51cCFBa3b08FfC8fdC6c59F5cc31eBD86e1F38C0D17b7b1FFfC0F98", "nodes": 2, "liars": 0, "copies": 1, "links": 0}
 ---
 4 MissingField nodes
 {"copies": 2, "dead": "speak", "implicit": false, "repeats": 1, "seed": 5, "version": 0, "faults": "crash", "k": [2, 3], "h": [1, 2, 3], "l": [1, 2], "f": [4, 7], "liars": 0, "links": 1}
@@ -40,14 +31,8 @@ pub(super) const TEXTS: &str = r#"3 UnknownField
 5 WrongKind version
 {"copies": 2, "dead": "silent", "implicit": false, "nodes": 9, "repeats": 1, "seed": "AC1D1b1cffDd31bE6993d0E0c9c76CB66eaC513C2fEC6C1aE1EF658bcDAF3221", "version": null, "faults": "deaf", "k": [1, 3, 4], "h": [3], "l": [1], "f": [0, 1, 6], "liars": 2, "links": 0}
 ---
-3 UnknownField
-{"copies": 1, "dead": "silent", "implicit": false, "nodes": 2048, "repeats": 3, "seed": "D96D2b848d273DACBf379Ea519286DFAC993eF2D73Caf79Ed3126FBDa6ee0F5c", "version": 2, "deaf": 0, "k": [32], "h": [1, 2, 3, 4, 5, 6, 7, 8, 9, 10, 11, 12, 13, 14, 15, 16, 17, 18, 19, 20, 21, 22, 23, 24, 25, 26, 27, 28, 29, 30, 31, 32], "l": [1, 2, 3, 4, 5, 6, 7, 8, 9, 10, 11, 12, 13, 14, 15, 16, 17, 18, 19, 20, 21, 22, 23, 24, 25, 26, 27, 28, 29, 30, 31, 32], "f": [0, 1, 2, 3, 4, 5, 6, 7, 8, 9, 10, 11, 12, 13, 14, 15, 16, 17, 18, 19, 20, 21, 22, 23, 24, 25, 26, 27, 28, 29, 30, 31, 32, 33, 34, 35, 36, 37, 38, 39], "liars": 1, "links": 0}
----
 5 WrongKind nodes
 {"copies": 3, "dead": "speak", "implicit": true, "nodes": "5", "repeats": 3, "seed": "gggggggggggggggggggggggggggggggggggggggggggggggggggggggggggggggg", "version": 1, "faults": "deaf", "k": [1, 2], "h": [2, 3], "l": [2, 3], "f": [2, 1], "liars": 2, "links": 1}
----
-3 UnknownField
-{"copies": 3, "dead": "speak", "implicit": true, "nodes": 11, "repeats": 3, "seed": "83Ea5ccD0ebeBBE5BB40aB6a3A12B091b2FF78724A93b86D26B0ca18D6ecb2e4", "version": 2, "deaf": 1, "k": [4], "h": [4], "l": [1], "f": [6, 8], "liars": 100, "links": 2048}
 ---
 4 MissingField l
 {"copies": 2, "dead": "speak", "implicit": false, "nodes": 11, "repeats": 2, "seed": "188CD8EF15a03F77482d44aaE1Ad0aB0DEaaA51D6DaCa4d8AdCbfDcbDE4e104E", "version": 1, "faults": "crash", "k": [2, 4, 6], "h": [1, 3], "f": [5], "liars": 2, "links": 2}
@@ -92,9 +77,6 @@ pub(super) const TEXTS: &str = r#"3 UnknownField
 5 WrongKind seed
 {"faults": "deaf", "links": 1, "copies": 1, "implicit": false, "f": [0, 1], "k": [1], "repeats": 2, "version": 1, "seed": 1.0, "l": [2, 2], "liars": 0, "nodes": 2, "h": [1], "dead": "silent"}
 ---
-3 UnknownField
-{"copies": 2, "dead": "speak", "implicit": false, "nodes": 2049, "repeats": 4, "seed": "b5da4AFFe8dACb3caffb57bDB599d59D8dBe2E7AC3db67ffDA4141fbf84FfcA4", "version": 2, "deaf": 2, "k": [1, 2, 3], "h": [1], "l": [1, 2, 3], "f": [0, 1], "liars": 0, "links": 0}
----
 4 MissingField l
 {
    "f": [
@@ -123,22 +105,16 @@ pub(super) const TEXTS: &str = r#"3 UnknownField
 3 UnknownField
 {"copies": 4, "dead": "silent", "implicit": true, "nodes": 10, "repeats": 4, "seed": 5, "version": 0, "deaf": 2, "k": [0], "h": [2], "l": [1, 2], "f": [0, 4], "liars": 1, "links": 0}
 ---
-3 UnknownField
+4 MissingField k
 {"copies": 3, "dead": "speak", "implicit": false, "nodes": 6, "seed": "3A596B7718Cb1A1D4ACDBC5A5E5cB743700eeAB3e6bbf868Cd4F2e7a7a5eEEaD", "version": 2, "deaf": 5, "h": [1, 3], "l": [1], "f": [4], "liars": 2, "links": 0}
 ---
-3 UnknownField
-{"copies": 3, "dead": "speak", "implicit": false, "nodes": 9, "repeats": 1, "seed": "9340Cb05f1a67072eDBBeb8dcc6d6Be8b1dFDa576dC163EF104ecBA1F3Ae6D12", "version": 2, "deaf": 0, "k": [1, 2, 3], "h": [], "l": [1, 2], "f": [0, 4, 7], "liars": 0, "links": 0}
----
-3 UnknownField
+5 WrongKind l
 {"copies": 1, "dead": "speak", "implicit": false, "nodes": 3, "repeats": 4, "seed": "b67cED7C9EbeEDFcAAddc028D98dc61bbABEBDE0bbbF770Eae72f6C93A7e63A3", "version": 2, "deaf": 2, "k": [1, 2, 3], "h": [1, 2], "l": true, "f": [0], "liars": 0, "links": 2}
----
-3 UnknownField
-{"links": 2049, "implicit": true, "repeats": 2, "h": [4], "nodes": 9, "dead": "speak", "f": [2], "deaf": 5, "k": [2, 4, 5], "l": [2, 3], "seed": "eDfcbF206ABeD7ccdDbDBB63AFDEaDfD593a8aA708cC33eAaBb80F2cFcF66CBe", "copies": 4, "version": 2, "liars": 2049}
 ---
 4 MissingField l
 {"copies": 4, "dead": "Speak", "implicit": true, "nodes": 2048, "repeats": 2, "seed": "7D88AFb6aBf0C6EBf4dfB26FB0b9B0eAeA7fdA2389EA7E3475D0dB7Fb9e4eBDc", "version": 1, "faults": "crash", "k": [32], "h": [1, 2, 3, 4, 5, 6, 7, 8, 9, 10, 11, 12, 13, 14, 15, 16, 17, 18, 19, 20, 21, 22, 23, 24, 25, 26, 27, 28, 29, 30, 31, 32], "f": [0, 1, 2, 3, 4, 5, 6, 7, 8, 9, 10, 11, 12, 13, 14, 15, 16, 17, 18, 19, 20, 21, 22, 23, 24, 25, 26, 27, 28, 29, 30, 31, 32, 33, 34, 35, 36, 37, 38, 39], "liars": 1, "links": 0}
 ---
-3 UnknownField
+5 WrongKind links
 {"copies": 1, "dead": "silent", "implicit": true, "nodes": 8, "repeats": 2, "seed": "69CA5eCdFACDf3A3Ab3ECE8eB3F438f0e4EF3D9A18E4E6BFc2Bb38274b22dbD7", "version": 2, "deaf": 2, "k": [2, 3], "h": [2], "l": [1], "f": [4, 5], "liars": 1, "links": 1.5}
 ---
 5 WrongKind version
@@ -152,35 +128,6 @@ pub(super) const TEXTS: &str = r#"3 UnknownField
 ---
 5 WrongKind repeats
 {"copies": 2, "dead": "speak", "implicit": true, "nodes": 14, "repeats": [-1], "seed": "D82Ee723cd6BbDe7E6E8Be2FCFdaEC0e0fdFddEc4ee9371C8dCB0C5D0b3cBFc4", "version": 1, "faults": "crash", "k": [1, 2], "h": [1, 2], "l": [1, 2], "f": [4, 13], "liars": 1, "links": 0}
----
-3 UnknownField
-{
-   "k": [
-      1,
-      3
-   ],
-   "seed": "BEfeF66F32aeA447CFfeD3aB9D3B4D7de6dbf780eDECC3FfFacbfDf33ee40857",
-   "implicit": false,
-   "repeats": 1,
-   "copies": 0,
-   "deaf": 5,
-   "version": 2,
-   "nodes": 2,
-   "f": [
-      0,
-      1
-   ],
-   "dead": "silent",
-   "h": [
-      1,
-      3
-   ],
-   "links": 0,
-   "liars": 0,
-   "l": [
-      3
-   ]
-}
 ---
 3 UnknownField
 {
@@ -260,9 +207,6 @@ pub(super) const TEXTS: &str = r#"3 UnknownField
 {"copies": 1, "dead": "silent", "implicit": false, "nodes": 5, "repeats": 1, "seed": "bBf0a3d2b3500EFe2aE25F4336a5de8Ecdcc3b597d42984B4bC1Db3dc25A4d28", "version": 1, "faults": "deaf", "k": [2], "h": [2], "l": [1, 2], "f": [0, 4], "liars": 2048, "links": 2048, "Copies": 0}
 ---
 3 UnknownField
-{"copies": 2, "dead": "silent", "implicit": true, "nodes": 2048, "repeats": 1, "seed": "Fd332ef0B2D0EF7adaB3679819A5D4bf2d5CAeE89ed0107Cb80Af501BE7CF56a", "version": 2, "deaf": 5, "k": [32], "h": [1, 2, 3, 4, 5, 6, 7, 8, 9, 10, 11, 12, 13, 14, 15, 16, 17, 18, 19, 20, 21, 22, 23, 24, 25, 26, 27, 28, 29, 30, 31, 32], "l": [1, 2, 3, 4, 5, 6, 7, 8, 9, 10, 11, 12, 13, 14, 15, 16, 17, 18, 19, 20, 21, 22, 23, 24, 25, 26, 27, 28, 29, 30, 31, 32], "f": [0, 1, 2, 3, 4, 5, 6, 7, 8, 9, 10, 11, 12, 13, 14, 15, 16, 17, 18, 19, 20, 21, 22, 23, 24, 25, 26, 27, 28, 29, 30, 31, 32, 33, 34, 35, 36, 37, 38, 39], "liars": 100, "links": 2048}
----
-3 UnknownField
 {
    "h": [
       1
@@ -292,7 +236,7 @@ pub(super) const TEXTS: &str = r#"3 UnknownField
 5 WrongKind version
 {"copies": 1, "dead": "speak", "implicit": false, "nodes": 12, "repeats": 1, "seed": "BeA4E12EFe0fC7a19e0EEebc5e04DDFB8f9c3F03dAdFAfbBBD70f651CCFe65C1", "version": null, "faults": "crash", "k": [3], "h": [3, 4, 5], "l": [2], "f": [6, 11], "liars": 1, "links": 0}
 ---
-3 UnknownField
+5 WrongKind repeats
 {"copies": 1, "dead": "silent", "implicit": false, "nodes": 14, "repeats": [1.0], "seed": "7Ec0CC60FEcCD47f81524bA10c2BAB3d8391639dea9e1bB184BfB7614fab67B2", "version": 2, "deaf": 0, "k": [2, 3, 4], "h": [1, 2, 4], "l": [1, 3, 4], "f": [11], "liars": 2, "links": 1}
 ---
 3 UnknownField
@@ -300,9 +244,6 @@ pub(super) const TEXTS: &str = r#"3 UnknownField
 ---
 3 UnknownField
 {"copies": 2, "dead": "silent", "implicit": false, "nodes": 11, "repeats": 1, "seed": "71F32fFF7cC59C18Dd86bE0D7ba256B24EcA4A5e66E7D7AeAb25Cc8aFA504D07", "version": 2, "deaf": 5, "k": [1, 2], "h": [1], "l": [1, 2], "f": [10], "liars": 1, "links": 0, "Copies": "crash"}
----
-3 UnknownField
-{"copies": 5, "dead": "silent", "implicit": false, "nodes": 9, "repeats": 3, "seed": "00bDAcB5ABD8090F2eF01BbA6Fe0B74CA6cdfa98d8dcd234cd26eA902A61751A", "version": 2, "deaf": 5, "k": [4, 5], "h": [5, 6], "l": [1, 3], "f": [1, 8], "liars": 1, "links": 0}
 ---
 4 MissingField faults
 {"copies": 2, "dead": "speak", "implicit": true, "nodes": 9, "repeats": 2, "seed": "c5e5DDBfBf9Aa37527Ee5afBf6FAb7a47cDeA4C73528bd7A4E9c08cE8beFA9d9", "version": 0, "k": [3], "h": [1, 2], "l": [1, 3, 5], "f": [0], "liars": 2, "links": 1}
@@ -371,13 +312,13 @@ pub(super) const TEXTS: &str = r#"3 UnknownField
    "copies": 0
 }
 ---
-3 UnknownField
+5 WrongKind l
 {"copies": 1, "dead": "silent", "implicit": false, "nodes": 4, "repeats": 3, "seed": "Db8E1Aa572387f38Fd3FB50dF7eEe0F252FCdE0dE2B12eF4573DD02ecFfAdfB7", "version": 2, "deaf": 2, "k": [1], "h": [1], "l": 1.5, "f": [0], "liars": 2, "links": 2}
 ---
 3 UnknownField
 {"links": 0, "nodes": 12, "dead": "silent", "seed": "325E0AD05332ceD4aC9199FaCA3A8CCD49Bbd1AcadCd1b501f2BCCEDaecff438", "h": [1, 4], "implicit": false, "f": [6, 8, 10], "deaf": 2, "l": [2], "repeats": 2, "copies": 3, "version": "1", "liars": 1, "k": [5]}
 ---
-3 UnknownField
+4 MissingField seed
 {"deaf": 1, "f": [2, 4], "implicit": false, "copies": 2, "nodes": 6, "k": [3], "repeats": 1000000, "l": [1, 2, 3], "links": 0, "h": [2, 2], "dead": "silent", "version": 2, "liars": 2}
 ---
 5 WrongKind version
@@ -444,13 +385,10 @@ pub(super) const TEXTS: &str = r#"3 UnknownField
 4 MissingField repeats
 {"copies": 1, "dead": "speak", "implicit": true, "nodes": 3, "seed": "5Cb6cdE911d9Ca2aE00ABF3deC68edbc4edaceDbCe2695DdB87d82cbcDA0bBCa", "version": 1, "faults": "deaf", "k": [1, 3, 4], "h": [1], "l": [1, 2, 3], "f": [0, 0], "liars": 1, "links": 0}
 ---
-3 UnknownField
-{"copies": 3, "dead": "silent", "implicit": false, "nodes": 12, "repeats": 2, "seed": "fDb0D8E13BDa0a385aD201320Ef343CfC5d4a1Dad35E479DefCBc5DC11E9A1a5", "version": 2, "deaf": 2048, "k": [3], "h": [1, 2, 3], "l": [2], "liars": 1, "links": 1, "f": [0, 0]}
----
 5 WrongKind dead
 {"copies": 2, "dead": true, "implicit": false, "nodes": 2049, "repeats": 3, "seed": "48A1AFC027bbF3a4bf2E8DcD75Ee23afb2df88Db0b4CBDeDeA4B7F2cD83dC916", "version": 1, "faults": "deaf", "k": [1, 2], "h": [1, 2], "l": 18446744073709551615, "f": [4], "liars": 1, "links": 1}
 ---
-3 UnknownField
+5 WrongKind nodes
 {"copies": 4, "dead": "speak", "implicit": false, "nodes": "5", "repeats": 2, "seed": "DEec8942D7cd4B44ddEFDd5097f8003b4Fa19b1faF62A3f59Fe2d4DE8eFCe6D4", "version": 2, "deaf": 1, "k": [1], "h": [1], "l": [1], "f": [0], "liars": 2, "links": 0}
 ---
 4 MissingField faults
@@ -460,38 +398,7 @@ pub(super) const TEXTS: &str = r#"3 UnknownField
 {"copies": 2, "dead": "speak", "implicit": true, "nodes": 5, "repeats": 3, "seed": "9FcD1D1b21Df1aEEc7bF04E7Fe26F4c05FEC4dE0DD4FC0a9f8AB0Cfd729EA1f7", "version": 1, "faults": "deaf", "k": [2, 4, 5], "h": [1, 5], "l": [2], "f": [1, 2], "liars": 2, "links": 0, "zz": null}
 ---
 3 UnknownField
-{"copies": 0, "dead": "", "implicit": false, "nodes": 2, "repeats": 1, "seed": "b2f60ffaf2B3b0d536D7Ca5FBcbfbF3746AEDeBC1CcA02d2a17c9E82F3f0acBc", "version": 2, "deaf": 5, "k": [2], "h": [1, 2, 3], "l": [1, 2], "f": [0, 1], "liars": 1, "links": 0}
----
-3 UnknownField
-{
- "seed": "7ff486aD1dCe1aE20f4cdAbF7c2162029dbb6d29DC9aAA7d16E8eBb3e7fda0cc",
- "dead": "speak",
- "f": [
-  1,
-  2,
-  4
- ],
- "nodes": 5,
- "l": [
-  1
- ],
- "version": 2,
- "k": [
-  1
- ],
- "deaf": 1,
- "links": 2049,
- "copies": 1,
- "repeats": 3,
- "h": [
-  1
- ],
- "liars": 2048,
- "implicit": true
-}
----
-3 UnknownField
 {"copies": 1, "dead": "speak", "implicit": true, "nodes": 7, "repeats": 2, "seed": "f7160De8F9EDAa4E40CF8fea2d45bceD1bd4eC16fccf26b6e7Ae1Dd403ED736D", "version": 0, "deaf": 5, "k": [3, 1], "h": [1, 2, 3], "l": [3, 5], "f": [3, 4, 5], "liars": 2048, "links": 2049}
 ---
-3 UnknownField
+4 MissingField k
 {"copies": 1, "dead": "speak", "implicit": true, "nodes": 5, "repeats": 1, "seed": "264Bd5ACeAbC9c420DA1F17fEE825C8501DFbc855c2ACdaB6Ae185Ffe9bA69e0", "version": 2, "deaf": 2048, "h": [1], "l": [1], "f": [3, 4], "liars": 0, "links": 1}"#;

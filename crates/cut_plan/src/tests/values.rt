@@ -1,7 +1,100 @@
 //! Texts that are no accepted plans for their values, each below what is told
 //! of it and above a line of dashes. They were made and judged apart from this program.
 
-pub(super) const TEXTS: &str = r#"6 OutOfRange f
+pub(super) const TEXTS: &str = r#"6 OutOfRange dead
+{"links": 0, "h": [2, 3, 4], "implicit": true, "liars": 2048, "nodes": 3, "copies": 4, "k": [3, 4], "repeats": 2, "version": 2, "seed": "6f5d0e74551Bca5e0FcCb1C8e3c83c478Fea2a7E75Afc0bdCD24eDEF5411ACfd", "l": [4], "f": [0], "deaf": 2048, "dead": ""}
+---
+6 OutOfRange links
+{"copies": 1, "dead": "speak", "implicit": false, "nodes": 8, "repeats": 2, "seed": "fea4EfbdBEb7D9fAf49Ac1Eb93533230660ABe9F48b44A7D828a4eDAc3c7BFF0", "version": 2, "deaf": 0, "k": [1], "h": [1], "l": [1], "f": [2, 3, 7], "liars": 0, "links": 2049}
+---
+6 OutOfRange f
+{"k": [1, 2, 3], "version": 2, "f": [2, 5, 7], "deaf": 0, "l": [1], "dead": "silent", "implicit": true, "repeats": 4, "h": [2], "seed": "D6faF8dBE51cCFBa3b08FfC8fdC6c59F5cc31eBD86e1F38C0D17b7b1FFfC0F98", "nodes": 2, "liars": 0, "copies": 1, "links": 0}
+---
+10 TooManyTrials
+{"copies": 1, "dead": "silent", "implicit": false, "nodes": 2048, "repeats": 3, "seed": "D96D2b848d273DACBf379Ea519286DFAC993eF2D73Caf79Ed3126FBDa6ee0F5c", "version": 2, "deaf": 0, "k": [32], "h": [1, 2, 3, 4, 5, 6, 7, 8, 9, 10, 11, 12, 13, 14, 15, 16, 17, 18, 19, 20, 21, 22, 23, 24, 25, 26, 27, 28, 29, 30, 31, 32], "l": [1, 2, 3, 4, 5, 6, 7, 8, 9, 10, 11, 12, 13, 14, 15, 16, 17, 18, 19, 20, 21, 22, 23, 24, 25, 26, 27, 28, 29, 30, 31, 32], "f": [0, 1, 2, 3, 4, 5, 6, 7, 8, 9, 10, 11, 12, 13, 14, 15, 16, 17, 18, 19, 20, 21, 22, 23, 24, 25, 26, 27, 28, 29, 30, 31, 32, 33, 34, 35, 36, 37, 38, 39], "liars": 1, "links": 0}
+---
+9 TooManyFaults
+{"copies": 3, "dead": "speak", "implicit": true, "nodes": 11, "repeats": 3, "seed": "83Ea5ccD0ebeBBE5BB40aB6a3A12B091b2FF78724A93b86D26B0ca18D6ecb2e4", "version": 2, "deaf": 1, "k": [4], "h": [4], "l": [1], "f": [6, 8], "liars": 100, "links": 2048}
+---
+6 OutOfRange nodes
+{"copies": 2, "dead": "speak", "implicit": false, "nodes": 2049, "repeats": 4, "seed": "b5da4AFFe8dACb3caffb57bDB599d59D8dBe2E7AC3db67ffDA4141fbf84FfcA4", "version": 2, "deaf": 2, "k": [1, 2, 3], "h": [1], "l": [1, 2, 3], "f": [0, 1], "liars": 0, "links": 0}
+---
+6 OutOfRange h
+{"copies": 3, "dead": "speak", "implicit": false, "nodes": 9, "repeats": 1, "seed": "9340Cb05f1a67072eDBBeb8dcc6d6Be8b1dFDa576dC163EF104ecBA1F3Ae6D12", "version": 2, "deaf": 0, "k": [1, 2, 3], "h": [], "l": [1, 2], "f": [0, 4, 7], "liars": 0, "links": 0}
+---
+6 OutOfRange liars
+{"links": 2049, "implicit": true, "repeats": 2, "h": [4], "nodes": 9, "dead": "speak", "f": [2], "deaf": 5, "k": [2, 4, 5], "l": [2, 3], "seed": "eDfcbF206ABeD7ccdDbDBB63AFDEaDfD593a8aA708cC33eAaBb80F2cFcF66CBe", "copies": 4, "version": 2, "liars": 2049}
+---
+6 OutOfRange copies
+{
+   "k": [
+      1,
+      3
+   ],
+   "seed": "BEfeF66F32aeA447CFfeD3aB9D3B4D7de6dbf780eDECC3FfFacbfDf33ee40857",
+   "implicit": false,
+   "repeats": 1,
+   "copies": 0,
+   "deaf": 5,
+   "version": 2,
+   "nodes": 2,
+   "f": [
+      0,
+      1
+   ],
+   "dead": "silent",
+   "h": [
+      1,
+      3
+   ],
+   "links": 0,
+   "liars": 0,
+   "l": [
+      3
+   ]
+}
+---
+9 TooManyFaults
+{"copies": 2, "dead": "silent", "implicit": true, "nodes": 2048, "repeats": 1, "seed": "Fd332ef0B2D0EF7adaB3679819A5D4bf2d5CAeE89ed0107Cb80Af501BE7CF56a", "version": 2, "deaf": 5, "k": [32], "h": [1, 2, 3, 4, 5, 6, 7, 8, 9, 10, 11, 12, 13, 14, 15, 16, 17, 18, 19, 20, 21, 22, 23, 24, 25, 26, 27, 28, 29, 30, 31, 32], "l": [1, 2, 3, 4, 5, 6, 7, 8, 9, 10, 11, 12, 13, 14, 15, 16, 17, 18, 19, 20, 21, 22, 23, 24, 25, 26, 27, 28, 29, 30, 31, 32], "f": [0, 1, 2, 3, 4, 5, 6, 7, 8, 9, 10, 11, 12, 13, 14, 15, 16, 17, 18, 19, 20, 21, 22, 23, 24, 25, 26, 27, 28, 29, 30, 31, 32, 33, 34, 35, 36, 37, 38, 39], "liars": 100, "links": 2048}
+---
+6 OutOfRange copies
+{"copies": 5, "dead": "silent", "implicit": false, "nodes": 9, "repeats": 3, "seed": "00bDAcB5ABD8090F2eF01BbA6Fe0B74CA6cdfa98d8dcd234cd26eA902A61751A", "version": 2, "deaf": 5, "k": [4, 5], "h": [5, 6], "l": [1, 3], "f": [1, 8], "liars": 1, "links": 0}
+---
+7 NotRising f
+{"copies": 3, "dead": "silent", "implicit": false, "nodes": 12, "repeats": 2, "seed": "fDb0D8E13BDa0a385aD201320Ef343CfC5d4a1Dad35E479DefCBc5DC11E9A1a5", "version": 2, "deaf": 2048, "k": [3], "h": [1, 2, 3], "l": [2], "liars": 1, "links": 1, "f": [0, 0]}
+---
+6 OutOfRange copies
+{"copies": 0, "dead": "", "implicit": false, "nodes": 2, "repeats": 1, "seed": "b2f60ffaf2B3b0d536D7Ca5FBcbfbF3746AEDeBC1CcA02d2a17c9E82F3f0acBc", "version": 2, "deaf": 5, "k": [2], "h": [1, 2, 3], "l": [1, 2], "f": [0, 1], "liars": 1, "links": 0}
+---
+6 OutOfRange links
+{
+ "seed": "7ff486aD1dCe1aE20f4cdAbF7c2162029dbb6d29DC9aAA7d16E8eBb3e7fda0cc",
+ "dead": "speak",
+ "f": [
+  1,
+  2,
+  4
+ ],
+ "nodes": 5,
+ "l": [
+  1
+ ],
+ "version": 2,
+ "k": [
+  1
+ ],
+ "deaf": 1,
+ "links": 2049,
+ "copies": 1,
+ "repeats": 3,
+ "h": [
+  1
+ ],
+ "liars": 2048,
+ "implicit": true
+}
+---
+6 OutOfRange f
 {
  "seed": "CC183B0E60Dd127FbB6b728865C744cDcB6F09a8E14cCE448b4EFA2a6fAaf20A",
  "nodes": 1,

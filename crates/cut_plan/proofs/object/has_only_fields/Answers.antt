@@ -3,4 +3,4 @@ use Rattle.cut_plan.proofs.Looking.{named_found}
 use Rattle.cut_plan.proofs.object.has_only_fields.Goals as goal
 
 pub returns-in-Some : goal.returns-in-Some
-returns-in-Some c = c.are_named.ensures ∙ named_found _ _ c.in-Some.ensures
+returns-in-Some c = c.are_named.ensures ∙ named_found _ _ _ c.in-Some.ensures

@@ -26,7 +26,7 @@ pub overflow_cast-result-5 : goal.overflow_cast-result-5
 overflow_cast-result-5 c = omega (arith, few_repeats (view c.args.value.now) c.requires, c.number_at-5.ensures)
 
 pub seed_at-requires : goal.seed_at-requires
-seed_at-requires c = (checked_facts (view c.args.value.now) c.requires).ranges field.Seed
+seed_at-requires c = (checked_facts (view c.args.value.now) c.requires).ranges field.Seed refl
 
 pub returns-clause-ok : goal.returns-clause-ok
 returns-clause-ok c =
@@ -36,7 +36,7 @@ returns-clause-ok c =
       c.number_at.ensures,
       c.dead_at.ensures,
       c.in_ok-lists.ensures.f,
-      c.faults_at.ensures,
+      c.failing_at.ensures,
       c.in_ok-lists.ensures.h,
       c.truth_at.ensures,
       c.in_ok-lists.ensures.k,
@@ -46,7 +46,6 @@ returns-clause-ok c =
       c.number_at-4.ensures,
       c.number_at-5.ensures,
       seed,
-      c.number_at-6.ensures,
     ) refl
 
 pub invariant_of-result : goal.invariant_of-result
