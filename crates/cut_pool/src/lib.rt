@@ -56,16 +56,3 @@ pub use shelf::{NoShelf, Shelf, ShelfFault};
 pub use study::{Done, run_study};
 pub use submit_fault::SubmitFault;
 pub use tally::Tally;
-
-#[cfg(test)]
-mod hall_tests;
-#[cfg(test)]
-mod run_tests;
-#[cfg(test)]
-mod storm_tests;
-#[cfg(test)]
-mod study_tests;
-#[cfg(test)]
-mod table_tests;
-#[cfg(test)]
-mod tests;

@@ -74,9 +74,10 @@ impl<D: Disk + Drop, M: Tally, K: Tally> Hall<D, M, K> {
         self.wait_for_stop(rt);
     }
 
-    /// Works on the pieces of a study until none are left to be drawn. Tells whether the worker may go on with
-    /// another study.
-    pub(crate) fn work_off<R: Wait, G: Gate>(
+    /// Works on the pieces of one study until none are left to be drawn, as `work` does on each, for a caller that
+    /// lends its thread for so long. Tells whether it may go on with another study: not after `stop`, nor where
+    /// nothing more can be drawn by this pass, or counted by the hall.
+    pub fn work_off<R: Wait, G: Gate>(
         &self,
         rt: &R,
         alloc: Global,
@@ -100,7 +101,26 @@ impl<D: Disk + Drop, M: Tally, K: Tally> Hall<D, M, K> {
         unreachable!()
     }
 
-    /// Works on the pieces of a study until a cell of it is done, or none are left to be drawn.
+    /// Works on the pieces of a study until a cell of it is done, or none are left to be drawn, so that who then
+    /// asks for the cell's line waits for no piece that nobody has begun.
+    pub fn work_on_cell<R: Wait, G: Gate>(
+        &self,
+        rt: &R,
+        alloc: Global,
+        pass: &mut Pass<M>,
+        gate: &G,
+        study: u32,
+        cell: u32,
+    )
+        requires own { pass.old.hall ≡ self.now.id }
+        requires slot { study < self.now.slots }
+        ensures own { pass.new.hall ≡ pass.old.hall }
+        ensures made { pass.old.made ≤ pass.new.made }
+    {
+        self.work_towards(rt, alloc, pass, gate, study, cell, &mut None);
+    }
+
+    /// The same, with what a worker has for the study from one cell to the next.
     pub(crate) fn work_towards<R: Wait, G: Gate>(
         &self,
         rt: &R,
@@ -159,7 +179,10 @@ impl<D: Disk + Drop, M: Tally, K: Tally> Hall<D, M, K> {
         };
         match self.compute(rt, alloc, drawn, bench) {
             Some(result) => self.hand_in(rt, pass, drawn, &result),
-            None => self.lose(rt, pass, drawn),
+            None => match self.lose(rt, pass, study, number) {
+                Err(CallFault::Full) => Next::Nothing,
+                _ => Next::Piece,
+            },
         }
     }
 
@@ -218,21 +241,38 @@ impl<D: Disk + Drop, M: Tally, K: Tally> Hall<D, M, K> {
         next
     }
 
-    /// Tells a piece lost.
-    fn lose<R: Wait>(&self, rt: &R, pass: &mut Pass<M>, drawn: Drawn) -> Next
+    /// Gives a piece of a study up, by its number from 0 in the study's division, as a worker does where memory for
+    /// it is refused: whoever asks for the line of its cell is told so, where that is not done. Tells whether it is
+    /// noted: not where there is no study or no such piece, or it was given up before.
+    pub fn give_up<R: Wait>(&self, rt: &R, pass: &mut Pass<M>, study: u32, piece: u64) -> bool
         requires own { pass.old.hall ≡ self.now.id }
-        requires slot { drawn.study < self.now.slots }
+        requires slot { study < self.now.slots }
         ensures own { pass.new.hall ≡ pass.old.hall }
         ensures made { pass.old.made ≤ pass.new.made }
     {
-        let place = &self.places[drawn.study as usize];
-        let mut slot = place.slot.lock(rt);
-        let told = slot.lose(rt, &self.accounts, &mut pass.made, drawn.number);
+        self.lose(rt, pass, study, piece).is_ok()
+    }
+
+    /// Tells a piece lost.
+    fn lose<R: Wait>(
+        &self,
+        rt: &R,
+        pass: &mut Pass<M>,
+        study: u32,
+        piece: u64,
+    ) -> Result<(), CallFault>
+        requires own { pass.old.hall ≡ self.now.id }
+        requires slot { study < self.now.slots }
+        ensures own { pass.new.hall ≡ pass.old.hall }
+        ensures made { pass.old.made ≤ pass.new.made }
+    {
+        let place = &self.places[study as usize];
+        let told = place
+            .slot
+            .lock(rt)
+            .lose(rt, &self.accounts, &mut pass.made, piece);
         place.changed.notify_all();
-        match told {
-            Err(CallFault::Full) => Next::Nothing,
-            _ => Next::Piece,
-        }
+        told
     }
 
     /// Whether the work in a slot was ended.

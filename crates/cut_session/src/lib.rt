@@ -43,6 +43,3 @@ pub use reader::Reader;
 pub use serve::session;
 pub use session_end::{SessionEnd, SessionFault};
 pub use side::Side;
-
-#[cfg(test)]
-mod tests;

@@ -1,7 +1,2 @@
-pub mod RunLemmas
-pub mod InputLemmas
-pub mod StreamLemmas
-pub mod StudyLemmas
 pub mod LineLemmas
-pub mod AskLemmas
-pub mod AttendLemmas
+pub mod ProgramLemmas

@@ -1,13 +1,13 @@
 -- What each job leaves on the program's wire.
 use Rattle.std.specs.Prelude.{Some, None, Result, ⊤}
 use Rattle.cut_table.specs.Traffic.{Traffic}
-use Rattle.cutlab.specs.Ask.{EndsAsk}
-use Rattle.cutlab.specs.Run.{Ends, EndsFile, check_task}
-use Rattle.cutlab.specs.Serve.{TellsReport}
-use Rattle.cutlab.specs.Study.{plain_task}
+use Rattle.cut_commands.specs.Ask.{EndsAsk}
+use Rattle.cut_commands.specs.Run.{Ends, EndsFile, check_task}
+use Rattle.cut_server.specs.Serve.{TellsReport}
+use Rattle.cut_commands.specs.Study.{plain_task}
 use Rattle.cutlab.specs.declared.line.Job.{Job}
 use Rattle.cutlab.specs.declared.line.Job.TheVariants.{Run, Check, Serve, Ask}
-use Rattle.cutlab.specs.declared.fault.CliFault.{CliFault}
+use Rattle.cut_commands.specs.declared.fault.CliFault.{CliFault}
 
 -- how a job ends
 abbrev pub EndsJob : Job → Traffic → Traffic → Result ⊤ CliFault → Type 0

@@ -1,12 +1,3 @@
-pub mod Faults
-pub mod Check
 pub mod Line
-pub mod Streams
-pub mod Task
-pub mod Study
-pub mod Run
-pub mod Ask
-pub mod Serve
-pub mod Shelf
 pub mod Jobs
 pub mod Program

@@ -5,7 +5,7 @@ use Rattle.clap.specs.Words.{App, IsAmong, first_of, Row, Rule, Text, fault_of, 
 use Rattle.clap.specs.declared.builder.value_parser.ValueParser.TheVariants as parsers
 use Rattle.clap.specs.declared.error.kind.ErrorKind.{ErrorKind}
 use Rattle.clap.specs.declared.error.kind.ErrorKind.TheVariants.{DisplayHelp, DisplayVersion, MissingSubcommand, OutOfMemory}
-use Rattle.cutlab.specs.Serve.{IsStaffed}
+use Rattle.cut_server.specs.Serve.{IsStaffed}
 use Rattle.cutlab.specs.declared.line.Job.{Job}
 use Rattle.cutlab.specs.declared.line.Job.TheVariants.{Run, Check, Serve, Ask}
 

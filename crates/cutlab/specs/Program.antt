@@ -6,11 +6,11 @@ use Rattle.clap.specs.Words.{fault_of}
 use Rattle.clap.specs.declared.error.kind.ErrorKind.{ErrorKind}
 use Rattle.cut_table.specs.Traffic.{Traffic, Failed, wrote, write_failed}
 use Rattle.cutlab.specs.Line.{program_app, NamesJob, status_of_kind, IsAsked}
-use Rattle.cutlab.specs.Faults.{fault_line, status_of, failed_calls}
+use Rattle.cut_commands.specs.Faults.{fault_line, status_of, failed_calls}
 use Rattle.cutlab.specs.Jobs.{EndsJob}
 use Rattle.cutlab.specs.declared.line.Job.{Job}
-use Rattle.cutlab.specs.declared.fault.CliFault.{CliFault}
-use Rattle.cutlab.specs.declared.fault.CliFault.TheVariants.{Memory, Write}
+use Rattle.cut_commands.specs.declared.fault.CliFault.{CliFault}
+use Rattle.cut_commands.specs.declared.fault.CliFault.TheVariants.{Memory, Write}
 
 -- what is known of a wire before and after a call: whether it tells what passes over it, what had passed, and
 -- how many of its calls had failed

@@ -5,9 +5,9 @@ ghost use Rattle.cutlab.specs.Line.{ask_app, check_app, crew_rule, folder_rule, 
 ghost use Rattle.cutlab.specs.Line.{EndsLine, GivesJob, GivesNumber, IsJobOf, IsSized, NamesJob};
 ghost use Rattle.cutlab.specs.declared.line.Job.{Job};
 
-use crate::Crew;
 use clap::error::ErrorKind;
 use clap::{Arg, ArgMatches, Command, Error};
+use cut_server::Crew;
 use std::alloc::{AllocError, Global};
 use std::convert::AsStr;
 

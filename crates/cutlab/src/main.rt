@@ -2,37 +2,22 @@
 //! for the parameters K, H and L of Rapid's cut detection.
 #![tactic(auto)]
 
-mod ask;
-mod attend;
-mod crew;
-mod door;
-mod fault;
-mod input;
+mod jobs;
 mod line;
 mod program;
-mod run;
-mod serve;
-mod shelf;
-mod stream_wire;
-mod study;
 #[cfg(test)]
 mod tests;
 
-pub use ask::ask_io;
-pub use attend::{ListenFault, Listener};
-pub use crew::Crew;
-pub use door::{Door, SocketWire};
-pub use fault::CliFault;
+pub use cut_commands::{CliFault, StreamWire, ask_io, check_io, run_io};
+pub use cut_server::{
+    Crew, Door, FolderShelf, ListenFault, Listener, SocketWire, serve_io, serve_sessions,
+};
 pub use line::{Job, LineFault, parse_line};
 pub use program::{end_unread, run_words};
-pub use run::{check_io, run_io};
-pub use serve::{serve_io, serve_sessions};
-pub use shelf::FolderShelf;
 use std::alloc::Global;
 use std::env::Env;
 use std::process::ExitCode;
 use std::{env, io};
-pub use stream_wire::StreamWire;
 
 fn main(rt: HostRuntime) -> ExitCode {
     let mut errors = StreamWire::new(io::empty(), rt.stderr());

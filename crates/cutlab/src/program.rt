@@ -2,8 +2,9 @@
 ghost use Rattle.std.specs.Prelude.{◌≡◌, map, string_bytes, Result, ⊤};
 ghost use Rattle.cutlab.specs.Program.{passage_of, HasEnded, IsSent, TellsEnd, TellsLine, unread_status, unread_text};
 
-use crate::run::answer;
-use crate::{CliFault, LineFault, parse_line};
+use crate::jobs::answer;
+use crate::{LineFault, parse_line};
+use cut_commands::CliFault;
 use cut_table::{Wire, send_all};
 use std::convert::AsStr;
 use std::io::ErrorKind;

@@ -1,46 +1,12 @@
 //! The program over its words and streams, for every job and kind of line.
 
-use super::devices::{Act, Device};
-use super::{PLAN, plan_table, plan_with};
+use super::{PLAN, TABLE, left_by};
 use crate::line::status_of_kind;
 use crate::{Crew, Job, StreamWire, end_unread, parse_line, run_words};
 use clap::error::ErrorKind;
-use std::sync::Wait;
+use cut_table::FaultyWire;
 use std::test::Fail;
-use std::thread::Threads;
 use std::{fs, io};
-
-/// What the program left: its status, its output and its errors.
-#[derive(Drop)]
-struct Left {
-    status: u8,
-    output: Vec<u8>,
-    errors: Vec<u8>,
-}
-
-/// What the program leaves, given these words and this input.
-fn left_by<T: Threads + Wait + Sync>(
-    host: &HostRuntime,
-    rt: &T,
-    words: &[&str],
-    input: &str,
-) -> Left {
-    let alloc = host.alloc();
-    let mut output = Vec::new(alloc);
-    let mut errors = Vec::new(alloc);
-    let status = run_words(
-        host,
-        rt,
-        words,
-        &mut StreamWire::new(input.as_bytes(), &mut output),
-        &mut StreamWire::new(io::empty(), &mut errors),
-    );
-    Left {
-        status,
-        output,
-        errors,
-    }
-}
 
 /// Whether some bytes are a text with this in it.
 fn has(bytes: &[u8], part: &str) -> bool {
@@ -170,12 +136,10 @@ fn workers_out_of_range_are_mistakes(rt: HostRuntime) {
 }
 
 #[test]
-fn jobs_write_their_answer(rt: HostRuntime) -> Result<(), Fail> {
-    let alloc = rt.alloc();
-    let table = plan_table(alloc)?;
+fn jobs_write_their_answer(rt: HostRuntime) {
     let rows: [(&[&str], &str); 3] = [
-        (&["cutlab", "run"], table.as_str()),
-        (&["cutlab", "run", "--workers", "3"], table.as_str()),
+        (&["cutlab", "run"], TABLE),
+        (&["cutlab", "run", "--workers", "3"], TABLE),
         (&["cutlab", "check"], "cells 1\ntrials 2\nquorum 4\n"),
     ];
     for (words, answer) in rows {
@@ -184,14 +148,13 @@ fn jobs_write_their_answer(rt: HostRuntime) -> Result<(), Fail> {
         assert!(rt; left.output.as_slice() == answer.as_bytes(), "{words:?}");
         assert!(rt; left.errors.is_empty(), "{words:?}");
     }
-    Ok(())
 }
 
 #[test]
 fn a_fault_is_one_line_of_errors(rt: HostRuntime) -> Result<(), Fail> {
     let alloc = rt.alloc();
-    let no_cell = plan_with(alloc, &[(r#""h":[1]"#, r#""h":[3]"#)])?;
-    let no_seed = plan_with(alloc, &[("seed", "seeds")])?;
+    let no_cell = PLAN.replace(alloc, r#""h":[1]"#, r#""h":[3]"#)?;
+    let no_seed = PLAN.replace(alloc, "seed", "seeds")?;
     let rows = [
         ("", "cutlab: fault 1 NotJson\n"),
         ("[]", "cutlab: fault 2 NotObject\n"),
@@ -234,11 +197,10 @@ fn a_checkpoint_is_opened_first(rt: HostRuntime) -> Result<(), Fail> {
         "--checkpoint",
         "cutlab_commands_test/study.cut",
     ];
-    let table = plan_table(rt.alloc())?;
     for _ in 0..2 {
         let left = left_by(&rt, &rt, &words, PLAN);
         assert_eq!(rt; left.status, 0);
-        assert!(rt; left.output.as_slice() == table.as_bytes());
+        assert!(rt; left.output.as_slice() == TABLE.as_bytes());
         assert_eq!(rt; fs::read(&rt, "cutlab_commands_test/study.cut")?.len(), 477);
     }
     fs::remove_dir_all(&rt, FOLDER)?;
@@ -343,18 +305,18 @@ fn a_failed_output_is_told(rt: HostRuntime) -> Result<(), Fail> {
     let alloc = rt.alloc();
     let rows = [
         ("run", 0, "cutlab: fault 31 Write 0\n"),
-        ("run", 2, "cutlab: fault 31 Write 14\n"),
-        ("check", 1, "cutlab: fault 31 Write 7\n"),
-        ("--help", 3, "cutlab: fault 31 Write 21\n"),
+        ("run", 14, "cutlab: fault 31 Write 14\n"),
+        ("check", 7, "cutlab: fault 31 Write 7\n"),
+        ("--help", 21, "cutlab: fault 31 Write 21\n"),
     ];
-    for (word, at, line) in rows {
-        let mut output = Device::new(alloc, b"", 7, at, Act::Nothing);
+    for (word, room, line) in rows {
+        let input = Vec::from_slice(alloc, PLAN.as_bytes())?;
         let mut errors = Vec::new(alloc);
         let status = run_words(
             &rt,
             &rt,
             &["cutlab", word],
-            &mut StreamWire::new(PLAN.as_bytes(), &mut output),
+            &mut FaultyWire::new(alloc, input, 7, room, 0),
             &mut StreamWire::new(io::empty(), &mut errors),
         );
         assert_eq!(rt; status, 4, "{word}");
@@ -373,13 +335,12 @@ fn errors_that_fail_leave_the_status(rt: HostRuntime) {
     for (words, text, wanted) in rows {
         let alloc = rt.alloc();
         let mut output = Vec::new(alloc);
-        let mut errors = Device::new(alloc, b"", 7, 0, Act::Fail(io::ErrorKind::BrokenPipe));
         let status = run_words(
             &rt,
             &rt,
             words,
             &mut StreamWire::new(text.as_bytes(), &mut output),
-            &mut StreamWire::new(io::empty(), &mut errors),
+            &mut FaultyWire::new(alloc, Vec::new(alloc), 7, 0, 0),
         );
         assert_eq!(rt; status, wanted, "{words:?}");
     }

@@ -1,5 +1,5 @@
 use Rattle.std.proofs.Common.{◌≡◌, List, ℕ, [], ◌∷◌, ◌++◌, subst, ap, ◌∙◌}
-use Rattle.cutlab.specs.Faults.{fault_line}
+use Rattle.cut_commands.specs.Faults.{fault_line}
 use Rattle.cutlab.specs.Program.{IsSent, passage_of}
 use Rattle.cutlab.proofs.program.end_fault.Goals as goal
 

@@ -1,7 +1,7 @@
 use Rattle.std.proofs.Common.{List, ℕ, subst, sym, ◌∙◌}
 use Rattle.cut_faults.specs.Codes as codes_of
 use Rattle.cutlab.specs.Program.{IsSent, passage_of}
-use Rattle.cutlab.proofs.RunLemmas.{unread_otherwise}
+use Rattle.cutlab.proofs.ProgramLemmas.{unread_otherwise}
 use Rattle.cutlab.proofs.program.end_unread.Goals as goal
 
 pub returns-in-InvalidData-clause-told : goal.returns-in-InvalidData-clause-told

@@ -1,4 +1,4 @@
-use Rattle.cutlab.proofs.RunLemmas.{sent_is}
+use Rattle.cutlab.proofs.ProgramLemmas.{sent_is}
 use Rattle.cutlab.proofs.program.tell.Goals as goal
 
 pub returns : goal.returns

@@ -1,0 +1,5 @@
+pub mod RunLemmas
+pub mod InputLemmas
+pub mod StreamLemmas
+pub mod StudyLemmas
+pub mod AskLemmas

@@ -1,0 +1,7 @@
+pub mod Faults
+pub mod Check
+pub mod Streams
+pub mod Task
+pub mod Study
+pub mod Run
+pub mod Ask

@@ -1,0 +1,106 @@
+-- What a study tells of a plan, by what the disk of its checkpoint holds.
+use Rattle.std.specs.Prelude.{◌≡◌, ℕ, List, [], Option, Some, None, Ok, ⊤}
+use Rattle.cut_plan.specs.Values.{Values}
+use Rattle.cut_plan.specs.Plan.{IsPlan}
+use Rattle.cut_lines.specs.Lines.{table}
+use Rattle.cut_disks.specs.State.{DiskState}
+use Rattle.cut_ledger.specs.declared.slip.Slip.{Slip}
+use Rattle.cut_ledger.specs.Machine.{table_over}
+use Rattle.cut_ledger.specs.Slips.{AreGood, IsFirstBad}
+use Rattle.cut_ledger.specs.World.{AreTrue}
+use Rattle.cut_journal.specs.declared.fault.JournalFault.{JournalFault}
+use Rattle.cut_journal.specs.declared.fault.JournalFault.TheVariants.{Disk, OtherPlan, Damaged, Held}
+use Rattle.cut_journal.specs.Journal.{Log}
+use Rattle.cut_journal.specs.Opening.{IsFoundOn, IsOpenFault}
+use Rattle.cut_journal.specs.Reading.{reading}
+use Rattle.cut_commands.specs.Task.{Task}
+use Rattle.cut_commands.specs.declared.fault.CliFault.{CliFault}
+use Rattle.cut_commands.specs.declared.fault.CliFault.TheVariants.{Journal, BadSlip, Checkpoint, WorkMemory, AuditMismatch}
+
+-- the whole table over slips with which a study can begin
+pub record IsTableOver (slips : List Slip) (v : Values) (whole : List ℕ) : Type 0 where
+  pub good : AreGood v slips
+  pub is : whole ≡ table_over v slips
+
+-- the faults by which a checkpoint is not opened, of whichever disk
+abbrev pub MayStop : JournalFault → Type 0
+MayStop Disk = ⊤
+MayStop OtherPlan = ⊤
+MayStop (Damaged number) = ⊤
+MayStop Held = ⊤
+MayStop fault = ⊥
+
+-- why not all of a study's table is told, with a disk or without one: memory was wanting, or counts of the same
+-- work differed
+abbrev pub MayEnd : CliFault → Type 0
+MayEnd WorkMemory = ⊤
+MayEnd AuditMismatch = ⊤
+MayEnd fault = ⊥
+
+-- ---- over a disk, or without one
+
+module _ {D : Type 0} (is_honest : D → Type 0) (state : D → DiskState) where
+  -- the slips with which a study begins: none without a disk, and those that an honest one holds
+  abbrev pub BeginsWith : Option D → Values → List Slip → Type 0
+  BeginsWith None v slips = slips ≡ []
+  BeginsWith (Some d) v slips = is_honest d → IsFoundOn v (state d).bytes slips
+
+  -- the table of a study over them
+  pub record StudyTells (disk : Option D) (v : Values) (whole : List ℕ) : Type 0 where
+    pub slips : List Slip
+    pub begins : BeginsWith disk v slips
+    pub over : IsTableOver slips v whole
+
+  -- or why not all of it is told: what is on the disk, or that it failed, when the checkpoint was opened; the
+  -- first of its slips that is none of the plan; that the disk failed later on; or as without a disk
+  abbrev pub StudyFails : Option D → Values → CliFault → Type 0
+  StudyFails (Some d) v (Journal fault) = MayStop fault × (is_honest d → IsOpenFault v (state d).bytes fault)
+  StudyFails (Some d) v (BadSlip number) =
+      (slips : List Slip) × BeginsWith (Some d) v slips × IsFirstBad v slips number
+  StudyFails (Some d) v Checkpoint = ⊤
+  StudyFails disk v fault = MayEnd fault
+
+  abbrev pub study_task : Option D → Task
+  study_task disk = record { answers = StudyTells disk; fails = StudyFails disk }
+
+  -- a disk that is honest, and whose slips are true and apart where it holds a study, as those are that this
+  -- program writes
+  abbrev pub IsTrueStore : Option D → Type 0
+  IsTrueStore None = ⊤
+  IsTrueStore (Some d) =
+      is_honest d × ((v : Values) (slips : List Slip) → IsPlan v → reading v (state d).bytes ≡ Ok slips → AreTrue v slips)
+
+  -- why a study over such a disk does not tell all of its table: another plan's study, damage, or a failing call,
+  -- when the checkpoint was opened; that the disk failed later on; or as without a disk. No slip is a bad one
+  abbrev pub StoreFails : Option D → Values → CliFault → Type 0
+  StoreFails (Some d) v (Journal fault) = MayStop fault × IsOpenFault v (state d).bytes fault
+  StoreFails (Some d) v Checkpoint = ⊤
+  StoreFails disk v fault = MayEnd fault
+
+  -- what a study over such a disk tells: the table of the plan
+  abbrev pub table_task : Option D → Task
+  table_task disk = record { answers = λ v whole. whole ≡ table v; fails = StoreFails disk }
+
+-- a journal that takes slips of the plan
+abbrev pub IsReady : {D : Type 0} → Values → Log D → Type 0
+IsReady v log = (log.plan ≡ v) × (log.doubtful ≡ None)
+
+-- ---- over a file, of which nothing is known
+
+-- why a study over a file does not tell all of its table
+abbrev pub FileFails : Values → CliFault → Type 0
+FileFails v (Journal fault) = MayStop fault
+FileFails v (BadSlip number) = (slips : List Slip) × IsFirstBad v slips number
+FileFails v Checkpoint = ⊤
+FileFails v fault = MayEnd fault
+
+-- it tells the table over some slips
+abbrev pub file_task : Task
+file_task = record {
+  answers = λ v whole. (slips : List Slip) × IsTableOver slips v whole;
+  fails = FileFails;
+}
+
+-- and without a file that of the plan
+abbrev pub plain_task : Task
+plain_task = record { answers = λ v whole. whole ≡ table v; fails = λ v fault. MayEnd fault }

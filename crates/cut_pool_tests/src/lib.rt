@@ -1,0 +1,19 @@
+//! What no contract of `cut_pool` says: books, halls and whole studies in runs, with real threads, tables that
+//! were computed apart from this program, and disks and wires that fail.
+//!
+//! The tests stand in a crate of their own, as they use the pool as its callers do, and the proofs of the pool need
+//! not be made again for them.
+#![tactic(auto)]
+
+#[cfg(test)]
+mod books;
+#[cfg(test)]
+mod halls;
+#[cfg(test)]
+mod machine;
+#[cfg(test)]
+mod storms;
+#[cfg(test)]
+mod study_runs;
+#[cfg(test)]
+mod tables;

@@ -1,0 +1,323 @@
+//! The threads of a server: each worker and each session has one, and a pass of the hall.
+ghost use Rattle.std.specs.Prelude.{◌≡◌, ◌≤◌, ◌+◌, ℕ, length, All, IfOk, IfErr};
+ghost use Rattle.atomic_table.specs.Seated.{TableId};
+ghost use Rattle.cut_faults.specs.Failures.{counted};
+ghost use Rattle.cut_server.specs.Serve.{IsOfAttending, failed_serving};
+
+use cut_commands::CliFault;
+use cut_disks::Disk;
+use cut_pool::{Hall, OpenGate, Pass, Shelf, Tally};
+use cut_session::session;
+use cut_table::Wire;
+use std::alloc::Global;
+use std::snapshot::Snapshot;
+use std::sync::Wait;
+use std::thread::{self, Promise, PromisedHandle, Scope, Threads, join_promised};
+use thiserror::Error;
+
+/// No connection came.
+#[derive(Clone, Copy, Debug, PartialEq, Eq, Error)]
+#[error("no connection came")]
+pub struct ListenFault;
+
+/// What a server's connections come from. Its calls that fail are counted; at 2^64 - 1 the count stays.
+pub trait Listener<W> {
+    /// How many of its calls failed.
+    ghost faults: { Self → ℕ };
+
+    /// Waits for the next connection.
+    fn accept(&mut self) -> Result<W, ListenFault>
+        ensures faults { faults self.new ≡ counted result (faults self.old) };
+}
+
+/// That a pass which comes back is of the hall that it was of.
+#[derive(Drop)]
+struct SameHall<M: Tally>(Snapshot<Pass<M>>);
+
+impl<M: Tally> Promise<Pass<M>> for SameHall<M> {
+    ghost kept_by = { λ p back. back.hall ≡ p.0.value.hall };
+}
+
+/// A thread that gives its pass back.
+type Attendance<M> = PromisedHandle<Pass<M>, SameHall<M>>;
+
+/// A hall as the threads of a server share it.
+trait Workplace<D: Disk, M: Tally> {
+    /// Which hall it is.
+    ghost id_of: { Self → TableId };
+
+    /// Works on all studies until the work is ended.
+    fn work_with<R: Wait>(&self, rt: &R, alloc: Global, pass: &mut Pass<M>)
+        requires { pass.old.hall ≡ id_of self.now }
+        ensures { pass.new.hall ≡ pass.old.hall };
+
+    /// Serves a client, whichever way its session ends.
+    fn serve_with<S, W, R>(
+        &self,
+        rt: &R,
+        alloc: Global,
+        pass: &mut Pass<M>,
+        shelf: &S,
+        wire: &mut W,
+    )
+    where
+        S: Shelf<D>,
+        W: Wire,
+        R: Wait,
+        requires { pass.old.hall ≡ id_of self.now }
+        ensures { pass.new.hall ≡ pass.old.hall };
+
+    /// Ends the work.
+    fn end_work<R: Wait>(&self, rt: &R);
+}
+
+impl<D: Disk + Drop, M: Tally, K: Tally> Workplace<D, M> for Hall<D, M, K> {
+    ghost id_of = { λ h. h.id };
+
+    fn work_with<R: Wait>(&self, rt: &R, alloc: Global, pass: &mut Pass<M>) {
+        self.work(rt, alloc, pass, &OpenGate);
+    }
+
+    fn serve_with<S, W, R>(
+        &self,
+        rt: &R,
+        alloc: Global,
+        pass: &mut Pass<M>,
+        shelf: &S,
+        wire: &mut W,
+    )
+    where
+        S: Shelf<D>,
+        W: Wire,
+        R: Wait,
+    {
+        let _end = session(rt, alloc, self, pass, shelf, wire);
+    }
+
+    fn end_work<R: Wait>(&self, rt: &R) {
+        self.stop(rt);
+    }
+}
+
+/// The threads of the workers, and the passes of the sessions that have ended.
+#[derive(Drop)]
+struct Attended<M: Tally> {
+    workers: Vec<Attendance<M>>,
+    served: Vec<Pass<M>>,
+}
+
+/// Lets so many passes work, each in a thread of its own, and serves a connection with each of the others. Once
+/// the sessions have ended the work is ended, and all passes come back.
+pub(crate) fn attend<D, M, H, S, L, W, R>(
+    rt: &R,
+    alloc: Global,
+    hall: &H,
+    shelf: &S,
+    listener: L,
+    passes: Vec<Pass<M>>,
+    workers: u32,
+) -> (L, Result<Vec<Pass<M>>, CliFault>)
+where
+    D: Disk + Send,
+    M: Tally + Send + Sync,
+    H: Workplace<D, M> + Sync,
+    S: Shelf<D> + Sync,
+    L: Listener<W> + Drop,
+    W: Wire + Send + Drop,
+    R: Threads + Wait + Sync,
+    requires own { All (λ p. p.hall ≡ H.id_of hall.now) passes.items }
+    requires few { workers ≤ length passes.items }
+    ensures own { IfOk result.1 (λ back. All (λ p. p.hall ≡ H.id_of hall.now) back.items) }
+    ensures whole { IfOk result.1 (λ back. length back.items ≡ length passes.items) }
+    ensures why { IfErr result.1 IsOfAttending }
+    ensures faults { L.faults result.0 ≡ failed_serving result.1 (L.faults listener) }
+{
+    thread::scope(
+        thread::scope_env(),
+        rt,
+        |scope| -> (L, Result<Vec<Pass<M>>, CliFault>)
+            requires own { All (λ p. p.hall ≡ H.id_of hall.now) passes.items }
+            requires few { workers ≤ length passes.items }
+            ensures own { IfOk result.1 (λ back. All (λ p. p.hall ≡ H.id_of hall.entry.now) back.items) }
+            ensures whole { IfOk result.1 (λ back. length back.items ≡ length passes.items) }
+            ensures why { IfErr result.1 IsOfAttending }
+            ensures faults { L.faults result.0 ≡ failed_serving result.1 (L.faults listener) }
+        {
+            let mut listener = listener;
+            let attended = attend_in(
+                scope,
+                rt,
+                alloc,
+                hall,
+                shelf,
+                &mut listener,
+                passes,
+                workers,
+            );
+            hall.end_work(rt);
+            match attended {
+                Ok(attended) => (listener, gathered(rt, attended)),
+                Err(fault) => (listener, Err(fault)),
+            }
+        },
+    )
+}
+
+/// Starts the workers, and serves the connections until all sessions have ended.
+fn attend_in<'s, E, D, M, H, S, L, W, R>(
+    scope: &Scope<'s, E>,
+    rt: &'s R,
+    alloc: Global,
+    hall: &'s H,
+    shelf: &'s S,
+    listener: &mut L,
+    passes: Vec<Pass<M>>,
+    workers: u32,
+) -> Result<Attended<M>, CliFault>
+where
+    D: Disk + Send + 's,
+    M: Tally + Send + Sync + 's,
+    H: Workplace<D, M> + Sync,
+    S: Shelf<D> + Sync,
+    L: Listener<W>,
+    W: Wire + Send + Drop + 's,
+    R: Threads + Wait + Sync,
+    requires own { All (λ p. p.hall ≡ H.id_of hall.now) passes.items }
+    requires few { workers ≤ length passes.items }
+    ensures workers { IfOk result (λ a. All (λ h. h.promise.0.value.hall ≡ H.id_of hall.now) a.workers.items) }
+    ensures served { IfOk result (λ a. All (λ p. p.hall ≡ H.id_of hall.now) a.served.items) }
+    ensures whole { IfOk result (λ a. length a.workers.items + length a.served.items ≡ length passes.items) }
+    ensures why { IfErr result IsOfAttending }
+    ensures faults { L.faults listener.new ≡ failed_serving result (L.faults listener.old) }
+{
+    let mut passes = passes;
+    let workers = start_workers(scope, rt, alloc, hall, &mut passes, workers)?;
+    let sessions = start_sessions(scope, rt, alloc, hall, shelf, listener, passes)?;
+    let Ok(served) = join_promised(rt, sessions) else {
+        return Err(CliFault::WorkMemory);
+    };
+    Ok(Attended { workers, served })
+}
+
+/// Starts so many workers, each with one of the passes.
+fn start_workers<'s, E, D, M, H, R>(
+    scope: &Scope<'s, E>,
+    rt: &'s R,
+    alloc: Global,
+    hall: &'s H,
+    passes: &mut Vec<Pass<M>>,
+    count: u32,
+) -> Result<Vec<Attendance<M>>, CliFault>
+where
+    D: Disk + Send + 's,
+    M: Tally + Send + Sync + 's,
+    H: Workplace<D, M> + Sync,
+    R: Threads + Wait + Sync,
+    requires own { All (λ p. p.hall ≡ H.id_of hall.now) passes.old.items }
+    requires few { count ≤ length passes.old.items }
+    ensures rest { All (λ p. p.hall ≡ H.id_of hall.now) passes.new.items }
+    ensures own { IfOk result (λ started. All (λ h. h.promise.0.value.hall ≡ H.id_of hall.now) started.items) }
+    ensures whole { IfOk result (λ started. length started.items + length passes.new.items ≡ length passes.old.items) }
+    ensures why { IfErr result (λ e. e ≡ CliFault.WorkMemory) }
+{
+    let Ok(mut started) = Vec::with_capacity(alloc, count as usize) else {
+        return Err(CliFault::WorkMemory);
+    };
+    for _ in 0..count {
+        let Some(mut pass) = passes.pop() else {
+            unreachable!()
+        };
+        let promise = SameHall(Snapshot::of(&pass));
+        let worker = scope.spawn_with(
+            promise,
+            move || -> Pass<M>
+                requires { pass.hall ≡ H.id_of hall.now }
+                ensures { result.hall ≡ pass.hall }
+            {
+                hall.work_with(rt, alloc, &mut pass);
+                pass
+            },
+        );
+        let Ok(worker) = worker else {
+            return Err(CliFault::WorkMemory);
+        };
+        started.push_reserved(worker);
+    }
+    Ok(started)
+}
+
+/// Starts a session with each of the passes, as the connections come.
+fn start_sessions<'s, E, D, M, H, S, L, W, R>(
+    scope: &Scope<'s, E>,
+    rt: &'s R,
+    alloc: Global,
+    hall: &'s H,
+    shelf: &'s S,
+    listener: &mut L,
+    passes: Vec<Pass<M>>,
+) -> Result<Vec<Attendance<M>>, CliFault>
+where
+    D: Disk + Send + 's,
+    M: Tally + Send + Sync + 's,
+    H: Workplace<D, M> + Sync,
+    S: Shelf<D> + Sync,
+    L: Listener<W>,
+    W: Wire + Send + Drop + 's,
+    R: Threads + Wait + Sync,
+    requires own { All (λ p. p.hall ≡ H.id_of hall.now) passes.items }
+    ensures own { IfOk result (λ started. All (λ h. h.promise.0.value.hall ≡ H.id_of hall.now) started.items) }
+    ensures whole { IfOk result (λ started. length started.items ≡ length passes.items) }
+    ensures why { IfErr result IsOfAttending }
+    ensures faults { L.faults listener.new ≡ failed_serving result (L.faults listener.old) }
+{
+    let Ok(mut started) = Vec::with_capacity(alloc, passes.len()) else {
+        return Err(CliFault::WorkMemory);
+    };
+    for mut pass in passes {
+        let mut wire = match listener.accept() {
+            Ok(wire) => wire,
+            Err(_) => return Err(CliFault::Socket),
+        };
+        let promise = SameHall(Snapshot::of(&pass));
+        let session = scope.spawn_with(
+            promise,
+            move || -> Pass<M>
+                requires { pass.hall ≡ H.id_of hall.now }
+                ensures { result.hall ≡ pass.hall }
+            {
+                hall.serve_with(rt, alloc, &mut pass, shelf, &mut wire);
+                pass
+            },
+        );
+        let Ok(session) = session else {
+            return Err(CliFault::WorkMemory);
+        };
+        started.push_reserved(session);
+    }
+    Ok(started)
+}
+
+/// All passes, once the workers have ended.
+fn gathered<M, R>(rt: &R, attended: Attended<M>) -> Result<Vec<Pass<M>>, CliFault>
+where
+    M: Tally,
+    R: Threads,
+    ensures own { (hall : TableId) → All (λ h. h.promise.0.value.hall ≡ hall) attended.workers.items
+        → All (λ p. p.hall ≡ hall) attended.served.items
+        → IfOk result (λ back. All (λ p. p.hall ≡ hall) back.items) }
+    ensures whole { IfOk result (λ back.
+        length back.items ≡ length attended.workers.items + length attended.served.items) }
+    ensures why { IfErr result (λ e. e ≡ CliFault.WorkMemory) }
+{
+    let Attended {
+        workers,
+        mut served,
+    } = attended;
+    let Ok(mut passes) = join_promised(rt, workers) else {
+        return Err(CliFault::WorkMemory);
+    };
+    match passes.append(&mut served) {
+        Ok(()) => Ok(passes),
+        Err(_) => Err(CliFault::WorkMemory),
+    }
+}

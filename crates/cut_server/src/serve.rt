@@ -1,0 +1,224 @@
+//! A server of studies: workers and sessions in threads of one hall.
+ghost use Rattle.std.specs.Prelude.{◌≡◌, ◌≤◌, ◌+◌, ◌↔◌, length, All, IfOk, IfErr};
+ghost use Rattle.cut_commands.specs.Faults.{failed_calls};
+ghost use Rattle.cut_server.specs.Serve.{TellsReport, IsOfWriting, accepted_in_all};
+ghost use Rattle.cut_server.specs.Serve.{IsOfClosing, IsOfServing, IsStaffed, failed_serving};
+
+use crate::Crew;
+use crate::attend::{Listener, attend};
+use crate::door::{Door, SocketWire};
+use crate::shelf::FolderShelf;
+use cut_commands::{CliFault, FaultText};
+use cut_disks::{Disk, FileDisk};
+use cut_pool::{Hall, NotClosed, Pass, Report, Shelf, Tally};
+use cut_table::{Wire, send_all};
+use itoa::Buffer;
+use std::alloc::Global;
+use std::fs;
+use std::marker::Brand;
+use std::sync::Wait;
+use std::sync::ledger::Blank;
+use std::thread::Threads;
+
+/// How many trials the pieces of a server's studies have.
+const PIECE_SIZE: u32 = 16;
+
+/// Serves as many connections as the crew has sessions, each in a thread of its own, and lets its workers work on
+/// the studies that come. Once every session has ended it closes the hall, and gives its report: of every study
+/// the trials that were counted are those that its history accepted.
+///
+/// Where a connection does not come, or a thread or memory is refused, no further one is taken, the work is ended,
+/// and the sessions that had begun go on until their clients leave. The listener comes back.
+pub fn serve_sessions<D, S, L, W, R>(
+    rt: &R,
+    alloc: Global,
+    listener: L,
+    shelf: &S,
+    crew: Crew,
+) -> (L, Result<Report, CliFault>)
+where
+    D: Disk + Drop + Send,
+    S: Shelf<D> + Sync,
+    L: Listener<W> + Drop,
+    W: Wire + Send + Drop,
+    R: Threads + Wait + Sync,
+    requires { IsStaffed crew }
+    ensures slots { IfOk result.1 (λ report. length report ≡ crew.studies) }
+    ensures why { IfErr result.1 IsOfServing }
+    ensures faults { L.faults result.0 ≡ failed_serving result.1 (L.faults listener) }
+{
+    let made = Blank::new(u64::from(crew.workers) + u64::from(crew.sessions));
+    let kept = Blank::new(u64::from(crew.studies));
+    serve_by::<D, Brand, Brand, S, L, W, R>(rt, alloc, listener, shelf, crew, made, kept)
+}
+
+/// The same, with the blanks of the two ledgers of calls.
+fn serve_by<D, M, K, S, L, W, R>(
+    rt: &R,
+    alloc: Global,
+    listener: L,
+    shelf: &S,
+    crew: Crew,
+    made: Blank,
+    kept: Blank,
+) -> (L, Result<Report, CliFault>)
+where
+    D: Disk + Drop + Send,
+    M: Tally + Send + Sync,
+    K: Tally + Send + Sync,
+    S: Shelf<D> + Sync,
+    L: Listener<W> + Drop,
+    W: Wire + Send + Drop,
+    R: Threads + Wait + Sync,
+    requires crew { IsStaffed crew }
+    requires made { (made.name ≡ M.name) × (made.parts ≡ M.parts)
+        × (M.all ≡ M.parts) × (M.all ≡ crew.workers + crew.sessions) }
+    requires kept { (kept.name ≡ K.name) × (kept.parts ≡ K.parts)
+        × (K.all ≡ K.parts) × (K.all ≡ crew.studies) }
+    ensures slots { IfOk result.1 (λ report. length report ≡ crew.studies) }
+    ensures why { IfErr result.1 IsOfServing }
+    ensures faults { L.faults result.0 ≡ failed_serving result.1 (L.faults listener) }
+{
+    let seats = crew.workers + crew.sessions;
+    let started = Hall::<D, M, K>::start(alloc, crew.studies, seats, PIECE_SIZE, made, kept);
+    let Ok((hall, passes)) = started else {
+        return (listener, Err(CliFault::WorkMemory));
+    };
+    let (listener, attended) = attend(rt, alloc, &hall, shelf, listener, passes, crew.workers);
+    match attended {
+        Ok(passes) => (listener, closed(alloc, hall, passes)),
+        Err(fault) => (listener, Err(fault)),
+    }
+}
+
+/// Closes a hall with all its passes.
+fn closed<D, M, K>(
+    alloc: Global,
+    hall: Hall<D, M, K>,
+    passes: Vec<Pass<M>>,
+) -> Result<Report, CliFault>
+where
+    D: Disk + Drop,
+    M: Tally,
+    K: Tally,
+    requires ledgers { (M.all ≡ M.parts) × (K.all ≡ K.parts) }
+    requires own { All (λ p. p.hall ≡ hall.id) passes.items }
+    requires whole { hall.passes ≤ length passes.items }
+    ensures slots { IfOk result (λ report. length report ≡ hall.slots) }
+    ensures why { IfErr result IsOfClosing }
+{
+    match hall.close(alloc, passes) {
+        Ok(report) => Ok(report),
+        Err(NotClosed::AuditMismatch(_mismatch)) => Err(CliFault::AuditMismatch),
+        Err(NotClosed::Memory) => Err(CliFault::WorkMemory),
+        Err(NotClosed::SeatMissing(_back)) => unreachable!(),
+    }
+}
+
+/// Serves sessions, and writes how many trials all studies accepted: `accepted`, a blank, the number in decimal
+/// and a line feed. At a fault of the serving nothing is written.
+pub fn serve_io<D, S, L, C, W, R>(
+    rt: &R,
+    alloc: Global,
+    listener: L,
+    shelf: &S,
+    crew: Crew,
+    wire: &mut W,
+) -> (L, Result<(), CliFault>)
+where
+    D: Disk + Drop + Send,
+    S: Shelf<D> + Sync,
+    L: Listener<C> + Drop,
+    C: Wire + Send + Drop,
+    W: Wire,
+    R: Threads + Wait + Sync,
+    requires { IsStaffed crew }
+    ensures told { W.tells wire.old → TellsReport crew.studies result.1 (W.traffic wire.old) (W.traffic wire.new) }
+    ensures tells { W.tells wire.old ↔ W.tells wire.new }
+    ensures faults { W.faults wire.new ≡ failed_calls result.1 (W.faults wire.old) }
+    ensures listener { L.faults result.0 ≡ failed_serving result.1 (L.faults listener) }
+{
+    let (listener, served) = serve_sessions(rt, alloc, listener, shelf, crew);
+    match served {
+        Ok(report) => (listener, tell_accepted(&report, wire)),
+        Err(fault) => (listener, Err(fault)),
+    }
+}
+
+/// Writes how many trials the studies of a report accepted.
+fn tell_accepted<W: Wire>(report: &Report, wire: &mut W) -> Result<(), CliFault>
+    requires { length report.now ≤ 64 }
+    ensures told { W.tells wire.old → TellsReport (length report.now) result (W.traffic wire.old) (W.traffic wire.new) }
+    ensures why { IfErr result IsOfWriting }
+    ensures tells { W.tells wire.old ↔ W.tells wire.new }
+    ensures faults { W.faults wire.new ≡ failed_calls result (W.faults wire.old) }
+{
+    let mut digits = Buffer::new();
+    let mut text = FaultText::new();
+    text.push_str("accepted ");
+    text.push_str(digits.format(accepted(report)));
+    text.push_str("\n");
+    match send_all(wire, text.as_bytes()) {
+        Ok(()) => Ok(()),
+        Err(sent) => Err(CliFault::Write(sent.bytes)),
+    }
+}
+
+/// How many trials the studies of a report accepted together.
+fn accepted(report: &Report) -> u128
+    requires { length report.now ≤ 64 }
+    ensures { result ≡ accepted_in_all report.now }
+{
+    let slots = report.slots();
+    let mut total = 0;
+    for study in 0..slots.len() {
+        total += u128::from(slots[study].accepted());
+    }
+    total
+}
+
+/// Serves, as `serve_io` does, at the socket of a path, which is taken away at the end. Where the folder is not there
+/// or the socket is not made, nothing is served.
+pub fn serve_at<W, R>(
+    host: &HostRuntime,
+    rt: &R,
+    path: &str,
+    crew: Crew,
+    folder: Option<&str>,
+    wire: &mut W,
+) -> Result<(), CliFault>
+where
+    W: Wire,
+    R: Threads + Wait + Sync,
+    requires { IsStaffed crew }
+    ensures ends { W.tells wire.old → TellsReport crew.studies result (W.traffic wire.old) (W.traffic wire.new) }
+    ensures tells { W.tells wire.old ↔ W.tells wire.new }
+    ensures faults { W.faults wire.new ≡ failed_calls result (W.faults wire.old) }
+{
+    if !is_folder(host, folder) {
+        return Err(CliFault::Folder);
+    }
+    let Ok(door) = Door::open(host, path) else {
+        return Err(CliFault::Socket);
+    };
+    let shelf = FolderShelf { host, folder };
+    let (door, told) = serve_io::<FileDisk, FolderShelf, Door, SocketWire, W, R>(
+        rt,
+        host.alloc(),
+        door,
+        &shelf,
+        crew,
+        wire,
+    );
+    drop(door);
+    let _ = fs::remove_file(host, path);
+    told
+}
+
+/// Whether there is a folder at the path, if one is given.
+fn is_folder(host: &HostRuntime, folder: Option<&str>) -> bool {
+    match folder {
+        Some(path) => fs::metadata(host, path).is_ok_and(|found| found.is_dir()),
+        None => true,
+    }
+}

@@ -1,0 +1,165 @@
+//! Halls for sessions, in which a worker did some pieces before, or all.
+ghost use Rattle.std.specs.Prelude.{◌≡◌, ◌<◌, ◌≤◌};
+
+use cut_disks::Disk;
+use cut_plan::Plan;
+use cut_pool::{Gate, Hall, Pass, Shelf, Tally};
+use cut_session::{Kind, Reader, SessionEnd, session};
+use cut_table::Wire;
+use cut_trial::Piece;
+use std::alloc::Global;
+use std::marker::Brand;
+use std::sync::Wait;
+use std::sync::atomic::{AtomicU64, Ordering};
+use std::sync::ledger::Blank;
+use std::test::Fail;
+
+/// A hall for a session: how many slots it has, how many trials a piece has at most, and how many pieces of
+/// the studies that were submitted before are worked on.
+#[derive(Clone, Copy)]
+pub(crate) struct House {
+    pub slots: u32,
+    pub size: u32,
+    pub pieces: u64,
+}
+
+/// A hall of one slot, in which nothing was done.
+pub(crate) const EMPTY: House = House {
+    slots: 1,
+    size: 1,
+    pieces: 0,
+};
+
+/// A gate that ends the work in its hall when so many workers have passed.
+#[derive(Drop)]
+struct LastGate<'h, D: Disk, M: Tally, K: Tally> {
+    hall: &'h Hall<D, M, K>,
+    passed: AtomicU64,
+    last: u64,
+}
+
+impl<D: Disk + Drop, M: Tally, K: Tally> Gate for LastGate<'_, D, M, K> {
+    fn pass<R: Wait>(&self, rt: &R, _piece: Piece) {
+        if self.passed.fetch_add(1, Ordering::SeqCst) >= self.last {
+            self.hall.stop(rt);
+        }
+    }
+}
+
+/// Submits the studies among these requests to a hall, and works on so many pieces of them, if any. Then the hall
+/// is stopped.
+fn work_through<D, M, K, S, R>(
+    rt: &R,
+    alloc: Global,
+    hall: &Hall<D, M, K>,
+    pass: &mut Pass<M>,
+    shelf: &S,
+    requests: &[u8],
+    pieces: u64,
+) -> Result<(), Fail>
+where
+    D: Disk + Drop,
+    M: Tally,
+    K: Tally,
+    S: Shelf<D>,
+    R: Wait,
+    requires { pass.old.hall ≡ hall.now.id }
+{
+    let mut reader = Reader::requests(alloc);
+    let fed = reader.feed(alloc, requests)?;
+    for message in fed.messages.iter() {
+        if message.kind == Kind::Submit {
+            submit(rt, alloc, hall, pass, shelf, message.payload.as_slice())?;
+        }
+    }
+    if pieces > 0 {
+        let gate = LastGate {
+            hall,
+            passed: AtomicU64::new(0),
+            last: pieces - 1,
+        };
+        hall.work(rt, alloc, pass, &gate);
+    }
+    Ok(())
+}
+
+/// Submits the study of a plan's text, if it is one.
+fn submit<D, M, K, S, R>(
+    rt: &R,
+    alloc: Global,
+    hall: &Hall<D, M, K>,
+    pass: &mut Pass<M>,
+    shelf: &S,
+    text: &[u8],
+) -> Result<(), Fail>
+where
+    D: Disk + Drop,
+    M: Tally,
+    K: Tally,
+    S: Shelf<D>,
+    R: Wait,
+    requires { pass.old.hall ≡ hall.now.id }
+    ensures { pass.new ≡ pass.old }
+{
+    if let Ok(plan) = Plan::from_json(alloc, text) {
+        hall.submit(rt, alloc, pass, plan, shelf)?;
+    }
+    Ok(())
+}
+
+/// A session over this wire, in a hall to which the studies of some requests were submitted before.
+fn served<D, M, K, S, W, R>(
+    rt: &R,
+    alloc: Global,
+    house: House,
+    before: &[u8],
+    shelf: &S,
+    wire: &mut W,
+    made: Blank,
+    kept: Blank,
+) -> Result<SessionEnd, Fail>
+where
+    D: Disk + Drop,
+    M: Tally,
+    K: Tally,
+    S: Shelf<D>,
+    W: Wire,
+    R: Wait,
+    requires slots { (0 < house.slots) × (house.slots ≤ 64) }
+    requires size { 1 ≤ house.size }
+    requires made { (made.name ≡ M.name) × (made.parts ≡ M.parts) × (M.all ≡ M.parts) × (M.all ≡ 2) }
+    requires kept { (kept.name ≡ K.name) × (kept.parts ≡ K.parts)
+        × (K.all ≡ K.parts) × (K.all ≡ house.slots) }
+{
+    let started = Hall::start(alloc, house.slots, 2, house.size, made, kept);
+    let (hall, mut passes): (Hall<D, M, K>, Vec<Pass<M>>) = started?;
+    let Some(mut first) = passes.pop() else {
+        unreachable!()
+    };
+    let Some(mut second) = passes.pop() else {
+        unreachable!()
+    };
+    work_through(rt, alloc, &hall, &mut first, shelf, before, house.pieces)?;
+    Ok(session(rt, alloc, &hall, &mut second, shelf, wire))
+}
+
+/// How a session ends over this wire, in a hall to which the studies of some requests were submitted before.
+pub(crate) fn serve<D, S, W, R>(
+    rt: &R,
+    alloc: Global,
+    house: House,
+    before: &[u8],
+    shelf: &S,
+    wire: &mut W,
+) -> Result<SessionEnd, Fail>
+where
+    D: Disk + Drop,
+    S: Shelf<D>,
+    W: Wire,
+    R: Wait,
+    requires slots { (0 < house.slots) × (house.slots ≤ 64) }
+    requires size { 1 ≤ house.size }
+{
+    let kept = Blank::new(u64::from(house.slots));
+    served::<D, Brand, Brand, S, W, R>(rt, alloc, house, before, shelf, wire, Blank::new(2), kept)
+}

@@ -1,0 +1,49 @@
+ghost use Rattle.std.specs.Prelude.{◌≡◌, ◌↔◌};
+ghost use Rattle.cut_commands.specs.Faults.{failed_calls};
+ghost use Rattle.cutlab.specs.Jobs.{EndsJob};
+ghost use Rattle.cutlab.specs.Line.{IsSized};
+
+use crate::Job;
+use cut_commands::{CliFault, ask_at, check_io, run_file, run_io};
+use cut_disks::FileDisk;
+use cut_server::serve_at;
+use cut_table::Wire;
+use std::sync::Wait;
+use std::thread::Threads;
+
+/// Does a job over a wire. The file of a checkpoint is opened by `host` before anything is read.
+pub(crate) fn answer<W, R>(
+    host: &HostRuntime,
+    rt: &R,
+    job: Job,
+    wire: &mut W,
+) -> Result<(), CliFault>
+where
+    W: Wire,
+    R: Threads + Wait + Sync,
+    requires { IsSized job }
+    ensures ends { W.tells wire.old → EndsJob job.entry (W.traffic wire.old) (W.traffic wire.new) result }
+    ensures tells { W.tells wire.old ↔ W.tells wire.new }
+    ensures faults { W.faults wire.new ≡ failed_calls result (W.faults wire.old) }
+{
+    let alloc = host.alloc();
+    match job {
+        Job::Run {
+            piece,
+            workers,
+            checkpoint: None,
+        } => run_io::<W, FileDisk, R>(rt, alloc, wire, piece, workers, None),
+        Job::Run {
+            piece,
+            workers,
+            checkpoint: Some(path),
+        } => run_file(host, rt, wire, piece, workers, path),
+        Job::Check => check_io(alloc, wire),
+        Job::Serve {
+            socket,
+            crew,
+            folder,
+        } => serve_at(host, rt, socket, crew, folder, wire),
+        Job::Ask { socket } => ask_at(host, wire, socket),
+    }
+}
