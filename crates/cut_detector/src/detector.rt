@@ -1,4 +1,4 @@
-ghost use Rattle.std.specs.Prelude.{◌≡◌, ◌+◌, ◌≤◌, ◌<◌, ◌^◌, ◌↔◌, ◌∷◌, ◌++◌, [], List, length, option_map, IfOk, IsSome, IsNone, IsTrue};
+ghost use Rattle.std.specs.Prelude.{◌≡◌, ◌+◌, ◌≤◌, ◌<◌, ◌^◌, ◌↔◌, ◌∷◌, ◌++◌, [], List, length, option_map, IfOk, IfSome, IsSome, IsNone, IsTrue};
 ghost use Rattle.cut_rings.specs.declared.edge.Edge.{Edge};
 ghost use Rattle.cut_rings.specs.Edges.{first_of, is_edge_of, are_edges_of};
 ghost use Rattle.cut_detector.specs.Rule.{rule_of};
@@ -120,7 +120,8 @@ impl<'a> Detector<'a> {
 
     /// How many edges were delivered since it was made or reset; where it settled, up to that place.
     pub fn deliveries(&self) -> u64
-        ensures { result ≡ self.now.deliveries }
+        ensures value { result ≡ self.now.deliveries }
+        ensures place { IfSome self.now.proposal (λ p. p.at ≡ result) }
     {
         self.deliveries
     }

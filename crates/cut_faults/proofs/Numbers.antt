@@ -1,7 +1,7 @@
 -- What a fault's number names.
 use Rattle.std.proofs.Common.{◌≡◌, Some, refl, sym, ap, ◌∙◌}
 use Rattle.cut_faults.specs.declared.code.FaultCode.{FaultCode}
-use Rattle.cut_faults.specs.declared.code.FaultCode.TheVariants.{Memory, NotJson, NotObject, UnknownField, MissingField, WrongKind, OutOfRange, NotRising, NoCell, TooManyFaults, TooManyTrials, NotPermutation, TooFew, BadRole, BadPiece, Stranger, Overlap, BadSlip, NotDone, PlanTooLong, Disk, Broken, NoStudy, OtherPlan, Damaged, Held, NoSlot, SeatFull, SeatMissing, SlotsFull, Checkpoint, Write, WorkMemory, AuditMismatch, Stopped, BadKind, TooLong, Truncated, Read, TooManyRequests, BadLength}
+use Rattle.cut_faults.specs.declared.code.FaultCode.TheVariants.{Memory, NotJson, NotObject, UnknownField, MissingField, WrongKind, OutOfRange, NotRising, NoCell, TooManyFaults, TooManyTrials, NotPermutation, TooFew, BadRole, BadPiece, Stranger, Overlap, BadSlip, NotDone, PlanTooLong, Disk, Broken, NoStudy, OtherPlan, Damaged, Held, NoSlot, SeatFull, SeatMissing, SlotsFull, Checkpoint, Write, WorkMemory, AuditMismatch, Stopped, BadKind, TooLong, Truncated, Read, TooManyRequests, BadLength, Disagrees, NotVersion1}
 use Rattle.cut_faults.specs.Codes.{all_codes, number_of, code_numbered}
 
 -- a fault is found by its number
@@ -48,6 +48,8 @@ found Truncated = refl
 found Read = refl
 found TooManyRequests = refl
 found BadLength = refl
+found Disagrees = refl
+found NotVersion1 = refl
 
 -- two faults that are found by one number are one
 pub one_number : (a b : FaultCode) → number_of a ≡ number_of b → a ≡ b

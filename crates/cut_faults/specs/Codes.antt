@@ -3,7 +3,7 @@ use Rattle.std.specs.Prelude.{ℕ, ◌==◌, ◌++◌, List, [], ◌∷◌, code
 use Rattle.std.specs.List.{find}
 use Rattle.std.specs.Fmt.{decimal}
 use Rattle.cut_faults.specs.declared.code.FaultCode.{FaultCode}
-use Rattle.cut_faults.specs.declared.code.FaultCode.TheVariants.{Memory, NotJson, NotObject, UnknownField, MissingField, WrongKind, OutOfRange, NotRising, NoCell, TooManyFaults, TooManyTrials, NotPermutation, TooFew, BadRole, BadPiece, Stranger, Overlap, BadSlip, NotDone, PlanTooLong, Disk, Broken, NoStudy, OtherPlan, Damaged, Held, NoSlot, SeatFull, SeatMissing, SlotsFull, Checkpoint, Write, WorkMemory, AuditMismatch, Stopped, BadKind, TooLong, Truncated, Read, TooManyRequests, BadLength}
+use Rattle.cut_faults.specs.declared.code.FaultCode.TheVariants.{Memory, NotJson, NotObject, UnknownField, MissingField, WrongKind, OutOfRange, NotRising, NoCell, TooManyFaults, TooManyTrials, NotPermutation, TooFew, BadRole, BadPiece, Stranger, Overlap, BadSlip, NotDone, PlanTooLong, Disk, Broken, NoStudy, OtherPlan, Damaged, Held, NoSlot, SeatFull, SeatMissing, SlotsFull, Checkpoint, Write, WorkMemory, AuditMismatch, Stopped, BadKind, TooLong, Truncated, Read, TooManyRequests, BadLength, Disagrees, NotVersion1}
 
 -- the number of a fault
 abbrev pub number_of : FaultCode → ℕ
@@ -48,6 +48,8 @@ number_of Truncated = 42
 number_of Read = 43
 number_of TooManyRequests = 44
 number_of BadLength = 45
+number_of Disagrees = 46
+number_of NotVersion1 = 47
 
 -- its name; two faults, of a call and of a running study, are both want of memory
 abbrev pub name_of : FaultCode → List ℕ
@@ -92,6 +94,8 @@ name_of Truncated = codes "Truncated"
 name_of Read = codes "Read"
 name_of TooManyRequests = codes "TooManyRequests"
 name_of BadLength = codes "BadLength"
+name_of Disagrees = codes "Disagrees"
+name_of NotVersion1 = codes "NotVersion1"
 
 -- the status with which a command ends that it ended: 3 where a plan was refused, 5 where memory was
 -- wanting, and 4 at any other
@@ -137,10 +141,12 @@ status_of Truncated = 4
 status_of Read = 4
 status_of TooManyRequests = 4
 status_of BadLength = 4
+status_of Disagrees = 4
+status_of NotVersion1 = 3
 
 -- every fault, by number
 unfoldable pub all_codes : List FaultCode
-all_codes = Memory ∷ NotJson ∷ NotObject ∷ UnknownField ∷ MissingField ∷ WrongKind ∷ OutOfRange ∷ NotRising ∷ NoCell ∷ TooManyFaults ∷ TooManyTrials ∷ NotPermutation ∷ TooFew ∷ BadRole ∷ BadPiece ∷ Stranger ∷ Overlap ∷ BadSlip ∷ NotDone ∷ PlanTooLong ∷ Disk ∷ Broken ∷ NoStudy ∷ OtherPlan ∷ Damaged ∷ Held ∷ NoSlot ∷ SeatFull ∷ SeatMissing ∷ SlotsFull ∷ Checkpoint ∷ Write ∷ WorkMemory ∷ AuditMismatch ∷ Stopped ∷ BadKind ∷ TooLong ∷ Truncated ∷ Read ∷ TooManyRequests ∷ BadLength ∷ []
+all_codes = Memory ∷ NotJson ∷ NotObject ∷ UnknownField ∷ MissingField ∷ WrongKind ∷ OutOfRange ∷ NotRising ∷ NoCell ∷ TooManyFaults ∷ TooManyTrials ∷ NotPermutation ∷ TooFew ∷ BadRole ∷ BadPiece ∷ Stranger ∷ Overlap ∷ BadSlip ∷ NotDone ∷ PlanTooLong ∷ Disk ∷ Broken ∷ NoStudy ∷ OtherPlan ∷ Damaged ∷ Held ∷ NoSlot ∷ SeatFull ∷ SeatMissing ∷ SlotsFull ∷ Checkpoint ∷ Write ∷ WorkMemory ∷ AuditMismatch ∷ Stopped ∷ BadKind ∷ TooLong ∷ Truncated ∷ Read ∷ TooManyRequests ∷ BadLength ∷ Disagrees ∷ NotVersion1 ∷ []
 
 -- the fault with a number
 abbrev pub code_numbered : ℕ → Option FaultCode

@@ -90,6 +90,10 @@ pub enum FaultCode {
     TooManyRequests,
     /// A message's length is wrong for its kind.
     BadLength,
+    /// A slip's numbers are not those that its trials give.
+    Disagrees,
+    /// The plan to be upgraded is no plan of version 1.
+    NotVersion1,
 }
 
 impl FaultCode {
@@ -139,6 +143,8 @@ impl FaultCode {
             FaultCode::Read => 43,
             FaultCode::TooManyRequests => 44,
             FaultCode::BadLength => 45,
+            FaultCode::Disagrees => 46,
+            FaultCode::NotVersion1 => 47,
         }
     }
 
@@ -188,6 +194,8 @@ impl FaultCode {
             FaultCode::Read => "Read",
             FaultCode::TooManyRequests => "TooManyRequests",
             FaultCode::BadLength => "BadLength",
+            FaultCode::Disagrees => "Disagrees",
+            FaultCode::NotVersion1 => "NotVersion1",
         }
     }
 
@@ -207,7 +215,8 @@ impl FaultCode {
             | FaultCode::NoCell
             | FaultCode::TooManyFaults
             | FaultCode::TooManyTrials
-            | FaultCode::PlanTooLong => 3,
+            | FaultCode::PlanTooLong
+            | FaultCode::NotVersion1 => 3,
             FaultCode::Memory | FaultCode::WorkMemory => 5,
             _ => 4,
         }
@@ -255,7 +264,7 @@ impl fmt::Display for FaultCode {
 
 /// Every fault, by number.
 #[tactic(auto, unfolding(crate::specs::Codes::all_codes))]
-fn all_codes() -> [FaultCode; 41]
+fn all_codes() -> [FaultCode; 43]
     ensures { result ≡ all_codes }
 {
     [
@@ -300,5 +309,7 @@ fn all_codes() -> [FaultCode; 41]
         FaultCode::Read,
         FaultCode::TooManyRequests,
         FaultCode::BadLength,
+        FaultCode::Disagrees,
+        FaultCode::NotVersion1,
     ]
 }

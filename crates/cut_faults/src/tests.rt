@@ -10,6 +10,8 @@ fn faults_are_printed(rt: HostRuntime) -> Result<(), Fail> {
         (FaultCode::PlanTooLong, "19 PlanTooLong"),
         (FaultCode::WorkMemory, "32 Memory"),
         (FaultCode::BadLength, "45 BadLength"),
+        (FaultCode::Disagrees, "46 Disagrees"),
+        (FaultCode::NotVersion1, "47 NotVersion1"),
     ];
     for (code, text) in rows {
         assert_eq!(rt; code.to_string(alloc)?.as_str(), text);
@@ -22,7 +24,7 @@ fn numbers_name_faults(rt: HostRuntime) {
     assert_eq!(rt; FaultCode::of_number(16), Some(FaultCode::Overlap));
     assert_eq!(rt; FaultCode::of_number(35), None);
     assert_eq!(rt; name_of_number(29), "SlotsFull");
-    assert_eq!(rt; name_of_number(46), "Unknown");
+    assert_eq!(rt; name_of_number(48), "Unknown");
     assert_eq!(rt; name_of_number(65_535), "Unknown");
     let rows = [
         (0, 5),
@@ -32,6 +34,8 @@ fn numbers_name_faults(rt: HostRuntime) {
         (19, 3),
         (31, 4),
         (32, 5),
+        (46, 4),
+        (47, 3),
         (99, 4),
     ];
     for (number, status) in rows {

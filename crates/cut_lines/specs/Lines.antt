@@ -4,7 +4,10 @@ use Rattle.std.specs.Prelude.{ℕ, ◌*◌, ◌/◌, List, [], ◌∷◌, ◌++�
 use Rattle.std.specs.Fmt.{decimal}
 use Rattle.std.specs.List.{range_with_len, flat_map, join_with_byte}
 use Rattle.cut_plan.specs.declared.cell.Cell.{Cell}
+use Rattle.cut_plan.specs.declared.version.Version.{Version}
+use Rattle.cut_plan.specs.declared.version.Version.TheVariants.{One, Two}
 use Rattle.cut_plan.specs.Values.{Values}
+use Rattle.cut_plan.specs.Versions.{version_of}
 use Rattle.cut_plan.specs.Cells.{cells_of}
 use Rattle.cut_trial.specs.declared.totals.Totals.{Totals}
 use Rattle.cut_trial.specs.Outcome.{no_cell}
@@ -14,9 +17,19 @@ use Rattle.cut_trial.specs.Sum.{sum_of, trials_of_cell}
 abbrev pub comma_line : List ℕ → List ℕ
 comma_line numbers = join_with_byte 44 (map decimal numbers) ++ 10 ∷ []
 
--- the names of the columns, with a line feed
-abbrev pub header : List ℕ
-header = codes "k,h,l,f,trials,receivers,conflicts,silent,extra,votes,decided,right,ppm" ++ 10 ∷ []
+-- the names of the columns of a version's tables: those of version 2 tell `settled`
+abbrev pub names_of : Version → List ℕ
+names_of One = codes "k,h,l,f,trials,receivers,conflicts,silent,extra,votes,decided,right,ppm"
+names_of Two = codes "k,h,l,f,trials,receivers,conflicts,silent,extra,votes,decided,right,settled,ppm"
+
+-- these names, with a line feed
+abbrev pub header : Version → List ℕ
+header version = names_of version ++ 10 ∷ []
+
+-- the column of `settled`, which the tables of version 1 do not have
+abbrev pub settled_column : Version → Totals → List ℕ
+settled_column One x = []
+settled_column Two x = x.settled ∷ []
 
 -- conflicts in a million receivers, rounded down; 0 where there are no receivers
 abbrev pub ppm_of : Totals → ℕ
@@ -26,7 +39,7 @@ ppm_of x = x.conflicts * 1000000 / x.receivers
 abbrev pub columns : Values → Cell → Totals → List ℕ
 columns v c x =
     c.k ∷ c.h ∷ c.l ∷ c.f ∷ v.repeats ∷ x.receivers ∷ x.conflicts ∷ x.silent ∷ x.extra ∷ x.votes ∷ x.decided
-    ∷ x.right ∷ ppm_of x ∷ []
+    ∷ x.right ∷ settled_column (version_of v.failing) x ++ ppm_of x ∷ []
 
 -- the cell with this number
 abbrev pub cell_numbered : Values → ℕ → Cell
@@ -42,4 +55,4 @@ line_of v i = line_with v i (sum_of v (trials_of_cell v i))
 
 -- the header, and the lines of the cells in order
 unfoldable pub table : Values → List ℕ
-table v = header ++ flat_map (λ i. line_of v i) (range_with_len 0 (length (cells_of v)))
+table v = header (version_of v.failing) ++ flat_map (λ i. line_of v i) (range_with_len 0 (length (cells_of v)))

@@ -1,22 +1,31 @@
-ghost use Rattle.std.specs.Prelude.{◌≡◌, ◌^◌, ◌<◌, ◌≤◌, length, IfOk};
+ghost use Rattle.std.specs.Prelude.{◌≡◌, ◌^◌, ◌<◌, ◌≤◌, ◌++◌, length, IfOk, OnOk};
 ghost use Rattle.cut_plan.specs.Cells.{cells_of};
-ghost use Rattle.cut_lines.specs.Lines.{header, line_with, ppm_of};
+ghost use Rattle.cut_plan.specs.Versions.{version_of};
+ghost use Rattle.cut_lines.specs.Lines.{header, line_with, ppm_of, settled_column};
 
 use crate::row::row;
-use cut_plan::Plan;
+use cut_plan::{Plan, Version};
 use cut_trial::Totals;
 use std::alloc::{AllocError, Global};
 
-/// The first line of every table: the names of its columns, with a line feed.
-pub fn header() -> &'static [u8]
-    ensures { result.now ≡ header }
+/// The first line of a plan's table: the names of its columns, with a line feed. A table of version 2 has
+/// the column `settled`, in front of `ppm`. It has at most 80 bytes.
+pub fn header(plan: &Plan) -> &'static [u8]
+    ensures names { result.now ≡ header (version_of plan.now.failing) }
+    ensures short { length result.now ≤ 80 }
 {
-    b"k,h,l,f,trials,receivers,conflicts,silent,extra,votes,decided,right,ppm\n"
+    match plan.version() {
+        Version::One =>
+            b"k,h,l,f,trials,receivers,conflicts,silent,extra,votes,decided,right,ppm\n",
+        Version::Two => {
+            b"k,h,l,f,trials,receivers,conflicts,silent,extra,votes,decided,right,settled,ppm\n"
+        }
+    }
 }
 
 /// The line of the plan's cell with this number, counted from 0, with a line feed: k, h, l and f of the
-/// cell, the number of its trials, their sums, and conflicts in a million receivers, rounded down (0
-/// where there are no receivers). It has at most 273 bytes.
+/// cell, the number of its trials, their sums (`settled` where the plan is of version 2), and conflicts in
+/// a million receivers, rounded down (0 where there are no receivers). It has at most 294 bytes.
 pub fn cell_line(
     alloc: Global,
     plan: &Plan,
@@ -26,10 +35,10 @@ pub fn cell_line(
     requires number { number < length (cells_of plan.now) }
     requires few { totals.conflicts < 2 ^ 32 }
     ensures line { IfOk result (λ line. line.items ≡ line_with plan.now number totals) }
-    ensures short { IfOk result (λ line. length line.items ≤ 273) }
+    ensures short { IfOk result (λ line. length line.items ≤ 294) }
 {
     let cell = plan.cell(number);
-    let columns = [
+    let first = [
         u64::from(cell.k),
         u64::from(cell.h),
         u64::from(cell.l),
@@ -42,9 +51,23 @@ pub fn cell_line(
         totals.votes,
         totals.decided,
         totals.right,
-        ppm_of(totals),
     ];
-    row(alloc, &columns)
+    let mut columns = Vec::from_slice(alloc, first.as_slice())?;
+    push_settled(&mut columns, plan, totals)?;
+    columns.push(ppm_of(totals))?;
+    row(alloc, columns.as_slice())
+}
+
+/// Adds the column of `settled`, where the plan's tables have it.
+fn push_settled(columns: &mut Vec<u64>, plan: &Plan, totals: Totals) -> Result<(), AllocError>
+    ensures { OnOk result
+        (columns.new.items ≡ columns.old.items ++ settled_column (version_of plan.now.failing) totals) }
+{
+    match plan.version() {
+        Version::One => {}
+        Version::Two => columns.push(totals.settled)?,
+    }
+    Ok(())
 }
 
 /// Conflicts in a million receivers, rounded down.

@@ -305,8 +305,9 @@ impl Plan {
     }
 
     /// The plan of version 2 whose targets fail in the same way, so that every trial has the same
-    /// outcome: none of them is deaf where they crash, and as many as the greatest number of failed
-    /// processes where they are deaf. Of a plan of version 2 it is a copy. Fails only for want of memory.
+    /// outcome but for the number that version 1 does not tell: none of them is deaf where they crash, and
+    /// as many as the greatest number of failed processes where they are deaf. Of a plan of version 2 it is
+    /// a copy. Fails only for want of memory.
     pub fn upgrade(&self, alloc: Global) -> Result<Plan, AllocError>
         ensures value { IfOk result (λ p. p ≡ upgraded self.now) }
     {

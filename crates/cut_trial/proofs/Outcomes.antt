@@ -1,9 +1,10 @@
 -- One trial: its numbers are its outcome once its parts are those of the plan, and they are possible ones.
-use Rattle.std.proofs.Common.{◌≡◌, ℕ, ◌+◌, ◌-◌, ◌/◌, ◌^◌, ◌<◌, ◌≤◌, min, Bool, true, cond, List, [], ◌∷◌, ◌++◌, Option, Some, None, option_map, get_or, map, filter, not, length, refl, sym, ap, ◌∙◌, arith, nat_le}
-use Rattle.cut_trial.proofs.Words.{Contains, count_by, slice_get, range_with_len, Cell, Values, IsPlan, cells_of, largest, trial_count, Edge, Layout, Source, source_of, Assignment, is_target, drawn, alert_list, Proposal, receivers_of, targets_of, judged, quorum_of, votes_of, most_votes, cast_of, rings_of, receiver_proposal, totals_of, cell_at, no_cell, one_if, outcome, ArePossible}
+use Rattle.std.proofs.Common.{◌≡◌, ℕ, ◌+◌, ◌-◌, ◌*◌, ◌/◌, ◌^◌, ◌<◌, ◌≤◌, min, Bool, true, cond, List, [], ◌∷◌, ◌++◌, Option, Some, None, option_map, get_or, map, filter, not, length, refl, sym, ap, ◌∙◌, arith, nat_le}
+use Rattle.cut_trial.proofs.Words.{Contains, count_by, slice_get, early, range_with_len, rule_of, Cell, Values, IsPlan, cells_of, deliveries_at, largest, trial_count, Edge, Layout, Source, source_of, Assignment, is_target, drawn, alert_list, Proposal, receivers_of, targets_of, judged, quorum_of, votes_of, most_votes, cast_of, rings_of, receiver_proposal, totals_of, cell_at, no_cell, one_if, outcome, place_of, ArePossible, LiesWithin}
+use Rattle.std.specs.List.{sum_by}
 use Rattle.std.proofs.lemmas.Nat.{div_below}
 use Rattle.std.proofs.lemmas.List.{length-map, length_push}
-use Rattle.std.proofs.lemmas.List.Elements.{Contains-get_or}
+use Rattle.std.proofs.lemmas.List.Elements.{All-map, Contains-get_or}
 use Rattle.std.proofs.lemmas.List.FromFn.{length-map-range_with_len}
 use Rattle.std.proofs.lemmas.List.Sums.{count_by-le-length, sum_by_push}
 use Rattle.std.proofs.lemmas.Option.{get_or_from_slice_get}
@@ -11,7 +12,10 @@ use mir.Val.{bool_byte}
 use Rattle.cut_lists.proofs.Counts.{counts-apart}
 use Rattle.cut_trial.specs.declared.replays.Replays.{Replays}
 use Rattle.cut_trial.proofs.FastRound.{byte_of, few_cast, few_votes_cast, most_votes_are_most, one_if-le}
+use Rattle.cut_trial.proofs.Places.{IsPlacedBy, few_deliveries, placed, places_within, settled_by}
 use Rattle.cut_trial.proofs.Roles.{receivers_are_the_rest}
+use Rattle.cut_plan.specs.declared.version.Version.TheVariants.{Two}
+use Rattle.cut_plan.specs.Versions.{version_of}
 
 -- ---- the parts of a trial
 
@@ -50,6 +54,22 @@ count_more p ps x b old n r few was same one is =
     let all = count_by-le-length p (ps ++ x ∷ []) in
     let more = sum_by_push (λ y. cond (p y) 1 0) ps x in
     omega (arith, few, was, one, is, bit, all, more, byte_of b, length_push ps x)
+
+-- a sum of places with one more, of fewer receivers than would make it more than 64 bits hold
+pub record PlacesMore (ps : List (Option Proposal)) (x : Option Proposal) (r : ℕ) : Type 0 where
+  pub sum : r ≡ sum_by place_of (ps ++ x ∷ [])
+  pub few : r ≤ 2 ^ 31 * length (ps ++ x ∷ [])
+
+pub places_more : (ps : List (Option Proposal)) (x : Option Proposal) (old n r : ℕ)
+    → length ps < 2 ^ 32 → old ≡ sum_by place_of ps → old ≤ 2 ^ 31 * length ps → n ≤ 2 ^ 31 → n ≡ place_of x
+    → r ≡ min (old + n) 18446744073709551615 → PlacesMore ps x r
+places_more ps x old n r few was low small same is =
+    let more = sum_by_push place_of ps x in
+    let longer = length_push ps x in
+    record {
+      sum = omega (arith, few, was, low, small, same, is, more);
+      few = omega (arith, few, was, low, small, same, is, longer);
+    }
 
 -- what a receiver proposed, by its members
 pub none_proposed : (p : Option Proposal) → None ≡ option_map (λ (x : Proposal). x.members) p → p ≡ None
@@ -93,23 +113,51 @@ silent_is_not_extra a (Some p) extra silent = cc
 one_if-at_most : (q a : ℕ) → one_if (nat_le q a) ≤ 1
 one_if-at_most q a = grind arith
 
-pub possible_outcome : (v : Values) (t : ℕ) → ArePossible 1 (v.nodes - (cell_at v t).f) (outcome v t)
-unfolding outcome
-possible_outcome v t =
-    let a : Assignment = roles_in v t in
-    let ps : List (Option Proposal) = map (λ j. proposed_in v t j) (receivers_of a) in
-    let rest = receivers_are_the_rest v (cell_at v t).f (source_of v.seed t) (rings_of v) in
-    let all = length-map (receivers_of a) (λ j. proposed_in v t j) ∙ rest in
-    let silent : Option Proposal → Bool = λ p. (judged a p).silent in
-    let conflicts = counts-apart (λ p. (judged a p).conflict) silent ps (silent_is_no_conflict a) in
-    let extra = counts-apart (λ p. (judged a p).extra) silent ps (silent_is_not_extra a) in
-    let most = most_votes_are_most (cast_of ps) (targets_of a) in
-    record {
-      receivers = omega arith;
-      conflicts = omega (arith, all, conflicts);
-      extra = omega (arith, all, extra);
-      votes = omega (arith, all, few_votes_cast (cast_of ps), few_cast ps);
-      decided = one_if-at_most (quorum_of v.nodes) (most_votes (cast_of ps));
-      right = one_if-le (quorum_of v.nodes) (votes_of (cast_of ps) (targets_of a))
-          (most_votes (cast_of ps)) most;
-    }
+-- each receiver that proposes does so by the last delivery
+module _ (v : Values) (t : ℕ) where
+  abbrev proposals : List (Option Proposal)
+  proposals = map (λ j. proposed_in v t j) (receivers_of (roles_in v t))
+
+  abbrev is_silent : Option Proposal → Bool
+  is_silent p = (judged (roles_in v t) p).silent
+
+  as_many_proposals : length proposals ≡ v.nodes - (cell_at v t).f
+  as_many_proposals = length-map (receivers_of (roles_in v t)) (λ j. proposed_in v t j)
+      ∙ receivers_are_the_rest v (cell_at v t).f (source_of v.seed t) (rings_of v)
+
+  places : LiesWithin (v.nodes - (cell_at v t).f - count_by is_silent proposals) (deliveries_at v t)
+      (sum_by place_of proposals)
+  places =
+      let c : Cell = cell_at v t in
+      let each = All-map (λ o. IsPlacedBy (deliveries_at v t) o) (λ j. proposed_in v t j)
+      (receivers_of (roles_in v t)) (λ i x _.
+      (let j : ℕ = get_or (receivers_of (roles_in v t)) i x in
+      placed (rings_of v) (rule_of c.k c.h c.l v.implicit)
+      (λ n. early (source_of v.seed t) j c.k (edges_in v t) v.copies n) (deliveries_at v t))) in
+      rw as_many_proposals at (places_within (roles_in v t) (deliveries_at v t) proposals each)
+
+  pub settled_lies_within : version_of v.failing ≡ Two
+      → LiesWithin ((outcome v t).receivers - (outcome v t).silent) (deliveries_at v t) (outcome v t).settled
+  unfolding outcome
+  settled_lies_within two = rw two places
+
+  pub possible_outcome : ArePossible v (cell_at v t) 1 (outcome v t)
+  unfolding outcome
+  possible_outcome =
+      let a : Assignment = roles_in v t in
+      let ps : List (Option Proposal) = proposals in
+      let all : length ps ≡ v.nodes - (cell_at v t).f = as_many_proposals in
+      let conflicts = counts-apart (λ p. (judged a p).conflict) is_silent ps (silent_is_no_conflict a) in
+      let extra = counts-apart (λ p. (judged a p).extra) is_silent ps (silent_is_not_extra a) in
+      let most = most_votes_are_most (cast_of ps) (targets_of a) in
+      record {
+        receivers = omega arith;
+        conflicts = omega (arith, all, conflicts);
+        extra = omega (arith, all, extra);
+        votes = omega (arith, all, few_votes_cast (cast_of ps), few_cast ps);
+        decided = one_if-at_most (quorum_of v.nodes) (most_votes (cast_of ps));
+        right = one_if-le (quorum_of v.nodes) (votes_of (cast_of ps) (targets_of a))
+            (most_votes (cast_of ps)) most;
+        settled = settled_by (version_of v.failing) ps _ (deliveries_at v t) _ places
+            (few_deliveries (rings_of v) a (cell_at v t).k v.copies);
+      }

@@ -1,6 +1,6 @@
 -- Sums over trials: one trial more, parts, and what the sums over trials of one cell can be.
 use Rattle.std.proofs.Common.{◌≡◌, ℕ, ◌+◌, ◌-◌, ◌*◌, ◌≤◌, List, [], ◌∷◌, ◌++◌, length, sym, ap, ◌∙◌, arith, zero-mul, suc-mul}
-use Rattle.cut_trial.proofs.Words.{All, IsTrue, range_with_len, Cell, Values, Piece, Totals, cell_at, outcome, each_number, plus, sum_of, is_piece, IsAtMost, ArePossible}
+use Rattle.cut_trial.proofs.Words.{All, IsTrue, range_with_len, Cell, Values, IsPlan, Piece, Totals, cell_at, outcome, each_number, plus, sum_of, is_piece, IsAtMost, ArePossible}
 use Rattle.std.proofs.lemmas.List.Elements.{All-head, All-tail}
 use Rattle.std.proofs.lemmas.List.FromFn.{length-range_with_len}
 use Rattle.std.proofs.lemmas.List.Sums.{sum_by_push, sum_by-append, sum_by-cons}
@@ -8,6 +8,8 @@ use Rattle.std.proofs.lemmas.Nat.{mul-le}
 use Rattle.cut_lists.proofs.Ranges.{range_with_len_more, ranges-join, All-range_with_len}
 use Rattle.cut_trial.proofs.Outcomes.{possible_outcome}
 use Rattle.cut_trial.proofs.Pieces.{piece_facts}
+use Rattle.cut_trial.proofs.Places.{none_settled, settled_few, settled_more}
+use Rattle.cut_plan.specs.Versions.{version_of}
 
 same_numbers : (f g : (Totals → ℕ) → ℕ) → ((x : Totals → ℕ) → f x ≡ g x) → each_number f ≡ each_number g
 same_numbers f g same = ap (λ (h : (Totals → ℕ) → ℕ). each_number h) (λ i x. same x i)
@@ -31,7 +33,7 @@ parts_add_up v first m n = ap (λ ts. sum_of v ts) (sym (ranges-join first m n))
 -- ---- what the sums can be
 
 pub trials_possible : (v : Values) (c : Cell) (ts : List ℕ) → All (λ t. cell_at v t ≡ c) ts
-    → ArePossible (length ts) (v.nodes - c.f) (sum_of v ts)
+    → ArePossible v c (length ts) (sum_of v ts)
 trials_possible v c [] same = record {
   receivers = sym (zero-mul (v.nodes - c.f));
   conflicts = omega arith;
@@ -39,6 +41,7 @@ trials_possible v c [] same = record {
   votes = omega arith;
   decided = omega arith;
   right = omega arith;
+  settled = none_settled (version_of v.failing) (v.nodes * c.k * v.copies);
 }
 trials_possible v c (t ∷ ts) same =
     let here : cell_at v t ≡ c = All-head (λ s. cell_at v s ≡ c) t ts same in
@@ -53,20 +56,29 @@ trials_possible v c (t ∷ ts) same =
       votes = omega arith;
       decided = omega arith;
       right = omega arith;
+      settled = settled_more (version_of v.failing) _ _ _ _ _ _ (omega arith) one.settled rest.settled;
     })
 
 -- those over the first trials of a piece, which are all of one cell
 pub first_possible : (v : Values) (p : Piece) (n : ℕ) → IsTrue (is_piece v p) → n ≤ p.count
-    → ArePossible n (v.nodes - (cell_at v p.first).f) (sum_of v (range_with_len p.first n))
+    → ArePossible v (cell_at v p.first) n (sum_of v (range_with_len p.first n))
 first_possible v p n piece within =
     let same = All-range_with_len (λ t. cell_at v t ≡ cell_at v p.first) p.first n
     (λ t from below. (piece_facts v p piece).cell t from (omega arith)) in
     rw (length-range_with_len p.first n)
     at (trials_possible v (cell_at v p.first) (range_with_len p.first n) same)
 
--- the numbers of possible sums are at most 2048 for each trial
-pub few_in : (n each m : ℕ) (x : Totals) → ArePossible n each x → each ≤ 2048 → 2048 * n ≤ m → IsAtMost m x
-few_in n each m x possible low within =
+-- no more deliveries come to a receiver than 2048 processes have edges on 32 rings, in four copies
+few_deliveries : (v : Values) (c : Cell) → IsPlan v → c.k ≤ 32 → v.nodes * c.k * v.copies ≤ 262144
+few_deliveries v c plan rings =
+    mul-le (v.nodes * c.k) v.copies 65536 4 (mul-le v.nodes c.k 2048 32 plan.few_nodes rings) plan.few_copies
+
+-- the numbers of possible sums are at most 2048 for each trial, and the deliveries of as many receivers
+pub few_in : (v : Values) (c : Cell) (n m : ℕ) (x : Totals) → IsPlan v → c.k ≤ 32 → ArePossible v c n x
+    → 2048 * n ≤ m → IsAtMost m x
+few_in v c n m x plan rings possible within =
+    let each : ℕ = v.nodes - c.f in
+    let low : each ≤ 2048 = omega (arith, plan.few_nodes) in
     let most : n * each ≤ n * 2048 = mul-le n each n 2048 (omega arith) low in
     record {
       receivers = omega arith;
@@ -76,4 +88,6 @@ few_in n each m x possible low within =
       votes = omega arith;
       decided = omega arith;
       right = omega arith;
+      settled = settled_few (version_of v.failing) (x.receivers - x.silent) (v.nodes * c.k * v.copies) m 262144
+          x.settled possible.settled (omega arith) (few_deliveries v c plan rings);
     }

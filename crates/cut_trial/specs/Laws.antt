@@ -1,9 +1,11 @@
 -- Laws of the fast round, of sums over trials, and of receivers.
-use Rattle.std.specs.Prelude.{◌≡◌, ℕ, ◌+◌, ◌-◌, ◌<◌, ◌≤◌, ◌||◌, false, List, ◌++◌, length, All, IsTrue}
+use Rattle.std.specs.Prelude.{◌≡◌, ℕ, ◌+◌, ◌-◌, ◌*◌, ◌<◌, ◌≤◌, ◌||◌, false, List, ◌++◌, length, All, IsTrue}
 use Rattle.cut_plan.specs.declared.cell.Cell.{Cell}
 use Rattle.cut_plan.specs.declared.dead.Dead.TheVariants.{Speak}
 use Rattle.cut_plan.specs.Cells.{trial_count}
 use Rattle.cut_plan.specs.Plan.{IsPlan}
+use Rattle.cut_plan.specs.declared.version.Version.TheVariants.{Two}
+use Rattle.cut_plan.specs.Versions.{version_of}
 use Rattle.cut_plan.specs.Targets.{deaf_of, upgraded}
 use Rattle.cut_plan.specs.Values.{Values}
 use Rattle.cut_rings.specs.Layout.{Layout}
@@ -16,8 +18,8 @@ use Rattle.cut_trial.specs.declared.piece.Piece.{Piece}
 use Rattle.cut_trial.specs.declared.totals.Totals.{Totals}
 use Rattle.cut_trial.specs.Verdicts.{receivers_of, judged}
 use Rattle.cut_trial.specs.FastRound.{quorum_of, votes_of, most_votes}
-use Rattle.cut_trial.specs.Outcome.{receiver_proposal, cell_outcome, cell_at, outcome}
-use Rattle.cut_trial.specs.Sum.{plus, sum_of, trials_in, is_piece}
+use Rattle.cut_trial.specs.Outcome.{receiver_proposal, cell_outcome, cell_at, outcome, deliveries_at}
+use Rattle.cut_trial.specs.Sum.{plus, without_settled, sum_of, trials_in, is_piece}
 use Rattle.cut_trial.specs.Possible.{ArePossible}
 
 -- among at most n proposals, two lists of members that each have a quorum of n are equal
@@ -133,14 +135,33 @@ AWiderGapHasFewerConflicts =
 abbrev pub TrialsHavePossibleTotals : Type 0
 TrialsHavePossibleTotals =
     (v : Values) (c : Cell) (ts : List ℕ) → All (λ t. cell_at v t ≡ c) ts →
-    ArePossible (length ts) (v.nodes - c.f) (sum_of v ts)
+    ArePossible v c (length ts) (sum_of v ts)
 
 -- so the sums over a piece are possible, since its trials are all of its first one's cell
 abbrev pub PiecesHavePossibleTotals : Type 0
 PiecesHavePossibleTotals =
     (v : Values) (p : Piece) → IsTrue (is_piece v p) →
-    ArePossible p.count (v.nodes - (cell_at v p.first).f) (sum_of v (trials_in p))
+    ArePossible v (cell_at v p.first) p.count (sum_of v (trials_in p))
 
--- a plan and its upgrade have the same outcome at each trial
+-- a plan and its upgrade have the same outcome at each trial, but for `settled`
 abbrev pub UpgradesKeepOutcomes : Type 0
-UpgradesKeepOutcomes = (v : Values) (t : ℕ) → IsPlan v → t < trial_count v → outcome (upgraded v) t ≡ outcome v t
+UpgradesKeepOutcomes =
+    (v : Values) (t : ℕ) → IsPlan v → t < trial_count v →
+    without_settled (outcome (upgraded v) t) ≡ without_settled (outcome v t)
+
+-- so they have the same pieces, with the same sums but for `settled`
+abbrev pub UpgradesKeepSums : Type 0
+UpgradesKeepSums =
+    (v : Values) (p : Piece) → IsPlan v → IsTrue (is_piece v p) →
+    without_settled (sum_of (upgraded v) (trials_in p)) ≡ without_settled (sum_of v (trials_in p))
+
+-- in a trial of a plan of version 2, `settled` is at least the number of receivers that propose, and at most
+-- that number times the deliveries at each
+pub record LiesWithin (proposing deliveries settled : ℕ) : Type 0 where
+  pub low : proposing ≤ settled
+  pub high : settled ≤ proposing * deliveries
+
+abbrev pub SettledLiesWithin : Type 0
+SettledLiesWithin =
+    (v : Values) (t : ℕ) → version_of v.failing ≡ Two →
+    LiesWithin ((outcome v t).receivers - (outcome v t).silent) (deliveries_at v t) (outcome v t).settled

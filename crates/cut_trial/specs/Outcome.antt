@@ -1,7 +1,11 @@
--- What a trial gives: what its receivers propose, what they are judged to be, and its seven numbers.
-use Rattle.std.specs.Prelude.{◌≡◌, ℕ, ◌-◌, ◌/◌, Bool, List, map, length, count_by, nat_le, slice_index_or, if◌then◌else◌, Option}
+-- What a trial gives: what its receivers propose, what they are judged to be, and its eight numbers.
+use Rattle.std.specs.Prelude.{◌≡◌, ◌≤◌, ℕ, ◌*◌, ◌-◌, ◌/◌, ◌^◌, Bool, List, map, length, count_by, nat_le, slice_index_or, if◌then◌else◌, Option, Some, None}
+use Rattle.std.specs.List.{sum_by}
 use Rattle.cut_plan.specs.declared.cell.Cell.{Cell}
+use Rattle.cut_plan.specs.declared.version.Version.{Version}
+use Rattle.cut_plan.specs.declared.version.Version.TheVariants.{One, Two}
 use Rattle.cut_plan.specs.Values.{Values}
+use Rattle.cut_plan.specs.Versions.{version_of}
 use Rattle.cut_plan.specs.Cells.{cells_of, largest}
 use Rattle.cut_rings.specs.declared.edge.Edge.{Edge}
 use Rattle.cut_rings.specs.Layout.{Layout}
@@ -33,11 +37,23 @@ receiver_proposal v c r d edges j =
 abbrev pub proposals_of : Values → Cell → Layout → Source → Assignment → List (Option Proposal)
 proposals_of v c r d a = map (λ j. receiver_proposal v c r d (alert_list r a c.k) j) (receivers_of a)
 
--- the verdicts on these proposals, and on the silences among them, are counted
+-- after how many deliveries a receiver proposed, 0 where it did not
+abbrev pub place_of : Option Proposal → ℕ
+place_of None = 0
+place_of (Some p) = p.at
+
+-- the sum of these places, which a plan of version 1 does not tell
+abbrev pub settled_of : Version → List (Option Proposal) → ℕ
+settled_of One proposals = 0
+settled_of Two proposals = sum_by place_of proposals
+
+-- the verdicts on these proposals, and on the silences among them, are counted, and their places are added up
 pub record HasVerdicts (a : Assignment) (o : declared.Outcome) (proposals : List (Option Proposal)) : Type 0 where
   pub conflicts : o.conflicts ≡ count_by (λ p. (judged a p).conflict) proposals
   pub silent : o.silent ≡ count_by (λ p. (judged a p).silent) proposals
   pub extra : o.extra ≡ count_by (λ p. (judged a p).extra) proposals
+  pub settled : o.settled ≡ sum_by place_of proposals
+  pub places : o.settled ≤ 2 ^ 31 * length proposals
 
 -- the receivers that made these proposals have been judged by the roles, and their votes are counted
 pub record HasJudged (a : Assignment) (o : declared.Outcome) (proposals : List (Option Proposal)) : Type 0 where
@@ -48,7 +64,7 @@ pub record HasJudged (a : Assignment) (o : declared.Outcome) (proposals : List (
 abbrev pub one_if : Bool → ℕ
 one_if b = if b then 1 else 0
 
--- the seven numbers of a trial, from the proposals of its receivers
+-- the eight numbers of a trial, from the proposals of its receivers
 abbrev pub totals_of : Values → Cell → Assignment → List (Option Proposal) → Totals
 totals_of v c a proposals = record {
   receivers = v.nodes - c.f;
@@ -58,9 +74,10 @@ totals_of v c a proposals = record {
   votes = most_votes (cast_of proposals);
   decided = one_if (nat_le (quorum_of v.nodes) (most_votes (cast_of proposals)));
   right = one_if (nat_le (quorum_of v.nodes) (votes_of (cast_of proposals) (targets_of a)));
+  settled = settled_of (version_of v.failing) proposals;
 }
 
--- the seven numbers of a trial of a cell, by the draws d and the rings r
+-- the eight numbers of a trial of a cell, by the draws d and the rings r
 abbrev pub cell_outcome : Values → Cell → Layout → Source → Totals
 cell_outcome v c r d = totals_of v c (drawn v c.f d r) (proposals_of v c r d (drawn v c.f d r))
 
@@ -75,3 +92,9 @@ cell_at v t = slice_index_or (cells_of v) (t / v.repeats) no_cell
 -- the outcome of trial t of a plan
 unfoldable pub outcome : Values → ℕ → Totals
 outcome v t = cell_outcome v (cell_at v t) (rings_of v) (source_of v.seed t)
+
+-- how many deliveries each receiver of trial t hears of, if it hears of all
+abbrev pub deliveries_at : Values → ℕ → ℕ
+deliveries_at v t =
+    length (all_deliveries (alert_list (rings_of v)
+    (drawn v (cell_at v t).f (source_of v.seed t) (rings_of v)) (cell_at v t).k) v.copies)

@@ -1,11 +1,23 @@
 -- What the sums over trials of one cell can be.
-use Rattle.std.specs.Prelude.{◌≡◌, ℕ, ◌+◌, ◌*◌, ◌≤◌}
+use Rattle.std.specs.Prelude.{◌≡◌, ℕ, ◌+◌, ◌-◌, ◌*◌, ◌≤◌}
+use Rattle.cut_plan.specs.declared.cell.Cell.{Cell}
+use Rattle.cut_plan.specs.declared.version.Version.{Version}
+use Rattle.cut_plan.specs.declared.version.Version.TheVariants.{One, Two}
+use Rattle.cut_plan.specs.Values.{Values}
+use Rattle.cut_plan.specs.Versions.{version_of}
 use Rattle.cut_trial.specs.declared.totals.Totals.{Totals}
 
--- the sums of so many trials, each of which has so many receivers
-pub record ArePossible (trials each : ℕ) (x : Totals) : Type 0 where
+-- what the places of so many proposals, each after so many deliveries at most, can add up to: a plan of
+-- version 1 does not tell it
+abbrev pub IsSettledBy : Version → ℕ → ℕ → ℕ → Type 0
+IsSettledBy One proposing deliveries settled = settled ≡ 0
+IsSettledBy Two proposing deliveries settled =
+    (proposing ≤ settled) × (settled ≤ proposing * deliveries)
+
+-- the sums of so many trials of a plan's cell
+pub record ArePossible (v : Values) (c : Cell) (trials : ℕ) (x : Totals) : Type 0 where
   -- the receivers are those of all trials
-  pub receivers : x.receivers ≡ trials * each
+  pub receivers : x.receivers ≡ trials * (v.nodes - c.f)
   -- none of them is silent and a conflict
   pub conflicts : x.conflicts + x.silent ≤ x.receivers
   -- nor silent and of a proposal with a process that is no target
@@ -16,3 +28,5 @@ pub record ArePossible (trials each : ℕ) (x : Totals) : Type 0 where
   pub decided : x.decided ≤ trials
   -- and is right only where it is decided
   pub right : x.right ≤ x.decided
+  -- who proposes does so after one delivery at least, and after all copies of all edges at most
+  pub settled : IsSettledBy (version_of v.failing) (x.receivers - x.silent) (v.nodes * c.k * v.copies) x.settled

@@ -7,7 +7,7 @@ use Rattle.cut_trial.specs.declared.totals.Totals.{Totals}
 use Rattle.cut_trial.specs.declared.piece.Piece.{Piece}
 use Rattle.cut_trial.specs.Outcome.{outcome}
 
--- the seven numbers, each made in one way
+-- the eight numbers, each made in one way
 abbrev pub each_number : ((Totals → ℕ) → ℕ) → Totals
 each_number g = record {
   receivers = g (λ x. x.receivers);
@@ -17,13 +17,18 @@ each_number g = record {
   votes = g (λ x. x.votes);
   decided = g (λ x. x.decided);
   right = g (λ x. x.right);
+  settled = g (λ x. x.settled);
 }
 
 -- two sums, added up number by number
 abbrev pub plus : Totals → Totals → Totals
 plus a b = each_number (λ n. n a + n b)
 
--- no number is above m
+-- the numbers that both versions of a plan tell: with 0 in the place of `settled`
+abbrev pub without_settled : Totals → Totals
+without_settled x = record x { settled = 0 }
+
+-- no number is above m, but for `settled`: a receiver that counts once hears up to 2^18 deliveries
 pub record IsAtMost (m : ℕ) (x : Totals) : Type 0 where
   pub receivers : x.receivers ≤ m
   pub conflicts : x.conflicts ≤ m
@@ -32,6 +37,7 @@ pub record IsAtMost (m : ℕ) (x : Totals) : Type 0 where
   pub votes : x.votes ≤ m
   pub decided : x.decided ≤ m
   pub right : x.right ≤ m
+  pub settled : x.settled ≤ m * 262144
 
 -- the outcomes of trials, added up number by number
 abbrev pub sum_of : Values → List ℕ → Totals

@@ -1,4 +1,4 @@
-ghost use Rattle.std.specs.Prelude.{◌≡◌, ◌^◌, ◌<◌, length, map, IsTrue};
+ghost use Rattle.std.specs.Prelude.{◌≡◌, ◌^◌, ◌<◌, ◌≤◌, length, map, IsTrue};
 ghost use Rattle.cut_rings.specs.Edges.{first_of, are_edges_of};
 ghost use Rattle.cut_detector.specs.Proposal.{proposal_of};
 
@@ -11,6 +11,7 @@ pub(crate) fn hear_all(detector: &mut Detector<'_>, order: &DeliveryOrder)
     requires few { length order.now < 2 ^ 63 }
     ensures proposal { detector.new.proposal ≡ proposal_of detector.old.layout detector.old.rule
         (first_of (map (λ x. x.edge) order.now)) (length order.now) }
+    ensures few { detector.new.deliveries ≤ length order.now }
     ensures layout { detector.new.layout ≡ detector.old.layout }
     ensures rule { detector.new.rule ≡ detector.old.rule }
 {

@@ -20,6 +20,8 @@ ghost use Rattle.cut_trial.specs.Laws.{
   TrialsHavePossibleTotals,
   PiecesHavePossibleTotals,
   UpgradesKeepOutcomes,
+  UpgradesKeepSums,
+  SettledLiesWithin,
 };
 
 use cut_alerts::laws::as_many_deaf_draw_alike;
@@ -93,17 +95,26 @@ pub fn wider_gap()
 
 /// The sums over trials of one cell, as those of a piece are, are possible ones: the receivers are all
 /// processes less the cell's failed ones, once for each trial; no receiver is silent and a conflict, or
-/// silent and names another process; the votes are at most the receivers; and no more trials are right
-/// than decided, nor decided than there are.
+/// silent and names another process; the votes are at most the receivers; no more trials are right
+/// than decided, nor decided than there are; and `settled` lies between the receivers that propose and
+/// that number times all copies of all edges (0 for a plan of version 1).
 pub fn pieces_have_possible_totals()
     ensures trials { TrialsHavePossibleTotals }
     ensures pieces { PiecesHavePossibleTotals }
 {}
 
-/// A plan and its upgrade to the second version have the same outcome at every trial: as many targets
-/// of each cell are deaf, so every trial draws the same roles.
+/// In a trial of a plan of version 2, `settled` is at least the number of receivers that propose, and at
+/// most that number times the deliveries that each hears of.
+pub fn settled_lies_within()
+    ensures { SettledLiesWithin }
+{}
+
+/// A plan and its upgrade to the second version have the same outcome at every trial but for `settled`, and
+/// so the same sums over every piece: as many targets of each cell are deaf, so every trial draws the same
+/// roles.
 pub fn upgrades_keep_outcomes()
-    ensures { UpgradesKeepOutcomes }
+    ensures trials { UpgradesKeepOutcomes }
+    ensures sums { UpgradesKeepSums }
 {
     cells_are_the_combinations();
     upgrades_fail_alike();

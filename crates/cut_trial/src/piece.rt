@@ -1,6 +1,7 @@
 ghost use Rattle.std.specs.Prelude.{◌≡◌, ◌+◌, ◌*◌, ◌^◌, ◌<◌, ◌↔◌, false, IfOk, IsErrOf, IsTrue};
 ghost use Rattle.cut_plan.specs.Plan.{IsPlan};
-ghost use Rattle.cut_trial.specs.Outcome.{rings_of};
+ghost use Rattle.cut_trial.specs.Outcome.{rings_of, cell_at};
+ghost use Rattle.cut_trial.specs.Possible.{ArePossible};
 ghost use Rattle.cut_trial.specs.Sum.{is_piece, sum_of, trials_in, IsAtMost};
 
 use crate::study::Study;
@@ -61,6 +62,8 @@ impl PieceResult {
     pub fn totals(&self) -> Totals
         ensures value { result ≡ sum_of self.now.plan (trials_in self.now.piece) }
         ensures few { IsAtMost (2048 * self.now.piece.count) result }
+        ensures possible { ArePossible self.now.plan (cell_at self.now.plan self.now.piece.first)
+            self.now.piece.count result }
     {
         self.totals
     }

@@ -73,6 +73,7 @@ impl<'a> Replays<'a> {
         requires { receiver < self.old.study.plan.now.nodes }
         ensures proposal { OnOk result (self.new.detector.proposal ≡ receiver_proposal
             self.old.study.plan.now self.old.cell self.old.study.rings.now draws.old self.old.edges.items receiver) }
+        ensures few { OnOk result (self.new.detector.deliveries ≤ 2 ^ 31) }
         ensures draws { draws.new ≡ draws.old }
         ensures study { self.new.study ≡ self.old.study }
         ensures cell { self.new.cell ≡ self.old.cell }

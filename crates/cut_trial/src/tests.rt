@@ -37,8 +37,8 @@ fn proposal(alloc: Global, members: &[u16]) -> Result<Proposal, AllocError> {
     })
 }
 
-// The seven sums in the order of the table.
-fn numbers(totals: Totals) -> [u64; 7] {
+// The eight sums in the order of the table.
+fn numbers(totals: Totals) -> [u64; 8] {
     [
         totals.receivers,
         totals.conflicts,
@@ -47,6 +47,7 @@ fn numbers(totals: Totals) -> [u64; 7] {
         totals.votes,
         totals.decided,
         totals.right,
+        totals.settled,
     ]
 }
 
@@ -112,15 +113,23 @@ fn added_totals(rt: HostRuntime) {
         votes: 5,
         decided: 1,
         right: 0,
+        settled: 11,
     };
     let most = Totals {
-        receivers: 1 << 62,
+        receivers: 1 << 43,
         votes: 7,
+        settled: 1 << 61,
         ..Totals::ZERO
     };
-    assert_eq!(rt; numbers(one.plus(one)), [18, 8, 6, 4, 10, 2, 0]);
-    assert_eq!(rt; numbers(most.plus(one)), [(1 << 62) + 9, 4, 3, 2, 12, 1, 0]);
-    assert_eq!(rt; numbers(most.plus(most)), [1 << 63, 0, 0, 0, 14, 0, 0]);
+    assert_eq!(rt; numbers(one.plus(one)), [18, 8, 6, 4, 10, 2, 0, 22]);
+    assert_eq!(rt;
+        numbers(most.plus(one)),
+        [(1 << 43) + 9, 4, 3, 2, 12, 1, 0, (1 << 61) + 11]
+    );
+    assert_eq!(rt;
+        numbers(most.plus(most)),
+        [1 << 44, 0, 0, 0, 14, 0, 0, 1 << 62]
+    );
 }
 
 // Only the target is alerted, on all three rings, so each receiver proposes exactly it; and with no
@@ -129,15 +138,15 @@ fn added_totals(rt: HostRuntime) {
 fn trials_and_pieces(rt: HostRuntime) -> Result<(), Fail> {
     let alloc = rt.alloc();
     for (nodes, copies, repeats, targets, first, wanted) in [
-        (5, 1, 2, "[1]", 0, [4, 0, 0, 0, 4, 1, 1]),
-        (5, 1, 2, "[0,1]", 1, [5, 0, 5, 0, 0, 0, 0]),
+        (5, 1, 2, "[1]", 0, [4, 0, 0, 0, 4, 1, 1, 0]),
+        (5, 1, 2, "[0,1]", 1, [5, 0, 5, 0, 0, 0, 0, 0]),
         (
             1_999,
             3,
             777_777,
             "[0,1]",
             1_555_553,
-            [1_998, 0, 0, 0, 1_998, 1, 1],
+            [1_998, 0, 0, 0, 1_998, 1, 1, 0],
         ),
     ] {
         let plan = small_plan(alloc, nodes, copies, repeats, targets)?;
@@ -189,10 +198,10 @@ fn sums(
     first: u32,
     end: u32,
     size: u32,
-) -> Result<[u64; 7], Fail>
+) -> Result<[u64; 8], Fail>
     requires { rings.now ≡ rings_of plan.now }
 {
-    let mut all = [0; 7];
+    let mut all = [0; 8];
     let mut next = first;
     while next < end && size > 0 {
         let count = size.min(end - next);
@@ -240,8 +249,8 @@ const DEAF: [&str; 2] = [
     r#"{"copies":1,"dead":"silent","deaf":1,"f":[1],"h":[1],"implicit":true,"k":[1],"l":[1],"liars":0,"links":0,"nodes":5,"repeats":2,"seed":"0000000000000000000000000000000000000000000000000000000000000000","version":2}"#,
 ];
 
-// The numbers of a trial alone.
-fn numbers_of_trial(alloc: Global, text: &str, trial: u32) -> Result<[u64; 7], Fail> {
+// The totals of a trial alone.
+fn totals_of_trial(alloc: Global, text: &str, trial: u32) -> Result<Totals, Fail> {
     let plan = Plan::from_json(alloc, text.as_bytes())?;
     let rings = Rings::hashed(alloc, &plan)?;
     let found = run_piece(
@@ -253,7 +262,7 @@ fn numbers_of_trial(alloc: Global, text: &str, trial: u32) -> Result<[u64; 7], F
             count: 1,
         },
     )?;
-    Ok(numbers(found.totals()))
+    Ok(found.totals())
 }
 
 #[test]
@@ -261,11 +270,36 @@ fn both_versions_have_the_same_deaf_process(rt: HostRuntime) -> Result<(), Fail>
     let alloc = rt.alloc();
     for trial in 0..2 {
         let [first, second] = DEAF;
-        assert_eq!(rt;
-            numbers_of_trial(alloc, first, trial)?,
-            numbers_of_trial(alloc, second, trial)?,
+        let without = totals_of_trial(alloc, first, trial)?;
+        let with = totals_of_trial(alloc, second, trial)?;
+        assert_eq!(rt; without.settled, 0, "trial {trial}");
+        assert!(rt;
+            with.settled >= with.receivers.saturating_sub(with.silent),
             "trial {trial}"
         );
+        let wanted = Totals { settled: 0, ..with };
+        assert_eq!(rt; numbers(without), numbers(wanted), "trial {trial}");
+    }
+    Ok(())
+}
+
+// Two trials of five processes of a plan of version 2, of cells with these values: each receiver that
+// proposes does so after the only alert, or after all three, one for each ring.
+#[test]
+fn places_add_up_in_version_2(rt: HostRuntime) -> Result<(), Fail> {
+    let alloc = rt.alloc();
+    for (targets, rings, wanted) in [
+        (1, 1, [8, 0, 0, 0, 8, 2, 2, 8]),
+        (0, 1, [10, 0, 10, 0, 0, 0, 0, 0]),
+        (1, 3, [8, 0, 0, 0, 8, 2, 2, 24]),
+    ] {
+        let text = format!(in alloc;
+            r#"{{"copies":1,"dead":"silent","deaf":0,"f":[{targets}],"h":[{rings}],"implicit":true,"k":[{rings}],"l":[1],"liars":0,"links":0,"nodes":5,"repeats":2,"seed":"0000000000000000000000000000000000000000000000000000000000000000","version":2}}"#
+        )?;
+        let plan = Plan::from_json(alloc, text.as_bytes())?;
+        let rings_of_plan = Rings::hashed(alloc, &plan)?;
+        let found = sums(alloc, &plan, &rings_of_plan, 0, plan.trials(), 2)?;
+        assert_eq!(rt; found, wanted, "{targets} targets, {rings} rings");
     }
     Ok(())
 }

@@ -18,6 +18,9 @@ pub struct Totals {
     pub decided: u64,
     /// In how many trials a quorum proposed exactly the targets.
     pub right: u64,
+    /// The sum of the places at which receivers proposed, each counted in deliveries from 1. 0 for a plan
+    /// of version 1, whose tables don't tell it.
+    pub settled: u64,
 }
 
 impl Totals {
@@ -30,14 +33,15 @@ impl Totals {
         votes: 0,
         decided: 0,
         right: 0,
+        settled: 0,
     };
 
     /// The sums over two lists of trials, added up number by number: receivers to receivers, votes to
-    /// votes, and trials that were decided to such trials. Each number of either is at most 2^62, so
-    /// that none of the result is more than 64 bits hold.
+    /// votes, and trials that were decided to such trials. Each number of either is at most 2^43, and
+    /// `settled` 2^61, so that none of the result is more than 64 bits hold.
     pub fn plus(self, other: Totals) -> Totals
-        requires self_fits { IsAtMost (2 ^ 62) self }
-        requires other_fits { IsAtMost (2 ^ 62) other }
+        requires self_fits { IsAtMost (2 ^ 43) self }
+        requires other_fits { IsAtMost (2 ^ 43) other }
         ensures { result ≡ plus self other }
     {
         Totals {
@@ -48,6 +52,7 @@ impl Totals {
             votes: self.votes + other.votes,
             decided: self.decided + other.decided,
             right: self.right + other.right,
+            settled: self.settled + other.settled,
         }
     }
 }

@@ -119,7 +119,8 @@ fn judge_receivers(
             continue;
         }
         replays.hear(draws, receiver)?;
-        outcome.add(replays.detector.members(), roles, targets)?;
+        let detector = &replays.detector;
+        outcome.add(detector.members(), detector.deliveries(), roles, targets)?;
     }
     Ok(())
 }

@@ -1,15 +1,28 @@
-use Rattle.std.proofs.Common.{◌≡◌, ◌+◌, ◌-◌, ◌*◌, ◌^◌, ◌≤◌, ℕ, sym, ap, ◌∙◌, arith}
-use Rattle.cut_trial.proofs.Words.{IsTrue, range_with_len, IsPlan, Values, Piece, cell_at, sum_of, is_piece, IsAtMost}
+use Rattle.std.proofs.Common.{◌≡◌, ◌+◌, ◌-◌, ◌*◌, ◌^◌, ◌<◌, ◌≤◌, ℕ, sym, ap, ◌∙◌, arith}
+use Rattle.cut_trial.proofs.Words.{Cell, IsTrue, range_with_len, IsPlan, Values, Piece, cell_at, sum_of, is_piece, IsAtMost}
+use Rattle.cut_plan.specs.Cells.{IsCellOf}
 use Rattle.cut_trial.proofs.Outcomes.{cell_read, possible_outcome}
 use Rattle.cut_trial.proofs.Pieces.{piece_facts, few_trials}
 use Rattle.cut_trial.proofs.Sum.{sum_more, first_possible, few_in}
 use Rattle.cut_trial.proofs.piece.sum_piece.Goals as goal
 
 -- the sums over the first trials of a piece are small
-few_first : (v : Values) (p : Piece) (n m : ℕ) → IsPlan v → IsTrue (is_piece v p) → n ≤ p.count
-    → 2048 * n ≤ m → IsAtMost m (sum_of v (range_with_len p.first n))
-few_first v p n m plan piece within below =
-    few_in n _ m _ (first_possible v p n piece within) (omega (arith, plan.few_nodes)) below
+few_first : (v : Values) (p : Piece) (n m : ℕ) → IsPlan v → (cell_at v p.first).k ≤ 32 → IsTrue (is_piece v p)
+    → n ≤ p.count → 2048 * n ≤ m → IsAtMost m (sum_of v (range_with_len p.first n))
+few_first v p n m plan rings piece within below =
+    few_in v (cell_at v p.first) n m _ plan rings (first_possible v p n piece within) below
+
+-- the cell of the first trial is that of each
+own_cell : (v w : Values) (p : Piece) (t : ℕ) (c : Cell) → IsTrue (is_piece v p) → p.first ≤ t
+    → t < p.first + p.count → w ≡ v → c ≡ cell_at v p.first → c ≡ cell_at w t
+own_cell v w p t c piece from below same is =
+    is ∙ sym ((piece_facts v p piece).cell t from below) ∙ ap (λ (x : Values). cell_at x t) (sym same)
+
+-- a cell of a plan has at most 32 rings
+few_rings : (v : Values) (t : ℕ) (c : Cell) → IsPlan v → IsCellOf v c → c ≡ cell_at v t → (cell_at v t).k ≤ 32
+few_rings v t c plan cell is =
+    let few : c.k ≤ 32 = omega (arith, cell.most_rings, plan.most_rings) in
+    rw is at few
 
 pub cell_of-requires : goal.cell_of-requires
 cell_of-requires c =
@@ -34,23 +47,32 @@ loop-trial-init c =
 
 pub run-requires : goal.run-requires
 run-requires c =
-    let t : ℕ = c.loop-trial.trial in
-    let facts = piece_facts c.args.study.plan.now c.args.piece c.requires in
-    c.loop-trial.invariant.cell ∙ sym (facts.cell t (omega arith) (omega arith))
-    ∙ ap (λ (v : Values). cell_at v t) (sym c.loop-trial.invariant.plan)
+    own_cell c.args.study.plan.now c.loop-trial.trials.replays.study.plan.now c.args.piece c.loop-trial.trial
+    c.loop-trial.trials.replays.cell c.requires (omega arith) (omega arith) c.loop-trial.invariant.plan
+    c.loop-trial.invariant.cell
 
 pub plus-totals-requires-clause-self_fits : goal.plus-totals-requires-clause-self_fits
 plus-totals-requires-clause-self_fits c =
     rw c.loop-trial.invariant.totals
-    (few_first c.args.study.plan.now c.args.piece (c.loop-trial.trial - c.args.piece.first) (2 ^ 62)
-    c.args.study.accepted c.requires (omega arith) (omega arith))
+    (few_first c.args.study.plan.now c.args.piece (c.loop-trial.trial - c.args.piece.first) (2 ^ 43)
+    c.args.study.accepted
+    (few_rings c.args.study.plan.now c.args.piece.first c.cell-cell.result c.args.study.accepted
+    c.cell-cell.ensures.cell
+    (cell_read c.args.study.plan.now c.args.piece.first c.cell_of.result c.cell-cell.result
+    c.cell-cell.ensures.value c.cell_of.ensures.value))
+    c.requires (omega arith) (omega arith))
 
 pub plus-totals-requires-clause-other_fits : goal.plus-totals-requires-clause-other_fits
 plus-totals-requires-clause-other_fits c =
-    let study = c.loop-trial.trials.replays.study in
+    let replays = c.loop-trial.trials.replays in
+    let v : Values = replays.study.plan.now in
+    let t : ℕ = c.loop-trial.trial in
     rw c.in_ok-run.ensures.outcome
-    (few_in 1 _ (2 ^ 62) _ (possible_outcome study.plan.now c.loop-trial.trial)
-    (omega (arith, study.accepted.few_nodes)) (omega arith))
+    (few_in v (cell_at v t) 1 (2 ^ 43) _ replays.study.accepted
+    (few_rings v t replays.cell replays.study.accepted replays.cell_of_plan
+    (own_cell c.args.study.plan.now v c.args.piece t replays.cell c.requires (omega arith) (omega arith)
+    c.loop-trial.invariant.plan c.loop-trial.invariant.cell))
+    (possible_outcome v t) (omega arith))
 
 pub loop-trial-preserved : goal.loop-trial-preserved
 loop-trial-preserved c =
@@ -75,4 +97,9 @@ returns-clause-few c =
     let all : c.loop-trial.trial - c.args.piece.first ≡ c.args.piece.count = omega arith in
     rw (c.loop-trial.invariant.totals, all)
     (few_first c.args.study.plan.now c.args.piece c.args.piece.count (2048 * c.args.piece.count)
-    c.args.study.accepted c.requires (omega arith) (omega arith))
+    c.args.study.accepted
+    (few_rings c.args.study.plan.now c.args.piece.first c.cell-cell.result c.args.study.accepted
+    c.cell-cell.ensures.cell
+    (cell_read c.args.study.plan.now c.args.piece.first c.cell_of.result c.cell-cell.result
+    c.cell-cell.ensures.value c.cell_of.ensures.value))
+    c.requires (omega arith) (omega arith))

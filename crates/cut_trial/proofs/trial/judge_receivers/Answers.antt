@@ -51,7 +51,8 @@ loop-receiver-preserved c =
     let few : length before < 2 ^ 32 = omega (arith, long, few_filtered receives n) in
     record {
       judged = rw (map_filter_kept, ← is)
-          (c.in_ok-add.ensures c.hear.new.self.detector.proposal before c.members.ensures few held.judged);
+          (c.in_ok-add.ensures c.hear.new.self.detector.proposal before c.members.ensures c.deliveries.ensures.place
+          few held.judged);
       draws = heard.draws ∙ held.draws;
       study = heard.study ∙ held.study;
       cell = heard.cell ∙ held.cell;
