@@ -6,17 +6,20 @@ use Rattle.std.proofs.lemmas.Bool.Decides.{nat_tests, Decides-eqb}
 use Rattle.std.proofs.lemmas.List.{take_at, drop_at, take_all, length-take, get_or-append_right, get_or-drop}
 use Rattle.sha2.proofs.Facts256.{length-sha256}
 use Rattle.sha2.specs.Sha256.{sha256}
+use Rattle.cut_plan.specs.declared.version.Version.{Version}
+use Rattle.cut_plan.specs.Versions.{version_of}
 use Rattle.cut_plan.specs.Values.{Values}
 use Rattle.cut_plan.specs.Canonical.{canonical_text}
 use Rattle.cut_disks.specs.State.{DiskState, IsImage, IsTorn, Throughout, covers, settled, overwritten}
 use Rattle.cut_disks.specs.Laws.{WritesStayInSpan}
 use Rattle.cut_ledger.specs.declared.slip.Slip.{Slip}
 use Rattle.cut_journal.specs.declared.fault.JournalFault.{JournalFault}
-use Rattle.cut_journal.specs.File.{open_gate, closed_gate, gate_place, body_of, number_bytes, header_digest}
+use Rattle.cut_journal.specs.File.{open_gate, closed_gate, numbers_length, slip_length, gate_place, body_of, number_bytes, header_digest}
 use Rattle.cut_journal.specs.Reading.{is_open, body_at, is_slip, slip_in, first_slips, reading}
 use Rattle.cut_journal.specs.Journal.{kept_slips, slips_of, ReadsAs, IsSound}
-use Rattle.cut_journal.specs.Steps.{HasNumbers, WritesThrough, Leave}
+use Rattle.cut_journal.specs.Steps.{HasNumbers, TellsAll, WritesThrough, Leave}
 use Rattle.cut_journal.proofs.Counts.{alike_at, alike_front}
+use Rattle.cut_journal.proofs.Gates.{gate_next}
 use Rattle.cut_journal.proofs.Moments.{Through, through_is, settled_images, stays}
 use Rattle.cut_journal.proofs.Readings.{Holds, gate_there, reads_holds, cases_bool, closed_read, opened_read}
 use Rattle.cut_journal.proofs.SlipBytes.{long_bytes, slip_back, slip_whole}
@@ -66,64 +69,68 @@ sound_holds v n d sound = elim sound.bytes [
 
 -- ---- the first write
 
-long_body : (v : Values) (s : Slip) → length (body_of v s) ≡ 104
+long_body : (v : Values) (s : Slip) → length (body_of v s) ≡ numbers_length (version_of v.failing) + 32
 unfolding body_of
 long_body v s =
-    length-append (number_bytes s) (sha256 (header_digest v ++ number_bytes s))
-    ∙ (let a = long_bytes s in let b = length-sha256 (header_digest v ++ number_bytes s) in omega (arith, a, b))
+    let version : Version = version_of v.failing in
+    length-append (number_bytes version s) (sha256 (header_digest v ++ number_bytes version s))
+    ∙ (let a = long_bytes version s in let b = length-sha256 (header_digest v ++ number_bytes version s) in omega (arith, a, b))
 
 -- what is written behind a slip's gate
 abbrev pub put_of : Values → Slip → List ℕ
 put_of v s = body_of v s ++ closed_gate ∷ []
 
-pub long_put : (v : Values) (s : Slip) → length (put_of v s) ≡ 105
+pub long_put : (v : Values) (s : Slip) → length (put_of v s) ≡ slip_length (version_of v.failing)
 long_put v s = length-append (body_of v s) (closed_gate ∷ []) ∙ (let a = long_body v s in omega (arith, a))
 
-first_torn : (v : Values) (n stop : ℕ) (bytes torn : List ℕ) → length (canonical_text v) ≤ 65536 → Holds v bytes n → IsTorn (gate_place v n + 1) stop bytes torn → reading v torn ≡ Ok (first_slips v bytes n)
-first_torn v n stop bytes torn short holds is =
+first_torn : (v : Values) (n stop : ℕ) (bytes torn : List ℕ) → Holds v bytes n → IsTorn (gate_place v n + 1) stop bytes torn → reading v torn ≡ Ok (first_slips v bytes n)
+first_torn v n stop bytes torn holds is =
     let g : ℕ = gate_place v n in
     let there = gate_there v bytes n holds.front holds.whole in
     let same : get_or torn g 0 ≡ get_or bytes g 0 = is.same g there (let outside : covers g (record { start = g + 1; stop = stop }) ≡ false = grind (arith, nat_tests) in outside) in
-    closed_read v n bytes torn short holds.front holds.whole (torn_front (g + 1) stop g bytes torn is (omega arith) (omega (arith, there)))
+    closed_read v n bytes torn holds.front holds.whole (torn_front (g + 1) stop g bytes torn is (omega arith) (omega (arith, there)))
     (omega (arith, there, is.no_shorter)) (ap (λ (b : ℕ). b == open_gate) same ∙ holds.closed)
 
-pub first_step : {E : Type 0} (result : Result ⊤ E) (v : Values) (n : ℕ) (slip : Slip) (put : List ℕ) (old new : DiskState) → length (canonical_text v) ≤ 65536 → WritesStayInSpan → IsSound v n None old
+pub first_step : {E : Type 0} (result : Result ⊤ E) (v : Values) (n : ℕ) (slip : Slip) (put : List ℕ) (old new : DiskState) → WritesStayInSpan → IsSound v n None old
     → WritesThrough result (gate_place v n + 1) put old new → Through (ReadsAs v (kept_slips v n old) (Some slip)) result (gate_place v n + 1) put old new
-first_step result v n slip put old new short stay sound is =
+first_step result v n slip put old new stay sound is =
     let ready = sound_holds v n old sound in
     through_is (ReadsAs v (kept_slips v n old) (Some slip)) result (gate_place v n + 1) put old new stay ready.2
     (elim sound.bytes [ inl reads ↦ inl reads | inr other ↦ absurd (cc (other.1.0)) ])
-    (λ image torn. inl (first_torn v n (gate_place v n + 1 + length put) old.bytes image short ready.0 torn ∙ ap (λ (l : List Slip). Ok l) (sym ready.1))) is
+    (λ image torn. inl (first_torn v n (gate_place v n + 1 + length put) old.bytes image ready.0 torn ∙ ap (λ (l : List Slip). Ok l) (sym ready.1))) is
 
 -- ---- the second write
 
 -- the gate is the only place that may differ
-second_torn : (v : Values) (n : ℕ) (bytes torn : List ℕ) (slip : Slip) → length (canonical_text v) ≤ 65536 → Holds v bytes n → HasNumbers slip
+second_torn : (v : Values) (n : ℕ) (bytes torn : List ℕ) (slip : Slip) → Holds v bytes n → HasNumbers slip → TellsAll (version_of v.failing) slip.totals
     → IsTorn (gate_place v n) (gate_place v n + 1) (overwritten bytes (gate_place v n + 1) (put_of v slip)) torn
     → (is_open v torn n ≡ true → reading v torn ≡ Ok (first_slips v bytes n ++ slip ∷ [])) × (is_open v torn n ≡ false → reading v torn ≡ Ok (first_slips v bytes n))
-second_torn v n bytes torn slip short holds fits is =
+second_torn v n bytes torn slip holds fits tells is =
     let g : ℕ = gate_place v n in
     let put : List ℕ = put_of v slip in
     let mid : List ℕ = overwritten bytes (g + 1) put in
     let there = gate_there v bytes n holds.front holds.whole in
     let rest_mid : drop (g + 1) mid ≡ put ++ drop (g + 1 + length put) bytes = over_rest bytes put (g + 1) (omega (arith, there)) in
-    let long : g + 106 ≤ length mid = omega (arith, ap (λ (l : List ℕ). length l) rest_mid, length-append put (drop (g + 1 + length put) bytes), long_put v slip, length-drop (g + 1) mid) in
+    let b : ℕ = numbers_length (version_of v.failing) + 32 in
+    let ahead : gate_place v (n + 1) ≡ g + 1 + b = gate_next v n ∙ omega arith in
+    let long : g + 2 + b ≤ length mid = omega (arith, ap (λ (l : List ℕ). length l) rest_mid, length-append put (drop (g + 1 + length put) bytes), long_put v slip, length-drop (g + 1) mid) in
     let front : take g torn ≡ take g bytes =
     torn_front g (g + 1) g mid torn is (omega arith) (omega (arith, long)) ∙ alike_front (g + 1) g mid bytes (over_front bytes put (g + 1) (omega (arith, there))) (omega arith) in
     let rest : drop (g + 1) torn ≡ put ++ drop (g + 1 + length put) bytes = torn_rest g (g + 1) mid torn is (omega (arith, long)) ∙ rest_mid in
-    let longer : g + 106 ≤ length torn = omega (arith, long, is.no_shorter) in
-    let size : gate_place v (n + 1) - (g + 1) ≡ 104 = omega arith in
+    let longer : g + 2 + b ≤ length torn = omega (arith, long, is.no_shorter) in
+    let size : gate_place v (n + 1) - (g + 1) ≡ b = omega (arith, ahead) in
     let body : body_at v torn n ≡ body_of v slip =
-    ap (λ (k : ℕ). take k (drop (g + 1) torn)) size ∙ ap (take 104) (rest ∙ append_assoc (body_of v slip) (closed_gate ∷ []) (drop (g + 1 + length put) bytes))
-    ∙ take_at (body_of v slip) ((closed_gate ∷ []) ++ drop (g + 1 + length put) bytes) 104 (long_body v slip) in
-    let next : g + 1 + 104 ≡ gate_place v (n + 1) = omega arith in
+    ap (λ (k : ℕ). take k (drop (g + 1) torn)) size ∙ ap (take b) (rest ∙ append_assoc (body_of v slip) (closed_gate ∷ []) (drop (g + 1 + length put) bytes))
+    ∙ take_at (body_of v slip) ((closed_gate ∷ []) ++ drop (g + 1 + length put) bytes) b (long_body v slip) in
+    let next : g + 1 + b ≡ gate_place v (n + 1) = sym ahead in
     let shut : get_or torn (gate_place v (n + 1)) 0 ≡ 0 =
-    ap (λ (k : ℕ). get_or torn k 0) (sym next) ∙ sym (get_or-drop (g + 1) torn 104 0)
-    ∙ ap (λ (l : List ℕ). get_or l 104 0) (rest ∙ append_assoc (body_of v slip) (closed_gate ∷ []) (drop (g + 1 + length put) bytes))
-    ∙ get_or-append_right (body_of v slip) ((closed_gate ∷ []) ++ drop (g + 1 + length put) bytes) 104 104 0 (long_body v slip) (omega arith) in (
-      λ opens. opened_read v n bytes torn slip short holds.front holds.whole front (omega (arith, longer)) opens
-          (ap (is_slip v) body ∙ slip_whole v slip fits) (ap slip_in body ∙ slip_back v slip fits) (ap (λ (b : ℕ). b == open_gate) shut),
-      λ closes. closed_read v n bytes torn short holds.front holds.whole front (omega (arith, longer)) closes,
+    ap (λ (k : ℕ). get_or torn k 0) (sym next) ∙ sym (get_or-drop (g + 1) torn b 0)
+    ∙ ap (λ (l : List ℕ). get_or l b 0) (rest ∙ append_assoc (body_of v slip) (closed_gate ∷ []) (drop (g + 1 + length put) bytes))
+    ∙ get_or-append_right (body_of v slip) ((closed_gate ∷ []) ++ drop (g + 1 + length put) bytes) b b 0 (long_body v slip) (omega arith)
+    ∙ ap (λ (k : ℕ). get_or ((closed_gate ∷ []) ++ drop (g + 1 + length put) bytes) k 0) (let e : b - b ≡ 0 = omega arith in e) in (
+      λ opens. opened_read v n bytes torn slip holds.front holds.whole front (omega (arith, longer, ahead)) opens
+          (ap (is_slip v) body ∙ slip_whole v slip fits) (ap (slip_in (version_of v.failing)) body ∙ slip_back v slip fits tells) (ap (λ (b : ℕ). b == open_gate) shut),
+      λ closes. closed_read v n bytes torn holds.front holds.whole front (omega (arith, longer)) closes,
     )
 
 -- the second write, and its sync
@@ -131,17 +138,17 @@ pub record Second {E : Type 0} (result : Result ⊤ E) (v : Values) (slips : Lis
   pub through : Through (ReadsAs v slips (Some slip)) result at (open_gate ∷ []) old new
   pub kept : is_ok result ≡ true → reading v new.bytes ≡ Ok (slips ++ slip ∷ [])
 
-pub second_step : {E : Type 0} (result : Result ⊤ E) (v : Values) (n : ℕ) (slip : Slip) (old mid new : DiskState) → length (canonical_text v) ≤ 65536 → WritesStayInSpan → IsSound v n None old → HasNumbers slip
+pub second_step : {E : Type 0} (result : Result ⊤ E) (v : Values) (n : ℕ) (slip : Slip) (old mid new : DiskState) → WritesStayInSpan → IsSound v n None old → HasNumbers slip → TellsAll (version_of v.failing) slip.totals
     → mid.bytes ≡ overwritten old.bytes (gate_place v n + 1) (put_of v slip) → mid.stable ≡ settled mid.bytes
     → WritesThrough result (gate_place v n) (open_gate ∷ []) mid new → Second result v (kept_slips v n old) slip (gate_place v n) mid new
-second_step {E} result v n slip old mid new short stay sound fits wrote sure is =
+second_step {E} result v n slip old mid new stay sound fits tells wrote sure is =
     let g : ℕ = gate_place v n in
     let ready = sound_holds v n old sound in
     let slips : List Slip = kept_slips v n old in
     let P : List ℕ → Type 0 = ReadsAs v slips (Some slip) in
     let there = gate_there v old.bytes n ready.0.front ready.0.whole in
     let put : List ℕ = put_of v slip in
-    let torn = λ (image : List ℕ) (t : IsTorn g (g + 1) mid.bytes image). second_torn v n old.bytes image slip short ready.0 fits (subst (λ (b : List ℕ). IsTorn g (g + 1) b image) wrote t) in
+    let torn = λ (image : List ℕ) (t : IsTorn g (g + 1) mid.bytes image). second_torn v n old.bytes image slip ready.0 fits tells (subst (λ (b : List ℕ). IsTorn g (g + 1) b image) wrote t) in
     let reads = λ (image : List ℕ) (t : IsTorn g (g + 1) mid.bytes image). (let holds : P image = elim (cases_bool (is_open v image n)) [
       | inl opens ↦ inr (slip, (refl, (torn image t).0 opens ∙ ap (λ (l : List Slip). Ok (l ++ slip ∷ [])) (sym ready.1)))
       | inr closes ↦ inl ((torn image t).1 closes ∙ ap (λ (l : List Slip). Ok l) (sym ready.1))
@@ -168,21 +175,21 @@ second_step {E} result v n slip old mid new short stay sound fits wrote sure is 
 
 -- ---- at the place of the gate
 
-pub first_at : {E : Type 0} (result : Result ⊤ E) (v : Values) (n place : ℕ) (slip : Slip) (put : List ℕ) (old new : DiskState) → place ≡ gate_place v n → length (canonical_text v) ≤ 65536 → WritesStayInSpan → IsSound v n None old
+pub first_at : {E : Type 0} (result : Result ⊤ E) (v : Values) (n place : ℕ) (slip : Slip) (put : List ℕ) (old new : DiskState) → place ≡ gate_place v n → WritesStayInSpan → IsSound v n None old
     → WritesThrough result (place + 1) put old new → Through (ReadsAs v (kept_slips v n old) (Some slip)) result (place + 1) put old new
-first_at result v n place slip put old new here short stay sound is =
+first_at result v n place slip put old new here stay sound is =
     subst (λ (p : ℕ). WritesThrough result (p + 1) put old new → Through (ReadsAs v (kept_slips v n old) (Some slip)) result (p + 1) put old new) (sym here)
-    (first_step result v n slip put old new short stay sound) is
+    (first_step result v n slip put old new stay sound) is
 
-pub second_at : {E F : Type 0} (first : Result ⊤ F) (result : Result ⊤ E) (v : Values) (n place : ℕ) (slip : Slip) (put : List ℕ) (old mid new : DiskState) → place ≡ gate_place v n → length (canonical_text v) ≤ 65536 → WritesStayInSpan
-    → IsSound v n None old → HasNumbers slip → put ≡ put_of v slip → is_ok first ≡ true → WritesThrough first (place + 1) put old mid
+pub second_at : {E F : Type 0} (first : Result ⊤ F) (result : Result ⊤ E) (v : Values) (n place : ℕ) (slip : Slip) (put : List ℕ) (old mid new : DiskState) → place ≡ gate_place v n → WritesStayInSpan
+    → IsSound v n None old → HasNumbers slip → TellsAll (version_of v.failing) slip.totals → put ≡ put_of v slip → is_ok first ≡ true → WritesThrough first (place + 1) put old mid
     → WritesThrough result place (open_gate ∷ []) mid new → Second result v (kept_slips v n old) slip place mid new
-second_at first result v n place slip put old mid new here short stay sound fits made done before is =
-    let step = first_at first v n place slip put old mid here short stay sound before in
+second_at first result v n place slip put old mid new here stay sound fits tells made done before is =
+    let step = first_at first v n place slip put old mid here stay sound before in
     let wrote : mid.bytes ≡ overwritten old.bytes (gate_place v n + 1) (put_of v slip) =
     step.bytes done ∙ ap (λ (p : ℕ). overwritten old.bytes (p + 1) put) here ∙ ap (λ (l : List ℕ). overwritten old.bytes (gate_place v n + 1) l) made in
     subst (λ (p : ℕ). WritesThrough result p (open_gate ∷ []) mid new → Second result v (kept_slips v n old) slip p mid new) (sym here)
-    (second_step result v n slip old mid new short stay sound fits wrote (step.sure done)) is
+    (second_step result v n slip old mid new stay sound fits tells wrote (step.sure done)) is
 
 -- there is room for both writes
 pub gate_before : (v : Values) (n place : ℕ) (d : DiskState) → place ≡ gate_place v n → IsSound v n None d → place + 1 ≤ length d.bytes

@@ -2,9 +2,12 @@ pub mod Counts
 pub mod Crashes
 pub mod Makings
 pub mod Fronts
+pub mod Gates
 pub mod GoodSlips
 pub mod Headers
 pub mod Moments
 pub mod Readings
 pub mod SlipBytes
 pub mod Appends
+pub mod Truths
+pub mod Migrations

@@ -15,15 +15,12 @@ use Rattle.cut_journal.specs.Steps.{BeginsAs, WritesThrough}
 use Rattle.cut_journal.proofs.Moments.{Through, through_is, stays, settled_images}
 use Rattle.cut_journal.proofs.Appends.{torn_rest}
 use Rattle.cut_journal.proofs.Fronts.{long_front}
-use Rattle.cut_journal.proofs.Readings.{cases_bool, of_plan_from, holds_reads, none_read}
+use Rattle.cut_journal.proofs.Gates.{gate_first}
+use Rattle.cut_journal.proofs.Readings.{cases_bool, both_not, of_plan_from, holds_reads, none_read}
 
 -- no study
 abbrev pub IsNone : List ℕ → Type 0
 IsNone bytes = is_study bytes ≡ false
-
-right_false : (a b : Bool) → b ≡ false → (a && b) ≡ false
-right_false true b none = none
-right_false false b none = refl
 
 left_false : (a b : Bool) → a ≡ false → (a && b) ≡ false
 left_false a b none = ap (λ c. c && b) none
@@ -32,7 +29,7 @@ short_none : (bytes : List ℕ) → length bytes ≤ 1 → IsNone bytes
 short_none bytes short = left_false (nat_lt 1 (length bytes)) (slice_index bytes 0 == open_gate) (let e : nat_lt 1 (length bytes) ≡ false = grind (arith, nat_tests) in e)
 
 closed_none : (bytes : List ℕ) → (slice_index bytes 0 == open_gate) ≡ false → IsNone bytes
-closed_none bytes closed = right_false (nat_lt 1 (length bytes)) (slice_index bytes 0 == open_gate) closed
+closed_none bytes closed = both_not (nat_lt 1 (length bytes)) (slice_index bytes 0 == open_gate) closed
 
 pub close_step : {E : Type 0} (result : Result ⊤ E) (old new : DiskState) → WritesStayInSpan → old.stable ≡ settled old.bytes → length old.bytes ≤ 1
     → WritesThrough result 0 (closed_gate ∷ []) old new → Through IsNone result 0 (closed_gate ∷ []) old new
@@ -68,14 +65,14 @@ new_read v rest short =
     let bytes : List ℕ = open_gate ∷ rest_of v ++ rest in
     let is : bytes ≡ front_of v ++ (closed_gate ∷ rest) = whole_front v rest in
     let long = long_front v in
-    let size : length (front_of v) ≡ gate_place v 0 = omega (arith, long) in
+    let size : length (front_of v) ≡ gate_place v 0 = omega (arith, long, gate_first v) in
     let there : gate_place v 0 < length bytes = omega (arith, ap (λ (l : List ℕ). length l) is, length-append (front_of v) (closed_gate ∷ rest), size) in
     let front : take (gate_place v 0) bytes ≡ front_of v = ap (take (gate_place v 0)) is ∙ take_at (front_of v) (closed_gate ∷ rest) (gate_place v 0) size in
     let shut : get_or bytes (gate_place v 0) 0 ≡ 0 =
     ap (λ (l : List ℕ). get_or l (gate_place v 0) 0) is ∙ get_or-append_right (front_of v) (closed_gate ∷ rest) (gate_place v 0) (gate_place v 0) 0 size (omega arith)
     ∙ ap (λ (k : ℕ). get_or (closed_gate ∷ rest) k 0) (let e : gate_place v 0 - gate_place v 0 ≡ 0 = omega arith in e) in
-    holds_reads v bytes 0 short (record {
-      front = of_plan_from v bytes there front;
+    holds_reads v bytes 0 (record {
+      front = of_plan_from v bytes short there front;
       whole = λ i low. absurd (omega (arith, low));
       closed = ap (λ (b : ℕ). b == open_gate) shut;
     })

@@ -1,34 +1,30 @@
 -- How bytes are read.
 use Rattle.std.proofs.Common.{◌≡◌, ◌∙◌, ◌≤◌, ◌<◌, ◌+◌, ◌-◌, ◌++◌, ◌==◌, ◌&&◌, ◌⊎◌, inl, inr, ℕ, zero, suc, Bool, true, false, not, cond, List, [], ◌∷◌, Result, Ok, Err, length, take, get_or, slice_range, slice_index, nat_lt, nat_le, refl, sym, ap, subst, arith, zero-add}
-use Rattle.std.specs.Prelude.{bytes_eq, codes, Option, Some, None, IfErr}
+use Rattle.std.specs.Prelude.{bytes_eq, Option, Some, None, IfErr}
 use Rattle.std.specs.List.{prefix_len, range_with_len}
 use Rattle.std.specs.Int.{w32, from_be_bytes}
 use Rattle.std.proofs.lemmas.Bool.{cases_lt}
 use Rattle.std.proofs.lemmas.Bool.Decides.{nat_tests, Decides-ltb, Decides-eqb}
 use Rattle.std.proofs.lemmas.Slice.Eq.{bytes_eq-Decides}
-use Rattle.std.proofs.lemmas.List.{get_or-take}
+use Rattle.std.proofs.lemmas.List.{get_or-take, length-take}
 use Rattle.std.proofs.lemmas.List.FromFn.{length-range_with_len, get_or-range_with_len, length-map-range_with_len, map-range_with_len_more}
 use Rattle.std.proofs.lemmas.List.Sums.{prefix_len-le-length, prefix_len_passes, prefix_len_stops}
 use Rattle.sha2.specs.Sha256.{sha256}
+use Rattle.cut_plan.specs.Versions.{version_of}
 use Rattle.cut_plan.specs.Values.{Values}
 use Rattle.cut_plan.specs.Canonical.{canonical_text}
 use Rattle.cut_disks.specs.State.{DiskState}
 use Rattle.cut_ledger.specs.declared.slip.Slip.{Slip}
 use Rattle.cut_journal.specs.declared.fault.JournalFault.{JournalFault}
 use Rattle.cut_journal.specs.declared.fault.JournalFault.TheVariants.{Memory, Disk, Broken, NoStudy, OtherPlan, Damaged, Held}
-use Rattle.cut_journal.specs.File.{open_gate, front_of, gate_place}
-use Rattle.cut_journal.specs.Reading.{is_study, is_of_plan, text_length, can_have_header, has_header, is_open, body_at, is_whole, is_slip, slip_in, slip_count, whole_count, first_slips, slips_reading, reading}
+use Rattle.cut_journal.specs.File.{open_gate, front_of, gate_place, slip_length}
+use Rattle.cut_journal.specs.Reading.{is_study, says_plan, has_magic, is_magic, text_length, can_have_header, has_header, is_open, body_at, is_whole, is_slip, slip_in, slip_count, whole_count, first_slips, slips_reading, reading}
 use Rattle.cut_journal.specs.Opening.{IsReopenFault}
-use Rattle.cut_journal.specs.Steps.{AreWhole, IsSlipFault}
-use Rattle.cut_journal.proofs.Headers.{front_has_header}
+use Rattle.cut_journal.specs.Steps.{IsOfPlan, AreWhole, IsSlipFault}
+use Rattle.cut_journal.proofs.Gates.{gate_first, gate_next, gate_far, gate_rises, nine_numbers}
+use Rattle.cut_journal.proofs.Headers.{both, together, Begins, front_begins, begin_alike, says_length, has_can, header_room, says_alike, magic_alike}
+use Rattle.std.proofs.Math.Seq.{take-take}
 use Rattle.cut_journal.proofs.Counts.{prefix_is, map_alike, get_or_past, alike_place, alike_front, alike_part}
-
-pub both : (a b : Bool) → (a && b) ≡ true → (a ≡ true) × (b ≡ true)
-both true b is = (refl, is)
-both false b is = absurd (cc)
-
-pub together : (a b : Bool) → a ≡ true → b ≡ true → (a && b) ≡ true
-together a b p q = cc
 
 pub cases_bool : (b : Bool) → (b ≡ true) ⊎ (b ≡ false)
 cases_bool true = inl refl
@@ -45,40 +41,49 @@ damaged_not number same = cc
 
 -- bytes are the file of a study of a plan, with n slips
 pub record Holds (v : Values) (bytes : List ℕ) (n : ℕ) : Type 0 where
-  pub front : is_of_plan v bytes ≡ true
+  pub front : IsOfPlan v bytes
   pub whole : AreWhole v bytes n
   pub closed : is_open v bytes n ≡ false
 
 -- ---- the front
 
-pub of_plan_is : (v : Values) (bytes : List ℕ) → is_of_plan v bytes ≡ true → (gate_place v 0 < length bytes) × (take (gate_place v 0) bytes ≡ front_of v)
-unfolding is_of_plan
-of_plan_is v bytes is =
-    let parts = both (nat_lt (gate_place v 0) (length bytes)) (bytes_eq (take (gate_place v 0) bytes) (front_of v)) is in
-    ((Decides-ltb (gate_place v 0) (length bytes)).0 parts.0, (bytes_eq-Decides (take (gate_place v 0) bytes) (front_of v)).0 parts.1)
-
-pub of_plan_from : (v : Values) (bytes : List ℕ) → gate_place v 0 < length bytes → take (gate_place v 0) bytes ≡ front_of v → is_of_plan v bytes ≡ true
-unfolding is_of_plan
-of_plan_from v bytes long is =
-    together (nat_lt (gate_place v 0) (length bytes)) (bytes_eq (take (gate_place v 0) bytes) (front_of v))
-    ((Decides-ltb (gate_place v 0) (length bytes)).1 long) ((bytes_eq-Decides (take (gate_place v 0) bytes) (front_of v)).1 is)
-
-pub plan_has_header : (v : Values) (bytes : List ℕ) → length (canonical_text v) ≤ 65536 → is_of_plan v bytes ≡ true → has_header bytes ≡ true
-plan_has_header v bytes short is = let parts = of_plan_is v bytes is in front_has_header v bytes short parts.0 parts.1
-
 front_opens : (v : Values) → get_or (front_of v) 0 0 ≡ open_gate
 unfolding front_of
 front_opens v = refl
 
--- a study of the plan is a study
-pub front_is_study : (v : Values) (bytes : List ℕ) → is_of_plan v bytes ≡ true → is_study bytes ≡ true
-front_is_study v bytes is =
-    let parts = of_plan_is v bytes is in
-    let first : get_or bytes 0 0 ≡ open_gate = sym (get_or-take (gate_place v 0) bytes 0 0 (omega arith)) ∙ ap (λ l. get_or l 0 0) parts.1 ∙ front_opens v in
+is_study_from : (bytes : List ℕ) → 1 < length bytes → get_or bytes 0 0 ≡ open_gate → is_study bytes ≡ true
+is_study_from bytes long first =
     together (nat_lt 1 (length bytes)) (slice_index bytes 0 == open_gate)
-    ((Decides-ltb 1 (length bytes)).1 (omega (arith, parts.0))) ((Decides-eqb (slice_index bytes 0) open_gate).1 first)
+    ((Decides-ltb 1 (length bytes)).1 long) ((Decides-eqb (slice_index bytes 0) open_gate).1 first)
+
+pub of_plan_from : (v : Values) (bytes : List ℕ) → length (canonical_text v) ≤ 65536 → gate_place v 0 < length bytes → take (gate_place v 0) bytes ≡ front_of v → IsOfPlan v bytes
+of_plan_from v bytes short long is =
+    let place = gate_first v in
+    let begins = front_begins v bytes short long is in
+    let first : get_or bytes 0 0 ≡ open_gate = sym (get_or-take (gate_place v 0) bytes 0 0 (omega (arith, place))) ∙ ap (λ l. get_or l 0 0) is ∙ front_opens v in
+    record { study = is_study_from bytes (omega (arith, long, place)) first; header = begins.header; text = begins.text; letters = begins.letters }
+
+-- the gate of the first slip is there
+pub first_there : (v : Values) (bytes : List ℕ) → has_header bytes ≡ true → says_plan v bytes ≡ true → gate_place v 0 < length bytes
+first_there v bytes header text =
+    let room = header_room bytes (has_can bytes header) in
+    let size = says_length v bytes text in
+    let place = gate_first v in
+    omega (arith, room, size, place)
+
+of_plan_alike : (v : Values) (bytes others : List ℕ) → take (gate_place v 0) others ≡ take (gate_place v 0) bytes → gate_place v 0 < length others → IsOfPlan v bytes → IsOfPlan v others
+of_plan_alike v bytes others alike long is =
+    let place = gate_first v in
+    let opens = (both (nat_lt 1 (length bytes)) (slice_index bytes 0 == open_gate) is.study).1 in
+    let first : get_or others 0 0 ≡ open_gate = alike_place (gate_place v 0) 0 others bytes alike (omega (arith, place)) ∙ (Decides-eqb (slice_index bytes 0) open_gate).0 opens in
+    let begins = begin_alike v bytes others alike long (record { header = is.header; text = is.text; letters = is.letters }) in
+    record { study = is_study_from others (omega (arith, long, place)) first; header = begins.header; text = begins.text; letters = begins.letters }
 
 -- ---- the slips
+
+pub both_not : (a b : Bool) → b ≡ false → (a && b) ≡ false
+both_not true b none = none
+both_not false b none = refl
 
 whole_is : (v : Values) (bytes : List ℕ) (i : ℕ) → is_whole v bytes i ≡ true → (gate_place v (i + 1) < length bytes) × (is_slip v (body_at v bytes i) ≡ true)
 whole_is v bytes i is =
@@ -89,18 +94,62 @@ pub whole_from : (v : Values) (bytes : List ℕ) (i : ℕ) → gate_place v (i +
 whole_from v bytes i long is =
     together (nat_lt (gate_place v (i + 1)) (length bytes)) (is_slip v (body_at v bytes i)) ((Decides-ltb (gate_place v (i + 1)) (length bytes)).1 long) is
 
+ap_place : (v : Values) (bytes : List ℕ) (i k : ℕ) → i ≡ k → gate_place v i < length bytes → gate_place v k < length bytes
+ap_place v bytes i k is there = subst (λ (n : ℕ). gate_place v n < length bytes) is there
+
+pub opens_at : (v : Values) (bytes : List ℕ) (i at : ℕ) (is : Bool) → at ≡ gate_place v i → is ≡ (slice_index bytes at == open_gate) → is ≡ true → is_open v bytes i ≡ true
+opens_at v bytes i at is here told opens = ap (λ (p : ℕ). slice_index bytes p == open_gate) (sym here) ∙ sym told ∙ opens
+
+-- a slip that the end of the file cuts off is not whole
+pub cut_short : (v : Values) (bytes : List ℕ) (i : ℕ) → length bytes ≤ gate_place v (i + 1) → is_whole v bytes i ≡ false
+cut_short v bytes i short =
+    let test : nat_lt (gate_place v (i + 1)) (length bytes) ≡ false = grind (arith, nat_tests) in
+    ap (λ (b : Bool). b && is_slip v (body_at v bytes i)) test
+
+-- what was read behind a gate stands there
+pub body_read : (v : Values) (i at k : ℕ) (zeros : List ℕ) (old mid : DiskState) (body : List ℕ) → at ≡ gate_place v i → k ≡ slip_length (version_of v.failing) → 1 ≤ k → k ≤ 113 → mid ≡ old
+    → body ≡ slice_range mid.bytes (at + 1) (at + 1 + length (take (k - 1) zeros)) → length zeros ≡ 112 → body ≡ body_at v old.bytes i
+body_read v i at k zeros old mid body here long least most same read buffer =
+    let next = gate_next v i in
+    let count : length (take (k - 1) zeros) ≡ k - 1 = omega (arith, length-take (k - 1) zeros, buffer, most) in
+    let end : at + 1 + length (take (k - 1) zeros) ≡ gate_place v (i + 1) = omega (arith, here, long, next, count, least) in
+    read ∙ ap (λ (d : DiskState). slice_range d.bytes (at + 1) (at + 1 + length (take (k - 1) zeros))) same ∙ ap (λ (e : ℕ). slice_range old.bytes (at + 1) e) end
+    ∙ ap (λ (e : ℕ). slice_range old.bytes (e + 1) (gate_place v (i + 1))) here
+
+-- what a slip's bytes are found to be
+found_some : (is : Bool) (made slip : Slip) → cond is (Some made) None ≡ Some slip → (is ≡ true) × (slip ≡ made)
+found_some true made slip same = (refl, (let back : Some slip ≡ Some made = sym same in cc (back)))
+found_some false made slip same = (let none : None ≡ Some slip = same in absurd (cc (none)))
+
+found_none : (is : Bool) (made : Slip) → cond is (Some made) None ≡ None → is ≡ false
+found_none false made same = refl
+found_none true made same = (let some : Some made ≡ None = same in absurd (cc (some)))
+
+pub next_whole : (v : Values) (bytes body : List ℕ) (i : ℕ) (found : Option Slip) (slip : Slip) → found ≡ cond (is_slip v body) (Some (slip_in (version_of v.failing) body)) None → body ≡ body_at v bytes i
+    → gate_place v (i + 1) < length bytes → found ≡ Some slip → (is_whole v bytes i ≡ true) × (slip ≡ slip_in (version_of v.failing) (body_at v bytes i))
+next_whole v bytes body i found slip told read long some =
+    let parts = found_some (is_slip v body) (slip_in (version_of v.failing) body) slip (sym told ∙ some) in
+    (whole_from v bytes i long (ap (is_slip v) (sym read) ∙ parts.0), parts.1 ∙ ap (slip_in (version_of v.failing)) read)
+
+pub next_broken : (v : Values) (bytes body : List ℕ) (i : ℕ) (found : Option Slip) → found ≡ cond (is_slip v body) (Some (slip_in (version_of v.failing) body)) None → body ≡ body_at v bytes i
+    → found ≡ None → is_whole v bytes i ≡ false
+next_broken v bytes body i found told read none =
+    let wrong = found_none (is_slip v body) (slip_in (version_of v.failing) body) (sym told ∙ none) in
+    let behind : is_slip v (body_at v bytes i) ≡ false = ap (is_slip v) (sym read) ∙ wrong in
+    both_not (nat_lt (gate_place v (i + 1)) (length bytes)) (is_slip v (body_at v bytes i)) behind
+
 -- the gate behind whole slips is there
-pub gate_there : (v : Values) (bytes : List ℕ) (n : ℕ) → is_of_plan v bytes ≡ true → AreWhole v bytes n → gate_place v n < length bytes
-gate_there v bytes zero front whole = (of_plan_is v bytes front).0
+pub gate_there : (v : Values) (bytes : List ℕ) (n : ℕ) → IsOfPlan v bytes → AreWhole v bytes n → gate_place v n < length bytes
+gate_there v bytes zero front whole = first_there v bytes front.header front.text
 gate_there v bytes (suc n) front whole =
     let there = (whole_is v bytes n (whole n (omega arith)).1).0 in
-    omega (arith, there)
+    ap_place v bytes (n + 1) (suc n) (omega arith) there
 
 count_is : (v : Values) (bytes : List ℕ) (n : ℕ) → Holds v bytes n → slip_count v bytes ≡ n
 unfolding slip_count
 count_is v bytes n holds =
     let there = gate_there v bytes n holds.front holds.whole in
-    prefix_is (is_open v bytes) (length bytes) n (omega (arith, there)) (λ i low. (holds.whole i low).0) (λ low. holds.closed)
+    prefix_is (is_open v bytes) (length bytes) n (omega (arith, there, gate_far v n)) (λ i low. (holds.whole i low).0) (λ low. holds.closed)
 
 whole_count_is : (v : Values) (bytes : List ℕ) (n k : ℕ) → slip_count v bytes ≡ n → k ≤ n → ((i : ℕ) → i < k → is_whole v bytes i ≡ true) → (k < n → is_whole v bytes k ≡ false) → whole_count v bytes ≡ k
 unfolding whole_count
@@ -108,56 +157,58 @@ whole_count_is v bytes n k count few whole stops =
     ap (λ m. prefix_len (is_whole v bytes) (range_with_len 0 m)) count ∙ prefix_is (is_whole v bytes) n k few whole stops
 
 -- what bytes are read as, by what the tests of their front say
-choice : Bool → Bool → Bool → Result (List Slip) JournalFault → Result (List Slip) JournalFault
-choice study header front slips = cond (not study) (Err NoStudy) (cond (not header) (Err (Damaged 0)) (cond (not front) (Err OtherPlan) slips))
+choice : Bool → Bool → Bool → Bool → Result (List Slip) JournalFault → Result (List Slip) JournalFault
+choice study header text letters slips =
+    cond (not study) (Err NoStudy) (cond (not header) (Err (Damaged 0)) (cond (not text) (Err OtherPlan) (cond (not letters) (Err (Damaged 0)) slips)))
 
-choice_is : (v : Values) (bytes : List ℕ) → reading v bytes ≡ choice (is_study bytes) (has_header bytes) (is_of_plan v bytes) (slips_reading v bytes)
+choice_is : (v : Values) (bytes : List ℕ) → reading v bytes ≡ choice (is_study bytes) (has_header bytes) (says_plan v bytes) (has_magic v bytes) (slips_reading v bytes)
 unfolding choice reading
 choice_is v bytes = refl
 
-choice_none : (study header front : Bool) (read : Result (List Slip) JournalFault) → study ≡ false → choice study header front read ≡ Err NoStudy
+choice_none : (study header text letters : Bool) (read : Result (List Slip) JournalFault) → study ≡ false → choice study header text letters read ≡ Err NoStudy
 unfolding choice
-choice_none false header front read none = refl
-choice_none true header front read none = absurd (cc)
+choice_none false header text letters read none = refl
+choice_none true header text letters read none = absurd (cc)
 
-choice_damaged : (study header front : Bool) (read : Result (List Slip) JournalFault) → study ≡ true → header ≡ false → choice study header front read ≡ Err (Damaged 0)
+choice_damaged : (study header text letters : Bool) (read : Result (List Slip) JournalFault) → study ≡ true → header ≡ false → choice study header text letters read ≡ Err (Damaged 0)
 unfolding choice
-choice_damaged true false front read some none = refl
-choice_damaged true true front read some none = absurd (cc)
-choice_damaged false header front read some none = absurd (cc)
+choice_damaged study header text letters read some none = rw (some, none) refl
 
-choice_other : (study header front : Bool) (read : Result (List Slip) JournalFault) → study ≡ true → header ≡ true → front ≡ false → choice study header front read ≡ Err OtherPlan
+choice_other : (study header text letters : Bool) (read : Result (List Slip) JournalFault) → study ≡ true → header ≡ true → text ≡ false → choice study header text letters read ≡ Err OtherPlan
 unfolding choice
-choice_other true true false read some whole none = refl
-choice_other true true true read some whole none = absurd (cc)
-choice_other true false front read some whole none = absurd (cc)
-choice_other false header front read some whole none = absurd (cc)
+choice_other study header text letters read some whole none = rw (some, whole, none) refl
 
-choice_plan : (study header front : Bool) (read : Result (List Slip) JournalFault) → study ≡ true → header ≡ true → front ≡ true → choice study header front read ≡ read
+choice_version : (study header text letters : Bool) (read : Result (List Slip) JournalFault) → study ≡ true → header ≡ true → text ≡ true → letters ≡ false
+    → choice study header text letters read ≡ Err (Damaged 0)
 unfolding choice
-choice_plan true true true read some whole is = refl
-choice_plan true true false read some whole is = absurd (cc)
-choice_plan true false front read some whole is = absurd (cc)
-choice_plan false header front read some whole is = absurd (cc)
+choice_version study header text letters read some whole says none = rw (some, whole, says, none) refl
 
-choice_some : (study header front : Bool) (read : Result (List Slip) JournalFault) → study ≡ true → (read ≡ Err NoStudy → ⊥) → choice study header front read ≡ Err NoStudy → ⊥
+choice_plan : (study header text letters : Bool) (read : Result (List Slip) JournalFault) → study ≡ true → header ≡ true → text ≡ true → letters ≡ true
+    → choice study header text letters read ≡ read
 unfolding choice
-choice_some true true true read study some is = some is
-choice_some true true false read study some is = absurd (cc)
-choice_some true false front read study some is = absurd (cc)
-choice_some false header front read study some is = absurd (cc)
+choice_plan study header text letters read some whole says has = rw (some, whole, says, has) refl
 
-choice_ok : (study header front : Bool) (read : Result (List Slip) JournalFault) (slips : List Slip) → choice study header front read ≡ Ok slips → (front ≡ true) × (read ≡ Ok slips)
+choice_some : (study header text letters : Bool) (read : Result (List Slip) JournalFault) → study ≡ true → (read ≡ Err NoStudy → ⊥) → choice study header text letters read ≡ Err NoStudy → ⊥
 unfolding choice
-choice_ok true true true read slips is = (refl, is)
-choice_ok true true false read slips is = absurd (ok_not slips OtherPlan (sym is))
-choice_ok true false front read slips is = absurd (ok_not slips (Damaged 0) (sym is))
-choice_ok false header front read slips is = absurd (ok_not slips NoStudy (sym is))
+choice_some true true true true read study some is = some is
+choice_some true true true false read study some is = absurd (cc)
+choice_some true true false letters read study some is = absurd (cc)
+choice_some true false text letters read study some is = absurd (cc)
+choice_some false header text letters read study some is = absurd (cc)
+
+choice_ok : (study header text letters : Bool) (read : Result (List Slip) JournalFault) (slips : List Slip) → choice study header text letters read ≡ Ok slips
+    → (study ≡ true) × (header ≡ true) × (text ≡ true) × (letters ≡ true) × (read ≡ Ok slips)
+unfolding choice
+choice_ok true true true true read slips is = (refl, refl, refl, refl, is)
+choice_ok true true true false read slips is = absurd (ok_not slips (Damaged 0) (sym is))
+choice_ok true true false letters read slips is = absurd (ok_not slips OtherPlan (sym is))
+choice_ok true false text letters read slips is = absurd (ok_not slips (Damaged 0) (sym is))
+choice_ok false header text letters read slips is = absurd (ok_not slips NoStudy (sym is))
 
 -- a study of the plan
-pub plan_read : (v : Values) (bytes : List ℕ) → has_header bytes ≡ true → is_of_plan v bytes ≡ true → reading v bytes ≡ slips_reading v bytes
-plan_read v bytes header front =
-    choice_is v bytes ∙ choice_plan (is_study bytes) (has_header bytes) (is_of_plan v bytes) (slips_reading v bytes) (front_is_study v bytes front) header front
+pub plan_read : (v : Values) (bytes : List ℕ) → IsOfPlan v bytes → reading v bytes ≡ slips_reading v bytes
+plan_read v bytes is =
+    choice_is v bytes ∙ choice_plan (is_study bytes) (has_header bytes) (says_plan v bytes) (has_magic v bytes) (slips_reading v bytes) is.study is.header is.text is.letters
 
 -- what the slips are read as, by how many there are and how many are whole
 told : Values → List ℕ → ℕ → ℕ → Result (List Slip) JournalFault
@@ -184,8 +235,8 @@ slips_read v bytes n holds =
     let whole = whole_count_is v bytes n n count (omega arith) (λ i low. (holds.whole i low).1) (λ low. absurd (omega (arith, low))) in
     told_is v bytes ∙ told_all v bytes (whole_count v bytes) (slip_count v bytes) (whole ∙ sym count) ∙ ap (λ m. Ok (first_slips v bytes m)) count
 
-pub holds_reads : (v : Values) (bytes : List ℕ) (n : ℕ) → length (canonical_text v) ≤ 65536 → Holds v bytes n → reading v bytes ≡ Ok (first_slips v bytes n)
-holds_reads v bytes n short holds = plan_read v bytes (plan_has_header v bytes short holds.front) holds.front ∙ slips_read v bytes n holds
+pub holds_reads : (v : Values) (bytes : List ℕ) (n : ℕ) → Holds v bytes n → reading v bytes ≡ Ok (first_slips v bytes n)
+holds_reads v bytes n holds = plan_read v bytes holds.front ∙ slips_read v bytes n holds
 
 open_there : (v : Values) (bytes : List ℕ) (i : ℕ) → is_open v bytes i ≡ true → gate_place v i < length bytes
 open_there v bytes i opens = elim (cases_lt (gate_place v i) (length bytes)) [
@@ -210,16 +261,17 @@ uncounted v bytes low =
     ap (is_open v bytes) (sym (get_or-range_with_len 0 (length bytes) (slip_count v bytes) 0 low ∙ zero-add (slip_count v bytes)))
     ∙ prefix_len_stops (is_open v bytes) (range_with_len 0 (length bytes)) 0 (omega (arith, low, length-range_with_len 0 (length bytes)))
 
-count_few : (v : Values) (bytes : List ℕ) → is_of_plan v bytes ≡ true → slip_count v bytes < length bytes
+count_few : (v : Values) (bytes : List ℕ) → IsOfPlan v bytes → slip_count v bytes < length bytes
 count_few v bytes front = elim (cases_lt (slip_count v bytes) (length bytes)) [
   | inl low ↦ low
-  | inr past ↦ (let some = (of_plan_is v bytes front).0 in
+  | inr past ↦ (let some = first_there v bytes front.header front.text in
+      let far = gate_far v (slip_count v bytes - 1) in
       let last = open_there v bytes (slip_count v bytes - 1) (counted v bytes (slip_count v bytes - 1) (omega (arith, past, some))) in
-      absurd (omega (arith, last, past, some)))
+      absurd (omega (arith, last, past, some, far)))
 ]
 
 -- a slip with an open gate, behind slips that are whole, and is not so
-pub damage_read : (v : Values) (bytes : List ℕ) (i : ℕ) → is_of_plan v bytes ≡ true → AreWhole v bytes i → is_open v bytes i ≡ true → is_whole v bytes i ≡ false
+pub damage_read : (v : Values) (bytes : List ℕ) (i : ℕ) → IsOfPlan v bytes → AreWhole v bytes i → is_open v bytes i ≡ true → is_whole v bytes i ≡ false
     → slips_reading v bytes ≡ Err (Damaged (i + 1))
 damage_read v bytes i front before opens broken =
     let high : i < slip_count v bytes = elim (cases_lt i (slip_count v bytes)) [
@@ -264,30 +316,36 @@ told_some v bytes whole count is = elim (cases_bool (whole == count)) [
 
 -- where there is no study, that is all that is said; where there is one, something else
 pub none_read : (v : Values) (bytes : List ℕ) → is_study bytes ≡ false → reading v bytes ≡ Err NoStudy
-none_read v bytes none = choice_is v bytes ∙ choice_none (is_study bytes) (has_header bytes) (is_of_plan v bytes) (slips_reading v bytes) none
+none_read v bytes none = choice_is v bytes ∙ choice_none (is_study bytes) (has_header bytes) (says_plan v bytes) (has_magic v bytes) (slips_reading v bytes) none
 
 pub some_read : (v : Values) (bytes : List ℕ) → is_study bytes ≡ true → reading v bytes ≡ Err NoStudy → ⊥
 some_read v bytes some is =
-    choice_some (is_study bytes) (has_header bytes) (is_of_plan v bytes) (slips_reading v bytes) some (λ read. told_some v bytes (whole_count v bytes) (slip_count v bytes) (sym (told_is v bytes) ∙ read))
+    choice_some (is_study bytes) (has_header bytes) (says_plan v bytes) (has_magic v bytes) (slips_reading v bytes) some (λ read. told_some v bytes (whole_count v bytes) (slip_count v bytes) (sym (told_is v bytes) ∙ read))
     (sym (choice_is v bytes) ∙ is)
 
 -- a study without a whole header, and one of another plan
 pub damaged_read : (v : Values) (bytes : List ℕ) → is_study bytes ≡ true → has_header bytes ≡ false → reading v bytes ≡ Err (Damaged 0)
-damaged_read v bytes some header = choice_is v bytes ∙ choice_damaged (is_study bytes) (has_header bytes) (is_of_plan v bytes) (slips_reading v bytes) some header
+damaged_read v bytes some header = choice_is v bytes ∙ choice_damaged (is_study bytes) (has_header bytes) (says_plan v bytes) (has_magic v bytes) (slips_reading v bytes) some header
 
-pub other_read : (v : Values) (bytes : List ℕ) → is_study bytes ≡ true → has_header bytes ≡ true → is_of_plan v bytes ≡ false → reading v bytes ≡ Err OtherPlan
-other_read v bytes some header front = choice_is v bytes ∙ choice_other (is_study bytes) (has_header bytes) (is_of_plan v bytes) (slips_reading v bytes) some header front
+pub other_read : (v : Values) (bytes : List ℕ) → is_study bytes ≡ true → has_header bytes ≡ true → says_plan v bytes ≡ false → reading v bytes ≡ Err OtherPlan
+other_read v bytes some header text = choice_is v bytes ∙ choice_other (is_study bytes) (has_header bytes) (says_plan v bytes) (has_magic v bytes) (slips_reading v bytes) some header text
+
+-- one whose letters are those of the other version
+pub version_read : (v : Values) (bytes : List ℕ) → is_study bytes ≡ true → has_header bytes ≡ true → says_plan v bytes ≡ true → has_magic v bytes ≡ false → reading v bytes ≡ Err (Damaged 0)
+version_read v bytes some header text letters =
+    choice_is v bytes ∙ choice_version (is_study bytes) (has_header bytes) (says_plan v bytes) (has_magic v bytes) (slips_reading v bytes) some header text letters
 
 -- bytes that say slips
 pub reads_holds : (v : Values) (bytes : List ℕ) (slips : List Slip) → reading v bytes ≡ Ok slips → Holds v bytes (length slips) × (slips ≡ first_slips v bytes (length slips))
 reads_holds v bytes slips is =
-    let parts = choice_ok (is_study bytes) (has_header bytes) (is_of_plan v bytes) (slips_reading v bytes) slips (sym (choice_is v bytes) ∙ is) in
-    let counts = told_cases v bytes (whole_count v bytes) (slip_count v bytes) slips (sym (told_is v bytes) ∙ parts.1) in
-    let long : length slips ≡ slip_count v bytes = ap (λ (l : List Slip). length l) counts.1 ∙ length-map-range_with_len (λ i. slip_in (body_at v bytes i)) 0 (slip_count v bytes) in
+    let parts = choice_ok (is_study bytes) (has_header bytes) (says_plan v bytes) (has_magic v bytes) (slips_reading v bytes) slips (sym (choice_is v bytes) ∙ is) in
+    let counts = told_cases v bytes (whole_count v bytes) (slip_count v bytes) slips (sym (told_is v bytes) ∙ parts.4) in
+    let long : length slips ≡ slip_count v bytes = ap (λ (l : List Slip). length l) counts.1 ∙ length-map-range_with_len (λ i. slip_in (version_of v.failing) (body_at v bytes i)) 0 (slip_count v bytes) in
+    let front : IsOfPlan v bytes = record { study = parts.0; header = parts.1; text = parts.2; letters = parts.3 } in
     let holds : Holds v bytes (slip_count v bytes) = record {
-      front = parts.0;
+      front = front;
       whole = λ i low. (counted v bytes i low, whole_counted v bytes i (omega (arith, counts.0, low)));
-      closed = uncounted v bytes (count_few v bytes parts.0);
+      closed = uncounted v bytes (count_few v bytes front);
     } in
     (subst (λ (n : ℕ). Holds v bytes n) (sym long) holds, counts.1 ∙ ap (λ (n : ℕ). first_slips v bytes n) (sym long))
 
@@ -299,43 +357,51 @@ slip_same v m i bytes others alike low = alike_part m (gate_place v i + 1) (gate
 open_same : (v : Values) (m i : ℕ) (bytes others : List ℕ) → take m others ≡ take m bytes → gate_place v i < m → is_open v others i ≡ is_open v bytes i
 open_same v m i bytes others alike low = ap (λ (b : ℕ). b == open_gate) (alike_place m (gate_place v i) others bytes alike low)
 
+slip_ends : (v : Values) (i n : ℕ) → i < n → gate_place v (i + 1) ≤ gate_place v n
+slip_ends v i n low = omega (arith, gate_next v i, gate_rises v i n low)
+
+gate_first_least : (v : Values) (n : ℕ) → gate_place v 0 ≤ gate_place v n
+gate_first_least v zero = omega arith
+gate_first_least v (suc n) = omega (arith, gate_rises v 0 (suc n) (omega arith))
+
 -- the slips in front of a place are the same
-pub before_same : (v : Values) (n : ℕ) (bytes others : List ℕ) → is_of_plan v bytes ≡ true → AreWhole v bytes n
+pub before_same : (v : Values) (n : ℕ) (bytes others : List ℕ) → IsOfPlan v bytes → AreWhole v bytes n
     → take (gate_place v n) others ≡ take (gate_place v n) bytes → gate_place v n < length others
-    → (is_of_plan v others ≡ true) × (AreWhole v others n) × (first_slips v others n ≡ first_slips v bytes n)
+    → IsOfPlan v others × (AreWhole v others n) × (first_slips v others n ≡ first_slips v bytes n)
 before_same v n bytes others front whole alike long =
     let m : ℕ = gate_place v n in
-    let parts = of_plan_is v bytes front in (
-      of_plan_from v others (omega (arith, long)) (alike_front m (gate_place v 0) others bytes alike (omega arith) ∙ parts.1),
-      λ i low. (
-        open_same v m i bytes others alike (omega (arith, low)) ∙ (whole i low).0,
-        whole_from v others i (omega (arith, low, long)) (ap (is_slip v) (slip_same v m i bytes others alike (omega (arith, low))) ∙ (whole_is v bytes i (whole i low).1).1),
-      ),
-      map_alike (λ i. slip_in (body_at v others i)) (λ i. slip_in (body_at v bytes i)) n (λ i low. ap slip_in (slip_same v m i bytes others alike (omega (arith, low)))),
+    let first : gate_place v 0 ≤ m = gate_first_least v n in (
+      of_plan_alike v bytes others (alike_front m (gate_place v 0) others bytes alike first) (omega (arith, long, first)) front,
+      λ i low. (let end : gate_place v (i + 1) ≤ m = slip_ends v i n low in (
+        open_same v m i bytes others alike (omega (arith, gate_next v i, end, nine_numbers (version_of v.failing))) ∙ (whole i low).0,
+        whole_from v others i (omega (arith, end, long)) (ap (is_slip v) (slip_same v m i bytes others alike end) ∙ (whole_is v bytes i (whole i low).1).1),
+      )),
+      map_alike (λ i. slip_in (version_of v.failing) (body_at v others i)) (λ i. slip_in (version_of v.failing) (body_at v bytes i)) n
+          (λ i low. ap (slip_in (version_of v.failing)) (slip_same v m i bytes others alike (slip_ends v i n low))),
     )
 
 -- where the gate behind them is closed, that is all
-pub closed_read : (v : Values) (n : ℕ) (bytes others : List ℕ) → length (canonical_text v) ≤ 65536 → is_of_plan v bytes ≡ true → AreWhole v bytes n
+pub closed_read : (v : Values) (n : ℕ) (bytes others : List ℕ) → IsOfPlan v bytes → AreWhole v bytes n
     → take (gate_place v n) others ≡ take (gate_place v n) bytes → gate_place v n < length others → is_open v others n ≡ false
     → reading v others ≡ Ok (first_slips v bytes n)
-closed_read v n bytes others short front whole alike long shut =
+closed_read v n bytes others front whole alike long shut =
     let same = before_same v n bytes others front whole alike long in
-    holds_reads v others n short (record { front = same.0; whole = same.1; closed = shut }) ∙ ap (λ (l : List Slip). Ok l) same.2
+    holds_reads v others n (record { front = same.0; whole = same.1; closed = shut }) ∙ ap (λ (l : List Slip). Ok l) same.2
 
 -- where it is open, and a slip stands whole behind it, before a closed gate, that is one more
-pub opened_read : (v : Values) (n : ℕ) (bytes others : List ℕ) (slip : Slip) → length (canonical_text v) ≤ 65536 → is_of_plan v bytes ≡ true → AreWhole v bytes n
+pub opened_read : (v : Values) (n : ℕ) (bytes others : List ℕ) (slip : Slip) → IsOfPlan v bytes → AreWhole v bytes n
     → take (gate_place v n) others ≡ take (gate_place v n) bytes → gate_place v (n + 1) < length others → is_open v others n ≡ true
-    → is_slip v (body_at v others n) ≡ true → slip_in (body_at v others n) ≡ slip → is_open v others (n + 1) ≡ false
+    → is_slip v (body_at v others n) ≡ true → slip_in (version_of v.failing) (body_at v others n) ≡ slip → is_open v others (n + 1) ≡ false
     → reading v others ≡ Ok (first_slips v bytes n ++ slip ∷ [])
-opened_read v n bytes others slip short front whole alike long opens is says shut =
-    let same = before_same v n bytes others front whole alike (omega (arith, long)) in
+opened_read v n bytes others slip front whole alike long opens is says shut =
+    let same = before_same v n bytes others front whole alike (omega (arith, long, gate_next v n)) in
     let more : AreWhole v others (n + 1) = λ i low. elim (cases_lt i n) [
       | inl before ↦ same.1 i before
       | inr last ↦ (let here : i ≡ n = omega arith in (ap (is_open v others) here ∙ opens, ap (is_whole v others) here ∙ whole_from v others n long is))
     ] in
-    holds_reads v others (n + 1) short (record { front = same.0; whole = more; closed = shut })
-    ∙ ap (λ (l : List Slip). Ok l) (map-range_with_len_more (λ i. slip_in (body_at v others i)) 0 n n (zero-add n)
-    ∙ ap (λ (l : List Slip). l ++ slip_in (body_at v others n) ∷ []) same.2 ∙ ap (λ (x : Slip). first_slips v bytes n ++ x ∷ []) says)
+    holds_reads v others (n + 1) (record { front = same.0; whole = more; closed = shut })
+    ∙ ap (λ (l : List Slip). Ok l) (map-range_with_len_more (λ i. slip_in (version_of v.failing) (body_at v others i)) 0 n n (zero-add n)
+    ∙ ap (λ (l : List Slip). l ++ slip_in (version_of v.failing) (body_at v others n) ∷ []) same.2 ∙ ap (λ (x : Slip). first_slips v bytes n ++ x ∷ []) says)
 
 -- one whole slip more
 pub one_more_whole : (v : Values) (bytes : List ℕ) (n : ℕ) → AreWhole v bytes n → is_open v bytes n ≡ true → is_whole v bytes n ≡ true → AreWhole v bytes (n + 1)
@@ -346,29 +412,33 @@ one_more_whole v bytes n whole opens is = λ i low. elim (cases_lt i n) [
 
 -- ---- headers
 
-pub not_plan : (v : Values) (bytes : List ℕ) → length bytes ≤ gate_place v 0 → is_of_plan v bytes ≡ false
-unfolding is_of_plan
-not_plan v bytes short =
-    let test : nat_lt (gate_place v 0) (length bytes) ≡ false = grind (arith, nat_tests) in
-    ap (λ (b : Bool). b && bytes_eq (take (gate_place v 0) bytes) (front_of v)) test
+-- a file that has no room for the plan's front is of another plan
+pub short_other : (v : Values) (bytes : List ℕ) → has_header bytes ≡ true → length bytes ≤ gate_place v 0 → says_plan v bytes ≡ false
+short_other v bytes header short = elim (cases_bool (says_plan v bytes)) [
+  | inl says ↦ absurd (omega (arith, first_there v bytes header says, short))
+  | inr other ↦ other
+]
 
-pub plan_test : (v : Values) (bytes front : List ℕ) (n : ℕ) → gate_place v 0 < length bytes → n ≡ gate_place v 0 → front ≡ front_of v
-    → bytes_eq (slice_range bytes 0 n) front ≡ is_of_plan v bytes
-unfolding is_of_plan
-plan_test v bytes front n long size made =
-    let k : n - 0 ≡ gate_place v 0 = omega (arith, size) in
-    let test : nat_lt (gate_place v 0) (length bytes) ≡ true = (Decides-ltb (gate_place v 0) (length bytes)).1 long in
-    ap (λ (m : ℕ). bytes_eq (take m bytes) front) k ∙ ap (bytes_eq (take (gate_place v 0) bytes)) made
-    ∙ sym (ap (λ (b : Bool). b && bytes_eq (take (gate_place v 0) bytes) (front_of v)) test)
+-- what the bytes of a front say, the file says
+front_alike : (v : Values) (bytes front into : List ℕ) (n : ℕ) → n ≡ length (canonical_text v) + 45 → front ≡ slice_range bytes 0 n → into ≡ front → take (gate_place v 0) into ≡ take (gate_place v 0) bytes
+front_alike v bytes front into n size read same =
+    let k : n - 0 ≡ gate_place v 0 = omega (arith, size, gate_first v) in
+    ap (take (gate_place v 0)) (same ∙ read ∙ ap (λ (m : ℕ). take m bytes) k) ∙ take-take (gate_place v 0) (gate_place v 0) bytes (omega arith)
+
+pub text_said : (v : Values) (bytes front into : List ℕ) (n : ℕ) (says : Bool) → n ≡ length (canonical_text v) + 45 → front ≡ slice_range bytes 0 n → into ≡ front → says ≡ says_plan v into → says_plan v bytes ≡ says
+text_said v bytes front into n says size read same told = sym (told ∙ says_alike v bytes into (front_alike v bytes front into n size read same))
+
+pub letters_said : (v : Values) (bytes front into : List ℕ) (n : ℕ) (has : Bool) → n ≡ length (canonical_text v) + 45 → front ≡ slice_range bytes 0 n → into ≡ front → has ≡ has_magic v into → has_magic v bytes ≡ has
+letters_said v bytes front into n has size read same told = sym (told ∙ magic_alike v bytes into (front_alike v bytes front into n size read same))
 
 -- whether a header can be there, by its four tests
-pub header_test : (bytes : List ℕ) (a b c d : Bool) → a ≡ nat_le 13 (length bytes) → b ≡ bytes_eq (slice_range bytes 1 9) (codes "CUTLAB01") → c ≡ nat_le (text_length bytes) 65536
+pub header_test : (bytes : List ℕ) (a b c d : Bool) → a ≡ nat_le 13 (length bytes) → b ≡ is_magic (slice_range bytes 1 9) → c ≡ nat_le (text_length bytes) 65536
     → d ≡ nat_le (text_length bytes + 46) (length bytes) → can_have_header bytes ≡ (((a && b) && c) && d)
 unfolding can_have_header
 header_test bytes a b c d p q r s = sym (rw (p, q, r, s) refl)
 
 -- the length in a header, where one can be there, by the same tests
-pub text_told : (bytes : List ℕ) (a b c d : Bool) (found : Option ℕ) → a ≡ nat_le 13 (length bytes) → b ≡ bytes_eq (slice_range bytes 1 9) (codes "CUTLAB01") → c ≡ nat_le (text_length bytes) 65536
+pub text_told : (bytes : List ℕ) (a b c d : Bool) (found : Option ℕ) → a ≡ nat_le 13 (length bytes) → b ≡ is_magic (slice_range bytes 1 9) → c ≡ nat_le (text_length bytes) 65536
     → d ≡ nat_le (text_length bytes + 46) (length bytes) → found ≡ cond (((a && b) && c) && d) (Some (text_length bytes)) None → found ≡ cond (can_have_header bytes) (Some (text_length bytes)) None
 text_told bytes a b c d found p q r s is = is ∙ sym (ap (λ (x : Bool). (let o : Option ℕ = cond x (Some (text_length bytes)) None in o)) (header_test bytes a b c d p q r s))
 
@@ -389,12 +459,6 @@ text_some bytes found text told some = elim (cases_bool (can_have_header bytes))
   | inl can ↦ (can, (let same : Some text ≡ Some (text_length bytes) = sym some ∙ told ∙ ap (λ (b : Bool). (let o : Option ℕ = cond b (Some (text_length bytes)) None in o)) can in cc (same)))
   | inr cannot ↦ (let same : Some text ≡ None = sym some ∙ told ∙ ap (λ (b : Bool). (let o : Option ℕ = cond b (Some (text_length bytes)) None in o)) cannot in absurd (cc (same)))
 ]
-
-pub header_room : (bytes : List ℕ) → can_have_header bytes ≡ true → text_length bytes + 46 ≤ length bytes
-unfolding can_have_header
-header_room bytes can =
-    let parts = both (nat_le 13 (length bytes) && bytes_eq (slice_range bytes 1 9) (codes "CUTLAB01") && nat_le (text_length bytes) 65536) (nat_le (text_length bytes + 46) (length bytes)) can in
-    grind (arith, nat_tests, parts.1)
 
 pub digest_test : (old mid : DiskState) (n : ℕ) (has : Bool) → mid ≡ old → can_have_header old.bytes ≡ true → n ≡ text_length old.bytes + 12
     → has ≡ bytes_eq (sha256 (slice_range mid.bytes 1 (n + 1))) (slice_range mid.bytes (n + 1) (n + 33)) → has ≡ has_header old.bytes

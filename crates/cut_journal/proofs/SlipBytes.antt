@@ -8,15 +8,19 @@ use Rattle.std.proofs.lemmas.Slice.Eq.{bytes_eq-Decides}
 use Rattle.std.proofs.lemmas.Nat.{from_be_bytes-to_be_bytes_8}
 use Rattle.std.proofs.lemmas.List.{take_at, drop_at}
 use Rattle.std.proofs.Math.Seq.{drop-drop}
+use Rattle.sha2.proofs.Facts256.{length-sha256}
 use Rattle.sha2.specs.Sha256.{sha256}
+use Rattle.cut_plan.specs.declared.version.Version.{Version}
+use Rattle.cut_plan.specs.declared.version.Version.TheVariants.{One, Two}
+use Rattle.cut_plan.specs.Versions.{version_of}
 use Rattle.cut_plan.specs.Values.{Values}
 use Rattle.cut_ledger.specs.declared.slip.Slip.{Slip}
-use Rattle.cut_journal.specs.File.{closed_gate, numbers_of, number_bytes, body_of, header_digest}
-use Rattle.cut_journal.specs.Reading.{number_at, slip_in, is_slip}
-use Rattle.cut_journal.specs.Steps.{HasNumbers}
+use Rattle.cut_journal.specs.File.{closed_gate, numbers_length, slip_length, numbers_of, number_bytes, body_of, header_digest}
+use Rattle.cut_journal.specs.Reading.{number_at, settled_at, slip_in, is_slip}
+use Rattle.cut_journal.specs.Steps.{HasNumbers, TellsAll}
 use borrow.Rule.Slice.PartMut.{put_mid}
 use Rattle.cut_journal.proofs.Fronts.{layered}
-use Rattle.cut_journal.proofs.Readings.{together}
+use Rattle.cut_journal.proofs.Headers.{together}
 
 eight : (x : ℕ) → length (to_be_bytes w64 x) ≡ 8
 eight x = refl
@@ -38,60 +42,102 @@ long_numbers : (xs : List ℕ) → length (flat_map (to_be_bytes w64) xs) ≡ 8 
 long_numbers [] = refl
 long_numbers (x ∷ xs) = length-append (to_be_bytes w64 x) (flat_map (to_be_bytes w64) xs) ∙ ap (λ n. 8 + n) (long_numbers xs) ∙ (let e : 8 + 8 * length xs ≡ 8 * suc (length xs) = omega arith in e)
 
-pub long_bytes : (s : Slip) → length (number_bytes s) ≡ 72
+pub long_bytes : (version : Version) (s : Slip) → length (number_bytes version s) ≡ numbers_length version
 unfolding number_bytes
-long_bytes s = long_numbers (numbers_of s)
+long_bytes One s = long_numbers (numbers_of One s)
+long_bytes Two s = long_numbers (numbers_of Two s)
 
-number_is : (v : Values) (s : Slip) (i n : ℕ) → i < 9 → get_or (numbers_of s) i 0 ≡ n → n < 2 ^ 64 → number_at (body_of v s) i ≡ n
-unfolding number_at body_of number_bytes
-number_is v s i n low is fits =
+number_is : (version : Version) (s : Slip) (tail : List ℕ) (i n : ℕ) → i < length (numbers_of version s) → get_or (numbers_of version s) i 0 ≡ n → n < 2 ^ 64 → number_at (number_bytes version s ++ tail) i ≡ n
+unfolding number_at number_bytes
+number_is version s tail i n low is fits =
     let size : 8 * i + 8 - 8 * i ≡ 8 = omega arith in
-    let tail : List ℕ = sha256 (header_digest v ++ flat_map (to_be_bytes w64) (numbers_of s)) in
-    ap (λ (k : ℕ). from_be_bytes w64 (take k (drop (8 * i) (flat_map (to_be_bytes w64) (numbers_of s) ++ tail)))) size
-    ∙ ap (from_be_bytes w64) (at_number (numbers_of s) tail i low ∙ ap (to_be_bytes w64) is) ∙ from_be_bytes-to_be_bytes_8 n fits
+    ap (λ (k : ℕ). from_be_bytes w64 (take k (drop (8 * i) (flat_map (to_be_bytes w64) (numbers_of version s) ++ tail)))) size
+    ∙ ap (from_be_bytes w64) (at_number (numbers_of version s) tail i low ∙ ap (to_be_bytes w64) is) ∙ from_be_bytes-to_be_bytes_8 n fits
 
-pub slip_back : (v : Values) (s : Slip) → HasNumbers s → slip_in (body_of v s) ≡ s
-slip_back v s fits =
-    let n0 = number_is v s 0 s.piece.first (omega arith) refl (omega (arith, fits.first)) in
-    let n1 = number_is v s 1 s.piece.count (omega arith) refl (omega (arith, fits.count)) in
-    let n2 = number_is v s 2 s.totals.receivers (omega arith) refl fits.receivers in
-    let n3 = number_is v s 3 s.totals.conflicts (omega arith) refl fits.conflicts in
-    let n4 = number_is v s 4 s.totals.silent (omega arith) refl fits.silent in
-    let n5 = number_is v s 5 s.totals.extra (omega arith) refl fits.extra in
-    let n6 = number_is v s 6 s.totals.votes (omega arith) refl fits.votes in
-    let n7 = number_is v s 7 s.totals.decided (omega arith) refl fits.decided in
-    let n8 = number_is v s 8 s.totals.right (omega arith) refl fits.right in
-    rw (n0, n1, n2, n3, n4, n5, n6, n7, n8) refl
+settled_is : (version : Version) (s : Slip) (tail : List ℕ) → HasNumbers s → TellsAll version s.totals → settled_at version (number_bytes version s ++ tail) ≡ s.totals.settled
+settled_is One s tail fits tells = sym tells
+settled_is Two s tail fits tells = number_is Two s tail 9 s.totals.settled (omega arith) refl fits.settled
+
+back : (version : Version) (s : Slip) (tail : List ℕ) → HasNumbers s → TellsAll version s.totals → slip_in version (number_bytes version s ++ tail) ≡ s
+back version s tail fits tells =
+    let n0 = number_is version s tail 0 s.piece.first (omega arith) refl (omega (arith, fits.first)) in
+    let n1 = number_is version s tail 1 s.piece.count (omega arith) refl (omega (arith, fits.count)) in
+    let n2 = number_is version s tail 2 s.totals.receivers (omega arith) refl fits.receivers in
+    let n3 = number_is version s tail 3 s.totals.conflicts (omega arith) refl fits.conflicts in
+    let n4 = number_is version s tail 4 s.totals.silent (omega arith) refl fits.silent in
+    let n5 = number_is version s tail 5 s.totals.extra (omega arith) refl fits.extra in
+    let n6 = number_is version s tail 6 s.totals.votes (omega arith) refl fits.votes in
+    let n7 = number_is version s tail 7 s.totals.decided (omega arith) refl fits.decided in
+    let n8 = number_is version s tail 8 s.totals.right (omega arith) refl fits.right in
+    let n9 = settled_is version s tail fits tells in
+    rw (n0, n1, n2, n3, n4, n5, n6, n7, n8, n9) refl
+
+pub slip_back : (v : Values) (s : Slip) → HasNumbers s → TellsAll (version_of v.failing) s.totals → slip_in (version_of v.failing) (body_of v s) ≡ s
+unfolding body_of
+slip_back v s fits tells = back (version_of v.failing) s (sha256 (header_digest v ++ number_bytes (version_of v.failing) s)) fits tells
 
 pub slip_whole : (v : Values) (s : Slip) → HasNumbers s → is_slip v (body_of v s) ≡ true
-unfolding is_slip
+unfolding is_slip body_of
 slip_whole v s fits =
-    let front : take 72 (body_of v s) ≡ number_bytes s = (unfold body_of in take_at (number_bytes s) (sha256 (header_digest v ++ number_bytes s)) 72 (long_bytes s)) in
-    let rest : drop 72 (body_of v s) ≡ sha256 (header_digest v ++ number_bytes s) = (unfold body_of in drop_at (number_bytes s) (sha256 (header_digest v ++ number_bytes s)) 72 (long_bytes s)) in
-    let n0 = number_is v s 0 s.piece.first (omega arith) refl (omega (arith, fits.first)) in
-    let n1 = number_is v s 1 s.piece.count (omega arith) refl (omega (arith, fits.count)) in
-    let digest = (bytes_eq-Decides (sha256 (header_digest v ++ take 72 (body_of v s))) (drop 72 (body_of v s))).1 (ap (λ (l : List ℕ). sha256 (header_digest v ++ l)) front ∙ sym rest) in
-    let low0 : nat_lt (number_at (body_of v s) 0) (2 ^ 32) ≡ true = (Decides-ltb (number_at (body_of v s) 0) (2 ^ 32)).1 (omega (arith, n0, fits.first)) in
-    let low1 : nat_lt (number_at (body_of v s) 1) (2 ^ 32) ≡ true = (Decides-ltb (number_at (body_of v s) 1) (2 ^ 32)).1 (omega (arith, n1, fits.count)) in
+    let version : Version = version_of v.failing in
+    let n : ℕ = numbers_length version in
+    let numbers : List ℕ = number_bytes version s in
+    let sum : List ℕ = sha256 (header_digest v ++ numbers) in
+    let front : take n (numbers ++ sum) ≡ numbers = take_at numbers sum n (long_bytes version s) in
+    let rest : drop n (numbers ++ sum) ≡ sum = drop_at numbers sum n (long_bytes version s) in
+    let n0 = number_is version s sum 0 s.piece.first (omega arith) refl (omega (arith, fits.first)) in
+    let n1 = number_is version s sum 1 s.piece.count (omega arith) refl (omega (arith, fits.count)) in
+    let digest = (bytes_eq-Decides (sha256 (header_digest v ++ take n (numbers ++ sum))) (drop n (numbers ++ sum))).1 (ap (λ (l : List ℕ). sha256 (header_digest v ++ l)) front ∙ sym rest) in
+    let low0 : nat_lt (number_at (numbers ++ sum) 0) (2 ^ 32) ≡ true = (Decides-ltb (number_at (numbers ++ sum) 0) (2 ^ 32)).1 (omega (arith, n0, fits.first)) in
+    let low1 : nat_lt (number_at (numbers ++ sum) 1) (2 ^ 32) ≡ true = (Decides-ltb (number_at (numbers ++ sum) 1) (2 ^ 32)).1 (omega (arith, n1, fits.count)) in
     together _ _ (together _ _ digest low0) low1
 
 -- ---- as they are put together
 
-pub nine : (s : Slip) (a b c d e f h i j : List ℕ) → a ≡ to_be_bytes w64 s.piece.first → b ≡ to_be_bytes w64 s.piece.count → c ≡ to_be_bytes w64 s.totals.receivers
+pub ten : (s : Slip) (a b c d e f h i j k : List ℕ) → a ≡ to_be_bytes w64 s.piece.first → b ≡ to_be_bytes w64 s.piece.count → c ≡ to_be_bytes w64 s.totals.receivers
     → d ≡ to_be_bytes w64 s.totals.conflicts → e ≡ to_be_bytes w64 s.totals.silent → f ≡ to_be_bytes w64 s.totals.extra → h ≡ to_be_bytes w64 s.totals.votes
-    → i ≡ to_be_bytes w64 s.totals.decided → j ≡ to_be_bytes w64 s.totals.right
-    → a ++ (b ++ (c ++ (d ++ (e ++ (f ++ (h ++ (i ++ (j ++ [])))))))) ≡ number_bytes s
+    → i ≡ to_be_bytes w64 s.totals.decided → j ≡ to_be_bytes w64 s.totals.right → k ≡ to_be_bytes w64 s.totals.settled
+    → a ++ (b ++ (c ++ (d ++ (e ++ (f ++ (h ++ (i ++ (j ++ (k ++ []))))))))) ≡ number_bytes Two s
 unfolding number_bytes
-nine s a b c d e f h i j p q r t u w x y z = rw (p, q, r, t, u, w, x, y, z) refl
+ten s a b c d e f h i j k p q r t u w x y z o = rw (p, q, r, t, u, w, x, y, z, o) refl
 
-pub slip_made : (v : Values) (s : Slip) (numbers digest zeros : List ℕ) → numbers ≡ number_bytes s → digest ≡ sha256 (header_digest v ++ number_bytes s) → drop 32 zeros ≡ closed_gate ∷ []
-    → put_mid 72 32 (numbers ++ zeros) digest ≡ body_of v s ++ closed_gate ∷ []
+-- of ten numbers, a version writes as many as it has
+pub numbers_told : (version : Version) (s : Slip) → take (numbers_length version) (number_bytes Two s) ≡ number_bytes version s
+unfolding number_bytes
+numbers_told One s = refl
+numbers_told Two s = refl
+
+take_more : (xs ys : List ℕ) (n k : ℕ) → length xs ≡ n → take (n + k) (xs ++ ys) ≡ xs ++ take k ys
+take_more [] ys zero k long = ap (λ (m : ℕ). take m ys) (let e : 0 + k ≡ k = omega arith in e)
+take_more [] ys (suc n) k long = absurd (omega (arith, long))
+take_more (x ∷ xs) ys zero k long = absurd (omega (arith, long))
+take_more (x ∷ xs) ys (suc n) k long =
+    ap (λ (m : ℕ). take m (x ∷ xs ++ ys)) (let e : suc n + k ≡ suc (n + k) = omega arith in e) ∙ ap (λ (l : List ℕ). x ∷ l) (take_more xs ys n k (omega (arith, long)))
+
+-- of bytes that are all 0, one is left behind a slip's digest
+pub gate_left : (version : Version) (zeros : List ℕ) (n : ℕ) → n ≡ numbers_length version → take 1 (drop 32 (drop 72 zeros)) ≡ closed_gate ∷ [] → take 1 (drop 32 (drop 80 zeros)) ≡ closed_gate ∷ []
+    → take 1 (drop 32 (drop n zeros)) ≡ closed_gate ∷ []
+gate_left One zeros n is one two = ap (λ (k : ℕ). take 1 (drop 32 (drop k zeros))) is ∙ one
+gate_left Two zeros n is one two = ap (λ (k : ℕ). take 1 (drop 32 (drop k zeros))) is ∙ two
+
+pub slip_made : (v : Values) (s : Slip) (n sum_length : ℕ) (numbers digest zeros : List ℕ) → n ≡ numbers_length (version_of v.failing) → sum_length ≡ 32 → numbers ≡ number_bytes (version_of v.failing) s
+    → digest ≡ sha256 (header_digest v ++ number_bytes (version_of v.failing) s) → take 1 (drop 32 zeros) ≡ closed_gate ∷ []
+    → take (slip_length (version_of v.failing)) (put_mid n sum_length (numbers ++ zeros) digest) ≡ body_of v s ++ closed_gate ∷ []
 unfolding body_of
-slip_made v s numbers digest zeros is right rest =
-    layered numbers zeros digest (ap (λ (l : List ℕ). length l) is ∙ long_bytes s)
-    ∙ ap (λ (l : List ℕ). (numbers ++ digest) ++ l) rest ∙ ap (λ (l : List ℕ). (l ++ digest) ++ closed_gate ∷ []) is ∙ ap (λ (l : List ℕ). (number_bytes s ++ l) ++ closed_gate ∷ []) right
+slip_made v s n sum_length numbers digest zeros size short is right rest =
+    let long : length numbers ≡ n = ap (λ (l : List ℕ). length l) is ∙ long_bytes (version_of v.failing) s ∙ sym size in
+    let sum : length digest ≡ 32 = ap (λ (l : List ℕ). length l) right ∙ length-sha256 (header_digest v ++ number_bytes (version_of v.failing) s) in
+    let both : length (numbers ++ digest) ≡ n + 32 = length-append numbers digest ∙ omega (arith, long, sum) in
+    ap (λ (k : ℕ). take (slip_length (version_of v.failing)) (put_mid n k (numbers ++ zeros) digest)) short
+    ∙ ap (take (slip_length (version_of v.failing))) (layered n numbers zeros digest long)
+    ∙ ap (λ (k : ℕ). take k ((numbers ++ digest) ++ drop 32 zeros)) (let e : slip_length (version_of v.failing) ≡ n + 32 + 1 = omega (arith, size) in e)
+    ∙ take_more (numbers ++ digest) (drop 32 zeros) (n + 32) 1 both
+    ∙ ap (λ (l : List ℕ). (numbers ++ digest) ++ l) rest ∙ ap (λ (l : List ℕ). (l ++ digest) ++ closed_gate ∷ []) is ∙ ap (λ (l : List ℕ). (number_bytes (version_of v.failing) s ++ l) ++ closed_gate ∷ []) right
 
-pub slip_test : (v : Values) (body : List ℕ) (a b c : Bool) → a ≡ bytes_eq (sha256 (header_digest v ++ take 72 body)) (drop 72 body) → b ≡ nat_lt (number_at body 0) (2 ^ 32) → c ≡ nat_lt (number_at body 1) (2 ^ 32)
-    → ((a && b) && c) ≡ is_slip v body
+pub slip_test : (v : Values) (body : List ℕ) (n : ℕ) (a b c : Bool) → n ≡ numbers_length (version_of v.failing) → a ≡ bytes_eq (sha256 (header_digest v ++ take n body)) (drop n body)
+    → b ≡ nat_lt (number_at body 0) (2 ^ 32) → c ≡ nat_lt (number_at body 1) (2 ^ 32) → ((a && b) && c) ≡ is_slip v body
 unfolding is_slip
-slip_test v body a b c p q r = rw (p, q, r) refl
+slip_test v body n a b c size p q r =
+    let same : a ≡ bytes_eq (sha256 (header_digest v ++ take (numbers_length (version_of v.failing)) body)) (drop (numbers_length (version_of v.failing)) body) =
+    p ∙ ap (λ (k : ℕ). bytes_eq (sha256 (header_digest v ++ take k body)) (drop k body)) size in
+    rw (same, q, r) refl

@@ -4,8 +4,12 @@ use Rattle.std.specs.Prelude.{ℕ, ◌+◌, ◌*◌, ◌++◌, List, [], ◌∷�
 use Rattle.std.specs.List.{flat_map}
 use Rattle.std.specs.Int.{w32, w64, to_be_bytes}
 use Rattle.sha2.specs.Sha256.{sha256}
+use Rattle.cut_plan.specs.declared.version.Version.{Version}
+use Rattle.cut_plan.specs.declared.version.Version.TheVariants.{One, Two}
+use Rattle.cut_plan.specs.Versions.{version_of}
 use Rattle.cut_plan.specs.Values.{Values}
 use Rattle.cut_plan.specs.Canonical.{canonical_text}
+use Rattle.cut_trial.specs.declared.totals.Totals.{Totals}
 use Rattle.cut_ledger.specs.declared.slip.Slip.{Slip}
 
 -- a gate is a byte that says whether what stands behind it counts: it is open where it is this byte, and closed
@@ -16,9 +20,32 @@ open_gate = 165
 abbrev pub closed_gate : ℕ
 closed_gate = 0
 
+-- ---- what differs by the version of the plan
+
+-- the letters that a header begins with
+abbrev pub magic_of : Version → List ℕ
+magic_of One = codes "CUTLAB01"
+magic_of Two = codes "CUTLAB02"
+
+-- how many bytes the numbers of a slip take: nine numbers, and in version 2 ten
+abbrev pub numbers_length : Version → ℕ
+numbers_length One = 72
+numbers_length Two = 80
+
+-- the number of `settled`, which a slip of version 1 does not have
+abbrev pub settled_number : Version → Totals → List ℕ
+settled_number One x = []
+settled_number Two x = x.settled ∷ []
+
+-- how many bytes a slip has: its gate, its numbers, and a digest
+abbrev pub slip_length : Version → ℕ
+slip_length version = numbers_length version + 33
+
+-- ---- the file
+
 -- the header: eight letters, the length of the plan's canonical text, and that text
 unfoldable pub header_of : Values → List ℕ
-header_of v = codes "CUTLAB01" ++ to_be_bytes w32 (length (canonical_text v)) ++ canonical_text v
+header_of v = magic_of (version_of v.failing) ++ to_be_bytes w32 (length (canonical_text v)) ++ canonical_text v
 
 unfoldable pub header_digest : Values → List ℕ
 header_digest v = sha256 (header_of v)
@@ -27,23 +54,25 @@ header_digest v = sha256 (header_of v)
 unfoldable pub front_of : Values → List ℕ
 front_of v = open_gate ∷ header_of v ++ header_digest v
 
--- the place of the gate of a slip, the first being number 0; a slip has 105 bytes with its gate
-abbrev pub gate_place : Values → ℕ → ℕ
-gate_place v i = length (canonical_text v) + 45 + 105 * i
+-- the place of the gate of a slip, the first being number 0: slips stand one behind another
+unfoldable pub gate_place : Values → ℕ → ℕ
+gate_place v i = length (canonical_text v) + 45 + slip_length (version_of v.failing) * i
 
--- the nine numbers of a slip
-abbrev pub numbers_of : Slip → List ℕ
-numbers_of s =
+-- the numbers of a slip, in order
+abbrev pub numbers_of : Version → Slip → List ℕ
+numbers_of version s =
     s.piece.first ∷ s.piece.count ∷ s.totals.receivers ∷ s.totals.conflicts ∷ s.totals.silent
-    ∷ s.totals.extra ∷ s.totals.votes ∷ s.totals.decided ∷ s.totals.right ∷ []
+    ∷ s.totals.extra ∷ s.totals.votes ∷ s.totals.decided ∷ s.totals.right
+    ∷ settled_number version s.totals
 
 -- each of them in 8 bytes
-unfoldable pub number_bytes : Slip → List ℕ
-number_bytes s = flat_map (to_be_bytes w64) (numbers_of s)
+unfoldable pub number_bytes : Version → Slip → List ℕ
+number_bytes version s = flat_map (to_be_bytes w64) (numbers_of version s)
 
 -- what stands behind a slip's gate: its numbers, and the digest of the header's digest and of these
 unfoldable pub body_of : Values → Slip → List ℕ
-body_of v s = number_bytes s ++ sha256 (header_digest v ++ number_bytes s)
+body_of v s =
+    number_bytes (version_of v.failing) s ++ sha256 (header_digest v ++ number_bytes (version_of v.failing) s)
 
 -- the file of a study with these slips: they stand behind open gates, and the next gate is closed
 abbrev pub file_of : Values → List Slip → List ℕ

@@ -5,3 +5,5 @@ pub mod Opening
 pub mod FaultCode
 pub mod Laws
 pub mod Steps
+pub mod Migration
+pub mod MigrateFaultCode

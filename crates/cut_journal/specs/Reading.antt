@@ -1,14 +1,18 @@
 -- What the bytes of a file say: the slips of a study of a plan, or why they don't say any (this project's
 -- format).
-use Rattle.std.specs.Prelude.{ℕ, ◌+◌, ◌*◌, ◌^◌, ◌==◌, ◌&&◌, ◌++◌, Bool, not, List, length, map, take, drop, slice_index, slice_range, nat_lt, nat_le, bytes_eq, codes, if◌then◌else◌, Result, Ok, Err}
+use Rattle.std.specs.Prelude.{ℕ, ◌+◌, ◌*◌, ◌^◌, ◌==◌, ◌&&◌, ◌||◌, ◌++◌, Bool, not, List, length, map, take, drop, slice_index, slice_range, nat_lt, nat_le, bytes_eq, if◌then◌else◌, Result, Ok, Err}
 use Rattle.std.specs.List.{prefix_len, range_with_len}
 use Rattle.std.specs.Int.{w32, w64, from_be_bytes}
 use Rattle.sha2.specs.Sha256.{sha256}
+use Rattle.cut_plan.specs.declared.version.Version.{Version}
+use Rattle.cut_plan.specs.declared.version.Version.TheVariants.{One, Two}
+use Rattle.cut_plan.specs.Versions.{version_of}
+use Rattle.cut_plan.specs.Canonical.{canonical_text}
 use Rattle.cut_plan.specs.Values.{Values}
 use Rattle.cut_ledger.specs.declared.slip.Slip.{Slip}
 use Rattle.cut_journal.specs.declared.fault.JournalFault.{JournalFault}
 use Rattle.cut_journal.specs.declared.fault.JournalFault.TheVariants.{NoStudy, Damaged, OtherPlan}
-use Rattle.cut_journal.specs.File.{open_gate, front_of, header_digest, gate_place}
+use Rattle.cut_journal.specs.File.{open_gate, magic_of, numbers_length, header_digest, gate_place}
 
 -- ---- the header
 
@@ -20,10 +24,14 @@ is_study bytes = nat_lt 1 (length bytes) && (slice_index bytes 0 == open_gate)
 abbrev pub text_length : List ℕ → ℕ
 text_length bytes = from_be_bytes w32 (slice_range bytes 9 13)
 
--- whether a header of that length can be there, with the gate of a first slip
+-- whether letters are those of a version
+unfoldable pub is_magic : List ℕ → Bool
+is_magic letters = bytes_eq letters (magic_of One) || bytes_eq letters (magic_of Two)
+
+-- whether a header of that length, of either version, can be there, with the gate of a first slip
 unfoldable pub can_have_header : List ℕ → Bool
 can_have_header bytes =
-    nat_le 13 (length bytes) && bytes_eq (slice_range bytes 1 9) (codes "CUTLAB01")
+    nat_le 13 (length bytes) && is_magic (slice_range bytes 1 9)
     && nat_le (text_length bytes) 65536 && nat_le (text_length bytes + 46) (length bytes)
 
 -- whether there is a whole header, of whichever plan, and the gate of a first slip
@@ -32,19 +40,29 @@ has_header bytes =
     can_have_header bytes
     && bytes_eq (sha256 (slice_range bytes 1 (text_length bytes + 13))) (slice_range bytes (text_length bytes + 13) (text_length bytes + 45))
 
--- whether bytes begin as the file of a study of this plan does, and have the gate of a first slip
-unfoldable pub is_of_plan : Values → List ℕ → Bool
-is_of_plan v bytes =
-    nat_lt (gate_place v 0) (length bytes) && bytes_eq (take (gate_place v 0) bytes) (front_of v)
+-- whether the header says the text of this plan
+unfoldable pub says_plan : Values → List ℕ → Bool
+says_plan v bytes =
+    (text_length bytes == length (canonical_text v))
+    && bytes_eq (slice_range bytes 13 (text_length bytes + 13)) (canonical_text v)
+
+-- whether it begins with the letters of this plan's version
+unfoldable pub has_magic : Values → List ℕ → Bool
+has_magic v bytes = bytes_eq (slice_range bytes 1 9) (magic_of (version_of v.failing))
 
 -- ---- a slip, by what stands behind its gate
 
--- a number of the nine
+-- a number of a slip
 unfoldable pub number_at : List ℕ → ℕ → ℕ
 number_at body i = from_be_bytes w64 (slice_range body (8 * i) (8 * i + 8))
 
-abbrev pub slip_in : List ℕ → Slip
-slip_in body = record {
+-- the number of `settled`: 0 for a slip of version 1
+abbrev pub settled_at : Version → List ℕ → ℕ
+settled_at One body = 0
+settled_at Two body = number_at body 9
+
+abbrev pub slip_in : Version → List ℕ → Slip
+slip_in version body = record {
   piece = record { first = number_at body 0; count = number_at body 1 };
   totals = record {
     receivers = number_at body 2;
@@ -54,13 +72,15 @@ slip_in body = record {
     votes = number_at body 6;
     decided = number_at body 7;
     right = number_at body 8;
+    settled = settled_at version body;
   };
 }
 
 -- whether it is a slip that was written whole: its digest is right, and the numbers of its piece have 32 bits
 unfoldable pub is_slip : Values → List ℕ → Bool
 is_slip v body =
-    bytes_eq (sha256 (header_digest v ++ take 72 body)) (drop 72 body)
+    bytes_eq (sha256 (header_digest v ++ take (numbers_length (version_of v.failing)) body))
+    (drop (numbers_length (version_of v.failing)) body)
     && nat_lt (number_at body 0) (2 ^ 32) && nat_lt (number_at body 1) (2 ^ 32)
 
 -- ---- the slips
@@ -87,7 +107,7 @@ whole_count v bytes = prefix_len (is_whole v bytes) (range_with_len 0 (slip_coun
 
 -- the first so many slips
 abbrev pub first_slips : Values → List ℕ → ℕ → List Slip
-first_slips v bytes n = map (λ i. slip_in (body_at v bytes i)) (range_with_len 0 n)
+first_slips v bytes n = map (λ i. slip_in (version_of v.failing) (body_at v bytes i)) (range_with_len 0 n)
 
 -- ---- the reading
 
@@ -98,9 +118,10 @@ slips_reading v bytes =
     else Err (Damaged (whole_count v bytes + 1))
 
 -- what the bytes say, read as a study of this plan, told in this order: whether there is a study, whether its
--- header is whole, whether it is of this plan, and the slips
+-- header is whole, whether it is of this plan, whether its letters are those of the plan's version, and the slips
 unfoldable pub reading : Values → List ℕ → Result (List Slip) JournalFault
 reading v bytes =
     if not (is_study bytes) then Err NoStudy
     else (if not (has_header bytes) then Err (Damaged 0)
-    else (if not (is_of_plan v bytes) then Err OtherPlan else slips_reading v bytes))
+    else (if not (says_plan v bytes) then Err OtherPlan
+    else (if not (has_magic v bytes) then Err (Damaged 0) else slips_reading v bytes)))

@@ -1,12 +1,16 @@
 -- What the private steps of a journal do to an honest disk.
 use Rattle.std.specs.Prelude.{◌≡◌, ◌⊎◌, ◌∷◌, ◌++◌, ◌+◌, ◌^◌, ◌<◌, ◌==◌, ℕ, true, false, List, length, Option, Some, None, Result, Ok, Err, ⊤}
+use Rattle.cut_plan.specs.declared.version.Version.{Version}
+use Rattle.cut_plan.specs.declared.version.Version.TheVariants.{One, Two}
+use Rattle.cut_plan.specs.Versions.{version_of}
 use Rattle.cut_plan.specs.Values.{Values}
+use Rattle.cut_trial.specs.declared.totals.Totals.{Totals}
 use Rattle.cut_disks.specs.State.{DiskState, IsImage, IsTorn, written, begun, synced}
 use Rattle.cut_ledger.specs.declared.slip.Slip.{Slip}
 use Rattle.cut_journal.specs.declared.fault.JournalFault.{JournalFault}
 use Rattle.cut_journal.specs.declared.fault.JournalFault.TheVariants.{Memory, Disk, Damaged}
 use Rattle.cut_journal.specs.File.{open_gate, rest_of}
-use Rattle.cut_journal.specs.Reading.{is_open, is_whole, slip_in, body_at}
+use Rattle.cut_journal.specs.Reading.{is_study, has_header, says_plan, has_magic, is_open, is_whole, slip_in, body_at}
 
 -- a write and a sync: all is sure; or the write did nothing, or was begun
 abbrev pub WritesThrough : {E : Type 0} → Result ⊤ E → ℕ → List ℕ → DiskState → DiskState → Type 0
@@ -19,11 +23,18 @@ abbrev pub Settles : {T E : Type 0} → Result T E → DiskState → DiskState �
 Settles (Ok look) old new = new ≡ synced old
 Settles (Err fault) old new = (new ≡ old) ⊎ (new ≡ synced old)
 
+-- bytes begin as the file of a study of this plan does, and have the gate of a first slip
+pub record IsOfPlan (v : Values) (bytes : List ℕ) : Type 0 where
+  pub study : is_study bytes ≡ true
+  pub header : has_header bytes ≡ true
+  pub text : says_plan v bytes ≡ true
+  pub letters : has_magic v bytes ≡ true
+
 -- what the next slip is found to be: none behind a closed gate, a whole one, or one that is damaged
 abbrev pub IsNext : Result (Option Slip) JournalFault → Values → List ℕ → ℕ → Type 0
 IsNext (Ok None) v bytes i = is_open v bytes i ≡ false
 IsNext (Ok (Some slip)) v bytes i =
-    (is_open v bytes i ≡ true) × (is_whole v bytes i ≡ true) × (slip ≡ slip_in (body_at v bytes i))
+    (is_open v bytes i ≡ true) × (is_whole v bytes i ≡ true) × (slip ≡ slip_in (version_of v.failing) (body_at v bytes i))
 IsNext (Err (Damaged number)) v bytes i =
     (number ≡ i + 1) × (is_open v bytes i ≡ true) × (is_whole v bytes i ≡ false)
 IsNext (Err fault) v bytes i = ⊤
@@ -47,6 +58,11 @@ Leave P d = P d.bytes × ((image : List ℕ) → IsImage d.stable image → P im
 abbrev pub BeginsAs : Values → List ℕ → Type 0
 BeginsAs v bytes = (first : ℕ) × ((rest : List ℕ) × ((bytes ≡ first ∷ rest_of v ++ rest) × ((first == open_gate) ≡ false)))
 
+-- a slip of a version tells all of these totals: `settled` is 0 where it is not told
+abbrev pub TellsAll : Version → Totals → Type 0
+TellsAll One x = x.settled ≡ 0
+TellsAll Two x = ⊤
+
 -- the numbers of a slip have 64 bits, those of its piece 32
 pub record HasNumbers (s : Slip) : Type 0 where
   pub first : s.piece.first < 2 ^ 32
@@ -58,3 +74,4 @@ pub record HasNumbers (s : Slip) : Type 0 where
   pub votes : s.totals.votes < 2 ^ 64
   pub decided : s.totals.decided < 2 ^ 64
   pub right : s.totals.right < 2 ^ 64
+  pub settled : s.totals.settled < 2 ^ 64

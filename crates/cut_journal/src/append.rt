@@ -1,10 +1,11 @@
 ghost use Rattle.std.specs.Prelude.{◌≡◌, ◌+◌, ◌<◌, ◌≤◌, ◌^◌, ◌↔◌, ◌++◌, [], ◌∷◌, None, Some, Ok, length, OnOk};
 ghost use Rattle.cut_faults.specs.Failures.{counted};
 ghost use Rattle.cut_disks.specs.State.{settled, Throughout};
-ghost use Rattle.cut_journal.specs.File.{gate_place};
+ghost use Rattle.cut_journal.specs.File.{slip_length, gate_place};
 ghost use Rattle.cut_journal.specs.Reading.{reading};
 ghost use Rattle.cut_journal.specs.Journal.{kept_slips, ReadsAs, IsSound};
-ghost use Rattle.cut_journal.specs.Steps.{Leave};
+ghost use Rattle.cut_plan.specs.Versions.{version_of};
+ghost use Rattle.cut_journal.specs.Steps.{Leave, TellsAll};
 
 use crate::file::{Gate, OPEN_GATE, Study};
 use crate::through::write_through;
@@ -22,6 +23,7 @@ pub(crate) fn keep<D: Disk>(
     requires place { gate.place ≡ gate_place study.now gate.number }
     requires bound { gate.place < 2 ^ 63 }
     requires sound { D.is_honest disk.old → IsSound study.now gate.number None (D.state disk.old) }
+    requires tells { TellsAll (version_of study.now.failing) slip.totals }
     ensures moments { D.is_honest disk.old → Throughout (D.state disk.old) (D.state disk.new)
         (ReadsAs study.now (kept_slips study.now gate.number (D.state disk.old)) (Some slip)) }
     ensures left { D.is_honest disk.old →
@@ -31,13 +33,13 @@ pub(crate) fn keep<D: Disk>(
         ≡ Ok (kept_slips study.now gate.number (D.state disk.old) ++ slip ∷ [])) }
     ensures sure { D.is_honest disk.old →
         OnOk result ((D.state disk.new).stable ≡ settled (D.state disk.new).bytes) }
-    ensures bound { OnOk result (gate.place + 105 < 2 ^ 63) }
+    ensures bound { OnOk result (gate.place + slip_length (version_of study.now.failing) < 2 ^ 63) }
     ensures honest { D.is_honest disk.old ↔ D.is_honest disk.new }
     ensures faults { D.faults disk.new ≡ counted result (D.faults disk.old) }
 {
-    study.is_short();
     writes_stay_in_their_span();
     let bytes = study.slip_bytes(slip);
-    write_through(disk, gate.place + 1, &bytes)?;
+    let put = &bytes[..study.slip_length() as usize];
+    write_through(disk, gate.place + 1, put)?;
     write_through(disk, gate.place, &[OPEN_GATE])
 }

@@ -1,13 +1,16 @@
-ghost use Rattle.std.specs.Prelude.{◌≡◌, ◌+◌, ◌*◌, ◌++◌, ◌≤◌, [], ◌∷◌, length, if◌then◌else◌, ◌<◌, ◌^◌, Some, None, IfOk, IsTrue};
+ghost use Rattle.std.specs.Prelude.{◌≡◌, ◌+◌, ◌*◌, ◌++◌, ◌≤◌, [], ◌∷◌, length, take, if◌then◌else◌, ◌<◌, ◌^◌, Some, None, IfOk, IsTrue};
 ghost use Rattle.std.specs.List.{flat_map};
 ghost use Rattle.sha2.specs.Sha256.{sha256};
 ghost use Rattle.cut_plan.specs.Canonical.{canonical_text};
-ghost use Rattle.cut_journal.specs.File.{closed_gate, header_of, header_digest, front_of, rest_of, gate_place, numbers_of, number_bytes, body_of};
-ghost use Rattle.cut_journal.specs.Reading.{number_at, slip_in, is_slip};
+ghost use Rattle.cut_plan.specs.Versions.{version_of};
+ghost use Rattle.cut_plan.specs.declared.version.Version.TheVariants.{Two};
+ghost use Rattle.cut_journal.specs.File.{closed_gate, header_of, header_digest, front_of, rest_of, gate_place, numbers_length, slip_length, number_bytes, body_of};
+ghost use Rattle.cut_journal.specs.Reading.{says_plan, has_magic, number_at, settled_at, slip_in, is_slip};
 ghost use Rattle.cut_journal.specs.Steps.{HasNumbers};
 
+use crate::layout::{magic_of, numbers_length, slip_length};
 use cut_ledger::Slip;
-use cut_plan::{Plan, canonical_text_reads_back};
+use cut_plan::{Plan, Version, canonical_text_reads_back};
 use cut_trial::{Piece, Totals};
 use sha2::{Digest, Sha256};
 use std::alloc::{AllocError, Global};
@@ -18,12 +21,6 @@ pub(crate) const OPEN_GATE: u8 = 0xA5;
 
 /// The byte that a closed gate is written as.
 pub(crate) const CLOSED_GATE: u8 = 0;
-
-/// The letters that a header begins with.
-pub(crate) const MAGIC: [u8; 8] = *b"CUTLAB01";
-
-/// How many bytes a slip has with its gate.
-pub(crate) const SLIP_BYTES: u64 = 105;
 
 /// The gate of a slip.
 #[derive(Clone, Copy)]
@@ -69,7 +66,7 @@ impl Study {
         let length = text_length(plan, text.as_slice());
         let mut front = Vec::with_capacity(alloc, text.len() + 45)?;
         front.push(OPEN_GATE)?;
-        front.extend_from_slice(MAGIC.as_slice())?;
+        front.extend_from_slice(magic_of(plan.version()).as_slice())?;
         front.extend_from_slice(length.to_be_bytes().as_slice())?;
         front.extend_from_slice(text.as_slice())?;
         let digest = digest_of(&front[1..]);
@@ -89,10 +86,17 @@ impl Study {
         &self.plan
     }
 
+    /// The version of the plan.
+    fn version(&self) -> Version
+        ensures { result ≡ version_of self.now.failing }
+    {
+        self.plan.version()
+    }
+
     /// What its file begins with, up to the gate of the first slip.
     pub fn front(&self) -> &[u8]
         ensures bytes { result.now ≡ front_of self.now }
-        ensures long { length result.now ≡ gate_place self.now 0 }
+        ensures long { length result.now ≡ length (canonical_text self.now) + 45 }
     {
         self.front.as_slice()
     }
@@ -120,30 +124,76 @@ impl Study {
         ensures place { result.place ≡ gate_place self.now 0 }
         ensures short { result.place ≤ 65581 }
     {
+        self.is_short();
         Gate {
             number: 0,
-            place: self.front.len() as u64,
+            place: self.front().len() as u64,
         }
     }
 
-    /// What is written of a slip behind its gate, and then the next gate, closed.
-    pub fn slip_bytes(&self, slip: Slip) -> [u8; 105]
-        ensures bytes { result ≡ body_of self.now slip ++ closed_gate ∷ [] }
+    /// How many bytes each of its slips has with its gate.
+    pub fn slip_length(&self) -> u64
+        ensures value { result ≡ slip_length (version_of self.now.failing) }
+        ensures least { 105 ≤ result }
+        ensures most { result ≤ 113 }
+    {
+        slip_length(self.version())
+    }
+
+    /// The text of its plan.
+    fn text(&self) -> &[u8]
+        ensures { result.now ≡ canonical_text self.now }
+    {
+        let front = self.front();
+        &front[13..front.len() - 32]
+    }
+
+    /// Whether what a file begins with says the text of its plan.
+    pub fn says_plan(&self, front: &[u8]) -> bool
+        requires { length front.now ≡ length (canonical_text self.now) + 45 }
+        ensures { result ≡ says_plan self.now front.now }
+    {
+        let text = self.text();
+        let mut digits = [0; 4];
+        digits.copy_from_slice(&front[9..13]);
+        let is_long = u32::from_be_bytes(digits) as usize == text.len();
+        if !is_long {
+            return false;
+        }
+        &front[13..text.len() + 13] == text
+    }
+
+    /// Whether what a file begins with has the letters of its plan's version.
+    pub fn has_magic(&self, front: &[u8]) -> bool
+        requires { 9 ≤ length front.now }
+        ensures { result ≡ has_magic self.now front.now }
+    {
+        &front[1..9] == magic_of(self.version()).as_slice()
+    }
+
+    /// What is written of a slip behind its gate, and then the next gate, closed: as many bytes as a slip
+    /// has, and after these some that are not used.
+    pub fn slip_bytes(&self, slip: Slip) -> [u8; 113]
+        ensures bytes { take (slip_length (version_of self.now.failing)) result
+            ≡ body_of self.now slip ++ closed_gate ∷ [] }
         ensures numbers { HasNumbers slip }
     {
         let numbers = number_bytes(slip);
-        let numbers = numbers.as_flattened();
+        let length = numbers_length(self.version());
+        let numbers = &numbers.as_flattened()[..length];
         let digest = self.slip_digest(numbers);
-        let mut bytes = [CLOSED_GATE; 105];
-        bytes[..72].copy_from_slice(numbers);
-        bytes[72..104].copy_from_slice(digest.as_slice());
+        let mut bytes = [CLOSED_GATE; 113];
+        bytes[..length].copy_from_slice(numbers);
+        bytes[length..length + 32].copy_from_slice(digest.as_slice());
         bytes
     }
 
     /// The slip that stands in the bytes behind a gate, if they were written as one.
     pub fn slip_in(&self, body: &[u8]) -> Option<Slip>
-        requires { length body.now ≡ 104 }
-        ensures { result ≡ (if is_slip self.now body.now then Some (slip_in body.now) else None) }
+        requires numbers { numbers_length (version_of self.now.failing) ≤ length body.now }
+        requires nine { 72 ≤ length body.now }
+        ensures { result ≡ (if is_slip self.now body.now
+            then Some (slip_in (version_of self.now.failing) body.now) else None) }
     {
         if !self.is_slip(body) {
             return None;
@@ -152,18 +202,20 @@ impl Study {
             first: number_at(body, 0) as u32,
             count: number_at(body, 1) as u32,
         };
-        let totals = totals_in(body);
+        let totals = totals_in(self.version(), body);
         Some(Slip { piece, totals })
     }
 
     /// Whether the bytes behind a gate were written as a slip's.
     fn is_slip(&self, body: &[u8]) -> bool
-        requires { length body.now ≡ 104 }
+        requires numbers { numbers_length (version_of self.now.failing) ≤ length body.now }
+        requires nine { 72 ≤ length body.now }
         ensures value { result ≡ is_slip self.now body.now }
         ensures small { IsTrue result → (number_at body.now 0 < 2 ^ 32) × (number_at body.now 1 < 2 ^ 32) }
     {
-        let digest = self.slip_digest(&body[..72]);
-        let is_right = digest.as_slice() == &body[72..];
+        let length = numbers_length(self.version());
+        let digest = self.slip_digest(&body[..length]);
+        let is_right = digest.as_slice() == &body[length..];
         if !is_right {
             return false;
         }
@@ -204,9 +256,9 @@ pub(crate) fn digest_of(bytes: &[u8]) -> [u8; 32]
     hasher.finalize()
 }
 
-/// The nine numbers of a slip, each as it is written.
-fn number_bytes(slip: Slip) -> [[u8; 8]; 9]
-    ensures bytes { flat_map (λ bytes. bytes) result ≡ number_bytes slip }
+/// The ten numbers of a slip, each as it is written. Version 1 writes the first nine.
+fn number_bytes(slip: Slip) -> [[u8; 8]; 10]
+    ensures bytes { flat_map (λ bytes. bytes) result ≡ number_bytes Two slip }
     ensures numbers { HasNumbers slip }
 {
     let Slip { piece, totals } = slip;
@@ -220,13 +272,15 @@ fn number_bytes(slip: Slip) -> [[u8; 8]; 9]
         totals.votes.to_be_bytes(),
         totals.decided.to_be_bytes(),
         totals.right.to_be_bytes(),
+        totals.settled.to_be_bytes(),
     ]
 }
 
-/// The seven sums of a slip.
-fn totals_in(body: &[u8]) -> Totals
-    requires { length body.now ≡ 104 }
-    ensures { result ≡ (slip_in body.now).totals }
+/// The sums of a slip.
+fn totals_in(version: Version, body: &[u8]) -> Totals
+    requires numbers { numbers_length version ≤ length body.now }
+    requires nine { 72 ≤ length body.now }
+    ensures { result ≡ (slip_in version body.now).totals }
 {
     Totals {
         receivers: number_at(body, 2),
@@ -236,10 +290,22 @@ fn totals_in(body: &[u8]) -> Totals
         votes: number_at(body, 6),
         decided: number_at(body, 7),
         right: number_at(body, 8),
+        settled: settled_in(version, body),
     }
 }
 
-/// One of the nine numbers.
+/// The sum that slips of version 1 don't tell.
+fn settled_in(version: Version, body: &[u8]) -> u64
+    requires { numbers_length version ≤ length body.now }
+    ensures { result ≡ settled_at version body.now }
+{
+    match version {
+        Version::One => 0,
+        Version::Two => number_at(body, 9),
+    }
+}
+
+/// One of the numbers of a slip.
 fn number_at(body: &[u8], index: usize) -> u64
     requires { 8 * index + 8 ≤ length body.now }
     ensures { result ≡ number_at body.now index }

@@ -9,7 +9,7 @@ ghost use Rattle.cut_journal.specs.Opening.{IsReopenFault, MayRefuse, IsRead, Is
 use crate::JournalFault;
 use crate::append::keep;
 use crate::create::make;
-use crate::file::{Gate, SLIP_BYTES, Study};
+use crate::file::{Gate, Study};
 use crate::reopen::find;
 use crate::slips::Slips;
 use cut_disks::Disk;
@@ -167,7 +167,7 @@ impl<D: Disk> Journal<D> {
             Ok(()) => {
                 self.gate = Gate {
                     number: self.gate.number + 1,
-                    place: self.gate.place + SLIP_BYTES,
+                    place: self.gate.place + self.study.slip_length(),
                 };
                 Ok(self.gate.number)
             }
@@ -176,6 +176,13 @@ impl<D: Disk> Journal<D> {
                 Err(JournalFault::Disk)
             }
         }
+    }
+
+    /// The plan of the study.
+    pub fn plan(&self) -> &Plan
+        ensures { result.now ≡ self.now.plan }
+    {
+        self.study.plan()
     }
 
     /// The disk. Between calls, whatever a crash may leave of an honest one is read as the slips that are

@@ -11,7 +11,10 @@ mod fault;
 mod file;
 mod journal;
 pub mod laws;
+mod layout;
 mod look;
+mod migrate_fault;
+mod migration;
 mod open;
 mod reopen;
 mod slips;
@@ -19,6 +22,8 @@ mod through;
 
 pub use fault::JournalFault;
 pub use journal::Journal;
+pub use migrate_fault::MigrateFault;
+pub use migration::migrate;
 
 #[cfg(test)]
 mod tests;

@@ -1,14 +1,16 @@
-ghost use Rattle.std.specs.Prelude.{ℕ, Err, ◌≡◌, ◌⊎◌, ◌+◌, ◌<◌, ◌≤◌, ◌^◌, ◌↔◌, Ok, Some, None, if◌then◌else◌, bytes_eq, slice_range, length, IfOk, IfErr, IfSome, IsTrue};
+ghost use Rattle.std.specs.Prelude.{ℕ, Err, ◌≡◌, ◌⊎◌, ◌+◌, ◌<◌, ◌≤◌, ◌^◌, ◌↔◌, Ok, Some, None, if◌then◌else◌, bytes_eq, slice_range, true, length, IfOk, IfErr, IfSome, OnOk};
 ghost use Rattle.cut_faults.specs.Failures.{counted};
 ghost use Rattle.sha2.specs.Sha256.{sha256};
 ghost use Rattle.cut_disks.specs.State.{synced};
 ghost use Rattle.cut_journal.specs.File.{gate_place};
-ghost use Rattle.cut_journal.specs.Reading.{is_of_plan, can_have_header, has_header, text_length, reading};
+ghost use Rattle.cut_journal.specs.Reading.{is_study, can_have_header, has_header, text_length, reading};
 ghost use Rattle.cut_journal.specs.Journal.{disk_faults};
 ghost use Rattle.cut_journal.specs.Opening.{IsReopenFault, IsReadFault, MayRefuse, IsRead};
+ghost use Rattle.cut_journal.specs.Steps.{IsOfPlan};
 
 use crate::JournalFault;
-use crate::file::{MAGIC, Study, digest_of};
+use crate::file::{Study, digest_of};
+use crate::layout::is_magic;
 use crate::look::look_first;
 use crate::slips::{Slips, read_slips};
 use cut_disks::{Disk, DiskFault};
@@ -47,54 +49,65 @@ pub(crate) fn find<D: Disk>(
         Ok(false) => return Err(JournalFault::Damaged(0)),
         Err(fault) => return Err(fault),
     }
-    match is_of_plan(alloc, disk, study, shown.length) {
-        Ok(true) => read_slips(alloc, disk, study, shown.length),
-        Ok(false) => Err(JournalFault::OtherPlan),
+    match check_front(alloc, disk, study, shown.length) {
+        Ok(()) => read_slips(alloc, disk, study, shown.length),
         Err(fault) => Err(fault),
     }
 }
 
-/// Whether a disk of this length begins as the file of a study does.
-fn is_of_plan<D: Disk>(
+/// Looks whether a disk of this length, which begins with a whole header, begins as the file of a study
+/// does, and says why not.
+fn check_front<D: Disk>(
     alloc: Global,
     disk: &mut D,
     study: &Study,
     size: u64,
-) -> Result<bool, JournalFault>
+) -> Result<(), JournalFault>
     requires size { D.is_honest disk.old → size ≡ length (D.state disk.old).bytes }
+    requires study { D.is_honest disk.old → is_study (D.state disk.old).bytes ≡ true }
+    requires header { D.is_honest disk.old → has_header (D.state disk.old).bytes ≡ true }
+    ensures told { D.is_honest disk.old → OnOk result (IsOfPlan study.now (D.state disk.old).bytes) }
+    ensures within { OnOk result (gate_place study.now 0 < size) }
+    ensures refused { D.is_honest disk.old →
+        IfErr result (λ e. IsReopenFault study.now (D.state disk.old).bytes e) }
+    ensures may { IfErr result MayRefuse }
+    ensures same { D.is_honest disk.old → D.state disk.new ≡ D.state disk.old }
+    ensures honest { D.is_honest disk.old ↔ D.is_honest disk.new }
+    ensures faults { D.faults disk.new ≡ disk_faults result (D.faults disk.old) }
+{
+    let length = study.front().len();
+    if size <= length as u64 {
+        return Err(JournalFault::OtherPlan);
+    }
+    let front = read_front(alloc, disk, length)?;
+    if !study.says_plan(&front) {
+        return Err(JournalFault::OtherPlan);
+    }
+    if !study.has_magic(&front) {
+        return Err(JournalFault::Damaged(0));
+    }
+    Ok(())
+}
+
+/// Reads so many bytes that a disk begins with.
+fn read_front<D: Disk>(alloc: Global, disk: &mut D, count: usize) -> Result<Vec<u8>, JournalFault>
+    requires within { D.is_honest disk.old → count ≤ length (D.state disk.old).bytes }
     ensures told { D.is_honest disk.old →
-        IfOk result (λ is. is ≡ is_of_plan study.now (D.state disk.old).bytes) }
-    ensures within { IfOk result (λ is. IsTrue is → gate_place study.now 0 < size) }
+        IfOk result (λ front. front.items ≡ slice_range (D.state disk.old).bytes 0 count) }
+    ensures long { IfOk result (λ front. length front.items ≡ count) }
     ensures fault { IfErr result IsReadFault }
     ensures same { D.is_honest disk.old → D.state disk.new ≡ D.state disk.old }
     ensures honest { D.is_honest disk.old ↔ D.is_honest disk.new }
     ensures faults { D.faults disk.new ≡ disk_faults result (D.faults disk.old) }
 {
-    let front = study.front();
-    if size <= front.len() as u64 {
-        return Ok(false);
-    }
-    let mut found = match vec![in alloc; 0; front.len()] {
-        Ok(found) => found,
+    let mut front = match vec![in alloc; 0; count] {
+        Ok(front) => front,
         Err(_) => return Err(JournalFault::Memory),
     };
-    match begins_as(disk, &mut found, front) {
-        Ok(begins) => Ok(begins),
+    match disk.read(0, &mut front) {
+        Ok(()) => Ok(front),
         Err(_) => Err(JournalFault::Disk),
     }
-}
-
-/// Whether a disk begins as these bytes do, which are read into as many others.
-fn begins_as<D: Disk>(disk: &mut D, found: &mut [u8], front: &[u8]) -> Result<bool, DiskFault>
-    requires { D.is_honest disk.old → length found.old ≤ length (D.state disk.old).bytes }
-    ensures told { D.is_honest disk.old → IfOk result (λ begins.
-        begins ≡ bytes_eq (slice_range (D.state disk.old).bytes 0 (length found.old)) front.now) }
-    ensures same { D.is_honest disk.old → D.state disk.new ≡ D.state disk.old }
-    ensures honest { D.is_honest disk.old ↔ D.is_honest disk.new }
-    ensures faults { D.faults disk.new ≡ counted result (D.faults disk.old) }
-{
-    disk.read(0, found)?;
-    Ok(*found == *front)
 }
 
 /// Whether a disk of this length begins with a whole header, of whichever plan.
@@ -141,7 +154,7 @@ fn text_length<D: Disk>(disk: &mut D, size: u64) -> Result<Option<u32>, DiskFaul
     let mut digits = [0; 4];
     disk.read(9, &mut digits)?;
     let text = u32::from_be_bytes(digits);
-    let is_ours = magic == MAGIC;
+    let is_ours = is_magic(magic);
     if !is_ours {
         return Ok(None);
     }

@@ -1,11 +1,12 @@
 ghost use Rattle.std.specs.Prelude.{ℕ, ◌≡◌, ◌+◌, ◌*◌, ◌<◌, ◌≤◌, ◌^◌, ◌↔◌, false, length, IfOk, IfErr, IfSome, IsTrue};
-ghost use Rattle.cut_journal.specs.File.{gate_place};
-ghost use Rattle.cut_journal.specs.Reading.{is_of_plan, slips_reading};
+ghost use Rattle.cut_plan.specs.Versions.{version_of};
+ghost use Rattle.cut_journal.specs.File.{slip_length, gate_place};
+ghost use Rattle.cut_journal.specs.Reading.{slips_reading};
 ghost use Rattle.cut_journal.specs.Journal.{disk_faults};
-ghost use Rattle.cut_journal.specs.Steps.{IsNext, IsSlipFault, AreWhole};
+ghost use Rattle.cut_journal.specs.Steps.{IsOfPlan, IsNext, IsSlipFault, AreWhole};
 
 use crate::JournalFault;
-use crate::file::{Gate, SLIP_BYTES, Study};
+use crate::file::{Gate, Study};
 use crate::look::read_gate;
 use cut_disks::Disk;
 use cut_ledger::Slip;
@@ -30,7 +31,7 @@ pub(crate) fn read_slips<D: Disk>(
     requires within { gate_place study.now 0 < size }
     requires bound { size < 2 ^ 63 }
     requires size { D.is_honest disk.old → size ≡ length (D.state disk.old).bytes }
-    requires front { D.is_honest disk.old → IsTrue (is_of_plan study.now (D.state disk.old).bytes) }
+    requires front { D.is_honest disk.old → IsOfPlan study.now (D.state disk.old).bytes }
     ensures told { D.is_honest disk.old →
         IfOk result (λ found. slips_reading study.now (D.state disk.old).bytes ≡ Ok found.slips.items) }
     ensures refused { D.is_honest disk.old →
@@ -53,7 +54,7 @@ pub(crate) fn read_slips<D: Disk>(
         }
         gate = Gate {
             number: gate.number + 1,
-            place: gate.place + SLIP_BYTES,
+            place: gate.place + study.slip_length(),
         };
     }
     Ok(Slips { slips, gate })
@@ -72,7 +73,7 @@ fn next_slip<D: Disk>(
     requires size { D.is_honest disk.old → size ≡ length (D.state disk.old).bytes }
     ensures told { D.is_honest disk.old → IsNext result study.now (D.state disk.old).bytes gate.number }
     ensures faults_told { IfErr result IsSlipFault }
-    ensures reach { IfOk result (λ slip. IfSome slip (λ s. gate.place + 105 < size)) }
+    ensures reach { IfOk result (λ slip. IfSome slip (λ s. gate.place + slip_length (version_of study.now.failing) < size)) }
     ensures same { D.is_honest disk.old → D.state disk.new ≡ D.state disk.old }
     ensures honest { D.is_honest disk.old ↔ D.is_honest disk.new }
     ensures faults { D.faults disk.new ≡ disk_faults result (D.faults disk.old) }
@@ -82,14 +83,17 @@ fn next_slip<D: Disk>(
         Ok(false) => return Ok(None),
         Err(_) => return Err(JournalFault::Disk),
     }
-    if size - gate.place <= SLIP_BYTES {
+    let length = study.slip_length();
+    if size - gate.place <= length {
         return Err(JournalFault::Damaged(gate.number + 1));
     }
-    let mut body = [0; 104];
-    if disk.read(gate.place + 1, &mut body).is_err() {
-        return Err(JournalFault::Disk);
+    let mut buffer = [0; 112];
+    let body = &mut buffer[..length as usize - 1];
+    match disk.read(gate.place + 1, body) {
+        Ok(()) => {}
+        Err(_) => return Err(JournalFault::Disk),
     }
-    match study.slip_in(&body) {
+    match study.slip_in(body) {
         Some(slip) => Ok(Some(slip)),
         None => Err(JournalFault::Damaged(gate.number + 1)),
     }

@@ -1,12 +1,13 @@
 use crate::{Journal, JournalFault};
 use cut_disks::{Disk, DiskCall, FaultyDisk, MemoryDisk, Tear};
 use cut_ledger::Slip;
-use cut_plan::Plan;
+use cut_plan::{Plan, Version};
 use cut_rings::Rings;
 use cut_trial::{Piece, PieceResult, run_piece};
 use std::alloc::Global;
 use std::test::Fail;
 
+mod migration;
 mod vectors;
 
 use vectors::files;
@@ -34,7 +35,8 @@ fn from_hex(alloc: Global, digits: &str) -> Result<Vec<u8>, Fail> {
     Ok(bytes)
 }
 
-fn slips_text(alloc: Global, slips: &[Slip]) -> Result<String, Fail> {
+// The numbers of slips: nine of each, and the tenth in version 2.
+fn slips_text(alloc: Global, version: Version, slips: &[Slip]) -> Result<String, Fail> {
     let mut text = String::new(alloc);
     for (i, slip) in slips.iter().enumerate() {
         let Slip { piece, totals: t } = *slip;
@@ -52,6 +54,9 @@ fn slips_text(alloc: Global, slips: &[Slip]) -> Result<String, Fail> {
             t.right
         )?
         .as_str())?;
+        if version == Version::Two {
+            text.push_str(format!(in alloc; ",{}", t.settled)?.as_str())?;
+        }
     }
     Ok(text)
 }
@@ -59,7 +64,7 @@ fn slips_text(alloc: Global, slips: &[Slip]) -> Result<String, Fail> {
 // What bytes are read as: a fault without its number, or the slips.
 fn told(alloc: Global, bytes: Vec<u8>, plan: &Plan) -> Result<String, Fail> {
     match Journal::reopen(alloc, MemoryDisk::of(alloc, bytes)?, plan) {
-        Ok((_, slips)) => slips_text(alloc, slips.as_slice()),
+        Ok((_, slips)) => slips_text(alloc, plan.version(), slips.as_slice()),
         Err((fault, _)) => {
             let text = format!(in alloc; "{fault}")?;
             Ok(String::from_str(alloc, text.as_str().get(3..).unwrap_or(""))?)
@@ -163,6 +168,50 @@ const SMALL: &str =
     r#"{"copies":1,"dead":"silent","f":[1],"faults":"crash","h":[1],"implicit":true,"k":[1],"l":[1],
 "liars":0,"links":0,"nodes":5,"repeats":2,
 "seed":"0000000000000000000000000000000000000000000000000000000000000000","version":1}"#;
+
+// The same in version 2: no target is deaf.
+const SMALL_2: &str =
+    r#"{"copies":1,"dead":"silent","deaf":0,"f":[1],"h":[1],"implicit":true,"k":[1],"l":[1],"liars":0,
+"links":0,"nodes":5,"repeats":2,
+"seed":"0000000000000000000000000000000000000000000000000000000000000000","version":2}"#;
+
+#[test]
+fn a_small_plan_of_version_2(rt: HostRuntime) -> Result<(), Fail> {
+    let alloc = rt.alloc();
+    let plan = Plan::from_json(alloc, SMALL_2.as_bytes())?;
+    assert_eq!(rt; written(alloc, &plan, "")?.len(), 259);
+    let file = written(alloc, &plan, "0,2")?;
+    assert_eq!(rt; file.len(), 372);
+    assert_eq!(rt; told(alloc, file, &plan)?.as_str(), "0,2,8,0,0,0,8,2,2,8");
+    Ok(())
+}
+
+// A file whose letters are those of the other version, and whose header's digest is right with them, is a
+// damaged one.
+#[test]
+fn letters_of_the_other_version(rt: HostRuntime) -> Result<(), Fail> {
+    let alloc = rt.alloc();
+    let rows = [
+        (
+            SMALL,
+            "put 8 32\nput 234 4f745823f6497a41833146a6b14548a42be54550eb42a54be0e316b518ef93d2",
+        ),
+        (
+            SMALL_2,
+            "put 8 31\nput 226 e9ec089ff8cfaecd0b0e87d66b9dd8c53b2176aa1c412662347a9b6cfb7f1dcf",
+        ),
+    ];
+    for (text, change) in rows {
+        let plan = Plan::from_json(alloc, text.as_bytes())?;
+        let file = written(alloc, &plan, "")?;
+        let block = format!(in alloc; "kept {}\n{change}", file.len())?;
+        let bytes = changed_bytes(alloc, file.as_slice(), block.as_str())?;
+        assert!(rt; bytes.as_slice() != file.as_slice());
+        assert_eq!(rt; told(alloc, bytes, &plan)?.as_str(), "Damaged 0");
+        assert_eq!(rt; told(alloc, file, &plan)?.as_str(), "");
+    }
+    Ok(())
+}
 
 // A file of the small plan with the slip of its two trials.
 fn small_file(alloc: Global, plan: &Plan) -> Result<Vec<u8>, Fail> {
@@ -378,36 +427,45 @@ fn call_text(alloc: Global, call: &DiskCall) -> Result<String, Fail> {
     })
 }
 
+// The disk of a small plan's journal with the slip of its two trials.
+fn written_disk(alloc: Global, text: &str) -> Result<MemoryDisk, Fail> {
+    let plan = Plan::from_json(alloc, text.as_bytes())?;
+    let result = result_of(alloc, &plan, 0, 2)?;
+    match Journal::create(alloc, MemoryDisk::of(alloc, Vec::new(alloc))?, &plan) {
+        Ok(mut journal) => {
+            let _ = journal.append(&result);
+            Ok(journal.into_disk())
+        }
+        Err((_fault, disk)) => Ok(disk),
+    }
+}
+
 // What a creation and an append do to a disk, in order.
 #[test]
 fn calls_come_in_order(rt: HostRuntime) -> Result<(), Fail> {
     let alloc = rt.alloc();
-    let plan = Plan::from_json(alloc, SMALL.as_bytes())?;
-    let result = result_of(alloc, &plan, 0, 2)?;
-    let disk = MemoryDisk::of(alloc, Vec::new(alloc))?;
-    match Journal::create(alloc, disk, &plan) {
-        Ok(mut journal) => {
-            assert!(rt; matches!(journal.append(&result), Ok(1)));
-            let wanted = [
-                "sync",
-                "write 0 1",
-                "sync",
-                "write 1 266",
-                "sync",
-                "write 0 1",
-                "sync",
-                "write 267 105",
-                "sync",
-                "write 266 1",
-                "sync",
-            ];
-            let disk = journal.into_disk();
-            assert_eq!(rt; disk.calls().len(), wanted.len());
-            for (call, text) in disk.calls().iter().zip(wanted) {
-                assert_eq!(rt; call_text(alloc, call)?.as_str(), text);
-            }
+    for (plan, header, slip, gate) in [
+        (SMALL, "write 1 266", "write 267 105", "write 266 1"),
+        (SMALL_2, "write 1 258", "write 259 113", "write 258 1"),
+    ] {
+        let wanted = [
+            "sync",
+            "write 0 1",
+            "sync",
+            header,
+            "sync",
+            "write 0 1",
+            "sync",
+            slip,
+            "sync",
+            gate,
+            "sync",
+        ];
+        let disk = written_disk(alloc, plan)?;
+        assert_eq!(rt; disk.calls().len(), wanted.len());
+        for (call, text) in disk.calls().iter().zip(wanted) {
+            assert_eq!(rt; call_text(alloc, call)?.as_str(), text);
         }
-        Err(_) => assert!(rt; false),
     }
     Ok(())
 }

@@ -131,6 +131,7 @@ at_most_more m n a b few more = record {
   votes = omega (arith, few.votes, more.votes);
   decided = omega (arith, few.decided, more.decided);
   right = omega (arith, few.right, more.right);
+  settled = omega (arith, few.settled, more.settled);
 }
 
 -- ---- the cells that follow

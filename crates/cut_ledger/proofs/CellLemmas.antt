@@ -181,14 +181,15 @@ at_most_above m n x le few = record {
   votes = omega (arith, few.votes);
   decided = omega (arith, few.decided);
   right = omega (arith, few.right);
+  settled = omega (arith, few.settled);
 }
 
-pub cell_fits : (v : Values) (base : List Slip) (cells : List Kept) (c : ℕ) (k : Kept) → AreKept v base cells → c < length cells → k ≡ cell_at cells c → IsAtMost (2 ^ 62) k.totals
+pub cell_fits : (v : Values) (base : List Slip) (cells : List Kept) (c : ℕ) (k : Kept) → AreKept v base cells → c < length cells → k ≡ cell_at cells c → IsAtMost (2 ^ 43) k.totals
 cell_fits v base cells c k kept in' at =
     let few = kept.plan.few_repeats in
     let count = count_by-le-length (is_kept v cells) (trials_of_cell v c) in
     let long = length-range_with_len (c * v.repeats) v.repeats in
-    subst (λ (y : Kept). IsAtMost (2 ^ 62) y.totals) (sym at) (at_most_above _ (2 ^ 62) (cell_at cells c).totals (omega arith) (kept.each c in').few)
+    subst (λ (y : Kept). IsAtMost (2 ^ 43) y.totals) (sym at) (at_most_above _ (2 ^ 43) (cell_at cells c).totals (omega arith) (kept.each c in').few)
 
 pub all_cells : (p : ℕ → Bool) (r m : ℕ) → list_all p (range_with_len 0 (m * r)) ≡ list_all (λ c. list_all p (range_with_len (c * r) r)) (range_with_len 0 m)
 all_cells p r zero = ap (λ n. list_all p (range_with_len 0 n)) (zero-mul r)
@@ -228,6 +229,7 @@ empty_over v cells plan long empties = record {
         votes = omega arith;
         decided = omega arith;
         right = omega arith;
+        settled = omega arith;
       });
     };
     based = λ t e. cc;

@@ -7,6 +7,7 @@ use Rattle.std.proofs.lemmas.List.Concat.{flat_map-append}
 use Rattle.cut_lists.proofs.Fronts.{flat_map_front, longer_front, whole_front}
 use Rattle.cut_lists.proofs.Intervals.{list_all_passing, passes_at}
 use Rattle.cut_lines.specs.Lines.{table}
+use Rattle.cut_plan.specs.Versions.{version_of}
 use Rattle.cut_ledger.proofs.Words.{Contents, IsFounded, Totals, Values, all_trials, available, cell_done}
 use Rattle.cut_ledger.proofs.Words.{cell_sum, cells_of, flat_map, has, header, is_complete, line_of}
 use Rattle.cut_ledger.proofs.Words.{line_with, list_all, prefix_len, range_with_len, take_while, trial_count}
@@ -23,10 +24,10 @@ in_plan c n r t low at = let le : (c + 1) * r ≤ n * r = mul-le-mul_right r (om
 abbrev pub lines_done : Values → Contents → List ℕ
 lines_done v l = flat_map (λ c. line_of v c) (take_while (cell_done l) (range_with_len 0 (length (cells_of v))))
 
-pub available_is : (v : Values) (l : Contents) → IsFounded v l → available l ≡ header ++ lines_done v l
+pub available_is : (v : Values) (l : Contents) → IsFounded v l → available l ≡ header (version_of v.failing) ++ lines_done v l
 available_is v l sound =
-    ap (λ w. header ++ flat_map (λ c. line_with w c (cell_sum l c)) (take_while (cell_done l) (range_with_len 0 (length (cells_of w))))) sound.plan
-    ∙ ap (λ ys. header ++ ys) (flat_map_front (λ c. line_with v c (cell_sum l c)) (λ c. line_of v c) (cell_done l) (range_with_len 0 (length (cells_of v)))
+    ap (λ w. header (version_of w.failing) ++ flat_map (λ c. line_with w c (cell_sum l c)) (take_while (cell_done l) (range_with_len 0 (length (cells_of w))))) sound.plan
+    ∙ ap (λ ys. header (version_of v.failing) ++ ys) (flat_map_front (λ c. line_with v c (cell_sum l c)) (λ c. line_of v c) (cell_done l) (range_with_len 0 (length (cells_of v)))
     (λ c done. ap (λ (x : Totals). line_with v c x) (done_sums v l c sound.plan sound.some sound.base sound.apart done)))
 
 -- it is a front of the table
@@ -37,8 +38,8 @@ available_front v l sound =
     let n : ℕ = prefix_len (cell_done l) all in
     let lines : List ℕ → List ℕ = λ cs. flat_map (λ c. line_of v c) cs in (
       lines (drop n all),
-      ap (λ cs. header ++ lines cs) (sym (take-append-drop n all)) ∙ ap (λ ys. header ++ ys) (flat_map-append (λ c. line_of v c) (take n all) (drop n all))
-          ∙ sym (append_assoc header (lines (take n all)) (lines (drop n all)))
+      ap (λ cs. header (version_of v.failing) ++ lines cs) (sym (take-append-drop n all)) ∙ ap (λ ys. header (version_of v.failing) ++ ys) (flat_map-append (λ c. line_of v c) (take n all) (drop n all))
+          ∙ sym (append_assoc (header (version_of v.failing)) (lines (take n all)) (lines (drop n all)))
           ∙ ap (λ ys. ys ++ lines (drop n all)) (sym (available_is v l sound)),
     )
 
@@ -50,9 +51,9 @@ available_grows v k l fewer more grows =
       arith,
       longer,
       ap (λ ys. length ys) (available_is v k fewer),
-      length-append header (lines_done v k),
+      length-append (header (version_of v.failing)) (lines_done v k),
       ap (λ ys. length ys) (available_is v l more),
-      length-append header (lines_done v l),
+      length-append (header (version_of v.failing)) (lines_done v l),
     )
 
 -- where every trial is held it is the table
@@ -65,7 +66,7 @@ available_whole v l sound complete =
     ap (λ w. list_all (has l) (trials_of_cell w c)) sound.plan
     ∙ list_all_passing (has l) (c * v.repeats) v.repeats (λ t from to. held t (in_plan c (length (cells_of v)) v.repeats t (omega (arith, high)) to)) in
     available_is v l sound
-    ∙ ap (λ cs. header ++ flat_map (λ c. line_of v c) cs) (whole_front (cell_done l) (range_with_len 0 (length (cells_of v))) (list_all_passing (cell_done l) 0 (length (cells_of v)) done))
+    ∙ ap (λ cs. header (version_of v.failing) ++ flat_map (λ c. line_of v c) cs) (whole_front (cell_done l) (range_with_len 0 (length (cells_of v))) (list_all_passing (cell_done l) 0 (length (cells_of v)) done))
 
 -- ---- what has been written
 

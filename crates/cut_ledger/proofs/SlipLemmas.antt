@@ -1,12 +1,11 @@
 -- Good slips, and cells that hold what slips tell.
-use Rattle.std.proofs.Common.{◌≡◌, ℕ, ◌+◌, ◌-◌, ◌*◌, ◌/◌, ◌<◌, ◌≤◌, inl, inr, Bool, true, false, ◌||◌, List, [], ◌∷◌, ◌++◌, length, take, get_or, refl, sym, ap, ◌∙◌, subst, arith}
-use Rattle.std.proofs.Math.Nat.{mul-le-mul_left}
+use Rattle.std.proofs.Common.{◌≡◌, ℕ, ◌+◌, ◌*◌, ◌/◌, ◌<◌, inl, inr, Bool, true, false, ◌||◌, List, [], ◌∷◌, ◌++◌, length, take, get_or, refl, sym, ap, ◌∙◌, subst, arith}
 use Rattle.std.proofs.lemmas.Bool.{cases_lt}
 use Rattle.std.proofs.lemmas.List.{get_or_default}
 use Rattle.cut_lists.proofs.Ranges.{list_any_agree}
 use Rattle.cut_trial.specs.Outcome as trial
 use Rattle.cut_ledger.specs.Kept.{cell_at}
-use Rattle.cut_ledger.proofs.Words.{AreGoodUpTo, AreOver, ArePossible, IsAddedTo, IsAtMost, IsGood, IsPlan}
+use Rattle.cut_ledger.proofs.Words.{AreGoodUpTo, AreOver, ArePossible, IsAddedTo, IsAtMost, IsGood}
 use Rattle.cut_ledger.proofs.Words.{IsTrue, Kept, Piece, Slip, Values, contents_in, has, is_held, is_in}
 use Rattle.cut_ledger.proofs.Words.{is_in_base, is_kept, is_piece, list_any, over_base, overlaps, trials_in}
 use Rattle.cut_ledger.proofs.Words.{◌↔◌}
@@ -23,7 +22,7 @@ overlaps_is v earlier cells p c over facts =
           has_where v earlier (is_in_base earlier) t (omega arith) ∙ sym (over.exactly t));
     })
 
-pub good_is : (v : Values) (earlier : List Slip) (cells : List Kept) (s : Slip) (possible : Bool) → AreOver v earlier cells → IsTrue (is_piece v s.piece) → list_any (is_kept v cells) (trials_in s.piece) ≡ false → (IsTrue possible ↔ ArePossible s.piece.count (v.nodes - (trial.cell_at v s.piece.first).f) s.totals) → IsTrue possible ↔ IsGood v earlier s
+pub good_is : (v : Values) (earlier : List Slip) (cells : List Kept) (s : Slip) (possible : Bool) → AreOver v earlier cells → IsTrue (is_piece v s.piece) → list_any (is_kept v cells) (trials_in s.piece) ≡ false → (IsTrue possible ↔ ArePossible v (trial.cell_at v s.piece.first) s.piece.count s.totals) → IsTrue possible ↔ IsGood v earlier s
 good_is v earlier cells s possible over piece apart told =
     let facts = piece_facts v s.piece over.kept.plan piece in
     (λ e. record { piece = piece; apart = overlaps_is v earlier cells s.piece _ over facts ∙ apart; possible = told.0 e }, λ good. told.1 good.possible)
@@ -35,26 +34,10 @@ not_good v earlier cells s over meets good =
     let apart = good.apart in
     cc
 
--- its totals are few
-pub possible_few : (v : Values) (s : Slip) → IsPlan v → ArePossible s.piece.count (v.nodes - (trial.cell_at v s.piece.first).f) s.totals → IsAtMost (2048 * s.piece.count) s.totals
-possible_few v s plan possible =
-    let few = plan.few_nodes in
-    let product = mul-le-mul_left {m = v.nodes - (trial.cell_at v s.piece.first).f} {n = 2048} s.piece.count (omega arith) in
-    let receivers : s.totals.receivers ≤ 2048 * s.piece.count = omega (arith, possible.receivers) in
-    record {
-      receivers = receivers;
-      conflicts = omega (arith, possible.conflicts);
-      silent = omega (arith, possible.conflicts);
-      extra = omega (arith, possible.extra);
-      votes = omega (arith, possible.votes);
-      decided = omega (arith, possible.decided);
-      right = omega (arith, possible.right, possible.decided);
-    }
-
 -- ---- one slip more
 
-pub over_more : (v : Values) (slips : List Slip) (olds news : List Kept) (s : Slip) → AreOver v slips olds → IsGood v slips s → IsAddedTo v olds news s.piece s.totals → AreOver v (slips ++ s ∷ []) news
-over_more v slips olds news s over good to =
+pub over_more : (v : Values) (slips : List Slip) (olds news : List Kept) (s : Slip) → AreOver v slips olds → IsGood v slips s → IsAtMost (2048 * s.piece.count) s.totals → IsAddedTo v olds news s.piece s.totals → AreOver v (slips ++ s ∷ []) news
+over_more v slips olds news s over good few to =
     let c : ℕ = s.piece.first / v.repeats in
     let facts = piece_facts v s.piece over.kept.plan good.piece in
     let apart : list_any (is_held (cell_at olds c).trials) (trials_in s.piece) ≡ false =
@@ -63,7 +46,7 @@ over_more v slips olds news s over good to =
       kept = over.kept;
       piece = good.piece;
       apart = apart;
-      few = possible_few v s over.kept.plan good.possible;
+      few = few;
       added = to.added;
     } in
     let known = added_is v slips olds to.cell s.piece s.totals adding in

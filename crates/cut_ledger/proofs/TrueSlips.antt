@@ -1,5 +1,5 @@
 -- True slips that are apart are good ones to begin with.
-use Rattle.std.proofs.Common.{◌≡◌, ℕ, zero, suc, ◌+◌, ◌-◌, ◌≤◌, true, cond, List, [], ◌∷◌, ◌++◌, take, drop, get_or, sym, ap, ◌∙◌, subst, arith, take-append-drop}
+use Rattle.std.proofs.Common.{◌≡◌, ℕ, zero, suc, ◌+◌, ◌≤◌, true, cond, List, [], ◌∷◌, ◌++◌, take, drop, get_or, sym, ap, ◌∙◌, subst, arith, take-append-drop}
 use Rattle.std.proofs.Math.Seq.{drop-cons}
 use Rattle.std.proofs.lemmas.List.{map-append}
 use Rattle.std.proofs.lemmas.List.Elements.{All-from_recursion}
@@ -32,7 +32,7 @@ good_after possible v pre post s is each apart =
           let before : is_in_base pre t ≡ true = sym (held_within v (is_in_base pre) t (base_within v pre t each)) ∙ held in
           let once : times_in (pieces_of_slips pre) t ≡ 1 = times_once pre t (omega (arith, split t, apart t)) ∙ ap (λ b. one_if b) before in
           omega (arith, split t, apart t, here, once)));
-      possible = subst (λ (x : Totals). ArePossible s.piece.count (v.nodes - (cell_at v s.piece.first).f) x) (sym is.totals) (possible v s.piece is.piece);
+      possible = subst (λ (x : Totals). ArePossible v (cell_at v s.piece.first) s.piece.count x) (sym is.totals) (possible v s.piece is.piece);
     }
 
 pub true_are_good : PiecesHavePossibleTotals → (v : Values) (ss : List Slip) → AllByRecursion (IsTrueSlip v) ss → ((t : ℕ) → times_in (pieces_of_slips ss) t ≤ 1) → AreGood v ss

@@ -8,6 +8,7 @@ use Rattle.cut_faults.specs.declared.code.FaultCode.{FaultCode}
 use Rattle.cut_faults.specs.declared.code.FaultCode.TheVariants as code
 use Rattle.cut_plan.specs.Values.{Values}
 use Rattle.cut_plan.specs.Cells.{cells_of}
+use Rattle.cut_plan.specs.Versions.{version_of}
 use Rattle.cut_trial.specs.Computed.{Computed}
 use Rattle.cut_trial.specs.declared.piece.Piece as pieces
 use Rattle.cut_trial.specs.Sum.{sum_of, trials_in}
@@ -49,7 +50,7 @@ cells_done l = take_while (cell_done l) (range_with_len 0 (length (cells_of l.pl
 
 -- the part of the table that can be written: the header, and the lines of these cells
 abbrev pub available : Contents → List ℕ
-available l = header ++ flat_map (λ c. line_with l.plan c (cell_sum l c)) (cells_done l)
+available l = header (version_of l.plan.failing) ++ flat_map (λ c. line_with l.plan c (cell_sum l c)) (cells_done l)
 
 -- the whole table of a study over slips: of each cell the totals of its slips and the outcomes of its other
 -- trials

@@ -13,7 +13,7 @@ use std::alloc::{AllocError, Global};
 pub(crate) fn available(alloc: Global, ledger: &Ledger) -> Result<Vec<u8>, AllocError>
     ensures { IfOk result (λ text. text.items ≡ available ledger.now.contents) }
 {
-    let mut text = Vec::from_slice(alloc, header())?;
+    let mut text = Vec::from_slice(alloc, header(ledger.plan()))?;
     for cell in 0..cells_done(ledger) {
         let line = cell_line(alloc, ledger.plan(), cell, ledger.cell_sum(cell))?;
         text.extend_from_slice(line.as_slice())?;

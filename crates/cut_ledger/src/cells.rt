@@ -1,18 +1,19 @@
 ghost use Rattle.std.specs.Prelude.{◌≡◌, ℕ, ◌+◌, ◌-◌, ◌*◌, ◌/◌, ◌≤◌, ◌<◌, ◌^◌, ◌↔◌, false, List, [], length};
 ghost use Rattle.std.specs.Prelude.{IsTrue, IsOk, IfOk, OnOk, OnErr};
 ghost use Rattle.std.specs.List.{list_any};
-ghost use Rattle.cut_plan.specs.Cells.{cells_of};
+ghost use Rattle.cut_plan.specs.Cells.{cells_of, IsCellOf};
+ghost use Rattle.cut_plan.specs.Versions.{version_of};
 ghost use Rattle.cut_trial.specs.Outcome.{cell_at as plan_cell};
-ghost use Rattle.cut_trial.specs.Possible.{ArePossible};
+ghost use Rattle.cut_trial.specs.Possible.{ArePossible, IsSettledBy};
 ghost use Rattle.cut_trial.specs.Sum.{is_piece, trials_in, IsAtMost};
 ghost use Rattle.cut_ledger.specs.declared.slip.Slip as slips;
 ghost use Rattle.cut_ledger.specs.Contents.{is_in_base};
 ghost use Rattle.cut_ledger.specs.Kept.{cell_at, is_kept, AreKept, AreOver, IsAddedTo};
-ghost use Rattle.cut_ledger.specs.Slips.{IsGood};
+ghost use Rattle.cut_ledger.specs.Slips.{AreCounted, IsGood};
 
 use crate::Slip;
 use crate::kept::Kept;
-use cut_plan::Plan;
+use cut_plan::{Cell, Plan, Version};
 use cut_trial::{Piece, Totals, is_piece};
 use std::alloc::{AllocError, Global};
 
@@ -57,11 +58,12 @@ pub(crate) fn add(
     cells[cell as usize].add(piece, totals)
 }
 
-/// Whether a slip is a good one after those whose trials are held.
+/// Whether a slip is a good one after those whose trials are held. Its totals are few then.
 pub(crate) fn is_good(cells: &[Kept], plan: &Plan, slip: &Slip) -> bool
     requires { length cells.now ≡ length (cells_of plan.now) }
-    ensures { (earlier : List slips.Slip) → AreOver plan.now earlier cells.now →
+    ensures good { (earlier : List slips.Slip) → AreOver plan.now earlier cells.now →
         (IsTrue result ↔ IsGood plan.now earlier slip.now) }
+    ensures few { IsTrue result → IsAtMost (2048 * slip.now.piece.count) slip.now.totals }
 {
     is_piece(plan, slip.piece) && !meets(cells, plan, slip.piece) && is_possible(plan, slip)
 }
@@ -69,19 +71,63 @@ pub(crate) fn is_good(cells: &[Kept], plan: &Plan, slip: &Slip) -> bool
 /// Whether a slip's totals are possible ones of its piece.
 fn is_possible(plan: &Plan, slip: &Slip) -> bool
     requires { IsTrue (is_piece plan.now slip.now.piece) }
-    ensures { IsTrue result
-        ↔ ArePossible slip.now.piece.count
-        (plan.now.nodes - (plan_cell plan.now slip.now.piece.first).f) slip.now.totals }
+    ensures possible { IsTrue result ↔ ArePossible plan.now (plan_cell plan.now slip.now.piece.first)
+        slip.now.piece.count slip.now.totals }
+    ensures few { IsTrue result → IsAtMost (2048 * slip.now.piece.count) slip.now.totals }
 {
     let Slip { piece, totals } = *slip;
     let cell = plan.cell(plan.cell_of(piece.first));
+    are_counted(plan, cell, piece.count, totals) && are_settled(plan, cell, totals)
+}
+
+/// Whether totals are possible ones of so many trials of a cell, `settled` aside.
+fn are_counted(plan: &Plan, cell: Cell, trials: u32, totals: Totals) -> bool
+    requires { IsCellOf plan.now cell }
+    ensures counted { IsTrue result ↔ AreCounted plan.now cell trials totals }
+    ensures few { IsTrue result → totals.receivers ≤ 2048 * trials }
+{
     let each = u64::from(plan.nodes() - cell.f);
-    totals.receivers == u64::from(piece.count) * each
+    totals.receivers == u64::from(trials) * each
         && fit_together(totals.conflicts, totals.silent, totals.receivers)
         && fit_together(totals.extra, totals.silent, totals.receivers)
         && totals.votes <= totals.receivers
-        && totals.decided <= u64::from(piece.count)
+        && totals.decided <= u64::from(trials)
         && totals.right <= totals.decided
+}
+
+/// Whether `settled` is a possible sum over the receivers of a cell that propose.
+fn are_settled(plan: &Plan, cell: Cell, totals: Totals) -> bool
+    requires cell { IsCellOf plan.now cell }
+    requires few { totals.receivers ≤ 2 ^ 43 }
+    requires silent { totals.silent ≤ totals.receivers }
+    ensures settled { IsTrue result ↔ IsSettledBy (version_of plan.now.failing)
+        (totals.receivers - totals.silent) (plan.now.nodes * cell.k * plan.now.copies) totals.settled }
+    ensures few { IsTrue result → totals.settled ≤ totals.receivers * 262144 }
+{
+    let proposing = totals.receivers - totals.silent;
+    let deliveries = deliveries_of(plan, cell);
+    is_settled_by(plan.version(), proposing, deliveries, totals.settled)
+}
+
+/// How many deliveries a trial of a cell has at most: each copy of each edge.
+fn deliveries_of(plan: &Plan, cell: Cell) -> u64
+    requires { IsCellOf plan.now cell }
+    ensures value { result ≡ plan.now.nodes * cell.k * plan.now.copies }
+    ensures few { result ≤ 262144 }
+{
+    u64::from(plan.nodes()) * u64::from(cell.k) * u64::from(plan.copies())
+}
+
+/// Whether so many proposals, each after so many deliveries at most, can be settled by this number.
+fn is_settled_by(version: Version, proposing: u64, deliveries: u64, settled: u64) -> bool
+    requires proposing { proposing ≤ 2 ^ 43 }
+    requires deliveries { deliveries ≤ 262144 }
+    ensures { IsTrue result ↔ IsSettledBy version proposing deliveries settled }
+{
+    match version {
+        Version::One => settled == 0,
+        Version::Two => proposing <= settled && settled <= proposing * deliveries,
+    }
 }
 
 /// Whether two numbers are together at most a third.

@@ -36,8 +36,8 @@ impl Kept {
         requires low { self.old.trials.low ≤ piece.first }
         requires high { piece.first + piece.count ≤ self.old.trials.high }
         requires apart { list_any (is_held self.old.trials) (trials_in piece) ≡ false }
-        requires sums_fit { IsAtMost (2 ^ 62) self.old.totals }
-        requires totals_fit { IsAtMost (2 ^ 62) totals }
+        requires sums_fit { IsAtMost (2 ^ 43) self.old.totals }
+        requires totals_fit { IsAtMost (2 ^ 43) totals }
         ensures ok { OnOk result (IsAdded self.old self.new piece totals) }
         ensures room { IsTrue self.old.trials.room → IsOk result }
         ensures err { OnErr result (self.new ≡ self.old) }

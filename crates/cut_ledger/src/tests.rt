@@ -11,6 +11,7 @@ use std::test::Fail;
 
 mod listing;
 mod runs;
+mod settled;
 
 // A plan of one k, h and l, whose processes fail by crashes.
 fn plan_of(
@@ -34,6 +35,7 @@ fn result_of(alloc: Global, plan: &Plan, first: u32, count: u32) -> Result<Piece
     Ok(run_piece(alloc, plan, &rings, Piece { first, count })?)
 }
 
+// Totals of a plan of version 1.
 fn totals_of(numbers: [u64; 7]) -> Totals {
     let [receivers, conflicts, silent, extra, votes, decided, right] = numbers;
     Totals {
@@ -44,6 +46,7 @@ fn totals_of(numbers: [u64; 7]) -> Totals {
         votes,
         decided,
         right,
+        settled: 0,
     }
 }
 

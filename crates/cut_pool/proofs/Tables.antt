@@ -13,6 +13,7 @@ use Rattle.cut_lists.proofs.Intervals.{list_all_passing}
 use Rattle.cut_lists.proofs.Ranges.{range_with_len_more, ranges-join}
 use Rattle.cut_plan.specs.Values.{Values}
 use Rattle.cut_plan.specs.Cells.{cells_of, trial_count}
+use Rattle.cut_plan.specs.Versions.{version_of}
 use Rattle.cut_lines.specs.Lines.{header, line_with}
 use Rattle.cut_ledger.specs.declared.slip.Slip.{Slip}
 use Rattle.cut_ledger.specs.Contents.{Contents, has, filled, cell_done, cell_sum}
@@ -24,15 +25,17 @@ use Rattle.cut_pool.proofs.FullLines.{done_line}
 
 -- the header and the lines of the first n cells
 abbrev pub front_of : Values → List Slip → ℕ → List ℕ
-front_of v base n = header ++ flat_map (full_line v base) (range_with_len 0 n)
+front_of v base n = header (version_of v.failing) ++ flat_map (full_line v base) (range_with_len 0 n)
 
 pub front_more : (v : Values) (base : List Slip) (n : ℕ)
     → front_of v base (n + 1) ≡ front_of v base n ++ full_line v base n
 front_more v base n =
-    ap (λ xs. header ++ flat_map (full_line v base) xs) (range_with_len_more 0 n n (zero-add n))
-    ∙ ap (λ xs. header ++ xs) (flat_map-append (full_line v base) (range_with_len 0 n) (n ∷ [])
+    ap (λ xs. header (version_of v.failing) ++ flat_map (full_line v base) xs) (range_with_len_more 0 n n (zero-add n))
+    ∙ ap (λ xs. header (version_of v.failing) ++ xs)
+    (flat_map-append (full_line v base) (range_with_len 0 n) (n ∷ [])
     ∙ ap (λ ys. flat_map (full_line v base) (range_with_len 0 n) ++ ys) (append-nil (full_line v base n)))
-    ∙ sym (append_assoc header (flat_map (full_line v base) (range_with_len 0 n)) (full_line v base n))
+    ∙ sym (append_assoc (header (version_of v.failing)) (flat_map (full_line v base) (range_with_len 0 n))
+    (full_line v base n))
 
 -- the lines behind the first n cells
 abbrev pub behind : Values → List Slip → ℕ → List ℕ
@@ -57,9 +60,10 @@ pub table_ends : (v : Values) (base : List Slip) → table_over v base ≡ front
 table_ends v base =
     let l : Contents = filled v base in
     let n : ℕ = length (cells_of v) in
-    ap (λ ys. header ++ ys) (flat_map_front (λ c. line_with v c (cell_sum l c)) (full_line v base)
+    ap (λ ys. header (version_of v.failing) ++ ys) (flat_map_front (λ c. line_with v c (cell_sum l c)) (full_line v base)
     (cell_done l) (range_with_len 0 n) (λ c done. done_line l c done))
-    ∙ ap (λ cs. header ++ flat_map (full_line v base) cs) (whole_front (cell_done l) (range_with_len 0 n)
+    ∙ ap (λ cs. header (version_of v.failing) ++ flat_map (full_line v base) cs)
+    (whole_front (cell_done l) (range_with_len 0 n)
     (list_all_passing (cell_done l) 0 n (λ c from to. all_done v base c (omega (arith, to)))))
 
 pub table_splits : (v : Values) (base : List Slip) (n : ℕ) → n ≤ length (cells_of v)
@@ -72,9 +76,9 @@ table_splits v base n few =
     ap (λ m. range_with_len 0 m) (sym whole) ∙ sym (ranges-join 0 n (all - n))
     ∙ ap (λ b. range_with_len 0 n ++ range_with_len b (all - n)) (zero-add n) in
     table_ends v base
-    ∙ ap (λ xs. header ++ flat_map f xs) parts
-    ∙ ap (λ xs. header ++ xs) (flat_map-append f (range_with_len 0 n) (range_with_len n (all - n)))
-    ∙ sym (append_assoc header (flat_map f (range_with_len 0 n)) (behind v base n))
+    ∙ ap (λ xs. header (version_of v.failing) ++ flat_map f xs) parts
+    ∙ ap (λ xs. header (version_of v.failing) ++ xs) (flat_map-append f (range_with_len 0 n) (range_with_len n (all - n)))
+    ∙ sym (append_assoc (header (version_of v.failing)) (flat_map f (range_with_len 0 n)) (behind v base n))
 
 -- with a line between
 pub line_next : (v : Values) (base : List Slip) (n : ℕ) (line : List ℕ) → n < length (cells_of v)
@@ -84,11 +88,11 @@ line_next v base n line low is =
     ∙ ap (λ xs. xs ++ behind v base (n + 1)) (front_more v base n ∙ ap (λ xs. front_of v base n ++ xs) (sym is))
 
 -- the header is in front of the lines
-pub header_first : (v : Values) (base : List Slip) (line : List ℕ) → line ≡ header
+pub header_first : (v : Values) (base : List Slip) (line : List ℕ) → line ≡ header (version_of v.failing)
     → table_over v base ≡ ([] ++ line) ++ behind v base 0
 header_first v base line is =
     table_splits v base 0 (omega arith)
-    ∙ ap (λ xs. xs ++ behind v base 0) (append-nil header ∙ sym is)
+    ∙ ap (λ xs. xs ++ behind v base 0) (append-nil (header (version_of v.failing)) ∙ sym is)
 
 -- ---- first bytes
 

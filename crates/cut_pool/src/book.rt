@@ -158,13 +158,13 @@ impl<D: Disk> Book<D> {
         Ok(())
     }
 
-    /// The line of a cell, whose trials are all held, with a line feed. It has at most 273 bytes. Want of
+    /// The line of a cell, whose trials are all held, with a line feed. It has at most 294 bytes. Want of
     /// memory for its place in the history is told first, and want of memory for the line only where they are
     /// all held. Every call is added to the history, unless memory was wanting.
     pub fn row(&mut self, alloc: Global, cell: u32) -> Result<Vec<u8>, BookFault>
         requires { cell < length (cells_of self.old.state.ledger.plan) }
         ensures line { IfOk result (λ line. line.items ≡ row_of self.old.state.ledger cell) }
-        ensures short { IfOk result (λ line. length line.items ≤ 273) }
+        ensures short { IfOk result (λ line. length line.items ≤ 294) }
         ensures asked { AsksRow result cell self.old self.new }
     {
         self.history.reserve(self.losable + 1)?;

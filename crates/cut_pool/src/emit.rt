@@ -69,7 +69,7 @@ where
     ensures made { OnOk result (pass.old.made + length (cells_of opened.now.plan) ≤ pass.new.made) }
 {
     let mut bench = None;
-    let mut sent = send_after(wire, 0, header())?;
+    let mut sent = send_after(wire, 0, header(&opened.plan))?;
     for cell in 0..opened.plan.cells() {
         hall.work_towards(rt, alloc, pass, gate, opened.study, cell, &mut bench);
         let line = hall.next_row(rt, alloc, pass, opened, cell)?;

@@ -177,7 +177,7 @@ impl<D: Disk + Drop, M: Tally, K: Tally> Hall<D, M, K> {
     }
 
     /// The line of a cell of an opened study, once every trial of it is held. It waits until then, or until
-    /// it is known that the line won't come. It has at most 273 bytes.
+    /// it is known that the line won't come. It has at most 294 bytes.
     pub fn next_row<R: Wait>(
         &self,
         rt: &R,
@@ -190,7 +190,7 @@ impl<D: Disk + Drop, M: Tally, K: Tally> Hall<D, M, K> {
         requires slot { opened.now.study < self.now.slots }
         requires cell { cell < length (cells_of opened.now.plan) }
         ensures line { IfOk result (λ line. line.items ≡ full_line opened.now.plan opened.now.base cell) }
-        ensures short { IfOk result (λ line. length line.items ≤ 273) }
+        ensures short { IfOk result (λ line. length line.items ≤ 294) }
         ensures pass { pass.new ≡ made_more pass.old (rows_of result) }
     {
         self.wait_for_line(rt, alloc, &mut pass.made, opened, cell)
@@ -198,7 +198,7 @@ impl<D: Disk + Drop, M: Tally, K: Tally> Hall<D, M, K> {
 
     /// The line of a cell of an opened study, if it was given before; else none, and `next_row` waits for it. It
     /// is read from the study's trials once more, and is no call of its book: so a line that is asked for again
-    /// and again takes no memory in the history. It has at most 273 bytes.
+    /// and again takes no memory in the history. It has at most 294 bytes.
     pub fn given_row<R: Wait>(
         &self,
         rt: &R,
@@ -210,7 +210,7 @@ impl<D: Disk + Drop, M: Tally, K: Tally> Hall<D, M, K> {
         requires cell { cell < length (cells_of opened.now.plan) }
         ensures line { IfOk result (λ found.
             IfSome found (λ line. line.items ≡ full_line opened.now.plan opened.now.base cell)) }
-        ensures short { IfOk result (λ found. IfSome found (λ line. length line.items ≤ 273)) }
+        ensures short { IfOk result (λ found. IfSome found (λ line. length line.items ≤ 294)) }
         ensures why { IfErr result CanNotGiveAgain }
     {
         let slot = self.places[opened.study as usize].slot.lock(rt);
@@ -230,7 +230,7 @@ impl<D: Disk + Drop, M: Tally, K: Tally> Hall<D, M, K> {
         requires slot { opened.now.study < self.now.slots }
         requires cell { cell < length (cells_of opened.now.plan) }
         ensures line { IfOk result (λ line. line.items ≡ full_line opened.now.plan opened.now.base cell) }
-        ensures short { IfOk result (λ line. length line.items ≤ 273) }
+        ensures short { IfOk result (λ line. length line.items ≤ 294) }
         ensures part { made.new.parts ≡ 1 }
         ensures made { made.new.amount ≡ made.old.amount + rows_of result }
     {

@@ -172,7 +172,7 @@ impl<D: Disk + Drop, K: Tally> Slot<D, K> {
         requires part { made.old.parts ≡ 1 }
         ensures line { IfOk result (λ found.
             IfSome found (λ line. line.items ≡ full_line opened.now.plan opened.now.base cell)) }
-        ensures short { IfOk result (λ found. IfSome found (λ line. length line.items ≤ 273)) }
+        ensures short { IfOk result (λ found. IfSome found (λ line. length line.items ≤ 294)) }
         ensures given { GivesLine result cell self.old.book self.new.book }
         ensures answers { AnswersLine result opened.now cell self.old.book }
         ensures calls { calls_in self.new.book ≡ calls_in self.old.book + lines_of result }
@@ -221,7 +221,7 @@ impl<D: Disk + Drop, K: Tally> Slot<D, K> {
         requires { cell < length (cells_of opened.now.plan) }
         ensures line { IfOk result (λ found.
             IfSome found (λ line. line.items ≡ full_line opened.now.plan opened.now.base cell)) }
-        ensures short { IfOk result (λ found. IfSome found (λ line. length line.items ≤ 273)) }
+        ensures short { IfOk result (λ found. IfSome found (λ line. length line.items ≤ 294)) }
         ensures answers { AnswersAgain result opened.now cell self.now.book }
     {
         let Some(book) = &self.book else {

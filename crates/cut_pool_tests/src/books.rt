@@ -1,12 +1,12 @@
 //! Books through the calls of a study, told as text.
 
+use crate::piece::result_of;
 use cut_disks::{Disk, FaultyDisk, MemoryDisk, Tear};
 use cut_journal::Journal;
 use cut_ledger::Slip;
 use cut_plan::Plan;
 use cut_pool::{Book, BookFault};
-use cut_rings::Rings;
-use cut_trial::{Piece, PieceResult, run_piece};
+use cut_trial::{Piece, PieceResult};
 use std::alloc::{AllocError, Global};
 use std::test::Fail;
 
@@ -26,23 +26,13 @@ enum Ask {
     Row,
 }
 
-pub(crate) fn result_of(
-    alloc: Global,
-    plan: &Plan,
-    first: u32,
-    count: u32,
-) -> Result<PieceResult, Fail> {
-    let rings = Rings::hashed(alloc, plan)?;
-    Ok(run_piece(alloc, plan, &rings, Piece { first, count })?)
-}
-
 /// The results of both trials of the study, one by one, and that of the other one.
 fn results(alloc: Global, plan: &Plan) -> Result<Vec<PieceResult>, Fail> {
     let other = Plan::from_json(alloc, OTHER.as_bytes())?;
     let mut results = Vec::new(alloc);
-    results.push(result_of(alloc, plan, 0, 1)?)?;
-    results.push(result_of(alloc, plan, 1, 1)?)?;
-    results.push(result_of(alloc, &other, 0, 1)?)?;
+    results.push(result_of(alloc, plan, Piece { first: 0, count: 1 })?)?;
+    results.push(result_of(alloc, plan, Piece { first: 1, count: 1 })?)?;
+    results.push(result_of(alloc, &other, Piece { first: 0, count: 1 })?)?;
     Ok(results)
 }
 
@@ -209,7 +199,7 @@ fn opened(alloc: Global, plan: Plan, slips: &[Slip]) -> Result<String, AllocErro
 fn bad_slips_are_told(rt: HostRuntime) -> Result<(), Fail> {
     let alloc = rt.alloc();
     let plan = Plan::from_json(alloc, STUDY.as_bytes())?;
-    let result = result_of(alloc, &plan, 0, 1)?;
+    let result = result_of(alloc, &plan, Piece { first: 0, count: 1 })?;
     let slip = Slip {
         piece: result.piece(),
         totals: result.totals(),

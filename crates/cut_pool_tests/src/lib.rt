@@ -11,6 +11,7 @@ mod books;
 mod halls;
 #[cfg(test)]
 mod machine;
+pub mod piece;
 #[cfg(test)]
 mod storms;
 #[cfg(test)]

@@ -1,6 +1,7 @@
 //! Books beside runs of the machine of events: drawn lists of calls are answered alike.
 
-use crate::books::{OTHER, result_of};
+use crate::books::OTHER;
+use crate::piece::result_of;
 use crate::study_runs::journal_on;
 use cut_disks::{FaultyDisk, Tear};
 use cut_ledger::{Event, Reply, Run};
@@ -114,7 +115,7 @@ impl Pair {
 
     /// The header and the lines of the done cells in front, as the book gives them.
     fn front(&mut self, alloc: Global) -> Result<Vec<u8>, Fail> {
-        let mut front = Vec::from_slice(alloc, header())?;
+        let mut front = Vec::from_slice(alloc, header(self.book.ledger().plan()))?;
         for cell in 0..2u32 {
             let Some(line) = self.line(alloc, cell)? else {
                 break;
@@ -140,9 +141,9 @@ fn drawn_result(alloc: Global, words: &mut ChaCha8Rng, plan: &Plan) -> Result<Pi
     let first = words.next_word() % 4;
     let count = 1 + words.next_word() % 2;
     if is_piece(plan, Piece { first, count }) {
-        result_of(alloc, plan, first, count)
+        Ok(result_of(alloc, plan, Piece { first, count })?)
     } else {
-        result_of(alloc, plan, first, 1)
+        Ok(result_of(alloc, plan, Piece { first, count: 1 })?)
     }
 }
 
@@ -170,7 +171,10 @@ fn answer_drawn(
 ) -> Result<Reply, Fail> {
     match words.next_word() % 8 {
         0 => pair.lose(alloc, u64::from(words.next_word() % 5)),
-        1 => pair.hand_in(alloc, result_of(alloc, other, 0, 1)?),
+        1 => pair.hand_in(
+            alloc,
+            result_of(alloc, other, Piece { first: 0, count: 1 })?,
+        ),
         _ => {
             let result = drawn_result(alloc, words, plan)?;
             pair.hand_in(alloc, result)

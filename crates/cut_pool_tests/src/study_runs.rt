@@ -2,7 +2,8 @@
 ghost use Rattle.std.specs.Prelude.{◌≡◌, ◌≤◌, Ok, None, length, IfOk};
 ghost use Rattle.cut_journal.specs.Reading.{reading};
 
-use crate::books::{STUDY, result_of};
+use crate::books::STUDY;
+use crate::piece::result_of;
 use cut_disks::{Disk, FaultyDisk, MemoryDisk, Tear};
 use cut_journal::Journal;
 use cut_ledger::Slip;
@@ -136,7 +137,7 @@ fn a_study_whose_wire_failed_is_resumed(rt: HostRuntime) -> Result<(), Fail> {
 /// Keeps the slip of the first trial in a journal.
 fn keep_first<D: Disk + Drop>(alloc: Global, disk: D, plan: &Plan) -> Result<(), Fail> {
     let (mut journal, _) = journal_on(alloc, disk, plan)?;
-    journal.append(&result_of(alloc, plan, 0, 1)?)?;
+    journal.append(&result_of(alloc, plan, Piece { first: 0, count: 1 })?)?;
     Ok(())
 }
 

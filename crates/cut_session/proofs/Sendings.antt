@@ -9,6 +9,7 @@ use Rattle.cut_plan.specs.Cells.{cells_of}
 use Rattle.cut_plan.specs.declared.refusal.Refusal.{Refusal}
 use Rattle.cut_plan.specs.Accepted.{plan_of}
 use Rattle.cut_plan.specs.Values.{Values}
+use Rattle.cut_plan.specs.Versions.{version_of}
 use Rattle.cut_lines.specs.Lines.{header}
 use Rattle.cut_ledger.specs.declared.slip.Slip.{Slip}
 use Rattle.cut_faults.specs.declared.code.FaultCode.{FaultCode}
@@ -68,14 +69,17 @@ pub rows_more : (plan : Values) (base : List Slip) (n : ℕ)
 unfolding rows_to
 rows_more plan base n =
     let row : ℕ → List ℕ = row_frame plan base in
-    ap (λ (xs : List ℕ). frame kind.Row header ++ flat_map row xs) (range_with_len_more 0 n n (zero-add n))
-    ∙ ap (λ (xs : List ℕ). frame kind.Row header ++ xs) (flat_map-append row (range_with_len 0 n) (n ∷ [])
+    ap (λ (xs : List ℕ). frame kind.Row (header (version_of plan.failing)) ++ flat_map row xs)
+    (range_with_len_more 0 n n (zero-add n))
+    ∙ ap (λ (xs : List ℕ). frame kind.Row (header (version_of plan.failing)) ++ xs)
+    (flat_map-append row (range_with_len 0 n) (n ∷ [])
     ∙ ap (λ (ys : List ℕ). flat_map row (range_with_len 0 n) ++ ys) (append-nil (row n)))
-    ∙ sym (append_assoc (frame kind.Row header) (flat_map row (range_with_len 0 n)) (row n))
+    ∙ sym (append_assoc (frame kind.Row (header (version_of plan.failing))) (flat_map row (range_with_len 0 n)) (row n))
 
-pub rows_none : (plan : Values) (base : List Slip) → frame kind.Row header ≡ rows_to plan base 0
+pub rows_none : (plan : Values) (base : List Slip)
+    → frame kind.Row (header (version_of plan.failing)) ≡ rows_to plan base 0
 unfolding rows_to
-rows_none plan base = sym (append-nil (frame kind.Row header))
+rows_none plan base = sym (append-nil (frame kind.Row (header (version_of plan.failing))))
 
 -- a write failed in the frames of the first n lines
 pub cut_rows : (plan : Values) (base : List Slip) (n before : ℕ) (p : Sent) (old new : Traffic)
@@ -96,7 +100,7 @@ cut_rows plan base n before p old new low s = elim (cases_lt n (length (cells_of
 
 -- the frames of the header, and of one line more
 pub first_rows : (plan : Values) (base : List Slip) (before : ℕ) (r : Result ℕ Sent) (line : List ℕ)
-    (old new : Traffic) → line ≡ header → IfOk r (λ n. n ≡ before + (5 + length line))
+    (old new : Traffic) → line ≡ header (version_of plan.failing) → IfOk r (λ n. n ≡ before + (5 + length line))
     → IfErr r (λ p. IsSentBetween before (before + (5 + length line)) p)
     → SendsAfter before r (frame kind.Row line) old new → Sends before r (rows_to plan base 0) old new
 first_rows plan base before r line old new is ok err took =
@@ -137,10 +141,10 @@ broken_off plan base n before middle r fault code old mid new low is long first 
 )
 
 -- their lengths
-pub long_first : (plan : Values) (base : List Slip) (line : List ℕ) → line ≡ header
+pub long_first : (plan : Values) (base : List Slip) (line : List ℕ) → line ≡ header (version_of plan.failing)
     → length (rows_to plan base 0) ≡ 5 + length line
 long_first plan base line is =
-    ap (λ (l : List ℕ). length l) (sym (rows_none plan base)) ∙ long_frame kind.Row header
+    ap (λ (l : List ℕ). length l) (sym (rows_none plan base)) ∙ long_frame kind.Row (header (version_of plan.failing))
     ∙ ap (λ (l : List ℕ). 5 + length l) (sym is)
 
 pub long_next : (plan : Values) (base : List Slip) (n : ℕ) (line : List ℕ) → line ≡ full_line plan base n

@@ -10,6 +10,7 @@ use Rattle.cut_plan.specs.Accepted.{plan_of}
 use Rattle.cut_plan.specs.Cells.{cells_of}
 use Rattle.cut_plan.specs.Refusals.{code_of_refusal}
 use Rattle.cut_plan.specs.Values.{Values}
+use Rattle.cut_plan.specs.Versions.{version_of}
 use Rattle.cut_board.specs.declared.view.View.{View}
 use Rattle.cut_board.specs.Views.{seen_in}
 use Rattle.cut_lines.specs.Lines.{header}
@@ -39,7 +40,8 @@ row_frame plan base cell = frame kind.Row (full_line plan base cell)
 
 -- the frames of the header and of the lines of the first n cells
 unfoldable pub rows_to : Values → List Slip → ℕ → List ℕ
-rows_to plan base n = frame kind.Row header ++ flat_map (row_frame plan base) (range_with_len 0 n)
+rows_to plan base n =
+    frame kind.Row (header (version_of plan.failing)) ++ flat_map (row_frame plan base) (range_with_len 0 n)
 
 -- ---- the reply to a plan
 

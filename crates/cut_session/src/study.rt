@@ -84,7 +84,7 @@ where
     ensures faults { W.faults wire.new ≡ after_write result (W.faults wire.old) }
 {
     let cells = opened.plan.cells();
-    let mut sent = match send_after(wire, before, Kind::Row, header()) {
+    let mut sent = match send_after(wire, before, Kind::Row, header(&opened.plan)) {
         Ok(sent) => sent,
         Err(part) => return Err(part),
     };
@@ -119,7 +119,7 @@ where
     requires slot { opened.now.study < hall.now.slots }
     requires cell { cell < length (cells_of opened.now.plan) }
     ensures line { IfOk result (λ line. line.items ≡ full_line opened.now.plan opened.now.base cell) }
-    ensures short { IfOk result (λ line. length line.items ≤ 273) }
+    ensures short { IfOk result (λ line. length line.items ≤ 294) }
     ensures own { pass.new.hall ≡ pass.old.hall }
     ensures view { pass.new.view ≡ pass.old.view }
 {

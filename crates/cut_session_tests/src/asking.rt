@@ -181,7 +181,8 @@ fn faults_of_askings_are_printed(rt: HostRuntime) -> Result<(), Fail> {
         (AskFault::Truncated, "42 Truncated"),
         (AskFault::Stream(StreamFault::BadLength), "45 BadLength"),
         (AskFault::Told(29), "29 SlotsFull"),
-        (AskFault::Told(46), "46 Unknown"),
+        (AskFault::Told(46), "46 Disagrees"),
+        (AskFault::Told(48), "48 Unknown"),
     ];
     for (fault, text) in rows {
         assert_eq!(rt; fault.to_string(alloc)?.as_str(), text);

@@ -9,12 +9,15 @@
 mod asking;
 #[cfg(test)]
 mod drawn;
+pub mod frame;
 #[cfg(test)]
 mod halls;
 #[cfg(test)]
 mod readings;
 #[cfg(test)]
 mod serving;
+#[cfg(test)]
+mod settled;
 #[cfg(test)]
 mod vectors;
 #[cfg(test)]

@@ -12,6 +12,7 @@ use Rattle.cut_lists.proofs.Fronts.{take_while-front}
 use Rattle.cut_lists.proofs.Intervals.{take_range, drop_range}
 use Rattle.cut_lists.proofs.Ranges.{range_with_len_more}
 use Rattle.cut_plan.specs.Cells.{cells_of}
+use Rattle.cut_plan.specs.Versions.{version_of}
 use Rattle.cut_lines.specs.Lines.{header}
 use Rattle.cut_ledger.specs.Contents.{Contents, cell_done}
 use Rattle.cut_ledger.specs.Machine.{available}
@@ -23,14 +24,14 @@ use Rattle.cut_table.specs.Table.{row_of, Emits, IsEnded}
 
 -- the header and the lines of the first n cells
 abbrev pub front_of : Contents → ℕ → List ℕ
-front_of l n = header ++ flat_map (row_of l) (range_with_len 0 n)
+front_of l n = header (version_of l.plan.failing) ++ flat_map (row_of l) (range_with_len 0 n)
 
 pub front_more : (l : Contents) (n : ℕ) → front_of l (n + 1) ≡ front_of l n ++ row_of l n
 front_more l n =
-    ap (λ xs. header ++ flat_map (row_of l) xs) (range_with_len_more 0 n n (zero-add n))
-    ∙ ap (λ xs. header ++ xs) (flat_map-append (row_of l) (range_with_len 0 n) (n ∷ [])
+    ap (λ xs. header (version_of l.plan.failing) ++ flat_map (row_of l) xs) (range_with_len_more 0 n n (zero-add n))
+    ∙ ap (λ xs. header (version_of l.plan.failing) ++ xs) (flat_map-append (row_of l) (range_with_len 0 n) (n ∷ [])
     ∙ ap (λ ys. flat_map (row_of l) (range_with_len 0 n) ++ ys) (append-nil (row_of l n)))
-    ∙ sym (append_assoc header (flat_map (row_of l) (range_with_len 0 n)) (row_of l n))
+    ∙ sym (append_assoc (header (version_of l.plan.failing)) (flat_map (row_of l) (range_with_len 0 n)) (row_of l n))
 
 -- the lines behind the first n cells, which are done
 abbrev pub behind : Contents → ℕ → List ℕ
@@ -49,11 +50,11 @@ available_splits l n few done =
     ∙ ap (λ xs. xs ++ take_while (cell_done l) (drop n (range_with_len 0 all))) (take_range 0 all n few)
     ∙ ap (λ xs. range_with_len 0 n ++ take_while (cell_done l) xs) (drop_range 0 all n few
     ∙ ap (λ b. range_with_len b (all - n)) (zero-add n)) in
-    ap (λ xs. header ++ flat_map (row_of l) xs) split
-    ∙ ap (λ xs. header ++ xs)
+    ap (λ xs. header (version_of l.plan.failing) ++ flat_map (row_of l) xs) split
+    ∙ ap (λ xs. header (version_of l.plan.failing) ++ xs)
     (flat_map-append (row_of l) (range_with_len 0 n)
     (take_while (cell_done l) (range_with_len n (all - n))))
-    ∙ sym (append_assoc header (flat_map (row_of l) (range_with_len 0 n)) (behind l n))
+    ∙ sym (append_assoc (header (version_of l.plan.failing)) (flat_map (row_of l) (range_with_len 0 n)) (behind l n))
 
 none_behind : (l : Contents) (n m : ℕ) → (0 < m → cell_done l n ≡ false)
     → flat_map (row_of l) (take_while (cell_done l) (range_with_len n m)) ≡ []

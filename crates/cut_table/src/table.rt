@@ -8,13 +8,13 @@ use cut_ledger::Ledger;
 use cut_lines::{cell_line, header};
 use std::alloc::Global;
 
-/// The line of a cell, whose trials are all held, with a line feed. It has at most 273 bytes. Want of memory
+/// The line of a cell, whose trials are all held, with a line feed. It has at most 294 bytes. Want of memory
 /// is told only where they are all held.
 pub fn row(alloc: Global, ledger: &Ledger, cell: u32) -> Result<Vec<u8>, RowFault>
     requires { cell < length (cells_of ledger.now.contents.plan) }
     ensures ok { IfOk result (λ line. line.items ≡ row_of ledger.now.contents cell) }
     ensures done { OnOk result (cell_done ledger.now.contents cell ≡ true) }
-    ensures short { IfOk result (λ line. length line.items ≤ 273) }
+    ensures short { IfOk result (λ line. length line.items ≤ 294) }
     ensures err { IfErr result (λ e. IsRowFault ledger.now.contents cell e) }
 {
     if !ledger.cell_done(cell) {
@@ -33,7 +33,7 @@ pub fn emit_table<W: Wire>(alloc: Global, ledger: &Ledger, wire: &mut W) -> Resu
     ensures tells { W.tells wire.old ↔ W.tells wire.new }
     ensures faults { W.faults wire.new ≡ failed_writes result (W.faults wire.old) }
 {
-    let mut sent = send_after(wire, 0, header())?;
+    let mut sent = send_after(wire, 0, header(ledger.plan()))?;
     for cell in 0..ledger.plan().cells() {
         let line = match row(alloc, ledger, cell) {
             Ok(line) => line,

@@ -4,8 +4,8 @@ use Rattle.cut_disks.specs.State.{DiskState}
 use Rattle.cut_ledger.specs.declared.slip.Slip.{Slip}
 use Rattle.cut_journal.specs.declared.fault.JournalFault.{JournalFault}
 use Rattle.cut_journal.specs.declared.slips.Slips.{Slips}
-use Rattle.cut_journal.specs.Reading.{has_header, is_of_plan, slips_reading, reading}
-use Rattle.cut_journal.proofs.Readings.{none_read, damaged_read, other_read, plan_read, shown_is, shown_none, slips_refused}
+use Rattle.cut_journal.specs.Reading.{has_header, is_study, slips_reading, reading}
+use Rattle.cut_journal.proofs.Readings.{none_read, damaged_read, plan_read, shown_is, shown_none, slips_refused}
 use Rattle.cut_journal.proofs.reopen.find.Goals as goal
 use Rattle.cut_journal.proofs.reopen.find.Given as given
 
@@ -18,32 +18,35 @@ returns-in-Ok-false-clause-refused g c = λ honest.
     damaged_read c.args.study.now (g.D.Disk.state c.args.disk.now).bytes (sym (c.in-Ok.ensures.study honest) ∙ shown_is c.in-Ok.shown.is_study c.if-not-shown.false)
     (sym (c.in-Ok-false.ensures.told (c.look_first.ensures.honest.0 honest) ∙ ap (λ (d : DiskState). has_header d.bytes) (c.in-Ok.ensures.state honest)) ∙ c.in-Ok-false.field-0-test)
 
-pub returns-in-Ok-false-is_of_plan-clause-refused : goal.returns-in-Ok-false-is_of_plan-clause-refused
-returns-in-Ok-false-is_of_plan-clause-refused g c = λ honest.
-    let looked = c.look_first.ensures.honest.0 honest in
-    let same : g.D.Disk.state c.has_header.new.disk ≡ _ = c.has_header.ensures.same looked ∙ c.in-Ok.ensures.state honest in
-    other_read c.args.study.now (g.D.Disk.state c.args.disk.now).bytes (sym (c.in-Ok.ensures.study honest) ∙ shown_is c.in-Ok.shown.is_study c.if-not-shown.false)
-    (sym (c.in-Ok-true.ensures.told looked ∙ ap (λ (d : DiskState). has_header d.bytes) (c.in-Ok.ensures.state honest)) ∙ c.in-Ok-true.field-0-test)
-    (sym (c.in-Ok-false-is_of_plan.ensures.told (c.has_header.ensures.honest.0 looked) ∙ ap (λ (d : DiskState). is_of_plan c.args.study.now d.bytes) same) ∙ c.in-Ok-false-is_of_plan.field-0-test)
+pub check_front-requires-clause-study : goal.check_front-requires-clause-study
+check_front-requires-clause-study g c = λ honest.
+    let looked = c.has_header.ensures.honest.1 honest in
+    let first = c.look_first.ensures.honest.1 looked in
+    ap (λ (d : DiskState). is_study d.bytes) (c.has_header.ensures.same looked ∙ c.in-Ok.ensures.state first)
+    ∙ sym (c.in-Ok.ensures.study first) ∙ shown_is c.in-Ok.shown.is_study c.if-not-shown.false
+
+pub check_front-requires-clause-header : goal.check_front-requires-clause-header
+check_front-requires-clause-header g c = λ honest.
+    let looked = c.has_header.ensures.honest.1 honest in
+    ap (λ (d : DiskState). has_header d.bytes) (c.has_header.ensures.same looked)
+    ∙ sym (c.in-Ok-true.ensures.told looked) ∙ c.in-Ok-true.field-0-test
 
 -- the slips are what the bytes are read as
 abbrev pub read_through : (g : given.Over) (c : goal.After-read_slips g) → g.D.Disk.is_honest c.args.disk.now
-    → reading c.args.study.now (g.D.Disk.state c.args.disk.now).bytes ≡ slips_reading c.args.study.now (g.D.Disk.state c.is_of_plan.new.disk).bytes
+    → reading c.args.study.now (g.D.Disk.state c.args.disk.now).bytes ≡ slips_reading c.args.study.now (g.D.Disk.state c.check_front.new.disk).bytes
 read_through g c honest =
     let looked = c.look_first.ensures.honest.0 honest in
     let headed = c.has_header.ensures.honest.0 looked in
     let same : g.D.Disk.state c.has_header.new.disk ≡ _ = c.has_header.ensures.same looked ∙ c.in-Ok.ensures.state honest in
-    plan_read c.args.study.now (g.D.Disk.state c.args.disk.now).bytes
-    (sym (c.in-Ok-true.ensures.told looked ∙ ap (λ (d : DiskState). has_header d.bytes) (c.in-Ok.ensures.state honest)) ∙ c.in-Ok-true.field-0-test)
-    (sym (c.in-Ok-true-is_of_plan.ensures.told headed ∙ ap (λ (d : DiskState). is_of_plan c.args.study.now d.bytes) same) ∙ c.in-Ok-true-is_of_plan.field-0-test)
-    ∙ sym (ap (λ (d : DiskState). slips_reading c.args.study.now d.bytes) (c.is_of_plan.ensures.same headed ∙ same))
+    ap (λ (d : DiskState). reading c.args.study.now d.bytes) (sym same) ∙ plan_read c.args.study.now (g.D.Disk.state c.has_header.new.disk).bytes (c.in-Ok-check_front.ensures.told headed)
+    ∙ sym (ap (λ (d : DiskState). slips_reading c.args.study.now d.bytes) (c.check_front.ensures.same headed))
 
-pub returns-in-Ok-true-is_of_plan-clause-told : goal.returns-in-Ok-true-is_of_plan-clause-told
-returns-in-Ok-true-is_of_plan-clause-told g c = λ honest.
+pub returns-in-Ok-check_front-clause-told : goal.returns-in-Ok-check_front-clause-told
+returns-in-Ok-check_front-clause-told g c = λ honest.
     subst (λ (read : Result (List Slip) JournalFault). IfOk c.read_slips.result (λ (found : Slips). read ≡ Ok found.slips.items)) (sym (read_through g c honest))
-    (c.read_slips.ensures.told (c.is_of_plan.ensures.honest.0 (c.has_header.ensures.honest.0 (c.look_first.ensures.honest.0 honest))))
+    (c.read_slips.ensures.told (c.check_front.ensures.honest.0 (c.has_header.ensures.honest.0 (c.look_first.ensures.honest.0 honest))))
 
-pub returns-in-Ok-true-is_of_plan-clause-refused : goal.returns-in-Ok-true-is_of_plan-clause-refused
-returns-in-Ok-true-is_of_plan-clause-refused g c = λ honest.
-    slips_refused c.read_slips.result c.args.study.now (g.D.Disk.state c.args.disk.now).bytes (slips_reading c.args.study.now (g.D.Disk.state c.is_of_plan.new.disk).bytes) (read_through g c honest)
-    c.read_slips.ensures.faults_told (c.read_slips.ensures.refused (c.is_of_plan.ensures.honest.0 (c.has_header.ensures.honest.0 (c.look_first.ensures.honest.0 honest))))
+pub returns-in-Ok-check_front-clause-refused : goal.returns-in-Ok-check_front-clause-refused
+returns-in-Ok-check_front-clause-refused g c = λ honest.
+    slips_refused c.read_slips.result c.args.study.now (g.D.Disk.state c.args.disk.now).bytes (slips_reading c.args.study.now (g.D.Disk.state c.check_front.new.disk).bytes) (read_through g c honest)
+    c.read_slips.ensures.faults_told (c.read_slips.ensures.refused (c.check_front.ensures.honest.0 (c.has_header.ensures.honest.0 (c.look_first.ensures.honest.0 honest))))

@@ -1,6 +1,7 @@
 use Rattle.std.proofs.Common.{length, sym, ap, arith}
 use Rattle.cut_disks.specs.State.{DiskState}
-use Rattle.cut_journal.proofs.Readings.{text_none, text_some, header_room, digest_test}
+use Rattle.cut_journal.proofs.Headers.{header_room}
+use Rattle.cut_journal.proofs.Readings.{text_none, text_some, digest_test}
 use Rattle.cut_journal.proofs.reopen.has_header.Goals as goal
 
 pub returns-in-Ok-None-clause-told : goal.returns-in-Ok-None-clause-told

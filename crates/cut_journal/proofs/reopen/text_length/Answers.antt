@@ -1,8 +1,8 @@
 use Rattle.std.proofs.Common.{rules, ◌≡◌, ◌∙◌, ◌+◌, ℕ, true, false, List, length, slice_range, nat_le, sym, ap, refl, arith}
-use Rattle.std.specs.Prelude.{bytes_eq, codes, Some, None}
+use Rattle.std.specs.Prelude.{Some, None}
 use Rattle.std.proofs.lemmas.Bool.Decides.{nat_tests}
 use Rattle.cut_disks.specs.State.{DiskState}
-use Rattle.cut_journal.specs.Reading.{text_length}
+use Rattle.cut_journal.specs.Reading.{is_magic, text_length}
 use Rattle.cut_journal.proofs.Readings.{text_told, text_read}
 use Rattle.cut_journal.proofs.reopen.text_length.Goals as goal
 
@@ -10,13 +10,13 @@ pub returns-then-size-lt13-clause-told : goal.returns-then-size-lt13-clause-told
 returns-then-size-lt13-clause-told g c = λ honest.
     let bytes : List ℕ = (g.D.Disk.state c.args.disk.now).bytes in
     let test : nat_le 13 (length bytes) ≡ false = grind (arith, nat_tests, c.requires.size honest, c.if-size-lt13.true) in
-    text_told bytes false (bytes_eq (slice_range bytes 1 9) (codes "CUTLAB01")) (nat_le (text_length bytes) 65536) (nat_le (text_length bytes + 46) (length bytes)) None (sym test) refl refl refl refl
+    text_told bytes false (is_magic (slice_range bytes 1 9)) (nat_le (text_length bytes) 65536) (nat_le (text_length bytes + 46) (length bytes)) None (sym test) refl refl refl refl
 
 pub returns-then-not-is_ours-clause-told : goal.returns-then-not-is_ours-clause-told
 returns-then-not-is_ours-clause-told g c = λ honest.
     let bytes : List ℕ = (g.D.Disk.state c.args.disk.now).bytes in
     let size : nat_le 13 (length bytes) ≡ true = grind (arith, nat_tests, c.requires.size honest, c.if-size-lt13.false) in
-    let letters : c.eq-is_ours.result ≡ bytes_eq (slice_range bytes 1 9) (codes "CUTLAB01") = c.eq-is_ours.ensures ∙ ap (λ (l : List ℕ). bytes_eq l (codes "CUTLAB01")) (c.in_ok-read.ensures.told honest) in
+    let letters : c.is_magic-is_ours.result ≡ is_magic (slice_range bytes 1 9) = c.is_magic-is_ours.ensures ∙ ap is_magic (c.in_ok-read.ensures.told honest) in
     text_told bytes true false (nat_le (text_length bytes) 65536) (nat_le (text_length bytes + 46) (length bytes)) None (sym size) (sym (search rules) ∙ letters) refl refl refl
 
 pub returns-then-text-gt65536-clause-told : goal.returns-then-text-gt65536-clause-told
@@ -24,7 +24,7 @@ returns-then-text-gt65536-clause-told g c = λ honest.
     let old : DiskState = g.D.Disk.state c.args.disk.now in
     let bytes : List ℕ = old.bytes in
     let size : nat_le 13 (length bytes) ≡ true = grind (arith, nat_tests, c.requires.size honest, c.if-size-lt13.false) in
-    let letters : c.eq-is_ours.result ≡ bytes_eq (slice_range bytes 1 9) (codes "CUTLAB01") = c.eq-is_ours.ensures ∙ ap (λ (l : List ℕ). bytes_eq l (codes "CUTLAB01")) (c.in_ok-read.ensures.told honest) in
+    let letters : c.is_magic-is_ours.result ≡ is_magic (slice_range bytes 1 9) = c.is_magic-is_ours.ensures ∙ ap is_magic (c.in_ok-read.ensures.told honest) in
     let text : c.from_be_bytes-text.result ≡ text_length bytes = text_read old (g.D.Disk.state c.read.new.self) c.read-2.new.into c.from_be_bytes-text.result c.from_be_bytes-text.ensures
     (c.in_ok-read-2.ensures.told (c.in_ok-read.ensures.honest.0 honest)) (c.in_ok-read.ensures.same honest) in
     let large : nat_le (text_length bytes) 65536 ≡ false = grind (arith, nat_tests, text, c.if-text-gt65536.true) in
@@ -35,7 +35,7 @@ returns-then-size-from-clause-told g c = λ honest.
     let old : DiskState = g.D.Disk.state c.args.disk.now in
     let bytes : List ℕ = old.bytes in
     let size : nat_le 13 (length bytes) ≡ true = grind (arith, nat_tests, c.requires.size honest, c.if-size-lt13.false) in
-    let letters : c.eq-is_ours.result ≡ bytes_eq (slice_range bytes 1 9) (codes "CUTLAB01") = c.eq-is_ours.ensures ∙ ap (λ (l : List ℕ). bytes_eq l (codes "CUTLAB01")) (c.in_ok-read.ensures.told honest) in
+    let letters : c.is_magic-is_ours.result ≡ is_magic (slice_range bytes 1 9) = c.is_magic-is_ours.ensures ∙ ap is_magic (c.in_ok-read.ensures.told honest) in
     let text : c.from_be_bytes-text.result ≡ text_length bytes = text_read old (g.D.Disk.state c.read.new.self) c.read-2.new.into c.from_be_bytes-text.result c.from_be_bytes-text.ensures
     (c.in_ok-read-2.ensures.told (c.in_ok-read.ensures.honest.0 honest)) (c.in_ok-read.ensures.same honest) in
     let fits : nat_le (text_length bytes) 65536 ≡ true = grind (arith, nat_tests, text, c.if-text-gt65536.false) in
@@ -47,7 +47,7 @@ returns-clause-told g c = λ honest.
     let old : DiskState = g.D.Disk.state c.args.disk.now in
     let bytes : List ℕ = old.bytes in
     let size : nat_le 13 (length bytes) ≡ true = grind (arith, nat_tests, c.requires.size honest, c.if-size-lt13.false) in
-    let letters : c.eq-is_ours.result ≡ bytes_eq (slice_range bytes 1 9) (codes "CUTLAB01") = c.eq-is_ours.ensures ∙ ap (λ (l : List ℕ). bytes_eq l (codes "CUTLAB01")) (c.in_ok-read.ensures.told honest) in
+    let letters : c.is_magic-is_ours.result ≡ is_magic (slice_range bytes 1 9) = c.is_magic-is_ours.ensures ∙ ap is_magic (c.in_ok-read.ensures.told honest) in
     let text : c.from_be_bytes-text.result ≡ text_length bytes = text_read old (g.D.Disk.state c.read.new.self) c.read-2.new.into c.from_be_bytes-text.result c.from_be_bytes-text.ensures
     (c.in_ok-read-2.ensures.told (c.in_ok-read.ensures.honest.0 honest)) (c.in_ok-read.ensures.same honest) in
     let fits : nat_le (text_length bytes) 65536 ≡ true = grind (arith, nat_tests, text, c.if-text-gt65536.false) in

@@ -6,6 +6,7 @@ use Rattle.cut_lists.proofs.Intervals.{take_range}
 use Rattle.cut_lists.proofs.Ranges.{range_with_len_more}
 use Rattle.cut_ledger.proofs.Words.{Contents, Totals, Values, cell_done, cell_sum, cells_of, flat_map, header}
 use Rattle.cut_ledger.proofs.Words.{line_with, prefix_len, range_with_len}
+use Rattle.cut_plan.specs.Versions.{version_of}
 use Rattle.cut_ledger.proofs.available.available.Goals as goal
 
 -- how many cells are done in front
@@ -17,7 +18,7 @@ cell_sum-requires c = omega (arith, in_front c.args.ledger.now.contents c.cells_
 
 pub cell_line-requires-clause-number : goal.cell_line-requires-clause-number
 cell_line-requires-clause-number c =
-    omega (arith, in_front c.args.ledger.now.contents c.cells_done-cell-end.result c.cells_done-cell-end.ensures, c.loop-cell-test.true, ap (λ (v : Values). length (cells_of v)) c.plan.ensures.value)
+    omega (arith, in_front c.args.ledger.now.contents c.cells_done-cell-end.result c.cells_done-cell-end.ensures, c.loop-cell-test.true, ap (λ (v : Values). length (cells_of v)) c.plan-in-loop-cell.ensures.value)
 
 pub loop-cell-preserved : goal.loop-cell-preserved
 loop-cell-preserved c =
@@ -27,12 +28,12 @@ loop-cell-preserved c =
     let more : flat_map f (range_with_len 0 (n + 1)) ≡ flat_map f (range_with_len 0 n) ++ f n =
     ap (λ xs. flat_map f xs) (range_with_len_more 0 n n (zero-add n)) ∙ flat_map-append f (range_with_len 0 n) (n ∷ []) ∙ ap (λ ys. flat_map f (range_with_len 0 n) ++ ys) (append-nil (f n)) in
     let line : c.as_slice.result.now ≡ f n =
-    c.as_slice.ensures.value ∙ c.in_ok-line.ensures.line ∙ ap (λ (v : Values). line_with v n c.cell_sum.result) c.plan.ensures.value ∙ ap (λ (x : Totals). line_with l.plan n x) c.cell_sum.ensures.value in
+    c.as_slice.ensures.value ∙ c.in_ok-line.ensures.line ∙ ap (λ (v : Values). line_with v n c.cell_sum.result) c.plan-in-loop-cell.ensures.value ∙ ap (λ (x : Totals). line_with l.plan n x) c.cell_sum.ensures.value in
     c.in_ok-extend_from_slice.ensures.items
     ∙ ap (λ xs. xs ++ c.as_slice.result.now) c.loop-cell.invariant
-    ∙ ap (λ ys. (header ++ flat_map f (range_with_len 0 n)) ++ ys) line
-    ∙ append_assoc header (flat_map f (range_with_len 0 n)) (f n)
-    ∙ ap (λ ys. header ++ ys) (sym more)
+    ∙ ap (λ ys. (header (version_of l.plan.failing) ++ flat_map f (range_with_len 0 n)) ++ ys) line
+    ∙ append_assoc (header (version_of l.plan.failing)) (flat_map f (range_with_len 0 n)) (f n)
+    ∙ ap (λ ys. header (version_of l.plan.failing) ++ ys) (sym more)
 
 pub returns : goal.returns
 returns c =
@@ -43,4 +44,4 @@ returns c =
     let all : c.loop-cell.cell ≡ k = omega (arith, c.loop-cell-test.false, c.loop-cell.auto.cell-end) in
     let front : range_with_len 0 c.loop-cell.cell ≡ take (prefix_len (cell_done l) (range_with_len 0 n)) (range_with_len 0 n) =
     ap (λ i. range_with_len 0 i) all ∙ sym (take_range 0 n k (in_front l k c.cells_done-cell-end.ensures)) ∙ ap (λ i. take i (range_with_len 0 n)) c.cells_done-cell-end.ensures in
-    c.loop-cell.invariant ∙ ap (λ xs. header ++ flat_map f xs) front
+    c.loop-cell.invariant ∙ ap (λ xs. header (version_of l.plan.failing) ++ flat_map f xs) front

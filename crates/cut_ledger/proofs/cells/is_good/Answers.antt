@@ -5,14 +5,14 @@ use Rattle.cut_ledger.proofs.SlipLemmas.{good_is, not_good}
 use Rattle.cut_ledger.proofs.cells.is_good.Goals as goal
 use Rattle.cut_ledger.proofs.cells.is_good.Goals.{then-is_piece, else-is_piece}
 
-pub returns-then-not-meets : goal.returns-then-not-meets
-returns-then-not-meets c = λ earlier over. elim c.if-is_piece.branch [
-  | then-is_piece w ↦ good_is c.args.plan.now earlier c.args.cells.now c.args.slip.now c.is_possible.result over (sym w.if-is_piece.ensures.value) (sym w.meets.ensures ∙ not-true w.meets.result (sym w.value-is ∙ c.if-not-meets.true)) c.is_possible.ensures
+pub returns-then-not-meets-clause-good : goal.returns-then-not-meets-clause-good
+returns-then-not-meets-clause-good c = λ earlier over. elim c.if-is_piece.branch [
+  | then-is_piece w ↦ good_is c.args.plan.now earlier c.args.cells.now c.args.slip.now c.is_possible.result over (sym w.if-is_piece.ensures.value) (sym w.meets.ensures ∙ not-true w.meets.result (sym w.value-is ∙ c.if-not-meets.true)) c.is_possible.ensures.possible
   | else-is_piece w ↦ absurd (both_ways c.is_piece.result w.if-is_piece.false (sym w.value-is ∙ c.if-not-meets.true))
 ]
 
-pub returns-else-not-meets : goal.returns-else-not-meets
-returns-else-not-meets c = λ earlier over. (
+pub returns-else-not-meets-clause-good : goal.returns-else-not-meets-clause-good
+returns-else-not-meets-clause-good c = λ earlier over. (
   λ e. absurd (both_ways c.if-is_piece.value c.if-not-meets.false e),
   λ good. elim c.if-is_piece.branch [
     | then-is_piece w ↦ absurd (not_good c.args.plan.now earlier c.args.cells.now c.args.slip.now over (sym w.meets.ensures ∙ not-false w.meets.result (sym w.value-is ∙ c.if-not-meets.false)) good)

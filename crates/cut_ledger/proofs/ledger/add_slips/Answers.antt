@@ -3,18 +3,18 @@ use Rattle.std.proofs.Common.{◌≡◌, ℕ, ◌+◌, ◌-◌, ◌<◌, List, l
 use Rattle.std.proofs.lemmas.List.{get_or_default, take_more}
 use Rattle.cut_ledger.proofs.Words.{AreGoodUpTo, AreOver, IsGood, Slip}
 use Rattle.cut_ledger.proofs.CellLemmas.{piece_facts}
-use Rattle.cut_ledger.proofs.SlipLemmas.{good_more, over_more, overlaps_is, possible_few}
+use Rattle.cut_ledger.proofs.SlipLemmas.{good_more, over_more, overlaps_is}
 use Rattle.cut_ledger.proofs.ledger.add_slips.Goals as goal
 
 abbrev no_slip : Slip
-no_slip = record { piece = record { first = 0; count = 0 }; totals = record { receivers = 0; conflicts = 0; silent = 0; extra = 0; votes = 0; decided = 0; right = 0 } }
+no_slip = record { piece = record { first = 0; count = 0 }; totals = record { receivers = 0; conflicts = 0; silent = 0; extra = 0; votes = 0; decided = 0; right = 0; settled = 0 } }
 
 pub returns-then-not-is_good-clause-err : goal.returns-then-not-is_good-clause-err
 returns-then-not-is_good-clause-err c =
     let v = c.args.plan.now in
     let slips : List Slip = c.args.slips.now in
     let at : c.loop-i.i + 1 - 1 ≡ c.loop-i.i = omega arith in
-    let bad = c.if-not-is_good.ensures (take c.loop-i.i slips) c.loop-i.invariant.over in
+    let bad = c.if-not-is_good.ensures.good (take c.loop-i.i slips) c.loop-i.invariant.over in
     record {
       numbered = omega arith;
       within = omega arith;
@@ -28,22 +28,16 @@ returns-then-not-is_good-clause-err c =
 
 pub add-requires-clause-piece : goal.add-requires-clause-piece
 add-requires-clause-piece c =
-    let good = (c.if-not-is_good.ensures (take c.loop-i.i c.args.slips.now) c.loop-i.invariant.over).0 refl in
+    let good = (c.if-not-is_good.ensures.good (take c.loop-i.i c.args.slips.now) c.loop-i.invariant.over).0 refl in
     good.piece
 
 pub add-requires-clause-apart : goal.add-requires-clause-apart
 add-requires-clause-apart c =
     let v = c.args.plan.now in
     let over = c.loop-i.invariant.over in
-    let good = (c.if-not-is_good.ensures (take c.loop-i.i c.args.slips.now) over).0 refl in
+    let good = (c.if-not-is_good.ensures.good (take c.loop-i.i c.args.slips.now) over).0 refl in
     let s : Slip = get_or c.args.slips.now c.loop-i.i no_slip in
     sym (overlaps_is v (take c.loop-i.i c.args.slips.now) c.loop-i.cells s.piece _ over (piece_facts v s.piece over.kept.plan good.piece)) ∙ good.apart
-
-pub add-requires-clause-few : goal.add-requires-clause-few
-add-requires-clause-few c =
-    let over = c.loop-i.invariant.over in
-    let good = (c.if-not-is_good.ensures (take c.loop-i.i c.args.slips.now) over).0 refl in
-    possible_few c.args.plan.now (get_or c.args.slips.now c.loop-i.i no_slip) over.kept.plan good.possible
 
 pub loop-i-preserved : goal.loop-i-preserved
 loop-i-preserved c =
@@ -51,9 +45,9 @@ loop-i-preserved c =
     let slips : List Slip = c.args.slips.now in
     let i : ℕ = c.loop-i.i in
     let over = c.loop-i.invariant.over in
-    let good = (c.if-not-is_good.ensures (take i slips) over).0 refl in
+    let good = (c.if-not-is_good.ensures.good (take i slips) over).0 refl in
     let within : i < length slips = omega arith in
     record {
-      over = subst (λ ss. AreOver v ss c.add.new.cells) (sym (take_more slips i no_slip within)) (over_more v (take i slips) c.loop-i.cells c.add.new.cells (get_or slips i no_slip) over good c.in_ok-add.ensures.ok);
+      over = subst (λ ss. AreOver v ss c.add.new.cells) (sym (take_more slips i no_slip within)) (over_more v (take i slips) c.loop-i.cells c.add.new.cells (get_or slips i no_slip) over good (c.if-not-is_good.ensures.few refl) c.in_ok-add.ensures.ok);
       good = good_more v slips i no_slip within c.loop-i.invariant.good good;
     }

@@ -26,7 +26,7 @@ returns-in_err-sent-clause-told g c =
     let line : List ℕ = c.header.result.now in
     λ told. subst (λ (x : Result ℕ EmitFault). Emits (table_over v base) x old new) (sym p.1)
     (rw p.2 (cut_off (table_over v base) [] line (behind v base 0) 0 c.in_err-sent.field-0.0 old old new
-    (header_first v base line c.header.ensures) (omega arith)
+    (header_first v base line c.header.ensures.names) (omega arith)
     c.in_err-sent.ensures.err (wrote_none old) (c.in_err-sent.ensures.told told)))
 
 pub returns-in_err-sent-clause-ended : goal.returns-in_err-sent-clause-ended
@@ -37,7 +37,7 @@ returns-in_err-sent-clause-ended g c =
     let line : List ℕ = c.header.result.now in
     subst (λ (x : Result ℕ EmitFault). IsEmitted (table_over v base) x) (sym p.1)
     (rw p.2 (cut_short (table_over v base) [] line (behind v base 0) 0 c.in_err-sent.field-0.0
-    (header_first v base line c.header.ensures) (omega arith) c.in_err-sent.ensures.err))
+    (header_first v base line c.header.ensures.names) (omega arith) c.in_err-sent.ensures.err))
 
 -- ---- a line did not come
 

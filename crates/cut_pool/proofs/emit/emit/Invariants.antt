@@ -8,7 +8,7 @@ use Rattle.cut_pool.proofs.emit.emit.Given as goal
 abbrev pub invariant-loop-cell : goal.invariant-loop-cell
 invariant-loop-cell g l = record {
   count : l.sent ≡ length (front_of l.opened.plan l.opened.base l.cell);
-  few : l.sent ≤ 72 + 273 * l.cell;
+  few : l.sent ≤ 80 + 294 * l.cell;
   told : g.W.Wire.tells l.fn.wire → g.W.Wire.traffic l.wire ≡ wrote (g.W.Wire.traffic l.fn.wire)
       (front_of l.opened.plan l.opened.base l.cell);
   tells : g.W.Wire.tells l.fn.wire ↔ g.W.Wire.tells l.wire;

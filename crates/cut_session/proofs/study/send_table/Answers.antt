@@ -15,7 +15,7 @@ returns-in-Err-clause-told g c = λ told.
     let old : Traffic = g.W.Wire.traffic c.args.wire.now in
     let new : Traffic = g.W.Wire.traffic c.send_after.new.wire in
     cut_rows plan base 0 c.args.before c.in-Err.part old new (omega arith)
-    (first_rows plan base c.args.before (Err c.in-Err.part) c.header.result.now old new c.header.ensures tt
+    (first_rows plan base c.args.before (Err c.in-Err.part) c.header.result.now old new c.header.ensures.names tt
     c.in-Err.ensures.err (c.in-Err.ensures.told told))
 
 pub returns-in-Err-line_of-clause-told : goal.returns-in-Err-line_of-clause-told
@@ -51,13 +51,12 @@ pub loop-cell-init : goal.loop-cell-init
 loop-cell-init g c =
     let plan : Values = c.args.opened.now.plan in
     let base : List Slip = c.args.opened.now.base in
-    let size : length c.header.result.now ≡ 72 = ap (λ (l : List ℕ). length l) c.header.ensures in
     record {
       count = c.in-Ok.ensures.ok
-          ∙ ap (λ k. c.args.before + k) (sym (long_first plan base c.header.result.now c.header.ensures));
-      few = omega (arith, c.in-Ok.ensures.ok, size);
+          ∙ ap (λ k. c.args.before + k) (sym (long_first plan base c.header.result.now c.header.ensures.names));
+      few = omega (arith, c.in-Ok.ensures.ok, c.header.ensures.short);
       told = λ told. (first_rows plan base c.args.before (Ok c.in-Ok.sent) c.header.result.now
-          (g.W.Wire.traffic c.args.wire.now) (g.W.Wire.traffic c.send_after.new.wire) c.header.ensures
+          (g.W.Wire.traffic c.args.wire.now) (g.W.Wire.traffic c.send_after.new.wire) c.header.ensures.names
           c.in-Ok.ensures.ok tt (c.in-Ok.ensures.told told)).took;
       own = refl;
       view = refl;
@@ -72,7 +71,7 @@ loop-cell-preserved g c =
     let n : ℕ = c.loop-cell.cell in
     let line : List ℕ = c.as_slice.result.now in
     let is : line ≡ full_line plan base n = c.as_slice.ensures.value ∙ c.in-Ok-line_of.ensures.line in
-    let short : length line ≤ 273 =
+    let short : length line ≤ 294 =
     omega (arith, c.in-Ok-line_of.ensures.short, ap (λ (l : List ℕ). length l) c.as_slice.ensures.value) in
     record {
       count = omega (

@@ -8,7 +8,7 @@ use Rattle.cut_session.proofs.study.send_table.Given as goal
 abbrev pub invariant-loop-cell : goal.invariant-loop-cell
 invariant-loop-cell g l = record {
   count : l.sent ≡ l.fn.before + length (rows_to l.opened.plan l.opened.base l.cell);
-  few : l.sent ≤ l.fn.before + 77 + 278 * l.cell;
+  few : l.sent ≤ l.fn.before + 85 + 299 * l.cell;
   told : g.W.Wire.tells l.fn.wire → g.W.Wire.traffic l.wire ≡ wrote (g.W.Wire.traffic l.fn.wire)
       (rows_to l.opened.plan l.opened.base l.cell);
   own : l.pass.hall ≡ l.fn.pass.hall;

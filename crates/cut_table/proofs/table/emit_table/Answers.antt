@@ -5,6 +5,7 @@ use Rattle.std.proofs.lemmas.Bool.{cases_lt}
 use Rattle.std.proofs.lemmas.Result.{err_from_is_err_and}
 use Rattle.cut_plan.specs.Values.{Values}
 use Rattle.cut_plan.specs.Cells.{cells_of}
+use Rattle.cut_plan.specs.Versions.{version_of}
 use Rattle.cut_lines.specs.Lines.{header}
 use Rattle.cut_ledger.specs.Contents.{Contents, cell_done}
 use Rattle.cut_ledger.specs.Machine.{available}
@@ -24,10 +25,10 @@ one_more_done l n before here k below = elim (cases_lt k n) [
 ]
 
 -- the header is in front of the lines
-header_first : (l : Contents) (line : List ℕ) → line ≡ header → available l ≡ ([] ++ line) ++ behind l 0
+header_first : (l : Contents) (line : List ℕ) → line ≡ header (version_of l.plan.failing) → available l ≡ ([] ++ line) ++ behind l 0
 header_first l line is =
     available_splits l 0 (omega arith) (λ k low. absurd (omega (arith, low)))
-    ∙ ap (λ xs. xs ++ behind l 0) (append-nil header ∙ sym is)
+    ∙ ap (λ xs. xs ++ behind l 0) (append-nil (header (version_of l.plan.failing)) ∙ sym is)
 
 pub returns-in_err-sent-clause-told : goal.returns-in_err-sent-clause-told
 returns-in_err-sent-clause-told g c =
@@ -36,7 +37,7 @@ returns-in_err-sent-clause-told g c =
     let new : Traffic = g.W.Wire.traffic c.send_after.new.wire in
     let p = err_from_is_err_and c.from_residual.result c.from_residual.ensures.1 in
     let line : List ℕ = c.header.result.now in
-    let whole = header_first l line c.header.ensures in
+    let whole = header_first l line (c.header.ensures.names ∙ ap (λ (v : Values). header (version_of v.failing)) c.plan.ensures.value) in
     λ told. subst (λ (x : Result ⊤ TableFault). Emits l x old new) (sym p.1)
     (rw p.2 (cut_off l [] line (behind l 0) 0 c.in_err-sent.field-0.0 old old new whole (omega arith)
     c.in_err-sent.ensures.err (wrote_none old) (c.in_err-sent.ensures.told told)))
@@ -46,7 +47,7 @@ returns-in_err-sent-clause-ended g c =
     let l : Contents = c.args.ledger.now.contents in
     let p = err_from_is_err_and c.from_residual.result c.from_residual.ensures.1 in
     let line : List ℕ = c.header.result.now in
-    let whole = header_first l line c.header.ensures in
+    let whole = header_first l line (c.header.ensures.names ∙ ap (λ (v : Values). header (version_of v.failing)) c.plan.ensures.value) in
     subst (λ (x : Result ⊤ TableFault). IsEnded l x) (sym p.1)
     (rw p.2 (cut_short l [] line (behind l 0) 0 c.in_err-sent.field-0.0 whole
     (omega arith) c.in_err-sent.ensures.err))
@@ -61,7 +62,7 @@ returns-in-Err-NotDone-clause-told g c =
       arith,
       c.loop-cell-test.true,
       c.cells-cell-end.ensures.value,
-      ap (λ (v : Values). length (cells_of v)) c.plan.ensures.value,
+      ap (λ (v : Values). length (cells_of v)) c.plan-2.ensures.value,
     ) in
     λ told. c.loop-cell.invariant.told told
     ∙ ap (λ (xs : List ℕ). wrote (g.W.Wire.traffic c.args.wire.now) xs)
@@ -76,7 +77,7 @@ returns-in-Err-Memory-clause-told g c =
       arith,
       c.loop-cell-test.true,
       c.cells-cell-end.ensures.value,
-      ap (λ (v : Values). length (cells_of v)) c.plan.ensures.value,
+      ap (λ (v : Values). length (cells_of v)) c.plan-2.ensures.value,
     ) in
     let whole = available_splits l n (omega (arith, low)) c.loop-cell.invariant.done in
     λ told. c.loop-cell.invariant.told told
@@ -93,7 +94,7 @@ returns-in-Err-Memory-clause-ended g c =
       arith,
       c.loop-cell-test.true,
       c.cells-cell-end.ensures.value,
-      ap (λ (v : Values). length (cells_of v)) c.plan.ensures.value,
+      ap (λ (v : Values). length (cells_of v)) c.plan-2.ensures.value,
     ) in
     let whole = available_splits l n (omega (arith, low)) c.loop-cell.invariant.done in
     omega (
@@ -125,7 +126,7 @@ returns-in_err-sent-2-clause-told g c =
       arith,
       c.loop-cell-test.true,
       c.cells-cell-end.ensures.value,
-      ap (λ (v : Values). length (cells_of v)) c.plan.ensures.value,
+      ap (λ (v : Values). length (cells_of v)) c.plan-2.ensures.value,
     ) in
     let whole = line_next l n line low c.loop-cell.invariant.done c.in-Ok.ensures.done
     (c.as_slice.ensures.value ∙ c.in-Ok.ensures.ok) in
@@ -147,7 +148,7 @@ returns-in_err-sent-2-clause-ended g c =
       arith,
       c.loop-cell-test.true,
       c.cells-cell-end.ensures.value,
-      ap (λ (v : Values). length (cells_of v)) c.plan.ensures.value,
+      ap (λ (v : Values). length (cells_of v)) c.plan-2.ensures.value,
     ) in
     let whole = line_next l n line low c.loop-cell.invariant.done c.in-Ok.ensures.done
     (c.as_slice.ensures.value ∙ c.in-Ok.ensures.ok) in
@@ -200,7 +201,7 @@ returns-clause-told g c =
       c.loop-cell-test.false,
       c.loop-cell.auto.cell-end,
       c.cells-cell-end.ensures.value,
-      ap (λ (v : Values). length (cells_of v)) c.plan.ensures.value,
+      ap (λ (v : Values). length (cells_of v)) c.plan-2.ensures.value,
     ) in
     λ told. c.loop-cell.invariant.told told
     ∙ ap (λ (xs : List ℕ). wrote (g.W.Wire.traffic c.args.wire.now) xs)

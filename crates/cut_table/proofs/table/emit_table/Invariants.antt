@@ -10,7 +10,7 @@ abbrev pub invariant-loop-cell : goal.invariant-loop-cell
 invariant-loop-cell g l = record {
   done : (k : ℕ) → k < l.cell → cell_done l.ledger.contents k ≡ true;
   count : l.sent ≡ length (front_of l.ledger.contents l.cell);
-  few : l.sent ≤ 72 + 273 * l.cell;
+  few : l.sent ≤ 80 + 294 * l.cell;
   told : g.W.Wire.tells l.fn.wire → g.W.Wire.traffic l.wire ≡ wrote (g.W.Wire.traffic l.fn.wire)
       (front_of l.ledger.contents l.cell);
   tells : g.W.Wire.tells l.fn.wire ↔ g.W.Wire.tells l.wire;

@@ -3,7 +3,7 @@ use Rattle.std.specs.Int.{to_be_bytes}
 use Rattle.sha2.specs.Sha256.{sha256}
 use Rattle.cut_plan.specs.Values.{Values}
 use Rattle.cut_plan.specs.Canonical.{canonical_text}
-use Rattle.cut_journal.specs.File.{open_gate, header_of, header_digest, front_of}
+use Rattle.cut_journal.specs.File.{open_gate, magic_of, header_of, header_digest, front_of}
 use Rattle.cut_journal.proofs.Fronts.{header_made, digest_made, front_made, long_front}
 use Rattle.cut_journal.proofs.file.Study.of.Goals as goal
 
@@ -15,7 +15,7 @@ invariant_of-result c =
     let header : c.extend_from_slice-3.new.self.items ≡ open_gate ∷ header_of v =
     header_made v c.in_ok-front.front.items c.push.new.self.items c.extend_from_slice.new.self.items c.extend_from_slice-2.new.self.items c.extend_from_slice-3.new.self.items
     c.in_ok-front.ensures.items c.in_ok-push.ensures.items
-    (c.in_ok-extend_from_slice.ensures.items ∙ ap (λ (l : List ℕ). c.push.new.self.items ++ l) c.as_slice-2.ensures)
+    (c.in_ok-extend_from_slice.ensures.items ∙ ap (λ (l : List ℕ). c.push.new.self.items ++ l) (c.as_slice-2.ensures ∙ c.magic_of.ensures ∙ ap magic_of c.version.ensures.value))
     (c.in_ok-extend_from_slice-2.ensures.items ∙ ap (λ (l : List ℕ). c.extend_from_slice.new.self.items ++ l) (c.as_slice-3.ensures ∙ c.to_be_bytes.ensures ∙ ap (to_be_bytes w32) size))
     (c.in_ok-extend_from_slice-3.ensures.items ∙ ap (λ (l : List ℕ). c.extend_from_slice-2.new.self.items ++ l) (c.as_slice-4.ensures.value ∙ c.in_ok-text.ensures.text)) in
     let digest : c.digest_of-digest.result ≡ header_digest v = digest_made v c.extend_from_slice-3.new.self.items c.digest_of-digest.result header

@@ -3,6 +3,7 @@ use Rattle.cut_ledger.specs.declared.slip.Slip.{Slip}
 use Rattle.cut_ledger.specs.Machine.{slip_of}
 use Rattle.cut_journal.specs.Journal.{kept_slips, IsSound}
 use Rattle.cut_journal.proofs.Appends.{sound_stays, added, failed_sound, all_read}
+use Rattle.cut_journal.proofs.Gates.{gate_next, gate_far}
 use Rattle.cut_journal.proofs.journal.Journal.append.Goals as goal
 
 none_of : (o : Option Slip) → is_some o ≡ false → o ≡ None
@@ -17,11 +18,14 @@ pub returns-then-not-same-clause-moments : goal.returns-then-not-same-clause-mom
 returns-then-not-same-clause-moments g c = rw (← c.self.view_is) (λ honest.
     sound_stays c.self.inside.study c.self.inside.gate.number c.self.inside.doubtful (slip_of c.args.offered.now) (g.D.Disk.state c.self.inside.disk) (g.D.Disk.state c.self.inside.disk) refl (c.self.invariant.2 honest))
 
+pub overflow_add-self : goal.overflow_add-self
+overflow_add-self g c = omega (arith, gate_far c.self.inside.study c.self.inside.gate.number, c.self.invariant.0, c.self.invariant.1)
+
 pub invariant_of-self : goal.invariant_of-self
 invariant_of-self g c =
     let none : c.self.inside.doubtful ≡ None = none_of c.self.inside.doubtful (search rules) in (
-      omega (arith, c.self.invariant.0),
-      omega (arith, c.in-Ok.ensures.bound),
+      omega (arith, c.self.invariant.0, gate_next c.self.inside.study c.self.inside.gate.number, c.slip_length.ensures.value),
+      omega (arith, c.in-Ok.ensures.bound, c.slip_length.ensures.value),
       λ honest. (let before = c.keep.ensures.honest.1 honest in
           let sound : IsSound c.self.inside.study c.self.inside.gate.number None (g.D.Disk.state c.self.inside.disk) =
           subst (λ (o : Option Slip). IsSound c.self.inside.study c.self.inside.gate.number o (g.D.Disk.state c.self.inside.disk)) none (c.self.invariant.2 before) in

@@ -1,6 +1,7 @@
 use Rattle.std.proofs.Common.{◌≡◌, ◌∙◌, ◌≤◌, ◌-◌, ℕ, List, sym, ap, subst, arith}
 use Rattle.cut_ledger.specs.declared.fault.LedgerFault.TheVariants.{BadSlip}
-use Rattle.cut_ledger.proofs.Words.{AreGood, IsFirstBad, IsToldOf, Slip, State, Values, each_number}
+use Rattle.cut_ledger.proofs.Words.{AllByRecursion, AreGood, Contents, IsFirstBad, IsToldOf, IsTrueSlip, Slip}
+use Rattle.cut_ledger.proofs.Words.{State, Values, each_number}
 use Rattle.cut_ledger.proofs.Words.{pieces_of_slips, slips_found, state_of, times_in}
 use Rattle.cut_ledger.proofs.Events.{found}
 use Rattle.cut_ledger.proofs.TrueSlips.{true_are_good}
@@ -15,6 +16,16 @@ open-requires-clause-apart c =
     let good = found s.ledger.plan s.ledger s.has_journal s.kept s.doubtful c.args.keep c.self.invariant.kept c.self.invariant.apart c.self.invariant.doubtful in
     let slips : c.in_ok-slips.slips.items ≡ slips_found s c.args.keep = c.in_ok-slips.ensures ∙ ap (λ (x : State). slips_found x c.args.keep) (sym c.self.view_is) in
     subst (λ (ss : List Slip). (t : ℕ) → times_in (pieces_of_slips ss) t ≤ 1) (sym slips) good.1
+
+pub open-requires-clause-kept : goal.open-requires-clause-kept
+open-requires-clause-kept c =
+    let s : State = state_of c.self.inside in
+    let good = found s.ledger.plan s.ledger s.has_journal s.kept s.doubtful c.args.keep c.self.invariant.kept c.self.invariant.apart c.self.invariant.doubtful in
+    let slips : c.in_ok-slips.slips.items ≡ slips_found s c.args.keep = c.in_ok-slips.ensures ∙ ap (λ (x : State). slips_found x c.args.keep) (sym c.self.view_is) in
+    let plan : c.in-Ok.ledger.contents.plan ≡ s.ledger.plan =
+    ap (λ (l : Contents). l.plan) c.in-Ok.ensures.ok ∙ c.in_ok-plan.ensures.value ∙ c.plan.ensures.value in
+    subst (λ (v : Values). AllByRecursion (IsTrueSlip v) c.in_ok-slips.slips.items) (sym plan)
+    (subst (λ (ss : List Slip). AllByRecursion (IsTrueSlip s.ledger.plan) ss) (sym slips) good.0)
 
 pub unreachable-requires : goal.unreachable-requires
 unreachable-requires c =

@@ -1,0 +1,244 @@
+-- What a migration has moved, slip by slip, and what each crash of it leaves.
+use Rattle.std.proofs.Common.{◌≡◌, ◌∙◌, ◌≤◌, ◌<◌, ◌+◌, ◌-◌, ◌++◌, inl, inr, ℕ, List, [], ◌∷◌, Result, Ok, Err, Option, Some, None, map, take, get_or, length, unwrap_or, refl, sym, ap, subst, arith, append-nil, append_assoc}
+use Rattle.std.specs.Bool.{⊤}
+use Rattle.std.specs.Prelude.{IsSome, IsErrOf, ◌↔◌, ◌⊎◌, slice_get, slice_index_or}
+use Rattle.std.proofs.Math.Nat.{eq-or-lt_of_le, eq-zero-or-pos}
+use Rattle.std.proofs.lemmas.List.{map_more}
+use Rattle.std.proofs.lemmas.Option.{get_or_from_slice_get, slice_get_within}
+use Rattle.cut_plan.specs.Targets.{upgraded}
+use Rattle.cut_plan.specs.Values.{Values}
+use Rattle.cut_trial.specs.Computed.{Computed}
+use Rattle.cut_disks.specs.State.{DiskState, Throughout}
+use Rattle.cut_ledger.specs.declared.slip.Slip.{Slip}
+use Rattle.cut_ledger.specs.Machine.{slip_of}
+use Rattle.cut_ledger.specs.World.{IsTrueSlip}
+use Rattle.cut_journal.specs.declared.fault.JournalFault.{JournalFault}
+use Rattle.cut_journal.specs.declared.fault.JournalFault.TheVariants as journal
+use Rattle.cut_journal.specs.declared.migrate_fault.MigrateFault.{MigrateFault}
+use Rattle.cut_journal.specs.declared.migrate_fault.MigrateFault.TheVariants.{Memory, NotVersion1, BadSlip, OtherPlan, Disagrees, Broken, Disk}
+use Rattle.cut_journal.specs.Journal.{Log, ReadsAs, IsAppendFault, IsSound, Leaves, disk_faults, kept_slips}
+use Rattle.cut_journal.specs.Migration.{moved, first_moved, fault_of, moving_faults, AreTrueUpTo, CanMove, Ends, HasMoved, IsPartMoved, MovesOne}
+use Rattle.cut_journal.specs.Reading.{reading}
+use Rattle.cut_journal.proofs.Moments.{stays, weaker, and_then}
+
+-- ---- one slip
+
+-- what an append of a result for the upgrade keeps is the slip, moved
+pub moved_is : (v up : Values) (s : Slip) (r : Computed) → up ≡ upgraded v → r ≡ record { plan = up; piece = s.piece }
+    → slip_of r ≡ moved v s
+moved_is v up s r upgrade is =
+    ap (λ (x : Computed). slip_of x) is
+    ∙ ap (λ (w : Values). slip_of (record { plan = w; piece = s.piece })) upgrade
+
+none_of : (o : Option Slip) → (IsSome o → ⊥) → o ≡ None
+none_of None never = refl
+none_of (Some s) never = absurd (never refl)
+
+-- an append that failed ends the move of a slip that is true
+pub append_failed : {D : Type 0} (e : JournalFault) (v : Values) (number : ℕ) (s slip : Slip) (old new : Log D)
+    → IsAppendFault e → (IsErrOf {T = ℕ} (Err e) journal.OtherPlan → ⊥)
+    → (IsErrOf {T = ℕ} (Err e) journal.Broken ↔ IsSome old.doubtful)
+    → Leaves (Err e) slip old new → slip ≡ moved v s → IsTrueSlip v s
+    → MovesOne {T = ⊤} (Err (fault_of e)) v number s old new
+append_failed journal.Memory v number s slip old new may other broken left is holds = absurd may
+append_failed journal.Disk v number s slip old new may other broken left is holds =
+    (holds, left.0, left.1, none_of old.doubtful (λ some. cc (broken.1 some)), left.2 ∙ ap (λ (x : Slip). Some x) is)
+append_failed journal.Broken v number s slip old new may other broken left is holds = (holds, broken.0 refl, left)
+append_failed journal.NoStudy v number s slip old new may other broken left is holds = absurd may
+append_failed journal.OtherPlan v number s slip old new may other broken left is holds = absurd (other refl)
+append_failed (journal.Damaged n) v number s slip old new may other broken left is holds = absurd may
+append_failed journal.Held v number s slip old new may other broken left is holds = absurd may
+
+-- and it is a call of the disk that failed exactly where it is told so
+pub failed_calls : (e : JournalFault) (n : ℕ) → IsAppendFault e → (e ≡ journal.OtherPlan → ⊥)
+    → disk_faults {T = ℕ} (Err e) n ≡ moving_faults {T = ⊤} (Err (fault_of e)) n
+failed_calls journal.Memory n may other = absurd may
+failed_calls journal.Disk n may other = refl
+failed_calls journal.Broken n may other = refl
+failed_calls journal.NoStudy n may other = absurd may
+failed_calls journal.OtherPlan n may other = absurd (other refl)
+failed_calls (journal.Damaged k) n may other = absurd may
+failed_calls journal.Held n may other = absurd may
+
+-- ---- one slip after another
+
+-- with one slip more
+pub first_more : (v : Values) (ss : List Slip) (n : ℕ) (s : Slip) → slice_get ss n ≡ Some s
+    → first_moved v ss (n + 1) ≡ first_moved v ss n ++ moved v s ∷ []
+first_more v ss n s at =
+    map_more (moved v) ss n s (slice_get_within ss n s at)
+    ∙ ap (λ (x : Slip). first_moved v ss n ++ moved v x ∷ []) (get_or_from_slice_get ss n s s at)
+
+pub none_moved : {D : Type 0} (v : Values) (ss : List Slip) (log : Log D) → HasMoved v ss 0 log log
+none_moved v ss log = record {
+  within = omega arith;
+  true = λ i d low. absurd (omega arith);
+  plan = refl;
+  count = omega arith;
+  taken = λ some. absurd (omega arith);
+  untouched = λ none. refl;
+}
+
+true_at : (v : Values) (ss : List Slip) (n : ℕ) (s : Slip) → slice_get ss n ≡ Some s → AreTrueUpTo v ss n → IsTrueSlip v s
+    → (i : ℕ) (d : Slip) → (i ≡ n) ⊎ (i < n) → IsTrueSlip v (slice_index_or ss i d)
+true_at v ss n s at before here i d (inl is) =
+    subst (λ (x : Slip). IsTrueSlip v x)
+    (sym (ap (λ k. slice_index_or ss k d) is ∙ get_or_from_slice_get ss n s d at)) here
+true_at v ss n s at before here i d (inr below) = before i d below
+
+pub true_more : (v : Values) (ss : List Slip) (n : ℕ) (s : Slip) → slice_get ss n ≡ Some s → AreTrueUpTo v ss n → IsTrueSlip v s
+    → AreTrueUpTo v ss (n + 1)
+true_more v ss n s at before here i d low = true_at v ss n s at before here i d (eq-or-lt_of_le (omega (arith, low)))
+
+pub moved_more : {D : Type 0} (v : Values) (ss : List Slip) (n number : ℕ) (s : Slip) (old mid new : Log D) → slice_get ss n ≡ Some s
+    → HasMoved v ss n old mid → mid.doubtful ≡ old.doubtful → MovesOne {T = ⊤} (Ok tt) v number s mid new → HasMoved v ss (n + 1) old new
+moved_more v ss n number s old mid new at before doubt one = record {
+  within = (let below = slice_get_within ss n s at in omega (arith, below));
+  true = true_more v ss n s at before.true one.0;
+  plan = one.1 ∙ before.plan;
+  count = (let c = before.count in let d = one.2 in omega (arith, c, d));
+  taken = λ some. sym doubt ∙ one.3;
+  untouched = λ none. absurd (omega arith);
+}
+
+-- ---- how it ends
+
+none_by : (n : ℕ) → (n ≡ 0) ⊎ (0 < n) → (1 ≤ n → ⊥) → n ≡ 0
+none_by n (inl none) never = none
+none_by n (inr some) never = absurd (never (omega (arith, some)))
+
+not_taken : {d : Slip} (n : ℕ) → (1 ≤ n → Some d ≡ None) → n ≡ 0
+not_taken n taken = none_by n (eq-zero-or-pos n) (λ m. cc (taken m))
+
+not_some : IsSome {T = Slip} None → ⊥
+not_some some = cc some
+
+none_before : {D : Type 0} (v : Values) (ss : List Slip) (n : ℕ) (old mid : Log D) → HasMoved v ss n old mid → IsSome old.doubtful
+    → n ≡ 0
+none_before v ss n old mid before some = none_by n (eq-zero-or-pos n) (λ m. not_some (subst (λ (o : Option Slip). IsSome o) (before.taken m) some))
+
+-- at a slip that is not moved, behind the first n
+pub stopped : {D : Type 0} (e : MigrateFault) (v : Values) (ss : List Slip) (n number : ℕ) (s : Slip) (old mid new : Log D)
+    → number ≡ n + 1 → CanMove v ss old → slice_get ss n ≡ Some s → HasMoved v ss n old mid → mid.doubtful ≡ old.doubtful
+    → MovesOne {T = ⊤} (Err e) v number s mid new → Ends (Err e) v ss old new
+stopped Memory v ss n number s old mid new is_number can at before doubt is = (
+  can.version,
+  inr (
+    can,
+    (
+      n,
+      (
+        subst (λ (l : Log _). HasMoved v ss n old l) (sym is) before,
+        ap (λ (l : Log _). l.doubtful) is ∙ doubt,
+      ),
+    ),
+  ),
+)
+stopped NotVersion1 v ss n number s old mid new is_number can at before doubt is = absurd is
+stopped (BadSlip k) v ss n number s old mid new is_number can at before doubt is = absurd is
+stopped OtherPlan v ss n number s old mid new is_number can at before doubt is = absurd is
+stopped (Disagrees k) v ss n number s old mid new is_number can at before doubt is =
+    let below = slice_get_within ss n s at in
+    let same : n ≡ k - 1 = (let j = is.0 in omega (arith, j, is_number)) in (
+      can,
+      record {
+        numbered = (let j = is.0 in omega (arith, j, is_number));
+        within = (let j = is.0 in omega (arith, j, is_number, below));
+        earlier = subst (λ m. AreTrueUpTo v ss m) same before.true;
+        untrue = λ d holds. is.1 (subst (λ (x : Slip). IsTrueSlip v x)
+            (ap (λ m. slice_index_or ss m d) (sym same) ∙ get_or_from_slice_get ss n s d at) holds);
+      },
+      subst (λ m. HasMoved v ss m old new) same (subst (λ (l : Log _). HasMoved v ss n old l) (sym is.2) before),
+      ap (λ (l : Log _). l.doubtful) is.2 ∙ doubt,
+    )
+stopped Broken v ss n number s old mid new is_number can at before doubt is =
+    let some : IsSome old.doubtful = subst (λ (o : Option Slip). IsSome o) doubt is.1 in
+    let none = none_before v ss n old mid before some in
+    let below = slice_get_within ss n s at in (
+      can,
+      (omega (arith, below)),
+      subst (λ m. AreTrueUpTo v ss m) (let z = none in omega (arith, z)) (true_more v ss n s at before.true is.0),
+      some,
+      is.2 ∙ before.untouched none,
+    )
+stopped Disk v ss n number s old mid new is_number can at before doubt is = (
+  can,
+  (
+    n,
+    record {
+      within = slice_get_within ss n s at;
+      true = true_more v ss n s at before.true is.0;
+      plan = is.1 ∙ before.plan;
+      count = is.2 ∙ before.count;
+      whole = sym doubt ∙ is.3;
+      doubtful = λ d. is.4 ∙ ap (λ (x : Slip). Some (moved v x)) (sym (get_or_from_slice_get ss n s d at));
+    },
+  ),
+)
+
+-- and the slips that are kept then are those of the first n
+pub kept_of : {D : Type 0} (v : Values) (ss : List Slip) (n m : ℕ) (old new : Log D) (before now : List Slip)
+    → new.count ≡ old.count + n → now ≡ before ++ first_moved v ss n → new.count ≡ old.count + m
+    → now ≡ before ++ first_moved v ss m
+kept_of v ss n m old new before now is kept other =
+    kept ∙ ap (λ k. before ++ first_moved v ss k) (let same : n ≡ m = omega (arith, is, other) in same)
+
+-- ---- what a crash leaves
+
+nothing_more : (v : Values) (ss : List Slip) (n : ℕ) (kept : List Slip) → n ≡ 0 → kept ++ first_moved v ss n ≡ kept
+nothing_more v ss n kept none = ap (λ k. kept ++ first_moved v ss k) none ∙ append-nil kept
+
+part_by : (v : Values) (ss : List Slip) (plan : Values) (kept : List Slip) (doubtful : Option Slip) (n : ℕ) (s other : Slip)
+    (bytes : List ℕ) → slice_get ss n ≡ Some s → (1 ≤ n → doubtful ≡ None)
+    → Some (unwrap_or doubtful (moved v s)) ≡ Some other
+    → reading plan bytes ≡ Ok ((kept ++ first_moved v ss n) ++ other ∷ []) → IsPartMoved v ss plan kept doubtful bytes
+part_by v ss plan kept None n s other bytes at taken is reads =
+    let same : moved v s ≡ other = cc is in
+    let more = ap (λ (l : List Slip). kept ++ l) (first_more v ss n s at) in
+    inr (
+      n + 1,
+      (
+        (let below = slice_get_within ss n s at in omega (arith, below)),
+        reads ∙ ap (λ (l : List Slip). Ok l)
+            (append_assoc kept (first_moved v ss n) (other ∷ [])
+            ∙ ap (λ (x : Slip). kept ++ (first_moved v ss n ++ x ∷ [])) (sym same) ∙ sym more),
+      ),
+    )
+part_by v ss plan kept (Some d) n s other bytes at taken is reads =
+    inl (inr (
+      other,
+      (
+        is,
+        reads ∙ ap (λ (l : List Slip). Ok (l ++ other ∷ []))
+            (nothing_more v ss n kept (not_taken n taken)),
+      ),
+    ))
+
+pub part_moved : (v : Values) (ss : List Slip) (plan : Values) (kept now : List Slip) (doubtful : Option Slip) (n : ℕ) (s : Slip)
+    (bytes : List ℕ) → slice_get ss n ≡ Some s → (1 ≤ n → doubtful ≡ None) → now ≡ kept ++ first_moved v ss n
+    → ReadsAs plan now (Some (unwrap_or doubtful (moved v s))) bytes → IsPartMoved v ss plan kept doubtful bytes
+part_moved v ss plan kept now doubtful n s bytes at taken are (inl reads) =
+    inr (n, ((let below = slice_get_within ss n s at in omega (arith, below)), reads ∙ ap (λ (l : List Slip). Ok l) are))
+part_moved v ss plan kept now doubtful n s bytes at taken are (inr (other, both)) =
+    part_by v ss plan kept doubtful n s other bytes at taken both.0
+    (both.1 ∙ ap (λ (l : List Slip). Ok (l ++ other ∷ [])) are)
+
+-- the moments of a migration with those of one slip more
+pub moments_more : (v : Values) (ss : List Slip) (plan held : Values) (kept now : List Slip) (doubtful doubt : Option Slip) (n : ℕ)
+    (s : Slip) (old mid new : DiskState) → slice_get ss n ≡ Some s → (1 ≤ n → doubtful ≡ None) → held ≡ plan
+    → doubt ≡ doubtful → now ≡ kept ++ first_moved v ss n → Throughout old mid (IsPartMoved v ss plan kept doubtful)
+    → Throughout mid new (ReadsAs held now (Some (unwrap_or doubt (moved v s))))
+    → Throughout old new (IsPartMoved v ss plan kept doubtful)
+moments_more v ss plan held kept now doubtful doubt n s old mid new at taken plan_is doubt_is are before one =
+    let step : Throughout mid new (ReadsAs plan now (Some (unwrap_or doubtful (moved v s)))) =
+    subst (λ (o : Option Slip). Throughout mid new (ReadsAs plan now (Some (unwrap_or o (moved v s))))) doubt_is
+    (subst (λ (w : Values). Throughout mid new (ReadsAs w now (Some (unwrap_or doubt (moved v s))))) plan_is one) in
+    and_then (IsPartMoved v ss plan kept doubtful) old mid new before
+    (weaker (ReadsAs plan now (Some (unwrap_or doubtful (moved v s)))) (IsPartMoved v ss plan kept doubtful)
+    (λ bytes reads. part_moved v ss plan kept now doubtful n s bytes at taken are reads) mid new step)
+
+-- a migration that does nothing
+pub nothing_moved : (v : Values) (ss : List Slip) (plan : Values) (count : ℕ) (doubtful : Option Slip) (d : DiskState)
+    → IsSound plan count doubtful d → Throughout d d (IsPartMoved v ss plan (kept_slips plan count d) doubtful)
+nothing_moved v ss plan count doubtful d sound =
+    stays (IsPartMoved v ss plan (kept_slips plan count d) doubtful) d d refl (λ image of. inl (sound.images image of))
