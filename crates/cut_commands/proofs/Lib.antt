@@ -3,3 +3,4 @@ pub mod InputLemmas
 pub mod StreamLemmas
 pub mod StudyLemmas
 pub mod AskLemmas
+pub mod MigrateLemmas

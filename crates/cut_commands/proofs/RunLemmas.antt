@@ -1,5 +1,5 @@
 -- How a command ends, by its parts.
-use Rattle.std.proofs.Common.{true, false, ◌≡◌, ◌++◌, ◌<◌, ℕ, List, [], Bool, Some, None, Result, Ok, Err, cond, length, take, refl, sym, subst, ap, ◌∙◌, append-nil, nat_lt, inl, inr}
+use Rattle.std.proofs.Common.{true, false, ◌≡◌, ◌++◌, ℕ, List, [], Bool, Some, None, Result, Ok, Err, cond, length, take, refl, sym, subst, ap, ◌∙◌, append-nil, nat_lt, inl, inr}
 use Rattle.std.specs.Bool.{⊤}
 use Rattle.std.specs.Str.{is_utf8}
 use Rattle.cut_plan.specs.Values.{Values}
@@ -9,7 +9,7 @@ use Rattle.cut_table.specs.Traffic.{Traffic, wrote}
 use Rattle.cut_commands.specs.Run.{Answers, Ends, FailsWith, GivesPlan, IsFront, IsReadThrough, Leaves, refused_at_sight}
 use Rattle.cut_commands.specs.Task.{Task}
 use Rattle.cut_commands.specs.declared.fault.CliFault.{CliFault}
-use Rattle.cut_commands.specs.declared.fault.CliFault.TheVariants.{Memory, Plan, Read, Socket, Asked, Write, Journal, Folder, BadSlip, Checkpoint, WorkMemory, AuditMismatch}
+use Rattle.cut_commands.specs.declared.fault.CliFault.TheVariants.{Memory, Plan, Read, Socket, Asked, Write, Journal, Folder, BadSlip, Migrate, Checkpoint, WorkMemory, AuditMismatch}
 
 -- ---- ending
 
@@ -77,6 +77,10 @@ ends_left task v (Err (BadSlip number)) old mid new r left =
     subst (λ (t : Traffic). Ends task old t (Err (BadSlip number))) (sym left.1)
     (nothing task v (Err (BadSlip number)) old mid r
     (λ text read through. (through, record { plan = v; read = read; fails = left.0 }, refl)))
+ends_left task v (Err (Migrate fault)) old mid new r left =
+    subst (λ (t : Traffic). Ends task old t (Err (Migrate fault))) (sym left.1)
+    (nothing task v (Err (Migrate fault)) old mid r
+    (λ text read through. (through, record { plan = v; read = read; fails = left.0 }, refl)))
 ends_left task v (Err WorkMemory) old mid new r left = elim left.1 [
   | inl same ↦ subst (λ (t : Traffic). Ends task old t (Err WorkMemory)) (sym same)
       (nothing task v (Err WorkMemory) old mid r
@@ -134,6 +138,7 @@ answers_as a b text (Err (Plan refusal)) written old new weak is = is
 answers_as a b text (Err Memory) written old new weak is = is
 answers_as a b text (Err (Journal fault)) written old new weak is = (is.0, fails_as a b text (Journal fault) weak is.1, is.2)
 answers_as a b text (Err (BadSlip number)) written old new weak is = (is.0, fails_as a b text (BadSlip number) weak is.1, is.2)
+answers_as a b text (Err (Migrate fault)) written old new weak is = (is.0, fails_as a b text (Migrate fault) weak is.1, is.2)
 answers_as a b text (Err WorkMemory) written old new weak is = (
   is.0,
   fails_as a b text WorkMemory weak is.1,

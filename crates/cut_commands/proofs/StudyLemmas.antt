@@ -14,7 +14,7 @@ use Rattle.cut_pool.specs.Running.{HasEnded, Takes, WroteFront}
 use Rattle.cut_pool.specs.declared.run_fault.RunFault.{RunFault}
 use Rattle.cut_pool.specs.declared.run_fault.RunFault.TheVariants as study
 use Rattle.cut_commands.specs.declared.fault.CliFault.{CliFault}
-use Rattle.cut_commands.specs.declared.fault.CliFault.TheVariants.{Memory, Plan, Read, Socket, Asked, Write, Journal, Folder, BadSlip, Checkpoint, WorkMemory, AuditMismatch}
+use Rattle.cut_commands.specs.declared.fault.CliFault.TheVariants.{Memory, Plan, Read, Socket, Asked, Write, Journal, Folder, BadSlip, Migrate, Checkpoint, WorkMemory, AuditMismatch}
 use Rattle.cut_commands.specs.Faults.{fault_of_study}
 use Rattle.cut_commands.specs.Run.{Leaves, LeavesFront}
 use Rattle.cut_commands.specs.Study.{BeginsWith, IsTrueStore, StudyTells, StudyFails, StoreFails, study_task, table_task, file_task}
@@ -96,6 +96,7 @@ module _ {D : Type 0} (is_honest : D → Type 0) (state : D → DiskState) where
   fails_true None v (Write sent) good none plan store is = is
   fails_true None v (Journal fault) good none plan store is = is
   fails_true None v (BadSlip number) good none plan store is = is
+  fails_true None v (Migrate fault) good none plan store is = is
   fails_true None v Checkpoint good none plan store is = is
   fails_true None v WorkMemory good none plan store is = is
   fails_true None v AuditMismatch good none plan store is = is
@@ -109,6 +110,7 @@ module _ {D : Type 0} (is_honest : D → Type 0) (state : D → DiskState) where
   fails_true (Some d) v (Journal fault) good none plan store is = (is.0, is.1 store.0)
   fails_true (Some d) v (BadSlip number) good none plan store is =
       none_bad v is.0 number (good v is.0 (begins_true (Some d) v is.0 none plan store is.1)) is.2
+  fails_true (Some d) v (Migrate fault) good none plan store is = is
   fails_true (Some d) v Checkpoint good none plan store is = is
   fails_true (Some d) v WorkMemory good none plan store is = is
   fails_true (Some d) v AuditMismatch good none plan store is = is
@@ -142,6 +144,7 @@ module _ {D : Type 0} (is_honest : D → Type 0) (state : D → DiskState) where
       fails v (Write sent) is = is
       fails v (Journal fault) is = is.0
       fails v (BadSlip number) is = (is.0, is.2)
+      fails v (Migrate fault) is = is
       fails v Checkpoint is = is
       fails v WorkMemory is = is
       fails v AuditMismatch is = is

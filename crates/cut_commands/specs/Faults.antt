@@ -13,10 +13,13 @@ use Rattle.cut_plan.specs.Refusals.{code_of_refusal, field_of_refusal}
 use Rattle.cut_journal.specs.declared.fault.JournalFault.{JournalFault}
 use Rattle.cut_journal.specs.declared.fault.JournalFault.TheVariants as journal
 use Rattle.cut_journal.specs.FaultCode as journal_codes
+use Rattle.cut_journal.specs.declared.migrate_fault.MigrateFault.{MigrateFault}
+use Rattle.cut_journal.specs.declared.migrate_fault.MigrateFault.TheVariants as migration
+use Rattle.cut_journal.specs.MigrateFaultCode as migrate_codes
 use Rattle.cut_commands.specs.declared.fault.CliFault.{CliFault}
 use Rattle.cut_pool.specs.declared.run_fault.RunFault.{RunFault}
 use Rattle.cut_pool.specs.declared.run_fault.RunFault.TheVariants as study
-use Rattle.cut_commands.specs.declared.fault.CliFault.TheVariants.{Memory, Plan, Read, Socket, Asked, Write, Journal, Folder, BadSlip, Checkpoint, WorkMemory, AuditMismatch}
+use Rattle.cut_commands.specs.declared.fault.CliFault.TheVariants.{Memory, Plan, Read, Socket, Asked, Write, Journal, Folder, BadSlip, Migrate, Checkpoint, WorkMemory, AuditMismatch}
 use Rattle.cut_session.specs.Asking.{output_failed}
 use Rattle.cut_session.specs.FaultCode.{number_of_ask}
 
@@ -31,6 +34,7 @@ number_of (Write sent) = codes_of.number_of code.Write
 number_of (Journal fault) = codes_of.number_of (journal_codes.code_of fault)
 number_of Folder = codes_of.number_of code.Disk
 number_of (BadSlip number) = codes_of.number_of code.BadSlip
+number_of (Migrate fault) = codes_of.number_of (migrate_codes.code_of fault)
 number_of Checkpoint = codes_of.number_of code.Checkpoint
 number_of WorkMemory = codes_of.number_of code.WorkMemory
 number_of AuditMismatch = codes_of.number_of code.AuditMismatch
@@ -63,6 +67,8 @@ carried_by (Plan refusal) = field_words (field_of_refusal refusal)
 carried_by (Write sent) = 32 ∷ decimal sent
 carried_by (Journal (journal.Damaged number)) = 32 ∷ decimal number
 carried_by (BadSlip number) = 32 ∷ decimal number
+carried_by (Migrate (migration.BadSlip number)) = 32 ∷ decimal number
+carried_by (Migrate (migration.Disagrees number)) = 32 ∷ decimal number
 carried_by fault = []
 
 -- what a fault says of itself: number, name, and what it carries
@@ -86,6 +92,11 @@ fault_of_plan (plan.Refused refusal) = Plan refusal
 abbrev pub fault_of_journal : JournalFault → CliFault
 fault_of_journal journal.Memory = Memory
 fault_of_journal fault = Journal fault
+
+-- the fault of the program where slips were not moved
+abbrev pub fault_of_migration : MigrateFault → CliFault
+fault_of_migration migration.Memory = Memory
+fault_of_migration fault = Migrate fault
 
 -- the fault of the program where a study was not run to its end
 abbrev pub fault_of_study : RunFault → CliFault

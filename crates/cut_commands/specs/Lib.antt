@@ -5,3 +5,4 @@ pub mod Task
 pub mod Study
 pub mod Run
 pub mod Ask
+pub mod Migrate

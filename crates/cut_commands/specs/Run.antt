@@ -12,7 +12,7 @@ use Rattle.cut_commands.specs.Check.{check_text}
 use Rattle.cut_commands.specs.Study.{file_task}
 use Rattle.cut_commands.specs.Task.{Task}
 use Rattle.cut_commands.specs.declared.fault.CliFault.{CliFault}
-use Rattle.cut_commands.specs.declared.fault.CliFault.TheVariants.{Memory, Plan, Read, Write, Journal, BadSlip, Checkpoint, WorkMemory, AuditMismatch}
+use Rattle.cut_commands.specs.declared.fault.CliFault.TheVariants.{Memory, Plan, Read, Write, Journal, BadSlip, Migrate, Checkpoint, WorkMemory, AuditMismatch}
 
 -- ---- reading
 
@@ -60,7 +60,7 @@ IsReadUnrefused text old new =
 
 -- what a command wrote, having read a text: all of its answer at Ok, and as many of its first bytes as are told
 -- where a write failed; nothing where a read failed, the text or its plan is refused, memory was wanting before
--- the plan was worked on, the checkpoint was not opened or a slip of it is bad; and some first bytes of its answer
+-- the plan was worked on, a checkpoint was not opened, a slip of it is bad or its slips were not all moved; and some first bytes of its answer
 -- where the checkpoint, memory or the audit stopped a study that had begun, or nothing where memory did so before
 abbrev pub Answers : Task → List ℕ → Result ⊤ CliFault → List ℕ → Traffic → Traffic → Type 0
 Answers task text (Ok done) written old new =
@@ -76,6 +76,8 @@ Answers task text (Err (Journal fault)) written old new =
     IsReadThrough 65537 text old new × FailsWith task text (Journal fault) × (written ≡ [])
 Answers task text (Err (BadSlip number)) written old new =
     IsReadThrough 65537 text old new × FailsWith task text (BadSlip number) × (written ≡ [])
+Answers task text (Err (Migrate fault)) written old new =
+    IsReadThrough 65537 text old new × FailsWith task text (Migrate fault) × (written ≡ [])
 Answers task text (Err WorkMemory) written old new =
     IsReadThrough 65537 text old new × FailsWith task text WorkMemory × ((written ≡ []) ⊎ IsFront task text written)
 Answers task text (Err Checkpoint) written old new =
@@ -143,6 +145,7 @@ Leaves task v (Err (Write sent)) old new =
 Leaves task v (Err Memory) old new = new ≡ old
 Leaves task v (Err (Journal fault)) old new = task.fails v (Journal fault) × (new ≡ old)
 Leaves task v (Err (BadSlip number)) old new = task.fails v (BadSlip number) × (new ≡ old)
+Leaves task v (Err (Migrate fault)) old new = task.fails v (Migrate fault) × (new ≡ old)
 Leaves task v (Err WorkMemory) old new = task.fails v WorkMemory × ((new ≡ old) ⊎ LeavesFront task v old new)
 Leaves task v (Err Checkpoint) old new = task.fails v Checkpoint × LeavesFront task v old new
 Leaves task v (Err AuditMismatch) old new = task.fails v AuditMismatch × LeavesFront task v old new

@@ -4,7 +4,7 @@ ghost use Rattle.cut_commands.specs.Faults.{code_of, name_of, number_of, status_
 
 use arrayvec::ArrayString;
 use cut_faults::{FaultCode, status_of_number};
-use cut_journal::JournalFault;
+use cut_journal::{JournalFault, MigrateFault};
 use cut_plan::{Field, PlanFault, Refusal};
 use cut_pool::RunFault;
 use cut_session::AskFault;
@@ -39,6 +39,8 @@ pub enum CliFault {
     Folder,
     /// The slip of this number in the checkpoint, from 1, is none of the plan.
     BadSlip(u64),
+    /// The slips of a checkpoint were not all moved to another one.
+    Migrate(MigrateFault),
     /// The checkpoint took no more.
     Checkpoint,
     /// A growth of memory was refused to a study that was run.
@@ -61,6 +63,7 @@ impl CliFault {
             CliFault::Journal(fault) => fault.code(),
             CliFault::Folder => FaultCode::Disk,
             CliFault::BadSlip(_) => FaultCode::BadSlip,
+            CliFault::Migrate(fault) => fault.code(),
             CliFault::Checkpoint => FaultCode::Checkpoint,
             CliFault::WorkMemory => FaultCode::WorkMemory,
             CliFault::AuditMismatch => FaultCode::AuditMismatch,
@@ -109,12 +112,14 @@ impl CliFault {
             CliFault::Plan(refusal) => push_field(&mut text, refusal.field()),
             CliFault::Write(number)
             | CliFault::BadSlip(number)
+            | CliFault::Migrate(MigrateFault::BadSlip(number) | MigrateFault::Disagrees(number))
             | CliFault::Journal(JournalFault::Damaged(number)) => push_number(&mut text, *number),
             CliFault::Memory
             | CliFault::Read
             | CliFault::Socket
             | CliFault::Asked(_)
             | CliFault::Journal(_)
+            | CliFault::Migrate(_)
             | CliFault::Folder
             | CliFault::Checkpoint
             | CliFault::WorkMemory
@@ -193,6 +198,20 @@ impl From<JournalFault> for CliFault {
         match fault {
             JournalFault::Memory => CliFault::Memory,
             fault => CliFault::Journal(fault),
+        }
+    }
+}
+
+impl From<MigrateFault> for CliFault {
+    ghost use Rattle.std.specs.Prelude.{◌≡◌};
+    ghost use Rattle.cut_commands.specs.Faults.{fault_of_migration};
+
+    ghost from_gives = { λ fault e. e ≡ fault_of_migration fault };
+
+    fn from(fault: MigrateFault) -> CliFault {
+        match fault {
+            MigrateFault::Memory => CliFault::Memory,
+            fault => CliFault::Migrate(fault),
         }
     }
 }

@@ -125,7 +125,7 @@ where
 }
 
 /// Reads a plan, whose first fault is the answer where there is one.
-fn read_plan<W: Wire>(alloc: Global, wire: &mut W) -> Result<Plan, CliFault>
+pub(crate) fn read_plan<W: Wire>(alloc: Global, wire: &mut W) -> Result<Plan, CliFault>
     ensures told { W.tells wire.old → GivesPlan result (W.traffic wire.old) (W.traffic wire.new) }
     ensures tells { W.tells wire.old ↔ W.tells wire.new }
     ensures faults { W.faults wire.new ≡ failed_calls result (W.faults wire.old) }
@@ -139,14 +139,19 @@ fn check_text(alloc: Global, plan: &Plan) -> Result<String, AllocError>
     ensures { IfOk result (λ text. string_bytes text ≡ check_text plan.now) }
 {
     let mut text = String::new(alloc);
-    push_line(alloc, &mut text, "cells", plan.cells())?;
-    push_line(alloc, &mut text, "trials", plan.trials())?;
-    push_line(alloc, &mut text, "quorum", u32::from(quorum(plan.nodes())))?;
+    push_line(alloc, &mut text, "cells", u64::from(plan.cells()))?;
+    push_line(alloc, &mut text, "trials", u64::from(plan.trials()))?;
+    push_line(alloc, &mut text, "quorum", u64::from(quorum(plan.nodes())))?;
     Ok(text)
 }
 
 /// Adds a word, a blank, a number in decimal and a line feed.
-fn push_line(alloc: Global, text: &mut String, word: &str, number: u32) -> Result<(), AllocError>
+pub(crate) fn push_line(
+    alloc: Global,
+    text: &mut String,
+    word: &str,
+    number: u64,
+) -> Result<(), AllocError>
     ensures { OnOk result (string_bytes text.new ≡ string_bytes text.old ++ number_line word.now number) }
 {
     let digits = number.to_string(alloc)?;

@@ -4,6 +4,8 @@
 mod asking;
 mod checkpoints;
 mod devices;
+mod migrating;
+mod mixed_studies;
 mod refusals;
 mod studies;
 mod tables;

@@ -2,11 +2,12 @@
 use Rattle.std.specs.Prelude.{Some, None, Result, ⊤}
 use Rattle.cut_table.specs.Traffic.{Traffic}
 use Rattle.cut_commands.specs.Ask.{EndsAsk}
+use Rattle.cut_commands.specs.Migrate.{EndsFiles}
 use Rattle.cut_commands.specs.Run.{Ends, EndsFile, check_task}
 use Rattle.cut_server.specs.Serve.{TellsReport}
 use Rattle.cut_commands.specs.Study.{plain_task}
 use Rattle.cutlab.specs.declared.line.Job.{Job}
-use Rattle.cutlab.specs.declared.line.Job.TheVariants.{Run, Check, Serve, Ask}
+use Rattle.cutlab.specs.declared.line.Job.TheVariants.{Run, Check, Serve, Ask, Migrate}
 use Rattle.cut_commands.specs.declared.fault.CliFault.{CliFault}
 
 -- how a job ends
@@ -16,3 +17,4 @@ EndsJob (Run piece workers (Some file)) old new result = EndsFile old new result
 EndsJob Check old new result = Ends check_task old new result
 EndsJob (Serve socket crew folder) old new result = TellsReport crew.studies result old new
 EndsJob (Ask socket) old new result = EndsAsk old new result
+EndsJob (Migrate from to) old new result = EndsFiles old new result

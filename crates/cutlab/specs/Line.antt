@@ -7,7 +7,7 @@ use Rattle.clap.specs.declared.error.kind.ErrorKind.{ErrorKind}
 use Rattle.clap.specs.declared.error.kind.ErrorKind.TheVariants.{DisplayHelp, DisplayVersion, MissingSubcommand, OutOfMemory}
 use Rattle.cut_server.specs.Serve.{IsStaffed}
 use Rattle.cutlab.specs.declared.line.Job.{Job}
-use Rattle.cutlab.specs.declared.line.Job.TheVariants.{Run, Check, Serve, Ask}
+use Rattle.cutlab.specs.declared.line.Job.TheVariants.{Run, Check, Serve, Ask, Migrate}
 
 -- the option `--piece`: a number from 1 to 1,000,000, which is 16 where it is not given
 abbrev pub piece_rule : Rule
@@ -51,6 +51,10 @@ crew_rule name = record (new_rule name) {
 abbrev pub folder_rule : Rule
 folder_rule = record (new_rule (codes "dir")) { long = Some (codes "dir"); value_names = 1 }
 
+-- a word that names the file of a checkpoint
+abbrev pub file_rule : Text → Rule
+file_rule name = record (new_rule name) { value_names = 1; required = true }
+
 -- the subcommands
 abbrev pub run_app : App
 run_app = with_rule (with_rule (with_rule (new_app (codes "run")) piece_rule) workers_rule) checkpoint_rule
@@ -66,11 +70,15 @@ serve_app =
 abbrev pub ask_app : App
 ask_app = with_rule (new_app (codes "ask")) socket_rule
 
+abbrev pub migrate_app : App
+migrate_app = with_rule (with_rule (new_app (codes "migrate")) (file_rule (codes "old"))) (file_rule (codes "new"))
+
 -- the program as clap sees it: it needs one of its subcommands, and without a word it shows its help
 unfoldable pub program_app : App
 program_app = let bare : App = new_app (codes "cutlab") in
     let asking : App = record bare { top = record bare.top { subcommand_required = true; arg_required_else_help = true } } in
-    with_subcommand (with_subcommand (with_subcommand (with_subcommand asking run_app.top) check_app.top) serve_app.top) ask_app.top
+    with_subcommand (with_subcommand (with_subcommand (with_subcommand (with_subcommand asking run_app.top) check_app.top) serve_app.top)
+    ask_app.top) migrate_app.top
 
 -- the number, from 1 to a greatest one, that a subcommand's matches give for an option
 pub record GivesNumber (option : Text) (most : ℕ) (rows : List Row) (n : ℕ) : Type 0 where
@@ -96,12 +104,17 @@ GivesCheckpoint rows file = first_of (codes "checkpoint") rows ≡ file
 abbrev pub GivesSocket : List Row → Text → Type 0
 GivesSocket rows path = first_of (codes "socket") rows ≡ Some path
 
+-- the file of a checkpoint that they give for a word
+abbrev pub GivesFile : Text → List Row → Text → Type 0
+GivesFile name rows path = first_of name rows ≡ Some path
+
 -- the subcommand of a job
 abbrev pub command_of : Job → Text
 command_of (Run piece workers file) = codes "run"
 command_of Check = codes "check"
 command_of (Serve socket crew folder) = codes "serve"
 command_of (Ask socket) = codes "ask"
+command_of (Migrate from to) = codes "migrate"
 
 -- the values of a job, by the matches of its subcommand
 abbrev pub Gives : List Row → Job → Type 0
@@ -113,6 +126,7 @@ Gives rows (Serve socket crew folder) =
     × GivesNumber (codes "sessions") 64 rows crew.sessions × GivesNumber (codes "studies") 64 rows crew.studies
     × (first_of (codes "dir") rows ≡ option_map (λ s. s.now) folder)
 Gives rows (Ask socket) = GivesSocket rows socket.now
+Gives rows (Migrate from to) = GivesFile (codes "old") rows from.now × GivesFile (codes "new") rows to.now
 
 -- the job of a subcommand, by its name and its matches
 abbrev pub IsJobOf : Option (Text × List Row) → Job → Type 0
@@ -156,3 +170,4 @@ IsSized (Run piece workers file) = (1 ≤ piece) × (piece ≤ 1000000) × (1 �
 IsSized Check = ⊤
 IsSized (Serve socket crew folder) = IsStaffed crew
 IsSized (Ask socket) = ⊤
+IsSized (Migrate from to) = ⊤

@@ -4,14 +4,14 @@ ghost use Rattle.cutlab.specs.Jobs.{EndsJob};
 ghost use Rattle.cutlab.specs.Line.{IsSized};
 
 use crate::Job;
-use cut_commands::{CliFault, ask_at, check_io, run_file, run_io};
+use cut_commands::{CliFault, ask_at, check_io, migrate_files, run_file, run_io};
 use cut_disks::FileDisk;
 use cut_server::serve_at;
 use cut_table::Wire;
 use std::sync::Wait;
 use std::thread::Threads;
 
-/// Does a job over a wire. The file of a checkpoint is opened by `host` before anything is read.
+/// Does a job over a wire. The files of checkpoints are opened by `host` before anything is read.
 pub(crate) fn answer<W, R>(
     host: &HostRuntime,
     rt: &R,
@@ -45,5 +45,6 @@ where
             folder,
         } => serve_at(host, rt, socket, crew, folder, wire),
         Job::Ask { socket } => ask_at(host, wire, socket),
+        Job::Migrate { old, new } => migrate_files(host, wire, old, new),
     }
 }

@@ -1,7 +1,7 @@
 ghost use Rattle.std.specs.Prelude.{◌≡◌, ◌≤◌, ℕ, [], codes, false, map, IfOk, IfErr, IfSome, IfNone};
 ghost use Rattle.clap.specs.Words.{app_of, fault_of, found_of, rows_of, rule_of, subcommand_rows_of, with_subcommand};
-ghost use Rattle.cutlab.specs.Line.{checkpoint_rule, piece_rule, socket_rule, workers_rule};
-ghost use Rattle.cutlab.specs.Line.{ask_app, check_app, crew_rule, folder_rule, program_app, run_app, serve_app, status_of_kind};
+ghost use Rattle.cutlab.specs.Line.{checkpoint_rule, file_rule, piece_rule, socket_rule, workers_rule};
+ghost use Rattle.cutlab.specs.Line.{ask_app, check_app, crew_rule, folder_rule, migrate_app, program_app, run_app, serve_app, status_of_kind};
 ghost use Rattle.cutlab.specs.Line.{EndsLine, GivesJob, GivesNumber, IsJobOf, IsSized, NamesJob};
 ghost use Rattle.cutlab.specs.declared.line.Job.{Job};
 
@@ -29,6 +29,9 @@ const SERVE_EXAMPLE: &str =
     "Example: cutlab serve cutlab.sock --workers 4 --sessions 2 --studies 2 --dir studies\ndocs/GUIDE.md tells more.";
 
 const ASK_EXAMPLE: &str = "Example: cutlab ask cutlab.sock < plan.json\ndocs/GUIDE.md tells more.";
+
+const MIGRATE_EXAMPLE: &str =
+    "Example: cutlab migrate study.cut study2.cut < plan.json\ndocs/GUIDE.md tells more.";
 
 /// How many workers, sessions and studies a server has at most, of each.
 const CREW_MOST: u32 = 64;
@@ -60,6 +63,13 @@ pub enum Job<'a> {
     Ask {
         /// The path of the server's socket.
         socket: &'a str,
+    },
+    /// Read a plan of version 1, move its study to a new checkpoint of version 2, and print how many slips it has.
+    Migrate {
+        /// The file that the study is kept in.
+        old: &'a str,
+        /// The file that it is moved to, which holds no study.
+        new: &'a str,
     },
 }
 
@@ -106,6 +116,7 @@ fn job_of<'a>(matches: &ArgMatches<'a>) -> Option<Job<'a>>
         "check" => Some(Job::Check),
         "serve" => serve_job(given),
         "ask" => ask_job(given),
+        "migrate" => migrate_job(given),
         _ => None,
     }
 }
@@ -153,6 +164,16 @@ fn ask_job<'a>(given: &ArgMatches<'a>) -> Option<Job<'a>>
     Some(Job::Ask { socket })
 }
 
+/// The migration that the matches of `migrate` give.
+fn migrate_job<'a>(given: &ArgMatches<'a>) -> Option<Job<'a>>
+    ensures gives { GivesJob (codes "migrate") (rows_of (found_of given.now)) result }
+    ensures sized { IfSome result (λ job. IsSized job) }
+{
+    let old = given.get_str("old")?;
+    let new = given.get_str("new")?;
+    Some(Job::Migrate { old, new })
+}
+
 /// The number, from 1 to a greatest one, that the matches give for an option.
 fn number_given(given: &ArgMatches, option: &str, most: u32) -> Option<u32>
     ensures some { IfSome result (λ n. GivesNumber option.now most (rows_of (found_of given.now)) n) }
@@ -177,7 +198,8 @@ fn commands<'a>(alloc: Global) -> Result<Command<'a>, AllocError>
         .subcommand_required(true)
         .arg_required_else_help(true);
     let program = add_check(alloc, add_run(alloc, program)?)?;
-    add_ask(alloc, add_serve(alloc, program)?)
+    let with_ask = add_ask(alloc, add_serve(alloc, program)?)?;
+    add_migrate(alloc, with_ask)
 }
 
 /// Adds the command `run`.
@@ -239,6 +261,39 @@ fn add_ask<'a>(alloc: Global, program: Command<'a>) -> Result<Command<'a>, Alloc
         .after_help(ASK_EXAMPLE)
         .arg(socket_word(alloc))?;
     program.subcommand(ask)
+}
+
+/// Adds the command `migrate`.
+fn add_migrate<'a>(alloc: Global, program: Command<'a>) -> Result<Command<'a>, AllocError>
+    ensures { IfOk result (λ r. app_of r ≡ with_subcommand (app_of program.entry) migrate_app.top) }
+{
+    let migrate = Command::new(alloc, "migrate")
+        .about("Move a checkpoint of version 1 to a new one of version 2")
+        .after_help(MIGRATE_EXAMPLE)
+        .arg(file_word(
+            alloc,
+            "old",
+            "OLD",
+            "The checkpoint of version 1, which stays as it is",
+        ))?
+        .arg(file_word(
+            alloc,
+            "new",
+            "NEW",
+            "The file of the new checkpoint, which holds no study",
+        ))?;
+    program.subcommand(migrate)
+}
+
+/// A word that names the file of a checkpoint.
+fn file_word<'a>(alloc: Global, name: &'a str, value_name: &'a str, help: &'a str) -> Arg<'a>
+    ensures rule { rule_of result ≡ file_rule name.entry.now }
+    ensures local { result.global ≡ false }
+{
+    Arg::new(alloc, name)
+        .value_name(value_name)
+        .required(true)
+        .help(help)
 }
 
 /// An option that says how many of something a server has.

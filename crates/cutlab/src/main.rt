@@ -8,7 +8,7 @@ mod program;
 #[cfg(test)]
 mod tests;
 
-pub use cut_commands::{CliFault, StreamWire, ask_io, check_io, run_io};
+pub use cut_commands::{CliFault, StreamWire, ask_io, check_io, migrate_io, run_io};
 pub use cut_server::{
     Crew, Door, FolderShelf, ListenFault, Listener, SocketWire, serve_io, serve_sessions,
 };

@@ -19,7 +19,7 @@ const UNREADABLE_LINE: &[u8] = b"error: a word of the command line is not UTF-8\
 ///
 /// A command reads its plan from `wire` and writes its answer to it; its fault is one line on `errors`, from
 /// which nothing is read. Help goes to `wire`, what is wrong with the words to `errors`, both as clap writes
-/// them. The file of a checkpoint is opened by `host`, and the threads of a study are made by `rt`.
+/// them. The files of checkpoints are opened by `host`, and the threads of a study are made by `rt`.
 pub fn run_words<R, S, W, E>(
     host: &HostRuntime,
     rt: &R,

@@ -12,7 +12,13 @@ use std::test::Fail;
 use std::thread::Threads;
 
 /// What a study over a disk writes, by pieces of this size and two workers.
-fn written<T, D>(rt: &T, alloc: Global, text: &str, size: u32, disk: D) -> Result<Vec<u8>, CliFault>
+pub(super) fn written<T, D>(
+    rt: &T,
+    alloc: Global,
+    text: &str,
+    size: u32,
+    disk: D,
+) -> Result<Vec<u8>, CliFault>
 where
     T: Threads + Wait + Sync,
     D: Disk + Drop + Send,
@@ -36,7 +42,7 @@ where
     }
 }
 
-fn empty_disk(alloc: Global) -> Result<MemoryDisk, Fail> {
+pub(super) fn empty_disk(alloc: Global) -> Result<MemoryDisk, Fail> {
     Ok(MemoryDisk::of(alloc, Vec::new(alloc))?)
 }
 
@@ -121,7 +127,7 @@ const MORE_RECEIVERS: [u8; 32] = [
 ];
 
 /// The digest of the slip of the first trial with four conflicts, where there is none.
-const FALSE_CONFLICTS: [u8; 32] = [
+pub(super) const FALSE_CONFLICTS: [u8; 32] = [
     0x47, 0xc9, 0xae, 0x50, 0x79, 0x9f, 0x45, 0xa5, 0x99, 0xa6, 0x76, 0x11, 0xd6, 0x8c, 0x96, 0xcb,
     0x82, 0x3d, 0xf6, 0x51, 0xb9, 0x10, 0x05, 0x15, 0xe5, 0x3b, 0xc4, 0x01, 0x17, 0xeb, 0x75, 0x77,
 ];

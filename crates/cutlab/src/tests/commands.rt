@@ -1,6 +1,6 @@
 //! The program over its words and streams, for every job and kind of line.
 
-use super::{PLAN, TABLE, left_by};
+use super::{Left, PLAN, TABLE, left_by};
 use crate::line::status_of_kind;
 use crate::{Crew, Job, StreamWire, end_unread, parse_line, run_words};
 use clap::error::ErrorKind;
@@ -33,7 +33,7 @@ fn run_with<'a>(piece: u32, workers: u32) -> Job<'a> {
 #[test]
 fn jobs_are_named(rt: HostRuntime) {
     let alloc = rt.alloc();
-    let rows: [(&[&str], Job); 10] = [
+    let rows: [(&[&str], Job); 11] = [
         (&["cutlab", "check"], Job::Check),
         (
             &[
@@ -56,6 +56,13 @@ fn jobs_are_named(rt: HostRuntime) {
             },
         ),
         (&["cutlab", "ask", "a.sock"], Job::Ask { socket: "a.sock" }),
+        (
+            &["cutlab", "migrate", "a.cut", "b.cut"],
+            Job::Migrate {
+                old: "a.cut",
+                new: "b.cut",
+            },
+        ),
         (&["cutlab", "run"], run_by(16)),
         (&["cutlab", "run", "--piece", "1"], run_by(1)),
         (&["cutlab", "run", "--piece=7"], run_by(7)),
@@ -207,15 +214,62 @@ fn a_checkpoint_is_opened_first(rt: HostRuntime) -> Result<(), Fail> {
     Ok(())
 }
 
+/// The plan's upgrade.
+const UPGRADE: &str =
+    r#"{"copies":1,"dead":"silent","deaf":0,"f":[1],"h":[1],"implicit":true,"k":[1],"l":[1],"liars":0,"links":0,"nodes":5,"repeats":2,"seed":"0000000000000000000000000000000000000000000000000000000000000000","version":2}"#;
+
+/// The whole table of the upgrade.
+const UPGRADE_TABLE: &str =
+    "k,h,l,f,trials,receivers,conflicts,silent,extra,votes,decided,right,settled,ppm\n1,1,1,1,2,8,0,0,0,8,2,2,8,0\n";
+
+const MOVE_FOLDER: &str = "cutlab_migration_test";
+
+const OLD: &str = "cutlab_migration_test/old.cut";
+
+const NEW: &str = "cutlab_migration_test/new.cut";
+
+/// Whether the program left this status, output and line of errors.
+fn is_left(left: &Left, status: u8, output: &str, errors: &str) -> bool {
+    left.status == status
+        && left.output.as_slice() == output.as_bytes()
+        && left.errors.as_slice() == errors.as_bytes()
+}
+
+#[test]
+fn a_checkpoint_is_moved(rt: HostRuntime) -> Result<(), Fail> {
+    let _ = fs::remove_dir_all(&rt, MOVE_FOLDER);
+    fs::create_dir(&rt, MOVE_FOLDER)?;
+    let run_old = ["cutlab", "run", "--piece", "1", "--checkpoint", OLD];
+    let run_new = ["cutlab", "run", "--checkpoint", NEW];
+    let moves = ["cutlab", "migrate", OLD, NEW];
+    let rows: [(&[&str], &str, u8, &str, &str); 5] = [
+        (&moves, PLAN, 4, "", "cutlab: fault 22 NoStudy\n"),
+        (&run_old, PLAN, 0, TABLE, ""),
+        (&moves, PLAN, 0, "migrated 2\n", ""),
+        (&run_new, UPGRADE, 0, UPGRADE_TABLE, ""),
+        (&moves, PLAN, 4, "", "cutlab: fault 25 Held\n"),
+    ];
+    for (words, plan, status, output, errors) in rows {
+        let left = left_by(&rt, &rt, words, plan);
+        assert!(rt; is_left(&left, status, output, errors), "{words:?}");
+    }
+    assert_eq!(rt; fs::read(&rt, OLD)?.len(), 477);
+    assert_eq!(rt; fs::read(&rt, NEW)?.len(), 485);
+    fs::remove_dir_all(&rt, MOVE_FOLDER)?;
+    Ok(())
+}
+
 #[test]
 fn help_is_output(rt: HostRuntime) {
-    let rows: [(&[&str], &str); 6] = [
+    let rows: [(&[&str], &str); 8] = [
         (&["cutlab", "--help"], "docs/GUIDE.md"),
+        (&["cutlab", "--help"], "Move a checkpoint of version 1"),
         (&["cutlab", "help"], "docs/GUIDE.md"),
         (&["cutlab", "run", "--help"], "Example: cutlab run"),
         (&["cutlab", "check", "--help"], "Example: cutlab check"),
         (&["cutlab", "serve", "--help"], "Example: cutlab serve"),
         (&["cutlab", "ask", "--help"], "Example: cutlab ask"),
+        (&["cutlab", "migrate", "--help"], "Example: cutlab migrate"),
     ];
     for (words, part) in rows {
         let left = left_by(&rt, &rt, words, PLAN);
@@ -228,8 +282,20 @@ fn help_is_output(rt: HostRuntime) {
 
 #[test]
 fn mistakes_are_errors(rt: HostRuntime) {
-    let rows: [(&[&str], &str); 12] = [
+    let rows: [(&[&str], &str); 15] = [
         (&["cutlab", "ask"], "required arguments were not provided"),
+        (
+            &["cutlab", "migrate"],
+            "required arguments were not provided",
+        ),
+        (
+            &["cutlab", "migrate", "a.cut"],
+            "required arguments were not provided",
+        ),
+        (
+            &["cutlab", "migrate", "a.cut", "b.cut", "c.cut"],
+            "unexpected argument 'c.cut' found",
+        ),
         (
             &["cutlab", "serve", "a.sock", "--workers", "1"],
             "required arguments were not provided",

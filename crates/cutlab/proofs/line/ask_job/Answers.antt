@@ -2,7 +2,7 @@ use Rattle.std.proofs.Common.{◌≡◌, ◌∙◌, List, Option, None, refl, sy
 use Rattle.clap.specs.Words.{Row, first_of, found_of, rows_of}
 use Rattle.clap.proofs.WalkLemmas.{first_value-rows}
 use Rattle.cutlab.specs.declared.line.Job.{Job}
-use Rattle.cutlab.specs.declared.line.Job.TheVariants.{Run, Check, Serve, Ask}
+use Rattle.cutlab.specs.declared.line.Job.TheVariants.{Run, Check, Serve, Ask, Migrate}
 use Rattle.cutlab.specs.Line.{GivesJob}
 use Rattle.cutlab.proofs.LineLemmas.{other_word}
 use Rattle.cutlab.proofs.line.ask_job.Goals as goal
@@ -14,6 +14,8 @@ no_socket rows none (Serve socket crew folder) is gives =
     other_word (codes "serve") (codes "ask") 115 97 is refl refl (λ bad. omega (arith, bad))
 no_socket rows none Check is gives = other_word (codes "check") (codes "ask") 99 97 is refl refl (λ bad. omega (arith, bad))
 no_socket rows none (Run piece workers file) is gives = other_word (codes "run") (codes "ask") 114 97 is refl refl (λ bad. omega (arith, bad))
+no_socket rows none (Migrate from to) is gives =
+    other_word (codes "migrate") (codes "ask") 109 97 is refl refl (λ bad. omega (arith, bad))
 
 pub returns-in_err-socket-clause-gives : goal.returns-in_err-socket-clause-gives
 returns-in_err-socket-clause-gives c =

@@ -2,7 +2,7 @@ use Rattle.std.proofs.Common.{ap, true, codes, ◌≡◌, ◌∙◌}
 use Rattle.std.proofs.lemmas.Result.{IfOk-weaker}
 use Rattle.clap.specs.Words.{App, Shape, app_of, new_app, with_subcommand}
 use Rattle.clap.specs.Simple.{app_of_fields}
-use Rattle.cutlab.specs.Line.{ask_app, check_app, run_app, serve_app, program_app}
+use Rattle.cutlab.specs.Line.{ask_app, check_app, migrate_app, run_app, serve_app, program_app}
 use Rattle.cutlab.proofs.line.commands.Goals as goal
 
 -- a command that needs a subcommand, and one that shows its help without a word
@@ -27,4 +27,5 @@ returns c =
     let runs = c.in_ok-add_run.ensures ∙ added _ _ asks run_app in
     let checks = c.in_ok-program.ensures ∙ added _ _ runs check_app in
     let serves = c.in_ok-add_serve.ensures ∙ added _ _ checks serve_app in
-    IfOk-weaker c.add_ask.result _ _ (λ r h. h ∙ added _ _ serves ask_app) c.add_ask.ensures
+    let answers = c.in_ok-with_ask.ensures ∙ added _ _ serves ask_app in
+    IfOk-weaker c.add_migrate.result _ _ (λ r h. h ∙ added _ _ answers migrate_app) c.add_migrate.ensures

@@ -57,3 +57,13 @@ pub returns-in-serve-clause-none : goal.returns-in-serve-clause-none
 returns-in-serve-clause-none c =
     no_job (subcommand_rows_of c.args.matches.now) c.in_ok-name.name.now (codes "serve") (rows_of (found_of c.in_ok-name.given.now)) c.serve_job.result
     (names_agree c.args.matches.now ∙ sym c.in_ok-name.ensures.name) (sym c.in_ok-name.ensures.rows) c.in-serve.is c.serve_job.ensures.gives
+
+pub returns-in-migrate-clause-some : goal.returns-in-migrate-clause-some
+returns-in-migrate-clause-some c =
+    is_job (subcommand_rows_of c.args.matches.now) c.in_ok-name.name.now (codes "migrate") (rows_of (found_of c.in_ok-name.given.now)) c.migrate_job.result
+    (names_agree c.args.matches.now ∙ sym c.in_ok-name.ensures.name) (sym c.in_ok-name.ensures.rows) c.in-migrate.is c.migrate_job.ensures.gives
+
+pub returns-in-migrate-clause-none : goal.returns-in-migrate-clause-none
+returns-in-migrate-clause-none c =
+    no_job (subcommand_rows_of c.args.matches.now) c.in_ok-name.name.now (codes "migrate") (rows_of (found_of c.in_ok-name.given.now)) c.migrate_job.result
+    (names_agree c.args.matches.now ∙ sym c.in_ok-name.ensures.name) (sym c.in_ok-name.ensures.rows) c.in-migrate.is c.migrate_job.ensures.gives

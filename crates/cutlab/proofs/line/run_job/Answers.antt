@@ -2,7 +2,7 @@ use Rattle.std.proofs.Common.{◌∙◌, ℕ, List, Option, None, refl, sym, sub
 use Rattle.clap.specs.Words.{Row, found_of, rows_of}
 use Rattle.clap.proofs.WalkLemmas.{first_value-rows}
 use Rattle.cutlab.specs.declared.line.Job.{Job}
-use Rattle.cutlab.specs.declared.line.Job.TheVariants.{Run, Check, Serve, Ask}
+use Rattle.cutlab.specs.declared.line.Job.TheVariants.{Run, Check, Serve, Ask, Migrate}
 use Rattle.cutlab.specs.Line.{GivesJob, GivesPiece, GivesWorkers}
 use Rattle.cutlab.proofs.LineLemmas.{other_word}
 use Rattle.cutlab.proofs.line.run_job.Goals as goal
@@ -14,6 +14,8 @@ no_size rows none Check is gives = other_word (codes "check") (codes "run") 99 1
 no_size rows none (Serve socket crew folder) is gives =
     other_word (codes "serve") (codes "run") 115 114 is refl refl (λ bad. omega (arith, bad))
 no_size rows none (Ask socket) is gives = other_word (codes "ask") (codes "run") 97 114 is refl refl (λ bad. omega (arith, bad))
+no_size rows none (Migrate from to) is gives =
+    other_word (codes "migrate") (codes "run") 109 114 is refl refl (λ bad. omega (arith, bad))
 
 -- and none those that give no number of workers
 no_workers : (rows : List Row) → ((n : ℕ) → GivesWorkers rows n → ⊥) → GivesJob (codes "run") rows None
@@ -22,6 +24,8 @@ no_workers rows none Check is gives = other_word (codes "check") (codes "run") 9
 no_workers rows none (Serve socket crew folder) is gives =
     other_word (codes "serve") (codes "run") 115 114 is refl refl (λ bad. omega (arith, bad))
 no_workers rows none (Ask socket) is gives = other_word (codes "ask") (codes "run") 97 114 is refl refl (λ bad. omega (arith, bad))
+no_workers rows none (Migrate from to) is gives =
+    other_word (codes "migrate") (codes "run") 109 114 is refl refl (λ bad. omega (arith, bad))
 
 pub returns-in_err-piece-clause-gives : goal.returns-in_err-piece-clause-gives
 returns-in_err-piece-clause-gives c =

@@ -2,7 +2,7 @@ use Rattle.std.proofs.Common.{◌≡◌, ◌∙◌, ℕ, List, Option, Some, Non
 use Rattle.clap.specs.Words.{Row, Text, first_of, found_of, rows_of}
 use Rattle.clap.proofs.WalkLemmas.{first_value-rows}
 use Rattle.cutlab.specs.declared.line.Job.{Job}
-use Rattle.cutlab.specs.declared.line.Job.TheVariants.{Run, Check, Serve, Ask}
+use Rattle.cutlab.specs.declared.line.Job.TheVariants.{Run, Check, Serve, Ask, Migrate}
 use Rattle.cutlab.specs.Line.{Gives, GivesJob, GivesNumber, command_of}
 use Rattle.cutlab.proofs.LineLemmas.{other_word}
 use Rattle.cutlab.proofs.line.serve_job.Goals as goal
@@ -13,24 +13,32 @@ no_socket rows none (Serve socket crew folder) is gives = (let bad = sym none �
 no_socket rows none Check is gives = other_word (codes "check") (codes "serve") 99 115 is refl refl (λ bad. omega (arith, bad))
 no_socket rows none (Run piece workers file) is gives = other_word (codes "run") (codes "serve") 114 115 is refl refl (λ bad. omega (arith, bad))
 no_socket rows none (Ask socket) is gives = other_word (codes "ask") (codes "serve") 97 115 is refl refl (λ bad. omega (arith, bad))
+no_socket rows none (Migrate from to) is gives =
+    other_word (codes "migrate") (codes "serve") 109 115 is refl refl (λ bad. omega (arith, bad))
 
 no_workers : (rows : List Row) → ((n : ℕ) → GivesNumber (codes "workers") 64 rows n → ⊥) → GivesJob (codes "serve") rows None
 no_workers rows none (Serve socket crew folder) is gives = none crew.workers gives.1
 no_workers rows none Check is gives = other_word (codes "check") (codes "serve") 99 115 is refl refl (λ bad. omega (arith, bad))
 no_workers rows none (Run piece workers file) is gives = other_word (codes "run") (codes "serve") 114 115 is refl refl (λ bad. omega (arith, bad))
 no_workers rows none (Ask socket) is gives = other_word (codes "ask") (codes "serve") 97 115 is refl refl (λ bad. omega (arith, bad))
+no_workers rows none (Migrate from to) is gives =
+    other_word (codes "migrate") (codes "serve") 109 115 is refl refl (λ bad. omega (arith, bad))
 
 no_sessions : (rows : List Row) → ((n : ℕ) → GivesNumber (codes "sessions") 64 rows n → ⊥) → GivesJob (codes "serve") rows None
 no_sessions rows none (Serve socket crew folder) is gives = none crew.sessions gives.2
 no_sessions rows none Check is gives = other_word (codes "check") (codes "serve") 99 115 is refl refl (λ bad. omega (arith, bad))
 no_sessions rows none (Run piece workers file) is gives = other_word (codes "run") (codes "serve") 114 115 is refl refl (λ bad. omega (arith, bad))
 no_sessions rows none (Ask socket) is gives = other_word (codes "ask") (codes "serve") 97 115 is refl refl (λ bad. omega (arith, bad))
+no_sessions rows none (Migrate from to) is gives =
+    other_word (codes "migrate") (codes "serve") 109 115 is refl refl (λ bad. omega (arith, bad))
 
 no_studies : (rows : List Row) → ((n : ℕ) → GivesNumber (codes "studies") 64 rows n → ⊥) → GivesJob (codes "serve") rows None
 no_studies rows none (Serve socket crew folder) is gives = none crew.studies gives.3
 no_studies rows none Check is gives = other_word (codes "check") (codes "serve") 99 115 is refl refl (λ bad. omega (arith, bad))
 no_studies rows none (Run piece workers file) is gives = other_word (codes "run") (codes "serve") 114 115 is refl refl (λ bad. omega (arith, bad))
 no_studies rows none (Ask socket) is gives = other_word (codes "ask") (codes "serve") 97 115 is refl refl (λ bad. omega (arith, bad))
+no_studies rows none (Migrate from to) is gives =
+    other_word (codes "migrate") (codes "serve") 109 115 is refl refl (λ bad. omega (arith, bad))
 
 pub returns-in_err-socket-clause-gives : goal.returns-in_err-socket-clause-gives
 returns-in_err-socket-clause-gives c =

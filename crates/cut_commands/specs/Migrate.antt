@@ -1,0 +1,106 @@
+-- What a migration tells of a plan, by what the disk of its checkpoint holds.
+use Rattle.std.specs.Prelude.{◌≡◌, ◌≢◌, ◌⊎◌, ℕ, List, length, codes, Result, Ok, Err, ⊤}
+use Rattle.cut_plan.specs.declared.version.Version.TheVariants.{One, Two}
+use Rattle.cut_plan.specs.Targets.{upgraded}
+use Rattle.cut_plan.specs.Values.{Values}
+use Rattle.cut_plan.specs.Versions.{version_of}
+use Rattle.cut_disks.specs.State.{DiskState}
+use Rattle.cut_ledger.specs.declared.slip.Slip.{Slip}
+use Rattle.cut_ledger.specs.Slips.{AreGood, IsFirstBad}
+use Rattle.cut_journal.specs.declared.fault.JournalFault.{JournalFault}
+use Rattle.cut_journal.specs.declared.fault.JournalFault.TheVariants as journal
+use Rattle.cut_journal.specs.declared.migrate_fault.MigrateFault.{MigrateFault}
+use Rattle.cut_journal.specs.declared.migrate_fault.MigrateFault.TheVariants as migration
+use Rattle.cut_journal.specs.Migration.{AreTrueUpTo, IsFirstUntrue}
+use Rattle.cut_journal.specs.Opening.{IsReopenFault, MayRefuse, MayNotMake}
+use Rattle.cut_journal.specs.Reading.{reading}
+use Rattle.cut_commands.specs.Check.{number_line}
+use Rattle.cut_commands.specs.Task.{Task}
+use Rattle.cut_commands.specs.Run.{Ends}
+use Rattle.cut_table.specs.Traffic.{Traffic}
+use Rattle.cut_commands.specs.declared.fault.CliFault.{CliFault}
+use Rattle.cut_commands.specs.declared.fault.CliFault.TheVariants.{Memory, Journal, Migrate}
+
+-- how many slips were moved, as it is told
+unfoldable pub moved_text : ℕ → List ℕ
+moved_text n = number_line (codes "migrated") n
+
+-- why no study without slips was made where bytes were: there is one already, or the disk failed
+abbrev pub IsHeld : Values → List ℕ → JournalFault → Type 0
+IsHeld v bytes journal.Held = reading v bytes ≢ Err journal.NoStudy
+IsHeld v bytes fault = ⊤
+
+-- ---- from one disk to another
+
+module _ {O N : Type 0} (old_honest : O → Type 0) (old_state : O → DiskState) (new_honest : N → Type 0) (new_state : N → DiskState) where
+  -- the slips that an honest disk says for the plan; of another nothing is known
+  abbrev pub Holds : O → Values → List Slip → Type 0
+  Holds old v slips = old_honest old → reading v (old_state old).bytes ≡ Ok slips
+
+  -- they are all true ones of a plan of version 1, and so many were moved
+  pub record HasMovedAll (old : O) (v : Values) (n : ℕ) : Type 0 where
+    pub version : version_of v.failing ≡ One
+    pub slips : List Slip
+    pub held : Holds old v slips
+    pub good : AreGood v slips
+    pub true : AreTrueUpTo v slips (length slips)
+    pub all : n ≡ length slips
+
+  -- which is told
+  abbrev pub MigrateTells : O → Values → List ℕ → Type 0
+  MigrateTells old v whole = (n : ℕ) × HasMovedAll old v n × (whole ≡ moved_text n)
+
+  -- why they were not: the plan is of version 2; the first bad slip, or the first that is not true; or the disk of
+  -- the new checkpoint failed
+  abbrev pub StopsBy : O → Values → MigrateFault → Type 0
+  StopsBy old v migration.NotVersion1 = version_of v.failing ≡ Two
+  StopsBy old v (migration.BadSlip n) = (slips : List Slip) × Holds old v slips × IsFirstBad v slips n
+  StopsBy old v (migration.Disagrees n) = (slips : List Slip) × Holds old v slips × IsFirstUntrue v slips n
+  StopsBy old v migration.Disk = ⊤
+  StopsBy old v fault = ⊥
+
+  -- or why a checkpoint was not opened: the old one holds no study of the plan, or is damaged; the new one holds a
+  -- study; or a disk failed
+  abbrev pub IsNotReady : O → N → Values → JournalFault → Type 0
+  IsNotReady old new v fault =
+      (MayRefuse fault × (old_honest old → IsReopenFault v (old_state old).bytes fault))
+      ⊎ (MayNotMake fault × (new_honest new → IsHeld (upgraded v) (new_state new).bytes fault))
+
+  abbrev pub MigrateFails : O → N → Values → CliFault → Type 0
+  MigrateFails old new v (Journal fault) = (version_of v.failing ≡ One) × IsNotReady old new v fault
+  MigrateFails old new v (Migrate fault) = StopsBy old v fault
+  MigrateFails old new v fault = ⊥
+
+  abbrev pub migrate_task : O → N → Task
+  migrate_task old new = record { answers = MigrateTells old; fails = MigrateFails old new }
+
+  -- how the steps between the reading of a plan and the answer end: all slips were moved; memory was wanting, or
+  -- as the task may fail
+  abbrev pub EndsMove : O → N → Values → Result ℕ CliFault → Type 0
+  EndsMove old new v (Ok n) = HasMovedAll old v n
+  EndsMove old new v (Err Memory) = ⊤
+  EndsMove old new v (Err fault) = MigrateFails old new v fault
+
+-- ---- from one file to another, of which nothing is known
+
+-- why not all slips were moved
+abbrev pub FilesFail : Values → CliFault → Type 0
+FilesFail v (Journal fault) = (version_of v.failing ≡ One) × (MayRefuse fault ⊎ MayNotMake fault)
+FilesFail v (Migrate migration.NotVersion1) = version_of v.failing ≡ Two
+FilesFail v (Migrate (migration.BadSlip n)) = (slips : List Slip) × IsFirstBad v slips n
+FilesFail v (Migrate (migration.Disagrees n)) = (slips : List Slip) × IsFirstUntrue v slips n
+FilesFail v (Migrate migration.Disk) = ⊤
+FilesFail v fault = ⊥
+
+-- some slips were moved, which are true
+abbrev pub files_task : Task
+files_task = record {
+  answers = λ v whole.
+      (slips : List Slip) × AreGood v slips × AreTrueUpTo v slips (length slips) × (whole ≡ moved_text (length slips));
+  fails = FilesFail;
+}
+
+-- how it ends: where a file does not open nothing is read or written
+abbrev pub EndsFiles : Traffic → Traffic → Result ⊤ CliFault → Type 0
+EndsFiles old new result =
+    ((result ≡ Err (Journal journal.Disk)) × (new ≡ old)) ⊎ Ends files_task old new result

@@ -1,0 +1,117 @@
+ghost use Rattle.std.specs.Prelude.{◌≡◌, ◌≢◌, ◌↔◌, None, length, string_bytes, Ok, Err, IfOk, IfErr};
+ghost use Rattle.cut_journal.specs.Opening.{IsReopenFault, MayRefuse, MayNotMake};
+ghost use Rattle.cut_journal.specs.Reading.{reading};
+ghost use Rattle.cut_commands.specs.Faults.{failed_calls};
+ghost use Rattle.cut_commands.specs.Migrate.{EndsFiles, EndsMove, IsHeld, migrate_task, moved_text};
+ghost use Rattle.cut_commands.specs.Run.{Ends};
+
+use crate::CliFault;
+use crate::run::{push_line, read_plan};
+use cut_disks::{Disk, FileDisk};
+use cut_journal::{Journal, JournalFault, MigrateFault, migrate};
+use cut_ledger::Slip;
+use cut_plan::{Plan, Version};
+use cut_table::{Wire, send_all};
+use std::alloc::{AllocError, Global};
+
+/// Reads a plan of version 1 from a wire, moves the slips of its study from one disk to another, as a study of
+/// the plan's upgrade, and writes how many there are.
+///
+/// The trials of each slip are run again: what the new disk has are the sums that they give for the upgrade, and
+/// the first slip that is not true ends it. The old disk is only read. A plan of version 2 is refused before a disk
+/// is touched, and nothing is moved unless the new disk holds no study. What is read and written, and each fault
+/// of the wire, is as in `run_io`.
+pub fn migrate_io<W, O, N>(alloc: Global, wire: &mut W, old: O, new: N) -> Result<(), CliFault>
+where
+    W: Wire,
+    O: Disk + Drop,
+    N: Disk + Drop,
+    ensures ends { W.tells wire.old →
+        Ends (migrate_task O.is_honest O.state N.is_honest N.state old new) (W.traffic wire.old) (W.traffic wire.new)
+        result }
+    ensures tells { W.tells wire.old ↔ W.tells wire.new }
+    ensures faults { W.faults wire.new ≡ failed_calls result (W.faults wire.old) }
+{
+    let plan = read_plan(alloc, wire)?;
+    let count = move_study(alloc, &plan, old, new)?;
+    let text = moved_text(alloc, count)?;
+    send_all(wire, text.as_bytes())?;
+    Ok(())
+}
+
+/// Moves a study as `migrate_io` does, from the file at one path to that at another.
+///
+/// Both files are opened by `host` before anything is read, the old one first. Of what they hold nothing is known.
+pub fn migrate_files<W: Wire>(
+    host: &HostRuntime,
+    wire: &mut W,
+    old: &str,
+    new: &str,
+) -> Result<(), CliFault>
+    ensures ends { W.tells wire.old → EndsFiles (W.traffic wire.old) (W.traffic wire.new) result }
+    ensures tells { W.tells wire.old ↔ W.tells wire.new }
+    ensures faults { W.faults wire.new ≡ failed_calls result (W.faults wire.old) }
+{
+    let Ok(old) = FileDisk::open(host, old) else {
+        return Err(CliFault::Journal(JournalFault::Disk));
+    };
+    let Ok(new) = FileDisk::open(host, new) else {
+        return Err(CliFault::Journal(JournalFault::Disk));
+    };
+    migrate_io(host.alloc(), wire, old, new)
+}
+
+/// Moves the slips of a plan's study, and tells how many there are.
+fn move_study<O, N>(alloc: Global, plan: &Plan, old: O, new: N) -> Result<u64, CliFault>
+where
+    O: Disk + Drop,
+    N: Disk + Drop,
+    ensures { EndsMove O.is_honest O.state N.is_honest N.state old new plan.now result }
+{
+    if plan.version() != Version::One {
+        return Err(CliFault::Migrate(MigrateFault::NotVersion1));
+    }
+    let slips = slips_on(alloc, plan, old)?;
+    let upgrade = plan.upgrade(alloc)?;
+    let mut journal = new_journal(alloc, &upgrade, new)?;
+    let count = migrate(alloc, slips.as_slice(), plan, &mut journal)?;
+    Ok(count)
+}
+
+/// The slips that a disk holds for a plan.
+fn slips_on<O: Disk + Drop>(alloc: Global, plan: &Plan, disk: O) -> Result<Vec<Slip>, JournalFault>
+    ensures read { O.is_honest disk → IfOk result (λ slips. reading plan.now (O.state disk).bytes ≡ Ok slips.items) }
+    ensures refused { O.is_honest disk → IfErr result (λ e. IsReopenFault plan.now (O.state disk).bytes e) }
+    ensures may { IfErr result MayRefuse }
+{
+    match Journal::reopen(alloc, disk, plan) {
+        Ok((_, slips)) => Ok(slips),
+        Err((fault, _)) => Err(fault),
+    }
+}
+
+/// The journal of a study without slips, on a disk that holds none.
+fn new_journal<N: Disk + Drop>(
+    alloc: Global,
+    plan: &Plan,
+    disk: N,
+) -> Result<Journal<N>, JournalFault>
+    ensures plan { IfOk result (λ journal. journal.plan ≡ plan.now) }
+    ensures whole { IfOk result (λ journal. journal.doubtful ≡ None) }
+    ensures held { N.is_honest disk → IfErr result (λ e. IsHeld plan.now (N.state disk).bytes e) }
+    ensures may { IfErr result MayNotMake }
+{
+    match Journal::create(alloc, disk, plan) {
+        Ok(journal) => Ok(journal),
+        Err((fault, _)) => Err(fault),
+    }
+}
+
+/// How many slips were moved, as it is told.
+fn moved_text(alloc: Global, count: u64) -> Result<String, AllocError>
+    ensures { IfOk result (λ text. string_bytes text ≡ moved_text count) }
+{
+    let mut text = String::new(alloc);
+    push_line(alloc, &mut text, "migrated", count)?;
+    Ok(text)
+}
