@@ -1,12 +1,10 @@
 -- What a migration tells, by what is known of its disks.
-use Rattle.std.proofs.Common.{◌≡◌, ◌∙◌, ℕ, List, Option, None, Ok, Err, refl, ap, subst, inl, inr}
+use Rattle.std.proofs.Common.{◌≡◌, ◌∙◌, List, Option, None, Err, refl, ap, subst, inl, inr}
 use Rattle.std.specs.Prelude.{IsSome}
 use Rattle.cut_plan.specs.Targets.{upgraded}
 use Rattle.cut_plan.specs.Values.{Values}
 use Rattle.cut_disks.specs.State.{DiskState}
 use Rattle.cut_ledger.specs.declared.slip.Slip.{Slip}
-use Rattle.cut_journal.specs.declared.fault.JournalFault.{JournalFault}
-use Rattle.cut_journal.specs.declared.fault.JournalFault.TheVariants as journal
 use Rattle.cut_journal.specs.declared.migrate_fault.MigrateFault.{MigrateFault}
 use Rattle.cut_journal.specs.declared.migrate_fault.MigrateFault.TheVariants as migration
 use Rattle.cut_journal.specs.Journal.{Log}
@@ -14,8 +12,8 @@ use Rattle.cut_journal.specs.Migration as moves
 use Rattle.cut_table.specs.Traffic.{Traffic}
 use Rattle.cut_commands.specs.declared.fault.CliFault.{CliFault}
 use Rattle.cut_commands.specs.declared.fault.CliFault.TheVariants.{Memory, Plan, Read, Socket, Asked, Write, Journal, Folder, BadSlip, Migrate, Checkpoint, WorkMemory, AuditMismatch}
-use Rattle.cut_commands.specs.Faults.{fault_of_journal, fault_of_migration}
-use Rattle.cut_commands.specs.Migrate.{EndsMove, HasMovedAll, Holds, MigrateFails, files_task, migrate_task, moved_text}
+use Rattle.cut_commands.specs.Faults.{fault_of_migration}
+use Rattle.cut_commands.specs.Migrate.{EndsMove, Holds, IsFree, MigrateFails, files_task, migrate_task, moved_text}
 use Rattle.cut_commands.specs.Run.{Leaves}
 use Rattle.cut_commands.proofs.RunLemmas.{Weakens}
 
@@ -25,44 +23,22 @@ not_some some = cc some
 module _ {O N : Type 0} (old_honest : O → Type 0) (old_state : O → DiskState) (new_honest : N → Type 0) (new_state : N → DiskState) where
   -- ---- the end of the call that moves the slips
 
-  -- all were moved
-  pub moved_all : {D : Type 0} (old : O) (v : Values) (slips : List Slip) (n : ℕ) (before after : Log D)
-      → Holds old_honest old_state new_honest new_state old v slips → moves.Ends (Ok n) v slips before after
-      → HasMovedAll old_honest old_state new_honest new_state old v n
-  moved_all old v slips n before after held ends = record {
-    version = ends.1.version;
-    slips = slips;
-    held = held;
-    good = ends.1.good;
-    true = subst (λ k. moves.AreTrueUpTo v slips k) ends.0 ends.2.true;
-    all = ends.0;
-  }
-
-  -- or not
   pub not_moved : {D : Type 0} (old : O) (new : N) (v : Values) (slips : List Slip) (fault : MigrateFault) (before after : Log D)
-      → Holds old_honest old_state new_honest new_state old v slips → before.plan ≡ upgraded v → before.doubtful ≡ None
+      → Holds old_honest old_state new_honest new_state old v slips
+      → IsFree old_honest old_state new_honest new_state new v → before.plan ≡ upgraded v → before.doubtful ≡ None
       → moves.Ends (Err fault) v slips before after
       → EndsMove old_honest old_state new_honest new_state old new v (Err (fault_of_migration fault))
-  not_moved old new v slips migration.Memory before after held plan whole ends = tt
-  not_moved old new v slips migration.NotVersion1 before after held plan whole ends = ends.0
-  not_moved old new v slips (migration.BadSlip n) before after held plan whole ends = (slips, held, ends.1)
-  not_moved old new v slips migration.OtherPlan before after held plan whole ends = absurd (ends.2 plan)
-  not_moved old new v slips (migration.Disagrees n) before after held plan whole ends = (slips, held, ends.1)
-  not_moved old new v slips migration.Broken before after held plan whole ends =
+  not_moved old new v slips migration.Memory before after held free plan whole ends = tt
+  not_moved old new v slips migration.NotVersion1 before after held free plan whole ends = ends.0
+  not_moved old new v slips (migration.BadSlip n) before after held free plan whole ends =
+      (slips, record { version = ends.0; held = held; free = free }, ends.1)
+  not_moved old new v slips migration.OtherPlan before after held free plan whole ends = absurd (ends.2 plan)
+  not_moved old new v slips (migration.Disagrees n) before after held free plan whole ends =
+      (slips, record { version = ends.0.version; held = held; free = free }, ends.0.good, ends.1)
+  not_moved old new v slips migration.Broken before after held free plan whole ends =
       absurd (not_some (subst (λ (o : Option Slip). IsSome o) whole ends.3))
-  not_moved old new v slips migration.Disk before after held plan whole ends = tt
-
-  -- a checkpoint that was not opened
-  pub not_ready : (old : O) (new : N) (v : Values) (fault : JournalFault)
-      → MigrateFails old_honest old_state new_honest new_state old new v (Journal fault)
-      → EndsMove old_honest old_state new_honest new_state old new v (Err (fault_of_journal fault))
-  not_ready old new v journal.Memory fails = tt
-  not_ready old new v journal.Disk fails = fails
-  not_ready old new v journal.Broken fails = fails
-  not_ready old new v journal.NoStudy fails = fails
-  not_ready old new v journal.OtherPlan fails = fails
-  not_ready old new v (journal.Damaged n) fails = fails
-  not_ready old new v journal.Held fails = fails
+  not_moved old new v slips migration.Disk before after held free plan whole ends =
+      (slips, record { version = ends.0.version; held = held; free = free }, ends.0.good)
 
   -- ---- what it leaves on the wire where not all were moved: nothing
   pub leaves_none : (old : O) (new : N) (v : Values) (fault : CliFault) (t : Traffic)
@@ -88,9 +64,9 @@ module _ {O N : Type 0} (old_honest : O → Type 0) (old_state : O → DiskState
   files_fail old new v Memory is = is
   files_fail old new v (Journal fault) is = (is.0, elim is.1 [ inl refused ↦ inl refused.0 | inr refused ↦ inr refused.0 ])
   files_fail old new v (Migrate migration.NotVersion1) is = is
-  files_fail old new v (Migrate (migration.BadSlip n)) is = (is.0, is.2)
-  files_fail old new v (Migrate (migration.Disagrees n)) is = (is.0, is.2)
-  files_fail old new v (Migrate migration.Disk) is = is
+  files_fail old new v (Migrate (migration.BadSlip n)) is = (is.1.version, (is.0, is.2))
+  files_fail old new v (Migrate (migration.Disagrees n)) is = (is.1.version, (is.0, is.2, is.3))
+  files_fail old new v (Migrate migration.Disk) is = (is.1.version, (is.0, is.2))
   files_fail old new v (Migrate migration.Memory) is = is
   files_fail old new v (Migrate migration.OtherPlan) is = is
   files_fail old new v (Migrate migration.Broken) is = is
@@ -107,7 +83,14 @@ module _ {O N : Type 0} (old_honest : O → Type 0) (old_state : O → DiskState
 
   pub over_files : (old : O) (new : N) → Weakens (migrate_task old_honest old_state new_honest new_state old new) files_task
   over_files old new = record {
-    answers = λ text v whole reads tells.
-        (tells.1.slips, tells.1.good, tells.1.true, tells.2 ∙ ap (λ n. moved_text n) tells.1.all);
+    answers = λ text v whole reads tells. (
+      tells.1.ready.version,
+      (
+        tells.1.slips,
+        tells.1.good,
+        tells.1.true,
+        tells.2 ∙ ap (λ n. moved_text n) tells.1.all,
+      ),
+    );
     fails = λ text v fault reads is. files_fail old new v fault is;
   }

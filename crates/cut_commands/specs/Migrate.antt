@@ -37,47 +37,58 @@ module _ {O N : Type 0} (old_honest : O → Type 0) (old_state : O → DiskState
   abbrev pub Holds : O → Values → List Slip → Type 0
   Holds old v slips = old_honest old → reading v (old_state old).bytes ≡ Ok slips
 
-  -- they are all true ones of a plan of version 1, and so many were moved
-  pub record HasMovedAll (old : O) (v : Values) (n : ℕ) : Type 0 where
+  -- a disk that holds no study of the plan's upgrade, if it is honest
+  abbrev pub IsFree : N → Values → Type 0
+  IsFree new v = new_honest new → reading (upgraded v) (new_state new).bytes ≡ Err journal.NoStudy
+
+  -- a plan of version 1, the slips of whose study can be moved
+  pub record IsReady (old : O) (new : N) (v : Values) (slips : List Slip) : Type 0 where
     pub version : version_of v.failing ≡ One
-    pub slips : List Slip
     pub held : Holds old v slips
+    pub free : IsFree new v
+
+  -- they are all true ones, and so many were moved
+  pub record HasMovedAll (old : O) (new : N) (v : Values) (n : ℕ) : Type 0 where
+    pub slips : List Slip
+    pub ready : IsReady old new v slips
     pub good : AreGood v slips
     pub true : AreTrueUpTo v slips (length slips)
     pub all : n ≡ length slips
 
   -- which is told
-  abbrev pub MigrateTells : O → Values → List ℕ → Type 0
-  MigrateTells old v whole = (n : ℕ) × HasMovedAll old v n × (whole ≡ moved_text n)
+  abbrev pub MigrateTells : O → N → Values → List ℕ → Type 0
+  MigrateTells old new v whole = (n : ℕ) × HasMovedAll old new v n × (whole ≡ moved_text n)
 
-  -- why they were not: the plan is of version 2; the first bad slip, or the first that is not true; or the disk of
-  -- the new checkpoint failed
-  abbrev pub StopsBy : O → Values → MigrateFault → Type 0
-  StopsBy old v migration.NotVersion1 = version_of v.failing ≡ Two
-  StopsBy old v (migration.BadSlip n) = (slips : List Slip) × Holds old v slips × IsFirstBad v slips n
-  StopsBy old v (migration.Disagrees n) = (slips : List Slip) × Holds old v slips × IsFirstUntrue v slips n
-  StopsBy old v migration.Disk = ⊤
-  StopsBy old v fault = ⊥
+  -- why they were not: the plan is of version 2; or, where they could be, the first bad slip, the first that is not
+  -- true, or the disk of the new checkpoint, which failed
+  abbrev pub StopsBy : O → N → Values → MigrateFault → Type 0
+  StopsBy old new v migration.NotVersion1 = version_of v.failing ≡ Two
+  StopsBy old new v (migration.BadSlip n) = (slips : List Slip) × IsReady old new v slips × IsFirstBad v slips n
+  StopsBy old new v (migration.Disagrees n) =
+      (slips : List Slip) × IsReady old new v slips × AreGood v slips × IsFirstUntrue v slips n
+  StopsBy old new v migration.Disk = (slips : List Slip) × IsReady old new v slips × AreGood v slips
+  StopsBy old new v fault = ⊥
 
-  -- or why a checkpoint was not opened: the old one holds no study of the plan, or is damaged; the new one holds a
-  -- study; or a disk failed
+  -- or why a checkpoint was not opened: the old one holds no study of the plan, or is damaged; the old one holds its
+  -- slips, and the new one a study; or a disk failed
   abbrev pub IsNotReady : O → N → Values → JournalFault → Type 0
   IsNotReady old new v fault =
       (MayRefuse fault × (old_honest old → IsReopenFault v (old_state old).bytes fault))
-      ⊎ (MayNotMake fault × (new_honest new → IsHeld (upgraded v) (new_state new).bytes fault))
+      ⊎ (MayNotMake fault × (new_honest new → IsHeld (upgraded v) (new_state new).bytes fault)
+      × ((slips : List Slip) × Holds old v slips))
 
   abbrev pub MigrateFails : O → N → Values → CliFault → Type 0
   MigrateFails old new v (Journal fault) = (version_of v.failing ≡ One) × IsNotReady old new v fault
-  MigrateFails old new v (Migrate fault) = StopsBy old v fault
+  MigrateFails old new v (Migrate fault) = StopsBy old new v fault
   MigrateFails old new v fault = ⊥
 
   abbrev pub migrate_task : O → N → Task
-  migrate_task old new = record { answers = MigrateTells old; fails = MigrateFails old new }
+  migrate_task old new = record { answers = MigrateTells old new; fails = MigrateFails old new }
 
   -- how the steps between the reading of a plan and the answer end: all slips were moved; memory was wanting, or
   -- as the task may fail
   abbrev pub EndsMove : O → N → Values → Result ℕ CliFault → Type 0
-  EndsMove old new v (Ok n) = HasMovedAll old v n
+  EndsMove old new v (Ok n) = HasMovedAll old new v n
   EndsMove old new v (Err Memory) = ⊤
   EndsMove old new v (Err fault) = MigrateFails old new v fault
 
@@ -87,16 +98,19 @@ module _ {O N : Type 0} (old_honest : O → Type 0) (old_state : O → DiskState
 abbrev pub FilesFail : Values → CliFault → Type 0
 FilesFail v (Journal fault) = (version_of v.failing ≡ One) × (MayRefuse fault ⊎ MayNotMake fault)
 FilesFail v (Migrate migration.NotVersion1) = version_of v.failing ≡ Two
-FilesFail v (Migrate (migration.BadSlip n)) = (slips : List Slip) × IsFirstBad v slips n
-FilesFail v (Migrate (migration.Disagrees n)) = (slips : List Slip) × IsFirstUntrue v slips n
-FilesFail v (Migrate migration.Disk) = ⊤
+FilesFail v (Migrate (migration.BadSlip n)) =
+    (version_of v.failing ≡ One) × ((slips : List Slip) × IsFirstBad v slips n)
+FilesFail v (Migrate (migration.Disagrees n)) =
+    (version_of v.failing ≡ One) × ((slips : List Slip) × AreGood v slips × IsFirstUntrue v slips n)
+FilesFail v (Migrate migration.Disk) = (version_of v.failing ≡ One) × ((slips : List Slip) × AreGood v slips)
 FilesFail v fault = ⊥
 
 -- some slips were moved, which are true
 abbrev pub files_task : Task
 files_task = record {
-  answers = λ v whole.
-      (slips : List Slip) × AreGood v slips × AreTrueUpTo v slips (length slips) × (whole ≡ moved_text (length slips));
+  answers = λ v whole. (version_of v.failing ≡ One)
+      × ((slips : List Slip) × AreGood v slips × AreTrueUpTo v slips (length slips)
+      × (whole ≡ moved_text (length slips)));
   fails = FilesFail;
 }
 

@@ -98,6 +98,8 @@ fn new_journal<N: Disk + Drop>(
 ) -> Result<Journal<N>, JournalFault>
     ensures plan { IfOk result (λ journal. journal.plan ≡ plan.now) }
     ensures whole { IfOk result (λ journal. journal.doubtful ≡ None) }
+    ensures free { N.is_honest disk →
+        IfOk result (λ journal. reading plan.now (N.state disk).bytes ≡ Err JournalFault.NoStudy) }
     ensures held { N.is_honest disk → IfErr result (λ e. IsHeld plan.now (N.state disk).bytes e) }
     ensures may { IfErr result MayNotMake }
 {

@@ -9,7 +9,6 @@ use Rattle.sha2.specs.Sha256.{sha256}
 use Rattle.cut_plan.specs.declared.version.Version.{Version}
 use Rattle.cut_plan.specs.Versions.{version_of}
 use Rattle.cut_plan.specs.Values.{Values}
-use Rattle.cut_plan.specs.Canonical.{canonical_text}
 use Rattle.cut_disks.specs.State.{DiskState, IsImage, IsTorn, Throughout, covers, settled, overwritten}
 use Rattle.cut_disks.specs.Laws.{WritesStayInSpan}
 use Rattle.cut_ledger.specs.declared.slip.Slip.{Slip}

@@ -5,7 +5,6 @@ use Rattle.std.specs.List.{prefix_len, range_with_len}
 use Rattle.std.specs.Int.{w32, from_be_bytes}
 use Rattle.std.proofs.lemmas.Bool.{cases_lt}
 use Rattle.std.proofs.lemmas.Bool.Decides.{nat_tests, Decides-ltb, Decides-eqb}
-use Rattle.std.proofs.lemmas.Slice.Eq.{bytes_eq-Decides}
 use Rattle.std.proofs.lemmas.List.{get_or-take, length-take}
 use Rattle.std.proofs.lemmas.List.FromFn.{length-range_with_len, get_or-range_with_len, length-map-range_with_len, map-range_with_len_more}
 use Rattle.std.proofs.lemmas.List.Sums.{prefix_len-le-length, prefix_len_passes, prefix_len_stops}
@@ -22,7 +21,7 @@ use Rattle.cut_journal.specs.Reading.{is_study, says_plan, has_magic, is_magic, 
 use Rattle.cut_journal.specs.Opening.{IsReopenFault}
 use Rattle.cut_journal.specs.Steps.{IsOfPlan, AreWhole, IsSlipFault}
 use Rattle.cut_journal.proofs.Gates.{gate_first, gate_next, gate_far, gate_rises, nine_numbers}
-use Rattle.cut_journal.proofs.Headers.{both, together, Begins, front_begins, begin_alike, says_length, has_can, header_room, says_alike, magic_alike}
+use Rattle.cut_journal.proofs.Headers.{both, together, front_begins, begin_alike, says_length, has_can, header_room, says_alike, magic_alike}
 use Rattle.std.proofs.Math.Seq.{take-take}
 use Rattle.cut_journal.proofs.Counts.{prefix_is, map_alike, get_or_past, alike_place, alike_front, alike_part}
 

@@ -105,6 +105,7 @@ impl Study {
     pub fn is_short(&self)
         ensures { length (canonical_text self.now) ≤ 65536 }
     {
+        // For the proof: what always holds of a plan.
         let _ = &self.plan;
     }
 

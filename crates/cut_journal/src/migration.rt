@@ -47,6 +47,7 @@ pub fn migrate<D: Disk>(
     ensures honest { D.is_honest journal.old.disk ↔ D.is_honest journal.new.disk }
     ensures faults { D.faults journal.new.disk ≡ moving_faults result (D.faults journal.old.disk) }
 {
+    // For the proof: what always holds of a journal.
     let _ = journal.disk();
     if plan.version() != Version::One {
         return Err(MigrateFault::NotVersion1);
@@ -110,6 +111,7 @@ fn move_slips<D: Disk>(
     ensures honest { D.is_honest journal.old.disk ↔ D.is_honest journal.new.disk }
     ensures faults { D.faults journal.new.disk ≡ moving_faults result (D.faults journal.old.disk) }
 {
+    // For the proof: what always holds of a journal.
     let _ = journal.disk();
     let mut count = 0;
     for slip in slips {
@@ -141,6 +143,7 @@ fn move_slip<D: Disk>(
     ensures honest { D.is_honest journal.old.disk ↔ D.is_honest journal.new.disk }
     ensures faults { D.faults journal.new.disk ≡ moving_faults result (D.faults journal.old.disk) }
 {
+    // For the proof: what always holds of a journal.
     let _ = journal.disk();
     let result = match run_piece(alloc, target.upgrade, target.rings, slip.piece) {
         Ok(result) => result,

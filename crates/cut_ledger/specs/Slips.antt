@@ -1,8 +1,6 @@
 -- Which slips a ledger can begin with.
-use Rattle.std.specs.Prelude.{◌≡◌, ℕ, ◌+◌, ◌-◌, ◌*◌, ◌≤◌, ◌<◌, false, List, length, take, slice_index_or, IsTrue, ⊤}
-use Rattle.cut_plan.specs.declared.cell.Cell.{Cell}
+use Rattle.std.specs.Prelude.{◌≡◌, ℕ, ◌-◌, ◌≤◌, ◌<◌, false, List, length, take, slice_index_or, IsTrue, ⊤}
 use Rattle.cut_plan.specs.Values.{Values}
-use Rattle.cut_trial.specs.declared.totals.Totals.{Totals}
 use Rattle.cut_trial.specs.Outcome.{cell_at}
 use Rattle.cut_trial.specs.Possible.{ArePossible}
 use Rattle.cut_trial.specs.Sum.{is_piece}
@@ -10,16 +8,6 @@ use Rattle.cut_ledger.specs.declared.slip.Slip.{Slip}
 use Rattle.cut_ledger.specs.declared.fault.LedgerFault.{LedgerFault}
 use Rattle.cut_ledger.specs.declared.fault.LedgerFault.TheVariants.{Memory, BadSlip}
 use Rattle.cut_ledger.specs.Contents.{over_base, overlaps}
-
--- the sums of so many trials of a plan's cell, as far as they do not tell after how many deliveries receivers
--- propose
-pub record AreCounted (v : Values) (c : Cell) (trials : ℕ) (x : Totals) : Type 0 where
-  pub receivers : x.receivers ≡ trials * (v.nodes - c.f)
-  pub conflicts : x.conflicts + x.silent ≤ x.receivers
-  pub extra : x.extra + x.silent ≤ x.receivers
-  pub votes : x.votes ≤ x.receivers
-  pub decided : x.decided ≤ trials
-  pub right : x.right ≤ x.decided
 
 -- a good slip, after others: of a piece, none of whose trials they have, with totals that are possible
 pub record IsGood (v : Values) (earlier : List Slip) (s : Slip) : Type 0 where

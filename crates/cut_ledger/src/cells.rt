@@ -4,12 +4,12 @@ ghost use Rattle.std.specs.List.{list_any};
 ghost use Rattle.cut_plan.specs.Cells.{cells_of, IsCellOf};
 ghost use Rattle.cut_plan.specs.Versions.{version_of};
 ghost use Rattle.cut_trial.specs.Outcome.{cell_at as plan_cell};
-ghost use Rattle.cut_trial.specs.Possible.{ArePossible, IsSettledBy};
+ghost use Rattle.cut_trial.specs.Possible.{AreCounted, ArePossible, IsSettledBy};
 ghost use Rattle.cut_trial.specs.Sum.{is_piece, trials_in, IsAtMost};
 ghost use Rattle.cut_ledger.specs.declared.slip.Slip as slips;
 ghost use Rattle.cut_ledger.specs.Contents.{is_in_base};
 ghost use Rattle.cut_ledger.specs.Kept.{cell_at, is_kept, AreKept, AreOver, IsAddedTo};
-ghost use Rattle.cut_ledger.specs.Slips.{AreCounted, IsGood};
+ghost use Rattle.cut_ledger.specs.Slips.{IsGood};
 
 use crate::Slip;
 use crate::kept::Kept;

@@ -307,6 +307,7 @@ impl<D: Disk> Book<D> {
     {
         crashes_are_resumptions();
         if let Some(journal) = &self.journal {
+            // For the proof: what always holds of a journal.
             let _ = journal.disk();
         }
     }
@@ -319,6 +320,7 @@ impl<D: Disk> Book<D> {
     {
         crashes_are_resumptions();
         if let Some(journal) = &self.journal {
+            // For the proof: what always holds of a journal.
             let _ = journal.disk();
         }
     }
@@ -391,5 +393,6 @@ fn call_of(plan: &Plan, offered: &PieceResult, answer: Answer) -> Call
 fn is_of_a_plan(offered: &PieceResult)
     ensures { IsPlan offered.now.plan }
 {
+    // For the proof: what always holds of a result, and of its plan.
     let _ = offered.plan().version();
 }

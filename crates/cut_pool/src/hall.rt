@@ -152,6 +152,7 @@ impl<D: Disk + Drop, M: Tally, K: Tally> Hall<D, M, K> {
         ensures slot { IfOk result (λ o. o.study < self.now.slots) }
         ensures pass { pass.new ≡ pass.old }
     {
+        // That its caller has entered this hall is all that is wanted of the pass here.
         let _ = pass;
         for (study, place) in self.places.iter().enumerate() {
             let mut slot = place.slot.lock(rt);

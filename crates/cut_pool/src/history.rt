@@ -51,6 +51,7 @@ impl History {
         ensures calls { IfOk result (λ h. h.calls ≡ []) }
         ensures room { IfOk result (λ h. room ≤ h.room) }
     {
+        // For the proof: what always holds of a ledger.
         let _ = ledger.plan();
         Ok(History {
             ledger: Snapshot::of(ledger),

@@ -1,5 +1,5 @@
 -- What serving studies leaves, and how it may end.
-use Rattle.std.specs.Prelude.{◌≡◌, ◌+◌, ◌≤◌, ◌<◌, ◌++◌, ◌∷◌, ℕ, List, [], length, take, sum_by, codes, Result, Ok, Err, ⊤}
+use Rattle.std.specs.Prelude.{◌≡◌, ◌≤◌, ◌<◌, ◌++◌, ◌∷◌, ℕ, List, [], length, take, sum_by, codes, Result, Ok, Err, ⊤}
 use Rattle.std.specs.Fmt.{decimal}
 use Rattle.cut_faults.specs.Failures.{one_more}
 use Rattle.cut_table.specs.Traffic.{Traffic, wrote}

@@ -151,13 +151,15 @@ module _ (v : Values) (t : ℕ) where
       let extra = counts-apart (λ p. (judged a p).extra) is_silent ps (silent_is_not_extra a) in
       let most = most_votes_are_most (cast_of ps) (targets_of a) in
       record {
-        receivers = omega arith;
-        conflicts = omega (arith, all, conflicts);
-        extra = omega (arith, all, extra);
-        votes = omega (arith, all, few_votes_cast (cast_of ps), few_cast ps);
-        decided = one_if-at_most (quorum_of v.nodes) (most_votes (cast_of ps));
-        right = one_if-le (quorum_of v.nodes) (votes_of (cast_of ps) (targets_of a))
-            (most_votes (cast_of ps)) most;
+        counted = record {
+          receivers = omega arith;
+          conflicts = omega (arith, all, conflicts);
+          extra = omega (arith, all, extra);
+          votes = omega (arith, all, few_votes_cast (cast_of ps), few_cast ps);
+          decided = one_if-at_most (quorum_of v.nodes) (most_votes (cast_of ps));
+          right = one_if-le (quorum_of v.nodes) (votes_of (cast_of ps) (targets_of a))
+              (most_votes (cast_of ps)) most;
+        };
         settled = settled_by (version_of v.failing) ps _ (deliveries_at v t) _ places
             (few_deliveries (rings_of v) a (cell_at v t).k v.copies);
       }

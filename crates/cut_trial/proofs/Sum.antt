@@ -35,27 +35,33 @@ parts_add_up v first m n = ap (λ ts. sum_of v ts) (sym (ranges-join first m n))
 pub trials_possible : (v : Values) (c : Cell) (ts : List ℕ) → All (λ t. cell_at v t ≡ c) ts
     → ArePossible v c (length ts) (sum_of v ts)
 trials_possible v c [] same = record {
-  receivers = sym (zero-mul (v.nodes - c.f));
-  conflicts = omega arith;
-  extra = omega arith;
-  votes = omega arith;
-  decided = omega arith;
-  right = omega arith;
+  counted = record {
+    receivers = sym (zero-mul (v.nodes - c.f));
+    conflicts = omega arith;
+    extra = omega arith;
+    votes = omega arith;
+    decided = omega arith;
+    right = omega arith;
+  };
   settled = none_settled (version_of v.failing) (v.nodes * c.k * v.copies);
 }
 trials_possible v c (t ∷ ts) same =
     let here : cell_at v t ≡ c = All-head (λ s. cell_at v s ≡ c) t ts same in
     let one = rw here at (possible_outcome v t) in
     let rest = trials_possible v c ts (All-tail (λ s. cell_at v s ≡ c) t ts same) in
+    let here_counted = one.counted in
+    let rest_counted = rest.counted in
     let first : sum_of v (t ∷ ts) ≡ plus (outcome v t) (sum_of v ts) =
     same_numbers _ _ (λ x. sum_by-cons (λ s. x (outcome v s)) t ts) in
     rw first (record {
-      receivers = omega (arith, suc-mul (length ts) (v.nodes - c.f));
-      conflicts = omega arith;
-      extra = omega arith;
-      votes = omega arith;
-      decided = omega arith;
-      right = omega arith;
+      counted = record {
+        receivers = omega (arith, suc-mul (length ts) (v.nodes - c.f));
+        conflicts = omega arith;
+        extra = omega arith;
+        votes = omega arith;
+        decided = omega arith;
+        right = omega arith;
+      };
       settled = settled_more (version_of v.failing) _ _ _ _ _ _ (omega arith) one.settled rest.settled;
     })
 
@@ -78,6 +84,7 @@ pub few_in : (v : Values) (c : Cell) (n m : ℕ) (x : Totals) → IsPlan v → c
     → 2048 * n ≤ m → IsAtMost m x
 few_in v c n m x plan rings possible within =
     let each : ℕ = v.nodes - c.f in
+    let counted = possible.counted in
     let low : each ≤ 2048 = omega (arith, plan.few_nodes) in
     let most : n * each ≤ n * 2048 = mul-le n each n 2048 (omega arith) low in
     record {

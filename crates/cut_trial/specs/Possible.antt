@@ -14,8 +14,9 @@ IsSettledBy One proposing deliveries settled = settled ≡ 0
 IsSettledBy Two proposing deliveries settled =
     (proposing ≤ settled) × (settled ≤ proposing * deliveries)
 
--- the sums of so many trials of a plan's cell
-pub record ArePossible (v : Values) (c : Cell) (trials : ℕ) (x : Totals) : Type 0 where
+-- the sums of so many trials of a plan's cell, as far as they do not tell after how many deliveries receivers
+-- propose
+pub record AreCounted (v : Values) (c : Cell) (trials : ℕ) (x : Totals) : Type 0 where
   -- the receivers are those of all trials
   pub receivers : x.receivers ≡ trials * (v.nodes - c.f)
   -- none of them is silent and a conflict
@@ -28,5 +29,9 @@ pub record ArePossible (v : Values) (c : Cell) (trials : ℕ) (x : Totals) : Typ
   pub decided : x.decided ≤ trials
   -- and is right only where it is decided
   pub right : x.right ≤ x.decided
+
+-- the sums of so many trials of a plan's cell
+pub record ArePossible (v : Values) (c : Cell) (trials : ℕ) (x : Totals) : Type 0 where
+  pub counted : AreCounted v c trials x
   -- who proposes does so after one delivery at least, and after all copies of all edges at most
   pub settled : IsSettledBy (version_of v.failing) (x.receivers - x.silent) (v.nodes * c.k * v.copies) x.settled

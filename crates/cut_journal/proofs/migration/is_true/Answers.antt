@@ -1,4 +1,4 @@
-use Rattle.std.proofs.Common.{sym, ap, ◌∙◌}
+use Rattle.std.proofs.Common.{ap, ◌∙◌}
 use Rattle.cut_trial.specs.Computed.{Computed}
 use Rattle.cut_trial.specs.Sum.{sum_of, trials_in}
 use Rattle.cut_journal.proofs.Truths.{is_true_by_numbers}

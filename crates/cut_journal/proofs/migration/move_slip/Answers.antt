@@ -1,4 +1,4 @@
-use Rattle.std.proofs.Common.{rules, ℕ, ◌≡◌, ◌++◌, ◌∷◌, [], Some, Result, Err, unwrap_or, refl, sym, ap, ◌∙◌, subst}
+use Rattle.std.proofs.Common.{rules, ℕ, ◌++◌, ◌∷◌, [], Some, Result, Err, unwrap_or, refl, sym, ap, ◌∙◌, subst}
 use Rattle.cut_disks.specs.State.{Throughout}
 use Rattle.cut_journal.specs.Journal.{ReadsAs, kept_slips}
 use Rattle.cut_ledger.specs.declared.slip.Slip.{Slip}
@@ -13,7 +13,7 @@ use Rattle.cut_journal.specs.declared.fault.JournalFault.TheVariants as journal
 use Rattle.cut_journal.specs.declared.migrate_fault.MigrateFault.{MigrateFault}
 use Rattle.cut_journal.specs.Journal.{IsAppendFault, Leaves}
 use Rattle.cut_journal.specs.Migration.{MovesOne}
-use Rattle.cut_journal.proofs.Migrations.{moved_is, append_failed, failed_calls}
+use Rattle.cut_journal.proofs.Migrations.{moved_is, append_failed}
 use Rattle.cut_journal.proofs.migration.move_slip.Goals as goal
 
 pub returns-in-Err-clause-moments : goal.returns-in-Err-clause-moments

@@ -3,6 +3,8 @@ use Rattle.std.proofs.Common.{sym, ap, subst, arith, length-append}
 use Rattle.std.proofs.lemmas.Result.{err_from_is_err_and}
 use Rattle.cut_plan.specs.Values.{Values}
 use Rattle.cut_plan.specs.Cells.{cells_of}
+use Rattle.cut_plan.specs.Versions.{version_of}
+use Rattle.cut_lines.specs.Lines.{header}
 use Rattle.cut_ledger.specs.declared.slip.Slip.{Slip}
 use Rattle.cut_ledger.specs.Machine.{table_over}
 use Rattle.cut_table.specs.Traffic.{Traffic, wrote}
@@ -10,8 +12,8 @@ use Rattle.cut_pool.specs.declared.emit.EmitFault.{EmitFault}
 use Rattle.cut_pool.specs.Lines.{full_line}
 use Rattle.cut_pool.specs.Pass.{Holding}
 use Rattle.cut_pool.specs.Emission.{Emits, IsEmitted}
-use Rattle.cut_pool.proofs.Tables.{front_of, front_more, behind, table_splits, table_ends, line_next, header_first}
-use Rattle.cut_pool.proofs.Tables.{take_front, wrote_none, wrote_more, cut_off, cut_short}
+use Rattle.cut_pool.proofs.Tables.{front_of, behind, table_splits, table_ends, next_line, header_in_front}
+use Rattle.cut_table.proofs.Lines.{front_more, take_front, wrote_none, wrote_more, cut_off, cut_short}
 use Rattle.cut_pool.proofs.emit.emit.Goals as goal
 
 -- ---- the header was not written
@@ -26,7 +28,7 @@ returns-in_err-sent-clause-told g c =
     let line : List ℕ = c.header.result.now in
     λ told. subst (λ (x : Result ℕ EmitFault). Emits (table_over v base) x old new) (sym p.1)
     (rw p.2 (cut_off (table_over v base) [] line (behind v base 0) 0 c.in_err-sent.field-0.0 old old new
-    (header_first v base line c.header.ensures.names) (omega arith)
+    (header_in_front v base line c.header.ensures.names) (omega arith)
     c.in_err-sent.ensures.err (wrote_none old) (c.in_err-sent.ensures.told told)))
 
 pub returns-in_err-sent-clause-ended : goal.returns-in_err-sent-clause-ended
@@ -37,7 +39,7 @@ returns-in_err-sent-clause-ended g c =
     let line : List ℕ = c.header.result.now in
     subst (λ (x : Result ℕ EmitFault). IsEmitted (table_over v base) x) (sym p.1)
     (rw p.2 (cut_short (table_over v base) [] line (behind v base 0) 0 c.in_err-sent.field-0.0
-    (header_first v base line c.header.ensures.names) (omega arith) c.in_err-sent.ensures.err))
+    (header_in_front v base line c.header.ensures.names) (omega arith) c.in_err-sent.ensures.err))
 
 -- ---- a line did not come
 
@@ -72,7 +74,7 @@ returns-in_err-sent-2-clause-told g c =
     c.from_residual-in_err-sent-2.ensures.1 in
     let line : List ℕ = c.as_slice.result.now in
     let low : n < length (cells_of v) = omega (arith, c.loop-cell-test.true, c.cells-cell-end.ensures.value) in
-    let whole = line_next v base n line low (c.as_slice.ensures.value ∙ c.in_ok-line.ensures.line) in
+    let whole = next_line v base n line low (c.as_slice.ensures.value ∙ c.in_ok-line.ensures.line) in
     λ told. subst (λ (x : Result ℕ EmitFault). Emits (table_over v base) x old new) (sym p.1)
     (rw p.2 (cut_off (table_over v base) (front_of v base n) line (behind v base (n + 1)) c.loop-cell.sent
     c.in_err-sent-2.field-0.0 old (g.W.Wire.traffic c.loop-cell.wire) new whole
@@ -88,7 +90,7 @@ returns-in_err-sent-2-clause-ended g c =
     c.from_residual-in_err-sent-2.ensures.1 in
     let line : List ℕ = c.as_slice.result.now in
     let low : n < length (cells_of v) = omega (arith, c.loop-cell-test.true, c.cells-cell-end.ensures.value) in
-    let whole = line_next v base n line low (c.as_slice.ensures.value ∙ c.in_ok-line.ensures.line) in
+    let whole = next_line v base n line low (c.as_slice.ensures.value ∙ c.in_ok-line.ensures.line) in
     subst (λ (x : Result ℕ EmitFault). IsEmitted (table_over v base) x) (sym p.1)
     (rw p.2 (cut_short (table_over v base) (front_of v base n) line (behind v base (n + 1)) c.loop-cell.sent
     c.in_err-sent-2.field-0.0 whole c.loop-cell.invariant.count c.in_err-sent-2.ensures.err))
@@ -102,7 +104,7 @@ loop-cell-preserved g c =
     let n : ℕ = c.loop-cell.cell in
     let old : Traffic = g.W.Wire.traffic c.args.wire.now in
     let line : c.as_slice.result.now ≡ full_line v base n = c.as_slice.ensures.value ∙ c.in_ok-line.ensures.line in
-    let more : front_of v base (n + 1) ≡ front_of v base n ++ full_line v base n = front_more v base n in
+    let more : front_of v base (n + 1) ≡ front_of v base n ++ full_line v base n = front_more (header (version_of v.failing)) (full_line v base) n in
     record {
       count = omega (
         arith,

@@ -1,4 +1,4 @@
-use Rattle.std.proofs.Common.{◌≡◌, ◌∙◌, ◌+◌, All, rules, sym, subst, arith, ap}
+use Rattle.std.proofs.Common.{◌≡◌, ◌∙◌, ◌+◌, All, rules, sym, subst, ap}
 use Rattle.std.proofs.lemmas.List.Elements.{All-push}
 use Rattle.cut_server.proofs.attend.start_sessions.Goals as goal
 

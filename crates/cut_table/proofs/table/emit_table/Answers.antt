@@ -1,5 +1,5 @@
 use Rattle.std.proofs.Common.{◌≡◌, ◌∙◌, ◌<◌, ◌+◌, ◌++◌, [], inl, inr, ℕ, List, Result, true, false, length}
-use Rattle.std.proofs.Common.{sym, ap, subst, arith, length-append, append-nil}
+use Rattle.std.proofs.Common.{sym, ap, subst, arith, length-append}
 use Rattle.std.specs.Bool.{⊤}
 use Rattle.std.proofs.lemmas.Bool.{cases_lt}
 use Rattle.std.proofs.lemmas.Result.{err_from_is_err_and}
@@ -12,8 +12,8 @@ use Rattle.cut_ledger.specs.Machine.{available}
 use Rattle.cut_table.specs.declared.fault.TableFault.{TableFault}
 use Rattle.cut_table.specs.Traffic.{Traffic, wrote}
 use Rattle.cut_table.specs.Table.{row_of, Emits, IsEnded}
-use Rattle.cut_table.proofs.Fronts.{front_of, front_more, behind, available_splits, available_ends}
-use Rattle.cut_table.proofs.Fronts.{take_front, wrote_none, wrote_more, cut_off, cut_short}
+use Rattle.cut_table.proofs.Fronts.{front_of, behind, available_splits, available_ends}
+use Rattle.cut_table.proofs.Lines.{front_more, header_first, line_next, take_front, wrote_none, wrote_more, cut_off, cut_short}
 use Rattle.cut_table.proofs.table.emit_table.Goals as goal
 
 -- one cell more is done
@@ -25,10 +25,10 @@ one_more_done l n before here k below = elim (cases_lt k n) [
 ]
 
 -- the header is in front of the lines
-header_first : (l : Contents) (line : List ℕ) → line ≡ header (version_of l.plan.failing) → available l ≡ ([] ++ line) ++ behind l 0
-header_first l line is =
-    available_splits l 0 (omega arith) (λ k low. absurd (omega (arith, low)))
-    ∙ ap (λ xs. xs ++ behind l 0) (append-nil (header (version_of l.plan.failing)) ∙ sym is)
+header_in_front : (l : Contents) (text : List ℕ) → text ≡ header (version_of l.plan.failing) → available l ≡ ([] ++ text) ++ behind l 0
+header_in_front l text is =
+    header_first (header (version_of l.plan.failing)) (row_of l) (available l) text (behind l 0)
+    (available_splits l 0 (omega arith) (λ k low. absurd (omega (arith, low)))) is
 
 pub returns-in_err-sent-clause-told : goal.returns-in_err-sent-clause-told
 returns-in_err-sent-clause-told g c =
@@ -37,9 +37,9 @@ returns-in_err-sent-clause-told g c =
     let new : Traffic = g.W.Wire.traffic c.send_after.new.wire in
     let p = err_from_is_err_and c.from_residual.result c.from_residual.ensures.1 in
     let line : List ℕ = c.header.result.now in
-    let whole = header_first l line (c.header.ensures.names ∙ ap (λ (v : Values). header (version_of v.failing)) c.plan.ensures.value) in
+    let whole = header_in_front l line (c.header.ensures.names ∙ ap (λ (v : Values). header (version_of v.failing)) c.plan.ensures.value) in
     λ told. subst (λ (x : Result ⊤ TableFault). Emits l x old new) (sym p.1)
-    (rw p.2 (cut_off l [] line (behind l 0) 0 c.in_err-sent.field-0.0 old old new whole (omega arith)
+    (rw p.2 (cut_off (available l) [] line (behind l 0) 0 c.in_err-sent.field-0.0 old old new whole (omega arith)
     c.in_err-sent.ensures.err (wrote_none old) (c.in_err-sent.ensures.told told)))
 
 pub returns-in_err-sent-clause-ended : goal.returns-in_err-sent-clause-ended
@@ -47,9 +47,9 @@ returns-in_err-sent-clause-ended g c =
     let l : Contents = c.args.ledger.now.contents in
     let p = err_from_is_err_and c.from_residual.result c.from_residual.ensures.1 in
     let line : List ℕ = c.header.result.now in
-    let whole = header_first l line (c.header.ensures.names ∙ ap (λ (v : Values). header (version_of v.failing)) c.plan.ensures.value) in
+    let whole = header_in_front l line (c.header.ensures.names ∙ ap (λ (v : Values). header (version_of v.failing)) c.plan.ensures.value) in
     subst (λ (x : Result ⊤ TableFault). IsEnded l x) (sym p.1)
-    (rw p.2 (cut_short l [] line (behind l 0) 0 c.in_err-sent.field-0.0 whole
+    (rw p.2 (cut_short (available l) [] line (behind l 0) 0 c.in_err-sent.field-0.0 whole
     (omega arith) c.in_err-sent.ensures.err))
 
 pub returns-in-Err-NotDone-clause-told : goal.returns-in-Err-NotDone-clause-told
@@ -105,12 +105,12 @@ returns-in-Err-Memory-clause-ended g c =
     )
 
 -- the line of a done cell stands behind those before it
-line_next : (l : Contents) (n : ℕ) (line : List ℕ) → n < length (cells_of l.plan)
-    → ((k : ℕ) → k < n → cell_done l k ≡ true) → cell_done l n ≡ true → line ≡ row_of l n
-    → available l ≡ (front_of l n ++ line) ++ behind l (n + 1)
-line_next l n line low before here is =
-    available_splits l (n + 1) (omega (arith, low)) (one_more_done l n before here)
-    ∙ ap (λ xs. xs ++ behind l (n + 1)) (front_more l n ∙ ap (λ xs. front_of l n ++ xs) (sym is))
+done_line_next : (l : Contents) (n : ℕ) (text : List ℕ) → n < length (cells_of l.plan)
+    → ((k : ℕ) → k < n → cell_done l k ≡ true) → cell_done l n ≡ true → text ≡ row_of l n
+    → available l ≡ (front_of l n ++ text) ++ behind l (n + 1)
+done_line_next l n text low before here is =
+    line_next (header (version_of l.plan.failing)) (row_of l) n (available l) text (behind l (n + 1))
+    (available_splits l (n + 1) (omega (arith, low)) (one_more_done l n before here)) is
 
 pub returns-in_err-sent-2-clause-told : goal.returns-in_err-sent-2-clause-told
 returns-in_err-sent-2-clause-told g c =
@@ -128,10 +128,10 @@ returns-in_err-sent-2-clause-told g c =
       c.cells-cell-end.ensures.value,
       ap (λ (v : Values). length (cells_of v)) c.plan-2.ensures.value,
     ) in
-    let whole = line_next l n line low c.loop-cell.invariant.done c.in-Ok.ensures.done
+    let whole = done_line_next l n line low c.loop-cell.invariant.done c.in-Ok.ensures.done
     (c.as_slice.ensures.value ∙ c.in-Ok.ensures.ok) in
     λ told. subst (λ (x : Result ⊤ TableFault). Emits l x old new) (sym p.1)
-    (rw p.2 (cut_off l (front_of l n) line (behind l (n + 1)) c.loop-cell.sent c.in_err-sent-2.field-0.0 old
+    (rw p.2 (cut_off (available l) (front_of l n) line (behind l (n + 1)) c.loop-cell.sent c.in_err-sent-2.field-0.0 old
     (g.W.Wire.traffic c.loop-cell.wire) new whole
     c.loop-cell.invariant.count c.in_err-sent-2.ensures.err (c.loop-cell.invariant.told told)
     (c.in_err-sent-2.ensures.told (c.loop-cell.invariant.tells.0 told))))
@@ -150,10 +150,10 @@ returns-in_err-sent-2-clause-ended g c =
       c.cells-cell-end.ensures.value,
       ap (λ (v : Values). length (cells_of v)) c.plan-2.ensures.value,
     ) in
-    let whole = line_next l n line low c.loop-cell.invariant.done c.in-Ok.ensures.done
+    let whole = done_line_next l n line low c.loop-cell.invariant.done c.in-Ok.ensures.done
     (c.as_slice.ensures.value ∙ c.in-Ok.ensures.ok) in
     subst (λ (x : Result ⊤ TableFault). IsEnded l x) (sym p.1)
-    (rw p.2 (cut_short l (front_of l n) line (behind l (n + 1)) c.loop-cell.sent c.in_err-sent-2.field-0.0
+    (rw p.2 (cut_short (available l) (front_of l n) line (behind l (n + 1)) c.loop-cell.sent c.in_err-sent-2.field-0.0
     whole c.loop-cell.invariant.count c.in_err-sent-2.ensures.err))
 
 pub loop-cell-preserved : goal.loop-cell-preserved
@@ -161,7 +161,7 @@ loop-cell-preserved g c =
     let l : Contents = c.args.ledger.now.contents in
     let n : ℕ = c.loop-cell.cell in
     let line : c.as_slice.result.now ≡ row_of l n = c.as_slice.ensures.value ∙ c.in-Ok.ensures.ok in
-    let more : front_of l (n + 1) ≡ front_of l n ++ row_of l n = front_more l n in
+    let more : front_of l (n + 1) ≡ front_of l n ++ row_of l n = front_more (header (version_of l.plan.failing)) (row_of l) n in
     record {
       done = one_more_done l n c.loop-cell.invariant.done c.in-Ok.ensures.done;
       count = omega (

@@ -6,7 +6,7 @@ pub returns-clause-most : goal.returns-clause-most
 returns-clause-most c = most_votes_are_most
 
 pub returns-clause-right : goal.returns-clause-right
-returns-clause-right c = λ v t. (possible_outcome v t).right
+returns-clause-right c = λ v t. (possible_outcome v t).counted.right
 
 pub returns-clause-once : goal.returns-clause-once
-returns-clause-once c = λ v t. (possible_outcome v t).decided
+returns-clause-once c = λ v t. (possible_outcome v t).counted.decided
