@@ -124,6 +124,17 @@ fn no_order_matters_above_the_low_watermark(rt: HostRuntime) -> Result<(), Fail>
     Ok(())
 }
 
+// Whether a detector proposes these members, and proposed them at this delivery.
+fn proposes(
+    alloc: Global,
+    detector: &Detector<'_>,
+    members: &[u16],
+    at: u64,
+) -> Result<bool, Fail> {
+    let proposal = detector.proposal(alloc)?.ok_or("no proposal")?;
+    Ok(proposal.at == at && proposal.members.into_vec().as_slice() == members)
+}
+
 #[test]
 fn a_settled_detector_stays_until_it_is_reset(rt: HostRuntime) -> Result<(), Fail> {
     let alloc = rt.alloc();
@@ -131,60 +142,35 @@ fn a_settled_detector_stays_until_it_is_reset(rt: HostRuntime) -> Result<(), Fai
     assert!(rt; rings.len() >= 3 && rings.nodes() == 4);
     let mut detector = Detector::new(alloc, &rings, 3, 3, 1, false)?;
     assert!(rt; detector.proposal(alloc)?.is_none());
+    let first = Edge {
+        ring: 0,
+        subject: 1,
+    };
+    let second = Edge { ring: 1, ..first };
+    let third = Edge { ring: 2, ..first };
+    let other = Edge {
+        subject: 2,
+        ..first
+    };
+    let steps = [
+        detector.deliver(first),
+        detector.deliver(second),
+        detector.deliver(third),
+        detector.deliver(other),
+    ];
     assert_eq!(rt;
-        detector.deliver(Edge {
-            ring: 0,
-            subject: 1
-        }),
-        Step::Waiting
+        steps,
+        [Step::Waiting, Step::Waiting, Step::Settled, Step::Settled]
     );
-    assert_eq!(rt;
-        detector.deliver(Edge {
-            ring: 1,
-            subject: 1
-        }),
-        Step::Waiting
-    );
-    assert_eq!(rt;
-        detector.deliver(Edge {
-            ring: 2,
-            subject: 1
-        }),
-        Step::Settled
-    );
-    assert_eq!(rt;
-        detector.deliver(Edge {
-            ring: 0,
-            subject: 2
-        }),
-        Step::Settled
-    );
-    let proposal = detector.proposal(alloc)?.ok_or("no proposal")?;
-    assert_eq!(rt; proposal.at, 3);
-    assert_eq!(rt; proposal.members.into_vec().as_slice(), [1].as_slice());
+    assert!(rt; proposes(alloc, &detector, &[1], 3)?);
     assert_eq!(rt; detector.deliveries(), 3);
     detector.reset();
-    assert_eq!(rt;
-        detector.deliver(Edge {
-            ring: 0,
-            subject: 1
-        }),
-        Step::Waiting
-    );
-    assert_eq!(rt;
-        detector.deliver(Edge {
-            ring: 0,
-            subject: 1
-        }),
-        Step::Waiting
-    );
-    assert_eq!(rt;
-        detector.deliver(Edge {
-            ring: 0,
-            subject: 1
-        }),
-        Step::Waiting
-    );
+    let steps = [
+        detector.deliver(first),
+        detector.deliver(first),
+        detector.deliver(first),
+    ];
+    assert_eq!(rt; steps, [Step::Waiting; 3]);
     assert!(rt; detector.proposal(alloc)?.is_none());
     assert_eq!(rt; detector.deliveries(), 3);
     Ok(())

@@ -1,12 +1,15 @@
 use crate::{Journal, JournalFault};
-use cut_disks::{Disk, DiskCall, FaultyDisk, MemoryDisk, Tear};
+use cut_disks::{DiskCall, MemoryDisk};
 use cut_ledger::Slip;
 use cut_plan::{Plan, Version};
 use cut_rings::Rings;
 use cut_trial::{Piece, PieceResult, run_piece};
 use std::alloc::Global;
+use std::process::Abort;
 use std::test::Fail;
 
+mod crashes;
+mod failing;
 mod migration;
 mod vectors;
 
@@ -35,61 +38,104 @@ fn from_hex(alloc: Global, digits: &str) -> Result<Vec<u8>, Fail> {
     Ok(bytes)
 }
 
+// The numbers of a slip that each version has.
+fn nine_text(alloc: Global, slip: &Slip) -> Result<String, Fail> {
+    let Slip { piece, totals: t } = *slip;
+    Ok(format!(in alloc;
+        "{},{},{},{},{},{},{},{},{}",
+        piece.first,
+        piece.count,
+        t.receivers,
+        t.conflicts,
+        t.silent,
+        t.extra,
+        t.votes,
+        t.decided,
+        t.right
+    )?)
+}
+
+// The number of a slip that version 2 has besides, behind a comma.
+fn tenth_text(alloc: Global, version: Version, slip: &Slip) -> Result<String, Fail> {
+    Ok(match version {
+        Version::One => String::new(alloc),
+        Version::Two => format!(in alloc; ",{}", slip.totals.settled)?,
+    })
+}
+
+fn slip_text(alloc: Global, version: Version, slip: &Slip) -> Result<String, Fail> {
+    let mut text = nine_text(alloc, slip)?;
+    let tenth = tenth_text(alloc, version, slip)?;
+    text.push_str(tenth.as_str())?;
+    Ok(text)
+}
+
 // The numbers of slips: nine of each, and the tenth in version 2.
 fn slips_text(alloc: Global, version: Version, slips: &[Slip]) -> Result<String, Fail> {
     let mut text = String::new(alloc);
     for (i, slip) in slips.iter().enumerate() {
-        let Slip { piece, totals: t } = *slip;
-        let gap = if i == 0 { "" } else { " " };
-        text.push_str(format!(in alloc;
-            "{gap}{},{},{},{},{},{},{},{},{}",
-            piece.first,
-            piece.count,
-            t.receivers,
-            t.conflicts,
-            t.silent,
-            t.extra,
-            t.votes,
-            t.decided,
-            t.right
-        )?
-        .as_str())?;
-        if version == Version::Two {
-            text.push_str(format!(in alloc; ",{}", t.settled)?.as_str())?;
-        }
+        text.push_str(if i == 0 { "" } else { " " })?;
+        text.push_str(slip_text(alloc, version, slip)?.as_str())?;
     }
     Ok(text)
+}
+
+// A fault as it is printed, without its number.
+fn fault_text(alloc: Global, fault: &JournalFault) -> Result<String, Fail> {
+    let text = format!(in alloc; "{fault}")?;
+    Ok(String::from_str(alloc, text.as_str().get(3..).unwrap_or(""))?)
 }
 
 // What bytes are read as: a fault without its number, or the slips.
 fn told(alloc: Global, bytes: Vec<u8>, plan: &Plan) -> Result<String, Fail> {
     match Journal::reopen(alloc, MemoryDisk::of(alloc, bytes)?, plan) {
         Ok((_, slips)) => slips_text(alloc, plan.version(), slips.as_slice()),
-        Err((fault, _)) => {
-            let text = format!(in alloc; "{fault}")?;
-            Ok(String::from_str(alloc, text.as_str().get(3..).unwrap_or(""))?)
-        }
+        Err((fault, _)) => fault_text(alloc, &fault),
     }
 }
 
-fn changed_bytes(alloc: Global, base: &[u8], block: &str) -> Result<Vec<u8>, Fail> {
+// Whether bytes are read as a text says.
+fn is_told(alloc: Global, bytes: &[u8], plan: &Plan, wanted: &str) -> Result<bool, Fail> {
+    let text = told(alloc, Vec::from_slice(alloc, bytes)?, plan)?;
+    Ok(text.as_str() == wanted)
+}
+
+// The bytes whose hexadecimal digits a block gives under a name.
+fn bytes_under(alloc: Global, block: &str, name: &str) -> Result<Vec<u8>, Fail> {
+    let digits = under(alloc, block, name)?;
+    from_hex(alloc, digits.as_str())
+}
+
+// As many bytes of a file as a block keeps.
+fn kept_bytes(alloc: Global, base: &[u8], block: &str) -> Result<Vec<u8>, Fail> {
     let kept = under(alloc, block, "kept")?;
     let kept = number(kept.as_str()) as usize;
-    let mut bytes = Vec::from_slice(alloc, base.get(..kept).unwrap_or(&[]))?;
-    for line in block.lines() {
-        if let Some((at, digits)) = line
-            .strip_prefix("put ")
-            .and_then(|put| put.split_once(' '))
-        {
-            for (i, byte) in from_hex(alloc, digits)?.iter().enumerate() {
-                if let Some(place) = bytes.get_mut((number(at) as usize).wrapping_add(i)) {
-                    *place = *byte;
-                }
-            }
+    Ok(Vec::from_slice(alloc, base.get(..kept).unwrap_or(&[]))?)
+}
+
+// Puts the bytes of a line's digits in place of others, where it is such a line.
+fn put_line(alloc: Global, bytes: &mut [u8], line: &str) -> Result<(), Fail> {
+    let Some((at, digits)) = line
+        .strip_prefix("put ")
+        .and_then(|put| put.split_once(' '))
+    else {
+        return Ok(());
+    };
+    let start = number(at) as usize;
+    for (i, byte) in from_hex(alloc, digits)?.iter().enumerate() {
+        if let Some(place) = bytes.get_mut(start.wrapping_add(i)) {
+            *place = *byte;
         }
     }
-    let tail = under(alloc, block, "tail")?;
-    bytes.extend_from_slice(from_hex(alloc, tail.as_str())?.as_slice())?;
+    Ok(())
+}
+
+fn changed_bytes(alloc: Global, base: &[u8], block: &str) -> Result<Vec<u8>, Fail> {
+    let mut bytes = kept_bytes(alloc, base, block)?;
+    for line in block.lines() {
+        put_line(alloc, bytes.as_mut_slice(), line)?;
+    }
+    bytes.extend_from_slice(bytes_under(alloc, block, "tail")?.as_slice())?;
     Ok(bytes)
 }
 
@@ -100,8 +146,21 @@ fn plan_in(alloc: Global, block: &str) -> Result<Plan, Fail> {
 }
 
 fn bytes_in(alloc: Global, block: &str) -> Result<Vec<u8>, Fail> {
-    let digits = under(alloc, block, "file")?;
-    from_hex(alloc, digits.as_str())
+    bytes_under(alloc, block, "file")
+}
+
+// Asserts that bytes are read as a block says under a name.
+fn check_reading(
+    rt: &impl Abort,
+    alloc: Global,
+    bytes: Vec<u8>,
+    plan: &Plan,
+    (block, name): (&str, &str),
+) -> Result<(), Fail> {
+    let text = told(alloc, bytes, plan)?;
+    let wanted = under(alloc, block, name)?;
+    assert_eq!(rt; text.as_str(), wanted.as_str(), "{block}");
+    Ok(())
 }
 
 #[test]
@@ -113,14 +172,10 @@ fn files_are_read(rt: HostRuntime) -> Result<(), Fail> {
         let plan = plan_in(alloc, first)?;
         let base = bytes_in(alloc, first)?;
         let copy = Vec::from_slice(alloc, base.as_slice())?;
-        assert_eq!(rt;
-            told(alloc, copy, &plan)?.as_str(),
-            under(alloc, first, "slips")?.as_str()
-        );
+        check_reading(&rt, alloc, copy, &plan, (first, "slips"))?;
         for block in blocks {
             let bytes = changed_bytes(alloc, base.as_slice(), block)?;
-            let reading = under(alloc, block, "reading")?;
-            assert_eq!(rt; told(alloc, bytes, &plan)?.as_str(), reading.as_str());
+            check_reading(&rt, alloc, bytes, &plan, (block, "reading"))?;
         }
     }
     Ok(())
@@ -135,20 +190,63 @@ fn result_of(alloc: Global, plan: &Plan, first: u32, count: u32) -> Result<Piece
     Ok(run_piece(alloc, plan, &rings, Piece { first, count })?)
 }
 
-// Makes the journal of a plan, appends the results of pieces, and gives the bytes that are on its disk.
-fn written(alloc: Global, plan: &Plan, slips: &str) -> Result<Vec<u8>, Fail> {
+// Appends the result of the piece that a slip begins with.
+fn append_piece(
+    alloc: Global,
+    journal: &mut Journal<MemoryDisk>,
+    plan: &Plan,
+    slip: &str,
+) -> Result<(), Fail> {
+    let mut numbers = slip.split(',');
+    let first = number(numbers.next().unwrap_or(""));
+    let size = number(numbers.next().unwrap_or(""));
+    let result = result_of(alloc, plan, first, size)?;
+    let _ = journal.append(&result);
+    Ok(())
+}
+
+// Appends the results of the pieces of slips.
+fn append_pieces(
+    alloc: Global,
+    journal: &mut Journal<MemoryDisk>,
+    plan: &Plan,
+    slips: &str,
+) -> Result<(), Fail> {
+    for slip in slips.split(' ').filter(|slip| !slip.is_empty()) {
+        append_piece(alloc, journal, plan, slip)?;
+    }
+    Ok(())
+}
+
+// Makes the journal of a plan, appends the results of pieces, and gives its disk.
+fn written_disk(alloc: Global, plan: &Plan, slips: &str) -> Result<MemoryDisk, Fail> {
     match Journal::create(alloc, MemoryDisk::of(alloc, Vec::new(alloc))?, plan) {
         Ok(mut journal) => {
-            for slip in slips.split(' ').filter(|slip| !slip.is_empty()) {
-                let mut numbers = slip.split(',');
-                let first = number(numbers.next().unwrap_or(""));
-                let size = number(numbers.next().unwrap_or(""));
-                let _ = journal.append(&result_of(alloc, plan, first, size)?);
-            }
-            Ok(Vec::from_slice(alloc, journal.into_disk().bytes())?)
+            append_pieces(alloc, &mut journal, plan, slips)?;
+            Ok(journal.into_disk())
         }
-        Err((_fault, _disk)) => Ok(Vec::new(alloc)),
+        Err((_fault, disk)) => Ok(disk),
     }
+}
+
+// The bytes that are on that disk.
+fn written(alloc: Global, plan: &Plan, slips: &str) -> Result<Vec<u8>, Fail> {
+    let disk = written_disk(alloc, plan, slips)?;
+    Ok(Vec::from_slice(alloc, disk.bytes())?)
+}
+
+// The file that is written where a block's slips are appended.
+fn written_in(alloc: Global, block: &str) -> Result<Vec<u8>, Fail> {
+    let plan = plan_in(alloc, block)?;
+    let slips = under(alloc, block, "slips")?;
+    written(alloc, &plan, slips.as_str())
+}
+
+// Whether that file is the one that the block gives.
+fn is_written(alloc: Global, block: &str) -> Result<bool, Fail> {
+    let bytes = written_in(alloc, block)?;
+    let wanted = bytes_in(alloc, block)?;
+    Ok(bytes.as_slice() == wanted.as_slice())
 }
 
 #[test]
@@ -156,10 +254,7 @@ fn files_are_written(rt: HostRuntime) -> Result<(), Fail> {
     let alloc = rt.alloc();
     for file in files() {
         let first = file.split("\n\n").next().unwrap_or("");
-        let plan = plan_in(alloc, first)?;
-        let slips = under(alloc, first, "slips")?;
-        let bytes = written(alloc, &plan, slips.as_str())?;
-        assert!(rt; bytes.as_slice() == bytes_in(alloc, first)?.as_slice());
+        assert!(rt; is_written(alloc, first)?, "{first}");
     }
     Ok(())
 }
@@ -182,7 +277,32 @@ fn a_small_plan_of_version_2(rt: HostRuntime) -> Result<(), Fail> {
     assert_eq!(rt; written(alloc, &plan, "")?.len(), 259);
     let file = written(alloc, &plan, "0,2")?;
     assert_eq!(rt; file.len(), 372);
-    assert_eq!(rt; told(alloc, file, &plan)?.as_str(), "0,2,8,0,0,0,8,2,2,8");
+    assert!(rt; is_told(alloc, file.as_slice(), &plan, "0,2,8,0,0,0,8,2,2,8")?);
+    Ok(())
+}
+
+// A file in which a block puts bytes in place of others, and keeps all.
+fn put_bytes(alloc: Global, file: &[u8], change: &str) -> Result<Vec<u8>, Fail> {
+    let block = format!(in alloc; "kept {}\n{change}", file.len())?;
+    changed_bytes(alloc, file, block.as_str())
+}
+
+// Whether a change makes another file of this one, whose header is damaged.
+fn is_damage(alloc: Global, file: &[u8], plan: &Plan, change: &str) -> Result<bool, Fail> {
+    let bytes = put_bytes(alloc, file, change)?;
+    let is_damaged = is_told(alloc, bytes.as_slice(), plan, "Damaged 0")?;
+    Ok(bytes.as_slice() != file && is_damaged)
+}
+
+// Asserts that a change damages the file of a plan without slips.
+fn check_letters(rt: &impl Abort, alloc: Global, text: &str, change: &str) -> Result<(), Fail> {
+    let plan = Plan::from_json(alloc, text.as_bytes())?;
+    let file = written(alloc, &plan, "")?;
+    assert!(rt;
+        is_damage(alloc, file.as_slice(), &plan, change)?,
+        "{change}"
+    );
+    assert!(rt; is_told(alloc, file.as_slice(), &plan, "")?, "{change}");
     Ok(())
 }
 
@@ -202,26 +322,78 @@ fn letters_of_the_other_version(rt: HostRuntime) -> Result<(), Fail> {
         ),
     ];
     for (text, change) in rows {
-        let plan = Plan::from_json(alloc, text.as_bytes())?;
-        let file = written(alloc, &plan, "")?;
-        let block = format!(in alloc; "kept {}\n{change}", file.len())?;
-        let bytes = changed_bytes(alloc, file.as_slice(), block.as_str())?;
-        assert!(rt; bytes.as_slice() != file.as_slice());
-        assert_eq!(rt; told(alloc, bytes, &plan)?.as_str(), "Damaged 0");
-        assert_eq!(rt; told(alloc, file, &plan)?.as_str(), "");
+        check_letters(&rt, alloc, text, change)?;
     }
     Ok(())
 }
 
 // A file of the small plan with the slip of its two trials.
 fn small_file(alloc: Global, plan: &Plan) -> Result<Vec<u8>, Fail> {
-    match Journal::create(alloc, MemoryDisk::of(alloc, Vec::new(alloc))?, plan) {
-        Ok(mut journal) => {
-            let _ = journal.append(&result_of(alloc, plan, 0, 2)?);
-            Ok(Vec::from_slice(alloc, journal.into_disk().bytes())?)
-        }
-        Err(_) => Ok(Vec::new(alloc)),
+    written(alloc, plan, "0,2")
+}
+
+// What the slip of those trials is told as.
+const WHOLE: &str = "0,2,8,0,0,0,8,2,2";
+
+fn put_byte(bytes: &mut [u8], at: usize, byte: u8) {
+    if let Some(place) = bytes.get_mut(at) {
+        *place = byte;
     }
+}
+
+// What a file is read as where one byte is another.
+fn told_with(
+    alloc: Global,
+    file: &[u8],
+    plan: &Plan,
+    (at, byte): (usize, u8),
+) -> Result<String, Fail> {
+    let mut bytes = Vec::from_slice(alloc, file)?;
+    put_byte(bytes.as_mut_slice(), at, byte);
+    told(alloc, bytes, plan)
+}
+
+// What as many bytes of a file are read as.
+fn told_cut(alloc: Global, file: &[u8], plan: &Plan, size: usize) -> Result<String, Fail> {
+    let bytes = Vec::from_slice(alloc, file.get(..size).unwrap_or(&[]))?;
+    told(alloc, bytes, plan)
+}
+
+// What a file is read as with other bytes behind.
+fn told_longer(alloc: Global, file: &[u8], plan: &Plan) -> Result<String, Fail> {
+    let mut longer = Vec::from_slice(alloc, file)?;
+    longer.extend_from_slice(&[0xA5; 100])?;
+    told(alloc, longer, plan)
+}
+
+// That file alone, without its plan.
+fn lone_file(alloc: Global) -> Result<Vec<u8>, Fail> {
+    let plan = Plan::from_json(alloc, SMALL.as_bytes())?;
+    small_file(alloc, &plan)
+}
+
+#[test]
+fn the_file_of_a_small_plan(rt: HostRuntime) -> Result<(), Fail> {
+    let file = lone_file(rt.alloc())?;
+    assert_eq!(rt; file.len(), 372);
+    for gate in [0, 266] {
+        assert_eq!(rt; file.get(gate).copied(), Some(0xA5));
+    }
+    assert_eq!(rt; file.get(371).copied(), Some(0));
+    Ok(())
+}
+
+// Asserts what a file is read as where one byte is another.
+fn check_changed(
+    rt: &impl Abort,
+    alloc: Global,
+    file: &[u8],
+    plan: &Plan,
+    (at, byte, reading): (usize, u8, &str),
+) -> Result<(), Fail> {
+    let text = told_with(alloc, file, plan, (at, byte))?;
+    assert_eq!(rt; text.as_str(), reading, "{at}");
+    Ok(())
 }
 
 #[test]
@@ -229,110 +401,79 @@ fn changed_files_of_a_small_plan(rt: HostRuntime) -> Result<(), Fail> {
     let alloc = rt.alloc();
     let plan = Plan::from_json(alloc, SMALL.as_bytes())?;
     let file = small_file(alloc, &plan)?;
-    let whole = "0,2,8,0,0,0,8,2,2";
-    assert_eq!(rt; file.len(), 372);
-    for gate in [0, 266] {
-        assert_eq!(rt; file.get(gate).copied(), Some(0xA5));
-    }
-    assert_eq!(rt; file.get(371).copied(), Some(0));
     let rows = [
         (0, 0, "NoStudy"),
         (20, 1, "Damaged 0"),
         (266, 0x37, ""),
         (300, 1, "Damaged 1"),
         (371, 0xA5, "Damaged 2"),
-        (371, 1, whole),
+        (371, 1, WHOLE),
     ];
-    for (at, byte, reading) in rows {
-        let mut bytes = Vec::from_slice(alloc, file.as_slice())?;
-        if let Some(place) = bytes.get_mut(at) {
-            *place = byte;
-        }
-        assert_eq!(rt; told(alloc, bytes, &plan)?.as_str(), reading, "{at}");
+    for row in rows {
+        check_changed(&rt, alloc, file.as_slice(), &plan, row)?;
     }
-    for (size, reading) in [
+    Ok(())
+}
+
+// Asserts what as many bytes of a file are read as.
+fn check_cut(
+    rt: &impl Abort,
+    alloc: Global,
+    file: &[u8],
+    plan: &Plan,
+    (size, reading): (usize, &str),
+) -> Result<(), Fail> {
+    let text = told_cut(alloc, file, plan, size)?;
+    assert_eq!(rt; text.as_str(), reading, "{size}");
+    Ok(())
+}
+
+#[test]
+fn cut_files_of_a_small_plan(rt: HostRuntime) -> Result<(), Fail> {
+    let alloc = rt.alloc();
+    let plan = Plan::from_json(alloc, SMALL.as_bytes())?;
+    let file = small_file(alloc, &plan)?;
+    for row in [
         (0, "NoStudy"),
         (1, "NoStudy"),
         (266, "Damaged 0"),
         (371, "Damaged 1"),
-        (372, whole),
+        (372, WHOLE),
     ] {
-        let bytes = Vec::from_slice(alloc, file.get(..size).unwrap_or(&[]))?;
-        assert_eq!(rt; told(alloc, bytes, &plan)?.as_str(), reading, "{size}");
-    }
-    let mut longer = Vec::from_slice(alloc, file.as_slice())?;
-    longer.extend_from_slice(&[0xA5; 100])?;
-    assert_eq!(rt; told(alloc, longer, &plan)?.as_str(), whole);
-    Ok(())
-}
-
-// Each device call of an append fails in turn: the append answers 20, the next one 21, and after a reopening
-// the slip is there or it isn't.
-#[test]
-fn a_failing_append(rt: HostRuntime) -> Result<(), Fail> {
-    let alloc = rt.alloc();
-    let plan = Plan::from_json(alloc, SMALL.as_bytes())?;
-    let result = result_of(alloc, &plan, 0, 2)?;
-    let rows = [
-        (1, Tear::Nothing, 0),
-        (2, Tear::Nothing, 0),
-        (3, Tear::Nothing, 0),
-        (4, Tear::Nothing, 1),
-        (1, Tear::Everything, 0),
-        (2, Tear::Everything, 0),
-        (3, Tear::Everything, 1),
-        (4, Tear::Everything, 1),
-        (5, Tear::Everything, 1),
-    ];
-    for (fail_at, tear, slips) in rows {
-        let disk = FaultyDisk::of(alloc, Vec::new(alloc), fail_at, tear)?;
-        match Journal::create(alloc, disk, &plan) {
-            Ok(mut journal) => {
-                journal.disk().arm();
-                let answer = journal.append(&result);
-                assert_eq!(rt; matches!(answer, Err(JournalFault::Disk)), fail_at < 5);
-                let again = journal.append(&result);
-                assert_eq!(rt; matches!(again, Err(JournalFault::Broken)), fail_at < 5);
-                match Journal::reopen(alloc, journal.into_disk(), &plan) {
-                    Ok((_journal, found)) => assert!(rt;
-                        found.len() == slips || fail_at == 5,
-                        "{fail_at} {tear:?}"
-                    ),
-                    Err((_fault, disk)) => assert!(rt; fail_at == 5 && disk.failures() == 1),
-                }
-            }
-            Err(_) => assert!(rt; false),
-        }
+        check_cut(&rt, alloc, file.as_slice(), &plan, row)?;
     }
     Ok(())
 }
 
-// Each device call of a creation fails in turn: the disk is handed back, and then holds no study, so that a
-// second creation succeeds, or the study without slips.
 #[test]
-fn a_failing_creation(rt: HostRuntime) -> Result<(), Fail> {
+fn a_longer_file_of_a_small_plan(rt: HostRuntime) -> Result<(), Fail> {
     let alloc = rt.alloc();
     let plan = Plan::from_json(alloc, SMALL.as_bytes())?;
-    for tear in [Tear::Nothing, Tear::Everything] {
-        for fail_at in 1..=8 {
-            let disk = FaultyDisk::of(alloc, Vec::new(alloc), fail_at, tear)?;
-            disk.arm();
-            match Journal::create(alloc, disk, &plan) {
-                Ok(journal) => assert_eq!(rt; journal.into_disk().failures(), 0, "{fail_at}"),
-                Err((fault, disk)) => {
-                    assert!(rt; matches!(fault, JournalFault::Disk), "{fail_at}");
-                    match Journal::reopen(alloc, disk, &plan) {
-                        Ok((_journal, slips)) => assert!(rt; slips.is_empty(), "{fail_at}"),
-                        Err((fault, disk)) => {
-                            assert!(rt; matches!(fault, JournalFault::NoStudy), "{fail_at}");
-                            assert!(rt; Journal::create(alloc, disk, &plan).is_ok(), "{fail_at}");
-                        }
-                    }
-                }
-            }
-        }
-    }
+    let file = small_file(alloc, &plan)?;
+    let text = told_longer(alloc, file.as_slice(), &plan)?;
+    assert_eq!(rt; text.as_str(), WHOLE);
     Ok(())
+}
+
+// Whether a creation is refused on a disk that holds a study, and leaves its bytes.
+fn is_held(alloc: Global, bytes: &[u8], plan: &Plan) -> Result<bool, Fail> {
+    let disk = MemoryDisk::of(alloc, Vec::from_slice(alloc, bytes)?)?;
+    Ok(match Journal::create(alloc, disk, plan) {
+        Err((fault, disk)) => matches!(fault, JournalFault::Held) && disk.bytes() == bytes,
+        Ok(_journal) => false,
+    })
+}
+
+// The plan of the first of the files.
+fn other_plan(alloc: Global) -> Result<Plan, Fail> {
+    let [other, ..] = files();
+    plan_in(alloc, other.split("\n\n").next().unwrap_or(""))
+}
+
+// Whether bytes are those of a study of another plan than that one.
+fn is_other(alloc: Global, bytes: &[u8]) -> Result<bool, Fail> {
+    let other = other_plan(alloc)?;
+    is_told(alloc, bytes, &other, "OtherPlan")
 }
 
 #[test]
@@ -340,20 +481,8 @@ fn held_and_other_plans(rt: HostRuntime) -> Result<(), Fail> {
     let alloc = rt.alloc();
     let plan = Plan::from_json(alloc, SMALL.as_bytes())?;
     let file = small_file(alloc, &plan)?;
-    match Journal::create(
-        alloc,
-        MemoryDisk::of(alloc, Vec::from_slice(alloc, file.as_slice())?)?,
-        &plan,
-    ) {
-        Err((fault, disk)) => {
-            assert!(rt; matches!(fault, JournalFault::Held));
-            assert!(rt; disk.bytes() == file.as_slice());
-        }
-        Ok(_journal) => assert!(rt; false),
-    }
-    let [other, ..] = files();
-    let other = plan_in(alloc, other.split("\n\n").next().unwrap_or(""))?;
-    assert_eq!(rt; told(alloc, file, &other)?.as_str(), "OtherPlan");
+    assert!(rt; is_held(alloc, file.as_slice(), &plan)?);
+    assert!(rt; is_other(alloc, file.as_slice())?);
     Ok(())
 }
 
@@ -368,54 +497,51 @@ fn opened(alloc: Global, disk: MemoryDisk, plan: &Plan) -> Result<(String, Memor
     })
 }
 
+// Asserts what an opening finds, and gives the disk back.
+fn open_as(
+    rt: &impl Abort,
+    alloc: Global,
+    disk: MemoryDisk,
+    plan: &Plan,
+    wanted: &str,
+) -> Result<MemoryDisk, Fail> {
+    let (line, disk) = opened(alloc, disk, plan)?;
+    assert_eq!(rt; line.as_str(), wanted);
+    Ok(disk)
+}
+
 #[test]
-fn a_journal_is_opened_or_made(rt: HostRuntime) -> Result<(), Fail> {
+fn a_journal_is_made(rt: HostRuntime) -> Result<(), Fail> {
     let alloc = rt.alloc();
     let plan = Plan::from_json(alloc, SMALL.as_bytes())?;
-    let (line, disk) = opened(alloc, MemoryDisk::of(alloc, Vec::new(alloc))?, &plan)?;
-    assert_eq!(rt; line.as_str(), "0 slips");
+    let disk = MemoryDisk::of(alloc, Vec::new(alloc))?;
+    let disk = open_as(&rt, alloc, disk, &plan, "0 slips")?;
     assert_eq!(rt; disk.bytes().len(), 267);
-    let (line, disk) = opened(alloc, disk, &plan)?;
-    assert_eq!(rt; line.as_str(), "0 slips");
+    let disk = open_as(&rt, alloc, disk, &plan, "0 slips")?;
     assert_eq!(rt; disk.bytes().len(), 267);
-    let file = small_file(alloc, &plan)?;
-    let copy = Vec::from_slice(alloc, file.as_slice())?;
-    let (line, disk) = opened(alloc, MemoryDisk::of(alloc, copy)?, &plan)?;
-    assert_eq!(rt; line.as_str(), "1 slips");
-    let [other, ..] = files();
-    let other = plan_in(alloc, other.split("\n\n").next().unwrap_or(""))?;
-    let (line, disk) = opened(alloc, disk, &other)?;
-    assert_eq!(rt; line.as_str(), "23 OtherPlan");
-    assert!(rt; disk.bytes() == file.as_slice());
     Ok(())
 }
 
-// Each device call of a reopening fails in turn: the disk is handed back with one failed call and its bytes,
-// and the study is there again.
+// Opens the journal of a file, and gives its disk.
+fn open_file(rt: &impl Abort, alloc: Global, file: &[u8], plan: &Plan) -> Result<MemoryDisk, Fail> {
+    let disk = MemoryDisk::of(alloc, Vec::from_slice(alloc, file)?)?;
+    open_as(rt, alloc, disk, plan, "1 slips")
+}
+
+// Opens it for another plan.
+fn open_other(rt: &impl Abort, alloc: Global, disk: MemoryDisk) -> Result<MemoryDisk, Fail> {
+    let other = other_plan(alloc)?;
+    open_as(rt, alloc, disk, &other, "23 OtherPlan")
+}
+
 #[test]
-fn a_failing_reopening(rt: HostRuntime) -> Result<(), Fail> {
+fn a_journal_is_opened(rt: HostRuntime) -> Result<(), Fail> {
     let alloc = rt.alloc();
     let plan = Plan::from_json(alloc, SMALL.as_bytes())?;
     let file = small_file(alloc, &plan)?;
-    for fail_at in 1..=12 {
-        let bytes = Vec::from_slice(alloc, file.as_slice())?;
-        let disk = FaultyDisk::of(alloc, bytes, fail_at, Tear::Everything)?;
-        disk.arm();
-        match Journal::reopen(alloc, disk, &plan) {
-            Ok((journal, slips)) => {
-                assert!(rt; fail_at == 12 && slips.len() == 1);
-                assert_eq!(rt; journal.disk().failures(), 0);
-            }
-            Err((fault, disk)) => {
-                assert!(rt;
-                    fail_at < 12 && matches!(fault, JournalFault::Disk),
-                    "{fail_at}"
-                );
-                assert_eq!(rt; disk.failures(), 1);
-                assert!(rt; Journal::reopen(alloc, disk, &plan).is_ok(), "{fail_at}");
-            }
-        }
-    }
+    let disk = open_file(&rt, alloc, file.as_slice(), &plan)?;
+    let disk = open_other(&rt, alloc, disk)?;
+    assert!(rt; disk.bytes() == file.as_slice());
     Ok(())
 }
 
@@ -427,17 +553,21 @@ fn call_text(alloc: Global, call: &DiskCall) -> Result<String, Fail> {
     })
 }
 
-// The disk of a small plan's journal with the slip of its two trials.
-fn written_disk(alloc: Global, text: &str) -> Result<MemoryDisk, Fail> {
-    let plan = Plan::from_json(alloc, text.as_bytes())?;
-    let result = result_of(alloc, &plan, 0, 2)?;
-    match Journal::create(alloc, MemoryDisk::of(alloc, Vec::new(alloc))?, &plan) {
-        Ok(mut journal) => {
-            let _ = journal.append(&result);
-            Ok(journal.into_disk())
-        }
-        Err((_fault, disk)) => Ok(disk),
+// The calls of a disk, each on a line.
+fn calls_text(alloc: Global, calls: &[DiskCall]) -> Result<String, Fail> {
+    let mut text = String::new(alloc);
+    for call in calls {
+        text.push_str(call_text(alloc, call)?.as_str())?;
+        text.push('\n')?;
     }
+    Ok(text)
+}
+
+// The calls of a small plan's journal that takes the slip of its two trials.
+fn small_calls(alloc: Global, text: &str) -> Result<String, Fail> {
+    let plan = Plan::from_json(alloc, text.as_bytes())?;
+    let disk = written_disk(alloc, &plan, "0,2")?;
+    calls_text(alloc, disk.calls())
 }
 
 // What a creation and an append do to a disk, in order.
@@ -448,100 +578,11 @@ fn calls_come_in_order(rt: HostRuntime) -> Result<(), Fail> {
         (SMALL, "write 1 266", "write 267 105", "write 266 1"),
         (SMALL_2, "write 1 258", "write 259 113", "write 258 1"),
     ] {
-        let wanted = [
-            "sync",
-            "write 0 1",
-            "sync",
-            header,
-            "sync",
-            "write 0 1",
-            "sync",
-            slip,
-            "sync",
-            gate,
-            "sync",
-        ];
-        let disk = written_disk(alloc, plan)?;
-        assert_eq!(rt; disk.calls().len(), wanted.len());
-        for (call, text) in disk.calls().iter().zip(wanted) {
-            assert_eq!(rt; call_text(alloc, call)?.as_str(), text);
-        }
-    }
-    Ok(())
-}
-
-// The next number after a seed, and the byte that it begins with.
-fn drawn(seed: u64) -> (u64, u8) {
-    let next = seed
-        .wrapping_mul(6_364_136_223_846_793_005)
-        .wrapping_add(1_442_695_040_888_963_407);
-    (next, next.to_be_bytes()[0])
-}
-
-// Bytes as a crash may leave them, of which those from `start` up to `stop` were being written: each of these
-// is the old one, the new one or any other, and where the file gets longer it may end early.
-fn torn(
-    alloc: Global,
-    old: &[u8],
-    new: &[u8],
-    start: usize,
-    stop: usize,
-    seed: u64,
-) -> Result<Vec<u8>, Fail> {
-    let mut bytes = Vec::new(alloc);
-    let mut seed = seed;
-    for (at, written) in new.iter().enumerate() {
-        let (next, other) = drawn(seed);
-        let (after, choice) = drawn(next);
-        seed = after;
-        if at >= old.len() && choice >= 250 {
-            break;
-        }
-        let before = old.get(at).copied().unwrap_or(0);
-        let is_outside = at < start || at >= stop;
-        bytes.push(match choice % 3 {
-            _ if is_outside => before,
-            0 => before,
-            1 => *written,
-            _ => other,
-        })?;
-    }
-    Ok(bytes)
-}
-
-// What drawn crashes leave at each moment of a creation and an append: no study, then one without slips, then
-// the slip too.
-#[test]
-fn crashes_leave_a_study(rt: HostRuntime) -> Result<(), Fail> {
-    let alloc = rt.alloc();
-    let plan = Plan::from_json(alloc, SMALL.as_bytes())?;
-    let file = small_file(alloc, &plan)?;
-    let whole = "0,2,8,0,0,0,8,2,2";
-    let mut written = Vec::from_slice(alloc, file.as_slice())?;
-    if let Some(gate) = written.get_mut(266) {
-        *gate = 0;
-    }
-    let empty = Vec::from_slice(alloc, written.as_slice().get(..267).unwrap_or(&[]))?;
-    let mut closed = Vec::from_slice(alloc, empty.as_slice())?;
-    if let Some(gate) = closed.get_mut(0) {
-        *gate = 0;
-    }
-    let rows = [
-        (&[] as &[u8], &[0u8] as &[u8], 0, 1, ["NoStudy", "NoStudy"]),
-        (&[0], closed.as_slice(), 1, 267, ["NoStudy", "NoStudy"]),
-        (closed.as_slice(), empty.as_slice(), 0, 1, ["NoStudy", ""]),
-        (empty.as_slice(), written.as_slice(), 267, 372, ["", ""]),
-        (written.as_slice(), file.as_slice(), 266, 267, ["", whole]),
-    ];
-    for (old, new, start, stop, readings) in rows {
-        for seed in 0..40 {
-            let bytes = torn(alloc, old, new, start, stop, seed)?;
-            let reading = told(alloc, bytes, &plan)?;
-            assert!(rt;
-                readings.contains(&reading.as_str()),
-                "{start} {seed} {reading}"
-            );
-        }
+        let wanted = format!(in alloc;
+            "sync\nwrite 0 1\nsync\n{header}\nsync\nwrite 0 1\nsync\n{slip}\nsync\n{gate}\nsync\n"
+        )?;
+        let text = small_calls(alloc, plan)?;
+        assert_eq!(rt; text.as_str(), wanted.as_str());
     }
     Ok(())
 }

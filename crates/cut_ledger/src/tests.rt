@@ -7,6 +7,7 @@ use cut_plan::Plan;
 use cut_rings::Rings;
 use cut_trial::{Piece, PieceResult, Totals, run_piece};
 use std::alloc::{AllocError, Global};
+use std::process::Abort;
 use std::test::Fail;
 
 mod listing;
@@ -65,6 +66,47 @@ fn told<T: Drop>(alloc: Global, answer: Result<T, LedgerFault>) -> Result<String
     }
 }
 
+// A ledger of a plan that holds nothing.
+fn fresh(alloc: Global, plan: &Plan) -> Result<Ledger, Fail> {
+    Ok(Ledger::fresh(alloc, plan.try_clone(alloc)?)?)
+}
+
+// A ledger that begins with these slips, of a plan of 5 processes, one of which fails.
+fn begun(alloc: Global, repeats: u32, slips: &[Slip]) -> Result<Ledger, Fail> {
+    let plan = plan_of(alloc, 5, "[1]", 0, repeats)?;
+    Ok(Ledger::from_slips(alloc, plan, slips)?)
+}
+
+// What is told of these slips of such a plan of 2 trials.
+fn told_of_slips(alloc: Global, slips: &[Slip]) -> Result<String, Fail> {
+    let plan = plan_of(alloc, 5, "[1]", 0, 2)?;
+    Ok(told(alloc, Ledger::from_slips(alloc, plan, slips))?)
+}
+
+// What is told of an offer of these trials of a plan.
+fn offered(
+    alloc: Global,
+    ledger: &mut Ledger,
+    plan: &Plan,
+    first: u32,
+    count: u32,
+) -> Result<String, Fail> {
+    let result = result_of(alloc, plan, first, count)?;
+    Ok(told(alloc, ledger.offer(&result))?)
+}
+
+// Offers these trials of a plan, which are taken.
+fn add(
+    alloc: Global,
+    ledger: &mut Ledger,
+    plan: &Plan,
+    first: u32,
+    count: u32,
+) -> Result<(), Fail> {
+    let result = result_of(alloc, plan, first, count)?;
+    Ok(ledger.offer(&result)?)
+}
+
 // Pieces as they are written: first trial, and the one behind the last.
 fn written(alloc: Global, pieces: &[Piece]) -> Result<String, AllocError> {
     let mut text = String::new(alloc);
@@ -75,12 +117,23 @@ fn written(alloc: Global, pieces: &[Piece]) -> Result<String, AllocError> {
     Ok(text)
 }
 
+// A ledger's gaps, as they are written.
+fn gaps_of(alloc: Global, ledger: &Ledger) -> Result<String, AllocError> {
+    let gaps = ledger.gaps(alloc)?;
+    written(alloc, &gaps)
+}
+
+// Whether a plan's first cell has these sums.
+fn has_sums(ledger: &Ledger, totals: Totals) -> bool {
+    ledger.plan().cells() > 0 && ledger.cell_sum(0) == totals
+}
+
 #[test]
 fn offers(rt: HostRuntime) -> Result<(), Fail> {
     let alloc = rt.alloc();
     let plan = plan_of(alloc, 5, "[1]", 0, 2)?;
     let other = plan_of(alloc, 5, "[0]", 1, 1)?;
-    let mut ledger = Ledger::fresh(alloc, plan.try_clone(alloc)?)?;
+    let mut ledger = fresh(alloc, &plan)?;
     let rows = [
         (&other, 0, 1, "15 Stranger"),
         (&plan, 1, 1, "taken"),
@@ -89,25 +142,29 @@ fn offers(rt: HostRuntime) -> Result<(), Fail> {
         (&plan, 0, 2, "16 Overlap"),
     ];
     for (of, first, count, wanted) in rows {
-        let result = result_of(alloc, of, first, count)?;
-        let answer = told(alloc, ledger.offer(&result))?;
+        let answer = offered(alloc, &mut ledger, of, first, count)?;
         assert_eq!(rt; answer.as_str(), wanted, "{first} {count}");
     }
     assert!(rt; ledger.complete());
     Ok(())
 }
 
+// Whether a ledger is one of this plan that began with nothing, and whose first cell is done.
+fn is_done(ledger: &Ledger, plan: &Plan) -> bool {
+    ledger.plan().same(plan)
+        && ledger.base().as_slice().is_empty()
+        && ledger.plan().cells() > 0
+        && ledger.cell_done(0)
+}
+
 #[test]
 fn whole_cells(rt: HostRuntime) -> Result<(), Fail> {
     let alloc = rt.alloc();
     let plan = plan_of(alloc, 5, "[1]", 0, 2)?;
-    let mut ledger = Ledger::fresh(alloc, plan.try_clone(alloc)?)?;
-    ledger.offer(&result_of(alloc, &plan, 0, 2)?)?;
-    assert!(rt; ledger.plan().same(&plan) && ledger.base().as_slice().is_empty());
-    if ledger.plan().cells() > 0 {
-        assert!(rt; ledger.cell_done(0));
-        assert_eq!(rt; ledger.cell_sum(0), totals_of([8, 0, 0, 0, 8, 2, 2]));
-    }
+    let mut ledger = fresh(alloc, &plan)?;
+    add(alloc, &mut ledger, &plan, 0, 2)?;
+    assert!(rt; is_done(&ledger, &plan));
+    assert!(rt; has_sums(&ledger, totals_of([8, 0, 0, 0, 8, 2, 2])));
     Ok(())
 }
 
@@ -116,7 +173,7 @@ fn whole_cells(rt: HostRuntime) -> Result<(), Fail> {
 fn pieces_that_touch(rt: HostRuntime) -> Result<(), Fail> {
     let alloc = rt.alloc();
     let plan = plan_of(alloc, 5, "[1]", 0, 6)?;
-    let mut ledger = Ledger::fresh(alloc, plan.try_clone(alloc)?)?;
+    let mut ledger = fresh(alloc, &plan)?;
     let rows = [
         (2, 2, "taken", "[0,2)[4,6)"),
         (0, 1, "taken", "[1,2)[4,6)"),
@@ -126,17 +183,26 @@ fn pieces_that_touch(rt: HostRuntime) -> Result<(), Fail> {
         (0, 6, "16 Overlap", "[4,5)"),
     ];
     for (first, count, wanted, gaps) in rows {
-        let result = result_of(alloc, &plan, first, count)?;
-        assert_eq!(rt;
-            told(alloc, ledger.offer(&result))?.as_str(),
-            wanted,
-            "{first}"
-        );
-        assert_eq!(rt;
-            written(alloc, &ledger.gaps(alloc)?)?.as_str(),
-            gaps,
-            "{first}"
-        );
+        let answer = offered(alloc, &mut ledger, &plan, first, count)?;
+        assert_eq!(rt; answer.as_str(), wanted, "{first}");
+        let left = gaps_of(alloc, &ledger)?;
+        assert_eq!(rt; left.as_str(), gaps, "{first}");
+    }
+    Ok(())
+}
+
+// Two cells of five trials each, of which the second trial of the second is held.
+fn check_parts(rt: &impl Abort, alloc: Global, ledger: &Ledger) -> Result<(), Fail> {
+    let rows = [
+        (1, "[0,1)[1,2)[2,3)[3,4)[4,5)[5,6)[7,8)[8,9)[9,10)"),
+        (2, "[0,2)[2,4)[4,5)[5,6)[7,9)[9,10)"),
+        (5, "[0,5)[5,6)[7,10)"),
+        (u32::MAX, "[0,5)[5,6)[7,10)"),
+    ];
+    for (size, wanted) in rows {
+        let pieces = ledger.pieces(alloc, size)?;
+        let pieces = written(alloc, &pieces)?;
+        assert_eq!(rt; pieces.as_str(), wanted, "of {size}");
     }
     Ok(())
 }
@@ -146,35 +212,34 @@ fn pieces_that_touch(rt: HostRuntime) -> Result<(), Fail> {
 fn parts_of_gaps(rt: HostRuntime) -> Result<(), Fail> {
     let alloc = rt.alloc();
     let plan = plan_of(alloc, 5, "[0,1]", 0, 5)?;
-    let mut ledger = Ledger::fresh(alloc, plan.try_clone(alloc)?)?;
-    ledger.offer(&result_of(alloc, &plan, 6, 1)?)?;
-    let rows = [
-        (1, "[0,1)[1,2)[2,3)[3,4)[4,5)[5,6)[7,8)[8,9)[9,10)"),
-        (2, "[0,2)[2,4)[4,5)[5,6)[7,9)[9,10)"),
-        (5, "[0,5)[5,6)[7,10)"),
-        (u32::MAX, "[0,5)[5,6)[7,10)"),
-    ];
-    for (size, wanted) in rows {
-        let pieces = ledger.pieces(alloc, size)?;
-        assert_eq!(rt; written(alloc, &pieces)?.as_str(), wanted, "of {size}");
+    let mut ledger = fresh(alloc, &plan)?;
+    add(alloc, &mut ledger, &plan, 6, 1)?;
+    check_parts(&rt, alloc, &ledger)
+}
+
+// A ledger of two cells of two trials each.
+fn of_two_cells(alloc: Global) -> Result<Ledger, Fail> {
+    let plan = plan_of(alloc, 5, "[0,1]", 0, 2)?;
+    Ok(Ledger::fresh(alloc, plan)?)
+}
+
+// Reserves a place in the second cell, where there was none before. Tells whether there is one then, and still
+// none in the first.
+fn gains_room(ledger: &mut Ledger) -> Result<bool, Fail> {
+    if ledger.plan().cells() < 2 || ledger.has_room(0) || ledger.has_room(1) {
+        return Ok(false);
     }
-    Ok(())
+    ledger.reserve(1)?;
+    Ok(!ledger.has_room(0) && ledger.has_room(1))
 }
 
 #[test]
 fn room(rt: HostRuntime) -> Result<(), Fail> {
     let alloc = rt.alloc();
-    let plan = plan_of(alloc, 5, "[0,1]", 0, 2)?;
-    let mut ledger = Ledger::fresh(alloc, plan)?;
-    if ledger.plan().cells() > 1 {
-        assert!(rt; !ledger.has_room(0) && !ledger.has_room(1));
-        ledger.reserve(1)?;
-        assert!(rt; !ledger.has_room(0) && ledger.has_room(1));
-        assert_eq!(rt;
-            written(alloc, &ledger.gaps(alloc)?)?.as_str(),
-            "[0,2)[2,4)"
-        );
-    }
+    let mut ledger = of_two_cells(alloc)?;
+    assert!(rt; gains_room(&mut ledger)?);
+    let gaps = gaps_of(alloc, &ledger)?;
+    assert_eq!(rt; gaps.as_str(), "[0,2)[2,4)");
     Ok(())
 }
 
@@ -200,31 +265,68 @@ fn slips(rt: HostRuntime) -> Result<(), Fail> {
         (&[right, slip(1, 1, [4, 0, 0, 0, 4, 0, 1])], "17 BadSlip 2"),
     ];
     for (number, (slips, wanted)) in rows.iter().enumerate() {
-        let plan = plan_of(alloc, 5, "[1]", 0, 2)?;
-        let answer = told(alloc, Ledger::from_slips(alloc, plan, slips))?;
+        let answer = told_of_slips(alloc, slips)?;
         assert_eq!(rt; answer.as_str(), *wanted, "row {number}");
     }
     Ok(())
 }
 
-// False totals that are possible ones are believed, and results are added to them.
+// False totals that are possible ones are believed.
 #[test]
-fn sums_over_slips(rt: HostRuntime) -> Result<(), Fail> {
+fn sums_of_slips(rt: HostRuntime) -> Result<(), Fail> {
     let alloc = rt.alloc();
     let all = slip(0, 2, [6, 1, 0, 0, 5, 1, 1]);
     let few = plan_of(alloc, 4, "[1]", 0, 2)?;
     let whole = Ledger::from_slips(alloc, few, &[all])?;
-    if whole.plan().cells() > 0 {
-        assert_eq!(rt; whole.cell_sum(0), all.totals);
-    }
-    let false_one = slip(0, 1, [4, 4, 0, 0, 4, 1, 0]);
+    assert!(rt; has_sums(&whole, all.totals));
+    Ok(())
+}
+
+// A result is added to them, where it is missing.
+fn check_sums(
+    rt: &impl Abort,
+    alloc: Global,
+    ledger: &mut Ledger,
+    plan: &Plan,
+) -> Result<(), Fail> {
+    let gaps = gaps_of(alloc, ledger)?;
+    assert_eq!(rt; gaps.as_str(), "[1,2)");
+    add(alloc, ledger, plan, 1, 1)?;
+    assert!(rt; has_sums(ledger, totals_of([8, 4, 0, 0, 8, 2, 1])));
+    Ok(())
+}
+
+#[test]
+fn sums_over_slips(rt: HostRuntime) -> Result<(), Fail> {
+    let alloc = rt.alloc();
     let plan = plan_of(alloc, 5, "[1]", 0, 2)?;
-    let mut ledger = Ledger::from_slips(alloc, plan.try_clone(alloc)?, &[false_one])?;
-    assert_eq!(rt; written(alloc, &ledger.gaps(alloc)?)?.as_str(), "[1,2)");
-    ledger.offer(&result_of(alloc, &plan, 1, 1)?)?;
-    if ledger.plan().cells() > 0 {
-        assert_eq!(rt; ledger.cell_sum(0), totals_of([8, 4, 0, 0, 8, 2, 1]));
+    let mut ledger = begun(alloc, 2, &[slip(0, 1, [4, 4, 0, 0, 4, 1, 0])])?;
+    check_sums(&rt, alloc, &mut ledger, &plan)
+}
+
+// Whether a ledger began with a base of these slips, which gives them back.
+fn began_with(alloc: Global, ledger: &Ledger, slips: &[Slip]) -> Result<bool, Fail> {
+    let base = Base::from_vec(Vec::from_slice(alloc, slips)?);
+    let same = ledger.same_base(&base);
+    if base.into_vec().as_slice() != slips {
+        Err("other slips")?;
     }
+    Ok(same)
+}
+
+// Whether a ledger began with a clone of its own base.
+fn began_with_its_base(alloc: Global, ledger: &Ledger) -> Result<bool, Fail> {
+    let base = ledger.base().try_clone(alloc)?;
+    Ok(ledger.same_base(&base))
+}
+
+// A ledger that began with this slip began with no other slips.
+fn check_base(rt: &impl Abort, alloc: Global, ledger: &Ledger, one: Slip) -> Result<(), Fail> {
+    let wrong = slip(0, 1, [4, 0, 0, 0, 4, 1, 0]);
+    assert!(rt; began_with_its_base(alloc, ledger)?);
+    assert!(rt; !began_with(alloc, ledger, &[])?);
+    assert!(rt; !began_with(alloc, ledger, &[one, one])?);
+    assert!(rt; !began_with(alloc, ledger, &[wrong])?);
     Ok(())
 }
 
@@ -232,16 +334,8 @@ fn sums_over_slips(rt: HostRuntime) -> Result<(), Fail> {
 fn bases(rt: HostRuntime) -> Result<(), Fail> {
     let alloc = rt.alloc();
     let one = slip(0, 1, [4, 0, 0, 0, 4, 1, 1]);
-    let plan = plan_of(alloc, 5, "[1]", 0, 2)?;
-    let ledger = Ledger::from_slips(alloc, plan, &[one])?;
-    assert!(rt; ledger.same_base(&ledger.base().try_clone(alloc)?));
-    let others: [&[Slip]; 3] = [&[], &[one, one], &[slip(0, 1, [4, 0, 0, 0, 4, 1, 0])]];
-    for slips in others {
-        let base = Base::from_vec(Vec::from_slice(alloc, slips)?);
-        assert!(rt; !ledger.same_base(&base), "{slips:?}");
-        assert!(rt; base.into_vec().as_slice() == slips);
-    }
-    Ok(())
+    let ledger = begun(alloc, 2, &[one])?;
+    check_base(&rt, alloc, &ledger, one)
 }
 
 #[test]
@@ -259,21 +353,29 @@ fn faults(rt: HostRuntime) -> Result<(), Fail> {
     Ok(())
 }
 
-// What an offer leaves: these gaps where it is taken, and those before it where a growth of memory is refused, as
-// a run with one refused allocation has it. Tells whether it is taken.
+// Whether the offer of a trial is taken; where it is not, a growth of memory is refused, as a run with one refused
+// allocation has it.
+fn takes(alloc: Global, ledger: &mut Ledger, plan: &Plan, trial: u32) -> Result<bool, Fail> {
+    let result = result_of(alloc, plan, trial, 1)?;
+    match ledger.offer(&result) {
+        Ok(()) => Ok(true),
+        Err(LedgerFault::Memory) => Ok(false),
+        Err(_) => Err("another refusal")?,
+    }
+}
+
+// What an offer leaves: the second gaps where it is taken, and the first, those before it, where it is not. Tells
+// whether it is taken.
 fn is_taken(
     alloc: Global,
     ledger: &mut Ledger,
-    offered: &PieceResult,
+    plan: &Plan,
+    trial: u32,
     [before, after]: [&str; 2],
 ) -> Result<bool, Fail> {
-    let taken = match ledger.offer(offered) {
-        Ok(()) => true,
-        Err(LedgerFault::Memory) => false,
-        Err(_) => Err("another refusal")?,
-    };
-    let wanted = if taken { after } else { before };
-    if written(alloc, &ledger.gaps(alloc)?)?.as_str() != wanted {
+    let taken = takes(alloc, ledger, plan, trial)?;
+    let gaps = gaps_of(alloc, ledger)?;
+    if gaps.as_str() != if taken { after } else { before } {
         Err("other gaps")?;
     }
     Ok(taken)
@@ -283,11 +385,9 @@ fn is_taken(
 fn refused_memory_changes_nothing(rt: HostRuntime) -> Result<(), Fail> {
     let alloc = rt.alloc();
     let plan = plan_of(alloc, 5, "[1]", 0, 4)?;
-    let third = result_of(alloc, &plan, 2, 1)?;
-    let first = result_of(alloc, &plan, 0, 1)?;
-    let mut ledger = Ledger::from_slips(alloc, plan, &[slip(3, 1, [4, 0, 0, 0, 4, 1, 1])])?;
-    if is_taken(alloc, &mut ledger, &third, ["[0,3)", "[0,2)"])? {
-        is_taken(alloc, &mut ledger, &first, ["[0,2)", "[1,2)"])?;
+    let mut ledger = begun(alloc, 4, &[slip(3, 1, [4, 0, 0, 0, 4, 1, 1])])?;
+    if is_taken(alloc, &mut ledger, &plan, 2, ["[0,3)", "[0,2)"])? {
+        is_taken(alloc, &mut ledger, &plan, 0, ["[0,2)", "[1,2)"])?;
     }
     Ok(())
 }

@@ -1,7 +1,7 @@
 // Plans of version 2, whose trials tell after how many deliveries receivers propose.
 
 use crate::available::available;
-use crate::tests::{plan_of, result_of, slip, told};
+use crate::tests::{add, fresh, slip, told, told_of_slips};
 use crate::{Ledger, Slip};
 use cut_plan::Plan;
 use std::alloc::Global;
@@ -21,6 +21,12 @@ fn settled_slip(silent: u64, settled: u64) -> Slip {
     one
 }
 
+// What is told of such a slip of the plan of version 2.
+fn told_of(alloc: Global, slip: Slip) -> Result<String, Fail> {
+    let plan = Plan::from_json(alloc, PLAN)?;
+    Ok(told(alloc, Ledger::from_slips(alloc, plan, &[slip]))?)
+}
+
 #[test]
 fn possible_settled(rt: HostRuntime) -> Result<(), Fail> {
     let alloc = rt.alloc();
@@ -34,9 +40,7 @@ fn possible_settled(rt: HostRuntime) -> Result<(), Fail> {
         (1, 16, bad),
         (4, 1, bad),
     ] {
-        let plan = Plan::from_json(alloc, PLAN)?;
-        let slips = [settled_slip(silent, settled)];
-        let answer = told(alloc, Ledger::from_slips(alloc, plan, &slips))?;
+        let answer = told_of(alloc, settled_slip(silent, settled))?;
         assert_eq!(rt; answer.as_str(), wanted, "{silent} {settled}");
     }
     Ok(())
@@ -47,21 +51,26 @@ fn possible_settled(rt: HostRuntime) -> Result<(), Fail> {
 fn nothing_settled(rt: HostRuntime) -> Result<(), Fail> {
     let alloc = rt.alloc();
     for (settled, wanted) in [(0, "taken"), (1, "17 BadSlip 1"), (4, "17 BadSlip 1")] {
-        let plan = plan_of(alloc, 5, "[1]", 0, 2)?;
-        let slips = [settled_slip(0, settled)];
-        let answer = told(alloc, Ledger::from_slips(alloc, plan, &slips))?;
+        let answer = told_of_slips(alloc, &[settled_slip(0, settled)])?;
         assert_eq!(rt; answer.as_str(), wanted, "{settled}");
     }
     Ok(())
+}
+
+// A ledger with both trials of a plan.
+fn complete(alloc: Global, plan: &Plan) -> Result<Ledger, Fail> {
+    let mut ledger = fresh(alloc, plan)?;
+    add(alloc, &mut ledger, plan, 1, 1)?;
+    add(alloc, &mut ledger, plan, 0, 1)?;
+    Ok(ledger)
 }
 
 #[test]
 fn settled_is_a_column(rt: HostRuntime) -> Result<(), Fail> {
     let alloc = rt.alloc();
     let plan = Plan::from_json(alloc, PLAN)?;
-    let mut ledger = Ledger::fresh(alloc, plan.try_clone(alloc)?)?;
-    ledger.offer(&result_of(alloc, &plan, 1, 1)?)?;
-    ledger.offer(&result_of(alloc, &plan, 0, 1)?)?;
-    assert!(rt; available(alloc, &ledger)?.as_slice() == TABLE);
+    let ledger = complete(alloc, &plan)?;
+    let table = available(alloc, &ledger)?;
+    assert!(rt; table.as_slice() == TABLE);
     Ok(())
 }
