@@ -16,6 +16,3 @@ pub use alerted::{alerts, alerts_into, is_alert};
 pub use fault::RolesFault;
 pub use role::Role;
 pub use roles::Roles;
-
-#[cfg(test)]
-mod tests;

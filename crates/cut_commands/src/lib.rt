@@ -17,8 +17,6 @@ mod migrate;
 mod run;
 mod stream_wire;
 mod study;
-#[cfg(test)]
-mod tests;
 
 pub use ask::{ask_at, ask_io};
 pub use fault::{CliFault, FaultText};

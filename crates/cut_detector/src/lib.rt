@@ -15,8 +15,6 @@ mod reports;
 mod rule;
 mod step;
 mod tally;
-#[cfg(test)]
-mod tests;
 
 pub use detector::{Detector, replay};
 pub use proposal::{Members, Proposal};

@@ -17,6 +17,3 @@ pub use disk::{Disk, DiskFault};
 pub use faulty_disk::{FaultyDisk, Tear};
 pub use file_disk::FileDisk;
 pub use memory_disk::MemoryDisk;
-
-#[cfg(test)]
-mod tests;

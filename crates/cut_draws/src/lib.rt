@@ -15,6 +15,3 @@ pub use delivery::Delivery;
 pub use delivery_order::DeliveryOrder;
 pub use draws::Draws;
 pub use process_order::ProcessOrder;
-
-#[cfg(test)]
-mod tests;

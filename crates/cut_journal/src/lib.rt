@@ -24,6 +24,3 @@ pub use fault::JournalFault;
 pub use journal::Journal;
 pub use migrate_fault::MigrateFault;
 pub use migration::migrate;
-
-#[cfg(test)]
-mod tests;

@@ -25,6 +25,3 @@ pub use fault::LedgerFault;
 pub use ledger::Ledger;
 pub use run::Run;
 pub use slip::Slip;
-
-#[cfg(test)]
-mod tests;

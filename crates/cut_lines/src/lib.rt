@@ -6,7 +6,5 @@
 
 mod line;
 mod row;
-#[cfg(test)]
-mod tests;
 
 pub use line::{cell_line, header};

@@ -33,6 +33,3 @@ pub use laws::{
 pub use plan::Plan;
 pub use refusal::{PlanFault, Refusal};
 pub use version::Version;
-
-#[cfg(test)]
-mod tests;

@@ -15,6 +15,3 @@ mod rings;
 pub use edge::Edge;
 pub use fault::RingsFault;
 pub use rings::Rings;
-
-#[cfg(test)]
-mod tests;

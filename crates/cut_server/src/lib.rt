@@ -12,8 +12,6 @@ mod crew;
 mod door;
 mod serve;
 mod shelf;
-#[cfg(test)]
-mod tests;
 
 pub use attend::{ListenFault, Listener};
 pub use crew::Crew;

@@ -18,6 +18,3 @@ pub use memory_wire::MemoryWire;
 pub use send::{Sent, send_after, send_all};
 pub use table::{emit_table, row};
 pub use wire::{Wire, WireFault};
-
-#[cfg(test)]
-mod tests;

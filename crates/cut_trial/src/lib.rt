@@ -24,6 +24,3 @@ pub use piece::{Piece, PieceResult, is_piece, run_piece};
 pub use totals::Totals;
 pub use trial::run_trial;
 pub use verdicts::verdict;
-
-#[cfg(test)]
-mod tests;

@@ -1,0 +1,212 @@
+//! Studies that are kept on a disk: resumed, stopped at each call of the disk, and refused.
+
+use super::{PLAN, plan_table, plan_with};
+use cut_commands::{CliFault, StreamWire, run_io};
+use cut_disks::{Disk, FaultyDisk, FileDisk, MemoryDisk, Tear};
+use cut_journal::JournalFault;
+use cut_table::FaultyWire;
+use std::alloc::Global;
+use std::fs;
+use std::sync::Wait;
+use std::test::Fail;
+use std::thread::Threads;
+
+/// What a study over a disk writes, by pieces of this size and two workers.
+pub(super) fn written<T, D>(
+    rt: &T,
+    alloc: Global,
+    text: &str,
+    size: u32,
+    disk: D,
+) -> Result<Vec<u8>, CliFault>
+where
+    T: Threads + Wait + Sync,
+    D: Disk + Drop + Send,
+{
+    let mut output = Vec::new(alloc);
+    let mut wire = StreamWire::new(text.as_bytes(), &mut output);
+    run_io(rt, alloc, &mut wire, size.max(1), 2, Some(disk))?;
+    drop(wire);
+    Ok(output)
+}
+
+/// A study over a disk that it may not go on with: the line of its fault.
+fn refused<T, D>(rt: &T, alloc: Global, text: &str, disk: D) -> Result<String, Fail>
+where
+    T: Threads + Wait + Sync,
+    D: Disk + Drop + Send,
+{
+    match written(rt, alloc, text, 1, disk) {
+        Ok(_) => Ok(String::new(alloc)),
+        Err(fault) => Ok(fault.to_string(alloc)?),
+    }
+}
+
+pub(super) fn empty_disk(alloc: Global) -> Result<MemoryDisk, Fail> {
+    Ok(MemoryDisk::of(alloc, Vec::new(alloc))?)
+}
+
+#[test]
+fn a_study_is_kept_and_read_back(rt: HostRuntime) -> Result<(), Fail> {
+    let alloc = rt.alloc();
+    let table = plan_table(alloc)?;
+    for (size, length) in [(2, 372), (1, 477), (16, 372)] {
+        let mut disk = empty_disk(alloc)?;
+        for _ in 0..2 {
+            let output = written(&rt, alloc, PLAN, size, &mut disk)?;
+            assert!(rt; output.as_slice() == table.as_bytes());
+            assert_eq!(rt; disk.bytes().len(), length);
+        }
+    }
+    Ok(())
+}
+
+/// How many calls of a disk without a study the opening of a checkpoint takes: two to look at it, and eight to
+/// look again and to make the study.
+const OPENING_CALLS: u64 = 10;
+
+/// Runs the plan on a disk that fails at this call, and then again. Whether the first run was told the
+/// failure where there was one, and the second one wrote the table.
+fn resumes<T: Threads + Wait + Sync>(
+    rt: &T,
+    alloc: Global,
+    fail_at: u64,
+    tear: Tear,
+) -> Result<(bool, bool), Fail> {
+    let table = plan_table(alloc)?;
+    let mut disk = FaultyDisk::of(alloc, Vec::new(alloc), fail_at, tear)?;
+    disk.arm();
+    let first = written(rt, alloc, PLAN, 1, &mut disk);
+    let failed = disk.failures() == 1;
+    let told = match first {
+        Err(CliFault::Journal(JournalFault::Disk)) => fail_at <= OPENING_CALLS,
+        Err(CliFault::Checkpoint) => fail_at > OPENING_CALLS,
+        _ => false,
+    };
+    if !failed {
+        return Ok((false, !told));
+    }
+    let second = written(rt, alloc, PLAN, 2, &mut disk)?;
+    let whole = second.as_slice() == table.as_bytes();
+    Ok((true, told && whole))
+}
+
+#[test]
+fn each_call_of_the_disk_fails(rt: HostRuntime) -> Result<(), Fail> {
+    let alloc = rt.alloc();
+    for tear in [Tear::Nothing, Tear::Everything] {
+        // Those of the opening, and four for each of two pieces.
+        for fail_at in 1..=20 {
+            let (failed, right) = resumes(&rt, alloc, fail_at, tear)?;
+            assert!(rt; right, "{fail_at} {tear:?}");
+            assert!(rt; failed || fail_at > 18, "{fail_at} {tear:?}");
+        }
+    }
+    Ok(())
+}
+
+#[test]
+fn a_study_outlives_its_wire(rt: HostRuntime) -> Result<(), Fail> {
+    let alloc = rt.alloc();
+    let mut disk = empty_disk(alloc)?;
+    let input = Vec::from_slice(alloc, PLAN.as_bytes())?;
+    let mut wire = FaultyWire::new(alloc, input, 4096, 80, 0);
+    let ended = run_io(&rt, alloc, &mut wire, 1, 2, Some(&mut disk));
+    assert!(rt; matches!(ended, Err(CliFault::Write(80))));
+    assert_eq!(rt; disk.bytes().len(), 477);
+    let output = written(&rt, alloc, PLAN, 2, &mut disk)?;
+    assert!(rt; output.as_slice() == plan_table(alloc)?.as_bytes());
+    assert_eq!(rt; disk.bytes().len(), 477);
+    Ok(())
+}
+
+/// The digest of the slip of the first trial with five receivers, where the plan has four.
+const MORE_RECEIVERS: [u8; 32] = [
+    0xde, 0x01, 0xd7, 0xc1, 0x5b, 0xf5, 0x19, 0x3d, 0xaf, 0x18, 0x25, 0x60, 0x39, 0x50, 0x78, 0x45,
+    0x37, 0x09, 0x9b, 0x7f, 0xd3, 0xc8, 0x0a, 0x5f, 0x7d, 0x1c, 0x5c, 0xfe, 0x29, 0x62, 0x90, 0x39,
+];
+
+/// The digest of the slip of the first trial with four conflicts, where there is none.
+pub(super) const FALSE_CONFLICTS: [u8; 32] = [
+    0x47, 0xc9, 0xae, 0x50, 0x79, 0x9f, 0x45, 0xa5, 0x99, 0xa6, 0x76, 0x11, 0xd6, 0x8c, 0x96, 0xcb,
+    0x82, 0x3d, 0xf6, 0x51, 0xb9, 0x10, 0x05, 0x15, 0xe5, 0x3b, 0xc4, 0x01, 0x17, 0xeb, 0x75, 0x77,
+];
+
+/// The file of the plan with a slip of these numbers and this digest.
+fn file_with<T: Threads + Wait + Sync>(
+    rt: &T,
+    alloc: Global,
+    numbers: [u64; 9],
+    digest: [u8; 32],
+) -> Result<Vec<u8>, Fail> {
+    let mut disk = empty_disk(alloc)?;
+    let _ = written(rt, alloc, PLAN, 2, &mut disk)?;
+    let front = disk.bytes().get(..267).unwrap_or(&[]);
+    let mut file = Vec::from_slice(alloc, front)?;
+    for number in numbers {
+        file.extend_from_slice(number.to_be_bytes().as_slice())?;
+    }
+    file.extend_from_slice(digest.as_slice())?;
+    file.push(0)?;
+    Ok(file)
+}
+
+#[test]
+fn slips_that_are_none_of_the_plan(rt: HostRuntime) -> Result<(), Fail> {
+    let alloc = rt.alloc();
+    let file = file_with(&rt, alloc, [0, 1, 5, 0, 0, 0, 4, 1, 1], MORE_RECEIVERS)?;
+    let disk = MemoryDisk::of(alloc, file)?;
+    let line = refused(&rt, alloc, PLAN, disk)?;
+    assert_eq!(rt; line.as_str(), "cutlab: fault 17 BadSlip 1");
+    // What a slip says is taken for true where it could be.
+    let file = file_with(&rt, alloc, [0, 1, 4, 4, 0, 0, 4, 1, 0], FALSE_CONFLICTS)?;
+    let output = written(&rt, alloc, PLAN, 1, MemoryDisk::of(alloc, file)?)?;
+    let line = output.get(72..).unwrap_or(&[]);
+    assert!(rt; line == b"1,1,1,1,2,8,4,0,0,8,2,1,500000\n".as_slice());
+    Ok(())
+}
+
+#[test]
+fn files_that_are_refused(rt: HostRuntime) -> Result<(), Fail> {
+    let alloc = rt.alloc();
+    let other = plan_with(alloc, &[(r#""f":[1]"#, r#""f":[0]"#)])?;
+    let mut disk = empty_disk(alloc)?;
+    let _ = written(&rt, alloc, PLAN, 2, &mut disk)?;
+    assert_eq!(rt;
+        refused(&rt, alloc, other.as_str(), &mut disk)?.as_str(),
+        "cutlab: fault 23 OtherPlan"
+    );
+    for (at, line) in [
+        (20, "cutlab: fault 24 Damaged 0"),
+        (300, "cutlab: fault 24 Damaged 1"),
+    ] {
+        let mut file = Vec::from_slice(alloc, disk.bytes())?;
+        if let Some(byte) = file.get_mut(at) {
+            *byte = !*byte;
+        }
+        assert_eq!(rt;
+            refused(&rt, alloc, PLAN, MemoryDisk::of(alloc, file)?)?.as_str(),
+            line
+        );
+    }
+    Ok(())
+}
+
+const FOLDER: &str = "cutlab_checkpoint_test";
+
+const FILE: &str = "cutlab_checkpoint_test/study.cut";
+
+#[test]
+fn a_study_is_kept_in_a_file(rt: HostRuntime) -> Result<(), Fail> {
+    let alloc = rt.alloc();
+    let _ = fs::remove_dir_all(&rt, FOLDER);
+    fs::create_dir(&rt, FOLDER)?;
+    let table = plan_table(alloc)?;
+    for _ in 0..2 {
+        let output = written(&rt, alloc, PLAN, 2, FileDisk::open(&rt, FILE)?)?;
+        assert!(rt; output.as_slice() == table.as_bytes());
+        assert_eq!(rt; fs::read(&rt, FILE)?.len(), 372);
+    }
+    fs::remove_dir_all(&rt, FOLDER)?;
+    Ok(())
+}

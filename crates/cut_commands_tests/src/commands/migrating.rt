@@ -1,0 +1,250 @@
+//! Studies of version 1 that are moved to their upgrade: true ones, false ones, and disks and wires that fail.
+
+use super::PLAN;
+use super::checkpoints::{FALSE_CONFLICTS, empty_disk, written};
+use cut_commands::{CliFault, StreamWire, migrate_io};
+use cut_disks::{Disk, FaultyDisk, MemoryDisk, Tear};
+use cut_table::FaultyWire;
+use std::alloc::Global;
+use std::sync::Wait;
+use std::test::Fail;
+use std::thread::Threads;
+
+/// The plan's upgrade.
+const UPGRADE: &str =
+    r#"{"copies":1,"dead":"silent","deaf":0,"f":[1],"h":[1],"implicit":true,"k":[1],"l":[1],"liars":0,"links":0,"nodes":5,"repeats":2,"seed":"0000000000000000000000000000000000000000000000000000000000000000","version":2}"#;
+
+/// The whole table of the upgrade.
+const UPGRADE_TABLE: &str =
+    "k,h,l,f,trials,receivers,conflicts,silent,extra,votes,decided,right,settled,ppm\n1,1,1,1,2,8,0,0,0,8,2,2,8,0\n";
+
+/// How long the file of the upgrade is without slips, and with one.
+const NO_SLIP: usize = 259;
+
+const ONE_SLIP: usize = 372;
+
+/// A slip as a file has it: its numbers and its digest.
+type Kept = ([u64; 9], [u8; 32]);
+
+/// The digest of the slip of the first trial.
+const TRUE_FIRST: [u8; 32] = [
+    0x60, 0xe1, 0xb7, 0x68, 0x94, 0x20, 0x30, 0xe0, 0x9a, 0x8b, 0xf8, 0xfd, 0xfa, 0xc5, 0xd9, 0xb8,
+    0xb2, 0xcc, 0xae, 0xd9, 0x48, 0xca, 0x80, 0x10, 0x18, 0x9f, 0xfd, 0x0b, 0x52, 0x45, 0xfa, 0x2c,
+];
+
+/// The digest of the slip of the second trial with four conflicts, where there is none.
+const FALSE_SECOND: [u8; 32] = [
+    0x25, 0x6c, 0xe1, 0x93, 0x93, 0x21, 0xb3, 0x89, 0x23, 0x74, 0x8a, 0x6e, 0x0d, 0x91, 0x6c, 0x24,
+    0xd0, 0x3f, 0x62, 0x8e, 0xb2, 0x1d, 0x26, 0x31, 0x5f, 0xde, 0xb1, 0xd4, 0x02, 0xd9, 0xaf, 0x2b,
+];
+
+/// The slip of the first trial, and false ones of the first and of the second.
+const FIRST: Kept = ([0, 1, 4, 0, 0, 0, 4, 1, 1], TRUE_FIRST);
+
+const FIRST_FALSE: Kept = ([0, 1, 4, 4, 0, 0, 4, 1, 0], FALSE_CONFLICTS);
+
+const SECOND_FALSE: Kept = ([1, 1, 4, 4, 0, 0, 4, 1, 0], FALSE_SECOND);
+
+/// A disk with the plan's study, which has these slips.
+fn disk_with<T: Threads + Wait + Sync>(
+    rt: &T,
+    alloc: Global,
+    slips: &[Kept],
+) -> Result<MemoryDisk, Fail> {
+    let mut disk = empty_disk(alloc)?;
+    let _ = written(rt, alloc, PLAN, 2, &mut disk)?;
+    let front = disk.bytes().get(..266).unwrap_or(&[]);
+    let mut file = Vec::from_slice(alloc, front)?;
+    for (numbers, digest) in slips {
+        push_numbers(&mut file, numbers.as_slice())?;
+        file.extend_from_slice(digest.as_slice())?;
+    }
+    file.push(0)?;
+    Ok(MemoryDisk::of(alloc, file)?)
+}
+
+/// Writes an open gate and these numbers behind it.
+fn push_numbers(file: &mut Vec<u8>, numbers: &[u64]) -> Result<(), Fail> {
+    file.push(0xA5)?;
+    for number in numbers {
+        file.extend_from_slice(number.to_be_bytes().as_slice())?;
+    }
+    Ok(())
+}
+
+/// What a migration by the plan of this text writes.
+fn moved<O, N>(alloc: Global, text: &str, old: O, new: N) -> Result<Vec<u8>, CliFault>
+where
+    O: Disk + Drop,
+    N: Disk + Drop,
+{
+    let mut output = Vec::new(alloc);
+    let mut wire = StreamWire::new(text.as_bytes(), &mut output);
+    migrate_io(alloc, &mut wire, old, new)?;
+    drop(wire);
+    Ok(output)
+}
+
+/// Whether a migration ends with this status and this text, which is that of its fault at a status above 0.
+fn ends_with<O, N>(
+    alloc: Global,
+    text: &str,
+    old: O,
+    new: N,
+    wanted: (u8, &str),
+) -> Result<bool, Fail>
+where
+    O: Disk + Drop,
+    N: Disk + Drop,
+{
+    let (status, line) = wanted;
+    match moved(alloc, text, old, new) {
+        Ok(output) => Ok(status == 0 && output.as_slice() == line.as_bytes()),
+        Err(fault) => Ok(status == fault.status() && fault.to_string(alloc)?.as_str() == line),
+    }
+}
+
+#[test]
+fn a_true_slip_is_moved(rt: HostRuntime) -> Result<(), Fail> {
+    let alloc = rt.alloc();
+    let mut old = disk_with(&rt, alloc, &[FIRST])?;
+    let before = Vec::from_slice(alloc, old.bytes())?;
+    let mut new = empty_disk(alloc)?;
+    assert!(rt; ends_with(alloc, PLAN, &mut old, &mut new, (0, "migrated 1\n"))?);
+    assert!(rt; old.bytes() == before.as_slice());
+    assert_eq!(rt; new.bytes().len(), ONE_SLIP);
+    let mut slip = Vec::new(alloc);
+    push_numbers(&mut slip, &[0, 1, 4, 0, 0, 0, 4, 1, 1, 4])?;
+    assert!(rt; new.bytes().get(258..339) == Some(slip.as_slice()));
+    // The study goes on from there.
+    let table = written(&rt, alloc, UPGRADE, 1, &mut new)?;
+    assert!(rt; table.as_slice() == UPGRADE_TABLE.as_bytes());
+    // What holds a study is not written over.
+    let after = Vec::from_slice(alloc, new.bytes())?;
+    assert!(rt;
+        ends_with(
+            alloc,
+            PLAN,
+            &mut old,
+            &mut new,
+            (4, "cutlab: fault 25 Held")
+        )?
+    );
+    assert!(rt; new.bytes() == after.as_slice());
+    Ok(())
+}
+
+#[test]
+fn the_first_false_slip_ends_it(rt: HostRuntime) -> Result<(), Fail> {
+    let alloc = rt.alloc();
+    let rows: [(&[Kept], u8, &str, usize); 3] = [
+        (&[], 0, "migrated 0\n", NO_SLIP),
+        (&[FIRST_FALSE], 4, "cutlab: fault 46 Disagrees 1", NO_SLIP),
+        (
+            &[FIRST, SECOND_FALSE],
+            4,
+            "cutlab: fault 46 Disagrees 2",
+            ONE_SLIP,
+        ),
+    ];
+    for (slips, status, line, length) in rows {
+        let mut old = disk_with(&rt, alloc, slips)?;
+        let mut new = empty_disk(alloc)?;
+        assert!(rt;
+            ends_with(alloc, PLAN, &mut old, &mut new, (status, line))?,
+            "{status} {length}"
+        );
+        assert_eq!(rt; new.bytes().len(), length, "{status} {length}");
+    }
+    Ok(())
+}
+
+#[test]
+fn other_plans_and_no_study(rt: HostRuntime) -> Result<(), Fail> {
+    let alloc = rt.alloc();
+    let mut old = disk_with(&rt, alloc, &[FIRST])?;
+    let before = Vec::from_slice(alloc, old.bytes())?;
+    let mut new = empty_disk(alloc)?;
+    assert!(rt;
+        ends_with(
+            alloc,
+            UPGRADE,
+            &mut old,
+            &mut new,
+            (3, "cutlab: fault 47 NotVersion1")
+        )?
+    );
+    assert!(rt; old.bytes() == before.as_slice());
+    assert!(rt; new.bytes().is_empty());
+    let mut none = empty_disk(alloc)?;
+    assert!(rt;
+        ends_with(
+            alloc,
+            PLAN,
+            &mut none,
+            &mut new,
+            (4, "cutlab: fault 22 NoStudy")
+        )?
+    );
+    assert!(rt; none.bytes().is_empty());
+    assert!(rt; new.bytes().is_empty());
+    Ok(())
+}
+
+#[test]
+fn an_answer_that_fails(rt: HostRuntime) -> Result<(), Fail> {
+    let alloc = rt.alloc();
+    for room in [0, 4, 10] {
+        let mut old = disk_with(&rt, alloc, &[FIRST])?;
+        let mut new = empty_disk(alloc)?;
+        let input = Vec::from_slice(alloc, PLAN.as_bytes())?;
+        let mut wire = FaultyWire::new(alloc, input, 4096, room, 0);
+        let ended = migrate_io(alloc, &mut wire, &mut old, &mut new);
+        match ended {
+            Err(CliFault::Write(sent)) => assert_eq!(rt; sent, room as u64),
+            _ => assert!(rt; false, "{room}"),
+        }
+        assert_eq!(rt; new.bytes().len(), ONE_SLIP, "{room}");
+    }
+    Ok(())
+}
+
+/// How many calls of the new disk a migration of one slip takes: eight to look at it and to make the study, and
+/// four for the slip.
+const MOVING_CALLS: u64 = 12;
+
+/// Moves a slip to a disk that fails at this call, and then runs the upgrade on what the disk has. Whether a
+/// failure was told where there was one, and the run wrote the whole table.
+fn goes_on<T: Threads + Wait + Sync>(
+    rt: &T,
+    alloc: Global,
+    fail_at: u64,
+    tear: Tear,
+) -> Result<bool, Fail> {
+    let mut old = disk_with(rt, alloc, &[FIRST])?;
+    let mut new = FaultyDisk::of(alloc, Vec::new(alloc), fail_at, tear)?;
+    new.arm();
+    let wanted = if fail_at > MOVING_CALLS {
+        (0, "migrated 1\n")
+    } else {
+        (4, "cutlab: fault 20 Disk")
+    };
+    let told = ends_with(alloc, PLAN, &mut old, &mut new, wanted)?;
+    if fail_at > MOVING_CALLS {
+        return Ok(told && new.failures() == 0);
+    }
+    let failed = new.failures() == 1;
+    let table = written(rt, alloc, UPGRADE, 1, &mut new)?;
+    Ok(told && failed && table.as_slice() == UPGRADE_TABLE.as_bytes())
+}
+
+#[test]
+fn each_call_of_the_new_disk_fails(rt: HostRuntime) -> Result<(), Fail> {
+    let alloc = rt.alloc();
+    for tear in [Tear::Nothing, Tear::Everything] {
+        for fail_at in 1..=14 {
+            assert!(rt; goes_on(&rt, alloc, fail_at, tear)?, "{fail_at} {tear:?}");
+        }
+    }
+    Ok(())
+}

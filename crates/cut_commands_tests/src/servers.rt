@@ -1,0 +1,203 @@
+//! Servers and their clients, over sockets of the system and over wires in memory.
+
+use cut_commands::{CliFault, ask_at};
+use cut_server::{Crew, FolderShelf, ListenFault, Listener, serve_at, serve_io};
+use cut_table::MemoryWire;
+use std::alloc::{AllocError, Global};
+use std::io::Write;
+use std::os::unix::net::UnixStream;
+use std::sync::Wait;
+use std::test::Fail;
+use std::thread::Threads;
+use std::time::Duration;
+use std::{fs, thread};
+
+/// A study of one cell: two trials of five processes, of which one crashes.
+const PLAN: &str =
+    r#"{"copies":1,"dead":"silent","f":[1],"faults":"crash","h":[1],"implicit":true,"k":[1],"l":[1],"liars":0,"links":0,"nodes":5,"repeats":2,"seed":"0000000000000000000000000000000000000000000000000000000000000000","version":1}"#;
+
+/// Its table.
+const TABLE: &str =
+    "k,h,l,f,trials,receivers,conflicts,silent,extra,votes,decided,right,ppm\n1,1,1,1,2,8,0,0,0,8,2,2,0\n";
+
+/// Another study: one trial of five processes, of which one lies.
+const LIAR_PLAN: &str =
+    r#"{"copies":1,"dead":"silent","f":[0],"faults":"crash","h":[1],"implicit":true,"k":[1],"l":[1],"liars":1,"links":0,"nodes":5,"repeats":1,"seed":"0000000000000000000000000000000000000000000000000000000000000000","version":1}"#;
+
+/// Its table.
+const LIAR_TABLE: &str =
+    "k,h,l,f,trials,receivers,conflicts,silent,extra,votes,decided,right,ppm\n1,1,1,0,1,5,0,0,5,5,1,0,0\n";
+
+/// What a command left: the line of its fault, if it ended with one, and what it wrote.
+#[derive(Drop)]
+struct Left {
+    fault: String,
+    output: Vec<u8>,
+}
+
+/// What a command left that wrote to a wire.
+fn left_on(
+    alloc: Global,
+    ended: Result<(), CliFault>,
+    wire: &MemoryWire,
+) -> Result<Left, AllocError> {
+    let fault = match ended {
+        Ok(()) => String::new(alloc),
+        Err(fault) => fault.to_string(alloc)?,
+    };
+    Ok(Left {
+        fault,
+        output: Vec::from_slice(alloc, wire.taken())?,
+    })
+}
+
+/// What a server of so many sessions leaves.
+fn served<T: Threads + Wait + Sync>(
+    host: &HostRuntime,
+    rt: &T,
+    socket: &str,
+    sessions: u32,
+    folder: Option<&str>,
+) -> Result<Left, AllocError> {
+    let alloc = host.alloc();
+    let crew = Crew {
+        workers: 2,
+        sessions: sessions.max(1).min(64),
+        studies: 2,
+    };
+    let mut wire = MemoryWire::new(alloc, Vec::new(alloc), 100);
+    let ended = serve_at(host, rt, socket, crew, folder, &mut wire);
+    left_on(alloc, ended, &wire)
+}
+
+/// What a client leaves that asks once.
+fn asked_once(host: &HostRuntime, socket: &str, plan: &str) -> Result<Left, AllocError> {
+    let alloc = host.alloc();
+    let input = Vec::from_slice(alloc, plan.as_bytes())?;
+    let mut wire = MemoryWire::new(alloc, input, 4096);
+    let ended = ask_at(host, &mut wire, socket);
+    left_on(alloc, ended, &wire)
+}
+
+/// What a client leaves, once there is a server.
+fn asked(host: &HostRuntime, socket: &str, plan: &str) -> Result<Left, AllocError> {
+    let mut left = asked_once(host, socket, plan)?;
+    for _ in 0..10_000 {
+        if left.fault.is_empty() {
+            break;
+        }
+        thread::sleep(host, Duration::from_millis(1));
+        left = asked_once(host, socket, plan)?;
+    }
+    Ok(left)
+}
+
+/// A client that sends a plan and leaves without an answer, once there is a server.
+fn vanish(host: &HostRuntime, socket: &str) {
+    for _ in 0..10_000 {
+        if let Ok(mut stream) = UnixStream::connect(host, socket) {
+            let _ = stream.write_all(b"R\0\0\0\xdd");
+            let _ = stream.write_all(PLAN.as_bytes());
+            return;
+        }
+        thread::sleep(host, Duration::from_millis(1));
+    }
+}
+
+/// Whether a command ended without a fault and wrote this.
+fn is_done(left: &Left, text: &str) -> bool {
+    left.fault.is_empty() && left.output.as_slice() == text.as_bytes()
+}
+
+/// Whether a command ended with this fault and wrote nothing.
+fn is_refused(left: &Left, line: &str) -> bool {
+    left.fault.as_str() == line && left.output.is_empty()
+}
+
+#[test]
+fn two_clients_have_their_tables(rt: HostRuntime) -> Result<(), Fail> {
+    let socket = "cutlab_two_clients.sock";
+    let _ = fs::remove_file(&rt, socket);
+    let (server, (first, second)) = thread::join(
+        &rt,
+        || served(&rt, &rt, socket, 2, None),
+        || {
+            thread::join(
+                &rt,
+                || asked(&rt, socket, PLAN),
+                || asked(&rt, socket, LIAR_PLAN),
+            )
+        },
+    );
+    assert!(rt; is_done(&server?, "accepted 3\n"));
+    assert!(rt; is_done(&first?, TABLE));
+    assert!(rt; is_done(&second?, LIAR_TABLE));
+    assert!(rt; fs::metadata(&rt, socket).is_err());
+    Ok(())
+}
+
+#[test]
+fn a_client_may_vanish(rt: HostRuntime) -> Result<(), Fail> {
+    let socket = "cutlab_vanish.sock";
+    let _ = fs::remove_file(&rt, socket);
+    let (server, ()) = thread::join(
+        &rt,
+        || served(&rt, &rt, socket, 1, None),
+        || vanish(&rt, socket),
+    );
+    assert!(rt; server?.fault.is_empty());
+    Ok(())
+}
+
+#[test]
+fn a_server_that_cannot_begin_is_told(rt: HostRuntime) -> Result<(), Fail> {
+    let left = served(&rt, &rt, "cutlab_none/a.sock", 1, None)?;
+    assert!(rt; is_refused(&left, "cutlab: fault 43 Read"));
+    let left = served(&rt, &rt, "cutlab_begin.sock", 1, Some("cutlab_none"))?;
+    assert!(rt; is_refused(&left, "cutlab: fault 20 Disk"));
+    Ok(())
+}
+
+/// A listener that gives one connection, whose client has left, and fails from then on.
+#[derive(Drop)]
+struct Once {
+    wire: Option<MemoryWire>,
+    failures: u64,
+}
+
+impl Listener<MemoryWire> for Once {
+    ghost faults = { λ l. l.failures };
+
+    fn accept(&mut self) -> Result<MemoryWire, ListenFault> {
+        match self.wire.take() {
+            Some(wire) => Ok(wire),
+            None => {
+                self.failures = self.failures.saturating_add(1);
+                Err(ListenFault)
+            }
+        }
+    }
+}
+
+#[test]
+fn a_connection_that_does_not_come_is_told(rt: HostRuntime) {
+    let alloc = rt.alloc();
+    let listener = Once {
+        wire: Some(MemoryWire::new(alloc, Vec::new(alloc), 1)),
+        failures: 0,
+    };
+    let shelf = FolderShelf {
+        host: &rt,
+        folder: None,
+    };
+    let crew = Crew {
+        workers: 1,
+        sessions: 2,
+        studies: 1,
+    };
+    let mut wire = MemoryWire::new(alloc, Vec::new(alloc), 100);
+    let (listener, told) = serve_io(&rt, alloc, listener, &shelf, crew, &mut wire);
+    assert!(rt; matches!(told, Err(CliFault::Socket)));
+    assert_eq!(rt; listener.failures, 1);
+    assert!(rt; wire.taken().is_empty());
+}

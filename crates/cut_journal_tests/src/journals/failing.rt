@@ -1,0 +1,166 @@
+//! Disks of which one call fails.
+
+use super::{SMALL, result_of, small_file};
+use cut_disks::{Disk, FaultyDisk, Tear};
+use cut_journal::{Journal, JournalFault};
+use cut_plan::Plan;
+use cut_trial::PieceResult;
+use std::alloc::Global;
+use std::process::Abort;
+use std::test::Fail;
+
+// Whether an append answers 20 and the next one 21, where the disk fails, and neither where it doesn't.
+fn append_answers(journal: &mut Journal<FaultyDisk>, offered: &PieceResult, fails: bool) -> bool {
+    journal.disk().arm();
+    let is_refused = matches!(journal.append(offered), Err(JournalFault::Disk));
+    let is_broken = matches!(journal.append(offered), Err(JournalFault::Broken));
+    is_refused == fails && is_broken == fails
+}
+
+// How many slips a reopening finds, or else how many calls of the disk have failed.
+pub(super) fn slips_found(alloc: Global, disk: FaultyDisk, plan: &Plan) -> Result<usize, u64> {
+    match Journal::reopen(alloc, disk, plan) {
+        Ok((_journal, slips)) => Ok(slips.len()),
+        Err((_fault, disk)) => Err(disk.failures()),
+    }
+}
+
+// Whether an append of which this call of the disk fails answers so, and a reopening finds as many slips. The
+// fifth call comes after the append, so that it doesn't fail.
+fn append_holds(
+    alloc: Global,
+    plan: &Plan,
+    offered: &PieceResult,
+    (fail_at, tear, slips): (u64, Tear, usize),
+) -> Result<bool, Fail> {
+    let disk = FaultyDisk::of(alloc, Vec::new(alloc), fail_at, tear)?;
+    let Ok(mut journal) = Journal::create(alloc, disk, plan) else {
+        return Ok(false);
+    };
+    let answers = append_answers(&mut journal, offered, fail_at < 5);
+    let found = match slips_found(alloc, journal.into_disk(), plan) {
+        Ok(found) => found == slips || fail_at == 5,
+        Err(failures) => fail_at == 5 && failures == 1,
+    };
+    Ok(answers && found)
+}
+
+// Asserts that, of the row's failing call.
+fn check_append(
+    rt: &impl Abort,
+    alloc: Global,
+    plan: &Plan,
+    offered: &PieceResult,
+    row: (u64, Tear, usize),
+) -> Result<(), Fail> {
+    let (fail_at, tear, _) = row;
+    assert!(rt;
+        append_holds(alloc, plan, offered, row)?,
+        "{fail_at} {tear:?}"
+    );
+    Ok(())
+}
+
+// Each device call of an append fails in turn: the append answers 20, the next one 21, and after a reopening
+// the slip is there or it isn't.
+#[test]
+fn a_failing_append(rt: HostRuntime) -> Result<(), Fail> {
+    let alloc = rt.alloc();
+    let plan = Plan::from_json(alloc, SMALL.as_bytes())?;
+    let result = result_of(alloc, &plan, 0, 2)?;
+    let rows = [
+        (1, Tear::Nothing, 0),
+        (2, Tear::Nothing, 0),
+        (3, Tear::Nothing, 0),
+        (4, Tear::Nothing, 1),
+        (1, Tear::Everything, 0),
+        (2, Tear::Everything, 0),
+        (3, Tear::Everything, 1),
+        (4, Tear::Everything, 1),
+        (5, Tear::Everything, 1),
+    ];
+    for row in rows {
+        check_append(&rt, alloc, &plan, &result, row)?;
+    }
+    Ok(())
+}
+
+// Whether a disk holds no study, so that one can be made, or a study without slips.
+fn is_empty_or_new(alloc: Global, disk: FaultyDisk, plan: &Plan) -> bool {
+    match Journal::reopen(alloc, disk, plan) {
+        Ok((_journal, slips)) => slips.is_empty(),
+        Err((fault, disk)) => {
+            let is_made = Journal::create(alloc, disk, plan).is_ok();
+            matches!(fault, JournalFault::NoStudy) && is_made
+        }
+    }
+}
+
+// Whether a creation of which this call of the disk fails hands back such a disk, or no call failed.
+fn creation_holds(alloc: Global, plan: &Plan, fail_at: u64, tear: Tear) -> Result<bool, Fail> {
+    let disk = FaultyDisk::of(alloc, Vec::new(alloc), fail_at, tear)?;
+    disk.arm();
+    Ok(match Journal::create(alloc, disk, plan) {
+        Ok(journal) => journal.into_disk().failures() == 0,
+        Err((fault, disk)) => {
+            let is_left = is_empty_or_new(alloc, disk, plan);
+            matches!(fault, JournalFault::Disk) && is_left
+        }
+    })
+}
+
+// Each device call of a creation fails in turn: the disk is handed back, and then holds no study, so that a
+// second creation succeeds, or the study without slips.
+#[test]
+fn a_failing_creation(rt: HostRuntime) -> Result<(), Fail> {
+    let alloc = rt.alloc();
+    let plan = Plan::from_json(alloc, SMALL.as_bytes())?;
+    for tear in [Tear::Nothing, Tear::Everything] {
+        for fail_at in 1..=8 {
+            assert!(rt;
+                creation_holds(alloc, &plan, fail_at, tear)?,
+                "{fail_at} {tear:?}"
+            );
+        }
+    }
+    Ok(())
+}
+
+// Whether one call of a disk has failed, and the study is there again.
+fn is_there_again(alloc: Global, disk: FaultyDisk, plan: &Plan) -> bool {
+    let has_failed_once = disk.failures() == 1;
+    let is_there = Journal::reopen(alloc, disk, plan).is_ok();
+    has_failed_once && is_there
+}
+
+// Whether a reopening hands such a disk back where this call fails, or finds the slip where it is the twelfth.
+fn reopening_holds(alloc: Global, file: &[u8], plan: &Plan, fail_at: u64) -> Result<bool, Fail> {
+    let bytes = Vec::from_slice(alloc, file)?;
+    let disk = FaultyDisk::of(alloc, bytes, fail_at, Tear::Everything)?;
+    disk.arm();
+    Ok(match Journal::reopen(alloc, disk, plan) {
+        Ok((journal, slips)) => {
+            fail_at == 12 && slips.len() == 1 && journal.disk().failures() == 0
+        }
+        Err((fault, disk)) => {
+            let is_there = is_there_again(alloc, disk, plan);
+            fail_at < 12 && matches!(fault, JournalFault::Disk) && is_there
+        }
+    })
+}
+
+// Each device call of a reopening fails in turn: the disk is handed back with one failed call and its bytes,
+// and the study is there again.
+#[test]
+fn a_failing_reopening(rt: HostRuntime) -> Result<(), Fail> {
+    let alloc = rt.alloc();
+    let plan = Plan::from_json(alloc, SMALL.as_bytes())?;
+    let file = small_file(alloc, &plan)?;
+    for fail_at in 1..=12 {
+        assert!(rt;
+            reopening_holds(alloc, file.as_slice(), &plan, fail_at)?,
+            "{fail_at}"
+        );
+    }
+    Ok(())
+}

@@ -1,0 +1,200 @@
+// The definitions by plain recounting after each delivery, with which the masks are compared.
+
+ghost use Rattle.std.specs.Prelude.{◌≡◌, ◌<◌, ◌≤◌, length};
+
+use crate::detectors::rings_of;
+use crate::edges::all_within;
+use cut_detector::replay;
+use cut_rings::{Edge, Rings};
+use rand_chacha::ChaCha8Rng;
+use rand_core::SeedableRng;
+use rand_core::utils::NextWord;
+use std::alloc::{AllocError, Global};
+use std::process::Abort;
+use std::test::Fail;
+
+// The parameters of cut detection.
+#[derive(Clone, Copy)]
+struct Rule {
+    k: u8,
+    h: u8,
+    l: u8,
+    implicit: bool,
+}
+
+// Where the table says whether an edge has been delivered.
+fn place(ring: u8, subject: u16) -> usize {
+    usize::from(subject) * 32 + usize::from(ring)
+}
+
+#[derive(Drop)]
+struct Recount<'a> {
+    rings: &'a Rings,
+    rule: Rule,
+    table: &'a [bool],
+    ghost enough: { rule.k ≤ length rings.now.positions },
+}
+
+impl<'a> Recount<'a> {
+    fn has(&self, ring: u8, subject: u16) -> bool {
+        self.table.get(place(ring, subject)) == Some(&true)
+    }
+
+    fn is_reported(&self, subject: u16) -> bool {
+        let rings = (0..self.rule.k).filter(|ring| self.has(*ring, subject));
+        rings.count() >= usize::from(self.rule.l)
+    }
+
+    fn is_full(&self, ring: u8, subject: u16) -> bool
+        requires ring { ring < self.now.rule.k }
+        requires subject { subject < self.now.rings.now.nodes }
+    {
+        let observer = self.rings.observer(ring, subject);
+        self.has(ring, subject)
+            || self.rule.implicit && self.is_reported(subject) && self.is_reported(observer)
+    }
+
+    fn count(&self, subject: u16) -> usize
+        requires { subject < self.now.rings.now.nodes }
+    {
+        (0..self.rule.k)
+            .filter(|ring| self.is_full(*ring, subject))
+            .count()
+    }
+
+    fn is_settled(&self) -> bool {
+        let (h, l) = (usize::from(self.rule.h), usize::from(self.rule.l));
+        let nodes = self.rings.nodes();
+        (0..nodes).any(|subject| self.count(subject) >= h)
+            && (0..nodes).all(|subject| self.count(subject) >= h || self.count(subject) < l)
+    }
+
+    fn members(&self, alloc: Global) -> Result<Vec<u16>, AllocError> {
+        (0..self.rings.nodes())
+            .filter(|subject| self.count(*subject) >= usize::from(self.rule.h))
+            .collect(alloc)
+    }
+}
+
+// What a process proposes that recounts, members and place, if anything.
+fn recounted(
+    alloc: Global,
+    rings: &Rings,
+    rule: Rule,
+    edges: &[Edge],
+) -> Result<Option<(Vec<u16>, usize)>, AllocError>
+    requires { rule.k ≤ length rings.now.positions }
+{
+    let mut table = vec![in alloc; false; usize::from(rings.nodes()) * 32]?;
+    for (index, edge) in edges.iter().enumerate() {
+        if let Some(has) = table.get_mut(place(edge.ring, edge.subject)) {
+            *has = true;
+        }
+        let recount = Recount {
+            rings,
+            rule,
+            table: table.as_slice(),
+        };
+        if recount.is_settled() {
+            return Ok(Some((recount.members(alloc)?, index + 1)));
+        }
+    }
+    Ok(None)
+}
+
+// The masks propose what the recount does.
+pub(super) fn compare(
+    rt: &impl Abort,
+    alloc: Global,
+    rings: &Rings,
+    (h, l, implicit): (u8, u8, bool),
+    edges: &[Edge],
+    list: u64,
+) -> Result<(), Fail> {
+    let k = rings.len();
+    assert!(rt; 1 <= l && l <= h && h <= k);
+    assert!(rt; all_within(k, rings.nodes(), edges));
+    let rule = Rule { k, h, l, implicit };
+    let wanted = recounted(alloc, rings, rule, edges)?;
+    let found = replay(alloc, rings, k, h, l, implicit, edges)?;
+    match (wanted, found) {
+        (None, None) => {}
+        (Some((members, at)), Some(proposal)) => {
+            let same = proposal.members.as_slice() == members.as_slice();
+            assert!(rt; same, "{list}: {h} {l} {implicit}: other members");
+            assert_eq!(rt; proposal.at, at as u64, "{list}: {h} {l} {implicit}");
+        }
+        _ => assert!(rt; false, "{list}: {h} {l} {implicit}: one proposes alone"),
+    }
+    Ok(())
+}
+
+// As many drawn edges of some subjects and rings, by ChaCha8 of seed zero.
+fn drawn(
+    alloc: Global,
+    stream: u64,
+    count: usize,
+    subjects: u16,
+    rings: u8,
+) -> Result<Vec<Edge>, AllocError>
+    requires rings { 0 < rings }
+    requires subjects { 0 < subjects }
+{
+    let mut words = ChaCha8Rng::from_seed([0; 32]);
+    words.set_stream(stream);
+    let mut edges = Vec::with_capacity(alloc, count)?;
+    for _ in 0..count {
+        let number = words.next_word() % (u32::from(subjects) * u32::from(rings));
+        let ring = (number % u32::from(rings)) as u8;
+        let subject = (number / u32::from(rings)) as u16;
+        edges.push(Edge { ring, subject })?;
+    }
+    Ok(edges)
+}
+
+#[test]
+fn masks_propose_what_a_recount_does(rt: HostRuntime) -> Result<(), Fail> {
+    let alloc = rt.alloc();
+    let rings = rings_of(
+        &rt,
+        alloc,
+        4,
+        &[&[0, 1, 2, 3], &[0, 2, 1, 3], &[0, 3, 2, 1]],
+    )?;
+    for list in 0..1000 {
+        let edges = drawn(alloc, list, 24, 4, 3)?;
+        for (h, l) in [(1, 1), (2, 1), (2, 2), (3, 1), (3, 2), (3, 3)] {
+            compare(&rt, alloc, &rings, (h, l, false), &edges, list)?;
+            compare(&rt, alloc, &rings, (h, l, true), &edges, list)?;
+        }
+    }
+    Ok(())
+}
+
+// The rings on which each process observes the one that is so many further, of 101 processes.
+fn strides(alloc: Global, count: u16) -> Result<Vec<Vec<u16>>, AllocError> {
+    let mut lists = Vec::new(alloc);
+    for stride in 1..=count {
+        let list = (0..101u32)
+            .map(|place| (place * u32::from(stride) % 101) as u16)
+            .collect(alloc)?;
+        lists.push(list)?;
+    }
+    Ok(lists)
+}
+
+#[test]
+fn masks_propose_what_a_recount_does_on_many_rings(rt: HostRuntime) -> Result<(), Fail> {
+    let alloc = rt.alloc();
+    let lists = strides(alloc, 32)?;
+    assert!(rt; lists.len() <= 32);
+    let rings = Rings::from_lists(alloc, 101, &lists)?;
+    for list in 0..2 {
+        let edges = drawn(alloc, list, 100, 5, 32)?;
+        for (h, l) in [(14, 9), (8, 1)] {
+            compare(&rt, alloc, &rings, (h, l, false), &edges, list)?;
+            compare(&rt, alloc, &rings, (h, l, true), &edges, list)?;
+        }
+    }
+    Ok(())
+}

@@ -1,0 +1,156 @@
+ghost use Rattle.std.specs.Prelude.{◌≡◌, ◌<◌, ◌≤◌, length, IfOk};
+
+use cut_plan::Plan;
+use cut_rings::{Edge, Rings, RingsFault};
+use std::alloc::{AllocError, Global};
+use std::test::Fail;
+
+// Plans with each of the seeds below, by which a separate script placed the processes.
+const FIVE: &str =
+    r#"{"copies":1,"dead":"silent","f":[1],"faults":"crash","h":[1],"implicit":true,"k":[2,3],"l":[1],"liars":0,"links":0,"nodes":5,"repeats":2,"seed":"0000000000000000000000000000000000000000000000000000000000000000","version":1}"#;
+
+const SEVEN: &str =
+    r#"{"copies":1,"dead":"silent","f":[1],"faults":"crash","h":[1],"implicit":true,"k":[4],"l":[1],"liars":0,"links":0,"nodes":7,"repeats":2,"seed":"0123456789abcdef0123456789abcdef0123456789abcdef0123456789abcdef","version":1}"#;
+
+const TWO: &str =
+    r#"{"copies":1,"dead":"silent","f":[1],"faults":"crash","h":[1],"implicit":true,"k":[2],"l":[1],"liars":0,"links":0,"nodes":2,"repeats":1,"seed":"ffffffffffffffffffffffffffffffffffffffffffffffffffffffffffffffff","version":1}"#;
+
+// Many processes on many rings.
+const MANY: &str =
+    r#"{"copies":1,"dead":"silent","f":[1],"faults":"crash","h":[1],"implicit":true,"k":[31],"l":[1],"liars":0,"links":0,"nodes":1999,"repeats":1,"seed":"0000000000000000000000000000000000000000000000000000000000000000","version":1}"#;
+
+// Whether a ring holds these processes in this order: each is observed by the one before it.
+fn runs(rings: &Rings, ring: u8, order: &[u16]) -> bool {
+    let nodes = rings.nodes();
+    if ring >= rings.len() || order.len() != usize::from(nodes) {
+        return false;
+    }
+    let mut before = order[order.len() - 1];
+    for process in order {
+        if before >= nodes || *process >= nodes {
+            return false;
+        }
+        if rings.observer(ring, *process) != before || rings.subject(ring, before) != *process {
+            return false;
+        }
+        before = *process;
+    }
+    true
+}
+
+#[test]
+fn hashed_rings_are_those_of_the_plan(rt: HostRuntime) -> Result<(), Fail> {
+    let rows: [(&str, &[&[u16]]); 3] = [
+        (
+            FIVE,
+            &[&[1, 3, 0, 4, 2], &[3, 1, 0, 2, 4], &[0, 1, 2, 4, 3]],
+        ),
+        (
+            SEVEN,
+            &[
+                &[1, 2, 3, 5, 0, 4, 6],
+                &[4, 0, 6, 5, 2, 3, 1],
+                &[5, 4, 2, 3, 6, 1, 0],
+                &[4, 2, 1, 3, 6, 5, 0],
+            ],
+        ),
+        (TWO, &[&[1, 0], &[1, 0]]),
+    ];
+    for (text, orders) in rows {
+        let plan = Plan::from_json(rt.alloc(), text.as_bytes())?;
+        let rings = Rings::hashed(rt.alloc(), &plan)?;
+        assert_eq!(rt; usize::from(rings.len()), orders.len(), "of {text}");
+        for (ring, order) in orders.iter().enumerate() {
+            assert!(rt;
+                ring < 32 && runs(&rings, ring as u8, order),
+                "ring {ring} of {text}"
+            );
+        }
+    }
+    Ok(())
+}
+
+#[test]
+fn many_processes_on_many_rings(rt: HostRuntime) -> Result<(), Fail> {
+    let plan = Plan::from_json(rt.alloc(), MANY.as_bytes())?;
+    let rings = Rings::hashed(rt.alloc(), &plan)?;
+    assert_eq!(rt; (rings.len(), rings.nodes()), (31, 1999));
+    let order: Vec<u16> = (0..1999).rev().collect(rt.alloc())?;
+    let mut lists: Vec<Vec<u16>> = Vec::new(rt.alloc());
+    for _ in 0..31 {
+        lists.push(Vec::from_slice(rt.alloc(), order.as_slice())?)?;
+    }
+    assert!(rt; lists.len() <= 32);
+    let rings = Rings::from_lists(rt.alloc(), 1999, lists.as_slice())?;
+    assert_eq!(rt; (rings.len(), rings.nodes()), (31, 1999));
+    assert!(rt; runs(&rings, 30, order.as_slice()));
+    Ok(())
+}
+
+// Four processes on three rings.
+fn three_lists(alloc: Global) -> Result<Vec<Vec<u16>>, AllocError>
+    ensures { IfOk result (λ lists. length lists.items ≡ 3) }
+{
+    let first = vec![in alloc; 0, 1, 2, 3]?;
+    let second = vec![in alloc; 0, 2, 1, 3]?;
+    let third = vec![in alloc; 0, 3, 2, 1]?;
+    Ok(vec![in alloc; first, second, third]?)
+}
+
+#[test]
+fn listed_rings_are_the_lists(rt: HostRuntime) -> Result<(), Fail> {
+    let lists = three_lists(rt.alloc())?;
+    let rings = Rings::from_lists(rt.alloc(), 4, lists.as_slice())?;
+    assert_eq!(rt; rings.len(), 3);
+    assert_eq!(rt; rings.nodes(), 4);
+    assert!(rt; runs(&rings, 0, &[0, 1, 2, 3]));
+    assert!(rt; runs(&rings, 1, &[0, 2, 1, 3]));
+    assert!(rt; runs(&rings, 2, &[0, 3, 2, 1]));
+    assert_eq!(rt; rings.observer(0, 0), 3);
+    assert_eq!(rt; rings.observer(1, 1), 2);
+    assert_eq!(rt; rings.observer(2, 3), 0);
+    assert_eq!(rt; rings.subject(1, 0), 2);
+    assert_eq!(rt; rings.subject(2, 1), 0);
+    Ok(())
+}
+
+#[test]
+fn edges_are_numbered_by_subject_and_ring(rt: HostRuntime) {
+    let rows = [
+        (0, 0, 1, 0),
+        (2, 0, 3, 2),
+        (0, 1, 3, 3),
+        (1, 4, 10, 41),
+        (31, 2047, 32, 65_535),
+    ];
+    for (ring, subject, k, number) in rows {
+        let edge = Edge { ring, subject };
+        assert!(rt; ring < k && k <= 32 && subject < 2048);
+        assert_eq!(rt; edge.number(k), number, "of {ring} {subject} {k}");
+    }
+}
+
+#[test]
+fn lists_that_are_no_rings_are_told(rt: HostRuntime) -> Result<(), Fail> {
+    let alloc = rt.alloc();
+    let rows: [(u16, &[u16], &str); 6] = [
+        (1, &[0], "12 TooFew"),
+        (1, &[1, 1], "12 TooFew"),
+        (4, &[0, 0, 2, 3], "11 NotPermutation"),
+        (4, &[0, 1, 2], "11 NotPermutation"),
+        (4, &[0, 1, 2, 4], "11 NotPermutation"),
+        (4, &[0, 1, 2, 3, 0], "11 NotPermutation"),
+    ];
+    for (nodes, list, text) in rows {
+        let whole = vec![in alloc; 0, 1, 2, 3]?;
+        let lists = vec![in alloc; whole, Vec::from_slice(alloc, list)?]?;
+        assert!(rt; nodes <= 2048 && lists.len() <= 32);
+        match Rings::from_lists(alloc, nodes, lists.as_slice()) {
+            Ok(_) => Err("rings were made")?,
+            Err(fault) => assert_eq!(rt; fault.to_string(alloc)?.as_str(), text, "of {list:?}"),
+        }
+    }
+    let none = Rings::from_lists(alloc, 4, &[]);
+    assert!(rt; matches!(none, Err(RingsFault::TooFew)));
+    Ok(())
+}

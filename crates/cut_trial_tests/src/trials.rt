@@ -1,0 +1,305 @@
+ghost use Rattle.std.specs.Prelude.{◌≡◌};
+ghost use Rattle.cut_trial.specs.Outcome.{rings_of};
+
+use crate::trials::tables::STUDIES;
+use cut_alerts::Roles;
+use cut_detector::{Members, Proposal};
+use cut_faults::FaultCode;
+use cut_plan::{Dead, Faults, Plan};
+use cut_rings::Rings;
+use cut_trial::{Ballot, Piece, Totals, Verdict, is_piece, quorum, run_piece, run_trial, verdict};
+use std::alloc::{AllocError, Global};
+use std::test::Fail;
+
+mod tables;
+
+// A plan of small cells, where crashed processes speak: of so many processes, copies and trials a cell,
+// and with these numbers of targets.
+fn small_plan(
+    alloc: Global,
+    nodes: u16,
+    copies: u8,
+    repeats: u32,
+    targets: &str,
+) -> Result<Plan, Fail> {
+    let text = format!(in alloc;
+        r#"{{"version":1,"nodes":{nodes},"copies":{copies},"repeats":{repeats},"f":{targets},"k":[3],"h":[3],"l":[1],
+        "faults":"crash","dead":"speak","liars":0,"links":0,"implicit":true,
+        "seed":"0000000000000000000000000000000000000000000000000000000000000000"}}"#
+    )?;
+    Ok(Plan::from_json(alloc, text.as_bytes())?)
+}
+
+fn proposal(alloc: Global, members: &[u16]) -> Result<Proposal, AllocError> {
+    Ok(Proposal {
+        members: Members::from_vec(Vec::from_slice(alloc, members)?),
+        at: 1,
+    })
+}
+
+// The eight sums in the order of the table.
+fn numbers(totals: Totals) -> [u64; 8] {
+    [
+        totals.receivers,
+        totals.conflicts,
+        totals.silent,
+        totals.extra,
+        totals.votes,
+        totals.decided,
+        totals.right,
+        totals.settled,
+    ]
+}
+
+#[test]
+fn quorums(rt: HostRuntime) {
+    for (nodes, wanted) in [(2, 2), (4, 4), (5, 4), (9, 7), (1000, 751), (2048, 1537)] {
+        assert_eq!(rt; quorum(nodes), wanted, "of {nodes}");
+    }
+}
+
+#[test]
+fn verdicts(rt: HostRuntime) -> Result<(), Fail> {
+    let alloc = rt.alloc();
+    let roles = Roles::given(alloc, 4, &[1, 2], &[], &[], Faults::Crash, Dead::Silent)?;
+    let rows: [(&[u16], bool, bool); 5] = [
+        (&[1], true, false),
+        (&[2, 1], false, false),
+        (&[3, 2, 1], false, true),
+        (&[1, 3], true, true),
+        (&[1, 2, 9], false, true),
+    ];
+    for (members, conflict, extra) in rows {
+        let wanted = Verdict {
+            silent: false,
+            conflict,
+            extra,
+        };
+        assert_eq!(rt;
+            verdict(Some(&proposal(alloc, members)?), &roles),
+            wanted,
+            "on {members:?}"
+        );
+    }
+    let none = verdict(None, &roles);
+    assert!(rt; none.silent && !none.conflict && !none.extra);
+    Ok(())
+}
+
+#[test]
+fn ballots(rt: HostRuntime) -> Result<(), Fail> {
+    let alloc = rt.alloc();
+    let mut ballot = Ballot::new(alloc);
+    assert_eq!(rt; ballot.largest(), 0);
+    for members in [&[1][..], &[2], &[1], &[1, 2]] {
+        ballot.add(&proposal(alloc, members)?)?;
+    }
+    assert_eq!(rt; ballot.largest(), 2);
+    for (members, wanted) in [(&[1][..], 2), (&[2], 1), (&[1, 2], 1), (&[2, 1], 0)] {
+        assert_eq!(rt; ballot.votes_for(members), wanted, "for {members:?}");
+    }
+    ballot.clear();
+    assert_eq!(rt; ballot.votes_for(&[1]), 0);
+    Ok(())
+}
+
+#[test]
+fn added_totals(rt: HostRuntime) {
+    let one = Totals {
+        receivers: 9,
+        conflicts: 4,
+        silent: 3,
+        extra: 2,
+        votes: 5,
+        decided: 1,
+        right: 0,
+        settled: 11,
+    };
+    let most = Totals {
+        receivers: 1 << 43,
+        votes: 7,
+        settled: 1 << 61,
+        ..Totals::ZERO
+    };
+    assert_eq!(rt; numbers(one.plus(one)), [18, 8, 6, 4, 10, 2, 0, 22]);
+    assert_eq!(rt;
+        numbers(most.plus(one)),
+        [(1 << 43) + 9, 4, 3, 2, 12, 1, 0, (1 << 61) + 11]
+    );
+    assert_eq!(rt;
+        numbers(most.plus(most)),
+        [1 << 44, 0, 0, 0, 14, 0, 0, 1 << 62]
+    );
+}
+
+// Only the target is alerted, on all three rings, so each receiver proposes exactly it; and with no
+// target nothing is alerted.
+#[test]
+fn trials_and_pieces(rt: HostRuntime) -> Result<(), Fail> {
+    let alloc = rt.alloc();
+    for (nodes, copies, repeats, targets, first, wanted) in [
+        (5, 1, 2, "[1]", 0, [4, 0, 0, 0, 4, 1, 1, 0]),
+        (5, 1, 2, "[0,1]", 1, [5, 0, 5, 0, 0, 0, 0, 0]),
+        (
+            1_999,
+            3,
+            777_777,
+            "[0,1]",
+            1_555_553,
+            [1_998, 0, 0, 0, 1_998, 1, 1, 0],
+        ),
+    ] {
+        let plan = small_plan(alloc, nodes, copies, repeats, targets)?;
+        let rings = Rings::hashed(alloc, &plan)?;
+        let piece = Piece { first, count: 1 };
+        let found = run_piece(alloc, &plan, &rings, piece)?;
+        assert!(rt; found.plan().same(&plan) && found.piece() == piece);
+        assert_eq!(rt;
+            numbers(found.totals()),
+            wanted,
+            "trial {first} of {nodes} processes"
+        );
+        if first < plan.trials() {
+            let totals = run_trial(alloc, &plan, &rings, first)?;
+            assert_eq!(rt; numbers(totals), wanted, "trial {first} alone");
+        }
+    }
+    Ok(())
+}
+
+#[test]
+fn bad_pieces(rt: HostRuntime) -> Result<(), Fail> {
+    let alloc = rt.alloc();
+    let plan = small_plan(alloc, 5, 1, 2, "[0,1]")?;
+    let rings = Rings::hashed(alloc, &plan)?;
+    for (first, count, wanted) in [
+        (0, 2, true),
+        (2, 2, true),
+        (0, 0, false),
+        (1, 2, false),
+        (3, 2, false),
+        (u32::MAX, 2, false),
+    ] {
+        let piece = Piece { first, count };
+        assert_eq!(rt; is_piece(&plan, piece), wanted, "{piece:?}");
+        match run_piece(alloc, &plan, &rings, piece) {
+            Ok(found) => assert_eq!(rt; found.piece(), piece),
+            Err(fault) => assert_eq!(rt; fault.code(), FaultCode::BadPiece, "{piece:?}"),
+        }
+    }
+    Ok(())
+}
+
+// The sums over the trials from `first` to `end`, in pieces of this size.
+fn sums(
+    alloc: Global,
+    plan: &Plan,
+    rings: &Rings,
+    first: u32,
+    end: u32,
+    size: u32,
+) -> Result<[u64; 8], Fail>
+    requires { rings.now ≡ rings_of plan.now }
+{
+    let mut all = [0; 8];
+    let mut next = first;
+    while next < end && size > 0 {
+        let count = size.min(end - next);
+        let found = run_piece(alloc, plan, rings, Piece { first: next, count })?;
+        add(&mut all, &numbers(found.totals()));
+        next += count;
+    }
+    Ok(all)
+}
+
+fn add(all: &mut [u64], more: &[u64]) {
+    for (number, part) in all.iter_mut().zip(more) {
+        *number = number.saturating_add(*part);
+    }
+}
+
+// Each cell's sums are those of its row, in pieces of each size.
+#[test]
+fn studies(rt: HostRuntime) -> Result<(), Fail> {
+    let alloc = rt.alloc();
+    for (name, text, rows) in STUDIES {
+        let plan = Plan::from_json(alloc, text.as_bytes())?;
+        let rings = Rings::hashed(alloc, &plan)?;
+        assert_eq!(rt; plan.cells() as usize, rows.len(), "{name}");
+        for size in [1, 2, 7] {
+            let mut first: u32 = 0;
+            for row in *rows {
+                let end = first.saturating_add(plan.repeats());
+                let found = sums(alloc, &plan, &rings, first, end, size)?;
+                assert_eq!(rt;
+                    found,
+                    *row,
+                    "{name}: the cell from trial {first}, by {size}"
+                );
+                first = end;
+            }
+        }
+    }
+    Ok(())
+}
+
+// Two trials of five processes, one of which is deaf, as each version says it.
+const DEAF: [&str; 2] = [
+    r#"{"copies":1,"dead":"silent","f":[1],"faults":"deaf","h":[1],"implicit":true,"k":[1],"l":[1],"liars":0,"links":0,"nodes":5,"repeats":2,"seed":"0000000000000000000000000000000000000000000000000000000000000000","version":1}"#,
+    r#"{"copies":1,"dead":"silent","deaf":1,"f":[1],"h":[1],"implicit":true,"k":[1],"l":[1],"liars":0,"links":0,"nodes":5,"repeats":2,"seed":"0000000000000000000000000000000000000000000000000000000000000000","version":2}"#,
+];
+
+// The totals of a trial alone.
+fn totals_of_trial(alloc: Global, text: &str, trial: u32) -> Result<Totals, Fail> {
+    let plan = Plan::from_json(alloc, text.as_bytes())?;
+    let rings = Rings::hashed(alloc, &plan)?;
+    let found = run_piece(
+        alloc,
+        &plan,
+        &rings,
+        Piece {
+            first: trial,
+            count: 1,
+        },
+    )?;
+    Ok(found.totals())
+}
+
+#[test]
+fn both_versions_have_the_same_deaf_process(rt: HostRuntime) -> Result<(), Fail> {
+    let alloc = rt.alloc();
+    for trial in 0..2 {
+        let [first, second] = DEAF;
+        let without = totals_of_trial(alloc, first, trial)?;
+        let with = totals_of_trial(alloc, second, trial)?;
+        assert_eq!(rt; without.settled, 0, "trial {trial}");
+        assert!(rt;
+            with.settled >= with.receivers.saturating_sub(with.silent),
+            "trial {trial}"
+        );
+        let wanted = Totals { settled: 0, ..with };
+        assert_eq!(rt; numbers(without), numbers(wanted), "trial {trial}");
+    }
+    Ok(())
+}
+
+// Two trials of five processes of a plan of version 2, of cells with these values: each receiver that
+// proposes does so after the only alert, or after all three, one for each ring.
+#[test]
+fn places_add_up_in_version_2(rt: HostRuntime) -> Result<(), Fail> {
+    let alloc = rt.alloc();
+    for (targets, rings, wanted) in [
+        (1, 1, [8, 0, 0, 0, 8, 2, 2, 8]),
+        (0, 1, [10, 0, 10, 0, 0, 0, 0, 0]),
+        (1, 3, [8, 0, 0, 0, 8, 2, 2, 24]),
+    ] {
+        let text = format!(in alloc;
+            r#"{{"copies":1,"dead":"silent","deaf":0,"f":[{targets}],"h":[{rings}],"implicit":true,"k":[{rings}],"l":[1],"liars":0,"links":0,"nodes":5,"repeats":2,"seed":"0000000000000000000000000000000000000000000000000000000000000000","version":2}}"#
+        )?;
+        let plan = Plan::from_json(alloc, text.as_bytes())?;
+        let rings_of_plan = Rings::hashed(alloc, &plan)?;
+        let found = sums(alloc, &plan, &rings_of_plan, 0, plan.trials(), 2)?;
+        assert_eq!(rt; found, wanted, "{targets} targets, {rings} rings");
+    }
+    Ok(())
+}
