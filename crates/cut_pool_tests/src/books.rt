@@ -26,13 +26,18 @@ enum Ask {
     Row,
 }
 
+/// The result of one trial of a plan.
+fn result(alloc: Global, text: &str, first: u32) -> Result<PieceResult, Fail> {
+    let plan = Plan::from_json(alloc, text.as_bytes())?;
+    Ok(result_of(alloc, &plan, Piece { first, count: 1 })?)
+}
+
 /// The results of both trials of the study, one by one, and that of the other one.
-fn results(alloc: Global, plan: &Plan) -> Result<Vec<PieceResult>, Fail> {
-    let other = Plan::from_json(alloc, OTHER.as_bytes())?;
+fn results(alloc: Global) -> Result<Vec<PieceResult>, Fail> {
     let mut results = Vec::new(alloc);
-    results.push(result_of(alloc, plan, Piece { first: 0, count: 1 })?)?;
-    results.push(result_of(alloc, plan, Piece { first: 1, count: 1 })?)?;
-    results.push(result_of(alloc, &other, Piece { first: 0, count: 1 })?)?;
+    for (text, first) in [(STUDY, 0), (STUDY, 1), (OTHER, 0)] {
+        results.push(result(alloc, text, first)?)?;
+    }
     Ok(results)
 }
 
@@ -76,7 +81,7 @@ fn answers<D: Disk>(
     book: &mut Book<D>,
     results: &[PieceResult],
     asks: &[Ask],
-) -> Result<String, AllocError> {
+) -> Result<String, Fail> {
     let mut text = String::new(alloc);
     for ask in asks {
         let line = answer(alloc, book, results, *ask)?;
@@ -87,7 +92,8 @@ fn answers<D: Disk>(
 }
 
 /// A book over a disk, with pieces of one trial.
-fn book_over<D: Disk + Drop>(alloc: Global, plan: Plan, disk: D) -> Result<Book<D>, Fail> {
+fn book_over<D: Disk + Drop>(alloc: Global, disk: D) -> Result<Book<D>, Fail> {
+    let plan = Plan::from_json(alloc, STUDY.as_bytes())?;
     match Journal::open(alloc, disk, &plan) {
         Ok((journal, slips)) => { Ok(Book::new(alloc, plan, Some(journal), slips.as_slice(), 1)?) }
         Err(_) => Err("no journal")?,
@@ -96,18 +102,33 @@ fn book_over<D: Disk + Drop>(alloc: Global, plan: Plan, disk: D) -> Result<Book<
 
 /// What a book over a disk answers.
 fn answers_over<D: Disk + Drop>(alloc: Global, disk: D, asks: &[Ask]) -> Result<String, Fail> {
-    let plan = Plan::from_json(alloc, STUDY.as_bytes())?;
-    let results = results(alloc, &plan)?;
-    let mut book = book_over(alloc, plan, disk)?;
-    Ok(answers(alloc, &mut book, results.as_slice(), asks)?)
+    let results = results(alloc)?;
+    let mut book = book_over(alloc, disk)?;
+    answers(alloc, &mut book, results.as_slice(), asks)
 }
+
+/// A book without a journal, with pieces of one trial.
+fn book_alone(alloc: Global) -> Result<Book<MemoryDisk>, Fail> {
+    let plan = Plan::from_json(alloc, STUDY.as_bytes())?;
+    Ok(Book::new(alloc, plan, None, &[], 1)?)
+}
+
+/// What a book without a journal answers, and then how many calls its history has.
+fn answers_alone(
+    alloc: Global,
+    book: &mut Book<MemoryDisk>,
+    asks: &[Ask],
+) -> Result<(String, u64), Fail> {
+    let results = results(alloc)?;
+    let text = answers(alloc, book, results.as_slice(), asks)?;
+    Ok((text, book.history_len()))
+}
+
+const ALONE: &str =
+    "done; 18 NotDone 0; done; 16 Overlap; 15 Stranger; 26 bytes; done; 14 BadPiece; 14 BadPiece; ";
 
 #[test]
 fn a_book_without_a_journal(rt: HostRuntime) -> Result<(), Fail> {
-    let alloc = rt.alloc();
-    let plan = Plan::from_json(alloc, STUDY.as_bytes())?;
-    let results = results(alloc, &plan)?;
-    let mut book = Book::<MemoryDisk>::new(alloc, plan, None, &[], 1)?;
     let asks = [
         Ask::HandIn(1),
         Ask::Row,
@@ -119,41 +140,37 @@ fn a_book_without_a_journal(rt: HostRuntime) -> Result<(), Fail> {
         Ask::Lose(0),
         Ask::Lose(2),
     ];
-    let text = answers(alloc, &mut book, results.as_slice(), asks.as_slice())?;
-    assert_eq!(rt;
-        text.as_str(),
-        "done; 18 NotDone 0; done; 16 Overlap; 15 Stranger; 26 bytes; done; 14 BadPiece; 14 BadPiece; "
-    );
-    assert_eq!(rt; book.history_len(), 7);
+    let mut book = book_alone(rt.alloc())?;
+    let (text, calls) = answers_alone(rt.alloc(), &mut book, &asks)?;
+    assert!(rt; text.as_str() == ALONE && calls == 7);
     Ok(())
 }
 
-/// What a book without a journal has after both results: whether it is complete, whether a piece is lost, how
-/// many calls its history has and how many trials were accepted.
-fn end_of(alloc: Global, plan: Plan) -> Result<(bool, bool, u64, u64), Fail> {
-    let results = results(alloc, &plan)?;
-    let mut book = Book::<MemoryDisk>::new(alloc, plan, None, &[], 1)?;
-    let asks = [Ask::HandIn(1), Ask::HandIn(0), Ask::HandIn(0)];
-    let _ = answers(alloc, &mut book, results.as_slice(), asks.as_slice())?;
+/// Whether a book is complete and has lost a piece, and how many calls its history has and trials were accepted.
+fn end_of(book: Book<MemoryDisk>) -> (bool, bool, u64, u64) {
     let (complete, has_lost) = (book.ledger().complete(), book.has_lost());
     let (history, _journal) = book.into_parts();
-    Ok((complete, has_lost, history.len(), history.accepted()))
+    (complete, has_lost, history.len(), history.accepted())
 }
 
 #[test]
 fn a_history_has_every_call(rt: HostRuntime) -> Result<(), Fail> {
-    let alloc = rt.alloc();
-    let plan = Plan::from_json(alloc, STUDY.as_bytes())?;
-    assert!(rt; end_of(alloc, plan)? == (true, false, 3, 2));
+    let mut book = book_alone(rt.alloc())?;
+    let asks = [Ask::HandIn(1), Ask::HandIn(0), Ask::HandIn(0)];
+    let _ = answers_alone(rt.alloc(), &mut book, &asks)?;
+    assert!(rt; end_of(book) == (true, false, 3, 2));
     Ok(())
+}
+
+/// What a book answers over a disk that fails at this call.
+fn answers_failing(alloc: Global, fail_at: u64, asks: &[Ask]) -> Result<String, Fail> {
+    let disk = FaultyDisk::of(alloc, Vec::new(alloc), fail_at, Tear::Nothing)?;
+    disk.arm();
+    answers_over(alloc, disk, asks)
 }
 
 #[test]
 fn a_disk_that_fails_in_an_append(rt: HostRuntime) -> Result<(), Fail> {
-    let alloc = rt.alloc();
-    // Ten calls open the journal, and each append makes four.
-    let disk = FaultyDisk::of(alloc, Vec::new(alloc), 12, Tear::Nothing)?;
-    disk.arm();
     let asks = [
         Ask::HandIn(1),
         Ask::HandIn(0),
@@ -161,52 +178,62 @@ fn a_disk_that_fails_in_an_append(rt: HostRuntime) -> Result<(), Fail> {
         Ask::Lose(0),
         Ask::Lose(0),
     ];
-    let text = answers_over(alloc, disk, asks.as_slice())?;
-    assert_eq!(rt;
-        text.as_str(),
-        "30 Checkpoint; 30 Checkpoint; 18 NotDone 0; done; 14 BadPiece; "
-    );
+    // Ten calls open the journal, and each append makes four.
+    let text = answers_failing(rt.alloc(), 12, &asks)?;
+    assert!(rt; text.as_str() == "30 Checkpoint; 30 Checkpoint; 18 NotDone 0; done; 14 BadPiece; ");
     Ok(())
+}
+
+/// Whether a book over a disk answers this, and leaves so many bytes there.
+fn leaves(
+    alloc: Global,
+    disk: &mut MemoryDisk,
+    asks: &[Ask],
+    wanted: &str,
+    length: usize,
+) -> Result<bool, Fail> {
+    let text = answers_over(alloc, &mut *disk, asks)?;
+    Ok(text.as_str() == wanted && disk.bytes().len() == length)
 }
 
 #[test]
 fn a_journal_keeps_what_is_accepted(rt: HostRuntime) -> Result<(), Fail> {
     let alloc = rt.alloc();
+    let first = [Ask::HandIn(2), Ask::HandIn(0)];
+    let second = [Ask::HandIn(0), Ask::HandIn(1), Ask::Row];
     let mut disk = MemoryDisk::of(alloc, Vec::new(alloc))?;
-    let first = answers_over(
-        alloc,
-        &mut disk,
-        [Ask::HandIn(2), Ask::HandIn(0)].as_slice(),
-    )?;
-    assert_eq!(rt; first.as_str(), "15 Stranger; done; ");
-    assert_eq!(rt; disk.bytes().len(), 372);
-    let asks = [Ask::HandIn(0), Ask::HandIn(1), Ask::Row];
-    let second = answers_over(alloc, &mut disk, asks.as_slice())?;
-    assert_eq!(rt; second.as_str(), "16 Overlap; done; 26 bytes; ");
-    assert_eq!(rt; disk.bytes().len(), 477);
+    assert!(rt; leaves(alloc, &mut disk, &first, "15 Stranger; done; ", 372)?);
+    assert!(rt;
+        leaves(
+            alloc,
+            &mut disk,
+            &second,
+            "16 Overlap; done; 26 bytes; ",
+            477
+        )?
+    );
     Ok(())
 }
 
-/// What is told of slips that a book is opened over.
-fn opened(alloc: Global, plan: Plan, slips: &[Slip]) -> Result<String, AllocError> {
-    match Book::<MemoryDisk>::new(alloc, plan, None, slips, 1) {
-        Ok(_) => String::from_str(alloc, "done"),
-        Err(fault) => format!(in alloc; "{fault}"),
+/// What is told of a book that is opened over the slip of the first trial, so many times.
+fn opened(alloc: Global, times: usize) -> Result<String, Fail> {
+    let result = result(alloc, STUDY, 0)?;
+    let slip = Slip {
+        piece: result.piece(),
+        totals: result.totals(),
+    };
+    let slips = vec![in alloc; slip; times]?;
+    let plan = Plan::from_json(alloc, STUDY.as_bytes())?;
+    match Book::<MemoryDisk>::new(alloc, plan, None, slips.as_slice(), 1) {
+        Ok(_) => Ok(String::from_str(alloc, "done")?),
+        Err(fault) => Ok(format!(in alloc; "{fault}")?),
     }
 }
 
 #[test]
 fn bad_slips_are_told(rt: HostRuntime) -> Result<(), Fail> {
-    let alloc = rt.alloc();
-    let plan = Plan::from_json(alloc, STUDY.as_bytes())?;
-    let result = result_of(alloc, &plan, Piece { first: 0, count: 1 })?;
-    let slip = Slip {
-        piece: result.piece(),
-        totals: result.totals(),
-    };
-    let once = opened(alloc, plan.try_clone(alloc)?, &[slip])?;
-    assert_eq!(rt; once.as_str(), "done");
-    let twice = opened(alloc, plan, &[slip, slip])?;
-    assert_eq!(rt; twice.as_str(), "17 BadSlip 2");
+    for (times, wanted) in [(1, "done"), (2, "17 BadSlip 2")] {
+        assert!(rt; opened(rt.alloc(), times)?.as_str() == wanted, "{times}");
+    }
     Ok(())
 }

@@ -13,6 +13,7 @@ use rand_chacha::ChaCha8Rng;
 use rand_core::SeedableRng;
 use rand_core::utils::NextWord;
 use std::alloc::Global;
+use std::process::Abort;
 use std::test::Fail;
 
 /// A study of two cells, each of two trials.
@@ -55,24 +56,23 @@ fn same_reply(answer: &Result<(), BookFault>, reply: Reply) -> Result<Reply, Fai
     }
 }
 
+/// A book over a disk that is armed once its journal is open.
+fn armed_book(alloc: Global, plan: &Plan, disk: FaultyDisk) -> Result<Book<FaultyDisk>, Fail> {
+    let own = plan.try_clone(alloc)?;
+    let (journal, slips) = journal_on(alloc, disk, plan)?;
+    journal.disk().arm();
+    Ok(Book::new(alloc, own, Some(journal), slips.as_slice(), 1)?)
+}
+
 impl Pair {
     /// Over a disk that is armed once its journal is open, or without a journal.
     fn open(alloc: Global, plan: &Plan, disk: Option<FaultyDisk>) -> Result<Pair, Fail> {
-        let run = Run::start(alloc, plan.try_clone(alloc)?, 1, disk.is_some())?;
+        let has_journal = disk.is_some();
         let book = match disk {
             None => Book::new(alloc, plan.try_clone(alloc)?, None, &[], 1)?,
-            Some(disk) => {
-                let (journal, slips) = journal_on(alloc, disk, plan)?;
-                journal.disk().arm();
-                Book::new(
-                    alloc,
-                    plan.try_clone(alloc)?,
-                    Some(journal),
-                    slips.as_slice(),
-                    1,
-                )?
-            }
+            Some(disk) => armed_book(alloc, plan, disk)?,
         };
+        let run = Run::start(alloc, plan.try_clone(alloc)?, 1, has_journal)?;
         Ok(Pair {
             book,
             run,
@@ -193,34 +193,60 @@ fn mark(alloc: Global, seen: &mut [bool; 6], reply: &Reply) -> Result<(), Fail> 
     Ok(())
 }
 
-/// Whether in a drawn list of twelve calls all answers, the lines and the number of calls are alike.
+/// Marks the replies to twelve calls that are drawn.
+fn answer_twelve(
+    alloc: Global,
+    words: &mut ChaCha8Rng,
+    pair: &mut Pair,
+    plans: (&Plan, &Plan),
+    seen: &mut [bool; 6],
+) -> Result<(), Fail> {
+    for _ in 0..12 {
+        let reply = answer_drawn(alloc, words, pair, plans.0, plans.1)?;
+        mark(alloc, seen, &reply)?;
+    }
+    Ok(())
+}
+
+/// Whether the answers to twelve calls that are drawn, the lines and the number of calls are alike.
+fn answers_alike(
+    alloc: Global,
+    words: &mut ChaCha8Rng,
+    pair: &mut Pair,
+    plans: (&Plan, &Plan),
+    seen: &mut [bool; 6],
+) -> Result<bool, Fail> {
+    answer_twelve(alloc, words, pair, plans, seen)?;
+    Ok(pair.has_same_front(alloc)? && pair.book.history_len() == pair.calls)
+}
+
+/// Whether all is alike in the drawn list of this number, of results of the first plan and of the other one.
 fn is_alike(
     alloc: Global,
     list: u64,
-    plan: &Plan,
-    other: &Plan,
+    plans: (&Plan, &Plan),
     seen: &mut [bool; 6],
 ) -> Result<bool, Fail> {
     let mut words = ChaCha8Rng::from_seed([0; 32]);
     words.set_stream(list);
     let disk = drawn_disk(alloc, &mut words)?;
-    let mut pair = Pair::open(alloc, plan, disk)?;
-    for _ in 0..12 {
-        let reply = answer_drawn(alloc, &mut words, &mut pair, plan, other)?;
-        mark(alloc, seen, &reply)?;
+    let mut pair = Pair::open(alloc, plans.0, disk)?;
+    answers_alike(alloc, &mut words, &mut pair, plans, seen)
+}
+
+/// Two hundred drawn lists are alike, and every reply comes in one of them.
+fn check_lists(rt: &impl Abort, alloc: Global, plans: (&Plan, &Plan)) -> Result<(), Fail> {
+    let mut seen = [false; 6];
+    for list in 0..200 {
+        assert!(rt; is_alike(alloc, list, plans, &mut seen)?, "{list}");
     }
-    Ok(pair.has_same_front(alloc)? && pair.book.history_len() == pair.calls)
+    assert!(rt; seen == [true; 6]);
+    Ok(())
 }
 
 #[test]
 fn books_answer_as_runs_do(rt: HostRuntime) -> Result<(), Fail> {
-    let alloc = rt.alloc();
-    let plan = Plan::from_json(alloc, TWO_CELLS.as_bytes())?;
-    let other = Plan::from_json(alloc, OTHER.as_bytes())?;
-    let mut seen = [false; 6];
-    for list in 0..200 {
-        assert!(rt; is_alike(alloc, list, &plan, &other, &mut seen)?, "{list}");
-    }
-    assert_eq!(rt; seen, [true; 6]);
-    Ok(())
+    let plan = Plan::from_json(rt.alloc(), TWO_CELLS.as_bytes())?;
+    let other = Plan::from_json(rt.alloc(), OTHER.as_bytes())?;
+    check_lists(&rt, rt.alloc(), (&plan, &other))
 }

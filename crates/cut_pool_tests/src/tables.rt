@@ -44,22 +44,49 @@ fn run_by_three<D: Disk + Drop + Send, W: Wire, R: Threads + Wait + Sync>(
     Ok(told(alloc, answer)?)
 }
 
+/// What is told of a run of a study over a disk.
+fn run_over<D: Disk + Drop + Send, W: Wire, R: Threads + Wait + Sync>(
+    rt: &R,
+    alloc: Global,
+    study: Study,
+    disk: D,
+    wire: &mut W,
+) -> Result<String, Fail> {
+    let plan = Plan::from_json(alloc, study.plan.as_bytes())?;
+    let kept = journal_on(alloc, disk, &plan)?;
+    run_by_three(rt, alloc, &plan, kept, wire)
+}
+
+/// What is told of such a run over a disk that is armed once its journal is open.
+fn run_armed<W: Wire, R: Threads + Wait + Sync>(
+    rt: &R,
+    alloc: Global,
+    study: Study,
+    disk: &mut FaultyDisk,
+    wire: &mut W,
+) -> Result<String, Fail> {
+    let plan = Plan::from_json(alloc, study.plan.as_bytes())?;
+    let kept = journal_on(alloc, disk, &plan)?;
+    kept.0.disk().arm();
+    run_by_three(rt, alloc, &plan, kept, wire)
+}
+
 /// Whether a run over a disk on a wire that fails half-way tells so, and writes the front of the table.
 fn is_cut_off<R: Threads + Wait + Sync>(
     rt: &R,
     alloc: Global,
     study: Study,
+    table: &[u8],
     disk: &mut MemoryDisk,
 ) -> Result<bool, Fail> {
-    let plan = Plan::from_json(alloc, study.plan.as_bytes())?;
-    let table = table_of(alloc, study)?;
     let half = table.len() / 2;
     let mut wire = FaultyWire::new(alloc, Vec::new(alloc), 1000, half, 0);
-    let kept = journal_on(alloc, disk, &plan)?;
-    let text = run_by_three(rt, alloc, &plan, kept, &mut wire)?;
-    let wanted = format!(in alloc; "31 Write {half}")?;
-    let is_front = table.as_bytes().starts_with(wire.taken());
-    Ok(text == wanted && wire.taken().len() == half && is_front)
+    let text = run_over(rt, alloc, study, disk, &mut wire)?;
+    let sent = text
+        .as_str()
+        .strip_prefix("31 Write ")
+        .and_then(|n| n.parse::<usize>().ok());
+    Ok(sent == Some(half) && wire.taken() == &table[..half])
 }
 
 /// Whether a run over a disk that fails once its journal is open tells so, and writes a front of the table.
@@ -67,15 +94,21 @@ fn is_broken_off<R: Threads + Wait + Sync>(
     rt: &R,
     alloc: Global,
     study: Study,
+    table: &[u8],
     disk: &mut FaultyDisk,
 ) -> Result<bool, Fail> {
-    let plan = Plan::from_json(alloc, study.plan.as_bytes())?;
-    let table = table_of(alloc, study)?;
     let mut wire = MemoryWire::new(alloc, Vec::new(alloc), 1000);
-    let kept = journal_on(alloc, disk, &plan)?;
-    kept.0.disk().arm();
-    let text = run_by_three(rt, alloc, &plan, kept, &mut wire)?;
-    Ok(text.as_str() == "30 Checkpoint" && table.as_bytes().starts_with(wire.taken()))
+    let text = run_armed(rt, alloc, study, disk, &mut wire)?;
+    Ok(text.as_str() == "30 Checkpoint" && table.starts_with(wire.taken()))
+}
+
+/// Whether what is told of a run is that the whole table was sent, and the study is complete.
+fn is_told_whole(text: &str, table: &[u8]) -> bool {
+    let sent = text
+        .strip_prefix("sent ")
+        .and_then(|rest| rest.split_once(", accepted "))
+        .and_then(|(sent, _)| sent.parse::<usize>().ok());
+    sent == Some(table.len()) && text.ends_with(", complete true")
 }
 
 /// Whether a run over a disk writes the whole table, and tells so.
@@ -83,26 +116,33 @@ fn is_resumed<D: Disk + Drop + Send, R: Threads + Wait + Sync>(
     rt: &R,
     alloc: Global,
     study: Study,
+    table: &[u8],
     disk: D,
 ) -> Result<bool, Fail> {
-    let plan = Plan::from_json(alloc, study.plan.as_bytes())?;
-    let table = table_of(alloc, study)?;
     let mut wire = MemoryWire::new(alloc, Vec::new(alloc), 1000);
-    let kept = journal_on(alloc, disk, &plan)?;
-    let text = run_by_three(rt, alloc, &plan, kept, &mut wire)?;
-    let front = format!(in alloc; "sent {}, accepted ", table.len())?;
-    let is_told = text.as_str().starts_with(front.as_str())
-        && text.as_str().ends_with(", complete true");
-    Ok(is_told && wire.taken() == table.as_bytes())
+    let text = run_over(rt, alloc, study, disk, &mut wire)?;
+    Ok(is_told_whole(text.as_str(), table) && wire.taken() == table)
+}
+
+/// Whether a run that its wire cut off half-way is resumed to the whole table.
+fn outlives_its_wire<R: Threads + Wait + Sync>(
+    rt: &R,
+    alloc: Global,
+    study: Study,
+    table: &[u8],
+) -> Result<bool, Fail> {
+    let mut disk = MemoryDisk::of(alloc, Vec::new(alloc))?;
+    Ok(
+        is_cut_off(rt, alloc, study, table, &mut disk)?
+            && is_resumed(rt, alloc, study, table, &mut disk)?,
+    )
 }
 
 #[test]
 fn tables_whose_wire_fails_half_way_are_resumed(rt: HostRuntime) -> Result<(), Fail> {
-    let alloc = rt.alloc();
     for study in studies() {
-        let mut disk = MemoryDisk::of(alloc, Vec::new(alloc))?;
-        assert!(rt; is_cut_off(&rt, alloc, study, &mut disk)?, "{}", study.plan);
-        assert!(rt; is_resumed(&rt, alloc, study, &mut disk)?, "{}", study.plan);
+        let table = table_of(rt.alloc(), study)?;
+        assert!(rt; outlives_its_wire(&rt, rt.alloc(), study, table.as_bytes())?);
     }
     Ok(())
 }
@@ -114,19 +154,27 @@ fn failing_call(alloc: Global, study: Study) -> Result<u64, Fail> {
     Ok(2 * u64::from(plan.trials()) + 1)
 }
 
+/// Whether a run whose disk failed half-way is resumed to the whole table.
+fn outlives_its_disk<R: Threads + Wait + Sync>(
+    rt: &R,
+    alloc: Global,
+    study: Study,
+    table: &[u8],
+    tear: Tear,
+) -> Result<bool, Fail> {
+    let mut disk = FaultyDisk::of(alloc, Vec::new(alloc), failing_call(alloc, study)?, tear)?;
+    Ok(
+        is_broken_off(rt, alloc, study, table, &mut disk)?
+            && is_resumed(rt, alloc, study, table, &mut disk)?,
+    )
+}
+
 #[test]
 fn tables_whose_disk_fails_half_way_are_resumed(rt: HostRuntime) -> Result<(), Fail> {
-    let alloc = rt.alloc();
     for study in studies() {
-        let fail_at = failing_call(alloc, study)?;
+        let table = table_of(rt.alloc(), study)?;
         for tear in [Tear::Nothing, Tear::Everything] {
-            let mut disk = FaultyDisk::of(alloc, Vec::new(alloc), fail_at, tear)?;
-            assert!(rt;
-                is_broken_off(&rt, alloc, study, &mut disk)?,
-                "{}",
-                study.plan
-            );
-            assert!(rt; is_resumed(&rt, alloc, study, &mut disk)?, "{}", study.plan);
+            assert!(rt; outlives_its_disk(&rt, rt.alloc(), study, table.as_bytes(), tear)?);
         }
     }
     Ok(())
