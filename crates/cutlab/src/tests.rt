@@ -24,6 +24,33 @@ struct Left {
     errors: Vec<u8>,
 }
 
+impl Left {
+    /// Whether the program ended with this status, wrote this and told this.
+    fn is(&self, status: u8, output: &str, errors: &str) -> bool {
+        self.status == status
+            && self.output.as_slice() == output.as_bytes()
+            && self.errors.as_slice() == errors.as_bytes()
+    }
+
+    /// Whether the program ended with 0 and told nothing, and its output has this in it.
+    fn is_help(&self, part: &str) -> bool {
+        self.status == 0 && self.errors.is_empty() && has(&self.output, part)
+    }
+
+    /// Whether the program ended with 2 and wrote nothing, and what it told has this in it.
+    fn is_mistake(&self, part: &str) -> bool {
+        self.status == 2 && self.output.is_empty() && has(&self.errors, part)
+    }
+}
+
+/// Whether some bytes are a text with this in it.
+fn has(bytes: &[u8], part: &str) -> bool {
+    match std::str::from_utf8(bytes) {
+        Ok(text) => text.contains(part),
+        Err(_) => false,
+    }
+}
+
 /// What the program leaves, given these words and this input.
 fn left_by<T: Threads + Wait + Sync>(
     host: &HostRuntime,

@@ -43,11 +43,6 @@ fn asked<T: Threads + Wait + Sync>(host: &HostRuntime, rt: &T, socket: &str) -> 
     left
 }
 
-/// Whether the program ended with 0, wrote this and told nothing.
-fn is_done(left: &Left, text: &str) -> bool {
-    left.status == 0 && left.output.as_slice() == text.as_bytes() && left.errors.is_empty()
-}
-
 /// The file of the plan's study: the digest of the plan's text was computed apart from this program.
 const FILE: &str =
     "cutlab_kept/b2004e8e7a94efdac80136fc48f22420eec1d9e0c245baf601460edfa4a5da30.cut";
@@ -64,9 +59,9 @@ fn a_study_is_kept(rt: HostRuntime) -> Result<(), Fail> {
             || served(&rt, &rt, socket, "cutlab_kept"),
             || asked(&rt, &rt, socket),
         );
-        assert!(rt; is_done(&server, told), "{told}");
-        assert!(rt; is_done(&client, TABLE), "{told}");
-        assert_eq!(rt; fs::read(&rt, FILE)?.len(), 372);
+        assert!(rt; server.is(0, told, ""), "{told}");
+        assert!(rt; client.is(0, TABLE, ""), "{told}");
+        assert!(rt; fs::read(&rt, FILE)?.len() == 372);
     }
     fs::remove_dir_all(&rt, "cutlab_kept")?;
     Ok(())
@@ -84,16 +79,12 @@ fn a_server_that_cannot_begin_is_told(rt: HostRuntime) {
     ];
     for (socket, folder, line) in rows {
         let left = served(&rt, &rt, socket, folder);
-        assert_eq!(rt; left.status, 4, "{line}");
-        assert!(rt; left.output.is_empty(), "{line}");
-        assert!(rt; left.errors.as_slice() == line.as_bytes(), "{line}");
+        assert!(rt; left.is(4, "", line), "{line}");
     }
 }
 
 #[test]
 fn a_socket_that_is_not_there_is_told(rt: HostRuntime) {
     let left = left_by(&rt, &rt, &["cutlab", "ask", "cutlab_no_socket"], PLAN);
-    assert_eq!(rt; left.status, 4);
-    assert!(rt; left.output.is_empty());
-    assert!(rt; left.errors.as_slice() == b"cutlab: fault 43 Read\n".as_slice());
+    assert!(rt; left.is(4, "", "cutlab: fault 43 Read\n"));
 }

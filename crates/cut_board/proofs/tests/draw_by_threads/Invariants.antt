@@ -10,6 +10,3 @@ invariant-loop-done g l = record {
 
 abbrev pub decreases-loop-done : goal.decreases-loop-done
 decreases-loop-done g l = vec_len l.all_done
-
-abbrev pub invariant-loop-i : goal.invariant-loop-i
-invariant-loop-i g l = All (λ s. board_of s ≡ board_id l.board) l.back.items
