@@ -44,9 +44,12 @@ fn table_with(alloc: Global, lines: &str) -> Result<String, AllocError> {
     Ok(text)
 }
 
+/// The line of the plan's cell.
+const LINE: &str = "1,1,1,1,2,8,0,0,0,8,2,2,0\n";
+
 /// The whole table of the plan.
 fn plan_table(alloc: Global) -> Result<String, AllocError> {
-    table_with(alloc, "1,1,1,1,2,8,0,0,0,8,2,2,0\n")
+    table_with(alloc, LINE)
 }
 
 /// Runs the plan of a reader by one worker and writes its table to a writer.

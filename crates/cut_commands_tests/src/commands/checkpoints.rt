@@ -1,6 +1,6 @@
 //! Studies that are kept on a disk: resumed, stopped at each call of the disk, and refused.
 
-use super::{PLAN, plan_table, plan_with};
+use super::{LINE, NAMES, PLAN, plan_with};
 use cut_commands::{CliFault, StreamWire, run_io};
 use cut_disks::{Disk, FaultyDisk, FileDisk, MemoryDisk, Tear};
 use cut_journal::JournalFault;
@@ -46,17 +46,30 @@ pub(super) fn empty_disk(alloc: Global) -> Result<MemoryDisk, Fail> {
     Ok(MemoryDisk::of(alloc, Vec::new(alloc))?)
 }
 
+/// Whether the plan's study over a disk, by pieces of this size, writes its table and leaves so many bytes there.
+fn leaves<T: Threads + Wait + Sync>(
+    rt: &T,
+    alloc: Global,
+    size: u32,
+    disk: &mut MemoryDisk,
+    length: usize,
+) -> Result<bool, Fail> {
+    let output = written(rt, alloc, PLAN, size, &mut *disk)?;
+    Ok(is_table(output.as_slice()) && disk.bytes().len() == length)
+}
+
+/// Whether these bytes are the whole table of the plan.
+fn is_table(bytes: &[u8]) -> bool {
+    bytes.strip_prefix(NAMES.as_bytes()) == Some(LINE.as_bytes())
+}
+
 #[test]
 fn a_study_is_kept_and_read_back(rt: HostRuntime) -> Result<(), Fail> {
     let alloc = rt.alloc();
-    let table = plan_table(alloc)?;
     for (size, length) in [(2, 372), (1, 477), (16, 372)] {
         let mut disk = empty_disk(alloc)?;
-        for _ in 0..2 {
-            let output = written(&rt, alloc, PLAN, size, &mut disk)?;
-            assert!(rt; output.as_slice() == table.as_bytes());
-            assert_eq!(rt; disk.bytes().len(), length);
-        }
+        assert!(rt; leaves(&rt, alloc, size, &mut disk, length)?);
+        assert!(rt; leaves(&rt, alloc, size, &mut disk, length)?);
     }
     Ok(())
 }
@@ -65,58 +78,72 @@ fn a_study_is_kept_and_read_back(rt: HostRuntime) -> Result<(), Fail> {
 /// look again and to make the study.
 const OPENING_CALLS: u64 = 10;
 
-/// Runs the plan on a disk that fails at this call, and then again. Whether the first run was told the
-/// failure where there was one, and the second one wrote the table.
+/// Whether a run told the failure of this call of the disk.
+fn is_told(ended: Result<Vec<u8>, CliFault>, fail_at: u64) -> bool {
+    match ended {
+        Err(CliFault::Journal(JournalFault::Disk)) => fail_at <= OPENING_CALLS,
+        Err(CliFault::Checkpoint) => fail_at > OPENING_CALLS,
+        _ => false,
+    }
+}
+
+/// Runs the plan on a disk that fails at this call, and where it did then again. Whether the disk failed; and whether
+/// the first run was told so where it did, and the second one wrote the table.
+fn runs_twice<T: Threads + Wait + Sync>(
+    rt: &T,
+    alloc: Global,
+    fail_at: u64,
+    disk: &mut FaultyDisk,
+) -> Result<(bool, bool), Fail> {
+    let told = is_told(written(rt, alloc, PLAN, 1, &mut *disk), fail_at);
+    if disk.failures() != 1 {
+        return Ok((false, !told));
+    }
+    let second = written(rt, alloc, PLAN, 2, disk)?;
+    Ok((true, told && is_table(second.as_slice())))
+}
+
+/// The same on a new disk.
 fn resumes<T: Threads + Wait + Sync>(
     rt: &T,
     alloc: Global,
     fail_at: u64,
     tear: Tear,
 ) -> Result<(bool, bool), Fail> {
-    let table = plan_table(alloc)?;
     let mut disk = FaultyDisk::of(alloc, Vec::new(alloc), fail_at, tear)?;
     disk.arm();
-    let first = written(rt, alloc, PLAN, 1, &mut disk);
-    let failed = disk.failures() == 1;
-    let told = match first {
-        Err(CliFault::Journal(JournalFault::Disk)) => fail_at <= OPENING_CALLS,
-        Err(CliFault::Checkpoint) => fail_at > OPENING_CALLS,
-        _ => false,
-    };
-    if !failed {
-        return Ok((false, !told));
-    }
-    let second = written(rt, alloc, PLAN, 2, &mut disk)?;
-    let whole = second.as_slice() == table.as_bytes();
-    Ok((true, told && whole))
+    runs_twice(rt, alloc, fail_at, &mut disk)
 }
 
 #[test]
 fn each_call_of_the_disk_fails(rt: HostRuntime) -> Result<(), Fail> {
-    let alloc = rt.alloc();
     for tear in [Tear::Nothing, Tear::Everything] {
         // Those of the opening, and four for each of two pieces.
         for fail_at in 1..=20 {
-            let (failed, right) = resumes(&rt, alloc, fail_at, tear)?;
-            assert!(rt; right, "{fail_at} {tear:?}");
-            assert!(rt; failed || fail_at > 18, "{fail_at} {tear:?}");
+            let (failed, right) = resumes(&rt, rt.alloc(), fail_at, tear)?;
+            assert!(rt; right && (failed || fail_at > 18), "{fail_at} {tear:?}");
         }
     }
     Ok(())
 }
 
-#[test]
-fn a_study_outlives_its_wire(rt: HostRuntime) -> Result<(), Fail> {
-    let alloc = rt.alloc();
-    let mut disk = empty_disk(alloc)?;
+/// Whether a run whose wire has room for 80 bytes tells so, and keeps both trials on the disk.
+fn is_cut_off<T: Threads + Wait + Sync>(
+    rt: &T,
+    alloc: Global,
+    disk: &mut MemoryDisk,
+) -> Result<bool, Fail> {
     let input = Vec::from_slice(alloc, PLAN.as_bytes())?;
     let mut wire = FaultyWire::new(alloc, input, 4096, 80, 0);
-    let ended = run_io(&rt, alloc, &mut wire, 1, 2, Some(&mut disk));
-    assert!(rt; matches!(ended, Err(CliFault::Write(80))));
-    assert_eq!(rt; disk.bytes().len(), 477);
-    let output = written(&rt, alloc, PLAN, 2, &mut disk)?;
-    assert!(rt; output.as_slice() == plan_table(alloc)?.as_bytes());
-    assert_eq!(rt; disk.bytes().len(), 477);
+    let ended = run_io(rt, alloc, &mut wire, 1, 2, Some(&mut *disk));
+    Ok(matches!(ended, Err(CliFault::Write(80))) && disk.bytes().len() == 477)
+}
+
+#[test]
+fn a_study_outlives_its_wire(rt: HostRuntime) -> Result<(), Fail> {
+    let mut disk = empty_disk(rt.alloc())?;
+    assert!(rt; is_cut_off(&rt, rt.alloc(), &mut disk)?);
+    assert!(rt; leaves(&rt, rt.alloc(), 2, &mut disk, 477)?);
     Ok(())
 }
 
@@ -151,43 +178,64 @@ fn file_with<T: Threads + Wait + Sync>(
     Ok(file)
 }
 
+/// Whether a study over a disk with these bytes is refused by this line.
+fn is_refused<T: Threads + Wait + Sync>(
+    rt: &T,
+    alloc: Global,
+    text: &str,
+    file: Vec<u8>,
+    line: &str,
+) -> Result<bool, Fail> {
+    let disk = MemoryDisk::of(alloc, file)?;
+    Ok(refused(rt, alloc, text, disk)?.as_str() == line)
+}
+
 #[test]
 fn slips_that_are_none_of_the_plan(rt: HostRuntime) -> Result<(), Fail> {
     let alloc = rt.alloc();
     let file = file_with(&rt, alloc, [0, 1, 5, 0, 0, 0, 4, 1, 1], MORE_RECEIVERS)?;
-    let disk = MemoryDisk::of(alloc, file)?;
-    let line = refused(&rt, alloc, PLAN, disk)?;
-    assert_eq!(rt; line.as_str(), "cutlab: fault 17 BadSlip 1");
-    // What a slip says is taken for true where it could be.
+    assert!(rt; is_refused(&rt, alloc, PLAN, file, "cutlab: fault 17 BadSlip 1")?);
+    Ok(())
+}
+
+/// What a slip says is taken for true where it could be.
+#[test]
+fn slips_that_could_be_true(rt: HostRuntime) -> Result<(), Fail> {
+    let alloc = rt.alloc();
     let file = file_with(&rt, alloc, [0, 1, 4, 4, 0, 0, 4, 1, 0], FALSE_CONFLICTS)?;
     let output = written(&rt, alloc, PLAN, 1, MemoryDisk::of(alloc, file)?)?;
-    let line = output.get(72..).unwrap_or(&[]);
-    assert!(rt; line == b"1,1,1,1,2,8,4,0,0,8,2,1,500000\n".as_slice());
+    let line = output.get(72..);
+    assert!(rt; line == Some(b"1,1,1,1,2,8,4,0,0,8,2,1,500000\n".as_slice()));
     Ok(())
+}
+
+/// The file of the plan, in which the byte at this place is another.
+fn changed_file<T: Threads + Wait + Sync>(
+    rt: &T,
+    alloc: Global,
+    at: usize,
+) -> Result<Vec<u8>, Fail> {
+    let mut disk = empty_disk(alloc)?;
+    let _ = written(rt, alloc, PLAN, 2, &mut disk)?;
+    let mut file = Vec::from_slice(alloc, disk.bytes())?;
+    if let Some(byte) = file.get_mut(at) {
+        *byte = !*byte;
+    }
+    Ok(file)
 }
 
 #[test]
 fn files_that_are_refused(rt: HostRuntime) -> Result<(), Fail> {
     let alloc = rt.alloc();
     let other = plan_with(alloc, &[(r#""f":[1]"#, r#""f":[0]"#)])?;
-    let mut disk = empty_disk(alloc)?;
-    let _ = written(&rt, alloc, PLAN, 2, &mut disk)?;
-    assert_eq!(rt;
-        refused(&rt, alloc, other.as_str(), &mut disk)?.as_str(),
-        "cutlab: fault 23 OtherPlan"
-    );
-    for (at, line) in [
-        (20, "cutlab: fault 24 Damaged 0"),
-        (300, "cutlab: fault 24 Damaged 1"),
-    ] {
-        let mut file = Vec::from_slice(alloc, disk.bytes())?;
-        if let Some(byte) = file.get_mut(at) {
-            *byte = !*byte;
-        }
-        assert_eq!(rt;
-            refused(&rt, alloc, PLAN, MemoryDisk::of(alloc, file)?)?.as_str(),
-            line
-        );
+    let rows = [
+        (other.as_str(), usize::MAX, "cutlab: fault 23 OtherPlan"),
+        (PLAN, 20, "cutlab: fault 24 Damaged 0"),
+        (PLAN, 300, "cutlab: fault 24 Damaged 1"),
+    ];
+    for (text, at, line) in rows {
+        let file = changed_file(&rt, alloc, at)?;
+        assert!(rt; is_refused(&rt, alloc, text, file, line)?, "{line}");
     }
     Ok(())
 }
@@ -196,17 +244,18 @@ const FOLDER: &str = "cutlab_checkpoint_test";
 
 const FILE: &str = "cutlab_checkpoint_test/study.cut";
 
+/// Whether the plan's study, kept in the file, writes its table and leaves the file as long as its slip needs.
+fn is_kept<T: Threads + Wait + Sync>(host: &HostRuntime, rt: &T) -> Result<bool, Fail> {
+    let output = written(rt, host.alloc(), PLAN, 2, FileDisk::open(host, FILE)?)?;
+    Ok(is_table(output.as_slice()) && fs::read(host, FILE)?.len() == 372)
+}
+
 #[test]
 fn a_study_is_kept_in_a_file(rt: HostRuntime) -> Result<(), Fail> {
-    let alloc = rt.alloc();
     let _ = fs::remove_dir_all(&rt, FOLDER);
     fs::create_dir(&rt, FOLDER)?;
-    let table = plan_table(alloc)?;
     for _ in 0..2 {
-        let output = written(&rt, alloc, PLAN, 2, FileDisk::open(&rt, FILE)?)?;
-        assert!(rt; output.as_slice() == table.as_bytes());
-        assert_eq!(rt; fs::read(&rt, FILE)?.len(), 372);
+        assert!(rt; is_kept(&rt, &rt)?);
     }
-    fs::remove_dir_all(&rt, FOLDER)?;
-    Ok(())
+    Ok(fs::remove_dir_all(&rt, FOLDER)?)
 }

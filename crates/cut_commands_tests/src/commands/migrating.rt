@@ -104,57 +104,83 @@ where
     }
 }
 
+/// Whether a migration by the plan of this text ends so and leaves the old disk as it is, and so many bytes on the new.
+fn leaves(
+    alloc: Global,
+    text: &str,
+    disks: (&mut MemoryDisk, &mut MemoryDisk),
+    wanted: (u8, &str),
+    length: usize,
+) -> Result<bool, Fail> {
+    let (old, new) = disks;
+    let before = Vec::from_slice(alloc, old.bytes())?;
+    let is_told = ends_with(alloc, text, &mut *old, &mut *new, wanted)?;
+    Ok(is_told && old.bytes() == before.as_slice() && new.bytes().len() == length)
+}
+
+/// Whether a new disk has the first slip of the upgrade.
+fn has_first(alloc: Global, new: &MemoryDisk) -> Result<bool, Fail> {
+    let mut slip = Vec::new(alloc);
+    push_numbers(&mut slip, &[0, 1, 4, 0, 0, 0, 4, 1, 1, 4])?;
+    Ok(new.bytes().get(258..339) == Some(slip.as_slice()))
+}
+
+/// Whether the upgrade's study writes its whole table over a disk.
+fn writes_upgrade<T: Threads + Wait + Sync, D: Disk + Drop + Send>(
+    rt: &T,
+    alloc: Global,
+    disk: D,
+) -> Result<bool, Fail> {
+    let table = written(rt, alloc, UPGRADE, 1, disk)?;
+    Ok(table.as_slice() == UPGRADE_TABLE.as_bytes())
+}
+
+/// Whether a migration to a disk that holds a study is refused, and leaves that disk as it is.
+fn is_held(alloc: Global, old: &mut MemoryDisk, new: &mut MemoryDisk) -> Result<bool, Fail> {
+    let after = Vec::from_slice(alloc, new.bytes())?;
+    let is_told = ends_with(alloc, PLAN, old, &mut *new, (4, "cutlab: fault 25 Held"))?;
+    Ok(is_told && new.bytes() == after.as_slice())
+}
+
 #[test]
 fn a_true_slip_is_moved(rt: HostRuntime) -> Result<(), Fail> {
     let alloc = rt.alloc();
     let mut old = disk_with(&rt, alloc, &[FIRST])?;
-    let before = Vec::from_slice(alloc, old.bytes())?;
     let mut new = empty_disk(alloc)?;
-    assert!(rt; ends_with(alloc, PLAN, &mut old, &mut new, (0, "migrated 1\n"))?);
-    assert!(rt; old.bytes() == before.as_slice());
-    assert_eq!(rt; new.bytes().len(), ONE_SLIP);
-    let mut slip = Vec::new(alloc);
-    push_numbers(&mut slip, &[0, 1, 4, 0, 0, 0, 4, 1, 1, 4])?;
-    assert!(rt; new.bytes().get(258..339) == Some(slip.as_slice()));
-    // The study goes on from there.
-    let table = written(&rt, alloc, UPGRADE, 1, &mut new)?;
-    assert!(rt; table.as_slice() == UPGRADE_TABLE.as_bytes());
-    // What holds a study is not written over.
-    let after = Vec::from_slice(alloc, new.bytes())?;
-    assert!(rt;
-        ends_with(
-            alloc,
-            PLAN,
-            &mut old,
-            &mut new,
-            (4, "cutlab: fault 25 Held")
-        )?
-    );
-    assert!(rt; new.bytes() == after.as_slice());
+    let moved = (0, "migrated 1\n");
+    assert!(rt; leaves(alloc, PLAN, (&mut old, &mut new), moved, ONE_SLIP)?);
+    assert!(rt; has_first(alloc, &new)?);
+    assert!(rt; writes_upgrade(&rt, alloc, &mut new)?);
+    assert!(rt; is_held(alloc, &mut old, &mut new)?);
     Ok(())
+}
+
+/// Whether a migration of these slips ends so, and leaves so many bytes on the new disk.
+fn moves<T: Threads + Wait + Sync>(
+    rt: &T,
+    alloc: Global,
+    slips: &[Kept],
+    wanted: (u8, &str),
+    length: usize,
+) -> Result<bool, Fail> {
+    let mut old = disk_with(rt, alloc, slips)?;
+    let mut new = empty_disk(alloc)?;
+    leaves(alloc, PLAN, (&mut old, &mut new), wanted, length)
 }
 
 #[test]
 fn the_first_false_slip_ends_it(rt: HostRuntime) -> Result<(), Fail> {
-    let alloc = rt.alloc();
-    let rows: [(&[Kept], u8, &str, usize); 3] = [
-        (&[], 0, "migrated 0\n", NO_SLIP),
-        (&[FIRST_FALSE], 4, "cutlab: fault 46 Disagrees 1", NO_SLIP),
+    let rows: [(&[Kept], (u8, &str), usize); 3] = [
+        (&[], (0, "migrated 0\n"), NO_SLIP),
+        (&[FIRST_FALSE], (4, "cutlab: fault 46 Disagrees 1"), NO_SLIP),
         (
             &[FIRST, SECOND_FALSE],
-            4,
-            "cutlab: fault 46 Disagrees 2",
+            (4, "cutlab: fault 46 Disagrees 2"),
             ONE_SLIP,
         ),
     ];
-    for (slips, status, line, length) in rows {
-        let mut old = disk_with(&rt, alloc, slips)?;
-        let mut new = empty_disk(alloc)?;
-        assert!(rt;
-            ends_with(alloc, PLAN, &mut old, &mut new, (status, line))?,
-            "{status} {length}"
-        );
-        assert_eq!(rt; new.bytes().len(), length, "{status} {length}");
+    for (slips, wanted, length) in rows {
+        assert!(rt; moves(&rt, rt.alloc(), slips, wanted, length)?, "{length}");
     }
     Ok(())
 }
@@ -163,32 +189,29 @@ fn the_first_false_slip_ends_it(rt: HostRuntime) -> Result<(), Fail> {
 fn other_plans_and_no_study(rt: HostRuntime) -> Result<(), Fail> {
     let alloc = rt.alloc();
     let mut old = disk_with(&rt, alloc, &[FIRST])?;
-    let before = Vec::from_slice(alloc, old.bytes())?;
     let mut new = empty_disk(alloc)?;
-    assert!(rt;
-        ends_with(
-            alloc,
-            UPGRADE,
-            &mut old,
-            &mut new,
-            (3, "cutlab: fault 47 NotVersion1")
-        )?
-    );
-    assert!(rt; old.bytes() == before.as_slice());
-    assert!(rt; new.bytes().is_empty());
+    let is_version_2 = (3, "cutlab: fault 47 NotVersion1");
+    assert!(rt; leaves(alloc, UPGRADE, (&mut old, &mut new), is_version_2, 0)?);
     let mut none = empty_disk(alloc)?;
-    assert!(rt;
-        ends_with(
-            alloc,
-            PLAN,
-            &mut none,
-            &mut new,
-            (4, "cutlab: fault 22 NoStudy")
-        )?
-    );
-    assert!(rt; none.bytes().is_empty());
-    assert!(rt; new.bytes().is_empty());
+    let is_empty = (4, "cutlab: fault 22 NoStudy");
+    assert!(rt; leaves(alloc, PLAN, (&mut none, &mut new), is_empty, 0)?);
     Ok(())
+}
+
+/// Whether a migration whose answer has this room tells how much of it was sent, and has moved the slip all the same.
+fn answer_fails(
+    alloc: Global,
+    room: usize,
+    old: &mut MemoryDisk,
+    new: &mut MemoryDisk,
+) -> Result<bool, Fail> {
+    let input = Vec::from_slice(alloc, PLAN.as_bytes())?;
+    let mut wire = FaultyWire::new(alloc, input, 4096, room, 0);
+    let is_told = match migrate_io(alloc, &mut wire, old, &mut *new) {
+        Err(CliFault::Write(sent)) => sent == room as u64,
+        _ => false,
+    };
+    Ok(is_told && new.bytes().len() == ONE_SLIP)
 }
 
 #[test]
@@ -197,14 +220,7 @@ fn an_answer_that_fails(rt: HostRuntime) -> Result<(), Fail> {
     for room in [0, 4, 10] {
         let mut old = disk_with(&rt, alloc, &[FIRST])?;
         let mut new = empty_disk(alloc)?;
-        let input = Vec::from_slice(alloc, PLAN.as_bytes())?;
-        let mut wire = FaultyWire::new(alloc, input, 4096, room, 0);
-        let ended = migrate_io(alloc, &mut wire, &mut old, &mut new);
-        match ended {
-            Err(CliFault::Write(sent)) => assert_eq!(rt; sent, room as u64),
-            _ => assert!(rt; false, "{room}"),
-        }
-        assert_eq!(rt; new.bytes().len(), ONE_SLIP, "{room}");
+        assert!(rt; answer_fails(alloc, room, &mut old, &mut new)?, "{room}");
     }
     Ok(())
 }
@@ -213,8 +229,25 @@ fn an_answer_that_fails(rt: HostRuntime) -> Result<(), Fail> {
 /// four for the slip.
 const MOVING_CALLS: u64 = 12;
 
-/// Moves a slip to a disk that fails at this call, and then runs the upgrade on what the disk has. Whether a
-/// failure was told where there was one, and the run wrote the whole table.
+/// Whether a migration to a disk that fails at a call that it makes tells so, and the upgrade's study goes on from what
+/// the disk has.
+fn is_resumed<T: Threads + Wait + Sync>(
+    rt: &T,
+    alloc: Global,
+    old: &mut MemoryDisk,
+    new: &mut FaultyDisk,
+) -> Result<bool, Fail> {
+    let is_told = ends_with(alloc, PLAN, old, &mut *new, (4, "cutlab: fault 20 Disk"))?;
+    Ok(is_told && new.failures() == 1 && writes_upgrade(rt, alloc, new)?)
+}
+
+/// Whether a migration to a disk that fails later moves the slip.
+fn is_moved(alloc: Global, old: &mut MemoryDisk, new: &mut FaultyDisk) -> Result<bool, Fail> {
+    let is_told = ends_with(alloc, PLAN, old, &mut *new, (0, "migrated 1\n"))?;
+    Ok(is_told && new.failures() == 0)
+}
+
+/// Moves a slip to a disk that fails at this call.
 fn goes_on<T: Threads + Wait + Sync>(
     rt: &T,
     alloc: Global,
@@ -224,18 +257,11 @@ fn goes_on<T: Threads + Wait + Sync>(
     let mut old = disk_with(rt, alloc, &[FIRST])?;
     let mut new = FaultyDisk::of(alloc, Vec::new(alloc), fail_at, tear)?;
     new.arm();
-    let wanted = if fail_at > MOVING_CALLS {
-        (0, "migrated 1\n")
-    } else {
-        (4, "cutlab: fault 20 Disk")
-    };
-    let told = ends_with(alloc, PLAN, &mut old, &mut new, wanted)?;
     if fail_at > MOVING_CALLS {
-        return Ok(told && new.failures() == 0);
+        is_moved(alloc, &mut old, &mut new)
+    } else {
+        is_resumed(rt, alloc, &mut old, &mut new)
     }
-    let failed = new.failures() == 1;
-    let table = written(rt, alloc, UPGRADE, 1, &mut new)?;
-    Ok(told && failed && table.as_slice() == UPGRADE_TABLE.as_bytes())
 }
 
 #[test]
