@@ -1,6 +1,7 @@
 use cut_disks::{Disk, DiskCall, DiskFault, FaultyDisk, FileDisk, MemoryDisk, Tear};
 use std::alloc::Global;
 use std::fs;
+use std::process::Abort;
 use std::test::Fail;
 
 fn memory_of(alloc: Global, bytes: &[u8]) -> Result<MemoryDisk, Fail> {
@@ -16,29 +17,49 @@ fn told(alloc: Global, call: &DiskCall) -> Result<String, Fail> {
     })
 }
 
-#[test]
-fn a_disk_in_memory_keeps_its_calls(rt: HostRuntime) -> Result<(), Fail> {
-    let alloc = rt.alloc();
-    let mut disk = memory_of(alloc, b"abcd")?;
-    assert_eq!(rt; disk.length(), Ok(4));
+// The bytes at one place of a disk, where it has as many as four.
+fn bytes_at(disk: &mut MemoryDisk, at: u64) -> Result<[u8; 3], DiskFault> {
+    let mut found = [0; 3];
+    if disk.bytes().len() >= 4 && at <= 1 {
+        disk.read(at, &mut found)?;
+    }
+    Ok(found)
+}
+
+// The calls of a disk as they are written.
+fn calls_told(alloc: Global, calls: &[DiskCall]) -> Result<String, Fail> {
+    let mut text = String::new(alloc);
+    for call in calls {
+        text.push_str(told(alloc, call)?.as_str())?;
+        text.push_str("; ")?;
+    }
+    Ok(text)
+}
+
+// Four bytes, of which the last two are written over by four others.
+fn written_over(disk: &mut MemoryDisk) -> Result<(), DiskFault> {
     if disk.bytes().len() == 4 {
         disk.write_at(2, b"xyzw")?;
     }
-    disk.sync()?;
+    disk.sync()
+}
+
+// A disk keeps the bytes that it began with, those that it has now, and its calls.
+fn check_kept(rt: &impl Abort, alloc: Global, disk: &MemoryDisk) -> Result<(), Fail> {
     assert!(rt; disk.bytes() == b"abxyzw".as_slice());
     assert!(rt; disk.first() == b"abcd".as_slice());
-    let wanted = ["write 2 [120, 121, 122, 119]", "sync"];
-    assert_eq!(rt; disk.calls().len(), wanted.len());
-    for (call, text) in disk.calls().iter().zip(wanted) {
-        assert_eq!(rt; told(alloc, call)?.as_str(), text);
-    }
-    let mut found = [0; 3];
-    if disk.bytes().len() >= 4 {
-        disk.read(1, &mut found)?;
-        assert_eq!(rt; found, *b"bxy");
-    }
-    assert_eq!(rt; disk.failures(), 0);
+    let calls = calls_told(alloc, disk.calls())?;
+    assert!(rt; calls.as_str() == "write 2 [120, 121, 122, 119]; sync; ");
+    assert!(rt; disk.failures() == 0);
     Ok(())
+}
+
+#[test]
+fn a_disk_in_memory_keeps_its_calls(rt: HostRuntime) -> Result<(), Fail> {
+    let mut disk = memory_of(rt.alloc(), b"abcd")?;
+    written_over(&mut disk)?;
+    assert!(rt; bytes_at(&mut disk, 1)? == *b"bxy");
+    check_kept(&rt, rt.alloc(), &disk)
 }
 
 #[test]
@@ -63,55 +84,102 @@ fn change<D: Disk>(disk: &mut D) -> Result<(), DiskFault> {
     disk.sync()
 }
 
+// A disk of four bytes that fails at this call once it is armed.
+fn faulty(alloc: Global, fail_at: u64, tear: Tear) -> Result<FaultyDisk, Fail> {
+    Ok(FaultyDisk::of(alloc, Vec::from_slice(alloc, b"abcd")?, fail_at, tear)?)
+}
+
+// Whether the two writes were made, and what is then on the disk.
+fn changed(alloc: Global, disk: &mut FaultyDisk) -> Result<String, Fail> {
+    let is_made = change(disk).is_ok();
+    let left = String::from_utf8_lossy(alloc, disk.memory().bytes())?;
+    Ok(format!(in alloc; "{is_made}: {left}")?)
+}
+
+// The last call that a disk keeps.
+fn last_told(alloc: Global, disk: &FaultyDisk) -> Result<String, Fail> {
+    match disk.memory().calls().last() {
+        Some(call) => told(alloc, call),
+        None => Ok(String::new(alloc)),
+    }
+}
+
+// What is told of two writes to a disk that fails at this call, and of two more.
+fn tried(alloc: Global, fail_at: u64, tear: Tear) -> Result<String, Fail> {
+    let mut disk = faulty(alloc, fail_at, tear)?;
+    disk.arm();
+    let first = changed(alloc, &mut disk)?;
+    let last = last_told(alloc, &disk)?;
+    let second = changed(alloc, &mut disk)?;
+    let failures = disk.failures();
+    Ok(format!(in alloc; "{first}, {last}; {second}; {failures}")?)
+}
+
 #[test]
 fn a_disk_fails_once(rt: HostRuntime) -> Result<(), Fail> {
-    let alloc = rt.alloc();
     let rows = [
-        (1, Tear::Nothing, "abcd", "torn 0 2"),
-        (2, Tear::Nothing, "XYcd", ""),
-        (3, Tear::Nothing, "XYcd", "torn 0 1"),
-        (4, Tear::Nothing, "ZYcd", ""),
-        (1, Tear::Everything, "XYcd", "write 0 [88, 89]"),
-        (2, Tear::Everything, "XYcd", ""),
-        (3, Tear::Everything, "ZYcd", "write 0 [90]"),
-        (4, Tear::Everything, "ZYcd", ""),
+        (1, Tear::Nothing, "false: abcd, torn 0 2; true: ZYcd; 1"),
+        (
+            2,
+            Tear::Nothing,
+            "false: XYcd, write 0 [88, 89]; true: ZYcd; 1",
+        ),
+        (3, Tear::Nothing, "false: XYcd, torn 0 1; true: ZYcd; 1"),
+        (4, Tear::Nothing, "false: ZYcd, write 0 [90]; true: ZYcd; 1"),
+        (
+            1,
+            Tear::Everything,
+            "false: XYcd, write 0 [88, 89]; true: ZYcd; 1",
+        ),
+        (
+            2,
+            Tear::Everything,
+            "false: XYcd, write 0 [88, 89]; true: ZYcd; 1",
+        ),
+        (
+            3,
+            Tear::Everything,
+            "false: ZYcd, write 0 [90]; true: ZYcd; 1",
+        ),
+        (
+            4,
+            Tear::Everything,
+            "false: ZYcd, write 0 [90]; true: ZYcd; 1",
+        ),
     ];
-    for (fail_at, tear, left, last) in rows {
-        let bytes = Vec::from_slice(alloc, b"abcd")?;
-        let mut disk = FaultyDisk::of(alloc, bytes, fail_at, tear)?;
-        disk.arm();
-        assert_eq!(rt; change(&mut disk), Err(DiskFault), "{fail_at} {tear:?}");
-        assert!(rt;
-            disk.memory().bytes() == left.as_bytes(),
-            "{fail_at} {tear:?}"
-        );
-        if let (false, Some(call)) = (last.is_empty(), disk.memory().calls().last()) {
-            assert_eq!(rt; told(alloc, call)?.as_str(), last, "{fail_at} {tear:?}");
-        }
-        assert_eq!(rt; disk.failures(), 1);
-        assert_eq!(rt; change(&mut disk), Ok(()));
-        assert!(rt; disk.memory().bytes() == b"ZYcd".as_slice());
-        assert_eq!(rt; disk.failures(), 1);
+    for (fail_at, tear, wanted) in rows {
+        let found = tried(rt.alloc(), fail_at, tear)?;
+        assert_eq!(rt; found.as_str(), wanted, "{fail_at} {tear:?}");
     }
     Ok(())
 }
 
+// Which of three looks at the length failed.
+fn failed_looks(disk: &mut FaultyDisk) -> [bool; 3] {
+    [
+        disk.length().is_err(),
+        disk.length().is_err(),
+        disk.length().is_err(),
+    ]
+}
+
 #[test]
 fn looks_fail_too(rt: HostRuntime) -> Result<(), Fail> {
-    let alloc = rt.alloc();
-    let bytes = Vec::from_slice(alloc, b"abcd")?;
-    let mut disk = FaultyDisk::of(alloc, bytes, 2, Tear::Everything)?;
-    assert_eq!(rt; disk.length(), Ok(4));
+    let mut disk = faulty(rt.alloc(), 2, Tear::Everything)?;
+    assert!(rt; disk.length() == Ok(4));
     disk.arm();
-    assert_eq!(rt; disk.length(), Ok(4));
-    assert_eq!(rt; disk.length(), Err(DiskFault));
-    assert_eq!(rt; disk.length(), Ok(4));
-    let bytes = Vec::from_slice(alloc, b"abcd")?;
-    let mut other = FaultyDisk::of(alloc, bytes, 1, Tear::Everything)?;
-    other.arm();
-    assert_eq!(rt; other.read(0, &mut []), Err(DiskFault));
-    assert_eq!(rt; other.read(0, &mut []), Ok(()));
-    assert_eq!(rt; other.failures(), 1);
+    assert!(rt; failed_looks(&mut disk) == [false, true, false]);
+    assert!(rt; disk.length() == Ok(4));
+    Ok(())
+}
+
+#[test]
+fn reads_fail_too(rt: HostRuntime) -> Result<(), Fail> {
+    let mut disk = faulty(rt.alloc(), 1, Tear::Everything)?;
+    disk.arm();
+    assert!(rt; disk.read(0, &mut []) == Err(DiskFault));
+    assert!(rt; disk.read(0, &mut []) == Ok(()));
+    assert!(rt; disk.failures() == 1);
     Ok(())
 }
 
@@ -129,35 +197,48 @@ const FOLDER: &str = "cut_disks_test";
 
 const FILE: &str = "cut_disks_test/file";
 
+// Writes that stand one over the other, and those that are refused.
+fn check_writes(rt: &impl Abort, disk: &mut FileDisk) -> Result<(), Fail> {
+    assert!(rt; disk.length() == Ok(0));
+    disk.write_at(0, b"abcd")?;
+    disk.write_at(2, b"xyz")?;
+    disk.sync()?;
+    assert!(rt; disk.write_at(u64::MAX, b"abc") == Err(DiskFault));
+    assert!(rt; disk.write_at((1 << 63) - 2, b"ab") == Err(DiskFault));
+    Ok(())
+}
+
+// A read within the file, and one past its end.
+fn check_reads(rt: &impl Abort, disk: &mut FileDisk) -> Result<(), Fail> {
+    let mut found = [0; 3];
+    disk.read(1, &mut found)?;
+    assert!(rt; found == *b"bxy");
+    assert!(rt; disk.read(3, &mut found) == Err(DiskFault));
+    assert!(rt; disk.failures() == 3);
+    assert!(rt; disk.length() == Ok(5));
+    Ok(())
+}
+
+// A new file, which no other disk may have while this one does.
+fn check_new_file(rt: &impl Abort, host: &HostRuntime) -> Result<(), Fail> {
+    let mut disk = FileDisk::open(host, FILE)?;
+    check_writes(rt, &mut disk)?;
+    check_reads(rt, &mut disk)?;
+    assert!(rt; FileDisk::open(host, FILE).is_err());
+    assert!(rt; fs::read(host, FILE)?.as_slice() == b"abxyz".as_slice());
+    Ok(())
+}
+
 #[test]
 fn a_file(rt: HostRuntime) -> Result<(), Fail> {
     let _ = fs::remove_dir_all(&rt, FOLDER);
     assert!(rt; FileDisk::open(&rt, FILE).is_err());
     fs::create_dir(&rt, FOLDER)?;
-    let mut disk = FileDisk::open(&rt, FILE)?;
-    assert_eq!(rt; disk.length(), Ok(0));
-    disk.write_at(0, b"abcd")?;
-    disk.write_at(2, b"xyz")?;
-    disk.sync()?;
-    let mut found = [0; 3];
-    disk.read(1, &mut found)?;
-    assert_eq!(rt; found, *b"bxy");
-    assert_eq!(rt; disk.read(3, &mut found), Err(DiskFault));
-    assert_eq!(rt; disk.write_at(u64::MAX, b"abc"), Err(DiskFault));
-    assert_eq!(rt; disk.write_at((1 << 63) - 2, b"ab"), Err(DiskFault));
-    assert_eq!(rt; disk.failures(), 3);
-    assert_eq!(rt; disk.length(), Ok(5));
-    // While one disk has the file, another open of it is refused, and touches nothing.
-    assert!(rt; FileDisk::open(&rt, FILE).is_err());
-    assert!(rt; fs::read(&rt, FILE)?.as_slice() == b"abxyz".as_slice());
-    drop(disk);
-    let mut again = FileDisk::open(&rt, FILE)?;
-    assert_eq!(rt; again.length(), Ok(5));
-    drop(again);
+    check_new_file(&rt, &rt)?;
+    assert!(rt; FileDisk::open(&rt, FILE)?.length() == Ok(5));
     // A folder is no file.
     assert!(rt; FileDisk::open(&rt, FOLDER).is_err());
-    fs::remove_dir_all(&rt, FOLDER)?;
-    Ok(())
+    Ok(fs::remove_dir_all(&rt, FOLDER)?)
 }
 
 #[test]
