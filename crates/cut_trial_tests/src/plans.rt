@@ -3,6 +3,7 @@ mod values;
 
 use cut_plan::{Cell, Dead, Faults, Plan, PlanFault, Refusal, Version};
 use std::alloc::{AllocError, Global};
+use std::process::Abort;
 use std::test::Fail;
 
 const PLAN: &str =
@@ -35,6 +36,37 @@ const MANY_DEAF: &str =
 const MANY_DEAF_STRAIGHT: &str =
     r#"{"copies":4,"dead":"silent","deaf":2048,"f":[1,7],"h":[1],"implicit":true,"k":[1],"l":[1],"liars":1,"links":0,"nodes":12,"repeats":1,"seed":"d2e440c4a09dfbabacf4deb2852bf9ea39d1383ab0b9fcb47ca9fab25afc4627","version":2}"#;
 
+// The plan in letters of both cases in the second version: no target is deaf.
+const STRAIGHT_UPGRADED: &str =
+    r#"{"copies":1,"dead":"silent","deaf":0,"f":[1],"h":[1],"implicit":true,"k":[1],"l":[1],"liars":0,"links":0,"nodes":5,"repeats":2,"seed":"abcdefabcdef00000000000000000000000000000000000000000000000000ff","version":2}"#;
+
+// The large plan in the second version: its deaf targets are as many as the largest f.
+const LARGE_UPGRADED: &str =
+    r#"{"copies":3,"dead":"speak","deaf":16,"f":[2,4,8,16],"h":[6,7,8,9],"implicit":false,"k":[10],"l":[1,2,3,4],"liars":7,"links":9,"nodes":1999,"repeats":777777,"seed":"00112233445566778899aabbccddeeff00112233445566778899aabbccddeeff","version":2}"#;
+
+// Edits of the first plan: what is told of it, what is taken out, and what comes there.
+const EDITS: &str = r#"3 UnknownField|"version":1|"version":1,"x":0
+4 MissingField seed|"seed":"0000000000000000000000000000000000000000000000000000000000000000",|
+5 WrongKind repeats|"repeats":2|"repeats":1.0
+5 WrongKind repeats|"repeats":2|"repeats":1e0
+6 OutOfRange f|"nodes":5|"nodes":1
+6 OutOfRange version|"version":1|"version":3
+3 UnknownField|"version":1|"version":2
+3 UnknownField|"f":[1]|"deaf":0,"f":[1]
+7 NotRising k|"k":[1]|"k":[1,1]
+8 NoCell|"h":[1]|"h":[3]
+9 TooManyFaults|"liars":0|"liars":5
+accepted|"liars":0|"liars":4
+accepted|"x"|
+8 NoCell|"h":[1],"implicit":true,"k":[1],"l":[1],"liars":0|"h":[3],"implicit":true,"k":[1],"l":[1],"liars":2048"#;
+
+// Edits of the first plan in the second version, which has a number of deaf targets in place of the
+// word for how they fail.
+const MIXED_EDITS: &str = r#"accepted|"x"|
+4 MissingField deaf|"deaf":0,|
+accepted|"deaf":0|"deaf":2048
+6 OutOfRange deaf|"deaf":0|"deaf":2049"#;
+
 // What is told of a text: its fault as it is printed.
 fn told(alloc: Global, text: &[u8]) -> Result<String, AllocError> {
     match Plan::from_json(alloc, text) {
@@ -43,202 +75,259 @@ fn told(alloc: Global, text: &[u8]) -> Result<String, AllocError> {
     }
 }
 
-// The plan with other text in place of some of its own.
-fn plan_with(alloc: Global, edits: &[(&str, &str)]) -> Result<String, AllocError> {
-    let mut text = String::from_str(alloc, PLAN)?;
-    for (own, other) in edits {
-        text = text.replace(alloc, *own, *other)?;
-    }
-    Ok(text)
+// Whether this is told of a text.
+fn is_told(alloc: Global, text: &[u8], fault: &str) -> Result<bool, AllocError> {
+    Ok(told(alloc, text)?.as_str() == fault)
 }
 
-// A plan of 2048 processes with every f, and these k and h.
-fn wide<'a>(alloc: Global, k: &'a str, h: &'a str) -> Result<String, AllocError> {
-    let mut every = String::from_str(alloc, r#""f":[0"#)?;
-    for f in 1..2048u16 {
-        every.push_str(format!(in alloc; ",{f}")?.as_str())?;
+// How many texts there are, each of which is told of as the line above it says.
+fn count_judged(rt: &impl Abort, alloc: Global, texts: &str) -> Result<u32, Fail> {
+    let mut rows = 0u32;
+    for row in texts.split("\n---\n") {
+        let (fault, text) = row.split_once('\n').ok_or("a row of one line")?;
+        assert!(rt; is_told(alloc, text.as_bytes(), fault)?, "{row}");
+        rows = rows.saturating_add(1);
     }
-    every.push_str("]")?;
-    let nodes = (r#""nodes":5"#, r#""nodes":2048"#);
-    let text = plan_with(alloc, &[nodes, (r#""k":[1]"#, k), (r#""h":[1]"#, h)])?;
-    text.replace(alloc, r#""f":[1]"#, every.as_str())
+    Ok(rows)
 }
 
 #[test]
 fn refuses_texts_that_were_judged_elsewhere(rt: HostRuntime) -> Result<(), Fail> {
-    let alloc = rt.alloc();
-    let mut rows = 0u32;
-    for row in fields::TEXTS
-        .split("\n---\n")
-        .chain(values::TEXTS.split("\n---\n"))
-    {
-        let (fault, text) = row.split_once('\n').ok_or("a row of one line")?;
-        assert_eq!(rt; told(alloc, text.as_bytes())?.as_str(), fault, "{text}");
-        rows = rows.saturating_add(1);
+    let fields = count_judged(&rt, rt.alloc(), fields::texts())?;
+    let values = count_judged(&rt, rt.alloc(), values::texts())?;
+    assert!(rt; (fields, values) == (62, 70));
+    Ok(())
+}
+
+fn edits() -> &'static str {
+    EDITS
+}
+
+fn mixed_edits() -> &'static str {
+    MIXED_EDITS
+}
+
+// Whether a text after an edit is told of as the row of the edit says.
+fn is_edit_told(alloc: Global, text: &str, row: &str) -> Result<bool, Fail> {
+    let (fault, edit) = row.split_once('|').ok_or("a row without an edit")?;
+    let (own, other) = edit.split_once('|').ok_or("an edit without a text")?;
+    let edited = text.replace(alloc, own, other)?;
+    Ok(is_told(alloc, edited.as_bytes(), fault)?)
+}
+
+// How many edits of this text there are, each of which is told of as its row says.
+fn count_edits(rt: &impl Abort, alloc: Global, text: &str, rows: &str) -> Result<u32, Fail> {
+    let mut count = 0u32;
+    for row in rows.split("\n") {
+        assert!(rt; is_edit_told(alloc, text, row)?, "{row}");
+        count = count.saturating_add(1);
     }
-    assert_eq!(rt; rows, 132);
+    Ok(count)
+}
+
+// Where several limits are passed at once: no cell before too many faults.
+#[test]
+fn refuses_by_the_first_fault(rt: HostRuntime) -> Result<(), Fail> {
+    let first = count_edits(&rt, rt.alloc(), PLAN, edits())?;
+    let second = count_edits(&rt, rt.alloc(), MIXED, mixed_edits())?;
+    assert!(rt; (first, second) == (14, 4));
     Ok(())
 }
 
 #[test]
-fn refuses_by_the_first_fault(rt: HostRuntime) -> Result<(), Fail> {
-    let alloc = rt.alloc();
-    let seed = r#""seed":"0000000000000000000000000000000000000000000000000000000000000000","#;
-    let rows = [
-        (r#""version":1"#, r#""version":1,"x":0"#, "3 UnknownField"),
-        (seed, "", "4 MissingField seed"),
-        (r#""repeats":2"#, r#""repeats":1.0"#, "5 WrongKind repeats"),
-        (r#""repeats":2"#, r#""repeats":1e0"#, "5 WrongKind repeats"),
-        (r#""nodes":5"#, r#""nodes":1"#, "6 OutOfRange f"),
-        (r#""version":1"#, r#""version":3"#, "6 OutOfRange version"),
-        (r#""version":1"#, r#""version":2"#, "3 UnknownField"),
-        (r#""f":[1]"#, r#""deaf":0,"f":[1]"#, "3 UnknownField"),
-        (r#""k":[1]"#, r#""k":[1,1]"#, "7 NotRising k"),
-        (r#""h":[1]"#, r#""h":[3]"#, "8 NoCell"),
-        (r#""liars":0"#, r#""liars":5"#, "9 TooManyFaults"),
-        (r#""liars":0"#, r#""liars":4"#, "accepted"),
-        (r#""x""#, "", "accepted"),
-    ];
-    for (own, other, fault) in rows {
-        let text = plan_with(alloc, &[(own, other)])?;
-        assert_eq!(rt; told(alloc, text.as_bytes())?.as_str(), fault, "{other}");
-    }
-    let texts: [(&[u8], &str); 4] = [
+fn refuses_what_is_no_object(rt: HostRuntime) -> Result<(), Fail> {
+    let rows: [(&[u8], &str); 4] = [
         (b"", "1 NotJson"),
         (b"\xff\xfe", "1 NotJson"),
         (b"[]", "2 NotObject"),
         (PLAN.as_bytes(), "accepted"),
     ];
-    for (text, fault) in texts {
-        assert_eq!(rt; told(alloc, text)?.as_str(), fault);
+    for (text, fault) in rows {
+        assert!(rt; is_told(rt.alloc(), text, fault)?, "{fault}");
     }
     Ok(())
 }
 
-// A plan of the second version has a number of deaf targets in place of the word for how they fail.
-#[test]
-fn refuses_second_versions_by_their_first_fault(rt: HostRuntime) -> Result<(), Fail> {
-    let alloc = rt.alloc();
-    let rows = [
-        (r#""x""#, "", "accepted"),
-        (r#""deaf":0,"#, "", "4 MissingField deaf"),
-        (r#""deaf":0"#, r#""deaf":2048"#, "accepted"),
-        (r#""deaf":0"#, r#""deaf":2049"#, "6 OutOfRange deaf"),
-    ];
-    for (own, other, fault) in rows {
-        let text = String::from_str(alloc, MIXED)?.replace(alloc, own, other)?;
-        assert_eq!(rt; told(alloc, text.as_bytes())?.as_str(), fault, "{other}");
+// Every f that a plan of 2048 processes may have.
+fn every_f(alloc: Global) -> Result<String, AllocError> {
+    let mut every = String::from_str(alloc, r#""f":[0"#)?;
+    for f in 1..2048u16 {
+        every.push_str(format!(in alloc; ",{f}")?.as_str())?;
     }
-    Ok(())
+    every.push_str("]")?;
+    Ok(every)
 }
 
-// Where several limits are passed at once: no cell before too many faults, and that before too many
-// trials.
+// A plan of 2048 processes with every f, and these k, h and liars.
+fn wide(alloc: Global, k: &str, h: &str, liars: &str) -> Result<String, AllocError> {
+    let every = every_f(alloc)?;
+    format!(in alloc;
+        r#"{{"copies":1,"dead":"silent",{every},"faults":"crash","h":{h},"implicit":true,"k":{k},"l":[1],"liars":{liars},"links":0,"nodes":2048,"repeats":2,"seed":"0000000000000000000000000000000000000000000000000000000000000000","version":1}}"#
+    )
+}
+
+// Too many faults are told before too many trials.
 #[test]
 fn tells_limits_in_order(rt: HostRuntime) -> Result<(), Fail> {
-    let alloc = rt.alloc();
-    let liars = (r#""liars":0"#, r#""liars":2048"#);
-    let none = plan_with(alloc, &[(r#""h":[1]"#, r#""h":[3]"#), liars])?;
-    assert_eq!(rt; told(alloc, none.as_bytes())?.as_str(), "8 NoCell");
-    let many = wide(alloc, r#""k":[3]"#, r#""h":[1,2,3]"#)?;
-    assert_eq!(rt; told(alloc, many.as_bytes())?.as_str(), "10 TooManyTrials");
-    let both = many.replace(alloc, liars.0, liars.1)?;
-    assert_eq!(rt; told(alloc, both.as_bytes())?.as_str(), "9 TooManyFaults");
+    for (liars, fault) in [("0", "10 TooManyTrials"), ("2048", "9 TooManyFaults")] {
+        let text = wide(rt.alloc(), "[3]", "[1,2,3]", liars)?;
+        assert!(rt; is_told(rt.alloc(), text.as_bytes(), fault)?, "{fault}");
+    }
     Ok(())
 }
 
 #[test]
 fn refuses_a_long_text(rt: HostRuntime) -> Result<(), Fail> {
-    let alloc = rt.alloc();
-    let blanks = vec![in alloc; b' '; 65_536]?;
-    assert_eq!(rt; told(alloc, &blanks)?.as_str(), "1 NotJson");
-    let more_blanks = vec![in alloc; b' '; 65_537]?;
-    assert_eq!(rt; told(alloc, &more_blanks)?.as_str(), "19 PlanTooLong");
-    Ok(())
-}
-
-#[test]
-fn counts_cells(rt: HostRuntime) -> Result<(), Fail> {
-    let alloc = rt.alloc();
-    let most = wide(alloc, r#""k":[2]"#, r#""h":[1,2]"#)?;
-    let plan = Plan::from_json(alloc, most.as_bytes())?;
-    assert_eq!(rt; (plan.cells(), plan.trials()), (4096, 8192));
-    let large = Plan::from_json(alloc, LARGE.as_bytes())?;
-    assert_eq!(rt; (large.cells(), large.trials()), (64, 49_777_728));
-    Ok(())
-}
-
-#[test]
-fn tells_what_it_read(rt: HostRuntime) -> Result<(), Fail> {
-    let plan = Plan::from_json(rt.alloc(), LARGE.as_bytes())?;
-    assert_eq!(rt; plan.copies(), 3);
-    assert_eq!(rt; plan.dead(), Dead::Speak);
-    assert!(rt; plan.f() == &[2, 4, 8, 16][..]);
-    assert_eq!(rt; plan.faults(), Some(Faults::Deaf));
-    assert_eq!(rt; plan.deaf(), None);
-    assert!(rt; plan.h() == &[6, 7, 8, 9][..]);
-    assert!(rt; !plan.implicit());
-    assert!(rt; plan.k() == &[10][..]);
-    assert!(rt; plan.l() == &[1, 2, 3, 4][..]);
-    assert_eq!(rt; (plan.liars(), plan.links()), (7, 9));
-    assert_eq!(rt; plan.nodes(), 1999);
-    assert_eq!(rt; plan.repeats(), 777_777);
-    assert_eq!(rt; (plan.seed()[1], plan.seed()[31]), (0x11, 0xff));
-    assert_eq!(rt; plan.version(), Version::One);
-    Ok(())
-}
-
-#[test]
-fn tells_what_it_read_of_the_second_version(rt: HostRuntime) -> Result<(), Fail> {
-    let plan = Plan::from_json(rt.alloc(), MANY_DEAF.as_bytes())?;
-    assert_eq!(rt; plan.version(), Version::Two);
-    assert_eq!(rt; plan.faults(), None);
-    assert_eq!(rt; plan.deaf(), Some(2048));
-    assert!(rt; plan.f() == &[1, 7][..]);
-    assert_eq!(rt; (Version::One.number(), Version::Two.number()), (1, 2));
-    Ok(())
-}
-
-#[test]
-fn counts_deaf_targets(rt: HostRuntime) -> Result<(), Fail> {
-    let alloc = rt.alloc();
-    let crash = Plan::from_json(alloc, PLAN.as_bytes())?;
-    assert_eq!(rt; (crash.deaf_of(0), crash.deaf_of(1)), (0, 0));
-    let deaf = Plan::from_json(alloc, LARGE.as_bytes())?;
-    assert_eq!(rt; (deaf.deaf_of(0), deaf.deaf_of(16)), (0, 16));
-    let none = Plan::from_json(alloc, MIXED.as_bytes())?;
-    assert_eq!(rt; (none.deaf_of(0), none.deaf_of(1)), (0, 0));
-    let one = Plan::from_json(alloc, SOME_DEAF.as_bytes())?;
-    assert_eq!(rt; (one.deaf_of(0), one.deaf_of(1), one.deaf_of(7)), (0, 1, 1));
-    let all = Plan::from_json(alloc, MANY_DEAF.as_bytes())?;
-    assert_eq!(rt; (all.deaf_of(0), all.deaf_of(7)), (0, 7));
-    Ok(())
-}
-
-#[test]
-fn upgrades_to_the_second_version(rt: HostRuntime) -> Result<(), Fail> {
-    let alloc = rt.alloc();
-    let all_deaf = String::from_str(alloc, LARGE)?
-        .replace(alloc, r#""faults":"deaf","#, "")?
-        .replace(alloc, r#""f":["#, r#""deaf":16,"f":["#)?
-        .replace(alloc, r#""version":1"#, r#""version":2"#)?;
-    let rows = [
-        (PLAN, MIXED),
-        (LARGE, all_deaf.as_str()),
-        (SOME_DEAF, SOME_DEAF_STRAIGHT),
-        (MANY_DEAF, MANY_DEAF_STRAIGHT),
-    ];
-    for (text, upgraded) in rows {
-        let plan = Plan::from_json(alloc, text.as_bytes())?;
-        let canonical = plan.upgrade(alloc)?.canonical(alloc)?;
-        assert!(rt; canonical.as_slice() == upgraded.as_bytes(), "{upgraded}");
+    for (length, fault) in [(65_536, "1 NotJson"), (65_537, "19 PlanTooLong")] {
+        let blanks = vec![in rt.alloc(); b' '; length]?;
+        assert!(rt; is_told(rt.alloc(), &blanks, fault)?, "{fault}");
     }
     Ok(())
 }
 
+// How many cells and trials the plan of a text has.
+fn sizes(alloc: Global, text: &str) -> Result<(u32, u32), PlanFault> {
+    let plan = Plan::from_json(alloc, text.as_bytes())?;
+    Ok((plan.cells(), plan.trials()))
+}
+
 #[test]
-fn lists_cells_in_order(rt: HostRuntime) -> Result<(), Fail> {
-    let plan = Plan::from_json(rt.alloc(), LARGE.as_bytes())?;
+fn counts_cells(rt: HostRuntime) -> Result<(), Fail> {
+    let most = wide(rt.alloc(), "[2]", "[1,2]", "0")?;
+    assert!(rt; sizes(rt.alloc(), most.as_str())? == (4096, 8192));
+    assert!(rt; sizes(rt.alloc(), LARGE)? == (64, 49_777_728));
+    Ok(())
+}
+
+// Copies, liars, links, processes, repeats, two bytes of the seed, and the number of the version.
+fn numbers(plan: &Plan) -> [u64; 8] {
+    let seed = plan.seed();
+    [
+        u64::from(plan.copies()),
+        u64::from(plan.liars()),
+        u64::from(plan.links()),
+        u64::from(plan.nodes()),
+        u64::from(plan.repeats()),
+        u64::from(seed[1]),
+        u64::from(seed[31]),
+        plan.version().number(),
+    ]
+}
+
+// Whether these are a plan's f, and its h, k and l.
+fn has_lists(plan: &Plan, f: &[u16], h: &[u8], k: &[u8], l: &[u8]) -> bool {
+    plan.f() == f && plan.h() == h && plan.k() == k && plan.l() == l
+}
+
+fn check_large(rt: &impl Abort, plan: &Plan) {
+    assert!(rt; numbers(plan) == [3, 7, 9, 1999, 777_777, 0x11, 0xff, 1]);
+    assert!(rt; has_lists(plan, &[2, 4, 8, 16], &[6, 7, 8, 9], &[10], &[1, 2, 3, 4]));
+    assert!(rt; plan.dead() == Dead::Speak && !plan.implicit());
+    assert!(rt; plan.faults() == Some(Faults::Deaf) && plan.deaf().is_none());
+    assert!(rt; plan.version() == Version::One);
+}
+
+fn check_many_deaf(rt: &impl Abort, plan: &Plan) {
+    assert!(rt; numbers(plan) == [4, 1, 0, 12, 1, 0xe4, 0x27, 2]);
+    assert!(rt; has_lists(plan, &[1, 7], &[1], &[1], &[1]));
+    assert!(rt; plan.dead() == Dead::Silent && plan.implicit());
+    assert!(rt; plan.faults().is_none() && plan.deaf() == Some(2048));
+    assert!(rt; plan.version() == Version::Two);
+}
+
+#[test]
+fn tells_what_it_read(rt: HostRuntime) -> Result<(), Fail> {
+    check_large(&rt, &Plan::from_json(rt.alloc(), LARGE.as_bytes())?);
+    check_many_deaf(&rt, &Plan::from_json(rt.alloc(), MANY_DEAF.as_bytes())?);
+    Ok(())
+}
+
+// How many of no, one and seven targets of a plan are deaf, and of sixteen.
+fn deaf_counts(alloc: Global, text: &str) -> Result<[u16; 4], PlanFault> {
+    let plan = Plan::from_json(alloc, text.as_bytes())?;
+    Ok([
+        plan.deaf_of(0),
+        plan.deaf_of(1),
+        plan.deaf_of(7),
+        plan.deaf_of(16),
+    ])
+}
+
+#[test]
+fn counts_deaf_targets(rt: HostRuntime) -> Result<(), Fail> {
+    let rows = [
+        (PLAN, [0, 0, 0, 0]),
+        (LARGE, [0, 1, 7, 16]),
+        (MIXED, [0, 0, 0, 0]),
+        (SOME_DEAF, [0, 1, 1, 1]),
+        (MANY_DEAF, [0, 1, 7, 16]),
+    ];
+    for (text, wanted) in rows {
+        assert!(rt; deaf_counts(rt.alloc(), text)? == wanted, "{text}");
+    }
+    Ok(())
+}
+
+// Whether a plan is written as this text.
+fn is_written(alloc: Global, plan: &Plan, text: &str) -> Result<bool, AllocError> {
+    Ok(plan.canonical(alloc)?.as_slice() == text.as_bytes())
+}
+
+// Whether a plan is written as this text in the second version.
+fn is_upgraded(alloc: Global, plan: &Plan, text: &str) -> Result<bool, AllocError> {
+    let upgraded = plan.upgrade(alloc)?;
+    is_written(alloc, &upgraded, text)
+}
+
+// Whether the plan of a text is written as the second, and as the third in the second version.
+fn are_written(
+    alloc: Global,
+    text: &str,
+    canonical: &str,
+    upgraded: &str,
+) -> Result<(bool, bool), PlanFault> {
+    let plan = Plan::from_json(alloc, text.as_bytes())?;
+    let written = is_written(alloc, &plan, canonical)?;
+    Ok((written, is_upgraded(alloc, &plan, upgraded)?))
+}
+
+#[test]
+fn writes_one_text_for_each_version(rt: HostRuntime) -> Result<(), Fail> {
+    assert!(rt; (PLAN.len(), MIXED.len()) == (221, 213));
+    let rows = [
+        (PLAN, PLAN, MIXED),
+        (SHUFFLED, STRAIGHT, STRAIGHT_UPGRADED),
+        (LARGE, LARGE, LARGE_UPGRADED),
+        (MIXED, MIXED, MIXED),
+        (SOME_DEAF, SOME_DEAF_STRAIGHT, SOME_DEAF_STRAIGHT),
+        (MANY_DEAF, MANY_DEAF_STRAIGHT, MANY_DEAF_STRAIGHT),
+    ];
+    for (text, canonical, upgraded) in rows {
+        let written = are_written(rt.alloc(), text, canonical, upgraded)?;
+        assert!(rt; written == (true, true), "{text}");
+    }
+    Ok(())
+}
+
+// The cell of a number, where a plan has one.
+fn cell_at(plan: &Plan, number: u32) -> Option<Cell> {
+    if number < plan.cells() {
+        Some(plan.cell(number))
+    } else {
+        None
+    }
+}
+
+// The number of the cell of a trial, where a plan has one.
+fn cell_of(plan: &Plan, trial: u32) -> Option<u32> {
+    if trial < plan.trials() {
+        Some(plan.cell_of(trial))
+    } else {
+        None
+    }
+}
+
+fn check_cells(rt: &impl Abort, plan: &Plan) {
     let cells = [
         (0, 6, 1, 2),
         (1, 6, 1, 4),
@@ -247,55 +336,56 @@ fn lists_cells_in_order(rt: HostRuntime) -> Result<(), Fail> {
         (63, 9, 4, 16),
     ];
     for (number, h, l, f) in cells {
-        assert!(rt; number < plan.cells());
-        assert_eq!(rt; plan.cell(number), Cell { k: 10, h, l, f });
+        assert!(rt;
+            cell_at(plan, number) == Some(Cell { k: 10, h, l, f }),
+            "{number}"
+        );
     }
-    let trials = [(0, 0), (777_776, 0), (777_777, 1), (49_777_727, 63)];
-    for (trial, cell) in trials {
-        assert!(rt; trial < plan.trials());
-        assert_eq!(rt; plan.cell_of(trial), cell);
+}
+
+fn check_trials(rt: &impl Abort, plan: &Plan) {
+    for (trial, cell) in [(0, 0), (777_776, 0), (777_777, 1), (49_777_727, 63)] {
+        assert!(rt; cell_of(plan, trial) == Some(cell), "{trial}");
     }
-    Ok(())
 }
 
 #[test]
-fn writes_one_text(rt: HostRuntime) -> Result<(), Fail> {
-    let alloc = rt.alloc();
-    assert_eq!(rt; (PLAN.len(), MIXED.len()), (221, 213));
-    let rows = [
-        (PLAN, PLAN),
-        (SHUFFLED, STRAIGHT),
-        (LARGE, LARGE),
-        (MIXED, MIXED),
-        (SOME_DEAF, SOME_DEAF_STRAIGHT),
-        (MANY_DEAF, MANY_DEAF_STRAIGHT),
-    ];
-    for (text, canonical) in rows {
-        let plan = Plan::from_json(alloc, text.as_bytes())?;
-        let written = plan.canonical(alloc)?;
-        assert!(rt; written.as_slice() == canonical.as_bytes(), "{text}");
-    }
+fn lists_cells_in_order(rt: HostRuntime) -> Result<(), Fail> {
+    let plan = Plan::from_json(rt.alloc(), LARGE.as_bytes())?;
+    check_cells(&rt, &plan);
+    check_trials(&rt, &plan);
     Ok(())
+}
+
+// Whether the plans of two texts are the same.
+fn are_same(alloc: Global, one: &str, other: &str) -> Result<bool, PlanFault> {
+    let plan = Plan::from_json(alloc, one.as_bytes())?;
+    Ok(plan.same(&Plan::from_json(alloc, other.as_bytes())?))
+}
+
+// Whether the copy of a text's plan is the same as the plan.
+fn is_copied(alloc: Global, text: &str) -> Result<bool, PlanFault> {
+    let plan = Plan::from_json(alloc, text.as_bytes())?;
+    Ok(plan.try_clone(alloc)?.same(&plan))
 }
 
 #[test]
 fn compares_and_copies(rt: HostRuntime) -> Result<(), Fail> {
-    let alloc = rt.alloc();
-    let plan = Plan::from_json(alloc, PLAN.as_bytes())?;
-    let shuffled = Plan::from_json(alloc, SHUFFLED.as_bytes())?;
-    let straight = Plan::from_json(alloc, STRAIGHT.as_bytes())?;
-    assert!(rt; plan.try_clone(alloc)?.same(&plan));
-    assert!(rt; shuffled.same(&straight));
-    assert!(rt; !plan.same(&straight));
-    let mixed = Plan::from_json(alloc, MIXED.as_bytes())?;
-    assert!(rt; mixed.try_clone(alloc)?.same(&mixed));
-    assert!(rt; !mixed.same(&plan));
+    let rows = [
+        (SHUFFLED, STRAIGHT, true),
+        (PLAN, STRAIGHT, false),
+        (MIXED, PLAN, false),
+    ];
+    for (one, other, wanted) in rows {
+        assert!(rt; are_same(rt.alloc(), one, other)? == wanted, "{one}");
+    }
+    assert!(rt; is_copied(rt.alloc(), PLAN)? && is_copied(rt.alloc(), MIXED)?);
     Ok(())
 }
 
 #[test]
 fn names_its_faults(rt: HostRuntime) {
-    assert_eq!(rt; PlanFault::Memory.code().status(), 5);
-    let refused = PlanFault::from(Refusal::NoCell);
-    assert_eq!(rt; (refused.code().number(), refused.code().status()), (8, 3));
+    let refused = PlanFault::from(Refusal::NoCell).code();
+    let memory = PlanFault::Memory.code().status();
+    assert!(rt; (memory, refused.number(), refused.status()) == (5, 8, 3));
 }

@@ -1,7 +1,11 @@
 //! Texts that are no accepted plans for their fields, each below what is told
 //! of it and above a line of dashes. They were made and judged apart from this program.
 
-pub(super) const TEXTS: &str = r#"3 UnknownField
+pub(super) fn texts() -> &'static str {
+    TEXTS
+}
+
+const TEXTS: &str = r#"3 UnknownField
 {"copies": 3, "dead": "speak", "implicit": false, "nodes": 5, "repeats": 2, "seed": "CdABe4c858f13Ffc537F7e521Cb26daBA6fB7AbeFa394f6fBA057b30bbCFa8Eb", "version": 1, "faults": "deaf", "k": [1, 2], "h": [1, 2], "l": [1, 2], "f": [0], "liars": 0, "links": 1, "x": "crash"}
 ---
 4 MissingField l

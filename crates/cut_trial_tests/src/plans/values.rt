@@ -1,7 +1,11 @@
 //! Texts that are no accepted plans for their values, each below what is told
 //! of it and above a line of dashes. They were made and judged apart from this program.
 
-pub(super) const TEXTS: &str = r#"6 OutOfRange dead
+pub(super) fn texts() -> &'static str {
+    TEXTS
+}
+
+const TEXTS: &str = r#"6 OutOfRange dead
 {"links": 0, "h": [2, 3, 4], "implicit": true, "liars": 2048, "nodes": 3, "copies": 4, "k": [3, 4], "repeats": 2, "version": 2, "seed": "6f5d0e74551Bca5e0FcCb1C8e3c83c478Fea2a7E75Afc0bdCD24eDEF5411ACfd", "l": [4], "f": [0], "deaf": 2048, "dead": ""}
 ---
 6 OutOfRange links
