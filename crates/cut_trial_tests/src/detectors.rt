@@ -1,5 +1,5 @@
 use crate::edges::all_within;
-use cut_detector::{Detector, Step, replay};
+use cut_detector::{Detector, Proposal, Step, replay};
 use cut_rings::{Edge, Rings};
 use std::alloc::{AllocError, Global};
 use std::process::Abort;
@@ -57,33 +57,115 @@ fn check(
     Ok(())
 }
 
+// The numbers of a text with blanks between them.
+fn numbers(alloc: Global, text: &str) -> Result<Vec<u16>, AllocError> {
+    text.split(' ')
+        .map(|word| word.parse::<u16>().unwrap_or(u16::MAX))
+        .collect(alloc)
+}
+
+// The rings of lists with commas between them.
+fn rings_of_text(rt: &impl Abort, alloc: Global, text: &str) -> Result<Rings, Fail> {
+    let mut lists: Vec<Vec<u16>> = Vec::new(alloc);
+    for list in text.split(", ") {
+        lists.push(numbers(alloc, list)?)?;
+    }
+    let nodes = lists.first().map_or(0, |list| list.len());
+    assert!(rt; nodes <= 2048 && lists.len() <= 32);
+    Ok(Rings::from_lists(alloc, nodes as u16, &lists)?)
+}
+
+// The edge that is written as its ring and its subject with a point between them.
+fn edge_of(word: &str) -> Edge {
+    let (ring, subject) = word.split_once('.').unwrap_or(("", ""));
+    Edge {
+        ring: ring.parse::<u8>().unwrap_or(u8::MAX),
+        subject: subject.parse::<u16>().unwrap_or(u16::MAX),
+    }
+}
+
+// H, L and whether implicit alerts are on, as they are written.
+fn rule_of(text: &str) -> (u8, u8, bool) {
+    let (h, rest) = text.split_once(' ').unwrap_or((text, ""));
+    let (l, word) = rest.split_once(' ').unwrap_or((rest, ""));
+    let h = h.parse::<u8>().unwrap_or(0);
+    let l = l.parse::<u8>().unwrap_or(0);
+    (h, l, word == "on")
+}
+
+// What is proposed, as it is written.
+fn proposal_text(alloc: Global, proposal: &Proposal) -> Result<String, AllocError> {
+    let mut text = String::new(alloc);
+    for member in proposal.members.as_slice() {
+        text.push_str(format!(in alloc; "{member} ")?.as_str())?;
+    }
+    text.push_str(format!(in alloc; "at {}", proposal.at)?.as_str())?;
+    Ok(text)
+}
+
+// Whether a text tells what is proposed.
+fn is_told(alloc: Global, found: Option<Proposal>, wanted: &str) -> Result<bool, AllocError> {
+    match found {
+        Some(proposal) => Ok(proposal_text(alloc, &proposal)?.as_str() == wanted),
+        None => Ok(wanted == "none"),
+    }
+}
+
+// What a row tells is proposed after these deliveries, and a recount proposes it too.
+fn check_row(
+    rt: &impl Abort,
+    alloc: Global,
+    rings: &Rings,
+    edges: &[Edge],
+    row: &str,
+) -> Result<(), Fail> {
+    let (rule, wanted) = row.split_once(": ").unwrap_or((row, ""));
+    let (h, l, implicit) = rule_of(rule);
+    let k = rings.len();
+    assert!(rt; 1 <= l && l <= h && h <= k, "{row}");
+    assert!(rt; all_within(k, rings.nodes(), edges), "{row}");
+    recount::compare(rt, alloc, rings, (h, l, implicit), edges, 0)?;
+    let found = replay(alloc, rings, k, h, l, implicit, edges)?;
+    assert!(rt; is_told(alloc, found, wanted)?, "{row}");
+    Ok(())
+}
+
+// The rows below a list of deliveries, and how many they are.
+fn check_list(rt: &impl Abort, alloc: Global, rings: &Rings, text: &str) -> Result<u32, Fail> {
+    let (list, rows) = text.split_once('\n').unwrap_or((text, ""));
+    let edges: Vec<Edge> = list.split(' ').map(|word| edge_of(word)).collect(alloc)?;
+    let mut count = 0u32;
+    for row in rows.split('\n') {
+        check_row(rt, alloc, rings, &edges, row)?;
+        count = count.saturating_add(1);
+    }
+    Ok(count)
+}
+
+// The lists of deliveries on some rings, and how many rows stand below them.
+fn check_rings(rt: &impl Abort, alloc: Global, text: &str) -> Result<u32, Fail> {
+    let (rings, lists) = text.split_once("\ndeliveries ").unwrap_or((text, ""));
+    let rings = rings_of_text(rt, alloc, rings.strip_prefix("rings ").unwrap_or(""))?;
+    let mut count = 0u32;
+    for list in lists.split("\ndeliveries ") {
+        count = count.saturating_add(check_list(rt, alloc, &rings, list)?);
+    }
+    Ok(count)
+}
+
 #[test]
 fn proposes_as_worked_by_hand(rt: HostRuntime) -> Result<(), Fail> {
-    let alloc = rt.alloc();
-    let rings = four(&rt, alloc)?;
-    let first = [(0, 1), (1, 1), (2, 1), (0, 2)];
-    check(&rt, alloc, &rings, (3, 1, false), &first, (&[1], 3))?;
-    let gains = [(1, 2), (2, 2), (0, 1)];
-    check(&rt, alloc, &rings, (3, 1, true), &gains, (&[1, 2], 3))?;
-    check(&rt, alloc, &rings, (3, 1, false), &gains, (&[], 0))?;
-    let unreported = [(0, 2), (1, 2), (2, 2)];
-    check(&rt, alloc, &rings, (3, 2, true), &unreported, (&[2], 3))?;
-    let repeats = [(0, 1), (0, 1), (0, 1)];
-    check(&rt, alloc, &rings, (3, 1, false), &repeats, (&[], 0))?;
+    assert!(rt; check_rings(&rt, rt.alloc(), vectors::by_hand())? == 9);
     Ok(())
 }
 
 #[test]
-fn order_matters_only_above_the_low_watermark(rt: HostRuntime) -> Result<(), Fail> {
-    let alloc = rt.alloc();
-    let rings = four(&rt, alloc)?;
-    let late = [(0, 2), (0, 1), (1, 1), (2, 1), (1, 3), (2, 0)];
-    check(&rt, alloc, &rings, (3, 2, false), &late, (&[1], 4))?;
-    check(&rt, alloc, &rings, (3, 1, false), &late, (&[], 0))?;
-    let early = [(0, 1), (1, 1), (2, 1), (0, 2), (1, 3), (2, 0)];
-    check(&rt, alloc, &rings, (3, 2, false), &early, (&[1], 3))?;
-    let last = [(2, 0), (1, 3), (0, 2), (2, 1), (1, 1), (0, 1)];
-    check(&rt, alloc, &rings, (3, 2, false), &last, (&[1], 6))?;
+fn proposes_as_computed_elsewhere(rt: HostRuntime) -> Result<(), Fail> {
+    let mut count = 0u32;
+    for text in vectors::computed().split("\n\n") {
+        count = count.saturating_add(check_rings(&rt, rt.alloc(), text)?);
+    }
+    assert!(rt; count == 228);
     Ok(())
 }
 
@@ -163,23 +245,5 @@ fn a_settled_detector_stays_until_it_is_reset(rt: HostRuntime) -> Result<(), Fai
     assert_eq!(rt; steps, [Step::Waiting; 3]);
     assert!(rt; detector.proposal(alloc)?.is_none());
     assert_eq!(rt; detector.deliveries(), 3);
-    Ok(())
-}
-
-// What is wanted at h and l: members and place without implicit alerts, and with them.
-type Row<'a> = (u8, u8, (&'a [u16], u64), (&'a [u16], u64));
-
-// One receiver's deliveries, and what it proposes at each pair of watermarks.
-fn check_rows(
-    rt: &impl Abort,
-    alloc: Global,
-    rings: &Rings,
-    pairs: &[(u8, u16)],
-    rows: &[Row],
-) -> Result<(), Fail> {
-    for &(h, l, off, on) in rows {
-        check(rt, alloc, rings, (h, l, false), pairs, off)?;
-        check(rt, alloc, rings, (h, l, true), pairs, on)?;
-    }
     Ok(())
 }
