@@ -1,3 +1,4 @@
+use crate::texts::{numbers, rings_of_text};
 use cut_alerts::{Roles, alerts, alerts_into, is_alert};
 use cut_draws::{Draws, ProcessOrder};
 use cut_plan::{Dead, Faults, Plan};
@@ -31,75 +32,117 @@ fn edges_of(alloc: Global, pairs: &[(u8, u16)]) -> Result<Vec<Edge>, AllocError>
         .collect(alloc)
 }
 
-// The alerted edges of these roles are these pairs of ring and subject.
-fn check(
+// Targets, liars and cut links, as they are written.
+#[derive(Drop)]
+struct Written {
+    targets: Vec<u16>,
+    liars: Vec<u16>,
+    links: Vec<(u16, u16)>,
+}
+
+// The link that is written as its two ends with a point between them.
+fn link_of(word: &str) -> (u16, u16) {
+    let (from, to) = word.split_once('.').unwrap_or(("", ""));
+    let from = from.parse::<u16>().unwrap_or(u16::MAX);
+    (from, to.parse::<u16>().unwrap_or(u16::MAX))
+}
+
+fn written_roles(alloc: Global, text: &str) -> Result<Written, AllocError> {
+    let (targets, rest) = text.split_once(';').unwrap_or((text, ""));
+    let (liars, links) = rest.split_once(';').unwrap_or((rest, ""));
+    Ok(Written {
+        targets: numbers(alloc, targets)?,
+        liars: numbers(alloc, liars)?,
+        links: links
+            .split_whitespace()
+            .map(|word| link_of(word))
+            .collect(alloc)?,
+    })
+}
+
+// How targets fail and whether the dead speak, as it is written.
+fn ways_of(text: &str) -> (Faults, Dead) {
+    let (faults, dead) = text.split_once(' ').unwrap_or((text, ""));
+    let faults = if faults == "deaf" {
+        Faults::Deaf
+    } else {
+        Faults::Crash
+    };
+    let dead = if dead == "speak" {
+        Dead::Speak
+    } else {
+        Dead::Silent
+    };
+    (faults, dead)
+}
+
+// Edges as they are written.
+fn edges_text(alloc: Global, edges: &[Edge]) -> Result<String, AllocError> {
+    if edges.is_empty() {
+        return String::from_str(alloc, "none");
+    }
+    let mut text = String::new(alloc);
+    for edge in edges {
+        let blank = if text.is_empty() { "" } else { " " };
+        text.push_str(format!(in alloc; "{blank}{}.{}", edge.ring, edge.subject)?.as_str())?;
+    }
+    Ok(text)
+}
+
+// The alerted edges of roles are those that a row tells.
+fn check_row(
     rt: &impl Abort,
     alloc: Global,
     rings: &Rings,
-    (targets, liars, links): Lists,
-    (faults, dead): (Faults, Dead),
-    pairs: &[(u8, u16)],
+    lists: &Written,
+    row: &str,
 ) -> Result<(), Fail> {
+    let (ways, wanted) = row.split_once(": ").unwrap_or((row, ""));
+    let (faults, dead) = ways_of(ways);
+    let (targets, liars, links) = (&lists.targets, &lists.liars, &lists.links);
     let roles = Roles::given(alloc, rings.nodes(), targets, liars, links, faults, dead)?;
     assert!(rt; roles.nodes() == rings.nodes());
     let found = alerts(alloc, rings, rings.len(), &roles)?;
-    let expected = edges_of(alloc, pairs)?;
-    assert_eq!(rt;
-        found.as_slice(),
-        expected.as_slice(),
-        "of {targets:?} {liars:?} {links:?}"
-    );
+    assert!(rt; edges_text(alloc, &found)?.as_str() == wanted, "{row}");
+    Ok(())
+}
+
+// The rows below a line of roles, and how many they are.
+fn check_roles(rt: &impl Abort, alloc: Global, rings: &Rings, text: &str) -> Result<u32, Fail> {
+    let (line, rows) = text.split_once('\n').unwrap_or((text, ""));
+    let lists = written_roles(alloc, line)?;
+    let mut count = 0u32;
+    for row in rows.split('\n') {
+        check_row(rt, alloc, rings, &lists, row)?;
+        count = count.saturating_add(1);
+    }
+    Ok(count)
+}
+
+// The roles on some rings, and how many rows stand below them.
+fn check_rings(rt: &impl Abort, alloc: Global, text: &str) -> Result<u32, Fail> {
+    let (rings, all) = text.split_once("\nroles ").unwrap_or((text, ""));
+    let rings = rings_of_text(rt, alloc, rings.strip_prefix("rings ").unwrap_or(""))?;
+    let mut count = 0u32;
+    for roles in all.split("\nroles ") {
+        count = count.saturating_add(check_roles(rt, alloc, &rings, roles)?);
+    }
+    Ok(count)
+}
+
+#[test]
+fn alerts_as_worked_by_hand(rt: HostRuntime) -> Result<(), Fail> {
+    assert!(rt; check_rings(&rt, rt.alloc(), vectors::by_hand())? == 8);
     Ok(())
 }
 
 #[test]
-fn alerts_about_crashed_targets(rt: HostRuntime) -> Result<(), Fail> {
-    let alloc = rt.alloc();
-    let rings = four(&rt, alloc)?;
-    let silent = (Faults::Crash, Dead::Silent);
-    let speak = (Faults::Crash, Dead::Speak);
-    let two: Lists = (&[1, 2], &[], &[]);
-    check(&rt, alloc, &rings, two, silent, &[(0, 1), (1, 2), (2, 2)])?;
-    let all = [(0, 1), (1, 1), (2, 1), (0, 2), (1, 2), (2, 2)];
-    check(&rt, alloc, &rings, two, speak, &all)?;
-    let linked: Lists = (&[2], &[], &[(1, 2)]);
-    check(
-        &rt,
-        alloc,
-        &rings,
-        linked,
-        silent,
-        &[(0, 2), (1, 2), (2, 2)],
-    )?;
-    check(&rt, alloc, &rings, linked, speak, &[(0, 2), (1, 2), (2, 2)])?;
-    Ok(())
-}
-
-#[test]
-fn alerts_of_the_deaf_of_liars_and_of_cut_links(rt: HostRuntime) -> Result<(), Fail> {
-    let alloc = rt.alloc();
-    let rings = four(&rt, alloc)?;
-    let crash = (Faults::Crash, Dead::Silent);
-    let deaf = (Faults::Deaf, Dead::Silent);
-    let about = [(2, 0), (0, 1), (1, 1), (2, 1), (0, 2), (1, 3)];
-    check(&rt, alloc, &rings, (&[1], &[], &[]), deaf, &about)?;
-    check(
-        &rt,
-        alloc,
-        &rings,
-        (&[], &[3], &[]),
-        crash,
-        &[(0, 0), (1, 0), (2, 2)],
-    )?;
-    check(
-        &rt,
-        alloc,
-        &rings,
-        (&[], &[], &[(0, 1)]),
-        crash,
-        &[(2, 0), (0, 1)],
-    )?;
-    check(&rt, alloc, &rings, (&[], &[], &[]), crash, &[])?;
+fn alerts_as_computed_elsewhere(rt: HostRuntime) -> Result<(), Fail> {
+    let mut count = 0u32;
+    for text in vectors::computed().split("\n\n") {
+        count = count.saturating_add(check_rings(&rt, rt.alloc(), text)?);
+    }
+    assert!(rt; count == 12);
     Ok(())
 }
 

@@ -1,4 +1,5 @@
 use crate::edges::all_within;
+use crate::texts::{edge_of, rings_of_text};
 use cut_detector::{Detector, Proposal, Step, replay};
 use cut_rings::{Edge, Rings};
 use std::alloc::{AllocError, Global};
@@ -55,33 +56,6 @@ fn check(
         None => assert_eq!(rt; at, 0, "{h} {l} {implicit} proposes nothing"),
     }
     Ok(())
-}
-
-// The numbers of a text with blanks between them.
-fn numbers(alloc: Global, text: &str) -> Result<Vec<u16>, AllocError> {
-    text.split(' ')
-        .map(|word| word.parse::<u16>().unwrap_or(u16::MAX))
-        .collect(alloc)
-}
-
-// The rings of lists with commas between them.
-fn rings_of_text(rt: &impl Abort, alloc: Global, text: &str) -> Result<Rings, Fail> {
-    let mut lists: Vec<Vec<u16>> = Vec::new(alloc);
-    for list in text.split(", ") {
-        lists.push(numbers(alloc, list)?)?;
-    }
-    let nodes = lists.first().map_or(0, |list| list.len());
-    assert!(rt; nodes <= 2048 && lists.len() <= 32);
-    Ok(Rings::from_lists(alloc, nodes as u16, &lists)?)
-}
-
-// The edge that is written as its ring and its subject with a point between them.
-fn edge_of(word: &str) -> Edge {
-    let (ring, subject) = word.split_once('.').unwrap_or(("", ""));
-    Edge {
-        ring: ring.parse::<u8>().unwrap_or(u8::MAX),
-        subject: subject.parse::<u16>().unwrap_or(u16::MAX),
-    }
 }
 
 // H, L and whether implicit alerts are on, as they are written.

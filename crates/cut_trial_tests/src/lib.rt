@@ -19,4 +19,6 @@ mod plans;
 #[cfg(test)]
 mod rings;
 #[cfg(test)]
+mod texts;
+#[cfg(test)]
 mod trials;

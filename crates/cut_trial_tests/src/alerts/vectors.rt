@@ -1,10 +1,6 @@
 // Roles and alerted edges that a script apart from this crate computed, from sets and counts.
 
-use crate::alerts::{Lists, check, check_drawn, rings_of};
-use cut_plan::{Dead, Faults};
-use cut_rings::Rings;
-use std::alloc::Global;
-use std::process::Abort;
+use crate::alerts::{Lists, check_drawn};
 use std::test::Fail;
 
 // Five processes, with targets that crash.
@@ -31,215 +27,70 @@ const TWO_CRASH: &str =
 const TWO_DEAF: &str =
     r#"{"copies":1,"dead":"speak","f":[1],"faults":"deaf","h":[1],"implicit":true,"k":[2],"l":[1],"liars":0,"links":0,"nodes":2,"repeats":1,"seed":"ffffffffffffffffffffffffffffffffffffffffffffffffffffffffffffffff","version":1}"#;
 
-// The alerted edges of these roles, with crashed targets and with deaf ones, where the dead speak.
-fn check_both(
-    rt: &impl Abort,
-    alloc: Global,
-    rings: &Rings,
-    lists: Lists,
-    crashed: &[(u8, u16)],
-    deaf: &[(u8, u16)],
-) -> Result<(), Fail> {
-    check(
-        rt,
-        alloc,
-        rings,
-        lists,
-        (Faults::Crash, Dead::Speak),
-        crashed,
-    )?;
-    check(rt, alloc, rings, lists, (Faults::Deaf, Dead::Speak), deaf)
+// Rings, roles on them (targets; liars; cut links), and below each the alerted edges, as targets crash or are deaf and
+// the dead are silent or speak.
+const COMPUTED: &str = r#"rings 1 3 0 4 2, 3 1 0 2 4, 0 1 2 4 3
+roles 0; 4; 3.0
+crash speak: 0.0 1.0 2.0 0.2 1.3 2.3
+deaf speak: 0.0 1.0 2.0 2.1 0.2 1.2 1.3 2.3 0.4
+roles 4; 1; 0.4
+crash speak: 1.0 2.2 0.3 0.4 1.4 2.4
+deaf speak: 1.0 0.2 2.2 0.3 1.3 2.3 0.4 1.4 2.4
+roles 2; 0; 3.0
+crash speak: 0.0 2.0 2.1 0.2 1.2 2.2 0.4
+deaf speak: 0.0 2.0 0.1 2.1 0.2 1.2 2.2 0.4 1.4 2.4
+
+rings 1 2 3 5 0 4 6, 4 0 6 5 2 3 1, 5 4 2 3 6 1 0, 4 2 1 3 6 5 0
+roles 2; 6; 0.4
+crash speak: 1.0 0.1 2.1 0.2 1.2 2.2 3.2 0.4 3.4 1.5 3.5
+deaf speak: 1.0 0.1 2.1 3.1 0.2 1.2 2.2 3.2 0.3 1.3 2.3 0.4 3.4 1.5 3.5
+roles 5; 1; 2.3
+crash speak: 2.0 0.2 0.3 1.3 2.3 3.3 1.4 0.5 1.5 2.5 3.5
+deaf speak: 0.0 2.0 3.0 0.2 1.2 0.3 1.3 2.3 3.3 1.4 2.4 0.5 1.5 2.5 3.5
+roles 0; 1; 3.5
+crash speak: 0.0 1.0 2.0 3.0 0.2 3.3 1.4 0.5
+deaf speak: 0.0 1.0 2.0 3.0 0.2 3.3 0.4 1.4 3.4 0.5 2.5 1.6"#;
+
+// What was worked out by hand.
+const BY_HAND: &str = r#"rings 0 1 2 3, 0 2 1 3, 0 3 2 1
+roles 1 2; ;
+crash silent: 0.1 1.2 2.2
+crash speak: 0.1 1.1 2.1 0.2 1.2 2.2
+roles 2; ; 1.2
+crash silent: 0.2 1.2 2.2
+crash speak: 0.2 1.2 2.2
+roles 1; ;
+deaf silent: 2.0 0.1 1.1 2.1 0.2 1.3
+roles ; 3;
+crash silent: 0.0 1.0 2.2
+roles ; ; 0.1
+crash silent: 2.0 0.1
+roles ; ;
+crash silent: none"#;
+
+pub(super) fn computed() -> &'static str {
+    COMPUTED
 }
 
-#[test]
-fn alerts_among_five(rt: HostRuntime) -> Result<(), Fail> {
-    let alloc = rt.alloc();
-    let lists: [&[u16]; 3] = [&[1, 3, 0, 4, 2], &[3, 1, 0, 2, 4], &[0, 1, 2, 4, 3]];
-    let rings = rings_of(&rt, alloc, 5, &lists)?;
-    check_both(
-        &rt,
-        alloc,
-        &rings,
-        (&[0], &[4], &[(3, 0)]),
-        &[(0, 0), (1, 0), (2, 0), (0, 2), (1, 3), (2, 3)],
-        &[
-            (0, 0),
-            (1, 0),
-            (2, 0),
-            (2, 1),
-            (0, 2),
-            (1, 2),
-            (1, 3),
-            (2, 3),
-            (0, 4),
-        ],
-    )?;
-    check_both(
-        &rt,
-        alloc,
-        &rings,
-        (&[4], &[1], &[(0, 4)]),
-        &[(1, 0), (2, 2), (0, 3), (0, 4), (1, 4), (2, 4)],
-        &[
-            (1, 0),
-            (0, 2),
-            (2, 2),
-            (0, 3),
-            (1, 3),
-            (2, 3),
-            (0, 4),
-            (1, 4),
-            (2, 4),
-        ],
-    )?;
-    check_both(
-        &rt,
-        alloc,
-        &rings,
-        (&[2], &[0], &[(3, 0)]),
-        &[(0, 0), (2, 0), (2, 1), (0, 2), (1, 2), (2, 2), (0, 4)],
-        &[
-            (0, 0),
-            (2, 0),
-            (0, 1),
-            (2, 1),
-            (0, 2),
-            (1, 2),
-            (2, 2),
-            (0, 4),
-            (1, 4),
-            (2, 4),
-        ],
-    )?;
-    Ok(())
-}
-
-#[test]
-fn alerts_among_seven(rt: HostRuntime) -> Result<(), Fail> {
-    let alloc = rt.alloc();
-    let lists: [&[u16]; 4] = [
-        &[1, 2, 3, 5, 0, 4, 6],
-        &[4, 0, 6, 5, 2, 3, 1],
-        &[5, 4, 2, 3, 6, 1, 0],
-        &[4, 2, 1, 3, 6, 5, 0],
-    ];
-    let rings = rings_of(&rt, alloc, 7, &lists)?;
-    check_both(
-        &rt,
-        alloc,
-        &rings,
-        (&[2], &[6], &[(0, 4)]),
-        &[
-            (1, 0),
-            (0, 1),
-            (2, 1),
-            (0, 2),
-            (1, 2),
-            (2, 2),
-            (3, 2),
-            (0, 4),
-            (3, 4),
-            (1, 5),
-            (3, 5),
-        ],
-        &[
-            (1, 0),
-            (0, 1),
-            (2, 1),
-            (3, 1),
-            (0, 2),
-            (1, 2),
-            (2, 2),
-            (3, 2),
-            (0, 3),
-            (1, 3),
-            (2, 3),
-            (0, 4),
-            (3, 4),
-            (1, 5),
-            (3, 5),
-        ],
-    )?;
-    check_both(
-        &rt,
-        alloc,
-        &rings,
-        (&[5], &[1], &[(2, 3)]),
-        &[
-            (2, 0),
-            (0, 2),
-            (0, 3),
-            (1, 3),
-            (2, 3),
-            (3, 3),
-            (1, 4),
-            (0, 5),
-            (1, 5),
-            (2, 5),
-            (3, 5),
-        ],
-        &[
-            (0, 0),
-            (2, 0),
-            (3, 0),
-            (0, 2),
-            (1, 2),
-            (0, 3),
-            (1, 3),
-            (2, 3),
-            (3, 3),
-            (1, 4),
-            (2, 4),
-            (0, 5),
-            (1, 5),
-            (2, 5),
-            (3, 5),
-        ],
-    )?;
-    check_both(
-        &rt,
-        alloc,
-        &rings,
-        (&[0], &[1], &[(3, 5)]),
-        &[
-            (0, 0),
-            (1, 0),
-            (2, 0),
-            (3, 0),
-            (0, 2),
-            (3, 3),
-            (1, 4),
-            (0, 5),
-        ],
-        &[
-            (0, 0),
-            (1, 0),
-            (2, 0),
-            (3, 0),
-            (0, 2),
-            (3, 3),
-            (0, 4),
-            (1, 4),
-            (3, 4),
-            (0, 5),
-            (2, 5),
-            (1, 6),
-        ],
-    )?;
-    Ok(())
+pub(super) fn by_hand() -> &'static str {
+    BY_HAND
 }
 
 #[test]
 fn roles_of_trials(rt: HostRuntime) -> Result<(), Fail> {
-    let alloc = rt.alloc();
-    check_drawn(&rt, alloc, FIVE_CRASH, 0, (&[0], &[4], &[(3, 0)]))?;
-    check_drawn(&rt, alloc, FIVE_DEAF, 1, (&[4], &[1], &[(0, 4)]))?;
-    check_drawn(&rt, alloc, FIVE_CRASH, 4095999999, (&[2], &[0], &[(3, 0)]))?;
-    check_drawn(&rt, alloc, SEVEN_CRASH, 0, (&[2], &[6], &[(0, 4)]))?;
-    check_drawn(&rt, alloc, SEVEN_DEAF, 1, (&[5], &[1], &[(2, 3)]))?;
-    check_drawn(&rt, alloc, SEVEN_CRASH, 4095999999, (&[0], &[1], &[(3, 5)]))?;
-    check_drawn(&rt, alloc, TWO_CRASH, 0, (&[0], &[], &[]))?;
-    check_drawn(&rt, alloc, TWO_DEAF, 1, (&[1], &[], &[]))?;
-    check_drawn(&rt, alloc, TWO_CRASH, 4095999999, (&[1], &[], &[]))?;
+    let rows: [(&str, u32, Lists); 9] = [
+        (FIVE_CRASH, 0, (&[0], &[4], &[(3, 0)])),
+        (FIVE_DEAF, 1, (&[4], &[1], &[(0, 4)])),
+        (FIVE_CRASH, 4095999999, (&[2], &[0], &[(3, 0)])),
+        (SEVEN_CRASH, 0, (&[2], &[6], &[(0, 4)])),
+        (SEVEN_DEAF, 1, (&[5], &[1], &[(2, 3)])),
+        (SEVEN_CRASH, 4095999999, (&[0], &[1], &[(3, 5)])),
+        (TWO_CRASH, 0, (&[0], &[], &[])),
+        (TWO_DEAF, 1, (&[1], &[], &[])),
+        (TWO_CRASH, 4095999999, (&[1], &[], &[])),
+    ];
+    for (text, trial, lists) in rows {
+        check_drawn(&rt, rt.alloc(), text, trial, lists)?;
+    }
     Ok(())
 }

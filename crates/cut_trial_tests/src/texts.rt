@@ -1,0 +1,33 @@
+//! What is written in the texts of vectors: numbers, rings and edges.
+
+use cut_rings::{Edge, Rings};
+use std::alloc::{AllocError, Global};
+use std::process::Abort;
+use std::test::Fail;
+
+/// The numbers of a text with blanks between them.
+pub(crate) fn numbers(alloc: Global, text: &str) -> Result<Vec<u16>, AllocError> {
+    text.split_whitespace()
+        .map(|word| word.parse::<u16>().unwrap_or(u16::MAX))
+        .collect(alloc)
+}
+
+/// The rings of lists with commas between them.
+pub(crate) fn rings_of_text(rt: &impl Abort, alloc: Global, text: &str) -> Result<Rings, Fail> {
+    let mut lists: Vec<Vec<u16>> = Vec::new(alloc);
+    for list in text.split(", ") {
+        lists.push(numbers(alloc, list)?)?;
+    }
+    let nodes = lists.first().map_or(0, |list| list.len());
+    assert!(rt; nodes <= 2048 && lists.len() <= 32);
+    Ok(Rings::from_lists(alloc, nodes as u16, &lists)?)
+}
+
+/// The edge that is written as its ring and its subject with a point between them.
+pub(crate) fn edge_of(word: &str) -> Edge {
+    let (ring, subject) = word.split_once('.').unwrap_or(("", ""));
+    Edge {
+        ring: ring.parse::<u8>().unwrap_or(u8::MAX),
+        subject: subject.parse::<u16>().unwrap_or(u16::MAX),
+    }
+}
