@@ -132,11 +132,21 @@ fn added_totals(rt: HostRuntime) {
     );
 }
 
+// The numbers of one trial as a piece, and of the trial alone.
+fn both_totals(alloc: Global, plan: &Plan, first: u32) -> Result<([u64; 8], [u64; 8]), Fail> {
+    let rings = Rings::hashed(alloc, plan)?;
+    if first >= plan.trials() {
+        return Err(Fail::new("no such trial"));
+    }
+    let found = run_piece(alloc, plan, &rings, Piece { first, count: 1 })?;
+    let alone = run_trial(alloc, plan, &rings, first)?;
+    Ok((numbers(found.totals()), numbers(alone)))
+}
+
 // Only the target is alerted, on all three rings, so each receiver proposes exactly it; and with no
 // target nothing is alerted.
 #[test]
 fn trials_and_pieces(rt: HostRuntime) -> Result<(), Fail> {
-    let alloc = rt.alloc();
     for (nodes, copies, repeats, targets, first, wanted) in [
         (5, 1, 2, "[1]", 0, [4, 0, 0, 0, 4, 1, 1, 0]),
         (5, 1, 2, "[0,1]", 1, [5, 0, 5, 0, 0, 0, 0, 0]),
@@ -149,29 +159,25 @@ fn trials_and_pieces(rt: HostRuntime) -> Result<(), Fail> {
             [1_998, 0, 0, 0, 1_998, 1, 1, 0],
         ),
     ] {
-        let plan = small_plan(alloc, nodes, copies, repeats, targets)?;
-        let rings = Rings::hashed(alloc, &plan)?;
-        let piece = Piece { first, count: 1 };
-        let found = run_piece(alloc, &plan, &rings, piece)?;
-        assert!(rt; found.plan().same(&plan) && found.piece() == piece);
-        assert_eq!(rt;
-            numbers(found.totals()),
-            wanted,
-            "trial {first} of {nodes} processes"
-        );
-        if first < plan.trials() {
-            let totals = run_trial(alloc, &plan, &rings, first)?;
-            assert_eq!(rt; numbers(totals), wanted, "trial {first} alone");
-        }
+        let plan = small_plan(rt.alloc(), nodes, copies, repeats, targets)?;
+        let found = both_totals(rt.alloc(), &plan, first)?;
+        assert!(rt; found == (wanted, wanted), "trial {first} of {nodes}");
     }
     Ok(())
 }
 
+// Whether a piece is run where it is one of the plan's, and else refused as none.
+fn is_run_as_it_is(alloc: Global, plan: &Plan, piece: Piece) -> Result<bool, Fail> {
+    let rings = Rings::hashed(alloc, plan)?;
+    match run_piece(alloc, plan, &rings, piece) {
+        Ok(found) => Ok(is_piece(plan, piece) && found.piece() == piece),
+        Err(fault) => Ok(!is_piece(plan, piece) && fault.code() == FaultCode::BadPiece),
+    }
+}
+
 #[test]
 fn bad_pieces(rt: HostRuntime) -> Result<(), Fail> {
-    let alloc = rt.alloc();
-    let plan = small_plan(alloc, 5, 1, 2, "[0,1]")?;
-    let rings = Rings::hashed(alloc, &plan)?;
+    let plan = small_plan(rt.alloc(), 5, 1, 2, "[0,1]")?;
     for (first, count, wanted) in [
         (0, 2, true),
         (2, 2, true),
@@ -181,11 +187,11 @@ fn bad_pieces(rt: HostRuntime) -> Result<(), Fail> {
         (u32::MAX, 2, false),
     ] {
         let piece = Piece { first, count };
-        assert_eq!(rt; is_piece(&plan, piece), wanted, "{piece:?}");
-        match run_piece(alloc, &plan, &rings, piece) {
-            Ok(found) => assert_eq!(rt; found.piece(), piece),
-            Err(fault) => assert_eq!(rt; fault.code(), FaultCode::BadPiece, "{piece:?}"),
-        }
+        assert!(rt; is_piece(&plan, piece) == wanted, "{first} {count}");
+        assert!(rt;
+            is_run_as_it_is(rt.alloc(), &plan, piece)?,
+            "{first} {count}"
+        );
     }
     Ok(())
 }
@@ -218,26 +224,29 @@ fn add(all: &mut [u64], more: &[u64]) {
     }
 }
 
-// Each cell's sums are those of its row, in pieces of each size.
+// Whether each cell's sums are those of its row, in pieces of this size.
+fn has_sums(alloc: Global, plan: &Plan, rows: &[[u64; 8]], size: u32) -> Result<bool, Fail> {
+    let rings = Rings::hashed(alloc, plan)?;
+    let mut first: u32 = 0;
+    for row in rows {
+        let end = first.saturating_add(plan.repeats());
+        if sums(alloc, plan, &rings, first, end, size)? != *row {
+            return Ok(false);
+        }
+        first = end;
+    }
+    Ok(plan.cells() as usize == rows.len())
+}
+
 #[test]
 fn studies(rt: HostRuntime) -> Result<(), Fail> {
-    let alloc = rt.alloc();
     for (name, text, rows) in STUDIES {
-        let plan = Plan::from_json(alloc, text.as_bytes())?;
-        let rings = Rings::hashed(alloc, &plan)?;
-        assert_eq!(rt; plan.cells() as usize, rows.len(), "{name}");
+        let plan = Plan::from_json(rt.alloc(), text.as_bytes())?;
         for size in [1, 2, 7] {
-            let mut first: u32 = 0;
-            for row in *rows {
-                let end = first.saturating_add(plan.repeats());
-                let found = sums(alloc, &plan, &rings, first, end, size)?;
-                assert_eq!(rt;
-                    found,
-                    *row,
-                    "{name}: the cell from trial {first}, by {size}"
-                );
-                first = end;
-            }
+            assert!(rt;
+                has_sums(rt.alloc(), &plan, rows, size)?,
+                "{name} by {size}"
+            );
         }
     }
     Ok(())
@@ -265,20 +274,20 @@ fn totals_of_trial(alloc: Global, text: &str, trial: u32) -> Result<Totals, Fail
     Ok(found.totals())
 }
 
+// Whether totals of both versions differ in `settled` alone, which is 0 in the first and possible in the second.
+fn differ_in_settled(without: Totals, with: Totals) -> bool {
+    without.settled == 0
+        && with.settled >= with.receivers.saturating_sub(with.silent)
+        && numbers(without) == numbers(Totals { settled: 0, ..with })
+}
+
 #[test]
 fn both_versions_have_the_same_deaf_process(rt: HostRuntime) -> Result<(), Fail> {
-    let alloc = rt.alloc();
     for trial in 0..2 {
         let [first, second] = DEAF;
-        let without = totals_of_trial(alloc, first, trial)?;
-        let with = totals_of_trial(alloc, second, trial)?;
-        assert_eq!(rt; without.settled, 0, "trial {trial}");
-        assert!(rt;
-            with.settled >= with.receivers.saturating_sub(with.silent),
-            "trial {trial}"
-        );
-        let wanted = Totals { settled: 0, ..with };
-        assert_eq!(rt; numbers(without), numbers(wanted), "trial {trial}");
+        let without = totals_of_trial(rt.alloc(), first, trial)?;
+        let with = totals_of_trial(rt.alloc(), second, trial)?;
+        assert!(rt; differ_in_settled(without, with), "trial {trial}");
     }
     Ok(())
 }
