@@ -29,35 +29,6 @@ fn edges_of(alloc: Global, pairs: &[(u8, u16)]) -> Result<Vec<Edge>, AllocError>
         .collect(alloc)
 }
 
-// What is proposed after these deliveries is `members` at `at`, or nothing where `at` is 0; and a
-// recount proposes it too.
-fn check(
-    rt: &impl Abort,
-    alloc: Global,
-    rings: &Rings,
-    (h, l, implicit): (u8, u8, bool),
-    pairs: &[(u8, u16)],
-    (members, at): (&[u16], u64),
-) -> Result<(), Fail> {
-    let edges = edges_of(alloc, pairs)?;
-    let k = rings.len();
-    assert!(rt; 1 <= l && l <= h && h <= k);
-    assert!(rt; all_within(k, rings.nodes(), &edges));
-    recount::compare(rt, alloc, rings, (h, l, implicit), &edges, 0)?;
-    match replay(alloc, rings, k, h, l, implicit, &edges)? {
-        Some(proposal) => {
-            assert_eq!(rt;
-                proposal.members.as_slice(),
-                members,
-                "{h} {l} {implicit} at {at}"
-            );
-            assert_eq!(rt; proposal.at, at, "{h} {l} {implicit}");
-        }
-        None => assert_eq!(rt; at, 0, "{h} {l} {implicit} proposes nothing"),
-    }
-    Ok(())
-}
-
 // H, L and whether implicit alerts are on, as they are written.
 fn rule_of(text: &str) -> (u8, u8, bool) {
     let (h, rest) = text.split_once(' ').unwrap_or((text, ""));
@@ -153,6 +124,21 @@ fn ordered(mut pairs: [(u8, u16); 6], number: usize) -> [(u8, u16); 6] {
     pairs
 }
 
+// Process 1 is proposed at a delivery, with implicit alerts and without.
+fn check_both(
+    rt: &impl Abort,
+    alloc: Global,
+    rings: &Rings,
+    edges: &[Edge],
+    at: u64,
+) -> Result<(), Fail> {
+    for word in ["off", "on"] {
+        let row = format!(in alloc; "3 2 {word}: 1 at {at}")?;
+        check_row(rt, alloc, rings, edges, row.as_str())?;
+    }
+    Ok(())
+}
+
 // Of these alerts only those about process 1 come on two rings or more, so it is proposed with the last
 // of its three.
 #[test]
@@ -164,8 +150,8 @@ fn no_order_matters_above_the_low_watermark(rt: HostRuntime) -> Result<(), Fail>
         let order = ordered(pairs, number);
         let last = order.iter().rposition(|&(_, subject)| subject == 1);
         let at = last.ok_or("no alert about process 1")? as u64 + 1;
-        check(&rt, alloc, &rings, (3, 2, false), &order, (&[1], at))?;
-        check(&rt, alloc, &rings, (3, 2, true), &order, (&[1], at))?;
+        let edges = edges_of(alloc, &order)?;
+        check_both(&rt, alloc, &rings, &edges, at)?;
     }
     Ok(())
 }
@@ -204,20 +190,17 @@ fn a_settled_detector_stays_until_it_is_reset(rt: HostRuntime) -> Result<(), Fai
         detector.deliver(third),
         detector.deliver(other),
     ];
-    assert_eq!(rt;
-        steps,
-        [Step::Waiting, Step::Waiting, Step::Settled, Step::Settled]
-    );
+    assert!(rt; steps == [Step::Waiting, Step::Waiting, Step::Settled, Step::Settled]);
     assert!(rt; proposes(alloc, &detector, &[1], 3)?);
-    assert_eq!(rt; detector.deliveries(), 3);
+    assert!(rt; detector.deliveries() == 3);
     detector.reset();
     let steps = [
         detector.deliver(first),
         detector.deliver(first),
         detector.deliver(first),
     ];
-    assert_eq!(rt; steps, [Step::Waiting; 3]);
+    assert!(rt; steps == [Step::Waiting; 3]);
     assert!(rt; detector.proposal(alloc)?.is_none());
-    assert_eq!(rt; detector.deliveries(), 3);
+    assert!(rt; detector.deliveries() == 3);
     Ok(())
 }

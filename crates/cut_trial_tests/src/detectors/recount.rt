@@ -4,7 +4,7 @@ ghost use Rattle.std.specs.Prelude.{◌≡◌, ◌<◌, ◌≤◌, length};
 
 use crate::detectors::rings_of;
 use crate::edges::all_within;
-use cut_detector::replay;
+use cut_detector::{Proposal, replay};
 use cut_rings::{Edge, Rings};
 use rand_chacha::ChaCha8Rng;
 use rand_core::SeedableRng;
@@ -102,6 +102,17 @@ fn recounted(
     Ok(None)
 }
 
+// Whether what a recount proposes, members and place, is what a detector does.
+fn is_same(wanted: &Option<(Vec<u16>, usize)>, found: &Option<Proposal>) -> bool {
+    match (wanted, found) {
+        (None, None) => true,
+        (Some((members, at)), Some(proposal)) => {
+            proposal.members.as_slice() == members.as_slice() && proposal.at == *at as u64
+        }
+        _ => false,
+    }
+}
+
 // The masks propose what the recount does.
 pub(super) fn compare(
     rt: &impl Abort,
@@ -117,15 +128,7 @@ pub(super) fn compare(
     let rule = Rule { k, h, l, implicit };
     let wanted = recounted(alloc, rings, rule, edges)?;
     let found = replay(alloc, rings, k, h, l, implicit, edges)?;
-    match (wanted, found) {
-        (None, None) => {}
-        (Some((members, at)), Some(proposal)) => {
-            let same = proposal.members.as_slice() == members.as_slice();
-            assert!(rt; same, "{list}: {h} {l} {implicit}: other members");
-            assert_eq!(rt; proposal.at, at as u64, "{list}: {h} {l} {implicit}");
-        }
-        _ => assert!(rt; false, "{list}: {h} {l} {implicit}: one proposes alone"),
-    }
+    assert!(rt; is_same(&wanted, &found), "{list}: {h} {l} {implicit}");
     Ok(())
 }
 
