@@ -17,7 +17,8 @@ pub(crate) fn studies() -> [Study; 25] {
 
 /// Four of them, which have at least three cells each.
 pub(crate) fn long_studies() -> [Study; 4] {
-    [STUDIES[17], STUDIES[18], STUDIES[19], STUDIES[20]]
+    let all = studies();
+    [all[17], all[18], all[19], all[20]]
 }
 
 const STUDIES: [Study; 25] = [
