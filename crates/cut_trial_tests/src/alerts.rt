@@ -1,4 +1,4 @@
-use crate::texts::{numbers, rings_of_text};
+use crate::texts::{edges_of, four, numbers, rings_of_text};
 use cut_alerts::{Roles, alerts, alerts_into, is_alert};
 use cut_draws::{Draws, ProcessOrder};
 use cut_plan::{Dead, Faults, Plan};
@@ -11,26 +11,6 @@ mod vectors;
 
 // Targets, liars and cut links.
 type Lists<'a> = (&'a [u16], &'a [u16], &'a [(u16, u16)]);
-
-fn rings_of(rt: &impl Abort, alloc: Global, nodes: u16, lists: &[&[u16]]) -> Result<Rings, Fail> {
-    let mut made = Vec::new(alloc);
-    for list in lists {
-        made.push(Vec::from_slice(alloc, list)?)?;
-    }
-    assert!(rt; nodes <= 2048 && made.len() <= 32);
-    Ok(Rings::from_lists(alloc, nodes, &made)?)
-}
-
-fn four(rt: &impl Abort, alloc: Global) -> Result<Rings, Fail> {
-    rings_of(rt, alloc, 4, &[&[0, 1, 2, 3], &[0, 2, 1, 3], &[0, 3, 2, 1]])
-}
-
-fn edges_of(alloc: Global, pairs: &[(u8, u16)]) -> Result<Vec<Edge>, AllocError> {
-    pairs
-        .iter()
-        .map(|&(ring, subject)| Edge { ring, subject })
-        .collect(alloc)
-}
 
 // Targets, liars and cut links, as they are written.
 #[derive(Drop)]

@@ -1,5 +1,5 @@
 use crate::edges::all_within;
-use crate::texts::{edge_of, rings_of_text};
+use crate::texts::{edge_of, edges_of, four, rings_of_text};
 use cut_detector::{Detector, Proposal, Step, replay};
 use cut_rings::{Edge, Rings};
 use std::alloc::{AllocError, Global};
@@ -8,26 +8,6 @@ use std::test::Fail;
 
 mod recount;
 mod vectors;
-
-fn rings_of(rt: &impl Abort, alloc: Global, nodes: u16, lists: &[&[u16]]) -> Result<Rings, Fail> {
-    let mut made = Vec::new(alloc);
-    for list in lists {
-        made.push(Vec::from_slice(alloc, list)?)?;
-    }
-    assert!(rt; nodes <= 2048 && made.len() <= 32);
-    Ok(Rings::from_lists(alloc, nodes, &made)?)
-}
-
-fn four(rt: &impl Abort, alloc: Global) -> Result<Rings, Fail> {
-    rings_of(rt, alloc, 4, &[&[0, 1, 2, 3], &[0, 2, 1, 3], &[0, 3, 2, 1]])
-}
-
-fn edges_of(alloc: Global, pairs: &[(u8, u16)]) -> Result<Vec<Edge>, AllocError> {
-    pairs
-        .iter()
-        .map(|&(ring, subject)| Edge { ring, subject })
-        .collect(alloc)
-}
 
 // H, L and whether implicit alerts are on, as they are written.
 fn rule_of(text: &str) -> (u8, u8, bool) {

@@ -1,3 +1,4 @@
+use crate::texts::edges_of;
 use cut_draws::{Delivery, DeliveryOrder, Draws, ProcessOrder};
 use cut_rings::Edge;
 use std::alloc::{AllocError, Global};
@@ -116,14 +117,6 @@ fn process_orders(rt: HostRuntime) -> Result<(), Fail> {
         }
     }
     Ok(())
-}
-
-// The edges of these rings and subjects.
-fn edges_of(alloc: Global, pairs: &[(u8, u16)]) -> Result<Vec<Edge>, AllocError> {
-    pairs
-        .iter()
-        .map(|&(ring, subject)| Edge { ring, subject })
-        .collect(alloc)
 }
 
 #[test]

@@ -1,4 +1,4 @@
-//! What is written in the texts of vectors: numbers, rings and edges.
+//! Rings and edges of the tests, of which many are written in texts of vectors.
 
 use cut_rings::{Edge, Rings};
 use std::alloc::{AllocError, Global};
@@ -30,4 +30,17 @@ pub(crate) fn edge_of(word: &str) -> Edge {
         ring: ring.parse::<u8>().unwrap_or(u8::MAX),
         subject: subject.parse::<u16>().unwrap_or(u16::MAX),
     }
+}
+
+/// Four processes on three rings.
+pub(crate) fn four(rt: &impl Abort, alloc: Global) -> Result<Rings, Fail> {
+    rings_of_text(rt, alloc, "0 1 2 3, 0 2 1 3, 0 3 2 1")
+}
+
+/// The edges of these pairs of ring and subject.
+pub(crate) fn edges_of(alloc: Global, pairs: &[(u8, u16)]) -> Result<Vec<Edge>, AllocError> {
+    pairs
+        .iter()
+        .map(|&(ring, subject)| Edge { ring, subject })
+        .collect(alloc)
 }

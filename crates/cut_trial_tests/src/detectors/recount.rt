@@ -2,8 +2,8 @@
 
 ghost use Rattle.std.specs.Prelude.{◌≡◌, ◌<◌, ◌≤◌, length};
 
-use crate::detectors::rings_of;
 use crate::edges::all_within;
+use crate::texts::four;
 use cut_detector::{Proposal, replay};
 use cut_rings::{Edge, Rings};
 use rand_chacha::ChaCha8Rng;
@@ -158,12 +158,7 @@ fn drawn(
 #[test]
 fn masks_propose_what_a_recount_does(rt: HostRuntime) -> Result<(), Fail> {
     let alloc = rt.alloc();
-    let rings = rings_of(
-        &rt,
-        alloc,
-        4,
-        &[&[0, 1, 2, 3], &[0, 2, 1, 3], &[0, 3, 2, 1]],
-    )?;
+    let rings = four(&rt, alloc)?;
     for list in 0..1000 {
         let edges = drawn(alloc, list, 24, 4, 3)?;
         for (h, l) in [(1, 1), (2, 1), (2, 2), (3, 1), (3, 2), (3, 3)] {
