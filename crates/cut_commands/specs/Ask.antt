@@ -1,9 +1,9 @@
 -- What asking a server for the table of a plan leaves, on the program's wire and on the server's.
 use Rattle.std.specs.Prelude.{◌≡◌, ◌<◌, ◌↔◌, ◌⊎◌, ℕ, List, length, Result, Ok, Err, ⊤, IsErrOf}
 use Rattle.cut_table.specs.Traffic.{Traffic, Failed}
-use Rattle.cut_session.specs.Asking.{Asks, wire_failed}
-use Rattle.cut_session.specs.declared.ask_fault.AskFault.{AskFault}
-use Rattle.cut_session.specs.declared.ask_fault.AskFault.TheVariants as ask
+use Rattle.cut_messages.specs.Asking.{Asks, wire_failed}
+use Rattle.cut_messages.specs.declared.ask_fault.AskFault.{AskFault}
+use Rattle.cut_messages.specs.declared.ask_fault.AskFault.TheVariants as ask
 use Rattle.cut_commands.specs.Run.{HasRead, IsReadThrough, IsReadPartly}
 use Rattle.cut_commands.specs.declared.fault.CliFault.{CliFault}
 use Rattle.cut_commands.specs.declared.fault.CliFault.TheVariants.{Memory, Read, Socket, Asked}

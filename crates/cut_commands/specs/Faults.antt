@@ -20,8 +20,8 @@ use Rattle.cut_commands.specs.declared.fault.CliFault.{CliFault}
 use Rattle.cut_pool.specs.declared.run_fault.RunFault.{RunFault}
 use Rattle.cut_pool.specs.declared.run_fault.RunFault.TheVariants as study
 use Rattle.cut_commands.specs.declared.fault.CliFault.TheVariants.{Memory, Plan, Read, Socket, Asked, Write, Journal, Folder, BadSlip, Migrate, Checkpoint, WorkMemory, AuditMismatch}
-use Rattle.cut_session.specs.Asking.{output_failed}
-use Rattle.cut_session.specs.FaultCode.{number_of_ask}
+use Rattle.cut_messages.specs.Asking.{output_failed}
+use Rattle.cut_messages.specs.FaultCode.{number_of_ask}
 
 -- a fault's number in the program's list of faults, or what a server told
 abbrev pub number_of : CliFault → ℕ

@@ -4,7 +4,7 @@ ghost use Rattle.cut_commands.specs.Faults.{failed_calls};
 
 use crate::input::{LIMIT, read_text};
 use crate::{CliFault, StreamWire};
-use cut_session::ask;
+use cut_messages::ask;
 use cut_table::Wire;
 use std::alloc::Global;
 use std::os::unix::net::UnixStream;

@@ -5,9 +5,9 @@ ghost use Rattle.cut_commands.specs.Faults.{code_of, name_of, number_of, status_
 use arrayvec::ArrayString;
 use cut_faults::{FaultCode, status_of_number};
 use cut_journal::{JournalFault, MigrateFault};
+use cut_messages::AskFault;
 use cut_plan::{Field, PlanFault, Refusal};
 use cut_pool::RunFault;
-use cut_session::AskFault;
 use cut_table::Sent;
 use itoa::Buffer;
 use std::alloc::AllocError;

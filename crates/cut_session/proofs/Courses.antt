@@ -6,19 +6,19 @@ use Rattle.std.proofs.Math.Seq.{take-append-add}
 use Rattle.cut_faults.specs.Failures.{one_more}
 use Rattle.cut_board.specs.declared.view.View.{View}
 use Rattle.cut_table.specs.Traffic.{Traffic, Failed, wrote, gave, read_failed}
-use Rattle.cut_session.specs.declared.side.Side.{Side}
-use Rattle.cut_session.specs.declared.side.Side.TheVariants.{Requests}
-use Rattle.cut_session.specs.declared.message.Message.{Message}
-use Rattle.cut_session.specs.declared.fault.StreamFault.{StreamFault}
-use Rattle.cut_session.specs.declared.fault.EndFault.{EndFault}
+use Rattle.cut_messages.specs.declared.side.Side.{Side}
+use Rattle.cut_messages.specs.declared.side.Side.TheVariants.{Requests}
+use Rattle.cut_messages.specs.declared.message.Message.{Message}
+use Rattle.cut_messages.specs.declared.fault.StreamFault.{StreamFault}
+use Rattle.cut_messages.specs.declared.fault.EndFault.{EndFault}
 use Rattle.cut_session.specs.declared.serve.Served.{Served}
 use Rattle.cut_session.specs.declared.session_end.SessionEnd.{SessionEnd}
 use Rattle.cut_session.specs.declared.session_end.SessionEnd.TheVariants as end
 use Rattle.cut_session.specs.declared.session_end.SessionFault.{SessionFault}
 use Rattle.cut_session.specs.declared.session_end.SessionFault.TheVariants as session
 use Rattle.cut_session.specs.FaultCode.{code_of_session}
-use Rattle.cut_session.specs.Frames.{fault_at}
-use Rattle.cut_session.specs.Reading.{Splits, Reading, HasRead, end_of}
+use Rattle.cut_messages.specs.Frames.{fault_at}
+use Rattle.cut_messages.specs.Reading.{Splits, Reading, HasRead, end_of}
 use Rattle.cut_session.specs.Answering.{Rises, error_frame}
 use Rattle.cut_session.specs.Session.{request_limit, Course, IsCourse, IsDue, replies_to, ends_at, failed_by, passed, EndsAs, Ends}
 use Rattle.cut_session.specs.Serving.{Leaves, failed_leaving, IsServing, Goes}

@@ -2,7 +2,7 @@
 use Rattle.std.proofs.Common.{◌≡◌, ◌∙◌, ◌+◌, ◌-◌, ◌<◌, ◌≤◌, ◌++◌, ℕ, List, [], ◌∷◌, length, inl, inr, refl, sym, ap, arith, append_assoc, append-nil, length-append}
 use Rattle.std.proofs.lemmas.Bool.{cases_lt}
 use Rattle.cut_board.specs.declared.view.View.{View}
-use Rattle.cut_session.specs.declared.message.Message.{Message}
+use Rattle.cut_messages.specs.declared.message.Message.{Message}
 use Rattle.cut_session.specs.Answering.{Rises, AnswersAll}
 use Rattle.cut_session.proofs.Turns.{rises_none, rises_on}
 

@@ -5,15 +5,15 @@ use Rattle.std.proofs.Math.Seq.{take-append-add}
 use Rattle.cut_board.specs.declared.view.View.{View}
 use Rattle.cut_table.specs.declared.send.Sent.{Sent}
 use Rattle.cut_table.specs.Traffic.{Traffic, Failed, wrote, write_failed}
-use Rattle.cut_session.specs.declared.side.Side.{Side}
-use Rattle.cut_session.specs.declared.side.Side.TheVariants.{Requests}
-use Rattle.cut_session.specs.declared.message.Message.{Message}
-use Rattle.cut_session.specs.declared.fault.StreamFault.{StreamFault}
+use Rattle.cut_messages.specs.declared.side.Side.{Side}
+use Rattle.cut_messages.specs.declared.side.Side.TheVariants.{Requests}
+use Rattle.cut_messages.specs.declared.message.Message.{Message}
+use Rattle.cut_messages.specs.declared.fault.StreamFault.{StreamFault}
 use Rattle.cut_session.specs.declared.serve.Served.{Served}
 use Rattle.cut_session.specs.declared.session_end.SessionEnd.{SessionEnd}
 use Rattle.cut_session.specs.declared.session_end.SessionEnd.TheVariants as end
 use Rattle.cut_session.specs.declared.session_end.SessionFault.TheVariants as session
-use Rattle.cut_session.specs.Reading.{Splits, Reading, HasRead}
+use Rattle.cut_messages.specs.Reading.{Splits, Reading, HasRead}
 use Rattle.cut_session.specs.Answering.{AnswersAll}
 use Rattle.cut_session.specs.Session.{request_limit, Course, IsCourse, QuitsAtOnce, IsDue, LastReply, passed, EndsAs, Ends}
 use Rattle.cut_session.specs.Serving.{Sends, Leaves, failed_leaving, IsServing}

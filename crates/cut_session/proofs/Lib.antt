@@ -1,10 +1,3 @@
-pub mod Frames
-pub mod Streams
-pub mod Looks
-pub mod Pieces
-pub mod Written
-pub mod Answered
-pub mod Heard
 pub mod Sendings
 pub mod Turns
 pub mod Cuts

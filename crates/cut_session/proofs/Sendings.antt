@@ -19,13 +19,13 @@ use Rattle.cut_pool.specs.Lines.{full_line}
 use Rattle.cut_pool.specs.HallFaults.{code_of_line}
 use Rattle.cut_table.specs.declared.send.Sent.{Sent}
 use Rattle.cut_table.specs.Traffic.{Traffic, wrote, IsSentBetween, SendsAfter}
-use Rattle.cut_session.specs.declared.kind.Kind.{Kind}
-use Rattle.cut_session.specs.declared.kind.Kind.TheVariants as kind
-use Rattle.cut_session.specs.Frames.{frame}
+use Rattle.cut_messages.specs.declared.kind.Kind.{Kind}
+use Rattle.cut_messages.specs.declared.kind.Kind.TheVariants as kind
+use Rattle.cut_messages.specs.Frames.{frame}
 use Rattle.cut_session.specs.Answering.{error_frame, end_frame, row_frame, rows_to, AnswersPlan, AnswersRead, AnswersText}
 use Rattle.cut_session.specs.Serving.{Sends, Replies}
-use Rattle.cut_session.proofs.Frames.{long_frame}
-use Rattle.cut_session.proofs.Written.{wrote_on, cut_first, sent_both}
+use Rattle.cut_messages.proofs.Frames.{long_frame}
+use Rattle.cut_messages.proofs.Written.{wrote_on, cut_first, sent_both}
 
 -- a frame, from what is told of its sending
 pub frame_sends : (before : ℕ) (r : Result ℕ Sent) (k : Kind) (payload : List ℕ) (old new : Traffic)

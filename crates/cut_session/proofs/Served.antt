@@ -4,15 +4,15 @@ use Rattle.std.proofs.lemmas.List.{length-drop, drop_all}
 use Rattle.cut_board.specs.declared.view.View.{View}
 use Rattle.cut_table.specs.declared.send.Sent.{Sent}
 use Rattle.cut_table.specs.Traffic.{Traffic, Failed, after_write}
-use Rattle.cut_session.specs.declared.message.Message.{Message}
-use Rattle.cut_session.specs.declared.fault.StreamFault.{StreamFault}
+use Rattle.cut_messages.specs.declared.message.Message.{Message}
+use Rattle.cut_messages.specs.declared.fault.StreamFault.{StreamFault}
 use Rattle.cut_session.specs.declared.answer.Turn.{Turn}
 use Rattle.cut_session.specs.declared.answer.Turn.TheVariants.{On, Over}
 use Rattle.cut_session.specs.declared.serve.Served.{Served}
 use Rattle.cut_session.specs.declared.session_end.SessionEnd.{SessionEnd}
 use Rattle.cut_session.specs.declared.session_end.SessionEnd.TheVariants as end
 use Rattle.cut_session.specs.declared.session_end.SessionFault.TheVariants as session
-use Rattle.cut_session.specs.Reading.{Reading, HasRead}
+use Rattle.cut_messages.specs.Reading.{Reading, HasRead}
 use Rattle.cut_session.specs.Answering.{AnswersAll}
 use Rattle.cut_session.specs.Session.{request_limit, QuitsAtOnce, Ends}
 use Rattle.cut_session.specs.Serving.{Replies, ServesFirst, ServesAll, Leaves, failed_leaving, IsServing}

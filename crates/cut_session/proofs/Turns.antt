@@ -4,14 +4,14 @@ use Rattle.std.specs.Int.{w32, from_be_bytes}
 use Rattle.cut_board.specs.declared.view.View.{View}
 use Rattle.cut_table.specs.declared.send.Sent.{Sent}
 use Rattle.cut_table.specs.Traffic.{Traffic}
-use Rattle.cut_session.specs.declared.kind.Kind.{Kind}
-use Rattle.cut_session.specs.declared.kind.Kind.TheVariants as kind
-use Rattle.cut_session.specs.declared.message.Message.{Message}
+use Rattle.cut_messages.specs.declared.kind.Kind.{Kind}
+use Rattle.cut_messages.specs.declared.kind.Kind.TheVariants as kind
+use Rattle.cut_messages.specs.declared.message.Message.{Message}
 use Rattle.cut_session.specs.Answering.{Rises, AnswersKind, Answers, AnswersAll}
 use Rattle.cut_session.specs.declared.answer.Turn.{Turn}
 use Rattle.cut_session.specs.declared.answer.Turn.TheVariants.{On, Over}
 use Rattle.cut_session.specs.Serving.{Sends, Replies, Serves, ServesFirst, ServesAll}
-use Rattle.cut_session.proofs.Answered.{take_next}
+use Rattle.cut_messages.proofs.Answered.{take_next}
 use Rattle.cut_session.proofs.Sendings.{sends_behind}
 
 pub rises_none : (v : View) → Rises v v

@@ -19,10 +19,10 @@ use Rattle.cut_pool.specs.declared.submit_fault.SubmitFault.{SubmitFault}
 use Rattle.cut_pool.specs.declared.line_fault.LineFault.{LineFault}
 use Rattle.cut_pool.specs.HallFaults.{code_of_submit, code_of_line}
 use Rattle.cut_pool.specs.Lines.{full_line}
-use Rattle.cut_session.specs.declared.kind.Kind.{Kind}
-use Rattle.cut_session.specs.declared.kind.Kind.TheVariants as kind
-use Rattle.cut_session.specs.declared.message.Message.{Message}
-use Rattle.cut_session.specs.Frames.{frame}
+use Rattle.cut_messages.specs.declared.kind.Kind.{Kind}
+use Rattle.cut_messages.specs.declared.kind.Kind.TheVariants as kind
+use Rattle.cut_messages.specs.declared.message.Message.{Message}
+use Rattle.cut_messages.specs.Frames.{frame}
 
 -- ---- the parts of replies
 

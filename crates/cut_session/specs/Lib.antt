@@ -1,11 +1,4 @@
-pub mod Kinds
-pub mod Frames
-pub mod Reading
-pub mod Fronts
-pub mod Asking
-pub mod Listening
 pub mod FaultCode
 pub mod Answering
 pub mod Session
 pub mod Serving
-pub mod Laws

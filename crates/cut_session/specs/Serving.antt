@@ -3,9 +3,9 @@ use Rattle.std.specs.Prelude.{◌≡◌, ◌≤◌, ◌+◌, ◌++◌, ℕ, List
 use Rattle.cut_board.specs.declared.view.View.{View}
 use Rattle.cut_table.specs.declared.send.Sent.{Sent}
 use Rattle.cut_table.specs.Traffic.{Traffic, Failed, wrote, write_failed, IsSentBetween, SendsAfter}
-use Rattle.cut_session.specs.declared.side.Side.TheVariants.{Requests}
-use Rattle.cut_session.specs.declared.kind.Kind.TheVariants as kind
-use Rattle.cut_session.specs.declared.message.Message.{Message}
+use Rattle.cut_messages.specs.declared.side.Side.TheVariants.{Requests}
+use Rattle.cut_messages.specs.declared.kind.Kind.TheVariants as kind
+use Rattle.cut_messages.specs.declared.message.Message.{Message}
 use Rattle.cut_session.specs.declared.answer.Turn.{Turn}
 use Rattle.cut_session.specs.declared.answer.Turn.TheVariants.{On, Over}
 use Rattle.cut_session.specs.declared.serve.Served.{Served}
@@ -14,7 +14,7 @@ use Rattle.cut_session.specs.declared.session_end.SessionEnd.TheVariants as end
 use Rattle.cut_session.specs.declared.session_end.SessionFault.{SessionFault}
 use Rattle.cut_session.specs.declared.session_end.SessionFault.TheVariants as session
 use Rattle.cut_session.specs.FaultCode.{code_of_session}
-use Rattle.cut_session.specs.Reading.{Reading, HasRead}
+use Rattle.cut_messages.specs.Reading.{Reading, HasRead}
 use Rattle.cut_session.specs.Answering.{Rises, Answers, AnswersAll, error_frame}
 use Rattle.cut_session.specs.Session.{QuitsAtOnce, Ends}
 

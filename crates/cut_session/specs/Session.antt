@@ -3,16 +3,16 @@ use Rattle.std.specs.Prelude.{◌≡◌, ◌<◌, ◌≤◌, ◌⊎◌, ◌++◌
 use Rattle.cut_faults.specs.Failures.{one_more}
 use Rattle.cut_board.specs.declared.view.View.{View}
 use Rattle.cut_table.specs.Traffic.{Traffic, Failed, read_failed, write_failed}
-use Rattle.cut_session.specs.declared.side.Side.TheVariants.{Requests}
-use Rattle.cut_session.specs.declared.kind.Kind.TheVariants as kind
-use Rattle.cut_session.specs.declared.message.Message.{Message}
+use Rattle.cut_messages.specs.declared.side.Side.TheVariants.{Requests}
+use Rattle.cut_messages.specs.declared.kind.Kind.TheVariants as kind
+use Rattle.cut_messages.specs.declared.message.Message.{Message}
 use Rattle.cut_session.specs.declared.session_end.SessionEnd.{SessionEnd}
 use Rattle.cut_session.specs.declared.session_end.SessionEnd.TheVariants.{Quit, EndOfInput, Fault, Write}
 use Rattle.cut_session.specs.declared.session_end.SessionFault.{SessionFault}
 use Rattle.cut_session.specs.declared.session_end.SessionFault.TheVariants as session
 use Rattle.cut_session.specs.FaultCode.{code_of_session}
-use Rattle.cut_session.specs.Frames.{fault_at}
-use Rattle.cut_session.specs.Reading.{Splits}
+use Rattle.cut_messages.specs.Frames.{fault_at}
+use Rattle.cut_messages.specs.Reading.{Splits}
 use Rattle.cut_session.specs.Answering.{AnswersAll, error_frame}
 
 -- how many requests a session answers

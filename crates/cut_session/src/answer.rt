@@ -4,11 +4,11 @@ ghost use Rattle.cut_table.specs.Traffic.{after_write};
 ghost use Rattle.cut_session.specs.Answering.{AnswersCount, Rises};
 ghost use Rattle.cut_session.specs.Serving.{Replies, Serves, ServesAll, IsWithin};
 
-use crate::frame::{send_after, send_fault};
+use crate::fault_reply::send_fault;
 use crate::study::answer_submit;
-use crate::{Kind, Message};
 use cut_board::laws::reads_are_seen;
 use cut_disks::Disk;
+use cut_messages::{Kind, Message, send_after};
 use cut_pool::{Hall, Pass, Shelf, Tally};
 use cut_table::{Sent, Wire};
 use std::alloc::Global;

@@ -1,45 +1,18 @@
-//! Messages between a client and a server of studies: their frames, a reader of a stream of them,
-//! a server of a client's requests, and a client that asks for one table.
-//!
-//! A message is a [`Kind`] and a [`Payload`]. On a wire it is a frame: a byte for the kind, the
-//! payload's length in four bytes, high byte first, and the payload. A [`Reader`] takes a stream in
-//! whatever pieces it comes, gives the messages that are whole, and tells what stands where a
-//! message should: a byte that is no kind of that side, a length above 65,536, or one that is wrong
-//! for the kind, looked for in that order. [`laws`] say that a stream has one reading.
+//! A server of a client's requests, over the messages of [`cut_messages`], which this crate offers too.
 //!
 //! [`session`] serves a client: it reads its requests, answers them from a hall of studies in order,
-//! and tells why it ended. [`ask`] sends a plan and writes the lines of the answer. What they say of
-//! the bytes on their wires holds where those tell what passed; that they tell a failed read or write
-//! only where one failed holds over every wire.
+//! and tells why it ended. What it says of the bytes on its wire holds where that tells what passed; that it
+//! tells a failed read or write only where one failed holds over every wire.
 #![tactic(auto)]
 
 mod answer;
-mod ask_fault;
-mod client;
-mod fault;
-mod fed;
-mod frame;
-mod front;
-mod kind;
-pub mod laws;
-mod message;
-mod payload;
-mod reader;
-mod replies;
+mod fault_reply;
 mod serve;
 mod session_end;
-mod side;
-mod split;
 mod study;
 
-pub use ask_fault::AskFault;
-pub use client::ask;
-pub use fault::{EndFault, StreamFault};
-pub use fed::Fed;
-pub use kind::Kind;
-pub use message::Message;
-pub use payload::Payload;
-pub use reader::Reader;
+pub use cut_messages::{
+    AskFault, EndFault, Fed, Kind, Message, Payload, Reader, Side, StreamFault, ask, laws,
+};
 pub use serve::session;
 pub use session_end::{SessionEnd, SessionFault};
-pub use side::Side;

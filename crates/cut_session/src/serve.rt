@@ -6,9 +6,10 @@ ghost use Rattle.cut_session.specs.Session.{Ends, HasFailed};
 ghost use Rattle.cut_session.specs.Serving.{IsServing, Goes, HasFailedAt, Leaves, LeavesFor, failed_leaving};
 
 use crate::answer::{Turn, answer_all};
-use crate::frame::send_fault;
-use crate::{Reader, SessionEnd, SessionFault};
+use crate::fault_reply::send_fault;
+use crate::{SessionEnd, SessionFault};
 use cut_disks::Disk;
+use cut_messages::Reader;
 use cut_pool::{Hall, Pass, Shelf, Tally};
 use cut_table::Wire;
 use std::alloc::Global;

@@ -1,8 +1,8 @@
 ghost use Rattle.std.specs.Prelude.{◌≡◌};
 ghost use Rattle.cut_session.specs.FaultCode.{code_of_session};
 
-use crate::StreamFault;
 use cut_faults::FaultCode;
+use cut_messages::StreamFault;
 use std::fmt;
 use thiserror::Error;
 

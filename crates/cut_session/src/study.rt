@@ -5,11 +5,11 @@ ghost use Rattle.cut_pool.specs.Lines.{full_line};
 ghost use Rattle.cut_session.specs.Answering.{AnswersPlan, AnswersText};
 ghost use Rattle.cut_session.specs.Serving.{Replies};
 
-use crate::Kind;
-use crate::frame::{send_after, send_fault};
+use crate::fault_reply::send_fault;
 use cut_disks::Disk;
 use cut_faults::FaultCode;
 use cut_lines::header;
+use cut_messages::{Kind, send_after};
 use cut_plan::{Plan, PlanFault};
 use cut_pool::{Hall, LineFault, Opened, Pass, Shelf, Tally};
 use cut_table::{Sent, Wire};

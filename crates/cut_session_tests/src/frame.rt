@@ -1,5 +1,5 @@
 ghost use Rattle.std.specs.Prelude.{◌≡◌, ◌≤◌, length, IfOk};
-ghost use Rattle.cut_session.specs.Frames.{frame};
+ghost use Rattle.cut_messages.specs.Frames.{frame};
 
 use cut_session::Kind;
 use std::alloc::{AllocError, Global};

@@ -3,7 +3,7 @@ use Rattle.cut_plan.specs.Cells.{cells_of}
 use Rattle.cut_plan.specs.Values.{Values}
 use Rattle.cut_table.specs.Traffic.{Traffic}
 use Rattle.cut_ledger.specs.declared.slip.Slip.{Slip}
-use Rattle.cut_session.specs.declared.kind.Kind.TheVariants as kind
+use Rattle.cut_messages.specs.declared.kind.Kind.TheVariants as kind
 use Rattle.cut_pool.specs.Lines.{full_line}
 use Rattle.cut_session.proofs.Sendings.{long_first, long_next, frame_sends, first_rows, next_rows, cut_rows, whole_table, broken_off}
 use Rattle.cut_session.proofs.study.send_table.Goals as goal

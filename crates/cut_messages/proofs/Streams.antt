@@ -1,0 +1,113 @@
+-- A stream has one reading.
+use Rattle.std.proofs.Common.{◌≡◌, ◌∙◌, ◌+◌, ◌*◌, ◌≤◌, ◌++◌, ℕ, List, [], ◌∷◌, length, take, drop, Some, refl, sym, ap, arith, append_assoc, append-nil, length-append}
+use Rattle.std.specs.List.{AllByRecursion, flat_map}
+use Rattle.std.specs.Int.{w32, to_be_bytes, from_be_bytes}
+use Rattle.std.proofs.lemmas.List.{take_at, drop_at}
+use Rattle.std.proofs.lemmas.List.Concat.{flat_map-append}
+use Rattle.std.proofs.Math.Seq.{drop-drop}
+use Rattle.cut_messages.specs.declared.kind.Kind.{Kind}
+use Rattle.cut_messages.specs.declared.side.Side.{Side}
+use Rattle.cut_messages.specs.declared.message.Message.{Message}
+use Rattle.cut_messages.specs.Kinds.{byte_of, kind_at}
+use Rattle.cut_messages.specs.Frames.{frame_of, IsMessage}
+use Rattle.cut_messages.specs.Reading.{HasNoMessage}
+use Rattle.cut_messages.specs.Fronts.{message_in, IsWhole}
+use Rattle.cut_messages.specs.Laws.{ReadingsAgree, MessagesTakeRoom, FaultsStay}
+use Rattle.cut_messages.proofs.Frames.{long_frame, behind_four, length_told, fault_more, no_message}
+
+same_message : (m n : Message) → m.kind ≡ n.kind → m.payload ≡ n.payload → m ≡ n
+same_message m n kinds payloads =
+    let made : Kind → List ℕ → Message = λ kind payload. record { kind = kind; payload = payload } in
+    ap (λ kind. made kind m.payload) kinds ∙ ap (made n.kind) payloads
+
+same_tail : (a b : ℕ) (xs ys : List ℕ) → a ∷ xs ≡ b ∷ ys → (a ≡ b) × (xs ≡ ys)
+same_tail a b xs ys same = ((cc), (cc))
+
+same_some : (a b : Kind) → Some a ≡ Some b → a ≡ b
+same_some a b same = cc
+
+-- two messages at the front of the same bytes are one
+one_frame : (side : Side) (m n : Message) (t u : List ℕ) → IsMessage side m → IsMessage side n
+    → frame_of m ++ t ≡ frame_of n ++ u → (m ≡ n) × (t ≡ u)
+one_frame side m n t u is is_too same =
+    let parts = same_tail (byte_of m.kind) (byte_of n.kind)
+    ((to_be_bytes w32 (length m.payload) ++ m.payload) ++ t)
+    ((to_be_bytes w32 (length n.payload) ++ n.payload) ++ u) same in
+    let kinds : m.kind ≡ n.kind =
+    same_some m.kind n.kind (sym is.kind ∙ ap (kind_at side) parts.0 ∙ is_too.kind) in
+    let long : length m.payload ≡ length n.payload =
+    sym (length_told m.payload t is.short) ∙ ap (λ (l : List ℕ). from_be_bytes w32 (take 4 l)) parts.1
+    ∙ length_told n.payload u is_too.short in
+    let rest : m.payload ++ t ≡ n.payload ++ u =
+    sym (behind_four m.payload t) ∙ ap (drop 4) parts.1 ∙ behind_four n.payload u in
+    let payloads : m.payload ≡ n.payload =
+    sym (take_at m.payload t (length m.payload) refl) ∙ ap (take (length m.payload)) rest
+    ∙ take_at n.payload u (length m.payload) (sym long) in
+    let tails : t ≡ u =
+    sym (drop_at m.payload t (length m.payload) refl) ∙ ap (drop (length m.payload)) rest
+    ∙ drop_at n.payload u (length m.payload) (sym long) in
+    (same_message m n kinds payloads, tails)
+
+one_reading : (side : Side) (ms ns : List Message) (r s : List ℕ)
+    → AllByRecursion (IsMessage side) ms → AllByRecursion (IsMessage side) ns
+    → HasNoMessage side r → HasNoMessage side s
+    → flat_map frame_of ms ++ r ≡ flat_map frame_of ns ++ s → (ms ≡ ns) × (r ≡ s)
+one_reading side [] [] r s are are_too none none_too same = (refl, same)
+one_reading side [] (n ∷ ns) r s are are_too none none_too same =
+    absurd (none n (flat_map frame_of ns ++ s) are_too.0
+    (same ∙ append_assoc (frame_of n) (flat_map frame_of ns) s))
+one_reading side (m ∷ ms) [] r s are are_too none none_too same =
+    absurd (none_too m (flat_map frame_of ms ++ r) are.0
+    (sym same ∙ append_assoc (frame_of m) (flat_map frame_of ms) r))
+one_reading side (m ∷ ms) (n ∷ ns) r s are are_too none none_too same =
+    let front = one_frame side m n (flat_map frame_of ms ++ r) (flat_map frame_of ns ++ s) are.0 are_too.0
+    (sym (append_assoc (frame_of m) (flat_map frame_of ms) r) ∙ same
+    ∙ append_assoc (frame_of n) (flat_map frame_of ns) s) in
+    let rest = one_reading side ms ns r s are.1 are_too.1 none none_too front.1 in
+    (ap (λ (x : Message). x ∷ ms) front.0 ∙ ap (λ (xs : List Message). n ∷ xs) rest.0, rest.1)
+
+pub agree : ReadingsAgree
+agree side stream ms ns r s splits splits_too =
+    one_reading side ms ns r s splits.each splits_too.each splits.last splits_too.last
+    (sym splits.whole ∙ splits_too.whole)
+
+-- what holds of each of two lists holds of each of both
+pub both : (P : Message → Type 0) (xs ys : List Message) → AllByRecursion P xs → AllByRecursion P ys
+    → AllByRecursion P (xs ++ ys)
+both P [] ys first second = second
+both P (x ∷ xs) ys first second = (first.0, both P xs ys first.1 second)
+
+-- a message more is read
+pub one_more : (side : Side) (bytes : List ℕ) (messages : List Message) (read n : ℕ) (kind : Kind)
+    → bytes ≡ flat_map frame_of messages ++ drop read bytes → IsWhole side (drop read bytes) kind n
+    → bytes ≡ flat_map frame_of (messages ++ message_in (drop read bytes) kind n ∷ [])
+    ++ drop (read + (5 + n)) bytes
+one_more side bytes messages read n kind stands is =
+    let m : Message = message_in (drop read bytes) kind n in
+    stands ∙ ap (λ (l : List ℕ). flat_map frame_of messages ++ l) is.stands
+    ∙ sym (append_assoc (flat_map frame_of messages) (frame_of m) (drop (5 + n) (drop read bytes)))
+    ∙ ap (λ (l : List ℕ). (flat_map frame_of messages ++ l) ++ drop (5 + n) (drop read bytes))
+    (sym (append-nil (frame_of m)))
+    ∙ ap (λ (l : List ℕ). l ++ drop (5 + n) (drop read bytes))
+    (sym (flat_map-append frame_of messages (m ∷ [])))
+    ∙ ap (λ (l : List ℕ). flat_map frame_of (messages ++ m ∷ []) ++ l) (drop-drop (5 + n) read bytes)
+
+frames_room : (side : Side) (ms : List Message) → AllByRecursion (IsMessage side) ms
+    → (5 * length ms ≤ length (flat_map frame_of ms)) × (length (flat_map frame_of ms) ≤ 65541 * length ms)
+frames_room side [] are = (omega arith, omega arith)
+frames_room side (m ∷ ms) are =
+    let rest = frames_room side ms are.1 in
+    let size : length (flat_map frame_of (m ∷ ms)) ≡ 5 + length m.payload + length (flat_map frame_of ms) =
+    length-append (frame_of m) (flat_map frame_of ms)
+    ∙ ap (λ n. n + length (flat_map frame_of ms)) (long_frame m.kind m.payload) in
+    (omega (arith, rest.0, size), omega (arith, rest.1, size, are.0.short))
+
+pub room : MessagesTakeRoom
+room side stream ms r splits =
+    let frames = frames_room side ms splits.each in
+    let size : length stream ≡ length (flat_map frame_of ms) + length r =
+    ap (λ (l : List ℕ). length l) splits.whole ∙ length-append (flat_map frame_of ms) r in
+    (omega (arith, frames.0, size), omega (arith, frames.1, size))
+
+pub stay : FaultsStay
+stay side bytes more fault wrong = (fault_more side bytes more fault wrong, no_message side bytes fault wrong)

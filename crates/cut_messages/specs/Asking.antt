@@ -1,0 +1,143 @@
+-- What a client does that asks for one table.
+use Rattle.std.specs.Prelude.{◌≡◌, ◌^◌, ◌<◌, ◌≤◌, ◌++◌, ℕ, Bool, true, false, List, [], ◌∷◌}
+use Rattle.std.specs.Prelude.{length, take}
+use Rattle.std.specs.Prelude.{Some, None, Result, Ok, Err, ⊤}
+use Rattle.std.specs.List.{AllByRecursion, flat_map}
+use Rattle.std.specs.Int.{w16, from_be_bytes}
+use Rattle.cut_faults.specs.Failures.{one_more}
+use Rattle.cut_table.specs.Traffic.{Traffic, Failed, wrote, read_failed, write_failed}
+use Rattle.cut_messages.specs.declared.side.Side.TheVariants.{Replies}
+use Rattle.cut_messages.specs.declared.kind.Kind.{Kind}
+use Rattle.cut_messages.specs.declared.kind.Kind.TheVariants as kind
+use Rattle.cut_messages.specs.declared.message.Message.{Message}
+use Rattle.cut_messages.specs.declared.ask_fault.AskFault.{AskFault}
+use Rattle.cut_messages.specs.declared.ask_fault.AskFault.TheVariants as ask
+use Rattle.cut_messages.specs.declared.replies.Progress.{Progress}
+use Rattle.cut_messages.specs.declared.replies.Progress.TheVariants.{More, Done}
+use Rattle.cut_messages.specs.Frames.{frame, fault_at}
+use Rattle.cut_messages.specs.Reading.{Splits}
+
+-- what it sends: the plan, and that no further request comes
+abbrev pub request : List ℕ → List ℕ
+request plan = frame kind.Submit plan ++ frame kind.Quit []
+
+-- whether a reply is the last that it wants: the table is whole, or the request failed
+abbrev pub is_last : Kind → Bool
+is_last kind.Done = true
+is_last kind.Fault = true
+is_last other = false
+
+abbrev pub GoesOn : Message → Type 0
+GoesOn m = is_last m.kind ≡ false
+
+-- the line of the table that a reply carries
+abbrev pub line_in : Kind → List ℕ → List ℕ
+line_in kind.Row payload = payload
+line_in other payload = []
+
+abbrev pub line_of : Message → List ℕ
+line_of m = line_in m.kind m.payload
+
+abbrev pub lines_of : List Message → List ℕ
+lines_of messages = flat_map line_of messages
+
+-- a reply at which it stops: none before it is a last one
+pub record Stop (messages : List Message) : Type 0 where
+  pub before : List Message
+  pub here : Message
+  pub after : List Message
+  pub parts : messages ≡ before ++ here ∷ after
+  pub passed : AllByRecursion GoesOn before
+
+-- some first bytes were written, and not all
+abbrev pub IsCutOff : List ℕ → Traffic → Traffic → Type 0
+IsCutOff bytes old new = (n : ℕ) × (n < length bytes) × (new ≡ wrote old (take n bytes))
+
+-- what an output took of replies: the lines of all of them, where none is a last one; or those
+-- before the one at which it stops, which says that the table is whole, or tells a fault's number,
+-- or has a line of which a part was written
+abbrev pub Passes : List Message → Result Progress AskFault → Traffic → Traffic → Type 0
+Passes messages (Ok More) old new =
+    AllByRecursion GoesOn messages × (new ≡ wrote old (lines_of messages))
+Passes messages (Ok Done) old new =
+    (s : Stop messages) × (s.here.kind ≡ kind.Done) × (new ≡ wrote old (lines_of s.before))
+Passes messages (Err (ask.Told n)) old new =
+    (s : Stop messages) × (s.here.kind ≡ kind.Fault) × (n ≡ from_be_bytes w16 s.here.payload)
+    × (new ≡ wrote old (lines_of s.before))
+Passes messages (Err ask.Output) old new =
+    (s : Stop messages) × (s.here.kind ≡ kind.Row)
+    × IsCutOff s.here.payload (wrote old (lines_of s.before)) new
+Passes messages (Err fault) old new = ⊥
+
+-- why it stopped, where it sent its request, and what its output took then, by the replies of the
+-- stream that was read and by what stands behind them
+abbrev pub Concludes : Result ⊤ AskFault → List ℕ → List Message → List ℕ → Traffic → Traffic
+    → Type 0
+Concludes (Ok done) stream messages rest old new = Passes messages (Ok Done) old new
+Concludes (Err (ask.Told n)) stream messages rest old new =
+    Passes messages (Err (ask.Told n)) old new
+Concludes (Err ask.Output) stream messages rest old new = Passes messages (Err ask.Output) old new
+Concludes (Err ask.Memory) stream messages rest old new = Passes messages (Ok More) old new
+Concludes (Err (ask.Stream fault)) stream messages rest old new =
+    Passes messages (Ok More) old new × (fault_at Replies rest ≡ Some fault)
+Concludes (Err ask.Endless) stream messages rest old new =
+    Passes messages (Ok More) old new × (fault_at Replies rest ≡ None) × (2 ^ 32 ≤ length stream)
+Concludes (Err ask.Truncated) stream messages rest old new =
+    Passes messages (Ok More) old new × (fault_at Replies rest ≡ None)
+Concludes (Err ask.Read) stream messages rest old new =
+    Passes messages (Ok More) old new × (fault_at Replies rest ≡ None)
+Concludes (Err ask.PlanTooLong) stream messages rest old new = ⊥
+Concludes (Err ask.Request) stream messages rest old new = ⊥
+
+-- what the last read gave and no reader took: nothing, but where memory ran out
+abbrev pub IsUnread : Result ⊤ AskFault → List ℕ → Type 0
+IsUnread (Err ask.Memory) last = length last ≤ 4096
+IsUnread result last = last ≡ []
+
+-- how many reads gave the end: one more exactly where the answer ended before the table did
+abbrev pub ends_after : Result ⊤ AskFault → ℕ → ℕ
+ends_after (Err ask.Truncated) n = one_more n
+ends_after result n = n
+
+-- a wire that took the request, and gave these bytes
+abbrev pub heard : List ℕ → List ℕ → Traffic → Traffic
+heard plan given old =
+    record { taken = old.taken ++ request plan; given = old.given ++ given; ends = old.ends }
+
+-- the whole request was sent, a stream was read, and the asking ended for what stands in it
+pub record Hears (plan : List ℕ) (result : Result ⊤ AskFault) (old new out_old out_new : Traffic)
+    : Type 0 where
+  pub stream : List ℕ
+  pub messages : List Message
+  pub rest : List ℕ
+  pub last : List ℕ
+  pub splits : Splits Replies stream messages rest
+  pub ends : Concludes result stream messages rest out_old out_new
+  pub unread : IsUnread result last
+  pub wire : new ≡ record (heard plan (stream ++ last) old) { ends = ends_after result old.ends }
+
+-- what passed over the wire and the output: nothing, where the plan is too long; a part of the
+-- request, where a write of it failed; else the request and an answer
+abbrev pub Asks : List ℕ → Result ⊤ AskFault → Traffic → Traffic → Traffic → Traffic → Type 0
+Asks plan (Err ask.PlanTooLong) old new out_old out_new = (new ≡ old) × (out_new ≡ out_old)
+Asks plan (Err ask.Request) old new out_old out_new =
+    IsCutOff (request plan) old new × (out_new ≡ out_old)
+Asks plan result old new out_old out_new = Hears plan result old new out_old out_new
+
+-- the same over a wire of which nothing is known: what the output took are lines of some answer
+abbrev pub AsksSomeone : List ℕ → Result ⊤ AskFault → Traffic → Traffic → Type 0
+AsksSomeone plan result out_old out_new = (old : Traffic) × (new : Traffic) × Asks plan result old new out_old out_new
+
+-- ---- calls that failed
+
+-- of the wire: one write exactly where a write of the request failed, one read exactly where a read
+-- failed
+abbrev pub wire_failed : Result ⊤ AskFault → Failed → Failed
+wire_failed (Err ask.Request) f = write_failed f
+wire_failed (Err ask.Read) f = read_failed f
+wire_failed result f = f
+
+-- of the output: one write exactly where a write of a line failed
+abbrev pub output_failed : {T : Type 0} → Result T AskFault → Failed → Failed
+output_failed (Err ask.Output) f = write_failed f
+output_failed result f = f

@@ -1,0 +1,8 @@
+pub mod Kinds
+pub mod Frames
+pub mod Reading
+pub mod Fronts
+pub mod Asking
+pub mod Listening
+pub mod FaultCode
+pub mod Laws

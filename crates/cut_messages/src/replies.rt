@@ -1,0 +1,98 @@
+ghost use Rattle.std.specs.Prelude.{◌≡◌, ◌↔◌, [], ◌∷◌, List, ℕ, take, IfErr};
+ghost use Rattle.std.specs.Int.{w16, from_be_bytes};
+ghost use Rattle.cut_messages.specs.declared.message.Message.{Message};
+ghost use Rattle.cut_messages.specs.Reading.{HasRead};
+ghost use Rattle.cut_messages.specs.Asking.{Passes, output_failed};
+ghost use Rattle.cut_messages.specs.Listening.{IsOfReplies, Steps};
+
+use crate::{AskFault, Kind, Message, Reader};
+use cut_table::{Wire, send_all};
+use std::alloc::Global;
+
+/// Whether an answer is at its end.
+#[derive(Clone, Copy)]
+pub(crate) enum Progress {
+    /// It has more to come.
+    More,
+    /// The table is whole.
+    Done,
+}
+
+/// Takes the next piece of an answer, and writes the lines that it completes.
+pub(crate) fn take_piece<O: Wire>(
+    alloc: Global,
+    reader: &mut Reader,
+    piece: &[u8],
+    output: &mut O,
+) -> Result<Progress, AskFault>
+    ensures told { (stream : List ℕ) (messages : List Message) →
+        HasRead reader.old stream messages → O.tells output.old →
+        Steps result reader.old reader.new stream piece.now messages
+        (O.traffic output.old) (O.traffic output.new) }
+    ensures kinds { IfErr result IsOfReplies }
+    ensures side { reader.new.side ≡ reader.old.side }
+    ensures tells { O.tells output.old ↔ O.tells output.new }
+    ensures faults { O.faults output.new ≡ output_failed result (O.faults output.old) }
+{
+    let fed = match reader.feed(alloc, piece) {
+        Ok(fed) => fed,
+        Err(_) => return Err(AskFault::Memory),
+    };
+    match pass_all(fed.messages.as_slice(), output) {
+        Ok(Progress::More) => match fed.fault {
+            Some(fault) => Err(AskFault::Stream(fault)),
+            None => Ok(Progress::More),
+        },
+        Ok(Progress::Done) => Ok(Progress::Done),
+        Err(fault) => Err(fault),
+    }
+}
+
+/// Writes the lines of replies, up to the first that is a last one.
+fn pass_all<O: Wire>(messages: &[Message], output: &mut O) -> Result<Progress, AskFault>
+    ensures told { O.tells output.old →
+        Passes messages.now result (O.traffic output.old) (O.traffic output.new) }
+    ensures kinds { IfErr result IsOfReplies }
+    ensures tells { O.tells output.old ↔ O.tells output.new }
+    ensures faults { O.faults output.new ≡ output_failed result (O.faults output.old) }
+{
+    for message in messages {
+        match pass(message, output) {
+            Ok(Progress::More) => {}
+            Ok(Progress::Done) => return Ok(Progress::Done),
+            Err(fault) => return Err(fault),
+        }
+    }
+    Ok(Progress::More)
+}
+
+/// Writes the line of one reply, if it has one.
+fn pass<O: Wire>(message: &Message, output: &mut O) -> Result<Progress, AskFault>
+    ensures told { O.tells output.old →
+        Passes (message.now ∷ []) result (O.traffic output.old) (O.traffic output.new) }
+    ensures kinds { IfErr result IsOfReplies }
+    ensures tells { O.tells output.old ↔ O.tells output.new }
+    ensures faults { O.faults output.new ≡ output_failed result (O.faults output.old) }
+{
+    let payload = message.payload.as_slice();
+    match message.kind {
+        Kind::Row => match send_all(output, payload) {
+            Ok(()) => Ok(Progress::More),
+            Err(_) => Err(AskFault::Output),
+        },
+        Kind::Done => Ok(Progress::Done),
+        Kind::Fault => Err(AskFault::Told(number_in(payload))),
+        Kind::Submit | Kind::Count | Kind::Quit => Ok(Progress::More),
+    }
+}
+
+/// The number that stands in the first two bytes.
+fn number_in(bytes: &[u8]) -> u16
+    ensures { result ≡ from_be_bytes w16 bytes.now }
+{
+    match bytes {
+        [high, low, ..] => u16::from_be_bytes([*high, *low]),
+        [high] => u16::from_be_bytes([*high, 0]),
+        [] => 0,
+    }
+}
