@@ -1,5 +1,5 @@
 use crate::texts::{edges_of, four, numbers, rings_of_text};
-use cut_alerts::{Roles, alerts, alerts_into, is_alert};
+use cut_alerts::{Roles, RolesFault, alerts, alerts_into, is_alert};
 use cut_draws::{Draws, ProcessOrder};
 use cut_plan::{Dead, Faults, Plan};
 use cut_rings::{Edge, Rings};
@@ -126,19 +126,34 @@ fn alerts_as_computed_elsewhere(rt: HostRuntime) -> Result<(), Fail> {
     Ok(())
 }
 
-#[test]
-fn alerts_of_crashed_and_deaf_targets(rt: HostRuntime) -> Result<(), Fail> {
-    let alloc = rt.alloc();
-    let rings = four(&rt, alloc)?;
+// The alerts about a crashed and a deaf target.
+fn check_mixed(rt: &impl Abort, alloc: Global, rings: &Rings) -> Result<(), Fail> {
     let roles = Roles::given_mixed(alloc, 4, &[2], &[1], &[], &[], Dead::Silent)?;
     assert!(rt; roles.nodes() == 4 && rings.nodes() == 4 && rings.len() == 3);
-    let found = alerts(alloc, &rings, 3, &roles)?;
-    let about = [(2, 0), (0, 1), (0, 2), (1, 2), (2, 2), (1, 3)];
-    assert_eq!(rt; found.as_slice(), edges_of(alloc, &about)?.as_slice());
-    match Roles::given_mixed(alloc, 4, &[1], &[1], &[], &[], Dead::Silent) {
-        Ok(_) => Err("roles were given")?,
-        Err(fault) => assert_eq!(rt; fault.to_string(alloc)?.as_str(), "13 BadRole"),
+    let found = alerts(alloc, rings, 3, &roles)?;
+    assert!(rt; edges_text(alloc, &found)?.as_str() == "2.0 0.1 0.2 1.2 2.2 1.3");
+    Ok(())
+}
+
+#[test]
+fn alerts_of_crashed_and_deaf_targets(rt: HostRuntime) -> Result<(), Fail> {
+    let rings = four(&rt, rt.alloc())?;
+    check_mixed(&rt, rt.alloc(), &rings)
+}
+
+// Whether no roles were given, and this is told.
+fn is_refused(alloc: Global, given: Result<Roles, RolesFault>) -> Result<bool, AllocError> {
+    match given {
+        Ok(_) => Ok(false),
+        Err(fault) => Ok(fault.to_string(alloc)?.as_str() == "13 BadRole"),
     }
+}
+
+#[test]
+fn a_target_crashed_and_deaf_is_refused(rt: HostRuntime) -> Result<(), Fail> {
+    let alloc = rt.alloc();
+    let given = Roles::given_mixed(alloc, 4, &[1], &[1], &[], &[], Dead::Silent);
+    assert!(rt; is_refused(alloc, given)?);
     Ok(())
 }
 
@@ -155,94 +170,99 @@ fn roles_that_are_refused(rt: HostRuntime) -> Result<(), Fail> {
         (&[], &[3, 3], &[]),
     ];
     for (targets, liars, links) in rows {
-        match Roles::given(alloc, 4, targets, liars, links, Faults::Crash, Dead::Silent) {
-            Ok(_) => Err("roles were given")?,
-            Err(fault) => {
-                let text = fault.to_string(alloc)?;
-                assert_eq!(rt;
-                    text.as_str(),
-                    "13 BadRole",
-                    "of {targets:?} {liars:?} {links:?}"
-                );
-            }
-        }
+        let given = Roles::given(alloc, 4, targets, liars, links, Faults::Crash, Dead::Silent);
+        assert!(rt;
+            is_refused(alloc, given)?,
+            "of {targets:?} {liars:?} {links:?}"
+        );
     }
     Ok(())
 }
 
-#[test]
-fn a_list_is_filled_again(rt: HostRuntime) -> Result<(), Fail> {
-    let alloc = rt.alloc();
-    let rings = four(&rt, alloc)?;
+// The alerts of two rings, then of no target, are in a list that had more.
+fn check_filled(rt: &impl Abort, alloc: Global, rings: &Rings) -> Result<(), Fail> {
     assert!(rt; rings.nodes() == 4 && rings.len() == 3);
     let roles = Roles::given(alloc, 4, &[1], &[], &[], Faults::Crash, Dead::Silent)?;
     let none = Roles::given(alloc, 4, &[], &[], &[], Faults::Crash, Dead::Silent)?;
     assert!(rt; roles.nodes() == 4 && none.nodes() == 4);
     let mut edges = Vec::new(alloc);
-    alerts_into(&mut edges, &rings, 3, &roles)?;
-    assert_eq!(rt; edges.len(), 3);
-    alerts_into(&mut edges, &rings, 2, &roles)?;
-    assert_eq!(rt;
-        edges.as_slice(),
-        edges_of(alloc, &[(0, 1), (1, 1)])?.as_slice()
-    );
-    alerts_into(&mut edges, &rings, 3, &none)?;
-    assert!(rt; edges.is_empty());
+    alerts_into(&mut edges, rings, 3, &roles)?;
+    let three = edges.len();
+    alerts_into(&mut edges, rings, 2, &roles)?;
+    let is_two = edges_text(alloc, &edges)?.as_str() == "0.1 1.1";
+    alerts_into(&mut edges, rings, 3, &none)?;
+    assert!(rt; three == 3 && is_two && edges.is_empty());
+    Ok(())
+}
+
+#[test]
+fn a_list_is_filled_again(rt: HostRuntime) -> Result<(), Fail> {
+    let rings = four(&rt, rt.alloc())?;
+    check_filled(&rt, rt.alloc(), &rings)
+}
+
+// Process 1 is a target, and an edge to it alerts.
+fn check_target(rt: &impl Abort, alloc: Global, rings: &Rings) -> Result<(), Fail> {
+    let roles = Roles::given(alloc, 4, &[1], &[], &[], Faults::Crash, Dead::Silent)?;
+    assert!(rt; roles.nodes() == 4 && rings.nodes() == 4 && rings.len() == 3);
+    let edge = |subject| Edge { ring: 0, subject };
+    let targets = [roles.is_target(1), roles.is_target(0)];
+    let edges = [
+        is_alert(rings, &roles, edge(1)),
+        is_alert(rings, &roles, edge(2)),
+    ];
+    assert!(rt; targets == [true, false] && edges == [true, false]);
     Ok(())
 }
 
 #[test]
 fn a_target_and_an_edge(rt: HostRuntime) -> Result<(), Fail> {
-    let alloc = rt.alloc();
-    let rings = four(&rt, alloc)?;
-    let roles = Roles::given(alloc, 4, &[1], &[], &[], Faults::Crash, Dead::Silent)?;
-    assert!(rt; roles.nodes() == 4 && rings.nodes() == 4 && rings.len() == 3);
-    assert!(rt; roles.is_target(1) && !roles.is_target(0));
-    let seen = Edge {
-        ring: 0,
-        subject: 1,
-    };
-    let unseen = Edge {
-        ring: 0,
-        subject: 2,
-    };
-    assert!(rt; is_alert(&rings, &roles, seen) && !is_alert(&rings, &roles, unseen));
+    let rings = four(&rt, rt.alloc())?;
+    check_target(&rt, rt.alloc(), &rings)
+}
+
+// The roles of a trial, drawn for it and drawn once more.
+fn drawn_twice(
+    rt: &impl Abort,
+    alloc: Global,
+    plan: &Plan,
+    rings: &Rings,
+    trial: u32,
+) -> Result<Roles, Fail> {
+    assert!(rt; plan.cells() > 0 && rings.nodes() == plan.nodes());
+    let mut draws = Draws::new(plan.seed(), trial);
+    let mut roles = Roles::of_trial(alloc, plan, plan.cell(0), &mut draws, rings)?;
+    let mut order = ProcessOrder::new(alloc);
+    roles.draw(plan, plan.cell(0), &mut draws, &mut order, rings)?;
+    Ok(roles)
+}
+
+// Each process has the same role in both, and the dead do the same.
+fn check_same(rt: &impl Abort, found: &Roles, wanted: &Roles, trial: u32) -> Result<(), Fail> {
+    let nodes = wanted.nodes();
+    assert!(rt;
+        found.nodes() == nodes && found.dead() == wanted.dead(),
+        "{trial}"
+    );
+    for process in 0..nodes {
+        let is_same = found.role(process) == wanted.role(process);
+        assert!(rt; is_same, "role of {process} in {trial}");
+    }
     Ok(())
 }
 
-// The roles that a trial draws are those of these lists.
+// The roles that a trial of a plan draws are those of these lists.
 fn check_drawn(
     rt: &impl Abort,
     alloc: Global,
-    text: &str,
+    plan: &Plan,
     trial: u32,
     (targets, liars, links): Lists,
 ) -> Result<(), Fail> {
-    let plan = Plan::from_json(alloc, text.as_bytes())?;
-    let rings = Rings::hashed(alloc, &plan)?;
-    let mut draws = Draws::new(plan.seed(), trial);
-    assert!(rt; plan.cells() > 0);
-    let mut drawn = Roles::of_trial(alloc, &plan, plan.cell(0), &mut draws, &rings)?;
-    let mut order = ProcessOrder::new(alloc);
-    drawn.draw(&plan, plan.cell(0), &mut draws, &mut order, &rings)?;
-    let nodes = plan.nodes();
-    let given = Roles::given(
-        alloc,
-        nodes,
-        targets,
-        liars,
-        links,
-        plan.faults().ok_or("targets that fail in one way")?,
-        plan.dead(),
-    )?;
-    assert!(rt; drawn.nodes() == nodes && given.nodes() == nodes);
-    for process in 0..nodes {
-        assert_eq!(rt;
-            drawn.role(process),
-            given.role(process),
-            "role of {process} in {trial}"
-        );
-    }
-    assert_eq!(rt; drawn.dead(), given.dead());
-    Ok(())
+    let (nodes, dead) = (plan.nodes(), plan.dead());
+    let faults = plan.faults().ok_or("targets that fail in one way")?;
+    let rings = Rings::hashed(alloc, plan)?;
+    let found = drawn_twice(rt, alloc, plan, &rings, trial)?;
+    let wanted = Roles::given(alloc, nodes, targets, liars, links, faults, dead)?;
+    check_same(rt, &found, &wanted, trial)
 }

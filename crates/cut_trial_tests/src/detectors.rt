@@ -119,21 +119,24 @@ fn check_both(
     Ok(())
 }
 
-// Of these alerts only those about process 1 come on two rings or more, so it is proposed with the last
-// of its three.
-#[test]
-fn no_order_matters_above_the_low_watermark(rt: HostRuntime) -> Result<(), Fail> {
-    let alloc = rt.alloc();
-    let rings = four(&rt, alloc)?;
+// Of these alerts only those about process 1 come on two rings or more, so in each order it is proposed with the
+// last of its three.
+fn check_orders(rt: &impl Abort, alloc: Global, rings: &Rings) -> Result<(), Fail> {
     let pairs = [(0, 1), (1, 1), (2, 1), (0, 2), (1, 3), (2, 0)];
     for number in 0..720 {
         let order = ordered(pairs, number);
         let last = order.iter().rposition(|&(_, subject)| subject == 1);
         let at = last.ok_or("no alert about process 1")? as u64 + 1;
         let edges = edges_of(alloc, &order)?;
-        check_both(&rt, alloc, &rings, &edges, at)?;
+        check_both(rt, alloc, rings, &edges, at)?;
     }
     Ok(())
+}
+
+#[test]
+fn no_order_matters_above_the_low_watermark(rt: HostRuntime) -> Result<(), Fail> {
+    let rings = four(&rt, rt.alloc())?;
+    check_orders(&rt, rt.alloc(), &rings)
 }
 
 // Whether a detector proposes these members, and proposed them at this delivery.
@@ -147,40 +150,36 @@ fn proposes(
     Ok(proposal.at == at && proposal.members.into_vec().as_slice() == members)
 }
 
-#[test]
-fn a_settled_detector_stays_until_it_is_reset(rt: HostRuntime) -> Result<(), Fail> {
-    let alloc = rt.alloc();
-    let rings = four(&rt, alloc)?;
+// A detector waits for the third ring, then stays as it is whatever comes, and when it is reset has no report.
+fn check_settled(rt: &impl Abort, alloc: Global, rings: &Rings) -> Result<(), Fail> {
     assert!(rt; rings.len() >= 3 && rings.nodes() == 4);
-    let mut detector = Detector::new(alloc, &rings, 3, 3, 1, false)?;
-    assert!(rt; detector.proposal(alloc)?.is_none());
-    let first = Edge {
-        ring: 0,
-        subject: 1,
-    };
-    let second = Edge { ring: 1, ..first };
-    let third = Edge { ring: 2, ..first };
-    let other = Edge {
-        subject: 2,
-        ..first
-    };
+    let mut detector = Detector::new(alloc, rings, 3, 3, 1, false)?;
+    let is_fresh = detector.proposal(alloc)?.is_none();
+    let edge = |ring, subject| Edge { ring, subject };
     let steps = [
-        detector.deliver(first),
-        detector.deliver(second),
-        detector.deliver(third),
-        detector.deliver(other),
+        detector.deliver(edge(0, 1)),
+        detector.deliver(edge(1, 1)),
+        detector.deliver(edge(2, 1)),
+        detector.deliver(edge(0, 2)),
     ];
-    assert!(rt; steps == [Step::Waiting, Step::Waiting, Step::Settled, Step::Settled]);
-    assert!(rt; proposes(alloc, &detector, &[1], 3)?);
-    assert!(rt; detector.deliveries() == 3);
+    let is_settled = steps == [Step::Waiting, Step::Waiting, Step::Settled, Step::Settled]
+        && detector.deliveries() == 3
+        && proposes(alloc, &detector, &[1], 3)?;
     detector.reset();
     let steps = [
-        detector.deliver(first),
-        detector.deliver(first),
-        detector.deliver(first),
+        detector.deliver(edge(0, 1)),
+        detector.deliver(edge(0, 1)),
+        detector.deliver(edge(0, 1)),
     ];
-    assert!(rt; steps == [Step::Waiting; 3]);
-    assert!(rt; detector.proposal(alloc)?.is_none());
-    assert!(rt; detector.deliveries() == 3);
+    let is_reset = steps == [Step::Waiting; 3]
+        && detector.deliveries() == 3
+        && detector.proposal(alloc)?.is_none();
+    assert!(rt; [is_fresh, is_settled, is_reset] == [true; 3]);
     Ok(())
+}
+
+#[test]
+fn a_settled_detector_stays_until_it_is_reset(rt: HostRuntime) -> Result<(), Fail> {
+    let rings = four(&rt, rt.alloc())?;
+    check_settled(&rt, rt.alloc(), &rings)
 }

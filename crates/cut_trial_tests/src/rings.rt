@@ -3,6 +3,7 @@ ghost use Rattle.std.specs.Prelude.{◌≡◌, ◌<◌, ◌≤◌, length, IfOk}
 use cut_plan::Plan;
 use cut_rings::{Edge, Rings, RingsFault};
 use std::alloc::{AllocError, Global};
+use std::process::Abort;
 use std::test::Fail;
 
 // Plans with each of the seeds below, by which a separate script placed the processes.
@@ -38,6 +39,21 @@ fn runs(rings: &Rings, ring: u8, order: &[u16]) -> bool {
     true
 }
 
+// The rings of a plan are as many as these orders, and hold them.
+fn check_hashed(
+    rt: &impl Abort,
+    alloc: Global,
+    plan: &Plan,
+    orders: &[&[u16]],
+) -> Result<(), Fail> {
+    let rings = Rings::hashed(alloc, plan)?;
+    assert!(rt; usize::from(rings.len()) == orders.len());
+    for (ring, order) in orders.iter().enumerate() {
+        assert!(rt; ring < 32 && runs(&rings, ring as u8, order), "ring {ring}");
+    }
+    Ok(())
+}
+
 #[test]
 fn hashed_rings_are_those_of_the_plan(rt: HostRuntime) -> Result<(), Fail> {
     let rows: [(&str, &[&[u16]]); 3] = [
@@ -58,32 +74,39 @@ fn hashed_rings_are_those_of_the_plan(rt: HostRuntime) -> Result<(), Fail> {
     ];
     for (text, orders) in rows {
         let plan = Plan::from_json(rt.alloc(), text.as_bytes())?;
-        let rings = Rings::hashed(rt.alloc(), &plan)?;
-        assert_eq!(rt; usize::from(rings.len()), orders.len(), "of {text}");
-        for (ring, order) in orders.iter().enumerate() {
-            assert!(rt;
-                ring < 32 && runs(&rings, ring as u8, order),
-                "ring {ring} of {text}"
-            );
-        }
+        check_hashed(&rt, rt.alloc(), &plan, orders)?;
     }
     Ok(())
 }
 
+// How many rings a plan has, and of how many processes.
+fn sizes_of(alloc: Global, text: &str) -> Result<(u8, u16), Fail> {
+    let plan = Plan::from_json(alloc, text.as_bytes())?;
+    let rings = Rings::hashed(alloc, &plan)?;
+    Ok((rings.len(), rings.nodes()))
+}
+
+// As many rings of one order.
+fn repeated(rt: &impl Abort, alloc: Global, order: &[u16], count: usize) -> Result<Rings, Fail> {
+    let mut lists: Vec<Vec<u16>> = Vec::new(alloc);
+    for _ in 0..count {
+        lists.push(Vec::from_slice(alloc, order)?)?;
+    }
+    assert!(rt; lists.len() <= 32 && order.len() <= 2048);
+    Ok(Rings::from_lists(alloc, order.len() as u16, lists.as_slice())?)
+}
+
+// Whether rings of many processes are as many, and their last holds its order.
+fn are_many(rt: &impl Abort, alloc: Global, order: &[u16]) -> Result<bool, Fail> {
+    let rings = repeated(rt, alloc, order, 31)?;
+    Ok((rings.len(), rings.nodes()) == (31, 1999) && runs(&rings, 30, order))
+}
+
 #[test]
 fn many_processes_on_many_rings(rt: HostRuntime) -> Result<(), Fail> {
-    let plan = Plan::from_json(rt.alloc(), MANY.as_bytes())?;
-    let rings = Rings::hashed(rt.alloc(), &plan)?;
-    assert_eq!(rt; (rings.len(), rings.nodes()), (31, 1999));
+    assert!(rt; sizes_of(rt.alloc(), MANY)? == (31, 1999));
     let order: Vec<u16> = (0..1999).rev().collect(rt.alloc())?;
-    let mut lists: Vec<Vec<u16>> = Vec::new(rt.alloc());
-    for _ in 0..31 {
-        lists.push(Vec::from_slice(rt.alloc(), order.as_slice())?)?;
-    }
-    assert!(rt; lists.len() <= 32);
-    let rings = Rings::from_lists(rt.alloc(), 1999, lists.as_slice())?;
-    assert_eq!(rt; (rings.len(), rings.nodes()), (31, 1999));
-    assert!(rt; runs(&rings, 30, order.as_slice()));
+    assert!(rt; are_many(&rt, rt.alloc(), order.as_slice())?);
     Ok(())
 }
 
@@ -97,21 +120,35 @@ fn three_lists(alloc: Global) -> Result<Vec<Vec<u16>>, AllocError>
     Ok(vec![in alloc; first, second, third]?)
 }
 
+// The rings of three lists are in their order, and each process is observed by the one before it.
+fn check_listed(rt: &impl Abort, alloc: Global, lists: &[Vec<u16>]) -> Result<(), Fail>
+    requires { length lists.now ≤ 32 }
+{
+    let rings = Rings::from_lists(alloc, 4, lists)?;
+    assert!(rt; rings.len() == 3 && rings.nodes() == 4);
+    assert!(rt;
+        [
+            runs(&rings, 0, &[0, 1, 2, 3]),
+            runs(&rings, 1, &[0, 2, 1, 3]),
+            runs(&rings, 2, &[0, 3, 2, 1]),
+        ] == [true; 3]
+    );
+    assert!(rt;
+        [
+            rings.observer(0, 0),
+            rings.observer(1, 1),
+            rings.observer(2, 3),
+            rings.subject(1, 0),
+            rings.subject(2, 1),
+        ] == [3, 2, 0, 2, 0]
+    );
+    Ok(())
+}
+
 #[test]
 fn listed_rings_are_the_lists(rt: HostRuntime) -> Result<(), Fail> {
     let lists = three_lists(rt.alloc())?;
-    let rings = Rings::from_lists(rt.alloc(), 4, lists.as_slice())?;
-    assert_eq!(rt; rings.len(), 3);
-    assert_eq!(rt; rings.nodes(), 4);
-    assert!(rt; runs(&rings, 0, &[0, 1, 2, 3]));
-    assert!(rt; runs(&rings, 1, &[0, 2, 1, 3]));
-    assert!(rt; runs(&rings, 2, &[0, 3, 2, 1]));
-    assert_eq!(rt; rings.observer(0, 0), 3);
-    assert_eq!(rt; rings.observer(1, 1), 2);
-    assert_eq!(rt; rings.observer(2, 3), 0);
-    assert_eq!(rt; rings.subject(1, 0), 2);
-    assert_eq!(rt; rings.subject(2, 1), 0);
-    Ok(())
+    check_listed(&rt, rt.alloc(), lists.as_slice())
 }
 
 #[test]
@@ -130,6 +167,17 @@ fn edges_are_numbered_by_subject_and_ring(rt: HostRuntime) {
     }
 }
 
+// What is told of a ring of four and this one, of so many processes; nothing where these are rings.
+fn told_of(rt: &impl Abort, alloc: Global, nodes: u16, list: &[u16]) -> Result<String, Fail> {
+    let whole = vec![in alloc; 0, 1, 2, 3]?;
+    let lists = vec![in alloc; whole, Vec::from_slice(alloc, list)?]?;
+    assert!(rt; nodes <= 2048 && lists.len() <= 32);
+    match Rings::from_lists(alloc, nodes, lists.as_slice()) {
+        Ok(_) => Ok(String::new(alloc)),
+        Err(fault) => Ok(fault.to_string(alloc)?),
+    }
+}
+
 #[test]
 fn lists_that_are_no_rings_are_told(rt: HostRuntime) -> Result<(), Fail> {
     let alloc = rt.alloc();
@@ -142,13 +190,10 @@ fn lists_that_are_no_rings_are_told(rt: HostRuntime) -> Result<(), Fail> {
         (4, &[0, 1, 2, 3, 0], "11 NotPermutation"),
     ];
     for (nodes, list, text) in rows {
-        let whole = vec![in alloc; 0, 1, 2, 3]?;
-        let lists = vec![in alloc; whole, Vec::from_slice(alloc, list)?]?;
-        assert!(rt; nodes <= 2048 && lists.len() <= 32);
-        match Rings::from_lists(alloc, nodes, lists.as_slice()) {
-            Ok(_) => Err("rings were made")?,
-            Err(fault) => assert_eq!(rt; fault.to_string(alloc)?.as_str(), text, "of {list:?}"),
-        }
+        assert!(rt;
+            told_of(&rt, alloc, nodes, list)?.as_str() == text,
+            "of {list:?}"
+        );
     }
     let none = Rings::from_lists(alloc, 4, &[]);
     assert!(rt; matches!(none, Err(RingsFault::TooFew)));

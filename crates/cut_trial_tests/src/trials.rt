@@ -9,6 +9,7 @@ use cut_plan::{Dead, Faults, Plan};
 use cut_rings::Rings;
 use cut_trial::{Ballot, Piece, Totals, Verdict, is_piece, quorum, run_piece, run_trial, verdict};
 use std::alloc::{AllocError, Global};
+use std::process::Abort;
 use std::test::Fail;
 
 mod tables;
@@ -58,10 +59,23 @@ fn quorums(rt: HostRuntime) {
     }
 }
 
-#[test]
-fn verdicts(rt: HostRuntime) -> Result<(), Fail> {
-    let alloc = rt.alloc();
-    let roles = Roles::given(alloc, 4, &[1, 2], &[], &[], Faults::Crash, Dead::Silent)?;
+// Whether a proposal of these members is in conflict with the roles, and has others.
+fn is_judged(
+    alloc: Global,
+    roles: &Roles,
+    members: &[u16],
+    (conflict, extra): (bool, bool),
+) -> Result<bool, AllocError> {
+    let wanted = Verdict {
+        silent: false,
+        conflict,
+        extra,
+    };
+    Ok(verdict(Some(&proposal(alloc, members)?), roles) == wanted)
+}
+
+// What is judged of roles where 1 and 2 are the targets.
+fn check_verdicts(rt: &impl Abort, alloc: Global, roles: &Roles) -> Result<(), Fail> {
     let rows: [(&[u16], bool, bool); 5] = [
         (&[1], true, false),
         (&[2, 1], false, false),
@@ -70,36 +84,51 @@ fn verdicts(rt: HostRuntime) -> Result<(), Fail> {
         (&[1, 2, 9], false, true),
     ];
     for (members, conflict, extra) in rows {
-        let wanted = Verdict {
-            silent: false,
-            conflict,
-            extra,
-        };
-        assert_eq!(rt;
-            verdict(Some(&proposal(alloc, members)?), &roles),
-            wanted,
-            "on {members:?}"
-        );
+        let is_right = is_judged(alloc, roles, members, (conflict, extra))?;
+        assert!(rt; is_right, "on {members:?}");
     }
-    let none = verdict(None, &roles);
+    let none = verdict(None, roles);
     assert!(rt; none.silent && !none.conflict && !none.extra);
     Ok(())
 }
 
 #[test]
-fn ballots(rt: HostRuntime) -> Result<(), Fail> {
-    let alloc = rt.alloc();
-    let mut ballot = Ballot::new(alloc);
-    assert_eq!(rt; ballot.largest(), 0);
-    for members in [&[1][..], &[2], &[1], &[1, 2]] {
+fn verdicts(rt: HostRuntime) -> Result<(), Fail> {
+    let roles = Roles::given(
+        rt.alloc(),
+        4,
+        &[1, 2],
+        &[],
+        &[],
+        Faults::Crash,
+        Dead::Silent,
+    )?;
+    check_verdicts(&rt, rt.alloc(), &roles)
+}
+
+// Adds a proposal of each of these lists of members.
+fn add_all(alloc: Global, ballot: &mut Ballot, lists: &[&[u16]]) -> Result<(), AllocError> {
+    for members in lists {
         ballot.add(&proposal(alloc, members)?)?;
     }
-    assert_eq!(rt; ballot.largest(), 2);
-    for (members, wanted) in [(&[1][..], 2), (&[2], 1), (&[1, 2], 1), (&[2, 1], 0)] {
-        assert_eq!(rt; ballot.votes_for(members), wanted, "for {members:?}");
-    }
+    Ok(())
+}
+
+#[test]
+fn ballots(rt: HostRuntime) -> Result<(), Fail> {
+    let mut ballot = Ballot::new(rt.alloc());
+    let before = ballot.largest();
+    add_all(rt.alloc(), &mut ballot, &[&[1], &[2], &[1], &[1, 2]])?;
+    assert!(rt; [before, ballot.largest()] == [0, 2]);
+    let votes = [
+        ballot.votes_for(&[1]),
+        ballot.votes_for(&[2]),
+        ballot.votes_for(&[1, 2]),
+        ballot.votes_for(&[2, 1]),
+    ];
+    assert!(rt; votes == [2, 1, 1, 0]);
     ballot.clear();
-    assert_eq!(rt; ballot.votes_for(&[1]), 0);
+    assert!(rt; ballot.votes_for(&[1]) == 0);
     Ok(())
 }
 

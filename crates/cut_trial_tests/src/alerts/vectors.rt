@@ -1,6 +1,7 @@
 // Roles and alerted edges that a script apart from this crate computed, from sets and counts.
 
 use crate::alerts::{Lists, check_drawn};
+use cut_plan::Plan;
 use std::test::Fail;
 
 // Five processes, with targets that crash.
@@ -90,7 +91,8 @@ fn roles_of_trials(rt: HostRuntime) -> Result<(), Fail> {
         (TWO_CRASH, 4095999999, (&[1], &[], &[])),
     ];
     for (text, trial, lists) in rows {
-        check_drawn(&rt, rt.alloc(), text, trial, lists)?;
+        let plan = Plan::from_json(rt.alloc(), text.as_bytes())?;
+        check_drawn(&rt, rt.alloc(), &plan, trial, lists)?;
     }
     Ok(())
 }

@@ -155,18 +155,46 @@ fn drawn(
     Ok(edges)
 }
 
-#[test]
-fn masks_propose_what_a_recount_does(rt: HostRuntime) -> Result<(), Fail> {
-    let alloc = rt.alloc();
-    let rings = four(&rt, alloc)?;
-    for list in 0..1000 {
-        let edges = drawn(alloc, list, 24, 4, 3)?;
-        for (h, l) in [(1, 1), (2, 1), (2, 2), (3, 1), (3, 2), (3, 3)] {
-            compare(&rt, alloc, &rings, (h, l, false), &edges, list)?;
-            compare(&rt, alloc, &rings, (h, l, true), &edges, list)?;
+// The masks propose what the recount does of some deliveries, at each of these watermarks.
+fn compare_all(
+    rt: &impl Abort,
+    alloc: Global,
+    rings: &Rings,
+    watermarks: &[(u8, u8)],
+    edges: &[Edge],
+    list: u64,
+) -> Result<(), Fail> {
+    for &(h, l) in watermarks {
+        for implicit in [false, true] {
+            compare(rt, alloc, rings, (h, l, implicit), edges, list)?;
         }
     }
     Ok(())
+}
+
+// The masks propose what the recount does of so many drawn lists of deliveries about some subjects.
+fn compare_drawn(
+    rt: &impl Abort,
+    alloc: Global,
+    rings: &Rings,
+    watermarks: &[(u8, u8)],
+    lists: u64,
+    (count, subjects): (usize, u16),
+) -> Result<(), Fail> {
+    let k = rings.len();
+    assert!(rt; 0 < k && 0 < subjects);
+    for list in 0..lists {
+        let edges = drawn(alloc, list, count, subjects, k)?;
+        compare_all(rt, alloc, rings, watermarks, &edges, list)?;
+    }
+    Ok(())
+}
+
+#[test]
+fn masks_propose_what_a_recount_does(rt: HostRuntime) -> Result<(), Fail> {
+    let rings = four(&rt, rt.alloc())?;
+    let watermarks = [(1, 1), (2, 1), (2, 2), (3, 1), (3, 2), (3, 3)];
+    compare_drawn(&rt, rt.alloc(), &rings, &watermarks, 1000, (24, 4))
 }
 
 // The rings on which each process observes the one that is so many further, of 101 processes.
@@ -181,18 +209,15 @@ fn strides(alloc: Global, count: u16) -> Result<Vec<Vec<u16>>, AllocError> {
     Ok(lists)
 }
 
-#[test]
-fn masks_propose_what_a_recount_does_on_many_rings(rt: HostRuntime) -> Result<(), Fail> {
-    let alloc = rt.alloc();
+// 101 processes on 32 rings.
+fn wide(rt: &impl Abort, alloc: Global) -> Result<Rings, Fail> {
     let lists = strides(alloc, 32)?;
     assert!(rt; lists.len() <= 32);
-    let rings = Rings::from_lists(alloc, 101, &lists)?;
-    for list in 0..2 {
-        let edges = drawn(alloc, list, 100, 5, 32)?;
-        for (h, l) in [(14, 9), (8, 1)] {
-            compare(&rt, alloc, &rings, (h, l, false), &edges, list)?;
-            compare(&rt, alloc, &rings, (h, l, true), &edges, list)?;
-        }
-    }
-    Ok(())
+    Ok(Rings::from_lists(alloc, 101, &lists)?)
+}
+
+#[test]
+fn masks_propose_what_a_recount_does_on_many_rings(rt: HostRuntime) -> Result<(), Fail> {
+    let rings = wide(&rt, rt.alloc())?;
+    compare_drawn(&rt, rt.alloc(), &rings, &[(14, 9), (8, 1)], 2, (100, 5))
 }
