@@ -1,39 +1,21 @@
 use cut_disks::{Disk, DiskCall, DiskFault, FaultyDisk, FileDisk, MemoryDisk, Tear};
-use std::alloc::Global;
+use std::alloc::{AllocError, Global};
 use std::fs;
 use std::process::Abort;
 use std::test::Fail;
 
-fn memory_of(alloc: Global, bytes: &[u8]) -> Result<MemoryDisk, Fail> {
-    Ok(MemoryDisk::of(alloc, Vec::from_slice(alloc, bytes)?)?)
+// A disk in memory of four bytes.
+fn four(alloc: Global) -> Result<MemoryDisk, AllocError> {
+    MemoryDisk::of(alloc, Vec::from_slice(alloc, b"abcd")?)
 }
 
-// A call of a disk as it is written.
-fn told(alloc: Global, call: &DiskCall) -> Result<String, Fail> {
-    Ok(match call {
-        DiskCall::Write { at, put } => format!(in alloc; "write {at} {:?}", put.as_slice())?,
-        DiskCall::Torn { at, stop } => format!(in alloc; "torn {at} {stop}")?,
-        DiskCall::Sync => String::from_str(alloc, "sync")?,
-    })
-}
-
-// The bytes at one place of a disk, where it has as many as four.
-fn bytes_at(disk: &mut MemoryDisk, at: u64) -> Result<[u8; 3], DiskFault> {
-    let mut found = [0; 3];
-    if disk.bytes().len() >= 4 && at <= 1 {
-        disk.read(at, &mut found)?;
+// Whether a call is a write of these bytes at the front, or a torn one up to this place.
+fn is_call(call: &DiskCall, wanted: Result<&[u8], u64>) -> bool {
+    match (call, wanted) {
+        (DiskCall::Write { at, put }, Ok(bytes)) => *at == 0 && put.as_slice() == bytes,
+        (DiskCall::Torn { at, stop }, Err(end)) => *at == 0 && *stop == end,
+        _ => false,
     }
-    Ok(found)
-}
-
-// The calls of a disk as they are written.
-fn calls_told(alloc: Global, calls: &[DiskCall]) -> Result<String, Fail> {
-    let mut text = String::new(alloc);
-    for call in calls {
-        text.push_str(told(alloc, call)?.as_str())?;
-        text.push_str("; ")?;
-    }
-    Ok(text)
 }
 
 // Four bytes, of which the last two are written over by four others.
@@ -44,40 +26,50 @@ fn written_over(disk: &mut MemoryDisk) -> Result<(), DiskFault> {
     disk.sync()
 }
 
-// A disk keeps the bytes that it began with, those that it has now, and its calls.
-fn check_kept(rt: &impl Abort, alloc: Global, disk: &MemoryDisk) -> Result<(), Fail> {
-    assert!(rt; disk.bytes() == b"abxyzw".as_slice());
-    assert!(rt; disk.first() == b"abcd".as_slice());
-    let calls = calls_told(alloc, disk.calls())?;
-    assert!(rt; calls.as_str() == "write 2 [120, 121, 122, 119]; sync; ");
-    assert!(rt; disk.failures() == 0);
-    Ok(())
+// Whether a disk gives the bytes that stand there at one place.
+fn is_read(disk: &mut MemoryDisk) -> bool {
+    let mut found = [0; 3];
+    disk.bytes().len() >= 4 && disk.read(1, &mut found) == Ok(()) && found == *b"bxy"
+}
+
+// Whether a disk keeps the bytes that it began with, those that it has now, and its two calls.
+fn is_kept(disk: &MemoryDisk) -> bool {
+    let is_kept = match disk.calls() {
+        [DiskCall::Write { at, put }, DiskCall::Sync] => {
+            *at == 2 && put.as_slice() == b"xyzw".as_slice()
+        }
+        _ => false,
+    };
+    let has_bytes = disk.bytes() == b"abxyzw".as_slice() && disk.first() == b"abcd".as_slice();
+    is_kept && has_bytes && disk.failures() == 0
 }
 
 #[test]
 fn a_disk_in_memory_keeps_its_calls(rt: HostRuntime) -> Result<(), Fail> {
-    let mut disk = memory_of(rt.alloc(), b"abcd")?;
+    let mut disk = four(rt.alloc())?;
     written_over(&mut disk)?;
-    assert!(rt; bytes_at(&mut disk, 1)? == *b"bxy");
-    check_kept(&rt, rt.alloc(), &disk)
+    assert!(rt; is_read(&mut disk) && is_kept(&disk));
+    Ok(())
+}
+
+// Whether a disk that is lent answers as one.
+fn is_lent(lent: &mut &mut MemoryDisk) -> Result<bool, DiskFault> {
+    lent.write_at(0, b"XY")?;
+    lent.sync()?;
+    lent.read(0, &mut [])?;
+    Ok(lent.length() == Ok(4) && lent.failures() == 0)
 }
 
 #[test]
 fn a_disk_that_is_lent(rt: HostRuntime) -> Result<(), Fail> {
-    let alloc = rt.alloc();
-    let mut disk = memory_of(alloc, b"abcd")?;
-    let mut lent = &mut disk;
-    lent.write_at(0, b"XY")?;
-    lent.sync()?;
-    assert_eq!(rt; lent.length(), Ok(4));
-    assert_eq!(rt; lent.failures(), 0);
-    lent.read(0, &mut [])?;
+    let mut disk = four(rt.alloc())?;
+    assert!(rt; is_lent(&mut &mut disk)?);
     assert!(rt; disk.bytes() == b"XYcd".as_slice());
     Ok(())
 }
 
 // Two writes at the front of a disk, each made sure.
-fn change<D: Disk>(disk: &mut D) -> Result<(), DiskFault> {
+fn change(disk: &mut FaultyDisk) -> Result<(), DiskFault> {
     disk.write_at(0, b"XY")?;
     disk.sync()?;
     disk.write_at(0, b"Z")?;
@@ -85,111 +77,81 @@ fn change<D: Disk>(disk: &mut D) -> Result<(), DiskFault> {
 }
 
 // A disk of four bytes that fails at this call once it is armed.
-fn faulty(alloc: Global, fail_at: u64, tear: Tear) -> Result<FaultyDisk, Fail> {
-    Ok(FaultyDisk::of(alloc, Vec::from_slice(alloc, b"abcd")?, fail_at, tear)?)
+fn faulty(alloc: Global, fail_at: u64, tear: Tear) -> Result<FaultyDisk, AllocError> {
+    FaultyDisk::of(alloc, Vec::from_slice(alloc, b"abcd")?, fail_at, tear)
 }
 
-// Whether the two writes were made, and what is then on the disk.
-fn changed(alloc: Global, disk: &mut FaultyDisk) -> Result<String, Fail> {
-    let is_made = change(disk).is_ok();
-    let left = String::from_utf8_lossy(alloc, disk.memory().bytes())?;
-    Ok(format!(in alloc; "{is_made}: {left}")?)
-}
-
-// The last call that a disk keeps.
-fn last_told(alloc: Global, disk: &FaultyDisk) -> Result<String, Fail> {
-    match disk.memory().calls().last() {
-        Some(call) => told(alloc, call),
-        None => Ok(String::new(alloc)),
-    }
-}
-
-// What is told of two writes to a disk that fails at this call, and of two more.
-fn tried(alloc: Global, fail_at: u64, tear: Tear) -> Result<String, Fail> {
-    let mut disk = faulty(alloc, fail_at, tear)?;
+// Whether the first two writes fail and leave these bytes, after this last call, and two more are made.
+fn fails_once(disk: &mut FaultyDisk, left: &[u8], last: Result<&[u8], u64>) -> bool {
     disk.arm();
-    let first = changed(alloc, &mut disk)?;
-    let last = last_told(alloc, &disk)?;
-    let second = changed(alloc, &mut disk)?;
-    let failures = disk.failures();
-    Ok(format!(in alloc; "{first}, {last}; {second}; {failures}")?)
+    let has_failed = change(disk).is_err() && disk.memory().bytes() == left;
+    let is_last = match disk.memory().calls() {
+        [.., call] => is_call(call, last),
+        [] => false,
+    };
+    let is_made = change(disk).is_ok() && disk.memory().bytes() == b"ZYcd".as_slice();
+    has_failed && is_last && is_made && disk.failures() == 1
 }
 
-#[test]
-fn a_disk_fails_once(rt: HostRuntime) -> Result<(), Fail> {
-    let rows = [
-        (1, Tear::Nothing, "false: abcd, torn 0 2; true: ZYcd; 1"),
-        (
-            2,
-            Tear::Nothing,
-            "false: XYcd, write 0 [88, 89]; true: ZYcd; 1",
-        ),
-        (3, Tear::Nothing, "false: XYcd, torn 0 1; true: ZYcd; 1"),
-        (4, Tear::Nothing, "false: ZYcd, write 0 [90]; true: ZYcd; 1"),
-        (
-            1,
-            Tear::Everything,
-            "false: XYcd, write 0 [88, 89]; true: ZYcd; 1",
-        ),
-        (
-            2,
-            Tear::Everything,
-            "false: XYcd, write 0 [88, 89]; true: ZYcd; 1",
-        ),
-        (
-            3,
-            Tear::Everything,
-            "false: ZYcd, write 0 [90]; true: ZYcd; 1",
-        ),
-        (
-            4,
-            Tear::Everything,
-            "false: ZYcd, write 0 [90]; true: ZYcd; 1",
-        ),
-    ];
-    for (fail_at, tear, wanted) in rows {
-        let found = tried(rt.alloc(), fail_at, tear)?;
-        assert_eq!(rt; found.as_str(), wanted, "{fail_at} {tear:?}");
+// Which call fails, how it is torn, the bytes that are left, and the last call.
+type Row<'a> = (u64, Tear, &'a [u8], Result<&'a [u8], u64>);
+
+// Asserts that of each row.
+fn check_failures(rt: &impl Abort, alloc: Global, rows: &[Row<'_>]) -> Result<(), Fail> {
+    for (fail_at, tear, left, last) in rows {
+        let mut disk = faulty(alloc, *fail_at, *tear)?;
+        assert!(rt; fails_once(&mut disk, left, *last), "{fail_at} {tear:?}");
     }
     Ok(())
 }
 
-// Which of three looks at the length failed.
-fn failed_looks(disk: &mut FaultyDisk) -> [bool; 3] {
-    [
-        disk.length().is_err(),
-        disk.length().is_err(),
-        disk.length().is_err(),
-    ]
+#[test]
+fn a_disk_fails_once(rt: HostRuntime) -> Result<(), Fail> {
+    let rows: [Row<'_>; 8] = [
+        (1, Tear::Nothing, b"abcd", Err(2)),
+        (2, Tear::Nothing, b"XYcd", Ok(b"XY")),
+        (3, Tear::Nothing, b"XYcd", Err(1)),
+        (4, Tear::Nothing, b"ZYcd", Ok(b"Z")),
+        (1, Tear::Everything, b"XYcd", Ok(b"XY")),
+        (2, Tear::Everything, b"XYcd", Ok(b"XY")),
+        (3, Tear::Everything, b"ZYcd", Ok(b"Z")),
+        (4, Tear::Everything, b"ZYcd", Ok(b"Z")),
+    ];
+    check_failures(&rt, rt.alloc(), &rows)
+}
+
+// Whether the second of three looks at the length fails, where a disk that is not armed yet gives it.
+fn looks_fail(disk: &mut FaultyDisk) -> bool {
+    let before = disk.length() == Ok(4);
+    disk.arm();
+    let looks = [disk.length(), disk.length(), disk.length()];
+    before && looks == [Ok(4), Err(DiskFault), Ok(4)] && disk.length() == Ok(4)
 }
 
 #[test]
 fn looks_fail_too(rt: HostRuntime) -> Result<(), Fail> {
     let mut disk = faulty(rt.alloc(), 2, Tear::Everything)?;
-    assert!(rt; disk.length() == Ok(4));
-    disk.arm();
-    assert!(rt; failed_looks(&mut disk) == [false, true, false]);
-    assert!(rt; disk.length() == Ok(4));
+    assert!(rt; looks_fail(&mut disk));
     Ok(())
+}
+
+fn reads_fail(disk: &mut FaultyDisk) -> bool {
+    disk.arm();
+    let reads = [disk.read(0, &mut []), disk.read(0, &mut [])];
+    reads == [Err(DiskFault), Ok(())] && disk.failures() == 1
 }
 
 #[test]
 fn reads_fail_too(rt: HostRuntime) -> Result<(), Fail> {
     let mut disk = faulty(rt.alloc(), 1, Tear::Everything)?;
-    disk.arm();
-    assert!(rt; disk.read(0, &mut []) == Err(DiskFault));
-    assert!(rt; disk.read(0, &mut []) == Ok(()));
-    assert!(rt; disk.failures() == 1);
+    assert!(rt; reads_fail(&mut disk));
     Ok(())
 }
 
 #[test]
 fn a_disk_that_is_not_armed(rt: HostRuntime) -> Result<(), Fail> {
-    let alloc = rt.alloc();
-    let bytes = Vec::from_slice(alloc, b"abcd")?;
-    let mut disk = FaultyDisk::of(alloc, bytes, 1, Tear::Nothing)?;
-    assert_eq!(rt; change(&mut disk), Ok(()));
-    assert_eq!(rt; disk.failures(), 0);
+    let mut disk = faulty(rt.alloc(), 1, Tear::Nothing)?;
+    assert!(rt; change(&mut disk) == Ok(()) && disk.failures() == 0);
     Ok(())
 }
 
@@ -220,30 +182,33 @@ fn check_reads(rt: &impl Abort, disk: &mut FileDisk) -> Result<(), Fail> {
 }
 
 // A new file, which no other disk may have while this one does.
-fn check_new_file(rt: &impl Abort, host: &HostRuntime) -> Result<(), Fail> {
-    let mut disk = FileDisk::open(host, FILE)?;
-    check_writes(rt, &mut disk)?;
-    check_reads(rt, &mut disk)?;
+fn check_new_file(rt: &impl Abort, host: &HostRuntime, disk: &mut FileDisk) -> Result<(), Fail> {
+    check_writes(rt, disk)?;
+    check_reads(rt, disk)?;
     assert!(rt; FileDisk::open(host, FILE).is_err());
     assert!(rt; fs::read(host, FILE)?.as_slice() == b"abxyz".as_slice());
     Ok(())
 }
 
+fn check_file(rt: &impl Abort, host: &HostRuntime) -> Result<(), Fail> {
+    let _ = fs::remove_dir_all(host, FOLDER);
+    assert!(rt; FileDisk::open(host, FILE).is_err());
+    fs::create_dir(host, FOLDER)?;
+    check_new_file(rt, host, &mut FileDisk::open(host, FILE)?)?;
+    assert!(rt; FileDisk::open(host, FILE)?.length() == Ok(5));
+    // A folder is no file.
+    assert!(rt; FileDisk::open(host, FOLDER).is_err());
+    Ok(fs::remove_dir_all(host, FOLDER)?)
+}
+
 #[test]
 fn a_file(rt: HostRuntime) -> Result<(), Fail> {
-    let _ = fs::remove_dir_all(&rt, FOLDER);
-    assert!(rt; FileDisk::open(&rt, FILE).is_err());
-    fs::create_dir(&rt, FOLDER)?;
-    check_new_file(&rt, &rt)?;
-    assert!(rt; FileDisk::open(&rt, FILE)?.length() == Ok(5));
-    // A folder is no file.
-    assert!(rt; FileDisk::open(&rt, FOLDER).is_err());
-    Ok(fs::remove_dir_all(&rt, FOLDER)?)
+    check_file(&rt, &rt)
 }
 
 #[test]
 fn faults_are_printed(rt: HostRuntime) -> Result<(), Fail> {
     let text = format!(in rt.alloc(); "{DiskFault}")?;
-    assert_eq!(rt; text.as_str(), "a call of the disk failed");
+    assert!(rt; text.as_str() == "a call of the disk failed");
     Ok(())
 }

@@ -5,7 +5,7 @@ use cut_ledger::Slip;
 use cut_plan::{Plan, Version};
 use cut_rings::Rings;
 use cut_trial::{Piece, PieceResult, run_piece};
-use std::alloc::Global;
+use std::alloc::{AllocError, Global};
 use std::process::Abort;
 use std::test::Fail;
 
@@ -17,19 +17,18 @@ mod vectors;
 use vectors::files;
 
 // What the lines of a block say under a name, joined.
-fn under(alloc: Global, block: &str, name: &str) -> Result<String, Fail> {
+fn under(alloc: Global, block: &str, name: &str) -> Result<String, AllocError> {
     let mut text = String::new(alloc);
     for line in block.lines() {
-        if let Some((word, rest)) = line.split_once(' ') {
-            if word == name {
-                text.push_str(rest)?;
-            }
+        let (word, rest) = line.split_once(' ').unwrap_or(("", ""));
+        if word == name {
+            text.push_str(rest)?;
         }
     }
     Ok(text)
 }
 
-fn from_hex(alloc: Global, digits: &str) -> Result<Vec<u8>, Fail> {
+fn from_hex(alloc: Global, digits: &str) -> Result<Vec<u8>, AllocError> {
     let mut bytes = Vec::new(alloc);
     for pair in digits.as_bytes().chunks_exact(2) {
         let high = (pair[0] as char).to_digit(16).unwrap_or(0) as u8;
@@ -39,100 +38,99 @@ fn from_hex(alloc: Global, digits: &str) -> Result<Vec<u8>, Fail> {
     Ok(bytes)
 }
 
-// The numbers of a slip that each version has.
-fn nine_text(alloc: Global, slip: &Slip) -> Result<String, Fail> {
+fn number(text: &str) -> u32 {
+    text.parse().unwrap_or(0)
+}
+
+// Whether the numbers of a slip are those that a text has: nine, and in version 2 the tenth too.
+fn is_slip(version: Version, slip: &Slip, text: &str) -> bool {
     let Slip { piece, totals: t } = *slip;
-    Ok(format!(in alloc;
-        "{},{},{},{},{},{},{},{},{}",
-        piece.first,
-        piece.count,
+    let numbers = [
+        u64::from(piece.first),
+        u64::from(piece.count),
         t.receivers,
         t.conflicts,
         t.silent,
         t.extra,
         t.votes,
         t.decided,
-        t.right
-    )?)
-}
-
-// The number of a slip that version 2 has besides, behind a comma.
-fn tenth_text(alloc: Global, version: Version, slip: &Slip) -> Result<String, Fail> {
-    Ok(match version {
-        Version::One => String::new(alloc),
-        Version::Two => format!(in alloc; ",{}", slip.totals.settled)?,
-    })
-}
-
-fn slip_text(alloc: Global, version: Version, slip: &Slip) -> Result<String, Fail> {
-    let mut text = nine_text(alloc, slip)?;
-    let tenth = tenth_text(alloc, version, slip)?;
-    text.push_str(tenth.as_str())?;
-    Ok(text)
-}
-
-// The numbers of slips: nine of each, and the tenth in version 2.
-fn slips_text(alloc: Global, version: Version, slips: &[Slip]) -> Result<String, Fail> {
-    let mut text = String::new(alloc);
-    for (i, slip) in slips.iter().enumerate() {
-        text.push_str(if i == 0 { "" } else { " " })?;
-        text.push_str(slip_text(alloc, version, slip)?.as_str())?;
+        t.right,
+        t.settled,
+    ];
+    match version {
+        Version::One => are_numbers(&numbers[..9], text),
+        Version::Two => are_numbers(&numbers, text),
     }
-    Ok(text)
 }
 
-// A fault as it is printed, without its number.
-fn fault_text(alloc: Global, fault: &JournalFault) -> Result<String, Fail> {
+// Whether numbers are those that a text has, with commas between them.
+fn are_numbers(numbers: &[u64], text: &str) -> bool {
+    let mut words = text.split(',');
+    for number in numbers {
+        if words.next().unwrap_or("").parse::<u64>() != Ok(*number) {
+            return false;
+        }
+    }
+    words.next().is_none()
+}
+
+// Whether slips are those that a text has, with blanks between them.
+fn are_slips(version: Version, slips: &[Slip], text: &str) -> bool {
+    let mut words = text.split_whitespace();
+    for slip in slips {
+        if !is_slip(version, slip, words.next().unwrap_or("")) {
+            return false;
+        }
+    }
+    words.next().is_none()
+}
+
+// Whether a fault is printed so behind its number.
+fn is_fault(alloc: Global, fault: &JournalFault, wanted: &str) -> Result<bool, AllocError> {
     let text = format!(in alloc; "{fault}")?;
-    Ok(String::from_str(alloc, text.as_str().get(3..).unwrap_or(""))?)
+    Ok(text.as_str().get(3..).unwrap_or("") == wanted)
 }
 
-// What bytes are read as: a fault without its number, or the slips.
-fn told(alloc: Global, bytes: Vec<u8>, plan: &Plan) -> Result<String, Fail> {
-    match Journal::reopen(alloc, MemoryDisk::of(alloc, bytes)?, plan) {
-        Ok((_, slips)) => slips_text(alloc, plan.version(), slips.as_slice()),
-        Err((fault, _)) => fault_text(alloc, &fault),
+// Whether bytes are read as a text says: a fault without its number, or the slips.
+fn is_told(alloc: Global, bytes: &[u8], plan: &Plan, wanted: &str) -> Result<bool, AllocError> {
+    let disk = MemoryDisk::of(alloc, Vec::from_slice(alloc, bytes)?)?;
+    match Journal::reopen(alloc, disk, plan) {
+        Ok((_journal, slips)) => Ok(are_slips(plan.version(), slips.as_slice(), wanted)),
+        Err((fault, _disk)) => is_fault(alloc, &fault, wanted),
     }
-}
-
-// Whether bytes are read as a text says.
-fn is_told(alloc: Global, bytes: &[u8], plan: &Plan, wanted: &str) -> Result<bool, Fail> {
-    let text = told(alloc, Vec::from_slice(alloc, bytes)?, plan)?;
-    Ok(text.as_str() == wanted)
 }
 
 // The bytes whose hexadecimal digits a block gives under a name.
-fn bytes_under(alloc: Global, block: &str, name: &str) -> Result<Vec<u8>, Fail> {
+fn bytes_under(alloc: Global, block: &str, name: &str) -> Result<Vec<u8>, AllocError> {
     let digits = under(alloc, block, name)?;
     from_hex(alloc, digits.as_str())
 }
 
-// As many bytes of a file as a block keeps.
-fn kept_bytes(alloc: Global, base: &[u8], block: &str) -> Result<Vec<u8>, Fail> {
-    let kept = under(alloc, block, "kept")?;
-    let kept = number(kept.as_str()) as usize;
-    Ok(Vec::from_slice(alloc, base.get(..kept).unwrap_or(&[]))?)
-}
-
 // Puts the bytes of a line's digits in place of others, where it is such a line.
-fn put_line(alloc: Global, bytes: &mut [u8], line: &str) -> Result<(), Fail> {
-    let Some((at, digits)) = line
-        .strip_prefix("put ")
-        .and_then(|put| put.split_once(' '))
-    else {
+fn put_line(alloc: Global, bytes: &mut [u8], line: &str) -> Result<(), AllocError> {
+    let (word, rest) = line.split_once(' ').unwrap_or((line, ""));
+    if word != "put" {
         return Ok(());
-    };
-    let start = number(at) as usize;
-    for (i, byte) in from_hex(alloc, digits)?.iter().enumerate() {
-        if let Some(place) = bytes.get_mut(start.wrapping_add(i)) {
-            *place = *byte;
-        }
+    }
+    let (at, digits) = rest.split_once(' ').unwrap_or((rest, ""));
+    let mut place = number(at) as usize;
+    for byte in from_hex(alloc, digits)?.iter() {
+        put_byte(bytes, place, *byte);
+        place = place.wrapping_add(1);
     }
     Ok(())
 }
 
-fn changed_bytes(alloc: Global, base: &[u8], block: &str) -> Result<Vec<u8>, Fail> {
-    let mut bytes = kept_bytes(alloc, base, block)?;
+// As many bytes of a file as a block keeps.
+fn kept_bytes(alloc: Global, file: &[u8], block: &str) -> Result<Vec<u8>, AllocError> {
+    let kept = under(alloc, block, "kept")?;
+    let kept = number(kept.as_str()) as usize;
+    Vec::from_slice(alloc, file.get(..kept).unwrap_or(&[]))
+}
+
+// A file as a block changes it.
+fn changed_bytes(alloc: Global, file: &[u8], block: &str) -> Result<Vec<u8>, AllocError> {
+    let mut bytes = kept_bytes(alloc, file, block)?;
     for line in block.lines() {
         put_line(alloc, bytes.as_mut_slice(), line)?;
     }
@@ -140,50 +138,25 @@ fn changed_bytes(alloc: Global, base: &[u8], block: &str) -> Result<Vec<u8>, Fai
     Ok(bytes)
 }
 
-// The plan and the bytes of a file.
-fn plan_in(alloc: Global, block: &str) -> Result<Plan, Fail> {
-    let text = under(alloc, block, "plan")?;
-    Ok(Plan::from_json(alloc, text.as_bytes())?)
+// Whether a file, as a block changes it, is read as the block says.
+fn is_read(alloc: Global, file: &[u8], plan: &Plan, block: &str) -> Result<bool, AllocError> {
+    let bytes = changed_bytes(alloc, file, block)?;
+    let wanted = under(alloc, block, "reading")?;
+    is_told(alloc, bytes.as_slice(), plan, wanted.as_str())
 }
 
-fn bytes_in(alloc: Global, block: &str) -> Result<Vec<u8>, Fail> {
-    bytes_under(alloc, block, "file")
-}
-
-// Asserts that bytes are read as a block says under a name.
-fn check_reading(
+// Asserts that of blocks.
+fn check_blocks(
     rt: &impl Abort,
     alloc: Global,
-    bytes: Vec<u8>,
+    file: &[u8],
     plan: &Plan,
-    (block, name): (&str, &str),
+    text: &str,
 ) -> Result<(), Fail> {
-    let text = told(alloc, bytes, plan)?;
-    let wanted = under(alloc, block, name)?;
-    assert_eq!(rt; text.as_str(), wanted.as_str(), "{block}");
-    Ok(())
-}
-
-#[test]
-fn files_are_read(rt: HostRuntime) -> Result<(), Fail> {
-    let alloc = rt.alloc();
-    for file in files() {
-        let mut blocks = file.split("\n\n");
-        let first = blocks.next().unwrap_or("");
-        let plan = plan_in(alloc, first)?;
-        let base = bytes_in(alloc, first)?;
-        let copy = Vec::from_slice(alloc, base.as_slice())?;
-        check_reading(&rt, alloc, copy, &plan, (first, "slips"))?;
-        for block in blocks {
-            let bytes = changed_bytes(alloc, base.as_slice(), block)?;
-            check_reading(&rt, alloc, bytes, &plan, (block, "reading"))?;
-        }
+    for block in text.split("\n\n") {
+        assert!(rt; is_read(alloc, file, plan, block)?, "{block}");
     }
     Ok(())
-}
-
-fn number(text: &str) -> u32 {
-    text.parse().unwrap_or(0)
 }
 
 fn result_of(alloc: Global, plan: &Plan, first: u32, count: u32) -> Result<PieceResult, Fail> {
@@ -191,30 +164,19 @@ fn result_of(alloc: Global, plan: &Plan, first: u32, count: u32) -> Result<Piece
     Ok(run_piece(alloc, plan, &rings, Piece { first, count })?)
 }
 
-// Appends the result of the piece that a slip begins with.
-fn append_piece(
-    alloc: Global,
-    journal: &mut Journal<MemoryDisk>,
-    plan: &Plan,
-    slip: &str,
-) -> Result<(), Fail> {
-    let mut numbers = slip.split(',');
-    let first = number(numbers.next().unwrap_or(""));
-    let size = number(numbers.next().unwrap_or(""));
-    let result = result_of(alloc, plan, first, size)?;
-    let _ = journal.append(&result);
-    Ok(())
-}
-
-// Appends the results of the pieces of slips.
+// Appends the results of the pieces that slips begin with.
 fn append_pieces(
     alloc: Global,
     journal: &mut Journal<MemoryDisk>,
     plan: &Plan,
     slips: &str,
 ) -> Result<(), Fail> {
-    for slip in slips.split(' ').filter(|slip| !slip.is_empty()) {
-        append_piece(alloc, journal, plan, slip)?;
+    for slip in slips.split_whitespace() {
+        let mut numbers = slip.split(',');
+        let first = number(numbers.next().unwrap_or(""));
+        let size = number(numbers.next().unwrap_or(""));
+        let result = result_of(alloc, plan, first, size)?;
+        let _ = journal.append(&result);
     }
     Ok(())
 }
@@ -230,34 +192,38 @@ fn written_disk(alloc: Global, plan: &Plan, slips: &str) -> Result<MemoryDisk, F
     }
 }
 
-// The bytes that are on that disk.
-fn written(alloc: Global, plan: &Plan, slips: &str) -> Result<Vec<u8>, Fail> {
-    let disk = written_disk(alloc, plan, slips)?;
-    Ok(Vec::from_slice(alloc, disk.bytes())?)
-}
-
-// The file that is written where a block's slips are appended.
-fn written_in(alloc: Global, block: &str) -> Result<Vec<u8>, Fail> {
-    let plan = plan_in(alloc, block)?;
+// Whether a file is what is written where a block's slips are appended, and is read as them.
+fn is_file(alloc: Global, file: &[u8], plan: &Plan, block: &str) -> Result<bool, Fail> {
     let slips = under(alloc, block, "slips")?;
-    written(alloc, &plan, slips.as_str())
+    let disk = written_disk(alloc, plan, slips.as_str())?;
+    Ok(disk.bytes() == file && is_told(alloc, file, plan, slips.as_str())?)
 }
 
-// Whether that file is the one that the block gives.
-fn is_written(alloc: Global, block: &str) -> Result<bool, Fail> {
-    let bytes = written_in(alloc, block)?;
-    let wanted = bytes_in(alloc, block)?;
-    Ok(bytes.as_slice() == wanted.as_slice())
+// The plan that a block gives.
+fn plan_in(alloc: Global, block: &str) -> Result<Plan, Fail> {
+    let text = under(alloc, block, "plan")?;
+    Ok(Plan::from_json(alloc, text.as_bytes())?)
+}
+
+// Asserts that the file of a text's first block is written and read as that one says, and read as the others say.
+fn check_text(rt: &impl Abort, alloc: Global, text: &str) -> Result<(), Fail> {
+    let (first, blocks) = text.split_once("\n\n").unwrap_or((text, ""));
+    let plan = plan_in(alloc, first)?;
+    let file = bytes_under(alloc, first, "file")?;
+    assert!(rt; is_file(alloc, file.as_slice(), &plan, first)?, "{first}");
+    check_blocks(rt, alloc, file.as_slice(), &plan, blocks)
+}
+
+fn check_texts(rt: &impl Abort, alloc: Global) -> Result<(), Fail> {
+    for text in files().split("\n\n\n") {
+        check_text(rt, alloc, text)?;
+    }
+    Ok(())
 }
 
 #[test]
-fn files_are_written(rt: HostRuntime) -> Result<(), Fail> {
-    let alloc = rt.alloc();
-    for file in files() {
-        let first = file.split("\n\n").next().unwrap_or("");
-        assert!(rt; is_written(alloc, first)?, "{first}");
-    }
-    Ok(())
+fn files_are_written_and_read(rt: HostRuntime) -> Result<(), Fail> {
+    check_texts(&rt, rt.alloc())
 }
 
 const SMALL: &str =
@@ -271,187 +237,108 @@ const SMALL_2: &str =
 "links":0,"nodes":5,"repeats":2,
 "seed":"0000000000000000000000000000000000000000000000000000000000000000","version":2}"#;
 
-#[test]
-fn a_small_plan_of_version_2(rt: HostRuntime) -> Result<(), Fail> {
-    let alloc = rt.alloc();
-    let plan = Plan::from_json(alloc, SMALL_2.as_bytes())?;
-    assert_eq!(rt; written(alloc, &plan, "")?.len(), 259);
-    let file = written(alloc, &plan, "0,2")?;
-    assert_eq!(rt; file.len(), 372);
-    assert!(rt; is_told(alloc, file.as_slice(), &plan, "0,2,8,0,0,0,8,2,2,8")?);
-    Ok(())
-}
-
-// A file in which a block puts bytes in place of others, and keeps all.
-fn put_bytes(alloc: Global, file: &[u8], change: &str) -> Result<Vec<u8>, Fail> {
-    let block = format!(in alloc; "kept {}\n{change}", file.len())?;
-    changed_bytes(alloc, file, block.as_str())
-}
-
-// Whether a change makes another file of this one, whose header is damaged.
-fn is_damage(alloc: Global, file: &[u8], plan: &Plan, change: &str) -> Result<bool, Fail> {
-    let bytes = put_bytes(alloc, file, change)?;
-    let is_damaged = is_told(alloc, bytes.as_slice(), plan, "Damaged 0")?;
-    Ok(bytes.as_slice() != file && is_damaged)
-}
-
-// Asserts that a change damages the file of a plan without slips.
-fn check_letters(rt: &impl Abort, alloc: Global, text: &str, change: &str) -> Result<(), Fail> {
-    let plan = Plan::from_json(alloc, text.as_bytes())?;
-    let file = written(alloc, &plan, "")?;
-    assert!(rt;
-        is_damage(alloc, file.as_slice(), &plan, change)?,
-        "{change}"
-    );
-    assert!(rt; is_told(alloc, file.as_slice(), &plan, "")?, "{change}");
-    Ok(())
-}
-
-// A file whose letters are those of the other version, and whose header's digest is right with them, is a
-// damaged one.
-#[test]
-fn letters_of_the_other_version(rt: HostRuntime) -> Result<(), Fail> {
-    let alloc = rt.alloc();
-    let rows = [
-        (
-            SMALL,
-            "put 8 32\nput 234 4f745823f6497a41833146a6b14548a42be54550eb42a54be0e316b518ef93d2",
-        ),
-        (
-            SMALL_2,
-            "put 8 31\nput 226 e9ec089ff8cfaecd0b0e87d66b9dd8c53b2176aa1c412662347a9b6cfb7f1dcf",
-        ),
-    ];
-    for (text, change) in rows {
-        check_letters(&rt, alloc, text, change)?;
-    }
-    Ok(())
-}
-
-// A file of the small plan with the slip of its two trials.
-fn small_file(alloc: Global, plan: &Plan) -> Result<Vec<u8>, Fail> {
-    written(alloc, plan, "0,2")
-}
-
-// What the slip of those trials is told as.
+// What the slip of the small plan's two trials is told as.
 const WHOLE: &str = "0,2,8,0,0,0,8,2,2";
 
-// What a file is read as where one byte is another.
-fn told_with(
-    alloc: Global,
-    file: &[u8],
-    plan: &Plan,
-    (at, byte): (usize, u8),
-) -> Result<String, Fail> {
-    let mut bytes = Vec::from_slice(alloc, file)?;
-    put_byte(bytes.as_mut_slice(), at, byte);
-    told(alloc, bytes, plan)
-}
+// A file of the small plan with that slip, in which bytes are changed, which ends early, or which is longer.
+const CHANGES: &str = "kept 372
+put 0 00
+reading NoStudy
 
-// What as many bytes of a file are read as.
-fn told_cut(alloc: Global, file: &[u8], plan: &Plan, size: usize) -> Result<String, Fail> {
-    let bytes = Vec::from_slice(alloc, file.get(..size).unwrap_or(&[]))?;
-    told(alloc, bytes, plan)
-}
+kept 372
+put 20 01
+reading Damaged 0
 
-// What a file is read as with other bytes behind.
-fn told_longer(alloc: Global, file: &[u8], plan: &Plan) -> Result<String, Fail> {
-    let mut longer = Vec::from_slice(alloc, file)?;
-    longer.extend_from_slice(&[0xA5; 100])?;
-    told(alloc, longer, plan)
-}
+kept 372
+put 266 37
 
-// That file alone, without its plan.
-fn lone_file(alloc: Global) -> Result<Vec<u8>, Fail> {
-    let plan = Plan::from_json(alloc, SMALL.as_bytes())?;
-    small_file(alloc, &plan)
-}
+kept 372
+put 300 01
+reading Damaged 1
 
-#[test]
-fn the_file_of_a_small_plan(rt: HostRuntime) -> Result<(), Fail> {
-    let file = lone_file(rt.alloc())?;
-    assert_eq!(rt; file.len(), 372);
-    for gate in [0, 266] {
-        assert_eq!(rt; file.get(gate).copied(), Some(0xA5));
-    }
-    assert_eq!(rt; file.get(371).copied(), Some(0));
-    Ok(())
-}
+kept 372
+put 371 a5
+reading Damaged 2
 
-// Asserts what a file is read as where one byte is another.
-fn check_changed(
+kept 372
+put 371 01
+reading 0,2,8,0,0,0,8,2,2
+
+kept 0
+reading NoStudy
+
+kept 1
+reading NoStudy
+
+kept 266
+reading Damaged 0
+
+kept 371
+reading Damaged 1
+
+kept 372
+reading 0,2,8,0,0,0,8,2,2
+
+kept 372
+tail a5a5a5a5a5a5a5a5a5a5a5a5a5a5a5a5a5a5a5a5a5a5a5a5a5a5a5a5a5a5a5a5a5a5a5a5a5a5a5a5a5a5a5a5a5a5a5a5a5a5
+tail a5a5a5a5a5a5a5a5a5a5a5a5a5a5a5a5a5a5a5a5a5a5a5a5a5a5a5a5a5a5a5a5a5a5a5a5a5a5a5a5a5a5a5a5a5a5a5a5a5a5
+reading 0,2,8,0,0,0,8,2,2";
+
+// Files whose letters are those of the other version, and whose header's digest is right with them.
+const LETTERS: &str = "kept 267
+
+kept 267
+put 8 32
+put 234 4f745823f6497a41833146a6b14548a42be54550eb42a54be0e316b518ef93d2
+reading Damaged 0";
+
+const LETTERS_2: &str = "kept 259
+
+kept 259
+put 8 31
+put 226 e9ec089ff8cfaecd0b0e87d66b9dd8c53b2176aa1c412662347a9b6cfb7f1dcf
+reading Damaged 0";
+
+// Asserts how long the file of a plan and of the pieces of slips is, and how it is read as blocks change it.
+fn check_changes(
     rt: &impl Abort,
     alloc: Global,
-    file: &[u8],
-    plan: &Plan,
-    (at, byte, reading): (usize, u8, &str),
+    (json, slips, length, blocks): (&str, &str, usize, &str),
 ) -> Result<(), Fail> {
-    let text = told_with(alloc, file, plan, (at, byte))?;
-    assert_eq!(rt; text.as_str(), reading, "{at}");
-    Ok(())
+    let plan = Plan::from_json(alloc, json.as_bytes())?;
+    let disk = written_disk(alloc, &plan, slips)?;
+    assert!(rt; disk.bytes().len() == length);
+    check_blocks(rt, alloc, disk.bytes(), &plan, blocks)
 }
 
 #[test]
 fn changed_files_of_a_small_plan(rt: HostRuntime) -> Result<(), Fail> {
-    let alloc = rt.alloc();
-    let plan = Plan::from_json(alloc, SMALL.as_bytes())?;
-    let file = small_file(alloc, &plan)?;
-    let rows = [
-        (0, 0, "NoStudy"),
-        (20, 1, "Damaged 0"),
-        (266, 0x37, ""),
-        (300, 1, "Damaged 1"),
-        (371, 0xA5, "Damaged 2"),
-        (371, 1, WHOLE),
-    ];
-    for row in rows {
-        check_changed(&rt, alloc, file.as_slice(), &plan, row)?;
-    }
-    Ok(())
+    check_changes(&rt, rt.alloc(), (SMALL, "0,2", 372, CHANGES))
 }
 
-// Asserts what as many bytes of a file are read as.
-fn check_cut(
-    rt: &impl Abort,
-    alloc: Global,
-    file: &[u8],
-    plan: &Plan,
-    (size, reading): (usize, &str),
-) -> Result<(), Fail> {
-    let text = told_cut(alloc, file, plan, size)?;
-    assert_eq!(rt; text.as_str(), reading, "{size}");
-    Ok(())
+fn check_version_2(rt: &impl Abort, alloc: Global) -> Result<(), Fail> {
+    check_changes(rt, alloc, (SMALL_2, "", 259, "kept 259"))?;
+    let whole = "kept 372\nreading 0,2,8,0,0,0,8,2,2,8";
+    check_changes(rt, alloc, (SMALL_2, "0,2", 372, whole))
 }
 
 #[test]
-fn cut_files_of_a_small_plan(rt: HostRuntime) -> Result<(), Fail> {
-    let alloc = rt.alloc();
-    let plan = Plan::from_json(alloc, SMALL.as_bytes())?;
-    let file = small_file(alloc, &plan)?;
-    for row in [
-        (0, "NoStudy"),
-        (1, "NoStudy"),
-        (266, "Damaged 0"),
-        (371, "Damaged 1"),
-        (372, WHOLE),
-    ] {
-        check_cut(&rt, alloc, file.as_slice(), &plan, row)?;
-    }
-    Ok(())
+fn a_small_plan_of_version_2(rt: HostRuntime) -> Result<(), Fail> {
+    check_version_2(&rt, rt.alloc())
+}
+
+fn check_letters(rt: &impl Abort, alloc: Global) -> Result<(), Fail> {
+    check_changes(rt, alloc, (SMALL, "", 267, LETTERS))?;
+    check_changes(rt, alloc, (SMALL_2, "", 259, LETTERS_2))
 }
 
 #[test]
-fn a_longer_file_of_a_small_plan(rt: HostRuntime) -> Result<(), Fail> {
-    let alloc = rt.alloc();
-    let plan = Plan::from_json(alloc, SMALL.as_bytes())?;
-    let file = small_file(alloc, &plan)?;
-    let text = told_longer(alloc, file.as_slice(), &plan)?;
-    assert_eq!(rt; text.as_str(), WHOLE);
-    Ok(())
+fn letters_of_the_other_version(rt: HostRuntime) -> Result<(), Fail> {
+    check_letters(&rt, rt.alloc())
 }
 
 // Whether a creation is refused on a disk that holds a study, and leaves its bytes.
-fn is_held(alloc: Global, bytes: &[u8], plan: &Plan) -> Result<bool, Fail> {
+fn is_held(alloc: Global, bytes: &[u8], plan: &Plan) -> Result<bool, AllocError> {
     let disk = MemoryDisk::of(alloc, Vec::from_slice(alloc, bytes)?)?;
     Ok(match Journal::create(alloc, disk, plan) {
         Err((fault, disk)) => matches!(fault, JournalFault::Held) && disk.bytes() == bytes,
@@ -459,132 +346,144 @@ fn is_held(alloc: Global, bytes: &[u8], plan: &Plan) -> Result<bool, Fail> {
     })
 }
 
-// The plan of the first of the files.
-fn other_plan(alloc: Global) -> Result<Plan, Fail> {
-    let [other, ..] = files();
-    plan_in(alloc, other.split("\n\n").next().unwrap_or(""))
-}
-
-// Whether bytes are those of a study of another plan than that one.
+// Whether bytes are those of a study of another plan than that of the first text.
 fn is_other(alloc: Global, bytes: &[u8]) -> Result<bool, Fail> {
-    let other = other_plan(alloc)?;
-    is_told(alloc, bytes, &other, "OtherPlan")
+    let other = plan_in(alloc, files().split("\n\n").next().unwrap_or(""))?;
+    let is_refused = is_refused(alloc, bytes, &other)?;
+    Ok(is_refused && is_told(alloc, bytes, &other, "OtherPlan")?)
 }
 
-#[test]
-fn held_and_other_plans(rt: HostRuntime) -> Result<(), Fail> {
-    let alloc = rt.alloc();
-    let plan = Plan::from_json(alloc, SMALL.as_bytes())?;
-    let file = small_file(alloc, &plan)?;
-    assert!(rt; is_held(alloc, file.as_slice(), &plan)?);
-    assert!(rt; is_other(alloc, file.as_slice())?);
-    Ok(())
-}
-
-// What an opening finds: how many slips, or the line of a fault, and the disk that it hands back.
-fn opened(alloc: Global, disk: MemoryDisk, plan: &Plan) -> Result<(String, MemoryDisk), Fail> {
-    Ok(match Journal::open(alloc, disk, plan) {
-        Ok((journal, slips)) => (
-            format!(in alloc; "{} slips", slips.len())?,
-            journal.into_disk(),
-        ),
-        Err((fault, disk)) => (format!(in alloc; "{fault}")?, disk),
+// Whether an opening for that plan is refused too, and hands the disk back with its bytes.
+fn is_refused(alloc: Global, bytes: &[u8], other: &Plan) -> Result<bool, AllocError> {
+    let disk = MemoryDisk::of(alloc, Vec::from_slice(alloc, bytes)?)?;
+    Ok(match Journal::open(alloc, disk, other) {
+        Err((fault, disk)) => matches!(fault, JournalFault::OtherPlan) && disk.bytes() == bytes,
+        Ok(_journal) => false,
     })
 }
 
-// Asserts what an opening finds, and gives the disk back.
-fn open_as(
-    rt: &impl Abort,
+// Whether an opening finds as many slips, and leaves a file of these bytes.
+fn is_opened(
     alloc: Global,
-    disk: MemoryDisk,
+    bytes: &[u8],
     plan: &Plan,
-    wanted: &str,
-) -> Result<MemoryDisk, Fail> {
-    let (line, disk) = opened(alloc, disk, plan)?;
-    assert_eq!(rt; line.as_str(), wanted);
-    Ok(disk)
-}
-
-#[test]
-fn a_journal_is_made(rt: HostRuntime) -> Result<(), Fail> {
-    let alloc = rt.alloc();
-    let plan = Plan::from_json(alloc, SMALL.as_bytes())?;
-    let disk = MemoryDisk::of(alloc, Vec::new(alloc))?;
-    let disk = open_as(&rt, alloc, disk, &plan, "0 slips")?;
-    assert_eq!(rt; disk.bytes().len(), 267);
-    let disk = open_as(&rt, alloc, disk, &plan, "0 slips")?;
-    assert_eq!(rt; disk.bytes().len(), 267);
-    Ok(())
-}
-
-// Opens the journal of a file, and gives its disk.
-fn open_file(rt: &impl Abort, alloc: Global, file: &[u8], plan: &Plan) -> Result<MemoryDisk, Fail> {
-    let disk = MemoryDisk::of(alloc, Vec::from_slice(alloc, file)?)?;
-    open_as(rt, alloc, disk, plan, "1 slips")
-}
-
-// Opens it for another plan.
-fn open_other(rt: &impl Abort, alloc: Global, disk: MemoryDisk) -> Result<MemoryDisk, Fail> {
-    let other = other_plan(alloc)?;
-    open_as(rt, alloc, disk, &other, "23 OtherPlan")
-}
-
-#[test]
-fn a_journal_is_opened(rt: HostRuntime) -> Result<(), Fail> {
-    let alloc = rt.alloc();
-    let plan = Plan::from_json(alloc, SMALL.as_bytes())?;
-    let file = small_file(alloc, &plan)?;
-    let disk = open_file(&rt, alloc, file.as_slice(), &plan)?;
-    let disk = open_other(&rt, alloc, disk)?;
-    assert!(rt; disk.bytes() == file.as_slice());
-    Ok(())
-}
-
-fn call_text(alloc: Global, call: &DiskCall) -> Result<String, Fail> {
-    Ok(match call {
-        DiskCall::Write { at, put } => format!(in alloc; "write {at} {}", put.as_slice().len())?,
-        DiskCall::Torn { at, stop } => format!(in alloc; "torn {at} {stop}")?,
-        DiskCall::Sync => String::from_str(alloc, "sync")?,
+    (count, file): (usize, &[u8]),
+) -> Result<bool, AllocError> {
+    let disk = MemoryDisk::of(alloc, Vec::from_slice(alloc, bytes)?)?;
+    Ok(match Journal::open(alloc, disk, plan) {
+        Ok((journal, slips)) => slips.len() == count && journal.disk().bytes() == file,
+        Err(_refused) => false,
     })
 }
 
-// The calls of a disk, each on a line.
-fn calls_text(alloc: Global, calls: &[DiskCall]) -> Result<String, Fail> {
-    let mut text = String::new(alloc);
-    for call in calls {
-        text.push_str(call_text(alloc, call)?.as_str())?;
-        text.push('\n')?;
+// Whether a journal is made on an empty disk, and is there when it is opened again.
+fn is_made(alloc: Global, plan: &Plan) -> Result<bool, Fail> {
+    let disk = written_disk(alloc, plan, "")?;
+    let new = disk.bytes();
+    let is_made = is_opened(alloc, &[], plan, (0, new))?;
+    Ok(new.len() == 267 && is_made && is_opened(alloc, new, plan, (0, new))?)
+}
+
+// Whether the file of the small plan's slip has its gates, the last of which is closed.
+fn has_gates(file: &[u8]) -> bool {
+    file.len() == 372 && file[0] == 0xA5 && file[266] == 0xA5 && file[371] == 0
+}
+
+// Whether that file is opened for its plan alone, and no other journal is made there.
+fn is_there(alloc: Global, plan: &Plan) -> Result<bool, Fail> {
+    let disk = written_disk(alloc, plan, "0,2")?;
+    let file = disk.bytes();
+    let is_opened = is_opened(alloc, file, plan, (1, file))?;
+    let is_held = is_held(alloc, file, plan)?;
+    Ok(has_gates(file) && is_opened && is_held && is_other(alloc, file)?)
+}
+
+fn check_openings(rt: &impl Abort, alloc: Global, plan: &Plan) -> Result<(), Fail> {
+    assert!(rt; is_made(alloc, plan)?);
+    assert!(rt; is_there(alloc, plan)?);
+    Ok(())
+}
+
+#[test]
+fn journals_are_made_and_opened(rt: HostRuntime) -> Result<(), Fail> {
+    let plan = Plan::from_json(rt.alloc(), SMALL.as_bytes())?;
+    check_openings(&rt, rt.alloc(), &plan)
+}
+
+// Whether a call is a write of as many bytes at a place, or a sync where there is no such pair.
+fn is_call(call: &DiskCall, wanted: Option<(u64, usize)>) -> bool {
+    match (call, wanted) {
+        (DiskCall::Write { at, put }, Some((place, size))) => {
+            *at == place && put.as_slice().len() == size
+        }
+        (DiskCall::Sync, None) => true,
+        _ => false,
     }
-    Ok(text)
 }
 
-// The calls of a small plan's journal that takes the slip of its two trials.
-fn small_calls(alloc: Global, text: &str) -> Result<String, Fail> {
-    let plan = Plan::from_json(alloc, text.as_bytes())?;
+// Whether calls are those, in their order.
+fn are_calls(calls: &[DiskCall], wanted: &[Option<(u64, usize)>]) -> bool {
+    for (call, wanted) in calls.iter().zip(wanted) {
+        if !is_call(call, *wanted) {
+            return false;
+        }
+    }
+    calls.len() == wanted.len()
+}
+
+// What a creation and an append of the slip of two trials do to a disk, in order.
+fn has_order(
+    alloc: Global,
+    json: &str,
+    [header, slip, gate]: [(u64, usize); 3],
+) -> Result<bool, Fail> {
+    let plan = Plan::from_json(alloc, json.as_bytes())?;
     let disk = written_disk(alloc, &plan, "0,2")?;
-    calls_text(alloc, disk.calls())
+    let (first, last) = (Some((0, 1)), Some(gate));
+    let wanted = [
+        None,
+        first,
+        None,
+        Some(header),
+        None,
+        first,
+        None,
+        Some(slip),
+        None,
+        last,
+        None,
+    ];
+    Ok(are_calls(disk.calls(), &wanted))
 }
 
-// What a creation and an append do to a disk, in order.
+fn check_order(rt: &impl Abort, alloc: Global) -> Result<(), Fail> {
+    assert!(rt; has_order(alloc, SMALL, [(1, 266), (267, 105), (266, 1)])?);
+    assert!(rt; has_order(alloc, SMALL_2, [(1, 258), (259, 113), (258, 1)])?);
+    Ok(())
+}
+
 #[test]
 fn calls_come_in_order(rt: HostRuntime) -> Result<(), Fail> {
-    let alloc = rt.alloc();
-    for (plan, header, slip, gate) in [
-        (SMALL, "write 1 266", "write 267 105", "write 266 1"),
-        (SMALL_2, "write 1 258", "write 259 113", "write 258 1"),
-    ] {
-        let wanted = format!(in alloc;
-            "sync\nwrite 0 1\nsync\n{header}\nsync\nwrite 0 1\nsync\n{slip}\nsync\n{gate}\nsync\n"
-        )?;
-        let text = small_calls(alloc, plan)?;
-        assert_eq!(rt; text.as_str(), wanted.as_str());
+    check_order(&rt, rt.alloc())
+}
+
+// Asserts that faults are printed so.
+fn check_printed(
+    rt: &impl Abort,
+    alloc: Global,
+    rows: &[(JournalFault, &str)],
+) -> Result<(), Fail> {
+    for (fault, wanted) in rows {
+        assert!(rt;
+            format!(in alloc; "{fault}")?.as_str() == *wanted,
+            "{wanted}"
+        );
     }
     Ok(())
 }
 
 #[test]
 fn faults_are_printed(rt: HostRuntime) -> Result<(), Fail> {
-    let alloc = rt.alloc();
     let rows = [
         (JournalFault::Memory, "0 Memory"),
         (JournalFault::Disk, "20 Disk"),
@@ -594,8 +493,5 @@ fn faults_are_printed(rt: HostRuntime) -> Result<(), Fail> {
         (JournalFault::Damaged(7), "24 Damaged 7"),
         (JournalFault::Held, "25 Held"),
     ];
-    for (fault, text) in rows {
-        assert_eq!(rt; format!(in alloc; "{fault}")?.as_str(), text);
-    }
-    Ok(())
+    check_printed(&rt, rt.alloc(), &rows)
 }

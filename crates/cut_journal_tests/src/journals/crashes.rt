@@ -1,9 +1,9 @@
 //! What crashes may leave of a creation and an append.
 
-use super::{SMALL, WHOLE, small_file, told};
+use super::{SMALL, WHOLE, is_told, written_disk};
 use crate::change::put_byte;
 use cut_plan::Plan;
-use std::alloc::Global;
+use std::alloc::{AllocError, Global};
 use std::process::Abort;
 use std::test::Fail;
 
@@ -21,10 +21,9 @@ fn torn(
     alloc: Global,
     old: &[u8],
     new: &[u8],
-    start: usize,
-    stop: usize,
+    (start, stop): (usize, usize),
     seed: u64,
-) -> Result<Vec<u8>, Fail> {
+) -> Result<Vec<u8>, AllocError> {
     let mut bytes = Vec::new(alloc);
     let mut seed = seed;
     for (at, written) in new.iter().enumerate() {
@@ -48,7 +47,7 @@ fn torn(
 
 // What is on a disk after as many writes of a creation and an append that give this file: the header's gate is
 // closed before the third of them, and the slip's before the fifth.
-fn after_writes(alloc: Global, file: &[u8], writes: usize) -> Result<Vec<u8>, Fail> {
+fn after_writes(alloc: Global, file: &[u8], writes: usize) -> Result<Vec<u8>, AllocError> {
     let sizes: [usize; 5] = [0, 1, 267, 267, 372];
     let size = sizes.get(writes).copied().unwrap_or(372);
     let mut bytes = Vec::from_slice(alloc, file.get(..size).unwrap_or(&[]))?;
@@ -61,34 +60,51 @@ fn after_writes(alloc: Global, file: &[u8], writes: usize) -> Result<Vec<u8>, Fa
     Ok(bytes)
 }
 
-// What a drawn crash leaves that comes after as many writes, while bytes of this span are written.
-fn crashed(
+// How many writes came before a crash, which bytes were being written, and what may be read.
+type Crash<'a> = (usize, (usize, usize), [&'a str; 2]);
+
+// Whether what is left between two states of a disk by a crash that is drawn is read as one of two texts.
+fn is_left(
     alloc: Global,
-    file: &[u8],
-    writes: usize,
-    (start, stop): (usize, usize),
+    plan: &Plan,
+    (old, new): (&[u8], &[u8]),
+    (span, [one, two]): ((usize, usize), [&str; 2]),
     seed: u64,
-) -> Result<Vec<u8>, Fail> {
-    let old = after_writes(alloc, file, writes)?;
-    let new = after_writes(alloc, file, writes.wrapping_add(1))?;
-    torn(alloc, old.as_slice(), new.as_slice(), start, stop, seed)
+) -> Result<bool, AllocError> {
+    let bytes = torn(alloc, old, new, span, seed)?;
+    let is_one = is_told(alloc, bytes.as_slice(), plan, one)?;
+    Ok(is_one || is_told(alloc, bytes.as_slice(), plan, two)?)
 }
 
-// Asserts that what such a crash leaves is read as one of two texts.
+// Asserts that of forty crashes.
 fn check_crash(
     rt: &impl Abort,
     alloc: Global,
     file: &[u8],
     plan: &Plan,
-    (writes, span, readings): (usize, (usize, usize), [&str; 2]),
-    seed: u64,
+    (writes, span, readings): Crash<'_>,
 ) -> Result<(), Fail> {
-    let bytes = crashed(alloc, file, writes, span, seed)?;
-    let reading = told(alloc, bytes, plan)?;
-    assert!(rt;
-        readings.contains(&reading.as_str()),
-        "{writes} {seed} {reading}"
-    );
+    let old = after_writes(alloc, file, writes)?;
+    let new = after_writes(alloc, file, writes.wrapping_add(1))?;
+    for seed in 0..40 {
+        let moments = (old.as_slice(), new.as_slice());
+        let is_left = is_left(alloc, plan, moments, (span, readings), seed)?;
+        assert!(rt; is_left, "{writes} {seed}");
+    }
+    Ok(())
+}
+
+// Asserts that of each row.
+fn check_crashes(
+    rt: &impl Abort,
+    alloc: Global,
+    plan: &Plan,
+    rows: &[Crash<'_>],
+) -> Result<(), Fail> {
+    let disk = written_disk(alloc, plan, "0,2")?;
+    for row in rows {
+        check_crash(rt, alloc, disk.bytes(), plan, *row)?;
+    }
     Ok(())
 }
 
@@ -96,9 +112,7 @@ fn check_crash(
 // the slip too.
 #[test]
 fn crashes_leave_a_study(rt: HostRuntime) -> Result<(), Fail> {
-    let alloc = rt.alloc();
-    let plan = Plan::from_json(alloc, SMALL.as_bytes())?;
-    let file = small_file(alloc, &plan)?;
+    let plan = Plan::from_json(rt.alloc(), SMALL.as_bytes())?;
     let rows = [
         (0, (0, 1), ["NoStudy", "NoStudy"]),
         (1, (1, 267), ["NoStudy", "NoStudy"]),
@@ -106,10 +120,5 @@ fn crashes_leave_a_study(rt: HostRuntime) -> Result<(), Fail> {
         (3, (267, 372), ["", ""]),
         (4, (266, 267), ["", WHOLE]),
     ];
-    for row in rows {
-        for seed in 0..40 {
-            check_crash(&rt, alloc, file.as_slice(), &plan, row, seed)?;
-        }
-    }
-    Ok(())
+    check_crashes(&rt, rt.alloc(), &plan, &rows)
 }

@@ -1,11 +1,11 @@
 //! Disks of which one call fails.
 
-use super::{SMALL, result_of, small_file};
+use super::{SMALL, result_of, written_disk};
 use cut_disks::{Disk, FaultyDisk, Tear};
 use cut_journal::{Journal, JournalFault};
 use cut_plan::Plan;
 use cut_trial::PieceResult;
-use std::alloc::Global;
+use std::alloc::{AllocError, Global};
 use std::process::Abort;
 use std::test::Fail;
 
@@ -32,7 +32,7 @@ fn append_holds(
     plan: &Plan,
     offered: &PieceResult,
     (fail_at, tear, slips): (u64, Tear, usize),
-) -> Result<bool, Fail> {
+) -> Result<bool, AllocError> {
     let disk = FaultyDisk::of(alloc, Vec::new(alloc), fail_at, tear)?;
     let Ok(mut journal) = Journal::create(alloc, disk, plan) else {
         return Ok(false);
@@ -45,19 +45,21 @@ fn append_holds(
     Ok(answers && found)
 }
 
-// Asserts that, of the row's failing call.
-fn check_append(
+// Asserts that of each row, for the result of two trials.
+fn check_appends(
     rt: &impl Abort,
     alloc: Global,
     plan: &Plan,
-    offered: &PieceResult,
-    row: (u64, Tear, usize),
+    rows: &[(u64, Tear, usize)],
 ) -> Result<(), Fail> {
-    let (fail_at, tear, _) = row;
-    assert!(rt;
-        append_holds(alloc, plan, offered, row)?,
-        "{fail_at} {tear:?}"
-    );
+    let result = result_of(alloc, plan, 0, 2)?;
+    for row in rows {
+        let (fail_at, tear, _) = *row;
+        assert!(rt;
+            append_holds(alloc, plan, &result, *row)?,
+            "{fail_at} {tear:?}"
+        );
+    }
     Ok(())
 }
 
@@ -65,9 +67,7 @@ fn check_append(
 // the slip is there or it isn't.
 #[test]
 fn a_failing_append(rt: HostRuntime) -> Result<(), Fail> {
-    let alloc = rt.alloc();
-    let plan = Plan::from_json(alloc, SMALL.as_bytes())?;
-    let result = result_of(alloc, &plan, 0, 2)?;
+    let plan = Plan::from_json(rt.alloc(), SMALL.as_bytes())?;
     let rows = [
         (1, Tear::Nothing, 0),
         (2, Tear::Nothing, 0),
@@ -79,10 +79,7 @@ fn a_failing_append(rt: HostRuntime) -> Result<(), Fail> {
         (4, Tear::Everything, 1),
         (5, Tear::Everything, 1),
     ];
-    for row in rows {
-        check_append(&rt, alloc, &plan, &result, row)?;
-    }
-    Ok(())
+    check_appends(&rt, rt.alloc(), &plan, &rows)
 }
 
 // Whether a disk holds no study, so that one can be made, or a study without slips.
@@ -97,7 +94,12 @@ fn is_empty_or_new(alloc: Global, disk: FaultyDisk, plan: &Plan) -> bool {
 }
 
 // Whether a creation of which this call of the disk fails hands back such a disk, or no call failed.
-fn creation_holds(alloc: Global, plan: &Plan, fail_at: u64, tear: Tear) -> Result<bool, Fail> {
+fn creation_holds(
+    alloc: Global,
+    plan: &Plan,
+    fail_at: u64,
+    tear: Tear,
+) -> Result<bool, AllocError> {
     let disk = FaultyDisk::of(alloc, Vec::new(alloc), fail_at, tear)?;
     disk.arm();
     Ok(match Journal::create(alloc, disk, plan) {
@@ -109,21 +111,27 @@ fn creation_holds(alloc: Global, plan: &Plan, fail_at: u64, tear: Tear) -> Resul
     })
 }
 
+// Asserts that of each call.
+fn check_creations(rt: &impl Abort, alloc: Global, plan: &Plan) -> Result<(), Fail> {
+    for fail_at in 1..=8 {
+        assert!(rt;
+            creation_holds(alloc, plan, fail_at, Tear::Nothing)?,
+            "{fail_at}"
+        );
+        assert!(rt;
+            creation_holds(alloc, plan, fail_at, Tear::Everything)?,
+            "{fail_at}"
+        );
+    }
+    Ok(())
+}
+
 // Each device call of a creation fails in turn: the disk is handed back, and then holds no study, so that a
 // second creation succeeds, or the study without slips.
 #[test]
 fn a_failing_creation(rt: HostRuntime) -> Result<(), Fail> {
-    let alloc = rt.alloc();
-    let plan = Plan::from_json(alloc, SMALL.as_bytes())?;
-    for tear in [Tear::Nothing, Tear::Everything] {
-        for fail_at in 1..=8 {
-            assert!(rt;
-                creation_holds(alloc, &plan, fail_at, tear)?,
-                "{fail_at} {tear:?}"
-            );
-        }
-    }
-    Ok(())
+    let plan = Plan::from_json(rt.alloc(), SMALL.as_bytes())?;
+    check_creations(&rt, rt.alloc(), &plan)
 }
 
 // Whether one call of a disk has failed, and the study is there again.
@@ -134,7 +142,12 @@ fn is_there_again(alloc: Global, disk: FaultyDisk, plan: &Plan) -> bool {
 }
 
 // Whether a reopening hands such a disk back where this call fails, or finds the slip where it is the twelfth.
-fn reopening_holds(alloc: Global, file: &[u8], plan: &Plan, fail_at: u64) -> Result<bool, Fail> {
+fn reopening_holds(
+    alloc: Global,
+    file: &[u8],
+    plan: &Plan,
+    fail_at: u64,
+) -> Result<bool, AllocError> {
     let bytes = Vec::from_slice(alloc, file)?;
     let disk = FaultyDisk::of(alloc, bytes, fail_at, Tear::Everything)?;
     disk.arm();
@@ -149,18 +162,22 @@ fn reopening_holds(alloc: Global, file: &[u8], plan: &Plan, fail_at: u64) -> Res
     })
 }
 
-// Each device call of a reopening fails in turn: the disk is handed back with one failed call and its bytes,
-// and the study is there again.
-#[test]
-fn a_failing_reopening(rt: HostRuntime) -> Result<(), Fail> {
-    let alloc = rt.alloc();
-    let plan = Plan::from_json(alloc, SMALL.as_bytes())?;
-    let file = small_file(alloc, &plan)?;
+// Asserts that of each call, for the file of two trials' slip.
+fn check_reopenings(rt: &impl Abort, alloc: Global, plan: &Plan) -> Result<(), Fail> {
+    let disk = written_disk(alloc, plan, "0,2")?;
     for fail_at in 1..=12 {
         assert!(rt;
-            reopening_holds(alloc, file.as_slice(), &plan, fail_at)?,
+            reopening_holds(alloc, disk.bytes(), plan, fail_at)?,
             "{fail_at}"
         );
     }
     Ok(())
+}
+
+// Each device call of a reopening fails in turn: the disk is handed back with one failed call and its bytes,
+// and the study is there again.
+#[test]
+fn a_failing_reopening(rt: HostRuntime) -> Result<(), Fail> {
+    let plan = Plan::from_json(rt.alloc(), SMALL.as_bytes())?;
+    check_reopenings(&rt, rt.alloc(), &plan)
 }

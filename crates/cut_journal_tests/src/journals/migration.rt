@@ -7,7 +7,7 @@ use cut_journal::{Journal, MigrateFault, migrate};
 use cut_ledger::Slip;
 use cut_plan::Plan;
 use cut_trial::{Piece, Totals};
-use std::alloc::Global;
+use std::alloc::{AllocError, Global};
 use std::process::Abort;
 use std::test::Fail;
 
@@ -34,6 +34,9 @@ const TRUE: [u64; 7] = [4, 0, 0, 0, 4, 1, 1];
 
 const FALSE: [u64; 7] = [4, 4, 0, 0, 4, 1, 0];
 
+/// What the slip of a true first trial is told as once it is moved.
+const MOVED: &str = "0,1,4,0,0,0,4,1,1,4";
+
 /// The small plan, and its upgrade as a text gives it.
 fn small_plans(alloc: Global) -> Result<(Plan, Plan), Fail> {
     let plan = Plan::from_json(alloc, SMALL.as_bytes())?;
@@ -41,59 +44,35 @@ fn small_plans(alloc: Global) -> Result<(Plan, Plan), Fail> {
     Ok((plan, upgrade))
 }
 
-/// What the moving of slips to a journal answers, as it is printed.
-fn answer_text(
+/// Whether the moving of slips to a journal answers so, as it is printed.
+fn is_answer(
     alloc: Global,
     slips: &[Slip],
     plan: &Plan,
     journal: &mut Journal<MemoryDisk>,
-) -> Result<String, Fail> {
-    Ok(match migrate(alloc, slips, plan, journal) {
-        Ok(count) => format!(in alloc; "{count}")?,
-        Err(fault) => format!(in alloc; "{fault}")?,
-    })
+    wanted: &str,
+) -> Result<bool, AllocError> {
+    let answer = match migrate(alloc, slips, plan, journal) {
+        Ok(count) => format!(in alloc; "{count}"),
+        Err(fault) => format!(in alloc; "{fault}"),
+    }?;
+    Ok(answer.as_str() == wanted)
 }
 
-/// What the moving of these slips to a new journal answers, and what is on its disk then.
-fn moved(
-    alloc: Global,
-    slips: &[Slip],
-    plan: &Plan,
-    target: &Plan,
-) -> Result<(String, Vec<u8>), Fail> {
-    match Journal::create(alloc, MemoryDisk::of(alloc, Vec::new(alloc))?, target) {
-        Ok(mut journal) => {
-            let answer = answer_text(alloc, slips, plan, &mut journal)?;
-            let bytes = Vec::from_slice(alloc, journal.into_disk().bytes())?;
-            Ok((answer, bytes))
-        }
-        Err(_) => Ok((String::new(alloc), Vec::new(alloc))),
-    }
-}
-
-/// Asserts what that moving answers, and gives what is on the disk then.
-fn move_as(
-    rt: &impl Abort,
+/// Whether the moving of these slips to a new journal answers so, and leaves as many bytes, which are read so.
+fn is_moved(
     alloc: Global,
     slips: &[Slip],
     (plan, target): (&Plan, &Plan),
-    wanted: &str,
-) -> Result<Vec<u8>, Fail> {
-    let (answer, bytes) = moved(alloc, slips, plan, target)?;
-    assert_eq!(rt; answer.as_str(), wanted);
-    Ok(bytes)
-}
-
-/// Asserts what that moving answers, and gives how many bytes are on the disk then.
-fn length_moved(
-    rt: &impl Abort,
-    alloc: Global,
-    slips: &[Slip],
-    plans: (&Plan, &Plan),
-    wanted: &str,
-) -> Result<usize, Fail> {
-    let bytes = move_as(rt, alloc, slips, plans, wanted)?;
-    Ok(bytes.len())
+    (answer, length, reading): (&str, usize, &str),
+) -> Result<bool, AllocError> {
+    let disk = MemoryDisk::of(alloc, Vec::new(alloc))?;
+    let Ok(mut journal) = Journal::create(alloc, disk, target) else {
+        return Ok(false);
+    };
+    let is_answer = is_answer(alloc, slips, plan, &mut journal, answer)?;
+    let bytes = journal.disk().bytes();
+    Ok(is_answer && bytes.len() == length && is_told(alloc, bytes, target, reading)?)
 }
 
 fn is_upgrade(alloc: Global, plan: &Plan, upgrade: &Plan) -> Result<bool, Fail> {
@@ -101,58 +80,72 @@ fn is_upgrade(alloc: Global, plan: &Plan, upgrade: &Plan) -> Result<bool, Fail> 
     Ok(upgraded.same(upgrade))
 }
 
+/// Slips that are true, or none, are moved.
+fn check_true(rt: &impl Abort, alloc: Global, plans: &(Plan, Plan)) -> Result<(), Fail> {
+    let (plan, upgrade) = plans;
+    assert!(rt; is_upgrade(alloc, plan, upgrade)?);
+    assert!(rt; is_moved(alloc, &[slip(0, TRUE)], (plan, upgrade), ("1", 372, MOVED))?);
+    assert!(rt; is_moved(alloc, &[], (plan, upgrade), ("0", 259, ""))?);
+    Ok(())
+}
+
 #[test]
 fn true_slips_are_moved(rt: HostRuntime) -> Result<(), Fail> {
-    let alloc = rt.alloc();
-    let (plan, upgrade) = small_plans(alloc)?;
-    assert!(rt; is_upgrade(alloc, &plan, &upgrade)?);
-    let bytes = move_as(&rt, alloc, &[slip(0, TRUE)], (&plan, &upgrade), "1")?;
-    assert_eq!(rt; bytes.len(), 372);
-    assert!(rt; is_told(alloc, bytes.as_slice(), &upgrade, "0,1,4,0,0,0,4,1,1,4")?);
-    Ok(())
+    let plans = small_plans(rt.alloc())?;
+    check_true(&rt, rt.alloc(), &plans)
 }
 
-#[test]
-fn no_slips_are_moved(rt: HostRuntime) -> Result<(), Fail> {
-    let alloc = rt.alloc();
-    let (plan, upgrade) = small_plans(alloc)?;
-    assert_eq!(rt; length_moved(&rt, alloc, &[], (&plan, &upgrade), "0")?, 259);
-    Ok(())
-}
+/// Slips, what their moving answers, how many bytes are on the disk then, and what they are read as.
+type Row<'a> = ([Slip; 2], (&'a str, usize, &'a str));
 
-#[test]
-fn other_slips_are_not(rt: HostRuntime) -> Result<(), Fail> {
-    let alloc = rt.alloc();
-    let (plan, upgrade) = small_plans(alloc)?;
-    let rows = [
-        ([slip(0, FALSE), slip(1, TRUE)], "46 Disagrees 1", 259),
-        ([slip(0, TRUE), slip(1, FALSE)], "46 Disagrees 2", 372),
-        ([slip(0, TRUE), slip(0, TRUE)], "17 BadSlip 2", 259),
-        ([slip(0, FALSE), slip(0, TRUE)], "17 BadSlip 2", 259),
-    ];
-    for (slips, text, length) in rows {
-        assert_eq!(rt;
-            length_moved(&rt, alloc, &slips, (&plan, &upgrade), text)?,
-            length
-        );
+fn check_rows(
+    rt: &impl Abort,
+    alloc: Global,
+    plans: (&Plan, &Plan),
+    rows: &[Row<'_>],
+) -> Result<(), Fail> {
+    for (slips, wanted) in rows {
+        assert!(rt; is_moved(alloc, slips, plans, *wanted)?, "{wanted:?}");
     }
     Ok(())
 }
 
 #[test]
-fn other_plans_are_not(rt: HostRuntime) -> Result<(), Fail> {
-    let alloc = rt.alloc();
-    let (plan, upgrade) = small_plans(alloc)?;
-    // What is of version 2 is told first, then a bad slip, and then a journal of another plan.
+fn other_slips_are_not(rt: HostRuntime) -> Result<(), Fail> {
+    let plans = small_plans(rt.alloc())?;
+    let rows = [
+        ([slip(0, FALSE), slip(1, TRUE)], ("46 Disagrees 1", 259, "")),
+        (
+            [slip(0, TRUE), slip(1, FALSE)],
+            ("46 Disagrees 2", 372, MOVED),
+        ),
+        ([slip(0, TRUE), slip(0, TRUE)], ("17 BadSlip 2", 259, "")),
+        ([slip(0, FALSE), slip(0, TRUE)], ("17 BadSlip 2", 259, "")),
+    ];
+    check_rows(&rt, rt.alloc(), (&plans.0, &plans.1), &rows)
+}
+
+/// What is of version 2 is told first, then a bad slip, and then a journal of another plan.
+fn check_other_plans(rt: &impl Abort, alloc: Global, plans: &(Plan, Plan)) -> Result<(), Fail> {
+    let (plan, upgrade) = plans;
     let twice = [slip(0, TRUE), slip(0, TRUE)];
-    length_moved(&rt, alloc, &twice, (&upgrade, &plan), "47 NotVersion1")?;
-    length_moved(&rt, alloc, &twice, (&plan, &plan), "17 BadSlip 2")?;
-    let once = [slip(0, FALSE)];
-    assert_eq!(rt;
-        length_moved(&rt, alloc, &once, (&plan, &plan), "23 OtherPlan")?,
-        267
+    assert!(rt; is_moved(alloc, &twice, (upgrade, plan), ("47 NotVersion1", 267, ""))?);
+    assert!(rt; is_moved(alloc, &twice, (plan, plan), ("17 BadSlip 2", 267, ""))?);
+    assert!(rt;
+        is_moved(
+            alloc,
+            &[slip(0, FALSE)],
+            (plan, plan),
+            ("23 OtherPlan", 267, "")
+        )?
     );
     Ok(())
+}
+
+#[test]
+fn other_plans_are_not(rt: HostRuntime) -> Result<(), Fail> {
+    let plans = small_plans(rt.alloc())?;
+    check_other_plans(&rt, rt.alloc(), &plans)
 }
 
 /// Whether the moving answers 20 as the disk fails, and then 21.
@@ -174,34 +167,40 @@ fn is_refused_twice(
     is_refused && is_broken
 }
 
-/// Whether the moving is refused so where this call of the disk fails, and as many slips are found then.
+/// Whether the moving of two slips is refused so where this call of the disk fails, and as many are found then.
 fn failing_move_holds(
     alloc: Global,
-    slips: &[Slip],
     (plan, upgrade): (&Plan, &Plan),
     (fail_at, found): (u64, usize),
-) -> Result<bool, Fail> {
+) -> Result<bool, AllocError> {
     let disk = FaultyDisk::of(alloc, Vec::new(alloc), fail_at, Tear::Nothing)?;
     let Ok(mut journal) = Journal::create(alloc, disk, upgrade) else {
         return Ok(false);
     };
-    let is_refused = is_refused_twice(alloc, slips, plan, &mut journal);
+    let slips = [slip(0, TRUE), slip(1, TRUE)];
+    let is_refused = is_refused_twice(alloc, &slips, plan, &mut journal);
     let slips_then = slips_found(alloc, journal.into_disk(), upgrade);
     Ok(is_refused && slips_then == Ok(found))
+}
+
+/// Asserts that of each row.
+fn check_failing_moves(
+    rt: &impl Abort,
+    alloc: Global,
+    plans: (&Plan, &Plan),
+    rows: &[(u64, usize)],
+) -> Result<(), Fail> {
+    for row in rows {
+        assert!(rt; failing_move_holds(alloc, plans, *row)?, "{row:?}");
+    }
+    Ok(())
 }
 
 // Each call of the new journal's disk fails in turn: 20, then 21 for a slip that is true, and what can be read
 // then are the slips before that one, or it too.
 #[test]
 fn a_failing_move(rt: HostRuntime) -> Result<(), Fail> {
-    let alloc = rt.alloc();
-    let (plan, upgrade) = small_plans(alloc)?;
-    let slips = [slip(0, TRUE), slip(1, TRUE)];
-    for (fail_at, found) in [(1, 0), (3, 0), (4, 1), (5, 1), (7, 1), (8, 2)] {
-        assert!(rt;
-            failing_move_holds(alloc, &slips, (&plan, &upgrade), (fail_at, found))?,
-            "{fail_at}"
-        );
-    }
-    Ok(())
+    let plans = small_plans(rt.alloc())?;
+    let rows = [(1, 0), (3, 0), (4, 1), (5, 1), (7, 1), (8, 2)];
+    check_failing_moves(&rt, rt.alloc(), (&plans.0, &plans.1), &rows)
 }

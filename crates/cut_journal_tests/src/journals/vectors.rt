@@ -5,8 +5,10 @@
 // as, each of nine numbers, or of ten where the plan is of version 2. Each other block is a changed file: how
 // many bytes stay, the bytes that stand in place of others from some place on, those that are added behind,
 // and what it is read as.
+//
+// Two blank lines stand between texts.
 
-const FILE_1: &str = r#"
+const FILES: &str = r#"
 plan {"copies": 4, "dead": "silent", "implicit": false, "nodes": 14, "repeats": 3, "seed": "70adCa8E0
 plan 3BF8ebD71EbfcCaF9F2FeE7Ec8Ce7B0F4f3F41EeBeec5b82cc54a2F", "version": 1, "faults": "crash", "k":
 plan  [1, 3], "h": [2], "l": [2, 3, 4], "f": [1, 3], "liars": 1, "links": 1}
@@ -63,13 +65,9 @@ reading 0,1,13,3,0,3,10,0,0 1,1,13,0,0,0,13,1,1 2,1,13,0,0,0,13,1,1
 
 kept 592
 put 584 c6
-reading Damaged 3"#;
+reading Damaged 3
 
-fn file_1() -> &'static str {
-    FILE_1
-}
 
-const FILE_2: &str = r#"
 plan {"copies": 3, "dead": "silent", "implicit": true, "nodes": 9, "repeats": 4, "seed": "7ADBb4Afa8a
 plan 90aDd10Fbd09CA352D384d75Bd3e1DE83A0a6caC5b3Cc9C5A2f3d", "version": 1, "faults": "crash", "k": [2
 plan , 3], "h": [2, 4, 6], "l": [1, 4, 6], "f": [3, 7], "liars": 2, "links": 0}
@@ -119,13 +117,9 @@ reading 0,4,24,4,0,19,16,0,0
 
 kept 384
 put 371 d9
-reading Damaged 1"#;
+reading Damaged 1
 
-fn file_2() -> &'static str {
-    FILE_2
-}
 
-const FILE_3: &str = r#"
 plan {"copies": 3, "dead": "silent", "implicit": true, "nodes": 8, "repeats": 2, "seed": "51d6cDCb8Ae
 plan 0C4DCF9c9c0DB2aFaFE2c3EbaDC4CB454C58EeAFfCF70Fa1A0b3D", "version": 1, "faults": "deaf", "k": [1,
 plan  2], "h": [1, 2, 3], "l": [1, 2, 3], "f": [0], "liars": 1, "links": 0}
@@ -170,13 +164,9 @@ reading OtherPlan
 kept 276
 tail 3f1300d3e9e7a407d468e830b0dd2141a0f211d0d0edb7c65cb9d84dccf7be4e93fc1daad7713ba7abeed7686c43f3d2
 tail b81c59a4763fac782460ffaf5b91ab4f82e148e9dfd174fabd74286f2ea1db53fd4ef66780741f18e3e18f7be78c08c9
-tail 32dcc46476ac31bb6bc81564267454d538c3a18462ebaf696b575d98"#;
+tail 32dcc46476ac31bb6bc81564267454d538c3a18462ebaf696b575d98
 
-fn file_3() -> &'static str {
-    FILE_3
-}
 
-const FILE_4: &str = r#"
 plan {"copies": 3, "dead": "speak", "implicit": true, "nodes": 13, "repeats": 2, "seed": "D766b3CbefF
 plan ecCD395b00eb5c8b18Af4a41D3Fcf88AaF00FFfc8B23E34F5C948", "version": 1, "faults": "crash", "k": [1
 plan , 2], "h": [1], "l": [1, 2], "f": [8], "liars": 0, "links": 2}
@@ -227,13 +217,9 @@ put 238 e0f486238a63b9c72457f55450bd735442a34d68b91efb01ef81c00eccf2097100
 reading OtherPlan
 
 kept 314
-reading Damaged 1"#;
+reading Damaged 1
 
-fn file_4() -> &'static str {
-    FILE_4
-}
 
-const FILE_5: &str = r#"
 plan {"copies": 3, "dead": "speak", "implicit": true, "nodes": 14, "repeats": 3, "seed": "A6EfCBaae49
 plan a1Eab1e693d71FCfBbfFF9eCABC05EECbFDD8BBA0e6BfDAa07dB8", "version": 1, "faults": "crash", "k": [2
 plan ], "h": [2, 3, 4], "l": [1, 3, 4], "f": [3, 10, 12], "liars": 1, "links": 1}
@@ -281,13 +267,9 @@ reading NoStudy
 kept 281
 put 160 34
 put 248 8c0d8372577cec7508b56501b43bd71b9a59dd12c545bcfa05226e9c562049bf00
-reading OtherPlan"#;
+reading OtherPlan
 
-fn file_5() -> &'static str {
-    FILE_5
-}
 
-const FILE_6: &str = r#"
 plan {"copies": 1, "dead": "silent", "implicit": true, "nodes": 10, "repeats": 2, "seed": "bD4a8b5fd1
 plan DCDed2c75311673acF8299f2a69F8f4faf390be7Fa408D40d4CA2a", "version": 1, "faults": "crash", "k": [
 plan 1], "h": [1], "l": [1], "f": [0, 1, 9], "liars": 1, "links": 0}
@@ -334,13 +316,9 @@ reading 0,2,20,0,0,20,20,2,0 2,2,18,12,0,12,12,0,0
 kept 272
 put 151 33
 put 239 a026131d4ca9877e8cbffed9c48d1ea1f466e3ffb216ed0da98985a77bc90bdf00
-reading OtherPlan"#;
+reading OtherPlan
 
-fn file_6() -> &'static str {
-    FILE_6
-}
 
-const FILE_7: &str = r#"
 plan {"copies": 3, "dead": "speak", "implicit": false, "nodes": 11, "repeats": 2, "seed": "EBfe999Ff7
 plan FCE574828ED1DBdEaC4ECb8DCaC0FebF9A65cFD77BaEDFbA2E07FD", "version": 1, "faults": "deaf", "k": [1
 plan , 2, 4], "h": [1, 3, 4], "l": [2], "f": [3], "liars": 2, "links": 0}
@@ -390,13 +368,9 @@ reading 0,2,16,3,7,8,6,0,0 2,2,16,0,16,0,0,0,0
 kept 275
 put 154 33
 put 242 87df1f3820a3aeef0856570f7952b9188686d0e40610889e78d2f6ce999d5acf00
-reading OtherPlan"#;
+reading OtherPlan
 
-fn file_7() -> &'static str {
-    FILE_7
-}
 
-const FILE_8: &str = r#"
 plan {"copies": 4, "dead": "speak", "implicit": true, "nodes": 5, "repeats": 2, "seed": "eBfebD5aaD7d
 plan DEDA133bDfd9C7DACeF55cdd1D19d2e4Db6AF8e9e0d3D190f5F2", "version": 1, "faults": "deaf", "k": [6],
 plan  "h": [1, 5], "l": [1, 3, 6], "f": [1, 2, 3], "liars": 1, "links": 1}
@@ -439,13 +413,9 @@ reading OtherPlan
 
 kept 380
 tail 87eba41cc634c88e37440dd53018cac2f9ecbb
-reading 0,2,8,7,0,7,4,0,0"#;
+reading 0,2,8,7,0,7,4,0,0
 
-fn file_8() -> &'static str {
-    FILE_8
-}
 
-const FILE_9: &str = r#"
 plan {"copies": 2, "dead": "silent", "implicit": true, "nodes": 10, "repeats": 1, "seed": "0Eb29Dacc2
 plan 3C9cfA69cfD97DcfcBaAEb3f0a2300e39B2f93cEB2a277b87AF294", "version": 2, "deaf": 1, "k": [3], "h":
 plan  [1, 2, 3], "l": [1, 2, 3], "f": [3, 7], "liars": 1, "links": 1}
@@ -501,13 +471,9 @@ tail 607fad1b25c4f00082114485b10822d7f912adf0f321b88d934e31cf0b55d6fcaf929813551
 reading 0,1,7,7,0,0,3,0,0,7 1,1,3,3,0,1,2,0,0,3 2,1,7,4,3,0,2,0,0,11
 
 kept 209
-reading Damaged 0"#;
+reading Damaged 0
 
-fn file_9() -> &'static str {
-    FILE_9
-}
 
-const FILE_10: &str = r#"
 plan {"copies": 4, "dead": "speak", "implicit": false, "nodes": 7, "repeats": 1, "seed": "37ED4b4d6Ee
 plan AF9adE564AfFEdAde6dc36cf4Aebdaee1ae01Ecea0c3ABCa8de0B", "version": 2, "deaf": 2, "k": [2, 3, 4],
 plan  "h": [4], "l": [2, 3, 4], "f": [2, 4, 6], "liars": 1, "links": 0}
@@ -560,13 +526,9 @@ reading NoStudy
 
 kept 497
 put 286 41
-reading Damaged 1"#;
+reading Damaged 1
 
-fn file_10() -> &'static str {
-    FILE_10
-}
 
-const FILE_11: &str = r#"
 plan {"copies": 4, "dead": "silent", "implicit": true, "nodes": 12, "repeats": 1, "seed": "D2E440c4A0
 plan 9DFbabACF4DEB2852bF9ea39D1383ab0b9FcB47Ca9FAB25afC4627", "version": 2, "deaf": 2048, "k": [1], "
 plan h": [1], "l": [1], "f": [1, 7], "liars": 1, "links": 0}
@@ -605,13 +567,9 @@ reading Damaged 0
 
 kept 265
 put 0 74
-reading NoStudy"#;
+reading NoStudy
 
-fn file_11() -> &'static str {
-    FILE_11
-}
 
-const FILE_12: &str = r#"
 plan {"copies": 3, "dead": "silent", "implicit": false, "nodes": 14, "repeats": 3, "seed": "6ccBac8Ed
 plan aF5DDfeeeA6B0Ade6dec0cdC10d2Aaefb5ff15f8eF4d793Dc26a8A0", "version": 2, "deaf": 2, "k": [1], "h"
 plan : [1], "l": [1], "f": [1, 11, 12], "liars": 0, "links": 0}
@@ -652,23 +610,6 @@ reading Damaged 0
 kept 152
 reading Damaged 0"#;
 
-fn file_12() -> &'static str {
-    FILE_12
-}
-
-pub(super) fn files() -> [&'static str; 12] {
-    [
-        file_1(),
-        file_2(),
-        file_3(),
-        file_4(),
-        file_5(),
-        file_6(),
-        file_7(),
-        file_8(),
-        file_9(),
-        file_10(),
-        file_11(),
-        file_12(),
-    ]
+pub(super) fn files() -> &'static str {
+    FILES
 }
