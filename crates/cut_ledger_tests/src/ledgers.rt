@@ -31,7 +31,12 @@ fn plan_of(
 }
 
 // The result of a plan's trials from `first` on.
-fn result_of(alloc: Global, plan: &Plan, first: u32, count: u32) -> Result<PieceResult, Fail> {
+pub(crate) fn result_of(
+    alloc: Global,
+    plan: &Plan,
+    first: u32,
+    count: u32,
+) -> Result<PieceResult, Fail> {
     let rings = Rings::hashed(alloc, plan)?;
     Ok(run_piece(alloc, plan, &rings, Piece { first, count })?)
 }
@@ -58,69 +63,63 @@ fn slip(first: u32, count: u32, numbers: [u64; 7]) -> Slip {
     }
 }
 
-// What is told of an offer or of slips: `taken`, or the fault as it is printed.
-fn told<T: Drop>(alloc: Global, answer: Result<T, LedgerFault>) -> Result<String, AllocError> {
-    match answer {
-        Ok(_) => String::from_str(alloc, "taken"),
-        Err(fault) => format!(in alloc; "{fault}"),
+// A ledger that holds nothing, of a plan of 5 processes.
+fn fresh(alloc: Global, targets: &str, repeats: u32) -> Result<Ledger, Fail> {
+    let plan = plan_of(alloc, 5, targets, 0, repeats)?;
+    Ok(Ledger::fresh(alloc, plan)?)
+}
+
+// A ledger that begins with one slip, of a plan of which one process fails.
+fn begun(alloc: Global, nodes: u16, repeats: u32, one: Slip) -> Result<Ledger, Fail> {
+    let plan = plan_of(alloc, nodes, "[1]", 0, repeats)?;
+    Ok(Ledger::from_slips(alloc, plan, &[one])?)
+}
+
+// Whether pieces are these: first trial, and the one behind the last.
+fn are_pieces(pieces: &[Piece], wanted: &[(u32, u32)]) -> bool {
+    for (piece, (first, end)) in pieces.iter().zip(wanted) {
+        if piece.first != *first || u64::from(*first) + u64::from(piece.count) != u64::from(*end) {
+            return false;
+        }
     }
+    pieces.len() == wanted.len()
 }
 
-// A ledger of a plan that holds nothing.
-fn fresh(alloc: Global, plan: &Plan) -> Result<Ledger, Fail> {
-    Ok(Ledger::fresh(alloc, plan.try_clone(alloc)?)?)
-}
-
-// A ledger that begins with these slips, of a plan of 5 processes, one of which fails.
-fn begun(alloc: Global, repeats: u32, slips: &[Slip]) -> Result<Ledger, Fail> {
-    let plan = plan_of(alloc, 5, "[1]", 0, repeats)?;
-    Ok(Ledger::from_slips(alloc, plan, slips)?)
-}
-
-// What is told of these slips of such a plan of 2 trials.
-fn told_of_slips(alloc: Global, slips: &[Slip]) -> Result<String, Fail> {
-    let plan = plan_of(alloc, 5, "[1]", 0, 2)?;
-    Ok(told(alloc, Ledger::from_slips(alloc, plan, slips))?)
-}
-
-// What is told of an offer of these trials of a plan.
-fn offered(
-    alloc: Global,
-    ledger: &mut Ledger,
-    plan: &Plan,
-    first: u32,
-    count: u32,
-) -> Result<String, Fail> {
-    let result = result_of(alloc, plan, first, count)?;
-    Ok(told(alloc, ledger.offer(&result))?)
-}
-
-// Offers these trials of a plan, which are taken.
-fn add(
-    alloc: Global,
-    ledger: &mut Ledger,
-    plan: &Plan,
-    first: u32,
-    count: u32,
-) -> Result<(), Fail> {
-    let result = result_of(alloc, plan, first, count)?;
-    Ok(ledger.offer(&result)?)
-}
-
-// Pieces as they are written: first trial, and the one behind the last.
-fn written(alloc: Global, pieces: &[Piece]) -> Result<String, AllocError> {
-    let mut text = String::new(alloc);
-    for piece in pieces {
-        let end = u64::from(piece.first) + u64::from(piece.count);
-        text.push_str(format!(in alloc; "[{},{end})", piece.first)?.as_str())?;
-    }
-    Ok(text)
-}
-
-// A ledger's gaps, as they are written.
-fn gaps_of(alloc: Global, ledger: &Ledger) -> Result<String, AllocError> {
+// Whether a ledger has these gaps.
+fn has_gaps(alloc: Global, ledger: &Ledger, wanted: &[(u32, u32)]) -> Result<bool, AllocError> {
     let gaps = ledger.gaps(alloc)?;
-    written(alloc, &gaps)
+    Ok(are_pieces(&gaps, wanted))
+}
+
+// An offer of a plan's trials from some one on, the fault that it is refused with, and the gaps then.
+type Offer<'a> = (u32, u32, Option<FaultCode>, &'a [(u32, u32)]);
+
+// Whether an offer to a ledger, of trials of its plan, is answered so and leaves these gaps.
+fn is_answered(
+    alloc: Global,
+    ledger: &mut Ledger,
+    (first, count, wanted, gaps): Offer<'_>,
+) -> Result<bool, Fail> {
+    let result = result_of(alloc, ledger.plan(), first, count)?;
+    let is_wanted = match ledger.offer(&result) {
+        Ok(()) => wanted.is_none(),
+        Err(fault) => wanted == Some(fault.code()),
+    };
+    Ok(is_wanted && has_gaps(alloc, ledger, gaps)?)
+}
+
+// Asserts that of offers, one after the other, to a ledger that holds nothing.
+fn check_offers(
+    rt: &impl Abort,
+    alloc: Global,
+    repeats: u32,
+    offers: &[Offer<'_>],
+) -> Result<(), Fail> {
+    let mut ledger = fresh(alloc, "[1]", repeats)?;
+    for offer in offers {
+        assert!(rt; is_answered(alloc, &mut ledger, *offer)?, "{offer:?}");
+    }
+    Ok(())
 }
 
 // Whether a plan's first cell has these sums.
@@ -128,81 +127,82 @@ fn has_sums(ledger: &Ledger, totals: Totals) -> bool {
     ledger.plan().cells() > 0 && ledger.cell_sum(0) == totals
 }
 
+// The two trials of a plan, of which none is held twice.
 #[test]
 fn offers(rt: HostRuntime) -> Result<(), Fail> {
-    let alloc = rt.alloc();
-    let plan = plan_of(alloc, 5, "[1]", 0, 2)?;
-    let other = plan_of(alloc, 5, "[0]", 1, 1)?;
-    let mut ledger = fresh(alloc, &plan)?;
-    let rows = [
-        (&other, 0, 1, "15 Stranger"),
-        (&plan, 1, 1, "taken"),
-        (&plan, 0, 1, "taken"),
-        (&plan, 1, 1, "16 Overlap"),
-        (&plan, 0, 2, "16 Overlap"),
+    let overlap = Some(FaultCode::Overlap);
+    let rows: [Offer<'_>; 4] = [
+        (1, 1, None, &[(0, 1)]),
+        (0, 1, None, &[]),
+        (1, 1, overlap, &[]),
+        (0, 2, overlap, &[]),
     ];
-    for (of, first, count, wanted) in rows {
-        let answer = offered(alloc, &mut ledger, of, first, count)?;
-        assert_eq!(rt; answer.as_str(), wanted, "{first} {count}");
-    }
-    assert!(rt; ledger.complete());
-    Ok(())
-}
-
-// Whether a ledger is one of this plan that began with nothing, and whose first cell is done.
-fn is_done(ledger: &Ledger, plan: &Plan) -> bool {
-    ledger.plan().same(plan)
-        && ledger.base().as_slice().is_empty()
-        && ledger.plan().cells() > 0
-        && ledger.cell_done(0)
-}
-
-#[test]
-fn whole_cells(rt: HostRuntime) -> Result<(), Fail> {
-    let alloc = rt.alloc();
-    let plan = plan_of(alloc, 5, "[1]", 0, 2)?;
-    let mut ledger = fresh(alloc, &plan)?;
-    add(alloc, &mut ledger, &plan, 0, 2)?;
-    assert!(rt; is_done(&ledger, &plan));
-    assert!(rt; has_sums(&ledger, totals_of([8, 0, 0, 0, 8, 2, 2])));
-    Ok(())
+    check_offers(&rt, rt.alloc(), 2, &rows)
 }
 
 // Pieces of 6 trials come in any order; some touch, one lies in part in what is held.
 #[test]
 fn pieces_that_touch(rt: HostRuntime) -> Result<(), Fail> {
-    let alloc = rt.alloc();
-    let plan = plan_of(alloc, 5, "[1]", 0, 6)?;
-    let mut ledger = fresh(alloc, &plan)?;
-    let rows = [
-        (2, 2, "taken", "[0,2)[4,6)"),
-        (0, 1, "taken", "[1,2)[4,6)"),
-        (5, 1, "taken", "[1,2)[4,5)"),
-        (1, 1, "taken", "[4,5)"),
-        (3, 2, "16 Overlap", "[4,5)"),
-        (0, 6, "16 Overlap", "[4,5)"),
+    let overlap = Some(FaultCode::Overlap);
+    let rows: [Offer<'_>; 6] = [
+        (2, 2, None, &[(0, 2), (4, 6)]),
+        (0, 1, None, &[(1, 2), (4, 6)]),
+        (5, 1, None, &[(1, 2), (4, 5)]),
+        (1, 1, None, &[(4, 5)]),
+        (3, 2, overlap, &[(4, 5)]),
+        (0, 6, overlap, &[(4, 5)]),
     ];
-    for (first, count, wanted, gaps) in rows {
-        let answer = offered(alloc, &mut ledger, &plan, first, count)?;
-        assert_eq!(rt; answer.as_str(), wanted, "{first}");
-        let left = gaps_of(alloc, &ledger)?;
-        assert_eq!(rt; left.as_str(), gaps, "{first}");
-    }
+    check_offers(&rt, rt.alloc(), 6, &rows)
+}
+
+// Whether a ledger takes no result of another plan.
+fn is_strange(alloc: Global, ledger: &mut Ledger) -> Result<bool, Fail> {
+    let other = plan_of(alloc, 5, "[0]", 1, 1)?;
+    let result = result_of(alloc, &other, 0, 1)?;
+    Ok(matches!(ledger.offer(&result), Err(LedgerFault::Stranger)))
+}
+
+// Whether a ledger is of the plan of its offers, began with nothing, and has its first cell done.
+fn is_done(alloc: Global, ledger: &Ledger) -> Result<bool, Fail> {
+    let plan = plan_of(alloc, 5, "[1]", 0, 2)?;
+    let is_same = ledger.plan().same(&plan) && ledger.base().as_slice().is_empty();
+    Ok(is_same && ledger.plan().cells() > 0 && ledger.cell_done(0) && ledger.complete())
+}
+
+// The first cell, which is the only one, is whole once all its trials are taken, and no others are.
+fn check_whole(rt: &impl Abort, alloc: Global, ledger: &mut Ledger) -> Result<(), Fail> {
+    assert!(rt; is_strange(alloc, ledger)?);
+    assert!(rt; is_answered(alloc, ledger, (0, 2, None, &[]))?);
+    assert!(rt; is_done(alloc, ledger)?);
+    assert!(rt; has_sums(ledger, totals_of([8, 0, 0, 0, 8, 2, 2])));
     Ok(())
 }
 
+#[test]
+fn whole_cells(rt: HostRuntime) -> Result<(), Fail> {
+    let mut ledger = fresh(rt.alloc(), "[1]", 2)?;
+    check_whole(&rt, rt.alloc(), &mut ledger)
+}
+
+// Whether a ledger's parts of some size are these.
+fn has_parts(
+    alloc: Global,
+    ledger: &Ledger,
+    (size, wanted): (u32, &[(u32, u32)]),
+) -> Result<bool, AllocError> {
+    if size == 0 {
+        return Ok(false);
+    }
+    let pieces = ledger.pieces(alloc, size)?;
+    Ok(are_pieces(&pieces, wanted))
+}
+
 // Two cells of five trials each, of which the second trial of the second is held.
-fn check_parts(rt: &impl Abort, alloc: Global, ledger: &Ledger) -> Result<(), Fail> {
-    let rows = [
-        (1, "[0,1)[1,2)[2,3)[3,4)[4,5)[5,6)[7,8)[8,9)[9,10)"),
-        (2, "[0,2)[2,4)[4,5)[5,6)[7,9)[9,10)"),
-        (5, "[0,5)[5,6)[7,10)"),
-        (u32::MAX, "[0,5)[5,6)[7,10)"),
-    ];
-    for (size, wanted) in rows {
-        let pieces = ledger.pieces(alloc, size)?;
-        let pieces = written(alloc, &pieces)?;
-        assert_eq!(rt; pieces.as_str(), wanted, "of {size}");
+fn check_parts(rt: &impl Abort, alloc: Global, rows: &[(u32, &[(u32, u32)])]) -> Result<(), Fail> {
+    let mut ledger = fresh(alloc, "[0,1]", 5)?;
+    assert!(rt; is_answered(alloc, &mut ledger, (6, 1, None, &[(0, 5), (5, 6), (7, 10)]))?);
+    for row in rows {
+        assert!(rt; has_parts(alloc, &ledger, *row)?, "{row:?}");
     }
     Ok(())
 }
@@ -210,112 +210,137 @@ fn check_parts(rt: &impl Abort, alloc: Global, ledger: &Ledger) -> Result<(), Fa
 // Gaps end where cells do, and the last part of each is shorter where less is left.
 #[test]
 fn parts_of_gaps(rt: HostRuntime) -> Result<(), Fail> {
-    let alloc = rt.alloc();
-    let plan = plan_of(alloc, 5, "[0,1]", 0, 5)?;
-    let mut ledger = fresh(alloc, &plan)?;
-    add(alloc, &mut ledger, &plan, 6, 1)?;
-    check_parts(&rt, alloc, &ledger)
-}
-
-// A ledger of two cells of two trials each.
-fn of_two_cells(alloc: Global) -> Result<Ledger, Fail> {
-    let plan = plan_of(alloc, 5, "[0,1]", 0, 2)?;
-    Ok(Ledger::fresh(alloc, plan)?)
+    let ones: [(u32, u32); 9] = [
+        (0, 1),
+        (1, 2),
+        (2, 3),
+        (3, 4),
+        (4, 5),
+        (5, 6),
+        (7, 8),
+        (8, 9),
+        (9, 10),
+    ];
+    let rows: [(u32, &[(u32, u32)]); 4] = [
+        (1, &ones),
+        (2, &[(0, 2), (2, 4), (4, 5), (5, 6), (7, 9), (9, 10)]),
+        (5, &[(0, 5), (5, 6), (7, 10)]),
+        (u32::MAX, &[(0, 5), (5, 6), (7, 10)]),
+    ];
+    check_parts(&rt, rt.alloc(), &rows)
 }
 
 // Reserves a place in the second cell, where there was none before. Tells whether there is one then, and still
-// none in the first.
-fn gains_room(ledger: &mut Ledger) -> Result<bool, Fail> {
+// none in the first, and whether nothing is held.
+fn gains_room(alloc: Global, ledger: &mut Ledger) -> Result<bool, AllocError> {
     if ledger.plan().cells() < 2 || ledger.has_room(0) || ledger.has_room(1) {
         return Ok(false);
     }
     ledger.reserve(1)?;
-    Ok(!ledger.has_room(0) && ledger.has_room(1))
+    let has_room = !ledger.has_room(0) && ledger.has_room(1);
+    Ok(has_room && has_gaps(alloc, ledger, &[(0, 2), (2, 4)])?)
 }
 
+// Two cells of two trials each.
 #[test]
 fn room(rt: HostRuntime) -> Result<(), Fail> {
-    let alloc = rt.alloc();
-    let mut ledger = of_two_cells(alloc)?;
-    assert!(rt; gains_room(&mut ledger)?);
-    let gaps = gaps_of(alloc, &ledger)?;
-    assert_eq!(rt; gaps.as_str(), "[0,2)[2,4)");
+    let mut ledger = fresh(rt.alloc(), "[0,1]", 2)?;
+    assert!(rt; gains_room(rt.alloc(), &mut ledger)?);
     Ok(())
 }
 
-// Slips of a plan of 5 processes, one of which fails, and 2 trials.
-#[test]
-fn slips(rt: HostRuntime) -> Result<(), Fail> {
-    let alloc = rt.alloc();
-    let right = slip(0, 1, [4, 0, 0, 0, 4, 1, 1]);
-    let rows: [(&[Slip], &str); 14] = [
-        (&[], "taken"),
-        (&[right], "taken"),
-        (&[slip(0, 1, [4, 4, 0, 0, 4, 1, 0])], "taken"),
-        (&[slip(1, 1, [4, 2, 2, 2, 4, 1, 1]), right], "taken"),
-        (&[slip(0, 1, [5, 0, 0, 0, 4, 1, 1])], "17 BadSlip 1"),
-        (&[right, right], "17 BadSlip 2"),
-        (&[slip(0, 0, [0; 7])], "17 BadSlip 1"),
-        (&[slip(1, 2, [8, 0, 0, 0, 8, 2, 2])], "17 BadSlip 1"),
-        (&[slip(0, 1, [4, 3, 2, 0, 2, 0, 0])], "17 BadSlip 1"),
-        (&[slip(0, 1, [4, 0, 2, 3, 2, 0, 0])], "17 BadSlip 1"),
-        (&[slip(0, 1, [4, 0, 5, 0, 0, 0, 0])], "17 BadSlip 1"),
-        (&[slip(0, 1, [4, 0, 0, 0, 5, 1, 1])], "17 BadSlip 1"),
-        (&[slip(0, 1, [4, 0, 0, 0, 4, 2, 1])], "17 BadSlip 1"),
-        (&[right, slip(1, 1, [4, 0, 0, 0, 4, 0, 1])], "17 BadSlip 2"),
-    ];
-    for (number, (slips, wanted)) in rows.iter().enumerate() {
-        let answer = told_of_slips(alloc, slips)?;
-        assert_eq!(rt; answer.as_str(), *wanted, "row {number}");
+// Whether a plan's slips are taken, or else the one of this number, from 1, is bad.
+fn are_taken(alloc: Global, plan: Plan, slips: &[Slip], bad: Option<u64>) -> bool {
+    match Ledger::from_slips(alloc, plan, slips) {
+        Ok(_ledger) => bad.is_none(),
+        Err(LedgerFault::BadSlip(number)) => bad == Some(number),
+        Err(_other) => false,
+    }
+}
+
+// Slips, and the number of the bad one.
+type Slips<'a> = (&'a [Slip], Option<u64>);
+
+// Asserts that of slips of a plan of 5 processes, one of which fails, and 2 trials.
+fn check_slips(rt: &impl Abort, alloc: Global, rows: &[Slips<'_>]) -> Result<(), Fail> {
+    for (slips, bad) in rows {
+        let plan = plan_of(alloc, 5, "[1]", 0, 2)?;
+        assert!(rt; are_taken(alloc, plan, slips, *bad), "{slips:?}");
     }
     Ok(())
+}
+
+// Slips that are possible, alone and in any order.
+#[test]
+fn slips(rt: HostRuntime) -> Result<(), Fail> {
+    let right = slip(0, 1, [4, 0, 0, 0, 4, 1, 1]);
+    let rows: [Slips<'_>; 6] = [
+        (&[], None),
+        (&[right], None),
+        (&[slip(0, 1, [4, 4, 0, 0, 4, 1, 0])], None),
+        (&[slip(1, 1, [4, 2, 2, 2, 4, 1, 1]), right], None),
+        (&[right, right], Some(2)),
+        (&[right, slip(1, 1, [4, 0, 0, 0, 4, 0, 1])], Some(2)),
+    ];
+    check_slips(&rt, rt.alloc(), &rows)
+}
+
+// Asserts that none of these slips, each of which is alone, is a possible one.
+fn check_bad(rt: &impl Abort, alloc: Global, rows: &[(u32, u32, [u64; 7])]) -> Result<(), Fail> {
+    for (first, count, numbers) in rows {
+        let one = [slip(*first, *count, *numbers)];
+        check_slips(rt, alloc, &[(&one, Some(1))])?;
+    }
+    Ok(())
+}
+
+#[test]
+fn bad_slips(rt: HostRuntime) -> Result<(), Fail> {
+    let rows = [
+        (0, 1, [5, 0, 0, 0, 4, 1, 1]),
+        (0, 0, [0, 0, 0, 0, 0, 0, 0]),
+        (1, 2, [8, 0, 0, 0, 8, 2, 2]),
+        (0, 1, [4, 3, 2, 0, 2, 0, 0]),
+        (0, 1, [4, 0, 2, 3, 2, 0, 0]),
+        (0, 1, [4, 0, 5, 0, 0, 0, 0]),
+        (0, 1, [4, 0, 0, 0, 5, 1, 1]),
+        (0, 1, [4, 0, 0, 0, 4, 2, 1]),
+    ];
+    check_bad(&rt, rt.alloc(), &rows)
 }
 
 // False totals that are possible ones are believed.
 #[test]
 fn sums_of_slips(rt: HostRuntime) -> Result<(), Fail> {
-    let alloc = rt.alloc();
     let all = slip(0, 2, [6, 1, 0, 0, 5, 1, 1]);
-    let few = plan_of(alloc, 4, "[1]", 0, 2)?;
-    let whole = Ledger::from_slips(alloc, few, &[all])?;
+    let whole = begun(rt.alloc(), 4, 2, all)?;
     assert!(rt; has_sums(&whole, all.totals));
     Ok(())
 }
 
-// A result is added to them, where it is missing.
-fn check_sums(
-    rt: &impl Abort,
-    alloc: Global,
-    ledger: &mut Ledger,
-    plan: &Plan,
-) -> Result<(), Fail> {
-    let gaps = gaps_of(alloc, ledger)?;
-    assert_eq!(rt; gaps.as_str(), "[1,2)");
-    add(alloc, ledger, plan, 1, 1)?;
-    assert!(rt; has_sums(ledger, totals_of([8, 4, 0, 0, 8, 2, 1])));
-    Ok(())
+// Whether a result is added to them, where it is missing.
+fn are_added(alloc: Global, ledger: &mut Ledger) -> Result<bool, Fail> {
+    let is_missing = has_gaps(alloc, ledger, &[(1, 2)])?;
+    let is_taken = is_answered(alloc, ledger, (1, 1, None, &[]))?;
+    Ok(is_missing && is_taken && has_sums(ledger, totals_of([8, 4, 0, 0, 8, 2, 1])))
 }
 
 #[test]
 fn sums_over_slips(rt: HostRuntime) -> Result<(), Fail> {
-    let alloc = rt.alloc();
-    let plan = plan_of(alloc, 5, "[1]", 0, 2)?;
-    let mut ledger = begun(alloc, 2, &[slip(0, 1, [4, 4, 0, 0, 4, 1, 0])])?;
-    check_sums(&rt, alloc, &mut ledger, &plan)
+    let mut ledger = begun(rt.alloc(), 5, 2, slip(0, 1, [4, 4, 0, 0, 4, 1, 0]))?;
+    assert!(rt; are_added(rt.alloc(), &mut ledger)?);
+    Ok(())
 }
 
-// Whether a ledger began with a base of these slips, which gives them back.
-fn began_with(alloc: Global, ledger: &Ledger, slips: &[Slip]) -> Result<bool, Fail> {
+// Whether a ledger did not begin with a base of these slips, which gives them back.
+fn began_with_others(alloc: Global, ledger: &Ledger, slips: &[Slip]) -> Result<bool, AllocError> {
     let base = Base::from_vec(Vec::from_slice(alloc, slips)?);
-    let same = ledger.same_base(&base);
-    if base.into_vec().as_slice() != slips {
-        Err("other slips")?;
-    }
-    Ok(same)
+    let is_other = !ledger.same_base(&base);
+    Ok(is_other && base.into_vec().as_slice() == slips)
 }
 
 // Whether a ledger began with a clone of its own base.
-fn began_with_its_base(alloc: Global, ledger: &Ledger) -> Result<bool, Fail> {
+fn began_with_its_base(alloc: Global, ledger: &Ledger) -> Result<bool, AllocError> {
     let base = ledger.base().try_clone(alloc)?;
     Ok(ledger.same_base(&base))
 }
@@ -324,39 +349,47 @@ fn began_with_its_base(alloc: Global, ledger: &Ledger) -> Result<bool, Fail> {
 fn check_base(rt: &impl Abort, alloc: Global, ledger: &Ledger, one: Slip) -> Result<(), Fail> {
     let wrong = slip(0, 1, [4, 0, 0, 0, 4, 1, 0]);
     assert!(rt; began_with_its_base(alloc, ledger)?);
-    assert!(rt; !began_with(alloc, ledger, &[])?);
-    assert!(rt; !began_with(alloc, ledger, &[one, one])?);
-    assert!(rt; !began_with(alloc, ledger, &[wrong])?);
+    assert!(rt; began_with_others(alloc, ledger, &[])?);
+    assert!(rt; began_with_others(alloc, ledger, &[one, one])?);
+    assert!(rt; began_with_others(alloc, ledger, &[wrong])?);
     Ok(())
 }
 
 #[test]
 fn bases(rt: HostRuntime) -> Result<(), Fail> {
-    let alloc = rt.alloc();
     let one = slip(0, 1, [4, 0, 0, 0, 4, 1, 1]);
-    let ledger = begun(alloc, 2, &[one])?;
-    check_base(&rt, alloc, &ledger, one)
+    let ledger = begun(rt.alloc(), 5, 2, one)?;
+    check_base(&rt, rt.alloc(), &ledger, one)
 }
 
-#[test]
-fn faults(rt: HostRuntime) -> Result<(), Fail> {
-    let alloc = rt.alloc();
-    for (fault, code, text) in [
-        (LedgerFault::Memory, FaultCode::Memory, "0 Memory"),
-        (LedgerFault::Stranger, FaultCode::Stranger, "15 Stranger"),
-        (LedgerFault::Overlap, FaultCode::Overlap, "16 Overlap"),
-        (LedgerFault::BadSlip(7), FaultCode::BadSlip, "17 BadSlip 7"),
-    ] {
-        assert_eq!(rt; fault.code(), code);
-        assert_eq!(rt; format!(in alloc; "{fault}")?.as_str(), text);
+// Asserts that faults have these codes and are printed so.
+fn check_faults(
+    rt: &impl Abort,
+    alloc: Global,
+    rows: &[(LedgerFault, FaultCode, &str)],
+) -> Result<(), Fail> {
+    for (fault, code, text) in rows {
+        let line = format!(in alloc; "{fault}")?;
+        assert!(rt; fault.code() == *code && line.as_str() == *text, "{text}");
     }
     Ok(())
 }
 
+#[test]
+fn faults(rt: HostRuntime) -> Result<(), Fail> {
+    let rows = [
+        (LedgerFault::Memory, FaultCode::Memory, "0 Memory"),
+        (LedgerFault::Stranger, FaultCode::Stranger, "15 Stranger"),
+        (LedgerFault::Overlap, FaultCode::Overlap, "16 Overlap"),
+        (LedgerFault::BadSlip(7), FaultCode::BadSlip, "17 BadSlip 7"),
+    ];
+    check_faults(&rt, rt.alloc(), &rows)
+}
+
 // Whether the offer of a trial is taken; where it is not, a growth of memory is refused, as a run with one refused
 // allocation has it.
-fn takes(alloc: Global, ledger: &mut Ledger, plan: &Plan, trial: u32) -> Result<bool, Fail> {
-    let result = result_of(alloc, plan, trial, 1)?;
+fn takes(alloc: Global, ledger: &mut Ledger, trial: u32) -> Result<bool, Fail> {
+    let result = result_of(alloc, ledger.plan(), trial, 1)?;
     match ledger.offer(&result) {
         Ok(()) => Ok(true),
         Err(LedgerFault::Memory) => Ok(false),
@@ -364,30 +397,21 @@ fn takes(alloc: Global, ledger: &mut Ledger, plan: &Plan, trial: u32) -> Result<
     }
 }
 
-// What an offer leaves: the second gaps where it is taken, and the first, those before it, where it is not. Tells
-// whether it is taken.
-fn is_taken(
-    alloc: Global,
-    ledger: &mut Ledger,
-    plan: &Plan,
-    trial: u32,
-    [before, after]: [&str; 2],
-) -> Result<bool, Fail> {
-    let taken = takes(alloc, ledger, plan, trial)?;
-    let gaps = gaps_of(alloc, ledger)?;
-    if gaps.as_str() != if taken { after } else { before } {
-        Err("other gaps")?;
+// Takes the trial before a gap's end, and after it the gap's first. Tells whether each offer leaves the gap that
+// it should: a smaller one where it is taken, and the one before it where it is not.
+fn check_refused(rt: &impl Abort, alloc: Global, ledger: &mut Ledger) -> Result<(), Fail> {
+    let is_taken = takes(alloc, ledger, 2)?;
+    let end = if is_taken { 2 } else { 3 };
+    assert!(rt; has_gaps(alloc, ledger, &[(0, end)])?);
+    if is_taken {
+        let first = if takes(alloc, ledger, 0)? { 1 } else { 0 };
+        assert!(rt; has_gaps(alloc, ledger, &[(first, end)])?);
     }
-    Ok(taken)
+    Ok(())
 }
 
 #[test]
 fn refused_memory_changes_nothing(rt: HostRuntime) -> Result<(), Fail> {
-    let alloc = rt.alloc();
-    let plan = plan_of(alloc, 5, "[1]", 0, 4)?;
-    let mut ledger = begun(alloc, 4, &[slip(3, 1, [4, 0, 0, 0, 4, 1, 1])])?;
-    if is_taken(alloc, &mut ledger, &plan, 2, ["[0,3)", "[0,2)"])? {
-        is_taken(alloc, &mut ledger, &plan, 0, ["[0,2)", "[1,2)"])?;
-    }
-    Ok(())
+    let mut ledger = begun(rt.alloc(), 5, 4, slip(3, 1, [4, 0, 0, 0, 4, 1, 1]))?;
+    check_refused(&rt, rt.alloc(), &mut ledger)
 }

@@ -1,8 +1,7 @@
 // A ledger that only lists what it took, with which the ranges are compared.
 
-use crate::ledgers::{fresh, gaps_of, plan_of, result_of, totals_of, written};
+use crate::ledgers::{fresh, result_of};
 use cut_ledger::Ledger;
-use cut_plan::Plan;
 use cut_trial::{Piece, PieceResult, Totals, is_piece};
 use rand_chacha::ChaCha8Rng;
 use rand_core::SeedableRng;
@@ -18,17 +17,31 @@ struct Listing {
 
 impl Listing {
     fn has(&self, trial: u32) -> bool {
-        self.results.iter().any(|(piece, _)| is_in(*piece, trial))
+        for (piece, _) in &self.results {
+            if trial >= piece.first && trial - piece.first < piece.count {
+                return true;
+            }
+        }
+        false
+    }
+
+    // How many of the trials from one up to another are held.
+    fn held_in(&self, from: u32, to: u32) -> u32 {
+        let mut held: u32 = 0;
+        for trial in from..to {
+            if self.has(trial) {
+                held = held.saturating_add(1);
+            }
+        }
+        held
     }
 
     // Whether the result was taken.
     fn offer(&mut self, offered: &PieceResult) -> Result<bool, AllocError> {
         let piece = offered.piece();
         let end = piece.first.saturating_add(piece.count);
-        for trial in piece.first..end {
-            if self.has(trial) {
-                return Ok(false);
-            }
+        if self.held_in(piece.first, end) > 0 {
+            return Ok(false);
         }
         self.results.push((piece, offered.totals()))?;
         Ok(true)
@@ -72,10 +85,6 @@ impl Listing {
     }
 }
 
-fn is_in(piece: Piece, trial: u32) -> bool {
-    trial >= piece.first && trial - piece.first < piece.count
-}
-
 // The ledger has the trials that are listed, and no others.
 fn compare_trials(rt: &impl Abort, ledger: &Ledger, listing: &Listing) {
     for trial in 0..ledger.plan().trials() {
@@ -89,70 +98,75 @@ fn compare_cells(rt: &impl Abort, ledger: &Ledger, listing: &Listing) {
     for cell in 0..ledger.plan().cells() {
         let to = from.saturating_add(ledger.plan().repeats());
         let sum = ledger.cell_sum(cell);
-        let listed = listing.sums(from, to);
-        assert!(rt; (sum.receivers, sum.votes) == listed, "cell {cell}");
-        let done = (from..to).all(|trial| listing.has(trial));
-        assert!(rt; ledger.cell_done(cell) == done, "cell {cell}");
+        let is_sum = (sum.receivers, sum.votes) == listing.sums(from, to);
+        let is_done = listing.held_in(from, to) == ledger.plan().repeats();
+        assert!(rt; is_sum && ledger.cell_done(cell) == is_done, "cell {cell}");
         from = to;
     }
 }
 
-// What is not listed, as gaps are written.
-fn listed_gaps(alloc: Global, listing: &Listing, plan: &Plan) -> Result<String, AllocError> {
-    let gaps = listing.gaps(alloc, plan.repeats(), plan.trials())?;
-    written(alloc, &gaps)
+// Whether the ledger's gaps are what is not listed.
+fn are_gaps(alloc: Global, ledger: &Ledger, listing: &Listing) -> Result<bool, AllocError> {
+    let found = ledger.gaps(alloc)?;
+    let wanted = listing.gaps(alloc, ledger.plan().repeats(), ledger.plan().trials())?;
+    Ok(found.as_slice() == wanted.as_slice())
 }
 
 // The ledger holds what is listed, and nothing else.
 fn compare(rt: &impl Abort, alloc: Global, ledger: &Ledger, listing: &Listing) -> Result<(), Fail> {
     compare_trials(rt, ledger, listing);
     compare_cells(rt, ledger, listing);
-    let found = gaps_of(alloc, ledger)?;
-    let wanted = listed_gaps(alloc, listing, ledger.plan())?;
-    assert_eq!(rt; found.as_str(), wanted.as_str());
+    assert!(rt; are_gaps(alloc, ledger, listing)?);
     Ok(())
 }
 
-// A result is taken by both or by none.
-fn offer(
-    rt: &impl Abort,
+// Whether a result is taken by both or by none.
+fn is_offered(
     alloc: Global,
     piece: Piece,
     ledger: &mut Ledger,
     listing: &mut Listing,
-) -> Result<(), Fail> {
+) -> Result<bool, Fail> {
     let result = result_of(alloc, ledger.plan(), piece.first, piece.count)?;
     let taken = listing.offer(&result)?;
-    assert!(rt; ledger.offer(&result).is_ok() == taken, "{piece:?}");
-    Ok(())
+    Ok(ledger.offer(&result).is_ok() == taken)
 }
 
-// Offers are drawn by ChaCha8 of seed zero, until most trials are held.
-fn compare_stream(rt: &impl Abort, alloc: Global, plan: &Plan, stream: u64) -> Result<(), Fail> {
-    let mut words = ChaCha8Rng::from_seed([0; 32]);
-    words.set_stream(stream);
-    let mut ledger = fresh(alloc, plan)?;
-    let mut listing = Listing {
-        results: Vec::new(alloc),
-    };
+// Forty offers that are drawn.
+fn compare_offers(
+    rt: &impl Abort,
+    alloc: Global,
+    words: &mut ChaCha8Rng,
+    ledger: &mut Ledger,
+    listing: &mut Listing,
+) -> Result<(), Fail> {
     for _ in 0..40 {
         let first = words.next_word() % 27;
         let count = 1 + words.next_word() % 3;
         let piece = Piece { first, count };
-        if is_piece(plan, piece) {
-            offer(rt, alloc, piece, &mut ledger, &mut listing)?;
-            compare(rt, alloc, &ledger, &listing)?;
+        if is_piece(ledger.plan(), piece) {
+            assert!(rt; is_offered(alloc, piece, ledger, listing)?, "{piece:?}");
+            compare(rt, alloc, ledger, listing)?;
         }
+    }
+    Ok(())
+}
+
+// Offers are drawn by ChaCha8 of seed zero, until most trials are held.
+fn compare_streams(rt: &impl Abort, alloc: Global) -> Result<(), Fail> {
+    for stream in 0..3 {
+        let mut words = ChaCha8Rng::from_seed([0; 32]);
+        words.set_stream(stream);
+        let mut ledger = fresh(alloc, "[0,1,2]", 9)?;
+        let mut listing = Listing {
+            results: Vec::new(alloc),
+        };
+        compare_offers(rt, alloc, &mut words, &mut ledger, &mut listing)?;
     }
     Ok(())
 }
 
 #[test]
 fn ranges_hold_what_is_listed(rt: HostRuntime) -> Result<(), Fail> {
-    let alloc = rt.alloc();
-    let plan = plan_of(alloc, 5, "[0,1,2]", 0, 9)?;
-    for stream in 0..3 {
-        compare_stream(&rt, alloc, &plan, stream)?;
-    }
-    Ok(())
+    compare_streams(&rt, rt.alloc())
 }

@@ -9,7 +9,7 @@ use plain::{Plain, Study};
 use rand_chacha::ChaCha8Rng;
 use rand_core::SeedableRng;
 use rand_core::utils::NextWord;
-use std::alloc::Global;
+use std::alloc::{AllocError, Global};
 use std::process::Abort;
 use std::test::Fail;
 
@@ -24,24 +24,11 @@ const TABLE: &str =
     "Bytes k,h,l,f,trials,receivers,conflicts,silent,extra,votes,decided,right,ppm\n1,1,1,1,2,8,0,0,0,8,2,2,0\n";
 
 // What replies begin with.
-const KINDS: [&str; 13] = [
-    "Piece",
-    "NoPiece",
-    "Accepted",
-    "Refused 14",
-    "Refused 15",
-    "Refused 16",
-    "Refused 30",
-    "Refused 32",
-    "Noted",
-    "Opened",
-    "Bytes k",
-    "Done",
-    "NotYet",
-];
+const KINDS: &str =
+    "Piece,NoPiece,Accepted,Refused 14,Refused 15,Refused 16,Refused 30,Refused 32,Noted,Opened,Bytes k,Done,NotYet";
 
 // An event, with the trial in place of its result.
-#[derive(Clone, Copy, Debug)]
+#[derive(Clone, Copy)]
 enum Step {
     Draw,
     HandIn(u32),
@@ -100,17 +87,16 @@ const LOST: [Row; 8] = [
 ];
 
 // A reply as it is written here.
-fn written(alloc: Global, reply: &Reply) -> Result<String, Fail> {
-    let text = match reply {
-        Reply::Piece(Piece { first, count }) => format!(in alloc; "Piece {first} {count}")?,
-        Reply::Refused(code) => format!(in alloc; "Refused {code}")?,
+fn written(alloc: Global, reply: &Reply) -> Result<String, AllocError> {
+    match reply {
+        Reply::Piece(Piece { first, count }) => format!(in alloc; "Piece {first} {count}"),
+        Reply::Refused(code) => format!(in alloc; "Refused {code}"),
         Reply::Bytes(bytes) => {
             let text = String::from_utf8_lossy(alloc, bytes.as_slice())?;
-            format!(in alloc; "Bytes {text}")?
+            format!(in alloc; "Bytes {text}")
         }
-        other => format!(in alloc; "{other:?}")?,
-    };
-    Ok(text)
+        other => format!(in alloc; "{other:?}"),
+    }
 }
 
 fn event_of(alloc: Global, plan: &Plan, step: Step) -> Result<Event, Fail> {
@@ -129,61 +115,71 @@ fn event_of(alloc: Global, plan: &Plan, step: Step) -> Result<Event, Fail> {
 }
 
 // A run of a plan, in pieces of 1.
-fn started(alloc: Global, plan: &Plan, has_journal: bool) -> Result<Run, Fail> {
-    Ok(Run::start(alloc, plan.try_clone(alloc)?, 1, has_journal)?)
+fn started(alloc: Global, plan: &Plan, has_journal: bool) -> Result<Run, AllocError> {
+    Run::start(alloc, plan.try_clone(alloc)?, 1, has_journal)
 }
 
-// What a run replies to a step; none where memory is refused.
-fn reply_of(
-    rt: &impl Abort,
-    alloc: Global,
-    plan: &Plan,
-    step: Step,
-    run: &mut Run,
-) -> Result<Option<String>, Fail> {
-    let event = event_of(alloc, plan, step)?;
-    assert!(rt; is_sized(&event));
-    match run.apply(alloc, event) {
-        Ok(reply) => Ok(Some(written(alloc, &reply)?)),
-        Err(_refused) => Ok(None),
-    }
-}
-
-// A step and its reply. Where memory is refused, as in a run of the tests with one refused allocation, the event
-// leaves the run as it was: it is answered the second time as if it had come but once.
-fn check_row(
-    rt: &impl Abort,
+// Whether a run replies so to a step; none where memory is refused.
+fn is_reply(
     alloc: Global,
     plan: &Plan,
     (step, wanted): Row,
     run: &mut Run,
-) -> Result<(), Fail> {
-    let mut reply = reply_of(rt, alloc, plan, step, run)?;
-    if reply.is_none() {
-        reply = reply_of(rt, alloc, plan, step, run)?;
+) -> Result<Option<bool>, Fail> {
+    let event = event_of(alloc, plan, step)?;
+    if !is_sized(&event) {
+        return Ok(Some(false));
     }
-    let reply = reply.ok_or("refused twice")?;
-    assert_eq!(rt; reply.as_str(), wanted, "{step:?}");
+    let Ok(reply) = run.apply(alloc, event) else {
+        return Ok(None);
+    };
+    let text = written(alloc, &reply)?;
+    Ok(Some(text.as_str() == wanted))
+}
+
+// A step and its reply. Where memory is refused, as in a run of the tests with one refused allocation, the event
+// leaves the run as it was: it is answered the second time as if it had come but once.
+fn check_rows(
+    rt: &impl Abort,
+    alloc: Global,
+    plan: &Plan,
+    rows: &[Row],
+    run: &mut Run,
+) -> Result<(), Fail> {
+    for (number, row) in rows.iter().enumerate() {
+        let mut answer = is_reply(alloc, plan, *row, run)?;
+        if answer.is_none() {
+            answer = is_reply(alloc, plan, *row, run)?;
+        }
+        let is_wanted = answer.ok_or("refused twice")?;
+        assert!(rt; is_wanted, "row {number}");
+    }
     Ok(())
 }
 
-// A plan of 5 processes, one of which fails, and of 2 trials is run so, in pieces of 1.
-fn check(rt: &impl Abort, alloc: Global, has_journal: bool, rows: &[&[Row]]) -> Result<(), Fail> {
+// A plan of 5 processes, one of which fails, and of 2 trials is run so, in pieces of 1: first some rows, then others.
+fn check(
+    rt: &impl Abort,
+    alloc: Global,
+    has_journal: bool,
+    (before, after): (&[Row], &[Row]),
+) -> Result<(), Fail> {
     let plan = plan_of(alloc, 5, "[1]", 0, 2)?;
     let mut run = started(alloc, &plan, has_journal)?;
-    for row in rows.iter().copied().flatten() {
-        check_row(rt, alloc, &plan, *row, &mut run)?;
-    }
-    Ok(())
+    check_rows(rt, alloc, &plan, before, &mut run)?;
+    check_rows(rt, alloc, &plan, after, &mut run)
+}
+
+fn check_runs(rt: &impl Abort, alloc: Global) -> Result<(), Fail> {
+    check(rt, alloc, false, (&NO_JOURNAL, &[]))?;
+    check(rt, alloc, true, (&BROKEN, &FOUND))?;
+    check(rt, alloc, true, (&BROKEN, &NOT_FOUND))?;
+    check(rt, alloc, false, (&LOST, &[]))
 }
 
 #[test]
 fn worked_runs(rt: HostRuntime) -> Result<(), Fail> {
-    let alloc = rt.alloc();
-    check(&rt, alloc, false, &[&NO_JOURNAL])?;
-    check(&rt, alloc, true, &[&BROKEN, &FOUND])?;
-    check(&rt, alloc, true, &[&BROKEN, &NOT_FOUND])?;
-    check(&rt, alloc, false, &[&LOST])
+    check_runs(&rt, rt.alloc())
 }
 
 // A result that is drawn: of the 4 trials of a plan, one or two.
@@ -219,13 +215,18 @@ fn drawn(alloc: Global, words: &mut ChaCha8Rng, plan: &Plan, other: &Plan) -> Re
 }
 
 // What the run, and what the plain machine, replies to an event.
-fn run_reply(rt: &impl Abort, alloc: Global, event: Event, run: &mut Run) -> Result<String, Fail> {
+fn run_reply(
+    rt: &impl Abort,
+    alloc: Global,
+    event: Event,
+    run: &mut Run,
+) -> Result<String, AllocError> {
     assert!(rt; is_sized(&event));
     let reply = run.apply(alloc, event)?;
     written(alloc, &reply)
 }
 
-fn plain_reply(alloc: Global, event: &Event, plain: &mut Plain<'_>) -> Result<String, Fail> {
+fn plain_reply(alloc: Global, event: &Event, plain: &mut Plain<'_>) -> Result<String, AllocError> {
     let reply = plain.answer(alloc, event)?;
     written(alloc, &reply)
 }
@@ -237,55 +238,90 @@ fn same_reply(
     event: Event,
     run: &mut Run,
     plain: &mut Plain<'_>,
-) -> Result<String, Fail> {
+) -> Result<String, AllocError> {
     let wanted = plain_reply(alloc, &event, plain)?;
     let reply = run_reply(rt, alloc, event, run)?;
-    assert_eq!(rt; reply.as_str(), wanted.as_str());
+    assert!(rt; reply.as_str() == wanted.as_str());
     Ok(reply)
 }
 
 // Which of the kinds a reply is.
 fn mark(seen: &mut [bool; 13], reply: &str) {
-    for (is_seen, kind) in seen.iter_mut().zip(KINDS) {
+    for (is_seen, kind) in seen.iter_mut().zip(KINDS.split(',')) {
         if reply.starts_with(kind) {
             *is_seen = true;
         }
     }
 }
 
-// Two hundred events, drawn by ChaCha8 of seed zero.
+// Which of the kinds were seen in replies.
+type Seen = [bool; 13];
+
+// Two hundred events that are drawn.
+fn compare_events(
+    rt: &impl Abort,
+    alloc: Global,
+    (plan, other): (&Plan, &Plan),
+    words: &mut ChaCha8Rng,
+    (run, plain): (&mut Run, &mut Plain<'_>),
+    seen: &mut Seen,
+) -> Result<(), Fail> {
+    for _ in 0..200 {
+        let event = drawn(alloc, words, plan, other)?;
+        let reply = same_reply(rt, alloc, event, run, plain)?;
+        mark(seen, reply.as_str());
+    }
+    Ok(())
+}
+
+// They are drawn by ChaCha8 of seed zero.
 fn compare(
     rt: &impl Abort,
     alloc: Global,
     study: &Study<'_>,
     other: &Plan,
     list: u64,
-    seen: &mut [bool; 13],
+    seen: &mut Seen,
 ) -> Result<(), Fail> {
     let mut words = ChaCha8Rng::from_seed([0; 32]);
     words.set_stream(list);
     let has_journal = list % 2 == 0;
     let mut run = started(alloc, study.plan, has_journal)?;
-    let mut plain = Plain::open(alloc, study, has_journal, Vec::new(alloc), 1)?;
-    for _ in 0..200 {
-        let event = drawn(alloc, &mut words, study.plan, other)?;
-        let reply = same_reply(rt, alloc, event, &mut run, &mut plain)?;
-        mark(seen, reply.as_str());
+    let mut plain = Plain::open(alloc, &*study, has_journal, Vec::new(alloc), 1)?;
+    compare_events(
+        rt,
+        alloc,
+        (study.plan, other),
+        &mut words,
+        (&mut run, &mut plain),
+        seen,
+    )
+}
+
+// Eight lists of events, in which replies of all kinds are seen.
+fn compare_lists(
+    rt: &impl Abort,
+    alloc: Global,
+    study: &Study<'_>,
+    other: &Plan,
+) -> Result<(), Fail> {
+    let mut seen = [false; 13];
+    for list in 0..8 {
+        compare(rt, alloc, study, other, list, &mut seen)?;
     }
+    assert!(rt; seen == [true; 13]);
     Ok(())
 }
 
 // A plan of two cells of two trials each is run.
-#[test]
-fn runs_answer_as_the_plain_machine_does(rt: HostRuntime) -> Result<(), Fail> {
-    let alloc = rt.alloc();
+fn compare_runs(rt: &impl Abort, alloc: Global) -> Result<(), Fail> {
     let plan = plan_of(alloc, 5, "[0,1]", 1, 2)?;
     let other = plan_of(alloc, 5, "[0,2]", 1, 2)?;
     let study = Study::of(alloc, &plan)?;
-    let mut seen = [false; 13];
-    for list in 0..8 {
-        compare(&rt, alloc, &study, &other, list, &mut seen)?;
-    }
-    assert_eq!(rt; seen, [true; 13]);
-    Ok(())
+    compare_lists(rt, alloc, &study, &other)
+}
+
+#[test]
+fn runs_answer_as_the_plain_machine_does(rt: HostRuntime) -> Result<(), Fail> {
+    compare_runs(&rt, rt.alloc())
 }

@@ -34,10 +34,10 @@ impl<'a> Study<'a> {
     }
 
     // What some trials give, added up.
-    fn sums(&self, trials: &[u32]) -> [u64; 7] {
+    fn sums(&self, trials: Range<u32>) -> [u64; 7] {
         let mut sums = [0; 7];
         for trial in trials {
-            let outcome = self.outcomes.get(*trial as usize);
+            let outcome = self.outcomes.get(trial as usize);
             for (sum, number) in sums.iter_mut().zip(outcome.copied().unwrap_or([0; 7])) {
                 *sum = number.saturating_add(*sum);
             }
@@ -45,13 +45,13 @@ impl<'a> Study<'a> {
         sums
     }
 
-    fn line(&self, alloc: Global, targets: u16, trials: &[u32]) -> Result<String, AllocError> {
+    fn line(&self, alloc: Global, targets: u16, trials: Range<u32>) -> Result<String, AllocError> {
+        let count = self.plan.repeats();
         let [receivers, conflicts, silent, extra, votes, decided, right] = self.sums(trials);
         let millions = conflicts.saturating_mul(1_000_000);
         let ppm = millions.checked_div(receivers).unwrap_or(0);
         format!(in alloc;
-            "1,1,1,{targets},{},{receivers},{conflicts},{silent},{extra},{votes},{decided},{right},{ppm}\n",
-            trials.len()
+            "1,1,1,{targets},{count},{receivers},{conflicts},{silent},{extra},{votes},{decided},{right},{ppm}\n"
         )
     }
 }
@@ -132,6 +132,17 @@ impl<'a> Plain<'a> {
         }
     }
 
+    // How many of some trials are held.
+    fn held_in(&self, trials: Range<u32>) -> u32 {
+        let mut held: u32 = 0;
+        for trial in trials {
+            if self.held.contains(&trial) {
+                held = held.saturating_add(1);
+            }
+        }
+        held
+    }
+
     // How many trials from this one on, in its cell, are not held, up to the first that is.
     fn free_after(&self, trial: u32) -> u32 {
         let mut free: u32 = 0;
@@ -162,7 +173,10 @@ impl<'a> Plain<'a> {
     fn draw(&mut self) -> Reply {
         let next = self.division.get(self.drawn).copied();
         self.drawn = self.drawn.saturating_add(1);
-        next.map_or(Reply::NoPiece, Reply::Piece)
+        match next {
+            Some(piece) => Reply::Piece(piece),
+            None => Reply::NoPiece,
+        }
     }
 
     fn refusal(&self, offered: &PieceResult) -> Option<FaultCode> {
@@ -172,8 +186,10 @@ impl<'a> Plain<'a> {
         if !offered.plan().same(self.study.plan) {
             return Some(FaultCode::Stranger);
         }
-        let is_held = trials_of(offered).any(|trial| self.held.contains(&trial));
-        is_held.then_some(FaultCode::Overlap)
+        if self.held_in(trials_of(offered)) > 0 {
+            return Some(FaultCode::Overlap);
+        }
+        None
     }
 
     fn hand_in(&mut self, offered: &PieceResult) -> Result<Reply, AllocError> {
@@ -223,11 +239,10 @@ impl<'a> Plain<'a> {
         let mut first: u32 = 0;
         for targets in self.study.plan.f() {
             let end = first.saturating_add(repeats);
-            let trials: Vec<u32> = (first..end).collect(alloc)?;
-            if trials.iter().any(|trial| !self.held.contains(trial)) {
+            if self.held_in(first..end) < repeats {
                 return Ok(text);
             }
-            let line = self.study.line(alloc, *targets, trials.as_slice())?;
+            let line = self.study.line(alloc, *targets, first..end)?;
             text.push_str(line.as_str())?;
             first = end;
         }
@@ -237,14 +252,15 @@ impl<'a> Plain<'a> {
     fn emit(&mut self, alloc: Global, limit: u64) -> Result<Reply, AllocError> {
         let text = self.text(alloc)?;
         let limit = if self.wire_lost { 0 } else { limit as usize };
-        let rest = text.as_bytes().iter().skip(self.sent);
-        let bytes: Vec<u8> = rest.take(limit).copied().collect(alloc)?;
+        let rest = text.as_bytes().get(self.sent..).unwrap_or(&[]);
+        let bytes = Vec::from_slice(alloc, rest.get(..limit).unwrap_or(rest))?;
         self.sent = self.sent.saturating_add(bytes.len());
         Ok(Reply::Bytes(Bytes::from_vec(bytes)))
     }
 
     fn finish(&self, alloc: Global) -> Result<Reply, AllocError> {
-        let all = (0..self.study.plan.trials()).all(|trial| self.held.contains(&trial));
+        let trials = self.study.plan.trials();
+        let all = self.held_in(0..trials) == trials;
         if all && !self.wire_lost && self.sent == self.text(alloc)?.len() {
             return Ok(Reply::Done);
         }
