@@ -1,10 +1,13 @@
 //! Halls of one slot, with a study of two trials.
-ghost use Rattle.std.specs.Prelude.{◌≡◌, ◌<◌, ◌≤◌, All, IfOk};
+ghost use Rattle.std.specs.Prelude.{◌≡◌, ◌<◌, ◌≤◌, All, Err, IfOk};
+ghost use Rattle.cut_pool.specs.declared.not_closed.NotClosed.TheVariants.{SeatMissing};
 
 use crate::books::{OTHER, STUDY};
 use cut_disks::MemoryDisk;
 use cut_plan::Plan;
-use cut_pool::{Hall, LineFault, NoShelf, NotClosed, OpenGate, Opened, Pass, SubmitFault, Tally};
+use cut_pool::{
+    Hall, LineFault, NoShelf, NotClosed, OpenGate, Opened, Pass, Report, SubmitFault, Tally,
+};
 use std::alloc::Global;
 use std::marker::Brand;
 use std::process::Abort;
@@ -63,30 +66,42 @@ fn worked<M: Tally, K: Tally, R: Wait + Abort>(
     Ok(early.is_none() && counted == 2 && is_line)
 }
 
-/// Closes a hall with one pass kept back, and then with both: the accepted trials and the calls of its slot.
+/// A hall and its passes, given back as a pass was missing.
+fn given_back<M: Tally, K: Tally>(
+    closing: Result<Report, NotClosed<(Small<M, K>, Vec<Pass<M>>)>>,
+) -> Result<(Small<M, K>, Vec<Pass<M>>), Fail>
+    ensures { IfOk result (λ back. closing ≡ Err (SeatMissing back)) }
+{
+    match closing {
+        Err(NotClosed::SeatMissing(back)) => Ok(back),
+        Err(NotClosed::AuditMismatch(_mismatch)) => Err("a pass was missing")?,
+        Err(NotClosed::Memory) => Err("a pass was missing")?,
+        Ok(_report) => Err("a pass was missing")?,
+    }
+}
+
+/// The accepted trials and the calls of the first slot, and whether its study is complete.
+fn first_slot(report: &Report) -> Option<(u64, u64, bool)> {
+    let slot = report.slots().first()?;
+    Some((slot.accepted(), slot.calls(), slot.complete()))
+}
+
+/// Closes a hall with one pass kept back, and then with both: what is told of its slot.
 fn closed<M: Tally, K: Tally>(
     alloc: Global,
     hall: Small<M, K>,
     passes: Vec<Pass<M>>,
     last: Pass<M>,
-) -> Result<(u64, u64, bool), Fail>
+) -> Result<Option<(u64, u64, bool)>, Fail>
     requires ledgers { (M.all ≡ M.parts) × (K.all ≡ K.parts) }
     requires own { All (λ p. p.hall ≡ hall.id) passes.items }
     requires last { last.hall ≡ hall.id }
 {
-    let (hall, mut passes) = match hall.close(alloc, passes) {
-        Err(NotClosed::SeatMissing(back)) => back,
-        Err(NotClosed::AuditMismatch(_mismatch)) => Err("a pass was missing")?,
-        Err(NotClosed::Memory) => Err("a pass was missing")?,
-        Ok(_report) => Err("a pass was missing")?,
-    };
+    let (hall, mut passes) = given_back(hall.close(alloc, passes))?;
     passes.push(last)?;
     match hall.close(alloc, passes) {
-        Ok(report) => match report.slots().first() {
-            Some(slot) => Ok((slot.accepted(), slot.calls(), slot.complete())),
-            None => Err("there is a slot")?,
-        },
-        Err(_) => Err("the hall was not closed")?,
+        Ok(report) => Ok(first_slot(&report)),
+        Err(_) => Ok(None),
     }
 }
 
@@ -106,7 +121,7 @@ fn one_study<M: Tally, K: Tally, R: Wait + Abort>(
     let opened = submitted(rt, alloc, &hall, &mut pass)?;
     assert!(rt; worked(rt, alloc, &hall, &mut pass, &opened)?);
     hall.stop(rt);
-    assert!(rt; closed(alloc, hall, passes, pass)? == (2, 3, true));
+    assert!(rt; closed(alloc, hall, passes, pass)? == Some((2, 3, true)));
     Ok(())
 }
 

@@ -103,34 +103,66 @@ fn run_over<D: Disk + Drop + Send, W: Wire, R: Threads + Wait + Sync>(
     Ok(told(alloc, answer)?)
 }
 
+/// Whether a run without a journal tells this, and its wire took the table.
+fn writes_table<R: Threads + Wait + Sync>(
+    rt: &R,
+    alloc: Global,
+    piece_size: u32,
+    workers: u32,
+    wanted: &str,
+) -> Result<bool, Fail>
+    requires size { 1 ≤ piece_size }
+    requires workers { (1 ≤ workers) × (workers ≤ 64) }
+{
+    let mut wire = wire(alloc, 1000);
+    let text = run_alone(rt, alloc, piece_size, workers, &mut wire)?;
+    Ok(text.as_str() == wanted && wire.taken() == TABLE)
+}
+
 #[test]
 fn any_number_of_workers_writes_the_table(rt: HostRuntime) -> Result<(), Fail> {
     let alloc = rt.alloc();
+    let by_one = "sent 98, accepted 2, calls 3, complete true";
+    let by_two = "sent 98, accepted 2, calls 2, complete true";
     for workers in 1..5u32 {
-        let mut by_one = wire(alloc, 1000);
-        let text = run_alone(&rt, alloc, 1, workers, &mut by_one)?;
-        assert!(rt; text.as_str() == "sent 98, accepted 2, calls 3, complete true");
-        assert!(rt; by_one.taken() == TABLE);
-        let mut by_two = wire(alloc, 1000);
-        let text = run_alone(&rt, alloc, 2, workers, &mut by_two)?;
-        assert!(rt; text.as_str() == "sent 98, accepted 2, calls 2, complete true");
-        assert!(rt; by_two.taken() == TABLE);
+        assert!(rt; writes_table(&rt, alloc, 1, workers, by_one)?, "{workers}");
+        assert!(rt; writes_table(&rt, alloc, 2, workers, by_two)?, "{workers}");
     }
     Ok(())
 }
 
+/// Whether a run by two workers over the journal on a disk tells this, and its wire took the table.
+fn resumes<D: Disk + Drop + Send, R: Threads + Wait + Sync>(
+    rt: &R,
+    alloc: Global,
+    disk: D,
+    piece_size: u32,
+    wanted: &str,
+) -> Result<bool, Fail>
+    requires { 1 ≤ piece_size }
+{
+    let mut whole = wire(alloc, 1000);
+    let text = run_over(rt, alloc, disk, piece_size, &mut whole)?;
+    Ok(text.as_str().starts_with(wanted) && whole.taken() == TABLE)
+}
+
+/// Whether a run over a disk ends where its wire fails behind 80 bytes.
+fn is_cut<R: Threads + Wait + Sync>(
+    rt: &R,
+    alloc: Global,
+    disk: &mut MemoryDisk,
+) -> Result<bool, Fail> {
+    let mut cut = FaultyWire::new(alloc, Vec::new(alloc), 1000, 80, 0);
+    let text = run_over(rt, alloc, disk, 1, &mut cut)?;
+    Ok(text.as_str() == "31 Write 80" && cut.taken() == &TABLE[..80])
+}
+
 #[test]
 fn a_study_whose_wire_failed_is_resumed(rt: HostRuntime) -> Result<(), Fail> {
-    let alloc = rt.alloc();
-    let mut disk = MemoryDisk::of(alloc, Vec::new(alloc))?;
-    let mut cut = FaultyWire::new(alloc, Vec::new(alloc), 1000, 80, 0);
-    let first = run_over(&rt, alloc, &mut disk, 1, &mut cut)?;
-    assert!(rt; first.as_str() == "31 Write 80");
-    assert!(rt; cut.taken() == &TABLE[..80]);
-    let mut whole = wire(alloc, 1000);
-    let second = run_over(&rt, alloc, &mut disk, 1, &mut whole)?;
-    assert!(rt; second.as_str() == "sent 98, accepted 0, calls 1, complete true");
-    assert!(rt; whole.taken() == TABLE);
+    let mut disk = MemoryDisk::of(rt.alloc(), Vec::new(rt.alloc()))?;
+    let is_cut = is_cut(&rt, rt.alloc(), &mut disk)?;
+    let whole = "sent 98, accepted 0, calls 1, complete true";
+    assert!(rt; is_cut && resumes(&rt, rt.alloc(), &mut disk, 1, whole)?);
     Ok(())
 }
 
@@ -141,84 +173,106 @@ fn keep_first<D: Disk + Drop>(alloc: Global, disk: D, plan: &Plan) -> Result<(),
     Ok(())
 }
 
+/// Whether a run over a disk is refused with this, and nothing is written.
+fn is_refused<R: Threads + Wait + Sync>(
+    rt: &R,
+    alloc: Global,
+    disk: &mut MemoryDisk,
+    wanted: &str,
+) -> Result<bool, Fail> {
+    let mut wire = wire(alloc, 1000);
+    let text = run_over(rt, alloc, disk, 1, &mut wire)?;
+    Ok(text.as_str() == wanted && wire.taken().is_empty())
+}
+
+/// Keeps the slip of the first trial twice.
+fn keep_twice(alloc: Global, disk: &mut MemoryDisk) -> Result<(), Fail> {
+    let plan = plan(alloc)?;
+    keep_first(alloc, &mut *disk, &plan)?;
+    keep_first(alloc, disk, &plan)
+}
+
 #[test]
 fn a_slip_that_is_kept_twice_is_bad(rt: HostRuntime) -> Result<(), Fail> {
-    let alloc = rt.alloc();
-    let plan = plan(alloc)?;
-    let mut disk = MemoryDisk::of(alloc, Vec::new(alloc))?;
-    keep_first(alloc, &mut disk, &plan)?;
-    keep_first(alloc, &mut disk, &plan)?;
-    let mut wire = wire(alloc, 1000);
-    let text = run_over(&rt, alloc, &mut disk, 1, &mut wire)?;
-    assert!(rt; text.as_str() == "17 BadSlip 2");
-    assert!(rt; wire.taken().is_empty());
+    let mut disk = MemoryDisk::of(rt.alloc(), Vec::new(rt.alloc()))?;
+    keep_twice(rt.alloc(), &mut disk)?;
+    assert!(rt; is_refused(&rt, rt.alloc(), &mut disk, "17 BadSlip 2")?);
     Ok(())
+}
+
+/// Whether a run tells this over a wire that has room for so many bytes, and the wire took them.
+fn fills<R: Threads + Wait + Sync>(
+    rt: &R,
+    alloc: Global,
+    room: usize,
+    wanted: &str,
+) -> Result<bool, Fail> {
+    let mut wire = FaultyWire::new(alloc, Vec::new(alloc), 7, room, 0);
+    let text = run_alone(rt, alloc, 1, 2, &mut wire)?;
+    Ok(text.as_str() == wanted && Some(wire.taken()) == TABLE.get(..room))
 }
 
 #[test]
 fn a_wire_takes_the_bytes_that_are_told(rt: HostRuntime) -> Result<(), Fail> {
     let alloc = rt.alloc();
     for room in 0..98usize {
-        let mut wire = FaultyWire::new(alloc, Vec::new(alloc), 7, room, 0);
-        let text = run_alone(&rt, alloc, 1, 2, &mut wire)?;
         let wanted = format!(in alloc; "31 Write {room}")?;
-        assert!(rt; text.as_str() == wanted.as_str());
-        assert!(rt; wire.taken() == &TABLE[..room]);
+        assert!(rt; fills(&rt, alloc, room, wanted.as_str())?, "{room}");
     }
-    let mut wire = FaultyWire::new(alloc, Vec::new(alloc), 7, 98, 0);
-    let text = run_alone(&rt, alloc, 1, 2, &mut wire)?;
-    assert!(rt; text.as_str() == "sent 98, accepted 2, calls 3, complete true");
-    assert!(rt; wire.taken() == TABLE);
+    let whole = "sent 98, accepted 2, calls 3, complete true";
+    assert!(rt; fills(&rt, alloc, 98, whole)?);
     Ok(())
 }
 
-/// What is told of a run in pieces of one trial over a disk that is armed once its journal is open.
-fn run_armed<W: Wire, R: Threads + Wait + Sync>(
+/// Whether a run in pieces of one trial tells this over a disk that is armed once its journal is open.
+fn tells_armed<R: Threads + Wait + Sync>(
     rt: &R,
     alloc: Global,
     disk: &mut FaultyDisk,
-    wire: &mut W,
-) -> Result<String, Fail> {
+    wanted: &str,
+) -> Result<bool, Fail> {
     let plan = plan(alloc)?;
     let kept = journal_on(alloc, disk, &plan)?;
     kept.0.disk().arm();
+    let wire = &mut wire(alloc, 1000);
     let answer = run_study(rt, alloc, &plan, 1, 2, Some(kept), wire, &OpenGate);
-    Ok(told(alloc, answer)?)
+    Ok(told(alloc, answer)?.as_str() == wanted)
+}
+
+/// Whether a study is resumed whose disk failed in this of its calls.
+fn outlives<R: Threads + Wait + Sync>(rt: &R, alloc: Global, call: u64) -> Result<bool, Fail> {
+    let mut disk = FaultyDisk::of(alloc, Vec::new(alloc), call, Tear::Nothing)?;
+    let has_failed = tells_armed(rt, alloc, &mut disk, "30 Checkpoint")?;
+    Ok(has_failed && resumes(rt, alloc, &mut disk, 2, "sent 98, ")?)
 }
 
 #[test]
 fn a_study_whose_disk_failed_is_resumed(rt: HostRuntime) -> Result<(), Fail> {
-    let alloc = rt.alloc();
     // Each of the two appends makes four calls.
     for call in 1..9u64 {
-        let mut disk = FaultyDisk::of(alloc, Vec::new(alloc), call, Tear::Nothing)?;
-        let first = run_armed(&rt, alloc, &mut disk, &mut wire(alloc, 1000))?;
-        assert!(rt; first.as_str() == "30 Checkpoint");
-        let mut whole = wire(alloc, 1000);
-        let second = run_over(&rt, alloc, &mut disk, 2, &mut whole)?;
-        assert!(rt; second.as_str().starts_with("sent 98, "));
-        assert!(rt; whole.taken() == TABLE);
+        assert!(rt; outlives(&rt, rt.alloc(), call)?, "{call}");
     }
-    let mut disk = FaultyDisk::of(alloc, Vec::new(alloc), 9, Tear::Nothing)?;
-    let mut whole = wire(alloc, 1000);
-    let text = run_armed(&rt, alloc, &mut disk, &mut whole)?;
-    assert!(rt; text.as_str() == "sent 98, accepted 2, calls 3, complete true");
+    let mut disk = FaultyDisk::of(rt.alloc(), Vec::new(rt.alloc()), 9, Tear::Nothing)?;
+    let whole = "sent 98, accepted 2, calls 3, complete true";
+    assert!(rt; tells_armed(&rt, rt.alloc(), &mut disk, whole)?);
     Ok(())
+}
+
+/// Whether two workers write this line of a plan in pieces of ten trials.
+fn writes_line<R: Threads + Wait + Sync>(rt: &R, alloc: Global, plan: &Plan, line: &[u8]) -> bool {
+    let mut wire = wire(alloc, 1000);
+    let none: Option<Kept<MemoryDisk>> = None;
+    let answer = run_study(rt, alloc, plan, 10, 2, none, &mut wire, &OpenGate);
+    answer.is_ok() && wire.taken().get(72..) == Some(line)
 }
 
 #[test]
 fn many_trials_in_one_cell(rt: HostRuntime) -> Result<(), Fail> {
-    let alloc = rt.alloc();
     let text =
         r#"{"copies":1,"dead":"silent","f":[1],"faults":"crash","h":[1],"implicit":true,"k":[1],"l":[1],"liars":0,"links":0,"nodes":5,"repeats":1000,"seed":"0000000000000000000000000000000000000000000000000000000000000000","version":1}"#;
-    let plan = Plan::from_json(alloc, text.as_bytes())?;
-    let mut wire = wire(alloc, 1000);
-    let none: Option<Kept<MemoryDisk>> = None;
-    let answer = run_study(&rt, alloc, &plan, 10, 2, none, &mut wire, &OpenGate);
-    assert!(rt; answer.is_ok());
-    assert!(rt;
-        wire.taken().get(72..) == Some(b"1,1,1,1,1000,4000,0,0,0,4000,1000,1000,0\n".as_slice())
-    );
+    let plan = Plan::from_json(rt.alloc(), text.as_bytes())?;
+    let line = b"1,1,1,1,1000,4000,0,0,0,4000,1000,1000,0\n";
+    assert!(rt; writes_line(&rt, rt.alloc(), &plan, line));
     Ok(())
 }
 
@@ -243,20 +297,31 @@ impl<C: Clock> Gate for Meeting<'_, C> {
     }
 }
 
+/// Whether two workers at a gate tell this.
+fn tells_at<G: Gate + Sync, R: Threads + Wait + Sync>(
+    rt: &R,
+    alloc: Global,
+    gate: &G,
+    wanted: &str,
+) -> Result<bool, Fail> {
+    let plan = plan(alloc)?;
+    let none: Option<Kept<MemoryDisk>> = None;
+    let wire = &mut wire(alloc, 1000);
+    let answer = run_study(rt, alloc, &plan, 1, 2, none, wire, gate);
+    Ok(told(alloc, answer)?.as_str() == wanted)
+}
+
 #[test]
 fn two_workers_are_in_work_at_once(rt: HostRuntime) -> Result<(), Fail> {
-    let alloc = rt.alloc();
-    let plan = plan(alloc)?;
     let gate = Meeting {
         clock: &rt,
         begun: AtomicU64::new(0),
         left_alone: AtomicU64::new(0),
     };
-    let none: Option<Kept<MemoryDisk>> = None;
-    let answer = run_study(&rt, alloc, &plan, 1, 2, none, &mut wire(alloc, 1000), &gate);
-    let text = told(alloc, answer)?;
-    assert!(rt; text.as_str() == "sent 98, accepted 2, calls 3, complete true");
-    assert!(rt; gate.begun.load(Ordering::SeqCst) == 2);
-    assert!(rt; gate.left_alone.load(Ordering::SeqCst) == 0);
+    let whole = "sent 98, accepted 2, calls 3, complete true";
+    let is_told = tells_at(&rt, rt.alloc(), &gate, whole)?;
+    let begun = gate.begun.load(Ordering::SeqCst);
+    let left_alone = gate.left_alone.load(Ordering::SeqCst);
+    assert!(rt; is_told && (begun, left_alone) == (2, 0));
     Ok(())
 }
