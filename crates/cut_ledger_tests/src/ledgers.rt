@@ -85,10 +85,10 @@ fn are_pieces(pieces: &[Piece], wanted: &[(u32, u32)]) -> bool {
     pieces.len() == wanted.len()
 }
 
-// Whether a ledger has these gaps.
+// Whether a ledger has these gaps, and is complete exactly where these are none.
 fn has_gaps(alloc: Global, ledger: &Ledger, wanted: &[(u32, u32)]) -> Result<bool, AllocError> {
     let gaps = ledger.gaps(alloc)?;
-    Ok(are_pieces(&gaps, wanted))
+    Ok(are_pieces(&gaps, wanted) && ledger.complete() == wanted.is_empty())
 }
 
 // An offer of a plan's trials from some one on, the fault that it is refused with, and the gaps then.

@@ -9,8 +9,6 @@
 mod books;
 #[cfg(test)]
 mod halls;
-#[cfg(test)]
-mod machine;
 pub mod piece;
 #[cfg(test)]
 mod storms;
