@@ -2,3 +2,4 @@ pub mod State
 pub mod Memory
 pub mod Faulty
 pub mod Laws
+pub mod Folders

@@ -1,12 +1,10 @@
-ghost use Rattle.std.specs.Prelude.{◌≡◌, ◌+◌, ◌≤◌, ◌<◌, ◌^◌, length, IfOk, OnOk};
+ghost use Rattle.std.specs.Prelude.{ℕ, ◌≡◌, ◌+◌, ◌≤◌, ◌<◌, ◌^◌, true, length, IfOk, OnOk};
 ghost use Rattle.cut_faults.specs.Failures.{counted};
 
+use crate::raw_file::{RawFile, SystemFile};
 use crate::{Disk, DiskFault};
 use cut_faults::Failures;
-use std::fs::{self, File, OpenOptions};
 use std::io::{self, ErrorKind};
-use std::os::unix::fs::FileExt;
-use std::path::Path;
 
 /// The longest file that a call may make, in bytes.
 const MOST_BYTES: u64 = (1 << 63) - 1;
@@ -14,13 +12,14 @@ const MOST_BYTES: u64 = (1 << 63) - 1;
 /// A file of the system as a disk.
 ///
 /// Nothing is promised of what it holds: that the system keeps what a sync made sure, and that no one else
-/// writes the file, are premises.
+/// writes the file, are premises. What is promised is which call of the system is made: a call of the disk that
+/// succeeds is that one call.
 ///
 /// A sync is `File::sync_all`, which on Linux is the call fsync: the bytes and the length reach the device. The
 /// file is never cut. A call is a failing one also where an interruption came so often that it was given up.
 #[derive(Drop)]
-pub struct FileDisk {
-    file: File,
+pub struct FileDisk<F: RawFile = SystemFile> {
+    file: F,
     failures: Failures,
 }
 
@@ -28,35 +27,64 @@ impl FileDisk {
     /// Opens the regular file at a path, or makes an empty one, and holds the lock on it (`File::try_lock`)
     /// until the disk is dropped.
     ///
-    /// Where a file was made, its folder is synced too (`File::sync_all` of the folder), so that its entry is
-    /// sure. Fails where there is something else than a regular file, where the file can't be read and
-    /// written, and where another program holds the lock. What is there is not changed then.
+    /// Its folder is synced each time (`File::sync_all` of the folder), so that the entry is sure, also where an
+    /// earlier call made the file and was ended before it synced the folder. Fails where there is something
+    /// else than a regular file, where the file can't be read and written, where another program holds the
+    /// lock, and where the folder isn't synced. A call that fails may leave a new, empty file; a file that was
+    /// there is not changed.
     pub fn open(rt: &HostRuntime, path: &str) -> Result<FileDisk, DiskFault> {
-        match open_locked(rt, path) {
-            Ok(file) => Ok(FileDisk {
+        match SystemFile::open(rt, path) {
+            Ok(file) => FileDisk::over(file),
+            Err(_) => Err(DiskFault),
+        }
+    }
+}
+
+impl<F: RawFile + Drop> FileDisk<F> {
+    /// The disk of a file. It is asked whether it is a regular one, then locked, and then its folder is synced.
+    pub fn over(file: F) -> Result<FileDisk<F>, DiskFault>
+        ensures ready { IfOk result (λ disk. (found : F) × ((locked : F) ×
+            (F.told_kind file true found × F.locked found locked × F.synced_folder locked disk.file))) }
+        ensures faults { IfOk result (λ disk. disk.failures ≡ 0) }
+    {
+        let mut file = file;
+        match make_ready(&mut file) {
+            Ok(()) => Ok(FileDisk {
                 file,
                 failures: Failures::none(),
             }),
             Err(_) => Err(DiskFault),
         }
     }
+}
 
-    /// Counts a call that failed.
-    fn counted<T>(&mut self, outcome: io::Result<T>) -> Result<T, DiskFault>
-        ensures value { IfOk result (λ value. outcome ≡ Ok value) }
-        ensures faults { self.new.failures ≡ counted result self.old.failures }
-    {
-        match outcome {
-            Ok(value) => Ok(value),
-            Err(_) => {
-                self.failures.add();
-                Err(DiskFault)
-            }
+/// Finds that a file is a regular one, locks it, and makes its entry in its folder sure.
+fn make_ready<F: RawFile>(file: &mut F) -> io::Result<()>
+    ensures { OnOk result ((found : F) × ((locked : F) ×
+        (F.told_kind file.old true found × F.locked found locked × F.synced_folder locked file.new))) }
+{
+    if !file.is_regular()? {
+        return Err(ErrorKind::Unsupported.into());
+    }
+    file.try_lock()?;
+    file.sync_folder()
+}
+
+/// Counts a call that failed.
+fn count_failure<T>(failures: &mut Failures, outcome: io::Result<T>) -> Result<T, DiskFault>
+    ensures value { IfOk result (λ value. outcome ≡ Ok value) }
+    ensures faults { failures.new ≡ counted result failures.old }
+{
+    match outcome {
+        Ok(value) => Ok(value),
+        Err(_) => {
+            failures.add();
+            Err(DiskFault)
         }
     }
 }
 
-impl Disk for FileDisk {
+impl<F: RawFile> Disk for FileDisk<F> {
     ghost use Rattle.cut_disks.specs.State.{fresh};
     ghost use Rattle.std.specs.Prelude.{[]};
 
@@ -66,24 +94,38 @@ impl Disk for FileDisk {
 
     ghost faults = { λ d. d.failures };
 
-    fn length(&mut self) -> Result<u64, DiskFault> {
-        let length = length_of(&self.file);
-        self.counted(length)
+    fn length(&mut self) -> Result<u64, DiskFault>
+        ensures called { IfOk result (λ n. F.told_length self.old.file n self.new.file) }
+        ensures bound { IfOk result (λ n. n < 2 ^ 63) }
+        ensures faults { self.new.failures ≡ counted result self.old.failures }
+    {
+        let length = length_of(&mut self.file);
+        count_failure(&mut self.failures, length)
     }
 
-    fn read(&mut self, at: u64, into: &mut [u8]) -> Result<(), DiskFault> {
+    fn read(&mut self, at: u64, into: &mut [u8]) -> Result<(), DiskFault>
+        ensures called { OnOk result (F.was_read self.old.file at into.new self.new.file) }
+        ensures faults { self.new.failures ≡ counted result self.old.failures }
+    {
         let done = self.file.read_exact_at(into, at);
-        self.counted(done)
+        count_failure(&mut self.failures, done)
     }
 
-    fn write_at(&mut self, at: u64, put: &[u8]) -> Result<(), DiskFault> {
-        let done = write_within(&self.file, at, put);
-        self.counted(done)
+    fn write_at(&mut self, at: u64, put: &[u8]) -> Result<(), DiskFault>
+        ensures called { OnOk result (F.wrote self.old.file at put.now self.new.file) }
+        ensures bound { OnOk result (at + length put.now < 2 ^ 63) }
+        ensures faults { self.new.failures ≡ counted result self.old.failures }
+    {
+        let done = write_within(&mut self.file, at, put);
+        count_failure(&mut self.failures, done)
     }
 
-    fn sync(&mut self) -> Result<(), DiskFault> {
+    fn sync(&mut self) -> Result<(), DiskFault>
+        ensures called { OnOk result (F.synced_all self.old.file self.new.file) }
+        ensures faults { self.new.failures ≡ counted result self.old.failures }
+    {
         let done = self.file.sync_all();
-        self.counted(done)
+        count_failure(&mut self.failures, done)
     }
 
     fn failures(&self) -> u64 {
@@ -91,50 +133,12 @@ impl Disk for FileDisk {
     }
 }
 
-/// The file, opened or made, and locked.
-fn open_locked(rt: &HostRuntime, path: &str) -> io::Result<File> {
-    let (file, is_new) = open_or_make(rt, path)?;
-    if !file.metadata()?.is_file() {
-        return Err(ErrorKind::Unsupported.into());
-    }
-    file.try_lock()?;
-    if is_new {
-        sync_folder_of(rt, path)?;
-    }
-    Ok(file)
-}
-
-/// The file, and whether this call made it.
-fn open_or_make(rt: &HostRuntime, path: &str) -> io::Result<(File, bool)> {
-    match OpenOptions::new()
-        .read(true)
-        .write(true)
-        .create_new(true)
-        .open(rt, path)
-    {
-        Ok(file) => Ok((file, true)),
-        Err(error) if error.kind() == ErrorKind::AlreadyExists => {
-            let file = OpenOptions::new().read(true).write(true).open(rt, path)?;
-            Ok((file, false))
-        }
-        Err(error) => Err(error),
-    }
-}
-
-/// Makes the entry of a new file in its folder sure.
-fn sync_folder_of(rt: &HostRuntime, path: &str) -> io::Result<()> {
-    let folder = match Path::new(path).parent() {
-        Some(folder) if !folder.as_str().is_empty() => folder,
-        _ => Path::new("."),
-    };
-    fs::open(rt, folder)?.sync_all()
-}
-
 /// How many bytes a file has, below 2^63.
-fn length_of(file: &File) -> io::Result<u64>
-    ensures { IfOk result (λ n. n < 2 ^ 63) }
+fn length_of<F: RawFile>(file: &mut F) -> io::Result<u64>
+    ensures called { IfOk result (λ n. F.told_length file.old n file.new) }
+    ensures bound { IfOk result (λ n. n < 2 ^ 63) }
 {
-    let length = file.metadata()?.len();
+    let length = file.length()?;
     if length > MOST_BYTES {
         return Err(ErrorKind::FileTooLarge.into());
     }
@@ -142,8 +146,9 @@ fn length_of(file: &File) -> io::Result<u64>
 }
 
 /// Writes bytes at a place, where the file stays below 2^63 bytes.
-fn write_within(file: &File, at: u64, put: &[u8]) -> io::Result<()>
-    ensures { OnOk result (at + length put.now < 2 ^ 63) }
+fn write_within<F: RawFile>(file: &mut F, at: u64, put: &[u8]) -> io::Result<()>
+    ensures called { OnOk result (F.wrote file.old at put.now file.new) }
+    ensures bound { OnOk result (at + length put.now < 2 ^ 63) }
 {
     if at > MOST_BYTES || put.len() as u64 > MOST_BYTES - at {
         return Err(ErrorKind::FileTooLarge.into());

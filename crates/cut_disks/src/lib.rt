@@ -11,9 +11,11 @@ mod faulty_disk;
 mod file_disk;
 pub mod laws;
 mod memory_disk;
+mod raw_file;
 
 pub use call::{DiskCall, Written};
 pub use disk::{Disk, DiskFault};
 pub use faulty_disk::{FaultyDisk, Tear};
 pub use file_disk::FileDisk;
 pub use memory_disk::MemoryDisk;
+pub use raw_file::{RawFile, SystemFile, folder_of};

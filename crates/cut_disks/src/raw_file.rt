@@ -1,0 +1,142 @@
+ghost use Rattle.std.specs.Prelude.{ℕ, List, Bool, ◌≡◌, IfOk, OnOk};
+ghost use Rattle.std.specs.Path.{path_bytes, path_parent};
+ghost use Rattle.cut_disks.specs.Folders.{folder_text};
+
+use std::fs::{self, File, OpenOptions};
+use std::io;
+use std::os::unix::fs::FileExt;
+use std::path::Path;
+
+/// The calls of the system on an open file and on its folder.
+///
+/// Each ghost member is what one call did that succeeded, between the value before it and the one after it. Of
+/// these nothing else is known. So where a clause says that one of them holds between two values, that call
+/// was made, once, and no other one with it.
+pub trait RawFile {
+    /// It was told whether this is a regular file.
+    ghost told_kind: { Self → Bool → Self → Type 0 };
+
+    /// The lock on the file was taken.
+    ghost locked: { Self → Self → Type 0 };
+
+    /// The folder was synced.
+    ghost synced_folder: { Self → Self → Type 0 };
+
+    /// The length was told.
+    ghost told_length: { Self → ℕ → Self → Type 0 };
+
+    /// These bytes were read, all of them, from this place on.
+    ghost was_read: { Self → ℕ → List ℕ → Self → Type 0 };
+
+    /// These bytes were written, all of them, from this place on.
+    ghost wrote: { Self → ℕ → List ℕ → Self → Type 0 };
+
+    /// The bytes and the length were synced.
+    ghost synced_all: { Self → Self → Type 0 };
+
+    /// Whether it is a regular file.
+    fn is_regular(&mut self) -> io::Result<bool>
+        ensures { IfOk result (λ is_regular. told_kind self.old is_regular self.new) };
+
+    /// Takes the lock on the file, unless it is held.
+    fn try_lock(&mut self) -> io::Result<()>
+        ensures { OnOk result (locked self.old self.new) };
+
+    /// Makes the file's entry in its folder sure.
+    fn sync_folder(&mut self) -> io::Result<()>
+        ensures { OnOk result (synced_folder self.old self.new) };
+
+    /// How many bytes there are.
+    fn length(&mut self) -> io::Result<u64>
+        ensures { IfOk result (λ n. told_length self.old n self.new) };
+
+    /// Reads bytes from a place on, as many as fit.
+    fn read_exact_at(&mut self, into: &mut [u8], at: u64) -> io::Result<()>
+        ensures { OnOk result (was_read self.old at into.new self.new) };
+
+    /// Writes bytes from a place on.
+    fn write_all_at(&mut self, put: &[u8], at: u64) -> io::Result<()>
+        ensures { OnOk result (wrote self.old at put.now self.new) };
+
+    /// Makes the bytes and the length sure.
+    fn sync_all(&mut self) -> io::Result<()>
+        ensures { OnOk result (synced_all self.old self.new) };
+}
+
+/// A file of the system, and its folder. Each call is handed on to the call of the same name.
+#[derive(Drop)]
+pub struct SystemFile {
+    file: File,
+    folder: File,
+}
+
+impl SystemFile {
+    /// Opens a file and its folder, and makes the file where there is none.
+    pub fn open(rt: &HostRuntime, path: &str) -> io::Result<SystemFile> {
+        let file = OpenOptions::new()
+            .read(true)
+            .write(true)
+            .create(true)
+            .truncate(false)
+            .open(rt, path)?;
+        let folder = fs::open(rt, folder_of(path))?;
+        Ok(SystemFile { file, folder })
+    }
+}
+
+/// The folder in which a file has its entry.
+pub fn folder_of(path: &str) -> Path<'_>
+    ensures { path_bytes result ≡ folder_text (path_parent path.now) }
+{
+    match Path::new(path).parent() {
+        Some(folder) if !folder.as_str().is_empty() => folder,
+        _ => Path::new("."),
+    }
+}
+
+impl RawFile for SystemFile {
+    ghost use Rattle.std.specs.Prelude.{⊤};
+
+    ghost told_kind = { λ _ _ _. ⊤ };
+
+    ghost locked = { λ _ _. ⊤ };
+
+    ghost synced_folder = { λ _ _. ⊤ };
+
+    ghost told_length = { λ _ _ _. ⊤ };
+
+    ghost was_read = { λ _ _ _ _. ⊤ };
+
+    ghost wrote = { λ _ _ _ _. ⊤ };
+
+    ghost synced_all = { λ _ _. ⊤ };
+
+    fn is_regular(&mut self) -> io::Result<bool> {
+        Ok(self.file.metadata()?.is_file())
+    }
+
+    fn try_lock(&mut self) -> io::Result<()> {
+        self.file.try_lock()?;
+        Ok(())
+    }
+
+    fn sync_folder(&mut self) -> io::Result<()> {
+        self.folder.sync_all()
+    }
+
+    fn length(&mut self) -> io::Result<u64> {
+        Ok(self.file.metadata()?.len())
+    }
+
+    fn read_exact_at(&mut self, into: &mut [u8], at: u64) -> io::Result<()> {
+        self.file.read_exact_at(into, at)
+    }
+
+    fn write_all_at(&mut self, put: &[u8], at: u64) -> io::Result<()> {
+        self.file.write_all_at(put, at)
+    }
+
+    fn sync_all(&mut self) -> io::Result<()> {
+        self.file.sync_all()
+    }
+}
