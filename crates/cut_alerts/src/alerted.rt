@@ -1,4 +1,4 @@
-ghost use Rattle.std.specs.Prelude.{◌≡◌, ◌≤◌, ◌<◌, ◌↔◌, ◌++◌, ◌*◌, ℕ, length, map, filter, Contains, IfOk, OnOk, IsTrue};
+ghost use Rattle.std.specs.Prelude.{◌≡◌, ◌≤◌, ◌<◌, ◌↔◌, ◌++◌, ◌*◌, [], ℕ, length, map, filter, Contains, IfOk, OnOk, OnErr, IsTrue};
 ghost use Rattle.std.specs.List.Sorted.{IsStrictlyIncreasing};
 ghost use Rattle.cut_rings.specs.Edges.{are_edges_of, edge_number};
 ghost use Rattle.cut_draws.specs.DeliveryOrder.{are_distinct};
@@ -49,7 +49,7 @@ pub fn alerts(alloc: Global, rings: &Rings, k: u8, roles: &Roles) -> Result<Vec<
 }
 
 /// Puts the alerted edges of the first `k` rings into a list, as `alerts` gives them, in place of what
-/// it held. Fails only for want of memory; which of the edges the list then holds is left open.
+/// it held. Fails only for want of memory, and the list is empty then.
 pub fn alerts_into(
     edges: &mut Vec<Edge>,
     rings: &Rings,
@@ -67,10 +67,24 @@ pub fn alerts_into(
     ensures ascending { OnOk result
         (IsStrictlyIncreasing (map (λ e. edge_number k e) edges.new.items)) }
     ensures few { OnOk result (length edges.new.items ≤ rings.now.nodes * k) }
+    ensures err { OnErr result (edges.new.items ≡ []) }
 {
-    edges.clear();
+    let filled = fill(edges, rings, k, roles);
+    if filled.is_err() {
+        edges.clear();
+    }
+    filled
+}
+
+/// The alerted edges in a list in place of what it held, or a list of which nothing is known.
+fn fill(list: &mut Vec<Edge>, rings: &Rings, k: u8, roles: &Roles) -> Result<(), AllocError>
+    requires rings { k ≤ length rings.now.positions }
+    requires nodes { length roles.now.roles ≡ rings.now.nodes }
+    ensures { OnOk result (list.new.items ≡ alert_list rings.now roles.now k) }
+{
+    list.clear();
     for subject in 0..rings.nodes() {
-        push_alerts(edges, rings, k, roles, subject)?;
+        push_alerts(list, rings, k, roles, subject)?;
     }
     Ok(())
 }

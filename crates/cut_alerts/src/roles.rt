@@ -1,5 +1,6 @@
-ghost use Rattle.std.specs.Prelude.{◌≡◌, ◌<◌, ◌↔◌, ◌++◌, [], length, IfOk, OnOk, OnErr, IsErrOf};
+ghost use Rattle.std.specs.Prelude.{◌≡◌, ◌<◌, ◌↔◌, ◌++◌, ◌⊎◌, [], length, IfOk, OnOk, OnErr, IsErrOf};
 ghost use Rattle.cut_plan.specs.Cells.{IsCellOf};
+ghost use Rattle.cut_draws.specs.ProcessOrder.{IsProcessOrder};
 ghost use Rattle.cut_alerts.specs.Assignment.{role_at, is_target, is_cut};
 ghost use Rattle.cut_alerts.specs.Drawn.{drawn, ranked_role};
 ghost use Rattle.cut_alerts.specs.Given.{given, given_mixed, IsLegal};
@@ -66,8 +67,9 @@ impl Roles {
     }
 
     /// Puts the roles that a trial of a cell draws, as `of_trial` gives them, in place of other roles,
-    /// in the memory that these and the order have. Fails only for want of memory, and the roles are as
-    /// they were then.
+    /// in the memory that these and the order have. The order is left as that of the trial's processes.
+    /// Fails only for want of memory: the roles are as they were then, and the order is empty or that of
+    /// the trial's processes.
     pub fn draw(
         &mut self,
         plan: &Plan,
@@ -80,6 +82,9 @@ impl Roles {
         requires nodes { rings.now.nodes ≡ plan.now.nodes }
         ensures drawn { OnOk result (self.new ≡ drawn plan.now cell.f draws.old rings.now) }
         ensures err { OnErr result (self.new ≡ self.old) }
+        ensures order { OnOk result (IsProcessOrder draws.old rings.now.nodes order.new) }
+        ensures order_err { OnErr result
+            ((order.new ≡ []) ⊎ IsProcessOrder draws.old rings.now.nodes order.new) }
         ensures same { draws.new ≡ draws.old }
     {
         let n = rings.nodes();

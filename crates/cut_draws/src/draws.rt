@@ -67,8 +67,9 @@ impl Draws {
     }
 }
 
-/// Takes a generator from one place to another, and gives the end of the words that it has computed
-/// then. To such words it goes by steps.
+/// Takes a generator from one place to another, and returns the end of the words that it has computed
+/// then. To such words it goes by steps. `end`, and what is returned for it, are a hint for speed: the
+/// generator stands at `place` whatever they are, so they change no key.
 #[inline(never)]
 fn seek(words: &mut ChaCha8Rng, here: u64, end: u64, place: u64) -> u64
     requires here { words.old.word_pos ≡ here }
