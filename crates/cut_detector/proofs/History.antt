@@ -1,9 +1,9 @@
 -- What a delivery does to the proposal, and to what a detector keeps.
-use Rattle.std.proofs.Common.{◌≡◌, ℕ, ◌+◌, ◌<◌, ◌≤◌, Bool, true, false, cond, ◌||◌, List, [], ◌∷◌, ◌++◌, length, take, Option, Some, None, is_some, refl, ap, sym, subst, ◌∙◌, arith, length-append, vec_capacity, IsTrue, replicate, nat_lt}
-use Rattle.cut_detector.proofs.Words.{Edge, EdgeSet, HasDelivered, Inside, IsSound, Layout, Proposal, Rule, State, TakesEdge, and_parts, both_ways, edges_in, first_of, fresh, is_edge, is_edge_of, is_settled, layout_of, list_any-append, ltb-true, or-false, proposal_of, reported_of, rule_in, rule_of_inside, set_of, settled_proposal, stable_members, state_of, take-append-le, take_all, with_edge}
-use Rattle.std.specs.Option.{option_or}
+use Rattle.std.proofs.Common.{◌≡◌, ℕ, ◌+◌, ◌<◌, ◌≤◌, Bool, true, false, cond, ◌||◌, List, [], ◌∷◌, ◌++◌, length, take, Option, Some, None, is_some, option_map, MatchOption, refl, ap, sym, subst, ◌∙◌, arith, length-append, vec_capacity, IsTrue, replicate, nat_lt}
+use Rattle.cut_detector.proofs.Words.{Edge, EdgeSet, HasDelivered, HoldsFirst, Inside, IsSound, Layout, Proposal, Rule, State, TakesEdge, and_parts, both_ways, edges_in, find, first_of, fresh, is_edge, is_edge_of, is_settled, layout_of, list_any-append, ltb-true, or-false, proposal_of, range_with_len, reported_of, rule_in, rule_of_inside, set_of, settled_proposal, stable_members, state_of, take-append-le, take_all, with_edge}
+use Rattle.std.specs.Option.{IfSome, option_or}
 use Rattle.cut_lists.proofs.BitSets.{has_bit-zeros}
-use Rattle.cut_lists.proofs.Firsts.{found, found-same, found-more}
+use Rattle.cut_lists.proofs.Firsts.{IsFirst, NonePasses, found, found_first, found-same, found-more}
 use Rattle.cut_detector.proofs.Agreement.{SameEdges, HasObservers, settled_proposal-same}
 use Rattle.cut_detector.proofs.Neighbours.{observer_of-lt}
 use Rattle.cut_detector.proofs.Bits.{edges_in-with_edge}
@@ -33,6 +33,29 @@ proposal_of_push r rule edges edge =
     ∙ ap (λ xs. option_or (found (is_settled r rule) (made r rule) (first_of edges) n)
     (settled_proposal r rule (set_of xs) (n + 1))) whole
 
+abbrev settles : Layout → Rule → (ℕ → EdgeSet) → ℕ → Bool
+settles r rule E n = is_settled r rule (E n)
+
+-- a proposal is made at one of the places
+at_within : (r : Layout) (rule : Rule) (E : ℕ → EdgeSet) (count : ℕ) → IfSome (proposal_of r rule E count) (λ p. p.at ≤ count)
+at_within r rule E count = go (find (settles r rule E) (range_with_len 1 count)) (found_first (settles r rule E) 1 count)
+  where
+    go : (q : Option ℕ) → MatchOption q (NonePasses (settles r rule E) 1 count) (IsFirst (settles r rule E) 1 count)
+        → IfSome (option_map (λ n. made r rule (E n) n) q) (λ p. p.at ≤ count)
+    go None none = tt
+    go (Some m) first = let below = first.below in omega arith
+
+-- what it holds of the deliveries up to its proposal it holds of a longer list of them
+still_holds : (d : State) (edges : List Edge) (edge : Edge) (q : Option Proposal)
+    → IfSome q (λ p. HoldsFirst d edges p.at) → IfSome q (λ p. p.at ≤ length edges)
+    → IfSome q (λ p. HoldsFirst d (edges ++ edge ∷ []) p.at)
+still_holds d edges edge None holds within = tt
+still_holds d edges edge (Some p) holds within = record {
+  deliveries = holds.deliveries;
+  edges = λ ring s below process.
+      holds.edges ring s below process ∙ ap (λ xs. set_of xs ring s) (sym (take-append-le p.at edges (edge ∷ []) within));
+}
+
 -- a detector that has a proposal stays as it is
 pub history-settled : (old : State) (edge : Edge) (edges : List Edge) → is_some old.proposal ≡ true
     → HasDelivered old edges → HasDelivered old (edges ++ edge ∷ [])
@@ -42,6 +65,9 @@ history-settled old edge edges some delivered = record {
       ∙ sym (proposal_of_push old.layout old.rule edges edge);
   deliveries = λ none. absurd (both_ways _ none some);
   edges = λ none. absurd (both_ways _ none some);
+  settled = still_holds old edges edge old.proposal delivered.settled
+      (subst (λ q. IfSome q (λ p. p.at ≤ length edges)) (sym delivered.proposal)
+      (at_within old.layout old.rule (first_of edges) (length edges)));
 }
   where
     stays : (q o : Option Proposal) → is_some q ≡ true → q ≡ option_or q o
@@ -102,8 +128,20 @@ history d e old edge edges delivers none delivered =
           ∙ ap (λ x. proposal_of (layout_of e) x (first_of longer) (length longer)) (sym rule);
       deliveries = λ _. count ∙ sym (length-append edges (edge ∷ []));
       edges = λ _ ring p below process. same.same ring p (omega (arith, k)) (omega (arith, nodes));
+      settled = here (is_settled (layout_of e) (rule_of_inside e) (reported_of e)) _
+          (take_all _ _ (omega (arith, count, length-append edges (edge ∷ []))))
+          (λ ring p below process. same.same ring p (omega (arith, k)) (omega (arith, nodes)));
     }
   where
+    here : (b : Bool) (members : List ℕ) → take e.deliveries (edges ++ edge ∷ []) ≡ edges ++ edge ∷ []
+        → ((ring p : ℕ) → ring < (rule_of_inside e).k → p < (layout_of e).nodes → reported_of e ring p ≡ set_of (edges ++ edge ∷ []) ring p)
+        → IfSome {T = Proposal} (cond b (Some (record { members = members; at = e.deliveries })) None) (λ p. HoldsFirst (state_of e) (edges ++ edge ∷ []) p.at)
+    here false members whole all = tt
+    here true members whole all = record {
+      deliveries = refl;
+      edges = λ ring p below process. all ring p below process ∙ ap (λ xs. set_of xs ring p) (sym whole);
+    }
+
     starts : (q o : Option Proposal) → is_some q ≡ false → o ≡ option_or q o
     starts None o e = refl
     starts (Some p) o e = cc
@@ -146,7 +184,7 @@ is_fresh d r rule empty =
 
 -- nothing has been delivered to a fresh one
 pub fresh-delivered : (r : Layout) (rule : Rule) → HasDelivered (fresh r rule) []
-fresh-delivered r rule = record { proposal = refl; deliveries = λ _. refl; edges = λ _ ring s _ _. has_bit-zeros r.nodes ring s }
+fresh-delivered r rule = record { proposal = refl; deliveries = λ _. refl; edges = λ _ ring s _ _. has_bit-zeros r.nodes ring s; settled = tt }
 
 pub IsSound-empty : (d : Inside) (r : Layout) (rule : Rule) → IsEmpty d r rule → (layout_of d).nodes ≤ vec_capacity d.members → IsSound d
 IsSound-empty d r rule empty room = record {

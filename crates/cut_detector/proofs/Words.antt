@@ -30,6 +30,6 @@ pub use Rattle.cut_detector.specs.Proposal.{proposal_of, settled_proposal}
 pub use Rattle.cut_detector.specs.Masks.{AddsEdge, edges_in, with_edge}
 pub use Rattle.cut_detector.specs.Tally.{IsTouched, marked_in, processes_with, rings_full, stable_in, unstable_in}
 pub use Rattle.cut_detector.specs.Gains.{HoldsFull, is_near, reported_in, rule_of_gains}
-pub use Rattle.cut_detector.specs.State.{HasDelivered, State, TakesEdge, fresh}
+pub use Rattle.cut_detector.specs.State.{HasDelivered, HoldsFirst, State, TakesEdge, fresh}
 pub use Rattle.cut_detector.specs.Laws.{Grows, IsMarked, IsOfLeastPlace, IsSettled, ProposesBefore, ReportsTargetsAlone, delayed, members_after, proposal_after}
 pub use Rattle.cut_detector.specs.Inside.{IsSound, layout_of, reported_of, rule_of_inside, state_of}

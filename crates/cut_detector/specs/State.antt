@@ -1,5 +1,5 @@
 -- A detector as contracts see it.
-use Rattle.std.specs.Prelude.{◌≡◌, ℕ, ◌+◌, ◌<◌, ◌||◌, Bool, List, length, replicate, Option, None, IsNone}
+use Rattle.std.specs.Prelude.{◌≡◌, ℕ, ◌+◌, ◌<◌, ◌||◌, Bool, List, length, replicate, Option, None, IsNone, IfSome}
 use Rattle.cut_rings.specs.declared.edge.Edge.{Edge}
 use Rattle.cut_rings.specs.Layout.{Layout}
 use Rattle.cut_rings.specs.Edges.{first_of, set_of, is_edge}
@@ -38,6 +38,11 @@ pub record TakesEdge (old new : State) (edge : Edge) : Type 0 where
   pub edges : (ring subject : ℕ) → ring < old.rule.k → subject < old.layout.nodes → has_edge new ring subject ≡ (has_edge old ring subject || is_edge ring subject edge)
   pub proposal : new.proposal ≡ settled_proposal old.layout old.rule (has_edge new) new.deliveries
 
+-- it has counted the first n of these deliveries, and holds the edges of these alone
+pub record HoldsFirst (d : State) (delivered : List Edge) (n : ℕ) : Type 0 where
+  pub deliveries : d.deliveries ≡ n
+  pub edges : (ring subject : ℕ) → ring < d.rule.k → subject < d.layout.nodes → has_edge d ring subject ≡ first_of delivered n ring subject
+
 -- these edges have been delivered, in this order, since the detector was made or reset
 pub record HasDelivered (d : State) (delivered : List Edge) : Type 0 where
   -- its proposal is that of the deliveries
@@ -45,3 +50,5 @@ pub record HasDelivered (d : State) (delivered : List Edge) : Type 0 where
   -- while there is none, it has counted the deliveries, and holds their edges
   pub deliveries : IsNone d.proposal → d.deliveries ≡ length delivered
   pub edges : IsNone d.proposal → (ring subject : ℕ) → ring < d.rule.k → subject < d.layout.nodes → has_edge d ring subject ≡ set_of delivered ring subject
+  -- once there is one, it has counted those up to the proposal's place, and holds their edges
+  pub settled : IfSome d.proposal (λ p. HoldsFirst d delivered p.at)
