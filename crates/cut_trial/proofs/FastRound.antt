@@ -1,16 +1,16 @@
 -- The fast round: votes and quorums, and how a ballot's entries follow the proposals that were added.
-use Rattle.std.proofs.Common.{◌≡◌, ℕ, ◌+◌, ◌<◌, ◌≤◌, Bool, true, false, cond, List, [], ◌∷◌, ◌++◌, Option, Some, None, length, get_or, map, max, fold, refl, sym, ap, ◌∙◌, inl, inr, arith, add-zero, nat_le, unwrap_or}
-use Rattle.cut_trial.proofs.Words.{IsDistinct, Proposal, same_members, quorum_of, votes_of, most_votes, cast_of, HasCounted, one_if}
+use Rattle.std.proofs.Common.{◌≡◌, ℕ, ◌+◌, ◌<◌, ◌≤◌, Bool, true, false, cond, List, [], ◌∷◌, ◌++◌, Option, Some, None, length, get_or, map, max, fold, ◌*◌, mul-one, mul-zero, refl, sym, ap, ◌∙◌, inl, inr, arith, add-zero, nat_le, unwrap_or}
+use Rattle.cut_trial.proofs.Words.{IsDistinct, Assignment, Proposal, judged, count_by, same_members, quorum_of, votes_of, most_votes, cast_of, HasCounted, one_if}
 use Rattle.std.specs.Cmp.Lexicographic.{same_text, on_texts_equal}
 use Rattle.std.specs.HashMap.{HashMap, UpdatesBy}
 use Rattle.std.specs.Map.{lookup, keys_of, values_of, KeepsOthers}
 use Rattle.std.specs.Global.{Vec}
-use Rattle.std.proofs.lemmas.Bool.{cases_Bool, cases_lt, both_ways, lt-ltb}
+use Rattle.std.proofs.lemmas.Bool.{cases_Bool, cases_lt, both_ways, le-leb, lt-leb, lt-ltb}
 use Rattle.std.proofs.lemmas.Cmp.{nat_list_eq_equiv}
 use Rattle.std.proofs.lemmas.List.{get_or-map, length-map}
 use Rattle.std.proofs.lemmas.List.Elements.{All-map}
 use Rattle.std.proofs.lemmas.List.Folds.{Any-from_list_any}
-use Rattle.std.proofs.lemmas.List.Sums.{sum_by_push, count_by-le-length}
+use Rattle.std.proofs.lemmas.List.Sums.{sum_by-cons, sum_by_push, count_by-le-length}
 use Rattle.std.proofs.lemmas.Option.{slice_get-get_or}
 use Rattle.std.proofs.lemmas.Map.Entries.{lookup_from_place}
 use mir.Val.{bool_byte}
@@ -67,6 +67,20 @@ pub few_cast : (ps : List (Option Proposal)) → length (cast_of ps) ≤ length 
 few_cast [] = omega arith
 few_cast (None ∷ ps) = omega (arith, few_cast ps)
 few_cast ((Some p) ∷ ps) = omega (arith, few_cast ps)
+
+-- each receiver is silent, or its proposal is cast
+pub cast_or_silent : (a : Assignment) (ps : List (Option Proposal))
+    → length (cast_of ps) + count_by (λ p. (judged a p).silent) ps ≡ length ps
+cast_or_silent a [] = refl
+cast_or_silent a (None ∷ ps) = omega (arith, cast_or_silent a ps, sum_by-cons (λ p. cond (judged a p).silent 1 0) None ps)
+cast_or_silent a ((Some p) ∷ ps) = omega (arith, cast_or_silent a ps, sum_by-cons (λ p. cond (judged a p).silent 1 0) (Some p) ps)
+
+-- where the votes reach a quorum, they are as many
+pub quorum_of_votes : (q votes : ℕ) → q * one_if (nat_le q votes) ≤ votes
+quorum_of_votes q votes = elim (cases_lt votes q) [
+  | inl missed ↦ rw (lt-leb q votes missed, mul-zero q) (omega arith)
+  | inr reached ↦ rw (le-leb q votes reached, mul-one q) reached
+]
 
 -- ---- a ballot's entries
 

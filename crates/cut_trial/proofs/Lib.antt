@@ -4,6 +4,7 @@ pub mod Ascending
 pub mod Settled
 pub mod Places
 pub mod Outcomes
+pub mod Earliest
 pub mod Sum
 pub mod Roles
 pub mod Pieces

@@ -1,6 +1,6 @@
 -- One trial: its numbers are its outcome once its parts are those of the plan, and they are possible ones.
 use Rattle.std.proofs.Common.{◌≡◌, ℕ, ◌+◌, ◌-◌, ◌*◌, ◌/◌, ◌^◌, ◌<◌, ◌≤◌, min, Bool, true, cond, List, [], ◌∷◌, ◌++◌, Option, Some, None, option_map, get_or, map, filter, not, length, refl, sym, ap, ◌∙◌, arith, nat_le}
-use Rattle.cut_trial.proofs.Words.{Contains, count_by, slice_get, early, range_with_len, rule_of, Cell, Values, IsPlan, cells_of, deliveries_at, largest, trial_count, Edge, Layout, Source, source_of, Assignment, is_target, drawn, alert_list, Proposal, receivers_of, targets_of, judged, quorum_of, votes_of, most_votes, cast_of, rings_of, receiver_proposal, totals_of, cell_at, no_cell, one_if, outcome, place_of, ArePossible, LiesWithin}
+use Rattle.cut_trial.proofs.Words.{Contains, IfSome, count_by, slice_get, early, range_with_len, rule_of, Cell, Values, IsPlan, cells_of, deliveries_at, largest, trial_count, Edge, Layout, Source, source_of, Assignment, is_target, drawn, alert_list, Proposal, receivers_of, targets_of, judged, quorum_of, votes_of, most_votes, cast_of, rings_of, receiver_proposal, totals_of, cell_at, no_cell, one_if, outcome, place_of, AreByVotes, ArePossible, LiesWithin}
 use Rattle.std.specs.List.{sum_by}
 use Rattle.std.proofs.lemmas.Nat.{div_below}
 use Rattle.std.proofs.lemmas.List.{length-map, length_push}
@@ -11,8 +11,8 @@ use Rattle.std.proofs.lemmas.Option.{get_or_from_slice_get}
 use mir.Val.{bool_byte}
 use Rattle.cut_lists.proofs.Counts.{counts-apart}
 use Rattle.cut_trial.specs.declared.replays.Replays.{Replays}
-use Rattle.cut_trial.proofs.FastRound.{byte_of, few_cast, few_votes_cast, most_votes_are_most, one_if-le}
-use Rattle.cut_trial.proofs.Places.{IsPlacedBy, few_deliveries, placed, places_within, settled_by}
+use Rattle.cut_trial.proofs.FastRound.{byte_of, cast_or_silent, few_cast, few_votes_cast, most_votes_are_most, one_if-le, quorum_of_votes}
+use Rattle.cut_trial.proofs.Places.{IsPlacedBy, few_deliveries, placed, places_from, places_within, settled_by}
 use Rattle.cut_trial.proofs.Roles.{receivers_are_the_rest}
 use Rattle.cut_plan.specs.declared.version.Version.TheVariants.{Two}
 use Rattle.cut_plan.specs.Versions.{version_of}
@@ -140,6 +140,28 @@ module _ (v : Values) (t : ℕ) where
       → LiesWithin ((outcome v t).receivers - (outcome v t).silent) (deliveries_at v t) (outcome v t).settled
   unfolding outcome
   settled_lies_within two = rw two places
+
+  -- where each receiver that proposes does so after b deliveries or more
+  pub settled_from : (b : ℕ) → version_of v.failing ≡ Two
+      → ((j : ℕ) → IfSome (proposed_in v t j) (λ p. b ≤ p.at))
+      → b * ((outcome v t).receivers - (outcome v t).silent) ≤ (outcome v t).settled
+  unfolding outcome
+  settled_from b two each =
+      let late = All-map (λ o. IfSome o (λ (p : Proposal). b ≤ p.at)) (λ j. proposed_in v t j)
+      (receivers_of (roles_in v t)) (λ i x _. each (get_or (receivers_of (roles_in v t)) i x)) in
+      rw two (rw as_many_proposals at (places_from (roles_in v t) b proposals late))
+
+  pub by_votes : AreByVotes v (outcome v t)
+  unfolding outcome
+  by_votes = record {
+    votes = omega (
+      arith,
+      as_many_proposals,
+      few_votes_cast (cast_of proposals),
+      cast_or_silent (roles_in v t) proposals,
+    );
+    decided = quorum_of_votes (quorum_of v.nodes) (most_votes (cast_of proposals));
+  }
 
   pub possible_outcome : ArePossible v (cell_at v t) 1 (outcome v t)
   unfolding outcome

@@ -1,5 +1,5 @@
 -- After how many deliveries receivers propose, and what these places add up to.
-use Rattle.std.proofs.Common.{◌≡◌, ℕ, ◌+◌, ◌-◌, ◌*◌, ◌≤◌, Bool, true, false, cond, List, [], ◌∷◌, Option, Some, None, option_map, length, refl, arith}
+use Rattle.std.proofs.Common.{◌≡◌, ℕ, ◌+◌, ◌-◌, ◌*◌, ◌≤◌, Bool, true, false, cond, List, [], ◌∷◌, Option, Some, None, option_map, length, refl, arith, mul-add, mul-one, mul-zero}
 use Rattle.cut_trial.proofs.Words.{All, IfSome, count_by, find, range_with_len, flat_map, Edge, EdgeSet, Layout, Delivery, all_deliveries, copies_of, Assignment, alert_list, all_edges, edges_of, is_alerted, is_settled, stable_members, Rule, proposal_of, Proposal, judged, place_of, settled_of, IsSettledBy, LiesWithin}
 use Rattle.std.specs.List.{sum_by}
 use Rattle.std.proofs.lemmas.List.{length-map}
@@ -99,6 +99,32 @@ places_within a m [] each = record { low = omega arith; high = omega arith }
 places_within a m (o ∷ ps) each =
     one_more a m o ps (All-head (λ o. IsPlacedBy m o) o ps each)
     (places_within a m ps (All-tail (λ o. IsPlacedBy m o) o ps each))
+
+one_more_from : (a : Assignment) (b : ℕ) (o : Option Proposal) (ps : List (Option Proposal))
+    → IfSome o (λ p. b ≤ p.at)
+    → b * (length ps - count_by (is_silent a) ps) ≤ sum_by place_of ps
+    → b * (length (o ∷ ps) - count_by (is_silent a) (o ∷ ps)) ≤ sum_by place_of (o ∷ ps)
+one_more_from a b None ps here rest =
+    let silent = sum_by-cons (λ x. cond (is_silent a x) 1 0) None ps in
+    let sum = sum_by-cons place_of None ps in
+    let same : length (None ∷ ps) - count_by (is_silent a) (None ∷ ps) ≡ length ps - count_by (is_silent a) ps =
+    omega (arith, silent) in
+    rw (same, sum) (omega (arith, rest))
+one_more_from a b (Some p) ps here rest =
+    let n : ℕ = length ps - count_by (is_silent a) ps in
+    let silent = sum_by-cons (λ x. cond (is_silent a x) 1 0) (Some p) ps in
+    let sum = sum_by-cons place_of (Some p) ps in
+    let more : length (Some p ∷ ps) - count_by (is_silent a) (Some p ∷ ps) ≡ n + 1 =
+    omega (arith, silent, count_by-le-length (is_silent a) ps) in
+    rw (more, sum, mul-add b n 1, mul-one b) (omega (arith, rest, here))
+
+-- where each proposal comes after b deliveries or more, the places add up to b for each at least
+pub places_from : (a : Assignment) (b : ℕ) (ps : List (Option Proposal)) → All (λ o. IfSome o (λ p. b ≤ p.at)) ps
+    → b * (length ps - count_by (is_silent a) ps) ≤ sum_by place_of ps
+places_from a b [] each = rw (mul-zero b) (omega arith)
+places_from a b (o ∷ ps) each =
+    one_more_from a b o ps (All-head (λ o. IfSome o (λ (p : Proposal). b ≤ p.at)) o ps each)
+    (places_from a b ps (All-tail (λ o. IfSome o (λ (p : Proposal). b ≤ p.at)) o ps each))
 
 -- ---- what a plan of either version tells of it
 

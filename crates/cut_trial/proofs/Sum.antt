@@ -1,12 +1,12 @@
 -- Sums over trials: one trial more, parts, and what the sums over trials of one cell can be.
-use Rattle.std.proofs.Common.{◌≡◌, ℕ, ◌+◌, ◌-◌, ◌*◌, ◌≤◌, List, [], ◌∷◌, ◌++◌, length, sym, ap, ◌∙◌, arith, zero-mul, suc-mul}
-use Rattle.cut_trial.proofs.Words.{All, IsTrue, range_with_len, Cell, Values, IsPlan, Piece, Totals, cell_at, outcome, each_number, plus, sum_of, is_piece, IsAtMost, ArePossible}
+use Rattle.std.proofs.Common.{◌≡◌, ℕ, ◌+◌, ◌-◌, ◌*◌, ◌≤◌, List, [], ◌∷◌, ◌++◌, length, sym, ap, ◌∙◌, arith, zero-mul, suc-mul, mul-zero, mul-add}
+use Rattle.cut_trial.proofs.Words.{All, IsTrue, range_with_len, Cell, Values, IsPlan, Piece, Totals, cell_at, outcome, each_number, plus, sum_of, is_piece, IsAtMost, AreByVotes, ArePossible, quorum_of}
 use Rattle.std.proofs.lemmas.List.Elements.{All-head, All-tail}
 use Rattle.std.proofs.lemmas.List.FromFn.{length-range_with_len}
 use Rattle.std.proofs.lemmas.List.Sums.{sum_by_push, sum_by-append, sum_by-cons}
 use Rattle.std.proofs.lemmas.Nat.{mul-le}
 use Rattle.cut_lists.proofs.Ranges.{range_with_len_more, ranges-join, All-range_with_len}
-use Rattle.cut_trial.proofs.Outcomes.{possible_outcome}
+use Rattle.cut_trial.proofs.Outcomes.{by_votes, possible_outcome}
 use Rattle.cut_trial.proofs.Pieces.{piece_facts}
 use Rattle.cut_trial.proofs.Places.{none_settled, settled_few, settled_more}
 use Rattle.cut_plan.specs.Versions.{version_of}
@@ -63,6 +63,19 @@ trials_possible v c (t ∷ ts) same =
         right = omega arith;
       };
       settled = settled_more (version_of v.failing) _ _ _ _ _ _ (omega arith) one.settled rest.settled;
+    })
+
+pub sums_by_votes : (v : Values) (ts : List ℕ) → AreByVotes v (sum_of v ts)
+sums_by_votes v [] = record { votes = omega arith; decided = rw (mul-zero (quorum_of v.nodes)) (omega arith) }
+sums_by_votes v (t ∷ ts) =
+    let one = by_votes v t in
+    let rest = sums_by_votes v ts in
+    let first : sum_of v (t ∷ ts) ≡ plus (outcome v t) (sum_of v ts) =
+    same_numbers _ _ (λ x. sum_by-cons (λ s. x (outcome v s)) t ts) in
+    let quorums = mul-add (quorum_of v.nodes) (outcome v t).decided (sum_of v ts).decided in
+    rw first (record {
+      votes = omega (arith, one.votes, rest.votes);
+      decided = omega (arith, one.decided, rest.decided, quorums);
     })
 
 -- those over the first trials of a piece, which are all of one cell

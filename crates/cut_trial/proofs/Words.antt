@@ -33,5 +33,5 @@ pub use Rattle.cut_trial.specs.Outcome.{HasJudged, cell_at, cell_outcome, delive
 unfoldable pub use Rattle.cut_trial.specs.Outcome.{outcome}
 pub use Rattle.cut_trial.specs.Sum.{IsAtMost, each_number, is_piece, plus, sum_of, trials_in, without_settled}
 pub use Rattle.cut_trial.specs.Possible.{ArePossible, IsSettledBy}
-pub use Rattle.cut_trial.specs.Laws.{AreMoreCautious, IsMoreCautious, LiesWithin, OnlyCrashes, with_marks}
+pub use Rattle.cut_trial.specs.Laws.{AreByVotes, AreMoreCautious, IsMoreCautious, LiesWithin, OnlyCrashes, with_marks}
 pub use Rattle.cut_trial.specs.Computed.{Computed}

@@ -40,6 +40,21 @@ RightIsDecided = (v : Values) (t : ℕ) → (outcome v t).right ≤ (outcome v t
 abbrev pub DecidedOnce : Type 0
 DecidedOnce = (v : Values) (t : ℕ) → (outcome v t).decided ≤ 1
 
+-- what the votes of trials say of the other numbers
+pub record AreByVotes (v : Values) (x : Totals) : Type 0 where
+  -- a receiver has a vote or is silent, not both
+  pub votes : x.votes + x.silent ≤ x.receivers
+  -- each trial that is decided has a quorum of votes
+  pub decided : quorum_of v.nodes * x.decided ≤ x.votes
+
+-- this holds of each trial
+abbrev pub TrialsAreByVotes : Type 0
+TrialsAreByVotes = (v : Values) (t : ℕ) → AreByVotes v (outcome v t)
+
+-- and of the sums over any trials
+abbrev pub SumsAreByVotes : Type 0
+SumsAreByVotes = (v : Values) (ts : List ℕ) → AreByVotes v (sum_of v ts)
+
 -- the sums over two lists of trials, added up, are the sums over both
 abbrev pub SumsAddUp : Type 0
 SumsAddUp = (v : Values) (xs ys : List ℕ) → sum_of v (xs ++ ys) ≡ plus (sum_of v xs) (sum_of v ys)
@@ -165,3 +180,15 @@ abbrev pub SettledLiesWithin : Type 0
 SettledLiesWithin =
     (v : Values) (t : ℕ) → version_of v.failing ≡ Two →
     LiesWithin ((outcome v t).receivers - (outcome v t).silent) (deliveries_at v t) (outcome v t).settled
+
+-- without implicit alerts each receiver that proposes has had H deliveries at least
+abbrev pub SettledReachesHigh : Type 0
+SettledReachesHigh =
+    (v : Values) (t : ℕ) → version_of v.failing ≡ Two → v.implicit ≡ false →
+    (cell_at v t).h * ((outcome v t).receivers - (outcome v t).silent) ≤ (outcome v t).settled
+
+-- and with them it has had L
+abbrev pub SettledReachesLow : Type 0
+SettledReachesLow =
+    (v : Values) (t : ℕ) → version_of v.failing ≡ Two → (cell_at v t).l ≤ (cell_at v t).h →
+    (cell_at v t).l * ((outcome v t).receivers - (outcome v t).silent) ≤ (outcome v t).settled

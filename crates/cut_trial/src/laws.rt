@@ -6,6 +6,8 @@ ghost use Rattle.cut_trial.specs.Laws.{
   MostVotesAreMost,
   RightIsDecided,
   DecidedOnce,
+  TrialsAreByVotes,
+  SumsAreByVotes,
   SumsAddUp,
   PiecesJoin,
   PartsAddUp,
@@ -22,6 +24,8 @@ ghost use Rattle.cut_trial.specs.Laws.{
   UpgradesKeepOutcomes,
   UpgradesKeepSums,
   SettledLiesWithin,
+  SettledReachesHigh,
+  SettledReachesLow,
 };
 
 use cut_alerts::laws::as_many_deaf_draw_alike;
@@ -40,6 +44,14 @@ pub fn right_is_decided()
     ensures most { MostVotesAreMost }
     ensures right { RightIsDecided }
     ensures once { DecidedOnce }
+{}
+
+/// Only receivers that announce something have votes, so the votes and the silent receivers are at most
+/// all receivers; and a trial is decided only by a quorum of votes, so there are at least a quorum for
+/// each trial that is decided. This holds of each trial, and of the sums over any trials.
+pub fn decided_by_votes()
+    ensures trials { TrialsAreByVotes }
+    ensures sums { SumsAreByVotes }
 {}
 
 /// A study may be divided in any way: the sums over a piece are those over its parts, added up.
@@ -108,6 +120,16 @@ pub fn pieces_have_possible_totals()
 pub fn settled_lies_within()
     ensures { SettledLiesWithin }
 {}
+
+/// A process is stable only once H rings report it, or L where implicit alerts are added, and each comes by
+/// a delivery. So in a trial of a plan of version 2, `settled` is at least H for each receiver that
+/// proposes, or L.
+pub fn settled_reaches_watermarks()
+    ensures high { SettledReachesHigh }
+    ensures low { SettledReachesLow }
+{
+    proposes_at_least_place();
+}
 
 /// A plan and its upgrade to the second version have the same outcome at every trial but for `settled`, and
 /// so the same sums over every piece: as many targets of each cell are deaf, so every trial draws the same

@@ -59,13 +59,7 @@ impl<'a> Replays<'a> {
         ensures study { self.new.study ≡ self.old.study }
         ensures cell { self.new.cell ≡ self.old.cell }
     {
-        match alerts_into(&mut self.edges, self.study.rings, self.cell.k, roles) {
-            Ok(()) => Ok(()),
-            Err(error) => {
-                self.edges.clear();
-                Err(error)
-            }
-        }
+        alerts_into(&mut self.edges, self.study.rings, self.cell.k, roles)
     }
 
     /// Lets a receiver hear the alerts in its own order, up to its proposal.

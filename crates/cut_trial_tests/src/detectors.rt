@@ -1,3 +1,6 @@
+ghost use Rattle.std.specs.Prelude.{◌≡◌, IsTrue};
+ghost use Rattle.cut_rings.specs.Edges.{are_edges_of};
+
 use crate::edges::all_within;
 use crate::texts::{edge_of, edges_of, four, rings_of_text};
 use cut_detector::{Detector, Proposal, Step, replay};
@@ -36,7 +39,27 @@ fn is_told(alloc: Global, found: Option<Proposal>, wanted: &str) -> Result<bool,
     }
 }
 
-// What a row tells is proposed after these deliveries, and a recount proposes it too.
+// A detector waits at each delivery before this place, and is settled from there on.
+fn check_steps(
+    rt: &impl Abort,
+    detector: &mut Detector<'_>,
+    edges: &[Edge],
+    at: u64,
+    row: &str,
+) -> Result<(), Fail>
+    requires within { IsTrue (are_edges_of detector.old.rule.k detector.old.layout.nodes edges.now) }
+    requires fresh { detector.old.deliveries ≡ 0 }
+{
+    let mut place = 0u64;
+    for edge in edges {
+        let step = detector.deliver(*edge);
+        place = place.saturating_add(1);
+        assert!(rt; (step == Step::Settled) == (at <= place), "{row}: {place}");
+    }
+    Ok(())
+}
+
+// What a row tells is proposed after these deliveries, step by step, and a recount proposes it too.
 fn check_row(
     rt: &impl Abort,
     alloc: Global,
@@ -51,8 +74,10 @@ fn check_row(
     assert!(rt; all_within(k, rings.nodes(), edges), "{row}");
     recount::compare(rt, alloc, rings, (h, l, implicit), edges, 0)?;
     let found = replay(alloc, rings, k, h, l, implicit, edges)?;
+    let at = found.as_ref().map_or(u64::MAX, |proposal| proposal.at);
     assert!(rt; is_told(alloc, found, wanted)?, "{row}");
-    Ok(())
+    let mut detector = Detector::new(alloc, rings, k, h, l, implicit)?;
+    check_steps(rt, &mut detector, edges, at, row)
 }
 
 // The rows below a list of deliveries, and how many they are.
@@ -80,7 +105,7 @@ fn check_rings(rt: &impl Abort, alloc: Global, text: &str) -> Result<u32, Fail> 
 
 #[test]
 fn proposes_as_worked_by_hand(rt: HostRuntime) -> Result<(), Fail> {
-    assert!(rt; check_rings(&rt, rt.alloc(), vectors::by_hand())? == 9);
+    assert!(rt; check_rings(&rt, rt.alloc(), vectors::by_hand())? == 84);
     Ok(())
 }
 

@@ -55,7 +55,9 @@ const EDITS: &str = r#"3 UnknownField|"version":1|"version":1,"x":0
 3 UnknownField|"f":[1]|"deaf":0,"f":[1]
 7 NotRising k|"k":[1]|"k":[1,1]
 8 NoCell|"h":[1]|"h":[3]
+8 NoCell|"h":[1],"implicit":true,"k":[1]|"h":[3],"implicit":true,"k":[2]
 9 TooManyFaults|"liars":0|"liars":5
+9 TooManyFaults|"f":[1],"faults":"crash","h":[1],"implicit":true,"k":[1],"l":[1],"liars":0,"links":0,"nodes":5|"f":[3],"faults":"crash","h":[1],"implicit":true,"k":[1],"l":[1],"liars":2,"links":0,"nodes":4
 accepted|"liars":0|"liars":4
 accepted|"x"|
 8 NoCell|"h":[1],"implicit":true,"k":[1],"l":[1],"liars":0|"h":[3],"implicit":true,"k":[1],"l":[1],"liars":2048"#;
@@ -130,7 +132,7 @@ fn count_edits(rt: &impl Abort, alloc: Global, text: &str, rows: &str) -> Result
 fn refuses_by_the_first_fault(rt: HostRuntime) -> Result<(), Fail> {
     let first = count_edits(&rt, rt.alloc(), PLAN, edits())?;
     let second = count_edits(&rt, rt.alloc(), MIXED, mixed_edits())?;
-    assert!(rt; (first, second) == (14, 4));
+    assert!(rt; (first, second) == (16, 4));
     Ok(())
 }
 

@@ -16,6 +16,10 @@ const SEVEN: &str =
 const TWO: &str =
     r#"{"copies":1,"dead":"silent","f":[1],"faults":"crash","h":[1],"implicit":true,"k":[2],"l":[1],"liars":0,"links":0,"nodes":2,"repeats":1,"seed":"ffffffffffffffffffffffffffffffffffffffffffffffffffffffffffffffff","version":1}"#;
 
+// Two processes on one ring: each observes the other.
+const PAIR: &str =
+    r#"{"copies":1,"dead":"silent","f":[1],"faults":"crash","h":[1],"implicit":true,"k":[1],"l":[1],"liars":0,"links":0,"nodes":2,"repeats":1,"seed":"0000000000000000000000000000000000000000000000000000000000000000","version":1}"#;
+
 // Many processes on many rings.
 const MANY: &str =
     r#"{"copies":1,"dead":"silent","f":[1],"faults":"crash","h":[1],"implicit":true,"k":[31],"l":[1],"liars":0,"links":0,"nodes":1999,"repeats":1,"seed":"0000000000000000000000000000000000000000000000000000000000000000","version":1}"#;
@@ -56,7 +60,7 @@ fn check_hashed(
 
 #[test]
 fn hashed_rings_are_those_of_the_plan(rt: HostRuntime) -> Result<(), Fail> {
-    let rows: [(&str, &[&[u16]]); 3] = [
+    let rows: [(&str, &[&[u16]]); 4] = [
         (
             FIVE,
             &[&[1, 3, 0, 4, 2], &[3, 1, 0, 2, 4], &[0, 1, 2, 4, 3]],
@@ -71,6 +75,7 @@ fn hashed_rings_are_those_of_the_plan(rt: HostRuntime) -> Result<(), Fail> {
             ],
         ),
         (TWO, &[&[1, 0], &[1, 0]]),
+        (PAIR, &[&[0, 1]]),
     ];
     for (text, orders) in rows {
         let plan = Plan::from_json(rt.alloc(), text.as_bytes())?;
@@ -167,15 +172,35 @@ fn edges_are_numbered_by_subject_and_ring(rt: HostRuntime) {
     }
 }
 
-// What is told of a ring of four and this one, of so many processes; nothing where these are rings.
-fn told_of(rt: &impl Abort, alloc: Global, nodes: u16, list: &[u16]) -> Result<String, Fail> {
-    let whole = vec![in alloc; 0, 1, 2, 3]?;
-    let lists = vec![in alloc; whole, Vec::from_slice(alloc, list)?]?;
+// What is told of these lists, of so many processes; nothing where they are rings.
+fn told_of(rt: &impl Abort, alloc: Global, nodes: u16, lists: &[Vec<u16>]) -> Result<String, Fail> {
     assert!(rt; nodes <= 2048 && lists.len() <= 32);
-    match Rings::from_lists(alloc, nodes, lists.as_slice()) {
+    match Rings::from_lists(alloc, nodes, lists) {
         Ok(_) => Ok(String::new(alloc)),
         Err(fault) => Ok(fault.to_string(alloc)?),
     }
+}
+
+// This is told of a list after a ring of four, and of the list alone.
+fn check_told(
+    rt: &impl Abort,
+    alloc: Global,
+    nodes: u16,
+    list: &[u16],
+    text: &str,
+) -> Result<(), Fail> {
+    let whole = vec![in alloc; 0, 1, 2, 3]?;
+    let both = vec![in alloc; whole, Vec::from_slice(alloc, list)?]?;
+    let alone = vec![in alloc; Vec::from_slice(alloc, list)?]?;
+    assert!(rt;
+        told_of(rt, alloc, nodes, &both)?.as_str() == text,
+        "of {list:?}"
+    );
+    assert!(rt;
+        told_of(rt, alloc, nodes, &alone)?.as_str() == text,
+        "of {list:?} alone"
+    );
+    Ok(())
 }
 
 #[test]
@@ -190,10 +215,7 @@ fn lists_that_are_no_rings_are_told(rt: HostRuntime) -> Result<(), Fail> {
         (4, &[0, 1, 2, 3, 0], "11 NotPermutation"),
     ];
     for (nodes, list, text) in rows {
-        assert!(rt;
-            told_of(&rt, alloc, nodes, list)?.as_str() == text,
-            "of {list:?}"
-        );
+        check_told(&rt, alloc, nodes, list, text)?;
     }
     let none = Rings::from_lists(alloc, 4, &[]);
     assert!(rt; matches!(none, Err(RingsFault::TooFew)));

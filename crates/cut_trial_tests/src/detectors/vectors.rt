@@ -260,24 +260,100 @@ deliveries 0.1 1.1 1.0 0.0
 2 2 off: 1 at 2
 2 2 on: 1 at 2"#;
 
-// What was worked out by hand.
+// Lists of which some rows were worked out by hand. The rows at the other watermarks are by a script apart from
+// this crate, which agrees with those.
 const BY_HAND: &str = r#"rings 0 1 2 3, 0 2 1 3, 0 3 2 1
 deliveries 0.1 1.1 2.1 0.2
+1 1 off: 1 at 1
+1 1 on: 1 at 1
+2 1 off: 1 at 2
+2 1 on: 1 at 2
+2 2 off: 1 at 2
+2 2 on: 1 at 2
 3 1 off: 1 at 3
-deliveries 1.2 2.2 0.1
-3 1 on: 1 2 at 3
-3 1 off: none
-deliveries 0.2 1.2 2.2
-3 2 on: 2 at 3
-deliveries 0.1 0.1 0.1
-3 1 off: none
-deliveries 0.2 0.1 1.1 2.1 1.3 2.0
-3 2 off: 1 at 4
-3 1 off: none
-deliveries 0.1 1.1 2.1 0.2 1.3 2.0
+3 1 on: 1 at 3
 3 2 off: 1 at 3
+3 2 on: 1 at 3
+3 3 off: 1 at 3
+3 3 on: 1 at 3
+deliveries 1.2 2.2 0.1
+1 1 off: 2 at 1
+1 1 on: 2 at 1
+2 1 off: 2 at 2
+2 1 on: 2 at 2
+2 2 off: 2 at 2
+2 2 on: 2 at 2
+3 1 off: none
+3 1 on: 1 2 at 3
+3 2 off: none
+3 2 on: none
+3 3 off: none
+3 3 on: none
+deliveries 0.2 1.2 2.2
+1 1 off: 2 at 1
+1 1 on: 2 at 1
+2 1 off: 2 at 2
+2 1 on: 2 at 2
+2 2 off: 2 at 2
+2 2 on: 2 at 2
+3 1 off: 2 at 3
+3 1 on: 2 at 3
+3 2 off: 2 at 3
+3 2 on: 2 at 3
+3 3 off: 2 at 3
+3 3 on: 2 at 3
+deliveries 0.1 0.1 0.1
+1 1 off: 1 at 1
+1 1 on: 1 at 1
+2 1 off: none
+2 1 on: none
+2 2 off: none
+2 2 on: none
+3 1 off: none
+3 1 on: none
+3 2 off: none
+3 2 on: none
+3 3 off: none
+3 3 on: none
+deliveries 0.2 0.1 1.1 2.1 1.3 2.0
+1 1 off: 2 at 1
+1 1 on: 2 at 1
+2 1 off: none
+2 1 on: 1 2 3 at 5
+2 2 off: 1 at 3
+2 2 on: 1 at 3
+3 1 off: none
+3 1 on: 0 1 2 3 at 6
+3 2 off: 1 at 4
+3 2 on: 1 at 4
+3 3 off: 1 at 4
+3 3 on: 1 at 4
+deliveries 0.1 1.1 2.1 0.2 1.3 2.0
+1 1 off: 1 at 1
+1 1 on: 1 at 1
+2 1 off: 1 at 2
+2 1 on: 1 at 2
+2 2 off: 1 at 2
+2 2 on: 1 at 2
+3 1 off: 1 at 3
+3 1 on: 1 at 3
+3 2 off: 1 at 3
+3 2 on: 1 at 3
+3 3 off: 1 at 3
+3 3 on: 1 at 3
 deliveries 2.0 1.3 0.2 2.1 1.1 0.1
-3 2 off: 1 at 6"#;
+1 1 off: 0 at 1
+1 1 on: 0 at 1
+2 1 off: none
+2 1 on: 0 3 at 2
+2 2 off: 1 at 5
+2 2 on: 1 at 5
+3 1 off: none
+3 1 on: 0 2 3 at 3
+3 2 off: 1 at 6
+3 2 on: 1 at 6
+3 3 off: 1 at 6
+3 3 on: 1 at 6"#;
 
 pub(super) fn computed() -> &'static str {
     COMPUTED
