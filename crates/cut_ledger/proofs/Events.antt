@@ -10,7 +10,7 @@ use Rattle.cut_lines.specs.Lines.{table}
 use Rattle.cut_ledger.specs.declared.event.Event.TheVariants.{Draw, HandIn, HandInDiskFails, Lose, CrashReopen, Emit, WireFails, NewWire, Finish}
 use Rattle.cut_ledger.specs.declared.event.Reply as replies
 use Rattle.cut_ledger.specs.declared.event.Reply.TheVariants as reply
-use Rattle.cut_ledger.specs.declared.fault.LedgerFault.TheVariants.{Overlap, Stranger}
+use Rattle.cut_ledger.specs.declared.offer_fault.OfferFault.TheVariants.{Overlap, Stranger}
 use Rattle.cut_ledger.specs.Refusals.{is_same_plan}
 use Rattle.cut_ledger.proofs.Words.{AllByRecursion, CanTake, Computed, Contents, Event, FaultCode}
 use Rattle.cut_ledger.proofs.Words.{HasTrueResult, IsDoubtful, IsFounded, IsPlan, IsReached, IsRight}

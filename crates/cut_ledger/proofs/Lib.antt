@@ -10,6 +10,9 @@ pub mod AddLemmas
 pub mod SlipLemmas
 pub mod RefusalLemmas
 pub mod TrueSlips
+pub mod TrueSums
 pub mod GapPieces
+pub mod DivisionLemmas
 pub mod CoverLemmas
+pub mod PieceCounts
 pub mod FillLemmas

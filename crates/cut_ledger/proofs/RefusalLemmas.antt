@@ -1,7 +1,7 @@
 -- Plans are the same where their texts are.
 use Rattle.std.proofs.Common.{◌≡◌, Bool, true, false, Some, None, cond, ap, sym, ◌∙◌}
 use Rattle.cut_ledger.proofs.Words.{Computed, Contents, IsTrue, Values, overlaps, refl, refusal_of, ◌↔◌}
-use Rattle.cut_ledger.specs.declared.fault.LedgerFault.TheVariants.{Stranger, Overlap}
+use Rattle.cut_ledger.specs.declared.offer_fault.OfferFault.TheVariants.{Stranger, Overlap}
 use Rattle.std.proofs.lemmas.Bool.Decides.{Decides-eqb, same_from_decides}
 use Rattle.std.proofs.lemmas.Slice.Eq.{slice_eq-Decides}
 use Rattle.cut_plan.specs.Canonical.{canonical_text}

@@ -5,10 +5,10 @@ use Rattle.cut_plan.specs.Cells.{cells_of}
 use Rattle.cut_plan.specs.Plan.{IsPlan}
 use Rattle.cut_plan.specs.Values.{Values}
 use Rattle.cut_trial.specs.declared.piece.Piece.{Piece}
-use Rattle.cut_trial.specs.Sum.{trials_in}
+use Rattle.cut_trial.specs.Sum.{sum_of, trials_in, trials_of_cell}
 use Rattle.cut_lines.specs.Lines.{table}
 use Rattle.cut_ledger.specs.declared.slip.Slip.{Slip}
-use Rattle.cut_ledger.specs.Contents.{Contents, has, all_trials, over_base, with_piece, overlaps, cell_done, is_complete}
+use Rattle.cut_ledger.specs.Contents.{Contents, has, all_trials, over_base, with_piece, overlaps, cell_done, is_complete, sum_where}
 use Rattle.cut_ledger.specs.Gaps.{gaps_of, pieces_of}
 use Rattle.cut_ledger.specs.Machine.{available, table_over}
 use Rattle.cut_ledger.specs.Refusals.{is_same_plan}
@@ -57,6 +57,12 @@ TrueSlipsAreGood = (v : Values) (ss : List Slip) → AreTrue v ss → AreGood v 
 -- and the table over them is the table of the plan
 abbrev pub TrueSlipsTellTheTable : Type 0
 TrueSlipsTellTheTable = (v : Values) (ss : List Slip) → IsPlan v → AreTrue v ss → table_over v ss ≡ table v
+
+-- and what such slips and the trials that they lack make of each cell are the sums over its trials
+abbrev pub TrueSlipsSumAll : Type 0
+TrueSlipsSumAll =
+    (v : Values) (ss : List Slip) → IsPlan v → AreTrue v ss → (c : ℕ) → c < length (cells_of v)
+    → sum_where v ss (λ t. true) c ≡ sum_of v (trials_of_cell v c)
 
 -- no slips are true ones
 abbrev pub NoSlipsAreTrue : Type 0

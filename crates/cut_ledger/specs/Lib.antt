@@ -10,6 +10,7 @@ pub mod Machine
 pub mod World
 pub mod Kept
 pub mod LedgerInside
+pub mod DivisionInside
 pub mod Reached
 pub mod RunInside
 pub mod Laws

@@ -5,8 +5,8 @@ use Rattle.cut_trial.specs.Outcome.{cell_at}
 use Rattle.cut_trial.specs.Possible.{ArePossible}
 use Rattle.cut_trial.specs.Sum.{is_piece}
 use Rattle.cut_ledger.specs.declared.slip.Slip.{Slip}
-use Rattle.cut_ledger.specs.declared.fault.LedgerFault.{LedgerFault}
-use Rattle.cut_ledger.specs.declared.fault.LedgerFault.TheVariants.{Memory, BadSlip}
+use Rattle.cut_ledger.specs.declared.slips_fault.SlipsFault.{SlipsFault}
+use Rattle.cut_ledger.specs.declared.slips_fault.SlipsFault.TheVariants.{Memory, BadSlip}
 use Rattle.cut_ledger.specs.Contents.{over_base, overlaps}
 
 -- a good slip, after others: of a piece, none of whose trials they have, with totals that are possible
@@ -32,7 +32,6 @@ pub record IsFirstBad (v : Values) (ss : List Slip) (n : ℕ) : Type 0 where
   pub bad : (d : Slip) → IsGood v (take (n - 1) ss) (slice_index_or ss (n - 1) d) → ⊥
 
 -- what a fault says of slips: it is want of memory, which says nothing, or tells the first bad one
-abbrev pub IsToldOf : Values → List Slip → LedgerFault → Type 0
+abbrev pub IsToldOf : Values → List Slip → SlipsFault → Type 0
 IsToldOf v ss Memory = ⊤
 IsToldOf v ss (BadSlip n) = IsFirstBad v ss n
-IsToldOf v ss _ = ⊥

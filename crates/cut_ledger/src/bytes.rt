@@ -24,6 +24,14 @@ impl Bytes {
         Bytes { bytes }
     }
 
+    /// The `Vec` that lists the bytes.
+    pub fn into_vec(self) -> Vec<u8>
+        ensures { result.items ≡ self }
+    {
+        let Bytes { bytes } = self;
+        bytes
+    }
+
     /// The bytes as a slice.
     pub fn as_slice(&self) -> &[u8]
         ensures { result.now ≡ self.now }

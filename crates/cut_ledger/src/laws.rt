@@ -7,7 +7,7 @@ ghost use Rattle.cut_plan.specs.Values.{Values};
 ghost use Rattle.cut_plan.specs.Plan.{IsPlan};
 ghost use Rattle.cut_ledger.specs.Laws.{GapsCover, PiecesCover, SamePlansAreEqual};
 ghost use Rattle.cut_ledger.specs.Laws.{PiecesFill, CompleteIsDone, FilledTellTheirTable};
-ghost use Rattle.cut_ledger.specs.Laws.{TrueSlipsAreGood, TrueSlipsTellTheTable, NoSlipsAreTrue};
+ghost use Rattle.cut_ledger.specs.Laws.{TrueSlipsAreGood, TrueSlipsTellTheTable, TrueSlipsSumAll, NoSlipsAreTrue};
 ghost use Rattle.cut_ledger.specs.declared.event.Event.{Event};
 ghost use Rattle.cut_ledger.specs.Machine.{start};
 ghost use Rattle.cut_ledger.specs.World.{begun, run, HasTrueResult, IsRight, TellAlike};
@@ -37,6 +37,7 @@ pub fn pieces_fill_a_ledger()
 pub fn true_slips_tell_the_table()
     ensures good { TrueSlipsAreGood }
     ensures table { TrueSlipsTellTheTable }
+    ensures sums { TrueSlipsSumAll }
     ensures none { NoSlipsAreTrue }
 {
     pieces_have_possible_totals();

@@ -13,7 +13,7 @@ ghost use Rattle.cut_ledger.specs.Slips.{AreGood, IsToldOf};
 
 use crate::cells::{add, empty_cells, is_good, meets};
 use crate::kept::Kept;
-use crate::{Base, LedgerFault, Slip};
+use crate::{Base, Division, OfferFault, Slip, SlipsFault};
 use cut_plan::Plan;
 use cut_trial::{Piece, PieceResult, Totals};
 use std::alloc::{AllocError, Global};
@@ -53,7 +53,7 @@ impl Ledger {
     /// A ledger that holds the trials of slips, with the sums that they tell. It is refused by the number
     /// of the first slip that is no piece of the plan, has a trial of an earlier one, or whose totals are
     /// not possible ones.
-    pub fn from_slips(alloc: Global, plan: Plan, slips: &[Slip]) -> Result<Ledger, LedgerFault>
+    pub fn from_slips(alloc: Global, plan: Plan, slips: &[Slip]) -> Result<Ledger, SlipsFault>
         ensures ok { IfOk result (λ l. l.contents ≡ over_base plan slips.now) }
         ensures good { OnOk result (AreGood plan slips.now) }
         ensures err { IfErr result (λ e. IsToldOf plan slips.now e) }
@@ -160,6 +160,17 @@ impl Ledger {
         Ok(pieces)
     }
 
+    /// The same pieces, each worked out from its number: takes memory for each gap, and none for a piece.
+    /// Fails only where memory runs out.
+    pub fn divide(&self, alloc: Global, size: u32) -> Result<Division, AllocError>
+        requires { 1 ≤ size }
+        ensures value { IfOk result (λ pieces. pieces ≡ pieces_of self.now.contents size) }
+        ensures pieces { IfOk result (λ pieces. All (λ p. IsTrue (is_piece self.now.contents.plan p)) pieces) }
+    {
+        let gaps = self.gaps(alloc)?;
+        Division::of_gaps(alloc, &gaps, size)
+    }
+
     /// Whether a piece of a cell can be added without memory.
     pub fn has_room(&self, cell: u32) -> bool
         requires { cell < length (cells_of self.now.contents.plan) }
@@ -179,15 +190,15 @@ impl Ledger {
     }
 
     /// Why a result is not taken, if it is not: it is of another plan, or else a trial of it is held.
-    pub fn refusal(&self, offered: &PieceResult) -> Option<LedgerFault>
+    pub fn refusal(&self, offered: &PieceResult) -> Option<OfferFault>
         ensures value { result ≡ refusal_of self.now.contents offered.now }
         ensures none { IfNone result (CanTake self.now.contents offered.now) }
     {
         if !self.plan.same(offered.plan()) {
-            return Some(LedgerFault::Stranger);
+            return Some(OfferFault::Stranger);
         }
         if meets(&self.cells, &self.plan, offered.piece()) {
-            return Some(LedgerFault::Overlap);
+            return Some(OfferFault::Overlap);
         }
         None
     }
@@ -212,7 +223,7 @@ impl Ledger {
     }
 
     /// Takes a result, or refuses it.
-    pub fn offer(&mut self, offered: &PieceResult) -> Result<(), LedgerFault>
+    pub fn offer(&mut self, offered: &PieceResult) -> Result<(), OfferFault>
         ensures free { OnOk result (refusal_of self.old.contents offered.now ≡ None) }
         ensures taken { OnOk result (self.new.contents ≡ with_piece self.old.contents offered.now.piece) }
         ensures others { OnOk result
@@ -231,7 +242,7 @@ impl Ledger {
 }
 
 /// Adds slips, each after those before it, up to the first that is not good.
-fn add_slips(cells: &mut [Kept], plan: &Plan, slips: &[Slip]) -> Result<(), LedgerFault>
+fn add_slips(cells: &mut [Kept], plan: &Plan, slips: &[Slip]) -> Result<(), SlipsFault>
     requires { AreOver plan.now [] cells.old }
     ensures ok { OnOk result (AreOver plan.now slips.now cells.new) }
     ensures good { OnOk result (AreGood plan.now slips.now) }
@@ -239,7 +250,7 @@ fn add_slips(cells: &mut [Kept], plan: &Plan, slips: &[Slip]) -> Result<(), Ledg
 {
     for (i, slip) in slips.iter().enumerate() {
         if !is_good(cells, plan, slip) {
-            return Err(LedgerFault::BadSlip(i as u64 + 1));
+            return Err(SlipsFault::BadSlip(i as u64 + 1));
         }
         add(cells, plan, slip.piece, slip.totals)?;
     }

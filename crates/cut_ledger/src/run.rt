@@ -11,7 +11,7 @@ ghost use Rattle.cut_ledger.specs.Machine.{TakesNone};
 ghost use Rattle.cut_ledger.specs.World.{IsTrueSlip, times_in, pieces_of_slips};
 
 use crate::available::available;
-use crate::{Bytes, Event, Ledger, LedgerFault, Reply, Slip};
+use crate::{Bytes, Event, Ledger, Reply, Slip, SlipsFault};
 use cut_faults::FaultCode;
 use cut_plan::Plan;
 use cut_trial::laws::pieces_have_possible_totals;
@@ -200,10 +200,8 @@ impl Run {
         let plan = self.ledger.plan().try_clone(alloc)?;
         let ledger = match Ledger::from_slips(alloc, plan, slips.as_slice()) {
             Ok(ledger) => ledger,
-            Err(LedgerFault::Memory) => return Err(AllocError),
-            Err(LedgerFault::BadSlip(_)) => unreachable!(),
-            Err(LedgerFault::Stranger) => unreachable!(),
-            Err(LedgerFault::Overlap) => unreachable!(),
+            Err(SlipsFault::Memory) => return Err(AllocError),
+            Err(SlipsFault::BadSlip(_)) => unreachable!(),
         };
         *self = Run::open(alloc, ledger, self.has_journal, slips, size)?;
         Ok(Reply::Opened)

@@ -2,7 +2,7 @@ ghost use Rattle.std.specs.Prelude.{◌≡◌};
 ghost use Rattle.cut_trial.specs.Outcome.{rings_of};
 
 use cut_faults::FaultCode;
-use cut_ledger::{Base, Ledger, LedgerFault, Slip};
+use cut_ledger::{Base, Division, Ledger, OfferFault, Slip, SlipsFault};
 use cut_plan::Plan;
 use cut_rings::Rings;
 use cut_trial::{Piece, PieceResult, Totals, run_piece};
@@ -159,7 +159,7 @@ fn pieces_that_touch(rt: HostRuntime) -> Result<(), Fail> {
 fn is_strange(alloc: Global, ledger: &mut Ledger) -> Result<bool, Fail> {
     let other = plan_of(alloc, 5, "[0]", 1, 1)?;
     let result = result_of(alloc, &other, 0, 1)?;
-    Ok(matches!(ledger.offer(&result), Err(LedgerFault::Stranger)))
+    Ok(matches!(ledger.offer(&result), Err(OfferFault::Stranger)))
 }
 
 // Whether a ledger is of the plan of its offers, began with nothing, and has its first cell done.
@@ -184,7 +184,17 @@ fn whole_cells(rt: HostRuntime) -> Result<(), Fail> {
     check_whole(&rt, rt.alloc(), &mut ledger)
 }
 
-// Whether a ledger's parts of some size are these.
+// Whether a division has these pieces, and none after the last.
+fn is_divided(division: &Division, pieces: &[Piece]) -> bool {
+    for (number, piece) in pieces.iter().enumerate() {
+        if division.get(number as u64) != Some(*piece) {
+            return false;
+        }
+    }
+    division.len() == pieces.len() as u64 && division.get(division.len()) == None
+}
+
+// Whether a ledger's parts of some size are these, listed and by their numbers.
 fn has_parts(
     alloc: Global,
     ledger: &Ledger,
@@ -194,7 +204,8 @@ fn has_parts(
         return Ok(false);
     }
     let pieces = ledger.pieces(alloc, size)?;
-    Ok(are_pieces(&pieces, wanted))
+    let division = ledger.divide(alloc, size)?;
+    Ok(are_pieces(&pieces, wanted) && is_divided(&division, &pieces))
 }
 
 // Two cells of five trials each, of which the second trial of the second is held.
@@ -253,8 +264,8 @@ fn room(rt: HostRuntime) -> Result<(), Fail> {
 fn are_taken(alloc: Global, plan: Plan, slips: &[Slip], bad: Option<u64>) -> bool {
     match Ledger::from_slips(alloc, plan, slips) {
         Ok(_ledger) => bad.is_none(),
-        Err(LedgerFault::BadSlip(number)) => bad == Some(number),
-        Err(_other) => false,
+        Err(SlipsFault::BadSlip(number)) => bad == Some(number),
+        Err(SlipsFault::Memory) => false,
     }
 }
 
@@ -362,28 +373,33 @@ fn bases(rt: HostRuntime) -> Result<(), Fail> {
     check_base(&rt, rt.alloc(), &ledger, one)
 }
 
-// Asserts that faults have these codes and are printed so.
-fn check_faults(
-    rt: &impl Abort,
-    alloc: Global,
-    rows: &[(LedgerFault, FaultCode, &str)],
-) -> Result<(), Fail> {
-    for (fault, code, text) in rows {
-        let line = format!(in alloc; "{fault}")?;
+// Each fault of an offer has its code and is printed so.
+#[test]
+fn faults_of_offers(rt: HostRuntime) -> Result<(), Fail> {
+    let rows = [
+        (OfferFault::Memory, FaultCode::Memory, "0 Memory"),
+        (OfferFault::Stranger, FaultCode::Stranger, "15 Stranger"),
+        (OfferFault::Overlap, FaultCode::Overlap, "16 Overlap"),
+    ];
+    for (fault, code, text) in &rows {
+        let line = format!(in rt.alloc(); "{fault}")?;
         assert!(rt; fault.code() == *code && line.as_str() == *text, "{text}");
     }
     Ok(())
 }
 
+// And each fault of slips.
 #[test]
-fn faults(rt: HostRuntime) -> Result<(), Fail> {
+fn faults_of_slips(rt: HostRuntime) -> Result<(), Fail> {
     let rows = [
-        (LedgerFault::Memory, FaultCode::Memory, "0 Memory"),
-        (LedgerFault::Stranger, FaultCode::Stranger, "15 Stranger"),
-        (LedgerFault::Overlap, FaultCode::Overlap, "16 Overlap"),
-        (LedgerFault::BadSlip(7), FaultCode::BadSlip, "17 BadSlip 7"),
+        (SlipsFault::Memory, FaultCode::Memory, "0 Memory"),
+        (SlipsFault::BadSlip(7), FaultCode::BadSlip, "17 BadSlip 7"),
     ];
-    check_faults(&rt, rt.alloc(), &rows)
+    for (fault, code, text) in &rows {
+        let line = format!(in rt.alloc(); "{fault}")?;
+        assert!(rt; fault.code() == *code && line.as_str() == *text, "{text}");
+    }
+    Ok(())
 }
 
 // Whether the offer of a trial is taken; where it is not, a growth of memory is refused, as a run with one refused
@@ -392,7 +408,7 @@ fn takes(alloc: Global, ledger: &mut Ledger, trial: u32) -> Result<bool, Fail> {
     let result = result_of(alloc, ledger.plan(), trial, 1)?;
     match ledger.offer(&result) {
         Ok(()) => Ok(true),
-        Err(LedgerFault::Memory) => Ok(false),
+        Err(OfferFault::Memory) => Ok(false),
         Err(_) => Err("another refusal")?,
     }
 }

@@ -1,5 +1,5 @@
 use Rattle.std.proofs.Common.{◌≡◌, ◌∙◌, ◌≤◌, ◌-◌, ℕ, List, sym, ap, subst, arith}
-use Rattle.cut_ledger.specs.declared.fault.LedgerFault.TheVariants.{BadSlip}
+use Rattle.cut_ledger.specs.declared.slips_fault.SlipsFault.TheVariants.{BadSlip}
 use Rattle.cut_ledger.proofs.Words.{AllByRecursion, AreGood, Contents, IsFirstBad, IsToldOf, IsTrueSlip, Slip}
 use Rattle.cut_ledger.proofs.Words.{State, Values, each_number}
 use Rattle.cut_ledger.proofs.Words.{pieces_of_slips, slips_found, state_of, times_in}
