@@ -68,7 +68,7 @@ sound_holds v n d sound = elim sound.bytes [
 
 -- ---- the first write
 
-long_body : (v : Values) (s : Slip) → length (body_of v s) ≡ numbers_length (version_of v.failing) + 32
+pub long_body : (v : Values) (s : Slip) → length (body_of v s) ≡ numbers_length (version_of v.failing) + 32
 unfolding body_of
 long_body v s =
     let version : Version = version_of v.failing in

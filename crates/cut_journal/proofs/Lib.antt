@@ -11,3 +11,4 @@ pub mod SlipBytes
 pub mod Appends
 pub mod Truths
 pub mod Migrations
+pub mod Files

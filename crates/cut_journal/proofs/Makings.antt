@@ -56,7 +56,7 @@ behind : (first : ℕ) (bytes others : List ℕ) → 0 < length others → drop 
 behind first bytes [] some is = absurd (omega arith)
 behind first bytes (c ∷ others) some is = (c, ap (λ (l : List ℕ). c ∷ l) is)
 
-whole_front : (v : Values) (rest : List ℕ) → open_gate ∷ rest_of v ++ rest ≡ front_of v ++ (closed_gate ∷ rest)
+pub whole_front : (v : Values) (rest : List ℕ) → open_gate ∷ rest_of v ++ rest ≡ front_of v ++ (closed_gate ∷ rest)
 unfolding rest_of front_of
 whole_front v rest = ap (λ (l : List ℕ). open_gate ∷ l) (append_assoc (header_of v ++ header_digest v) (closed_gate ∷ []) rest)
 

@@ -1,14 +1,14 @@
 -- What a migration has moved, slip by slip, and what each crash of it leaves.
 use Rattle.std.proofs.Common.{◌≡◌, ◌∙◌, ◌≤◌, ◌<◌, ◌+◌, ◌-◌, ◌++◌, inl, inr, ℕ, List, [], ◌∷◌, Ok, Err, Option, Some, None, unwrap_or, refl, sym, ap, subst, arith, append-nil, append_assoc}
 use Rattle.std.specs.Bool.{⊤}
-use Rattle.std.specs.Prelude.{IsSome, IsErrOf, ◌↔◌, ◌⊎◌, slice_get, slice_index_or}
+use Rattle.std.specs.Prelude.{IsSome, IsErrOf, OnOk, Result, ◌↔◌, ◌⊎◌, slice_get, slice_index_or}
 use Rattle.std.proofs.Math.Nat.{eq-or-lt_of_le, eq-zero-or-pos}
 use Rattle.std.proofs.lemmas.List.{map_more}
 use Rattle.std.proofs.lemmas.Option.{get_or_from_slice_get, slice_get_within}
 use Rattle.cut_plan.specs.Targets.{upgraded}
 use Rattle.cut_plan.specs.Values.{Values}
 use Rattle.cut_trial.specs.Computed.{Computed}
-use Rattle.cut_disks.specs.State.{DiskState, Throughout}
+use Rattle.cut_disks.specs.State.{DiskState, IsImage, Throughout}
 use Rattle.cut_ledger.specs.declared.slip.Slip.{Slip}
 use Rattle.cut_ledger.specs.Machine.{slip_of}
 use Rattle.cut_ledger.specs.World.{IsTrueSlip}
@@ -16,8 +16,8 @@ use Rattle.cut_journal.specs.declared.fault.JournalFault.{JournalFault}
 use Rattle.cut_journal.specs.declared.fault.JournalFault.TheVariants as journal
 use Rattle.cut_journal.specs.declared.migrate_fault.MigrateFault.{MigrateFault}
 use Rattle.cut_journal.specs.declared.migrate_fault.MigrateFault.TheVariants.{Memory, NotVersion1, BadSlip, OtherPlan, Disagrees, Broken, Disk}
-use Rattle.cut_journal.specs.Journal.{Log, ReadsAs, IsAppendFault, IsSound, Leaves, disk_faults, kept_slips}
-use Rattle.cut_journal.specs.Migration.{moved, first_moved, fault_of, moving_faults, AreTrueUpTo, CanMove, Ends, HasMoved, IsPartMoved, MovesOne}
+use Rattle.cut_journal.specs.Journal.{Log, ReadsAs, IsAppendFault, IsSound, Leaves, disk_faults, kept_slips, slips_after}
+use Rattle.cut_journal.specs.Migration.{moved, first_moved, fault_of, moving_faults, taken, AppendsEach, AreTrueUpTo, CanMove, Ends, HasMoved, MovesOne}
 use Rattle.cut_journal.specs.Reading.{reading}
 use Rattle.cut_journal.proofs.Moments.{stays, weaker, and_then}
 
@@ -185,60 +185,139 @@ kept_of v ss n m old new before now is kept other =
 
 -- ---- what a crash leaves
 
-nothing_more : (v : Values) (ss : List Slip) (n : ℕ) (kept : List Slip) → n ≡ 0 → kept ++ first_moved v ss n ≡ kept
-nothing_more v ss n kept none = ap (λ k. kept ++ first_moved v ss k) none ∙ append-nil kept
+reads_on : (v : Values) (kept : List Slip) (e : Option Slip) (bytes : List ℕ) → ReadsAs v kept None bytes → ReadsAs v kept e bytes
+reads_on v kept e bytes (inl reads) = inl reads
+reads_on v kept e bytes (inr other) = absurd (cc (other.1.0))
 
-part_by : (v : Values) (ss : List Slip) (plan : Values) (kept : List Slip) (doubtful : Option Slip) (n : ℕ) (s other : Slip)
-    (bytes : List ℕ) → slice_get ss n ≡ Some s → (1 ≤ n → doubtful ≡ None)
-    → Some (unwrap_or doubtful (moved v s)) ≡ Some other
-    → reading plan bytes ≡ Ok ((kept ++ first_moved v ss n) ++ other ∷ []) → IsPartMoved v ss plan kept doubtful bytes
-part_by v ss plan kept None n s other bytes at taken is reads =
-    let same : moved v s ≡ other = cc is in
-    let more = ap (λ (l : List Slip). kept ++ l) (first_more v ss n s at) in
-    inr (
-      n + 1,
+-- what an append of each kind leaves to be said of the doubtful slip before it
+abbrev pub LeavesDoubt : Option Slip → Option Slip → List Slip → Type 0
+LeavesDoubt d e ys = (d ≡ None) ⊎ ((ys ≡ []) × (e ≡ d))
+
+-- moments at which only the kept slips are there, in front of others
+begun_with : (v : Values) (kept ys : List Slip) (d e : Option Slip) (old mid new : DiskState) → LeavesDoubt d e ys → Throughout old mid (ReadsAs v kept d)
+    → AppendsEach v kept e ys mid new → AppendsEach v kept e ys old new
+begun_with v kept [] d e old mid new (inl none) before after =
+    and_then (ReadsAs v kept e) old mid new
+    (weaker (ReadsAs v kept None) (ReadsAs v kept e) (reads_on v kept e) old mid (subst (λ (o : Option Slip). Throughout old mid (ReadsAs v kept o)) none before)) after
+begun_with v kept [] d e old mid new (inr same) before after =
+    and_then (ReadsAs v kept e) old mid new (subst (λ (o : Option Slip). Throughout old mid (ReadsAs v kept o)) (sym same.1) before) after
+begun_with v kept (y ∷ ys) d e old mid new (inl none) before after = (
+  after.0,
+  (
+    and_then (ReadsAs v kept (Some y)) old mid after.0
+        (weaker (ReadsAs v kept None) (ReadsAs v kept (Some y)) (reads_on v kept (Some y)) old mid (subst (λ (o : Option Slip). Throughout old mid (ReadsAs v kept o)) none before)) after.1.0,
+    after.1.1,
+  ),
+)
+begun_with v kept (y ∷ ys) d e old mid new (inr same) before after = absurd (cc (same.0))
+
+-- slips that are appended after others
+pub each_then : (v : Values) (kept now xs ys : List Slip) (d e : Option Slip) (old mid new : DiskState) → now ≡ kept ++ xs → LeavesDoubt d e ys
+    → AppendsEach v kept d xs old mid → AppendsEach v now e ys mid new → AppendsEach v kept e (xs ++ ys) old new
+each_then v kept now [] ys d e old mid new are doubt before after =
+    begun_with v kept ys d e old mid new doubt before
+    (subst (λ (l : List Slip). AppendsEach v l e ys mid new) (are ∙ append-nil kept) after)
+each_then v kept now (x ∷ xs) ys d e old mid new are doubt before after = (
+  before.0,
+  (
+    before.1.0,
+    each_then v (kept ++ x ∷ []) now xs ys d e before.0 mid new (are ∙ sym (append_assoc kept (x ∷ []) xs)) doubt before.1.1 after,
+  ),
+)
+
+-- nothing is appended
+pub nothing_appended : (v : Values) (count : ℕ) (doubtful : Option Slip) (d : DiskState) → IsSound v count doubtful d
+    → AppendsEach v (kept_slips v count d) doubtful [] d d
+nothing_appended v count doubtful d sound =
+    stays (ReadsAs v (kept_slips v count d) doubtful) d d refl (λ image of. sound.images image of)
+
+same_moments : {D : Type 0} (state : D → DiskState) (old new : Log D) → new ≡ old → IsSound old.plan old.count old.doubtful (state old.disk)
+    → AppendsEach old.plan (kept_slips old.plan old.count (state old.disk)) new.doubtful [] (state old.disk) (state new.disk)
+same_moments state old new same sound =
+    subst (λ (l : Log _). AppendsEach old.plan (kept_slips old.plan old.count (state old.disk)) l.doubtful [] (state old.disk) (state l.disk)) (sym same)
+    (nothing_appended old.plan old.count old.doubtful (state old.disk) sound)
+
+-- one append
+pub append_moments : {D : Type 0} (result : Result ℕ JournalFault) (slip : Slip) (state : D → DiskState) (old new : Log D)
+    → Leaves result slip old new → (IsErrOf result journal.Broken ↔ IsSome old.doubtful)
+    → IsSound old.plan old.count old.doubtful (state old.disk)
+    → Throughout (state old.disk) (state new.disk) (ReadsAs old.plan (kept_slips old.plan old.count (state old.disk)) (Some (unwrap_or old.doubtful slip)))
+    → OnOk result ((image : List ℕ) → IsImage (state new.disk).stable image → reading old.plan image ≡ Ok (kept_slips new.plan new.count (state new.disk)))
+    → kept_slips new.plan new.count (state new.disk) ≡ slips_after result slip (kept_slips old.plan old.count (state old.disk))
+    → AppendsEach old.plan (kept_slips old.plan old.count (state old.disk)) new.doubtful (taken result slip) (state old.disk) (state new.disk)
+append_moments (Ok n) slip state old new left broken sound moments known kept =
+    let none : old.doubtful ≡ None = none_of old.doubtful (λ some. cc (broken.1 some)) in
+    let before : List Slip = kept_slips old.plan old.count (state old.disk) in
+    let step : Throughout (state old.disk) (state new.disk) (ReadsAs old.plan before (Some slip)) =
+    subst (λ (o : Option Slip). Throughout (state old.disk) (state new.disk) (ReadsAs old.plan before (Some (unwrap_or o slip)))) none moments in (
+      state new.disk,
       (
-        (let below = slice_get_within ss n s at in omega (arith, below)),
-        reads ∙ ap (λ (l : List Slip). Ok l)
-            (append_assoc kept (first_moved v ss n) (other ∷ [])
-            ∙ ap (λ (x : Slip). kept ++ (first_moved v ss n ++ x ∷ [])) (sym same) ∙ sym more),
+        step,
+        stays (ReadsAs old.plan (before ++ slip ∷ []) new.doubtful) (state new.disk) (state new.disk) refl
+            (λ image of. inl (known image of ∙ ap (λ (l : List Slip). Ok l) kept)),
       ),
     )
-part_by v ss plan kept (Some d) n s other bytes at taken is reads =
-    inl (inr (
-      other,
-      (
-        is,
-        reads ∙ ap (λ (l : List Slip). Ok (l ++ other ∷ []))
-            (nothing_more v ss n kept (not_taken n taken)),
-      ),
-    ))
-
-pub part_moved : (v : Values) (ss : List Slip) (plan : Values) (kept now : List Slip) (doubtful : Option Slip) (n : ℕ) (s : Slip)
-    (bytes : List ℕ) → slice_get ss n ≡ Some s → (1 ≤ n → doubtful ≡ None) → now ≡ kept ++ first_moved v ss n
-    → ReadsAs plan now (Some (unwrap_or doubtful (moved v s))) bytes → IsPartMoved v ss plan kept doubtful bytes
-part_moved v ss plan kept now doubtful n s bytes at taken are (inl reads) =
-    inr (n, ((let below = slice_get_within ss n s at in omega (arith, below)), reads ∙ ap (λ (l : List Slip). Ok l) are))
-part_moved v ss plan kept now doubtful n s bytes at taken are (inr (other, both)) =
-    part_by v ss plan kept doubtful n s other bytes at taken both.0
-    (both.1 ∙ ap (λ (l : List Slip). Ok (l ++ other ∷ [])) are)
-
--- the moments of a migration with those of one slip more
-pub moments_more : (v : Values) (ss : List Slip) (plan held : Values) (kept now : List Slip) (doubtful doubt : Option Slip) (n : ℕ)
-    (s : Slip) (old mid new : DiskState) → slice_get ss n ≡ Some s → (1 ≤ n → doubtful ≡ None) → held ≡ plan
-    → doubt ≡ doubtful → now ≡ kept ++ first_moved v ss n → Throughout old mid (IsPartMoved v ss plan kept doubtful)
-    → Throughout mid new (ReadsAs held now (Some (unwrap_or doubt (moved v s))))
-    → Throughout old new (IsPartMoved v ss plan kept doubtful)
-moments_more v ss plan held kept now doubtful doubt n s old mid new at taken plan_is doubt_is are before one =
-    let step : Throughout mid new (ReadsAs plan now (Some (unwrap_or doubtful (moved v s)))) =
-    subst (λ (o : Option Slip). Throughout mid new (ReadsAs plan now (Some (unwrap_or o (moved v s))))) doubt_is
-    (subst (λ (w : Values). Throughout mid new (ReadsAs w now (Some (unwrap_or doubt (moved v s))))) plan_is one) in
-    and_then (IsPartMoved v ss plan kept doubtful) old mid new before
-    (weaker (ReadsAs plan now (Some (unwrap_or doubtful (moved v s)))) (IsPartMoved v ss plan kept doubtful)
-    (λ bytes reads. part_moved v ss plan kept now doubtful n s bytes at taken are reads) mid new step)
+append_moments (Err journal.Disk) slip state old new left broken sound moments known kept =
+    let none : old.doubtful ≡ None = none_of old.doubtful (λ some. cc (broken.1 some)) in
+    let before : List Slip = kept_slips old.plan old.count (state old.disk) in
+    let step : Throughout (state old.disk) (state new.disk) (ReadsAs old.plan before (Some slip)) =
+    subst (λ (o : Option Slip). Throughout (state old.disk) (state new.disk) (ReadsAs old.plan before (Some (unwrap_or o slip)))) none moments in
+    subst (λ (o : Option Slip). Throughout (state old.disk) (state new.disk) (ReadsAs old.plan before o)) (sym left.2) step
+append_moments (Err journal.Memory) slip state old new left broken sound moments known kept = same_moments state old new left sound
+append_moments (Err journal.Broken) slip state old new left broken sound moments known kept = same_moments state old new left sound
+append_moments (Err journal.NoStudy) slip state old new left broken sound moments known kept = same_moments state old new left sound
+append_moments (Err journal.OtherPlan) slip state old new left broken sound moments known kept = same_moments state old new left sound
+append_moments (Err (journal.Damaged k)) slip state old new left broken sound moments known kept = same_moments state old new left sound
+append_moments (Err journal.Held) slip state old new left broken sound moments known kept = same_moments state old new left sound
 
 -- a migration that does nothing
 pub nothing_moved : (v : Values) (ss : List Slip) (plan : Values) (count : ℕ) (doubtful : Option Slip) (d : DiskState)
-    → IsSound plan count doubtful d → Throughout d d (IsPartMoved v ss plan (kept_slips plan count d) doubtful)
-nothing_moved v ss plan count doubtful d sound =
-    stays (IsPartMoved v ss plan (kept_slips plan count d) doubtful) d d refl (λ image of. inl (sound.images image of))
+    → IsSound plan count doubtful d → (n : ℕ) → count ≡ count + n → AppendsEach plan (kept_slips plan count d) doubtful (first_moved v ss n) d d
+nothing_moved v ss plan count doubtful d sound n is =
+    subst (λ k. AppendsEach plan (kept_slips plan count d) doubtful (first_moved v ss k) d d)
+    (let none : 0 ≡ n = omega (arith, is) in none) (nothing_appended plan count doubtful d sound)
+
+-- what one move says of the doubtful slip
+doubt_after : {T D : Type 0} (result : Result T MigrateFault) (v : Values) (number : ℕ) (s slip : Slip) (old new : Log D) → MovesOne result v number s old new
+    → LeavesDoubt old.doubtful new.doubtful (taken result slip)
+doubt_after (Ok done) v number s slip old new is = inl is.3
+doubt_after (Err Memory) v number s slip old new is = inr (refl, ap (λ (l : Log _). l.doubtful) is)
+doubt_after (Err NotVersion1) v number s slip old new is = absurd is
+doubt_after (Err (BadSlip k)) v number s slip old new is = absurd is
+doubt_after (Err OtherPlan) v number s slip old new is = absurd is
+doubt_after (Err (Disagrees k)) v number s slip old new is = inr (refl, ap (λ (l : Log _). l.doubtful) is.2)
+doubt_after (Err Broken) v number s slip old new is = inr (refl, ap (λ (l : Log _). l.doubtful) is.2)
+doubt_after (Err Disk) v number s slip old new is = inl is.3
+
+-- the moments of a migration with those of one slip more
+pub moments_more : {T D : Type 0} (result : Result T MigrateFault) (v : Values) (ss : List Slip) (plan : Values) (kept now : List Slip) (n number : ℕ) (s : Slip) (mid new : Log D)
+    (before between after : DiskState) → MovesOne result v number s mid new → mid.plan ≡ plan → now ≡ kept ++ first_moved v ss n
+    → AppendsEach plan kept mid.doubtful (first_moved v ss n) before between
+    → AppendsEach mid.plan now new.doubtful (taken result (moved v s)) between after
+    → AppendsEach plan kept new.doubtful (first_moved v ss n ++ taken result (moved v s)) before after
+moments_more result v ss plan kept now n number s mid new before between after is same are moments one =
+    each_then plan kept now (first_moved v ss n) (taken result (moved v s)) mid.doubtful new.doubtful before between after are
+    (doubt_after result v number s (moved v s) mid new is) moments
+    (subst (λ (w : Values). AppendsEach w now new.doubtful (taken result (moved v s)) between after) same one)
+
+-- where the slip was not taken, they are those of the first n
+same_count : {D : Type 0} (e : MigrateFault) (v : Values) (number : ℕ) (s : Slip) (old new : Log D) → MovesOne {T = ⊤} (Err e) v number s old new → new.count ≡ old.count
+same_count Memory v number s old new is = ap (λ (l : Log _). l.count) is
+same_count NotVersion1 v number s old new is = absurd is
+same_count (BadSlip k) v number s old new is = absurd is
+same_count OtherPlan v number s old new is = absurd is
+same_count (Disagrees k) v number s old new is = ap (λ (l : Log _). l.count) is.2
+same_count Broken v number s old new is = ap (λ (l : Log _). l.count) is.2
+same_count Disk v number s old new is = is.2
+
+pub moments_stop : {D : Type 0} (e : MigrateFault) (v : Values) (ss : List Slip) (plan : Values) (kept now : List Slip) (n m number : ℕ) (s : Slip) (old mid new : Log D)
+    (before between after : DiskState) → MovesOne {T = ⊤} (Err e) v number s mid new → HasMoved v ss n old mid → plan ≡ old.plan → new.count ≡ old.count + m → now ≡ kept ++ first_moved v ss n
+    → AppendsEach plan kept mid.doubtful (first_moved v ss n) before between
+    → AppendsEach mid.plan now new.doubtful [] between after
+    → AppendsEach plan kept new.doubtful (first_moved v ss m) before after
+moments_stop e v ss plan kept now n m number s old mid new before between after is moved_so held other are moments one =
+    let count = same_count e v number s mid new is in
+    let first = moved_so.count in
+    subst (λ k. AppendsEach plan kept new.doubtful (first_moved v ss k) before after) (let same : n ≡ m = omega (arith, count, first, other) in same)
+    (subst (λ (l : List Slip). AppendsEach plan kept new.doubtful l before after) (append-nil (first_moved v ss n))
+    (moments_more {T = ⊤} (Err e) v ss plan kept now n number s mid new before between after is (moved_so.plan ∙ sym held) are moments one))

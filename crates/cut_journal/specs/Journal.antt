@@ -1,11 +1,13 @@
 -- A journal as contracts see it, what is true of it between calls, and what an append leaves.
 use Rattle.std.specs.Prelude.{◌≡◌, ◌⊎◌, ◌++◌, ◌+◌, ℕ, List, [], ◌∷◌, length, take, Option, Some, None, Result, Ok, Err, ⊤}
+use Rattle.std.specs.Io.{StartsWith}
 use Rattle.cut_faults.specs.Failures.{one_more}
 use Rattle.cut_plan.specs.Values.{Values}
 use Rattle.cut_disks.specs.State.{DiskState, IsImage, settled}
 use Rattle.cut_ledger.specs.declared.slip.Slip.{Slip}
 use Rattle.cut_journal.specs.declared.fault.JournalFault.{JournalFault}
 use Rattle.cut_journal.specs.declared.fault.JournalFault.TheVariants.{Broken, OtherPlan, Disk}
+use Rattle.cut_journal.specs.File.{file_of}
 use Rattle.cut_journal.specs.Reading.{reading}
 
 -- the disk, the plan of the study, how many slips are kept, and the slip of an append in which the disk failed,
@@ -60,6 +62,12 @@ Leaves (Err fault) slip old new = new ≡ old
 abbrev pub slips_after : Result ℕ JournalFault → Slip → List Slip → List Slip
 slips_after (Ok number) slip slips = slips ++ slip ∷ []
 slips_after (Err fault) slip slips = slips
+
+-- bytes that begin with the file of as many slips as are kept begin with the file of these and one more after it
+abbrev pub ExtendsFile : Values → ℕ → Slip → List ℕ → List ℕ → Type 0
+ExtendsFile v count slip old new =
+    (slips : List Slip) → length slips ≡ count → StartsWith old (file_of v slips)
+    → StartsWith new (file_of v (slips ++ slip ∷ []))
 
 -- how many calls of the disk failed after a call of a journal: one more exactly where it answers that fault
 abbrev pub disk_faults : {T : Type 0} → Result T JournalFault → ℕ → ℕ

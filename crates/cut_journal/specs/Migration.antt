@@ -6,6 +6,7 @@ use Rattle.cut_plan.specs.Targets.{upgraded}
 use Rattle.cut_plan.specs.Values.{Values}
 use Rattle.cut_plan.specs.Versions.{version_of}
 use Rattle.cut_trial.specs.Sum.{sum_of, trials_in}
+use Rattle.cut_disks.specs.State.{DiskState, Throughout}
 use Rattle.cut_ledger.specs.declared.slip.Slip.{Slip}
 use Rattle.cut_ledger.specs.Slips.{AreGood, IsFirstBad}
 use Rattle.cut_ledger.specs.World.{IsTrueSlip}
@@ -14,7 +15,6 @@ use Rattle.cut_journal.specs.declared.migrate_fault.MigrateFault.TheVariants.{Me
 use Rattle.cut_journal.specs.declared.fault.JournalFault.{JournalFault}
 use Rattle.cut_journal.specs.declared.fault.JournalFault.TheVariants as journal
 use Rattle.cut_journal.specs.Journal.{Log, ReadsAs}
-use Rattle.cut_journal.specs.Reading.{reading}
 
 -- a slip of the plan's upgrade: the same piece, with the sums that its trials have there
 abbrev pub moved : Values → Slip → Slip
@@ -60,7 +60,7 @@ pub record HasFailed {D : Type 0} (v : Values) (ss : List Slip) (n : ℕ) (old n
   pub doubtful : (d : Slip) → new.doubtful ≡ Some (moved v (slice_index_or ss n d))
 
 -- how a migration ends, by its answer: how many slips it moved, which are all; or why it stopped, and what it
--- moved before. Want of memory may come at any step once the version is known.
+-- moved before. A refusal of memory may come at any step once the version is known.
 abbrev pub Ends : {D : Type 0} → Result ℕ MigrateFault → Values → List Slip → Log D → Log D → Type 0
 Ends (Ok n) v ss old new =
     (n ≡ length ss) × CanMove v ss old × HasMoved v ss n old new × (new.doubtful ≡ old.doubtful)
@@ -78,11 +78,14 @@ Ends (Err Memory) v ss old new =
     × ((new ≡ old)
     ⊎ (CanMove v ss old × ((n : ℕ) × (HasMoved v ss n old new × (new.doubtful ≡ old.doubtful)))))
 
--- bytes say what a journal said before a migration, or that and some first slips, moved
-abbrev pub IsPartMoved : Values → List Slip → Values → List Slip → Option Slip → List ℕ → Type 0
-IsPartMoved v ss plan kept doubtful bytes =
-    ReadsAs plan kept doubtful bytes
-    ⊎ ((n : ℕ) × ((n ≤ length ss) × (reading plan bytes ≡ Ok (kept ++ first_moved v ss n))))
+-- slips are appended one after another to those that are kept: while one is appended, each crash at each moment
+-- leaves those before it, or those and it; once it is acknowledged, it is one of those that each later crash leaves.
+-- After the last of them the doubtful one, where there is one, may be there too
+abbrev pub AppendsEach : Values → List Slip → Option Slip → List Slip → DiskState → DiskState → Type 0
+AppendsEach v kept doubtful [] old new = Throughout old new (ReadsAs v kept doubtful)
+AppendsEach v kept doubtful (slip ∷ slips) old new =
+    (mid : DiskState) × (Throughout old mid (ReadsAs v kept (Some slip))
+    × AppendsEach v (kept ++ slip ∷ []) doubtful slips mid new)
 
 -- how many calls of the disk failed after a migration: one more exactly where it answers that fault
 abbrev pub moving_faults : {T : Type 0} → Result T MigrateFault → ℕ → ℕ
@@ -91,10 +94,11 @@ moving_faults result n = n
 
 -- ---- the move of one slip
 
--- the fault of an append, as a migration tells it
+-- the fault of an append, as a migration tells it; an append has no other faults than these three
 abbrev pub fault_of : JournalFault → MigrateFault
+fault_of journal.Disk = Disk
 fault_of journal.Broken = Broken
-fault_of fault = Disk
+fault_of fault = OtherPlan
 
 -- how it ends: the slip is true and was taken; or why it was not
 abbrev pub MovesOne : {T D : Type 0} → Result T MigrateFault → Values → ℕ → Slip → Log D → Log D → Type 0
@@ -108,6 +112,11 @@ MovesOne (Err Disk) v number s old new =
     × (new.doubtful ≡ Some (moved v s))
 MovesOne (Err Memory) v number s old new = new ≡ old
 MovesOne (Err fault) v number s old new = ⊥
+
+-- the slip, where it was taken
+abbrev pub taken : {T E : Type 0} → Result T E → Slip → List Slip
+taken (Ok done) slip = slip ∷ []
+taken (Err fault) slip = []
 
 -- the slips that are kept after it
 abbrev pub kept_after : {T : Type 0} → Result T MigrateFault → Slip → List Slip → List Slip

@@ -3,7 +3,7 @@ ghost use Rattle.cut_faults.specs.Failures.{counted};
 ghost use Rattle.cut_disks.specs.State.{settled, Throughout};
 ghost use Rattle.cut_journal.specs.File.{slip_length, gate_place};
 ghost use Rattle.cut_journal.specs.Reading.{reading};
-ghost use Rattle.cut_journal.specs.Journal.{kept_slips, ReadsAs, IsSound};
+ghost use Rattle.cut_journal.specs.Journal.{kept_slips, ReadsAs, IsSound, ExtendsFile};
 ghost use Rattle.cut_plan.specs.Versions.{version_of};
 ghost use Rattle.cut_journal.specs.Steps.{Leave, TellsAll};
 
@@ -31,6 +31,8 @@ pub(crate) fn keep<D: Disk>(
         (D.state disk.new) }
     ensures kept { D.is_honest disk.old → OnOk result (reading study.now (D.state disk.new).bytes
         ≡ Ok (kept_slips study.now gate.number (D.state disk.old) ++ slip ∷ [])) }
+    ensures file { D.is_honest disk.old → OnOk result
+        (ExtendsFile study.now gate.number slip (D.state disk.old).bytes (D.state disk.new).bytes) }
     ensures sure { D.is_honest disk.old →
         OnOk result ((D.state disk.new).stable ≡ settled (D.state disk.new).bytes) }
     ensures bound { OnOk result (gate.place + slip_length (version_of study.now.failing) < 2 ^ 63) }

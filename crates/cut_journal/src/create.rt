@@ -1,7 +1,8 @@
 ghost use Rattle.std.specs.Prelude.{◌≡◌, ◌≢◌, ◌<◌, ◌≤◌, ◌==◌, ◌^◌, ◌↔◌, ◌++◌, [], ◌∷◌, false, Ok, Err, length, drop, slice_index, IfOk, IfErr, OnOk};
+ghost use Rattle.std.specs.Io.{StartsWith};
 ghost use Rattle.cut_faults.specs.Failures.{counted};
 ghost use Rattle.cut_disks.specs.State.{settled, synced, Throughout};
-ghost use Rattle.cut_journal.specs.File.{open_gate, rest_of};
+ghost use Rattle.cut_journal.specs.File.{open_gate, rest_of, file_of};
 ghost use Rattle.cut_journal.specs.Reading.{is_study, reading};
 ghost use Rattle.cut_journal.specs.Journal.{disk_faults};
 ghost use Rattle.cut_journal.specs.Opening.{IsNewStudy, IsBegun, IsNotMade, MayNotMake};
@@ -21,6 +22,7 @@ pub(crate) fn make<D: Disk>(alloc: Global, disk: &mut D, study: &Study) -> Resul
         OnOk result ((reading study.now (D.state disk.old).bytes ≡ Err JournalFault.NoStudy)
         × (reading study.now (D.state disk.new).bytes ≡ Ok [])
         × ((D.state disk.new).stable ≡ settled (D.state disk.new).bytes)) }
+    ensures file { D.is_honest disk.old → OnOk result (StartsWith (D.state disk.new).bytes (file_of study.now [])) }
     ensures begun { D.is_honest disk.old →
         OnOk result (IsBegun study.now (D.state disk.old) (D.state disk.new)) }
     ensures refused { D.is_honest disk.old →
@@ -57,6 +59,7 @@ fn write_new<D: Disk>(disk: &mut D, study: &Study, rest: &[u8], size: u64) -> Re
     ensures sure { D.is_honest disk.old →
         OnOk result ((D.state disk.new).stable ≡ settled (D.state disk.new).bytes) }
     ensures made { D.is_honest disk.old → OnOk result (reading study.now (D.state disk.new).bytes ≡ Ok []) }
+    ensures file { D.is_honest disk.old → OnOk result (StartsWith (D.state disk.new).bytes (file_of study.now [])) }
     ensures honest { D.is_honest disk.old ↔ D.is_honest disk.new }
     ensures faults { D.faults disk.new ≡ counted result (D.faults disk.old) }
 {
@@ -116,6 +119,7 @@ fn open<D: Disk>(disk: &mut D, study: &Study) -> Result<(), DiskFault>
     ensures sure { D.is_honest disk.old →
         OnOk result ((D.state disk.new).stable ≡ settled (D.state disk.new).bytes) }
     ensures made { D.is_honest disk.old → OnOk result (reading study.now (D.state disk.new).bytes ≡ Ok []) }
+    ensures file { D.is_honest disk.old → OnOk result (StartsWith (D.state disk.new).bytes (file_of study.now [])) }
     ensures honest { D.is_honest disk.old ↔ D.is_honest disk.new }
     ensures faults { D.faults disk.new ≡ counted result (D.faults disk.old) }
 {

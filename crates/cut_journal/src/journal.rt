@@ -2,8 +2,10 @@ ghost use Rattle.std.specs.Prelude.{ℕ, List, ◌≡◌, ◌≢◌, ◌⊎◌, 
 ghost use Rattle.cut_plan.specs.Values.{Values};
 ghost use Rattle.cut_disks.specs.State.{IsImage, settled, synced, Throughout};
 ghost use Rattle.cut_ledger.specs.Machine.{slip_of};
+ghost use Rattle.std.specs.Io.{StartsWith};
+ghost use Rattle.cut_journal.specs.File.{file_of};
 ghost use Rattle.cut_journal.specs.Reading.{reading};
-ghost use Rattle.cut_journal.specs.Journal.{Log, kept_slips, ReadsAs, IsSound, IsAppendFault, Leaves, slips_after, disk_faults};
+ghost use Rattle.cut_journal.specs.Journal.{Log, kept_slips, ReadsAs, IsSound, IsAppendFault, Leaves, ExtendsFile, slips_after, disk_faults};
 ghost use Rattle.cut_journal.specs.Opening.{IsReopenFault, MayRefuse, IsRead, IsBegun, IsNotMade, MayNotMake};
 
 use crate::JournalFault;
@@ -56,6 +58,8 @@ impl<D: Disk> Journal<D> {
         ensures made { D.is_honest disk →
             IfOk result (λ journal. (reading plan.now (D.state disk).bytes ≡ Err JournalFault.NoStudy)
             × (reading plan.now (D.state journal.disk).bytes ≡ Ok [])) }
+        ensures file { D.is_honest disk →
+            IfOk result (λ journal. StartsWith (D.state journal.disk).bytes (file_of plan.now [])) }
         ensures begun { D.is_honest disk →
             IfOk result (λ journal. IsBegun plan.now (D.state disk) (D.state journal.disk)) }
         ensures refused { D.is_honest disk →
@@ -146,6 +150,9 @@ impl<D: Disk> Journal<D> {
             kept_slips self.new.plan self.new.count (D.state self.new.disk)
             ≡ slips_after result (slip_of offered.now)
             (kept_slips self.old.plan self.old.count (D.state self.old.disk)) }
+        ensures file { D.is_honest self.old.disk →
+            OnOk result (ExtendsFile self.old.plan self.old.count (slip_of offered.now)
+            (D.state self.old.disk).bytes (D.state self.new.disk).bytes) }
         ensures acknowledged { D.is_honest self.old.disk → OnOk result ((image : List ℕ)
             → IsImage (D.state self.new.disk).stable image
             → reading self.old.plan image

@@ -20,6 +20,7 @@ mod reopen;
 mod slips;
 mod through;
 
+pub use cut_disks::{Disk, FaultyDisk, FileDisk, MemoryDisk, Tear};
 pub use fault::JournalFault;
 pub use journal::Journal;
 pub use migrate_fault::MigrateFault;

@@ -1,7 +1,6 @@
 ghost use Rattle.std.specs.Prelude.{◌≡◌};
 ghost use Rattle.cut_journal.specs.MigrateFaultCode.{code_of};
 
-use crate::JournalFault;
 use cut_faults::FaultCode;
 use std::alloc::AllocError;
 use std::fmt;
@@ -69,18 +68,5 @@ impl From<AllocError> for MigrateFault {
 
     fn from(_refused: AllocError) -> MigrateFault {
         MigrateFault::Memory
-    }
-}
-
-impl From<JournalFault> for MigrateFault {
-    ghost use Rattle.cut_journal.specs.Migration.{fault_of};
-
-    ghost from_gives = { λ fault e. e ≡ fault_of fault };
-
-    fn from(fault: JournalFault) -> MigrateFault {
-        match fault {
-            JournalFault::Broken => MigrateFault::Broken,
-            _ => MigrateFault::Disk,
-        }
     }
 }

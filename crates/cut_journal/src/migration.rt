@@ -1,5 +1,4 @@
-ghost use Rattle.std.specs.Prelude.{◌≡◌, ◌+◌, ◌<◌, ◌^◌, ◌↔◌, ◌++◌, ℕ, Some, unwrap_or, length, IfOk, OnOk, IfErr, IsErrOf, IsTrue};
-ghost use Rattle.cut_disks.specs.State.{Throughout};
+ghost use Rattle.std.specs.Prelude.{◌≡◌, ◌+◌, ◌<◌, ◌^◌, ◌↔◌, ◌++◌, ℕ, length, IfOk, OnOk, IfErr, IsErrOf, IsTrue};
 ghost use Rattle.cut_plan.specs.declared.version.Version.TheVariants.{One, Two};
 ghost use Rattle.cut_plan.specs.Plan.{IsPlan};
 ghost use Rattle.cut_plan.specs.Targets.{upgraded};
@@ -8,16 +7,16 @@ ghost use Rattle.cut_trial.specs.Outcome.{rings_of};
 ghost use Rattle.cut_trial.specs.Sum.{is_piece, sum_of, trials_in, without_settled};
 ghost use Rattle.cut_ledger.specs.Slips.{AreGood};
 ghost use Rattle.cut_ledger.specs.World.{IsTrueSlip};
-ghost use Rattle.cut_journal.specs.Journal.{kept_slips, ReadsAs};
-ghost use Rattle.cut_journal.specs.Migration.{Ends, IsJudgedBy, IsPartMoved, MovesOne, first_moved, kept_after, moved, moving_faults};
+ghost use Rattle.cut_journal.specs.Journal.{kept_slips};
+ghost use Rattle.cut_journal.specs.Migration.{AppendsEach, Ends, IsJudgedBy, MovesOne, fault_of, first_moved, kept_after, moved, moving_faults, taken};
 
-use crate::{Journal, MigrateFault};
+use crate::{Journal, JournalFault, MigrateFault};
 use cut_disks::Disk;
-use cut_ledger::{Ledger, LedgerFault, Slip};
+use cut_ledger::{Ledger, Slip, SlipsFault};
 use cut_plan::{Plan, Version};
 use cut_rings::Rings;
 use cut_trial::laws::{pieces_have_possible_totals, upgrades_keep_outcomes};
-use cut_trial::{PieceResult, Totals, run_piece};
+use cut_trial::{PieceResult, Totals, TrialFault, run_piece};
 use std::alloc::Global;
 
 /// Moves the slips of a study of version 1 to the journal of its plan's upgrade: runs the trials of each slip
@@ -26,8 +25,12 @@ use std::alloc::Global;
 ///
 /// It is refused before any write where the plan is not of version 1, then where a slip is one that no ledger
 /// begins with, and then where the journal is not that of the upgrade. After that the first slip whose sums are
-/// not those of its trials ends it, as do a broken journal, a disk that fails, and want of memory: the slips
-/// before the present one are kept then, and no later one; where the disk failed the present one may be kept too.
+/// not those of its trials ends it, as do a broken journal, a disk that fails, and memory that is refused: the
+/// slips before the present one are kept then, and no later one; where the disk failed the present one may be
+/// kept too.
+///
+/// Each slip is moved by one append. So a crash at any moment leaves the slips that were acknowledged by then, and
+/// at most one more.
 pub fn migrate<D: Disk>(
     alloc: Global,
     slips: &[Slip],
@@ -36,10 +39,10 @@ pub fn migrate<D: Disk>(
 ) -> Result<u64, MigrateFault>
     ensures version { IsErrOf result MigrateFault.NotVersion1 ↔ (version_of plan.now.failing ≡ Two) }
     ensures ends { Ends result plan.now slips.now journal.old journal.new }
-    ensures moments { D.is_honest journal.old.disk →
-        Throughout (D.state journal.old.disk) (D.state journal.new.disk)
-        (IsPartMoved plan.now slips.now journal.old.plan
-        (kept_slips journal.old.plan journal.old.count (D.state journal.old.disk)) journal.old.doubtful) }
+    ensures moments { D.is_honest journal.old.disk → (n : ℕ) → journal.new.count ≡ journal.old.count + n →
+        AppendsEach journal.old.plan (kept_slips journal.old.plan journal.old.count (D.state journal.old.disk))
+        journal.new.doubtful (first_moved plan.now slips.now n)
+        (D.state journal.old.disk) (D.state journal.new.disk) }
     ensures kept { D.is_honest journal.old.disk → (n : ℕ) → journal.new.count ≡ journal.old.count + n →
         kept_slips journal.new.plan journal.new.count (D.state journal.new.disk)
         ≡ kept_slips journal.old.plan journal.old.count (D.state journal.old.disk)
@@ -72,8 +75,8 @@ fn judge(alloc: Global, plan: &Plan, slips: &[Slip]) -> Result<(), MigrateFault>
 {
     match Ledger::from_slips(alloc, plan.try_clone(alloc)?, slips) {
         Ok(_) => Ok(()),
-        Err(LedgerFault::BadSlip(number)) => Err(MigrateFault::BadSlip(number)),
-        Err(_) => Err(MigrateFault::Memory),
+        Err(SlipsFault::BadSlip(number)) => Err(MigrateFault::BadSlip(number)),
+        Err(SlipsFault::Memory) => Err(MigrateFault::Memory),
     }
 }
 
@@ -100,10 +103,10 @@ fn move_slips<D: Disk>(
     requires plan { journal.old.plan ≡ upgraded target.plan.now }
     ensures ends { Ends result target.entry.plan.now slips.now journal.old journal.new }
     ensures version { IsErrOf result MigrateFault.NotVersion1 → ⊥ }
-    ensures moments { D.is_honest journal.old.disk →
-        Throughout (D.state journal.old.disk) (D.state journal.new.disk)
-        (IsPartMoved target.entry.plan.now slips.now journal.old.plan
-        (kept_slips journal.old.plan journal.old.count (D.state journal.old.disk)) journal.old.doubtful) }
+    ensures moments { D.is_honest journal.old.disk → (n : ℕ) → journal.new.count ≡ journal.old.count + n →
+        AppendsEach journal.old.plan (kept_slips journal.old.plan journal.old.count (D.state journal.old.disk))
+        journal.new.doubtful (first_moved target.entry.plan.now slips.now n)
+        (D.state journal.old.disk) (D.state journal.new.disk) }
     ensures kept { D.is_honest journal.old.disk → (n : ℕ) → journal.new.count ≡ journal.old.count + n →
         kept_slips journal.new.plan journal.new.count (D.state journal.new.disk)
         ≡ kept_slips journal.old.plan journal.old.count (D.state journal.old.disk)
@@ -133,9 +136,9 @@ fn move_slip<D: Disk>(
     requires plan { journal.old.plan ≡ upgraded target.plan.now }
     ensures ends { MovesOne result target.entry.plan.now number slip.now journal.old journal.new }
     ensures moments { D.is_honest journal.old.disk →
-        Throughout (D.state journal.old.disk) (D.state journal.new.disk)
-        (ReadsAs journal.old.plan (kept_slips journal.old.plan journal.old.count (D.state journal.old.disk))
-        (Some (unwrap_or journal.old.doubtful (moved target.entry.plan.now slip.now)))) }
+        AppendsEach journal.old.plan (kept_slips journal.old.plan journal.old.count (D.state journal.old.disk))
+        journal.new.doubtful (taken result (moved target.entry.plan.now slip.now))
+        (D.state journal.old.disk) (D.state journal.new.disk) }
     ensures kept { D.is_honest journal.old.disk →
         kept_slips journal.new.plan journal.new.count (D.state journal.new.disk)
         ≡ kept_after result (moved target.entry.plan.now slip.now)
@@ -147,13 +150,28 @@ fn move_slip<D: Disk>(
     let _ = journal.disk();
     let result = match run_piece(alloc, target.upgrade, target.rings, slip.piece) {
         Ok(result) => result,
-        Err(_) => return Err(MigrateFault::Memory),
+        Err(TrialFault::Memory) => return Err(MigrateFault::Memory),
+        // A piece of the plan is one of its upgrade, so this doesn't come.
+        Err(TrialFault::BadPiece) => return Err(MigrateFault::BadSlip(number)),
     };
     if !is_true(slip, &result, target) {
         return Err(MigrateFault::Disagrees(number));
     }
-    journal.append(&result)?;
-    Ok(())
+    match journal.append(&result) {
+        Ok(_) => Ok(()),
+        Err(fault) => Err(fault_of(fault)),
+    }
+}
+
+/// The fault of an append, as a migration answers it.
+fn fault_of(fault: JournalFault) -> MigrateFault
+    ensures { result ≡ fault_of fault }
+{
+    match fault {
+        JournalFault::Disk => MigrateFault::Disk,
+        JournalFault::Broken => MigrateFault::Broken,
+        _ => MigrateFault::OtherPlan,
+    }
 }
 
 /// Whether a slip of a plan of version 1 has the sums that its trials give, which are those of the upgrade

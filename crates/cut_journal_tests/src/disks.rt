@@ -1,3 +1,5 @@
+mod raw_files;
+
 use cut_disks::{Disk, DiskCall, DiskFault, FaultyDisk, FileDisk, MemoryDisk, Tear};
 use std::alloc::{AllocError, Global};
 use std::fs;

@@ -237,6 +237,28 @@ const SMALL_2: &str =
 "links":0,"nodes":5,"repeats":2,
 "seed":"0000000000000000000000000000000000000000000000000000000000000000","version":2}"#;
 
+// The small plan where no process fails, and one of 70 trials.
+const NONE_FAIL: &str =
+    r#"{"copies":1,"dead":"silent","f":[0],"faults":"crash","h":[1],"implicit":true,"k":[1],"l":[1],
+"liars":0,"links":0,"nodes":5,"repeats":2,
+"seed":"0000000000000000000000000000000000000000000000000000000000000000","version":1}"#;
+
+const MANY: &str =
+    r#"{"copies":1,"dead":"silent","f":[0],"faults":"crash","h":[1],"implicit":true,"k":[1],"l":[1],
+"liars":0,"links":0,"nodes":5,"repeats":70,
+"seed":"0000000000000000000000000000000000000000000000000000000000000000","version":1}"#;
+
+// Plans of version 2: one where no process fails, and one with three rings whose changes need three alerts.
+const NONE_FAIL_2: &str =
+    r#"{"copies":1,"dead":"silent","deaf":0,"f":[0],"h":[1],"implicit":true,"k":[1],"l":[1],"liars":0,
+"links":0,"nodes":5,"repeats":2,
+"seed":"0000000000000000000000000000000000000000000000000000000000000000","version":2}"#;
+
+const THREE_RINGS_2: &str =
+    r#"{"copies":1,"dead":"silent","deaf":0,"f":[1],"h":[3],"implicit":true,"k":[3],"l":[1],"liars":0,
+"links":0,"nodes":5,"repeats":2,
+"seed":"0000000000000000000000000000000000000000000000000000000000000000","version":2}"#;
+
 // What the slip of the small plan's two trials is told as.
 const WHOLE: &str = "0,2,8,0,0,0,8,2,2";
 
@@ -254,6 +276,11 @@ put 266 37
 
 kept 372
 put 300 01
+reading Damaged 1
+
+kept 372
+put 267 0000000100000000
+put 339 5a36564c776418d370912fe070d91c9576be66d6dc3d9d57f675845aa1019c7d
 reading Damaged 1
 
 kept 372
@@ -319,7 +346,11 @@ fn changed_files_of_a_small_plan(rt: HostRuntime) -> Result<(), Fail> {
 fn check_version_2(rt: &impl Abort, alloc: Global) -> Result<(), Fail> {
     check_changes(rt, alloc, (SMALL_2, "", 259, "kept 259"))?;
     let whole = "kept 372\nreading 0,2,8,0,0,0,8,2,2,8";
-    check_changes(rt, alloc, (SMALL_2, "0,2", 372, whole))
+    check_changes(rt, alloc, (SMALL_2, "0,2", 372, whole))?;
+    let silent = "kept 372\nreading 0,2,10,0,10,0,0,0,0,0";
+    check_changes(rt, alloc, (NONE_FAIL_2, "0,2", 372, silent))?;
+    let settled = "kept 372\nreading 0,2,8,0,0,0,8,2,2,24";
+    check_changes(rt, alloc, (THREE_RINGS_2, "0,2", 372, settled))
 }
 
 #[test]
@@ -346,11 +377,15 @@ fn is_held(alloc: Global, bytes: &[u8], plan: &Plan) -> Result<bool, AllocError>
     })
 }
 
-// Whether bytes are those of a study of another plan than that of the first text.
+// Whether bytes are those of a study of another plan than that of the first text, and than one whose text differs
+// in one byte.
 fn is_other(alloc: Global, bytes: &[u8]) -> Result<bool, Fail> {
     let other = plan_in(alloc, files().split("\n\n").next().unwrap_or(""))?;
-    let is_refused = is_refused(alloc, bytes, &other)?;
-    Ok(is_refused && is_told(alloc, bytes, &other, "OtherPlan")?)
+    let alike = Plan::from_json(alloc, NONE_FAIL.as_bytes())?;
+    let is_refused = is_refused(alloc, bytes, &other)? && is_refused(alloc, bytes, &alike)?;
+    let is_told = is_told(alloc, bytes, &other, "OtherPlan")?
+        && is_told(alloc, bytes, &alike, "OtherPlan")?;
+    Ok(is_refused && is_told)
 }
 
 // Whether an opening for that plan is refused too, and hands the disk back with its bytes.
@@ -381,7 +416,8 @@ fn is_made(alloc: Global, plan: &Plan) -> Result<bool, Fail> {
     let disk = written_disk(alloc, plan, "")?;
     let new = disk.bytes();
     let is_made = is_opened(alloc, &[], plan, (0, new))?;
-    Ok(new.len() == 267 && is_made && is_opened(alloc, new, plan, (0, new))?)
+    let is_there = is_opened(alloc, new, plan, (0, new))? && is_held(alloc, new, plan)?;
+    Ok(new.len() == 267 && is_made && is_there && is_other(alloc, new)?)
 }
 
 // Whether the file of the small plan's slip has its gates, the last of which is closed.
@@ -494,4 +530,28 @@ fn faults_are_printed(rt: HostRuntime) -> Result<(), Fail> {
         (JournalFault::Held, "25 Held"),
     ];
     check_printed(&rt, rt.alloc(), &rows)
+}
+
+// The slips of as many trials where no process fails, one trial each: five receivers, and all are silent.
+fn silent_slips(alloc: Global, count: u32) -> Result<String, AllocError> {
+    let mut text = String::new(alloc);
+    for first in 0..count {
+        text.push_str(format!(in alloc; "{first},1,5,0,5,0,0,0,0 ")?.as_str())?;
+    }
+    Ok(text)
+}
+
+// A file of 65 slips, whose last gate stands at 45 + 222 + 65 * 105, and one of 66.
+fn check_many(rt: &impl Abort, alloc: Global) -> Result<(), Fail> {
+    let slips = silent_slips(alloc, 65)?;
+    let whole = format!(in alloc; "kept 7093\nreading {slips}")?;
+    check_changes(rt, alloc, (MANY, slips.as_str(), 7093, whole.as_str()))?;
+    let slips = silent_slips(alloc, 66)?;
+    let bad = "kept 7198\nput 7100 01\nreading Damaged 66\n\nkept 7093\nreading Damaged 66";
+    check_changes(rt, alloc, (MANY, slips.as_str(), 7198, bad))
+}
+
+#[test]
+fn a_file_of_many_slips(rt: HostRuntime) -> Result<(), Fail> {
+    check_many(&rt, rt.alloc())
 }

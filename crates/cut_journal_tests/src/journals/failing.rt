@@ -9,12 +9,13 @@ use std::alloc::{AllocError, Global};
 use std::process::Abort;
 use std::test::Fail;
 
-// Whether an append answers 20 and the next one 21, where the disk fails, and neither where it doesn't.
-fn append_answers(journal: &mut Journal<FaultyDisk>, offered: &PieceResult, fails: bool) -> bool {
-    journal.disk().arm();
-    let is_refused = matches!(journal.append(offered), Err(JournalFault::Disk));
-    let is_broken = matches!(journal.append(offered), Err(JournalFault::Broken));
-    is_refused == fails && is_broken == fails
+// What two appends of one result answer, where this call of the disk fails: each of them makes four.
+fn answers_of(fail_at: u64) -> [Result<u64, JournalFault>; 2] {
+    match fail_at {
+        1..=4 => [Err(JournalFault::Disk), Err(JournalFault::Broken)],
+        5..=8 => [Ok(1), Err(JournalFault::Disk)],
+        _ => [Ok(1), Ok(2)],
+    }
 }
 
 // How many slips a reopening finds, or else how many calls of the disk have failed.
@@ -25,9 +26,8 @@ pub(super) fn slips_found(alloc: Global, disk: FaultyDisk, plan: &Plan) -> Resul
     }
 }
 
-// Whether an append of which this call of the disk fails answers so, and a reopening finds as many slips. The
-// fifth call comes after the append, so that it doesn't fail.
-fn append_holds(
+// Whether two appends of which this call of the disk fails answer so, and a reopening finds as many slips.
+fn appends_hold(
     alloc: Global,
     plan: &Plan,
     offered: &PieceResult,
@@ -37,12 +37,10 @@ fn append_holds(
     let Ok(mut journal) = Journal::create(alloc, disk, plan) else {
         return Ok(false);
     };
-    let answers = append_answers(&mut journal, offered, fail_at < 5);
-    let found = match slips_found(alloc, journal.into_disk(), plan) {
-        Ok(found) => found == slips || fail_at == 5,
-        Err(failures) => fail_at == 5 && failures == 1,
-    };
-    Ok(answers && found)
+    journal.disk().arm();
+    let answers = [journal.append(offered), journal.append(offered)];
+    let found = slips_found(alloc, journal.into_disk(), plan);
+    Ok(answers == answers_of(fail_at) && found == Ok(slips))
 }
 
 // Asserts that of each row, for the result of two trials.
@@ -56,15 +54,15 @@ fn check_appends(
     for row in rows {
         let (fail_at, tear, _) = *row;
         assert!(rt;
-            append_holds(alloc, plan, &result, *row)?,
+            appends_hold(alloc, plan, &result, *row)?,
             "{fail_at} {tear:?}"
         );
     }
     Ok(())
 }
 
-// Each device call of an append fails in turn: the append answers 20, the next one 21, and after a reopening
-// the slip is there or it isn't.
+// Each device call of two appends fails in turn, and then none: the append answers 20, the next one 21, and after
+// a reopening the slip is there or it isn't.
 #[test]
 fn a_failing_append(rt: HostRuntime) -> Result<(), Fail> {
     let plan = Plan::from_json(rt.alloc(), SMALL.as_bytes())?;
@@ -78,22 +76,29 @@ fn a_failing_append(rt: HostRuntime) -> Result<(), Fail> {
         (3, Tear::Everything, 1),
         (4, Tear::Everything, 1),
         (5, Tear::Everything, 1),
+        (6, Tear::Everything, 1),
+        (7, Tear::Nothing, 1),
+        (7, Tear::Everything, 2),
+        (8, Tear::Nothing, 2),
+        (0, Tear::Nothing, 2),
     ];
     check_appends(&rt, rt.alloc(), &plan, &rows)
 }
 
-// Whether a disk holds no study, so that one can be made, or a study without slips.
-fn is_empty_or_new(alloc: Global, disk: FaultyDisk, plan: &Plan) -> bool {
+// Whether a disk holds a study without slips, as it should, or else none, so that one can be made.
+fn is_left(alloc: Global, disk: FaultyDisk, plan: &Plan, is_study: bool) -> bool {
+    let has_failed_once = disk.failures() == 1;
     match Journal::reopen(alloc, disk, plan) {
-        Ok((_journal, slips)) => slips.is_empty(),
+        Ok((_journal, slips)) => has_failed_once && is_study && slips.is_empty(),
         Err((fault, disk)) => {
             let is_made = Journal::create(alloc, disk, plan).is_ok();
-            matches!(fault, JournalFault::NoStudy) && is_made
+            has_failed_once && !is_study && matches!(fault, JournalFault::NoStudy) && is_made
         }
     }
 }
 
-// Whether a creation of which this call of the disk fails hands back such a disk, or no call failed.
+// Whether a creation of which this call of the disk fails hands back such a disk. It makes eight calls, of which
+// the seventh opens the gate.
 fn creation_holds(
     alloc: Global,
     plan: &Plan,
@@ -102,18 +107,19 @@ fn creation_holds(
 ) -> Result<bool, AllocError> {
     let disk = FaultyDisk::of(alloc, Vec::new(alloc), fail_at, tear)?;
     disk.arm();
+    let is_study = fail_at == 8 || fail_at == 7 && tear == Tear::Everything;
     Ok(match Journal::create(alloc, disk, plan) {
-        Ok(journal) => journal.into_disk().failures() == 0,
+        Ok(journal) => fail_at == 9 && journal.into_disk().failures() == 0,
         Err((fault, disk)) => {
-            let is_left = is_empty_or_new(alloc, disk, plan);
-            matches!(fault, JournalFault::Disk) && is_left
+            let is_left = is_left(alloc, disk, plan, is_study);
+            fail_at < 9 && matches!(fault, JournalFault::Disk) && is_left
         }
     })
 }
 
 // Asserts that of each call.
 fn check_creations(rt: &impl Abort, alloc: Global, plan: &Plan) -> Result<(), Fail> {
-    for fail_at in 1..=8 {
+    for fail_at in 1..=9 {
         assert!(rt;
             creation_holds(alloc, plan, fail_at, Tear::Nothing)?,
             "{fail_at}"
@@ -126,8 +132,8 @@ fn check_creations(rt: &impl Abort, alloc: Global, plan: &Plan) -> Result<(), Fa
     Ok(())
 }
 
-// Each device call of a creation fails in turn: the disk is handed back, and then holds no study, so that a
-// second creation succeeds, or the study without slips.
+// Each device call of a creation fails in turn, and then none: the disk is handed back, and then holds no study, so
+// that a second creation succeeds, or from its gate's write on the study without slips.
 #[test]
 fn a_failing_creation(rt: HostRuntime) -> Result<(), Fail> {
     let plan = Plan::from_json(rt.alloc(), SMALL.as_bytes())?;
@@ -137,8 +143,7 @@ fn a_failing_creation(rt: HostRuntime) -> Result<(), Fail> {
 // Whether one call of a disk has failed, and the study is there again.
 fn is_there_again(alloc: Global, disk: FaultyDisk, plan: &Plan) -> bool {
     let has_failed_once = disk.failures() == 1;
-    let is_there = Journal::reopen(alloc, disk, plan).is_ok();
-    has_failed_once && is_there
+    has_failed_once && slips_found(alloc, disk, plan) == Ok(1)
 }
 
 // Whether a reopening hands such a disk back where this call fails, or finds the slip where it is the twelfth.

@@ -1,10 +1,11 @@
-use Rattle.std.proofs.Common.{◌+◌, ◌∙◌, ℕ, Some, length, take, ap, arith}
+use Rattle.std.proofs.Common.{◌+◌, ◌∙◌, ℕ, List, Some, length, take, ap, arith}
 use Rattle.std.specs.Result.{is_ok}
-use Rattle.cut_disks.specs.State.{DiskState}
+use Rattle.cut_disks.specs.State.{DiskState, overwritten}
 use Rattle.cut_disks.specs.declared.disk.DiskFault.{DiskFault}
 use Rattle.cut_journal.specs.Journal.{kept_slips, ReadsAs}
 use Rattle.cut_journal.proofs.Moments.{and_then, on_ok}
 use Rattle.cut_journal.proofs.Appends.{Second, first_at, second_at, gate_before, over_long}
+use Rattle.cut_journal.proofs.Files.{extended_at}
 use Rattle.cut_journal.proofs.append.keep.Goals as goal
 use Rattle.cut_journal.proofs.append.keep.Given as given
 
@@ -52,3 +53,13 @@ returns-clause-left g c = λ honest. (second g c honest).through.left
 
 pub returns-clause-kept : goal.returns-clause-kept
 returns-clause-kept g c = λ honest. on_ok c.write_through-2.result _ (second g c honest).kept
+
+pub returns-clause-file : goal.returns-clause-file
+returns-clause-file g c = λ honest. on_ok c.write_through-2.result _ (λ ok.
+    extended_at c.args.study.now c.args.gate.number c.args.gate.place c.args.slip (g.D.Disk.state c.args.disk.now).bytes
+    (g.D.Disk.state c.write_through.new.disk).bytes (g.D.Disk.state c.write_through-2.new.disk).bytes c.requires.place
+    ((first_at c.write_through.result c.args.study.now c.args.gate.number c.args.gate.place c.args.slip (take c.slip_length.result c.slip_bytes-bytes.result) (g.D.Disk.state c.args.disk.now) (g.D.Disk.state c.write_through.new.disk)
+    c.requires.place c.writes_stay_in_their_span.ensures (c.requires.sound honest) (c.write_through.ensures.state honest)).bytes (ap is_ok c.in_ok-write_through.was)
+    ∙ ap (λ (l : List ℕ). overwritten (g.D.Disk.state c.args.disk.now).bytes (c.args.gate.place + 1) l)
+    (ap (λ (k : ℕ). take k c.slip_bytes-bytes.result) c.slip_length.ensures.value ∙ c.slip_bytes-bytes.ensures.bytes))
+    ((second g c honest).through.bytes ok))

@@ -7,8 +7,8 @@ use Rattle.cut_trial.specs.Sum.{each_number}
 use Rattle.cut_ledger.specs.declared.slip.Slip.{Slip}
 use Rattle.cut_journal.specs.declared.migrate_fault.MigrateFault.{MigrateFault}
 use Rattle.cut_journal.specs.Journal.{kept_slips}
-use Rattle.cut_journal.specs.Migration.{Ends, MovesOne, first_moved, moved}
-use Rattle.cut_journal.proofs.Migrations.{nothing_moved, none_moved, moved_more, first_more, stopped, moments_more}
+use Rattle.cut_journal.specs.Migration.{AppendsEach, Ends, MovesOne, first_moved, moved}
+use Rattle.cut_journal.proofs.Migrations.{nothing_appended, none_moved, moved_more, first_more, stopped, moments_more, moments_stop}
 use Rattle.cut_journal.proofs.migration.move_slips.Goals as goal
 
 -- what is read of a list where nothing is
@@ -23,8 +23,7 @@ loop-slip-init g c =
       moved = none_moved c.args.target.plan.now c.args.slips.now log;
       doubtful = refl;
       kept = λ honest. sym (append-nil (kept_slips log.plan log.count (g.D.Disk.state log.disk)));
-      moments = λ honest. nothing_moved c.args.target.plan.now c.args.slips.now log.plan log.count log.doubtful
-          (g.D.Disk.state log.disk) (c.disk.ensures.sound honest);
+      moments = λ honest. nothing_appended log.plan log.count log.doubtful (g.D.Disk.state log.disk) (c.disk.ensures.sound honest);
       honest = (λ h. h, λ h. h);
       faults = refl;
     }
@@ -46,17 +45,21 @@ returns-in_err-move_slip-clause-ends g c =
     (slice_get-get_or ss n no_slip c.loop-slip-test.true) held.moved held.doubtful one)
 
 pub returns-in_err-move_slip-clause-moments : goal.returns-in_err-move_slip-clause-moments
-returns-in_err-move_slip-clause-moments g c = λ honest.
+returns-in_err-move_slip-clause-moments g c = λ honest m is.
     let held = c.loop-slip.invariant in
+    let v : Values = c.args.target.plan.now in
+    let ss : List Slip = c.args.slips.now in
+    let n : ℕ = c.loop-slip.slip-index in
     let log = c.args.journal.now in
     let mid = c.loop-slip.journal in
-    moments_more c.args.target.plan.now c.args.slips.now log.plan mid.plan
+    let one : MovesOne {T = ⊤} (Err c.in_err-move_slip.field-0.0) v (c.loop-slip.count + 1) (get_or ss n no_slip)
+    mid c.move_slip.new.journal = c.in_err-move_slip.ensures.ends in
+    moments_stop c.in_err-move_slip.field-0.0 v ss log.plan
     (kept_slips log.plan log.count (g.D.Disk.state log.disk)) (kept_slips mid.plan mid.count (g.D.Disk.state mid.disk))
-    log.doubtful mid.doubtful c.loop-slip.slip-index (get_or c.args.slips.now c.loop-slip.slip-index no_slip)
+    n m (c.loop-slip.count + 1) (get_or ss n no_slip) log mid c.move_slip.new.journal
     (g.D.Disk.state log.disk) (g.D.Disk.state mid.disk) (g.D.Disk.state c.move_slip.new.journal.disk)
-    (slice_get-get_or c.args.slips.now c.loop-slip.slip-index no_slip c.loop-slip-test.true)
-    held.moved.taken held.moved.plan held.doubtful (held.kept honest) (held.moments honest)
-    (c.move_slip.ensures.moments (held.honest.0 honest))
+    one held.moved refl is (held.kept honest) (held.moments honest)
+    (c.in_err-move_slip.ensures.moments (held.honest.0 honest))
 
 pub loop-slip-preserved : goal.loop-slip-preserved
 loop-slip-preserved g c =
@@ -77,12 +80,15 @@ loop-slip-preserved g c =
           ∙ ap (λ (l : List Slip). l ++ moved v s ∷ []) (held.kept honest)
           ∙ append_assoc (kept_slips log.plan log.count (g.D.Disk.state log.disk)) (first_moved v ss n) (moved v s ∷ [])
           ∙ ap (λ (l : List Slip). kept_slips log.plan log.count (g.D.Disk.state log.disk) ++ l) (sym (first_more v ss n s at));
-      moments = λ honest. moments_more v ss log.plan mid.plan
+      moments = λ honest. subst (λ (l : List Slip). AppendsEach log.plan (kept_slips log.plan log.count (g.D.Disk.state log.disk))
+          c.move_slip.new.journal.doubtful l (g.D.Disk.state log.disk) (g.D.Disk.state c.move_slip.new.journal.disk))
+          (sym (first_more v ss n s at))
+          (moments_more {T = ⊤} (Ok tt) v ss log.plan
           (kept_slips log.plan log.count (g.D.Disk.state log.disk)) (kept_slips mid.plan mid.count (g.D.Disk.state mid.disk))
-          log.doubtful mid.doubtful n s
+          n (c.loop-slip.count + 1) s mid c.move_slip.new.journal
           (g.D.Disk.state log.disk) (g.D.Disk.state mid.disk) (g.D.Disk.state c.move_slip.new.journal.disk)
-          at held.moved.taken held.moved.plan held.doubtful (held.kept honest) (held.moments honest)
-          (c.move_slip.ensures.moments (held.honest.0 honest));
+          one held.moved.plan (held.kept honest) (held.moments honest)
+          (c.in_ok-move_slip.ensures.moments (held.honest.0 honest)));
       honest = (λ h. c.move_slip.ensures.honest.0 (held.honest.0 h), λ h. held.honest.1 (c.move_slip.ensures.honest.1 h));
       faults = c.in_ok-move_slip.ensures.faults ∙ held.faults;
     }

@@ -1,8 +1,7 @@
 use Rattle.std.proofs.Common.{◌≡◌, ◌++◌}
 use Rattle.std.specs.Prelude.{◌↔◌}
-use Rattle.cut_disks.specs.State.{Throughout}
 use Rattle.cut_journal.specs.Journal.{kept_slips}
-use Rattle.cut_journal.specs.Migration.{HasMoved, IsPartMoved, first_moved}
+use Rattle.cut_journal.specs.Migration.{AppendsEach, HasMoved, first_moved}
 use Rattle.cut_journal.proofs.migration.move_slips.Given as goal
 
 -- so many slips were moved as were looked at
@@ -16,9 +15,10 @@ invariant-loop-slip g l = record {
       ≡ kept_slips l.fn.journal.plan l.fn.journal.count (g.D.Disk.state l.fn.journal.disk)
       ++ first_moved l.fn.target.plan.now l.slips l.slip-index;
   moments : g.D.Disk.is_honest l.fn.journal.disk →
-      Throughout (g.D.Disk.state l.fn.journal.disk) (g.D.Disk.state l.journal.disk)
-      (IsPartMoved l.fn.target.plan.now l.slips l.fn.journal.plan
-      (kept_slips l.fn.journal.plan l.fn.journal.count (g.D.Disk.state l.fn.journal.disk)) l.fn.journal.doubtful);
+      AppendsEach l.fn.journal.plan
+      (kept_slips l.fn.journal.plan l.fn.journal.count (g.D.Disk.state l.fn.journal.disk)) l.journal.doubtful
+      (first_moved l.fn.target.plan.now l.slips l.slip-index)
+      (g.D.Disk.state l.fn.journal.disk) (g.D.Disk.state l.journal.disk);
   honest : g.D.Disk.is_honest l.fn.journal.disk ↔ g.D.Disk.is_honest l.journal.disk;
   faults : g.D.Disk.faults l.journal.disk ≡ g.D.Disk.faults l.fn.journal.disk;
 }
