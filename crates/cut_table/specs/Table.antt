@@ -1,5 +1,5 @@
 -- What is written of a table, from a ledger.
-use Rattle.std.specs.Prelude.{◌≡◌, ◌<◌, ◌≤◌, ℕ, true, false, List, length, take, Result, Ok, Err, ⊤}
+use Rattle.std.specs.Prelude.{◌≡◌, ◌<◌, ℕ, true, false, List, length, take, Result, Ok, Err, ⊤}
 use Rattle.cut_plan.specs.Cells.{cells_of}
 use Rattle.cut_lines.specs.Lines.{line_with}
 use Rattle.cut_ledger.specs.Contents.{Contents, cell_done, cell_sum}
@@ -35,7 +35,7 @@ abbrev pub IsEnded : Contents → Result ⊤ TableFault → Type 0
 IsEnded l (Ok done) = AreDone l
 IsEnded l (Err (NotDone c)) = IsFirstUndone l c
 IsEnded l (Err (Write sent)) = sent < length (available l)
-IsEnded l (Err (Memory sent)) = sent ≤ length (available l)
+IsEnded l (Err (Memory sent)) = sent < length (available l)
 
 -- what a wire took: the header and the lines of the done cells in front, or exactly as many of the first
 -- bytes of them as are told

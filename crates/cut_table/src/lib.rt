@@ -12,6 +12,7 @@ mod send;
 mod table;
 mod wire;
 
+pub use cut_lines::header;
 pub use fault::{RowFault, TableFault};
 pub use faulty_wire::FaultyWire;
 pub use memory_wire::MemoryWire;

@@ -24,8 +24,8 @@ pub fn row(alloc: Global, ledger: &Ledger, cell: u32) -> Result<Vec<u8>, RowFaul
     Ok(line)
 }
 
-/// Writes the header, and the lines of the cells in order, up to the first cell that is not done. A fault
-/// tells no more bytes sent than there are, and fewer where a write failed.
+/// Writes the header, and the lines of the cells in order, up to the first cell that is not done. Where a write
+/// failed, or memory ran out, fewer bytes were sent than there are.
 pub fn emit_table<W: Wire>(alloc: Global, ledger: &Ledger, wire: &mut W) -> Result<(), TableFault>
     ensures told { W.tells wire.old →
         Emits ledger.now.contents result (W.traffic wire.old) (W.traffic wire.new) }

@@ -1,12 +1,15 @@
-use Rattle.std.proofs.Common.{◌≡◌, ◌∙◌, ◌<◌, ◌+◌, ◌++◌, [], inl, inr, ℕ, List, Result, true, false, length}
-use Rattle.std.proofs.Common.{sym, ap, subst, arith, length-append}
+use Rattle.std.proofs.Common.{◌≡◌, ◌∙◌, ◌<◌, ◌+◌, ◌++◌, ◌∷◌, [], map, inl, inr, ℕ, List, Result, true, false, length}
+use Rattle.std.proofs.Common.{refl, sym, ap, subst, arith, length-append}
 use Rattle.std.specs.Bool.{⊤}
 use Rattle.std.proofs.lemmas.Bool.{cases_lt}
 use Rattle.std.proofs.lemmas.Result.{err_from_is_err_and}
 use Rattle.cut_plan.specs.Values.{Values}
 use Rattle.cut_plan.specs.Cells.{cells_of}
 use Rattle.cut_plan.specs.Versions.{version_of}
-use Rattle.cut_lines.specs.Lines.{header}
+use Rattle.std.specs.Fmt.{decimal}
+use Rattle.std.specs.List.{join_with_byte}
+use Rattle.cut_lines.specs.Lines.{cell_numbered, columns, header}
+use Rattle.cut_ledger.specs.Contents.{cell_sum}
 use Rattle.cut_ledger.specs.Contents.{Contents, cell_done}
 use Rattle.cut_ledger.specs.Machine.{available}
 use Rattle.cut_table.specs.declared.fault.TableFault.{TableFault}
@@ -85,6 +88,20 @@ returns-in-Err-Memory-clause-told g c =
     (sym (take_front (available l) (front_of l n)
     (behind l n) c.loop-cell.sent whole c.loop-cell.invariant.count))
 
+-- the line of a done cell stands behind those before it
+done_line_next : (l : Contents) (n : ℕ) (text : List ℕ) → n < length (cells_of l.plan)
+    → ((k : ℕ) → k < n → cell_done l k ≡ true) → cell_done l n ≡ true → text ≡ row_of l n
+    → available l ≡ (front_of l n ++ text) ++ behind l (n + 1)
+done_line_next l n text low before here is =
+    line_next (header (version_of l.plan.failing)) (row_of l) n (available l) text (behind l (n + 1))
+    (available_splits l (n + 1) (omega (arith, low)) (one_more_done l n before here)) is
+
+-- a line has its line feed
+some_line : (l : Contents) (n : ℕ) → 0 < length (row_of l n)
+some_line l n =
+    let feed : List ℕ = 10 ∷ [] in
+    omega (arith, length-append (join_with_byte 44 (map decimal (columns l.plan (cell_numbered l.plan n) (cell_sum l n)))) feed)
+
 pub returns-in-Err-Memory-clause-ended : goal.returns-in-Err-Memory-clause-ended
 returns-in-Err-Memory-clause-ended g c =
     let l : Contents = c.args.ledger.now.contents in
@@ -96,21 +113,16 @@ returns-in-Err-Memory-clause-ended g c =
       c.cells-cell-end.ensures.value,
       ap (λ (v : Values). length (cells_of v)) c.plan-2.ensures.value,
     ) in
-    let whole = available_splits l n (omega (arith, low)) c.loop-cell.invariant.done in
+    let done : cell_done l n ≡ true = rw c.in-Err-Memory.field-0-is at c.in-Err-Memory.ensures.err in
+    let whole = done_line_next l n (row_of l n) low c.loop-cell.invariant.done done refl in
     omega (
       arith,
       c.loop-cell.invariant.count,
+      some_line l n,
       ap (λ xs. length xs) whole,
-      length-append (front_of l n) (behind l n),
+      length-append (front_of l n ++ row_of l n) (behind l (n + 1)),
+      length-append (front_of l n) (row_of l n),
     )
-
--- the line of a done cell stands behind those before it
-done_line_next : (l : Contents) (n : ℕ) (text : List ℕ) → n < length (cells_of l.plan)
-    → ((k : ℕ) → k < n → cell_done l k ≡ true) → cell_done l n ≡ true → text ≡ row_of l n
-    → available l ≡ (front_of l n ++ text) ++ behind l (n + 1)
-done_line_next l n text low before here is =
-    line_next (header (version_of l.plan.failing)) (row_of l) n (available l) text (behind l (n + 1))
-    (available_splits l (n + 1) (omega (arith, low)) (one_more_done l n before here)) is
 
 pub returns-in_err-sent-2-clause-told : goal.returns-in_err-sent-2-clause-told
 returns-in_err-sent-2-clause-told g c =
