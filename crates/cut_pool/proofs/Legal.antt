@@ -1,5 +1,5 @@
 -- A history with one call more.
-use Rattle.std.proofs.Common.{◌≡◌, ◌∙◌, ◌++◌, ◌+◌, ◌≤◌, ℕ, Bool, true, false, not, cond, List, [], ◌∷◌, length, All, IsTrue, Option, Some, None, IfSome, is_some, count_by, refl, sym, ap, subst, arith, append_assoc, append-nil}
+use Rattle.std.proofs.Common.{◌≡◌, ◌∙◌, ◌++◌, ◌≤◌, ℕ, Bool, true, false, not, cond, List, [], ◌∷◌, length, All, IsTrue, Option, Some, None, IfSome, is_some, count_by, refl, sym, ap, subst, arith, append_assoc, append-nil}
 use Rattle.std.proofs.lemmas.Grind.{flat_map-append}
 use Rattle.cut_trial.specs.declared.piece.Piece.{Piece}
 use Rattle.cut_trial.specs.Sum.{is_piece}
@@ -138,10 +138,10 @@ module _ {D : Type 0} (honest : D → Type 0) (on : D → DiskState) (faults : D
   -- a book after a call that leaves the state, for which room was made
   pub said : (journal : Option (Log D)) (l : Contents) (division : List Piece) (lost : List Bool) (broken : Bool) (call : Call) (old mid new : Course) (places failed : ℕ)
       → IsBook honest on faults journal (state_in l journal division lost old broken) old places failed
-      → mid.opening ≡ old.opening → mid.calls ≡ old.calls → new.opening ≡ mid.opening → new.calls ≡ mid.calls ++ call ∷ [] → places + 1 ≤ mid.room → mid.room ≤ new.room + 1
+      → mid.opening ≡ old.opening → mid.calls ≡ old.calls → new.opening ≡ mid.opening → new.calls ≡ mid.calls ++ call ∷ [] → mid.room ≡ old.room → new.room ≡ mid.room
       → IsStep (state_in l journal division lost old broken) call (state_in l journal division lost old broken) → accepted_slip call ≡ []
       → IsBook honest on faults journal (state_in l journal division lost new broken) new places failed
-  said journal l division lost broken call old mid new places failed book opening calls opens adds some less step none =
+  said journal l division lost broken call old mid new places failed book opening calls opens adds kept left step none =
       let is : Noted call old new = noted call old mid new opening calls opens adds in
       stepped_same journal (state_in l journal division lost old broken) (state_in l journal division lost new broken) call old new places failed book is step
-      (state_same l journal division lost broken call old new is none) (omega (arith, some, less))
+      (state_same l journal division lost broken call old new is none) (omega (arith, kept, left, book.room))

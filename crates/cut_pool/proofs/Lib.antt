@@ -11,3 +11,4 @@ pub mod Conclusions
 pub mod Apart
 pub mod Audits
 pub mod Crossing
+pub mod Merged

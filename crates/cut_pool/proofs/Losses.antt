@@ -1,9 +1,11 @@
 -- Which pieces are lost, and how many are not.
-use Rattle.std.proofs.Common.{◌≡◌, ◌∙◌, ◌+◌, ◌<◌, ℕ, Bool, true, false, not, cond, List, [], ◌∷◌, length, map, set, get_or, count_by, refl, ap, arith}
+use Rattle.std.proofs.Common.{◌≡◌, ◌∙◌, ◌+◌, ◌<◌, ℕ, inl, inr, Bool, true, false, not, cond, List, [], ◌∷◌, length, map, set, get_or, count_by, refl, sym, ap, arith}
 use Rattle.std.specs.Prelude.{nat_lt}
 use Rattle.std.specs.List.{list_any}
 use Rattle.std.proofs.lemmas.List.Sums.{sum_by-cons, sum_by-set, count_by-le-length}
+use Rattle.std.proofs.lemmas.Bool.{cases_lt}
 use Rattle.std.proofs.lemmas.Bool.Decides.{nat_tests}
+use Rattle.std.proofs.lemmas.List.{get_or_past}
 
 -- one more is lost
 pub one_lost : (xs : List Bool) (i : ℕ) → i < length xs → get_or xs i true ≡ false → count_by not (set xs i true) + 1 ≡ count_by not xs
@@ -27,3 +29,10 @@ some_lost (false ∷ xs) =
 pub none_lost : {X : Type 0} (xs : List X) → count_by not (map (λ x. false) xs) ≡ length xs
 none_lost [] = refl
 none_lost (x ∷ xs) = let rest = none_lost xs in let one = sum_by-cons (λ (b : Bool). cond (not b) 1 0) false (map (λ x. false) xs) in omega (arith, rest, one)
+
+-- one is not, where it is found so
+pub held_within : (xs : List Bool) (i : ℕ) → get_or xs i true ≡ false → i < length xs
+held_within xs i e = elim (cases_lt i (length xs)) [
+  | inl low ↦ low
+  | inr high ↦ absurd (let no : true ≡ false = sym (get_or_past xs i true high) ∙ e in let n : ⊥ = cc in n)
+]

@@ -4,7 +4,7 @@ use Rattle.std.specs.Prelude.{option_map, ⊤}
 use Rattle.cut_faults.specs.declared.code.FaultCode.{FaultCode}
 use Rattle.cut_faults.specs.declared.code.FaultCode.TheVariants as code
 use Rattle.cut_trial.specs.Computed.{Computed}
-use Rattle.cut_ledger.specs.declared.fault.LedgerFault.TheVariants as ledger
+use Rattle.cut_ledger.specs.declared.offer_fault.OfferFault.TheVariants as ledger
 use Rattle.cut_ledger.specs.Contents.{Contents, overlaps}
 use Rattle.cut_ledger.specs.FaultCode.{code_of}
 use Rattle.cut_ledger.specs.Machine.{State, after, refused_code, unless_refused, accepted_unless, taken}

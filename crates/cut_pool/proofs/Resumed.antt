@@ -6,7 +6,7 @@ use Rattle.cut_plan.specs.Values.{Values}
 use Rattle.cut_trial.specs.Computed.{Computed}
 use Rattle.cut_disks.specs.State.{DiskState, IsImage, Throughout}
 use Rattle.cut_ledger.specs.declared.slip.Slip.{Slip}
-use Rattle.cut_ledger.specs.declared.fault.LedgerFault.{LedgerFault}
+use Rattle.cut_ledger.specs.declared.offer_fault.OfferFault.{OfferFault}
 use Rattle.cut_ledger.specs.declared.event.Event.TheVariants.{HandInDiskFails}
 use Rattle.cut_ledger.specs.FaultCode.{code_of}
 use Rattle.cut_ledger.specs.Machine.{State, after, slip_of, unless_refused, failed}
@@ -26,11 +26,11 @@ more_doubt v ks None slip bytes (inr (other, both)) = absurd (cc (both.0))
 more_doubt v ks (Some old) slip bytes (inr (other, both)) = inr (other, both)
 
 -- a result that the ledger refuses changes nothing
-stays : (broken : Bool) (fault : LedgerFault) (s t : State) → unless_refused (cond broken (Some code.Checkpoint) (option_map code_of (Some fault))) s t ≡ s
+stays : (broken : Bool) (fault : OfferFault) (s t : State) → unless_refused (cond broken (Some code.Checkpoint) (option_map code_of (Some fault))) s t ≡ s
 stays true fault s t = refl
 stays false fault s t = refl
 
-resumable_by : (v : Values) (count : ℕ) (doubtful : Option Slip) (d : DiskState) (s : State) (r : Computed) (o : Option LedgerFault) → refusal_of s.ledger r ≡ o → CrashesBetweenCalls → CrashesInAppends
+resumable_by : (v : Values) (count : ℕ) (doubtful : Option Slip) (d : DiskState) (s : State) (r : Computed) (o : Option OfferFault) → refusal_of s.ledger r ≡ o → CrashesBetweenCalls → CrashesInAppends
     → IsSound v count doubtful d → IsJournalOf v count doubtful d s → Throughout d d (IsResumed v (after s (HandInDiskFails r)))
 resumable_by v count doubtful d s r None fine between within sound of =
     within v count doubtful d d s r of fine
@@ -38,7 +38,7 @@ resumable_by v count doubtful d s r None fine between within sound of =
     (λ image is. more_doubt v (kept_slips v count d) doubtful (slip_of r) image (sound.images image is)))
 resumable_by v count doubtful d s r (Some fault) refused between within sound of =
     let same : after s (HandInDiskFails r) ≡ s =
-    ap (λ (o : Option LedgerFault). unless_refused (cond s.broken (Some code.Checkpoint) (option_map code_of o)) s (failed s r)) refused ∙ stays s.broken fault s (failed s r) in
+    ap (λ (o : Option OfferFault). unless_refused (cond s.broken (Some code.Checkpoint) (option_map code_of o)) s (failed s r)) refused ∙ stays s.broken fault s (failed s r) in
     subst (λ (t : State). Throughout d d (IsResumed v t)) (sym same) (at_rest d (IsResumed v s) (between v count doubtful d s sound of))
 
 -- a journal that is as it was leaves a run that is resumed, also after a result's append failed

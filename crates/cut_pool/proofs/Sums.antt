@@ -1,10 +1,11 @@
 -- The trials of the accepted results are no more than the plan has.
-use Rattle.std.proofs.Common.{◌≡◌, ◌∙◌, ◌+◌, ◌*◌, ◌<◌, ◌≤◌, ◌||◌, ◌∷◌, [], ℕ, zero, suc, Bool, true, false, List, Option, Some, None, IsTrue, cond, length, count_by, take, get_or, refl, sym, ap, subst, arith}
+use Rattle.std.proofs.Common.{◌≡◌, ◌∙◌, ◌+◌, ◌++◌, ◌*◌, ◌<◌, ◌≤◌, ◌||◌, ◌∷◌, [], ℕ, zero, suc, Bool, true, false, List, Option, Some, None, IsTrue, cond, length, count_by, take, get_or, refl, sym, ap, subst, arith}
 use Rattle.std.specs.Prelude.{option_map}
 use Rattle.std.specs.List.{range_with_len, sum_by}
 use Rattle.std.proofs.Math.Bool.{or-false}
 use Rattle.std.proofs.lemmas.Bool.{and_parts, leb-true, ltb-true, or_right, false_from_ne_true}
 use Rattle.std.proofs.lemmas.Bool.Decides.{nat_tests}
+use Rattle.std.proofs.lemmas.Grind.{take_at_read}
 use Rattle.std.proofs.lemmas.List.FromFn.{get_or-map-range_with_len, length-range_with_len}
 use Rattle.std.proofs.lemmas.List.Sums.{sum_by-append, count_by-le-length}
 use Rattle.std.proofs.Math.Nat.{mul-le-mul}
@@ -19,7 +20,7 @@ use Rattle.cut_trial.specs.declared.piece.Piece.{Piece}
 use Rattle.cut_trial.specs.Computed.{Computed}
 use Rattle.cut_trial.specs.Sum.{is_piece}
 use Rattle.cut_ledger.specs.declared.slip.Slip.{Slip}
-use Rattle.cut_ledger.specs.declared.fault.LedgerFault.TheVariants as ledger
+use Rattle.cut_ledger.specs.declared.offer_fault.OfferFault.TheVariants as ledger
 use Rattle.cut_ledger.specs.declared.event.Reply.TheVariants as reply
 use Rattle.cut_ledger.specs.Contents.{Contents, has, is_in, overlaps, with_piece}
 use Rattle.cut_ledger.specs.FaultCode.{code_of}
@@ -130,3 +131,11 @@ pub next_fits : (calls : List Call) (i : ℕ) (d : Call) → i < length calls �
 next_fits [] i d low = absurd (omega arith)
 next_fits (call ∷ calls) zero d low = omega (arith, first_in call calls, first_in call [])
 next_fits (call ∷ calls) (suc i) d low = omega (arith, next_fits calls i d (omega arith), first_in call calls, first_in call (take i calls))
+
+-- and with the next they are those of one call more
+pub next_adds : (calls : List Call) (i : ℕ) (d : Call) → i < length calls → accepted_in (take (i + 1) calls) ≡ accepted_in (take i calls) + accepted_in (get_or calls i d ∷ [])
+next_adds calls i d low = ap accepted_in (take_at_read calls i d low).1 ∙ at_end (take i calls) (get_or calls i d)
+  where
+    at_end : (olds : List Call) (call : Call) → accepted_in (olds ++ call ∷ []) ≡ accepted_in olds + accepted_in (call ∷ [])
+    at_end [] call = omega arith
+    at_end (old ∷ olds) call = omega (arith, first_in old (olds ++ call ∷ []), at_end olds call, first_in old olds)

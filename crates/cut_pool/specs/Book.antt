@@ -7,8 +7,8 @@ use Rattle.cut_trial.specs.Computed.{Computed}
 use Rattle.cut_trial.specs.declared.piece.Piece.{Piece}
 use Rattle.cut_trial.specs.Sum.{is_piece}
 use Rattle.cut_ledger.specs.declared.slip.Slip.{Slip}
-use Rattle.cut_ledger.specs.declared.fault.LedgerFault.{LedgerFault}
-use Rattle.cut_ledger.specs.declared.fault.LedgerFault.TheVariants as ledger
+use Rattle.cut_ledger.specs.declared.offer_fault.OfferFault.{OfferFault}
+use Rattle.cut_ledger.specs.declared.offer_fault.OfferFault.TheVariants as ledger
 use Rattle.cut_ledger.specs.Contents.{Contents, cell_done}
 use Rattle.cut_ledger.specs.Machine.{State, after, slip_of}
 use Rattle.cut_ledger.specs.Refusals.{is_same_plan, refusal_of}
@@ -156,7 +156,7 @@ AsksRow (Err other) cell old new = ⊥
 -- ---- inside
 
 -- the answer that a refusal of the ledger is
-abbrev pub answer_to : LedgerFault → Answer
+abbrev pub answer_to : OfferFault → Answer
 answer_to ledger.Stranger = Stranger
 answer_to fault = Overlap
 

@@ -6,15 +6,17 @@ use Rattle.cut_board.specs.Views.{counted_by}
 use Rattle.cut_pool.specs.declared.not_closed.NotClosed.{NotClosed}
 use Rattle.cut_pool.specs.declared.not_closed.NotClosed.TheVariants.{Memory, AuditMismatch, SeatMissing}
 use Rattle.cut_pool.specs.Pass.{Holding}
-use Rattle.cut_pool.specs.Report.{made_in_all, counted_in_all}
+use Rattle.cut_pool.specs.Report.{AcceptedOther, calls_in_all, made_in_all, counted_in_all}
 
 -- why a hall of so many slots and passes was not closed, to which these were brought: some are missing, and
 -- what was brought comes back; or of the study of one of its slots the passes counted another number than its
--- history accepted; or memory is wanting
+-- history accepted, by the report of all slots, whose calls are as many as the passes made; or memory ran out
 abbrev pub IsNotClosed : {T : Type 0} → (T → Type 0) → ℕ → ℕ → List Holding → NotClosed T → Type 0
 IsNotClosed comes_back slots all passes Memory = all ≤ length passes
 IsNotClosed comes_back slots all passes (AuditMismatch m) =
-    (all ≤ length passes) × (m.study < slots) × (m.counted ≡ counted_in_all m.study passes)
+    (all ≤ length passes) × (length m.report ≡ slots) × (m.study < slots)
+    × (m.counted ≡ counted_in_all m.study passes) × AcceptedOther m.report m.study m.counted
+    × (calls_in_all m.report ≡ made_in_all passes)
 IsNotClosed comes_back slots all passes (SeatMissing brought) = (length passes < all) × comes_back brought
 
 -- ---- inside

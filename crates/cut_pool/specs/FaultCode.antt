@@ -4,8 +4,8 @@ use Rattle.std.specs.Fmt.{decimal}
 use Rattle.cut_faults.specs.declared.code.FaultCode.{FaultCode}
 use Rattle.cut_faults.specs.declared.code.FaultCode.TheVariants as code
 use Rattle.cut_faults.specs.Codes.{code_text, text_carrying}
-use Rattle.cut_ledger.specs.declared.fault.LedgerFault.{LedgerFault}
-use Rattle.cut_ledger.specs.declared.fault.LedgerFault.TheVariants as ledger
+use Rattle.cut_ledger.specs.declared.slips_fault.SlipsFault.{SlipsFault}
+use Rattle.cut_ledger.specs.declared.slips_fault.SlipsFault.TheVariants as slips
 use Rattle.cut_table.specs.declared.fault.RowFault.{RowFault}
 use Rattle.cut_table.specs.declared.fault.RowFault.TheVariants as row
 use Rattle.cut_pool.specs.declared.fault.BookFault.{BookFault}
@@ -26,12 +26,10 @@ fault_text (BadSlip number) = text_carrying code.BadSlip (decimal number)
 fault_text (NotDone cell) = text_carrying code.NotDone (decimal cell)
 fault_text fault = code_text (code_of fault)
 
--- the fault of a ledger as one of its book
-abbrev pub of_ledger : LedgerFault → BookFault
-of_ledger ledger.Memory = Memory
-of_ledger ledger.Stranger = Stranger
-of_ledger ledger.Overlap = Overlap
-of_ledger (ledger.BadSlip number) = BadSlip number
+-- why a ledger was not made of slips, as a fault of its book
+abbrev pub of_slips : SlipsFault → BookFault
+of_slips slips.Memory = Memory
+of_slips (slips.BadSlip number) = BadSlip number
 
 -- the fault of a row as one of its book
 abbrev pub of_row : RowFault → BookFault

@@ -31,12 +31,13 @@ pub record Opening : Type 0 where
 abbrev pub opened_by : Opening → State
 opened_by o = opened o.plan o.has_journal o.base o.size
 
--- a history as contracts see it: the opening, the calls in order, and how many more calls fit in the memory
--- that there is
+-- a history as contracts see it: the opening, the calls in order, how many more losses fit in the memory that
+-- there is, and whether one more call of another kind does
 pub record Course : Type 0 where
   pub opening : Opening
   pub calls : List Call
   pub room : ℕ
+  pub has_place : Bool
 
 -- ---- answers to results
 

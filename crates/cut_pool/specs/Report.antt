@@ -1,5 +1,5 @@
 -- What a hall tells at its end.
-use Rattle.std.specs.Prelude.{◌≡◌, ℕ, Bool, false, List, length, map, sum_by, Option, Some, None, slice_get}
+use Rattle.std.specs.Prelude.{◌≡◌, ◌≢◌, ℕ, Bool, false, List, length, map, sum_by, Option, Some, None, slice_get}
 use Rattle.cut_board.specs.Views.{counted_by}
 use Rattle.cut_ledger.specs.Contents.{is_complete}
 use Rattle.cut_ledger.specs.Machine.{State}
@@ -40,6 +40,11 @@ made_in_all passes = sum_by (λ p. p.made) passes
 -- what the passes counted of a study on the board
 abbrev pub counted_in_all : ℕ → List Holding → ℕ
 counted_in_all study passes = counted_by study (map (λ p. p.view) passes)
+
+-- the study of a slot accepted another number of trials than this
+abbrev pub AcceptedOther : List SlotEnd → ℕ → ℕ → Type 0
+AcceptedOther slots study counted =
+    (s : SlotEnd) → slice_get slots study ≡ Some s → counted ≢ accepted_told s.history
 
 -- of every slot, what the passes counted is what its study accepted
 abbrev pub IsAudited : List SlotEnd → List Holding → Type 0

@@ -1,11 +1,15 @@
 -- The faults of a study that is run in the program's list of faults, and as they are printed.
-use Rattle.std.specs.Prelude.{ℕ, List}
+use Rattle.std.specs.Prelude.{ℕ, List, Bool, true, false, Option, unwrap_or}
 use Rattle.std.specs.Fmt.{decimal}
 use Rattle.cut_faults.specs.declared.code.FaultCode.{FaultCode}
 use Rattle.cut_faults.specs.declared.code.FaultCode.TheVariants as code
 use Rattle.cut_faults.specs.Codes.{code_text, text_carrying}
 use Rattle.cut_pool.specs.declared.fault.BookFault.{BookFault}
 use Rattle.cut_pool.specs.declared.fault.BookFault.TheVariants as book
+use Rattle.cut_pool.specs.declared.line_fault.LineFault.{LineFault}
+use Rattle.cut_pool.specs.declared.line_fault.LineFault.TheVariants as line
+use Rattle.cut_pool.specs.declared.not_closed.NotClosed.{NotClosed}
+use Rattle.cut_pool.specs.declared.not_closed.NotClosed.TheVariants as closing
 use Rattle.cut_pool.specs.declared.run_fault.RunFault.{RunFault}
 use Rattle.cut_pool.specs.declared.run_fault.RunFault.TheVariants.{BadSlip, Checkpoint, Write, WorkMemory, AuditMismatch}
 
@@ -13,6 +17,21 @@ use Rattle.cut_pool.specs.declared.run_fault.RunFault.TheVariants.{BadSlip, Chec
 abbrev pub of_opening : BookFault → RunFault
 of_opening (book.BadSlip number) = BadSlip number
 of_opening fault = WorkMemory
+
+-- why a run ended where a line did not come, by why, by what kept its hall from being closed, if anything did, and
+-- by whether the study has a journal
+abbrev pub of_line : LineFault → Option RunFault → Bool → RunFault
+of_line line.WorkMemory not_closed has_journal = WorkMemory
+of_line line.Checkpoint not_closed true = Checkpoint
+of_line line.Checkpoint not_closed false = AuditMismatch
+of_line line.Stopped not_closed has_journal = unwrap_or not_closed AuditMismatch
+of_line line.AuditMismatch not_closed has_journal = AuditMismatch
+
+-- and where its hall was not closed; passes are missing only where memory ran out
+abbrev pub of_closing : {T : Type 0} → NotClosed T → RunFault
+of_closing (closing.AuditMismatch mismatch) = AuditMismatch
+of_closing closing.Memory = WorkMemory
+of_closing (closing.SeatMissing back) = WorkMemory
 
 abbrev pub code_of_run : RunFault → FaultCode
 code_of_run (BadSlip number) = code.BadSlip

@@ -1,6 +1,6 @@
 -- A slot of a hall, and what one call of its book does to it.
 use Rattle.std.specs.Prelude.{◌≡◌, ◌++◌, ◌<◌, ℕ, true, false, List, [], ◌∷◌, length, slice_get, is_some}
-use Rattle.std.specs.Prelude.{Option, Some, None, if◌then◌else◌, Result, Ok, Err, ⊤}
+use Rattle.std.specs.Prelude.{Option, Some, None, Bool, if◌then◌else◌, Result, Ok, Err, ⊤, slice_set}
 use Rattle.std.specs.List.{list_any}
 use Rattle.cut_faults.specs.declared.code.FaultCode.TheVariants as code
 use Rattle.cut_plan.specs.Cells.{cells_of}
@@ -141,6 +141,16 @@ AnswersAgain (Ok None) o cell (Some b) = IsOpenedAs o b
 AnswersAgain (Err line.AuditMismatch) o cell (Some b) = IsOpenedAs o b → ⊥
 AnswersAgain (Err line.WorkMemory) o cell (Some b) = IsOpenedAs o b
 AnswersAgain (Err other) o cell (Some b) = ⊥
+
+-- there is a book, and this cell of it is not done
+abbrev pub IsNotDone : {D : Type 0} → Option (Progress D) → ℕ → Type 0
+IsNotDone None cell = ⊥
+IsNotDone (Some b) cell = cell_done b.state.ledger cell ≡ false
+
+-- which lines are remembered as given, after one was asked for
+abbrev pub given_after : {T E : Type 0} → Result (Option T) E → ℕ → List Bool → List Bool
+given_after (Ok (Some line)) cell given = slice_set given cell true
+given_after result cell given = given
 
 -- why a line can't be given once more: the slot's book is not that study's, or memory was wanting
 abbrev pub CanNotGiveAgain : LineFault → Type 0

@@ -1,4 +1,4 @@
-ghost use Rattle.std.specs.Prelude.{◌≡◌, ◌+◌, ◌<◌, ◌≤◌, ◌↔◌, ◌++◌, [], ◌∷◌, ℕ, List, None, Some, Ok, true, length, is_some, slice_get, slice_index_or, if◌then◌else◌};
+ghost use Rattle.std.specs.Prelude.{◌≡◌, ◌+◌, ◌^◌, ◌<◌, ◌≤◌, ◌↔◌, ◌++◌, [], ◌∷◌, ℕ, List, None, Some, Ok, true, false, length, is_some, slice_get, slice_index_or, if◌then◌else◌};
 ghost use Rattle.std.specs.Prelude.{IsTrue, IfSome, IfNone, IfOk, IfErr, OnOk, OnErr, IsErr, IsErrOf, IsSome, option_copied};
 ghost use Rattle.std.specs.List.{list_any};
 ghost use Rattle.cut_faults.specs.Failures.{one_more};
@@ -21,10 +21,11 @@ ghost use Rattle.cut_pool.specs.Book.{Progress, opening_of, failures_of, answer_
 
 use crate::append::append;
 use crate::{Answer, BookFault, Call, History};
+use bit_list::BitList;
 use cut_disks::Disk;
 use cut_journal::Journal;
 use cut_journal::laws::{crashes_are_resumptions, journals_begin_with_their_runs};
-use cut_ledger::{Ledger, LedgerFault, Slip};
+use cut_ledger::{Division, Ledger, OfferFault, Slip};
 use cut_plan::Plan;
 use cut_table::{RowFault, row};
 use cut_trial::{Piece, PieceResult};
@@ -40,10 +41,10 @@ use std::marker::Model;
 pub struct Book<D: Disk> {
     ledger: Ledger,
     journal: Option<Journal<D>>,
-    division: Vec<Piece>,
-    lost: Vec<bool>,
+    division: Division,
+    lost: BitList,
     /// How many pieces are not lost.
-    losable: usize,
+    losable: u64,
     history: History,
     broken: bool,
     failed: u64,
@@ -55,11 +56,11 @@ impl<D: Disk> Model for Book<D> {
     ghost Value = { Progress D };
 
     ghost view = { λ b. progress_in b.journal
-        (state_in b.ledger.contents b.journal b.division.items b.lost.items b.history b.broken)
+        (state_in b.ledger.contents b.journal b.division b.lost b.history b.broken)
         b.history b.failed };
 
     ghost invariant = { λ b. IsBook D.is_honest D.state D.faults b.journal
-        (state_in b.ledger.contents b.journal b.division.items b.lost.items b.history b.broken)
+        (state_in b.ledger.contents b.journal b.division b.lost b.history b.broken)
         b.history b.losable b.failed };
 }
 
@@ -94,9 +95,9 @@ impl<D: Disk> Book<D> {
         journals_begin_with_their_runs();
         let failed = failures(&journal);
         let ledger = Ledger::from_slips(alloc, plan, slips)?;
-        let division = ledger.pieces(alloc, piece_size)?;
+        let division = ledger.divide(alloc, piece_size)?;
         let losable = division.len();
-        let lost = vec![in alloc; false; losable]?;
+        let lost = BitList::new(alloc, losable)?;
         let history = History::begin(alloc, &ledger, journal.is_some(), piece_size, losable)?;
         Ok(Book {
             ledger,
@@ -148,14 +149,21 @@ impl<D: Disk> Book<D> {
             × (reply_to self.old.state (event.Lose piece) ≡ reply.Refused code.BadPiece)
             × (self.new ≡ self.old)) }
     {
-        let number = piece as usize;
-        if number >= self.lost.len() || self.lost[number] {
+        if self.is_lost(piece) {
             return Err(BookFault::BadPiece);
         }
-        self.lost[number] = true;
+        self.lost.set(piece);
         self.losable -= 1;
-        self.history.push(Call::Lose { piece });
+        self.history.lose(piece as u32);
         Ok(())
+    }
+
+    /// Whether the piece of this number is lost, or there is none.
+    fn is_lost(&self, piece: u64) -> bool
+        ensures value { result ≡ slice_index_or self.now.state.lost piece true }
+        ensures few { result ≡ false → piece < 2 ^ 32 }
+    {
+        piece >= self.division.len() || self.lost.get(piece).unwrap_or(true)
     }
 
     /// The line of a cell, whose trials are all held, with a line feed. It has at most 294 bytes. Want of
@@ -167,7 +175,7 @@ impl<D: Disk> Book<D> {
         ensures short { IfOk result (λ line. length line.items ≤ 294) }
         ensures asked { AsksRow result cell self.old self.new }
     {
-        self.history.reserve(self.losable + 1)?;
+        self.history.reserve()?;
         match row(alloc, &self.ledger, cell) {
             Ok(line) => {
                 self.history.push(Call::Row {
@@ -192,7 +200,7 @@ impl<D: Disk> Book<D> {
         ensures value { result ≡ slice_get self.now.state.division number }
         ensures piece { IfSome result (λ p. IsTrue (is_piece self.now.state.ledger.plan p)) }
     {
-        self.division.get(number as usize).copied()
+        self.division.get(number)
     }
 
     /// How many calls the history has.
@@ -271,7 +279,7 @@ impl<D: Disk> Book<D> {
             return Some(Answer::Broken);
         }
         match self.ledger.refusal(offered) {
-            Some(LedgerFault::Stranger) => Some(Answer::Stranger),
+            Some(OfferFault::Stranger) => Some(Answer::Stranger),
             Some(_) => Some(Answer::Overlap),
             None => None,
         }
@@ -293,7 +301,7 @@ impl<D: Disk> Book<D> {
             (after self.old.state (event.HandInDiskFails offered.now)) }
     {
         self.is_resumable(offered);
-        self.history.reserve(self.losable + 1)?;
+        self.history.reserve()?;
         let call = call_of(self.ledger.plan(), offered, answer);
         self.history.push(call);
         answer.into_result()
@@ -342,7 +350,7 @@ impl<D: Disk> Book<D> {
             (after self.old.state (event.HandInDiskFails offered.now)) }
     {
         self.is_resumable(offered);
-        self.history.reserve(self.losable + 1)?;
+        self.history.reserve()?;
         let cell = self.ledger.plan().cell_of(offered.piece().first);
         self.ledger.reserve(cell)?;
         match append(&mut self.journal, offered) {

@@ -28,8 +28,9 @@ struct Ends<K: Tally> {
 impl<D: Disk + Drop, M: Tally, K: Tally> Hall<D, M, K> {
     /// Ends the hall, which takes all its passes, and tells what became of each slot. The calls that the
     /// slots' histories have together are as many as the passes made together, and what the passes counted of
-    /// a study is what its history accepted; where these differ, that is told. Where passes are missing, the
-    /// hall and these passes come back as they were; where it is refused otherwise, nothing does.
+    /// a study is what its history accepted; where these differ, that is reported, with what became of all slots.
+    /// Where passes are missing, the hall and these passes come back as they were; where it is refused otherwise,
+    /// they don't.
     pub fn close(
         self,
         alloc: Global,
@@ -133,25 +134,26 @@ impl<D: Disk + Drop, K: Tally> Place<D, K> {
 }
 
 /// Compares what was counted of each study with what its history accepted.
-fn audit(totals: &BoardTotals, mut slots: Vec<SlotReport>) -> Result<Report, Mismatch>
+fn audit(totals: &BoardTotals, slots: Vec<SlotReport>) -> Result<Report, Mismatch>
     requires told { length slots.items ≤ length totals.now }
     requires few { length totals.now ≤ 64 }
     ensures same { IfOk result (λ report. report ≡ slots.items) }
     ensures audited { OnOk result ((study : ℕ) (s : SlotEnd) (t : StudyTotals)
         → slice_get slots.items study ≡ Some s → slice_get totals.now study ≡ Some t
         → t.count ≡ accepted_told s.history) }
-    ensures within { IfErr result (λ m. m.study < length totals.now) }
+    ensures report { IfErr result (λ m. m.report ≡ slots.items) }
+    ensures within { IfErr result (λ m. m.study < length slots.items) }
     ensures differs { IfErr result (λ m. (t : StudyTotals)
         → slice_get totals.now m.study ≡ Some t → t.count ≡ m.counted) }
 {
     for study in 0..slots.len() {
         let counted = totals.as_slice()[study].count;
         if !agrees(counted, &slots[study]) {
-            let slot = slots.swap_remove(study);
+            let report = Report::from_vec(slots);
             return Err(Mismatch {
                 study: study as u32,
                 counted,
-                slot,
+                report,
             });
         }
     }

@@ -2,7 +2,7 @@ ghost use Rattle.std.specs.Prelude.{◌≡◌};
 ghost use Rattle.cut_pool.specs.FaultCode.{code_of};
 
 use cut_faults::FaultCode;
-use cut_ledger::LedgerFault;
+use cut_ledger::SlipsFault;
 use cut_table::RowFault;
 use std::alloc::AllocError;
 use std::fmt;
@@ -71,17 +71,15 @@ impl From<AllocError> for BookFault {
     }
 }
 
-impl From<LedgerFault> for BookFault {
-    ghost use Rattle.cut_pool.specs.FaultCode.{of_ledger};
+impl From<SlipsFault> for BookFault {
+    ghost use Rattle.cut_pool.specs.FaultCode.{of_slips};
 
-    ghost from_gives = { λ fault e. e ≡ of_ledger fault };
+    ghost from_gives = { λ fault e. e ≡ of_slips fault };
 
-    fn from(fault: LedgerFault) -> BookFault {
+    fn from(fault: SlipsFault) -> BookFault {
         match fault {
-            LedgerFault::Memory => BookFault::Memory,
-            LedgerFault::Stranger => BookFault::Stranger,
-            LedgerFault::Overlap => BookFault::Overlap,
-            LedgerFault::BadSlip(number) => BookFault::BadSlip(number),
+            SlipsFault::Memory => BookFault::Memory,
+            SlipsFault::BadSlip(number) => BookFault::BadSlip(number),
         }
     }
 }

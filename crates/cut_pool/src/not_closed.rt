@@ -1,7 +1,7 @@
-ghost use Rattle.std.specs.Prelude.{◌≡◌, ◌≢◌};
-ghost use Rattle.cut_pool.specs.Report.{accepted_told};
+ghost use Rattle.std.specs.Prelude.{◌≡◌};
+ghost use Rattle.cut_pool.specs.Report.{AcceptedOther};
 
-use crate::SlotReport;
+use crate::Report;
 use cut_faults::FaultCode;
 
 /// A study of which the passes counted another number of trials than its history accepted.
@@ -11,9 +11,9 @@ pub struct Mismatch {
     pub study: u32,
     /// What the passes counted.
     pub counted: u64,
-    /// What became of the slot.
-    pub slot: SlotReport,
-    pub ghost differ: { counted ≢ accepted_told slot.history },
+    /// What became of all slots.
+    pub report: Report,
+    pub ghost differ: { AcceptedOther report study counted },
 }
 
 /// Why a hall was not closed, with what comes back.

@@ -5,6 +5,7 @@ ghost use Rattle.cut_ledger.specs.Machine.{table_over};
 ghost use Rattle.cut_pool.specs.Conclusion.{IsNotEnded};
 ghost use Rattle.cut_pool.specs.Emission.{IsEmitted, Emits, failed_in_emission};
 ghost use Rattle.cut_pool.specs.Report.{calls_in_all};
+ghost use Rattle.cut_pool.specs.RunFault.{of_closing};
 ghost use Rattle.cut_pool.specs.Slot.{IsFresh};
 
 use crate::emit::{EmitFault, emit};
@@ -281,8 +282,18 @@ where
     };
     match hall.close(alloc, passes) {
         Ok(report) => Ok(report),
-        Err(NotClosed::AuditMismatch(_mismatch)) => Err(RunFault::AuditMismatch),
-        Err(NotClosed::Memory) => Err(RunFault::WorkMemory),
-        Err(NotClosed::SeatMissing(_back)) => Err(RunFault::WorkMemory),
+        Err(not_closed) => Err(fault_of_closing(not_closed)),
+    }
+}
+
+/// Why a run ended whose hall was not closed.
+fn fault_of_closing<T: Drop>(not_closed: NotClosed<T>) -> RunFault
+    ensures value { result ≡ of_closing not_closed }
+    ensures why { IsNotEnded result }
+{
+    match not_closed {
+        NotClosed::AuditMismatch(_mismatch) => RunFault::AuditMismatch,
+        NotClosed::Memory => RunFault::WorkMemory,
+        NotClosed::SeatMissing(_back) => RunFault::WorkMemory,
     }
 }

@@ -1,11 +1,12 @@
 ghost use Rattle.std.specs.Prelude.{◌≡◌, ◌+◌, ◌<◌, ◌≤◌, ◌&&◌, ◌↔◌, true, false, not, [], length, take};
-ghost use Rattle.std.specs.Prelude.{Some, None, is_some, IsTrue, IfOk, IfSome, OnOk, OnErr, IfErr, IsErrOf};
+ghost use Rattle.std.specs.Prelude.{Some, None, is_some, IsTrue, IfOk, IfSome, IfNone, OnOk, OnErr, IfErr, IsErrOf};
+ghost use Rattle.std.specs.Prelude.{replicate, slice_index_or, slice_set};
 ghost use Rattle.std.specs.List.{list_any};
 ghost use Rattle.cut_plan.specs.Cells.{cells_of};
 ghost use Rattle.cut_pool.specs.Lines.{full_line};
 ghost use Rattle.cut_pool.specs.Report.{calls_told};
 ghost use Rattle.cut_pool.specs.Slot.{calls_in, IsFresh, IsBegun, base_of, kept_of, unkept_of, Matches, TakesResult, TakesLoss, GivesLine, calls_of, losses_of, lines_of};
-ghost use Rattle.cut_pool.specs.Slot.{IsOpenedAs, TellsUndone, AnswersLine, AnswersAgain, piece_at, HasDone, HasPlan};
+ghost use Rattle.cut_pool.specs.Slot.{IsOpenedAs, TellsUndone, AnswersLine, AnswersAgain, IsNotDone, given_after, piece_at, HasDone, HasPlan};
 
 use crate::accounts::Accounts;
 use crate::opening::open_book;
@@ -58,7 +59,8 @@ impl<D: Disk + Drop, K: Tally> Slot<D, K> {
     /// A slot without a book.
     pub(crate) fn free(alloc: Global, kept: Share<K>) -> Slot<D, K>
         requires { (kept.parts ≡ 1) × (kept.amount ≡ 0) }
-        ensures { result.book ≡ None }
+        ensures book { result.book ≡ None }
+        ensures works { result.stopped ≡ false }
     {
         Slot {
             book: None,
@@ -73,7 +75,8 @@ impl<D: Disk + Drop, K: Tally> Slot<D, K> {
     pub(crate) fn of_book(alloc: Global, book: Book<D>, kept: Share<K>) -> Slot<D, K>
         requires part { (kept.parts ≡ 1) × (kept.amount ≡ 0) }
         requires fresh { IsFresh book.state.ledger.plan book.size book }
-        ensures { result.book ≡ Some book }
+        ensures book { result.book ≡ Some book }
+        ensures works { result.stopped ≡ false }
     {
         Slot {
             book: Some(book),
@@ -175,6 +178,9 @@ impl<D: Disk + Drop, K: Tally> Slot<D, K> {
         ensures short { IfOk result (λ found. IfSome found (λ line. length line.items ≤ 294)) }
         ensures given { GivesLine result cell self.old.book self.new.book }
         ensures answers { AnswersLine result opened.now cell self.old.book }
+        ensures waits { IfOk result (λ found. IfNone found (self.old.stopped ≡ false)) }
+        ensures remembered { self.new.given.items ≡ given_after result cell self.old.given.items }
+        ensures stays { self.new.stopped ≡ self.old.stopped }
         ensures calls { calls_in self.new.book ≡ calls_in self.old.book + lines_of result }
         ensures made { made.new.amount ≡ made.old.amount + lines_of result }
         ensures parts { made.new.parts ≡ 1 }
@@ -223,6 +229,10 @@ impl<D: Disk + Drop, K: Tally> Slot<D, K> {
             IfSome found (λ line. line.items ≡ full_line opened.now.plan opened.now.base cell)) }
         ensures short { IfOk result (λ found. IfSome found (λ line. length line.items ≤ 294)) }
         ensures answers { AnswersAgain result opened.now cell self.now.book }
+        ensures given { IfOk result (λ found.
+            IfSome found (λ line. slice_index_or self.now.given.items cell false ≡ true)) }
+        ensures not_given { IfOk result (λ found. IfNone found
+            (slice_index_or self.now.given.items cell false ≡ true → IsNotDone self.now.book cell)) }
     {
         let Some(book) = &self.book else {
             return Err(LineFault::AuditMismatch);
@@ -255,6 +265,8 @@ impl<D: Disk + Drop, K: Tally> Slot<D, K> {
         requires size { 1 ≤ piece_size }
         ensures opened { IfOk result (λ o. (o.study ≡ study) × (o.plan ≡ plan)) }
         ensures begun { IfOk result (λ o. IsBegun o piece_size self.new.book) }
+        ensures none_given { OnOk result (self.new.given.items ≡ replicate (length (cells_of plan)) false) }
+        ensures stays { self.new.stopped ≡ self.old.stopped }
         ensures err { OnErr result (self.new ≡ self.old) }
     {
         let copy = plan.try_clone(alloc)?;
@@ -318,6 +330,13 @@ impl<D: Disk + Drop, K: Tally> Slot<D, K> {
         (SlotReport::new(Some(history), complete), kept)
     }
 
+    /// Whether there is a study.
+    pub(crate) fn has_book(&self) -> bool
+        ensures { result ≡ is_some self.now.book }
+    {
+        self.book.is_some()
+    }
+
     /// Whether there is nothing to work on yet: there is no book, and the work was not ended.
     pub(crate) fn is_idle(&self) -> bool
         ensures { result ≡ (not (is_some self.now.book) && not self.now.stopped) }
@@ -357,7 +376,9 @@ impl<D: Disk + Drop, K: Tally> Slot<D, K> {
 }
 
 /// Notes that the line of a cell was given.
-fn remember(given: &mut Vec<bool>, cell: u32) {
+fn remember(given: &mut Vec<bool>, cell: u32)
+    ensures { given.new.items ≡ slice_set given.old.items cell true }
+{
     if let Some(is_given) = given.get_mut(cell as usize) {
         *is_given = true;
     }

@@ -2,6 +2,7 @@ ghost use Rattle.std.specs.Prelude.{◌≡◌, ◌+◌, ◌≤◌, ◌↔◌, Ok
 ghost use Rattle.cut_journal.specs.Reading.{reading};
 ghost use Rattle.cut_ledger.specs.Slips.{AreGood};
 ghost use Rattle.cut_pool.specs.Conclusion.{IsNotBegun, IsNotEnded, CanLose, Concludes};
+ghost use Rattle.cut_pool.specs.RunFault.{of_line};
 ghost use Rattle.cut_pool.specs.Running.{slips_of, HasEnded, Takes, failed_in_run};
 ghost use Rattle.cut_pool.specs.Slot.{IsFresh};
 
@@ -158,7 +159,8 @@ fn concluded(
 /// unless the hall could not be closed either. Without a journal no checkpoint fails: a slot that says so has not the study's book.
 fn fault_of_line(fault: LineFault, not_closed: Option<RunFault>, has_journal: bool) -> RunFault
     requires { IfSome not_closed IsNotEnded }
-    ensures { CanLose result has_journal }
+    ensures value { result ≡ of_line fault not_closed has_journal }
+    ensures can { CanLose result has_journal }
 {
     match fault {
         LineFault::WorkMemory => RunFault::WorkMemory,

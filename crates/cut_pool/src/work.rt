@@ -1,4 +1,5 @@
-ghost use Rattle.std.specs.Prelude.{◌≡◌, ◌<◌, ◌≤◌, IfSome};
+ghost use Rattle.std.specs.Prelude.{◌≡◌, ◌+◌, ◌<◌, ◌≤◌, IfOk, IfSome, if◌then◌else◌};
+ghost use Rattle.cut_pool.specs.Slot.{losses_of};
 ghost use Rattle.cut_trial.specs.Outcome.{rings_of};
 
 use crate::slot::CallFault;
@@ -57,8 +58,8 @@ impl Bench {
 impl<D: Disk + Drop, M: Tally, K: Tally> Hall<D, M, K> {
     /// Works on the studies in the order of their slots, on each as long as pieces of it can be drawn, and then
     /// waits for the next. Each piece is drawn, runs once the gate lets it pass, and is handed in; an accepted
-    /// one is counted on the board. A piece for which memory is wanting is told lost, and a study whose disk has
-    /// failed is left.
+    /// one is counted on the board. A piece for which memory runs out twice, or for the result of which it does, is
+    /// lost, and a study whose disk has failed is left.
     ///
     /// It returns after `stop`, and where nothing more can be drawn by this pass, or counted by the hall.
     pub fn work<R: Wait, G: Gate>(&self, rt: &R, alloc: Global, pass: &mut Pass<M>, gate: &G)
@@ -75,7 +76,8 @@ impl<D: Disk + Drop, M: Tally, K: Tally> Hall<D, M, K> {
     }
 
     /// Works on the pieces of one study until none are left to be drawn, as `work` does on each, for a caller that
-    /// lends its thread for so long. Tells whether it may go on with another study: not after `stop`, nor where
+    /// lends its thread for so long. In a slot without a study it does nothing. Returns whether it may go on with
+    /// another study: not after `stop`, nor where
     /// nothing more can be drawn by this pass, or counted by the hall.
     pub fn work_off<R: Wait, G: Gate>(
         &self,
@@ -162,27 +164,63 @@ impl<D: Disk + Drop, M: Tally, K: Tally> Hall<D, M, K> {
         ensures own { pass.new.hall ≡ pass.old.hall }
         ensures made { pass.old.made ≤ pass.new.made }
     {
-        if self.is_stopped(rt, study) {
-            return Next::Nothing;
-        }
-        let Ok(number) = self.board.draw(&mut pass.seat, study) else {
-            return Next::Nothing;
+        let drawn = match self.draw_piece(rt, pass, study) {
+            Ok(drawn) => drawn,
+            Err(next) => return next,
         };
-        let Some(piece) = self.piece(rt, study, number) else {
-            return Next::Study;
-        };
-        gate.pass(rt, piece);
-        let drawn = Drawn {
-            study,
-            number,
-            piece,
-        };
-        match self.compute(rt, alloc, drawn, bench) {
+        gate.pass(rt, drawn.piece);
+        match self.compute_twice(rt, alloc, drawn, bench) {
             Some(result) => self.hand_in(rt, pass, drawn, &result),
-            None => match self.lose(rt, pass, study, number) {
+            None => match self.lose(rt, pass, study, drawn.number) {
                 Err(CallFault::Full) => Next::Nothing,
                 _ => Next::Piece,
             },
+        }
+    }
+
+    /// Draws the next piece of a study, or returns how the worker goes on without one. Nothing is drawn in a slot
+    /// that has no study yet, so that the study which comes later has all its pieces.
+    fn draw_piece<R: Wait>(&self, rt: &R, pass: &mut Pass<M>, study: u32) -> Result<Drawn, Next>
+        requires own { pass.old.hall ≡ self.now.id }
+        requires slot { study < self.now.slots }
+        ensures study { IfOk result (λ drawn. drawn.study ≡ study) }
+        ensures own { pass.new.hall ≡ pass.old.hall }
+        ensures made { pass.new.made ≡ pass.old.made }
+    {
+        let slot = self.places[study as usize].slot.lock(rt);
+        if slot.is_stopped() {
+            return Err(Next::Nothing);
+        }
+        if !slot.has_book() {
+            return Err(Next::Study);
+        }
+        let Ok(number) = self.board.draw(&mut pass.seat, study) else {
+            return Err(Next::Nothing);
+        };
+        match slot.piece(number) {
+            Some(piece) => Ok(Drawn {
+                study,
+                number,
+                piece,
+            }),
+            None => Err(Next::Study),
+        }
+    }
+
+    /// Runs a piece, and once more where memory ran out.
+    fn compute_twice<R: Wait>(
+        &self,
+        rt: &R,
+        alloc: Global,
+        drawn: Drawn,
+        bench: &mut Option<Bench>,
+    ) -> Option<PieceResult>
+        requires { drawn.study < self.now.slots }
+        ensures { IfSome result (λ r. r.piece ≡ drawn.piece) }
+    {
+        match self.compute(rt, alloc, drawn, bench) {
+            Some(result) => Some(result),
+            None => self.compute(rt, alloc, drawn, bench),
         }
     }
 
@@ -242,13 +280,13 @@ impl<D: Disk + Drop, M: Tally, K: Tally> Hall<D, M, K> {
     }
 
     /// Gives a piece of a study up, by its number from 0 in the study's division, as a worker does where memory for
-    /// it is refused: whoever asks for the line of its cell is told so, where that is not done. Tells whether it is
-    /// noted: not where there is no study or no such piece, or it was given up before.
+    /// it is refused: whoever asks for the line of its cell is told so, where that is not done. Returns whether it is
+    /// noted, which is a call of the pass: not where there is no study or no such piece, or it was given up before.
     pub fn give_up<R: Wait>(&self, rt: &R, pass: &mut Pass<M>, study: u32, piece: u64) -> bool
         requires own { pass.old.hall ≡ self.now.id }
         requires slot { study < self.now.slots }
         ensures own { pass.new.hall ≡ pass.old.hall }
-        ensures made { pass.old.made ≤ pass.new.made }
+        ensures made { pass.new.made ≡ (if result then pass.old.made + 1 else pass.old.made) }
     {
         self.lose(rt, pass, study, piece).is_ok()
     }
@@ -264,7 +302,7 @@ impl<D: Disk + Drop, M: Tally, K: Tally> Hall<D, M, K> {
         requires own { pass.old.hall ≡ self.now.id }
         requires slot { study < self.now.slots }
         ensures own { pass.new.hall ≡ pass.old.hall }
-        ensures made { pass.old.made ≤ pass.new.made }
+        ensures made { pass.new.made ≡ pass.old.made + losses_of result }
     {
         let place = &self.places[study as usize];
         let told = place
@@ -275,25 +313,11 @@ impl<D: Disk + Drop, M: Tally, K: Tally> Hall<D, M, K> {
         told
     }
 
-    /// Whether the work in a slot was ended.
-    fn is_stopped<R: Wait>(&self, rt: &R, study: u32) -> bool
-        requires { study < self.now.slots }
-    {
-        self.places[study as usize].slot.lock(rt).is_stopped()
-    }
-
     /// Whether a cell of a study is done.
     fn is_done<R: Wait>(&self, rt: &R, study: u32, cell: u32) -> bool
         requires { study < self.now.slots }
     {
         self.places[study as usize].slot.lock(rt).is_done(cell)
-    }
-
-    /// The piece of a number in a study's division.
-    fn piece<R: Wait>(&self, rt: &R, study: u32, number: u64) -> Option<Piece>
-        requires { study < self.now.slots }
-    {
-        self.places[study as usize].slot.lock(rt).piece(number)
     }
 
     /// A copy of a study's plan, if there is memory for it.

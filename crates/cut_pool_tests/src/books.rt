@@ -5,7 +5,7 @@ use cut_disks::{Disk, FaultyDisk, MemoryDisk, Tear};
 use cut_journal::Journal;
 use cut_ledger::Slip;
 use cut_plan::Plan;
-use cut_pool::{Book, BookFault};
+use cut_pool::{Book, BookFault, Call, History};
 use cut_trial::{Piece, PieceResult};
 use std::alloc::{AllocError, Global};
 use std::test::Fail;
@@ -100,11 +100,15 @@ fn book_over<D: Disk + Drop>(alloc: Global, disk: D) -> Result<Book<D>, Fail> {
     }
 }
 
-/// What a book over a disk answers.
+/// What a book over a disk answers, and at the end whether its journal is broken.
 fn answers_over<D: Disk + Drop>(alloc: Global, disk: D, asks: &[Ask]) -> Result<String, Fail> {
     let results = results(alloc)?;
     let mut book = book_over(alloc, disk)?;
-    answers(alloc, &mut book, results.as_slice(), asks)
+    let mut text = answers(alloc, &mut book, results.as_slice(), asks)?;
+    if book.journal().is_some() && book.is_broken() {
+        text.push_str("broken")?;
+    }
+    Ok(text)
 }
 
 /// A book without a journal, with pieces of one trial.
@@ -153,11 +157,24 @@ fn end_of(book: Book<MemoryDisk>) -> (bool, bool, u64, u64) {
     (complete, has_lost, history.len(), history.accepted())
 }
 
+/// What the results of a history were answered, joined by semicolons.
+fn answered(alloc: Global, history: &History) -> Result<String, AllocError> {
+    let mut text = String::new(alloc);
+    for call in history.calls(alloc)? {
+        if let Call::HandIn { answer, .. } = call {
+            text.push_str(told(alloc, answer.into_result())?.as_str())?;
+            text.push_str("; ")?;
+        }
+    }
+    Ok(text)
+}
+
 #[test]
 fn a_history_has_every_call(rt: HostRuntime) -> Result<(), Fail> {
     let mut book = book_alone(rt.alloc())?;
     let asks = [Ask::HandIn(1), Ask::HandIn(0), Ask::HandIn(0)];
-    let _ = answers_alone(rt.alloc(), &mut book, &asks)?;
+    let (text, _calls) = answers_alone(rt.alloc(), &mut book, &asks)?;
+    assert!(rt; answered(rt.alloc(), book.history())? == text);
     assert!(rt; end_of(book) == (true, false, 3, 2));
     Ok(())
 }
@@ -180,7 +197,9 @@ fn a_disk_that_fails_in_an_append(rt: HostRuntime) -> Result<(), Fail> {
     ];
     // Ten calls open the journal, and each append makes four.
     let text = answers_failing(rt.alloc(), 12, &asks)?;
-    assert!(rt; text.as_str() == "30 Checkpoint; 30 Checkpoint; 18 NotDone 0; done; 14 BadPiece; ");
+    assert!(rt;
+        text.as_str() == "30 Checkpoint; 30 Checkpoint; 18 NotDone 0; done; 14 BadPiece; broken"
+    );
     Ok(())
 }
 

@@ -19,7 +19,7 @@ use std::sync::ledger::Blank;
 use std::sync::{Mutex, Wait};
 use std::test::Fail;
 use std::thread::{Threads, join_mut};
-use std::time::{Clock, Duration};
+use std::time::{Clock, Duration, Instant};
 use std::{mem, thread};
 
 type Stormy<M, K> = Hall<FaultyDisk, M, K>;
@@ -558,10 +558,17 @@ fn has_ended_well(storm: Storm, ends: &[End]) -> bool {
     is_all && ends.iter().all(may_end)
 }
 
+/// How many seconds storms may take: as many are run as fit in this time, and the first one in any case.
+const STORM_SECONDS: u64 = 20;
+
 #[test]
 fn storms_of_three_threads(rt: HostRuntime) -> Result<(), Fail> {
     let alloc = rt.alloc();
+    let begun = Instant::now(&rt)?;
     for number in 0..400u32 {
+        if number > 0 && begun.elapsed(&rt)? > Duration::from_secs(STORM_SECONDS) {
+            break;
+        }
         let storm = drawn_storm(number);
         let (made, kept) = (Blank::new(4), Blank::new(u64::from(storm.slots)));
         let ends = run_storm::<Brand, Brand, _>(&rt, alloc, storm, made, kept)?;

@@ -1,4 +1,4 @@
-use Rattle.std.proofs.Common.{◌≡◌, ℕ, ◌∙◌, inl, inr, List, length, Some, get_or, sym, ap, arith}
+use Rattle.std.proofs.Common.{◌≡◌, ℕ, ◌∙◌, inl, inr, List, Some, get_or, sym, ap, arith}
 use Rattle.std.specs.Prelude.{slice_get}
 use Rattle.std.proofs.lemmas.Bool.{cases_lt}
 use Rattle.std.proofs.lemmas.Option.{slice_get_within, get_or_from_slice_get}
@@ -23,30 +23,25 @@ returns-then-not-agrees-clause-differs c =
 pub loop-study-preserved : goal.loop-study-preserved
 loop-study-preserved c =
     let study : ℕ = c.loop-study.study in
-    let slots : List SlotEnd = c.loop-study.slots.items in
-    record {
-      same = c.loop-study.invariant.same;
-      agree = λ k s t low at told. elim (cases_lt k study) [
-        | inl less ↦ c.loop-study.invariant.agree k s t less at told
-        | inr last ↦ (
-            let here : k ≡ study = omega (arith, low, last) in
-            let count = told_at c.as_slice.result.now c.args.totals.now study t c.as_slice.ensures
-            (ap (λ i. slice_get c.args.totals.now i) (sym here) ∙ told) in
-            let place : slice_get slots study ≡ Some s = ap (λ i. slice_get slots i) (sym here) ∙ at in
-            let seen : c.index.result.now ≡ s =
-            c.index.ensures ∙ get_or_from_slice_get slots study s (c.index.result.now) place in
-            sym count ∙ c.agrees.ensures.yes c.if-not-agrees.false
-            ∙ ap (λ (x : SlotEnd). accepted_told x.history) seen)
-      ];
-    }
+    let slots : List SlotEnd = c.args.slots.items in
+    λ k s t low at told. elim (cases_lt k study) [
+      | inl less ↦ c.loop-study.invariant k s t less at told
+      | inr last ↦ (
+          let here : k ≡ study = omega (arith, low, last) in
+          let count = told_at c.as_slice.result.now c.args.totals.now study t c.as_slice.ensures
+          (ap (λ i. slice_get c.args.totals.now i) (sym here) ∙ told) in
+          let place : slice_get slots study ≡ Some s = ap (λ i. slice_get slots i) (sym here) ∙ at in
+          let seen : c.index.result.now ≡ s =
+          c.index.ensures ∙ get_or_from_slice_get slots study s (c.index.result.now) place in
+          sym count ∙ c.agrees.ensures.yes c.if-not-agrees.false
+          ∙ ap (λ (x : SlotEnd). accepted_told x.history) seen)
+    ]
 
 pub returns-clause-audited : goal.returns-clause-audited
 returns-clause-audited c =
     λ study s t at told.
-    let here = ap (λ (l : List SlotEnd). slice_get l study) c.loop-study.invariant.same ∙ at in
-    let within = slice_get_within c.loop-study.slots.items study s here in
+    let within = slice_get_within c.args.slots.items study s at in
     let last = c.loop-study-test.false in
     let end = c.len-study-end.ensures in
-    let same = ap (λ (l : List SlotEnd). length l) c.loop-study.invariant.same in
     let auto = c.loop-study.auto.study-end in
-    c.loop-study.invariant.agree study s t (omega (arith, within, last, end, same, auto)) here told
+    c.loop-study.invariant study s t (omega (arith, within, last, end, auto)) at told

@@ -6,8 +6,6 @@ use Rattle.cut_pool.proofs.close.audit.Given as goal
 
 -- the studies so far agree
 abbrev pub invariant-loop-study : goal.invariant-loop-study
-invariant-loop-study l = record {
-  same : l.slots.items ≡ l.fn.slots.items;
-  agree : (k : ℕ) (s : SlotEnd) (t : StudyTotals) → k < l.study
-      → slice_get l.slots.items k ≡ Some s → slice_get l.totals k ≡ Some t → t.count ≡ accepted_told s.history;
-}
+invariant-loop-study l =
+    (k : ℕ) (s : SlotEnd) (t : StudyTotals) → k < l.study
+    → slice_get l.slots.items k ≡ Some s → slice_get l.totals k ≡ Some t → t.count ≡ accepted_told s.history

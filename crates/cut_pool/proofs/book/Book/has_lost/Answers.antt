@@ -7,5 +7,5 @@ use Rattle.cut_pool.proofs.book.Book.has_lost.Goals as goal
 
 pub returns : goal.returns
 returns g c =
-    ap (λ (n : ℕ). nat_lt n c.len.result) c.self.invariant.losable ∙ ap (λ (n : ℕ). nat_lt (count_by not c.self.inside.lost.items) n) (c.len.ensures ∙ c.self.inside.lost.ok.0)
-    ∙ some_lost c.self.inside.lost.items ∙ ap (λ (p : Progress _). list_any (λ is_lost. is_lost) p.state.lost) c.self.view_is
+    ap (λ (n : ℕ). nat_lt n c.len.result) c.self.invariant.losable ∙ ap (λ (n : ℕ). nat_lt (count_by not c.self.inside.lost) n) c.len.ensures
+    ∙ some_lost c.self.inside.lost ∙ ap (λ (p : Progress _). list_any (λ is_lost. is_lost) p.state.lost) c.self.view_is

@@ -5,7 +5,7 @@ use Rattle.cut_board.specs.declared.totals.StudyTotals.{StudyTotals}
 use Rattle.cut_board.specs.Names.{studies_of, views_of}
 use Rattle.cut_board.specs.Totals.{total_of}
 use Rattle.cut_pool.specs.Hall.{Rooms}
-use Rattle.cut_pool.specs.Report.{SlotEnd}
+use Rattle.cut_pool.specs.Report.{SlotEnd, calls_in_all}
 use Rattle.cut_pool.proofs.Audits.{total_at, totals_many}
 use Rattle.cut_pool.proofs.hall.Hall.close.Goals as goal
 
@@ -53,17 +53,22 @@ returns-clause-why g c =
     let n : ℕ = studies_of c.self.inside.board in
     let views = views_of c.in-Ok.parts.seats.items in
     let study : ℕ = c.in-Err.mismatch.study in
-    let low : study < n =
-    (let within = c.in-Err.ensures.within in
-    let told = ap (λ (ts : List StudyTotals). length ts) c.in-Ok-finish.ensures.totals in
-    let all = totals_many n views in omega (arith, within, told, all)) in
+    let slots : List SlotEnd = c.in-Ok-end_all.ends.slots.items in
+    let within = c.in-Err.ensures.within in
+    let ended = c.in-Ok-end_all.ensures.slots in
+    let places = c.self.invariant.0 in
+    let low : study < n = omega (arith, within, ended, places) in
     let told : slice_get c.in-Ok-finish.totals study ≡ Some (total_of views study) =
     ap (λ (ts : List StudyTotals). slice_get ts study) c.in-Ok-finish.ensures.totals ∙ total_at n views study low in
     let enough = c.in-Ok-finish.ensures.whole in
     let many = c.in-Ok.ensures.parts.many in
     let all = ap (λ (r : Rooms). r.passes) c.self.view_is in
-    let slots = ap (λ (r : Rooms). r.slots) c.self.view_is in (
+    let rooms = ap (λ (r : Rooms). r.slots) c.self.view_is in
+    let report : c.in-Err.mismatch.report ≡ slots = c.in-Err.ensures.report in (
       omega (arith, enough, many, all),
-      omega (arith, low, slots),
+      omega (arith, ap (λ (l : List SlotEnd). length l) report, ended, places, rooms),
+      omega (arith, low, rooms),
       sym (c.in-Err.ensures.differs (total_of views study) told) ∙ c.in-Ok.ensures.parts.counted study,
+      c.in-Err.mismatch.differ,
+      ap calls_in_all report ∙ sym c.in-Ok-end_all.ensures.kept.1 ∙ sym c.compare.ensures ∙ c.in-Ok.ensures.parts.amount_is,
     )
