@@ -29,7 +29,7 @@ module _ {O N : Type 0} (old_honest : O → Type 0) (old_state : O → DiskState
       → moves.Ends (Err fault) v slips before after
       → EndsMove old_honest old_state new_honest new_state old new v (Err (fault_of_migration fault))
   not_moved old new v slips migration.Memory before after held free plan whole ends = tt
-  not_moved old new v slips migration.NotVersion1 before after held free plan whole ends = ends.0
+  not_moved old new v slips migration.NotVersion1 before after held free plan whole ends = (ends.0, (slips, held, free))
   not_moved old new v slips (migration.BadSlip n) before after held free plan whole ends =
       (slips, record { version = ends.0; held = held; free = free }, ends.1)
   not_moved old new v slips migration.OtherPlan before after held free plan whole ends = absurd (ends.2 plan)
@@ -62,8 +62,8 @@ module _ {O N : Type 0} (old_honest : O → Type 0) (old_state : O → DiskState
   files_fail : (old : O) (new : N) (v : Values) (fault : CliFault) → MigrateFails old_honest old_state new_honest new_state old new v fault
       → files_task.fails v fault
   files_fail old new v Memory is = is
-  files_fail old new v (Journal fault) is = (is.0, elim is.1 [ inl refused ↦ inl refused.0 | inr refused ↦ inr refused.0 ])
-  files_fail old new v (Migrate migration.NotVersion1) is = is
+  files_fail old new v (Journal fault) is = elim is [ inl refused ↦ inl refused.0 | inr refused ↦ inr refused.0 ]
+  files_fail old new v (Migrate migration.NotVersion1) is = is.0
   files_fail old new v (Migrate (migration.BadSlip n)) is = (is.1.version, (is.0, is.2))
   files_fail old new v (Migrate (migration.Disagrees n)) is = (is.1.version, (is.0, is.2, is.3))
   files_fail old new v (Migrate migration.Disk) is = (is.1.version, (is.0, is.2))

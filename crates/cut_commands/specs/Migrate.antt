@@ -59,10 +59,12 @@ module _ {O N : Type 0} (old_honest : O → Type 0) (old_state : O → DiskState
   abbrev pub MigrateTells : O → N → Values → List ℕ → Type 0
   MigrateTells old new v whole = (n : ℕ) × HasMovedAll old new v n × (whole ≡ moved_text n)
 
-  -- why they were not: the plan is of version 2; or, where they could be, the first bad slip, the first that is not
-  -- true, or the disk of the new checkpoint, which failed
+  -- why they were not: the plan is of version 2, which is found once the old disk said its slips and the new one held
+  -- no study; or, where they could be, the first bad slip, the first that is not true, or the disk of the new
+  -- checkpoint, which failed
   abbrev pub StopsBy : O → N → Values → MigrateFault → Type 0
-  StopsBy old new v migration.NotVersion1 = version_of v.failing ≡ Two
+  StopsBy old new v migration.NotVersion1 =
+      (version_of v.failing ≡ Two) × ((slips : List Slip) × Holds old v slips × IsFree new v)
   StopsBy old new v (migration.BadSlip n) = (slips : List Slip) × IsReady old new v slips × IsFirstBad v slips n
   StopsBy old new v (migration.Disagrees n) =
       (slips : List Slip) × IsReady old new v slips × AreGood v slips × IsFirstUntrue v slips n
@@ -78,7 +80,7 @@ module _ {O N : Type 0} (old_honest : O → Type 0) (old_state : O → DiskState
       × ((slips : List Slip) × Holds old v slips))
 
   abbrev pub MigrateFails : O → N → Values → CliFault → Type 0
-  MigrateFails old new v (Journal fault) = (version_of v.failing ≡ One) × IsNotReady old new v fault
+  MigrateFails old new v (Journal fault) = IsNotReady old new v fault
   MigrateFails old new v (Migrate fault) = StopsBy old new v fault
   MigrateFails old new v fault = ⊥
 
@@ -96,7 +98,7 @@ module _ {O N : Type 0} (old_honest : O → Type 0) (old_state : O → DiskState
 
 -- why not all slips were moved
 abbrev pub FilesFail : Values → CliFault → Type 0
-FilesFail v (Journal fault) = (version_of v.failing ≡ One) × (MayRefuse fault ⊎ MayNotMake fault)
+FilesFail v (Journal fault) = MayRefuse fault ⊎ MayNotMake fault
 FilesFail v (Migrate migration.NotVersion1) = version_of v.failing ≡ Two
 FilesFail v (Migrate (migration.BadSlip n)) =
     (version_of v.failing ≡ One) × ((slips : List Slip) × IsFirstBad v slips n)

@@ -8,18 +8,19 @@ ghost use Rattle.cut_commands.specs.Run.{Ends};
 use crate::CliFault;
 use crate::run::{push_line, read_plan};
 use cut_disks::{Disk, FileDisk};
-use cut_journal::{Journal, JournalFault, MigrateFault, migrate};
+use cut_journal::{Journal, JournalFault, migrate};
 use cut_ledger::Slip;
-use cut_plan::{Plan, Version};
+use cut_plan::Plan;
 use cut_table::{Wire, send_all};
 use std::alloc::{AllocError, Global};
 
 /// Reads a plan of version 1 from a wire, moves the slips of its study from one disk to another, as a study of
 /// the plan's upgrade, and writes how many there are.
 ///
-/// The trials of each slip are run again: what the new disk has are the sums that they give for the upgrade, and
-/// the first slip that is not true ends it. The old disk is only read. A plan of version 2 is refused before a disk
-/// is touched, and nothing is moved unless the new disk holds no study. What is read and written, and each fault
+/// The old disk is read first, then a study without slips is made on the new one, and then the slips are moved: a
+/// fault of an earlier step is reported before one of a later. That the plan is of version 2 is found in the last
+/// step. The trials of each slip are run again: what the new disk has are the sums that they give for the upgrade,
+/// and the first slip that is not true ends it. The old disk is only read. What is read and written, and each fault
 /// of the wire, is as in `run_io`.
 pub fn migrate_io<W, O, N>(alloc: Global, wire: &mut W, old: O, new: N) -> Result<(), CliFault>
 where
@@ -68,9 +69,6 @@ where
     N: Disk + Drop,
     ensures { EndsMove O.is_honest O.state N.is_honest N.state old new plan.now result }
 {
-    if plan.version() != Version::One {
-        return Err(CliFault::Migrate(MigrateFault::NotVersion1));
-    }
     let slips = slips_on(alloc, plan, old)?;
     let upgrade = plan.upgrade(alloc)?;
     let mut journal = new_journal(alloc, &upgrade, new)?;
