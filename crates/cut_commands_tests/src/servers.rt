@@ -1,10 +1,12 @@
 //! Servers and their clients, over sockets of the system and over wires in memory.
 
 use cut_commands::{CliFault, ask_at};
+use cut_faults::Failures;
 use cut_server::{Crew, FolderShelf, ListenFault, Listener, serve_at, serve_io};
 use cut_table::MemoryWire;
 use std::alloc::{AllocError, Global};
 use std::io::Write;
+use std::os::unix::fs::PermissionsExt;
 use std::os::unix::net::UnixStream;
 use std::sync::Wait;
 use std::test::Fail;
@@ -66,7 +68,10 @@ fn served<T: Threads + Wait + Sync>(
         studies: 2,
     };
     let mut wire = MemoryWire::new(alloc, Vec::new(alloc), 100);
-    let ended = serve_at(host, rt, socket, crew, folder, &mut wire);
+    let ended = match serve_at(host, rt, socket, crew, folder, &mut wire) {
+        Ok(_report) => Ok(()),
+        Err(fault) => Err(fault),
+    };
     left_on(alloc, ended, &wire)
 }
 
@@ -149,6 +154,69 @@ fn a_client_may_vanish(rt: HostRuntime) -> Result<(), Fail> {
     Ok(())
 }
 
+/// Whether a socket is there, sooner or later, that its owner alone may connect to.
+fn is_for_its_owner(host: &HostRuntime, socket: &str) -> bool {
+    for _ in 0..10_000 {
+        if let Ok(found) = fs::metadata(host, socket) {
+            if found.permissions().mode() & 0o777 == 0o600 {
+                return true;
+            }
+        }
+        thread::sleep(host, Duration::from_millis(1));
+    }
+    false
+}
+
+/// Whether connections to a socket are refused, sooner or later.
+fn is_refusing(host: &HostRuntime, socket: &str) -> bool {
+    for _ in 0..10_000 {
+        if UnixStream::connect(host, socket).is_err() {
+            return true;
+        }
+        thread::sleep(host, Duration::from_millis(1));
+    }
+    false
+}
+
+/// Holds the only connection of a server. Returns whether the socket was its owner's alone, and whether those who
+/// come later are refused while the connection lasts.
+fn hold(host: &HostRuntime, socket: &str) -> (bool, bool) {
+    let is_own = is_for_its_owner(host, socket);
+    match UnixStream::connect(host, socket) {
+        Ok(stream) => {
+            let refuses = is_refusing(host, socket);
+            drop(stream);
+            (is_own, refuses)
+        }
+        Err(_) => (is_own, false),
+    }
+}
+
+#[test]
+fn late_clients_are_refused(rt: HostRuntime) -> Result<(), Fail> {
+    let socket = "cutlab_late.sock";
+    let _ = fs::remove_file(&rt, socket);
+    let (server, (is_own, refuses)) = thread::join(
+        &rt,
+        || served(&rt, &rt, socket, 1, None),
+        || hold(&rt, socket),
+    );
+    assert!(rt; is_done(&server?, "accepted 0\n"));
+    assert!(rt; is_own && refuses);
+    assert!(rt; fs::metadata(&rt, socket).is_err());
+    Ok(())
+}
+
+#[test]
+fn a_plain_file_is_no_folder(rt: HostRuntime) -> Result<(), Fail> {
+    let file = "cutlab_plain_file";
+    fs::write(&rt, file, b"no folder")?;
+    let left = served(&rt, &rt, "cutlab_plain.sock", 1, Some(file))?;
+    let _ = fs::remove_file(&rt, file);
+    assert!(rt; is_refused(&left, "cutlab: fault 20 Disk"));
+    Ok(())
+}
+
 #[test]
 fn a_server_that_cannot_begin_is_told(rt: HostRuntime) -> Result<(), Fail> {
     let left = served(&rt, &rt, "cutlab_none/a.sock", 1, None)?;
@@ -162,20 +230,30 @@ fn a_server_that_cannot_begin_is_told(rt: HostRuntime) -> Result<(), Fail> {
 #[derive(Drop)]
 struct Once {
     wire: Option<MemoryWire>,
-    failures: u64,
+    failures: Failures,
+    given: Failures,
 }
 
 impl Listener<MemoryWire> for Once {
     ghost faults = { λ l. l.failures };
 
+    ghost given = { λ l. l.given };
+
     fn accept(&mut self) -> Result<MemoryWire, ListenFault> {
         match self.wire.take() {
-            Some(wire) => Ok(wire),
+            Some(wire) => {
+                self.given.add();
+                Ok(wire)
+            }
             None => {
-                self.failures = self.failures.saturating_add(1);
+                self.failures.add();
                 Err(ListenFault)
             }
         }
+    }
+
+    fn close(&mut self) {
+        self.wire = None;
     }
 }
 
@@ -184,7 +262,8 @@ fn a_connection_that_does_not_come_is_told(rt: HostRuntime) {
     let alloc = rt.alloc();
     let listener = Once {
         wire: Some(MemoryWire::new(alloc, Vec::new(alloc), 1)),
-        failures: 0,
+        failures: Failures::none(),
+        given: Failures::none(),
     };
     let shelf = FolderShelf {
         host: &rt,
@@ -198,6 +277,6 @@ fn a_connection_that_does_not_come_is_told(rt: HostRuntime) {
     let mut wire = MemoryWire::new(alloc, Vec::new(alloc), 100);
     let (listener, told) = serve_io(&rt, alloc, listener, &shelf, crew, &mut wire);
     assert!(rt; matches!(told, Err(CliFault::Socket)));
-    assert_eq!(rt; listener.failures, 1);
+    assert!(rt; listener.failures.count() == 1 && listener.given.count() == 1);
     assert!(rt; wire.taken().is_empty());
 }

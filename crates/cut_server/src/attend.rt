@@ -1,8 +1,8 @@
 //! The threads of a server: each worker and each session has one, and a pass of the hall.
-ghost use Rattle.std.specs.Prelude.{◌≡◌, ◌≤◌, ◌+◌, ℕ, length, All, IfOk, IfErr};
+ghost use Rattle.std.specs.Prelude.{◌≡◌, ◌≤◌, ◌+◌, ◌-◌, ℕ, length, All, IfOk, IfErr, OnOk};
 ghost use Rattle.atomic_table.specs.Seated.{TableId};
 ghost use Rattle.cut_faults.specs.Failures.{counted};
-ghost use Rattle.cut_server.specs.Serve.{IsOfAttending, failed_serving};
+ghost use Rattle.cut_server.specs.Serve.{IsOfAttending, failed_serving, given_after, more_given};
 
 use cut_commands::CliFault;
 use cut_disks::Disk;
@@ -20,14 +20,24 @@ use thiserror::Error;
 #[error("no connection came")]
 pub struct ListenFault;
 
-/// What a server's connections come from. Its calls that fail are counted; at 2^64 - 1 the count stays.
+/// What a server's connections come from. Its calls that fail are counted, and the connections that it gave; at
+/// 2^64 - 1 a count stays.
 pub trait Listener<W> {
     /// How many of its calls failed.
     ghost faults: { Self → ℕ };
 
+    /// How many connections it gave.
+    ghost given: { Self → ℕ };
+
     /// Waits for the next connection.
     fn accept(&mut self) -> Result<W, ListenFault>
-        ensures faults { faults self.new ≡ counted result (faults self.old) };
+        ensures faults { faults self.new ≡ counted result (faults self.old) }
+        ensures given { given self.new ≡ given_after result (given self.old) };
+
+    /// Turns those away who wait for their connection to be taken, and all who come later.
+    fn close(&mut self)
+        ensures faults { faults self.new ≡ faults self.old }
+        ensures given { given self.new ≡ given self.old };
 }
 
 /// That a pass which comes back is of the hall that it was of.
@@ -130,6 +140,8 @@ where
     ensures own { IfOk result.1 (λ back. All (λ p. p.hall ≡ H.id_of hall.now) back.items) }
     ensures whole { IfOk result.1 (λ back. length back.items ≡ length passes.items) }
     ensures why { IfErr result.1 IsOfAttending }
+    ensures given { OnOk result.1
+        (L.given result.0 ≡ more_given (length passes.items - workers) (L.given listener)) }
     ensures faults { L.faults result.0 ≡ failed_serving result.1 (L.faults listener) }
 {
     thread::scope(
@@ -141,6 +153,8 @@ where
             ensures own { IfOk result.1 (λ back. All (λ p. p.hall ≡ H.id_of hall.entry.now) back.items) }
             ensures whole { IfOk result.1 (λ back. length back.items ≡ length passes.items) }
             ensures why { IfErr result.1 IsOfAttending }
+            ensures given { OnOk result.1
+                (L.given result.0 ≡ more_given (length passes.items - workers) (L.given listener)) }
             ensures faults { L.faults result.0 ≡ failed_serving result.1 (L.faults listener) }
         {
             let mut listener = listener;
@@ -163,7 +177,14 @@ where
     )
 }
 
-/// Starts the workers, and serves the connections until all sessions have ended.
+/// The threads of the workers and those of the sessions.
+#[derive(Drop)]
+struct Started<M: Tally> {
+    workers: Vec<Attendance<M>>,
+    sessions: Vec<Attendance<M>>,
+}
+
+/// Starts the workers and the sessions, turns away who comes later, and waits until all sessions have ended.
 fn attend_in<'s, E, D, M, H, S, L, W, R>(
     scope: &Scope<'s, E>,
     rt: &'s R,
@@ -188,15 +209,53 @@ where
     ensures served { IfOk result (λ a. All (λ p. p.hall ≡ H.id_of hall.now) a.served.items) }
     ensures whole { IfOk result (λ a. length a.workers.items + length a.served.items ≡ length passes.items) }
     ensures why { IfErr result IsOfAttending }
+    ensures given { OnOk result
+        (L.given listener.new ≡ more_given (length passes.items - workers) (L.given listener.old)) }
+    ensures faults { L.faults listener.new ≡ failed_serving result (L.faults listener.old) }
+{
+    let started = start_all(scope, rt, alloc, hall, shelf, listener, passes, workers);
+    listener.close();
+    let Started { workers, sessions } = started?;
+    let Ok(served) = join_promised(rt, sessions) else {
+        return Err(CliFault::WorkMemory);
+    };
+    Ok(Attended { workers, served })
+}
+
+/// Starts the workers, and a session with each of the passes that are left.
+fn start_all<'s, E, D, M, H, S, L, W, R>(
+    scope: &Scope<'s, E>,
+    rt: &'s R,
+    alloc: Global,
+    hall: &'s H,
+    shelf: &'s S,
+    listener: &mut L,
+    passes: Vec<Pass<M>>,
+    workers: u32,
+) -> Result<Started<M>, CliFault>
+where
+    D: Disk + Send + 's,
+    M: Tally + Send + Sync + 's,
+    H: Workplace<D, M> + Sync,
+    S: Shelf<D> + Sync,
+    L: Listener<W>,
+    W: Wire + Send + Drop + 's,
+    R: Threads + Wait + Sync,
+    requires own { All (λ p. p.hall ≡ H.id_of hall.now) passes.items }
+    requires few { workers ≤ length passes.items }
+    ensures workers { IfOk result (λ s. All (λ h. h.promise.0.value.hall ≡ H.id_of hall.now) s.workers.items) }
+    ensures sessions { IfOk result (λ s. All (λ h. h.promise.0.value.hall ≡ H.id_of hall.now) s.sessions.items) }
+    ensures whole { IfOk result (λ s.
+        length s.workers.items + length s.sessions.items ≡ length passes.items) }
+    ensures why { IfErr result IsOfAttending }
+    ensures given { OnOk result
+        (L.given listener.new ≡ more_given (length passes.items - workers) (L.given listener.old)) }
     ensures faults { L.faults listener.new ≡ failed_serving result (L.faults listener.old) }
 {
     let mut passes = passes;
     let workers = start_workers(scope, rt, alloc, hall, &mut passes, workers)?;
     let sessions = start_sessions(scope, rt, alloc, hall, shelf, listener, passes)?;
-    let Ok(served) = join_promised(rt, sessions) else {
-        return Err(CliFault::WorkMemory);
-    };
-    Ok(Attended { workers, served })
+    Ok(Started { workers, sessions })
 }
 
 /// Starts so many workers, each with one of the passes.
@@ -217,6 +276,7 @@ where
     requires few { count ≤ length passes.old.items }
     ensures rest { All (λ p. p.hall ≡ H.id_of hall.now) passes.new.items }
     ensures own { IfOk result (λ started. All (λ h. h.promise.0.value.hall ≡ H.id_of hall.now) started.items) }
+    ensures many { IfOk result (λ started. length started.items ≡ count) }
     ensures whole { IfOk result (λ started. length started.items + length passes.new.items ≡ length passes.old.items) }
     ensures why { IfErr result (λ e. e ≡ CliFault.WorkMemory) }
 {
@@ -268,6 +328,8 @@ where
     ensures own { IfOk result (λ started. All (λ h. h.promise.0.value.hall ≡ H.id_of hall.now) started.items) }
     ensures whole { IfOk result (λ started. length started.items ≡ length passes.items) }
     ensures why { IfErr result IsOfAttending }
+    ensures given { OnOk result
+        (L.given listener.new ≡ more_given (length passes.items) (L.given listener.old)) }
     ensures faults { L.faults listener.new ≡ failed_serving result (L.faults listener.old) }
 {
     let Ok(mut started) = Vec::with_capacity(alloc, passes.len()) else {

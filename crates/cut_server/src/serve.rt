@@ -1,8 +1,9 @@
 //! A server of studies: workers and sessions in threads of one hall.
-ghost use Rattle.std.specs.Prelude.{◌≡◌, ◌≤◌, ◌+◌, ◌↔◌, length, All, IfOk, IfErr};
+ghost use Rattle.std.specs.Prelude.{◌≡◌, ◌≤◌, ◌+◌, ◌↔◌, length, All, IfOk, IfErr, OnOk};
 ghost use Rattle.cut_commands.specs.Faults.{failed_calls};
-ghost use Rattle.cut_server.specs.Serve.{TellsReport, IsOfWriting, accepted_in_all};
-ghost use Rattle.cut_server.specs.Serve.{IsOfClosing, IsOfServing, IsStaffed, failed_serving};
+ghost use Rattle.cut_server.specs.Serve.{IsReport, WritesReport, accepted_in_all, more_given};
+ghost use Rattle.cut_server.specs.Serve.{IsOfClosing, IsOfServing, IsOfWriting, IsStaffed, failed_serving};
+ghost use Rattle.cut_pool.specs.Report.{EndsAs};
 
 use crate::Crew;
 use crate::attend::{Listener, attend};
@@ -45,6 +46,7 @@ where
     requires { IsStaffed crew }
     ensures slots { IfOk result.1 (λ report. length report ≡ crew.studies) }
     ensures why { IfErr result.1 IsOfServing }
+    ensures given { OnOk result.1 (L.given result.0 ≡ more_given crew.sessions (L.given listener)) }
     ensures faults { L.faults result.0 ≡ failed_serving result.1 (L.faults listener) }
 {
     let made = Blank::new(u64::from(crew.workers) + u64::from(crew.sessions));
@@ -77,6 +79,7 @@ where
         × (K.all ≡ K.parts) × (K.all ≡ crew.studies) }
     ensures slots { IfOk result.1 (λ report. length report ≡ crew.studies) }
     ensures why { IfErr result.1 IsOfServing }
+    ensures given { OnOk result.1 (L.given result.0 ≡ more_given crew.sessions (L.given listener)) }
     ensures faults { L.faults result.0 ≡ failed_serving result.1 (L.faults listener) }
 {
     let seats = crew.workers + crew.sessions;
@@ -124,7 +127,7 @@ pub fn serve_io<D, S, L, C, W, R>(
     shelf: &S,
     crew: Crew,
     wire: &mut W,
-) -> (L, Result<(), CliFault>)
+) -> (L, Result<Report, CliFault>)
 where
     D: Disk + Drop + Send,
     S: Shelf<D> + Sync,
@@ -133,22 +136,25 @@ where
     W: Wire,
     R: Threads + Wait + Sync,
     requires { IsStaffed crew }
-    ensures told { W.tells wire.old → TellsReport crew.studies result.1 (W.traffic wire.old) (W.traffic wire.new) }
+    ensures told { W.tells wire.old → WritesReport crew.studies result.1 (W.traffic wire.old) (W.traffic wire.new) }
     ensures tells { W.tells wire.old ↔ W.tells wire.new }
     ensures faults { W.faults wire.new ≡ failed_calls result.1 (W.faults wire.old) }
+    ensures given { OnOk result.1 (L.given result.0 ≡ more_given crew.sessions (L.given listener)) }
     ensures listener { L.faults result.0 ≡ failed_serving result.1 (L.faults listener) }
 {
     let (listener, served) = serve_sessions(rt, alloc, listener, shelf, crew);
     match served {
-        Ok(report) => (listener, tell_accepted(&report, wire)),
+        Ok(report) => (listener, write_accepted(report, wire)),
         Err(fault) => (listener, Err(fault)),
     }
 }
 
-/// Writes how many trials the studies of a report accepted.
-fn tell_accepted<W: Wire>(report: &Report, wire: &mut W) -> Result<(), CliFault>
-    requires { length report.now ≤ 64 }
-    ensures told { W.tells wire.old → TellsReport (length report.now) result (W.traffic wire.old) (W.traffic wire.new) }
+/// Writes how many trials the studies of a report accepted, and gives the report back.
+fn write_accepted<W: Wire>(report: Report, wire: &mut W) -> Result<Report, CliFault>
+    requires { length report ≤ 64 }
+    ensures same { IfOk result (λ back. back ≡ report) }
+    ensures told { W.tells wire.old →
+        WritesReport (length report) result (W.traffic wire.old) (W.traffic wire.new) }
     ensures why { IfErr result IsOfWriting }
     ensures tells { W.tells wire.old ↔ W.tells wire.new }
     ensures faults { W.faults wire.new ≡ failed_calls result (W.faults wire.old) }
@@ -156,10 +162,10 @@ fn tell_accepted<W: Wire>(report: &Report, wire: &mut W) -> Result<(), CliFault>
     let mut digits = Buffer::new();
     let mut text = FaultText::new();
     text.push_str("accepted ");
-    text.push_str(digits.format(accepted(report)));
+    text.push_str(digits.format(accepted(&report)));
     text.push_str("\n");
     match send_all(wire, text.as_bytes()) {
-        Ok(()) => Ok(()),
+        Ok(()) => Ok(report),
         Err(sent) => Err(CliFault::Write(sent.bytes)),
     }
 }
@@ -167,18 +173,21 @@ fn tell_accepted<W: Wire>(report: &Report, wire: &mut W) -> Result<(), CliFault>
 /// How many trials the studies of a report accepted together.
 fn accepted(report: &Report) -> u128
     requires { length report.now ≤ 64 }
-    ensures { result ≡ accepted_in_all report.now }
+    ensures value { result ≡ accepted_in_all report.now }
+    ensures legal { All (λ s. EndsAs s.history s.complete) report.now }
 {
     let slots = report.slots();
     let mut total = 0;
     for study in 0..slots.len() {
+        // For the proof: what always holds of a slot's end.
+        let _ = slots[study].complete();
         total += u128::from(slots[study].accepted());
     }
     total
 }
 
-/// Serves, as `serve_io` does, at the socket of a path, which is taken away at the end. Where the folder is not there
-/// or the socket is not made, nothing is served.
+/// Serves, as `serve_io` does, at the socket of a path, which is removed once the last connection is taken. Where the
+/// folder is not there or the socket is not made, nothing is served.
 pub fn serve_at<W, R>(
     host: &HostRuntime,
     rt: &R,
@@ -186,12 +195,13 @@ pub fn serve_at<W, R>(
     crew: Crew,
     folder: Option<&str>,
     wire: &mut W,
-) -> Result<(), CliFault>
+) -> Result<Report, CliFault>
 where
     W: Wire,
     R: Threads + Wait + Sync,
     requires { IsStaffed crew }
-    ensures ends { W.tells wire.old → TellsReport crew.studies result (W.traffic wire.old) (W.traffic wire.new) }
+    ensures ends { W.tells wire.old →
+        WritesReport crew.studies result (W.traffic wire.old) (W.traffic wire.new) }
     ensures tells { W.tells wire.old ↔ W.tells wire.new }
     ensures faults { W.faults wire.new ≡ failed_calls result (W.faults wire.old) }
 {
@@ -202,7 +212,7 @@ where
         return Err(CliFault::Socket);
     };
     let shelf = FolderShelf { host, folder };
-    let (door, told) = serve_io::<FileDisk, FolderShelf, Door, SocketWire, W, R>(
+    let (mut door, served) = serve_io::<FileDisk, FolderShelf, Door, SocketWire, W, R>(
         rt,
         host.alloc(),
         door,
@@ -210,9 +220,8 @@ where
         crew,
         wire,
     );
-    drop(door);
-    let _ = fs::remove_file(host, path);
-    told
+    door.close();
+    served
 }
 
 /// Whether there is a folder at the path, if one is given.

@@ -1,4 +1,4 @@
-ghost use Rattle.std.specs.Prelude.{◌≡◌, string_bytes, IfOk};
+ghost use Rattle.std.specs.Prelude.{◌≡◌, is_some, string_bytes, IfOk};
 ghost use Rattle.sha2.specs.Sha256.{sha256};
 ghost use Rattle.cut_server.specs.Shelf.{file_path};
 
@@ -21,7 +21,9 @@ pub struct FolderShelf<'a> {
 }
 
 impl Shelf<FileDisk> for FolderShelf<'_> {
-    fn open(&self, alloc: Global, plan: &Plan) -> Result<Option<FileDisk>, ShelfFault> {
+    fn open(&self, alloc: Global, plan: &Plan) -> Result<Option<FileDisk>, ShelfFault>
+        ensures kept { IfOk result (λ disk. is_some disk ≡ is_some self.now.folder) }
+    {
         let Some(folder) = self.folder else {
             return Ok(None);
         };

@@ -4,7 +4,7 @@ use Rattle.cut_table.specs.Traffic.{Traffic}
 use Rattle.cut_commands.specs.Ask.{EndsAsk}
 use Rattle.cut_commands.specs.Migrate.{EndsFiles}
 use Rattle.cut_commands.specs.Run.{Ends, EndsFile, check_task}
-use Rattle.cut_server.specs.Serve.{TellsReport}
+use Rattle.cut_server.specs.Serve.{EndsServing}
 use Rattle.cut_commands.specs.Study.{plain_task}
 use Rattle.cutlab.specs.declared.line.Job.{Job}
 use Rattle.cutlab.specs.declared.line.Job.TheVariants.{Run, Check, Serve, Ask, Migrate}
@@ -15,6 +15,6 @@ abbrev pub EndsJob : Job → Traffic → Traffic → Result ⊤ CliFault → Typ
 EndsJob (Run piece workers None) old new result = Ends plain_task old new result
 EndsJob (Run piece workers (Some file)) old new result = EndsFile old new result
 EndsJob Check old new result = Ends check_task old new result
-EndsJob (Serve socket crew folder) old new result = TellsReport crew.studies result old new
+EndsJob (Serve socket crew folder) old new result = EndsServing crew.studies result old new
 EndsJob (Ask socket) old new result = EndsAsk old new result
 EndsJob (Migrate from to) old new result = EndsFiles old new result

@@ -43,7 +43,10 @@ where
             socket,
             crew,
             folder,
-        } => serve_at(host, rt, socket, crew, folder, wire),
+        } => match serve_at(host, rt, socket, crew, folder, wire) {
+            Ok(_report) => Ok(()),
+            Err(fault) => Err(fault),
+        },
         Job::Ask { socket } => ask_at(host, wire, socket),
         Job::Migrate { old, new } => migrate_files(host, wire, old, new),
     }

@@ -364,7 +364,9 @@ fn checkpoint_option<'a>(alloc: Global) -> Arg<'a>
     Arg::new(alloc, "checkpoint")
         .long("checkpoint")
         .value_name("FILE")
-        .help("Keep the study in this file, and go on from what it holds")
+        .help(
+            "Keep the study in this file, and go on from what it holds; overwrites a file that holds no study",
+        )
 }
 
 /// What is told of a command line in which clap found this, with clap's text where it has one.

@@ -190,11 +190,23 @@ fn other_plans_and_no_study(rt: HostRuntime) -> Result<(), Fail> {
     let alloc = rt.alloc();
     let mut old = disk_with(&rt, alloc, &[FIRST])?;
     let mut new = empty_disk(alloc)?;
-    let is_version_2 = (3, "cutlab: fault 47 NotVersion1");
-    assert!(rt; leaves(alloc, UPGRADE, (&mut old, &mut new), is_version_2, 0)?);
+    let is_other = (4, "cutlab: fault 23 OtherPlan");
+    assert!(rt; leaves(alloc, UPGRADE, (&mut old, &mut new), is_other, 0)?);
     let mut none = empty_disk(alloc)?;
     let is_empty = (4, "cutlab: fault 22 NoStudy");
     assert!(rt; leaves(alloc, PLAN, (&mut none, &mut new), is_empty, 0)?);
+    assert!(rt; leaves(alloc, UPGRADE, (&mut none, &mut new), is_empty, 0)?);
+    Ok(())
+}
+
+#[test]
+fn a_study_of_version_2_is_not_moved(rt: HostRuntime) -> Result<(), Fail> {
+    let alloc = rt.alloc();
+    let mut old = empty_disk(alloc)?;
+    let _ = written(&rt, alloc, UPGRADE, 2, &mut old)?;
+    let mut new = empty_disk(alloc)?;
+    let is_version_2 = (3, "cutlab: fault 47 NotVersion1");
+    assert!(rt; leaves(alloc, UPGRADE, (&mut old, &mut new), is_version_2, NO_SLIP)?);
     Ok(())
 }
 

@@ -1,5 +1,8 @@
-use Rattle.std.proofs.Common.{◌≡◌, ◌∙◌, ◌+◌, All, rules, sym, subst, ap}
+use Rattle.std.proofs.Common.{◌≡◌, ◌∙◌, ◌+◌, ◌∷◌, [], ℕ, All, length, rules, sym, subst, ap, arith, length-append}
 use Rattle.std.proofs.lemmas.List.Elements.{All-push}
+use Rattle.cut_faults.specs.Failures.{one_more}
+use Rattle.cut_server.specs.Serve.{more_given}
+use Rattle.cut_server.proofs.AttendLemmas.{one_more_given}
 use Rattle.cut_server.proofs.attend.start_sessions.Goals as goal
 
 pub loop-pass-preserved : goal.loop-pass-preserved
@@ -15,5 +18,8 @@ loop-pass-preserved g c =
           was.own (ap (λ p. p.0.value.hall) c.in-Ok-session.ensures.ok ∙ ap (λ p. p.hall) c.of.ensures ∙ mine));
       whole = search rules;
       room = search rules;
+      given = c.in-Ok-accept.ensures.given ∙ ap one_more was.given ∙ sym (one_more_given (length c.loop-pass.started.items) (g.L.Listener.given c.args.listener.now))
+          ∙ ap (λ (n : ℕ). more_given n (g.L.Listener.given c.args.listener.now))
+          (let long : length c.loop-pass.started.items + 1 ≡ length c.push_reserved.new.self.items = omega (arith, ap length c.push_reserved.ensures.items, length-append c.loop-pass.started.items (c.in-Ok-session.session ∷ [])) in long);
       faults = search rules;
     }

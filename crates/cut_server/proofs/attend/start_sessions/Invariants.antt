@@ -1,6 +1,7 @@
 use Rattle.std.proofs.Common.{◌≡◌, ◌≤◌, ◌+◌, length, All}
 use Rattle.std.specs.Prelude.{vec_capacity}
 use Rattle.std.specs.Vec.Iter.{into_iter_items, into_iter_len}
+use Rattle.cut_server.specs.Serve.{more_given}
 use Rattle.cut_server.proofs.attend.start_sessions.Given as goal
 
 -- the passes that are left, and those that sessions took, are this hall's, and each connection came
@@ -12,5 +13,6 @@ invariant-loop-pass g l = record {
   own : All (λ h. h.promise.0.value.hall ≡ g.H.Workplace.id_of l.hall) l.started.items;
   whole : length l.started.items + into_iter_len l.pass-iterator ≡ length l.fn.passes.items;
   room : length l.fn.passes.items ≤ vec_capacity l.started;
+  given : g.L.Listener.given l.listener ≡ more_given (length l.started.items) (g.L.Listener.given l.fn.listener);
   faults : g.L.Listener.faults l.listener ≡ g.L.Listener.faults l.fn.listener;
 }

@@ -1,5 +1,5 @@
-use Rattle.std.proofs.Common.{◌≡◌, ◌≤◌, ◌*◌, ◌^◌, sum_by, take}
-use Rattle.cut_pool.specs.Report.{accepted_told}
+use Rattle.std.proofs.Common.{◌≡◌, ◌≤◌, ◌*◌, ◌^◌, All, sum_by, take}
+use Rattle.cut_pool.specs.Report.{EndsAs, accepted_told}
 use Rattle.cut_server.proofs.serve.accepted.Given as goal
 
 -- the slots so far are added up
@@ -7,4 +7,5 @@ abbrev pub invariant-loop-study : goal.invariant-loop-study
 invariant-loop-study l = record {
   sum : l.total ≡ sum_by (λ s. accepted_told s.history) (take l.study l.slots);
   small : l.total ≤ l.study * 2 ^ 64;
+  legal : All (λ s. EndsAs s.history s.complete) (take l.study l.slots);
 }
