@@ -10,4 +10,6 @@ with socket.socket(socket.AF_UNIX) as server:
     while (head := replies.read(5)) and head[:1] in b"TS":
         line = replies.read(struct.unpack(">I", head[1:])[0])
         sys.stdout.buffer.write(line if head[:1] == b"T" else b"")
-    sys.exit(0 if head[:1] == b"Z" else f"no table: fault {int.from_bytes(replies.read(), 'big')}")
+    if head[:1] == b"Z":
+        sys.exit(0)
+    sys.exit(f"no table: fault {int.from_bytes(replies.read(), 'big')}" if head else "no table: the server went away")
