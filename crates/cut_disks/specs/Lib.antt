@@ -1,5 +1,6 @@
 pub mod State
 pub mod Memory
 pub mod Faulty
+pub mod OnFile
 pub mod Laws
 pub mod Folders

@@ -1,10 +1,10 @@
 ghost use Rattle.std.specs.Prelude.{ℕ, ◌≡◌, ◌+◌, ◌≤◌, ◌<◌, ◌^◌, true, length, IfOk, OnOk};
 ghost use Rattle.cut_faults.specs.Failures.{counted};
 
-use crate::raw_file::{RawFile, SystemFile};
-use crate::{Disk, DiskFault};
+use crate::{Disk, DiskFault, RawFile, SystemFile};
 use cut_faults::Failures;
 use std::io::{self, ErrorKind};
+use std::marker::Model;
 
 /// The longest file that a call may make, in bytes.
 const MOST_BYTES: u64 = (1 << 63) - 1;
@@ -17,34 +17,28 @@ const MOST_BYTES: u64 = (1 << 63) - 1;
 ///
 /// A sync is `File::sync_all`, which on Linux is the call fsync: the bytes and the length reach the device. The
 /// file is never cut. A call is a failing one also where an interruption came so often that it was given up.
+///
+/// Contracts see the file as its own values, and how many calls failed.
 #[derive(Drop)]
 pub struct FileDisk<F: RawFile = SystemFile> {
     file: F,
     failures: Failures,
 }
 
-impl FileDisk {
-    /// Opens the regular file at a path, or makes an empty one, and holds the lock on it (`File::try_lock`)
-    /// until the disk is dropped.
-    ///
-    /// Its folder is synced each time (`File::sync_all` of the folder), so that the entry is sure, also where an
-    /// earlier call made the file and was ended before it synced the folder. Fails where there is something
-    /// else than a regular file, where the file can't be read and written, where another program holds the
-    /// lock, and where the folder isn't synced. A call that fails may leave a new, empty file; a file that was
-    /// there is not changed.
-    pub fn open(rt: &HostRuntime, path: &str) -> Result<FileDisk, DiskFault> {
-        match SystemFile::open(rt, path) {
-            Ok(file) => FileDisk::over(file),
-            Err(_) => Err(DiskFault),
-        }
-    }
+impl<F: RawFile> Model for FileDisk<F> {
+    ghost use Rattle.cut_disks.specs.OnFile.{OnFile};
+
+    ghost Value = { OnFile F };
+
+    ghost view = { λ d. record { raw = d.file; failures = d.failures } };
 }
 
 impl<F: RawFile + Drop> FileDisk<F> {
     /// The disk of a file. It is asked whether it is a regular one, then locked, and then its folder is synced.
+    /// Nothing else makes a disk of a file.
     pub fn over(file: F) -> Result<FileDisk<F>, DiskFault>
         ensures ready { IfOk result (λ disk. (found : F) × ((locked : F) ×
-            (F.told_kind file true found × F.locked found locked × F.synced_folder locked disk.file))) }
+            (F.told_kind file true found × F.locked found locked × F.synced_folder locked disk.raw))) }
         ensures faults { IfOk result (λ disk. disk.failures ≡ 0) }
     {
         let mut file = file;
@@ -95,7 +89,7 @@ impl<F: RawFile> Disk for FileDisk<F> {
     ghost faults = { λ d. d.failures };
 
     fn length(&mut self) -> Result<u64, DiskFault>
-        ensures called { IfOk result (λ n. F.told_length self.old.file n self.new.file) }
+        ensures called { IfOk result (λ n. F.told_length self.old.raw n self.new.raw) }
         ensures bound { IfOk result (λ n. n < 2 ^ 63) }
         ensures faults { self.new.failures ≡ counted result self.old.failures }
     {
@@ -104,7 +98,7 @@ impl<F: RawFile> Disk for FileDisk<F> {
     }
 
     fn read(&mut self, at: u64, into: &mut [u8]) -> Result<(), DiskFault>
-        ensures called { OnOk result (F.was_read self.old.file at into.new self.new.file) }
+        ensures called { OnOk result (F.was_read self.old.raw at into.new self.new.raw) }
         ensures faults { self.new.failures ≡ counted result self.old.failures }
     {
         let done = self.file.read_exact_at(into, at);
@@ -112,7 +106,7 @@ impl<F: RawFile> Disk for FileDisk<F> {
     }
 
     fn write_at(&mut self, at: u64, put: &[u8]) -> Result<(), DiskFault>
-        ensures called { OnOk result (F.wrote self.old.file at put.now self.new.file) }
+        ensures called { OnOk result (F.wrote self.old.raw at put.now self.new.raw) }
         ensures bound { OnOk result (at + length put.now < 2 ^ 63) }
         ensures faults { self.new.failures ≡ counted result self.old.failures }
     {
@@ -121,7 +115,7 @@ impl<F: RawFile> Disk for FileDisk<F> {
     }
 
     fn sync(&mut self) -> Result<(), DiskFault>
-        ensures called { OnOk result (F.synced_all self.old.file self.new.file) }
+        ensures called { OnOk result (F.synced_all self.old.raw self.new.raw) }
         ensures faults { self.new.failures ≡ counted result self.old.failures }
     {
         let done = self.file.sync_all();

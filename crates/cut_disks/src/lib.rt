@@ -12,10 +12,12 @@ mod file_disk;
 pub mod laws;
 mod memory_disk;
 mod raw_file;
+mod system_file;
 
 pub use call::{DiskCall, Written};
 pub use disk::{Disk, DiskFault};
 pub use faulty_disk::{FaultyDisk, Tear};
 pub use file_disk::FileDisk;
 pub use memory_disk::MemoryDisk;
-pub use raw_file::{RawFile, SystemFile, folder_of};
+pub use raw_file::RawFile;
+pub use system_file::{SystemFile, folder_of};

@@ -1,11 +1,6 @@
-ghost use Rattle.std.specs.Prelude.{ℕ, List, Bool, ◌≡◌, IfOk, OnOk};
-ghost use Rattle.std.specs.Path.{path_bytes, path_parent};
-ghost use Rattle.cut_disks.specs.Folders.{folder_text};
+ghost use Rattle.std.specs.Prelude.{ℕ, List, Bool, IfOk, OnOk};
 
-use std::fs::{self, File, OpenOptions};
 use std::io;
-use std::os::unix::fs::FileExt;
-use std::path::Path;
 
 /// The calls of the system on an open file and on its folder.
 ///
@@ -61,82 +56,4 @@ pub trait RawFile {
     /// Makes the bytes and the length sure.
     fn sync_all(&mut self) -> io::Result<()>
         ensures { OnOk result (synced_all self.old self.new) };
-}
-
-/// A file of the system, and its folder. Each call is handed on to the call of the same name.
-#[derive(Drop)]
-pub struct SystemFile {
-    file: File,
-    folder: File,
-}
-
-impl SystemFile {
-    /// Opens a file and its folder, and makes the file where there is none.
-    pub fn open(rt: &HostRuntime, path: &str) -> io::Result<SystemFile> {
-        let file = OpenOptions::new()
-            .read(true)
-            .write(true)
-            .create(true)
-            .truncate(false)
-            .open(rt, path)?;
-        let folder = fs::open(rt, folder_of(path))?;
-        Ok(SystemFile { file, folder })
-    }
-}
-
-/// The folder in which a file has its entry.
-pub fn folder_of(path: &str) -> Path<'_>
-    ensures { path_bytes result ≡ folder_text (path_parent path.now) }
-{
-    match Path::new(path).parent() {
-        Some(folder) if !folder.as_str().is_empty() => folder,
-        _ => Path::new("."),
-    }
-}
-
-impl RawFile for SystemFile {
-    ghost use Rattle.std.specs.Prelude.{⊤};
-
-    ghost told_kind = { λ _ _ _. ⊤ };
-
-    ghost locked = { λ _ _. ⊤ };
-
-    ghost synced_folder = { λ _ _. ⊤ };
-
-    ghost told_length = { λ _ _ _. ⊤ };
-
-    ghost was_read = { λ _ _ _ _. ⊤ };
-
-    ghost wrote = { λ _ _ _ _. ⊤ };
-
-    ghost synced_all = { λ _ _. ⊤ };
-
-    fn is_regular(&mut self) -> io::Result<bool> {
-        Ok(self.file.metadata()?.is_file())
-    }
-
-    fn try_lock(&mut self) -> io::Result<()> {
-        self.file.try_lock()?;
-        Ok(())
-    }
-
-    fn sync_folder(&mut self) -> io::Result<()> {
-        self.folder.sync_all()
-    }
-
-    fn length(&mut self) -> io::Result<u64> {
-        Ok(self.file.metadata()?.len())
-    }
-
-    fn read_exact_at(&mut self, into: &mut [u8], at: u64) -> io::Result<()> {
-        self.file.read_exact_at(into, at)
-    }
-
-    fn write_all_at(&mut self, put: &[u8], at: u64) -> io::Result<()> {
-        self.file.write_all_at(put, at)
-    }
-
-    fn sync_all(&mut self) -> io::Result<()> {
-        self.file.sync_all()
-    }
 }

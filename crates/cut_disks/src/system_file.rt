@@ -1,0 +1,112 @@
+ghost use Rattle.std.specs.Prelude.{◌≡◌};
+ghost use Rattle.std.specs.Path.{path_bytes, path_parent};
+ghost use Rattle.cut_disks.specs.Folders.{folder_text};
+
+use crate::{DiskFault, FileDisk, RawFile};
+use std::fs::{self, File, OpenOptions};
+use std::io;
+use std::os::unix::fs::FileExt;
+use std::path::Path;
+
+/// A file of the system, and its folder. Each call is handed on to the call of the same name.
+///
+/// Which call that is has to be taken on trust. The library says nothing of a file's calls that a clause could
+/// carry, so each ghost member below holds of any two values, and a body that did nothing would be proved too.
+/// These bodies are a line each, and so is what `open` adds to them: which flags a file is opened with, and
+/// which path its folder is opened by. The tests on real files look at them.
+#[derive(Drop)]
+pub struct SystemFile {
+    file: File,
+    folder: File,
+}
+
+impl SystemFile {
+    /// Opens a file and its folder, and makes the file where there is none.
+    pub fn open(rt: &HostRuntime, path: &str) -> io::Result<SystemFile> {
+        let file = OpenOptions::new()
+            .read(true)
+            .write(true)
+            .create(true)
+            .truncate(false)
+            .open(rt, path)?;
+        let folder = fs::open(rt, folder_of(path))?;
+        Ok(SystemFile { file, folder })
+    }
+}
+
+impl FileDisk {
+    /// Opens the regular file at a path, or makes an empty one, and holds the lock on it (`File::try_lock`)
+    /// until the disk is dropped.
+    ///
+    /// Its folder is synced each time (`File::sync_all` of the folder), so that the entry is sure, also where an
+    /// earlier call made the file and was ended before it synced the folder. Fails where there is something
+    /// else than a regular file, where the file can't be read and written, where another program holds the
+    /// lock, and where the folder isn't synced. A call that fails may leave a new, empty file; a file that was
+    /// there is not changed.
+    ///
+    /// No clause says this, as none can for a `SystemFile`. But the fields of a disk are private to the module of
+    /// `over`, so that no disk is made here but by that call, whose clause `ready` holds for each file.
+    pub fn open(rt: &HostRuntime, path: &str) -> Result<FileDisk, DiskFault> {
+        match SystemFile::open(rt, path) {
+            Ok(file) => FileDisk::over(file),
+            Err(_) => Err(DiskFault),
+        }
+    }
+}
+
+/// The folder in which a file has its entry.
+pub fn folder_of(path: &str) -> Path<'_>
+    ensures { path_bytes result ≡ folder_text (path_parent path.now) }
+{
+    match Path::new(path).parent() {
+        Some(folder) if !folder.as_str().is_empty() => folder,
+        _ => Path::new("."),
+    }
+}
+
+impl RawFile for SystemFile {
+    ghost use Rattle.std.specs.Prelude.{⊤};
+
+    ghost told_kind = { λ _ _ _. ⊤ };
+
+    ghost locked = { λ _ _. ⊤ };
+
+    ghost synced_folder = { λ _ _. ⊤ };
+
+    ghost told_length = { λ _ _ _. ⊤ };
+
+    ghost was_read = { λ _ _ _ _. ⊤ };
+
+    ghost wrote = { λ _ _ _ _. ⊤ };
+
+    ghost synced_all = { λ _ _. ⊤ };
+
+    fn is_regular(&mut self) -> io::Result<bool> {
+        Ok(self.file.metadata()?.is_file())
+    }
+
+    fn try_lock(&mut self) -> io::Result<()> {
+        self.file.try_lock()?;
+        Ok(())
+    }
+
+    fn sync_folder(&mut self) -> io::Result<()> {
+        self.folder.sync_all()
+    }
+
+    fn length(&mut self) -> io::Result<u64> {
+        Ok(self.file.metadata()?.len())
+    }
+
+    fn read_exact_at(&mut self, into: &mut [u8], at: u64) -> io::Result<()> {
+        self.file.read_exact_at(into, at)
+    }
+
+    fn write_all_at(&mut self, put: &[u8], at: u64) -> io::Result<()> {
+        self.file.write_all_at(put, at)
+    }
+
+    fn sync_all(&mut self) -> io::Result<()> {
+        self.file.sync_all()
+    }
+}
