@@ -13,6 +13,7 @@ use std::test::Fail;
 mod listing;
 mod runs;
 mod settled;
+mod whole_study;
 
 // A plan of one k, h and l, whose processes fail by crashes.
 fn plan_of(
@@ -56,7 +57,7 @@ fn totals_of(numbers: [u64; 7]) -> Totals {
     }
 }
 
-fn slip(first: u32, count: u32, numbers: [u64; 7]) -> Slip {
+pub(crate) fn slip(first: u32, count: u32, numbers: [u64; 7]) -> Slip {
     Slip {
         piece: Piece { first, count },
         totals: totals_of(numbers),
@@ -413,15 +414,17 @@ fn takes(alloc: Global, ledger: &mut Ledger, trial: u32) -> Result<bool, Fail> {
     }
 }
 
-// Takes the trial before a gap's end, and after it the gap's first. Tells whether each offer leaves the gap that
-// it should: a smaller one where it is taken, and the one before it where it is not.
+// Offers the trial before a gap's end, and after it the gap's first. Each offer leaves the gap that it should: a
+// smaller one where it is taken, and the one before it where memory is refused. Ample memory refuses none.
 fn check_refused(rt: &impl Abort, alloc: Global, ledger: &mut Ledger) -> Result<(), Fail> {
-    let is_taken = takes(alloc, ledger, 2)?;
-    let end = if is_taken { 2 } else { 3 };
+    let takes_last = takes(alloc, ledger, 2)?;
+    let end = if takes_last { 2 } else { 3 };
     assert!(rt; has_gaps(alloc, ledger, &[(0, end)])?);
-    if is_taken {
-        let first = if takes(alloc, ledger, 0)? { 1 } else { 0 };
-        assert!(rt; has_gaps(alloc, ledger, &[(first, end)])?);
+    let takes_first = takes(alloc, ledger, 0)?;
+    let first = if takes_first { 1 } else { 0 };
+    assert!(rt; has_gaps(alloc, ledger, &[(first, end)])?);
+    if !takes_last || !takes_first {
+        return Err(Fail::new("memory was refused"));
     }
     Ok(())
 }

@@ -1,5 +1,7 @@
 //! Lines and tables that were worked out by hand, and wires that fail.
 
+mod many;
+
 use crate::ledgers::result_of;
 use cut_ledger::{Ledger, Slip};
 use cut_plan::Plan;
@@ -21,6 +23,9 @@ const SMALLER: &[u8] =
 const TABLE: &[u8] =
     b"k,h,l,f,trials,receivers,conflicts,silent,extra,votes,decided,right,ppm\n1,1,1,1,2,8,0,0,0,8,2,2,0\n";
 
+/// The first line of a table.
+const HEADER: &str = "k,h,l,f,trials,receivers,conflicts,silent,extra,votes,decided,right,ppm\n";
+
 /// The first study in version 2.
 const SETTLED: &[u8] =
     br#"{"copies":1,"dead":"silent","deaf":0,"f":[1],"h":[1],"implicit":true,"k":[1],"l":[1],"liars":0,"links":0,"nodes":5,"repeats":2,"seed":"0000000000000000000000000000000000000000000000000000000000000000","version":2}"#;
@@ -29,7 +34,7 @@ const SETTLED_TABLE: &[u8] =
     b"k,h,l,f,trials,receivers,conflicts,silent,extra,votes,decided,right,settled,ppm\n1,1,1,1,2,8,0,0,0,8,2,2,8,0\n";
 
 /// The lines of both tables.
-const LINE: &[u8] = b"1,1,1,1,2,8,0,0,0,8,2,2,0\n";
+pub(crate) const LINE: &[u8] = b"1,1,1,1,2,8,0,0,0,8,2,2,0\n";
 
 const SETTLED_LINE: &[u8] = b"1,1,1,1,2,8,0,0,0,8,2,2,8,0\n";
 
@@ -50,7 +55,7 @@ fn ledger_with(alloc: Global, json: &[u8], count: u32) -> Result<Ledger, Fail> {
 }
 
 /// Whether a ledger has no line of its first cell, and its table only a header.
-fn has_no_line(alloc: Global, ledger: &Ledger) -> bool {
+pub(crate) fn has_no_line(alloc: Global, ledger: &Ledger) -> bool {
     let mut wire = MemoryWire::new(alloc, Vec::new(alloc), 1000);
     let is_stopped = matches!(
         emit_table(alloc, ledger, &mut wire),
@@ -83,7 +88,7 @@ fn is_table(alloc: Global, ledger: &Ledger, table: &[u8]) -> Result<bool, TableF
 }
 
 /// Whether this is the line of a ledger's first cell.
-fn is_line(alloc: Global, ledger: &Ledger, wanted: &[u8]) -> Result<bool, RowFault> {
+pub(crate) fn is_line(alloc: Global, ledger: &Ledger, wanted: &[u8]) -> Result<bool, RowFault> {
     if ledger.plan().cells() == 0 {
         return Ok(false);
     }

@@ -1,7 +1,7 @@
 // A ledger that only lists what it took, with which the ranges are compared.
 
 use crate::ledgers::{fresh, result_of};
-use cut_ledger::Ledger;
+use cut_ledger::{Ledger, OfferFault};
 use cut_trial::{Piece, PieceResult, Totals, is_piece};
 use rand_chacha::ChaCha8Rng;
 use rand_core::SeedableRng;
@@ -120,7 +120,7 @@ fn compare(rt: &impl Abort, alloc: Global, ledger: &Ledger, listing: &Listing) -
     Ok(())
 }
 
-// Whether a result is taken by both or by none.
+// Whether a result is taken by both, or by none as they hold one of its trials.
 fn is_offered(
     alloc: Global,
     piece: Piece,
@@ -129,7 +129,11 @@ fn is_offered(
 ) -> Result<bool, Fail> {
     let result = result_of(alloc, ledger.plan(), piece.first, piece.count)?;
     let taken = listing.offer(&result)?;
-    Ok(ledger.offer(&result).is_ok() == taken)
+    match ledger.offer(&result) {
+        Ok(()) => Ok(taken),
+        Err(OfferFault::Overlap) => Ok(!taken),
+        Err(fault) => Err(fault)?,
+    }
 }
 
 // Forty offers that are drawn.

@@ -138,26 +138,44 @@ fn is_reply(
 }
 
 // A step and its reply. Where memory is refused, as in a run of the tests with one refused allocation, the event
-// leaves the run as it was: it is answered the second time as if it had come but once.
+// leaves the run as it was: it is answered the second time as if it had come but once. Tells whether memory was
+// refused.
+fn check_row(
+    rt: &impl Abort,
+    alloc: Global,
+    plan: &Plan,
+    row: Row,
+    run: &mut Run,
+) -> Result<bool, Fail> {
+    let first = is_reply(alloc, plan, row, run)?;
+    let is_wanted = match first {
+        Some(is_wanted) => is_wanted,
+        None => is_reply(alloc, plan, row, run)?.ok_or("refused twice")?,
+    };
+    let (_, wanted) = row;
+    assert!(rt; is_wanted, "{wanted}");
+    Ok(first.is_none())
+}
+
+// The replies to some steps. Tells whether memory was refused at one of them.
 fn check_rows(
     rt: &impl Abort,
     alloc: Global,
     plan: &Plan,
     rows: &[Row],
     run: &mut Run,
-) -> Result<(), Fail> {
-    for (number, row) in rows.iter().enumerate() {
-        let mut answer = is_reply(alloc, plan, *row, run)?;
-        if answer.is_none() {
-            answer = is_reply(alloc, plan, *row, run)?;
+) -> Result<bool, Fail> {
+    let mut is_refused = false;
+    for row in rows {
+        if check_row(rt, alloc, plan, *row, run)? {
+            is_refused = true;
         }
-        let is_wanted = answer.ok_or("refused twice")?;
-        assert!(rt; is_wanted, "row {number}");
     }
-    Ok(())
+    Ok(is_refused)
 }
 
 // A plan of 5 processes, one of which fails, and of 2 trials is run so, in pieces of 1: first some rows, then others.
+// With ample memory none of them is refused any.
 fn check(
     rt: &impl Abort,
     alloc: Global,
@@ -166,8 +184,14 @@ fn check(
 ) -> Result<(), Fail> {
     let plan = plan_of(alloc, 5, "[1]", 0, 2)?;
     let mut run = started(alloc, &plan, has_journal)?;
-    check_rows(rt, alloc, &plan, before, &mut run)?;
-    check_rows(rt, alloc, &plan, after, &mut run)
+    let refused = [
+        check_rows(rt, alloc, &plan, before, &mut run)?,
+        check_rows(rt, alloc, &plan, after, &mut run)?,
+    ];
+    if refused != [false; 2] {
+        return Err(Fail::new("memory was refused"));
+    }
+    Ok(())
 }
 
 fn check_runs(rt: &impl Abort, alloc: Global) -> Result<(), Fail> {
