@@ -275,6 +275,67 @@ fn deliveries_of_a_late_trial(rt: HostRuntime) -> Result<(), Fail> {
     Ok(())
 }
 
+// Whether deliveries are these: ring, subject and copy.
+fn are_deliveries(order: &[Delivery], wanted: &[(u8, u16, u8)]) -> bool {
+    for (delivery, &(ring, subject, copy)) in order.iter().zip(wanted) {
+        let edge = Edge { ring, subject };
+        if *delivery != (Delivery { edge, copy }) {
+            return false;
+        }
+    }
+    order.len() == wanted.len()
+}
+
+// The first two come by 860360001008966875 and 860360001009086893, keys that agree in their first 46 bits. The script
+// searched trials and receivers for two such. The whole keys decide, and so the later copy comes first.
+#[test]
+fn the_last_bits_of_a_key_decide_before_the_copy(rt: HostRuntime) -> Result<(), Fail> {
+    let mut draws = Draws::new(ZEROS, 12);
+    let edges = [
+        Edge {
+            ring: 31,
+            subject: 663,
+        },
+        Edge {
+            ring: 24,
+            subject: 692,
+        },
+    ];
+    let order = draws.deliveries(rt.alloc(), 236, 32, &edges, 2)?;
+    let wanted = [(31, 663, 1), (24, 692, 0), (24, 692, 1), (31, 663, 0)];
+    assert!(rt; are_deliveries(&order, &wanted));
+    Ok(())
+}
+
+// Two others, by 3241235453789715315 and 3241235453789784697: the edge of the greater number comes first.
+#[test]
+fn the_last_bits_of_a_key_decide_before_the_edge(rt: HostRuntime) -> Result<(), Fail> {
+    let mut draws = Draws::new(ZEROS, 3);
+    let edges = [
+        Edge {
+            ring: 28,
+            subject: 26,
+        },
+        Edge {
+            ring: 24,
+            subject: 689,
+        },
+    ];
+    let order = draws.deliveries(rt.alloc(), 913, 32, &edges, 4)?;
+    let wanted = [
+        (24, 689, 0),
+        (28, 26, 3),
+        (24, 689, 3),
+        (24, 689, 2),
+        (28, 26, 0),
+        (28, 26, 1),
+        (24, 689, 1),
+        (28, 26, 2),
+    ];
+    assert!(rt; are_deliveries(&order, &wanted));
+    Ok(())
+}
+
 #[test]
 fn deliveries_of_few_edges(rt: HostRuntime) -> Result<(), Fail> {
     let alloc = rt.alloc();

@@ -199,6 +199,20 @@ fn trials_and_pieces(rt: HostRuntime) -> Result<(), Fail> {
     Ok(())
 }
 
+// One trial of 1,999 processes on 31 rings, of which one crashes, each alert in four copies.
+const MANY_RINGS: &str =
+    r#"{"copies":4,"dead":"speak","f":[1],"faults":"crash","h":[31],"implicit":true,"k":[31],"l":[1],"liars":0,"links":0,"nodes":1999,"repeats":1,"seed":"0000000000000000000000000000000000000000000000000000000000000000","version":1}"#;
+
+// Again only the target is alerted. A quorum of 1999 is 1500.
+#[test]
+fn a_trial_of_many_rings(rt: HostRuntime) -> Result<(), Fail> {
+    let plan = Plan::from_json(rt.alloc(), MANY_RINGS.as_bytes())?;
+    assert!(rt; (plan.nodes(), plan.copies(), plan.k()) == (1_999, 4, [31].as_slice()));
+    let wanted = [1_998, 0, 0, 0, 1_998, 1, 1, 0];
+    assert!(rt; both_totals(rt.alloc(), &plan, 0)? == (wanted, wanted));
+    Ok(())
+}
+
 // Whether a piece is run where it is one of the plan's, and else refused as none.
 fn is_run_as_it_is(alloc: Global, plan: &Plan, piece: Piece) -> Result<bool, Fail> {
     let rings = Rings::hashed(alloc, plan)?;
