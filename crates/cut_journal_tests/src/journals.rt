@@ -176,7 +176,7 @@ fn append_pieces(
         let first = number(numbers.next().unwrap_or(""));
         let size = number(numbers.next().unwrap_or(""));
         let result = result_of(alloc, plan, first, size)?;
-        let _ = journal.append(&result);
+        journal.append(&result)?;
     }
     Ok(())
 }
@@ -188,7 +188,7 @@ fn written_disk(alloc: Global, plan: &Plan, slips: &str) -> Result<MemoryDisk, F
             append_pieces(alloc, &mut journal, plan, slips)?;
             Ok(journal.into_disk())
         }
-        Err((_fault, disk)) => Ok(disk),
+        Err((fault, _disk)) => Err(fault)?,
     }
 }
 
