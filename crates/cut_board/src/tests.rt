@@ -228,15 +228,26 @@ fn is_last_alone(totals: &[StudyTotals]) -> bool {
         && totals[63] == StudyTotals { draws: 1, count: 2 }
 }
 
-#[test]
-fn a_board_has_up_to_64_studies_and_129_seats(rt: HostRuntime) -> Result<(), Fail> {
-    let alloc = rt.alloc();
-    let (board, mut seats) = Board::start(alloc, 64, 129)?;
-    assert!(rt; seats.len() == 129);
+/// A board of 64 studies gives as many seats as asked, and takes them all back.
+fn check_seats(rt: &impl Abort, alloc: Global, count: u32) -> Result<(), Fail>
+    requires { (0 < count) × (count ≤ 129) }
+{
+    let (board, mut seats) = Board::start(alloc, 64, count)?;
+    assert!(rt; seats.len() == count as usize);
     let Some(last) = seats.last_mut() else {
         unreachable!()
     };
-    check_last_study(&rt, &board, last);
+    check_last_study(rt, &board, last);
     assert!(rt; is_last_alone(board.finish(alloc, seats)?.as_slice()));
     Ok(())
+}
+
+#[test]
+fn a_board_has_up_to_64_studies_and_129_seats(rt: HostRuntime) -> Result<(), Fail> {
+    check_seats(&rt, rt.alloc(), 129)
+}
+
+#[test]
+fn a_board_of_65_seats(rt: HostRuntime) -> Result<(), Fail> {
+    check_seats(&rt, rt.alloc(), 65)
 }
