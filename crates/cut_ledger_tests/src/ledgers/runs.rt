@@ -175,7 +175,7 @@ fn check_rows(
 }
 
 // A plan of 5 processes, one of which fails, and of 2 trials is run so, in pieces of 1: first some rows, then others.
-// With ample memory none of them is refused any.
+// It fails where memory was refused at one of them.
 fn check(
     rt: &impl Abort,
     alloc: Global,
