@@ -7,3 +7,4 @@ pub mod Laws
 pub mod Steps
 pub mod Migration
 pub mod MigrateFaultCode
+pub mod Trust

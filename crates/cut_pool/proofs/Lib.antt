@@ -12,3 +12,4 @@ pub mod Apart
 pub mod Audits
 pub mod Crossing
 pub mod Merged
+pub mod Trusted

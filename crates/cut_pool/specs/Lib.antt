@@ -1,15 +1,14 @@
-pub mod FaultCode
+pub mod Faults
 pub mod History
 pub mod HistoryInside
 pub mod Book
 pub mod Lines
 pub mod Pass
 pub mod Slot
-pub mod HallFaults
 pub mod Report
 pub mod Closing
 pub mod Hall
-pub mod RunFault
 pub mod Running
 pub mod Emission
 pub mod Conclusion
+pub mod Trust

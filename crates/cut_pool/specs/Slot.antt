@@ -147,10 +147,17 @@ abbrev pub IsNotDone : {D : Type 0} → Option (Progress D) → ℕ → Type 0
 IsNotDone None cell = ⊥
 IsNotDone (Some b) cell = cell_done b.state.ledger cell ≡ false
 
+-- there is a book, this cell of it is not done, and nothing has happened by which it can't be
+abbrev pub IsPending : {D : Type 0} → Option (Progress D) → ℕ → Type 0
+IsPending None cell = ⊥
+IsPending (Some b) cell =
+    (cell_done b.state.ledger cell ≡ false) × (b.state.broken ≡ false)
+    × (list_any (λ is_lost. is_lost) b.state.lost ≡ false)
+
 -- which lines are remembered as given, after one was asked for
-abbrev pub given_after : {T E : Type 0} → Result (Option T) E → ℕ → List Bool → List Bool
-given_after (Ok (Some line)) cell given = slice_set given cell true
-given_after result cell given = given
+abbrev pub remembered_after : {T E : Type 0} → Result (Option T) E → ℕ → List Bool → List Bool
+remembered_after (Ok (Some line)) cell given = slice_set given cell true
+remembered_after result cell given = given
 
 -- why a line can't be given once more: the slot's book is not that study's, or memory was wanting
 abbrev pub CanNotGiveAgain : LineFault → Type 0

@@ -1,5 +1,5 @@
 ghost use Rattle.std.specs.Prelude.{◌≡◌};
-ghost use Rattle.cut_pool.specs.FaultCode.{code_of};
+ghost use Rattle.cut_pool.specs.Faults.{code_of};
 
 use cut_faults::FaultCode;
 use cut_ledger::SlipsFault;
@@ -47,7 +47,7 @@ impl BookFault {
 
 impl fmt::Display for BookFault {
     ghost use Rattle.std.specs.Prelude.{Some};
-    ghost use Rattle.cut_pool.specs.FaultCode.{fault_text};
+    ghost use Rattle.cut_pool.specs.Faults.{fault_text};
 
     ghost output = { λ fault. Some (fault_text fault) };
 
@@ -72,7 +72,7 @@ impl From<AllocError> for BookFault {
 }
 
 impl From<SlipsFault> for BookFault {
-    ghost use Rattle.cut_pool.specs.FaultCode.{of_slips};
+    ghost use Rattle.cut_pool.specs.Faults.{of_slips};
 
     ghost from_gives = { λ fault e. e ≡ of_slips fault };
 
@@ -85,7 +85,7 @@ impl From<SlipsFault> for BookFault {
 }
 
 impl From<RowFault> for BookFault {
-    ghost use Rattle.cut_pool.specs.FaultCode.{of_row};
+    ghost use Rattle.cut_pool.specs.Faults.{of_row};
 
     ghost from_gives = { λ fault e. e ≡ of_row fault };
 

@@ -1,4 +1,4 @@
-ghost use Rattle.std.specs.Prelude.{◌≡◌, ◌+◌, ◌<◌, ◌≤◌, length, vec_len, All, IfOk, IfSome, OnOk, OnErr, IfErr};
+ghost use Rattle.std.specs.Prelude.{true, false, ◌≡◌, ◌+◌, ◌<◌, ◌≤◌, length, vec_len, All, IfOk, IfSome, OnOk, OnErr, IfErr};
 ghost use Rattle.cut_plan.specs.Cells.{cells_of};
 ghost use Rattle.cut_board.specs.Names.{board_id, board_of, view_of};
 ghost use Rattle.cut_board.specs.Views.{idle, read, seen_in};
@@ -6,6 +6,8 @@ ghost use Rattle.cut_board.specs.Refusals.{IsRefusedBy, read_refusal};
 ghost use Rattle.cut_pool.specs.Hall.{made_more};
 ghost use Rattle.cut_pool.specs.Lines.{full_line};
 ghost use Rattle.cut_pool.specs.Slot.{IsFresh, CanNotGiveAgain, rows_of};
+ghost use Rattle.cut_pool.specs.Trust.{MayBegin};
+ghost use Rattle.cut_ledger.specs.Slips.{AreGood};
 
 use crate::accounts::Accounts;
 use crate::slot::{Match, Slot};
@@ -47,7 +49,7 @@ impl<D: Disk, M: Tally, K: Tally> Model for Hall<D, M, K> {
     ghost Value = { Rooms };
 
     ghost view = { λ h.
-        record { id = board_id h.board; slots = studies_of h.board; passes = seats_of h.board } };
+        record { id = board_id h.board; slots = studies_of h.board; passes = seats_of h.board; is_trusted = K.trusts } };
 
     ghost invariant = { λ h.
         (vec_len h.places ≡ studies_of h.board)
@@ -80,6 +82,7 @@ impl<D: Disk + Drop, M: Tally, K: Tally> Hall<D, M, K> {
         requires kept { (kept.name ≡ K.name) × (kept.parts ≡ K.parts)
             × (K.all ≡ K.parts) × (K.all ≡ slots) }
         ensures hall { IfOk result (λ r. (r.0.slots ≡ slots) × (r.0.passes ≡ passes)) }
+        ensures trusted { IfOk result (λ r. r.0.is_trusted ≡ K.trusts) }
         ensures passes { IfOk result (λ r. length r.1.items ≡ passes) }
         ensures own { IfOk result (λ r. All (λ p. p.hall ≡ r.0.id) r.1.items) }
         ensures idle { IfOk result (λ r. All (λ p. (p.view ≡ idle 1) × (p.made ≡ 0)) r.1.items) }
@@ -109,6 +112,8 @@ impl<D: Disk + Drop, M: Tally, K: Tally> Hall<D, M, K> {
         kept: Blank,
     ) -> Result<(Hall<D, M, K>, Vec<Pass<M>>), AllocError>
         requires fresh { IsFresh book.state.ledger.plan book.size book }
+        requires good { AreGood book.state.ledger.plan book.state.ledger.base }
+        requires untrusted { K.trusts ≡ false }
         requires size { 1 ≤ piece_size }
         requires passes { (0 < passes) × (passes ≤ 129) }
         requires made { (made.name ≡ M.name) × (made.parts ≡ M.parts)
@@ -147,8 +152,10 @@ impl<D: Disk + Drop, M: Tally, K: Tally> Hall<D, M, K> {
         plan: Plan,
         shelf: &S,
     ) -> Result<Opened, SubmitFault>
-        requires { pass.old.hall ≡ self.now.id }
+        requires own { pass.old.hall ≡ self.now.id }
+        requires trusted { self.now.is_trusted ≡ true → S.is_true shelf.now ≡ true }
         ensures plan { IfOk result (λ o. o.plan ≡ plan) }
+        ensures base { IfOk result (λ o. MayBegin self.now.is_trusted plan o.base) }
         ensures slot { IfOk result (λ o. o.study < self.now.slots) }
         ensures pass { pass.new ≡ pass.old }
     {
@@ -243,7 +250,9 @@ impl<D: Disk + Drop, M: Tally, K: Tally> Hall<D, M, K> {
                 Ok(None) => {}
                 Err(fault) => return Err(fault),
             }
-            slot = place.changed.wait(rt, slot);
+            slot = place
+                .changed
+                .wait_while(rt, slot, |slot| slot.is_pending(rt, &self.accounts, cell));
         }
         unreachable!()
     }

@@ -1,5 +1,5 @@
 ghost use Rattle.std.specs.Prelude.{◌≡◌};
-ghost use Rattle.cut_pool.specs.HallFaults.{code_of_line};
+ghost use Rattle.cut_pool.specs.Faults.{code_of_line};
 
 use cut_faults::FaultCode;
 use std::fmt;
@@ -35,7 +35,7 @@ impl LineFault {
 impl fmt::Display for LineFault {
     ghost use Rattle.std.specs.Prelude.{Some};
     ghost use Rattle.cut_faults.specs.Codes.{code_text};
-    ghost use Rattle.cut_pool.specs.HallFaults.{code_of_line};
+    ghost use Rattle.cut_pool.specs.Faults.{code_of_line};
 
     ghost output = { λ fault. Some (code_text (code_of_line fault)) };
 

@@ -28,7 +28,7 @@ pub enum NotClosed<T> {
 }
 
 impl<T> NotClosed<T> {
-    ghost use Rattle.cut_pool.specs.HallFaults.{code_of_not_closed};
+    ghost use Rattle.cut_pool.specs.Faults.{code_of_not_closed};
 
     /// The fault in the program's list of faults.
     pub fn code(&self) -> FaultCode

@@ -1,9 +1,12 @@
-ghost use Rattle.std.specs.Prelude.{◌≤◌, IfOk};
+ghost use Rattle.std.specs.Prelude.{◌≡◌, ◌≤◌, true, IfOk};
+ghost use Rattle.cut_ledger.specs.Slips.{AreGood};
+ghost use Rattle.cut_ledger.specs.World.{AreTrue};
 ghost use Rattle.cut_pool.specs.Slot.{IsFresh};
 
 use crate::{Book, Shelf, SubmitFault};
 use cut_disks::Disk;
 use cut_journal::Journal;
+use cut_ledger::laws::true_slips_tell_the_table;
 use cut_plan::Plan;
 use std::alloc::Global;
 
@@ -15,8 +18,11 @@ pub(crate) fn open_book<D: Disk + Drop, S: Shelf<D>>(
     piece_size: u32,
 ) -> Result<Book<D>, SubmitFault>
     requires { 1 ≤ piece_size }
-    ensures { IfOk result (λ b. IsFresh plan piece_size b) }
+    ensures fresh { IfOk result (λ b. IsFresh plan piece_size b) }
+    ensures good { IfOk result (λ b. AreGood plan b.state.ledger.base) }
+    ensures trusted { S.is_true shelf.now ≡ true → IfOk result (λ b. AreTrue plan b.state.ledger.base) }
 {
+    true_slips_tell_the_table();
     let Some(disk) = shelf.open(alloc, &plan)? else {
         return Ok(Book::new(alloc, plan, None, &[], piece_size)?);
     };

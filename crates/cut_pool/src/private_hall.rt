@@ -1,11 +1,12 @@
-ghost use Rattle.std.specs.Prelude.{◌≡◌, ◌+◌, ◌<◌, ◌≤◌, ◌↔◌, length, All, IfOk, IfErr, OnOk};
+ghost use Rattle.std.specs.Prelude.{false, ◌≡◌, ◌+◌, ◌<◌, ◌≤◌, ◌↔◌, length, All, IfOk, IfErr, OnOk};
 ghost use Rattle.atomic_table.specs.Seated.{TableId};
 ghost use Rattle.cut_plan.specs.Cells.{cells_of};
 ghost use Rattle.cut_ledger.specs.Machine.{table_over};
+ghost use Rattle.cut_ledger.specs.Slips.{AreGood};
 ghost use Rattle.cut_pool.specs.Conclusion.{IsNotEnded};
 ghost use Rattle.cut_pool.specs.Emission.{IsEmitted, Emits, failed_in_emission};
 ghost use Rattle.cut_pool.specs.Report.{calls_in_all};
-ghost use Rattle.cut_pool.specs.RunFault.{of_closing};
+ghost use Rattle.cut_pool.specs.Faults.{of_closing};
 ghost use Rattle.cut_pool.specs.Slot.{IsFresh};
 
 use crate::emit::{EmitFault, emit};
@@ -46,6 +47,8 @@ impl<D: Disk + Drop, M: Tally, K: Tally> PrivateHall<D, M, K> {
         requires size { 1 ≤ piece_size }
         requires workers { (1 ≤ workers) × (workers ≤ 64) }
         requires fresh { IsFresh book.state.ledger.plan book.size book }
+        requires good { AreGood book.state.ledger.plan book.state.ledger.base }
+        requires untrusted { K.trusts ≡ false }
         requires made { (made.name ≡ M.name) × (made.parts ≡ M.parts)
             × (M.all ≡ M.parts) × (M.all ≡ workers) }
         requires kept { (kept.name ≡ K.name) × (kept.parts ≡ K.parts)

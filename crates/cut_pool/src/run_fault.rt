@@ -1,5 +1,5 @@
 ghost use Rattle.std.specs.Prelude.{◌≡◌};
-ghost use Rattle.cut_pool.specs.RunFault.{code_of_run};
+ghost use Rattle.cut_pool.specs.Faults.{code_of_run};
 
 use crate::BookFault;
 use cut_faults::FaultCode;
@@ -41,7 +41,7 @@ impl RunFault {
 
 impl fmt::Display for RunFault {
     ghost use Rattle.std.specs.Prelude.{Some};
-    ghost use Rattle.cut_pool.specs.RunFault.{run_fault_text};
+    ghost use Rattle.cut_pool.specs.Faults.{run_fault_text};
 
     ghost output = { λ fault. Some (run_fault_text fault) };
 
@@ -66,7 +66,7 @@ impl From<AllocError> for RunFault {
 
 /// What a book says at its opening: the first bad slip, or want of memory.
 impl From<BookFault> for RunFault {
-    ghost use Rattle.cut_pool.specs.RunFault.{of_opening};
+    ghost use Rattle.cut_pool.specs.Faults.{of_opening};
 
     ghost from_gives = { λ fault e. e ≡ of_opening fault };
 

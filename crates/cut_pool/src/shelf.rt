@@ -1,4 +1,5 @@
-ghost use Rattle.std.specs.Prelude.{◌≡◌, Ok, None};
+ghost use Rattle.std.specs.Prelude.{◌≡◌, Bool, true, false, Ok, None, IfOk};
+ghost use Rattle.cut_journal.specs.Trust.{IsTrueStore};
 
 use cut_disks::Disk;
 use cut_plan::Plan;
@@ -18,8 +19,13 @@ pub enum ShelfFault {
 
 /// Where the disks stand that keep studies: it gives each plan its disk, or none where nothing is kept.
 pub trait Shelf<D: Disk> {
+    /// Whether the slips on its disks are those that their trials give: certainly where it has no disk.
+    ghost is_true: { Self → Bool } = { λ _. false };
+
     /// The disk of a plan's study, if studies are kept.
-    fn open(&self, alloc: Global, plan: &Plan) -> Result<Option<D>, ShelfFault>;
+    fn open(&self, alloc: Global, plan: &Plan) -> Result<Option<D>, ShelfFault>
+        ensures trusted { is_true self.now ≡ true →
+            IfOk result (λ disk. IsTrueStore D.is_honest D.state plan.now disk) };
 }
 
 /// A shelf without disks: no study is kept.
@@ -27,6 +33,8 @@ pub trait Shelf<D: Disk> {
 pub struct NoShelf;
 
 impl<D: Disk> Shelf<D> for NoShelf {
+    ghost is_true = { λ _. true };
+
     fn open(&self, _alloc: Global, _plan: &Plan) -> Result<Option<D>, ShelfFault>
         ensures { result ≡ Ok None }
     {

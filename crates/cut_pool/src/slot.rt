@@ -1,12 +1,14 @@
 ghost use Rattle.std.specs.Prelude.{◌≡◌, ◌+◌, ◌<◌, ◌≤◌, ◌&&◌, ◌↔◌, true, false, not, [], length, take};
 ghost use Rattle.std.specs.Prelude.{Some, None, is_some, IsTrue, IfOk, IfSome, IfNone, OnOk, OnErr, IfErr, IsErrOf};
-ghost use Rattle.std.specs.Prelude.{replicate, slice_index_or, slice_set};
+ghost use Rattle.std.specs.Prelude.{Bool, replicate, slice_index_or, slice_set};
 ghost use Rattle.std.specs.List.{list_any};
 ghost use Rattle.cut_plan.specs.Cells.{cells_of};
 ghost use Rattle.cut_pool.specs.Lines.{full_line};
 ghost use Rattle.cut_pool.specs.Report.{calls_told};
+ghost use Rattle.cut_pool.specs.Book.{HandsIn, MayRefuse, answer_of};
+ghost use Rattle.cut_pool.specs.Trust.{MayBegin, IsSettledBy-prop, begun_props};
 ghost use Rattle.cut_pool.specs.Slot.{calls_in, IsFresh, IsBegun, base_of, kept_of, unkept_of, Matches, TakesResult, TakesLoss, GivesLine, calls_of, losses_of, lines_of};
-ghost use Rattle.cut_pool.specs.Slot.{IsOpenedAs, TellsUndone, AnswersLine, AnswersAgain, IsNotDone, given_after, piece_at, HasDone, HasPlan};
+ghost use Rattle.cut_pool.specs.Slot.{IsOpenedAs, TellsUndone, AnswersLine, AnswersAgain, IsNotDone, IsPending, remembered_after, piece_at, HasDone, HasPlan};
 
 use crate::accounts::Accounts;
 use crate::opening::open_book;
@@ -53,6 +55,7 @@ pub(crate) struct Slot<D: Disk, K: Tally> {
     ghost counted: { kept.amount ≡ calls_in book },
     ghost first: { take (length (base_of book)) (kept_of book) ≡ base_of book },
     ghost unkept: { unkept_of book ≡ [] },
+    ghost begun: { IfSome book (λ b. MayBegin K.trusts b.state.ledger.plan b.state.ledger.base) } by { Prim.hlevel begun_props },
 }
 
 impl<D: Disk + Drop, K: Tally> Slot<D, K> {
@@ -75,6 +78,7 @@ impl<D: Disk + Drop, K: Tally> Slot<D, K> {
     pub(crate) fn of_book(alloc: Global, book: Book<D>, kept: Share<K>) -> Slot<D, K>
         requires part { (kept.parts ≡ 1) × (kept.amount ≡ 0) }
         requires fresh { IsFresh book.state.ledger.plan book.size book }
+        requires begun { MayBegin K.trusts book.state.ledger.plan book.state.ledger.base }
         ensures book { result.book ≡ Some book }
         ensures works { result.stopped ≡ false }
     {
@@ -121,7 +125,7 @@ impl<D: Disk + Drop, K: Tally> Slot<D, K> {
         if accounts.lock(rt).enter(made, kept).is_err() {
             return Err(CallFault::Full);
         }
-        match book.hand_in(offered) {
+        match hand_to(book, offered) {
             Ok(()) => Ok(()),
             Err(BookFault::Memory) => {
                 accounts.lock(rt).take_back(made, kept);
@@ -179,7 +183,7 @@ impl<D: Disk + Drop, K: Tally> Slot<D, K> {
         ensures given { GivesLine result cell self.old.book self.new.book }
         ensures answers { AnswersLine result opened.now cell self.old.book }
         ensures waits { IfOk result (λ found. IfNone found (self.old.stopped ≡ false)) }
-        ensures remembered { self.new.given.items ≡ given_after result cell self.old.given.items }
+        ensures remembered { self.new.given.items ≡ remembered_after result cell self.old.given.items }
         ensures stays { self.new.stopped ≡ self.old.stopped }
         ensures calls { calls_in self.new.book ≡ calls_in self.old.book + lines_of result }
         ensures made { made.new.amount ≡ made.old.amount + lines_of result }
@@ -213,6 +217,24 @@ impl<D: Disk + Drop, K: Tally> Slot<D, K> {
                 accounts.lock(rt).take_back(made, kept);
                 Err(LineFault::WorkMemory)
             }
+        }
+    }
+
+    /// Whether the line of a cell is still to come: the cell is not done, the book is whole, no piece is lost, and
+    /// work goes on. Those who wait ask this at each wake-up: it takes the same short time whatever the study began
+    /// with.
+    pub(crate) fn is_pending<M: Tally, R: Wait>(
+        &self,
+        rt: &R,
+        accounts: &Mutex<Accounts<M, K>>,
+        cell: u32,
+    ) -> bool
+        ensures pending { result ≡ true → IsPending self.now.book cell }
+        ensures works { result ≡ true → self.now.stopped ≡ false }
+    {
+        match &self.book {
+            Some(book) => is_pending(book, self.stopped || accounts.lock(rt).is_full(), cell),
+            None => false,
         }
     }
 
@@ -263,7 +285,9 @@ impl<D: Disk + Drop, K: Tally> Slot<D, K> {
     ) -> Result<Opened, SubmitFault>
         requires free { self.old.book ≡ None }
         requires size { 1 ≤ piece_size }
+        requires trusted { K.trusts ≡ true → S.is_true shelf.now ≡ true }
         ensures opened { IfOk result (λ o. (o.study ≡ study) × (o.plan ≡ plan)) }
+        ensures base { IfOk result (λ o. MayBegin K.trusts plan o.base) }
         ensures begun { IfOk result (λ o. IsBegun o piece_size self.new.book) }
         ensures none_given { OnOk result (self.new.given.items ≡ replicate (length (cells_of plan)) false) }
         ensures stays { self.new.stopped ≡ self.old.stopped }
@@ -292,6 +316,7 @@ impl<D: Disk + Drop, K: Tally> Slot<D, K> {
         requires { Matches Match.Same self.now.book plan.now }
         ensures opened { IfOk result (λ o. (o.study ≡ study) × (o.plan ≡ plan.now)) }
         ensures base { IfOk result (λ o. o.base ≡ base_of self.now.book) }
+        ensures begun { IfOk result (λ o. MayBegin K.trusts plan.now o.base) }
     {
         let Some(book) = &self.book else {
             unreachable!()
@@ -375,6 +400,19 @@ impl<D: Disk + Drop, K: Tally> Slot<D, K> {
     }
 }
 
+/// Hands a result to a book, which keeps what it began with.
+fn hand_to<D: Disk + Drop>(book: &mut Book<D>, offered: &PieceResult) -> Result<(), BookFault>
+    ensures answer { HandsIn (answer_of result book.old.state) offered.now book.old book.new }
+    ensures faults_told { IfErr result MayRefuse }
+    ensures first { take (length book.old.state.ledger.base) book.old.state.kept ≡ book.old.state.ledger.base
+        → take (length book.new.state.ledger.base) book.new.state.kept ≡ book.new.state.ledger.base }
+    ensures unkept { unkept_of (Some book.old) ≡ [] → unkept_of (Some book.new) ≡ [] }
+    ensures plan { book.new.state.ledger.plan ≡ book.old.state.ledger.plan }
+    ensures base { book.new.state.ledger.base ≡ book.old.state.ledger.base }
+{
+    book.hand_in(offered)
+}
+
 /// Notes that the line of a cell was given.
 fn remember(given: &mut Vec<bool>, cell: u32)
     ensures { given.new.items ≡ slice_set given.old.items cell true }
@@ -391,6 +429,15 @@ fn is_opened_as<D: Disk + Drop>(book: &Book<D>, opened: &Opened) -> bool
 {
     let ledger = book.ledger();
     ledger.plan().same(&opened.plan) && ledger.same_base(&opened.base)
+}
+
+/// Whether a cell is not done and can still be.
+fn is_pending<D: Disk + Drop>(book: &Book<D>, stopped: bool, cell: u32) -> bool
+    ensures pending { result ≡ true → IsPending (Some book.now) cell }
+    ensures works { result ≡ true → stopped ≡ false }
+{
+    let ledger = book.ledger();
+    cell < ledger.plan().cells() && !ledger.cell_done(cell) && may_still_come(book, stopped).is_ok()
 }
 
 /// Whether a cell that is not done can still be: the book is whole, no piece is lost, and work goes on.

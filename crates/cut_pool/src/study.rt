@@ -1,8 +1,8 @@
-ghost use Rattle.std.specs.Prelude.{◌≡◌, ◌+◌, ◌≤◌, ◌↔◌, Ok, None, length, is_some, IfOk, IfErr, IfSome, OnOk};
+ghost use Rattle.std.specs.Prelude.{false, ◌≡◌, ◌+◌, ◌≤◌, ◌↔◌, Ok, None, length, is_some, IfOk, IfErr, IfSome, OnOk};
 ghost use Rattle.cut_journal.specs.Reading.{reading};
 ghost use Rattle.cut_ledger.specs.Slips.{AreGood};
 ghost use Rattle.cut_pool.specs.Conclusion.{IsNotBegun, IsNotEnded, CanLose, Concludes};
-ghost use Rattle.cut_pool.specs.RunFault.{of_line};
+ghost use Rattle.cut_pool.specs.Faults.{of_line};
 ghost use Rattle.cut_pool.specs.Running.{slips_of, HasEnded, Takes, failed_in_run};
 ghost use Rattle.cut_pool.specs.Slot.{IsFresh};
 
@@ -120,6 +120,7 @@ where
     requires workers { (1 ≤ workers) × (workers ≤ 64) }
     requires fresh { IsFresh book.state.ledger.plan book.size book }
     requires good { AreGood book.state.ledger.plan book.state.ledger.base }
+    requires untrusted { K.trusts ≡ false }
     requires made { (made.name ≡ M.name) × (made.parts ≡ M.parts)
         × (M.all ≡ M.parts) × (M.all ≡ workers) }
     requires kept { (kept.name ≡ K.name) × (kept.parts ≡ K.parts) × (K.all ≡ K.parts) × (K.all ≡ 1) }

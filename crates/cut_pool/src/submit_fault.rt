@@ -1,5 +1,5 @@
 ghost use Rattle.std.specs.Prelude.{◌≡◌};
-ghost use Rattle.cut_pool.specs.HallFaults.{code_of_submit};
+ghost use Rattle.cut_pool.specs.Faults.{code_of_submit};
 
 use crate::{BookFault, ShelfFault};
 use cut_faults::FaultCode;
@@ -35,7 +35,7 @@ impl SubmitFault {
 impl fmt::Display for SubmitFault {
     ghost use Rattle.std.specs.Prelude.{Some};
     ghost use Rattle.cut_faults.specs.Codes.{code_text};
-    ghost use Rattle.cut_pool.specs.HallFaults.{code_of_submit};
+    ghost use Rattle.cut_pool.specs.Faults.{code_of_submit};
 
     ghost output = { λ fault. Some (code_text (code_of_submit fault)) };
 
@@ -56,7 +56,7 @@ impl From<AllocError> for SubmitFault {
 }
 
 impl From<ShelfFault> for SubmitFault {
-    ghost use Rattle.cut_pool.specs.HallFaults.{of_shelf};
+    ghost use Rattle.cut_pool.specs.Faults.{of_shelf};
 
     ghost from_gives = { λ fault e. e ≡ of_shelf fault };
 
@@ -69,7 +69,7 @@ impl From<ShelfFault> for SubmitFault {
 }
 
 impl From<JournalFault> for SubmitFault {
-    ghost use Rattle.cut_pool.specs.HallFaults.{of_journal};
+    ghost use Rattle.cut_pool.specs.Faults.{of_journal};
 
     ghost from_gives = { λ fault e. e ≡ of_journal fault };
 
@@ -82,7 +82,7 @@ impl From<JournalFault> for SubmitFault {
 }
 
 impl From<BookFault> for SubmitFault {
-    ghost use Rattle.cut_pool.specs.HallFaults.{of_book};
+    ghost use Rattle.cut_pool.specs.Faults.{of_book};
 
     ghost from_gives = { λ fault e. e ≡ of_book fault };
 

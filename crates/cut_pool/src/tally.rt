@@ -1,4 +1,4 @@
-ghost use Rattle.std.specs.Prelude.{ℕ};
+ghost use Rattle.std.specs.Prelude.{ℕ, Bool};
 
 use std::marker::Brand;
 use std::sync::ledger::Ledger;
@@ -7,8 +7,15 @@ use std::sync::ledger::Ledger;
 pub trait Tally: Ledger {
     /// Into how many parts its shares are cut.
     ghost all: { ℕ };
+
+    /// Whether the slips that studies begin with, whose calls it counts, are those that their trials give.
+    ghost trusts: { Bool };
 }
 
 impl Tally for Brand {
+    ghost use Rattle.std.specs.Prelude.{false};
+
     ghost all = { 0 };
+
+    ghost trusts = { false };
 }

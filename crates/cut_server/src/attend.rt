@@ -1,5 +1,5 @@
 //! The threads of a server: each worker and each session has one, and a pass of the hall.
-ghost use Rattle.std.specs.Prelude.{◌≡◌, ◌≤◌, ◌+◌, ◌-◌, ℕ, length, All, IfOk, IfErr, OnOk};
+ghost use Rattle.std.specs.Prelude.{◌≡◌, ◌≤◌, ◌+◌, ◌-◌, ℕ, Bool, true, length, All, IfOk, IfErr, OnOk};
 ghost use Rattle.atomic_table.specs.Seated.{TableId};
 ghost use Rattle.cut_faults.specs.Failures.{counted};
 ghost use Rattle.cut_server.specs.Serve.{IsOfAttending, failed_serving, given_after, more_given};
@@ -56,6 +56,9 @@ trait Workplace<D: Disk, M: Tally> {
     /// Which hall it is.
     ghost id_of: { Self → TableId };
 
+    /// Whether the slips that its studies begin with are those that their trials give.
+    ghost is_trusted: { Self → Bool };
+
     /// Works on all studies until the work is ended.
     fn work_with<R: Wait>(&self, rt: &R, alloc: Global, pass: &mut Pass<M>)
         requires { pass.old.hall ≡ id_of self.now }
@@ -74,7 +77,8 @@ trait Workplace<D: Disk, M: Tally> {
         S: Shelf<D>,
         W: Wire,
         R: Wait,
-        requires { pass.old.hall ≡ id_of self.now }
+        requires own { pass.old.hall ≡ id_of self.now }
+        requires trusted { is_trusted self.now ≡ true → S.is_true shelf.now ≡ true }
         ensures { pass.new.hall ≡ pass.old.hall };
 
     /// Ends the work.
@@ -83,6 +87,8 @@ trait Workplace<D: Disk, M: Tally> {
 
 impl<D: Disk + Drop, M: Tally, K: Tally> Workplace<D, M> for Hall<D, M, K> {
     ghost id_of = { λ h. h.id };
+
+    ghost is_trusted = { λ h. h.is_trusted };
 
     fn work_with<R: Wait>(&self, rt: &R, alloc: Global, pass: &mut Pass<M>) {
         self.work(rt, alloc, pass, &OpenGate);
@@ -136,6 +142,7 @@ where
     W: Wire + Send + Drop,
     R: Threads + Wait + Sync,
     requires own { All (λ p. p.hall ≡ H.id_of hall.now) passes.items }
+    requires trusted { H.is_trusted hall.now ≡ true → S.is_true shelf.now ≡ true }
     requires few { workers ≤ length passes.items }
     ensures own { IfOk result.1 (λ back. All (λ p. p.hall ≡ H.id_of hall.now) back.items) }
     ensures whole { IfOk result.1 (λ back. length back.items ≡ length passes.items) }
@@ -149,6 +156,7 @@ where
         rt,
         |scope| -> (L, Result<Vec<Pass<M>>, CliFault>)
             requires own { All (λ p. p.hall ≡ H.id_of hall.now) passes.items }
+            requires trusted { H.is_trusted hall.now ≡ true → S.is_true shelf.now ≡ true }
             requires few { workers ≤ length passes.items }
             ensures own { IfOk result.1 (λ back. All (λ p. p.hall ≡ H.id_of hall.entry.now) back.items) }
             ensures whole { IfOk result.1 (λ back. length back.items ≡ length passes.items) }
@@ -204,6 +212,7 @@ where
     W: Wire + Send + Drop + 's,
     R: Threads + Wait + Sync,
     requires own { All (λ p. p.hall ≡ H.id_of hall.now) passes.items }
+    requires trusted { H.is_trusted hall.now ≡ true → S.is_true shelf.now ≡ true }
     requires few { workers ≤ length passes.items }
     ensures workers { IfOk result (λ a. All (λ h. h.promise.0.value.hall ≡ H.id_of hall.now) a.workers.items) }
     ensures served { IfOk result (λ a. All (λ p. p.hall ≡ H.id_of hall.now) a.served.items) }
@@ -242,6 +251,7 @@ where
     W: Wire + Send + Drop + 's,
     R: Threads + Wait + Sync,
     requires own { All (λ p. p.hall ≡ H.id_of hall.now) passes.items }
+    requires trusted { H.is_trusted hall.now ≡ true → S.is_true shelf.now ≡ true }
     requires few { workers ≤ length passes.items }
     ensures workers { IfOk result (λ s. All (λ h. h.promise.0.value.hall ≡ H.id_of hall.now) s.workers.items) }
     ensures sessions { IfOk result (λ s. All (λ h. h.promise.0.value.hall ≡ H.id_of hall.now) s.sessions.items) }
@@ -325,6 +335,7 @@ where
     W: Wire + Send + Drop + 's,
     R: Threads + Wait + Sync,
     requires own { All (λ p. p.hall ≡ H.id_of hall.now) passes.items }
+    requires trusted { H.is_trusted hall.now ≡ true → S.is_true shelf.now ≡ true }
     ensures own { IfOk result (λ started. All (λ h. h.promise.0.value.hall ≡ H.id_of hall.now) started.items) }
     ensures whole { IfOk result (λ started. length started.items ≡ length passes.items) }
     ensures why { IfErr result IsOfAttending }
@@ -344,7 +355,8 @@ where
         let session = scope.spawn_with(
             promise,
             move || -> Pass<M>
-                requires { pass.hall ≡ H.id_of hall.now }
+                requires own { pass.hall ≡ H.id_of hall.now }
+                requires trusted { H.is_trusted hall.now ≡ true → S.is_true shelf.now ≡ true }
                 ensures { result.hall ≡ pass.hall }
             {
                 hall.serve_with(rt, alloc, &mut pass, shelf, &mut wire);

@@ -77,6 +77,7 @@ where
         × (M.all ≡ M.parts) × (M.all ≡ crew.workers + crew.sessions) }
     requires kept { (kept.name ≡ K.name) × (kept.parts ≡ K.parts)
         × (K.all ≡ K.parts) × (K.all ≡ crew.studies) }
+    requires trusted { K.trusts ≡ S.is_true shelf.now }
     ensures slots { IfOk result.1 (λ report. length report ≡ crew.studies) }
     ensures why { IfErr result.1 IsOfServing }
     ensures given { OnOk result.1 (L.given result.0 ≡ more_given crew.sessions (L.given listener)) }

@@ -1,5 +1,7 @@
-ghost use Rattle.std.specs.Prelude.{◌≡◌, is_some, string_bytes, IfOk};
+ghost use Rattle.std.specs.Prelude.{◌≡◌, true, not, is_some, [], string_bytes, IfOk};
 ghost use Rattle.sha2.specs.Sha256.{sha256};
+ghost use Rattle.cut_disks.specs.State.{fresh};
+ghost use Rattle.cut_journal.specs.Trust.{IsTrueStore};
 ghost use Rattle.cut_server.specs.Shelf.{file_path};
 
 use cut_disks::FileDisk;
@@ -21,7 +23,11 @@ pub struct FolderShelf<'a> {
 }
 
 impl Shelf<FileDisk> for FolderShelf<'_> {
+    ghost is_true = { λ s. not (is_some s.folder) };
+
     fn open(&self, alloc: Global, plan: &Plan) -> Result<Option<FileDisk>, ShelfFault>
+        ensures trusted { not (is_some self.now.folder) ≡ true →
+            IfOk result (λ disk. IsTrueStore (λ _. ⊥) (λ _. fresh []) plan.now disk) }
         ensures kept { IfOk result (λ disk. is_some disk ≡ is_some self.now.folder) }
     {
         let Some(folder) = self.folder else {

@@ -11,6 +11,7 @@ use Rattle.cut_messages.specs.declared.side.Side.TheVariants.{Requests}
 use Rattle.cut_messages.specs.declared.message.Message.{Message}
 use Rattle.cut_messages.specs.declared.fault.StreamFault.{StreamFault}
 use Rattle.cut_messages.specs.declared.fault.EndFault.{EndFault}
+use Rattle.cut_pool.specs.Hall.{Rooms}
 use Rattle.cut_session.specs.declared.serve.Served.{Served}
 use Rattle.cut_session.specs.declared.session_end.SessionEnd.{SessionEnd}
 use Rattle.cut_session.specs.declared.session_end.SessionEnd.TheVariants as end
@@ -39,17 +40,17 @@ wired_more old mid new given out more ends before is =
 
 -- ---- a fault ends it
 
-pub leaves : (slots : ℕ) (low high : View) (c : Course) (fault : SessionFault) (result : SessionEnd) (before : ℕ)
-    (old mid new : Traffic) (f g : Failed) → IsCourse slots low high c → IsDue fault c → before ≡ length c.out
+pub leaves : (hall : Rooms) (low high : View) (c : Course) (fault : SessionFault) (result : SessionEnd) (before : ℕ)
+    (old mid new : Traffic) (f g : Failed) → IsCourse hall low high c → IsDue fault c → before ≡ length c.out
     → mid ≡ passed c c.out (ends_at fault old.ends) old → Leaves fault before result mid new
-    → g ≡ failed_leaving result (failed_by fault f) → Ends slots low high result old new f g
-leaves slots low high c fault (end.Fault told) before old mid new f g is due sum first l failed =
+    → g ≡ failed_leaving result (failed_by fault f) → Ends hall low high result old new f g
+leaves hall low high c fault (end.Fault told) before old mid new f g is due sum first l failed =
     let whole : new ≡ passed c (replies_to fault c) (ends_at fault old.ends) old =
     wired_more old mid new (old.given ++ (c.stream ++ c.last)) c.out (error_frame (code_of_session fault))
     (ends_at fault old.ends) first l.1 in
-    let ends : EndsAs slots low high (end.Fault fault) c old new f g = (due, whole) in
-    (c, is, subst (λ (t : SessionFault). EndsAs slots low high (end.Fault t) c old new f g) (sym l.0) ends)
-leaves slots low high c fault (end.Write n) before old mid new f g is due sum first l failed =
+    let ends : EndsAs hall low high (end.Fault fault) c old new f g = (due, whole) in
+    (c, is, subst (λ (t : SessionFault). EndsAs hall low high (end.Fault t) c old new f g) (sym l.0) ends)
+leaves hall low high c fault (end.Write n) before old mid new f g is due sum first l failed =
     let frame : List ℕ = error_frame (code_of_session fault) in
     let part : List ℕ = take (n - before) frame in
     let whole : new ≡ passed c (c.out ++ part) (ends_at fault old.ends) old =
@@ -58,7 +59,7 @@ leaves slots low high c fault (end.Write n) before old mid new f g is due sum fi
     ap (λ (k : ℕ). c.out ++ take k frame) (omega (arith, sum, l.sums.0))
     ∙ sym (ap (λ (k : ℕ). take k (c.out ++ frame)) (omega (arith, sum, l.sums.0))
     ∙ take-append-add c.out frame (n - length c.out)) in
-    let ends : EndsAs slots low high (end.Write n) c old new f g = inr (
+    let ends : EndsAs hall low high (end.Write n) c old new f g = inr (
       fault,
       due,
       omega (arith, sum, l.sums.0),
@@ -67,7 +68,7 @@ leaves slots low high c fault (end.Write n) before old mid new f g is due sum fi
       failed,
     ) in
     (c, is, ends)
-leaves slots low high c fault other before old mid new f g is due sum first l failed = absurd l
+leaves hall low high c fault other before old mid new f g is due sum first l failed = absurd l
 
 -- ---- between two reads
 
@@ -82,8 +83,8 @@ fault_of r stream messages fault read side is =
     ap (λ (s : Side). fault_at s read.rest) (sym side) ∙ sym read.fault ∙ is
 
 -- the course so far, with what a read gave that is not read yet
-abbrev pub course_of : {slots : ℕ} {low high : View} {r : Reading} {done : Served} {piece : List ℕ} {old now : Traffic}
-    → List ℕ → IsServing slots low high r done piece old now → Course
+abbrev pub course_of : {hall : Rooms} {low high : View} {r : Reading} {done : Served} {piece : List ℕ} {old now : Traffic}
+    → List ℕ → IsServing hall low high r done piece old now → Course
 course_of last s = record {
   stream = s.stream;
   answered = s.messages;
@@ -93,25 +94,25 @@ course_of last s = record {
   out = s.out;
 }
 
-pub is_course : (slots : ℕ) (low high : View) (r : Reading) (done : Served) (piece last : List ℕ)
-    (old now : Traffic) → (s : IsServing slots low high r done piece old now) → done.requests ≤ request_limit
-    → IsCourse slots low high (course_of last s)
-is_course slots low high r done piece last old now s few = record {
+pub is_course : (hall : Rooms) (low high : View) (r : Reading) (done : Served) (piece last : List ℕ)
+    (old now : Traffic) → (s : IsServing hall low high r done piece old now) → done.requests ≤ request_limit
+    → IsCourse hall low high (course_of last s)
+is_course hall low high r done piece last old now s few = record {
   splits = subst (λ (l : List Message). Splits Requests s.stream l s.read.rest) (sym (append-nil s.messages))
       (side_of r s.stream s.messages s.read s.side);
   few = omega (arith, few, s.requests);
   replies = s.replies;
 }
 
-pub right_behind : (slots : ℕ) (low high : View) (r : Reading) (done : Served) (piece : List ℕ)
-    (old now : Traffic) → (s : IsServing slots low high r done piece old now) → fault_at Requests s.read.rest ≡ None
-right_behind slots low high r done piece old now s = fault_of r s.stream s.messages None s.read s.side s.right
+pub right_behind : (hall : Rooms) (low high : View) (r : Reading) (done : Served) (piece : List ℕ)
+    (old now : Traffic) → (s : IsServing hall low high r done piece old now) → fault_at Requests s.read.rest ≡ None
+right_behind hall low high r done piece old now s = fault_of r s.stream s.messages None s.read s.side s.right
 
 -- at first
-pub serves_first : (slots : ℕ) (v : View) (r : Reading) (done : Served) (old : Traffic)
+pub serves_first : (hall : Rooms) (v : View) (r : Reading) (done : Served) (old : Traffic)
     → HasRead r [] [] → r.fault ≡ None → r.side ≡ Requests → done.requests ≡ 0 → done.sent ≡ 0
-    → Rises v v → IsServing slots v v r done [] old old
-serves_first slots v r done old read right side none none_sent rises = record {
+    → Rises v v → IsServing hall v v r done [] old old
+serves_first hall v r done old read right side none none_sent rises = record {
   stream = [];
   messages = [];
   out = [];
@@ -126,10 +127,10 @@ serves_first slots v r done old read right side none none_sent rises = record {
 }
 
 -- a read gave some bytes
-pub serves_given : (slots : ℕ) (low high : View) (r : Reading) (done : Served) (buffer : List ℕ) (n : ℕ)
-    (old now new : Traffic) → IsServing slots low high r done [] old now → new ≡ gave now buffer n → 0 < n
-    → IsServing slots low high r done (take n buffer) old new
-serves_given slots low high r done buffer n old now new s is some =
+pub serves_given : (hall : Rooms) (low high : View) (r : Reading) (done : Served) (buffer : List ℕ) (n : ℕ)
+    (old now new : Traffic) → IsServing hall low high r done [] old now → new ≡ gave now buffer n → 0 < n
+    → IsServing hall low high r done (take n buffer) old new
+serves_given hall low high r done buffer n old now new s is some =
     let not_zero : nat_eq n 0 ≡ false = grind (arith, nat_tests) in
     let piece : List ℕ = take n buffer in
     record {
@@ -156,10 +157,10 @@ gave_end now new buffer n is none =
     is ∙ ap (λ (k : ℕ). gave now buffer k) none
     ∙ ap (λ (l : List ℕ). Wired now.taken l (one_more now.ends)) (append-nil now.given)
 
-wired_end : (slots : ℕ) (low high : View) (r : Reading) (done : Served) (buffer : List ℕ) (n : ℕ)
-    (old now new : Traffic) → (s : IsServing slots low high r done [] old now) → new ≡ gave now buffer n → n ≡ 0
+wired_end : (hall : Rooms) (low high : View) (r : Reading) (done : Served) (buffer : List ℕ) (n : ℕ)
+    (old now new : Traffic) → (s : IsServing hall low high r done [] old now) → new ≡ gave now buffer n → n ≡ 0
     → new ≡ passed (course_of [] s) s.out (one_more old.ends) old
-wired_end slots low high r done buffer n old now new s is none =
+wired_end hall low high r done buffer n old now new s is none =
     gave_end now new buffer n is none
     ∙ ap (λ (t : Traffic). Wired t.taken t.given (one_more t.ends)) s.wire
 
@@ -174,61 +175,61 @@ some_held (Some f) held e right ends none = cc
 some_held None [] e right ends none = cc
 some_held None (b ∷ held) e right ends none = cc
 
-pub ends_between : (slots : ℕ) (low high : View) (r : Reading) (done : Served) (buffer : List ℕ) (n : ℕ)
-    (old now new : Traffic) (f g : Failed) → IsServing slots low high r done [] old now
+pub ends_between : (hall : Rooms) (low high : View) (r : Reading) (done : Served) (buffer : List ℕ) (n : ℕ)
+    (old now new : Traffic) (f g : Failed) → IsServing hall low high r done [] old now
     → done.requests ≤ request_limit → new ≡ gave now buffer n → n ≡ 0 → end_of r.fault r.held ≡ Ok tt
-    → Ends slots low high end.EndOfInput old new f g
-ends_between slots low high r done buffer n old now new f g s few is none whole =
+    → Ends hall low high end.EndOfInput old new f g
+ends_between hall low high r done buffer n old now new f g s few is none whole =
     let rest : s.read.rest ≡ [] = sym (s.read.held s.right) ∙ none_held r.fault r.held s.right whole in
-    let ends : EndsAs slots low high end.EndOfInput (course_of [] s) old new f g =
-    ((refl, refl), rest, wired_end slots low high r done buffer n old now new s is none) in
-    (course_of [] s, is_course slots low high r done [] [] old now s few, ends)
+    let ends : EndsAs hall low high end.EndOfInput (course_of [] s) old new f g =
+    ((refl, refl), rest, wired_end hall low high r done buffer n old now new s is none) in
+    (course_of [] s, is_course hall low high r done [] [] old now s few, ends)
 
-pub ends_within : (slots : ℕ) (low high : View) (r : Reading) (done : Served) (buffer : List ℕ) (n : ℕ)
+pub ends_within : (hall : Rooms) (low high : View) (r : Reading) (done : Served) (buffer : List ℕ) (n : ℕ)
     (result : SessionEnd) (e : EndFault) (old now mid new : Traffic) (f g : Failed)
-    → IsServing slots low high r done [] old now → done.requests ≤ request_limit
+    → IsServing hall low high r done [] old now → done.requests ≤ request_limit
     → mid ≡ gave now buffer n → n ≡ 0 → end_of r.fault r.held ≡ Err e
     → Leaves session.Truncated done.sent result mid new → g ≡ failed_leaving result f
-    → Ends slots low high result old new f g
-ends_within slots low high r done buffer n result e old now mid new f g s few is none part l failed =
+    → Ends hall low high result old new f g
+ends_within hall low high r done buffer n result e old now mid new f g s few is none part l failed =
     let c : Course = course_of [] s in
     let due : IsDue session.Truncated c = (
       (refl, refl),
-      right_behind slots low high r done [] old now s,
+      right_behind hall low high r done [] old now s,
       λ empty. some_held r.fault r.held e s.right part (s.read.held s.right ∙ empty),
     ) in
-    leaves slots low high c session.Truncated result done.sent old mid new f g
-    (is_course slots low high r done [] [] old now s few) due s.sums
-    (wired_end slots low high r done buffer n old now mid s is none) l failed
+    leaves hall low high c session.Truncated result done.sent old mid new f g
+    (is_course hall low high r done [] [] old now s few) due s.sums
+    (wired_end hall low high r done buffer n old now mid s is none) l failed
 
 -- or failed
-pub ends_unread : (slots : ℕ) (low high : View) (r : Reading) (done : Served) (result : SessionEnd)
-    (old now mid new : Traffic) (f g : Failed) → IsServing slots low high r done [] old now
+pub ends_unread : (hall : Rooms) (low high : View) (r : Reading) (done : Served) (result : SessionEnd)
+    (old now mid new : Traffic) (f g : Failed) → IsServing hall low high r done [] old now
     → done.requests ≤ request_limit → mid ≡ now → Leaves session.Read done.sent result mid new
-    → g ≡ failed_leaving result (read_failed f) → Ends slots low high result old new f g
-ends_unread slots low high r done result old now mid new f g s few same l failed =
+    → g ≡ failed_leaving result (read_failed f) → Ends hall low high result old new f g
+ends_unread hall low high r done result old now mid new f g s few same l failed =
     let c : Course = course_of [] s in
-    let due : IsDue session.Read c = ((refl, refl), right_behind slots low high r done [] old now s) in
-    leaves slots low high c session.Read result done.sent old mid new f g
-    (is_course slots low high r done [] [] old now s few) due s.sums (same ∙ s.wire) l failed
+    let due : IsDue session.Read c = ((refl, refl), right_behind hall low high r done [] old now s) in
+    leaves hall low high c session.Read result done.sent old mid new f g
+    (is_course hall low high r done [] [] old now s few) due s.sums (same ∙ s.wire) l failed
 
 -- or memory was wanting for what it gave
-pub ends_full : (slots : ℕ) (low high : View) (r : Reading) (done : Served) (piece : List ℕ) (result : SessionEnd)
-    (old now new : Traffic) (f g : Failed) → IsServing slots low high r done piece old now
+pub ends_full : (hall : Rooms) (low high : View) (r : Reading) (done : Served) (piece : List ℕ) (result : SessionEnd)
+    (old now new : Traffic) (f g : Failed) → IsServing hall low high r done piece old now
     → done.requests ≤ request_limit → 0 < length piece → length piece ≤ 4096
     → Leaves session.Memory done.sent result now new → g ≡ failed_leaving result f
-    → Ends slots low high result old new f g
-ends_full slots low high r done piece result old now new f g s few some short l failed =
+    → Ends hall low high result old new f g
+ends_full hall low high r done piece result old now new f g s few some short l failed =
     let c : Course = course_of piece s in
     let due : IsDue session.Memory c =
-    (refl, some, short, right_behind slots low high r done piece old now s) in
-    leaves slots low high c session.Memory result done.sent old now new f g
-    (is_course slots low high r done piece piece old now s few) due s.sums s.wire l failed
+    (refl, some, short, right_behind hall low high r done piece old now s) in
+    leaves hall low high c session.Memory result done.sent old now new f g
+    (is_course hall low high r done piece piece old now s few) due s.sums s.wire l failed
 
 -- what was made of a piece
-pub goes : (slots : ℕ) (low high : View) (x y : Result Served SessionEnd) (r : Reading) (old new : Traffic)
-    (before f g : Failed) → x ≡ y → before ≡ f → Goes slots low high x r old new before g
-    → Goes slots low high y r old new f g
-goes slots low high x y r old new before f g same none is =
-    subst (λ (h : Failed). Goes slots low high y r old new h g) none
-    (subst (λ (z : Result Served SessionEnd). Goes slots low high z r old new before g) same is)
+pub goes : (hall : Rooms) (low high : View) (x y : Result Served SessionEnd) (r : Reading) (old new : Traffic)
+    (before f g : Failed) → x ≡ y → before ≡ f → Goes hall low high x r old new before g
+    → Goes hall low high y r old new f g
+goes hall low high x y r old new before f g same none is =
+    subst (λ (h : Failed). Goes hall low high y r old new h g) none
+    (subst (λ (z : Result Served SessionEnd). Goes hall low high z r old new before g) same is)

@@ -9,6 +9,7 @@ use Rattle.cut_messages.specs.declared.side.Side.{Side}
 use Rattle.cut_messages.specs.declared.side.Side.TheVariants.{Requests}
 use Rattle.cut_messages.specs.declared.message.Message.{Message}
 use Rattle.cut_messages.specs.declared.fault.StreamFault.{StreamFault}
+use Rattle.cut_pool.specs.Hall.{Rooms}
 use Rattle.cut_session.specs.declared.serve.Served.{Served}
 use Rattle.cut_session.specs.declared.session_end.SessionEnd.{SessionEnd}
 use Rattle.cut_session.specs.declared.session_end.SessionEnd.TheVariants as end
@@ -22,18 +23,18 @@ use Rattle.cut_session.proofs.Turns.{all_then}
 use Rattle.cut_session.proofs.Cuts.{CutIn, cut_in}
 
 -- a piece was read that completes messages, of which the first ones are answered
-pub record IsFed (slots : ℕ) (low middle high : View) (r next : Reading) (done : Served) (piece : List ℕ)
-    (old now : Traffic) (s : IsServing slots low middle r done piece old now)
+pub record IsFed (hall : Rooms) (low middle high : View) (r next : Reading) (done : Served) (piece : List ℕ)
+    (old now : Traffic) (s : IsServing hall low middle r done piece old now)
     (more answered unanswered : List Message) (out : List ℕ) : Type 0 where
   pub read : HasRead next (s.stream ++ piece) (s.messages ++ more)
   pub side : next.side ≡ r.side
   pub parts : more ≡ answered ++ unanswered
-  pub replies : AnswersAll slots middle high answered out
+  pub replies : AnswersAll hall middle high answered out
   pub few : done.requests + length answered ≤ request_limit
 
-module _ {slots : ℕ} {low middle high : View} {r next : Reading} {done : Served} {piece : List ℕ}
-    {old now : Traffic} {s : IsServing slots low middle r done piece old now} {more answered unanswered : List Message}
-    {out : List ℕ} (f : IsFed slots low middle high r next done piece old now s more answered unanswered out) where
+module _ {hall : Rooms} {low middle high : View} {r next : Reading} {done : Served} {piece : List ℕ}
+    {old now : Traffic} {s : IsServing hall low middle r done piece old now} {more answered unanswered : List Message}
+    {out : List ℕ} (f : IsFed hall low middle high r next done piece old now s more answered unanswered out) where
   -- its course
   abbrev pub fed_course : Course
   fed_course = record {
@@ -52,11 +53,11 @@ module _ {slots : ℕ} {low middle high : View} {r next : Reading} {done : Serve
   fed_parts : s.messages ++ more ≡ (s.messages ++ answered) ++ unanswered
   fed_parts = ap (λ (l : List Message). s.messages ++ l) f.parts ∙ sym (append_assoc s.messages answered unanswered)
 
-  is_fed_course : IsCourse slots low high fed_course
+  is_fed_course : IsCourse hall low high fed_course
   is_fed_course = record {
     splits = subst (λ (l : List Message). Splits Requests (s.stream ++ piece) l f.read.rest) fed_parts fed_splits;
     few = omega (arith, f.few, s.requests, length-append s.messages answered);
-    replies = all_then slots low middle high s.messages answered s.out out s.replies f.replies;
+    replies = all_then hall low middle high s.messages answered s.out out s.replies f.replies;
   }
 
   fed_wire : (bytes : List ℕ) (new : Traffic) → new ≡ wrote now bytes
@@ -71,9 +72,9 @@ module _ {slots : ℕ} {low middle high : View} {r next : Reading} {done : Serve
 
   -- a message quits
   pub fed_quits : (new : Traffic) (f g : Failed) → new ≡ wrote now out → QuitsAtOnce unanswered
-      → done.requests + length answered < request_limit → Ends slots low high end.Quit old new f g
+      → done.requests + length answered < request_limit → Ends hall low high end.Quit old new f g
   fed_quits new f g is quits few =
-      let ends : EndsAs slots low high end.Quit fed_course old new f g = (
+      let ends : EndsAs hall low high end.Quit fed_course old new f g = (
         quits,
         omega (arith, few, s.requests, length-append s.messages answered),
         refl,
@@ -83,7 +84,7 @@ module _ {slots : ℕ} {low middle high : View} {r next : Reading} {done : Serve
 
   -- its course up to the message to which the reply is cut
   abbrev pub cut_course : (n : ℕ)
-      → CutIn slots low high (s.messages ++ answered) (s.out ++ out) n → Course
+      → CutIn hall low high (s.messages ++ answered) (s.out ++ out) n → Course
   cut_course n cut = record {
     stream = s.stream ++ piece;
     answered = cut.before ++ cut.here ∷ [];
@@ -93,8 +94,8 @@ module _ {slots : ℕ} {low middle high : View} {r next : Reading} {done : Serve
     out = cut.first ++ cut.reply;
   }
 
-  is_cut_course : (n : ℕ) → (cut : CutIn slots low high (s.messages ++ answered) (s.out ++ out) n)
-      → IsCourse slots low high (cut_course n cut)
+  is_cut_course : (n : ℕ) → (cut : CutIn hall low high (s.messages ++ answered) (s.out ++ out) n)
+      → IsCourse hall low high (cut_course n cut)
   is_cut_course n cut =
       let parts : s.messages ++ answered ≡ (cut.before ++ cut.here ∷ []) ++ cut.after =
       cut.parts ∙ sym (append_assoc cut.before (cut.here ∷ []) cut.after) in
@@ -108,13 +109,13 @@ module _ {slots : ℕ} {low middle high : View} {r next : Reading} {done : Serve
           ap (λ (l : List Message). length l) parts,
           length-append (cut.before ++ cut.here ∷ []) cut.after,
         );
-        replies = all_then slots low cut.middle high cut.before (cut.here ∷ []) cut.first cut.reply cut.replies
+        replies = all_then hall low cut.middle high cut.before (cut.here ∷ []) cut.first cut.reply cut.replies
             cut.answers;
       }
 
   -- a write of a reply fails
   pub fed_cut : (p : Sent) (new : Traffic) (g h : Failed) → Sends done.sent (Err p) out now new
-      → h ≡ write_failed g → Ends slots low high (end.Write p.bytes) old new g h
+      → h ≡ write_failed g → Ends hall low high (end.Write p.bytes) old new g h
   fed_cut p new g h sends failed =
       let n : ℕ = p.bytes in
       let same : n - done.sent ≡ n - length s.out = ap (λ (k : ℕ). n - k) s.sums in
@@ -122,14 +123,14 @@ module _ {slots : ℕ} {low middle high : View} {r next : Reading} {done : Serve
       let front : s.out ++ take (n - done.sent) out ≡ take n (s.out ++ out) =
       ap (λ (k : ℕ). s.out ++ take k out) same
       ∙ sym (ap (λ (k : ℕ). take k (s.out ++ out)) parts ∙ take-append-add s.out out (n - length s.out)) in
-      let cut : CutIn slots low high (s.messages ++ answered) (s.out ++ out) n =
-      cut_in slots low high (s.messages ++ answered) (s.out ++ out) n is_fed_course.replies
+      let cut : CutIn hall low high (s.messages ++ answered) (s.out ++ out) n =
+      cut_in hall low high (s.messages ++ answered) (s.out ++ out) n is_fed_course.replies
       (omega (arith, sends.sums.1, s.sums, length-append s.out out)) in
       let c : Course = cut_course n cut in
       let short : take n (s.out ++ out) ≡ take n c.out =
       ap (λ (l : List ℕ). take n l) cut.joined
       ∙ take-append-le n c.out cut.rest (omega (arith, cut.part)) in
-      let reply : LastReply slots low high c = record {
+      let reply : LastReply hall low high c = record {
         before = cut.before;
         here = cut.here;
         middle = cut.middle;
@@ -140,7 +141,7 @@ module _ {slots : ℕ} {low middle high : View} {r next : Reading} {done : Serve
         answers = cut.answers;
         joined = refl;
       } in
-      let ends : EndsAs slots low high (end.Write n) c old new g h = inl (
+      let ends : EndsAs hall low high (end.Write n) c old new g h = inl (
         reply,
         cut.from,
         cut.part,
@@ -155,33 +156,33 @@ module _ {slots : ℕ} {low middle high : View} {r next : Reading} {done : Serve
   pub fed_limit : (n : ℕ) (result : SessionEnd) (mid new : Traffic) (g h : Failed)
       → Sends done.sent (Ok n) out now mid → done.requests + length answered ≡ request_limit
       → 0 < length unanswered → Leaves session.TooManyRequests n result mid new → h ≡ failed_leaving result g
-      → Ends slots low high result old new g h
+      → Ends hall low high result old new g h
   fed_limit n result mid new g h sends all some l failed =
       let due : IsDue session.TooManyRequests fed_course = (
         omega (arith, all, s.requests, length-append s.messages answered),
         some,
         refl,
       ) in
-      leaves slots low high fed_course session.TooManyRequests result n old mid new g h is_fed_course due
+      leaves hall low high fed_course session.TooManyRequests result n old mid new g h is_fed_course due
       (fed_sum n sends.sums) (fed_wire out mid sends.took) l failed
 
   -- a fault stands behind them
   pub fed_fault : (n : ℕ) (fault : StreamFault) (result : SessionEnd) (mid new : Traffic) (g h : Failed)
       → Sends done.sent (Ok n) out now mid → unanswered ≡ [] → next.fault ≡ Some fault
       → Leaves (session.Stream fault) n result mid new → h ≡ failed_leaving result g
-      → Ends slots low high result old new g h
+      → Ends hall low high result old new g h
   fed_fault n fault result mid new g h sends none wrong l failed =
       let due : IsDue (session.Stream fault) fed_course = (
         (none, refl),
         fault_of next (s.stream ++ piece) (s.messages ++ more) (Some fault) f.read (f.side ∙ s.side) wrong,
       ) in
-      leaves slots low high fed_course (session.Stream fault) result n old mid new g h is_fed_course due
+      leaves hall low high fed_course (session.Stream fault) result n old mid new g h is_fed_course due
       (fed_sum n sends.sums) (fed_wire out mid sends.took) l failed
 
   -- the session goes on
   pub fed_on : (n : ℕ) (later : Served) (new : Traffic) → Sends done.sent (Ok n) out now new → unanswered ≡ []
       → next.fault ≡ None → later.requests ≡ done.requests + length answered → later.sent ≡ n
-      → IsServing slots low high next later [] old new
+      → IsServing hall low high next later [] old new
   fed_on n later new sends none right many sum =
       let all : s.messages ++ more ≡ s.messages ++ answered =
       ap (λ (l : List Message). s.messages ++ l)
@@ -194,7 +195,7 @@ module _ {slots : ℕ} {low middle high : View} {r next : Reading} {done : Serve
         right = right;
         side = f.side ∙ s.side;
         requests = omega (arith, many, s.requests, length-append s.messages answered);
-        replies = all_then slots low middle high s.messages answered s.out out s.replies f.replies;
+        replies = all_then hall low middle high s.messages answered s.out out s.replies f.replies;
         sums = sum ∙ fed_sum n sends.sums;
         wire = fed_wire out new sends.took;
       }

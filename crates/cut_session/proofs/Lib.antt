@@ -4,3 +4,4 @@ pub mod Cuts
 pub mod Courses
 pub mod Feeding
 pub mod Served
+pub mod Owned

@@ -1,5 +1,5 @@
 -- Replies that go out frame by frame.
-use Rattle.std.proofs.Common.{◌≡◌, ◌∙◌, ◌+◌, ◌-◌, ◌<◌, ◌≤◌, ◌++◌, ℕ, List, [], ◌∷◌, length, Result, Ok, Err, inl, inr, refl, sym, ap, subst, arith, zero-add, length-append, append_assoc, append-nil}
+use Rattle.std.proofs.Common.{◌≡◌, ◌∙◌, ◌+◌, ◌-◌, ◌<◌, ◌≤◌, ◌++◌, ℕ, Bool, List, [], ◌∷◌, length, Result, Ok, Err, inl, inr, refl, sym, ap, subst, arith, zero-add, length-append, append_assoc, append-nil}
 use Rattle.std.specs.Prelude.{IfOk, IfErr}
 use Rattle.std.specs.List.{range_with_len, flat_map}
 use Rattle.std.proofs.lemmas.Bool.{cases_lt}
@@ -16,7 +16,8 @@ use Rattle.cut_faults.specs.declared.code.FaultCode.{FaultCode}
 use Rattle.cut_pool.specs.declared.line_fault.LineFault.{LineFault}
 use Rattle.cut_pool.specs.declared.line_fault.LineFault.TheVariants.{Stopped}
 use Rattle.cut_pool.specs.Lines.{full_line}
-use Rattle.cut_pool.specs.HallFaults.{code_of_line}
+use Rattle.cut_pool.specs.Faults.{code_of_line}
+use Rattle.cut_pool.specs.Trust.{MayBegin}
 use Rattle.cut_table.specs.declared.send.Sent.{Sent}
 use Rattle.cut_table.specs.Traffic.{Traffic, wrote, IsSentBetween, SendsAfter}
 use Rattle.cut_messages.specs.declared.kind.Kind.{Kind}
@@ -82,18 +83,18 @@ unfolding rows_to
 rows_none plan base = sym (append-nil (frame kind.Row (header (version_of plan.failing))))
 
 -- a write failed in the frames of the first n lines
-pub cut_rows : (plan : Values) (base : List Slip) (n before : ℕ) (p : Sent) (old new : Traffic)
-    → n ≤ length (cells_of plan) → Sends before (Err p) (rows_to plan base n) old new
-    → Replies (AnswersPlan plan) before (Err p) old new
-cut_rows plan base n before p old new low s = elim (cases_lt n (length (cells_of plan))) [
+pub cut_rows : (trusts : Bool) (plan : Values) (base : List Slip) (n before : ℕ) (p : Sent) (old new : Traffic)
+    → MayBegin trusts plan base → n ≤ length (cells_of plan)
+    → Sends before (Err p) (rows_to plan base n) old new → Replies (AnswersPlan trusts plan) before (Err p) old new
+cut_rows trusts plan base n before p old new begun low s = elim (cases_lt n (length (cells_of plan))) [
   | inl less ↦ (
     rows_to plan base n ++ error_frame (code_of_line Stopped),
-    inr (inl (base, n, Stopped, less, refl)),
+    inr (inl (base, begun, n, Stopped, less, refl)),
     sends_part before p (rows_to plan base n) (error_frame (code_of_line Stopped)) old new s,
   )
   | inr all ↦ (
     rows_to plan base n ++ end_frame,
-    inl (base, ap (λ k. rows_to plan base k ++ end_frame) (omega (arith, low, all))),
+    inl (base, begun, ap (λ k. rows_to plan base k ++ end_frame) (omega (arith, low, all))),
     sends_part before p (rows_to plan base n) end_frame old new s,
   )
 ]
@@ -120,23 +121,23 @@ next_rows plan base n before middle r line old mid new is long first ok err took
     (frame_sends middle r kind.Row line mid new ok err took))
 
 -- all lines went out, and the end behind them; or a fault behind the first of them
-pub whole_table : (plan : Values) (base : List Slip) (n before middle : ℕ) (r : Result ℕ Sent)
-    (old mid new : Traffic) → n ≡ length (cells_of plan) → middle ≡ before + length (rows_to plan base n)
+pub whole_table : (trusts : Bool) (plan : Values) (base : List Slip) (n before middle : ℕ) (r : Result ℕ Sent)
+    (old mid new : Traffic) → MayBegin trusts plan base → n ≡ length (cells_of plan) → middle ≡ before + length (rows_to plan base n)
     → mid ≡ wrote old (rows_to plan base n) → Sends middle r end_frame mid new
-    → Replies (AnswersPlan plan) before r old new
-whole_table plan base n before middle r old mid new all long first sends = (
+    → Replies (AnswersPlan trusts plan) before r old new
+whole_table trusts plan base n before middle r old mid new begun all long first sends = (
   rows_to plan base n ++ end_frame,
-  inl (base, ap (λ k. rows_to plan base k ++ end_frame) all),
+  inl (base, begun, ap (λ k. rows_to plan base k ++ end_frame) all),
   sends_behind before middle r (rows_to plan base n) end_frame old mid new long first sends,
 )
 
-pub broken_off : (plan : Values) (base : List Slip) (n before middle : ℕ) (r : Result ℕ Sent) (fault : LineFault)
-    (code : FaultCode) (old mid new : Traffic) → n < length (cells_of plan) → code ≡ code_of_line fault
+pub broken_off : (trusts : Bool) (plan : Values) (base : List Slip) (n before middle : ℕ) (r : Result ℕ Sent)
+    (fault : LineFault) (code : FaultCode) (old mid new : Traffic) → MayBegin trusts plan base → n < length (cells_of plan) → code ≡ code_of_line fault
     → middle ≡ before + length (rows_to plan base n) → mid ≡ wrote old (rows_to plan base n)
-    → Sends middle r (error_frame code) mid new → Replies (AnswersPlan plan) before r old new
-broken_off plan base n before middle r fault code old mid new low is long first sends = (
+    → Sends middle r (error_frame code) mid new → Replies (AnswersPlan trusts plan) before r old new
+broken_off trusts plan base n before middle r fault code old mid new begun low is long first sends = (
   rows_to plan base n ++ error_frame code,
-  inr (inl (base, n, fault, low, ap (λ k. rows_to plan base n ++ error_frame k) is)),
+  inr (inl (base, begun, n, fault, low, ap (λ k. rows_to plan base n ++ error_frame k) is)),
   sends_behind before middle r (rows_to plan base n) (error_frame code) old mid new long first sends,
 )
 
@@ -157,12 +158,12 @@ long_next plan base n line is =
 
 -- ---- the reply to a text
 
-pub plan_answered : (text : List ℕ) (plan taken : Values) (before : ℕ) (r : Result ℕ Sent) (old new : Traffic)
-    → plan_of text ≡ Ok plan → taken ≡ plan → Replies (AnswersPlan taken) before r old new
-    → Replies (AnswersText text) before r old new
-plan_answered text plan taken before r old new is same a = (
+pub plan_answered : (trusts : Bool) (text : List ℕ) (plan taken : Values) (before : ℕ) (r : Result ℕ Sent)
+    (old new : Traffic) → plan_of text ≡ Ok plan → taken ≡ plan
+    → Replies (AnswersPlan trusts taken) before r old new → Replies (AnswersText trusts text) before r old new
+plan_answered trusts text plan taken before r old new is same a = (
   a.0,
-  inr (subst (λ (given : Result Values Refusal). AnswersRead given a.0) (sym is)
-      (subst (λ (v : Values). AnswersPlan v a.0) same a.1)),
+  inr (subst (λ (given : Result Values Refusal). AnswersRead trusts given a.0) (sym is)
+      (subst (λ (v : Values). AnswersPlan trusts v a.0) same a.1)),
   a.2,
 )

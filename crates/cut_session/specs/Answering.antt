@@ -1,5 +1,5 @@
 -- What a server may reply to requests (this project's format).
-use Rattle.std.specs.Prelude.{◌≡◌, ◌<◌, ◌≤◌, ◌⊎◌, ◌++◌, ℕ, List, [], ◌∷◌, length, Result, Ok, Err}
+use Rattle.std.specs.Prelude.{Bool, ◌≡◌, ◌<◌, ◌≤◌, ◌⊎◌, ◌++◌, ℕ, List, [], ◌∷◌, length, Result, Ok, Err}
 use Rattle.std.specs.Int.{w16, w32, w64, to_be_bytes, from_be_bytes}
 use Rattle.std.specs.List.{range_with_len, flat_map}
 use Rattle.cut_faults.specs.declared.code.FaultCode.{FaultCode}
@@ -17,8 +17,10 @@ use Rattle.cut_lines.specs.Lines.{header}
 use Rattle.cut_ledger.specs.declared.slip.Slip.{Slip}
 use Rattle.cut_pool.specs.declared.submit_fault.SubmitFault.{SubmitFault}
 use Rattle.cut_pool.specs.declared.line_fault.LineFault.{LineFault}
-use Rattle.cut_pool.specs.HallFaults.{code_of_submit, code_of_line}
+use Rattle.cut_pool.specs.Faults.{code_of_submit, code_of_line}
+use Rattle.cut_pool.specs.Hall.{Rooms}
 use Rattle.cut_pool.specs.Lines.{full_line}
+use Rattle.cut_pool.specs.Trust.{MayBegin}
 use Rattle.cut_messages.specs.declared.kind.Kind.{Kind}
 use Rattle.cut_messages.specs.declared.kind.Kind.TheVariants as kind
 use Rattle.cut_messages.specs.declared.message.Message.{Message}
@@ -45,14 +47,17 @@ rows_to plan base n =
 
 -- ---- the reply to a plan
 
--- the whole table, over some slips: other sessions and a disk decide which a study began with
-abbrev pub IsTable : Values → List ℕ → Type 0
-IsTable plan out = (base : List Slip) × (out ≡ rows_to plan base (length (cells_of plan)) ++ end_frame)
+-- the whole table, over the slips that the study began with: true ones in a trusted hall, and else such as a disk
+-- may have
+abbrev pub IsTable : Bool → Values → List ℕ → Type 0
+IsTable is_trusted plan out =
+    (base : List Slip) × MayBegin is_trusted plan base
+    × (out ≡ rows_to plan base (length (cells_of plan)) ++ end_frame)
 
 -- the lines before one that didn't come, and why it didn't
-abbrev pub IsBrokenOff : Values → List ℕ → Type 0
-IsBrokenOff plan out =
-    (base : List Slip) × (n : ℕ) × (fault : LineFault) × (n < length (cells_of plan))
+abbrev pub IsBrokenOff : Bool → Values → List ℕ → Type 0
+IsBrokenOff is_trusted plan out =
+    (base : List Slip) × MayBegin is_trusted plan base × (n : ℕ) × (fault : LineFault) × (n < length (cells_of plan))
     × (out ≡ rows_to plan base n ++ error_frame (code_of_line fault))
 
 -- why the hall took no study of the plan
@@ -60,17 +65,18 @@ abbrev pub IsNotTaken : List ℕ → Type 0
 IsNotTaken out = (fault : SubmitFault) × (out ≡ error_frame (code_of_submit fault))
 
 -- to an accepted plan
-abbrev pub AnswersPlan : Values → List ℕ → Type 0
-AnswersPlan plan out = IsTable plan out ⊎ (IsBrokenOff plan out ⊎ IsNotTaken out)
+abbrev pub AnswersPlan : Bool → Values → List ℕ → Type 0
+AnswersPlan is_trusted plan out = IsTable is_trusted plan out ⊎ (IsBrokenOff is_trusted plan out ⊎ IsNotTaken out)
 
 -- to a text that is a plan, or that is refused
-abbrev pub AnswersRead : Result Values Refusal → List ℕ → Type 0
-AnswersRead (Ok plan) out = AnswersPlan plan out
-AnswersRead (Err refusal) out = out ≡ error_frame (code_of_refusal refusal)
+abbrev pub AnswersRead : Bool → Result Values Refusal → List ℕ → Type 0
+AnswersRead is_trusted (Ok plan) out = AnswersPlan is_trusted plan out
+AnswersRead is_trusted (Err refusal) out = out ≡ error_frame (code_of_refusal refusal)
 
 -- to a text, for whose reading memory may be wanting
-abbrev pub AnswersText : List ℕ → List ℕ → Type 0
-AnswersText text out = (out ≡ error_frame code.WorkMemory) ⊎ AnswersRead (plan_of text) out
+abbrev pub AnswersText : Bool → List ℕ → List ℕ → Type 0
+AnswersText is_trusted text out =
+    (out ≡ error_frame code.WorkMemory) ⊎ AnswersRead is_trusted (plan_of text) out
 
 -- ---- the reply to a question for a count
 
@@ -84,26 +90,26 @@ TellsCount low high study out =
     (seen_in study low ≤ seen_in study high) × (out ≡ frame kind.Count (to_be_bytes w64 (seen_in study high)))
 
 -- that there is no slot of this number, exactly where there is none
-abbrev pub AnswersCount : ℕ → View → View → ℕ → List ℕ → Type 0
-AnswersCount slots low high study out =
-    ((study < slots) × TellsCount low high study out) ⊎ ((slots ≤ study) × (out ≡ error_frame code.NoSlot))
+abbrev pub AnswersCount : Rooms → View → View → ℕ → List ℕ → Type 0
+AnswersCount hall low high study out =
+    ((study < hall.slots) × TellsCount low high study out) ⊎ ((hall.slots ≤ study) × (out ≡ error_frame code.NoSlot))
 
 -- ---- the replies to requests
 
--- to one request, in a hall of so many slots, by a session that had seen low and has seen high. None follows
+-- to one request, in a hall, by a session that had seen low and has seen high. None follows
 -- a message that quits; what is no request has no reply.
-abbrev pub AnswersKind : ℕ → View → View → Kind → List ℕ → List ℕ → Type 0
-AnswersKind slots low high kind.Submit payload out = AnswersText payload out
-AnswersKind slots low high kind.Count payload out = AnswersCount slots low high (from_be_bytes w32 payload) out
-AnswersKind slots low high kind.Quit payload out = ⊥
-AnswersKind slots low high other payload out = out ≡ []
+abbrev pub AnswersKind : Rooms → View → View → Kind → List ℕ → List ℕ → Type 0
+AnswersKind hall low high kind.Submit payload out = AnswersText hall.is_trusted payload out
+AnswersKind hall low high kind.Count payload out = AnswersCount hall low high (from_be_bytes w32 payload) out
+AnswersKind hall low high kind.Quit payload out = ⊥
+AnswersKind hall low high other payload out = out ≡ []
 
-abbrev pub Answers : ℕ → View → View → Message → List ℕ → Type 0
-Answers slots low high m out = Rises low high × AnswersKind slots low high m.kind m.payload out
+abbrev pub Answers : Rooms → View → View → Message → List ℕ → Type 0
+Answers hall low high m out = Rises low high × AnswersKind hall low high m.kind m.payload out
 
 -- to several in order: what was seen after one is what had been seen before the next
-abbrev pub AnswersAll : ℕ → View → View → List Message → List ℕ → Type 0
-AnswersAll slots low high [] out = Rises low high × (out ≡ [])
-AnswersAll slots low high (m ∷ ms) out =
-    (middle : View) × (first : List ℕ) × (others : List ℕ) × Answers slots low middle m first
-    × AnswersAll slots middle high ms others × (out ≡ first ++ others)
+abbrev pub AnswersAll : Rooms → View → View → List Message → List ℕ → Type 0
+AnswersAll hall low high [] out = Rises low high × (out ≡ [])
+AnswersAll hall low high (m ∷ ms) out =
+    (middle : View) × (first : List ℕ) × (others : List ℕ) × Answers hall low middle m first
+    × AnswersAll hall middle high ms others × (out ≡ first ++ others)

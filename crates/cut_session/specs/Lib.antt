@@ -2,3 +2,4 @@ pub mod FaultCode
 pub mod Answering
 pub mod Session
 pub mod Serving
+pub mod Own

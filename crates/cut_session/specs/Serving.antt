@@ -15,6 +15,7 @@ use Rattle.cut_session.specs.declared.session_end.SessionFault.{SessionFault}
 use Rattle.cut_session.specs.declared.session_end.SessionFault.TheVariants as session
 use Rattle.cut_session.specs.FaultCode.{code_of_session}
 use Rattle.cut_messages.specs.Reading.{Reading, HasRead}
+use Rattle.cut_pool.specs.Hall.{Rooms}
 use Rattle.cut_session.specs.Answering.{Rises, Answers, AnswersAll, error_frame}
 use Rattle.cut_session.specs.Session.{QuitsAtOnce, Ends}
 
@@ -37,29 +38,29 @@ Replies P before result old new = (out : List ℕ) × P out × Sends before resu
 -- ---- the replies to some messages
 
 -- of one message: the reply to it, or none where it quits
-abbrev pub Serves : ℕ → View → View → Message → ℕ → Result Turn Sent → Traffic → Traffic → Type 0
-Serves slots low high m before (Ok (On n)) old new = Replies (Answers slots low high m) before (Ok n) old new
-Serves slots low high m before (Ok Over) old new =
+abbrev pub Serves : Rooms → View → View → Message → ℕ → Result Turn Sent → Traffic → Traffic → Type 0
+Serves hall low high m before (Ok (On n)) old new = Replies (Answers hall low high m) before (Ok n) old new
+Serves hall low high m before (Ok Over) old new =
     (m.kind ≡ kind.Quit) × Rises low high × (new ≡ old)
-Serves slots low high m before (Err part) old new =
-    Replies (Answers slots low high m) before (Err part) old new
+Serves hall low high m before (Err part) old new =
+    Replies (Answers hall low high m) before (Err part) old new
 
 -- the first of some messages were answered, and these bytes went out
-pub record ServesFirst (slots : ℕ) (low high : View) (messages : List Message) (before : ℕ)
+pub record ServesFirst (hall : Rooms) (low high : View) (messages : List Message) (before : ℕ)
     (result : Result ℕ Sent) (old new : Traffic) : Type 0 where
   pub answered : List Message
   pub unanswered : List Message
   pub parts : messages ≡ answered ++ unanswered
-  pub replies : Replies (AnswersAll slots low high answered) before result old new
+  pub replies : Replies (AnswersAll hall low high answered) before result old new
 
 -- all of them were answered, or those before one that quits, or those up to one whose reply was not sent whole
-abbrev pub ServesAll : ℕ → View → View → List Message → ℕ → Result Turn Sent → Traffic → Traffic → Type 0
-ServesAll slots low high messages before (Ok (On n)) old new =
-    Replies (AnswersAll slots low high messages) before (Ok n) old new
-ServesAll slots low high messages before (Ok Over) old new =
-    (n : ℕ) × (s : ServesFirst slots low high messages before (Ok n) old new) × QuitsAtOnce s.unanswered
-ServesAll slots low high messages before (Err part) old new =
-    ServesFirst slots low high messages before (Err part) old new
+abbrev pub ServesAll : Rooms → View → View → List Message → ℕ → Result Turn Sent → Traffic → Traffic → Type 0
+ServesAll hall low high messages before (Ok (On n)) old new =
+    Replies (AnswersAll hall low high messages) before (Ok n) old new
+ServesAll hall low high messages before (Ok Over) old new =
+    (n : ℕ) × (s : ServesFirst hall low high messages before (Ok n) old new) × QuitsAtOnce s.unanswered
+ServesAll hall low high messages before (Err part) old new =
+    ServesFirst hall low high messages before (Err part) old new
 
 -- not more bytes are sent than these
 abbrev pub IsWithin : ℕ → Turn → Type 0
@@ -88,7 +89,7 @@ failed_leaving other f = f
 -- ---- between two reads
 
 -- all messages so far are answered, and no fault stands behind them; a piece was given that is not read yet
-pub record IsServing (slots : ℕ) (low high : View) (r : Reading) (done : Served) (piece : List ℕ)
+pub record IsServing (hall : Rooms) (low high : View) (r : Reading) (done : Served) (piece : List ℕ)
     (old now : Traffic) : Type 0 where
   pub stream : List ℕ
   pub messages : List Message
@@ -97,7 +98,7 @@ pub record IsServing (slots : ℕ) (low high : View) (r : Reading) (done : Serve
   pub right : r.fault ≡ None
   pub side : r.side ≡ Requests
   pub requests : done.requests ≡ length messages
-  pub replies : AnswersAll slots low high messages out
+  pub replies : AnswersAll hall low high messages out
   pub sums : done.sent ≡ length out
   pub wire : now ≡ record {
     taken = old.taken ++ out;
@@ -106,10 +107,10 @@ pub record IsServing (slots : ℕ) (low high : View) (r : Reading) (done : Serve
   }
 
 -- after a piece the session goes on, or has ended
-abbrev pub Goes : ℕ → View → View → Result Served SessionEnd → Reading → Traffic → Traffic → Failed → Failed
+abbrev pub Goes : Rooms → View → View → Result Served SessionEnd → Reading → Traffic → Traffic → Failed → Failed
     → Type 0
-Goes slots low high (Ok done) r old new f g = IsServing slots low high r done [] old new
-Goes slots low high (Err end) r old new f g = Ends slots low high end old new f g
+Goes hall low high (Ok done) r old new f g = IsServing hall low high r done [] old new
+Goes hall low high (Err end) r old new f g = Ends hall low high end old new f g
 
 -- the counts of failed calls after it; no read failed
 abbrev pub HasFailedAt : Result Served SessionEnd → Failed → Failed → Type 0

@@ -13,6 +13,7 @@ use Rattle.cut_session.specs.declared.session_end.SessionFault.TheVariants as se
 use Rattle.cut_session.specs.FaultCode.{code_of_session}
 use Rattle.cut_messages.specs.Frames.{fault_at}
 use Rattle.cut_messages.specs.Reading.{Splits}
+use Rattle.cut_pool.specs.Hall.{Rooms}
 use Rattle.cut_session.specs.Answering.{AnswersAll, error_frame}
 
 -- how many requests a session answers
@@ -30,11 +31,11 @@ pub record Course : Type 0 where
   pub out : List ℕ
 
 -- the messages are those of the stream, no more are answered than may be, and the replies are some that a
--- hall of so many slots may give, where the session had seen low at its begin and has seen high
-pub record IsCourse (slots : ℕ) (low high : View) (c : Course) : Type 0 where
+-- hall may give, where the session had seen low at its begin and has seen high
+pub record IsCourse (hall : Rooms) (low high : View) (c : Course) : Type 0 where
   pub splits : Splits Requests c.stream (c.answered ++ c.unanswered) c.rest
   pub few : length c.answered ≤ request_limit
-  pub replies : AnswersAll slots low high c.answered c.out
+  pub replies : AnswersAll hall low high c.answered c.out
 
 -- every message is answered, and every byte that was given was read
 abbrev pub IsAnswered : Course → Type 0
@@ -73,15 +74,15 @@ passed c taken ends old =
     record { taken = old.taken ++ taken; given = old.given ++ (c.stream ++ c.last); ends = ends }
 
 -- the last of the messages that are answered, with the replies to those before it and the reply to it
-pub record LastReply (slots : ℕ) (low high : View) (c : Course) : Type 0 where
+pub record LastReply (hall : Rooms) (low high : View) (c : Course) : Type 0 where
   pub before : List Message
   pub here : Message
   pub middle : View
   pub first : List ℕ
   pub reply : List ℕ
   pub parts : c.answered ≡ before ++ here ∷ []
-  pub replies : AnswersAll slots low middle before first
-  pub answers : AnswersAll slots middle high (here ∷ []) reply
+  pub replies : AnswersAll hall low middle before first
+  pub answers : AnswersAll hall middle high (here ∷ []) reply
   pub joined : c.out ≡ first ++ reply
 
 -- the counts of failed calls where a fault is due: one read more exactly where it is that a read failed
@@ -90,9 +91,9 @@ failed_by session.Read f = read_failed f
 failed_by fault f = f
 
 -- a write failed of the last reply: those before it were sent whole, and it was not
-abbrev pub CutsReply : ℕ → View → View → ℕ → Course → Traffic → Traffic → Failed → Failed → Type 0
-CutsReply slots low high sent c old new f g =
-    (l : LastReply slots low high c) × (length l.first ≤ sent) × (sent < length c.out) × (c.last ≡ [])
+abbrev pub CutsReply : Rooms → View → View → ℕ → Course → Traffic → Traffic → Failed → Failed → Type 0
+CutsReply hall low high sent c old new f g =
+    (l : LastReply hall low high c) × (length l.first ≤ sent) × (sent < length c.out) × (c.last ≡ [])
     × (new ≡ passed c (take sent c.out) old.ends old) × (g ≡ write_failed f)
 
 -- a write of the frame failed that tells the fault which ended the session
@@ -105,20 +106,20 @@ CutsEnd sent c old new f g =
 -- how a session ends, and what its wire took and gave: all replies to the messages before one that quits; all
 -- replies, where the input ended behind them; the replies and the fault's frame; or exactly as many of the
 -- first bytes of these as are told, where a write failed, and then which calls failed in all
-abbrev pub EndsAs : ℕ → View → View → SessionEnd → Course → Traffic → Traffic → Failed → Failed → Type 0
-EndsAs slots low high Quit c old new f g =
+abbrev pub EndsAs : Rooms → View → View → SessionEnd → Course → Traffic → Traffic → Failed → Failed → Type 0
+EndsAs hall low high Quit c old new f g =
     QuitsAtOnce c.unanswered × (length c.answered < request_limit) × (c.last ≡ [])
     × (new ≡ passed c c.out old.ends old)
-EndsAs slots low high EndOfInput c old new f g =
+EndsAs hall low high EndOfInput c old new f g =
     IsAnswered c × (c.rest ≡ []) × (new ≡ passed c c.out (one_more old.ends) old)
-EndsAs slots low high (Fault fault) c old new f g =
+EndsAs hall low high (Fault fault) c old new f g =
     IsDue fault c × (new ≡ passed c (replies_to fault c) (ends_at fault old.ends) old)
-EndsAs slots low high (Write sent) c old new f g =
-    CutsReply slots low high sent c old new f g ⊎ CutsEnd sent c old new f g
+EndsAs hall low high (Write sent) c old new f g =
+    CutsReply hall low high sent c old new f g ⊎ CutsEnd sent c old new f g
 
-abbrev pub Ends : ℕ → View → View → SessionEnd → Traffic → Traffic → Failed → Failed → Type 0
-Ends slots low high end old new f g =
-    (c : Course) × IsCourse slots low high c × EndsAs slots low high end c old new f g
+abbrev pub Ends : Rooms → View → View → SessionEnd → Traffic → Traffic → Failed → Failed → Type 0
+Ends hall low high end old new f g =
+    (c : Course) × IsCourse hall low high c × EndsAs hall low high end c old new f g
 
 -- ---- calls that failed
 

@@ -1,4 +1,4 @@
-ghost use Rattle.std.specs.Prelude.{◌≡◌, ◌+◌, ◌*◌, ◌^◌, ◌<◌, ◌≤◌, ◌↔◌, length, slice_index, IfOk};
+ghost use Rattle.std.specs.Prelude.{true, ◌≡◌, ◌+◌, ◌*◌, ◌^◌, ◌<◌, ◌≤◌, ◌↔◌, length, slice_index, IfOk};
 ghost use Rattle.std.specs.Int.{w32, from_be_bytes};
 ghost use Rattle.cut_table.specs.Traffic.{after_write};
 ghost use Rattle.cut_session.specs.Answering.{AnswersCount, Rises};
@@ -42,9 +42,10 @@ where
     W: Wire,
     R: Wait,
     requires own { pass.old.hall ≡ hall.now.id }
+    requires trusted { hall.now.is_trusted ≡ true → S.is_true shelf.now ≡ true }
     requires room { before + 2 ^ 21 * length messages.now < 2 ^ 62 }
     ensures told { W.tells wire.old →
-        ServesAll hall.now.slots pass.old.view pass.new.view messages.now before result
+        ServesAll hall.now pass.old.view pass.new.view messages.now before result
         (W.traffic wire.old) (W.traffic wire.new) }
     ensures few { IfOk result (IsWithin (before + 2 ^ 21 * length messages.now)) }
     ensures own { pass.new.hall ≡ pass.old.hall }
@@ -82,9 +83,10 @@ where
     W: Wire,
     R: Wait,
     requires own { pass.old.hall ≡ hall.now.id }
+    requires trusted { hall.now.is_trusted ≡ true → S.is_true shelf.now ≡ true }
     requires room { sent < 2 ^ 62 }
     ensures told { W.tells wire.old →
-        Serves hall.now.slots pass.old.view pass.new.view message.now sent result
+        Serves hall.now pass.old.view pass.new.view message.now sent result
         (W.traffic wire.old) (W.traffic wire.new) }
     ensures few { IfOk result (IsWithin (sent + 2 ^ 21)) }
     ensures own { pass.new.hall ≡ pass.old.hall }
@@ -123,7 +125,7 @@ where
     requires own { pass.old.hall ≡ hall.now.id }
     requires room { sent < 2 ^ 62 }
     ensures told { W.tells wire.old → Replies
-        (AnswersCount hall.now.slots pass.old.view pass.new.view (from_be_bytes w32 payload.now))
+        (AnswersCount hall.now pass.old.view pass.new.view (from_be_bytes w32 payload.now))
         sent result (W.traffic wire.old) (W.traffic wire.new) }
     ensures few { IfOk result (λ n. n ≤ sent + 2 ^ 21) }
     ensures own { pass.new.hall ≡ pass.old.hall }

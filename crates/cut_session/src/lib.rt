@@ -10,9 +10,11 @@ mod fault_reply;
 mod serve;
 mod session_end;
 mod study;
+mod trust;
 
 pub use cut_messages::{
     AskFault, EndFault, Fed, Kind, Message, Payload, Reader, Side, StreamFault, ask, laws,
 };
 pub use serve::session;
 pub use session_end::{SessionEnd, SessionFault};
+pub use trust::trusted_replies_are_own;

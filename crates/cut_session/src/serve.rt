@@ -1,4 +1,4 @@
-ghost use Rattle.std.specs.Prelude.{◌≡◌, ◌+◌, ◌*◌, ◌^◌, ◌<◌, ◌≤◌, ◌↔◌, length, IfOk};
+ghost use Rattle.std.specs.Prelude.{true, ◌≡◌, ◌+◌, ◌*◌, ◌^◌, ◌<◌, ◌≤◌, ◌↔◌, length, IfOk};
 ghost use Rattle.cut_board.specs.declared.view.View.{View};
 ghost use Rattle.cut_table.specs.Traffic.{Traffic};
 ghost use Rattle.cut_session.specs.Answering.{Rises};
@@ -53,8 +53,9 @@ where
     S: Shelf<D>,
     W: Wire,
     R: Wait,
-    requires { pass.old.hall ≡ hall.now.id }
-    ensures told { W.tells wire.old → Ends hall.now.slots pass.old.view pass.new.view result
+    requires own { pass.old.hall ≡ hall.now.id }
+    requires trusted { hall.now.is_trusted ≡ true → S.is_true shelf.now ≡ true }
+    ensures told { W.tells wire.old → Ends hall.now pass.old.view pass.new.view result
         (W.traffic wire.old) (W.traffic wire.new) (W.faults wire.old) (W.faults wire.new) }
     ensures cause { HasFailed result (W.faults wire.old) (W.faults wire.new) }
     ensures own { pass.new.hall ≡ pass.old.hall }
@@ -107,13 +108,14 @@ where
     W: Wire,
     R: Wait,
     requires own { pass.old.hall ≡ hall.now.id }
+    requires trusted { hall.now.is_trusted ≡ true → S.is_true shelf.now ≡ true }
     requires few { done.requests ≤ 1000000 }
     requires room { done.sent ≤ 2 ^ 21 * done.requests }
     requires some { 0 < length piece.now }
     requires short { length piece.now ≤ 4096 }
     ensures told { (low : View) (old : Traffic) → W.tells wire.old →
-        IsServing hall.now.slots low pass.old.view reader.old done piece.now old (W.traffic wire.old) →
-        Goes hall.now.slots low pass.new.view result reader.new old (W.traffic wire.new)
+        IsServing hall.now low pass.old.view reader.old done piece.now old (W.traffic wire.old) →
+        Goes hall.now low pass.new.view result reader.new old (W.traffic wire.new)
         (W.faults wire.old) (W.faults wire.new) }
     ensures few { IfOk result (λ more. more.requests ≤ 1000000) }
     ensures room { IfOk result (λ more. more.sent ≤ 2 ^ 21 * more.requests) }

@@ -1,7 +1,8 @@
-ghost use Rattle.std.specs.Prelude.{◌≡◌, ◌+◌, ◌^◌, ◌<◌, ◌≤◌, ◌↔◌, length, IfOk};
+ghost use Rattle.std.specs.Prelude.{true, ◌≡◌, ◌+◌, ◌^◌, ◌<◌, ◌≤◌, ◌↔◌, length, IfOk};
 ghost use Rattle.cut_plan.specs.Cells.{cells_of};
 ghost use Rattle.cut_table.specs.Traffic.{after_write};
 ghost use Rattle.cut_pool.specs.Lines.{full_line};
+ghost use Rattle.cut_pool.specs.Trust.{MayBegin};
 ghost use Rattle.cut_session.specs.Answering.{AnswersPlan, AnswersText};
 ghost use Rattle.cut_session.specs.Serving.{Replies};
 
@@ -36,9 +37,10 @@ where
     W: Wire,
     R: Wait,
     requires own { pass.old.hall ≡ hall.now.id }
+    requires trusted { hall.now.is_trusted ≡ true → S.is_true shelf.now ≡ true }
     requires room { sent < 2 ^ 62 }
     ensures told { W.tells wire.old →
-        Replies (AnswersText text.now) sent result (W.traffic wire.old) (W.traffic wire.new) }
+        Replies (AnswersText hall.now.is_trusted text.now) sent result (W.traffic wire.old) (W.traffic wire.new) }
     ensures few { IfOk result (λ n. n ≤ sent + 2 ^ 21) }
     ensures own { pass.new.hall ≡ pass.old.hall }
     ensures view { pass.new.view ≡ pass.old.view }
@@ -73,10 +75,11 @@ where
     W: Wire,
     R: Wait,
     requires own { pass.old.hall ≡ hall.now.id }
+    requires begun { MayBegin hall.now.is_trusted opened.now.plan opened.now.base }
     requires slot { opened.now.study < hall.now.slots }
     requires room { before < 2 ^ 62 }
     ensures told { W.tells wire.old →
-        Replies (AnswersPlan opened.now.plan) before result (W.traffic wire.old) (W.traffic wire.new) }
+        Replies (AnswersPlan hall.now.is_trusted opened.now.plan) before result (W.traffic wire.old) (W.traffic wire.new) }
     ensures few { IfOk result (λ n. n ≤ before + 2 ^ 21) }
     ensures own { pass.new.hall ≡ pass.old.hall }
     ensures view { pass.new.view ≡ pass.old.view }

@@ -9,7 +9,7 @@ pub returns-in-Ok-Over-clause-told : goal.returns-in-Ok-Over-clause-told
 returns-in-Ok-Over-clause-told g c = λ told.
     let same : c.answer.result ≡ Ok Over =
     c.in-Ok-Over.is ∙ ap (λ (t : Turn). (let r : Result Turn Sent = Ok t in r)) c.in-Ok-Over.field-0-is in
-    is_over c.args.hall.now.slots c.args.pass.now.view c.loop-message.pass.view c.answer.new.pass.view
+    is_over c.args.hall.now c.args.pass.now.view c.loop-message.pass.view c.answer.new.pass.view
     c.args.messages.now c.loop-message.message-index c.message-item.result c.args.before c.loop-message.sent
     c.answer.result (g.W.Wire.traffic c.args.wire.now) (g.W.Wire.traffic c.loop-message.wire)
     (g.W.Wire.traffic c.answer.new.wire) c.loop-message-test.true c.message-item.is
@@ -17,7 +17,7 @@ returns-in-Ok-Over-clause-told g c = λ told.
 
 pub returns-in-Err-clause-told : goal.returns-in-Err-clause-told
 returns-in-Err-clause-told g c = λ told.
-    is_cut c.args.hall.now.slots c.args.pass.now.view c.loop-message.pass.view c.answer.new.pass.view
+    is_cut c.args.hall.now c.args.pass.now.view c.loop-message.pass.view c.answer.new.pass.view
     c.args.messages.now c.loop-message.message-index c.message-item.result c.args.before c.loop-message.sent
     c.in-Err.part c.answer.result (g.W.Wire.traffic c.args.wire.now) (g.W.Wire.traffic c.loop-message.wire)
     (g.W.Wire.traffic c.answer.new.wire) c.loop-message-test.true c.message-item.is
@@ -31,7 +31,7 @@ loop-message-preserved g c =
     let counts = c.answer.ensures.faults in
     record {
       few = (let most = (rw same at few) in omega (arith, most, c.loop-message.invariant.few));
-      told = λ told. goes_on c.args.hall.now.slots c.args.pass.now.view c.loop-message.pass.view
+      told = λ told. goes_on c.args.hall.now c.args.pass.now.view c.loop-message.pass.view
           c.answer.new.pass.view c.args.messages.now c.loop-message.message-index c.message-item.result c.args.before
           c.loop-message.sent c.in-Ok-On.more c.answer.result (g.W.Wire.traffic c.args.wire.now)
           (g.W.Wire.traffic c.loop-message.wire) (g.W.Wire.traffic c.answer.new.wire) c.loop-message-test.true

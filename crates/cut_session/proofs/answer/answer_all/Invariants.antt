@@ -9,7 +9,7 @@ abbrev pub invariant-loop-message : goal.invariant-loop-message
 invariant-loop-message g l = record {
   few : l.sent ≤ l.fn.before + 2 ^ 21 * l.message-index;
   told : g.W.Wire.tells l.fn.wire → Replies
-      (AnswersAll l.hall.slots l.fn.pass.view l.pass.view (take l.message-index l.messages))
+      (AnswersAll l.hall l.fn.pass.view l.pass.view (take l.message-index l.messages))
       l.fn.before (Ok l.sent) (g.W.Wire.traffic l.fn.wire) (g.W.Wire.traffic l.wire);
   own : l.pass.hall ≡ l.fn.pass.hall;
   rises : Rises l.fn.pass.view l.pass.view;

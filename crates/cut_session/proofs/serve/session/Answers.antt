@@ -8,7 +8,7 @@ use Rattle.cut_session.proofs.serve.session.Goals as goal
 
 pub returns-in-Err-clause-told : goal.returns-in-Err-clause-told
 returns-in-Err-clause-told g c = λ told.
-    ends_unread c.args.hall.now.slots c.args.pass.now.view c.loop.pass.view c.loop.reader c.loop.done c.leave.result
+    ends_unread c.args.hall.now c.args.pass.now.view c.loop.pass.view c.loop.reader c.loop.done c.leave.result
     (g.W.Wire.traffic c.args.wire.now) (g.W.Wire.traffic c.loop.wire) (g.W.Wire.traffic c.read.new.self)
     (g.W.Wire.traffic c.leave.new.wire) (g.W.Wire.faults c.args.wire.now) (g.W.Wire.faults c.leave.new.wire)
     (c.loop.invariant.told told) c.loop.invariant.few (c.in-Err.ensures.told (c.loop.invariant.tells.0 told))
@@ -18,7 +18,7 @@ returns-in-Err-clause-told g c = λ told.
 
 pub returns-in-Ok-finish-clause-told : goal.returns-in-Ok-finish-clause-told
 returns-in-Ok-finish-clause-told g c = λ told.
-    ends_between c.args.hall.now.slots c.args.pass.now.view c.loop.pass.view c.loop.reader c.loop.done
+    ends_between c.args.hall.now c.args.pass.now.view c.loop.pass.view c.loop.reader c.loop.done
     c.read.new.buffer c.in-Ok.count (g.W.Wire.traffic c.args.wire.now) (g.W.Wire.traffic c.loop.wire)
     (g.W.Wire.traffic c.read.new.self) (g.W.Wire.faults c.args.wire.now) (g.W.Wire.faults c.read.new.self)
     (c.loop.invariant.told told) c.loop.invariant.few
@@ -27,7 +27,7 @@ returns-in-Ok-finish-clause-told g c = λ told.
 
 pub returns-in-Err-finish-clause-told : goal.returns-in-Err-finish-clause-told
 returns-in-Err-finish-clause-told g c = λ told.
-    ends_within c.args.hall.now.slots c.args.pass.now.view c.loop.pass.view c.loop.reader c.loop.done
+    ends_within c.args.hall.now c.args.pass.now.view c.loop.pass.view c.loop.reader c.loop.done
     c.read.new.buffer c.in-Ok.count c.leave-in-Err-finish.result c.in-Err-finish.field-0
     (g.W.Wire.traffic c.args.wire.now) (g.W.Wire.traffic c.loop.wire) (g.W.Wire.traffic c.read.new.self)
     (g.W.Wire.traffic c.leave-in-Err-finish.new.wire) (g.W.Wire.faults c.args.wire.now)
@@ -42,12 +42,12 @@ pub returns-in-Err-take_piece-clause-told : goal.returns-in-Err-take_piece-claus
 returns-in-Err-take_piece-clause-told g c = λ told.
     let low : View = c.args.pass.now.view in
     let old : Traffic = g.W.Wire.traffic c.args.wire.now in
-    let before : IsServing c.args.hall.now.slots low c.loop.pass.view c.loop.reader c.loop.done
+    let before : IsServing c.args.hall.now low c.loop.pass.view c.loop.reader c.loop.done
     (take c.in-Ok.count c.read.new.buffer) old (g.W.Wire.traffic c.read.new.self) =
-    serves_given c.args.hall.now.slots low c.loop.pass.view c.loop.reader c.loop.done c.read.new.buffer c.in-Ok.count
+    serves_given c.args.hall.now low c.loop.pass.view c.loop.reader c.loop.done c.read.new.buffer c.in-Ok.count
     old (g.W.Wire.traffic c.loop.wire) (g.W.Wire.traffic c.read.new.self) (c.loop.invariant.told told)
     (c.in-Ok.ensures.told (c.loop.invariant.tells.0 told)) (omega (arith, c.if-count-eq0.false)) in
-    goes c.args.hall.now.slots low c.take_piece.new.pass.view c.take_piece.result (Err c.in-Err-take_piece.end)
+    goes c.args.hall.now low c.take_piece.new.pass.view c.take_piece.result (Err c.in-Err-take_piece.end)
     c.take_piece.new.reader old (g.W.Wire.traffic c.take_piece.new.wire) (g.W.Wire.faults c.read.new.self)
     (g.W.Wire.faults c.args.wire.now) (g.W.Wire.faults c.take_piece.new.wire) c.in-Err-take_piece.is
     (c.in-Ok.ensures.faults ∙ c.loop.invariant.faults)
@@ -61,13 +61,13 @@ loop-preserved g c =
       next = tt;
       finite = tt;
       told = λ told. (
-          let before : IsServing c.args.hall.now.slots low c.loop.pass.view c.loop.reader c.loop.done
+          let before : IsServing c.args.hall.now low c.loop.pass.view c.loop.reader c.loop.done
           (take c.in-Ok.count c.read.new.buffer) old (g.W.Wire.traffic c.read.new.self) =
-          serves_given c.args.hall.now.slots low c.loop.pass.view c.loop.reader c.loop.done c.read.new.buffer
+          serves_given c.args.hall.now low c.loop.pass.view c.loop.reader c.loop.done c.read.new.buffer
           c.in-Ok.count old (g.W.Wire.traffic c.loop.wire) (g.W.Wire.traffic c.read.new.self)
           (c.loop.invariant.told told) (c.in-Ok.ensures.told (c.loop.invariant.tells.0 told))
           (omega (arith, c.if-count-eq0.false)) in
-          goes c.args.hall.now.slots low c.take_piece.new.pass.view c.take_piece.result (Ok c.in-Ok-take_piece.more)
+          goes c.args.hall.now low c.take_piece.new.pass.view c.take_piece.result (Ok c.in-Ok-take_piece.more)
           c.take_piece.new.reader old (g.W.Wire.traffic c.take_piece.new.wire) (g.W.Wire.faults c.read.new.self)
           (g.W.Wire.faults c.args.wire.now) (g.W.Wire.faults c.take_piece.new.wire) c.in-Ok-take_piece.is
           (c.in-Ok.ensures.faults ∙ c.loop.invariant.faults)

@@ -9,7 +9,7 @@ abbrev pub invariant-loop : goal.invariant-loop
 invariant-loop g l = record {
   next : (goal.iterator-loop g).can_next l.iterator';
   finite : (goal.iterator-loop g).is_finite l.iterator';
-  told : g.W.Wire.tells l.fn.wire → IsServing l.hall.slots l.fn.pass.view l.pass.view l.reader l.done []
+  told : g.W.Wire.tells l.fn.wire → IsServing l.hall l.fn.pass.view l.pass.view l.reader l.done []
       (g.W.Wire.traffic l.fn.wire) (g.W.Wire.traffic l.wire);
   few : l.done.requests ≤ 1000000;
   room : l.done.sent ≤ 2 ^ 21 * l.done.requests;

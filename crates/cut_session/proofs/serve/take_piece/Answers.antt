@@ -8,7 +8,7 @@ use Rattle.cut_session.proofs.serve.take_piece.Goals as goal
 
 pub returns-in-Err-clause-told : goal.returns-in-Err-clause-told
 returns-in-Err-clause-told g c = λ low old told s.
-    ends_full c.args.hall.now.slots low c.args.pass.now.view c.args.reader.now c.args.done c.args.piece.now
+    ends_full c.args.hall.now low c.args.pass.now.view c.args.reader.now c.args.done c.args.piece.now
     c.leave.result old (g.W.Wire.traffic c.args.wire.now) (g.W.Wire.traffic c.leave.new.wire)
     (g.W.Wire.faults c.args.wire.now) (g.W.Wire.faults c.leave.new.wire) s c.requires.few
     c.requires.some c.requires.short (c.leave.ensures.told told) c.leave.ensures.faults

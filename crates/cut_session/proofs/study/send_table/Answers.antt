@@ -14,7 +14,7 @@ returns-in-Err-clause-told g c = λ told.
     let base : List Slip = c.args.opened.now.base in
     let old : Traffic = g.W.Wire.traffic c.args.wire.now in
     let new : Traffic = g.W.Wire.traffic c.send_after.new.wire in
-    cut_rows plan base 0 c.args.before c.in-Err.part old new (omega arith)
+    cut_rows c.args.hall.now.is_trusted plan base 0 c.args.before c.in-Err.part old new c.requires.begun (omega arith)
     (first_rows plan base c.args.before (Err c.in-Err.part) c.header.result.now old new c.header.ensures.names tt
     c.in-Err.ensures.err (c.in-Err.ensures.told told))
 
@@ -24,9 +24,9 @@ returns-in-Err-line_of-clause-told g c = λ told.
     let base : List Slip = c.args.opened.now.base in
     let low : c.loop-cell.cell < length (cells_of plan) =
     omega (arith, c.loop-cell-test.true, c.cells-cells.ensures.value) in
-    broken_off plan base c.loop-cell.cell c.args.before c.loop-cell.sent c.send_fault.result c.in-Err-line_of.fault
+    broken_off c.args.hall.now.is_trusted plan base c.loop-cell.cell c.args.before c.loop-cell.sent c.send_fault.result c.in-Err-line_of.fault
     c.code.result (g.W.Wire.traffic c.args.wire.now) (g.W.Wire.traffic c.loop-cell.wire)
-    (g.W.Wire.traffic c.send_fault.new.wire) low c.code.ensures c.loop-cell.invariant.count
+    (g.W.Wire.traffic c.send_fault.new.wire) c.requires.begun low c.code.ensures c.loop-cell.invariant.count
     (c.loop-cell.invariant.told told) (c.send_fault.ensures.told (c.loop-cell.invariant.tells.0 told))
 
 pub returns-in-Err-send_after-clause-told : goal.returns-in-Err-send_after-clause-told
@@ -41,7 +41,7 @@ returns-in-Err-send_after-clause-told g c = λ told.
     omega (arith, c.loop-cell-test.true, c.cells-cells.ensures.value) in
     let is : c.as_slice.result.now ≡ full_line plan base n =
     c.as_slice.ensures.value ∙ c.in-Ok-line_of.ensures.line in
-    cut_rows plan base (n + 1) c.args.before c.in-Err-send_after.part old new low
+    cut_rows c.args.hall.now.is_trusted plan base (n + 1) c.args.before c.in-Err-send_after.part old new c.requires.begun low
     (next_rows plan base n c.args.before c.loop-cell.sent (Err c.in-Err-send_after.part) c.as_slice.result.now old mid
     new is c.loop-cell.invariant.count
     (c.loop-cell.invariant.told told) tt c.in-Err-send_after.ensures.err
@@ -104,7 +104,7 @@ returns-clause-told g c = λ told.
     omega (arith, c.loop-cell-test.false, c.loop-cell.auto.cell-end, c.cells-cells.ensures.value) in
     let mid : Traffic = g.W.Wire.traffic c.loop-cell.wire in
     let new : Traffic = g.W.Wire.traffic c.send_after-2.new.wire in
-    whole_table plan base n c.args.before c.loop-cell.sent c.send_after-2.result (g.W.Wire.traffic c.args.wire.now)
-    mid new all c.loop-cell.invariant.count (c.loop-cell.invariant.told told)
+    whole_table c.args.hall.now.is_trusted plan base n c.args.before c.loop-cell.sent c.send_after-2.result (g.W.Wire.traffic c.args.wire.now)
+    mid new c.requires.begun all c.loop-cell.invariant.count (c.loop-cell.invariant.told told)
     (frame_sends c.loop-cell.sent c.send_after-2.result kind.Done [] mid new c.send_after-2.ensures.ok
     c.send_after-2.ensures.err (c.send_after-2.ensures.told (c.loop-cell.invariant.tells.0 told)))

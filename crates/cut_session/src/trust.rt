@@ -1,0 +1,16 @@
+ghost use Rattle.cut_session.specs.Own.{TrustedRepliesAreOwn};
+
+use cut_ledger::laws::true_slips_tell_the_table;
+use cut_plan::accepted_texts_give_plans;
+
+/// A client of a hall whose studies begin with true slips reads the frames of its plan's own table, line by line
+/// as the definitions give it trial by trial: all of them, or the first ones and then a fault, or a fault alone.
+///
+/// A hall is such a one where its shelf keeps nothing, without any premise. Over a shelf that keeps studies it is
+/// one if the slips on each of its disks are true.
+pub fn trusted_replies_are_own()
+    ensures { TrustedRepliesAreOwn }
+{
+    accepted_texts_give_plans();
+    true_slips_tell_the_table();
+}
