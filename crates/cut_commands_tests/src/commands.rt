@@ -3,6 +3,7 @@
 
 mod asking;
 mod checkpoints;
+mod crews;
 mod devices;
 mod migrating;
 mod mixed_studies;

@@ -1,5 +1,5 @@
 //! Halls of one slot, with a study of two trials.
-ghost use Rattle.std.specs.Prelude.{◌≡◌, ◌<◌, ◌≤◌, All, Err, IfOk};
+ghost use Rattle.std.specs.Prelude.{◌≡◌, ◌<◌, All, Err, IfOk, length};
 ghost use Rattle.cut_pool.specs.declared.not_closed.NotClosed.TheVariants.{SeatMissing};
 
 use crate::books::{OTHER, STUDY};
@@ -15,9 +15,10 @@ use std::sync::Wait;
 use std::sync::ledger::Blank;
 use std::test::Fail;
 
-type Small<M, K> = Hall<MemoryDisk, M, K>;
+/// A hall in which no study is kept.
+pub(crate) type Small<M, K> = Hall<MemoryDisk, M, K>;
 
-fn plan(alloc: Global, text: &str) -> Result<Plan, Fail> {
+pub(crate) fn plan(alloc: Global, text: &str) -> Result<Plan, Fail> {
     Ok(Plan::from_json(alloc, text.as_bytes())?)
 }
 
@@ -81,24 +82,48 @@ fn given_back<M: Tally, K: Tally>(
 }
 
 /// The accepted trials and the calls of the first slot, and whether its study is complete.
-fn first_slot(report: &Report) -> Option<(u64, u64, bool)> {
+pub(crate) fn first_slot(report: &Report) -> Option<(u64, u64, bool)> {
     let slot = report.slots().first()?;
     Some((slot.accepted(), slot.calls(), slot.complete()))
 }
 
-/// Closes a hall with one pass kept back, and then with both: what is told of its slot.
+/// Closes a hall with its first pass kept back: the hall and the others come back, and the first is the last then.
+fn kept_back<M: Tally, K: Tally>(
+    alloc: Global,
+    hall: Small<M, K>,
+    mut passes: Vec<Pass<M>>,
+) -> Result<(Small<M, K>, Vec<Pass<M>>), Fail>
+    requires ledgers { (M.all ≡ M.parts) × (K.all ≡ K.parts) }
+    requires own { All (λ p. p.hall ≡ hall.id) passes.items }
+    requires some { 0 < length passes.items }
+    ensures own { IfOk result (λ back. All (λ p. p.hall ≡ back.0.id) back.1.items) }
+    ensures some { IfOk result (λ back. 0 < length back.1.items) }
+{
+    let first = passes.remove(0);
+    let others = passes.len();
+    let (hall, mut back) = given_back(hall.close(alloc, passes))?;
+    if back.len() != others {
+        return Err("a pass did not come back")?;
+    }
+    back.push(first)?;
+    Ok((hall, back))
+}
+
+/// Closes a hall with each of its three passes kept back in turn, and then with all: what is told of its slot.
 fn closed<M: Tally, K: Tally>(
     alloc: Global,
     hall: Small<M, K>,
-    passes: Vec<Pass<M>>,
+    mut passes: Vec<Pass<M>>,
     last: Pass<M>,
 ) -> Result<Option<(u64, u64, bool)>, Fail>
     requires ledgers { (M.all ≡ M.parts) × (K.all ≡ K.parts) }
     requires own { All (λ p. p.hall ≡ hall.id) passes.items }
     requires last { last.hall ≡ hall.id }
 {
-    let (hall, mut passes) = given_back(hall.close(alloc, passes))?;
     passes.push(last)?;
+    let (hall, passes) = kept_back(alloc, hall, passes)?;
+    let (hall, passes) = kept_back(alloc, hall, passes)?;
+    let (hall, passes) = kept_back(alloc, hall, passes)?;
     match hall.close(alloc, passes) {
         Ok(report) => Ok(first_slot(&report)),
         Err(_) => Ok(None),
@@ -111,10 +136,10 @@ fn one_study<M: Tally, K: Tally, R: Wait + Abort>(
     made: Blank,
     kept: Blank,
 ) -> Result<(), Fail>
-    requires made { (made.name ≡ M.name) × (made.parts ≡ M.parts) × (M.all ≡ M.parts) × (M.all ≡ 2) }
+    requires made { (made.name ≡ M.name) × (made.parts ≡ M.parts) × (M.all ≡ M.parts) × (M.all ≡ 3) }
     requires kept { (kept.name ≡ K.name) × (kept.parts ≡ K.parts) × (K.all ≡ K.parts) × (K.all ≡ 1) }
 {
-    let (hall, mut passes): (Small<M, K>, Vec<Pass<M>>) = Hall::start(alloc, 1, 2, 1, made, kept)?;
+    let (hall, mut passes): (Small<M, K>, Vec<Pass<M>>) = Hall::start(alloc, 1, 3, 1, made, kept)?;
     let Some(mut pass) = passes.pop() else {
         unreachable!()
     };
@@ -127,7 +152,7 @@ fn one_study<M: Tally, K: Tally, R: Wait + Abort>(
 
 #[test]
 fn a_hall_runs_a_study(rt: HostRuntime) -> Result<(), Fail> {
-    one_study::<Brand, Brand, _>(&rt, rt.alloc(), Blank::new(2), Blank::new(1))
+    one_study::<Brand, Brand, _>(&rt, rt.alloc(), Blank::new(3), Blank::new(1))
 }
 
 /// Submits the study, or not.

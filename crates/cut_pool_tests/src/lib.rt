@@ -8,11 +8,23 @@
 #[cfg(test)]
 mod books;
 #[cfg(test)]
+mod empty_slots;
+#[cfg(test)]
 mod halls;
+#[cfg(test)]
+mod many_slips;
+#[cfg(test)]
+mod moved;
+#[cfg(test)]
+mod other_halls;
 pub mod piece;
+#[cfg(test)]
+mod refused_memory;
 #[cfg(test)]
 mod storms;
 #[cfg(test)]
 mod study_runs;
 #[cfg(test)]
 mod tables;
+#[cfg(test)]
+mod wakes;

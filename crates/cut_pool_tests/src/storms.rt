@@ -22,15 +22,20 @@ use std::thread::{Threads, join_mut};
 use std::time::{Clock, Duration, Instant};
 use std::{mem, thread};
 
-type Stormy<M, K> = Hall<FaultyDisk, M, K>;
+/// A hall whose disks may fail.
+pub(crate) type Stormy<M, K> = Hall<FaultyDisk, M, K>;
 
 /// A shelf whose disks each fail at the call of this number, or never where that is 0.
-#[derive(Clone, Copy)]
-struct Brittle {
-    fail_at: u64,
+#[derive(Clone, Copy, Debug)]
+pub(crate) struct Brittle {
+    pub fail_at: u64,
 }
 
 impl Shelf<FaultyDisk> for Brittle {
+    ghost use Rattle.std.specs.Prelude.{true};
+
+    ghost is_true = { λ _. true };
+
     fn open(&self, alloc: Global, _plan: &Plan) -> Result<Option<FaultyDisk>, ShelfFault> {
         let Ok(disk) = FaultyDisk::of(alloc, Vec::new(alloc), self.fail_at, Tear::Nothing) else {
             return Err(ShelfFault::Memory);

@@ -167,7 +167,7 @@ fn a_study_whose_wire_failed_is_resumed(rt: HostRuntime) -> Result<(), Fail> {
 }
 
 /// Keeps the slip of the first trial in a journal.
-fn keep_first<D: Disk + Drop>(alloc: Global, disk: D, plan: &Plan) -> Result<(), Fail> {
+pub(crate) fn keep_first<D: Disk + Drop>(alloc: Global, disk: D, plan: &Plan) -> Result<(), Fail> {
     let (mut journal, _) = journal_on(alloc, disk, plan)?;
     journal.append(&result_of(alloc, plan, Piece { first: 0, count: 1 })?)?;
     Ok(())
@@ -258,28 +258,45 @@ fn a_study_whose_disk_failed_is_resumed(rt: HostRuntime) -> Result<(), Fail> {
     Ok(())
 }
 
-/// Whether two workers write this line of a plan in pieces of ten trials.
-fn writes_line<R: Threads + Wait + Sync>(rt: &R, alloc: Global, plan: &Plan, line: &[u8]) -> bool {
+/// Whether two workers write this line of a plan in pieces of this many trials, and what is told of it.
+fn writes_line<R: Threads + Wait + Sync>(
+    rt: &R,
+    alloc: Global,
+    plan: &Plan,
+    piece_size: u32,
+    line: &[u8],
+) -> Result<(bool, String), Fail>
+    requires { 1 ≤ piece_size }
+{
     let mut wire = wire(alloc, 1000);
     let none: Option<Kept<MemoryDisk>> = None;
-    let answer = run_study(rt, alloc, plan, 10, 2, none, &mut wire, &OpenGate);
-    answer.is_ok() && wire.taken().get(72..) == Some(line)
+    let answer = run_study(rt, alloc, plan, piece_size, 2, none, &mut wire, &OpenGate);
+    let text = told(alloc, answer)?;
+    Ok((wire.taken().get(72..) == Some(line), text))
 }
+
+/// The line of the plan with 1000 trials, 41 bytes: each trial counts as one of the two does.
+const THOUSAND: &[u8] = b"1,1,1,1,1000,4000,0,0,0,4000,1000,1000,0\n";
 
 #[test]
 fn many_trials_in_one_cell(rt: HostRuntime) -> Result<(), Fail> {
     let text =
         r#"{"copies":1,"dead":"silent","f":[1],"faults":"crash","h":[1],"implicit":true,"k":[1],"l":[1],"liars":0,"links":0,"nodes":5,"repeats":1000,"seed":"0000000000000000000000000000000000000000000000000000000000000000","version":1}"#;
     let plan = Plan::from_json(rt.alloc(), text.as_bytes())?;
-    let line = b"1,1,1,1,1000,4000,0,0,0,4000,1000,1000,0\n";
-    assert!(rt; writes_line(&rt, rt.alloc(), &plan, line));
+    let (is_written, told) = writes_line(&rt, rt.alloc(), &plan, 10, THOUSAND)?;
+    let by_ten = "sent 113, accepted 1000, calls 101, complete true";
+    assert!(rt; is_written && told.as_str() == by_ten);
+    let (is_written, told) = writes_line(&rt, rt.alloc(), &plan, 1, THOUSAND)?;
+    let by_one = "sent 113, accepted 1000, calls 1001, complete true";
+    assert!(rt; is_written && told.as_str() == by_one);
     Ok(())
 }
 
-/// A gate at which a call waits until another one has begun, for 10,000 turns of a millisecond at most.
+/// A gate at which a call waits until so many have begun, for 10,000 turns of a millisecond at most.
 #[derive(Drop)]
 struct Meeting<'a, C> {
     clock: &'a C,
+    wanted: u64,
     begun: AtomicU64,
     left_alone: AtomicU64,
 }
@@ -288,7 +305,7 @@ impl<C: Clock> Gate for Meeting<'_, C> {
     fn pass<R: Wait>(&self, _rt: &R, _piece: Piece) {
         self.begun.fetch_add(1, Ordering::SeqCst);
         for _ in 0..10_000 {
-            if self.begun.load(Ordering::SeqCst) > 1 {
+            if self.begun.load(Ordering::SeqCst) >= self.wanted {
                 return;
             }
             self.clock.sleep(Duration::from_millis(1));
@@ -297,31 +314,61 @@ impl<C: Clock> Gate for Meeting<'_, C> {
     }
 }
 
-/// Whether two workers at a gate tell this.
+/// Whether so many workers at a gate tell this of a plan in pieces of one trial, and write this line.
 fn tells_at<G: Gate + Sync, R: Threads + Wait + Sync>(
     rt: &R,
     alloc: Global,
     gate: &G,
-    wanted: &str,
-) -> Result<bool, Fail> {
-    let plan = plan(alloc)?;
+    plan: &Plan,
+    workers: u32,
+    wanted: (&str, &[u8]),
+) -> Result<bool, Fail>
+    requires { (1 ≤ workers) × (workers ≤ 64) }
+{
     let none: Option<Kept<MemoryDisk>> = None;
-    let wire = &mut wire(alloc, 1000);
-    let answer = run_study(rt, alloc, &plan, 1, 2, none, wire, gate);
-    Ok(told(alloc, answer)?.as_str() == wanted)
+    let mut wire = wire(alloc, 1000);
+    let answer = run_study(rt, alloc, plan, 1, workers, none, &mut wire, gate);
+    let (text, line) = wanted;
+    Ok(told(alloc, answer)?.as_str() == text && wire.taken().get(72..) == Some(line))
 }
 
 #[test]
 fn two_workers_are_in_work_at_once(rt: HostRuntime) -> Result<(), Fail> {
     let gate = Meeting {
         clock: &rt,
+        wanted: 2,
         begun: AtomicU64::new(0),
         left_alone: AtomicU64::new(0),
     };
     let whole = "sent 98, accepted 2, calls 3, complete true";
-    let is_told = tells_at(&rt, rt.alloc(), &gate, whole)?;
+    let wanted: (&str, &[u8]) = (whole, b"1,1,1,1,2,8,0,0,0,8,2,2,0\n");
+    let plan = plan(rt.alloc())?;
+    let is_told = tells_at(&rt, rt.alloc(), &gate, &plan, 2, wanted)?;
     let begun = gate.begun.load(Ordering::SeqCst);
     let left_alone = gate.left_alone.load(Ordering::SeqCst);
     assert!(rt; is_told && (begun, left_alone) == (2, 0));
+    Ok(())
+}
+
+/// The study with three trials, so that each of three workers has one.
+const THREE_TRIALS: &str =
+    r#"{"copies":1,"dead":"silent","f":[1],"faults":"crash","h":[1],"implicit":true,"k":[1],"l":[1],"liars":0,"links":0,"nodes":5,"repeats":3,"seed":"0000000000000000000000000000000000000000000000000000000000000000","version":1}"#;
+
+#[test]
+fn three_workers_are_in_work_at_once(rt: HostRuntime) -> Result<(), Fail> {
+    let gate = Meeting {
+        clock: &rt,
+        wanted: 3,
+        begun: AtomicU64::new(0),
+        left_alone: AtomicU64::new(0),
+    };
+    // In each trial one process crashes, and the four others propose it: that is all that is counted.
+    let whole = "sent 100, accepted 3, calls 4, complete true";
+    let wanted: (&str, &[u8]) = (whole, b"1,1,1,1,3,12,0,0,0,12,3,3,0\n");
+    let plan = Plan::from_json(rt.alloc(), THREE_TRIALS.as_bytes())?;
+    let is_told = tells_at(&rt, rt.alloc(), &gate, &plan, 3, wanted)?;
+    let begun = gate.begun.load(Ordering::SeqCst);
+    let left_alone = gate.left_alone.load(Ordering::SeqCst);
+    assert!(rt; is_told && (begun, left_alone) == (3, 0));
     Ok(())
 }

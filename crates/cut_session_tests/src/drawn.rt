@@ -1,5 +1,6 @@
 //! Sessions whose requests are drawn, with each end behind any number of them; a million requests; and studies
 //! that don't come.
+ghost use Rattle.std.specs.Prelude.{true, ◌≡◌};
 
 use crate::halls::{EMPTY, House, serve};
 use crate::readings::from_hex;
@@ -25,11 +26,12 @@ const REQUESTS: [(&[u8], &[u8]); 7] = [
 ];
 
 /// What may stand behind requests, what it is answered, and how the session ends then.
-const ENDS: [(&[u8], &[u8], SessionEnd); 14] = [
+const ENDS: [(&[u8], &[u8], SessionEnd); 15] = [
     (b"", b"", SessionEnd::EndOfInput),
     (b"Q\0\0\0\0", b"", SessionEnd::Quit),
     (b"Q\0\0\0\0S\0\0\0\x04\0\0\0\0", b"", SessionEnd::Quit),
     (b"Q\0\0\0\0X", b"", SessionEnd::Quit),
+    (b"X", b"E\0\0\0\x02\0\x28", BAD_KIND),
     (b"T\0\0\0\0", b"E\0\0\0\x02\0\x28", BAD_KIND),
     (b"\0S\0\0\0\x04\0\0\0\0", b"E\0\0\0\x02\0\x28", BAD_KIND),
     (b"R\0\x01\0\x01", b"E\0\0\0\x02\0\x29", TOO_LONG),
@@ -92,7 +94,9 @@ fn alone<S: Shelf<MemoryDisk>, R: Wait>(
     shelf: &S,
     input: Vec<u8>,
     per: usize,
-) -> Result<(SessionEnd, Vec<u8>), Fail> {
+) -> Result<(SessionEnd, Vec<u8>), Fail>
+    requires { S.is_true shelf.now ≡ true }
+{
     let mut wire = MemoryWire::new(alloc, input, per);
     let end = serve(rt, alloc, EMPTY, &[], shelf, &mut wire)?;
     Ok((end, Vec::from_slice(alloc, wire.taken())?))
@@ -140,19 +144,30 @@ fn after_a_million<R: Wait>(
     ))
 }
 
+/// What is answered to the first request after a million, and how the session ends.
+const TOO_MANY: (&[u8], SessionEnd) = (
+    b"E\0\0\0\x02\0\x2c",
+    SessionEnd::Fault(SessionFault::TooManyRequests),
+);
+
 #[test]
-fn a_million_requests_are_answered_and_no_more(rt: HostRuntime) -> Result<(), Fail> {
-    let alloc = rt.alloc();
-    let many: &[u8] = b"E\0\0\0\x02\0\x2c";
-    let too_many = SessionEnd::Fault(SessionFault::TooManyRequests);
-    let rows: [(&[u8], &[u8], SessionEnd); 3] = [
-        (b"", b"", SessionEnd::EndOfInput),
-        (REQUESTS[0].0, many, too_many),
-        (b"Q\0\0\0\0", many, too_many),
-    ];
-    for (last, frame, right) in rows {
-        assert!(rt; after_a_million(&rt, alloc, last, frame)? == (right, true));
-    }
+fn a_million_requests_are_answered(rt: HostRuntime) -> Result<(), Fail> {
+    let answered = after_a_million(&rt, rt.alloc(), b"", b"")?;
+    assert!(rt; answered == (SessionEnd::EndOfInput, true));
+    Ok(())
+}
+
+#[test]
+fn no_further_request_is_answered(rt: HostRuntime) -> Result<(), Fail> {
+    let answered = after_a_million(&rt, rt.alloc(), REQUESTS[0].0, TOO_MANY.0)?;
+    assert!(rt; answered == (TOO_MANY.1, true));
+    Ok(())
+}
+
+#[test]
+fn a_message_that_quits_may_be_one_too_many(rt: HostRuntime) -> Result<(), Fail> {
+    let answered = after_a_million(&rt, rt.alloc(), b"Q\0\0\0\0", TOO_MANY.0)?;
+    assert!(rt; answered == (TOO_MANY.1, true));
     Ok(())
 }
 
@@ -163,6 +178,10 @@ struct ClosedShelf {
 }
 
 impl<D: Disk> Shelf<D> for ClosedShelf {
+    ghost use Rattle.std.specs.Prelude.{true};
+
+    ghost is_true = { λ _. true };
+
     fn open(&self, _alloc: Global, _plan: &Plan) -> Result<Option<D>, ShelfFault> {
         Err(self.fault)
     }
@@ -208,6 +227,10 @@ struct FaultyShelf {
 }
 
 impl Shelf<FaultyDisk> for FaultyShelf {
+    ghost use Rattle.std.specs.Prelude.{true};
+
+    ghost is_true = { λ _. true };
+
     fn open(&self, alloc: Global, _plan: &Plan) -> Result<Option<FaultyDisk>, ShelfFault> {
         match FaultyDisk::of(alloc, Vec::new(alloc), self.fail_at, Tear::Nothing) {
             Ok(disk) => {

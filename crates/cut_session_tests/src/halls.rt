@@ -1,5 +1,5 @@
 //! Halls for sessions, in which a worker did some pieces before, or all.
-ghost use Rattle.std.specs.Prelude.{◌≡◌, ◌<◌, ◌≤◌};
+ghost use Rattle.std.specs.Prelude.{true, ◌≡◌, ◌<◌, ◌≤◌};
 
 use cut_disks::Disk;
 use cut_plan::Plan;
@@ -63,7 +63,8 @@ where
     K: Tally,
     S: Shelf<D>,
     R: Wait,
-    requires { pass.old.hall ≡ hall.now.id }
+    requires own { pass.old.hall ≡ hall.now.id }
+    requires trusted { S.is_true shelf.now ≡ true }
 {
     let mut reader = Reader::requests(alloc);
     let fed = reader.feed(alloc, requests)?;
@@ -98,7 +99,8 @@ where
     K: Tally,
     S: Shelf<D>,
     R: Wait,
-    requires { pass.old.hall ≡ hall.now.id }
+    requires own { pass.old.hall ≡ hall.now.id }
+    requires trusted { S.is_true shelf.now ≡ true }
     ensures { pass.new ≡ pass.old }
 {
     if let Ok(plan) = Plan::from_json(alloc, text) {
@@ -127,6 +129,7 @@ where
     R: Wait,
     requires slots { (0 < house.slots) × (house.slots ≤ 64) }
     requires size { 1 ≤ house.size }
+    requires trusted { S.is_true shelf.now ≡ true }
     requires made { (made.name ≡ M.name) × (made.parts ≡ M.parts) × (M.all ≡ M.parts) × (M.all ≡ 2) }
     requires kept { (kept.name ≡ K.name) × (kept.parts ≡ K.parts)
         × (K.all ≡ K.parts) × (K.all ≡ house.slots) }
@@ -159,6 +162,7 @@ where
     R: Wait,
     requires slots { (0 < house.slots) × (house.slots ≤ 64) }
     requires size { 1 ≤ house.size }
+    requires trusted { S.is_true shelf.now ≡ true }
 {
     let kept = Blank::new(u64::from(house.slots));
     served::<D, Brand, Brand, S, W, R>(rt, alloc, house, before, shelf, wire, Blank::new(2), kept)

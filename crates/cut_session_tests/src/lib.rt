@@ -15,9 +15,13 @@ mod halls;
 #[cfg(test)]
 mod readings;
 #[cfg(test)]
+mod refused_memory;
+#[cfg(test)]
 mod serving;
 #[cfg(test)]
 mod settled;
+#[cfg(test)]
+mod two_sessions;
 #[cfg(test)]
 mod vectors;
 #[cfg(test)]

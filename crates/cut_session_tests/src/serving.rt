@@ -13,18 +13,18 @@ use std::sync::Wait;
 use std::test::Fail;
 
 /// Another study: one trial with a liar in place of the failed process.
-const OTHER: &[u8] =
+pub(crate) const OTHER: &[u8] =
     br#"{"copies":1,"dead":"silent","f":[0],"faults":"crash","h":[1],"implicit":true,"k":[1],"l":[1],"liars":1,"links":0,"nodes":5,"repeats":1,"seed":"0000000000000000000000000000000000000000000000000000000000000000","version":1}"#;
 
 /// What is sent in front of either plan, then the question for the count of slot 0, and that nothing follows.
 pub(crate) const SUBMIT: &[u8] = b"R\0\0\0\xdd";
 
-const ASK: &[u8] = b"S\0\0\0\x04\0\0\0\0";
+pub(crate) const ASK: &[u8] = b"S\0\0\0\x04\0\0\0\0";
 
-const QUIT: &[u8] = b"Q\0\0\0\0";
+pub(crate) const QUIT: &[u8] = b"Q\0\0\0\0";
 
 /// A hall whose only slot has the study of the exchange, which is done.
-const HOUSE: House = House {
+pub(crate) const HOUSE: House = House {
     slots: 1,
     size: 2,
     pieces: 1,

@@ -9,7 +9,7 @@ use crate::vectors::{Session, sessions};
 use cut_disks::MemoryDisk;
 use cut_pool::{Hall, NoShelf, OpenGate, Pass, Report, Tally};
 use cut_session::{SessionEnd, session};
-use cut_table::MemoryWire;
+use cut_table::{MemoryWire, Wire};
 use std::alloc::Global;
 use std::marker::Brand;
 use std::sync::Wait;
@@ -18,15 +18,26 @@ use std::test::Fail;
 use std::thread::{Threads, join_mut};
 
 /// A hall in which no study is kept.
-type Shared<M, K> = Hall<MemoryDisk, M, K>;
+pub(crate) type Shared<M, K> = Hall<MemoryDisk, M, K>;
 
-/// A hall as the thread of a worker has it.
-trait Workplace<M: Tally> {
+/// A hall as the threads of a worker and of a session have it.
+pub(crate) trait Workplace<M: Tally> {
     /// Which hall it is.
     ghost id_of: { Self → TableId };
 
     /// Works on all studies until the work is ended.
     fn work_with<R: Wait>(&self, rt: &R, alloc: Global, pass: &mut Pass<M>)
+        requires { pass.old.hall ≡ id_of self.now }
+        ensures { pass.new.hall ≡ pass.old.hall };
+
+    /// Serves a client over a wire.
+    fn serve_with<W: Wire, R: Wait>(
+        &self,
+        rt: &R,
+        alloc: Global,
+        pass: &mut Pass<M>,
+        wire: &mut W,
+    ) -> SessionEnd
         requires { pass.old.hall ≡ id_of self.now }
         ensures { pass.new.hall ≡ pass.old.hall };
 }
@@ -37,21 +48,31 @@ impl<M: Tally, K: Tally> Workplace<M> for Shared<M, K> {
     fn work_with<R: Wait>(&self, rt: &R, alloc: Global, pass: &mut Pass<M>) {
         self.work(rt, alloc, pass, &OpenGate);
     }
+
+    fn serve_with<W: Wire, R: Wait>(
+        &self,
+        rt: &R,
+        alloc: Global,
+        pass: &mut Pass<M>,
+        wire: &mut W,
+    ) -> SessionEnd {
+        session(rt, alloc, self, pass, &NoShelf, wire)
+    }
 }
 
-/// Lets a worker work in a thread of its own, while a session goes on in this one.
-fn work_beside<H, M, R, F>(
+/// Lets a worker work in a thread of its own, while sessions go on in this one.
+pub(crate) fn work_beside<H, M, R, T, F>(
     rt: &R,
     alloc: Global,
     hall: &H,
     worker: &mut Pass<M>,
     serve: &mut F,
-) -> SessionEnd
+) -> T
 where
     H: Workplace<M> + Sync,
     M: Tally + Send + Sync,
     R: Threads + Wait + Sync,
-    F: FnMut() -> SessionEnd,
+    F: FnMut() -> T,
     requires own { worker.old.hall ≡ H.id_of hall.now }
     requires serve { F.pre serve.old }
     ensures own { worker.new.hall ≡ H.id_of hall.now }

@@ -1,3 +1,4 @@
+use Rattle.std.proofs.Common.{false}
 use Rattle.cut_pool_tests.proofs.halls.a_hall_runs_a_study.Given as goal
 
 abbrev pub ghosts-one_study-M-Ledger : goal.ghosts-one_study-M-Ledger
@@ -7,7 +8,7 @@ abbrev pub ghosts-one_study-K-Ledger : goal.ghosts-one_study-K-Ledger
 ghosts-one_study-K-Ledger g a = record { name = a.kept.name; parts = a.kept.parts }
 
 abbrev pub ghosts-one_study-M-Tally : goal.ghosts-one_study-M-Tally
-ghosts-one_study-M-Tally g a = record { all = a.made.parts }
+ghosts-one_study-M-Tally g a = record { all = a.made.parts; trusts = false }
 
 abbrev pub ghosts-one_study-K-Tally : goal.ghosts-one_study-K-Tally
-ghosts-one_study-K-Tally g a = record { all = a.kept.parts }
+ghosts-one_study-K-Tally g a = record { all = a.kept.parts; trusts = false }

@@ -1,3 +1,4 @@
+use Rattle.std.proofs.Common.{false}
 use Rattle.cut_pool_tests.proofs.storms.storms_of_three_threads.Given as goal
 
 abbrev pub ghosts-run_storm-M-Ledger : goal.ghosts-run_storm-M-Ledger
@@ -7,7 +8,7 @@ abbrev pub ghosts-run_storm-K-Ledger : goal.ghosts-run_storm-K-Ledger
 ghosts-run_storm-K-Ledger g a = record { name = a.kept.name; parts = a.kept.parts }
 
 abbrev pub ghosts-run_storm-M-Tally : goal.ghosts-run_storm-M-Tally
-ghosts-run_storm-M-Tally g a = record { all = a.made.parts }
+ghosts-run_storm-M-Tally g a = record { all = a.made.parts; trusts = false }
 
 abbrev pub ghosts-run_storm-K-Tally : goal.ghosts-run_storm-K-Tally
-ghosts-run_storm-K-Tally g a = record { all = a.kept.parts }
+ghosts-run_storm-K-Tally g a = record { all = a.kept.parts; trusts = false }

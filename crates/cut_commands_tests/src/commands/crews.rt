@@ -1,0 +1,165 @@
+//! Runs whose wire holds up the thread that writes: what other workers do meanwhile shows on the disk.
+
+use super::{LINE, NAMES, PLAN};
+use crate::workers::workers_from;
+use cut_commands::{CliFault, run_io};
+use cut_disks::{Disk, DiskFault, MemoryDisk};
+use cut_table::{MemoryWire, Wire, WireFault};
+use std::alloc::Global;
+use std::sync::Wait;
+use std::sync::atomic::{AtomicU64, Ordering};
+use std::test::Fail;
+use std::thread::Threads;
+use std::time::{Clock, Duration};
+
+/// A disk that counts the gates that are opened or closed on it: its writes of a single byte.
+#[derive(Drop)]
+struct Gated<'a, D: Disk> {
+    disk: D,
+    gates: &'a AtomicU64,
+}
+
+impl<D: Disk> Disk for Gated<'_, D> {
+    ghost state = { λ d. D.state d.disk };
+
+    ghost is_honest = { λ d. D.is_honest d.disk };
+
+    ghost faults = { λ d. D.faults d.disk };
+
+    fn length(&mut self) -> Result<u64, DiskFault> {
+        self.disk.length()
+    }
+
+    fn read(&mut self, at: u64, into: &mut [u8]) -> Result<(), DiskFault> {
+        self.disk.read(at, into)
+    }
+
+    fn write_at(&mut self, at: u64, put: &[u8]) -> Result<(), DiskFault> {
+        if put.len() == 1 {
+            self.gates.fetch_add(1, Ordering::SeqCst);
+        }
+        self.disk.write_at(at, put)
+    }
+
+    fn sync(&mut self) -> Result<(), DiskFault> {
+        self.disk.sync()
+    }
+
+    fn failures(&self) -> u64 {
+        self.disk.failures()
+    }
+}
+
+/// A wire whose writes wait until so many gates are moved on the disk, for so many turns of a millisecond at most.
+#[derive(Drop)]
+struct Held<'a, W: Wire, C> {
+    wire: W,
+    clock: &'a C,
+    gates: &'a AtomicU64,
+    wanted: u64,
+    turns: u32,
+    seen: Option<u64>,
+}
+
+/// Waits until there are so many, for so many turns of a millisecond at most: how many there are then.
+fn wait_for<C: Clock>(clock: &C, gates: &AtomicU64, wanted: u64, turns: u32) -> u64 {
+    for _ in 0..turns {
+        let moved = gates.load(Ordering::SeqCst);
+        if moved >= wanted {
+            return moved;
+        }
+        clock.sleep(Duration::from_millis(1));
+    }
+    gates.load(Ordering::SeqCst)
+}
+
+impl<W: Wire, C: Clock> Wire for Held<'_, W, C> {
+    ghost traffic = { λ w. W.traffic w.wire };
+
+    ghost tells = { λ w. W.tells w.wire };
+
+    ghost faults = { λ w. W.faults w.wire };
+
+    fn read(&mut self, buffer: &mut [u8]) -> Result<usize, WireFault> {
+        self.wire.read(buffer)
+    }
+
+    fn write(&mut self, bytes: &[u8]) -> Result<usize, WireFault> {
+        if self.seen.is_none() {
+            self.seen = Some(wait_for(self.clock, self.gates, self.wanted, self.turns));
+        }
+        self.wire.write(bytes)
+    }
+
+    fn failures(&self) -> u64 {
+        self.wire.failures()
+    }
+}
+
+/// What is asked of a run, and how many gates are waited for, and how long.
+#[derive(Clone, Copy)]
+struct Order {
+    size: u32,
+    workers: u32,
+    wanted: u64,
+    turns: u32,
+}
+
+/// How a run of the plan ends whose first write waits, how many gates had been moved when it was made, and what was
+/// written.
+fn held_up<T: Threads + Wait + Sync, C: Clock>(
+    rt: &T,
+    alloc: Global,
+    clock: &C,
+    order: Order,
+) -> Result<(Result<(), CliFault>, Option<u64>, Vec<u8>), Fail> {
+    let gates = AtomicU64::new(0);
+    let disk = Gated {
+        disk: MemoryDisk::of(alloc, Vec::new(alloc))?,
+        gates: &gates,
+    };
+    let mut wire = Held {
+        wire: MemoryWire::new(alloc, Vec::from_slice(alloc, PLAN.as_bytes())?, 4096),
+        clock,
+        gates: &gates,
+        wanted: order.wanted,
+        turns: order.turns,
+        seen: None,
+    };
+    let (size, workers) = (order.size.max(1), workers_from(order.workers));
+    let ended = run_io(rt, alloc, &mut wire, size, workers, Some(disk));
+    let taken = Vec::from_slice(alloc, wire.wire.taken())?;
+    Ok((ended, wire.seen, taken))
+}
+
+/// Whether these bytes are the whole table of the plan.
+fn is_table(bytes: &[u8]) -> bool {
+    bytes.strip_prefix(NAMES.as_bytes()) == Some(LINE.as_bytes())
+}
+
+/// Two gates are moved where a study is made, the first one closed and then opened, and one for each slip.
+#[test]
+fn other_workers_work_while_a_write_waits(rt: HostRuntime) -> Result<(), Fail> {
+    // One worker writes first and works then; two trials have two slips by pieces of one, and one by pieces of two.
+    let rows = [
+        (1, 1, 4, 50, 2),
+        (1, 2, 4, 10_000, 4),
+        (1, 64, 4, 10_000, 4),
+        (2, 2, 3, 10_000, 3),
+        (2, 1, 3, 50, 2),
+    ];
+    for (size, workers, wanted, turns, seen) in rows {
+        let order = Order {
+            size,
+            workers,
+            wanted,
+            turns,
+        };
+        let (ended, moved, taken) = held_up(&rt, rt.alloc(), &rt, order)?;
+        assert!(rt;
+            ended.is_ok() && moved == Some(seen) && is_table(taken.as_slice()),
+            "{workers} by {size}"
+        );
+    }
+    Ok(())
+}
