@@ -1,6 +1,6 @@
 -- A slot of a hall, and what one call of its book does to it.
 use Rattle.std.specs.Prelude.{◌≡◌, ◌++◌, ◌<◌, ℕ, true, false, List, [], ◌∷◌, length, slice_get, is_some}
-use Rattle.std.specs.Prelude.{Option, Some, None, Bool, if◌then◌else◌, Result, Ok, Err, ⊤, slice_set}
+use Rattle.std.specs.Prelude.{Option, Some, None, Bool, ◌&&◌, not, nat_lt, if◌then◌else◌, Result, Ok, Err, ⊤, slice_set}
 use Rattle.std.specs.List.{list_any}
 use Rattle.cut_faults.specs.declared.code.FaultCode.TheVariants as code
 use Rattle.cut_plan.specs.Cells.{cells_of}
@@ -147,12 +147,12 @@ abbrev pub IsNotDone : {D : Type 0} → Option (Progress D) → ℕ → Type 0
 IsNotDone None cell = ⊥
 IsNotDone (Some b) cell = cell_done b.state.ledger cell ≡ false
 
--- there is a book, this cell of it is not done, and nothing has happened by which it can't be
-abbrev pub IsPending : {D : Type 0} → Option (Progress D) → ℕ → Type 0
-IsPending None cell = ⊥
-IsPending (Some b) cell =
-    (cell_done b.state.ledger cell ≡ false) × (b.state.broken ≡ false)
-    × (list_any (λ is_lost. is_lost) b.state.lost ≡ false)
+-- whether there is a book, this cell of it is not done, and nothing has happened by which it can't be
+abbrev pub is_pending : {D : Type 0} → Option (Progress D) → Bool → ℕ → Bool
+is_pending None stopped cell = false
+is_pending (Some b) stopped cell =
+    nat_lt cell (length (cells_of b.state.ledger.plan)) && not (cell_done b.state.ledger cell)
+    && not b.state.broken && not (list_any (λ is_lost. is_lost) b.state.lost) && not stopped
 
 -- which lines are remembered as given, after one was asked for
 abbrev pub remembered_after : {T E : Type 0} → Result (Option T) E → ℕ → List Bool → List Bool

@@ -128,7 +128,7 @@ impl<D: Disk + Drop, K: Tally> Place<D, K> {
         ensures part { result.1.parts ≡ 1 }
         ensures calls { result.1.amount ≡ calls_told result.0.history }
     {
-        let Place { slot, changed: _ } = self;
+        let Place { slot, .. } = self;
         slot.into_inner().end()
     }
 }

@@ -68,10 +68,9 @@ where
     ensures own { pass.new.hall ≡ pass.old.hall }
     ensures made { OnOk result (pass.old.made + length (cells_of opened.now.plan) ≤ pass.new.made) }
 {
-    let mut bench = None;
     let mut sent = send_after(wire, 0, header(&opened.plan))?;
     for cell in 0..opened.plan.cells() {
-        hall.work_towards(rt, alloc, pass, gate, opened.study, cell, &mut bench);
+        hall.work_on_cell(rt, alloc, pass, gate, opened.study, cell);
         let line = hall.next_row(rt, alloc, pass, opened, cell)?;
         sent = send_after(wire, sent, line.as_slice())?;
     }

@@ -11,6 +11,7 @@ ghost use Rattle.cut_ledger.specs.Slips.{AreGood};
 
 use crate::accounts::Accounts;
 use crate::slot::{Match, Slot};
+use crate::work::SharedBench;
 use crate::{Book, LineFault, Opened, Pass, Shelf, SubmitFault, Tally};
 use cut_board::{Board, Seat, SeatFault};
 use cut_disks::Disk;
@@ -20,11 +21,12 @@ use std::marker::Model;
 use std::sync::ledger::{Blank, Share};
 use std::sync::{Condvar, Mutex, Wait};
 
-/// The lock of a slot, and where those wait who wait for a change in it.
+/// The lock of a slot, where those wait who wait for a change in it, and what its workers share.
 #[derive(Drop)]
 pub(crate) struct Place<D: Disk, K: Tally> {
     pub(crate) slot: Mutex<Slot<D, K>>,
     pub(crate) changed: Condvar,
+    pub(crate) bench: SharedBench,
 }
 
 /// A hall in which many threads work on the studies that are submitted to it, each with a pass. Contracts see
@@ -131,6 +133,7 @@ impl<D: Disk + Drop, M: Tally, K: Tally> Hall<D, M, K> {
         places.push(Place {
             slot: Mutex::new(Slot::of_book(alloc, book, kept)),
             changed: Condvar::new(),
+            bench: SharedBench::none(),
         })?;
         let hall = Hall {
             board,
@@ -250,9 +253,9 @@ impl<D: Disk + Drop, M: Tally, K: Tally> Hall<D, M, K> {
                 Ok(None) => {}
                 Err(fault) => return Err(fault),
             }
-            slot = place
-                .changed
-                .wait_while(rt, slot, |slot| slot.is_pending(rt, &self.accounts, cell));
+            slot = place.changed.wait_while(rt, slot, |slot| {
+                !self.accounts.lock(rt).is_full() && slot.is_pending(cell)
+            });
         }
         unreachable!()
     }
@@ -287,6 +290,7 @@ fn places_of<D: Disk + Drop, K: Tally>(
         places.push_reserved(Place {
             slot: Mutex::new(slot),
             changed: Condvar::new(),
+            bench: SharedBench::none(),
         });
     }
     Ok(places)

@@ -8,7 +8,7 @@ ghost use Rattle.cut_pool.specs.Report.{calls_told};
 ghost use Rattle.cut_pool.specs.Book.{HandsIn, MayRefuse, answer_of};
 ghost use Rattle.cut_pool.specs.Trust.{MayBegin, IsSettledBy-prop, begun_props};
 ghost use Rattle.cut_pool.specs.Slot.{calls_in, IsFresh, IsBegun, base_of, kept_of, unkept_of, Matches, TakesResult, TakesLoss, GivesLine, calls_of, losses_of, lines_of};
-ghost use Rattle.cut_pool.specs.Slot.{IsOpenedAs, TellsUndone, AnswersLine, AnswersAgain, IsNotDone, IsPending, remembered_after, piece_at, HasDone, HasPlan};
+ghost use Rattle.cut_pool.specs.Slot.{IsOpenedAs, TellsUndone, AnswersLine, AnswersAgain, IsNotDone, is_pending, remembered_after, piece_at, HasDone, HasPlan};
 
 use crate::accounts::Accounts;
 use crate::opening::open_book;
@@ -221,19 +221,13 @@ impl<D: Disk + Drop, K: Tally> Slot<D, K> {
     }
 
     /// Whether the line of a cell is still to come: the cell is not done, the book is whole, no piece is lost, and
-    /// work goes on. Those who wait ask this at each wake-up: it takes the same short time whatever the study began
+    /// the slot works. Those who wait ask this at each wake-up: it takes the same short time whatever the study began
     /// with.
-    pub(crate) fn is_pending<M: Tally, R: Wait>(
-        &self,
-        rt: &R,
-        accounts: &Mutex<Accounts<M, K>>,
-        cell: u32,
-    ) -> bool
-        ensures pending { result ≡ true → IsPending self.now.book cell }
-        ensures works { result ≡ true → self.now.stopped ≡ false }
+    pub(crate) fn is_pending(&self, cell: u32) -> bool
+        ensures { result ≡ is_pending self.now.book self.now.stopped cell }
     {
         match &self.book {
-            Some(book) => is_pending(book, self.stopped || accounts.lock(rt).is_full(), cell),
+            Some(book) => is_pending(book, self.stopped, cell),
             None => false,
         }
     }
@@ -433,11 +427,14 @@ fn is_opened_as<D: Disk + Drop>(book: &Book<D>, opened: &Opened) -> bool
 
 /// Whether a cell is not done and can still be.
 fn is_pending<D: Disk + Drop>(book: &Book<D>, stopped: bool, cell: u32) -> bool
-    ensures pending { result ≡ true → IsPending (Some book.now) cell }
-    ensures works { result ≡ true → stopped ≡ false }
+    ensures { result ≡ is_pending (Some book.now) stopped cell }
 {
     let ledger = book.ledger();
-    cell < ledger.plan().cells() && !ledger.cell_done(cell) && may_still_come(book, stopped).is_ok()
+    cell < ledger.plan().cells()
+        && !ledger.cell_done(cell)
+        && !book.is_broken()
+        && !book.has_lost()
+        && !stopped
 }
 
 /// Whether a cell that is not done can still be: the book is whole, no piece is lost, and work goes on.

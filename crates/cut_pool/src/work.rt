@@ -9,14 +9,21 @@ use cut_plan::Plan;
 use cut_rings::Rings;
 use cut_trial::{Piece, PieceResult, run_piece};
 use std::alloc::Global;
-use std::sync::Wait;
+use std::sync::{Mutex, OnceLock, Wait};
 
-/// What a worker needs for the pieces of a study: a copy of its plan, with the rings.
+/// What workers need for the pieces of a study: a copy of its plan, with the rings.
 #[derive(Drop)]
 pub(crate) struct Bench {
     plan: Plan,
     rings: Rings,
     ghost of_plan: { rings ≡ rings_of plan },
+}
+
+/// The bench of a study, which the first worker that needs it makes and all workers share.
+#[derive(Drop)]
+pub(crate) struct SharedBench {
+    bench: OnceLock<Bench>,
+    making: Mutex<bool>,
 }
 
 /// How a worker goes on after a turn.
@@ -52,6 +59,16 @@ impl Bench {
         ensures { IfSome result (λ r. r ≡ record { plan = self.now.plan; piece = piece }) }
     {
         run_piece(alloc, &self.plan, &self.rings, piece).ok()
+    }
+}
+
+impl SharedBench {
+    /// No bench yet.
+    pub(crate) fn none() -> SharedBench {
+        SharedBench {
+            bench: OnceLock::new(),
+            making: Mutex::new(false),
+        }
     }
 }
 
@@ -92,9 +109,8 @@ impl<D: Disk + Drop, M: Tally, K: Tally> Hall<D, M, K> {
         ensures own { pass.new.hall ≡ pass.old.hall }
         ensures made { pass.old.made ≤ pass.new.made }
     {
-        let mut bench = None;
         for _ in rt.forever() {
-            match self.turn(rt, alloc, pass, gate, study, &mut bench) {
+            match self.turn(rt, alloc, pass, gate, study) {
                 Next::Piece => {}
                 Next::Study => return true,
                 Next::Nothing => return false,
@@ -119,30 +135,11 @@ impl<D: Disk + Drop, M: Tally, K: Tally> Hall<D, M, K> {
         ensures own { pass.new.hall ≡ pass.old.hall }
         ensures made { pass.old.made ≤ pass.new.made }
     {
-        self.work_towards(rt, alloc, pass, gate, study, cell, &mut None);
-    }
-
-    /// The same, with what a worker has for the study from one cell to the next.
-    pub(crate) fn work_towards<R: Wait, G: Gate>(
-        &self,
-        rt: &R,
-        alloc: Global,
-        pass: &mut Pass<M>,
-        gate: &G,
-        study: u32,
-        cell: u32,
-        bench: &mut Option<Bench>,
-    )
-        requires own { pass.old.hall ≡ self.now.id }
-        requires slot { study < self.now.slots }
-        ensures own { pass.new.hall ≡ pass.old.hall }
-        ensures made { pass.old.made ≤ pass.new.made }
-    {
         for _ in rt.forever() {
             if self.is_done(rt, study, cell) {
                 return;
             }
-            match self.turn(rt, alloc, pass, gate, study, bench) {
+            match self.turn(rt, alloc, pass, gate, study) {
                 Next::Piece => {}
                 Next::Study | Next::Nothing => return,
             }
@@ -157,7 +154,6 @@ impl<D: Disk + Drop, M: Tally, K: Tally> Hall<D, M, K> {
         pass: &mut Pass<M>,
         gate: &G,
         study: u32,
-        bench: &mut Option<Bench>,
     ) -> Next
         requires own { pass.old.hall ≡ self.now.id }
         requires slot { study < self.now.slots }
@@ -169,7 +165,7 @@ impl<D: Disk + Drop, M: Tally, K: Tally> Hall<D, M, K> {
             Err(next) => return next,
         };
         gate.pass(rt, drawn.piece);
-        match self.compute_twice(rt, alloc, drawn, bench) {
+        match self.compute_twice(rt, alloc, drawn) {
             Some(result) => self.hand_in(rt, pass, drawn, &result),
             None => match self.lose(rt, pass, study, drawn.number) {
                 Err(CallFault::Full) => Next::Nothing,
@@ -208,41 +204,40 @@ impl<D: Disk + Drop, M: Tally, K: Tally> Hall<D, M, K> {
     }
 
     /// Runs a piece, and once more where memory ran out.
-    fn compute_twice<R: Wait>(
-        &self,
-        rt: &R,
-        alloc: Global,
-        drawn: Drawn,
-        bench: &mut Option<Bench>,
-    ) -> Option<PieceResult>
+    fn compute_twice<R: Wait>(&self, rt: &R, alloc: Global, drawn: Drawn) -> Option<PieceResult>
         requires { drawn.study < self.now.slots }
         ensures { IfSome result (λ r. r.piece ≡ drawn.piece) }
     {
-        match self.compute(rt, alloc, drawn, bench) {
+        match self.compute(rt, alloc, drawn) {
             Some(result) => Some(result),
-            None => self.compute(rt, alloc, drawn, bench),
+            None => self.compute(rt, alloc, drawn),
         }
     }
 
     /// Runs a piece, if there is memory for it.
-    fn compute<R: Wait>(
-        &self,
-        rt: &R,
-        alloc: Global,
-        drawn: Drawn,
-        bench: &mut Option<Bench>,
-    ) -> Option<PieceResult>
+    fn compute<R: Wait>(&self, rt: &R, alloc: Global, drawn: Drawn) -> Option<PieceResult>
         requires { drawn.study < self.now.slots }
         ensures { IfSome result (λ r. r.piece ≡ drawn.piece) }
     {
-        if bench.is_none() {
-            let plan = self.plan(rt, alloc, drawn.study)?;
-            *bench = Some(Bench::new(alloc, plan)?);
+        self.bench(rt, alloc, drawn.study)?.run(alloc, drawn.piece)
+    }
+
+    /// The bench of a study, if it has been made or there is memory to make it. Others who need it wait meanwhile,
+    /// and where memory runs out the next of them tries again.
+    fn bench<R: Wait>(&self, rt: &R, alloc: Global, study: u32) -> Option<&Bench>
+        requires { study < self.now.slots }
+    {
+        let shared = &self.places[study as usize].bench;
+        if let Some(bench) = shared.bench.get() {
+            return Some(bench);
         }
-        match bench {
-            Some(bench) => bench.run(alloc, drawn.piece),
-            None => None,
+        let mut is_made = shared.making.lock(rt);
+        if !*is_made {
+            let plan = self.plan(rt, alloc, study)?;
+            let _ = shared.bench.set(rt, Bench::new(alloc, plan)?);
+            *is_made = true;
         }
+        shared.bench.get()
     }
 
     /// Hands a result in. Where it is accepted its trials are counted before the lock is given back. A study

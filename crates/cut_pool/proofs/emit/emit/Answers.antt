@@ -130,12 +130,12 @@ loop-cell-preserved g c =
         λ t. c.loop-cell.invariant.tells.1 (c.in_ok-sent-2.ensures.tells.1 t),
       );
       faults = c.in_ok-sent-2.ensures.faults ∙ c.loop-cell.invariant.faults;
-      own = ap (λ (p : Holding). p.hall) c.in_ok-line.ensures.pass ∙ c.work_towards.ensures.own
+      own = ap (λ (p : Holding). p.hall) c.in_ok-line.ensures.pass ∙ c.work_on_cell.ensures.own
           ∙ c.loop-cell.invariant.own;
       made = omega (
         arith,
         ap (λ (p : Holding). p.made) c.in_ok-line.ensures.pass,
-        c.work_towards.ensures.made,
+        c.work_on_cell.ensures.made,
         c.loop-cell.invariant.made,
       );
     }

@@ -1,5 +1,5 @@
 use Rattle.std.proofs.Common.{◌≡◌, ◌≤◌}
-use Rattle.cut_pool.proofs.hall.Hall.work_towards.Given as goal
+use Rattle.cut_pool.proofs.hall.Hall.work_on_cell.Given as goal
 
 -- the pass is still the hall's, and made no fewer calls
 abbrev pub invariant-loop : goal.invariant-loop
