@@ -2,3 +2,4 @@ pub mod EdgeLemmas
 pub mod RankLemmas
 pub mod Legal
 pub mod Deafness
+pub mod Grouped

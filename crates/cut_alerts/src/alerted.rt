@@ -1,6 +1,6 @@
 ghost use Rattle.std.specs.Prelude.{◌≡◌, ◌≤◌, ◌<◌, ◌↔◌, ◌++◌, ◌*◌, [], ℕ, length, map, filter, Contains, IfOk, OnOk, OnErr, IsTrue};
 ghost use Rattle.std.specs.List.Sorted.{IsStrictlyIncreasing};
-ghost use Rattle.cut_rings.specs.Edges.{are_edges_of, edge_number};
+ghost use Rattle.cut_rings.specs.Edges.{are_edges_of, edge_number, edges_in, set_of};
 ghost use Rattle.cut_draws.specs.DeliveryOrder.{are_distinct};
 ghost use Rattle.cut_alerts.specs.Alerted.{is_alerted, alert_list, edges_of, IsAlerted};
 
@@ -41,6 +41,8 @@ pub fn alerts(alloc: Global, rings: &Rings, k: u8, roles: &Roles) -> Result<Vec<
     ensures distinct { IfOk result (λ edges. IsTrue (are_distinct k edges.items)) }
     ensures ascending { IfOk result
         (λ edges. IsStrictlyIncreasing (map (λ e. edge_number k e) edges.items)) }
+    ensures grouped { IfOk result
+        (λ edges. edges.items ≡ edges_in k rings.now.nodes (set_of edges.items)) }
     ensures few { IfOk result (λ edges. length edges.items ≤ rings.now.nodes * k) }
 {
     let mut edges = Vec::new(alloc);
@@ -66,6 +68,8 @@ pub fn alerts_into(
     ensures distinct { OnOk result (IsTrue (are_distinct k edges.new.items)) }
     ensures ascending { OnOk result
         (IsStrictlyIncreasing (map (λ e. edge_number k e) edges.new.items)) }
+    ensures grouped { OnOk result
+        (edges.new.items ≡ edges_in k rings.now.nodes (set_of edges.new.items)) }
     ensures few { OnOk result (length edges.new.items ≤ rings.now.nodes * k) }
     ensures err { OnErr result (edges.new.items ≡ []) }
 {

@@ -18,7 +18,7 @@ is_full-more r rule E F within = record {
 }
 
 -- where edges are added no ring stops counting
-full_count-grows : (r : Layout) (rule : Rule) (E F : EdgeSet) (s : ℕ) → IsWithin E F → full_count r rule E s ≤ full_count r rule F s
+pub full_count-grows : (r : Layout) (rule : Rule) (E F : EdgeSet) (s : ℕ) → IsWithin E F → full_count r rule E s ≤ full_count r rule F s
 full_count-grows r rule E F s within = ring_count-le rule.k (is_full r rule E) (is_full r rule F) s (is_full-more r rule E F within)
 
 -- the gap of one rule lies within that of another, and the same rings count

@@ -9,3 +9,4 @@ pub mod Places
 pub mod Entering
 pub mod Settling
 pub mod Gaps
+pub mod Growing

@@ -1,11 +1,11 @@
 -- Laws of cut detection, in the words of the Rapid paper's section on multi-process cut detection.
-use Rattle.std.specs.Prelude.{◌≡◌, ℕ, ◌<◌, ◌≤◌, ◌↔◌, ◌⊎◌, ⊤, Bool, true, false, List, ◌∷◌, ◌++◌, length, Option, option_map, MatchOption, if◌then◌else◌, nat_le, suc, IsTrue, Contains}
+use Rattle.std.specs.Prelude.{◌≡◌, ℕ, ◌<◌, ◌≤◌, ◌↔◌, ◌⊎◌, ◌&&◌, ⊤, Bool, true, false, not, List, ◌∷◌, ◌++◌, length, Option, option_map, MatchOption, if◌then◌else◌, nat_le, suc, IsTrue, Contains}
 use Rattle.std.specs.List.Sorted.{IsStrictlyIncreasing}
 use Rattle.cut_rings.specs.declared.edge.Edge.{Edge}
 use Rattle.cut_rings.specs.Layout.{Layout}
 use Rattle.cut_rings.specs.Edges.{EdgeSet, first_of}
 use Rattle.cut_detector.specs.Rule.{Rule, rule_of}
-use Rattle.cut_detector.specs.Counts.{reports_of, is_stable, is_unstable}
+use Rattle.cut_detector.specs.Counts.{reports_of, is_reported, is_stable, is_unstable}
 use Rattle.cut_detector.specs.Proposal.{proposal_of}
 use Rattle.cut_detector.specs.declared.proposal.Proposal.{Proposal}
 
@@ -140,3 +140,39 @@ abbrev pub ImplicitAlertsKeepMarked : Type 0
 ImplicitAlertsKeepMarked =
     (r : Layout) (k h l : ℕ) (E : EdgeSet) (s : ℕ) → l ≤ h →
     IsMarked r (rule_of k h l false) E s → IsMarked r (rule_of k h l true) E s
+
+-- each edge of a set is one of another
+abbrev pub IsPartOf : EdgeSet → EdgeSet → Type 0
+IsPartOf E F = (ring s : ℕ) → IsTrue (E ring s) → IsTrue (F ring s)
+
+-- with more edges each process stays reported that is
+abbrev pub MoreEdgesKeepReported : Type 0
+MoreEdgesKeepReported =
+    (rule : Rule) (E F : EdgeSet) (s : ℕ) → IsPartOf E F → IsTrue (is_reported rule E s) → IsTrue (is_reported rule F s)
+
+-- and each stays stable that is
+abbrev pub MoreEdgesKeepStable : Type 0
+MoreEdgesKeepStable =
+    (r : Layout) (rule : Rule) (E F : EdgeSet) (s : ℕ) → IsPartOf E F →
+    IsTrue (is_stable r rule E s) → IsTrue (is_stable r rule F s)
+
+-- the unstable processes are those which are reported on at least L rings and aren't stable
+abbrev pub UnstableAreReportedAndNotStable : Type 0
+UnstableAreReportedAndNotStable =
+    (r : Layout) (rule : Rule) (E : EdgeSet) (s : ℕ) →
+    is_unstable r rule E s ≡ (is_reported rule E s && not (is_stable r rule E s))
+
+-- no edge of the first rings is to this process
+abbrev pub IsUnheardOf : Rule → EdgeSet → ℕ → Type 0
+IsUnheardOf rule E s = (ring : ℕ) → ring < rule.k → ¬ IsTrue (E ring s)
+
+-- then it isn't reported
+abbrev pub NoneIsReportedUnheard : Type 0
+NoneIsReportedUnheard =
+    (rule : Rule) (E : EdgeSet) (s : ℕ) → 1 ≤ rule.l → IsUnheardOf rule E s → ¬ IsTrue (is_reported rule E s)
+
+-- nor stable
+abbrev pub NoneIsStableUnheard : Type 0
+NoneIsStableUnheard =
+    (r : Layout) (rule : Rule) (E : EdgeSet) (s : ℕ) → 1 ≤ rule.l → rule.l ≤ rule.h → IsUnheardOf rule E s →
+    ¬ IsTrue (is_stable r rule E s)

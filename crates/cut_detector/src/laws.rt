@@ -15,6 +15,11 @@ ghost use Rattle.cut_detector.specs.Laws.{
   FirstEdgesGrow,
   ImplicitAlertsKeepStable,
   ImplicitAlertsKeepMarked,
+  MoreEdgesKeepReported,
+  MoreEdgesKeepStable,
+  UnstableAreReportedAndNotStable,
+  NoneIsReportedUnheard,
+  NoneIsStableUnheard,
 };
 
 /// A process proposes all stable processes as soon as there is one and none is unstable, and no
@@ -68,4 +73,25 @@ pub fn a_wider_gap_proposes_later()
 pub fn implicit_alerts_only_add()
     ensures stable { ImplicitAlertsKeepStable }
     ensures marked { ImplicitAlertsKeepMarked }
+{}
+
+/// More edges only add: what is reported on at least L rings stays so, and what is stable stays stable.
+#[tactic(auto, using(crate::proofs::Growing::more_edges))]
+pub fn more_edges_only_add()
+    ensures reported { MoreEdgesKeepReported }
+    ensures stable { MoreEdgesKeepStable }
+{}
+
+/// A process is unstable exactly where it is reported on at least L rings and isn't stable: what it gains from
+/// implicit alerts it gains only then.
+#[tactic(auto, using(crate::proofs::Growing::unstable_by_reported))]
+pub fn unstable_are_reported_and_not_stable()
+    ensures { UnstableAreReportedAndNotStable }
+{}
+
+/// A process that no delivered edge is about is neither reported nor stable.
+#[tactic(auto, using(crate::proofs::Growing::unheard))]
+pub fn none_is_marked_unheard()
+    ensures reported { NoneIsReportedUnheard }
+    ensures stable { NoneIsStableUnheard }
 {}

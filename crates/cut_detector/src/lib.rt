@@ -18,4 +18,5 @@ mod tally;
 
 pub use detector::{Detector, replay};
 pub use proposal::{Members, Proposal};
+pub use rule::Rule;
 pub use step::Step;

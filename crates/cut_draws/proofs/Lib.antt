@@ -4,3 +4,8 @@ pub mod Prefixes
 pub mod Unpacked
 pub mod Processes
 pub mod Delivered
+pub mod Sorting
+pub mod FirstTimes
+pub mod KeyImages
+pub mod Heard
+pub mod AlongOrder

@@ -100,7 +100,7 @@ sorted-map C f (x ∷ xs) up = λ k d low within.
     ∙ ap (λ y. is_lt (C (f (get_or (x ∷ xs) (k + 1) x)) y)) (get_or-map f (x ∷ xs) k x d (omega arith))
     ∙ up k x low (omega arith)
 
-nat_cmp-greater : (a b : ℕ) → b < a → nat_cmp a b ≡ Greater
+pub nat_cmp-greater : (a b : ℕ) → b < a → nat_cmp a b ≡ Greater
 nat_cmp-greater a b more =
     ap (λ (t : Bool). cond t Less (cond (a == b) Equal Greater)) (le-ltb a b (omega arith)) ∙ ap (λ (t : Bool). cond t Equal Greater) (ne_eqb a b (λ e. omega arith))
 

@@ -1,4 +1,5 @@
 pub mod Source
 pub mod ProcessOrder
 pub mod DeliveryOrder
+pub mod Laws
 pub mod Packed

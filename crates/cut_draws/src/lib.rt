@@ -8,6 +8,7 @@
 mod delivery;
 mod delivery_order;
 mod draws;
+pub mod laws;
 mod packed;
 mod process_order;
 

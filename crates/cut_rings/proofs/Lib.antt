@@ -2,3 +2,4 @@ pub mod Orders
 pub mod Results
 pub mod Neighbours
 pub mod Sound
+pub mod Observers

@@ -1,6 +1,6 @@
 -- Sets of edges.
-use Rattle.std.specs.Prelude.{ℕ, ◌+◌, ◌*◌, ◌==◌, ◌&&◌, List, Bool, take, nat_lt}
-use Rattle.std.specs.List.{list_any, list_all}
+use Rattle.std.specs.Prelude.{ℕ, ◌+◌, ◌*◌, ◌==◌, ◌&&◌, List, Bool, map, filter, take, nat_lt}
+use Rattle.std.specs.List.{list_any, list_all, range_with_len, flat_map}
 use Rattle.cut_rings.specs.declared.edge.Edge.{Edge}
 
 -- a set of edges: whether it has the edge of a ring and a subject
@@ -30,3 +30,15 @@ is_edge_of k n e = nat_lt e.ring k && nat_lt e.subject n
 -- whether all edges of a list are
 abbrev pub are_edges_of : ℕ → ℕ → List Edge → Bool
 are_edges_of k n edges = list_all (λ e. is_edge_of k n e) edges
+
+-- the edge of a ring and a subject
+abbrev pub edge_to : ℕ → ℕ → Edge
+edge_to s ring = record { ring = ring; subject = s }
+
+-- the rings among the first k on which a set has the edge to s
+abbrev pub rings_to : ℕ → EdgeSet → ℕ → List ℕ
+rings_to k E s = filter (λ ring. E ring s) (range_with_len 0 k)
+
+-- the edges of a set on the first k rings to n processes, ascending by subject and then by ring
+abbrev pub edges_in : ℕ → ℕ → EdgeSet → List Edge
+edges_in k n E = flat_map (λ s. map (λ ring. edge_to s ring) (rings_to k E s)) (range_with_len 0 n)

@@ -8,6 +8,7 @@
 mod edge;
 mod fault;
 mod hashed;
+pub mod laws;
 mod listed;
 mod ring;
 mod rings;

@@ -5,10 +5,11 @@ use Rattle.std.proofs.lemmas.Result.{on_ok_weaker}
 use Rattle.cut_rings.specs.declared.edge.Edge.{Edge}
 use Rattle.std.specs.List.{Contains}
 use Rattle.std.specs.List.Sorted.{IsStrictlyIncreasing}
-use Rattle.cut_rings.specs.Edges.{are_edges_of, edge_number}
+use Rattle.cut_rings.specs.Edges.{are_edges_of, edge_number, edges_in, set_of}
 use Rattle.cut_draws.specs.DeliveryOrder.{are_distinct}
 use Rattle.cut_alerts.specs.Alerted.{IsAlerted, is_alerted, all_edges}
 use Rattle.cut_alerts.proofs.EdgeLemmas.{within_all, few_all, distinct_all, member_all, increasing_all}
+use Rattle.cut_alerts.proofs.Grouped.{grouped_all}
 use Rattle.cut_alerts.proofs.alerted.alerts_into.Goals as goal
 
 abbrev test : goal.Else-is_err → Edge → Bool
@@ -34,3 +35,7 @@ returns-else-is_err-clause-ascending c =
 pub returns-else-is_err-clause-member : goal.returns-else-is_err-clause-member
 returns-else-is_err-clause-member c =
     known c (λ es. (e : Edge) → Contains es e ↔ IsAlerted c.args.rings.now c.args.roles.now c.args.k e) (λ e. member_all (test c) c.args.k c.args.rings.now.nodes e)
+
+pub returns-else-is_err-clause-grouped : goal.returns-else-is_err-clause-grouped
+returns-else-is_err-clause-grouped c =
+    known c (λ es. es ≡ edges_in c.args.k c.args.rings.now.nodes (set_of es)) (grouped_all (test c) c.args.k c.args.rings.now.nodes)

@@ -1,0 +1,16 @@
+pub mod Tests
+pub mod RankLemmas
+pub mod Modes
+pub mod Found
+pub mod Rises
+pub mod Closes
+pub mod Changes
+pub mod FirstTimes
+pub mod Observers
+pub mod Kept
+pub mod Heard
+pub mod Placed
+pub mod Ends
+pub mod Least
+pub mod Values
+pub mod Judged

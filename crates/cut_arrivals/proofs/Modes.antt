@@ -1,0 +1,132 @@
+-- Modes of processes by the times of edges.
+use Rattle.std.proofs.Common.{◌≡◌, inl, inr, ℕ, ◌<◌, ◌≤◌, Bool, true, false, cond, ◌&&◌, ◌||◌, not, nat_le, nat_lt, min, max, refl, ap, sym, ◌∙◌, arith}
+use Rattle.std.specs.List.{count_by, range_with_len}
+use Rattle.std.proofs.Math.Bool.{or-false}
+use Rattle.std.proofs.lemmas.Bool.{cases_Bool, cases_lt, le-leb, leb-true, or_left}
+use Rattle.std.proofs.lemmas.Bool.Decides.{nat_tests}
+use Rattle.std.proofs.lemmas.List.Elements.{All-map}
+use Rattle.cut_lists.proofs.Ranges.{count_by_agree}
+use Rattle.cut_lists.proofs.Maps.{count_by-map}
+use Rattle.cut_rings.specs.Layout.{Layout, observer_of}
+use Rattle.cut_rings.specs.Edges.{EdgeSet}
+use Rattle.cut_detector.specs.Rule.{Rule}
+use Rattle.cut_detector.specs.Counts.{ring_count, full_count, reports_of, is_gained}
+unfoldable use Rattle.cut_detector.specs.Counts.{is_reported, is_full, is_stable, is_unstable}
+use Rattle.cut_lists.proofs.Parts.{count_le}
+use Rattle.cut_arrivals.specs.Times.{EdgeTimes, ComesAt, IsRule, times_to}
+unfoldable use Rattle.cut_arrivals.specs.Times.{low_of, full_time, high_of}
+use Rattle.cut_arrivals.proofs.Tests.{lt_is_not_le}
+use Rattle.cut_arrivals.proofs.RankLemmas.{rank_is, rank_no_less}
+
+-- edges of a set, counted by their times
+count_come : (k : ℕ) (at : EdgeTimes) (F : EdgeSet) (t s : ℕ)
+    → ((ring : ℕ) → ring < k → F ring s ≡ nat_le (at ring s) t)
+    → ring_count k F s ≡ count_by (λ x. nat_le x t) (times_to k at s)
+count_come k at F t s same =
+    count_by_agree (λ ring. F ring s) (λ ring. nat_le (at ring s) t) 0 k (record { same = λ ring _ below. same ring (omega (arith, below)) })
+    ∙ sym (count_by-map (λ x. nat_le x t) (λ ring. at ring s) (range_with_len 0 k))
+
+pub reported_from_low : (r : Layout) (rule : Rule) (end : ℕ) (E : ℕ → EdgeSet) (at : EdgeTimes) → ComesAt r rule end E at
+    → (t s : ℕ) → t < end → s < r.nodes → is_reported rule (E t) s ≡ nat_le (low_of end rule at s) t
+unfolding is_reported low_of
+reported_from_low r rule end E at come t s low process =
+    ap (nat_le rule.l) (count_come rule.k at (E t) t s (λ ring below. come.comes t ring s low below process))
+    ∙ (rank_is end rule.l (times_to rule.k at s)).comes t low
+
+full_test : (i : Bool) (a b c t : ℕ)
+    → nat_le a t || (i && nat_le b t && nat_le c t) ≡ nat_le (cond i (min a (max b c)) a) t
+full_test true a b c t = grind (arith, nat_tests)
+full_test false a b c t = or-false (nat_le a t)
+
+pub counts_from_full : (r : Layout) (rule : Rule) (end : ℕ) (E : ℕ → EdgeSet) (at : EdgeTimes) → ComesAt r rule end E at
+    → (t ring s : ℕ) → t < end → ring < rule.k → s < r.nodes
+    → is_full r rule (E t) ring s ≡ nat_le (full_time end r rule at ring s) t
+unfolding is_full full_time
+counts_from_full r rule end E at come t ring s low below process =
+    let o : ℕ = observer_of r ring s in
+    let own = reported_from_low r rule end E at come t s low process in
+    let its = reported_from_low r rule end E at come t o low (come.observers ring s below process) in
+    ap (λ b. b || is_gained r rule (E t) ring s) (come.comes t ring s low below process)
+    ∙ ap (λ b. nat_le (at ring s) t || (rule.implicit && b && is_reported rule (E t) o)) own
+    ∙ ap (λ b. nat_le (at ring s) t || (rule.implicit && nat_le (low_of end rule at s) t && b)) its
+    ∙ full_test rule.implicit (at ring s) (low_of end rule at s) (low_of end rule at o) t
+
+full_from_high : (r : Layout) (rule : Rule) (end : ℕ) (E : ℕ → EdgeSet) (at : EdgeTimes) → ComesAt r rule end E at
+    → (t s : ℕ) → t < end → s < r.nodes
+    → nat_le rule.h (full_count r rule (E t) s) ≡ nat_le (high_of end r rule at s) t
+unfolding high_of
+full_from_high r rule end E at come t s low process =
+    ap (nat_le rule.h) (count_come rule.k (full_time end r rule at) (is_full r rule (E t)) t s
+    (λ ring below. counts_from_full r rule end E at come t ring s low below process))
+    ∙ (rank_is end rule.h (times_to rule.k (full_time end r rule at) s)).comes t low
+
+pub stable_from_high : (r : Layout) (rule : Rule) (end : ℕ) (E : ℕ → EdgeSet) (at : EdgeTimes) → ComesAt r rule end E at
+    → (t s : ℕ) → t < end → s < r.nodes → is_stable r rule (E t) s ≡ nat_le (high_of end r rule at s) t
+unfolding is_stable
+stable_from_high r rule end E at come t s low process = full_from_high r rule end E at come t s low process
+
+no_gain : (e i x y : Bool) → x ≡ false → e || (i && x && y) ≡ e
+no_gain e i x y none = grind arith
+
+reports_test : (rule : Rule) (F : EdgeSet) (s : ℕ) → nat_le rule.l (reports_of rule F s) ≡ is_reported rule F s
+unfolding is_reported
+reports_test rule F s = refl
+
+reports_enough : (rule : Rule) (F : EdgeSet) (s : ℕ) → is_reported rule F s ≡ true → rule.l ≤ reports_of rule F s
+reports_enough rule F s is = leb-true _ _ (reports_test rule F s ∙ is)
+
+-- at least L rings count for a process exactly where it is reported on L
+marked : (r : Layout) (rule : Rule) (F : EdgeSet) (s : ℕ) → nat_le rule.l (full_count r rule F s) ≡ is_reported rule F s
+unfolding is_full
+marked r rule F s = elim (cases_Bool (is_reported rule F s)) [
+  | inl is ↦ (let many : rule.l ≤ reports_of rule F s = reports_enough rule F s is in
+      let more : reports_of rule F s ≤ full_count r rule F s = count_le (λ ring. F ring s) (λ ring. is_full r rule F ring s) (range_with_len 0 rule.k)
+      (λ ring e. or_left (F ring s) _ e) in
+      le-leb _ _ (omega (arith, many, more)) ∙ sym is)
+  | inr fails ↦ ap (nat_le rule.l) (count_by_agree (λ ring. is_full r rule F ring s) (λ ring. F ring s) 0 rule.k
+      (record { same = λ ring _ _. no_gain (F ring s) rule.implicit (is_reported rule F s) (is_reported rule F (observer_of r ring s)) fails }))
+      ∙ reports_test rule F s
+]
+
+pub unstable_between : (r : Layout) (rule : Rule) (end : ℕ) (E : ℕ → EdgeSet) (at : EdgeTimes) → ComesAt r rule end E at
+    → (t s : ℕ) → t < end → s < r.nodes
+    → is_unstable r rule (E t) s ≡ (nat_le (low_of end rule at s) t && nat_lt t (high_of end r rule at s))
+unfolding is_unstable
+unstable_between r rule end E at come t s low process =
+    let full : ℕ = full_count r rule (E t) s in
+    ap (λ b. b && nat_lt full rule.h) (marked r rule (E t) s ∙ reported_from_low r rule end E at come t s low process)
+    ∙ ap (λ b. nat_le (low_of end rule at s) t && b) (lt_is_not_le full rule.h
+    ∙ ap not (full_from_high r rule end E at come t s low process)
+    ∙ sym (lt_is_not_le t (high_of end r rule at s)))
+
+low_within : (end : ℕ) (rule : Rule) (at : EdgeTimes) (s : ℕ) → low_of end rule at s ≤ end
+unfolding low_of
+low_within end rule at s = (rank_is end rule.l (times_to rule.k at s)).within
+
+pub high_within : (end : ℕ) (r : Layout) (rule : Rule) (at : EdgeTimes) (s : ℕ) → high_of end r rule at s ≤ end
+unfolding high_of
+high_within end r rule at s = (rank_is end rule.h (times_to rule.k (full_time end r rule at) s)).within
+
+-- no process is reported before the first time
+pub low_no_less : (end : ℕ) (rule : Rule) (at : EdgeTimes) (a : ℕ) → IsRule rule → a ≤ end
+    → ((ring s : ℕ) → a ≤ at ring s) → (s : ℕ) → a ≤ low_of end rule at s
+unfolding low_of
+low_no_less end rule at a is within from s =
+    rank_no_less end rule.l (times_to rule.k at s) a is.low within
+    (All-map (λ x. a ≤ x) (λ ring. at ring s) (range_with_len 0 rule.k) (λ k d _. from _ s))
+
+-- a process is reported before it is stable
+pub low_before_high : (r : Layout) (rule : Rule) (end : ℕ) (E : ℕ → EdgeSet) (at : EdgeTimes) → ComesAt r rule end E at
+    → IsRule rule → (s : ℕ) → s < r.nodes → low_of end rule at s ≤ high_of end r rule at s
+low_before_high r rule end E at come is s process = elim (cases_lt (high_of end r rule at s) (low_of end rule at s)) [
+  | inr ordered ↦ ordered
+  | inl less ↦ absurd (
+      let t : ℕ = high_of end r rule at s in
+      let low : t < end = omega (arith, less, low_within end rule at s) in
+      let many : rule.h ≤ full_count r rule (E t) s =
+      leb-true _ _ (full_from_high r rule end E at come t s low process ∙ le-leb t t (omega arith)) in
+      let come_by : low_of end rule at s ≤ t =
+      leb-true _ _ (sym (reported_from_low r rule end E at come t s low process) ∙ sym (marked r rule (E t) s)
+      ∙ le-leb _ _ (omega (arith, many, is.gap))) in
+      omega (arith, less, come_by))
+]

@@ -1,0 +1,115 @@
+//! What a receiver proposes, by times. Each function does nothing that is seen, and its contract is the law.
+ghost use Rattle.cut_arrivals.specs.Laws.{
+  IsReportedFromLow,
+  CountsFromFullTime,
+  IsStableFromHigh,
+  IsUnstableBetween,
+  ProposesByTimes,
+  RanksRise,
+  LowsRise,
+  HighsRise,
+  ClosesAsSettled,
+  ClosesAsProposed,
+  ClosesAtPlace,
+  EndsReportedAlike,
+  EndsStableAlike,
+  SilentWhereNoneEndsStable,
+  ImagesAreLeast,
+  OthersNeverCome,
+  UngainedCountByImage,
+  GainedCountByLows,
+  LowIsRankOfPresent,
+  HighIsRankOfFullTimes,
+  ReportedAreNodes,
+  NodesTellLacking,
+  NodesTellOther,
+  MembersAreTargets,
+};
+
+use cut_blocks::laws::{deliveries_stand_in_blocks, images_are_below_never};
+
+/// A process is reported from its low time on, and stable from its high time on. Between them it is unstable.
+pub fn modes_follow_from_times()
+    ensures reported { IsReportedFromLow }
+    ensures counting { CountsFromFullTime }
+    ensures stable { IsStableFromHigh }
+    ensures unstable { IsUnstableBetween }
+{}
+
+/// The proposal is made at the first time that is settled, by low and high times alone.
+pub fn proposals_follow_from_times()
+    ensures { ProposesByTimes }
+{}
+
+/// Where times are changed weakly rising, as from places among the deliveries to images of keys, the ranks, lows and
+/// highs of the changed times are the changed ranks, lows and highs.
+pub fn ranks_keep_rising_changes()
+    ensures ranks { RanksRise }
+    ensures lows { LowsRise }
+    ensures highs { HighsRise }
+{}
+
+/// Where nothing is doubted, the time by which all has ended that began before it stands for the first settled time,
+/// and tells its members, even where times are tied.
+pub fn closing_tells_the_members()
+    ensures { ClosesAsSettled }
+{}
+
+/// What a receiver proposes has exactly the members that the images of its deliveries tell by their closing time,
+/// where nothing is doubted. No order of the deliveries is needed, and ties of images do no harm.
+pub fn images_tell_the_members()
+    ensures { ClosesAsProposed }
+{
+    images_are_below_never();
+}
+
+/// Where at most one delivery has the image of the closing time, the whole proposal is told: its place is how many
+/// deliveries have images up to that time.
+pub fn images_tell_the_place()
+    ensures { ClosesAtPlace }
+{
+    images_are_below_never();
+}
+
+/// Who is reported in the end, and who is stable, is the same at each receiver: the edges decide it, and not the keys.
+pub fn receivers_end_alike()
+    ensures reported { EndsReportedAlike }
+    ensures stable { EndsStableAlike }
+{
+    images_are_below_never();
+}
+
+/// Where no process is stable in the end, no receiver proposes.
+pub fn none_proposes_where_none_ends_stable()
+    ensures { SilentWhereNoneEndsStable }
+{}
+
+/// The image of an alerted edge is the least over its copies, which stand in the blocks of the receiver's row.
+pub fn images_stand_in_blocks()
+    ensures { ImagesAreLeast }
+{
+    deliveries_stand_in_blocks();
+}
+
+/// Lows and highs are ranks of few values: the images of alerted edges, and with implicit alerts the lows of both
+/// processes where a ring is gained.
+pub fn few_values_tell_lows_and_highs()
+    ensures others { OthersNeverCome }
+    ensures ungained { UngainedCountByImage }
+    ensures gained { GainedCountByLows }
+    ensures low { LowIsRankOfPresent }
+    ensures high { HighIsRankOfFullTimes }
+    ensures nodes { ReportedAreNodes }
+{
+    images_are_below_never();
+}
+
+/// Whether the members lack a target, or have another process, is told by the processes that are reported in the end.
+/// Where neither is so, the members are the targets.
+pub fn nodes_tell_the_verdict()
+    ensures lacking { NodesTellLacking }
+    ensures other { NodesTellOther }
+    ensures exact { MembersAreTargets }
+{
+    images_are_below_never();
+}

@@ -1,0 +1,22 @@
+-- The least image over the copies.
+use Rattle.std.proofs.Common.{◌≡◌, ◌∙◌, ℕ, ◌+◌, ◌*◌, ◌^◌, List, [], ◌∷◌, fold, min, length, replicate, refl, ap, arith}
+use Rattle.std.specs.List.{range_with_len}
+use Rattle.std.proofs.lemmas.List.Sums.{fold-append}
+use Rattle.cut_lists.proofs.Ranges.{range_with_len_more}
+use Rattle.cut_draws.specs.Source.{Source}
+use Rattle.cut_blocks.specs.Images.{eight, never, image_at, place_in, least_image}
+use Rattle.cut_blocks.proofs.Lanes.{of_four}
+
+pub least_more : (d : Source) (copies block q row : ℕ) → least_image d (copies + 1) block q row
+    ≡ min (least_image d copies block q row) (image_at d (place_in (row + (block + copies * 2 ^ 24)) q))
+unfolding least_image
+least_more d copies block q row =
+    let lessened : ℕ → ℕ → ℕ = λ least c. min least (image_at d (place_in (row + (block + c * 2 ^ 24)) q)) in
+    ap (λ (cs : List ℕ). fold lessened never cs) (range_with_len_more 0 copies copies (omega arith))
+    ∙ fold-append lessened never (range_with_len 0 copies) (copies ∷ [])
+
+-- of no copies
+pub least_none : (d : Source) (block : ℕ) (rows : List ℕ) → length rows ≡ 4
+    → replicate 8 (replicate 4 never) ≡ eight (least_image d 0 block) rows
+unfolding least_image
+least_none d block = of_four (λ rows. replicate 8 (replicate 4 never) ≡ eight (least_image d 0 block) rows) (λ a b c e. refl)

@@ -1,0 +1,4 @@
+pub mod Lanes
+pub mod Eights
+pub mod Words
+pub mod Copies

@@ -1,0 +1,59 @@
+//! Laws of the order in which alerts come to a receiver. Each function does nothing, and its contract is the law.
+
+ghost use Rattle.cut_draws.specs.Laws.{
+  DistinctEdgesHaveAnOrder,
+  DeliveriesStandAtTheirRanks,
+  DeliveriesAreOfGivenEdges,
+  DeliveriesAreCopiesOfEdges,
+  DeliveriesAreCountedByCopies,
+  EdgesComeAtTheirFirstTime,
+  NoneIsHeardOfAtFirst,
+  HeardOfStays,
+  AllAreHeardOfInTheEnd,
+  LesserImagesComeBefore,
+  LowImagesComeFirst,
+  LowImagesAreHeardOf,
+  ImagesStandAtTheirTimes,
+  ImagesRise,
+  LeastImageIsTheFirst,
+};
+
+/// Distinct edges have an order in which their deliveries come, and each delivery stands in it at the number of those
+/// that come before it.
+pub fn distinct_edges_have_an_order()
+    ensures order { DistinctEdgesHaveAnOrder }
+    ensures ranks { DeliveriesStandAtTheirRanks }
+{}
+
+/// The deliveries are the copies of the given edges: as many as copies of all edges, and counted copy by copy.
+pub fn deliveries_are_copies_of_edges()
+    ensures given { DeliveriesAreOfGivenEdges }
+    ensures all { DeliveriesAreCopiesOfEdges }
+    ensures counted { DeliveriesAreCountedByCopies }
+{}
+
+/// After some deliveries a receiver has heard of exactly those edges whose first copy was among them: of none before
+/// the first delivery, of all after the last, and what it has heard of stays so.
+pub fn edges_come_at_their_first_time()
+    ensures time { EdgesComeAtTheirFirstTime }
+    ensures none { NoneIsHeardOfAtFirst }
+    ensures stays { HeardOfStays }
+    ensures all { AllAreHeardOfInTheEnd }
+{}
+
+/// Where the high bits of two deliveries' keys differ they tell which comes first: the deliveries of images up to a
+/// number come before all others, and after them a receiver has heard of the edges whose least image is at most that
+/// number.
+pub fn lesser_images_come_before()
+    ensures before { LesserImagesComeBefore }
+    ensures first { LowImagesComeFirst }
+    ensures heard { LowImagesAreHeardOf }
+{}
+
+/// Along the order of deliveries images only rise, and the least image of an edge's copies is the one at its first
+/// time.
+pub fn images_rise()
+    ensures at { ImagesStandAtTheirTimes }
+    ensures rise { ImagesRise }
+    ensures least { LeastImageIsTheFirst }
+{}

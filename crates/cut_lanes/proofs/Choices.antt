@@ -1,0 +1,168 @@
+-- What comparisons and choices give in a lane of vectors of four.
+use Rattle.std.proofs.Common.{◌≡◌, ◌∙◌, ℕ, ◌+◌, ◌-◌, ◌/◌, ◌%◌, ◌^◌, ◌<◌, ◌≤◌, ◌||◌, ◌&&◌, Bool, true, false, cond, not, ltb, eqb, nat_eq, min, max, sum, List, [], ◌∷◌, length, map, replicate, slice_index, get_or, Fits, inl, inr, refl, subst, ap, sym, le-ltb, ne_eqb, eq-eqb, arith}
+use Rattle.std.specs.Int.{w32}
+use Rattle.std.specs.Simd.Lanes.{Each1, zip2, sel_l, mask_l, top}
+use Rattle.std.proofs.Math.Nat.{zero-div}
+use Rattle.std.proofs.lemmas.Bool.{cases_lt, cases_eq, lt-ltb}
+use Rattle.std.proofs.lemmas.List.{get_or-map, get_or-replicate, length-map}
+use Rattle.std.proofs.lemmas.Simd.{Each1-get_or, tops_compared, length-zip2, length-sel_l, get_or-sel_l, get_or-zip2, bitmask_splat, bit_mask_l, mask_l-mod, mask_l-lt}
+
+-- what holds of every list of four numbers
+of_four : (P : List ℕ → Type 0) → ((a b c d : ℕ) → P (a ∷ b ∷ c ∷ d ∷ [])) → (xs : List ℕ) → length xs ≡ 4 → P xs
+of_four P holds (a ∷ b ∷ c ∷ d ∷ []) is = holds a b c d
+of_four P holds [] is = absurd (omega (arith, is))
+of_four P holds (a ∷ []) is = absurd (omega (arith, is))
+of_four P holds (a ∷ b ∷ []) is = absurd (omega (arith, is))
+of_four P holds (a ∷ b ∷ c ∷ []) is = absurd (omega (arith, is))
+of_four P holds (a ∷ b ∷ c ∷ d ∷ e ∷ xs) is = absurd (omega (arith, is))
+
+-- the mask of a comparison, and what is chosen by it
+abbrev pub tops : (ℕ → ℕ → Bool) → List ℕ → List ℕ → List Bool
+tops t a b = map (top 31) (zip2 (λ x y. cond (t x y) (2 ^ 32 - 1) 0) a b)
+
+abbrev pub choice : (ℕ → ℕ → Bool) → List ℕ → List ℕ → List ℕ → List ℕ → List ℕ
+choice t a b xs ys = sel_l (tops t a b) xs ys
+
+compared_four : (t : ℕ → ℕ → Bool) (a b : List ℕ) → length a ≡ 4 → length b ≡ 4 → length (zip2 t a b) ≡ 4
+compared_four t a b la lb = length-zip2 t a b (la ∙ sym lb) ∙ la
+
+pub choice_four : (t : ℕ → ℕ → Bool) (a b xs ys : List ℕ) → length a ≡ 4 → length b ≡ 4 → length xs ≡ 4 → length ys ≡ 4
+    → length (choice t a b xs ys) ≡ 4
+choice_four t a b xs ys la lb lx ly =
+    let four = compared_four t a b la lb in
+    ap (λ (ms : List Bool). length (sel_l ms xs ys)) (tops_compared w32 t a b)
+    ∙ length-sel_l (zip2 t a b) xs ys (four ∙ sym lx) (four ∙ sym ly) ∙ four
+
+pub choice_at : (t : ℕ → ℕ → Bool) (a b xs ys : List ℕ) → length a ≡ 4 → length b ≡ 4 → length xs ≡ 4 → length ys ≡ 4
+    → (i : ℕ) → i < 4
+    → slice_index (choice t a b xs ys) i ≡ cond (t (slice_index a i) (slice_index b i)) (slice_index xs i) (slice_index ys i)
+choice_at t a b xs ys la lb lx ly i low =
+    let four = compared_four t a b la lb in
+    ap (λ (ms : List Bool). slice_index (sel_l ms xs ys) i) (tops_compared w32 t a b)
+    ∙ get_or-sel_l (zip2 t a b) xs ys i 0 (omega (arith, four, low)) (omega (arith, lx, low)) (omega (arith, ly, low))
+    ∙ ap (λ m. cond m (slice_index xs i) (slice_index ys i))
+    (get_or-zip2 t a b i 0 0 false (omega (arith, la, low)) (omega (arith, lb, low)))
+
+pub min_is : (x y : ℕ) → cond (ltb x y) x y ≡ min x y
+min_is x y = elim (cases_lt x y) [
+  | inl less ↦ rw (lt-ltb x y less) (omega (arith, less))
+  | inr more ↦ rw (le-ltb x y more) (omega (arith, more))
+]
+
+pub max_is : (x y : ℕ) → cond (ltb x y) y x ≡ max x y
+max_is x y = elim (cases_lt x y) [
+  | inl less ↦ rw (lt-ltb x y less) (omega (arith, less))
+  | inr more ↦ rw (le-ltb x y more) (omega (arith, more))
+]
+
+-- ---- bits
+
+pub bit_at : (xs : List ℕ) → length xs ≡ 4 → (i : ℕ) → i < 4
+    → mask_l (tops eqb xs (replicate 4 1)) % 2 ^ 64 / 2 ^ i % 2 ≡ cond (eqb (slice_index xs i) 1) 1 0
+bit_at xs four i low =
+    ap (λ m. m / 2 ^ i % 2) (bitmask_splat w32 eqb xs 4 1 four (omega arith))
+    ∙ bit_mask_l (map (λ x. eqb x 1) xs) i
+    ∙ ap (λ b. cond b 1 0) (get_or-map (λ x. eqb x 1) xs i 0 false (omega (arith, four, low)))
+
+-- there are no other bits
+pub bits_four : (xs : List ℕ) → length xs ≡ 4 → mask_l (tops eqb xs (replicate 4 1)) % 2 ^ 64 < 2 ^ 4
+bits_four xs four =
+    let bits : List Bool = map (λ x. eqb x 1) xs in
+    let size : length bits ≡ 4 = length-map xs (λ x. eqb x 1) ∙ four in
+    subst (λ m. m < 2 ^ 4) (sym (bitmask_splat w32 eqb xs 4 1 four (omega arith)))
+    (subst (λ n. mask_l bits < 2 ^ n) size (mask_l-lt bits))
+
+pub doubted : (b c : Bool) (m : ℕ) → eqb (cond b 1 (cond c m 0)) 1 ≡ b || (c && eqb m 1)
+doubted true c m = refl
+doubted false true m = refl
+doubted false false m = refl
+
+mask_is : (a b : List ℕ) → length a ≡ 4 → length b ≡ 4 → mask_l (tops ltb a b) % 2 ^ 64 ≡ mask_l (zip2 ltb a b)
+mask_is a b la lb =
+    ap (λ (ms : List Bool). mask_l ms % 2 ^ 64) (tops_compared w32 ltb a b)
+    ∙ mask_l-mod (zip2 ltb a b) 64 (omega (arith, compared_four ltb a b la lb))
+
+clear_bit : (b : Bool) → cond {A = ℕ} b 1 0 ≡ 0 → b ≡ false
+clear_bit false is = refl
+clear_bit true is = absurd (omega (arith, is))
+
+-- where no bit is set, no lane has risen
+pub none_risen : (a b : List ℕ) → length a ≡ 4 → length b ≡ 4 → not (nat_eq (mask_l (tops ltb a b) % 2 ^ 64) 0) ≡ false
+    → (i : ℕ) → i < 4 → slice_index b i ≤ slice_index a i
+none_risen a b la lb clear i low =
+    let ms : List Bool = zip2 ltb a b in
+    let none : mask_l ms ≡ 0 = elim (cases_eq (mask_l ms) 0) [
+      | inl is ↦ is
+      | inr some ↦ absurd (
+          let set = ne_eqb (mask_l ms) 0 some in
+          let unset : not (nat_eq (mask_l ms) 0) ≡ false = ap (λ m. not (nat_eq m 0)) (sym (mask_is a b la lb)) ∙ clear in
+          cc)
+    ] in
+    let bit : get_or ms i false ≡ false =
+    clear_bit (get_or ms i false)
+    (sym (bit_mask_l ms i) ∙ ap (λ m. m / 2 ^ i % 2) none ∙ ap (λ m. m % 2) (zero-div (2 ^ i))) in
+    let is : ltb (slice_index a i) (slice_index b i) ≡ false =
+    sym (get_or-zip2 ltb a b i 0 0 false (omega (arith, la, low)) (omega (arith, lb, low))) ∙ bit in
+    elim (cases_lt (slice_index a i) (slice_index b i)) [
+      | inl less ↦ absurd (let set = lt-ltb (slice_index a i) (slice_index b i) less in cc)
+      | inr same ↦ same
+    ]
+
+-- where a bit is set and no lane has fallen, the sum has risen
+abbrev RisesWithSum : List ℕ → List ℕ → Type 0
+RisesWithSum a b =
+    ((i : ℕ) → i < 4 → slice_index a i ≤ slice_index b i) → sum b ≤ sum a → mask_l (zip2 ltb a b) ≡ 0
+
+sum_risen : (a b : List ℕ) → length a ≡ 4 → length b ≡ 4 → RisesWithSum a b
+sum_risen a b la lb =
+    of_four (λ a. RisesWithSum a b) (λ a0 a1 a2 a3.
+    of_four (RisesWithSum (a0 ∷ a1 ∷ a2 ∷ a3 ∷ [])) (λ b0 b1 b2 b3 rises lower.
+    let r0 : a0 ≤ b0 = rises 0 (omega arith) in
+    let r1 : a1 ≤ b1 = rises 1 (omega arith) in
+    let r2 : a2 ≤ b2 = rises 2 (omega arith) in
+    let r3 : a3 ≤ b3 = rises 3 (omega arith) in
+    let total : 0 + b0 + b1 + b2 + b3 ≤ 0 + a0 + a1 + a2 + a3 = lower in
+    rw (
+      le-ltb a0 b0 (omega (arith, r0, r1, r2, r3, total)),
+      le-ltb a1 b1 (omega (arith, r0, r1, r2, r3, total)),
+      le-ltb a2 b2 (omega (arith, r0, r1, r2, r3, total)),
+      le-ltb a3 b3 (omega (arith, r0, r1, r2, r3, total)),
+    ) refl) b lb) a la
+
+pub some_risen : (a b : List ℕ) → length a ≡ 4 → length b ≡ 4 → not (nat_eq (mask_l (tops ltb a b) % 2 ^ 64) 0) ≡ true
+    → ((i : ℕ) → i < 4 → slice_index a i ≤ slice_index b i) → sum a < sum b
+some_risen a b la lb set rises = elim (cases_lt (sum a) (sum b)) [
+  | inl more ↦ more
+  | inr lower ↦ absurd (
+      let none : mask_l (tops ltb a b) % 2 ^ 64 ≡ 0 = mask_is a b la lb ∙ sum_risen a b la lb rises lower in
+      let clear = eq-eqb (mask_l (tops ltb a b) % 2 ^ 64) 0 none in cc)
+]
+
+-- ---- sums and marks
+
+pub plus_one_at : (a : List ℕ) → length a ≡ 4 → ((i : ℕ) → i < 4 → slice_index a i ≤ 2 ^ 31) → (i : ℕ) → i < 4
+    → slice_index (zip2 (λ x y. (x + y) % 2 ^ 32) a (replicate 4 1)) i ≡ slice_index a i + 1
+plus_one_at a four small i low =
+    get_or-zip2 (λ x y. (x + y) % 2 ^ 32) a (replicate 4 1) i 0 0 0 (omega (arith, four, low))
+    (let long : length (replicate {A = ℕ} 4 1) ≡ 4 = refl in omega (arith, long, low))
+    ∙ ap (λ y. (slice_index a i + y) % 2 ^ 32) (get_or-replicate 4 i 1 0 low)
+    ∙ (let fits : (slice_index a i + 1) % 2 ^ 32 ≡ slice_index a i + 1 = omega (arith, small i low) in fits)
+
+pub mark_or : (b c : Bool) → cond {A = ℕ} b 1 (cond c 1 0) ≡ cond (c || (b || false)) 1 0
+mark_or true true = refl
+mark_or true false = refl
+mark_or false true = refl
+mark_or false false = refl
+
+-- four numbers of 32 bits add up to less than 2^34
+pub sum_below : (a : List ℕ) → length a ≡ 4 → Each1 (Fits w32) a → sum a < 2 ^ 34
+sum_below a four fits =
+    let each : (i : ℕ) → i < 4 → slice_index a i < 2 ^ 32 =
+    λ i low. (Each1-get_or (Fits w32) a i 0 (omega (arith, four, low)) fits).fits in
+    of_four (λ a. ((i : ℕ) → i < 4 → slice_index a i < 2 ^ 32) → sum a < 2 ^ 34) (λ a0 a1 a2 a3 each.
+    let r0 : a0 < 2 ^ 32 = each 0 (omega arith) in
+    let r1 : a1 < 2 ^ 32 = each 1 (omega arith) in
+    let r2 : a2 < 2 ^ 32 = each 2 (omega arith) in
+    let r3 : a3 < 2 ^ 32 = each 3 (omega arith) in
+    let total : 0 + a0 + a1 + a2 + a3 < 2 ^ 34 = omega (arith, r0, r1, r2, r3) in
+    total) a four each

@@ -1,0 +1,3 @@
+pub mod Both
+pub mod Choices
+pub mod Insertions

@@ -1,0 +1,40 @@
+use Rattle.std.proofs.Common.{◌∙◌, ℕ, ◌+◌, ◌<◌, ◌≤◌, List, [], length, take, slice_index, slice_index_or, subst, sym, refl, arith}
+use Rattle.cut_blocks.specs.Images.{never}
+use Rattle.cut_ranks.specs.Ranks.{IsRank, AreRanks}
+use Rattle.cut_lanes.specs.Lanes.{lane}
+use Rattle.cut_lanes.proofs.Insertions.{filled_lane, taken_lane, bound_lane, all_lane, placed_rank}
+use Rattle.cut_lanes.proofs.closing.two_least.Goals as goal
+
+pub loop-low-init : goal.loop-low-init
+loop-low-init c = record { many = refl; ranks = λ i low. filled_lane i (never + 1) 2 low }
+
+pub loop-low-preserved : goal.loop-low-preserved
+loop-low-preserved c =
+    let place : ℕ = c.loop-low.low-index in
+    let lows : List (List ℕ) = c.args.lows.now in
+    let one : place < length lows = c.loop-low-test.true in
+    let kept = c.insert.auto.sorted in
+    record {
+      many = kept ∙ c.loop-low.invariant.many;
+      ranks = λ i low.
+          let within : slice_index (slice_index_or lows place []) i ≤ never + 1 =
+          omega (arith, bound_lane i place never lows one (c.requires.times i low)) in
+          subst (λ ys. AreRanks (never + 1) ys (lane i c.insert.new.sorted)) (sym (taken_lane i place lows one))
+          (c.insert.ensures.ranks i (never + 1) (take place (lane i lows)) low within (c.loop-low.invariant.ranks i low));
+    }
+
+pub returns-clause-first : goal.returns-clause-first
+returns-clause-first c i low =
+    let two = c.loop-low.invariant.many in
+    subst (λ ys. IsRank (never + 1) 1 ys (slice_index (slice_index_or c.loop-low.least 0 []) i))
+    (all_lane i c.loop-low.low-index c.args.lows.now c.loop-low-test.false)
+    (placed_rank i (never + 1) 0 (take c.loop-low.low-index (lane i c.args.lows.now)) c.loop-low.least
+    (omega (arith, two)) (c.loop-low.invariant.ranks i low))
+
+pub returns-clause-second : goal.returns-clause-second
+returns-clause-second c i low =
+    let two = c.loop-low.invariant.many in
+    subst (λ ys. IsRank (never + 1) 2 ys (slice_index (slice_index_or c.loop-low.least 1 []) i))
+    (all_lane i c.loop-low.low-index c.args.lows.now c.loop-low-test.false)
+    (placed_rank i (never + 1) 1 (take c.loop-low.low-index (lane i c.args.lows.now)) c.loop-low.least
+    (omega (arith, two)) (c.loop-low.invariant.ranks i low))

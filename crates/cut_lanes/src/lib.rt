@@ -1,0 +1,18 @@
+//! Ranks of times and closing times for four receivers at once.
+//!
+//! A receiver is a lane of vectors, and its times are images of keys, at most [`NEVER`](cut_blocks::NEVER).
+//! [`ordered`] gives the lesser and the greater of two times of each receiver; [`select`] two ranks of each receiver's
+//! times; [`close`] the time by which each process that began before it has ended, and whether equal images leave that
+//! in doubt.
+#![tactic(auto)]
+
+mod closing;
+mod lanes;
+mod ranks;
+
+pub use closing::{Closing, close};
+pub use lanes::ordered;
+pub use ranks::select;
+
+#[cfg(test)]
+mod tests;

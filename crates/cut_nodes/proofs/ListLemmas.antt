@@ -1,0 +1,54 @@
+-- Lists of which each element is known.
+use Rattle.std.proofs.Common.{◌≡◌, suc, ◌+◌, Bool, true, false, cond, ◌||◌, List, [], ◌∷◌, ◌++◌, map, filter}
+use Rattle.std.proofs.Common.{length, take, drop, refl, ap, ◌∙◌, arith}
+use Rattle.std.specs.List.{All, list_any, prefix_len}
+use Rattle.std.proofs.lemmas.List.Elements.{All-head, All-tail}
+
+pub maps_agree : {X Y : Type 0} (f g : X → Y) (xs : List X) → All (λ x. f x ≡ g x) xs → map f xs ≡ map g xs
+maps_agree f g [] all = refl
+maps_agree f g (x ∷ xs) all =
+    ap (λ y. y ∷ map f xs) (All-head (λ x. f x ≡ g x) x xs all)
+    ∙ ap (λ ys. g x ∷ ys) (maps_agree f g xs (All-tail (λ x. f x ≡ g x) x xs all))
+
+pub tests_agree : {X : Type 0} (p q : X → Bool) (xs : List X) → All (λ x. p x ≡ q x) xs → list_any p xs ≡ list_any q xs
+tests_agree p q [] all = refl
+tests_agree p q (x ∷ xs) all =
+    ap (λ b. b || list_any p xs) (All-head (λ x. p x ≡ q x) x xs all)
+    ∙ ap (λ b. q x || b) (tests_agree p q xs (All-tail (λ x. p x ≡ q x) x xs all))
+
+by_kept : (a b rest : Bool) → (a ≡ true → b ≡ true) → cond b (a || rest) rest ≡ a || rest
+by_kept a true rest implied = refl
+by_kept true false rest implied = absurd (let no : false ≡ true = implied refl in let never : ⊥ = cc in never)
+by_kept false false rest implied = refl
+
+any_kept : {X : Type 0} (p : X → Bool) (b : Bool) (x : X) (xs : List X)
+    → list_any p (cond b (x ∷ xs) xs) ≡ cond b (p x || list_any p xs) (list_any p xs)
+any_kept p true x xs = refl
+any_kept p false x xs = refl
+
+-- a filter leaves what passes a stricter test
+pub list_any-filter : {X : Type 0} (p q : X → Bool) (xs : List X) → ((x : X) → p x ≡ true → q x ≡ true)
+    → list_any p (filter q xs) ≡ list_any p xs
+list_any-filter p q [] implied = refl
+list_any-filter p q (x ∷ xs) implied =
+    any_kept p (q x) x (filter q xs)
+    ∙ ap (λ rest. cond (q x) (p x || rest) rest) (list_any-filter p q xs implied)
+    ∙ by_kept (p x) (q x) (list_any p xs) (implied x)
+
+-- a list of which all pass, and one of which none does
+pub prefix_of : {X : Type 0} (p : X → Bool) (xs ys : List X) → All (λ x. p x ≡ true) xs → All (λ y. p y ≡ false) ys
+    → prefix_len p (xs ++ ys) ≡ length xs
+prefix_of p [] [] all none = refl
+prefix_of p [] (y ∷ ys) all none = ap (λ b. cond b (1 + prefix_len p ys) 0) (All-head (λ y. p y ≡ false) y ys none)
+prefix_of p (x ∷ xs) ys all none =
+    ap (λ b. cond b (1 + prefix_len p (xs ++ ys)) 0) (All-head (λ x. p x ≡ true) x xs all)
+    ∙ ap (λ n. 1 + n) (prefix_of p xs ys (All-tail (λ x. p x ≡ true) x xs all) none)
+    ∙ (let e : 1 + length xs ≡ suc (length xs) = omega arith in e)
+
+pub take_joined : {X : Type 0} (xs ys : List X) → take (length xs) (xs ++ ys) ≡ xs
+take_joined [] ys = refl
+take_joined (x ∷ xs) ys = ap (λ zs. x ∷ zs) (take_joined xs ys)
+
+pub drop_joined : {X : Type 0} (xs ys : List X) → drop (length xs) (xs ++ ys) ≡ ys
+drop_joined [] ys = refl
+drop_joined (x ∷ xs) ys = drop_joined xs ys

@@ -1,0 +1,64 @@
+-- Slots stay right where blocks are added.
+use Rattle.std.proofs.Common.{◌≡◌, ℕ, ◌+◌, ◌<◌, List, [], ◌∷◌, ◌++◌, map, length, refl, ap, sym, ◌∙◌, arith}
+use Rattle.std.proofs.lemmas.List.{map-append}
+use Rattle.std.proofs.lemmas.List.Elements.{All-push, All-nil, All-weaker}
+use Rattle.cut_rings.specs.declared.edge.Edge.{Edge}
+use Rattle.cut_rings.specs.Edges.{edge_number}
+use Rattle.cut_nodes.specs.declared.slots.Slot.{Slot}
+use Rattle.cut_nodes.specs.Slots.{key_of, key_in, AreSlots, IsSlot, Extends}
+use Rattle.cut_nodes.proofs.ListLemmas.{maps_agree}
+
+pub extends_none : (xs : List ℕ) → Extends xs 0 xs
+extends_none xs = record { long = omega arith; kept = λ i low. refl; few = omega arith; small = λ all. all }
+
+pub extends_more : (xs ys zs : List ℕ) (m n : ℕ) → Extends xs m ys → Extends ys n zs → Extends xs (m + n) zs
+extends_more xs ys zs m n first second = record {
+  long = omega (arith, first.long, second.long);
+  kept = λ i low. second.kept i (omega (arith, first.long)) ∙ first.kept i low;
+  few = omega (arith, first.few, second.few);
+  small = λ all. second.small (first.small all);
+}
+
+pub key_kept : (old new : List ℕ) (m : ℕ) (slot : Slot) → Extends old m new → slot.block < length old
+    → key_in new slot ≡ key_in old slot
+key_kept old new m slot extends low = ap (λ block. (block, slot.key)) (extends.kept slot.block low)
+
+pub slots_kept : (k : ℕ) (old new : List ℕ) (m : ℕ) (edges : List Edge) (slots : List Slot)
+    → Extends old m new → AreSlots k old edges slots → AreSlots k new edges slots
+slots_kept k old new m edges slots extends are = record {
+  keys = maps_agree (λ slot. key_in new slot) (λ slot. key_in old slot) slots
+      (All-weaker (λ slot. slot.block < length old) (λ slot. key_in new slot ≡ key_in old slot)
+      (λ slot low. key_kept old new m slot extends low) slots are.within)
+      ∙ are.keys;
+  within = All-weaker (λ slot. slot.block < length old) (λ slot. slot.block < length new)
+      (λ slot low. omega (arith, extends.long)) slots are.within;
+  eight = are.eight;
+}
+
+-- no slots of no edges
+pub no_slots : (k : ℕ) (blocks : List ℕ) → AreSlots k blocks [] []
+no_slots k blocks = record {
+  keys = refl;
+  within = All-nil (λ slot. slot.block < length blocks);
+  eight = All-nil (λ slot. slot.key < 8);
+}
+
+-- one more slot
+pub slots_push : (k : ℕ) (blocks : List ℕ) (edges : List Edge) (slots : List Slot) (e : Edge) (slot : Slot)
+    → AreSlots k blocks edges slots → IsSlot blocks (edge_number k e) slot
+    → AreSlots k blocks (edges ++ e ∷ []) (slots ++ slot ∷ [])
+slots_push k blocks edges slots e slot are is = record {
+  keys = map-append (λ slot. key_in blocks slot) slots (slot ∷ [])
+      ∙ ap (λ ks. ks ++ key_in blocks slot ∷ []) are.keys
+      ∙ ap (λ key. map (λ e. key_of k e) edges ++ key ∷ []) is.key
+      ∙ sym (map-append (λ e. key_of k e) edges (e ∷ []));
+  within = All-push (λ slot. slot.block < length blocks) slots slot are.within is.within;
+  eight = All-push (λ slot. slot.key < 8) slots slot are.eight is.eight;
+}
+
+-- once more blocks are added
+pub slots_more : (k : ℕ) (old new : List ℕ) (edges : List Edge) (slots : List Slot) (e : Edge) (slot : Slot)
+    → Extends old 1 new → AreSlots k old edges slots → IsSlot new (edge_number k e) slot
+    → AreSlots k new (edges ++ e ∷ []) (slots ++ slot ∷ [])
+slots_more k old new edges slots e slot extends are is =
+    slots_push k new edges slots e slot (slots_kept k old new 1 edges slots extends are) is

@@ -1,0 +1,4 @@
+pub mod Slots
+pub mod Nodes
+pub mod Runs
+pub mod Reported

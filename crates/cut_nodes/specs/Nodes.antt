@@ -1,0 +1,49 @@
+-- The processes that matter for proposals in a trial: those that are reported by all its alerts.
+use Rattle.std.specs.Prelude.{◌≡◌, ℕ, ◌<◌, ◌^◌, List, map, filter, length, slice_index, All, Option, Some, None}
+use Rattle.std.specs.Prelude.{option_map, IfSome, if◌then◌else◌}
+use Rattle.std.specs.List.{range_with_len, list_any}
+use Rattle.cut_rings.specs.declared.edge.Edge.{Edge}
+use Rattle.cut_rings.specs.Edges.{EdgeSet, set_of, edge_to, rings_to}
+use Rattle.cut_rings.specs.Layout.{Layout, observer_of}
+use Rattle.cut_detector.specs.Rule.{Rule}
+use Rattle.cut_detector.specs.Counts.{is_reported, is_gained, is_full, is_some_stable}
+use Rattle.cut_nodes.specs.declared.node.Cause.{Cause}
+use Rattle.cut_nodes.specs.declared.node.Node.{Node}
+use Rattle.cut_nodes.specs.declared.nodes.Nodes as declared
+use Rattle.cut_nodes.specs.Slots.{key_of, key_in, AreSlots}
+
+-- what makes a ring count for s: its key where its edge is in the set, and its observer where it is gained
+abbrev pub cause_of : Layout → Rule → EdgeSet → ℕ → ℕ → Option (ℕ × ℕ) × Option ℕ
+cause_of r rule E s ring = (
+  if E ring s then Some (key_of rule.k (edge_to s ring)) else None,
+  if is_gained r rule E ring s then Some (observer_of r ring s) else None,
+)
+
+-- the same, as it is kept: by a slot among some blocks, and a place among some subjects
+abbrev pub cause_in : List ℕ → List ℕ → Cause → Option (ℕ × ℕ) × Option ℕ
+cause_in blocks subjects c =
+    (option_map (λ slot. key_in blocks slot) c.heard, option_map (λ place. slice_index subjects place) c.gained)
+
+-- slot and place are among these blocks and subjects
+pub record IsWithin (blocks subjects : List ℕ) (c : Cause) : Type 0 where
+  pub heard : IfSome c.heard (λ slot. (slot.block < length blocks) × (slot.key < 8))
+  pub gained : IfSome c.gained (λ place. place < length subjects)
+
+-- a process with its alerts, and the rings that count for it when all alerts have come
+pub record IsNode (r : Layout) (rule : Rule) (E : EdgeSet) (blocks subjects : List ℕ) (d : Node) : Type 0 where
+  pub heard : AreSlots rule.k blocks (map (λ ring. edge_to d.subject ring) (rings_to rule.k E d.subject)) d.heard.items
+  pub causes : map (λ c. cause_in blocks subjects c) d.causes.items
+      ≡ map (λ ring. cause_of r rule E d.subject ring) (rings_to rule.k (is_full r rule E) d.subject)
+  pub within : All (λ c. IsWithin blocks subjects c) d.causes.items
+  pub gains : d.gains ≡ list_any (λ ring. is_gained r rule E ring d.subject) (range_with_len 0 rule.k)
+
+-- the subjects of nodes
+abbrev pub subjects_of : List Node → List ℕ
+subjects_of nodes = map (λ d. d.subject) nodes
+
+-- all the processes that are reported by a list of edges, ascending
+pub record AreNodesOf (r : Layout) (rule : Rule) (edges : List Edge) (x : declared.Nodes) : Type 0 where
+  pub subjects : subjects_of x.nodes.items ≡ filter (λ s. is_reported rule (set_of edges) s) (range_with_len 0 r.nodes)
+  pub each : All (λ d. IsNode r rule (set_of edges) x.blocks.items (subjects_of x.nodes.items) d) x.nodes.items
+  pub blocks : All (λ block. block < 2 ^ 13) x.blocks.items
+  pub ends : x.ends_stable ≡ is_some_stable r rule (set_of edges)

@@ -1,0 +1,191 @@
+ghost use Rattle.std.specs.Prelude.{◌≡◌, ◌||◌, ◌+◌, ◌^◌, ◌<◌, ◌≤◌, ℕ, List, length, filter, nat_le, is_some, IfOk, OnOk, IsTrue};
+ghost use Rattle.std.specs.List.{range_with_len, list_any};
+ghost use Rattle.cut_rings.specs.Edges.{set_of, rings_to, edges_in};
+ghost use Rattle.cut_rings.specs.Layout.{IsLayout};
+ghost use Rattle.cut_detector.specs.Rule.{rule_in};
+ghost use Rattle.cut_detector.specs.Counts.{is_reported, is_full};
+ghost use Rattle.cut_nodes.specs.Slots.{AreSlots, Extends};
+ghost use Rattle.cut_nodes.specs.Runs.{first_on};
+
+use crate::runs::run_len;
+use crate::slots::slots_among;
+use crate::{Cause, Node, Nodes, Slot};
+use cut_detector::Rule;
+use cut_rings::{Edge, Rings};
+use std::alloc::{AllocError, Global};
+
+/// The processes that the alerts of a trial report together, and what they gain by: the rings, the rule and the alerts.
+#[derive(Drop)]
+pub(crate) struct Reported<'a> {
+    pub rings: &'a Rings,
+    pub rule: Rule,
+    pub edges: &'a [Edge],
+    pub subjects: &'a [u16],
+    ghost layout: { IsLayout rings.now },
+    ghost rings_enough: { rule.k ≤ length rings.now.positions },
+    ghost ascending: { edges.now ≡ edges_in rule.k rings.now.nodes (set_of edges.now) },
+    ghost all: { subjects.now
+        ≡ filter (λ s. is_reported (rule_in rule) (set_of edges.now) s) (range_with_len 0 rings.now.nodes) },
+}
+
+impl<'a> Reported<'a> {
+    ghost use Rattle.cut_nodes.specs.Nodes.{IsNode, AreNodesOf};
+    ghost use Rattle.cut_nodes.specs.Reported.{alerts_of, rule_of_reported, IsRun, IsGain, AreCauses, HasListed};
+
+    /// The nodes.
+    pub fn nodes(&self, alloc: Global) -> Result<Nodes, AllocError>
+        ensures { IfOk result (λ x. AreNodesOf self.now.rings.now (rule_of_reported self.now) self.now.edges.now x) }
+    {
+        let mut nodes = Nodes {
+            nodes: Vec::with_capacity(alloc, self.subjects.len())?,
+            blocks: Vec::new(alloc),
+            ends_stable: false,
+        };
+        let mut rest = self.edges;
+        for subject in 0..self.rings.nodes() {
+            let (first, others) = rest.split_at(run_len(rest, subject));
+            self.add(alloc, &mut nodes, subject, first)?;
+            rest = others;
+        }
+        nodes.ends_stable = some_ends_stable(nodes.nodes.as_slice(), self.rule);
+        Ok(nodes)
+    }
+
+    /// Adds a process with these alerts to the nodes, where they report it.
+    fn add(
+        &self,
+        alloc: Global,
+        nodes: &mut Nodes,
+        subject: u16,
+        edges: &[Edge],
+    ) -> Result<(), AllocError>
+        requires run { IsRun self.now subject edges.now }
+        requires room { length nodes.old.blocks.items + length edges.now ≤ 2 ^ 16 }
+        requires listed { HasListed self.now subject nodes.old.blocks.items nodes.old.nodes.items }
+        ensures listed { OnOk result
+            (HasListed self.now (subject + 1) nodes.new.blocks.items nodes.new.nodes.items) }
+        ensures room { OnOk result
+            (length nodes.new.blocks.items ≤ length nodes.old.blocks.items + length edges.now) }
+    {
+        if !self.rule.is_reported(edges.len() as u32) {
+            return Ok(());
+        }
+        let node = self.node(alloc, &mut nodes.blocks, subject, edges)?;
+        nodes.nodes.push(node)?;
+        Ok(())
+    }
+
+    /// The node of a process with these alerts.
+    fn node(
+        &self,
+        alloc: Global,
+        blocks: &mut Vec<u32>,
+        subject: u16,
+        edges: &[Edge],
+    ) -> Result<Node, AllocError>
+        requires run { IsRun self.now subject edges.now }
+        requires reported { IsTrue (is_reported (rule_of_reported self.now) (alerts_of self.now) subject) }
+        requires room { length blocks.old.items + length edges.now ≤ 2 ^ 16 }
+        ensures subject { IfOk result (λ d. d.subject ≡ subject) }
+        ensures node { IfOk result (λ d. IsNode self.now.rings.now (rule_of_reported self.now) (alerts_of self.now)
+            blocks.new.items self.now.subjects.now d) }
+        ensures blocks { OnOk result (Extends blocks.old.items (length edges.now) blocks.new.items) }
+    {
+        let heard = slots_among(alloc, blocks, self.rule.k, edges)?;
+        let causes = self.causes(alloc, subject, edges, heard.as_slice())?;
+        let gains = is_some_gained(causes.as_slice());
+        Ok(Node {
+            subject,
+            heard,
+            causes,
+            gains,
+        })
+    }
+
+    /// The causes of a reported process with these alerts, whose keys stand in these slots.
+    fn causes(
+        &self,
+        alloc: Global,
+        subject: u16,
+        edges: &[Edge],
+        slots: &[Slot],
+    ) -> Result<Vec<Cause>, AllocError>
+        requires run { IsRun self.now subject edges.now }
+        requires reported { IsTrue (is_reported (rule_of_reported self.now) (alerts_of self.now) subject) }
+        requires slots { length slots.now ≡ length edges.now }
+        ensures { IfOk result (λ causes. (blocks : List ℕ) → AreSlots self.now.rule.k blocks edges.now slots.now →
+            AreCauses self.now blocks
+            (rings_to self.now.rule.k
+            (is_full self.now.rings.now (rule_of_reported self.now) (alerts_of self.now)) subject)
+            subject causes.items) }
+    {
+        let mut causes = Vec::new(alloc);
+        let mut edges_left = edges;
+        let mut slots_left = slots;
+        for ring in 0..self.rule.k {
+            let heard = first_on(ring, edges_left, slots_left);
+            let gained = self.gained(ring, subject);
+            let count = usize::from(heard.is_some());
+            let (_, other_edges) = edges_left.split_at(count);
+            let (_, other_slots) = slots_left.split_at(count);
+            edges_left = other_edges;
+            slots_left = other_slots;
+            if !is_cause(heard, gained) {
+                continue;
+            }
+            causes.push(Cause { heard, gained })?;
+        }
+        Ok(causes)
+    }
+
+    /// The place among the reported of the observer that a reported process gains a ring by, if it gains the ring.
+    fn gained(&self, ring: u8, subject: u16) -> Option<u16>
+        requires ring { ring < self.now.rule.k }
+        requires subject { subject < self.now.rings.now.nodes }
+        requires reported { IsTrue (is_reported (rule_of_reported self.now) (alerts_of self.now) subject) }
+        ensures { IsGain self.now.rings.now (rule_of_reported self.now) (alerts_of self.now)
+            self.now.subjects.now ring subject result }
+    {
+        if !self.rule.implicit {
+            return None;
+        }
+        let observer = self.rings.observer(ring, subject);
+        match self.subjects.binary_search(&observer) {
+            Ok(place) => Some(place as u16),
+            Err(_) => None,
+        }
+    }
+}
+
+/// The slot of the first of some edges, if that is on this ring.
+fn first_on(ring: u8, edges: &[Edge], slots: &[Slot]) -> Option<Slot>
+    ensures { result ≡ first_on ring edges.now slots.now }
+{
+    match (edges, slots) {
+        ([edge, ..], [slot, ..]) if edge.ring == ring => Some(*slot),
+        _ => None,
+    }
+}
+
+/// Whether an alert or a gain is there.
+fn is_cause(heard: Option<Slot>, gained: Option<u16>) -> bool
+    ensures { result ≡ (is_some heard || is_some gained) }
+{
+    heard.is_some() || gained.is_some()
+}
+
+/// Whether some cause is a gain.
+fn is_some_gained(causes: &[Cause]) -> bool
+    ensures { result ≡ list_any (λ c. is_some c.gained) causes.now }
+{
+    causes.iter().any(|cause| cause.gained.is_some())
+}
+
+/// Whether at least H rings count for some node.
+fn some_ends_stable(nodes: &[Node], rule: Rule) -> bool
+    ensures { result ≡ list_any (λ d. nat_le rule.h (length d.causes.items)) nodes.now }
+{
+    nodes
+        .iter()
+        .any(|node| usize::from(rule.h) <= node.causes.len())
+}

@@ -1,0 +1,91 @@
+ghost use Rattle.std.specs.Prelude.{◌+◌, ◌^◌, ◌<◌, ◌≤◌, length, IfOk, OnOk, All, IsTrue};
+ghost use Rattle.cut_rings.specs.Edges.{are_edges_of};
+ghost use Rattle.cut_nodes.specs.Slots.{AreSlots, IsSlot, Extends, IsLast};
+
+use cut_rings::Edge;
+use std::alloc::{AllocError, Global};
+
+/// Where the image of a key stands among those that are drawn.
+#[derive(Clone, Copy, Debug)]
+pub struct Slot {
+    /// The place of the key's block among the blocks that are drawn.
+    pub block: u16,
+    /// The number of the key among the eight of its block.
+    pub key: u8,
+}
+
+/// The slots of some edges, and the blocks that these stand in.
+#[derive(Debug, Drop)]
+pub struct Slots {
+    pub blocks: Vec<u32>,
+    pub slots: Vec<Slot>,
+}
+
+impl Slots {
+    /// The slots of edges of the first `k` rings, in order of the edges. Fails only where memory runs out.
+    pub fn of(alloc: Global, k: u8, edges: &[Edge]) -> Result<Slots, AllocError>
+        requires rings { k ≤ 32 }
+        requires edges { IsTrue (are_edges_of k 2048 edges.now) }
+        requires few { length edges.now ≤ 2 ^ 16 }
+        ensures slots { IfOk result (λ x. AreSlots k x.blocks.items edges.now x.slots.items) }
+        ensures blocks { IfOk result (λ x. All (λ block. block < 2 ^ 13) x.blocks.items) }
+    {
+        let mut blocks = Vec::new(alloc);
+        let slots = slots_among(alloc, &mut blocks, k, edges)?;
+        Ok(Slots { blocks, slots })
+    }
+}
+
+/// The slots of edges of the first `k` rings. Their blocks are added to the blocks, each where it is not the last then.
+pub(crate) fn slots_among(
+    alloc: Global,
+    blocks: &mut Vec<u32>,
+    k: u8,
+    edges: &[Edge],
+) -> Result<Vec<Slot>, AllocError>
+    requires rings { k ≤ 32 }
+    requires edges { IsTrue (are_edges_of k 2048 edges.now) }
+    requires room { length blocks.old.items + length edges.now ≤ 2 ^ 16 }
+    ensures slots { IfOk result (λ slots. AreSlots k blocks.new.items edges.now slots.items) }
+    ensures blocks { OnOk result (Extends blocks.old.items (length edges.now) blocks.new.items) }
+{
+    let mut slots = Vec::with_capacity(alloc, edges.len())?;
+    for edge in edges {
+        let slot = slot_of(blocks, edge.number(k))?;
+        slots.push(slot)?;
+    }
+    Ok(slots)
+}
+
+/// Where the key of an edge of this number stands. Its block is added to the blocks where it is not the last of them.
+fn slot_of(blocks: &mut Vec<u32>, number: u16) -> Result<Slot, AllocError>
+    requires { length blocks.old.items < 2 ^ 16 }
+    ensures slot { IfOk result (λ slot. IsSlot blocks.new.items number slot) }
+    ensures blocks { OnOk result (Extends blocks.old.items 1 blocks.new.items) }
+{
+    reach(blocks, u32::from(number / 8))?;
+    Ok(Slot {
+        block: (blocks.len() - 1) as u16,
+        key: (number % 8) as u8,
+    })
+}
+
+/// Adds a block where it is not the last.
+fn reach(blocks: &mut Vec<u32>, block: u32) -> Result<(), AllocError>
+    requires { block < 2 ^ 13 }
+    ensures last { OnOk result (IsLast blocks.new.items block) }
+    ensures blocks { OnOk result (Extends blocks.old.items 1 blocks.new.items) }
+{
+    if is_last(blocks, block) {
+        return Ok(());
+    }
+    blocks.push(block)?;
+    Ok(())
+}
+
+/// Whether a block is the last.
+fn is_last(blocks: &[u32], block: u32) -> bool
+    ensures { IsTrue result → IsLast blocks.now block }
+{
+    !blocks.is_empty() && blocks[blocks.len() - 1] == block
+}

@@ -1,0 +1,154 @@
+-- Counts of deliveries by the slots of their edges.
+use Rattle.std.proofs.Common.{◌≡◌, ◌∙◌, inl, inr, ℕ, ◌+◌, ◌*◌, ◌^◌, ◌<◌, ◌≤◌, ◌==◌, Bool, true, false, not, nat_lt, nat_le, cond, min, List, [], ◌∷◌, ◌++◌, length, map, take, slice_index, slice_index_or, refl, ap, sym, zero-add, arith}
+use Rattle.std.specs.List.{All, count_by, range_with_len, flat_map}
+use Rattle.std.proofs.lemmas.Bool.{cases_Bool, cases_lt, cases_eq, lt-ltb, le-ltb, eq-eqb, ne_eqb}
+use Rattle.std.proofs.lemmas.Bool.Decides.{nat_tests}
+use Rattle.std.proofs.lemmas.Grind.{flat_map-append}
+use Rattle.std.proofs.lemmas.List.{append-nil, length-map}
+use Rattle.std.proofs.lemmas.List.Sums.{count_by-le-length, count_by_more_no, count_by_more_yes, sum_by-cons}
+use Rattle.cut_lists.proofs.Maps.{count_by-map}
+use Rattle.cut_lists.proofs.Ranges.{range_with_len_more}
+use Rattle.cut_rings.specs.declared.edge.Edge.{Edge}
+use Rattle.cut_draws.specs.declared.delivery.Delivery.{Delivery}
+use Rattle.cut_draws.specs.DeliveryOrder.{copies_of}
+use Rattle.cut_draws.specs.Source.{Source}
+unfoldable use Rattle.cut_blocks.specs.Images.{least_image}
+use Rattle.cut_blocks.specs.Images.{never, eight, image_at, place_in, row_of, DeliveriesStandInBlocks, ImagesAreBelowNever}
+use Rattle.cut_arrivals.specs.Hearing.{Hearing, image_of}
+use Rattle.cut_nodes.specs.declared.slots.Slot.{Slot}
+use Rattle.cut_nodes.specs.Slots.{AreSlots, key_in, key_of}
+use Rattle.cut_receivers.specs.Places.{image_in, count_below}
+use Rattle.cut_receivers.proofs.Bounds.{map_agree}
+use Rattle.cut_receivers.proofs.Drawn.{image_drawn}
+
+-- one element more
+pub count_more : {X : Type 0} (p : X → Bool) (xs : List X) (n : ℕ) (d : X) → n < length xs
+    → count_by p (take (n + 1) xs) ≡ count_by p (take n xs) + cond (p (slice_index_or xs n d)) 1 0
+count_more p xs n d low = elim (cases_Bool (p (slice_index_or xs n d))) [
+  | inl passes ↦ count_by_more_yes p xs n d low passes ∙ ap (λ b. count_by p (take n xs) + cond b 1 0) (sym passes)
+  | inr fails ↦ (
+      let same = count_by_more_no p xs n d low fails in
+      let none : cond {A = ℕ} (p (slice_index_or xs n d)) 1 0 ≡ 0 = ap (λ b. cond {A = ℕ} b 1 0) fails in
+      omega (arith, same, none))
+]
+
+count_append : {X : Type 0} (p : X → Bool) (xs ys : List X) → count_by p (xs ++ ys) ≡ count_by p xs + count_by p ys
+count_append p [] ys = sym (zero-add (count_by p ys))
+count_append p (x ∷ xs) ys =
+    sum_by-cons _ x (xs ++ ys) ∙ ap (λ n. cond (p x) 1 0 + n) (count_append p xs ys)
+    ∙ (let front = sum_by-cons (λ z. cond {A = ℕ} (p z) 1 0) x xs in omega (arith, front))
+
+-- tests that agree on all elements
+count_agree : {X : Type 0} (p q : X → Bool) (xs : List X) → All (λ x. p x ≡ q x) xs → count_by p xs ≡ count_by q xs
+count_agree p q xs same =
+    sym (count_by-map (λ b. b) p xs) ∙ ap (λ (bs : List Bool). count_by (λ b. b) bs) (map_agree p q xs same)
+    ∙ count_by-map (λ b. b) q xs
+
+-- the image of a key of one copy
+one_image : ImagesAreBelowNever → (d : Source) (b q row : ℕ)
+    → least_image d 1 b q row ≡ image_at d (place_in (row + b) q)
+unfolding least_image
+one_image below d b q row =
+    let same : row + (b + 0 * 2 ^ 24) ≡ row + b = omega arith in
+    ap (λ (m : ℕ). min never (image_at d (place_in m q))) same
+    ∙ (let low = below d (place_in (row + b) q) in omega (arith, low))
+
+-- in lane i of the images that are drawn for a copy, as many slots are below a bound as deliveries of that copy
+pub copy_counted : DeliveriesStandInBlocks → ImagesAreBelowNever
+    → (x : Hearing) (c i bound : ℕ) (js blocks : List ℕ) (slots : List Slot)
+    (images : List (List (List ℕ)))
+    → images ≡ map (λ block. eight (least_image x.source 1 block) (map (λ j. row_of c j) js)) blocks
+    → length js ≡ 4 → i < 4 → x.receiver ≡ slice_index js i → AreSlots x.rule.k blocks x.edges slots
+    → count_by (λ slot. nat_lt (image_in images i slot) bound) slots ≡ count_by (λ y. nat_lt (image_of x y) bound)
+    (copies_of x.edges c)
+copy_counted stand below x c i bound js blocks slots images drawn four low who are =
+    let k : ℕ = x.rule.k in
+    let image : ℕ × ℕ → ℕ = λ key. image_at x.source (place_in (row_of c x.receiver + key.0) key.1) in
+    let test : ℕ × ℕ → Bool = λ key. nat_lt (image key) bound in
+    let of : Edge → Delivery = λ e. record { edge = e; copy = c } in
+    let at : (slot : Slot) → slot.block < length blocks → slot.key < 8
+    → image_in images i slot ≡ image (key_in blocks slot) =
+    λ slot inside few.
+    ap (λ (vs : List (List (List ℕ))). image_in vs i slot) drawn
+    ∙ image_drawn (λ block q row. least_image x.source 1 block q row)
+    (λ j. row_of c j) js blocks slot.block slot.key i four inside few low
+    ∙ one_image below x.source (slice_index blocks slot.block) slot.key (row_of c (slice_index js i))
+    ∙ ap (λ (j : ℕ). image_at x.source (place_in (row_of c j + slice_index blocks slot.block) slot.key)) (sym who) in
+    count_agree (λ slot. nat_lt (image_in images i slot) bound) (λ slot. test (key_in blocks slot)) slots
+    (λ n d inside. ap (λ (m : ℕ). nat_lt m bound) (at (slice_index_or slots n d) (are.within n d inside)
+    (are.eight n d inside)))
+    ∙ sym (count_by-map test (λ slot. key_in blocks slot) slots)
+    ∙ ap (λ (ks : List (ℕ × ℕ)). count_by test ks) are.keys
+    ∙ count_by-map test (λ e. key_of k e) x.edges
+    ∙ count_agree (λ e. test (key_of k e)) (λ e. nat_lt (image_of x (of e)) bound) x.edges
+    (λ n d inside. ap (λ (m : ℕ). nat_lt (image_at x.source m) bound) (sym (stand x.receiver k (of
+    (slice_index_or x.edges n d)))))
+    ∙ sym (count_by-map (λ y. nat_lt (image_of x y) bound) of x.edges)
+
+-- one copy more
+pub below_more : (x : Hearing) (c bound : ℕ)
+    → count_below x (c + 1) bound ≡ count_below x c bound + count_by (λ y. nat_lt (image_of x y) bound)
+    (copies_of x.edges c)
+below_more x c bound =
+    let p : Delivery → Bool = λ y. nat_lt (image_of x y) bound in
+    let f : ℕ → List Delivery = λ c. copies_of x.edges c in
+    let more : count_below x (c + 1) bound ≡ count_by p (flat_map f (range_with_len 0 c)) + count_by p
+    (copies_of x.edges c ++ []) =
+    ap (λ (cs : List ℕ). count_by p (flat_map f cs)) (range_with_len_more 0 c c (omega arith))
+    ∙ ap (λ (ys : List Delivery). count_by p ys) (flat_map-append f (range_with_len 0 c) (c ∷ []))
+    ∙ count_append p (flat_map f (range_with_len 0 c)) (flat_map f (c ∷ [])) in
+    more ∙ ap (λ (ys : List Delivery). count_below x c bound + count_by p ys) (append-nil (copies_of x.edges c))
+
+-- what has an image up to a time has it before the next one, and is before it or at it
+pub count_until : (f : Delivery → ℕ) (time : ℕ) (ys : List Delivery)
+    → count_by (λ y. nat_le (f y) time) ys ≡ count_by (λ y. nat_lt (f y) (time + 1)) ys
+count_until f time ys = count_agree _ _ ys (λ n d inside. next (f (slice_index_or ys n d)))
+  where
+    next : (m : ℕ) → nat_le m time ≡ nat_lt m (time + 1)
+    next m = grind (arith, nat_tests)
+
+one_at : (m time : ℕ) → cond {A = ℕ} (nat_lt m (time + 1)) 1 0 ≡ cond (nat_lt m time) 1 0 + cond (m == time) 1 0
+one_at m time = elim (cases_lt m time) [
+  | inl before ↦ rw (
+    lt-ltb m (time + 1) (omega (arith, before)),
+    lt-ltb m time before,
+    ne_eqb m time (λ same. omega
+        (arith, before, same)),
+  ) refl
+  | inr more ↦ elim (cases_eq m time) [
+    | inl same ↦ rw (lt-ltb m (time + 1) (omega (arith, same)), le-ltb m time more, eq-eqb m time same) refl
+    | inr other ↦ rw (le-ltb m (time + 1) (omega (arith, more, other)), le-ltb m time more, ne_eqb m time other) refl
+  ]
+]
+
+pub count_at : (f : Delivery → ℕ) (time : ℕ) (ys : List Delivery)
+    → count_by (λ y. nat_lt (f y) (time + 1)) ys ≡ count_by (λ y. nat_lt (f y) time) ys + count_by (λ y. f y == time) ys
+count_at f time [] = refl
+count_at f time (y ∷ ys) =
+    let next = sum_by-cons (λ z. cond {A = ℕ} (nat_lt (f z) (time + 1)) 1 0) y ys in
+    let before = sum_by-cons (λ z. cond {A = ℕ} (nat_lt (f z) time) 1 0) y ys in
+    let at = sum_by-cons (λ z. cond {A = ℕ} (f z == time) 1 0) y ys in
+    omega (arith, next, before, at, count_at f time ys, one_at (f y) time)
+
+pub copy_more : DeliveriesStandInBlocks → ImagesAreBelowNever
+    → (x : Hearing) (c i bound : ℕ) (js blocks : List ℕ) (slots : List Slot)
+    (images : List (List (List ℕ))) (old new : ℕ)
+    → images ≡ map (λ block. eight (least_image x.source 1 block) (map (λ j. row_of c j) js)) blocks
+    → length js ≡ 4 → i < 4 → x.receiver ≡ slice_index js i → AreSlots x.rule.k blocks x.edges slots
+    → new ≡ old + count_by (λ slot. nat_lt (image_in images i slot) bound) slots → old ≡ count_below x c bound
+    → new ≡ count_below x (c + 1) bound
+copy_more stand below x c i bound js blocks slots images old new drawn four low who are more is =
+    omega (arith, more, is, copy_counted stand below x c i bound js blocks slots images drawn four low who are, below_more x c bound)
+
+pub few_more : (c k : ℕ) (blocks : List ℕ) (edges : List Edge) (slots : List Slot) (test : Slot
+    → Bool) (old new : ℕ) → AreSlots k blocks edges slots
+    → length edges ≤ 2 ^ 16 → new ≡ old + count_by test slots → old ≤ c * 2 ^ 16 → new ≤ (c + 1) * 2 ^ 16
+few_more c k blocks edges slots test old new are few more is =
+    let same : length slots ≡ length edges =
+    sym (length-map slots (λ slot. key_in blocks slot)) ∙ ap (λ (ks : List (ℕ × ℕ)). length ks) are.keys
+    ∙ length-map edges (λ e. key_of k e) in
+    omega (arith, more, is, few, same, count_by-le-length test slots)
+
+pub not_false : (b : Bool) → not b ≡ false → b ≡ true
+not_false true is = refl
+not_false false is = sym is

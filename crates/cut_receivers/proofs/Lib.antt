@@ -1,0 +1,13 @@
+mod Choices
+mod Drawn
+mod Bounds
+mod Heard
+mod Placed
+mod Pairs
+mod Flags
+mod Marks
+mod Judged
+mod Counted
+mod Kept
+mod Counts
+mod Proposed

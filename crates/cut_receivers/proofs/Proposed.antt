@@ -1,0 +1,55 @@
+-- At which place a lane's receiver proposes.
+use Rattle.std.proofs.Common.{◌≡◌, ◌∙◌, inl, inr, ℕ, ◌<◌, ◌≤◌, ◌==◌, false, nat_lt, nat_le, List, length, slice_index, Option, IfSome, sym, subst, arith}
+use Rattle.std.specs.List.{count_by}
+use Rattle.std.proofs.lemmas.Bool.{cases_Bool}
+use Rattle.cut_detector.specs.declared.proposal.Proposal.{Proposal}
+use Rattle.cut_draws.specs.declared.delivery.Delivery.{Delivery}
+use Rattle.cut_blocks.specs.Images.{never}
+use Rattle.cut_lanes.specs.Lanes.{lane}
+use Rattle.cut_arrivals.specs.Laws.{ClosesAtPlace}
+use Rattle.cut_arrivals.specs.Hearing.{Hearing, deliveries_of, image_of, proposal_at}
+use Rattle.cut_receivers.specs.declared.receivers.Receivers as declared
+use Rattle.cut_receivers.specs.declared.places.Places as counted
+use Rattle.cut_receivers.specs.Heard.{HasHeard}
+use Rattle.cut_receivers.specs.Findings.{has_bit}
+use Rattle.cut_receivers.specs.Places.{HasCounted}
+use Rattle.cut_receivers.proofs.Bounds.{high_within}
+use Rattle.cut_receivers.proofs.Choices.{length_lane}
+use Rattle.cut_receivers.proofs.Placed.{lane_long}
+use Rattle.cut_receivers.proofs.Judged.{closed, sure_of, high_at}
+use Rattle.cut_receivers.proofs.Counts.{count_until, count_at}
+
+-- no closing time is after `never`
+pub time_within : (x : Hearing) (subjects : List ℕ) (i : ℕ) (f : declared.Receivers) → HasHeard x subjects i f
+    → slice_index f.closing.time i ≤ never
+time_within x subjects i f h =
+    let many : length (lane i f.lows.items) ≡ length subjects = length_lane i f.lows.items
+    ∙ lane_long i _ subjects f.lows.items h.lows in
+    let ended : (u : ℕ) → u < length (lane i f.lows.items) → slice_index (lane i f.highs.items) u ≤ never =
+    λ u low. subst (λ m. m ≤ never) (sym (high_at x subjects i f h u (omega (arith, low, many)))) (high_within x
+    (slice_index subjects u)) in
+    h.closing.least never (record { begun = λ u low _. ended u low; before = λ u low _. ended u low })
+
+pub placed : ClosesAtPlace → (x : Hearing) (subjects : List ℕ) (i : ℕ) (f : declared.Receivers)
+    (p : counted.Places) → HasHeard x subjects i f
+    → has_bit f.closing.doubt i ≡ false → HasCounted x (slice_index f.closing.time i) i p → has_bit p.doubt i ≡ false
+    → IfSome (proposal_at x) (λ q. q.at ≡ slice_index p.until i)
+placed law x subjects i f p h clear counts apart =
+    let t : ℕ = slice_index f.closing.time i in
+    let ys : List Delivery = deliveries_of x in
+    let one : count_by (λ y. image_of x y == t) ys ≤ 1 = omega (
+      arith,
+      count_at
+          (λ y. image_of x y) t ys,
+      counts.sure apart,
+    ) in
+    let proposed = law x never (lane i f.lows.items) (lane i f.highs.items)
+    (slice_index f.closing.first i) t h.hearing (omega arith)
+    (closed x subjects i f h (sure_of x subjects i f h clear)) one in
+    let place : count_by (λ y. nat_le (image_of x y) t) ys ≡ slice_index p.until i =
+    count_until (λ y. image_of x y) t ys ∙ sym counts.until in
+    subst (λ (o : Option Proposal). IfSome o (λ q. q.at ≡ slice_index p.until i)) (sym proposed)
+    (elim (cases_Bool (nat_lt t never)) [
+      | inl comes ↦ rw comes place
+      | inr not ↦ rw not tt
+    ])

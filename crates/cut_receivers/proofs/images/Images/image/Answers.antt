@@ -1,0 +1,18 @@
+use Rattle.std.proofs.Common.{◌∙◌, ℕ, List, ap, slice_index, slice_index_or, []}
+use Rattle.cut_blocks.specs.Images.{least_image, row_of}
+use Rattle.cut_receivers.proofs.Drawn.{image_drawn}
+use Rattle.cut_receivers.proofs.images.Images.image.Goals as goal
+
+pub returns : goal.returns
+returns c i low =
+    let images = c.args.self.now in
+    let trial = images.trial in
+    ap (λ (b : ℕ). slice_index (slice_index_or
+    (slice_index_or images.drawn.now b []) c.from-2.result []) i) c.from.ensures
+    ∙ ap (λ (q : ℕ). slice_index (slice_index_or
+    (slice_index_or images.drawn.now c.args.slot.block []) q []) i) c.from-2.ensures
+    ∙ ap (λ (vs : List (List (List ℕ))). slice_index (slice_index_or
+    (slice_index_or vs c.args.slot.block []) c.args.slot.key []) i) images.are_drawn
+    ∙ image_drawn (λ block q row. least_image trial.blocks.now trial.copies block q row)
+    (λ j. row_of 0 j) images.receivers
+    trial.nodes.now.blocks.items c.args.slot.block c.args.slot.key i images.four c.requires.block c.requires.key low

@@ -1,0 +1,25 @@
+use Rattle.std.proofs.Common.{◌≡◌, ◌∙◌, ℕ, Bool, nat_lt, cond, List, [], slice_index, slice_index_or, ap}
+use Rattle.cut_lanes.specs.Lanes.{lane}
+use Rattle.cut_receivers.proofs.Choices.{value_lane}
+use Rattle.cut_receivers.proofs.Marks.{mark_late, mark_ended}
+use Rattle.cut_receivers.proofs.lanes.others.Goals.{then-wanted-place, else-wanted-place}
+use Rattle.cut_receivers.proofs.lanes.others.Goals as goal
+
+pub loop-place-preserved : goal.loop-place-preserved
+loop-place-preserved c i low =
+    let place : ℕ = c.loop-place.place in
+    let t : ℕ = slice_index c.args.time i in
+    let highs : List ℕ = lane i c.args.highs.now in
+    let flags : List Bool = c.args.wanted.now in
+    let high : slice_index
+    (slice_index_or c.args.highs.now place []) i ≡ slice_index highs place = value_lane i place c.args.highs.now c.loop-place-test.true in
+    elim c.if-wanted-place.branch [
+      | then-wanted-place w ↦ ap (λ (v : List ℕ). slice_index v i) w.next-is ∙ w.marked_late-next.ensures i low
+          ∙ ap (λ (h : ℕ). cond (nat_lt t h) 1 (slice_index c.loop-place.marks i)) high
+          ∙ mark_late t highs flags place (slice_index c.loop-place.marks i) w.if-wanted-place.true
+          (c.loop-place.invariant i low)
+      | else-wanted-place w ↦ ap (λ (v : List ℕ). slice_index v i) w.next-is ∙ w.marked_ended-next.ensures i low
+          ∙ ap (λ (h : ℕ). cond (nat_lt t h) (slice_index c.loop-place.marks i) 1) high
+          ∙ mark_ended t highs flags place (slice_index c.loop-place.marks i) w.if-wanted-place.false
+          (c.loop-place.invariant i low)
+    ]

@@ -1,0 +1,35 @@
+use Rattle.std.proofs.Common.{◌≡◌, ◌∙◌, ℕ, Bool, not, nat_lt, cond, List, length, filter, slice_index, ap}
+use Rattle.cut_blocks.specs.Images.{never}
+use Rattle.cut_lanes.specs.Lanes.{lane}
+use Rattle.cut_ranks.specs.Closing.{is_doubtful}
+use Rattle.cut_receivers.specs.Findings.{flagged, has_bit, is_other, members_at}
+use Rattle.cut_receivers.proofs.Judged.{has_ended, members_are, wanted_members, other_members, bit_is, silent_bit, found}
+use Rattle.cut_receivers.proofs.Placed.{lane_long}
+use Rattle.cut_receivers.proofs.receivers.Receivers.judge.Goals as goal
+
+pub returns-clause-finds : goal.returns-clause-finds
+returns-clause-finds c x subjects i low h =
+    let f = c.args.self.now in
+    let flags : List Bool = c.args.wanted.now in
+    let first : ℕ = slice_index f.closing.first i in
+    let time : ℕ = slice_index f.closing.time i in
+    let highs : List (List ℕ) = f.highs.items in
+    let m : ℕ = length highs in
+    let doubted : Bool = is_doubtful (lane i f.lows.items) first time in
+    let comes : Bool = nat_lt time never in
+    let other : Bool = is_other time (lane i highs) flags m in
+    let many : m ≡ length subjects = lane_long i _ subjects highs h.highs in
+    let long : length flags ≡ length subjects = c.requires ∙ many in
+    let doubt_bit : has_bit f.closing.doubt i ≡ doubted = bit_is doubted _ h.doubt in
+    let silent_is : has_bit c.bits_of.result i ≡ not comes = silent_bit comes _ _ (c.bits_of.ensures i low)
+    (c.silences.ensures i low) in
+    let other_is : has_bit c.bits_of-2.result i ≡ other =
+    bit_is other _ (c.bits_of-2.ensures i low ∙ ap (λ b. cond {A = ℕ} b 1 0) (bit_is other _
+    (c.others.ensures i low ∙ ap (λ (vs : List (List ℕ)). cond {A = ℕ} (is_other time (lane i vs) flags
+    (length vs)) 1 0) c.as_slice.ensures.value))) in
+    rw (doubt_bit, silent_is, other_is)
+    (found doubted comes other (members_at x) (filter (λ s. has_ended x subjects i f h s) subjects)
+    (flagged subjects flags)
+    (members_are x subjects i f h c.images_tell_the_members.ensures c.nodes_tell_the_verdict.ensures.other)
+    (wanted_members x subjects i f h flags m long many)
+    (other_members x subjects i f h flags m long many))

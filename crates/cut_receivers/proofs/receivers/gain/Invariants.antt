@@ -1,0 +1,11 @@
+use Rattle.std.proofs.Common.{◌≡◌, length, vec_capacity}
+use Rattle.cut_receivers.specs.Times.{AreHighsTo}
+use Rattle.cut_receivers.proofs.receivers.gain.Given as goal
+
+-- the highs of the nodes so far, and of those that gain no ring
+abbrev pub invariant-loop-place : goal.invariant-loop-place
+invariant-loop-place l = record {
+  highs : AreHighsTo l.images l.place l.highs;
+  many : length l.highs ≡ length l.images.trial.nodes.now.nodes.items;
+  values : vec_capacity l.values ≡ vec_capacity l.initial.values;
+}

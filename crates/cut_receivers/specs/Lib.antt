@@ -1,0 +1,4 @@
+pub mod Heard
+pub mod Times
+pub mod Findings
+pub mod Places

@@ -1,0 +1,65 @@
+-- The times of nodes in a lane, by the keys that are drawn.
+use Rattle.std.specs.Prelude.{◌≡◌, ℕ, ◌<◌, false, List, [], map, min, max, length, slice_index, slice_index_or, Option, Some, None, ◌⊎◌}
+use Rattle.cut_detector.specs.Rule.{rule_in}
+use Rattle.cut_rings.specs.Edges.{set_of}
+use Rattle.cut_blocks.specs.Images.{never, row_of, least_image}
+use Rattle.cut_lanes.specs.Lanes.{lane}
+use Rattle.cut_arrivals.specs.Hearing.{Hearing, lows_at, highs_at}
+use Rattle.cut_nodes.specs.declared.node.Node.{Node}
+use Rattle.cut_nodes.specs.Nodes.{IsNode, subjects_of}
+use Rattle.cut_receivers.specs.declared.trial.Trial.{Trial}
+use Rattle.cut_receivers.specs.declared.images.Images.{Images}
+use Rattle.cut_receivers.specs.Heard.{hearing_of}
+
+-- the receiver in lane i
+abbrev pub hearing_in : Images → ℕ → Hearing
+hearing_in images i = hearing_of images.trial (slice_index images.receivers i)
+
+-- the subjects of the nodes
+abbrev pub subjects_in : Images → List ℕ
+subjects_in images = subjects_of images.trial.nodes.now.nodes.items
+
+-- the least image over the copies of a key of a block
+abbrev pub image_of_key : Hearing → ℕ × ℕ → ℕ
+image_of_key x key = least_image x.source x.copies key.0 key.1 (row_of 0 x.receiver)
+
+-- the image of a key that may not be there
+abbrev pub image_if : Hearing → Option (ℕ × ℕ) → ℕ
+image_if x None = never
+image_if x (Some key) = image_of_key x key
+
+-- from an image on, or earlier where an observer may add the ring for s once both are reported
+abbrev pub time_if : Hearing → ℕ → ℕ → Option ℕ → ℕ
+time_if x s image None = image
+time_if x s image (Some o) = min image (max (lows_at x never s) (lows_at x never o))
+
+-- from when on a ring counts for s, by what makes it count
+abbrev pub time_of_cause : Hearing → ℕ → Option (ℕ × ℕ) × Option ℕ → ℕ
+time_of_cause x s cause = time_if x s (image_if x cause.0) cause.1
+
+-- a node of a trial, and its subject is a process
+pub record IsNodeOf (t : Trial) (d : Node) : Type 0 where
+  pub process : d.subject < t.rings.now.nodes
+  pub node : IsNode t.rings.now (rule_in t.rule) (set_of t.edges.now) t.nodes.now.blocks.items
+      (subjects_of t.nodes.now.nodes.items) d
+
+-- lows of all nodes
+abbrev pub AreLows : Images → List (List ℕ) → Type 0
+AreLows images lows = (i : ℕ) → i < 4
+    → lane i lows ≡ map (λ s. lows_at (hearing_in images i) never s) (subjects_in images)
+
+-- highs of all nodes
+abbrev pub AreHighs : Images → List (List ℕ) → Type 0
+AreHighs images highs = (i : ℕ) → i < 4
+    → lane i highs ≡ map (λ s. highs_at (hearing_in images i) never s) (subjects_in images)
+
+-- a vector has the highs of s
+abbrev pub IsHigh : Images → ℕ → List ℕ → Type 0
+IsHigh images s high = (i : ℕ) → i < 4 → slice_index high i ≡ highs_at (hearing_in images i) never s
+
+-- the highs of the first n nodes, and of those that gain no ring
+abbrev pub AreHighsTo : Images → ℕ → List (List ℕ) → Type 0
+AreHighsTo images n highs =
+    (u : ℕ) (d : Node) → u < length highs
+    → (u < n) ⊎ ((slice_index_or images.trial.nodes.now.nodes.items u d).gains ≡ false)
+    → IsHigh images (slice_index_or images.trial.nodes.now.nodes.items u d).subject (slice_index_or highs u [])

@@ -1,0 +1,124 @@
+ghost use Rattle.std.specs.Prelude.{◌≡◌, ℕ, ◌<◌, ◌≤◌, length, slice_index, All, OnOk, vec_len, vec_capacity};
+ghost use Rattle.cut_nodes.specs.Nodes.{subjects_of};
+ghost use Rattle.cut_receivers.specs.Heard.{hearing_of, HasHeard};
+ghost use Rattle.cut_receivers.specs.Times.{AreLows, AreHighs, AreHighsTo};
+
+use crate::Trial;
+use crate::images::Images;
+use crate::lanes::rows_of;
+use cut_arrivals::laws::receivers_end_alike;
+use cut_lanes::{Closing, close};
+use std::alloc::{AllocError, Global};
+use std::simd::u32x4;
+
+/// How many values of a node there is room for: one for each ring.
+const RINGS: usize = 32;
+
+/// The times of four receivers, in memory that all receivers of a study share.
+#[derive(Debug, Drop)]
+pub struct Receivers {
+    /// From when on each node is reported.
+    pub lows: Vec<u32x4>,
+    /// From when on each node is stable.
+    pub highs: Vec<u32x4>,
+    /// When each receiver proposes, and where that is in doubt.
+    pub closing: Closing,
+    pub(crate) images: Vec<[u32x4; 8]>,
+    values: Vec<u32x4>,
+}
+
+impl Receivers {
+    /// No times yet.
+    pub fn new(alloc: Global) -> Receivers {
+        let zero = u32x4::splat(0);
+        Receivers {
+            lows: Vec::new(alloc),
+            highs: Vec::new(alloc),
+            closing: Closing {
+                first: zero,
+                time: zero,
+                doubt: 0,
+            },
+            images: Vec::new(alloc),
+            values: Vec::new(alloc),
+        }
+    }
+
+    /// Computes the times of four receivers, which may be the same. Fails only where memory runs out.
+    pub fn hear(&mut self, trial: Trial<'_>, receivers: [u16; 4]) -> Result<(), AllocError>
+        requires receivers { All (λ j. j < 2048) receivers }
+        requires some { 0 < length trial.nodes.now.nodes.items }
+        ensures { OnOk result ((i : ℕ) → i < 4 → HasHeard (hearing_of trial.entry (slice_index receivers i))
+            (subjects_of trial.entry.nodes.now.nodes.items) i self.new) }
+    {
+        self.reserve(trial.nodes.nodes.len())?;
+        let rows = rows_of(receivers, 0);
+        let blocks = trial.nodes.blocks.as_slice();
+        trial
+            .blocks
+            .draw(&mut self.images, u32::from(trial.copies), rows, blocks)?;
+        let images = Images {
+            trial,
+            receivers,
+            drawn: self.images.as_slice(),
+        };
+        receivers_end_alike();
+        rank(&images, &mut self.values, &mut self.lows, &mut self.highs);
+        gain(
+            &images,
+            &mut self.values,
+            self.lows.as_slice(),
+            &mut self.highs,
+        );
+        self.closing = close(self.lows.as_slice(), self.highs.as_slice());
+        Ok(())
+    }
+
+    /// Makes room for the times of so many nodes.
+    fn reserve(&mut self, nodes: usize) -> Result<(), AllocError>
+        ensures lows { OnOk result (nodes ≤ vec_capacity self.new.lows) }
+        ensures highs { OnOk result (nodes ≤ vec_capacity self.new.highs) }
+        ensures values { OnOk result (32 ≤ vec_capacity self.new.values) }
+    {
+        self.lows.clear();
+        self.lows.reserve(nodes)?;
+        self.highs.clear();
+        self.highs.reserve(nodes)?;
+        self.values.clear();
+        self.values.reserve(RINGS)
+    }
+}
+
+/// From when on each node is reported, and from when on it is stable if it gains no ring.
+fn rank(images: &Images<'_>, values: &mut Vec<u32x4>, lows: &mut Vec<u32x4>, highs: &mut Vec<u32x4>)
+    requires values { 32 ≤ vec_capacity values.old }
+    requires lows { length images.now.trial.nodes.now.nodes.items ≤ vec_capacity lows.old }
+    requires highs { length images.now.trial.nodes.now.nodes.items ≤ vec_capacity highs.old }
+    ensures values { vec_capacity values.new ≡ vec_capacity values.old }
+    ensures lows { AreLows images.now lows.new.items }
+    ensures highs { AreHighsTo images.now 0 highs.new.items }
+    ensures many { length highs.new.items ≡ length images.now.trial.nodes.now.nodes.items }
+{
+    lows.clear();
+    highs.clear();
+    for node in &images.trial.nodes.nodes {
+        let (low, high) = images.times(values, node);
+        lows.push_reserved(low);
+        highs.push_reserved(high);
+    }
+}
+
+/// From when on each node is stable with the rings that it gains.
+fn gain(images: &Images<'_>, values: &mut Vec<u32x4>, lows: &[u32x4], highs: &mut [u32x4])
+    requires values { 32 ≤ vec_capacity values.old }
+    requires lows { AreLows images.now lows.now }
+    requires highs { AreHighsTo images.now 0 highs.old }
+    requires many { length highs.old ≡ length images.now.trial.nodes.now.nodes.items }
+    ensures { AreHighs images.now highs.new }
+{
+    for (place, node) in images.trial.nodes.nodes.iter().enumerate() {
+        if node.gains {
+            highs[place] = images.stable_from(values, lows, lows[place], node);
+        }
+    }
+}

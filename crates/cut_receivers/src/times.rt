@@ -1,0 +1,108 @@
+//! From when on nodes are reported and stable at four receivers, by images.
+ghost use Rattle.std.specs.Prelude.{◌≡◌, ℕ, ◌<◌, ◌≤◌, false, All, map, length, slice_index, vec_capacity};
+ghost use Rattle.cut_blocks.specs.Images.{never};
+ghost use Rattle.cut_ranks.specs.Ranks.{IsRank};
+ghost use Rattle.cut_lanes.specs.Lanes.{lane};
+ghost use Rattle.cut_arrivals.specs.Hearing.{lows_at, highs_at};
+ghost use Rattle.cut_nodes.specs.Nodes.{IsWithin, cause_in};
+ghost use Rattle.cut_receivers.specs.Times.{hearing_in, subjects_in, IsNodeOf, AreLows, IsHigh, time_of_cause};
+
+use crate::images::Images;
+use crate::lanes::earlier;
+use cut_arrivals::laws::{few_values_tell_lows_and_highs, images_stand_in_blocks};
+use cut_blocks::NEVER;
+use cut_detector::Rule;
+use cut_lanes::select;
+use cut_nodes::{Cause, Node};
+use std::simd::u32x4;
+
+impl Images<'_> {
+    /// From when on a node is reported, and from when on it is stable if it gains no ring.
+    #[inline(always)]
+    pub fn times(&self, values: &mut Vec<u32x4>, node: &Node) -> (u32x4, u32x4)
+        requires node { IsNodeOf self.now.trial node.now }
+        requires room { 32 ≤ vec_capacity values.old }
+        ensures low { (i : ℕ) → i < 4
+            → slice_index result.0 i ≡ lows_at (hearing_in self.now i) never node.now.subject }
+        ensures high { node.now.gains ≡ false → IsHigh self.now node.now.subject result.1 }
+        ensures capacity { vec_capacity values.new ≡ vec_capacity values.old }
+    {
+        images_stand_in_blocks();
+        few_values_tell_lows_and_highs();
+        self.gather(values, node.heard.as_slice());
+        ranks(self.trial.rule, values.as_slice())
+    }
+
+    /// From when on a node is stable with the rings that it gains, by the lows of all nodes and its own.
+    #[inline(always)]
+    pub fn stable_from(
+        &self,
+        values: &mut Vec<u32x4>,
+        lows: &[u32x4],
+        low: u32x4,
+        node: &Node,
+    ) -> u32x4
+        requires node { IsNodeOf self.now.trial node.now }
+        requires lows { AreLows self.now lows.now }
+        requires low { (i : ℕ) → i < 4
+            → slice_index low i ≡ lows_at (hearing_in self.now i) never node.now.subject }
+        requires room { 32 ≤ vec_capacity values.old }
+        ensures high { IsHigh self.now node.now.subject result }
+        ensures capacity { vec_capacity values.new ≡ vec_capacity values.old }
+    {
+        images_stand_in_blocks();
+        few_values_tell_lows_and_highs();
+        self.gather_counted(values, lows, low, node);
+        let (_, high) = ranks(self.trial.rule, values.as_slice());
+        high
+    }
+
+    /// From when on each ring that counts for a node in the end does so, in place of what the list held.
+    #[inline(always)]
+    fn gather_counted(&self, values: &mut Vec<u32x4>, lows: &[u32x4], low: u32x4, node: &Node)
+        requires node { IsNodeOf self.now.trial node.now }
+        requires lows { AreLows self.now lows.now }
+        requires low { (i : ℕ) → i < 4
+            → slice_index low i ≡ lows_at (hearing_in self.now i) never node.now.subject }
+        requires room { 32 ≤ vec_capacity values.old }
+        ensures times { (i : ℕ) → i < 4 → lane i values.new.items
+            ≡ map (λ c. time_of_cause (hearing_in self.now i) node.now.subject
+            (cause_in self.now.trial.nodes.now.blocks.items (subjects_in self.now) c)) node.now.causes.items }
+        ensures many { length values.new.items ≡ length node.now.causes.items }
+        ensures capacity { vec_capacity values.new ≡ vec_capacity values.old }
+    {
+        values.clear();
+        for cause in &node.causes {
+            values.push_reserved(self.counted_from(lows, low, *cause));
+        }
+    }
+
+    /// From when on a ring counts for a node that is reported from `low` on.
+    #[inline(always)]
+    fn counted_from(&self, lows: &[u32x4], low: u32x4, cause: Cause) -> u32x4
+        requires cause { IsWithin self.now.trial.nodes.now.blocks.items (subjects_in self.now) cause }
+        requires lows { AreLows self.now lows.now }
+        ensures { (i s : ℕ) → i < 4 → slice_index low i ≡ lows_at (hearing_in self.now i) never s
+            → slice_index result i ≡ time_of_cause (hearing_in self.now i) s
+            (cause_in self.now.trial.nodes.now.blocks.items (subjects_in self.now) cause) }
+    {
+        let image = match cause.heard {
+            Some(slot) => self.image(slot),
+            None => u32x4::splat(NEVER),
+        };
+        match cause.gained {
+            Some(place) => earlier(image, low, lows[usize::from(place)]),
+            None => image,
+        }
+    }
+}
+
+/// The ranks of times that make a node reported and stable.
+fn ranks(rule: Rule, times: &[u32x4]) -> (u32x4, u32x4)
+    requires few { length times.now ≤ 32 }
+    requires times { (i : ℕ) → i < 4 → All (λ x. x ≤ never) (lane i times.now) }
+    ensures low { (i : ℕ) → i < 4 → IsRank never rule.l (lane i times.now) (slice_index result.0 i) }
+    ensures high { (i : ℕ) → i < 4 → IsRank never rule.h (lane i times.now) (slice_index result.1 i) }
+{
+    select(times, u32::from(rule.l), u32::from(rule.h))
+}
