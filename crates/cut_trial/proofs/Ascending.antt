@@ -1,11 +1,14 @@
 -- Ascending members and the targets among them, by counts.
-use Rattle.std.proofs.Common.{◌≡◌, ℕ, ◌+◌, not, List, Option, Some, None, option_map, length, nat_lt, sym, ap, ◌∙◌, arith}
-use Rattle.cut_trial.proofs.Words.{find, IfSome, count_by, range_with_len, EdgeSet, Layout, is_settled, is_stable, stable_members, Rule, proposal_of, Proposal, Assignment, is_target, has_process, processes_of, targets_of, lacks_target, has_other, is_missed, AreAscending}
+use Rattle.std.proofs.Common.{◌≡◌, ℕ, ◌+◌, false, not, refl, List, Option, Some, None, option_map, length, nat_lt, sym, ap, ◌∙◌, arith}
+use Rattle.cut_trial.proofs.Words.{find, IfSome, count_by, range_with_len, EdgeSet, Layout, is_settled, is_stable, stable_members, Rule, proposal_of, Proposal, Assignment, is_target, has_process, processes_of, targets_of, lacks_target, has_other, is_missed, judged, AreAscending}
 use Rattle.std.specs.Borrow.{Bor}
+use Rattle.std.proofs.lemmas.Bool.{le-ltb}
+use Rattle.std.proofs.lemmas.List.Elements.{filter_passes}
 use Rattle.std.proofs.lemmas.List.Sums.{length-filter}
 use Rattle.cut_lists.proofs.Ascending.{filter-again}
 use Rattle.cut_lists.proofs.Counts.{list_any-count_by}
 use Rattle.cut_lists.proofs.Parts.{count_parts, count_rest}
+use Rattle.cut_lists.proofs.Ranks.{count_by_all}
 
 not_all : (a b n : ℕ) → a + b ≡ n → nat_lt 0 b ≡ nat_lt a n
 not_all a b n is = grind arith
@@ -28,6 +31,17 @@ has_other-count a members =
     list_any-count_by (λ p. not (is_target a p)) members
     ∙ not_all (count_by (λ p. is_target a p) members) (count_by (λ p. not (is_target a p)) members)
     (length members) (count_rest (λ p. is_target a p) members)
+
+-- a proposal of exactly the targets is no conflict and has none besides
+pub exact_is_right : (a : Assignment) (p : Proposal) → p.members ≡ targets_of a
+    → record { silent = false; conflict = false; extra = false } ≡ judged a (Some p)
+exact_is_right a p is =
+    let targets : List ℕ = targets_of a in
+    let all = count_by_all (λ x. is_target a x) targets (filter_passes (λ x. is_target a x) (processes_of a)) in
+    let none : nat_lt (count_by (λ x. is_target a x) targets) (length targets) ≡ false = le-ltb _ _ (omega (arith, all)) in
+    let lacks = lacks_target-count a targets (filter-again (λ x. is_target a x) (length a.roles)) ∙ none in
+    let other = has_other-count a targets ∙ none in
+    rw (is, lacks, other) refl
 
 -- the members of a proposal are processes, ascending
 pub proposed_ascend : (a : Assignment) (r : Layout) (rule : Rule) (E : ℕ → EdgeSet) (count : ℕ)

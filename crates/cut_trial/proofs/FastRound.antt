@@ -1,5 +1,5 @@
 -- The fast round: votes and quorums, and how a ballot's entries follow the proposals that were added.
-use Rattle.std.proofs.Common.{◌≡◌, ℕ, ◌+◌, ◌<◌, ◌≤◌, Bool, true, false, cond, List, [], ◌∷◌, ◌++◌, Option, Some, None, length, get_or, map, max, fold, ◌*◌, mul-one, mul-zero, refl, sym, ap, ◌∙◌, inl, inr, arith, add-zero, nat_le, unwrap_or}
+use Rattle.std.proofs.Common.{◌≡◌, ℕ, ◌+◌, ◌<◌, ◌≤◌, Bool, true, false, cond, List, [], ◌∷◌, ◌++◌, replicate, Option, Some, None, length, get_or, map, max, fold, ◌*◌, mul-one, mul-zero, refl, sym, ap, ◌∙◌, inl, inr, arith, add-zero, nat_le, unwrap_or}
 use Rattle.cut_trial.proofs.Words.{IsDistinct, Assignment, Proposal, judged, count_by, same_members, quorum_of, votes_of, most_votes, cast_of, HasCounted, one_if}
 use Rattle.std.specs.Cmp.Lexicographic.{same_text, on_texts_equal}
 use Rattle.std.specs.HashMap.{HashMap, UpdatesBy}
@@ -9,8 +9,8 @@ use Rattle.std.proofs.lemmas.Bool.{cases_Bool, cases_lt, both_ways, le-leb, lt-l
 use Rattle.std.proofs.lemmas.Cmp.{nat_list_eq_equiv}
 use Rattle.std.proofs.lemmas.List.{get_or-map, length-map}
 use Rattle.std.proofs.lemmas.List.Elements.{All-map}
-use Rattle.std.proofs.lemmas.List.Folds.{Any-from_list_any}
-use Rattle.std.proofs.lemmas.List.Sums.{sum_by-cons, sum_by_push, count_by-le-length}
+use Rattle.std.proofs.lemmas.List.Folds.{Any-from_list_any, sum_by-replicate}
+use Rattle.std.proofs.lemmas.List.Sums.{sum_by-append, sum_by-cons, sum_by_push, count_by-le-length}
 use Rattle.std.proofs.lemmas.Option.{slice_get-get_or}
 use Rattle.std.proofs.lemmas.Map.Entries.{lookup_from_place}
 use mir.Val.{bool_byte}
@@ -82,6 +82,45 @@ quorum_of_votes q votes = elim (cases_lt votes q) [
   | inr reached ↦ rw (le-leb q votes reached, mul-one q) reached
 ]
 
+-- ---- votes for exactly the targets, apart from the others
+
+-- a list of members more among the others
+pub more_others : (cast others : List (List ℕ)) (m t : List ℕ) (n : ℕ)
+    → ((q : List ℕ) → votes_of cast q ≡ votes_of (others ++ replicate n t) q)
+    → (q : List ℕ) → votes_of (cast ++ m ∷ []) q ≡ votes_of ((others ++ m ∷ []) ++ replicate n t) q
+more_others cast others m t n was q =
+    let one : List ℕ → ℕ = λ c. cond (same_members c q) 1 0 in
+    omega (
+      arith,
+      was q,
+      sum_by_push one cast m,
+      sum_by_push one others m,
+      sum_by-append one others (replicate n t),
+      sum_by-append one (others ++ m ∷ []) (replicate n t),
+    )
+
+times_more : (n x : ℕ) → (n + 1) * x ≡ n * x + x
+times_more n x = omega arith
+
+-- one more that proposed the targets
+pub more_exact : (cast others : List (List ℕ)) (t : List ℕ) (n : ℕ)
+    → ((q : List ℕ) → votes_of cast q ≡ votes_of (others ++ replicate n t) q)
+    → (q : List ℕ) → votes_of (cast ++ t ∷ []) q ≡ votes_of (others ++ replicate (n + 1) t) q
+more_exact cast others t n was q =
+    let one : List ℕ → ℕ = λ c. cond (same_members c q) 1 0 in
+    let copies = sum_by-replicate one n t in
+    let more = sum_by-replicate one (n + 1) t in
+    omega (
+      arith,
+      was q,
+      sum_by_push one cast t,
+      sum_by-append one others (replicate n t),
+      sum_by-append one others (replicate (n + 1) t),
+      copies,
+      more,
+      times_more n (one t),
+    )
+
 -- ---- a ballot's entries
 
 abbrev pub has : List ℕ → Vec ℕ → Bool
@@ -104,28 +143,29 @@ pub votes-shown : (es : List (Vec ℕ × ℕ)) (cast : List (List ℕ)) → HasC
     → (q : List ℕ) → unwrap_or (lookup (has q) es) 0 ≡ votes_of cast q
 votes-shown es cast h q = rw lookup-shown at (h q)
 
--- a vote more for m is one for no other members
-pub counted_more : {S : Type 0} (old new : HashMap (Vec ℕ) ℕ S) (cast : List (List ℕ)) (m : List ℕ) (w : ℕ)
+-- votes more for m are none for other members
+pub counted_more : {S : Type 0} (old new : HashMap (Vec ℕ) ℕ S) (cast : List (List ℕ)) (m : List ℕ) (n w : ℕ)
     → HasCounted (map shown old.entries) cast → UpdatesBy same_key (has m) old new (Some w)
-    → w ≡ unwrap_or (lookup (has m) old.entries) 0 + 1
-    → HasCounted (map shown new.entries) (cast ++ m ∷ [])
+    → w ≡ unwrap_or (lookup (has m) old.entries) 0 + n
+    → HasCounted (map shown new.entries) (cast ++ replicate n m)
 unfolding KeepsOthers
-counted_more old new cast m w h put one_more q =
+counted_more old new cast m n w h put more q =
     let before = votes-shown old.entries cast h in
     ap (λ o. unwrap_or o 0) (lookup-shown q new.entries)
     ∙ elim (cases_Bool (same_members m q)) [
       | inl same ↦ (
           let is : m ≡ q = same_is m q same in
           ap (λ x. unwrap_or (lookup (has x) new.entries) 0) (sym is)
-          ∙ ap (λ o. unwrap_or o 0) put.1 ∙ one_more ∙ ap (λ n. n + 1) (before m)
-          ∙ ap (λ x. votes_of cast x + 1) is ∙ ap (λ b. votes_of cast q + cond b 1 0) (sym same))
+          ∙ ap (λ o. unwrap_or o 0) put.1 ∙ more ∙ ap (λ k. k + n) (before m)
+          ∙ ap (λ x. votes_of cast x + n) is ∙ sym (rw (same, mul-one n) refl))
       | inr differ ↦ (
           let other = put.3 (has q) (λ x y. nat_list_eq_equiv.congr q x.items y.items)
           (λ k e. nat_list_eq_equiv.symm q k.items ∙ sym (nat_list_eq_equiv.congr m k.items q e) ∙ differ) in
           ap (λ o. unwrap_or o 0) other ∙ before q ∙ sym (add-zero (votes_of cast q))
-          ∙ ap (λ b. votes_of cast q + cond b 1 0) (sym differ))
+          ∙ sym (rw (differ, mul-zero n) refl))
     ]
-    ∙ sym (sum_by_push (λ c. cond (same_members c q) 1 0) cast m)
+    ∙ ap (λ k. votes_of cast q + k) (sym (sum_by-replicate (λ c. cond (same_members c q) 1 0) n m))
+    ∙ sym (sum_by-append (λ c. cond (same_members c q) 1 0) cast (replicate n m))
 
 -- the greatest value is at least the one that a look-up finds
 lookup-le-max : (test : Vec ℕ → Bool) (es : List (Vec ℕ × ℕ)) (a : ℕ)

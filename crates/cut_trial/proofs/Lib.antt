@@ -9,6 +9,8 @@ pub mod Sum
 pub mod Roles
 pub mod Pieces
 pub mod Heard
+pub mod Grouped
+pub mod Judged
 pub mod Crashes
 pub mod Cautious
 pub mod Upgrades

@@ -1,6 +1,6 @@
 -- One trial: its numbers are its outcome once its parts are those of the plan, and they are possible ones.
-use Rattle.std.proofs.Common.{◌≡◌, ℕ, ◌+◌, ◌-◌, ◌*◌, ◌/◌, ◌^◌, ◌<◌, ◌≤◌, min, Bool, true, cond, List, [], ◌∷◌, ◌++◌, Option, Some, None, option_map, get_or, map, filter, not, length, refl, sym, ap, ◌∙◌, arith, nat_le}
-use Rattle.cut_trial.proofs.Words.{Contains, IfSome, count_by, slice_get, early, range_with_len, rule_of, Cell, Values, IsPlan, cells_of, deliveries_at, largest, trial_count, Edge, Layout, Source, source_of, Assignment, is_target, drawn, alert_list, Proposal, receivers_of, targets_of, judged, quorum_of, votes_of, most_votes, cast_of, rings_of, receiver_proposal, totals_of, cell_at, no_cell, one_if, outcome, place_of, AreByVotes, ArePossible, LiesWithin}
+use Rattle.std.proofs.Common.{◌≡◌, ℕ, ◌+◌, ◌-◌, ◌*◌, ◌/◌, ◌^◌, ◌<◌, ◌≤◌, min, Bool, true, cond, List, [], ◌∷◌, ◌++◌, Option, Some, None, option_map, get_or, map, length, refl, sym, ap, ◌∙◌, arith, nat_le}
+use Rattle.cut_trial.proofs.Words.{Contains, IfSome, count_by, slice_get, early, rule_of, Cell, Values, IsPlan, cells_of, deliveries_at, largest, trial_count, Edge, Layout, Source, source_of, Assignment, drawn, alert_list, Proposal, receivers_of, targets_of, judged, quorum_of, votes_of, most_votes, cast_of, rings_of, receiver_proposal, totals_of, cell_at, no_cell, one_if, outcome, place_of, place_for, settled_of, IsPlaced, AreByVotes, ArePossible, LiesWithin}
 use Rattle.std.specs.List.{sum_by}
 use Rattle.std.proofs.lemmas.Nat.{div_below}
 use Rattle.std.proofs.lemmas.List.{length-map, length_push}
@@ -10,11 +10,11 @@ use Rattle.std.proofs.lemmas.List.Sums.{count_by-le-length, sum_by_push}
 use Rattle.std.proofs.lemmas.Option.{get_or_from_slice_get}
 use mir.Val.{bool_byte}
 use Rattle.cut_lists.proofs.Counts.{counts-apart}
-use Rattle.cut_trial.specs.declared.replays.Replays.{Replays}
 use Rattle.cut_trial.proofs.FastRound.{byte_of, cast_or_silent, few_cast, few_votes_cast, most_votes_are_most, one_if-le, quorum_of_votes}
 use Rattle.cut_trial.proofs.Places.{IsPlacedBy, few_deliveries, placed, places_from, places_within, settled_by}
 use Rattle.cut_trial.proofs.Roles.{receivers_are_the_rest}
-use Rattle.cut_plan.specs.declared.version.Version.TheVariants.{Two}
+use Rattle.cut_plan.specs.declared.version.Version.{Version}
+use Rattle.cut_plan.specs.declared.version.Version.TheVariants.{One, Two}
 use Rattle.cut_plan.specs.Versions.{version_of}
 
 -- ---- the parts of a trial
@@ -71,6 +71,35 @@ places_more ps x old n r few was low small same is =
       few = omega (arith, few, was, low, small, same, is, longer);
     }
 
+-- the same, as a plan's version asks for places
+pub record SettledMore (version : Version) (ps : List (Option Proposal)) (x : Option Proposal) (r : ℕ) : Type 0 where
+  pub sum : r ≡ settled_of version (ps ++ x ∷ [])
+  pub few : r ≤ 2 ^ 31 * length (ps ++ x ∷ [])
+
+pub settled_more : (version : Version) (ps : List (Option Proposal)) (x : Option Proposal) (old n r : ℕ)
+    → length ps < 2 ^ 32 → old ≡ settled_of version ps → old ≤ 2 ^ 31 * length ps → n ≤ 2 ^ 31
+    → IsPlaced version n x → r ≡ min (old + place_for version n) 18446744073709551615
+    → SettledMore version ps x r
+settled_more One ps x old n r few was low small placed is = record {
+  sum = omega (arith, was, is);
+  few = omega (arith, was, is);
+}
+settled_more Two ps x old n r few was low small placed is =
+    let more = places_more ps x old n r few was low small (sym placed) is in
+    record { sum = more.sum; few = more.few }
+
+-- no proposal has no place
+pub nowhere : (version : Version) → IsPlaced version 0 None
+nowhere One = tt
+nowhere Two = refl
+
+-- a proposal is at its place
+pub placed_at : (version : Version) (place : ℕ) (p : Option Proposal) → IfSome p (λ x. x.at ≡ place)
+    → IfSome p (λ x. IsPlaced version place (Some x))
+placed_at version place None is = tt
+placed_at One place (Some x) is = tt
+placed_at Two place (Some x) is = is
+
 -- what a receiver proposed, by its members
 pub none_proposed : (p : Option Proposal) → None ≡ option_map (λ (x : Proposal). x.members) p → p ≡ None
 none_proposed None is = refl
@@ -80,14 +109,6 @@ pub some_proposed : (p : Option Proposal) (m : List ℕ) → Some m ≡ option_m
     → (q : Proposal) × (p ≡ Some q) × (q.members ≡ m)
 some_proposed None m is = absurd (cc)
 some_proposed (Some q) m is = (q, refl, cc)
-
--- what a receiver proposes in these replays, by the draws d
-abbrev pub proposed_by : Replays → Source → ℕ → Option Proposal
-proposed_by x d j = receiver_proposal x.study.plan.now x.cell x.study.rings.now d x.edges.items j
-
--- what the receivers among the first n processes propose
-abbrev pub first_proposals : Replays → Source → Assignment → ℕ → List (Option Proposal)
-first_proposals x d a n = map (proposed_by x d) (filter (λ p. not (is_target a p)) (range_with_len 0 n))
 
 -- ---- the whole of a trial
 

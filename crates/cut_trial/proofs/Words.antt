@@ -29,7 +29,7 @@ pub use Rattle.cut_trial.specs.declared.totals.Totals.{Totals}
 pub use Rattle.cut_trial.specs.declared.outcome.Verdict.{Verdict}
 pub use Rattle.cut_trial.specs.FastRound.{HasCounted, cast_of, members_of, most_votes, quorum_of, same_members, votes_of}
 pub use Rattle.cut_trial.specs.Verdicts.{AreAscending, has_other, has_process, is_missed, judged, lacks_target, processes_of, receivers_of, targets_of}
-pub use Rattle.cut_trial.specs.Outcome.{HasJudged, cell_at, cell_outcome, deliveries_at, no_cell, one_if, place_of, proposals_of, receiver_proposal, rings_of, settled_of, totals_of}
+pub use Rattle.cut_trial.specs.Outcome.{HasJudged, cell_at, cell_outcome, deliveries_at, no_cell, one_if, place_for, place_of, IsJudging, IsPlaced, proposals_of, receiver_proposal, rings_of, settled_of, totals_of}
 unfoldable pub use Rattle.cut_trial.specs.Outcome.{outcome}
 pub use Rattle.cut_trial.specs.Sum.{IsAtMost, each_number, is_piece, plus, sum_of, trials_in, without_settled}
 pub use Rattle.cut_trial.specs.Possible.{ArePossible, IsSettledBy}

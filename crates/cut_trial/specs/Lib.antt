@@ -3,6 +3,7 @@ pub mod Verdicts
 pub mod FastRound
 pub mod BallotInside
 pub mod Outcome
+pub mod Judging
 pub mod Sum
 pub mod Computed
 pub mod PieceInside

@@ -1,5 +1,5 @@
 -- What a trial gives: what its receivers propose, what they are judged to be, and its eight numbers.
-use Rattle.std.specs.Prelude.{◌≡◌, ◌≤◌, ℕ, ◌*◌, ◌-◌, ◌/◌, ◌^◌, Bool, List, map, length, count_by, nat_le, slice_index_or, if◌then◌else◌, Option, Some, None}
+use Rattle.std.specs.Prelude.{◌≡◌, ◌≤◌, ℕ, ◌+◌, ◌*◌, ◌-◌, ◌/◌, ◌^◌, ◌++◌, ⊤, Bool, List, map, length, replicate, count_by, nat_le, slice_index_or, if◌then◌else◌, Option, Some, None}
 use Rattle.std.specs.List.{sum_by}
 use Rattle.cut_plan.specs.declared.cell.Cell.{Cell}
 use Rattle.cut_plan.specs.declared.version.Version.{Version}
@@ -47,13 +47,33 @@ abbrev pub settled_of : Version → List (Option Proposal) → ℕ
 settled_of One proposals = 0
 settled_of Two proposals = sum_by place_of proposals
 
+-- a place, as a plan's version asks for it
+abbrev pub place_for : Version → ℕ → ℕ
+place_for One place = 0
+place_for Two place = place
+
+-- a place is that of a proposal, where a plan's version asks for it
+abbrev pub IsPlaced : Version → ℕ → Option Proposal → Type 0
+IsPlaced One place p = ⊤
+IsPlaced Two place p = place_of p ≡ place
+
 -- the verdicts on these proposals, and on the silences among them, are counted, and their places are added up
 pub record HasVerdicts (a : Assignment) (o : declared.Outcome) (proposals : List (Option Proposal)) : Type 0 where
   pub conflicts : o.conflicts ≡ count_by (λ p. (judged a p).conflict) proposals
   pub silent : o.silent ≡ count_by (λ p. (judged a p).silent) proposals
   pub extra : o.extra ≡ count_by (λ p. (judged a p).extra) proposals
-  pub settled : o.settled ≡ sum_by place_of proposals
+  pub settled : o.settled ≡ settled_of o.version proposals
   pub places : o.settled ≤ 2 ^ 31 * length proposals
+
+-- the receivers that made these proposals have been judged by the roles, and the votes of those that didn't propose
+-- exactly the targets are in the ballot
+pub record IsJudging (a : Assignment) (o : declared.Outcome) (proposals : List (Option Proposal)) : Type 0 where
+  pub verdicts : HasVerdicts a o proposals
+  pub others : List (List ℕ)
+  pub ballot : HasCounted o.ballot others
+  pub votes : (members : List ℕ)
+      → votes_of (cast_of proposals) members ≡ votes_of (others ++ replicate o.exact (targets_of a)) members
+  pub few : length others + o.exact ≤ length proposals
 
 -- the receivers that made these proposals have been judged by the roles, and their votes are counted
 pub record HasJudged (a : Assignment) (o : declared.Outcome) (proposals : List (Option Proposal)) : Type 0 where

@@ -1,4 +1,4 @@
-ghost use Rattle.std.specs.Prelude.{◌≡◌, ◌≤◌, ◌^◌, ◌-◌, ◌<◌, [], ◌∷◌, ◌++◌, List, ℕ, length, OnOk, OnErr};
+ghost use Rattle.std.specs.Prelude.{◌≡◌, ◌≤◌, ◌+◌, ◌^◌, ◌-◌, ◌<◌, [], ◌∷◌, ◌++◌, List, ℕ, length, replicate, OnOk, OnErr};
 ghost use Rattle.cut_trial.specs.FastRound.{quorum_of, votes_of, most_votes, HasCounted};
 
 use cut_detector::Proposal;
@@ -61,17 +61,26 @@ impl Ballot {
         self.add_members(proposal.members.as_slice())
     }
 
-    /// Counts a proposal with these members, which are copied where no proposal had them before.
+    /// Counts a proposal with these members.
     pub(crate) fn add_members(&mut self, members: &[u16]) -> Result<(), AllocError>
         ensures counted { OnOk result ((cast : List (List ℕ)) → length cast < 2 ^ 64 - 1 →
             HasCounted self.old cast → HasCounted self.new (cast ++ members.now ∷ [])) }
         ensures err { OnErr result (self.new ≡ self.old) }
     {
+        self.add_votes(members, 1)
+    }
+
+    /// Counts `votes` proposals with these members, which are copied where no proposal had them before.
+    pub(crate) fn add_votes(&mut self, members: &[u16], votes: u64) -> Result<(), AllocError>
+        ensures counted { OnOk result ((cast : List (List ℕ)) → length cast + votes < 2 ^ 64 →
+            HasCounted self.old cast → HasCounted self.new (cast ++ replicate votes members.now)) }
+        ensures err { OnErr result (self.new ≡ self.old) }
+    {
         match self.votes.get_mut(members) {
-            Some(votes) => *votes = votes.saturating_add(1),
+            Some(counted) => *counted = counted.saturating_add(votes),
             None => {
                 let copy = Vec::from_slice(self.alloc, members)?;
-                self.votes.insert(copy, 1)?;
+                self.votes.insert(copy, votes)?;
             }
         }
         Ok(())

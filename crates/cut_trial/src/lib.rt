@@ -5,9 +5,12 @@
 //! the leaderless fast round of the Rapid paper counts them.
 #![tactic(auto)]
 
+mod alerts;
+mod cast;
 mod fast_round;
 mod fault;
 mod hearing;
+mod judges;
 pub mod laws;
 mod outcome;
 mod piece;

@@ -1,6 +1,7 @@
 ghost use Rattle.std.specs.Prelude.{◌≡◌, ◌≤◌, length};
 ghost use Rattle.cut_plan.specs.Cells.{largest};
 ghost use Rattle.cut_plan.specs.Plan.{IsPlan};
+ghost use Rattle.cut_rings.specs.Layout.{IsLayout};
 ghost use Rattle.cut_trial.specs.Outcome.{rings_of};
 
 use cut_plan::Plan;
@@ -27,4 +28,11 @@ impl<'a> Study<'a> {
     {
         Study { plan, rings }
     }
+}
+
+/// Rings are always a layout, of whatever study they are. It does nothing that is seen.
+pub(crate) fn rings_are_a_layout(rings: &Rings)
+    ensures { IsLayout rings.now }
+{
+    let _ = rings.len();
 }

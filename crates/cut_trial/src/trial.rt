@@ -1,11 +1,12 @@
-ghost use Rattle.std.specs.Prelude.{◌≡◌, ◌<◌, length, map, IfOk, OnOk};
+ghost use Rattle.std.specs.Prelude.{◌≡◌, ◌<◌, IfOk};
 ghost use Rattle.cut_plan.specs.Cells.{IsCellOf, trial_count};
-ghost use Rattle.cut_trial.specs.Verdicts.{targets_of, receivers_of};
-ghost use Rattle.cut_trial.specs.Outcome.{rings_of, receiver_proposal, cell_at, outcome, HasJudged};
+ghost use Rattle.cut_trial.specs.Outcome.{rings_of, cell_at, outcome};
+ghost use Rattle.cut_trial.specs.Judging.{AreFor};
 
 use crate::Totals;
-use crate::outcome::Outcome;
-use crate::replays::Replays;
+use crate::alerts::Alerts;
+use crate::cast::{Cast, list_receivers, list_targets};
+use crate::judges::Judges;
 use crate::study::Study;
 use cut_alerts::Roles;
 use cut_draws::{Draws, ProcessOrder};
@@ -35,92 +36,56 @@ pub fn run_trial(
 /// What runs the trials of a cell, one after another, in memory that they share.
 #[derive(Drop)]
 pub(crate) struct Trials<'a> {
-    pub replays: Replays<'a>,
+    pub alerts: Alerts<'a>,
+    alloc: Global,
     roles: Roles,
     processes: ProcessOrder,
     targets: Vec<u16>,
-    outcome: Outcome,
+    receivers: Vec<u16>,
+    judges: Judges<'a>,
+    ghost fit: { AreFor alerts.study alerts.cell judges },
 }
 
 impl<'a> Trials<'a> {
     /// What runs the trials of this cell.
     pub fn new(alloc: Global, study: Study<'a>, cell: Cell) -> Result<Trials<'a>, AllocError>
         requires { IsCellOf study.plan.now cell }
-        ensures study { IfOk result (λ t. t.replays.study.plan.now ≡ study.entry.plan.now) }
-        ensures cell { IfOk result (λ t. t.replays.cell ≡ cell) }
+        ensures study { IfOk result (λ t. t.alerts.study.plan.now ≡ study.entry.plan.now) }
+        ensures cell { IfOk result (λ t. t.alerts.cell ≡ cell) }
     {
         Ok(Trials {
-            replays: Replays::new(alloc, study, cell)?,
+            alerts: Alerts::none(alloc, study, cell),
+            alloc,
             roles: Roles::none(alloc),
             processes: ProcessOrder::new(alloc),
             targets: Vec::new(alloc),
-            outcome: Outcome::new(alloc),
+            receivers: Vec::new(alloc),
+            judges: Judges::new(alloc, study, cell)?,
         })
     }
 
     /// The outcome of a trial of the cell.
     pub fn run(&mut self, trial: u32) -> Result<Totals, AllocError>
-        requires { self.old.replays.cell ≡ cell_at self.old.replays.study.plan.now trial }
-        ensures outcome { IfOk result (λ totals. totals ≡ outcome self.old.replays.study.plan.now trial) }
-        ensures study { self.new.replays.study ≡ self.old.replays.study }
-        ensures cell { self.new.replays.cell ≡ self.old.replays.cell }
+        requires { self.old.alerts.cell ≡ cell_at self.old.alerts.study.plan.now trial }
+        ensures outcome { IfOk result (λ totals. totals ≡ outcome self.old.alerts.study.plan.now trial) }
+        ensures study { self.new.alerts.study ≡ self.old.alerts.study }
+        ensures cell { self.new.alerts.cell ≡ self.old.alerts.cell }
     {
-        let Study { plan, rings } = self.replays.study;
-        let cell = self.replays.cell;
+        let Study { plan, rings } = self.alerts.study;
+        let cell = self.alerts.cell;
         let mut draws = Draws::new(plan.seed(), trial);
         let order = &mut self.processes;
         self.roles.draw(plan, cell, &mut draws, order, rings)?;
-        self.replays.alert(&self.roles)?;
+        self.alerts.alert(&self.roles)?;
         list_targets(&mut self.targets, &self.roles)?;
-        let targets = self.targets.as_slice();
-        judge_receivers(
-            &mut self.outcome,
-            &mut self.replays,
-            &mut draws,
-            &self.roles,
-            targets,
-        )?;
-        Ok(self.outcome.totals(plan, cell, targets))
+        list_receivers(&mut self.receivers, &self.roles)?;
+        let cast = Cast {
+            alerts: &self.alerts,
+            roles: &self.roles,
+            targets: self.targets.as_slice(),
+            receivers: self.receivers.as_slice(),
+        };
+        self.judges.judge(self.alloc, &mut draws, trial, cast)?;
+        Ok(self.judges.outcome.totals(plan, cell, cast.targets))
     }
-}
-
-/// Lists the targets, ascending, in place of what the list held.
-fn list_targets(targets: &mut Vec<u16>, roles: &Roles) -> Result<(), AllocError>
-    ensures { OnOk result (targets.new.items ≡ targets_of roles.now) }
-{
-    targets.clear();
-    for process in 0..roles.nodes() {
-        if !roles.is_target(process) {
-            continue;
-        }
-        targets.push(process)?;
-    }
-    Ok(())
-}
-
-/// Judges each receiver by what it proposes.
-fn judge_receivers(
-    outcome: &mut Outcome,
-    replays: &mut Replays<'_>,
-    draws: &mut Draws,
-    roles: &Roles,
-    targets: &[u16],
-) -> Result<(), AllocError>
-    requires nodes { length roles.now.roles ≡ replays.old.study.plan.now.nodes }
-    requires targets { targets.now ≡ targets_of roles.now }
-    ensures judged { OnOk result (HasJudged roles.now outcome.new
-        (map (λ j. receiver_proposal replays.old.study.plan.now replays.old.cell replays.old.study.rings.now draws.old replays.old.edges.items j) (receivers_of roles.now))) }
-    ensures study { replays.new.study ≡ replays.old.study }
-    ensures cell { replays.new.cell ≡ replays.old.cell }
-{
-    outcome.clear();
-    for receiver in 0..roles.nodes() {
-        if roles.is_target(receiver) {
-            continue;
-        }
-        replays.hear(draws, receiver)?;
-        let detector = &replays.detector;
-        outcome.add(detector.members(), detector.deliveries(), roles, targets)?;
-    }
-    Ok(())
 }

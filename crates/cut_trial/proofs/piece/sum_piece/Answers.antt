@@ -47,8 +47,8 @@ loop-trial-init c =
 
 pub run-requires : goal.run-requires
 run-requires c =
-    own_cell c.args.study.plan.now c.loop-trial.trials.replays.study.plan.now c.args.piece c.loop-trial.trial
-    c.loop-trial.trials.replays.cell c.requires (omega arith) (omega arith) c.loop-trial.invariant.plan
+    own_cell c.args.study.plan.now c.loop-trial.trials.alerts.study.plan.now c.args.piece c.loop-trial.trial
+    c.loop-trial.trials.alerts.cell c.requires (omega arith) (omega arith) c.loop-trial.invariant.plan
     c.loop-trial.invariant.cell
 
 pub plus-totals-requires-clause-self_fits : goal.plus-totals-requires-clause-self_fits
@@ -64,13 +64,13 @@ plus-totals-requires-clause-self_fits c =
 
 pub plus-totals-requires-clause-other_fits : goal.plus-totals-requires-clause-other_fits
 plus-totals-requires-clause-other_fits c =
-    let replays = c.loop-trial.trials.replays in
-    let v : Values = replays.study.plan.now in
+    let alerts = c.loop-trial.trials.alerts in
+    let v : Values = alerts.study.plan.now in
     let t : ℕ = c.loop-trial.trial in
     rw c.in_ok-run.ensures.outcome
-    (few_in v (cell_at v t) 1 (2 ^ 43) _ replays.study.accepted
-    (few_rings v t replays.cell replays.study.accepted replays.cell_of_plan
-    (own_cell c.args.study.plan.now v c.args.piece t replays.cell c.requires (omega arith) (omega arith)
+    (few_in v (cell_at v t) 1 (2 ^ 43) _ alerts.study.accepted
+    (few_rings v t alerts.cell alerts.study.accepted alerts.cell_of_plan
+    (own_cell c.args.study.plan.now v c.args.piece t alerts.cell c.requires (omega arith) (omega arith)
     c.loop-trial.invariant.plan c.loop-trial.invariant.cell))
     (possible_outcome v t) (omega arith))
 

@@ -6,6 +6,6 @@ abbrev pub invariant-loop-trial : goal.invariant-loop-trial
 invariant-loop-trial l = record {
   totals : l.totals ≡ sum_of l.fn.study.plan.now
       (range_with_len l.fn.piece.first (l.trial - l.fn.piece.first));
-  plan : l.trials.replays.study.plan.now ≡ l.fn.study.plan.now;
-  cell : l.trials.replays.cell ≡ cell_at l.fn.study.plan.now l.fn.piece.first;
+  plan : l.trials.alerts.study.plan.now ≡ l.fn.study.plan.now;
+  cell : l.trials.alerts.cell ≡ cell_at l.fn.study.plan.now l.fn.piece.first;
 }

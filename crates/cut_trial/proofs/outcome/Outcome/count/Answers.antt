@@ -1,11 +1,12 @@
-use Rattle.std.proofs.Common.{ap}
+use Rattle.std.proofs.Common.{◌+◌, min, ap, ◌∙◌}
 use Rattle.cut_trial.proofs.Words.{Verdict, judged}
-use Rattle.cut_trial.proofs.Outcomes.{count_more, places_more}
+use Rattle.cut_trial.proofs.Outcomes.{count_more, settled_more}
 use Rattle.cut_trial.proofs.outcome.Outcome.count.Goals as goal
 
 pub returns-clause-verdicts : goal.returns-clause-verdicts
 returns-clause-verdicts c = λ a p before is placed few h.
-    let places = places_more before p _ _ _ few h.settled h.places c.requires placed c.saturating_add-self-4.ensures in
+    let places = settled_more c.args.self.now.version before p _ _ _ few h.settled h.places c.requires placed
+    (c.saturating_add-self-4.ensures ∙ ap (λ n. min (c.args.self.now.settled + n) 18446744073709551615) c.place_for.ensures) in
     record {
       conflicts = count_more (λ x. (judged a x).conflict) before p _ _ _ _ few h.conflicts
           (ap (λ (v : Verdict). v.conflict) is) c.from.ensures c.saturating_add-self.ensures;

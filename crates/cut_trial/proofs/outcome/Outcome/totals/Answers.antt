@@ -12,4 +12,4 @@ returns c = λ a all h targets.
     let right = byte_of (nat_le quorum c.votes_for-right.result) in
     rw (c.from.ensures, c.from-2.ensures, decided, c.from-3.ensures, right, c.from-quorum.ensures)
     (rw (c.quorum.ensures, c.nodes-nodes.ensures.value, most, exact, targets)
-    (rw (h.verdicts.conflicts, h.verdicts.silent, h.verdicts.extra, c.settled_of.ensures a all h.verdicts)))
+    (rw (h.verdicts.conflicts, h.verdicts.silent, h.verdicts.extra, h.verdicts.settled, c.requires.version)))

@@ -15,9 +15,9 @@ proposed_from v c r d j copies given edges order is edges_are copies_are =
 
 pub returns-clause-proposal : goal.returns-clause-proposal
 returns-clause-proposal c =
-    let self = c.args.self.now in
+    let alerts = c.args.alerts.now in
     c.hear_all.ensures.proposal
-    ∙ rw (self.layout, self.rule)
-    (proposed_from self.study.plan.now self.cell self.study.rings.now c.args.draws.now c.args.receiver
-    c.copies-copies.result c.as_slice-edges.result.now self.edges.items c.order_deliveries.new.order
+    ∙ rw (c.requires.belong.layout, c.requires.belong.rule)
+    (proposed_from alerts.study.plan.now alerts.cell alerts.study.rings.now c.args.draws.now c.args.receiver
+    c.copies-copies.result c.as_slice-edges.result.now alerts.edges.items c.order_deliveries.new.order
     c.in_ok-order_deliveries.ensures.order c.as_slice-edges.ensures.value c.copies-copies.ensures.value)

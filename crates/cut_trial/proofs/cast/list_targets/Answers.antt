@@ -1,7 +1,7 @@
 use Rattle.std.proofs.Common.{◌++◌, ◌∷◌, [], sym, ap, ◌∙◌}
 use Rattle.cut_trial.proofs.Words.{is_target}
 use Rattle.cut_lists.proofs.Ranges.{filter_more_kept, filter_more_skipped}
-use Rattle.cut_trial.proofs.trial.list_targets.Goals as goal
+use Rattle.cut_trial.proofs.cast.list_targets.Goals as goal
 
 pub loop-process-preserved-then-not-is_target : goal.loop-process-preserved-then-not-is_target
 loop-process-preserved-then-not-is_target c =

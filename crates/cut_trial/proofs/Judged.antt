@@ -1,0 +1,206 @@
+-- How receivers are judged by what is found in lanes.
+use Rattle.std.proofs.Common.{◌≡◌, ℕ, ◌+◌, ◌<◌, ◌≤◌, ◌||◌, ◌&&◌, Bool, true, false, not, min, List, [], ◌∷◌, ◌++◌, Option, Some, None, map, filter, take, get_or, length, inl, inr, refl, sym, ap, ◌∙◌, subst, arith}
+use Rattle.std.specs.Prelude.{All, IfSome, Result, Ok, Err, OnOk, ◌^◌}
+use Rattle.std.proofs.lemmas.Bool.{both_ways, cases_Bool, cases_lt, le-leb, leb-true, ltb-true}
+use Rattle.std.proofs.lemmas.List.{length-map, length-take, map_more, take_all}
+use Rattle.std.proofs.lemmas.List.Elements.{All-filter}
+use Rattle.std.proofs.lemmas.List.Sums.{length-filter}
+use Rattle.cut_lists.proofs.Counts.{list_any-count_by}
+use Rattle.cut_lists.proofs.Maps.{count_by-map}
+use Rattle.cut_lists.proofs.Ranges.{All-range_with_len, few_filtered, count_by_agree, none_passing, passing, list_any_passing}
+use Rattle.cut_detector.specs.Counts.{full_count, reports_of}
+unfoldable use Rattle.cut_detector.specs.Counts.{is_full, is_reported, is_some_stable, is_stable}
+use Rattle.cut_receivers.specs.declared.finding.Finding.{Finding}
+use Rattle.cut_receivers.specs.declared.finding.Finding.TheVariants.{Doubtful, Other, Silent, Wanted}
+use Rattle.cut_receivers.specs.Findings.{flagged, Finds}
+use Rattle.cut_trial.specs.declared.alerts.Alerts.{Alerts}
+use Rattle.cut_trial.specs.Judging.{proposed_by, proposals_to}
+use Rattle.cut_trial.proofs.Words.{Assignment, Cell, Edge, EdgeSet, IsTrue, Layout, Rule, Source, Values, all_deliveries, count_by, early, is_target, list_any, proposal_of, range_with_len, receiver_proposal, receivers_of, rule_of}
+
+-- ---- flags
+
+pub flagged_are : (f : ℕ → Bool) (xs : List ℕ) → flagged xs (map f xs) ≡ filter f xs
+flagged_are f [] = refl
+flagged_are f (x ∷ xs) = elim (cases_Bool (f x)) [
+  | inl is ↦ rw is (ap (λ ys. x ∷ ys) (flagged_are f xs))
+  | inr is ↦ rw is (flagged_are f xs)
+]
+
+few_of_both : (f q : ℕ → Bool) (xs : List ℕ) → length (filter f (filter q xs)) ≤ length (filter f xs)
+few_of_both f q [] = omega arith
+few_of_both f q (x ∷ xs) =
+    let rest = few_of_both f q xs in
+    elim (cases_Bool (q x)) [
+      | inl both ↦ elim (cases_Bool (f x)) [
+        | inl is ↦ rw (both, is) (omega (arith, rest))
+        | inr is ↦ rw (both, is) (omega (arith, rest))
+      ]
+      | inr not_both ↦ elim (cases_Bool (f x)) [
+        | inl is ↦ rw (not_both, is) (omega (arith, rest))
+        | inr is ↦ rw (not_both, is) (omega (arith, rest))
+      ]
+    ]
+
+-- where as many pass both tests as pass the first, these are the same
+all_of_both : (f q : ℕ → Bool) (xs : List ℕ) → length (filter f (filter q xs)) ≡ length (filter f xs)
+    → filter f (filter q xs) ≡ filter f xs
+all_of_both f q [] many = refl
+all_of_both f q (x ∷ xs) many = elim (cases_Bool (q x)) [
+  | inl both ↦ elim (cases_Bool (f x)) [
+    | inl is ↦ rw (both, is) (ap (λ ys. x ∷ ys) (all_of_both f q xs (let same = rw (both, is) at many in omega (arith, same))))
+    | inr is ↦ rw (both, is) (all_of_both f q xs (rw (both, is) at many))
+  ]
+  | inr not_both ↦ elim (cases_Bool (f x)) [
+    | inl is ↦ absurd (let same = rw (not_both, is) at many in omega (arith, same, few_of_both f q xs))
+    | inr is ↦ rw (not_both, is) (all_of_both f q xs (rw (not_both, is) at many))
+  ]
+]
+
+-- where as many flags are set as there are targets, each target is a node
+pub complete_from : (f q : ℕ → Bool) (n : ℕ) (subjects targets : List ℕ) (flags : List Bool)
+    → subjects ≡ filter q (range_with_len 0 n) → targets ≡ filter f (range_with_len 0 n) → flags ≡ map f subjects
+    → count_by (λ flag. flag) flags ≡ length targets → flagged subjects flags ≡ targets
+complete_from f q n subjects targets flags subjects_are targets_are flags_are same =
+    let count : count_by f subjects ≡ length targets =
+    sym (count_by-map (λ flag. flag) f subjects) ∙ ap (λ fs. count_by (λ flag. flag) fs) (sym flags_are) ∙ same in
+    let long : length (filter f (filter q (range_with_len 0 n))) ≡ length (filter f (range_with_len 0 n)) =
+    rw (← subjects_are, ← targets_are) (length-filter f subjects ∙ count) in
+    ap (λ fs. flagged subjects fs) flags_are ∙ flagged_are f subjects ∙ ap (λ xs. filter f xs) subjects_are
+    ∙ all_of_both f q (range_with_len 0 n) long ∙ sym targets_are
+
+-- ---- who is stable in the end
+
+pub stable_is_reported : (r : Layout) (rule : Rule) (E : EdgeSet) (s : ℕ) → rule.l ≤ rule.h
+    → is_stable r rule E s ≡ true → is_reported rule E s ≡ true
+unfolding is_stable is_full is_reported
+stable_is_reported r rule E s gap stable = elim (cases_Bool (is_reported rule E s)) [
+  | inl reported ↦ reported
+  | inr unreported ↦ (
+      let same : full_count r rule E s ≡ reports_of rule E s =
+      count_by_agree (λ ring. is_full r rule E ring s) (λ ring. E ring s) 0 rule.k (record {
+        same = λ ring _ _. ungained (E ring s) rule.implicit (is_reported rule E s) _ unreported;
+      }) in
+      le-leb rule.l (reports_of rule E s) (omega (arith, gap, same, leb-true rule.h (full_count r rule E s) stable)))
+]
+  where
+    ungained : (e i reported other : Bool) → reported ≡ false → (e || (i && reported && other)) ≡ e
+    ungained true i reported other none = refl
+    ungained false true reported other none = rw none refl
+    ungained false false reported other none = refl
+
+pub some_reported : (r : Layout) (rule : Rule) (E : EdgeSet) → rule.l ≤ rule.h → is_some_stable r rule E ≡ true
+    → list_any (λ s. is_reported rule E s) (range_with_len 0 r.nodes) ≡ true
+unfolding is_some_stable
+some_reported r rule E gap some =
+    let found = passing (λ s. is_stable r rule E s) 0 r.nodes some in
+    list_any_passing (λ s. is_reported rule E s) 0 r.nodes found.0 found.1.from found.1.below
+    (stable_is_reported r rule E found.0 gap found.1.passes)
+
+-- so where some process is stable in the end there is a node
+pub some_node : {X : Type 0} (r : Layout) (rule : Rule) (E : EdgeSet) (subject : X → ℕ) (nodes : List X) → rule.l ≤ rule.h
+    → is_some_stable r rule E ≡ true
+    → map subject nodes ≡ filter (λ s. is_reported rule E s) (range_with_len 0 r.nodes) → 0 < length nodes
+some_node r rule E subject nodes gap some are =
+    let reported : ℕ → Bool = λ s. is_reported rule E s in
+    let many : length nodes ≡ count_by reported (range_with_len 0 r.nodes) =
+    sym (length-map nodes subject) ∙ ap (λ xs. length xs) are ∙ length-filter reported (range_with_len 0 r.nodes) in
+    let any = ltb-true 0 _ (sym (list_any-count_by reported (range_with_len 0 r.nodes)) ∙ some_reported r rule E gap some) in
+    omega (arith, many, any)
+
+-- ---- receivers
+
+pub receivers_within : (a : Assignment) → All (λ j. j < length a.roles) (receivers_of a)
+receivers_within a =
+    All-filter (λ p. not (is_target a p)) (λ j. j < length a.roles) (range_with_len 0 (length a.roles))
+    (All-range_with_len (λ j. j < length a.roles) 0 (length a.roles) (λ j _ below. omega (arith, below)))
+
+pub receiver_within : (a : Assignment) (rs : List ℕ) (n d : ℕ) → rs ≡ receivers_of a → n < length rs
+    → get_or rs n d < length a.roles
+receiver_within a rs n d are below = rw are (receivers_within a n d (rw are at below))
+
+-- fewer receivers have been judged than any of the counts could hold
+pub few_judged : (a : Assignment) (x : Alerts) (d : Source) (rs : List ℕ) (n : ℕ) → rs ≡ receivers_of a
+    → length a.roles ≡ x.study.plan.now.nodes → length (proposals_to x d rs n) < 2 ^ 32
+few_judged a x d rs n are nodes =
+    let few = few_filtered (λ p. not (is_target a p)) (length a.roles) in
+    let plan = x.study.accepted in
+    omega (
+      arith,
+      length-map (take n rs) (λ j. proposed_by x d j),
+      length-take n rs,
+      ap (λ ys. length ys) are,
+      few,
+      nodes,
+      plan.few_nodes,
+    )
+
+pub one_more_judged : (x : Alerts) (d : Source) (rs : List ℕ) (n : ℕ) → n < length rs
+    → proposals_to x d rs (n + 1) ≡ proposals_to x d rs n ++ proposed_by x d (get_or rs n 0) ∷ []
+one_more_judged x d rs n below = map_more (λ j. proposed_by x d j) rs n 0 below
+
+pub all_judged : (x : Alerts) (d : Source) (rs : List ℕ) (n : ℕ) → length rs ≤ n
+    → proposals_to x d rs n ≡ map (λ j. proposed_by x d j) rs
+all_judged x d rs n past = ap (λ ys. map (λ j. proposed_by x d j) ys) (take_all n rs past)
+
+pub on_ok : {T E A B : Type 0} (r : Result T E) → (A → B) → OnOk r A → OnOk r B
+on_ok (Ok x) f a = f a
+on_ok (Err e) f a = tt
+
+-- what was found where nothing is proposed, and where the wanted members are
+pub found_silent : (wanted : List ℕ) (proposed : Option (List ℕ)) (f : Finding) → f ≡ Silent → Finds wanted proposed f
+    → proposed ≡ None
+found_silent wanted proposed f is finds = subst (λ g. Finds wanted proposed g) is finds
+
+pub found_wanted : (wanted : List ℕ) (proposed : Option (List ℕ)) (f : Finding) → f ≡ Wanted → Finds wanted proposed f
+    → proposed ≡ Some wanted
+found_wanted wanted proposed f is finds = subst (λ g. Finds wanted proposed g) is finds
+
+-- what a loop over all of a list has gone through at its end
+pub taken_all : {X : Type 0} (xs ys : List X) (n : ℕ) → ys ≡ xs → length ys ≤ n → take n xs ≡ xs
+taken_all xs ys n same past = take_all n xs (omega (arith, past, ap (λ zs. length zs) same))
+
+-- places past the last receiver stand for all of them
+pub same_judged : (x : Alerts) (d : Source) (rs : List ℕ) (n m : ℕ) → min n (length rs) ≡ min m (length rs)
+    → proposals_to x d rs n ≡ proposals_to x d rs m
+same_judged x d rs n m same = elim (cases_lt n (length rs)) [
+  | inl less ↦ ap (λ k. proposals_to x d rs k) (omega (arith, same, less))
+  | inr past ↦ all_judged x d rs n (omega (arith, past))
+      ∙ sym (all_judged x d rs m (omega (arith, same, past)))
+]
+
+-- ---- what the receivers of a trial hear
+
+pub heard_as : (v : Values) (c : Cell) (r : Layout) (d : Source) (edges heard : List Edge) (copies j : ℕ) (rule : Rule)
+    → rule ≡ rule_of c.k c.h c.l v.implicit → heard ≡ edges → copies ≡ v.copies
+    → proposal_of r rule (λ n. early d j rule.k heard copies n) (length (all_deliveries heard copies))
+    ≡ receiver_proposal v c r d edges j
+heard_as v c r d edges heard copies j rule rule_is edges_are copies_are = rw (rule_is, edges_are, copies_are) refl
+
+pub none_stable : (r : Layout) (rule : Rule) (E : EdgeSet) → is_some_stable r rule E ≡ false → (s : ℕ) → s < r.nodes
+    → IsTrue (is_stable r rule E s) → ⊥
+unfolding is_some_stable
+none_stable r rule E none s process stable =
+    let not_stable : is_stable r rule E s ≡ false =
+    none_passing (λ q. is_stable r rule E q) 0 r.nodes s none (omega arith) (omega (arith, process)) in
+    both_ways (is_stable r rule E s) not_stable stable
+
+pub subjects_within : (q : ℕ → Bool) (n m : ℕ) (subjects : List ℕ) → subjects ≡ filter q (range_with_len 0 n) → n ≡ m
+    → All (λ s. s < m) subjects
+subjects_within q n m subjects are same =
+    subst (λ (xs : List ℕ). All (λ s. s < m) xs) (sym are)
+    (All-filter q (λ s. s < m) (range_with_len 0 n) (All-range_with_len (λ s. s < m) 0 n (λ s _ below. omega (arith, below, same))))
+
+-- ---- other members
+
+pub found_other : (wanted : List ℕ) (proposed : Option (List ℕ)) (f : Finding) (listed : List ℕ) → f ≡ Other
+    → Finds wanted proposed f → IfSome proposed (λ members. listed ≡ members) → Some listed ≡ proposed
+found_other wanted proposed f listed is finds same =
+    let found = subst (λ g. Finds wanted proposed g) is finds in
+    let members : listed ≡ found.0 = subst (λ o. IfSome o (λ members. listed ≡ members)) found.1 same in
+    ap (λ members. Some members) members ∙ sym found.1
+
+pub not_doubtful : (b : Bool) (f : Finding) → f ≡ Other → (IsTrue b → f ≡ Doubtful) → b ≡ false
+not_doubtful b f is doubtful = elim (cases_Bool b) [
+  | inl set ↦ absurd (let both : Other ≡ Doubtful = sym is ∙ doubtful set in let never : ⊥ = cc in never)
+  | inr unset ↦ unset
+]

@@ -1,0 +1,72 @@
+use Rattle.std.proofs.Common.{rules, ◌≡◌, ℕ, ◌+◌, ◌-◌, ◌<◌, min, Bool, List, get_or, length, ap, sym, subst, arith}
+use Rattle.std.specs.Prelude.{slice_index}
+use Rattle.std.proofs.lemmas.List.{length-map}
+use Rattle.cut_arrivals.specs.Hearing.{highs_at}
+use Rattle.cut_blocks.specs.Images.{never}
+use Rattle.cut_nodes.specs.Nodes.{subjects_of}
+use Rattle.cut_receivers.specs.declared.receivers.Receivers.{Receivers}
+use Rattle.cut_receivers.specs.Findings.{flagged, members_at, Finds}
+use Rattle.cut_receivers.specs.Heard.{hearing_of, HasHeard}
+use Rattle.cut_trial.proofs.Words.{is_target}
+use Rattle.cut_trial.proofs.Judged.{receiver_within, same_judged}
+use Rattle.cut_trial.proofs.judges.Judges.judge_four.Goals as goal
+
+pub hear-requires-clause-receivers : goal.hear-requires-clause-receivers
+hear-requires-clause-receivers c = λ k d below.
+    let cast = c.args.round.cast in
+    let at = c.four_from.ensures.all k d below in
+    let j = get_or c.four_from.result k d in
+    let within = receiver_within cast.roles.now cast.receivers.now at.0 j cast.receivers_are at.1 in
+    omega (arith, within, at.2, cast.nodes, cast.alerts.now.study.accepted.few_nodes)
+
+pub judge-findings-requires : goal.judge-findings-requires
+judge-findings-requires c =
+    let round = c.args.round in
+    let heard = c.in_ok-hear.ensures 0 (omega arith) in
+    let flags = ap (λ (bs : List Bool). length bs) round.wanted_are in
+    let highs = ap (λ (ts : List ℕ). length ts) heard.highs in
+    omega (
+      arith,
+      flags,
+      length-map (subjects_of round.trial.nodes.now.nodes.items) (λ s. is_target round.cast.roles.now s),
+      highs,
+      length-map c.hear.new.self.highs.items (λ v. slice_index v 0),
+      length-map (subjects_of round.trial.nodes.now.nodes.items)
+          (λ s. highs_at (hearing_of round.trial (slice_index c.four_from.result 0)) never s),
+    )
+
+pub judge_one-requires-clause-heard : goal.judge_one-requires-clause-heard
+judge_one-requires-clause-heard c =
+    let round = c.args.round in
+    let subjects : List ℕ = subjects_of round.trial.nodes.now.nodes.items in
+    let lane : ℕ = c.loop-lane.lane in
+    let end : c.min-lane-end.result ≡ min 4 (length round.cast.receivers.now - c.args.first) = search rules in
+    let low : lane < 4 = omega (arith, end, c.loop-lane-test.true) in
+    let inside : c.args.first + lane < length round.cast.receivers.now = omega (arith, end, c.loop-lane-test.true) in
+    subst (λ (t : Receivers). HasHeard (hearing_of round.trial (slice_index round.cast.receivers.now (c.args.first + lane))) subjects lane t)
+    (sym c.loop-lane.invariant.times)
+    (subst (λ j. HasHeard (hearing_of round.trial j) subjects lane c.hear.new.self) (c.four_from.ensures.each lane inside low)
+    (c.in_ok-hear.ensures lane low))
+
+pub judge_one-requires-clause-finds : goal.judge_one-requires-clause-finds
+judge_one-requires-clause-finds c =
+    let round = c.args.round in
+    let subjects : List ℕ = subjects_of round.trial.nodes.now.nodes.items in
+    let lane : ℕ = c.loop-lane.lane in
+    let end : c.min-lane-end.result ≡ min 4 (length round.cast.receivers.now - c.args.first) = search rules in
+    let low : lane < 4 = omega (arith, end, c.loop-lane-test.true) in
+    let inside : c.args.first + lane < length round.cast.receivers.now = omega (arith, end, c.loop-lane-test.true) in
+    let j : ℕ = slice_index round.cast.receivers.now (c.args.first + lane) in
+    let heard = subst (λ i. HasHeard (hearing_of round.trial i) subjects lane c.hear.new.self)
+    (c.four_from.ensures.each lane inside low) (c.in_ok-hear.ensures lane low) in
+    subst (λ f. Finds (flagged subjects round.wanted.now) (members_at (hearing_of round.trial j)) f) (sym c.at.ensures.finding)
+    (c.judge-findings.ensures.finds (hearing_of round.trial j) subjects lane low heard)
+
+pub returns-clause-judged : goal.returns-clause-judged
+returns-clause-judged c =
+    let cast = c.args.round.cast in
+    let rs : List ℕ = cast.receivers.now in
+    let end : c.min-lane-end.result ≡ min 4 (length rs - c.args.first) = search rules in
+    let at : c.loop-lane.lane ≡ c.min-lane-end.result = omega (arith, c.loop-lane-test.false) in
+    rw (← same_judged cast.alerts.now c.args.draws.now rs (c.args.first + c.loop-lane.lane) (c.args.first + 4)
+    (omega (arith, at, end, c.requires.some))) c.loop-lane.invariant.judged

@@ -1,0 +1,74 @@
+use Rattle.std.proofs.Common.{rules, ◌≡◌, ℕ, Bool, true, false, List, filter, length, refl, ap, sym, ◌∙◌, arith}
+use Rattle.std.proofs.lemmas.Bool.{eqb-true}
+use Rattle.cut_detector.specs.Rule.{rule_in}
+use Rattle.cut_detector.specs.Counts.{is_reported, is_some_stable}
+use Rattle.cut_nodes.specs.declared.node.Node.{Node}
+use Rattle.cut_nodes.specs.Nodes.{subjects_of}
+use Rattle.cut_trial.proofs.Words.{Edge, Rule, is_target, range_with_len, rule_of, set_of, targets_of}
+use Rattle.cut_trial.proofs.Judged.{complete_from, heard_as, none_stable, some_node, subjects_within}
+use Rattle.cut_trial.proofs.judges.Judges.judge_receivers.Goals as goal
+
+pub wanted_nodes-requires : goal.wanted_nodes-requires
+wanted_nodes-requires c =
+    let cast = c.args.cast in
+    let rings = cast.alerts.now.study.rings.now in
+    subjects_within (λ s. is_reported (rule_in c.rule-rule.result) (set_of c.as_slice-edges.result.now) s) rings.nodes
+    (length cast.roles.now.roles) _ c.in_ok-nodes.ensures.subjects
+    (omega (arith, cast.nodes, cast.alerts.now.study.nodes))
+
+pub invariant_of-trial-clause-layout : goal.invariant_of-trial-clause-layout
+invariant_of-trial-clause-layout c = c.rings_are_a_layout.ensures
+
+pub invariant_of-round-clause-heard : goal.invariant_of-round-clause-heard
+invariant_of-round-clause-heard c = λ j.
+    let alerts = c.args.cast.alerts.now in
+    heard_as alerts.study.plan.now alerts.cell alerts.study.rings.now c.new-blocks.result alerts.edges.items
+    c.as_slice-edges.result.now c.copies.result j (rule_in c.rule-rule.result) c.rule-rule.ensures.rule
+    c.as_slice-edges.ensures.value c.copies.ensures.value
+
+pub judge_silent-requires-clause-silent : goal.judge_silent-requires-clause-silent
+judge_silent-requires-clause-silent c = λ j.
+    let alerts = c.args.cast.alerts.now in
+    let rule : Rule = rule_of alerts.cell.k alerts.cell.h alerts.cell.l alerts.study.plan.now.implicit in
+    let none : is_some_stable alerts.study.rings.now rule (set_of alerts.edges.items) ≡ false =
+    ap (λ (es : List Edge). is_some_stable alerts.study.rings.now rule (set_of es)) (sym c.as_slice-edges.ensures.value)
+    ∙ ap (λ (x : Rule). is_some_stable alerts.study.rings.now x (set_of c.as_slice-edges.result.now)) (sym c.rule-rule.ensures.rule)
+    ∙ sym c.in_ok-nodes.ensures.ends ∙ search rules in
+    c.none_proposes_where_none_ends_stable.ensures
+    (record {
+      source = c.args.draws.now;
+      receiver = j;
+      layout = alerts.study.rings.now;
+      rule = rule;
+      edges = alerts.edges.items;
+      copies = alerts.study.plan.now.copies;
+    })
+    (record {
+      layout = c.rings_are_a_layout.ensures;
+      rings = omega (arith, c.rule-rule.ensures.rings, ap (λ (x : Rule). x.k) c.rule-rule.ensures.rule);
+      rule = record { low = alerts.cell_of_plan.low; gap = alerts.cell_of_plan.thresholds };
+    })
+    (none_stable alerts.study.rings.now rule (set_of alerts.edges.items) none)
+
+pub invariant_of-round-clause-some : goal.invariant_of-round-clause-some
+invariant_of-round-clause-some c =
+    let rule : Rule = rule_in c.rule-rule.result in
+    let ends : c.in_ok-nodes.nodes.ends_stable ≡ true = search rules in
+    some_node c.args.cast.alerts.now.study.rings.now rule (set_of c.as_slice-edges.result.now) (λ (d : Node). d.subject)
+    c.in_ok-nodes.nodes.nodes.items c.rule-rule.result.thresholds (sym c.in_ok-nodes.ensures.ends ∙ ends)
+    c.in_ok-nodes.ensures.subjects
+
+pub invariant_of-round-clause-complete : goal.invariant_of-round-clause-complete
+invariant_of-round-clause-complete c = λ is.
+    let cast = c.args.cast in
+    let roles = cast.roles.now in
+    let reported : ℕ → Bool = λ s. is_reported (rule_in c.rule-rule.result) (set_of c.as_slice-edges.result.now) s in
+    let flags : List Bool = c.as_slice-wanted.result.now in
+    let nodes : cast.alerts.now.study.rings.now.nodes ≡ length roles.roles =
+    cast.alerts.now.study.nodes ∙ sym cast.nodes in
+    let many = eqb-true c.count_set.result (length cast.targets.now) is in
+    complete_from (λ s. is_target roles s) reported (length roles.roles)
+    (subjects_of c.in_ok-nodes.nodes.nodes.items) (targets_of roles) flags
+    (c.in_ok-nodes.ensures.subjects ∙ ap (λ n. filter reported (range_with_len 0 n)) nodes) refl
+    (c.as_slice-wanted.ensures.value ∙ c.in_ok-wanted.ensures)
+    (sym c.count_set.ensures ∙ many ∙ ap (λ (xs : List ℕ). length xs) cast.targets_are)

@@ -1,0 +1,30 @@
+-- How the receivers of a trial are judged. Only the crate's private clauses cite it.
+use Rattle.std.specs.Prelude.{◌≡◌, ℕ, List, map, take, Option}
+use Rattle.cut_plan.specs.declared.cell.Cell.{Cell}
+use Rattle.cut_plan.specs.Versions.{version_of}
+use Rattle.cut_draws.specs.Source.{Source}
+use Rattle.cut_detector.specs.Rule.{rule_of}
+use Rattle.cut_detector.specs.declared.proposal.Proposal.{Proposal}
+use Rattle.cut_trial.specs.declared.study.Study.{Study}
+use Rattle.cut_trial.specs.declared.alerts.Alerts.{Alerts}
+use Rattle.cut_trial.specs.declared.replays.Replays.{Replays}
+use Rattle.cut_trial.specs.declared.judges.Judges.{Judges}
+use Rattle.cut_trial.specs.Outcome.{receiver_proposal}
+
+-- what receiver j proposes where these alerts are raised
+abbrev pub proposed_by : Alerts → Source → ℕ → Option Proposal
+proposed_by x d j = receiver_proposal x.study.plan.now x.cell x.study.rings.now d x.edges.items j
+
+-- what the first n of some receivers propose
+abbrev pub proposals_to : Alerts → Source → List ℕ → ℕ → List (Option Proposal)
+proposals_to x d receivers n = map (λ j. proposed_by x d j) (take n receivers)
+
+-- a detector replays a cell of a study: over its rings, by the cell's rule
+pub record BelongsTo (study : Study) (cell : Cell) (x : Replays) : Type 0 where
+  pub layout : x.detector.layout ≡ study.rings.now
+  pub rule : x.detector.rule ≡ rule_of cell.k cell.h cell.l study.plan.now.implicit
+
+-- judges judge a cell of a study: their detector replays it, and they report places as the plan's version asks
+pub record AreFor (study : Study) (cell : Cell) (x : Judges) : Type 0 where
+  pub replays : BelongsTo study cell x.replays
+  pub version : x.outcome.version ≡ version_of study.plan.now.failing

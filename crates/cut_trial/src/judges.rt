@@ -1,0 +1,294 @@
+ghost use Rattle.std.specs.Prelude.{◌≡◌, ◌+◌, ◌^◌, ◌<◌, ◌≤◌, ◌++◌, ◌∷◌, [], ℕ, true, List, Option, None, length, map, count_by, slice_index, IfOk, IsTrue, OnOk, All, Contains};
+ghost use Rattle.cut_plan.specs.Cells.{IsCellOf};
+ghost use Rattle.cut_draws.specs.Source.{source_of};
+ghost use Rattle.cut_alerts.specs.Assignment.{is_target};
+ghost use Rattle.cut_detector.specs.declared.proposal.Proposal as proposals;
+ghost use Rattle.cut_arrivals.specs.Hearing.{proposal_at};
+ghost use Rattle.cut_nodes.specs.Nodes.{subjects_of};
+ghost use Rattle.cut_receivers.specs.Heard.{hearing_of, HasHeard};
+ghost use Rattle.cut_receivers.specs.Findings.{flagged, has_bit, members_at, Finds};
+ghost use Rattle.cut_trial.specs.Verdicts.{targets_of};
+ghost use Rattle.cut_trial.specs.Outcome.{HasJudged, IsJudging};
+ghost use Rattle.cut_trial.specs.Judging.{AreFor, proposed_by, proposals_to};
+
+use crate::cast::Cast;
+use crate::outcome::Outcome;
+use crate::replays::Replays;
+use crate::study::{Study, rings_are_a_layout};
+use cut_alerts::Roles;
+use cut_arrivals::laws::none_proposes_where_none_ends_stable;
+use cut_blocks::Blocks;
+use cut_draws::Draws;
+use cut_nodes::Nodes;
+use cut_plan::Cell;
+use cut_receivers::{Finding, Receivers, Trial};
+use std::alloc::{AllocError, Global};
+
+/// What judges the receivers of a cell's trials, in memory that all trials share.
+#[derive(Drop)]
+pub(crate) struct Judges<'a> {
+    replays: Replays<'a>,
+    pub outcome: Outcome,
+    times: Receivers,
+    members: Vec<u16>,
+}
+
+/// What is the same for all receivers of a trial: its cast, its alerts as receivers hear them, and which nodes are
+/// targets.
+#[derive(Clone, Copy)]
+struct Round<'a> {
+    cast: Cast<'a>,
+    trial: Trial<'a>,
+    wanted: &'a [bool],
+    /// Whether each target is a node.
+    is_complete: bool,
+    ghost some: { 0 < length trial.nodes.now.nodes.items },
+    ghost wanted_are: { wanted.now ≡ map (λ s. is_target cast.roles.now s) (subjects_of trial.nodes.now.nodes.items) },
+    ghost complete: { is_complete ≡ true →
+        flagged (subjects_of trial.nodes.now.nodes.items) wanted.now ≡ targets_of cast.roles.now },
+    ghost heard: { (j : ℕ) → proposal_at (hearing_of trial j) ≡ proposed_by cast.alerts.now trial.blocks.now j },
+    ghost nodes: { trial.rings.now.nodes ≡ length cast.roles.now.roles },
+}
+
+impl<'a> Judges<'a> {
+    /// What judges the receivers of this cell's trials.
+    pub fn new(alloc: Global, study: Study<'a>, cell: Cell) -> Result<Judges<'a>, AllocError>
+        requires { IsCellOf study.plan.now cell }
+        ensures { IfOk result (λ j. AreFor study.entry cell j) }
+    {
+        Ok(Judges {
+            outcome: Outcome::new(alloc, study.plan.version()),
+            replays: Replays::new(alloc, study, cell)?,
+            times: Receivers::new(alloc),
+            members: Vec::new(alloc),
+        })
+    }
+
+    /// Judges all receivers of a trial.
+    pub fn judge(
+        &mut self,
+        alloc: Global,
+        draws: &mut Draws,
+        trial: u32,
+        cast: Cast<'_>,
+    ) -> Result<(), AllocError>
+        requires fit { AreFor cast.alerts.now.study cast.alerts.now.cell self.old }
+        requires draws { draws.old ≡ source_of cast.alerts.now.study.plan.now.seed trial }
+        ensures judged { OnOk result (HasJudged cast.entry.roles.now self.new.outcome
+            (map (λ j. proposed_by cast.entry.alerts.now draws.old j) cast.entry.receivers.now)) }
+        ensures fit { AreFor cast.entry.alerts.now.study cast.entry.alerts.now.cell self.new }
+    {
+        self.outcome.clear();
+        self.judge_receivers(alloc, draws, trial, cast)?;
+        self.outcome.close(cast.targets)?;
+        Ok(())
+    }
+
+    /// Judges all receivers, of which none has been judged.
+    fn judge_receivers(
+        &mut self,
+        alloc: Global,
+        draws: &mut Draws,
+        trial: u32,
+        cast: Cast<'_>,
+    ) -> Result<(), AllocError>
+        requires fit { AreFor cast.alerts.now.study cast.alerts.now.cell self.old }
+        requires draws { draws.old ≡ source_of cast.alerts.now.study.plan.now.seed trial }
+        requires none { IsJudging cast.roles.now self.old.outcome [] }
+        ensures judged { OnOk result (IsJudging cast.entry.roles.now self.new.outcome
+            (proposals_to cast.entry.alerts.now draws.old cast.entry.receivers.now (length cast.entry.receivers.now))) }
+        ensures fit { AreFor cast.entry.alerts.now.study cast.entry.alerts.now.cell self.new }
+    {
+        let alerts = cast.alerts;
+        let Study { plan, rings } = alerts.study;
+        let rule = alerts.rule();
+        let edges = alerts.edges.as_slice();
+        let nodes = Nodes::of(alloc, rings, rule, edges)?;
+        rings_are_a_layout(rings);
+        if !nodes.ends_stable {
+            none_proposes_where_none_ends_stable();
+            return self.judge_silent(draws, cast);
+        }
+        let blocks = Blocks::new(plan.seed(), trial);
+        let trial = Trial {
+            rings,
+            rule,
+            edges,
+            copies: plan.copies(),
+            blocks: &blocks,
+            nodes: &nodes,
+        };
+        let wanted = wanted_nodes(alloc, &nodes, cast.roles)?;
+        let wanted = wanted.as_slice();
+        let round = Round {
+            cast,
+            trial,
+            wanted,
+            is_complete: count_set(wanted) == cast.targets.len(),
+        };
+        self.judge_all(draws, round)
+    }
+
+    /// Judges receivers none of which proposes, as no process is stable by all alerts.
+    fn judge_silent(&mut self, draws: &Draws, cast: Cast<'_>) -> Result<(), AllocError>
+        requires fit { AreFor cast.alerts.now.study cast.alerts.now.cell self.old }
+        requires none { IsJudging cast.roles.now self.old.outcome [] }
+        requires silent { (j : ℕ) → proposed_by cast.alerts.now draws.now j ≡ None }
+        ensures judged { OnOk result (IsJudging cast.entry.roles.now self.new.outcome
+            (proposals_to cast.entry.alerts.now draws.now cast.entry.receivers.now (length cast.entry.receivers.now))) }
+        ensures fit { AreFor cast.entry.alerts.now.study cast.entry.alerts.now.cell self.new }
+    {
+        for _ in cast.receivers {
+            self.outcome.add(None, 0, cast.roles, cast.targets)?;
+        }
+        Ok(())
+    }
+
+    /// Judges all receivers, four at a time.
+    fn judge_all(&mut self, draws: &mut Draws, round: Round<'_>) -> Result<(), AllocError>
+        requires fit { AreFor round.cast.alerts.now.study round.cast.alerts.now.cell self.old }
+        requires draws { draws.old ≡ round.trial.blocks.now }
+        requires none { IsJudging round.cast.roles.now self.old.outcome [] }
+        ensures judged { OnOk result (IsJudging round.entry.cast.roles.now self.new.outcome
+            (proposals_to round.entry.cast.alerts.now draws.old round.entry.cast.receivers.now (length round.entry.cast.receivers.now))) }
+        ensures fit { AreFor round.entry.cast.alerts.now.study round.entry.cast.alerts.now.cell self.new }
+    {
+        for four in 0..round.cast.receivers.len().div_ceil(4) {
+            self.judge_four(draws, round, 4 * four)?;
+        }
+        Ok(())
+    }
+
+    /// Judges up to four receivers from a place on.
+    fn judge_four(
+        &mut self,
+        draws: &mut Draws,
+        round: Round<'_>,
+        first: usize,
+    ) -> Result<(), AllocError>
+        requires fit { AreFor round.cast.alerts.now.study round.cast.alerts.now.cell self.old }
+        requires draws { draws.old ≡ round.trial.blocks.now }
+        requires some { first < length round.cast.receivers.now }
+        requires before { IsJudging round.cast.roles.now self.old.outcome
+            (proposals_to round.cast.alerts.now draws.old round.cast.receivers.now first) }
+        ensures judged { OnOk result (IsJudging round.entry.cast.roles.now self.new.outcome
+            (proposals_to round.entry.cast.alerts.now draws.old round.entry.cast.receivers.now (first + 4))) }
+        ensures fit { AreFor round.entry.cast.alerts.now.study round.entry.cast.alerts.now.cell self.new }
+        ensures draws { draws.new ≡ draws.old }
+    {
+        let receivers = round.cast.receivers;
+        self.times.hear(round.trial, four_from(receivers, first))?;
+        let findings = self.times.judge(round.wanted);
+        for lane in 0..4.min(receivers.len() - first) {
+            self.judge_one(draws, round, first + lane, lane, findings.at(lane))?;
+        }
+        Ok(())
+    }
+
+    /// Judges the receiver at a place by what was found in its lane.
+    fn judge_one(
+        &mut self,
+        draws: &mut Draws,
+        round: Round<'_>,
+        place: usize,
+        lane: usize,
+        finding: Finding,
+    ) -> Result<(), AllocError>
+        requires fit { AreFor round.cast.alerts.now.study round.cast.alerts.now.cell self.old }
+        requires draws { draws.old ≡ round.trial.blocks.now }
+        requires some { place < length round.cast.receivers.now }
+        requires lane { lane < 4 }
+        requires heard { HasHeard (hearing_of round.trial (slice_index round.cast.receivers.now place))
+            (subjects_of round.trial.nodes.now.nodes.items) lane self.old.times }
+        requires finds { Finds (flagged (subjects_of round.trial.nodes.now.nodes.items) round.wanted.now)
+            (members_at (hearing_of round.trial (slice_index round.cast.receivers.now place))) finding }
+        requires sure { IsTrue (has_bit self.old.times.closing.doubt lane) → finding ≡ Finding.Doubtful }
+        requires before { IsJudging round.cast.roles.now self.old.outcome
+            (proposals_to round.cast.alerts.now draws.old round.cast.receivers.now place) }
+        ensures judged { OnOk result (IsJudging round.entry.cast.roles.now self.new.outcome
+            (proposals_to round.entry.cast.alerts.now draws.old round.entry.cast.receivers.now (place + 1))) }
+        ensures fit { AreFor round.entry.cast.alerts.now.study round.entry.cast.alerts.now.cell self.new }
+        ensures times { self.new.times ≡ self.old.times }
+        ensures draws { draws.new ≡ draws.old }
+    {
+        let cast = round.cast;
+        match finding {
+            Finding::Silent => self.outcome.add(None, 0, cast.roles, cast.targets),
+            Finding::Wanted if round.is_complete && !self.outcome.reports_places() => {
+                self.outcome.add_exact(0);
+                Ok(())
+            }
+            Finding::Other if !self.outcome.reports_places() => {
+                let nodes = round.trial.nodes;
+                self.times.members(nodes, lane, &mut self.members)?;
+                let members = Some(self.members.as_slice());
+                self.outcome.add(members, 0, cast.roles, cast.targets)
+            }
+            _ => self.replay(draws, cast, cast.receivers[place]),
+        }
+    }
+
+    /// Judges a receiver by its deliveries in their order.
+    fn replay(&mut self, draws: &mut Draws, cast: Cast<'_>, receiver: u16) -> Result<(), AllocError>
+        requires fit { AreFor cast.alerts.now.study cast.alerts.now.cell self.old }
+        requires receiver { receiver < length cast.roles.now.roles }
+        ensures judged { OnOk result ((before : List (Option proposals.Proposal)) → length before < 2 ^ 32 →
+            IsJudging cast.entry.roles.now self.old.outcome before →
+            IsJudging cast.entry.roles.now self.new.outcome (before ++ proposed_by cast.entry.alerts.now draws.old receiver ∷ [])) }
+        ensures fit { AreFor cast.entry.alerts.now.study cast.entry.alerts.now.cell self.new }
+        ensures times { self.new.times ≡ self.old.times }
+        ensures draws { draws.new ≡ draws.old }
+    {
+        self.replays.hear(draws, cast.alerts, receiver)?;
+        let detector = &self.replays.detector;
+        self.outcome.add(
+            detector.members(),
+            detector.deliveries(),
+            cast.roles,
+            cast.targets,
+        )
+    }
+}
+
+/// Which nodes are targets.
+fn wanted_nodes(alloc: Global, nodes: &Nodes, roles: &Roles) -> Result<Vec<bool>, AllocError>
+    requires { All (λ s. s < length roles.now.roles) (subjects_of nodes.now.nodes.items) }
+    ensures { IfOk result (λ wanted. wanted.items ≡ map (λ s. is_target roles.now s) (subjects_of nodes.now.nodes.items)) }
+{
+    let mut wanted = Vec::with_capacity(alloc, nodes.nodes.len())?;
+    for node in &nodes.nodes {
+        wanted.push(roles.is_target(node.subject))?;
+    }
+    Ok(wanted)
+}
+
+/// How many flags are set.
+fn count_set(flags: &[bool]) -> usize
+    ensures { result ≡ count_by (λ flag. flag) flags.now }
+{
+    flags.iter().filter(|flag| **flag).count()
+}
+
+/// Four receivers from a place on, where the last one stands for those that are not there.
+fn four_from(receivers: &[u16], first: usize) -> [u16; 4]
+    requires some { first < length receivers.now }
+    ensures each { (i : ℕ) → first + i < length receivers.now → i < 4
+        → slice_index result i ≡ slice_index receivers.now (first + i) }
+    ensures all { All (λ j. Contains receivers.now j) result }
+{
+    [
+        receiver_at(receivers, first),
+        receiver_at(receivers, first + 1),
+        receiver_at(receivers, first + 2),
+        receiver_at(receivers, first + 3),
+    ]
+}
+
+/// The receiver at a place, or the last one.
+fn receiver_at(receivers: &[u16], place: usize) -> u16
+    requires { 0 < length receivers.now }
+    ensures each { place < length receivers.now → result ≡ slice_index receivers.now place }
+    ensures all { Contains receivers.now result }
+{
+    receivers[place.min(receivers.len() - 1)]
+}
