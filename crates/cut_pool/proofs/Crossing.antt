@@ -3,11 +3,13 @@ use denote.RattleType.{RattleType}
 use denote.Param.Send.{IsSend, IsSync, sendable, view_sync, recorded_sync, struct_sync}
 use denote.Struct.Declared.{shape}
 use denote.Struct.Struct.{Struct}
+use Rattle.std.proofs.sync.OnceLock.TheSendSync as once_crosses
 use Rattle.std.proofs.Crossing.{crosses}
 use Rattle.std.specs.declared.sync.ledger.Ledger as tokens
 use Rattle.std.proofs.sync.ledger.Share.TheSendSync as share_crosses
 use Rattle.cut_disks.specs.declared.disk.Disk as disk
 use Rattle.cut_plan.specs.contracts.plan.Plan as plan
+use Rattle.cut_rings.specs.contracts.rings.Rings as rings
 use Rattle.cut_ledger.specs.contracts.ledger.Ledger as ledger
 use Rattle.cut_journal.specs.contracts.journal.Journal as journal
 use Rattle.cut_board.specs.contracts.board.Board as board
@@ -19,12 +21,32 @@ use Rattle.cut_pool.specs.contracts.history.History as history
 use Rattle.cut_pool.specs.contracts.book.Book as book
 use Rattle.cut_pool.specs.contracts.slot.Slot as slot
 use Rattle.cut_pool.specs.contracts.accounts.Accounts as accounts
+use Rattle.cut_pool.specs.contracts.work.Bench as bench
+use Rattle.cut_pool.specs.contracts.work.SharedBench as shared
 use Rattle.cut_pool.specs.contracts.hall.Place as place
 use Rattle.cut_pool.specs.contracts.hall.Hall as hall
 use Rattle.cut_pool.specs.contracts.hall.Hall.TheInside as inside
 
 pub plan_send : IsSend plan.the_row
 plan_send = search (sendable, crosses) depth 100
+
+pub plan_sync : IsSync plan.the_row
+plan_sync = search (sendable, crosses) depth 100
+
+pub rings_send : IsSend rings.the_row
+rings_send = search (sendable, crosses) depth 100
+
+pub rings_sync : IsSync rings.the_row
+rings_sync = search (sendable, crosses) depth 100
+
+pub bench_send : IsSend bench.the_row
+bench_send = search (sendable, crosses, plan_send, rings_send) depth 100
+
+pub bench_sync : IsSync bench.the_row
+bench_sync = search (sendable, crosses, plan_sync, rings_sync) depth 100
+
+pub shared_sync : IsSync (shared.the_field).row
+shared_sync = search (sendable, crosses, once_crosses.the_sync, bench_send, bench_sync) depth 100
 
 pub ledger_send : IsSend ledger.the_row
 ledger_send = search (sendable, crosses, plan_send) depth 100
@@ -50,7 +72,10 @@ module _ (D M K : RattleType) (gD : disk.Ghosts D.Denot) (tM : tally.Ghosts M.De
   accounts_send = search (sendable, crosses, accounts_crosses.the_send) depth 100
 
   pub place_sync : IsSync (place.the_row D K gD tK lK)
-  place_sync = search (sendable, crosses, slot_send) depth 100
+  place_sync =
+      let T = place.the_type D K gD tK lK in
+      recorded_sync (Struct (shape T)) T.D T.to T.to_one (struct_sync (shape T)
+      (search (sendable, crosses, slot_send) depth 100, (search (sendable, crosses) depth 100, (shared_sync, tt))))
 
   fields_sync : IsSync (inside.the_row D M K gD tM tK lM lK)
   fields_sync =
