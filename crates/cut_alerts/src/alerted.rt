@@ -20,6 +20,9 @@ pub fn is_alert(rings: &Rings, roles: &Roles, edge: Edge) -> bool
 {
     let subject = edge.subject;
     let observer = rings.observer(edge.ring, subject);
+    if roles.role(observer) == Role::Healthy && roles.role(subject) == Role::Healthy {
+        return false;
+    }
     let alive = roles.role(observer) != Role::Crashed;
     let is_cut = roles.is_cut(observer, subject) || roles.is_cut(subject, observer);
     (roles.is_target(subject) && (alive || roles.dead() == Dead::Speak))

@@ -1,6 +1,6 @@
 -- The processes that count for a proposal, with their times.
-use Rattle.std.specs.Prelude.{◌≡◌, ℕ, ◌<◌, ◌≤◌, false, List, length, slice_index, map, All, Contains}
-use Rattle.cut_ranks.specs.Closing.{IsClosing, is_doubtful}
+use Rattle.std.specs.Prelude.{◌≡◌, ℕ, ◌<◌, ◌≤◌, false, List, map, All, Contains}
+use Rattle.cut_ranks.specs.Closing.{IsLeast, IsClosing, is_doubtful}
 
 -- lows and highs of n processes: none is stable before it is reported, and nothing comes before time 1
 pub record AreTimes (n end : ℕ) (low high : ℕ → ℕ) : Type 0 where
@@ -14,11 +14,6 @@ pub record AreNodes (n last : ℕ) (low high : ℕ → ℕ) (nodes lows highs : 
   pub each : (s : ℕ) → s < n → low s < last → Contains nodes s
   pub lows_are : lows ≡ map low nodes
   pub highs_are : highs ≡ map high nodes
-
--- the least of some times
-pub record IsLeast (xs : List ℕ) (x : ℕ) : Type 0 where
-  pub below : (u : ℕ) → u < length xs → x ≤ slice_index xs u
-  pub among : Contains xs x
 
 -- such lows and highs with their closing time, of which nothing is doubted
 pub record IsClosed (n last : ℕ) (low high : ℕ → ℕ) (lows highs : List ℕ) (first time : ℕ) : Type 0 where

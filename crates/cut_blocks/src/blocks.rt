@@ -1,11 +1,10 @@
 ghost use Rattle.std.specs.Prelude.{◌≡◌, ℕ, ◌+◌, ◌*◌, ◌/◌, ◌%◌, ◌^◌, ◌<◌, ◌≤◌, List, [], map, slice_index, All, OnOk, OnErr};
-ghost use Rattle.rand_chacha.specs.Block.{initial_state};
-ghost use Rattle.rand_chacha.specs.Lanes.{lane};
 ghost use Rattle.cut_draws.specs.Source.{source_of, word_of};
+ghost use Rattle.cut_blocks.specs.States.{AreFirstStates};
 ghost use Rattle.cut_blocks.specs.Images.{eight, image_at, place_in, least_image};
 
 use crate::images::{Eight, NEVER, images_of, lesser_of};
-use crate::rounds::{States, eight_rounds, sum};
+use crate::rounds::{States, eight_rounds, sum, with_blocks};
 use rand_core::utils::read_u32;
 use std::alloc::AllocError;
 use std::marker::Model;
@@ -71,15 +70,17 @@ impl Blocks {
     {
         images.clear();
         images.reserve(blocks.len())?;
+        let states = self.first_states();
         for block in blocks {
-            images.push_reserved(self.least(copies, rows, *block));
+            images.push_reserved(self.least(states, copies, rows, *block));
         }
         Ok(())
     }
 
     /// The least images of one block.
     #[inline(always)]
-    fn least(&self, copies: u32, rows: u32x4, block: u32) -> Eight
+    fn least(&self, states: States, copies: u32, rows: u32x4, block: u32) -> Eight
+        requires states { AreFirstStates self.now states }
         requires copies { copies ≤ 4 }
         requires rows { All (λ row. row < 2 ^ 27) rows }
         requires block { block < 2 ^ 13 }
@@ -87,7 +88,7 @@ impl Blocks {
     {
         let mut least = [u32x4::splat(NEVER); 8];
         for copy in 0..copies {
-            let images = self.images(moved(rows, block + copy * COPY));
+            let images = self.images(states, moved(rows, block + copy * COPY));
             let both = lesser_of(least, images);
             least = both;
         }
@@ -96,18 +97,20 @@ impl Blocks {
 
     /// The images of the keys of a block for each receiver.
     #[inline(always)]
-    fn images(&self, blocks: u32x4) -> Eight
+    fn images(&self, states: States, blocks: u32x4) -> Eight
+        requires { AreFirstStates self.now states }
         ensures { result ≡ eight (λ q block. image_at self.now (place_in block q)) blocks }
     {
-        images_of(self.high_words(blocks))
+        images_of(self.high_words(states, blocks))
     }
 
     /// The high words of the keys of a block for each receiver, which are every other word from the first.
     #[inline(always)]
-    fn high_words(&self, blocks: u32x4) -> Eight
+    fn high_words(&self, states: States, blocks: u32x4) -> Eight
+        requires { AreFirstStates self.now states }
         ensures { result ≡ eight (λ q block. word_of self.now (place_in block q)) blocks }
     {
-        let first = self.first_states(blocks);
+        let first = with_blocks(states, blocks);
         let last = eight_rounds(first);
         [
             sum(last[0], first[0]),
@@ -121,12 +124,11 @@ impl Blocks {
         ]
     }
 
-    /// The states of four blocks before the first round (2.3): the constants, the key, the block's number and the
-    /// stream's.
-    #[inline(always)]
-    fn first_states(&self, blocks: u32x4) -> States
-        ensures { (j : ℕ) → j < 4
-            → lane j result ≡ initial_state self.now.key (slice_index blocks j) self.now.stream }
+    /// The states of four blocks before the first round (2.3): the constants, the key, a block's number, here 0, and the
+    /// stream's. All but the number is the same for every block, and so is what three columns of the first round make
+    /// of it, which is computed once for all blocks that are drawn.
+    fn first_states(&self) -> States
+        ensures { AreFirstStates self.now result }
     {
         let [a, b, c, d, e, f, g, h] = self.key;
         [
@@ -142,7 +144,7 @@ impl Blocks {
             u32x4::splat(f),
             u32x4::splat(g),
             u32x4::splat(h),
-            blocks,
+            u32x4::splat(0),
             u32x4::splat(0),
             u32x4::splat(low_word(self.stream)),
             u32x4::splat(high_word(self.stream)),

@@ -1,7 +1,7 @@
 //! The rounds of the cipher (RFC 8439, 2.1 to 2.3) on four blocks side by side: each word of a state is a vector, with
 //! a lane for each block.
-ghost use Rattle.std.specs.Prelude.{◌≡◌, ℕ, ◌<◌, length, slice_index};
-ghost use Rattle.rand_chacha.specs.Block.{add32, xor_rotate, quarter_round, column_round, diagonal_round, double_rounds};
+ghost use Rattle.std.specs.Prelude.{◌≡◌, ℕ, ◌<◌, List, length, slice_index};
+ghost use Rattle.rand_chacha.specs.Block.{add32, xor_rotate, quarter_round, column_round, diagonal_round, double_rounds, initial_state};
 ghost use Rattle.rand_chacha.specs.Lanes.{lane};
 
 use std::simd::u32x4;
@@ -128,4 +128,15 @@ pub(crate) fn eight_rounds(states: States) -> States
     ensures { (j : ℕ) → j < 4 → lane j result ≡ double_rounds 4 (lane j states) }
 {
     double_round(double_round(double_round(double_round(states))))
+}
+
+/// The states with other numbers of blocks.
+#[inline(always)]
+pub(crate) fn with_blocks(states: States, blocks: u32x4) -> States
+    ensures { (key : List ℕ) (stream j : ℕ) → j < 4 → lane j states ≡ initial_state key 0 stream
+        → lane j result ≡ initial_state key (slice_index blocks j) stream }
+{
+    let mut moved = states;
+    moved[12] = blocks;
+    moved
 }

@@ -1,11 +1,12 @@
--- What comparisons and choices give in a lane of vectors of four.
-use Rattle.std.proofs.Common.{◌≡◌, ◌∙◌, ℕ, ◌+◌, ◌-◌, ◌/◌, ◌%◌, ◌^◌, ◌<◌, ◌≤◌, ◌||◌, ◌&&◌, Bool, true, false, cond, not, ltb, eqb, nat_eq, min, max, sum, List, [], ◌∷◌, length, map, replicate, slice_index, get_or, Fits, inl, inr, refl, subst, ap, sym, le-ltb, ne_eqb, eq-eqb, arith}
+-- Bits, sums and marks of lanes of vectors of four.
+use Rattle.std.proofs.Common.{◌≡◌, ◌∙◌, ℕ, ◌+◌, ◌/◌, ◌%◌, ◌^◌, ◌<◌, ◌≤◌, ◌||◌, ◌&&◌, Bool, true, false, cond, not, ltb, eqb, nat_eq, sum, List, [], ◌∷◌, length, map, replicate, slice_index, get_or, Fits, inl, inr, refl, ap, sym, le-ltb, ne_eqb, eq-eqb, arith}
 use Rattle.std.specs.Int.{w32}
-use Rattle.std.specs.Simd.Lanes.{Each1, zip2, sel_l, mask_l, top}
+use Rattle.std.specs.Simd.Lanes.{Each1, zip2, mask_l}
 use Rattle.std.proofs.Math.Nat.{zero-div}
 use Rattle.std.proofs.lemmas.Bool.{cases_lt, cases_eq, lt-ltb}
-use Rattle.std.proofs.lemmas.List.{get_or-map, get_or-replicate, length-map}
-use Rattle.std.proofs.lemmas.Simd.{Each1-get_or, tops_compared, length-zip2, length-sel_l, get_or-sel_l, get_or-zip2, bitmask_splat, bit_mask_l, mask_l-mod, mask_l-lt}
+use Rattle.std.proofs.lemmas.List.{get_or-map, get_or-replicate}
+use Rattle.std.proofs.lemmas.Simd.{Each1-get_or, tops_compared, get_or-zip2, bitmask_splat, bit_mask_l, mask_l-mod}
+use Rattle.cut_ranks.proofs.Choices.{tops, compared_four}
 
 -- what holds of every list of four numbers
 of_four : (P : List ℕ → Type 0) → ((a b c d : ℕ) → P (a ∷ b ∷ c ∷ d ∷ [])) → (xs : List ℕ) → length xs ≡ 4 → P xs
@@ -16,45 +17,6 @@ of_four P holds (a ∷ b ∷ []) is = absurd (omega (arith, is))
 of_four P holds (a ∷ b ∷ c ∷ []) is = absurd (omega (arith, is))
 of_four P holds (a ∷ b ∷ c ∷ d ∷ e ∷ xs) is = absurd (omega (arith, is))
 
--- the mask of a comparison, and what is chosen by it
-abbrev pub tops : (ℕ → ℕ → Bool) → List ℕ → List ℕ → List Bool
-tops t a b = map (top 31) (zip2 (λ x y. cond (t x y) (2 ^ 32 - 1) 0) a b)
-
-abbrev pub choice : (ℕ → ℕ → Bool) → List ℕ → List ℕ → List ℕ → List ℕ → List ℕ
-choice t a b xs ys = sel_l (tops t a b) xs ys
-
-compared_four : (t : ℕ → ℕ → Bool) (a b : List ℕ) → length a ≡ 4 → length b ≡ 4 → length (zip2 t a b) ≡ 4
-compared_four t a b la lb = length-zip2 t a b (la ∙ sym lb) ∙ la
-
-pub choice_four : (t : ℕ → ℕ → Bool) (a b xs ys : List ℕ) → length a ≡ 4 → length b ≡ 4 → length xs ≡ 4 → length ys ≡ 4
-    → length (choice t a b xs ys) ≡ 4
-choice_four t a b xs ys la lb lx ly =
-    let four = compared_four t a b la lb in
-    ap (λ (ms : List Bool). length (sel_l ms xs ys)) (tops_compared w32 t a b)
-    ∙ length-sel_l (zip2 t a b) xs ys (four ∙ sym lx) (four ∙ sym ly) ∙ four
-
-pub choice_at : (t : ℕ → ℕ → Bool) (a b xs ys : List ℕ) → length a ≡ 4 → length b ≡ 4 → length xs ≡ 4 → length ys ≡ 4
-    → (i : ℕ) → i < 4
-    → slice_index (choice t a b xs ys) i ≡ cond (t (slice_index a i) (slice_index b i)) (slice_index xs i) (slice_index ys i)
-choice_at t a b xs ys la lb lx ly i low =
-    let four = compared_four t a b la lb in
-    ap (λ (ms : List Bool). slice_index (sel_l ms xs ys) i) (tops_compared w32 t a b)
-    ∙ get_or-sel_l (zip2 t a b) xs ys i 0 (omega (arith, four, low)) (omega (arith, lx, low)) (omega (arith, ly, low))
-    ∙ ap (λ m. cond m (slice_index xs i) (slice_index ys i))
-    (get_or-zip2 t a b i 0 0 false (omega (arith, la, low)) (omega (arith, lb, low)))
-
-pub min_is : (x y : ℕ) → cond (ltb x y) x y ≡ min x y
-min_is x y = elim (cases_lt x y) [
-  | inl less ↦ rw (lt-ltb x y less) (omega (arith, less))
-  | inr more ↦ rw (le-ltb x y more) (omega (arith, more))
-]
-
-pub max_is : (x y : ℕ) → cond (ltb x y) y x ≡ max x y
-max_is x y = elim (cases_lt x y) [
-  | inl less ↦ rw (lt-ltb x y less) (omega (arith, less))
-  | inr more ↦ rw (le-ltb x y more) (omega (arith, more))
-]
-
 -- ---- bits
 
 pub bit_at : (xs : List ℕ) → length xs ≡ 4 → (i : ℕ) → i < 4
@@ -63,14 +25,6 @@ bit_at xs four i low =
     ap (λ m. m / 2 ^ i % 2) (bitmask_splat w32 eqb xs 4 1 four (omega arith))
     ∙ bit_mask_l (map (λ x. eqb x 1) xs) i
     ∙ ap (λ b. cond b 1 0) (get_or-map (λ x. eqb x 1) xs i 0 false (omega (arith, four, low)))
-
--- there are no other bits
-pub bits_four : (xs : List ℕ) → length xs ≡ 4 → mask_l (tops eqb xs (replicate 4 1)) % 2 ^ 64 < 2 ^ 4
-bits_four xs four =
-    let bits : List Bool = map (λ x. eqb x 1) xs in
-    let size : length bits ≡ 4 = length-map xs (λ x. eqb x 1) ∙ four in
-    subst (λ m. m < 2 ^ 4) (sym (bitmask_splat w32 eqb xs 4 1 four (omega arith)))
-    (subst (λ n. mask_l bits < 2 ^ n) size (mask_l-lt bits))
 
 pub doubted : (b c : Bool) (m : ℕ) → eqb (cond b 1 (cond c m 0)) 1 ≡ b || (c && eqb m 1)
 doubted true c m = refl

@@ -1,5 +1,5 @@
 -- Counts of deliveries by the slots of their edges.
-use Rattle.std.proofs.Common.{◌≡◌, ◌∙◌, inl, inr, ℕ, ◌+◌, ◌*◌, ◌^◌, ◌<◌, ◌≤◌, ◌==◌, Bool, true, false, not, nat_lt, nat_le, cond, min, List, [], ◌∷◌, ◌++◌, length, map, take, slice_index, slice_index_or, refl, ap, sym, zero-add, arith}
+use Rattle.std.proofs.Common.{◌≡◌, ◌∙◌, inl, inr, ℕ, ◌+◌, ◌*◌, ◌^◌, ◌<◌, ◌≤◌, ◌==◌, Bool, nat_lt, nat_le, cond, min, List, [], ◌∷◌, ◌++◌, length, map, take, slice_index, slice_index_or, refl, ap, sym, zero-add, arith}
 use Rattle.std.specs.List.{All, count_by, range_with_len, flat_map}
 use Rattle.std.proofs.lemmas.Bool.{cases_Bool, cases_lt, cases_eq, lt-ltb, le-ltb, eq-eqb, ne_eqb}
 use Rattle.std.proofs.lemmas.Bool.Decides.{nat_tests}
@@ -14,12 +14,17 @@ use Rattle.cut_draws.specs.DeliveryOrder.{copies_of}
 use Rattle.cut_draws.specs.Source.{Source}
 unfoldable use Rattle.cut_blocks.specs.Images.{least_image}
 use Rattle.cut_blocks.specs.Images.{never, eight, image_at, place_in, row_of, DeliveriesStandInBlocks, ImagesAreBelowNever}
-use Rattle.cut_arrivals.specs.Hearing.{Hearing, image_of}
+use Rattle.cut_arrivals.specs.Hearing.{Hearing, deliveries_of, image_of}
 use Rattle.cut_nodes.specs.declared.slots.Slot.{Slot}
 use Rattle.cut_nodes.specs.Slots.{AreSlots, key_in, key_of}
-use Rattle.cut_receivers.specs.Places.{image_in, count_below}
+use Rattle.cut_receivers.specs.Places.{image_in}
 use Rattle.cut_receivers.proofs.Bounds.{map_agree}
 use Rattle.cut_receivers.proofs.Drawn.{image_drawn}
+
+-- of the first copies of all edges how many have an image below a bound
+abbrev pub count_below : Hearing → ℕ → ℕ → ℕ
+count_below x copies bound =
+    count_by (λ y. nat_lt (image_of x y) bound) (flat_map (λ c. copies_of x.edges c) (range_with_len 0 copies))
 
 -- one element more
 pub count_more : {X : Type 0} (p : X → Bool) (xs : List X) (n : ℕ) (d : X) → n < length xs
@@ -149,6 +154,15 @@ few_more c k blocks edges slots test old new are few more is =
     ∙ length-map edges (λ e. key_of k e) in
     omega (arith, more, is, few, same, count_by-le-length test slots)
 
-pub not_false : (b : Bool) → not b ≡ false → b ≡ true
-not_false true is = refl
-not_false false is = sym is
+-- of two counts the later one is the next number exactly where one delivery has the image of the time
+pub next_count : (x : Hearing) (time before until : ℕ) → before ≡ count_below x x.copies time
+    → until ≡ count_below x x.copies (time + 1)
+    → (until == before + 1) ≡ (count_by (λ y. image_of x y == time) (deliveries_of x) == 1)
+next_count x time before until before_is until_is =
+    let n : ℕ = count_by (λ y. image_of x y == time) (deliveries_of x) in
+    let more : until ≡ before + n =
+    until_is ∙ count_at (λ y. image_of x y) time (deliveries_of x) ∙ ap (λ (m : ℕ). m + n) (sym before_is) in
+    one_apart until before n more
+  where
+    one_apart : (until before n : ℕ) → until ≡ before + n → (until == before + 1) ≡ (n == 1)
+    one_apart until before n more = grind (arith, nat_tests, more)

@@ -82,7 +82,7 @@ module _ (x : Hearing) (subjects : List ℕ) (i : ℕ) (f : declared.Receivers) 
       → IsClosed n never (lows_at x never) (highs_at x never) (lane i f.lows.items) (lane i f.highs.items) first time
   closed sure = record {
     nodes = (subjects, nodes_are);
-    least = record { below = h.least.below; among = h.least.among };
+    least = h.least;
     closing = h.closing;
     sure = sure;
   }

@@ -1,7 +1,8 @@
 -- At which place a lane's receiver proposes.
-use Rattle.std.proofs.Common.{◌≡◌, ◌∙◌, inl, inr, ℕ, ◌<◌, ◌≤◌, ◌==◌, false, nat_lt, nat_le, List, length, slice_index, Option, IfSome, sym, subst, arith}
+use Rattle.std.proofs.Common.{◌≡◌, ◌∙◌, inl, inr, ℕ, ◌<◌, ◌≤◌, ◌==◌, false, not, nat_lt, List, length, slice_index, Option, IfSome, sym, subst, arith}
 use Rattle.std.specs.List.{count_by}
 use Rattle.std.proofs.lemmas.Bool.{cases_Bool}
+use Rattle.std.proofs.lemmas.Bool.Decides.{nat_tests}
 use Rattle.cut_detector.specs.declared.proposal.Proposal.{Proposal}
 use Rattle.cut_draws.specs.declared.delivery.Delivery.{Delivery}
 use Rattle.cut_blocks.specs.Images.{never}
@@ -17,7 +18,6 @@ use Rattle.cut_receivers.proofs.Bounds.{high_within}
 use Rattle.cut_receivers.proofs.Choices.{length_lane}
 use Rattle.cut_receivers.proofs.Placed.{lane_long}
 use Rattle.cut_receivers.proofs.Judged.{closed, sure_of, high_at}
-use Rattle.cut_receivers.proofs.Counts.{count_until, count_at}
 
 -- no closing time is after `never`
 pub time_within : (x : Hearing) (subjects : List ℕ) (i : ℕ) (f : declared.Receivers) → HasHeard x subjects i f
@@ -30,6 +30,9 @@ time_within x subjects i f h =
     (slice_index subjects u)) in
     h.closing.least never (record { begun = λ u low _. ended u low; before = λ u low _. ended u low })
 
+at_most_one : (n : ℕ) → not (n == 1) ≡ false → n ≤ 1
+at_most_one n is = grind (arith, nat_tests, is)
+
 pub placed : ClosesAtPlace → (x : Hearing) (subjects : List ℕ) (i : ℕ) (f : declared.Receivers)
     (p : counted.Places) → HasHeard x subjects i f
     → has_bit f.closing.doubt i ≡ false → HasCounted x (slice_index f.closing.time i) i p → has_bit p.doubt i ≡ false
@@ -37,19 +40,13 @@ pub placed : ClosesAtPlace → (x : Hearing) (subjects : List ℕ) (i : ℕ) (f 
 placed law x subjects i f p h clear counts apart =
     let t : ℕ = slice_index f.closing.time i in
     let ys : List Delivery = deliveries_of x in
-    let one : count_by (λ y. image_of x y == t) ys ≤ 1 = omega (
-      arith,
-      count_at
-          (λ y. image_of x y) t ys,
-      counts.sure apart,
-    ) in
+    let one : count_by (λ y. image_of x y == t) ys ≤ 1 =
+    at_most_one (count_by (λ y. image_of x y == t) ys) (sym counts.doubt ∙ apart) in
     let proposed = law x never (lane i f.lows.items) (lane i f.highs.items)
     (slice_index f.closing.first i) t h.hearing (omega arith)
     (closed x subjects i f h (sure_of x subjects i f h clear)) one in
-    let place : count_by (λ y. nat_le (image_of x y) t) ys ≡ slice_index p.until i =
-    count_until (λ y. image_of x y) t ys ∙ sym counts.until in
     subst (λ (o : Option Proposal). IfSome o (λ q. q.at ≡ slice_index p.until i)) (sym proposed)
     (elim (cases_Bool (nat_lt t never)) [
-      | inl comes ↦ rw comes place
+      | inl comes ↦ rw comes (sym counts.until)
       | inr not ↦ rw not tt
     ])

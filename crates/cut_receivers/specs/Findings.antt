@@ -1,5 +1,5 @@
 -- What lanes are found to propose.
-use Rattle.std.specs.Prelude.{◌≡◌, ◌≢◌, ℕ, ◌/◌, ◌%◌, ◌^◌, ◌==◌, Bool, false, cond, not, nat_lt, if◌then◌else◌, List, [], ◌∷◌, slice_index, slice_index_or, Option, Some, None, option_map, ⊤}
+use Rattle.std.specs.Prelude.{◌≡◌, ◌≢◌, ℕ, ◌/◌, ◌%◌, ◌^◌, ◌==◌, Bool, true, false, cond, not, nat_lt, if◌then◌else◌, List, [], ◌∷◌, slice_index, slice_index_or, Option, Some, None, option_map, ⊤}
 use Rattle.std.specs.List.{range_with_len, list_any}
 use Rattle.cut_arrivals.specs.Hearing.{Hearing, proposal_at}
 use Rattle.cut_detector.specs.declared.proposal.Proposal.{Proposal}
@@ -20,6 +20,17 @@ has_bit bits i = bits / 2 ^ i % 2 == 1
 abbrev pub finding_in : declared.Findings → ℕ → Finding
 finding_in f i =
     if has_bit f.doubtful i then Finding.Doubtful else if has_bit f.silent i then Finding.Silent else if has_bit f.others i then Finding.Other else Finding.Wanted
+
+-- whether a finding is that of a proposal
+abbrev pub is_proposal : Finding → Bool
+is_proposal Finding.Doubtful = false
+is_proposal Finding.Silent = false
+is_proposal Finding.Wanted = true
+is_proposal Finding.Other = true
+
+-- whether some lane is found to propose
+abbrev pub has_proposals : declared.Findings → Bool
+has_proposals f = list_any (λ i. is_proposal (finding_in f i)) (range_with_len 0 4)
 
 -- the members that a receiver proposes, if it proposes
 abbrev pub members_at : Hearing → Option (List ℕ)

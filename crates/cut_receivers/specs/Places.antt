@@ -1,8 +1,6 @@
--- Images of all deliveries, and how many are below a bound.
-use Rattle.std.specs.Prelude.{◌≡◌, ℕ, ◌+◌, false, List, [], nat_lt, slice_index, slice_index_or, count_by}
-use Rattle.std.specs.List.{range_with_len, flat_map}
-use Rattle.cut_draws.specs.DeliveryOrder.{copies_of}
-use Rattle.cut_arrivals.specs.Hearing.{Hearing, image_of}
+-- Images of all deliveries, and how many have an image up to a time.
+use Rattle.std.specs.Prelude.{◌≡◌, ℕ, ◌==◌, List, [], not, nat_le, slice_index, slice_index_or, count_by}
+use Rattle.cut_arrivals.specs.Hearing.{Hearing, deliveries_of, image_of}
 use Rattle.cut_nodes.specs.declared.slots.Slot.{Slot}
 use Rattle.cut_receivers.specs.declared.places.Places as declared
 use Rattle.cut_receivers.specs.Findings.{has_bit}
@@ -11,13 +9,8 @@ use Rattle.cut_receivers.specs.Findings.{has_bit}
 abbrev pub image_in : List (List (List ℕ)) → ℕ → Slot → ℕ
 image_in images i slot = slice_index (slice_index_or (slice_index_or images slot.block []) slot.key []) i
 
--- of the first copies of all edges how many have an image below a bound
-abbrev pub count_below : Hearing → ℕ → ℕ → ℕ
-count_below x copies bound =
-    count_by (λ y. nat_lt (image_of x y) bound) (flat_map (λ c. copies_of x.edges c) (range_with_len 0 copies))
-
--- in lane i is counted how many deliveries have an image up to a time, and where there is no doubt, one has that of the
--- time itself
+-- in lane i is counted how many deliveries have an image up to a time, and the place is in doubt exactly where the time
+-- is not the image of exactly one delivery
 pub record HasCounted (x : Hearing) (time i : ℕ) (p : declared.Places) : Type 0 where
-  pub until : slice_index p.until i ≡ count_below x x.copies (time + 1)
-  pub sure : has_bit p.doubt i ≡ false → count_below x x.copies (time + 1) ≡ count_below x x.copies time + 1
+  pub until : slice_index p.until i ≡ count_by (λ y. nat_le (image_of x y) time) (deliveries_of x)
+  pub doubt : has_bit p.doubt i ≡ not (count_by (λ y. image_of x y == time) (deliveries_of x) == 1)

@@ -2,7 +2,7 @@ ghost use Rattle.std.specs.Prelude.{◌≡◌, ℕ, ◌<◌, ◌↔◌, false, L
 ghost use Rattle.cut_arrivals.specs.Hearing.{Hearing};
 ghost use Rattle.cut_nodes.specs.Nodes.{subjects_of};
 ghost use Rattle.cut_receivers.specs.Heard.{HasHeard};
-ghost use Rattle.cut_receivers.specs.Findings.{flagged, has_bit, finding_in, members_at, Finds};
+ghost use Rattle.cut_receivers.specs.Findings.{flagged, has_bit, is_proposal, has_proposals, finding_in, members_at, Finds};
 
 use crate::Receivers;
 use crate::lanes::{bits_of, has_ended, others, silences};
@@ -21,6 +21,16 @@ pub enum Finding {
     Wanted,
     /// A proposal with other members.
     Other,
+}
+
+impl Finding {
+    /// Whether a proposal is found.
+    #[inline]
+    pub fn is_proposal(self) -> bool
+        ensures { result ≡ is_proposal self }
+    {
+        matches!(self, Finding::Wanted | Finding::Other)
+    }
 }
 
 /// What four receivers are found to propose: bits of which each receiver has one.
@@ -49,11 +59,19 @@ impl Findings {
             Finding::Wanted
         }
     }
+
+    /// Whether some of the receivers is found to propose. Where none is, none of their places is needed.
+    #[inline]
+    pub fn has_proposals(self) -> bool
+        ensures { result ≡ has_proposals self }
+    {
+        (0..4).any(|lane| self.at(lane).is_proposal())
+    }
 }
 
 /// Whether the bit of a lane is set.
 #[inline]
-fn has_bit(bits: u64, lane: usize) -> bool
+pub(crate) fn has_bit(bits: u64, lane: usize) -> bool
     requires { lane < 4 }
     ensures { result ≡ has_bit bits lane }
 {

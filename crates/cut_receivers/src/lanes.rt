@@ -93,7 +93,8 @@ fn marked_ended(marks: u32x4, time: u32x4, high: u32x4) -> u32x4
 /// A bit for each lane that is 1.
 #[inline(always)]
 pub(crate) fn bits_of(marks: u32x4) -> u64
-    ensures { (i : ℕ) → i < 4 → result / 2 ^ i % 2 ≡ cond (slice_index marks i == 1) 1 0 }
+    ensures four { result < 2 ^ 4 }
+    ensures bits { (i : ℕ) → i < 4 → result / 2 ^ i % 2 ≡ cond (slice_index marks i == 1) 1 0 }
 {
     marks.simd_eq(u32x4::splat(1)).to_bitmask()
 }

@@ -18,6 +18,3 @@ pub use finding::{Finding, Findings};
 pub use places::Places;
 pub use receivers::Receivers;
 pub use trial::Trial;
-
-#[cfg(test)]
-mod tests;

@@ -6,6 +6,7 @@ ghost use Rattle.cut_receivers.specs.Heard.{hearing_of, HasHeard};
 ghost use Rattle.cut_receivers.specs.Findings.{has_bit};
 ghost use Rattle.cut_receivers.specs.Places.{image_in, HasCounted};
 
+use crate::finding::has_bit;
 use crate::lanes::{bits_of, counted, next_of, not_next, rows_of};
 use crate::{Receivers, Trial};
 use cut_arrivals::laws::images_tell_the_place;
@@ -32,11 +33,21 @@ impl Places {
     {
         self.until.to_array()[lane]
     }
+
+    /// Whether equal images leave the place of the receiver in a lane open.
+    #[inline]
+    pub fn is_doubtful(self, lane: usize) -> bool
+        requires { lane < 4 }
+        ensures { result ≡ has_bit self.doubt lane }
+    {
+        has_bit(self.doubt, lane)
+    }
 }
 
 impl Receivers {
     /// Counts the deliveries that have come when four receivers propose, by the slots of all alerted edges. The
-    /// receivers are those that were heard. Fails only where memory runs out.
+    /// receivers are those that were heard. A place is in doubt exactly where the receiver's closing time is not the
+    /// image of exactly one delivery, so also where it never proposes. Fails only where memory runs out.
     pub fn places(
         &mut self,
         trial: Trial<'_>,
@@ -52,8 +63,14 @@ impl Receivers {
             → has_bit self.old.closing.doubt i ≡ false → has_bit p.doubt i ≡ false
             → IfSome (proposal_at (hearing_of trial.entry (slice_index receivers i)))
             (λ q. q.at ≡ slice_index p.until i)) }
+        ensures counted { IfOk result (λ p. (i : ℕ) (subjects : List ℕ) → i < 4
+            → HasHeard (hearing_of trial.entry (slice_index receivers i)) subjects i self.old
+            → HasCounted (hearing_of trial.entry (slice_index receivers i))
+            (slice_index self.old.closing.time i) i p) }
+        ensures four { IfOk result (λ p. p.doubt < 2 ^ 4) }
         ensures same { (x : Hearing) (subjects : List ℕ) (i : ℕ) → HasHeard x subjects i self.old
             → HasHeard x subjects i self.new }
+        ensures closing { self.new.closing ≡ self.old.closing }
     {
         images_tell_the_place();
         let time = self.closing.time;
@@ -73,8 +90,9 @@ fn count_deliveries(
     requires slots { AreSlots trial.now.rule.k slots.now.blocks.items trial.now.edges.now slots.now.slots.items }
     requires blocks { All (λ block. block < 2 ^ 13) slots.now.blocks.items }
     requires few { length trial.now.edges.now ≤ 2 ^ 16 }
-    ensures { IfOk result (λ p. (i : ℕ) → i < 4 → slice_index time i ≤ never
+    ensures counted { IfOk result (λ p. (i : ℕ) → i < 4 → slice_index time i ≤ never
         → HasCounted (hearing_of trial.now (slice_index receivers i)) (slice_index time i) i p) }
+    ensures four { IfOk result (λ p. p.doubt < 2 ^ 4) }
 {
     deliveries_stand_in_blocks();
     images_are_below_never();
@@ -89,10 +107,8 @@ fn count_deliveries(
         let more = count(before, images.as_slice(), slots.slots.as_slice(), time);
         before = more;
     }
-    Ok(Places {
-        until,
-        doubt: bits_of(not_next(before, until)),
-    })
+    let doubt = bits_of(not_next(before, until));
+    Ok(Places { until, doubt })
 }
 
 /// A count, and one more for each slot whose image is below a bound.

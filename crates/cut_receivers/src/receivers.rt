@@ -1,4 +1,4 @@
-ghost use Rattle.std.specs.Prelude.{◌≡◌, ℕ, ◌<◌, ◌≤◌, length, slice_index, All, OnOk, vec_len, vec_capacity};
+ghost use Rattle.std.specs.Prelude.{◌≡◌, ℕ, ◌<◌, ◌≤◌, [], length, slice_index, All, OnOk, vec_len, vec_capacity};
 ghost use Rattle.cut_nodes.specs.Nodes.{subjects_of};
 ghost use Rattle.cut_receivers.specs.Heard.{hearing_of, HasHeard};
 ghost use Rattle.cut_receivers.specs.Times.{AreLows, AreHighs, AreHighsTo};
@@ -29,7 +29,10 @@ pub struct Receivers {
 
 impl Receivers {
     /// No times yet.
-    pub fn new(alloc: Global) -> Receivers {
+    pub fn new(alloc: Global) -> Receivers
+        ensures lows { result.lows.items ≡ [] }
+        ensures highs { result.highs.items ≡ [] }
+    {
         let zero = u32x4::splat(0);
         Receivers {
             lows: Vec::new(alloc),

@@ -199,8 +199,14 @@ found_other wanted proposed f listed is finds same =
     let members : listed ≡ found.0 = subst (λ o. IfSome o (λ members. listed ≡ members)) found.1 same in
     ap (λ members. Some members) members ∙ sym found.1
 
-pub not_doubtful : (b : Bool) (f : Finding) → f ≡ Other → (IsTrue b → f ≡ Doubtful) → b ≡ false
-not_doubtful b f is doubtful = elim (cases_Bool b) [
-  | inl set ↦ absurd (let both : Other ≡ Doubtful = sym is ∙ doubtful set in let never : ⊥ = cc in never)
+pub not_doubtful : (b : Bool) (f : Finding) → (f ≡ Doubtful → ⊥) → (IsTrue b → f ≡ Doubtful) → b ≡ false
+not_doubtful b f other doubtful = elim (cases_Bool b) [
+  | inl set ↦ absurd (other (doubtful set))
   | inr unset ↦ unset
 ]
+
+pub wanted_is_certain : (f : Finding) → f ≡ Wanted → f ≡ Doubtful → ⊥
+wanted_is_certain f is doubtful = let both : Wanted ≡ Doubtful = sym is ∙ doubtful in cc
+
+pub other_is_certain : (f : Finding) → f ≡ Other → f ≡ Doubtful → ⊥
+other_is_certain f is doubtful = let both : Other ≡ Doubtful = sym is ∙ doubtful in cc

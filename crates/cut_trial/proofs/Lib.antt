@@ -2,6 +2,7 @@ pub mod Words
 pub mod FastRound
 pub mod Ascending
 pub mod Settled
+pub mod Placed
 pub mod Places
 pub mod Outcomes
 pub mod Earliest

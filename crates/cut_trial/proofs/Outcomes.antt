@@ -58,10 +58,10 @@ count_more p ps x b old n r few was same one is =
 -- a sum of places with one more, of fewer receivers than would make it more than 64 bits hold
 pub record PlacesMore (ps : List (Option Proposal)) (x : Option Proposal) (r : ℕ) : Type 0 where
   pub sum : r ≡ sum_by place_of (ps ++ x ∷ [])
-  pub few : r ≤ 2 ^ 31 * length (ps ++ x ∷ [])
+  pub few : r ≤ (2 ^ 32 - 1) * length (ps ++ x ∷ [])
 
 pub places_more : (ps : List (Option Proposal)) (x : Option Proposal) (old n r : ℕ)
-    → length ps < 2 ^ 32 → old ≡ sum_by place_of ps → old ≤ 2 ^ 31 * length ps → n ≤ 2 ^ 31 → n ≡ place_of x
+    → length ps < 2 ^ 32 → old ≡ sum_by place_of ps → old ≤ (2 ^ 32 - 1) * length ps → n < 2 ^ 32 → n ≡ place_of x
     → r ≡ min (old + n) 18446744073709551615 → PlacesMore ps x r
 places_more ps x old n r few was low small same is =
     let more = sum_by_push place_of ps x in
@@ -74,10 +74,10 @@ places_more ps x old n r few was low small same is =
 -- the same, as a plan's version asks for places
 pub record SettledMore (version : Version) (ps : List (Option Proposal)) (x : Option Proposal) (r : ℕ) : Type 0 where
   pub sum : r ≡ settled_of version (ps ++ x ∷ [])
-  pub few : r ≤ 2 ^ 31 * length (ps ++ x ∷ [])
+  pub few : r ≤ (2 ^ 32 - 1) * length (ps ++ x ∷ [])
 
 pub settled_more : (version : Version) (ps : List (Option Proposal)) (x : Option Proposal) (old n r : ℕ)
-    → length ps < 2 ^ 32 → old ≡ settled_of version ps → old ≤ 2 ^ 31 * length ps → n ≤ 2 ^ 31
+    → length ps < 2 ^ 32 → old ≡ settled_of version ps → old ≤ (2 ^ 32 - 1) * length ps → n < 2 ^ 32
     → IsPlaced version n x → r ≡ min (old + place_for version n) 18446744073709551615
     → SettledMore version ps x r
 settled_more One ps x old n r few was low small placed is = record {

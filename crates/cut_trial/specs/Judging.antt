@@ -1,15 +1,20 @@
 -- How the receivers of a trial are judged. Only the crate's private clauses cite it.
-use Rattle.std.specs.Prelude.{◌≡◌, ℕ, List, map, take, Option}
+use Rattle.std.specs.Prelude.{◌≡◌, ℕ, ◌<◌, ◌^◌, Bool, false, List, map, take, Option, Some, IfSome, IsTrue}
 use Rattle.cut_plan.specs.declared.cell.Cell.{Cell}
 use Rattle.cut_plan.specs.Versions.{version_of}
 use Rattle.cut_draws.specs.Source.{Source}
 use Rattle.cut_detector.specs.Rule.{rule_of}
 use Rattle.cut_detector.specs.declared.proposal.Proposal.{Proposal}
+use Rattle.cut_plan.specs.declared.version.Version.{Version}
+use Rattle.cut_arrivals.specs.Hearing.{Hearing, proposal_at}
+use Rattle.cut_receivers.specs.declared.finding.Finding.{Finding}
+use Rattle.cut_receivers.specs.Findings.{members_at, Finds}
+use Rattle.cut_trial.specs.declared.judges.Found.{Found}
 use Rattle.cut_trial.specs.declared.study.Study.{Study}
 use Rattle.cut_trial.specs.declared.alerts.Alerts.{Alerts}
 use Rattle.cut_trial.specs.declared.replays.Replays.{Replays}
 use Rattle.cut_trial.specs.declared.judges.Judges.{Judges}
-use Rattle.cut_trial.specs.Outcome.{receiver_proposal}
+use Rattle.cut_trial.specs.Outcome.{receiver_proposal, IsPlaced}
 
 -- what receiver j proposes where these alerts are raised
 abbrev pub proposed_by : Alerts → Source → ℕ → Option Proposal
@@ -28,3 +33,12 @@ pub record BelongsTo (study : Study) (cell : Cell) (x : Replays) : Type 0 where
 pub record AreFor (study : Study) (cell : Cell) (x : Judges) : Type 0 where
   pub replays : BelongsTo study cell x.replays
   pub version : x.outcome.version ≡ version_of study.plan.now.failing
+
+-- what was found of a receiver that hears this, where these members are wanted: what it proposes, where the closing of
+-- its lane is in no doubt, and at which place, where a plan's version asks for it
+pub record IsFound (x : Hearing) (version : Version) (wanted : List ℕ) (doubt : Bool) (found : Found) : Type 0 where
+  pub finds : Finds wanted (members_at x) found.finding
+  pub sure : IsTrue doubt → found.finding ≡ Finding.Doubtful
+  pub placed : IfSome found.place (λ n. doubt ≡ false
+      → IfSome (proposal_at x) (λ p. IsPlaced version n (Some p)))
+  pub few : IfSome found.place (λ n. n < 2 ^ 32)

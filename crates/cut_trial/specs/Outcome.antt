@@ -63,7 +63,7 @@ pub record HasVerdicts (a : Assignment) (o : declared.Outcome) (proposals : List
   pub silent : o.silent ≡ count_by (λ p. (judged a p).silent) proposals
   pub extra : o.extra ≡ count_by (λ p. (judged a p).extra) proposals
   pub settled : o.settled ≡ settled_of o.version proposals
-  pub places : o.settled ≤ 2 ^ 31 * length proposals
+  pub places : o.settled ≤ (2 ^ 32 - 1) * length proposals
 
 -- the receivers that made these proposals have been judged by the roles, and the votes of those that didn't propose
 -- exactly the targets are in the ballot

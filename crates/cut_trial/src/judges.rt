@@ -1,16 +1,21 @@
-ghost use Rattle.std.specs.Prelude.{◌≡◌, ◌+◌, ◌^◌, ◌<◌, ◌≤◌, ◌++◌, ◌∷◌, [], ℕ, true, List, Option, None, length, map, count_by, slice_index, IfOk, IsTrue, OnOk, All, Contains};
+ghost use Rattle.std.specs.Prelude.{◌≡◌, ◌+◌, ◌^◌, ◌<◌, ◌≤◌, ◌++◌, ◌∷◌, [], ℕ, true, List, Option, Some, None, IfSome, IfNone, false, length, map, count_by, slice_index, IfOk, IsTrue, OnOk, All, Contains};
 ghost use Rattle.cut_plan.specs.Cells.{IsCellOf};
 ghost use Rattle.cut_draws.specs.Source.{source_of};
 ghost use Rattle.cut_alerts.specs.Assignment.{is_target};
 ghost use Rattle.cut_detector.specs.declared.proposal.Proposal as proposals;
-ghost use Rattle.cut_arrivals.specs.Hearing.{proposal_at};
+ghost use Rattle.cut_arrivals.specs.Hearing.{Hearing, proposal_at};
+ghost use Rattle.cut_plan.specs.declared.version.Version.TheVariants.{One, Two};
+ghost use Rattle.cut_plan.specs.Versions.{version_of};
+ghost use Rattle.std.proofs.Props.{props};
+ghost use Rattle.cut_nodes.specs.Slots.{AreSlots};
 ghost use Rattle.cut_nodes.specs.Nodes.{subjects_of};
 ghost use Rattle.cut_receivers.specs.Heard.{hearing_of, HasHeard};
-ghost use Rattle.cut_receivers.specs.Findings.{flagged, has_bit, members_at, Finds};
+ghost use Rattle.cut_receivers.specs.Findings.{finding_in, flagged, has_bit, is_proposal};
 ghost use Rattle.cut_trial.specs.Verdicts.{targets_of};
 ghost use Rattle.cut_trial.specs.Outcome.{HasJudged, IsJudging};
-ghost use Rattle.cut_trial.specs.Judging.{AreFor, proposed_by, proposals_to};
+ghost use Rattle.cut_trial.specs.Judging.{AreFor, IsFound, proposed_by, proposals_to};
 
+use crate::alerts::Alerts;
 use crate::cast::Cast;
 use crate::outcome::Outcome;
 use crate::replays::Replays;
@@ -19,9 +24,9 @@ use cut_alerts::Roles;
 use cut_arrivals::laws::none_proposes_where_none_ends_stable;
 use cut_blocks::Blocks;
 use cut_draws::Draws;
-use cut_nodes::Nodes;
-use cut_plan::Cell;
-use cut_receivers::{Finding, Receivers, Trial};
+use cut_nodes::{Nodes, Slots};
+use cut_plan::{Cell, Version};
+use cut_receivers::{Finding, Findings, Places, Receivers, Trial};
 use std::alloc::{AllocError, Global};
 
 /// What judges the receivers of a cell's trials, in memory that all trials share.
@@ -42,12 +47,26 @@ struct Round<'a> {
     wanted: &'a [bool],
     /// Whether each target is a node.
     is_complete: bool,
+    /// The slots of all alerts, if the plan's version asks for the places of proposals.
+    slots: Option<&'a Slots>,
     ghost some: { 0 < length trial.nodes.now.nodes.items },
     ghost wanted_are: { wanted.now ≡ map (λ s. is_target cast.roles.now s) (subjects_of trial.nodes.now.nodes.items) },
     ghost complete: { is_complete ≡ true →
         flagged (subjects_of trial.nodes.now.nodes.items) wanted.now ≡ targets_of cast.roles.now },
     ghost heard: { (j : ℕ) → proposal_at (hearing_of trial j) ≡ proposed_by cast.alerts.now trial.blocks.now j },
     ghost nodes: { trial.rings.now.nodes ≡ length cast.roles.now.roles },
+    ghost slots_are: { IfSome slots (λ s. AreSlots trial.rule.k s.now.blocks.items trial.edges.now s.now.slots.items) } by { Prim.hlevel props },
+    ghost blocks: { IfSome slots (λ s. All (λ block. block < 2 ^ 13) s.now.blocks.items) } by { Prim.hlevel props },
+    ghost few: { length trial.edges.now ≤ 2 ^ 16 },
+    ghost unasked: { slots ≡ None → version_of cast.alerts.now.study.plan.now.failing ≡ One },
+}
+
+/// What is found of a receiver: what it proposes, and at which place, where that is known. It is 0 where the plan's
+/// version doesn't ask for it.
+#[derive(Clone, Copy)]
+struct Found {
+    finding: Finding,
+    place: Option<u64>,
 }
 
 impl<'a> Judges<'a> {
@@ -120,11 +139,13 @@ impl<'a> Judges<'a> {
         };
         let wanted = wanted_nodes(alloc, &nodes, cast.roles)?;
         let wanted = wanted.as_slice();
+        let slots = all_slots(alloc, alerts)?;
         let round = Round {
             cast,
             trial,
             wanted,
             is_complete: count_set(wanted) == cast.targets.len(),
+            slots: slots.as_ref(),
         };
         self.judge_all(draws, round)
     }
@@ -177,54 +198,92 @@ impl<'a> Judges<'a> {
         ensures draws { draws.new ≡ draws.old }
     {
         let receivers = round.cast.receivers;
-        self.times.hear(round.trial, four_from(receivers, first))?;
+        let four = four_from(receivers, first);
+        self.times.hear(round.trial, four)?;
         let findings = self.times.judge(round.wanted);
+        let places = self.places(round, four, findings)?;
         for lane in 0..4.min(receivers.len() - first) {
-            self.judge_one(draws, round, first + lane, lane, findings.at(lane))?;
+            let found = Found {
+                finding: findings.at(lane),
+                place: place_in(places, lane),
+            };
+            self.judge_one(draws, round, first + lane, lane, found)?;
         }
         Ok(())
     }
 
-    /// Judges the receiver at a place by what was found in its lane.
+    /// The places at which four receivers propose that were heard, if the plan's version asks for them and one of them
+    /// proposes.
+    fn places(
+        &mut self,
+        round: Round<'_>,
+        receivers: [u16; 4],
+        findings: Findings,
+    ) -> Result<Option<Places>, AllocError>
+        requires receivers { All (λ j. j < 2048) receivers }
+        ensures places { IfOk result (λ found. IfSome found (λ p. (i : ℕ) (subjects : List ℕ) → i < 4
+            → HasHeard (hearing_of round.entry.trial (slice_index receivers i)) subjects i self.old.times
+            → has_bit self.old.times.closing.doubt i ≡ false → has_bit p.doubt i ≡ false
+            → IfSome (proposal_at (hearing_of round.entry.trial (slice_index receivers i)))
+            (λ q. q.at ≡ slice_index p.until i))) }
+        ensures unasked { IfOk result (λ found. IfNone found
+            (version_of round.entry.cast.alerts.now.study.plan.now.failing ≡ Two → (i : ℕ) → i < 4
+            → is_proposal (finding_in findings i) ≡ false)) }
+        ensures same { (x : Hearing) (subjects : List ℕ) (i : ℕ) → HasHeard x subjects i self.old.times
+            → HasHeard x subjects i self.new.times }
+        ensures doubt { self.new.times.closing.doubt ≡ self.old.times.closing.doubt }
+        ensures replays { self.new.replays ≡ self.old.replays }
+        ensures outcome { self.new.outcome ≡ self.old.outcome }
+    {
+        match round.slots {
+            Some(slots) if findings.has_proposals() => {
+                Ok(Some(self.times.places(round.trial, receivers, slots)?))
+            }
+            _ => Ok(None),
+        }
+    }
+
+    /// Judges the receiver at an index by what was found in its lane.
     fn judge_one(
         &mut self,
         draws: &mut Draws,
         round: Round<'_>,
-        place: usize,
+        index: usize,
         lane: usize,
-        finding: Finding,
+        found: Found,
     ) -> Result<(), AllocError>
         requires fit { AreFor round.cast.alerts.now.study round.cast.alerts.now.cell self.old }
         requires draws { draws.old ≡ round.trial.blocks.now }
-        requires some { place < length round.cast.receivers.now }
+        requires some { index < length round.cast.receivers.now }
         requires lane { lane < 4 }
-        requires heard { HasHeard (hearing_of round.trial (slice_index round.cast.receivers.now place))
+        requires heard { HasHeard (hearing_of round.trial (slice_index round.cast.receivers.now index))
             (subjects_of round.trial.nodes.now.nodes.items) lane self.old.times }
-        requires finds { Finds (flagged (subjects_of round.trial.nodes.now.nodes.items) round.wanted.now)
-            (members_at (hearing_of round.trial (slice_index round.cast.receivers.now place))) finding }
-        requires sure { IsTrue (has_bit self.old.times.closing.doubt lane) → finding ≡ Finding.Doubtful }
+        requires found { IsFound (hearing_of round.trial (slice_index round.cast.receivers.now index))
+            (version_of round.cast.alerts.now.study.plan.now.failing)
+            (flagged (subjects_of round.trial.nodes.now.nodes.items) round.wanted.now)
+            (has_bit self.old.times.closing.doubt lane) found }
         requires before { IsJudging round.cast.roles.now self.old.outcome
-            (proposals_to round.cast.alerts.now draws.old round.cast.receivers.now place) }
+            (proposals_to round.cast.alerts.now draws.old round.cast.receivers.now index) }
         ensures judged { OnOk result (IsJudging round.entry.cast.roles.now self.new.outcome
-            (proposals_to round.entry.cast.alerts.now draws.old round.entry.cast.receivers.now (place + 1))) }
+            (proposals_to round.entry.cast.alerts.now draws.old round.entry.cast.receivers.now (index + 1))) }
         ensures fit { AreFor round.entry.cast.alerts.now.study round.entry.cast.alerts.now.cell self.new }
         ensures times { self.new.times ≡ self.old.times }
         ensures draws { draws.new ≡ draws.old }
     {
         let cast = round.cast;
-        match finding {
-            Finding::Silent => self.outcome.add(None, 0, cast.roles, cast.targets),
-            Finding::Wanted if round.is_complete && !self.outcome.reports_places() => {
-                self.outcome.add_exact(0);
+        match (found.finding, found.place) {
+            (Finding::Silent, _) => self.outcome.add(None, 0, cast.roles, cast.targets),
+            (Finding::Wanted, Some(place)) if round.is_complete => {
+                self.outcome.add_exact(place);
                 Ok(())
             }
-            Finding::Other if !self.outcome.reports_places() => {
+            (Finding::Other, Some(place)) => {
                 let nodes = round.trial.nodes;
                 self.times.members(nodes, lane, &mut self.members)?;
                 let members = Some(self.members.as_slice());
-                self.outcome.add(members, 0, cast.roles, cast.targets)
+                self.outcome.add(members, place, cast.roles, cast.targets)
             }
-            _ => self.replay(draws, cast, cast.receivers[place]),
+            _ => self.replay(draws, cast, cast.receivers[index]),
         }
     }
 
@@ -291,4 +350,32 @@ fn receiver_at(receivers: &[u16], place: usize) -> u16
     ensures all { Contains receivers.now result }
 {
     receivers[place.min(receivers.len() - 1)]
+}
+
+/// The slots of all alerts of a trial, if its plan's version asks for the places of proposals.
+fn all_slots(alloc: Global, alerts: &Alerts<'_>) -> Result<Option<Slots>, AllocError>
+    ensures slots { IfOk result (λ found. IfSome found (λ s. AreSlots alerts.now.cell.k s.blocks.items alerts.now.edges.items s.slots.items)) }
+    ensures within { IfOk result (λ found. IfSome found (λ s. All (λ block. block < 2 ^ 13) s.blocks.items)) }
+    ensures unasked { IfOk result (λ found. found ≡ None → version_of alerts.now.study.plan.now.failing ≡ One) }
+{
+    match alerts.study.plan.version() {
+        Version::One => Ok(None),
+        Version::Two => Ok(Some(Slots::of(alloc, alerts.cell.k, alerts.edges.as_slice())?)),
+    }
+}
+
+/// The place of the receiver in a lane: 0 where places are not asked for, and none where its place is in doubt.
+fn place_in(places: Option<Places>, lane: usize) -> Option<u64>
+    requires { lane < 4 }
+    ensures unasked { IfNone places (result ≡ Some 0) }
+    ensures place { IfSome places (λ p. IfSome result (λ n. (has_bit p.doubt lane ≡ false) × (n ≡ slice_index p.until lane))) }
+    ensures few { IfSome result (λ n. n < 2 ^ 32) }
+{
+    let Some(places) = places else {
+        return Some(0);
+    };
+    if places.is_doubtful(lane) {
+        return None;
+    }
+    Some(u64::from(places.at(lane)))
 }

@@ -1,4 +1,4 @@
-ghost use Rattle.std.specs.Prelude.{false, ◌≡◌, ◌^◌, ◌<◌, ◌≤◌, [], ◌∷◌, ◌++◌, List, Option, Some, length, OnOk, option_map, IfSome};
+ghost use Rattle.std.specs.Prelude.{◌≡◌, ◌^◌, ◌<◌, ◌≤◌, [], ◌∷◌, ◌++◌, List, Option, Some, length, OnOk, option_map, IfSome};
 ghost use Rattle.cut_plan.specs.Cells.{IsCellOf};
 ghost use Rattle.cut_plan.specs.Versions.{version_of};
 ghost use Rattle.cut_detector.specs.declared.proposal.Proposal as proposals;
@@ -70,16 +70,6 @@ impl Outcome {
         }
     }
 
-    /// Whether the plan's version reports the places of proposals.
-    pub(crate) fn reports_places(&self) -> bool
-        ensures one { result ≡ false → self.now.version ≡ Version.One }
-    {
-        match self.version {
-            Version::One => false,
-            Version::Two => true,
-        }
-    }
-
     /// Forgets all receivers, for another trial.
     pub(crate) fn clear(&mut self)
         ensures none { (a : Assignment) → IsJudging a self.new [] }
@@ -104,7 +94,7 @@ impl Outcome {
     ) -> Result<(), AllocError>
         requires ascending { IfSome members (λ m. AreAscending roles.now m.now) }
         requires targets { targets.now ≡ targets_of roles.now }
-        requires place { place ≤ 2 ^ 31 }
+        requires place { place < 2 ^ 32 }
         ensures judging { OnOk result ((p : Option proposals.Proposal) → (before : List (Option proposals.Proposal)) →
             option_map (λ m. m.now) members.entry ≡ option_map (λ x. x.members) p →
             IfSome p (λ x. IsPlaced self.old.version place (Some x)) → length before < 2 ^ 32 →
@@ -122,7 +112,7 @@ impl Outcome {
 
     /// Judges one more receiver, which proposed exactly the targets after this many deliveries.
     pub(crate) fn add_exact(&mut self, place: u64)
-        requires place { place ≤ 2 ^ 31 }
+        requires place { place < 2 ^ 32 }
         ensures judging { (a : Assignment) → (p : proposals.Proposal) → (before : List (Option proposals.Proposal)) →
             p.members ≡ targets_of a → IsPlaced self.old.version place (Some p) → length before < 2 ^ 32 →
             IsJudging a self.old before → IsJudging a self.new (before ++ Some p ∷ []) }
@@ -134,7 +124,7 @@ impl Outcome {
 
     /// Counts one more verdict, and adds the place of the proposal where the plan's version reports it.
     fn count(&mut self, verdict: Verdict, place: u64)
-        requires { place ≤ 2 ^ 31 }
+        requires { place < 2 ^ 32 }
         ensures verdicts { (a : Assignment) → (p : Option proposals.Proposal) → (before : List (Option proposals.Proposal)) →
             verdict ≡ judged a p → IsPlaced self.old.version place p → length before < 2 ^ 32 →
             HasVerdicts a self.old before → HasVerdicts a self.new (before ++ p ∷ []) }

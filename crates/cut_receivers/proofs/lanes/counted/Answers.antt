@@ -1,5 +1,6 @@
 use Rattle.std.proofs.Common.{◌∙◌, ℕ, ◌+◌, ◌%◌, ◌^◌, ltb, List, replicate, slice_index, refl, ap}
-use Rattle.cut_receivers.proofs.Choices.{choice, choice_four, either_at, sum_at, one_more}
+use Rattle.cut_ranks.proofs.Choices.{choice, choice_four}
+use Rattle.cut_receivers.proofs.Choices.{either_at, sum_at, one_more}
 use Rattle.cut_receivers.proofs.lanes.counted.Goals as goal
 
 pub returns : goal.returns

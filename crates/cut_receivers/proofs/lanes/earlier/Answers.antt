@@ -1,5 +1,5 @@
 use Rattle.std.proofs.Common.{◌∙◌, ℕ, List, ltb, min, slice_index, ap}
-use Rattle.cut_receivers.proofs.Choices.{choice, choice_at, choice_four, min_is, max_is}
+use Rattle.cut_ranks.proofs.Choices.{choice, choice_at, choice_four, min_is, max_is}
 use Rattle.cut_receivers.proofs.lanes.earlier.Goals as goal
 
 pub returns : goal.returns

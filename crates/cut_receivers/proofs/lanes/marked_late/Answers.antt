@@ -1,6 +1,6 @@
 use Rattle.std.proofs.Common.{◌∙◌, ℕ, cond, ltb, replicate, slice_index, refl, ap}
 use Rattle.std.proofs.lemmas.List.{get_or-replicate}
-use Rattle.cut_receivers.proofs.Choices.{choice_at}
+use Rattle.cut_ranks.proofs.Choices.{choice_at}
 use Rattle.cut_receivers.proofs.lanes.marked_late.Goals as goal
 
 pub returns : goal.returns

@@ -1,10 +1,10 @@
-use Rattle.std.proofs.Common.{rules, ◌≡◌, ◌∙◌, ℕ, ◌+◌, ◌≤◌, ◌==◌, List, length, map, slice_index, refl, ap, sym, subst, eqb-true, arith}
+use Rattle.std.proofs.Common.{rules, ◌≡◌, ◌∙◌, ℕ, ◌+◌, ◌≤◌, ◌==◌, not, List, length, map, slice_index, refl, ap, sym, subst, arith}
 use Rattle.cut_blocks.specs.Images.{never, eight, least_image, row_of}
 use Rattle.cut_nodes.specs.declared.slots.Slot.{Slot}
 use Rattle.cut_nodes.specs.Slots.{AreSlots}
 use Rattle.cut_receivers.specs.Heard.{hearing_of}
-use Rattle.cut_receivers.specs.Places.{count_below}
-use Rattle.cut_receivers.proofs.Counts.{copy_more, few_more, not_false}
+use Rattle.cut_arrivals.specs.Hearing.{deliveries_of, image_of}
+use Rattle.cut_receivers.proofs.Counts.{count_below, count_until, copy_more, few_more, next_count}
 use Rattle.cut_receivers.proofs.Judged.{silent_bit}
 use Rattle.cut_receivers.proofs.places.count_deliveries.Goals as goal
 
@@ -45,8 +45,8 @@ loop-copy-preserved c =
           (c.count-more-in-loop-copy.ensures i low) (c.loop-copy.invariant.few_before i low);
     }
 
-pub returns : goal.returns
-returns c i low comes =
+pub returns-clause-counted : goal.returns-clause-counted
+returns-clause-counted c i low comes =
     let x = hearing_of c.args.trial.now (slice_index c.args.receivers i) in
     let time : ℕ = slice_index c.args.time i in
     let until : ℕ = slice_index c.loop-copy.until i in
@@ -61,10 +61,7 @@ returns c i low comes =
     let before_is : before ≡ count_below x copies time =
     c.loop-copy.invariant.before i low ∙ ap (λ (n : ℕ). count_below x n time) all in
     record {
-      until = until_is;
-      sure = λ clear.
-          let apart : until ≡ before + 1 = eqb-true until (before + 1) (not_false (until == before + 1)
-          (sym (silent_bit (until == before + 1) _ _ (c.bits_of.ensures i low) (c.not_next.ensures i low few))
-          ∙ clear)) in
-          sym until_is ∙ apart ∙ ap (λ (n : ℕ). n + 1) before_is;
+      until = until_is ∙ sym (count_until (λ y. image_of x y) time (deliveries_of x));
+      doubt = silent_bit (until == before + 1) _ _ (c.bits_of-doubt.ensures.bits i low) (c.not_next.ensures i low few)
+          ∙ ap not (next_count x time before until before_is until_is);
     }

@@ -1,6 +1,6 @@
 use Rattle.std.proofs.Common.{◌≡◌, ℕ, ◌*◌, ◌^◌, ◌<◌, ◌≤◌, slice_index}
 use Rattle.cut_receivers.specs.Heard.{hearing_of}
-use Rattle.cut_receivers.specs.Places.{count_below}
+use Rattle.cut_receivers.proofs.Counts.{count_below}
 use Rattle.cut_receivers.proofs.places.count_deliveries.Given as goal
 
 -- the deliveries of the copies so far are counted

@@ -21,10 +21,10 @@ returns-clause-finds c x subjects i low h =
     let many : m ≡ length subjects = lane_long i _ subjects highs h.highs in
     let long : length flags ≡ length subjects = c.requires ∙ many in
     let doubt_bit : has_bit f.closing.doubt i ≡ doubted = bit_is doubted _ h.doubt in
-    let silent_is : has_bit c.bits_of.result i ≡ not comes = silent_bit comes _ _ (c.bits_of.ensures i low)
+    let silent_is : has_bit c.bits_of.result i ≡ not comes = silent_bit comes _ _ (c.bits_of.ensures.bits i low)
     (c.silences.ensures i low) in
     let other_is : has_bit c.bits_of-2.result i ≡ other =
-    bit_is other _ (c.bits_of-2.ensures i low ∙ ap (λ b. cond {A = ℕ} b 1 0) (bit_is other _
+    bit_is other _ (c.bits_of-2.ensures.bits i low ∙ ap (λ b. cond {A = ℕ} b 1 0) (bit_is other _
     (c.others.ensures i low ∙ ap (λ (vs : List (List ℕ)). cond {A = ℕ} (is_other time (lane i vs) flags
     (length vs)) 1 0) c.as_slice.ensures.value))) in
     rw (doubt_bit, silent_is, other_is)

@@ -10,4 +10,10 @@ returns-clause-places c =
     let x = hearing_of c.args.trial (slice_index c.args.receivers i) in
     let f = c.args.self.now in
     placed c.images_tell_the_place.ensures x subjects i f p h clear (counts i low (time_within x subjects i f h)) apart)
-    c.count_deliveries.ensures
+    c.count_deliveries.ensures.counted
+
+pub returns-clause-counted : goal.returns-clause-counted
+returns-clause-counted c =
+    IfOk-weaker c.count_deliveries.result _ _ (λ p counts i subjects low h.
+    counts i low (time_within (hearing_of c.args.trial (slice_index c.args.receivers i)) subjects i c.args.self.now h))
+    c.count_deliveries.ensures.counted

@@ -1,21 +1,27 @@
-use Rattle.std.proofs.Common.{rules, ◌≡◌, ℕ, ◌+◌, ◌-◌, ◌<◌, min, Bool, List, get_or, length, ap, sym, subst, arith}
-use Rattle.std.specs.Prelude.{slice_index}
+use Rattle.std.proofs.Common.{rules, ◌≡◌, ℕ, ◌+◌, ◌-◌, ◌<◌, min, Bool, List, get_or, length, ap, sym, subst, ◌∙◌, arith}
+use Rattle.std.specs.Prelude.{slice_index, IsTrue}
+use Rattle.std.proofs.lemmas.Option.{IfSome_then}
 use Rattle.std.proofs.lemmas.List.{length-map}
 use Rattle.cut_arrivals.specs.Hearing.{highs_at}
 use Rattle.cut_blocks.specs.Images.{never}
 use Rattle.cut_nodes.specs.Nodes.{subjects_of}
 use Rattle.cut_receivers.specs.declared.receivers.Receivers.{Receivers}
-use Rattle.cut_receivers.specs.Findings.{flagged, members_at, Finds}
+use Rattle.cut_receivers.specs.Findings.{flagged, has_bit, members_at, Finds}
 use Rattle.cut_receivers.specs.Heard.{hearing_of, HasHeard}
 use Rattle.cut_trial.proofs.Words.{is_target}
+use Rattle.cut_trial.proofs.Placed.{found_placed}
+use Rattle.cut_trial.specs.declared.judges.Found.{Found}
+use Rattle.cut_trial.specs.Judging.{IsFound}
+use Rattle.cut_plan.specs.Versions.{version_of}
+use Rattle.cut_arrivals.specs.Hearing.{Hearing}
 use Rattle.cut_trial.proofs.Judged.{receiver_within, same_judged}
 use Rattle.cut_trial.proofs.judges.Judges.judge_four.Goals as goal
 
 pub hear-requires-clause-receivers : goal.hear-requires-clause-receivers
 hear-requires-clause-receivers c = λ k d below.
     let cast = c.args.round.cast in
-    let at = c.four_from.ensures.all k d below in
-    let j = get_or c.four_from.result k d in
+    let at = c.four_from-four.ensures.all k d below in
+    let j = get_or c.four_from-four.result k d in
     let within = receiver_within cast.roles.now cast.receivers.now at.0 j cast.receivers_are at.1 in
     omega (arith, within, at.2, cast.nodes, cast.alerts.now.study.accepted.few_nodes)
 
@@ -32,7 +38,7 @@ judge-findings-requires c =
       highs,
       length-map c.hear.new.self.highs.items (λ v. slice_index v 0),
       length-map (subjects_of round.trial.nodes.now.nodes.items)
-          (λ s. highs_at (hearing_of round.trial (slice_index c.four_from.result 0)) never s),
+          (λ s. highs_at (hearing_of round.trial (slice_index c.four_from-four.result 0)) never s),
     )
 
 pub judge_one-requires-clause-heard : goal.judge_one-requires-clause-heard
@@ -45,22 +51,40 @@ judge_one-requires-clause-heard c =
     let inside : c.args.first + lane < length round.cast.receivers.now = omega (arith, end, c.loop-lane-test.true) in
     subst (λ (t : Receivers). HasHeard (hearing_of round.trial (slice_index round.cast.receivers.now (c.args.first + lane))) subjects lane t)
     (sym c.loop-lane.invariant.times)
-    (subst (λ j. HasHeard (hearing_of round.trial j) subjects lane c.hear.new.self) (c.four_from.ensures.each lane inside low)
-    (c.in_ok-hear.ensures lane low))
+    (subst (λ j. HasHeard (hearing_of round.trial j) subjects lane c.places.new.self.times) (c.four_from-four.ensures.each lane inside low)
+    (c.in_ok-places.ensures.same _ subjects lane (c.in_ok-hear.ensures lane low)))
 
-pub judge_one-requires-clause-finds : goal.judge_one-requires-clause-finds
-judge_one-requires-clause-finds c =
+pub judge_one-requires-clause-found : goal.judge_one-requires-clause-found
+judge_one-requires-clause-found c =
     let round = c.args.round in
+    let version = version_of round.cast.alerts.now.study.plan.now.failing in
     let subjects : List ℕ = subjects_of round.trial.nodes.now.nodes.items in
+    let wanted : List ℕ = flagged subjects round.wanted.now in
     let lane : ℕ = c.loop-lane.lane in
     let end : c.min-lane-end.result ≡ min 4 (length round.cast.receivers.now - c.args.first) = search rules in
     let low : lane < 4 = omega (arith, end, c.loop-lane-test.true) in
     let inside : c.args.first + lane < length round.cast.receivers.now = omega (arith, end, c.loop-lane-test.true) in
-    let j : ℕ = slice_index round.cast.receivers.now (c.args.first + lane) in
-    let heard = subst (λ i. HasHeard (hearing_of round.trial i) subjects lane c.hear.new.self)
-    (c.four_from.ensures.each lane inside low) (c.in_ok-hear.ensures lane low) in
-    subst (λ f. Finds (flagged subjects round.wanted.now) (members_at (hearing_of round.trial j)) f) (sym c.at.ensures.finding)
-    (c.judge-findings.ensures.finds (hearing_of round.trial j) subjects lane low heard)
+    let x : Hearing = hearing_of round.trial (slice_index c.four_from-four.result lane) in
+    let doubt : Bool = has_bit c.hear.new.self.closing.doubt lane in
+    let heard = c.in_ok-hear.ensures lane low in
+    let finds = c.judge-findings.ensures.finds x subjects lane low heard in
+    let same : c.loop-lane.self.times.closing.doubt ≡ c.hear.new.self.closing.doubt =
+    ap (λ (t : Receivers). t.closing.doubt) c.loop-lane.invariant.times ∙ c.in_ok-places.ensures.doubt in
+    let f : Found = record { finding = c.at.result; place = c.place_in.result } in
+    let found : IsFound x version wanted doubt f = record {
+      finds = subst (λ f. Finds wanted (members_at x) f) (sym c.at.ensures.finding) finds;
+      sure = λ set. c.at.ensures.doubtful.1 (subst (λ n. IsTrue (has_bit n lane)) (sym c.judge-findings.ensures.doubtful) set);
+      placed = found_placed x version wanted lane doubt c.judge-findings.result c.in_ok-places.places c.place_in.result low
+          c.place_in.ensures.unasked c.place_in.ensures.place c.in_ok-places.ensures.unasked
+          (IfSome_then c.in_ok-places.places c.in_ok-places.ensures.places (λ p counted. counted lane subjects low heard))
+          finds
+          (λ is. subst (λ n. IsTrue (has_bit n lane)) c.judge-findings.ensures.doubtful (c.at.ensures.doubtful.0
+          (c.at.ensures.finding ∙ is)));
+      few = c.place_in.ensures.few;
+    } in
+    subst (λ (j : ℕ). IsFound (hearing_of round.trial j) version wanted (has_bit c.loop-lane.self.times.closing.doubt lane) f)
+    (c.four_from-four.ensures.each lane inside low)
+    (subst (λ n. IsFound x version wanted (has_bit n lane) f) (sym same) found)
 
 pub returns-clause-judged : goal.returns-clause-judged
 returns-clause-judged c =
@@ -70,3 +94,13 @@ returns-clause-judged c =
     let at : c.loop-lane.lane ≡ c.min-lane-end.result = omega (arith, c.loop-lane-test.false) in
     rw (← same_judged cast.alerts.now c.args.draws.now rs (c.args.first + c.loop-lane.lane) (c.args.first + 4)
     (omega (arith, at, end, c.requires.some))) c.loop-lane.invariant.judged
+
+pub places-requires : goal.places-requires
+places-requires c = record {
+  receivers = λ k d below.
+      (let cast = c.args.round.cast in
+      let at = c.four_from-four.ensures.all k d below in
+      let j = get_or c.four_from-four.result k d in
+      let within = receiver_within cast.roles.now cast.receivers.now at.0 j cast.receivers_are at.1 in
+      omega (arith, within, at.2, cast.nodes, cast.alerts.now.study.accepted.few_nodes));
+}

@@ -1,0 +1,249 @@
+//! Receivers of drawn trials, four at once, beside the detector to which the deliveries of each are replayed.
+ghost use Rattle.std.specs.Prelude.{◌<◌, All};
+
+use crate::replays::replayed;
+use crate::setting::{SEED, Scene, Setting};
+use cut_blocks::Blocks;
+use cut_detector::{Proposal, Rule};
+use cut_draws::Draws;
+use cut_receivers::{Finding, Findings, Places, Receivers};
+use std::alloc::{AllocError, Global};
+use std::process::Abort;
+use std::test::Fail;
+
+/// Rings, high and low watermark: few and many rings, equal watermarks, and watermarks at either end.
+const RULES: [(u8, u8, u8); 9] = [
+    (1, 1, 1),
+    (4, 3, 2),
+    (10, 9, 4),
+    (10, 10, 1),
+    (16, 8, 8),
+    (17, 9, 1),
+    (17, 17, 17),
+    (32, 12, 6),
+    (32, 32, 1),
+];
+
+/// Lists of receivers, which are heard four at a time. The last one stands for those that a list lacks.
+const LISTS: [&[u16]; 4] = [&[5], &[2047, 0, 1], &[700, 3, 3, 12], &[8, 9, 10, 11, 1024]];
+
+/// How many receivers were found to propose nothing, what was wanted, and others.
+#[derive(Clone, Copy, Default)]
+struct Tally {
+    silent: u32,
+    wanted: u32,
+    others: u32,
+}
+
+impl Tally {
+    /// The tally with a finding more.
+    fn with(self, finding: Finding) -> Tally {
+        let mut tally = self;
+        match finding {
+            Finding::Doubtful => {}
+            Finding::Silent => tally.silent = tally.silent.saturating_add(1),
+            Finding::Wanted => tally.wanted = tally.wanted.saturating_add(1),
+            Finding::Other => tally.others = tally.others.saturating_add(1),
+        }
+        tally
+    }
+
+    /// Both tallies together.
+    fn plus(self, other: Tally) -> Tally {
+        Tally {
+            silent: self.silent.saturating_add(other.silent),
+            wanted: self.wanted.saturating_add(other.wanted),
+            others: self.others.saturating_add(other.others),
+        }
+    }
+}
+
+/// The members that are wanted, and for each node whether it is one.
+#[derive(Drop)]
+pub(crate) struct Wanted {
+    members: Vec<u16>,
+    flags: Vec<bool>,
+}
+
+impl Wanted {
+    /// The members that receiver 0 proposes, or all nodes where it proposes none.
+    pub fn new(alloc: Global, scene: Scene<'_>) -> Result<Wanted, AllocError> {
+        let nodes = &scene.trial.nodes.nodes;
+        let mut draws = Draws::new(SEED, scene.number);
+        let members = match replayed(alloc, scene, &mut draws, 0)? {
+            Some(proposal) => proposal.members.into_vec(),
+            None => nodes.iter().map(|node| node.subject).collect(alloc)?,
+        };
+        let flags = nodes
+            .iter()
+            .map(|node| members.contains(&node.subject))
+            .collect(alloc)?;
+        Ok(Wanted { members, flags })
+    }
+}
+
+/// What is said of a receiver.
+#[derive(Clone, Copy)]
+struct Lane<'a> {
+    finding: Finding,
+    members: &'a [u16],
+    place: Option<u32>,
+}
+
+impl Lane<'_> {
+    /// Whether that is what was replayed.
+    fn is_replayed(self, proposal: &Option<Proposal>, wanted: &[u16]) -> bool {
+        match (self.finding, proposal) {
+            (Finding::Doubtful, _) | (Finding::Silent, None) => true,
+            (Finding::Wanted | Finding::Other, Some(proposal)) => {
+                let is_wanted = self.members == wanted;
+                self.members == proposal.members.as_slice()
+                    && is_wanted == (self.finding == Finding::Wanted)
+                    && self
+                        .place
+                        .is_none_or(|place| u64::from(place) == proposal.at)
+            }
+            _ => false,
+        }
+    }
+}
+
+/// The place in a lane, where no equal images leave it open.
+fn place_in(places: Places, lane: usize) -> Option<u32>
+    requires { lane < 4 }
+{
+    if places.is_doubtful(lane) {
+        None
+    } else {
+        Some(places.at(lane))
+    }
+}
+
+/// What is found of four receivers, if each lane says what was replayed.
+pub(crate) fn found_as_replayed(
+    alloc: Global,
+    heard: &mut Receivers,
+    scene: Scene<'_>,
+    receivers: [u16; 4],
+    wanted: &Wanted,
+) -> Result<Option<Findings>, AllocError>
+    requires { All (λ j. j < 2048) receivers }
+{
+    let trial = scene.trial;
+    let many = trial.nodes.nodes.len();
+    if many == 0 {
+        return Ok(None);
+    }
+    heard.hear(trial, receivers)?;
+    let places = heard.places(trial, receivers, scene.slots)?;
+    if heard.highs.len() != wanted.flags.len() || heard.highs.len() != many {
+        return Ok(None);
+    }
+    let findings = heard.judge(&wanted.flags);
+    let mut draws = Draws::new(SEED, scene.number);
+    let mut members = Vec::new(alloc);
+    for lane in 0..4 {
+        heard.members(trial.nodes, lane, &mut members)?;
+        let proposal = replayed(alloc, scene, &mut draws, receivers[lane])?;
+        let said = Lane {
+            finding: findings.at(lane),
+            members: &members,
+            place: place_in(places, lane),
+        };
+        if !said.is_replayed(&proposal, &wanted.members) {
+            return Ok(None);
+        }
+    }
+    Ok(Some(findings))
+}
+
+/// Four receivers from a place in their list on.
+fn four_from(receivers: &[u16], first: usize) -> [u16; 4]
+    ensures { All (λ j. j < 2048) result }
+{
+    [
+        receiver_at(receivers, first),
+        receiver_at(receivers, first.saturating_add(1)),
+        receiver_at(receivers, first.saturating_add(2)),
+        receiver_at(receivers, first.saturating_add(3)),
+    ]
+}
+
+/// The receiver at a place in a list, or the last one.
+fn receiver_at(receivers: &[u16], place: usize) -> u16
+    ensures { result < 2048 }
+{
+    let last = receivers.last().copied().unwrap_or(0);
+    receivers.get(place).copied().unwrap_or(last) % 2048
+}
+
+/// What is found of a list of receivers, each of which proposes what is replayed.
+fn check_list(
+    alloc: Global,
+    heard: &mut Receivers,
+    scene: Scene<'_>,
+    wanted: &Wanted,
+    receivers: &[u16],
+) -> Result<Tally, Fail> {
+    let mut tally = Tally::default();
+    for four in 0..receivers.len().div_ceil(4) {
+        let receivers = four_from(receivers, four.saturating_mul(4));
+        let found = found_as_replayed(alloc, heard, scene, receivers, wanted)?;
+        let findings = found.ok_or("a lane differs from its replay")?;
+        let more = tally_of(findings);
+        if findings.has_proposals() != (more.wanted > 0 || more.others > 0) {
+            return Err("proposals that no lane has".into());
+        }
+        tally = tally.plus(more);
+    }
+    Ok(tally)
+}
+
+/// What is found of the receivers in four lanes.
+fn tally_of(findings: Findings) -> Tally {
+    let mut tally = Tally::default();
+    for lane in 0..4 {
+        tally = tally.with(findings.at(lane));
+    }
+    tally
+}
+
+/// All lists of receivers of a drawn trial are heard.
+fn check_trial(
+    rt: &impl Abort,
+    alloc: Global,
+    heard: &mut Receivers,
+    rule: Rule,
+    number: u32,
+) -> Result<Tally, Fail> {
+    let setting = Setting::drawn(rt, alloc, rule, number)?;
+    let blocks = Blocks::new(SEED, number);
+    let scene = setting.scene(&blocks, number, 1 + (number % 3) as u8);
+    let mut tally = Tally::default();
+    if scene.trial.nodes.nodes.is_empty() {
+        return Ok(tally);
+    }
+    let wanted = Wanted::new(alloc, scene)?;
+    for receivers in LISTS {
+        tally = tally.plus(check_list(alloc, heard, scene, &wanted, receivers)?);
+    }
+    Ok(tally)
+}
+
+#[test]
+fn lanes_propose_what_the_detector_does(rt: HostRuntime) -> Result<(), Fail> {
+    let mut heard = Receivers::new(rt.alloc());
+    let mut tally = Tally::default();
+    let mut number = 0;
+    for (k, h, l) in RULES {
+        assert!(rt; 1 <= l && l <= h && h <= k && k <= 32);
+        for trial in 0..12u32 {
+            let implicit = trial % 2 == 1;
+            let rule = Rule { k, h, l, implicit };
+            tally = tally.plus(check_trial(&rt, rt.alloc(), &mut heard, rule, number)?);
+            number = number.saturating_add(1);
+        }
+    }
+    assert!(rt; tally.silent > 0 && tally.wanted > 0 && tally.others > 0);
+    Ok(())
+}

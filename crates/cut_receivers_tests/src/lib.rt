@@ -1,0 +1,20 @@
+//! What no contract of `cut_receivers` says: receivers of drawn trials beside detectors to which their deliveries are
+//! replayed one by one, receivers whose images tie, and receivers for whose times memory runs out.
+//!
+//! The tests stand in a crate of their own, as they use the crate as its callers do, and its proof need not be made again
+//! for them.
+#![tactic(auto)]
+
+#[cfg(test)]
+mod drawn;
+pub mod edges;
+#[cfg(test)]
+mod lanes;
+#[cfg(test)]
+mod refused_memory;
+#[cfg(test)]
+mod replays;
+#[cfg(test)]
+mod setting;
+#[cfg(test)]
+mod ties;

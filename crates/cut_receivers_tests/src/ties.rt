@@ -1,0 +1,108 @@
+//! Receivers whose images tie where it matters. They were found by a search through the key stream that was written apart
+//! from this project, with the alerts that the roles below give.
+ghost use Rattle.std.specs.Prelude.{◌<◌};
+
+use crate::replays::replayed;
+use crate::setting::{SEED, Scene, Setting};
+use cut_alerts::Roles;
+use cut_blocks::Blocks;
+use cut_detector::Rule;
+use cut_draws::Draws;
+use cut_plan::Dead;
+use cut_receivers::{Finding, Receivers};
+use cut_rings::Rings;
+use std::alloc::{AllocError, Global};
+use std::process::Abort;
+use std::test::Fail;
+
+const RULE: Rule = Rule {
+    k: 4,
+    h: 3,
+    l: 2,
+    implicit: false,
+};
+
+const COPIES: u8 = 3;
+
+/// Six processes in their order on each ring.
+const ORDERS: [[u16; 6]; 4] = [
+    [0, 1, 2, 3, 4, 5],
+    [3, 0, 5, 1, 4, 2],
+    [2, 4, 0, 1, 5, 3],
+    [5, 3, 1, 4, 2, 0],
+];
+
+/// What is found of a receiver, and the place at which the detector proposes.
+#[derive(Clone, Copy, Debug, PartialEq, Eq)]
+struct Found {
+    finding: Finding,
+    place: u32,
+    is_doubtful: bool,
+    settled: Option<u64>,
+}
+
+/// Process 0 has crashed, and process 5 lies: all four rings report 0, two report 3, and one 1.
+fn setting(rt: &impl Abort, alloc: Global) -> Result<Setting, Fail> {
+    let [first, second, third, fourth] = ORDERS;
+    let lists = [
+        Vec::from_array(alloc, first)?,
+        Vec::from_array(alloc, second)?,
+        Vec::from_array(alloc, third)?,
+        Vec::from_array(alloc, fourth)?,
+    ];
+    let rings = Rings::from_lists(alloc, 6, &lists)?;
+    let roles = Roles::given_mixed(alloc, 6, &[0], &[], &[5], &[], Dead::Silent)?;
+    Setting::new(rt, alloc, RULE, rings, &roles)
+}
+
+/// What is found of a receiver in the second lane, where process 0 alone is wanted.
+fn found_of_receiver(
+    alloc: Global,
+    scene: Scene<'_>,
+    receiver: u16,
+) -> Result<Option<Found>, AllocError>
+    requires { receiver < 2048 }
+{
+    let trial = scene.trial;
+    if trial.nodes.nodes.len() != 2 {
+        return Ok(None);
+    }
+    let mut heard = Receivers::new(alloc);
+    heard.hear(trial, [0, receiver, 1, 2])?;
+    let places = heard.places(trial, [0, receiver, 1, 2], scene.slots)?;
+    if heard.highs.len() != 2 {
+        return Ok(None);
+    }
+    let findings = heard.judge(&[true, false]);
+    let mut draws = Draws::new(SEED, scene.number);
+    let proposal = replayed(alloc, scene, &mut draws, receiver)?;
+    Ok(Some(Found {
+        finding: findings.at(1),
+        place: places.at(1),
+        is_doubtful: places.is_doubtful(1),
+        settled: proposal.map(|proposal| proposal.at),
+    }))
+}
+
+#[test]
+fn equal_images_are_in_doubt(rt: HostRuntime) -> Result<(), Fail> {
+    let setting = setting(&rt, rt.alloc())?;
+    let rows = [
+        (46_712, 1304, Finding::Wanted, 8, Some(7)),
+        (20_030, 1307, Finding::Wanted, 6, Some(6)),
+        (133_101, 1699, Finding::Doubtful, 21, None),
+    ];
+    for (number, receiver, finding, place, settled) in rows {
+        let blocks = Blocks::new(SEED, number);
+        let scene = setting.scene(&blocks, number, COPIES);
+        let found = found_of_receiver(rt.alloc(), scene, receiver)?;
+        let wanted = Found {
+            finding,
+            place,
+            is_doubtful: true,
+            settled,
+        };
+        assert_eq!(rt; found, Some(wanted));
+    }
+    Ok(())
+}
