@@ -1,7 +1,7 @@
 #!/usr/bin/env python3
 """What cutlab's table is, in plain Python: the definitions of docs/MODEL.md and docs/FORMATS.md, each function under the
-name that its definition has there. It is slow and obvious, stands on the standard library alone, and shares nothing with
-the program but these two pages.
+name that its definition has there. It is slow and obvious, stands on the standard library alone, and shares no code
+with the program.
 
     cutlab_reference.py run   < plan.json      the table
     cutlab_reference.py check < plan.json      cells, trials and quorum
