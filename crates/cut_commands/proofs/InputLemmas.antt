@@ -1,15 +1,26 @@
--- A buffer after several reads into it, and what they gave.
-use Rattle.std.proofs.Common.{◌≡◌, ℕ, ◌+◌, ◌≤◌, ◌<◌, cond, List, ◌++◌, length, take, refl, sym, ap, ◌∙◌, arith, length-append, append_assoc}
+-- A buffer after several reads into it, and the plan that is read so.
+use Rattle.std.proofs.Common.{◌≡◌, ℕ, ◌+◌, ◌≤◌, ◌<◌, Bool, true, false, cond, nat_lt, List, [], ◌++◌, Some, None, Ok, Err, length, take, refl, sym, ap, subst, ◌∙◌, arith, length-append, inl, inr}
+use Rattle.std.specs.Prelude.{IsErrOf}
+use Rattle.std.specs.Str.{is_utf8}
+use Rattle.std.proofs.lemmas.Bool.Decides.{nat_tests}
 use Rattle.std.proofs.lemmas.List.{length-take-le, take-take}
 use Rattle.std.proofs.lemmas.Slice.{take-put_mid}
 use Rattle.std.proofs.Math.Seq.{take-append-add}
 use borrow.Rule.Slice.PartMut.{put_mid, post_of}
-use Rattle.std.proofs.lemmas.Bool.{ne_eqb}
-use Rattle.cut_faults.specs.Failures.{one_more}
-use Rattle.cut_table.specs.Traffic.{Traffic, gave}
-use Rattle.cut_commands.specs.Run.{HasRead}
+use Rattle.cut_plan.specs.Accepted.{plan_of}
+use Rattle.cut_plan.specs.Refusals.{IsToldOf}
+use Rattle.cut_plan.specs.Values.{Values}
+use Rattle.cut_plan.specs.declared.refusal.PlanFault.{PlanFault}
+use Rattle.cut_plan.specs.declared.refusal.PlanFault.TheVariants as plan
+use Rattle.cut_plan.specs.declared.refusal.Refusal.TheVariants.{NotJson, PlanTooLong}
+use Rattle.cut_wires.specs.Log.{Log}
+use Rattle.cut_commands.specs.Faults.{fault_of_plan}
+use Rattle.cut_commands.specs.Run.{FillsFrom, GivesPlan, GivesText, refused_at_sight}
+use Rattle.cut_commands.specs.declared.fault.CliFault.{CliFault}
+use Rattle.cut_commands.specs.declared.fault.CliFault.TheVariants.{Memory, Read}
+use Rattle.cut_commands.proofs.Logs.{read_none}
 
--- the front of a buffer after a read into its rest
+-- the first bytes of a buffer after a read into its rest
 pub take_filled : (filled n : ℕ) (k : ℕ) (buffer got : List ℕ) → filled ≤ length buffer → n ≤ length got → take (filled + n) (put_mid filled k buffer got) ≡ take filled buffer ++ take n got
 take_filled filled n k buffer got within few =
     let all = take-put_mid filled k buffer got (filled + length got) refl within in
@@ -24,13 +35,46 @@ pub filled_fits : (filled n : ℕ) (k : ℕ) (buffer got : List ℕ) → filled 
 filled_fits filled n k buffer got within few =
     omega (arith, length-append (take filled buffer) (got ++ post_of filled k buffer), length-append got (post_of filled k buffer), length-take-le filled buffer within)
 
--- what was read in all, after one read more that did not give the end
-pub read_more : (old mid new : Traffic) (front got : List ℕ) (n : ℕ) → HasRead front old mid → new ≡ gave mid got n → HasRead (front ++ take n got) old new
-read_more old mid new front got n before is = record {
-  given = ap (λ (t : Traffic). t.given) is ∙ ap (λ (xs : List ℕ). xs ++ take n got) before.given ∙ append_assoc old.given front (take n got);
-  taken = ap (λ (t : Traffic). t.taken) is ∙ before.taken;
-}
+-- ---- a text, or none
 
--- a read that gave some bytes did not give the end
-pub still_open : (mid new : Traffic) (got : List ℕ) (n : ℕ) → new ≡ gave mid got n → 0 < n → new.ends ≡ mid.ends
-still_open mid new got n is some = ap (λ (t : Traffic). t.ends) is ∙ ap (λ b. cond b (one_more mid.ends) mid.ends) (ne_eqb n 0 (λ none. absurd (omega arith)))
+-- a buffer of as many bytes as are read at most was not filled
+pub gives_unfilled : (limit room : ℕ) (fault : CliFault) (buffer : List ℕ) (old new : Log) → room ≡ limit
+    → FillsFrom room (Err fault) buffer old new → GivesText limit (Err fault) old new
+gives_unfilled limit room Read buffer old new same is = (is.0, omega (arith, same, is.1), is.2)
+gives_unfilled limit room fault buffer old new same is = absurd is
+
+-- no text is no plan
+pub gives_no_plan : (fault : CliFault) (old new : Log) → GivesText 65537 (Err fault) old new
+    → GivesPlan (Err fault) old new
+gives_no_plan Memory old new is = record { text = []; ended = false; log = is ∙ read_none old; is = inl (refl, refl) }
+gives_no_plan Read old new is = record { text = is.0; ended = false; log = is.2; is = (is.1, refl) }
+gives_no_plan fault old new is = absurd is
+
+-- a text that is not refused at sight
+at_sight : (text : List ℕ) → (65536 < length text → ⊥) → (length text ≤ 65536 → is_utf8 text ≡ false → ⊥)
+    → refused_at_sight text ≡ None
+at_sight text short utf8 = by (nat_lt 65536 (length text)) (is_utf8 text) refl refl
+  where
+    by : (b u : Bool) → nat_lt 65536 (length text) ≡ b → is_utf8 text ≡ u
+        → cond b (Some PlanTooLong) (cond u None (Some NotJson)) ≡ None
+    by true u is_long is_text = absurd (short (grind (arith, nat_tests)))
+    by false true is_long is_text = refl
+    by false false is_long is_text = absurd (utf8 (grind (arith, nat_tests)) is_text)
+
+-- no plan was made of a text that was read
+pub gives_refused : {T : Type 0} (text : List ℕ) (fault : PlanFault) (old new : Log) → GivesText 65537 (Ok text) old new
+    → IsToldOf (plan_of text) fault → (65536 < length text → IsErrOf {T = T} (Err fault) (plan.Refused PlanTooLong))
+    → (length text ≤ 65536 → is_utf8 text ≡ false → IsErrOf {T = T} (Err fault) (plan.Refused NotJson))
+    → GivesPlan (Err (fault_of_plan fault)) old new
+gives_refused text plan.Memory old new read why long utf8 = record {
+  text = text;
+  ended = nat_lt (length text) 65537;
+  log = read.1;
+  is = inr ((read.0, refl), at_sight text (λ l. cc (long l)) (λ l u. cc (utf8 l u)));
+}
+gives_refused text (plan.Refused refusal) old new read why long utf8 = record {
+  text = text;
+  ended = nat_lt (length text) 65537;
+  log = read.1;
+  is = ((read.0, refl), why);
+}

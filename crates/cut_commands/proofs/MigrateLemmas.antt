@@ -1,21 +1,21 @@
--- What a migration tells, by what is known of its disks.
+-- What a migration writes, by what is known of its disks.
 use Rattle.std.proofs.Common.{◌≡◌, ◌∙◌, List, Option, None, Err, refl, ap, subst, inl, inr}
 use Rattle.std.specs.Prelude.{IsSome}
 use Rattle.cut_plan.specs.Targets.{upgraded}
 use Rattle.cut_plan.specs.Values.{Values}
 use Rattle.cut_disks.specs.State.{DiskState}
 use Rattle.cut_ledger.specs.declared.slip.Slip.{Slip}
-use Rattle.cut_journal.specs.declared.migrate_fault.MigrateFault.{MigrateFault}
-use Rattle.cut_journal.specs.declared.migrate_fault.MigrateFault.TheVariants as migration
+use Rattle.cut_migration.specs.declared.fault.MigrateFault.{MigrateFault}
+use Rattle.cut_migration.specs.declared.fault.MigrateFault.TheVariants as migration
 use Rattle.cut_journal.specs.Journal.{Log}
-use Rattle.cut_journal.specs.Migration as moves
-use Rattle.cut_table.specs.Traffic.{Traffic}
+use Rattle.cut_migration.specs.Migration as moves
+use Rattle.cut_wires.specs.Log.{Log as WireLog}
 use Rattle.cut_commands.specs.declared.fault.CliFault.{CliFault}
-use Rattle.cut_commands.specs.declared.fault.CliFault.TheVariants.{Memory, Plan, Read, Socket, Asked, Write, Journal, Folder, BadSlip, Migrate, Checkpoint, WorkMemory, AuditMismatch}
+use Rattle.cut_commands.specs.declared.fault.CliFault.TheVariants.{Memory, Journal, Migrate}
 use Rattle.cut_commands.specs.Faults.{fault_of_migration}
 use Rattle.cut_commands.specs.Migrate.{EndsMove, Holds, IsFree, MigrateFails, files_task, migrate_task, moved_text}
 use Rattle.cut_commands.specs.Run.{Leaves}
-use Rattle.cut_commands.proofs.RunLemmas.{Weakens}
+use Rattle.cut_commands.proofs.RunLemmas.{Weakens, leaves_nothing}
 
 not_some : IsSome {T = Slip} None → ⊥
 not_some some = cc some
@@ -41,55 +41,37 @@ module _ {O N : Type 0} (old_honest : O → Type 0) (old_state : O → DiskState
       (slips, record { version = ends.0.version; held = held; free = free }, ends.0.good)
 
   -- ---- what it leaves on the wire where not all were moved: nothing
-  pub leaves_none : (old : O) (new : N) (v : Values) (fault : CliFault) (t : Traffic)
+  pub leaves_none : (old : O) (new : N) (v : Values) (fault : CliFault) (l : WireLog)
       → EndsMove old_honest old_state new_honest new_state old new v (Err fault)
-      → Leaves (migrate_task old_honest old_state new_honest new_state old new) v (Err fault) t t
-  leaves_none old new v Memory t ends = refl
-  leaves_none old new v (Journal fault) t ends = (ends, refl)
-  leaves_none old new v (Migrate fault) t ends = (ends, refl)
-  leaves_none old new v (Plan refusal) t ends = absurd ends
-  leaves_none old new v Read t ends = absurd ends
-  leaves_none old new v Socket t ends = absurd ends
-  leaves_none old new v (Asked told) t ends = absurd ends
-  leaves_none old new v (Write sent) t ends = absurd ends
-  leaves_none old new v Folder t ends = absurd ends
-  leaves_none old new v (BadSlip n) t ends = absurd ends
-  leaves_none old new v Checkpoint t ends = absurd ends
-  leaves_none old new v WorkMemory t ends = absurd ends
-  leaves_none old new v AuditMismatch t ends = absurd ends
+      → Leaves (migrate_task old_honest old_state new_honest new_state old new) v (Err fault) l l
+  leaves_none old new v Memory l ends =
+      leaves_nothing (migrate_task old_honest old_state new_honest new_state old new) v Memory l refl refl
+  leaves_none old new v (Journal fault) l ends =
+      leaves_nothing (migrate_task old_honest old_state new_honest new_state old new) v (Journal fault) l refl (ends, refl)
+  leaves_none old new v (Migrate fault) l ends =
+      leaves_nothing (migrate_task old_honest old_state new_honest new_state old new) v (Migrate fault) l refl (ends, refl)
+  leaves_none old new v fault l ends = absurd ends
 
   -- ---- from one file to another
   files_fail : (old : O) (new : N) (v : Values) (fault : CliFault) → MigrateFails old_honest old_state new_honest new_state old new v fault
       → files_task.fails v fault
-  files_fail old new v Memory is = is
   files_fail old new v (Journal fault) is = elim is [ inl refused ↦ inl refused.0 | inr refused ↦ inr refused.0 ]
   files_fail old new v (Migrate migration.NotVersion1) is = is.0
   files_fail old new v (Migrate (migration.BadSlip n)) is = (is.1.version, (is.0, is.2))
   files_fail old new v (Migrate (migration.Disagrees n)) is = (is.1.version, (is.0, is.2, is.3))
   files_fail old new v (Migrate migration.Disk) is = (is.1.version, (is.0, is.2))
-  files_fail old new v (Migrate migration.Memory) is = is
-  files_fail old new v (Migrate migration.OtherPlan) is = is
-  files_fail old new v (Migrate migration.Broken) is = is
-  files_fail old new v (Plan refusal) is = is
-  files_fail old new v Read is = is
-  files_fail old new v Socket is = is
-  files_fail old new v (Asked told) is = is
-  files_fail old new v (Write sent) is = is
-  files_fail old new v Folder is = is
-  files_fail old new v (BadSlip n) is = is
-  files_fail old new v Checkpoint is = is
-  files_fail old new v WorkMemory is = is
-  files_fail old new v AuditMismatch is = is
+  files_fail old new v (Migrate fault) is = absurd is
+  files_fail old new v fault is = absurd is
 
   pub over_files : (old : O) (new : N) → Weakens (migrate_task old_honest old_state new_honest new_state old new) files_task
   over_files old new = record {
-    answers = λ text v whole reads tells. (
-      tells.1.ready.version,
+    answers = λ text v whole reads written. (
+      written.1.ready.version,
       (
-        tells.1.slips,
-        tells.1.good,
-        tells.1.true,
-        tells.2 ∙ ap (λ n. moved_text n) tells.1.all,
+        written.1.slips,
+        written.1.good,
+        written.1.true,
+        written.2 ∙ ap (λ n. moved_text n) written.1.all,
       ),
     );
     fails = λ text v fault reads is. files_fail old new v fault is;

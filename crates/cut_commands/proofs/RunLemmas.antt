@@ -1,17 +1,18 @@
 -- How a command ends, by its parts.
-use Rattle.std.proofs.Common.{true, false, ◌≡◌, ◌++◌, ℕ, List, [], Bool, Some, None, Result, Ok, Err, cond, length, take, refl, sym, subst, ap, ◌∙◌, append-nil, nat_lt, inl, inr}
+use Rattle.std.proofs.Common.{true, false, ◌≡◌, ◌∙◌, ℕ, List, [], Bool, Some, None, Result, Ok, Err, cond, length, take, refl, sym, ap, nat_lt, inl, inr}
 use Rattle.std.specs.Bool.{⊤}
 use Rattle.std.specs.Str.{is_utf8}
 use Rattle.cut_plan.specs.Values.{Values}
 use Rattle.cut_plan.specs.Accepted.{plan_of}
 use Rattle.cut_plan.specs.declared.refusal.Refusal.TheVariants.{NotJson, PlanTooLong}
-use Rattle.cut_table.specs.Traffic.{Traffic, wrote}
-use Rattle.cut_commands.specs.Run.{Answers, Ends, FailsWith, GivesPlan, IsFront, IsReadThrough, Leaves, refused_at_sight}
+use Rattle.cut_wires.specs.Log.{Log, wrote}
+use Rattle.cut_commands.specs.Run.{AnswersPlan, Answers, Ends, GivesPlan, IsPrefix, IsReadAs, IsReadThrough, IsWritten, Leaves, failing, failed_by, read_on, refused_at_sight}
 use Rattle.cut_commands.specs.Task.{Task}
 use Rattle.cut_commands.specs.declared.fault.CliFault.{CliFault}
-use Rattle.cut_commands.specs.declared.fault.CliFault.TheVariants.{Memory, Plan, Read, Socket, Asked, Write, Journal, Folder, BadSlip, Migrate, Checkpoint, WorkMemory, AuditMismatch}
+use Rattle.cut_commands.specs.declared.fault.CliFault.TheVariants.{Memory, Plan, Read, Write, Journal, BadSlip, Migrate, Checkpoint, WorkMemory, AuditMismatch}
+use Rattle.cut_commands.proofs.Logs.{wrote_none}
 
--- ---- ending
+-- ---- working on a plan
 
 -- an accepted plan is not refused at sight
 accepted_at_sight : (text : List ℕ) (v : Values) → plan_of text ≡ Ok v → refused_at_sight text ≡ None
@@ -23,87 +24,67 @@ accepted_at_sight text v is = by (nat_lt 65536 (length text)) (is_utf8 text) ref
     by false true is_long is_text = refl
     by false false is_long is_text = absurd (let bad = rw (is_long, is_text) at is in cc)
 
--- what a command answers to a text that is a plan, where it wrote these bytes
-abbrev Answering : Task → Values → Result ⊤ CliFault → List ℕ → Traffic → Traffic → Type 0
-Answering task v result written old new =
-    (text : List ℕ) → plan_of text ≡ Ok v → IsReadThrough 65537 text old new → Answers task text result written old new
+-- what is written to a plan is written to its text
+answers_text : (task : Task) (text : List ℕ) (ended : Bool) (v : Values) (result : Result ⊤ CliFault) (written : List ℕ)
+    → IsReadThrough 65537 text ended → plan_of text ≡ Ok v → AnswersPlan task v result written
+    → Answers task text ended result written
+answers_text task text ended v (Ok done) written through read is = (through, (v, read, is))
+answers_text task text ended v (Err Memory) written through read is = (inr (through, accepted_at_sight text v read), is)
+answers_text task text ended v (Err Read) written through read is = absurd is
+answers_text task text ended v (Err (Plan refusal)) written through read is = absurd is
+answers_text task text ended v (Err fault) written through read is = (through, (v, read, is))
 
--- nothing was written
-nothing : (task : Task) (v : Values) (result : Result ⊤ CliFault) (old mid : Traffic) → GivesPlan (Ok v) old mid → Answering task v result [] old mid
-    → Ends task old mid result
-nothing task v result old mid r answers = record {
-  read = r.text;
-  given = r.read.given;
+-- a plan was read, and then the command ended as it leaves one
+pub ends_left : (task : Task) (v : Values) (result : Result ⊤ CliFault) (old mid new : Log) → GivesPlan (Ok v) old mid
+    → Leaves task v result mid new → Ends task old new result
+ends_left task v result old mid new given left = record {
+  text = given.text;
+  ended = given.ended;
+  written = left.written;
+  log = left.log ∙ ap (λ (l : Log). failed_by result (wrote l left.written)) given.log;
+  answers = answers_text task given.text given.ended v result left.written given.is.0 given.is.1 left.answers;
+}
+
+-- ---- no plan
+
+answers_none : (task : Task) (text : List ℕ) (ended : Bool) (fault : CliFault) → IsReadAs text ended (Err fault)
+    → Answers task text ended (Err fault) []
+answers_none task text ended Memory is = (is, refl)
+answers_none task text ended Read is = (is, refl)
+answers_none task text ended (Plan refusal) is = (is.0, is.1, refl)
+answers_none task text ended fault is = absurd is
+
+pub ends_unread : (task : Task) (fault : CliFault) (old new : Log) → GivesPlan (Err fault) old new
+    → Ends task old new (Err fault)
+ends_unread task fault old new given = record {
+  text = given.text;
+  ended = given.ended;
   written = [];
-  taken = r.read.taken ∙ sym (append-nil old.taken);
-  answers = answers r.text r.told.1 r.told.0;
+  log = given.log ∙ ap (λ (l : Log). failing fault l) (sym (wrote_none (read_on given.text given.ended old)));
+  answers = answers_none task given.text given.ended fault given.is;
 }
 
--- these bytes were written
-these : (task : Task) (v : Values) (result : Result ⊤ CliFault) (out : List ℕ) (old mid : Traffic) → GivesPlan (Ok v) old mid
-    → Answering task v result out old (wrote mid out) → Ends task old (wrote mid out) result
-these task v result out old mid r answers = record {
-  read = r.text;
-  given = r.read.given;
-  written = out;
-  taken = ap (λ (xs : List ℕ). xs ++ out) r.read.taken;
-  answers = answers r.text r.told.1 r.told.0;
+-- ---- what is left
+
+-- nothing
+pub leaves_nothing : (task : Task) (v : Values) (fault : CliFault) (l : Log) → failing fault l ≡ l
+    → AnswersPlan task v (Err fault) [] → Leaves task v (Err fault) l l
+leaves_nothing task v fault l same is = record {
+  written = [];
+  log = sym same ∙ ap (λ (m : Log). failing fault m) (sym (wrote_none l));
+  answers = is;
 }
 
--- the first bytes of an answer to a plan are those of one to its text
-abbrev front_of : (task : Task) (v : Values) (text whole : List ℕ) (count : ℕ) → plan_of text ≡ Ok v → task.answers v whole → IsFront task text (take count whole)
-front_of task v text whole count read answer =
-    record { plan = v; read = read; whole = whole; answer = answer; count = count; front = refl }
-
--- a plan was read, and then the command ended as its task leaves it
-pub ends_left : (task : Task) (v : Values) (result : Result ⊤ CliFault) (old mid new : Traffic) → GivesPlan (Ok v) old mid → Leaves task v result mid new
-    → Ends task old new result
-ends_left task v (Ok done) old mid new r left =
-    subst (λ (t : Traffic). Ends task old t (Ok done)) (sym left.2)
-    (these task v (Ok done) left.0 old mid r (λ text read through. (through, (v, read, left.1))))
-ends_left task v (Err (Write sent)) old mid new r left =
-    let f = left.0 in
-    subst (λ (t : Traffic). Ends task old t (Err (Write sent))) (sym f.front)
-    (these task v (Err (Write sent)) (take f.count f.whole) old mid r
-    (λ text read through. (through, (front_of task v text f.whole f.count read f.answer, left.1, left.2))))
-ends_left task v (Err Memory) old mid new r left =
-    subst (λ (t : Traffic). Ends task old t (Err Memory)) (sym left)
-    (nothing task v (Err Memory) old mid r (λ text read through. (inr (through, accepted_at_sight text v read), refl)))
-ends_left task v (Err (Journal fault)) old mid new r left =
-    subst (λ (t : Traffic). Ends task old t (Err (Journal fault))) (sym left.1)
-    (nothing task v (Err (Journal fault)) old mid r
-    (λ text read through. (through, record { plan = v; read = read; fails = left.0 }, refl)))
-ends_left task v (Err (BadSlip number)) old mid new r left =
-    subst (λ (t : Traffic). Ends task old t (Err (BadSlip number))) (sym left.1)
-    (nothing task v (Err (BadSlip number)) old mid r
-    (λ text read through. (through, record { plan = v; read = read; fails = left.0 }, refl)))
-ends_left task v (Err (Migrate fault)) old mid new r left =
-    subst (λ (t : Traffic). Ends task old t (Err (Migrate fault))) (sym left.1)
-    (nothing task v (Err (Migrate fault)) old mid r
-    (λ text read through. (through, record { plan = v; read = read; fails = left.0 }, refl)))
-ends_left task v (Err WorkMemory) old mid new r left = elim left.1 [
-  | inl same ↦ subst (λ (t : Traffic). Ends task old t (Err WorkMemory)) (sym same)
-      (nothing task v (Err WorkMemory) old mid r
-      (λ text read through. (through, record { plan = v; read = read; fails = left.0 }, inl refl)))
-  | inr f ↦ subst (λ (t : Traffic). Ends task old t (Err WorkMemory)) (sym f.front)
-      (these task v (Err WorkMemory) (take f.count f.whole) old mid r
-      (λ text read through. (through, record { plan = v; read = read; fails = left.0 }, inr (front_of task v text f.whole f.count read f.answer))))
-]
-ends_left task v (Err Checkpoint) old mid new r left =
-    let f = left.1 in
-    subst (λ (t : Traffic). Ends task old t (Err Checkpoint)) (sym f.front)
-    (these task v (Err Checkpoint) (take f.count f.whole) old mid r
-    (λ text read through. (through, record { plan = v; read = read; fails = left.0 }, front_of task v text f.whole f.count read f.answer)))
-ends_left task v (Err AuditMismatch) old mid new r left =
-    let f = left.1 in
-    subst (λ (t : Traffic). Ends task old t (Err AuditMismatch)) (sym f.front)
-    (these task v (Err AuditMismatch) (take f.count f.whole) old mid r
-    (λ text read through. (through, record { plan = v; read = read; fails = left.0 }, front_of task v text f.whole f.count read f.answer)))
-ends_left task v (Err (Plan refusal)) old mid new r left = absurd left
-ends_left task v (Err Read) old mid new r left = absurd left
-ends_left task v (Err Socket) old mid new r left = absurd left
-ends_left task v (Err (Asked fault)) old mid new r left = absurd left
-ends_left task v (Err Folder) old mid new r left = absurd left
+-- the bytes of an answer, or some of the first
+pub leaves_answer : (task : Task) (v : Values) (whole : List ℕ) (result : Result ⊤ CliFault) (old new : Log)
+    → task.answers v whole → IsWritten whole result old new → Leaves task v result old new
+leaves_answer task v whole (Ok done) old new answer is = record { written = whole; log = is; answers = answer }
+leaves_answer task v whole (Err (Write sent)) old new answer is = record {
+  written = take sent whole;
+  log = is.1;
+  answers = (record { whole = whole; answer = answer; count = sent; prefix = refl }, refl, is.0);
+}
+leaves_answer task v whole (Err fault) old new answer is = absurd is
 
 -- ---- one task as another
 
@@ -112,51 +93,52 @@ pub record Weakens (a b : Task) : Type 0 where
   pub answers : (text : List ℕ) (v : Values) (whole : List ℕ) → plan_of text ≡ Ok v → a.answers v whole → b.answers v whole
   pub fails : (text : List ℕ) (v : Values) (fault : CliFault) → plan_of text ≡ Ok v → a.fails v fault → b.fails v fault
 
-front_as : (a b : Task) (text written : List ℕ) → Weakens a b → IsFront a text written → IsFront b text written
-front_as a b text written weak f = record {
-  plan = f.plan;
-  read = f.read;
-  whole = f.whole;
-  answer = weak.answers text f.plan f.whole f.read f.answer;
-  count = f.count;
-  front = f.front;
-}
+module _ (a b : Task) (text : List ℕ) (weak : Weakens a b) where
+  prefix_as : (v : Values) (written : List ℕ) → plan_of text ≡ Ok v → IsPrefix a v written → IsPrefix b v written
+  prefix_as v written read p = record {
+    whole = p.whole;
+    answer = weak.answers text v p.whole read p.answer;
+    count = p.count;
+    prefix = p.prefix;
+  }
 
-fails_as : (a b : Task) (text : List ℕ) (fault : CliFault) → Weakens a b → FailsWith a text fault → FailsWith b text fault
-fails_as a b text fault weak f = record { plan = f.plan; read = f.read; fails = weak.fails text f.plan fault f.read f.fails }
+  answers_plan_as : (v : Values) (r : Result ⊤ CliFault) (written : List ℕ) → plan_of text ≡ Ok v
+      → AnswersPlan a v r written → AnswersPlan b v r written
+  unfolding prefix_as
+  answers_plan_as v (Ok done) written read is = weak.answers text v written read is
+  answers_plan_as v (Err (Write sent)) written read is = (prefix_as v written read is.0, is.1, is.2)
+  answers_plan_as v (Err Memory) written read is = is
+  answers_plan_as v (Err (Journal fault)) written read is = (weak.fails text v (Journal fault) read is.0, is.1)
+  answers_plan_as v (Err (BadSlip number)) written read is = (weak.fails text v (BadSlip number) read is.0, is.1)
+  answers_plan_as v (Err (Migrate fault)) written read is = (weak.fails text v (Migrate fault) read is.0, is.1)
+  answers_plan_as v (Err WorkMemory) written read is = (
+    weak.fails text v WorkMemory read is.0,
+    elim is.1 [
+      | inl none ↦ inl none
+      | inr p ↦ inr (prefix_as v written read p)
+    ],
+  )
+  answers_plan_as v (Err Checkpoint) written read is =
+      (weak.fails text v Checkpoint read is.0, prefix_as v written read is.1)
+  answers_plan_as v (Err AuditMismatch) written read is =
+      (weak.fails text v AuditMismatch read is.0, prefix_as v written read is.1)
+  answers_plan_as v (Err fault) written read is = absurd is
 
-answers_as : (a b : Task) (text : List ℕ) (r : Result ⊤ CliFault) (written : List ℕ) (old new : Traffic) → Weakens a b
-    → Answers a text r written old new → Answers b text r written old new
-unfolding front_as
-answers_as a b text (Ok done) written old new weak is = (is.0, (is.1.0, is.1.1, weak.answers text is.1.0 written is.1.1 is.1.2))
-answers_as a b text (Err (Write sent)) written old new weak is = (is.0, (front_as a b text written weak is.1.0, is.1.1, is.1.2))
-answers_as a b text (Err Read) written old new weak is = is
-answers_as a b text (Err Socket) written old new weak is = is
-answers_as a b text (Err (Asked fault)) written old new weak is = is
-answers_as a b text (Err Folder) written old new weak is = is
-answers_as a b text (Err (Plan refusal)) written old new weak is = is
-answers_as a b text (Err Memory) written old new weak is = is
-answers_as a b text (Err (Journal fault)) written old new weak is = (is.0, fails_as a b text (Journal fault) weak is.1, is.2)
-answers_as a b text (Err (BadSlip number)) written old new weak is = (is.0, fails_as a b text (BadSlip number) weak is.1, is.2)
-answers_as a b text (Err (Migrate fault)) written old new weak is = (is.0, fails_as a b text (Migrate fault) weak is.1, is.2)
-answers_as a b text (Err WorkMemory) written old new weak is = (
-  is.0,
-  fails_as a b text WorkMemory weak is.1,
-  elim is.2 [
-    | inl none ↦ inl none
-    | inr front ↦ inr (front_as a b text written weak front)
-  ],
-)
-answers_as a b text (Err Checkpoint) written old new weak is =
-    (is.0, fails_as a b text Checkpoint weak is.1, front_as a b text written weak is.2)
-answers_as a b text (Err AuditMismatch) written old new weak is =
-    (is.0, fails_as a b text AuditMismatch weak is.1, front_as a b text written weak is.2)
+  answers_as : (ended : Bool) (r : Result ⊤ CliFault) (written : List ℕ) → Answers a text ended r written
+      → Answers b text ended r written
+  answers_as ended (Ok done) written is =
+      (is.0, (is.1.0, is.1.1, answers_plan_as is.1.0 (Ok done) written is.1.1 is.1.2))
+  answers_as ended (Err Read) written is = is
+  answers_as ended (Err (Plan refusal)) written is = is
+  answers_as ended (Err Memory) written is = is
+  answers_as ended (Err fault) written is =
+      (is.0, (is.1.0, is.1.1, answers_plan_as is.1.0 (Err fault) written is.1.1 is.1.2))
 
-pub ends_as : (a b : Task) (old new : Traffic) (r : Result ⊤ CliFault) → Weakens a b → Ends a old new r → Ends b old new r
+pub ends_as : (a b : Task) (old new : Log) (r : Result ⊤ CliFault) → Weakens a b → Ends a old new r → Ends b old new r
 ends_as a b old new r weak e = record {
-  read = e.read;
-  given = e.given;
+  text = e.text;
+  ended = e.ended;
   written = e.written;
-  taken = e.taken;
-  answers = answers_as a b e.read r e.written old new weak e.answers;
+  log = e.log;
+  answers = answers_as a b e.text weak e.ended r e.written e.answers;
 }

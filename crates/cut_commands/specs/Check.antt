@@ -1,4 +1,4 @@
--- What the check of a plan tells.
+-- What the check of a plan writes.
 use Rattle.std.specs.Prelude.{ℕ, List, [], ◌∷◌, ◌++◌, length, codes}
 use Rattle.std.specs.Fmt.{decimal}
 use Rattle.cut_plan.specs.Values.{Values}

@@ -4,7 +4,6 @@ use Rattle.std.specs.Fmt.{decimal}
 use Rattle.cut_faults.specs.declared.code.FaultCode.{FaultCode}
 use Rattle.cut_faults.specs.declared.code.FaultCode.TheVariants as code
 use Rattle.cut_faults.specs.Codes as codes_of
-use Rattle.cut_table.specs.Traffic.{Failed, read_failed, write_failed}
 use Rattle.cut_plan.specs.declared.refusal.PlanFault.{PlanFault}
 use Rattle.cut_plan.specs.declared.refusal.PlanFault.TheVariants as plan
 use Rattle.cut_plan.specs.declared.field.Field.{Field}
@@ -13,17 +12,16 @@ use Rattle.cut_plan.specs.Refusals.{code_of_refusal, field_of_refusal}
 use Rattle.cut_journal.specs.declared.fault.JournalFault.{JournalFault}
 use Rattle.cut_journal.specs.declared.fault.JournalFault.TheVariants as journal
 use Rattle.cut_journal.specs.FaultCode as journal_codes
-use Rattle.cut_journal.specs.declared.migrate_fault.MigrateFault.{MigrateFault}
-use Rattle.cut_journal.specs.declared.migrate_fault.MigrateFault.TheVariants as migration
-use Rattle.cut_journal.specs.MigrateFaultCode as migrate_codes
+use Rattle.cut_migration.specs.declared.fault.MigrateFault.{MigrateFault}
+use Rattle.cut_migration.specs.declared.fault.MigrateFault.TheVariants as migration
+use Rattle.cut_migration.specs.FaultCode as migrate_codes
 use Rattle.cut_commands.specs.declared.fault.CliFault.{CliFault}
-use Rattle.cut_pool.specs.declared.run_fault.RunFault.{RunFault}
-use Rattle.cut_pool.specs.declared.run_fault.RunFault.TheVariants as study
+use Rattle.cut_study.specs.declared.run_fault.RunFault.{RunFault}
+use Rattle.cut_study.specs.declared.run_fault.RunFault.TheVariants as study
 use Rattle.cut_commands.specs.declared.fault.CliFault.TheVariants.{Memory, Plan, Read, Socket, Asked, Write, Journal, Folder, BadSlip, Migrate, Checkpoint, WorkMemory, AuditMismatch}
-use Rattle.cut_messages.specs.Asking.{output_failed}
 use Rattle.cut_messages.specs.FaultCode.{number_of_ask}
 
--- a fault's number in the program's list of faults, or what a server told
+-- a fault's number in the program's list of faults, or what a server reported
 abbrev pub number_of : CliFault → ℕ
 number_of Memory = codes_of.number_of code.Memory
 number_of (Plan refusal) = codes_of.number_of (code_of_refusal refusal)
@@ -61,7 +59,7 @@ abbrev pub field_words : Option Field → List ℕ
 field_words None = []
 field_words (Some field) = 32 ∷ field_name field
 
--- what a fault carries, behind a blank
+-- what a fault carries, after a blank
 abbrev pub carried_by : CliFault → List ℕ
 carried_by (Plan refusal) = field_words (field_of_refusal refusal)
 carried_by (Write sent) = 32 ∷ decimal sent
@@ -105,12 +103,3 @@ fault_of_study study.Checkpoint = Checkpoint
 fault_of_study (study.Write sent) = Write sent
 fault_of_study study.WorkMemory = WorkMemory
 fault_of_study study.AuditMismatch = AuditMismatch
-
--- ---- counts of failed calls
-
--- the counts of a wire's failed calls after a command: one more exactly where it ends with such a fault
-abbrev pub failed_calls : {T : Type 0} → Result T CliFault → Failed → Failed
-failed_calls (Err Read) f = read_failed f
-failed_calls (Err (Write sent)) f = write_failed f
-failed_calls (Err (Asked fault)) f = output_failed {T = ⊤} (Err fault) f
-failed_calls result f = f

@@ -1,6 +1,5 @@
 pub mod Faults
 pub mod Check
-pub mod Streams
 pub mod Task
 pub mod Study
 pub mod Run

@@ -1,4 +1,4 @@
--- What a migration tells of a plan, by what the disk of its checkpoint holds.
+-- What a migration writes for a plan, by what the disk of its checkpoint holds.
 use Rattle.std.specs.Prelude.{◌≡◌, ◌≢◌, ◌⊎◌, ℕ, List, length, codes, Result, Ok, Err, ⊤}
 use Rattle.cut_plan.specs.declared.version.Version.TheVariants.{One, Two}
 use Rattle.cut_plan.specs.Targets.{upgraded}
@@ -9,19 +9,19 @@ use Rattle.cut_ledger.specs.declared.slip.Slip.{Slip}
 use Rattle.cut_ledger.specs.Slips.{AreGood, IsFirstBad}
 use Rattle.cut_journal.specs.declared.fault.JournalFault.{JournalFault}
 use Rattle.cut_journal.specs.declared.fault.JournalFault.TheVariants as journal
-use Rattle.cut_journal.specs.declared.migrate_fault.MigrateFault.{MigrateFault}
-use Rattle.cut_journal.specs.declared.migrate_fault.MigrateFault.TheVariants as migration
-use Rattle.cut_journal.specs.Migration.{AreTrueUpTo, IsFirstUntrue}
+use Rattle.cut_migration.specs.declared.fault.MigrateFault.{MigrateFault}
+use Rattle.cut_migration.specs.declared.fault.MigrateFault.TheVariants as migration
+use Rattle.cut_migration.specs.Migration.{AreTrueUpTo, IsFirstUntrue}
 use Rattle.cut_journal.specs.Opening.{IsReopenFault, MayRefuse, MayNotMake}
 use Rattle.cut_journal.specs.Reading.{reading}
 use Rattle.cut_commands.specs.Check.{number_line}
 use Rattle.cut_commands.specs.Task.{Task}
 use Rattle.cut_commands.specs.Run.{Ends}
-use Rattle.cut_table.specs.Traffic.{Traffic}
+use Rattle.cut_wires.specs.Log.{Log}
 use Rattle.cut_commands.specs.declared.fault.CliFault.{CliFault}
 use Rattle.cut_commands.specs.declared.fault.CliFault.TheVariants.{Memory, Journal, Migrate}
 
--- how many slips were moved, as it is told
+-- the line that says how many slips were moved
 unfoldable pub moved_text : ℕ → List ℕ
 moved_text n = number_line (codes "migrated") n
 
@@ -47,7 +47,7 @@ module _ {O N : Type 0} (old_honest : O → Type 0) (old_state : O → DiskState
     pub held : Holds old v slips
     pub free : IsFree new v
 
-  -- they are all true ones, and so many were moved
+  -- they are all true ones, and `n` were moved
   pub record HasMovedAll (old : O) (new : N) (v : Values) (n : ℕ) : Type 0 where
     pub slips : List Slip
     pub ready : IsReady old new v slips
@@ -55,9 +55,9 @@ module _ {O N : Type 0} (old_honest : O → Type 0) (old_state : O → DiskState
     pub true : AreTrueUpTo v slips (length slips)
     pub all : n ≡ length slips
 
-  -- which is told
-  abbrev pub MigrateTells : O → N → Values → List ℕ → Type 0
-  MigrateTells old new v whole = (n : ℕ) × HasMovedAll old new v n × (whole ≡ moved_text n)
+  -- which is written
+  abbrev pub MigrateWrites : O → N → Values → List ℕ → Type 0
+  MigrateWrites old new v whole = (n : ℕ) × HasMovedAll old new v n × (whole ≡ moved_text n)
 
   -- why they were not: the plan is of version 2, which is found once the old disk said its slips and the new one held
   -- no study; or, where they could be, the first bad slip, the first that is not true, or the disk of the new
@@ -85,9 +85,9 @@ module _ {O N : Type 0} (old_honest : O → Type 0) (old_state : O → DiskState
   MigrateFails old new v fault = ⊥
 
   abbrev pub migrate_task : O → N → Task
-  migrate_task old new = record { answers = MigrateTells old new; fails = MigrateFails old new }
+  migrate_task old new = record { answers = MigrateWrites old new; fails = MigrateFails old new }
 
-  -- how the steps between the reading of a plan and the answer end: all slips were moved; memory was wanting, or
+  -- how the steps between the reading of a plan and the answer end: all slips were moved; memory ran out, or
   -- as the task may fail
   abbrev pub EndsMove : O → N → Values → Result ℕ CliFault → Type 0
   EndsMove old new v (Ok n) = HasMovedAll old new v n
@@ -117,6 +117,6 @@ files_task = record {
 }
 
 -- how it ends: where a file does not open nothing is read or written
-abbrev pub EndsFiles : Traffic → Traffic → Result ⊤ CliFault → Type 0
+abbrev pub EndsFiles : Log → Log → Result ⊤ CliFault → Type 0
 EndsFiles old new result =
     ((result ≡ Err (Journal journal.Disk)) × (new ≡ old)) ⊎ Ends files_task old new result

@@ -1,4 +1,4 @@
--- What a study tells of a plan, by what the disk of its checkpoint holds.
+-- What a study writes for a plan, by what the disk of its checkpoint holds.
 use Rattle.std.specs.Prelude.{◌≡◌, ℕ, List, [], Option, Some, None, Ok, ⊤}
 use Rattle.cut_plan.specs.Values.{Values}
 use Rattle.cut_plan.specs.Plan.{IsPlan}
@@ -30,7 +30,7 @@ MayStop (Damaged number) = ⊤
 MayStop Held = ⊤
 MayStop fault = ⊥
 
--- why not all of a study's table is told, with a disk or without one: memory was wanting, or counts of the same
+-- why not all of a study's table is written, with a disk or without one: memory ran out, or counts of the same
 -- work differed
 abbrev pub MayEnd : CliFault → Type 0
 MayEnd WorkMemory = ⊤
@@ -46,12 +46,12 @@ module _ {D : Type 0} (is_honest : D → Type 0) (state : D → DiskState) where
   BeginsWith (Some d) v slips = is_honest d → IsFoundOn v (state d).bytes slips
 
   -- the table of a study over them
-  pub record StudyTells (disk : Option D) (v : Values) (whole : List ℕ) : Type 0 where
+  pub record StudyWrites (disk : Option D) (v : Values) (whole : List ℕ) : Type 0 where
     pub slips : List Slip
     pub begins : BeginsWith disk v slips
     pub over : IsTableOver slips v whole
 
-  -- or why not all of it is told: what is on the disk, or that it failed, when the checkpoint was opened; the
+  -- or why not all of it is written: what is on the disk, or that it failed, when the checkpoint was opened; the
   -- first of its slips that is none of the plan; that the disk failed later on; or as without a disk
   abbrev pub StudyFails : Option D → Values → CliFault → Type 0
   StudyFails (Some d) v (Journal fault) = MayStop fault × (is_honest d → IsOpenFault v (state d).bytes fault)
@@ -61,7 +61,7 @@ module _ {D : Type 0} (is_honest : D → Type 0) (state : D → DiskState) where
   StudyFails disk v fault = MayEnd fault
 
   abbrev pub study_task : Option D → Task
-  study_task disk = record { answers = StudyTells disk; fails = StudyFails disk }
+  study_task disk = record { answers = StudyWrites disk; fails = StudyFails disk }
 
   -- a disk that is honest, and whose slips are true and apart where it holds a study, as those are that this
   -- program writes
@@ -70,14 +70,14 @@ module _ {D : Type 0} (is_honest : D → Type 0) (state : D → DiskState) where
   IsTrueStore (Some d) =
       is_honest d × ((v : Values) (slips : List Slip) → IsPlan v → reading v (state d).bytes ≡ Ok slips → AreTrue v slips)
 
-  -- why a study over such a disk does not tell all of its table: another plan's study, damage, or a failing call,
+  -- why a study over such a disk does not write all of its table: another plan's study, damage, or a failing call,
   -- when the checkpoint was opened; that the disk failed later on; or as without a disk. No slip is a bad one
   abbrev pub StoreFails : Option D → Values → CliFault → Type 0
   StoreFails (Some d) v (Journal fault) = MayStop fault × IsOpenFault v (state d).bytes fault
   StoreFails (Some d) v Checkpoint = ⊤
   StoreFails disk v fault = MayEnd fault
 
-  -- what a study over such a disk tells: the table of the plan
+  -- what a study over such a disk writes: the table of the plan
   abbrev pub table_task : Option D → Task
   table_task disk = record { answers = λ v whole. whole ≡ table v; fails = StoreFails disk }
 
@@ -87,14 +87,14 @@ IsReady v log = (log.plan ≡ v) × (log.doubtful ≡ None)
 
 -- ---- over a file, of which nothing is known
 
--- why a study over a file does not tell all of its table
+-- why a study over a file does not write all of its table
 abbrev pub FileFails : Values → CliFault → Type 0
 FileFails v (Journal fault) = MayStop fault
 FileFails v (BadSlip number) = (slips : List Slip) × IsFirstBad v slips number
 FileFails v Checkpoint = ⊤
 FileFails v fault = MayEnd fault
 
--- it tells the table over some slips
+-- it writes the table over some slips
 abbrev pub file_task : Task
 file_task = record {
   answers = λ v whole. (slips : List Slip) × IsTableOver slips v whole;

@@ -4,11 +4,11 @@ ghost use Rattle.cut_commands.specs.Faults.{code_of, name_of, number_of, status_
 
 use arrayvec::ArrayString;
 use cut_faults::{FaultCode, status_of_number};
-use cut_journal::{JournalFault, MigrateFault};
+use cut_journal::JournalFault;
 use cut_messages::AskFault;
+use cut_migration::MigrateFault;
 use cut_plan::{Field, PlanFault, Refusal};
-use cut_pool::RunFault;
-use cut_table::Sent;
+use cut_study::RunFault;
 use itoa::Buffer;
 use std::alloc::AllocError;
 use std::fmt;
@@ -50,7 +50,7 @@ pub enum CliFault {
 }
 
 impl CliFault {
-    /// The fault's number in the program's list of faults, or one that a server told and the list lacks.
+    /// The fault's number in the program's list of faults, or one that a server reported and the list lacks.
     pub fn number(&self) -> u16
         ensures { result ≡ number_of self.now }
     {
@@ -89,7 +89,7 @@ impl CliFault {
         }
     }
 
-    /// The status with which the program ends: 3 where a plan is refused, 5 where memory was wanting, and 4 at
+    /// The status with which the program ends: 3 where a plan is refused, 5 where memory ran out, and 4 at
     /// any other fault.
     pub fn status(&self) -> u8
         ensures { result ≡ status_of self.now }
@@ -230,16 +230,5 @@ impl From<RunFault> for CliFault {
             RunFault::WorkMemory => CliFault::WorkMemory,
             RunFault::AuditMismatch => CliFault::AuditMismatch,
         }
-    }
-}
-
-impl From<Sent> for CliFault {
-    ghost use Rattle.std.specs.Prelude.{◌≡◌};
-    ghost use Rattle.cut_commands.specs.declared.fault.CliFault.TheVariants.{Write};
-
-    ghost from_gives = { λ sent e. e ≡ Write sent.bytes };
-
-    fn from(sent: Sent) -> CliFault {
-        CliFault::Write(sent.bytes)
     }
 }

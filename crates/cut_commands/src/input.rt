@@ -1,13 +1,21 @@
-ghost use Rattle.std.specs.Prelude.{◌≡◌, ◌≤◌, ◌<◌, ◌↔◌, ◌⊎◌, length, map, take, IfOk, IfErr};
-ghost use Rattle.cut_commands.specs.Faults.{failed_calls};
-ghost use Rattle.cut_commands.specs.Run.{GivesText, text_of, FillsFrom};
+ghost use Rattle.cut_commands.specs.Run.{FillsFrom, GivesPlan, GivesText, text_of};
+ghost use Rattle.std.specs.Prelude.{length};
 
 use crate::CliFault;
-use cut_table::Wire;
+use cut_plan::Plan;
+use cut_wires::Wire;
 use std::alloc::Global;
 
 /// How many bytes of its input the program reads at most: one more than a plan may have.
 pub(crate) const LIMIT: usize = 65_537;
+
+/// Reads a plan, whose first fault is the answer where there is one.
+pub(crate) fn read_plan<W: Wire>(alloc: Global, wire: &mut W) -> Result<Plan, CliFault>
+    ensures { GivesPlan result (W.log wire.old) (W.log wire.new) }
+{
+    let text = read_text(alloc, wire, LIMIT)?;
+    Ok(Plan::from_json(alloc, text.as_slice())?)
+}
 
 /// The first bytes that a wire gives, up to a limit. A read that fails, or that is interrupted, is a fault.
 pub(crate) fn read_text<W: Wire>(
@@ -15,10 +23,7 @@ pub(crate) fn read_text<W: Wire>(
     wire: &mut W,
     limit: usize,
 ) -> Result<Vec<u8>, CliFault>
-    ensures told { W.tells wire.old → GivesText limit (text_of result) (W.traffic wire.old) (W.traffic wire.new) }
-    ensures err { IfErr result (λ e. (e ≡ CliFault.Memory) ⊎ (e ≡ CliFault.Read)) }
-    ensures tells { W.tells wire.old ↔ W.tells wire.new }
-    ensures faults { W.faults wire.new ≡ failed_calls result (W.faults wire.old) }
+    ensures { GivesText limit (text_of result) (W.log wire.old) (W.log wire.new) }
 {
     let mut text = vec![in alloc; 0u8; limit]?;
     let filled = fill(wire, text.as_mut_slice())?;
@@ -26,14 +31,9 @@ pub(crate) fn read_text<W: Wire>(
     Ok(text)
 }
 
-/// Reads until the buffer is full or the input ends, and tells how many bytes came.
+/// Reads until the buffer is full or the input ends, and returns how many bytes came.
 fn fill<W: Wire>(wire: &mut W, buffer: &mut [u8]) -> Result<usize, CliFault>
-    ensures within { IfOk result (λ n. n ≤ length buffer.new) }
-    ensures told { W.tells wire.old →
-        FillsFrom (length buffer.old) result buffer.new (W.traffic wire.old) (W.traffic wire.new) }
-    ensures err { IfErr result (λ e. e ≡ CliFault.Read) }
-    ensures tells { W.tells wire.old ↔ W.tells wire.new }
-    ensures faults { W.faults wire.new ≡ failed_calls result (W.faults wire.old) }
+    ensures { FillsFrom (length buffer.old) result buffer.new (W.log wire.old) (W.log wire.new) }
 {
     let mut filled = 0;
     while filled < buffer.len() {

@@ -1,17 +1,18 @@
-ghost use Rattle.std.specs.Prelude.{◌≡◌, ◌≢◌, ◌↔◌, None, length, string_bytes, Ok, Err, IfOk, IfErr};
+ghost use Rattle.std.specs.Prelude.{◌≡◌, None, string_bytes, Ok, Err, IfOk, IfErr};
 ghost use Rattle.cut_journal.specs.Opening.{IsReopenFault, MayRefuse, MayNotMake};
 ghost use Rattle.cut_journal.specs.Reading.{reading};
-ghost use Rattle.cut_commands.specs.Faults.{failed_calls};
 ghost use Rattle.cut_commands.specs.Migrate.{EndsFiles, EndsMove, IsHeld, migrate_task, moved_text};
 ghost use Rattle.cut_commands.specs.Run.{Ends};
 
 use crate::CliFault;
-use crate::run::{push_line, read_plan};
+use crate::input::read_plan;
+use crate::output::{push_line, write_answer};
 use cut_disks::{Disk, FileDisk};
-use cut_journal::{Journal, JournalFault, migrate};
+use cut_journal::{Journal, JournalFault};
 use cut_ledger::Slip;
+use cut_migration::migrate;
 use cut_plan::Plan;
-use cut_table::{Wire, send_all};
+use cut_wires::Wire;
 use std::alloc::{AllocError, Global};
 
 /// Reads a plan of version 1 from a wire, moves the slips of its study from one disk to another, as a study of
@@ -27,17 +28,13 @@ where
     W: Wire,
     O: Disk + Drop,
     N: Disk + Drop,
-    ensures ends { W.tells wire.old →
-        Ends (migrate_task O.is_honest O.state N.is_honest N.state old new) (W.traffic wire.old) (W.traffic wire.new)
-        result }
-    ensures tells { W.tells wire.old ↔ W.tells wire.new }
-    ensures faults { W.faults wire.new ≡ failed_calls result (W.faults wire.old) }
+    ensures { Ends (migrate_task O.is_honest O.state N.is_honest N.state old new)
+        (W.log wire.old) (W.log wire.new) result }
 {
     let plan = read_plan(alloc, wire)?;
     let count = move_study(alloc, &plan, old, new)?;
     let text = moved_text(alloc, count)?;
-    send_all(wire, text.as_bytes())?;
-    Ok(())
+    write_answer(wire, text.as_bytes())
 }
 
 /// Moves a study as `migrate_io` does, from the file at one path to that at another.
@@ -49,9 +46,7 @@ pub fn migrate_files<W: Wire>(
     old: &str,
     new: &str,
 ) -> Result<(), CliFault>
-    ensures ends { W.tells wire.old → EndsFiles (W.traffic wire.old) (W.traffic wire.new) result }
-    ensures tells { W.tells wire.old ↔ W.tells wire.new }
-    ensures faults { W.faults wire.new ≡ failed_calls result (W.faults wire.old) }
+    ensures { EndsFiles (W.log wire.old) (W.log wire.new) result }
 {
     let Ok(old) = FileDisk::open(host, old) else {
         return Err(CliFault::Journal(JournalFault::Disk));
@@ -62,7 +57,7 @@ pub fn migrate_files<W: Wire>(
     migrate_io(host.alloc(), wire, old, new)
 }
 
-/// Moves the slips of a plan's study, and tells how many there are.
+/// Moves the slips of a plan's study, and returns how many there are.
 fn move_study<O, N>(alloc: Global, plan: &Plan, old: O, new: N) -> Result<u64, CliFault>
 where
     O: Disk + Drop,
@@ -107,7 +102,7 @@ fn new_journal<N: Disk + Drop>(
     }
 }
 
-/// How many slips were moved, as it is told.
+/// The line that says how many slips were moved.
 fn moved_text(alloc: Global, count: u64) -> Result<String, AllocError>
     ensures { IfOk result (λ text. string_bytes text ≡ moved_text count) }
 {

@@ -1,33 +1,35 @@
-ghost use Rattle.std.specs.Prelude.{◌≡◌, ◌≤◌, ◌++◌, ◌↔◌, string_bytes, IfOk, IfErr, OnOk};
-ghost use Rattle.cut_commands.specs.Check.{check_text, number_line};
-ghost use Rattle.cut_commands.specs.Faults.{failed_calls};
-ghost use Rattle.cut_commands.specs.Run.{Ends, EndsFile, GivesPlan, check_task};
+ghost use Rattle.std.specs.Prelude.{◌≡◌, ◌≤◌, string_bytes, IfOk};
+ghost use Rattle.cut_commands.specs.Check.{check_text};
+ghost use Rattle.cut_commands.specs.Run.{Ends, EndsFile, check_task};
 ghost use Rattle.cut_commands.specs.Study.{IsTrueStore, study_task, table_task};
 
 use crate::CliFault;
-use crate::input::{LIMIT, read_text};
-use crate::study::study;
+use crate::checkpoint::open_checkpoint;
+use crate::input::read_plan;
+use crate::output::{push_line, write_answer};
 use cut_disks::{Disk, FileDisk};
+use cut_hall::OpenGate;
 use cut_journal::JournalFault;
 use cut_ledger::laws::true_slips_tell_the_table;
 use cut_plan::{Plan, accepted_texts_give_plans};
-use cut_table::{Wire, send_all};
+use cut_study::StudyRun;
 use cut_trial::quorum;
+use cut_wires::Wire;
 use std::alloc::{AllocError, Global};
 use std::sync::Wait;
 use std::thread::Threads;
 
-/// Reads a plan from a wire, runs its study by so many workers in threads of their own, in pieces of this
-/// many trials, and writes its table to the wire, each line as soon as its cell and those before it are done.
+/// Reads a plan from a wire, runs its study by `workers` threads, in pieces of `piece_size`
+/// trials, and writes its table to the wire, each line as soon as its cell and those before it are done.
 ///
 /// With a disk the study is kept there: it goes on from the slips that the disk holds, or begins where it
 /// holds none, and each piece is kept once it is done.
 ///
 /// For every plan, piece size, number of workers, checkpoint and wire, what the wire took is a prefix of the
-/// plan's table, trial by trial as it is defined: all of it at `Ok`, and exactly as many bytes as are told
-/// where a write failed. That is the clause `table`, of a wire that tells what passes over it, and without a
-/// disk or over an honest one that holds no study, or true slips, as those are that this program writes. Over
-/// any other disk the clause `ends` says the same of the table over the slips that were found there.
+/// plan's table, trial by trial as it is defined: all of it at `Ok`, and exactly as many bytes as are reported
+/// where a write failed. That is the clause `table`, without a disk or over an honest one that holds no study, or
+/// true slips, as those are that this program writes. Over any other disk the clause `ends` says the same of the
+/// table over the slips that were found there.
 ///
 /// At most 65,537 bytes are read. Nothing is written at a fault of the reading, the plan, the opening of the
 /// checkpoint or its slips; some first bytes may be written where the checkpoint, memory or the audit stop a
@@ -47,19 +49,16 @@ where
     R: Threads + Wait + Sync,
     requires size { 1 ≤ piece_size }
     requires workers { (1 ≤ workers) × (workers ≤ 64) }
-    ensures ends { W.tells wire.old →
-        Ends (study_task D.is_honest D.state disk) (W.traffic wire.old) (W.traffic wire.new) result }
-    ensures table { W.tells wire.old → IsTrueStore D.is_honest D.state disk →
-        Ends (table_task D.is_honest D.state disk) (W.traffic wire.old) (W.traffic wire.new) result }
-    ensures tells { W.tells wire.old ↔ W.tells wire.new }
-    ensures faults { W.faults wire.new ≡ failed_calls result (W.faults wire.old) }
+    ensures ends { Ends (study_task D.is_honest D.state disk) (W.log wire.old) (W.log wire.new) result }
+    ensures table { IsTrueStore D.is_honest D.state disk →
+        Ends (table_task D.is_honest D.state disk) (W.log wire.old) (W.log wire.new) result }
 {
     accepted_texts_give_plans();
     true_slips_tell_the_table();
     run(rt, alloc, wire, piece_size, workers, disk)
 }
 
-/// The same, told of the slips that the disk holds, whichever they are.
+/// The same, by the slips that the disk holds, whichever they are.
 fn run<W, D, R>(
     rt: &R,
     alloc: Global,
@@ -74,27 +73,31 @@ where
     R: Threads + Wait + Sync,
     requires size { 1 ≤ piece_size }
     requires workers { (1 ≤ workers) × (workers ≤ 64) }
-    ensures ends { W.tells wire.old →
-        Ends (study_task D.is_honest D.state disk) (W.traffic wire.old) (W.traffic wire.new) result }
-    ensures tells { W.tells wire.old ↔ W.tells wire.new }
-    ensures faults { W.faults wire.new ≡ failed_calls result (W.faults wire.old) }
+    ensures { Ends (study_task D.is_honest D.state disk) (W.log wire.old) (W.log wire.new) result }
 {
     let plan = read_plan(alloc, wire)?;
-    study(rt, alloc, &plan, piece_size, workers, disk, wire)
+    let kept = open_checkpoint(alloc, disk, &plan)?;
+    let study = StudyRun {
+        plan: &plan,
+        kept,
+        piece_size,
+        workers,
+    };
+    match study.run(rt, alloc, wire, &OpenGate) {
+        Ok(_done) => Ok(()),
+        Err(fault) => Err(CliFault::from(fault)),
+    }
 }
 
 /// Reads a plan from a wire and writes how many cells and trials it has, and the quorum of its processes.
 ///
 /// What is read and written, and each fault, is as in `run_io`.
 pub fn check_io<W: Wire>(alloc: Global, wire: &mut W) -> Result<(), CliFault>
-    ensures ends { W.tells wire.old → Ends check_task (W.traffic wire.old) (W.traffic wire.new) result }
-    ensures tells { W.tells wire.old ↔ W.tells wire.new }
-    ensures faults { W.faults wire.new ≡ failed_calls result (W.faults wire.old) }
+    ensures { Ends check_task (W.log wire.old) (W.log wire.new) result }
 {
     let plan = read_plan(alloc, wire)?;
     let text = check_text(alloc, &plan)?;
-    send_all(wire, text.as_bytes())?;
-    Ok(())
+    write_answer(wire, text.as_bytes())
 }
 
 /// Runs a study as `run_io` does, which is kept in the file at a path.
@@ -114,24 +117,12 @@ where
     R: Threads + Wait + Sync,
     requires size { 1 ≤ piece_size }
     requires workers { (1 ≤ workers) × (workers ≤ 64) }
-    ensures ends { W.tells wire.old → EndsFile (W.traffic wire.old) (W.traffic wire.new) result }
-    ensures tells { W.tells wire.old ↔ W.tells wire.new }
-    ensures faults { W.faults wire.new ≡ failed_calls result (W.faults wire.old) }
+    ensures { EndsFile (W.log wire.old) (W.log wire.new) result }
 {
     match FileDisk::open(host, path) {
         Ok(disk) => run_io(rt, host.alloc(), wire, piece_size, workers, Some(disk)),
         Err(_) => Err(CliFault::Journal(JournalFault::Disk)),
     }
-}
-
-/// Reads a plan, whose first fault is the answer where there is one.
-pub(crate) fn read_plan<W: Wire>(alloc: Global, wire: &mut W) -> Result<Plan, CliFault>
-    ensures told { W.tells wire.old → GivesPlan result (W.traffic wire.old) (W.traffic wire.new) }
-    ensures tells { W.tells wire.old ↔ W.tells wire.new }
-    ensures faults { W.faults wire.new ≡ failed_calls result (W.faults wire.old) }
-{
-    let text = read_text(alloc, wire, LIMIT)?;
-    Ok(Plan::from_json(alloc, text.as_slice())?)
 }
 
 /// How many cells and trials a plan has, and the quorum of its processes, one line each.
@@ -143,21 +134,4 @@ fn check_text(alloc: Global, plan: &Plan) -> Result<String, AllocError>
     push_line(alloc, &mut text, "trials", u64::from(plan.trials()))?;
     push_line(alloc, &mut text, "quorum", u64::from(quorum(plan.nodes())))?;
     Ok(text)
-}
-
-/// Adds a word, a blank, a number in decimal and a line feed.
-pub(crate) fn push_line(
-    alloc: Global,
-    text: &mut String,
-    word: &str,
-    number: u64,
-) -> Result<(), AllocError>
-    ensures { OnOk result (string_bytes text.new ≡ string_bytes text.old ++ number_line word.now number) }
-{
-    let digits = number.to_string(alloc)?;
-    text.push_str(word)?;
-    text.push_str(" ")?;
-    text.push_str(digits.as_str())?;
-    text.push_str("\n")?;
-    Ok(())
 }

@@ -12,8 +12,9 @@ mod studies;
 mod tables;
 
 use crate::workers::workers_from;
-use cut_commands::{CliFault, StreamWire, check_io, run_io};
+use cut_commands::{CliFault, check_io, run_io};
 use cut_disks::MemoryDisk;
+use cut_wires::StreamWire;
 use std::alloc::{AllocError, Global};
 use std::io::{Read, Write};
 use std::sync::Wait;

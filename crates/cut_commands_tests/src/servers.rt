@@ -3,7 +3,7 @@
 use cut_commands::{CliFault, ask_at};
 use cut_faults::Failures;
 use cut_server::{Crew, FolderShelf, ListenFault, Listener, serve_at, serve_io};
-use cut_table::MemoryWire;
+use cut_wires::MemoryWire;
 use std::alloc::{AllocError, Global};
 use std::io::Write;
 use std::os::unix::fs::PermissionsExt;
@@ -218,7 +218,7 @@ fn a_plain_file_is_no_folder(rt: HostRuntime) -> Result<(), Fail> {
 }
 
 #[test]
-fn a_server_that_cannot_begin_is_told(rt: HostRuntime) -> Result<(), Fail> {
+fn a_server_that_cannot_begin_says_so(rt: HostRuntime) -> Result<(), Fail> {
     let left = served(&rt, &rt, "cutlab_none/a.sock", 1, None)?;
     assert!(rt; is_refused(&left, "cutlab: fault 43 Read"));
     let left = served(&rt, &rt, "cutlab_begin.sock", 1, Some("cutlab_none"))?;
@@ -235,9 +235,7 @@ struct Once {
 }
 
 impl Listener<MemoryWire> for Once {
-    ghost faults = { λ l. l.failures };
-
-    ghost given = { λ l. l.given };
+    ghost calls = { λ l. record { given = l.given; failed = l.failures } };
 
     fn accept(&mut self) -> Result<MemoryWire, ListenFault> {
         match self.wire.take() {
@@ -258,7 +256,7 @@ impl Listener<MemoryWire> for Once {
 }
 
 #[test]
-fn a_connection_that_does_not_come_is_told(rt: HostRuntime) {
+fn a_connection_that_does_not_come_is_reported(rt: HostRuntime) {
     let alloc = rt.alloc();
     let listener = Once {
         wire: Some(MemoryWire::new(alloc, Vec::new(alloc), 1)),
@@ -275,8 +273,8 @@ fn a_connection_that_does_not_come_is_told(rt: HostRuntime) {
         studies: 1,
     };
     let mut wire = MemoryWire::new(alloc, Vec::new(alloc), 100);
-    let (listener, told) = serve_io(&rt, alloc, listener, &shelf, crew, &mut wire);
-    assert!(rt; matches!(told, Err(CliFault::Socket)));
+    let (listener, ended) = serve_io(&rt, alloc, listener, &shelf, crew, &mut wire);
+    assert!(rt; matches!(ended, Err(CliFault::Socket)));
     assert!(rt; listener.failures.count() == 1 && listener.given.count() == 1);
     assert!(rt; wire.taken().is_empty());
 }

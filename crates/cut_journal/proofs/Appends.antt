@@ -13,8 +13,8 @@ use Rattle.cut_disks.specs.State.{DiskState, IsImage, IsTorn, Throughout, covers
 use Rattle.cut_disks.specs.Laws.{WritesStayInSpan}
 use Rattle.cut_ledger.specs.declared.slip.Slip.{Slip}
 use Rattle.cut_journal.specs.declared.fault.JournalFault.{JournalFault}
-use Rattle.cut_journal.specs.File.{open_gate, closed_gate, numbers_length, slip_length, gate_place, body_of, number_bytes, header_digest}
-use Rattle.cut_journal.specs.Reading.{is_open, body_at, is_slip, slip_in, first_slips, reading}
+use Rattle.cut_journal.specs.File.{open_gate, closed_gate, numbers_length, slip_length, body_of, number_bytes, header_digest}
+use Rattle.cut_journal.specs.Reading.{is_slip, slip_in, reading}
 use Rattle.cut_journal.specs.Journal.{kept_slips, slips_of, ReadsAs, IsSound}
 use Rattle.cut_journal.specs.Steps.{HasNumbers, TellsAll, WritesThrough, Leave}
 use Rattle.cut_journal.proofs.Counts.{alike_at, alike_front}
@@ -22,6 +22,7 @@ use Rattle.cut_journal.proofs.Gates.{gate_next}
 use Rattle.cut_journal.proofs.Moments.{Through, through_is, settled_images, stays}
 use Rattle.cut_journal.proofs.Readings.{Holds, gate_there, reads_holds, cases_bool, closed_read, opened_read}
 use Rattle.cut_journal.proofs.SlipBytes.{long_bytes, slip_back, slip_whole}
+use Rattle.cut_journal.specs.Places.{body_at, first_slips, gate_place, is_open}
 
 -- ---- torn bytes, place by place
 

@@ -1,26 +1,9 @@
 -- Lists by their places: how far a test passes, and lists with the same beginning.
-use Rattle.std.proofs.Common.{◌≡◌, ◌∙◌, ◌≤◌, ◌<◌, ◌+◌, ℕ, zero, suc, Bool, true, false, cond, List, [], ◌∷◌, length, take, drop, map, get_or, slice_range, refl, sym, ap, arith, zero-add, add-zero}
-use Rattle.std.specs.List.{prefix_len, range_with_len}
+use Rattle.std.proofs.Common.{◌≡◌, ◌∙◌, ◌≤◌, ◌<◌, ◌+◌, ℕ, zero, suc, List, [], ◌∷◌, length, take, drop, map, get_or, slice_range, refl, sym, ap, arith}
+use Rattle.std.specs.List.{range_with_len}
 use Rattle.std.proofs.lemmas.List.{get_or-take, length-take}
 use Rattle.std.proofs.lemmas.Slice.{between_is}
 use Rattle.std.proofs.Math.Seq.{take-take}
-
-prefix_from : (p : ℕ → Bool) (a n k : ℕ) → k ≤ n → ((i : ℕ) → i < k → p (a + i) ≡ true) → (k < n → p (a + k) ≡ false) → prefix_len p (range_with_len a n) ≡ k
-prefix_from p a zero zero few passes stops = refl
-prefix_from p a zero (suc k) few passes stops = absurd (omega arith)
-prefix_from p a (suc n) zero few passes stops =
-    let first : p a ≡ false = ap p (sym (add-zero a)) ∙ stops (omega arith) in
-    ap (λ b. cond b (1 + prefix_len p (range_with_len (a + 1) n)) 0) first
-prefix_from p a (suc n) (suc k) few passes stops =
-    let first : p a ≡ true = ap p (sym (add-zero a)) ∙ passes 0 (omega arith) in
-    let next : (i : ℕ) → a + 1 + i ≡ a + suc i = λ i. omega arith in
-    let rest : prefix_len p (range_with_len (a + 1) n) ≡ k =
-    prefix_from p (a + 1) n k (omega arith) (λ i low. ap p (next i) ∙ passes (suc i) (omega arith)) (λ low. ap p (next k) ∙ stops (omega arith)) in
-    ap (λ b. cond b (1 + prefix_len p (range_with_len (a + 1) n)) 0) first ∙ ap (λ m. 1 + m) rest ∙ (let e : 1 + k ≡ suc k = omega arith in e)
-
--- a test passes up to a number, and not there
-pub prefix_is : (p : ℕ → Bool) (n k : ℕ) → k ≤ n → ((i : ℕ) → i < k → p i ≡ true) → (k < n → p k ≡ false) → prefix_len p (range_with_len 0 n) ≡ k
-prefix_is p n k few passes stops = prefix_from p 0 n k few (λ i low. ap p (zero-add i) ∙ passes i low) (λ low. ap p (zero-add k) ∙ stops low)
 
 map_from : {X : Type 0} (f g : ℕ → X) (a n : ℕ) → ((i : ℕ) → a ≤ i → i < a + n → f i ≡ g i) → map f (range_with_len a n) ≡ map g (range_with_len a n)
 map_from f g a zero alike = refl

@@ -7,13 +7,14 @@ use Rattle.std.proofs.lemmas.List.{take_at, drop_at}
 use Rattle.cut_plan.specs.Values.{Values}
 use Rattle.cut_disks.specs.State.{overwritten}
 use Rattle.cut_ledger.specs.declared.slip.Slip.{Slip}
-use Rattle.cut_journal.specs.File.{open_gate, closed_gate, front_of, file_of, body_of, gate_place}
+use Rattle.cut_journal.specs.File.{open_gate, closed_gate, front_of, file_of, body_of}
 use Rattle.cut_journal.specs.Journal.{ExtendsFile}
 use Rattle.cut_journal.specs.Steps.{BeginsAs}
 use Rattle.cut_journal.proofs.Appends.{put_of, long_body}
 use Rattle.cut_journal.proofs.Fronts.{long_front}
 use Rattle.cut_journal.proofs.Gates.{gate_first, gate_next}
 use Rattle.cut_journal.proofs.Makings.{whole_front}
+use Rattle.cut_journal.specs.Places.{gate_place}
 
 begins : (bytes prefix rest : List ℕ) → bytes ≡ prefix ++ rest → StartsWith bytes prefix
 begins bytes prefix rest is = ap (take (length prefix)) is ∙ take_at prefix rest (length prefix) refl

@@ -13,11 +13,12 @@ use Rattle.cut_plan.specs.declared.version.Version.TheVariants.{One, Two}
 use Rattle.cut_plan.specs.Versions.{version_of}
 use Rattle.cut_plan.specs.Values.{Values}
 use Rattle.cut_plan.specs.Canonical.{canonical_text}
-use Rattle.cut_journal.specs.File.{open_gate, magic_of, header_of, header_digest, front_of, gate_place}
+use Rattle.cut_journal.specs.File.{open_gate, magic_of, header_of, header_digest, front_of}
 use Rattle.cut_journal.specs.Reading.{text_length, is_magic, can_have_header, has_header, says_plan, has_magic}
 use Rattle.cut_journal.proofs.Counts.{alike_part}
 use Rattle.cut_journal.proofs.Fronts.{long_header, long_front}
 use Rattle.cut_journal.proofs.Gates.{gate_first}
+use Rattle.cut_journal.specs.Places.{gate_place}
 
 letters_at : (version : Version) (size text digest : List ℕ) → slice_range (open_gate ∷ ((magic_of version ++ size) ++ text) ++ digest) 1 9 ≡ magic_of version
 letters_at One size text digest = refl

@@ -6,9 +6,8 @@ pub mod Gates
 pub mod GoodSlips
 pub mod Headers
 pub mod Moments
+pub mod Places
 pub mod Readings
 pub mod SlipBytes
 pub mod Appends
-pub mod Truths
-pub mod Migrations
 pub mod Files

@@ -1,13 +1,11 @@
 -- How bytes are read.
-use Rattle.std.proofs.Common.{◌≡◌, ◌∙◌, ◌≤◌, ◌<◌, ◌+◌, ◌-◌, ◌++◌, ◌==◌, ◌&&◌, ◌⊎◌, inl, inr, ℕ, zero, suc, Bool, true, false, not, cond, List, [], ◌∷◌, Result, Ok, Err, length, take, get_or, slice_range, slice_index, nat_lt, nat_le, refl, sym, ap, subst, arith, zero-add}
+use Rattle.std.proofs.Common.{◌≡◌, ◌∙◌, ◌≤◌, ◌<◌, ◌+◌, ◌-◌, ◌++◌, ◌==◌, ◌&&◌, ◌⊎◌, inl, inr, ℕ, zero, suc, Bool, true, false, not, cond, List, [], ◌∷◌, Result, Ok, Err, length, take, drop, get_or, slice_range, slice_index, nat_lt, nat_le, refl, sym, ap, subst, arith, zero-add}
 use Rattle.std.specs.Prelude.{bytes_eq, Option, Some, None, IfErr}
-use Rattle.std.specs.List.{prefix_len, range_with_len}
 use Rattle.std.specs.Int.{w32, from_be_bytes}
 use Rattle.std.proofs.lemmas.Bool.{cases_lt}
 use Rattle.std.proofs.lemmas.Bool.Decides.{nat_tests, Decides-ltb, Decides-eqb}
 use Rattle.std.proofs.lemmas.List.{get_or-take, length-take}
-use Rattle.std.proofs.lemmas.List.FromFn.{length-range_with_len, get_or-range_with_len, length-map-range_with_len, map-range_with_len_more}
-use Rattle.std.proofs.lemmas.List.Sums.{prefix_len-le-length, prefix_len_passes, prefix_len_stops}
+use Rattle.std.proofs.lemmas.List.FromFn.{map-range_with_len_more}
 use Rattle.sha2.specs.Sha256.{sha256}
 use Rattle.cut_plan.specs.Versions.{version_of}
 use Rattle.cut_plan.specs.Values.{Values}
@@ -16,27 +14,20 @@ use Rattle.cut_disks.specs.State.{DiskState}
 use Rattle.cut_ledger.specs.declared.slip.Slip.{Slip}
 use Rattle.cut_journal.specs.declared.fault.JournalFault.{JournalFault}
 use Rattle.cut_journal.specs.declared.fault.JournalFault.TheVariants.{Memory, Disk, Broken, NoStudy, OtherPlan, Damaged, Held}
-use Rattle.cut_journal.specs.File.{open_gate, front_of, gate_place, slip_length}
-use Rattle.cut_journal.specs.Reading.{is_study, says_plan, has_magic, is_magic, text_length, can_have_header, has_header, is_open, body_at, is_whole, is_slip, slip_in, slip_count, whole_count, first_slips, slips_reading, reading}
+use Rattle.cut_journal.specs.File.{open_gate, front_of, slip_length}
+use Rattle.cut_journal.specs.Reading.{is_study, says_plan, has_magic, is_magic, text_length, can_have_header, has_header, is_slip, slip_in, slips_in, slips_reading, reading}
 use Rattle.cut_journal.specs.Opening.{IsReopenFault}
 use Rattle.cut_journal.specs.Steps.{IsOfPlan, AreWhole, IsSlipFault}
+use Rattle.cut_journal.proofs.Places.{ok_not, placed, slips_placed, closed_placed, damaged_placed, are_placed, placed_some}
 use Rattle.cut_journal.proofs.Gates.{gate_first, gate_next, gate_far, gate_rises, nine_numbers}
 use Rattle.cut_journal.proofs.Headers.{both, together, front_begins, begin_alike, says_length, has_can, header_room, says_alike, magic_alike}
 use Rattle.std.proofs.Math.Seq.{take-take}
-use Rattle.cut_journal.proofs.Counts.{prefix_is, map_alike, get_or_past, alike_place, alike_front, alike_part}
+use Rattle.cut_journal.proofs.Counts.{map_alike, alike_place, alike_front, alike_part}
+use Rattle.cut_journal.specs.Places.{body_at, first_slips, gate_place, is_open, is_whole}
 
 pub cases_bool : (b : Bool) → (b ≡ true) ⊎ (b ≡ false)
 cases_bool true = inl refl
 cases_bool false = inr refl
-
-ok_same : (xs ys : List Slip) → (let r : Result (List Slip) JournalFault = Ok xs in r) ≡ Ok ys → xs ≡ ys
-ok_same xs ys same = cc
-
-ok_not : (xs : List Slip) (fault : JournalFault) → (let r : Result (List Slip) JournalFault = Ok xs in r) ≡ Err fault → ⊥
-ok_not xs fault same = cc
-
-damaged_not : (number : ℕ) → (let r : Result (List Slip) JournalFault = Err (Damaged number) in r) ≡ Err NoStudy → ⊥
-damaged_not number same = cc
 
 -- bytes are the file of a study of a plan, with n slips
 pub record Holds (v : Values) (bytes : List ℕ) (n : ℕ) : Type 0 where
@@ -144,17 +135,6 @@ gate_there v bytes (suc n) front whole =
     let there = (whole_is v bytes n (whole n (omega arith)).1).0 in
     ap_place v bytes (n + 1) (suc n) (omega arith) there
 
-count_is : (v : Values) (bytes : List ℕ) (n : ℕ) → Holds v bytes n → slip_count v bytes ≡ n
-unfolding slip_count
-count_is v bytes n holds =
-    let there = gate_there v bytes n holds.front holds.whole in
-    prefix_is (is_open v bytes) (length bytes) n (omega (arith, there, gate_far v n)) (λ i low. (holds.whole i low).0) (λ low. holds.closed)
-
-whole_count_is : (v : Values) (bytes : List ℕ) (n k : ℕ) → slip_count v bytes ≡ n → k ≤ n → ((i : ℕ) → i < k → is_whole v bytes i ≡ true) → (k < n → is_whole v bytes k ≡ false) → whole_count v bytes ≡ k
-unfolding whole_count
-whole_count_is v bytes n k count few whole stops =
-    ap (λ m. prefix_len (is_whole v bytes) (range_with_len 0 m)) count ∙ prefix_is (is_whole v bytes) n k few whole stops
-
 -- what bytes are read as, by what the tests of their front say
 choice : Bool → Bool → Bool → Bool → Result (List Slip) JournalFault → Result (List Slip) JournalFault
 choice study header text letters slips =
@@ -209,109 +189,29 @@ pub plan_read : (v : Values) (bytes : List ℕ) → IsOfPlan v bytes → reading
 plan_read v bytes is =
     choice_is v bytes ∙ choice_plan (is_study bytes) (has_header bytes) (says_plan v bytes) (has_magic v bytes) (slips_reading v bytes) is.study is.header is.text is.letters
 
--- what the slips are read as, by how many there are and how many are whole
-told : Values → List ℕ → ℕ → ℕ → Result (List Slip) JournalFault
-told v bytes whole count = cond (whole == count) (Ok (first_slips v bytes count)) (Err (Damaged (whole + 1)))
-
-told_all : (v : Values) (bytes : List ℕ) (whole count : ℕ) → whole ≡ count → told v bytes whole count ≡ Ok (first_slips v bytes count)
-unfolding told
-told_all v bytes whole count is =
-    ap (λ (b : Bool). (let r : Result (List Slip) JournalFault = cond b (Ok (first_slips v bytes count)) (Err (Damaged (whole + 1))) in r)) ((Decides-eqb whole count).1 is)
-
-told_fewer : (v : Values) (bytes : List ℕ) (whole count : ℕ) → whole < count → told v bytes whole count ≡ Err (Damaged (whole + 1))
-unfolding told
-told_fewer v bytes whole count few =
-    let test : (whole == count) ≡ false = grind (arith, nat_tests) in
-    ap (λ (b : Bool). (let r : Result (List Slip) JournalFault = cond b (Ok (first_slips v bytes count)) (Err (Damaged (whole + 1))) in r)) test
-
-told_is : (v : Values) (bytes : List ℕ) → slips_reading v bytes ≡ told v bytes (whole_count v bytes) (slip_count v bytes)
-unfolding told
-told_is v bytes = refl
+-- the slips of a study, by the places of their gates
+reading_placed : (v : Values) (bytes : List ℕ) → slips_reading v bytes ≡ placed v bytes (length bytes) 1 0
+unfolding slips_reading
+reading_placed v bytes = ap (λ (p : ℕ). slips_in v (length bytes) 1 (drop p bytes)) (sym (gate_first v)) ∙ slips_placed v bytes (length bytes) 1 0
 
 pub slips_read : (v : Values) (bytes : List ℕ) (n : ℕ) → Holds v bytes n → slips_reading v bytes ≡ Ok (first_slips v bytes n)
 slips_read v bytes n holds =
-    let count = count_is v bytes n holds in
-    let whole = whole_count_is v bytes n n count (omega arith) (λ i low. (holds.whole i low).1) (λ low. absurd (omega (arith, low))) in
-    told_is v bytes ∙ told_all v bytes (whole_count v bytes) (slip_count v bytes) (whole ∙ sym count) ∙ ap (λ m. Ok (first_slips v bytes m)) count
+    let there = gate_there v bytes n holds.front holds.whole in
+    reading_placed v bytes
+    ∙ closed_placed v bytes n (length bytes) 1 0 (omega (arith, there, gate_far v n)) (λ j low high. holds.whole j (omega (arith, high))) (ap (is_open v bytes) (zero-add n) ∙ holds.closed)
 
 pub holds_reads : (v : Values) (bytes : List ℕ) (n : ℕ) → Holds v bytes n → reading v bytes ≡ Ok (first_slips v bytes n)
 holds_reads v bytes n holds = plan_read v bytes holds.front ∙ slips_read v bytes n holds
 
-open_there : (v : Values) (bytes : List ℕ) (i : ℕ) → is_open v bytes i ≡ true → gate_place v i < length bytes
-open_there v bytes i opens = elim (cases_lt (gate_place v i) (length bytes)) [
-  | inl there ↦ there
-  | inr past ↦ (let none : get_or bytes (gate_place v i) 0 ≡ 0 = get_or_past bytes (gate_place v i) past in
-      let some : get_or bytes (gate_place v i) 0 ≡ open_gate = (Decides-eqb (slice_index bytes (gate_place v i)) open_gate).0 opens in
-      absurd (omega (arith, none, some)))
-]
-
--- the count of slips by what stands at its gate
-counted : (v : Values) (bytes : List ℕ) (i : ℕ) → i < slip_count v bytes → is_open v bytes i ≡ true
-unfolding slip_count
-counted v bytes i low =
-    let few = prefix_len-le-length (is_open v bytes) (range_with_len 0 (length bytes)) in
-    let long = length-range_with_len 0 (length bytes) in
-    ap (is_open v bytes) (sym (get_or-range_with_len 0 (length bytes) i 0 (omega (arith, few, long, low)) ∙ zero-add i))
-    ∙ prefix_len_passes (is_open v bytes) (range_with_len 0 (length bytes)) i 0 low
-
-uncounted : (v : Values) (bytes : List ℕ) → slip_count v bytes < length bytes → is_open v bytes (slip_count v bytes) ≡ false
-unfolding slip_count
-uncounted v bytes low =
-    ap (is_open v bytes) (sym (get_or-range_with_len 0 (length bytes) (slip_count v bytes) 0 low ∙ zero-add (slip_count v bytes)))
-    ∙ prefix_len_stops (is_open v bytes) (range_with_len 0 (length bytes)) 0 (omega (arith, low, length-range_with_len 0 (length bytes)))
-
-count_few : (v : Values) (bytes : List ℕ) → IsOfPlan v bytes → slip_count v bytes < length bytes
-count_few v bytes front = elim (cases_lt (slip_count v bytes) (length bytes)) [
-  | inl low ↦ low
-  | inr past ↦ (let some = first_there v bytes front.header front.text in
-      let far = gate_far v (slip_count v bytes - 1) in
-      let last = open_there v bytes (slip_count v bytes - 1) (counted v bytes (slip_count v bytes - 1) (omega (arith, past, some))) in
-      absurd (omega (arith, last, past, some, far)))
-]
-
--- a slip with an open gate, behind slips that are whole, and is not so
+-- a slip with an open gate, after slips that are whole, and is not so
 pub damage_read : (v : Values) (bytes : List ℕ) (i : ℕ) → IsOfPlan v bytes → AreWhole v bytes i → is_open v bytes i ≡ true → is_whole v bytes i ≡ false
     → slips_reading v bytes ≡ Err (Damaged (i + 1))
 damage_read v bytes i front before opens broken =
-    let high : i < slip_count v bytes = elim (cases_lt i (slip_count v bytes)) [
-      | inl low ↦ low
-      | inr past ↦ elim (cases_lt (slip_count v bytes) i) [
-        | inl less ↦ (let stops = uncounted v bytes (count_few v bytes front) in let goes = (before (slip_count v bytes) less).0 in absurd (cc))
-        | inr same ↦ (let here : slip_count v bytes ≡ i = omega arith in
-            let stops = ap (is_open v bytes) (sym here) ∙ uncounted v bytes (count_few v bytes front) in absurd (cc))
-      ]
-    ] in
-    let whole = whole_count_is v bytes (slip_count v bytes) i refl (omega arith) (λ k low. (before k low).1) (λ low. broken) in
-    told_is v bytes ∙ told_fewer v bytes (whole_count v bytes) (slip_count v bytes) (omega (arith, whole, high)) ∙ ap (λ k. Err (Damaged (k + 1))) whole
-
-whole_counted : (v : Values) (bytes : List ℕ) (i : ℕ) → i < whole_count v bytes → is_whole v bytes i ≡ true
-unfolding whole_count
-whole_counted v bytes i low =
-    let few = prefix_len-le-length (is_whole v bytes) (range_with_len 0 (slip_count v bytes)) in
-    let long = length-range_with_len 0 (slip_count v bytes) in
-    ap (is_whole v bytes) (sym (get_or-range_with_len 0 (slip_count v bytes) i 0 (omega (arith, few, long, low)) ∙ zero-add i))
-    ∙ prefix_len_passes (is_whole v bytes) (range_with_len 0 (slip_count v bytes)) i 0 low
-
-told_cases : (v : Values) (bytes : List ℕ) (whole count : ℕ) (slips : List Slip) → told v bytes whole count ≡ Ok slips → (whole ≡ count) × (slips ≡ first_slips v bytes count)
-unfolding told
-told_cases v bytes whole count slips is = elim (cases_bool (whole == count)) [
-  | inl test ↦ (
-    (Decides-eqb whole count).0 test,
-    ok_same slips (first_slips v bytes count)
-        (sym is ∙ ap (λ (b : Bool). (let r : Result (List Slip) JournalFault = cond b (Ok (first_slips v bytes count)) (Err (Damaged (whole + 1))) in r)) test),
-  )
-  | inr test ↦ absurd (ok_not slips (Damaged (whole + 1))
-      (sym is ∙ ap (λ (b : Bool). (let r : Result (List Slip) JournalFault = cond b (Ok (first_slips v bytes count)) (Err (Damaged (whole + 1))) in r)) test))
-]
-
-told_some : (v : Values) (bytes : List ℕ) (whole count : ℕ) → told v bytes whole count ≡ Err NoStudy → ⊥
-unfolding told
-told_some v bytes whole count is = elim (cases_bool (whole == count)) [
-  | inl test ↦ ok_not (first_slips v bytes count) NoStudy
-      (sym (ap (λ (b : Bool). (let r : Result (List Slip) JournalFault = cond b (Ok (first_slips v bytes count)) (Err (Damaged (whole + 1))) in r)) test) ∙ is)
-  | inr test ↦ damaged_not (whole + 1)
-      (sym (ap (λ (b : Bool). (let r : Result (List Slip) JournalFault = cond b (Ok (first_slips v bytes count)) (Err (Damaged (whole + 1))) in r)) test) ∙ is)
-]
+    let there = gate_there v bytes i front before in
+    reading_placed v bytes
+    ∙ damaged_placed v bytes i (length bytes) 1 0 (omega (arith, there, gate_far v i)) (λ j low high. before j (omega (arith, high)))
+    (ap (is_open v bytes) (zero-add i) ∙ opens) (ap (is_whole v bytes) (zero-add i) ∙ broken)
+    ∙ ap (λ (k : ℕ). Err (Damaged k)) (let e : 1 + i ≡ i + 1 = omega arith in e)
 
 -- where there is no study, that is all that is said; where there is one, something else
 pub none_read : (v : Values) (bytes : List ℕ) → is_study bytes ≡ false → reading v bytes ≡ Err NoStudy
@@ -319,7 +219,7 @@ none_read v bytes none = choice_is v bytes ∙ choice_none (is_study bytes) (has
 
 pub some_read : (v : Values) (bytes : List ℕ) → is_study bytes ≡ true → reading v bytes ≡ Err NoStudy → ⊥
 some_read v bytes some is =
-    choice_some (is_study bytes) (has_header bytes) (says_plan v bytes) (has_magic v bytes) (slips_reading v bytes) some (λ read. told_some v bytes (whole_count v bytes) (slip_count v bytes) (sym (told_is v bytes) ∙ read))
+    choice_some (is_study bytes) (has_header bytes) (says_plan v bytes) (has_magic v bytes) (slips_reading v bytes) some (λ read. placed_some v bytes (length bytes) 1 0 (sym (reading_placed v bytes) ∙ read))
     (sym (choice_is v bytes) ∙ is)
 
 -- a study without a whole header, and one of another plan
@@ -338,15 +238,13 @@ version_read v bytes some header text letters =
 pub reads_holds : (v : Values) (bytes : List ℕ) (slips : List Slip) → reading v bytes ≡ Ok slips → Holds v bytes (length slips) × (slips ≡ first_slips v bytes (length slips))
 reads_holds v bytes slips is =
     let parts = choice_ok (is_study bytes) (has_header bytes) (says_plan v bytes) (has_magic v bytes) (slips_reading v bytes) slips (sym (choice_is v bytes) ∙ is) in
-    let counts = told_cases v bytes (whole_count v bytes) (slip_count v bytes) slips (sym (told_is v bytes) ∙ parts.4) in
-    let long : length slips ≡ slip_count v bytes = ap (λ (l : List Slip). length l) counts.1 ∙ length-map-range_with_len (λ i. slip_in (version_of v.failing) (body_at v bytes i)) 0 (slip_count v bytes) in
-    let front : IsOfPlan v bytes = record { study = parts.0; header = parts.1; text = parts.2; letters = parts.3 } in
-    let holds : Holds v bytes (slip_count v bytes) = record {
-      front = front;
-      whole = λ i low. (counted v bytes i low, whole_counted v bytes i (omega (arith, counts.0, low)));
-      closed = uncounted v bytes (count_few v bytes front);
+    let slips_there = are_placed v bytes (length bytes) 1 0 slips (sym (reading_placed v bytes) ∙ parts.4) in
+    let holds : Holds v bytes (length slips) = record {
+      front = record { study = parts.0; header = parts.1; text = parts.2; letters = parts.3 };
+      whole = λ i low. slips_there.whole i (omega arith) (omega (arith, low));
+      closed = ap (is_open v bytes) (sym (zero-add (length slips))) ∙ slips_there.closed;
     } in
-    (subst (λ (n : ℕ). Holds v bytes n) (sym long) holds, counts.1 ∙ ap (λ (n : ℕ). first_slips v bytes n) (sym long))
+    (holds, slips_there.are)
 
 -- ---- bytes that begin alike
 

@@ -1,6 +1,6 @@
 -- The file in which a study's slips are kept, byte for byte (this project's format). Numbers are written with
 -- the high byte first.
-use Rattle.std.specs.Prelude.{ℕ, ◌+◌, ◌*◌, ◌++◌, List, [], ◌∷◌, length, codes}
+use Rattle.std.specs.Prelude.{ℕ, ◌+◌, ◌++◌, List, [], ◌∷◌, length, codes}
 use Rattle.std.specs.List.{flat_map}
 use Rattle.std.specs.Int.{w32, w64, to_be_bytes}
 use Rattle.sha2.specs.Sha256.{sha256}
@@ -53,10 +53,6 @@ header_digest v = sha256 (header_of v)
 -- what a study's file begins with: the open gate of the study, the header, and the header's digest
 unfoldable pub front_of : Values → List ℕ
 front_of v = open_gate ∷ header_of v ++ header_digest v
-
--- the place of the gate of a slip, the first being number 0: slips stand one behind another
-unfoldable pub gate_place : Values → ℕ → ℕ
-gate_place v i = length (canonical_text v) + 45 + slip_length (version_of v.failing) * i
 
 -- the numbers of a slip, in order
 abbrev pub numbers_of : Version → Slip → List ℕ

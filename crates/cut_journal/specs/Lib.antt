@@ -1,10 +1,9 @@
 pub mod File
 pub mod Reading
+pub mod Places
 pub mod Journal
 pub mod Opening
 pub mod FaultCode
 pub mod Laws
 pub mod Steps
-pub mod Migration
-pub mod MigrateFaultCode
 pub mod Trust

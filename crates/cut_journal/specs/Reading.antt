@@ -1,7 +1,6 @@
 -- What the bytes of a file say: the slips of a study of a plan, or why they don't say any (this project's
 -- format).
-use Rattle.std.specs.Prelude.{ℕ, ◌+◌, ◌*◌, ◌^◌, ◌==◌, ◌&&◌, ◌||◌, ◌++◌, Bool, not, List, length, map, take, drop, slice_index, slice_range, nat_lt, nat_le, bytes_eq, if◌then◌else◌, Result, Ok, Err}
-use Rattle.std.specs.List.{prefix_len, range_with_len}
+use Rattle.std.specs.Prelude.{ℕ, zero, suc, ◌+◌, ◌*◌, ◌^◌, ◌==◌, ◌&&◌, ◌||◌, ◌++◌, Bool, not, List, [], ◌∷◌, length, take, drop, slice_index, slice_range, nat_lt, nat_le, bytes_eq, if◌then◌else◌, Result, Ok, Err}
 use Rattle.std.specs.Int.{w32, w64, from_be_bytes}
 use Rattle.sha2.specs.Sha256.{sha256}
 use Rattle.cut_plan.specs.declared.version.Version.{Version}
@@ -12,7 +11,7 @@ use Rattle.cut_plan.specs.Values.{Values}
 use Rattle.cut_ledger.specs.declared.slip.Slip.{Slip}
 use Rattle.cut_journal.specs.declared.fault.JournalFault.{JournalFault}
 use Rattle.cut_journal.specs.declared.fault.JournalFault.TheVariants.{NoStudy, Damaged, OtherPlan}
-use Rattle.cut_journal.specs.File.{open_gate, magic_of, numbers_length, header_digest, gate_place}
+use Rattle.cut_journal.specs.File.{open_gate, magic_of, numbers_length, slip_length, header_digest}
 
 -- ---- the header
 
@@ -83,39 +82,31 @@ is_slip v body =
     (drop (numbers_length (version_of v.failing)) body)
     && nat_lt (number_at body 0) (2 ^ 32) && nat_lt (number_at body 1) (2 ^ 32)
 
--- ---- the slips
+-- ---- the slips, by what is left of the bytes from a gate on
 
--- whether the gate of a slip is open, the first being number 0
-abbrev pub is_open : Values → List ℕ → ℕ → Bool
-is_open v bytes i = slice_index bytes (gate_place v i) == open_gate
+-- what stands after the gate, up to the next
+abbrev pub body_in : Values → List ℕ → List ℕ
+body_in v rest = slice_range rest 1 (slip_length (version_of v.failing))
 
--- what stands between that gate and the next
-abbrev pub body_at : Values → List ℕ → ℕ → List ℕ
-body_at v bytes i = slice_range bytes (gate_place v i + 1) (gate_place v (i + 1))
+-- a slip, and those that are read after it
+abbrev pub then_slips : Slip → Result (List Slip) JournalFault → Result (List Slip) JournalFault
+then_slips slip (Ok slips) = Ok (slip ∷ slips)
+then_slips slip (Err fault) = Err fault
 
--- whether a slip is whole: it is one, and the next gate is there
-abbrev pub is_whole : Values → List ℕ → ℕ → Bool
-is_whole v bytes i = nat_lt (gate_place v (i + 1)) (length bytes) && is_slip v (body_at v bytes i)
-
--- how many slips there are: those with open gates, up to the first closed one
-unfoldable pub slip_count : Values → List ℕ → ℕ
-slip_count v bytes = prefix_len (is_open v bytes) (range_with_len 0 (length bytes))
-
--- how many of them in front are whole
-unfoldable pub whole_count : Values → List ℕ → ℕ
-whole_count v bytes = prefix_len (is_whole v bytes) (range_with_len 0 (slip_count v bytes))
-
--- the first so many slips
-abbrev pub first_slips : Values → List ℕ → ℕ → List Slip
-first_slips v bytes n = map (λ i. slip_in (version_of v.failing) (body_at v bytes i)) (range_with_len 0 n)
+-- the slips after open gates, up to the first closed one; or the number of the first that is not whole, which is no
+-- slip or has no gate after it. The next slip has this number, and fewer are left than `more`
+abbrev pub slips_in : Values → ℕ → ℕ → List ℕ → Result (List Slip) JournalFault
+slips_in v zero number rest = Err (Damaged number)
+slips_in v (suc more) number rest =
+    if not (slice_index rest 0 == open_gate) then Ok []
+    else (if not (nat_lt (slip_length (version_of v.failing)) (length rest) && is_slip v (body_in v rest)) then Err (Damaged number)
+    else then_slips (slip_in (version_of v.failing) (body_in v rest)) (slips_in v more (number + 1) (drop (slip_length (version_of v.failing)) rest)))
 
 -- ---- the reading
 
--- the slips of a study of this plan, or the number, from 1, of the first that is not whole
-abbrev pub slips_reading : Values → List ℕ → Result (List Slip) JournalFault
-slips_reading v bytes =
-    if whole_count v bytes == slip_count v bytes then Ok (first_slips v bytes (slip_count v bytes))
-    else Err (Damaged (whole_count v bytes + 1))
+-- the slips of a study of this plan, which are fewer than bytes; the first has number 1
+unfoldable pub slips_reading : Values → List ℕ → Result (List Slip) JournalFault
+slips_reading v bytes = slips_in v (length bytes) 1 (drop (length (canonical_text v) + 45) bytes)
 
 -- what the bytes say, read as a study of this plan, told in this order: whether there is a study, whether its
 -- header is whole, whether it is of this plan, whether its letters are those of the plan's version, and the slips

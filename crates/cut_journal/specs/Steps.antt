@@ -10,7 +10,8 @@ use Rattle.cut_ledger.specs.declared.slip.Slip.{Slip}
 use Rattle.cut_journal.specs.declared.fault.JournalFault.{JournalFault}
 use Rattle.cut_journal.specs.declared.fault.JournalFault.TheVariants.{Memory, Disk, Damaged}
 use Rattle.cut_journal.specs.File.{open_gate, rest_of}
-use Rattle.cut_journal.specs.Reading.{is_study, has_header, says_plan, has_magic, is_open, is_whole, slip_in, body_at}
+use Rattle.cut_journal.specs.Reading.{is_study, has_header, says_plan, has_magic, slip_in}
+use Rattle.cut_journal.specs.Places.{body_at, is_open, is_whole}
 
 -- a write and a sync: all is sure; or the write did nothing, or was begun
 abbrev pub WritesThrough : {E : Type 0} → Result ⊤ E → ℕ → List ℕ → DiskState → DiskState → Type 0

@@ -36,7 +36,7 @@ pub struct Journal<D: Disk> {
 impl<D: Disk> Model for Journal<D> {
     ghost use Rattle.std.specs.Prelude.{◌≡◌, ◌<◌, ◌^◌};
     ghost use Rattle.cut_journal.specs.Journal.{Log, IsSound};
-    ghost use Rattle.cut_journal.specs.File.{gate_place};
+    ghost use Rattle.cut_journal.specs.Places.{gate_place};
 
     ghost Value = { Log D };
 

@@ -2,11 +2,11 @@ ghost use Rattle.std.specs.Prelude.{ℕ, Err, ◌≡◌, ◌⊎◌, ◌+◌, ◌
 ghost use Rattle.cut_faults.specs.Failures.{counted};
 ghost use Rattle.sha2.specs.Sha256.{sha256};
 ghost use Rattle.cut_disks.specs.State.{synced};
-ghost use Rattle.cut_journal.specs.File.{gate_place};
 ghost use Rattle.cut_journal.specs.Reading.{is_study, can_have_header, has_header, text_length, reading};
 ghost use Rattle.cut_journal.specs.Journal.{disk_faults};
 ghost use Rattle.cut_journal.specs.Opening.{IsReopenFault, IsReadFault, MayRefuse, IsRead};
 ghost use Rattle.cut_journal.specs.Steps.{IsOfPlan};
+ghost use Rattle.cut_journal.specs.Places.{gate_place};
 
 use crate::JournalFault;
 use crate::file::{Study, digest_of};

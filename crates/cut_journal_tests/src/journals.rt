@@ -1,5 +1,6 @@
-use crate::change::put_byte;
-use cut_disks::{DiskCall, MemoryDisk};
+//! Files of journals, to the byte: how they are written, and what they are read as.
+
+use cut_disks::MemoryDisk;
 use cut_journal::{Journal, JournalFault};
 use cut_ledger::Slip;
 use cut_plan::{Plan, Version};
@@ -9,7 +10,6 @@ use std::alloc::{AllocError, Global};
 use std::process::Abort;
 use std::test::Fail;
 
-mod crashes;
 mod failing;
 mod migration;
 mod vectors;
@@ -42,61 +42,42 @@ fn number(text: &str) -> u32 {
     text.parse().unwrap_or(0)
 }
 
-// Whether the numbers of a slip are those that a text has: nine, and in version 2 the tenth too.
-fn is_slip(version: Version, slip: &Slip, text: &str) -> bool {
-    let Slip { piece, totals: t } = *slip;
-    let numbers = [
-        u64::from(piece.first),
-        u64::from(piece.count),
-        t.receivers,
-        t.conflicts,
-        t.silent,
-        t.extra,
-        t.votes,
-        t.decided,
-        t.right,
-        t.settled,
-    ];
-    match version {
-        Version::One => are_numbers(&numbers[..9], text),
-        Version::Two => are_numbers(&numbers, text),
+// The numbers of a slip, nine, and in version 2 the tenth too.
+fn slip_text(alloc: Global, version: Version, slip: &Slip) -> Result<String, AllocError> {
+    let Slip {
+        piece: Piece { first, count },
+        totals: t,
+    } = *slip;
+    let mut text = format!(in alloc;
+        "{first},{count},{},{},{},{},{},{},{}",
+        t.receivers, t.conflicts, t.silent, t.extra, t.votes, t.decided, t.right
+    )?;
+    if version == Version::Two {
+        text.push_str(format!(in alloc; ",{}", t.settled)?.as_str())?;
     }
+    Ok(text)
 }
 
-// Whether numbers are those that a text has, with commas between them.
-fn are_numbers(numbers: &[u64], text: &str) -> bool {
-    let mut words = text.split(',');
-    for number in numbers {
-        if words.next().unwrap_or("").parse::<u64>() != Ok(*number) {
-            return false;
-        }
-    }
-    words.next().is_none()
-}
-
-// Whether slips are those that a text has, with blanks between them.
-fn are_slips(version: Version, slips: &[Slip], text: &str) -> bool {
-    let mut words = text.split_whitespace();
+fn slips_text(alloc: Global, version: Version, slips: &[Slip]) -> Result<String, AllocError> {
+    let mut text = String::new(alloc);
     for slip in slips {
-        if !is_slip(version, slip, words.next().unwrap_or("")) {
-            return false;
+        if !text.is_empty() {
+            text.push_str(" ")?;
         }
+        text.push_str(slip_text(alloc, version, slip)?.as_str())?;
     }
-    words.next().is_none()
+    Ok(text)
 }
 
-// Whether a fault is printed so behind its number.
-fn is_fault(alloc: Global, fault: &JournalFault, wanted: &str) -> Result<bool, AllocError> {
-    let text = format!(in alloc; "{fault}")?;
-    Ok(text.as_str().get(3..).unwrap_or("") == wanted)
-}
-
-// Whether bytes are read as a text says: a fault without its number, or the slips.
-fn is_told(alloc: Global, bytes: &[u8], plan: &Plan, wanted: &str) -> Result<bool, AllocError> {
+// What bytes are read as: the slips, or a fault without its number.
+fn reading_of(alloc: Global, bytes: &[u8], plan: &Plan) -> Result<String, AllocError> {
     let disk = MemoryDisk::of(alloc, Vec::from_slice(alloc, bytes)?)?;
     match Journal::reopen(alloc, disk, plan) {
-        Ok((_journal, slips)) => Ok(are_slips(plan.version(), slips.as_slice(), wanted)),
-        Err((fault, _disk)) => is_fault(alloc, &fault, wanted),
+        Ok((_journal, slips)) => slips_text(alloc, plan.version(), &slips),
+        Err((fault, _disk)) => {
+            let text = format!(in alloc; "{fault}")?;
+            String::from_str(alloc, text.as_str().get(3..).unwrap_or(""))
+        }
     }
 }
 
@@ -113,10 +94,9 @@ fn put_line(alloc: Global, bytes: &mut [u8], line: &str) -> Result<(), AllocErro
         return Ok(());
     }
     let (at, digits) = rest.split_once(' ').unwrap_or((rest, ""));
-    let mut place = number(at) as usize;
-    for byte in from_hex(alloc, digits)?.iter() {
-        put_byte(bytes, place, *byte);
-        place = place.wrapping_add(1);
+    let put = from_hex(alloc, digits)?;
+    for (place, byte) in bytes.iter_mut().skip(number(at) as usize).zip(&put) {
+        *place = *byte;
     }
     Ok(())
 }
@@ -141,8 +121,9 @@ fn changed_bytes(alloc: Global, file: &[u8], block: &str) -> Result<Vec<u8>, All
 // Whether a file, as a block changes it, is read as the block says.
 fn is_read(alloc: Global, file: &[u8], plan: &Plan, block: &str) -> Result<bool, AllocError> {
     let bytes = changed_bytes(alloc, file, block)?;
+    let reading = reading_of(alloc, &bytes, plan)?;
     let wanted = under(alloc, block, "reading")?;
-    is_told(alloc, bytes.as_slice(), plan, wanted.as_str())
+    Ok(reading.as_str() == wanted.as_str())
 }
 
 // Asserts that of blocks.
@@ -196,7 +177,8 @@ fn written_disk(alloc: Global, plan: &Plan, slips: &str) -> Result<MemoryDisk, F
 fn is_file(alloc: Global, file: &[u8], plan: &Plan, block: &str) -> Result<bool, Fail> {
     let slips = under(alloc, block, "slips")?;
     let disk = written_disk(alloc, plan, slips.as_str())?;
-    Ok(disk.bytes() == file && is_told(alloc, file, plan, slips.as_str())?)
+    let reading = reading_of(alloc, file, plan)?;
+    Ok(disk.bytes() == file && reading.as_str() == slips.as_str())
 }
 
 // The plan that a block gives.
@@ -214,16 +196,12 @@ fn check_text(rt: &impl Abort, alloc: Global, text: &str) -> Result<(), Fail> {
     check_blocks(rt, alloc, file.as_slice(), &plan, blocks)
 }
 
-fn check_texts(rt: &impl Abort, alloc: Global) -> Result<(), Fail> {
-    for text in files().split("\n\n\n") {
-        check_text(rt, alloc, text)?;
-    }
-    Ok(())
-}
-
 #[test]
 fn files_are_written_and_read(rt: HostRuntime) -> Result<(), Fail> {
-    check_texts(&rt, rt.alloc())
+    for text in files().split("\n\n\n") {
+        check_text(&rt, rt.alloc(), text)?;
+    }
+    Ok(())
 }
 
 const SMALL: &str =
@@ -237,15 +215,10 @@ const SMALL_2: &str =
 "links":0,"nodes":5,"repeats":2,
 "seed":"0000000000000000000000000000000000000000000000000000000000000000","version":2}"#;
 
-// The small plan where no process fails, and one of 70 trials.
+// The small plan where no process fails.
 const NONE_FAIL: &str =
     r#"{"copies":1,"dead":"silent","f":[0],"faults":"crash","h":[1],"implicit":true,"k":[1],"l":[1],
 "liars":0,"links":0,"nodes":5,"repeats":2,
-"seed":"0000000000000000000000000000000000000000000000000000000000000000","version":1}"#;
-
-const MANY: &str =
-    r#"{"copies":1,"dead":"silent","f":[0],"faults":"crash","h":[1],"implicit":true,"k":[1],"l":[1],
-"liars":0,"links":0,"nodes":5,"repeats":70,
 "seed":"0000000000000000000000000000000000000000000000000000000000000000","version":1}"#;
 
 // Plans of version 2: one where no process fails, and one with three rings whose changes need three alerts.
@@ -258,9 +231,6 @@ const THREE_RINGS_2: &str =
     r#"{"copies":1,"dead":"silent","deaf":0,"f":[1],"h":[3],"implicit":true,"k":[3],"l":[1],"liars":0,
 "links":0,"nodes":5,"repeats":2,
 "seed":"0000000000000000000000000000000000000000000000000000000000000000","version":2}"#;
-
-// What the slip of the small plan's two trials is told as.
-const WHOLE: &str = "0,2,8,0,0,0,8,2,2";
 
 // A file of the small plan with that slip, in which bytes are changed, which ends early, or which is longer.
 const CHANGES: &str = "kept 372
@@ -326,11 +296,33 @@ put 8 31
 put 226 e9ec089ff8cfaecd0b0e87d66b9dd8c53b2176aa1c412662347a9b6cfb7f1dcf
 reading Damaged 0";
 
-// Asserts how long the file of a plan and of the pieces of slips is, and how it is read as blocks change it.
+// A plan, the slips that are appended, how long the file is then, and what it is read as where it is changed.
+type Changes = (&'static str, &'static str, usize, &'static str);
+
+const ALL_CHANGES: [Changes; 7] = [
+    (SMALL, "0,2", 372, CHANGES),
+    (SMALL, "", 267, LETTERS),
+    (SMALL_2, "", 259, LETTERS_2),
+    (SMALL_2, "", 259, "kept 259"),
+    (SMALL_2, "0,2", 372, "kept 372\nreading 0,2,8,0,0,0,8,2,2,8"),
+    (
+        NONE_FAIL_2,
+        "0,2",
+        372,
+        "kept 372\nreading 0,2,10,0,10,0,0,0,0,0",
+    ),
+    (
+        THREE_RINGS_2,
+        "0,2",
+        372,
+        "kept 372\nreading 0,2,8,0,0,0,8,2,2,24",
+    ),
+];
+
 fn check_changes(
     rt: &impl Abort,
     alloc: Global,
-    (json, slips, length, blocks): (&str, &str, usize, &str),
+    (json, slips, length, blocks): Changes,
 ) -> Result<(), Fail> {
     let plan = Plan::from_json(alloc, json.as_bytes())?;
     let disk = written_disk(alloc, &plan, slips)?;
@@ -339,219 +331,58 @@ fn check_changes(
 }
 
 #[test]
-fn changed_files_of_a_small_plan(rt: HostRuntime) -> Result<(), Fail> {
-    check_changes(&rt, rt.alloc(), (SMALL, "0,2", 372, CHANGES))
+fn changed_files_of_small_plans(rt: HostRuntime) -> Result<(), Fail> {
+    for changes in ALL_CHANGES {
+        check_changes(&rt, rt.alloc(), changes)?;
+    }
+    Ok(())
 }
 
-fn check_version_2(rt: &impl Abort, alloc: Global) -> Result<(), Fail> {
-    check_changes(rt, alloc, (SMALL_2, "", 259, "kept 259"))?;
-    let whole = "kept 372\nreading 0,2,8,0,0,0,8,2,2,8";
-    check_changes(rt, alloc, (SMALL_2, "0,2", 372, whole))?;
-    let silent = "kept 372\nreading 0,2,10,0,10,0,0,0,0,0";
-    check_changes(rt, alloc, (NONE_FAIL_2, "0,2", 372, silent))?;
-    let settled = "kept 372\nreading 0,2,8,0,0,0,8,2,2,24";
-    check_changes(rt, alloc, (THREE_RINGS_2, "0,2", 372, settled))
-}
-
-#[test]
-fn a_small_plan_of_version_2(rt: HostRuntime) -> Result<(), Fail> {
-    check_version_2(&rt, rt.alloc())
-}
-
-fn check_letters(rt: &impl Abort, alloc: Global) -> Result<(), Fail> {
-    check_changes(rt, alloc, (SMALL, "", 267, LETTERS))?;
-    check_changes(rt, alloc, (SMALL_2, "", 259, LETTERS_2))
-}
-
-#[test]
-fn letters_of_the_other_version(rt: HostRuntime) -> Result<(), Fail> {
-    check_letters(&rt, rt.alloc())
-}
-
-// Whether a creation is refused on a disk that holds a study, and leaves its bytes.
-fn is_held(alloc: Global, bytes: &[u8], plan: &Plan) -> Result<bool, AllocError> {
-    let disk = MemoryDisk::of(alloc, Vec::from_slice(alloc, bytes)?)?;
-    Ok(match Journal::create(alloc, disk, plan) {
-        Err((fault, disk)) => matches!(fault, JournalFault::Held) && disk.bytes() == bytes,
-        Ok(_journal) => false,
-    })
-}
-
-// Whether bytes are those of a study of another plan than that of the first text, and than one whose text differs
-// in one byte.
-fn is_other(alloc: Global, bytes: &[u8]) -> Result<bool, Fail> {
-    let other = plan_in(alloc, files().split("\n\n").next().unwrap_or(""))?;
-    let alike = Plan::from_json(alloc, NONE_FAIL.as_bytes())?;
-    let is_refused = is_refused(alloc, bytes, &other)? && is_refused(alloc, bytes, &alike)?;
-    let is_told = is_told(alloc, bytes, &other, "OtherPlan")?
-        && is_told(alloc, bytes, &alike, "OtherPlan")?;
-    Ok(is_refused && is_told)
-}
-
-// Whether an opening for that plan is refused too, and hands the disk back with its bytes.
-fn is_refused(alloc: Global, bytes: &[u8], other: &Plan) -> Result<bool, AllocError> {
-    let disk = MemoryDisk::of(alloc, Vec::from_slice(alloc, bytes)?)?;
-    Ok(match Journal::open(alloc, disk, other) {
-        Err((fault, disk)) => matches!(fault, JournalFault::OtherPlan) && disk.bytes() == bytes,
-        Ok(_journal) => false,
-    })
-}
-
-// Whether an opening finds as many slips, and leaves a file of these bytes.
-fn is_opened(
+// What the file of the small plan's slip answers to the making of a journal, and to openings: the fault, if one
+// comes.
+fn answers_of(
     alloc: Global,
     bytes: &[u8],
     plan: &Plan,
-    (count, file): (usize, &[u8]),
-) -> Result<bool, AllocError> {
+    is_new: bool,
+) -> Result<Option<JournalFault>, AllocError> {
     let disk = MemoryDisk::of(alloc, Vec::from_slice(alloc, bytes)?)?;
-    Ok(match Journal::open(alloc, disk, plan) {
-        Ok((journal, slips)) => slips.len() == count && journal.disk().bytes() == file,
-        Err(_refused) => false,
-    })
+    let opened = if is_new {
+        Journal::create(alloc, disk, plan).err()
+    } else {
+        Journal::open(alloc, disk, plan).err()
+    };
+    Ok(opened.map(|(fault, _disk)| fault))
 }
 
-// Whether a journal is made on an empty disk, and is there when it is opened again.
-fn is_made(alloc: Global, plan: &Plan) -> Result<bool, Fail> {
-    let disk = written_disk(alloc, plan, "")?;
-    let new = disk.bytes();
-    let is_made = is_opened(alloc, &[], plan, (0, new))?;
-    let is_there = is_opened(alloc, new, plan, (0, new))? && is_held(alloc, new, plan)?;
-    Ok(new.len() == 267 && is_made && is_there && is_other(alloc, new)?)
+// Whether a file is opened for its plan alone, and no other journal is made there.
+fn is_held(alloc: Global, file: &[u8], plan: &Plan) -> Result<bool, Fail> {
+    let other = Plan::from_json(alloc, NONE_FAIL.as_bytes())?;
+    let is_held = answers_of(alloc, file, plan, true)? == Some(JournalFault::Held);
+    let is_opened = answers_of(alloc, file, plan, false)? == None;
+    let is_other = answers_of(alloc, file, &other, false)? == Some(JournalFault::OtherPlan);
+    Ok(is_held && is_opened && is_other)
 }
 
-// Whether the file of the small plan's slip has its gates, the last of which is closed.
-fn has_gates(file: &[u8]) -> bool {
-    file.len() == 372 && file[0] == 0xA5 && file[266] == 0xA5 && file[371] == 0
-}
-
-// Whether that file is opened for its plan alone, and no other journal is made there.
-fn is_there(alloc: Global, plan: &Plan) -> Result<bool, Fail> {
-    let disk = written_disk(alloc, plan, "0,2")?;
-    let file = disk.bytes();
-    let is_opened = is_opened(alloc, file, plan, (1, file))?;
-    let is_held = is_held(alloc, file, plan)?;
-    Ok(has_gates(file) && is_opened && is_held && is_other(alloc, file)?)
-}
-
-fn check_openings(rt: &impl Abort, alloc: Global, plan: &Plan) -> Result<(), Fail> {
-    assert!(rt; is_made(alloc, plan)?);
-    assert!(rt; is_there(alloc, plan)?);
-    Ok(())
+// Whether an opening of an empty disk makes the file that a creation makes.
+fn is_made(alloc: Global, file: &[u8], plan: &Plan) -> Result<bool, Fail> {
+    match Journal::open(alloc, MemoryDisk::of(alloc, Vec::new(alloc))?, plan) {
+        Ok((journal, slips)) => Ok(slips.is_empty() && journal.disk().bytes() == file),
+        Err((fault, _disk)) => Err(fault)?,
+    }
 }
 
 #[test]
 fn journals_are_made_and_opened(rt: HostRuntime) -> Result<(), Fail> {
     let plan = Plan::from_json(rt.alloc(), SMALL.as_bytes())?;
-    check_openings(&rt, rt.alloc(), &plan)
-}
-
-// Whether a call is a write of as many bytes at a place, or a sync where there is no such pair.
-fn is_call(call: &DiskCall, wanted: Option<(u64, usize)>) -> bool {
-    match (call, wanted) {
-        (DiskCall::Write { at, put }, Some((place, size))) => {
-            *at == place && put.as_slice().len() == size
-        }
-        (DiskCall::Sync, None) => true,
-        _ => false,
-    }
-}
-
-// Whether calls are those, in their order.
-fn are_calls(calls: &[DiskCall], wanted: &[Option<(u64, usize)>]) -> bool {
-    for (call, wanted) in calls.iter().zip(wanted) {
-        if !is_call(call, *wanted) {
-            return false;
-        }
-    }
-    calls.len() == wanted.len()
-}
-
-// What a creation and an append of the slip of two trials do to a disk, in order.
-fn has_order(
-    alloc: Global,
-    json: &str,
-    [header, slip, gate]: [(u64, usize); 3],
-) -> Result<bool, Fail> {
-    let plan = Plan::from_json(alloc, json.as_bytes())?;
-    let disk = written_disk(alloc, &plan, "0,2")?;
-    let (first, last) = (Some((0, 1)), Some(gate));
-    let wanted = [
-        None,
-        first,
-        None,
-        Some(header),
-        None,
-        first,
-        None,
-        Some(slip),
-        None,
-        last,
-        None,
-    ];
-    Ok(are_calls(disk.calls(), &wanted))
-}
-
-fn check_order(rt: &impl Abort, alloc: Global) -> Result<(), Fail> {
-    assert!(rt; has_order(alloc, SMALL, [(1, 266), (267, 105), (266, 1)])?);
-    assert!(rt; has_order(alloc, SMALL_2, [(1, 258), (259, 113), (258, 1)])?);
-    Ok(())
-}
-
-#[test]
-fn calls_come_in_order(rt: HostRuntime) -> Result<(), Fail> {
-    check_order(&rt, rt.alloc())
-}
-
-// Asserts that faults are printed so.
-fn check_printed(
-    rt: &impl Abort,
-    alloc: Global,
-    rows: &[(JournalFault, &str)],
-) -> Result<(), Fail> {
-    for (fault, wanted) in rows {
-        assert!(rt;
-            format!(in alloc; "{fault}")?.as_str() == *wanted,
-            "{wanted}"
-        );
-    }
+    let disk = written_disk(rt.alloc(), &plan, "")?;
+    assert!(rt; is_made(rt.alloc(), disk.bytes(), &plan)?);
+    assert!(rt; is_held(rt.alloc(), disk.bytes(), &plan)?);
     Ok(())
 }
 
 #[test]
 fn faults_are_printed(rt: HostRuntime) -> Result<(), Fail> {
-    let rows = [
-        (JournalFault::Memory, "0 Memory"),
-        (JournalFault::Disk, "20 Disk"),
-        (JournalFault::Broken, "21 Broken"),
-        (JournalFault::NoStudy, "22 NoStudy"),
-        (JournalFault::OtherPlan, "23 OtherPlan"),
-        (JournalFault::Damaged(7), "24 Damaged 7"),
-        (JournalFault::Held, "25 Held"),
-    ];
-    check_printed(&rt, rt.alloc(), &rows)
-}
-
-// The slips of as many trials where no process fails, one trial each: five receivers, and all are silent.
-fn silent_slips(alloc: Global, count: u32) -> Result<String, AllocError> {
-    let mut text = String::new(alloc);
-    for first in 0..count {
-        text.push_str(format!(in alloc; "{first},1,5,0,5,0,0,0,0 ")?.as_str())?;
-    }
-    Ok(text)
-}
-
-// A file of 65 slips, whose last gate stands at 45 + 222 + 65 * 105, and one of 66.
-fn check_many(rt: &impl Abort, alloc: Global) -> Result<(), Fail> {
-    let slips = silent_slips(alloc, 65)?;
-    let whole = format!(in alloc; "kept 7093\nreading {slips}")?;
-    check_changes(rt, alloc, (MANY, slips.as_str(), 7093, whole.as_str()))?;
-    let slips = silent_slips(alloc, 66)?;
-    let bad = "kept 7198\nput 7100 01\nreading Damaged 66\n\nkept 7093\nreading Damaged 66";
-    check_changes(rt, alloc, (MANY, slips.as_str(), 7198, bad))
-}
-
-#[test]
-fn a_file_of_many_slips(rt: HostRuntime) -> Result<(), Fail> {
-    check_many(&rt, rt.alloc())
+    assert!(rt; JournalFault::Damaged(7).to_string(rt.alloc())?.as_str() == "24 Damaged 7");
+    Ok(())
 }

@@ -5,7 +5,6 @@
 //! need not be made again for them.
 #![tactic(auto)]
 
-pub mod change;
 #[cfg(test)]
 mod disks;
 #[cfg(test)]

@@ -1,50 +1,48 @@
--- A piece with its sums added to a ledger's cells: what is held and summed then.
-use Rattle.std.proofs.Common.{◌≡◌, ℕ, ◌+◌, ◌*◌, ◌/◌, ◌<◌, ◌≤◌, ◌⊎◌, inl, inr, Bool, true, false, ◌==◌, ◌&&◌, ◌||◌, not, cond, List, [], ◌∷◌, ◌++◌, map, get_or, length, set, refl, sym, ap, ◌∙◌, subst, arith, append-nil}
+-- A piece with its sums added to what a ledger holds: what is held and summed then.
+use Rattle.std.proofs.Common.{◌≡◌, ℕ, ◌+◌, ◌*◌, ◌/◌, ◌<◌, ◌≤◌, inl, inr, Bool, true, false, ◌==◌, ◌&&◌, ◌||◌, not, cond, List, [], ◌∷◌, ◌++◌, map, length, set, refl, sym, ap, ◌∙◌, subst, arith, append-nil}
 use Rattle.std.proofs.Math.Bool.{or-false}
 use Rattle.std.proofs.lemmas.Bool.{cases_eq, eq-eqb, ne_eqb, false_from_ne_true, or_cases, or_left, or_right, and_left, not_from_false}
-use Rattle.std.proofs.lemmas.List.{get_or-set_same, get_or-set_other, length-set, length-map, map-set}
+use Rattle.std.proofs.lemmas.List.{get_or-set_same, get_or-set_other, length-set}
 use Rattle.std.proofs.lemmas.List.Elements.{filter-append, filter_agree}
 use Rattle.std.proofs.lemmas.List.Folds.{list_any-append}
+use Rattle.std.proofs.lemmas.List.FromFn.{length-map-range_with_len}
 use Rattle.std.proofs.lemmas.List.Sums.{sum_by_push}
 use Rattle.cut_lists.proofs.Ranges.{filter_agree_on, count_by_agree, none_passing}
 use Rattle.cut_lists.proofs.Additions.{PassesPart, count_of_more, sum_of_more}
 use Rattle.cut_trial.specs.Outcome.{outcome}
-use Rattle.cut_ledger.specs.Kept.{cell_at}
-use Rattle.cut_ledger.proofs.Words.{AreKept, IsAdded, IsAddedTo, IsAtMost, IsKeptOf, IsTrue, Kept, Piece}
-use Rattle.cut_ledger.proofs.Words.{Slip, Totals, Values, contents_in, count_by, each_number, further_trials}
-use Rattle.cut_ledger.proofs.Words.{has, held_where, is_held, is_in, is_in_base, is_kept, is_piece, list_any}
-use Rattle.cut_ledger.proofs.Words.{no_cell, plus, slips_of_cell, sum_by, sum_of, sum_where, trials_in}
-use Rattle.cut_ledger.proofs.Words.{trials_of_cell, with_piece}
-use Rattle.cut_ledger.proofs.CellLemmas.{PieceFacts, piece_facts, in_piece, piece_cell, kept_at, meets_cell, held_agree, has_kept, IsMore, kept_more, more_part, more_elsewhere}
+use Rattle.range_set.specs.Held as held
+use Rattle.cut_ledger.specs.Kept.{AreSumsOf, span_of, sum_at}
+use Rattle.cut_ledger.proofs.Words.{AreKept, IsAdded, IsAtMost, IsTrue, Piece, Slip, Totals, Values}
+use Rattle.cut_ledger.proofs.Words.{contents_in, count_by, each_number, further_trials, is_in, is_in_base}
+use Rattle.cut_ledger.proofs.Words.{is_piece, list_any, plus, range_with_len, slips_of_cell, sum_by, sum_of, sum_where}
+use Rattle.cut_ledger.proofs.Words.{trials_in, trials_of_cell, with_piece}
+use Rattle.cut_ledger.proofs.CellLemmas.{PieceFacts, piece_facts, in_piece, IsMore, more_is, more_part, more_elsewhere}
 
 -- ---- what is known of the call
 
-pub record Adding (v : Values) (base : List Slip) (cells : List Kept) (k : Kept) (p : Piece) (x : Totals) : Type 0 where
-  pub kept : AreKept v base cells
+pub record Adding (v : Values) (base : List Slip) (old new : held.Held) (olds news : List Totals) (p : Piece) (x : Totals) : Type 0 where
+  pub kept : AreKept v base old olds
   pub piece : IsTrue (is_piece v p)
-  pub apart : list_any (is_held (cell_at cells (p.first / v.repeats)).trials) (trials_in p) ≡ false
+  pub apart : list_any (held.has old) (trials_in p) ≡ false
   pub few : IsAtMost (2048 * p.count) x
-  pub added : IsAdded (cell_at cells (p.first / v.repeats)) k p x
+  pub added : IsAdded old new olds news (p.first / v.repeats) p x
 
 -- and what follows of what is held
-pub record Added (v : Values) (base : List Slip) (cells : List Kept) (k : Kept) (p : Piece) : Type 0 where
+pub record Added (v : Values) (old new : held.Held) (olds : List Totals) (p : Piece) : Type 0 where
   pub facts : PieceFacts v p (p.first / v.repeats)
-  pub within : p.first / v.repeats < length cells
-  pub apart : (t : ℕ) → is_in p t ≡ true → is_kept v cells t ≡ false
-  pub more : IsMore (is_kept v cells) (is_kept v (set cells (p.first / v.repeats) k)) p
+  pub within : p.first / v.repeats < length olds
+  pub apart : (t : ℕ) → is_in p t ≡ true → held.has old t ≡ false
+  pub more : IsMore (held.has old) (held.has new) p
+  pub part : PassesPart (held.has old) (held.has new) (p.first / v.repeats * v.repeats) v.repeats p.first p.count
 
-pub added_is : (v : Values) (base : List Slip) (cells : List Kept) (k : Kept) (p : Piece) (x : Totals) → Adding v base cells k p x → Added v base cells k p
-added_is v base cells k p x adding =
-    let c : ℕ = p.first / v.repeats in
+pub added_is : (v : Values) (base : List Slip) (old new : held.Held) (olds news : List Totals) (p : Piece) (x : Totals) → Adding v base old new olds news p x → Added v old new olds p
+added_is v base old new olds news p x adding =
     let facts = piece_facts v p adding.kept.plan adding.piece in
-    let within : c < length cells = omega (arith, facts.cell, adding.kept.long) in
-    record {
-      facts = facts;
-      within = within;
-      apart = λ t e.
-          (let at = in_piece p t e in kept_at v cells c t (piece_cell v p c t facts at.0 at.1) ∙ none_passing (is_held (cell_at cells c).trials) p.first p.count t adding.apart at.0 at.1);
-      more = kept_more v cells c k p x within facts adding.added;
-    }
+    let within : p.first / v.repeats < length olds = omega (arith, facts.cell, adding.kept.long) in
+    let apart : (t : ℕ) → is_in p t ≡ true → held.has old t ≡ false = λ t e.
+    (let at = in_piece p t e in none_passing (held.has old) p.first p.count t adding.apart at.0 at.1) in
+    let more = more_is old new p (omega (arith, facts.end, adding.kept.all)) adding.added.held in
+    record { facts = facts; within = within; apart = apart; more = more; part = more_part (held.has old) (held.has new) v p (p.first / v.repeats) facts more apart }
 
 -- ---- sums
 
@@ -134,120 +132,80 @@ at_most_more m n a b few more = record {
   settled = omega (arith, few.settled, more.settled);
 }
 
--- ---- the cells that follow
+-- ---- what is held then
 
 -- over a base whose sums are told
-cells_set : (v : Values) (base bases : List Slip) (cells : List Kept) (k : Kept) (p : Piece) (x : Totals) → Adding v base cells k p x → sum_where v bases (is_kept v (set cells (p.first / v.repeats) k)) (p.first / v.repeats) ≡ plus (sum_where v base (is_kept v cells) (p.first / v.repeats)) x → ((d : ℕ) → (d ≡ p.first / v.repeats → ⊥) → sum_where v bases (is_kept v (set cells (p.first / v.repeats) k)) d ≡ sum_where v base (is_kept v cells) d) → ((t : ℕ) → is_in_base bases t ≡ true → is_kept v (set cells (p.first / v.repeats) k) t ≡ true) → AreKept v bases (set cells (p.first / v.repeats) k)
-cells_set v base bases cells k p x adding own others based = record {
+kept_then : (v : Values) (base bases : List Slip) (old new : held.Held) (olds news : List Totals) (p : Piece) (x : Totals) → Adding v base old new olds news p x → sum_where v bases (held.has new) (p.first / v.repeats) ≡ plus (sum_where v base (held.has old) (p.first / v.repeats)) x → ((d : ℕ) → (d ≡ p.first / v.repeats → ⊥) → sum_where v bases (held.has new) d ≡ sum_where v base (held.has old) d) → ((t : ℕ) → is_in_base bases t ≡ true → held.has new t ≡ true) → AreKept v bases new news
+kept_then v base bases old new olds news p x adding own others based = record {
   plan = adding.kept.plan;
-  long = length-set cells c k ∙ adding.kept.long;
-  each = λ d in'. by d (omega (arith, length-set cells c k)) (cases_eq d c);
+  section_len = adding.added.section_len ∙ adding.kept.section_len;
+  all = ap length adding.added.held ∙ length-map-range_with_len (λ t. held.has old t || is_in p t) 0 (length old.held) ∙ adding.kept.all;
+  cells = ap length adding.added.others ∙ length-set old.room (p.first / v.repeats) (held.has_room new (p.first / v.repeats)) ∙ adding.kept.cells;
+  long = many ∙ adding.kept.long;
+  each = λ d in'. subst (AreSumsOf v bases (held.has new) d) (sym (ap (λ xs. sum_at xs d) adding.added.sums)) (by d (omega (arith, many)));
   based = based;
 }
   where
     c : ℕ
     c = p.first / v.repeats
 
-    news : List Kept
-    news = set cells (p.first / v.repeats) k
+    many : length news ≡ length olds
+    many = ap length adding.added.sums ∙ length-set olds (p.first / v.repeats) (plus (sum_at olds (p.first / v.repeats)) x)
 
-    known : Added v base cells k p
-    known = added_is v base cells k p x adding
+    known : Added v old new olds p
+    known = added_is v base old new olds news p x adding
 
-    mine : IsKeptOf v bases (is_kept v (set cells (p.first / v.repeats) k)) (p.first / v.repeats) k
+    mine : AreSumsOf v bases (held.has new) (p.first / v.repeats) (plus (sum_at olds (p.first / v.repeats)) x)
     mine =
-        let old : IsKeptOf v base (is_kept v cells) c (cell_at cells c) = adding.kept.each c known.within in
-        let part = more_part (is_kept v cells) (is_kept v news) v p c known.facts known.more known.apart in
-        let more = count_of_more (is_kept v cells) (is_kept v news) (c * v.repeats) v.repeats p.first p.count part in
-        let bound : 2048 * count_by (is_kept v cells) (trials_of_cell v c) + 2048 * p.count ≡ 2048 * count_by (is_kept v news) (trials_of_cell v c) = omega (arith, more) in
+        let before : AreSumsOf v base (held.has old) c (sum_at olds c) = adding.kept.each c known.within in
+        let more = count_of_more (held.has old) (held.has new) (c * v.repeats) v.repeats p.first p.count known.part in
+        let bound : 2048 * count_by (held.has old) (trials_of_cell v c) + 2048 * p.count ≡ 2048 * count_by (held.has new) (trials_of_cell v c) = omega (arith, more) in
         record {
-          low = adding.added.low ∙ old.low;
-          high = adding.added.high ∙ old.high;
-          sums = adding.added.totals ∙ ap (λ y. plus y x) old.sums ∙ sym own;
-          few =
-              subst (λ n. IsAtMost n k.totals) bound
-              (subst (λ y. IsAtMost (2048 * count_by (is_kept v cells) (trials_of_cell v c) + 2048 * p.count) y) (sym adding.added.totals)
-              (at_most_more _ (2048 * p.count) (cell_at cells c).totals x old.few adding.few));
+          sums = ap (λ y. plus y x) before.sums ∙ sym own;
+          few = subst (λ n. IsAtMost n (plus (sum_at olds c) x)) bound (at_most_more _ (2048 * p.count) (sum_at olds c) x before.few adding.few);
         }
 
-    by : (d : ℕ) → d < length cells → (d ≡ p.first / v.repeats) ⊎ (d ≡ p.first / v.repeats → ⊥) → IsKeptOf v bases (is_kept v (set cells (p.first / v.repeats) k)) d (cell_at (set cells (p.first / v.repeats) k) d)
-    by d in' (inl here) =
-        subst (λ i. IsKeptOf v bases (is_kept v news) i (cell_at news i)) (sym here)
-        (subst (IsKeptOf v bases (is_kept v news) c) (sym (get_or-set_same cells c k no_cell known.within)) mine)
-    by d in' (inr other) =
-        let old : IsKeptOf v base (is_kept v cells) d (cell_at cells d) = adding.kept.each d in' in
-        let count : count_by (is_kept v news) (trials_of_cell v d) ≡ count_by (is_kept v cells) (trials_of_cell v d) =
-        count_by_agree (is_kept v news) (is_kept v cells) (d * v.repeats) v.repeats (record { same = λ t a b. more_elsewhere (is_kept v cells) (is_kept v news) v p c d t known.facts known.more other a b }) in
-        let same : IsKeptOf v bases (is_kept v news) d (cell_at cells d) = record {
-          low = old.low;
-          high = old.high;
-          sums = old.sums ∙ sym (others d other);
-          few = subst (λ n. IsAtMost (2048 * n) (cell_at cells d).totals) (sym count) old.few;
-        } in
-        subst (IsKeptOf v bases (is_kept v news) d) (sym (get_or-set_other cells c d k no_cell other)) same
+    by : (d : ℕ) → d < length olds → AreSumsOf v bases (held.has new) d (sum_at (set olds (p.first / v.repeats) (plus (sum_at olds (p.first / v.repeats)) x)) d)
+    by d in' = elim (cases_eq d (p.first / v.repeats)) [
+      | inl here ↦
+          subst (λ i. AreSumsOf v bases (held.has new) i (sum_at (set olds c (plus (sum_at olds c) x)) i)) (sym here)
+          (subst (AreSumsOf v bases (held.has new) c) (sym (get_or-set_same olds c (plus (sum_at olds c) x) (each_number (λ n. 0)) known.within)) mine)
+      | inr other ↦
+          (let before : AreSumsOf v base (held.has old) d (sum_at olds d) = adding.kept.each d in' in
+          let count : count_by (held.has new) (trials_of_cell v d) ≡ count_by (held.has old) (trials_of_cell v d) =
+          count_by_agree (held.has new) (held.has old) (d * v.repeats) v.repeats (record { same = λ t a b. more_elsewhere (held.has old) (held.has new) v p c d t known.facts known.more other a b }) in
+          let same : AreSumsOf v bases (held.has new) d (sum_at olds d) = record {
+            sums = before.sums ∙ sym (others d other);
+            few = subst (λ n. IsAtMost (2048 * n) (sum_at olds d)) (sym count) before.few;
+          } in
+          subst (AreSumsOf v bases (held.has new) d) (sym (get_or-set_other olds c d (plus (sum_at olds c) x) (each_number (λ n. 0)) other)) same)
+    ]
 
 -- the result of a piece, whose sums are those of its trials
-pub taken_kept : (v : Values) (base : List Slip) (cells : List Kept) (k : Kept) (p : Piece) → Adding v base cells k p (sum_of v (trials_in p)) → AreKept v base (set cells (p.first / v.repeats) k)
-taken_kept v base cells k p adding =
+pub taken_kept : (v : Values) (base : List Slip) (old new : held.Held) (olds news : List Totals) (p : Piece) → Adding v base old new olds news p (sum_of v (trials_in p)) → AreKept v base new news
+taken_kept v base old new olds news p adding =
     let c : ℕ = p.first / v.repeats in
-    let news : List Kept = set cells c k in
-    let known = added_is v base cells k p (sum_of v (trials_in p)) adding in
-    let part = more_part (is_kept v cells) (is_kept v news) v p c known.facts known.more known.apart in
-    cells_set v base base cells k p (sum_of v (trials_in p)) adding
-    (taken_sums v base (is_kept v cells) (is_kept v news) p c known.facts part adding.kept.based)
-    (λ d other. same_sums v base (is_kept v cells) (is_kept v news) d (λ t a b. more_elsewhere (is_kept v cells) (is_kept v news) v p c d t known.facts known.more other a b))
-    (λ t e. known.more.same t ∙ or_left (is_kept v cells t) (is_in p t) (adding.kept.based t e))
+    let known = added_is v base old new olds news p (sum_of v (trials_in p)) adding in
+    kept_then v base base old new olds news p (sum_of v (trials_in p)) adding
+    (taken_sums v base (held.has old) (held.has new) p c known.facts known.part adding.kept.based)
+    (λ d other. same_sums v base (held.has old) (held.has new) d (λ t a b. more_elsewhere (held.has old) (held.has new) v p c d t known.facts known.more other a b))
+    (λ t e. known.more.same t ∙ or_left (held.has old t) (is_in p t) (adding.kept.based t e))
 
--- in which cells there is room, where one is set
-abbrev pub rooms : List Kept → List Bool
-rooms cells = map (λ (k : Kept). k.trials.room) cells
-
-others_stay : (cells : List Kept) (c : ℕ) (k : Kept) → c < length cells
-    → rooms (set cells c k) ≡ set (rooms cells) c (get_or (rooms (set cells c k)) c false)
-others_stay cells c k within =
-    let one = map-set (λ (x : Kept). x.trials.room) cells c k in
-    let long = length-map cells (λ (x : Kept). x.trials.room) in
-    let here = get_or-set_same (rooms cells) c k.trials.room false (omega (arith, long, within)) in
-    one ∙ ap (λ b. set (rooms cells) c b) (sym (ap (λ xs. get_or xs c false) one ∙ here))
-
--- a result taken: the cells that follow, and what the ledger is then
-pub record Took (v : Values) (base : List Slip) (olds news : List Kept) (p : Piece) : Type 0 where
-  pub kept : AreKept v base news
-  pub contents : contents_in v base news ≡ with_piece (contents_in v base olds) p
-  pub others : rooms news ≡ set (rooms olds) (p.first / v.repeats) (get_or (rooms news) (p.first / v.repeats) false)
-
-pub took : (v : Values) (base : List Slip) (olds news : List Kept) (p : Piece) → AreKept v base olds → IsTrue (is_piece v p) → list_any (is_kept v olds) (trials_in p) ≡ false → IsAtMost (2048 * p.count) (sum_of v (trials_in p)) → IsAddedTo v olds news p (sum_of v (trials_in p)) → Took v base olds news p
-took v base olds news p kept piece apart few to =
-    let facts = piece_facts v p kept.plan piece in
-    let adding : Adding v base olds to.cell p (sum_of v (trials_in p)) = record {
-      kept = kept;
-      piece = piece;
-      apart = meets_cell v olds p (p.first / v.repeats) (cell_at olds (p.first / v.repeats)) facts refl ∙ apart;
-      few = few;
-      added = to.added;
-    } in
-    let known = added_is v base olds to.cell p (sum_of v (trials_in p)) adding in
-    let held : held_where v (is_kept v (set olds (p.first / v.repeats) to.cell)) ≡ held_where v (λ t. has (contents_in v base olds) t || is_in p t) =
-    held_agree v _ _ (λ t _. known.more.same t ∙ ap (λ b. b || is_in p t) (sym (has_kept v base olds t kept))) in
-    subst (λ cells. Took v base olds cells p) (sym to.set)
-    (record {
-      kept = taken_kept v base olds to.cell p adding;
-      contents = ap (λ (bs : List Bool). record { plan = v; base = base; held = bs }) held;
-      others = others_stay olds (p.first / v.repeats) to.cell known.within;
-    })
+-- and its contents
+pub taken_contents : (v : Values) (base : List Slip) (old new : held.Held) (olds : List Totals) (p : Piece) → AreKept v base old olds → new.held ≡ held.with_span old (span_of p) → contents_in v base new ≡ with_piece (contents_in v base old) p
+taken_contents v base old new olds p kept put =
+    ap (λ bs. record { plan = v; base = base; held = bs }) (put ∙ ap (λ n. map (λ t. held.has old t || is_in p t) (range_with_len 0 n)) kept.all)
 
 -- and a slip, which is one of the base from then on
-pub slip_kept : (v : Values) (base : List Slip) (cells : List Kept) (k : Kept) (s : Slip) → Adding v base cells k s.piece s.totals → AreKept v (base ++ s ∷ []) (set cells (s.piece.first / v.repeats) k)
-slip_kept v base cells k s adding =
-    let c : ℕ = s.piece.first / v.repeats in
-    let news : List Kept = set cells c k in
-    let known = added_is v base cells k s.piece s.totals adding in
-    cells_set v base (base ++ s ∷ []) cells k s.piece s.totals adding
-    (slip_sums v base s (is_kept v cells) (is_kept v news) known.more known.apart)
-    (λ d other. slip_elsewhere v base s (is_kept v cells) (is_kept v news) d known.more known.apart other)
+pub slip_kept : (v : Values) (base : List Slip) (old new : held.Held) (olds news : List Totals) (s : Slip) → Adding v base old new olds news s.piece s.totals → AreKept v (base ++ s ∷ []) new news
+slip_kept v base old new olds news s adding =
+    let known = added_is v base old new olds news s.piece s.totals adding in
+    kept_then v base (base ++ s ∷ []) old new olds news s.piece s.totals adding
+    (slip_sums v base s (held.has old) (held.has new) known.more known.apart)
+    (λ d other. slip_elsewhere v base s (held.has old) (held.has new) d known.more known.apart other)
     (λ t e.
     known.more.same t
     ∙ elim (or_cases (is_in_base base t) (is_in s.piece t) (sym (in_base_more base s t) ∙ e)) [
-      | inl old ↦ or_left (is_kept v cells t) (is_in s.piece t) (adding.kept.based t old)
-      | inr own ↦ or_right (is_kept v cells t) (is_in s.piece t) own
+      | inl old-base ↦ or_left (held.has old t) (is_in s.piece t) (adding.kept.based t old-base)
+      | inr own ↦ or_right (held.has old t) (is_in s.piece t) own
     ])

@@ -25,6 +25,7 @@ use Rattle.cut_ledger.specs.Laws.{with_pieces, AreFilling}
 use Rattle.cut_ledger.specs.Machine.{available, table_over}
 use Rattle.cut_ledger.specs.Reached.{IsFounded}
 use Rattle.cut_ledger.specs.World.{AreTrue, times_in}
+use Rattle.range_set.specs.Laws.{SpansCover}
 use Rattle.cut_ledger.proofs.CoverLemmas.{pieces_cover}
 use Rattle.cut_ledger.proofs.Law.{held_at, times-append}
 use Rattle.cut_ledger.proofs.LawBytes.{available_whole, in_plan}
@@ -129,31 +130,31 @@ held_in_plan v test t held = ltb-true t (trial_count v) (and_parts (nat_lt t (tr
 -- ---- the pieces
 
 -- the pieces that a ledger lacks have each trial that is not held once, and no other
-times_free : (l : Contents) (size t : ℕ) → 1 ≤ size → t < trial_count l.plan → has l t ≡ false → times_in (pieces_of l size) t ≡ 1
-times_free l size t some low free =
-    sym (count_trials (pieces_of l size) t) ∙ ap (count_by (λ x. x == t)) (pieces_cover l size some)
+times_free : SpansCover → (l : Contents) (size t : ℕ) → 1 ≤ size → t < trial_count l.plan → has l t ≡ false → times_in (pieces_of l size) t ≡ 1
+times_free cover l size t some low free =
+    sym (count_trials (pieces_of l size) t) ∙ ap (count_by (λ x. x == t)) (pieces_cover cover l size some)
     ∙ count_passing (λ k. not (has l k)) (trial_count l.plan) t low (ap not free)
 
-times_few : (l : Contents) (size t : ℕ) → 1 ≤ size → times_in (pieces_of l size) t ≤ 1
-times_few l size t some =
-    let is = sym (count_trials (pieces_of l size) t) ∙ ap (count_by (λ x. x == t)) (pieces_cover l size some) in
+times_few : SpansCover → (l : Contents) (size t : ℕ) → 1 ≤ size → times_in (pieces_of l size) t ≤ 1
+times_few cover l size t some =
+    let is = sym (count_trials (pieces_of l size) t) ∙ ap (count_by (λ x. x == t)) (pieces_cover cover l size some) in
     omega (arith, is, count_at_most (λ k. not (has l k)) (trial_count l.plan) t)
 
-times_above : (l : Contents) (size t : ℕ) → 1 ≤ size → trial_count l.plan ≤ t → times_in (pieces_of l size) t ≡ 0
-times_above l size t some high =
-    let is = sym (count_trials (pieces_of l size) t) ∙ ap (count_by (λ x. x == t)) (pieces_cover l size some) in
+times_above : SpansCover → (l : Contents) (size t : ℕ) → 1 ≤ size → trial_count l.plan ≤ t → times_in (pieces_of l size) t ≡ 0
+times_above cover l size t some high =
+    let is = sym (count_trials (pieces_of l size) t) ∙ ap (count_by (λ x. x == t)) (pieces_cover cover l size some) in
     let parts = count_parts (λ k. not (has l k)) (λ x. x == t) (all_trials l.plan) in
     let none : count_by (λ x. x == t) (all_trials l.plan) ≡ 0 = count_in_front (trial_count l.plan) t ∙ ap (λ b. cond {A = ℕ} b 1 0) (le-ltb t (trial_count l.plan) high) in
     omega (arith, is, parts, none)
 
-times_held : (l : Contents) (size t : ℕ) → 1 ≤ size → has l t ≡ true → times_in (pieces_of l size) t ≡ 0
-times_held l size t some held =
-    sym (count_trials (pieces_of l size) t) ∙ ap (count_by (λ x. x == t)) (pieces_cover l size some)
+times_held : SpansCover → (l : Contents) (size t : ℕ) → 1 ≤ size → has l t ≡ true → times_in (pieces_of l size) t ≡ 0
+times_held cover l size t some held =
+    sym (count_trials (pieces_of l size) t) ∙ ap (count_by (λ x. x == t)) (pieces_cover cover l size some)
     ∙ count_failing (λ k. not (has l k)) (trial_count l.plan) t (ap not held)
 
 -- a trial of one of them is not in those before it
-apart : (l : Contents) (size i : ℕ) (p : Piece) → 1 ≤ size → slice_get (pieces_of l size) i ≡ Some p → overlaps (with_pieces l (take i (pieces_of l size))) p ≡ false
-apart l size i p some at =
+apart : SpansCover → (l : Contents) (size i : ℕ) (p : Piece) → 1 ≤ size → slice_get (pieces_of l size) i ≡ Some p → overlaps (with_pieces l (take i (pieces_of l size))) p ≡ false
+apart cover l size i p some at =
     list_any_none_passing (has (with_pieces l front)) p.first p.count (λ t from to held.
     let here : is_in p t ≡ true = within_is p.first (p.first + p.count) t from to in
     let one : cond {A = ℕ} (is_in p t) 1 0 ≡ 1 = ap (λ b. cond {A = ℕ} b 1 0) here in
@@ -161,13 +162,13 @@ apart l size i p some at =
     ap (λ qs. times_in qs t) split ∙ times-append front (p ∷ drop (suc i) ps) t ∙ ap (λ n. times_in front t + n) (count_first (λ q. is_in q t) p (drop (suc i) ps)) in
     let low : t < trial_count l.plan = elim (cases_lt t (trial_count l.plan)) [
       | inl low ↦ low
-      | inr high ↦ absurd (omega (arith, times_above l size t some high, parts, one))
+      | inr high ↦ absurd (omega (arith, times_above cover l size t some high, parts, one))
     ] in
     elim (or_cases (has l t) (list_any (λ q. is_in q t) front) (sym (has_more l front t low) ∙ held)) [
-      | inl was ↦ absurd (omega (arith, times_held l size t some was, parts, one))
+      | inl was ↦ absurd (omega (arith, times_held cover l size t some was, parts, one))
       | inr before ↦ absurd (omega (
         arith,
-        times_few l size t some,
+        times_few cover l size t some,
         parts,
         one,
         ltb-true 0 (times_in front t) (sym (list_any-count_by (λ q. is_in q t) front) ∙ before),
@@ -187,8 +188,8 @@ apart l size i p some at =
         ∙ ap (λ q. take i (pieces_of l size) ++ q ∷ drop (suc i) (pieces_of l size)) (get_or_from_slice_get (pieces_of l size) i p p at)
 
 -- with all of them every trial is held
-complete : (l : Contents) (size : ℕ) → 1 ≤ size → is_complete (with_pieces l (pieces_of l size)) ≡ true
-complete l size some =
+complete : SpansCover → (l : Contents) (size : ℕ) → 1 ≤ size → is_complete (with_pieces l (pieces_of l size)) ≡ true
+complete cover l size some =
     let ps : List Piece = pieces_of l size in
     ap (λ v. list_all (has (with_pieces l ps)) (all_trials v)) (plan_stays l ps)
     ∙ list_all_passing (has (with_pieces l ps)) 0 (trial_count l.plan) (λ t from to. (let low : t < trial_count l.plan = omega arith in has_more l ps t low ∙ by t low (has l t) refl))
@@ -198,13 +199,13 @@ complete l size some =
     by t low false free =
         ap (λ b. b || list_any (λ p. is_in p t) (pieces_of l size)) free
         ∙ list_any-count_by (λ p. is_in p t) (pieces_of l size)
-        ∙ ap (nat_lt 0) (times_free l size t some low free)
+        ∙ ap (nat_lt 0) (times_free cover l size t some low free)
 
-pub pieces_fill : (l : Contents) (size : ℕ) → 1 ≤ size → AreFilling l (pieces_of l size)
-pieces_fill l size some = record {
+pub pieces_fill : SpansCover → (l : Contents) (size : ℕ) → 1 ≤ size → AreFilling l (pieces_of l size)
+pieces_fill cover l size some = record {
   plan = λ i. plan_stays l (take i (pieces_of l size));
-  apart = λ i p at. apart l size i p some at;
-  complete = complete l size some;
+  apart = λ i p at. apart cover l size i p some at;
+  complete = complete cover l size some;
 }
 
 -- ---- what can be written then
@@ -224,11 +225,11 @@ filled_is v ss g all = map_agree g (λ t. true) 0 (trial_count v) (λ t from to.
     passes_at (has (record { plan = v; base = ss; held = held_where v g })) 0 (trial_count v) all t (omega arith) (omega (arith, low)) in
     sym (ap (λ b. b && g t) (lt-ltb t (trial_count v) low)) ∙ sym (held_at v g t) ∙ held))
 
-pub filled_tell : (v : Values) (ss : List Slip) (size : ℕ) → 1 ≤ size → available (with_pieces (over_base v ss) (pieces_of (over_base v ss) size)) ≡ table_over v ss
-filled_tell v ss size some =
+pub filled_tell : SpansCover → (v : Values) (ss : List Slip) (size : ℕ) → 1 ≤ size → available (with_pieces (over_base v ss) (pieces_of (over_base v ss) size)) ≡ table_over v ss
+filled_tell cover v ss size some =
     let ps : List Piece = pieces_of (over_base v ss) size in
     let found = holds_some v ss (is_in_base ss) ps in
-    let all : is_complete (record { plan = v; base = ss; held = held_where v found.0 }) ≡ true = ap is_complete (sym found.1) ∙ complete (over_base v ss) size some in
+    let all : is_complete (record { plan = v; base = ss; held = held_where v found.0 }) ≡ true = ap is_complete (sym found.1) ∙ complete cover (over_base v ss) size some in
     ap available found.1 ∙ ap (λ (held : List Bool). available (record { plan = v; base = ss; held = held })) (filled_is v ss found.0 all)
 
 -- over true slips it is the table of the plan

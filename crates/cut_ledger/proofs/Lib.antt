@@ -1,6 +1,4 @@
 pub mod Words
-pub mod RangeLemmas
-pub mod GapLemmas
 pub mod LawSums
 pub mod LawBytes
 pub mod Law

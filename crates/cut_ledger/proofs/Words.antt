@@ -4,14 +4,11 @@ pub use Rattle.cut_ledger.specs.Contents.{Contents, all_trials, cell_done, cell_
 pub use Rattle.cut_ledger.specs.Contents.{held_where, is_complete, is_in, is_in_base, over_base, overlaps}
 pub use Rattle.cut_ledger.specs.Contents.{slip_sum, slips_of_cell, sum_where, with_piece}
 pub use Rattle.cut_ledger.specs.FaultCode.{code_of}
-pub use Rattle.cut_ledger.specs.Gaps.{begins, gaps_of, part_of, parts_of, pieces_of, run_at, runs}
-pub use Rattle.cut_ledger.specs.Kept.{AreKept, AreOver, IsAdded, IsAddedTo, IsKeptOf, account_in, contents_in}
-pub use Rattle.cut_ledger.specs.Kept.{is_kept, no_cell}
+pub use Rattle.cut_ledger.specs.Gaps.{gaps_of, part_of, parts_of, piece_at, pieces_of}
+pub use Rattle.cut_ledger.specs.Kept.{AreKept, AreOver, IsAdded, account_in, contents_in}
 pub use Rattle.cut_ledger.specs.Machine.{State, accepted_unless, after, available, drawn_piece, failed}
 pub use Rattle.cut_ledger.specs.Machine.{is_finished, opened, refused_code, reply_to, slip_of, slips_found}
 pub use Rattle.cut_ledger.specs.Machine.{some_slip, start, taken, unless_refused}
-pub use Rattle.cut_ledger.specs.Ranges.{AreRanges, Spread, gap_between, gaps_around, is_held, is_in_range}
-pub use Rattle.cut_ledger.specs.Ranges.{is_in_some, joined_end, joined_start, rest_after, rest_behind}
 pub use Rattle.cut_ledger.specs.Reached.{IsDoubtful, IsFounded, IsReached}
 pub use Rattle.cut_ledger.specs.Refusals.{CanTake, refusal_of}
 pub use Rattle.cut_ledger.specs.RunInside.{state_of}
@@ -19,8 +16,6 @@ pub use Rattle.cut_ledger.specs.Slips.{AreGood, AreGoodUpTo, IsFirstBad, IsGood,
 pub use Rattle.cut_ledger.specs.World.{HasTrueResult, IsRight, IsTrueSlip, TellAlike, World, accepted_after}
 pub use Rattle.cut_ledger.specs.World.{begun, bytes_after, pieces_of_slips, run, step, times_in}
 pub use Rattle.cut_ledger.specs.declared.event.Event.{Event}
-pub use Rattle.cut_ledger.specs.declared.kept.Kept.{Kept}
-pub use Rattle.cut_ledger.specs.declared.ranges.Range.{Range}
 pub use Rattle.cut_ledger.specs.declared.slip.Slip.{Slip}
 pub use Rattle.cut_lines.specs.Lines.{header, line_of, line_with}
 pub use Rattle.cut_plan.specs.Cells.{cells_of, trial_count}

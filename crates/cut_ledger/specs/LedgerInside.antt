@@ -4,7 +4,7 @@ use Rattle.cut_ledger.specs.Account.{Account}
 use Rattle.cut_ledger.specs.Kept.{AreKept, account_in}
 
 abbrev pub account_of : Inside → Account
-account_of l = account_in l.plan l.base l.cells.items
+account_of l = account_in l.plan l.base l.kept.trials
 
 abbrev pub IsKeeping : Inside → Type 0
-IsKeeping l = AreKept l.plan l.base l.cells.items
+IsKeeping l = AreKept l.plan l.base l.kept.trials l.kept.sums.items

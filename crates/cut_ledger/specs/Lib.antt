@@ -4,8 +4,6 @@ pub mod Slips
 pub mod Refusals
 pub mod FaultCode
 pub mod Account
-pub mod Ranges
-pub mod RangesInside
 pub mod Machine
 pub mod World
 pub mod Kept

@@ -1,49 +1,69 @@
-ghost use Rattle.std.specs.Prelude.{◌≡◌, ◌+◌, ◌<◌, ◌≤◌, ◌^◌, false, [], OnOk, OnErr, IsOk, IsTrue};
+ghost use Rattle.std.specs.Prelude.{◌≡◌, ◌+◌, ◌*◌, ◌/◌, ◌≤◌, ◌↔◌, false, List, [], length, IfOk, OnOk, OnErr, IsOk, IsTrue};
 ghost use Rattle.std.specs.List.{list_any};
-ghost use Rattle.cut_trial.specs.Sum.{each_number, trials_in, IsAtMost};
-ghost use Rattle.cut_ledger.specs.Kept.{IsAdded};
-ghost use Rattle.cut_ledger.specs.Ranges.{is_held};
+ghost use Rattle.cut_plan.specs.Cells.{trial_count};
+ghost use Rattle.cut_trial.specs.Sum.{is_piece, trials_in, IsAtMost};
+ghost use Rattle.cut_ledger.specs.declared.slip.Slip as slips;
+ghost use Rattle.cut_ledger.specs.Kept.{AreKept, AreOver, IsAdded};
+ghost use Rattle.cut_ledger.specs.Slips.{IsGood};
+ghost use Rattle.range_set.specs.Held.{has, has_room};
 
-use crate::ranges::Ranges;
-use cut_trial::{Piece, Totals};
+use crate::Slip;
+use crate::possible::is_possible;
+use crate::spans::span_of;
+use cut_plan::Plan;
+use cut_trial::{Piece, Totals, is_piece};
+use range_set::RangeSet;
 use std::alloc::{AllocError, Global};
 
-/// What is held of a cell: which trials, and the sums over them.
+/// Which trials of a plan are held, a section for each cell, and the sums over those of each cell.
 #[derive(Debug, Drop)]
 pub(crate) struct Kept {
-    pub trials: Ranges,
-    pub totals: Totals,
+    pub trials: RangeSet,
+    pub sums: Vec<Totals>,
 }
 
 impl Kept {
-    /// No trial of a cell whose trials are those from `low` up to `high`.
-    pub fn none(alloc: Global, low: u32, high: u32) -> Kept
-        requires { low < high }
-        ensures low { result.trials.low ≡ low }
-        ensures high { result.trials.high ≡ high }
-        ensures none { result.trials.ranges ≡ [] }
-        ensures zero { result.totals ≡ each_number (λ n. 0) }
+    /// No trial of a plan.
+    pub fn none(alloc: Global, plan: &Plan) -> Result<Kept, AllocError>
+        ensures { IfOk result (λ k. AreOver plan.now [] k.trials k.sums.items) }
     {
-        Kept {
-            trials: Ranges::new(alloc, low, high),
-            totals: Totals::ZERO,
-        }
+        let trials = RangeSet::new(alloc, plan.cells(), plan.repeats())?;
+        let sums = vec![in alloc; Totals::ZERO; plan.cells() as usize]?;
+        Ok(Kept { trials, sums })
+    }
+
+    /// Whether some trial of a piece is held.
+    pub fn overlaps(&self, piece: Piece) -> bool
+        requires { piece.first + piece.count ≤ length self.now.trials.held }
+        ensures { result ≡ list_any (has self.now.trials) (trials_in piece) }
+    {
+        self.trials.overlaps(span_of(piece))
     }
 
     /// Adds a piece, none of whose trials is held, with its sums.
-    pub fn add(&mut self, piece: Piece, totals: Totals) -> Result<(), AllocError>
-        requires some { 0 < piece.count }
-        requires low { self.old.trials.low ≤ piece.first }
-        requires high { piece.first + piece.count ≤ self.old.trials.high }
-        requires apart { list_any (is_held self.old.trials) (trials_in piece) ≡ false }
-        requires sums_fit { IsAtMost (2 ^ 43) self.old.totals }
-        requires totals_fit { IsAtMost (2 ^ 43) totals }
-        ensures ok { OnOk result (IsAdded self.old self.new piece totals) }
-        ensures room { IsTrue self.old.trials.room → IsOk result }
+    pub fn add(&mut self, plan: &Plan, piece: Piece, totals: Totals) -> Result<(), AllocError>
+        requires kept { (base : List slips.Slip) × AreKept plan.now base self.old.trials self.old.sums.items }
+        requires piece { IsTrue (is_piece plan.now piece) }
+        requires apart { list_any (has self.old.trials) (trials_in piece) ≡ false }
+        requires few { IsAtMost (2048 * piece.count) totals }
+        ensures ok { OnOk result (IsAdded self.old.trials self.new.trials self.old.sums.items self.new.sums.items
+            (piece.first / plan.now.repeats) piece totals) }
+        ensures room { IsTrue (has_room self.old.trials (piece.first / plan.now.repeats)) → IsOk result }
         ensures err { OnErr result (self.new ≡ self.old) }
     {
-        self.trials.put(piece)?;
-        self.totals = self.totals.plus(totals);
+        let cell = plan.cell_of(piece.first) as usize;
+        self.trials.insert(span_of(piece))?;
+        self.sums[cell] = self.sums[cell].plus(totals);
         Ok(())
+    }
+
+    /// Whether a slip is a good one after those whose trials are held. Its totals are few then.
+    pub fn is_good(&self, plan: &Plan, slip: &Slip) -> bool
+        requires { length self.now.trials.held ≡ trial_count plan.now }
+        ensures good { (earlier : List slips.Slip) → AreOver plan.now earlier self.now.trials self.now.sums.items
+            → (IsTrue result ↔ IsGood plan.now earlier slip.now) }
+        ensures few { IsTrue result → IsAtMost (2048 * slip.now.piece.count) slip.now.totals }
+    {
+        is_piece(plan, slip.piece) && !self.overlaps(slip.piece) && is_possible(plan, slip)
     }
 }

@@ -14,13 +14,16 @@ ghost use Rattle.cut_ledger.specs.World.{begun, run, HasTrueResult, IsRight, Tel
 
 use cut_plan::canonical_text_reads_back;
 use cut_trial::laws::pieces_have_possible_totals;
+use range_set::laws::spans_are_what_passes;
 
 /// The gaps, and the pieces of any size that they are cut into, have exactly the trials that are not held,
 /// each of them once.
 pub fn gaps_are_what_is_not_held()
     ensures gaps { GapsCover }
     ensures pieces { PiecesCover }
-{}
+{
+    spans_are_what_passes();
+}
 
 /// The pieces of any size that a ledger lacks can be added in their order: none of them meets one before it,
 /// and then every trial is held and every cell is done. What can be written then is the table over the slips
@@ -29,7 +32,9 @@ pub fn pieces_fill_a_ledger()
     ensures fill { PiecesFill }
     ensures done { CompleteIsDone }
     ensures table { FilledTellTheirTable }
-{}
+{
+    spans_are_what_passes();
+}
 
 /// Slips that are true, no trial of which is in two, are good ones to begin a ledger with, and the table over
 /// them is the table of the plan: so a study that is resumed from such slips, or from none, tells what a study

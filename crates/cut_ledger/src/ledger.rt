@@ -11,11 +11,13 @@ ghost use Rattle.cut_ledger.specs.Kept.{AreOver};
 ghost use Rattle.cut_ledger.specs.Refusals.{CanTake, refusal_of, fault_of_offer};
 ghost use Rattle.cut_ledger.specs.Slips.{AreGood, IsToldOf};
 
-use crate::cells::{add, empty_cells, is_good, meets};
 use crate::kept::Kept;
+use crate::spans::{pieces_at, span_of_cell};
 use crate::{Base, Division, OfferFault, Slip, SlipsFault};
 use cut_plan::Plan;
 use cut_trial::{Piece, PieceResult, Totals};
+use range_set::Span;
+use range_set::laws::spans_are_what_passes;
 use std::alloc::{AllocError, Global};
 use std::marker::Model;
 
@@ -25,7 +27,7 @@ use std::marker::Model;
 pub struct Ledger {
     plan: Plan,
     base: Base,
-    cells: Vec<Kept>,
+    kept: Kept,
 }
 
 impl Model for Ledger {
@@ -45,9 +47,9 @@ impl Ledger {
     pub fn fresh(alloc: Global, plan: Plan) -> Result<Ledger, AllocError>
         ensures { IfOk result (λ l. l.contents ≡ over_base plan []) }
     {
-        let cells = empty_cells(alloc, &plan)?;
+        let kept = Kept::none(alloc, &plan)?;
         let base = Base::from_vec(Vec::new(alloc));
-        Ok(Ledger { plan, base, cells })
+        Ok(Ledger { plan, base, kept })
     }
 
     /// A ledger that holds the trials of slips, with the sums that they tell. It is refused by the number
@@ -58,10 +60,10 @@ impl Ledger {
         ensures good { OnOk result (AreGood plan slips.now) }
         ensures err { IfErr result (λ e. IsToldOf plan slips.now e) }
     {
-        let mut cells = empty_cells(alloc, &plan)?;
-        add_slips(&mut cells, &plan, slips)?;
+        let mut kept = Kept::none(alloc, &plan)?;
+        add_slips(&mut kept, &plan, slips)?;
         let base = Base::from_vec(Vec::from_slice(alloc, slips)?);
-        Ok(Ledger { plan, base, cells })
+        Ok(Ledger { plan, base, kept })
     }
 
     /// The plan of the study.
@@ -91,12 +93,7 @@ impl Ledger {
         requires { trial < trial_count self.now.contents.plan }
         ensures { result ≡ has self.now.contents trial }
     {
-        let cell = self.plan.cell_of(trial);
-        let one = Piece {
-            first: trial,
-            count: 1,
-        };
-        self.cells[cell as usize].trials.meets(one)
+        self.kept.trials.contains(trial)
     }
 
     /// Whether every trial of a cell is held.
@@ -104,7 +101,7 @@ impl Ledger {
         requires { cell < length (cells_of self.now.contents.plan) }
         ensures { result ≡ cell_done self.now.contents cell }
     {
-        self.cells[cell as usize].trials.is_full()
+        self.kept.trials.covers(span_of_cell(&self.plan, cell))
     }
 
     /// The sums of a cell: what the base says of its slips, and the outcome of each other held trial,
@@ -114,19 +111,18 @@ impl Ledger {
         ensures value { result ≡ cell_sum self.now.contents cell }
         ensures few { result.conflicts < 2 ^ 32 }
     {
-        self.cells[cell as usize].totals
+        self.kept.sums[cell as usize]
     }
 
     /// Whether every trial is held.
     pub fn complete(&self) -> bool
         ensures { result ≡ is_complete self.now.contents }
     {
-        for cell in 0..self.plan.cells() {
-            if !self.cell_done(cell) {
-                return false;
-            }
-        }
-        true
+        let all = Span {
+            first: 0,
+            count: self.plan.trials(),
+        };
+        self.kept.trials.covers(all)
     }
 
     /// The gaps: the greatest runs of trials that are not held, ascending, none over two cells. Each is a
@@ -137,11 +133,13 @@ impl Ledger {
             (λ gaps. All (λ p. IsTrue (is_piece self.now.contents.plan p)) gaps.items) }
         ensures plan { IsPlan self.now.contents.plan }
     {
+        spans_are_what_passes();
         let mut gaps = Vec::new(alloc);
-        for cell in &self.cells {
-            cell.trials.gaps_into(&mut gaps)?;
+        for cell in 0..self.plan.cells() {
+            let span = span_of_cell(&self.plan, cell);
+            self.kept.trials.gaps_into(span, &mut gaps)?;
         }
-        Ok(gaps)
+        pieces_at(alloc, &gaps)
     }
 
     /// The gaps in order, each cut from its front into pieces of this size, its last one shorter where
@@ -152,6 +150,7 @@ impl Ledger {
         ensures pieces { IfOk result
             (λ pieces. All (λ p. IsTrue (is_piece self.now.contents.plan p)) pieces.items) }
     {
+        spans_are_what_passes();
         let gaps = self.gaps(alloc)?;
         let mut pieces = Vec::new(alloc);
         for gap in &gaps {
@@ -167,6 +166,7 @@ impl Ledger {
         ensures value { IfOk result (λ pieces. pieces ≡ pieces_of self.now.contents size) }
         ensures pieces { IfOk result (λ pieces. All (λ p. IsTrue (is_piece self.now.contents.plan p)) pieces) }
     {
+        spans_are_what_passes();
         let gaps = self.gaps(alloc)?;
         Division::of_gaps(alloc, &gaps, size)
     }
@@ -176,7 +176,7 @@ impl Ledger {
         requires { cell < length (cells_of self.now.contents.plan) }
         ensures { result ≡ has_room self.now cell }
     {
-        self.cells[cell as usize].trials.has_room()
+        self.kept.trials.has_room(cell)
     }
 
     /// Makes room for a piece of a cell. Fails only for want of memory.
@@ -186,7 +186,7 @@ impl Ledger {
         ensures room { OnOk result (IsTrue (has_room self.new cell)) }
         ensures err { OnErr result (self.new ≡ self.old) }
     {
-        self.cells[cell as usize].trials.reserve()
+        self.kept.trials.reserve(cell)
     }
 
     /// Why a result is not taken, if it is not: it is of another plan, or else a trial of it is held.
@@ -197,7 +197,7 @@ impl Ledger {
         if !self.plan.same(offered.plan()) {
             return Some(OfferFault::Stranger);
         }
-        if meets(&self.cells, &self.plan, offered.piece()) {
+        if self.kept.overlaps(offered.piece()) {
             return Some(OfferFault::Overlap);
         }
         None
@@ -214,12 +214,7 @@ impl Ledger {
             IsOk result }
         ensures err { OnErr result (self.new ≡ self.old) }
     {
-        add(
-            &mut self.cells,
-            &self.plan,
-            offered.piece(),
-            offered.totals(),
-        )
+        self.kept.add(&self.plan, offered.piece(), offered.totals())
     }
 
     /// Takes a result, or refuses it.
@@ -242,17 +237,17 @@ impl Ledger {
 }
 
 /// Adds slips, each after those before it, up to the first that is not good.
-fn add_slips(cells: &mut [Kept], plan: &Plan, slips: &[Slip]) -> Result<(), SlipsFault>
-    requires { AreOver plan.now [] cells.old }
-    ensures ok { OnOk result (AreOver plan.now slips.now cells.new) }
+fn add_slips(kept: &mut Kept, plan: &Plan, slips: &[Slip]) -> Result<(), SlipsFault>
+    requires { AreOver plan.now [] kept.old.trials kept.old.sums.items }
+    ensures ok { OnOk result (AreOver plan.now slips.now kept.new.trials kept.new.sums.items) }
     ensures good { OnOk result (AreGood plan.now slips.now) }
     ensures err { IfErr result (λ e. IsToldOf plan.now slips.now e) }
 {
     for (i, slip) in slips.iter().enumerate() {
-        if !is_good(cells, plan, slip) {
+        if !kept.is_good(plan, slip) {
             return Err(SlipsFault::BadSlip(i as u64 + 1));
         }
-        add(cells, plan, slip.piece, slip.totals)?;
+        kept.add(plan, slip.piece, slip.totals)?;
     }
     Ok(())
 }

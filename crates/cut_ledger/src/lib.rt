@@ -8,17 +8,17 @@
 mod available;
 mod base;
 mod bytes;
-mod cells;
 mod division;
 mod event;
 mod kept;
 pub mod laws;
 mod ledger;
 mod offer_fault;
-mod ranges;
+mod possible;
 mod run;
 mod slip;
 mod slips_fault;
+mod spans;
 
 pub use base::Base;
 pub use bytes::Bytes;

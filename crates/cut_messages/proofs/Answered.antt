@@ -4,7 +4,8 @@ use Rattle.std.specs.Bool.{⊤}
 use Rattle.std.specs.List.{AllByRecursion}
 use Rattle.std.proofs.lemmas.List.Concat.{flat_map-append}
 use Rattle.std.proofs.Math.Seq.{take-suc}
-use Rattle.cut_table.specs.Traffic.{Traffic, wrote}
+use Rattle.cut_wires.specs.Log.{Log, wrote, write_failed}
+use Rattle.cut_wires.proofs.Logs.{wrote_none, wrote_more}
 use Rattle.cut_messages.specs.declared.message.Message.{Message}
 use Rattle.cut_messages.specs.declared.ask_fault.AskFault.{AskFault}
 use Rattle.cut_messages.specs.declared.ask_fault.AskFault.TheVariants as ask
@@ -14,24 +15,22 @@ use Rattle.cut_messages.specs.Asking.{GoesOn, line_of, lines_of, Stop, IsCutOff,
 use Rattle.cut_messages.specs.Reading.{Reading, HasRead}
 use Rattle.cut_messages.specs.Listening.{Steps}
 use Rattle.cut_messages.proofs.Streams.{both}
-use Rattle.cut_messages.proofs.Written.{wrote_none, wrote_on}
 
 -- a reply alone
 abbrev pub alone : (m : Message) → Stop (m ∷ [])
 alone m = record { before = []; here = m; after = []; parts = refl; passed = tt }
 
-pub line_cut : (payload line : List ℕ) (n : ℕ) (old new : Traffic) → line ≡ payload → n < length line
-    → new ≡ wrote old (take n line) → IsCutOff payload (wrote old []) new
+pub line_cut : (payload line : List ℕ) (n : ℕ) (old new : Log) → line ≡ payload → n < length line
+    → new ≡ write_failed (wrote old (take n line)) → IsCutOff payload (wrote old []) new
 line_cut payload line n old new same low is = (
   n,
   omega (arith, low, ap (λ (l : List ℕ). length l) same),
-  is ∙ ap (λ (l : List ℕ). wrote old (take n l)) same
-      ∙ ap (λ (t : Traffic). wrote t (take n payload)) (wrote_none old),
+  cc (wrote_none old),
 )
 
-lines_both : (o p q : Traffic) (xs ys : List Message) → p ≡ wrote o (lines_of xs) → q ≡ wrote p (lines_of ys)
+lines_both : (o p q : Log) (xs ys : List Message) → p ≡ wrote o (lines_of xs) → q ≡ wrote p (lines_of ys)
     → q ≡ wrote o (lines_of (xs ++ ys))
-lines_both o p q xs ys first second = wrote_on o p q (lines_of xs) (lines_of ys) first second
+lines_both o p q xs ys first second = wrote_more o p q (lines_of xs) (lines_of ys) first second
     ∙ ap (λ (l : List ℕ). wrote o l) (sym (flat_map-append line_of xs ys))
 
 abbrev stop_behind : (xs ys : List Message) → AllByRecursion GoesOn xs → (s : Stop ys) → Stop (xs ++ ys)
@@ -53,7 +52,7 @@ stop_before xs ys s = record {
 }
 
 -- replies behind others that are passed over
-pub passes_then : (xs ys : List Message) (r : Result Progress AskFault) (o p q : Traffic)
+pub passes_then : (xs ys : List Message) (r : Result Progress AskFault) (o p q : Log)
     → Passes xs (Ok More) o p → Passes ys r p q → Passes (xs ++ ys) r o q
 passes_then xs ys (Ok More) o p q first second =
     (both GoesOn xs ys first.0 second.0, lines_both o p q xs ys first.1 second.1)
@@ -67,11 +66,10 @@ passes_then xs ys (Err (ask.Told n)) o p q first second = (
 )
 passes_then xs ys (Err ask.Output) o p q first second =
     let cut = second.2 in
-    let before : wrote p (lines_of second.0.before) ≡ wrote o (lines_of (xs ++ second.0.before)) =
-    lines_both o p (wrote p (lines_of second.0.before)) xs second.0.before first.1 refl in (
+    let before = lines_both o p (wrote p (lines_of second.0.before)) xs second.0.before first.1 refl in (
       stop_behind xs ys first.0 second.0,
       second.1,
-      (cut.0, cut.1, cut.2 ∙ ap (λ (t : Traffic). wrote t (take cut.0 second.0.here.payload)) before),
+      (cut.0, cut.1, cc (cut.2, before)),
     )
 passes_then xs ys (Err fault) o p q first second = absurd second
 
@@ -81,7 +79,7 @@ IsStop (Ok More) = ⊥
 IsStop result = ⊤
 
 -- what comes behind a stop changes nothing
-pub passes_on : (xs ys : List Message) (r : Result Progress AskFault) (o p : Traffic) → IsStop r
+pub passes_on : (xs ys : List Message) (r : Result Progress AskFault) (o p : Log) → IsStop r
     → Passes xs r o p → Passes (xs ++ ys) r o p
 passes_on xs ys (Ok More) o p stop passes = absurd stop
 passes_on xs ys (Ok Done) o p stop passes = (stop_before xs ys passes.0, passes.1, passes.2)
@@ -96,18 +94,19 @@ take_next ms i m low is =
     ap (λ (x : Message). take i ms ++ x ∷ []) is ∙ sym (take-suc ms i m low)
     ∙ ap (λ (k : ℕ). take k ms) (sym (add-one i))
 
-pub passes_stop : (ms : List Message) (i : ℕ) (m : Message) (r : Result Progress AskFault) (o p q : Traffic)
-    → i < length ms → m ≡ get_or ms i m → IsStop r → Passes (take i ms) (Ok More) o p
-    → Passes (m ∷ []) r p q → Passes ms r o q
-passes_stop ms i m r o p q low is stop first second =
+pub passes_stop : (ms : List Message) (i : ℕ) (m : Message) (x r : Result Progress AskFault) (o p q : Log)
+    → i < length ms → m ≡ get_or ms i m → x ≡ r → IsStop r → Passes (take i ms) (Ok More) o p
+    → Passes (m ∷ []) x p q → Passes ms r o q
+passes_stop ms i m x r o p q low is same stop first second =
     subst (λ (l : List Message). Passes l r o q)
     (ap (λ (l : List Message). l ++ drop (i + 1) ms) (take_next ms i m low is) ∙ take-append-drop (i + 1) ms)
     (passes_on (take i ms ++ m ∷ []) (drop (i + 1) ms) r o q stop
-    (passes_then (take i ms) (m ∷ []) r o p q first second))
+    (passes_then (take i ms) (m ∷ []) r o p q first
+    (subst (λ (y : Result Progress AskFault). Passes (m ∷ []) y p q) same second)))
 
 -- a piece whose replies end the asking
 pub stops : (fault : AskFault) (old new : Reading) (stream piece : List ℕ) (messages more : List Message)
-    (o p : Traffic) → HasRead new (stream ++ piece) (messages ++ more) → Passes more (Err fault) o p
+    (o p : Log) → HasRead new (stream ++ piece) (messages ++ more) → Passes more (Err fault) o p
     → Steps (Err fault) old new stream piece messages o p
 stops (ask.Told n) old new stream piece messages more o p read passes =
     record { more = more; read = read; passes = passes }

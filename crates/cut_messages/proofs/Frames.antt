@@ -1,5 +1,5 @@
 -- Frames at the front of some bytes.
-use Rattle.std.proofs.Common.{◌≡◌, ◌∙◌, ◌+◌, ◌≤◌, ◌++◌, ℕ, Bool, true, false, List, [], ◌∷◌, length, take, drop, nat_lt, Option, Some, None, refl, ap, arith, append_assoc, length-append}
+use Rattle.std.proofs.Common.{◌≡◌, ◌∙◌, ◌+◌, ◌≤◌, ◌++◌, ℕ, true, false, List, [], ◌∷◌, length, take, drop, nat_lt, Option, Some, None, refl, ap, arith, append_assoc, length-append}
 use Rattle.std.specs.Int.{w32, to_be_bytes, from_be_bytes}
 use Rattle.std.proofs.lemmas.Bool.Decides.{nat_tests}
 use Rattle.std.proofs.lemmas.Nat.{from_be_bytes-to_be_bytes_4}
@@ -45,8 +45,7 @@ pub frame_right : (side : Side) (m : Message) (tail : List ℕ) → IsMessage si
 frame_right side m tail is =
     let rest : List ℕ = (to_be_bytes w32 (length m.payload) ++ m.payload) ++ tail in
     let long : length rest ≡ 4 + length (m.payload ++ tail) =
-    ap (λ (l : List ℕ). length l) (append_assoc (to_be_bytes w32 (length m.payload)) m.payload tail)
-    ∙ length-append (to_be_bytes w32 (length m.payload)) (m.payload ++ tail) in
+    cc (append_assoc (to_be_bytes w32 (length m.payload)) m.payload tail, length-append (to_be_bytes w32 (length m.payload)) (m.payload ++ tail)) in
     let told : from_be_bytes w32 (take 4 rest) ≡ length m.payload = length_told m.payload tail is.short in
     ap (λ (k : Option Kind). fault_behind side k rest) is.kind
     ∙ rw (less_no (length rest) 4 (omega (arith, long)), told)
@@ -59,25 +58,15 @@ no_message side bytes fault wrong m tail is stands =
 
 -- ---- a fault stays
 
-behind_more : (side : Side) (kind : Kind) (rest more : List ℕ) (fault : StreamFault) (b : Bool)
-    → nat_lt (length rest) 4 ≡ b → fault_behind side (Some kind) rest ≡ Some fault
-    → fault_behind side (Some kind) (rest ++ more) ≡ Some fault
-behind_more side kind rest more fault true short wrong =
-    let right : fault_behind side (Some kind) rest ≡ None = rw short refl in cc
-behind_more side kind rest more fault false long wrong =
-    let enough : 4 ≤ length rest = grind (arith, nat_tests) in
-    let more_long : nat_lt (length (rest ++ more)) 4 ≡ false =
-    less_no (length (rest ++ more)) 4 (omega (arith, enough, length-append rest more)) in
-    let same : take 4 (rest ++ more) ≡ take 4 rest = take-append-le 4 rest more enough in
-    rw (more_long, same) (rw long at wrong)
-
-kind_more : (side : Side) (kind : Option Kind) (rest more : List ℕ) (fault : StreamFault)
+behind_more : (side : Side) (kind : Option Kind) (rest more : List ℕ) (fault : StreamFault)
     → fault_behind side kind rest ≡ Some fault → fault_behind side kind (rest ++ more) ≡ Some fault
-kind_more side None rest more fault wrong = wrong
-kind_more side (Some kind) rest more fault wrong =
-    behind_more side kind rest more fault (nat_lt (length rest) 4) refl wrong
+behind_more side None rest more fault wrong = wrong
+behind_more side (Some kind) rest more fault wrong =
+    let enough : 4 ≤ length rest = grind (arith, nat_tests) in
+    rw (less_no (length (rest ++ more)) 4 (omega (arith, enough, length-append rest more)), take-append-le 4 rest more enough)
+    (rw (less_no (length rest) 4 enough) at wrong)
 
 pub fault_more : (side : Side) (bytes more : List ℕ) (fault : StreamFault) → fault_at side bytes ≡ Some fault
     → fault_at side (bytes ++ more) ≡ Some fault
 fault_more side [] more fault wrong = cc
-fault_more side (first ∷ rest) more fault wrong = kind_more side (kind_at side first) rest more fault wrong
+fault_more side (first ∷ rest) more fault wrong = behind_more side (kind_at side first) rest more fault wrong

@@ -1,9 +1,9 @@
 -- An answer that is heard read by read.
-use Rattle.std.proofs.Common.{◌≡◌, ◌∙◌, ◌+◌, ◌^◌, ◌<◌, ◌≤◌, ◌++◌, ℕ, Bool, false, List, [], length, take, nat_eq, Option, Some, None, Result, Ok, Err, refl, sym, ap, subst, arith, append_assoc, append-nil, length-append, length-take-le}
-use Rattle.std.specs.Prelude.{if◌then◌else◌}
+use Rattle.std.proofs.Common.{◌≡◌, ◌∙◌, ◌+◌, ◌^◌, ◌<◌, ◌≤◌, ◌++◌, ℕ, false, List, [], length, take, nat_eq, Option, Some, None, Result, Ok, Err, refl, sym, ap, subst, arith, append_assoc, append-nil, length-append, length-take-le}
+use Rattle.std.specs.Bool.{⊤}
 use Rattle.std.proofs.lemmas.Bool.Decides.{nat_tests}
-use Rattle.cut_faults.specs.Failures.{one_more}
-use Rattle.cut_table.specs.Traffic.{Traffic, gave, no_traffic, wrote}
+use Rattle.cut_wires.specs.Log.{Log, passing, with_taken, with_given, wrote, gave, read_failed}
+use Rattle.cut_wires.proofs.Logs.{passing_twice, passing_same}
 use Rattle.cut_messages.specs.declared.side.Side.{Side}
 use Rattle.cut_messages.specs.declared.side.Side.TheVariants.{Replies}
 use Rattle.cut_messages.specs.declared.message.Message.{Message}
@@ -14,12 +14,12 @@ use Rattle.cut_messages.specs.declared.replies.Progress.{Progress}
 use Rattle.cut_messages.specs.declared.replies.Progress.TheVariants.{More, Done}
 use Rattle.cut_messages.specs.Frames.{fault_at}
 use Rattle.cut_messages.specs.Reading.{Splits, Reading, HasRead}
-use Rattle.cut_messages.specs.Asking.{request, heard, Passes, Hears, Asks, AsksSomeone}
-use Rattle.cut_messages.specs.Listening.{IsOfReplies, Steps}
+use Rattle.cut_messages.specs.Asking.{request, asked, heard, ended, left_by, Passes, Concludes, IsUnread, Hears, Asks}
+use Rattle.cut_messages.specs.Listening.{Step, Steps}
 use Rattle.cut_messages.proofs.Answered.{passes_then}
 
 -- a client that listens: the request was sent, and the answer so far has no last reply and no fault
-pub record Listens (plan : List ℕ) (r : Reading) (reads : ℕ) (old now o p : Traffic) : Type 0 where
+pub record Listens (plan : List ℕ) (r : Reading) (reads : ℕ) (old now o p : Log) : Type 0 where
   pub stream : List ℕ
   pub messages : List Message
   pub read : HasRead r stream messages
@@ -29,32 +29,31 @@ pub record Listens (plan : List ℕ) (r : Reading) (reads : ℕ) (old now o p : 
   pub wire : now ≡ heard plan stream old
   pub passed : Passes messages (Ok More) o p
 
--- the same over some wire that tells what passes, over which nothing had passed
-pub record ListensSomewhere (plan : List ℕ) (r : Reading) (reads : ℕ) (o p : Traffic) : Type 0 where
-  pub now : Traffic
-  pub listens : Listens plan r reads no_traffic now o p
+-- ---- what passed over its wire
 
--- a wire that took the request, gave some bytes, and ended so often
-abbrev made : List ℕ → Traffic → List ℕ → ℕ → Traffic
-made plan old given ends = record { taken = old.taken ++ request plan; given = given; ends = ends }
+-- what a read gives comes after what was heard
+wire_on : (plan stream buffer : List ℕ) (n : ℕ) (old mid new : Log) → mid ≡ heard plan stream old
+    → new ≡ gave mid buffer n → 0 < n → new ≡ heard plan (stream ++ take n buffer) old
+wire_on plan stream buffer n old mid new before is some =
+    let some : nat_eq n 0 ≡ false = grind (arith, nat_tests) in
+    cc (passing_twice (λ t. with_given t buffer n) (asked plan stream) old, passing_same (λ t. with_given (asked plan stream t) buffer n) (asked plan (stream ++ take n buffer)) old (λ t. cc (append_assoc t.given stream (take n buffer))))
 
--- what a read gives stands behind what was heard
-wire_on : (plan stream piece buffer : List ℕ) (n : ℕ) (old mid new : Traffic) → mid ≡ heard plan stream old
-    → new ≡ gave mid buffer n → 0 < n → piece ≡ take n buffer
-    → new ≡ heard plan (stream ++ piece) old
-wire_on plan stream piece buffer n old mid new before is some same =
-    let not_zero : nat_eq n 0 ≡ false = grind (arith, nat_tests) in
-    is ∙ ap (λ (t : Traffic). gave t buffer n) before
-    ∙ ap (λ (b : Bool). made plan old ((old.given ++ stream) ++ take n buffer)
-    (if b then one_more old.ends else old.ends)) not_zero
-    ∙ ap (λ (l : List ℕ). made plan old l old.ends)
-    (append_assoc old.given stream (take n buffer)
-    ∙ ap (λ (l : List ℕ). old.given ++ (stream ++ l)) (sym same))
-
-wire_still : (plan stream : List ℕ) (old new : Traffic) → new ≡ heard plan stream old
+wire_still : (plan stream : List ℕ) (old new : Log) → new ≡ heard plan stream old
     → new ≡ heard plan (stream ++ []) old
-wire_still plan stream old new is = is
-    ∙ ap (λ (l : List ℕ). heard plan l old) (sym (append-nil stream))
+wire_still plan stream old new is = cc (append-nil stream)
+
+-- or it is the end
+wire_ends : (plan stream buffer : List ℕ) (n : ℕ) (old mid new : Log) → mid ≡ heard plan stream old
+    → new ≡ gave mid buffer n → n ≡ 0 → new ≡ passing ended (heard plan (stream ++ []) old)
+wire_ends plan stream buffer n old mid new before is none =
+    cc (passing_same (λ t. with_given t buffer 0) ended mid (λ t. cc (append-nil t.given)), append-nil stream)
+
+-- a client that has sent its request
+pub begins : (plan : List ℕ) (old now : Log) → now ≡ wrote old (request plan) → now ≡ heard plan [] old
+begins plan old now is =
+    is ∙ passing_same (λ t. with_taken t (request plan)) (asked plan []) old (λ t. cc (append-nil t.given))
+
+-- ---- what was read
 
 splits_there : (r : Reading) (stream : List ℕ) (messages : List Message) → (read : HasRead r stream messages)
     → r.side ≡ Replies → Splits Replies stream messages read.rest
@@ -66,218 +65,109 @@ fault_there : (r : Reading) (stream : List ℕ) (messages : List Message) (fault
 fault_there r stream messages fault read side is =
     ap (λ (s : Side). fault_at s read.rest) (sym side) ∙ sym read.fault ∙ is
 
--- ---- another piece
+module _ {plan : List ℕ} {r : Reading} {reads : ℕ} {old now o p : Log} (l : Listens plan r reads old now o p) where
+  -- the asking ended with what was heard before the last read
+  still : (x : Result ⊤ AskFault) (last : List ℕ) (new : Log) → Concludes x l.stream l.messages l.read.rest o p
+      → IsUnread x last → new ≡ left_by x (heard plan (l.stream ++ last) old) → Hears plan x old new o p
+  still x last new ends unread wire = record {
+    stream = l.stream;
+    messages = l.messages;
+    rest = l.read.rest;
+    last = last;
+    splits = splits_there r l.stream l.messages l.read l.side;
+    ends = ends;
+    unread = unread;
+    wire = wire;
+  }
 
-pub listens_on : (plan buffer piece : List ℕ) (n : ℕ) (r next : Reading) (reads : ℕ)
-    (old now new o p q : Traffic) → (l : Listens plan r reads old now o p) → new ≡ gave now buffer n
-    → 0 < n → n ≤ length buffer → piece ≡ take n buffer → next.side ≡ r.side
-    → Steps (Ok More) r next l.stream piece l.messages p q → Listens plan next (reads + 1) old new o q
-listens_on plan buffer piece n r next reads old now new o p q l is some within same side step =
-    let size : length piece ≡ n = ap (λ (x : List ℕ). length x) same ∙ length-take-le n buffer within in
-    record {
-      stream = l.stream ++ piece;
-      messages = l.messages ++ step.0.more;
-      read = step.0.read;
-      right = step.1;
-      side = side ∙ l.side;
-      long = omega (arith, l.long, some, size, length-append l.stream piece);
-      wire = wire_on plan l.stream piece buffer n old now new l.wire is some same;
-      passed = passes_then l.messages step.0.more (Ok More) o p q l.passed step.0.passes;
-    }
+  -- a client that listens has the lines of what it heard, and no fault stands after it
+  so_far : Passes l.messages (Ok More) o p × (fault_at Replies l.read.rest ≡ None)
+  so_far = (l.passed, fault_there r l.stream l.messages None l.read l.side l.right)
 
-pub done : (plan buffer piece : List ℕ) (n : ℕ) (r next : Reading) (reads : ℕ)
-    (old now new o p q : Traffic) → (l : Listens plan r reads old now o p) → new ≡ gave now buffer n
-    → 0 < n → piece ≡ take n buffer → next.side ≡ r.side
-    → Steps (Ok Done) r next l.stream piece l.messages p q → Hears plan (Ok tt) old new o q
-done plan buffer piece n r next reads old now new o p q l is some same side step = record {
-  stream = l.stream ++ piece;
-  messages = l.messages ++ step.more;
-  rest = step.read.rest;
-  last = [];
-  splits = splits_there next (l.stream ++ piece) (l.messages ++ step.more) step.read (side ∙ l.side);
-  ends = passes_then l.messages step.more (Ok Done) o p q l.passed step.passes;
-  unread = refl;
-  wire = wire_still plan (l.stream ++ piece) old new
-      (wire_on plan l.stream piece buffer n old now new l.wire is some same);
-}
+  pub unread : (new : Log) → new ≡ read_failed now → Hears plan (Err ask.Read) old new o p
+  unread new is = still (Err ask.Read) [] new so_far refl (is ∙ ap read_failed (wire_still plan l.stream old now l.wire))
 
-pub failed : (plan buffer piece : List ℕ) (n : ℕ) (r next : Reading) (reads : ℕ) (fault : AskFault)
-    (old now new o p q : Traffic) → (l : Listens plan r reads old now o p) → new ≡ gave now buffer n
-    → 0 < n → piece ≡ take n buffer → length piece ≤ 4096 → next.side ≡ r.side
-    → IsOfReplies fault → Steps (Err fault) r next l.stream piece l.messages p q
-    → Asks plan (Err fault) old new o q
-failed plan buffer piece n r next reads (ask.Told k) old now new o p q l is some same short side of step = record {
-  stream = l.stream ++ piece;
-  messages = l.messages ++ step.more;
-  rest = step.read.rest;
-  last = [];
-  splits = splits_there next (l.stream ++ piece) (l.messages ++ step.more) step.read (side ∙ l.side);
-  ends = passes_then l.messages step.more (Err (ask.Told k)) o p q l.passed step.passes;
-  unread = refl;
-  wire = wire_still plan (l.stream ++ piece) old new
-      (wire_on plan l.stream piece buffer n old now new l.wire is some same);
-}
-failed plan buffer piece n r next reads ask.Output old now new o p q l is some same short side of step = record {
-  stream = l.stream ++ piece;
-  messages = l.messages ++ step.more;
-  rest = step.read.rest;
-  last = [];
-  splits = splits_there next (l.stream ++ piece) (l.messages ++ step.more) step.read (side ∙ l.side);
-  ends = passes_then l.messages step.more (Err ask.Output) o p q l.passed step.passes;
-  unread = refl;
-  wire = wire_still plan (l.stream ++ piece) old new
-      (wire_on plan l.stream piece buffer n old now new l.wire is some same);
-}
-failed plan buffer piece n r next reads (ask.Stream f) old now new o p q l is some same short side of step = record {
-  stream = l.stream ++ piece;
-  messages = l.messages ++ step.0.more;
-  rest = step.0.read.rest;
-  last = [];
-  splits = splits_there next (l.stream ++ piece) (l.messages ++ step.0.more) step.0.read (side ∙ l.side);
-  ends = (
-    passes_then l.messages step.0.more (Ok More) o p q l.passed step.0.passes,
-    fault_there next (l.stream ++ piece) (l.messages ++ step.0.more) (Some f) step.0.read (side ∙ l.side) step.1,
-  );
-  unread = refl;
-  wire = wire_still plan (l.stream ++ piece) old new
-      (wire_on plan l.stream piece buffer n old now new l.wire is some same);
-}
-failed plan buffer piece n r next reads ask.Memory old now new o p q l is some same short side of step = record {
-  stream = l.stream;
-  messages = l.messages;
-  rest = l.read.rest;
-  last = piece;
-  splits = splits_there r l.stream l.messages l.read l.side;
-  ends = subst (λ (t : Traffic). Passes l.messages (Ok More) o t) (sym step.1) l.passed;
-  unread = short;
-  wire = wire_on plan l.stream piece buffer n old now new l.wire is some same;
-}
-failed plan buffer piece n r next reads fault old now new o p q l is some same short side of step = absurd of
+  pub truncated : (buffer : List ℕ) (n : ℕ) (new : Log) → new ≡ gave now buffer n → n ≡ 0
+      → Hears plan (Err ask.Truncated) old new o p
+  truncated buffer n new is none =
+      still (Err ask.Truncated) [] new so_far refl (wire_ends plan l.stream buffer n old now new l.wire is none)
 
--- ---- by the result of a piece
+  pub endless : 2 ^ 32 ≤ reads → Hears plan (Err ask.Endless) old now o p
+  endless many =
+      still (Err ask.Endless) [] now (so_far.0, so_far.1, omega (arith, l.long, many)) refl
+      (wire_still plan l.stream old now l.wire)
 
-same_steps : (x y : Result Progress AskFault) (r next : Reading) (stream piece : List ℕ) (messages : List Message)
-    (p q : Traffic) → x ≡ y → Steps x r next stream piece messages p q → Steps y r next stream piece messages p q
-same_steps x y r next stream piece messages p q same steps =
-    subst (λ (z : Result Progress AskFault). Steps z r next stream piece messages p q) same steps
+-- ---- a read, and what was made of the bytes that it gave
 
--- a read, and what was made of the bytes that it gave
-pub record Takes (buffer : List ℕ) (n : ℕ) (result : Result Progress AskFault) (r next : Reading)
-    (stream : List ℕ) (messages : List Message) (now new p q : Traffic) : Type 0 where
-  pub gives : new ≡ gave now buffer n
-  pub some : 0 < n
-  pub within : n ≤ length buffer
-  pub side : next.side ≡ r.side
-  pub steps : Steps result r next stream (take n buffer) messages p q
+module _ {plan : List ℕ} {r : Reading} {reads : ℕ} {old now o p : Log} (l : Listens plan r reads old now o p)
+    (buffer : List ℕ) (n : ℕ) (x : Result Progress AskFault) (next : Reading) (new q : Log)
+    (gives : new ≡ gave now buffer n) (some : 0 < n) (within : n ≤ length buffer) (side : next.side ≡ r.side)
+    (steps : Steps x r next l.stream (take n buffer) l.messages p q) where
+  -- by what the result is
+  steps_at : (y : Result Progress AskFault) → x ≡ y → Steps y r next l.stream (take n buffer) l.messages p q
+  steps_at y is =
+      subst (λ (z : Result Progress AskFault). Steps z r next l.stream (take n buffer) l.messages p q) is steps
 
-pub goes_on : (plan buffer : List ℕ) (n : ℕ) (x : Result Progress AskFault) (r next : Reading) (reads : ℕ)
-    (old now new o p q : Traffic) → (l : Listens plan r reads old now o p) → x ≡ Ok More
-    → Takes buffer n x r next l.stream l.messages now new p q → Listens plan next (reads + 1) old new o q
-goes_on plan buffer n x r next reads old now new o p q l is t =
-    listens_on plan buffer (take n buffer) n r next reads old now new o p q l t.gives t.some t.within refl t.side
-    (same_steps x (Ok More) r next l.stream (take n buffer) l.messages p q is t.steps)
-
-pub is_done : (plan buffer : List ℕ) (n : ℕ) (x : Result Progress AskFault) (r next : Reading) (reads : ℕ)
-    (old now new o p q : Traffic) → (l : Listens plan r reads old now o p) → x ≡ Ok Done
-    → Takes buffer n x r next l.stream l.messages now new p q → Hears plan (Ok tt) old new o q
-is_done plan buffer n x r next reads old now new o p q l is t =
-    done plan buffer (take n buffer) n r next reads old now new o p q l t.gives t.some refl t.side
-    (same_steps x (Ok Done) r next l.stream (take n buffer) l.messages p q is t.steps)
-
-pub has_failed : (plan buffer : List ℕ) (n : ℕ) (x : Result Progress AskFault) (fault : AskFault)
-    (r next : Reading) (reads : ℕ) (old now new o p q : Traffic) → (l : Listens plan r reads old now o p)
-    → x ≡ Err fault → IsOfReplies fault → length buffer ≤ 4096
-    → Takes buffer n x r next l.stream l.messages now new p q → Asks plan (Err fault) old new o q
-has_failed plan buffer n x fault r next reads old now new o p q l is of short t =
-    let size = length-take-le n buffer t.within in
-    failed plan buffer (take n buffer) n r next reads fault old now new o p q l t.gives t.some refl
-    (omega (arith, size, short, t.within)) t.side of
-    (same_steps x (Err fault) r next l.stream (take n buffer) l.messages p q is t.steps)
-
--- ---- where no more comes
-
--- a client that listens has the lines of what it heard
-pub unread : (plan : List ℕ) (r : Reading) (reads : ℕ) (old now o p : Traffic) → Listens plan r reads old now o p
-    → Hears plan (Err ask.Read) old now o p
-unread plan r reads old now o p l = record {
-  stream = l.stream;
-  messages = l.messages;
-  rest = l.read.rest;
-  last = [];
-  splits = splits_there r l.stream l.messages l.read l.side;
-  ends = (l.passed, fault_there r l.stream l.messages None l.read l.side l.right);
-  unread = refl;
-  wire = wire_still plan l.stream old now l.wire;
-}
-
-pub ended : (plan : List ℕ) (r : Reading) (reads : ℕ) (buffer : List ℕ) (n : ℕ) (old now new o p : Traffic) → Listens plan r reads old now o p
-    → new ≡ gave now buffer n → n ≡ 0 → Hears plan (Err ask.Truncated) old new o p
-ended plan r reads buffer n old now new o p l is none = record {
-  stream = l.stream;
-  messages = l.messages;
-  rest = l.read.rest;
-  last = [];
-  splits = splits_there r l.stream l.messages l.read l.side;
-  ends = (l.passed, fault_there r l.stream l.messages None l.read l.side l.right);
-  unread = refl;
-  wire = is ∙ ap (λ (k : ℕ). gave now buffer k) none
-      ∙ ap (λ (t : Traffic). gave t buffer 0) (wire_still plan l.stream old now l.wire)
-      ∙ ap (λ (g : List ℕ). record (heard plan (l.stream ++ []) old) { given = g; ends = one_more old.ends })
-      (append-nil (old.given ++ (l.stream ++ [])));
-}
-
-pub truncated : (plan : List ℕ) (r : Reading) (reads : ℕ) (old now o p : Traffic) → Listens plan r reads old now o p
-    → AsksSomeone plan (Err ask.Truncated) o p
-truncated plan r reads old now o p l =
-    let ended : Traffic = record (heard plan (l.stream ++ []) old) { ends = one_more old.ends } in (
-      old,
-      ended,
+  pub goes_on : x ≡ Ok More → Listens plan next (reads + 1) old new o q
+  goes_on is =
+      let s = steps_at (Ok More) is in
       record {
-        stream = l.stream;
-        messages = l.messages;
-        rest = l.read.rest;
-        last = [];
-        splits = splits_there r l.stream l.messages l.read l.side;
-        ends = (l.passed, fault_there r l.stream l.messages None l.read l.side l.right);
-        unread = refl;
-        wire = refl;
-      },
-    )
+        stream = l.stream ++ take n buffer;
+        messages = l.messages ++ s.0.more;
+        read = s.0.read;
+        right = s.1;
+        side = side ∙ l.side;
+        long = omega (arith, l.long, some, length-take-le n buffer within, length-append l.stream (take n buffer));
+        wire = wire_on plan l.stream buffer n old now new l.wire gives some;
+        passed = passes_then l.messages s.0.more (Ok More) o p q l.passed s.0.passes;
+      }
 
-pub endless : (plan : List ℕ) (r : Reading) (reads : ℕ) (old now o p : Traffic) → Listens plan r reads old now o p
-    → 2 ^ 32 ≤ reads → Hears plan (Err ask.Endless) old now o p
-endless plan r reads old now o p l many = record {
-  stream = l.stream;
-  messages = l.messages;
-  rest = l.read.rest;
-  last = [];
-  splits = splits_there r l.stream l.messages l.read l.side;
-  ends = (
-    l.passed,
-    fault_there r l.stream l.messages None l.read l.side l.right,
-    omega (arith, l.long, many),
-  );
-  unread = refl;
-  wire = wire_still plan l.stream old now l.wire;
-}
+  -- the asking ended with the replies of that piece
+  ends_with : (y : Result ⊤ AskFault) (z : Result Progress AskFault)
+      → (s : Step next l.stream (take n buffer) l.messages z p q)
+      → Concludes y (l.stream ++ take n buffer) (l.messages ++ s.more) s.read.rest o q → IsUnread y []
+      → left_by y (heard plan ((l.stream ++ take n buffer) ++ []) old) ≡ heard plan ((l.stream ++ take n buffer) ++ []) old
+      → Hears plan y old new o q
+  ends_with y z s ends none left = record {
+    stream = l.stream ++ take n buffer;
+    messages = l.messages ++ s.more;
+    rest = s.read.rest;
+    last = [];
+    splits = splits_there next (l.stream ++ take n buffer) (l.messages ++ s.more) s.read (side ∙ l.side);
+    ends = ends;
+    unread = none;
+    wire = wire_still plan (l.stream ++ take n buffer) old new
+        (wire_on plan l.stream buffer n old now new l.wire gives some) ∙ sym left;
+  }
 
--- a request of which nothing was sent
-pub unsent : (plan : List ℕ) (o : Traffic) → AsksSomeone plan (Err ask.Request) o o
-unsent plan o = (no_traffic, wrote no_traffic [], ((0, omega arith, refl), refl))
+  -- what its replies make of the output
+  passes_all : (z : Result Progress AskFault) → (s : Step next l.stream (take n buffer) l.messages z p q)
+      → Passes (l.messages ++ s.more) z o q
+  passes_all z s = passes_then l.messages s.more z o p q l.passed s.passes
 
--- a client that has sent its request
-pub begins : (plan : List ℕ) (r : Reading) (o : Traffic) → HasRead r [] [] → r.fault ≡ None → r.side ≡ Replies
-    → ListensSomewhere plan r 0 o o
-begins plan r o read right side = record {
-  now = heard plan [] no_traffic;
-  listens = record {
-    stream = [];
-    messages = [];
-    read = read;
-    right = right;
-    side = side;
-    long = omega arith;
-    wire = refl;
-    passed = (tt, ap (λ (l : List ℕ). record o { taken = l }) (sym (append-nil o.taken)));
-  };
-}
+  pub is_done : x ≡ Ok Done → Hears plan (Ok tt) old new o q
+  is_done is =
+      let s = steps_at (Ok Done) is in ends_with (Ok tt) (Ok Done) s (passes_all (Ok Done) s) refl refl
+
+  pub has_failed : (fault : AskFault) → x ≡ Err fault → length buffer ≤ 4096 → length plan ≤ 65536
+      → Asks plan (Err fault) old new o q
+  has_failed (ask.Told k) is short few =
+      let s = steps_at (Err (ask.Told k)) is in
+      (few, ends_with (Err (ask.Told k)) (Err (ask.Told k)) s (passes_all (Err (ask.Told k)) s) refl refl)
+  has_failed ask.Output is short few =
+      let s = steps_at (Err ask.Output) is in
+      (few, ends_with (Err ask.Output) (Err ask.Output) s (passes_all (Err ask.Output) s) refl refl)
+  has_failed (ask.Stream f) is short few =
+      let s = steps_at (Err (ask.Stream f)) is in
+      let wrong = fault_there next (l.stream ++ take n buffer) (l.messages ++ s.0.more) (Some f) s.0.read
+      (side ∙ l.side) s.1 in
+      (few, ends_with (Err (ask.Stream f)) (Ok More) s.0 (passes_all (Ok More) s.0, wrong) refl refl)
+  has_failed ask.Memory is short few =
+      let s = steps_at (Err ask.Memory) is in (
+        few,
+        subst (λ (out : Log). Hears plan (Err ask.Memory) old new o out) (sym s.1)
+            (still l (Err ask.Memory) (take n buffer) new l.passed
+            (omega (arith, length-take-le n buffer within, short, within))
+            (wire_on plan l.stream buffer n old now new l.wire gives some)),
+      )
+  has_failed fault is short few = absurd (steps_at (Err fault) is).passes

@@ -2,6 +2,5 @@ pub mod Frames
 pub mod Streams
 pub mod Looks
 pub mod Pieces
-pub mod Written
 pub mod Answered
 pub mod Heard

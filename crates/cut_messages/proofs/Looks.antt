@@ -1,8 +1,7 @@
 -- What stands at the front of some bytes, as it is found test by test.
-use Rattle.std.proofs.Common.{inl, inr, ◌≡◌, ◌∙◌, ◌+◌, ◌-◌, ◌<◌, ◌≤◌, ◌++◌, ℕ, Bool, true, false, List, [], ◌∷◌, length, take, drop, get_or, nat_lt, nat_eq, cond, Option, Some, None, refl, sym, ap, arith, append_assoc, length-take-le, length-drop, take-append-drop}
-use Rattle.std.specs.List.{find}
+use Rattle.std.proofs.Common.{inl, inr, ◌≡◌, ◌∙◌, ◌+◌, ◌-◌, ◌<◌, ◌≤◌, ◌++◌, ℕ, true, List, [], ◌∷◌, length, take, drop, get_or, Option, Some, None, refl, sym, ap, arith, append_assoc, length-take-le, length-drop, take-append-drop}
 use Rattle.std.specs.Int.{w32, to_be_bytes, from_be_bytes}
-use Rattle.std.proofs.lemmas.Bool.Decides.{nat_tests, Decides-eqb}
+use Rattle.std.proofs.lemmas.Bool.Decides.{nat_tests}
 use Rattle.std.proofs.lemmas.Nat.{be_bytes_4}
 use Rattle.std.proofs.lemmas.Bool.{cases_lt}
 use Rattle.std.proofs.lemmas.Grind.{get_or_after_one}
@@ -11,8 +10,8 @@ use Rattle.std.proofs.Math.ListN.{get_or-eq_default}
 use Rattle.std.proofs.Math.Seq.{drop-drop}
 use Rattle.cut_messages.specs.declared.kind.Kind.{Kind}
 use Rattle.cut_messages.specs.declared.side.Side.{Side}
-use Rattle.cut_messages.specs.declared.fault.StreamFault.TheVariants.{TooLong, BadLength}
-use Rattle.cut_messages.specs.Kinds.{byte_of, kinds_of, kind_at, length_of, fits}
+use Rattle.cut_messages.specs.declared.side.Side.TheVariants.{Requests, Replies}
+use Rattle.cut_messages.specs.Kinds.{byte_of, kind_at, length_of, fits}
 use Rattle.cut_messages.specs.Frames.{length_fault, fault_behind, fault_at}
 use Rattle.cut_messages.specs.Fronts.{IsWhole}
 
@@ -21,28 +20,13 @@ pub fault_first : (side : Side) (bytes : List ℕ) → 0 < length bytes
 fault_first side [] some = absurd (omega (arith, some))
 fault_first side (first ∷ rest) some = refl
 
-find_step : (test : Kind → Bool) (x y : Kind) (rest : Option Kind) (b : Bool) → test y ≡ b
-    → cond b (Some y) rest ≡ Some x → (rest ≡ Some x → test x ≡ true) → test x ≡ true
-find_step test x y rest true is found on = (let same : y ≡ x = cc in ap test (sym same) ∙ is)
-find_step test x y rest false is found on = on found
-
-find_passes : (test : Kind → Bool) (xs : List Kind) (x : Kind) → find test xs ≡ Some x → test x ≡ true
-find_passes test [] x found = cc
-find_passes test (y ∷ ys) x found =
-    find_step test x y (find test ys) (test y) refl found (find_passes test ys x)
-
 -- a kind's letter is the byte that it was found by
 kind_byte : (side : Side) (byte : ℕ) (kind : Kind) → kind_at side byte ≡ Some kind → byte_of kind ≡ byte
-kind_byte side byte kind found =
-    (Decides-eqb (byte_of kind) byte).0 (find_passes (λ k. nat_eq (byte_of k) byte) (kinds_of side) kind found)
+kind_byte Requests byte kind found = grind (arith, nat_tests)
+kind_byte Replies byte kind found = grind (arith, nat_tests)
 
-length_fine : (right : Option ℕ) (n : ℕ) (long fit : Bool) → nat_lt 65536 n ≡ long → fits right n ≡ fit
-    → length_fault right n ≡ None → (n ≤ 65536) × (fits right n ≡ true)
-length_fine right n true fit is same none =
-    let wrong : length_fault right n ≡ Some TooLong = rw is refl in cc
-length_fine right n false true is same none = (grind (arith, nat_tests), same)
-length_fine right n false false is same none =
-    let wrong : length_fault right n ≡ Some BadLength = rw (is, same) refl in cc
+length_fine : (right : Option ℕ) (n : ℕ) → length_fault right n ≡ None → (n ≤ 65536) × (fits right n ≡ true)
+length_fine right n none = (grind (arith, nat_tests), grind (arith, nat_tests))
 
 -- the first byte, the next four, and those behind
 parted : (bytes : List ℕ) → 5 ≤ length bytes
@@ -59,7 +43,7 @@ pub whole_there : (side : Side) (bytes : List ℕ) (kind : Kind) (n : ℕ)
     → n ≤ length bytes - 5 → IsWhole side bytes kind n
 whole_there side bytes kind n found long small told right there =
     let payload : List ℕ = take n (drop 5 bytes) in
-    let fine = length_fine (length_of side kind) n (nat_lt 65536 n) (fits (length_of side kind) n) refl refl right in
+    let fine = length_fine (length_of side kind) n right in
     let rest_long : length (drop 5 bytes) ≡ length bytes - 5 = length-drop 5 bytes in
     let payload_long : length payload ≡ n = length-take-le n (drop 5 bytes) (omega (arith, there, rest_long)) in
     let letter : byte_of kind ≡ get_or bytes 0 0 = kind_byte side (get_or bytes 0 0) kind found in
@@ -78,11 +62,7 @@ whole_there side bytes kind n found long small told right there =
         fits = ap (fits (length_of side kind)) payload_long ∙ fine.1;
       };
       stands = parted bytes long
-          ∙ ap (λ (b : ℕ). b ∷ (take 4 (drop 1 bytes) ++ drop 5 bytes)) (sym letter)
-          ∙ ap (λ (l : List ℕ). byte_of kind ∷ (l ++ drop 5 bytes)) (sym four)
-          ∙ ap (λ (l : List ℕ). byte_of kind ∷ (to_be_bytes w32 (length payload) ++ l)) behind
-          ∙ ap (λ (l : List ℕ). byte_of kind ∷ l)
-          (sym (append_assoc (to_be_bytes w32 (length payload)) payload (drop (5 + n) bytes)));
+          ∙ cc (append_assoc (to_be_bytes w32 (length payload)) payload (drop (5 + n) bytes));
     }
 
 -- the four bytes of the length are bytes

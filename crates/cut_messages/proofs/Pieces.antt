@@ -31,8 +31,7 @@ read_no_more r stream piece messages none some is_none has =
     let same : messages ≡ messages ++ none =
     sym (append-nil messages) ∙ ap (λ (ms : List Message). messages ++ ms) (sym is_none) in
     let splits : Splits r.side (stream ++ piece) messages (has.rest ++ piece) = record {
-      whole = ap (λ (l : List ℕ). l ++ piece) has.splits.whole
-          ∙ append_assoc (flat_map frame_of messages) has.rest piece;
+      whole = cc (has.splits.whole, append_assoc (flat_map frame_of messages) has.rest piece);
       each = has.splits.each;
       last = no_message r.side (has.rest ++ piece) there.0 wrong_on;
     } in
@@ -51,12 +50,8 @@ pub read_on : (old new : Reading) (stream piece bytes rest : List ℕ) (messages
 read_on old new stream piece bytes rest messages more right has are splits side fault held =
     let kept : old.held ≡ has.rest = has.held (none_there old.fault right) in
     let whole : stream ++ piece ≡ flat_map frame_of (messages ++ more) ++ rest =
-    ap (λ (l : List ℕ). l ++ piece) has.splits.whole
-    ∙ ap (λ (l : List ℕ). (flat_map frame_of messages ++ l) ++ piece) (sym kept)
-    ∙ append_assoc (flat_map frame_of messages) old.held piece
-    ∙ ap (λ (l : List ℕ). flat_map frame_of messages ++ l) (sym are ∙ splits.whole)
-    ∙ sym (append_assoc (flat_map frame_of messages) (flat_map frame_of more) rest)
-    ∙ ap (λ (l : List ℕ). l ++ rest) (sym (flat_map-append frame_of messages more)) in
+    rw (has.splits.whole, append_assoc (flat_map frame_of messages) has.rest piece, flat_map-append frame_of messages more, append_assoc (flat_map frame_of messages) (flat_map frame_of more) rest)
+    (ap (λ (l : List ℕ). flat_map frame_of messages ++ l) (cc)) in
     let all : Splits old.side (stream ++ piece) (messages ++ more) rest = record {
       whole = whole;
       each = both (IsMessage old.side) messages more has.splits.each splits.each;

@@ -15,38 +15,27 @@ use Rattle.cut_messages.specs.Fronts.{message_in, IsWhole}
 use Rattle.cut_messages.specs.Laws.{ReadingsAgree, MessagesTakeRoom, FaultsStay}
 use Rattle.cut_messages.proofs.Frames.{long_frame, behind_four, length_told, fault_more, no_message}
 
-same_message : (m n : Message) → m.kind ≡ n.kind → m.payload ≡ n.payload → m ≡ n
-same_message m n kinds payloads =
-    let made : Kind → List ℕ → Message = λ kind payload. record { kind = kind; payload = payload } in
-    ap (λ kind. made kind m.payload) kinds ∙ ap (made n.kind) payloads
-
-same_tail : (a b : ℕ) (xs ys : List ℕ) → a ∷ xs ≡ b ∷ ys → (a ≡ b) × (xs ≡ ys)
-same_tail a b xs ys same = ((cc), (cc))
-
-same_some : (a b : Kind) → Some a ≡ Some b → a ≡ b
-same_some a b same = cc
-
 -- two messages at the front of the same bytes are one
 one_frame : (side : Side) (m n : Message) (t u : List ℕ) → IsMessage side m → IsMessage side n
     → frame_of m ++ t ≡ frame_of n ++ u → (m ≡ n) × (t ≡ u)
 one_frame side m n t u is is_too same =
-    let parts = same_tail (byte_of m.kind) (byte_of n.kind)
-    ((to_be_bytes w32 (length m.payload) ++ m.payload) ++ t)
-    ((to_be_bytes w32 (length n.payload) ++ n.payload) ++ u) same in
-    let kinds : m.kind ≡ n.kind =
-    same_some m.kind n.kind (sym is.kind ∙ ap (kind_at side) parts.0 ∙ is_too.kind) in
+    let letters : byte_of m.kind ≡ byte_of n.kind = cc in
+    let others : (to_be_bytes w32 (length m.payload) ++ m.payload) ++ t ≡ (to_be_bytes w32 (length n.payload) ++ n.payload) ++ u = cc in
+    let found : Some m.kind ≡ Some n.kind = sym is.kind ∙ ap (kind_at side) letters ∙ is_too.kind in
     let long : length m.payload ≡ length n.payload =
-    sym (length_told m.payload t is.short) ∙ ap (λ (l : List ℕ). from_be_bytes w32 (take 4 l)) parts.1
+    sym (length_told m.payload t is.short) ∙ ap (λ (l : List ℕ). from_be_bytes w32 (take 4 l)) others
     ∙ length_told n.payload u is_too.short in
     let rest : m.payload ++ t ≡ n.payload ++ u =
-    sym (behind_four m.payload t) ∙ ap (drop 4) parts.1 ∙ behind_four n.payload u in
+    sym (behind_four m.payload t) ∙ ap (drop 4) others ∙ behind_four n.payload u in
     let payloads : m.payload ≡ n.payload =
     sym (take_at m.payload t (length m.payload) refl) ∙ ap (take (length m.payload)) rest
     ∙ take_at n.payload u (length m.payload) (sym long) in
     let tails : t ≡ u =
     sym (drop_at m.payload t (length m.payload) refl) ∙ ap (drop (length m.payload)) rest
     ∙ drop_at n.payload u (length m.payload) (sym long) in
-    (same_message m n kinds payloads, tails)
+    let kinds : m.kind ≡ n.kind = cc in
+    let made : Kind → List ℕ → Message = λ kind payload. record { kind = kind; payload = payload } in
+    (ap (λ kind. made kind m.payload) kinds ∙ ap (made n.kind) payloads, tails)
 
 one_reading : (side : Side) (ms ns : List Message) (r s : List ℕ)
     → AllByRecursion (IsMessage side) ms → AllByRecursion (IsMessage side) ns
@@ -85,12 +74,7 @@ pub one_more : (side : Side) (bytes : List ℕ) (messages : List Message) (read 
 one_more side bytes messages read n kind stands is =
     let m : Message = message_in (drop read bytes) kind n in
     stands ∙ ap (λ (l : List ℕ). flat_map frame_of messages ++ l) is.stands
-    ∙ sym (append_assoc (flat_map frame_of messages) (frame_of m) (drop (5 + n) (drop read bytes)))
-    ∙ ap (λ (l : List ℕ). (flat_map frame_of messages ++ l) ++ drop (5 + n) (drop read bytes))
-    (sym (append-nil (frame_of m)))
-    ∙ ap (λ (l : List ℕ). l ++ drop (5 + n) (drop read bytes))
-    (sym (flat_map-append frame_of messages (m ∷ [])))
-    ∙ ap (λ (l : List ℕ). flat_map frame_of (messages ++ m ∷ []) ++ l) (drop-drop (5 + n) read bytes)
+    ∙ cc (append_assoc (flat_map frame_of messages) (frame_of m) (drop (5 + n) (drop read bytes)), append-nil (frame_of m), flat_map-append frame_of messages (m ∷ []), drop-drop (5 + n) read bytes)
 
 frames_room : (side : Side) (ms : List Message) → AllByRecursion (IsMessage side) ms
     → (5 * length ms ≤ length (flat_map frame_of ms)) × (length (flat_map frame_of ms) ≤ 65541 * length ms)

@@ -5,7 +5,7 @@ use Rattle.std.specs.Prelude.{Some, None, Result, Ok, Err, ⊤}
 use Rattle.std.specs.List.{AllByRecursion, flat_map}
 use Rattle.std.specs.Int.{w16, from_be_bytes}
 use Rattle.cut_faults.specs.Failures.{one_more}
-use Rattle.cut_table.specs.Traffic.{Traffic, Failed, wrote, read_failed, write_failed}
+use Rattle.cut_wires.specs.Log.{Traffic, Log, passing, wrote, read_failed, write_failed}
 use Rattle.cut_messages.specs.declared.side.Side.TheVariants.{Replies}
 use Rattle.cut_messages.specs.declared.kind.Kind.{Kind}
 use Rattle.cut_messages.specs.declared.kind.Kind.TheVariants as kind
@@ -20,6 +20,15 @@ use Rattle.cut_messages.specs.Reading.{Splits}
 -- what it sends: the plan, and that no further request comes
 abbrev pub request : List ℕ → List ℕ
 request plan = frame kind.Submit plan ++ frame kind.Quit []
+
+-- some first bytes were written, and not all, when a write failed
+abbrev pub IsCutOff : List ℕ → Log → Log → Type 0
+IsCutOff bytes old new = (n : ℕ) × (n < length bytes) × (new ≡ write_failed (wrote old (take n bytes)))
+
+-- the request was sent, or a write of it failed
+abbrev pub Requests : {E : Type 0} → Result ⊤ E → List ℕ → Log → Log → Type 0
+Requests (Ok done) plan old new = new ≡ wrote old (request plan)
+Requests (Err fault) plan old new = IsCutOff (request plan) old new
 
 -- whether a reply is the last that it wants: the table is whole, or the request failed
 abbrev pub is_last : Kind → Bool
@@ -49,14 +58,10 @@ pub record Stop (messages : List Message) : Type 0 where
   pub parts : messages ≡ before ++ here ∷ after
   pub passed : AllByRecursion GoesOn before
 
--- some first bytes were written, and not all
-abbrev pub IsCutOff : List ℕ → Traffic → Traffic → Type 0
-IsCutOff bytes old new = (n : ℕ) × (n < length bytes) × (new ≡ wrote old (take n bytes))
-
 -- what an output took of replies: the lines of all of them, where none is a last one; or those
--- before the one at which it stops, which says that the table is whole, or tells a fault's number,
+-- before the one at which it stops, which says that the table is whole, or has a fault's number,
 -- or has a line of which a part was written
-abbrev pub Passes : List Message → Result Progress AskFault → Traffic → Traffic → Type 0
+abbrev pub Passes : List Message → Result Progress AskFault → Log → Log → Type 0
 Passes messages (Ok More) old new =
     AllByRecursion GoesOn messages × (new ≡ wrote old (lines_of messages))
 Passes messages (Ok Done) old new =
@@ -70,9 +75,8 @@ Passes messages (Err ask.Output) old new =
 Passes messages (Err fault) old new = ⊥
 
 -- why it stopped, where it sent its request, and what its output took then, by the replies of the
--- stream that was read and by what stands behind them
-abbrev pub Concludes : Result ⊤ AskFault → List ℕ → List Message → List ℕ → Traffic → Traffic
-    → Type 0
+-- stream that was read and by what comes after them
+abbrev pub Concludes : Result ⊤ AskFault → List ℕ → List Message → List ℕ → Log → Log → Type 0
 Concludes (Ok done) stream messages rest old new = Passes messages (Ok Done) old new
 Concludes (Err (ask.Told n)) stream messages rest old new =
     Passes messages (Err (ask.Told n)) old new
@@ -94,18 +98,26 @@ abbrev pub IsUnread : Result ⊤ AskFault → List ℕ → Type 0
 IsUnread (Err ask.Memory) last = length last ≤ 4096
 IsUnread result last = last ≡ []
 
--- how many reads gave the end: one more exactly where the answer ended before the table did
-abbrev pub ends_after : Result ⊤ AskFault → ℕ → ℕ
-ends_after (Err ask.Truncated) n = one_more n
-ends_after result n = n
-
 -- a wire that took the request, and gave these bytes
-abbrev pub heard : List ℕ → List ℕ → Traffic → Traffic
-heard plan given old =
-    record { taken = old.taken ++ request plan; given = old.given ++ given; ends = old.ends }
+abbrev pub asked : List ℕ → List ℕ → Traffic → Traffic
+asked plan given t =
+    record { taken = t.taken ++ request plan; given = t.given ++ given; ends = t.ends }
+
+abbrev pub heard : List ℕ → List ℕ → Log → Log
+heard plan given l = passing (asked plan given) l
+
+-- and whose last read gave the end exactly where the answer ended before the table did, and failed exactly where
+-- that is the fault
+abbrev pub ended : Traffic → Traffic
+ended t = record { taken = t.taken; given = t.given; ends = one_more t.ends }
+
+abbrev pub left_by : Result ⊤ AskFault → Log → Log
+left_by (Err ask.Truncated) l = passing ended l
+left_by (Err ask.Read) l = read_failed l
+left_by result l = l
 
 -- the whole request was sent, a stream was read, and the asking ended for what stands in it
-pub record Hears (plan : List ℕ) (result : Result ⊤ AskFault) (old new out_old out_new : Traffic)
+pub record Hears (plan : List ℕ) (result : Result ⊤ AskFault) (old new out_old out_new : Log)
     : Type 0 where
   pub stream : List ℕ
   pub messages : List Message
@@ -114,30 +126,15 @@ pub record Hears (plan : List ℕ) (result : Result ⊤ AskFault) (old new out_o
   pub splits : Splits Replies stream messages rest
   pub ends : Concludes result stream messages rest out_old out_new
   pub unread : IsUnread result last
-  pub wire : new ≡ record (heard plan (stream ++ last) old) { ends = ends_after result old.ends }
+  pub wire : new ≡ left_by result (heard plan (stream ++ last) old)
 
--- what passed over the wire and the output: nothing, where the plan is too long; a part of the
--- request, where a write of it failed; else the request and an answer
-abbrev pub Asks : List ℕ → Result ⊤ AskFault → Traffic → Traffic → Traffic → Traffic → Type 0
-Asks plan (Err ask.PlanTooLong) old new out_old out_new = (new ≡ old) × (out_new ≡ out_old)
+-- what passed over the wire and the output, and which calls failed: nothing, where the plan is too long; a part of
+-- the request, where a write of it failed; else the request and an answer. Of a wire of which nothing is known there
+-- is some answer of which the output took the lines.
+abbrev pub Asks : List ℕ → Result ⊤ AskFault → Log → Log → Log → Log → Type 0
+Asks plan (Err ask.PlanTooLong) old new out_old out_new =
+    (65536 < length plan) × (new ≡ old) × (out_new ≡ out_old)
 Asks plan (Err ask.Request) old new out_old out_new =
-    IsCutOff (request plan) old new × (out_new ≡ out_old)
-Asks plan result old new out_old out_new = Hears plan result old new out_old out_new
-
--- the same over a wire of which nothing is known: what the output took are lines of some answer
-abbrev pub AsksSomeone : List ℕ → Result ⊤ AskFault → Traffic → Traffic → Type 0
-AsksSomeone plan result out_old out_new = (old : Traffic) × (new : Traffic) × Asks plan result old new out_old out_new
-
--- ---- calls that failed
-
--- of the wire: one write exactly where a write of the request failed, one read exactly where a read
--- failed
-abbrev pub wire_failed : Result ⊤ AskFault → Failed → Failed
-wire_failed (Err ask.Request) f = write_failed f
-wire_failed (Err ask.Read) f = read_failed f
-wire_failed result f = f
-
--- of the output: one write exactly where a write of a line failed
-abbrev pub output_failed : {T : Type 0} → Result T AskFault → Failed → Failed
-output_failed (Err ask.Output) f = write_failed f
-output_failed result f = f
+    (length plan ≤ 65536) × IsCutOff (request plan) old new × (out_new ≡ out_old)
+Asks plan result old new out_old out_new =
+    (length plan ≤ 65536) × Hears plan result old new out_old out_new

@@ -1,6 +1,6 @@
 -- What a client makes of a piece of an answer.
-use Rattle.std.specs.Prelude.{◌≡◌, ◌++◌, ℕ, List, Some, None, Result, Ok, Err, ⊤}
-use Rattle.cut_table.specs.Traffic.{Traffic}
+use Rattle.std.specs.Prelude.{◌≡◌, ◌++◌, ℕ, List, Some, None, Result, Ok, Err}
+use Rattle.cut_wires.specs.Log.{Log}
 use Rattle.cut_messages.specs.declared.message.Message.{Message}
 use Rattle.cut_messages.specs.declared.ask_fault.AskFault.{AskFault}
 use Rattle.cut_messages.specs.declared.ask_fault.AskFault.TheVariants as ask
@@ -9,23 +9,15 @@ use Rattle.cut_messages.specs.declared.replies.Progress.TheVariants.{More}
 use Rattle.cut_messages.specs.Reading.{Reading, HasRead}
 use Rattle.cut_messages.specs.Asking.{Passes}
 
--- a fault that comes of replies, and not of the wire that they come over
-abbrev pub IsOfReplies : AskFault → Type 0
-IsOfReplies ask.Memory = ⊤
-IsOfReplies ask.Output = ⊤
-IsOfReplies (ask.Stream fault) = ⊤
-IsOfReplies (ask.Told n) = ⊤
-IsOfReplies fault = ⊥
-
 -- a piece of an answer was read, and the output took of its replies what it takes with this result
 pub record Step (new : Reading) (stream piece : List ℕ) (messages : List Message)
-    (result : Result Progress AskFault) (out_old out_new : Traffic) : Type 0 where
+    (result : Result Progress AskFault) (out_old out_new : Log) : Type 0 where
   pub more : List Message
   pub read : HasRead new (stream ++ piece) (messages ++ more)
   pub passes : Passes more result out_old out_new
 
 abbrev pub Steps : Result Progress AskFault → Reading → Reading → List ℕ → List ℕ → List Message
-    → Traffic → Traffic → Type 0
+    → Log → Log → Type 0
 Steps (Ok More) old new stream piece messages o p =
     Step new stream piece messages (Ok More) o p × (new.fault ≡ None)
 Steps (Err (ask.Stream fault)) old new stream piece messages o p =

@@ -1,12 +1,12 @@
-ghost use Rattle.std.specs.Prelude.{◌≡◌, ◌+◌, ◌^◌, ◌<◌, ◌≤◌, ◌↔◌, ◌++◌, length, IsErrOf};
-ghost use Rattle.cut_table.specs.Traffic.{Sends, after_write};
-ghost use Rattle.cut_messages.specs.Asking.{request, Asks, AsksSomeone, wire_failed, output_failed};
+ghost use Rattle.std.specs.Prelude.{◌≡◌, ◌<◌, ◌≤◌, length};
+ghost use Rattle.cut_wires.specs.Sending.{Sends, sending};
+ghost use Rattle.cut_messages.specs.Asking.{request, Requests, Asks};
 
-use crate::frame::send_after;
+use crate::frame::send_message;
 use crate::replies::{Progress, take_piece};
 use crate::side::LONGEST;
 use crate::{AskFault, Kind, Reader};
-use cut_table::{Sent, Wire};
+use cut_wires::{Line, Wire, WireFault};
 use std::alloc::Global;
 
 /// How many bytes a read brings at most.
@@ -26,17 +26,10 @@ pub fn ask<W: Wire, O: Wire>(
     wire: &mut W,
     output: &mut O,
 ) -> Result<(), AskFault>
-    ensures told { W.tells wire.old → O.tells output.old → Asks plan_text.now result
-        (W.traffic wire.old) (W.traffic wire.new) (O.traffic output.old) (O.traffic output.new) }
-    ensures lines { O.tells output.old →
-        AsksSomeone plan_text.now result (O.traffic output.old) (O.traffic output.new) }
-    ensures long { IsErrOf result AskFault.PlanTooLong ↔ 65536 < length plan_text.now }
+    ensures asks { Asks plan_text.now result
+        (W.log wire.old) (W.log wire.new) (O.log output.old) (O.log output.new) }
     ensures unsent { 65536 < length plan_text.now →
         (wire.new ≡ wire.old) × (output.new ≡ output.old) }
-    ensures wire { W.faults wire.new ≡ wire_failed result (W.faults wire.old) }
-    ensures output { O.faults output.new ≡ output_failed result (O.faults output.old) }
-    ensures wire_tells { W.tells wire.old ↔ W.tells wire.new }
-    ensures output_tells { O.tells output.old ↔ O.tells output.new }
 {
     if plan_text.len() > LONGEST as usize {
         return Err(AskFault::PlanTooLong);
@@ -65,18 +58,20 @@ pub fn ask<W: Wire, O: Wire>(
 }
 
 /// Sends a plan, and that no further request comes.
-fn send_request<W: Wire>(wire: &mut W, plan_text: &[u8]) -> Result<(), Sent>
+fn send_request<W: Wire>(wire: &mut W, plan_text: &[u8]) -> Result<(), WireFault>
     requires { length plan_text.now ≤ 65536 }
-    ensures told { W.tells wire.old →
-        Sends result (request plan_text.now) (W.traffic wire.old) (W.traffic wire.new) }
-    ensures tells { W.tells wire.old ↔ W.tells wire.new }
-    ensures faults { W.faults wire.new ≡ after_write result (W.faults wire.old) }
+    ensures { Requests result plan_text.now (W.log wire.old) (W.log wire.new) }
 {
-    match send_after(wire, 0, Kind::Submit, plan_text) {
-        Ok(sent) => match send_after(wire, sent, Kind::Quit, &[]) {
-            Ok(_) => Ok(()),
-            Err(part) => Err(part),
-        },
-        Err(part) => Err(part),
+    send_both(&mut Line::new(wire), plan_text)
+}
+
+/// Sends the same over a line.
+fn send_both<W: Wire>(line: &mut Line<'_, W>, plan_text: &[u8]) -> Result<(), WireFault>
+    requires { length plan_text.now ≤ 65536 }
+    ensures { Sends result (request plan_text.now) (sending W.log line.old) (sending W.log line.new) }
+{
+    match send_message(line, Kind::Submit, plan_text) {
+        Ok(()) => send_message(line, Kind::Quit, &[]),
+        Err(fault) => Err(fault),
     }
 }

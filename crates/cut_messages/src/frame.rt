@@ -1,33 +1,77 @@
-ghost use Rattle.std.specs.Prelude.{◌≡◌, ◌+◌, ◌^◌, ◌<◌, ◌≤◌, ◌↔◌, ◌∷◌, length, IfOk, IfErr};
+ghost use Rattle.std.specs.Prelude.{◌≡◌, ◌+◌, ◌≤◌, ◌∷◌, length, take};
 ghost use Rattle.std.specs.Int.{w32, to_be_bytes};
-ghost use Rattle.cut_table.specs.Traffic.{IsSentBetween, SendsAfter, after_write};
+ghost use Rattle.cut_wires.specs.Sending.{Sends, sending};
 ghost use Rattle.cut_messages.specs.Kinds.{byte_of};
 ghost use Rattle.cut_messages.specs.Frames.{frame};
 
 use crate::Kind;
-use cut_table::{Sent, Wire};
+use crate::front::HEAD;
+use cut_wires::{Framing, Line, Wire, WireFault};
 
-/// Sends a message after so many bytes that are sent already, and tells how many are sent then,
-/// also where a write fails.
-pub fn send_after<W: Wire>(wire: &mut W, sent: u64, kind: Kind, payload: &[u8]) -> Result<u64, Sent>
-    requires room { sent + (5 + length payload.now) < 2 ^ 64 }
-    requires short { length payload.now ≤ 65536 }
-    ensures ok { IfOk result (λ n. n ≡ sent + (5 + length payload.now)) }
-    ensures err { IfErr result (λ part. IsSentBetween sent (sent + (5 + length payload.now)) part) }
-    ensures told { W.tells wire.old →
-        SendsAfter sent result (frame kind payload.now) (W.traffic wire.old) (W.traffic wire.new) }
-    ensures tells { W.tells wire.old ↔ W.tells wire.new }
-    ensures faults { W.faults wire.new ≡ after_write result (W.faults wire.old) }
+/// How many bytes a frame has at most that is sent by one write, where the wire takes it whole.
+const BUFFER: usize = 512;
+
+/// Sends a message over a line. Where it has at most 512 bytes, it is handed to the wire as a whole.
+pub fn send_message<W: Wire>(
+    line: &mut Line<'_, W>,
+    kind: Kind,
+    payload: &[u8],
+) -> Result<(), WireFault>
+    requires { length payload.now ≤ 65536 }
+    ensures { Sends result (frame kind payload.now) (sending W.log line.old) (sending W.log line.new) }
 {
-    let head = head_of(kind, payload.len() as u32);
-    let sent = cut_table::send_after(wire, sent, head.as_slice())?;
-    cut_table::send_after(wire, sent, payload)
+    if payload.len() > BUFFER - HEAD {
+        return send_parts(line, kind, payload);
+    }
+    let mut buffer = [0; BUFFER];
+    put_message(&mut buffer, kind, payload);
+    line.send(&buffer[..HEAD + payload.len()])
 }
 
-/// What stands before a payload of this length.
+/// Sends the same by a write for what comes before the payload, and others for that.
+fn send_parts<W: Wire>(line: &mut Line<'_, W>, kind: Kind, payload: &[u8]) -> Result<(), WireFault>
+    requires { length payload.now ≤ 65536 }
+    ensures { Sends result (frame kind payload.now) (sending W.log line.old) (sending W.log line.new) }
+{
+    let head = head_of(kind, payload.len() as u32);
+    match line.send(head.as_slice()) {
+        Ok(()) => line.send(payload),
+        Err(fault) => Err(fault),
+    }
+}
+
+/// Puts a message into the first places of a buffer.
+fn put_message(buffer: &mut [u8], kind: Kind, payload: &[u8])
+    requires room { 5 + length payload.now ≤ length buffer.old }
+    requires short { length payload.now ≤ 65536 }
+    ensures { take (5 + length payload.now) buffer.new ≡ frame kind payload.now }
+{
+    let head = head_of(kind, payload.len() as u32);
+    let (first, rest) = buffer.split_at_mut(HEAD);
+    first.copy_from_slice(head.as_slice());
+    rest[..payload.len()].copy_from_slice(payload);
+}
+
+/// What comes before a payload of this length.
 fn head_of(kind: Kind, length: u32) -> [u8; 5]
     ensures { result ≡ byte_of kind ∷ to_be_bytes w32 length }
 {
     let [a, b, c, d] = length.to_be_bytes();
     [kind.byte(), a, b, c, d]
+}
+
+/// A text is sent as a message that carries a line of a table.
+pub struct RowMessages;
+
+impl Framing for RowMessages {
+    ghost use Rattle.std.proofs.Common.{arith, length-append};
+    ghost use Rattle.cut_messages.specs.declared.kind.Kind.TheVariants.{Row};
+
+    ghost framed = { λ text. frame Row text };
+
+    fn send<W: Wire>(line: &mut Line<'_, W>, text: &[u8]) -> Result<(), WireFault> {
+        send_message(line, Kind::Row, text)
+    }
+
+    ghost short = { λ text. Prim.omega (arith, length-append (to_be_bytes w32 (length text)) text) };
 }

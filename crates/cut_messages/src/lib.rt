@@ -7,9 +7,9 @@
 //! message should: a byte that is no kind of that side, a length above 65,536, or one that is wrong
 //! for the kind, looked for in that order. [`laws`] say that a stream has one reading.
 //!
-//! [`send_after`] sends one message, and [`ask`] sends a plan and writes the lines of the answer. What they say of
-//! the bytes on their wires holds where those tell what passed; that they tell a failed read or write only where one
-//! failed holds over every wire.
+//! [`send_message`] sends one message over a line, [`RowMessages`] frames the rows of a table, and [`ask`] sends a plan
+//! and writes the lines of the answer. What they say of the bytes on their wires holds where the wire's log has them;
+//! that a failed read or write is reported only where one failed holds over every wire.
 #![tactic(auto)]
 
 mod ask_fault;
@@ -31,7 +31,7 @@ pub use ask_fault::AskFault;
 pub use client::ask;
 pub use fault::{EndFault, StreamFault};
 pub use fed::Fed;
-pub use frame::send_after;
+pub use frame::{RowMessages, send_message};
 pub use kind::Kind;
 pub use message::Message;
 pub use payload::Payload;

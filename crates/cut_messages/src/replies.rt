@@ -1,12 +1,12 @@
-ghost use Rattle.std.specs.Prelude.{◌≡◌, ◌↔◌, [], ◌∷◌, List, ℕ, take, IfErr};
+ghost use Rattle.std.specs.Prelude.{◌≡◌, [], ◌∷◌, List, ℕ};
 ghost use Rattle.std.specs.Int.{w16, from_be_bytes};
 ghost use Rattle.cut_messages.specs.declared.message.Message.{Message};
 ghost use Rattle.cut_messages.specs.Reading.{HasRead};
-ghost use Rattle.cut_messages.specs.Asking.{Passes, output_failed};
-ghost use Rattle.cut_messages.specs.Listening.{IsOfReplies, Steps};
+ghost use Rattle.cut_messages.specs.Asking.{Passes};
+ghost use Rattle.cut_messages.specs.Listening.{Steps};
 
 use crate::{AskFault, Kind, Message, Reader};
-use cut_table::{Wire, send_all};
+use cut_wires::{Wire, send_all};
 use std::alloc::Global;
 
 /// Whether an answer is at its end.
@@ -25,14 +25,9 @@ pub(crate) fn take_piece<O: Wire>(
     piece: &[u8],
     output: &mut O,
 ) -> Result<Progress, AskFault>
-    ensures told { (stream : List ℕ) (messages : List Message) →
-        HasRead reader.old stream messages → O.tells output.old →
-        Steps result reader.old reader.new stream piece.now messages
-        (O.traffic output.old) (O.traffic output.new) }
-    ensures kinds { IfErr result IsOfReplies }
+    ensures steps { (stream : List ℕ) (messages : List Message) → HasRead reader.old stream messages →
+        Steps result reader.old reader.new stream piece.now messages (O.log output.old) (O.log output.new) }
     ensures side { reader.new.side ≡ reader.old.side }
-    ensures tells { O.tells output.old ↔ O.tells output.new }
-    ensures faults { O.faults output.new ≡ output_failed result (O.faults output.old) }
 {
     let fed = match reader.feed(alloc, piece) {
         Ok(fed) => fed,
@@ -50,11 +45,7 @@ pub(crate) fn take_piece<O: Wire>(
 
 /// Writes the lines of replies, up to the first that is a last one.
 fn pass_all<O: Wire>(messages: &[Message], output: &mut O) -> Result<Progress, AskFault>
-    ensures told { O.tells output.old →
-        Passes messages.now result (O.traffic output.old) (O.traffic output.new) }
-    ensures kinds { IfErr result IsOfReplies }
-    ensures tells { O.tells output.old ↔ O.tells output.new }
-    ensures faults { O.faults output.new ≡ output_failed result (O.faults output.old) }
+    ensures { Passes messages.now result (O.log output.old) (O.log output.new) }
 {
     for message in messages {
         match pass(message, output) {
@@ -68,11 +59,7 @@ fn pass_all<O: Wire>(messages: &[Message], output: &mut O) -> Result<Progress, A
 
 /// Writes the line of one reply, if it has one.
 fn pass<O: Wire>(message: &Message, output: &mut O) -> Result<Progress, AskFault>
-    ensures told { O.tells output.old →
-        Passes (message.now ∷ []) result (O.traffic output.old) (O.traffic output.new) }
-    ensures kinds { IfErr result IsOfReplies }
-    ensures tells { O.tells output.old ↔ O.tells output.new }
-    ensures faults { O.faults output.new ≡ output_failed result (O.faults output.old) }
+    ensures { Passes (message.now ∷ []) result (O.log output.old) (O.log output.new) }
 {
     let payload = message.payload.as_slice();
     match message.kind {

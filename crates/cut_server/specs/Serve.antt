@@ -2,8 +2,8 @@
 use Rattle.std.specs.Prelude.{◌≡◌, ◌≤◌, ◌<◌, ◌++◌, ◌∷◌, ℕ, zero, suc, List, [], All, length, take, sum_by, codes, Result, Ok, Err, ⊤}
 use Rattle.std.specs.Fmt.{decimal}
 use Rattle.cut_faults.specs.Failures.{one_more}
-use Rattle.cut_table.specs.Traffic.{Traffic, wrote}
-use Rattle.cut_pool.specs.Report.{SlotEnd, EndsAs, accepted_told}
+use Rattle.cut_wires.specs.Log.{Log, wrote, write_failed}
+use Rattle.cut_hall.specs.Report.{SlotEnd, EndsAs, accepted_told}
 use Rattle.cut_server.specs.declared.crew.Crew.{Crew}
 use Rattle.cut_commands.specs.declared.fault.CliFault.{CliFault}
 use Rattle.cut_commands.specs.declared.fault.CliFault.TheVariants.{Socket, Write, Folder, WorkMemory, AuditMismatch}
@@ -35,31 +35,45 @@ IsOfServing WorkMemory = ⊤
 IsOfServing AuditMismatch = ⊤
 IsOfServing fault = ⊥
 
--- why a report was not told whole
+-- why a report was not written whole
 abbrev pub IsOfWriting : CliFault → Type 0
 IsOfWriting (Write sent) = ⊤
 IsOfWriting fault = ⊥
 
--- a listener's count of failed calls after serving: one more exactly where a connection did not come
-abbrev pub failed_serving : {T : Type 0} → Result T CliFault → ℕ → ℕ
-failed_serving (Err Socket) n = one_more n
-failed_serving result n = n
+-- ---- a listener
 
--- how many connections a listener has given, by what one more call for one returned
-abbrev pub given_after : {T E : Type 0} → Result T E → ℕ → ℕ
-given_after (Ok connection) n = one_more n
-given_after (Err fault) n = n
+-- how many connections a listener gave, and how many of its calls failed; at 2^64 - 1 a count stays
+pub record Calls : Type 0 where
+  pub given : ℕ
+  pub failed : ℕ
+
+-- with one more call for a connection, by what it returned
+abbrev pub called : {T E : Type 0} → Result T E → Calls → Calls
+called (Ok connection) calls = record { given = one_more calls.given; failed = calls.failed }
+called (Err fault) calls = record { given = calls.given; failed = one_more calls.failed }
 
 -- after so many more connections
 abbrev pub more_given : ℕ → ℕ → ℕ
 more_given zero n = n
 more_given (suc connections) n = one_more (more_given connections n)
 
+abbrev pub all_given : ℕ → Calls → Calls
+all_given connections calls = record { given = more_given connections calls.given; failed = calls.failed }
+
+-- a listener was asked for so many connections: one did not come, and that call failed and no other; or memory or a
+-- thread was refused, and no call failed; or all of them came, whatever happened then
+abbrev pub Listens : {T : Type 0} → ℕ → Result T CliFault → Calls → Calls → Type 0
+Listens connections (Err Socket) old new = new.failed ≡ one_more old.failed
+Listens connections (Err WorkMemory) old new = new.failed ≡ old.failed
+Listens connections result old new = new ≡ all_given connections old
+
+-- ---- the report
+
 -- how many trials the studies of a report accepted together
 abbrev pub accepted_in_all : List SlotEnd → ℕ
 accepted_in_all slots = sum_by (λ s. accepted_told s.history) slots
 
--- the line that tells it
+-- the line that says so
 abbrev pub accepted_line : ℕ → List ℕ
 accepted_line total = codes "accepted " ++ (decimal total ++ 10 ∷ [])
 
@@ -69,17 +83,17 @@ pub record IsReport (studies : ℕ) (report : List SlotEnd) : Type 0 where
   pub legal : All (λ s. EndsAs s.history s.complete) report
 
 -- the line of a report was written, or its first bytes before a write failed
-abbrev pub IsWrittenWhole : List SlotEnd → Traffic → Traffic → Type 0
+abbrev pub IsWrittenWhole : List SlotEnd → Log → Log → Type 0
 IsWrittenWhole report old new = new ≡ wrote old (accepted_line (accepted_in_all report))
 
-abbrev pub IsWrittenUpTo : ℕ → List SlotEnd → Traffic → Traffic → Type 0
+abbrev pub IsWrittenUpTo : ℕ → List SlotEnd → Log → Log → Type 0
 IsWrittenUpTo sent report old new =
     (sent < length (accepted_line (accepted_in_all report)))
-    × (new ≡ wrote old (take sent (accepted_line (accepted_in_all report))))
+    × (new ≡ write_failed (wrote old (take sent (accepted_line (accepted_in_all report)))))
 
 -- what is written of a server of so many studies: the line of the report that it returns, or as many of its first
--- bytes as were written before a write failed; and nothing where there is no report
-abbrev pub WritesReport : ℕ → Result (List SlotEnd) CliFault → Traffic → Traffic → Type 0
+-- bytes as were written before a write failed; and nothing where there is no report. No other call of the wire fails.
+abbrev pub WritesReport : ℕ → Result (List SlotEnd) CliFault → Log → Log → Type 0
 WritesReport studies (Ok report) old new = IsReport studies report × IsWrittenWhole report old new
 WritesReport studies (Err (Write sent)) old new =
     (report : List SlotEnd) × (IsReport studies report × IsWrittenUpTo sent report old new)
@@ -90,7 +104,7 @@ WritesReport studies (Err AuditMismatch) old new = new ≡ old
 WritesReport studies (Err fault) old new = ⊥
 
 -- the same where the report is not returned
-abbrev pub EndsServing : ℕ → Result ⊤ CliFault → Traffic → Traffic → Type 0
+abbrev pub EndsServing : ℕ → Result ⊤ CliFault → Log → Log → Type 0
 EndsServing studies (Ok done) old new =
     (report : List SlotEnd) × (IsReport studies report × IsWrittenWhole report old new)
 EndsServing studies (Err fault) old new = WritesReport studies (Err fault) old new

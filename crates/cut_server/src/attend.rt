@@ -1,14 +1,14 @@
 //! The threads of a server: each worker and each session has one, and a pass of the hall.
-ghost use Rattle.std.specs.Prelude.{◌≡◌, ◌≤◌, ◌+◌, ◌-◌, ℕ, Bool, true, length, All, IfOk, IfErr, OnOk};
+ghost use Rattle.std.specs.Prelude.{◌≡◌, ◌≤◌, ◌+◌, ◌-◌, Bool, true, length, All, IfOk, IfErr};
 ghost use Rattle.atomic_table.specs.Seated.{TableId};
-ghost use Rattle.cut_faults.specs.Failures.{counted};
-ghost use Rattle.cut_server.specs.Serve.{IsOfAttending, failed_serving, given_after, more_given};
+ghost use Rattle.cut_server.specs.Serve.{Calls, IsOfAttending, Listens, called};
 
+use cut_book::Shelf;
 use cut_commands::CliFault;
 use cut_disks::Disk;
-use cut_pool::{Hall, OpenGate, Pass, Shelf, Tally};
+use cut_hall::{Hall, OpenGate, Pass, Tally};
 use cut_session::session;
-use cut_table::Wire;
+use cut_wires::Wire;
 use std::alloc::Global;
 use std::snapshot::Snapshot;
 use std::sync::Wait;
@@ -20,24 +20,19 @@ use thiserror::Error;
 #[error("no connection came")]
 pub struct ListenFault;
 
-/// What a server's connections come from. Its calls that fail are counted, and the connections that it gave; at
+/// What a server's connections come from. It counts the connections that it gave, and its calls that failed; at
 /// 2^64 - 1 a count stays.
 pub trait Listener<W> {
-    /// How many of its calls failed.
-    ghost faults: { Self → ℕ };
-
-    /// How many connections it gave.
-    ghost given: { Self → ℕ };
+    /// How many connections it gave, and how many of its calls failed.
+    ghost calls: { Self → Calls };
 
     /// Waits for the next connection.
     fn accept(&mut self) -> Result<W, ListenFault>
-        ensures faults { faults self.new ≡ counted result (faults self.old) }
-        ensures given { given self.new ≡ given_after result (given self.old) };
+        ensures { calls self.new ≡ called result (calls self.old) };
 
     /// Turns those away who wait for their connection to be taken, and all who come later.
     fn close(&mut self)
-        ensures faults { faults self.new ≡ faults self.old }
-        ensures given { given self.new ≡ given self.old };
+        ensures { calls self.new ≡ calls self.old };
 }
 
 /// That a pass which comes back is of the hall that it was of.
@@ -122,13 +117,19 @@ struct Attended<M: Tally> {
     served: Vec<Pass<M>>,
 }
 
-/// Lets so many passes work, each in a thread of its own, and serves a connection with each of the others. Once
+/// What the threads of a server share: the hall, and the shelf on which its studies are kept.
+#[derive(Drop)]
+pub(crate) struct Site<'a, H, S, R> {
+    pub(crate) rt: &'a R,
+    pub(crate) alloc: Global,
+    pub(crate) hall: &'a H,
+    pub(crate) shelf: &'a S,
+}
+
+/// Lets this many passes work, each in a thread of its own, and serves a connection with each of the others. Once
 /// the sessions have ended the work is ended, and all passes come back.
 pub(crate) fn attend<D, M, H, S, L, W, R>(
-    rt: &R,
-    alloc: Global,
-    hall: &H,
-    shelf: &S,
+    site: &Site<'_, H, S, R>,
     listener: L,
     passes: Vec<Pass<M>>,
     workers: u32,
@@ -141,42 +142,30 @@ where
     L: Listener<W> + Drop,
     W: Wire + Send + Drop,
     R: Threads + Wait + Sync,
-    requires own { All (λ p. p.hall ≡ H.id_of hall.now) passes.items }
-    requires trusted { H.is_trusted hall.now ≡ true → S.is_true shelf.now ≡ true }
+    requires own { All (λ p. p.hall ≡ H.id_of site.now.hall.now) passes.items }
+    requires trusted { H.is_trusted site.now.hall.now ≡ true → S.is_true site.now.shelf.now ≡ true }
     requires few { workers ≤ length passes.items }
-    ensures own { IfOk result.1 (λ back. All (λ p. p.hall ≡ H.id_of hall.now) back.items) }
+    ensures own { IfOk result.1 (λ back. All (λ p. p.hall ≡ H.id_of site.now.hall.now) back.items) }
     ensures whole { IfOk result.1 (λ back. length back.items ≡ length passes.items) }
     ensures why { IfErr result.1 IsOfAttending }
-    ensures given { OnOk result.1
-        (L.given result.0 ≡ more_given (length passes.items - workers) (L.given listener)) }
-    ensures faults { L.faults result.0 ≡ failed_serving result.1 (L.faults listener) }
+    ensures listens { Listens (length passes.items - workers) result.1 (L.calls listener) (L.calls result.0) }
 {
+    let rt = site.rt;
     thread::scope(
         thread::scope_env(),
         rt,
         |scope| -> (L, Result<Vec<Pass<M>>, CliFault>)
-            requires own { All (λ p. p.hall ≡ H.id_of hall.now) passes.items }
-            requires trusted { H.is_trusted hall.now ≡ true → S.is_true shelf.now ≡ true }
+            requires own { All (λ p. p.hall ≡ H.id_of site.now.hall.now) passes.items }
+            requires trusted { H.is_trusted site.now.hall.now ≡ true → S.is_true site.now.shelf.now ≡ true }
             requires few { workers ≤ length passes.items }
-            ensures own { IfOk result.1 (λ back. All (λ p. p.hall ≡ H.id_of hall.entry.now) back.items) }
+            ensures own { IfOk result.1 (λ back. All (λ p. p.hall ≡ H.id_of site.entry.now.hall.now) back.items) }
             ensures whole { IfOk result.1 (λ back. length back.items ≡ length passes.items) }
             ensures why { IfErr result.1 IsOfAttending }
-            ensures given { OnOk result.1
-                (L.given result.0 ≡ more_given (length passes.items - workers) (L.given listener)) }
-            ensures faults { L.faults result.0 ≡ failed_serving result.1 (L.faults listener) }
+            ensures listens { Listens (length passes.items - workers) result.1 (L.calls listener) (L.calls result.0) }
         {
             let mut listener = listener;
-            let attended = attend_in(
-                scope,
-                rt,
-                alloc,
-                hall,
-                shelf,
-                &mut listener,
-                passes,
-                workers,
-            );
-            hall.end_work(rt);
+            let attended = attend_in(scope, site, &mut listener, passes, workers);
+            site.hall.end_work(rt);
             match attended {
                 Ok(attended) => (listener, gathered(rt, attended)),
                 Err(fault) => (listener, Err(fault)),
@@ -195,10 +184,7 @@ struct Started<M: Tally> {
 /// Starts the workers and the sessions, turns away who comes later, and waits until all sessions have ended.
 fn attend_in<'s, E, D, M, H, S, L, W, R>(
     scope: &Scope<'s, E>,
-    rt: &'s R,
-    alloc: Global,
-    hall: &'s H,
-    shelf: &'s S,
+    site: &Site<'s, H, S, R>,
     listener: &mut L,
     passes: Vec<Pass<M>>,
     workers: u32,
@@ -211,21 +197,19 @@ where
     L: Listener<W>,
     W: Wire + Send + Drop + 's,
     R: Threads + Wait + Sync,
-    requires own { All (λ p. p.hall ≡ H.id_of hall.now) passes.items }
-    requires trusted { H.is_trusted hall.now ≡ true → S.is_true shelf.now ≡ true }
+    requires own { All (λ p. p.hall ≡ H.id_of site.now.hall.now) passes.items }
+    requires trusted { H.is_trusted site.now.hall.now ≡ true → S.is_true site.now.shelf.now ≡ true }
     requires few { workers ≤ length passes.items }
-    ensures workers { IfOk result (λ a. All (λ h. h.promise.0.value.hall ≡ H.id_of hall.now) a.workers.items) }
-    ensures served { IfOk result (λ a. All (λ p. p.hall ≡ H.id_of hall.now) a.served.items) }
+    ensures workers { IfOk result (λ a. All (λ h. h.promise.0.value.hall ≡ H.id_of site.now.hall.now) a.workers.items) }
+    ensures served { IfOk result (λ a. All (λ p. p.hall ≡ H.id_of site.now.hall.now) a.served.items) }
     ensures whole { IfOk result (λ a. length a.workers.items + length a.served.items ≡ length passes.items) }
     ensures why { IfErr result IsOfAttending }
-    ensures given { OnOk result
-        (L.given listener.new ≡ more_given (length passes.items - workers) (L.given listener.old)) }
-    ensures faults { L.faults listener.new ≡ failed_serving result (L.faults listener.old) }
+    ensures listens { Listens (length passes.items - workers) result (L.calls listener.old) (L.calls listener.new) }
 {
-    let started = start_all(scope, rt, alloc, hall, shelf, listener, passes, workers);
+    let started = start_all(scope, site, listener, passes, workers);
     listener.close();
     let Started { workers, sessions } = started?;
-    let Ok(served) = join_promised(rt, sessions) else {
+    let Ok(served) = join_promised(site.rt, sessions) else {
         return Err(CliFault::WorkMemory);
     };
     Ok(Attended { workers, served })
@@ -234,10 +218,7 @@ where
 /// Starts the workers, and a session with each of the passes that are left.
 fn start_all<'s, E, D, M, H, S, L, W, R>(
     scope: &Scope<'s, E>,
-    rt: &'s R,
-    alloc: Global,
-    hall: &'s H,
-    shelf: &'s S,
+    site: &Site<'s, H, S, R>,
     listener: &mut L,
     passes: Vec<Pass<M>>,
     workers: u32,
@@ -250,30 +231,26 @@ where
     L: Listener<W>,
     W: Wire + Send + Drop + 's,
     R: Threads + Wait + Sync,
-    requires own { All (λ p. p.hall ≡ H.id_of hall.now) passes.items }
-    requires trusted { H.is_trusted hall.now ≡ true → S.is_true shelf.now ≡ true }
+    requires own { All (λ p. p.hall ≡ H.id_of site.now.hall.now) passes.items }
+    requires trusted { H.is_trusted site.now.hall.now ≡ true → S.is_true site.now.shelf.now ≡ true }
     requires few { workers ≤ length passes.items }
-    ensures workers { IfOk result (λ s. All (λ h. h.promise.0.value.hall ≡ H.id_of hall.now) s.workers.items) }
-    ensures sessions { IfOk result (λ s. All (λ h. h.promise.0.value.hall ≡ H.id_of hall.now) s.sessions.items) }
+    ensures workers { IfOk result (λ s. All (λ h. h.promise.0.value.hall ≡ H.id_of site.now.hall.now) s.workers.items) }
+    ensures sessions { IfOk result (λ s. All (λ h. h.promise.0.value.hall ≡ H.id_of site.now.hall.now) s.sessions.items) }
     ensures whole { IfOk result (λ s.
         length s.workers.items + length s.sessions.items ≡ length passes.items) }
     ensures why { IfErr result IsOfAttending }
-    ensures given { OnOk result
-        (L.given listener.new ≡ more_given (length passes.items - workers) (L.given listener.old)) }
-    ensures faults { L.faults listener.new ≡ failed_serving result (L.faults listener.old) }
+    ensures listens { Listens (length passes.items - workers) result (L.calls listener.old) (L.calls listener.new) }
 {
     let mut passes = passes;
-    let workers = start_workers(scope, rt, alloc, hall, &mut passes, workers)?;
-    let sessions = start_sessions(scope, rt, alloc, hall, shelf, listener, passes)?;
+    let workers = start_workers(scope, site, &mut passes, workers)?;
+    let sessions = start_sessions(scope, site, listener, passes)?;
     Ok(Started { workers, sessions })
 }
 
-/// Starts so many workers, each with one of the passes.
-fn start_workers<'s, E, D, M, H, R>(
+/// Starts this many workers, each with one of the passes.
+fn start_workers<'s, E, D, M, H, S, R>(
     scope: &Scope<'s, E>,
-    rt: &'s R,
-    alloc: Global,
-    hall: &'s H,
+    site: &Site<'s, H, S, R>,
     passes: &mut Vec<Pass<M>>,
     count: u32,
 ) -> Result<Vec<Attendance<M>>, CliFault>
@@ -282,14 +259,15 @@ where
     M: Tally + Send + Sync + 's,
     H: Workplace<D, M> + Sync,
     R: Threads + Wait + Sync,
-    requires own { All (λ p. p.hall ≡ H.id_of hall.now) passes.old.items }
+    requires own { All (λ p. p.hall ≡ H.id_of site.now.hall.now) passes.old.items }
     requires few { count ≤ length passes.old.items }
-    ensures rest { All (λ p. p.hall ≡ H.id_of hall.now) passes.new.items }
-    ensures own { IfOk result (λ started. All (λ h. h.promise.0.value.hall ≡ H.id_of hall.now) started.items) }
+    ensures rest { All (λ p. p.hall ≡ H.id_of site.now.hall.now) passes.new.items }
+    ensures own { IfOk result (λ started. All (λ h. h.promise.0.value.hall ≡ H.id_of site.now.hall.now) started.items) }
     ensures many { IfOk result (λ started. length started.items ≡ count) }
     ensures whole { IfOk result (λ started. length started.items + length passes.new.items ≡ length passes.old.items) }
     ensures why { IfErr result (λ e. e ≡ CliFault.WorkMemory) }
 {
+    let (rt, alloc, hall) = (site.rt, site.alloc, site.hall);
     let Ok(mut started) = Vec::with_capacity(alloc, count as usize) else {
         return Err(CliFault::WorkMemory);
     };
@@ -319,10 +297,7 @@ where
 /// Starts a session with each of the passes, as the connections come.
 fn start_sessions<'s, E, D, M, H, S, L, W, R>(
     scope: &Scope<'s, E>,
-    rt: &'s R,
-    alloc: Global,
-    hall: &'s H,
-    shelf: &'s S,
+    site: &Site<'s, H, S, R>,
     listener: &mut L,
     passes: Vec<Pass<M>>,
 ) -> Result<Vec<Attendance<M>>, CliFault>
@@ -334,15 +309,14 @@ where
     L: Listener<W>,
     W: Wire + Send + Drop + 's,
     R: Threads + Wait + Sync,
-    requires own { All (λ p. p.hall ≡ H.id_of hall.now) passes.items }
-    requires trusted { H.is_trusted hall.now ≡ true → S.is_true shelf.now ≡ true }
-    ensures own { IfOk result (λ started. All (λ h. h.promise.0.value.hall ≡ H.id_of hall.now) started.items) }
+    requires own { All (λ p. p.hall ≡ H.id_of site.now.hall.now) passes.items }
+    requires trusted { H.is_trusted site.now.hall.now ≡ true → S.is_true site.now.shelf.now ≡ true }
+    ensures own { IfOk result (λ started. All (λ h. h.promise.0.value.hall ≡ H.id_of site.now.hall.now) started.items) }
     ensures whole { IfOk result (λ started. length started.items ≡ length passes.items) }
     ensures why { IfErr result IsOfAttending }
-    ensures given { OnOk result
-        (L.given listener.new ≡ more_given (length passes.items) (L.given listener.old)) }
-    ensures faults { L.faults listener.new ≡ failed_serving result (L.faults listener.old) }
+    ensures listens { Listens (length passes.items) result (L.calls listener.old) (L.calls listener.new) }
 {
+    let (rt, alloc, hall, shelf) = (site.rt, site.alloc, site.hall, site.shelf);
     let Ok(mut started) = Vec::with_capacity(alloc, passes.len()) else {
         return Err(CliFault::WorkMemory);
     };

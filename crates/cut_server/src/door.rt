@@ -1,6 +1,6 @@
 use crate::{ListenFault, Listener};
-use cut_commands::StreamWire;
 use cut_faults::Failures;
+use cut_wires::StreamWire;
 use std::fs::{self, Permissions};
 use std::io;
 use std::os::unix::fs::PermissionsExt;
@@ -46,9 +46,7 @@ impl<'a> Door<'a> {
 }
 
 impl Listener<SocketWire> for Door<'_> {
-    ghost faults = { λ d. d.failures };
-
-    ghost given = { λ d. d.given };
+    ghost calls = { λ d. record { given = d.given; failed = d.failures } };
 
     fn accept(&mut self) -> Result<SocketWire, ListenFault> {
         match self.next() {

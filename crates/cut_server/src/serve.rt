@@ -1,18 +1,18 @@
 //! A server of studies: workers and sessions in threads of one hall.
-ghost use Rattle.std.specs.Prelude.{◌≡◌, ◌≤◌, ◌+◌, ◌↔◌, length, All, IfOk, IfErr, OnOk};
-ghost use Rattle.cut_commands.specs.Faults.{failed_calls};
-ghost use Rattle.cut_server.specs.Serve.{IsReport, WritesReport, accepted_in_all, more_given};
-ghost use Rattle.cut_server.specs.Serve.{IsOfClosing, IsOfServing, IsOfWriting, IsStaffed, failed_serving};
-ghost use Rattle.cut_pool.specs.Report.{EndsAs};
+ghost use Rattle.std.specs.Prelude.{◌≡◌, ◌≤◌, ◌+◌, length, All, IfOk, IfErr};
+ghost use Rattle.cut_server.specs.Serve.{Listens, WritesReport, accepted_in_all};
+ghost use Rattle.cut_server.specs.Serve.{IsOfClosing, IsOfServing, IsOfWriting, IsStaffed};
+ghost use Rattle.cut_hall.specs.Report.{EndsAs};
 
 use crate::Crew;
-use crate::attend::{Listener, attend};
+use crate::attend::{Listener, Site, attend};
 use crate::door::{Door, SocketWire};
 use crate::shelf::FolderShelf;
+use cut_book::Shelf;
 use cut_commands::{CliFault, FaultText};
 use cut_disks::{Disk, FileDisk};
-use cut_pool::{Hall, NotClosed, Pass, Report, Shelf, Tally};
-use cut_table::{Wire, send_all};
+use cut_hall::{Hall, NotClosed, Pass, Report, Tally};
+use cut_wires::{Wire, send_all};
 use itoa::Buffer;
 use std::alloc::Global;
 use std::fs;
@@ -46,12 +46,19 @@ where
     requires { IsStaffed crew }
     ensures slots { IfOk result.1 (λ report. length report ≡ crew.studies) }
     ensures why { IfErr result.1 IsOfServing }
-    ensures given { OnOk result.1 (L.given result.0 ≡ more_given crew.sessions (L.given listener)) }
-    ensures faults { L.faults result.0 ≡ failed_serving result.1 (L.faults listener) }
+    ensures listens { Listens crew.sessions result.1 (L.calls listener) (L.calls result.0) }
 {
     let made = Blank::new(u64::from(crew.workers) + u64::from(crew.sessions));
     let kept = Blank::new(u64::from(crew.studies));
-    serve_by::<D, Brand, Brand, S, L, W, R>(rt, alloc, listener, shelf, crew, made, kept)
+    let blanks = Blanks { made, kept };
+    serve_by::<D, Brand, Brand, S, L, W, R>(rt, alloc, listener, shelf, crew, blanks)
+}
+
+/// The blanks of the ledgers of calls that were made and of calls that were kept.
+#[derive(Drop)]
+struct Blanks {
+    made: Blank,
+    kept: Blank,
 }
 
 /// The same, with the blanks of the two ledgers of calls.
@@ -61,8 +68,7 @@ fn serve_by<D, M, K, S, L, W, R>(
     listener: L,
     shelf: &S,
     crew: Crew,
-    made: Blank,
-    kept: Blank,
+    blanks: Blanks,
 ) -> (L, Result<Report, CliFault>)
 where
     D: Disk + Drop + Send,
@@ -73,22 +79,28 @@ where
     W: Wire + Send + Drop,
     R: Threads + Wait + Sync,
     requires crew { IsStaffed crew }
-    requires made { (made.name ≡ M.name) × (made.parts ≡ M.parts)
+    requires made { (blanks.made.name ≡ M.name) × (blanks.made.parts ≡ M.parts)
         × (M.all ≡ M.parts) × (M.all ≡ crew.workers + crew.sessions) }
-    requires kept { (kept.name ≡ K.name) × (kept.parts ≡ K.parts)
+    requires kept { (blanks.kept.name ≡ K.name) × (blanks.kept.parts ≡ K.parts)
         × (K.all ≡ K.parts) × (K.all ≡ crew.studies) }
     requires trusted { K.trusts ≡ S.is_true shelf.now }
     ensures slots { IfOk result.1 (λ report. length report ≡ crew.studies) }
     ensures why { IfErr result.1 IsOfServing }
-    ensures given { OnOk result.1 (L.given result.0 ≡ more_given crew.sessions (L.given listener)) }
-    ensures faults { L.faults result.0 ≡ failed_serving result.1 (L.faults listener) }
+    ensures listens { Listens crew.sessions result.1 (L.calls listener) (L.calls result.0) }
 {
+    let Blanks { made, kept } = blanks;
     let seats = crew.workers + crew.sessions;
     let started = Hall::<D, M, K>::start(alloc, crew.studies, seats, PIECE_SIZE, made, kept);
     let Ok((hall, passes)) = started else {
         return (listener, Err(CliFault::WorkMemory));
     };
-    let (listener, attended) = attend(rt, alloc, &hall, shelf, listener, passes, crew.workers);
+    let site = Site {
+        rt,
+        alloc,
+        hall: &hall,
+        shelf,
+    };
+    let (listener, attended) = attend(&site, listener, passes, crew.workers);
     match attended {
         Ok(passes) => (listener, closed(alloc, hall, passes)),
         Err(fault) => (listener, Err(fault)),
@@ -137,11 +149,8 @@ where
     W: Wire,
     R: Threads + Wait + Sync,
     requires { IsStaffed crew }
-    ensures told { W.tells wire.old → WritesReport crew.studies result.1 (W.traffic wire.old) (W.traffic wire.new) }
-    ensures tells { W.tells wire.old ↔ W.tells wire.new }
-    ensures faults { W.faults wire.new ≡ failed_calls result.1 (W.faults wire.old) }
-    ensures given { OnOk result.1 (L.given result.0 ≡ more_given crew.sessions (L.given listener)) }
-    ensures listener { L.faults result.0 ≡ failed_serving result.1 (L.faults listener) }
+    ensures writes { WritesReport crew.studies result.1 (W.log wire.old) (W.log wire.new) }
+    ensures listens { Listens crew.sessions result.1 (L.calls listener) (L.calls result.0) }
 {
     let (listener, served) = serve_sessions(rt, alloc, listener, shelf, crew);
     match served {
@@ -154,11 +163,8 @@ where
 fn write_accepted<W: Wire>(report: Report, wire: &mut W) -> Result<Report, CliFault>
     requires { length report ≤ 64 }
     ensures same { IfOk result (λ back. back ≡ report) }
-    ensures told { W.tells wire.old →
-        WritesReport (length report) result (W.traffic wire.old) (W.traffic wire.new) }
+    ensures writes { WritesReport (length report) result (W.log wire.old) (W.log wire.new) }
     ensures why { IfErr result IsOfWriting }
-    ensures tells { W.tells wire.old ↔ W.tells wire.new }
-    ensures faults { W.faults wire.new ≡ failed_calls result (W.faults wire.old) }
 {
     let mut digits = Buffer::new();
     let mut text = FaultText::new();
@@ -201,10 +207,7 @@ where
     W: Wire,
     R: Threads + Wait + Sync,
     requires { IsStaffed crew }
-    ensures ends { W.tells wire.old →
-        WritesReport crew.studies result (W.traffic wire.old) (W.traffic wire.new) }
-    ensures tells { W.tells wire.old ↔ W.tells wire.new }
-    ensures faults { W.faults wire.new ≡ failed_calls result (W.faults wire.old) }
+    ensures writes { WritesReport crew.studies result (W.log wire.old) (W.log wire.new) }
 {
     if !is_folder(host, folder) {
         return Err(CliFault::Folder);

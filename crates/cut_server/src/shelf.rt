@@ -4,9 +4,9 @@ ghost use Rattle.cut_disks.specs.State.{fresh};
 ghost use Rattle.cut_journal.specs.Trust.{IsTrueStore};
 ghost use Rattle.cut_server.specs.Shelf.{file_path};
 
+use cut_book::{Shelf, ShelfFault};
 use cut_disks::FileDisk;
 use cut_plan::Plan;
-use cut_pool::{Shelf, ShelfFault};
 use sha2::{Digest, Sha256};
 use std::alloc::{AllocError, Global};
 

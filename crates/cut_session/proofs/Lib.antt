@@ -1,7 +1,7 @@
-pub mod Sendings
 pub mod Turns
+pub mod Tables
 pub mod Cuts
 pub mod Courses
+pub mod Failing
 pub mod Feeding
-pub mod Served
 pub mod Owned

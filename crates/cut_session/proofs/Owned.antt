@@ -12,8 +12,9 @@ use Rattle.cut_lines.specs.Lines.{header, line_of, line_with}
 use Rattle.cut_ledger.specs.declared.slip.Slip.{Slip}
 use Rattle.cut_ledger.specs.Laws.{TrueSlipsSumAll}
 use Rattle.cut_ledger.specs.World.{AreTrue}
-use Rattle.cut_pool.specs.Faults.{code_of_submit, code_of_line}
-use Rattle.cut_pool.specs.Lines.{full_line}
+use Rattle.cut_book.specs.Faults.{code_of_submit}
+use Rattle.cut_hall.specs.Faults.{code_of_line}
+use Rattle.cut_hall.specs.Lines.{full_line}
 use Rattle.cut_messages.specs.declared.kind.Kind.TheVariants as kind
 use Rattle.cut_messages.specs.Frames.{frame}
 use Rattle.cut_session.specs.Answering.{AnswersText, AnswersRead, AnswersPlan, IsTable, IsBrokenOff, row_frame, rows_to, end_frame, error_frame}

@@ -1,19 +1,27 @@
--- Requests that are answered one behind another.
-use Rattle.std.proofs.Common.{◌≡◌, ◌∙◌, ◌+◌, ◌<◌, ◌++◌, ℕ, List, [], ◌∷◌, length, take, drop, get_or, Result, Ok, Err, inl, inr, refl, sym, ap, subst, arith, append_assoc, append-nil, take-append-drop}
+-- Requests that are answered one after another.
+use Rattle.std.proofs.Common.{◌≡◌, ◌∙◌, ◌+◌, ◌-◌, ◌*◌, ◌^◌, ◌<◌, ◌++◌, min, ℕ, List, [], ◌∷◌, length, take, drop, get_or, Result, Ok, Err, inl, inr, refl, sym, ap, subst, arith, append_assoc, append-nil, take-append-drop, length-append}
+use Rattle.std.specs.Bool.{⊤}
+use Rattle.std.specs.Prelude.{◌⊎◌}
 use Rattle.std.specs.Int.{w32, from_be_bytes}
 use Rattle.cut_board.specs.declared.view.View.{View}
-use Rattle.cut_table.specs.declared.send.Sent.{Sent}
-use Rattle.cut_table.specs.Traffic.{Traffic}
+use Rattle.std.specs.Borrow.{GName}
+use Rattle.cut_wires.specs.Log.{Log, wrote}
+use Rattle.cut_wires.specs.Sending.{Sending, sent_on}
+use Rattle.cut_wires.proofs.Logs.{wrote_none}
+use Rattle.cut_wires.proofs.Sendings.{sends_after}
 use Rattle.cut_messages.specs.declared.kind.Kind.{Kind}
 use Rattle.cut_messages.specs.declared.kind.Kind.TheVariants as kind
 use Rattle.cut_messages.specs.declared.message.Message.{Message}
-use Rattle.cut_pool.specs.Hall.{Rooms}
+use Rattle.cut_hall.specs.Hall.{Rooms}
 use Rattle.cut_session.specs.Answering.{Rises, AnswersKind, Answers, AnswersAll}
 use Rattle.cut_session.specs.declared.answer.Turn.{Turn}
 use Rattle.cut_session.specs.declared.answer.Turn.TheVariants.{On, Over}
-use Rattle.cut_session.specs.Serving.{Sends, Replies, Serves, ServesFirst, ServesAll}
+use Rattle.cut_session.specs.Serving.{Replies, Serves, ServesFirst, ServesAll, longest_reply}
 use Rattle.cut_messages.proofs.Answered.{take_next}
-use Rattle.cut_session.proofs.Sendings.{sends_behind}
+
+-- a line of which the parts are known
+abbrev on_line : GName → Log → ℕ → Sending
+on_line wire log sent = record { wire = wire; log = log; sent = sent }
 
 pub rises_none : (v : View) → Rises v v
 rises_none v = λ study. omega arith
@@ -34,6 +42,15 @@ kind_from hall low middle high other payload out rises is = is
 answers_from : (hall : Rooms) (low middle high : View) (m : Message) (out : List ℕ) → Rises low middle
     → Answers hall middle high m out → Answers hall low high m out
 answers_from hall low middle high m out rises is = (rises_on low middle high rises is.0, kind_from hall low middle high m.kind m.payload out rises is.1)
+
+-- what is no request has no reply
+pub no_reply : (hall : Rooms) (low high : View) (k : Kind) (payload : List ℕ)
+    → (k ≡ kind.Row) ⊎ ((k ≡ kind.Done) ⊎ (k ≡ kind.Fault)) → AnswersKind hall low high k payload []
+no_reply hall low high k payload (inl is) = subst (λ (x : Kind). AnswersKind hall low high x payload []) (sym is) refl
+no_reply hall low high k payload (inr (inl is)) =
+    subst (λ (x : Kind). AnswersKind hall low high x payload []) (sym is) refl
+no_reply hall low high k payload (inr (inr is)) =
+    subst (λ (x : Kind). AnswersKind hall low high x payload []) (sym is) refl
 
 -- what had been seen before may be less
 pub all_from : (hall : Rooms) (low middle high : View) (ms : List Message) (out : List ℕ) → Rises low middle
@@ -78,77 +95,75 @@ all_to hall low middle high ms out rises all =
 
 -- ---- as they are sent
 
-pub replies_then : (hall : Rooms) (low middle high : View) (xs ys : List Message) (before n : ℕ) (r : Result ℕ Sent)
-    (old now new : Traffic) → Replies (AnswersAll hall low middle xs) before (Ok n) old now
-    → Replies (AnswersAll hall middle high ys) n r now new
-    → Replies (AnswersAll hall low high (xs ++ ys)) before r old new
-replies_then hall low middle high xs ys before n r old now new first second = (
-  first.0 ++ second.0,
-  all_then hall low middle high xs ys first.0 second.0 first.1 second.1,
-  sends_behind before n r first.0 second.0 old now new first.2.sums first.2.took second.2,
-)
+-- nothing was sent
+pub none_sent : (s : Sending) → s.sent < 2 ^ 64 → s ≡ sent_on s []
+none_sent s small =
+    let count : s.sent ≡ min (s.sent + 0) (2 ^ 64 - 1) = omega (arith, small) in
+    ap (λ (l : Log). on_line s.wire l s.sent) (sym (wrote_none s.log))
+    ∙ ap (λ (n : ℕ). on_line s.wire (wrote s.log []) n) count
 
-pub reply_alone : (hall : Rooms) (low high : View) (m : Message) (before : ℕ) (r : Result ℕ Sent) (old new : Traffic)
-    → Replies (Answers hall low high m) before r old new
-    → Replies (AnswersAll hall low high (m ∷ [])) before r old new
-reply_alone hall low high m before r old new is = (is.0, all_one hall low high m is.0 is.1, is.2)
+module _ {E : Type 0} (hall : Rooms) (low middle high : View) (old now new : Sending) where
+  pub replies_then : (xs ys : List Message) (r : Result ⊤ E)
+      → Replies {E = ⊤} (AnswersAll hall low middle xs) (longest_reply * length xs) (Ok tt) old now
+      → Replies (AnswersAll hall middle high ys) (longest_reply * length ys) r now new
+      → Replies (AnswersAll hall low high (xs ++ ys)) (longest_reply * length (xs ++ ys)) r old new
+  replies_then xs ys r first second = (
+    first.0 ++ second.0,
+    all_then hall low middle high xs ys first.0 second.0 first.1 second.1,
+    omega (arith, first.2, second.2, length-append first.0 second.0, length-append xs ys),
+    sends_after r old now new first.0 second.0 first.3 second.3,
+  )
+
+  one_further : (ms : List Message) (i : ℕ) (m : Message) (r : Result ⊤ E) → i < length ms → m ≡ get_or ms i m
+      → Replies {E = ⊤} (AnswersAll hall low middle (take i ms)) (longest_reply * length (take i ms)) (Ok tt) old now
+      → Replies (Answers hall middle high m) longest_reply r now new
+      → Replies (AnswersAll hall low high (take (i + 1) ms)) (longest_reply * length (take (i + 1) ms)) r old new
+  one_further ms i m r within is first second =
+      let alone : Replies (AnswersAll hall middle high (m ∷ [])) (longest_reply * length (m ∷ [])) r now new =
+      (second.0, all_one hall middle high m second.0 second.1, omega (arith, second.2), second.3) in
+      subst (λ (l : List Message). Replies (AnswersAll hall low high l) (longest_reply * length l) r old new)
+      (take_next ms i m within is) (replies_then (take i ms) (m ∷ []) r first alone)
 
 -- ---- message by message
 
-same_serves : (hall : Rooms) (low high : View) (m : Message) (n : ℕ) (x y : Result Turn Sent) (now new : Traffic) → x ≡ y
-    → Serves hall low high m n x now new → Serves hall low high m n y now new
-same_serves hall low high m n x y now new same is =
-    subst (λ (r : Result Turn Sent). Serves hall low high m n r now new) same is
+module _ {E : Type 0} (hall here : Rooms) (low middle high : View) (ms : List Message) (i : ℕ) (m : Message)
+    (x : Result Turn E) (old now new : Sending) (within : i < length ms) (is : m ≡ get_or ms i m)
+    (first : Replies {E = ⊤} (AnswersAll hall low middle (take i ms)) (longest_reply * length (take i ms)) (Ok tt) old now)
+    (stays : here ≡ hall) (serves : Serves here middle high m x now new) where
+  -- by what the result is
+  serves_as : (y : Result Turn E) → x ≡ y → Serves hall middle high m y now new
+  serves_as y same =
+      subst (λ (r : Result Turn E). Serves hall middle high m r now new) same
+      (subst (λ (h : Rooms). Serves h middle high m x now new) stays serves)
 
-one_further : (hall : Rooms) (low middle high : View) (ms : List Message) (i : ℕ) (m : Message) (before n : ℕ)
-    (r : Result ℕ Sent) (old now new : Traffic) → i < length ms → m ≡ get_or ms i m
-    → Replies (AnswersAll hall low middle (take i ms)) before (Ok n) old now
-    → Replies (Answers hall middle high m) n r now new
-    → Replies (AnswersAll hall low high (take (i + 1) ms)) before r old new
-one_further hall low middle high ms i m before n r old now new within is first second =
-    subst (λ (l : List Message). Replies (AnswersAll hall low high l) before r old new) (take_next ms i m within is)
-    (replies_then hall low middle high (take i ms) (m ∷ []) before n r old now new first
-    (reply_alone hall middle high m n r now new second))
+  pub goes_on : x ≡ Ok On
+      → Replies {E = ⊤} (AnswersAll hall low high (take (i + 1) ms)) (longest_reply * length (take (i + 1) ms)) (Ok tt) old new
+  goes_on same =
+      one_further {E = ⊤} hall low middle high old now new ms i m (Ok tt) within is first (serves_as (Ok On) same)
 
-pub goes_on : (hall : Rooms) (low middle high : View) (ms : List Message) (i : ℕ) (m : Message) (before n k : ℕ)
-    (x : Result Turn Sent) (old now new : Traffic) → i < length ms → m ≡ get_or ms i m
-    → Replies (AnswersAll hall low middle (take i ms)) before (Ok n) old now → x ≡ Ok (On k)
-    → Serves hall middle high m n x now new
-    → Replies (AnswersAll hall low high (take (i + 1) ms)) before (Ok k) old new
-goes_on hall low middle high ms i m before n k x old now new within is first same serves =
-    one_further hall low middle high ms i m before n (Ok k) old now new within is first
-    (same_serves hall middle high m n x (Ok (On k)) now new same serves)
+  pub is_over : x ≡ Ok Over → ServesAll {E = E} hall low high ms (Ok Over) old new
+  is_over same =
+      let over = serves_as (Ok Over) same in
+      let parts : ms ≡ take i ms ++ m ∷ drop (i + 1) ms =
+      cc (take-append-drop (i + 1) ms, take_next ms i m within is, append_assoc (take i ms) (m ∷ []) (drop (i + 1) ms)) in
+      let s : ServesFirst {E = ⊤} hall low high ms (Ok tt) old new = record {
+        answered = take i ms;
+        unanswered = m ∷ drop (i + 1) ms;
+        parts = parts;
+        replies = (
+          first.0,
+          all_to hall low middle high (take i ms) first.0 over.1 first.1,
+          first.2,
+          over.2 ∙ first.3,
+        );
+      } in
+      (s, over.0)
 
-pub is_over : (hall : Rooms) (low middle high : View) (ms : List Message) (i : ℕ) (m : Message) (before n : ℕ)
-    (x : Result Turn Sent) (old now new : Traffic) → i < length ms → m ≡ get_or ms i m
-    → Replies (AnswersAll hall low middle (take i ms)) before (Ok n) old now → x ≡ Ok Over
-    → Serves hall middle high m n x now new → ServesAll hall low high ms before (Ok Over) old new
-is_over hall low middle high ms i m before n x old now new within is first same serves =
-    let over = same_serves hall middle high m n x (Ok Over) now new same serves in
-    let parts : ms ≡ take i ms ++ m ∷ drop (i + 1) ms =
-    sym (take-append-drop (i + 1) ms)
-    ∙ ap (λ (l : List Message). l ++ drop (i + 1) ms) (sym (take_next ms i m within is))
-    ∙ append_assoc (take i ms) (m ∷ []) (drop (i + 1) ms) in
-    let all : AnswersAll hall low high (take i ms) first.0 =
-    all_to hall low middle high (take i ms) first.0 over.1 first.1 in
-    let sends : Sends before (Ok n) first.0 old new =
-    subst (λ (t : Traffic). Sends before (Ok n) first.0 old t) (sym over.2) first.2 in
-    let s : ServesFirst hall low high ms before (Ok n) old new = record {
-      answered = take i ms;
-      unanswered = m ∷ drop (i + 1) ms;
-      parts = parts;
-      replies = (first.0, all, sends);
-    } in
-    (n, s, over.0)
-
-pub is_cut : (hall : Rooms) (low middle high : View) (ms : List Message) (i : ℕ) (m : Message) (before n : ℕ) (p : Sent)
-    (x : Result Turn Sent) (old now new : Traffic) → i < length ms → m ≡ get_or ms i m
-    → Replies (AnswersAll hall low middle (take i ms)) before (Ok n) old now → x ≡ Err p
-    → Serves hall middle high m n x now new → ServesFirst hall low high ms before (Err p) old new
-is_cut hall low middle high ms i m before n p x old now new within is first same serves = record {
-  answered = take (i + 1) ms;
-  unanswered = drop (i + 1) ms;
-  parts = sym (take-append-drop (i + 1) ms);
-  replies = one_further hall low middle high ms i m before n (Err p) old now new within is first
-      (same_serves hall middle high m n x (Err p) now new same serves);
-}
+  pub is_cut : (fault : E) → x ≡ Err fault → ServesAll {E = E} hall low high ms (Err fault) old new
+  is_cut fault same = record {
+    answered = take (i + 1) ms;
+    unanswered = drop (i + 1) ms;
+    parts = sym (take-append-drop (i + 1) ms);
+    replies = one_further hall low middle high old now new ms i m (Err fault) within is first
+        (serves_as (Err fault) same);
+  }

@@ -1,120 +1,99 @@
 -- What the parts of a session do. Only the crate's private clauses cite it.
-use Rattle.std.specs.Prelude.{◌≡◌, ◌≤◌, ◌+◌, ◌++◌, ℕ, List, [], length, Result, Ok, Err, None, ⊤}
+use Rattle.std.specs.Prelude.{◌≡◌, ◌+◌, ◌*◌, ◌-◌, ◌^◌, ◌≤◌, ◌++◌, ℕ, List, [], length, min, Result, Ok, Err, None, ⊤}
 use Rattle.cut_board.specs.declared.view.View.{View}
-use Rattle.cut_table.specs.declared.send.Sent.{Sent}
-use Rattle.cut_table.specs.Traffic.{Traffic, Failed, wrote, write_failed, IsSentBetween, SendsAfter}
+use Rattle.cut_wires.specs.Log.{Traffic, passing}
+use Rattle.cut_wires.specs.Sending.{Sending, Sends, sent_on, IsCut}
 use Rattle.cut_messages.specs.declared.side.Side.TheVariants.{Requests}
 use Rattle.cut_messages.specs.declared.kind.Kind.TheVariants as kind
 use Rattle.cut_messages.specs.declared.message.Message.{Message}
 use Rattle.cut_session.specs.declared.answer.Turn.{Turn}
 use Rattle.cut_session.specs.declared.answer.Turn.TheVariants.{On, Over}
-use Rattle.cut_session.specs.declared.serve.Served.{Served}
 use Rattle.cut_session.specs.declared.session_end.SessionEnd.{SessionEnd}
 use Rattle.cut_session.specs.declared.session_end.SessionEnd.TheVariants as end
 use Rattle.cut_session.specs.declared.session_end.SessionFault.{SessionFault}
-use Rattle.cut_session.specs.declared.session_end.SessionFault.TheVariants as session
 use Rattle.cut_session.specs.FaultCode.{code_of_session}
 use Rattle.cut_messages.specs.Reading.{Reading, HasRead}
-use Rattle.cut_pool.specs.Hall.{Rooms}
+use Rattle.cut_hall.specs.Hall.{Rooms}
 use Rattle.cut_session.specs.Answering.{Rises, Answers, AnswersAll, error_frame}
 use Rattle.cut_session.specs.Session.{QuitsAtOnce, Ends}
 
 -- ---- one reply
 
--- so many bytes are sent now: all up to high, or fewer
-abbrev pub SumsTo : ℕ → ℕ → Result ℕ Sent → Type 0
-SumsTo low high (Ok n) = n ≡ high
-SumsTo low high (Err part) = IsSentBetween low high part
+-- how many bytes a reply has at most
+abbrev pub longest_reply : ℕ
+longest_reply = 2 ^ 21
 
--- bytes went out after so many others, all of them or exactly as many of the first as are told
-pub record Sends (before : ℕ) (result : Result ℕ Sent) (out : List ℕ) (old new : Traffic) : Type 0 where
-  pub sums : SumsTo before (before + length out) result
-  pub took : SendsAfter before result out old new
-
--- a reply went out of which P holds
-abbrev pub Replies : (List ℕ → Type 0) → ℕ → Result ℕ Sent → Traffic → Traffic → Type 0
-Replies P before result old new = (out : List ℕ) × P out × Sends before result out old new
+-- a reply of which P holds, of at most `most` bytes, was sent, or a write of it failed
+abbrev pub Replies : {E : Type 0} → (List ℕ → Type 0) → ℕ → Result ⊤ E → Sending → Sending → Type 0
+Replies P most result old new = (out : List ℕ) × P out × (length out ≤ most) × Sends result out old new
 
 -- ---- the replies to some messages
 
 -- of one message: the reply to it, or none where it quits
-abbrev pub Serves : Rooms → View → View → Message → ℕ → Result Turn Sent → Traffic → Traffic → Type 0
-Serves hall low high m before (Ok (On n)) old new = Replies (Answers hall low high m) before (Ok n) old new
-Serves hall low high m before (Ok Over) old new =
-    (m.kind ≡ kind.Quit) × Rises low high × (new ≡ old)
-Serves hall low high m before (Err part) old new =
-    Replies (Answers hall low high m) before (Err part) old new
+abbrev pub Serves : {E : Type 0} → Rooms → View → View → Message → Result Turn E → Sending → Sending → Type 0
+Serves hall low high m (Ok On) old new =
+    Replies {E = ⊤} (Answers hall low high m) longest_reply (Ok tt) old new
+Serves hall low high m (Ok Over) old new = (m.kind ≡ kind.Quit) × Rises low high × (new ≡ old)
+Serves {E} hall low high m (Err fault) old new =
+    Replies {E = E} (Answers hall low high m) longest_reply (Err fault) old new
 
--- the first of some messages were answered, and these bytes went out
-pub record ServesFirst (hall : Rooms) (low high : View) (messages : List Message) (before : ℕ)
-    (result : Result ℕ Sent) (old new : Traffic) : Type 0 where
+-- the first of some messages were answered, and these bytes were sent, or a write of them failed
+pub record ServesFirst {E : Type 0} (hall : Rooms) (low high : View) (messages : List Message) (result : Result ⊤ E)
+    (old new : Sending) : Type 0 where
   pub answered : List Message
   pub unanswered : List Message
   pub parts : messages ≡ answered ++ unanswered
-  pub replies : Replies (AnswersAll hall low high answered) before result old new
+  pub replies : Replies (AnswersAll hall low high answered) (longest_reply * length answered) result old new
 
 -- all of them were answered, or those before one that quits, or those up to one whose reply was not sent whole
-abbrev pub ServesAll : Rooms → View → View → List Message → ℕ → Result Turn Sent → Traffic → Traffic → Type 0
-ServesAll hall low high messages before (Ok (On n)) old new =
-    Replies (AnswersAll hall low high messages) before (Ok n) old new
-ServesAll hall low high messages before (Ok Over) old new =
-    (n : ℕ) × (s : ServesFirst hall low high messages before (Ok n) old new) × QuitsAtOnce s.unanswered
-ServesAll hall low high messages before (Err part) old new =
-    ServesFirst hall low high messages before (Err part) old new
-
--- not more bytes are sent than these
-abbrev pub IsWithin : ℕ → Turn → Type 0
-IsWithin most (On n) = n ≤ most
-IsWithin most Over = ⊤
+abbrev pub ServesAll : {E : Type 0} → Rooms → View → View → List Message → Result Turn E → Sending → Sending → Type 0
+ServesAll hall low high messages (Ok On) old new =
+    Replies {E = ⊤} (AnswersAll hall low high messages) (longest_reply * length messages) (Ok tt) old new
+ServesAll hall low high messages (Ok Over) old new =
+    (s : ServesFirst {E = ⊤} hall low high messages (Ok tt) old new) × QuitsAtOnce s.unanswered
+ServesAll {E} hall low high messages (Err fault) old new = ServesFirst {E = E} hall low high messages (Err fault) old new
 
 -- ---- the frame of a fault that ends a session
 
-abbrev pub Leaves : SessionFault → ℕ → SessionEnd → Traffic → Traffic → Type 0
-Leaves fault before (end.Fault told) old new =
-    (told ≡ fault) × (new ≡ wrote old (error_frame (code_of_session fault)))
-Leaves fault before (end.Write n) old new =
-    Sends before (Err (record { bytes = n })) (error_frame (code_of_session fault)) old new
-Leaves fault before other old new = ⊥
-
--- the same for any wire
-abbrev pub LeavesFor : SessionFault → SessionEnd → Type 0
-LeavesFor fault (end.Fault told) = told ≡ fault
-LeavesFor fault (end.Write n) = ⊤
-LeavesFor fault other = ⊥
-
-abbrev pub failed_leaving : SessionEnd → Failed → Failed
-failed_leaving (end.Write n) f = write_failed f
-failed_leaving other f = f
+-- it was sent; or a write of it failed, and this is how many bytes were sent then
+abbrev pub Leaves : SessionFault → SessionEnd → Sending → Sending → Type 0
+Leaves fault (end.Fault sent) old new = (sent ≡ fault) × (new ≡ sent_on old (error_frame (code_of_session fault)))
+Leaves fault (end.Write n) old new = (n ≡ new.sent) × IsCut (error_frame (code_of_session fault)) old new
+Leaves fault other old new = ⊥
 
 -- ---- between two reads
 
--- all messages so far are answered, and no fault stands behind them; a piece was given that is not read yet
-pub record IsServing (hall : Rooms) (low high : View) (r : Reading) (done : Served) (piece : List ℕ)
-    (old now : Traffic) : Type 0 where
+-- a wire that took and gave these bytes more
+abbrev pub conveyed : List ℕ → List ℕ → Traffic → Traffic
+conveyed taken given t = record { taken = t.taken ++ taken; given = t.given ++ given; ends = t.ends }
+
+-- a line over which these bytes were sent, and these read
+abbrev pub served : Sending → List ℕ → List ℕ → Sending
+served s out given = record {
+  wire = s.wire;
+  log = passing (conveyed out given) s.log;
+  sent = min (s.sent + length out) (2 ^ 64 - 1);
+}
+
+-- all messages so far are answered, and no fault stands after them; a piece was given that is not read yet
+pub record IsServing (hall : Rooms) (low high : View) (r : Reading) (requests : ℕ) (piece : List ℕ)
+    (old now : Sending) : Type 0 where
   pub stream : List ℕ
   pub messages : List Message
   pub out : List ℕ
   pub read : HasRead r stream messages
   pub right : r.fault ≡ None
   pub side : r.side ≡ Requests
-  pub requests : done.requests ≡ length messages
+  pub many : requests ≡ length messages
   pub replies : AnswersAll hall low high messages out
-  pub sums : done.sent ≡ length out
-  pub wire : now ≡ record {
-    taken = old.taken ++ out;
-    given = old.given ++ (stream ++ piece);
-    ends = old.ends;
-  }
+  pub few : length out ≤ longest_reply * length messages
+  pub line : now ≡ served old out (stream ++ piece)
+
+-- how a session ended over a line that had sent nothing before it
+abbrev pub Concludes : Rooms → View → View → SessionEnd → Sending → Sending → Type 0
+Concludes hall low high end old new = Ends hall low high end old.log new.log × (new.wire ≡ old.wire)
 
 -- after a piece the session goes on, or has ended
-abbrev pub Goes : Rooms → View → View → Result Served SessionEnd → Reading → Traffic → Traffic → Failed → Failed
-    → Type 0
-Goes hall low high (Ok done) r old new f g = IsServing hall low high r done [] old new
-Goes hall low high (Err end) r old new f g = Ends hall low high end old new f g
-
--- the counts of failed calls after it; no read failed
-abbrev pub HasFailedAt : Result Served SessionEnd → Failed → Failed → Type 0
-HasFailedAt (Ok done) old new = new ≡ old
-HasFailedAt (Err (end.Write n)) old new = new ≡ write_failed old
-HasFailedAt (Err (end.Fault session.Read)) old new = ⊥
-HasFailedAt (Err other) old new = new ≡ old
+abbrev pub Goes : Rooms → View → View → Result ℕ SessionEnd → Reading → Sending → Sending → Type 0
+Goes hall low high (Ok requests) r old new = IsServing hall low high r requests [] old new
+Goes hall low high (Err end) r old new = Concludes hall low high end old new

@@ -2,7 +2,7 @@
 use Rattle.std.specs.Prelude.{◌≡◌, ◌<◌, ◌≤◌, ◌⊎◌, ◌++◌, ℕ, List, [], ◌∷◌, length, take, Some, None}
 use Rattle.cut_faults.specs.Failures.{one_more}
 use Rattle.cut_board.specs.declared.view.View.{View}
-use Rattle.cut_table.specs.Traffic.{Traffic, Failed, read_failed, write_failed}
+use Rattle.cut_wires.specs.Log.{Traffic, Log, passing, read_failed, write_failed}
 use Rattle.cut_messages.specs.declared.side.Side.TheVariants.{Requests}
 use Rattle.cut_messages.specs.declared.kind.Kind.TheVariants as kind
 use Rattle.cut_messages.specs.declared.message.Message.{Message}
@@ -13,7 +13,7 @@ use Rattle.cut_session.specs.declared.session_end.SessionFault.TheVariants as se
 use Rattle.cut_session.specs.FaultCode.{code_of_session}
 use Rattle.cut_messages.specs.Frames.{fault_at}
 use Rattle.cut_messages.specs.Reading.{Splits}
-use Rattle.cut_pool.specs.Hall.{Rooms}
+use Rattle.cut_hall.specs.Hall.{Rooms}
 use Rattle.cut_session.specs.Answering.{AnswersAll, error_frame}
 
 -- how many requests a session answers
@@ -21,7 +21,7 @@ abbrev pub request_limit : ℕ
 request_limit = 1000000
 
 -- what a session has read and replied: a stream, its messages, of which the first ones are answered, and the
--- bytes behind them; what the last read gave and no reader took; and the replies
+-- bytes after them; what the last read gave and no reader took; and the replies
 pub record Course : Type 0 where
   pub stream : List ℕ
   pub answered : List Message
@@ -47,7 +47,7 @@ QuitsAtOnce [] = ⊥
 QuitsAtOnce (m ∷ ms) = m.kind ≡ kind.Quit
 
 -- a fault ends the session: memory was wanting for what the last read gave; or the input cannot go on, or
--- goes on no further, behind the messages that are answered; or there are more messages than may be answered
+-- goes on no further, after the messages that are answered; or there are more messages than may be answered
 abbrev pub IsDue : SessionFault → Course → Type 0
 IsDue session.Memory c =
     (c.unanswered ≡ []) × (0 < length c.last) × (length c.last ≤ 4096) × (fault_at Requests c.rest ≡ None)
@@ -63,69 +63,64 @@ IsDue (session.Stream fault) c = IsAnswered c × (fault_at Requests c.rest ≡ S
 abbrev pub replies_to : SessionFault → Course → List ℕ
 replies_to fault c = c.out ++ error_frame (code_of_session fault)
 
--- how many reads gave the end of the input, after a session that a fault ended
-abbrev pub ends_at : SessionFault → ℕ → ℕ
-ends_at session.Truncated n = one_more n
-ends_at fault n = n
+-- a wire that gave what the session read, and took these bytes
+abbrev pub gave_and_took : Course → List ℕ → Traffic → Traffic
+gave_and_took c taken t =
+    record { taken = t.taken ++ taken; given = t.given ++ (c.stream ++ c.last); ends = t.ends }
 
--- a wire that gave what the session read, and the end so often, and took these bytes
-abbrev pub passed : Course → List ℕ → ℕ → Traffic → Traffic
-passed c taken ends old =
-    record { taken = old.taken ++ taken; given = old.given ++ (c.stream ++ c.last); ends = ends }
+abbrev pub passed : Course → List ℕ → Log → Log
+passed c taken l = passing (gave_and_took c taken) l
+
+-- and whose last read gave the end of the input
+abbrev pub with_end : Traffic → Traffic
+with_end t = record { taken = t.taken; given = t.given; ends = one_more t.ends }
+
+abbrev pub ended : Log → Log
+ended l = passing with_end l
+
+-- what the last read did, where this fault is due: it gave the end, or it failed
+abbrev pub read_by : SessionFault → Log → Log
+read_by session.Truncated l = ended l
+read_by session.Read l = read_failed l
+read_by fault l = l
 
 -- the last of the messages that are answered, with the replies to those before it and the reply to it
-pub record LastReply (hall : Rooms) (low high : View) (c : Course) : Type 0 where
+pub record LastReply (hall : Rooms) (low high : View) (answered : List Message) (out : List ℕ) : Type 0 where
   pub before : List Message
   pub here : Message
   pub middle : View
   pub first : List ℕ
   pub reply : List ℕ
-  pub parts : c.answered ≡ before ++ here ∷ []
+  pub parts : answered ≡ before ++ here ∷ []
   pub replies : AnswersAll hall low middle before first
   pub answers : AnswersAll hall middle high (here ∷ []) reply
-  pub joined : c.out ≡ first ++ reply
-
--- the counts of failed calls where a fault is due: one read more exactly where it is that a read failed
-abbrev pub failed_by : SessionFault → Failed → Failed
-failed_by session.Read f = read_failed f
-failed_by fault f = f
+  pub joined : out ≡ first ++ reply
 
 -- a write failed of the last reply: those before it were sent whole, and it was not
-abbrev pub CutsReply : Rooms → View → View → ℕ → Course → Traffic → Traffic → Failed → Failed → Type 0
-CutsReply hall low high sent c old new f g =
-    (l : LastReply hall low high c) × (length l.first ≤ sent) × (sent < length c.out) × (c.last ≡ [])
-    × (new ≡ passed c (take sent c.out) old.ends old) × (g ≡ write_failed f)
+abbrev pub CutsReply : Rooms → View → View → ℕ → Course → Log → Log → Type 0
+CutsReply hall low high sent c old new =
+    (l : LastReply hall low high c.answered c.out) × (length l.first ≤ sent) × (sent < length c.out) × (c.last ≡ [])
+    × (new ≡ write_failed (passed c (take sent c.out) old))
 
--- a write of the frame failed that tells the fault which ended the session
-abbrev pub CutsEnd : ℕ → Course → Traffic → Traffic → Failed → Failed → Type 0
-CutsEnd sent c old new f g =
+-- a write of the frame failed that has the fault which ended the session
+abbrev pub CutsEnd : ℕ → Course → Log → Log → Type 0
+CutsEnd sent c old new =
     (fault : SessionFault) × IsDue fault c × (length c.out ≤ sent) × (sent < length (replies_to fault c))
-    × (new ≡ passed c (take sent (replies_to fault c)) (ends_at fault old.ends) old)
-    × (g ≡ write_failed (failed_by fault f))
+    × (new ≡ write_failed (read_by fault (passed c (take sent (replies_to fault c)) old)))
 
--- how a session ends, and what its wire took and gave: all replies to the messages before one that quits; all
--- replies, where the input ended behind them; the replies and the fault's frame; or exactly as many of the
--- first bytes of these as are told, where a write failed, and then which calls failed in all
-abbrev pub EndsAs : Rooms → View → View → SessionEnd → Course → Traffic → Traffic → Failed → Failed → Type 0
-EndsAs hall low high Quit c old new f g =
-    QuitsAtOnce c.unanswered × (length c.answered < request_limit) × (c.last ≡ [])
-    × (new ≡ passed c c.out old.ends old)
-EndsAs hall low high EndOfInput c old new f g =
-    IsAnswered c × (c.rest ≡ []) × (new ≡ passed c c.out (one_more old.ends) old)
-EndsAs hall low high (Fault fault) c old new f g =
-    IsDue fault c × (new ≡ passed c (replies_to fault c) (ends_at fault old.ends) old)
-EndsAs hall low high (Write sent) c old new f g =
-    CutsReply hall low high sent c old new f g ⊎ CutsEnd sent c old new f g
+-- how a session ends, what its wire took and gave, and which calls failed: all replies to the messages before one
+-- that quits; all replies, where the input ended after them; the replies and the fault's frame; or exactly as many
+-- of the first bytes of these as are reported, where a write failed
+abbrev pub EndsAs : Rooms → View → View → SessionEnd → Course → Log → Log → Type 0
+EndsAs hall low high Quit c old new =
+    QuitsAtOnce c.unanswered × (length c.answered < request_limit) × (c.last ≡ []) × (new ≡ passed c c.out old)
+EndsAs hall low high EndOfInput c old new =
+    IsAnswered c × (c.rest ≡ []) × (new ≡ ended (passed c c.out old))
+EndsAs hall low high (Fault fault) c old new =
+    IsDue fault c × (new ≡ read_by fault (passed c (replies_to fault c) old))
+EndsAs hall low high (Write sent) c old new =
+    CutsReply hall low high sent c old new ⊎ CutsEnd sent c old new
 
-abbrev pub Ends : Rooms → View → View → SessionEnd → Traffic → Traffic → Failed → Failed → Type 0
-Ends hall low high end old new f g =
-    (c : Course) × IsCourse hall low high c × EndsAs hall low high end c old new f g
-
--- ---- calls that failed
-
--- of any wire: a write exactly where one is told, and a read exactly where that is told, or where telling it
--- failed
-abbrev pub HasFailed : SessionEnd → Failed → Failed → Type 0
-HasFailed (Write sent) old new = (new ≡ write_failed old) ⊎ (new ≡ write_failed (read_failed old))
-HasFailed (Fault session.Read) old new = new ≡ read_failed old
-HasFailed end old new = new ≡ old
+-- of a wire of which nothing is known there is some course of which this is so
+abbrev pub Ends : Rooms → View → View → SessionEnd → Log → Log → Type 0
+Ends hall low high end old new = (c : Course) × IsCourse hall low high c × EndsAs hall low high end c old new

@@ -1,142 +1,154 @@
-ghost use Rattle.std.specs.Prelude.{true, ◌≡◌, ◌+◌, ◌*◌, ◌^◌, ◌<◌, ◌≤◌, ◌↔◌, length, slice_index, IfOk};
+ghost use Rattle.std.specs.Prelude.{true, ◌≡◌, length, slice_index};
 ghost use Rattle.std.specs.Int.{w32, from_be_bytes};
-ghost use Rattle.cut_table.specs.Traffic.{after_write};
-ghost use Rattle.cut_session.specs.Answering.{AnswersCount, Rises};
-ghost use Rattle.cut_session.specs.Serving.{Replies, Serves, ServesAll, IsWithin};
+ghost use Rattle.cut_wires.specs.Sending.{sending};
+ghost use Rattle.cut_session.specs.Answering.{AnswersCount, AnswersText, Rises};
+ghost use Rattle.cut_session.specs.Serving.{Replies, Serves, ServesAll, longest_reply};
 
 use crate::fault_reply::send_fault;
-use crate::study::answer_submit;
+use crate::study::{OpenedRows, send_table};
 use cut_board::laws::reads_are_seen;
+use cut_book::Shelf;
 use cut_disks::Disk;
-use cut_messages::{Kind, Message, send_after};
-use cut_pool::{Hall, Pass, Shelf, Tally};
-use cut_table::{Sent, Wire};
+use cut_faults::FaultCode;
+use cut_hall::{Hall, Pass, Tally};
+use cut_messages::{Kind, Message, send_message};
+use cut_plan::{Plan, PlanFault};
+use cut_wires::{Line, Wire, WireFault};
 use std::alloc::Global;
 use std::sync::Wait;
 
 /// How a session goes on after requests.
 #[derive(Clone, Copy)]
 pub(crate) enum Turn {
-    /// It takes the next one, with this many bytes of replies sent.
-    On(u64),
+    /// It takes the next one.
+    On,
     /// The client has quit.
     Over,
 }
 
-/// Answers requests in order, up to one that quits.
-pub(crate) fn answer_all<D, M, K, S, W, R>(
-    rt: &R,
-    alloc: Global,
-    hall: &Hall<D, M, K>,
-    pass: &mut Pass<M>,
-    shelf: &S,
-    wire: &mut W,
-    messages: &[Message],
-    before: u64,
-) -> Result<Turn, Sent>
+/// What a session borrows to answer its requests: the hall and its own pass, and the shelf on which studies are kept.
+#[derive(Drop)]
+pub(crate) struct Session<'a, D: Disk, M: Tally, K: Tally, S: Shelf<D>, R> {
+    pub(crate) rt: &'a R,
+    pub(crate) alloc: Global,
+    pub(crate) hall: &'a Hall<D, M, K>,
+    pub(crate) pass: &'a mut Pass<M>,
+    pub(crate) shelf: &'a S,
+    ghost own: { pass.now.hall ≡ hall.now.id },
+    ghost trusted: { hall.now.is_trusted ≡ true → S.is_true shelf.now ≡ true },
+}
+
+impl<D, M, K, S, R> Session<'_, D, M, K, S, R>
 where
     D: Disk + Drop,
     M: Tally,
     K: Tally,
     S: Shelf<D>,
-    W: Wire,
     R: Wait,
-    requires own { pass.old.hall ≡ hall.now.id }
-    requires trusted { hall.now.is_trusted ≡ true → S.is_true shelf.now ≡ true }
-    requires room { before + 2 ^ 21 * length messages.now < 2 ^ 62 }
-    ensures told { W.tells wire.old →
-        ServesAll hall.now pass.old.view pass.new.view messages.now before result
-        (W.traffic wire.old) (W.traffic wire.new) }
-    ensures few { IfOk result (IsWithin (before + 2 ^ 21 * length messages.now)) }
-    ensures own { pass.new.hall ≡ pass.old.hall }
-    ensures rises { Rises pass.old.view pass.new.view }
-    ensures tells { W.tells wire.old ↔ W.tells wire.new }
-    ensures faults { W.faults wire.new ≡ after_write result (W.faults wire.old) }
 {
-    let mut sent = before;
-    for message in messages {
-        match answer(rt, alloc, hall, pass, shelf, wire, message, sent) {
-            Ok(Turn::On(more)) => sent = more,
-            Ok(Turn::Over) => return Ok(Turn::Over),
-            Err(part) => return Err(part),
+    /// Answers requests in order, up to one that quits.
+    pub(crate) fn answer_all<W: Wire>(
+        &mut self,
+        line: &mut Line<'_, W>,
+        messages: &[Message],
+    ) -> Result<Turn, WireFault>
+        ensures serves { ServesAll self.old.hall.now self.old.pass.now.view self.new.pass.now.view messages.now
+            result (sending W.log line.old) (sending W.log line.new) }
+        ensures stays { (self.new.hall.now ≡ self.old.hall.now)
+            × (self.new.pass.ghost_name ≡ self.old.pass.ghost_name) }
+    {
+        // For the proof: a count of sent bytes is below 2^64.
+        let _sent = line.sent();
+        for message in messages {
+            match self.answer(line, message) {
+                Ok(Turn::On) => {}
+                Ok(Turn::Over) => return Ok(Turn::Over),
+                Err(fault) => return Err(fault),
+            }
+        }
+        Ok(Turn::On)
+    }
+
+    /// Answers one request.
+    fn answer<W: Wire>(
+        &mut self,
+        line: &mut Line<'_, W>,
+        message: &Message,
+    ) -> Result<Turn, WireFault>
+        ensures serves { Serves self.old.hall.now self.old.pass.now.view self.new.pass.now.view message.now
+            result (sending W.log line.old) (sending W.log line.new) }
+        ensures stays { (self.new.hall.now ≡ self.old.hall.now)
+            × (self.new.pass.ghost_name ≡ self.old.pass.ghost_name) }
+    {
+        let payload = message.payload.as_slice();
+        match message.kind {
+            Kind::Submit => match self.answer_submit(line, payload) {
+                Ok(()) => Ok(Turn::On),
+                Err(fault) => Err(fault),
+            },
+            Kind::Count => match self.answer_count(line, payload) {
+                Ok(()) => Ok(Turn::On),
+                Err(fault) => Err(fault),
+            },
+            Kind::Quit => Ok(Turn::Over),
+            Kind::Row | Kind::Done | Kind::Fault => {
+                // For the proof: a count of sent bytes is below 2^64.
+                let _sent = line.sent();
+                Ok(Turn::On)
+            }
         }
     }
-    Ok(Turn::On(sent))
-}
 
-/// Answers one request.
-fn answer<D, M, K, S, W, R>(
-    rt: &R,
-    alloc: Global,
-    hall: &Hall<D, M, K>,
-    pass: &mut Pass<M>,
-    shelf: &S,
-    wire: &mut W,
-    message: &Message,
-    sent: u64,
-) -> Result<Turn, Sent>
-where
-    D: Disk + Drop,
-    M: Tally,
-    K: Tally,
-    S: Shelf<D>,
-    W: Wire,
-    R: Wait,
-    requires own { pass.old.hall ≡ hall.now.id }
-    requires trusted { hall.now.is_trusted ≡ true → S.is_true shelf.now ≡ true }
-    requires room { sent < 2 ^ 62 }
-    ensures told { W.tells wire.old →
-        Serves hall.now pass.old.view pass.new.view message.now sent result
-        (W.traffic wire.old) (W.traffic wire.new) }
-    ensures few { IfOk result (IsWithin (sent + 2 ^ 21)) }
-    ensures own { pass.new.hall ≡ pass.old.hall }
-    ensures rises { Rises pass.old.view pass.new.view }
-    ensures tells { W.tells wire.old ↔ W.tells wire.new }
-    ensures faults { W.faults wire.new ≡ after_write result (W.faults wire.old) }
-{
-    let payload = message.payload.as_slice();
-    match message.kind {
-        Kind::Submit => match answer_submit(rt, alloc, hall, pass, shelf, wire, payload, sent) {
-            Ok(sent) => Ok(Turn::On(sent)),
-            Err(part) => Err(part),
-        },
-        Kind::Count => match answer_count(hall, pass, wire, payload, sent) {
-            Ok(sent) => Ok(Turn::On(sent)),
-            Err(part) => Err(part),
-        },
-        Kind::Quit => Ok(Turn::Over),
-        Kind::Row | Kind::Done | Kind::Fault => Ok(Turn::On(sent)),
+    /// Answers the question how many trials of a study are counted.
+    fn answer_count<W: Wire>(
+        &mut self,
+        line: &mut Line<'_, W>,
+        payload: &[u8],
+    ) -> Result<(), WireFault>
+        ensures replies { Replies (AnswersCount self.old.hall.now self.old.pass.now.view self.new.pass.now.view
+            (from_be_bytes w32 payload.now)) longest_reply result (sending W.log line.old) (sending W.log line.new) }
+        ensures rises { Rises self.old.pass.now.view self.new.pass.now.view }
+        ensures stays { (self.new.hall.now ≡ self.old.hall.now)
+            × (self.new.pass.ghost_name ≡ self.old.pass.ghost_name) }
+    {
+        reads_are_seen();
+        match self.hall.counted(self.pass, number_in(payload)) {
+            Ok(count) => send_message(line, Kind::Count, &count.to_be_bytes()),
+            Err(fault) => send_fault(line, fault.code()),
+        }
     }
-}
 
-/// Answers the question how many trials of a study are counted.
-fn answer_count<D, M, K, W>(
-    hall: &Hall<D, M, K>,
-    pass: &mut Pass<M>,
-    wire: &mut W,
-    payload: &[u8],
-    sent: u64,
-) -> Result<u64, Sent>
-where
-    D: Disk + Drop,
-    M: Tally,
-    K: Tally,
-    W: Wire,
-    requires own { pass.old.hall ≡ hall.now.id }
-    requires room { sent < 2 ^ 62 }
-    ensures told { W.tells wire.old → Replies
-        (AnswersCount hall.now pass.old.view pass.new.view (from_be_bytes w32 payload.now))
-        sent result (W.traffic wire.old) (W.traffic wire.new) }
-    ensures few { IfOk result (λ n. n ≤ sent + 2 ^ 21) }
-    ensures own { pass.new.hall ≡ pass.old.hall }
-    ensures rises { Rises pass.old.view pass.new.view }
-    ensures tells { W.tells wire.old ↔ W.tells wire.new }
-    ensures faults { W.faults wire.new ≡ after_write result (W.faults wire.old) }
-{
-    reads_are_seen();
-    match hall.counted(pass, number_in(payload)) {
-        Ok(count) => send_after(wire, sent, Kind::Count, &count.to_be_bytes()),
-        Err(fault) => send_fault(wire, sent, fault.code()),
+    /// Answers the text of a plan: by the table of its study as it is done, or by a fault.
+    fn answer_submit<W: Wire>(
+        &mut self,
+        line: &mut Line<'_, W>,
+        text: &[u8],
+    ) -> Result<(), WireFault>
+        ensures replies { Replies (AnswersText self.old.hall.now.is_trusted text.now) longest_reply result
+            (sending W.log line.old) (sending W.log line.new) }
+        ensures view { self.new.pass.now.view ≡ self.old.pass.now.view }
+        ensures stays { (self.new.hall.now ≡ self.old.hall.now)
+            × (self.new.pass.ghost_name ≡ self.old.pass.ghost_name) }
+    {
+        let plan = match Plan::from_json(self.alloc, text) {
+            Ok(plan) => plan,
+            Err(PlanFault::Memory) => return send_fault(line, FaultCode::WorkMemory),
+            Err(PlanFault::Refused(refusal)) => return send_fault(line, refusal.code()),
+        };
+        let (rt, alloc, hall) = (self.rt, self.alloc, self.hall);
+        match hall.submit(rt, alloc, self.pass, plan, self.shelf) {
+            Ok(opened) => {
+                let mut rows = OpenedRows {
+                    rt,
+                    alloc,
+                    hall,
+                    pass: &mut *self.pass,
+                    opened: &opened,
+                };
+                send_table(&mut rows, line)
+            }
+            Err(fault) => send_fault(line, fault.code()),
+        }
     }
 }
 
@@ -152,7 +164,7 @@ fn number_in(bytes: &[u8]) -> u32
     ])
 }
 
-/// The byte at a place, 0 behind the last one.
+/// The byte at a place, 0 after the last one.
 fn byte_at(bytes: &[u8], place: usize) -> u8
     ensures { result ≡ slice_index bytes.now place }
 {

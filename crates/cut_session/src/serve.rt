@@ -1,17 +1,17 @@
-ghost use Rattle.std.specs.Prelude.{true, ◌≡◌, ◌+◌, ◌*◌, ◌^◌, ◌<◌, ◌≤◌, ◌↔◌, length, IfOk};
+ghost use Rattle.std.specs.Prelude.{true, ◌≡◌, ◌<◌, ◌≤◌, length, IfOk};
 ghost use Rattle.cut_board.specs.declared.view.View.{View};
-ghost use Rattle.cut_table.specs.Traffic.{Traffic};
-ghost use Rattle.cut_session.specs.Answering.{Rises};
-ghost use Rattle.cut_session.specs.Session.{Ends, HasFailed};
-ghost use Rattle.cut_session.specs.Serving.{IsServing, Goes, HasFailedAt, Leaves, LeavesFor, failed_leaving};
+ghost use Rattle.cut_wires.specs.Sending.{Sending, sending};
+ghost use Rattle.cut_session.specs.Session.{Ends};
+ghost use Rattle.cut_session.specs.Serving.{IsServing, Goes, Leaves, Concludes};
 
-use crate::answer::{Turn, answer_all};
+use crate::answer::{Session, Turn};
 use crate::fault_reply::send_fault;
 use crate::{SessionEnd, SessionFault};
+use cut_book::Shelf;
 use cut_disks::Disk;
+use cut_hall::{Hall, Pass, Tally};
 use cut_messages::Reader;
-use cut_pool::{Hall, Pass, Shelf, Tally};
-use cut_table::Wire;
+use cut_wires::{Line, Wire};
 use std::alloc::Global;
 use std::sync::Wait;
 
@@ -21,23 +21,13 @@ const READ_SIZE: usize = 4096;
 /// How many requests are answered.
 const MOST_REQUESTS: u32 = 1_000_000;
 
-/// What a session has done: how many requests it answered, and how many bytes of replies it sent.
-#[derive(Clone, Copy)]
-struct Served {
-    requests: u32,
-    sent: u64,
-}
-
 /// Serves a client over a wire: reads its requests, at most 4,096 bytes at a time, and answers them in order.
 ///
 /// A plan is answered by the table of its study, line by line as each comes, and that it is whole; or by the
 /// fault for which it has none. A number of a slot is answered by how many trials of its study are counted,
 /// which never falls. After a request that quits no message is answered, and after 1,000,000 requests no
-/// further one. A fault of the input, one of the reads, and want of memory for a message are told behind the
-/// replies to the messages before. What others do in the hall goes on, however the session ends.
-///
-/// What it says of the bytes on its wire holds where that tells what passed; that it tells a failed read or
-/// write only where one failed holds over every wire.
+/// further one. A fault of the input, one of the reads, and that memory ran out for a message are reported after
+/// the replies to the messages before. What others do in the hall goes on, however the session ends.
 pub fn session<D, M, K, S, W, R>(
     rt: &R,
     alloc: Global,
@@ -55,119 +45,113 @@ where
     R: Wait,
     requires own { pass.old.hall ≡ hall.now.id }
     requires trusted { hall.now.is_trusted ≡ true → S.is_true shelf.now ≡ true }
-    ensures told { W.tells wire.old → Ends hall.now pass.old.view pass.new.view result
-        (W.traffic wire.old) (W.traffic wire.new) (W.faults wire.old) (W.faults wire.new) }
-    ensures cause { HasFailed result (W.faults wire.old) (W.faults wire.new) }
+    ensures ends { Ends hall.now pass.old.view pass.new.view result (W.log wire.old) (W.log wire.new) }
     ensures own { pass.new.hall ≡ pass.old.hall }
-    ensures rises { Rises pass.old.view pass.new.view }
-    ensures tells { W.tells wire.old ↔ W.tells wire.new }
 {
-    let mut reader = Reader::requests(alloc);
-    let mut done = Served {
-        requests: 0,
-        sent: 0,
-    };
-    let mut buffer = [0; READ_SIZE];
-    for _ in rt.forever() {
-        let count = match wire.read(&mut buffer) {
-            Ok(count) => count,
-            Err(_) => return leave(wire, done.sent, SessionFault::Read),
-        };
-        if count == 0 {
-            match reader.finish() {
-                Ok(()) => return SessionEnd::EndOfInput,
-                Err(_) => return leave(wire, done.sent, SessionFault::Truncated),
-            }
-        }
-        let piece = &buffer[..count];
-        match take_piece(rt, alloc, hall, pass, shelf, wire, &mut reader, piece, done) {
-            Ok(more) => done = more,
-            Err(end) => return end,
-        }
-    }
-    unreachable!()
-}
-
-/// Reads the next piece of the input, and answers the requests that it completes.
-fn take_piece<D, M, K, S, W, R>(
-    rt: &R,
-    alloc: Global,
-    hall: &Hall<D, M, K>,
-    pass: &mut Pass<M>,
-    shelf: &S,
-    wire: &mut W,
-    reader: &mut Reader,
-    piece: &[u8],
-    done: Served,
-) -> Result<Served, SessionEnd>
-where
-    D: Disk + Drop,
-    M: Tally,
-    K: Tally,
-    S: Shelf<D>,
-    W: Wire,
-    R: Wait,
-    requires own { pass.old.hall ≡ hall.now.id }
-    requires trusted { hall.now.is_trusted ≡ true → S.is_true shelf.now ≡ true }
-    requires few { done.requests ≤ 1000000 }
-    requires room { done.sent ≤ 2 ^ 21 * done.requests }
-    requires some { 0 < length piece.now }
-    requires short { length piece.now ≤ 4096 }
-    ensures told { (low : View) (old : Traffic) → W.tells wire.old →
-        IsServing hall.now low pass.old.view reader.old done piece.now old (W.traffic wire.old) →
-        Goes hall.now low pass.new.view result reader.new old (W.traffic wire.new)
-        (W.faults wire.old) (W.faults wire.new) }
-    ensures few { IfOk result (λ more. more.requests ≤ 1000000) }
-    ensures room { IfOk result (λ more. more.sent ≤ 2 ^ 21 * more.requests) }
-    ensures own { pass.new.hall ≡ pass.old.hall }
-    ensures rises { Rises pass.old.view pass.new.view }
-    ensures tells { W.tells wire.old ↔ W.tells wire.new }
-    ensures faults { HasFailedAt result (W.faults wire.old) (W.faults wire.new) }
-{
-    let fed = match reader.feed(alloc, piece) {
-        Ok(fed) => fed,
-        Err(_) => return Err(leave(wire, done.sent, SessionFault::Memory)),
-    };
-    let messages = fed.messages.as_slice();
-    let left = (MOST_REQUESTS - done.requests) as usize;
-    let count = messages.len().min(left);
-    let sent = match answer_all(
+    let mut session = Session {
         rt,
         alloc,
         hall,
         pass,
         shelf,
-        wire,
-        &messages[..count],
-        done.sent,
-    ) {
-        Ok(Turn::On(sent)) => sent,
-        Ok(Turn::Over) => return Err(SessionEnd::Quit),
-        Err(part) => return Err(SessionEnd::Write(part.bytes)),
     };
-    if count < messages.len() {
-        return Err(leave(wire, sent, SessionFault::TooManyRequests));
+    session.run(wire)
+}
+
+impl<D, M, K, S, R> Session<'_, D, M, K, S, R>
+where
+    D: Disk + Drop,
+    M: Tally,
+    K: Tally,
+    S: Shelf<D>,
+    R: Wait,
+{
+    /// Serves a client over a wire.
+    fn run<W: Wire>(&mut self, wire: &mut W) -> SessionEnd
+        ensures ends { Ends self.old.hall.now self.old.pass.now.view self.new.pass.now.view result
+            (W.log wire.old) (W.log wire.new) }
+        ensures stays { (self.new.hall.now ≡ self.old.hall.now)
+            × (self.new.pass.ghost_name ≡ self.old.pass.ghost_name) }
+    {
+        self.serve(&mut Line::new(wire))
     }
-    match fed.fault {
-        Some(fault) => Err(leave(wire, sent, SessionFault::Stream(fault))),
-        None => Ok(Served {
-            requests: done.requests + count as u32,
-            sent,
-        }),
+
+    /// Serves a client over a line, over which nothing was sent yet.
+    fn serve<W: Wire>(&mut self, line: &mut Line<'_, W>) -> SessionEnd
+        requires { (sending W.log line.old).sent ≡ 0 }
+        ensures ends { Concludes self.old.hall.now self.old.pass.now.view self.new.pass.now.view result
+            (sending W.log line.old) (sending W.log line.new) }
+        ensures stays { (self.new.hall.now ≡ self.old.hall.now)
+            × (self.new.pass.ghost_name ≡ self.old.pass.ghost_name) }
+    {
+        let mut reader = Reader::requests(self.alloc);
+        let mut requests = 0;
+        let mut buffer = [0; READ_SIZE];
+        for _ in self.rt.forever() {
+            let count = match line.read(&mut buffer) {
+                Ok(count) => count,
+                Err(_) => return leave(line, SessionFault::Read),
+            };
+            if count == 0 {
+                match reader.finish() {
+                    Ok(()) => return SessionEnd::EndOfInput,
+                    Err(_) => return leave(line, SessionFault::Truncated),
+                }
+            }
+            match self.take_piece(line, &mut reader, &buffer[..count], requests) {
+                Ok(more) => requests = more,
+                Err(end) => return end,
+            }
+        }
+        unreachable!()
+    }
+
+    /// Reads the next piece of the input, and answers the requests that it completes. Returns how many requests are
+    /// answered then.
+    fn take_piece<W: Wire>(
+        &mut self,
+        line: &mut Line<'_, W>,
+        reader: &mut Reader,
+        piece: &[u8],
+        requests: u32,
+    ) -> Result<u32, SessionEnd>
+        requires few { requests ≤ 1000000 }
+        requires piece { (0 < length piece.now) × (length piece.now ≤ 4096) }
+        ensures goes { (low : View) (first : Sending) → first.sent ≡ 0 →
+            IsServing self.old.hall.now low self.old.pass.now.view reader.old requests piece.now
+            first (sending W.log line.old) →
+            Goes self.old.hall.now low self.new.pass.now.view result reader.new first (sending W.log line.new) }
+        ensures few { IfOk result (λ more. more ≤ 1000000) }
+        ensures stays { (self.new.hall.now ≡ self.old.hall.now)
+            × (self.new.pass.ghost_name ≡ self.old.pass.ghost_name) }
+    {
+        let fed = match reader.feed(self.alloc, piece) {
+            Ok(fed) => fed,
+            Err(_) => return Err(leave(line, SessionFault::Memory)),
+        };
+        let messages = fed.messages.as_slice();
+        let count = messages.len().min((MOST_REQUESTS - requests) as usize);
+        match self.answer_all(line, &messages[..count]) {
+            Ok(Turn::On) => {}
+            Ok(Turn::Over) => return Err(SessionEnd::Quit),
+            Err(_) => return Err(SessionEnd::Write(line.sent())),
+        }
+        if count < messages.len() {
+            return Err(leave(line, SessionFault::TooManyRequests));
+        }
+        match fed.fault {
+            Some(fault) => Err(leave(line, SessionFault::Stream(fault))),
+            None => Ok(requests + count as u32),
+        }
     }
 }
 
-/// Tells the client what ends the session.
-fn leave<W: Wire>(wire: &mut W, sent: u64, fault: SessionFault) -> SessionEnd
-    requires room { sent < 2 ^ 62 }
-    ensures told { W.tells wire.old →
-        Leaves fault sent result (W.traffic wire.old) (W.traffic wire.new) }
-    ensures end { LeavesFor fault result }
-    ensures tells { W.tells wire.old ↔ W.tells wire.new }
-    ensures faults { W.faults wire.new ≡ failed_leaving result (W.faults wire.old) }
+/// Sends the client the fault that ends the session.
+fn leave<W: Wire>(line: &mut Line<'_, W>, fault: SessionFault) -> SessionEnd
+    ensures { Leaves fault result (sending W.log line.old) (sending W.log line.new) }
 {
-    match send_fault(wire, sent, fault.code()) {
-        Ok(_) => SessionEnd::Fault(fault),
-        Err(part) => SessionEnd::Write(part.bytes),
+    match send_fault(line, fault.code()) {
+        Ok(()) => SessionEnd::Fault(fault),
+        Err(_) => SessionEnd::Write(line.sent()),
     }
 }

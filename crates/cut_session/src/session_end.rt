@@ -9,11 +9,11 @@ use thiserror::Error;
 /// How a session ended.
 #[derive(Clone, Copy, Debug, PartialEq, Eq)]
 pub enum SessionEnd {
-    /// The client told that no further request comes.
+    /// The client said that no further request comes.
     Quit,
     /// The input ended between two messages.
     EndOfInput,
-    /// This fault ended it, and the client was told so.
+    /// This fault ended it, and its number was sent to the client.
     Fault(SessionFault),
     /// A write of the wire failed, after the wire had taken this many bytes of replies.
     Write(u64),

@@ -1,133 +1,131 @@
-ghost use Rattle.std.specs.Prelude.{true, ◌≡◌, ◌+◌, ◌^◌, ◌<◌, ◌≤◌, ◌↔◌, length, IfOk};
+ghost use Rattle.std.specs.Prelude.{◌≡◌, ◌<◌, ◌≤◌, length, IfOk};
 ghost use Rattle.cut_plan.specs.Cells.{cells_of};
-ghost use Rattle.cut_table.specs.Traffic.{after_write};
-ghost use Rattle.cut_pool.specs.Lines.{full_line};
-ghost use Rattle.cut_pool.specs.Trust.{MayBegin};
-ghost use Rattle.cut_session.specs.Answering.{AnswersPlan, AnswersText};
-ghost use Rattle.cut_session.specs.Serving.{Replies};
+ghost use Rattle.cut_hall.specs.Lines.{full_line};
+ghost use Rattle.cut_hall.specs.Trust.{MayBegin};
+ghost use Rattle.cut_wires.specs.Sending.{sending};
+ghost use Rattle.cut_session.specs.Answering.{AnswersPlan};
+ghost use Rattle.cut_session.specs.Rows.{EndsTable};
+ghost use Rattle.cut_session.specs.Serving.{Replies, longest_reply};
 
 use crate::fault_reply::send_fault;
+use cut_book::Opened;
 use cut_disks::Disk;
-use cut_faults::FaultCode;
+use cut_hall::{Hall, LineFault, Pass, Tally};
 use cut_lines::header;
-use cut_messages::{Kind, send_after};
-use cut_plan::{Plan, PlanFault};
-use cut_pool::{Hall, LineFault, Opened, Pass, Shelf, Tally};
-use cut_table::{Sent, Wire};
+use cut_messages::{Kind, RowMessages, send_message};
+use cut_wires::{Line, Rows, RowsFault, Wire, WireFault, send_rows};
 use std::alloc::Global;
 use std::sync::Wait;
 
-/// Answers the text of a plan: by the table of its study as it is done, or by a fault. Tells how many bytes
-/// are sent then.
-pub(crate) fn answer_submit<D, M, K, S, W, R>(
-    rt: &R,
-    alloc: Global,
-    hall: &Hall<D, M, K>,
-    pass: &mut Pass<M>,
-    shelf: &S,
-    wire: &mut W,
-    text: &[u8],
-    sent: u64,
-) -> Result<u64, Sent>
+/// The lines of an opened study, each once it is there.
+#[derive(Drop)]
+pub(crate) struct OpenedRows<'a, D: Disk, M: Tally, K: Tally, R> {
+    pub(crate) rt: &'a R,
+    pub(crate) alloc: Global,
+    pub(crate) hall: &'a Hall<D, M, K>,
+    pub(crate) pass: &'a mut Pass<M>,
+    pub(crate) opened: &'a Opened,
+    ghost own: { pass.now.hall ≡ hall.now.id },
+    ghost slot: { opened.now.study < hall.now.slots },
+}
+
+impl<D, M, K, R> OpenedRows<'_, D, M, K, R>
 where
     D: Disk + Drop,
     M: Tally,
     K: Tally,
-    S: Shelf<D>,
-    W: Wire,
     R: Wait,
-    requires own { pass.old.hall ≡ hall.now.id }
-    requires trusted { hall.now.is_trusted ≡ true → S.is_true shelf.now ≡ true }
-    requires room { sent < 2 ^ 62 }
-    ensures told { W.tells wire.old →
-        Replies (AnswersText hall.now.is_trusted text.now) sent result (W.traffic wire.old) (W.traffic wire.new) }
-    ensures few { IfOk result (λ n. n ≤ sent + 2 ^ 21) }
-    ensures own { pass.new.hall ≡ pass.old.hall }
-    ensures view { pass.new.view ≡ pass.old.view }
-    ensures tells { W.tells wire.old ↔ W.tells wire.new }
-    ensures faults { W.faults wire.new ≡ after_write result (W.faults wire.old) }
 {
-    let plan = match Plan::from_json(alloc, text) {
-        Ok(plan) => plan,
-        Err(PlanFault::Memory) => return send_fault(wire, sent, FaultCode::WorkMemory),
-        Err(PlanFault::Refused(refusal)) => return send_fault(wire, sent, refusal.code()),
-    };
-    match hall.submit(rt, alloc, pass, plan, shelf) {
-        Ok(opened) => send_table(rt, alloc, hall, pass, wire, &opened, sent),
-        Err(fault) => send_fault(wire, sent, fault.code()),
+    /// The line of a cell: once more where it was given before, and else as soon as it is there.
+    fn line_of(&mut self, cell: u32) -> Result<Vec<u8>, LineFault>
+        requires { cell < length (cells_of self.old.opened.now.plan) }
+        ensures line { IfOk result
+            (λ line. line.items ≡ full_line self.old.opened.now.plan self.old.opened.now.base cell) }
+        ensures short { IfOk result (λ line. length line.items ≤ 294) }
+        ensures stays { (self.new.pass.ghost_name ≡ self.old.pass.ghost_name)
+            × (self.new.pass.now.hall ≡ self.old.pass.now.hall)
+            × (self.new.pass.now.view ≡ self.old.pass.now.view) }
+        ensures opened { self.new.opened.now ≡ self.old.opened.now }
+    {
+        let (hall, opened) = (self.hall, self.opened);
+        if let Some(line) = hall.given_row(self.rt, self.alloc, opened, cell)? {
+            return Ok(line);
+        }
+        hall.next_row(self.rt, self.alloc, self.pass, opened, cell)
     }
 }
 
-/// Sends the table of an opened study, each line once it is there, up to one that doesn't come.
-fn send_table<D, M, K, W, R>(
-    rt: &R,
-    alloc: Global,
-    hall: &Hall<D, M, K>,
-    pass: &mut Pass<M>,
-    wire: &mut W,
-    opened: &Opened,
-    before: u64,
-) -> Result<u64, Sent>
+impl<D, M, K, R> Rows for OpenedRows<'_, D, M, K, R>
+where
+    D: Disk + Drop,
+    M: Tally,
+    K: Tally,
+    R: Wait,
+{
+    ghost use Rattle.std.proofs.Common.{arith};
+    ghost use Rattle.cut_session.specs.Rows.{IsKept, is_kept, lines_of};
+
+    type Fault = LineFault;
+
+    ghost table = { λ rows. lines_of rows.opened.now.plan rows.opened.now.base };
+
+    ghost HasGiven = { λ first n rows.
+        IsKept first.pass.ghost_name first.pass.now rows.pass.ghost_name rows.pass.now };
+
+    ghost HasFailed = { λ first n fault rows.
+        IsKept first.pass.ghost_name first.pass.now rows.pass.ghost_name rows.pass.now };
+
+    fn header(&self) -> &[u8] {
+        header(&self.opened.plan)
+    }
+
+    fn count(&self) -> u32 {
+        self.opened.plan.cells()
+    }
+
+    fn row(&mut self, place: u32) -> Result<Vec<u8>, LineFault> {
+        self.line_of(place)
+    }
+
+    ghost begins = { λ rows. is_kept rows.pass.ghost_name rows.pass.now };
+
+    ghost fits = { λ _. Prim.omega arith };
+}
+
+/// Sends the table of an opened study, up to a line that doesn't come.
+pub(crate) fn send_table<D, M, K, W, R>(
+    rows: &mut OpenedRows<'_, D, M, K, R>,
+    line: &mut Line<'_, W>,
+) -> Result<(), WireFault>
 where
     D: Disk + Drop,
     M: Tally,
     K: Tally,
     W: Wire,
     R: Wait,
-    requires own { pass.old.hall ≡ hall.now.id }
-    requires begun { MayBegin hall.now.is_trusted opened.now.plan opened.now.base }
-    requires slot { opened.now.study < hall.now.slots }
-    requires room { before < 2 ^ 62 }
-    ensures told { W.tells wire.old →
-        Replies (AnswersPlan hall.now.is_trusted opened.now.plan) before result (W.traffic wire.old) (W.traffic wire.new) }
-    ensures few { IfOk result (λ n. n ≤ before + 2 ^ 21) }
-    ensures own { pass.new.hall ≡ pass.old.hall }
-    ensures view { pass.new.view ≡ pass.old.view }
-    ensures tells { W.tells wire.old ↔ W.tells wire.new }
-    ensures faults { W.faults wire.new ≡ after_write result (W.faults wire.old) }
+    requires { MayBegin rows.old.hall.now.is_trusted rows.old.opened.now.plan rows.old.opened.now.base }
+    ensures replies { Replies (AnswersPlan rows.old.hall.now.is_trusted rows.old.opened.now.plan) longest_reply
+        result (sending W.log line.old) (sending W.log line.new) }
+    ensures stays { (rows.new.pass.ghost_name ≡ rows.old.pass.ghost_name)
+        × (rows.new.pass.now.hall ≡ rows.old.pass.now.hall)
+        × (rows.new.pass.now.view ≡ rows.old.pass.now.view) }
 {
-    let cells = opened.plan.cells();
-    let mut sent = match send_after(wire, before, Kind::Row, header(&opened.plan)) {
-        Ok(sent) => sent,
-        Err(part) => return Err(part),
-    };
-    for cell in 0..cells {
-        let line = match line_of(rt, alloc, hall, pass, opened, cell) {
-            Ok(line) => line,
-            Err(fault) => return send_fault(wire, sent, fault.code()),
-        };
-        sent = match send_after(wire, sent, Kind::Row, line.as_slice()) {
-            Ok(sent) => sent,
-            Err(part) => return Err(part),
-        };
-    }
-    send_after(wire, sent, Kind::Done, &[])
+    // A plan has at most 4,096 cells.
+    let _cells = rows.opened.plan.cells();
+    let sent = send_rows::<RowMessages, OpenedRows<'_, D, M, K, R>, W>(rows, line);
+    end_table(line, sent)
 }
 
-/// The line of a cell of an opened study: once more where it was given before, and else as soon as it is there.
-fn line_of<D, M, K, R>(
-    rt: &R,
-    alloc: Global,
-    hall: &Hall<D, M, K>,
-    pass: &mut Pass<M>,
-    opened: &Opened,
-    cell: u32,
-) -> Result<Vec<u8>, LineFault>
-where
-    D: Disk + Drop,
-    M: Tally,
-    K: Tally,
-    R: Wait,
-    requires own { pass.old.hall ≡ hall.now.id }
-    requires slot { opened.now.study < hall.now.slots }
-    requires cell { cell < length (cells_of opened.now.plan) }
-    ensures line { IfOk result (λ line. line.items ≡ full_line opened.now.plan opened.now.base cell) }
-    ensures short { IfOk result (λ line. length line.items ≤ 294) }
-    ensures own { pass.new.hall ≡ pass.old.hall }
-    ensures view { pass.new.view ≡ pass.old.view }
+/// Sends what comes after the rows of a table that were sent: that it is whole, or why it is not.
+fn end_table<W: Wire>(
+    line: &mut Line<'_, W>,
+    sent: Result<(), RowsFault<LineFault>>,
+) -> Result<(), WireFault>
+    ensures { EndsTable sent result (sending W.log line.old) (sending W.log line.new) }
 {
-    if let Some(line) = hall.given_row(rt, alloc, opened, cell)? {
-        return Ok(line);
+    match sent {
+        Ok(()) => send_message(line, Kind::Done, &[]),
+        Err(RowsFault::Write) => Err(WireFault),
+        Err(RowsFault::Row(fault)) => send_fault(line, fault.code()),
     }
-    hall.next_row(rt, alloc, pass, opened, cell)
 }

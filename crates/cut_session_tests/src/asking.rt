@@ -3,7 +3,7 @@
 use crate::readings::from_hex;
 use crate::vectors::{Stream, sessions};
 use cut_session::{AskFault, StreamFault, ask};
-use cut_table::{FaultyWire, MemoryWire, Wire};
+use cut_wires::{FaultyWire, MemoryWire};
 use std::alloc::Global;
 use std::test::Fail;
 
@@ -31,9 +31,41 @@ pub(crate) fn joined(alloc: Global, parts: &[&[u8]]) -> Result<Vec<u8>, Fail> {
     Ok(bytes)
 }
 
-/// What is sent for the plan.
-fn request(alloc: Global) -> Result<Vec<u8>, Fail> {
-    joined(alloc, &[b"R\0\0\0\xdd", PLAN, b"Q\0\0\0\0"])
+/// An asking: how many bytes a call of its wires moves, how many its wire takes, the number of its read that fails,
+/// and how many its output takes.
+#[derive(Clone, Copy)]
+struct Row {
+    per: usize,
+    room: usize,
+    read: u64,
+    output: usize,
+}
+
+/// One in which no call fails.
+const WHOLE: Row = Row {
+    per: 7,
+    room: 1000,
+    read: 0,
+    output: 1000,
+};
+
+/// How an asking ends to which this is the answer. Whatever was sent and written is a prefix of the request and of the
+/// table; the numbers are how many bytes.
+fn asked_in(
+    alloc: Global,
+    row: Row,
+    answer: &[u8],
+) -> Result<(Result<(), AskFault>, usize, usize), Fail> {
+    let request = joined(alloc, &[b"R\0\0\0\xdd", PLAN, b"Q\0\0\0\0"])?;
+    let input = Vec::from_slice(alloc, answer)?;
+    let mut wire = FaultyWire::new(alloc, input, row.per, row.room, row.read);
+    let mut output = FaultyWire::new(alloc, Vec::new(alloc), row.per, row.output, 0);
+    let end = ask(alloc, PLAN, &mut wire, &mut output);
+    let (sent, written) = (wire.taken(), output.taken());
+    if !request.starts_with(sent) || !TABLE.starts_with(written) {
+        return Err("other bytes were sent or written")?;
+    }
+    Ok((end, sent.len(), written.len()))
 }
 
 #[test]
@@ -44,102 +76,49 @@ fn a_table_is_written_as_it_comes(rt: HostRuntime) -> Result<(), Fail> {
         [COUNT, FIRST, SECOND],
         [FIRST, SECOND, b"Xx"],
     ] {
+        let answer = joined(alloc, &parts)?;
         for per in [1, 7, 5000] {
-            let mut wire = MemoryWire::new(alloc, joined(alloc, &parts)?, per);
-            let mut output = MemoryWire::new(alloc, Vec::new(alloc), per);
-            assert_eq!(rt; ask(alloc, PLAN, &mut wire, &mut output), Ok(()));
-            assert!(rt; wire.taken() == request(alloc)?.as_slice());
-            assert!(rt; output.taken() == TABLE);
+            let row = Row { per, ..WHOLE };
+            assert_eq!(rt; asked_in(alloc, row, answer.as_slice())?, (Ok(()), 231, 98));
         }
     }
     Ok(())
 }
 
 #[test]
-fn an_answer_that_is_no_table_leaves_the_lines_before(rt: HostRuntime) -> Result<(), Fail> {
+fn a_failed_read_is_reported(rt: HostRuntime) -> Result<(), Fail> {
     let alloc = rt.alloc();
-    let rows: [(&[u8], AskFault, usize); 8] = [
-        (b"", AskFault::Truncated, 72),
-        (b"T\0\0\0\x02a", AskFault::Truncated, 72),
-        (b"R", AskFault::Stream(StreamFault::BadKind), 72),
-        (b"T\0\x01\0\x01", AskFault::Stream(StreamFault::TooLong), 72),
-        (
-            b"T\0\0\0\x02a\nZ\0\0\0\x01",
-            AskFault::Stream(StreamFault::BadLength),
-            74,
-        ),
-        (b"E\0\0\0\x02\0\x1d", AskFault::Told(29), 72),
-        (b"E\0\0\0\x02\xff\xff", AskFault::Told(65_535), 72),
-        (b"E\0\0\0\x02\0\x2bX", AskFault::Told(43), 72),
-    ];
-    for (behind, fault, written) in rows {
-        let mut wire = MemoryWire::new(alloc, joined(alloc, &[FIRST, behind])?, 9);
-        let mut output = MemoryWire::new(alloc, Vec::new(alloc), 100);
-        assert_eq!(rt; ask(alloc, PLAN, &mut wire, &mut output), Err(fault));
-        assert_eq!(rt; output.taken().len(), written);
-        assert!(rt; output.taken().starts_with(&TABLE[..72]));
-    }
-    Ok(())
-}
-
-#[test]
-fn a_plan_that_is_too_long_is_not_sent(rt: HostRuntime) -> Result<(), Fail> {
-    let alloc = rt.alloc();
-    let blanks = vec![in alloc; b' '; 65_537]?;
-    let mut wire = MemoryWire::new(alloc, joined(alloc, &[FIRST, SECOND])?, 5000);
-    let mut output = MemoryWire::new(alloc, Vec::new(alloc), 5000);
-    let asked = ask(alloc, blanks.as_slice(), &mut wire, &mut output);
-    assert_eq!(rt; asked, Err(AskFault::PlanTooLong));
-    assert!(rt; wire.taken().is_empty());
-    let asked = ask(alloc, &blanks[1..], &mut wire, &mut output);
-    assert_eq!(rt; asked, Ok(()));
-    assert_eq!(rt; wire.taken().len(), 65_546);
-    Ok(())
-}
-
-#[test]
-fn a_failed_read_is_told(rt: HostRuntime) -> Result<(), Fail> {
-    let alloc = rt.alloc();
+    let answer = joined(alloc, &[FIRST, SECOND])?;
     for read in 1..114 {
-        let mut wire = FaultyWire::new(alloc, joined(alloc, &[FIRST, SECOND])?, 1, 1000, read);
-        let mut output = MemoryWire::new(alloc, Vec::new(alloc), 1);
-        assert_eq!(rt;
-            ask(alloc, PLAN, &mut wire, &mut output),
-            Err(AskFault::Read)
-        );
+        let row = Row {
+            per: 1,
+            read,
+            ..WHOLE
+        };
         let written = match read {
             1..=77 => 0,
             78..=108 => 72,
             _ => 98,
         };
-        assert!(rt; output.taken() == &TABLE[..written], "read {read}");
+        let right = (Err(AskFault::Read), 231, written);
+        assert_eq!(rt; asked_in(alloc, row, answer.as_slice())?, right);
     }
     Ok(())
 }
 
 #[test]
-fn a_failed_write_is_told(rt: HostRuntime) -> Result<(), Fail> {
+fn a_failed_write_is_reported(rt: HostRuntime) -> Result<(), Fail> {
     let alloc = rt.alloc();
-    let request = request(alloc)?;
-    for room in 0..request.len() {
-        let mut wire = FaultyWire::new(alloc, joined(alloc, &[FIRST, SECOND])?, 7, room, 0);
-        let mut output = MemoryWire::new(alloc, Vec::new(alloc), 7);
-        assert_eq!(rt;
-            ask(alloc, PLAN, &mut wire, &mut output),
-            Err(AskFault::Request)
-        );
-        assert!(rt; wire.taken() == &request[..room]);
-        assert!(rt; output.taken().is_empty());
+    let answer = joined(alloc, &[FIRST, SECOND])?;
+    for room in 0..231 {
+        let row = Row { room, ..WHOLE };
+        let right = (Err(AskFault::Request), room, 0);
+        assert_eq!(rt; asked_in(alloc, row, answer.as_slice())?, right);
     }
-    for room in 0..TABLE.len() {
-        let mut wire = MemoryWire::new(alloc, joined(alloc, &[FIRST, SECOND])?, 7);
-        let mut output = FaultyWire::new(alloc, Vec::new(alloc), 5, room, 0);
-        assert_eq!(rt;
-            ask(alloc, PLAN, &mut wire, &mut output),
-            Err(AskFault::Output)
-        );
-        assert!(rt; output.taken() == &TABLE[..room]);
-        assert_eq!(rt; (wire.failures(), output.failures()), (0, 1));
+    for output in 0..98 {
+        let row = Row { output, ..WHOLE };
+        let right = (Err(AskFault::Output), 231, output);
+        assert_eq!(rt; asked_in(alloc, row, answer.as_slice())?, right);
     }
     Ok(())
 }

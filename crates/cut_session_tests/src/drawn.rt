@@ -5,11 +5,11 @@ ghost use Rattle.std.specs.Prelude.{true, ◌≡◌};
 use crate::halls::{EMPTY, House, serve};
 use crate::readings::from_hex;
 use crate::vectors::TWO_CELLS;
+use cut_book::{NoShelf, Shelf, ShelfFault};
 use cut_disks::{Disk, FaultyDisk, MemoryDisk, Tear};
 use cut_plan::Plan;
-use cut_pool::{NoShelf, Shelf, ShelfFault};
 use cut_session::{SessionEnd, SessionFault, StreamFault};
-use cut_table::MemoryWire;
+use cut_wires::MemoryWire;
 use std::alloc::Global;
 use std::sync::Wait;
 use std::test::Fail;
@@ -121,53 +121,24 @@ fn each_end_comes_behind_any_number_of_requests(rt: HostRuntime) -> Result<(), F
     Ok(())
 }
 
-/// How a session ends for a million questions for a count with these bytes behind them, and whether they
-/// alone were answered, with this frame behind the replies.
-fn after_a_million<R: Wait>(
-    rt: &R,
-    alloc: Global,
-    last: &[u8],
-    frame: &[u8],
-) -> Result<(SessionEnd, bool), Fail> {
-    let (ask, count) = REQUESTS[0];
-    let mut sent = Vec::with_capacity(alloc, 9_000_000 + last.len())?;
+/// How a session ends for a million questions for a count with a message that quits after them, and what its wire takes
+/// then.
+fn after_a_million<R: Wait>(rt: &R, alloc: Global) -> Result<(SessionEnd, Vec<u8>), Fail> {
+    let mut sent = Vec::with_capacity(alloc, 9_000_005)?;
     for _ in 0..1_000_000 {
-        sent.extend_from_slice(ask)?;
+        sent.extend_from_slice(REQUESTS[0].0)?;
     }
-    sent.extend_from_slice(last)?;
-    let (end, taken) = alone(rt, alloc, &NoShelf, sent, 5000)?;
-    let (replies, behind) = taken.split_at(taken.len().min(13_000_000));
-    let are_counts = replies.chunks_exact(13).all(|reply| reply == count);
-    Ok((
-        end,
-        are_counts && replies.len() == 13_000_000 && behind == frame,
-    ))
-}
-
-/// What is answered to the first request after a million, and how the session ends.
-const TOO_MANY: (&[u8], SessionEnd) = (
-    b"E\0\0\0\x02\0\x2c",
-    SessionEnd::Fault(SessionFault::TooManyRequests),
-);
-
-#[test]
-fn a_million_requests_are_answered(rt: HostRuntime) -> Result<(), Fail> {
-    let answered = after_a_million(&rt, rt.alloc(), b"", b"")?;
-    assert!(rt; answered == (SessionEnd::EndOfInput, true));
-    Ok(())
-}
-
-#[test]
-fn no_further_request_is_answered(rt: HostRuntime) -> Result<(), Fail> {
-    let answered = after_a_million(&rt, rt.alloc(), REQUESTS[0].0, TOO_MANY.0)?;
-    assert!(rt; answered == (TOO_MANY.1, true));
-    Ok(())
+    sent.extend_from_slice(b"Q\0\0\0\0")?;
+    alone(rt, alloc, &NoShelf, sent, 5000)
 }
 
 #[test]
 fn a_message_that_quits_may_be_one_too_many(rt: HostRuntime) -> Result<(), Fail> {
-    let answered = after_a_million(&rt, rt.alloc(), b"Q\0\0\0\0", TOO_MANY.0)?;
-    assert!(rt; answered == (TOO_MANY.1, true));
+    let (end, taken) = after_a_million(&rt, rt.alloc())?;
+    let (replies, last) = taken.split_at(taken.len().min(13_000_000));
+    assert!(rt; end == SessionEnd::Fault(SessionFault::TooManyRequests));
+    assert!(rt; replies.chunks_exact(13).all(|reply| reply == REQUESTS[0].1));
+    assert!(rt; last == b"E\0\0\0\x02\0\x2c".as_slice());
     Ok(())
 }
 
@@ -289,35 +260,5 @@ fn a_study_may_break_off_behind_any_line(rt: HostRuntime) -> Result<(), Fail> {
         let taken = after_pieces(&rt, alloc, pieces, fail_at)?;
         assert!(rt; taken == replies, "after {pieces} and {fail_at}");
     }
-    Ok(())
-}
-
-/// The replies to a question for a count, to a text that is no plan and to a question for no slot; the same
-/// where memory was wanting for the text; and where it was wanting for all three.
-const REPLIES: [&[u8]; 3] = [
-    b"S\0\0\0\x08\0\0\0\0\0\0\0\0E\0\0\0\x02\0\x02E\0\0\0\x02\0\x1a",
-    b"S\0\0\0\x08\0\0\0\0\0\0\0\0E\0\0\0\x02\0\x20E\0\0\0\x02\0\x1a",
-    b"E\0\0\0\x02\0\x20",
-];
-
-/// Whether a session over these three requests may end so, where a growth of memory was refused in it or none
-/// was.
-fn is_right(end: SessionEnd, taken: &[u8]) -> bool {
-    match end {
-        SessionEnd::EndOfInput => REPLIES.iter().take(2).any(|replies| *replies == taken),
-        SessionEnd::Fault(SessionFault::Memory) => taken == REPLIES[2],
-        SessionEnd::Write(sent) => {
-            sent == taken.len() as u64 && REPLIES.iter().any(|replies| replies.starts_with(taken))
-        }
-        _ => false,
-    }
-}
-
-#[test]
-fn refused_memory_is_told(rt: HostRuntime) -> Result<(), Fail> {
-    let alloc = rt.alloc();
-    let sent: &[u8] = b"S\0\0\0\x04\0\0\0\0R\0\0\0\x02[]S\0\0\0\x04\0\0\0\x01";
-    let (end, taken) = alone(&rt, alloc, &NoShelf, Vec::from_slice(alloc, sent)?, 5000)?;
-    assert!(rt; is_right(end, taken.as_slice()));
     Ok(())
 }

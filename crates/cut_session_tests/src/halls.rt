@@ -1,12 +1,13 @@
 //! Halls for sessions, in which a worker did some pieces before, or all.
 ghost use Rattle.std.specs.Prelude.{true, ◌≡◌, ◌<◌, ◌≤◌};
 
+use cut_book::Shelf;
 use cut_disks::Disk;
+use cut_hall::{Gate, Hall, Pass, Tally};
 use cut_plan::Plan;
-use cut_pool::{Gate, Hall, Pass, Shelf, Tally};
 use cut_session::{Kind, Reader, SessionEnd, session};
-use cut_table::Wire;
 use cut_trial::Piece;
+use cut_wires::Wire;
 use std::alloc::Global;
 use std::marker::Brand;
 use std::sync::Wait;

@@ -4,10 +4,10 @@
 use crate::asking::{COUNT, FIRST, PLAN, SECOND, joined};
 use crate::halls::serve;
 use crate::serving::{ASK, HOUSE, QUIT, SUBMIT};
+use cut_book::NoShelf;
 use cut_disks::MemoryDisk;
-use cut_pool::NoShelf;
 use cut_session::{SessionEnd, SessionFault};
-use cut_table::{MemoryWire, Wire};
+use cut_wires::{MemoryWire, Wire};
 use std::alloc::Global;
 use std::sync::Wait;
 use std::test::Fail;

@@ -3,11 +3,11 @@
 use crate::asking::{COUNT, FIRST, PLAN, SECOND, joined};
 use crate::halls::{EMPTY, House, serve};
 use crate::readings::from_hex;
-use crate::vectors::sessions;
+use crate::vectors::{Session, sessions};
+use cut_book::NoShelf;
 use cut_disks::MemoryDisk;
-use cut_pool::NoShelf;
 use cut_session::{SessionEnd, SessionFault};
-use cut_table::{FaultyWire, MemoryWire, Wire};
+use cut_wires::{FaultyWire, MemoryWire, Wire};
 use std::alloc::{AllocError, Global};
 use std::sync::Wait;
 use std::test::Fail;
@@ -30,39 +30,55 @@ pub(crate) const HOUSE: House = House {
     pieces: 1,
 };
 
-/// How a session ends to which these bytes come one by one, and what its wire takes, which has room for so
-/// many bytes and of whose reads that of this number fails.
-fn exchanged<R: Wait>(
-    rt: &R,
-    alloc: Global,
-    input: Vec<u8>,
-    room: usize,
-    fail_read: u64,
-) -> Result<(SessionEnd, Vec<u8>), Fail> {
-    let mut wire = FaultyWire::new(alloc, input, 1, room, fail_read);
-    let before = joined(alloc, &[SUBMIT, PLAN])?;
-    let end = serve::<MemoryDisk, _, _, _>(
-        rt,
-        alloc,
-        HOUSE,
-        before.as_slice(),
-        &NoShelf,
-        &mut wire,
-    )?;
-    Ok((end, Vec::from_slice(alloc, wire.taken())?))
+/// The requests of the whole exchange, 240 bytes, and its replies, 126 bytes.
+#[derive(Drop)]
+struct Exchange {
+    sent: Vec<u8>,
+    replies: Vec<u8>,
 }
 
-/// The requests of the whole exchange, 240 bytes, and its replies, 126 bytes.
-fn exchange(alloc: Global) -> Result<(Vec<u8>, Vec<u8>), Fail> {
+fn whole_exchange(alloc: Global) -> Result<Exchange, Fail> {
     let sent = joined(alloc, &[SUBMIT, PLAN, ASK, QUIT])?;
     let replies = joined(alloc, &[FIRST, SECOND, COUNT])?;
-    Ok((sent, replies))
+    Ok(Exchange { sent, replies })
 }
 
-/// Whether a wire took the first so many bytes of replies, and this frame behind them.
-fn is_front(taken: &[u8], replies: &[u8], before: usize, frame: &[u8]) -> bool {
-    let (front, behind) = taken.split_at(before.min(taken.len()));
-    front.len() == before && replies.starts_with(front) && behind == frame
+/// A session of the exchange: how many bytes of its requests come, one by one, for how many its wire has room, and the
+/// number of the read that fails; then how it ends, and how many bytes of the replies its wire takes, with which frame
+/// after them.
+#[derive(Clone, Copy)]
+struct Row {
+    cut: usize,
+    room: usize,
+    read: u64,
+    end: SessionEnd,
+    before: usize,
+    frame: &'static [u8],
+}
+
+/// One that has all requests, and in which no call fails.
+const WHOLE: Row = Row {
+    cut: 240,
+    room: 1000,
+    read: 0,
+    end: SessionEnd::Quit,
+    before: 126,
+    frame: b"",
+};
+
+/// Whether the session of a row goes so.
+fn is_right<R: Wait>(rt: &R, alloc: Global, exchange: &Exchange, row: Row) -> Result<bool, Fail> {
+    let sent = exchange.sent.as_slice();
+    let input = Vec::from_slice(alloc, sent.get(..row.cut).unwrap_or_default())?;
+    let mut wire = FaultyWire::new(alloc, input, 1, row.room, row.read);
+    let before = sent.get(..226).unwrap_or_default();
+    let end = serve::<MemoryDisk, _, _, _>(rt, alloc, HOUSE, before, &NoShelf, &mut wire)?;
+    let (replies, last) = wire.taken().split_at(row.before.min(wire.taken().len()));
+    Ok(
+        end == row.end
+            && exchange.replies.as_slice().get(..row.before) == Some(replies)
+            && last == row.frame,
+    )
 }
 
 /// The word for an end, with its number.
@@ -75,30 +91,31 @@ pub(crate) fn told(alloc: Global, end: SessionEnd) -> Result<String, AllocError>
     }
 }
 
+/// Whether a session to which this many bytes come at once goes as it was worked out.
+fn is_served<R: Wait>(rt: &R, alloc: Global, session: Session, per: usize) -> Result<bool, Fail> {
+    let house = House {
+        slots: 2,
+        size: 1_000_000,
+        pieces: session.cells,
+    };
+    let sent = from_hex(alloc, session.sent.bytes)?;
+    let mut wire = MemoryWire::new(alloc, from_hex(alloc, session.sent.bytes)?, per);
+    let before = sent.as_slice();
+    let end = serve::<MemoryDisk, _, _, _>(rt, alloc, house, before, &NoShelf, &mut wire)?;
+    let replies = from_hex(alloc, session.replies.bytes)?;
+    Ok(told(alloc, end)?.as_str() == session.end && wire.taken() == replies.as_slice())
+}
+
 #[test]
 fn sessions_go_as_they_were_worked_out(rt: HostRuntime) -> Result<(), Fail> {
     let alloc = rt.alloc();
     for session in sessions() {
-        let replies = from_hex(alloc, session.replies.bytes)?;
         for per in [1, 3, 10, 100, 5000] {
-            let sent = from_hex(alloc, session.sent.bytes)?;
-            let house = House {
-                slots: 2,
-                size: 1_000_000,
-                pieces: session.cells,
-            };
-            let before = Vec::from_slice(alloc, sent.as_slice())?;
-            let mut wire = MemoryWire::new(alloc, sent, per);
-            let end = serve::<MemoryDisk, _, _, _>(
-                &rt,
-                alloc,
-                house,
-                before.as_slice(),
-                &NoShelf,
-                &mut wire,
-            )?;
-            assert_eq!(rt; told(alloc, end)?.as_str(), session.end);
-            assert!(rt; wire.taken() == replies.as_slice());
+            assert!(rt;
+                is_served(&rt, alloc, session, per)?,
+                "{per} of {}",
+                session.sent.messages
+            );
         }
     }
     Ok(())
@@ -107,64 +124,70 @@ fn sessions_go_as_they_were_worked_out(rt: HostRuntime) -> Result<(), Fail> {
 #[test]
 fn the_slots_are_full_for_another_plan(rt: HostRuntime) -> Result<(), Fail> {
     let alloc = rt.alloc();
-    let sent = joined(alloc, &[SUBMIT, PLAN, SUBMIT, OTHER, SUBMIT, PLAN])?;
     let full: &[u8] = b"E\0\0\0\x02\0\x1d";
-    let replies = joined(alloc, &[FIRST, SECOND, full, FIRST, SECOND])?;
-    let (end, taken) = exchanged(&rt, alloc, sent, 1000, 0)?;
-    assert!(rt; end == SessionEnd::EndOfInput && taken == replies);
+    let exchange = Exchange {
+        sent: joined(alloc, &[SUBMIT, PLAN, SUBMIT, OTHER, SUBMIT, PLAN])?,
+        replies: joined(alloc, &[FIRST, SECOND, full, FIRST, SECOND])?,
+    };
+    let row = Row {
+        cut: exchange.sent.len(),
+        before: exchange.replies.len(),
+        end: SessionEnd::EndOfInput,
+        ..WHOLE
+    };
+    assert!(rt; is_right(&rt, alloc, &exchange, row)?);
     Ok(())
 }
 
 #[test]
-fn a_failed_write_tells_what_was_sent(rt: HostRuntime) -> Result<(), Fail> {
+fn a_failed_write_reports_what_was_sent(rt: HostRuntime) -> Result<(), Fail> {
     let alloc = rt.alloc();
-    let (sent, replies) = exchange(alloc)?;
-    for room in 0..127 {
-        let input = Vec::from_slice(alloc, sent.as_slice())?;
-        let (end, taken) = exchanged(&rt, alloc, input, room, 0)?;
-        let right = match room {
-            126 => SessionEnd::Quit,
-            _ => SessionEnd::Write(room as u64),
+    let exchange = whole_exchange(alloc)?;
+    assert!(rt; is_right(&rt, alloc, &exchange, WHOLE)?);
+    for room in 0..126 {
+        let row = Row {
+            room,
+            before: room,
+            end: SessionEnd::Write(room as u64),
+            ..WHOLE
         };
-        let is_prefix = is_front(taken.as_slice(), replies.as_slice(), room, b"");
-        assert!(rt; end == right && is_prefix, "room {room}");
+        assert!(rt; is_right(&rt, alloc, &exchange, row)?, "room {room}");
     }
     Ok(())
 }
 
-/// The frame that tells that a read failed, and that which tells that the input ended inside a message.
+/// The frame which says that a read failed, and that which says that the input ended inside a message.
 const UNREAD: &[u8] = b"E\0\0\0\x02\0\x2b";
 
 const CUT: &[u8] = b"E\0\0\0\x02\0\x2a";
 
 #[test]
-fn a_failed_read_is_told_behind_the_replies(rt: HostRuntime) -> Result<(), Fail> {
+fn a_failed_read_is_reported_after_the_replies(rt: HostRuntime) -> Result<(), Fail> {
     let alloc = rt.alloc();
-    let (sent, replies) = exchange(alloc)?;
+    let exchange = whole_exchange(alloc)?;
     for read in 1..241 {
         let before = match read {
             1..=226 => 0,
             227..=235 => 113,
             _ => 126,
         };
-        let input = Vec::from_slice(alloc, sent.as_slice())?;
-        let (end, taken) = exchanged(&rt, alloc, input, 1000, read)?;
-        let is_told = is_front(taken.as_slice(), replies.as_slice(), before, UNREAD);
-        assert!(rt;
-            end == SessionEnd::Fault(SessionFault::Read) && is_told,
-            "read {read}"
-        );
+        let row = Row {
+            read,
+            before,
+            end: SessionEnd::Fault(SessionFault::Read),
+            frame: UNREAD,
+            ..WHOLE
+        };
+        assert!(rt; is_right(&rt, alloc, &exchange, row)?, "read {read}");
     }
     Ok(())
 }
 
 #[test]
-fn a_failed_write_of_the_last_frame_is_told(rt: HostRuntime) -> Result<(), Fail> {
+fn a_failed_write_of_the_last_frame_is_reported(rt: HostRuntime) -> Result<(), Fail> {
     let alloc = rt.alloc();
-    let (sent, _) = exchange(alloc)?;
     for room in 0..7 {
-        let input = Vec::from_slice(alloc, sent.as_slice())?;
-        let mut wire = FaultyWire::new(alloc, input, 1, room, 9);
+        let mut wire = FaultyWire::new(alloc, joined(alloc, &[ASK])?, 1, room, 9);
         let end = serve::<MemoryDisk, _, _, _>(&rt, alloc, EMPTY, &[], &NoShelf, &mut wire)?;
         assert!(rt; end == SessionEnd::Write(room as u64) && wire.taken() == &UNREAD[..room]);
         assert_eq!(rt; wire.failures(), 2);
@@ -172,35 +195,41 @@ fn a_failed_write_of_the_last_frame_is_told(rt: HostRuntime) -> Result<(), Fail>
     Ok(())
 }
 
-/// How many bytes of replies come where the input of the exchange ends behind so many bytes, and how the
-/// session ends.
-fn after_cut(cut: usize) -> (usize, SessionEnd) {
-    let truncated = SessionEnd::Fault(SessionFault::Truncated);
+/// How the session of the exchange goes whose input ends after this many bytes.
+fn after_cut(cut: usize) -> Row {
+    let between = |before| Row {
+        cut,
+        before,
+        end: SessionEnd::EndOfInput,
+        ..WHOLE
+    };
+    let inside = |before| Row {
+        cut,
+        before,
+        end: SessionEnd::Fault(SessionFault::Truncated),
+        frame: CUT,
+        ..WHOLE
+    };
     match cut {
-        0 => (0, SessionEnd::EndOfInput),
-        1..=225 => (0, truncated),
-        226 => (113, SessionEnd::EndOfInput),
-        227..=234 => (113, truncated),
-        235 => (126, SessionEnd::EndOfInput),
-        236..=239 => (126, truncated),
-        _ => (126, SessionEnd::Quit),
+        0 => between(0),
+        1..=225 => inside(0),
+        226 => between(113),
+        227..=234 => inside(113),
+        235 => between(126),
+        236..=239 => inside(126),
+        _ => WHOLE,
     }
 }
 
 #[test]
 fn an_input_may_end_between_messages_only(rt: HostRuntime) -> Result<(), Fail> {
     let alloc = rt.alloc();
-    let (sent, replies) = exchange(alloc)?;
+    let exchange = whole_exchange(alloc)?;
     for cut in 0..241 {
-        let (before, right) = after_cut(cut);
-        let input = Vec::from_slice(alloc, sent.as_slice().get(..cut).unwrap_or_default())?;
-        let (end, taken) = exchanged(&rt, alloc, input, 1000, 0)?;
-        let told = match right {
-            SessionEnd::Fault(_) => CUT,
-            _ => b"",
-        };
-        let is_right = is_front(taken.as_slice(), replies.as_slice(), before, told);
-        assert!(rt; end == right && is_right, "cut {cut}");
+        assert!(rt;
+            is_right(&rt, alloc, &exchange, after_cut(cut))?,
+            "cut {cut}"
+        );
     }
     Ok(())
 }

@@ -3,10 +3,10 @@
 use crate::asking::joined;
 use crate::frame::frame;
 use crate::halls::{House, serve};
+use cut_book::NoShelf;
 use cut_disks::MemoryDisk;
-use cut_pool::NoShelf;
 use cut_session::{Kind, SessionEnd};
-use cut_table::{MemoryWire, Wire};
+use cut_wires::{MemoryWire, Wire};
 use std::alloc::Global;
 use std::test::Fail;
 

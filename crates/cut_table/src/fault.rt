@@ -1,7 +1,6 @@
 ghost use Rattle.std.specs.Prelude.{◌≡◌};
 ghost use Rattle.cut_table.specs.FaultCode.{code_of_row, code_of_table};
 
-use crate::Sent;
 use cut_faults::FaultCode;
 use std::alloc::AllocError;
 use std::fmt;
@@ -89,15 +88,5 @@ impl fmt::Display for TableFault {
             TableFault::NotDone(cell) => write!(f, "{code} {cell}"),
             TableFault::Memory(sent) | TableFault::Write(sent) => write!(f, "{code} {sent}"),
         }
-    }
-}
-
-impl From<Sent> for TableFault {
-    ghost use Rattle.cut_table.specs.declared.fault.TableFault.TheVariants.{Write};
-
-    ghost from_gives = { λ part e. e ≡ Write part.bytes };
-
-    fn from(part: Sent) -> TableFault {
-        TableFault::Write(part.bytes)
     }
 }

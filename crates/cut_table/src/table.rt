@@ -1,15 +1,16 @@
-ghost use Rattle.std.specs.Prelude.{◌≡◌, ◌<◌, ◌≤◌, ◌↔◌, true, length, IfOk, IfErr, OnOk};
+ghost use Rattle.std.specs.Prelude.{◌≡◌, ◌<◌, ◌≤◌, true, length, IfOk, IfErr, OnOk};
 ghost use Rattle.cut_plan.specs.Cells.{cells_of};
 ghost use Rattle.cut_ledger.specs.Contents.{cell_done};
-ghost use Rattle.cut_table.specs.Table.{row_of, Emits, IsRowFault, IsEnded, failed_writes};
+ghost use Rattle.cut_table.specs.Table.{row_of, Emits, IsRowFault, emitted};
 
-use crate::{RowFault, TableFault, Wire, send_after};
+use crate::{RowFault, TableFault};
 use cut_ledger::Ledger;
 use cut_lines::{cell_line, header};
+use cut_wires::{Line, Plain, Rows, RowsFault, Wire, send_rows};
 use std::alloc::Global;
 
-/// The line of a cell, whose trials are all held, with a line feed. It has at most 294 bytes. Want of memory
-/// is told only where they are all held.
+/// The line of a cell, whose trials are all held, with a line feed. It has at most 294 bytes. That memory ran out
+/// is reported only where they are all held.
 pub fn row(alloc: Global, ledger: &Ledger, cell: u32) -> Result<Vec<u8>, RowFault>
     requires { cell < length (cells_of ledger.now.contents.plan) }
     ensures ok { IfOk result (λ line. line.items ≡ row_of ledger.now.contents cell) }
@@ -24,23 +25,62 @@ pub fn row(alloc: Global, ledger: &Ledger, cell: u32) -> Result<Vec<u8>, RowFaul
     Ok(line)
 }
 
+/// The lines of a ledger's cells.
+#[derive(Drop)]
+struct LedgerRows<'a> {
+    alloc: Global,
+    ledger: &'a Ledger,
+}
+
+impl Rows for LedgerRows<'_> {
+    ghost use Rattle.std.proofs.Common.{arith};
+    ghost use Rattle.cut_table.specs.Table.{AreGiven, IsWithheld, none_given, table_of};
+
+    type Fault = RowFault;
+
+    ghost table = { λ rows. table_of rows.ledger.now.contents };
+
+    ghost HasGiven = { λ first n rows. AreGiven first.ledger.now.contents n rows.ledger.now.contents };
+
+    ghost HasFailed = { λ first n fault rows.
+        IsWithheld first.ledger.now.contents n fault rows.ledger.now.contents };
+
+    fn header(&self) -> &[u8] {
+        header(self.ledger.plan())
+    }
+
+    fn count(&self) -> u32 {
+        self.ledger.plan().cells()
+    }
+
+    fn row(&mut self, place: u32) -> Result<Vec<u8>, RowFault> {
+        row(self.alloc, self.ledger, place)
+    }
+
+    ghost begins = { λ rows. none_given rows.ledger.now.contents };
+
+    ghost fits = { λ _. Prim.omega arith };
+}
+
 /// Writes the header, and the lines of the cells in order, up to the first cell that is not done. Where a write
 /// failed, or memory ran out, fewer bytes were sent than there are.
 pub fn emit_table<W: Wire>(alloc: Global, ledger: &Ledger, wire: &mut W) -> Result<(), TableFault>
-    ensures told { W.tells wire.old →
-        Emits ledger.now.contents result (W.traffic wire.old) (W.traffic wire.new) }
-    ensures ended { IsEnded ledger.now.contents result }
-    ensures tells { W.tells wire.old ↔ W.tells wire.new }
-    ensures faults { W.faults wire.new ≡ failed_writes result (W.faults wire.old) }
+    ensures { Emits ledger.now.contents result (W.log wire.old) (W.log wire.new) }
 {
-    let mut sent = send_after(wire, 0, header(ledger.plan()))?;
-    for cell in 0..ledger.plan().cells() {
-        let line = match row(alloc, ledger, cell) {
-            Ok(line) => line,
-            Err(RowFault::NotDone(undone)) => return Err(TableFault::NotDone(undone)),
-            Err(RowFault::Memory) => return Err(TableFault::Memory(sent)),
-        };
-        sent = send_after(wire, sent, line.as_slice())?;
+    let mut line = Line::new(wire);
+    let mut rows = LedgerRows { alloc, ledger };
+    let result = send_rows::<Plain, LedgerRows<'_>, W>(&mut rows, &mut line);
+    emitted(result, line.sent())
+}
+
+/// How the writing of a table ended, by how the sending of its rows did, and by how many bytes were sent then.
+fn emitted(outcome: Result<(), RowsFault<RowFault>>, sent: u64) -> Result<(), TableFault>
+    ensures { result ≡ emitted outcome sent }
+{
+    match outcome {
+        Ok(()) => Ok(()),
+        Err(RowsFault::Write) => Err(TableFault::Write(sent)),
+        Err(RowsFault::Row(RowFault::NotDone(cell))) => Err(TableFault::NotDone(cell)),
+        Err(RowsFault::Row(RowFault::Memory)) => Err(TableFault::Memory(sent)),
     }
-    Ok(())
 }

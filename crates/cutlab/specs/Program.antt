@@ -4,95 +4,72 @@ use Rattle.std.specs.declared.io.ErrorKind as io
 use Rattle.std.specs.declared.io.ErrorKind.TheVariants.{InvalidData}
 use Rattle.clap.specs.Words.{fault_of}
 use Rattle.clap.specs.declared.error.kind.ErrorKind.{ErrorKind}
-use Rattle.cut_table.specs.Traffic.{Traffic, Failed, wrote, write_failed}
-use Rattle.cutlab.specs.Line.{program_app, NamesJob, status_of_kind, IsAsked}
-use Rattle.cut_commands.specs.Faults.{fault_line, status_of, failed_calls}
-use Rattle.cutlab.specs.Jobs.{EndsJob}
-use Rattle.cutlab.specs.declared.line.Job.{Job}
+use Rattle.cut_wires.specs.Log.{Log, wrote, write_failed}
+use Rattle.cut_command_line.specs.Line.{program_app, NamesJob, status_of_kind, IsAsked}
+use Rattle.cut_command_line.specs.declared.line.Job.{Job}
+use Rattle.cut_commands.specs.Faults.{fault_line, status_of}
 use Rattle.cut_commands.specs.declared.fault.CliFault.{CliFault}
 use Rattle.cut_commands.specs.declared.fault.CliFault.TheVariants.{Memory, Write}
+use Rattle.cutlab.specs.Jobs.{EndsJob}
 
--- what is known of a wire before and after a call: whether it tells what passes over it, what had passed, and
--- how many of its calls had failed
-pub record Passage : Type 1 where
-  pub tells : Type 0
-  pub before : Traffic
-  pub after : Traffic
-  pub failed_before : Failed
-  pub failed_after : Failed
-
-abbrev pub passage_of : {W : Type 0} → (W → Type 0) → (W → Traffic) → (W → Failed) → W → W → Passage
-passage_of tells traffic failed old new = record {
-  tells = tells old;
-  before = traffic old;
-  after = traffic new;
-  failed_before = failed old;
-  failed_after = failed new;
-}
-
--- the whole text was written and nothing else passed, and no call failed
-pub record IsWhole (text : List ℕ) (p : Passage) : Type 0 where
-  pub wrote : p.tells → p.after ≡ wrote p.before text
-  pub none_failed : p.failed_after ≡ p.failed_before
-
--- some first bytes of a text were written, and then a write failed
-pub record IsCut (text : List ℕ) (sent : ℕ) (p : Passage) : Type 0 where
-  pub fewer : sent < length text
-  pub wrote : p.tells → p.after ≡ wrote p.before (take sent text)
-  pub failed : p.failed_after ≡ write_failed p.failed_before
+-- some first bytes of a text were written, and not all, when a write failed
+abbrev pub IsCut : List ℕ → ℕ → Log → Log → Type 0
+IsCut text sent old new = (sent < length text) × (new ≡ write_failed (wrote old (take sent text)))
 
 -- exactly this text was written, up to a write that failed, if one did
-abbrev pub IsSent : List ℕ → Passage → Type 0
-IsSent text p = IsWhole text p ⊎ ((sent : ℕ) × IsCut text sent p)
+abbrev pub IsSent : List ℕ → Log → Log → Type 0
+IsSent text old new = (new ≡ wrote old text) ⊎ ((sent : ℕ) × IsCut text sent old new)
 
--- how the end of a command is told on the errors and by the status: nothing and 0 where it was done, else
+-- how the end of a command is reported on the errors and by the status: nothing and 0 where it was done, else
 -- the fault's line and status
-abbrev pub TellsEnd : Result ⊤ CliFault → Passage → ℕ → Type 0
-TellsEnd (Ok done) errors status = IsWhole [] errors × (status ≡ 0)
-TellsEnd (Err fault) errors status = IsSent (fault_line fault) errors × (status ≡ status_of fault)
+abbrev pub ReportsEnd : Result ⊤ CliFault → Log → Log → ℕ → Type 0
+ReportsEnd (Ok done) old new status = (new ≡ old) × (status ≡ 0)
+ReportsEnd (Err fault) old new status = IsSent (fault_line fault) old new × (status ≡ status_of fault)
 
--- the words name a job, and clap finds no fault in them: the job ran, and its end is told
-pub record RunsJob (words : List (List ℕ)) (wire errors : Passage) (status : ℕ) : Type 0 where
+-- the words name a job, and clap finds no fault in them: the job ran, and its end is reported
+pub record RunsJob (words : List (List ℕ)) (old new errors_old errors_new : Log) (status : ℕ) : Type 0 where
   pub job : Job
   pub named : NamesJob words job
   pub faultless : fault_of program_app words ≡ []
   pub ended : Result ⊤ CliFault
-  pub ends : wire.tells → EndsJob job wire.before wire.after ended
-  pub failed : wire.failed_after ≡ failed_calls ended wire.failed_before
-  pub told : TellsEnd ended errors status
+  pub ends : EndsJob job old new ended
+  pub reported : ReportsEnd ended errors_old errors_new status
 
--- help was written to the output, or a part of it, which is told as a failed write
-abbrev pub ShowsHelp : List ℕ → Passage → Passage → ℕ → Type 0
-ShowsHelp text wire errors status =
-    (IsWhole text wire × IsWhole [] errors × (status ≡ 0))
-    ⊎ ((sent : ℕ) × IsCut text sent wire × TellsEnd (Err (Write sent)) errors status)
+-- help was written to the output, or a part of it, which is reported as a failed write
+abbrev pub ShowsHelp : List ℕ → Log → Log → Log → Log → ℕ → Type 0
+ShowsHelp text old new errors_old errors_new status =
+    ((new ≡ wrote old text) × (errors_new ≡ errors_old) × (status ≡ 0))
+    ⊎ ((sent : ℕ) × IsCut text sent old new × ReportsEnd (Err (Write sent)) errors_old errors_new status)
 
--- how a command line without a job is told, by the status and the text that clap gives it
-pub record TellsLine (line_status : ℕ) (text : List ℕ) (wire errors : Passage) (status : ℕ) : Type 0 where
+-- how a command line without a job is reported, by the status and the text that clap gives it
+pub record ReportsLine (line_status : ℕ) (text : List ℕ) (old new errors_old errors_new : Log) (status : ℕ)
+    : Type 0 where
   -- no memory was left for the text
-  pub no_text : text ≡ [] → IsWhole [] wire × TellsEnd (Err Memory) errors status
+  pub no_text : text ≡ [] → (new ≡ old) × ReportsEnd (Err Memory) errors_old errors_new status
   -- help goes to the output
-  pub help : 0 < length text → line_status ≡ 0 → ShowsHelp text wire errors status
+  pub help : 0 < length text → line_status ≡ 0 → ShowsHelp text old new errors_old errors_new status
   -- a mistake goes to the errors
-  pub mistake : 0 < length text → line_status ≢ 0 → IsWhole [] wire × IsSent text errors × (status ≡ line_status)
+  pub mistake : 0 < length text → line_status ≢ 0
+      → (new ≡ old) × IsSent text errors_old errors_new × (status ≡ line_status)
 
--- the words name no job: nothing was read, and what clap says of them is told
-pub record RunsNone (words : List (List ℕ)) (wire errors : Passage) (status : ℕ) : Type 0 where
+-- the words name no job: nothing was read, and what clap says of them is reported
+pub record RunsNone (words : List (List ℕ)) (old new errors_old errors_new : Log) (status : ℕ) : Type 0 where
   pub kind : ErrorKind
   pub asked : IsAsked words kind
   pub text : List ℕ
-  pub told : TellsLine (status_of_kind kind) text wire errors status
+  pub reported : ReportsLine (status_of_kind kind) text old new errors_old errors_new status
 
 -- how the program ends
-abbrev pub HasEnded : List (List ℕ) → Passage → Passage → ℕ → Type 0
-HasEnded words wire errors status = RunsJob words wire errors status ⊎ RunsNone words wire errors status
+abbrev pub HasEnded : List (List ℕ) → Log → Log → Log → Log → ℕ → Type 0
+HasEnded words old new errors_old errors_new status =
+    RunsJob words old new errors_old errors_new status ⊎ RunsNone words old new errors_old errors_new status
 
 -- where the words themselves can't be read: one that is not UTF-8 is a mistake in them, else memory ran out
 abbrev pub unread_status : io.ErrorKind → ℕ
 unread_status InvalidData = 2
 unread_status kind = 5
 
--- and what is told of it
+-- and what is reported of it
 abbrev pub unread_text : io.ErrorKind → List ℕ
 unread_text InvalidData = codes "error: a word of the command line is not UTF-8" ++ 10 ∷ []
 unread_text kind = fault_line Memory

@@ -1,13 +1,11 @@
-ghost use Rattle.std.specs.Prelude.{◌≡◌, ◌↔◌};
-ghost use Rattle.cut_commands.specs.Faults.{failed_calls};
+ghost use Rattle.cut_command_line.specs.Line.{IsSized};
 ghost use Rattle.cutlab.specs.Jobs.{EndsJob};
-ghost use Rattle.cutlab.specs.Line.{IsSized};
 
-use crate::Job;
+use cut_command_line::Job;
 use cut_commands::{CliFault, ask_at, check_io, migrate_files, run_file, run_io};
 use cut_disks::FileDisk;
-use cut_server::serve_at;
-use cut_table::Wire;
+use cut_server::{Crew, serve_at};
+use cut_wires::Wire;
 use std::sync::Wait;
 use std::thread::Threads;
 
@@ -22,9 +20,7 @@ where
     W: Wire,
     R: Threads + Wait + Sync,
     requires { IsSized job }
-    ensures ends { W.tells wire.old → EndsJob job.entry (W.traffic wire.old) (W.traffic wire.new) result }
-    ensures tells { W.tells wire.old ↔ W.tells wire.new }
-    ensures faults { W.faults wire.new ≡ failed_calls result (W.faults wire.old) }
+    ensures { EndsJob job.entry (W.log wire.old) (W.log wire.new) result }
 {
     let alloc = host.alloc();
     match job {
@@ -41,12 +37,21 @@ where
         Job::Check => check_io(alloc, wire),
         Job::Serve {
             socket,
-            crew,
+            workers,
+            sessions,
+            studies,
             folder,
-        } => match serve_at(host, rt, socket, crew, folder, wire) {
-            Ok(_report) => Ok(()),
-            Err(fault) => Err(fault),
-        },
+        } => {
+            let crew = Crew {
+                workers,
+                sessions,
+                studies,
+            };
+            match serve_at(host, rt, socket, crew, folder, wire) {
+                Ok(_report) => Ok(()),
+                Err(fault) => Err(fault),
+            }
+        }
         Job::Ask { socket } => ask_at(host, wire, socket),
         Job::Migrate { old, new } => migrate_files(host, wire, old, new),
     }

@@ -3,16 +3,16 @@
 #![tactic(auto)]
 
 mod jobs;
-mod line;
 mod program;
 #[cfg(test)]
 mod tests;
 
-pub use cut_commands::{CliFault, StreamWire, ask_io, check_io, migrate_io, run_io};
+pub use cut_command_line::{Job, LineFault, parse_line};
+pub use cut_commands::{CliFault, ask_io, check_io, migrate_io, run_io};
 pub use cut_server::{
     Crew, Door, FolderShelf, ListenFault, Listener, SocketWire, serve_io, serve_sessions,
 };
-pub use line::{Job, LineFault, parse_line};
+pub use cut_wires::StreamWire;
 pub use program::{end_unread, run_words};
 use std::alloc::Global;
 use std::env::Env;

@@ -1,11 +1,11 @@
 //! The program, over its words and wires.
-ghost use Rattle.std.specs.Prelude.{◌≡◌, map, string_bytes, Result, ⊤};
-ghost use Rattle.cutlab.specs.Program.{passage_of, HasEnded, IsSent, TellsEnd, TellsLine, unread_status, unread_text};
+ghost use Rattle.std.specs.Prelude.{◌≡◌, map, string_bytes, Err};
+ghost use Rattle.cutlab.specs.Program.{HasEnded, IsSent, ReportsEnd, ReportsLine, unread_status, unread_text};
 
 use crate::jobs::answer;
-use crate::{LineFault, parse_line};
+use cut_command_line::{LineFault, parse_line};
 use cut_commands::CliFault;
-use cut_table::{Wire, send_all};
+use cut_wires::{Wire, send_all};
 use std::convert::AsStr;
 use std::io::ErrorKind;
 use std::sync::Wait;
@@ -14,7 +14,7 @@ use std::thread::Threads;
 /// The line of a word that is not UTF-8.
 const UNREADABLE_LINE: &[u8] = b"error: a word of the command line is not UTF-8\n";
 
-/// The program: it does what the words ask for, the first of which is its own name, and answers the
+/// The program: it does what the words ask for, the first of which is its own name, and returns the
 /// status with which it ends.
 ///
 /// A command reads its plan from `wire` and writes its answer to it; its fault is one line on `errors`, from
@@ -32,8 +32,8 @@ where
     S: AsStr,
     W: Wire,
     E: Wire,
-    ensures { HasEnded (map S.text words.now) (passage_of W.tells W.traffic W.faults wire.old wire.new)
-        (passage_of E.tells E.traffic E.faults errors.old errors.new) result }
+    ensures { HasEnded (map S.text words.now) (W.log wire.old) (W.log wire.new)
+        (E.log errors.old) (E.log errors.new) result }
 {
     match parse_line(host.alloc(), words) {
         Ok(job) => {
@@ -46,7 +46,7 @@ where
 
 /// Ends as a command did.
 fn end<E: Wire>(ended: Result<(), CliFault>, errors: &mut E) -> u8
-    ensures { TellsEnd ended (passage_of E.tells E.traffic E.faults errors.old errors.new) result }
+    ensures { ReportsEnd ended (E.log errors.old) (E.log errors.new) result }
 {
     match ended {
         Ok(()) => 0,
@@ -54,21 +54,20 @@ fn end<E: Wire>(ended: Result<(), CliFault>, errors: &mut E) -> u8
     }
 }
 
-/// Ends with a fault, which is told by its line. This takes no memory.
+/// Ends with a fault, which is reported by its line. This takes no memory.
 fn end_fault<E: Wire>(fault: &CliFault, errors: &mut E) -> u8
-    ensures { TellsEnd (Err fault.now) (passage_of E.tells E.traffic E.faults errors.old errors.new) result }
+    ensures { ReportsEnd (Err fault.now) (E.log errors.old) (E.log errors.new) result }
 {
     let mut line = fault.text();
     line.push_str("\n");
-    tell(line.as_bytes(), errors);
+    report(line.as_bytes(), errors);
     fault.status()
 }
 
 /// Ends where the words name no job: help goes to the output, and a mistake to the errors.
 fn end_line<W: Wire, E: Wire>(fault: &LineFault, wire: &mut W, errors: &mut E) -> u8
-    ensures { TellsLine fault.now.status (string_bytes fault.now.text)
-        (passage_of W.tells W.traffic W.faults wire.old wire.new)
-        (passage_of E.tells E.traffic E.faults errors.old errors.new) result }
+    ensures { ReportsLine fault.now.status (string_bytes fault.now.text)
+        (W.log wire.old) (W.log wire.new) (E.log errors.old) (E.log errors.new) result }
 {
     let text = fault.text.as_bytes();
     if text.is_empty() {
@@ -80,18 +79,18 @@ fn end_line<W: Wire, E: Wire>(fault: &LineFault, wire: &mut W, errors: &mut E) -
             Err(sent) => end_fault(&CliFault::Write(sent.bytes), errors),
         };
     }
-    tell(text, errors);
+    report(text, errors);
     fault.status
 }
 
 /// Ends where the words can't be read: one of them is not UTF-8, or memory for them was refused.
 pub fn end_unread<E: Wire>(kind: ErrorKind, errors: &mut E) -> u8
     ensures status { result ≡ unread_status kind }
-    ensures told { IsSent (unread_text kind) (passage_of E.tells E.traffic E.faults errors.old errors.new) }
+    ensures text { IsSent (unread_text kind) (E.log errors.old) (E.log errors.new) }
 {
     match kind {
         ErrorKind::InvalidData => {
-            tell(UNREADABLE_LINE, errors);
+            report(UNREADABLE_LINE, errors);
             2
         }
         _ => end_fault(&CliFault::Memory, errors),
@@ -99,8 +98,8 @@ pub fn end_unread<E: Wire>(kind: ErrorKind, errors: &mut E) -> u8
 }
 
 /// Writes a text as far as the wire takes it.
-fn tell<E: Wire>(text: &[u8], errors: &mut E)
-    ensures { IsSent text.now (passage_of E.tells E.traffic E.faults errors.old errors.new) }
+fn report<E: Wire>(text: &[u8], errors: &mut E)
+    ensures { IsSent text.now (E.log errors.old) (E.log errors.new) }
 {
     let _ = send_all(errors, text);
 }

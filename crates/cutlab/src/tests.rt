@@ -1,9 +1,10 @@
-//! What no contract says: the texts of clap, streams that fail, and a server and its client over a socket.
+//! What no contract says: files of checkpoints, streams that fail, and a server and its client over a socket.
 
 mod commands;
 mod serving;
 
-use crate::{StreamWire, run_words};
+use crate::run_words;
+use cut_wires::StreamWire;
 use std::io;
 use std::sync::Wait;
 use std::thread::Threads;
@@ -25,21 +26,11 @@ struct Left {
 }
 
 impl Left {
-    /// Whether the program ended with this status, wrote this and told this.
+    /// Whether the program ended with this status, wrote this and reported this.
     fn is(&self, status: u8, output: &str, errors: &str) -> bool {
         self.status == status
             && self.output.as_slice() == output.as_bytes()
             && self.errors.as_slice() == errors.as_bytes()
-    }
-
-    /// Whether the program ended with 0 and told nothing, and its output has this in it.
-    fn is_help(&self, part: &str) -> bool {
-        self.status == 0 && self.errors.is_empty() && has(&self.output, part)
-    }
-
-    /// Whether the program ended with 2 and wrote nothing, and what it told has this in it.
-    fn is_mistake(&self, part: &str) -> bool {
-        self.status == 2 && self.output.is_empty() && has(&self.errors, part)
     }
 }
 

@@ -2,7 +2,7 @@
 
 use super::{NAMES, PLAN};
 use cut_commands::ask_io;
-use cut_table::MemoryWire;
+use cut_wires::MemoryWire;
 use std::alloc::Global;
 use std::test::Fail;
 

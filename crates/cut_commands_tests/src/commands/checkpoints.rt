@@ -1,10 +1,10 @@
 //! Studies that are kept on a disk: resumed, stopped at each call of the disk, and refused.
 
 use super::{LINE, NAMES, PLAN, plan_with};
-use cut_commands::{CliFault, StreamWire, run_io};
+use cut_commands::{CliFault, run_io};
 use cut_disks::{Disk, FaultyDisk, FileDisk, MemoryDisk, Tear};
 use cut_journal::JournalFault;
-use cut_table::FaultyWire;
+use cut_wires::{FaultyWire, StreamWire};
 use std::alloc::Global;
 use std::fs;
 use std::sync::Wait;

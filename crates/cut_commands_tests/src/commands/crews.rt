@@ -4,7 +4,7 @@ use super::{LINE, NAMES, PLAN};
 use crate::workers::workers_from;
 use cut_commands::{CliFault, run_io};
 use cut_disks::{Disk, DiskFault, MemoryDisk};
-use cut_table::{MemoryWire, Wire, WireFault};
+use cut_wires::{MemoryWire, Wire, WireFault};
 use std::alloc::Global;
 use std::sync::Wait;
 use std::sync::atomic::{AtomicU64, Ordering};
@@ -74,11 +74,7 @@ fn wait_for<C: Clock>(clock: &C, gates: &AtomicU64, wanted: u64, turns: u32) -> 
 }
 
 impl<W: Wire, C: Clock> Wire for Held<'_, W, C> {
-    ghost traffic = { λ w. W.traffic w.wire };
-
-    ghost tells = { λ w. W.tells w.wire };
-
-    ghost faults = { λ w. W.faults w.wire };
+    ghost log = { λ w. W.log w.wire };
 
     fn read(&mut self, buffer: &mut [u8]) -> Result<usize, WireFault> {
         self.wire.read(buffer)

@@ -1,8 +1,8 @@
 //! Readers and writers that do little at a time, and that fail at each of their calls in turn.
 
 use super::{PLAN, check, plan_table, run};
-use cut_commands::{CliFault, StreamWire};
-use cut_table::{Wire, WireFault};
+use cut_commands::CliFault;
+use cut_wires::{StreamWire, Wire, WireFault};
 use std::alloc::{AllocError, Global};
 use std::io::{self, ErrorKind, Read, Write};
 use std::sync::Wait;

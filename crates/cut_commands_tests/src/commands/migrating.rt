@@ -2,9 +2,9 @@
 
 use super::PLAN;
 use super::checkpoints::{FALSE_CONFLICTS, empty_disk, written};
-use cut_commands::{CliFault, StreamWire, migrate_io};
+use cut_commands::{CliFault, migrate_io};
 use cut_disks::{Disk, FaultyDisk, MemoryDisk, Tear};
-use cut_table::FaultyWire;
+use cut_wires::{FaultyWire, StreamWire};
 use std::alloc::Global;
 use std::sync::Wait;
 use std::test::Fail;

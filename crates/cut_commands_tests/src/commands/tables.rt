@@ -7,6 +7,9 @@ use std::sync::Wait;
 use std::test::Fail;
 use std::thread::Threads;
 
+/// A field of the plan, and what stands in its place.
+type Edit = (&'static str, &'static str);
+
 /// How a study may be run: how many trials a piece has at most, and by how many workers.
 const WAYS: [(u32, u32); 9] = [
     (1, 1),
@@ -62,73 +65,61 @@ fn first_wrong<T: Threads + Wait + Sync>(
     Ok(None)
 }
 
-#[test]
-fn one_process_crashes(rt: HostRuntime) -> Result<(), Fail> {
-    let alloc = rt.alloc();
-    let lines = "1,1,1,1,2,8,0,0,0,8,2,2,0\n";
-    assert!(rt; has_lines(&rt, alloc, &[], lines)?);
-    assert!(rt; has_lines(&rt, alloc, &[("\"copies\":1", "\"copies\":4")], lines)?);
-    Ok(())
-}
+/// Fields of the plan in place of its own.
+const COPIES: Edit = ("\"copies\":1", "\"copies\":4");
+
+const EXPLICIT: Edit = ("true", "false");
+
+const HIGH: Edit = ("\"h\":[1]", "\"h\":[3]");
+
+const LIAR: Edit = ("\"liars\":0", "\"liars\":1");
+
+const NONE_FAIL: Edit = ("\"f\":[1]", "\"f\":[0]");
+
+const ONCE: Edit = ("\"repeats\":2", "\"repeats\":1");
+
+const PAIR: Edit = ("\"nodes\":5", "\"nodes\":2");
+
+const RINGS: Edit = ("\"k\":[1]", "\"k\":[3]");
+
+const SPEAK: Edit = ("silent", "speak");
+
+const THREE: Edit = ("\"nodes\":5", "\"nodes\":3");
+
+const THRICE: Edit = ("\"repeats\":2", "\"repeats\":3");
+
+const TWO_FAIL: Edit = ("\"f\":[1]", "\"f\":[2]");
+
+/// Edits of the plan, and the lines of its table: one process crashes, none fails, one is left, of two one is left,
+/// and one process crashes on three rings.
+const SMALL: [(&[Edit], &str); 11] = [
+    (&[], "1,1,1,1,2,8,0,0,0,8,2,2,0\n"),
+    (&[COPIES], "1,1,1,1,2,8,0,0,0,8,2,2,0\n"),
+    (&[NONE_FAIL], "1,1,1,0,2,10,0,10,0,0,0,0,0\n"),
+    (&[NONE_FAIL, LIAR, ONCE], "1,1,1,0,1,5,0,0,5,5,1,0,0\n"),
+    (
+        &[THREE, TWO_FAIL, THRICE],
+        "1,1,1,2,3,3,3,0,0,3,0,0,1000000\n",
+    ),
+    (
+        &[THREE, TWO_FAIL, THRICE, SPEAK],
+        "1,1,1,2,3,3,3,0,0,3,0,0,1000000\n",
+    ),
+    (&[PAIR, ONCE], "1,1,1,1,1,1,0,0,0,1,0,0,0\n"),
+    (&[RINGS, HIGH], "3,3,1,1,2,8,0,0,0,8,2,2,0\n"),
+    (&[RINGS, HIGH, EXPLICIT], "3,3,1,1,2,8,0,0,0,8,2,2,0\n"),
+    (&[RINGS, HIGH, COPIES], "3,3,1,1,2,8,0,0,0,8,2,2,0\n"),
+    (
+        &[RINGS, HIGH, COPIES, EXPLICIT],
+        "3,3,1,1,2,8,0,0,0,8,2,2,0\n",
+    ),
+];
 
 #[test]
-fn no_process_fails(rt: HostRuntime) -> Result<(), Fail> {
-    let alloc = rt.alloc();
-    let none = ("\"f\":[1]", "\"f\":[0]");
-    assert!(rt; has_lines(&rt, alloc, &[none], "1,1,1,0,2,10,0,10,0,0,0,0,0\n")?);
-    let liar = ("\"liars\":0", "\"liars\":1");
-    let once = ("\"repeats\":2", "\"repeats\":1");
-    assert!(rt;
-        has_lines(
-            &rt,
-            alloc,
-            &[none, liar, once],
-            "1,1,1,0,1,5,0,0,5,5,1,0,0\n"
-        )?
-    );
-    Ok(())
-}
-
-#[test]
-fn one_process_is_left(rt: HostRuntime) -> Result<(), Fail> {
-    let alloc = rt.alloc();
-    let three = ("\"nodes\":5", "\"nodes\":3");
-    let two = ("\"f\":[1]", "\"f\":[2]");
-    let thrice = ("\"repeats\":2", "\"repeats\":3");
-    let speak = ("silent", "speak");
-    let lines = "1,1,1,2,3,3,3,0,0,3,0,0,1000000\n";
-    assert!(rt; has_lines(&rt, alloc, &[three, two, thrice], lines)?);
-    assert!(rt; has_lines(&rt, alloc, &[three, two, thrice, speak], lines)?);
-    Ok(())
-}
-
-#[test]
-fn two_processes(rt: HostRuntime) -> Result<(), Fail> {
-    let pair = ("\"nodes\":5", "\"nodes\":2");
-    let once = ("\"repeats\":2", "\"repeats\":1");
-    assert!(rt;
-        has_lines(
-            &rt,
-            rt.alloc(),
-            &[pair, once],
-            "1,1,1,1,1,1,0,0,0,1,0,0,0\n"
-        )?
-    );
-    Ok(())
-}
-
-#[test]
-fn three_rings(rt: HostRuntime) -> Result<(), Fail> {
-    let alloc = rt.alloc();
-    let rings = ("\"k\":[1]", "\"k\":[3]");
-    let high = ("\"h\":[1]", "\"h\":[3]");
-    let copies = ("\"copies\":1", "\"copies\":4");
-    let explicit = ("true", "false");
-    let lines = "3,3,1,1,2,8,0,0,0,8,2,2,0\n";
-    assert!(rt; has_lines(&rt, alloc, &[rings, high], lines)?);
-    assert!(rt; has_lines(&rt, alloc, &[rings, high, explicit], lines)?);
-    assert!(rt; has_lines(&rt, alloc, &[rings, high, copies], lines)?);
-    assert!(rt; has_lines(&rt, alloc, &[rings, high, copies, explicit], lines)?);
+fn small_studies(rt: HostRuntime) -> Result<(), Fail> {
+    for (edits, lines) in SMALL {
+        assert!(rt; has_lines(&rt, rt.alloc(), edits, lines)?, "{edits:?}");
+    }
     Ok(())
 }
 

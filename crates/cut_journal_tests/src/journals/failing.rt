@@ -85,104 +85,59 @@ fn a_failing_append(rt: HostRuntime) -> Result<(), Fail> {
     check_appends(&rt, rt.alloc(), &plan, &rows)
 }
 
-// Whether a disk holds a study without slips, as it should, or else none, so that one can be made.
-fn is_left(alloc: Global, disk: FaultyDisk, plan: &Plan, is_study: bool) -> bool {
+// Whether a disk of which one call has failed is opened again, with as many slips.
+fn is_opened_again(alloc: Global, disk: FaultyDisk, plan: &Plan, slips: usize) -> bool {
     let has_failed_once = disk.failures() == 1;
-    match Journal::reopen(alloc, disk, plan) {
-        Ok((_journal, slips)) => has_failed_once && is_study && slips.is_empty(),
-        Err((fault, disk)) => {
-            let is_made = Journal::create(alloc, disk, plan).is_ok();
-            has_failed_once && !is_study && matches!(fault, JournalFault::NoStudy) && is_made
-        }
+    match Journal::open(alloc, disk, plan) {
+        Ok((_journal, found)) => has_failed_once && found.len() == slips,
+        Err(_refused) => false,
     }
 }
 
-// Whether a creation of which this call of the disk fails hands back such a disk. It makes eight calls, of which
-// the seventh opens the gate.
-fn creation_holds(
-    alloc: Global,
-    plan: &Plan,
-    fail_at: u64,
-    tear: Tear,
-) -> Result<bool, AllocError> {
-    let disk = FaultyDisk::of(alloc, Vec::new(alloc), fail_at, tear)?;
-    disk.arm();
-    let is_study = fail_at == 8 || fail_at == 7 && tear == Tear::Everything;
-    Ok(match Journal::create(alloc, disk, plan) {
-        Ok(journal) => fail_at == 9 && journal.into_disk().failures() == 0,
-        Err((fault, disk)) => {
-            let is_left = is_left(alloc, disk, plan, is_study);
-            fail_at < 9 && matches!(fault, JournalFault::Disk) && is_left
-        }
-    })
-}
-
-// Asserts that of each call.
-fn check_creations(rt: &impl Abort, alloc: Global, plan: &Plan) -> Result<(), Fail> {
-    for fail_at in 1..=9 {
-        assert!(rt;
-            creation_holds(alloc, plan, fail_at, Tear::Nothing)?,
-            "{fail_at}"
-        );
-        assert!(rt;
-            creation_holds(alloc, plan, fail_at, Tear::Everything)?,
-            "{fail_at}"
-        );
-    }
-    Ok(())
-}
-
-// Each device call of a creation fails in turn, and then none: the disk is handed back, and then holds no study, so
-// that a second creation succeeds, or from its gate's write on the study without slips.
-#[test]
-fn a_failing_creation(rt: HostRuntime) -> Result<(), Fail> {
-    let plan = Plan::from_json(rt.alloc(), SMALL.as_bytes())?;
-    check_creations(&rt, rt.alloc(), &plan)
-}
-
-// Whether one call of a disk has failed, and the study is there again.
-fn is_there_again(alloc: Global, disk: FaultyDisk, plan: &Plan) -> bool {
-    let has_failed_once = disk.failures() == 1;
-    has_failed_once && slips_found(alloc, disk, plan) == Ok(1)
-}
-
-// Whether a reopening hands such a disk back where this call fails, or finds the slip where it is the twelfth.
-fn reopening_holds(
+// Whether an opening is as it should be where this call of the disk fails: the disk is handed back and opened again,
+// or, where the opening makes fewer calls, the slips are found.
+fn opening_holds(
     alloc: Global,
     file: &[u8],
     plan: &Plan,
-    fail_at: u64,
+    (fail_at, calls, slips): (u64, u64, usize),
 ) -> Result<bool, AllocError> {
-    let bytes = Vec::from_slice(alloc, file)?;
-    let disk = FaultyDisk::of(alloc, bytes, fail_at, Tear::Everything)?;
+    let disk = FaultyDisk::of(
+        alloc,
+        Vec::from_slice(alloc, file)?,
+        fail_at,
+        Tear::Everything,
+    )?;
     disk.arm();
-    Ok(match Journal::reopen(alloc, disk, plan) {
-        Ok((journal, slips)) => {
-            fail_at == 12 && slips.len() == 1 && journal.disk().failures() == 0
+    Ok(match Journal::open(alloc, disk, plan) {
+        Ok((_journal, found)) => fail_at > calls && found.len() == slips,
+        Err((JournalFault::Disk, disk)) => {
+            fail_at <= calls && is_opened_again(alloc, disk, plan, slips)
         }
-        Err((fault, disk)) => {
-            let is_there = is_there_again(alloc, disk, plan);
-            fail_at < 12 && matches!(fault, JournalFault::Disk) && is_there
-        }
+        Err(_refused) => false,
     })
 }
 
-// Asserts that of each call, for the file of two trials' slip.
-fn check_reopenings(rt: &impl Abort, alloc: Global, plan: &Plan) -> Result<(), Fail> {
-    let disk = written_disk(alloc, plan, "0,2")?;
-    for fail_at in 1..=12 {
-        assert!(rt;
-            reopening_holds(alloc, disk.bytes(), plan, fail_at)?,
-            "{fail_at}"
-        );
+// Asserts that of each call, of which an opening makes so many.
+fn check_openings(
+    rt: &impl Abort,
+    alloc: Global,
+    file: &[u8],
+    plan: &Plan,
+    (calls, slips): (u64, usize),
+) -> Result<(), Fail> {
+    for fail_at in 1..calls.saturating_add(2) {
+        let is_held = opening_holds(alloc, file, plan, (fail_at, calls, slips))?;
+        assert!(rt; is_held, "{fail_at}");
     }
     Ok(())
 }
 
-// Each device call of a reopening fails in turn: the disk is handed back with one failed call and its bytes,
-// and the study is there again.
+// Each call of the disk fails in turn, on an empty disk and on one with a slip.
 #[test]
-fn a_failing_reopening(rt: HostRuntime) -> Result<(), Fail> {
+fn a_failing_opening(rt: HostRuntime) -> Result<(), Fail> {
     let plan = Plan::from_json(rt.alloc(), SMALL.as_bytes())?;
-    check_reopenings(&rt, rt.alloc(), &plan)
+    check_openings(&rt, rt.alloc(), &[], &plan, (10, 0))?;
+    let disk = written_disk(rt.alloc(), &plan, "0,2")?;
+    check_openings(&rt, rt.alloc(), disk.bytes(), &plan, (11, 1))
 }

@@ -1,127 +1,13 @@
-//! The program over its words and streams, for every job and kind of line.
+//! The program over its words and streams.
 
-use super::{PLAN, TABLE, left_by};
-use crate::line::status_of_kind;
-use crate::{Crew, Job, StreamWire, end_unread, parse_line, run_words};
-use clap::error::ErrorKind;
-use cut_table::FaultyWire;
+use super::{PLAN, TABLE, has, left_by};
+use crate::run_words;
+use cut_wires::{FaultyWire, StreamWire};
 use std::alloc::{AllocError, Global};
 use std::sync::Wait;
 use std::test::Fail;
 use std::thread::Threads;
 use std::{fs, io};
-
-/// A run by pieces of this size and so many workers that is not kept.
-fn run_with<'a>(piece: u32, workers: u32) -> Job<'a> {
-    Job::Run {
-        piece,
-        workers,
-        checkpoint: None,
-    }
-}
-
-/// Whether the words behind the program's name are read as this job.
-fn is_read_as(alloc: Global, words: &[&str], wanted: Job) -> bool {
-    match parse_line(alloc, words) {
-        Ok(job) => job == wanted,
-        Err(_) => false,
-    }
-}
-
-/// A run by 16 trials and one worker that is kept in a file.
-fn run_kept(checkpoint: &str) -> Job {
-    Job::Run {
-        piece: 16,
-        workers: 1,
-        checkpoint: Some(checkpoint),
-    }
-}
-
-#[test]
-fn jobs_are_named(rt: HostRuntime) {
-    let rows: [(&[&str], Job); 4] = [
-        (&["cutlab", "check"], Job::Check),
-        (&["cutlab", "ask", "a.sock"], Job::Ask { socket: "a.sock" }),
-        (
-            &["cutlab", "run", "--checkpoint", "a.cut"],
-            run_kept("a.cut"),
-        ),
-        (&["cutlab", "run", "--checkpoint="], run_kept("")),
-    ];
-    for (words, wanted) in rows {
-        assert!(rt; is_read_as(rt.alloc(), words, wanted), "{words:?}");
-    }
-}
-
-#[test]
-fn a_migration_is_named(rt: HostRuntime) {
-    let words = ["cutlab", "migrate", "a.cut", "b.cut"];
-    let wanted = Job::Migrate {
-        old: "a.cut",
-        new: "b.cut",
-    };
-    assert!(rt; is_read_as(rt.alloc(), &words, wanted));
-}
-
-#[test]
-fn a_server_is_named(rt: HostRuntime) {
-    let words = [
-        "cutlab",
-        "serve",
-        "a.sock",
-        "--workers=64",
-        "--studies=3",
-        "--sessions=1",
-        "--dir=kept",
-    ];
-    let wanted = Job::Serve {
-        socket: "a.sock",
-        crew: Crew {
-            workers: 64,
-            sessions: 1,
-            studies: 3,
-        },
-        folder: Some("kept"),
-    };
-    assert!(rt; is_read_as(rt.alloc(), &words, wanted));
-}
-
-#[test]
-fn pieces_and_workers_are_named(rt: HostRuntime) {
-    let rows: [(&[&str], u32, u32); 8] = [
-        (&["cutlab", "run"], 16, 1),
-        (&["cutlab", "run", "--piece", "1"], 1, 1),
-        (&["cutlab", "run", "--piece=7"], 7, 1),
-        (&["cutlab", "run", "--piece", "+20"], 20, 1),
-        (&["cutlab", "run", "--piece", "1000000"], 1_000_000, 1),
-        (&["cutlab", "run", "--workers", "1"], 16, 1),
-        (&["cutlab", "run", "--workers", "64"], 16, 64),
-        (&["cutlab", "run", "--workers=3", "--piece", "2"], 2, 3),
-    ];
-    for (words, piece, workers) in rows {
-        let wanted = run_with(piece, workers);
-        assert!(rt; is_read_as(rt.alloc(), words, wanted), "{words:?}");
-    }
-}
-
-#[test]
-fn workers_out_of_range_are_mistakes(rt: HostRuntime) {
-    let rows: [(&[&str], &str); 4] = [
-        (&["cutlab", "run", "--workers", "0"], "0 is not in 1..=64"),
-        (&["cutlab", "run", "--workers", "65"], "65 is not in 1..=64"),
-        (
-            &["cutlab", "run", "--workers", "x"],
-            "invalid value 'x' for '--workers <COUNT>'",
-        ),
-        (
-            &["cutlab", "check", "--workers", "1"],
-            "unexpected argument '--workers' found",
-        ),
-    ];
-    for (words, part) in rows {
-        assert!(rt; left_by(&rt, &rt, words, PLAN).is_mistake(part), "{part}");
-    }
-}
 
 #[test]
 fn jobs_write_their_answer(rt: HostRuntime) {
@@ -232,105 +118,13 @@ fn a_checkpoint_is_moved(rt: HostRuntime) -> Result<(), Fail> {
 }
 
 #[test]
-fn help_is_output(rt: HostRuntime) {
-    let rows: [(&[&str], &str); 8] = [
-        (&["cutlab", "--help"], "docs/GUIDE.md"),
-        (&["cutlab", "--help"], "Move a checkpoint of version 1"),
-        (&["cutlab", "help"], "docs/GUIDE.md"),
-        (&["cutlab", "run", "--help"], "Example: cutlab run"),
-        (&["cutlab", "check", "--help"], "Example: cutlab check"),
-        (&["cutlab", "serve", "--help"], "Example: cutlab serve"),
-        (&["cutlab", "ask", "--help"], "Example: cutlab ask"),
-        (&["cutlab", "migrate", "--help"], "Example: cutlab migrate"),
-    ];
-    for (words, part) in rows {
-        let left = left_by(&rt, &rt, words, PLAN);
-        assert!(rt; left.is_help("Usage: cutlab"), "{words:?}");
-        assert!(rt; left.is_help(part), "{words:?}");
-    }
-}
-
-#[test]
-fn mistakes_are_errors(rt: HostRuntime) {
-    let rows: [(&[&str], &str); 15] = [
-        (&["cutlab", "ask"], "required arguments were not provided"),
-        (
-            &["cutlab", "migrate"],
-            "required arguments were not provided",
-        ),
-        (
-            &["cutlab", "migrate", "a.cut"],
-            "required arguments were not provided",
-        ),
-        (
-            &["cutlab", "migrate", "a.cut", "b.cut", "c.cut"],
-            "unexpected argument 'c.cut' found",
-        ),
-        (
-            &["cutlab", "serve", "a.sock", "--workers", "1"],
-            "required arguments were not provided",
-        ),
-        (
-            &["cutlab", "serve", "a.sock", "--sessions", "65"],
-            "65 is not in 1..=64",
-        ),
-        (
-            &["cutlab", "run", "--piece", "0"],
-            "0 is not in 1..=1000000",
-        ),
-        (
-            &["cutlab", "run", "--piece", "1000001"],
-            "1000001 is not in 1..=1000000",
-        ),
-        (
-            &["cutlab", "run", "--piece", "few"],
-            "invalid value 'few' for '--piece <TRIALS>'",
-        ),
-        (
-            &["cutlab", "check", "--piece", "1"],
-            "unexpected argument '--piece' found",
-        ),
-        (&["cutlab"], "Usage: cutlab <COMMAND>"),
-        (&["cutlab", "frob"], "unrecognized subcommand 'frob'"),
-        (
-            &["cutlab", "run", "plan.json"],
-            "unexpected argument 'plan.json' found",
-        ),
-        (
-            &["cutlab", "check", "--all"],
-            "unexpected argument '--all' found",
-        ),
-        (&["cutlab", "--frob"], "unexpected argument '--frob' found"),
-    ];
-    for (words, part) in rows {
-        assert!(rt; left_by(&rt, &rt, words, PLAN).is_mistake(part), "{part}");
-    }
-}
-
-#[test]
-fn each_kind_has_its_status(rt: HostRuntime) {
-    let rows = [
-        (ErrorKind::InvalidValue, 2),
-        (ErrorKind::UnknownArgument, 2),
-        (ErrorKind::InvalidSubcommand, 2),
-        (ErrorKind::NoEquals, 2),
-        (ErrorKind::ValueValidation, 2),
-        (ErrorKind::TooManyValues, 2),
-        (ErrorKind::TooFewValues, 2),
-        (ErrorKind::WrongNumberOfValues, 2),
-        (ErrorKind::ArgumentConflict, 2),
-        (ErrorKind::MissingRequiredArgument, 2),
-        (ErrorKind::MissingSubcommand, 2),
-        (ErrorKind::DisplayHelp, 0),
-        (ErrorKind::DisplayHelpOnMissingArgumentOrSubcommand, 2),
-        (ErrorKind::DisplayVersion, 0),
-        (ErrorKind::Io, 2),
-        (ErrorKind::Format, 2),
-        (ErrorKind::OutOfMemory, 5),
-    ];
-    for (kind, status) in rows {
-        assert!(rt; status_of_kind(kind) == status, "{kind:?}");
-    }
+fn help_is_output_and_a_mistake_is_not(rt: HostRuntime) {
+    let help = left_by(&rt, &rt, &["cutlab", "run", "--help"], PLAN);
+    assert!(rt; help.status == 0 && help.errors.is_empty());
+    assert!(rt; has(&help.output, "Example: cutlab run"));
+    let mistake = left_by(&rt, &rt, &["cutlab", "frob"], PLAN);
+    assert!(rt; mistake.status == 2 && mistake.output.is_empty());
+    assert!(rt; has(&mistake.errors, "unrecognized subcommand 'frob'"));
 }
 
 /// What the program leaves of a command whose output takes so many bytes: its status and its errors.
@@ -343,14 +137,14 @@ fn left_on_a_full_output<T: Threads + Wait + Sync>(
     let alloc = host.alloc();
     let mut wire = FaultyWire::new(alloc, Vec::from_slice(alloc, PLAN.as_bytes())?, 7, room, 0);
     let mut errors = Vec::new(alloc);
-    let mut told = StreamWire::new(io::empty(), &mut errors);
-    let status = run_words(host, rt, &["cutlab", word], &mut wire, &mut told);
-    drop(told);
+    let mut report = StreamWire::new(io::empty(), &mut errors);
+    let status = run_words(host, rt, &["cutlab", word], &mut wire, &mut report);
+    drop(report);
     Ok((status, errors))
 }
 
 #[test]
-fn a_failed_output_is_told(rt: HostRuntime) -> Result<(), Fail> {
+fn a_failed_output_is_reported(rt: HostRuntime) -> Result<(), Fail> {
     let rows = [
         ("run", 0, "cutlab: fault 31 Write 0\n"),
         ("run", 14, "cutlab: fault 31 Write 14\n"),
@@ -365,55 +159,4 @@ fn a_failed_output_is_told(rt: HostRuntime) -> Result<(), Fail> {
         );
     }
     Ok(())
-}
-
-/// The status of the program where its errors take nothing.
-fn status_without_errors<T: Threads + Wait + Sync>(
-    host: &HostRuntime,
-    rt: &T,
-    words: &[&str],
-    text: &str,
-) -> u8 {
-    let alloc = host.alloc();
-    let mut output = Vec::new(alloc);
-    let mut wire = StreamWire::new(text.as_bytes(), &mut output);
-    let mut errors = FaultyWire::new(alloc, Vec::new(alloc), 7, 0, 0);
-    run_words(host, rt, words, &mut wire, &mut errors)
-}
-
-#[test]
-fn errors_that_fail_leave_the_status(rt: HostRuntime) {
-    let rows: [(&[&str], &str, u8); 3] = [
-        (&["cutlab", "run"], "[]", 3),
-        (&["cutlab", "frob"], "", 2),
-        (&["cutlab", "check"], PLAN, 0),
-    ];
-    for (words, text, wanted) in rows {
-        assert!(rt;
-            status_without_errors(&rt, &rt, words, text) == wanted,
-            "{words:?}"
-        );
-    }
-}
-
-/// Whether words that can't be read for this reason end the program with this status and this line.
-fn is_unread(alloc: Global, kind: io::ErrorKind, status: u8, line: &str) -> bool {
-    let mut errors = Vec::new(alloc);
-    let ended = end_unread(kind, &mut StreamWire::new(io::empty(), &mut errors));
-    ended == status && errors.as_slice() == line.as_bytes()
-}
-
-#[test]
-fn words_that_are_not_read(rt: HostRuntime) {
-    let rows = [
-        (
-            io::ErrorKind::InvalidData,
-            2,
-            "error: a word of the command line is not UTF-8\n",
-        ),
-        (io::ErrorKind::OutOfMemory, 5, "cutlab: fault 0 Memory\n"),
-    ];
-    for (kind, status, line) in rows {
-        assert!(rt; is_unread(rt.alloc(), kind, status, line), "{line}");
-    }
 }

@@ -53,14 +53,14 @@ fn a_study_is_kept(rt: HostRuntime) -> Result<(), Fail> {
     let _ = fs::remove_file(&rt, socket);
     let _ = fs::remove_dir_all(&rt, "cutlab_kept");
     fs::create_dir(&rt, "cutlab_kept")?;
-    for told in ["accepted 2\n", "accepted 0\n"] {
+    for line in ["accepted 2\n", "accepted 0\n"] {
         let (server, client) = thread::join(
             &rt,
             || served(&rt, &rt, socket, "cutlab_kept"),
             || asked(&rt, &rt, socket),
         );
-        assert!(rt; server.is(0, told, ""), "{told}");
-        assert!(rt; client.is(0, TABLE, ""), "{told}");
+        assert!(rt; server.is(0, line, ""), "{line}");
+        assert!(rt; client.is(0, TABLE, ""), "{line}");
         assert!(rt; fs::read(&rt, FILE)?.len() == 372);
     }
     fs::remove_dir_all(&rt, "cutlab_kept")?;
@@ -68,23 +68,7 @@ fn a_study_is_kept(rt: HostRuntime) -> Result<(), Fail> {
 }
 
 #[test]
-fn a_server_that_cannot_begin_is_told(rt: HostRuntime) {
-    let rows = [
-        ("cutlab_none/a.sock", ".", "cutlab: fault 43 Read\n"),
-        (
-            "cutlab_begin.sock",
-            "cutlab_none",
-            "cutlab: fault 20 Disk\n",
-        ),
-    ];
-    for (socket, folder, line) in rows {
-        let left = served(&rt, &rt, socket, folder);
-        assert!(rt; left.is(4, "", line), "{line}");
-    }
-}
-
-#[test]
-fn a_socket_that_is_not_there_is_told(rt: HostRuntime) {
+fn a_socket_that_is_not_there_is_reported(rt: HostRuntime) {
     let left = left_by(&rt, &rt, &["cutlab", "ask", "cutlab_no_socket"], PLAN);
     assert!(rt; left.is(4, "", "cutlab: fault 43 Read\n"));
 }

@@ -1,7 +1,9 @@
-use Rattle.std.proofs.Common.{◌-◌, List, ℕ, length, take, sym, ◌∙◌, subst, arith}
-use Rattle.cut_table.specs.Traffic.{Traffic}
-use Rattle.cut_commands.specs.Run.{HasRead}
-use Rattle.cut_commands.proofs.InputLemmas.{take_filled, filled_fits, read_more, still_open}
+use Rattle.std.proofs.Common.{◌≡◌, ◌-◌, ◌≤◌, false, nat_eq, List, ℕ, length, take, sym, ap, ◌∙◌, arith}
+use Rattle.std.proofs.lemmas.Bool.Decides.{nat_tests}
+use Rattle.cut_wires.specs.Log.{Log, gave}
+use Rattle.cut_commands.specs.Run.{read_on}
+use Rattle.cut_commands.proofs.InputLemmas.{take_filled, filled_fits}
+use Rattle.cut_commands.proofs.Logs.{read_more}
 use Rattle.cut_commands.proofs.input.fill.Goals as goal
 
 pub loop-filled-preserved : goal.loop-filled-preserved
@@ -10,15 +12,15 @@ loop-filled-preserved g c =
     let n : ℕ = c.in-Ok.n in
     let buffer : List ℕ = c.loop-filled.buffer in
     let got : List ℕ = c.read.new.buffer in
-    let old : Traffic = g.W.Wire.traffic c.args.wire.now in
-    let mid : Traffic = g.W.Wire.traffic c.loop-filled.wire in
-    let new : Traffic = g.W.Wire.traffic c.read.new.self in
-    let front = take_filled filled n (length buffer - filled) buffer got c.loop-filled.invariant.within (omega (arith, c.in-Ok.ensures.bound)) in
+    let old : Log = g.W.Wire.log c.args.wire.now in
+    let within = c.loop-filled.invariant.within in
+    let some : n ≤ length got = omega (arith, c.in-Ok.ensures.bound) in
+    let more : nat_eq n 0 ≡ false = grind (arith, nat_tests, c.if-n-eq0.false) in
     record {
-      within = filled_fits filled n (length buffer - filled) buffer got c.loop-filled.invariant.within (omega (arith, c.in-Ok.ensures.bound));
-      read = λ told. subst (λ (xs : List ℕ). HasRead xs old new) (sym front)
-          (read_more old mid new (take filled buffer) got n (c.loop-filled.invariant.read told) (c.in-Ok.ensures.told (c.loop-filled.invariant.tells.0 told)));
-      goes_on = λ told. still_open mid new got n (c.in-Ok.ensures.told (c.loop-filled.invariant.tells.0 told)) (omega (arith, c.if-n-eq0.false)) ∙ c.loop-filled.invariant.goes_on told;
-      tells = (λ t. c.in-Ok.ensures.tells.0 (c.loop-filled.invariant.tells.0 t), λ t. c.loop-filled.invariant.tells.1 (c.in-Ok.ensures.tells.1 t));
-      faults = c.in-Ok.ensures.faults ∙ c.loop-filled.invariant.faults;
+      within = filled_fits filled n (length buffer - filled) buffer got within some;
+      log = c.in-Ok.ensures.reads
+          ∙ ap (λ (l : Log). gave l got n) c.loop-filled.invariant.log
+          ∙ read_more old (take filled buffer) got n more
+          ∙ ap (λ (xs : List ℕ). read_on xs false old)
+          (sym (take_filled filled n (length buffer - filled) buffer got within some));
     }

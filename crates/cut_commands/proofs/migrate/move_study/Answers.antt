@@ -3,7 +3,7 @@ use Rattle.std.proofs.Common.{◌≡◌, ◌∙◌, ℕ, Result, Err, sym, ap, s
 use Rattle.std.proofs.lemmas.Result.{err_from_is_err_and}
 use Rattle.cut_plan.specs.Values.{Values}
 use Rattle.cut_journal.specs.declared.fault.JournalFault.TheVariants.{NoStudy}
-use Rattle.cut_journal.specs.Migration as moves
+use Rattle.cut_migration.specs.Migration as moves
 use Rattle.cut_journal.specs.Reading.{reading}
 use Rattle.cut_commands.specs.declared.fault.CliFault.{CliFault}
 use Rattle.cut_commands.specs.Migrate.{EndsMove}

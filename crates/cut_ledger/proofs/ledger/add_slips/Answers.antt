@@ -37,7 +37,7 @@ add-requires-clause-apart c =
     let over = c.loop-i.invariant.over in
     let good = (c.if-not-is_good.ensures.good (take c.loop-i.i c.args.slips.now) over).0 refl in
     let s : Slip = get_or c.args.slips.now c.loop-i.i no_slip in
-    sym (overlaps_is v (take c.loop-i.i c.args.slips.now) c.loop-i.cells s.piece _ over (piece_facts v s.piece over.kept.plan good.piece)) ∙ good.apart
+    sym (overlaps_is v (take c.loop-i.i c.args.slips.now) c.loop-i.kept.trials c.loop-i.kept.sums.items s.piece _ over (piece_facts v s.piece over.kept.plan good.piece)) ∙ good.apart
 
 pub loop-i-preserved : goal.loop-i-preserved
 loop-i-preserved c =
@@ -48,6 +48,6 @@ loop-i-preserved c =
     let good = (c.if-not-is_good.ensures.good (take i slips) over).0 refl in
     let within : i < length slips = omega arith in
     record {
-      over = subst (λ ss. AreOver v ss c.add.new.cells) (sym (take_more slips i no_slip within)) (over_more v (take i slips) c.loop-i.cells c.add.new.cells (get_or slips i no_slip) over good (c.if-not-is_good.ensures.few refl) c.in_ok-add.ensures.ok);
+      over = subst (λ ss. AreOver v ss c.add.new.self.trials c.add.new.self.sums.items) (sym (take_more slips i no_slip within)) (over_more v (take i slips) c.loop-i.kept.trials c.add.new.self.trials c.loop-i.kept.sums.items c.add.new.self.sums.items (get_or slips i no_slip) over good (c.if-not-is_good.ensures.few refl) c.in_ok-add.ensures.ok);
       good = good_more v slips i no_slip within c.loop-i.invariant.good good;
     }

@@ -1,14 +1,9 @@
-use Rattle.std.proofs.Common.{◌≡◌, Ok, take}
-use Rattle.std.specs.Prelude.{◌↔◌}
+use Rattle.std.proofs.Common.{Ok, take}
 use Rattle.cut_messages.specs.declared.replies.Progress.TheVariants.{More}
 use Rattle.cut_messages.specs.Asking.{Passes}
 use Rattle.cut_messages.proofs.replies.pass_all.Given as goal
 
 -- none of the replies so far is a last one, and the output took their lines
 abbrev pub invariant-loop-message : goal.invariant-loop-message
-invariant-loop-message g l = record {
-  told : g.O.Wire.tells l.fn.output → Passes (take l.message-index l.messages) (Ok More)
-      (g.O.Wire.traffic l.fn.output) (g.O.Wire.traffic l.output);
-  tells : g.O.Wire.tells l.fn.output ↔ g.O.Wire.tells l.output;
-  faults : g.O.Wire.faults l.output ≡ g.O.Wire.faults l.fn.output;
-}
+invariant-loop-message g l =
+    Passes (take l.message-index l.messages) (Ok More) (g.O.Wire.log l.fn.output) (g.O.Wire.log l.output)

@@ -1,9 +1,9 @@
 use Rattle.std.proofs.Common.{◌≡◌, ◌∙◌, ◌-◌, ◌+◌, ◌++◌, ℕ, List, [], ◌∷◌, length, length-drop, take, drop, sym, ap, subst, arith}
 use Rattle.std.proofs.lemmas.List.{take_rest}
 use Rattle.std.proofs.Math.Seq.{drop-drop}
-use Rattle.std.specs.List.{AllByRecursion, flat_map}
+use Rattle.std.specs.List.{AllByRecursion}
 use Rattle.cut_messages.specs.declared.message.Message.{Message}
-use Rattle.cut_messages.specs.Frames.{frame_of, IsMessage, fault_at}
+use Rattle.cut_messages.specs.Frames.{IsMessage, fault_at}
 use Rattle.cut_messages.specs.Fronts.{message_in, IsWhole, IsShort}
 use Rattle.cut_messages.proofs.Frames.{no_message}
 use Rattle.cut_messages.proofs.Streams.{one_more, both}
@@ -40,19 +40,13 @@ loop-kind-preserved c =
     let m : Message = message_in (drop read bytes) c.in-Whole.kind n in
     let size : read + 5 + n - (read + 5) ≡ n = omega arith in
     let payload : c.from_vec-payload.result ≡ m.payload =
-    c.from_vec-payload.ensures ∙ c.in_ok-payload.ensures.items
-    ∙ ap (λ (k : ℕ). take k (drop (read + 5) bytes)) size ∙ ap (take n) (sym (drop-drop 5 read bytes)) in
+    cc (c.in_ok-payload.ensures.items, size, drop-drop 5 read bytes) in
     let made : c.push.new.self.items ≡ c.loop-kind.messages.items ++ m ∷ [] =
-    c.in_ok-push.ensures.items
-    ∙ ap (λ (p : List ℕ). c.loop-kind.messages.items
-    ++ (let x : Message = record { kind = c.in-Whole.kind; payload = p } in x) ∷ []) payload in
+    cc (c.in_ok-push.ensures.items, payload) in
     let next : read + (5 + n) ≡ read + 5 + n = omega arith in
     record {
       within = omega (arith, is.within, length-drop read bytes, c.loop-kind.invariant.within);
-      whole = one_more c.args.side bytes c.loop-kind.messages.items read n c.in-Whole.kind
-          c.loop-kind.invariant.whole is
-          ∙ ap (λ (k : ℕ). flat_map frame_of (c.loop-kind.messages.items ++ m ∷ []) ++ drop k bytes) next
-          ∙ ap (λ (ms : List Message). flat_map frame_of ms ++ drop (read + 5 + n) bytes) (sym made);
+      whole = cc (one_more c.args.side bytes c.loop-kind.messages.items read n c.in-Whole.kind c.loop-kind.invariant.whole is, next, made);
       each = subst (λ (ms : List Message). AllByRecursion (IsMessage c.args.side) ms) (sym made)
           (both (IsMessage c.args.side) c.loop-kind.messages.items (m ∷ []) c.loop-kind.invariant.each
           (is.message, tt));

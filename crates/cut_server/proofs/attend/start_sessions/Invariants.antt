@@ -1,7 +1,7 @@
 use Rattle.std.proofs.Common.{◌≡◌, ◌≤◌, ◌+◌, length, All}
 use Rattle.std.specs.Prelude.{vec_capacity}
 use Rattle.std.specs.Vec.Iter.{into_iter_items, into_iter_len}
-use Rattle.cut_server.specs.Serve.{more_given}
+use Rattle.cut_server.specs.Serve.{all_given}
 use Rattle.cut_server.proofs.attend.start_sessions.Given as goal
 
 -- the passes that are left, and those that sessions took, are this hall's, and each connection came
@@ -9,10 +9,9 @@ abbrev pub invariant-loop-pass : goal.invariant-loop-pass
 invariant-loop-pass g l = record {
   can : (goal.iterator-loop-pass g).can_next l.pass-iterator;
   finite : (goal.iterator-loop-pass g).is_finite l.pass-iterator;
-  rest : All (λ p. p.hall ≡ g.H.Workplace.id_of l.hall) (into_iter_items l.pass-iterator);
-  own : All (λ h. h.promise.0.value.hall ≡ g.H.Workplace.id_of l.hall) l.started.items;
+  rest : All (λ p. p.hall ≡ g.H.Workplace.id_of l.site.hall.now) (into_iter_items l.pass-iterator);
+  own : All (λ h. h.promise.0.value.hall ≡ g.H.Workplace.id_of l.site.hall.now) l.started.items;
   whole : length l.started.items + into_iter_len l.pass-iterator ≡ length l.fn.passes.items;
   room : length l.fn.passes.items ≤ vec_capacity l.started;
-  given : g.L.Listener.given l.listener ≡ more_given (length l.started.items) (g.L.Listener.given l.fn.listener);
-  faults : g.L.Listener.faults l.listener ≡ g.L.Listener.faults l.fn.listener;
+  calls : g.L.Listener.calls l.listener ≡ all_given (length l.started.items) (g.L.Listener.calls l.fn.listener);
 }

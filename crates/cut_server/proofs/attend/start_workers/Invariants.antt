@@ -5,8 +5,8 @@ use Rattle.cut_server.proofs.attend.start_workers.Given as goal
 -- so many workers have begun, and the passes that are left, and those that they took, are this hall's
 abbrev pub invariant-loop : goal.invariant-loop
 invariant-loop g l = record {
-  rest : All (λ p. p.hall ≡ g.H.Workplace.id_of l.hall) l.passes.items;
-  own : All (λ h. h.promise.0.value.hall ≡ g.H.Workplace.id_of l.hall) l.started.items;
+  rest : All (λ p. p.hall ≡ g.H.Workplace.id_of l.site.hall.now) l.passes.items;
+  own : All (λ h. h.promise.0.value.hall ≡ g.H.Workplace.id_of l.site.hall.now) l.started.items;
   many : length l.started.items ≡ l.counter;
   whole : length l.started.items + length l.passes.items ≡ length l.fn.passes.items;
   few : l.count ≤ length l.fn.passes.items;

@@ -1,5 +1,5 @@
 use denote.Param.Send.{sendable}
-use Rattle.cut_pool.proofs.Crossing.{hall_sync}
+use Rattle.cut_hall.proofs.Crossing.{hall_sync}
 use Rattle.cut_server.proofs.serve.serve_by.Goals as goal
 
 pub attend-listener-requires-sync-H : goal.attend-listener-requires-sync-H

@@ -2,13 +2,13 @@ use Rattle.std.proofs.Common.{false}
 use Rattle.cut_server.proofs.serve.serve_sessions.Given as goal
 
 abbrev pub ghosts-serve_by-M-Ledger : goal.ghosts-serve_by-M-Ledger
-ghosts-serve_by-M-Ledger g a = record { name = a.made.name; parts = a.made.parts }
+ghosts-serve_by-M-Ledger g a = record { name = a.blanks.made.name; parts = a.blanks.made.parts }
 
 abbrev pub ghosts-serve_by-K-Ledger : goal.ghosts-serve_by-K-Ledger
-ghosts-serve_by-K-Ledger g a = record { name = a.kept.name; parts = a.kept.parts }
+ghosts-serve_by-K-Ledger g a = record { name = a.blanks.kept.name; parts = a.blanks.kept.parts }
 
 abbrev pub ghosts-serve_by-M-Tally : goal.ghosts-serve_by-M-Tally
-ghosts-serve_by-M-Tally g a = record { all = a.made.parts; trusts = false }
+ghosts-serve_by-M-Tally g a = record { all = a.blanks.made.parts; trusts = false }
 
 abbrev pub ghosts-serve_by-K-Tally : goal.ghosts-serve_by-K-Tally
-ghosts-serve_by-K-Tally g a = record { all = a.kept.parts; trusts = g.S.Shelf.is_true a.shelf.now }
+ghosts-serve_by-K-Tally g a = record { all = a.blanks.kept.parts; trusts = g.S.Shelf.is_true a.shelf.now }

@@ -1,7 +1,7 @@
 use denote.Param.Send.{IsSend, sendable}
 use Rattle.std.proofs.Crossing.{crosses}
 use Rattle.cut_disks.specs.contracts.memory_disk.MemoryDisk as memory
-use Rattle.cut_pool.proofs.Crossing.{hall_sync}
+use Rattle.cut_hall.proofs.Crossing.{hall_sync}
 use Rattle.cut_session_tests.proofs.worker.serve_beside.Goals as goal
 
 memory_send : IsSend memory.the_row

@@ -1,44 +1,49 @@
 -- Each cell adds its own gaps.
-use Rattle.std.proofs.Common.{◌≡◌, ℕ, ◌*◌, ◌<◌, ◌++◌, not, List, length, sym, ap, subst, ◌∙◌, arith}
-use Rattle.std.proofs.lemmas.List.{get_or_read}
-use Rattle.cut_ledger.specs.Kept.{cell_at}
-use Rattle.cut_ledger.proofs.Words.{All, Contents, IsTrue, Piece, cells_of, contents_in, flat_map, gaps_of}
-use Rattle.cut_ledger.proofs.Words.{has, is_piece, no_cell, range_with_len, runs}
-use Rattle.cut_ledger.proofs.CellLemmas.{gaps_of_cell, one_cell_more}
+use Rattle.std.proofs.Common.{◌≡◌, ◌∙◌, ℕ, ◌*◌, ◌∷◌, [], ◌++◌, not, List, map, length, refl, sym, ap, subst, arith}
+use Rattle.std.proofs.lemmas.List.{map-append}
+use Rattle.std.proofs.lemmas.Result.{IfOk-weaker}
+use Rattle.range_set.specs.declared.span.Span.{Span}
+use Rattle.range_set.specs.Held as held
+use Rattle.range_set.specs.Spans as all
+use Rattle.cut_ledger.proofs.Words.{All, Contents, IsTrue, Piece, cells_of, flat_map, gaps_of, has, is_piece, piece_at}
+use Rattle.cut_ledger.proofs.Words.{range_with_len}
+use Rattle.cut_ledger.proofs.CellLemmas.{one_cell_more}
 use Rattle.cut_ledger.proofs.GapPieces.{gaps_are_pieces}
 use Rattle.cut_ledger.proofs.ledger.Ledger.gaps.Goals as goal
 
-abbrev gaps_in : Contents → ℕ → List Piece
-gaps_in l c = runs (λ t. not (has l t)) (c * l.plan.repeats) l.plan.repeats
+abbrev spans_in : Contents → ℕ → List Span
+spans_in l c = all.spans (λ t. not (has l t)) (c * l.plan.repeats) l.plan.repeats
 
 pub loop-cell-preserved : goal.loop-cell-preserved
 loop-cell-preserved c =
-    let l = c.self.inside in
-    let i : ℕ = c.loop-cell.cell-index in
-    let within : i < length l.cells.items = omega (arith, ap length c.deref-cell-items.ensures.value) in
-    let seen : c.cell-item.result ≡ cell_at l.cells.items i =
-    get_or_read c.deref-cell-items.result.now i c.cell-item.result (omega arith) c.cell-item.is no_cell
-    ∙ ap (λ cells. cell_at cells i) c.deref-cell-items.ensures.value
-    in
-    let told : c.gaps_into.new.gaps.items ≡ c.loop-cell.gaps.items ++ gaps_in (contents_in l.plan l.base l.cells.items) i =
-    gaps_of_cell l.plan l.base l.cells.items i c.cell-item.result c.loop-cell.gaps.items c.gaps_into.new.gaps.items c.self.invariant within seen c.in_ok-gaps_into.ensures
-    in
-    told
-    ∙ ap (λ a. c.loop-cell.gaps.items ++ gaps_in a.contents i) c.self.view_is
-    ∙ ap (λ xs. xs ++ gaps_in c.args.self.now.contents i) c.loop-cell.invariant
-    ∙ one_cell_more (gaps_in c.args.self.now.contents) i
+    let i : ℕ = c.loop-cell.cell in
+    let l : Contents = c.args.self.now.contents in
+    let added : List Span → List Span = λ xs. c.loop-cell.gaps.items ++ xs in
+    let repeats = ap (λ a. a.contents.plan.repeats) c.self.view_is in
+    c.in_ok-gaps_into.ensures
+    ∙ ap (λ (n : ℕ). added (all.spans (λ t. not (held.has c.self.inside.kept.trials t)) n c.span_of_cell-span.result.count)) c.span_of_cell-span.ensures.first
+    ∙ ap (λ (n : ℕ). added (all.spans (λ t. not (held.has c.self.inside.kept.trials t)) (i * c.self.inside.plan.repeats) n)) c.span_of_cell-span.ensures.count
+    ∙ ap (λ a. added (spans_in a.contents i)) c.self.view_is
+    ∙ ap (λ xs. xs ++ spans_in l i) c.loop-cell.invariant
+    ∙ one_cell_more (spans_in l) i
 
-all : (c : goal.After-loop-cell) → c.loop-cell.gaps.items ≡ gaps_of c.args.self.now.contents
-all c =
-    let l = c.args.self.now.contents in
-    let items = ap length c.deref-cell-items.ensures.value in
+pieces_are : (f : ℕ → List Span) (cs : List ℕ) → map piece_at (flat_map f cs) ≡ flat_map (λ c. map piece_at (f c)) cs
+pieces_are f [] = refl
+pieces_are f (c ∷ cs) = map-append piece_at (f c) (flat_map f cs) ∙ ap (λ xs. map piece_at (f c) ++ xs) (pieces_are f cs)
+
+value : (c : goal.After-drop-gaps-2) (gaps : List Piece) → gaps ≡ map piece_at c.deref.result.now → gaps ≡ gaps_of c.args.self.now.contents
+value c gaps is =
+    let l : Contents = c.args.self.now.contents in
     let plan = ap (λ a. length (cells_of a.contents.plan)) c.self.view_is in
-    let end : c.loop-cell.cell-index ≡ length (cells_of l.plan) = omega (arith, c.self.invariant.long) in
-    c.loop-cell.invariant ∙ ap (λ n. flat_map (gaps_in l) (range_with_len 0 n)) end
+    let end : c.loop-cell.cell ≡ length (cells_of l.plan) = omega (arith, c.cells-cell-end.ensures.value) in
+    is
+    ∙ ap (map piece_at) (c.deref.ensures.value ∙ c.loop-cell.invariant ∙ ap (λ (n : ℕ). flat_map (spans_in l) (range_with_len 0 n)) end)
+    ∙ pieces_are (spans_in l) (range_with_len 0 (length (cells_of l.plan)))
 
 pub returns-clause-value : goal.returns-clause-value
-returns-clause-value c = all c
+returns-clause-value c = IfOk-weaker c.pieces_at.result _ _ (λ gaps is. value c gaps.items is) c.pieces_at.ensures
 
 pub returns-clause-pieces : goal.returns-clause-pieces
 returns-clause-pieces c =
-    subst (All (λ p. IsTrue (is_piece c.args.self.now.contents.plan p))) (sym (all c)) (gaps_are_pieces c.args.self.now.contents)
+    let l : Contents = c.args.self.now.contents in
+    IfOk-weaker c.pieces_at.result _ _ (λ gaps is. subst (All (λ (p : Piece). IsTrue (is_piece l.plan p))) (sym (value c gaps.items is)) (gaps_are_pieces c.spans_are_what_passes.ensures.within l)) c.pieces_at.ensures

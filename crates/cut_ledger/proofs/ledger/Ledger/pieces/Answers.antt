@@ -25,4 +25,4 @@ returns-clause-pieces c =
     ∙ ap (flat_map (parts_of c.args.size)) (take_all c.loop-gap.gap-index c.deref-gap-items.result.now (omega arith))
     ∙ ap (flat_map (parts_of c.args.size)) (c.deref-gap-items.ensures.value ∙ c.in_ok-gaps.ensures.value)
     in
-    subst (All (λ p. IsTrue (is_piece l.plan p))) (sym value) (pieces_are_pieces l c.args.size c.gaps.ensures.plan c.requires)
+    subst (All (λ p. IsTrue (is_piece l.plan p))) (sym value) (pieces_are_pieces c.spans_are_what_passes.ensures.within l c.args.size c.gaps.ensures.plan c.requires)

@@ -1,0 +1,9 @@
+pub mod Resumed
+pub mod Legal
+pub mod Refused
+pub mod Losses
+pub mod Entered
+pub mod OpenedBooks
+pub mod Sums
+pub mod Merged
+pub mod Trusted

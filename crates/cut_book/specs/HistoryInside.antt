@@ -1,0 +1,41 @@
+-- What of a `History` contracts see, and what is always true of it.
+use Rattle.std.specs.Prelude.{ℕ, ◌-◌, ◌≤◌, List, [], ◌∷◌, ◌++◌, map, take, drop, length, nat_lt, vec_len, vec_capacity}
+use Rattle.cut_plan.specs.Plan.{IsPlan}
+use Rattle.cut_book.specs.declared.call.Call.{Call}
+use Rattle.cut_book.specs.declared.call.Call.TheVariants.{Lose}
+use Rattle.cut_book.specs.declared.history.Entry.{Entry}
+use Rattle.cut_book.specs.declared.history.History.TheInside.{Inside}
+use Rattle.cut_book.specs.History.{Course, IsLegal}
+
+abbrev pub lost_call : ℕ → Call
+lost_call piece = Lose piece
+
+-- the calls of entries, with the losses from number n on, each where it came
+abbrev pub calls_from : ℕ → List Entry → List ℕ → List Call
+calls_from n [] losses = map lost_call (drop n losses)
+calls_from n (e ∷ es) losses =
+    map lost_call (take (e.losses - n) (drop n losses)) ++ e.call ∷ calls_from e.losses es losses
+
+-- before no entry come fewer losses than before an earlier one, or more than there are
+abbrev pub AreInOrder : ℕ → List Entry → ℕ → Type 0
+AreInOrder n [] all = n ≤ all
+AreInOrder n (e ∷ es) all = (n ≤ e.losses) × AreInOrder e.losses es all
+
+abbrev pub course_of : Inside → Course
+course_of h = record {
+  opening = record {
+    plan = h.ledger.value.contents.plan;
+    has_journal = h.has_journal.value;
+    base = h.ledger.value.contents.base;
+    size = h.size.value;
+  };
+  calls = calls_from 0 h.entries.items h.losses.items;
+  room = vec_capacity h.losses - vec_len h.losses;
+  has_place = nat_lt (vec_len h.entries) (vec_capacity h.entries);
+}
+
+-- it is legal, of an accepted plan
+pub record IsHistory (h : Inside) : Type 0 where
+  pub plan : IsPlan (course_of h).opening.plan
+  pub legal : IsLegal (course_of h).opening (course_of h).calls
+  pub order : AreInOrder 0 h.entries.items (length h.losses.items)

@@ -1,0 +1,4 @@
+pub mod Faults
+pub mod History
+pub mod HistoryInside
+pub mod Book

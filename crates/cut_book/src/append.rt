@@ -1,0 +1,42 @@
+ghost use Rattle.std.specs.Prelude.{◌≡◌, None, Some, IfSome};
+ghost use Rattle.cut_ledger.specs.Machine.{State, after, slip_of};
+ghost use Rattle.cut_ledger.specs.Refusals.{refusal_of};
+ghost use Rattle.cut_ledger.specs.declared.event.Event.TheVariants as event;
+ghost use Rattle.cut_book.specs.Book.{append_answer, JournalAfter, faults_after, failures_of, IsFollowed, LeavesResumed, IsAsHonest};
+ghost use Rattle.cut_book.specs.History.{event_of};
+
+use cut_disks::{Disk, DiskFault};
+use cut_journal::Journal;
+use cut_journal::laws::{appends_follow_the_run, crashes_are_resumptions};
+use cut_trial::PieceResult;
+
+/// Appends the slip of a result to a journal, if there is one. Fails where the disk does.
+pub(crate) fn append<D: Disk>(
+    journal: &mut Option<Journal<D>>,
+    offered: &PieceResult,
+) -> Result<(), DiskFault>
+    requires own { IfSome journal.old (λ log. (log.plan ≡ offered.now.plan) × (log.doubtful ≡ None)) }
+    ensures journal { JournalAfter (append_answer result) (slip_of offered.now) journal.old journal.new }
+    ensures follows { (s : State) → refusal_of s.ledger offered.now ≡ None
+        → IsFollowed D.is_honest D.state journal.old s
+        → IsFollowed D.is_honest D.state journal.new (after s (event_of (append_answer result) offered.now)) }
+    ensures moments { (s : State) → refusal_of s.ledger offered.now ≡ None
+        → IsFollowed D.is_honest D.state journal.old s
+        → LeavesResumed D.is_honest D.state journal.old journal.new
+        (after s (event.HandInDiskFails offered.now)) }
+    ensures honest { IsAsHonest D.is_honest journal.old journal.new }
+    ensures faults { failures_of D.faults journal.new
+        ≡ faults_after (Some (append_answer result)) (failures_of D.faults journal.old) }
+{
+    crashes_are_resumptions();
+    match journal {
+        None => Ok(()),
+        Some(journal) => {
+            appends_follow_the_run::<D>();
+            match journal.append(offered) {
+                Ok(_) => Ok(()),
+                Err(_) => Err(DiskFault),
+            }
+        }
+    }
+}

@@ -1,0 +1,406 @@
+ghost use Rattle.std.specs.Prelude.{◌≡◌, ◌+◌, ◌^◌, ◌<◌, ◌≤◌, ◌↔◌, ◌++◌, [], ◌∷◌, ℕ, List, None, Some, Ok, true, false, length, is_some, slice_get, slice_index_or, if◌then◌else◌};
+ghost use Rattle.std.specs.Prelude.{IsTrue, IfSome, IfNone, IfOk, IfErr, OnOk, OnErr, IsErr, IsErrOf, IsSome, option_copied};
+ghost use Rattle.std.specs.List.{list_any};
+ghost use Rattle.cut_faults.specs.Failures.{one_more};
+ghost use Rattle.cut_plan.specs.Cells.{cells_of};
+ghost use Rattle.cut_plan.specs.Plan.{IsPlan};
+ghost use Rattle.cut_trial.specs.Sum.{is_piece};
+ghost use Rattle.cut_disks.specs.State.{IsImage};
+ghost use Rattle.cut_ledger.specs.Machine.{opened, reply_to, after, slip_of};
+ghost use Rattle.cut_ledger.specs.Slips.{AreGood};
+ghost use Rattle.cut_ledger.specs.Refusals.{CanTake, is_same_plan};
+ghost use Rattle.cut_ledger.specs.declared.event.Event.TheVariants as event;
+ghost use Rattle.cut_ledger.specs.declared.event.Reply.TheVariants as reply;
+ghost use Rattle.cut_faults.specs.declared.code.FaultCode.TheVariants as code;
+ghost use Rattle.cut_journal.specs.Reading.{reading};
+ghost use Rattle.cut_journal.specs.Laws.{IsResumed};
+ghost use Rattle.cut_table.specs.Table.{row_of};
+ghost use Rattle.cut_book.specs.declared.call.Call.TheVariants as call;
+ghost use Rattle.cut_book.specs.History.{opened_by, LeadsTo};
+ghost use Rattle.cut_book.specs.Book.{Progress, opening_of, failures_of, answer_of, HandsIn, MayRefuse, AsksRow, IsOpeningFault, faults_after, refusal_in, IsFollowed, LeavesResumed, IsAsHonest};
+
+use crate::append::append;
+use crate::{Answer, BookFault, Call, History};
+use bit_list::BitList;
+use cut_disks::Disk;
+use cut_journal::Journal;
+use cut_journal::laws::{crashes_are_resumptions, journals_begin_with_their_runs};
+use cut_ledger::{Division, Ledger, OfferFault, Slip};
+use cut_plan::Plan;
+use cut_table::{RowFault, row};
+use cut_trial::{Piece, PieceResult};
+use std::alloc::Global;
+use std::marker::Model;
+
+/// A study under way: its ledger, its journal if it has one, which of its pieces are lost, and its history.
+///
+/// Contracts see the journal; the state of the study, as the machine of a run has it, though what is drawn and
+/// what wires took is not a book's; the size of its pieces; its calls; and how many calls of the disk had
+/// failed when it was opened. What is said of the bytes on a disk is said of an honest one.
+#[derive(Drop)]
+pub struct Book<D: Disk> {
+    ledger: Ledger,
+    journal: Option<Journal<D>>,
+    division: Division,
+    lost: BitList,
+    /// How many pieces are not lost.
+    losable: u64,
+    history: History,
+    broken: bool,
+    failed: u64,
+}
+
+impl<D: Disk> Model for Book<D> {
+    ghost use Rattle.cut_book.specs.Book.{Progress, state_in, progress_in, IsBook};
+
+    ghost Value = { Progress D };
+
+    ghost view = { λ b. progress_in b.journal
+        (state_in b.ledger.contents b.journal b.division b.lost b.history b.broken)
+        b.history b.failed };
+
+    ghost invariant = { λ b. IsBook D.is_honest D.state D.faults b.journal
+        (state_in b.ledger.contents b.journal b.division b.lost b.history b.broken)
+        b.history b.losable b.failed };
+}
+
+impl<D: Disk> Book<D> {
+    /// Opens a study over slips, with its journal if it has one, and divides the other trials into pieces of
+    /// this size. It is refused by the number of the first slip that is no piece of the plan, has a trial of
+    /// an earlier one, or whose totals are not possible ones. A journal is given up then.
+    ///
+    /// The journal is as `create` or `reopen` answered it for that plan, and the slips are those that it
+    /// answered.
+    pub fn new(
+        alloc: Global,
+        plan: Plan,
+        journal: Option<Journal<D>>,
+        slips: &[Slip],
+        piece_size: u32,
+    ) -> Result<Book<D>, BookFault>
+    where
+        D: Drop,
+        requires size { 1 ≤ piece_size }
+        requires journal { IfSome journal (λ log.
+            (log.plan ≡ plan) × (log.count ≡ length slips.now) × (log.doubtful ≡ None)) }
+        requires read { IfSome journal (λ log. D.is_honest log.disk
+            → reading plan (D.state log.disk).bytes ≡ Ok slips.now) }
+        ensures state { IfOk result (λ b. b.state ≡ opened plan (is_some journal) slips.now piece_size) }
+        ensures begun { IfOk result (λ b.
+            (b.journal ≡ journal) × (b.size ≡ piece_size) × (b.calls ≡ [])) }
+        ensures failed { IfOk result (λ b. b.failed ≡ failures_of D.faults journal) }
+        ensures good { OnOk result (AreGood plan slips.now) }
+        ensures err { IfErr result (λ e. IsOpeningFault plan slips.now e) }
+    {
+        journals_begin_with_their_runs();
+        let failed = failures(&journal);
+        let ledger = Ledger::from_slips(alloc, plan, slips)?;
+        let division = ledger.divide(alloc, piece_size)?;
+        let losable = division.len();
+        let lost = BitList::new(alloc, losable)?;
+        let history = History::begin(alloc, &ledger, journal.is_some(), piece_size, losable)?;
+        Ok(Book {
+            ledger,
+            journal,
+            division,
+            lost,
+            losable,
+            history,
+            broken: false,
+            failed,
+        })
+    }
+
+    /// Takes a result: keeps its slip, if there is a journal, and enters it into the ledger.
+    ///
+    /// It is refused, in this order: for want of memory for its place in the history; with Checkpoint where an
+    /// append has failed before; as a stranger, or an overlap; for want of memory in the ledger; and with
+    /// Checkpoint where the disk fails now, after which nothing is taken any more. Every call is added to the
+    /// history, unless memory was wanting.
+    ///
+    /// Whatever a crash leaves of the disk at any moment says the run as it is resumed after an append that
+    /// failed.
+    pub fn hand_in(&mut self, offered: &PieceResult) -> Result<(), BookFault>
+        ensures answer { HandsIn (answer_of result self.old.state) offered.now self.old self.new }
+        ensures faults_told { IfErr result MayRefuse }
+        ensures journal { IsErrOf result BookFault.Checkpoint → IsSome self.old.journal }
+        ensures risen { IsErrOf result BookFault.Checkpoint →
+            failures_of D.faults self.new.journal ≡ one_more self.old.failed }
+        ensures faults { failures_of D.faults self.new.journal
+            ≡ faults_after (answer_of result self.old.state) (failures_of D.faults self.old.journal) }
+        ensures honest { IsAsHonest D.is_honest self.old.journal self.new.journal }
+        ensures moments { LeavesResumed D.is_honest D.state self.old.journal self.new.journal
+            (after self.old.state (event.HandInDiskFails offered.now)) }
+    {
+        match self.refusal(offered) {
+            Some(answer) => self.refuse(offered, answer),
+            None => self.enter(offered),
+        }
+    }
+
+    /// Notes that the piece of this number, counted from 0 in the division, is lost. Takes no memory.
+    pub fn lose(&mut self, piece: u64) -> Result<(), BookFault>
+        ensures ok { OnOk result ((reply_to self.old.state (event.Lose piece) ≡ reply.Noted)
+            × (self.new ≡ record self.old {
+              state = after self.old.state (event.Lose piece);
+              calls = self.old.calls ++ call.Lose piece ∷ [];
+            })) }
+        ensures bad { IfErr result (λ e. (e ≡ BookFault.BadPiece)
+            × (reply_to self.old.state (event.Lose piece) ≡ reply.Refused code.BadPiece)
+            × (self.new ≡ self.old)) }
+    {
+        if self.is_lost(piece) {
+            return Err(BookFault::BadPiece);
+        }
+        self.lost.set(piece);
+        self.losable -= 1;
+        self.history.lose(piece as u32);
+        Ok(())
+    }
+
+    /// Whether the piece of this number is lost, or there is none.
+    fn is_lost(&self, piece: u64) -> bool
+        ensures value { result ≡ slice_index_or self.now.state.lost piece true }
+        ensures few { result ≡ false → piece < 2 ^ 32 }
+    {
+        piece >= self.division.len() || self.lost.get(piece).unwrap_or(true)
+    }
+
+    /// The line of a cell, whose trials are all held, with a line feed. It has at most 294 bytes. Want of
+    /// memory for its place in the history is told first, and want of memory for the line only where they are
+    /// all held. Every call is added to the history, unless memory was wanting.
+    pub fn row(&mut self, alloc: Global, cell: u32) -> Result<Vec<u8>, BookFault>
+        requires { cell < length (cells_of self.old.state.ledger.plan) }
+        ensures line { IfOk result (λ line. line.items ≡ row_of self.old.state.ledger cell) }
+        ensures short { IfOk result (λ line. length line.items ≤ 294) }
+        ensures asked { AsksRow result cell self.old self.new }
+    {
+        self.history.reserve()?;
+        match row(alloc, &self.ledger, cell) {
+            Ok(line) => {
+                self.history.push(Call::Row {
+                    cell,
+                    is_given: true,
+                });
+                Ok(line)
+            }
+            Err(RowFault::NotDone(undone)) => {
+                self.history.push(Call::Row {
+                    cell,
+                    is_given: false,
+                });
+                Err(BookFault::NotDone(undone))
+            }
+            Err(RowFault::Memory) => Err(BookFault::Memory),
+        }
+    }
+
+    /// The piece of this number, counted from 0 in the division.
+    pub fn piece(&self, number: u64) -> Option<Piece>
+        ensures value { result ≡ slice_get self.now.state.division number }
+        ensures piece { IfSome result (λ p. IsTrue (is_piece self.now.state.ledger.plan p)) }
+    {
+        self.division.get(number)
+    }
+
+    /// How many calls the history has.
+    pub fn history_len(&self) -> u64
+        ensures { result ≡ length self.now.calls }
+    {
+        self.history.len()
+    }
+
+    /// The ledger.
+    pub fn ledger(&self) -> &Ledger
+        ensures { result.now.contents ≡ self.now.state.ledger }
+    {
+        &self.ledger
+    }
+
+    /// Whether an append has failed. Nothing fails without a journal.
+    pub fn is_broken(&self) -> bool
+        ensures value { result ≡ self.now.state.broken }
+        ensures journal { IsTrue result → IsSome self.now.journal }
+    {
+        self.broken
+    }
+
+    /// Whether some piece is lost.
+    pub fn has_lost(&self) -> bool
+        ensures { result ≡ list_any (λ is_lost. is_lost) self.now.state.lost }
+    {
+        self.losable < self.lost.len()
+    }
+
+    /// The journal, if there is one. It is that of the study: the same slips are kept, and the same one is
+    /// doubtful. Whatever a crash leaves of its disk now says the run as it is resumed. As many calls of the
+    /// disk have failed as when the book was opened, and one more where it is broken.
+    pub fn journal(&self) -> Option<&Journal<D>>
+        ensures value { option_copied result ≡ self.now.journal }
+        ensures has { self.now.state.has_journal ≡ is_some self.now.journal }
+        ensures plan { IfSome self.now.journal (λ log. log.plan ≡ self.now.state.ledger.plan) }
+        ensures kept { IsFollowed D.is_honest D.state self.now.journal self.now.state }
+        ensures images { IfSome self.now.journal (λ log. D.is_honest log.disk
+            → (image : List ℕ) → IsImage (D.state log.disk).stable image
+            → IsResumed log.plan self.now.state image) }
+        ensures faults { failures_of D.faults self.now.journal
+            ≡ (if self.now.state.broken then one_more self.now.failed else self.now.failed) }
+    {
+        self.leaves_resumed();
+        self.journal.as_ref()
+    }
+
+    /// The history, which leads to the present state.
+    pub fn history(&self) -> &History
+        ensures opening { result.now.opening ≡ opening_of self.now }
+        ensures calls { result.now.calls ≡ self.now.calls }
+        ensures legal { LeadsTo (opened_by (opening_of self.now)) self.now.calls self.now.state }
+    {
+        &self.history
+    }
+
+    /// Gives the history back, which leads to the last state, and the journal.
+    pub fn into_parts(self) -> (History, Option<Journal<D>>)
+        ensures opening { result.0.opening ≡ opening_of self }
+        ensures calls { result.0.calls ≡ self.calls }
+        ensures legal { LeadsTo (opened_by (opening_of self)) self.calls self.state }
+        ensures journal { result.1 ≡ self.journal }
+    {
+        (self.history, self.journal)
+    }
+
+    /// How a result is answered that is refused before its append: an append has failed, or the ledger
+    /// refuses it.
+    fn refusal(&self, offered: &PieceResult) -> Option<Answer>
+        ensures value { result ≡ refusal_in self.now.state offered.now }
+        ensures none { IfNone result (CanTake self.now.state.ledger offered.now) }
+    {
+        if self.broken {
+            return Some(Answer::Broken);
+        }
+        match self.ledger.refusal(offered) {
+            Some(OfferFault::Stranger) => Some(Answer::Stranger),
+            Some(_) => Some(Answer::Overlap),
+            None => None,
+        }
+    }
+
+    /// Adds a result that is refused before its append to the history.
+    fn refuse(&mut self, offered: &PieceResult, answer: Answer) -> Result<(), BookFault>
+        requires { refusal_in self.old.state offered.now ≡ Some answer }
+        ensures answer { HandsIn (answer_of result self.old.state) offered.now self.old self.new }
+        ensures faults_told { IfErr result MayRefuse }
+        ensures refused { IsErr result }
+        ensures broken { IsErrOf result BookFault.Checkpoint → IsSome self.old.journal }
+        ensures risen { IsErrOf result BookFault.Checkpoint →
+            failures_of D.faults self.new.journal ≡ one_more self.old.failed }
+        ensures faults { failures_of D.faults self.new.journal
+            ≡ faults_after (answer_of result self.old.state) (failures_of D.faults self.old.journal) }
+        ensures journal { self.new.journal ≡ self.old.journal }
+        ensures moments { LeavesResumed D.is_honest D.state self.old.journal self.new.journal
+            (after self.old.state (event.HandInDiskFails offered.now)) }
+    {
+        self.is_resumable(offered);
+        self.history.reserve()?;
+        let call = call_of(self.ledger.plan(), offered, answer);
+        self.history.push(call);
+        answer.into_result()
+    }
+
+    /// Whatever a crash leaves of the disk now says the run as it is resumed.
+    fn leaves_resumed(&self)
+        ensures { IfSome self.now.journal (λ log. D.is_honest log.disk
+            → (image : List ℕ) → IsImage (D.state log.disk).stable image
+            → IsResumed log.plan self.now.state image) }
+    {
+        crashes_are_resumptions();
+        if let Some(journal) = &self.journal {
+            // For the proof: what always holds of a journal.
+            let _ = journal.disk();
+        }
+    }
+
+    /// Whatever a crash leaves of the disk now says the run as it is resumed after the append of a result's
+    /// slip failed.
+    fn is_resumable(&self, offered: &PieceResult)
+        ensures { LeavesResumed D.is_honest D.state self.now.journal self.now.journal
+            (after self.now.state (event.HandInDiskFails offered.now)) }
+    {
+        crashes_are_resumptions();
+        if let Some(journal) = &self.journal {
+            // For the proof: what always holds of a journal.
+            let _ = journal.disk();
+        }
+    }
+
+    /// Appends the slip of a result that is not refused, and then enters it into the ledger, in which there
+    /// is room for it by then.
+    fn enter(&mut self, offered: &PieceResult) -> Result<(), BookFault>
+        requires free { refusal_in self.old.state offered.now ≡ None }
+        requires fits { CanTake self.old.state.ledger offered.now }
+        ensures answer { HandsIn (answer_of result self.old.state) offered.now self.old self.new }
+        ensures faults_told { IfErr result MayRefuse }
+        ensures journal { IsErrOf result BookFault.Checkpoint → IsSome self.old.journal }
+        ensures risen { IsErrOf result BookFault.Checkpoint →
+            failures_of D.faults self.new.journal ≡ one_more self.old.failed }
+        ensures faults { failures_of D.faults self.new.journal
+            ≡ faults_after (answer_of result self.old.state) (failures_of D.faults self.old.journal) }
+        ensures honest { IsAsHonest D.is_honest self.old.journal self.new.journal }
+        ensures moments { LeavesResumed D.is_honest D.state self.old.journal self.new.journal
+            (after self.old.state (event.HandInDiskFails offered.now)) }
+    {
+        self.is_resumable(offered);
+        self.history.reserve()?;
+        let cell = self.ledger.plan().cell_of(offered.piece().first);
+        self.ledger.reserve(cell)?;
+        match append(&mut self.journal, offered) {
+            Ok(()) => {
+                let call = call_of(self.ledger.plan(), offered, Answer::Accepted);
+                self.history.push(call);
+                let _ = self.ledger.take(offered);
+                Ok(())
+            }
+            Err(_) => {
+                let call = call_of(self.ledger.plan(), offered, Answer::DiskFails);
+                self.history.push(call);
+                self.broken = true;
+                Err(BookFault::Checkpoint)
+            }
+        }
+    }
+}
+
+/// How many calls of a journal's disk have failed, 0 without a journal.
+fn failures<D: Disk>(journal: &Option<Journal<D>>) -> u64
+    ensures { result ≡ failures_of D.faults journal.now }
+{
+    match journal {
+        Some(journal) => journal.disk().failures(),
+        None => 0,
+    }
+}
+
+/// The call of a result, with an answer, of a book of this plan.
+fn call_of(plan: &Plan, offered: &PieceResult, answer: Answer) -> Call
+    ensures call { result ≡ call.HandIn (slip_of offered.now) (is_same_plan plan.now offered.now.plan) answer }
+    ensures plan { IsPlan offered.now.plan }
+    ensures piece { IsTrue (is_piece offered.now.plan offered.now.piece) }
+{
+    is_of_a_plan(offered);
+    Call::HandIn {
+        slip: Slip {
+            piece: offered.piece(),
+            totals: offered.totals(),
+        },
+        is_own: plan.same(offered.plan()),
+        answer,
+    }
+}
+
+/// A result is one of an accepted plan.
+fn is_of_a_plan(offered: &PieceResult)
+    ensures { IsPlan offered.now.plan }
+{
+    // For the proof: what always holds of a result, and of its plan.
+    let _ = offered.plan().version();
+}

@@ -1,0 +1,27 @@
+//! A study under a lock: its ledger, its journal, and its history.
+//!
+//! A [`Book`] takes the results of pieces, in any order, and keeps the slip of each on a disk before it enters it into
+//! the ledger. What it was asked and what it answered is its [`History`], and every history is legal: each of its calls
+//! is a step of the machine that a run of a study is.
+//!
+//! [`open_book`] opens the study of a plan over the disk that a [`Shelf`] has for it, if it has one.
+#![tactic(auto)]
+
+mod append;
+mod book;
+mod call;
+mod fault;
+mod history;
+mod opened;
+mod opening;
+mod shelf;
+mod submit_fault;
+
+pub use book::Book;
+pub use call::{Answer, Call};
+pub use fault::BookFault;
+pub use history::History;
+pub use opened::Opened;
+pub use opening::open_book;
+pub use shelf::{NoShelf, Shelf, ShelfFault};
+pub use submit_fault::SubmitFault;

@@ -1,0 +1,15 @@
+use Rattle.std.proofs.Common.{◌≡◌, ◌∙◌, ap, ap₂, rules, codes}
+use Rattle.std.proofs.lemmas.Result.{IfOk-weaker}
+use Rattle.clap.specs.Words.{App, app_of, new_app, with_rule, with_subcommand}
+use Rattle.clap.specs.Simple.{app_of_fields}
+use Rattle.cut_command_line.specs.Line.{ask_app}
+use Rattle.cut_command_line.proofs.line.add_ask.Goals as goal
+
+pub returns : goal.returns
+returns c =
+    let helped : app_of c.after_help.result ≡ new_app (codes "ask") =
+    ap app_of_fields c.after_help.ensures ∙ ap app_of_fields c.about.ensures ∙ c.new.ensures.app in
+    let made : app_of c.in_ok-ask.ask ≡ ask_app =
+    c.in_ok-ask.ensures.shape c.socket_word.ensures.local ∙ ap₂ with_rule helped c.socket_word.ensures.rule in
+    IfOk-weaker c.subcommand.result _ _
+    (λ r h. h.shape (search rules) ∙ ap (λ (a : App). with_subcommand (app_of c.args.program) a.top) made) c.subcommand.ensures

@@ -1,0 +1,173 @@
+-- The commands of the program, and what its command line asks for.
+use Rattle.std.specs.Prelude.{◌≡◌, ◌⊎◌, ◌≤◌, ℕ, List, [], ◌∷◌, true, codes, pos, Option, Some, None, option_map, ⊤}
+use Rattle.std.specs.Str.Parse.{IsNumeral, digits_value, without_leading_plus}
+use Rattle.clap.specs.Words.{App, IsAmong, first_of, Row, Rule, Text, fault_of, new_app, new_rule, one_of, subcommand_of, with_rule, with_subcommand}
+use Rattle.clap.specs.declared.builder.value_parser.ValueParser.TheVariants as parsers
+use Rattle.clap.specs.declared.error.kind.ErrorKind.{ErrorKind}
+use Rattle.clap.specs.declared.error.kind.ErrorKind.TheVariants.{DisplayHelp, DisplayVersion, MissingSubcommand, OutOfMemory}
+use Rattle.cut_command_line.specs.declared.line.Job.{Job}
+use Rattle.cut_command_line.specs.declared.line.Job.TheVariants.{Run, Check, Serve, Ask, Migrate}
+
+-- the option `--piece`: a number from 1 to 1,000,000, which is 16 where it is not given
+abbrev pub piece_rule : Rule
+piece_rule = record (new_rule (codes "piece")) {
+  long = Some (codes "piece");
+  value_names = 1;
+  defaults = codes "16" ∷ [];
+  parser = Some (parsers.Signed (pos 1) (pos 1000000));
+}
+
+-- the option `--workers`: a number from 1 to 64, which is 1 where it is not given
+abbrev pub workers_rule : Rule
+workers_rule = record (new_rule (codes "workers")) {
+  long = Some (codes "workers");
+  value_names = 1;
+  defaults = codes "1" ∷ [];
+  parser = Some (parsers.Signed (pos 1) (pos 64));
+}
+
+-- the option `--checkpoint`: the file that a study is kept in, if it is given
+abbrev pub checkpoint_rule : Rule
+checkpoint_rule = record (new_rule (codes "checkpoint")) {
+  long = Some (codes "checkpoint");
+  value_names = 1;
+}
+
+-- the word `SOCKET`: the path of a server's socket
+abbrev pub socket_rule : Rule
+socket_rule = record (new_rule (codes "socket")) { value_names = 1; required = true }
+
+-- an option of a server: how many of something it has, a number from 1 to 64, which has to be given
+abbrev pub crew_rule : Text → Rule
+crew_rule name = record (new_rule name) {
+  long = Some name;
+  value_names = 1;
+  parser = Some (parsers.Signed (pos 1) (pos 64));
+  required = true;
+}
+
+-- the option `--dir`: the folder that its studies are kept in, if it is given
+abbrev pub folder_rule : Rule
+folder_rule = record (new_rule (codes "dir")) { long = Some (codes "dir"); value_names = 1 }
+
+-- a word that names the file of a checkpoint
+abbrev pub file_rule : Text → Rule
+file_rule name = record (new_rule name) { value_names = 1; required = true }
+
+-- the subcommands
+abbrev pub run_app : App
+run_app = with_rule (with_rule (with_rule (new_app (codes "run")) piece_rule) workers_rule) checkpoint_rule
+
+abbrev pub check_app : App
+check_app = new_app (codes "check")
+
+abbrev pub serve_app : App
+serve_app =
+    with_rule (with_rule (with_rule (with_rule (with_rule (new_app (codes "serve")) socket_rule) (crew_rule (codes "workers")))
+    (crew_rule (codes "sessions"))) (crew_rule (codes "studies"))) folder_rule
+
+abbrev pub ask_app : App
+ask_app = with_rule (new_app (codes "ask")) socket_rule
+
+abbrev pub migrate_app : App
+migrate_app = with_rule (with_rule (new_app (codes "migrate")) (file_rule (codes "old"))) (file_rule (codes "new"))
+
+-- the program as clap sees it: it needs one of its subcommands, and without a word it shows its help
+unfoldable pub program_app : App
+program_app = let bare : App = new_app (codes "cutlab") in
+    let asking : App = record bare { top = record bare.top { subcommand_required = true; arg_required_else_help = true } } in
+    with_subcommand (with_subcommand (with_subcommand (with_subcommand (with_subcommand asking run_app.top) check_app.top) serve_app.top)
+    ask_app.top) migrate_app.top
+
+-- the number, from 1 to a greatest one, that a subcommand's matches give for an option
+pub record GivesNumber (option : Text) (most : ℕ) (rows : List Row) (n : ℕ) : Type 0 where
+  pub text : Text
+  pub given : one_of option rows ≡ Some text
+  pub numeral : IsNumeral 10 (without_leading_plus text)
+  pub value : digits_value 10 (without_leading_plus text) ≡ n
+  pub some : 1 ≤ n
+  pub few : n ≤ most
+
+-- the size of a piece, and the number of workers
+abbrev pub GivesPiece : List Row → ℕ → Type 0
+GivesPiece rows n = GivesNumber (codes "piece") 1000000 rows n
+
+abbrev pub GivesWorkers : List Row → ℕ → Type 0
+GivesWorkers rows n = GivesNumber (codes "workers") 64 rows n
+
+-- the checkpoint that they give, or none
+abbrev pub GivesCheckpoint : List Row → Option Text → Type 0
+GivesCheckpoint rows file = first_of (codes "checkpoint") rows ≡ file
+
+-- the socket that they give
+abbrev pub GivesSocket : List Row → Text → Type 0
+GivesSocket rows path = first_of (codes "socket") rows ≡ Some path
+
+-- the file of a checkpoint that they give for a word
+abbrev pub GivesFile : Text → List Row → Text → Type 0
+GivesFile name rows path = first_of name rows ≡ Some path
+
+-- the subcommand of a job
+abbrev pub command_of : Job → Text
+command_of (Run piece workers file) = codes "run"
+command_of Check = codes "check"
+command_of (Serve socket workers sessions studies folder) = codes "serve"
+command_of (Ask socket) = codes "ask"
+command_of (Migrate from to) = codes "migrate"
+
+-- the values of a job, by the matches of its subcommand
+abbrev pub Gives : List Row → Job → Type 0
+Gives rows (Run piece workers file) =
+    GivesPiece rows piece × GivesWorkers rows workers × GivesCheckpoint rows (option_map (λ s. s.now) file)
+Gives rows Check = ⊤
+Gives rows (Serve socket workers sessions studies folder) =
+    GivesSocket rows socket.now × GivesNumber (codes "workers") 64 rows workers
+    × GivesNumber (codes "sessions") 64 rows sessions × GivesNumber (codes "studies") 64 rows studies
+    × (first_of (codes "dir") rows ≡ option_map (λ s. s.now) folder)
+Gives rows (Ask socket) = GivesSocket rows socket.now
+Gives rows (Migrate from to) = GivesFile (codes "old") rows from.now × GivesFile (codes "new") rows to.now
+
+-- the job of a subcommand, by its name and its matches
+abbrev pub IsJobOf : Option (Text × List Row) → Job → Type 0
+IsJobOf None job = ⊥
+IsJobOf (Some sub) job = (sub.0 ≡ command_of job) × Gives sub.1 job
+
+-- the matches of a subcommand give a job of it, or none
+abbrev pub GivesJob : Text → List Row → Option Job → Type 0
+GivesJob name rows (Some job) = (command_of job ≡ name) × Gives rows job
+GivesJob name rows None = (job : Job) → command_of job ≡ name → Gives rows job → ⊥
+
+-- the job that a command line names
+abbrev pub NamesJob : List Text → Job → Type 0
+NamesJob words job = IsJobOf (subcommand_of program_app words) job
+
+-- it names none
+abbrev pub NamesNone : List Text → Type 0
+NamesNone words = (job : Job) → NamesJob words job → ⊥
+
+-- the status with which the program ends where clap gives no matches: 0 where help was asked for, 5 where
+-- memory ran out, and 2 at a mistake
+abbrev pub status_of_kind : ErrorKind → ℕ
+status_of_kind DisplayHelp = 0
+status_of_kind DisplayVersion = 0
+status_of_kind OutOfMemory = 5
+status_of_kind kind = 2
+
+-- why a command line gives no job: clap found this in it, memory ran out, or no job is named
+abbrev pub IsAsked : List Text → ErrorKind → Type 0
+IsAsked words kind =
+    IsAmong kind (fault_of program_app words) ⊎ (kind ≡ OutOfMemory)
+    ⊎ (NamesNone words × (fault_of program_app words ≡ []) × (kind ≡ MissingSubcommand))
+
+-- the status of a command line without a job: exactly that of what clap found
+abbrev pub EndsLine : List Text → ℕ → Type 0
+EndsLine words status = (kind : ErrorKind) × IsAsked words kind × (status ≡ status_of_kind kind)
+
+-- the pieces of a job have some trials, and it has some of each that it is to have, and no more than the options allow
+abbrev pub IsSized : Job → Type 0
+IsSized (Run piece workers file) = (1 ≤ piece) × (piece ≤ 1000000) × (1 ≤ workers) × (workers ≤ 64)
+IsSized Check = ⊤
+IsSized (Serve socket workers sessions studies folder) =
+    (1 ≤ workers) × (workers ≤ 64) × (1 ≤ sessions) × (sessions ≤ 64) × (1 ≤ studies) × (studies ≤ 64)
+IsSized (Ask socket) = ⊤
+IsSized (Migrate from to) = ⊤

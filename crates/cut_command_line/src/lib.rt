@@ -1,0 +1,8 @@
+//! The command line of the program: what its words ask for, and what is wrong with them, as clap says it.
+#![tactic(auto)]
+
+mod line;
+#[cfg(test)]
+mod tests;
+
+pub use line::{Job, LineFault, parse_line};

@@ -1,0 +1,396 @@
+ghost use Rattle.std.specs.Prelude.{◌≡◌, ◌≤◌, ℕ, [], codes, false, map, IfOk, IfErr, IfSome, IfNone};
+ghost use Rattle.clap.specs.Words.{app_of, fault_of, found_of, rows_of, rule_of, subcommand_rows_of, with_subcommand};
+ghost use Rattle.cut_command_line.specs.Line.{checkpoint_rule, file_rule, piece_rule, socket_rule, workers_rule};
+ghost use Rattle.cut_command_line.specs.Line.{ask_app, check_app, crew_rule, folder_rule, migrate_app, program_app, run_app, serve_app, status_of_kind};
+ghost use Rattle.cut_command_line.specs.Line.{EndsLine, GivesJob, GivesNumber, IsJobOf, IsSized, NamesJob};
+ghost use Rattle.cut_command_line.specs.declared.line.Job.{Job};
+
+use clap::error::ErrorKind;
+use clap::{Arg, ArgMatches, Command, Error};
+use std::alloc::{AllocError, Global};
+use std::convert::AsStr;
+
+/// How many trials a piece of a study has at most.
+const PIECE_MOST: u32 = 1_000_000;
+
+/// How many workers a study has at most.
+const WORKERS_MOST: u32 = 64;
+
+/// What is behind the help of each command: an example, and where more is told.
+const GUIDE: &str = "A plan is read from standard input. docs/GUIDE.md tells more.";
+
+const RUN_EXAMPLE: &str =
+    "Example: cutlab run --workers 4 --checkpoint study.cut < plan.json\ndocs/GUIDE.md tells more.";
+
+const CHECK_EXAMPLE: &str = "Example: cutlab check < plan.json\ndocs/GUIDE.md tells more.";
+
+const SERVE_EXAMPLE: &str =
+    "Example: cutlab serve cutlab.sock --workers 4 --sessions 2 --studies 2 --dir studies\ndocs/GUIDE.md tells more.";
+
+const ASK_EXAMPLE: &str = "Example: cutlab ask cutlab.sock < plan.json\ndocs/GUIDE.md tells more.";
+
+const MIGRATE_EXAMPLE: &str =
+    "Example: cutlab migrate study.cut study2.cut < plan.json\ndocs/GUIDE.md tells more.";
+
+/// How many workers, sessions and studies a server has at most, of each.
+const CREW_MOST: u32 = 64;
+
+/// A command of the program, with its values.
+#[derive(Clone, Copy, Debug, PartialEq, Eq)]
+pub enum Job<'a> {
+    /// Read a plan and print its table.
+    Run {
+        /// How many trials the pieces have that the study is cut into, the last of a cell fewer.
+        piece: u32,
+        /// How many threads work on the study.
+        workers: u32,
+        /// The file that the study is kept in and goes on from, if there is one.
+        checkpoint: Option<&'a str>,
+    },
+    /// Read a plan and print how many cells and trials it has, and the quorum of its processes.
+    Check,
+    /// Serve clients at a socket, and print how many trials were accepted.
+    Serve {
+        /// The path of the server's socket.
+        socket: &'a str,
+        /// How many threads work on its studies, from 1 to 64.
+        workers: u32,
+        /// How many connections it takes, from 1 to 64.
+        sessions: u32,
+        /// For how many studies it has room, from 1 to 64.
+        studies: u32,
+        /// The folder that the studies are kept in, if there is one.
+        folder: Option<&'a str>,
+    },
+    /// Read a plan and print the table that a server has for it.
+    Ask {
+        /// The path of the server's socket.
+        socket: &'a str,
+    },
+    /// Read a plan of version 1, move its study to a new checkpoint of version 2, and print how many slips it has.
+    Migrate {
+        /// The file that the study is kept in.
+        old: &'a str,
+        /// The file that it is moved to, which holds no study.
+        new: &'a str,
+    },
+}
+
+/// A command line that names no job: the status with which the program ends, and the text that it
+/// prints, on standard output at status 0, as for help, and else on standard error.
+#[derive(Debug, Drop)]
+pub struct LineFault {
+    /// 0 for help, 2 for a mistake, 5 for want of memory.
+    pub status: u8,
+    /// What is printed, as clap writes it; empty where memory for it was refused.
+    pub text: String,
+}
+
+/// Reads a command line, whose first word is the program's name. There is a job only where clap finds no
+/// fault in the words, and else exactly the status of what it found.
+pub fn parse_line<'a, S: AsStr>(alloc: Global, words: &'a [S]) -> Result<Job<'a>, LineFault>
+    ensures ok { IfOk result (λ job. NamesJob (map S.text words.now) job) }
+    ensures sized { IfOk result (λ job. IsSized job) }
+    ensures faultless { IfOk result (λ _. fault_of program_app (map S.text words.now) ≡ []) }
+    ensures err { IfErr result (λ e. EndsLine (map S.text words.now) e.status) }
+{
+    let Ok(command) = commands(alloc) else {
+        return Err(line_fault(alloc, ErrorKind::OutOfMemory, None));
+    };
+    let matches = match command.try_get_matches_from(words) {
+        Ok(matches) => matches,
+        Err(error) => return Err(line_fault(alloc, error.kind(), Some(&error))),
+    };
+    match job_of(&matches) {
+        Some(job) => Ok(job),
+        None => Err(line_fault(alloc, ErrorKind::MissingSubcommand, None)),
+    }
+}
+
+/// The job that the matches of a command line name.
+fn job_of<'a>(matches: &ArgMatches<'a>) -> Option<Job<'a>>
+    ensures some { IfSome result (λ job. IsJobOf (subcommand_rows_of matches.now) job) }
+    ensures sized { IfSome result (λ job. IsSized job) }
+    ensures none { IfNone result ((job : Job) → IsJobOf (subcommand_rows_of matches.now) job → ⊥) }
+{
+    let (name, given) = matches.subcommand()?;
+    match name {
+        "run" => run_job(given),
+        "check" => Some(Job::Check),
+        "serve" => serve_job(given),
+        "ask" => ask_job(given),
+        "migrate" => migrate_job(given),
+        _ => None,
+    }
+}
+
+/// The run that the matches of `run` give.
+fn run_job<'a>(given: &ArgMatches<'a>) -> Option<Job<'a>>
+    ensures gives { GivesJob (codes "run") (rows_of (found_of given.now)) result }
+    ensures sized { IfSome result (λ job. IsSized job) }
+{
+    let piece = number_given(given, "piece", PIECE_MOST)?;
+    let workers = number_given(given, "workers", WORKERS_MOST)?;
+    Some(Job::Run {
+        piece,
+        workers,
+        checkpoint: given.get_str("checkpoint"),
+    })
+}
+
+/// The server that the matches of `serve` give.
+fn serve_job<'a>(given: &ArgMatches<'a>) -> Option<Job<'a>>
+    ensures gives { GivesJob (codes "serve") (rows_of (found_of given.now)) result }
+    ensures sized { IfSome result (λ job. IsSized job) }
+{
+    let socket = given.get_str("socket")?;
+    let workers = number_given(given, "workers", CREW_MOST)?;
+    let sessions = number_given(given, "sessions", CREW_MOST)?;
+    let studies = number_given(given, "studies", CREW_MOST)?;
+    Some(Job::Serve {
+        socket,
+        workers,
+        sessions,
+        studies,
+        folder: given.get_str("dir"),
+    })
+}
+
+/// The question that the matches of `ask` give.
+fn ask_job<'a>(given: &ArgMatches<'a>) -> Option<Job<'a>>
+    ensures gives { GivesJob (codes "ask") (rows_of (found_of given.now)) result }
+    ensures sized { IfSome result (λ job. IsSized job) }
+{
+    let socket = given.get_str("socket")?;
+    Some(Job::Ask { socket })
+}
+
+/// The migration that the matches of `migrate` give.
+fn migrate_job<'a>(given: &ArgMatches<'a>) -> Option<Job<'a>>
+    ensures gives { GivesJob (codes "migrate") (rows_of (found_of given.now)) result }
+    ensures sized { IfSome result (λ job. IsSized job) }
+{
+    let old = given.get_str("old")?;
+    let new = given.get_str("new")?;
+    Some(Job::Migrate { old, new })
+}
+
+/// The number, from 1 to a greatest one, that the matches give for an option.
+fn number_given(given: &ArgMatches, option: &str, most: u32) -> Option<u32>
+    ensures some { IfSome result (λ n. GivesNumber option.now most (rows_of (found_of given.now)) n) }
+    ensures none { IfNone result
+        ((n : ℕ) → GivesNumber option.now most (rows_of (found_of given.now)) n → ⊥) }
+{
+    let number = given.get_one::<u32>(option)?;
+    if number < 1 || number > most {
+        return None;
+    }
+    Some(number)
+}
+
+/// The program's commands.
+fn commands<'a>(alloc: Global) -> Result<Command<'a>, AllocError>
+    ensures { IfOk result (λ command. app_of command ≡ program_app) }
+{
+    let program = Command::new(alloc, "cutlab")
+        .bin_name("cutlab")?
+        .about("How often processes propose a cut that misses failed ones, for each K, H, L and F")
+        .after_help(GUIDE)
+        .subcommand_required(true)
+        .arg_required_else_help(true);
+    let program = add_check(alloc, add_run(alloc, program)?)?;
+    let with_ask = add_ask(alloc, add_serve(alloc, program)?)?;
+    add_migrate(alloc, with_ask)
+}
+
+/// Adds the command `run`.
+fn add_run<'a>(alloc: Global, program: Command<'a>) -> Result<Command<'a>, AllocError>
+    ensures { IfOk result (λ r. app_of r ≡ with_subcommand (app_of program.entry) run_app.top) }
+{
+    let run = Command::new(alloc, "run")
+        .about("Read a plan and print its table")
+        .after_help(RUN_EXAMPLE)
+        .arg(piece_option(alloc))?
+        .arg(workers_option(alloc))?
+        .arg(checkpoint_option(alloc))?;
+    program.subcommand(run)
+}
+
+/// Adds the command `check`.
+fn add_check<'a>(alloc: Global, program: Command<'a>) -> Result<Command<'a>, AllocError>
+    ensures { IfOk result (λ r. app_of r ≡ with_subcommand (app_of program.entry) check_app.top) }
+{
+    let check = Command::new(alloc, "check")
+        .about("Read a plan and print its cells, its trials and the quorum")
+        .after_help(CHECK_EXAMPLE);
+    program.subcommand(check)
+}
+
+/// Adds the command `serve`.
+fn add_serve<'a>(alloc: Global, program: Command<'a>) -> Result<Command<'a>, AllocError>
+    ensures { IfOk result (λ r. app_of r ≡ with_subcommand (app_of program.entry) serve_app.top) }
+{
+    let serve = Command::new(alloc, "serve")
+        .about("Serve clients at a socket, and print how many trials were accepted")
+        .after_help(SERVE_EXAMPLE)
+        .arg(socket_word(alloc))?
+        .arg(crew_option(
+            alloc,
+            "workers",
+            "How many threads work on the studies, from 1 to 64",
+        ))?
+        .arg(crew_option(
+            alloc,
+            "sessions",
+            "How many connections are taken, from 1 to 64",
+        ))?
+        .arg(crew_option(
+            alloc,
+            "studies",
+            "For how many studies there is room, from 1 to 64",
+        ))?
+        .arg(folder_option(alloc))?;
+    program.subcommand(serve)
+}
+
+/// Adds the command `ask`.
+fn add_ask<'a>(alloc: Global, program: Command<'a>) -> Result<Command<'a>, AllocError>
+    ensures { IfOk result (λ r. app_of r ≡ with_subcommand (app_of program.entry) ask_app.top) }
+{
+    let ask = Command::new(alloc, "ask")
+        .about("Read a plan, ask a server for its table and print it")
+        .after_help(ASK_EXAMPLE)
+        .arg(socket_word(alloc))?;
+    program.subcommand(ask)
+}
+
+/// Adds the command `migrate`.
+fn add_migrate<'a>(alloc: Global, program: Command<'a>) -> Result<Command<'a>, AllocError>
+    ensures { IfOk result (λ r. app_of r ≡ with_subcommand (app_of program.entry) migrate_app.top) }
+{
+    let migrate = Command::new(alloc, "migrate")
+        .about("Move a checkpoint of version 1 to a new one of version 2")
+        .after_help(MIGRATE_EXAMPLE)
+        .arg(file_word(
+            alloc,
+            "old",
+            "OLD",
+            "The checkpoint of version 1, which stays as it is",
+        ))?
+        .arg(file_word(
+            alloc,
+            "new",
+            "NEW",
+            "The file of the new checkpoint, which holds no study",
+        ))?;
+    program.subcommand(migrate)
+}
+
+/// A word that names the file of a checkpoint.
+fn file_word<'a>(alloc: Global, name: &'a str, value_name: &'a str, help: &'a str) -> Arg<'a>
+    ensures rule { rule_of result ≡ file_rule name.entry.now }
+    ensures local { result.global ≡ false }
+{
+    Arg::new(alloc, name)
+        .value_name(value_name)
+        .required(true)
+        .help(help)
+}
+
+/// An option that says how many of something a server has.
+fn crew_option<'a>(alloc: Global, name: &'a str, help: &'a str) -> Arg<'a>
+    ensures rule { rule_of result ≡ crew_rule name.entry.now }
+    ensures local { result.global ≡ false }
+{
+    Arg::new(alloc, name)
+        .long(name)
+        .value_name("COUNT")
+        .value_parser(clap::value_parser!(u32).range(1..=64))
+        .required(true)
+        .help(help)
+}
+
+/// The option that names the folder of a server's checkpoints.
+fn folder_option<'a>(alloc: Global) -> Arg<'a>
+    ensures rule { rule_of result ≡ folder_rule }
+    ensures local { result.global ≡ false }
+{
+    Arg::new(alloc, "dir").long("dir").value_name("DIR").help(
+        "Keep each study in a file of this folder, and go on from what it holds",
+    )
+}
+
+/// The word that names a socket.
+fn socket_word<'a>(alloc: Global) -> Arg<'a>
+    ensures rule { rule_of result ≡ socket_rule }
+    ensures local { result.global ≡ false }
+{
+    Arg::new(alloc, "socket")
+        .value_name("SOCKET")
+        .required(true)
+        .help("The path of the server's socket")
+}
+
+/// The option that says how many trials are run as one piece.
+fn piece_option<'a>(alloc: Global) -> Arg<'a>
+    ensures rule { rule_of result ≡ piece_rule }
+    ensures local { result.global ≡ false }
+{
+    Arg::new(alloc, "piece")
+        .long("piece")
+        .value_name("TRIALS")
+        .value_parser(clap::value_parser!(u32).range(1..=1_000_000))
+        .default_value("16")
+        .help("How many trials are run as one piece, from 1 to 1000000")
+}
+
+/// The option that says how many threads work on a study.
+fn workers_option<'a>(alloc: Global) -> Arg<'a>
+    ensures rule { rule_of result ≡ workers_rule }
+    ensures local { result.global ≡ false }
+{
+    Arg::new(alloc, "workers")
+        .long("workers")
+        .value_name("COUNT")
+        .value_parser(clap::value_parser!(u32).range(1..=64))
+        .default_value("1")
+        .help("How many threads work on the study, from 1 to 64")
+}
+
+/// The option that names the file of a checkpoint.
+fn checkpoint_option<'a>(alloc: Global) -> Arg<'a>
+    ensures rule { rule_of result ≡ checkpoint_rule }
+    ensures local { result.global ≡ false }
+{
+    Arg::new(alloc, "checkpoint")
+        .long("checkpoint")
+        .value_name("FILE")
+        .help(
+            "Keep the study in this file, and go on from what it holds; overwrites a file that holds no study",
+        )
+}
+
+/// What is told of a command line in which clap found this, with clap's text where it has one.
+fn line_fault(alloc: Global, kind: ErrorKind, error: Option<&Error>) -> LineFault
+    ensures { result.status ≡ status_of_kind kind }
+{
+    let text = match error {
+        Some(error) => error.to_string(alloc),
+        None => kind.to_string(alloc),
+    };
+    LineFault {
+        status: status_of_kind(kind),
+        text: text.unwrap_or(String::new(alloc)),
+    }
+}
+
+/// The status with which the program ends where clap found this.
+fn status_of_kind(kind: ErrorKind) -> u8
+    ensures { result ≡ status_of_kind kind }
+{
+    match kind {
+        ErrorKind::OutOfMemory => 5,
+        ErrorKind::DisplayHelp | ErrorKind::DisplayVersion => 0,
+        _ => 2,
+    }
+}

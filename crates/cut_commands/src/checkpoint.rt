@@ -1,0 +1,35 @@
+ghost use Rattle.std.specs.Prelude.{◌≡◌, Ok, is_some, length, IfOk, IfErr, IfSome};
+ghost use Rattle.cut_journal.specs.Reading.{reading};
+ghost use Rattle.cut_study.specs.Running.{slips_of};
+ghost use Rattle.cut_commands.specs.Run.{IsNotOpened};
+ghost use Rattle.cut_commands.specs.Study.{BeginsWith, IsReady, study_task};
+
+use crate::CliFault;
+use cut_disks::Disk;
+use cut_journal::Journal;
+use cut_ledger::Slip;
+use cut_plan::Plan;
+use std::alloc::Global;
+
+/// The journal of a study on a disk, if there is one, with the slips that are kept in it.
+pub(crate) fn open_checkpoint<D: Disk + Drop>(
+    alloc: Global,
+    disk: Option<D>,
+    plan: &Plan,
+) -> Result<Option<(Journal<D>, Vec<Slip>)>, CliFault>
+    ensures begins { IfOk result (λ kept. BeginsWith D.is_honest D.state disk plan.now (slips_of kept)) }
+    ensures some { IfOk result (λ kept. is_some kept ≡ is_some disk) }
+    ensures ready { IfOk result (λ kept. IfSome kept (λ k. IsReady plan.now k.0)) }
+    ensures count { IfOk result (λ kept. IfSome kept (λ k. k.0.count ≡ length k.1.items)) }
+    ensures read { IfOk result (λ kept. IfSome kept (λ k. D.is_honest k.0.disk →
+        reading plan.now (D.state k.0.disk).bytes ≡ Ok k.1.items)) }
+    ensures err { IfErr result (λ e. IsNotOpened (study_task D.is_honest D.state disk) plan.now e) }
+{
+    let Some(disk) = disk else {
+        return Ok(None);
+    };
+    match Journal::open(alloc, disk, plan) {
+        Ok((journal, slips)) => Ok(Some((journal, slips))),
+        Err((fault, _)) => Err(CliFault::from(fault)),
+    }
+}

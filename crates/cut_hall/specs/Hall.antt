@@ -1,0 +1,16 @@
+-- A hall as contracts see it.
+use Rattle.std.specs.Prelude.{ℕ, ◌+◌, Bool}
+use Rattle.atomic_table.specs.Seated.{TableId}
+use Rattle.cut_hall.specs.Pass.{Holding}
+
+-- which hall it is, by its board; how many slots it has, and how many passes; and whether the slips that its
+-- studies begin with are those that their trials give
+pub record Rooms : Type 0 where
+  pub id : TableId
+  pub slots : ℕ
+  pub passes : ℕ
+  pub is_trusted : Bool
+
+-- a pass whose holder made so many calls more
+abbrev pub made_more : Holding → ℕ → Holding
+made_more p n = record p { made = p.made + n }

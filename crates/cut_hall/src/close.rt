@@ -1,0 +1,169 @@
+ghost use Rattle.std.specs.Prelude.{ℕ, ◌≡◌, ◌≢◌, ◌<◌, ◌≤◌, true, false, Some, length, vec_len, slice_get, All, IfOk, IfErr, OnOk};
+ghost use Rattle.cut_board.specs.Names.{board_id, board_of};
+ghost use Rattle.cut_board.specs.declared.totals.StudyTotals.{StudyTotals};
+ghost use Rattle.cut_hall.specs.Report.{SlotEnd, calls_told, calls_in_all, made_in_all, accepted_told, IsAudited};
+ghost use Rattle.cut_hall.specs.Closing.{IsNotClosed, IsTakenApart};
+
+use crate::hall::Place;
+use crate::{Hall, Mismatch, NotClosed, Pass, Report, SlotReport, Tally};
+use cut_board::{Board, BoardTotals, Seat};
+use cut_disks::Disk;
+use std::alloc::{AllocError, Global};
+use std::sync::ledger::Share;
+
+/// The seats of passes, and the share of the calls that all of them made.
+#[derive(Drop)]
+struct Parts<M: Tally> {
+    seats: Vec<Seat>,
+    made: Share<M>,
+}
+
+/// What became of the slots, and the share of the calls that all of them had.
+#[derive(Drop)]
+struct Ends<K: Tally> {
+    slots: Vec<SlotReport>,
+    kept: Share<K>,
+}
+
+impl<D: Disk + Drop, M: Tally, K: Tally> Hall<D, M, K> {
+    /// Ends the hall, which takes all its passes, and tells what became of each slot. The calls that the
+    /// slots' histories have together are as many as the passes made together, and what the passes counted of
+    /// a study is what its history accepted; where these differ, that is reported, with what became of all slots.
+    /// Where passes are missing, the hall and these passes come back as they were; where it is refused otherwise,
+    /// they don't.
+    pub fn close(
+        self,
+        alloc: Global,
+        passes: Vec<Pass<M>>,
+    ) -> Result<Report, NotClosed<(Hall<D, M, K>, Vec<Pass<M>>)>>
+        requires own { All (λ p. p.hall ≡ self.id) passes.items }
+        requires ledgers { (M.all ≡ M.parts) × (K.all ≡ K.parts) }
+        ensures slots { IfOk result (λ slots. length slots ≡ self.slots) }
+        ensures whole { OnOk result (length passes.items ≡ self.passes) }
+        ensures calls { IfOk result (λ slots. calls_in_all slots ≡ made_in_all passes.items) }
+        ensures audit { IfOk result (λ slots. IsAudited slots passes.items) }
+        ensures why { IfErr result (λ e. IsNotClosed
+            (λ back. (back.0 ≡ self) × (back.1.items ≡ passes.items))
+            self.slots self.passes passes.items e) }
+    {
+        if passes.len() < self.passes as usize {
+            return Err(NotClosed::SeatMissing((self, passes)));
+        }
+        let Ok(parts) = take_apart(alloc, &self.board, passes) else {
+            return Err(NotClosed::Memory);
+        };
+        let Parts { seats, mut made } = parts;
+        let Hall {
+            board,
+            places,
+            accounts,
+            passes: _,
+            piece_size: _,
+        } = self;
+        let Ok(totals) = board.finish(alloc, seats) else {
+            return Err(NotClosed::Memory);
+        };
+        let Ok(ends) = end_all(alloc, places) else {
+            return Err(NotClosed::Memory);
+        };
+        let Ends { slots, mut kept } = ends;
+        accounts.into_inner().compare(&mut made, &mut kept);
+        match audit(&totals, slots) {
+            Ok(report) => Ok(report),
+            Err(mismatch) => Err(NotClosed::AuditMismatch(mismatch)),
+        }
+    }
+}
+
+/// Takes a board's passes apart.
+fn take_apart<M: Tally>(
+    alloc: Global,
+    board: &Board,
+    mut passes: Vec<Pass<M>>,
+) -> Result<Parts<M>, AllocError>
+    requires some { 0 < length passes.items }
+    requires own { All (λ p. p.hall ≡ board_id board.now) passes.items }
+    ensures own { IfOk result (λ parts. All (λ s. board_of s ≡ board_id board.now) parts.seats.items) }
+    ensures parts { IfOk result (λ parts.
+        IsTakenApart passes.items parts.seats.items parts.made.parts parts.made.amount) }
+{
+    let Some(first) = passes.pop() else {
+        unreachable!()
+    };
+    let Pass { seat, mut made } = first;
+    let mut seats = Vec::new(alloc);
+    seats.push(seat)?;
+    while let Some(pass) = passes.pop() {
+        let Pass { seat, made: more } = pass;
+        seats.push(seat)?;
+        made.merge(more);
+    }
+    Ok(Parts { seats, made })
+}
+
+/// Ends all slots, in order.
+fn end_all<D: Disk + Drop, K: Tally>(
+    alloc: Global,
+    mut places: Vec<Place<D, K>>,
+) -> Result<Ends<K>, AllocError>
+    requires some { 0 < vec_len places }
+    ensures slots { IfOk result (λ ends. length ends.slots.items ≡ vec_len places) }
+    ensures kept { IfOk result (λ ends.
+        (ends.kept.parts ≡ vec_len places) × (ends.kept.amount ≡ calls_in_all ends.slots.items)) }
+{
+    let mut slots = Vec::with_capacity(alloc, places.len())?;
+    let (slot, mut kept) = places.remove(0).end();
+    slots.push(slot)?;
+    for place in places {
+        let (slot, more) = place.end();
+        slots.push(slot)?;
+        kept.merge(more);
+    }
+    Ok(Ends { slots, kept })
+}
+
+impl<D: Disk + Drop, K: Tally> Place<D, K> {
+    /// Ends the slot.
+    fn end(self) -> (SlotReport, Share<K>)
+        ensures part { result.1.parts ≡ 1 }
+        ensures calls { result.1.amount ≡ calls_told result.0.history }
+    {
+        let Place { slot, .. } = self;
+        slot.into_inner().end()
+    }
+}
+
+/// Compares what was counted of each study with what its history accepted.
+fn audit(totals: &BoardTotals, slots: Vec<SlotReport>) -> Result<Report, Mismatch>
+    requires told { length slots.items ≤ length totals.now }
+    requires few { length totals.now ≤ 64 }
+    ensures same { IfOk result (λ report. report ≡ slots.items) }
+    ensures audited { OnOk result ((study : ℕ) (s : SlotEnd) (t : StudyTotals)
+        → slice_get slots.items study ≡ Some s → slice_get totals.now study ≡ Some t
+        → t.count ≡ accepted_told s.history) }
+    ensures report { IfErr result (λ m. m.report ≡ slots.items) }
+    ensures within { IfErr result (λ m. m.study < length slots.items) }
+    ensures differs { IfErr result (λ m. (t : StudyTotals)
+        → slice_get totals.now m.study ≡ Some t → t.count ≡ m.counted) }
+{
+    for study in 0..slots.len() {
+        let counted = totals.as_slice()[study].count;
+        if !agrees(counted, &slots[study]) {
+            let report = Report::from_vec(slots);
+            return Err(Mismatch {
+                study: study as u32,
+                counted,
+                report,
+            });
+        }
+    }
+    Ok(Report::from_vec(slots))
+}
+
+/// Whether a slot accepted as many trials as were counted.
+fn agrees(counted: u64, slot: &SlotReport) -> bool
+    ensures yes { result ≡ true → counted ≡ accepted_told slot.now.history }
+    ensures no { result ≡ false → counted ≢ accepted_told slot.now.history }
+{
+    counted == slot.accepted()
+}

@@ -1,0 +1,322 @@
+ghost use Rattle.std.specs.Prelude.{true, false, ◌≡◌, ◌+◌, ◌<◌, ◌≤◌, length, vec_len, All, IfOk, IfSome, OnOk, OnErr, IfErr};
+ghost use Rattle.cut_plan.specs.Cells.{cells_of};
+ghost use Rattle.cut_board.specs.Names.{board_id, board_of, view_of};
+ghost use Rattle.cut_board.specs.Views.{idle, read, seen_in};
+ghost use Rattle.cut_board.specs.Refusals.{IsRefusedBy, read_refusal};
+ghost use Rattle.cut_hall.specs.Hall.{made_more};
+ghost use Rattle.cut_hall.specs.Lines.{full_line};
+ghost use Rattle.cut_book.specs.Book.{IsFresh};
+ghost use Rattle.cut_hall.specs.Slot.{CanNotGiveAgain, rows_of};
+ghost use Rattle.cut_hall.specs.Trust.{MayBegin};
+ghost use Rattle.cut_ledger.specs.Slips.{AreGood};
+
+use crate::accounts::Accounts;
+use crate::slot::{Match, Slot};
+use crate::work::SharedBench;
+use crate::{LineFault, Pass, Tally};
+use cut_board::{Board, Seat, SeatFault};
+use cut_book::{Book, Opened, Shelf, SubmitFault};
+use cut_disks::Disk;
+use cut_plan::Plan;
+use std::alloc::{AllocError, Global};
+use std::marker::Model;
+use std::sync::ledger::{Blank, Share};
+use std::sync::{Condvar, Mutex, Wait};
+
+/// The lock of a slot, where those wait who wait for a change in it, and what its workers share.
+#[derive(Drop)]
+pub(crate) struct Place<D: Disk, K: Tally> {
+    pub(crate) slot: Mutex<Slot<D, K>>,
+    pub(crate) changed: Condvar,
+    pub(crate) bench: SharedBench,
+}
+
+/// A hall in which many threads work on the studies that are submitted to it, each with a pass. Contracts see
+/// which hall it is, and how many slots and passes it has.
+///
+/// Two ledgers count the calls of its books: in the one those that the passes made, in the other those that
+/// the slots keep.
+#[derive(Drop)]
+pub struct Hall<D: Disk, M: Tally, K: Tally> {
+    pub(crate) board: Board,
+    pub(crate) places: Vec<Place<D, K>>,
+    pub(crate) accounts: Mutex<Accounts<M, K>>,
+    pub(crate) passes: u32,
+    pub(crate) piece_size: u32,
+}
+
+impl<D: Disk, M: Tally, K: Tally> Model for Hall<D, M, K> {
+    ghost use Rattle.std.specs.Prelude.{◌≡◌, ◌≤◌, vec_len};
+    ghost use Rattle.cut_board.specs.Names.{board_id, studies_of, seats_of};
+    ghost use Rattle.cut_hall.specs.Hall.{Rooms};
+
+    ghost Value = { Rooms };
+
+    ghost view = { λ h.
+        record { id = board_id h.board; slots = studies_of h.board; passes = seats_of h.board; is_trusted = K.trusts } };
+
+    ghost invariant = { λ h.
+        (vec_len h.places ≡ studies_of h.board)
+        × (h.passes ≡ seats_of h.board)
+        × (1 ≤ h.piece_size)
+        × (1 ≤ studies_of h.board)
+        × (studies_of h.board ≤ 64)
+        × (1 ≤ seats_of h.board)
+        × (seats_of h.board ≡ M.all)
+        × (studies_of h.board ≡ K.all) };
+}
+
+impl<D: Disk + Drop, M: Tally, K: Tally> Hall<D, M, K> {
+    /// A hall of 1 to 64 slots without studies, and its 1 to 129 passes. The blanks are for the two ledgers of
+    /// calls, of which the first has as many parts as passes, and the second as many as slots. Fails only for
+    /// want of memory.
+    pub fn start(
+        alloc: Global,
+        slots: u32,
+        passes: u32,
+        piece_size: u32,
+        made: Blank,
+        kept: Blank,
+    ) -> Result<(Hall<D, M, K>, Vec<Pass<M>>), AllocError>
+        requires slots { (0 < slots) × (slots ≤ 64) }
+        requires passes { (0 < passes) × (passes ≤ 129) }
+        requires size { 1 ≤ piece_size }
+        requires made { (made.name ≡ M.name) × (made.parts ≡ M.parts)
+            × (M.all ≡ M.parts) × (M.all ≡ passes) }
+        requires kept { (kept.name ≡ K.name) × (kept.parts ≡ K.parts)
+            × (K.all ≡ K.parts) × (K.all ≡ slots) }
+        ensures hall { IfOk result (λ r. (r.0.slots ≡ slots) × (r.0.passes ≡ passes)) }
+        ensures trusted { IfOk result (λ r. r.0.is_trusted ≡ K.trusts) }
+        ensures passes { IfOk result (λ r. length r.1.items ≡ passes) }
+        ensures own { IfOk result (λ r. All (λ p. p.hall ≡ r.0.id) r.1.items) }
+        ensures idle { IfOk result (λ r. All (λ p. (p.view ≡ idle 1) × (p.made ≡ 0)) r.1.items) }
+    {
+        let (board, seats) = Board::start(alloc, slots, passes)?;
+        let (accounts, made, kept) = Accounts::open(made, kept);
+        let places = places_of(alloc, slots, kept)?;
+        let given = deal(alloc, &board, seats, made)?;
+        let hall = Hall {
+            board,
+            places,
+            accounts: Mutex::new(accounts),
+            passes,
+            piece_size,
+        };
+        Ok((hall, given))
+    }
+
+    /// A hall whose only slot has this book, of which nothing was asked yet, and its 1 to 129 passes. The blanks
+    /// are as in `start`. Fails only for want of memory.
+    pub fn of_book(
+        alloc: Global,
+        book: Book<D>,
+        piece_size: u32,
+        passes: u32,
+        made: Blank,
+        kept: Blank,
+    ) -> Result<(Hall<D, M, K>, Vec<Pass<M>>), AllocError>
+        requires fresh { IsFresh book.state.ledger.plan book.size book }
+        requires good { AreGood book.state.ledger.plan book.state.ledger.base }
+        requires untrusted { K.trusts ≡ false }
+        requires size { 1 ≤ piece_size }
+        requires passes { (0 < passes) × (passes ≤ 129) }
+        requires made { (made.name ≡ M.name) × (made.parts ≡ M.parts)
+            × (M.all ≡ M.parts) × (M.all ≡ passes) }
+        requires kept { (kept.name ≡ K.name) × (kept.parts ≡ K.parts)
+            × (K.all ≡ K.parts) × (K.all ≡ 1) }
+        ensures hall { IfOk result (λ r. (r.0.slots ≡ 1) × (r.0.passes ≡ passes)) }
+        ensures passes { IfOk result (λ r. length r.1.items ≡ passes) }
+        ensures own { IfOk result (λ r. All (λ p. p.hall ≡ r.0.id) r.1.items) }
+    {
+        let (board, seats) = Board::start(alloc, 1, passes)?;
+        let (accounts, made, kept) = Accounts::open(made, kept);
+        let given = deal(alloc, &board, seats, made)?;
+        let mut places = Vec::new(alloc);
+        places.push(Place {
+            slot: Mutex::new(Slot::of_book(alloc, book, kept)),
+            changed: Condvar::new(),
+            bench: SharedBench::none(),
+        })?;
+        let hall = Hall {
+            board,
+            places,
+            accounts: Mutex::new(accounts),
+            passes,
+            piece_size,
+        };
+        Ok((hall, given))
+    }
+
+    /// Gives a plan's study a slot: that which it has already, or else the next that is free, for which its
+    /// disk comes from the shelf. Where it is refused no slot is taken.
+    pub fn submit<S: Shelf<D>, R: Wait>(
+        &self,
+        rt: &R,
+        alloc: Global,
+        pass: &mut Pass<M>,
+        plan: Plan,
+        shelf: &S,
+    ) -> Result<Opened, SubmitFault>
+        requires own { pass.old.hall ≡ self.now.id }
+        requires trusted { self.now.is_trusted ≡ true → S.is_true shelf.now ≡ true }
+        ensures plan { IfOk result (λ o. o.plan ≡ plan) }
+        ensures base { IfOk result (λ o. MayBegin self.now.is_trusted plan o.base) }
+        ensures slot { IfOk result (λ o. o.study < self.now.slots) }
+        ensures pass { pass.new ≡ pass.old }
+    {
+        // That its caller has entered this hall is all that is wanted of the pass here.
+        let _ = pass;
+        for (study, place) in self.places.iter().enumerate() {
+            let mut slot = place.slot.lock(rt);
+            match slot.match_with(&plan) {
+                Match::Same => return slot.opened(alloc, study as u32, &plan),
+                Match::Free => {
+                    let opened = slot.begin(alloc, study as u32, plan, shelf, self.piece_size);
+                    place.changed.notify_all();
+                    return opened;
+                }
+                Match::Other => {}
+            }
+        }
+        Err(SubmitFault::SlotsFull)
+    }
+
+    /// Ends the work in every slot, and wakes those who wait there.
+    pub fn stop<R: Wait>(&self, rt: &R) {
+        for place in &self.places {
+            place.slot.lock(rt).stop();
+            place.changed.notify_all();
+        }
+    }
+
+    /// The line of a cell of an opened study, once every trial of it is held. It waits until then, or until
+    /// it is known that the line won't come. It has at most 294 bytes.
+    pub fn next_row<R: Wait>(
+        &self,
+        rt: &R,
+        alloc: Global,
+        pass: &mut Pass<M>,
+        opened: &Opened,
+        cell: u32,
+    ) -> Result<Vec<u8>, LineFault>
+        requires own { pass.old.hall ≡ self.now.id }
+        requires slot { opened.now.study < self.now.slots }
+        requires cell { cell < length (cells_of opened.now.plan) }
+        ensures line { IfOk result (λ line. line.items ≡ full_line opened.now.plan opened.now.base cell) }
+        ensures short { IfOk result (λ line. length line.items ≤ 294) }
+        ensures pass { pass.new ≡ made_more pass.old (rows_of result) }
+    {
+        self.wait_for_line(rt, alloc, &mut pass.made, opened, cell)
+    }
+
+    /// The line of a cell of an opened study, if it was given before; else none, and `next_row` waits for it. It
+    /// is read from the study's trials once more, and is no call of its book: so a line that is asked for again
+    /// and again takes no memory in the history. It has at most 294 bytes.
+    pub fn given_row<R: Wait>(
+        &self,
+        rt: &R,
+        alloc: Global,
+        opened: &Opened,
+        cell: u32,
+    ) -> Result<Option<Vec<u8>>, LineFault>
+        requires slot { opened.now.study < self.now.slots }
+        requires cell { cell < length (cells_of opened.now.plan) }
+        ensures line { IfOk result (λ found.
+            IfSome found (λ line. line.items ≡ full_line opened.now.plan opened.now.base cell)) }
+        ensures short { IfOk result (λ found. IfSome found (λ line. length line.items ≤ 294)) }
+        ensures why { IfErr result CanNotGiveAgain }
+    {
+        let slot = self.places[opened.study as usize].slot.lock(rt);
+        slot.line_again(alloc, opened, cell)
+    }
+
+    /// The same, with the share of a pass.
+    fn wait_for_line<R: Wait>(
+        &self,
+        rt: &R,
+        alloc: Global,
+        made: &mut Share<M>,
+        opened: &Opened,
+        cell: u32,
+    ) -> Result<Vec<u8>, LineFault>
+        requires part { made.old.parts ≡ 1 }
+        requires slot { opened.now.study < self.now.slots }
+        requires cell { cell < length (cells_of opened.now.plan) }
+        ensures line { IfOk result (λ line. line.items ≡ full_line opened.now.plan opened.now.base cell) }
+        ensures short { IfOk result (λ line. length line.items ≤ 294) }
+        ensures part { made.new.parts ≡ 1 }
+        ensures made { made.new.amount ≡ made.old.amount + rows_of result }
+    {
+        let place = &self.places[opened.study as usize];
+        let mut slot = place.slot.lock(rt);
+        for _ in rt.forever() {
+            match slot.line(rt, alloc, &self.accounts, made, opened, cell) {
+                Ok(Some(line)) => return Ok(line),
+                Ok(None) => {}
+                Err(fault) => return Err(fault),
+            }
+            slot = place.changed.wait_while(rt, slot, |slot| {
+                !self.accounts.lock(rt).is_full() && slot.is_pending(cell)
+            });
+        }
+        unreachable!()
+    }
+
+    /// How many trials of a study the passes counted: at least as many as this pass was told before.
+    pub fn counted(&self, pass: &mut Pass<M>, study: u32) -> Result<u64, SeatFault>
+        requires { pass.old.hall ≡ self.now.id }
+        ensures pass { (pass.new.hall ≡ pass.old.hall) × (pass.new.made ≡ pass.old.made) }
+        ensures reads { IfOk result (λ n. pass.new.view ≡ read pass.old.view study n) }
+        ensures seen { IfOk result (λ n. n ≡ seen_in study pass.new.view) }
+        ensures rises { IfOk result (λ n. seen_in study pass.old.view ≤ n) }
+        ensures why { IsRefusedBy (read_refusal self.now.slots study) result }
+        ensures err { OnErr result (pass.new ≡ pass.old) }
+    {
+        self.board.read(&mut pass.seat, study)
+    }
+}
+
+/// The slots, each without a book and with a part of the ledger of kept calls.
+fn places_of<D: Disk + Drop, K: Tally>(
+    alloc: Global,
+    slots: u32,
+    mut rest: Share<K>,
+) -> Result<Vec<Place<D, K>>, AllocError>
+    requires parts { rest.parts ≡ slots }
+    requires none { rest.amount ≡ 0 }
+    ensures { IfOk result (λ places. vec_len places ≡ slots) }
+{
+    let mut places = Vec::with_capacity(alloc, slots as usize)?;
+    for _ in 0..slots {
+        let slot = Slot::free(alloc, rest.split_off(1, 0));
+        places.push_reserved(Place {
+            slot: Mutex::new(slot),
+            changed: Condvar::new(),
+            bench: SharedBench::none(),
+        });
+    }
+    Ok(places)
+}
+
+/// The passes, each a seat with a part of the ledger of made calls.
+fn deal<M: Tally>(
+    alloc: Global,
+    board: &Board,
+    mut seats: Vec<Seat>,
+    mut rest: Share<M>,
+) -> Result<Vec<Pass<M>>, AllocError>
+    requires own { All (λ s. board_of s ≡ board_id board.now) seats.items }
+    requires idle { All (λ s. view_of s ≡ idle 1) seats.items }
+    requires parts { rest.parts ≡ length seats.items }
+    requires none { rest.amount ≡ 0 }
+    ensures many { IfOk result (λ passes. length passes.items ≡ length seats.items) }
+    ensures own { IfOk result (λ passes. All (λ p. p.hall ≡ board_id board.now) passes.items) }
+    ensures idle { IfOk result (λ passes. All (λ p. (p.view ≡ idle 1) × (p.made ≡ 0)) passes.items) }
+{
+    let mut passes = Vec::new(alloc);
+    while let Some(seat) = seats.pop() {
+        let made = rest.split_off(1, 0);
+        passes.push(Pass { seat, made })?;
+    }
+    Ok(passes)
+}

@@ -1,0 +1,458 @@
+ghost use Rattle.std.specs.Prelude.{◌≡◌, ◌+◌, ◌<◌, ◌≤◌, ◌&&◌, ◌↔◌, true, false, not, [], length, take};
+ghost use Rattle.std.specs.Prelude.{Some, None, is_some, IsTrue, IfOk, IfSome, IfNone, OnOk, OnErr, IfErr, IsErrOf};
+ghost use Rattle.std.specs.Prelude.{Bool, replicate, slice_index_or, slice_set};
+ghost use Rattle.std.specs.List.{list_any};
+ghost use Rattle.cut_plan.specs.Cells.{cells_of};
+ghost use Rattle.cut_hall.specs.Lines.{full_line};
+ghost use Rattle.cut_hall.specs.Report.{calls_told};
+ghost use Rattle.cut_book.specs.Book.{HandsIn, MayRefuse, answer_of};
+ghost use Rattle.cut_hall.specs.Trust.{MayBegin, IsSettledBy-prop, begun_props};
+ghost use Rattle.cut_hall.specs.Slot.{calls_in, IsBegun, base_of, kept_of, unkept_of, Matches, TakesResult, TakesLoss, GivesLine, calls_of, losses_of, lines_of};
+ghost use Rattle.cut_book.specs.Book.{IsFresh};
+ghost use Rattle.cut_hall.specs.Slot.{IsOpenedAs, TellsUndone, AnswersLine, AnswersAgain, IsNotDone, is_pending, remembered_after, piece_at, HasDone, HasPlan};
+
+use crate::accounts::Accounts;
+use crate::{LineFault, SlotReport, Tally};
+use cut_book::{Book, BookFault, Opened, Shelf, SubmitFault, open_book};
+use cut_disks::Disk;
+use cut_plan::Plan;
+use cut_table::{RowFault, row};
+use cut_trial::{Piece, PieceResult};
+use std::alloc::Global;
+use std::sync::ledger::Share;
+use std::sync::{Mutex, Wait};
+
+/// Whether a slot has the book of a plan.
+#[derive(Clone, Copy)]
+pub(crate) enum Match {
+    /// It has no book.
+    Free,
+    /// It has.
+    Same,
+    /// It has the book of another plan.
+    Other,
+}
+
+/// Why a call of a slot's book did nothing.
+#[derive(Drop)]
+pub(crate) enum CallFault {
+    /// There is no book.
+    NoBook,
+    /// No further call can be counted.
+    Full,
+    /// The book refused it.
+    Refused(BookFault),
+}
+
+/// A place for the book of one study in a hall, with how many calls it had, and which of its lines were given.
+#[derive(Drop)]
+pub(crate) struct Slot<D: Disk, K: Tally> {
+    book: Option<Book<D>>,
+    kept: Share<K>,
+    stopped: bool,
+    /// Of each cell whether its line was given. Where this is shorter, it is not remembered.
+    given: Vec<bool>,
+    ghost one_part: { kept.parts ≡ 1 },
+    ghost counted: { kept.amount ≡ calls_in book },
+    ghost first: { take (length (base_of book)) (kept_of book) ≡ base_of book },
+    ghost unkept: { unkept_of book ≡ [] },
+    ghost begun: { IfSome book (λ b. MayBegin K.trusts b.state.ledger.plan b.state.ledger.base) } by { Prim.hlevel begun_props },
+}
+
+impl<D: Disk + Drop, K: Tally> Slot<D, K> {
+    /// A slot without a book.
+    pub(crate) fn free(alloc: Global, kept: Share<K>) -> Slot<D, K>
+        requires { (kept.parts ≡ 1) × (kept.amount ≡ 0) }
+        ensures book { result.book ≡ None }
+        ensures works { result.stopped ≡ false }
+    {
+        Slot {
+            book: None,
+            kept,
+            stopped: false,
+            given: Vec::new(alloc),
+        }
+    }
+
+    /// A slot with the book of a study, of which nothing was asked yet. It does not remember which lines it
+    /// gives.
+    pub(crate) fn of_book(alloc: Global, book: Book<D>, kept: Share<K>) -> Slot<D, K>
+        requires part { (kept.parts ≡ 1) × (kept.amount ≡ 0) }
+        requires fresh { IsFresh book.state.ledger.plan book.size book }
+        requires begun { MayBegin K.trusts book.state.ledger.plan book.state.ledger.base }
+        ensures book { result.book ≡ Some book }
+        ensures works { result.stopped ≡ false }
+    {
+        Slot {
+            book: Some(book),
+            kept,
+            stopped: false,
+            given: Vec::new(alloc),
+        }
+    }
+
+    /// Whether it has the book of a plan.
+    pub(crate) fn match_with(&self, plan: &Plan) -> Match
+        ensures { Matches result self.now.book plan.now }
+    {
+        let Some(book) = &self.book else {
+            return Match::Free;
+        };
+        if book.ledger().plan().same(plan) {
+            Match::Same
+        } else {
+            Match::Other
+        }
+    }
+
+    /// Hands a result to the book.
+    pub(crate) fn hand_in<M: Tally, R: Wait>(
+        &mut self,
+        rt: &R,
+        accounts: &Mutex<Accounts<M, K>>,
+        made: &mut Share<M>,
+        offered: &PieceResult,
+    ) -> Result<(), CallFault>
+        requires { made.old.parts ≡ 1 }
+        ensures taken { TakesResult result offered.now self.old.book self.new.book }
+        ensures calls { calls_in self.new.book ≡ calls_in self.old.book + calls_of result }
+        ensures made { made.new.amount ≡ made.old.amount + calls_of result }
+        ensures parts { made.new.parts ≡ 1 }
+    {
+        let Slot { book, kept, .. } = self;
+        let Some(book) = book else {
+            return Err(CallFault::NoBook);
+        };
+        if accounts.lock(rt).enter(made, kept).is_err() {
+            return Err(CallFault::Full);
+        }
+        match hand_to(book, offered) {
+            Ok(()) => Ok(()),
+            Err(BookFault::Memory) => {
+                accounts.lock(rt).take_back(made, kept);
+                Err(CallFault::Refused(BookFault::Memory))
+            }
+            Err(fault) => Err(CallFault::Refused(fault)),
+        }
+    }
+
+    /// Tells the book that a piece is lost.
+    pub(crate) fn lose<M: Tally, R: Wait>(
+        &mut self,
+        rt: &R,
+        accounts: &Mutex<Accounts<M, K>>,
+        made: &mut Share<M>,
+        piece: u64,
+    ) -> Result<(), CallFault>
+        requires { made.old.parts ≡ 1 }
+        ensures taken { TakesLoss result piece self.old.book self.new.book }
+        ensures calls { calls_in self.new.book ≡ calls_in self.old.book + losses_of result }
+        ensures made { made.new.amount ≡ made.old.amount + losses_of result }
+        ensures parts { made.new.parts ≡ 1 }
+    {
+        let Slot { book, kept, .. } = self;
+        let Some(book) = book else {
+            return Err(CallFault::NoBook);
+        };
+        if accounts.lock(rt).enter(made, kept).is_err() {
+            return Err(CallFault::Full);
+        }
+        match book.lose(piece) {
+            Ok(()) => Ok(()),
+            Err(fault) => {
+                accounts.lock(rt).take_back(made, kept);
+                Err(CallFault::Refused(fault))
+            }
+        }
+    }
+
+    /// The line of a cell of an opened study, once every trial of it is held; none while it can still come.
+    pub(crate) fn line<M: Tally, R: Wait>(
+        &mut self,
+        rt: &R,
+        alloc: Global,
+        accounts: &Mutex<Accounts<M, K>>,
+        made: &mut Share<M>,
+        opened: &Opened,
+        cell: u32,
+    ) -> Result<Option<Vec<u8>>, LineFault>
+        requires cell { cell < length (cells_of opened.now.plan) }
+        requires part { made.old.parts ≡ 1 }
+        ensures line { IfOk result (λ found.
+            IfSome found (λ line. line.items ≡ full_line opened.now.plan opened.now.base cell)) }
+        ensures short { IfOk result (λ found. IfSome found (λ line. length line.items ≤ 294)) }
+        ensures given { GivesLine result cell self.old.book self.new.book }
+        ensures answers { AnswersLine result opened.now cell self.old.book }
+        ensures waits { IfOk result (λ found. IfNone found (self.old.stopped ≡ false)) }
+        ensures remembered { self.new.given.items ≡ remembered_after result cell self.old.given.items }
+        ensures stays { self.new.stopped ≡ self.old.stopped }
+        ensures calls { calls_in self.new.book ≡ calls_in self.old.book + lines_of result }
+        ensures made { made.new.amount ≡ made.old.amount + lines_of result }
+        ensures parts { made.new.parts ≡ 1 }
+    {
+        let Slot {
+            book,
+            kept,
+            stopped,
+            given,
+        } = self;
+        let Some(book) = book else {
+            return Err(LineFault::AuditMismatch);
+        };
+        if !is_opened_as(book, opened) {
+            return Err(LineFault::AuditMismatch);
+        }
+        if !book.ledger().cell_done(cell) {
+            may_still_come(book, *stopped || accounts.lock(rt).is_full())?;
+            return Ok(None);
+        }
+        if accounts.lock(rt).enter(made, kept).is_err() {
+            return Err(LineFault::Stopped);
+        }
+        match book.row(alloc, cell) {
+            Ok(line) => {
+                remember(given, cell);
+                Ok(Some(line))
+            }
+            Err(_) => {
+                accounts.lock(rt).take_back(made, kept);
+                Err(LineFault::WorkMemory)
+            }
+        }
+    }
+
+    /// Whether the line of a cell is still to come: the cell is not done, the book is whole, no piece is lost, and
+    /// the slot works. Those who wait ask this at each wake-up: it takes the same short time whatever the study began
+    /// with.
+    pub(crate) fn is_pending(&self, cell: u32) -> bool
+        ensures { result ≡ is_pending self.now.book self.now.stopped cell }
+    {
+        match &self.book {
+            Some(book) => is_pending(book, self.stopped, cell),
+            None => false,
+        }
+    }
+
+    /// The line of a cell of an opened study, if it was given before: it is read from the ledger once more, which
+    /// is no call of the book.
+    pub(crate) fn line_again(
+        &self,
+        alloc: Global,
+        opened: &Opened,
+        cell: u32,
+    ) -> Result<Option<Vec<u8>>, LineFault>
+        requires { cell < length (cells_of opened.now.plan) }
+        ensures line { IfOk result (λ found.
+            IfSome found (λ line. line.items ≡ full_line opened.now.plan opened.now.base cell)) }
+        ensures short { IfOk result (λ found. IfSome found (λ line. length line.items ≤ 294)) }
+        ensures answers { AnswersAgain result opened.now cell self.now.book }
+        ensures given { IfOk result (λ found.
+            IfSome found (λ line. slice_index_or self.now.given.items cell false ≡ true)) }
+        ensures not_given { IfOk result (λ found. IfNone found
+            (slice_index_or self.now.given.items cell false ≡ true → IsNotDone self.now.book cell)) }
+    {
+        let Some(book) = &self.book else {
+            return Err(LineFault::AuditMismatch);
+        };
+        let is_its_book = is_opened_as(book, opened);
+        if !is_its_book {
+            return Err(LineFault::AuditMismatch);
+        }
+        if self.given.get(cell as usize) != Some(&true) {
+            return Ok(None);
+        }
+        match row(alloc, book.ledger(), cell) {
+            Ok(line) => Ok(Some(line)),
+            Err(RowFault::NotDone(_)) => Ok(None),
+            Err(RowFault::Memory) => Err(LineFault::WorkMemory),
+        }
+    }
+
+    /// Begins a study in a slot that has no book: its disk comes from the shelf, and the journal on it is
+    /// opened again, or made where it holds no study. Where it is refused the slot is as it was.
+    pub(crate) fn begin<S: Shelf<D>>(
+        &mut self,
+        alloc: Global,
+        study: u32,
+        plan: Plan,
+        shelf: &S,
+        piece_size: u32,
+    ) -> Result<Opened, SubmitFault>
+        requires free { self.old.book ≡ None }
+        requires size { 1 ≤ piece_size }
+        requires trusted { K.trusts ≡ true → S.is_true shelf.now ≡ true }
+        ensures opened { IfOk result (λ o. (o.study ≡ study) × (o.plan ≡ plan)) }
+        ensures base { IfOk result (λ o. MayBegin K.trusts plan o.base) }
+        ensures begun { IfOk result (λ o. IsBegun o piece_size self.new.book) }
+        ensures none_given { OnOk result (self.new.given.items ≡ replicate (length (cells_of plan)) false) }
+        ensures stays { self.new.stopped ≡ self.old.stopped }
+        ensures err { OnErr result (self.new ≡ self.old) }
+    {
+        let copy = plan.try_clone(alloc)?;
+        let given = vec![in alloc; false; plan.cells() as usize]?;
+        let book = open_book(alloc, plan, shelf, piece_size)?;
+        let base = book.ledger().base().try_clone(alloc)?;
+        self.book = Some(book);
+        self.given = given;
+        Ok(Opened {
+            study,
+            plan: copy,
+            base,
+        })
+    }
+
+    /// What was opened in the slot, which has the book of this plan.
+    pub(crate) fn opened(
+        &self,
+        alloc: Global,
+        study: u32,
+        plan: &Plan,
+    ) -> Result<Opened, SubmitFault>
+        requires { Matches Match.Same self.now.book plan.now }
+        ensures opened { IfOk result (λ o. (o.study ≡ study) × (o.plan ≡ plan.now)) }
+        ensures base { IfOk result (λ o. o.base ≡ base_of self.now.book) }
+        ensures begun { IfOk result (λ o. MayBegin K.trusts plan.now o.base) }
+    {
+        let Some(book) = &self.book else {
+            unreachable!()
+        };
+        let base = book.ledger().base().try_clone(alloc)?;
+        let plan = plan.try_clone(alloc)?;
+        Ok(Opened { study, plan, base })
+    }
+
+    /// Ends the work in the slot.
+    pub(crate) fn stop(&mut self)
+        ensures book { self.new.book ≡ self.old.book }
+        ensures stopped { self.new.stopped ≡ true }
+    {
+        self.stopped = true;
+    }
+
+    /// Whether the work in the slot was ended.
+    pub(crate) fn is_stopped(&self) -> bool
+        ensures { result ≡ self.now.stopped }
+    {
+        self.stopped
+    }
+
+    /// Ends the slot: what became of it, and the share of its calls.
+    pub(crate) fn end(self) -> (SlotReport, Share<K>)
+        ensures part { result.1.parts ≡ 1 }
+        ensures calls { result.1.amount ≡ calls_told result.0.history }
+    {
+        let Slot { book, kept, .. } = self;
+        let Some(book) = book else {
+            return (SlotReport::new(None, false), kept);
+        };
+        let complete = book.ledger().complete();
+        let (history, _) = book.into_parts();
+        (SlotReport::new(Some(history), complete), kept)
+    }
+
+    /// Whether there is a study.
+    pub(crate) fn has_book(&self) -> bool
+        ensures { result ≡ is_some self.now.book }
+    {
+        self.book.is_some()
+    }
+
+    /// Whether there is nothing to work on yet: there is no book, and the work was not ended.
+    pub(crate) fn is_idle(&self) -> bool
+        ensures { result ≡ (not (is_some self.now.book) && not self.now.stopped) }
+    {
+        self.book.is_none() && !self.stopped
+    }
+
+    /// A copy of the study's plan, if there is a study, and memory for it.
+    pub(crate) fn plan(&self, alloc: Global) -> Option<Plan>
+        ensures { IfSome result (λ plan. HasPlan self.now.book plan) }
+    {
+        match &self.book {
+            Some(book) => book.ledger().plan().try_clone(alloc).ok(),
+            None => None,
+        }
+    }
+
+    /// Whether there is a study, and this cell of it is done.
+    pub(crate) fn is_done(&self, cell: u32) -> bool
+        ensures { IsTrue result ↔ HasDone self.now.book cell }
+    {
+        match &self.book {
+            Some(book) => cell < book.ledger().plan().cells() && book.ledger().cell_done(cell),
+            None => false,
+        }
+    }
+
+    /// The piece of a number in the book's division.
+    pub(crate) fn piece(&self, number: u64) -> Option<Piece>
+        ensures { result ≡ piece_at self.now.book number }
+    {
+        match &self.book {
+            Some(book) => book.piece(number),
+            None => None,
+        }
+    }
+}
+
+/// Hands a result to a book, which keeps what it began with.
+fn hand_to<D: Disk + Drop>(book: &mut Book<D>, offered: &PieceResult) -> Result<(), BookFault>
+    ensures answer { HandsIn (answer_of result book.old.state) offered.now book.old book.new }
+    ensures faults_told { IfErr result MayRefuse }
+    ensures first { take (length book.old.state.ledger.base) book.old.state.kept ≡ book.old.state.ledger.base
+        → take (length book.new.state.ledger.base) book.new.state.kept ≡ book.new.state.ledger.base }
+    ensures unkept { unkept_of (Some book.old) ≡ [] → unkept_of (Some book.new) ≡ [] }
+    ensures plan { book.new.state.ledger.plan ≡ book.old.state.ledger.plan }
+    ensures base { book.new.state.ledger.base ≡ book.old.state.ledger.base }
+{
+    book.hand_in(offered)
+}
+
+/// Notes that the line of a cell was given.
+fn remember(given: &mut Vec<bool>, cell: u32)
+    ensures { given.new.items ≡ slice_set given.old.items cell true }
+{
+    if let Some(is_given) = given.get_mut(cell as usize) {
+        *is_given = true;
+    }
+}
+
+/// Whether a book is of an opened study: of its plan, and begun with its slips.
+fn is_opened_as<D: Disk + Drop>(book: &Book<D>, opened: &Opened) -> bool
+    ensures yes { result ≡ true → IsOpenedAs opened.now book.now }
+    ensures no { result ≡ false → IsOpenedAs opened.now book.now → ⊥ }
+{
+    let ledger = book.ledger();
+    ledger.plan().same(&opened.plan) && ledger.same_base(&opened.base)
+}
+
+/// Whether a cell is not done and can still be.
+fn is_pending<D: Disk + Drop>(book: &Book<D>, stopped: bool, cell: u32) -> bool
+    ensures { result ≡ is_pending (Some book.now) stopped cell }
+{
+    let ledger = book.ledger();
+    cell < ledger.plan().cells()
+        && !ledger.cell_done(cell)
+        && !book.is_broken()
+        && !book.has_lost()
+        && !stopped
+}
+
+/// Whether a cell that is not done can still be: the book is whole, no piece is lost, and work goes on.
+fn may_still_come<D: Disk + Drop>(book: &Book<D>, stopped: bool) -> Result<(), LineFault>
+    ensures ok { OnOk result ((book.now.state.broken ≡ false)
+        × (list_any (λ is_lost. is_lost) book.now.state.lost ≡ false) × (stopped ≡ false)) }
+    ensures err { IfErr result (λ fault. TellsUndone fault book.now.state) }
+    ensures stopped { IsErrOf result LineFault.Stopped → stopped ≡ true }
+{
+    if book.is_broken() {
+        return Err(LineFault::Checkpoint);
+    }
+    if book.has_lost() {
+        return Err(LineFault::WorkMemory);
+    }
+    if stopped {
+        return Err(LineFault::Stopped);
+    }
+    Ok(())
+}

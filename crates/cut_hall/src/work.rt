@@ -1,0 +1,345 @@
+ghost use Rattle.std.specs.Prelude.{◌≡◌, ◌+◌, ◌<◌, ◌≤◌, IfOk, IfSome, if◌then◌else◌};
+ghost use Rattle.cut_hall.specs.Slot.{losses_of};
+ghost use Rattle.cut_trial.specs.Outcome.{rings_of};
+
+use crate::slot::CallFault;
+use crate::{Gate, Hall, Pass, Tally};
+use cut_book::BookFault;
+use cut_disks::Disk;
+use cut_plan::Plan;
+use cut_rings::Rings;
+use cut_trial::{Piece, PieceResult, run_piece};
+use std::alloc::Global;
+use std::sync::{Mutex, OnceLock, Wait};
+
+/// What workers need for the pieces of a study: a copy of its plan, with the rings.
+#[derive(Drop)]
+pub(crate) struct Bench {
+    plan: Plan,
+    rings: Rings,
+    ghost of_plan: { rings ≡ rings_of plan },
+}
+
+/// The bench of a study, which the first worker that needs it makes and all workers share.
+#[derive(Drop)]
+pub(crate) struct SharedBench {
+    bench: OnceLock<Bench>,
+    making: Mutex<bool>,
+}
+
+/// How a worker goes on after a turn.
+#[derive(Clone, Copy, PartialEq, Eq)]
+enum Next {
+    /// With the next piece of the study.
+    Piece,
+    /// With another study, since this one's pieces are all drawn.
+    Study,
+    /// Not at all.
+    Nothing,
+}
+
+/// A piece that was drawn: the number of its study, its own, and what it is.
+#[derive(Clone, Copy)]
+struct Drawn {
+    study: u32,
+    number: u64,
+    piece: Piece,
+}
+
+impl Bench {
+    /// The bench of a plan's study, if there is memory for it.
+    fn new(alloc: Global, plan: Plan) -> Option<Bench>
+        ensures { IfSome result (λ bench. bench.plan ≡ plan) }
+    {
+        let rings = Rings::hashed(alloc, &plan).ok()?;
+        Some(Bench { plan, rings })
+    }
+
+    /// Runs a piece, if there is memory for it.
+    fn run(&self, alloc: Global, piece: Piece) -> Option<PieceResult>
+        ensures { IfSome result (λ r. r ≡ record { plan = self.now.plan; piece = piece }) }
+    {
+        run_piece(alloc, &self.plan, &self.rings, piece).ok()
+    }
+}
+
+impl SharedBench {
+    /// No bench yet.
+    pub(crate) fn none() -> SharedBench {
+        SharedBench {
+            bench: OnceLock::new(),
+            making: Mutex::new(false),
+        }
+    }
+}
+
+impl<D: Disk + Drop, M: Tally, K: Tally> Hall<D, M, K> {
+    /// Works on the studies in the order of their slots, on each as long as pieces of it can be drawn, and then
+    /// waits for the next. Each piece is drawn, runs once the gate lets it pass, and is handed in; an accepted
+    /// one is counted on the board. A piece for which memory runs out twice, or for the result of which it does, is
+    /// lost, and a study whose disk has failed is left.
+    ///
+    /// It returns after `stop`, and where nothing more can be drawn by this pass, or counted by the hall.
+    pub fn work<R: Wait, G: Gate>(&self, rt: &R, alloc: Global, pass: &mut Pass<M>, gate: &G)
+        requires { pass.old.hall ≡ self.now.id }
+        ensures own { pass.new.hall ≡ pass.old.hall }
+        ensures made { pass.old.made ≤ pass.new.made }
+    {
+        for study in 0..self.places.len() as u32 {
+            if self.wait_for_study(rt, study) || !self.work_off(rt, alloc, pass, gate, study) {
+                return;
+            }
+        }
+        self.wait_for_stop(rt);
+    }
+
+    /// Works on the pieces of one study until none are left to be drawn, as `work` does on each, for a caller that
+    /// lends its thread for so long. In a slot without a study it does nothing. Returns whether it may go on with
+    /// another study: not after `stop`, nor where
+    /// nothing more can be drawn by this pass, or counted by the hall.
+    pub fn work_off<R: Wait, G: Gate>(
+        &self,
+        rt: &R,
+        alloc: Global,
+        pass: &mut Pass<M>,
+        gate: &G,
+        study: u32,
+    ) -> bool
+        requires own { pass.old.hall ≡ self.now.id }
+        requires slot { study < self.now.slots }
+        ensures own { pass.new.hall ≡ pass.old.hall }
+        ensures made { pass.old.made ≤ pass.new.made }
+    {
+        for _ in rt.forever() {
+            match self.turn(rt, alloc, pass, gate, study) {
+                Next::Piece => {}
+                Next::Study => return true,
+                Next::Nothing => return false,
+            }
+        }
+        unreachable!()
+    }
+
+    /// Works on the pieces of a study until a cell of it is done, or none are left to be drawn, so that who then
+    /// asks for the cell's line waits for no piece that nobody has begun.
+    pub fn work_on_cell<R: Wait, G: Gate>(
+        &self,
+        rt: &R,
+        alloc: Global,
+        pass: &mut Pass<M>,
+        gate: &G,
+        study: u32,
+        cell: u32,
+    )
+        requires own { pass.old.hall ≡ self.now.id }
+        requires slot { study < self.now.slots }
+        ensures own { pass.new.hall ≡ pass.old.hall }
+        ensures made { pass.old.made ≤ pass.new.made }
+    {
+        for _ in rt.forever() {
+            if self.is_done(rt, study, cell) {
+                return;
+            }
+            match self.turn(rt, alloc, pass, gate, study) {
+                Next::Piece => {}
+                Next::Study | Next::Nothing => return,
+            }
+        }
+    }
+
+    /// Draws a piece of a study, runs it and hands it in.
+    fn turn<R: Wait, G: Gate>(
+        &self,
+        rt: &R,
+        alloc: Global,
+        pass: &mut Pass<M>,
+        gate: &G,
+        study: u32,
+    ) -> Next
+        requires own { pass.old.hall ≡ self.now.id }
+        requires slot { study < self.now.slots }
+        ensures own { pass.new.hall ≡ pass.old.hall }
+        ensures made { pass.old.made ≤ pass.new.made }
+    {
+        let drawn = match self.draw_piece(rt, pass, study) {
+            Ok(drawn) => drawn,
+            Err(next) => return next,
+        };
+        gate.pass(rt, drawn.piece);
+        match self.compute_twice(rt, alloc, drawn) {
+            Some(result) => self.hand_in(rt, pass, drawn, &result),
+            None => match self.lose(rt, pass, study, drawn.number) {
+                Err(CallFault::Full) => Next::Nothing,
+                _ => Next::Piece,
+            },
+        }
+    }
+
+    /// Draws the next piece of a study, or returns how the worker goes on without one. Nothing is drawn in a slot
+    /// that has no study yet, so that the study which comes later has all its pieces.
+    fn draw_piece<R: Wait>(&self, rt: &R, pass: &mut Pass<M>, study: u32) -> Result<Drawn, Next>
+        requires own { pass.old.hall ≡ self.now.id }
+        requires slot { study < self.now.slots }
+        ensures study { IfOk result (λ drawn. drawn.study ≡ study) }
+        ensures own { pass.new.hall ≡ pass.old.hall }
+        ensures made { pass.new.made ≡ pass.old.made }
+    {
+        let slot = self.places[study as usize].slot.lock(rt);
+        if slot.is_stopped() {
+            return Err(Next::Nothing);
+        }
+        if !slot.has_book() {
+            return Err(Next::Study);
+        }
+        let Ok(number) = self.board.draw(&mut pass.seat, study) else {
+            return Err(Next::Nothing);
+        };
+        match slot.piece(number) {
+            Some(piece) => Ok(Drawn {
+                study,
+                number,
+                piece,
+            }),
+            None => Err(Next::Study),
+        }
+    }
+
+    /// Runs a piece, and once more where memory ran out.
+    fn compute_twice<R: Wait>(&self, rt: &R, alloc: Global, drawn: Drawn) -> Option<PieceResult>
+        requires { drawn.study < self.now.slots }
+        ensures { IfSome result (λ r. r.piece ≡ drawn.piece) }
+    {
+        match self.compute(rt, alloc, drawn) {
+            Some(result) => Some(result),
+            None => self.compute(rt, alloc, drawn),
+        }
+    }
+
+    /// Runs a piece, if there is memory for it.
+    fn compute<R: Wait>(&self, rt: &R, alloc: Global, drawn: Drawn) -> Option<PieceResult>
+        requires { drawn.study < self.now.slots }
+        ensures { IfSome result (λ r. r.piece ≡ drawn.piece) }
+    {
+        self.bench(rt, alloc, drawn.study)?.run(alloc, drawn.piece)
+    }
+
+    /// The bench of a study, if it has been made or there is memory to make it. Others who need it wait meanwhile,
+    /// and where memory runs out the next of them tries again.
+    fn bench<R: Wait>(&self, rt: &R, alloc: Global, study: u32) -> Option<&Bench>
+        requires { study < self.now.slots }
+    {
+        let shared = &self.places[study as usize].bench;
+        if let Some(bench) = shared.bench.get() {
+            return Some(bench);
+        }
+        let mut is_made = shared.making.lock(rt);
+        if !*is_made {
+            let plan = self.plan(rt, alloc, study)?;
+            let _ = shared.bench.set(rt, Bench::new(alloc, plan)?);
+            *is_made = true;
+        }
+        shared.bench.get()
+    }
+
+    /// Hands a result in. Where it is accepted its trials are counted before the lock is given back. A study
+    /// whose disk has failed takes no more, so the worker leaves it.
+    fn hand_in<R: Wait>(
+        &self,
+        rt: &R,
+        pass: &mut Pass<M>,
+        drawn: Drawn,
+        offered: &PieceResult,
+    ) -> Next
+        requires own { pass.old.hall ≡ self.now.id }
+        requires slot { drawn.study < self.now.slots }
+        ensures own { pass.new.hall ≡ pass.old.hall }
+        ensures made { pass.old.made ≤ pass.new.made }
+    {
+        let place = &self.places[drawn.study as usize];
+        let mut slot = place.slot.lock(rt);
+        let next = match slot.hand_in(rt, &self.accounts, &mut pass.made, offered) {
+            Ok(()) => {
+                let trials = u64::from(drawn.piece.count);
+                let _ = self.board.count(&mut pass.seat, drawn.study, trials);
+                Next::Piece
+            }
+            Err(CallFault::Full) => Next::Nothing,
+            Err(CallFault::Refused(BookFault::Memory)) => {
+                let _ = slot.lose(rt, &self.accounts, &mut pass.made, drawn.number);
+                Next::Piece
+            }
+            Err(CallFault::Refused(BookFault::Checkpoint)) => Next::Study,
+            Err(_) => Next::Piece,
+        };
+        place.changed.notify_all();
+        next
+    }
+
+    /// Gives a piece of a study up, by its number from 0 in the study's division, as a worker does where memory for
+    /// it is refused: whoever asks for the line of its cell is told so, where that is not done. Returns whether it is
+    /// noted, which is a call of the pass: not where there is no study or no such piece, or it was given up before.
+    pub fn give_up<R: Wait>(&self, rt: &R, pass: &mut Pass<M>, study: u32, piece: u64) -> bool
+        requires own { pass.old.hall ≡ self.now.id }
+        requires slot { study < self.now.slots }
+        ensures own { pass.new.hall ≡ pass.old.hall }
+        ensures made { pass.new.made ≡ (if result then pass.old.made + 1 else pass.old.made) }
+    {
+        self.lose(rt, pass, study, piece).is_ok()
+    }
+
+    /// Tells a piece lost.
+    fn lose<R: Wait>(
+        &self,
+        rt: &R,
+        pass: &mut Pass<M>,
+        study: u32,
+        piece: u64,
+    ) -> Result<(), CallFault>
+        requires own { pass.old.hall ≡ self.now.id }
+        requires slot { study < self.now.slots }
+        ensures own { pass.new.hall ≡ pass.old.hall }
+        ensures made { pass.new.made ≡ pass.old.made + losses_of result }
+    {
+        let place = &self.places[study as usize];
+        let told = place
+            .slot
+            .lock(rt)
+            .lose(rt, &self.accounts, &mut pass.made, piece);
+        place.changed.notify_all();
+        told
+    }
+
+    /// Whether a cell of a study is done.
+    fn is_done<R: Wait>(&self, rt: &R, study: u32, cell: u32) -> bool
+        requires { study < self.now.slots }
+    {
+        self.places[study as usize].slot.lock(rt).is_done(cell)
+    }
+
+    /// A copy of a study's plan, if there is memory for it.
+    fn plan<R: Wait>(&self, rt: &R, alloc: Global, study: u32) -> Option<Plan>
+        requires { study < self.now.slots }
+    {
+        self.places[study as usize].slot.lock(rt).plan(alloc)
+    }
+
+    /// Waits until a slot has a study, or the work in it is ended: whether it is.
+    fn wait_for_study<R: Wait>(&self, rt: &R, study: u32) -> bool
+        requires { study < self.now.slots }
+    {
+        let place = &self.places[study as usize];
+        let slot = place
+            .changed
+            .wait_while(rt, place.slot.lock(rt), |slot| slot.is_idle());
+        slot.is_stopped()
+    }
+
+    /// Waits until the work is ended.
+    fn wait_for_stop<R: Wait>(&self, rt: &R) {
+        if let Some(place) = self.places.first() {
+            place
+                .changed
+                .wait_while(rt, place.slot.lock(rt), |slot| !slot.is_stopped());
+        }
+    }
+}

@@ -1,0 +1,23 @@
+-- The faults of a migration in the program's list of faults, and as they are printed.
+use Rattle.std.specs.Prelude.{ℕ, List}
+use Rattle.std.specs.Fmt.{decimal}
+use Rattle.cut_faults.specs.declared.code.FaultCode.{FaultCode}
+use Rattle.cut_faults.specs.declared.code.FaultCode.TheVariants as code
+use Rattle.cut_faults.specs.Codes.{code_text, text_carrying}
+use Rattle.cut_migration.specs.declared.fault.MigrateFault.{MigrateFault}
+use Rattle.cut_migration.specs.declared.fault.MigrateFault.TheVariants.{Memory, NotVersion1, BadSlip, OtherPlan, Disagrees, Broken, Disk}
+
+abbrev pub code_of : MigrateFault → FaultCode
+code_of Memory = code.Memory
+code_of NotVersion1 = code.NotVersion1
+code_of (BadSlip number) = code.BadSlip
+code_of OtherPlan = code.OtherPlan
+code_of (Disagrees number) = code.Disagrees
+code_of Broken = code.Broken
+code_of Disk = code.Disk
+
+-- number, name, and the number of the slip
+abbrev pub fault_text : MigrateFault → List ℕ
+fault_text (BadSlip number) = text_carrying code.BadSlip (decimal number)
+fault_text (Disagrees number) = text_carrying code.Disagrees (decimal number)
+fault_text fault = code_text (code_of fault)

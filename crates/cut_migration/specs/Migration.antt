@@ -1,0 +1,133 @@
+-- What a migration leaves: the slips of a study of version 1, worked out anew for the plan's upgrade.
+use Rattle.std.specs.Prelude.{◌≡◌, ◌≢◌, ◌⊎◌, ◌≤◌, ◌<◌, ◌+◌, ◌-◌, ◌++◌, ℕ, List, length, [], ◌∷◌, map, take, slice_index_or, Option, None, Some, IsSome, Result, Ok, Err, ⊤}
+use Rattle.cut_faults.specs.Failures.{one_more}
+use Rattle.cut_plan.specs.declared.version.Version.TheVariants.{One, Two}
+use Rattle.cut_plan.specs.Targets.{upgraded}
+use Rattle.cut_plan.specs.Values.{Values}
+use Rattle.cut_plan.specs.Versions.{version_of}
+use Rattle.cut_trial.specs.Sum.{sum_of, trials_in}
+use Rattle.cut_disks.specs.State.{DiskState, Throughout}
+use Rattle.cut_ledger.specs.declared.slip.Slip.{Slip}
+use Rattle.cut_ledger.specs.Slips.{AreGood, IsFirstBad}
+use Rattle.cut_ledger.specs.World.{IsTrueSlip}
+use Rattle.cut_migration.specs.declared.fault.MigrateFault.{MigrateFault}
+use Rattle.cut_migration.specs.declared.fault.MigrateFault.TheVariants.{Memory, NotVersion1, BadSlip, OtherPlan, Disagrees, Broken, Disk}
+use Rattle.cut_journal.specs.declared.fault.JournalFault.{JournalFault}
+use Rattle.cut_journal.specs.declared.fault.JournalFault.TheVariants as journal
+use Rattle.cut_journal.specs.Journal.{Log, ReadsAs}
+
+-- a slip of the plan's upgrade: the same piece, with the sums that its trials have there
+abbrev pub moved : Values → Slip → Slip
+moved v s = record { piece = s.piece; totals = sum_of (upgraded v) (trials_in s.piece) }
+
+-- the first n slips, moved
+abbrev pub first_moved : Values → List Slip → ℕ → List Slip
+first_moved v ss n = map (moved v) (take n ss)
+
+-- the first n slips are true
+abbrev pub AreTrueUpTo : Values → List Slip → ℕ → Type 0
+AreTrueUpTo v ss n = (i : ℕ) (d : Slip) → i < n → IsTrueSlip v (slice_index_or ss i d)
+
+-- slip number n, from 1, is the first that is not true
+pub record IsFirstUntrue (v : Values) (ss : List Slip) (n : ℕ) : Type 0 where
+  pub numbered : 1 ≤ n
+  pub within : n ≤ length ss
+  pub earlier : AreTrueUpTo v ss (n - 1)
+  pub untrue : (d : Slip) → IsTrueSlip v (slice_index_or ss (n - 1) d) → ⊥
+
+-- these slips of a plan can be moved to a journal: a ledger can begin with them, and the journal is the upgrade's
+pub record CanMove {D : Type 0} (v : Values) (ss : List Slip) (log : Log D) : Type 0 where
+  pub version : version_of v.failing ≡ One
+  pub good : AreGood v ss
+  pub plan : log.plan ≡ upgraded v
+
+-- the first n slips, which are true, were moved, and no more; only a journal that is not broken takes one
+pub record HasMoved {D : Type 0} (v : Values) (ss : List Slip) (n : ℕ) (old new : Log D) : Type 0 where
+  pub within : n ≤ length ss
+  pub true : AreTrueUpTo v ss n
+  pub plan : new.plan ≡ old.plan
+  pub count : new.count ≡ old.count + n
+  pub taken : 1 ≤ n → old.doubtful ≡ None
+  pub untouched : n ≡ 0 → new ≡ old
+
+-- the first n slips were moved, and the disk failed while the next one was, which is true too and doubtful now
+pub record HasFailed {D : Type 0} (v : Values) (ss : List Slip) (n : ℕ) (old new : Log D) : Type 0 where
+  pub within : n < length ss
+  pub true : AreTrueUpTo v ss (n + 1)
+  pub plan : new.plan ≡ old.plan
+  pub count : new.count ≡ old.count + n
+  pub whole : old.doubtful ≡ None
+  pub doubtful : (d : Slip) → new.doubtful ≡ Some (moved v (slice_index_or ss n d))
+
+-- how a migration ends, by its answer: how many slips it moved, which are all; or why it stopped, and what it
+-- moved before. A refusal of memory may come at any step once the version is known.
+abbrev pub Ends : {D : Type 0} → Result ℕ MigrateFault → Values → List Slip → Log D → Log D → Type 0
+Ends (Ok n) v ss old new =
+    (n ≡ length ss) × CanMove v ss old × HasMoved v ss n old new × (new.doubtful ≡ old.doubtful)
+Ends (Err NotVersion1) v ss old new = (version_of v.failing ≡ Two) × (new ≡ old)
+Ends (Err (BadSlip n)) v ss old new = (version_of v.failing ≡ One) × IsFirstBad v ss n × (new ≡ old)
+Ends (Err OtherPlan) v ss old new =
+    (version_of v.failing ≡ One) × AreGood v ss × (old.plan ≢ upgraded v) × (new ≡ old)
+Ends (Err (Disagrees n)) v ss old new =
+    CanMove v ss old × IsFirstUntrue v ss n × HasMoved v ss (n - 1) old new × (new.doubtful ≡ old.doubtful)
+Ends (Err Broken) v ss old new =
+    CanMove v ss old × (1 ≤ length ss) × AreTrueUpTo v ss 1 × IsSome old.doubtful × (new ≡ old)
+Ends (Err Disk) v ss old new = CanMove v ss old × ((n : ℕ) × HasFailed v ss n old new)
+Ends (Err Memory) v ss old new =
+    (version_of v.failing ≡ One)
+    × ((new ≡ old)
+    ⊎ (CanMove v ss old × ((n : ℕ) × (HasMoved v ss n old new × (new.doubtful ≡ old.doubtful)))))
+
+-- slips are appended one after another to those that are kept: while one is appended, each crash at each moment
+-- leaves those before it, or those and it; once it is acknowledged, it is one of those that each later crash leaves.
+-- After the last of them the doubtful one, where there is one, may be there too
+abbrev pub AppendsEach : Values → List Slip → Option Slip → List Slip → DiskState → DiskState → Type 0
+AppendsEach v kept doubtful [] old new = Throughout old new (ReadsAs v kept doubtful)
+AppendsEach v kept doubtful (slip ∷ slips) old new =
+    (mid : DiskState) × (Throughout old mid (ReadsAs v kept (Some slip))
+    × AppendsEach v (kept ++ slip ∷ []) doubtful slips mid new)
+
+-- how many calls of the disk failed after a migration: one more exactly where it answers that fault
+abbrev pub moving_faults : {T : Type 0} → Result T MigrateFault → ℕ → ℕ
+moving_faults (Err Disk) n = one_more n
+moving_faults result n = n
+
+-- ---- the move of one slip
+
+-- the fault of an append, as a migration tells it; an append has no other faults than these three
+abbrev pub fault_of : JournalFault → MigrateFault
+fault_of journal.Disk = Disk
+fault_of journal.Broken = Broken
+fault_of fault = OtherPlan
+
+-- how it ends: the slip is true and was taken; or why it was not
+abbrev pub MovesOne : {T D : Type 0} → Result T MigrateFault → Values → ℕ → Slip → Log D → Log D → Type 0
+MovesOne (Ok done) v number s old new =
+    IsTrueSlip v s × (new.plan ≡ old.plan) × (new.count ≡ old.count + 1) × (old.doubtful ≡ None)
+    × (new.doubtful ≡ None)
+MovesOne (Err (Disagrees n)) v number s old new = (n ≡ number) × (IsTrueSlip v s → ⊥) × (new ≡ old)
+MovesOne (Err Broken) v number s old new = IsTrueSlip v s × IsSome old.doubtful × (new ≡ old)
+MovesOne (Err Disk) v number s old new =
+    IsTrueSlip v s × (new.plan ≡ old.plan) × (new.count ≡ old.count) × (old.doubtful ≡ None)
+    × (new.doubtful ≡ Some (moved v s))
+MovesOne (Err Memory) v number s old new = new ≡ old
+MovesOne (Err fault) v number s old new = ⊥
+
+-- the slip, where it was taken
+abbrev pub taken : {T E : Type 0} → Result T E → Slip → List Slip
+taken (Ok done) slip = slip ∷ []
+taken (Err fault) slip = []
+
+-- the slips that are kept after it
+abbrev pub kept_after : {T : Type 0} → Result T MigrateFault → Slip → List Slip → List Slip
+kept_after (Ok done) slip slips = slips ++ slip ∷ []
+kept_after (Err fault) slip slips = slips
+
+-- ---- whether there can be a migration
+
+-- a ledger can begin with the slips of a plan, or this is the first with which it can not
+abbrev pub IsJudgedBy : {T : Type 0} → Result T MigrateFault → Values → List Slip → Type 0
+IsJudgedBy (Ok done) v ss = AreGood v ss
+IsJudgedBy (Err (BadSlip n)) v ss = IsFirstBad v ss n
+IsJudgedBy (Err Memory) v ss = ⊤
+IsJudgedBy (Err fault) v ss = ⊥

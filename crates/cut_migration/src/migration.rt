@@ -1,0 +1,199 @@
+ghost use Rattle.std.specs.Prelude.{◌≡◌, ◌+◌, ◌<◌, ◌^◌, ◌↔◌, ◌++◌, ℕ, length, IfOk, OnOk, IfErr, IsErrOf, IsTrue};
+ghost use Rattle.cut_plan.specs.declared.version.Version.TheVariants.{One, Two};
+ghost use Rattle.cut_plan.specs.Plan.{IsPlan};
+ghost use Rattle.cut_plan.specs.Targets.{upgraded};
+ghost use Rattle.cut_plan.specs.Versions.{version_of};
+ghost use Rattle.cut_trial.specs.Outcome.{rings_of};
+ghost use Rattle.cut_trial.specs.Sum.{is_piece, sum_of, trials_in, without_settled};
+ghost use Rattle.cut_ledger.specs.Slips.{AreGood};
+ghost use Rattle.cut_ledger.specs.World.{IsTrueSlip};
+ghost use Rattle.cut_journal.specs.Journal.{kept_slips};
+ghost use Rattle.cut_migration.specs.Migration.{AppendsEach, Ends, IsJudgedBy, MovesOne, fault_of, first_moved, kept_after, moved, moving_faults, taken};
+
+use crate::MigrateFault;
+use cut_disks::Disk;
+use cut_journal::{Journal, JournalFault};
+use cut_ledger::{Ledger, Slip, SlipsFault};
+use cut_plan::{Plan, Version};
+use cut_rings::Rings;
+use cut_trial::laws::{pieces_have_possible_totals, upgrades_keep_outcomes};
+use cut_trial::{PieceResult, Totals, TrialFault, run_piece};
+use std::alloc::Global;
+
+/// Moves the slips of a study of version 1 to the journal of its plan's upgrade: runs the trials of each slip
+/// again for the upgrade, and keeps the result where the numbers that both versions tell are those of the
+/// slip. It answers how many slips it moved, which are all.
+///
+/// It is refused before any write where the plan is not of version 1, then where a slip is one that no ledger
+/// begins with, and then where the journal is not that of the upgrade. After that the first slip whose sums are
+/// not those of its trials ends it, as do a broken journal, a disk that fails, and memory that is refused: the
+/// slips before the present one are kept then, and no later one; where the disk failed the present one may be
+/// kept too.
+///
+/// Each slip is moved by one append. So a crash at any moment leaves the slips that were acknowledged by then, and
+/// at most one more.
+pub fn migrate<D: Disk>(
+    alloc: Global,
+    slips: &[Slip],
+    plan: &Plan,
+    journal: &mut Journal<D>,
+) -> Result<u64, MigrateFault>
+    ensures version { IsErrOf result MigrateFault.NotVersion1 ↔ (version_of plan.now.failing ≡ Two) }
+    ensures ends { Ends result plan.now slips.now journal.old journal.new }
+    ensures moments { D.is_honest journal.old.disk → (n : ℕ) → journal.new.count ≡ journal.old.count + n →
+        AppendsEach journal.old.plan (kept_slips journal.old.plan journal.old.count (D.state journal.old.disk))
+        journal.new.doubtful (first_moved plan.now slips.now n)
+        (D.state journal.old.disk) (D.state journal.new.disk) }
+    ensures kept { D.is_honest journal.old.disk → (n : ℕ) → journal.new.count ≡ journal.old.count + n →
+        kept_slips journal.new.plan journal.new.count (D.state journal.new.disk)
+        ≡ kept_slips journal.old.plan journal.old.count (D.state journal.old.disk)
+        ++ first_moved plan.now slips.now n }
+    ensures honest { D.is_honest journal.old.disk ↔ D.is_honest journal.new.disk }
+    ensures faults { D.faults journal.new.disk ≡ moving_faults result (D.faults journal.old.disk) }
+{
+    // For the proof: what always holds of a journal.
+    let _ = journal.disk();
+    if plan.version() != Version::One {
+        return Err(MigrateFault::NotVersion1);
+    }
+    judge(alloc, plan, slips)?;
+    let upgrade = plan.upgrade(alloc)?;
+    if !journal.plan().same(&upgrade) {
+        return Err(MigrateFault::OtherPlan);
+    }
+    let rings = Rings::hashed(alloc, &upgrade)?;
+    let target = Target {
+        plan,
+        upgrade: &upgrade,
+        rings: &rings,
+    };
+    move_slips(alloc, slips, target, journal)
+}
+
+/// Whether a ledger can begin with these slips.
+fn judge(alloc: Global, plan: &Plan, slips: &[Slip]) -> Result<(), MigrateFault>
+    ensures { IsJudgedBy result plan.now slips.now }
+{
+    match Ledger::from_slips(alloc, plan.try_clone(alloc)?, slips) {
+        Ok(_) => Ok(()),
+        Err(SlipsFault::BadSlip(number)) => Err(MigrateFault::BadSlip(number)),
+        Err(SlipsFault::Memory) => Err(MigrateFault::Memory),
+    }
+}
+
+/// A plan of version 1, its upgrade, and the rings of the upgrade.
+#[derive(Clone, Copy)]
+struct Target<'a> {
+    plan: &'a Plan,
+    upgrade: &'a Plan,
+    rings: &'a Rings,
+    ghost accepted: { IsPlan plan.now },
+    ghost version: { version_of plan.now.failing ≡ One },
+    ghost upgrade_of: { upgrade.now ≡ upgraded plan.now },
+    ghost belong: { rings.now ≡ rings_of upgrade.now },
+}
+
+/// Moves slips one after another.
+fn move_slips<D: Disk>(
+    alloc: Global,
+    slips: &[Slip],
+    target: Target<'_>,
+    journal: &mut Journal<D>,
+) -> Result<u64, MigrateFault>
+    requires good { AreGood target.plan.now slips.now }
+    requires plan { journal.old.plan ≡ upgraded target.plan.now }
+    ensures ends { Ends result target.entry.plan.now slips.now journal.old journal.new }
+    ensures version { IsErrOf result MigrateFault.NotVersion1 → ⊥ }
+    ensures moments { D.is_honest journal.old.disk → (n : ℕ) → journal.new.count ≡ journal.old.count + n →
+        AppendsEach journal.old.plan (kept_slips journal.old.plan journal.old.count (D.state journal.old.disk))
+        journal.new.doubtful (first_moved target.entry.plan.now slips.now n)
+        (D.state journal.old.disk) (D.state journal.new.disk) }
+    ensures kept { D.is_honest journal.old.disk → (n : ℕ) → journal.new.count ≡ journal.old.count + n →
+        kept_slips journal.new.plan journal.new.count (D.state journal.new.disk)
+        ≡ kept_slips journal.old.plan journal.old.count (D.state journal.old.disk)
+        ++ first_moved target.entry.plan.now slips.now n }
+    ensures honest { D.is_honest journal.old.disk ↔ D.is_honest journal.new.disk }
+    ensures faults { D.faults journal.new.disk ≡ moving_faults result (D.faults journal.old.disk) }
+{
+    // For the proof: what always holds of a journal.
+    let _ = journal.disk();
+    let mut count = 0;
+    for slip in slips {
+        move_slip(alloc, slip, count + 1, target, journal)?;
+        count += 1;
+    }
+    Ok(count)
+}
+
+/// Moves a slip, which has this number.
+fn move_slip<D: Disk>(
+    alloc: Global,
+    slip: &Slip,
+    number: u64,
+    target: Target<'_>,
+    journal: &mut Journal<D>,
+) -> Result<(), MigrateFault>
+    requires piece { IsTrue (is_piece target.plan.now slip.now.piece) }
+    requires plan { journal.old.plan ≡ upgraded target.plan.now }
+    ensures ends { MovesOne result target.entry.plan.now number slip.now journal.old journal.new }
+    ensures moments { D.is_honest journal.old.disk →
+        AppendsEach journal.old.plan (kept_slips journal.old.plan journal.old.count (D.state journal.old.disk))
+        journal.new.doubtful (taken result (moved target.entry.plan.now slip.now))
+        (D.state journal.old.disk) (D.state journal.new.disk) }
+    ensures kept { D.is_honest journal.old.disk →
+        kept_slips journal.new.plan journal.new.count (D.state journal.new.disk)
+        ≡ kept_after result (moved target.entry.plan.now slip.now)
+        (kept_slips journal.old.plan journal.old.count (D.state journal.old.disk)) }
+    ensures honest { D.is_honest journal.old.disk ↔ D.is_honest journal.new.disk }
+    ensures faults { D.faults journal.new.disk ≡ moving_faults result (D.faults journal.old.disk) }
+{
+    // For the proof: what always holds of a journal.
+    let _ = journal.disk();
+    let result = match run_piece(alloc, target.upgrade, target.rings, slip.piece) {
+        Ok(result) => result,
+        Err(TrialFault::Memory) => return Err(MigrateFault::Memory),
+        // A piece of the plan is one of its upgrade, so this doesn't come.
+        Err(TrialFault::BadPiece) => return Err(MigrateFault::BadSlip(number)),
+    };
+    if !is_true(slip, &result, target) {
+        return Err(MigrateFault::Disagrees(number));
+    }
+    match journal.append(&result) {
+        Ok(_) => Ok(()),
+        Err(fault) => Err(fault_of(fault)),
+    }
+}
+
+/// The fault of an append, as a migration answers it.
+fn fault_of(fault: JournalFault) -> MigrateFault
+    ensures { result ≡ fault_of fault }
+{
+    match fault {
+        JournalFault::Disk => MigrateFault::Disk,
+        JournalFault::Broken => MigrateFault::Broken,
+        _ => MigrateFault::OtherPlan,
+    }
+}
+
+/// Whether a slip of a plan of version 1 has the sums that its trials give, which are those of the upgrade
+/// but for `settled`, as the result for the upgrade has them.
+fn is_true(slip: &Slip, found: &PieceResult, target: Target<'_>) -> bool
+    requires piece { IsTrue (is_piece target.plan.now slip.now.piece) }
+    requires found { found.now ≡ record { plan = target.upgrade.now; piece = slip.now.piece } }
+    ensures { IsTrue result ↔ IsTrueSlip target.entry.plan.now slip.now }
+{
+    pieces_have_possible_totals();
+    upgrades_keep_outcomes();
+    let untold = Totals {
+        settled: 0,
+        ..found.totals()
+    };
+    are_same(untold, slip.totals)
+}
+
+/// Whether two sums are the same, number by number.
+fn are_same(one: Totals, other: Totals) -> bool
+    ensures { IsTrue result ↔ (one ≡ other) }
+{
+    one == other
+}

@@ -1,0 +1,48 @@
+use Rattle.std.proofs.Common.{◌∙◌, [], refl, arith}
+use Rattle.cut_wires.specs.Sending.{sending}
+use Rattle.cut_session.proofs.Turns.{rises_none, none_sent, goes_on, is_over, is_cut}
+use Rattle.cut_session.proofs.answer.Session.answer_all.Goals as goal
+
+pub loop-message-init : goal.loop-message-init
+loop-message-init g c = record {
+  replies = (
+    [],
+    (rises_none c.args.self.now.pass.now.view, refl),
+    omega arith,
+    none_sent (sending g.W.Wire.log c.args.line.now) (omega (arith, c.sent-sent.ensures)),
+  );
+  hall = refl;
+  pass = refl;
+}
+
+pub loop-message-preserved : goal.loop-message-preserved
+loop-message-preserved g c =
+    let log = g.W.Wire.log in
+    record {
+      replies = goes_on c.args.self.now.hall.now c.loop-message.self.hall.now c.args.self.now.pass.now.view
+          c.loop-message.self.pass.now.view c.answer.new.self.pass.now.view c.args.messages.now c.loop-message.message-index
+          c.message-item.result c.answer.result (sending log c.args.line.now) (sending log c.loop-message.line)
+          (sending log c.answer.new.line) c.loop-message-test.true c.message-item.is c.loop-message.invariant.replies
+          c.loop-message.invariant.hall c.answer.ensures.serves (cc);
+      hall = c.answer.ensures.stays.0 ∙ c.loop-message.invariant.hall;
+      pass = c.answer.ensures.stays.1 ∙ c.loop-message.invariant.pass;
+    }
+
+pub returns-in-Ok-Over-clause-serves : goal.returns-in-Ok-Over-clause-serves
+returns-in-Ok-Over-clause-serves g c =
+    let log = g.W.Wire.log in
+    is_over c.args.self.now.hall.now c.loop-message.self.hall.now c.args.self.now.pass.now.view
+    c.loop-message.self.pass.now.view c.answer.new.self.pass.now.view c.args.messages.now c.loop-message.message-index
+    c.message-item.result c.answer.result (sending log c.args.line.now) (sending log c.loop-message.line)
+    (sending log c.answer.new.line) c.loop-message-test.true c.message-item.is c.loop-message.invariant.replies
+    c.loop-message.invariant.hall c.answer.ensures.serves (cc)
+
+pub returns-in-Err-clause-serves : goal.returns-in-Err-clause-serves
+returns-in-Err-clause-serves g c =
+    let log = g.W.Wire.log in
+    is_cut c.args.self.now.hall.now c.loop-message.self.hall.now c.args.self.now.pass.now.view
+    c.loop-message.self.pass.now.view c.answer.new.self.pass.now.view c.args.messages.now c.loop-message.message-index
+    c.message-item.result c.answer.result (sending log c.args.line.now) (sending log c.loop-message.line)
+    (sending log c.answer.new.line) c.loop-message-test.true c.message-item.is c.loop-message.invariant.replies
+    c.loop-message.invariant.hall c.answer.ensures.serves c.in-Err.fault
+    c.in-Err.is

@@ -1,0 +1,53 @@
+use Rattle.std.proofs.Common.{◌∙◌, ◌+◌, refl, sym, arith}
+use Rattle.cut_wires.specs.Sending.{sending}
+use Rattle.cut_session.proofs.Courses.{ends_full}
+use Rattle.cut_session.proofs.Feeding.{served_over, served_cut, served_limit, served_fault, served_on}
+use Rattle.cut_session.proofs.answer.Session.take_piece.Goals as goal
+
+pub returns-in-Err-clause-goes : goal.returns-in-Err-clause-goes
+returns-in-Err-clause-goes g c = λ low first none_sent s.
+    ends_full s c.requires.few none_sent c.leave.result (sending g.W.Wire.log c.leave.new.line) c.requires.piece.0
+    c.requires.piece.1 c.leave.ensures
+
+pub returns-in-Ok-Over-clause-goes : goal.returns-in-Ok-Over-clause-goes
+returns-in-Ok-Over-clause-goes g c = λ low first none_sent s.
+    served_over s c.in-Ok.fed.messages.items c.as_slice-messages.result.now c.min-count.result
+    (c.in-Ok.ensures.reads s.stream s.messages s.read) c.in-Ok.ensures.side c.as_slice-messages.ensures.value
+    (omega (arith, c.min-count.ensures, c.requires.few)) (omega (arith, c.min-count.ensures)) none_sent
+    c.answer_all.result (sending g.W.Wire.log c.answer_all.new.line) c.answer_all.ensures.serves (cc)
+
+pub returns-in-Err-answer_all-clause-goes : goal.returns-in-Err-answer_all-clause-goes
+returns-in-Err-answer_all-clause-goes g c = λ low first none_sent s.
+    rw c.sent.ensures (served_cut s c.in-Ok.fed.messages.items c.as_slice-messages.result.now c.min-count.result
+    (c.in-Ok.ensures.reads s.stream s.messages s.read) c.in-Ok.ensures.side c.as_slice-messages.ensures.value
+    (omega (arith, c.min-count.ensures, c.requires.few)) (omega (arith, c.min-count.ensures)) none_sent
+    c.answer_all.result (sending g.W.Wire.log c.answer_all.new.line) c.answer_all.ensures.serves
+    c.in-Err-answer_all.field-0 c.in-Err-answer_all.is)
+
+pub returns-then-count-messages-clause-goes : goal.returns-then-count-messages-clause-goes
+returns-then-count-messages-clause-goes g c = λ low first none_sent s.
+    served_limit s c.in-Ok.fed.messages.items c.as_slice-messages.result.now c.min-count.result
+    (c.in-Ok.ensures.reads s.stream s.messages s.read) c.in-Ok.ensures.side c.as_slice-messages.ensures.value
+    (omega (arith, c.min-count.ensures, c.requires.few)) (omega (arith, c.min-count.ensures)) none_sent
+    c.answer_all.result (sending g.W.Wire.log c.answer_all.new.line) c.answer_all.ensures.serves
+    c.leave-then-count-messages.result (sending g.W.Wire.log c.leave-then-count-messages.new.line) (cc)
+    (omega (arith, c.min-count.ensures, c.if-count-messages.true, c.requires.few)) c.if-count-messages.true
+    c.leave-then-count-messages.ensures
+
+pub returns-in-Some-clause-goes : goal.returns-in-Some-clause-goes
+returns-in-Some-clause-goes g c = λ low first none_sent s.
+    served_fault s c.in-Ok.fed.messages.items c.as_slice-messages.result.now c.min-count.result
+    (c.in-Ok.ensures.reads s.stream s.messages s.read) c.in-Ok.ensures.side c.as_slice-messages.ensures.value
+    (omega (arith, c.min-count.ensures, c.requires.few)) (omega (arith, c.min-count.ensures)) none_sent
+    c.answer_all.result (sending g.W.Wire.log c.answer_all.new.line) c.answer_all.ensures.serves
+    c.in-Some.fault c.leave-in-Some.result (sending g.W.Wire.log c.leave-in-Some.new.line) (cc)
+    (omega (arith, c.if-count-messages.false)) (sym c.in-Ok.ensures.fault ∙ c.in-Some.is) c.leave-in-Some.ensures
+
+pub returns-clause-goes : goal.returns-clause-goes
+returns-clause-goes g c = λ low first none_sent s.
+    served_on s c.in-Ok.fed.messages.items c.as_slice-messages.result.now c.min-count.result
+    (c.in-Ok.ensures.reads s.stream s.messages s.read) c.in-Ok.ensures.side c.as_slice-messages.ensures.value
+    (omega (arith, c.min-count.ensures, c.requires.few)) (omega (arith, c.min-count.ensures)) none_sent
+    c.answer_all.result (sending g.W.Wire.log c.answer_all.new.line) c.answer_all.ensures.serves
+    (c.args.requests + c.min-count.result) (cc) (omega (arith, c.if-count-messages.false))
+    (sym c.in-Ok.ensures.fault ∙ c.in-None.is) refl

@@ -1,0 +1,68 @@
+-- How a run of a study ends, by how the writing of its table ended and how its hall was closed.
+use Rattle.std.proofs.Common.{◌≡◌, ◌∙◌, ◌≤◌, ◌++◌, ◌∷◌, [], ℕ, Bool, List, Result, Ok, Err, length}
+use Rattle.std.proofs.Common.{inr, sym, ap, subst, arith, take_all}
+use Rattle.std.specs.Prelude.{IfOk, OnOk}
+use Rattle.std.proofs.lemmas.List.Sums.{sum_by-append}
+use Rattle.cut_plan.specs.Values.{Values}
+use Rattle.cut_plan.specs.Cells.{cells_of}
+use Rattle.cut_ledger.specs.declared.slip.Slip.{Slip}
+use Rattle.cut_ledger.specs.Machine.{table_over}
+use Rattle.cut_ledger.specs.Slips.{AreGood}
+use Rattle.cut_wires.specs.Log.{Log, wrote}
+use Rattle.cut_study.specs.declared.emit.EmitFault.{EmitFault}
+use Rattle.cut_study.specs.declared.emit.EmitFault.TheVariants as emit
+use Rattle.cut_study.specs.declared.run_fault.RunFault.{RunFault}
+use Rattle.cut_study.specs.declared.run_fault.RunFault.TheVariants.{BadSlip, Checkpoint, Write, WorkMemory, AuditMismatch}
+use Rattle.cut_study.specs.declared.study.Done.{Done}
+use Rattle.cut_study.specs.Conclusion.{NoWriteFailed, Concludes}
+use Rattle.cut_study.specs.Emission.{Emits, WrotePrefix}
+use Rattle.cut_hall.specs.Pass.{Holding}
+use Rattle.cut_hall.specs.Report.{SlotEnd, calls_in_all, made_in_all}
+use Rattle.cut_study.specs.Running.{HasEnded, Takes}
+
+-- the calls of the last pass are among those of all
+pub last_of_all : (passes : List Holding) (last : Holding) → last.made ≤ made_in_all (passes ++ last ∷ [])
+last_of_all passes last = omega (arith, sum_by-append (λ (p : Holding). p.made) passes (last ∷ []))
+
+-- where no write failed, some first bytes were written
+prefix_by : (whole : List ℕ) (sent : Result ℕ EmitFault) (old new : Log) → NoWriteFailed sent
+    → Emits whole sent old new → WrotePrefix whole old new
+prefix_by whole (Ok n) old new fine emits =
+    (length whole, emits.1 ∙ ap (λ (xs : List ℕ). wrote old xs) (sym (take_all (length whole) whole (omega arith))))
+prefix_by whole (Err (emit.Write n)) old new fine emits = absurd fine
+prefix_by whole (Err (emit.Line fault)) old new fine emits = emits
+
+module _ (v : Values) (slips : List Slip) (has_journal : Bool) (sent : Result ℕ EmitFault)
+    (closed : Result (List SlotEnd) RunFault) where
+  pub ended : (result : Result Done RunFault) (old new : Log) → AreGood v slips → Emits (table_over v slips) sent old new
+      → IfOk closed (λ report. length report ≡ 1)
+      → OnOk sent (IfOk closed (λ report. length (cells_of v) ≤ calls_in_all report))
+      → Concludes sent closed has_journal result → HasEnded v slips has_journal result
+  ended (Ok d) old new good emits one calls is =
+      let all : IfOk closed (λ report. length (cells_of v) ≤ calls_in_all report) =
+      subst (λ (s : Result ℕ EmitFault). OnOk s (IfOk closed (λ report. length (cells_of v) ≤ calls_in_all report)))
+      is.0 calls in (
+        good,
+        (subst (λ (s : Result ℕ EmitFault). Emits (table_over v slips) s old new) is.0 emits).0,
+        subst (λ (c : Result (List SlotEnd) RunFault). IfOk c (λ report. length report ≡ 1)) is.1 one,
+        subst (λ (c : Result (List SlotEnd) RunFault). IfOk c (λ report. length (cells_of v) ≤ calls_in_all report))
+            is.1 all,
+      )
+  ended (Err (BadSlip n)) old new good emits one calls is = absurd is
+  ended (Err Checkpoint) old new good emits one calls is = (good, is.1)
+  ended (Err (Write n)) old new good emits one calls is =
+      (good, (subst (λ (s : Result ℕ EmitFault). Emits (table_over v slips) s old new) is emits).0)
+  ended (Err WorkMemory) old new good emits one calls is = tt
+  ended (Err AuditMismatch) old new good emits one calls is = good
+
+  pub takes : (result : Result Done RunFault) (old new : Log) → AreGood v slips
+      → Emits (table_over v slips) sent old new → Concludes sent closed has_journal result
+      → Takes v slips result old new
+  takes (Ok d) old new good emits is =
+      (subst (λ (s : Result ℕ EmitFault). Emits (table_over v slips) s old new) is.0 emits).1
+  takes (Err (BadSlip n)) old new good emits is = absurd is
+  takes (Err Checkpoint) old new good emits is = prefix_by (table_over v slips) sent old new is.0 emits
+  takes (Err (Write n)) old new good emits is =
+      (subst (λ (s : Result ℕ EmitFault). Emits (table_over v slips) s old new) is emits).1
+  takes (Err WorkMemory) old new good emits is = inr (good, prefix_by (table_over v slips) sent old new is emits)
+  takes (Err AuditMismatch) old new good emits is = prefix_by (table_over v slips) sent old new is emits

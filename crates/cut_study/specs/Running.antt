@@ -1,0 +1,41 @@
+-- How a study ends that is run from its beginning, or from its slips, to its end.
+use Rattle.std.specs.Prelude.{◌≡◌, ◌⊎◌, ◌<◌, ◌≤◌, Bool, IsTrue, List, [], length, take, Option, Some, None, Vec, Result, Ok, Err, ⊤}
+use Rattle.cut_plan.specs.Values.{Values}
+use Rattle.cut_plan.specs.Cells.{cells_of}
+use Rattle.cut_ledger.specs.declared.slip.Slip.{Slip}
+use Rattle.cut_ledger.specs.Machine.{table_over}
+use Rattle.cut_ledger.specs.Slips.{AreGood, IsFirstBad}
+use Rattle.cut_wires.specs.Log.{Log, wrote, write_failed}
+use Rattle.cut_study.specs.Emission.{WrotePrefix}
+use Rattle.cut_hall.specs.Report.{calls_in_all}
+use Rattle.cut_study.specs.declared.run_fault.RunFault.{RunFault}
+use Rattle.cut_study.specs.declared.run_fault.RunFault.TheVariants.{BadSlip, Checkpoint, Write, WorkMemory, AuditMismatch}
+use Rattle.cut_study.specs.declared.study.Done.{Done}
+
+-- the slips with which a study begins: those of its journal, or none
+abbrev pub slips_of : {J A : Type 0} → Option (J × Vec Slip A) → List Slip
+slips_of None = []
+slips_of (Some kept) = kept.1.items
+
+-- how a study of a plan over slips ended, with a journal or without one: all of its table was sent, and its
+-- report is of one slot, whose history has at least a call for each line; or the first bad slip was found; or a
+-- write failed before the last byte; or the journal's disk failed; or the audit; or memory was wanting
+abbrev pub HasEnded : Values → List Slip → Bool → Result Done RunFault → Type 0
+HasEnded v slips has_journal (Ok d) =
+    AreGood v slips × (d.sent ≡ length (table_over v slips)) × (length d.report ≡ 1)
+    × (length (cells_of v) ≤ calls_in_all d.report)
+HasEnded v slips has_journal (Err (BadSlip number)) = IsFirstBad v slips number
+HasEnded v slips has_journal (Err Checkpoint) = AreGood v slips × IsTrue has_journal
+HasEnded v slips has_journal (Err (Write sent)) = AreGood v slips × (sent < length (table_over v slips))
+HasEnded v slips has_journal (Err WorkMemory) = ⊤
+HasEnded v slips has_journal (Err AuditMismatch) = AreGood v slips
+
+-- what the wire took then, and whether a write failed: the table over the slips at Ok, exactly as many of its first
+-- bytes as are reported where a write failed, nothing where a slip is bad, and else some first bytes of it
+abbrev pub Takes : Values → List Slip → Result Done RunFault → Log → Log → Type 0
+Takes v slips (Ok d) old new = new ≡ wrote old (table_over v slips)
+Takes v slips (Err (BadSlip number)) old new = new ≡ old
+Takes v slips (Err (Write sent)) old new = new ≡ write_failed (wrote old (take sent (table_over v slips)))
+Takes v slips (Err WorkMemory) old new = (new ≡ old) ⊎ (AreGood v slips × WrotePrefix (table_over v slips) old new)
+Takes v slips (Err Checkpoint) old new = WrotePrefix (table_over v slips) old new
+Takes v slips (Err AuditMismatch) old new = WrotePrefix (table_over v slips) old new

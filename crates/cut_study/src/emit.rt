@@ -1,0 +1,118 @@
+ghost use Rattle.std.specs.Prelude.{◌≡◌, ◌+◌, ◌<◌, ◌≤◌, length, OnOk};
+ghost use Rattle.cut_plan.specs.Cells.{cells_of};
+ghost use Rattle.cut_ledger.specs.Machine.{table_over};
+ghost use Rattle.cut_study.specs.Emission.{Emits, emitted};
+
+use cut_book::Opened;
+use cut_disks::Disk;
+use cut_hall::{Gate, Hall, LineFault, Pass, Tally};
+use cut_lines::header;
+use cut_wires::{Line, Plain, Rows, RowsFault, Wire, send_rows};
+use std::alloc::Global;
+use std::sync::Wait;
+
+/// Why a study's table was not written to its end.
+#[derive(Clone, Copy)]
+pub(crate) enum EmitFault {
+    /// A write failed, after the wire had taken this many bytes of the table.
+    Write(u64),
+    /// The next line did not come.
+    Line(LineFault),
+}
+
+/// The lines of an opened study, each as soon as it comes. While one does not, this thread works on the study's
+/// pieces too. Each line is one call that the pass made.
+#[derive(Drop)]
+pub(crate) struct StudyRows<'a, D: Disk, M: Tally, K: Tally, G, R> {
+    pub(crate) rt: &'a R,
+    pub(crate) alloc: Global,
+    pub(crate) hall: &'a Hall<D, M, K>,
+    pub(crate) opened: &'a Opened,
+    pub(crate) pass: &'a mut Pass<M>,
+    pub(crate) gate: &'a G,
+    ghost own: { pass.now.hall ≡ hall.now.id },
+    ghost slot: { opened.now.study < hall.now.slots },
+}
+
+impl<D, M, K, G, R> Rows for StudyRows<'_, D, M, K, G, R>
+where
+    D: Disk + Drop,
+    M: Tally,
+    K: Tally,
+    G: Gate,
+    R: Wait,
+{
+    ghost use Rattle.std.proofs.Common.{arith};
+    ghost use Rattle.cut_study.specs.Emission.{Worked, begun, lines_of};
+
+    type Fault = LineFault;
+
+    ghost table = { λ rows. lines_of rows.opened.now.plan rows.opened.now.base };
+
+    ghost HasGiven = { λ first n rows.
+        Worked first.pass.ghost_name first.pass.now n rows.pass.ghost_name rows.pass.now };
+
+    ghost HasFailed = { λ first n fault rows.
+        Worked first.pass.ghost_name first.pass.now n rows.pass.ghost_name rows.pass.now };
+
+    fn header(&self) -> &[u8] {
+        header(&self.opened.plan)
+    }
+
+    fn count(&self) -> u32 {
+        self.opened.plan.cells()
+    }
+
+    fn row(&mut self, place: u32) -> Result<Vec<u8>, LineFault> {
+        let (hall, opened) = (self.hall, self.opened);
+        hall.work_on_cell(
+            self.rt,
+            self.alloc,
+            self.pass,
+            self.gate,
+            opened.study,
+            place,
+        );
+        hall.next_row(self.rt, self.alloc, self.pass, opened, place)
+    }
+
+    ghost begins = { λ rows. begun rows.pass.ghost_name rows.pass.now };
+
+    ghost fits = { λ _. Prim.omega arith };
+}
+
+/// Writes the table of an opened study: the header, and the line of each cell in order. Returns how many bytes the
+/// table has.
+pub(crate) fn emit<D, M, K, W, G, R>(
+    rows: &mut StudyRows<'_, D, M, K, G, R>,
+    wire: &mut W,
+) -> Result<u64, EmitFault>
+where
+    D: Disk + Drop,
+    M: Tally,
+    K: Tally,
+    W: Wire,
+    G: Gate,
+    R: Wait,
+    ensures emits { Emits (table_over rows.old.opened.now.plan rows.old.opened.now.base) result
+        (W.log wire.old) (W.log wire.new) }
+    ensures pass { rows.new.pass.ghost_name ≡ rows.old.pass.ghost_name }
+    ensures own { rows.new.pass.now.hall ≡ rows.old.pass.now.hall }
+    ensures made { OnOk result (rows.old.pass.now.made + length (cells_of rows.old.opened.now.plan)
+        ≤ rows.new.pass.now.made) }
+{
+    let mut line = Line::new(wire);
+    let result = send_rows::<Plain, StudyRows<'_, D, M, K, G, R>, W>(rows, &mut line);
+    emitted(result, line.sent())
+}
+
+/// How the writing of a table ended, by how the sending of its lines did, and by how many bytes were sent then.
+fn emitted(outcome: Result<(), RowsFault<LineFault>>, sent: u64) -> Result<u64, EmitFault>
+    ensures { result ≡ emitted outcome sent }
+{
+    match outcome {
+        Ok(()) => Ok(sent),
+        Err(RowsFault::Write) => Err(EmitFault::Write(sent)),
+        Err(RowsFault::Row(fault)) => Err(EmitFault::Line(fault)),
+    }
+}

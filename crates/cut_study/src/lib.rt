@@ -1,0 +1,13 @@
+//! A study that is run by threads of its own, from its plan to its table on a wire.
+//!
+//! A [`StudyRun`] opens the book of a plan over what its journal keeps, gives it a hall of one slot, lets its workers
+//! draw pieces, and writes each line of the table as soon as its cell is done.
+#![tactic(auto)]
+
+mod emit;
+mod private_hall;
+mod run_fault;
+mod study;
+
+pub use run_fault::RunFault;
+pub use study::{Done, StudyRun};

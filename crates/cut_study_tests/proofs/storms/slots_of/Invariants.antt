@@ -1,0 +1,6 @@
+use Rattle.std.proofs.Common.{◌≡◌}
+use Rattle.cut_study_tests.proofs.storms.slots_of.Given as goal
+
+-- the pass is still the hall's
+abbrev pub invariant-loop-study : goal.invariant-loop-study
+invariant-loop-study g l = l.pass.hall ≡ l.fn.pass.hall

@@ -1,0 +1,4 @@
+pub mod Logs
+pub mod Sendings
+pub mod RowLemmas
+pub mod StreamLemmas

@@ -1,0 +1,53 @@
+-- What was sent over a line, text by text.
+use Rattle.std.proofs.Common.{Result, Ok, Err, ◌≡◌, ◌∙◌, ◌<◌, ◌≤◌, ◌+◌, ◌-◌, ◌^◌, ◌++◌, min, List, ℕ, length, take, refl, sym, ap, subst, arith, append_assoc, append-nil, length-append, length-take-le}
+use Rattle.std.proofs.Math.Seq.{take-append-add}
+use Rattle.std.proofs.lemmas.List.{take-append-le}
+use Rattle.std.specs.Bool.{⊤}
+use Rattle.std.specs.Borrow.{GName}
+use Rattle.cut_wires.specs.Log.{Log, wrote}
+use Rattle.cut_wires.specs.Sending.{Sending, sent_on, cut_off, IsCut, Sends}
+use Rattle.cut_wires.proofs.Logs.{wrote_twice, wrote_none}
+
+-- a line of which the wire is known
+abbrev on : GName → Log → ℕ → Sending
+on wire log sent = record { wire = wire; log = log; sent = sent }
+
+-- two texts that were sent are one
+pub sent_twice : (s : Sending) (xs ys : List ℕ) → sent_on (sent_on s xs) ys ≡ sent_on s (xs ++ ys)
+sent_twice s xs ys =
+    let count : min (min (s.sent + length xs) (2 ^ 64 - 1) + length ys) (2 ^ 64 - 1)
+    ≡ min (s.sent + length (xs ++ ys)) (2 ^ 64 - 1) = omega (arith, length-append xs ys) in
+    ap (λ (l : Log). on s.wire l (min (min (s.sent + length xs) (2 ^ 64 - 1) + length ys) (2 ^ 64 - 1)))
+    (wrote_twice s.log xs ys)
+    ∙ ap (λ (n : ℕ). on s.wire (wrote s.log (xs ++ ys)) n) count
+
+-- a text more
+pub sent_more : (old mid new : Sending) (xs ys : List ℕ) → mid ≡ sent_on old xs → new ≡ sent_on mid ys
+    → new ≡ sent_on old (xs ++ ys)
+sent_more old mid new xs ys first second =
+    second ∙ ap (λ (s : Sending). sent_on s ys) first ∙ sent_twice old xs ys
+
+-- a text that was cut off after another that was sent
+pub cut_after : (old mid new : Sending) (xs ys : List ℕ) → mid ≡ sent_on old xs → IsCut ys mid new
+    → IsCut (xs ++ ys) old new
+cut_after old mid new xs ys first (n, low, is) = (
+  length xs + n,
+  omega (arith, low, length-append xs ys),
+  is ∙ ap (λ (s : Sending). cut_off s)
+      (sent_more old mid (sent_on mid (take n ys)) xs (take n ys) first refl
+      ∙ ap (λ (l : List ℕ). sent_on old l) (sym (take-append-add xs ys n))),
+)
+
+-- a text is cut off where its first bytes are
+pub cut_before : (old new : Sending) (xs ys : List ℕ) → IsCut xs old new → IsCut (xs ++ ys) old new
+cut_before old new xs ys (n, low, is) = (
+  n,
+  omega (arith, low, length-append xs ys),
+  is ∙ ap (λ (l : List ℕ). cut_off (sent_on old l)) (sym (take-append-le n xs ys (omega (arith, low)))),
+)
+
+-- two texts, of which the first was sent
+pub sends_after : {E : Type 0} (result : Result ⊤ E) (old mid new : Sending) (xs ys : List ℕ) → mid ≡ sent_on old xs
+    → Sends result ys mid new → Sends result (xs ++ ys) old new
+sends_after (Ok done) old mid new xs ys first second = sent_more old mid new xs ys first second
+sends_after (Err fault) old mid new xs ys first second = cut_after old mid new xs ys first second

@@ -1,0 +1,6 @@
+pub mod Log
+pub mod Memory
+pub mod Faulty
+pub mod Streams
+pub mod Sending
+pub mod Rows

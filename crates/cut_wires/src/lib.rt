@@ -1,0 +1,25 @@
+//! Wires: devices that bytes are read from and written to, and what is sent over them.
+//!
+//! A [`Wire`] fails at a call now and then, and counts those calls. Contracts see its log: what passed over it, where
+//! that is known, and how many of its calls failed. [`MemoryWire`] and [`FaultyWire`] are wires in memory, and
+//! [`StreamWire`] makes one of a reader and a writer. [`send_all`] writes all of some bytes, and a [`Line`] counts the
+//! bytes that it sends; [`send_rows`] sends a table over it, row by row.
+#![tactic(auto)]
+
+mod faulty_wire;
+mod line;
+mod memory_wire;
+mod rows;
+mod send;
+mod stream_wire;
+#[cfg(test)]
+mod tests;
+mod wire;
+
+pub use faulty_wire::FaultyWire;
+pub use line::Line;
+pub use memory_wire::MemoryWire;
+pub use rows::{Framing, Plain, Rows, RowsFault, send_rows};
+pub use send::{Sent, send_all};
+pub use stream_wire::StreamWire;
+pub use wire::{Wire, WireFault};

@@ -1,0 +1,61 @@
+ghost use Rattle.std.specs.Prelude.{◌≡◌, ◌<◌, ◌≤◌, length, IfOk};
+ghost use Rattle.cut_wires.specs.Sending.{Receives, Sends, sending};
+
+use crate::{Wire, WireFault, send_all};
+
+/// A wire that is borrowed, with a count of the bytes that were sent over it. At 2^64 - 1 the count stays.
+#[derive(Drop)]
+pub struct Line<'a, W> {
+    wire: &'a mut W,
+    sent: u64,
+}
+
+impl<'a, W: Wire> Line<'a, W> {
+    /// A line over a wire, over which nothing was sent yet.
+    pub fn new(wire: &'a mut W) -> Line<'a, W>
+        ensures { sending W.log result ≡
+            record { wire = wire.entry.ghost_name; log = W.log wire.old; sent = 0 } }
+    {
+        Line { wire, sent: 0 }
+    }
+
+    /// A line over a wire over which this many bytes were sent before.
+    pub fn after(wire: &'a mut W, sent: u64) -> Line<'a, W>
+        ensures { sending W.log result ≡
+            record { wire = wire.entry.ghost_name; log = W.log wire.old; sent = sent } }
+    {
+        Line { wire, sent }
+    }
+
+    /// How many bytes were sent, those of a write before one that failed too.
+    pub fn sent(&self) -> u64
+        ensures { result ≡ (sending W.log self.now).sent }
+    {
+        self.sent
+    }
+
+    /// Reads from the wire. Nothing is sent.
+    pub fn read(&mut self, buffer: &mut [u8]) -> Result<usize, WireFault>
+        requires { 0 < length buffer.old }
+        ensures bound { IfOk result (λ n. n ≤ length buffer.new) }
+        ensures reads { Receives result buffer.new (sending W.log self.old) (sending W.log self.new) }
+    {
+        self.wire.read(buffer)
+    }
+
+    /// Sends all the bytes, and counts them. Where a write fails, it counts those that the wire took.
+    pub fn send(&mut self, bytes: &[u8]) -> Result<(), WireFault>
+        ensures { Sends result bytes.now (sending W.log self.old) (sending W.log self.new) }
+    {
+        match send_all(self.wire, bytes) {
+            Ok(()) => {
+                self.sent = self.sent.saturating_add(bytes.len() as u64);
+                Ok(())
+            }
+            Err(part) => {
+                self.sent = self.sent.saturating_add(part.bytes);
+                Err(WireFault)
+            }
+        }
+    }
+}

@@ -1,0 +1,106 @@
+ghost use Rattle.std.specs.Prelude.{◌≡◌, ◌+◌, ◌<◌, ◌≤◌, ℕ, List, length};
+ghost use Rattle.cut_wires.specs.Rows.{Table, Gives, SendsRows};
+ghost use Rattle.cut_wires.specs.Sending.{Sends, sending};
+
+use crate::{Line, Wire, WireFault};
+
+/// How a text is put on a line: as it is, or as the payload of a message.
+pub trait Framing {
+    /// The bytes that are sent for a text.
+    ghost framed: { List ℕ → List ℕ };
+
+    /// Sends a text of at most 65,536 bytes.
+    fn send<W: Wire>(line: &mut Line<'_, W>, text: &[u8]) -> Result<(), WireFault>
+        requires { length text.now ≤ 65536 }
+        ensures { Sends result (framed text.now) (sending W.log line.old) (sending W.log line.new) };
+
+    /// Framing adds at most 5 bytes.
+    ghost short: { (text : List ℕ) → length (framed text) ≤ length text + 5 };
+}
+
+/// A text is sent as it is.
+pub struct Plain;
+
+impl Framing for Plain {
+    ghost use Rattle.std.proofs.Common.{arith};
+
+    ghost framed = { λ text. text };
+
+    fn send<W: Wire>(line: &mut Line<'_, W>, text: &[u8]) -> Result<(), WireFault> {
+        line.send(text)
+    }
+
+    ghost short = { λ text. Prim.omega arith };
+}
+
+/// A table whose rows are given one by one, in order.
+pub trait Rows {
+    /// Why a row is not given.
+    type Fault: Drop;
+
+    /// The table.
+    ghost table: { Self → Table };
+
+    /// The first rows were given, by what gave them as it was at first and as it is.
+    ghost HasGiven: { Self → ℕ → Self → Type 0 };
+
+    /// The row at a place was not given, and why, by what gave those before it as it was at first and as it is.
+    ghost HasFailed: { Self → ℕ → Self.Fault → Self → Type 0 };
+
+    /// The header.
+    fn header(&self) -> &[u8]
+        ensures text { result.now ≡ (table self.now).header }
+        ensures short { length result.now ≤ (table self.now).longest };
+
+    /// How many rows there are.
+    fn count(&self) -> u32
+        ensures { result ≡ (table self.now).rows };
+
+    /// The row at a place.
+    fn row(&mut self, place: u32) -> Result<Vec<u8>, Self::Fault>
+        requires { place < (table self.old).rows }
+        ensures same { table self.new ≡ table self.old }
+        ensures row { (first : Self) → HasGiven first place self.old → Gives (table self.old) place result
+            (HasGiven first (place + 1) self.new) (λ e. HasFailed first place e self.new) };
+
+    /// At first none was given.
+    ghost begins: { (rows : Self) → HasGiven rows 0 rows };
+
+    /// The header and the rows have at most 65,536 bytes.
+    ghost fits: { (rows : Self) → (table rows).longest ≤ 65536 };
+}
+
+/// Why the rows of a table were not all sent.
+#[derive(Clone, Copy, Debug, PartialEq, Eq)]
+pub enum RowsFault<E> {
+    /// A write failed.
+    Write,
+    /// A row was not given.
+    Row(E),
+}
+
+/// Sends the header and the rows of a table over a line, up to the first row that is not given.
+pub fn send_rows<F: Framing, R: Rows, W: Wire>(
+    rows: &mut R,
+    line: &mut Line<'_, W>,
+) -> Result<(), RowsFault<R::Fault>>
+    ensures { SendsRows F.framed (R.table rows.old) (λ n. R.HasGiven rows.old n rows.new)
+        (λ n e. R.HasFailed rows.old n e rows.new) result (sending W.log line.old) (sending W.log line.new) }
+{
+    let count = rows.count();
+    match F::send(line, rows.header()) {
+        Ok(()) => {}
+        Err(_) => return Err(RowsFault::Write),
+    }
+    for place in 0..count {
+        let text = match rows.row(place) {
+            Ok(text) => text,
+            Err(fault) => return Err(RowsFault::Row(fault)),
+        };
+        match F::send(line, text.as_slice()) {
+            Ok(()) => {}
+            Err(_) => return Err(RowsFault::Write),
+        }
+    }
+    Ok(())
+}

@@ -1,0 +1,5 @@
+pub mod EdgeLemmas
+pub mod BlockLemmas
+pub mod SpanLemmas
+pub mod SetLemmas
+pub mod CoverLemmas
