@@ -12,10 +12,8 @@ use std::sync::Wait;
 use std::sync::ledger::Blank;
 use std::test::Fail;
 
-/// The line of the study of two trials, and that of the other one.
+/// The line of the study of two trials.
 const LINE: &[u8] = b"1,1,1,1,2,8,0,0,0,8,2,2,0\n";
-
-const OTHER_LINE: &[u8] = b"1,1,1,0,1,5,0,0,5,5,1,0,0\n";
 
 /// Works in the first slot until nothing is left there, in both ways: whether there may be work in another slot.
 fn work_early<M: Tally, K: Tally, R: Wait>(
