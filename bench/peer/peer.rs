@@ -4,7 +4,7 @@
 //!
 //!     peer < plan.json      the table of an accepted plan; of any other text it says that it is none
 //!
-//! It is a third witness beside the program and the reference, and the measure of docs/PERFORMANCE.md's ratio. It uses
+//! It is a third witness beside the program and the reference, and what `bench/compare` sets the program beside. It uses
 //! one thread.
 
 use std::collections::HashMap;
