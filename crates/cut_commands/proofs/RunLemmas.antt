@@ -79,10 +79,10 @@ leaves_nothing task v fault l same is = record {
 pub leaves_answer : (task : Task) (v : Values) (whole : List ℕ) (result : Result ⊤ CliFault) (old new : Log)
     → task.answers v whole → IsWritten whole result old new → Leaves task v result old new
 leaves_answer task v whole (Ok done) old new answer is = record { written = whole; log = is; answers = answer }
-leaves_answer task v whole (Err (Write sent)) old new answer is = record {
-  written = take sent whole;
+leaves_answer task v whole (Err (Write fault)) old new answer is = record {
+  written = take fault.sent whole;
   log = is.1;
-  answers = (record { whole = whole; answer = answer; count = sent; prefix = refl }, refl, is.0);
+  answers = (record { whole = whole; answer = answer; count = fault.sent; prefix = refl }, refl, is.0);
 }
 leaves_answer task v whole (Err fault) old new answer is = absurd is
 
@@ -106,7 +106,7 @@ module _ (a b : Task) (text : List ℕ) (weak : Weakens a b) where
       → AnswersPlan a v r written → AnswersPlan b v r written
   unfolding prefix_as
   answers_plan_as v (Ok done) written read is = weak.answers text v written read is
-  answers_plan_as v (Err (Write sent)) written read is = (prefix_as v written read is.0, is.1, is.2)
+  answers_plan_as v (Err (Write fault)) written read is = (prefix_as v written read is.0, is.1, is.2)
   answers_plan_as v (Err Memory) written read is = is
   answers_plan_as v (Err (Journal fault)) written read is = (weak.fails text v (Journal fault) read is.0, is.1)
   answers_plan_as v (Err (BadSlip number)) written read is = (weak.fails text v (BadSlip number) read is.0, is.1)

@@ -75,10 +75,10 @@ module _ {D : Type 0} (is_honest : D → Type 0) (state : D → DiskState) where
     log = takes.1;
     answers = (tt, prefix (Some d) v slips takes.0 begins ended.0);
   }
-  leaves_some disk v slips (study.Write sent) old new begins ended takes = record {
-    written = take sent (table_over v slips);
+  leaves_some disk v slips (study.Write fault) old new begins ended takes = record {
+    written = take fault.sent (table_over v slips);
     log = takes;
-    answers = (prefix disk v slips sent begins ended.0, refl, ended.1);
+    answers = (prefix disk v slips fault.sent begins ended.0, refl, ended.1);
   }
   leaves_some disk v slips study.WorkMemory old new begins ended takes = elim takes [
     | inl same ↦ record {

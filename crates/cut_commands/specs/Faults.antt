@@ -28,7 +28,7 @@ number_of (Plan refusal) = codes_of.number_of (code_of_refusal refusal)
 number_of Read = codes_of.number_of code.Read
 number_of Socket = codes_of.number_of code.Read
 number_of (Asked fault) = number_of_ask fault
-number_of (Write sent) = codes_of.number_of code.Write
+number_of (Write fault) = codes_of.number_of code.Write
 number_of (Journal fault) = codes_of.number_of (journal_codes.code_of fault)
 number_of Folder = codes_of.number_of code.Disk
 number_of (BadSlip number) = codes_of.number_of code.BadSlip
@@ -62,7 +62,7 @@ field_words (Some field) = 32 ∷ field_name field
 -- what a fault carries, after a blank
 abbrev pub carried_by : CliFault → List ℕ
 carried_by (Plan refusal) = field_words (field_of_refusal refusal)
-carried_by (Write sent) = 32 ∷ decimal sent
+carried_by (Write fault) = 32 ∷ decimal fault.sent
 carried_by (Journal (journal.Damaged number)) = 32 ∷ decimal number
 carried_by (BadSlip number) = 32 ∷ decimal number
 carried_by (Migrate (migration.BadSlip number)) = 32 ∷ decimal number
@@ -100,6 +100,6 @@ fault_of_migration fault = Migrate fault
 abbrev pub fault_of_study : RunFault → CliFault
 fault_of_study (study.BadSlip number) = BadSlip number
 fault_of_study study.Checkpoint = Checkpoint
-fault_of_study (study.Write sent) = Write sent
+fault_of_study (study.Write fault) = Write fault
 fault_of_study study.WorkMemory = WorkMemory
 fault_of_study study.AuditMismatch = AuditMismatch

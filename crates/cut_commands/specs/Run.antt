@@ -59,8 +59,8 @@ pub record IsPrefix (task : Task) (v : Values) (written : List ℕ) : Type 0 whe
 -- audit stopped a study that had begun, or nothing where memory did so before
 abbrev pub AnswersPlan : Task → Values → Result ⊤ CliFault → List ℕ → Type 0
 AnswersPlan task v (Ok done) written = task.answers v written
-AnswersPlan task v (Err (Write sent)) written =
-    (p : IsPrefix task v written) × (p.count ≡ sent) × (sent < length p.whole)
+AnswersPlan task v (Err (Write fault)) written =
+    (p : IsPrefix task v written) × (p.count ≡ fault.sent) × (fault.sent < length p.whole)
 AnswersPlan task v (Err Memory) written = written ≡ []
 AnswersPlan task v (Err (Journal fault)) written = task.fails v (Journal fault) × (written ≡ [])
 AnswersPlan task v (Err (BadSlip number)) written = task.fails v (BadSlip number) × (written ≡ [])
@@ -84,7 +84,7 @@ Answers task text ended result written =
 -- a call of the wire failed exactly where a command ends with such a fault
 abbrev pub failing : CliFault → Log → Log
 failing Read l = read_failed l
-failing (Write sent) l = write_failed l
+failing (Write fault) l = write_failed l
 failing fault l = l
 
 abbrev pub failed_by : {T : Type 0} → Result T CliFault → Log → Log
@@ -141,8 +141,8 @@ text_of (Err fault) = Err fault
 -- an answer was written, or as many of its first bytes as are reported, when a write failed
 abbrev pub IsWritten : List ℕ → Result ⊤ CliFault → Log → Log → Type 0
 IsWritten whole (Ok done) old new = new ≡ wrote old whole
-IsWritten whole (Err (Write sent)) old new =
-    (sent < length whole) × (new ≡ write_failed (wrote old (take sent whole)))
+IsWritten whole (Err (Write fault)) old new =
+    (fault.sent < length whole) × (new ≡ write_failed (wrote old (take fault.sent whole)))
 IsWritten whole (Err fault) old new = ⊥
 
 -- what a command leaves that works on a plan

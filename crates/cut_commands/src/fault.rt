@@ -9,6 +9,7 @@ use cut_messages::AskFault;
 use cut_migration::MigrateFault;
 use cut_plan::{Field, PlanFault, Refusal};
 use cut_study::RunFault;
+use cut_wires::WriteFault;
 use itoa::Buffer;
 use std::alloc::AllocError;
 use std::fmt;
@@ -31,8 +32,8 @@ pub enum CliFault {
     Socket,
     /// A server that was asked for a table gave none.
     Asked(AskFault),
-    /// A write of the answer failed, after this many of its bytes were taken.
-    Write(u64),
+    /// A write of the answer failed.
+    Write(WriteFault),
     /// The checkpoint was not opened.
     Journal(JournalFault),
     /// The folder of the checkpoints is no folder.
@@ -110,7 +111,7 @@ impl CliFault {
         text.push_str(self.name());
         match self {
             CliFault::Plan(refusal) => push_field(&mut text, refusal.field()),
-            CliFault::Write(number)
+            CliFault::Write(WriteFault { sent: number })
             | CliFault::BadSlip(number)
             | CliFault::Migrate(MigrateFault::BadSlip(number) | MigrateFault::Disagrees(number))
             | CliFault::Journal(JournalFault::Damaged(number)) => push_number(&mut text, *number),
@@ -226,7 +227,7 @@ impl From<RunFault> for CliFault {
         match fault {
             RunFault::BadSlip(number) => CliFault::BadSlip(number),
             RunFault::Checkpoint => CliFault::Checkpoint,
-            RunFault::Write(sent) => CliFault::Write(sent),
+            RunFault::Write(failed) => CliFault::Write(failed),
             RunFault::WorkMemory => CliFault::WorkMemory,
             RunFault::AuditMismatch => CliFault::AuditMismatch,
         }

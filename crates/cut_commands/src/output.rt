@@ -12,7 +12,7 @@ pub(crate) fn write_answer<W: Wire>(wire: &mut W, answer: &[u8]) -> Result<(), C
 {
     match send_all(wire, answer) {
         Ok(()) => Ok(()),
-        Err(sent) => Err(CliFault::Write(sent.bytes)),
+        Err(fault) => Err(CliFault::Write(fault)),
     }
 }
 

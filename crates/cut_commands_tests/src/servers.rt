@@ -114,46 +114,6 @@ fn is_done(left: &Left, text: &str) -> bool {
     left.fault.is_empty() && left.output.as_slice() == text.as_bytes()
 }
 
-/// Whether a command ended with this fault and wrote nothing.
-fn is_refused(left: &Left, line: &str) -> bool {
-    left.fault.as_str() == line && left.output.is_empty()
-}
-
-#[test]
-fn two_clients_have_their_tables(rt: HostRuntime) -> Result<(), Fail> {
-    let socket = "cutlab_two_clients.sock";
-    let _ = fs::remove_file(&rt, socket);
-    let (server, (first, second)) = thread::join(
-        &rt,
-        || served(&rt, &rt, socket, 2, None),
-        || {
-            thread::join(
-                &rt,
-                || asked(&rt, socket, PLAN),
-                || asked(&rt, socket, LIAR_PLAN),
-            )
-        },
-    );
-    assert!(rt; is_done(&server?, "accepted 3\n"));
-    assert!(rt; is_done(&first?, TABLE));
-    assert!(rt; is_done(&second?, LIAR_TABLE));
-    assert!(rt; fs::metadata(&rt, socket).is_err());
-    Ok(())
-}
-
-#[test]
-fn a_client_may_vanish(rt: HostRuntime) -> Result<(), Fail> {
-    let socket = "cutlab_vanish.sock";
-    let _ = fs::remove_file(&rt, socket);
-    let (server, ()) = thread::join(
-        &rt,
-        || served(&rt, &rt, socket, 1, None),
-        || vanish(&rt, socket),
-    );
-    assert!(rt; server?.fault.is_empty());
-    Ok(())
-}
-
 /// Whether a socket is there, sooner or later, that its owner alone may connect to.
 fn is_for_its_owner(host: &HostRuntime, socket: &str) -> bool {
     for _ in 0..10_000 {
@@ -192,38 +152,91 @@ fn hold(host: &HostRuntime, socket: &str) -> (bool, bool) {
     }
 }
 
-#[test]
-fn late_clients_are_refused(rt: HostRuntime) -> Result<(), Fail> {
-    let socket = "cutlab_late.sock";
-    let _ = fs::remove_file(&rt, socket);
-    let (server, (is_own, refuses)) = thread::join(
-        &rt,
-        || served(&rt, &rt, socket, 1, None),
-        || hold(&rt, socket),
+/// Who comes to a server.
+#[derive(Clone, Copy)]
+enum Visit {
+    /// Two clients at once, of which each asks for a table of its own.
+    Two,
+    /// A client that leaves without an answer.
+    Vanished,
+    /// A client that holds the only connection, and others that come later.
+    Late,
+}
+
+/// Whether two clients at once have their tables.
+fn two_are_served<T: Threads + Wait + Sync>(
+    host: &HostRuntime,
+    rt: &T,
+    socket: &str,
+) -> Result<bool, AllocError> {
+    let (first, second) = thread::join(
+        rt,
+        || asked(host, socket, PLAN),
+        || asked(host, socket, LIAR_PLAN),
     );
-    assert!(rt; is_done(&server?, "accepted 0\n"));
-    assert!(rt; is_own && refuses);
-    assert!(rt; fs::metadata(&rt, socket).is_err());
-    Ok(())
+    Ok(is_done(&first?, TABLE) && is_done(&second?, LIAR_TABLE))
+}
+
+/// Whether clients are served as they should be.
+fn are_served<T: Threads + Wait + Sync>(
+    host: &HostRuntime,
+    rt: &T,
+    socket: &str,
+    visit: Visit,
+) -> Result<bool, AllocError> {
+    match visit {
+        Visit::Two => two_are_served(host, rt, socket),
+        Visit::Vanished => {
+            vanish(host, socket);
+            Ok(true)
+        }
+        Visit::Late => Ok(hold(host, socket) == (true, true)),
+    }
 }
 
 #[test]
-fn a_plain_file_is_no_folder(rt: HostRuntime) -> Result<(), Fail> {
-    let file = "cutlab_plain_file";
-    fs::write(&rt, file, b"no folder")?;
-    let left = served(&rt, &rt, "cutlab_plain.sock", 1, Some(file))?;
-    let _ = fs::remove_file(&rt, file);
-    assert!(rt; is_refused(&left, "cutlab: fault 20 Disk"));
+fn servers_and_their_clients(rt: HostRuntime) -> Result<(), Fail> {
+    let rows = [
+        ("cutlab_two_clients.sock", 2, Visit::Two, "accepted 3\n"),
+        ("cutlab_vanish.sock", 1, Visit::Vanished, ""),
+        ("cutlab_late.sock", 1, Visit::Late, "accepted 0\n"),
+    ];
+    for (socket, sessions, who, wanted) in rows {
+        let _ = fs::remove_file(&rt, socket);
+        let (server, is_right) = thread::join(
+            &rt,
+            || served(&rt, &rt, socket, sessions, None),
+            || are_served(&rt, &rt, socket, who),
+        );
+        let server = server?;
+        assert!(rt; server.fault.is_empty() && is_right?, "{socket}");
+        assert!(rt; wanted.is_empty() || server.output.as_slice() == wanted.as_bytes());
+        assert!(rt; fs::metadata(&rt, socket).is_err(), "{socket}");
+    }
     Ok(())
 }
 
 #[test]
 fn a_server_that_cannot_begin_says_so(rt: HostRuntime) -> Result<(), Fail> {
-    let left = served(&rt, &rt, "cutlab_none/a.sock", 1, None)?;
-    assert!(rt; is_refused(&left, "cutlab: fault 43 Read"));
-    let left = served(&rt, &rt, "cutlab_begin.sock", 1, Some("cutlab_none"))?;
-    assert!(rt; is_refused(&left, "cutlab: fault 20 Disk"));
-    Ok(())
+    let file = "cutlab_plain_file";
+    fs::write(&rt, file, b"no folder")?;
+    let rows = [
+        ("cutlab_none/a.sock", None, "cutlab: fault 43 Read"),
+        ("cutlab_plain.sock", Some(file), "cutlab: fault 20 Disk"),
+        (
+            "cutlab_begin.sock",
+            Some("cutlab_none"),
+            "cutlab: fault 20 Disk",
+        ),
+    ];
+    for (socket, folder, line) in rows {
+        let left = served(&rt, &rt, socket, 1, folder)?;
+        assert!(rt;
+            left.fault.as_str() == line && left.output.is_empty(),
+            "{socket}"
+        );
+    }
+    Ok(fs::remove_file(&rt, file)?)
 }
 
 /// A listener that gives one connection, whose client has left, and fails from then on.

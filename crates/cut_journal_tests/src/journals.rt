@@ -1,6 +1,6 @@
 //! Files of journals, to the byte: how they are written, and what they are read as.
 
-use cut_disks::MemoryDisk;
+use cut_disks::{DiskCall, MemoryDisk};
 use cut_journal::{Journal, JournalFault};
 use cut_ledger::Slip;
 use cut_plan::{Plan, Version};
@@ -297,9 +297,9 @@ put 226 e9ec089ff8cfaecd0b0e87d66b9dd8c53b2176aa1c412662347a9b6cfb7f1dcf
 reading Damaged 0";
 
 // A plan, the slips that are appended, how long the file is then, and what it is read as where it is changed.
-type Changes = (&'static str, &'static str, usize, &'static str);
+type Changes<'a> = (&'a str, &'a str, usize, &'a str);
 
-const ALL_CHANGES: [Changes; 7] = [
+const ALL_CHANGES: [Changes<'static>; 7] = [
     (SMALL, "0,2", 372, CHANGES),
     (SMALL, "", 267, LETTERS),
     (SMALL_2, "", 259, LETTERS_2),
@@ -322,7 +322,7 @@ const ALL_CHANGES: [Changes; 7] = [
 fn check_changes(
     rt: &impl Abort,
     alloc: Global,
-    (json, slips, length, blocks): Changes,
+    (json, slips, length, blocks): Changes<'_>,
 ) -> Result<(), Fail> {
     let plan = Plan::from_json(alloc, json.as_bytes())?;
     let disk = written_disk(alloc, &plan, slips)?;
@@ -334,6 +334,72 @@ fn check_changes(
 fn changed_files_of_small_plans(rt: HostRuntime) -> Result<(), Fail> {
     for changes in ALL_CHANGES {
         check_changes(&rt, rt.alloc(), changes)?;
+    }
+    Ok(())
+}
+
+// 70 trials where no process fails.
+const MANY: &str =
+    r#"{"copies":1,"dead":"silent","f":[0],"faults":"crash","h":[1],"implicit":true,"k":[1],"l":[1],
+"liars":0,"links":0,"nodes":5,"repeats":70,
+"seed":"0000000000000000000000000000000000000000000000000000000000000000","version":1}"#;
+
+// The slips of `count` such trials, one trial each: five receivers, and all are silent.
+fn silent_slips(alloc: Global, count: u32) -> Result<String, AllocError> {
+    let mut text = String::new(alloc);
+    for first in 0..count {
+        text.push_str(format!(in alloc; "{first},1,5,0,5,0,0,0,0 ")?.as_str())?;
+    }
+    Ok(text)
+}
+
+// A file of 65 slips, whose last gate stands at 45 + 222 + 65 * 105, and one of 66, of which the last is changed.
+#[test]
+fn files_of_many_slips(rt: HostRuntime) -> Result<(), Fail> {
+    let alloc = rt.alloc();
+    let slips = silent_slips(alloc, 65)?;
+    let slips = slips.as_str().trim_end();
+    let whole = format!(in alloc; "kept 7093\nreading {slips}")?;
+    check_changes(&rt, alloc, (MANY, slips, 7093, whole.as_str()))?;
+    let more = silent_slips(alloc, 66)?;
+    let bad = "kept 7198\nput 7100 01\nreading Damaged 66\n\nkept 7093\nreading Damaged 66";
+    check_changes(&rt, alloc, (MANY, more.as_str(), 7198, bad))
+}
+
+// How a call is written: the place and the number of the bytes of a write, or a sync.
+fn call_text(alloc: Global, call: &DiskCall) -> Result<String, AllocError> {
+    match call {
+        DiskCall::Write { at, put } => format!(in alloc; "{at}+{} ", put.as_slice().len()),
+        DiskCall::Sync => String::from_str(alloc, "sync "),
+        _ => String::from_str(alloc, "other "),
+    }
+}
+
+// What a creation and an append of the slip of two trials do to a disk, in order.
+fn calls_text(alloc: Global, json: &str) -> Result<String, Fail> {
+    let plan = Plan::from_json(alloc, json.as_bytes())?;
+    let disk = written_disk(alloc, &plan, "0,2")?;
+    let mut text = String::new(alloc);
+    for call in disk.calls() {
+        text.push_str(call_text(alloc, call)?.as_str())?;
+    }
+    Ok(text)
+}
+
+// Each gate is opened by a write of its own, after what stands before it is synced.
+#[test]
+fn calls_come_in_order(rt: HostRuntime) -> Result<(), Fail> {
+    for (json, wanted) in [
+        (
+            SMALL,
+            "sync 0+1 sync 1+266 sync 0+1 sync 267+105 sync 266+1 sync ",
+        ),
+        (
+            SMALL_2,
+            "sync 0+1 sync 1+258 sync 0+1 sync 259+113 sync 258+1 sync ",
+        ),
+    ] {
+        assert!(rt; calls_text(rt.alloc(), json)?.as_str() == wanted);
     }
     Ok(())
 }

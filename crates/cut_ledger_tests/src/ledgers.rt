@@ -80,6 +80,7 @@ fn is_stranger(alloc: Global, ledger: &mut Ledger) -> Result<bool, Fail> {
 }
 
 fn check_trials(rt: &impl Abort, alloc: Global, ledger: &mut Ledger) -> Result<(), Fail> {
+    assert!(rt; has_parts(alloc, ledger, (1, &[(0, 1), (1, 1)]))?);
     assert!(rt; gains_room(alloc, ledger)?);
     assert!(rt; is_stranger(alloc, ledger)?);
     assert!(rt; are_answered(alloc, ledger, &SINGLE_TRIALS)?);

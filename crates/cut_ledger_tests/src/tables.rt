@@ -1,9 +1,11 @@
 //! Tables that were worked by hand, and their writing over wires that fail.
 
+mod many;
+
 use crate::studies::{PLAN, SETTLED, SMALLER, begun, fresh, result_of, slip};
 use cut_ledger::Ledger;
 use cut_table::{RowFault, TableFault, emit_table, row};
-use cut_wires::{FaultyWire, MemoryWire, Wire};
+use cut_wires::{FaultyWire, MemoryWire, Wire, WriteFault};
 use std::alloc::Global;
 use std::process::Abort;
 use std::test::Fail;
@@ -79,7 +81,7 @@ fn a_row_says_what_slips_say(rt: HostRuntime) -> Result<(), Fail> {
 fn ends_with(alloc: Global, ledger: &Ledger, taken: &[u8], fails: bool) -> bool {
     let mut wire = FaultyWire::new(alloc, Vec::new(alloc), 7, taken.len(), 0);
     let is_end = match emit_table(alloc, ledger, &mut wire) {
-        Err(TableFault::Write(sent)) => fails && sent == taken.len() as u64,
+        Err(TableFault::Write(fault)) => fails && fault.sent == taken.len() as u64,
         Err(_) => false,
         Ok(()) => !fails,
     };
@@ -106,6 +108,7 @@ fn a_failed_write_leaves_the_first_bytes(rt: HostRuntime) -> Result<(), Fail> {
 #[test]
 fn faults_are_printed(rt: HostRuntime) -> Result<(), Fail> {
     assert!(rt; RowFault::NotDone(7).to_string(rt.alloc())?.as_str() == "18 NotDone 7");
-    assert!(rt; TableFault::Write(80).to_string(rt.alloc())?.as_str() == "31 Write 80");
+    let failed = TableFault::Write(WriteFault { sent: 80 });
+    assert!(rt; failed.to_string(rt.alloc())?.as_str() == "31 Write 80");
     Ok(())
 }

@@ -1,9 +1,10 @@
 -- What an output takes of replies, one behind another.
-use Rattle.std.proofs.Common.{◌≡◌, ◌∙◌, ◌+◌, ◌<◌, ◌++◌, ℕ, List, [], ◌∷◌, length, take, drop, get_or, Result, Ok, Err, refl, sym, ap, subst, arith, append_assoc, add-one, take-append-drop}
+use Rattle.std.proofs.Common.{◌≡◌, ◌∙◌, ◌+◌, ◌<◌, ◌++◌, ℕ, List, [], ◌∷◌, length, take, drop, get_or, Result, Ok, Err, refl, sym, ap, subst, arith, append_assoc, take-append-drop}
 use Rattle.std.specs.Bool.{⊤}
 use Rattle.std.specs.List.{AllByRecursion}
+use Rattle.std.proofs.ByRecursion.{All-append}
+use Rattle.std.proofs.lemmas.List.{take_more}
 use Rattle.std.proofs.lemmas.List.Concat.{flat_map-append}
-use Rattle.std.proofs.Math.Seq.{take-suc}
 use Rattle.cut_wires.specs.Log.{Log, wrote, write_failed}
 use Rattle.cut_wires.proofs.Logs.{wrote_none, wrote_more}
 use Rattle.cut_messages.specs.declared.message.Message.{Message}
@@ -14,7 +15,6 @@ use Rattle.cut_messages.specs.declared.replies.Progress.TheVariants.{More, Done}
 use Rattle.cut_messages.specs.Asking.{GoesOn, line_of, lines_of, Stop, IsCutOff, Passes}
 use Rattle.cut_messages.specs.Reading.{Reading, HasRead}
 use Rattle.cut_messages.specs.Listening.{Steps}
-use Rattle.cut_messages.proofs.Streams.{both}
 
 -- a reply alone
 abbrev pub alone : (m : Message) → Stop (m ∷ [])
@@ -30,8 +30,8 @@ line_cut payload line n old new same low is = (
 
 lines_both : (o p q : Log) (xs ys : List Message) → p ≡ wrote o (lines_of xs) → q ≡ wrote p (lines_of ys)
     → q ≡ wrote o (lines_of (xs ++ ys))
-lines_both o p q xs ys first second = wrote_more o p q (lines_of xs) (lines_of ys) first second
-    ∙ ap (λ (l : List ℕ). wrote o l) (sym (flat_map-append line_of xs ys))
+lines_both o p q xs ys first second =
+    cc (wrote_more o p q (lines_of xs) (lines_of ys) first second, flat_map-append line_of xs ys)
 
 abbrev stop_behind : (xs ys : List Message) → AllByRecursion GoesOn xs → (s : Stop ys) → Stop (xs ++ ys)
 stop_behind xs ys passed s = record {
@@ -39,7 +39,7 @@ stop_behind xs ys passed s = record {
   here = s.here;
   after = s.after;
   parts = ap (λ (l : List Message). xs ++ l) s.parts ∙ sym (append_assoc xs s.before (s.here ∷ s.after));
-  passed = both GoesOn xs s.before passed s.passed;
+  passed = All-append GoesOn xs s.before passed s.passed;
 }
 
 abbrev stop_before : (xs ys : List Message) → Stop xs → Stop (xs ++ ys)
@@ -55,7 +55,7 @@ stop_before xs ys s = record {
 pub passes_then : (xs ys : List Message) (r : Result Progress AskFault) (o p q : Log)
     → Passes xs (Ok More) o p → Passes ys r p q → Passes (xs ++ ys) r o q
 passes_then xs ys (Ok More) o p q first second =
-    (both GoesOn xs ys first.0 second.0, lines_both o p q xs ys first.1 second.1)
+    (All-append GoesOn xs ys first.0 second.0, lines_both o p q xs ys first.1 second.1)
 passes_then xs ys (Ok Done) o p q first second =
     (stop_behind xs ys first.0 second.0, second.1, lines_both o p q xs second.0.before first.1 second.2)
 passes_then xs ys (Err (ask.Told n)) o p q first second = (
@@ -90,19 +90,15 @@ passes_on xs ys (Err fault) o p stop passes = absurd passes
 
 pub take_next : (ms : List Message) (i : ℕ) (m : Message) → i < length ms → m ≡ get_or ms i m
     → take i ms ++ m ∷ [] ≡ take (i + 1) ms
-take_next ms i m low is =
-    ap (λ (x : Message). take i ms ++ x ∷ []) is ∙ sym (take-suc ms i m low)
-    ∙ ap (λ (k : ℕ). take k ms) (sym (add-one i))
+take_next ms i m low is = cc (is, take_more ms i m low)
 
-pub passes_stop : (ms : List Message) (i : ℕ) (m : Message) (x r : Result Progress AskFault) (o p q : Log)
-    → i < length ms → m ≡ get_or ms i m → x ≡ r → IsStop r → Passes (take i ms) (Ok More) o p
-    → Passes (m ∷ []) x p q → Passes ms r o q
-passes_stop ms i m x r o p q low is same stop first second =
-    subst (λ (l : List Message). Passes l r o q)
-    (ap (λ (l : List Message). l ++ drop (i + 1) ms) (take_next ms i m low is) ∙ take-append-drop (i + 1) ms)
+pub passes_stop : (ms : List Message) (i : ℕ) (m : Message) (r : Result Progress AskFault) (o p q : Log)
+    → i < length ms → m ≡ get_or ms i m → IsStop r → Passes (take i ms) (Ok More) o p → Passes (m ∷ []) r p q
+    → Passes ms r o q
+passes_stop ms i m r o p q low is stop first second =
+    subst (λ (l : List Message). Passes l r o q) (cc (take_next ms i m low is, take-append-drop (i + 1) ms))
     (passes_on (take i ms ++ m ∷ []) (drop (i + 1) ms) r o q stop
-    (passes_then (take i ms) (m ∷ []) r o p q first
-    (subst (λ (y : Result Progress AskFault). Passes (m ∷ []) y p q) same second)))
+    (passes_then (take i ms) (m ∷ []) r o p q first second))
 
 -- a piece whose replies end the asking
 pub stops : (fault : AskFault) (old new : Reading) (stream piece : List ℕ) (messages more : List Message)

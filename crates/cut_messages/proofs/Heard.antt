@@ -1,19 +1,17 @@
 -- An answer that is heard read by read.
-use Rattle.std.proofs.Common.{◌≡◌, ◌∙◌, ◌+◌, ◌^◌, ◌<◌, ◌≤◌, ◌++◌, ℕ, false, List, [], length, take, nat_eq, Option, Some, None, Result, Ok, Err, refl, sym, ap, subst, arith, append_assoc, append-nil, length-append, length-take-le}
+use Rattle.std.proofs.Common.{◌≡◌, ◌∙◌, ◌+◌, ◌^◌, ◌<◌, ◌≤◌, ◌++◌, ℕ, false, List, [], length, take, nat_eq, Some, None, Result, Ok, Err, refl, sym, ap, subst, arith, append_assoc, append-nil, length-append, length-take-le}
 use Rattle.std.specs.Bool.{⊤}
 use Rattle.std.proofs.lemmas.Bool.Decides.{nat_tests}
 use Rattle.cut_wires.specs.Log.{Log, passing, with_taken, with_given, wrote, gave, read_failed}
 use Rattle.cut_wires.proofs.Logs.{passing_twice, passing_same}
-use Rattle.cut_messages.specs.declared.side.Side.{Side}
 use Rattle.cut_messages.specs.declared.side.Side.TheVariants.{Replies}
 use Rattle.cut_messages.specs.declared.message.Message.{Message}
-use Rattle.cut_messages.specs.declared.fault.StreamFault.{StreamFault}
 use Rattle.cut_messages.specs.declared.ask_fault.AskFault.{AskFault}
 use Rattle.cut_messages.specs.declared.ask_fault.AskFault.TheVariants as ask
 use Rattle.cut_messages.specs.declared.replies.Progress.{Progress}
 use Rattle.cut_messages.specs.declared.replies.Progress.TheVariants.{More, Done}
 use Rattle.cut_messages.specs.Frames.{fault_at}
-use Rattle.cut_messages.specs.Reading.{Splits, Reading, HasRead}
+use Rattle.cut_messages.specs.Reading.{Reading, HasRead}
 use Rattle.cut_messages.specs.Asking.{request, asked, heard, ended, left_by, Passes, Concludes, IsUnread, Hears, Asks}
 use Rattle.cut_messages.specs.Listening.{Step, Steps}
 use Rattle.cut_messages.proofs.Answered.{passes_then}
@@ -55,16 +53,6 @@ begins plan old now is =
 
 -- ---- what was read
 
-splits_there : (r : Reading) (stream : List ℕ) (messages : List Message) → (read : HasRead r stream messages)
-    → r.side ≡ Replies → Splits Replies stream messages read.rest
-splits_there r stream messages read side =
-    subst (λ (s : Side). Splits s stream messages read.rest) side read.splits
-
-fault_there : (r : Reading) (stream : List ℕ) (messages : List Message) (fault : Option StreamFault)
-    → (read : HasRead r stream messages) → r.side ≡ Replies → r.fault ≡ fault → fault_at Replies read.rest ≡ fault
-fault_there r stream messages fault read side is =
-    ap (λ (s : Side). fault_at s read.rest) (sym side) ∙ sym read.fault ∙ is
-
 module _ {plan : List ℕ} {r : Reading} {reads : ℕ} {old now o p : Log} (l : Listens plan r reads old now o p) where
   -- the asking ended with what was heard before the last read
   still : (x : Result ⊤ AskFault) (last : List ℕ) (new : Log) → Concludes x l.stream l.messages l.read.rest o p
@@ -74,7 +62,7 @@ module _ {plan : List ℕ} {r : Reading} {reads : ℕ} {old now o p : Log} (l : 
     messages = l.messages;
     rest = l.read.rest;
     last = last;
-    splits = splits_there r l.stream l.messages l.read l.side;
+    splits = rw l.side at l.read.splits;
     ends = ends;
     unread = unread;
     wire = wire;
@@ -82,7 +70,7 @@ module _ {plan : List ℕ} {r : Reading} {reads : ℕ} {old now o p : Log} (l : 
 
   -- a client that listens has the lines of what it heard, and no fault stands after it
   so_far : Passes l.messages (Ok More) o p × (fault_at Replies l.read.rest ≡ None)
-  so_far = (l.passed, fault_there r l.stream l.messages None l.read l.side l.right)
+  so_far = (l.passed, cc (l.side, l.read.fault, l.right))
 
   pub unread : (new : Log) → new ≡ read_failed now → Hears plan (Err ask.Read) old new o p
   unread new is = still (Err ask.Read) [] new so_far refl (is ∙ ap read_failed (wire_still plan l.stream old now l.wire))
@@ -100,44 +88,37 @@ module _ {plan : List ℕ} {r : Reading} {reads : ℕ} {old now o p : Log} (l : 
 -- ---- a read, and what was made of the bytes that it gave
 
 module _ {plan : List ℕ} {r : Reading} {reads : ℕ} {old now o p : Log} (l : Listens plan r reads old now o p)
-    (buffer : List ℕ) (n : ℕ) (x : Result Progress AskFault) (next : Reading) (new q : Log)
-    (gives : new ≡ gave now buffer n) (some : 0 < n) (within : n ≤ length buffer) (side : next.side ≡ r.side)
-    (steps : Steps x r next l.stream (take n buffer) l.messages p q) where
-  -- by what the result is
-  steps_at : (y : Result Progress AskFault) → x ≡ y → Steps y r next l.stream (take n buffer) l.messages p q
-  steps_at y is =
-      subst (λ (z : Result Progress AskFault). Steps z r next l.stream (take n buffer) l.messages p q) is steps
-
-  pub goes_on : x ≡ Ok More → Listens plan next (reads + 1) old new o q
-  goes_on is =
-      let s = steps_at (Ok More) is in
-      record {
-        stream = l.stream ++ take n buffer;
-        messages = l.messages ++ s.0.more;
-        read = s.0.read;
-        right = s.1;
-        side = side ∙ l.side;
-        long = omega (arith, l.long, some, length-take-le n buffer within, length-append l.stream (take n buffer));
-        wire = wire_on plan l.stream buffer n old now new l.wire gives some;
-        passed = passes_then l.messages s.0.more (Ok More) o p q l.passed s.0.passes;
-      }
+    (buffer : List ℕ) (n : ℕ) (next : Reading) (new q : Log) (gives : new ≡ gave now buffer n) (some : 0 < n)
+    (within : n ≤ length buffer) (side : next.side ≡ r.side) where
+  pub goes_on : Steps (Ok More) r next l.stream (take n buffer) l.messages p q
+      → Listens plan next (reads + 1) old new o q
+  goes_on (s, right) = record {
+    stream = l.stream ++ take n buffer;
+    messages = l.messages ++ s.more;
+    read = s.read;
+    right = right;
+    side = side ∙ l.side;
+    long = omega (arith, l.long, some, length-take-le n buffer within, length-append l.stream (take n buffer));
+    wire = wire_on plan l.stream buffer n old now new l.wire gives some;
+    passed = passes_then l.messages s.more (Ok More) o p q l.passed s.passes;
+  }
 
   -- the asking ended with the replies of that piece
   ends_with : (y : Result ⊤ AskFault) (z : Result Progress AskFault)
       → (s : Step next l.stream (take n buffer) l.messages z p q)
       → Concludes y (l.stream ++ take n buffer) (l.messages ++ s.more) s.read.rest o q → IsUnread y []
-      → left_by y (heard plan ((l.stream ++ take n buffer) ++ []) old) ≡ heard plan ((l.stream ++ take n buffer) ++ []) old
-      → Hears plan y old new o q
+      → ((m : Log) → left_by y m ≡ m) → Hears plan y old new o q
   ends_with y z s ends none left = record {
     stream = l.stream ++ take n buffer;
     messages = l.messages ++ s.more;
     rest = s.read.rest;
     last = [];
-    splits = splits_there next (l.stream ++ take n buffer) (l.messages ++ s.more) s.read (side ∙ l.side);
+    splits = rw (side ∙ l.side) at s.read.splits;
     ends = ends;
     unread = none;
     wire = wire_still plan (l.stream ++ take n buffer) old new
-        (wire_on plan l.stream buffer n old now new l.wire gives some) ∙ sym left;
+        (wire_on plan l.stream buffer n old now new l.wire gives some)
+        ∙ sym (left (heard plan ((l.stream ++ take n buffer) ++ []) old));
   }
 
   -- what its replies make of the output
@@ -145,29 +126,23 @@ module _ {plan : List ℕ} {r : Reading} {reads : ℕ} {old now o p : Log} (l : 
       → Passes (l.messages ++ s.more) z o q
   passes_all z s = passes_then l.messages s.more z o p q l.passed s.passes
 
-  pub is_done : x ≡ Ok Done → Hears plan (Ok tt) old new o q
-  is_done is =
-      let s = steps_at (Ok Done) is in ends_with (Ok tt) (Ok Done) s (passes_all (Ok Done) s) refl refl
+  pub is_done : Steps (Ok Done) r next l.stream (take n buffer) l.messages p q → Hears plan (Ok tt) old new o q
+  is_done s = ends_with (Ok tt) (Ok Done) s (passes_all (Ok Done) s) refl (λ m. refl)
 
-  pub has_failed : (fault : AskFault) → x ≡ Err fault → length buffer ≤ 4096 → length plan ≤ 65536
-      → Asks plan (Err fault) old new o q
-  has_failed (ask.Told k) is short few =
-      let s = steps_at (Err (ask.Told k)) is in
-      (few, ends_with (Err (ask.Told k)) (Err (ask.Told k)) s (passes_all (Err (ask.Told k)) s) refl refl)
-  has_failed ask.Output is short few =
-      let s = steps_at (Err ask.Output) is in
-      (few, ends_with (Err ask.Output) (Err ask.Output) s (passes_all (Err ask.Output) s) refl refl)
-  has_failed (ask.Stream f) is short few =
-      let s = steps_at (Err (ask.Stream f)) is in
-      let wrong = fault_there next (l.stream ++ take n buffer) (l.messages ++ s.0.more) (Some f) s.0.read
-      (side ∙ l.side) s.1 in
-      (few, ends_with (Err (ask.Stream f)) (Ok More) s.0 (passes_all (Ok More) s.0, wrong) refl refl)
-  has_failed ask.Memory is short few =
-      let s = steps_at (Err ask.Memory) is in (
-        few,
-        subst (λ (out : Log). Hears plan (Err ask.Memory) old new o out) (sym s.1)
-            (still l (Err ask.Memory) (take n buffer) new l.passed
-            (omega (arith, length-take-le n buffer within, short, within))
-            (wire_on plan l.stream buffer n old now new l.wire gives some)),
-      )
-  has_failed fault is short few = absurd (steps_at (Err fault) is).passes
+  pub has_failed : (fault : AskFault) → Steps (Err fault) r next l.stream (take n buffer) l.messages p q
+      → length buffer ≤ 4096 → length plan ≤ 65536 → Asks plan (Err fault) old new o q
+  has_failed (ask.Told k) s short few =
+      (few, ends_with (Err (ask.Told k)) (Err (ask.Told k)) s (passes_all (Err (ask.Told k)) s) refl (λ m. refl))
+  has_failed ask.Output s short few =
+      (few, ends_with (Err ask.Output) (Err ask.Output) s (passes_all (Err ask.Output) s) refl (λ m. refl))
+  has_failed (ask.Stream f) (s, is) short few =
+      let wrong : fault_at Replies s.read.rest ≡ Some f = cc (side, l.side, s.read.fault, is) in
+      (few, ends_with (Err (ask.Stream f)) (Ok More) s (passes_all (Ok More) s, wrong) refl (λ m. refl))
+  has_failed ask.Memory (same, taken) short few = (
+    few,
+    subst (λ (out : Log). Hears plan (Err ask.Memory) old new o out) (sym taken)
+        (still l (Err ask.Memory) (take n buffer) new l.passed
+        (omega (arith, length-take-le n buffer within, short, within))
+        (wire_on plan l.stream buffer n old now new l.wire gives some)),
+  )
+  has_failed fault s short few = absurd s.passes

@@ -1,5 +1,5 @@
 -- What stands at the front of some bytes, as it is found test by test.
-use Rattle.std.proofs.Common.{inl, inr, ◌≡◌, ◌∙◌, ◌+◌, ◌-◌, ◌<◌, ◌≤◌, ◌++◌, ℕ, true, List, [], ◌∷◌, length, take, drop, get_or, Option, Some, None, refl, sym, ap, arith, append_assoc, length-take-le, length-drop, take-append-drop}
+use Rattle.std.proofs.Common.{inl, inr, ◌≡◌, ◌∙◌, ◌+◌, ◌-◌, ◌<◌, ◌≤◌, ◌++◌, ℕ, true, List, [], ◌∷◌, length, take, drop, get_or, Option, Some, None, sym, ap, arith, append_assoc, length-take-le, length-drop, take-append-drop}
 use Rattle.std.specs.Int.{w32, to_be_bytes, from_be_bytes}
 use Rattle.std.proofs.lemmas.Bool.Decides.{nat_tests}
 use Rattle.std.proofs.lemmas.Nat.{be_bytes_4}
@@ -12,13 +12,8 @@ use Rattle.cut_messages.specs.declared.kind.Kind.{Kind}
 use Rattle.cut_messages.specs.declared.side.Side.{Side}
 use Rattle.cut_messages.specs.declared.side.Side.TheVariants.{Requests, Replies}
 use Rattle.cut_messages.specs.Kinds.{byte_of, kind_at, length_of, fits}
-use Rattle.cut_messages.specs.Frames.{length_fault, fault_behind, fault_at}
+use Rattle.cut_messages.specs.Frames.{length_fault}
 use Rattle.cut_messages.specs.Fronts.{IsWhole}
-
-pub fault_first : (side : Side) (bytes : List ℕ) → 0 < length bytes
-    → fault_at side bytes ≡ fault_behind side (kind_at side (get_or bytes 0 0)) (drop 1 bytes)
-fault_first side [] some = absurd (omega (arith, some))
-fault_first side (first ∷ rest) some = refl
 
 -- a kind's letter is the byte that it was found by
 kind_byte : (side : Side) (byte : ℕ) (kind : Kind) → kind_at side byte ≡ Some kind → byte_of kind ≡ byte

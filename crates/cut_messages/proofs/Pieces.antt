@@ -2,6 +2,7 @@
 use Rattle.std.proofs.Common.{◌≡◌, ◌∙◌, ◌++◌, ℕ, List, [], true, false, Option, Some, None, refl, sym, ap, subst, append_assoc, append-nil}
 use Rattle.std.specs.List.{flat_map}
 use Rattle.std.specs.Option.{is_some}
+use Rattle.std.proofs.ByRecursion.{All-append}
 use Rattle.std.proofs.lemmas.List.Concat.{flat_map-append}
 use Rattle.cut_messages.specs.declared.side.Side.{Side}
 use Rattle.cut_messages.specs.declared.message.Message.{Message}
@@ -9,7 +10,6 @@ use Rattle.cut_messages.specs.declared.fault.StreamFault.{StreamFault}
 use Rattle.cut_messages.specs.Frames.{frame_of, IsMessage, fault_at}
 use Rattle.cut_messages.specs.Reading.{Splits, Reading, HasRead}
 use Rattle.cut_messages.proofs.Frames.{fault_more, no_message}
-use Rattle.cut_messages.proofs.Streams.{both}
 
 fault_there : (o : Option StreamFault) → is_some o ≡ true → (fault : StreamFault) × (o ≡ Some fault)
 fault_there None some = cc
@@ -54,7 +54,7 @@ read_on old new stream piece bytes rest messages more right has are splits side 
     (ap (λ (l : List ℕ). flat_map frame_of messages ++ l) (cc)) in
     let all : Splits old.side (stream ++ piece) (messages ++ more) rest = record {
       whole = whole;
-      each = both (IsMessage old.side) messages more has.splits.each splits.each;
+      each = All-append (IsMessage old.side) messages more has.splits.each splits.each;
       last = splits.last;
     } in
     record {

@@ -12,8 +12,8 @@ use Rattle.cut_messages.specs.Kinds.{byte_of, kind_at}
 use Rattle.cut_messages.specs.Frames.{frame_of, IsMessage}
 use Rattle.cut_messages.specs.Reading.{HasNoMessage}
 use Rattle.cut_messages.specs.Fronts.{message_in, IsWhole}
-use Rattle.cut_messages.specs.Laws.{ReadingsAgree, MessagesTakeRoom, FaultsStay}
-use Rattle.cut_messages.proofs.Frames.{long_frame, behind_four, length_told, fault_more, no_message}
+use Rattle.cut_messages.specs.Laws.{ReadingsAgree, MessagesTakeRoom}
+use Rattle.cut_messages.proofs.Frames.{long_frame, behind_four, length_told}
 
 -- two messages at the front of the same bytes are one
 one_frame : (side : Side) (m n : Message) (t u : List ℕ) → IsMessage side m → IsMessage side n
@@ -60,12 +60,6 @@ agree side stream ms ns r s splits splits_too =
     one_reading side ms ns r s splits.each splits_too.each splits.last splits_too.last
     (sym splits.whole ∙ splits_too.whole)
 
--- what holds of each of two lists holds of each of both
-pub both : (P : Message → Type 0) (xs ys : List Message) → AllByRecursion P xs → AllByRecursion P ys
-    → AllByRecursion P (xs ++ ys)
-both P [] ys first second = second
-both P (x ∷ xs) ys first second = (first.0, both P xs ys first.1 second)
-
 -- a message more is read
 pub one_more : (side : Side) (bytes : List ℕ) (messages : List Message) (read n : ℕ) (kind : Kind)
     → bytes ≡ flat_map frame_of messages ++ drop read bytes → IsWhole side (drop read bytes) kind n
@@ -92,6 +86,3 @@ room side stream ms r splits =
     let size : length stream ≡ length (flat_map frame_of ms) + length r =
     ap (λ (l : List ℕ). length l) splits.whole ∙ length-append (flat_map frame_of ms) r in
     (omega (arith, frames.0, size), omega (arith, frames.1, size))
-
-pub stay : FaultsStay
-stay side bytes more fault wrong = (fault_more side bytes more fault wrong, no_message side bytes fault wrong)

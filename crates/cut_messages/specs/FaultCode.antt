@@ -19,7 +19,7 @@ abbrev pub code_of_end : EndFault → FaultCode
 code_of_end (end.Stream fault) = code_of_stream fault
 code_of_end end.Truncated = code.Truncated
 
--- the number of what ended an asking: of the program's list, or as the server told it
+-- the number of what ended an asking: of the program's list, or as the server reported it
 abbrev pub number_of_ask : AskFault → ℕ
 number_of_ask ask.Memory = number_of code.WorkMemory
 number_of_ask ask.PlanTooLong = number_of code.PlanTooLong

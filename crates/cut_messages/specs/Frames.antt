@@ -31,7 +31,7 @@ abbrev pub length_fault : Option ℕ → ℕ → Option StreamFault
 length_fault right n =
     if nat_lt 65536 n then Some TooLong else (if fits right n then None else Some BadLength)
 
--- what is wrong with a message behind its first byte, which stands for this kind, if for any: first
+-- what is wrong with a message after its first byte, which stands for this kind, if for any: first
 -- that it is no kind; then, once the four bytes of the length are there, the length
 abbrev pub fault_behind : Side → Option Kind → List ℕ → Option StreamFault
 fault_behind side None rest = Some BadKind

@@ -8,7 +8,7 @@ use Rattle.cut_messages.specs.declared.front.Front.TheVariants.{Whole, Wrong, Sh
 use Rattle.cut_messages.specs.Frames.{frame, IsMessage, fault_at}
 use Rattle.cut_messages.specs.Reading.{HasNoMessage}
 
--- the message of a kind with the n bytes behind the first five as payload
+-- the message of a kind with the n bytes after the first five as payload
 abbrev pub message_in : List ℕ → Kind → ℕ → Message
 message_in bytes kind n = record { kind = kind; payload = take n (drop 5 bytes) }
 

@@ -35,7 +35,7 @@ length_of side kind.Fault = Some 2
 length_of Requests kind.Count = Some 4
 length_of Replies kind.Count = Some 8
 
--- whether a payload may have so many bytes, where those of its kind have these
+-- whether a payload may have this many bytes, where those of its kind have these
 abbrev pub fits : Option ℕ → ℕ → Bool
 fits None n = true
 fits (Some right) n = n == right

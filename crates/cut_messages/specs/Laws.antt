@@ -11,13 +11,13 @@ abbrev pub ReadingsAgree : Type 0
 ReadingsAgree = (side : Side) (stream : List ℕ) (ms ns : List Message) (r s : List ℕ) →
     Splits side stream ms r → Splits side stream ns s → (ms ≡ ns) × (r ≡ s)
 
--- a stream has from 5 to 65,541 bytes for each of its messages, and those behind them
+-- a stream has from 5 to 65,541 bytes for each of its messages, and those after them
 abbrev pub MessagesTakeRoom : Type 0
 MessagesTakeRoom = (side : Side) (stream : List ℕ) (ms : List Message) (r : List ℕ) →
     Splits side stream ms r →
     (5 * length ms + length r ≤ length stream) × (length stream ≤ 65541 * length ms + length r)
 
--- a fault at the front of some bytes stays there whatever comes behind them, and no message stands
+-- a fault at the front of some bytes stays there whatever comes after them, and no message stands
 -- there
 abbrev pub FaultsStay : Type 0
 FaultsStay = (side : Side) (bytes more : List ℕ) (fault : StreamFault)

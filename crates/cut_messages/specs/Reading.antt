@@ -13,8 +13,8 @@ abbrev pub HasNoMessage : Side → List ℕ → Type 0
 HasNoMessage side bytes =
     (m : Message) (tail : List ℕ) → IsMessage side m → bytes ≡ frame_of m ++ tail → ⊥
 
--- the messages of a stream, as it is so far: their frames stand at its front, one behind another,
--- each may go this way, and no whole message stands behind them
+-- the messages of a stream, as it is so far: their frames stand at its front, one after another,
+-- each may go this way, and no whole message comes after them
 pub record Splits (side : Side) (stream : List ℕ) (messages : List Message) (rest : List ℕ)
     : Type 0 where
   pub whole : stream ≡ flat_map frame_of messages ++ rest
@@ -33,7 +33,7 @@ abbrev pub fresh : Side → Reading
 fresh side = record { side = side; held = []; fault = None }
 
 -- a reader was fed this stream, in whatever pieces, and gave these messages: they are the stream's;
--- the fault is that behind them; and where there is none, the bytes behind them are held
+-- the fault is that after them; and where there is none, the bytes after them are held
 pub record HasRead (r : Reading) (stream : List ℕ) (messages : List Message) : Type 0 where
   pub rest : List ℕ
   pub splits : Splits r.side stream messages rest

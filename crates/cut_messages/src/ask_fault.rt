@@ -26,12 +26,12 @@ pub enum AskFault {
     Truncated,
     /// Something that is no reply stands in the answer.
     Stream(StreamFault),
-    /// The server told the fault with this number.
+    /// The server reported the fault with this number.
     Told(u16),
 }
 
 impl AskFault {
-    /// The fault's number: one of the program's list of faults, or what the server told.
+    /// The fault's number: one of the program's list of faults, or what the server reported.
     pub fn number(self) -> u16
         ensures { result ≡ number_of_ask self }
     {

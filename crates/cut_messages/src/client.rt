@@ -6,7 +6,7 @@ use crate::frame::send_message;
 use crate::replies::{Progress, take_piece};
 use crate::side::LONGEST;
 use crate::{AskFault, Kind, Reader};
-use cut_wires::{Line, Wire, WireFault};
+use cut_wires::{Line, Wire, WriteFault};
 use std::alloc::Global;
 
 /// How many bytes a read brings at most.
@@ -58,7 +58,7 @@ pub fn ask<W: Wire, O: Wire>(
 }
 
 /// Sends a plan, and that no further request comes.
-fn send_request<W: Wire>(wire: &mut W, plan_text: &[u8]) -> Result<(), WireFault>
+fn send_request<W: Wire>(wire: &mut W, plan_text: &[u8]) -> Result<(), WriteFault>
     requires { length plan_text.now ≤ 65536 }
     ensures { Requests result plan_text.now (W.log wire.old) (W.log wire.new) }
 {
@@ -66,7 +66,7 @@ fn send_request<W: Wire>(wire: &mut W, plan_text: &[u8]) -> Result<(), WireFault
 }
 
 /// Sends the same over a line.
-fn send_both<W: Wire>(line: &mut Line<'_, W>, plan_text: &[u8]) -> Result<(), WireFault>
+fn send_both<W: Wire>(line: &mut Line<'_, W>, plan_text: &[u8]) -> Result<(), WriteFault>
     requires { length plan_text.now ≤ 65536 }
     ensures { Sends result (request plan_text.now) (sending W.log line.old) (sending W.log line.new) }
 {

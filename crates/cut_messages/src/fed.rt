@@ -5,6 +5,6 @@ use crate::{Message, StreamFault};
 pub struct Fed {
     /// The messages that the piece completed, in order.
     pub messages: Vec<Message>,
-    /// What is wrong with the stream behind these messages, if something is.
+    /// What is wrong with the stream after these messages, if something is.
     pub fault: Option<StreamFault>,
 }

@@ -6,7 +6,7 @@ ghost use Rattle.cut_messages.specs.Frames.{frame};
 
 use crate::Kind;
 use crate::front::HEAD;
-use cut_wires::{Framing, Line, Wire, WireFault};
+use cut_wires::{Framing, Line, Wire, WriteFault};
 
 /// How many bytes a frame has at most that is sent by one write, where the wire takes it whole.
 const BUFFER: usize = 512;
@@ -16,7 +16,7 @@ pub fn send_message<W: Wire>(
     line: &mut Line<'_, W>,
     kind: Kind,
     payload: &[u8],
-) -> Result<(), WireFault>
+) -> Result<(), WriteFault>
     requires { length payload.now ≤ 65536 }
     ensures { Sends result (frame kind payload.now) (sending W.log line.old) (sending W.log line.new) }
 {
@@ -29,7 +29,7 @@ pub fn send_message<W: Wire>(
 }
 
 /// Sends the same by a write for what comes before the payload, and others for that.
-fn send_parts<W: Wire>(line: &mut Line<'_, W>, kind: Kind, payload: &[u8]) -> Result<(), WireFault>
+fn send_parts<W: Wire>(line: &mut Line<'_, W>, kind: Kind, payload: &[u8]) -> Result<(), WriteFault>
     requires { length payload.now ≤ 65536 }
     ensures { Sends result (frame kind payload.now) (sending W.log line.old) (sending W.log line.new) }
 {
@@ -69,7 +69,7 @@ impl Framing for RowMessages {
 
     ghost framed = { λ text. frame Row text };
 
-    fn send<W: Wire>(line: &mut Line<'_, W>, text: &[u8]) -> Result<(), WireFault> {
+    fn send<W: Wire>(line: &mut Line<'_, W>, text: &[u8]) -> Result<(), WriteFault> {
         send_message(line, Kind::Row, text)
     }
 

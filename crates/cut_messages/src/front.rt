@@ -10,7 +10,7 @@ pub(crate) const HEAD: usize = 5;
 /// What stands at the front of some bytes of a stream.
 #[derive(Clone, Copy)]
 pub(crate) enum Front {
-    /// A message of this kind, with a payload of so many bytes.
+    /// A message of this kind, with a payload of this many bytes.
     Whole(Kind, usize),
     /// No message, and this is why.
     Wrong(StreamFault),
@@ -43,7 +43,7 @@ pub(crate) fn front_of(side: Side, bytes: &[u8]) -> Front
     Front::Whole(kind, length)
 }
 
-/// The length that a frame tells of its payload.
+/// The length of the payload, as a frame gives it.
 fn length_in(bytes: &[u8]) -> u32
     requires { 5 ≤ length bytes.now }
     ensures { result ≡ from_be_bytes w32 (take 4 (drop 1 bytes.now)) }

@@ -2,13 +2,14 @@
 
 ghost use Rattle.cut_messages.specs.Laws.{ReadingsAgree, MessagesTakeRoom, FaultsStay};
 
-/// A stream has one reading: two lists of messages of it are one, and so is what stands behind
+/// A stream has one reading: two lists of messages of it are one, and so is what comes after
 /// them.
 pub fn readings_agree()
     ensures { ReadingsAgree }
 {}
 
 /// Each message takes from 5 to 65,541 bytes of its stream.
+#[tactic(auto, using(crate::proofs::Streams::room))]
 pub fn messages_take_room()
     ensures { MessagesTakeRoom }
 {}

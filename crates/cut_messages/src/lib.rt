@@ -3,7 +3,7 @@
 //!
 //! A message is a [`Kind`] and a [`Payload`]. On a wire it is a frame: a byte for the kind, the
 //! payload's length in four bytes, high byte first, and the payload. A [`Reader`] takes a stream in
-//! whatever pieces it comes, gives the messages that are whole, and tells what stands where a
+//! whatever pieces it comes, gives the messages that are whole, and reports what stands where a
 //! message should: a byte that is no kind of that side, a length above 65,536, or one that is wrong
 //! for the kind, looked for in that order. [`laws`] say that a stream has one reading.
 //!

@@ -57,9 +57,9 @@ impl Reader {
     }
 
     /// Reads the next piece of the stream: gives the messages that it completes, and the fault that
-    /// stands behind them, if one does. After a fault each later piece gives that fault and no
-    /// message. What is held between two pieces are at most 65,540 bytes. Want of memory takes
-    /// nothing of the piece.
+    /// comes after them, if one does. After a fault each later piece gives that fault and no
+    /// message. What is held between two pieces are at most 65,540 bytes. Where memory runs out,
+    /// nothing of the piece is read.
     pub fn feed(&mut self, alloc: Global, piece: &[u8]) -> Result<Fed, AllocError>
         ensures reads { (stream : List ℕ) (messages : List Message) →
             HasRead self.old stream messages → IfOk result

@@ -12,7 +12,7 @@ pub(crate) struct Split {
     pub messages: Vec<Message>,
     /// How many bytes the messages take.
     pub read: usize,
-    /// What stands behind them.
+    /// What is wrong after them.
     pub fault: Option<StreamFault>,
 }
 

@@ -1,5 +1,6 @@
 //! What no contract of `cut_receivers` says: receivers of drawn trials beside detectors to which their deliveries are
-//! replayed one by one, receivers whose images tie, and receivers for whose times memory runs out.
+//! replayed one by one, receivers whose images tie, images of so few bits that many tie, and receivers for whose times
+//! memory runs out.
 //!
 //! The tests stand in a crate of their own, as they use the crate as its callers do, and its proof need not be made again
 //! for them.
@@ -16,5 +17,7 @@ mod refused_memory;
 mod replays;
 #[cfg(test)]
 mod setting;
+#[cfg(test)]
+mod seven_bits;
 #[cfg(test)]
 mod ties;

@@ -41,15 +41,19 @@ struct Found {
     settled: Option<u64>,
 }
 
+/// The lists of the orders.
+fn orders(alloc: Global) -> Result<Vec<Vec<u16>>, AllocError> {
+    let mut lists: Vec<Vec<u16>> = Vec::new(alloc);
+    for order in ORDERS {
+        lists.push(Vec::from_array(alloc, order)?)?;
+    }
+    Ok(lists)
+}
+
 /// Process 0 has crashed, and process 5 lies: all four rings report 0, two report 3, and one 1.
 fn setting(rt: &impl Abort, alloc: Global) -> Result<Setting, Fail> {
-    let [first, second, third, fourth] = ORDERS;
-    let lists = [
-        Vec::from_array(alloc, first)?,
-        Vec::from_array(alloc, second)?,
-        Vec::from_array(alloc, third)?,
-        Vec::from_array(alloc, fourth)?,
-    ];
+    let lists = orders(alloc)?;
+    assert!(rt; lists.len() <= 32);
     let rings = Rings::from_lists(alloc, 6, &lists)?;
     let roles = Roles::given_mixed(alloc, 6, &[0], &[], &[5], &[], Dead::Silent)?;
     Setting::new(rt, alloc, RULE, rings, &roles)

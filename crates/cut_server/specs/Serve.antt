@@ -37,7 +37,7 @@ IsOfServing fault = ⊥
 
 -- why a report was not written whole
 abbrev pub IsOfWriting : CliFault → Type 0
-IsOfWriting (Write sent) = ⊤
+IsOfWriting (Write fault) = ⊤
 IsOfWriting fault = ⊥
 
 -- ---- a listener
@@ -95,8 +95,8 @@ IsWrittenUpTo sent report old new =
 -- bytes as were written before a write failed; and nothing where there is no report. No other call of the wire fails.
 abbrev pub WritesReport : ℕ → Result (List SlotEnd) CliFault → Log → Log → Type 0
 WritesReport studies (Ok report) old new = IsReport studies report × IsWrittenWhole report old new
-WritesReport studies (Err (Write sent)) old new =
-    (report : List SlotEnd) × (IsReport studies report × IsWrittenUpTo sent report old new)
+WritesReport studies (Err (Write fault)) old new =
+    (report : List SlotEnd) × (IsReport studies report × IsWrittenUpTo fault.sent report old new)
 WritesReport studies (Err Folder) old new = new ≡ old
 WritesReport studies (Err Socket) old new = new ≡ old
 WritesReport studies (Err WorkMemory) old new = new ≡ old

@@ -173,7 +173,7 @@ fn write_accepted<W: Wire>(report: Report, wire: &mut W) -> Result<Report, CliFa
     text.push_str("\n");
     match send_all(wire, text.as_bytes()) {
         Ok(()) => Ok(report),
-        Err(sent) => Err(CliFault::Write(sent.bytes)),
+        Err(fault) => Err(CliFault::Write(fault)),
     }
 }
 

@@ -1,5 +1,5 @@
 -- Sessions, read by read.
-use Rattle.std.proofs.Common.{◌≡◌, ◌∙◌, ◌+◌, ◌-◌, ◌*◌, ◌^◌, ◌<◌, ◌≤◌, ◌++◌, min, ℕ, false, List, [], ◌∷◌, length, take, nat_eq, Option, Some, None, Result, Ok, Err, inr, refl, sym, ap, subst, arith, append_assoc, append-nil, length-append, length-take-le}
+use Rattle.std.proofs.Common.{◌≡◌, ◌∙◌, ◌+◌, ◌-◌, ◌*◌, ◌^◌, ◌<◌, ◌≤◌, ◌++◌, min, ℕ, false, List, [], ◌∷◌, length, take, nat_eq, None, Ok, Err, inr, refl, sym, ap, arith, append_assoc, append-nil, length-append, length-take-le}
 use Rattle.std.specs.Borrow.{GName}
 use Rattle.std.proofs.lemmas.Bool.Decides.{nat_tests}
 use Rattle.std.proofs.Math.Seq.{take-append-add}
@@ -7,10 +7,7 @@ use Rattle.cut_board.specs.declared.view.View.{View}
 use Rattle.cut_wires.specs.Log.{Traffic, Log, passing, with_taken, with_given, wrote, read_failed}
 use Rattle.cut_wires.specs.Sending.{Sending, sent_on, got_on}
 use Rattle.cut_wires.proofs.Logs.{passing_twice, passing_same, passing_none}
-use Rattle.cut_messages.specs.declared.side.Side.{Side}
 use Rattle.cut_messages.specs.declared.side.Side.TheVariants.{Requests}
-use Rattle.cut_messages.specs.declared.message.Message.{Message}
-use Rattle.cut_messages.specs.declared.fault.StreamFault.{StreamFault}
 use Rattle.cut_messages.specs.declared.fault.EndFault.{EndFault}
 use Rattle.cut_hall.specs.Hall.{Rooms}
 use Rattle.cut_hall.specs.Pass.{Holding}
@@ -20,19 +17,12 @@ use Rattle.cut_session.specs.declared.session_end.SessionFault.{SessionFault}
 use Rattle.cut_session.specs.declared.session_end.SessionFault.TheVariants as session
 use Rattle.cut_session.specs.FaultCode.{code_of_session}
 use Rattle.cut_messages.specs.Frames.{fault_at}
-use Rattle.cut_messages.specs.Reading.{Splits, Reading, HasRead, end_of}
+use Rattle.cut_messages.specs.Reading.{Reading, HasRead, end_of}
 use Rattle.cut_session.specs.Answering.{Rises, error_frame}
 use Rattle.cut_session.specs.Session.{request_limit, Course, IsCourse, IsDue, passed, with_end, ended, read_by, EndsAs, Ends}
-use Rattle.cut_session.specs.Serving.{Leaves, IsServing, Concludes, Goes, conveyed, served, longest_reply}
+use Rattle.cut_session.specs.Serving.{Leaves, IsServing, Concludes, conveyed, served, longest_reply}
 
 -- ---- the wire of a session
-
--- traffic and a line of which the parts are known
-abbrev with_bytes : List ℕ → List ℕ → ℕ → Traffic
-with_bytes taken given ends = record { taken = taken; given = given; ends = ends }
-
-abbrev at_line : Sending → Log → ℕ → Sending
-at_line s log sent = record { wire = s.wire; log = log; sent = sent }
 
 -- writes after others
 conveyed_more : (out given more : List ℕ) (l : Log)
@@ -66,72 +56,45 @@ pub record Stands (first : Sending) (fault : SessionFault) (c : Course) (mid : S
   pub sent : mid.sent ≡ length c.out
   pub short : length c.out ≤ longest_reply * 1000000
 
--- the frame of a fault, of seven bytes
-frame_long : (fault : SessionFault) → length (error_frame (code_of_session fault)) ≡ 7
-frame_long fault = omega arith
-
 module _ {hall : Rooms} {low high : View} {c : Course} {fault : SessionFault} {first mid : Sending}
     (is : IsCourse hall low high c) (due : IsDue fault c) (stands : Stands first fault c mid) where
   passed_more : (bytes : List ℕ) → wrote mid.log bytes ≡ read_by fault (passed c (c.out ++ bytes) first.log)
   passed_more bytes =
-      cc (stands.log, read_by_more fault (passed c c.out first.log) bytes, conveyed_more c.out (c.stream ++ c.last) bytes first.log)
+      let same = read_by_more fault (passed c c.out first.log) bytes in
+      cc (stands.log, conveyed_more c.out (c.stream ++ c.last) bytes first.log)
 
-  pub leaves : (result : SessionEnd) (new : Sending) → Leaves fault result mid new → Concludes hall low high result first new
-  leaves (end.Fault told) new l =
+  pub leaves : (result : SessionEnd) (new : Sending) → Leaves fault result mid new
+      → Concludes hall low high result first new
+  leaves (end.Fault sent) new (same, on) =
       let frame : List ℕ = error_frame (code_of_session fault) in
-      let ends : EndsAs hall low high (end.Fault fault) c first.log new.log =
-      (due, ap (λ (s : Sending). s.log) l.1 ∙ passed_more frame) in (
-        (c, is, subst (λ (t : SessionFault). EndsAs hall low high (end.Fault t) c first.log new.log) (sym l.0) ends),
-        ap (λ (s : Sending). s.wire) l.1 ∙ stands.wire,
-      )
-  leaves (end.Write n) new l =
+      let ends : EndsAs hall low high (end.Fault fault) c first.log new.log = (due, cc (on, passed_more frame)) in
+      rw same ((c, is, ends), cc (on, stands.wire))
+  leaves (end.Write failed) new (count, (k, low_k, cut)) =
       let frame : List ℕ = error_frame (code_of_session fault) in
-      let (k, low_k, cut) = l.1 in
+      let seven : length frame ≡ 7 = omega arith in
       let size : length (take k frame) ≡ k = length-take-le k frame (omega (arith, low_k)) in
-      let sum : n ≡ length c.out + k =
-      omega (
-        arith,
-        l.0,
-        ap (λ (s : Sending). s.sent) cut,
-        stands.sent,
-        stands.short,
-        size,
-        low_k,
-        frame_long fault,
-      ) in
-      let part : c.out ++ take k frame ≡ take n (c.out ++ frame) = cc (sum, take-append-add c.out frame k) in
-      let ends : EndsAs hall low high (end.Write n) c first.log new.log = inr (
+      let sum : failed.sent ≡ length c.out + k =
+      omega (arith, ap (λ (s : Sending). s.sent) cut, stands.sent, stands.short) in
+      let part : c.out ++ take k frame ≡ take failed.sent (c.out ++ frame) = cc (sum, take-append-add c.out frame k) in
+      let ends : EndsAs hall low high (end.Write failed) c first.log new.log = inr (
         fault,
         due,
         omega (arith, sum),
         omega (arith, sum, low_k, length-append c.out frame),
         cc (cut, passed_more (take k frame), part),
       ) in
-      ((c, is, ends), ap (λ (s : Sending). s.wire) cut ∙ stands.wire)
+      ((c, is, ends), cc (cut, stands.wire))
   leaves other new l = absurd l
 
 -- ---- between two reads
 
-side_of : (r : Reading) (stream : List ℕ) (messages : List Message) → (read : HasRead r stream messages)
-    → r.side ≡ Requests → Splits Requests stream messages read.rest
-side_of r stream messages read side =
-    subst (λ (s : Side). Splits s stream messages read.rest) side read.splits
+none_held : (held : List ℕ) → end_of None held ≡ Ok tt → held ≡ []
+none_held [] ends = refl
+none_held (b ∷ held) ends = cc
 
-pub fault_of : (r : Reading) (stream : List ℕ) (messages : List Message) (fault : Option StreamFault)
-    → (read : HasRead r stream messages) → r.side ≡ Requests → r.fault ≡ fault → fault_at Requests read.rest ≡ fault
-fault_of r stream messages fault read side is =
-    ap (λ (s : Side). fault_at s read.rest) (sym side) ∙ sym read.fault ∙ is
-
-none_held : (fault : Option StreamFault) (held : List ℕ) → fault ≡ None → end_of fault held ≡ Ok tt → held ≡ []
-none_held (Some f) held right ends = cc
-none_held None [] right ends = refl
-none_held None (b ∷ held) right ends = cc
-
-some_held : (fault : Option StreamFault) (held : List ℕ) (e : EndFault) → fault ≡ None → end_of fault held ≡ Err e
-    → held ≡ [] → ⊥
-some_held (Some f) held e right ends none = cc
-some_held None [] e right ends none = cc
-some_held None (b ∷ held) e right ends none = cc
+some_held : (held : List ℕ) (e : EndFault) → end_of None held ≡ Err e → held ≡ [] → ⊥
+some_held [] e ends none = cc
+some_held (b ∷ held) e ends none = cc
 
 -- the course so far, with what a read gave that is not read yet
 abbrev pub course_of : {hall : Rooms} {low high : View} {r : Reading} {requests : ℕ} {piece : List ℕ}
@@ -150,14 +113,13 @@ module _ {hall : Rooms} {low high : View} {r : Reading} {requests : ℕ} {piece 
     (none_sent : first.sent ≡ 0) where
   pub is_course : (last : List ℕ) → IsCourse hall low high (course_of last s)
   is_course last = record {
-    splits = subst (λ (l : List Message). Splits Requests s.stream l s.read.rest) (sym (append-nil s.messages))
-        (side_of r s.stream s.messages s.read s.side);
+    splits = rw append-nil (rw s.side at s.read.splits);
     few = omega (arith, few, s.many);
     replies = s.replies;
   }
 
   pub right_after : fault_at Requests s.read.rest ≡ None
-  right_after = fault_of r s.stream s.messages None s.read s.side s.right
+  right_after = cc (s.side, s.read.fault, s.right)
 
   -- a fault is due now, after what the last read did
   stands_at : (fault : SessionFault) (last : List ℕ) (mid : Sending) → mid.wire ≡ now.wire → mid.sent ≡ now.sent
@@ -189,13 +151,17 @@ serves_first hall v r first read right side rises none_sent = record {
   many = refl;
   replies = (rises, refl);
   few = omega arith;
-  line = sym (
-      ap (λ (l : Log). at_line first l (min (first.sent + 0) (2 ^ 64 - 1)))
-      (passing_none (conveyed [] ([] ++ [])) first.log (λ t. ap (λ (l : List ℕ). with_bytes l (t.given ++ []) t.ends) (append-nil t.taken)
-      ∙ ap (λ (l : List ℕ). with_bytes t.taken l t.ends) (append-nil t.given)))
-      ∙ ap (λ (n : ℕ). at_line first first.log n)
-      (let e : min (first.sent + 0) (2 ^ 64 - 1) ≡ first.sent = omega (arith, none_sent) in e)
-      );
+  line =
+      let on : Log → ℕ → Sending = λ log sent. record { wire = first.wire; log = log; sent = sent } in
+      let bytes : Traffic → List ℕ → List ℕ → Traffic = λ t out given. record {
+        taken = out;
+        given = given;
+        ends = t.ends;
+      } in
+      let count : first.sent ≡ min (first.sent + 0) (2 ^ 64 - 1) = omega (arith, none_sent) in
+      let nothing = passing_none (conveyed [] []) first.log (λ t.
+      ap (λ out. bytes t out (t.given ++ [])) (append-nil t.taken) ∙ ap (bytes t t.taken) (append-nil t.given)) in
+      ap (λ log. on log first.sent) (sym nothing) ∙ ap (on (passing (conveyed [] []) first.log)) count;
 }
 
 module _ {hall : Rooms} {low high : View} {r : Reading} {requests : ℕ} {first now : Sending}
@@ -229,12 +195,10 @@ module _ {hall : Rooms} {low high : View} {r : Reading} {requests : ℕ} {first 
       → new ≡ got_on now buffer n → n ≡ 0 → end_of r.fault r.held ≡ Ok tt
       → Concludes hall low high end.EndOfInput first new
   ends_between buffer n few none_sent is none whole =
-      let rest : s.read.rest ≡ [] = sym (s.read.held s.right) ∙ none_held r.fault r.held s.right whole in
+      let rest : s.read.rest ≡ [] = sym (s.read.held s.right) ∙ none_held r.held (rw s.right at whole) in
       let ends : EndsAs hall low high end.EndOfInput (course_of [] s) first.log new.log =
-      ((refl, refl), rest, gave_end buffer n is none) in (
-        (course_of [] s, is_course s few none_sent [], ends),
-        ap (λ (t : Sending). t.wire) is ∙ ap (λ (t : Sending). t.wire) s.line,
-      )
+      ((refl, refl), rest, gave_end buffer n is none) in
+      ((course_of [] s, is_course s few none_sent [], ends), cc (is, s.line))
 
   pub ends_within : (buffer : List ℕ) (n : ℕ) (result : SessionEnd) (e : EndFault) (last : Sending)
       → requests ≤ request_limit → first.sent ≡ 0 → new ≡ got_on now buffer n → n ≡ 0
@@ -244,7 +208,7 @@ module _ {hall : Rooms} {low high : View} {r : Reading} {requests : ℕ} {first 
       let due : IsDue session.Truncated (course_of [] s) = (
         (refl, refl),
         right_after s few none_sent,
-        λ empty. some_held r.fault r.held e s.right part (s.read.held s.right ∙ empty),
+        λ empty. some_held r.held e (rw s.right at part) (s.read.held s.right ∙ empty),
       ) in
       leaves (is_course s few none_sent []) due
       (stands_at s few none_sent session.Truncated [] new (ap (λ (t : Sending). t.wire) is)
@@ -260,17 +224,6 @@ module _ {hall : Rooms} {low high : View} {r : Reading} {requests : ℕ} {first 
       (stands_at s few none_sent session.Read [] new (ap (λ (t : Sending). t.wire) is) (ap (λ (t : Sending). t.sent) is)
       (ap (λ (t : Sending). t.log) is ∙ ap (λ (t : Sending). read_failed t.log) s.line)) result last l
 
--- a piece was taken, in a hall that stays the same
-module _ {hall here : Rooms} {low middle : View} {r : Reading} {requests : ℕ} {piece : List ℕ} {first now : Sending}
-    (serves : IsServing hall low middle r requests piece first now) (same : here ≡ hall) where
-  pub goes_at : {x y : Result ℕ SessionEnd} (high : View) (next : Reading) (new : Sending) → x ≡ y
-      → (IsServing here low middle r requests piece first now → Goes here low high x next first new)
-      → Goes hall low high y next first new
-  goes_at {x = x} high next new is goes =
-      subst (λ (z : Result ℕ SessionEnd). Goes hall low high z next first new) is
-      (subst (λ (h : Rooms). IsServing h low middle r requests piece first now → Goes h low high x next first new) same
-      goes serves)
-
 -- ---- once the line and the session are given up
 
 pub concludes_at : {X : Type 0} (log : X → Log) (hall : Rooms) (low high : View) (end : SessionEnd)
@@ -278,14 +231,12 @@ pub concludes_at : {X : Type 0} (log : X → Log) (hall : Rooms) (low high : Vie
     → old ≡ record { wire = name; log = log first; sent = 0 }
     → Concludes hall low high end old (record { wire = other; log = log last; sent = sent })
     → (name ≡ other → after ≡ last) → Ends hall low high end (log first) (log after)
-concludes_at log hall low high end first last after name other sent old fresh is leaves =
-    let same : other ≡ name = is.1 ∙ ap (λ (s : Sending). s.wire) fresh in
-    let ends : Ends hall low high end (log first) (log last) =
-    subst (λ (s : Sending). Ends hall low high end s.log (log last)) fresh is.0 in
-    subst (λ (l : Log). Ends hall low high end (log first) l) (sym (ap log (leaves (sym same)))) ends
+concludes_at log hall low high end first last after name other sent old fresh (ends, same) leaves =
+    let wires : name ≡ other = cc (same, fresh) in
+    rw (leaves wires) (rw fresh at ends)
 
 pub seen_at : (hall : Rooms) (low : View) (end : SessionEnd) (old new : Log) (last after : Holding) (name other : GName)
     → other ≡ name → (name ≡ other → after ≡ last) → Ends hall low last.view end old new
     → Ends hall low after.view end old new
 seen_at hall low end old new last after name other same leaves ends =
-    subst (λ (p : Holding). Ends hall low p.view end old new) (sym (leaves (sym same))) ends
+    rw (leaves (sym same)) ends

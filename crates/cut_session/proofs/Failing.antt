@@ -23,7 +23,7 @@ failed_at hall low high end.Quit old new (c, is, ends) = ap (λ (l : Log). l.fai
 failed_at hall low high end.EndOfInput old new (c, is, ends) = ap (λ (l : Log). l.failed) ends.2
 failed_at hall low high (end.Fault session.Read) old new (c, is, ends) = ap (λ (l : Log). l.failed) ends.1
 failed_at hall low high (end.Fault fault) old new (c, is, ends) = ap (λ (l : Log). l.failed) ends.1
-failed_at hall low high (end.Write sent) old new (c, is, inl cut) = inl (ap (λ (l : Log). l.failed) cut.4)
-failed_at hall low high (end.Write sent) old new (c, is, inr cut) =
-    by_write cut.0 (passed c (take sent (replies_to cut.0 c)) old) new old.failed refl
+failed_at hall low high (end.Write fault) old new (c, is, inl cut) = inl (ap (λ (l : Log). l.failed) cut.4)
+failed_at hall low high (end.Write fault) old new (c, is, inr cut) =
+    by_write cut.0 (passed c (take fault.sent (replies_to cut.0 c)) old) new old.failed refl
     (ap (λ (l : Log). l.failed) cut.4)

@@ -1,6 +1,5 @@
 pub mod Turns
 pub mod Tables
-pub mod Cuts
 pub mod Courses
 pub mod Failing
 pub mod Feeding

@@ -1,15 +1,15 @@
 -- The frames of a table, as they are sent.
-use Rattle.std.proofs.Common.{◌≡◌, ◌+◌, ◌*◌, ◌≤◌, ◌++◌, ℕ, Bool, List, length, Result, Ok, Err, inl, inr, refl, sym, ap, subst, arith, length-append}
+use Rattle.std.proofs.Common.{◌≡◌, ◌+◌, ◌*◌, ◌≤◌, ◌++◌, ℕ, Bool, List, length, Result, Ok, Err, inl, inr, refl, ap, subst, arith, length-append}
 use Rattle.std.specs.Bool.{⊤}
 use Rattle.std.specs.Borrow.{GName}
 use Rattle.std.proofs.lemmas.Bool.{cases_lt}
 use Rattle.cut_plan.specs.Cells.{cells_of}
-use Rattle.cut_plan.specs.declared.refusal.Refusal.{Refusal}
 use Rattle.cut_plan.specs.Accepted.{plan_of}
 use Rattle.cut_plan.specs.Values.{Values}
 use Rattle.cut_ledger.specs.declared.slip.Slip.{Slip}
 use Rattle.cut_wires.specs.declared.rows.RowsFault.{RowsFault}
 use Rattle.cut_wires.specs.declared.rows.RowsFault.TheVariants.{Row, Write}
+use Rattle.cut_wires.specs.declared.send.WriteFault.{WriteFault}
 use Rattle.cut_wires.specs.Rows.{SendsRows}
 use Rattle.cut_wires.specs.Sending.{Sending, Sends}
 use Rattle.cut_wires.proofs.Sendings.{cut_before, sends_after}
@@ -23,7 +23,7 @@ use Rattle.cut_hall.specs.Pass.{Holding}
 use Rattle.cut_hall.specs.Trust.{MayBegin}
 use Rattle.cut_messages.specs.declared.kind.Kind.TheVariants as kind
 use Rattle.cut_messages.specs.Frames.{frame}
-use Rattle.cut_session.specs.Answering.{error_frame, end_frame, rows_to, AnswersPlan, AnswersRead, AnswersText}
+use Rattle.cut_session.specs.Answering.{error_frame, end_frame, rows_to, AnswersPlan, AnswersText}
 use Rattle.cut_session.specs.Rows.{IsKept, lines_of, EndsTable}
 use Rattle.cut_session.specs.Serving.{Replies, longest_reply}
 
@@ -40,7 +40,7 @@ module _ (trusts : Bool) (plan : Values) (base : List Slip) (name : GName) (pass
   pub kept : (result : Result ⊤ (RowsFault LineFault))
       → SendsFrames plan base name pass new_name new_pass result old mid → IsKept name pass new_name new_pass
   kept (Ok done) s = s.ends.1
-  kept (Err Write) s = s.ends.0
+  kept (Err (Write fault)) s = s.ends.0
   kept (Err (Row fault)) s = s.ends.1
 
   module _ (begun : MayBegin trusts plan base) (few : length (cells_of plan) ≤ 4096) where
@@ -52,7 +52,7 @@ module _ (trusts : Bool) (plan : Values) (base : List Slip) (name : GName) (pass
 
     -- all lines were sent, and then the end; or a fault after the first of them; or a write failed in the frames of
     -- the first of them
-    pub table_sent : {E : Type 0} (x : Result ⊤ (RowsFault LineFault)) (result : Result ⊤ E) (new : Sending)
+    pub table_sent : (x : Result ⊤ (RowsFault LineFault)) (result : Result ⊤ WriteFault) (new : Sending)
         → SendsFrames plan base name pass new_name new_pass x old mid → EndsTable x result mid new
         → Replies (AnswersPlan trusts plan) longest_reply result old new
     unfolding rows_to
@@ -69,16 +69,15 @@ module _ (trusts : Bool) (plan : Values) (base : List Slip) (name : GName) (pass
           short_with s.count last s.few s.short (omega arith),
           sends_after result old mid new (rows_to plan base s.count) last s.ends.2 sends,
         )
-    table_sent (Err Write) (Ok done) new s sends = absurd sends
-    table_sent {E} (Err Write) (Err failed) new s same =
-        subst (λ (n : Sending). Replies {E = E} (AnswersPlan trusts plan) longest_reply (Err failed) old n) (sym same)
+    table_sent (Err (Write failed)) result new s (is, same) =
+        rw (is, same)
         (elim (cases_lt s.count (length (cells_of plan))) [
           | inl less ↦ (
               let last : List ℕ = error_frame (code_of_line Stopped) in (
                 rows_to plan base s.count ++ last,
                 inr (inl (base, begun, s.count, Stopped, less, refl)),
                 short_with s.count last s.few s.short (omega arith),
-                cut_before old mid (rows_to plan base s.count) last s.ends.1,
+                cut_before failed old mid (rows_to plan base s.count) last s.ends.1,
               )
               )
           | inr all ↦ (
@@ -86,34 +85,25 @@ module _ (trusts : Bool) (plan : Values) (base : List Slip) (name : GName) (pass
                 rows_to plan base s.count ++ end_frame,
                 inl (base, begun, ap (λ n. rows_to plan base n ++ end_frame) is),
                 short_with s.count end_frame s.few s.short (omega arith),
-                cut_before old mid (rows_to plan base s.count) end_frame s.ends.1,
+                cut_before failed old mid (rows_to plan base s.count) end_frame s.ends.1,
               )
               )
         ])
 
 -- ---- the reply to a text
 
-pub plan_answered : {E : Type 0} (trusts : Bool) (text : List ℕ) (plan taken : Values) (result : Result ⊤ E)
+pub plan_answered : (trusts : Bool) (text : List ℕ) (plan taken : Values) (result : Result ⊤ WriteFault)
     (old new : Sending) → plan_of text ≡ Ok plan → taken ≡ plan
     → Replies (AnswersPlan trusts taken) longest_reply result old new
     → Replies (AnswersText trusts text) longest_reply result old new
-plan_answered trusts text plan taken result old new is same a = (
-  a.0,
-  inr (subst (λ (given : Result Values Refusal). AnswersRead trusts given a.0) (sym is)
-      (subst (λ (v : Values). AnswersPlan trusts v a.0) same a.1)),
-  a.2,
-  a.3,
-)
+plan_answered trusts text plan taken result old new is same (out, answers, short, sends) =
+    let taken_as : AnswersPlan trusts plan out = subst (λ (v : Values). AnswersPlan trusts v out) same answers in
+    (out, inr (rw is taken_as), short, sends)
 
 -- or why the hall took no study of the plan
-pub plan_refused : {E : Type 0} (trusts : Bool) (text : List ℕ) (plan : Values) (fault : SubmitFault) (code : FaultCode)
-    (result : Result ⊤ E) (old new : Sending) → plan_of text ≡ Ok plan → code ≡ code_of_submit fault
+pub plan_refused : (trusts : Bool) (text : List ℕ) (plan : Values) (fault : SubmitFault) (code : FaultCode)
+    (result : Result ⊤ WriteFault) (old new : Sending) → plan_of text ≡ Ok plan → code ≡ code_of_submit fault
     → Sends result (error_frame code) old new → Replies (AnswersText trusts text) longest_reply result old new
 plan_refused trusts text plan fault code result old new is same sends =
-    let not_taken : AnswersPlan trusts plan (error_frame code) =
-    inr (inr (fault, ap (λ (k : FaultCode). error_frame k) same)) in (
-      error_frame code,
-      inr (subst (λ (given : Result Values Refusal). AnswersRead trusts given (error_frame code)) (sym is) not_taken),
-      omega arith,
-      sends,
-    )
+    let not_taken : AnswersPlan trusts plan (error_frame code) = inr (inr (fault, cc (same))) in
+    (error_frame code, inr (rw is not_taken), omega arith, sends)

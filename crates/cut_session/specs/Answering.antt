@@ -74,7 +74,7 @@ abbrev pub AnswersRead : Bool → Result Values Refusal → List ℕ → Type 0
 AnswersRead is_trusted (Ok plan) out = AnswersPlan is_trusted plan out
 AnswersRead is_trusted (Err refusal) out = out ≡ error_frame (code_of_refusal refusal)
 
--- to a text, for whose reading memory may be wanting
+-- to a text, for whose reading memory may run out
 abbrev pub AnswersText : Bool → List ℕ → List ℕ → Type 0
 AnswersText is_trusted text out =
     (out ≡ error_frame code.WorkMemory) ⊎ AnswersRead is_trusted (plan_of text) out

@@ -17,7 +17,7 @@ SessionsSeeNoLess = (hall : Rooms) (low high : View) (end : SessionEnd) (old new
 -- which calls failed: a write exactly where one is reported, and a read exactly where that is reported, or where the
 -- write failed that should have sent it
 abbrev pub HasFailed : SessionEnd → Failed → Failed → Type 0
-HasFailed (Write sent) old new = (new ≡ with_write old) ⊎ (new ≡ with_write (with_read old))
+HasFailed (Write fault) old new = (new ≡ with_write old) ⊎ (new ≡ with_write (with_read old))
 HasFailed (Fault session.Read) old new = new ≡ with_read old
 HasFailed end old new = new ≡ old
 

@@ -2,7 +2,8 @@
 use Rattle.std.specs.Prelude.{◌≡◌, ◌+◌, ◌*◌, ◌-◌, ◌^◌, ◌≤◌, ◌++◌, ℕ, List, [], length, min, Result, Ok, Err, None, ⊤}
 use Rattle.cut_board.specs.declared.view.View.{View}
 use Rattle.cut_wires.specs.Log.{Traffic, passing}
-use Rattle.cut_wires.specs.Sending.{Sending, Sends, sent_on, IsCut}
+use Rattle.cut_wires.specs.Sending.{Sending, Sends, sent_on}
+use Rattle.cut_wires.specs.declared.send.WriteFault.{WriteFault}
 use Rattle.cut_messages.specs.declared.side.Side.TheVariants.{Requests}
 use Rattle.cut_messages.specs.declared.kind.Kind.TheVariants as kind
 use Rattle.cut_messages.specs.declared.message.Message.{Message}
@@ -15,7 +16,7 @@ use Rattle.cut_session.specs.FaultCode.{code_of_session}
 use Rattle.cut_messages.specs.Reading.{Reading, HasRead}
 use Rattle.cut_hall.specs.Hall.{Rooms}
 use Rattle.cut_session.specs.Answering.{Rises, Answers, AnswersAll, error_frame}
-use Rattle.cut_session.specs.Session.{QuitsAtOnce, Ends}
+use Rattle.cut_session.specs.Session.{QuitsAtOnce, LastReply, Ends}
 
 -- ---- one reply
 
@@ -24,41 +25,42 @@ abbrev pub longest_reply : ℕ
 longest_reply = 2 ^ 21
 
 -- a reply of which P holds, of at most `most` bytes, was sent, or a write of it failed
-abbrev pub Replies : {E : Type 0} → (List ℕ → Type 0) → ℕ → Result ⊤ E → Sending → Sending → Type 0
+abbrev pub Replies : (List ℕ → Type 0) → ℕ → Result ⊤ WriteFault → Sending → Sending → Type 0
 Replies P most result old new = (out : List ℕ) × P out × (length out ≤ most) × Sends result out old new
 
 -- ---- the replies to some messages
 
 -- of one message: the reply to it, or none where it quits
-abbrev pub Serves : {E : Type 0} → Rooms → View → View → Message → Result Turn E → Sending → Sending → Type 0
-Serves hall low high m (Ok On) old new =
-    Replies {E = ⊤} (Answers hall low high m) longest_reply (Ok tt) old new
+abbrev pub Serves : Rooms → View → View → Message → Result Turn WriteFault → Sending → Sending → Type 0
+Serves hall low high m (Ok On) old new = Replies (Answers hall low high m) longest_reply (Ok tt) old new
 Serves hall low high m (Ok Over) old new = (m.kind ≡ kind.Quit) × Rises low high × (new ≡ old)
-Serves {E} hall low high m (Err fault) old new =
-    Replies {E = E} (Answers hall low high m) longest_reply (Err fault) old new
+Serves hall low high m (Err fault) old new = Replies (Answers hall low high m) longest_reply (Err fault) old new
 
--- the first of some messages were answered, and these bytes were sent, or a write of them failed
-pub record ServesFirst {E : Type 0} (hall : Rooms) (low high : View) (messages : List Message) (result : Result ⊤ E)
-    (old new : Sending) : Type 0 where
+-- the first of some messages, and replies to them
+pub record ServesFirst (hall : Rooms) (low high : View) (messages : List Message) : Type 0 where
   pub answered : List Message
   pub unanswered : List Message
+  pub out : List ℕ
   pub parts : messages ≡ answered ++ unanswered
-  pub replies : Replies (AnswersAll hall low high answered) (longest_reply * length answered) result old new
+  pub replies : AnswersAll hall low high answered out
+  pub short : length out ≤ longest_reply * length answered
 
 -- all of them were answered, or those before one that quits, or those up to one whose reply was not sent whole
-abbrev pub ServesAll : {E : Type 0} → Rooms → View → View → List Message → Result Turn E → Sending → Sending → Type 0
+abbrev pub ServesAll : Rooms → View → View → List Message → Result Turn WriteFault → Sending → Sending → Type 0
 ServesAll hall low high messages (Ok On) old new =
-    Replies {E = ⊤} (AnswersAll hall low high messages) (longest_reply * length messages) (Ok tt) old new
+    Replies (AnswersAll hall low high messages) (longest_reply * length messages) (Ok tt) old new
 ServesAll hall low high messages (Ok Over) old new =
-    (s : ServesFirst {E = ⊤} hall low high messages (Ok tt) old new) × QuitsAtOnce s.unanswered
-ServesAll {E} hall low high messages (Err fault) old new = ServesFirst {E = E} hall low high messages (Err fault) old new
+    (f : ServesFirst hall low high messages) × QuitsAtOnce f.unanswered × (new ≡ sent_on old f.out)
+ServesAll hall low high messages (Err fault) old new =
+    (f : ServesFirst hall low high messages) × (l : LastReply hall low high f.answered f.out)
+    × Sends (Err fault) l.reply (sent_on old l.first) new
 
 -- ---- the frame of a fault that ends a session
 
--- it was sent; or a write of it failed, and this is how many bytes were sent then
+-- it was sent, or a write of it failed
 abbrev pub Leaves : SessionFault → SessionEnd → Sending → Sending → Type 0
 Leaves fault (end.Fault sent) old new = (sent ≡ fault) × (new ≡ sent_on old (error_frame (code_of_session fault)))
-Leaves fault (end.Write n) old new = (n ≡ new.sent) × IsCut (error_frame (code_of_session fault)) old new
+Leaves fault (end.Write failed) old new = Sends (Err failed) (error_frame (code_of_session fault)) old new
 Leaves fault other old new = ⊥
 
 -- ---- between two reads

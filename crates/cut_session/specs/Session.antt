@@ -46,7 +46,7 @@ abbrev pub QuitsAtOnce : List Message → Type 0
 QuitsAtOnce [] = ⊥
 QuitsAtOnce (m ∷ ms) = m.kind ≡ kind.Quit
 
--- a fault ends the session: memory was wanting for what the last read gave; or the input cannot go on, or
+-- a fault ends the session: memory ran out for what the last read gave; or the input cannot go on, or
 -- goes on no further, after the messages that are answered; or there are more messages than may be answered
 abbrev pub IsDue : SessionFault → Course → Type 0
 IsDue session.Memory c =
@@ -118,8 +118,8 @@ EndsAs hall low high EndOfInput c old new =
     IsAnswered c × (c.rest ≡ []) × (new ≡ ended (passed c c.out old))
 EndsAs hall low high (Fault fault) c old new =
     IsDue fault c × (new ≡ read_by fault (passed c (replies_to fault c) old))
-EndsAs hall low high (Write sent) c old new =
-    CutsReply hall low high sent c old new ⊎ CutsEnd sent c old new
+EndsAs hall low high (Write fault) c old new =
+    CutsReply hall low high fault.sent c old new ⊎ CutsEnd fault.sent c old new
 
 -- of a wire of which nothing is known there is some course of which this is so
 abbrev pub Ends : Rooms → View → View → SessionEnd → Log → Log → Type 0

@@ -13,7 +13,7 @@ use cut_faults::FaultCode;
 use cut_hall::{Hall, Pass, Tally};
 use cut_messages::{Kind, Message, send_message};
 use cut_plan::{Plan, PlanFault};
-use cut_wires::{Line, Wire, WireFault};
+use cut_wires::{Line, Wire, WriteFault};
 use std::alloc::Global;
 use std::sync::Wait;
 
@@ -51,14 +51,12 @@ where
         &mut self,
         line: &mut Line<'_, W>,
         messages: &[Message],
-    ) -> Result<Turn, WireFault>
+    ) -> Result<Turn, WriteFault>
         ensures serves { ServesAll self.old.hall.now self.old.pass.now.view self.new.pass.now.view messages.now
             result (sending W.log line.old) (sending W.log line.new) }
         ensures stays { (self.new.hall.now ≡ self.old.hall.now)
             × (self.new.pass.ghost_name ≡ self.old.pass.ghost_name) }
     {
-        // For the proof: a count of sent bytes is below 2^64.
-        let _sent = line.sent();
         for message in messages {
             match self.answer(line, message) {
                 Ok(Turn::On) => {}
@@ -74,7 +72,7 @@ where
         &mut self,
         line: &mut Line<'_, W>,
         message: &Message,
-    ) -> Result<Turn, WireFault>
+    ) -> Result<Turn, WriteFault>
         ensures serves { Serves self.old.hall.now self.old.pass.now.view self.new.pass.now.view message.now
             result (sending W.log line.old) (sending W.log line.new) }
         ensures stays { (self.new.hall.now ≡ self.old.hall.now)
@@ -91,11 +89,7 @@ where
                 Err(fault) => Err(fault),
             },
             Kind::Quit => Ok(Turn::Over),
-            Kind::Row | Kind::Done | Kind::Fault => {
-                // For the proof: a count of sent bytes is below 2^64.
-                let _sent = line.sent();
-                Ok(Turn::On)
-            }
+            Kind::Row | Kind::Done | Kind::Fault => Ok(Turn::On),
         }
     }
 
@@ -104,7 +98,7 @@ where
         &mut self,
         line: &mut Line<'_, W>,
         payload: &[u8],
-    ) -> Result<(), WireFault>
+    ) -> Result<(), WriteFault>
         ensures replies { Replies (AnswersCount self.old.hall.now self.old.pass.now.view self.new.pass.now.view
             (from_be_bytes w32 payload.now)) longest_reply result (sending W.log line.old) (sending W.log line.new) }
         ensures rises { Rises self.old.pass.now.view self.new.pass.now.view }
@@ -123,7 +117,7 @@ where
         &mut self,
         line: &mut Line<'_, W>,
         text: &[u8],
-    ) -> Result<(), WireFault>
+    ) -> Result<(), WriteFault>
         ensures replies { Replies (AnswersText self.old.hall.now.is_trusted text.now) longest_reply result
             (sending W.log line.old) (sending W.log line.new) }
         ensures view { self.new.pass.now.view ≡ self.old.pass.now.view }

@@ -134,7 +134,7 @@ where
         match self.answer_all(line, &messages[..count]) {
             Ok(Turn::On) => {}
             Ok(Turn::Over) => return Err(SessionEnd::Quit),
-            Err(_) => return Err(SessionEnd::Write(line.sent())),
+            Err(fault) => return Err(SessionEnd::Write(fault)),
         }
         if count < messages.len() {
             return Err(leave(line, SessionFault::TooManyRequests));
@@ -152,6 +152,6 @@ fn leave<W: Wire>(line: &mut Line<'_, W>, fault: SessionFault) -> SessionEnd
 {
     match send_fault(line, fault.code()) {
         Ok(()) => SessionEnd::Fault(fault),
-        Err(_) => SessionEnd::Write(line.sent()),
+        Err(failed) => SessionEnd::Write(failed),
     }
 }

@@ -3,6 +3,7 @@ ghost use Rattle.cut_session.specs.FaultCode.{code_of_session};
 
 use cut_faults::FaultCode;
 use cut_messages::StreamFault;
+use cut_wires::WriteFault;
 use std::fmt;
 use thiserror::Error;
 
@@ -15,8 +16,8 @@ pub enum SessionEnd {
     EndOfInput,
     /// This fault ended it, and its number was sent to the client.
     Fault(SessionFault),
-    /// A write of the wire failed, after the wire had taken this many bytes of replies.
-    Write(u64),
+    /// A write of the replies failed.
+    Write(WriteFault),
 }
 
 /// What can end a session. Printed, it is its number and its name.

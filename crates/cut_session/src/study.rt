@@ -13,7 +13,7 @@ use cut_disks::Disk;
 use cut_hall::{Hall, LineFault, Pass, Tally};
 use cut_lines::header;
 use cut_messages::{Kind, RowMessages, send_message};
-use cut_wires::{Line, Rows, RowsFault, Wire, WireFault, send_rows};
+use cut_wires::{Line, Rows, RowsFault, Wire, WriteFault, send_rows};
 use std::alloc::Global;
 use std::sync::Wait;
 
@@ -96,7 +96,7 @@ where
 pub(crate) fn send_table<D, M, K, W, R>(
     rows: &mut OpenedRows<'_, D, M, K, R>,
     line: &mut Line<'_, W>,
-) -> Result<(), WireFault>
+) -> Result<(), WriteFault>
 where
     D: Disk + Drop,
     M: Tally,
@@ -120,12 +120,12 @@ where
 fn end_table<W: Wire>(
     line: &mut Line<'_, W>,
     sent: Result<(), RowsFault<LineFault>>,
-) -> Result<(), WireFault>
+) -> Result<(), WriteFault>
     ensures { EndsTable sent result (sending W.log line.old) (sending W.log line.new) }
 {
     match sent {
         Ok(()) => send_message(line, Kind::Done, &[]),
-        Err(RowsFault::Write) => Err(WireFault),
+        Err(RowsFault::Write(fault)) => Err(fault),
         Err(RowsFault::Row(fault)) => send_fault(line, fault.code()),
     }
 }

@@ -85,39 +85,43 @@ fn a_table_is_written_as_it_comes(rt: HostRuntime) -> Result<(), Fail> {
     Ok(())
 }
 
-#[test]
-fn a_failed_read_is_reported(rt: HostRuntime) -> Result<(), Fail> {
-    let alloc = rt.alloc();
-    let answer = joined(alloc, &[FIRST, SECOND])?;
-    for read in 1..114 {
-        let row = Row {
-            per: 1,
-            read,
-            ..WHOLE
-        };
-        let written = match read {
-            1..=77 => 0,
-            78..=108 => 72,
-            _ => 98,
-        };
-        let right = (Err(AskFault::Read), 231, written);
-        assert_eq!(rt; asked_in(alloc, row, answer.as_slice())?, right);
+/// An asking in which a call fails, and how it ends: each read in turn, then each write of the request, and each of
+/// the output.
+fn failing_row(number: usize) -> (Row, (Result<(), AskFault>, usize, usize)) {
+    match number {
+        0..=76 => unread(number, 0),
+        77..=107 => unread(number, 72),
+        108..=112 => unread(number, 98),
+        113..=343 => {
+            let room = number - 113;
+            let row = Row { room, ..WHOLE };
+            (row, (Err(AskFault::Request), room, 0))
+        }
+        _ => {
+            let output = number.saturating_sub(344);
+            let row = Row { output, ..WHOLE };
+            (row, (Err(AskFault::Output), 231, output))
+        }
     }
-    Ok(())
+}
+
+/// One whose reads come byte for byte, and the next one after so many fails, when so many bytes of the table are
+/// written.
+fn unread(bytes: usize, written: usize) -> (Row, (Result<(), AskFault>, usize, usize)) {
+    let row = Row {
+        per: 1,
+        read: (bytes as u64).saturating_add(1),
+        ..WHOLE
+    };
+    (row, (Err(AskFault::Read), 231, written))
 }
 
 #[test]
-fn a_failed_write_is_reported(rt: HostRuntime) -> Result<(), Fail> {
+fn each_call_that_fails_is_reported(rt: HostRuntime) -> Result<(), Fail> {
     let alloc = rt.alloc();
     let answer = joined(alloc, &[FIRST, SECOND])?;
-    for room in 0..231 {
-        let row = Row { room, ..WHOLE };
-        let right = (Err(AskFault::Request), room, 0);
-        assert_eq!(rt; asked_in(alloc, row, answer.as_slice())?, right);
-    }
-    for output in 0..98 {
-        let row = Row { output, ..WHOLE };
-        let right = (Err(AskFault::Output), 231, output);
+    for number in 0..442 {
+        let (row, right) = failing_row(number);
         assert_eq!(rt; asked_in(alloc, row, answer.as_slice())?, right);
     }
     Ok(())

@@ -2,14 +2,13 @@
 //! that don't come.
 ghost use Rattle.std.specs.Prelude.{true, ◌≡◌};
 
-use crate::halls::{EMPTY, House, serve};
+use crate::halls::{EMPTY, House, serve, wire_over};
 use crate::readings::from_hex;
 use crate::vectors::TWO_CELLS;
 use cut_book::{NoShelf, Shelf, ShelfFault};
-use cut_disks::{Disk, FaultyDisk, MemoryDisk, Tear};
+use cut_disks::{FaultyDisk, Tear};
 use cut_plan::Plan;
 use cut_session::{SessionEnd, SessionFault, StreamFault};
-use cut_wires::MemoryWire;
 use std::alloc::Global;
 use std::sync::Wait;
 use std::test::Fail;
@@ -88,7 +87,7 @@ fn stream(
 
 /// How a session ends in an empty hall of one slot, to which so many bytes come at once, and what its wire
 /// takes.
-fn alone<S: Shelf<MemoryDisk>, R: Wait>(
+fn alone<S: Shelf<FaultyDisk>, R: Wait>(
     rt: &R,
     alloc: Global,
     shelf: &S,
@@ -97,7 +96,7 @@ fn alone<S: Shelf<MemoryDisk>, R: Wait>(
 ) -> Result<(SessionEnd, Vec<u8>), Fail>
     requires { S.is_true shelf.now ≡ true }
 {
-    let mut wire = MemoryWire::new(alloc, input, per);
+    let mut wire = wire_over(alloc, input, per);
     let end = serve(rt, alloc, EMPTY, &[], shelf, &mut wire)?;
     Ok((end, Vec::from_slice(alloc, wire.taken())?))
 }
@@ -148,12 +147,12 @@ struct ClosedShelf {
     fault: ShelfFault,
 }
 
-impl<D: Disk> Shelf<D> for ClosedShelf {
+impl Shelf<FaultyDisk> for ClosedShelf {
     ghost use Rattle.std.specs.Prelude.{true};
 
     ghost is_true = { λ _. true };
 
-    fn open(&self, _alloc: Global, _plan: &Plan) -> Result<Option<D>, ShelfFault> {
+    fn open(&self, _alloc: Global, _plan: &Plan) -> Result<Option<FaultyDisk>, ShelfFault> {
         Err(self.fault)
     }
 }
@@ -182,12 +181,20 @@ fn without_disk<R: Wait>(
 #[test]
 fn a_study_without_its_disk_is_refused(rt: HostRuntime) -> Result<(), Fail> {
     let alloc = rt.alloc();
-    let (end, taken) = without_disk(&rt, alloc, ShelfFault::Open)?;
-    let replies: &[u8] = b"E\0\0\0\x02\0\x1eS\0\0\0\x08\0\0\0\0\0\0\0\0";
-    assert!(rt; end == SessionEnd::EndOfInput && taken.as_slice() == replies);
-    let (end, taken) = without_disk(&rt, alloc, ShelfFault::Memory)?;
-    let replies: &[u8] = b"E\0\0\0\x02\0\x20S\0\0\0\x08\0\0\0\0\0\0\0\0";
-    assert!(rt; end == SessionEnd::EndOfInput && taken.as_slice() == replies);
+    let rows: [(ShelfFault, &[u8]); 2] = [
+        (
+            ShelfFault::Open,
+            b"E\0\0\0\x02\0\x1eS\0\0\0\x08\0\0\0\0\0\0\0\0",
+        ),
+        (
+            ShelfFault::Memory,
+            b"E\0\0\0\x02\0\x20S\0\0\0\x08\0\0\0\0\0\0\0\0",
+        ),
+    ];
+    for (fault, replies) in rows {
+        let (end, taken) = without_disk(&rt, alloc, fault)?;
+        assert!(rt; end == SessionEnd::EndOfInput && taken.as_slice() == replies);
+    }
     Ok(())
 }
 
@@ -230,7 +237,7 @@ fn after_pieces<R: Wait>(
         pieces,
     };
     let shelf = FaultyShelf { fail_at };
-    let mut wire = MemoryWire::new(alloc, sent, 60);
+    let mut wire = wire_over(alloc, sent, 60);
     serve(rt, alloc, house, request.as_slice(), &shelf, &mut wire)?;
     Ok(Vec::from_slice(alloc, wire.taken())?)
 }

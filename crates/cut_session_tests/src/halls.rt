@@ -2,18 +2,26 @@
 ghost use Rattle.std.specs.Prelude.{true, ◌≡◌, ◌<◌, ◌≤◌};
 
 use cut_book::Shelf;
-use cut_disks::Disk;
+use cut_disks::FaultyDisk;
 use cut_hall::{Gate, Hall, Pass, Tally};
 use cut_plan::Plan;
 use cut_session::{Kind, Reader, SessionEnd, session};
 use cut_trial::Piece;
-use cut_wires::Wire;
+use cut_wires::FaultyWire;
 use std::alloc::Global;
 use std::marker::Brand;
 use std::sync::Wait;
 use std::sync::atomic::{AtomicU64, Ordering};
 use std::sync::ledger::Blank;
 use std::test::Fail;
+
+/// A hall whose disks may fail.
+type Stormy<M, K> = Hall<FaultyDisk, M, K>;
+
+/// A wire over these bytes, which come so many at once, on which no call fails.
+pub(crate) fn wire_over(alloc: Global, input: Vec<u8>, per: usize) -> FaultyWire {
+    FaultyWire::new(alloc, input, per, usize::MAX, 0)
+}
 
 /// A hall for a session: how many slots it has, how many trials a piece has at most, and how many pieces of
 /// the studies that were submitted before are worked on.
@@ -33,13 +41,13 @@ pub(crate) const EMPTY: House = House {
 
 /// A gate that ends the work in its hall when so many workers have passed.
 #[derive(Drop)]
-struct LastGate<'h, D: Disk, M: Tally, K: Tally> {
-    hall: &'h Hall<D, M, K>,
+struct LastGate<'h, M: Tally, K: Tally> {
+    hall: &'h Stormy<M, K>,
     passed: AtomicU64,
     last: u64,
 }
 
-impl<D: Disk + Drop, M: Tally, K: Tally> Gate for LastGate<'_, D, M, K> {
+impl<M: Tally, K: Tally> Gate for LastGate<'_, M, K> {
     fn pass<R: Wait>(&self, rt: &R, _piece: Piece) {
         if self.passed.fetch_add(1, Ordering::SeqCst) >= self.last {
             self.hall.stop(rt);
@@ -49,20 +57,19 @@ impl<D: Disk + Drop, M: Tally, K: Tally> Gate for LastGate<'_, D, M, K> {
 
 /// Submits the studies among these requests to a hall, and works on so many pieces of them, if any. Then the hall
 /// is stopped.
-fn work_through<D, M, K, S, R>(
+fn work_through<M, K, S, R>(
     rt: &R,
     alloc: Global,
-    hall: &Hall<D, M, K>,
+    hall: &Stormy<M, K>,
     pass: &mut Pass<M>,
     shelf: &S,
     requests: &[u8],
     pieces: u64,
 ) -> Result<(), Fail>
 where
-    D: Disk + Drop,
     M: Tally,
     K: Tally,
-    S: Shelf<D>,
+    S: Shelf<FaultyDisk>,
     R: Wait,
     requires own { pass.old.hall ≡ hall.now.id }
     requires trusted { S.is_true shelf.now ≡ true }
@@ -86,19 +93,18 @@ where
 }
 
 /// Submits the study of a plan's text, if it is one.
-fn submit<D, M, K, S, R>(
+fn submit<M, K, S, R>(
     rt: &R,
     alloc: Global,
-    hall: &Hall<D, M, K>,
+    hall: &Stormy<M, K>,
     pass: &mut Pass<M>,
     shelf: &S,
     text: &[u8],
 ) -> Result<(), Fail>
 where
-    D: Disk + Drop,
     M: Tally,
     K: Tally,
-    S: Shelf<D>,
+    S: Shelf<FaultyDisk>,
     R: Wait,
     requires own { pass.old.hall ≡ hall.now.id }
     requires trusted { S.is_true shelf.now ≡ true }
@@ -111,22 +117,20 @@ where
 }
 
 /// A session over this wire, in a hall to which the studies of some requests were submitted before.
-fn served<D, M, K, S, W, R>(
+fn served<M, K, S, R>(
     rt: &R,
     alloc: Global,
     house: House,
     before: &[u8],
     shelf: &S,
-    wire: &mut W,
+    wire: &mut FaultyWire,
     made: Blank,
     kept: Blank,
 ) -> Result<SessionEnd, Fail>
 where
-    D: Disk + Drop,
     M: Tally,
     K: Tally,
-    S: Shelf<D>,
-    W: Wire,
+    S: Shelf<FaultyDisk>,
     R: Wait,
     requires slots { (0 < house.slots) × (house.slots ≤ 64) }
     requires size { 1 ≤ house.size }
@@ -136,7 +140,7 @@ where
         × (K.all ≡ K.parts) × (K.all ≡ house.slots) }
 {
     let started = Hall::start(alloc, house.slots, 2, house.size, made, kept);
-    let (hall, mut passes): (Hall<D, M, K>, Vec<Pass<M>>) = started?;
+    let (hall, mut passes): (Stormy<M, K>, Vec<Pass<M>>) = started?;
     let Some(mut first) = passes.pop() else {
         unreachable!()
     };
@@ -148,23 +152,21 @@ where
 }
 
 /// How a session ends over this wire, in a hall to which the studies of some requests were submitted before.
-pub(crate) fn serve<D, S, W, R>(
+pub(crate) fn serve<S, R>(
     rt: &R,
     alloc: Global,
     house: House,
     before: &[u8],
     shelf: &S,
-    wire: &mut W,
+    wire: &mut FaultyWire,
 ) -> Result<SessionEnd, Fail>
 where
-    D: Disk + Drop,
-    S: Shelf<D>,
-    W: Wire,
+    S: Shelf<FaultyDisk>,
     R: Wait,
     requires slots { (0 < house.slots) × (house.slots ≤ 64) }
     requires size { 1 ≤ house.size }
     requires trusted { S.is_true shelf.now ≡ true }
 {
     let kept = Blank::new(u64::from(house.slots));
-    served::<D, Brand, Brand, S, W, R>(rt, alloc, house, before, shelf, wire, Blank::new(2), kept)
+    served::<Brand, Brand, S, R>(rt, alloc, house, before, shelf, wire, Blank::new(2), kept)
 }

@@ -2,12 +2,10 @@
 //! one allocation of its sessions is refused, and is meant to be run so by hand.
 
 use crate::asking::{COUNT, FIRST, PLAN, SECOND, joined};
-use crate::halls::serve;
+use crate::halls::{serve, wire_over};
 use crate::serving::{ASK, HOUSE, QUIT, SUBMIT};
 use cut_book::NoShelf;
-use cut_disks::MemoryDisk;
 use cut_session::{SessionEnd, SessionFault};
-use cut_wires::{MemoryWire, Wire};
 use std::alloc::Global;
 use std::sync::Wait;
 use std::test::Fail;
@@ -18,7 +16,7 @@ const WANT: &[u8] = b"E\0\0\0\x02\0\x20";
 const NONE_COUNTED: &[u8] = b"S\0\0\0\x08\0\0\0\0\0\0\0\0";
 
 /// How a session ended that submits a plan, asks for the count of its study, and quits.
-#[derive(Clone, Copy, Debug, PartialEq, Eq)]
+#[derive(Clone, Copy, PartialEq, Eq)]
 enum End {
     /// With the whole table and the count of its two trials.
     Whole,
@@ -43,18 +41,17 @@ fn end_of(end: SessionEnd, taken: &[u8], replies: &[u8]) -> End {
         SessionEnd::Quit if taken == replies => End::Whole,
         SessionEnd::Quit if tells_want(taken) => End::Refused,
         SessionEnd::Fault(SessionFault::Memory) if taken == WANT => End::Refused,
-        SessionEnd::Write(sent) if replies.starts_with(taken) && sent == taken.len() as u64 => {
-            End::Refused
-        }
+        SessionEnd::Write(fault)
+            if replies.starts_with(taken) && fault.sent == taken.len() as u64 => { End::Refused }
         _ => End::Wrong,
     }
 }
 
 /// How a session over these requests ends, all of which come at once.
 fn exchanged<R: Wait>(rt: &R, alloc: Global, sent: &[u8], replies: &[u8]) -> Result<End, Fail> {
-    let mut wire = MemoryWire::new(alloc, Vec::from_slice(alloc, sent)?, 5000);
+    let mut wire = wire_over(alloc, Vec::from_slice(alloc, sent)?, 5000);
     let before = sent.get(..226).unwrap_or_default();
-    let end = serve::<MemoryDisk, _, _, _>(rt, alloc, HOUSE, before, &NoShelf, &mut wire)?;
+    let end = serve(rt, alloc, HOUSE, before, &NoShelf, &mut wire)?;
     Ok(end_of(end, wire.taken(), replies))
 }
 

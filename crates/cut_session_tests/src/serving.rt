@@ -1,13 +1,12 @@
 //! Sessions over wires in memory, in halls whose studies are done.
 
 use crate::asking::{COUNT, FIRST, PLAN, SECOND, joined};
-use crate::halls::{EMPTY, House, serve};
+use crate::halls::{EMPTY, House, serve, wire_over};
 use crate::readings::from_hex;
 use crate::vectors::{Session, sessions};
 use cut_book::NoShelf;
-use cut_disks::MemoryDisk;
 use cut_session::{SessionEnd, SessionFault};
-use cut_wires::{FaultyWire, MemoryWire, Wire};
+use cut_wires::{FaultyWire, Wire, WriteFault};
 use std::alloc::{AllocError, Global};
 use std::sync::Wait;
 use std::test::Fail;
@@ -72,7 +71,7 @@ fn is_right<R: Wait>(rt: &R, alloc: Global, exchange: &Exchange, row: Row) -> Re
     let input = Vec::from_slice(alloc, sent.get(..row.cut).unwrap_or_default())?;
     let mut wire = FaultyWire::new(alloc, input, 1, row.room, row.read);
     let before = sent.get(..226).unwrap_or_default();
-    let end = serve::<MemoryDisk, _, _, _>(rt, alloc, HOUSE, before, &NoShelf, &mut wire)?;
+    let end = serve(rt, alloc, HOUSE, before, &NoShelf, &mut wire)?;
     let (replies, last) = wire.taken().split_at(row.before.min(wire.taken().len()));
     Ok(
         end == row.end
@@ -87,7 +86,7 @@ pub(crate) fn told(alloc: Global, end: SessionEnd) -> Result<String, AllocError>
         SessionEnd::Quit => String::from_str(alloc, "Quit"),
         SessionEnd::EndOfInput => String::from_str(alloc, "EndOfInput"),
         SessionEnd::Fault(fault) => format!(in alloc; "Fault {}", fault.code().number()),
-        SessionEnd::Write(sent) => format!(in alloc; "Write {sent}"),
+        SessionEnd::Write(fault) => format!(in alloc; "Write {}", fault.sent),
     }
 }
 
@@ -99,9 +98,9 @@ fn is_served<R: Wait>(rt: &R, alloc: Global, session: Session, per: usize) -> Re
         pieces: session.cells,
     };
     let sent = from_hex(alloc, session.sent.bytes)?;
-    let mut wire = MemoryWire::new(alloc, from_hex(alloc, session.sent.bytes)?, per);
+    let mut wire = wire_over(alloc, from_hex(alloc, session.sent.bytes)?, per);
     let before = sent.as_slice();
-    let end = serve::<MemoryDisk, _, _, _>(rt, alloc, house, before, &NoShelf, &mut wire)?;
+    let end = serve(rt, alloc, house, before, &NoShelf, &mut wire)?;
     let replies = from_hex(alloc, session.replies.bytes)?;
     Ok(told(alloc, end)?.as_str() == session.end && wire.taken() == replies.as_slice())
 }
@@ -139,48 +138,35 @@ fn the_slots_are_full_for_another_plan(rt: HostRuntime) -> Result<(), Fail> {
     Ok(())
 }
 
-#[test]
-fn a_failed_write_reports_what_was_sent(rt: HostRuntime) -> Result<(), Fail> {
-    let alloc = rt.alloc();
-    let exchange = whole_exchange(alloc)?;
-    assert!(rt; is_right(&rt, alloc, &exchange, WHOLE)?);
-    for room in 0..126 {
-        let row = Row {
-            room,
-            before: room,
-            end: SessionEnd::Write(room as u64),
-            ..WHOLE
-        };
-        assert!(rt; is_right(&rt, alloc, &exchange, row)?, "room {room}");
-    }
-    Ok(())
-}
-
 /// The frame which says that a read failed, and that which says that the input ended inside a message.
 const UNREAD: &[u8] = b"E\0\0\0\x02\0\x2b";
 
 const CUT: &[u8] = b"E\0\0\0\x02\0\x2a";
 
-#[test]
-fn a_failed_read_is_reported_after_the_replies(rt: HostRuntime) -> Result<(), Fail> {
-    let alloc = rt.alloc();
-    let exchange = whole_exchange(alloc)?;
-    for read in 1..241 {
-        let before = match read {
-            1..=226 => 0,
-            227..=235 => 113,
-            _ => 126,
-        };
-        let row = Row {
-            read,
-            before,
-            end: SessionEnd::Fault(SessionFault::Read),
-            frame: UNREAD,
-            ..WHOLE
-        };
-        assert!(rt; is_right(&rt, alloc, &exchange, row)?, "read {read}");
+/// How the session of the exchange goes whose wire has room for so many bytes.
+fn in_room(room: usize) -> Row {
+    Row {
+        room,
+        before: room,
+        end: SessionEnd::Write(WriteFault { sent: room as u64 }),
+        ..WHOLE
     }
-    Ok(())
+}
+
+/// How that goes of which the read of this number fails.
+fn after_read(read: u64) -> Row {
+    let before = match read {
+        1..=226 => 0,
+        227..=235 => 113,
+        _ => 126,
+    };
+    Row {
+        read,
+        before,
+        end: SessionEnd::Fault(SessionFault::Read),
+        frame: UNREAD,
+        ..WHOLE
+    }
 }
 
 #[test]
@@ -188,8 +174,9 @@ fn a_failed_write_of_the_last_frame_is_reported(rt: HostRuntime) -> Result<(), F
     let alloc = rt.alloc();
     for room in 0..7 {
         let mut wire = FaultyWire::new(alloc, joined(alloc, &[ASK])?, 1, room, 9);
-        let end = serve::<MemoryDisk, _, _, _>(&rt, alloc, EMPTY, &[], &NoShelf, &mut wire)?;
-        assert!(rt; end == SessionEnd::Write(room as u64) && wire.taken() == &UNREAD[..room]);
+        let end = serve(&rt, alloc, EMPTY, &[], &NoShelf, &mut wire)?;
+        let failed = SessionEnd::Write(WriteFault { sent: room as u64 });
+        assert!(rt; end == failed && wire.taken() == &UNREAD[..room]);
         assert_eq!(rt; wire.failures(), 2);
     }
     Ok(())
@@ -221,15 +208,23 @@ fn after_cut(cut: usize) -> Row {
     }
 }
 
+/// A session of the exchange of each kind: each write fails in turn, then each read, and the input ends after each of
+/// its bytes, which it may between messages only.
+fn exchange_row(number: usize) -> Row {
+    match number {
+        0..=125 => in_room(number),
+        126..=365 => after_read(number as u64 - 125),
+        _ => after_cut(number.saturating_sub(366)),
+    }
+}
+
 #[test]
-fn an_input_may_end_between_messages_only(rt: HostRuntime) -> Result<(), Fail> {
+fn each_failure_of_a_wire_is_reported(rt: HostRuntime) -> Result<(), Fail> {
     let alloc = rt.alloc();
     let exchange = whole_exchange(alloc)?;
-    for cut in 0..241 {
-        assert!(rt;
-            is_right(&rt, alloc, &exchange, after_cut(cut))?,
-            "cut {cut}"
-        );
+    for number in 0..607 {
+        let row = exchange_row(number);
+        assert!(rt; is_right(&rt, alloc, &exchange, row)?, "row {number}");
     }
     Ok(())
 }

@@ -2,11 +2,9 @@
 
 use crate::asking::joined;
 use crate::frame::frame;
-use crate::halls::{House, serve};
+use crate::halls::{House, serve, wire_over};
 use cut_book::NoShelf;
-use cut_disks::MemoryDisk;
 use cut_session::{Kind, SessionEnd};
-use cut_wires::{MemoryWire, Wire};
 use std::alloc::Global;
 use std::test::Fail;
 
@@ -42,15 +40,8 @@ fn a_session_answers_a_plan_of_version_2(rt: HostRuntime) -> Result<(), Fail> {
     for per in [1, 7, 5000] {
         let before = request(alloc)?;
         let sent = joined(alloc, &[before.as_slice(), b"Q\0\0\0\0"])?;
-        let mut wire = MemoryWire::new(alloc, sent, per);
-        let end = serve::<MemoryDisk, _, _, _>(
-            &rt,
-            alloc,
-            HOUSE,
-            before.as_slice(),
-            &NoShelf,
-            &mut wire,
-        )?;
+        let mut wire = wire_over(alloc, sent, per);
+        let end = serve(&rt, alloc, HOUSE, before.as_slice(), &NoShelf, &mut wire)?;
         assert!(rt; end == SessionEnd::Quit);
         assert!(rt; wire.taken() == REPLIES);
     }

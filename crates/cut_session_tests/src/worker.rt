@@ -1,8 +1,8 @@
-//! Sessions beside a worker, which works in a thread of its own on what they submit.
-ghost use Rattle.std.specs.Prelude.{◌≡◌};
+//! Sessions beside a worker: each is served in a thread of its own, and the worker works in another on what they submit.
+ghost use Rattle.std.specs.Prelude.{◌≡◌, All};
 ghost use Rattle.atomic_table.specs.Seated.{TableId};
 
-use crate::asking::{PLAN, joined};
+use crate::asking::PLAN;
 use crate::readings::from_hex;
 use crate::serving::{SUBMIT, told};
 use crate::vectors::{Session, sessions};
@@ -10,158 +10,184 @@ use cut_book::NoShelf;
 use cut_disks::MemoryDisk;
 use cut_hall::{Hall, OpenGate, Pass, Report, Tally};
 use cut_session::{SessionEnd, session};
-use cut_wires::{MemoryWire, Wire};
+use cut_wires::FaultyWire;
 use std::alloc::Global;
 use std::marker::Brand;
-use std::sync::Wait;
+use std::sync::atomic::{AtomicU64, Ordering};
 use std::sync::ledger::Blank;
+use std::sync::{Mutex, Wait};
 use std::test::Fail;
-use std::thread::{Threads, join_mut};
+use std::thread::Threads;
+use std::{mem, thread};
+
+/// A client: its number, its wire, and how its session ended, once it has.
+#[derive(Drop)]
+pub(crate) struct Client {
+    number: u64,
+    wire: FaultyWire,
+    end: Option<SessionEnd>,
+}
+
+/// What the threads share beside their hall: how many have begun, and the clients that wait, and that were served.
+#[derive(Drop)]
+struct Shared {
+    begun: AtomicU64,
+    waiting: Mutex<Vec<Client>>,
+    served: Mutex<Vec<Client>>,
+}
 
 /// A hall in which no study is kept.
-pub(crate) type Shared<M, K> = Hall<MemoryDisk, M, K>;
+type OpenHall<M, K> = Hall<MemoryDisk, M, K>;
 
-/// A hall as the threads of a worker and of a session have it.
-pub(crate) trait Workplace<M: Tally> {
+/// A hall as the threads of a worker and of two clients share it.
+trait Workplace<M: Tally> {
     /// Which hall it is.
     ghost id_of: { Self → TableId };
 
-    /// Works on all studies until the work is ended.
-    fn work_with<R: Wait>(&self, rt: &R, alloc: Global, pass: &mut Pass<M>)
+    /// Works on all studies until the work is ended where this thread is the first one, else serves a client. Once two
+    /// were served so, the work is ended.
+    fn take_part<R: Wait>(&self, rt: &R, alloc: Global, shared: &Shared, pass: &mut Pass<M>)
         requires { pass.old.hall ≡ id_of self.now }
-        ensures { pass.new.hall ≡ pass.old.hall };
-
-    /// Serves a client over a wire.
-    fn serve_with<W: Wire, R: Wait>(
-        &self,
-        rt: &R,
-        alloc: Global,
-        pass: &mut Pass<M>,
-        wire: &mut W,
-    ) -> SessionEnd
-        requires { pass.old.hall ≡ id_of self.now }
-        ensures { pass.new.hall ≡ pass.old.hall };
+        ensures { pass.new.hall ≡ id_of self.now };
 }
 
-impl<M: Tally, K: Tally> Workplace<M> for Shared<M, K> {
+impl<M: Tally, K: Tally> Workplace<M> for OpenHall<M, K> {
     ghost id_of = { λ h. h.id };
 
-    fn work_with<R: Wait>(&self, rt: &R, alloc: Global, pass: &mut Pass<M>) {
-        self.work(rt, alloc, pass, &OpenGate);
-    }
-
-    fn serve_with<W: Wire, R: Wait>(
-        &self,
-        rt: &R,
-        alloc: Global,
-        pass: &mut Pass<M>,
-        wire: &mut W,
-    ) -> SessionEnd {
-        session(rt, alloc, self, pass, &NoShelf, wire)
+    fn take_part<R: Wait>(&self, rt: &R, alloc: Global, shared: &Shared, pass: &mut Pass<M>) {
+        if shared.begun.fetch_add(1, Ordering::SeqCst) == 0 {
+            return self.work(rt, alloc, pass, &OpenGate);
+        }
+        serve_next(rt, alloc, self, shared, pass);
+        if shared.served.lock(rt).len() == 2 {
+            self.stop(rt);
+        }
     }
 }
 
-/// Lets a worker work in a thread of its own, while sessions go on in this one.
-pub(crate) fn work_beside<H, M, R, T, F>(
+/// Serves the next of the clients that wait, and notes how its session ended.
+fn serve_next<M: Tally, K: Tally, R: Wait>(
     rt: &R,
     alloc: Global,
-    hall: &H,
-    worker: &mut Pass<M>,
-    serve: &mut F,
-) -> T
+    hall: &OpenHall<M, K>,
+    shared: &Shared,
+    pass: &mut Pass<M>,
+)
+    requires { pass.old.hall ≡ hall.now.id }
+    ensures { pass.new.hall ≡ pass.old.hall }
+{
+    let next = shared.waiting.lock(rt).pop();
+    if let Some(mut client) = next {
+        client.end = Some(session(rt, alloc, hall, pass, &NoShelf, &mut client.wire));
+        let _ = shared.served.lock(rt).push(client);
+    }
+}
+
+/// Lets each pass take part in a thread of its own.
+fn take_part_all<W, M, R>(
+    rt: &R,
+    alloc: Global,
+    hall: &W,
+    shared: &Shared,
+    passes: &mut Vec<Pass<M>>,
+)
 where
-    H: Workplace<M> + Sync,
+    W: Workplace<M> + Sync,
     M: Tally + Send + Sync,
     R: Threads + Wait + Sync,
-    F: FnMut() -> T,
-    requires own { worker.old.hall ≡ H.id_of hall.now }
-    requires serve { F.pre serve.old }
-    ensures own { worker.new.hall ≡ H.id_of hall.now }
-    ensures serve { F.step serve.old result serve.new }
+    requires { All (λ p. p.hall ≡ W.id_of hall.now) passes.old.items }
+    ensures { All (λ p. p.hall ≡ W.id_of hall.now) passes.new.items }
 {
-    let mut work = ||
-        requires { worker.now.hall ≡ H.id_of hall.now }
-        ensures { worker.exit.now.hall ≡ H.id_of hall.entry.now }
-    { hall.work_with(rt, alloc, worker) };
-    let (_, end) = join_mut(rt, &mut work, serve);
-    end
+    let waiting = mem::replace(passes, Vec::new(alloc));
+    let done = thread::map_vec(
+        rt,
+        waiting,
+        &|mut pass: Pass<M>| -> Pass<M>
+            requires { pass.hall ≡ W.id_of hall.now }
+            ensures { result.hall ≡ W.id_of hall.entry.now }
+        {
+            hall.take_part(rt, alloc, shared, &mut pass);
+            pass
+        },
+    );
+    if let Ok(done) = done {
+        *passes = done;
+    }
 }
 
-/// Serves a session beside a worker. Once it has ended so does the work.
-fn serve_beside<M, K, R>(
+/// Serves the clients of a new hall of two slots, in which a worker works on pieces of one trial. What the hall reports
+/// at its end.
+fn served_in<M, K, R>(
     rt: &R,
     alloc: Global,
-    hall: &Shared<M, K>,
-    worker: &mut Pass<M>,
-    client: &mut Pass<M>,
-    wire: &mut MemoryWire,
-) -> SessionEnd
+    shared: &Shared,
+    made: Blank,
+    kept: Blank,
+) -> Result<Report, Fail>
 where
     M: Tally + Send + Sync,
     K: Tally + Send + Sync,
     R: Threads + Wait + Sync,
-    requires worker { worker.old.hall ≡ hall.now.id }
-    requires client { client.old.hall ≡ hall.now.id }
-    ensures worker { worker.new.hall ≡ hall.now.id }
-    ensures client { client.new.hall ≡ hall.now.id }
+    requires made { (made.name ≡ M.name) × (made.parts ≡ M.parts) × (M.all ≡ M.parts) × (M.all ≡ 3) }
+    requires kept { (kept.name ≡ K.name) × (kept.parts ≡ K.parts) × (K.all ≡ K.parts) × (K.all ≡ 2) }
 {
-    let mut serve = || -> SessionEnd
-        requires { client.now.hall ≡ hall.now.id }
-        ensures { client.exit.now.hall ≡ hall.entry.now.id }
-    {
-        let end = session(rt, alloc, hall, client, &NoShelf, wire);
-        hall.stop(rt);
-        end
-    };
-    work_beside(rt, alloc, hall, worker, &mut serve)
-}
-
-/// Closes a hall with its two passes.
-fn closed<M: Tally, K: Tally>(
-    alloc: Global,
-    hall: Shared<M, K>,
-    worker: Pass<M>,
-    client: Pass<M>,
-) -> Result<Report, Fail>
-    requires ledgers { (M.all ≡ M.parts) × (K.all ≡ K.parts) }
-    requires worker { worker.hall ≡ hall.id }
-    requires client { client.hall ≡ hall.id }
-{
-    let mut passes = Vec::new(alloc);
-    passes.push(worker)?;
-    passes.push(client)?;
+    let started = Hall::start(alloc, 2, 3, 1, made, kept);
+    let (hall, mut passes): (OpenHall<M, K>, Vec<Pass<M>>) = started?;
+    take_part_all(rt, alloc, &hall, shared, &mut passes);
     match hall.close(alloc, passes) {
         Ok(report) => Ok(report),
         Err(_) => Err("the hall was not closed")?,
     }
 }
 
-/// How a session ends over a wire in a new hall of two slots, in which a worker works on pieces of one trial; and
-/// what the hall tells at its end.
-fn served<M, K, R>(
+/// Two clients that were served at once, in any order, and what the hall reported at its end.
+#[derive(Drop)]
+pub(crate) struct Served {
+    clients: Vec<Client>,
+    pub report: Report,
+}
+
+impl Served {
+    /// How the session of the client of this number ended, and what its wire took.
+    pub(crate) fn end_of(&self, number: u64) -> Option<(SessionEnd, &[u8])> {
+        let client = self.clients.iter().find(|client| client.number == number)?;
+        Some((client.end?, client.wire.taken()))
+    }
+}
+
+/// Serves two clients over these wires.
+pub(crate) fn serve_two<R: Threads + Wait + Sync>(
     rt: &R,
     alloc: Global,
-    wire: &mut MemoryWire,
-    made: Blank,
-    kept: Blank,
-) -> Result<(SessionEnd, Report), Fail>
-where
-    M: Tally + Send + Sync,
-    K: Tally + Send + Sync,
-    R: Threads + Wait + Sync,
-    requires made { (made.name ≡ M.name) × (made.parts ≡ M.parts) × (M.all ≡ M.parts) × (M.all ≡ 2) }
-    requires kept { (kept.name ≡ K.name) × (kept.parts ≡ K.parts) × (K.all ≡ K.parts) × (K.all ≡ 2) }
-{
-    let started = Hall::start(alloc, 2, 2, 1, made, kept);
-    let (hall, mut passes): (Shared<M, K>, Vec<Pass<M>>) = started?;
-    let Some(mut worker) = passes.pop() else {
-        unreachable!()
+    first: FaultyWire,
+    second: FaultyWire,
+) -> Result<Served, Fail> {
+    let mut waiting = Vec::with_capacity(alloc, 2)?;
+    for (number, wire) in [(0, first), (1, second)] {
+        let end = None;
+        waiting.push(Client { number, wire, end })?;
+    }
+    let shared = Shared {
+        begun: AtomicU64::new(0),
+        waiting: Mutex::new(waiting),
+        served: Mutex::new(Vec::new(alloc)),
     };
-    let Some(mut client) = passes.pop() else {
-        unreachable!()
-    };
-    let end = serve_beside(rt, alloc, &hall, &mut worker, &mut client, wire);
-    Ok((end, closed(alloc, hall, worker, client)?))
+    let (made, kept) = (Blank::new(3), Blank::new(2));
+    let report = served_in::<Brand, Brand, R>(rt, alloc, &shared, made, kept)?;
+    let clients = shared.served.into_inner();
+    Ok(Served { clients, report })
+}
+
+/// Serves a client whose requests are these, so many bytes at once, and one that leaves at once.
+fn serve_one<R: Threads + Wait + Sync>(
+    rt: &R,
+    alloc: Global,
+    sent: Vec<u8>,
+    per: usize,
+) -> Result<Served, Fail> {
+    let wire = FaultyWire::new(alloc, sent, per, 5000, 0);
+    let none = FaultyWire::new(alloc, Vec::new(alloc), 1, 5000, 0);
+    serve_two(rt, alloc, wire, none)
 }
 
 /// Whether of each slot all trials of its study were accepted, and the study is complete, where it has one.
@@ -173,30 +199,22 @@ fn is_whole(report: &Report, trials: &[u64]) -> bool {
         })
 }
 
-/// The same, with the blanks of the two ledgers of calls.
-fn serve_in_new<R>(
+/// Whether a session goes beside a worker as it was worked out, where so many bytes come at once.
+fn is_served<R: Threads + Wait + Sync>(
     rt: &R,
     alloc: Global,
-    wire: &mut MemoryWire,
-) -> Result<(SessionEnd, Report), Fail>
-where
-    R: Threads + Wait + Sync,
-{
-    served::<Brand, Brand, R>(rt, alloc, wire, Blank::new(2), Blank::new(2))
-}
-
-/// Whether a session goes beside a worker as it was worked out, where so many bytes come at once.
-fn is_served<R>(rt: &R, alloc: Global, session: Session, per: usize) -> Result<bool, Fail>
-where
-    R: Threads + Wait + Sync,
-{
-    let mut wire = MemoryWire::new(alloc, from_hex(alloc, session.sent.bytes)?, per);
-    let (end, report) = serve_in_new(rt, alloc, &mut wire)?;
+    session: Session,
+    per: usize,
+) -> Result<bool, Fail> {
+    let served = serve_one(rt, alloc, from_hex(alloc, session.sent.bytes)?, per)?;
     let replies = from_hex(alloc, session.replies.bytes)?;
+    let Some((end, taken)) = served.end_of(0) else {
+        return Ok(false);
+    };
     Ok(
         told(alloc, end)?.as_str() == session.end
-            && wire.taken() == replies.as_slice()
-            && is_whole(&report, &session.trials),
+            && taken == replies.as_slice()
+            && is_whole(&served.report, &session.trials),
     )
 }
 
@@ -216,22 +234,24 @@ fn a_worker_makes_the_lines_that_a_session_waits_for(rt: HostRuntime) -> Result<
 }
 
 /// How many calls the history of a study of two trials has, whose table is asked for so many times.
-fn calls_for<R>(rt: &R, alloc: Global, times: usize) -> Result<Option<u64>, Fail>
-where
-    R: Threads + Wait + Sync,
-{
-    let parts = [SUBMIT, PLAN, SUBMIT, PLAN, SUBMIT, PLAN];
-    let parts = parts.get(..2 * times.min(3)).unwrap_or_default();
-    let mut wire = MemoryWire::new(alloc, joined(alloc, parts)?, 5000);
-    let (_, report) = serve_in_new(rt, alloc, &mut wire)?;
-    Ok(report.slots().first().map(|slot| slot.calls()))
+fn calls_for<R: Threads + Wait + Sync>(
+    rt: &R,
+    alloc: Global,
+    times: usize,
+) -> Result<Option<u64>, Fail> {
+    let mut sent = Vec::new(alloc);
+    for _ in 0..times {
+        sent.extend_from_slice(SUBMIT)?;
+        sent.extend_from_slice(PLAN)?;
+    }
+    let served = serve_one(rt, alloc, sent, 5000)?;
+    Ok(served.report.slots().first().map(|slot| slot.calls()))
 }
 
 #[test]
 fn a_table_that_is_asked_for_again_makes_no_further_calls(rt: HostRuntime) -> Result<(), Fail> {
-    let alloc = rt.alloc();
     for times in 1..4 {
-        assert_eq!(rt; calls_for(&rt, alloc, times)?, Some(3));
+        assert_eq!(rt; calls_for(&rt, rt.alloc(), times)?, Some(3));
     }
     Ok(())
 }

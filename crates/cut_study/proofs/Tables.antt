@@ -93,7 +93,7 @@ pub kept : (v : Values) (base : List Slip) (name : GName) (pass : Holding) (new_
     (result : Result ⊤ (RowsFault LineFault)) (old new : Sending)
     → SendsLines v base name pass new_name new_pass result old new → (new_name ≡ name) × (new_pass.hall ≡ pass.hall)
 kept v base name pass new_name new_pass (Ok done) old new s = (s.ends.1.same, s.ends.1.own)
-kept v base name pass new_name new_pass (Err Write) old new s = (s.ends.0.same, s.ends.0.own)
+kept v base name pass new_name new_pass (Err (Write fault)) old new s = (s.ends.0.same, s.ends.0.own)
 kept v base name pass new_name new_pass (Err (Row fault)) old new s = (s.ends.1.same, s.ends.1.own)
 
 -- which made a call for each line, where all were sent
@@ -102,14 +102,13 @@ pub made_all : (v : Values) (base : List Slip) (name : GName) (pass : Holding) (
     → SendsLines v base name pass new_name new_pass result old new
     → OnOk (emitted result sent) (pass.made + length (cells_of v) ≤ new_pass.made)
 made_all v base name pass new_name new_pass (Ok done) sent old new s = omega (arith, s.ends.1.made, s.ends.0)
-made_all v base name pass new_name new_pass (Err Write) sent old new s = tt
-made_all v base name pass new_name new_pass (Err (Row fault)) sent old new s = tt
+made_all v base name pass new_name new_pass (Err fault) sent old new s = tt
 
 same_wire : (v : Values) (base : List Slip) (name : GName) (pass : Holding) (new_name : GName) (new_pass : Holding)
     (result : Result ⊤ (RowsFault LineFault)) (old new : Sending)
     → SendsLines v base name pass new_name new_pass result old new → new.wire ≡ old.wire
 same_wire v base name pass new_name new_pass (Ok done) old new s = ap (λ (x : Sending). x.wire) s.ends.2
-same_wire v base name pass new_name new_pass (Err Write) old new s = ap (λ (x : Sending). x.wire) s.ends.1.2
+same_wire v base name pass new_name new_pass (Err (Write fault)) old new s = ap (λ (x : Sending). x.wire) s.ends.1.1.2
 same_wire v base name pass new_name new_pass (Err (Row e)) old new s = ap (λ (x : Sending). x.wire) s.ends.2
 
 -- the count is exact: as many bytes were sent as are written of the lines
@@ -131,16 +130,16 @@ emits v base name pass new_name new_pass wire log (Ok done) new s =
           ∙ ap (λ (ys : List ℕ). length ys) (sym whole),
       ap (λ (t : Sending). t.log) s.ends.2 ∙ ap (λ (ys : List ℕ). wrote log ys) (sym whole),
     )
-emits v base name pass new_name new_pass wire log (Err Write) new s =
-    let (k, low, is) = s.ends.1 in
+emits v base name pass new_name new_pass wire log (Err (Write fault)) new s =
+    let (count, (k, low, is)) = s.ends.1 in
     let xs : List ℕ = lines_to v base s.count in
     let split = table_splits v base s.count s.few in
-    let sent : new.sent ≡ k =
-    ap (λ (t : Sending). t.sent) is
+    let sent : fault.sent ≡ k =
+    count ∙ ap (λ (t : Sending). t.sent) is
     ∙ sent_first xs s.count (length (cells_of v)) k s.few s.rows s.short (omega (arith, low)) in
-    let first : take k xs ≡ take new.sent (table_over v base) =
-    sym (ap (λ (ys : List ℕ). take new.sent ys) split
-    ∙ take-append-le new.sent xs (lines_after v base s.count) (omega (arith, sent, low))
+    let first : take k xs ≡ take fault.sent (table_over v base) =
+    sym (ap (λ (ys : List ℕ). take fault.sent ys) split
+    ∙ take-append-le fault.sent xs (lines_after v base s.count) (omega (arith, sent, low))
     ∙ ap (λ (m : ℕ). take m xs) sent) in (
       omega (
         arith,

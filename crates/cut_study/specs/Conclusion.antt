@@ -3,14 +3,15 @@ use Rattle.std.specs.Prelude.{◌≡◌, ℕ, Bool, IsTrue, List, Result, Ok, Er
 use Rattle.cut_plan.specs.Values.{Values}
 use Rattle.cut_ledger.specs.declared.slip.Slip.{Slip}
 use Rattle.cut_ledger.specs.Slips.{IsFirstBad}
-use Rattle.cut_study.specs.declared.emit.EmitFault.{EmitFault}
-use Rattle.cut_study.specs.declared.emit.EmitFault.TheVariants as emit
+use Rattle.cut_wires.specs.declared.rows.RowsFault.{RowsFault}
+use Rattle.cut_wires.specs.declared.rows.RowsFault.TheVariants as rows
+use Rattle.cut_hall.specs.declared.line_fault.LineFault.{LineFault}
 use Rattle.cut_study.specs.declared.run_fault.RunFault.{RunFault}
 use Rattle.cut_study.specs.declared.run_fault.RunFault.TheVariants.{BadSlip, Checkpoint, Write, WorkMemory, AuditMismatch}
 use Rattle.cut_study.specs.declared.study.Done.{Done}
 use Rattle.cut_hall.specs.Report.{SlotEnd}
 
--- why a run did not begin: for want of memory, which says nothing of the slips, or for the first bad slip
+-- why a run did not begin: where memory ran out, which says nothing of the slips, or for the first bad slip
 abbrev pub IsNotBegun : Values → List Slip → RunFault → Type 0
 IsNotBegun v slips WorkMemory = ⊤
 IsNotBegun v slips (BadSlip number) = IsFirstBad v slips number
@@ -23,8 +24,8 @@ IsNotEnded AuditMismatch = ⊤
 IsNotEnded other = ⊥
 
 -- a write did not fail
-abbrev pub NoWriteFailed : Result ℕ EmitFault → Type 0
-NoWriteFailed (Err (emit.Write sent)) = ⊥
+abbrev pub NoWriteFailed : Result ℕ (RowsFault LineFault) → Type 0
+NoWriteFailed (Err (rows.Write fault)) = ⊥
 NoWriteFailed sent = ⊤
 
 -- what a run answers where a line did not come: Checkpoint only with a journal, and no fault of a write or a slip
@@ -36,9 +37,10 @@ CanLose other has_journal = ⊥
 
 -- the answer: done where all was sent and the hall was closed; a write that failed as it is; and else another
 -- fault, Checkpoint only of a study with a journal
-abbrev pub Concludes : Result ℕ EmitFault → Result (List SlotEnd) RunFault → Bool → Result Done RunFault → Type 0
+abbrev pub Concludes : Result ℕ (RowsFault LineFault) → Result (List SlotEnd) RunFault → Bool → Result Done RunFault
+    → Type 0
 Concludes sent closed has_journal (Ok d) = (sent ≡ Ok d.sent) × (closed ≡ Ok d.report)
-Concludes sent closed has_journal (Err (Write n)) = sent ≡ Err (emit.Write n)
+Concludes sent closed has_journal (Err (Write fault)) = sent ≡ Err (rows.Write fault)
 Concludes sent closed has_journal (Err Checkpoint) = NoWriteFailed sent × IsTrue has_journal
 Concludes sent closed has_journal (Err WorkMemory) = NoWriteFailed sent
 Concludes sent closed has_journal (Err AuditMismatch) = NoWriteFailed sent

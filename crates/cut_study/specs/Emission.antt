@@ -8,11 +8,9 @@ use Rattle.cut_plan.specs.Versions.{version_of}
 use Rattle.cut_lines.specs.Lines.{header}
 use Rattle.cut_ledger.specs.declared.slip.Slip.{Slip}
 use Rattle.cut_wires.specs.declared.rows.RowsFault.{RowsFault}
-use Rattle.cut_wires.specs.declared.rows.RowsFault.TheVariants as rows
+use Rattle.cut_wires.specs.declared.rows.RowsFault.TheVariants.{Write, Row}
 use Rattle.cut_wires.specs.Log.{Log, wrote, write_failed}
 use Rattle.cut_wires.specs.Rows.{Table}
-use Rattle.cut_study.specs.declared.emit.EmitFault.{EmitFault}
-use Rattle.cut_study.specs.declared.emit.EmitFault.TheVariants.{Write, Line}
 use Rattle.cut_hall.specs.declared.line_fault.LineFault.{LineFault}
 use Rattle.cut_hall.specs.Lines.{full_line}
 use Rattle.cut_hall.specs.Pass.{Holding}
@@ -23,17 +21,16 @@ WrotePrefix whole old new = (n : ℕ) × (new ≡ wrote old (take n whole))
 
 -- how many bytes of a whole are reported, and what the wire took: all of it; exactly as many of its first bytes and
 -- not all where a write failed; and some first bytes where a line did not come
-abbrev pub Emits : List ℕ → Result ℕ EmitFault → Log → Log → Type 0
+abbrev pub Emits : List ℕ → Result ℕ (RowsFault LineFault) → Log → Log → Type 0
 Emits whole (Ok sent) old new = (sent ≡ length whole) × (new ≡ wrote old whole)
-Emits whole (Err (Write sent)) old new =
-    (sent < length whole) × (new ≡ write_failed (wrote old (take sent whole)))
-Emits whole (Err (Line fault)) old new = WrotePrefix whole old new
+Emits whole (Err (Write fault)) old new =
+    (fault.sent < length whole) × (new ≡ write_failed (wrote old (take fault.sent whole)))
+Emits whole (Err (Row fault)) old new = WrotePrefix whole old new
 
 -- how the writing of a table ended, by how the sending of its lines did, and by how many bytes were sent then
-abbrev pub emitted : Result ⊤ (RowsFault LineFault) → ℕ → Result ℕ EmitFault
+abbrev pub emitted : {E : Type 0} → Result ⊤ E → ℕ → Result ℕ E
 emitted (Ok done) sent = Ok sent
-emitted (Err rows.Write) sent = Err (Write sent)
-emitted (Err (rows.Row fault)) sent = Err (Line fault)
+emitted (Err fault) sent = Err fault
 
 -- ---- the lines that are written
 

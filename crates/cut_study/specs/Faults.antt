@@ -16,14 +16,14 @@ use Rattle.cut_study.specs.declared.run_fault.RunFault.TheVariants as run
 abbrev pub code_of_run : RunFault → FaultCode
 code_of_run (run.BadSlip number) = code.BadSlip
 code_of_run run.Checkpoint = code.Checkpoint
-code_of_run (run.Write sent) = code.Write
+code_of_run (run.Write fault) = code.Write
 code_of_run run.WorkMemory = code.WorkMemory
 code_of_run run.AuditMismatch = code.AuditMismatch
 
 -- number, name, and the number of the slip or of the bytes that were sent
 abbrev pub run_fault_text : RunFault → List ℕ
 run_fault_text (run.BadSlip number) = text_carrying code.BadSlip (decimal number)
-run_fault_text (run.Write sent) = text_carrying code.Write (decimal sent)
+run_fault_text (run.Write fault) = text_carrying code.Write (decimal fault.sent)
 run_fault_text fault = code_text (code_of_run fault)
 
 -- why a run did not begin, by the fault of its book

@@ -19,14 +19,14 @@ slips_of (Some kept) = kept.1.items
 
 -- how a study of a plan over slips ended, with a journal or without one: all of its table was sent, and its
 -- report is of one slot, whose history has at least a call for each line; or the first bad slip was found; or a
--- write failed before the last byte; or the journal's disk failed; or the audit; or memory was wanting
+-- write failed before the last byte; or the journal's disk failed; or the audit; or memory ran out
 abbrev pub HasEnded : Values → List Slip → Bool → Result Done RunFault → Type 0
 HasEnded v slips has_journal (Ok d) =
     AreGood v slips × (d.sent ≡ length (table_over v slips)) × (length d.report ≡ 1)
     × (length (cells_of v) ≤ calls_in_all d.report)
 HasEnded v slips has_journal (Err (BadSlip number)) = IsFirstBad v slips number
 HasEnded v slips has_journal (Err Checkpoint) = AreGood v slips × IsTrue has_journal
-HasEnded v slips has_journal (Err (Write sent)) = AreGood v slips × (sent < length (table_over v slips))
+HasEnded v slips has_journal (Err (Write fault)) = AreGood v slips × (fault.sent < length (table_over v slips))
 HasEnded v slips has_journal (Err WorkMemory) = ⊤
 HasEnded v slips has_journal (Err AuditMismatch) = AreGood v slips
 
@@ -35,7 +35,7 @@ HasEnded v slips has_journal (Err AuditMismatch) = AreGood v slips
 abbrev pub Takes : Values → List Slip → Result Done RunFault → Log → Log → Type 0
 Takes v slips (Ok d) old new = new ≡ wrote old (table_over v slips)
 Takes v slips (Err (BadSlip number)) old new = new ≡ old
-Takes v slips (Err (Write sent)) old new = new ≡ write_failed (wrote old (take sent (table_over v slips)))
+Takes v slips (Err (Write fault)) old new = new ≡ write_failed (wrote old (take fault.sent (table_over v slips)))
 Takes v slips (Err WorkMemory) old new = (new ≡ old) ⊎ (AreGood v slips × WrotePrefix (table_over v slips) old new)
 Takes v slips (Err Checkpoint) old new = WrotePrefix (table_over v slips) old new
 Takes v slips (Err AuditMismatch) old new = WrotePrefix (table_over v slips) old new

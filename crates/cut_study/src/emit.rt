@@ -11,14 +11,8 @@ use cut_wires::{Line, Plain, Rows, RowsFault, Wire, send_rows};
 use std::alloc::Global;
 use std::sync::Wait;
 
-/// Why a study's table was not written to its end.
-#[derive(Clone, Copy)]
-pub(crate) enum EmitFault {
-    /// A write failed, after the wire had taken this many bytes of the table.
-    Write(u64),
-    /// The next line did not come.
-    Line(LineFault),
-}
+/// Why a study's table was not written to its end: a write failed, or the next line did not come.
+pub(crate) type EmitFault = RowsFault<LineFault>;
 
 /// The lines of an opened study, each as soon as it comes. While one does not, this thread works on the study's
 /// pieces too. Each line is one call that the pass made.
@@ -107,12 +101,11 @@ where
 }
 
 /// How the writing of a table ended, by how the sending of its lines did, and by how many bytes were sent then.
-fn emitted(outcome: Result<(), RowsFault<LineFault>>, sent: u64) -> Result<u64, EmitFault>
+fn emitted(outcome: Result<(), EmitFault>, sent: u64) -> Result<u64, EmitFault>
     ensures { result ≡ emitted outcome sent }
 {
     match outcome {
         Ok(()) => Ok(sent),
-        Err(RowsFault::Write) => Err(EmitFault::Write(sent)),
-        Err(RowsFault::Row(fault)) => Err(EmitFault::Line(fault)),
+        Err(fault) => Err(fault),
     }
 }

@@ -3,6 +3,7 @@ ghost use Rattle.cut_study.specs.Faults.{code_of_run};
 
 use cut_book::BookFault;
 use cut_faults::FaultCode;
+use cut_wires::WriteFault;
 use std::alloc::AllocError;
 use std::fmt;
 use thiserror::Error;
@@ -15,8 +16,8 @@ pub enum RunFault {
     BadSlip(u64),
     /// The disk failed in the append of a slip.
     Checkpoint,
-    /// A write of the wire failed, after it had taken this many bytes.
-    Write(u64),
+    /// A write of the wire failed.
+    Write(WriteFault),
     /// A growth of memory was refused.
     WorkMemory,
     /// What was counted on the board and what the book's history accepted differ, or calls could be counted no
@@ -48,7 +49,9 @@ impl fmt::Display for RunFault {
     fn fmt<W: fmt::Write>(&self, f: &mut fmt::Formatter<W>) -> fmt::Result {
         let code = self.code();
         match self {
-            RunFault::BadSlip(number) | RunFault::Write(number) => write!(f, "{code} {number}"),
+            RunFault::BadSlip(number) | RunFault::Write(WriteFault { sent: number }) => {
+                write!(f, "{code} {number}")
+            }
             _ => write!(f, "{code}"),
         }
     }
@@ -64,7 +67,7 @@ impl From<AllocError> for RunFault {
     }
 }
 
-/// What a book says at its opening: the first bad slip, or want of memory.
+/// What a book reports at its opening: the first bad slip, or that memory ran out.
 impl From<BookFault> for RunFault {
     ghost use Rattle.cut_study.specs.Faults.{of_opening};
 

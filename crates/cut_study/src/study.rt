@@ -16,7 +16,7 @@ use cut_hall::{Gate, LineFault, Report, Tally};
 use cut_journal::Journal;
 use cut_ledger::Slip;
 use cut_plan::Plan;
-use cut_wires::Wire;
+use cut_wires::{RowsFault, Wire};
 use std::alloc::Global;
 use std::marker::Brand;
 use std::sync::Wait;
@@ -154,7 +154,7 @@ where
 }
 
 /// What a run answers, by how the writing of its table ended and how its hall was closed. A write that failed is
-/// told before anything else.
+/// reported before anything else.
 fn concluded(
     sent: Result<u64, EmitFault>,
     closed: Result<Report, RunFault>,
@@ -168,8 +168,8 @@ fn concluded(
             Ok(report) => Ok(Done { sent, report }),
             Err(fault) => Err(fault),
         },
-        Err(EmitFault::Write(sent)) => Err(RunFault::Write(sent)),
-        Err(EmitFault::Line(fault)) => Err(fault_of_line(fault, closed.err(), has_journal)),
+        Err(RowsFault::Write(fault)) => Err(RunFault::Write(fault)),
+        Err(RowsFault::Row(fault)) => Err(fault_of_line(fault, closed.err(), has_journal)),
     }
 }
 

@@ -1,22 +1,18 @@
-//! Books through the calls of a study, told as text.
+//! Books through the calls of a study.
 
 use crate::piece::result_of;
+use crate::studies::{ONE_LIAR, Study, TWO_TRIALS};
 use cut_book::{Book, BookFault, Call, History};
-use cut_disks::{Disk, FaultyDisk, MemoryDisk, Tear};
+use cut_disks::{FaultyDisk, Tear};
 use cut_journal::Journal;
 use cut_ledger::Slip;
-use cut_plan::Plan;
 use cut_trial::{Piece, PieceResult};
 use std::alloc::{AllocError, Global};
+use std::process::Abort;
 use std::test::Fail;
 
-/// A study of one cell with two trials.
-pub(crate) const STUDY: &str =
-    r#"{"copies":1,"dead":"silent","f":[1],"faults":"crash","h":[1],"implicit":true,"k":[1],"l":[1],"liars":0,"links":0,"nodes":5,"repeats":2,"seed":"0000000000000000000000000000000000000000000000000000000000000000","version":1}"#;
-
-/// One with a liar in place of the failed process, and one trial.
-pub(crate) const OTHER: &str =
-    r#"{"copies":1,"dead":"silent","f":[0],"faults":"crash","h":[1],"implicit":true,"k":[1],"l":[1],"liars":1,"links":0,"nodes":5,"repeats":1,"seed":"0000000000000000000000000000000000000000000000000000000000000000","version":1}"#;
+/// A book over a disk.
+type KeptBook = Book<FaultyDisk>;
 
 /// What a book is asked: to take one of some results, to lose a piece, or for the line of its cell.
 #[derive(Clone, Copy)]
@@ -26,226 +22,239 @@ enum Ask {
     Row,
 }
 
-/// The result of one trial of a plan.
-fn result(alloc: Global, text: &str, first: u32) -> Result<PieceResult, Fail> {
-    let plan = Plan::from_json(alloc, text.as_bytes())?;
+/// Calls of a book, and what each is answered: a line, a fault, or that it is done.
+type Rows = &'static [(Ask, &'static str)];
+
+/// The line of the study.
+const LINE: &str = "1,1,1,1,2,8,0,0,0,8,2,2,0\n";
+
+/// The result of one trial of a study.
+fn result(alloc: Global, study: Study, first: u32) -> Result<PieceResult, Fail> {
+    let plan = study.read_plan(alloc)?;
     Ok(result_of(alloc, &plan, Piece { first, count: 1 })?)
 }
 
 /// The results of both trials of the study, one by one, and that of the other one.
 fn results(alloc: Global) -> Result<Vec<PieceResult>, Fail> {
     let mut results = Vec::new(alloc);
-    for (text, first) in [(STUDY, 0), (STUDY, 1), (OTHER, 0)] {
-        results.push(result(alloc, text, first)?)?;
+    for (study, first) in [(TWO_TRIALS, 0), (TWO_TRIALS, 1), (ONE_LIAR, 0)] {
+        results.push(result(alloc, study, first)?)?;
     }
     Ok(results)
 }
 
-fn told(alloc: Global, answer: Result<(), BookFault>) -> Result<String, AllocError> {
-    match answer {
-        Ok(()) => String::from_str(alloc, "done"),
-        Err(fault) => format!(in alloc; "{fault}"),
-    }
-}
-
-/// How long the line of a cell is, or the fault.
-fn row_told<D: Disk>(alloc: Global, book: &mut Book<D>, cell: u32) -> Result<String, AllocError> {
-    if cell >= book.ledger().plan().cells() {
-        return Ok(String::new(alloc));
-    }
-    match book.row(alloc, cell) {
-        Ok(line) => format!(in alloc; "{} bytes", line.len()),
-        Err(fault) => format!(in alloc; "{fault}"),
-    }
-}
-
-fn answer<D: Disk>(
+/// Whether an answer is printed so.
+fn is_printed(
     alloc: Global,
-    book: &mut Book<D>,
+    answer: Result<(), BookFault>,
+    wanted: &str,
+) -> Result<bool, AllocError> {
+    match answer {
+        Ok(()) => Ok(wanted == "done"),
+        Err(fault) => Ok(fault.to_string(alloc)?.as_str() == wanted),
+    }
+}
+
+/// Whether a book answers so, where it is asked for the line of its first cell.
+fn is_row(alloc: Global, book: &mut KeptBook, wanted: &str) -> Result<bool, AllocError> {
+    if book.ledger().plan().cells() == 0 {
+        return Ok(false);
+    }
+    match book.row(alloc, 0) {
+        Ok(line) => Ok(line.as_slice() == wanted.as_bytes()),
+        Err(fault) => Ok(fault.to_string(alloc)?.as_str() == wanted),
+    }
+}
+
+/// Whether a book answers so.
+fn is_answered(
+    alloc: Global,
+    book: &mut KeptBook,
     results: &[PieceResult],
     ask: Ask,
-) -> Result<String, AllocError> {
+    wanted: &str,
+) -> Result<bool, AllocError> {
     match ask {
         Ask::HandIn(number) => match results.get(number) {
-            Some(result) => told(alloc, book.hand_in(result)),
-            None => Ok(String::new(alloc)),
+            Some(result) => is_printed(alloc, book.hand_in(result), wanted),
+            None => Ok(false),
         },
-        Ask::Lose(piece) => told(alloc, book.lose(piece)),
-        Ask::Row => row_told(alloc, book, 0),
+        Ask::Lose(piece) => is_printed(alloc, book.lose(piece), wanted),
+        Ask::Row => is_row(alloc, book, wanted),
     }
 }
 
-/// What a book answers, joined by semicolons.
-fn answers<D: Disk>(
-    alloc: Global,
-    book: &mut Book<D>,
-    results: &[PieceResult],
-    asks: &[Ask],
-) -> Result<String, Fail> {
-    let mut text = String::new(alloc);
-    for ask in asks {
-        let line = answer(alloc, book, results, *ask)?;
-        text.push_str(line.as_str())?;
-        text.push_str("; ")?;
+/// Asserts what a book answers.
+fn ask_all(rt: &impl Abort, alloc: Global, book: &mut KeptBook, rows: Rows) -> Result<(), Fail> {
+    let results = results(alloc)?;
+    for (number, (ask, wanted)) in rows.iter().enumerate() {
+        assert!(rt;
+            is_answered(alloc, book, results.as_slice(), *ask, wanted)?,
+            "{number}"
+        );
     }
-    Ok(text)
+    Ok(())
 }
 
-/// A book over a disk, with pieces of one trial.
-fn book_over<D: Disk + Drop>(alloc: Global, disk: D) -> Result<Book<D>, Fail> {
-    let plan = Plan::from_json(alloc, STUDY.as_bytes())?;
+/// A book of the study over a disk, or over none, with pieces of one trial.
+fn book_over(alloc: Global, disk: Option<FaultyDisk>) -> Result<KeptBook, Fail> {
+    let plan = TWO_TRIALS.read_plan(alloc)?;
+    let Some(disk) = disk else {
+        return Ok(Book::new(alloc, plan, None, &[], 1)?);
+    };
     match Journal::open(alloc, disk, &plan) {
         Ok((journal, slips)) => { Ok(Book::new(alloc, plan, Some(journal), slips.as_slice(), 1)?) }
         Err(_) => Err("no journal")?,
     }
 }
 
-/// What a book over a disk answers, and at the end whether its journal is broken.
-fn answers_over<D: Disk + Drop>(alloc: Global, disk: D, asks: &[Ask]) -> Result<String, Fail> {
-    let results = results(alloc)?;
-    let mut book = book_over(alloc, disk)?;
-    let mut text = answers(alloc, &mut book, results.as_slice(), asks)?;
-    if book.journal().is_some() && book.is_broken() {
-        text.push_str("broken")?;
+/// The bytes on the disk of a book, and whether its journal is broken.
+fn bytes_of(alloc: Global, book: &KeptBook) -> Result<(Vec<u8>, bool), Fail> {
+    match book.journal() {
+        Some(journal) => {
+            let bytes = Vec::from_slice(alloc, journal.disk().memory().bytes())?;
+            Ok((bytes, book.is_broken()))
+        }
+        None => Err("no journal")?,
     }
-    Ok(text)
 }
 
-/// A book without a journal, with pieces of one trial.
-fn book_alone(alloc: Global) -> Result<Book<MemoryDisk>, Fail> {
-    let plan = Plan::from_json(alloc, STUDY.as_bytes())?;
-    Ok(Book::new(alloc, plan, None, &[], 1)?)
-}
-
-/// What a book without a journal answers, and then how many calls its history has.
-fn answers_alone(
-    alloc: Global,
-    book: &mut Book<MemoryDisk>,
-    asks: &[Ask],
-) -> Result<(String, u64), Fail> {
-    let results = results(alloc)?;
-    let text = answers(alloc, book, results.as_slice(), asks)?;
-    Ok((text, book.history_len()))
-}
-
-const ALONE: &str =
-    "done; 18 NotDone 0; done; 16 Overlap; 15 Stranger; 26 bytes; done; 14 BadPiece; 14 BadPiece; ";
-
-#[test]
-fn a_book_without_a_journal(rt: HostRuntime) -> Result<(), Fail> {
-    let asks = [
-        Ask::HandIn(1),
-        Ask::Row,
-        Ask::HandIn(0),
-        Ask::HandIn(0),
-        Ask::HandIn(2),
-        Ask::Row,
-        Ask::Lose(0),
-        Ask::Lose(0),
-        Ask::Lose(2),
-    ];
-    let mut book = book_alone(rt.alloc())?;
-    let (text, calls) = answers_alone(rt.alloc(), &mut book, &asks)?;
-    assert!(rt; text.as_str() == ALONE && calls == 7);
-    Ok(())
-}
-
-/// Whether a book is complete and has lost a piece, and how many calls its history has and trials were accepted.
-fn end_of(book: Book<MemoryDisk>) -> (bool, bool, u64, u64) {
-    let (complete, has_lost) = (book.ledger().complete(), book.has_lost());
-    let (history, _journal) = book.into_parts();
-    (complete, has_lost, history.len(), history.accepted())
-}
-
-/// What the results of a history were answered, joined by semicolons.
-fn answered(alloc: Global, history: &History) -> Result<String, AllocError> {
+/// What is printed of the results of a history, joined by semicolons.
+fn printed(alloc: Global, history: &History) -> Result<String, AllocError> {
     let mut text = String::new(alloc);
     for call in history.calls(alloc)? {
         if let Call::HandIn { answer, .. } = call {
-            text.push_str(told(alloc, answer.into_result())?.as_str())?;
+            match answer.into_result() {
+                Ok(()) => text.push_str("done")?,
+                Err(fault) => text.push_str(fault.to_string(alloc)?.as_str())?,
+            }
             text.push_str("; ")?;
         }
     }
     Ok(text)
 }
 
+/// Whether a book is complete and has lost a piece, and how many calls its history has and trials were accepted.
+fn state_of(book: &KeptBook) -> (bool, bool, u64, u64) {
+    let history = book.history();
+    (
+        book.ledger().complete(),
+        book.has_lost(),
+        book.history_len(),
+        history.accepted(),
+    )
+}
+
+/// Every answer of a book without a journal, which the losses of pieces end.
+const ALONE: Rows = &[
+    (Ask::HandIn(1), "done"),
+    (Ask::Row, "18 NotDone 0"),
+    (Ask::HandIn(0), "done"),
+    (Ask::HandIn(0), "16 Overlap"),
+    (Ask::HandIn(2), "15 Stranger"),
+    (Ask::Row, LINE),
+    (Ask::Lose(0), "done"),
+    (Ask::Lose(0), "14 BadPiece"),
+    (Ask::Lose(2), "14 BadPiece"),
+];
+
+/// Results of which the last one is there already, and then three more calls: the last one is refused, and leaves the
+/// history as it was.
+const RESULTS: Rows = &[
+    (Ask::HandIn(1), "done"),
+    (Ask::HandIn(0), "done"),
+    (Ask::HandIn(0), "16 Overlap"),
+];
+
+const AFTER_RESULTS: Rows = &[
+    (Ask::Row, LINE),
+    (Ask::Lose(0), "done"),
+    (Ask::Lose(0), "14 BadPiece"),
+];
+
 #[test]
-fn a_history_has_every_call(rt: HostRuntime) -> Result<(), Fail> {
-    let mut book = book_alone(rt.alloc())?;
-    let asks = [Ask::HandIn(1), Ask::HandIn(0), Ask::HandIn(0)];
-    let (text, _calls) = answers_alone(rt.alloc(), &mut book, &asks)?;
-    assert!(rt; answered(rt.alloc(), book.history())? == text);
-    assert!(rt; end_of(book) == (true, false, 3, 2));
+fn a_book_without_a_journal(rt: HostRuntime) -> Result<(), Fail> {
+    let alloc = rt.alloc();
+    let mut book = book_over(alloc, None)?;
+    ask_all(&rt, alloc, &mut book, ALONE)?;
+    assert_eq!(rt; state_of(&book), (true, true, 7, 2));
     Ok(())
 }
 
-/// What a book answers over a disk that fails at this call.
-fn answers_failing(alloc: Global, fail_at: u64, asks: &[Ask]) -> Result<String, Fail> {
-    let disk = FaultyDisk::of(alloc, Vec::new(alloc), fail_at, Tear::Nothing)?;
-    disk.arm();
-    answers_over(alloc, disk, asks)
+#[test]
+fn a_history_has_every_call(rt: HostRuntime) -> Result<(), Fail> {
+    let alloc = rt.alloc();
+    let mut book = book_over(alloc, None)?;
+    ask_all(&rt, alloc, &mut book, RESULTS)?;
+    assert_eq!(rt; state_of(&book), (true, false, 3, 2));
+    ask_all(&rt, alloc, &mut book, AFTER_RESULTS)?;
+    assert_eq!(rt; state_of(&book), (true, true, 5, 2));
+    let text = printed(alloc, book.history())?;
+    assert_eq!(rt; text.as_str(), "done; done; 16 Overlap; ");
+    Ok(())
+}
+
+/// Asserts what a book over a disk answers. The bytes on the disk then, and whether the journal is broken.
+fn ask_over(
+    rt: &impl Abort,
+    alloc: Global,
+    disk: FaultyDisk,
+    rows: Rows,
+) -> Result<(Vec<u8>, bool), Fail> {
+    let mut book = book_over(alloc, Some(disk))?;
+    ask_all(rt, alloc, &mut book, rows)?;
+    bytes_of(alloc, &book)
 }
 
 #[test]
 fn a_disk_that_fails_in_an_append(rt: HostRuntime) -> Result<(), Fail> {
-    let asks = [
-        Ask::HandIn(1),
-        Ask::HandIn(0),
-        Ask::Row,
-        Ask::Lose(0),
-        Ask::Lose(0),
-    ];
+    let alloc = rt.alloc();
     // Ten calls open the journal, and each append makes four.
-    let text = answers_failing(rt.alloc(), 12, &asks)?;
-    assert!(rt;
-        text.as_str() == "30 Checkpoint; 30 Checkpoint; 18 NotDone 0; done; 14 BadPiece; broken"
-    );
+    let disk = FaultyDisk::of(alloc, Vec::new(alloc), 12, Tear::Nothing)?;
+    disk.arm();
+    let rows: Rows = &[
+        (Ask::HandIn(1), "30 Checkpoint"),
+        (Ask::HandIn(0), "30 Checkpoint"),
+        (Ask::Row, "18 NotDone 0"),
+        (Ask::Lose(0), "done"),
+        (Ask::Lose(0), "14 BadPiece"),
+    ];
+    let (_bytes, is_broken) = ask_over(&rt, alloc, disk, rows)?;
+    assert!(rt; is_broken);
     Ok(())
-}
-
-/// Whether a book over a disk answers this, and leaves so many bytes there.
-fn leaves(
-    alloc: Global,
-    disk: &mut MemoryDisk,
-    asks: &[Ask],
-    wanted: &str,
-    length: usize,
-) -> Result<bool, Fail> {
-    let text = answers_over(alloc, &mut *disk, asks)?;
-    Ok(text.as_str() == wanted && disk.bytes().len() == length)
 }
 
 #[test]
 fn a_journal_keeps_what_is_accepted(rt: HostRuntime) -> Result<(), Fail> {
     let alloc = rt.alloc();
-    let first = [Ask::HandIn(2), Ask::HandIn(0)];
-    let second = [Ask::HandIn(0), Ask::HandIn(1), Ask::Row];
-    let mut disk = MemoryDisk::of(alloc, Vec::new(alloc))?;
-    assert!(rt; leaves(alloc, &mut disk, &first, "15 Stranger; done; ", 372)?);
-    assert!(rt;
-        leaves(
-            alloc,
-            &mut disk,
-            &second,
-            "16 Overlap; done; 26 bytes; ",
-            477
-        )?
-    );
+    let first: Rows = &[(Ask::HandIn(2), "15 Stranger"), (Ask::HandIn(0), "done")];
+    let second: Rows = &[
+        (Ask::HandIn(0), "16 Overlap"),
+        (Ask::HandIn(1), "done"),
+        (Ask::Row, LINE),
+    ];
+    let mut bytes = Vec::new(alloc);
+    for (rows, length) in [(first, 372), (second, 477)] {
+        let disk = FaultyDisk::of(alloc, bytes, 0, Tear::Nothing)?;
+        let (left, is_broken) = ask_over(&rt, alloc, disk, rows)?;
+        assert!(rt; !is_broken && left.len() == length);
+        bytes = left;
+    }
     Ok(())
 }
 
-/// What is told of a book that is opened over the slip of the first trial, so many times.
+/// What is printed of a book that is opened over the slip of the first trial, so many times.
 fn opened(alloc: Global, times: usize) -> Result<String, Fail> {
-    let result = result(alloc, STUDY, 0)?;
+    let result = result(alloc, TWO_TRIALS, 0)?;
     let slip = Slip {
         piece: result.piece(),
         totals: result.totals(),
     };
     let slips = vec![in alloc; slip; times]?;
-    let plan = Plan::from_json(alloc, STUDY.as_bytes())?;
-    match Book::<MemoryDisk>::new(alloc, plan, None, slips.as_slice(), 1) {
+    let plan = TWO_TRIALS.read_plan(alloc)?;
+    match KeptBook::new(alloc, plan, None, slips.as_slice(), 1) {
         Ok(_) => Ok(String::from_str(alloc, "done")?),
-        Err(fault) => Ok(format!(in alloc; "{fault}")?),
+        Err(fault) => Ok(fault.to_string(alloc)?),
     }
 }
 

@@ -1,12 +1,16 @@
-//! Halls of one slot, with a study of two trials.
-ghost use Rattle.std.specs.Prelude.{◌≡◌, ◌<◌, All, Err, IfOk, length};
+//! Halls in which one thread does what a script says: studies that are worked off, slots that have none yet, and lines
+//! that are asked for by what another hall opened.
+ghost use Rattle.std.specs.Prelude.{◌≡◌, ◌<◌, ◌≤◌, All, Err, IfOk, length};
 ghost use Rattle.cut_hall.specs.declared.not_closed.NotClosed.TheVariants.{SeatMissing};
 
-use crate::books::{OTHER, STUDY};
-use cut_book::{NoShelf, Opened, SubmitFault};
-use cut_disks::MemoryDisk;
-use cut_hall::{Hall, LineFault, NotClosed, OpenGate, Pass, Report, Tally};
-use cut_plan::Plan;
+use crate::deeds::{Deed, End, Stormy, act, act_in, closed, put_back};
+use crate::piece::result_of;
+use crate::runs::workers_from;
+use crate::studies::{ONE_LIAR, Study, TWO_TRIALS};
+use cut_book::{NoShelf, Opened};
+use cut_hall::{Hall, NotClosed, OpenGate, Pass, Report, Tally};
+use cut_ledger::{Base, Slip};
+use cut_trial::Piece;
 use std::alloc::Global;
 use std::marker::Brand;
 use std::process::Abort;
@@ -14,62 +18,112 @@ use std::sync::Wait;
 use std::sync::ledger::Blank;
 use std::test::Fail;
 
-/// A hall in which no study is kept.
-pub(crate) type Small<M, K> = Hall<MemoryDisk, M, K>;
-
-pub(crate) fn plan(alloc: Global, text: &str) -> Result<Plan, Fail> {
-    Ok(Plan::from_json(alloc, text.as_bytes())?)
+/// A step of a script.
+#[derive(Clone, Copy)]
+enum Step {
+    /// Works in the first slot until nothing is left there, in both ways.
+    Work,
+    /// Ends the work of all.
+    Stop,
+    /// Submits a study, and does a deed for it.
+    Own(Study, Deed),
+    /// Does a deed for the study of the first slot by what another hall opened, with the slips of so many of the
+    /// first trials.
+    Foreign(Study, u32, Deed),
 }
 
-/// Submits the study, and a second time; there is no slot for another one.
-fn submitted<M: Tally, K: Tally, R: Wait + Abort>(
-    rt: &R,
-    alloc: Global,
-    hall: &Small<M, K>,
-    pass: &mut Pass<M>,
-) -> Result<Opened, Fail>
-    requires { pass.old.hall ≡ hall.now.id }
-    ensures pass { pass.new ≡ pass.old }
-    ensures slot { IfOk result (λ o. o.study < hall.now.slots) }
-{
-    let opened = hall.submit(rt, alloc, pass, plan(alloc, STUDY)?, &NoShelf)?;
-    let again = hall.submit(rt, alloc, pass, plan(alloc, STUDY)?, &NoShelf)?;
-    assert!(rt; opened.study == 0 && again.study == 0);
-    let full = hall.submit(rt, alloc, pass, plan(alloc, OTHER)?, &NoShelf);
-    assert!(rt; full.err() == Some(SubmitFault::SlotsFull));
-    Ok(opened)
+/// Steps, and how each ends.
+type Script = &'static [(Step, End)];
+
+/// What is done in a new hall of so many slots: by a first pass, by a second one, and by the first one again.
+#[derive(Clone, Copy)]
+struct Scene {
+    slots: u32,
+    first: Script,
+    second: Script,
+    last: Script,
+    /// The accepted trials and the calls of the first slot at the end, and whether its study is complete.
+    report: (u64, u64, bool),
 }
 
-/// One worker does both pieces, and the line comes; and then it is there once more, as often as it is asked for.
-fn worked<M: Tally, K: Tally, R: Wait + Abort>(
+/// The slip of a trial.
+fn slip_of(alloc: Global, study: Study, first: u32) -> Result<Slip, Fail> {
+    let plan = study.read_plan(alloc)?;
+    let result = result_of(alloc, &plan, Piece { first, count: 1 })?;
+    Ok(Slip {
+        piece: result.piece(),
+        totals: result.totals(),
+    })
+}
+
+/// What another hall opens for a study where its disk has the slips of so many of the first trials.
+fn opened_elsewhere(alloc: Global, study: Study, slips: u32) -> Result<Opened, Fail> {
+    let mut kept = Vec::new(alloc);
+    for trial in 0..slips {
+        kept.push(slip_of(alloc, study, trial)?)?;
+    }
+    Ok(Opened {
+        study: 0,
+        plan: study.read_plan(alloc)?,
+        base: Base::from_vec(kept),
+    })
+}
+
+/// Takes a step: how it ends.
+fn take_step<M: Tally, K: Tally, R: Wait>(
     rt: &R,
     alloc: Global,
-    hall: &Small<M, K>,
+    hall: &Stormy<M, K>,
     pass: &mut Pass<M>,
-    opened: &Opened,
-) -> Result<bool, Fail>
+    step: Step,
+) -> Result<End, Fail>
     requires own { pass.old.hall ≡ hall.now.id }
-    requires slot { opened.now.study < hall.now.slots }
+    requires slot { 0 < hall.now.slots }
     ensures { pass.new.hall ≡ pass.old.hall }
 {
-    if !hall.work_off(rt, alloc, pass, &OpenGate, opened.study) || opened.plan.cells() == 0 {
-        return Ok(false);
+    match step {
+        Step::Work => {
+            hall.work_on_cell(rt, alloc, pass, &OpenGate, 0, 0);
+            Ok(End::Worked(hall.work_off(rt, alloc, pass, &OpenGate, 0)))
+        }
+        Step::Stop => {
+            hall.stop(rt);
+            Ok(End::Ended)
+        }
+        Step::Own(study, deed) => Ok(act(rt, alloc, hall, pass, &NoShelf, study, deed)),
+        Step::Foreign(study, slips, deed) => {
+            let opened = opened_elsewhere(alloc, study, slips)?;
+            if opened.study > 0 {
+                return Ok(End::Wrong);
+            }
+            Ok(act_in(rt, alloc, hall, pass, &opened, study, deed))
+        }
     }
-    let early = hall.given_row(rt, alloc, opened, 0)?;
-    let line = hall.next_row(rt, alloc, pass, opened, 0)?;
-    for _ in 0..10 {
-        let again = hall.given_row(rt, alloc, opened, 0)?;
-        assert!(rt; again.as_ref() == Some(&line));
+}
+
+/// Takes the steps of a script, and asserts how they end.
+fn play<M: Tally, K: Tally, R: Wait + Abort>(
+    rt: &R,
+    alloc: Global,
+    hall: &Stormy<M, K>,
+    pass: &mut Pass<M>,
+    script: Script,
+) -> Result<(), Fail>
+    requires own { pass.old.hall ≡ hall.now.id }
+    requires slot { 0 < hall.now.slots }
+    ensures { pass.new.hall ≡ pass.old.hall }
+{
+    for row in script {
+        let (step, wanted) = *row;
+        assert!(rt; take_step(rt, alloc, hall, pass, step)? == wanted);
     }
-    let counted = hall.counted(pass, 0)?;
-    let is_line = line.as_slice() == b"1,1,1,1,2,8,0,0,0,8,2,2,0\n".as_slice();
-    Ok(early.is_none() && counted == 2 && is_line)
+    Ok(())
 }
 
 /// A hall and its passes, given back as a pass was missing.
 fn given_back<M: Tally, K: Tally>(
-    closing: Result<Report, NotClosed<(Small<M, K>, Vec<Pass<M>>)>>,
-) -> Result<(Small<M, K>, Vec<Pass<M>>), Fail>
+    closing: Result<Report, NotClosed<(Stormy<M, K>, Vec<Pass<M>>)>>,
+) -> Result<(Stormy<M, K>, Vec<Pass<M>>), Fail>
     ensures { IfOk result (λ back. closing ≡ Err (SeatMissing back)) }
 {
     match closing {
@@ -80,18 +134,12 @@ fn given_back<M: Tally, K: Tally>(
     }
 }
 
-/// The accepted trials and the calls of the first slot, and whether its study is complete.
-pub(crate) fn first_slot(report: &Report) -> Option<(u64, u64, bool)> {
-    let slot = report.slots().first()?;
-    Some((slot.accepted(), slot.calls(), slot.complete()))
-}
-
 /// Closes a hall with its first pass kept back: the hall and the others come back, and the first is the last then.
 fn kept_back<M: Tally, K: Tally>(
     alloc: Global,
-    hall: Small<M, K>,
+    hall: Stormy<M, K>,
     mut passes: Vec<Pass<M>>,
-) -> Result<(Small<M, K>, Vec<Pass<M>>), Fail>
+) -> Result<(Stormy<M, K>, Vec<Pass<M>>), Fail>
     requires ledgers { (M.all ≡ M.parts) × (K.all ≡ K.parts) }
     requires own { All (λ p. p.hall ≡ hall.id) passes.items }
     requires some { 0 < length passes.items }
@@ -108,10 +156,11 @@ fn kept_back<M: Tally, K: Tally>(
     Ok((hall, back))
 }
 
-/// Closes a hall with each of its three passes kept back in turn, and then with all: what is told of its slot.
-fn closed<M: Tally, K: Tally>(
+/// Closes a hall with each of its three passes, of which one is the last, kept back in turn, and then with all: the
+/// accepted trials and the calls of the first slot, and whether its study is complete.
+fn closed_at_last<M: Tally, K: Tally>(
     alloc: Global,
-    hall: Small<M, K>,
+    hall: Stormy<M, K>,
     mut passes: Vec<Pass<M>>,
     last: Pass<M>,
 ) -> Result<Option<(u64, u64, bool)>, Fail>
@@ -123,89 +172,196 @@ fn closed<M: Tally, K: Tally>(
     let (hall, passes) = kept_back(alloc, hall, passes)?;
     let (hall, passes) = kept_back(alloc, hall, passes)?;
     let (hall, passes) = kept_back(alloc, hall, passes)?;
-    match hall.close(alloc, passes) {
-        Ok(report) => Ok(first_slot(&report)),
-        Err(_) => Ok(None),
-    }
+    Ok(first_slot(&closed(alloc, hall, passes)?))
 }
 
-fn one_study<M: Tally, K: Tally, R: Wait + Abort>(
+/// The accepted trials and the calls of the first slot, and whether its study is complete.
+fn first_slot(report: &Report) -> Option<(u64, u64, bool)> {
+    let slot = report.slots().first()?;
+    Some((slot.accepted(), slot.calls(), slot.complete()))
+}
+
+/// Plays a scene by a first pass of a hall, and by one of the others.
+fn play_by_two<M: Tally, K: Tally, R: Wait + Abort>(
     rt: &R,
     alloc: Global,
+    hall: &Stormy<M, K>,
+    first: &mut Pass<M>,
+    others: &mut Vec<Pass<M>>,
+    scene: Scene,
+) -> Result<(), Fail>
+    requires first { first.old.hall ≡ hall.now.id }
+    requires others { All (λ p. p.hall ≡ hall.now.id) others.old.items }
+    requires slot { 0 < hall.now.slots }
+    ensures first { first.new.hall ≡ first.old.hall }
+    ensures others { IfOk result (λ _. All (λ p. p.hall ≡ hall.now.id) others.new.items) }
+{
+    play(rt, alloc, hall, first, scene.first)?;
+    let Some(mut second) = others.pop() else {
+        return Err("a hall of one pass")?;
+    };
+    play(rt, alloc, hall, &mut second, scene.second)?;
+    play(rt, alloc, hall, first, scene.last)?;
+    put_back(hall, others, second)
+}
+
+/// Plays a scene in a new hall.
+fn play_in_hall<M: Tally, K: Tally, R: Wait + Abort>(
+    rt: &R,
+    alloc: Global,
+    scene: Scene,
     made: Blank,
     kept: Blank,
 ) -> Result<(), Fail>
+    requires slots { (0 < scene.slots) × (scene.slots ≤ 64) }
     requires made { (made.name ≡ M.name) × (made.parts ≡ M.parts) × (M.all ≡ M.parts) × (M.all ≡ 3) }
-    requires kept { (kept.name ≡ K.name) × (kept.parts ≡ K.parts) × (K.all ≡ K.parts) × (K.all ≡ 1) }
+    requires kept { (kept.name ≡ K.name) × (kept.parts ≡ K.parts) × (K.all ≡ K.parts)
+        × (K.all ≡ scene.slots) }
 {
-    let (hall, mut passes): (Small<M, K>, Vec<Pass<M>>) = Hall::start(alloc, 1, 3, 1, made, kept)?;
-    let Some(mut pass) = passes.pop() else {
+    let (hall, mut passes): (Stormy<M, K>, Vec<Pass<M>>) = Hall::start(
+        alloc,
+        scene.slots,
+        3,
+        1,
+        made,
+        kept,
+    )?;
+    let Some(mut first) = passes.pop() else {
         unreachable!()
     };
-    let opened = submitted(rt, alloc, &hall, &mut pass)?;
-    assert!(rt; worked(rt, alloc, &hall, &mut pass, &opened)?);
-    hall.stop(rt);
-    assert!(rt; closed(alloc, hall, passes, pass)? == Some((2, 3, true)));
+    play_by_two(rt, alloc, &hall, &mut first, &mut passes, scene)?;
+    assert!(rt; closed_at_last(alloc, hall, passes, first)? == Some(scene.report));
     Ok(())
 }
 
+/// Plays a scene in a new hall of 1 to 64 slots, with the blanks of its two ledgers of calls.
+fn play_scene<R: Wait + Abort>(rt: &R, alloc: Global, scene: Scene) -> Result<(), Fail> {
+    let slots = workers_from(scene.slots);
+    let (made, kept) = (Blank::new(3), Blank::new(u64::from(slots)));
+    play_in_hall::<Brand, Brand, R>(rt, alloc, Scene { slots, ..scene }, made, kept)
+}
+
+/// A scene of one slot in which nothing is done.
+const NOTHING: Scene = Scene {
+    slots: 1,
+    first: &[],
+    second: &[],
+    last: &[],
+    report: (0, 0, false),
+};
+
+/// The study has the only slot, whoever submits it, and no other one does. One worker does both pieces, the line comes,
+/// and then it is there as often as it is asked for.
+const WORKED: Scene = Scene {
+    first: &[
+        (Step::Own(TWO_TRIALS, Deed::Submit), End::Slot(0)),
+        (Step::Own(TWO_TRIALS, Deed::Submit), End::Slot(0)),
+        (Step::Own(ONE_LIAR, Deed::Submit), End::NoSlot),
+        (Step::Own(TWO_TRIALS, Deed::WorkOff), End::Worked(true)),
+        (Step::Own(TWO_TRIALS, Deed::Again(0)), End::NotGiven),
+        (Step::Own(TWO_TRIALS, Deed::Wait(0)), End::Line),
+        (Step::Own(TWO_TRIALS, Deed::Again(0)), End::Line),
+        (Step::Own(TWO_TRIALS, Deed::Again(0)), End::Line),
+        (Step::Own(TWO_TRIALS, Deed::Again(0)), End::Line),
+        (Step::Own(TWO_TRIALS, Deed::Again(0)), End::Line),
+        (Step::Own(TWO_TRIALS, Deed::Again(0)), End::Line),
+        (Step::Own(TWO_TRIALS, Deed::Again(0)), End::Line),
+        (Step::Own(TWO_TRIALS, Deed::Again(0)), End::Line),
+        (Step::Own(TWO_TRIALS, Deed::Again(0)), End::Line),
+        (Step::Own(TWO_TRIALS, Deed::Again(0)), End::Line),
+        (Step::Own(TWO_TRIALS, Deed::Again(0)), End::Line),
+        (Step::Own(TWO_TRIALS, Deed::Count), End::Counted(2)),
+        (Step::Stop, End::Ended),
+    ],
+    report: (2, 3, true),
+    ..NOTHING
+};
+
+/// Work in slots that have no study yet: the study that comes later still has all its pieces.
+const EARLY: Scene = Scene {
+    slots: 2,
+    first: &[(Step::Work, End::Worked(true))],
+    second: &[(Step::Work, End::Worked(true))],
+    last: &[
+        (Step::Work, End::Worked(true)),
+        (Step::Own(TWO_TRIALS, Deed::WorkOff), End::Worked(true)),
+        (Step::Stop, End::Ended),
+        (Step::Own(TWO_TRIALS, Deed::Wait(0)), End::Line),
+    ],
+    report: (2, 3, true),
+    ..NOTHING
+};
+
+/// A stopped hall without a study has no line for another hall's.
+const NO_STUDY: Scene = Scene {
+    first: &[
+        (Step::Stop, End::Ended),
+        (Step::Foreign(TWO_TRIALS, 0, Deed::Wait(0)), End::Mismatch),
+        (Step::Foreign(TWO_TRIALS, 0, Deed::Again(0)), End::Mismatch),
+    ],
+    ..NOTHING
+};
+
+/// Nor has one with another study, or with one that began over other slips.
+const OTHER_STUDY: Scene = Scene {
+    first: &[
+        (Step::Own(ONE_LIAR, Deed::WorkOff), End::Worked(true)),
+        (Step::Stop, End::Ended),
+        (Step::Foreign(TWO_TRIALS, 0, Deed::Wait(0)), End::Mismatch),
+        (Step::Foreign(TWO_TRIALS, 0, Deed::Again(0)), End::Mismatch),
+    ],
+    report: (1, 1, true),
+    ..NOTHING
+};
+
+const OTHER_SLIPS: Scene = Scene {
+    first: &[
+        (Step::Own(TWO_TRIALS, Deed::WorkOff), End::Worked(true)),
+        (Step::Stop, End::Ended),
+        (Step::Foreign(ONE_LIAR, 0, Deed::Wait(0)), End::Mismatch),
+        (Step::Foreign(ONE_LIAR, 0, Deed::Again(0)), End::Mismatch),
+        (Step::Foreign(TWO_TRIALS, 1, Deed::Wait(0)), End::Mismatch),
+        (Step::Foreign(TWO_TRIALS, 1, Deed::Again(0)), End::Mismatch),
+    ],
+    report: (2, 2, true),
+    ..NOTHING
+};
+
+/// One with the same study has the line, which is the same when asked for again.
+const SAME_STUDY: Scene = Scene {
+    first: &[
+        (Step::Own(TWO_TRIALS, Deed::WorkOff), End::Worked(true)),
+        (Step::Stop, End::Ended),
+        (Step::Foreign(TWO_TRIALS, 0, Deed::Wait(0)), End::Line),
+        (Step::Foreign(TWO_TRIALS, 0, Deed::Again(0)), End::Line),
+    ],
+    report: (2, 3, true),
+    ..NOTHING
+};
+
+/// One that was stopped before the work has no line.
+const NO_WORK: Scene = Scene {
+    first: &[
+        (Step::Own(TWO_TRIALS, Deed::Submit), End::Slot(0)),
+        (Step::Stop, End::Ended),
+        (Step::Foreign(TWO_TRIALS, 0, Deed::Wait(0)), End::Stopped),
+        (Step::Foreign(TWO_TRIALS, 0, Deed::Again(0)), End::NotGiven),
+    ],
+    ..NOTHING
+};
+
 #[test]
-fn a_hall_runs_a_study(rt: HostRuntime) -> Result<(), Fail> {
-    one_study::<Brand, Brand, _>(&rt, rt.alloc(), Blank::new(3), Blank::new(1))
-}
-
-/// Submits the study, or not.
-fn submitted_if<M: Tally, K: Tally, R: Wait + Abort>(
-    rt: &R,
-    alloc: Global,
-    hall: &Small<M, K>,
-    pass: &mut Pass<M>,
-    is_submitted: bool,
-) -> Result<(), Fail>
-    requires { pass.old.hall ≡ hall.now.id }
-    ensures { pass.new.hall ≡ pass.old.hall }
-{
-    if !is_submitted {
-        return Ok(());
+fn halls_do_what_scripts_say(rt: HostRuntime) -> Result<(), Fail> {
+    for scene in [
+        WORKED,
+        EARLY,
+        NO_STUDY,
+        OTHER_STUDY,
+        OTHER_SLIPS,
+        SAME_STUDY,
+        NO_WORK,
+    ] {
+        play_scene(&rt, rt.alloc(), scene)?;
     }
-    hall.submit(rt, alloc, pass, plan(alloc, STUDY)?, &NoShelf)?;
-    Ok(())
-}
-
-/// What is told of a line for which a stopped hall is asked, whether or not the study was submitted to it.
-fn stopped<M: Tally, K: Tally, R: Wait + Abort>(
-    rt: &R,
-    alloc: Global,
-    made: Blank,
-    kept: Blank,
-    is_submitted: bool,
-) -> Result<Option<LineFault>, Fail>
-    requires made { (made.name ≡ M.name) × (made.parts ≡ M.parts) × (M.all ≡ M.parts) × (M.all ≡ 1) }
-    requires kept { (kept.name ≡ K.name) × (kept.parts ≡ K.parts) × (K.all ≡ K.parts) × (K.all ≡ 1) }
-{
-    let (hall, mut passes): (Small<M, K>, Vec<Pass<M>>) = Hall::start(alloc, 1, 1, 1, made, kept)?;
-    let Some(mut pass) = passes.pop() else {
-        unreachable!()
-    };
-    let opened = Opened {
-        study: 0,
-        plan: plan(alloc, STUDY)?,
-        base: cut_ledger::Base::from_vec(Vec::new(alloc)),
-    };
-    submitted_if(rt, alloc, &hall, &mut pass, is_submitted)?;
-    hall.stop(rt);
-    if opened.plan.cells() == 0 {
-        return Ok(None);
-    }
-    Ok(hall.next_row(rt, alloc, &mut pass, &opened, 0).err())
-}
-
-#[test]
-fn a_stopped_hall_gives_no_line(rt: HostRuntime) -> Result<(), Fail> {
-    let alloc = rt.alloc();
-    let told = stopped::<Brand, Brand, _>(&rt, alloc, Blank::new(1), Blank::new(1), true)?;
-    assert!(rt; told == Some(LineFault::Stopped));
-    let told = stopped::<Brand, Brand, _>(&rt, alloc, Blank::new(1), Blank::new(1), false)?;
-    assert!(rt; told == Some(LineFault::AuditMismatch));
     Ok(())
 }

@@ -8,21 +8,19 @@
 #[cfg(test)]
 mod books;
 #[cfg(test)]
-mod empty_slots;
+mod deeds;
 #[cfg(test)]
 mod halls;
-#[cfg(test)]
-mod many_slips;
-#[cfg(test)]
-mod other_halls;
 pub mod piece;
 #[cfg(test)]
 mod refused_memory;
 #[cfg(test)]
+mod resumed;
+#[cfg(test)]
+mod runs;
+#[cfg(test)]
 mod storms;
 #[cfg(test)]
-mod study_runs;
-#[cfg(test)]
-mod tables;
+mod studies;
 #[cfg(test)]
 mod wakes;

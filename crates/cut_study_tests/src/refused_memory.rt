@@ -1,14 +1,12 @@
 //! Studies for which an allocation may be refused. Where none is, each of them is whole; the test also holds where any
 //! one allocation of its runs is refused, and is meant to be run so by hand.
-ghost use Rattle.std.specs.Prelude.{◌≤◌};
 
-use crate::books::STUDY;
-use crate::study_runs::Kept;
-use cut_disks::MemoryDisk;
+use crate::runs::{Order, run_alone};
+use crate::studies::TWO_TRIALS;
 use cut_hall::OpenGate;
 use cut_plan::Plan;
-use cut_study::{Done, RunFault, StudyRun};
-use cut_wires::MemoryWire;
+use cut_study::{Done, RunFault};
+use cut_wires::FaultyWire;
 use std::alloc::Global;
 use std::sync::Wait;
 use std::test::Fail;
@@ -19,7 +17,7 @@ const TABLE: &[u8] =
     b"k,h,l,f,trials,receivers,conflicts,silent,extra,votes,decided,right,ppm\n1,1,1,1,2,8,0,0,0,8,2,2,0\n";
 
 /// How a run ended.
-#[derive(Clone, Copy, Debug, PartialEq, Eq)]
+#[derive(Clone, Copy, PartialEq, Eq)]
 enum End {
     /// With the whole table, of the study's two trials.
     Whole,
@@ -36,7 +34,8 @@ fn end_of(answer: &Result<Done, RunFault>, taken: &[u8]) -> End {
     match answer {
         Ok(done) if is_whole(done) && taken == TABLE => End::Whole,
         Err(RunFault::WorkMemory) if is_prefix => End::Refused,
-        Err(RunFault::Write(sent)) if is_prefix && *sent == taken.len() as u64 => End::Refused,
+        Err(RunFault::Write(fault)) if is_prefix && fault.sent == taken.len() as u64 =>
+            End::Refused,
         _ => End::Wrong,
     }
 }
@@ -50,24 +49,20 @@ fn is_whole(done: &Done) -> bool {
 }
 
 /// How a run by so many workers ends, in pieces of one trial.
-fn run_by<R: Threads + Wait + Sync>(rt: &R, alloc: Global, plan: &Plan, workers: u32) -> End
-    requires { (1 ≤ workers) × (workers ≤ 64) }
-{
-    let mut wire = MemoryWire::new(alloc, Vec::new(alloc), 7);
-    let none: Option<Kept<MemoryDisk>> = None;
-    let run = StudyRun {
+fn run_by<R: Threads + Wait + Sync>(rt: &R, alloc: Global, plan: &Plan, workers: u32) -> End {
+    let mut wire = FaultyWire::new(alloc, Vec::new(alloc), 7, 1000, 0);
+    let order = Order {
         plan,
-        kept: none,
         piece_size: 1,
         workers,
     };
-    let answer = run.run(rt, alloc, &mut wire, &OpenGate);
+    let answer = run_alone(rt, alloc, order, &OpenGate, &mut wire);
     end_of(&answer, wire.taken())
 }
 
 #[test]
 fn one_refused_allocation_is_told_by_one_study(rt: HostRuntime) -> Result<(), Fail> {
-    let plan = Plan::from_json(rt.alloc(), STUDY.as_bytes())?;
+    let plan = TWO_TRIALS.read_plan(rt.alloc())?;
     let mut refused = 0u32;
     for workers in 1..4u32 {
         let end = run_by(&rt, rt.alloc(), &plan, workers);

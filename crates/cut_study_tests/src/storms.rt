@@ -1,12 +1,10 @@
 //! Storms: three threads do what was drawn for them in one hall, in whatever order it comes.
-ghost use Rattle.std.specs.Prelude.{◌≡◌, ◌<◌, ◌≤◌, All, IfOk};
+ghost use Rattle.std.specs.Prelude.{◌≡◌, ◌<◌, ◌≤◌, All};
 ghost use Rattle.atomic_table.specs.Seated.{TableId};
 
-use crate::tables::studies::{Study, long_studies};
-use cut_book::{Opened, Shelf, ShelfFault, SubmitFault};
-use cut_disks::{FaultyDisk, Tear};
-use cut_hall::{Hall, LineFault, OpenGate, Pass, Report, Tally};
-use cut_plan::Plan;
+use crate::deeds::{Brittle, Deed, End, Stormy, act, closed, put_back};
+use crate::studies::{Study, long_studies};
+use cut_hall::{Hall, OpenGate, Pass, Report, Tally};
 use rand_chacha::ChaCha8Rng;
 use rand_core::SeedableRng;
 use rand_core::utils::NextWord;
@@ -20,207 +18,6 @@ use std::test::Fail;
 use std::thread::{Threads, join_mut};
 use std::time::{Clock, Duration, Instant};
 use std::{mem, thread};
-
-/// A hall whose disks may fail.
-pub(crate) type Stormy<M, K> = Hall<FaultyDisk, M, K>;
-
-/// A shelf whose disks each fail at the call of this number, or never where that is 0.
-#[derive(Clone, Copy, Debug)]
-pub(crate) struct Brittle {
-    pub fail_at: u64,
-}
-
-impl Shelf<FaultyDisk> for Brittle {
-    ghost use Rattle.std.specs.Prelude.{true};
-
-    ghost is_true = { λ _. true };
-
-    fn open(&self, alloc: Global, _plan: &Plan) -> Result<Option<FaultyDisk>, ShelfFault> {
-        let Ok(disk) = FaultyDisk::of(alloc, Vec::new(alloc), self.fail_at, Tear::Nothing) else {
-            return Err(ShelfFault::Memory);
-        };
-        disk.arm();
-        Ok(Some(disk))
-    }
-}
-
-/// What a thread does for a study, which it submits first.
-#[derive(Clone, Copy, PartialEq, Eq)]
-enum Deed {
-    /// Works until a cell is done, and asks for its line.
-    Row(u32),
-    /// Waits for the line of a cell.
-    Wait(u32),
-    /// Works until nothing is left.
-    WorkOff,
-    /// Asks how many trials are counted.
-    Count,
-    /// Tells a piece lost.
-    Lose(u64),
-    /// Ends the work of all.
-    Stop,
-}
-
-/// How a deed ended.
-#[derive(Clone, Copy, Debug, PartialEq, Eq)]
-enum End {
-    /// As it should, without a line.
-    Done,
-    /// With the right line.
-    Line,
-    /// There was no slot for the study.
-    NoSlot,
-    /// The disk of the study had failed.
-    Failed,
-    /// A piece was lost.
-    Lost,
-    /// The work was ended.
-    Stopped,
-    /// With something that must not be.
-    Wrong,
-}
-
-/// A line, if it is that of the cell.
-fn end_of_line(study: Study, cell: u32, line: &[u8]) -> End {
-    match study.lines.get(cell as usize) {
-        Some(right) if right.as_bytes() == line => End::Line,
-        _ => End::Wrong,
-    }
-}
-
-fn ask_row<M: Tally, K: Tally, R: Wait>(
-    rt: &R,
-    alloc: Global,
-    hall: &Stormy<M, K>,
-    pass: &mut Pass<M>,
-    opened: &Opened,
-    study: Study,
-    cell: u32,
-) -> End
-    requires own { pass.old.hall ≡ hall.now.id }
-    requires slot { opened.now.study < hall.now.slots }
-    ensures { pass.new.hall ≡ pass.old.hall }
-{
-    if cell >= opened.plan.cells() {
-        return End::Wrong;
-    }
-    match hall.next_row(rt, alloc, pass, opened, cell) {
-        Ok(line) => end_of_line(study, cell, line.as_slice()),
-        Err(LineFault::Stopped) => End::Stopped,
-        Err(LineFault::WorkMemory) => End::Lost,
-        Err(LineFault::Checkpoint) => End::Failed,
-        Err(LineFault::AuditMismatch) => End::Wrong,
-    }
-}
-
-/// Asks once more for the line of a cell, which was given.
-fn ask_again<M: Tally, K: Tally, R: Wait>(
-    rt: &R,
-    alloc: Global,
-    hall: &Stormy<M, K>,
-    opened: &Opened,
-    study: Study,
-    cell: u32,
-) -> End
-    requires { opened.now.study < hall.now.slots }
-{
-    if cell >= opened.plan.cells() {
-        return End::Wrong;
-    }
-    match hall.given_row(rt, alloc, opened, cell) {
-        Ok(Some(line)) => end_of_line(study, cell, line.as_slice()),
-        _ => End::Wrong,
-    }
-}
-
-/// Works on an opened study until a cell is done, and asks for its line, twice where it comes.
-fn make_row<M: Tally, K: Tally, R: Wait>(
-    rt: &R,
-    alloc: Global,
-    hall: &Stormy<M, K>,
-    pass: &mut Pass<M>,
-    opened: &Opened,
-    study: Study,
-    cell: u32,
-) -> End
-    requires own { pass.old.hall ≡ hall.now.id }
-    requires slot { opened.now.study < hall.now.slots }
-    ensures { pass.new.hall ≡ pass.old.hall }
-{
-    hall.work_on_cell(rt, alloc, pass, &OpenGate, opened.study, cell);
-    match ask_row(rt, alloc, hall, pass, opened, study, cell) {
-        End::Line => ask_again(rt, alloc, hall, opened, study, cell),
-        end => end,
-    }
-}
-
-/// Asks how many trials of an opened study are counted, which are not more than it has.
-fn ask_count<M: Tally, K: Tally>(hall: &Stormy<M, K>, pass: &mut Pass<M>, opened: &Opened) -> End
-    requires { pass.old.hall ≡ hall.now.id }
-    ensures { pass.new.hall ≡ pass.old.hall }
-{
-    match hall.counted(pass, opened.study) {
-        Ok(count) if count <= u64::from(opened.plan.trials()) => End::Done,
-        _ => End::Wrong,
-    }
-}
-
-/// Does a deed for an opened study.
-fn act_in<M: Tally, K: Tally, R: Wait>(
-    rt: &R,
-    alloc: Global,
-    hall: &Stormy<M, K>,
-    pass: &mut Pass<M>,
-    opened: &Opened,
-    study: Study,
-    deed: Deed,
-) -> End
-    requires own { pass.old.hall ≡ hall.now.id }
-    requires slot { opened.now.study < hall.now.slots }
-    ensures { pass.new.hall ≡ pass.old.hall }
-{
-    match deed {
-        Deed::Row(cell) => make_row(rt, alloc, hall, pass, opened, study, cell),
-        Deed::Wait(cell) => ask_row(rt, alloc, hall, pass, opened, study, cell),
-        Deed::Count => ask_count(hall, pass, opened),
-        Deed::Lose(piece) => {
-            hall.give_up(rt, pass, opened.study, piece);
-            End::Done
-        }
-        Deed::WorkOff => {
-            hall.work_off(rt, alloc, pass, &OpenGate, opened.study);
-            End::Done
-        }
-        Deed::Stop => {
-            hall.stop(rt);
-            End::Done
-        }
-    }
-}
-
-/// Submits a study, and does a deed for it.
-fn act<M: Tally, K: Tally, R: Wait>(
-    rt: &R,
-    alloc: Global,
-    hall: &Stormy<M, K>,
-    pass: &mut Pass<M>,
-    shelf: Brittle,
-    study: Study,
-    deed: Deed,
-) -> End
-    requires { pass.old.hall ≡ hall.now.id }
-    ensures { pass.new.hall ≡ pass.old.hall }
-{
-    let Ok(plan) = Plan::from_json(alloc, study.plan.as_bytes()) else {
-        return End::Wrong;
-    };
-    match hall.submit(rt, alloc, pass, plan, &shelf) {
-        Ok(opened) => act_in(rt, alloc, hall, pass, &opened, study, deed),
-        Err(SubmitFault::SlotsFull) => End::NoSlot,
-        Err(SubmitFault::Checkpoint) => End::Failed,
-        Err(SubmitFault::WorkMemory) => End::Wrong,
-    }
-}
 
 /// How many deeds each thread does that is no worker.
 const DEEDS: usize = 12;
@@ -289,7 +86,7 @@ fn work_off_all<M: Tally, K: Tally, R: Wait>(
     ensures { pass.new.hall ≡ pass.old.hall }
 {
     for study in long_studies() {
-        act(rt, alloc, hall, pass, shelf, study, Deed::WorkOff);
+        act(rt, alloc, hall, pass, &shelf, study, Deed::WorkOff);
     }
 }
 
@@ -314,7 +111,7 @@ fn play<M: Tally, K: Tally, R: Wait>(
     words.set_stream(storm.stream.wrapping_add(number));
     for _ in 0..DEEDS {
         let (study, deed) = drawn_deed(&mut words, storm);
-        let end = act(rt, alloc, hall, pass, storm.shelf, study, deed);
+        let end = act(rt, alloc, hall, pass, &storm.shelf, study, deed);
         let _ = ends.lock(rt).push(end);
     }
     if storm.is_calm {
@@ -450,7 +247,7 @@ fn slots_of<M: Tally, K: Tally, R: Wait>(
 {
     let mut slots = Vec::new(alloc);
     for study in long_studies() {
-        let plan = Plan::from_json(alloc, study.plan.as_bytes())?;
+        let plan = study.read_plan(alloc)?;
         let trials = u64::from(plan.trials());
         if let Ok(opened) = hall.submit(rt, alloc, pass, plan, &shelf) {
             slots.push((opened.study, trials))?;
@@ -469,24 +266,6 @@ fn is_right(report: &Report, slots: &[(u32, u64)], is_calm: bool) -> bool {
             None => false,
         }
     })
-}
-
-/// Closes a hall with its passes, of which one is the last.
-fn closed<M: Tally, K: Tally>(
-    alloc: Global,
-    hall: Stormy<M, K>,
-    mut passes: Vec<Pass<M>>,
-    last: Pass<M>,
-) -> Result<Report, Fail>
-    requires ledgers { (M.all ≡ M.parts) × (K.all ≡ K.parts) }
-    requires own { All (λ p. p.hall ≡ hall.id) passes.items }
-    requires last { last.hall ≡ hall.id }
-{
-    passes.push(last)?;
-    match hall.close(alloc, passes) {
-        Ok(report) => Ok(report),
-        Err(_) => Err("the hall was not closed")?,
-    }
 }
 
 /// Plays in a hall with three passes.
@@ -539,7 +318,8 @@ where
     let shared = Shared::new(alloc, storm);
     play_in(rt, alloc, &hall, &shared, &mut passes);
     let slots = slots_of(rt, alloc, &hall, &mut last, storm.shelf)?;
-    let report = closed(alloc, hall, passes, last)?;
+    put_back(&hall, &mut passes, last)?;
+    let report = closed(alloc, hall, passes)?;
     if !is_right(&report, slots.as_slice(), storm.is_calm) {
         return Err("a slot accepted other trials than those of its study")?;
     }
@@ -555,9 +335,9 @@ fn has_ended_well(storm: Storm, ends: &[End]) -> bool {
             3 * DEEDS
         };
     let may_end = |end: &End| match end {
-        End::Done | End::Line | End::NoSlot => true,
-        End::Failed | End::Lost | End::Stopped => !storm.is_calm,
-        End::Wrong => false,
+        End::Line | End::Worked(_) | End::Counted(_) | End::NoSlot => true,
+        End::Noted(_) | End::Ended | End::Failed | End::Lost | End::Stopped => !storm.is_calm,
+        End::Slot(_) | End::NotGiven | End::Mismatch | End::Wrong => false,
     };
     is_all && ends.iter().all(may_end)
 }

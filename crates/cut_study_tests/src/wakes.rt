@@ -1,11 +1,10 @@
 //! Threads that wait for a line which another thread keeps from coming: each is woken, and told why.
-ghost use Rattle.std.specs.Prelude.{◌≡◌, ◌<◌, IfSome};
+ghost use Rattle.std.specs.Prelude.{◌≡◌};
 ghost use Rattle.atomic_table.specs.Seated.{TableId};
 
-use crate::storms::{Brittle, Stormy};
-use cut_book::Opened;
-use cut_hall::{Hall, LineFault, OpenGate, Pass, Tally};
-use cut_plan::Plan;
+use crate::deeds::{Brittle, Deed, End, Stormy, act};
+use crate::studies::TWO_CELLS;
+use cut_hall::{Hall, Pass, Tally};
 use std::alloc::Global;
 use std::marker::Brand;
 use std::process::Abort;
@@ -15,13 +14,6 @@ use std::sync::ledger::Blank;
 use std::test::Fail;
 use std::thread::{Threads, join_mut};
 use std::time::{Clock, Duration};
-
-/// Two cells of one trial each: in the first no process fails, in the second one crashes.
-const TWO_CELLS: &str =
-    r#"{"copies":1,"dead":"silent","f":[0,1],"faults":"crash","h":[1],"implicit":true,"k":[1],"l":[1],"liars":0,"links":0,"nodes":5,"repeats":1,"seed":"0000000000000000000000000000000000000000000000000000000000000000","version":1}"#;
-
-/// The line of the first cell: nobody is reported, so the five receivers are silent.
-const FIRST: &[u8] = b"1,1,1,0,1,5,0,5,0,0,0,0,0\n";
 
 /// Why the second line can't come.
 #[derive(Clone, Copy, Debug)]
@@ -42,66 +34,23 @@ struct Hindrance {
     shelf: Brittle,
 }
 
-/// What is opened for the study.
-fn opened<M: Tally, K: Tally, R: Wait>(
-    rt: &R,
-    alloc: Global,
-    hall: &Stormy<M, K>,
-    pass: &mut Pass<M>,
-    shelf: Brittle,
-) -> Option<Opened>
-    requires { pass.old.hall ≡ hall.now.id }
-    ensures own { pass.new.hall ≡ pass.old.hall }
-    ensures slot { IfSome result (λ o. o.study < hall.now.slots) }
-{
-    let plan = Plan::from_json(alloc, TWO_CELLS.as_bytes()).ok()?;
-    hall.submit(rt, alloc, pass, plan, &shelf).ok()
-}
-
-/// Whether the first line comes, once its piece alone was worked on.
-fn gives_first<M: Tally, K: Tally, R: Wait>(
-    rt: &R,
-    alloc: Global,
-    hall: &Stormy<M, K>,
-    pass: &mut Pass<M>,
-    shelf: Brittle,
-) -> bool
-    requires { pass.old.hall ≡ hall.now.id }
-    ensures { pass.new.hall ≡ pass.old.hall }
-{
-    let Some(opened) = opened(rt, alloc, hall, pass, shelf) else {
-        return false;
-    };
-    hall.work_on_cell(rt, alloc, pass, &OpenGate, opened.study, 0);
-    if opened.plan.cells() == 0 {
-        return false;
-    }
-    match hall.next_row(rt, alloc, pass, &opened, 0) {
-        Ok(line) => line.as_slice() == FIRST,
-        Err(_) => false,
-    }
-}
-
-/// Keeps the second line from coming: whether it was done as it should be.
+/// Keeps the second line from coming: how that ends.
 fn hinder<M: Tally, K: Tally, R: Wait>(
     rt: &R,
     alloc: Global,
     hall: &Stormy<M, K>,
     pass: &mut Pass<M>,
-    cause: Cause,
-) -> bool
-    requires own { pass.old.hall ≡ hall.now.id }
-    requires slot { 0 < hall.now.slots }
+    hindrance: Hindrance,
+) -> End
+    requires { pass.old.hall ≡ hall.now.id }
     ensures { pass.new.hall ≡ pass.old.hall }
 {
-    match cause {
-        Cause::Loss => hall.give_up(rt, pass, 0, 1) && !hall.give_up(rt, pass, 0, 1),
-        Cause::Stop => {
-            hall.stop(rt);
-            true
-        }
-        Cause::Disk => hall.work_off(rt, alloc, pass, &OpenGate, 0),
-    }
+    let deed = match hindrance.cause {
+        Cause::Loss => Deed::LoseTwice(1),
+        Cause::Stop => Deed::Stop,
+        Cause::Disk => Deed::WorkOff,
+    };
+    act(rt, alloc, hall, pass, &hindrance.shelf, TWO_CELLS, deed)
 }
 
 /// A hall as the thread that waits has it.
@@ -109,14 +58,14 @@ trait Desk<M: Tally> {
     /// Which hall it is.
     ghost id_of: { Self → TableId };
 
-    /// Waits for the second line of the study: why it does not come.
+    /// Waits for the second line of the study.
     fn wait_for_second<R: Wait>(
         &self,
         rt: &R,
         alloc: Global,
         pass: &mut Pass<M>,
         shelf: Brittle,
-    ) -> Option<LineFault>
+    ) -> End
         requires { pass.old.hall ≡ id_of self.now }
         ensures { pass.new.hall ≡ pass.old.hall };
 }
@@ -130,12 +79,8 @@ impl<M: Tally, K: Tally> Desk<M> for Stormy<M, K> {
         alloc: Global,
         pass: &mut Pass<M>,
         shelf: Brittle,
-    ) -> Option<LineFault> {
-        let opened = opened(rt, alloc, self, pass, shelf)?;
-        if opened.plan.cells() < 2 {
-            return None;
-        }
-        self.next_row(rt, alloc, pass, &opened, 1).err()
+    ) -> End {
+        act(rt, alloc, self, pass, &shelf, TWO_CELLS, Deed::Wait(1))
     }
 }
 
@@ -148,24 +93,24 @@ fn wait_beside<H, M, R, F>(
     shelf: Brittle,
     ended: &AtomicU64,
     go_on: &mut F,
-) -> (Option<LineFault>, bool)
+) -> (End, End)
 where
     H: Desk<M> + Sync,
     M: Tally + Send + Sync,
     R: Threads + Wait + Sync,
-    F: FnMut() -> bool,
+    F: FnMut() -> End,
     requires own { waiter.old.hall ≡ H.id_of hall.now }
     requires go_on { F.pre go_on.old }
     ensures own { waiter.new.hall ≡ H.id_of hall.now }
     ensures go_on { F.step go_on.old result.1 go_on.new }
 {
-    let mut wait = || -> Option<LineFault>
+    let mut wait = || -> End
         requires { waiter.now.hall ≡ H.id_of hall.now }
         ensures { waiter.exit.now.hall ≡ H.id_of hall.entry.now }
     {
-        let told = hall.wait_for_second(rt, alloc, waiter, shelf);
+        let end = hall.wait_for_second(rt, alloc, waiter, shelf);
         ended.store(1, Ordering::SeqCst);
-        told
+        end
     };
     join_mut(rt, &mut wait, go_on)
 }
@@ -181,8 +126,8 @@ fn keep_time<R: Abort + Clock>(rt: &R, ended: &AtomicU64) {
     panic!(rt; "who waited for a line was not woken")
 }
 
-/// Lets a thread wait for the second line, and keeps it from coming after a pause: what the thread is told, and
-/// whether it was kept from coming as it should be.
+/// Lets a thread wait for the second line, and keeps it from coming after a pause: how the wait ended, and how that
+/// did.
 fn woken<M, K, R>(
     rt: &R,
     alloc: Global,
@@ -190,44 +135,38 @@ fn woken<M, K, R>(
     waiter: &mut Pass<M>,
     other: &mut Pass<M>,
     hindrance: Hindrance,
-) -> (Option<LineFault>, bool)
+) -> (End, End)
 where
     M: Tally + Send + Sync,
     K: Tally + Send + Sync,
     R: Threads + Wait + Abort + Clock + Sync,
-    requires slot { 0 < hall.now.slots }
     requires waiter { waiter.old.hall ≡ hall.now.id }
     requires other { other.old.hall ≡ hall.now.id }
     ensures waiter { waiter.new.hall ≡ hall.now.id }
     ensures other { other.new.hall ≡ hall.now.id }
 {
-    let Hindrance {
-        cause,
-        pause,
-        shelf,
-    } = hindrance;
     let ended = AtomicU64::new(0);
-    let mut go_on = || -> bool
-        requires { (0 < hall.now.slots) × (other.now.hall ≡ hall.now.id) }
+    let mut go_on = || -> End
+        requires { other.now.hall ≡ hall.now.id }
         ensures { other.exit.now.hall ≡ hall.entry.now.id }
     {
-        rt.sleep(Duration::from_millis(pause));
-        let is_done = hinder(rt, alloc, hall, other, cause);
+        rt.sleep(Duration::from_millis(hindrance.pause));
+        let end = hinder(rt, alloc, hall, other, hindrance);
         keep_time(rt, &ended);
-        is_done
+        end
     };
-    wait_beside(rt, alloc, hall, waiter, shelf, &ended, &mut go_on)
+    wait_beside(rt, alloc, hall, waiter, hindrance.shelf, &ended, &mut go_on)
 }
 
-/// What a thread is told that waits for the second line in a new hall of one slot. The first line comes before and
-/// after.
-fn told_in<M, K, R>(
+/// How it ends to wait for the second line in a new hall of one slot, and to keep it from coming. The first line comes
+/// before and after.
+fn woken_in<M, K, R>(
     rt: &R,
     alloc: Global,
     hindrance: Hindrance,
     made: Blank,
     kept: Blank,
-) -> Result<Option<LineFault>, Fail>
+) -> Result<(End, End), Fail>
 where
     M: Tally + Send + Sync,
     K: Tally + Send + Sync,
@@ -242,11 +181,28 @@ where
     let Some(mut other) = passes.pop() else {
         unreachable!()
     };
-    let before = gives_first(rt, alloc, &hall, &mut other, hindrance.shelf);
-    let (told, is_done) = woken(rt, alloc, &hall, &mut waiter, &mut other, hindrance);
-    let after = gives_first(rt, alloc, &hall, &mut other, hindrance.shelf);
-    assert!(rt; before && is_done && after, "{hindrance:?}");
-    Ok(told)
+    let shelf = hindrance.shelf;
+    let before = act(
+        rt,
+        alloc,
+        &hall,
+        &mut other,
+        &shelf,
+        TWO_CELLS,
+        Deed::Row(0),
+    );
+    let ends = woken(rt, alloc, &hall, &mut waiter, &mut other, hindrance);
+    let after = act(
+        rt,
+        alloc,
+        &hall,
+        &mut other,
+        &shelf,
+        TWO_CELLS,
+        Deed::Row(0),
+    );
+    assert!(rt; before == End::Line && after == End::Line);
+    Ok(ends)
 }
 
 #[test]
@@ -255,9 +211,9 @@ fn who_waits_for_a_line_is_told_why_it_does_not_come(rt: HostRuntime) -> Result<
     // Ten calls open the disk, and each append makes four: the slip of the first piece is kept, that of the second
     // is not.
     let rows = [
-        (Cause::Loss, 0, LineFault::WorkMemory),
-        (Cause::Stop, 0, LineFault::Stopped),
-        (Cause::Disk, 15, LineFault::Checkpoint),
+        (Cause::Loss, 0, (End::Lost, End::Noted(true))),
+        (Cause::Stop, 0, (End::Stopped, End::Ended)),
+        (Cause::Disk, 15, (End::Failed, End::Worked(true))),
     ];
     for (cause, fail_at, wanted) in rows {
         for pause in [0, 1, 5, 20] {
@@ -267,8 +223,8 @@ fn who_waits_for_a_line_is_told_why_it_does_not_come(rt: HostRuntime) -> Result<
                 shelf: Brittle { fail_at },
             };
             let (made, kept) = (Blank::new(2), Blank::new(1));
-            let told = told_in::<Brand, Brand, _>(&rt, alloc, hindrance, made, kept)?;
-            assert!(rt; told == Some(wanted), "{hindrance:?}");
+            let ends = woken_in::<Brand, Brand, _>(&rt, alloc, hindrance, made, kept)?;
+            assert!(rt; ends == wanted, "{hindrance:?}");
         }
     }
     Ok(())

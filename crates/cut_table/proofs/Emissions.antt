@@ -112,7 +112,7 @@ SendsLines l now result old new =
 same_wire : (l now : Contents) (result : Result ⊤ (RowsFault RowFault)) (old new : Sending)
     → SendsLines l now result old new → new.wire ≡ old.wire
 same_wire l now (Ok done) old new s = ap (λ (x : Sending). x.wire) s.ends.2
-same_wire l now (Err Write) old new s = ap (λ (x : Sending). x.wire) s.ends.1.2
+same_wire l now (Err (Write fault)) old new s = ap (λ (x : Sending). x.wire) s.ends.1.1.2
 same_wire l now (Err (Row e)) old new s = ap (λ (x : Sending). x.wire) s.ends.2
 
 -- what a wire took of a table, by what was sent of its rows over a line that had sent nothing
@@ -126,15 +126,15 @@ emits l now name log (Ok done) new s =
           ∙ ap (λ (xs : List ℕ). wrote log xs)
           (sym (available_ends l s.count s.few s.ends.1.done (λ low. absurd (omega (arith, all, low))))),
     )
-emits l now name log (Err Write) new s =
-    let (k, low, is) = s.ends.1 in
+emits l now name log (Err (Write fault)) new s =
+    let (count, (k, low, is)) = s.ends.1 in
     let split : available l ≡ lines_to l s.count ++ lines_after l s.count =
     available_splits l s.count s.few s.ends.0.done in
-    let sent : new.sent ≡ k =
-    ap (λ (t : Sending). t.sent) is ∙ sent_first l s.count k s.few s.rows s.short (omega (arith, low)) in
-    let first : take k (lines_to l s.count) ≡ take new.sent (available l) =
-    sym (ap (λ (xs : List ℕ). take new.sent xs) split
-    ∙ take-append-le new.sent (lines_to l s.count) (lines_after l s.count) (omega (arith, sent, low))
+    let sent : fault.sent ≡ k =
+    count ∙ ap (λ (t : Sending). t.sent) is ∙ sent_first l s.count k s.few s.rows s.short (omega (arith, low)) in
+    let first : take k (lines_to l s.count) ≡ take fault.sent (available l) =
+    sym (ap (λ (xs : List ℕ). take fault.sent xs) split
+    ∙ take-append-le fault.sent (lines_to l s.count) (lines_after l s.count) (omega (arith, sent, low))
     ∙ ap (λ (m : ℕ). take m (lines_to l s.count)) sent) in (
       omega (
         arith,

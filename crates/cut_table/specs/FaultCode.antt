@@ -16,7 +16,7 @@ code_of_row (row.NotDone cell) = code.NotDone
 abbrev pub code_of_table : TableFault → FaultCode
 code_of_table (table.Memory sent) = code.Memory
 code_of_table (table.NotDone cell) = code.NotDone
-code_of_table (table.Write sent) = code.Write
+code_of_table (table.Write fault) = code.Write
 
 -- number, name, and the cell
 abbrev pub row_fault_text : RowFault → List ℕ
@@ -27,4 +27,4 @@ row_fault_text (row.NotDone cell) = text_carrying code.NotDone (decimal cell)
 abbrev pub table_fault_text : TableFault → List ℕ
 table_fault_text (table.Memory sent) = text_carrying code.Memory (decimal sent)
 table_fault_text (table.NotDone cell) = text_carrying code.NotDone (decimal cell)
-table_fault_text (table.Write sent) = text_carrying code.Write (decimal sent)
+table_fault_text (table.Write fault) = text_carrying code.Write (decimal fault.sent)

@@ -40,8 +40,8 @@ AreDone l = (i : ℕ) → i < length (cells_of l.plan) → cell_done l i ≡ tru
 abbrev pub Emits : Contents → Result ⊤ TableFault → Log → Log → Type 0
 Emits l (Ok done) old new = AreDone l × (new ≡ wrote old (available l))
 Emits l (Err (NotDone c)) old new = IsFirstUndone l c × (new ≡ wrote old (available l))
-Emits l (Err (Write sent)) old new =
-    (sent < length (available l)) × (new ≡ write_failed (wrote old (take sent (available l))))
+Emits l (Err (Write fault)) old new =
+    (fault.sent < length (available l)) × (new ≡ write_failed (wrote old (take fault.sent (available l))))
 Emits l (Err (Memory sent)) old new =
     (sent < length (available l)) × (new ≡ wrote old (take sent (available l)))
 
@@ -72,6 +72,6 @@ IsWithheld l n fault now = AreGiven l n now × IsRowFault l n fault
 -- how the writing of a table ended, by how the sending of its rows did, and by how many bytes were sent then
 abbrev pub emitted : Result ⊤ (RowsFault RowFault) → ℕ → Result ⊤ TableFault
 emitted (Ok done) sent = Ok done
-emitted (Err Unsent) sent = Err (Write sent)
+emitted (Err (Unsent fault)) sent = Err (Write fault)
 emitted (Err (Row (row.NotDone cell))) sent = Err (NotDone cell)
 emitted (Err (Row row.Memory)) sent = Err (Memory sent)

@@ -2,6 +2,7 @@ ghost use Rattle.std.specs.Prelude.{◌≡◌};
 ghost use Rattle.cut_table.specs.FaultCode.{code_of_row, code_of_table};
 
 use cut_faults::FaultCode;
+use cut_wires::WriteFault;
 use std::alloc::AllocError;
 use std::fmt;
 use thiserror::Error;
@@ -59,8 +60,8 @@ pub enum TableFault {
     Memory(u64),
     /// Not every trial of this cell is held, and the lines before it are written.
     NotDone(u32),
-    /// A write of the wire failed, after it had taken this many bytes.
-    Write(u64),
+    /// A write of the wire failed.
+    Write(WriteFault),
 }
 
 impl TableFault {
@@ -86,7 +87,9 @@ impl fmt::Display for TableFault {
         let code = self.code();
         match self {
             TableFault::NotDone(cell) => write!(f, "{code} {cell}"),
-            TableFault::Memory(sent) | TableFault::Write(sent) => write!(f, "{code} {sent}"),
+            TableFault::Memory(sent) | TableFault::Write(WriteFault { sent }) => {
+                write!(f, "{code} {sent}")
+            }
         }
     }
 }

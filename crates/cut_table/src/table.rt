@@ -79,7 +79,7 @@ fn emitted(outcome: Result<(), RowsFault<RowFault>>, sent: u64) -> Result<(), Ta
 {
     match outcome {
         Ok(()) => Ok(()),
-        Err(RowsFault::Write) => Err(TableFault::Write(sent)),
+        Err(RowsFault::Write(fault)) => Err(TableFault::Write(fault)),
         Err(RowsFault::Row(RowFault::NotDone(cell))) => Err(TableFault::NotDone(cell)),
         Err(RowsFault::Row(RowFault::Memory)) => Err(TableFault::Memory(sent)),
     }

@@ -9,7 +9,6 @@ use std::alloc::{AllocError, Global};
 use std::process::Abort;
 use std::test::Fail;
 
-mod recount;
 mod vectors;
 
 // H, L and whether implicit alerts are on, as they are written.
@@ -59,7 +58,7 @@ fn check_steps(
     Ok(())
 }
 
-// What a row tells is proposed after these deliveries, step by step, and a recount proposes it too.
+// What a row says is proposed after these deliveries, step by step.
 fn check_row(
     rt: &impl Abort,
     alloc: Global,
@@ -72,7 +71,6 @@ fn check_row(
     let k = rings.len();
     assert!(rt; 1 <= l && l <= h && h <= k, "{row}");
     assert!(rt; all_within(k, rings.nodes(), edges), "{row}");
-    recount::compare(rt, alloc, rings, (h, l, implicit), edges, 0)?;
     let found = replay(alloc, rings, k, h, l, implicit, edges)?;
     let at = found.as_ref().map_or(u64::MAX, |proposal| proposal.at);
     assert!(rt; is_told(alloc, found, wanted)?, "{row}");

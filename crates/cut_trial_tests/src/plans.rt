@@ -311,13 +311,13 @@ fn writes_one_text_for_each_version(rt: HostRuntime) -> Result<(), Fail> {
     Ok(())
 }
 
-// The cell of a number, where a plan has one.
-fn cell_at(plan: &Plan, number: u32) -> Option<Cell> {
-    if number < plan.cells() {
-        Some(plan.cell(number))
-    } else {
-        None
+// The k, h, l and f of the cell of a number, where a plan has one.
+fn cell_at(plan: &Plan, number: u32) -> Option<(u8, u8, u8, u16)> {
+    if number >= plan.cells() {
+        return None;
     }
+    let Cell { k, h, l, f } = plan.cell(number);
+    Some((k, h, l, f))
 }
 
 // The number of the cell of a trial, where a plan has one.
@@ -329,33 +329,27 @@ fn cell_of(plan: &Plan, trial: u32) -> Option<u32> {
     }
 }
 
-fn check_cells(rt: &impl Abort, plan: &Plan) {
-    let cells = [
-        (0, 6, 1, 2),
-        (1, 6, 1, 4),
-        (4, 6, 2, 2),
-        (16, 7, 1, 2),
-        (63, 9, 4, 16),
-    ];
-    for (number, h, l, f) in cells {
-        assert!(rt;
-            cell_at(plan, number) == Some(Cell { k: 10, h, l, f }),
-            "{number}"
-        );
-    }
-}
+// Numbers of cells of the large plan, and of each its k, h, l and f.
+const CELLS: [(u32, (u8, u8, u8, u16)); 5] = [
+    (0, (10, 6, 1, 2)),
+    (1, (10, 6, 1, 4)),
+    (4, (10, 6, 2, 2)),
+    (16, (10, 7, 1, 2)),
+    (63, (10, 9, 4, 16)),
+];
 
-fn check_trials(rt: &impl Abort, plan: &Plan) {
-    for (trial, cell) in [(0, 0), (777_776, 0), (777_777, 1), (49_777_727, 63)] {
-        assert!(rt; cell_of(plan, trial) == Some(cell), "{trial}");
-    }
-}
+// Trials of the large plan, and the cell of each.
+const TRIALS: [(u32, u32); 4] = [(0, 0), (777_776, 0), (777_777, 1), (49_777_727, 63)];
 
 #[test]
 fn lists_cells_in_order(rt: HostRuntime) -> Result<(), Fail> {
     let plan = Plan::from_json(rt.alloc(), LARGE.as_bytes())?;
-    check_cells(&rt, &plan);
-    check_trials(&rt, &plan);
+    for (number, cell) in CELLS {
+        assert!(rt; cell_at(&plan, number) == Some(cell), "{number}");
+    }
+    for (trial, cell) in TRIALS {
+        assert!(rt; cell_of(&plan, trial) == Some(cell), "{trial}");
+    }
     Ok(())
 }
 

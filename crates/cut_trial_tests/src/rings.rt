@@ -1,5 +1,4 @@
-ghost use Rattle.std.specs.Prelude.{◌≡◌, ◌<◌, ◌≤◌, length, IfOk};
-
+use crate::texts::{four, rings_of_lists};
 use cut_plan::Plan;
 use cut_rings::{Edge, Rings, RingsFault};
 use std::alloc::{AllocError, Global};
@@ -43,19 +42,18 @@ fn runs(rings: &Rings, ring: u8, order: &[u16]) -> bool {
     true
 }
 
-// The rings of a plan are as many as these orders, and hold them.
-fn check_hashed(
-    rt: &impl Abort,
-    alloc: Global,
-    plan: &Plan,
-    orders: &[&[u16]],
-) -> Result<(), Fail> {
-    let rings = Rings::hashed(alloc, plan)?;
+// The rings of the plan of a text.
+fn hashed(alloc: Global, text: &str) -> Result<Rings, Fail> {
+    let plan = Plan::from_json(alloc, text.as_bytes())?;
+    Ok(Rings::hashed(alloc, &plan)?)
+}
+
+// The rings are as many as these orders, and hold them.
+fn check_orders(rt: &impl Abort, rings: &Rings, orders: &[&[u16]]) {
     assert!(rt; usize::from(rings.len()) == orders.len());
     for (ring, order) in orders.iter().enumerate() {
-        assert!(rt; ring < 32 && runs(&rings, ring as u8, order), "ring {ring}");
+        assert!(rt; ring < 32 && runs(rings, ring as u8, order), "ring {ring}");
     }
-    Ok(())
 }
 
 #[test]
@@ -78,17 +76,10 @@ fn hashed_rings_are_those_of_the_plan(rt: HostRuntime) -> Result<(), Fail> {
         (PAIR, &[&[0, 1]]),
     ];
     for (text, orders) in rows {
-        let plan = Plan::from_json(rt.alloc(), text.as_bytes())?;
-        check_hashed(&rt, rt.alloc(), &plan, orders)?;
+        let rings = hashed(rt.alloc(), text)?;
+        check_orders(&rt, &rings, orders);
     }
     Ok(())
-}
-
-// How many rings a plan has, and of how many processes.
-fn sizes_of(alloc: Global, text: &str) -> Result<(u8, u16), Fail> {
-    let plan = Plan::from_json(alloc, text.as_bytes())?;
-    let rings = Rings::hashed(alloc, &plan)?;
-    Ok((rings.len(), rings.nodes()))
 }
 
 // As many rings of one order.
@@ -109,33 +100,21 @@ fn are_many(rt: &impl Abort, alloc: Global, order: &[u16]) -> Result<bool, Fail>
 
 #[test]
 fn many_processes_on_many_rings(rt: HostRuntime) -> Result<(), Fail> {
-    assert!(rt; sizes_of(rt.alloc(), MANY)? == (31, 1999));
+    let rings = hashed(rt.alloc(), MANY)?;
+    assert!(rt; (rings.len(), rings.nodes()) == (31, 1999));
     let order: Vec<u16> = (0..1999).rev().collect(rt.alloc())?;
     assert!(rt; are_many(&rt, rt.alloc(), order.as_slice())?);
     Ok(())
 }
 
-// Four processes on three rings.
-fn three_lists(alloc: Global) -> Result<Vec<Vec<u16>>, AllocError>
-    ensures { IfOk result (λ lists. length lists.items ≡ 3) }
-{
-    let first = vec![in alloc; 0, 1, 2, 3]?;
-    let second = vec![in alloc; 0, 2, 1, 3]?;
-    let third = vec![in alloc; 0, 3, 2, 1]?;
-    Ok(vec![in alloc; first, second, third]?)
-}
-
 // The rings of three lists are in their order, and each process is observed by the one before it.
-fn check_listed(rt: &impl Abort, alloc: Global, lists: &[Vec<u16>]) -> Result<(), Fail>
-    requires { length lists.now ≤ 32 }
-{
-    let rings = Rings::from_lists(alloc, 4, lists)?;
+fn check_listed(rt: &impl Abort, rings: &Rings) {
     assert!(rt; rings.len() == 3 && rings.nodes() == 4);
     assert!(rt;
         [
-            runs(&rings, 0, &[0, 1, 2, 3]),
-            runs(&rings, 1, &[0, 2, 1, 3]),
-            runs(&rings, 2, &[0, 3, 2, 1]),
+            runs(rings, 0, &[0, 1, 2, 3]),
+            runs(rings, 1, &[0, 2, 1, 3]),
+            runs(rings, 2, &[0, 3, 2, 1]),
         ] == [true; 3]
     );
     assert!(rt;
@@ -147,13 +126,13 @@ fn check_listed(rt: &impl Abort, alloc: Global, lists: &[Vec<u16>]) -> Result<()
             rings.subject(2, 1),
         ] == [3, 2, 0, 2, 0]
     );
-    Ok(())
 }
 
 #[test]
 fn listed_rings_are_the_lists(rt: HostRuntime) -> Result<(), Fail> {
-    let lists = three_lists(rt.alloc())?;
-    check_listed(&rt, rt.alloc(), lists.as_slice())
+    let rings = four(&rt, rt.alloc())?;
+    check_listed(&rt, &rings);
+    Ok(())
 }
 
 #[test]
@@ -172,52 +151,36 @@ fn edges_are_numbered_by_subject_and_ring(rt: HostRuntime) {
     }
 }
 
-// What is told of these lists, of so many processes; nothing where they are rings.
-fn told_of(rt: &impl Abort, alloc: Global, nodes: u16, lists: &[Vec<u16>]) -> Result<String, Fail> {
-    assert!(rt; nodes <= 2048 && lists.len() <= 32);
-    match Rings::from_lists(alloc, nodes, lists) {
+// What is reported of these lists, of this many processes; nothing where they are rings.
+fn reported(rt: &impl Abort, alloc: Global, nodes: u16, lists: &str) -> Result<String, Fail> {
+    match rings_of_lists(rt, alloc, nodes, lists)? {
         Ok(_) => Ok(String::new(alloc)),
         Err(fault) => Ok(fault.to_string(alloc)?),
     }
 }
 
-// This is told of a list after a ring of four, and of the list alone.
-fn check_told(
-    rt: &impl Abort,
-    alloc: Global,
-    nodes: u16,
-    list: &[u16],
-    text: &str,
-) -> Result<(), Fail> {
-    let whole = vec![in alloc; 0, 1, 2, 3]?;
-    let both = vec![in alloc; whole, Vec::from_slice(alloc, list)?]?;
-    let alone = vec![in alloc; Vec::from_slice(alloc, list)?]?;
-    assert!(rt;
-        told_of(rt, alloc, nodes, &both)?.as_str() == text,
-        "of {list:?}"
-    );
-    assert!(rt;
-        told_of(rt, alloc, nodes, &alone)?.as_str() == text,
-        "of {list:?} alone"
-    );
-    Ok(())
-}
-
+// Each row: how many processes, lists, and what is reported of them. Each list that is no ring stands alone, and after
+// one that is.
 #[test]
-fn lists_that_are_no_rings_are_told(rt: HostRuntime) -> Result<(), Fail> {
-    let alloc = rt.alloc();
-    let rows: [(u16, &[u16], &str); 6] = [
-        (1, &[0], "12 TooFew"),
-        (1, &[1, 1], "12 TooFew"),
-        (4, &[0, 0, 2, 3], "11 NotPermutation"),
-        (4, &[0, 1, 2], "11 NotPermutation"),
-        (4, &[0, 1, 2, 4], "11 NotPermutation"),
-        (4, &[0, 1, 2, 3, 0], "11 NotPermutation"),
-    ];
-    for (nodes, list, text) in rows {
-        check_told(&rt, alloc, nodes, list, text)?;
+fn lists_that_are_no_rings_are_refused(rt: HostRuntime) -> Result<(), Fail> {
+    for (nodes, lists, wanted) in [
+        (1, "0", "12 TooFew"),
+        (1, "0 1 2 3, 0", "12 TooFew"),
+        (1, "1 1", "12 TooFew"),
+        (1, "0 1 2 3, 1 1", "12 TooFew"),
+        (4, "0 0 2 3", "11 NotPermutation"),
+        (4, "0 1 2 3, 0 0 2 3", "11 NotPermutation"),
+        (4, "0 1 2", "11 NotPermutation"),
+        (4, "0 1 2 3, 0 1 2", "11 NotPermutation"),
+        (4, "0 1 2 4", "11 NotPermutation"),
+        (4, "0 1 2 3, 0 1 2 4", "11 NotPermutation"),
+        (4, "0 1 2 3 0", "11 NotPermutation"),
+        (4, "0 1 2 3, 0 1 2 3 0", "11 NotPermutation"),
+    ] {
+        let found = reported(&rt, rt.alloc(), nodes, lists)?;
+        assert!(rt; found.as_str() == wanted, "{nodes}: {lists}");
     }
-    let none = Rings::from_lists(alloc, 4, &[]);
+    let none = Rings::from_lists(rt.alloc(), 4, &[]);
     assert!(rt; matches!(none, Err(RingsFault::TooFew)));
     Ok(())
 }

@@ -1,6 +1,6 @@
 //! Rings and edges of the tests, of which many are written in texts of vectors.
 
-use cut_rings::{Edge, Rings};
+use cut_rings::{Edge, Rings, RingsFault};
 use std::alloc::{AllocError, Global};
 use std::process::Abort;
 use std::test::Fail;
@@ -12,15 +12,32 @@ pub(crate) fn numbers(alloc: Global, text: &str) -> Result<Vec<u16>, AllocError>
         .collect(alloc)
 }
 
-/// The rings of lists with commas between them.
-pub(crate) fn rings_of_text(rt: &impl Abort, alloc: Global, text: &str) -> Result<Rings, Fail> {
+/// The lists of numbers that commas separate.
+fn lists_of(alloc: Global, text: &str) -> Result<Vec<Vec<u16>>, AllocError> {
     let mut lists: Vec<Vec<u16>> = Vec::new(alloc);
     for list in text.split(", ") {
         lists.push(numbers(alloc, list)?)?;
     }
-    let nodes = lists.first().map_or(0, |list| list.len());
+    Ok(lists)
+}
+
+/// The rings of `nodes` processes that these lists give, with commas between them.
+pub(crate) fn rings_of_lists(
+    rt: &impl Abort,
+    alloc: Global,
+    nodes: u16,
+    text: &str,
+) -> Result<Result<Rings, RingsFault>, Fail> {
+    let lists = lists_of(alloc, text)?;
     assert!(rt; nodes <= 2048 && lists.len() <= 32);
-    Ok(Rings::from_lists(alloc, nodes as u16, &lists)?)
+    Ok(Rings::from_lists(alloc, nodes, &lists))
+}
+
+/// The rings of lists with commas between them, of as many processes as the first has.
+pub(crate) fn rings_of_text(rt: &impl Abort, alloc: Global, text: &str) -> Result<Rings, Fail> {
+    let (first, _) = text.split_once(", ").unwrap_or((text, ""));
+    let nodes = first.split_whitespace().count().min(2048) as u16;
+    Ok(rings_of_lists(rt, alloc, nodes, text)??)
 }
 
 /// The edge that is written as its ring and its subject with a point between them.

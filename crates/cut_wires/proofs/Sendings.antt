@@ -5,6 +5,7 @@ use Rattle.std.proofs.lemmas.List.{take-append-le}
 use Rattle.std.specs.Bool.{⊤}
 use Rattle.std.specs.Borrow.{GName}
 use Rattle.cut_wires.specs.Log.{Log, wrote}
+use Rattle.cut_wires.specs.declared.send.WriteFault.{WriteFault}
 use Rattle.cut_wires.specs.Sending.{Sending, sent_on, cut_off, IsCut, Sends}
 use Rattle.cut_wires.proofs.Logs.{wrote_twice, wrote_none}
 
@@ -39,15 +40,15 @@ cut_after old mid new xs ys first (n, low, is) = (
 )
 
 -- a text is cut off where its first bytes are
-pub cut_before : (old new : Sending) (xs ys : List ℕ) → IsCut xs old new → IsCut (xs ++ ys) old new
-cut_before old new xs ys (n, low, is) = (
-  n,
-  omega (arith, low, length-append xs ys),
-  is ∙ ap (λ (l : List ℕ). cut_off (sent_on old l)) (sym (take-append-le n xs ys (omega (arith, low)))),
-)
+pub cut_before : (fault : WriteFault) (old new : Sending) (xs ys : List ℕ) → Sends (Err fault) xs old new
+    → Sends (Err fault) (xs ++ ys) old new
+cut_before fault old new xs ys (count, (n, low, is)) =
+    let longer : n < length (xs ++ ys) = omega (arith, low, length-append xs ys) in
+    let same = take-append-le n xs ys (omega (arith, low)) in
+    (count, (n, longer, is ∙ ap (λ (l : List ℕ). cut_off (sent_on old l)) (sym same)))
 
 -- two texts, of which the first was sent
-pub sends_after : {E : Type 0} (result : Result ⊤ E) (old mid new : Sending) (xs ys : List ℕ) → mid ≡ sent_on old xs
+pub sends_after : (result : Result ⊤ WriteFault) (old mid new : Sending) (xs ys : List ℕ) → mid ≡ sent_on old xs
     → Sends result ys mid new → Sends result (xs ++ ys) old new
 sends_after (Ok done) old mid new xs ys first second = sent_more old mid new xs ys first second
-sends_after (Err fault) old mid new xs ys first second = cut_after old mid new xs ys first second
+sends_after (Err fault) old mid new xs ys first (count, cut) = (count, cut_after old mid new xs ys first cut)

@@ -4,7 +4,7 @@ use Rattle.std.specs.List.{range_with_len, flat_map}
 use Rattle.std.specs.Global.{Vec}
 use Rattle.cut_wires.specs.declared.rows.RowsFault.{RowsFault}
 use Rattle.cut_wires.specs.declared.rows.RowsFault.TheVariants.{Write, Row}
-use Rattle.cut_wires.specs.Sending.{Sending, sent_on, IsCut}
+use Rattle.cut_wires.specs.Sending.{Sending, Sends, sent_on}
 
 -- the text of the header, that of each row by its place from 0, how many rows there are, and how many bytes the
 -- header and a row that is given have at most
@@ -29,7 +29,7 @@ abbrev pub EndsRows : {E : Type 0} → (List ℕ → List ℕ) → Table → (�
     → Result ⊤ (RowsFault E) → Sending → Sending → Type 0
 EndsRows framed t given failed n (Ok done) old new =
     (n ≡ t.rows) × given n × (new ≡ sent_on old (rows_to framed t n))
-EndsRows framed t given failed n (Err Write) old new = given n × IsCut (rows_to framed t n) old new
+EndsRows framed t given failed n (Err (Write fault)) old new = given n × Sends (Err fault) (rows_to framed t n) old new
 EndsRows framed t given failed n (Err (Row e)) old new =
     (n < t.rows) × failed n e × (new ≡ sent_on old (rows_to framed t n))
 

@@ -1,16 +1,18 @@
-ghost use Rattle.std.specs.Prelude.{◌≡◌, ◌<◌, ◌≤◌, length, IfOk};
-ghost use Rattle.cut_wires.specs.Sending.{Receives, Sends, sending};
+ghost use Rattle.std.specs.Prelude.{◌≡◌, ◌^◌, ◌<◌, ◌≤◌, length, IfOk};
 
-use crate::{Wire, WireFault, send_all};
+use crate::{Wire, WireFault, WriteFault, send_all};
 
 /// A wire that is borrowed, with a count of the bytes that were sent over it. At 2^64 - 1 the count stays.
 #[derive(Drop)]
 pub struct Line<'a, W> {
     wire: &'a mut W,
     sent: u64,
+    ghost small: { sent < 2 ^ 64 },
 }
 
 impl<'a, W: Wire> Line<'a, W> {
+    ghost use Rattle.cut_wires.specs.Sending.{Receives, Sends, sending};
+
     /// A line over a wire, over which nothing was sent yet.
     pub fn new(wire: &'a mut W) -> Line<'a, W>
         ensures { sending W.log result ≡
@@ -43,8 +45,9 @@ impl<'a, W: Wire> Line<'a, W> {
         self.wire.read(buffer)
     }
 
-    /// Sends all the bytes, and counts them. Where a write fails, it counts those that the wire took.
-    pub fn send(&mut self, bytes: &[u8]) -> Result<(), WireFault>
+    /// Sends all the bytes, and counts them. Where a write fails, it counts those that the wire took, and the fault
+    /// has the line's count.
+    pub fn send(&mut self, bytes: &[u8]) -> Result<(), WriteFault>
         ensures { Sends result bytes.now (sending W.log self.old) (sending W.log self.new) }
     {
         match send_all(self.wire, bytes) {
@@ -52,9 +55,9 @@ impl<'a, W: Wire> Line<'a, W> {
                 self.sent = self.sent.saturating_add(bytes.len() as u64);
                 Ok(())
             }
-            Err(part) => {
-                self.sent = self.sent.saturating_add(part.bytes);
-                Err(WireFault)
+            Err(fault) => {
+                self.sent = self.sent.saturating_add(fault.sent);
+                Err(WriteFault { sent: self.sent })
             }
         }
     }

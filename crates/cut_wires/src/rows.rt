@@ -2,7 +2,7 @@ ghost use Rattle.std.specs.Prelude.{◌≡◌, ◌+◌, ◌<◌, ◌≤◌, ℕ,
 ghost use Rattle.cut_wires.specs.Rows.{Table, Gives, SendsRows};
 ghost use Rattle.cut_wires.specs.Sending.{Sends, sending};
 
-use crate::{Line, Wire, WireFault};
+use crate::{Line, Wire, WriteFault};
 
 /// How a text is put on a line: as it is, or as the payload of a message.
 pub trait Framing {
@@ -10,7 +10,7 @@ pub trait Framing {
     ghost framed: { List ℕ → List ℕ };
 
     /// Sends a text of at most 65,536 bytes.
-    fn send<W: Wire>(line: &mut Line<'_, W>, text: &[u8]) -> Result<(), WireFault>
+    fn send<W: Wire>(line: &mut Line<'_, W>, text: &[u8]) -> Result<(), WriteFault>
         requires { length text.now ≤ 65536 }
         ensures { Sends result (framed text.now) (sending W.log line.old) (sending W.log line.new) };
 
@@ -26,7 +26,7 @@ impl Framing for Plain {
 
     ghost framed = { λ text. text };
 
-    fn send<W: Wire>(line: &mut Line<'_, W>, text: &[u8]) -> Result<(), WireFault> {
+    fn send<W: Wire>(line: &mut Line<'_, W>, text: &[u8]) -> Result<(), WriteFault> {
         line.send(text)
     }
 
@@ -73,8 +73,8 @@ pub trait Rows {
 /// Why the rows of a table were not all sent.
 #[derive(Clone, Copy, Debug, PartialEq, Eq)]
 pub enum RowsFault<E> {
-    /// A write failed.
-    Write,
+    /// A write failed, and the fault has how many bytes the line had sent.
+    Write(WriteFault),
     /// A row was not given.
     Row(E),
 }
@@ -90,7 +90,7 @@ pub fn send_rows<F: Framing, R: Rows, W: Wire>(
     let count = rows.count();
     match F::send(line, rows.header()) {
         Ok(()) => {}
-        Err(_) => return Err(RowsFault::Write),
+        Err(fault) => return Err(RowsFault::Write(fault)),
     }
     for place in 0..count {
         let text = match rows.row(place) {
@@ -99,7 +99,7 @@ pub fn send_rows<F: Framing, R: Rows, W: Wire>(
         };
         match F::send(line, text.as_slice()) {
             Ok(()) => {}
-            Err(_) => return Err(RowsFault::Write),
+            Err(fault) => return Err(RowsFault::Write(fault)),
         }
     }
     Ok(())

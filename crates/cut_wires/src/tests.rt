@@ -1,7 +1,7 @@
 ghost use Rattle.std.specs.Prelude.{◌≡◌, [], ◌∷◌};
 
 use crate::{
-    FaultyWire, Line, MemoryWire, Plain, Rows, RowsFault, Sent, StreamWire, Wire, WireFault,
+    FaultyWire, Line, MemoryWire, Plain, Rows, RowsFault, StreamWire, Wire, WireFault, WriteFault,
     send_all, send_rows,
 };
 use std::alloc::Global;
@@ -39,7 +39,7 @@ fn a_wire_that_moves_nothing_fails(rt: HostRuntime) -> Result<(), Fail> {
 #[test]
 fn a_write_fails_once(rt: HostRuntime) {
     let mut wire = FaultyWire::new(rt.alloc(), Vec::new(rt.alloc()), 3, 6, 0);
-    assert!(rt; send_all(&mut wire, b"0123456789") == Err(Sent { bytes: 6 }));
+    assert!(rt; send_all(&mut wire, b"0123456789") == Err(WriteFault { sent: 6 }));
     assert!(rt; wire.failures() == 1 && wire.taken() == b"012345".as_slice());
     assert!(rt; send_all(&mut &mut wire, b"ab") == Ok(()));
     assert!(rt; wire.failures() == 1 && wire.taken() == b"012345ab".as_slice());
@@ -75,7 +75,7 @@ fn a_line_counts_what_it_sends(rt: HostRuntime) {
     let mut wire = FaultyWire::new(rt.alloc(), Vec::new(rt.alloc()), 2, 5, 0);
     let mut line = Line::new(&mut wire);
     assert!(rt; line.sent() == 0 && line.send(b"abc") == Ok(()) && line.sent() == 3);
-    assert!(rt; line.send(b"def") == Err(WireFault) && line.sent() == 5);
+    assert!(rt; line.send(b"def") == Err(WriteFault { sent: 5 }) && line.sent() == 5);
     let mut line = Line::after(&mut wire, u64::MAX - 1);
     assert!(rt; line.send(b"xyz") == Ok(()) && line.sent() == u64::MAX);
     assert!(rt; wire.taken() == b"abcdexyz".as_slice());
@@ -142,7 +142,8 @@ fn a_table_is_sent_row_by_row(rt: HostRuntime) {
     let (result, wire) = sent_letters(rt.alloc(), true, 9);
     assert!(rt; result == Ok(()) && wire.taken() == b"hrr".as_slice());
     let (result, wire) = sent_letters(rt.alloc(), true, 2);
-    assert!(rt; result == Err(RowsFault::Write) && wire.taken() == b"hr".as_slice());
+    assert!(rt; result == Err(RowsFault::Write(WriteFault { sent: 2 })));
+    assert!(rt; wire.taken() == b"hr".as_slice());
     let (result, wire) = sent_letters(rt.alloc(), false, 9);
     assert!(rt; result == Err(RowsFault::Row(())) && wire.taken() == b"hr".as_slice());
 }

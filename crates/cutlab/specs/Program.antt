@@ -5,6 +5,7 @@ use Rattle.std.specs.declared.io.ErrorKind.TheVariants.{InvalidData}
 use Rattle.clap.specs.Words.{fault_of}
 use Rattle.clap.specs.declared.error.kind.ErrorKind.{ErrorKind}
 use Rattle.cut_wires.specs.Log.{Log, wrote, write_failed}
+use Rattle.cut_wires.specs.declared.send.WriteFault.{WriteFault}
 use Rattle.cut_command_line.specs.Line.{program_app, NamesJob, status_of_kind, IsAsked}
 use Rattle.cut_command_line.specs.declared.line.Job.{Job}
 use Rattle.cut_commands.specs.Faults.{fault_line, status_of}
@@ -39,7 +40,7 @@ pub record RunsJob (words : List (List ℕ)) (old new errors_old errors_new : Lo
 abbrev pub ShowsHelp : List ℕ → Log → Log → Log → Log → ℕ → Type 0
 ShowsHelp text old new errors_old errors_new status =
     ((new ≡ wrote old text) × (errors_new ≡ errors_old) × (status ≡ 0))
-    ⊎ ((sent : ℕ) × IsCut text sent old new × ReportsEnd (Err (Write sent)) errors_old errors_new status)
+    ⊎ ((fault : WriteFault) × IsCut text fault.sent old new × ReportsEnd (Err (Write fault)) errors_old errors_new status)
 
 -- how a command line without a job is reported, by the status and the text that clap gives it
 pub record ReportsLine (line_status : ℕ) (text : List ℕ) (old new errors_old errors_new : Log) (status : ℕ)

@@ -76,7 +76,7 @@ fn end_line<W: Wire, E: Wire>(fault: &LineFault, wire: &mut W, errors: &mut E) -
     if fault.status == 0 {
         return match send_all(wire, text) {
             Ok(()) => 0,
-            Err(sent) => end_fault(&CliFault::Write(sent.bytes), errors),
+            Err(fault) => end_fault(&CliFault::Write(fault), errors),
         };
     }
     report(text, errors);

@@ -2,9 +2,9 @@
 
 use super::{LINE, NAMES, PLAN, plan_with};
 use cut_commands::{CliFault, run_io};
-use cut_disks::{Disk, FaultyDisk, FileDisk, MemoryDisk, Tear};
+use cut_disks::{Disk, FaultyDisk, FileDisk, Tear};
 use cut_journal::JournalFault;
-use cut_wires::{FaultyWire, StreamWire};
+use cut_wires::{FaultyWire, StreamWire, WriteFault};
 use std::alloc::Global;
 use std::fs;
 use std::sync::Wait;
@@ -30,20 +30,14 @@ where
     Ok(output)
 }
 
-/// A study over a disk that it may not go on with: the line of its fault.
-fn refused<T, D>(rt: &T, alloc: Global, text: &str, disk: D) -> Result<String, Fail>
-where
-    T: Threads + Wait + Sync,
-    D: Disk + Drop + Send,
-{
-    match written(rt, alloc, text, 1, disk) {
-        Ok(_) => Ok(String::new(alloc)),
-        Err(fault) => Ok(fault.to_string(alloc)?),
-    }
+/// An empty disk on which nothing fails.
+pub(super) fn empty_disk(alloc: Global) -> Result<FaultyDisk, Fail> {
+    disk_of(alloc, Vec::new(alloc))
 }
 
-pub(super) fn empty_disk(alloc: Global) -> Result<MemoryDisk, Fail> {
-    Ok(MemoryDisk::of(alloc, Vec::new(alloc))?)
+/// A disk of these bytes on which nothing fails.
+pub(super) fn disk_of(alloc: Global, bytes: Vec<u8>) -> Result<FaultyDisk, Fail> {
+    Ok(FaultyDisk::of(alloc, bytes, 0, Tear::Nothing)?)
 }
 
 /// Whether the plan's study over a disk, by pieces of this size, writes its table and leaves so many bytes there.
@@ -51,11 +45,11 @@ fn leaves<T: Threads + Wait + Sync>(
     rt: &T,
     alloc: Global,
     size: u32,
-    disk: &mut MemoryDisk,
+    disk: &mut FaultyDisk,
     length: usize,
 ) -> Result<bool, Fail> {
     let output = written(rt, alloc, PLAN, size, &mut *disk)?;
-    Ok(is_table(output.as_slice()) && disk.bytes().len() == length)
+    Ok(is_table(output.as_slice()) && disk.memory().bytes().len() == length)
 }
 
 /// Whether these bytes are the whole table of the plan.
@@ -131,12 +125,13 @@ fn each_call_of_the_disk_fails(rt: HostRuntime) -> Result<(), Fail> {
 fn is_cut_off<T: Threads + Wait + Sync>(
     rt: &T,
     alloc: Global,
-    disk: &mut MemoryDisk,
+    disk: &mut FaultyDisk,
 ) -> Result<bool, Fail> {
     let input = Vec::from_slice(alloc, PLAN.as_bytes())?;
     let mut wire = FaultyWire::new(alloc, input, 4096, 80, 0);
     let ended = run_io(rt, alloc, &mut wire, 1, 2, Some(&mut *disk));
-    Ok(matches!(ended, Err(CliFault::Write(80))) && disk.bytes().len() == 477)
+    let is_told = matches!(ended, Err(CliFault::Write(WriteFault { sent: 80 })));
+    Ok(is_told && disk.memory().bytes().len() == 477)
 }
 
 #[test]
@@ -154,26 +149,51 @@ const MORE_RECEIVERS: [u8; 32] = [
 ];
 
 /// The digest of the slip of the first trial with four conflicts, where there is none.
-pub(super) const FALSE_CONFLICTS: [u8; 32] = [
+const FALSE_CONFLICTS: [u8; 32] = [
     0x47, 0xc9, 0xae, 0x50, 0x79, 0x9f, 0x45, 0xa5, 0x99, 0xa6, 0x76, 0x11, 0xd6, 0x8c, 0x96, 0xcb,
     0x82, 0x3d, 0xf6, 0x51, 0xb9, 0x10, 0x05, 0x15, 0xe5, 0x3b, 0xc4, 0x01, 0x17, 0xeb, 0x75, 0x77,
 ];
 
-/// The file of the plan with a slip of these numbers and this digest.
-fn file_with<T: Threads + Wait + Sync>(
+/// A slip as a file has it: its numbers and its digest.
+pub(super) type KeptSlip = ([u64; 9], [u8; 32]);
+
+/// The slip of the first trial with five receivers, and with four conflicts.
+const IMPOSSIBLE: KeptSlip = ([0, 1, 5, 0, 0, 0, 4, 1, 1], MORE_RECEIVERS);
+
+pub(super) const FIRST_FALSE: KeptSlip = ([0, 1, 4, 4, 0, 0, 4, 1, 0], FALSE_CONFLICTS);
+
+/// The file of a plan whose trials are all kept, by pieces of two.
+pub(super) fn whole_file<T: Threads + Wait + Sync>(
     rt: &T,
     alloc: Global,
-    numbers: [u64; 9],
-    digest: [u8; 32],
+    text: &str,
 ) -> Result<Vec<u8>, Fail> {
     let mut disk = empty_disk(alloc)?;
-    let _ = written(rt, alloc, PLAN, 2, &mut disk)?;
-    let front = disk.bytes().get(..267).unwrap_or(&[]);
-    let mut file = Vec::from_slice(alloc, front)?;
+    let _ = written(rt, alloc, text, 2, &mut disk)?;
+    Ok(Vec::from_slice(alloc, disk.memory().bytes())?)
+}
+
+/// Writes an open gate and these numbers behind it.
+pub(super) fn push_numbers(file: &mut Vec<u8>, numbers: &[u64]) -> Result<(), Fail> {
+    file.push(0xA5)?;
     for number in numbers {
         file.extend_from_slice(number.to_be_bytes().as_slice())?;
     }
-    file.extend_from_slice(digest.as_slice())?;
+    Ok(())
+}
+
+/// The file of the plan with these slips.
+pub(super) fn file_with<T: Threads + Wait + Sync>(
+    rt: &T,
+    alloc: Global,
+    slips: &[KeptSlip],
+) -> Result<Vec<u8>, Fail> {
+    let mut file = whole_file(rt, alloc, PLAN)?;
+    file.truncate(266);
+    for (numbers, digest) in slips {
+        push_numbers(&mut file, numbers.as_slice())?;
+        file.extend_from_slice(digest.as_slice())?;
+    }
     file.push(0)?;
     Ok(file)
 }
@@ -186,24 +206,19 @@ fn is_refused<T: Threads + Wait + Sync>(
     file: Vec<u8>,
     line: &str,
 ) -> Result<bool, Fail> {
-    let disk = MemoryDisk::of(alloc, file)?;
-    Ok(refused(rt, alloc, text, disk)?.as_str() == line)
-}
-
-#[test]
-fn slips_that_are_none_of_the_plan(rt: HostRuntime) -> Result<(), Fail> {
-    let alloc = rt.alloc();
-    let file = file_with(&rt, alloc, [0, 1, 5, 0, 0, 0, 4, 1, 1], MORE_RECEIVERS)?;
-    assert!(rt; is_refused(&rt, alloc, PLAN, file, "cutlab: fault 17 BadSlip 1")?);
-    Ok(())
+    let mut disk = disk_of(alloc, file)?;
+    match written(rt, alloc, text, 1, &mut disk) {
+        Ok(_) => Ok(false),
+        Err(fault) => Ok(fault.to_string(alloc)?.as_str() == line),
+    }
 }
 
 /// What a slip says is taken for true where it could be.
 #[test]
 fn slips_that_could_be_true(rt: HostRuntime) -> Result<(), Fail> {
     let alloc = rt.alloc();
-    let file = file_with(&rt, alloc, [0, 1, 4, 4, 0, 0, 4, 1, 0], FALSE_CONFLICTS)?;
-    let output = written(&rt, alloc, PLAN, 1, MemoryDisk::of(alloc, file)?)?;
+    let mut disk = disk_of(alloc, file_with(&rt, alloc, &[FIRST_FALSE])?)?;
+    let output = written(&rt, alloc, PLAN, 1, &mut disk)?;
     let line = output.get(72..);
     assert!(rt; line == Some(b"1,1,1,1,2,8,4,0,0,8,2,1,500000\n".as_slice()));
     Ok(())
@@ -215,9 +230,7 @@ fn changed_file<T: Threads + Wait + Sync>(
     alloc: Global,
     at: usize,
 ) -> Result<Vec<u8>, Fail> {
-    let mut disk = empty_disk(alloc)?;
-    let _ = written(rt, alloc, PLAN, 2, &mut disk)?;
-    let mut file = Vec::from_slice(alloc, disk.bytes())?;
+    let mut file = whole_file(rt, alloc, PLAN)?;
     if let Some(byte) = file.get_mut(at) {
         *byte = !*byte;
     }
@@ -237,6 +250,8 @@ fn files_that_are_refused(rt: HostRuntime) -> Result<(), Fail> {
         let file = changed_file(&rt, alloc, at)?;
         assert!(rt; is_refused(&rt, alloc, text, file, line)?, "{line}");
     }
+    let file = file_with(&rt, alloc, &[IMPOSSIBLE])?;
+    assert!(rt; is_refused(&rt, alloc, PLAN, file, "cutlab: fault 17 BadSlip 1")?);
     Ok(())
 }
 

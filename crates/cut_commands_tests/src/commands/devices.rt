@@ -117,8 +117,8 @@ fn stops_at_write<T: Threads + Wait + Sync>(
     let taken = taken_by(step, at);
     let mut output = Device::new(alloc, b"", step, at, act);
     match run(rt, alloc, PLAN.as_bytes(), &mut output) {
-        Err(CliFault::Write(sent)) => {
-            sent == taken as u64
+        Err(CliFault::Write(fault)) => {
+            fault.sent == taken as u64
                 && Some(output.output.as_slice()) == table.as_bytes().get(..taken)
                 && output.calls == at.saturating_add(1)
         }

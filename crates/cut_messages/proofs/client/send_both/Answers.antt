@@ -13,5 +13,5 @@ returns-in-Ok g c =
 
 pub returns-in-Err : goal.returns-in-Err
 returns-in-Err g c =
-    cut_before (sending g.W.Wire.log c.args.line.now) (sending g.W.Wire.log c.send_message.new.line)
+    cut_before c.in-Err.fault (sending g.W.Wire.log c.args.line.now) (sending g.W.Wire.log c.send_message.new.line)
     (frame Submit c.args.plan_text.now) (frame Quit []) c.in-Err.ensures

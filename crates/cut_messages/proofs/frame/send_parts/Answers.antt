@@ -12,5 +12,5 @@ returns-in-Ok g c =
 pub returns-in-Err : goal.returns-in-Err
 returns-in-Err g c =
     let log = g.W.Wire.log in
-    cut_before (sending log c.args.line.now) (sending log c.send.new.self) _ c.args.payload.now
+    cut_before c.in-Err.fault (sending log c.args.line.now) (sending log c.send.new.self) _ c.args.payload.now
     (rw (c.as_slice.ensures, c.head_of-head.ensures) at c.in-Err.ensures)

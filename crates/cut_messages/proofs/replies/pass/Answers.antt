@@ -9,7 +9,7 @@ returns-in-Err g c =
     let sends = c.in-Err.ensures in (
       alone c.args.message.now,
       c.in-Row.is,
-      line_cut c.args.message.now.payload c.as_slice-payload.result.now c.in-Err.field-0.bytes
+      line_cut c.args.message.now.payload c.as_slice-payload.result.now c.in-Err.field-0.sent
           (g.O.Wire.log c.args.output.now) (g.O.Wire.log c.send_all.new.wire) c.as_slice-payload.ensures
           sends.1 sends.0,
     )

@@ -1,4 +1,5 @@
 use Rattle.std.proofs.Common.{◌≡◌, ◌∙◌, ◌-◌, ◌+◌, ◌++◌, ℕ, List, [], ◌∷◌, length, length-drop, take, drop, sym, ap, subst, arith}
+use Rattle.std.proofs.ByRecursion.{All-push}
 use Rattle.std.proofs.lemmas.List.{take_rest}
 use Rattle.std.proofs.Math.Seq.{drop-drop}
 use Rattle.std.specs.List.{AllByRecursion}
@@ -6,7 +7,7 @@ use Rattle.cut_messages.specs.declared.message.Message.{Message}
 use Rattle.cut_messages.specs.Frames.{IsMessage, fault_at}
 use Rattle.cut_messages.specs.Fronts.{message_in, IsWhole, IsShort}
 use Rattle.cut_messages.proofs.Frames.{no_message}
-use Rattle.cut_messages.proofs.Streams.{one_more, both}
+use Rattle.cut_messages.proofs.Streams.{one_more}
 use Rattle.cut_messages.proofs.split.messages_in.Goals as goal
 
 pub returns-in-Wrong-clause-splits : goal.returns-in-Wrong-clause-splits
@@ -48,6 +49,5 @@ loop-kind-preserved c =
       within = omega (arith, is.within, length-drop read bytes, c.loop-kind.invariant.within);
       whole = cc (one_more c.args.side bytes c.loop-kind.messages.items read n c.in-Whole.kind c.loop-kind.invariant.whole is, next, made);
       each = subst (λ (ms : List Message). AllByRecursion (IsMessage c.args.side) ms) (sym made)
-          (both (IsMessage c.args.side) c.loop-kind.messages.items (m ∷ []) c.loop-kind.invariant.each
-          (is.message, tt));
+          (All-push (IsMessage c.args.side) c.loop-kind.messages.items m c.loop-kind.invariant.each is.message);
     }

@@ -1,4 +1,4 @@
-use Rattle.cut_session.proofs.Cuts.{all_rises}
+use Rattle.cut_session.proofs.Turns.{all_rises}
 use Rattle.cut_session.proofs.ending.sessions_see_no_less.Goals as goal
 
 pub returns : goal.returns

@@ -1,14 +1,14 @@
 use Rattle.std.proofs.Common.{false}
 use Rattle.cut_study_tests.proofs.wakes.who_waits_for_a_line_is_told_why_it_does_not_come.Given as goal
 
-abbrev pub ghosts-told_in-M-Ledger : goal.ghosts-told_in-M-Ledger
-ghosts-told_in-M-Ledger g a = record { name = a.made.name; parts = a.made.parts }
+abbrev pub ghosts-woken_in-M-Ledger : goal.ghosts-woken_in-M-Ledger
+ghosts-woken_in-M-Ledger g a = record { name = a.made.name; parts = a.made.parts }
 
-abbrev pub ghosts-told_in-K-Ledger : goal.ghosts-told_in-K-Ledger
-ghosts-told_in-K-Ledger g a = record { name = a.kept.name; parts = a.kept.parts }
+abbrev pub ghosts-woken_in-K-Ledger : goal.ghosts-woken_in-K-Ledger
+ghosts-woken_in-K-Ledger g a = record { name = a.kept.name; parts = a.kept.parts }
 
-abbrev pub ghosts-told_in-M-Tally : goal.ghosts-told_in-M-Tally
-ghosts-told_in-M-Tally g a = record { all = a.made.parts; trusts = false }
+abbrev pub ghosts-woken_in-M-Tally : goal.ghosts-woken_in-M-Tally
+ghosts-woken_in-M-Tally g a = record { all = a.made.parts; trusts = false }
 
-abbrev pub ghosts-told_in-K-Tally : goal.ghosts-told_in-K-Tally
-ghosts-told_in-K-Tally g a = record { all = a.kept.parts; trusts = false }
+abbrev pub ghosts-woken_in-K-Tally : goal.ghosts-woken_in-K-Tally
+ghosts-woken_in-K-Tally g a = record { all = a.kept.parts; trusts = false }

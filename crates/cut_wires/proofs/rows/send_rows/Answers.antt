@@ -1,8 +1,8 @@
-use Rattle.std.proofs.Common.{◌≡◌, ◌∙◌, ◌<◌, ◌≤◌, ◌+◌, ◌*◌, ◌++◌, ℕ, List, length, ap, sym, subst, arith}
+use Rattle.std.proofs.Common.{◌≡◌, ◌∙◌, ◌≤◌, ◌+◌, ◌++◌, ℕ, List, Err, length, ap, sym, subst, arith}
 use Rattle.cut_wires.specs.Rows.{Table, rows_to}
-use Rattle.cut_wires.specs.Sending.{Sending, sending, sent_on, IsCut}
+use Rattle.cut_wires.specs.Sending.{Sending, Sends, sending, sent_on}
 use Rattle.cut_wires.proofs.RowLemmas.{rows_more, short_more, header_only}
-use Rattle.cut_wires.proofs.Sendings.{sent_more, cut_after}
+use Rattle.cut_wires.proofs.Sendings.{sent_more, sends_after}
 use Rattle.cut_wires.proofs.rows.send_rows.Goals as goal
 
 -- a row that was given is one of the table's
@@ -43,7 +43,7 @@ returns-in-Err g c =
       );
       ends = (
         g.met.R.Rows.begins c.args.rows.now,
-        subst (λ (l : List ℕ). IsCut l line new) header c.in-Err.ensures,
+        subst (λ (l : List ℕ). Sends (Err c.in-Err.fault) l line new) header c.in-Err.ensures,
       );
     }
 
@@ -88,9 +88,9 @@ returns-in-Err-send g c =
           c.loop-place.invariant.same gives.0 gives.1);
       ends = (
         gives.2,
-        subst (λ (xs : List ℕ). IsCut xs line new)
+        subst (λ (xs : List ℕ). Sends (Err c.in-Err-send.fault) xs line new)
             (ap (λ xs. rows_to framed t n ++ framed xs) row ∙ sym (rows_more framed t n))
-            (cut_after line (sending g.W.Wire.log c.loop-place.line) new (rows_to framed t n)
-            (framed c.as_slice.result.now) c.loop-place.invariant.sent c.in-Err-send.ensures),
+            (sends_after (Err c.in-Err-send.fault) line (sending g.W.Wire.log c.loop-place.line) new
+            (rows_to framed t n) (framed c.as_slice.result.now) c.loop-place.invariant.sent c.in-Err-send.ensures),
       );
     }

@@ -12,5 +12,5 @@ returns-in-Row-clause-serves g c = (
         c.args.message.now.kind c.args.message.now.payload c.in-Row.is,
   ),
   omega arith,
-  none_sent (sending g.W.Wire.log c.args.line.now) (omega (arith, c.sent-sent.ensures)),
+  none_sent (sending g.W.Wire.log c.args.line.now) c.args.line.now.small,
 )

@@ -9,7 +9,7 @@ loop-message-init g c = record {
     [],
     (rises_none c.args.self.now.pass.now.view, refl),
     omega arith,
-    none_sent (sending g.W.Wire.log c.args.line.now) (omega (arith, c.sent-sent.ensures)),
+    none_sent (sending g.W.Wire.log c.args.line.now) c.args.line.now.small,
   );
   hall = refl;
   pass = refl;
@@ -19,11 +19,11 @@ pub loop-message-preserved : goal.loop-message-preserved
 loop-message-preserved g c =
     let log = g.W.Wire.log in
     record {
-      replies = goes_on c.args.self.now.hall.now c.loop-message.self.hall.now c.args.self.now.pass.now.view
-          c.loop-message.self.pass.now.view c.answer.new.self.pass.now.view c.args.messages.now c.loop-message.message-index
-          c.message-item.result c.answer.result (sending log c.args.line.now) (sending log c.loop-message.line)
-          (sending log c.answer.new.line) c.loop-message-test.true c.message-item.is c.loop-message.invariant.replies
-          c.loop-message.invariant.hall c.answer.ensures.serves (cc);
+      replies = goes_on c.args.self.now.hall.now c.args.self.now.pass.now.view c.loop-message.self.pass.now.view
+          c.answer.new.self.pass.now.view c.args.messages.now c.loop-message.message-index c.message-item.result
+          (sending log c.args.line.now) (sending log c.loop-message.line) (sending log c.answer.new.line)
+          c.loop-message-test.true c.message-item.is c.loop-message.invariant.replies
+          (rw (c.in-Ok-On.field-0-is, c.loop-message.invariant.hall) at c.in-Ok-On.ensures.serves);
       hall = c.answer.ensures.stays.0 ∙ c.loop-message.invariant.hall;
       pass = c.answer.ensures.stays.1 ∙ c.loop-message.invariant.pass;
     }
@@ -31,18 +31,17 @@ loop-message-preserved g c =
 pub returns-in-Ok-Over-clause-serves : goal.returns-in-Ok-Over-clause-serves
 returns-in-Ok-Over-clause-serves g c =
     let log = g.W.Wire.log in
-    is_over c.args.self.now.hall.now c.loop-message.self.hall.now c.args.self.now.pass.now.view
-    c.loop-message.self.pass.now.view c.answer.new.self.pass.now.view c.args.messages.now c.loop-message.message-index
-    c.message-item.result c.answer.result (sending log c.args.line.now) (sending log c.loop-message.line)
-    (sending log c.answer.new.line) c.loop-message-test.true c.message-item.is c.loop-message.invariant.replies
-    c.loop-message.invariant.hall c.answer.ensures.serves (cc)
+    is_over c.args.self.now.hall.now c.args.self.now.pass.now.view c.loop-message.self.pass.now.view
+    c.answer.new.self.pass.now.view c.args.messages.now c.loop-message.message-index c.message-item.result
+    (sending log c.args.line.now) (sending log c.loop-message.line) (sending log c.answer.new.line)
+    c.loop-message-test.true c.message-item.is c.loop-message.invariant.replies
+    (rw c.in-Ok-Over.field-0-is at c.in-Ok-Over.ensures.serves)
 
 pub returns-in-Err-clause-serves : goal.returns-in-Err-clause-serves
 returns-in-Err-clause-serves g c =
     let log = g.W.Wire.log in
-    is_cut c.args.self.now.hall.now c.loop-message.self.hall.now c.args.self.now.pass.now.view
-    c.loop-message.self.pass.now.view c.answer.new.self.pass.now.view c.args.messages.now c.loop-message.message-index
-    c.message-item.result c.answer.result (sending log c.args.line.now) (sending log c.loop-message.line)
-    (sending log c.answer.new.line) c.loop-message-test.true c.message-item.is c.loop-message.invariant.replies
-    c.loop-message.invariant.hall c.answer.ensures.serves c.in-Err.fault
-    c.in-Err.is
+    is_cut c.args.self.now.hall.now c.args.self.now.pass.now.view c.loop-message.self.pass.now.view
+    c.answer.new.self.pass.now.view c.args.messages.now c.loop-message.message-index c.message-item.result
+    (sending log c.args.line.now) (sending log c.loop-message.line) (sending log c.answer.new.line)
+    c.loop-message-test.true c.message-item.is c.loop-message.invariant.replies c.in-Err.fault
+    (rw c.loop-message.invariant.hall at c.in-Err.ensures.serves)

@@ -1,5 +1,4 @@
 use Rattle.std.proofs.Common.{◌≡◌, ◌*◌, Ok, length, take}
-use Rattle.std.specs.Bool.{⊤}
 use Rattle.cut_wires.specs.Sending.{sending}
 use Rattle.cut_session.specs.Answering.{AnswersAll}
 use Rattle.cut_session.specs.Serving.{Replies, longest_reply}
@@ -8,7 +7,7 @@ use Rattle.cut_session.proofs.answer.Session.answer_all.Given as goal
 -- the requests so far are answered
 abbrev pub invariant-loop-message : goal.invariant-loop-message
 invariant-loop-message g l = record {
-  replies : Replies {E = ⊤} (AnswersAll l.fn.self.hall.now l.fn.self.pass.now.view l.self.pass.now.view
+  replies : Replies (AnswersAll l.fn.self.hall.now l.fn.self.pass.now.view l.self.pass.now.view
       (take l.message-index l.messages)) (longest_reply * length (take l.message-index l.messages)) (Ok tt)
       (sending g.W.Wire.log l.fn.line) (sending g.W.Wire.log l.line);
   hall : l.self.hall.now ≡ l.fn.self.hall.now;

@@ -2,7 +2,7 @@ use Rattle.std.proofs.Common.{◌∙◌, refl, sym, ap, arith}
 use Rattle.cut_wires.specs.Sending.{sending}
 use Rattle.cut_messages.specs.Reading.{Reading}
 use Rattle.cut_session.proofs.Turns.{rises_none}
-use Rattle.cut_session.proofs.Courses.{serves_first, serves_given, ends_between, ends_within, ends_unread, goes_at}
+use Rattle.cut_session.proofs.Courses.{serves_first, serves_given, ends_between, ends_within, ends_unread}
 use Rattle.cut_session.proofs.answer.Session.serve.Goals as goal
 
 pub returns-in-Err-clause-ends : goal.returns-in-Err-clause-ends
@@ -30,9 +30,8 @@ returns-in-Err-take_piece-clause-ends g c =
     let log = g.W.Wire.log in
     let given = serves_given c.loop.invariant.serving (sending log c.read.new.self) c.read.new.buffer c.in-Ok.count
     c.in-Ok.ensures.reads (omega (arith, c.if-count-eq0.false)) in
-    goes_at given c.loop.invariant.hall c.take_piece.new.self.pass.now.view c.take_piece.new.reader
-    (sending log c.take_piece.new.line) c.in-Err-take_piece.is
-    (c.take_piece.ensures.goes c.args.self.now.pass.now.view (sending log c.args.line.now) c.requires)
+    (rw c.loop.invariant.hall at (c.in-Err-take_piece.ensures.goes c.args.self.now.pass.now.view
+    (sending log c.args.line.now) c.requires)) given
 
 pub loop-preserved : goal.loop-preserved
 loop-preserved g c =
@@ -42,9 +41,8 @@ loop-preserved g c =
     record {
       next = tt;
       finite = tt;
-      serving = goes_at given c.loop.invariant.hall c.take_piece.new.self.pass.now.view c.take_piece.new.reader
-          (sending log c.take_piece.new.line) c.in-Ok-take_piece.is
-          (c.take_piece.ensures.goes c.args.self.now.pass.now.view (sending log c.args.line.now) c.requires);
+      serving = (rw c.loop.invariant.hall at (c.in-Ok-take_piece.ensures.goes c.args.self.now.pass.now.view
+          (sending log c.args.line.now) c.requires)) given;
       few = c.in-Ok-take_piece.ensures.few;
       hall = c.take_piece.ensures.stays.0 ∙ c.loop.invariant.hall;
       pass = c.take_piece.ensures.stays.1 ∙ c.loop.invariant.pass;

@@ -1,0 +1,14 @@
+use Rattle.std.proofs.Common.{false}
+use Rattle.cut_session_tests.proofs.worker.serve_two.Given as goal
+
+abbrev pub ghosts-served_in-M-Ledger : goal.ghosts-served_in-M-Ledger
+ghosts-served_in-M-Ledger g a = record { name = a.made.name; parts = a.made.parts }
+
+abbrev pub ghosts-served_in-K-Ledger : goal.ghosts-served_in-K-Ledger
+ghosts-served_in-K-Ledger g a = record { name = a.kept.name; parts = a.kept.parts }
+
+abbrev pub ghosts-served_in-M-Tally : goal.ghosts-served_in-M-Tally
+ghosts-served_in-M-Tally g a = record { all = a.made.parts; trusts = false }
+
+abbrev pub ghosts-served_in-K-Tally : goal.ghosts-served_in-K-Tally
+ghosts-served_in-K-Tally g a = record { all = a.kept.parts; trusts = false }

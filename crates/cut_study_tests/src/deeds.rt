@@ -1,0 +1,283 @@
+//! What a thread does in a hall: it submits a study, does a deed for it, and sees how that ends.
+ghost use Rattle.std.specs.Prelude.{true, ◌≡◌, ◌<◌, All, IfOk};
+
+use crate::studies::Study;
+use cut_book::{Opened, Shelf, ShelfFault, SubmitFault};
+use cut_disks::{FaultyDisk, Tear};
+use cut_hall::{Hall, LineFault, OpenGate, Pass, Report, Tally};
+use cut_plan::Plan;
+use std::alloc::Global;
+use std::sync::Wait;
+use std::test::Fail;
+
+/// A hall whose disks may fail.
+pub(crate) type Stormy<M, K> = Hall<FaultyDisk, M, K>;
+
+/// A shelf whose disks each fail at the call of this number, or never where that is 0.
+#[derive(Clone, Copy, Debug)]
+pub(crate) struct Brittle {
+    pub fail_at: u64,
+}
+
+impl Shelf<FaultyDisk> for Brittle {
+    ghost use Rattle.std.specs.Prelude.{true};
+
+    ghost is_true = { λ _. true };
+
+    fn open(&self, alloc: Global, _plan: &Plan) -> Result<Option<FaultyDisk>, ShelfFault> {
+        let Ok(disk) = FaultyDisk::of(alloc, Vec::new(alloc), self.fail_at, Tear::Nothing) else {
+            return Err(ShelfFault::Memory);
+        };
+        disk.arm();
+        Ok(Some(disk))
+    }
+}
+
+/// What a thread does for a study, which it submits first.
+#[derive(Clone, Copy)]
+pub(crate) enum Deed {
+    /// Nothing more.
+    Submit,
+    /// Works until a cell is done, and asks for its line, twice where it comes.
+    Row(u32),
+    /// Waits for the line of a cell.
+    Wait(u32),
+    /// Asks for the line of a cell if it was given before.
+    Again(u32),
+    /// Works until nothing is left.
+    WorkOff,
+    /// Asks how many trials are counted.
+    Count,
+    /// Tells a piece lost.
+    Lose(u64),
+    /// Tells a piece lost, and once more, which is not noted.
+    LoseTwice(u64),
+    /// Ends the work of all.
+    Stop,
+}
+
+/// How a deed ended.
+#[derive(Clone, Copy, PartialEq, Eq)]
+pub(crate) enum End {
+    /// In a slot of this number.
+    Slot(u32),
+    /// With the right line.
+    Line,
+    /// The line was not given before.
+    NotGiven,
+    /// The work may go on in other slots, or not.
+    Worked(bool),
+    /// So many trials are counted, which are not more than the study has.
+    Counted(u64),
+    /// The loss was noted, or not.
+    Noted(bool),
+    /// The work of all is ended.
+    Ended,
+    /// There was no slot for the study.
+    NoSlot,
+    /// The disk of the study had failed.
+    Failed,
+    /// A piece was lost.
+    Lost,
+    /// The work was ended before.
+    Stopped,
+    /// The slot has another study, or none, or one over other slips.
+    Mismatch,
+    /// With something that must not be.
+    Wrong,
+}
+
+/// The end of who is refused a line.
+fn end_of_fault(fault: LineFault) -> End {
+    match fault {
+        LineFault::Stopped => End::Stopped,
+        LineFault::WorkMemory => End::Lost,
+        LineFault::Checkpoint => End::Failed,
+        LineFault::AuditMismatch => End::Mismatch,
+    }
+}
+
+/// The end of who is given a line, if it is that of the cell.
+fn end_of_line(study: Study, cell: u32, line: &[u8]) -> End {
+    match study.lines.get(cell as usize) {
+        Some(right) if right.as_bytes() == line => End::Line,
+        _ => End::Wrong,
+    }
+}
+
+/// Waits for the line of a cell.
+fn wait_for_row<M: Tally, K: Tally, R: Wait>(
+    rt: &R,
+    alloc: Global,
+    hall: &Stormy<M, K>,
+    pass: &mut Pass<M>,
+    opened: &Opened,
+    study: Study,
+    cell: u32,
+) -> End
+    requires own { pass.old.hall ≡ hall.now.id }
+    requires slot { opened.now.study < hall.now.slots }
+    ensures { pass.new.hall ≡ pass.old.hall }
+{
+    if cell >= opened.plan.cells() {
+        return End::Wrong;
+    }
+    match hall.next_row(rt, alloc, pass, opened, cell) {
+        Ok(line) => end_of_line(study, cell, line.as_slice()),
+        Err(fault) => end_of_fault(fault),
+    }
+}
+
+/// Asks for the line of a cell if it was given before.
+fn ask_again<M: Tally, K: Tally, R: Wait>(
+    rt: &R,
+    alloc: Global,
+    hall: &Stormy<M, K>,
+    opened: &Opened,
+    study: Study,
+    cell: u32,
+) -> End
+    requires { opened.now.study < hall.now.slots }
+{
+    if cell >= opened.plan.cells() {
+        return End::Wrong;
+    }
+    match hall.given_row(rt, alloc, opened, cell) {
+        Ok(Some(line)) => end_of_line(study, cell, line.as_slice()),
+        Ok(None) => End::NotGiven,
+        Err(fault) => end_of_fault(fault),
+    }
+}
+
+/// Works on an opened study until a cell is done, and asks for its line, twice where it comes.
+fn make_row<M: Tally, K: Tally, R: Wait>(
+    rt: &R,
+    alloc: Global,
+    hall: &Stormy<M, K>,
+    pass: &mut Pass<M>,
+    opened: &Opened,
+    study: Study,
+    cell: u32,
+) -> End
+    requires own { pass.old.hall ≡ hall.now.id }
+    requires slot { opened.now.study < hall.now.slots }
+    ensures { pass.new.hall ≡ pass.old.hall }
+{
+    hall.work_on_cell(rt, alloc, pass, &OpenGate, opened.study, cell);
+    match wait_for_row(rt, alloc, hall, pass, opened, study, cell) {
+        End::Line => ask_again(rt, alloc, hall, opened, study, cell),
+        end => end,
+    }
+}
+
+/// Asks how many trials of an opened study are counted, which are not more than it has.
+fn ask_count<M: Tally, K: Tally>(hall: &Stormy<M, K>, pass: &mut Pass<M>, opened: &Opened) -> End
+    requires { pass.old.hall ≡ hall.now.id }
+    ensures { pass.new.hall ≡ pass.old.hall }
+{
+    match hall.counted(pass, opened.study) {
+        Ok(count) if count <= u64::from(opened.plan.trials()) => End::Counted(count),
+        _ => End::Wrong,
+    }
+}
+
+/// Tells a piece of a study lost, and once more: whether the loss was noted the first time alone.
+fn lose_twice<M: Tally, K: Tally, R: Wait>(
+    rt: &R,
+    hall: &Stormy<M, K>,
+    pass: &mut Pass<M>,
+    study: u32,
+    piece: u64,
+) -> End
+    requires own { pass.old.hall ≡ hall.now.id }
+    requires slot { study < hall.now.slots }
+    ensures { pass.new.hall ≡ pass.old.hall }
+{
+    let first = hall.give_up(rt, pass, study, piece);
+    let second = hall.give_up(rt, pass, study, piece);
+    End::Noted(first && !second)
+}
+
+/// Does a deed for an opened study, which is of this plan and has these lines.
+pub(crate) fn act_in<M: Tally, K: Tally, R: Wait>(
+    rt: &R,
+    alloc: Global,
+    hall: &Stormy<M, K>,
+    pass: &mut Pass<M>,
+    opened: &Opened,
+    study: Study,
+    deed: Deed,
+) -> End
+    requires own { pass.old.hall ≡ hall.now.id }
+    requires slot { opened.now.study < hall.now.slots }
+    ensures { pass.new.hall ≡ pass.old.hall }
+{
+    match deed {
+        Deed::Submit => End::Slot(opened.study),
+        Deed::Row(cell) => make_row(rt, alloc, hall, pass, opened, study, cell),
+        Deed::Wait(cell) => wait_for_row(rt, alloc, hall, pass, opened, study, cell),
+        Deed::Again(cell) => ask_again(rt, alloc, hall, opened, study, cell),
+        Deed::Count => ask_count(hall, pass, opened),
+        Deed::Lose(piece) => End::Noted(hall.give_up(rt, pass, opened.study, piece)),
+        Deed::LoseTwice(piece) => lose_twice(rt, hall, pass, opened.study, piece),
+        Deed::WorkOff => End::Worked(hall.work_off(rt, alloc, pass, &OpenGate, opened.study)),
+        Deed::Stop => {
+            hall.stop(rt);
+            End::Ended
+        }
+    }
+}
+
+/// Submits a study, and does a deed for it.
+pub(crate) fn act<M: Tally, K: Tally, S: Shelf<FaultyDisk>, R: Wait>(
+    rt: &R,
+    alloc: Global,
+    hall: &Stormy<M, K>,
+    pass: &mut Pass<M>,
+    shelf: &S,
+    study: Study,
+    deed: Deed,
+) -> End
+    requires own { pass.old.hall ≡ hall.now.id }
+    requires trusted { S.is_true shelf.now ≡ true }
+    ensures { pass.new.hall ≡ pass.old.hall }
+{
+    let Ok(plan) = Plan::from_json(alloc, study.plan.as_bytes()) else {
+        return End::Wrong;
+    };
+    match hall.submit(rt, alloc, pass, plan, shelf) {
+        Ok(opened) => act_in(rt, alloc, hall, pass, &opened, study, deed),
+        Err(SubmitFault::SlotsFull) => End::NoSlot,
+        Err(SubmitFault::Checkpoint) => End::Failed,
+        Err(SubmitFault::WorkMemory) => End::Wrong,
+    }
+}
+
+/// Puts a pass of a hall among others of it.
+pub(crate) fn put_back<M: Tally, K: Tally>(
+    hall: &Stormy<M, K>,
+    passes: &mut Vec<Pass<M>>,
+    pass: Pass<M>,
+) -> Result<(), Fail>
+    requires own { All (λ p. p.hall ≡ hall.now.id) passes.old.items }
+    requires pass { pass.hall ≡ hall.now.id }
+    ensures { IfOk result (λ _. All (λ p. p.hall ≡ hall.now.id) passes.new.items) }
+{
+    passes.push(pass)?;
+    Ok(())
+}
+
+/// Closes a hall with its passes.
+pub(crate) fn closed<M: Tally, K: Tally>(
+    alloc: Global,
+    hall: Stormy<M, K>,
+    passes: Vec<Pass<M>>,
+) -> Result<Report, Fail>
+    requires ledgers { (M.all ≡ M.parts) × (K.all ≡ K.parts) }
+    requires own { All (λ p. p.hall ≡ hall.id) passes.items }
+{
+    match hall.close(alloc, passes) {
+        Ok(report) => Ok(report),
+        Err(_) => Err("the hall was not closed")?,
+    }
+}
