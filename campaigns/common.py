@@ -31,7 +31,7 @@ def text_of(plan):
 
 
 def some(rng, low, high, most):
-    """A rising list of at most so many numbers of a range."""
+    """A rising list of at most `most` numbers of a range."""
     return sorted(rng.sample(range(low, high + 1), min(high - low + 1, rng.randint(1, most))))
 
 
@@ -92,7 +92,7 @@ def ran(program, words, text=b"", limit=120):
 
 
 def campaign(what, case):
-    """Tries drawn cases until as many are tried, or so many minutes have passed; ends with 1 at the first difference."""
+    """Tries drawn cases until `count` are tried, or `minutes` have passed; ends with 1 at the first difference."""
     words = argparse.ArgumentParser(description=sys.modules["__main__"].__doc__)
     words.add_argument("--program", default=PROGRAM, help="the built program")
     words.add_argument("--seed", default="1", help="what the cases are drawn from")

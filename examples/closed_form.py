@@ -3,7 +3,7 @@
 
     cutlab run < two_failures.json | examples/closed_form.py
 
-It reads a table from standard input and looks at the lines with f = 2. The plan behind them has to let every
+It reads a table from standard input and looks at the lines with f = 2. Their plan has to let every
 observer speak ("faults": "crash", "dead": "speak"), with neither liars nor cut links, one copy of each alert and
 no implicit alerts. Then each of the two failed processes is reported on all K rings, and a receiver gets these 2K
 alerts in an order of which only one thing matters: which of the two each alert is about. Each of the
@@ -11,7 +11,7 @@ C(2K, K) orders is as likely as any other.
 
 Say A is the first to have H reports, and B has b of them then. Below L reports B is noise, and the receiver
 proposes A alone, a conflict; from L on B is unstable, and the receiver waits until B has H reports too. So there
-is a conflict exactly where b < L. The orders with that b have H - 1 alerts about A and b about B in front, in any
+is a conflict exactly where b < L. The orders with that b have H - 1 alerts about A and b about B at the beginning, in any
 order; then the one that makes A stable; then the K - H and K - b others, in any order:
 
     C(H - 1 + b, b) * C(2K - H - b, K - H)   of   C(2K, K)

@@ -1,6 +1,7 @@
 -- What the number of deaf targets changes in the roles of a trial: ways of failing that draw alike, and one deaf
 -- target more.
-use Rattle.std.proofs.Common.{◌≡◌, ◌≢◌, ℕ, ◌+◌, ◌-◌, ◌<◌, ◌≤◌, Bool, true, false, min, map, nat_lt, inl, inr, refl, sym, ap, ◌∙◌, arith, zero-add}
+use Rattle.std.proofs.Common.{◌≡◌, ◌≢◌, ℕ, ◌+◌, ◌-◌, ◌<◌, ◌≤◌, Bool, true, false, min, map, nat_lt, inl, inr, refl, sym}
+use Rattle.std.proofs.Common.{ap, ◌∙◌, arith, zero-add}
 use Rattle.std.specs.Prelude.{if◌then◌else◌}
 use Rattle.std.specs.List.{range_with_len}
 use Rattle.std.specs.Ordering.{nat_cmp}
@@ -9,7 +10,7 @@ use Rattle.std.proofs.lemmas.Cmp.{nat_cmp_total, then_total, on_total}
 use Rattle.std.proofs.lemmas.List.{get_or_past}
 use Rattle.std.proofs.lemmas.List.FromFn.{length-map-range_with_len, get_or-map-range_with_len}
 use Rattle.std.proofs.lemmas.Map.Lookups.{exact_unsigned, exact_pairs}
-use Rattle.cut_lists.proofs.RankOrders.{ranks-tell}
+use Rattle.cut_lists.proofs.RankOrders.{ranks-decide}
 use Rattle.cut_plan.specs.declared.failing.Failing.{Failing}
 use Rattle.cut_plan.specs.declared.failing.Failing.TheVariants.{Mixed}
 use Rattle.cut_plan.specs.Values.{Values}
@@ -26,19 +27,21 @@ use Rattle.cut_alerts.specs.Laws.{with_failing, drawn_with, DrawAlike, HasTurned
 
 -- ---- ways of failing that draw alike
 
--- the roles of a trial where so many of f targets are deaf
+-- the roles of a trial where this many of f targets are deaf
 abbrev drawn_by : Values → ℕ → Source → Layout → ℕ → Assignment
 drawn_by v f d r deaf = record {
   roles = map (λ p.
       if nat_lt (process_rank d v.nodes p) (f - deaf) then Crashed
       else (if nat_lt (process_rank d v.nodes p) f then Deaf
       else (if nat_lt (process_rank d v.nodes p) (f + v.liars) then Liar
-      else (if nat_lt (process_rank d v.nodes p) (f + v.liars + v.links) then LinkSource (subject_of r 0 p) else Healthy))))
+      else (if nat_lt (process_rank d v.nodes p) (f + v.liars + v.links) then LinkSource (subject_of r 0 p) else
+      Healthy))))
       (range_with_len 0 v.nodes);
   dead = v.dead;
 }
 
-pub draw_alike : (v : Values) (how other : Failing) (f : ℕ) (d : Source) (r : Layout) → deaf_among how f ≡ deaf_among other f → DrawAlike v how other f d r
+pub draw_alike : (v : Values) (how other : Failing) (f : ℕ) (d : Source) (r : Layout) → deaf_among how f
+    ≡ deaf_among other f → DrawAlike v how other f d r
 draw_alike v how other f d r same =
     let roles : drawn (with_failing v how) f d r ≡ drawn (with_failing v other) f d r = ap (drawn_by v f d r) same in
     record { roles = roles; alerts = λ k. ap (λ a. alert_list r a k) roles }
@@ -93,14 +96,23 @@ module _ (v : Values) (f : ℕ) (d : Source) (r : Layout) where
   -- one of a lower rank has crashed before and after
   lower_stays : (deaf p : ℕ) → rank p + deaf + 1 < f → role deaf p ≡ role (deaf + 1) p
   lower_stays deaf p low =
-      rw (lt-ltb (rank p) (f - min deaf f) (omega (arith, low)), lt-ltb (rank p) (f - min (deaf + 1) f) (omega (arith, low)))
+      rw (
+        lt-ltb (rank p) (f - min deaf f) (omega (arith, low)),
+        lt-ltb (rank p) (f - min (deaf + 1) f)
+            (omega (arith, low)),
+      )
 
   -- and one of a higher rank has not
   higher_stays : (deaf p : ℕ) → f < rank p + deaf + 1 → role deaf p ≡ role (deaf + 1) p
   higher_stays deaf p high =
-      rw (le-ltb (rank p) (f - min deaf f) (omega (arith, high)), le-ltb (rank p) (f - min (deaf + 1) f) (omega (arith, high)))
+      rw (
+        le-ltb (rank p) (f - min deaf f) (omega (arith, high)),
+        le-ltb (rank p) (f - min (deaf + 1) f)
+            (omega (arith, high)),
+      )
 
-  changed : (deaf p : ℕ) → role_at (drawn_with v deaf f d r) p ≢ role_at (drawn_with v (deaf + 1) f d r) p → HasTurned v deaf f d r p
+  changed : (deaf p : ℕ) → role_at (drawn_with v deaf f d r) p ≢ role_at (drawn_with v (deaf + 1) f d r) p
+      → HasTurned v deaf f d r p
   changed deaf p differs = elim (cases_lt p v.nodes) [
     | inl below ↦ (
         let same : (role deaf p ≡ role (deaf + 1) p) → ⊥ =
@@ -118,9 +130,10 @@ module _ (v : Values) (f : ℕ) (d : Source) (r : Layout) where
   one_turns : (deaf p q : ℕ) → HasTurned v deaf f d r p → HasTurned v deaf f d r q → p ≡ q
   one_turns deaf p q has also =
       let key : ℕ → ℕ = λ p. key_at d (process_place p) in
-      ranks-tell {R = compare_processes d} (then_total (on_total key nat_cmp_total) nat_cmp_total)
+      ranks-decide {R = compare_processes d} (then_total (on_total key nat_cmp_total) nat_cmp_total)
       (λ p q tied. ap (λ (x : ℕ × ℕ). x.1)
-      (exact_pairs nat_cmp nat_cmp exact_unsigned exact_unsigned (key p, p) (key q, q) tied)) v.nodes p q has.process also.process
+      (exact_pairs nat_cmp nat_cmp exact_unsigned exact_unsigned (key p, p) (key q, q) tied)) v.nodes p q has.process
+      also.process
       (omega (arith, has.rank, also.rank))
 
   pub turns_one : (deaf : ℕ) → TurnsOne v deaf f d r

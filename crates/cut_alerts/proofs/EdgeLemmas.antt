@@ -1,14 +1,18 @@
 -- Lists of edges that ascend by number, and how the list of alerted edges grows.
-use Rattle.std.proofs.Common.{add-one, ◌≡◌, ℕ, zero, suc, ◌+◌, ◌*◌, ◌<◌, ◌≤◌, ◌⊎◌, inl, inr, subst, get_or, Bool, true, false, cond, List, [], ◌∷◌, ◌++◌, length, length-append, zero-mul, map, filter, refl, sym, ap, ◌∙◌, arith, append_assoc, append-nil, nat_lt, ◌==◌, not}
+use Rattle.std.proofs.Common.{add-one, ◌≡◌, ℕ, zero, suc, ◌+◌, ◌*◌, ◌<◌, ◌≤◌, ◌⊎◌, inl, inr, subst, get_or, Bool, true}
+use Rattle.std.proofs.Common.{false, cond, List, [], ◌∷◌, ◌++◌, length, length-append, zero-mul, map, filter, refl, sym}
+use Rattle.std.proofs.Common.{ap, ◌∙◌, arith, append_assoc, append-nil, nat_lt, ◌==◌, not}
 use Rattle.std.proofs.lemmas.Bool.{ltb-true, and_parts, and_from, or_from, ne_eqb, lt-ltb}
 use Rattle.cut_lists.proofs.Ranges.{range_with_len_more}
 use Rattle.std.proofs.Math.Nat.{add-mul, eq-or-lt_of_le}
 use Rattle.std.specs.Prelude.{slice_index, ◌↔◌}
 use Rattle.std.specs.List.{Contains, range_with_len, flat_map, list_any, list_all}
 use Rattle.std.specs.List.Sorted.{IsStrictlyIncreasing}
-use Rattle.std.proofs.lemmas.List.FromFn.{filter_of_map_range_with_len_more, length-map-range_with_len, get_or-map-range_with_len}
+use Rattle.std.proofs.lemmas.List.FromFn.{filter_of_map_range_with_len_more, length-map-range_with_len}
+use Rattle.std.proofs.lemmas.List.FromFn.{get_or-map-range_with_len}
 use Rattle.std.proofs.lemmas.List.Sums.{AllPass-from_list_all, length-filter, count_by-le-length}
-use Rattle.std.proofs.lemmas.List.Elements.{filter-append, filter_passes, All-contains, Contains-append_left, Contains-append_right}
+use Rattle.std.proofs.lemmas.List.Elements.{filter-append, filter_passes, All-contains, Contains-append_left}
+use Rattle.std.proofs.lemmas.List.Elements.{Contains-append_right}
 use Rattle.std.proofs.lemmas.List.Concat.{flat_map-append}
 use Rattle.std.proofs.lemmas.List.Folds.{list_all-append}
 use Rattle.cut_rings.specs.declared.edge.Edge.{Edge}
@@ -20,17 +24,20 @@ abbrev pub edge : ℕ → ℕ → Edge
 edge ring s = record { ring = ring; subject = s }
 
 -- one more ring of a subject, where its edge passes the test
-pub kept_more : (test : Edge → Bool) (s ring : ℕ) (base ys : List Edge) → test (edge ring s) ≡ true → ys ≡ base ++ filter test (edges_of ring s) → ys ++ edge ring s ∷ [] ≡ base ++ filter test (edges_of (ring + 1) s)
+pub kept_more : (test : Edge → Bool) (s ring : ℕ) (base ys : List Edge) → test (edge ring s) ≡ true → ys ≡ base
+    ++ filter test (edges_of ring s) → ys ++ edge ring s ∷ [] ≡ base ++ filter test (edges_of (ring + 1) s)
 kept_more test s ring base ys passes is =
     let more = filter_of_map_range_with_len_more test (λ k. edge k s) 0 ring ring (omega arith) in
-    let one : cond (test (edge ring s)) (edge ring s ∷ []) [] ≡ edge ring s ∷ [] = ap (λ b. cond b (edge ring s ∷ []) []) passes in
+    let one : cond (test (edge ring s)) (edge ring s ∷ []) [] ≡ edge ring s
+    ∷ [] = ap (λ b. cond b (edge ring s ∷ []) []) passes in
     ap (λ zs. zs ++ edge ring s ∷ []) is
     ∙ append_assoc base (filter test (edges_of ring s)) (edge ring s ∷ [])
     ∙ ap (λ zs. base ++ (filter test (edges_of ring s) ++ zs)) (sym one)
     ∙ ap (λ zs. base ++ zs) (sym more)
 
 -- one more ring of a subject, where its edge does not
-pub skipped_more : (test : Edge → Bool) (s ring : ℕ) (base ys : List Edge) → test (edge ring s) ≡ false → ys ≡ base ++ filter test (edges_of ring s) → ys ≡ base ++ filter test (edges_of (ring + 1) s)
+pub skipped_more : (test : Edge → Bool) (s ring : ℕ) (base ys : List Edge) → test (edge ring s) ≡ false → ys ≡ base
+    ++ filter test (edges_of ring s) → ys ≡ base ++ filter test (edges_of (ring + 1) s)
 skipped_more test s ring base ys fails is =
     let more = filter_of_map_range_with_len_more test (λ k. edge k s) 0 ring ring (omega arith) in
     let none : cond (test (edge ring s)) (edge ring s ∷ []) [] ≡ [] = ap (λ b. cond b (edge ring s ∷ []) []) fails in
@@ -46,7 +53,8 @@ all_edges_more k s =
     ∙ ap (λ ys. all_edges k s ++ ys) (append-nil (edges_of k s))
 
 -- the alerted edges of one more subject
-pub subject_more : (test : Edge → Bool) (k s : ℕ) (ys zs : List Edge) → ys ≡ filter test (all_edges k s) → zs ≡ ys ++ filter test (edges_of k s) → zs ≡ filter test (all_edges k (s + 1))
+pub subject_more : (test : Edge → Bool) (k s : ℕ) (ys zs : List Edge) → ys ≡ filter test (all_edges k s) → zs ≡ ys
+    ++ filter test (edges_of k s) → zs ≡ filter test (all_edges k (s + 1))
 subject_more test k s ys zs is more =
     more ∙ ap (λ es. es ++ filter test (edges_of k s)) is
     ∙ sym (filter-append test (all_edges k s) (edges_of k s))
@@ -64,35 +72,47 @@ list_all-filter p q (x ∷ xs) h =
       | false ↦ rest
     ]
 
-edges_within : (k n s a j : ℕ) → a + j ≤ k → s < n → list_all (λ e. is_edge_of k n e) (map (λ ring. edge ring s) (range_with_len a j)) ≡ true
+edges_within : (k n s a j : ℕ) → a + j ≤ k → s < n
+    → list_all (λ e. is_edge_of k n e) (map (λ ring. edge ring s) (range_with_len a j)) ≡ true
 edges_within k n s a zero fits below = refl
 edges_within k n s a (suc j) fits below =
     let rest = edges_within k n s (a + 1) j (omega arith) below in
-    let here : is_edge_of k n (edge a s) ≡ true = and_from (nat_lt a k) (nat_lt s n) (lt-ltb a k (omega arith)) (lt-ltb s n below) in
-    and_from (is_edge_of k n (edge a s)) (list_all (λ e. is_edge_of k n e) (map (λ ring. edge ring s) (range_with_len (a + 1) j))) here rest
+    let here : is_edge_of k n (edge a s) ≡ true = and_from (nat_lt a k) (nat_lt s n) (lt-ltb a k (omega arith))
+    (lt-ltb s n below) in
+    and_from (is_edge_of k n (edge a s)) (list_all (λ e. is_edge_of k n e)
+    (map (λ ring. edge ring s) (range_with_len (a + 1) j))) here rest
 
-subjects_within : (k n a m : ℕ) → a + m ≤ n → list_all (λ e. is_edge_of k n e) (flat_map (λ s. edges_of k s) (range_with_len a m)) ≡ true
+subjects_within : (k n a m : ℕ) → a + m ≤ n → list_all (λ e. is_edge_of k n e)
+    (flat_map (λ s. edges_of k s) (range_with_len a m)) ≡ true
 subjects_within k n a zero fits = refl
 subjects_within k n a (suc m) fits =
     let rest = subjects_within k n (a + 1) m (omega arith) in
     let here = edges_within k n a 0 k (omega arith) (omega arith) in
     list_all-append (λ e. is_edge_of k n e) (edges_of k a) (flat_map (λ s. edges_of k s) (range_with_len (a + 1) m))
-    ∙ and_from (list_all (λ e. is_edge_of k n e) (edges_of k a)) (list_all (λ e. is_edge_of k n e) (flat_map (λ s. edges_of k s) (range_with_len (a + 1) m))) here rest
+    ∙ and_from (list_all (λ e. is_edge_of k n e) (edges_of k a))
+    (list_all (λ e. is_edge_of k n e) (flat_map (λ s. edges_of k s) (range_with_len (a + 1) m))) here rest
 
 -- edges that pass a test are edges of their rings and processes
 pub within_all : (test : Edge → Bool) (k m n : ℕ) → m ≤ n → are_edges_of k n (filter test (all_edges k m)) ≡ true
-within_all test k m n fits = list_all-filter (λ e. is_edge_of k n e) test (all_edges k m) (subjects_within k n 0 m (omega arith))
+within_all test k m n fits = list_all-filter (λ e. is_edge_of k n e) test (all_edges k m)
+    (subjects_within k n 0 m (omega arith))
 
 -- there are no more than there are processes times rings
 length-subjects : (k a m : ℕ) → length (flat_map (λ s. edges_of k s) (range_with_len a m)) ≡ m * k
 length-subjects k a zero = sym (zero-mul k)
 length-subjects k a (suc m) =
     length-append (edges_of k a) (flat_map (λ s. edges_of k s) (range_with_len (a + 1) m))
-    ∙ ap (λ n. n + length (flat_map (λ s. edges_of k s) (range_with_len (a + 1) m))) (length-map-range_with_len (λ ring. edge ring a) 0 k)
+    ∙ ap (λ n. n + length (flat_map (λ s. edges_of k s) (range_with_len (a + 1) m)))
+    (length-map-range_with_len (λ ring. edge ring a) 0 k)
     ∙ ap (λ n. k + n) (length-subjects k (a + 1) m) ∙ omega arith
 
 pub few_all : (test : Edge → Bool) (k n : ℕ) → length (filter test (all_edges k n)) ≤ n * k
-few_all test k n = omega (arith, length-filter test (all_edges k n), count_by-le-length test (all_edges k n), length-subjects k 0 n)
+few_all test k n = omega (
+  arith,
+  length-filter test (all_edges k n),
+  count_by-le-length test (all_edges k n),
+  length-subjects k 0 n,
+)
 
 -- ---- edges that ascend by number
 
@@ -115,11 +135,16 @@ Ascends-filter test k low (e ∷ es) up =
     ]
 
 -- the edges of a subject ascend up to those of the next, which follow them
-Ascends-edges : (k s a j : ℕ) (es : List Edge) → a + j ≤ k → Ascends k (s * k + a + j) es → Ascends k (s * k + a) (map (λ ring. edge ring s) (range_with_len a j) ++ es)
+Ascends-edges : (k s a j : ℕ) (es : List Edge) → a + j ≤ k → Ascends k (s * k + a + j) es
+    → Ascends k (s * k + a) (map (λ ring. edge ring s) (range_with_len a j) ++ es)
 Ascends-edges k s a zero es fits up = Ascends-lower k (s * k + a + 0) (s * k + a) es (omega arith) up
 Ascends-edges k s a (suc j) es fits up =
-    let rest = Ascends-edges k s (a + 1) j es (omega arith) (Ascends-lower k (s * k + a + suc j) (s * k + (a + 1) + j) es (omega arith) up) in
-    (omega arith, Ascends-lower k (s * k + (a + 1)) (s * k + a + 1) (map (λ ring. edge ring s) (range_with_len (a + 1) j) ++ es) (omega arith) rest)
+    let rest = Ascends-edges k s (a + 1) j es (omega arith)
+    (Ascends-lower k (s * k + a + suc j) (s * k + (a + 1) + j) es (omega arith) up) in (
+      omega arith,
+      Ascends-lower k (s * k + (a + 1)) (s * k + a + 1)
+          (map (λ ring. edge ring s) (range_with_len (a + 1) j) ++ es) (omega arith) rest,
+    )
 
 Ascends-subjects : (k a m : ℕ) → Ascends k (a * k) (flat_map (λ s. edges_of k s) (range_with_len a m))
 Ascends-subjects k a zero = tt
@@ -127,13 +152,16 @@ Ascends-subjects k a (suc m) =
     let others = flat_map (λ s. edges_of k s) (range_with_len (a + 1) m) in
     let rest = Ascends-subjects k (a + 1) m in
     Ascends-lower k (a * k + 0) (a * k) (edges_of k a ++ others) (omega arith)
-    (Ascends-edges k a 0 k others (omega arith) (Ascends-lower k ((a + 1) * k) (a * k + 0 + k) others (omega (arith, add-mul)) rest))
+    (Ascends-edges k a 0 k others (omega arith) (Ascends-lower k ((a + 1) * k) (a * k + 0 + k) others
+    (omega (arith, add-mul)) rest))
 
-not_among : (k n low : ℕ) (es : List Edge) → n < low → Ascends k low es → list_any (λ x. edge_number k x == n) es ≡ false
+not_among : (k n low : ℕ) (es : List Edge) → n < low → Ascends k low es → list_any (λ x. edge_number k x == n) es
+    ≡ false
 not_among k n low [] below up = refl
 not_among k n low (e ∷ es) below up =
     let here : (edge_number k e == n) ≡ false = ne_eqb (edge_number k e) n (λ q. omega (arith, up.0)) in
-    or_from (edge_number k e == n) (list_any (λ x. edge_number k x == n) es) here (not_among k n (edge_number k e + 1) es (omega (arith, up.0)) up.1)
+    or_from (edge_number k e == n) (list_any (λ x. edge_number k x == n) es) here
+    (not_among k n (edge_number k e + 1) es (omega (arith, up.0)) up.1)
 
 distinct_from_ascends : (k low : ℕ) (es : List Edge) → Ascends k low es → are_distinct k es ≡ true
 distinct_from_ascends k low [] up = refl
@@ -144,29 +172,35 @@ distinct_from_ascends k low (e ∷ es) up =
 
 -- the edges that pass a test ascend by number
 pub ascends_all : (test : Edge → Bool) (k n : ℕ) → Ascends k 0 (filter test (all_edges k n))
-ascends_all test k n = Ascends-filter test k 0 (all_edges k n) (Ascends-lower k (0 * k) 0 (all_edges k n) (omega arith) (Ascends-subjects k 0 n))
+ascends_all test k n = Ascends-filter test k 0 (all_edges k n)
+    (Ascends-lower k (0 * k) 0 (all_edges k n) (omega arith) (Ascends-subjects k 0 n))
 
 -- so no two of them have one number
 pub distinct_all : (test : Edge → Bool) (k n : ℕ) → are_distinct k (filter test (all_edges k n)) ≡ true
 distinct_all test k n = distinct_from_ascends k 0 (filter test (all_edges k n)) (ascends_all test k n)
 
-increasing_at : (k low : ℕ) (es : List Edge) → Ascends k low es → (i : ℕ) → suc i < length (map (λ e. edge_number k e) es) → slice_index (map (λ e. edge_number k e) es) i < slice_index (map (λ e. edge_number k e) es) (suc i)
+increasing_at : (k low : ℕ) (es : List Edge) → Ascends k low es → (i : ℕ) → suc i
+    < length (map (λ e. edge_number k e) es) → slice_index (map (λ e. edge_number k e) es) i
+    < slice_index (map (λ e. edge_number k e) es) (suc i)
 increasing_at k low [] up i within = omega arith
 increasing_at k low (e ∷ []) up i within = omega arith
 increasing_at k low (e ∷ f ∷ es) up zero within = omega (arith, up.1.0)
 increasing_at k low (e ∷ f ∷ es) up (suc i) within = increasing_at k (edge_number k e + 1) (f ∷ es) up.1 i (omega arith)
 
 -- and their numbers increase
-pub increasing_all : (test : Edge → Bool) (k n : ℕ) → IsStrictlyIncreasing (map (λ e. edge_number k e) (filter test (all_edges k n)))
+pub increasing_all : (test : Edge → Bool) (k n : ℕ)
+    → IsStrictlyIncreasing (map (λ e. edge_number k e) (filter test (all_edges k n)))
 increasing_all test k n i within =
     rw (add-one i) (increasing_at k 0 (filter test (all_edges k n)) (ascends_all test k n) i (omega (arith, within)))
 
 -- ---- which edges there are
 
-kept_at : (test : Edge → Bool) (es : List Edge) (e : Edge) (i : ℕ) → i < length es → get_or es i e ≡ e → test e ≡ true → Contains (filter test es) e
+kept_at : (test : Edge → Bool) (es : List Edge) (e : Edge) (i : ℕ) → i < length es → get_or es i e ≡ e → test e ≡ true
+    → Contains (filter test es) e
 kept_at test [] e i within at passes = absurd (omega arith)
 kept_at test (x ∷ xs) e zero within at passes =
-    subst (λ b. Contains (cond b (x ∷ filter test xs) (filter test xs)) e) (sym (ap test at ∙ passes)) (0, omega arith, at)
+    subst (λ b. Contains (cond b (x ∷ filter test xs) (filter test xs)) e) (sym (ap test at ∙ passes))
+    (0, omega arith, at)
 kept_at test (x ∷ xs) e (suc i) within at passes =
     let rest = kept_at test xs e i (omega arith) at passes in
     elim (test x) as (λ b. Contains (cond b (x ∷ filter test xs) (filter test xs)) e) [
@@ -174,21 +208,26 @@ kept_at test (x ∷ xs) e (suc i) within at passes =
       | false ↦ rest
     ]
 
-subjects_have : (k a m : ℕ) (e : Edge) → e.ring < k → a ≤ e.subject → e.subject < a + m → Contains (flat_map (λ s. edges_of k s) (range_with_len a m)) e
+subjects_have : (k a m : ℕ) (e : Edge) → e.ring < k → a ≤ e.subject → e.subject < a + m
+    → Contains (flat_map (λ s. edges_of k s) (range_with_len a m)) e
 subjects_have k a zero e on_ring low high = absurd (omega arith)
-subjects_have k a (suc m) e on_ring low high = by (λ later. subjects_have k (a + 1) m e on_ring later (omega arith)) (eq-or-lt_of_le low)
+subjects_have k a (suc m) e on_ring low high = by (λ later. subjects_have k (a + 1) m e on_ring later (omega arith))
+    (eq-or-lt_of_le low)
   where
     others : List Edge
     others = flat_map (λ s. edges_of k s) (range_with_len (a + 1) m)
 
-    by : (a + 1 ≤ e.subject → Contains others e) → (a ≡ e.subject) ⊎ (a < e.subject) → Contains (edges_of k a ++ others) e
+    by : (a + 1 ≤ e.subject → Contains others e) → (a ≡ e.subject) ⊎ (a < e.subject)
+        → Contains (edges_of k a ++ others) e
     by rest (inl same) =
         let long : length (edges_of k a) ≡ k = length-map-range_with_len (λ ring. edge ring a) 0 k in
-        let at : get_or (edges_of k a) e.ring e ≡ edge e.ring a = get_or-map-range_with_len (λ ring. edge ring a) 0 k e.ring e.ring e on_ring (omega arith) in
+        let at : get_or (edges_of k a) e.ring e ≡ edge e.ring a = get_or-map-range_with_len (λ ring. edge ring a) 0 k
+        e.ring e.ring e on_ring (omega arith) in
         Contains-append_left (edges_of k a) others e (e.ring, omega arith, at ∙ ap (edge e.ring) same)
     by rest (inr later) = Contains-append_right (edges_of k a) others e (rest (omega arith))
 
-pub member_all : (test : Edge → Bool) (k n : ℕ) (e : Edge) → Contains (filter test (all_edges k n)) e ↔ ((e.ring < k) × (e.subject < n) × (test e ≡ true))
+pub member_all : (test : Edge → Bool) (k n : ℕ) (e : Edge) → Contains (filter test (all_edges k n)) e
+    ↔ ((e.ring < k) × (e.subject < n) × (test e ≡ true))
 member_all test k n e = (to, from)
   where
     found : List Edge
@@ -196,9 +235,14 @@ member_all test k n e = (to, from)
 
     to : Contains found e → (e.ring < k) × (e.subject < n) × (test e ≡ true)
     to has =
-        let in_range = All-contains (λ x. is_edge_of k n x ≡ true) found e (AllPass-from_list_all (λ x. is_edge_of k n x) found (within_all test k n n (omega arith))) has in
-        let parts = and_parts (nat_lt e.ring k) (nat_lt e.subject n) in_range in
-        (ltb-true e.ring k parts.0, ltb-true e.subject n parts.1, All-contains (λ x. test x ≡ true) found e (filter_passes test (all_edges k n)) has)
+        let in_range = All-contains (λ x. is_edge_of k n x ≡ true) found e
+        (AllPass-from_list_all (λ x. is_edge_of k n x) found (within_all test k n n (omega arith))) has in
+        let parts = and_parts (nat_lt e.ring k) (nat_lt e.subject n) in_range in (
+          ltb-true e.ring k parts.0,
+          ltb-true e.subject n parts.1,
+          All-contains (λ x. test x ≡ true) found e
+              (filter_passes test (all_edges k n)) has,
+        )
 
     from : (e.ring < k) × (e.subject < n) × (test e ≡ true) → Contains found e
     from is =

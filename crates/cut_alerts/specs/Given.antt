@@ -1,5 +1,6 @@
 -- The roles that lists of targets, liars and cut links give (this project's profile).
-use Rattle.std.specs.Prelude.{◌≢◌, ℕ, ◌<◌, ◌≤◌, ◌==◌, ◌&&◌, ◌++◌, Bool, not, List, [], map, count_by, nat_lt, nat_le, unwrap_or, option_map, if◌then◌else◌}
+use Rattle.std.specs.Prelude.{◌≢◌, ℕ, ◌<◌, ◌≤◌, ◌==◌, ◌&&◌, ◌++◌, Bool, not, List, [], map, count_by, nat_lt, nat_le}
+use Rattle.std.specs.Prelude.{unwrap_or, option_map, if◌then◌else◌}
 use Rattle.std.specs.List.{All, list_any, list_all, find, range_with_len}
 use Rattle.cut_plan.specs.declared.dead.Dead.{Dead}
 use Rattle.cut_plan.specs.declared.faults.Faults.{Faults}
@@ -21,7 +22,7 @@ abbrev pub times_named : List ℕ → List ℕ → List (ℕ × ℕ) → ℕ →
 times_named targets liars links p = count_by (λ q. q == p) (all_named targets liars links)
 
 -- lists that give each of n processes one role
-pub record IsLegal (n : ℕ) (targets liars : List ℕ) (links : List (ℕ × ℕ)) : Type 0 where
+pub record AreLegalLists (n : ℕ) (targets liars : List ℕ) (links : List (ℕ × ℕ)) : Type 0 where
   -- a process that is named is one of the n
   pub in_range : All (λ p. p < n) (all_named targets liars links)
   -- none of them is named twice

@@ -1,4 +1,5 @@
-ghost use Rattle.std.specs.Prelude.{◌≡◌, ◌≤◌, ◌<◌, ◌↔◌, ◌++◌, ◌*◌, [], ℕ, length, map, filter, Contains, IfOk, OnOk, OnErr, IsTrue};
+ghost use Rattle.std.specs.Prelude.{◌≡◌, ◌≤◌, ◌<◌, ◌↔◌, ◌++◌, ◌*◌, [], ℕ, length, map, filter, Contains, IfOk, OnOk};
+ghost use Rattle.std.specs.Prelude.{OnErr, IsTrue};
 ghost use Rattle.std.specs.List.Sorted.{IsStrictlyIncreasing};
 ghost use Rattle.cut_rings.specs.Edges.{are_edges_of, edge_number, edges_in, set_of};
 ghost use Rattle.cut_draws.specs.DeliveryOrder.{are_distinct};
@@ -32,7 +33,7 @@ pub fn is_alert(rings: &Rings, roles: &Roles, edge: Edge) -> bool
 }
 
 /// The alerted edges of the first `k` rings, in strictly ascending order of edge number.
-/// Fails only for want of memory.
+/// Fails only where memory runs out.
 pub fn alerts(alloc: Global, rings: &Rings, k: u8, roles: &Roles) -> Result<Vec<Edge>, AllocError>
     requires rings { k ≤ length rings.now.positions }
     requires nodes { length roles.now.roles ≡ rings.now.nodes }
@@ -54,7 +55,7 @@ pub fn alerts(alloc: Global, rings: &Rings, k: u8, roles: &Roles) -> Result<Vec<
 }
 
 /// Puts the alerted edges of the first `k` rings into a list, as `alerts` gives them, in place of what
-/// it held. Fails only for want of memory, and the list is empty then.
+/// it held. Fails only where memory runs out, and the list is empty then.
 pub fn alerts_into(
     edges: &mut Vec<Edge>,
     rings: &Rings,

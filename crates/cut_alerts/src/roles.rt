@@ -3,7 +3,7 @@ ghost use Rattle.cut_plan.specs.Cells.{IsCellOf};
 ghost use Rattle.cut_draws.specs.ProcessOrder.{IsProcessOrder};
 ghost use Rattle.cut_alerts.specs.Assignment.{role_at, is_target, is_cut};
 ghost use Rattle.cut_alerts.specs.Drawn.{drawn, ranked_role};
-ghost use Rattle.cut_alerts.specs.Given.{given, given_mixed, IsLegal};
+ghost use Rattle.cut_alerts.specs.Given.{given, given_mixed, AreLegalLists};
 
 use crate::given::{are_legal, given_roles};
 use crate::{Role, RolesFault};
@@ -47,7 +47,7 @@ impl Roles {
     /// The roles that a trial of a cell draws: the processes of least rank by the trial's keys are the
     /// targets, of which the last `plan.deaf_of(cell.f)` are deaf while the others have crashed; the
     /// next ones are the liars, the next ones the sources of cut links (this project's profile). Fails
-    /// only for want of memory.
+    /// only where memory runs out.
     pub fn of_trial(
         alloc: Global,
         plan: &Plan,
@@ -68,7 +68,7 @@ impl Roles {
 
     /// Puts the roles that a trial of a cell draws, as `of_trial` gives them, in place of other roles,
     /// in the memory that these and the order have. The order is left as that of the trial's processes.
-    /// Fails only for want of memory: the roles are as they were then, and the order is empty or that of
+    /// Fails only where memory runs out: the roles are as they were then, and the order is empty or that of
     /// the trial's processes.
     pub fn draw(
         &mut self,
@@ -113,9 +113,9 @@ impl Roles {
     ) -> Result<Roles, RolesFault>
         ensures given { IfOk result
             (λ r. r ≡ given nodes targets.now liars.now links.now faults dead) }
-        ensures legal { OnOk result (IsLegal nodes targets.now liars.now links.now) }
+        ensures legal { OnOk result (AreLegalLists nodes targets.now liars.now links.now) }
         ensures bad_role { IsErrOf result RolesFault.BadRole
-            ↔ ¬ IsLegal nodes targets.now liars.now links.now }
+            ↔ ¬ AreLegalLists nodes targets.now liars.now links.now }
     {
         match faults {
             Faults::Crash => Roles::given_mixed(alloc, nodes, targets, &[], liars, links, dead),
@@ -137,9 +137,9 @@ impl Roles {
     ) -> Result<Roles, RolesFault>
         ensures given { IfOk result
             (λ r. r ≡ given_mixed nodes crashed.now deaf.now liars.now links.now dead) }
-        ensures legal { OnOk result (IsLegal nodes (crashed.now ++ deaf.now) liars.now links.now) }
+        ensures legal { OnOk result (AreLegalLists nodes (crashed.now ++ deaf.now) liars.now links.now) }
         ensures bad_role { IsErrOf result RolesFault.BadRole
-            ↔ ¬ IsLegal nodes (crashed.now ++ deaf.now) liars.now links.now }
+            ↔ ¬ AreLegalLists nodes (crashed.now ++ deaf.now) liars.now links.now }
     {
         if !are_legal(nodes, crashed, deaf, liars, links) {
             return Err(RolesFault::BadRole);

@@ -1,5 +1,6 @@
 -- A rising change that takes one time of each element of a list to another.
-use Rattle.std.proofs.Common.{◌≡◌, inl, inr, ℕ, ◌-◌, ◌<◌, ◌≤◌, cond, nat_le, nat_lt, List, map, length, get_or, max, fold, ap, ◌∙◌, arith}
+use Rattle.std.proofs.Common.{◌≡◌, inl, inr, ℕ, ◌-◌, ◌<◌, ◌≤◌, cond, nat_le, nat_lt, List, map, length, get_or, max}
+use Rattle.std.proofs.Common.{fold, ap, ◌∙◌, arith}
 use Rattle.std.specs.List.{All, Contains}
 use Rattle.std.proofs.lemmas.Bool.{cases_lt, le-leb, le-ltb, lt-leb, lt-ltb}
 use Rattle.std.proofs.lemmas.List.{length-map, get_or-map}
@@ -31,7 +32,8 @@ module _ {X : Type 0} (xs : List X) (place image : X → ℕ) (end last : ℕ) w
       fold_max-le 0 m (map (seen t) xs) (omega arith) (All-map (λ v. v ≤ m) (seen t) xs (λ k d within.
       let y : X = get_or xs k d in
       elim (cases_lt t (place y)) [
-        | inl later ↦ (let none : seen t y ≡ 0 = ap (λ b. cond b (image y) 0) (lt-leb (place y) t later) in omega (arith, none))
+        | inl later ↦ (let none : seen t y ≡ 0 = ap (λ b. cond b (image y) 0) (lt-leb (place y) t later)
+            in omega (arith, none))
         | inr come ↦ (let it : seen t y ≡ image y = ap (λ b. cond b (image y) 0) (le-leb (place y) t come) in
             omega (arith, it, each y (Contains-get_or xs k d within) come))
       ]))
@@ -40,7 +42,8 @@ module _ {X : Type 0} (xs : List X) (place image : X → ℕ) (end last : ℕ) w
   le_greatest t y at come =
       let long : length (map (seen t) xs) ≡ length xs = length-map xs (seen t) in
       let is : get_or (map (seen t) xs) at.0 0 ≡ image y =
-      get_or-map (seen t) xs at.0 y 0 at.1 ∙ ap (seen t) at.2 ∙ ap (λ b. cond b (image y) 0) (le-leb (place y) t come) in
+      get_or-map (seen t) xs at.0 y 0 at.1 ∙ ap (seen t) at.2 ∙ ap (λ b. cond b (image y) 0) (le-leb (place y) t come)
+      in
       omega (arith, is, get_or-le-fold_max 0 (map (seen t) xs) at.0 0 (omega (arith, long, at.1)))
 
   change_in : (t : ℕ) → t < end → change t ≡ greatest t
@@ -51,14 +54,16 @@ module _ {X : Type 0} (xs : List X) (place image : X → ℕ) (end last : ℕ) w
 
   change_before : LieAlike xs place image end last → (t : ℕ) → t < end → change t < last
   change_before lie t less =
-      let low : greatest t ≤ last - 1 = greatest_le t (last - 1) (λ y _ _. let below : image y < last = lie.below y in omega (arith, below)) in
+      let low : greatest t ≤ last - 1 = greatest_le t (last - 1)
+      (λ y _ _. let below : image y < last = lie.below y in omega (arith, below)) in
       omega (arith, change_in t less, low, lie.some)
 
   pub change_rises : LieAlike xs place image end last → IsRising end last change
   change_rises lie = record {
     rises = λ a b before. elim (cases_lt b end) [
       | inl less ↦ (
-          let more : greatest a ≤ greatest b = greatest_le a (greatest b) (λ y at come. le_greatest b y at (omega (arith, come, before))) in
+          let more : greatest a ≤ greatest b = greatest_le a (greatest b)
+          (λ y at come. le_greatest b y at (omega (arith, come, before))) in
           omega (arith, more, change_in a (omega (arith, less, before)), change_in b less))
       | inr past ↦ elim (cases_lt a end) [
         | inl less ↦ (let low : change a < last = change_before lie a less in omega (arith, low, change_past b past))
@@ -72,6 +77,7 @@ module _ {X : Type 0} (xs : List X) (place image : X → ℕ) (end last : ℕ) w
   pub change_is : LieAlike xs place image end last → (y : X) → Contains xs y → change (place y) ≡ image y
   change_is lie y at =
       let less : place y < end = All-contains (λ x. place x < end) xs y lie.before at in
-      let low : greatest (place y) ≤ image y = greatest_le (place y) (image y) (λ z other come. lie.alike y z at other come) in
+      let low : greatest (place y) ≤ image y = greatest_le (place y) (image y)
+      (λ z other come. lie.alike y z at other come) in
       let high : image y ≤ greatest (place y) = le_greatest (place y) y at (omega arith) in
       change_in (place y) less ∙ (let same : greatest (place y) ≡ image y = omega (arith, low, high) in same)

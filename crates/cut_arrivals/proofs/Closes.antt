@@ -1,7 +1,10 @@
 -- The closing time and the first settled time.
-use Rattle.std.proofs.Common.{◌≡◌, inl, inr, ℕ, ◌+◌, ◌-◌, ◌<◌, ◌≤◌, ◌==◌, Bool, true, false, cond, ◌&&◌, not, nat_le, nat_lt, List, length, get_or, Option, Some, None, MatchOption, option_map, refl, ap, sym, ◌∙◌, arith}
+use Rattle.std.proofs.Common.{◌≡◌, inl, inr, ℕ, ◌+◌, ◌-◌, ◌<◌, ◌≤◌, ◌==◌, Bool, true, false, cond, ◌&&◌, not, nat_le}
+use Rattle.std.proofs.Common.{nat_lt, List, length, get_or, Option, Some, None, MatchOption, option_map, refl, ap, sym}
+use Rattle.std.proofs.Common.{◌∙◌, arith}
 use Rattle.std.specs.List.{count_by, find, list_any, range_with_len}
-use Rattle.std.proofs.lemmas.Bool.{and_from, and_parts, both_ways, cases_Bool, cases_lt, eq-eqb, eqb-true, le-leb, le-ltb, leb-true, lt-leb, lt-ltb, ltb-true, or_left, or_right}
+use Rattle.std.proofs.lemmas.Bool.{and_from, and_parts, both_ways, cases_Bool, cases_lt, eq-eqb, eqb-true, le-leb}
+use Rattle.std.proofs.lemmas.Bool.{le-ltb, leb-true, lt-leb, lt-ltb, ltb-true, or_left, or_right}
 use Rattle.std.proofs.lemmas.List.{length-map, get_or-map, get_or_default}
 use Rattle.std.proofs.lemmas.List.Folds.{list_any_at}
 use Rattle.cut_lists.proofs.Firsts.{NonePasses, IsFirst, found_first}
@@ -26,11 +29,13 @@ pub settled-is : (n : ℕ) (low high : ℕ → ℕ) (t : ℕ) → is_settled_by 
 settled-is n low high t e =
     let parts = and_parts (list_any (λ s. nat_le (high s) t) (range_with_len 0 n)) _ e in
     let at = passing (λ s. nat_le (high s) t) 0 n parts.0 in
-    let none : list_any (λ s. nat_le (low s) t && nat_lt t (high s)) (range_with_len 0 n) ≡ false = not_true _ parts.1 in
+    let none : list_any (λ s. nat_le (low s) t && nat_lt t (high s)) (range_with_len 0 n) ≡ false = not_true _ parts.1
+    in
     record {
       some = (at.0, (let w = at.1.below in omega arith), leb-true _ _ at.1.passes);
       others = λ s process come. elim (cases_lt t (high s)) [
-        | inl not_yet ↦ absurd (both_ways _ (none_passing (λ s. nat_le (low s) t && nat_lt t (high s)) 0 n s none (omega arith) (omega (arith, process)))
+        | inl not_yet ↦ absurd (both_ways _ (none_passing (λ s. nat_le (low s) t && nat_lt t (high s)) 0 n s none
+            (omega arith) (omega (arith, process)))
             (and_from _ _ (le-leb _ _ come) (lt-ltb _ _ not_yet)))
         | inr by_then ↦ by_then
       ];
@@ -93,31 +98,37 @@ record NoDoubt (lows : List ℕ) (first time : ℕ) : Type 0 where
   apart : (u : ℕ) → u < length lows → first < time → get_or lows u 0 ≡ time → ⊥
 
 no_doubt : (lows : List ℕ) (first time : ℕ) → is_doubtful lows first time ≡ false → NoDoubt lows first time
-no_doubt lows first time sure = record {
-  alone = λ u v before within one other. both_ways (is_doubtful lows first time) sure
+no_doubt lows first time certain = record {
+  alone = λ u v before within one other. both_ways (is_doubtful lows first time) certain
       (or_left (nat_lt 1 (count_by (λ x. x == first) lows)) _
       (lt-ltb 1 (count_by (λ x. x == first) lows)
-      (let two : 2 ≤ count_by (λ x. x == first) lows = two_pass (λ x. x == first) lows u v 0 before within (eq-eqb _ _ one) (eq-eqb _ _ other) in omega (arith, two))));
-  apart = λ u within late at. both_ways (is_doubtful lows first time) sure
+      (let two : 2 ≤ count_by (λ x. x == first) lows = two_pass (λ x. x == first) lows u v 0 before within
+      (eq-eqb _ _ one) (eq-eqb _ _ other) in omega (arith, two))));
+  apart = λ u within late at. both_ways (is_doubtful lows first time) certain
       (or_right (nat_lt 1 (count_by (λ x. x == first) lows)) _
       (and_from _ _ (lt-ltb first time late) (list_any_at (λ x. x == time) lows u 0 within (eq-eqb _ _ at))));
 }
 
 -- ---- closed times
 
-module _ (n count last : ℕ) (low high tau : ℕ → ℕ) (lows highs : List ℕ) (first time : ℕ) (rising : IsRising (count + 1) last tau) (times : AreTimes n (count + 1) low high) (closed : IsClosed n last (λ s. tau (low s)) (λ s. tau (high s)) lows highs first time) where
+module _ (n count last : ℕ) (low high tau : ℕ → ℕ) (lows highs : List ℕ) (first time : ℕ)
+    (rising : IsRising (count + 1) last tau) (times : AreTimes n (count + 1) low high)
+    (closed : IsClosed n last (λ s. tau (low s)) (λ s. tau (high s)) lows highs first time) where
   abbrev nodes : List ℕ
   nodes = closed.nodes.0
 
   -- where a process stands that begins in time
-  place : (s : ℕ) → s < n → tau (low s) < last → (u : ℕ) × StandsAt (λ s. tau (low s)) (λ s. tau (high s)) nodes lows highs s u
-  place s process early = stands n last (λ s. tau (low s)) (λ s. tau (high s)) nodes lows highs closed.nodes.1 s process early
+  place : (s : ℕ) → s < n → tau (low s) < last → (u : ℕ)
+      × StandsAt (λ s. tau (low s)) (λ s. tau (high s)) nodes lows highs s u
+  place s process early = stands n last (λ s. tau (low s)) (λ s. tau (high s)) nodes lows highs closed.nodes.1 s process
+      early
 
-  at_place : (u : ℕ) → u < length lows → (s : ℕ) × (s < n) × StandsAt (λ s. tau (low s)) (λ s. tau (high s)) nodes lows highs s u
+  at_place : (u : ℕ) → u < length lows → (s : ℕ) × (s < n)
+      × StandsAt (λ s. tau (low s)) (λ s. tau (high s)) nodes lows highs s u
   at_place u within = process_at n last (λ s. tau (low s)) (λ s. tau (high s)) nodes lows highs closed.nodes.1 u within
 
   undoubted : NoDoubt lows first time
-  undoubted = no_doubt lows first time closed.sure
+  undoubted = no_doubt lows first time closed.certain
 
   -- none begins before the first
   first_is_least : (s : ℕ) → s < n → tau (low s) < last → first ≤ tau (low s)
@@ -168,7 +179,8 @@ module _ (n count last : ℕ) (low high tau : ℕ → ℕ) (lows highs : List �
         let up : tau (low at.0) ≤ tau t = rising.rises (low at.0) t at.2 in
         let on : tau t ≤ tau (low s) = rising.rises t (low s) (omega (arith, later)) in
         let least : first ≤ tau (low at.0) = first_is_least at.0 at.1 (omega (arith, up, on, at_first, early)) in
-        only_first at.0 s at.1 process (omega (arith, at.2, later)) early (omega (arith, up, on, at_first, least)) at_first)
+        only_first at.0 s at.1 process (omega (arith, at.2, later)) early (omega (arith, up, on, at_first, least))
+        at_first)
   ]
 
   settled_is_enough : (t : ℕ) → t < count + 1 → IsSettledBy n low high t → IsEnough first lows highs (tau t)
@@ -183,7 +195,8 @@ module _ (n count last : ℕ) (low high tau : ℕ → ℕ) (lows highs : List �
         let s = at_place u within in
         let come : low s.0 ≤ t = elim (cases_lt t (low s.0)) [
           | inr come ↦ come
-          | inl later ↦ absurd (let on : tau t ≤ tau (low s.0) = rising.rises t (low s.0) (omega (arith, later)) in omega (arith, on, begun, s.2.low_is))
+          | inl later ↦ absurd (let on : tau t ≤ tau (low s.0) = rising.rises t (low s.0) (omega (arith, later))
+              in omega (arith, on, begun, s.2.low_is))
         ] in
         let ended : tau (high s.0) ≤ tau t = rising.rises (high s.0) t (settled.others s.0 s.1 come) in
         omega (arith, ended, s.2.high_is);
@@ -215,14 +228,16 @@ module _ (n count last : ℕ) (low high tau : ℕ → ℕ) (lows highs : List �
   by_time : (t : ℕ) → t < turn → tau t ≤ time
   by_time t low_t = elim (cases_lt time (tau t)) [
     | inr come ↦ come
-    | inl late ↦ absurd (both_ways (is_after t) (turn_is.comes t (omega (arith, low_t, turn_is.within)) ∙ lt-leb turn t low_t) (lt-ltb _ _ late))
+    | inl late ↦ absurd (both_ways (is_after t) (turn_is.comes t (omega (arith, low_t, turn_is.within))
+        ∙ lt-leb turn t low_t) (lt-ltb _ _ late))
   ]
 
   before_turn : time < last → (t : ℕ) → t ≤ count + 1 → tau t ≤ time → t < turn
   before_turn ends t within come = elim (cases_lt t turn) [
     | inl less ↦ less
     | inr not_less ↦ elim (cases_lt t (count + 1)) [
-      | inl inside ↦ absurd (let late : time < tau t = ltb-true _ _ (turn_is.comes t inside ∙ le-leb turn t not_less) in omega (arith, late, come))
+      | inl inside ↦ absurd (let late : time < tau t = ltb-true _ _ (turn_is.comes t inside ∙ le-leb turn t not_less)
+          in omega (arith, late, come))
       | inr past ↦ absurd (let at : tau t ≡ last = rising.after t past in omega (arith, at, come, ends))
     ]
   ]
@@ -306,7 +321,8 @@ module _ (n count last : ℕ) (low high tau : ℕ → ℕ) (lows highs : List �
       let ends : time < last = omega (arith, upper, early) in
       let bounds = turn_bounds ends in
       let lower : tau m ≤ time = elim (cases_lt (turn - 1) m) [
-        | inl sooner ↦ absurd (both_ways _ (is.least (turn - 1) bounds.0 sooner) (settled-from n low high (turn - 1) (turn_settled ends)))
+        | inl sooner ↦ absurd (both_ways _ (is.least (turn - 1) bounds.0 sooner)
+            (settled-from n low high (turn - 1) (turn_settled ends)))
         | inr later ↦ (let up : tau m ≤ tau (turn - 1) = rising.rises m (turn - 1) later in omega (arith, up, bounds.2))
       ] in
       (ends, omega (arith, upper, lower))
@@ -315,12 +331,14 @@ module _ (n count last : ℕ) (low high tau : ℕ → ℕ) (lows highs : List �
   none_ends : NonePasses (λ t. is_settled_by n low high t) 1 count → last ≤ time
   none_ends none = elim (cases_lt time last) [
     | inl ends ↦ absurd (let bounds = turn_bounds ends in
-        both_ways _ (none (turn - 1) bounds.0 (omega (arith, bounds.1))) (settled-from n low high (turn - 1) (turn_settled ends)))
+        both_ways _ (none (turn - 1) bounds.0 (omega (arith, bounds.1)))
+        (settled-from n low high (turn - 1) (turn_settled ends)))
     | inr never ↦ never
   ]
 
   -- the members at the first settled time
-  members_at : (m : ℕ) → IsFirst (λ t. is_settled_by n low high t) 1 count m → members_by n high m ≡ members_by n (λ s. tau (high s)) time
+  members_at : (m : ℕ) → IsFirst (λ t. is_settled_by n low high t) 1 count m → members_by n high m
+      ≡ members_by n (λ s. tau (high s)) time
   members_at m is =
       let at = first_settled m is in
       let low_m : m < count + 1 = (let below : m < 1 + count = is.below in omega (arith, below)) in
@@ -329,13 +347,17 @@ module _ (n count last : ℕ) (low high tau : ℕ → ℕ) (lows highs : List �
   -- what is made of them, and of a place that each first settled time is
   pub closes : {X : Type 0} (make : List ℕ → ℕ → X) (place : ℕ)
       → ((m : ℕ) → IsFirst (λ t. is_settled_by n low high t) 1 count m → (ms : List ℕ) → make ms m ≡ make ms place)
-      → (q : Option ℕ) → MatchOption q (NonePasses (λ t. is_settled_by n low high t) 1 count) (IsFirst (λ t. is_settled_by n low high t) 1 count)
-      → option_map (λ t. make (members_by n high t) t) q ≡ cond (nat_lt time last) (Some (make (members_by n (λ s. tau (high s)) time) place)) None
+      → (q : Option ℕ) → MatchOption q (NonePasses (λ t. is_settled_by n low high t) 1 count)
+      (IsFirst (λ t. is_settled_by n low high t) 1 count)
+      → option_map (λ t. make (members_by n high t) t) q
+      ≡ cond (nat_lt time last) (Some (make (members_by n (λ s. tau (high s)) time) place)) None
   closes make place same None none =
-      sym (ap (λ b. cond b (Some (make (members_by n (λ s. tau (high s)) time) place)) None) (le-ltb time last (none_ends none)))
+      sym (ap (λ b. cond b (Some (make (members_by n (λ s. tau (high s)) time) place)) None)
+      (le-ltb time last (none_ends none)))
   closes make place same (Some m) is =
       ap Some (same m is (members_by n high m) ∙ ap (λ ms. make ms place) (members_at m is))
-      ∙ sym (ap (λ b. cond b (Some (make (members_by n (λ s. tau (high s)) time) place)) None) (lt-ltb time last (first_settled m is).0))
+      ∙ sym (ap (λ b. cond b (Some (make (members_by n (λ s. tau (high s)) time) place)) None)
+      (lt-ltb time last (first_settled m is).0))
 
 pub closes_as_settled : (n count last : ℕ) (low high tau : ℕ → ℕ) (lows highs : List ℕ) (first time : ℕ)
     → IsRising (count + 1) last tau → AreTimes n (count + 1) low high
@@ -344,16 +366,20 @@ pub closes_as_settled : (n count last : ℕ) (low high tau : ℕ → ℕ) (lows 
     ≡ cond (nat_lt time last) (Some (members_by n (λ s. tau (high s)) time)) None
 closes_as_settled n count last low high tau lows highs first time rising times closed =
     closes n count last low high tau lows highs first time rising times closed (λ ms _. ms) 0 (λ _ _ _. refl)
-    (find (λ t. is_settled_by n low high t) (range_with_len 1 count)) (found_first (λ t. is_settled_by n low high t) 1 count)
+    (find (λ t. is_settled_by n low high t) (range_with_len 1 count))
+    (found_first (λ t. is_settled_by n low high t) 1 count)
 
 -- ---- the first settled time is the high time of some process
 
-no_high : (n : ℕ) (high : ℕ → ℕ) (m s : ℕ) → list_any (λ s. high s == m) (range_with_len 0 n) ≡ false → s < n → high s ≡ m → ⊥
+no_high : (n : ℕ) (high : ℕ → ℕ) (m s : ℕ) → list_any (λ s. high s == m) (range_with_len 0 n) ≡ false → s < n → high s
+    ≡ m → ⊥
 no_high n high m s none process is =
-    both_ways _ (none_passing (λ s. high s == m) 0 n s none (omega arith) (omega (arith, process))) (eq-eqb (high s) m is)
+    both_ways _ (none_passing (λ s. high s == m) 0 n s none (omega arith) (omega (arith, process)))
+    (eq-eqb (high s) m is)
 
 settled_sooner : (n end : ℕ) (low high : ℕ → ℕ) → AreTimes n end low high → (m : ℕ)
-    → list_any (λ s. high s == m) (range_with_len 0 n) ≡ false → IsSettledBy n low high m → (1 ≤ m - 1) × IsSettledBy n low high (m - 1)
+    → list_any (λ s. high s == m) (range_with_len 0 n) ≡ false → IsSettledBy n low high m → (1 ≤ m - 1)
+    × IsSettledBy n low high (m - 1)
 settled_sooner n end low high times m none settled =
     let at = settled.some in
     let sooner : (s : ℕ) → s < n → high s ≤ m → high s < m = λ s process come.

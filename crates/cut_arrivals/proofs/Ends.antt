@@ -1,5 +1,7 @@
 -- Who is reported and stable in the end, at each receiver alike.
-use Rattle.std.proofs.Common.{◌≡◌, inl, inr, ℕ, ◌+◌, ◌-◌, ◌^◌, ◌<◌, ◌≤◌, ◌&&◌, ◌||◌, Bool, true, false, nat_le, nat_lt, List, [], ◌∷◌, length, get_or, IsTrue, Option, Some, None, MatchOption, option_map, refl, ap, sym, ◌∙◌, arith}
+use Rattle.std.proofs.Common.{◌≡◌, inl, inr, ℕ, ◌+◌, ◌-◌, ◌^◌, ◌<◌, ◌≤◌, ◌&&◌, ◌||◌, Bool, true, false, nat_le, nat_lt}
+use Rattle.std.proofs.Common.{List, [], ◌∷◌, length, get_or, IsTrue, Option, Some, None, MatchOption, option_map, refl}
+use Rattle.std.proofs.Common.{ap, sym, ◌∙◌, arith}
 use Rattle.std.specs.List.{All, find, list_any, range_with_len}
 use Rattle.std.proofs.Math.Bool.{and-true}
 use Rattle.std.proofs.lemmas.Bool.{cases_lt, le-leb, lt-ltb}
@@ -15,16 +17,19 @@ use Rattle.cut_draws.specs.DeliveryOrder.{all_deliveries, copies_of, delivery_pl
 use Rattle.cut_detector.specs.Counts.{is_reported, is_full, is_stable}
 use Rattle.cut_blocks.specs.Images.{ImagesAreBelowNever}
 use Rattle.cut_arrivals.specs.Times.{EdgeTimes, ComesAt, low_of, full_time, high_of, members_by, is_settled_by}
-use Rattle.cut_arrivals.specs.Hearing.{Hearing, IsHearing, deliveries_of, proposal_at, image_of, first_times, lows_at, highs_at}
+use Rattle.cut_arrivals.specs.Hearing.{Hearing, IsHearing, deliveries_of, proposal_at, image_of, first_times, lows_at}
+use Rattle.cut_arrivals.specs.Hearing.{highs_at}
 use Rattle.cut_arrivals.proofs.Modes.{reported_from_low, counts_from_full, stable_from_high}
 use Rattle.cut_arrivals.proofs.Found.{proposed, proposes_by_times}
 use Rattle.cut_arrivals.proofs.FirstTimes.{first_come}
 use Rattle.cut_arrivals.proofs.Observers.{observer_is_process}
 use Rattle.cut_arrivals.proofs.Closes.{settled-is}
-use Rattle.cut_arrivals.proofs.Heard.{end_of, heard_by, high_places, low_places, place_of, places_at, places_before, places_come}
+use Rattle.cut_arrivals.proofs.Heard.{end_of, heard_by, high_places, low_places, place_of, places_at, places_before}
+use Rattle.cut_arrivals.proofs.Heard.{places_come}
 
 -- a test that each element passes makes no difference
-any_passed : {X : Type 0} (p q : X → Bool) (xs : List X) → All (λ x. q x ≡ true) xs → list_any (λ x. p x && q x) xs ≡ list_any p xs
+any_passed : {X : Type 0} (p q : X → Bool) (xs : List X) → All (λ x. q x ≡ true) xs → list_any (λ x. p x && q x) xs
+    ≡ list_any p xs
 any_passed p q [] all = refl
 any_passed p q (x ∷ xs) all =
     ap (λ b. (p x && b) || list_any (λ y. p y && q y) xs) (All-head (λ y. q y ≡ true) x xs all)
@@ -47,7 +52,8 @@ any_delivered edges copies ring s some =
 before_end : (a end : ℕ) → 1 ≤ end → nat_le a (end - 1) ≡ nat_lt a end
 before_end a end some = grind (arith, nat_tests)
 
-module _ (x : Hearing) (is : IsHearing x) (some : 1 ≤ x.copies) (end : ℕ) (time : Delivery → ℕ) (ends : 1 ≤ end) (before : All (λ y. time y < end) (deliveries_of x)) where
+module _ (x : Hearing) (is : IsHearing x) (some : 1 ≤ x.copies) (end : ℕ) (time : Delivery → ℕ) (ends : 1 ≤ end)
+    (before : All (λ y. time y < end) (deliveries_of x)) where
   abbrev at : EdgeTimes
   at = first_times end time (deliveries_of x)
 
@@ -57,7 +63,8 @@ module _ (x : Hearing) (is : IsHearing x) (some : 1 ≤ x.copies) (end : ℕ) (t
   comes : ComesAt x.layout x.rule end come at
   comes = record {
     comes = λ _ _ _ _ _ _. refl;
-    observers = λ ring s below process. observer_is_process x.layout is.layout ring s (omega (arith, below, is.rings)) process;
+    observers = λ ring s below process. observer_is_process x.layout is.layout ring s (omega (arith, below, is.rings))
+        process;
   }
 
   -- an edge comes exactly where it is alerted
@@ -65,7 +72,8 @@ module _ (x : Hearing) (is : IsHearing x) (some : 1 ≤ x.copies) (end : ℕ) (t
   reaches ring s =
       sym (first_come end time (λ y. is_edge ring s y.edge) (deliveries_of x) (end - 1) (omega (arith, ends)))
       ∙ any_passed (λ y. is_edge ring s y.edge) (λ y. nat_le (time y) (end - 1)) (deliveries_of x)
-      (λ k d within. let low : time (get_or (deliveries_of x) k d) < end = before k d within in le-leb _ _ (omega (arith, low)))
+      (λ k d within. let low : time (get_or (deliveries_of x) k d) < end = before k d within
+      in le-leb _ _ (omega (arith, low)))
       ∙ any_delivered x.edges x.copies ring s some
 
   reached : come (end - 1) ≡ set_of x.edges
@@ -81,21 +89,25 @@ module _ (x : Hearing) (is : IsHearing x) (some : 1 ≤ x.copies) (end : ℕ) (t
       ∙ sym (counts_from_full x.layout x.rule end come at comes (end - 1) ring s (omega (arith, ends)) below process)
       ∙ ap (λ (E : EdgeSet). is_full x.layout x.rule E ring s) reached
 
-  pub ends_reported : (s : ℕ) → s < x.layout.nodes → nat_lt (low_of end x.rule at s) end ≡ is_reported x.rule (set_of x.edges) s
+  pub ends_reported : (s : ℕ) → s < x.layout.nodes → nat_lt (low_of end x.rule at s) end
+      ≡ is_reported x.rule (set_of x.edges) s
   ends_reported s process =
       sym (before_end (low_of end x.rule at s) end ends)
       ∙ sym (reported_from_low x.layout x.rule end come at comes (end - 1) s (omega (arith, ends)) process)
       ∙ ap (λ (E : EdgeSet). is_reported x.rule E s) reached
 
-  pub ends_stable : (s : ℕ) → s < x.layout.nodes → nat_lt (high_of end x.layout x.rule at s) end ≡ is_stable x.layout x.rule (set_of x.edges) s
+  pub ends_stable : (s : ℕ) → s < x.layout.nodes → nat_lt (high_of end x.layout x.rule at s) end
+      ≡ is_stable x.layout x.rule (set_of x.edges) s
   ends_stable s process =
       sym (before_end (high_of end x.layout x.rule at s) end ends)
       ∙ sym (stable_from_high x.layout x.rule end come at comes (end - 1) s (omega (arith, ends)) process)
       ∙ ap (λ (E : EdgeSet). is_stable x.layout x.rule E s) reached
 
-pub images_before : ImagesAreBelowNever → (x : Hearing) (last : ℕ) → 2 ^ 30 ≤ last → All (λ y. image_of x y < last) (deliveries_of x)
+pub images_before : ImagesAreBelowNever → (x : Hearing) (last : ℕ) → 2 ^ 30 ≤ last
+    → All (λ y. image_of x y < last) (deliveries_of x)
 images_before below x last wide = λ k d _.
-    let few : image_of x (get_or (deliveries_of x) k d) ≤ 2 ^ 30 - 1 = below x.source (delivery_place x.receiver x.rule.k (get_or (deliveries_of x) k d)) in
+    let few : image_of x (get_or (deliveries_of x) k d)
+    ≤ 2 ^ 30 - 1 = below x.source (delivery_place x.receiver x.rule.k (get_or (deliveries_of x) k d)) in
     omega (arith, few, wide)
 
 pub ends_reported_alike : ImagesAreBelowNever → (x : Hearing) (last : ℕ) → IsHearing x → 1 ≤ x.copies → 2 ^ 30 ≤ last
@@ -119,15 +131,18 @@ some_copy x m some below = elim (cases_lt 0 x.copies) [
       omega (arith, some, below, nothing))
 ]
 
-pub silent : (x : Hearing) → IsHearing x → ((s : ℕ) → s < x.layout.nodes → IsTrue (is_stable x.layout x.rule (set_of x.edges) s) → ⊥)
+pub silent : (x : Hearing) → IsHearing x → ((s : ℕ) → s < x.layout.nodes
+    → IsTrue (is_stable x.layout x.rule (set_of x.edges) s) → ⊥)
     → proposal_at x ≡ None
 silent x is none =
     proposes_by_times x.layout x.rule (length (deliveries_of x)) (heard_by x) (places_at x) (places_come x is)
-    ∙ go (find (λ t. is_settled_by x.layout.nodes (low_places x) (high_places x) t) (range_with_len 1 (length (deliveries_of x))))
+    ∙ go (find (λ t. is_settled_by x.layout.nodes (low_places x) (high_places x) t)
+    (range_with_len 1 (length (deliveries_of x))))
     (found_first (λ t. is_settled_by x.layout.nodes (low_places x) (high_places x) t) 1 (length (deliveries_of x)))
   where
     go : (q : Option ℕ)
-        → MatchOption q (NonePasses (λ t. is_settled_by x.layout.nodes (low_places x) (high_places x) t) 1 (length (deliveries_of x)))
+        → MatchOption q (NonePasses (λ t. is_settled_by x.layout.nodes (low_places x) (high_places x) t) 1
+        (length (deliveries_of x)))
         (IsFirst (λ t. is_settled_by x.layout.nodes (low_places x) (high_places x) t) 1 (length (deliveries_of x)))
         → option_map (λ t. proposed (members_by x.layout.nodes (high_places x) t) t) q ≡ None
     go None unsettled = refl

@@ -1,5 +1,6 @@
 -- The proposal as the first settled time.
-use Rattle.std.proofs.Common.{◌≡◌, ℕ, zero, suc, ◌+◌, ◌<◌, ◌≤◌, Bool, true, false, cond, ◌&&◌, nat_le, nat_lt, List, Option, Some, option_map, refl, ap, ◌∙◌, arith}
+use Rattle.std.proofs.Common.{◌≡◌, ℕ, zero, suc, ◌+◌, ◌<◌, ◌≤◌, Bool, true, false, cond, ◌&&◌, nat_le, nat_lt, List}
+use Rattle.std.proofs.Common.{Option, Some, option_map, refl, ap, ◌∙◌, arith}
 use Rattle.std.specs.List.{find, range_with_len}
 use Rattle.cut_lists.proofs.Ranges.{AgreeOn, filter_agree_on}
 use Rattle.cut_lists.proofs.Counts.{some_and_none_agree}
@@ -7,7 +8,14 @@ use Rattle.cut_rings.specs.Layout.{Layout}
 use Rattle.cut_rings.specs.Edges.{EdgeSet}
 use Rattle.cut_detector.specs.Rule.{Rule}
 use Rattle.cut_detector.specs.declared.proposal.Proposal.{Proposal}
-unfoldable use Rattle.cut_detector.specs.Counts.{is_stable, is_unstable, is_some_stable, is_some_unstable, is_settled, stable_members}
+unfoldable use Rattle.cut_detector.specs.Counts.{
+  is_stable,
+  is_unstable,
+  is_some_stable,
+  is_some_unstable,
+  is_settled,
+  stable_members,
+}
 use Rattle.cut_detector.specs.Proposal.{proposal_of}
 use Rattle.cut_arrivals.specs.Times.{EdgeTimes, ComesAt, low_of, high_of, members_by, is_settled_by}
 use Rattle.cut_arrivals.proofs.Modes.{stable_from_high, unstable_between}
@@ -37,7 +45,8 @@ stable_agree r rule end E at come t low =
 
 unstable_agree : (r : Layout) (rule : Rule) (end : ℕ) (E : ℕ → EdgeSet) (at : EdgeTimes) → ComesAt r rule end E at
     → (t : ℕ) → t < end
-    → AgreeOn (λ s. is_unstable r rule (E t) s) (λ s. nat_le (low_of end rule at s) t && nat_lt t (high_of end r rule at s)) 0 r.nodes
+    → AgreeOn (λ s. is_unstable r rule (E t) s) (λ s. nat_le (low_of end rule at s) t
+    && nat_lt t (high_of end r rule at s)) 0 r.nodes
 unstable_agree r rule end E at come t low =
     record { same = λ s _ below. unstable_between r rule end E at come t s low (omega (arith, below)) }
 
@@ -45,7 +54,8 @@ settled_by_times : (r : Layout) (rule : Rule) (end : ℕ) (E : ℕ → EdgeSet) 
     → (t : ℕ) → t < end → is_settled r rule (E t) ≡ is_settled_by r.nodes (low_of end rule at) (high_of end r rule at) t
 unfolding is_settled is_some_stable is_some_unstable
 settled_by_times r rule end E at come t low =
-    some_and_none_agree _ _ _ _ r.nodes (stable_agree r rule end E at come t low) (unstable_agree r rule end E at come t low)
+    some_and_none_agree _ _ _ _ r.nodes (stable_agree r rule end E at come t low)
+    (unstable_agree r rule end E at come t low)
 
 members_by_times : (r : Layout) (rule : Rule) (end : ℕ) (E : ℕ → EdgeSet) (at : EdgeTimes) → ComesAt r rule end E at
     → (t : ℕ) → t < end → stable_members r rule (E t) ≡ members_by r.nodes (high_of end r rule at) t
@@ -56,12 +66,16 @@ members_by_times r rule end E at come t low = filter_agree_on _ _ 0 r.nodes (sta
 abbrev pub proposed : List ℕ → ℕ → Proposal
 proposed members at = record { members = members; at = at }
 
-pub proposes_by_times : (r : Layout) (rule : Rule) (count : ℕ) (E : ℕ → EdgeSet) (at : EdgeTimes) → ComesAt r rule (count + 1) E at
+pub proposes_by_times : (r : Layout) (rule : Rule) (count : ℕ) (E : ℕ → EdgeSet) (at : EdgeTimes)
+    → ComesAt r rule (count + 1) E at
     → proposal_of r rule E count ≡
     option_map (λ t. proposed (members_by r.nodes (high_of (count + 1) r rule at) t) t)
-    (find (λ t. is_settled_by r.nodes (low_of (count + 1) rule at) (high_of (count + 1) r rule at) t) (range_with_len 1 count))
+    (find (λ t. is_settled_by r.nodes (low_of (count + 1) rule at) (high_of (count + 1) r rule at) t)
+    (range_with_len 1 count))
 proposes_by_times r rule count E at come =
-    found_agree (λ n. is_settled r rule (E n)) (λ t. is_settled_by r.nodes (low_of (count + 1) rule at) (high_of (count + 1) r rule at) t)
-    (λ n. proposed (stable_members r rule (E n)) n) (λ t. proposed (members_by r.nodes (high_of (count + 1) r rule at) t) t) 1 count
+    found_agree (λ n. is_settled r rule (E n)) (λ t. is_settled_by r.nodes (low_of (count + 1) rule at)
+    (high_of (count + 1) r rule at) t)
+    (λ n. proposed (stable_members r rule (E n)) n)
+    (λ t. proposed (members_by r.nodes (high_of (count + 1) r rule at) t) t) 1 count
     (λ i _ below. settled_by_times r rule (count + 1) E at come i (omega (arith, below)))
     (λ i _ below. ap (λ xs. proposed xs i) (members_by_times r rule (count + 1) E at come i (omega (arith, below))))

@@ -1,5 +1,6 @@
 -- What a receiver proposes, by the images of its deliveries.
-use Rattle.std.proofs.Common.{◌≡◌, inl, inr, ℕ, ◌+◌, ◌-◌, ◌^◌, ◌<◌, ◌≤◌, ◌==◌, ◌&&◌, Bool, cond, nat_lt, List, map, filter, length, get_or, Option, Some, None, option_map, subst, refl, ap, sym, ◌∙◌, arith}
+use Rattle.std.proofs.Common.{◌≡◌, inl, inr, ℕ, ◌+◌, ◌-◌, ◌^◌, ◌<◌, ◌≤◌, ◌==◌, ◌&&◌, Bool, cond, nat_lt, List, map}
+use Rattle.std.proofs.Common.{filter, length, get_or, Option, Some, None, option_map, subst, refl, ap, sym, ◌∙◌, arith}
 use Rattle.std.specs.List.{All, Contains, find, list_any, range_with_len}
 use Rattle.std.specs.declared.cmp.Ordering.{Ordering}
 use Rattle.std.specs.declared.cmp.Ordering.TheVariants.{Less, Equal, Greater}
@@ -18,7 +19,8 @@ use Rattle.cut_blocks.specs.Images.{ImagesAreBelowNever}
 use Rattle.cut_arrivals.specs.Times.{EdgeTimes, ComesAt, low_of, high_of, members_by, is_settled_by}
 use Rattle.cut_arrivals.specs.Rising.{IsRising, moved}
 use Rattle.cut_arrivals.specs.Nodes.{AreTimes, IsClosed}
-use Rattle.cut_arrivals.specs.Hearing.{Hearing, IsHearing, deliveries_of, proposal_at, image_of, first_times, images_at, lows_at, highs_at}
+use Rattle.cut_arrivals.specs.Hearing.{Hearing, IsHearing, deliveries_of, proposal_at, image_of, first_times, images_at}
+use Rattle.cut_arrivals.specs.Hearing.{lows_at, highs_at}
 use Rattle.cut_arrivals.proofs.Tests.{lt_is_le}
 use Rattle.cut_arrivals.proofs.RankLemmas.{rank_no_less}
 use Rattle.cut_arrivals.proofs.Modes.{high_within, low_before_high, low_no_less}
@@ -53,14 +55,18 @@ end_of x = length (deliveries_of x) + 1
 -- the lesser image comes first
 pub image_first : (x : Hearing) (y z : Delivery) → image_of x y < image_of x z → compare_at x y z ≡ Less
 image_first x y z lesser =
-    let before : key_at x.source (delivery_place x.receiver x.rule.k y) < key_at x.source (delivery_place x.receiver x.rule.k z) = omega (arith, lesser) in
-    ap (λ o. ordering_then o (ordering_then (nat_cmp (edge_number x.rule.k y.edge) (edge_number x.rule.k z.edge)) (nat_cmp y.copy z.copy)))
+    let before : key_at x.source (delivery_place x.receiver x.rule.k y)
+    < key_at x.source (delivery_place x.receiver x.rule.k z) = omega (arith, lesser) in
+    ap (λ o. ordering_then o (ordering_then (nat_cmp (edge_number x.rule.k y.edge) (edge_number x.rule.k z.edge))
+    (nat_cmp y.copy z.copy)))
     (less _ _ before)
 
 pub places_before : (x : Hearing) → All (λ y. place_of x y < end_of x) (deliveries_of x)
 places_before x = λ k d within.
-    let rank : delivery_rank x.source x.receiver x.rule.k x.edges x.copies (get_or (deliveries_of x) k d) < length (deliveries_of x) =
-    rank-below (compare_total x) (deliveries_of x) (get_or (deliveries_of x) k d) (Contains-get_or (deliveries_of x) k d within) in
+    let rank : delivery_rank x.source x.receiver x.rule.k x.edges x.copies (get_or (deliveries_of x) k d)
+    < length (deliveries_of x) =
+    rank-below (compare_total x) (deliveries_of x) (get_or (deliveries_of x) k d)
+    (Contains-get_or (deliveries_of x) k d within) in
     omega (arith, rank)
 
 lie_alike : (x : Hearing) (last : ℕ) → ImagesAreBelowNever → 2 ^ 30 ≤ last
@@ -68,11 +74,13 @@ lie_alike : (x : Hearing) (last : ℕ) → ImagesAreBelowNever → 2 ^ 30 ≤ la
 lie_alike x last below wide = record {
   some = omega (arith, wide);
   before = places_before x;
-  below = λ y. let few : image_of x y ≤ 2 ^ 30 - 1 = below x.source (delivery_place x.receiver x.rule.k y) in omega (arith, few, wide);
+  below = λ y. let few : image_of x y ≤ 2 ^ 30 - 1 = below x.source (delivery_place x.receiver x.rule.k y)
+      in omega (arith, few, wide);
   alike = λ y z at other come. elim (cases_lt (image_of x y) (image_of x z)) [
     | inr ordered ↦ ordered
     | inl lesser ↦ absurd (
-        let sooner : delivery_rank x.source x.receiver x.rule.k x.edges x.copies y < delivery_rank x.source x.receiver x.rule.k x.edges x.copies z =
+        let sooner : delivery_rank x.source x.receiver x.rule.k x.edges x.copies y
+        < delivery_rank x.source x.receiver x.rule.k x.edges x.copies z =
         rank-less (compare_total x) (deliveries_of x) y z at (image_first x y z lesser) in
         omega (arith, sooner, come))
   ];
@@ -82,13 +90,16 @@ lie_alike x last below wide = record {
 abbrev pub to_image : Hearing → ℕ → ℕ → ℕ
 to_image x last = change (deliveries_of x) (place_of x) (image_of x) (end_of x) last
 
-pub to_image_rises : (x : Hearing) (last : ℕ) → ImagesAreBelowNever → 2 ^ 30 ≤ last → IsRising (end_of x) last (to_image x last)
+pub to_image_rises : (x : Hearing) (last : ℕ) → ImagesAreBelowNever → 2 ^ 30 ≤ last
+    → IsRising (end_of x) last (to_image x last)
 to_image_rises x last below wide =
     change_rises (deliveries_of x) (place_of x) (image_of x) (end_of x) last (lie_alike x last below wide)
 
-pub to_image_is : (x : Hearing) (last : ℕ) → ImagesAreBelowNever → 2 ^ 30 ≤ last → (y : Delivery) → Contains (deliveries_of x) y
+pub to_image_is : (x : Hearing) (last : ℕ) → ImagesAreBelowNever → 2 ^ 30 ≤ last → (y : Delivery)
+    → Contains (deliveries_of x) y
     → to_image x last (place_of x y) ≡ image_of x y
-to_image_is x last below wide = change_is (deliveries_of x) (place_of x) (image_of x) (end_of x) last (lie_alike x last below wide)
+to_image_is x last below wide = change_is (deliveries_of x) (place_of x) (image_of x) (end_of x) last
+    (lie_alike x last below wide)
 
 -- ---- places of edges
 
@@ -104,7 +115,8 @@ places_come x is = record {
       ap (λ (p : Delivery → Bool). list_any p (deliveries_of x))
       (λ i y. is_edge ring s y.edge && lt_is_le (delivery_rank x.source x.receiver x.rule.k x.edges x.copies y) t i)
       ∙ first_come (end_of x) (place_of x) (λ y. is_edge ring s y.edge) (deliveries_of x) t low;
-  observers = λ ring s below process. observer_is_process x.layout is.layout ring s (omega (arith, below, is.rings)) process;
+  observers = λ ring s below process. observer_is_process x.layout is.layout ring s (omega (arith, below, is.rings))
+      process;
 }
 
 abbrev pub low_places : Hearing → ℕ → ℕ
@@ -116,22 +128,27 @@ high_places x = high_of (end_of x) x.layout x.rule (places_at x)
 pub places_are_times : (x : Hearing) → IsHearing x → AreTimes x.layout.nodes (end_of x) (low_places x) (high_places x)
 places_are_times x is = record {
   some = λ s _. low_no_less (end_of x) x.rule (places_at x) 1 is.rule (omega arith)
-      (λ ring p. rank_no_less (end_of x) 1 (map (place_of x) (filter (λ y. is_edge ring p y.edge) (deliveries_of x))) 1 (omega arith) (omega arith)
-      (All-map (λ t. 1 ≤ t) (place_of x) (filter (λ y. is_edge ring p y.edge) (deliveries_of x)) (λ _ _ _. omega arith))) s;
-  ordered = λ s process. low_before_high x.layout x.rule (end_of x) (heard_by x) (places_at x) (places_come x is) is.rule s process;
+      (λ ring p. rank_no_less (end_of x) 1 (map (place_of x) (filter (λ y. is_edge ring p y.edge) (deliveries_of x))) 1
+      (omega arith) (omega arith)
+      (All-map (λ t. 1 ≤ t) (place_of x) (filter (λ y. is_edge ring p y.edge) (deliveries_of x))
+      (λ _ _ _. omega arith))) s;
+  ordered = λ s process. low_before_high x.layout x.rule (end_of x) (heard_by x) (places_at x) (places_come x is)
+      is.rule s process;
   within = λ s _. high_within (end_of x) x.layout x.rule (places_at x) s;
 }
 
 -- ---- images of edges are the changed places
 
-images_same : (x : Hearing) (last : ℕ) → ImagesAreBelowNever → 2 ^ 30 ≤ last → images_at x last ≡ moved (to_image x last) (places_at x)
+images_same : (x : Hearing) (last : ℕ) → ImagesAreBelowNever → 2 ^ 30 ≤ last → images_at x last
+    ≡ moved (to_image x last) (places_at x)
 images_same x last below wide = λ i ring s. each ring s i
   where
     each : (ring s : ℕ) → images_at x last ring s ≡ to_image x last (places_at x ring s)
     each ring s =
         first_moves (end_of x) last (to_image x last) (to_image_rises x last below wide) (place_of x) (image_of x)
         (λ y. is_edge ring s y.edge) (deliveries_of x)
-        (λ k d within. sym (to_image_is x last below wide (get_or (deliveries_of x) k d) (Contains-get_or (deliveries_of x) k d within)))
+        (λ k d within. sym (to_image_is x last below wide (get_or (deliveries_of x) k d)
+        (Contains-get_or (deliveries_of x) k d within)))
 
 pub lows_same : (x : Hearing) (last : ℕ) → ImagesAreBelowNever → IsHearing x → 2 ^ 30 ≤ last
     → lows_at x last ≡ (λ s. to_image x last (low_places x s))
@@ -149,32 +166,43 @@ highs_same x last below is wide = λ i s. each s i
     each : (s : ℕ) → highs_at x last s ≡ to_image x last (high_places x s)
     each s =
         ap (λ (m : EdgeTimes). high_of last x.layout x.rule m s) (images_same x last below wide)
-        ∙ highs_rise (end_of x) last x.layout x.rule (places_at x) (to_image x last) (to_image_rises x last below wide) is.rule s
+        ∙ highs_rise (end_of x) last x.layout x.rule (places_at x) (to_image x last) (to_image_rises x last below wide)
+        is.rule s
 
 -- a closing of images is one of changed places
-pub closed_places : (x : Hearing) (last : ℕ) (lows highs : List ℕ) (first time : ℕ) → ImagesAreBelowNever → IsHearing x → 2 ^ 30 ≤ last
+pub closed_places : (x : Hearing) (last : ℕ) (lows highs : List ℕ) (first time : ℕ) → ImagesAreBelowNever → IsHearing x
+    → 2 ^ 30 ≤ last
     → IsClosed x.layout.nodes last (lows_at x last) (highs_at x last) lows highs first time
-    → IsClosed x.layout.nodes last (λ s. to_image x last (low_places x s)) (λ s. to_image x last (high_places x s)) lows highs first time
+    → IsClosed x.layout.nodes last (λ s. to_image x last (low_places x s)) (λ s. to_image x last (high_places x s)) lows
+    highs first time
 closed_places x last lows highs first time below is wide closed =
-    subst (λ (f : ℕ → ℕ). IsClosed x.layout.nodes last f (λ s. to_image x last (high_places x s)) lows highs first time) (lows_same x last below is wide)
-    (subst (λ (f : ℕ → ℕ). IsClosed x.layout.nodes last (lows_at x last) f lows highs first time) (highs_same x last below is wide) closed)
+    subst (λ (f : ℕ → ℕ). IsClosed x.layout.nodes last f (λ s. to_image x last (high_places x s)) lows highs first time)
+    (lows_same x last below is wide)
+    (subst (λ (f : ℕ → ℕ). IsClosed x.layout.nodes last (lows_at x last) f lows highs first time)
+    (highs_same x last below is wide) closed)
 
 -- ---- the proposal
 
 members_of : (n : ℕ) (high : ℕ → ℕ) (q : Option ℕ)
-    → option_map (λ (p : Proposal). p.members) (option_map (λ t. proposed (members_by n high t) t) q) ≡ option_map (λ t. members_by n high t) q
+    → option_map (λ (p : Proposal). p.members) (option_map (λ t. proposed (members_by n high t) t) q)
+    ≡ option_map (λ t. members_by n high t) q
 members_of n high None = refl
 members_of n high (Some t) = refl
 
-pub closes_as_proposed : ImagesAreBelowNever → (x : Hearing) (last : ℕ) (lows highs : List ℕ) (first time : ℕ) → IsHearing x → 2 ^ 30 ≤ last
+pub closes_as_proposed : ImagesAreBelowNever → (x : Hearing) (last : ℕ) (lows highs : List ℕ) (first time : ℕ)
+    → IsHearing x → 2 ^ 30 ≤ last
     → IsClosed x.layout.nodes last (lows_at x last) (highs_at x last) lows highs first time
     → option_map (λ p. p.members) (proposal_at x)
     ≡ cond (nat_lt time last) (Some (members_by x.layout.nodes (highs_at x last) time)) None
 closes_as_proposed below x last lows highs first time is wide closed =
     let n : ℕ = x.layout.nodes in
     let count : ℕ = length (deliveries_of x) in
-    ap (option_map (λ (p : Proposal). p.members)) (proposes_by_times x.layout x.rule count (heard_by x) (places_at x) (places_come x is))
-    ∙ members_of n (high_places x) (find (λ t. is_settled_by n (low_places x) (high_places x) t) (range_with_len 1 count))
+    ap (option_map (λ (p : Proposal). p.members)) (proposes_by_times x.layout x.rule count (heard_by x) (places_at x)
+    (places_come x is))
+    ∙ members_of n (high_places x) (find (λ t. is_settled_by n (low_places x) (high_places x) t)
+    (range_with_len 1 count))
     ∙ closes_as_settled n count last (low_places x) (high_places x) (to_image x last) lows highs first time
-    (to_image_rises x last below wide) (places_are_times x is) (closed_places x last lows highs first time below is wide closed)
-    ∙ ap (λ (f : ℕ → ℕ). cond (nat_lt time last) (Some (members_by n f time)) None) (sym (highs_same x last below is wide))
+    (to_image_rises x last below wide) (places_are_times x is)
+    (closed_places x last lows highs first time below is wide closed)
+    ∙ ap (λ (f : ℕ → ℕ). cond (nat_lt time last) (Some (members_by n f time)) None)
+    (sym (highs_same x last below is wide))

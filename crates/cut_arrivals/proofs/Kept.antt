@@ -21,18 +21,21 @@ greatest_keeps P end a b one other less = elim (cases_lt a b) [
   | inr not ↦ (let is : a ≡ max a b = omega (arith, not) in subst P is (one (omega (arith, is, less))))
 ]
 
-chosen_keeps : (P : ℕ → Type 0) (end : ℕ) (i : Bool) (a b : ℕ) → (a < end → P a) → (b < end → P b) → cond i a b < end → P (cond i a b)
+chosen_keeps : (P : ℕ → Type 0) (end : ℕ) (i : Bool) (a b : ℕ) → (a < end → P a) → (b < end → P b) → cond i a b < end
+    → P (cond i a b)
 chosen_keeps P end true a b one other less = one less
 chosen_keeps P end false a b one other less = other less
 
-low_keeps : (P : ℕ → Type 0) (end : ℕ) (rule : Rule) (at : EdgeTimes) → IsRule rule → ((ring s : ℕ) → at ring s < end → P (at ring s))
+low_keeps : (P : ℕ → Type 0) (end : ℕ) (rule : Rule) (at : EdgeTimes) → IsRule rule
+    → ((ring s : ℕ) → at ring s < end → P (at ring s))
     → (s : ℕ) → low_of end rule at s < end → P (low_of end rule at s)
 unfolding low_of
 low_keeps P end rule at is each s less =
     rank_keeps P end rule.l (times_to rule.k at s) is.low
     (All-map (λ t. t < end → P t) (λ ring. at ring s) (range_with_len 0 rule.k) (λ k d _. each _ s)) less
 
-full_keeps : (P : ℕ → Type 0) (end : ℕ) (r : Layout) (rule : Rule) (at : EdgeTimes) → IsRule rule → ((ring s : ℕ) → at ring s < end → P (at ring s))
+full_keeps : (P : ℕ → Type 0) (end : ℕ) (r : Layout) (rule : Rule) (at : EdgeTimes) → IsRule rule
+    → ((ring s : ℕ) → at ring s < end → P (at ring s))
     → (ring s : ℕ) → full_time end r rule at ring s < end → P (full_time end r rule at ring s)
 unfolding full_time
 full_keeps P end r rule at is each ring s less =
@@ -44,9 +47,11 @@ full_keeps P end r rule at is each ring s less =
     (greatest_keeps P end low its (low_keeps P end rule at is each s) (low_keeps P end rule at is each o)))
     (each ring s) less
 
-pub high_keeps : (P : ℕ → Type 0) (end : ℕ) (r : Layout) (rule : Rule) (at : EdgeTimes) → IsRule rule → ((ring s : ℕ) → at ring s < end → P (at ring s))
+pub high_keeps : (P : ℕ → Type 0) (end : ℕ) (r : Layout) (rule : Rule) (at : EdgeTimes) → IsRule rule
+    → ((ring s : ℕ) → at ring s < end → P (at ring s))
     → (s : ℕ) → high_of end r rule at s < end → P (high_of end r rule at s)
 unfolding high_of
 high_keeps P end r rule at is each s less =
     rank_keeps P end rule.h (times_to rule.k (full_time end r rule at) s) (omega (arith, is.low, is.gap))
-    (All-map (λ t. t < end → P t) (λ ring. full_time end r rule at ring s) (range_with_len 0 rule.k) (λ k d _. full_keeps P end r rule at is each _ s)) less
+    (All-map (λ t. t < end → P t) (λ ring. full_time end r rule at ring s) (range_with_len 0 rule.k)
+    (λ k d _. full_keeps P end r rule at is each _ s)) less

@@ -1,5 +1,6 @@
 -- Modes of processes by the times of edges.
-use Rattle.std.proofs.Common.{◌≡◌, inl, inr, ℕ, ◌<◌, ◌≤◌, Bool, true, false, cond, ◌&&◌, ◌||◌, not, nat_le, nat_lt, min, max, refl, ap, sym, ◌∙◌, arith}
+use Rattle.std.proofs.Common.{◌≡◌, inl, inr, ℕ, ◌<◌, ◌≤◌, Bool, true, false, cond, ◌&&◌, ◌||◌, not, nat_le, nat_lt, min}
+use Rattle.std.proofs.Common.{max, refl, ap, sym, ◌∙◌, arith}
 use Rattle.std.specs.List.{count_by, range_with_len}
 use Rattle.std.proofs.Math.Bool.{or-false}
 use Rattle.std.proofs.lemmas.Bool.{cases_Bool, cases_lt, le-leb, leb-true, or_left}
@@ -23,10 +24,12 @@ count_come : (k : ℕ) (at : EdgeTimes) (F : EdgeSet) (t s : ℕ)
     → ((ring : ℕ) → ring < k → F ring s ≡ nat_le (at ring s) t)
     → ring_count k F s ≡ count_by (λ x. nat_le x t) (times_to k at s)
 count_come k at F t s same =
-    count_by_agree (λ ring. F ring s) (λ ring. nat_le (at ring s) t) 0 k (record { same = λ ring _ below. same ring (omega (arith, below)) })
+    count_by_agree (λ ring. F ring s) (λ ring. nat_le (at ring s) t) 0 k
+    (record { same = λ ring _ below. same ring (omega (arith, below)) })
     ∙ sym (count_by-map (λ x. nat_le x t) (λ ring. at ring s) (range_with_len 0 k))
 
-pub reported_from_low : (r : Layout) (rule : Rule) (end : ℕ) (E : ℕ → EdgeSet) (at : EdgeTimes) → ComesAt r rule end E at
+pub reported_from_low : (r : Layout) (rule : Rule) (end : ℕ) (E : ℕ → EdgeSet) (at : EdgeTimes)
+    → ComesAt r rule end E at
     → (t s : ℕ) → t < end → s < r.nodes → is_reported rule (E t) s ≡ nat_le (low_of end rule at s) t
 unfolding is_reported low_of
 reported_from_low r rule end E at come t s low process =
@@ -80,11 +83,15 @@ marked : (r : Layout) (rule : Rule) (F : EdgeSet) (s : ℕ) → nat_le rule.l (f
 unfolding is_full
 marked r rule F s = elim (cases_Bool (is_reported rule F s)) [
   | inl is ↦ (let many : rule.l ≤ reports_of rule F s = reports_enough rule F s is in
-      let more : reports_of rule F s ≤ full_count r rule F s = count_le (λ ring. F ring s) (λ ring. is_full r rule F ring s) (range_with_len 0 rule.k)
+      let more : reports_of rule F s ≤ full_count r rule F s = count_le (λ ring. F ring s)
+      (λ ring. is_full r rule F ring s) (range_with_len 0 rule.k)
       (λ ring e. or_left (F ring s) _ e) in
       le-leb _ _ (omega (arith, many, more)) ∙ sym is)
   | inr fails ↦ ap (nat_le rule.l) (count_by_agree (λ ring. is_full r rule F ring s) (λ ring. F ring s) 0 rule.k
-      (record { same = λ ring _ _. no_gain (F ring s) rule.implicit (is_reported rule F s) (is_reported rule F (observer_of r ring s)) fails }))
+      (record {
+        same = λ ring _ _. no_gain (F ring s) rule.implicit (is_reported rule F s)
+            (is_reported rule F (observer_of r ring s)) fails;
+      }))
       ∙ reports_test rule F s
 ]
 

@@ -6,7 +6,8 @@ use Rattle.cut_lists.proofs.Rounds.{before}
 use Rattle.cut_lists.proofs.Pigeonhole.{none_missed}
 use Rattle.cut_rings.specs.Layout.{IsLayout, Layout, observer_of, position_of, positions_on}
 
-pub observer_is_process : (r : Layout) → IsLayout r → (ring s : ℕ) → ring < length r.positions → s < r.nodes → observer_of r ring s < r.nodes
+pub observer_is_process : (r : Layout) → IsLayout r → (ring s : ℕ) → ring < length r.positions → s < r.nodes
+    → observer_of r ring s < r.nodes
 observer_is_process r layout ring s of_rings process =
     let test : ℕ → Bool = λ place. (place + 1) % r.nodes == position_of r ring s in
     let place = before r.nodes (position_of r ring s) (layout.in_range ring s of_rings process) in

@@ -1,5 +1,6 @@
 -- The place of a proposal, by the images of the deliveries.
-use Rattle.std.proofs.Common.{◌≡◌, inl, inr, ℕ, ◌+◌, ◌^◌, ◌<◌, ◌≤◌, ◌==◌, ◌||◌, true, false, cond, nat_le, nat_lt, List, length, map, filter, get_or, Some, None, refl, ap, sym, ◌∙◌, arith}
+use Rattle.std.proofs.Common.{◌≡◌, inl, inr, ℕ, ◌+◌, ◌^◌, ◌<◌, ◌≤◌, ◌==◌, ◌||◌, true, false, cond, nat_le, nat_lt, List}
+use Rattle.std.proofs.Common.{length, map, filter, get_or, Some, None, refl, ap, sym, ◌∙◌, arith}
 use Rattle.std.specs.List.{Contains, count_by, find, range_with_len}
 use Rattle.std.specs.Ordering.{is_lt, ordering_reverse}
 use Rattle.std.proofs.lemmas.Bool.{both_ways, cases_lt, eq-eqb, le-leb, leb-true, or_cases, or_left, or_right}
@@ -18,7 +19,9 @@ use Rattle.cut_arrivals.proofs.RankLemmas.{rank_keeps}
 use Rattle.cut_arrivals.proofs.Kept.{high_keeps}
 use Rattle.cut_arrivals.proofs.Found.{proposed, proposes_by_times}
 use Rattle.cut_arrivals.proofs.Closes.{closes, first_is_high, first_settled}
-use Rattle.cut_arrivals.proofs.Heard.{closed_places, compare_at, compare_total, end_of, heard_by, high_places, highs_same, image_first, low_places, place_of, places_are_times, places_at, places_come, to_image, to_image_is, to_image_rises}
+use Rattle.cut_arrivals.proofs.Heard.{closed_places, compare_at, compare_total, end_of, heard_by, high_places}
+use Rattle.cut_arrivals.proofs.Heard.{highs_same, image_first, low_places, place_of, places_are_times, places_at}
+use Rattle.cut_arrivals.proofs.Heard.{places_come, to_image, to_image_is, to_image_rises}
 
 -- a time at which some delivery comes
 abbrev IsPlace : Hearing → ℕ → Type 0
@@ -26,7 +29,8 @@ IsPlace x t = (y : Delivery) × Contains (deliveries_of x) y × (place_of x y �
 
 edge_keeps : (x : Hearing) (ring s : ℕ) → places_at x ring s < end_of x → IsPlace x (places_at x ring s)
 edge_keeps x ring s less =
-    rank_keeps (IsPlace x) (end_of x) 1 (map (place_of x) (filter (λ y. is_edge ring s y.edge) (deliveries_of x))) (omega arith)
+    rank_keeps (IsPlace x) (end_of x) 1 (map (place_of x) (filter (λ y. is_edge ring s y.edge) (deliveries_of x)))
+    (omega arith)
     (All-map (λ t. t < end_of x → IsPlace x t) (place_of x) (filter (λ y. is_edge ring s y.edge) (deliveries_of x))
     (All-filter (λ y. is_edge ring s y.edge) (λ y. place_of x y < end_of x → IsPlace x (place_of x y)) (deliveries_of x)
     (λ k d within _. (get_or (deliveries_of x) k d, Contains-get_or (deliveries_of x) k d within, refl))))
@@ -34,12 +38,15 @@ edge_keeps x ring s less =
 
 -- the first settled time is the place of some delivery
 first_is_place : (x : Hearing) → IsHearing x → (m : ℕ)
-    → IsFirst (λ t. is_settled_by x.layout.nodes (low_places x) (high_places x) t) 1 (length (deliveries_of x)) m → IsPlace x m
+    → IsFirst (λ t. is_settled_by x.layout.nodes (low_places x) (high_places x) t) 1 (length (deliveries_of x)) m
+    → IsPlace x m
 first_is_place x is m first =
-    let at = first_is_high x.layout.nodes (end_of x) (length (deliveries_of x)) (low_places x) (high_places x) (places_are_times x is) m first in
+    let at = first_is_high x.layout.nodes (end_of x) (length (deliveries_of x)) (low_places x) (high_places x)
+    (places_are_times x is) m first in
     let below : m < 1 + length (deliveries_of x) = first.below in
     let low : high_places x at.0 < end_of x = omega (arith, below, at.2) in
-    let found : IsPlace x (high_places x at.0) = high_keeps (IsPlace x) (end_of x) x.layout x.rule (places_at x) is.rule (edge_keeps x) at.0 low in
+    let found : IsPlace x (high_places x at.0) = high_keeps (IsPlace x) (end_of x) x.layout x.rule (places_at x) is.rule
+    (edge_keeps x) at.0 low in
     (found.0, found.1, found.2 ∙ at.2)
 
 -- what comes before a delivery has no greater image
@@ -69,21 +76,25 @@ place_counted x y time at is alone =
     let all : List Delivery = deliveries_of x in
     let upper : count_by (λ z. nat_le (image_of x z) time) all + count_by (λ _. false) all
     ≤ count_by (λ z. is_lt (compare_at x z y)) all + count_by (λ z. image_of x z == time) all =
-    counts-into (λ z. nat_le (image_of x z) time) (λ _. false) (λ z. is_lt (compare_at x z y)) (λ z. image_of x z == time) all
+    counts-into (λ z. nat_le (image_of x z) time) (λ _. false) (λ z. is_lt (compare_at x z y))
+    (λ z. image_of x z == time) all
     (λ z _ never. both_ways false refl never) (image_or_sooner x y time is) in
     let lower : count_by (λ z. is_lt (compare_at x z y)) all < count_by (λ z. nat_le (image_of x z) time) all =
     count_less (λ z. is_lt (compare_at x z y)) (λ z. nat_le (image_of x z) time) all at.0 y
-    (λ z sooner. let le : image_of x z ≤ image_of x y = sooner_lesser x y z sooner in le-leb (image_of x z) time (omega (arith, le, is)))
+    (λ z sooner. let le : image_of x z ≤ image_of x y = sooner_lesser x y z sooner
+    in le-leb (image_of x z) time (omega (arith, le, is)))
     at.1
     (ap (λ z. is_lt (compare_at x z y)) at.2 ∙ ap is_lt (tied_itself (compare_total x) y))
     (ap (λ z. nat_le (image_of x z) time) at.2 ∙ le-leb (image_of x y) time (omega (arith, is))) in
     omega (arith, upper, lower, alone)
 
-pub closes_at_place : ImagesAreBelowNever → (x : Hearing) (last : ℕ) (lows highs : List ℕ) (first time : ℕ) → IsHearing x → 2 ^ 30 ≤ last
+pub closes_at_place : ImagesAreBelowNever → (x : Hearing) (last : ℕ) (lows highs : List ℕ) (first time : ℕ)
+    → IsHearing x → 2 ^ 30 ≤ last
     → IsClosed x.layout.nodes last (lows_at x last) (highs_at x last) lows highs first time
     → count_by (λ y. image_of x y == time) (deliveries_of x) ≤ 1
     → proposal_at x ≡ cond (nat_lt time last)
-    (Some (proposed (members_by x.layout.nodes (highs_at x last) time) (count_by (λ y. nat_le (image_of x y) time) (deliveries_of x)))) None
+    (Some (proposed (members_by x.layout.nodes (highs_at x last) time)
+    (count_by (λ y. nat_le (image_of x y) time) (deliveries_of x)))) None
 closes_at_place below x last lows highs first time is wide closed alone =
     let n : ℕ = x.layout.nodes in
     let count : ℕ = length (deliveries_of x) in
@@ -96,9 +107,11 @@ closes_at_place below x last lows highs first time is wide closed alone =
     ∙ closes n count last (low_places x) (high_places x) tau lows highs first time rising times moved proposed place
     (λ m found ms.
     let at = first_is_place x is m found in
-    let stands_for = first_settled n count last (low_places x) (high_places x) tau lows highs first time rising times moved m found in
+    let stands_for = first_settled n count last (low_places x) (high_places x) tau lows highs first time rising times
+    moved m found in
     let image : image_of x at.0 ≡ time = sym (to_image_is x last below wide at.0 at.1) ∙ ap tau at.2 ∙ stands_for.1 in
     ap (proposed ms) (sym at.2 ∙ place_counted x at.0 time at.1 image alone))
     (find (λ t. is_settled_by n (low_places x) (high_places x) t) (range_with_len 1 count))
     (found_first (λ t. is_settled_by n (low_places x) (high_places x) t) 1 count)
-    ∙ ap (λ (f : ℕ → ℕ). cond (nat_lt time last) (Some (proposed (members_by n f time) place)) None) (sym (highs_same x last below is wide))
+    ∙ ap (λ (f : ℕ → ℕ). cond (nat_lt time last) (Some (proposed (members_by n f time) place)) None)
+    (sym (highs_same x last below is wide))

@@ -1,5 +1,6 @@
 -- Ranks, lows and highs under weakly rising changes.
-use Rattle.std.proofs.Common.{◌≡◌, inl, inr, ℕ, ◌-◌, ◌<◌, ◌≤◌, Bool, true, false, cond, nat_le, min, max, List, map, refl, ap, sym, ◌∙◌, arith}
+use Rattle.std.proofs.Common.{◌≡◌, inl, inr, ℕ, ◌-◌, ◌<◌, ◌≤◌, Bool, true, false, cond, nat_le, min, max, List, map}
+use Rattle.std.proofs.Common.{refl, ap, sym, ◌∙◌, arith}
 use Rattle.std.specs.List.{count_by, range_with_len}
 use Rattle.std.proofs.lemmas.Bool.{both_ways, cases_lt, le-leb, leb-true, lt-leb, false_from_ne_true}
 use Rattle.cut_lists.proofs.Maps.{count_by-map, map-map}
@@ -25,16 +26,20 @@ comes_before end last tau rising x y u after come = elim (cases_lt y x) [
 too_few : (end last r : ℕ) (xs : List ℕ) (tau : ℕ → ℕ) → IsRising end last tau → 1 ≤ r → (x u : ℕ) → IsRank end r xs x
     → u < tau x → r ≤ count_by (λ y. nat_le (tau y) u) xs → ⊥
 too_few end last r xs tau rising some x u is after many =
-    let early : (y : ℕ) → nat_le (tau y) u ≡ true → y < x = λ y e. comes_before end last tau rising x y u after (leb-true (tau y) u e) in
+    let early : (y : ℕ) → nat_le (tau y) u ≡ true → y
+    < x = λ y e. comes_before end last tau rising x y u after (leb-true (tau y) u e) in
     elim (cases_lt 0 x) [
       | inl above ↦ (
           let fewer : count_by (λ y. nat_le (tau y) u) xs ≤ count_by (λ y. nat_le y (x - 1)) xs =
-          count_le (λ y. nat_le (tau y) u) (λ y. nat_le y (x - 1)) xs (λ y e. le-leb y (x - 1) (omega (arith, early y e))) in
-          let not_yet : has_rank r xs (x - 1) ≡ false = is.comes (x - 1) (omega (arith, above, is.within)) ∙ lt-leb x (x - 1) (omega (arith, above)) in
+          count_le (λ y. nat_le (tau y) u) (λ y. nat_le y (x - 1)) xs
+          (λ y e. le-leb y (x - 1) (omega (arith, early y e))) in
+          let not_yet : has_rank r xs (x - 1) ≡ false = is.comes (x - 1) (omega (arith, above, is.within))
+          ∙ lt-leb x (x - 1) (omega (arith, above)) in
           both_ways (has_rank r xs (x - 1)) not_yet (le-leb _ _ (omega (arith, fewer, many))))
       | inr zero_at ↦ (
           let none : count_by (λ y. nat_le (tau y) u) xs ≡ 0 =
-          count_by_none (λ y. nat_le (tau y) u) xs (λ k d _. false_from_ne_true _ (λ e. omega (arith, zero_at, early _ e))) in
+          count_by_none (λ y. nat_le (tau y) u) xs
+          (λ k d _. false_from_ne_true _ (λ e. omega (arith, zero_at, early _ e))) in
           omega (arith, none, many, some))
     ]
 
@@ -60,14 +65,20 @@ rank_moves end last r xs tau rising some x is = record {
     | inr not ↦ (let at : tau x ≡ last = rising.after x not in omega (arith, at))
   ];
   comes = λ u low.
-      let counted : count_by (λ y. nat_le y u) (map tau xs) ≡ count_by (λ y. nat_le (tau y) u) xs = count_by-map (λ y. nat_le y u) tau xs in
+      let counted : count_by (λ y. nat_le y u) (map tau xs)
+      ≡ count_by (λ y. nat_le (tau y) u) xs = count_by-map (λ y. nat_le y u) tau xs in
       both_imply _ _
       (λ e. elim (cases_lt u (tau x)) [
         | inl after ↦ absurd (let many : r ≤ count_by (λ y. nat_le y u) (map tau xs) = leb-true _ _ e in
             too_few end last r xs tau rising some x u is after (omega (arith, many, counted)))
         | inr come ↦ le-leb (tau x) u come
       ])
-      (λ e. le-leb _ _ (omega (arith, counted, enough_come end last r xs tau rising x u is low (leb-true (tau x) u e))));
+      (λ e. le-leb _ _ (omega (
+        arith,
+        counted,
+        enough_come end last r xs tau rising x u is low
+            (leb-true (tau x) u e),
+      )));
 }
 
 pub ranks_rise : (end last r : ℕ) (xs : List ℕ) (tau : ℕ → ℕ) → IsRising end last tau → 1 ≤ r
@@ -114,7 +125,8 @@ chosen : (i : Bool) (tau : ℕ → ℕ) (a b x y : ℕ) → x ≡ tau a → y �
 chosen true tau a b x y one other = one
 chosen false tau a b x y one other = other
 
-full_moves : (end last : ℕ) (r : Layout) (rule : Rule) (at : EdgeTimes) (tau : ℕ → ℕ) → IsRising end last tau → IsRule rule
+full_moves : (end last : ℕ) (r : Layout) (rule : Rule) (at : EdgeTimes) (tau : ℕ → ℕ) → IsRising end last tau
+    → IsRule rule
     → (s ring : ℕ) → full_time last r rule (moved tau at) ring s ≡ tau (full_time end r rule at ring s)
 unfolding full_time
 full_moves end last r rule at tau rising is s ring =
@@ -122,16 +134,19 @@ full_moves end last r rule at tau rising is s ring =
     let low : ℕ = low_of end rule at s in
     let its : ℕ = low_of end rule at o in
     chosen rule.implicit tau (min (at ring s) (max low its)) (at ring s) _ _
-    (ap (λ m. min (tau (at ring s)) (max m (low_of last rule (moved tau at) o))) (lows_rise end last rule at tau rising is s)
+    (ap (λ m. min (tau (at ring s)) (max m (low_of last rule (moved tau at) o)))
+    (lows_rise end last rule at tau rising is s)
     ∙ ap (λ m. min (tau (at ring s)) (max (tau low) m)) (lows_rise end last rule at tau rising is o)
     ∙ ap (λ m. min (tau (at ring s)) m) (max_moves end last tau rising low its)
     ∙ min_moves end last tau rising (at ring s) (max low its))
     refl
 
-pub highs_rise : (end last : ℕ) (r : Layout) (rule : Rule) (at : EdgeTimes) (tau : ℕ → ℕ) → IsRising end last tau → IsRule rule
+pub highs_rise : (end last : ℕ) (r : Layout) (rule : Rule) (at : EdgeTimes) (tau : ℕ → ℕ) → IsRising end last tau
+    → IsRule rule
     → (s : ℕ) → high_of last r rule (moved tau at) s ≡ tau (high_of end r rule at s)
 unfolding high_of
 highs_rise end last r rule at tau rising is s =
     ap (rank_at last rule.h) (times_moved rule.k (full_time end r rule at) (full_time last r rule (moved tau at)) tau s
     (λ ring. full_moves end last r rule at tau rising is s ring))
-    ∙ ranks_rise end last rule.h (times_to rule.k (full_time end r rule at) s) tau rising (omega (arith, is.low, is.gap))
+    ∙ ranks_rise end last rule.h (times_to rule.k (full_time end r rule at) s) tau rising
+    (omega (arith, is.low, is.gap))

@@ -1,7 +1,9 @@
 -- Tests of numbers, and counts of what passes them.
-use Rattle.std.proofs.Common.{◌≡◌, inl, inr, ℕ, zero, suc, ◌+◌, ◌<◌, ◌≤◌, Bool, true, false, cond, List, [], ◌∷◌, not, nat_lt, nat_le, get_or, length, subst, refl, ap, sym, ◌∙◌, arith}
+use Rattle.std.proofs.Common.{◌≡◌, inl, inr, ℕ, zero, suc, ◌+◌, ◌<◌, ◌≤◌, Bool, true, false, cond, List, [], ◌∷◌, not}
+use Rattle.std.proofs.Common.{nat_lt, nat_le, get_or, length, subst, refl, ap, sym, ◌∙◌, arith}
 use Rattle.std.specs.List.{count_by, range_with_len}
-use Rattle.std.proofs.lemmas.Bool.{both_ways, cases_Bool, cases_lt, le-leb, leb-true, lt-leb, ltb-true, false_from_ne_true}
+use Rattle.std.proofs.lemmas.Bool.{both_ways, cases_Bool, cases_lt, le-leb, leb-true, lt-leb, ltb-true}
+use Rattle.std.proofs.lemmas.Bool.{false_from_ne_true}
 use Rattle.std.proofs.lemmas.Bool.Decides.{nat_tests}
 use Rattle.std.proofs.lemmas.List.Sums.{sum_by_push, sum_by-cons}
 use Rattle.std.proofs.lemmas.List.Folds.{list_any_at}
@@ -61,7 +63,8 @@ unturned : (p : ℕ → Bool) → IsKept p → (n : ℕ) → IsTrueFrom p n (fai
     → fails_before p (n + 1) ≡ fails_before p n + cond (not (p n)) 1 0 → IsTrueFrom p (n + 1) (fails_before p (n + 1))
 unturned p keeps n before fails more =
     let one : cond {A = ℕ} (not (p n)) 1 0 ≡ 1 = ap (λ (b : Bool). cond {A = ℕ} (not b) 1 0) fails in
-    let none : (t : ℕ) → t ≤ n → p t ≡ false = λ t low. false_from_ne_true (p t) (λ is. both_ways (p n) fails (keeps.kept t n low is)) in
+    let none : (t : ℕ) → t ≤ n → p t ≡ false = λ t low. false_from_ne_true (p t)
+    (λ is. both_ways (p n) fails (keeps.kept t n low is)) in
     let all : fails_before p n ≡ n = elim (cases_lt (fails_before p n) n) [
       | inl less ↦ absurd (both_ways (p (fails_before p n)) (none (fails_before p n) (omega (arith, less)))
           (before.comes (fails_before p n) less ∙ le-leb _ _ (omega arith)))
@@ -100,4 +103,9 @@ two_pass p (x ∷ xs) zero (suc j) d before within one other =
     let here : cond {A = ℕ} (p x) 1 0 ≡ 1 = ap (λ (b : Bool). cond {A = ℕ} b 1 0) one in
     omega (arith, here, sum_by-cons (λ y. cond (p y) 1 0) x xs, one_passes p xs j d (omega (arith, within)) other)
 two_pass p (x ∷ xs) (suc i) (suc j) d before within one other =
-    omega (arith, sum_by-cons (λ y. cond (p y) 1 0) x xs, two_pass p xs i j d (omega (arith, before)) (omega (arith, within)) one other)
+    omega (
+      arith,
+      sum_by-cons (λ y. cond (p y) 1 0) x xs,
+      two_pass p xs i j d (omega (arith, before))
+          (omega (arith, within)) one other,
+    )

@@ -1,5 +1,6 @@
 -- Lows and highs as ranks of the values that are listed.
-use Rattle.std.proofs.Common.{◌≡◌, ℕ, ◌^◌, ◌<◌, ◌≤◌, ◌&&◌, Bool, true, false, cond, nat_le, nat_lt, List, map, filter, min, max, refl, ap, sym, ◌∙◌, arith}
+use Rattle.std.proofs.Common.{◌≡◌, ℕ, ◌^◌, ◌<◌, ◌≤◌, ◌&&◌, Bool, true, false, cond, nat_le, nat_lt, List, map, filter}
+use Rattle.std.proofs.Common.{min, max, refl, ap, sym, ◌∙◌, arith}
 use Rattle.std.specs.List.{All, Contains, count_by, range_with_len}
 use Rattle.std.specs.List.Sorted.{IsPermutation}
 use Rattle.std.proofs.lemmas.Bool.{both_ways, lt-leb, lt-ltb}
@@ -40,13 +41,17 @@ come_alike f p k t rings moved later =
     ∙ sum_by-IsPermutation (λ ring. cond (nat_le (f ring) t) 1 0) (filter p (range_with_len 0 k)) rings moved
     ∙ count_filter (λ ring. nat_le (f ring) t) p (range_with_len 0 k)
     ∙ count_by_agree (λ ring. p ring && nat_le (f ring) t) (λ ring. nat_le (f ring) t) 0 k
-    (record { same = λ ring _ below. absorbed (p ring) (nat_le (f ring) t) (λ none. lt-leb (f ring) t (later ring (omega (arith, below)) none)) })
+    (record {
+      same = λ ring _ below. absorbed (p ring) (nat_le (f ring) t)
+          (λ none. lt-leb (f ring) t (later ring (omega (arith, below)) none));
+    })
     ∙ sym (count_by-map (λ y. nat_le y t) f (range_with_len 0 k))
 
 -- ---- images
 
 images_within : (x : Hearing) (last ring s : ℕ) → images_at x last ring s ≤ last
-images_within x last ring s = (rank_is last 1 (map (image_of x) (filter (λ y. is_edge ring s y.edge) (deliveries_of x)))).within
+images_within x last ring s = (rank_is last 1 (map (image_of x)
+    (filter (λ y. is_edge ring s y.edge) (deliveries_of x)))).within
 
 others_late : ImagesAreBelowNever → (x : Hearing) (last ring s : ℕ) → IsHearing x → 1 ≤ x.copies → 2 ^ 30 ≤ last
     → set_of x.edges ring s ≡ false → last ≤ images_at x last ring s
@@ -54,38 +59,46 @@ others_late below x last ring s is some wide none =
     not_before (images_at x last ring s) last
     (ends_come x is some last (image_of x) (omega (arith, wide)) (images_before below x last wide) ring s ∙ none)
 
-pub others_never_come : ImagesAreBelowNever → (x : Hearing) (last ring s : ℕ) → IsHearing x → 1 ≤ x.copies → 2 ^ 30 ≤ last
+pub others_never_come : ImagesAreBelowNever → (x : Hearing) (last ring s : ℕ) → IsHearing x → 1 ≤ x.copies → 2 ^ 30
+    ≤ last
     → set_of x.edges ring s ≡ false → images_at x last ring s ≡ last
 others_never_come below x last ring s is some wide none =
     omega (arith, others_late below x last ring s is some wide none, images_within x last ring s)
 
 -- ---- full times
 
-ungained : (i a b : Bool) (at low its last : ℕ) → at ≤ last → nat_lt low last ≡ a → nat_lt its last ≡ b → i && a && b ≡ false
+ungained : (i a b : Bool) (at low its last : ℕ) → at ≤ last → nat_lt low last ≡ a → nat_lt its last ≡ b → i && a && b
+    ≡ false
     → cond i (min at (max low its)) at ≡ at
 ungained false a b at low its last within one other none = refl
 ungained true false b at low its last within one other none =
-    (let late : last ≤ low = not_before low last one in let is : min at (max low its) ≡ at = omega (arith, within, late) in is)
+    (let late : last ≤ low = not_before low last one in let is : min at (max low its) ≡ at = omega (arith, within, late)
+    in is)
 ungained true true false at low its last within one other none =
-    (let late : last ≤ its = not_before its last other in let is : min at (max low its) ≡ at = omega (arith, within, late) in is)
+    (let late : last ≤ its = not_before its last other in let is : min at (max low its)
+    ≡ at = omega (arith, within, late) in is)
 ungained true true true at low its last within one other none = absurd (both_ways true none refl)
 
-pub ungained_by_image : ImagesAreBelowNever → (x : Hearing) (last ring s : ℕ) → IsHearing x → 1 ≤ x.copies → 2 ^ 30 ≤ last
+pub ungained_by_image : ImagesAreBelowNever → (x : Hearing) (last ring s : ℕ) → IsHearing x → 1 ≤ x.copies → 2 ^ 30
+    ≤ last
     → ring < x.rule.k → s < x.layout.nodes → is_gained x.layout x.rule (set_of x.edges) ring s ≡ false
     → full_time last x.layout x.rule (images_at x last) ring s ≡ images_at x last ring s
 unfolding full_time
 ungained_by_image below x last ring s is some wide in_rule process none =
     let o : ℕ = observer_of x.layout ring s in
-    let observer : o < x.layout.nodes = observer_is_process x.layout is.layout ring s (omega (arith, in_rule, is.rings)) process in
+    let observer : o < x.layout.nodes = observer_is_process x.layout is.layout ring s (omega (arith, in_rule, is.rings))
+    process in
     ungained x.rule.implicit (is_reported x.rule (set_of x.edges) s) (is_reported x.rule (set_of x.edges) o)
     (images_at x last ring s) (lows_at x last s) (lows_at x last o) last (images_within x last ring s)
-    (ends_reported_alike below x last is some wide s process) (ends_reported_alike below x last is some wide o observer) none
+    (ends_reported_alike below x last is some wide s process) (ends_reported_alike below x last is some wide o observer)
+    none
 
 pub gained_by_lows : (x : Hearing) (last ring s : ℕ) → is_gained x.layout x.rule (set_of x.edges) ring s ≡ true
     → full_time last x.layout x.rule (images_at x last) ring s
     ≡ min (images_at x last ring s) (max (lows_at x last s) (lows_at x last (observer_of x.layout ring s)))
 unfolding full_time
-gained_by_lows x last ring s is = first_true x.rule.implicit (is_reported x.rule (set_of x.edges) s) (is_reported x.rule (set_of x.edges) (observer_of x.layout ring s)) _ _ is
+gained_by_lows x last ring s is = first_true x.rule.implicit (is_reported x.rule (set_of x.edges) s)
+    (is_reported x.rule (set_of x.edges) (observer_of x.layout ring s)) _ _ is
   where
     first_true : (i a b : Bool) (m n : ℕ) → i && a && b ≡ true → cond i m n ≡ m
     first_true true a b m n e = refl
@@ -96,39 +109,47 @@ full_late : ImagesAreBelowNever → (x : Hearing) (last ring s : ℕ) → IsHear
     → last ≤ full_time last x.layout x.rule (images_at x last) ring s
 full_late below x last ring s is some wide in_rule process none =
     not_before (full_time last x.layout x.rule (images_at x last) ring s) last
-    (ends_full x is some last (image_of x) (omega (arith, wide)) (images_before below x last wide) ring s in_rule process ∙ none)
+    (ends_full x is some last (image_of x) (omega (arith, wide)) (images_before below x last wide) ring s in_rule
+    process ∙ none)
 
 -- ---- ranks
 
-pub low_is_rank : ImagesAreBelowNever → (x : Hearing) (last s : ℕ) (values : List ℕ) (v : ℕ) → IsHearing x → 1 ≤ x.copies → 2 ^ 30 ≤ last
+pub low_is_rank : ImagesAreBelowNever → (x : Hearing) (last s : ℕ) (values : List ℕ) (v : ℕ) → IsHearing x → 1
+    ≤ x.copies → 2 ^ 30 ≤ last
     → s < x.layout.nodes → ArePresent x last s values → IsRank last x.rule.l values v → v ≡ lows_at x last s
 unfolding low_of
 low_is_rank below x last s values v is some wide process present rank =
     rank_of_alike last x.rule.l values (times_to x.rule.k (images_at x last) s) v
     (λ t low. ap (count_by (λ y. nat_le y t)) present.values_are
-    ∙ come_alike (λ ring. images_at x last ring s) (λ ring. set_of x.edges ring s) x.rule.k t present.rings present.moved
+    ∙ come_alike (λ ring. images_at x last ring s) (λ ring. set_of x.edges ring s) x.rule.k t present.rings
+    present.moved
     (λ ring _ none. omega (arith, low, others_late below x last ring s is some wide none)))
     rank
 
-pub high_is_rank : ImagesAreBelowNever → (x : Hearing) (last s : ℕ) (values : List ℕ) (v : ℕ) → IsHearing x → 1 ≤ x.copies → 2 ^ 30 ≤ last
+pub high_is_rank : ImagesAreBelowNever → (x : Hearing) (last s : ℕ) (values : List ℕ) (v : ℕ) → IsHearing x → 1
+    ≤ x.copies → 2 ^ 30 ≤ last
     → s < x.layout.nodes → AreFullTimes x last s values → IsRank last x.rule.h values v → v ≡ highs_at x last s
 unfolding high_of
 high_is_rank below x last s values v is some wide process full rank =
     rank_of_alike last x.rule.h values (times_to x.rule.k (full_time last x.layout x.rule (images_at x last)) s) v
     (λ t low. ap (count_by (λ y. nat_le y t)) full.values_are
-    ∙ come_alike (λ ring. full_time last x.layout x.rule (images_at x last) ring s) (λ ring. is_full x.layout x.rule (set_of x.edges) ring s) x.rule.k t full.rings full.moved
+    ∙ come_alike (λ ring. full_time last x.layout x.rule (images_at x last) ring s)
+    (λ ring. is_full x.layout x.rule (set_of x.edges) ring s) x.rule.k t full.rings full.moved
     (λ ring in_rule none. omega (arith, low, full_late below x last ring s is some wide in_rule process none)))
     rank
 
 -- ---- nodes
 
-pub reported_are_nodes : ImagesAreBelowNever → (x : Hearing) (last : ℕ) (nodes : List ℕ) → IsHearing x → 1 ≤ x.copies → 2 ^ 30 ≤ last
+pub reported_are_nodes : ImagesAreBelowNever → (x : Hearing) (last : ℕ) (nodes : List ℕ) → IsHearing x → 1 ≤ x.copies
+    → 2 ^ 30 ≤ last
     → All (λ s. s < x.layout.nodes) nodes
     → ((s : ℕ) → s < x.layout.nodes → is_reported x.rule (set_of x.edges) s ≡ true → Contains nodes s)
-    → AreNodes x.layout.nodes last (lows_at x last) (highs_at x last) nodes (map (lows_at x last) nodes) (map (highs_at x last) nodes)
+    → AreNodes x.layout.nodes last (lows_at x last) (highs_at x last) nodes (map (lows_at x last) nodes)
+    (map (highs_at x last) nodes)
 reported_are_nodes below x last nodes is some wide processes each = record {
   processes = processes;
-  each = λ s process early. each s process (sym (ends_reported_alike below x last is some wide s process) ∙ lt-ltb (lows_at x last s) last early);
+  each = λ s process early. each s process (sym (ends_reported_alike below x last is some wide s process)
+      ∙ lt-ltb (lows_at x last s) last early);
   lows_are = refl;
   highs_are = refl;
 }

@@ -1,5 +1,7 @@
 -- Laws of proposals by times.
-use Rattle.std.specs.Prelude.{◌≡◌, ℕ, ◌+◌, ◌/◌, ◌%◌, ◌^◌, ◌<◌, ◌≤◌, ◌&&◌, ◌||◌, ◌==◌, IsTrue, Bool, true, false, not, nat_le, nat_lt, min, max, List, All, Contains, map, filter, count_by, Some, None, find, option_map, if◌then◌else◌}
+use Rattle.std.specs.Prelude.{◌≡◌, ℕ, ◌+◌, ◌/◌, ◌%◌, ◌^◌, ◌<◌, ◌≤◌, ◌&&◌, ◌||◌, ◌==◌, IsTrue, Bool, true, false, not}
+use Rattle.std.specs.Prelude.{nat_le, nat_lt, min, max, List, All, Contains, map, filter, count_by, Some, None, find}
+use Rattle.std.specs.Prelude.{option_map, if◌then◌else◌}
 use Rattle.std.specs.List.{range_with_len, list_any}
 use Rattle.cut_rings.specs.Layout.{Layout, observer_of}
 use Rattle.cut_rings.specs.Edges.{EdgeSet, set_of, edge_number}
@@ -11,7 +13,8 @@ use Rattle.cut_arrivals.specs.Rising.{IsRising, moved}
 use Rattle.cut_arrivals.specs.Nodes.{AreTimes, AreNodes, IsClosed}
 use Rattle.cut_arrivals.specs.Values.{ArePresent, AreFullTimes}
 use Rattle.cut_blocks.specs.Images.{never, row_of, least_image}
-use Rattle.cut_arrivals.specs.Hearing.{Hearing, IsHearing, deliveries_of, image_of, images_at, proposal_at, lows_at, highs_at}
+use Rattle.cut_arrivals.specs.Hearing.{Hearing, IsHearing, deliveries_of, image_of, images_at, proposal_at, lows_at}
+use Rattle.cut_arrivals.specs.Hearing.{highs_at}
 use Rattle.cut_ranks.specs.Ranks.{rank_at, IsRank}
 
 -- a process is reported on L rings exactly from its low time on
@@ -66,7 +69,7 @@ HighsRise =
     (end last : ℕ) (r : Layout) (rule : Rule) (at : EdgeTimes) (tau : ℕ → ℕ) → IsRising end last tau → IsRule rule →
     (s : ℕ) → high_of last r rule (moved tau at) s ≡ tau (high_of end r rule at s)
 
--- where nothing is doubted, the closing of changed times tells the members at the first settled time
+-- where nothing is doubted, the closing of changed times gives the members at the first settled time
 abbrev pub ClosesAsSettled : Type 0
 ClosesAsSettled =
     (n count last : ℕ) (low high tau : ℕ → ℕ) (lows highs : List ℕ) (first time : ℕ) →
@@ -75,7 +78,7 @@ ClosesAsSettled =
     option_map (λ t. members_by n high t) (find (λ t. is_settled_by n low high t) (range_with_len 1 count))
     ≡ (if nat_lt time last then Some (members_by n (λ s. tau (high s)) time) else None)
 
--- what a receiver proposes has the members that the closing of images tells, where nothing is doubted
+-- what a receiver proposes has the members that the closing of images gives, where nothing is doubted
 abbrev pub ClosesAsProposed : Type 0
 ClosesAsProposed =
     (x : Hearing) (last : ℕ) (lows highs : List ℕ) (first time : ℕ) → IsHearing x → 2 ^ 30 ≤ last →
@@ -84,7 +87,7 @@ ClosesAsProposed =
     ≡ (if nat_lt time last then Some (members_by x.layout.nodes (highs_at x last) time) else None)
 
 -- and where at most one delivery has the image of the closing time, it is made at the place that the deliveries with
--- images up to it tell
+-- images up to it show
 abbrev pub ClosesAtPlace : Type 0
 ClosesAtPlace =
     (x : Hearing) (last : ℕ) (lows highs : List ℕ) (first time : ℕ) → IsHearing x → 2 ^ 30 ≤ last →
@@ -117,7 +120,8 @@ SilentWhereNoneEndsStable =
 
 -- the images of edges, and lows and highs, as they are computed
 
--- the image of an alerted edge is the least over its copies, of the key that its number tells in the blocks of the row of
+-- the image of an alerted edge is the least over its copies, of the key that its number gives in the blocks of the row
+-- of
 -- the receiver
 abbrev pub ImagesAreLeast : Type 0
 ImagesAreLeast =
@@ -135,7 +139,8 @@ OthersNeverCome =
 -- a ring that isn't gained counts from the image of its edge on
 abbrev pub UngainedCountByImage : Type 0
 UngainedCountByImage =
-    (x : Hearing) (last ring s : ℕ) → IsHearing x → 1 ≤ x.copies → 2 ^ 30 ≤ last → ring < x.rule.k → s < x.layout.nodes →
+    (x : Hearing) (last ring s : ℕ) → IsHearing x → 1 ≤ x.copies → 2 ^ 30 ≤ last → ring < x.rule.k → s < x.layout.nodes
+    →
     is_gained x.layout x.rule (set_of x.edges) ring s ≡ false →
     full_time last x.layout x.rule (images_at x last) ring s ≡ images_at x last ring s
 
@@ -147,15 +152,18 @@ GainedCountByLows =
     full_time last x.layout x.rule (images_at x last) ring s
     ≡ min (images_at x last ring s) (max (lows_at x last s) (lows_at x last (observer_of x.layout ring s)))
 
--- so a low is a rank of the images of alerted edges, and a high one of the full times of the rings that count in the end
+-- so a low is a rank of the images of alerted edges, and a high one of the full times of the rings that count in the
+-- end
 abbrev pub LowIsRankOfPresent : Type 0
 LowIsRankOfPresent =
-    (x : Hearing) (last s : ℕ) (values : List ℕ) (v : ℕ) → IsHearing x → 1 ≤ x.copies → 2 ^ 30 ≤ last → s < x.layout.nodes →
+    (x : Hearing) (last s : ℕ) (values : List ℕ) (v : ℕ) → IsHearing x → 1 ≤ x.copies → 2 ^ 30 ≤ last → s
+    < x.layout.nodes →
     ArePresent x last s values → IsRank last x.rule.l values v → v ≡ lows_at x last s
 
 abbrev pub HighIsRankOfFullTimes : Type 0
 HighIsRankOfFullTimes =
-    (x : Hearing) (last s : ℕ) (values : List ℕ) (v : ℕ) → IsHearing x → 1 ≤ x.copies → 2 ^ 30 ≤ last → s < x.layout.nodes →
+    (x : Hearing) (last s : ℕ) (values : List ℕ) (v : ℕ) → IsHearing x → 1 ≤ x.copies → 2 ^ 30 ≤ last → s
+    < x.layout.nodes →
     AreFullTimes x last s values → IsRank last x.rule.h values v → v ≡ highs_at x last s
 
 -- the processes that are reported in the end are all that is needed
@@ -164,13 +172,14 @@ ReportedAreNodes =
     (x : Hearing) (last : ℕ) (nodes : List ℕ) → IsHearing x → 1 ≤ x.copies → 2 ^ 30 ≤ last →
     All (λ s. s < x.layout.nodes) nodes →
     ((s : ℕ) → s < x.layout.nodes → IsTrue (is_reported x.rule (set_of x.edges) s) → Contains nodes s) →
-    AreNodes x.layout.nodes last (lows_at x last) (highs_at x last) nodes (map (lows_at x last) nodes) (map (highs_at x last) nodes)
+    AreNodes x.layout.nodes last (lows_at x last) (highs_at x last) nodes (map (lows_at x last) nodes)
+    (map (highs_at x last) nodes)
 
 -- what the members lack of some targets, and what they have besides, by the nodes alone
 
 -- some target is none of the members where some is no node, or some node that is a target ends later
-abbrev pub NodesTellLacking : Type 0
-NodesTellLacking =
+abbrev pub NodesShowLacking : Type 0
+NodesShowLacking =
     (x : Hearing) (last time : ℕ) (nodes lows highs : List ℕ) (is_target : ℕ → Bool) → IsHearing x → 2 ^ 30 ≤ last →
     AreNodes x.layout.nodes last (lows_at x last) (highs_at x last) nodes lows highs → time < last →
     list_any (λ p. is_target p && not (list_any (λ m. m == p) (members_by x.layout.nodes (highs_at x last) time)))
@@ -179,8 +188,8 @@ NodesTellLacking =
     || list_any (λ p. is_target p && nat_lt time (highs_at x last p)) nodes)
 
 -- some member is no target where some node that is none has ended
-abbrev pub NodesTellOther : Type 0
-NodesTellOther =
+abbrev pub NodesShowOther : Type 0
+NodesShowOther =
     (x : Hearing) (last time : ℕ) (nodes lows highs : List ℕ) (is_target : ℕ → Bool) → IsHearing x → 2 ^ 30 ≤ last →
     AreNodes x.layout.nodes last (lows_at x last) (highs_at x last) nodes lows highs → time < last →
     list_any (λ p. not (is_target p)) (members_by x.layout.nodes (highs_at x last) time)

@@ -20,4 +20,4 @@ pub record IsClosed (n last : ℕ) (low high : ℕ → ℕ) (lows highs : List �
   pub nodes : (some : List ℕ) × AreNodes n last low high some lows highs
   pub least : IsLeast lows first
   pub closing : IsClosing first lows highs time
-  pub sure : is_doubtful lows first time ≡ false
+  pub certain : is_doubtful lows first time ≡ false

@@ -1,6 +1,7 @@
 -- When edges come, and from when on a process is reported and stable. A time may be a place among deliveries or the
 -- image of a key. What doesn't come has the time `end`, or a later one: all that comes has a time before it.
-use Rattle.std.specs.Prelude.{◌≡◌, ℕ, ◌<◌, ◌≤◌, ◌&&◌, Bool, not, nat_le, nat_lt, List, map, filter, min, max, if◌then◌else◌}
+use Rattle.std.specs.Prelude.{◌≡◌, ℕ, ◌<◌, ◌≤◌, ◌&&◌, Bool, not, nat_le, nat_lt, List, map, filter, min, max}
+use Rattle.std.specs.Prelude.{if◌then◌else◌}
 use Rattle.std.specs.List.{range_with_len, list_any}
 use Rattle.cut_rings.specs.Layout.{Layout, observer_of}
 use Rattle.cut_rings.specs.Edges.{EdgeSet}

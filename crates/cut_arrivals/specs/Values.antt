@@ -16,5 +16,6 @@ pub record ArePresent (x : Hearing) (last s : ℕ) (values : List ℕ) : Type 0 
 -- the full times, by images, of the rings that count for s in the end, in any order
 pub record AreFullTimes (x : Hearing) (last s : ℕ) (values : List ℕ) : Type 0 where
   pub rings : List ℕ
-  pub moved : IsPermutation (filter (λ ring. is_full x.layout x.rule (set_of x.edges) ring s) (range_with_len 0 x.rule.k)) rings
+  pub moved : IsPermutation (filter (λ ring. is_full x.layout x.rule (set_of x.edges) ring s)
+      (range_with_len 0 x.rule.k)) rings
   pub values_are : values ≡ map (λ ring. full_time last x.layout x.rule (images_at x last) ring s) rings

@@ -21,8 +21,8 @@ ghost use Rattle.cut_arrivals.specs.Laws.{
   LowIsRankOfPresent,
   HighIsRankOfFullTimes,
   ReportedAreNodes,
-  NodesTellLacking,
-  NodesTellOther,
+  NodesShowLacking,
+  NodesShowOther,
   MembersAreTargets,
 };
 
@@ -50,22 +50,22 @@ pub fn ranks_keep_rising_changes()
 {}
 
 /// Where nothing is doubted, the time by which all has ended that began before it stands for the first settled time,
-/// and tells its members, even where times are tied.
-pub fn closing_tells_the_members()
+/// and gives its members, even where times are tied.
+pub fn closing_gives_the_members()
     ensures { ClosesAsSettled }
 {}
 
-/// What a receiver proposes has exactly the members that the images of its deliveries tell by their closing time,
+/// What a receiver proposes has exactly the members that the images of its deliveries give by their closing time,
 /// where nothing is doubted. No order of the deliveries is needed, and ties of images do no harm.
-pub fn images_tell_the_members()
+pub fn images_give_the_members()
     ensures { ClosesAsProposed }
 {
     images_are_below_never();
 }
 
-/// Where at most one delivery has the image of the closing time, the whole proposal is told: its place is how many
+/// Where at most one delivery has the image of the closing time, the whole proposal is known: its place is how many
 /// deliveries have images up to that time.
-pub fn images_tell_the_place()
+pub fn images_give_the_place()
     ensures { ClosesAtPlace }
 {
     images_are_below_never();
@@ -93,7 +93,7 @@ pub fn images_stand_in_blocks()
 
 /// Lows and highs are ranks of few values: the images of alerted edges, and with implicit alerts the lows of both
 /// processes where a ring is gained.
-pub fn few_values_tell_lows_and_highs()
+pub fn few_values_give_lows_and_highs()
     ensures others { OthersNeverCome }
     ensures ungained { UngainedCountByImage }
     ensures gained { GainedCountByLows }
@@ -104,11 +104,11 @@ pub fn few_values_tell_lows_and_highs()
     images_are_below_never();
 }
 
-/// Whether the members lack a target, or have another process, is told by the processes that are reported in the end.
+/// Whether the members lack a target, or have another process, follows from the processes that are reported in the end.
 /// Where neither is so, the members are the targets.
-pub fn nodes_tell_the_verdict()
-    ensures lacking { NodesTellLacking }
-    ensures other { NodesTellOther }
+pub fn nodes_show_the_verdict()
+    ensures lacking { NodesShowLacking }
+    ensures other { NodesShowOther }
     ensures exact { MembersAreTargets }
 {
     images_are_below_never();

@@ -19,4 +19,5 @@ least_more d copies block q row =
 pub least_none : (d : Source) (block : ℕ) (rows : List ℕ) → length rows ≡ 4
     → replicate 8 (replicate 4 never) ≡ eight (least_image d 0 block) rows
 unfolding least_image
-least_none d block = of_four (λ rows. replicate 8 (replicate 4 never) ≡ eight (least_image d 0 block) rows) (λ a b c e. refl)
+least_none d block = of_four (λ rows. replicate 8 (replicate 4 never) ≡ eight (least_image d 0 block) rows)
+    (λ a b c e. refl)

@@ -1,5 +1,6 @@
 -- Lanes of vectors of four.
-use Rattle.std.proofs.Common.{◌≡◌, ℕ, zero, suc, ◌*◌, ◌-◌, ◌/◌, ◌%◌, ◌^◌, ◌<◌, List, [], ◌∷◌, length, map, slice_index, bit_or, bit_xor, refl, arith}
+use Rattle.std.proofs.Common.{◌≡◌, ℕ, zero, suc, ◌*◌, ◌-◌, ◌/◌, ◌%◌, ◌^◌, ◌<◌, List, [], ◌∷◌, length, map, slice_index}
+use Rattle.std.proofs.Common.{bit_or, bit_xor, refl, arith}
 use Rattle.std.specs.Simd.Lanes.{zip2}
 use Rattle.rand_chacha.specs.Block.{xor_rotate}
 
@@ -29,7 +30,8 @@ Turns bits a b =
     (zip2 (λ x n. x / 2 ^ n) (zip2 bit_xor a b) ((32 - bits) ∷ (32 - bits) ∷ (32 - bits) ∷ (32 - bits) ∷ []))) j
     ≡ xor_rotate (slice_index a j) (slice_index b j) bits
 
-pub shifts_turn : (bits : ℕ) → 0 < bits → bits < 32 → (a : List ℕ) → length a ≡ 4 → (b : List ℕ) → length b ≡ 4 → Turns bits a b
+pub shifts_turn : (bits : ℕ) → 0 < bits → bits < 32 → (a : List ℕ) → length a ≡ 4 → (b : List ℕ) → length b ≡ 4
+    → Turns bits a b
 shifts_turn bits some few =
     let left : bits % 32 ≡ bits = omega (arith, few) in
     let right : (32 - bits) % 32 ≡ 32 - bits = omega (arith, some) in
@@ -41,6 +43,8 @@ shifts_turn bits some few =
 pub lanes_are : (f : ℕ → ℕ) (xs : List ℕ) → length xs ≡ 4 → (ys : List ℕ) → length ys ≡ 4
     → ((j : ℕ) → j < 4 → slice_index xs j ≡ f (slice_index ys j)) → xs ≡ map f ys
 lanes_are f =
-    of_four (λ xs. (ys : List ℕ) → length ys ≡ 4 → ((j : ℕ) → j < 4 → slice_index xs j ≡ f (slice_index ys j)) → xs ≡ map f ys) (λ a0 a1 a2 a3.
-    of_four (λ ys. ((j : ℕ) → j < 4 → slice_index (a0 ∷ a1 ∷ a2 ∷ a3 ∷ []) j ≡ f (slice_index ys j)) → a0 ∷ a1 ∷ a2 ∷ a3 ∷ [] ≡ map f ys) (λ b0 b1 b2 b3 are.
+    of_four (λ xs. (ys : List ℕ) → length ys ≡ 4 → ((j : ℕ) → j < 4 → slice_index xs j ≡ f (slice_index ys j)) → xs
+    ≡ map f ys) (λ a0 a1 a2 a3.
+    of_four (λ ys. ((j : ℕ) → j < 4 → slice_index (a0 ∷ a1 ∷ a2 ∷ a3 ∷ []) j ≡ f (slice_index ys j)) → a0 ∷ a1 ∷ a2 ∷ a3
+    ∷ [] ≡ map f ys) (λ b0 b1 b2 b3 are.
     rw (← are 0 (omega arith), ← are 1 (omega arith), ← are 2 (omega arith), ← are 3 (omega arith)) refl))

@@ -1,5 +1,6 @@
 -- Words of blocks, and images of keys.
-use Rattle.std.proofs.Common.{◌≡◌, ◌∙◌, ℕ, ◌+◌, ◌*◌, ◌/◌, ◌%◌, ◌^◌, ◌<◌, List, map, length, slice_index, refl, sym, arith}
+use Rattle.std.proofs.Common.{◌≡◌, ◌∙◌, ℕ, ◌+◌, ◌*◌, ◌/◌, ◌%◌, ◌^◌, ◌<◌, List, map, length, slice_index, refl, sym}
+use Rattle.std.proofs.Common.{arith}
 use Rattle.rand_chacha.specs.Block.{add32, double_rounds, initial_state, block_word}
 use Rattle.rand_chacha.specs.Lanes.{lane}
 use Rattle.cut_draws.specs.Source.{Source, word_of}
@@ -19,7 +20,8 @@ image_is d place =
 
 -- a word of one block, from its states before and after the rounds
 one_word : (key : List ℕ) (block stream word : ℕ) (first last : List ℕ) → first ≡ initial_state key block stream
-    → last ≡ double_rounds 4 first → add32 (slice_index last word) (slice_index first word) ≡ block_word 4 key block stream word
+    → last ≡ double_rounds 4 first → add32 (slice_index last word) (slice_index first word)
+    ≡ block_word 4 key block stream word
 unfolding block_word
 one_word key block stream word first last begins ends = rw (ends, begins) refl
 
@@ -28,7 +30,8 @@ pub word_vector : (d : Source) (first last : List (List ℕ)) (blocks word : Lis
     → length blocks ≡ 4 → length word ≡ 4
     → ((j : ℕ) → j < 4 → lane j first ≡ initial_state d.key (slice_index blocks j) d.stream)
     → ((j : ℕ) → j < 4 → lane j last ≡ double_rounds 4 (lane j first))
-    → ((j : ℕ) → j < 4 → slice_index word j ≡ add32 (slice_index (lane j last) (2 * q)) (slice_index (lane j first) (2 * q)))
+    → ((j : ℕ) → j < 4 → slice_index word j ≡ add32 (slice_index (lane j last) (2 * q))
+    (slice_index (lane j first) (2 * q)))
     → word ≡ map (λ b. word_of d (place_in b q)) blocks
 word_vector d first last blocks word q few four own begins ends sums =
     lanes_are (λ b. word_of d (place_in b q)) word own blocks four (λ j low.

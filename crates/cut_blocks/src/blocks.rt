@@ -1,4 +1,5 @@
-ghost use Rattle.std.specs.Prelude.{◌≡◌, ℕ, ◌+◌, ◌*◌, ◌/◌, ◌%◌, ◌^◌, ◌<◌, ◌≤◌, List, [], map, slice_index, All, OnOk, OnErr};
+ghost use Rattle.std.specs.Prelude.{◌≡◌, ℕ, ◌+◌, ◌*◌, ◌/◌, ◌%◌, ◌^◌, ◌<◌, ◌≤◌, List, [], map, slice_index, All, OnOk};
+ghost use Rattle.std.specs.Prelude.{OnErr};
 ghost use Rattle.cut_draws.specs.Source.{source_of, word_of};
 ghost use Rattle.cut_blocks.specs.States.{AreFirstStates};
 ghost use Rattle.cut_blocks.specs.Images.{eight, image_at, place_in, least_image};
@@ -124,9 +125,9 @@ impl Blocks {
         ]
     }
 
-    /// The states of four blocks before the first round (2.3): the constants, the key, a block's number, here 0, and the
-    /// stream's. All but the number is the same for every block, and so is what three columns of the first round make
-    /// of it, which is computed once for all blocks that are drawn.
+    /// The states of four blocks before the first round (2.3): the constants, the key, a block's number, here 0, and
+    /// the stream's. All but the number is the same for every block, and so is what three columns of the first round
+    /// make of it, which is computed once for all blocks that are drawn.
     fn first_states(&self) -> States
         ensures { AreFirstStates self.now result }
     {
@@ -152,7 +153,7 @@ impl Blocks {
     }
 }
 
-/// The rows moved on by so many blocks.
+/// The rows moved on by this many blocks.
 #[inline(always)]
 fn moved(rows: u32x4, by: u32) -> u32x4
     requires rows { All (λ row. row < 2 ^ 27) rows }

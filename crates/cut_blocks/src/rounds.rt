@@ -1,7 +1,8 @@
 //! The rounds of the cipher (RFC 8439, 2.1 to 2.3) on four blocks side by side: each word of a state is a vector, with
 //! a lane for each block.
 ghost use Rattle.std.specs.Prelude.{◌≡◌, ℕ, ◌<◌, List, length, slice_index};
-ghost use Rattle.rand_chacha.specs.Block.{add32, xor_rotate, quarter_round, column_round, diagonal_round, double_rounds, initial_state};
+ghost use Rattle.rand_chacha.specs.Block.{add32, xor_rotate, quarter_round, column_round, diagonal_round};
+ghost use Rattle.rand_chacha.specs.Block.{double_rounds, initial_state};
 ghost use Rattle.rand_chacha.specs.Lanes.{lane};
 
 use std::simd::u32x4;
@@ -18,7 +19,7 @@ pub(crate) fn sum(a: u32x4, b: u32x4) -> u32x4
     a + b
 }
 
-/// The exclusive or of the lanes, each rotated to the left by so many bits.
+/// The exclusive or of the lanes, each rotated to the left by this many bits.
 #[inline(always)]
 fn turned(a: u32x4, b: u32x4, bits: u32) -> u32x4
     requires { (0 < bits) × (bits < 32) }

@@ -1,10 +1,12 @@
 -- What a draw, a count and a read do to each study.
-use Rattle.std.proofs.Common.{◌≡◌, ◌≢◌, ℕ, ◌+◌, ◌==◌, cond, [], ◌∷◌, ◌++◌, max, refl, sym, ap, ◌∙◌, subst, arith, eq-eqb, ne_eqb}
+use Rattle.std.proofs.Common.{◌≡◌, ◌≢◌, ℕ, ◌+◌, ◌==◌, cond, [], ◌∷◌, ◌++◌, max, refl, sym, ap, ◌∙◌, subst, arith}
+use Rattle.std.proofs.Common.{eq-eqb, ne_eqb}
 use mathlib.Core.Logic.{dite}
 use native.Mathlib.Decide.{ℕ_discrete}
 use Rattle.cut_board.specs.Laws.{DrawsAdd, CountsAdd, CountsAreSeen, ReadsAreSeen, OwnCountsAreSeen, IdleHasNothing}
 use Rattle.cut_board.specs.Views.{entry, of_study, counted_in, seen_in, counted, read}
-use Rattle.cut_board.proofs.Logs.{of_study-append, of_study-none, of_study-same, of_study-other, log_weight, log_weight_other, log_greatest, log_greatest_other}
+use Rattle.cut_board.proofs.Logs.{of_study-append, of_study-none, of_study-same, of_study-other, log_weight}
+use Rattle.cut_board.proofs.Logs.{log_weight_other, log_greatest, log_greatest_other}
 use Rattle.cut_board.proofs.Seats.{idle_counts, idle_sees}
 
 -- a value that is one where two numbers are equal, and else another

@@ -1,5 +1,6 @@
 -- What the table asks of each step: whatever it is when the step is made, the rule is kept.
-use Rattle.std.proofs.Common.{◌≡◌, ℕ, ◌+◌, ◌*◌, ◌%◌, ◌^◌, ◌<◌, ◌≤◌, [], length, set, refl, sym, ap, subst, arith, mod-eq_of_lt}
+use Rattle.std.proofs.Common.{◌≡◌, ℕ, ◌+◌, ◌*◌, ◌%◌, ◌^◌, ◌<◌, ◌≤◌, [], length, set, refl, sym, ap, subst, arith}
+use Rattle.std.proofs.Common.{mod-eq_of_lt}
 use mathlib.Core.Option.{none}
 use Rattle.std.proofs.lemmas.List.{set-get_or}
 use Rattle.std.proofs.lemmas.List.Sorted.{All-permutation}
@@ -12,7 +13,8 @@ use Rattle.cut_board.specs.Views.{drawn_in, amount, counted_in, seen_in, idle, d
 use Rattle.cut_board.specs.Words.{draw_word, count_word, draws_at, count_at}
 use Rattle.cut_board.proofs.Parts.{All-part, range_is_below}
 use Rattle.cut_board.proofs.Sums.{le-sum_by}
-use Rattle.cut_board.proofs.Keeps.{step_keeps, few_drawn, few_counted, drawn_words, draw_is_step, counted_words, count_is_step, read_is_step}
+use Rattle.cut_board.proofs.Keeps.{step_keeps, few_drawn, few_counted, drawn_words, draw_is_step, counted_words}
+use Rattle.cut_board.proofs.Keeps.{count_is_step, read_is_step}
 use Rattle.cut_board.proofs.Seats.{split_keeps, join_keeps}
 
 module _ {S : Type 0} where

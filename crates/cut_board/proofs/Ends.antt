@@ -1,5 +1,6 @@
--- What one seat knows that took in all others, and what the words of a board then tell.
-use Rattle.std.proofs.Common.{◌≡◌, ℕ, zero, suc, ◌+◌, ◌*◌, ◌<◌, ◌≤◌, List, [], ◌∷◌, length, map, slice_index, sum_by, refl, sym, ap, ◌∙◌, subst, arith}
+-- What one seat knows that took in all others, and what the words of a board then say.
+use Rattle.std.proofs.Common.{◌≡◌, ℕ, zero, suc, ◌+◌, ◌*◌, ◌<◌, ◌≤◌, List, [], ◌∷◌, length, map, slice_index, sum_by}
+use Rattle.std.proofs.Common.{refl, sym, ap, ◌∙◌, subst, arith}
 use Rattle.std.specs.List.{range_with_len}
 use mathlib.Core.Option.{some, some-injective, some-ne-none}
 use lib.ListN.{get_elem?}
@@ -11,7 +12,7 @@ use Rattle.atomic_table.specs.Table.{Final, Seen}
 use Rattle.cut_board.specs.declared.view.Entry.{Entry}
 use Rattle.cut_board.specs.declared.view.View.{View}
 use Rattle.cut_board.specs.Gathered.{IsGathered, words_of_study}
-use Rattle.cut_board.specs.Rule.{seat_limit, IsSound, Kept, IsEachBelow}
+use Rattle.cut_board.specs.Rule.{seat_limit, IsPossibleView, Kept, IsEachBelow}
 use Rattle.cut_board.specs.Totals.{total_of, totals_of, IsDrawnOnce, HasSeenNoMore}
 use Rattle.cut_board.specs.Views.{of_study, amount, drawn_in, counted_in, seen_in, drawn_by, counted_by, joined}
 use Rattle.cut_board.specs.Words.{draws_at, count_at}
@@ -65,7 +66,7 @@ record IsAlone (studies seats : ℕ) (words : List ℕ) (views : List View) (id 
 
 alone : (studies seats : ℕ) (words : List ℕ) (views : List View) (id : ℕ) (v : View)
     → IsAlone studies seats words views id v → (f : View → ℕ) →
-    ((u : View) → IsSound studies words u → u.parts ≡ 0 → f u ≡ 0) → sum_by f views ≡ f v
+    ((u : View) → IsPossibleView studies words u → u.parts ≡ 0 → f u ≡ 0) → sum_by f views ≡ f v
 alone studies seats words views id v is f each =
     sum_by_alone f (λ (u : View). u.parts) views id v is.at
     (omega (arith, is.kept.parts, is.all, le-sum_by (λ (u : View). u.parts) views id v is.at))
@@ -91,7 +92,7 @@ counted_alone studies seats words views id v is study within =
     let few : amount u.counted ≤ u.parts * seat_limit = sound.counts in
     omega (arith, of_study-amount study u.counted))
 
--- ---- what the words tell
+-- ---- what the words say
 
 pub number_at : (words : List ℕ) (i n : ℕ) → get_elem? words i ≡ some n → slice_index words i ≡ n
 number_at [] i n at = absurd (some-ne-none n (sym at))
@@ -124,10 +125,10 @@ ends studies seats words views id v given kept at gathered whole =
           omega (arith, gathered.seen study i d here, sound.seen study within, counted study within);
     }
 
-draws_told : (studies seats : ℕ) (given : List View) (words : List ℕ) → IsEnd studies seats given words →
+draws_shown : (studies seats : ℕ) (given : List View) (words : List ℕ) → IsEnd studies seats given words →
     (study : ℕ)
     → study < studies → length (drawn_by study given) ≡ draws_at words study
-draws_told studies seats given words end study within =
+draws_shown studies seats given words end study within =
     length_permutation _ _ (end.drawn study within) ∙ length-range_with_len 0 (draws_at words study)
 
 pub drawn_once : (studies seats : ℕ) (given : List View) (words : List ℕ)
@@ -135,7 +136,7 @@ pub drawn_once : (studies seats : ℕ) (given : List View) (words : List ℕ)
     (study : ℕ) → study < studies → IsDrawnOnce given study
 drawn_once studies seats given words end study within =
     subst (λ n. IsEachBelow n (drawn_by study given))
-    (sym (draws_told studies seats given words end study within)) (end.drawn study within)
+    (sym (draws_shown studies seats given words end study within)) (end.drawn study within)
 
 same_from : {X : Type 0} (f g : ℕ → X) (a n : ℕ) → ((k : ℕ) → k < a + n → f k ≡ g k) → map f
     (range_with_len a n) ≡ map g (range_with_len a n)
@@ -143,18 +144,18 @@ same_from f g a zero same = refl
 same_from f g a (suc n) same =
     λ i. same a (omega arith) i ∷ same_from f g (a + 1) n (λ k below. same k (omega arith)) i
 
-pub told : (studies seats : ℕ) (given : List View) (words : List ℕ) → IsEnd studies seats given words
+pub reported : (studies seats : ℕ) (given : List View) (words : List ℕ) → IsEnd studies seats given words
     → map
     (words_of_study words) (range_with_len 0 studies) ≡ totals_of studies given
-told studies seats given words end =
+reported studies seats given words end =
     same_from (words_of_study words) (total_of given) 0 studies (λ study below i.
     let within : study < studies = omega arith in
     record {
-      draws = sym (draws_told studies seats given words end study within) i;
+      draws = sym (draws_shown studies seats given words end study within) i;
       count = end.counted study within i;
     })
 
--- the end, from what closing a table tells
+-- the end, from what closing a table shows
 pub ends_closed : {S : Type 0} (studies seats : ℕ) (words : List ℕ) (slots : List S) (id : ℕ) (v : View)
     (given : List View) → Final (Seen (Holds studies seats) id v) words slots → IsGathered given v
     → seats ≤ length given → IsEnd studies seats given words

@@ -1,5 +1,6 @@
 -- Each step keeps the rule of the board.
-use Rattle.std.proofs.Common.{◌≡◌, ◌≢◌, ℕ, ◌+◌, ◌*◌, ◌<◌, ◌≤◌, List, [], ◌∷◌, length, set, sum_by, refl, sym, ap, ◌∙◌, subst, ⊎_elim, arith, length-append, length-set}
+use Rattle.std.proofs.Common.{◌≡◌, ◌≢◌, ℕ, ◌+◌, ◌*◌, ◌<◌, ◌≤◌, List, [], ◌∷◌, length, set, sum_by, refl, sym, ap, ◌∙◌}
+use Rattle.std.proofs.Common.{subst, ⊎_elim, arith, length-append, length-set}
 use Rattle.std.specs.List.{range_with_len}
 use mathlib.Core.Option.{some}
 use native.Mathlib.Decide.{ℕ_discrete}
@@ -11,10 +12,11 @@ use Rattle.std.proofs.lemmas.List.FromFn.{length-range_with_len}
 use Rattle.std.proofs.lemmas.List.Sorted.{sum_by-IsPermutation, length_permutation}
 use Rattle.atomic_table.proofs.Lists.{at_set}
 use Rattle.cut_board.specs.declared.view.View.{View}
-use Rattle.cut_board.specs.Rule.{seat_limit, IsSound, Kept}
+use Rattle.cut_board.specs.Rule.{seat_limit, IsPossibleView, Kept}
 use Rattle.cut_board.specs.Views.{entry, amount, drawn_in, counted_in, seen_in, drawn_by, drew, counted, read}
 use Rattle.cut_board.specs.Words.{word_count, draw_word, count_word, draws_at, count_at}
-use Rattle.cut_board.proofs.Logs.{of_study-short, of_study-amount, amount-append, amount-one, log_weight, log_weight_other, log_greatest, log_greatest_other}
+use Rattle.cut_board.proofs.Logs.{of_study-short, of_study-amount, amount-append, amount-one, log_weight}
+use Rattle.cut_board.proofs.Logs.{log_weight_other, log_greatest, log_greatest_other}
 use Rattle.cut_board.proofs.Sums.{sum_by_put, sum_by_bounded, sum_by_flat_map}
 use Rattle.cut_board.proofs.Weights.{from_weights, weight_more}
 
@@ -41,7 +43,7 @@ pub record IsStep (studies : ℕ) (words after : List ℕ) (v w : View) : Type 0
   pub counted : (study : ℕ) → study < studies
       → count_at after study + counted_in study v ≡ count_at words study + counted_in study w
   pub rises : (study : ℕ) → study < studies → count_at words study ≤ count_at after study
-  pub sound : IsSound studies after w
+  pub sound : IsPossibleView studies after w
 
 pub step_keeps : (studies seats : ℕ) (words after : List ℕ) (views : List View) (id : ℕ) (v w : View)
     → Kept studies seats words views → get_elem? views id ≡ some v → IsStep studies words after v w
@@ -63,9 +65,9 @@ step_keeps studies seats words after views id v w kept at step = record {
       (let put = sum_by_put (counted_in study) views id v w at in
       omega (arith, step.counted study within, kept.counted study within));
   sound = λ seat u there. ⊎_elim
-      (λ (t : (seat ≡ id) × (w ≡ u)). subst (IsSound studies after) t.1 step.sound)
+      (λ (t : (seat ≡ id) × (w ≡ u)). subst (IsPossibleView studies after) t.1 step.sound)
       (λ (t : (seat ≢ id) × (get_elem? views seat ≡ some u)).
-      let was : IsSound studies words u = kept.sound seat u t.1 in
+      let was : IsPossibleView studies words u = kept.sound seat u t.1 in
       record {
         seen =
             λ study within. omega (arith, was.seen study within, step.rises study within);
@@ -135,7 +137,7 @@ draw_weighs words study v room k (no other) h =
 
 pub draw_is_step : (studies : ℕ) (words : List ℕ) (study : ℕ) (v : View)
     → length words ≡ word_count studies → study < studies → v.parts ≡ 1 → length v.drawn < seat_limit
-    → IsSound studies words v → IsStep studies words (drawn_words words study) v
+    → IsPossibleView studies words v → IsStep studies words (drawn_words words study) v
     (drew v study (draws_at words study))
 draw_is_step studies words study v wide within one room sound =
     let n : ℕ = draws_at words study in
@@ -182,7 +184,7 @@ count_adds words study n v room k (no other) =
 
 pub count_is_step : (studies : ℕ) (words : List ℕ) (study n : ℕ) (v : View)
     → length words ≡ word_count studies → study < studies → v.parts ≡ 1
-    → amount v.counted + n ≤ seat_limit → IsSound studies words v →
+    → amount v.counted + n ≤ seat_limit → IsPossibleView studies words v →
     ((k : ℕ) → k < studies → counted_in k v ≤ count_at words k) → IsStep studies words
     (counted_words words study n) v (counted v study n)
 count_is_step studies words study n v wide within one room sound own =
@@ -217,7 +219,7 @@ read_sees words study v k (yes same) past =
 read_sees words study v k (no other) past =
     omega (arith, log_greatest_other k study (count_at words study) v.read other)
 
-pub read_is_step : (studies : ℕ) (words : List ℕ) (study : ℕ) (v : View) → IsSound studies words v
+pub read_is_step : (studies : ℕ) (words : List ℕ) (study : ℕ) (v : View) → IsPossibleView studies words v
     → IsStep studies words words v (read v study (count_at words study))
 read_is_step studies words study v sound = record {
   wide = refl;

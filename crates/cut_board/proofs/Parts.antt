@@ -6,10 +6,10 @@ use lib.ListN.{get_elem?}
 use Rattle.std.proofs.lemmas.List.Elements.{All-nil, All-cons, All-head, All-tail}
 
 module _ {X : Type 0} (P : X → Type 0) where
-  front : (xs ys : List X) → All P (xs ++ ys) → All P xs
-  front [] ys all = All-nil P
-  front (x ∷ xs) ys all =
-      All-cons P x xs (All-head P x (xs ++ ys) all) (front xs ys (All-tail P x (xs ++ ys) all))
+  prefix : (xs ys : List X) → All P (xs ++ ys) → All P xs
+  prefix [] ys all = All-nil P
+  prefix (x ∷ xs) ys all =
+      All-cons P x xs (All-head P x (xs ++ ys) all) (prefix xs ys (All-tail P x (xs ++ ys) all))
 
   back : (xs ys : List X) → All P (xs ++ ys) → All P ys
   back [] ys all = all
@@ -19,7 +19,7 @@ module _ {X : Type 0} (P : X → Type 0) where
       → All P (flat_map f ys) → All P (f y)
   All-part f [] i y at all = absurd (some-ne-none y (sym at))
   All-part f (z ∷ zs) zero y at all =
-      subst (λ u. All P (f u)) (some-injective z y at) (front (f z) (flat_map f zs) all)
+      subst (λ u. All P (f u)) (some-injective z y at) (prefix (f z) (flat_map f zs) all)
   All-part f (z ∷ zs) (suc i) y at all = All-part f zs i y at (back (f z) (flat_map f zs) all)
 
 -- the numbers below n are below n

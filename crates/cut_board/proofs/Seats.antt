@@ -1,5 +1,6 @@
 -- A board begins with one seat, and keeps its rule where a seat is split and where two are joined.
-use Rattle.std.proofs.Common.{◌≡◌, ◌≢◌, ℕ, zero, suc, ◌+◌, ◌<◌, ◌≤◌, List, [], ◌∷◌, ◌++◌, length, max, set, sum, sum_by, replicate, slice_index, refl, sym, ap, ◌∙◌, subst, ⊎_elim, arith, length-append}
+use Rattle.std.proofs.Common.{◌≡◌, ◌≢◌, ℕ, zero, suc, ◌+◌, ◌<◌, ◌≤◌, List, [], ◌∷◌, ◌++◌, length, max, set, sum, sum_by}
+use Rattle.std.proofs.Common.{replicate, slice_index, refl, sym, ap, ◌∙◌, subst, ⊎_elim, arith, length-append}
 use Rattle.std.specs.List.{range_with_len}
 use mathlib.Core.Option.{some, some-injective, some-ne-none}
 use lib.ListN.{get_elem?}
@@ -7,10 +8,11 @@ use Rattle.std.proofs.lemmas.List.{get_or-replicate, length-replicate}
 use Rattle.std.proofs.lemmas.List.Sums.{sum_by-append, sum_by_push, sum_by-cons}
 use Rattle.atomic_table.proofs.Lists.{at_set, at_snoc, set_else, set_here}
 use Rattle.cut_board.specs.declared.view.View.{View}
-use Rattle.cut_board.specs.Rule.{IsSound, Kept}
+use Rattle.cut_board.specs.Rule.{IsPossibleView, Kept}
 use Rattle.cut_board.specs.Views.{of_study, greatest, amount, drawn_in, counted_in, seen_in, idle, part_given, joined}
 use Rattle.cut_board.specs.Words.{word_count, draw_word, count_word, draws_at}
-use Rattle.cut_board.proofs.Logs.{of_study-append, of_study-none, amount-none, amount-append, greatest-none, greatest-append}
+use Rattle.cut_board.proofs.Logs.{of_study-append, of_study-none, amount-none, amount-append, greatest-none}
+use Rattle.cut_board.proofs.Logs.{greatest-append}
 use Rattle.cut_board.proofs.Sums.{sum_by_put, le-sum_by, sum_by_flat_map}
 use Rattle.cut_board.proofs.Weights.{from_weights}
 use Rattle.cut_board.proofs.Keeps.{weight, kept_weight}
@@ -28,7 +30,7 @@ idle_sees study parts =
     let read : greatest (of_study study []) ≡ 0 = ap greatest (of_study-none study) ∙ greatest-none in
     omega (arith, idle_counts study parts)
 
-pub idle_is_sound : (studies : ℕ) (words : List ℕ) (parts : ℕ) → IsSound studies words (idle parts)
+pub idle_is_sound : (studies : ℕ) (words : List ℕ) (parts : ℕ) → IsPossibleView studies words (idle parts)
 idle_is_sound studies words parts = record {
   seen = λ study _. omega (arith, idle_sees study parts);
   draws = omega arith;
@@ -67,10 +69,10 @@ begins studies seats few =
       sound = one;
     }
   where
-    one : (seat : ℕ) (v : View) → get_elem? (idle seats ∷ []) seat ≡ some v → IsSound studies
+    one : (seat : ℕ) (v : View) → get_elem? (idle seats ∷ []) seat ≡ some v → IsPossibleView studies
         (replicate (word_count studies) 0) v
     one zero v at =
-        subst (IsSound studies (replicate (word_count studies) 0)) (some-injective (idle seats) v at)
+        subst (IsPossibleView studies (replicate (word_count studies) 0)) (some-injective (idle seats) v at)
         (idle_is_sound studies (replicate (word_count studies) 0) seats)
     one (suc seat) v at = absurd (some-ne-none v (sym at))
 
@@ -84,7 +86,7 @@ pub record HasSameSums (views after : List View) : Type 0 where
 
 keeps_sums : (studies seats : ℕ) (words : List ℕ) (views after : List View)
     → Kept studies seats words views → HasSameSums views after
-    → ((seat : ℕ) (v : View) → get_elem? after seat ≡ some v → IsSound studies words v)
+    → ((seat : ℕ) (v : View) → get_elem? after seat ≡ some v → IsPossibleView studies words v)
     → Kept studies seats words after
 keeps_sums studies seats words views after kept same sound = record {
   few = kept.few;
@@ -112,7 +114,7 @@ pub split_keeps : (studies seats : ℕ) (words : List ℕ) (views : List View) (
 split_keeps studies seats words views id v kept at none nothing some_parts =
     let left : View = part_given v in
     let was = kept.sound id v at in
-    let is_sound : IsSound studies words left = record {
+    let is_sound : IsPossibleView studies words left = record {
       seen = was.seen;
       draws = (let e : length v.drawn ≡ 0 = ap length none in omega arith);
       counts = (let e : amount v.counted ≡ 0 = ap amount nothing ∙ amount-none in omega arith);
@@ -126,10 +128,10 @@ split_keeps studies seats words views id v kept at none nothing some_parts =
     }
     (λ seat u there. ⊎_elim
     (λ (old : get_elem? (set views id left) seat ≡ some u). ⊎_elim
-    (λ (t : (seat ≡ id) × (left ≡ u)). subst (IsSound studies words) t.1 is_sound)
+    (λ (t : (seat ≡ id) × (left ≡ u)). subst (IsPossibleView studies words) t.1 is_sound)
     (λ (t : (seat ≢ id) × (get_elem? views seat ≡ some u)). kept.sound seat u t.1)
     (at_set views id seat left u old))
-    (λ (new : idle 1 ≡ u). subst (IsSound studies words) new (idle_is_sound studies words 1))
+    (λ (new : idle 1 ≡ u). subst (IsPossibleView studies words) new (idle_is_sound studies words 1))
     (at_snoc (set views id left) (idle 1) u seat there))
 
 -- ---- a join
@@ -182,7 +184,7 @@ join_keeps studies seats words views id other v w kept at apart there =
     let one : List View = set views id both in
     let last : List View = set one other (idle 0) in
     let mine = kept.sound id v at in
-    let theirs : IsSound studies words w = ⊎_elim
+    let theirs : IsPossibleView studies words w = ⊎_elim
     (λ (t : (other ≡ id) × (both ≡ w)). absurd (apart t.0))
     (λ (t : (other ≢ id) × (get_elem? views other ≡ some w)). kept.sound other w t.1)
     (at_set views id other both w there) in
@@ -198,7 +200,7 @@ join_keeps studies seats words views id other v w kept at apart there =
           join_sums (counted_in study) views id other v w at there (joined_counts study v w)
           (idle_counts study 0);
     } in
-    let is_sound : IsSound studies words both = record {
+    let is_sound : IsPossibleView studies words both = record {
       seen = λ study within.
           let all = kept.counted study within ∙ sym (same.counts study) in
           let own = le-sum_by (counted_in study) last id both here in
@@ -209,10 +211,10 @@ join_keeps studies seats words views id other v w kept at apart there =
     } in
     keeps_sums studies seats words views last kept same
     (λ seat u found. ⊎_elim
-    (λ (t : (seat ≡ other) × (idle 0 ≡ u)). subst (IsSound studies words) t.1
+    (λ (t : (seat ≡ other) × (idle 0 ≡ u)). subst (IsPossibleView studies words) t.1
     (idle_is_sound studies words 0))
     (λ (t : (seat ≢ other) × (get_elem? one seat ≡ some u)). ⊎_elim
-    (λ (r : (seat ≡ id) × (both ≡ u)). subst (IsSound studies words) r.1 is_sound)
+    (λ (r : (seat ≡ id) × (both ≡ u)). subst (IsPossibleView studies words) r.1 is_sound)
     (λ (r : (seat ≢ id) × (get_elem? views seat ≡ some u)). kept.sound seat u r.1)
     (at_set views id seat both u t.1))
     (at_set one other seat (idle 0) u found))

@@ -1,5 +1,6 @@
 -- Sums over lists that are read and changed at a place.
-use Rattle.std.proofs.Common.{◌≡◌, ℕ, zero, suc, ◌+◌, ◌*◌, ◌≤◌, List, [], ◌∷◌, set, flat_map, sum_by, refl, sym, ap, ◌∙◌, arith, add-mul}
+use Rattle.std.proofs.Common.{◌≡◌, ℕ, zero, suc, ◌+◌, ◌*◌, ◌≤◌, List, [], ◌∷◌, set, flat_map, sum_by, refl, sym, ap}
+use Rattle.std.proofs.Common.{◌∙◌, arith, add-mul}
 use mathlib.Core.Option.{some, some-injective, some-ne-none}
 use lib.ListN.{get_elem?}
 use Rattle.std.proofs.lemmas.List.Sums.{sum_by-cons, sum_by-append}

@@ -1,9 +1,11 @@
 -- A list is another in another order where the two weigh the same, however their numbers are weighed.
-use Rattle.std.proofs.Common.{◌≡◌, ℕ, suc, ◌+◌, ◌<◌, ◌==◌, Bool, true, false, cond, List, [], ◌∷◌, remove, Contains, sum_by, refl, sym, ap, subst, arith, eq-eqb, eqb-true, map-id}
+use Rattle.std.proofs.Common.{◌≡◌, ℕ, suc, ◌+◌, ◌<◌, ◌==◌, Bool, true, false, cond, List, [], ◌∷◌, remove, Contains}
+use Rattle.std.proofs.Common.{sum_by, refl, sym, ap, subst, arith, eq-eqb, eqb-true, map-id}
 use Rattle.std.specs.List.{range_with_len}
 use Rattle.std.specs.List.Sorted.{IsPermutation}
 use Rattle.std.proofs.lemmas.List.FromFn.{sum_by-map-range_with_len_more}
-use Rattle.std.proofs.lemmas.List.Sorted.{IsPermutation-refl, IsPermutation-remove, IsPermutation-trans, IsPermutation-cons, IsPermutation-sym, sum_by-IsPermutation}
+use Rattle.std.proofs.lemmas.List.Sorted.{IsPermutation-refl, IsPermutation-remove, IsPermutation-trans}
+use Rattle.std.proofs.lemmas.List.Sorted.{IsPermutation-cons, IsPermutation-sym, sum_by-IsPermutation}
 use Rattle.std.proofs.lemmas.List.Sums.{sum_by-cons}
 
 -- 1 for x, and else 0
@@ -29,7 +31,7 @@ from_weights (x ∷ xs) ys weigh =
     let has : Contains ys x = found x ys (omega (arith, weigh (is_one x), sum_by-cons (is_one x) x xs)) in
     let rest : List ℕ = remove ys has.0 in
     let apart : IsPermutation ys (x ∷ rest) = IsPermutation-remove ys has.0 x has.1 (sym has.2) in
-    let front : IsPermutation xs rest =
+    let prefix : IsPermutation xs rest =
     from_weights xs rest
     (λ h. omega (
       arith,
@@ -39,7 +41,7 @@ from_weights (x ∷ xs) ys weigh =
       sum_by-IsPermutation h ys
           (x ∷ rest) apart,
     )) in
-    IsPermutation-trans (x ∷ xs) (x ∷ rest) ys (IsPermutation-cons x xs rest front)
+    IsPermutation-trans (x ∷ xs) (x ∷ rest) ys (IsPermutation-cons x xs rest prefix)
     (IsPermutation-sym ys (x ∷ rest) apart)
 
 -- the numbers below n + 1 weigh what n weighs more than those below n

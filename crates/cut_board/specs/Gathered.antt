@@ -1,4 +1,4 @@
--- What one seat knows that took in others, and what the words of a closed board tell. Only the crate's
+-- What one seat knows that took in others, and what the words of a closed board say. Only the crate's
 -- private clauses cite it.
 use Rattle.std.specs.Prelude.{◌≡◌, ℕ, ◌≤◌, List, length, All}
 use Rattle.std.specs.List.Sorted.{IsPermutation}
@@ -14,6 +14,6 @@ pub record IsGathered (views : List View) (v : View) : Type 0 where
   pub counted : (study : ℕ) → counted_in study v ≡ counted_by study views
   pub seen : (study : ℕ) → All (λ w. seen_in study w ≤ seen_in study v) views
 
--- what the words tell of a study
+-- what the words say of a study
 abbrev pub words_of_study : List ℕ → ℕ → StudyTotals
 words_of_study words study = record { draws = draws_at words study; count = count_at words study }

@@ -1,5 +1,6 @@
 -- Which calls of a seat are refused, and how.
-use Rattle.std.specs.Prelude.{◌≡◌, Result, MatchResult, ℕ, ◌+◌, Bool, true, nat_lt, nat_le, if◌then◌else◌, length, Option, Some, None}
+use Rattle.std.specs.Prelude.{◌≡◌, Result, MatchResult, ℕ, ◌+◌, Bool, true, nat_lt, nat_le, if◌then◌else◌, length}
+use Rattle.std.specs.Prelude.{Option, Some, None}
 use Rattle.cut_board.specs.declared.fault.SeatFault.{SeatFault}
 use Rattle.cut_board.specs.declared.fault.SeatFault.TheVariants.{NoSlot, SeatFull}
 use Rattle.cut_board.specs.declared.view.View.{View}

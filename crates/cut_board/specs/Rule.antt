@@ -18,7 +18,7 @@ IsEachBelow n xs = IsPermutation (range_with_len 0 n) xs
 
 -- A view beside the words. What it has seen, a board has counted. It drew and counted no more than its
 -- parts may, so a view of no parts has drawn and counted nothing.
-pub record IsSound (studies : ℕ) (words : List ℕ) (v : View) : Type 0 where
+pub record IsPossibleView (studies : ℕ) (words : List ℕ) (v : View) : Type 0 where
   pub seen : (study : ℕ) → study < studies → seen_in study v ≤ count_at words study
   pub draws : length v.drawn ≤ v.parts * seat_limit
   pub counts : amount v.counted ≤ v.parts * seat_limit
@@ -31,4 +31,4 @@ pub record Kept (studies seats : ℕ) (words : List ℕ) (views : List View) : T
   pub parts : sum_by (λ v. v.parts) views ≡ seats
   pub drawn : (study : ℕ) → study < studies → IsEachBelow (draws_at words study) (drawn_by study views)
   pub counted : (study : ℕ) → study < studies → count_at words study ≡ counted_by study views
-  pub sound : (seat : ℕ) (v : View) → get_elem? views seat ≡ some v → IsSound studies words v
+  pub sound : (seat : ℕ) (v : View) → get_elem? views seat ≡ some v → IsPossibleView studies words v

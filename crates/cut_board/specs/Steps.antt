@@ -1,4 +1,4 @@
--- What an atomic step tells the seat that makes it.
+-- What an atomic step shows the seat that makes it.
 use Rattle.std.specs.Prelude.{◌≡◌, ℕ, ◌<◌, ◌≤◌, All}
 use Rattle.atomic_table.specs.Table.{Step, Me}
 use Rattle.cut_board.specs.declared.view.View.{View}

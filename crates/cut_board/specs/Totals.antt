@@ -27,7 +27,7 @@ IsDrawnOnce views study = IsEachBelow (length (drawn_by study views)) (drawn_by 
 abbrev pub HasSeenNoMore : List View → ℕ → Type 0
 HasSeenNoMore views study = All (λ v. seen_in study v ≤ counted_by study views) views
 
--- why a board was not finished: seats are missing, and all comes back as it was, or memory is wanting
+-- why a board was not finished: seats are missing, and all comes back as it was, or memory ran out
 abbrev pub IsWhyOf : Board → List Seat → Unfinished → Type 0
 IsWhyOf board seats Memory = seats_of board ≤ length seats
 IsWhyOf board seats (SeatMissing b s) = (b ≡ board) × (s.items ≡ seats) × (length seats < seats_of board)

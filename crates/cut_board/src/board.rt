@@ -1,12 +1,13 @@
 //! The board.
-ghost use Rattle.std.specs.Prelude.{◌≡◌, ℕ, ◌-◌, ◌^◌, ◌<◌, ◌≤◌, [], Some, None, length, All, IfOk, IfErr, OnOk, OnErr, MatchResult, map, vec_capacity};
+ghost use Rattle.std.specs.Prelude.{◌≡◌, ℕ, ◌-◌, ◌^◌, ◌<◌, ◌≤◌, [], Some, None, length, All, IfOk, IfErr, OnOk, OnErr};
+ghost use Rattle.std.specs.Prelude.{MatchResult, map, vec_capacity};
 ghost use Rattle.std.specs.List.{range_with_len};
 ghost use Rattle.std.specs.Mem.Slots.{slots_items, slots_len, IsFull};
 ghost use Rattle.cut_board.specs.Gathered.{IsGathered, words_of_study};
 ghost use Rattle.cut_board.specs.Views.{idle, drew, counted, read, drawn_in, seen_in};
 ghost use Rattle.cut_board.specs.Words.{word_count, draw_word, count_word};
 
-use crate::rule::{Count, Draw, OnePart, Read, Rule, Size, TakeIn};
+use crate::rule::{BoardRule, Count, Draw, OnePart, Read, Size, TakeIn};
 use crate::{BoardTotals, Seat, SeatFault, StudyTotals, Unfinished, View};
 use atomic_table::{Closed, Table};
 use std::alloc::{AllocError, Global};
@@ -21,7 +22,7 @@ type Token = atomic_table::Seat<(), View>;
 /// seat of its own.
 #[derive(Drop)]
 pub struct Board {
-    table: Table<(), View, Size, Rule, Global>,
+    table: Table<(), View, Size, BoardRule, Global>,
     studies: u32,
     seats: u32,
     ghost sized: { (table.shared.key.studies ≡ studies) × (table.shared.key.seats ≡ seats) },
@@ -51,7 +52,7 @@ impl Board {
     ghost use Rattle.cut_board.specs.Totals.{totals_of, IsDrawnOnce, HasSeenNoMore, IsWhyOf};
 
     /// A board of 1 to 64 studies, from which nothing is drawn and on which nothing is counted, and its 1 to
-    /// 129 seats. Fails only for want of memory.
+    /// 129 seats. Fails only where memory runs out.
     pub fn start(alloc: Global, studies: u32, seats: u32) -> Result<(Board, Vec<Seat>), AllocError>
         requires studies { (0 < studies) × (studies ≤ 64) }
         requires seats { (0 < seats) × (seats ≤ 129) }
@@ -91,7 +92,8 @@ impl Board {
 
     /// Whether there is a study of this number.
     fn find(&self, study: u32) -> Result<(), SeatFault>
-        ensures { MatchResult result (λ _. study < studies_of self.now) (λ e. (studies_of self.now ≤ study) × (e ≡ SeatFault.NoSlot)) }
+        ensures { MatchResult result (λ _. study < studies_of self.now)
+            (λ e. (studies_of self.now ≤ study) × (e ≡ SeatFault.NoSlot)) }
     {
         if study >= self.studies {
             return Err(SeatFault::NoSlot);
@@ -158,14 +160,16 @@ impl Board {
         )
     }
 
-    /// Ends the board, which takes all its seats, and tells what was drawn and counted of each study: of
+    /// Ends the board, which takes all its seats, and reports what was drawn and counted of each study: of
     /// the numbers, how many there are, which are those below that, each once. Where seats are missing, the
-    /// board and these seats come back as they were; where memory is wanting, nothing does.
+    /// board and these seats come back as they were; where memory runs out, nothing does.
     pub fn finish(self, alloc: Global, seats: Vec<Seat>) -> Result<BoardTotals, Unfinished>
         requires { All (λ s. board_of s ≡ board_id self) seats.items }
         ensures totals { IfOk result (λ totals. totals ≡ totals_of (studies_of self) (views_of seats.items)) }
-        ensures numbers { OnOk result ((study : ℕ) → study < studies_of self → IsDrawnOnce (views_of seats.items) study) }
-        ensures seen { OnOk result ((study : ℕ) → study < studies_of self → HasSeenNoMore (views_of seats.items) study) }
+        ensures numbers { OnOk result ((study : ℕ) → study < studies_of self
+            → IsDrawnOnce (views_of seats.items) study) }
+        ensures seen { OnOk result ((study : ℕ) → study < studies_of self
+            → HasSeenNoMore (views_of seats.items) study) }
         ensures whole { OnOk result (length seats.items ≡ seats_of self) }
         ensures why { IfErr result (λ e. IsWhyOf self seats.items e) }
     {
@@ -207,7 +211,7 @@ impl Board {
     }
 }
 
-/// What the words of a closed board tell of each study.
+/// What the words of a closed board say of each study.
 fn read_totals(
     closed: &Closed<(), Global>,
     mut totals: Vec<StudyTotals>,

@@ -1,5 +1,6 @@
 //! Laws of what seats do. Each function does nothing, and its contract is the law.
-ghost use Rattle.cut_board.specs.Laws.{DrawsAdd, CountsAdd, CountsAreSeen, ReadsAreSeen, OwnCountsAreSeen, IdleHasNothing};
+ghost use Rattle.cut_board.specs.Laws.{DrawsAdd, CountsAdd, CountsAreSeen, ReadsAreSeen, OwnCountsAreSeen};
+ghost use Rattle.cut_board.specs.Laws.{IdleHasNothing};
 
 /// A draw adds its number to those of its study, and to no other's.
 pub fn draws_add()

@@ -39,7 +39,7 @@
 //!
 //! # What it may not rely on
 //!
-//! - Between two seats there is no order. A thread that has been told of another's count by some other way
+//! - Between two seats there is no order. A thread that has learned of another's count by some other way
 //!   can't conclude that its own seat's next read has it: a read is fresh for its own seat only. Nor does
 //!   the lesser of two numbers say which of two seats drew first.
 //! - The words of two studies, or the two words of one, are not read together. A draw that is counted may

@@ -1,4 +1,4 @@
-//! The rule of a board's words, and what a step on them tells.
+//! The rule of a board's words, and what a step on them shows.
 
 use crate::View;
 use atomic_table::{Join, Play, Split, TableRule};
@@ -11,9 +11,9 @@ pub struct Size {
 }
 
 /// The rule that holds between any two atomic steps on a board's words.
-pub struct Rule;
+pub struct BoardRule;
 
-impl TableRule<(), View, Size> for Rule {
+impl TableRule<(), View, Size> for BoardRule {
     ghost use Rattle.cut_board.specs.Rule.{Kept};
     ghost use Rattle.cut_board.specs.Views.{idle};
 

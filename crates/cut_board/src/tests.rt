@@ -211,7 +211,7 @@ fn as_do_sixty_four(rt: HostRuntime) -> Result<(), Fail> {
     draw_by_threads(&rt, rt.alloc(), 64)
 }
 
-/// A seat draws from the last of 64 studies and counts there, and finds none behind it.
+/// A seat draws from the last of 64 studies and counts there, and finds none after it.
 fn check_last_study(rt: &impl Abort, board: &Board, seat: &mut Seat)
     requires { board_of seat.old ≡ board_id board.now }
     ensures { board_of seat.new ≡ board_of seat.old }

@@ -1,5 +1,7 @@
 -- A history with one call more.
-use Rattle.std.proofs.Common.{◌≡◌, ◌∙◌, ◌++◌, ◌≤◌, ℕ, Bool, true, false, not, cond, List, [], ◌∷◌, length, All, IsTrue, Option, Some, None, IfSome, is_some, count_by, refl, sym, ap, subst, arith, append_assoc, append-nil}
+use Rattle.std.proofs.Common.{◌≡◌, ◌∙◌, ◌++◌, ◌≤◌, ℕ, Bool, true, false, not, cond, List, [], ◌∷◌, length, All, IsTrue}
+use Rattle.std.proofs.Common.{Option, Some, None, IfSome, is_some, count_by, refl, sym, ap, subst, arith, append_assoc}
+use Rattle.std.proofs.Common.{append-nil}
 use Rattle.std.proofs.lemmas.Grind.{flat_map-append}
 use Rattle.cut_trial.specs.declared.piece.Piece.{Piece}
 use Rattle.cut_trial.specs.Sum.{is_piece}
@@ -7,65 +9,78 @@ use Rattle.cut_plan.specs.Values.{Values}
 use Rattle.cut_disks.specs.State.{DiskState}
 use Rattle.cut_ledger.specs.declared.slip.Slip.{Slip}
 use Rattle.cut_ledger.specs.Contents.{Contents}
-use Rattle.cut_ledger.specs.Machine.{State}
-use Rattle.cut_journal.specs.Journal.{Log}
+use Rattle.cut_ledger.specs.Machine.{StudyState}
+use Rattle.cut_journal.specs.Journal.{JournalValue}
 use Rattle.cut_journal.specs.Laws.{IsJournalOf}
 use Rattle.cut_book.specs.declared.call.Call.{Call}
-use Rattle.cut_book.specs.History.{Opening, Course, opened_by, IsStep, LeadsTo, IsLegal, accepted_slip, accepted_slips}
-use Rattle.cut_book.specs.Book.{kept_in, doubtful_in, state_in, failures_of, failed_since, IsFollowed, IsBook}
+use Rattle.cut_book.specs.History.{Opening, HistoryValue, opened_by, IsStep, LeadsTo, IsLegalHistory, accepted_slip}
+use Rattle.cut_book.specs.History.{accepted_slips}
+use Rattle.cut_book.specs.Book.{kept_in, doubtful_in, state_in, failures_of, failed_since, FollowsState, IsBook}
 
-pub leads_on : (s t u : State) (calls : List Call) (call : Call) → LeadsTo s calls t → IsStep t call u → LeadsTo s (calls ++ call ∷ []) u
-leads_on s t u [] call from step = (u, (subst (λ (x : State). IsStep x call u) (sym from) step, refl))
+pub leads_on : (s t u : StudyState) (calls : List Call) (call : Call) → LeadsTo s calls t → IsStep t call u
+    → LeadsTo s (calls ++ call ∷ []) u
+leads_on s t u [] call from step = (u, (subst (λ (x : StudyState). IsStep x call u) (sym from) step, refl))
 leads_on s t u (first ∷ rest) call from step = (from.0, (from.1.0, leads_on from.0 t u rest call from.1.1 step))
 
 -- a history after a call: its opening is the same, and the call is its last
-pub record Noted (call : Call) (old new : Course) : Type 0 where
+pub record Noted (call : Call) (old new : HistoryValue) : Type 0 where
   pub opening : new.opening ≡ old.opening
   pub calls : new.calls ≡ old.calls ++ call ∷ []
 
 -- by way of room that was made
-pub noted : (call : Call) (old mid new : Course) → mid.opening ≡ old.opening → mid.calls ≡ old.calls → new.opening ≡ mid.opening → new.calls ≡ mid.calls ++ call ∷ [] → Noted call old new
+pub noted : (call : Call) (old mid new : HistoryValue) → mid.opening ≡ old.opening → mid.calls ≡ old.calls → new.opening
+    ≡ mid.opening → new.calls ≡ mid.calls ++ call ∷ [] → Noted call old new
 noted call old mid new opening calls opens adds = record {
   opening = opens ∙ opening;
   calls = adds ∙ ap (λ (l : List Call). l ++ call ∷ []) calls;
 }
 
 -- it is legal where the call is a step from where it led
-pub legal_on : (call : Call) (old mid : Course) (s t : State) → mid.opening ≡ old.opening → mid.calls ≡ old.calls → LeadsTo (opened_by old.opening) old.calls s → IsStep s call t
-    → IsLegal mid.opening (mid.calls ++ call ∷ [])
+pub legal_on : (call : Call) (old mid : HistoryValue) (s t : StudyState) → mid.opening ≡ old.opening → mid.calls
+    ≡ old.calls → LeadsTo (opened_by old.opening) old.calls s → IsStep s call t
+    → IsLegalHistory mid.opening (mid.calls ++ call ∷ [])
 legal_on call old mid s t opening calls from step =
-    subst (λ (o : Opening). IsLegal o (mid.calls ++ call ∷ [])) (sym opening)
-    (subst (λ (l : List Call). IsLegal old.opening (l ++ call ∷ [])) (sym calls) (t, leads_on (opened_by old.opening) s t old.calls call from step))
+    subst (λ (o : Opening). IsLegalHistory o (mid.calls ++ call ∷ [])) (sym opening)
+    (subst (λ (l : List Call). IsLegalHistory old.opening (l ++ call ∷ [])) (sym calls)
+    (t, leads_on (opened_by old.opening) s t old.calls call from step))
 
 -- ---- the slips that are kept
 
-slips_next : (calls : List Call) (call : Call) → accepted_slips (calls ++ call ∷ []) ≡ accepted_slips calls ++ accepted_slip call
+slips_next : (calls : List Call) (call : Call) → accepted_slips (calls ++ call ∷ []) ≡ accepted_slips calls
+    ++ accepted_slip call
 slips_next calls call =
-    flat_map-append accepted_slip calls (call ∷ []) ∙ ap (λ (l : List Slip). accepted_slips calls ++ l) (append-nil (accepted_slip call))
+    flat_map-append accepted_slip calls (call ∷ [])
+    ∙ ap (λ (l : List Slip). accepted_slips calls ++ l) (append-nil (accepted_slip call))
 
-kept_by : (has : Bool) (base xs ys : List Slip) → cond has (base ++ (xs ++ ys)) base ≡ cond has (cond has (base ++ xs) base ++ ys) (cond has (base ++ xs) base)
+kept_by : (has : Bool) (base xs ys : List Slip) → cond has (base ++ (xs ++ ys)) base
+    ≡ cond has (cond has (base ++ xs) base ++ ys) (cond has (base ++ xs) base)
 kept_by true base xs ys = sym (append_assoc base xs ys)
 kept_by false base xs ys = refl
 
-pub kept_next : (call : Call) (old new : Course) → Noted call old new → kept_in new ≡ cond old.opening.has_journal (kept_in old ++ accepted_slip call) (kept_in old)
+pub kept_next : (call : Call) (old new : HistoryValue) → Noted call old new → kept_in new
+    ≡ cond old.opening.has_journal (kept_in old ++ accepted_slip call) (kept_in old)
 kept_next call old new is =
     ap (λ (o : Opening). cond o.has_journal (o.base ++ accepted_slips new.calls) o.base) is.opening
-    ∙ ap (λ (l : List Call). cond old.opening.has_journal (old.opening.base ++ accepted_slips l) old.opening.base) is.calls
-    ∙ ap (λ (l : List Slip). cond old.opening.has_journal (old.opening.base ++ l) old.opening.base) (slips_next old.calls call)
+    ∙ ap (λ (l : List Call). cond old.opening.has_journal (old.opening.base ++ accepted_slips l) old.opening.base)
+    is.calls
+    ∙ ap (λ (l : List Slip). cond old.opening.has_journal (old.opening.base ++ l) old.opening.base)
+    (slips_next old.calls call)
     ∙ kept_by old.opening.has_journal old.opening.base (accepted_slips old.calls) (accepted_slip call)
 
 none_kept : (has : Bool) (ks : List Slip) → cond has (ks ++ []) ks ≡ ks
 none_kept true ks = append-nil ks
 none_kept false ks = refl
 
-pub kept_same : (call : Call) (old new : Course) → Noted call old new → accepted_slip call ≡ [] → kept_in new ≡ kept_in old
+pub kept_same : (call : Call) (old new : HistoryValue) → Noted call old new → accepted_slip call ≡ [] → kept_in new
+    ≡ kept_in old
 kept_same call old new is none =
-    kept_next call old new is ∙ ap (λ (l : List Slip). cond old.opening.has_journal (kept_in old ++ l) (kept_in old)) none ∙ none_kept old.opening.has_journal (kept_in old)
+    kept_next call old new is ∙ ap (λ (l : List Slip). cond old.opening.has_journal (kept_in old ++ l) (kept_in old))
+    none ∙ none_kept old.opening.has_journal (kept_in old)
 
 -- ---- states
 
 -- a state by what it has
-abbrev pub state_by : Contents → Option Slip → List Piece → List Bool → Bool → List Slip → Bool → State
+abbrev pub state_by : Contents → Option Slip → List Piece → List Bool → Bool → List Slip → Bool → StudyState
 state_by l doubtful division lost has kept broken = record {
   ledger = l;
   has_journal = has;
@@ -79,69 +94,90 @@ state_by l doubtful division lost has kept broken = record {
   wire_lost = false;
 }
 
-pub state_next : {D : Type 0} (l : Contents) (journal : Option (Log D)) (division : List Piece) (lost : List Bool) (broken : Bool) (call : Call) (old new : Course) → Noted call old new
-    → state_in l journal division lost new broken ≡ state_by l (doubtful_in journal) division lost old.opening.has_journal (cond old.opening.has_journal (kept_in old ++ accepted_slip call) (kept_in old)) broken
+pub state_next : {D : Type 0} (l : Contents) (journal : Option (JournalValue D)) (division : List Piece)
+    (lost : List Bool) (broken : Bool) (call : Call) (old new : HistoryValue) → Noted call old new
+    → state_in l journal division lost new broken ≡ state_by l (doubtful_in journal) division lost
+    old.opening.has_journal (cond old.opening.has_journal (kept_in old ++ accepted_slip call) (kept_in old)) broken
 state_next l journal division lost broken call old new is =
     ap (λ (o : Opening). state_by l (doubtful_in journal) division lost o.has_journal (kept_in new) broken) is.opening
-    ∙ ap (λ (ks : List Slip). state_by l (doubtful_in journal) division lost old.opening.has_journal ks broken) (kept_next call old new is)
+    ∙ ap (λ (ks : List Slip). state_by l (doubtful_in journal) division lost old.opening.has_journal ks broken)
+    (kept_next call old new is)
 
-pub state_same : {D : Type 0} (l : Contents) (journal : Option (Log D)) (division : List Piece) (lost : List Bool) (broken : Bool) (call : Call) (old new : Course) → Noted call old new → accepted_slip call ≡ []
+pub state_same : {D : Type 0} (l : Contents) (journal : Option (JournalValue D)) (division : List Piece)
+    (lost : List Bool) (broken : Bool) (call : Call) (old new : HistoryValue) → Noted call old new → accepted_slip call
+    ≡ []
     → state_in l journal division lost new broken ≡ state_in l journal division lost old broken
 state_same l journal division lost broken call old new is none =
     ap (λ (o : Opening). state_by l (doubtful_in journal) division lost o.has_journal (kept_in new) broken) is.opening
-    ∙ ap (λ (ks : List Slip). state_by l (doubtful_in journal) division lost old.opening.has_journal ks broken) (kept_same call old new is none)
+    ∙ ap (λ (ks : List Slip). state_by l (doubtful_in journal) division lost old.opening.has_journal ks broken)
+    (kept_same call old new is none)
 
 -- ---- books
 
 module _ {D : Type 0} (honest : D → Type 0) (on : D → DiskState) (faults : D → ℕ) where
   -- the journal of a state is that of another with the same plan, slips and doubt
-  pub followed_same : (journal : Option (Log D)) (s t : State) → t.ledger.plan ≡ s.ledger.plan → t.has_journal ≡ s.has_journal → t.kept ≡ s.kept → t.doubtful ≡ s.doubtful → t.broken ≡ s.broken
-      → IsFollowed honest on journal s → IsFollowed honest on journal t
+  pub followed_same : (journal : Option (JournalValue D)) (s t : StudyState) → t.ledger.plan ≡ s.ledger.plan
+      → t.has_journal ≡ s.has_journal → t.kept ≡ s.kept → t.doubtful ≡ s.doubtful → t.broken ≡ s.broken
+      → FollowsState honest on journal s → FollowsState honest on journal t
   followed_same None s t plan has kept doubt broken of = tt
-  followed_same (Some log) s t plan has kept doubt broken of = λ good. (let is : IsJournalOf log.plan log.count log.doubtful (on log.disk) s = of good in record {
-    plan = plan ∙ is.plan;
-    journal = has ∙ is.journal;
-    kept = kept ∙ is.kept;
-    doubt = doubt ∙ is.doubt;
-    broken = broken ∙ is.broken;
-  })
+  followed_same (Some log) s t plan has kept doubt broken of = λ good.
+      (let is : IsJournalOf log.plan log.count log.doubtful (on log.disk) s = of good in record {
+        plan = plan ∙ is.plan;
+        journal = has ∙ is.journal;
+        kept = kept ∙ is.kept;
+        doubt = doubt ∙ is.doubt;
+        broken = broken ∙ is.broken;
+      })
 
   -- a book after a step of the machine
-  pub stepped : (journal now : Option (Log D)) (s t : State) (call : Call) (old new : Course) (places left failed : ℕ) → IsBook honest on faults journal s old places failed → Noted call old new → IsStep s call t
-      → t.ledger.plan ≡ s.ledger.plan → t.ledger.base ≡ s.ledger.base → t.division ≡ s.division → length t.lost ≡ length s.lost → left ≡ count_by not t.lost → left ≤ new.room
-      → t.has_journal ≡ s.has_journal → is_some now ≡ is_some journal → IfSome now (λ log. log.plan ≡ s.ledger.plan) → t.broken ≡ is_some t.doubtful
-      → IsFollowed honest on now t → failures_of faults now ≡ failed_since t.broken failed → IsBook honest on faults now t new left failed
-  stepped journal now s t call old new places left failed book is step plan base division lost count room has some of_plan broken followed failures = record {
-    legal = subst (λ (o : Opening). LeadsTo (opened_by o) new.calls t) (sym is.opening)
-        (subst (λ (l : List Call). LeadsTo (opened_by old.opening) l t) (sym is.calls) (leads_on (opened_by old.opening) s t old.calls call book.legal step));
-    plan = plan ∙ book.plan ∙ ap (λ (o : Opening). o.plan) (sym is.opening);
-    base = base ∙ book.base ∙ ap (λ (o : Opening). o.base) (sym is.opening);
-    pieces = lost ∙ book.pieces ∙ ap (λ (l : List Piece). length l) (sym division);
-    divided = subst (λ (l : List Piece). All (λ p. IsTrue (is_piece t.ledger.plan p)) l) (sym division)
-        (subst (λ (v : Values). All (λ p. IsTrue (is_piece v p)) s.division) (sym plan) book.divided);
-    losable = count;
-    room = room;
-    has_journal = has ∙ book.has_journal ∙ sym some;
-    of_plan = subst (λ (v : Values). IfSome now (λ log. log.plan ≡ v)) (sym plan) of_plan;
-    broken = broken;
-    followed = followed;
-    failures = failures;
-  }
+  pub stepped : (journal now : Option (JournalValue D)) (s t : StudyState) (call : Call) (old new : HistoryValue)
+      (places left failed : ℕ) → IsBook honest on faults journal s old places failed → Noted call old new
+      → IsStep s call t
+      → t.ledger.plan ≡ s.ledger.plan → t.ledger.base ≡ s.ledger.base → t.division ≡ s.division → length t.lost
+      ≡ length s.lost → left ≡ count_by not t.lost → left ≤ new.room
+      → t.has_journal ≡ s.has_journal → is_some now ≡ is_some journal → IfSome now (λ log. log.plan ≡ s.ledger.plan)
+      → t.broken ≡ is_some t.doubtful
+      → FollowsState honest on now t → failures_of faults now ≡ failed_since t.broken failed
+      → IsBook honest on faults now t new left failed
+  stepped journal now s t call old new places left failed book is step plan base division lost count room has some
+      of_plan broken followed failures = record {
+        legal = subst (λ (o : Opening). LeadsTo (opened_by o) new.calls t) (sym is.opening)
+            (subst (λ (l : List Call). LeadsTo (opened_by old.opening) l t) (sym is.calls)
+            (leads_on (opened_by old.opening) s t old.calls call book.legal step));
+        plan = plan ∙ book.plan ∙ ap (λ (o : Opening). o.plan) (sym is.opening);
+        base = base ∙ book.base ∙ ap (λ (o : Opening). o.base) (sym is.opening);
+        pieces = lost ∙ book.pieces ∙ ap (λ (l : List Piece). length l) (sym division);
+        divided = subst (λ (l : List Piece). All (λ p. IsTrue (is_piece t.ledger.plan p)) l) (sym division)
+            (subst (λ (v : Values). All (λ p. IsTrue (is_piece v p)) s.division) (sym plan) book.divided);
+        losable = count;
+        room = room;
+        has_journal = has ∙ book.has_journal ∙ sym some;
+        of_plan = subst (λ (v : Values). IfSome now (λ log. log.plan ≡ v)) (sym plan) of_plan;
+        broken = broken;
+        followed = followed;
+        failures = failures;
+      }
 
   -- a book after a step that leaves the state
-  pub stepped_same : (journal : Option (Log D)) (s t : State) (call : Call) (old new : Course) (places failed : ℕ) → IsBook honest on faults journal s old places failed → Noted call old new → IsStep s call s
+  pub stepped_same : (journal : Option (JournalValue D)) (s t : StudyState) (call : Call) (old new : HistoryValue)
+      (places failed : ℕ) → IsBook honest on faults journal s old places failed → Noted call old new → IsStep s call s
       → t ≡ s → places ≤ new.room → IsBook honest on faults journal t new places failed
   stepped_same journal s t call old new places failed book is step same room =
-      subst (λ (x : State). IsBook honest on faults journal x new places failed) (sym same)
-      (stepped journal journal s s call old new places places failed book is step refl refl refl refl book.losable room refl refl book.of_plan book.broken book.followed book.failures)
+      subst (λ (x : StudyState). IsBook honest on faults journal x new places failed) (sym same)
+      (stepped journal journal s s call old new places places failed book is step refl refl refl refl book.losable room
+      refl refl book.of_plan book.broken book.followed book.failures)
 
   -- a book after a call that leaves the state, for which room was made
-  pub said : (journal : Option (Log D)) (l : Contents) (division : List Piece) (lost : List Bool) (broken : Bool) (call : Call) (old mid new : Course) (places failed : ℕ)
+  pub said : (journal : Option (JournalValue D)) (l : Contents) (division : List Piece) (lost : List Bool)
+      (broken : Bool) (call : Call) (old mid new : HistoryValue) (places failed : ℕ)
       → IsBook honest on faults journal (state_in l journal division lost old broken) old places failed
-      → mid.opening ≡ old.opening → mid.calls ≡ old.calls → new.opening ≡ mid.opening → new.calls ≡ mid.calls ++ call ∷ [] → mid.room ≡ old.room → new.room ≡ mid.room
-      → IsStep (state_in l journal division lost old broken) call (state_in l journal division lost old broken) → accepted_slip call ≡ []
+      → mid.opening ≡ old.opening → mid.calls ≡ old.calls → new.opening ≡ mid.opening → new.calls ≡ mid.calls ++ call
+      ∷ [] → mid.room ≡ old.room → new.room ≡ mid.room
+      → IsStep (state_in l journal division lost old broken) call (state_in l journal division lost old broken)
+      → accepted_slip call ≡ []
       → IsBook honest on faults journal (state_in l journal division lost new broken) new places failed
   said journal l division lost broken call old mid new places failed book opening calls opens adds kept left step none =
       let is : Noted call old new = noted call old mid new opening calls opens adds in
-      stepped_same journal (state_in l journal division lost old broken) (state_in l journal division lost new broken) call old new places failed book is step
+      stepped_same journal (state_in l journal division lost old broken) (state_in l journal division lost new broken)
+      call old new places failed book is step
       (state_same l journal division lost broken call old new is none) (omega (arith, kept, left, book.room))

@@ -1,6 +1,8 @@
 -- Calls and losses that are kept apart, in the order in which they came.
-use Rattle.std.proofs.Common.{false, ◌≡◌, ◌∙◌, ℕ, ◌+◌, ◌-◌, ◌≤◌, ◌<◌, List, [], ◌∷◌, ◌++◌, map, take, drop, length, get_or, refl, sym, ap, subst, arith, append_assoc, append-nil, length-append}
-use Rattle.std.proofs.lemmas.List.{map-append, take_all, drop_all, drop_more, drop-append-le, take-append-le, length-drop, length-take-le, length-map}
+use Rattle.std.proofs.Common.{false, ◌≡◌, ◌∙◌, ℕ, ◌+◌, ◌-◌, ◌≤◌, ◌<◌, List, [], ◌∷◌, ◌++◌, map, take, drop, length}
+use Rattle.std.proofs.Common.{get_or, refl, sym, ap, subst, arith, append_assoc, append-nil, length-append}
+use Rattle.std.proofs.lemmas.List.{map-append, take_all, drop_all, drop_more, drop-append-le, take-append-le}
+use Rattle.std.proofs.lemmas.List.{length-drop, length-take-le, length-map}
 use Rattle.cut_trial.specs.declared.totals.Totals.{Totals}
 use Rattle.cut_ledger.specs.declared.slip.Slip.{Slip}
 use Rattle.cut_book.specs.declared.call.Answer.TheVariants.{Accepted}
@@ -13,7 +15,8 @@ use Rattle.cut_book.proofs.Sums.{count_in, first_in}
 
 pub within : (n all : ℕ) (es : List Entry) → AreInOrder n es all → n ≤ all
 within n all [] order = order
-within n all (e ∷ es) order = let here = order.0 in let rest = within e.losses all es order.1 in omega (arith, here, rest)
+within n all (e ∷ es) order = let here = order.0 in let rest = within e.losses all es order.1
+    in omega (arith, here, rest)
 
 -- ---- one loss more
 
@@ -28,29 +31,40 @@ one_loss_more n [] losses piece order =
 one_loss_more n (e ∷ es) losses piece order =
     let most = within e.losses (length losses) es order.1 in
     let from = order.0 in
-    ap (λ ls. map lost_call (take (e.losses - n) ls) ++ e.call ∷ calls_from e.losses es (losses ++ piece ∷ [])) (drop-append-le n losses (piece ∷ []) (omega (arith, most, from)))
-    ∙ ap (λ ls. map lost_call ls ++ e.call ∷ calls_from e.losses es (losses ++ piece ∷ [])) (take-append-le (e.losses - n) (drop n losses) (piece ∷ []) (omega (arith, most, from, length-drop n losses)))
-    ∙ ap (λ cs. map lost_call (take (e.losses - n) (drop n losses)) ++ e.call ∷ cs) (one_loss_more e.losses es losses piece order.1)
-    ∙ sym (append_assoc (map lost_call (take (e.losses - n) (drop n losses))) (e.call ∷ calls_from e.losses es losses) (lost_call piece ∷ []))
+    ap (λ ls. map lost_call (take (e.losses - n) ls) ++ e.call ∷ calls_from e.losses es (losses ++ piece ∷ []))
+    (drop-append-le n losses (piece ∷ []) (omega (arith, most, from)))
+    ∙ ap (λ ls. map lost_call ls ++ e.call ∷ calls_from e.losses es (losses ++ piece ∷ []))
+    (take-append-le (e.losses - n) (drop n losses) (piece ∷ []) (omega (arith, most, from, length-drop n losses)))
+    ∙ ap (λ cs. map lost_call (take (e.losses - n) (drop n losses)) ++ e.call ∷ cs)
+    (one_loss_more e.losses es losses piece order.1)
+    ∙ sym (append_assoc (map lost_call (take (e.losses - n) (drop n losses))) (e.call ∷ calls_from e.losses es losses)
+    (lost_call piece ∷ []))
 
 -- ---- one entry more
 
-pub order_of_one_entry_more : (n all : ℕ) (es : List Entry) (call : Call) → AreInOrder n es all → AreInOrder n (es ++ record { call = call; losses = all } ∷ []) all
+pub order_of_one_entry_more : (n all : ℕ) (es : List Entry) (call : Call) → AreInOrder n es all
+    → AreInOrder n (es ++ record { call = call; losses = all } ∷ []) all
 order_of_one_entry_more n all [] call order = (order, omega arith)
 order_of_one_entry_more n all (e ∷ es) call order = (order.0, order_of_one_entry_more e.losses all es call order.1)
 
 pub one_entry_more : (n : ℕ) (es : List Entry) (losses : List ℕ) (call : Call) → AreInOrder n es (length losses)
-    → calls_from n (es ++ record { call = call; losses = length losses } ∷ []) losses ≡ calls_from n es losses ++ call ∷ []
+    → calls_from n (es ++ record { call = call; losses = length losses } ∷ []) losses ≡ calls_from n es losses ++ call
+    ∷ []
 one_entry_more n [] losses call order =
-    ap (λ ls. map lost_call ls ++ call ∷ map lost_call (drop (length losses) losses)) (take_all (length losses - n) (drop n losses) (omega (arith, length-drop n losses)))
-    ∙ ap (λ ls. map lost_call (drop n losses) ++ call ∷ map lost_call ls) (drop_all (length losses) losses (omega arith))
+    ap (λ ls. map lost_call ls ++ call ∷ map lost_call (drop (length losses) losses))
+    (take_all (length losses - n) (drop n losses) (omega (arith, length-drop n losses)))
+    ∙ ap (λ ls. map lost_call (drop n losses) ++ call ∷ map lost_call ls)
+    (drop_all (length losses) losses (omega arith))
 one_entry_more n (e ∷ es) losses call order =
-    ap (λ cs. map lost_call (take (e.losses - n) (drop n losses)) ++ e.call ∷ cs) (one_entry_more e.losses es losses call order.1)
-    ∙ sym (append_assoc (map lost_call (take (e.losses - n) (drop n losses))) (e.call ∷ calls_from e.losses es losses) (call ∷ []))
+    ap (λ cs. map lost_call (take (e.losses - n) (drop n losses)) ++ e.call ∷ cs)
+    (one_entry_more e.losses es losses call order.1)
+    ∙ sym (append_assoc (map lost_call (take (e.losses - n) (drop n losses))) (e.call ∷ calls_from e.losses es losses)
+    (call ∷ []))
 
 -- ---- how many
 
-pub long : (n : ℕ) (es : List Entry) (losses : List ℕ) → AreInOrder n es (length losses) → length (calls_from n es losses) ≡ length es + (length losses - n)
+pub long : (n : ℕ) (es : List Entry) (losses : List ℕ) → AreInOrder n es (length losses)
+    → length (calls_from n es losses) ≡ length es + (length losses - n)
 long n [] losses order = length-map (drop n losses) lost_call ∙ length-drop n losses ∙ omega arith
 long n (e ∷ es) losses order =
     let most = within e.losses (length losses) es order.1 in
@@ -58,7 +72,8 @@ long n (e ∷ es) losses order =
     let first : List Call = map lost_call (take (e.losses - n) (drop n losses)) in
     let rest = long e.losses es losses order.1 in
     let some : length first ≡ e.losses - n =
-    length-map (take (e.losses - n) (drop n losses)) lost_call ∙ length-take-le (e.losses - n) (drop n losses) (omega (arith, most, from, length-drop n losses)) in
+    length-map (take (e.losses - n) (drop n losses)) lost_call
+    ∙ length-take-le (e.losses - n) (drop n losses) (omega (arith, most, from, length-drop n losses)) in
     omega (arith, length-append first (e.call ∷ calls_from e.losses es losses), some, rest, most, from)
 
 -- ---- what is accepted
@@ -67,8 +82,10 @@ none_accepted : (losses : List ℕ) (calls : List Call) → accepted_in (map los
 none_accepted [] calls = refl
 none_accepted (piece ∷ losses) calls = none_accepted losses calls
 
-pub others_accept : (n : ℕ) (es : List Entry) (losses : List ℕ) → accepted_in (calls_from n es losses) ≡ accepted_in (map (λ (e : Entry). e.call) es)
-others_accept n [] losses = ap accepted_in (sym (append-nil (map lost_call (drop n losses)))) ∙ none_accepted (drop n losses) []
+pub others_accept : (n : ℕ) (es : List Entry) (losses : List ℕ) → accepted_in (calls_from n es losses)
+    ≡ accepted_in (map (λ (e : Entry). e.call) es)
+others_accept n [] losses = ap accepted_in (sym (append-nil (map lost_call (drop n losses))))
+    ∙ none_accepted (drop n losses) []
 others_accept n (e ∷ es) losses =
     none_accepted (take (e.losses - n) (drop n losses)) (e.call ∷ calls_from e.losses es losses)
     ∙ first_in e.call (calls_from e.losses es losses)
@@ -80,7 +97,17 @@ others_accept n (e ∷ es) losses =
 -- what a look-up past the end would give
 abbrev pub no_entry : Entry
 no_entry =
-    let totals : Totals = record { receivers = 0; conflicts = 0; silent = 0; extra = 0; votes = 0; decided = 0; right = 0; settled = 0 } in
+    let totals : Totals = record {
+      receivers = 0;
+      conflicts = 0;
+      silent = 0;
+      extra = 0;
+      votes = 0;
+      decided = 0;
+      right =
+          0;
+      settled = 0;
+    } in
     let slip : Slip = record { piece = record { first = 0; count = 0 }; totals = totals } in
     record { call = HandIn slip false Accepted; losses = 0 }
 
@@ -90,14 +117,18 @@ pub record Bounds (n all : ℕ) (e : Entry) (es : List Entry) : Type 0 where
   pub most : e.losses ≤ all
   pub rest : AreInOrder e.losses es all
 
-pub bounds_at : (n all : ℕ) (es : List Entry) (i : ℕ) (d : Entry) → i < length es → AreInOrder n (drop i es) all → Bounds n all (get_or es i d) (drop (i + 1) es)
-bounds_at n all es i d low order = go (get_or es i d) (subst (λ (xs : List Entry). AreInOrder n xs all) (drop_more es i d low) order)
+pub bounds_at : (n all : ℕ) (es : List Entry) (i : ℕ) (d : Entry) → i < length es → AreInOrder n (drop i es) all
+    → Bounds n all (get_or es i d) (drop (i + 1) es)
+bounds_at n all es i d low order = go (get_or es i d)
+    (subst (λ (xs : List Entry). AreInOrder n xs all) (drop_more es i d low) order)
   where
     go : (e : Entry) → AreInOrder n (e ∷ drop (i + 1) es) all → Bounds n all e (drop (i + 1) es)
     go e is = record { from = is.0; most = within e.losses all (drop (i + 1) es) is.1; rest = is.1 }
 
-pub next_calls : (n : ℕ) (es : List Entry) (i : ℕ) (d : Entry) (losses : List ℕ) (olds mids news all : List Call) → i < length es
-    → olds ++ calls_from n (drop i es) losses ≡ all → mids ≡ olds ++ map lost_call (take ((get_or es i d).losses - n) (drop n losses)) → news ≡ mids ++ (get_or es i d).call ∷ []
+pub next_calls : (n : ℕ) (es : List Entry) (i : ℕ) (d : Entry) (losses : List ℕ) (olds mids news all : List Call) → i
+    < length es
+    → olds ++ calls_from n (drop i es) losses ≡ all → mids ≡ olds
+    ++ map lost_call (take ((get_or es i d).losses - n) (drop n losses)) → news ≡ mids ++ (get_or es i d).call ∷ []
     → news ++ calls_from (get_or es i d).losses (drop (i + 1) es) losses ≡ all
 next_calls n es i d losses olds mids news all low so-far first second =
     let e : Entry = get_or es i d in
@@ -112,7 +143,8 @@ next_calls n es i d losses olds mids news all low so-far first second =
 -- ---- none yet
 
 pub none_yet : (es : List Entry) (losses : List ℕ) → es ≡ [] → losses ≡ [] → calls_from 0 es losses ≡ []
-none_yet es losses no-entry no-loss = ap (λ xs. calls_from 0 xs losses) no-entry ∙ ap (λ ls. map lost_call (drop 0 ls)) no-loss
+none_yet es losses no-entry no-loss = ap (λ xs. calls_from 0 xs losses) no-entry
+    ∙ ap (λ ls. map lost_call (drop 0 ls)) no-loss
 
 pub none_in_order : (es : List Entry) (all : ℕ) → es ≡ [] → AreInOrder 0 es all
 none_in_order es all no-entry = subst (λ (xs : List Entry). AreInOrder 0 xs all) (sym no-entry) (omega arith)

@@ -1,5 +1,6 @@
 -- Books of which nothing was asked yet.
-use Rattle.std.proofs.Common.{◌≡◌, ◌∙◌, ◌++◌, ℕ, Bool, true, false, cond, List, [], length, map, Ok, Option, Some, None, IfSome, is_some, refl, sym, ap, subst, append-nil}
+use Rattle.std.proofs.Common.{◌≡◌, ◌∙◌, ◌++◌, ℕ, Bool, true, false, cond, List, [], length, map, Ok, Option, Some, None}
+use Rattle.std.proofs.Common.{IfSome, is_some, refl, sym, ap, subst, append-nil}
 use Rattle.cut_plan.specs.Values.{Values}
 use Rattle.cut_trial.specs.declared.piece.Piece.{Piece}
 use Rattle.cut_disks.specs.State.{DiskState}
@@ -7,12 +8,12 @@ use Rattle.cut_ledger.specs.declared.slip.Slip.{Slip}
 use Rattle.cut_ledger.specs.Contents.{Contents, over_base}
 use Rattle.cut_ledger.specs.Gaps.{pieces_of}
 use Rattle.cut_ledger.specs.Machine.{opened}
-use Rattle.cut_journal.specs.Journal.{Log}
+use Rattle.cut_journal.specs.Journal.{JournalValue}
 use Rattle.cut_journal.specs.Reading.{reading}
 use Rattle.cut_journal.specs.Laws.{IsJournalOf, OpeningsFollow}
 use Rattle.cut_book.specs.declared.call.Call.{Call}
-use Rattle.cut_book.specs.History.{Opening, Course, accepted_slips}
-use Rattle.cut_book.specs.Book.{IsFollowed, doubtful_in, kept_in, state_in}
+use Rattle.cut_book.specs.History.{Opening, HistoryValue, accepted_slips}
+use Rattle.cut_book.specs.Book.{FollowsState, doubtful_in, kept_in, state_in}
 use Rattle.cut_book.proofs.Legal.{state_by}
 
 nothing_kept : (has : Bool) (ks : List Slip) → cond has (ks ++ []) ks ≡ ks
@@ -20,35 +21,45 @@ nothing_kept true ks = append-nil ks
 nothing_kept false ks = refl
 
 -- a journal as it was made or opened again: of that plan, with these slips, none doubtful
-abbrev pub IsFresh : {D : Type 0} → Values → List Slip → Option (Log D) → Type 0
+abbrev pub IsFresh : {D : Type 0} → Values → List Slip → Option (JournalValue D) → Type 0
 IsFresh v slips journal = IfSome journal (λ log. (log.plan ≡ v) × (log.count ≡ length slips) × (log.doubtful ≡ None))
 
-pub fresh_doubt : {D : Type 0} (v : Values) (slips : List Slip) (journal : Option (Log D)) → IsFresh v slips journal → doubtful_in journal ≡ None
+pub fresh_doubt : {D : Type 0} (v : Values) (slips : List Slip) (journal : Option (JournalValue D))
+    → IsFresh v slips journal → doubtful_in journal ≡ None
 fresh_doubt v slips None is = refl
 fresh_doubt v slips (Some log) is = is.2
 
-pub fresh_plan : {D : Type 0} (v u : Values) (slips : List Slip) (journal : Option (Log D)) → IsFresh v slips journal → v ≡ u → IfSome journal (λ log. log.plan ≡ u)
+pub fresh_plan : {D : Type 0} (v u : Values) (slips : List Slip) (journal : Option (JournalValue D))
+    → IsFresh v slips journal → v ≡ u → IfSome journal (λ log. log.plan ≡ u)
 fresh_plan v u slips None is same = tt
 fresh_plan v u slips (Some log) is same = is.0 ∙ same
 
-pub fresh_followed : {D : Type 0} (honest : D → Type 0) (on : D → DiskState) (v : Values) (slips : List Slip) (size : ℕ) (journal : Option (Log D)) → OpeningsFollow → IsFresh v slips journal
-    → IfSome journal (λ log. honest log.disk → reading v (on log.disk).bytes ≡ Ok slips) → IsFollowed honest on journal (opened v (is_some journal) slips size)
+pub fresh_followed : {D : Type 0} (honest : D → Type 0) (on : D → DiskState) (v : Values) (slips : List Slip) (size : ℕ)
+    (journal : Option (JournalValue D)) → OpeningsFollow → IsFresh v slips journal
+    → IfSome journal (λ log. honest log.disk → reading v (on log.disk).bytes ≡ Ok slips)
+    → FollowsState honest on journal (opened v (is_some journal) slips size)
 fresh_followed honest on v slips size None follow is reads = tt
 fresh_followed honest on v slips size (Some log) follow is reads = λ good.
     subst (λ (u : Values). IsJournalOf u log.count log.doubtful (on log.disk) (opened v true slips size)) (sym is.0)
-    (subst (λ (d : Option Slip). IsJournalOf v log.count d (on log.disk) (opened v true slips size)) (sym is.2) (follow v log.count slips (on log.disk) size (reads good) is.1))
+    (subst (λ (d : Option Slip). IsJournalOf v log.count d (on log.disk) (opened v true slips size)) (sym is.2)
+    (follow v log.count slips (on log.disk) size (reads good) is.1))
 
-pub opened_state : {D : Type 0} (v : Values) (slips : List Slip) (size : ℕ) (journal : Option (Log D)) (l : Contents) (division : List Piece) (lost : List Bool) (history : Course)
-    → l ≡ over_base v slips → history.opening ≡ record { plan = l.plan; has_journal = is_some journal; base = l.base; size = size } → history.calls ≡ []
-    → division ≡ pieces_of l size → lost ≡ map (λ p. false) division → doubtful_in journal ≡ None → state_in l journal division lost history false ≡ opened v (is_some journal) slips size
+pub opened_state : {D : Type 0} (v : Values) (slips : List Slip) (size : ℕ) (journal : Option (JournalValue D))
+    (l : Contents) (division : List Piece) (lost : List Bool) (history : HistoryValue)
+    → l ≡ over_base v slips → history.opening ≡ record
+    { plan = l.plan; has_journal = is_some journal; base = l.base; size = size } → history.calls ≡ []
+    → division ≡ pieces_of l size → lost ≡ map (λ p. false) division → doubtful_in journal ≡ None
+    → state_in l journal division lost history false ≡ opened v (is_some journal) slips size
 opened_state v slips size journal l division lost history holds opening none pieces unlost doubt =
     let has : Bool = is_some journal in
     let kept : kept_in history ≡ slips =
-    ap (λ (o : Opening). cond o.has_journal (o.base ++ accepted_slips history.calls) o.base) opening ∙ ap (λ (cs : List Call). cond has (l.base ++ accepted_slips cs) l.base) none
+    ap (λ (o : Opening). cond o.has_journal (o.base ++ accepted_slips history.calls) o.base) opening
+    ∙ ap (λ (cs : List Call). cond has (l.base ++ accepted_slips cs) l.base) none
     ∙ nothing_kept has l.base ∙ ap (λ (x : Contents). x.base) holds in
     ap (λ (o : Opening). state_by l (doubtful_in journal) division lost o.has_journal (kept_in history) false) opening
     ∙ ap (λ (d : Option Slip). state_by l d division lost has (kept_in history) false) doubt
     ∙ ap (λ (ks : List Slip). state_by l None division lost has ks false) kept
     ∙ ap (λ (ls : List Bool). state_by l None division ls has slips false) unlost
     ∙ ap (λ (ds : List Piece). state_by l None ds (map (λ p. false) ds) has slips false) pieces
-    ∙ ap (λ (x : Contents). state_by x None (pieces_of x size) (map (λ p. false) (pieces_of x size)) has slips false) holds
+    ∙ ap (λ (x : Contents). state_by x None (pieces_of x size) (map (λ p. false) (pieces_of x size)) has slips false)
+    holds

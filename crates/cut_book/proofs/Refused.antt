@@ -1,5 +1,6 @@
 -- Results that are refused before their append.
-use Rattle.std.proofs.Common.{◌≡◌, ◌∙◌, ◌++◌, ◌∷◌, ℕ, Bool, true, false, cond, List, [], Result, Option, Some, None, IfErr, IsErrOf, refl, sym, ap, subst}
+use Rattle.std.proofs.Common.{◌≡◌, ◌∙◌, ◌++◌, ◌∷◌, ℕ, Bool, true, false, cond, List, [], Result, Option, Some, None}
+use Rattle.std.proofs.Common.{IfErr, IsErrOf, refl, sym, ap, subst}
 use Rattle.std.specs.Prelude.{option_map, ⊤}
 use Rattle.cut_faults.specs.declared.code.FaultCode.{FaultCode}
 use Rattle.cut_faults.specs.declared.code.FaultCode.TheVariants as code
@@ -7,20 +8,21 @@ use Rattle.cut_trial.specs.Computed.{Computed}
 use Rattle.cut_ledger.specs.declared.offer_fault.OfferFault.TheVariants as ledger
 use Rattle.cut_ledger.specs.Contents.{Contents, overlaps}
 use Rattle.cut_ledger.specs.FaultCode.{code_of}
-use Rattle.cut_ledger.specs.Machine.{State, after, refused_code, unless_refused, accepted_unless, taken}
+use Rattle.cut_ledger.specs.Machine.{StudyState, after, refused_code, unless_refused, accepted_unless, taken}
 use Rattle.cut_ledger.specs.Refusals.{is_same_plan, refusal_of}
 use Rattle.cut_ledger.specs.World.{HasTrueResult}
 use Rattle.cut_ledger.specs.declared.event.Event.TheVariants as event
 use Rattle.cut_book.specs.declared.call.Answer.{Answer}
 use Rattle.cut_book.specs.declared.call.Answer.TheVariants.{Accepted, Stranger, Overlap, DiskFails, Broken}
 use Rattle.cut_book.specs.declared.fault.BookFault.TheVariants as fault
-use Rattle.cut_book.specs.History.{Opening, Course, IsAnswer, IsStep, accepted_slip, event_of}
+use Rattle.cut_book.specs.History.{Opening, HistoryValue, IsAnswer, IsStep, accepted_slip, event_of}
 use Rattle.cut_book.specs.declared.call.Call.{Call}
 use Rattle.cut_book.specs.declared.fault.BookFault.{BookFault}
 use Rattle.cut_trial.specs.declared.piece.Piece.{Piece}
 use Rattle.cut_book.proofs.Legal.{Noted, state_same}
-use Rattle.cut_book.specs.Book.{Answers, HandsIn, state_in, progress_in, answer_to, answer_of, refusal_in, returned, hand_in_of, JournalAfter, MayRefuse, faults_after}
-use Rattle.cut_journal.specs.Journal.{Log}
+use Rattle.cut_book.specs.Book.{GivesAnswer, HandsIn, state_in, book_value_in, answer_to, answer_of, refusal_in}
+use Rattle.cut_book.specs.Book.{returned, hand_in_of, JournalAfter, IsHandInFault, faults_after}
+use Rattle.cut_journal.specs.Journal.{JournalValue}
 use Rattle.cut_ledger.specs.Machine.{slip_of}
 
 -- the code of a refusal
@@ -37,26 +39,32 @@ Refuses Overlap broken = ⊤
 Refuses Broken broken = broken ≡ true
 Refuses answer broken = ⊥
 
-codes : (broken same over : Bool) (a : Answer) → cond broken (Some Broken) (option_map answer_to (cond same (cond over (Some ledger.Overlap) None) (Some ledger.Stranger))) ≡ Some a
-    → (cond broken (Some code.Checkpoint) (option_map code_of (cond same (cond over (Some ledger.Overlap) None) (Some ledger.Stranger))) ≡ code_for a) × Refuses a broken
+codes : (broken same over : Bool) (a : Answer) → cond broken (Some Broken)
+    (option_map answer_to (cond same (cond over (Some ledger.Overlap) None) (Some ledger.Stranger))) ≡ Some a
+    → (cond broken (Some code.Checkpoint) (option_map code_of
+    (cond same (cond over (Some ledger.Overlap) None) (Some ledger.Stranger))) ≡ code_for a) × Refuses a broken
 codes true same over a e =
-    let is : Broken ≡ a = cc in subst (λ (x : Answer). (Some code.Checkpoint ≡ code_for x) × Refuses x true) is (refl, refl)
+    let is : Broken ≡ a = cc in subst (λ (x : Answer). (Some code.Checkpoint ≡ code_for x) × Refuses x true) is
+    (refl, refl)
 codes false true true a e =
-    let is : Overlap ≡ a = cc in subst (λ (x : Answer). (Some code.Overlap ≡ code_for x) × Refuses x false) is (refl, tt)
+    let is : Overlap ≡ a = cc in subst (λ (x : Answer). (Some code.Overlap ≡ code_for x) × Refuses x false) is
+    (refl, tt)
 codes false true false a e = absurd (let no : ⊥ = cc in no)
 codes false false over a e =
-    let is : Stranger ≡ a = cc in subst (λ (x : Answer). (Some code.Stranger ≡ code_for x) × Refuses x false) is (refl, tt)
+    let is : Stranger ≡ a = cc in subst (λ (x : Answer). (Some code.Stranger ≡ code_for x) × Refuses x false) is
+    (refl, tt)
 
 -- what a refused result is: a step that changes nothing
-pub record IsRefused (s : State) (r : Computed) (a : Answer) : Type 0 where
+pub record IsRefused (s : StudyState) (r : Computed) (a : Answer) : Type 0 where
   pub answered : IsAnswer s r a
   pub state : after s (event_of a r) ≡ s
-  pub told : answer_of (returned a) s ≡ Some a
+  pub reported : answer_of (returned a) s ≡ Some a
   pub slips : accepted_slip (hand_in_of s r a) ≡ []
   pub broken : IsErrOf (returned a) fault.Checkpoint → s.broken ≡ true
   pub same_faults : (n : ℕ) → faults_after (Some a) n ≡ n
 
-by_code : (s : State) (r : Computed) (a : Answer) → refused_code s r ≡ code_for a → Refuses a s.broken → IsRefused s r a
+by_code : (s : StudyState) (r : Computed) (a : Answer) → refused_code s r ≡ code_for a → Refuses a s.broken
+    → IsRefused s r a
 by_code s r Accepted e refuses = absurd refuses
 by_code s r DiskFails e refuses = absurd refuses
 by_code s r Stranger e refuses = record {
@@ -64,7 +72,7 @@ by_code s r Stranger e refuses = record {
   same_faults = λ n. refl;
   answered = record { reply = ap (λ (o : Option FaultCode). accepted_unless o) e; disk = tt };
   state = ap (λ (o : Option FaultCode). unless_refused o s (taken s r)) e;
-  told = refl;
+  reported = refl;
   slips = refl;
 }
 by_code s r Overlap e refuses = record {
@@ -72,7 +80,7 @@ by_code s r Overlap e refuses = record {
   same_faults = λ n. refl;
   answered = record { reply = ap (λ (o : Option FaultCode). accepted_unless o) e; disk = tt };
   state = ap (λ (o : Option FaultCode). unless_refused o s (taken s r)) e;
-  told = refl;
+  reported = refl;
   slips = refl;
 }
 by_code s r Broken e refuses = record {
@@ -80,15 +88,17 @@ by_code s r Broken e refuses = record {
   same_faults = λ n. refl;
   answered = record { reply = ap (λ (o : Option FaultCode). accepted_unless o) e; disk = tt };
   state = ap (λ (o : Option FaultCode). unless_refused o s (taken s r)) e;
-  told = ap (λ (b : Bool). (let o : Option Answer = Some (cond b Broken DiskFails) in o)) refuses;
+  reported = ap (λ (b : Bool). (let o : Option Answer = Some (cond b Broken DiskFails) in o)) refuses;
   slips = refl;
 }
 
-pub refused : (s : State) (r : Computed) (a : Answer) → refusal_in s r ≡ Some a → IsRefused s r a
-refused s r a e = let both = codes s.broken (is_same_plan s.ledger.plan r.plan) (overlaps s.ledger r.piece) a e in by_code s r a both.0 both.1
+pub refused : (s : StudyState) (r : Computed) (a : Answer) → refusal_in s r ≡ Some a → IsRefused s r a
+refused s r a e = let both = codes s.broken (is_same_plan s.ledger.plan r.plan) (overlaps s.ledger r.piece) a e
+    in by_code s r a both.0 both.1
 
 -- it is a step of its history
-pub refused_step : (s : State) (r : Computed) (a : Answer) → HasTrueResult (event.HandIn r) → IsRefused s r a → IsStep s (hand_in_of s r a) s
+pub refused_step : (s : StudyState) (r : Computed) (a : Answer) → HasTrueResult (event.HandIn r) → IsRefused s r a
+    → IsStep s (hand_in_of s r a) s
 refused_step s r a real is = record {
   result = r;
   true_result = real;
@@ -99,17 +109,20 @@ refused_step s r a real is = record {
 }
 
 -- and its journal is as it was
-pub refused_journal : {D : Type 0} (s : State) (r : Computed) (a : Answer) (journal : Option (Log D)) → refusal_in s r ≡ Some a → JournalAfter a (slip_of r) journal journal
-refused_journal s r a journal e = same a journal (codes s.broken (is_same_plan s.ledger.plan r.plan) (overlaps s.ledger r.piece) a e).1
+pub refused_journal : {D : Type 0} (s : StudyState) (r : Computed) (a : Answer) (journal : Option (JournalValue D))
+    → refusal_in s r ≡ Some a → JournalAfter a (slip_of r) journal journal
+refused_journal s r a journal e = same a journal (codes s.broken (is_same_plan s.ledger.plan r.plan)
+    (overlaps s.ledger r.piece) a e).1
   where
-    same : {D : Type 0} (a : Answer) (journal : Option (Log D)) → Refuses a s.broken → JournalAfter a (slip_of r) journal journal
+    same : {D : Type 0} (a : Answer) (journal : Option (JournalValue D)) → Refuses a s.broken
+        → JournalAfter a (slip_of r) journal journal
     same Stranger journal refuses = refl
     same Overlap journal refuses = refl
     same Broken journal refuses = refl
     same Accepted journal refuses = absurd refuses
     same DiskFails journal refuses = absurd refuses
 
-pub may_refuse : (a : Answer) → IfErr (returned a) MayRefuse
+pub may_refuse : (a : Answer) → IfErr (returned a) IsHandInFault
 may_refuse Accepted = tt
 may_refuse Stranger = tt
 may_refuse Overlap = tt
@@ -118,7 +131,8 @@ may_refuse Broken = tt
 
 -- ---- results that are not refused
 
-not_in : (broken same over : Bool) → cond broken (Some Broken) (option_map answer_to (cond same (cond over (Some ledger.Overlap) None) (Some ledger.Stranger))) ≡ None
+not_in : (broken same over : Bool) → cond broken (Some Broken)
+    (option_map answer_to (cond same (cond over (Some ledger.Overlap) None) (Some ledger.Stranger))) ≡ None
     → (broken ≡ false) × (cond same (cond over (Some ledger.Overlap) None) (Some ledger.Stranger) ≡ None)
 not_in true same over e = absurd (let no : ⊥ = cc in no)
 not_in false true true e = absurd (let no : ⊥ = cc in no)
@@ -126,32 +140,37 @@ not_in false true false e = (refl, refl)
 not_in false false over e = absurd (let no : ⊥ = cc in no)
 
 -- no append has failed, and the ledger takes it
-pub record IsFree (s : State) (r : Computed) : Type 0 where
+pub record IsFree (s : StudyState) (r : Computed) : Type 0 where
   pub unbroken : s.broken ≡ false
   pub fine : refusal_of s.ledger r ≡ None
   pub code : refused_code s r ≡ None
 
-pub free : (s : State) (r : Computed) → refusal_in s r ≡ None → IsFree s r
+pub free : (s : StudyState) (r : Computed) → refusal_in s r ≡ None → IsFree s r
 free s r e =
     let both = not_in s.broken (is_same_plan s.ledger.plan r.plan) (overlaps s.ledger r.piece) e in
     record {
       unbroken = both.0;
       fine = both.1;
-      code = ap (λ (b : Bool). (let o : Option FaultCode = cond b (Some code.Checkpoint) (option_map code_of (refusal_of s.ledger r)) in o)) both.0 ∙ ap (option_map code_of) both.1;
+      code = ap (λ (b : Bool). (let o : Option FaultCode = cond b (Some code.Checkpoint)
+          (option_map code_of (refusal_of s.ledger r)) in o)) both.0 ∙ ap (option_map code_of) both.1;
     }
 
 -- ---- what is answered to them
 
-pub refused_hands : {D : Type 0} (journal : Option (Log D)) (l : Contents) (division : List Piece) (lost : List Bool) (broken : Bool) (failed : ℕ) (r : Computed) (a : Answer) (call : Call) (old new : Course)
-    → Noted call old new → call ≡ hand_in_of (state_in l journal division lost old broken) r a → refusal_in (state_in l journal division lost old broken) r ≡ Some a
+pub refused_hands : {D : Type 0} (journal : Option (JournalValue D)) (l : Contents) (division : List Piece)
+    (lost : List Bool) (broken : Bool) (failed : ℕ) (r : Computed) (a : Answer) (call : Call) (old new : HistoryValue)
+    → Noted call old new → call ≡ hand_in_of (state_in l journal division lost old broken) r a
+    → refusal_in (state_in l journal division lost old broken) r ≡ Some a
     → (result : Result ⊤ BookFault) → result ≡ returned a
-    → HandsIn (answer_of result (state_in l journal division lost old broken)) r (progress_in journal (state_in l journal division lost old broken) old failed)
-    (progress_in journal (state_in l journal division lost new broken) new failed)
-refused_hands {D} journal l division lost broken failed r a call old new noted called e result told =
-    let s : State = state_in l journal division lost old broken in
+    → HandsIn (answer_of result (state_in l journal division lost old broken)) r
+    (book_value_in journal (state_in l journal division lost old broken) old failed)
+    (book_value_in journal (state_in l journal division lost new broken) new failed)
+refused_hands {D} journal l division lost broken failed r a call old new noted called e result reported =
+    let s : StudyState = state_in l journal division lost old broken in
     let is : IsRefused s r a = refused s r a e in
     let none : accepted_slip call ≡ [] = ap accepted_slip called ∙ is.slips in
-    let got : Answers a r (progress_in journal s old failed) (progress_in journal (state_in l journal division lost new broken) new failed) = record {
+    let got : GivesAnswer a r (book_value_in journal s old failed)
+    (book_value_in journal (state_in l journal division lost new broken) new failed) = record {
       answered = is.answered;
       state = state_same l journal division lost broken call old new noted none ∙ sym is.state;
       calls = noted.calls ∙ ap (λ (k : Call). old.calls ++ k ∷ []) called;
@@ -159,5 +178,6 @@ refused_hands {D} journal l division lost broken failed r a call old new noted c
       size = ap (λ (o : Opening). o.size) noted.opening;
       failed = refl;
     } in
-    subst (λ (o : Option Answer). HandsIn o r (progress_in journal s old failed) (progress_in journal (state_in l journal division lost new broken) new failed))
-    (sym (ap (λ (x : Result ⊤ BookFault). answer_of x s) told ∙ is.told)) got
+    subst (λ (o : Option Answer). HandsIn o r (book_value_in journal s old failed)
+    (book_value_in journal (state_in l journal division lost new broken) new failed))
+    (sym (ap (λ (x : Result ⊤ BookFault). answer_of x s) reported ∙ is.reported)) got

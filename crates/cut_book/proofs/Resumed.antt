@@ -1,5 +1,6 @@
 -- What a crash leaves of a disk of which nothing is asked.
-use Rattle.std.proofs.Common.{◌≡◌, ◌∙◌, inl, inr, ℕ, Bool, true, false, cond, List, [], Option, Some, None, IfSome, unwrap_or, refl, sym, ap, subst}
+use Rattle.std.proofs.Common.{◌≡◌, ◌∙◌, inl, inr, ℕ, Bool, true, false, cond, List, [], Option, Some, None, IfSome}
+use Rattle.std.proofs.Common.{unwrap_or, refl, sym, ap, subst}
 use Rattle.std.specs.Prelude.{option_map}
 use Rattle.cut_faults.specs.declared.code.FaultCode.TheVariants as code
 use Rattle.cut_plan.specs.Values.{Values}
@@ -9,58 +10,78 @@ use Rattle.cut_ledger.specs.declared.slip.Slip.{Slip}
 use Rattle.cut_ledger.specs.declared.offer_fault.OfferFault.{OfferFault}
 use Rattle.cut_ledger.specs.declared.event.Event.TheVariants.{HandInDiskFails}
 use Rattle.cut_ledger.specs.FaultCode.{code_of}
-use Rattle.cut_ledger.specs.Machine.{State, after, slip_of, unless_refused, failed}
+use Rattle.cut_ledger.specs.Machine.{StudyState, after, slip_of, unless_refused, failed}
 use Rattle.cut_ledger.specs.Refusals.{refusal_of}
-use Rattle.cut_journal.specs.Journal.{Log, kept_slips, ReadsAs, IsSound}
+use Rattle.cut_journal.specs.Journal.{JournalValue, kept_slips, ReadsAs, IsFileOf}
 use Rattle.cut_journal.specs.Laws.{IsJournalOf, IsResumed, CrashesBetweenCalls, CrashesInAppends}
-use Rattle.cut_book.specs.Book.{IsFollowed, LeavesResumed}
+use Rattle.cut_book.specs.Book.{FollowsState, LeavesResumed}
 
 -- between two calls the moment is one
-at_rest : (d : DiskState) (P : List ℕ → Type 0) → ((image : List ℕ) → IsImage d.stable image → P image) → Throughout d d P
+at_rest : (d : DiskState) (P : List ℕ → Type 0) → ((image : List ℕ) → IsImage d.stable image → P image)
+    → Throughout d d P
 at_rest d P images = record { since = []; goes_on = refl; each = (images, tt) }
 
 -- what may be doubtful may be so with another slip at hand
-more_doubt : (v : Values) (ks : List Slip) (doubtful : Option Slip) (slip : Slip) (bytes : List ℕ) → ReadsAs v ks doubtful bytes → ReadsAs v ks (Some (unwrap_or doubtful slip)) bytes
+more_doubt : (v : Values) (ks : List Slip) (doubtful : Option Slip) (slip : Slip) (bytes : List ℕ)
+    → ReadsAs v ks doubtful bytes → ReadsAs v ks (Some (unwrap_or doubtful slip)) bytes
 more_doubt v ks doubtful slip bytes (inl reads) = inl reads
 more_doubt v ks None slip bytes (inr (other, both)) = absurd (cc (both.0))
 more_doubt v ks (Some old) slip bytes (inr (other, both)) = inr (other, both)
 
 -- a result that the ledger refuses changes nothing
-stays : (broken : Bool) (fault : OfferFault) (s t : State) → unless_refused (cond broken (Some code.Checkpoint) (option_map code_of (Some fault))) s t ≡ s
+stays : (broken : Bool) (fault : OfferFault) (s t : StudyState)
+    → unless_refused (cond broken (Some code.Checkpoint) (option_map code_of (Some fault))) s t ≡ s
 stays true fault s t = refl
 stays false fault s t = refl
 
-resumable_by : (v : Values) (count : ℕ) (doubtful : Option Slip) (d : DiskState) (s : State) (r : Computed) (o : Option OfferFault) → refusal_of s.ledger r ≡ o → CrashesBetweenCalls → CrashesInAppends
-    → IsSound v count doubtful d → IsJournalOf v count doubtful d s → Throughout d d (IsResumed v (after s (HandInDiskFails r)))
+resumable_by : (v : Values) (count : ℕ) (doubtful : Option Slip) (d : DiskState) (s : StudyState) (r : Computed)
+    (o : Option OfferFault) → refusal_of s.ledger r ≡ o → CrashesBetweenCalls → CrashesInAppends
+    → IsFileOf v count doubtful d → IsJournalOf v count doubtful d s
+    → Throughout d d (IsResumed v (after s (HandInDiskFails r)))
 resumable_by v count doubtful d s r None fine between within sound of =
     within v count doubtful d d s r of fine
     (at_rest d (ReadsAs v (kept_slips v count d) (Some (unwrap_or doubtful (slip_of r))))
     (λ image is. more_doubt v (kept_slips v count d) doubtful (slip_of r) image (sound.images image is)))
 resumable_by v count doubtful d s r (Some fault) refused between within sound of =
     let same : after s (HandInDiskFails r) ≡ s =
-    ap (λ (o : Option OfferFault). unless_refused (cond s.broken (Some code.Checkpoint) (option_map code_of o)) s (failed s r)) refused ∙ stays s.broken fault s (failed s r) in
-    subst (λ (t : State). Throughout d d (IsResumed v t)) (sym same) (at_rest d (IsResumed v s) (between v count doubtful d s sound of))
+    ap (λ (o : Option OfferFault). unless_refused (cond s.broken (Some code.Checkpoint) (option_map code_of o)) s
+    (failed s r)) refused ∙ stays s.broken fault s (failed s r) in
+    subst (λ (t : StudyState). Throughout d d (IsResumed v t)) (sym same)
+    (at_rest d (IsResumed v s) (between v count doubtful d s sound of))
 
 -- a journal that is as it was leaves a run that is resumed, also after a result's append failed
-pub resumable : {D : Type 0} (honest : D → Type 0) (on : D → DiskState) (journal : Option (Log D)) (log : Log D) (s : State) (r : Computed) → CrashesBetweenCalls → CrashesInAppends
-    → journal ≡ Some log → (honest log.disk → IsSound log.plan log.count log.doubtful (on log.disk)) → IsFollowed honest on journal s
+pub resumable : {D : Type 0} (honest : D → Type 0) (on : D → DiskState) (journal : Option (JournalValue D))
+    (log : JournalValue D) (s : StudyState) (r : Computed) → CrashesBetweenCalls → CrashesInAppends
+    → journal ≡ Some log → (honest log.disk → IsFileOf log.plan log.count log.doubtful (on log.disk))
+    → FollowsState honest on journal s
     → LeavesResumed honest on journal journal (after s (HandInDiskFails r))
 resumable {D} honest on journal log s r between within is sound =
-    subst (λ (j : Option (Log D)). IsFollowed honest on j s → LeavesResumed honest on j j (after s (HandInDiskFails r))) (sym is)
-    (λ of good. resumable_by log.plan log.count log.doubtful (on log.disk) s r (refusal_of s.ledger r) refl between within (sound good) (of good))
+    subst (λ (j : Option (JournalValue D)). FollowsState honest on j s
+    → LeavesResumed honest on j j (after s (HandInDiskFails r))) (sym is)
+    (λ of good. resumable_by log.plan log.count log.doubtful (on log.disk) s r (refusal_of s.ledger r) refl between
+    within (sound good) (of good))
 
 -- and a run that is resumed as it is
-pub resumed_now : {D : Type 0} (honest : D → Type 0) (on : D → DiskState) (journal : Option (Log D)) (log : Log D) (s : State) → CrashesBetweenCalls
-    → journal ≡ Some log → (honest log.disk → IsSound log.plan log.count log.doubtful (on log.disk)) → IsFollowed honest on journal s
-    → IfSome journal (λ l. honest l.disk → (image : List ℕ) → IsImage (on l.disk).stable image → IsResumed l.plan s image)
+pub resumed_now : {D : Type 0} (honest : D → Type 0) (on : D → DiskState) (journal : Option (JournalValue D))
+    (log : JournalValue D) (s : StudyState) → CrashesBetweenCalls
+    → journal ≡ Some log → (honest log.disk → IsFileOf log.plan log.count log.doubtful (on log.disk))
+    → FollowsState honest on journal s
+    → IfSome journal (λ l. honest l.disk → (image : List ℕ) → IsImage (on l.disk).stable image
+    → IsResumed l.plan s image)
 resumed_now {D} honest on journal log s between is sound =
-    subst (λ (j : Option (Log D)). IsFollowed honest on j s → IfSome j (λ l. honest l.disk → (image : List ℕ) → IsImage (on l.disk).stable image → IsResumed l.plan s image)) (sym is)
+    subst (λ (j : Option (JournalValue D)). FollowsState honest on j s
+    → IfSome j (λ l. honest l.disk → (image : List ℕ) → IsImage (on l.disk).stable image → IsResumed l.plan s image))
+    (sym is)
     (λ of good. between log.plan log.count log.doubtful (on log.disk) s (sound good) (of good))
 
 -- in an append of a result that the ledger takes
-pub resumed_append : {D : Type 0} (honest : D → Type 0) (on : D → DiskState) (journal : Option (Log D)) (old new : Log D) (s : State) (r : Computed) → CrashesInAppends → journal ≡ Some old
-    → (honest old.disk → Throughout (on old.disk) (on new.disk) (ReadsAs old.plan (kept_slips old.plan old.count (on old.disk)) (Some (unwrap_or old.doubtful (slip_of r)))))
-    → refusal_of s.ledger r ≡ None → IsFollowed honest on journal s → LeavesResumed honest on journal (Some new) (after s (HandInDiskFails r))
+pub resumed_append : {D : Type 0} (honest : D → Type 0) (on : D → DiskState) (journal : Option (JournalValue D))
+    (old new : JournalValue D) (s : StudyState) (r : Computed) → CrashesInAppends → journal ≡ Some old
+    → (honest old.disk → Throughout (on old.disk) (on new.disk)
+    (ReadsAs old.plan (kept_slips old.plan old.count (on old.disk)) (Some (unwrap_or old.doubtful (slip_of r)))))
+    → refusal_of s.ledger r ≡ None → FollowsState honest on journal s
+    → LeavesResumed honest on journal (Some new) (after s (HandInDiskFails r))
 resumed_append {D} honest on journal old new s r within is moments fine =
-    subst (λ (j : Option (Log D)). IsFollowed honest on j s → LeavesResumed honest on j (Some new) (after s (HandInDiskFails r))) (sym is)
+    subst (λ (j : Option (JournalValue D)). FollowsState honest on j s
+    → LeavesResumed honest on j (Some new) (after s (HandInDiskFails r))) (sym is)
     (λ of good. within old.plan old.count old.doubtful (on old.disk) (on new.disk) s r (of good) fine (moments good))

@@ -1,5 +1,7 @@
 -- The trials of the accepted results are no more than the plan has.
-use Rattle.std.proofs.Common.{◌≡◌, ◌∙◌, ◌+◌, ◌++◌, ◌*◌, ◌<◌, ◌≤◌, ◌||◌, ◌∷◌, [], ℕ, zero, suc, Bool, true, false, List, Option, Some, None, IsTrue, cond, length, count_by, take, get_or, refl, sym, ap, subst, arith}
+use Rattle.std.proofs.Common.{◌≡◌, ◌∙◌, ◌+◌, ◌++◌, ◌*◌, ◌<◌, ◌≤◌, ◌||◌, ◌∷◌, [], ℕ, zero, suc, Bool, true, false, List}
+use Rattle.std.proofs.Common.{Option, Some, None, IsTrue, cond, length, count_by, take, get_or, refl, sym, ap, subst}
+use Rattle.std.proofs.Common.{arith}
 use Rattle.std.specs.Prelude.{option_map}
 use Rattle.std.specs.List.{range_with_len, sum_by}
 use Rattle.std.proofs.Math.Bool.{or-false}
@@ -25,92 +27,121 @@ use Rattle.cut_ledger.specs.declared.event.Reply.TheVariants as reply
 use Rattle.cut_ledger.specs.Contents.{Contents, has, is_in, overlaps, with_piece}
 use Rattle.cut_ledger.specs.FaultCode.{code_of}
 use Rattle.cut_ledger.specs.Laws.{SamePlansAreEqual}
-use Rattle.cut_ledger.specs.Machine.{State, accepted_unless, failed, refused_code, taken, unless_refused}
+use Rattle.cut_ledger.specs.Machine.{StudyState, accepted_unless, failed, refused_code, taken, unless_refused}
 use Rattle.cut_ledger.specs.Refusals.{is_same_plan}
 use Rattle.cut_book.specs.declared.call.Answer.TheVariants.{Accepted, Stranger, Overlap, DiskFails, Broken}
 use Rattle.cut_book.specs.declared.call.Call.{Call}
 use Rattle.cut_book.specs.declared.call.Call.TheVariants.{HandIn, Lose, Row}
-use Rattle.cut_book.specs.History.{Opening, IsHandedIn, IsStep, LeadsTo, IsLegal, accepted_in, accepted_slip, accepted_slips, opened_by}
+use Rattle.cut_book.specs.History.{Opening, IsHandedIn, IsStep, LeadsTo, IsLegalHistory, accepted_in, accepted_slip}
+use Rattle.cut_book.specs.History.{accepted_slips, opened_by}
 
 -- how many trials are held
 abbrev pub held_count : Values → Contents → ℕ
 held_count v l = count_by (has l) (range_with_len 0 (trial_count v))
 
-grown : (l : Contents) (p : Piece) → overlaps l p ≡ false → p.first + p.count ≤ trial_count l.plan → held_count l.plan (with_piece l p) ≡ held_count l.plan l + p.count
+grown : (l : Contents) (p : Piece) → overlaps l p ≡ false → p.first + p.count ≤ trial_count l.plan
+    → held_count l.plan (with_piece l p) ≡ held_count l.plan l + p.count
 grown l p free fits =
     let n : ℕ = trial_count l.plan in
     let new : ℕ → Bool = λ t. has l t || is_in p t in
-    count_by_agree (has (with_piece l p)) new 0 n (record { same = λ t low high. get_or-map-range_with_len new 0 n t t false (omega arith) (omega arith) })
+    count_by_agree (has (with_piece l p)) new 0 n (record
+    { same = λ t low high. get_or-map-range_with_len new 0 n t t false (omega arith) (omega arith) })
     ∙ count_of_more (has l) new 0 n p.first p.count (record {
       starts = omega arith;
       ends = omega arith;
-      inside = λ t a b. (none_passing (has l) p.first p.count t free a b, or_right (has l t) (is_in p t) (let here : is_in p t ≡ true = grind (arith, nat_tests) in here));
+      inside = λ t a b. (
+        none_passing (has l) p.first p.count t free a b,
+        or_right (has l t) (is_in p t)
+            (let here : is_in p t ≡ true = grind (arith, nat_tests) in here),
+      );
       outside = λ t out.
-          ap (λ b. has l t || b) (false_from_ne_true (is_in p t) (λ e. (let parts = and_parts _ _ e in out (leb-true p.first t parts.0) (ltb-true t (p.first + p.count) parts.1)))) ∙ or-false (has l t);
+          ap (λ b. has l t || b) (false_from_ne_true (is_in p t)
+          (λ e. (let parts = and_parts _ _ e in out (leb-true p.first t parts.0)
+          (ltb-true t (p.first + p.count) parts.1)))) ∙ or-false (has l t);
     })
 
 -- ---- steps
 
--- a state with so many more trials held, of the same plan
-abbrev pub Grows : ℕ → State → State → Type 0
-Grows n s t = (t.ledger.plan ≡ s.ledger.plan) × (n + held_count s.ledger.plan s.ledger ≤ held_count s.ledger.plan t.ledger)
+-- a state with this many more trials held, of the same plan
+abbrev pub Grows : ℕ → StudyState → StudyState → Type 0
+Grows n s t = (t.ledger.plan ≡ s.ledger.plan) × (n + held_count s.ledger.plan s.ledger
+    ≤ held_count s.ledger.plan t.ledger)
 
-same_ledger : (s t : State) → t.ledger ≡ s.ledger → Grows 0 s t
-same_ledger s t same = (ap (λ (l : Contents). l.plan) same, (let e : held_count s.ledger.plan t.ledger ≡ held_count s.ledger.plan s.ledger = ap (λ (l : Contents). held_count s.ledger.plan l) same in omega (arith, e)))
+same_ledger : (s t : StudyState) → t.ledger ≡ s.ledger → Grows 0 s t
+same_ledger s t same = (
+  ap (λ (l : Contents). l.plan) same,
+  (let e : held_count s.ledger.plan t.ledger ≡ held_count s.ledger.plan s.ledger = ap
+      (λ (l : Contents). held_count s.ledger.plan l) same in omega (arith, e)),
+)
 
 no_code : (o : Option FaultCode) → accepted_unless o ≡ reply.Accepted → o ≡ None
 no_code None e = refl
 no_code (Some c) e = absurd (let no : ⊥ = cc in no)
 
-some_code : (o : Option FaultCode) (c : FaultCode) (s t : State) → accepted_unless o ≡ reply.Refused c → unless_refused o s t ≡ s
+some_code : (o : Option FaultCode) (c : FaultCode) (s t : StudyState) → accepted_unless o ≡ reply.Refused c
+    → unless_refused o s t ≡ s
 some_code None c s t e = absurd (let no : ⊥ = cc in no)
 some_code (Some x) c s t e = refl
 
-failed_ledger : (o : Option FaultCode) (s : State) (r : Computed) → (unless_refused o s (failed s r)).ledger ≡ s.ledger
+failed_ledger : (o : Option FaultCode) (s : StudyState) (r : Computed) → (unless_refused o s (failed s r)).ledger
+    ≡ s.ledger
 failed_ledger None s r = refl
 failed_ledger (Some c) s r = refl
 
-not_refused : (broken same over : Bool) → cond broken (Some code.Checkpoint) (option_map code_of (cond same (cond over (Some ledger.Overlap) None) (Some ledger.Stranger))) ≡ None → (same ≡ true) × (over ≡ false)
+not_refused : (broken same over : Bool) → cond broken (Some code.Checkpoint)
+    (option_map code_of (cond same (cond over (Some ledger.Overlap) None) (Some ledger.Stranger))) ≡ None
+    → (same ≡ true) × (over ≡ false)
 not_refused true same over e = absurd (let no : ⊥ = cc in no)
 not_refused false true true e = absurd (let no : ⊥ = cc in no)
 not_refused false true false e = (refl, refl)
 not_refused false false over e = absurd (let no : ⊥ = cc in no)
 
-accepted_grows : SamePlansAreEqual → (s t : State) (slip : Slip) (own : Bool) → IsPlan s.ledger.plan → IsHandedIn s slip own Accepted t → Grows slip.piece.count s t
+accepted_grows : SamePlansAreEqual → (s t : StudyState) (slip : Slip) (own : Bool) → IsPlan s.ledger.plan
+    → IsHandedIn s slip own Accepted t → Grows slip.piece.count s t
 accepted_grows equal s t slip own plan is =
     let r : Computed = is.result in
     let none : refused_code s r ≡ None = no_code (refused_code s r) is.answered.reply in
     let known = not_refused s.broken (is_same_plan s.ledger.plan r.plan) (overlaps s.ledger r.piece) none in
     let own_plan : s.ledger.plan ≡ r.plan = (equal s.ledger.plan r.plan plan is.true_result.0).0 known.0 in
-    let piece : IsTrue (is_piece s.ledger.plan r.piece) = subst (λ (v : Values). IsTrue (is_piece v r.piece)) (sym own_plan) is.true_result.1 in
+    let piece : IsTrue (is_piece s.ledger.plan r.piece) = subst (λ (v : Values). IsTrue (is_piece v r.piece))
+    (sym own_plan) is.true_result.1 in
     let inner = and_parts _ _ piece in
-    let fits : r.piece.first + r.piece.count ≤ trial_count s.ledger.plan = leb-true (r.piece.first + r.piece.count) (trial_count s.ledger.plan) (and_parts _ _ inner.0).1 in
+    let fits : r.piece.first + r.piece.count ≤ trial_count s.ledger.plan = leb-true (r.piece.first + r.piece.count)
+    (trial_count s.ledger.plan) (and_parts _ _ inner.0).1 in
     let next : t ≡ taken s r = is.next ∙ ap (λ (o : Option FaultCode). unless_refused o s (taken s r)) none in
     let more = grown s.ledger r.piece known.1 fits in
-    let held : held_count s.ledger.plan t.ledger ≡ held_count s.ledger.plan (with_piece s.ledger r.piece) = ap (λ (x : State). held_count s.ledger.plan x.ledger) next in
+    let held : held_count s.ledger.plan t.ledger ≡ held_count s.ledger.plan (with_piece s.ledger r.piece) = ap
+    (λ (x : StudyState). held_count s.ledger.plan x.ledger) next in
     let size : slip.piece.count ≡ r.piece.count = ap (λ (x : Slip). x.piece.count) is.slip_is in
-    (ap (λ (x : State). x.ledger.plan) next, omega (arith, more, held, size))
+    (ap (λ (x : StudyState). x.ledger.plan) next, omega (arith, more, held, size))
 
 abbrev pub count_in : Call → ℕ
 count_in call = sum_by (λ slip. slip.piece.count) (accepted_slip call)
 
-step_grows : SamePlansAreEqual → (s t : State) (call : Call) → IsPlan s.ledger.plan → IsStep s call t → Grows (count_in call) s t
+step_grows : SamePlansAreEqual → (s t : StudyState) (call : Call) → IsPlan s.ledger.plan → IsStep s call t
+    → Grows (count_in call) s t
 step_grows equal s t (HandIn slip own Accepted) plan is =
-    subst (λ (n : ℕ). Grows n s t) (let e : slip.piece.count ≡ 0 + slip.piece.count = omega arith in e) (accepted_grows equal s t slip own plan is)
-step_grows equal s t (HandIn slip own Stranger) plan is = same_ledger s t (ap (λ (x : State). x.ledger) (is.next ∙ some_code _ _ s (taken s is.result) is.answered.reply))
-step_grows equal s t (HandIn slip own Overlap) plan is = same_ledger s t (ap (λ (x : State). x.ledger) (is.next ∙ some_code _ _ s (taken s is.result) is.answered.reply))
-step_grows equal s t (HandIn slip own Broken) plan is = same_ledger s t (ap (λ (x : State). x.ledger) (is.next ∙ some_code _ _ s (taken s is.result) is.answered.reply))
-step_grows equal s t (HandIn slip own DiskFails) plan is = same_ledger s t (ap (λ (x : State). x.ledger) is.next ∙ failed_ledger (refused_code s is.result) s is.result)
-step_grows equal s t (Lose piece) plan is = same_ledger s t (ap (λ (x : State). x.ledger) is.1)
-step_grows equal s t (Row cell given) plan is = same_ledger s t (ap (λ (x : State). x.ledger) is.2)
+    subst (λ (n : ℕ). Grows n s t) (let e : slip.piece.count ≡ 0 + slip.piece.count = omega arith in e)
+    (accepted_grows equal s t slip own plan is)
+step_grows equal s t (HandIn slip own Stranger) plan is = same_ledger s t
+    (ap (λ (x : StudyState). x.ledger) (is.next ∙ some_code _ _ s (taken s is.result) is.answered.reply))
+step_grows equal s t (HandIn slip own Overlap) plan is = same_ledger s t
+    (ap (λ (x : StudyState). x.ledger) (is.next ∙ some_code _ _ s (taken s is.result) is.answered.reply))
+step_grows equal s t (HandIn slip own Broken) plan is = same_ledger s t
+    (ap (λ (x : StudyState). x.ledger) (is.next ∙ some_code _ _ s (taken s is.result) is.answered.reply))
+step_grows equal s t (HandIn slip own DiskFails) plan is = same_ledger s t
+    (ap (λ (x : StudyState). x.ledger) is.next ∙ failed_ledger (refused_code s is.result) s is.result)
+step_grows equal s t (Lose piece) plan is = same_ledger s t (ap (λ (x : StudyState). x.ledger) is.1)
+step_grows equal s t (Row cell given) plan is = same_ledger s t (ap (λ (x : StudyState). x.ledger) is.2)
 
 pub first_in : (call : Call) (calls : List Call) → accepted_in (call ∷ calls) ≡ count_in call + accepted_in calls
 first_in call calls = sum_by-append (λ slip. slip.piece.count) (accepted_slip call) (accepted_slips calls)
 
-leads_grow : SamePlansAreEqual → (s t : State) (calls : List Call) → IsPlan s.ledger.plan → LeadsTo s calls t → Grows (accepted_in calls) s t
-leads_grow equal s t [] plan from = same_ledger s t (ap (λ (x : State). x.ledger) (sym from))
+leads_grow : SamePlansAreEqual → (s t : StudyState) (calls : List Call) → IsPlan s.ledger.plan → LeadsTo s calls t
+    → Grows (accepted_in calls) s t
+leads_grow equal s t [] plan from = same_ledger s t (ap (λ (x : StudyState). x.ledger) (sym from))
 leads_grow equal s t (call ∷ calls) plan from =
-    let u : State = from.0 in
+    let u : StudyState = from.0 in
     let first = step_grows equal s u call plan from.1.0 in
     let rest = leads_grow equal u t calls (subst (λ (v : Values). IsPlan v) (sym first.0) plan) from.1.1 in
     let moved : accepted_in calls + held_count s.ledger.plan u.ledger ≤ held_count s.ledger.plan t.ledger =
@@ -118,7 +149,8 @@ leads_grow equal s t (call ∷ calls) plan from =
     (rest.0 ∙ first.0, omega (arith, first.1, moved, first_in call calls))
 
 -- so they have 64 bits
-pub few_accepted : SamePlansAreEqual → (o : Opening) (calls : List Call) → IsPlan o.plan → IsLegal o calls → accepted_in calls ≤ 4096 * 1000000
+pub few_accepted : SamePlansAreEqual → (o : Opening) (calls : List Call) → IsPlan o.plan → IsLegalHistory o calls
+    → accepted_in calls ≤ 4096 * 1000000
 few_accepted equal o calls plan legal =
     let grew = leads_grow equal (opened_by o) legal.0 calls plan legal.1 in
     let most = count_by-le-length (has legal.0.ledger) (range_with_len 0 (trial_count o.plan)) in
@@ -127,15 +159,24 @@ few_accepted equal o calls plan legal =
     omega (arith, grew.1, most, long, few)
 
 -- those of the first calls, with those of the next, are no more than all
-pub next_fits : (calls : List Call) (i : ℕ) (d : Call) → i < length calls → accepted_in (take i calls) + accepted_in (get_or calls i d ∷ []) ≤ accepted_in calls
+pub next_fits : (calls : List Call) (i : ℕ) (d : Call) → i < length calls → accepted_in (take i calls)
+    + accepted_in (get_or calls i d ∷ []) ≤ accepted_in calls
 next_fits [] i d low = absurd (omega arith)
 next_fits (call ∷ calls) zero d low = omega (arith, first_in call calls, first_in call [])
-next_fits (call ∷ calls) (suc i) d low = omega (arith, next_fits calls i d (omega arith), first_in call calls, first_in call (take i calls))
+next_fits (call ∷ calls) (suc i) d low = omega (
+  arith,
+  next_fits calls i d (omega arith),
+  first_in call calls,
+  first_in
+      call (take i calls),
+)
 
 -- and with the next they are those of one call more
-pub next_adds : (calls : List Call) (i : ℕ) (d : Call) → i < length calls → accepted_in (take (i + 1) calls) ≡ accepted_in (take i calls) + accepted_in (get_or calls i d ∷ [])
+pub next_adds : (calls : List Call) (i : ℕ) (d : Call) → i < length calls → accepted_in (take (i + 1) calls)
+    ≡ accepted_in (take i calls) + accepted_in (get_or calls i d ∷ [])
 next_adds calls i d low = ap accepted_in (take_at_read calls i d low).1 ∙ at_end (take i calls) (get_or calls i d)
   where
-    at_end : (olds : List Call) (call : Call) → accepted_in (olds ++ call ∷ []) ≡ accepted_in olds + accepted_in (call ∷ [])
+    at_end : (olds : List Call) (call : Call) → accepted_in (olds ++ call ∷ []) ≡ accepted_in olds
+        + accepted_in (call ∷ [])
     at_end [] call = omega arith
     at_end (old ∷ olds) call = omega (arith, first_in old (olds ++ call ∷ []), at_end olds call, first_in old olds)

@@ -1,6 +1,7 @@
 -- A book as contracts see it: a study with its journal and its history, and what its calls leave.
 use Rattle.std.specs.Prelude.{◌≡◌, ◌↔◌, ◌++◌, ◌+◌, ◌≤◌, ℕ, Bool, true, false, not, ⊤, List, [], ◌∷◌, length, count_by}
-use Rattle.std.specs.Prelude.{Option, Some, None, IsTrue, IfSome, All, is_some, option_map, if◌then◌else◌, Result, Ok, Err}
+use Rattle.std.specs.Prelude.{Option, Some, None, IsTrue, IfSome, All, is_some, option_map, if◌then◌else◌, Result, Ok}
+use Rattle.std.specs.Prelude.{Err}
 use Rattle.cut_faults.specs.Failures.{one_more}
 use Rattle.cut_plan.specs.Values.{Values}
 use Rattle.cut_trial.specs.Computed.{Computed}
@@ -10,11 +11,11 @@ use Rattle.cut_ledger.specs.declared.slip.Slip.{Slip}
 use Rattle.cut_ledger.specs.declared.offer_fault.OfferFault.{OfferFault}
 use Rattle.cut_ledger.specs.declared.offer_fault.OfferFault.TheVariants as ledger
 use Rattle.cut_ledger.specs.Contents.{Contents, cell_done}
-use Rattle.cut_ledger.specs.Machine.{State, opened, after, slip_of}
+use Rattle.cut_ledger.specs.Machine.{StudyState, opened, after, slip_of}
 use Rattle.cut_ledger.specs.Refusals.{is_same_plan, refusal_of}
 use Rattle.cut_ledger.specs.Slips.{IsFirstBad}
 use Rattle.cut_disks.specs.State.{DiskState, Throughout}
-use Rattle.cut_journal.specs.Journal.{Log}
+use Rattle.cut_journal.specs.Journal.{JournalValue}
 use Rattle.cut_journal.specs.Laws.{IsJournalOf, IsResumed}
 use Rattle.cut_book.specs.declared.call.Answer.{Answer}
 use Rattle.cut_book.specs.declared.call.Answer.TheVariants.{Accepted, Stranger, Overlap, DiskFails, Broken}
@@ -22,20 +23,20 @@ use Rattle.cut_book.specs.declared.call.Call.{Call}
 use Rattle.cut_book.specs.declared.call.Call.TheVariants.{HandIn, Row}
 use Rattle.cut_book.specs.declared.fault.BookFault.{BookFault}
 use Rattle.cut_book.specs.declared.fault.BookFault.TheVariants as fault
-use Rattle.cut_book.specs.History.{Opening, Course, opened_by, event_of, IsAnswer, LeadsTo, accepted_slips}
+use Rattle.cut_book.specs.History.{Opening, HistoryValue, opened_by, event_of, IsAnswer, LeadsTo, accepted_slips}
 
 -- the journal, if there is one; the state of the study, as the machine has it, though nothing is drawn or sent
 -- of it here; the size of its pieces; its calls since it was opened; and how many calls of the disk had failed
 -- then, 0 without a journal
-pub record Progress (D : Type 0) : Type 0 where
-  pub journal : Option (Log D)
-  pub state : State
+pub record BookValue (D : Type 0) : Type 0 where
+  pub journal : Option (JournalValue D)
+  pub state : StudyState
   pub size : ℕ
   pub calls : List Call
   pub failed : ℕ
 
 -- what it was opened with
-abbrev pub opening_of : {D : Type 0} → Progress D → Opening
+abbrev pub opening_of : {D : Type 0} → BookValue D → Opening
 opening_of p = record {
   plan = p.state.ledger.plan;
   has_journal = p.state.has_journal;
@@ -46,18 +47,18 @@ opening_of p = record {
 -- ---- opening
 
 -- how many calls of a journal's disk have failed, 0 without a journal
-abbrev pub failures_of : {D : Type 0} → (D → ℕ) → Option (Log D) → ℕ
+abbrev pub failures_of : {D : Type 0} → (D → ℕ) → Option (JournalValue D) → ℕ
 failures_of faults None = 0
 failures_of faults (Some log) = faults log.disk
 
--- why a book was not opened: for want of memory, which says nothing of the slips, or for the first bad slip
+-- why a book was not opened: memory ran out, which says nothing of the slips, or there is a first bad slip
 abbrev pub IsOpeningFault : Values → List Slip → BookFault → Type 0
 IsOpeningFault v slips fault.Memory = ⊤
 IsOpeningFault v slips (fault.BadSlip number) = IsFirstBad v slips number
 IsOpeningFault v slips other = ⊥
 
 -- a study of a plan that was just opened, over the slips of its journal, or over none
-pub record IsFresh {D : Type 0} (v : Values) (size : ℕ) (b : Progress D) : Type 0 where
+pub record IsFresh {D : Type 0} (v : Values) (size : ℕ) (b : BookValue D) : Type 0 where
   pub state : b.state ≡ opened v (is_some b.journal) b.state.ledger.base size
   pub unkept : b.journal ≡ None → b.state.ledger.base ≡ []
   pub calls : b.calls ≡ []
@@ -65,20 +66,21 @@ pub record IsFresh {D : Type 0} (v : Values) (size : ℕ) (b : Progress D) : Typ
 -- ---- disks
 
 -- a journal, if there is one, is that of a run in this state; of a disk that is not honest nothing is said
-abbrev pub IsFollowed : {D : Type 0} → (D → Type 0) → (D → DiskState) → Option (Log D) → State → Type 0
-IsFollowed honest on None s = ⊤
-IsFollowed honest on (Some log) s =
+abbrev pub FollowsState : {D : Type 0} → (D → Type 0) → (D → DiskState) → Option (JournalValue D) → StudyState → Type 0
+FollowsState honest on None s = ⊤
+FollowsState honest on (Some log) s =
     honest log.disk → IsJournalOf log.plan log.count log.doubtful (on log.disk) s
 
 -- from one state of a journal to a later one, whatever a crash leaves of its disk at whichever moment says a
 -- run as it is resumed from this state
-abbrev pub LeavesResumed : {D : Type 0} → (D → Type 0) → (D → DiskState) → Option (Log D) → Option (Log D) → State → Type 0
+abbrev pub LeavesResumed : {D : Type 0} → (D → Type 0) → (D → DiskState) → Option (JournalValue D)
+    → Option (JournalValue D) → StudyState → Type 0
 LeavesResumed honest on (Some old) (Some new) s =
     honest old.disk → Throughout (on old.disk) (on new.disk) (IsResumed old.plan s)
 LeavesResumed honest on old new s = ⊤
 
 -- a disk is as honest as it was
-abbrev pub IsAsHonest : {D : Type 0} → (D → Type 0) → Option (Log D) → Option (Log D) → Type 0
+abbrev pub IsAsHonest : {D : Type 0} → (D → Type 0) → Option (JournalValue D) → Option (JournalValue D) → Type 0
 IsAsHonest honest (Some old) (Some new) = honest old.disk ↔ honest new.disk
 IsAsHonest honest old new = ⊤
 
@@ -86,7 +88,7 @@ IsAsHonest honest old new = ⊤
 
 -- what a journal is after a result with this answer, and its slip: one slip more is kept; or the disk failed,
 -- and the slip is doubtful; or it is as before. Without a journal nothing fails.
-abbrev pub JournalAfter : {D : Type 0} → Answer → Slip → Option (Log D) → Option (Log D) → Type 0
+abbrev pub JournalAfter : {D : Type 0} → Answer → Slip → Option (JournalValue D) → Option (JournalValue D) → Type 0
 JournalAfter Accepted slip None new = new ≡ None
 JournalAfter Accepted slip (Some old) None = ⊥
 JournalAfter Accepted slip (Some old) (Some new) =
@@ -102,8 +104,8 @@ faults_after (Some DiskFails) n = one_more n
 faults_after answer n = n
 
 -- the answer that a hand-in gave, by what it returned and whether an append had failed before; none where it
--- was not made, for want of memory
-abbrev pub answer_of : {T : Type 0} → Result T BookFault → State → Option Answer
+-- was not made, as memory ran out
+abbrev pub answer_of : {T : Type 0} → Result T BookFault → StudyState → Option Answer
 answer_of (Ok done) s = Some Accepted
 answer_of (Err fault.Stranger) s = Some Stranger
 answer_of (Err fault.Overlap) s = Some Overlap
@@ -111,12 +113,12 @@ answer_of (Err fault.Checkpoint) s = Some (if s.broken then Broken else DiskFail
 answer_of (Err other) s = None
 
 -- the call of a result with an answer
-abbrev pub hand_in_of : State → Computed → Answer → Call
+abbrev pub hand_in_of : StudyState → Computed → Answer → Call
 hand_in_of s r answer = HandIn (slip_of r) (is_same_plan s.ledger.plan r.plan) answer
 
 -- a result got an answer: it is the machine's, whose state follows; the call is the last of the history; and
 -- the journal has its slip where it was accepted
-pub record Answers {D : Type 0} (answer : Answer) (r : Computed) (old new : Progress D) : Type 0 where
+pub record GivesAnswer {D : Type 0} (answer : Answer) (r : Computed) (old new : BookValue D) : Type 0 where
   pub answered : IsAnswer old.state r answer
   pub state : new.state ≡ after old.state (event_of answer r)
   pub calls : new.calls ≡ old.calls ++ hand_in_of old.state r answer ∷ []
@@ -125,9 +127,9 @@ pub record Answers {D : Type 0} (answer : Answer) (r : Computed) (old new : Prog
   pub failed : new.failed ≡ old.failed
 
 -- a result got that answer, or none, and then all is as before
-abbrev pub HandsIn : {D : Type 0} → Option Answer → Computed → Progress D → Progress D → Type 0
+abbrev pub HandsIn : {D : Type 0} → Option Answer → Computed → BookValue D → BookValue D → Type 0
 HandsIn None r old new = new ≡ old
-HandsIn (Some answer) r old new = Answers answer r old new
+HandsIn (Some answer) r old new = GivesAnswer answer r old new
 
 -- what a hand-in returns with an answer
 abbrev pub returned : Answer → Result ⊤ BookFault
@@ -138,18 +140,18 @@ returned DiskFails = Err fault.Checkpoint
 returned Broken = Err fault.Checkpoint
 
 -- the faults of a hand-in
-abbrev pub MayRefuse : BookFault → Type 0
-MayRefuse fault.Memory = ⊤
-MayRefuse fault.Stranger = ⊤
-MayRefuse fault.Overlap = ⊤
-MayRefuse fault.Checkpoint = ⊤
-MayRefuse other = ⊥
+abbrev pub IsHandInFault : BookFault → Type 0
+IsHandInFault fault.Memory = ⊤
+IsHandInFault fault.Stranger = ⊤
+IsHandInFault fault.Overlap = ⊤
+IsHandInFault fault.Checkpoint = ⊤
+IsHandInFault other = ⊥
 
 -- ---- rows
 
 -- what a call for the line of a cell leaves, by what it returned: the call is the last of the history, and
--- nothing else changes; for want of memory nothing does
-abbrev pub AsksRow : {T D : Type 0} → Result T BookFault → ℕ → Progress D → Progress D → Type 0
+-- nothing else changes; where memory ran out nothing does
+abbrev pub AsksRow : {T D : Type 0} → Result T BookFault → ℕ → BookValue D → BookValue D → Type 0
 AsksRow (Ok line) cell old new =
     (cell_done old.state.ledger cell ≡ true)
     × (new ≡ record old { calls = old.calls ++ Row cell true ∷ [] })
@@ -167,7 +169,7 @@ answer_to ledger.Stranger = Stranger
 answer_to fault = Overlap
 
 -- the answer to a result that is refused before its append, if it is
-abbrev pub refusal_in : State → Computed → Option Answer
+abbrev pub refusal_in : StudyState → Computed → Option Answer
 refusal_in s r = if s.broken then Some Broken else option_map answer_to (refusal_of s.ledger r)
 
 -- the answer to a result whose slip was appended, or was not
@@ -176,17 +178,18 @@ append_answer (Ok done) = Accepted
 append_answer (Err failed) = DiskFails
 
 -- the slips that are kept: with a journal those of the base, and those that were accepted since
-abbrev pub kept_in : Course → List Slip
+abbrev pub kept_in : HistoryValue → List Slip
 kept_in h =
     if h.opening.has_journal then h.opening.base ++ accepted_slips h.calls else h.opening.base
 
 -- the slip of an append that failed
-abbrev pub doubtful_in : {D : Type 0} → Option (Log D) → Option Slip
+abbrev pub doubtful_in : {D : Type 0} → Option (JournalValue D) → Option Slip
 doubtful_in None = None
 doubtful_in (Some log) = log.doubtful
 
 -- the state of a study, by what its book has
-abbrev pub state_in : {D : Type 0} → Contents → Option (Log D) → List Piece → List Bool → Course → Bool → State
+abbrev pub state_in : {D : Type 0} → Contents → Option (JournalValue D) → List Piece → List Bool → HistoryValue → Bool
+    → StudyState
 state_in l journal division lost history broken = record {
   ledger = l;
   has_journal = history.opening.has_journal;
@@ -200,8 +203,8 @@ state_in l journal division lost history broken = record {
   wire_lost = false;
 }
 
-abbrev pub progress_in : {D : Type 0} → Option (Log D) → State → Course → ℕ → Progress D
-progress_in journal s history failed = record {
+abbrev pub book_value_in : {D : Type 0} → Option (JournalValue D) → StudyState → HistoryValue → ℕ → BookValue D
+book_value_in journal s history failed = record {
   journal = journal;
   state = s;
   size = history.opening.size;
@@ -216,20 +219,21 @@ failed_since broken failed = if broken then one_more failed else failed
 -- what is true of every book: of a disk, by which ones are honest, what is on one, and how many of its calls
 -- have failed
 pub record IsBook {D : Type 0} (honest : D → Type 0) (on : D → DiskState) (faults : D → ℕ)
-    (journal : Option (Log D)) (s : State) (history : Course) (places : ℕ) (failed : ℕ) : Type 0 where
-  -- the history leads to the state
-  pub legal : LeadsTo (opened_by history.opening) history.calls s
-  -- it is of the plan and the base that it was opened with
-  pub plan : s.ledger.plan ≡ history.opening.plan
-  pub base : s.ledger.base ≡ history.opening.base
-  -- of each piece it is told whether it is lost, and for each that is not there is a place in the history
-  pub pieces : length s.lost ≡ length s.division
-  pub divided : All (λ p. IsTrue (is_piece s.ledger.plan p)) s.division
-  pub losable : places ≡ count_by not s.lost
-  pub room : places ≤ history.room
-  -- the journal is that of the state, and an append has failed exactly where there is a doubtful slip
-  pub has_journal : s.has_journal ≡ is_some journal
-  pub of_plan : IfSome journal (λ log. log.plan ≡ s.ledger.plan)
-  pub broken : s.broken ≡ is_some s.doubtful
-  pub followed : IsFollowed honest on journal s
-  pub failures : failures_of faults journal ≡ failed_since s.broken failed
+    (journal : Option (JournalValue D)) (s : StudyState) (history : HistoryValue) (places : ℕ) (failed : ℕ) : Type 0
+  where
+    -- the history leads to the state
+    pub legal : LeadsTo (opened_by history.opening) history.calls s
+    -- it is of the plan and the base that it was opened with
+    pub plan : s.ledger.plan ≡ history.opening.plan
+    pub base : s.ledger.base ≡ history.opening.base
+    -- of each piece it is noted whether it is lost, and for each that is not there is a place in the history
+    pub pieces : length s.lost ≡ length s.division
+    pub divided : All (λ p. IsTrue (is_piece s.ledger.plan p)) s.division
+    pub losable : places ≡ count_by not s.lost
+    pub room : places ≤ history.room
+    -- the journal is that of the state, and an append has failed exactly where there is a doubtful slip
+    pub has_journal : s.has_journal ≡ is_some journal
+    pub of_plan : IfSome journal (λ log. log.plan ≡ s.ledger.plan)
+    pub broken : s.broken ≡ is_some s.doubtful
+    pub followed : FollowsState honest on journal s
+    pub failures : failures_of faults journal ≡ failed_since s.broken failed

@@ -52,7 +52,7 @@ code_of_submit submit.SlotsFull = code.SlotsFull
 code_of_submit submit.Checkpoint = code.Checkpoint
 code_of_submit submit.WorkMemory = code.WorkMemory
 
--- why a study was not taken whose shelf, journal or book was refused: want of memory as such, and else the
+-- why a study was not taken whose shelf, journal or book was refused: that memory ran out as such, and else the
 -- checkpoint
 abbrev pub of_shelf : ShelfFault → SubmitFault
 of_shelf shelf.Memory = submit.WorkMemory

@@ -11,7 +11,7 @@ use Rattle.cut_ledger.specs.declared.event.Event.TheVariants as event
 use Rattle.cut_ledger.specs.declared.event.Reply as replies
 use Rattle.cut_ledger.specs.declared.event.Reply.TheVariants as reply
 use Rattle.cut_ledger.specs.Contents.{cell_done}
-use Rattle.cut_ledger.specs.Machine.{State, opened, reply_to, after, slip_of}
+use Rattle.cut_ledger.specs.Machine.{StudyState, opened, reply_to, after, slip_of}
 use Rattle.cut_ledger.specs.Refusals.{is_same_plan}
 use Rattle.cut_ledger.specs.World.{HasTrueResult}
 use Rattle.cut_book.specs.declared.call.Answer.{Answer}
@@ -28,12 +28,12 @@ pub record Opening : Type 0 where
   pub size : ℕ
 
 -- the machine as it is opened then
-abbrev pub opened_by : Opening → State
+abbrev pub opened_by : Opening → StudyState
 opened_by o = opened o.plan o.has_journal o.base o.size
 
 -- a history as contracts see it: the opening, the calls in order, how many more losses fit in the memory that
 -- there is, and whether one more call of another kind does
-pub record Course : Type 0 where
+pub record HistoryValue : Type 0 where
   pub opening : Opening
   pub calls : List Call
   pub room : ℕ
@@ -55,19 +55,19 @@ reply_of DiskFails = reply.Refused code.Checkpoint
 reply_of Broken = reply.Refused code.Checkpoint
 
 -- a disk fails only in an append, which a study makes that has a journal and in which none has failed
-abbrev pub CanFail : Answer → State → Type 0
+abbrev pub CanFail : Answer → StudyState → Type 0
 CanFail DiskFails s = (s.has_journal ≡ true) × (s.broken ≡ false)
 CanFail answer s = ⊤
 
 -- the answer to a result is the machine's
-pub record IsAnswer (s : State) (r : Computed) (answer : Answer) : Type 0 where
+pub record IsAnswer (s : StudyState) (r : Computed) (answer : Answer) : Type 0 where
   pub reply : reply_to s (event_of answer r) ≡ reply_of answer
   pub disk : CanFail answer s
 
 -- ---- steps
 
 -- a result of whichever plan was handed in, with this slip, and the machine gave this answer
-pub record IsHandedIn (s : State) (slip : Slip) (is_own : Bool) (answer : Answer) (t : State) : Type 0 where
+pub record IsHandedIn (s : StudyState) (slip : Slip) (is_own : Bool) (answer : Answer) (t : StudyState) : Type 0 where
   pub result : Computed
   -- it is one of a piece of its plan, as every `PieceResult` is
   pub true_result : HasTrueResult (event.HandIn result)
@@ -78,7 +78,7 @@ pub record IsHandedIn (s : State) (slip : Slip) (is_own : Bool) (answer : Answer
 
 -- a call is a step of the machine from one state to the next: a result with its answer; a piece that counts as
 -- lost; or the line of a cell, which is given exactly where the cell is done, and changes nothing
-abbrev pub IsStep : State → Call → State → Type 0
+abbrev pub IsStep : StudyState → Call → StudyState → Type 0
 IsStep s (HandIn slip is_own answer) t = IsHandedIn s slip is_own answer t
 IsStep s (Lose piece) t =
     (reply_to s (event.Lose piece) ≡ reply.Noted) × (t ≡ after s (event.Lose piece))
@@ -86,13 +86,13 @@ IsStep s (Row cell is_given) t =
     (cell < length (cells_of s.ledger.plan)) × (is_given ≡ cell_done s.ledger cell) × (t ≡ s)
 
 -- calls lead from one state to another: they are steps, each from where the one before it ends
-abbrev pub LeadsTo : State → List Call → State → Type 0
+abbrev pub LeadsTo : StudyState → List Call → StudyState → Type 0
 LeadsTo s [] t = s ≡ t
-LeadsTo s (call ∷ calls) t = (u : State) × (IsStep s call u × LeadsTo u calls t)
+LeadsTo s (call ∷ calls) t = (u : StudyState) × (IsStep s call u × LeadsTo u calls t)
 
 -- a legal history of an opening: its calls lead from there to some state
-abbrev pub IsLegal : Opening → List Call → Type 0
-IsLegal o calls = (t : State) × LeadsTo (opened_by o) calls t
+abbrev pub IsLegalHistory : Opening → List Call → Type 0
+IsLegalHistory o calls = (t : StudyState) × LeadsTo (opened_by o) calls t
 
 -- ---- what was accepted
 

@@ -5,7 +5,7 @@ use Rattle.cut_book.specs.declared.call.Call.{Call}
 use Rattle.cut_book.specs.declared.call.Call.TheVariants.{Lose}
 use Rattle.cut_book.specs.declared.history.Entry.{Entry}
 use Rattle.cut_book.specs.declared.history.History.TheInside.{Inside}
-use Rattle.cut_book.specs.History.{Course, IsLegal}
+use Rattle.cut_book.specs.History.{HistoryValue, IsLegalHistory}
 
 abbrev pub lost_call : ℕ → Call
 lost_call piece = Lose piece
@@ -21,7 +21,7 @@ abbrev pub AreInOrder : ℕ → List Entry → ℕ → Type 0
 AreInOrder n [] all = n ≤ all
 AreInOrder n (e ∷ es) all = (n ≤ e.losses) × AreInOrder e.losses es all
 
-abbrev pub course_of : Inside → Course
+abbrev pub course_of : Inside → HistoryValue
 course_of h = record {
   opening = record {
     plan = h.ledger.value.contents.plan;
@@ -37,5 +37,5 @@ course_of h = record {
 -- it is legal, of an accepted plan
 pub record IsHistory (h : Inside) : Type 0 where
   pub plan : IsPlan (course_of h).opening.plan
-  pub legal : IsLegal (course_of h).opening (course_of h).calls
+  pub legal : IsLegalHistory (course_of h).opening (course_of h).calls
   pub order : AreInOrder 0 h.entries.items (length h.losses.items)

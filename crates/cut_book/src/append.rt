@@ -1,8 +1,9 @@
 ghost use Rattle.std.specs.Prelude.{◌≡◌, None, Some, IfSome};
-ghost use Rattle.cut_ledger.specs.Machine.{State, after, slip_of};
+ghost use Rattle.cut_ledger.specs.Machine.{StudyState, after, slip_of};
 ghost use Rattle.cut_ledger.specs.Refusals.{refusal_of};
 ghost use Rattle.cut_ledger.specs.declared.event.Event.TheVariants as event;
-ghost use Rattle.cut_book.specs.Book.{append_answer, JournalAfter, faults_after, failures_of, IsFollowed, LeavesResumed, IsAsHonest};
+ghost use Rattle.cut_book.specs.Book.{append_answer, JournalAfter, faults_after, failures_of, FollowsState};
+ghost use Rattle.cut_book.specs.Book.{LeavesResumed, IsAsHonest};
 ghost use Rattle.cut_book.specs.History.{event_of};
 
 use cut_disks::{Disk, DiskFault};
@@ -17,11 +18,11 @@ pub(crate) fn append<D: Disk>(
 ) -> Result<(), DiskFault>
     requires own { IfSome journal.old (λ log. (log.plan ≡ offered.now.plan) × (log.doubtful ≡ None)) }
     ensures journal { JournalAfter (append_answer result) (slip_of offered.now) journal.old journal.new }
-    ensures follows { (s : State) → refusal_of s.ledger offered.now ≡ None
-        → IsFollowed D.is_honest D.state journal.old s
-        → IsFollowed D.is_honest D.state journal.new (after s (event_of (append_answer result) offered.now)) }
-    ensures moments { (s : State) → refusal_of s.ledger offered.now ≡ None
-        → IsFollowed D.is_honest D.state journal.old s
+    ensures follows { (s : StudyState) → refusal_of s.ledger offered.now ≡ None
+        → FollowsState D.is_honest D.state journal.old s
+        → FollowsState D.is_honest D.state journal.new (after s (event_of (append_answer result) offered.now)) }
+    ensures moments { (s : StudyState) → refusal_of s.ledger offered.now ≡ None
+        → FollowsState D.is_honest D.state journal.old s
         → LeavesResumed D.is_honest D.state journal.old journal.new
         (after s (event.HandInDiskFails offered.now)) }
     ensures honest { IsAsHonest D.is_honest journal.old journal.new }

@@ -1,5 +1,7 @@
-ghost use Rattle.std.specs.Prelude.{◌≡◌, ◌+◌, ◌^◌, ◌<◌, ◌≤◌, ◌↔◌, ◌++◌, [], ◌∷◌, ℕ, List, None, Some, Ok, true, false, length, is_some, slice_get, slice_index_or, if◌then◌else◌};
-ghost use Rattle.std.specs.Prelude.{IsTrue, IfSome, IfNone, IfOk, IfErr, OnOk, OnErr, IsErr, IsErrOf, IsSome, option_copied};
+ghost use Rattle.std.specs.Prelude.{◌≡◌, ◌+◌, ◌^◌, ◌<◌, ◌≤◌, ◌↔◌, ◌++◌, [], ◌∷◌, ℕ, List, None, Some, Ok, true, false};
+ghost use Rattle.std.specs.Prelude.{length, is_some, slice_get, slice_index_or, if◌then◌else◌};
+ghost use Rattle.std.specs.Prelude.{IsTrue, IfSome, IfNone, IfOk, IfErr, OnOk, OnErr, IsErr, IsErrOf, IsSome};
+ghost use Rattle.std.specs.Prelude.{option_copied};
 ghost use Rattle.std.specs.List.{list_any};
 ghost use Rattle.cut_faults.specs.Failures.{one_more};
 ghost use Rattle.cut_plan.specs.Cells.{cells_of};
@@ -17,7 +19,9 @@ ghost use Rattle.cut_journal.specs.Laws.{IsResumed};
 ghost use Rattle.cut_table.specs.Table.{row_of};
 ghost use Rattle.cut_book.specs.declared.call.Call.TheVariants as call;
 ghost use Rattle.cut_book.specs.History.{opened_by, LeadsTo};
-ghost use Rattle.cut_book.specs.Book.{Progress, opening_of, failures_of, answer_of, HandsIn, MayRefuse, AsksRow, IsOpeningFault, faults_after, refusal_in, IsFollowed, LeavesResumed, IsAsHonest};
+ghost use Rattle.cut_book.specs.Book.{BookValue, opening_of, failures_of, answer_of, HandsIn, IsHandInFault, AsksRow};
+ghost use Rattle.cut_book.specs.Book.{IsOpeningFault, faults_after, refusal_in, FollowsState, LeavesResumed};
+ghost use Rattle.cut_book.specs.Book.{IsAsHonest};
 
 use crate::append::append;
 use crate::{Answer, BookFault, Call, History};
@@ -51,11 +55,11 @@ pub struct Book<D: Disk> {
 }
 
 impl<D: Disk> Model for Book<D> {
-    ghost use Rattle.cut_book.specs.Book.{Progress, state_in, progress_in, IsBook};
+    ghost use Rattle.cut_book.specs.Book.{BookValue, state_in, book_value_in, IsBook};
 
-    ghost Value = { Progress D };
+    ghost Value = { BookValue D };
 
-    ghost view = { λ b. progress_in b.journal
+    ghost view = { λ b. book_value_in b.journal
         (state_in b.ledger.contents b.journal b.division b.lost b.history b.broken)
         b.history b.failed };
 
@@ -113,16 +117,16 @@ impl<D: Disk> Book<D> {
 
     /// Takes a result: keeps its slip, if there is a journal, and enters it into the ledger.
     ///
-    /// It is refused, in this order: for want of memory for its place in the history; with Checkpoint where an
-    /// append has failed before; as a stranger, or an overlap; for want of memory in the ledger; and with
+    /// It is refused, in this order: where memory runs out for its place in the history; with Checkpoint where an
+    /// append has failed before; as a stranger, or an overlap; where memory runs out in the ledger; and with
     /// Checkpoint where the disk fails now, after which nothing is taken any more. Every call is added to the
-    /// history, unless memory was wanting.
+    /// history, unless memory ran out.
     ///
     /// Whatever a crash leaves of the disk at any moment says the run as it is resumed after an append that
     /// failed.
     pub fn hand_in(&mut self, offered: &PieceResult) -> Result<(), BookFault>
         ensures answer { HandsIn (answer_of result self.old.state) offered.now self.old self.new }
-        ensures faults_told { IfErr result MayRefuse }
+        ensures only_faults { IfErr result IsHandInFault }
         ensures journal { IsErrOf result BookFault.Checkpoint → IsSome self.old.journal }
         ensures risen { IsErrOf result BookFault.Checkpoint →
             failures_of D.faults self.new.journal ≡ one_more self.old.failed }
@@ -166,9 +170,9 @@ impl<D: Disk> Book<D> {
         piece >= self.division.len() || self.lost.get(piece).unwrap_or(true)
     }
 
-    /// The line of a cell, whose trials are all held, with a line feed. It has at most 294 bytes. Want of
-    /// memory for its place in the history is told first, and want of memory for the line only where they are
-    /// all held. Every call is added to the history, unless memory was wanting.
+    /// The line of a cell, whose trials are all held, with a line feed. It has at most 294 bytes. That memory ran
+    /// out for its place in the history is reported first, and that it ran out for the line only where they are
+    /// all held. Every call is added to the history, unless memory ran out.
     pub fn row(&mut self, alloc: Global, cell: u32) -> Result<Vec<u8>, BookFault>
         requires { cell < length (cells_of self.old.state.ledger.plan) }
         ensures line { IfOk result (λ line. line.items ≡ row_of self.old.state.ledger cell) }
@@ -239,7 +243,7 @@ impl<D: Disk> Book<D> {
         ensures value { option_copied result ≡ self.now.journal }
         ensures has { self.now.state.has_journal ≡ is_some self.now.journal }
         ensures plan { IfSome self.now.journal (λ log. log.plan ≡ self.now.state.ledger.plan) }
-        ensures kept { IsFollowed D.is_honest D.state self.now.journal self.now.state }
+        ensures kept { FollowsState D.is_honest D.state self.now.journal self.now.state }
         ensures images { IfSome self.now.journal (λ log. D.is_honest log.disk
             → (image : List ℕ) → IsImage (D.state log.disk).stable image
             → IsResumed log.plan self.now.state image) }
@@ -289,7 +293,7 @@ impl<D: Disk> Book<D> {
     fn refuse(&mut self, offered: &PieceResult, answer: Answer) -> Result<(), BookFault>
         requires { refusal_in self.old.state offered.now ≡ Some answer }
         ensures answer { HandsIn (answer_of result self.old.state) offered.now self.old self.new }
-        ensures faults_told { IfErr result MayRefuse }
+        ensures only_faults { IfErr result IsHandInFault }
         ensures refused { IsErr result }
         ensures broken { IsErrOf result BookFault.Checkpoint → IsSome self.old.journal }
         ensures risen { IsErrOf result BookFault.Checkpoint →
@@ -339,7 +343,7 @@ impl<D: Disk> Book<D> {
         requires free { refusal_in self.old.state offered.now ≡ None }
         requires fits { CanTake self.old.state.ledger offered.now }
         ensures answer { HandsIn (answer_of result self.old.state) offered.now self.old self.new }
-        ensures faults_told { IfErr result MayRefuse }
+        ensures only_faults { IfErr result IsHandInFault }
         ensures journal { IsErrOf result BookFault.Checkpoint → IsSome self.old.journal }
         ensures risen { IsErrOf result BookFault.Checkpoint →
             failures_of D.faults self.new.journal ≡ one_more self.old.failed }

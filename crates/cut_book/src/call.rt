@@ -45,7 +45,7 @@ pub enum Call {
         /// What was answered.
         answer: Answer,
     },
-    /// The piece of this number, counted from 0 in the division, was told lost.
+    /// The piece of this number, counted from 0 in the division, was noted as lost.
     Lose {
         /// The number.
         piece: u64,

@@ -1,5 +1,5 @@
 ghost use Rattle.std.specs.Prelude.{◌≡◌, ◌+◌, ◌-◌, ◌<◌, ◌≤◌, ◌++◌, [], ◌∷◌, true, length, map, OnOk, OnErr, IfOk};
-ghost use Rattle.cut_book.specs.History.{Opening, IsLegal, accepted_in};
+ghost use Rattle.cut_book.specs.History.{Opening, IsLegalHistory, accepted_in};
 ghost use Rattle.cut_book.specs.HistoryInside.{lost_call};
 ghost use Rattle.cut_book.specs.declared.call.Call.TheVariants as call;
 
@@ -33,9 +33,9 @@ pub struct History {
 }
 
 impl Model for History {
-    ghost use Rattle.cut_book.specs.History.{Opening, Course, IsLegal};
+    ghost use Rattle.cut_book.specs.History.{Opening, HistoryValue, IsLegalHistory};
 
-    ghost Value = { Course };
+    ghost Value = { HistoryValue };
 
     ghost use Rattle.cut_book.specs.HistoryInside.{course_of, IsHistory};
 
@@ -45,7 +45,7 @@ impl Model for History {
 }
 
 impl History {
-    /// The history of a study that is opened over a ledger, with room for so many losses.
+    /// The history of a study that is opened over a ledger, with room for `losable` losses.
     pub(crate) fn begin(
         alloc: Global,
         ledger: &Ledger,
@@ -83,7 +83,7 @@ impl History {
     /// A list of the calls, in order. Fails only where memory runs out.
     pub fn calls(&self, alloc: Global) -> Result<Vec<Call>, AllocError>
         ensures calls { IfOk result (λ calls. calls.items ≡ self.now.calls) }
-        ensures legal { IsLegal self.now.opening self.now.calls }
+        ensures legal { IsLegalHistory self.now.opening self.now.calls }
     {
         let losses = self.losses.as_slice();
         let mut calls = Vec::new(alloc);
@@ -122,7 +122,7 @@ impl History {
     /// Adds a call for which there is room. Takes no memory.
     pub(crate) fn push(&mut self, call: Call)
         requires place { self.old.has_place ≡ true }
-        requires legal { IsLegal self.old.opening (self.old.calls ++ call ∷ []) }
+        requires legal { IsLegalHistory self.old.opening (self.old.calls ++ call ∷ []) }
         ensures opening { self.new.opening ≡ self.old.opening }
         ensures calls { self.new.calls ≡ self.old.calls ++ call ∷ [] }
         ensures room { self.new.room ≡ self.old.room }
@@ -134,7 +134,7 @@ impl History {
     /// Adds the loss of a piece, for which there is room. Takes no memory.
     pub(crate) fn lose(&mut self, piece: u32)
         requires room { 0 < self.old.room }
-        requires legal { IsLegal self.old.opening (self.old.calls ++ call.Lose piece ∷ []) }
+        requires legal { IsLegalHistory self.old.opening (self.old.calls ++ call.Lose piece ∷ []) }
         ensures opening { self.new.opening ≡ self.old.opening }
         ensures calls { self.new.calls ≡ self.old.calls ++ call.Lose piece ∷ [] }
         ensures room { self.old.room ≤ self.new.room + 1 }

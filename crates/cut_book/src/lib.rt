@@ -9,19 +9,19 @@
 
 mod append;
 mod book;
+mod book_opening;
 mod call;
 mod fault;
 mod history;
 mod opened;
-mod opening;
 mod shelf;
 mod submit_fault;
 
 pub use book::Book;
+pub use book_opening::open_book;
 pub use call::{Answer, Call};
 pub use fault::BookFault;
 pub use history::History;
 pub use opened::Opened;
-pub use opening::open_book;
 pub use shelf::{NoShelf, Shelf, ShelfFault};
 pub use submit_fault::SubmitFault;

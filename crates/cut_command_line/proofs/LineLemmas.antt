@@ -1,5 +1,6 @@
 -- What a command line gives.
-use Rattle.std.proofs.Common.{◌≡◌, ◌≤◌, ◌<◌, ◌^◌, ℕ, List, Option, Some, None, Result, refl, sym, ap, ◌∙◌, slice_index, arith}
+use Rattle.std.proofs.Common.{◌≡◌, ◌≤◌, ◌<◌, ◌^◌, ℕ, List, Option, Some, None, Result, refl, sym, ap, ◌∙◌, slice_index}
+use Rattle.std.proofs.Common.{arith}
 use Rattle.std.specs.Str.Parse.{ParsesUnsigned, ExplainsUnsignedError, HasUnsignedDigitsIfOk}
 use Rattle.std.specs.declared.num.ParseIntError.{ParseIntError}
 use Rattle.clap.specs.Words.{Row, Text, one_of}
@@ -11,20 +12,23 @@ abbrev pub ReadsNumber : List ℕ → Result ℕ ParseIntError → Type 0
 ReadsNumber bs r = ParsesUnsigned 32 10 bs r × ExplainsUnsignedError 10 bs r × HasUnsignedDigitsIfOk bs r
 
 -- where no number was read, none is given
-pub none_given : (option : Text) (most : ℕ) (rows : List Row) → most < 2 ^ 32 → ((t : Text) → one_of option rows ≡ Some t → ReadsOne ReadsNumber t None)
+pub none_given : (option : Text) (most : ℕ) (rows : List Row) → most < 2 ^ 32
+    → ((t : Text) → one_of option rows ≡ Some t → ReadsOne ReadsNumber t None)
     → (n : ℕ) → GivesNumber option most rows n → ⊥
 none_given option most rows small reads n given =
     let read = reads given.text given.given in
     read.1.0 (given.numeral, omega (arith, given.value, given.few, small))
 
 -- where a number was read, no other is given
-pub same_given : (option : Text) (most : ℕ) (rows : List Row) (m : ℕ) → ((t : Text) → one_of option rows ≡ Some t → ReadsOne ReadsNumber t (Some m))
+pub same_given : (option : Text) (most : ℕ) (rows : List Row) (m : ℕ)
+    → ((t : Text) → one_of option rows ≡ Some t → ReadsOne ReadsNumber t (Some m))
     → (n : ℕ) → GivesNumber option most rows n → n ≡ m
 same_given option most rows m reads n given = sym given.value ∙ sym (reads given.text given.given).0.1
 
 -- and that one is, where it is in its range
 pub is_given : (option : Text) (most : ℕ) (rows : List Row) (m : ℕ) → (one_of option rows ≡ None → ⊥)
-    → ((t : Text) → one_of option rows ≡ Some t → ReadsOne ReadsNumber t (Some m)) → 1 ≤ m → m ≤ most → GivesNumber option most rows m
+    → ((t : Text) → one_of option rows ≡ Some t → ReadsOne ReadsNumber t (Some m)) → 1 ≤ m → m ≤ most
+    → GivesNumber option most rows m
 is_given option most rows m some reads low high = by (one_of option rows) refl
   where
     by : (o : Option Text) → one_of option rows ≡ o → GivesNumber option most rows m
@@ -34,5 +38,7 @@ is_given option most rows m some reads low high = by (one_of option rows) refl
         record { text = t; given = found; numeral = read.0.0.0; value = sym read.0.1; some = low; few = high }
 
 -- two words that begin with different letters are not the same
-pub other_word : (word other : Text) (a b : ℕ) → word ≡ other → slice_index word 0 ≡ a → slice_index other 0 ≡ b → (a ≡ b → ⊥) → ⊥
-other_word word other a b same first second differ = differ (sym first ∙ ap (λ (t : Text). slice_index t 0) same ∙ second)
+pub other_word : (word other : Text) (a b : ℕ) → word ≡ other → slice_index word 0 ≡ a → slice_index other 0 ≡ b
+    → (a ≡ b → ⊥) → ⊥
+other_word word other a b same first second differ = differ
+    (sym first ∙ ap (λ (t : Text). slice_index t 0) same ∙ second)

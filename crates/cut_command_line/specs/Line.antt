@@ -1,10 +1,12 @@
 -- The commands of the program, and what its command line asks for.
 use Rattle.std.specs.Prelude.{◌≡◌, ◌⊎◌, ◌≤◌, ℕ, List, [], ◌∷◌, true, codes, pos, Option, Some, None, option_map, ⊤}
 use Rattle.std.specs.Str.Parse.{IsNumeral, digits_value, without_leading_plus}
-use Rattle.clap.specs.Words.{App, IsAmong, first_of, Row, Rule, Text, fault_of, new_app, new_rule, one_of, subcommand_of, with_rule, with_subcommand}
+use Rattle.clap.specs.Words.{App, IsAmong, first_of, Row, Rule, Text, fault_of, new_app, new_rule, one_of}
+use Rattle.clap.specs.Words.{subcommand_of, with_rule, with_subcommand}
 use Rattle.clap.specs.declared.builder.value_parser.ValueParser.TheVariants as parsers
 use Rattle.clap.specs.declared.error.kind.ErrorKind.{ErrorKind}
-use Rattle.clap.specs.declared.error.kind.ErrorKind.TheVariants.{DisplayHelp, DisplayVersion, MissingSubcommand, OutOfMemory}
+use Rattle.clap.specs.declared.error.kind.ErrorKind.TheVariants.{DisplayHelp, DisplayVersion, MissingSubcommand}
+use Rattle.clap.specs.declared.error.kind.ErrorKind.TheVariants.{OutOfMemory}
 use Rattle.cut_command_line.specs.declared.line.Job.{Job}
 use Rattle.cut_command_line.specs.declared.line.Job.TheVariants.{Run, Check, Serve, Ask, Migrate}
 
@@ -38,8 +40,8 @@ abbrev pub socket_rule : Rule
 socket_rule = record (new_rule (codes "socket")) { value_names = 1; required = true }
 
 -- an option of a server: how many of something it has, a number from 1 to 64, which has to be given
-abbrev pub crew_rule : Text → Rule
-crew_rule name = record (new_rule name) {
+abbrev pub count_rule : Text → Rule
+count_rule name = record (new_rule name) {
   long = Some name;
   value_names = 1;
   parser = Some (parsers.Signed (pos 1) (pos 64));
@@ -63,8 +65,9 @@ check_app = new_app (codes "check")
 
 abbrev pub serve_app : App
 serve_app =
-    with_rule (with_rule (with_rule (with_rule (with_rule (new_app (codes "serve")) socket_rule) (crew_rule (codes "workers")))
-    (crew_rule (codes "sessions"))) (crew_rule (codes "studies"))) folder_rule
+    with_rule (with_rule (with_rule (with_rule (with_rule (new_app (codes "serve")) socket_rule)
+    (count_rule (codes "workers")))
+    (count_rule (codes "sessions"))) (count_rule (codes "studies"))) folder_rule
 
 abbrev pub ask_app : App
 ask_app = with_rule (new_app (codes "ask")) socket_rule
@@ -75,8 +78,11 @@ migrate_app = with_rule (with_rule (new_app (codes "migrate")) (file_rule (codes
 -- the program as clap sees it: it needs one of its subcommands, and without a word it shows its help
 unfoldable pub program_app : App
 program_app = let bare : App = new_app (codes "cutlab") in
-    let asking : App = record bare { top = record bare.top { subcommand_required = true; arg_required_else_help = true } } in
-    with_subcommand (with_subcommand (with_subcommand (with_subcommand (with_subcommand asking run_app.top) check_app.top) serve_app.top)
+    let asking : App = record bare {
+      top = record bare.top { subcommand_required = true; arg_required_else_help = true };
+    } in
+    with_subcommand (with_subcommand (with_subcommand
+    (with_subcommand (with_subcommand asking run_app.top) check_app.top) serve_app.top)
     ask_app.top) migrate_app.top
 
 -- the number, from 1 to a greatest one, that a subcommand's matches give for an option
@@ -116,26 +122,26 @@ command_of (Ask socket) = codes "ask"
 command_of (Migrate from to) = codes "migrate"
 
 -- the values of a job, by the matches of its subcommand
-abbrev pub Gives : List Row → Job → Type 0
-Gives rows (Run piece workers file) =
+abbrev pub GivesValues : List Row → Job → Type 0
+GivesValues rows (Run piece workers file) =
     GivesPiece rows piece × GivesWorkers rows workers × GivesCheckpoint rows (option_map (λ s. s.now) file)
-Gives rows Check = ⊤
-Gives rows (Serve socket workers sessions studies folder) =
+GivesValues rows Check = ⊤
+GivesValues rows (Serve socket workers sessions studies folder) =
     GivesSocket rows socket.now × GivesNumber (codes "workers") 64 rows workers
     × GivesNumber (codes "sessions") 64 rows sessions × GivesNumber (codes "studies") 64 rows studies
     × (first_of (codes "dir") rows ≡ option_map (λ s. s.now) folder)
-Gives rows (Ask socket) = GivesSocket rows socket.now
-Gives rows (Migrate from to) = GivesFile (codes "old") rows from.now × GivesFile (codes "new") rows to.now
+GivesValues rows (Ask socket) = GivesSocket rows socket.now
+GivesValues rows (Migrate from to) = GivesFile (codes "old") rows from.now × GivesFile (codes "new") rows to.now
 
 -- the job of a subcommand, by its name and its matches
 abbrev pub IsJobOf : Option (Text × List Row) → Job → Type 0
 IsJobOf None job = ⊥
-IsJobOf (Some sub) job = (sub.0 ≡ command_of job) × Gives sub.1 job
+IsJobOf (Some sub) job = (sub.0 ≡ command_of job) × GivesValues sub.1 job
 
 -- the matches of a subcommand give a job of it, or none
 abbrev pub GivesJob : Text → List Row → Option Job → Type 0
-GivesJob name rows (Some job) = (command_of job ≡ name) × Gives rows job
-GivesJob name rows None = (job : Job) → command_of job ≡ name → Gives rows job → ⊥
+GivesJob name rows (Some job) = (command_of job ≡ name) × GivesValues rows job
+GivesJob name rows None = (job : Job) → command_of job ≡ name → GivesValues rows job → ⊥
 
 -- the job that a command line names
 abbrev pub NamesJob : List Text → Job → Type 0
@@ -164,10 +170,10 @@ abbrev pub EndsLine : List Text → ℕ → Type 0
 EndsLine words status = (kind : ErrorKind) × IsAsked words kind × (status ≡ status_of_kind kind)
 
 -- the pieces of a job have some trials, and it has some of each that it is to have, and no more than the options allow
-abbrev pub IsSized : Job → Type 0
-IsSized (Run piece workers file) = (1 ≤ piece) × (piece ≤ 1000000) × (1 ≤ workers) × (workers ≤ 64)
-IsSized Check = ⊤
-IsSized (Serve socket workers sessions studies folder) =
+abbrev pub IsSizedJob : Job → Type 0
+IsSizedJob (Run piece workers file) = (1 ≤ piece) × (piece ≤ 1000000) × (1 ≤ workers) × (workers ≤ 64)
+IsSizedJob Check = ⊤
+IsSizedJob (Serve socket workers sessions studies folder) =
     (1 ≤ workers) × (workers ≤ 64) × (1 ≤ sessions) × (sessions ≤ 64) × (1 ≤ studies) × (studies ≤ 64)
-IsSized (Ask socket) = ⊤
-IsSized (Migrate from to) = ⊤
+IsSizedJob (Ask socket) = ⊤
+IsSizedJob (Migrate from to) = ⊤

@@ -5,4 +5,4 @@ mod line;
 #[cfg(test)]
 mod tests;
 
-pub use line::{Job, LineFault, parse_line};
+pub use line::{Job, NoJob, parse_line};

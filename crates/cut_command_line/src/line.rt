@@ -1,8 +1,9 @@
 ghost use Rattle.std.specs.Prelude.{◌≡◌, ◌≤◌, ℕ, [], codes, false, map, IfOk, IfErr, IfSome, IfNone};
 ghost use Rattle.clap.specs.Words.{app_of, fault_of, found_of, rows_of, rule_of, subcommand_rows_of, with_subcommand};
 ghost use Rattle.cut_command_line.specs.Line.{checkpoint_rule, file_rule, piece_rule, socket_rule, workers_rule};
-ghost use Rattle.cut_command_line.specs.Line.{ask_app, check_app, crew_rule, folder_rule, migrate_app, program_app, run_app, serve_app, status_of_kind};
-ghost use Rattle.cut_command_line.specs.Line.{EndsLine, GivesJob, GivesNumber, IsJobOf, IsSized, NamesJob};
+ghost use Rattle.cut_command_line.specs.Line.{ask_app, check_app, count_rule, folder_rule, migrate_app, program_app};
+ghost use Rattle.cut_command_line.specs.Line.{run_app, serve_app, status_of_kind};
+ghost use Rattle.cut_command_line.specs.Line.{EndsLine, GivesJob, GivesNumber, IsJobOf, IsSizedJob, NamesJob};
 ghost use Rattle.cut_command_line.specs.declared.line.Job.{Job};
 
 use clap::error::ErrorKind;
@@ -16,24 +17,24 @@ const PIECE_MOST: u32 = 1_000_000;
 /// How many workers a study has at most.
 const WORKERS_MOST: u32 = 64;
 
-/// What is behind the help of each command: an example, and where more is told.
-const GUIDE: &str = "A plan is read from standard input. docs/GUIDE.md tells more.";
+/// What follows the help of each command: an example, and where to read more.
+const GUIDE: &str = "A plan is read from standard input. See docs/GUIDE.md.";
 
 const RUN_EXAMPLE: &str =
-    "Example: cutlab run --workers 4 --checkpoint study.cut < plan.json\ndocs/GUIDE.md tells more.";
+    "Example: cutlab run --workers 4 --checkpoint study.cut < plan.json\nSee docs/GUIDE.md.";
 
-const CHECK_EXAMPLE: &str = "Example: cutlab check < plan.json\ndocs/GUIDE.md tells more.";
+const CHECK_EXAMPLE: &str = "Example: cutlab check < plan.json\nSee docs/GUIDE.md.";
 
 const SERVE_EXAMPLE: &str =
-    "Example: cutlab serve cutlab.sock --workers 4 --sessions 2 --studies 2 --dir studies\ndocs/GUIDE.md tells more.";
+    "Example: cutlab serve cutlab.sock --workers 4 --sessions 2 --studies 2 --dir studies\nSee docs/GUIDE.md.";
 
-const ASK_EXAMPLE: &str = "Example: cutlab ask cutlab.sock < plan.json\ndocs/GUIDE.md tells more.";
+const ASK_EXAMPLE: &str = "Example: cutlab ask cutlab.sock < plan.json\nSee docs/GUIDE.md.";
 
 const MIGRATE_EXAMPLE: &str =
-    "Example: cutlab migrate study.cut study2.cut < plan.json\ndocs/GUIDE.md tells more.";
+    "Example: cutlab migrate study.cut study2.cut < plan.json\nSee docs/GUIDE.md.";
 
 /// How many workers, sessions and studies a server has at most, of each.
-const CREW_MOST: u32 = 64;
+const COUNT_MOST: u32 = 64;
 
 /// A command of the program, with its values.
 #[derive(Clone, Copy, Debug, PartialEq, Eq)]
@@ -79,8 +80,8 @@ pub enum Job<'a> {
 /// A command line that names no job: the status with which the program ends, and the text that it
 /// prints, on standard output at status 0, as for help, and else on standard error.
 #[derive(Debug, Drop)]
-pub struct LineFault {
-    /// 0 for help, 2 for a mistake, 5 for want of memory.
+pub struct NoJob {
+    /// 0 for help, 2 for a mistake, 5 where memory ran out.
     pub status: u8,
     /// What is printed, as clap writes it; empty where memory for it was refused.
     pub text: String,
@@ -88,9 +89,9 @@ pub struct LineFault {
 
 /// Reads a command line, whose first word is the program's name. There is a job only where clap finds no
 /// fault in the words, and else exactly the status of what it found.
-pub fn parse_line<'a, S: AsStr>(alloc: Global, words: &'a [S]) -> Result<Job<'a>, LineFault>
+pub fn parse_line<'a, S: AsStr>(alloc: Global, words: &'a [S]) -> Result<Job<'a>, NoJob>
     ensures ok { IfOk result (λ job. NamesJob (map S.text words.now) job) }
-    ensures sized { IfOk result (λ job. IsSized job) }
+    ensures sized { IfOk result (λ job. IsSizedJob job) }
     ensures faultless { IfOk result (λ _. fault_of program_app (map S.text words.now) ≡ []) }
     ensures err { IfErr result (λ e. EndsLine (map S.text words.now) e.status) }
 {
@@ -110,7 +111,7 @@ pub fn parse_line<'a, S: AsStr>(alloc: Global, words: &'a [S]) -> Result<Job<'a>
 /// The job that the matches of a command line name.
 fn job_of<'a>(matches: &ArgMatches<'a>) -> Option<Job<'a>>
     ensures some { IfSome result (λ job. IsJobOf (subcommand_rows_of matches.now) job) }
-    ensures sized { IfSome result (λ job. IsSized job) }
+    ensures sized { IfSome result (λ job. IsSizedJob job) }
     ensures none { IfNone result ((job : Job) → IsJobOf (subcommand_rows_of matches.now) job → ⊥) }
 {
     let (name, given) = matches.subcommand()?;
@@ -127,7 +128,7 @@ fn job_of<'a>(matches: &ArgMatches<'a>) -> Option<Job<'a>>
 /// The run that the matches of `run` give.
 fn run_job<'a>(given: &ArgMatches<'a>) -> Option<Job<'a>>
     ensures gives { GivesJob (codes "run") (rows_of (found_of given.now)) result }
-    ensures sized { IfSome result (λ job. IsSized job) }
+    ensures sized { IfSome result (λ job. IsSizedJob job) }
 {
     let piece = number_given(given, "piece", PIECE_MOST)?;
     let workers = number_given(given, "workers", WORKERS_MOST)?;
@@ -141,12 +142,12 @@ fn run_job<'a>(given: &ArgMatches<'a>) -> Option<Job<'a>>
 /// The server that the matches of `serve` give.
 fn serve_job<'a>(given: &ArgMatches<'a>) -> Option<Job<'a>>
     ensures gives { GivesJob (codes "serve") (rows_of (found_of given.now)) result }
-    ensures sized { IfSome result (λ job. IsSized job) }
+    ensures sized { IfSome result (λ job. IsSizedJob job) }
 {
     let socket = given.get_str("socket")?;
-    let workers = number_given(given, "workers", CREW_MOST)?;
-    let sessions = number_given(given, "sessions", CREW_MOST)?;
-    let studies = number_given(given, "studies", CREW_MOST)?;
+    let workers = number_given(given, "workers", COUNT_MOST)?;
+    let sessions = number_given(given, "sessions", COUNT_MOST)?;
+    let studies = number_given(given, "studies", COUNT_MOST)?;
     Some(Job::Serve {
         socket,
         workers,
@@ -159,7 +160,7 @@ fn serve_job<'a>(given: &ArgMatches<'a>) -> Option<Job<'a>>
 /// The question that the matches of `ask` give.
 fn ask_job<'a>(given: &ArgMatches<'a>) -> Option<Job<'a>>
     ensures gives { GivesJob (codes "ask") (rows_of (found_of given.now)) result }
-    ensures sized { IfSome result (λ job. IsSized job) }
+    ensures sized { IfSome result (λ job. IsSizedJob job) }
 {
     let socket = given.get_str("socket")?;
     Some(Job::Ask { socket })
@@ -168,7 +169,7 @@ fn ask_job<'a>(given: &ArgMatches<'a>) -> Option<Job<'a>>
 /// The migration that the matches of `migrate` give.
 fn migrate_job<'a>(given: &ArgMatches<'a>) -> Option<Job<'a>>
     ensures gives { GivesJob (codes "migrate") (rows_of (found_of given.now)) result }
-    ensures sized { IfSome result (λ job. IsSized job) }
+    ensures sized { IfSome result (λ job. IsSizedJob job) }
 {
     let old = given.get_str("old")?;
     let new = given.get_str("new")?;
@@ -234,17 +235,17 @@ fn add_serve<'a>(alloc: Global, program: Command<'a>) -> Result<Command<'a>, All
         .about("Serve clients at a socket, and print how many trials were accepted")
         .after_help(SERVE_EXAMPLE)
         .arg(socket_word(alloc))?
-        .arg(crew_option(
+        .arg(count_option(
             alloc,
             "workers",
             "How many threads work on the studies, from 1 to 64",
         ))?
-        .arg(crew_option(
+        .arg(count_option(
             alloc,
             "sessions",
             "How many connections are taken, from 1 to 64",
         ))?
-        .arg(crew_option(
+        .arg(count_option(
             alloc,
             "studies",
             "For how many studies there is room, from 1 to 64",
@@ -298,8 +299,8 @@ fn file_word<'a>(alloc: Global, name: &'a str, value_name: &'a str, help: &'a st
 }
 
 /// An option that says how many of something a server has.
-fn crew_option<'a>(alloc: Global, name: &'a str, help: &'a str) -> Arg<'a>
-    ensures rule { rule_of result ≡ crew_rule name.entry.now }
+fn count_option<'a>(alloc: Global, name: &'a str, help: &'a str) -> Arg<'a>
+    ensures rule { rule_of result ≡ count_rule name.entry.now }
     ensures local { result.global ≡ false }
 {
     Arg::new(alloc, name)
@@ -370,15 +371,15 @@ fn checkpoint_option<'a>(alloc: Global) -> Arg<'a>
         )
 }
 
-/// What is told of a command line in which clap found this, with clap's text where it has one.
-fn line_fault(alloc: Global, kind: ErrorKind, error: Option<&Error>) -> LineFault
+/// The fault of a command line in which clap found this, with clap's text where it has one.
+fn line_fault(alloc: Global, kind: ErrorKind, error: Option<&Error>) -> NoJob
     ensures { result.status ≡ status_of_kind kind }
 {
     let text = match error {
         Some(error) => error.to_string(alloc),
         None => kind.to_string(alloc),
     };
-    LineFault {
+    NoJob {
         status: status_of_kind(kind),
         text: text.unwrap_or(String::new(alloc)),
     }

@@ -1,6 +1,6 @@
 //! What no contract says: the texts of help and of mistakes, and that words name the jobs that a user expects.
 
-use crate::{Job, LineFault, parse_line};
+use crate::{Job, NoJob, parse_line};
 use std::alloc::Global;
 
 /// Whether the words after the program's name are read as this job.
@@ -85,7 +85,7 @@ fn other_jobs_are_named(rt: HostRuntime) {
 fn is_reported(alloc: Global, words: &[&str], wanted: u8, parts: &[&str]) -> bool {
     match parse_line(alloc, words) {
         Ok(_) => false,
-        Err(LineFault { status, text }) => {
+        Err(NoJob { status, text }) => {
             status == wanted && parts.iter().all(|part| text.contains(*part))
         }
     }

@@ -1,5 +1,6 @@
 -- A buffer after several reads into it, and the plan that is read so.
-use Rattle.std.proofs.Common.{◌≡◌, ℕ, ◌+◌, ◌≤◌, ◌<◌, Bool, true, false, cond, nat_lt, List, [], ◌++◌, Some, None, Ok, Err, length, take, refl, sym, ap, subst, ◌∙◌, arith, length-append, inl, inr}
+use Rattle.std.proofs.Common.{◌≡◌, ℕ, ◌+◌, ◌≤◌, ◌<◌, Bool, true, false, cond, nat_lt, List, [], ◌++◌, Some, None, Ok}
+use Rattle.std.proofs.Common.{Err, length, take, refl, sym, ap, subst, ◌∙◌, arith, length-append, inl, inr}
 use Rattle.std.specs.Prelude.{IsErrOf}
 use Rattle.std.specs.Str.{is_utf8}
 use Rattle.std.proofs.lemmas.Bool.Decides.{nat_tests}
@@ -8,12 +9,12 @@ use Rattle.std.proofs.lemmas.Slice.{take-put_mid}
 use Rattle.std.proofs.Math.Seq.{take-append-add}
 use borrow.Rule.Slice.PartMut.{put_mid, post_of}
 use Rattle.cut_plan.specs.Accepted.{plan_of}
-use Rattle.cut_plan.specs.Refusals.{IsToldOf}
+use Rattle.cut_plan.specs.Refusals.{IsFaultOfText}
 use Rattle.cut_plan.specs.Values.{Values}
 use Rattle.cut_plan.specs.declared.refusal.PlanFault.{PlanFault}
 use Rattle.cut_plan.specs.declared.refusal.PlanFault.TheVariants as plan
 use Rattle.cut_plan.specs.declared.refusal.Refusal.TheVariants.{NotJson, PlanTooLong}
-use Rattle.cut_wires.specs.Log.{Log}
+use Rattle.cut_wires.specs.Log.{WireLog}
 use Rattle.cut_commands.specs.Faults.{fault_of_plan}
 use Rattle.cut_commands.specs.Run.{FillsFrom, GivesPlan, GivesText, refused_at_sight}
 use Rattle.cut_commands.specs.declared.fault.CliFault.{CliFault}
@@ -21,7 +22,8 @@ use Rattle.cut_commands.specs.declared.fault.CliFault.TheVariants.{Memory, Read}
 use Rattle.cut_commands.proofs.Logs.{read_none}
 
 -- the first bytes of a buffer after a read into its rest
-pub take_filled : (filled n : ℕ) (k : ℕ) (buffer got : List ℕ) → filled ≤ length buffer → n ≤ length got → take (filled + n) (put_mid filled k buffer got) ≡ take filled buffer ++ take n got
+pub take_filled : (filled n : ℕ) (k : ℕ) (buffer got : List ℕ) → filled ≤ length buffer → n ≤ length got
+    → take (filled + n) (put_mid filled k buffer got) ≡ take filled buffer ++ take n got
 take_filled filled n k buffer got within few =
     let all = take-put_mid filled k buffer got (filled + length got) refl within in
     let long : length (take filled buffer) ≡ filled = length-take-le filled buffer within in
@@ -31,20 +33,27 @@ take_filled filled n k buffer got within few =
     ∙ take-append-add (take filled buffer) got n
 
 -- what was read is within the buffer
-pub filled_fits : (filled n : ℕ) (k : ℕ) (buffer got : List ℕ) → filled ≤ length buffer → n ≤ length got → filled + n ≤ length (put_mid filled k buffer got)
+pub filled_fits : (filled n : ℕ) (k : ℕ) (buffer got : List ℕ) → filled ≤ length buffer → n ≤ length got → filled + n
+    ≤ length (put_mid filled k buffer got)
 filled_fits filled n k buffer got within few =
-    omega (arith, length-append (take filled buffer) (got ++ post_of filled k buffer), length-append got (post_of filled k buffer), length-take-le filled buffer within)
+    omega (
+      arith,
+      length-append (take filled buffer) (got ++ post_of filled k buffer),
+      length-append got
+          (post_of filled k buffer),
+      length-take-le filled buffer within,
+    )
 
 -- ---- a text, or none
 
 -- a buffer of as many bytes as are read at most was not filled
-pub gives_unfilled : (limit room : ℕ) (fault : CliFault) (buffer : List ℕ) (old new : Log) → room ≡ limit
+pub gives_unfilled : (limit room : ℕ) (fault : CliFault) (buffer : List ℕ) (old new : WireLog) → room ≡ limit
     → FillsFrom room (Err fault) buffer old new → GivesText limit (Err fault) old new
 gives_unfilled limit room Read buffer old new same is = (is.0, omega (arith, same, is.1), is.2)
 gives_unfilled limit room fault buffer old new same is = absurd is
 
 -- no text is no plan
-pub gives_no_plan : (fault : CliFault) (old new : Log) → GivesText 65537 (Err fault) old new
+pub gives_no_plan : (fault : CliFault) (old new : WireLog) → GivesText 65537 (Err fault) old new
     → GivesPlan (Err fault) old new
 gives_no_plan Memory old new is = record { text = []; ended = false; log = is ∙ read_none old; is = inl (refl, refl) }
 gives_no_plan Read old new is = record { text = is.0; ended = false; log = is.2; is = (is.1, refl) }
@@ -62,8 +71,10 @@ at_sight text short utf8 = by (nat_lt 65536 (length text)) (is_utf8 text) refl r
     by false false is_long is_text = absurd (utf8 (grind (arith, nat_tests)) is_text)
 
 -- no plan was made of a text that was read
-pub gives_refused : {T : Type 0} (text : List ℕ) (fault : PlanFault) (old new : Log) → GivesText 65537 (Ok text) old new
-    → IsToldOf (plan_of text) fault → (65536 < length text → IsErrOf {T = T} (Err fault) (plan.Refused PlanTooLong))
+pub gives_refused : {T : Type 0} (text : List ℕ) (fault : PlanFault) (old new : WireLog)
+    → GivesText 65537 (Ok text) old new
+    → IsFaultOfText (plan_of text) fault → (65536 < length text
+    → IsErrOf {T = T} (Err fault) (plan.Refused PlanTooLong))
     → (length text ≤ 65536 → is_utf8 text ≡ false → IsErrOf {T = T} (Err fault) (plan.Refused NotJson))
     → GivesPlan (Err (fault_of_plan fault)) old new
 gives_refused text plan.Memory old new read why long utf8 = record {

@@ -1,15 +1,18 @@
 -- How a command ends, by its parts.
-use Rattle.std.proofs.Common.{true, false, ◌≡◌, ◌∙◌, ℕ, List, [], Bool, Some, None, Result, Ok, Err, cond, length, take, refl, sym, ap, nat_lt, inl, inr}
+use Rattle.std.proofs.Common.{true, false, ◌≡◌, ◌∙◌, ℕ, List, [], Bool, Some, None, Result, Ok, Err, cond, length, take}
+use Rattle.std.proofs.Common.{refl, sym, ap, nat_lt, inl, inr}
 use Rattle.std.specs.Bool.{⊤}
 use Rattle.std.specs.Str.{is_utf8}
 use Rattle.cut_plan.specs.Values.{Values}
 use Rattle.cut_plan.specs.Accepted.{plan_of}
 use Rattle.cut_plan.specs.declared.refusal.Refusal.TheVariants.{NotJson, PlanTooLong}
-use Rattle.cut_wires.specs.Log.{Log, wrote}
-use Rattle.cut_commands.specs.Run.{AnswersPlan, Answers, Ends, GivesPlan, IsPrefix, IsReadAs, IsReadThrough, IsWritten, Leaves, failing, failed_by, read_on, refused_at_sight}
+use Rattle.cut_wires.specs.Log.{WireLog, wrote}
+use Rattle.cut_commands.specs.Run.{AnswersPlan, CommandAnswers, EndsCommand, GivesPlan, IsPrefix, IsReadAs}
+use Rattle.cut_commands.specs.Run.{IsReadThrough, IsWritten, LeavesStudy, failing, failed_by, read_on, refused_at_sight}
 use Rattle.cut_commands.specs.Task.{Task}
 use Rattle.cut_commands.specs.declared.fault.CliFault.{CliFault}
-use Rattle.cut_commands.specs.declared.fault.CliFault.TheVariants.{Memory, Plan, Read, Write, Journal, BadSlip, Migrate, Checkpoint, WorkMemory, AuditMismatch}
+use Rattle.cut_commands.specs.declared.fault.CliFault.TheVariants.{Memory, Plan, Read, Write, Journal, BadSlip, Migrate}
+use Rattle.cut_commands.specs.declared.fault.CliFault.TheVariants.{Checkpoint, WorkMemory, AuditMismatch}
 use Rattle.cut_commands.proofs.Logs.{wrote_none}
 
 -- ---- working on a plan
@@ -19,7 +22,8 @@ accepted_at_sight : (text : List ℕ) (v : Values) → plan_of text ≡ Ok v →
 unfolding plan_of
 accepted_at_sight text v is = by (nat_lt 65536 (length text)) (is_utf8 text) refl refl
   where
-    by : (b u : Bool) → nat_lt 65536 (length text) ≡ b → is_utf8 text ≡ u → cond b (Some PlanTooLong) (cond u None (Some NotJson)) ≡ None
+    by : (b u : Bool) → nat_lt 65536 (length text) ≡ b → is_utf8 text ≡ u
+        → cond b (Some PlanTooLong) (cond u None (Some NotJson)) ≡ None
     by true u is_long is_text = absurd (let bad = rw is_long at is in cc)
     by false true is_long is_text = refl
     by false false is_long is_text = absurd (let bad = rw (is_long, is_text) at is in cc)
@@ -27,7 +31,7 @@ accepted_at_sight text v is = by (nat_lt 65536 (length text)) (is_utf8 text) ref
 -- what is written to a plan is written to its text
 answers_text : (task : Task) (text : List ℕ) (ended : Bool) (v : Values) (result : Result ⊤ CliFault) (written : List ℕ)
     → IsReadThrough 65537 text ended → plan_of text ≡ Ok v → AnswersPlan task v result written
-    → Answers task text ended result written
+    → CommandAnswers task text ended result written
 answers_text task text ended v (Ok done) written through read is = (through, (v, read, is))
 answers_text task text ended v (Err Memory) written through read is = (inr (through, accepted_at_sight text v read), is)
 answers_text task text ended v (Err Read) written through read is = absurd is
@@ -35,49 +39,50 @@ answers_text task text ended v (Err (Plan refusal)) written through read is = ab
 answers_text task text ended v (Err fault) written through read is = (through, (v, read, is))
 
 -- a plan was read, and then the command ended as it leaves one
-pub ends_left : (task : Task) (v : Values) (result : Result ⊤ CliFault) (old mid new : Log) → GivesPlan (Ok v) old mid
-    → Leaves task v result mid new → Ends task old new result
+pub ends_left : (task : Task) (v : Values) (result : Result ⊤ CliFault) (old mid new : WireLog)
+    → GivesPlan (Ok v) old mid
+    → LeavesStudy task v result mid new → EndsCommand task old new result
 ends_left task v result old mid new given left = record {
   text = given.text;
   ended = given.ended;
   written = left.written;
-  log = left.log ∙ ap (λ (l : Log). failed_by result (wrote l left.written)) given.log;
+  log = left.log ∙ ap (λ (l : WireLog). failed_by result (wrote l left.written)) given.log;
   answers = answers_text task given.text given.ended v result left.written given.is.0 given.is.1 left.answers;
 }
 
 -- ---- no plan
 
 answers_none : (task : Task) (text : List ℕ) (ended : Bool) (fault : CliFault) → IsReadAs text ended (Err fault)
-    → Answers task text ended (Err fault) []
+    → CommandAnswers task text ended (Err fault) []
 answers_none task text ended Memory is = (is, refl)
 answers_none task text ended Read is = (is, refl)
 answers_none task text ended (Plan refusal) is = (is.0, is.1, refl)
 answers_none task text ended fault is = absurd is
 
-pub ends_unread : (task : Task) (fault : CliFault) (old new : Log) → GivesPlan (Err fault) old new
-    → Ends task old new (Err fault)
+pub ends_unread : (task : Task) (fault : CliFault) (old new : WireLog) → GivesPlan (Err fault) old new
+    → EndsCommand task old new (Err fault)
 ends_unread task fault old new given = record {
   text = given.text;
   ended = given.ended;
   written = [];
-  log = given.log ∙ ap (λ (l : Log). failing fault l) (sym (wrote_none (read_on given.text given.ended old)));
+  log = given.log ∙ ap (λ (l : WireLog). failing fault l) (sym (wrote_none (read_on given.text given.ended old)));
   answers = answers_none task given.text given.ended fault given.is;
 }
 
 -- ---- what is left
 
 -- nothing
-pub leaves_nothing : (task : Task) (v : Values) (fault : CliFault) (l : Log) → failing fault l ≡ l
-    → AnswersPlan task v (Err fault) [] → Leaves task v (Err fault) l l
+pub leaves_nothing : (task : Task) (v : Values) (fault : CliFault) (l : WireLog) → failing fault l ≡ l
+    → AnswersPlan task v (Err fault) [] → LeavesStudy task v (Err fault) l l
 leaves_nothing task v fault l same is = record {
   written = [];
-  log = sym same ∙ ap (λ (m : Log). failing fault m) (sym (wrote_none l));
+  log = sym same ∙ ap (λ (m : WireLog). failing fault m) (sym (wrote_none l));
   answers = is;
 }
 
 -- the bytes of an answer, or some of the first
-pub leaves_answer : (task : Task) (v : Values) (whole : List ℕ) (result : Result ⊤ CliFault) (old new : Log)
-    → task.answers v whole → IsWritten whole result old new → Leaves task v result old new
+pub leaves_answer : (task : Task) (v : Values) (whole : List ℕ) (result : Result ⊤ CliFault) (old new : WireLog)
+    → task.answers v whole → IsWritten whole result old new → LeavesStudy task v result old new
 leaves_answer task v whole (Ok done) old new answer is = record { written = whole; log = is; answers = answer }
 leaves_answer task v whole (Err (Write fault)) old new answer is = record {
   written = take fault.sent whole;
@@ -90,7 +95,8 @@ leaves_answer task v whole (Err fault) old new answer is = absurd is
 
 -- a plan that a text is, and what is answered to it, as another task has them
 pub record Weakens (a b : Task) : Type 0 where
-  pub answers : (text : List ℕ) (v : Values) (whole : List ℕ) → plan_of text ≡ Ok v → a.answers v whole → b.answers v whole
+  pub answers : (text : List ℕ) (v : Values) (whole : List ℕ) → plan_of text ≡ Ok v → a.answers v whole
+      → b.answers v whole
   pub fails : (text : List ℕ) (v : Values) (fault : CliFault) → plan_of text ≡ Ok v → a.fails v fault → b.fails v fault
 
 module _ (a b : Task) (text : List ℕ) (weak : Weakens a b) where
@@ -124,8 +130,8 @@ module _ (a b : Task) (text : List ℕ) (weak : Weakens a b) where
       (weak.fails text v AuditMismatch read is.0, prefix_as v written read is.1)
   answers_plan_as v (Err fault) written read is = absurd is
 
-  answers_as : (ended : Bool) (r : Result ⊤ CliFault) (written : List ℕ) → Answers a text ended r written
-      → Answers b text ended r written
+  answers_as : (ended : Bool) (r : Result ⊤ CliFault) (written : List ℕ) → CommandAnswers a text ended r written
+      → CommandAnswers b text ended r written
   answers_as ended (Ok done) written is =
       (is.0, (is.1.0, is.1.1, answers_plan_as is.1.0 (Ok done) written is.1.1 is.1.2))
   answers_as ended (Err Read) written is = is
@@ -134,7 +140,8 @@ module _ (a b : Task) (text : List ℕ) (weak : Weakens a b) where
   answers_as ended (Err fault) written is =
       (is.0, (is.1.0, is.1.1, answers_plan_as is.1.0 (Err fault) written is.1.1 is.1.2))
 
-pub ends_as : (a b : Task) (old new : Log) (r : Result ⊤ CliFault) → Weakens a b → Ends a old new r → Ends b old new r
+pub ends_as : (a b : Task) (old new : WireLog) (r : Result ⊤ CliFault) → Weakens a b → EndsCommand a old new r
+    → EndsCommand b old new r
 ends_as a b old new r weak e = record {
   text = e.text;
   ended = e.ended;

@@ -1,24 +1,27 @@
 -- What a study leaves, by what is known of its disk.
-use Rattle.std.proofs.Common.{◌≡◌, ◌∙◌, ◌-◌, ℕ, List, [], ◌∷◌, Option, Some, None, Ok, Err, true, false, is_some, length, take, refl, ap, sym, subst, arith, inl, inr}
+use Rattle.std.proofs.Common.{◌≡◌, ◌∙◌, ◌-◌, ℕ, List, [], ◌∷◌, Option, Some, None, Ok, Err, true, false, is_some}
+use Rattle.std.proofs.Common.{length, take, refl, ap, sym, subst, arith, inl, inr}
 use Rattle.cut_plan.specs.Accepted.{plan_of}
 use Rattle.cut_plan.specs.Plan.{IsPlan}
 use Rattle.cut_plan.specs.Values.{Values}
 use Rattle.cut_disks.specs.State.{DiskState}
 use Rattle.cut_ledger.specs.declared.slip.Slip.{Slip}
-use Rattle.cut_ledger.specs.Laws.{TrueSlipsAreGood, TrueSlipsTellTheTable, NoSlipsAreTrue}
+use Rattle.cut_ledger.specs.Laws.{TrueSlipsAreGood, TrueSlipsGiveTheTable, NoSlipsAreTrue}
 use Rattle.cut_ledger.specs.Machine.{table_over}
 use Rattle.cut_ledger.specs.Slips.{AreGood, IsFirstBad}
 use Rattle.cut_ledger.specs.World.{AreTrue}
-use Rattle.cut_wires.specs.Log.{Log}
+use Rattle.cut_wires.specs.Log.{WireLog}
 use Rattle.cut_study.specs.Running.{HasEnded, Takes}
 use Rattle.cut_study.specs.declared.run_fault.RunFault.{RunFault}
 use Rattle.cut_study.specs.declared.run_fault.RunFault.TheVariants as study
-use Rattle.cut_study.specs.declared.study.Done.{Done}
+use Rattle.cut_study.specs.declared.study_run.Done.{Done}
 use Rattle.cut_commands.specs.declared.fault.CliFault.{CliFault}
-use Rattle.cut_commands.specs.declared.fault.CliFault.TheVariants.{Memory, Journal, BadSlip, Checkpoint, WorkMemory, AuditMismatch}
+use Rattle.cut_commands.specs.declared.fault.CliFault.TheVariants.{Memory, Journal, BadSlip, Checkpoint, WorkMemory}
+use Rattle.cut_commands.specs.declared.fault.CliFault.TheVariants.{AuditMismatch}
 use Rattle.cut_commands.specs.Faults.{fault_of_study}
-use Rattle.cut_commands.specs.Run.{IsNotOpened, IsPrefix, Leaves}
-use Rattle.cut_commands.specs.Study.{BeginsWith, IsTrueStore, StudyWrites, StudyFails, StoreFails, study_task, table_task, file_task}
+use Rattle.cut_commands.specs.Run.{IsNotOpened, IsPrefix, LeavesStudy}
+use Rattle.cut_commands.specs.Study.{BeginsWith, IsTrueStore, StudyWrites, StudyFails, StoreFails, study_task}
+use Rattle.cut_commands.specs.Study.{table_task, file_task}
 use Rattle.cut_commands.proofs.Logs.{wrote_none}
 use Rattle.cut_commands.proofs.RunLemmas.{Weakens, leaves_nothing}
 
@@ -26,45 +29,52 @@ use Rattle.cut_commands.proofs.RunLemmas.{Weakens, leaves_nothing}
 none_bad : (v : Values) (slips : List Slip) (n : ℕ) → AreGood v slips → IsFirstBad v slips n → ⊥
 none_bad v [] n good first = omega (arith, first.numbered, first.within)
 none_bad v (s ∷ ss) n good first =
-    first.bad s (good (n - 1) s (omega (arith, first.numbered, first.within)) (omega (arith, first.numbered, first.within)))
+    first.bad s (good (n - 1) s (omega (arith, first.numbered, first.within))
+    (omega (arith, first.numbered, first.within)))
 
 module _ {D : Type 0} (is_honest : D → Type 0) (state : D → DiskState) where
   -- ---- what a study leaves
 
   -- nothing, where its journal was not opened
-  pub leaves_none : (disk : Option D) (v : Values) (fault : CliFault) (l : Log)
-      → IsNotOpened (study_task is_honest state disk) v fault → Leaves (study_task is_honest state disk) v (Err fault) l l
+  pub leaves_none : (disk : Option D) (v : Values) (fault : CliFault) (l : WireLog)
+      → IsNotOpened (study_task is_honest state disk) v fault
+      → LeavesStudy (study_task is_honest state disk) v (Err fault) l l
   leaves_none disk v Memory l is = leaves_nothing (study_task is_honest state disk) v Memory l refl refl
   leaves_none disk v (Journal fault) l is =
       leaves_nothing (study_task is_honest state disk) v (Journal fault) l refl (is, refl)
   leaves_none disk v fault l is = absurd is
 
   -- the table over the slips with which it began
-  writes : (disk : Option D) (v : Values) (slips : List Slip) → BeginsWith is_honest state disk v slips → AreGood v slips
+  writes : (disk : Option D) (v : Values) (slips : List Slip) → BeginsWith is_honest state disk v slips
+      → AreGood v slips
       → StudyWrites is_honest state disk v (table_over v slips)
   writes disk v slips begins good = record { slips = slips; begins = begins; over = record { good = good; is = refl } }
 
-  pub leaves_all : (disk : Option D) (v : Values) (slips : List Slip) (done : Done) (old new : Log)
-      → BeginsWith is_honest state disk v slips → HasEnded v slips (is_some disk) (Ok done) → Takes v slips (Ok done) old new
-      → Leaves (study_task is_honest state disk) v (Ok tt) old new
+  pub leaves_all : (disk : Option D) (v : Values) (slips : List Slip) (done : Done) (old new : WireLog)
+      → BeginsWith is_honest state disk v slips → HasEnded v slips (is_some disk) (Ok done)
+      → Takes v slips (Ok done) old new
+      → LeavesStudy (study_task is_honest state disk) v (Ok tt) old new
   leaves_all disk v slips done old new begins ended takes =
       record { written = table_over v slips; log = takes; answers = writes disk v slips begins ended.0 }
 
   -- some first bytes of it
-  abbrev prefix : (disk : Option D) (v : Values) (slips : List Slip) (count : ℕ) → BeginsWith is_honest state disk v slips
+  abbrev prefix : (disk : Option D) (v : Values) (slips : List Slip) (count : ℕ)
+      → BeginsWith is_honest state disk v slips
       → AreGood v slips → IsPrefix (study_task is_honest state disk) v (take count (table_over v slips))
   prefix disk v slips count begins good =
       record { whole = table_over v slips; answer = writes disk v slips begins good; count = count; prefix = refl }
 
-  -- a study may end for want of memory or by the audit, with a disk or without one
-  may_end : (disk : Option D) (v : Values) → StudyFails is_honest state disk v WorkMemory × StudyFails is_honest state disk v AuditMismatch
+  -- a study may end as memory ran out or by the audit, with a disk or without one
+  may_end : (disk : Option D) (v : Values) → StudyFails is_honest state disk v WorkMemory
+      × StudyFails is_honest state disk v AuditMismatch
   may_end None v = (tt, tt)
   may_end (Some d) v = (tt, tt)
 
   -- why not all of it was written
-  pub leaves_some : (disk : Option D) (v : Values) (slips : List Slip) (fault : RunFault) (old new : Log) → BeginsWith is_honest state disk v slips
+  pub leaves_some : (disk : Option D) (v : Values) (slips : List Slip) (fault : RunFault) (old new : WireLog)
+      → BeginsWith is_honest state disk v slips
       → HasEnded v slips (is_some disk) (Err fault) → Takes v slips (Err fault) old new
-      → Leaves (study_task is_honest state disk) v (Err (fault_of_study fault)) old new
+      → LeavesStudy (study_task is_honest state disk) v (Err (fault_of_study fault)) old new
   leaves_some None v slips (study.BadSlip number) old new begins ended takes =
       absurd (omega (arith, ended.numbered, ended.within, ap (λ (ss : List Slip). length ss) begins))
   leaves_some (Some d) v slips (study.BadSlip number) old new begins ended takes =
@@ -101,7 +111,8 @@ module _ {D : Type 0} (is_honest : D → Type 0) (state : D → DiskState) where
   -- ---- over a disk whose slips are true
 
   -- the slips with which a study over a true store begins are true
-  begins_true : (disk : Option D) (v : Values) (slips : List Slip) → NoSlipsAreTrue → IsPlan v → IsTrueStore is_honest state disk
+  begins_true : (disk : Option D) (v : Values) (slips : List Slip) → NoSlipsAreTrue → IsPlan v
+      → IsTrueStore is_honest state disk
       → BeginsWith is_honest state disk v slips → AreTrue v slips
   begins_true None v slips none plan store begins = subst (AreTrue v) (sym begins) (none v)
   begins_true (Some d) v slips none plan store begins = elim (begins store.0) [
@@ -109,7 +120,8 @@ module _ {D : Type 0} (is_honest : D → Type 0) (state : D → DiskState) where
     | inr empty ↦ subst (AreTrue v) (sym empty.1) (none v)
   ]
 
-  fails_true : (disk : Option D) (v : Values) (fault : CliFault) → TrueSlipsAreGood → NoSlipsAreTrue → IsPlan v → IsTrueStore is_honest state disk
+  fails_true : (disk : Option D) (v : Values) (fault : CliFault) → TrueSlipsAreGood → NoSlipsAreTrue → IsPlan v
+      → IsTrueStore is_honest state disk
       → StudyFails is_honest state disk v fault → StoreFails is_honest state disk v fault
   fails_true None v fault good none plan store is = is
   fails_true (Some d) v (Journal fault) good none plan store is = (is.0, is.1 store.0)
@@ -119,11 +131,12 @@ module _ {D : Type 0} (is_honest : D → Type 0) (state : D → DiskState) where
 
   -- a study over a true store writes the plan's table
   pub over_true_store : (disk : Option D) → ((text : List ℕ) (v : Values) → plan_of text ≡ Ok v → IsPlan v)
-      → TrueSlipsAreGood → TrueSlipsTellTheTable → NoSlipsAreTrue
+      → TrueSlipsAreGood → TrueSlipsGiveTheTable → NoSlipsAreTrue
       → IsTrueStore is_honest state disk → Weakens (study_task is_honest state disk) (table_task is_honest state disk)
-  over_true_store disk plans good tell none store = record {
+  over_true_store disk plans good gives none store = record {
     answers = λ text v whole reads written.
-        written.over.is ∙ tell v written.slips (plans text v reads) (begins_true disk v written.slips none (plans text v reads) store written.begins);
+        written.over.is ∙ gives v written.slips (plans text v reads)
+        (begins_true disk v written.slips none (plans text v reads) store written.begins);
     fails = λ text v fault reads is. fails_true disk v fault good none (plans text v reads) store is;
   }
 

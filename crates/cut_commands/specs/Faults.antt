@@ -18,7 +18,9 @@ use Rattle.cut_migration.specs.FaultCode as migrate_codes
 use Rattle.cut_commands.specs.declared.fault.CliFault.{CliFault}
 use Rattle.cut_study.specs.declared.run_fault.RunFault.{RunFault}
 use Rattle.cut_study.specs.declared.run_fault.RunFault.TheVariants as study
-use Rattle.cut_commands.specs.declared.fault.CliFault.TheVariants.{Memory, Plan, Read, Socket, Asked, Write, Journal, Folder, BadSlip, Migrate, Checkpoint, WorkMemory, AuditMismatch}
+use Rattle.cut_commands.specs.declared.fault.CliFault.TheVariants.{Memory, Plan, Read, Socket, Asked, Write, Journal}
+use Rattle.cut_commands.specs.declared.fault.CliFault.TheVariants.{Folder, BadSlip, Migrate, Checkpoint, WorkMemory}
+use Rattle.cut_commands.specs.declared.fault.CliFault.TheVariants.{AuditMismatch}
 use Rattle.cut_messages.specs.FaultCode.{number_of_ask}
 
 -- a fault's number in the program's list of faults, or what a server reported

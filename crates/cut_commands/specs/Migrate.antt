@@ -12,12 +12,12 @@ use Rattle.cut_journal.specs.declared.fault.JournalFault.TheVariants as journal
 use Rattle.cut_migration.specs.declared.fault.MigrateFault.{MigrateFault}
 use Rattle.cut_migration.specs.declared.fault.MigrateFault.TheVariants as migration
 use Rattle.cut_migration.specs.Migration.{AreTrueUpTo, IsFirstUntrue}
-use Rattle.cut_journal.specs.Opening.{IsReopenFault, MayRefuse, MayNotMake}
+use Rattle.cut_journal.specs.Opening.{IsReopenFault, IsOpeningFaultOf, MayNotMake}
 use Rattle.cut_journal.specs.Reading.{reading}
 use Rattle.cut_commands.specs.Check.{number_line}
 use Rattle.cut_commands.specs.Task.{Task}
-use Rattle.cut_commands.specs.Run.{Ends}
-use Rattle.cut_wires.specs.Log.{Log}
+use Rattle.cut_commands.specs.Run.{EndsCommand}
+use Rattle.cut_wires.specs.Log.{WireLog}
 use Rattle.cut_commands.specs.declared.fault.CliFault.{CliFault}
 use Rattle.cut_commands.specs.declared.fault.CliFault.TheVariants.{Memory, Journal, Migrate}
 
@@ -32,7 +32,8 @@ IsHeld v bytes fault = ⊤
 
 -- ---- from one disk to another
 
-module _ {O N : Type 0} (old_honest : O → Type 0) (old_state : O → DiskState) (new_honest : N → Type 0) (new_state : N → DiskState) where
+module _ {O N : Type 0} (old_honest : O → Type 0) (old_state : O → DiskState) (new_honest : N → Type 0)
+    (new_state : N → DiskState) where
   -- the slips that an honest disk says for the plan; of another nothing is known
   abbrev pub Holds : O → Values → List Slip → Type 0
   Holds old v slips = old_honest old → reading v (old_state old).bytes ≡ Ok slips
@@ -75,7 +76,7 @@ module _ {O N : Type 0} (old_honest : O → Type 0) (old_state : O → DiskState
   -- slips, and the new one a study; or a disk failed
   abbrev pub IsNotReady : O → N → Values → JournalFault → Type 0
   IsNotReady old new v fault =
-      (MayRefuse fault × (old_honest old → IsReopenFault v (old_state old).bytes fault))
+      (IsOpeningFaultOf fault × (old_honest old → IsReopenFault v (old_state old).bytes fault))
       ⊎ (MayNotMake fault × (new_honest new → IsHeld (upgraded v) (new_state new).bytes fault)
       × ((slips : List Slip) × Holds old v slips))
 
@@ -98,7 +99,7 @@ module _ {O N : Type 0} (old_honest : O → Type 0) (old_state : O → DiskState
 
 -- why not all slips were moved
 abbrev pub FilesFail : Values → CliFault → Type 0
-FilesFail v (Journal fault) = MayRefuse fault ⊎ MayNotMake fault
+FilesFail v (Journal fault) = IsOpeningFaultOf fault ⊎ MayNotMake fault
 FilesFail v (Migrate migration.NotVersion1) = version_of v.failing ≡ Two
 FilesFail v (Migrate (migration.BadSlip n)) =
     (version_of v.failing ≡ One) × ((slips : List Slip) × IsFirstBad v slips n)
@@ -117,6 +118,6 @@ files_task = record {
 }
 
 -- how it ends: where a file does not open nothing is read or written
-abbrev pub EndsFiles : Log → Log → Result ⊤ CliFault → Type 0
+abbrev pub EndsFiles : WireLog → WireLog → Result ⊤ CliFault → Type 0
 EndsFiles old new result =
-    ((result ≡ Err (Journal journal.Disk)) × (new ≡ old)) ⊎ Ends files_task old new result
+    ((result ≡ Err (Journal journal.Disk)) × (new ≡ old)) ⊎ EndsCommand files_task old new result

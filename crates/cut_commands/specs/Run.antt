@@ -1,18 +1,20 @@
 -- What a command of the program leaves on its wire.
-use Rattle.std.specs.Prelude.{◌≡◌, ◌<◌, ◌≤◌, ◌⊎◌, ◌++◌, ℕ, Bool, false, List, [], length, take, nat_lt, Option, Some, None, Result, Ok, Err, Vec, ⊤, if◌then◌else◌}
+use Rattle.std.specs.Prelude.{◌≡◌, ◌<◌, ◌≤◌, ◌⊎◌, ◌++◌, ℕ, Bool, false, List, [], length, take, nat_lt, Option, Some}
+use Rattle.std.specs.Prelude.{None, Result, Ok, Err, Vec, ⊤, if◌then◌else◌}
 use Rattle.std.specs.Str.{is_utf8}
 use Rattle.cut_faults.specs.Failures.{one_more}
 use Rattle.cut_plan.specs.declared.refusal.Refusal.{Refusal}
 use Rattle.cut_plan.specs.declared.refusal.Refusal.TheVariants.{NotJson, PlanTooLong}
 use Rattle.cut_plan.specs.Values.{Values}
 use Rattle.cut_plan.specs.Accepted.{plan_of}
-use Rattle.cut_wires.specs.Log.{Traffic, Log, passing, wrote, read_failed, write_failed}
+use Rattle.cut_wires.specs.Log.{Traffic, WireLog, passing, wrote, read_failed, write_failed}
 use Rattle.cut_journal.specs.declared.fault.JournalFault.TheVariants.{Disk}
 use Rattle.cut_commands.specs.Check.{check_text}
 use Rattle.cut_commands.specs.Study.{file_task}
 use Rattle.cut_commands.specs.Task.{Task}
 use Rattle.cut_commands.specs.declared.fault.CliFault.{CliFault}
-use Rattle.cut_commands.specs.declared.fault.CliFault.TheVariants.{Memory, Plan, Read, Write, Journal, BadSlip, Migrate, Checkpoint, WorkMemory, AuditMismatch}
+use Rattle.cut_commands.specs.declared.fault.CliFault.TheVariants.{Memory, Plan, Read, Write, Journal, BadSlip, Migrate}
+use Rattle.cut_commands.specs.declared.fault.CliFault.TheVariants.{Checkpoint, WorkMemory, AuditMismatch}
 
 -- ---- reading
 
@@ -24,7 +26,7 @@ with_input bytes ended t = record {
   ends = if ended then one_more t.ends else t.ends;
 }
 
-abbrev pub read_on : List ℕ → Bool → Log → Log
+abbrev pub read_on : List ℕ → Bool → WireLog → WireLog
 read_on bytes ended l = passing (with_input bytes ended) l
 
 -- they are the input up to its end, or as many as are read at most
@@ -37,7 +39,8 @@ IsReadPartly limit bytes ended = (length bytes < limit) × (ended ≡ false)
 
 -- the refusal of a text that shows as soon as it is read: it is too long, or no UTF-8
 abbrev pub refused_at_sight : List ℕ → Option Refusal
-refused_at_sight text = if nat_lt 65536 (length text) then Some PlanTooLong else (if is_utf8 text then None else Some NotJson)
+refused_at_sight text = if nat_lt 65536 (length text) then Some PlanTooLong else
+    (if is_utf8 text then None else Some NotJson)
 
 -- memory ran out when nothing was read yet, or after a text that is not refused at sight
 abbrev pub IsReadUnrefused : List ℕ → Bool → Type 0
@@ -73,44 +76,44 @@ AnswersPlan task v (Err fault) written = ⊥
 
 -- what it wrote, having read a text: nothing where a read failed, the text or its plan is refused, or memory ran out
 -- before the plan was there; else what it writes to the plan
-abbrev pub Answers : Task → List ℕ → Bool → Result ⊤ CliFault → List ℕ → Type 0
-Answers task text ended (Err Read) written = IsReadPartly 65537 text ended × (written ≡ [])
-Answers task text ended (Err (Plan refusal)) written =
+abbrev pub CommandAnswers : Task → List ℕ → Bool → Result ⊤ CliFault → List ℕ → Type 0
+CommandAnswers task text ended (Err Read) written = IsReadPartly 65537 text ended × (written ≡ [])
+CommandAnswers task text ended (Err (Plan refusal)) written =
     IsReadThrough 65537 text ended × (plan_of text ≡ Err refusal) × (written ≡ [])
-Answers task text ended (Err Memory) written = IsReadUnrefused text ended × (written ≡ [])
-Answers task text ended result written =
+CommandAnswers task text ended (Err Memory) written = IsReadUnrefused text ended × (written ≡ [])
+CommandAnswers task text ended result written =
     IsReadThrough 65537 text ended × ((v : Values) × (plan_of text ≡ Ok v) × AnswersPlan task v result written)
 
 -- a call of the wire failed exactly where a command ends with such a fault
-abbrev pub failing : CliFault → Log → Log
+abbrev pub failing : CliFault → WireLog → WireLog
 failing Read l = read_failed l
 failing (Write fault) l = write_failed l
 failing fault l = l
 
-abbrev pub failed_by : {T : Type 0} → Result T CliFault → Log → Log
+abbrev pub failed_by : {T : Type 0} → Result T CliFault → WireLog → WireLog
 failed_by (Ok done) l = l
 failed_by (Err fault) l = failing fault l
 
 -- how a command ends: what it read and what it wrote, which is its answer to that, and the call that failed
-pub record Ends (task : Task) (old new : Log) (result : Result ⊤ CliFault) : Type 0 where
+pub record EndsCommand (task : Task) (old new : WireLog) (result : Result ⊤ CliFault) : Type 0 where
   pub text : List ℕ
   pub ended : Bool
   pub written : List ℕ
   pub log : new ≡ failed_by result (wrote (read_on text ended old) written)
-  pub answers : Answers task text ended result written
+  pub answers : CommandAnswers task text ended result written
 
 -- the answer of `check`
 abbrev pub check_task : Task
 check_task = record { answers = λ v whole. whole ≡ check_text v; fails = λ v fault. ⊥ }
 
 -- how a study ends that is kept in a file: one whose file does not open reads and writes nothing
-abbrev pub EndsFile : Log → Log → Result ⊤ CliFault → Type 0
-EndsFile old new result = ((result ≡ Err (Journal Disk)) × (new ≡ old)) ⊎ Ends file_task old new result
+abbrev pub EndsFile : WireLog → WireLog → Result ⊤ CliFault → Type 0
+EndsFile old new result = ((result ≡ Err (Journal Disk)) × (new ≡ old)) ⊎ EndsCommand file_task old new result
 
 -- ---- inside
 
 -- what reading up to a limit gives: the text, or a fault before it was read
-abbrev pub GivesText : ℕ → Result (List ℕ) CliFault → Log → Log → Type 0
+abbrev pub GivesText : ℕ → Result (List ℕ) CliFault → WireLog → WireLog → Type 0
 GivesText limit (Ok text) old new =
     (length text ≤ limit) × (new ≡ read_on text (nat_lt (length text) limit) old)
 GivesText limit (Err Memory) old new = new ≡ old
@@ -127,7 +130,7 @@ IsReadAs text ended (Err Read) = IsReadPartly 65537 text ended
 IsReadAs text ended (Err fault) = ⊥
 
 -- what reading a plan gives
-pub record GivesPlan (result : Result Values CliFault) (old new : Log) : Type 0 where
+pub record GivesPlan (result : Result Values CliFault) (old new : WireLog) : Type 0 where
   pub text : List ℕ
   pub ended : Bool
   pub log : new ≡ failed_by result (read_on text ended old)
@@ -139,14 +142,14 @@ text_of (Ok text) = Ok text.items
 text_of (Err fault) = Err fault
 
 -- an answer was written, or as many of its first bytes as are reported, when a write failed
-abbrev pub IsWritten : List ℕ → Result ⊤ CliFault → Log → Log → Type 0
+abbrev pub IsWritten : List ℕ → Result ⊤ CliFault → WireLog → WireLog → Type 0
 IsWritten whole (Ok done) old new = new ≡ wrote old whole
 IsWritten whole (Err (Write fault)) old new =
     (fault.sent < length whole) × (new ≡ write_failed (wrote old (take fault.sent whole)))
 IsWritten whole (Err fault) old new = ⊥
 
 -- what a command leaves that works on a plan
-pub record Leaves (task : Task) (v : Values) (result : Result ⊤ CliFault) (old new : Log) : Type 0 where
+pub record LeavesStudy (task : Task) (v : Values) (result : Result ⊤ CliFault) (old new : WireLog) : Type 0 where
   pub written : List ℕ
   pub log : new ≡ failed_by result (wrote old written)
   pub answers : AnswersPlan task v result written
@@ -158,7 +161,7 @@ IsNotOpened task v (Journal fault) = task.fails v (Journal fault)
 IsNotOpened task v fault = ⊥
 
 -- what filling a buffer of this length leaves: its first bytes were read
-abbrev pub FillsFrom : ℕ → Result ℕ CliFault → List ℕ → Log → Log → Type 0
+abbrev pub FillsFrom : ℕ → Result ℕ CliFault → List ℕ → WireLog → WireLog → Type 0
 FillsFrom room (Ok n) buffer old new = (n ≤ length buffer) × (new ≡ read_on (take n buffer) (nat_lt n room) old)
 FillsFrom room (Err Read) buffer old new =
     (bytes : List ℕ) × (length bytes < room) × (new ≡ read_failed (read_on bytes false old))

@@ -10,12 +10,13 @@ use Rattle.cut_ledger.specs.Slips.{AreGood, IsFirstBad}
 use Rattle.cut_ledger.specs.World.{AreTrue}
 use Rattle.cut_journal.specs.declared.fault.JournalFault.{JournalFault}
 use Rattle.cut_journal.specs.declared.fault.JournalFault.TheVariants.{Disk, OtherPlan, Damaged, Held}
-use Rattle.cut_journal.specs.Journal.{Log}
+use Rattle.cut_journal.specs.Journal.{JournalValue}
 use Rattle.cut_journal.specs.Opening.{IsFoundOn, IsOpenFault}
 use Rattle.cut_journal.specs.Reading.{reading}
 use Rattle.cut_commands.specs.Task.{Task}
 use Rattle.cut_commands.specs.declared.fault.CliFault.{CliFault}
-use Rattle.cut_commands.specs.declared.fault.CliFault.TheVariants.{Journal, BadSlip, Checkpoint, WorkMemory, AuditMismatch}
+use Rattle.cut_commands.specs.declared.fault.CliFault.TheVariants.{Journal, BadSlip, Checkpoint, WorkMemory}
+use Rattle.cut_commands.specs.declared.fault.CliFault.TheVariants.{AuditMismatch}
 
 -- the whole table over slips with which a study can begin
 pub record IsTableOver (slips : List Slip) (v : Values) (whole : List ℕ) : Type 0 where
@@ -68,7 +69,8 @@ module _ {D : Type 0} (is_honest : D → Type 0) (state : D → DiskState) where
   abbrev pub IsTrueStore : Option D → Type 0
   IsTrueStore None = ⊤
   IsTrueStore (Some d) =
-      is_honest d × ((v : Values) (slips : List Slip) → IsPlan v → reading v (state d).bytes ≡ Ok slips → AreTrue v slips)
+      is_honest d × ((v : Values) (slips : List Slip) → IsPlan v → reading v (state d).bytes ≡ Ok slips
+      → AreTrue v slips)
 
   -- why a study over such a disk does not write all of its table: another plan's study, damage, or a failing call,
   -- when the checkpoint was opened; that the disk failed later on; or as without a disk. No slip is a bad one
@@ -82,7 +84,7 @@ module _ {D : Type 0} (is_honest : D → Type 0) (state : D → DiskState) where
   table_task disk = record { answers = λ v whole. whole ≡ table v; fails = StoreFails disk }
 
 -- a journal that takes slips of the plan
-abbrev pub IsReady : {D : Type 0} → Values → Log D → Type 0
+abbrev pub IsReady : {D : Type 0} → Values → JournalValue D → Type 0
 IsReady v log = (log.plan ≡ v) × (log.doubtful ≡ None)
 
 -- ---- over a file, of which nothing is known

@@ -10,6 +10,7 @@
 #![tactic(auto)]
 
 mod ask;
+mod check;
 mod checkpoint;
 mod fault;
 mod input;
@@ -18,6 +19,7 @@ mod output;
 mod run;
 
 pub use ask::{ask_at, ask_io};
+pub use check::check_io;
 pub use fault::{CliFault, FaultText};
 pub use migrate::{migrate_files, migrate_io};
-pub use run::{check_io, run_file, run_io};
+pub use run::{run_file, run_io};

@@ -1,8 +1,8 @@
 ghost use Rattle.std.specs.Prelude.{◌≡◌, None, string_bytes, Ok, Err, IfOk, IfErr};
-ghost use Rattle.cut_journal.specs.Opening.{IsReopenFault, MayRefuse, MayNotMake};
+ghost use Rattle.cut_journal.specs.Opening.{IsReopenFault, IsOpeningFaultOf, MayNotMake};
 ghost use Rattle.cut_journal.specs.Reading.{reading};
 ghost use Rattle.cut_commands.specs.Migrate.{EndsFiles, EndsMove, IsHeld, migrate_task, moved_text};
-ghost use Rattle.cut_commands.specs.Run.{Ends};
+ghost use Rattle.cut_commands.specs.Run.{EndsCommand};
 
 use crate::CliFault;
 use crate::input::read_plan;
@@ -28,7 +28,7 @@ where
     W: Wire,
     O: Disk + Drop,
     N: Disk + Drop,
-    ensures { Ends (migrate_task O.is_honest O.state N.is_honest N.state old new)
+    ensures { EndsCommand (migrate_task O.is_honest O.state N.is_honest N.state old new)
         (W.log wire.old) (W.log wire.new) result }
 {
     let plan = read_plan(alloc, wire)?;
@@ -75,7 +75,7 @@ where
 fn slips_on<O: Disk + Drop>(alloc: Global, plan: &Plan, disk: O) -> Result<Vec<Slip>, JournalFault>
     ensures read { O.is_honest disk → IfOk result (λ slips. reading plan.now (O.state disk).bytes ≡ Ok slips.items) }
     ensures refused { O.is_honest disk → IfErr result (λ e. IsReopenFault plan.now (O.state disk).bytes e) }
-    ensures may { IfErr result MayRefuse }
+    ensures may { IfErr result IsOpeningFaultOf }
 {
     match Journal::reopen(alloc, disk, plan) {
         Ok((_, slips)) => Ok(slips),

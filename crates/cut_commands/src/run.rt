@@ -1,21 +1,18 @@
-ghost use Rattle.std.specs.Prelude.{◌≡◌, ◌≤◌, string_bytes, IfOk};
-ghost use Rattle.cut_commands.specs.Check.{check_text};
-ghost use Rattle.cut_commands.specs.Run.{Ends, EndsFile, check_task};
+ghost use Rattle.std.specs.Prelude.{◌≤◌};
+ghost use Rattle.cut_commands.specs.Run.{EndsCommand, EndsFile};
 ghost use Rattle.cut_commands.specs.Study.{IsTrueStore, study_task, table_task};
 
 use crate::CliFault;
 use crate::checkpoint::open_checkpoint;
 use crate::input::read_plan;
-use crate::output::{push_line, write_answer};
 use cut_disks::{Disk, FileDisk};
 use cut_hall::OpenGate;
 use cut_journal::JournalFault;
-use cut_ledger::laws::true_slips_tell_the_table;
-use cut_plan::{Plan, accepted_texts_give_plans};
+use cut_ledger::laws::true_slips_give_the_table;
+use cut_plan::accepted_texts_give_plans;
 use cut_study::StudyRun;
-use cut_trial::quorum;
 use cut_wires::Wire;
-use std::alloc::{AllocError, Global};
+use std::alloc::Global;
 use std::sync::Wait;
 use std::thread::Threads;
 
@@ -49,12 +46,12 @@ where
     R: Threads + Wait + Sync,
     requires size { 1 ≤ piece_size }
     requires workers { (1 ≤ workers) × (workers ≤ 64) }
-    ensures ends { Ends (study_task D.is_honest D.state disk) (W.log wire.old) (W.log wire.new) result }
+    ensures ends { EndsCommand (study_task D.is_honest D.state disk) (W.log wire.old) (W.log wire.new) result }
     ensures table { IsTrueStore D.is_honest D.state disk →
-        Ends (table_task D.is_honest D.state disk) (W.log wire.old) (W.log wire.new) result }
+        EndsCommand (table_task D.is_honest D.state disk) (W.log wire.old) (W.log wire.new) result }
 {
     accepted_texts_give_plans();
-    true_slips_tell_the_table();
+    true_slips_give_the_table();
     run(rt, alloc, wire, piece_size, workers, disk)
 }
 
@@ -73,7 +70,7 @@ where
     R: Threads + Wait + Sync,
     requires size { 1 ≤ piece_size }
     requires workers { (1 ≤ workers) × (workers ≤ 64) }
-    ensures { Ends (study_task D.is_honest D.state disk) (W.log wire.old) (W.log wire.new) result }
+    ensures { EndsCommand (study_task D.is_honest D.state disk) (W.log wire.old) (W.log wire.new) result }
 {
     let plan = read_plan(alloc, wire)?;
     let kept = open_checkpoint(alloc, disk, &plan)?;
@@ -87,17 +84,6 @@ where
         Ok(_done) => Ok(()),
         Err(fault) => Err(CliFault::from(fault)),
     }
-}
-
-/// Reads a plan from a wire and writes how many cells and trials it has, and the quorum of its processes.
-///
-/// What is read and written, and each fault, is as in `run_io`.
-pub fn check_io<W: Wire>(alloc: Global, wire: &mut W) -> Result<(), CliFault>
-    ensures { Ends check_task (W.log wire.old) (W.log wire.new) result }
-{
-    let plan = read_plan(alloc, wire)?;
-    let text = check_text(alloc, &plan)?;
-    write_answer(wire, text.as_bytes())
 }
 
 /// Runs a study as `run_io` does, which is kept in the file at a path.
@@ -123,15 +109,4 @@ where
         Ok(disk) => run_io(rt, host.alloc(), wire, piece_size, workers, Some(disk)),
         Err(_) => Err(CliFault::Journal(JournalFault::Disk)),
     }
-}
-
-/// How many cells and trials a plan has, and the quorum of its processes, one line each.
-fn check_text(alloc: Global, plan: &Plan) -> Result<String, AllocError>
-    ensures { IfOk result (λ text. string_bytes text ≡ check_text plan.now) }
-{
-    let mut text = String::new(alloc);
-    push_line(alloc, &mut text, "cells", u64::from(plan.cells()))?;
-    push_line(alloc, &mut text, "trials", u64::from(plan.trials()))?;
-    push_line(alloc, &mut text, "quorum", u64::from(quorum(plan.nodes())))?;
-    Ok(text)
 }

@@ -65,7 +65,7 @@ where
     run_io(rt, alloc, &mut wire, 16, 1, NO_DISK)
 }
 
-/// What `run_io` writes for this text by so many workers and pieces of this size.
+/// What `run_io` writes for this text by this many workers and pieces of this size.
 fn table_by<T: Threads + Wait + Sync>(
     rt: &T,
     alloc: Global,

@@ -2,7 +2,7 @@
 
 use cut_commands::{CliFault, ask_at};
 use cut_faults::Failures;
-use cut_server::{Crew, FolderShelf, ListenFault, Listener, serve_at, serve_io};
+use cut_server::{Capacity, FolderShelf, ListenFault, Listener, serve_at, serve_io};
 use cut_wires::MemoryWire;
 use std::alloc::{AllocError, Global};
 use std::io::Write;
@@ -53,7 +53,7 @@ fn left_on(
     })
 }
 
-/// What a server of so many sessions leaves.
+/// What a server of this many sessions leaves.
 fn served<T: Threads + Wait + Sync>(
     host: &HostRuntime,
     rt: &T,
@@ -62,13 +62,13 @@ fn served<T: Threads + Wait + Sync>(
     folder: Option<&str>,
 ) -> Result<Left, AllocError> {
     let alloc = host.alloc();
-    let crew = Crew {
+    let capacity = Capacity {
         workers: 2,
         sessions: sessions.max(1).min(64),
         studies: 2,
     };
     let mut wire = MemoryWire::new(alloc, Vec::new(alloc), 100);
-    let ended = match serve_at(host, rt, socket, crew, folder, &mut wire) {
+    let ended = match serve_at(host, rt, socket, capacity, folder, &mut wire) {
         Ok(_report) => Ok(()),
         Err(fault) => Err(fault),
     };
@@ -280,13 +280,13 @@ fn a_connection_that_does_not_come_is_reported(rt: HostRuntime) {
         host: &rt,
         folder: None,
     };
-    let crew = Crew {
+    let capacity = Capacity {
         workers: 1,
         sessions: 2,
         studies: 1,
     };
     let mut wire = MemoryWire::new(alloc, Vec::new(alloc), 100);
-    let (listener, ended) = serve_io(&rt, alloc, listener, &shelf, crew, &mut wire);
+    let (listener, ended) = serve_io(&rt, alloc, listener, &shelf, capacity, &mut wire);
     assert!(rt; matches!(ended, Err(CliFault::Socket)));
     assert!(rt; listener.failures.count() == 1 && listener.given.count() == 1);
     assert!(rt; wire.taken().is_empty());

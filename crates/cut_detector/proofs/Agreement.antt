@@ -1,6 +1,9 @@
 -- What a recount finds depends only on the edges of the rule's rings and of the processes.
 use Rattle.std.proofs.Common.{cond, Some, None, ◌≡◌, ℕ, ◌<◌, ◌&&◌, ◌||◌, nat_le, nat_lt, ap, ◌∙◌, arith}
-use Rattle.cut_detector.proofs.Words.{settled_proposal, AgreeOn, EdgeSet, Layout, Rule, count_by_agree, filter_agree_on, full_count, is_full, is_gained, is_reported, is_settled, is_some_stable, is_some_unstable, is_stable, is_unstable, observer_of, reports_of, some_and_none_agree, stable_members}
+use Rattle.cut_detector.proofs.Words.{settled_proposal, AgreeOn, EdgeSet, Layout, Rule, count_by_agree, filter_agree_on}
+use Rattle.cut_detector.proofs.Words.{full_count, is_full, is_gained, is_reported, is_settled, is_some_stable}
+use Rattle.cut_detector.proofs.Words.{is_some_unstable, is_stable, is_unstable, observer_of, reports_of}
+use Rattle.cut_detector.proofs.Words.{some_and_none_agree, stable_members}
 
 -- two sets have the same edges on the first k rings and of n processes
 pub record SameEdges (k n : ℕ) (E F : EdgeSet) : Type 0 where
@@ -10,44 +13,60 @@ pub record SameEdges (k n : ℕ) (E F : EdgeSet) : Type 0 where
 pub record HasObservers (r : Layout) (k : ℕ) : Type 0 where
   pub in_range : (ring subject : ℕ) → ring < k → subject < r.nodes → observer_of r ring subject < r.nodes
 
-pub reports_of-same : (rule : Rule) (n : ℕ) (E F : EdgeSet) → SameEdges rule.k n E F → (s : ℕ) → s < n → reports_of rule E s ≡ reports_of rule F s
+pub reports_of-same : (rule : Rule) (n : ℕ) (E F : EdgeSet) → SameEdges rule.k n E F → (s : ℕ) → s < n
+    → reports_of rule E s ≡ reports_of rule F s
 reports_of-same rule n E F edges s low =
     count_by_agree (λ k. E k s) (λ k. F k s) 0 rule.k (record { same = λ k _ below. edges.same k s (omega arith) low })
 
-pub is_reported-same : (rule : Rule) (n : ℕ) (E F : EdgeSet) → SameEdges rule.k n E F → (s : ℕ) → s < n → is_reported rule E s ≡ is_reported rule F s
+pub is_reported-same : (rule : Rule) (n : ℕ) (E F : EdgeSet) → SameEdges rule.k n E F → (s : ℕ) → s < n
+    → is_reported rule E s ≡ is_reported rule F s
 unfolding is_reported
 is_reported-same rule n E F edges s low = ap (nat_le rule.l) (reports_of-same rule n E F edges s low)
 
-pub is_full-same : (r : Layout) (rule : Rule) (E F : EdgeSet) → HasObservers r rule.k → SameEdges rule.k r.nodes E F → (k s : ℕ) → k < rule.k → s < r.nodes → is_full r rule E k s ≡ is_full r rule F k s
+pub is_full-same : (r : Layout) (rule : Rule) (E F : EdgeSet) → HasObservers r rule.k → SameEdges rule.k r.nodes E F
+    → (k s : ℕ) → k < rule.k → s < r.nodes → is_full r rule E k s ≡ is_full r rule F k s
 unfolding is_full
 is_full-same r rule E F observers edges k s ring process =
     let o : ℕ = observer_of r k s in
     let own : is_reported rule E s ≡ is_reported rule F s = is_reported-same rule r.nodes E F edges s process in
-    let its : is_reported rule E o ≡ is_reported rule F o = is_reported-same rule r.nodes E F edges o (observers.in_range k s ring process) in
+    let its : is_reported rule E o ≡ is_reported rule F o = is_reported-same rule r.nodes E F edges o
+    (observers.in_range k s ring process) in
     ap (λ b. b || is_gained r rule E k s) (edges.same k s ring process)
     ∙ ap (λ b. F k s || (rule.implicit && b && is_reported rule E o)) own
     ∙ ap (λ b. F k s || (rule.implicit && is_reported rule F s && b)) its
 
-pub full_count-same : (r : Layout) (rule : Rule) (E F : EdgeSet) → HasObservers r rule.k → SameEdges rule.k r.nodes E F → (s : ℕ) → s < r.nodes → full_count r rule E s ≡ full_count r rule F s
+pub full_count-same : (r : Layout) (rule : Rule) (E F : EdgeSet) → HasObservers r rule.k → SameEdges rule.k r.nodes E F
+    → (s : ℕ) → s < r.nodes → full_count r rule E s ≡ full_count r rule F s
 full_count-same r rule E F observers edges s process =
     count_by_agree (λ k. is_full r rule E k s) (λ k. is_full r rule F k s) 0 rule.k
     (record { same = λ k _ below. is_full-same r rule E F observers edges k s (omega arith) process })
 
-is_stable-same : (r : Layout) (rule : Rule) (E F : EdgeSet) → HasObservers r rule.k → SameEdges rule.k r.nodes E F → AgreeOn (λ s. is_stable r rule E s) (λ s. is_stable r rule F s) 0 r.nodes
+is_stable-same : (r : Layout) (rule : Rule) (E F : EdgeSet) → HasObservers r rule.k → SameEdges rule.k r.nodes E F
+    → AgreeOn (λ s. is_stable r rule E s) (λ s. is_stable r rule F s) 0 r.nodes
 unfolding is_stable
-is_stable-same r rule E F observers edges = record { same = λ s _ below. ap (nat_le rule.h) (full_count-same r rule E F observers edges s (omega arith)) }
+is_stable-same r rule E F observers edges = record
+    { same = λ s _ below. ap (nat_le rule.h) (full_count-same r rule E F observers edges s (omega arith)) }
 
-is_unstable-same : (r : Layout) (rule : Rule) (E F : EdgeSet) → HasObservers r rule.k → SameEdges rule.k r.nodes E F → AgreeOn (λ s. is_unstable r rule E s) (λ s. is_unstable r rule F s) 0 r.nodes
+is_unstable-same : (r : Layout) (rule : Rule) (E F : EdgeSet) → HasObservers r rule.k → SameEdges rule.k r.nodes E F
+    → AgreeOn (λ s. is_unstable r rule E s) (λ s. is_unstable r rule F s) 0 r.nodes
 unfolding is_unstable
-is_unstable-same r rule E F observers edges = record { same = λ s _ below. ap (λ n. nat_le rule.l n && nat_lt n rule.h) (full_count-same r rule E F observers edges s (omega arith)) }
+is_unstable-same r rule E F observers edges = record {
+  same = λ s _ below. ap (λ n. nat_le rule.l n && nat_lt n rule.h)
+      (full_count-same r rule E F observers edges s (omega arith));
+}
 
-is_settled-same : (r : Layout) (rule : Rule) (E F : EdgeSet) → HasObservers r rule.k → SameEdges rule.k r.nodes E F → is_settled r rule E ≡ is_settled r rule F
+is_settled-same : (r : Layout) (rule : Rule) (E F : EdgeSet) → HasObservers r rule.k → SameEdges rule.k r.nodes E F
+    → is_settled r rule E ≡ is_settled r rule F
 unfolding is_settled is_some_stable is_some_unstable
 is_settled-same r rule E F observers edges =
-    some_and_none_agree _ _ _ _ r.nodes (is_stable-same r rule E F observers edges) (is_unstable-same r rule E F observers edges)
+    some_and_none_agree _ _ _ _ r.nodes (is_stable-same r rule E F observers edges)
+    (is_unstable-same r rule E F observers edges)
 
-pub settled_proposal-same : (r : Layout) (rule : Rule) (E F : EdgeSet) (n : ℕ) → HasObservers r rule.k → SameEdges rule.k r.nodes E F → settled_proposal r rule E n ≡ settled_proposal r rule F n
+pub settled_proposal-same : (r : Layout) (rule : Rule) (E F : EdgeSet) (n : ℕ) → HasObservers r rule.k
+    → SameEdges rule.k r.nodes E F → settled_proposal r rule E n ≡ settled_proposal r rule F n
 unfolding stable_members
 settled_proposal-same r rule E F n observers edges =
-    ap (λ b. cond b (Some (record { members = stable_members r rule E; at = n })) None) (is_settled-same r rule E F observers edges)
-    ∙ ap (λ xs. cond (is_settled r rule F) (Some (record { members = xs; at = n })) None) (filter_agree_on _ _ 0 r.nodes (is_stable-same r rule E F observers edges))
+    ap (λ b. cond b (Some (record { members = stable_members r rule E; at = n })) None)
+    (is_settled-same r rule E F observers edges)
+    ∙ ap (λ xs. cond (is_settled r rule F) (Some (record { members = xs; at = n })) None)
+    (filter_agree_on _ _ 0 r.nodes (is_stable-same r rule E F observers edges))

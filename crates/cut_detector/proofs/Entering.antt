@@ -1,6 +1,10 @@
 -- Which rings count once one edge more is reported.
-use Rattle.std.proofs.Common.{◌≡◌, ℕ, ◌<◌, Bool, true, false, not, inl, inr, ◌==◌, ◌&&◌, ◌||◌, nat_le, ap, sym, ◌∙◌, arith}
-use Rattle.cut_detector.proofs.Words.{Edge, EdgeSet, HoldsFull, Layout, Masks, Reports, Rule, Tally, and_right, cases_eq, count_by_agree, edges_in, eqb-true, is_edge, is_full, is_gained, is_near, is_reported, marked_in, ne_eqb, observer_of, or-false, ring_count, rule_in, with_edge}
+use Rattle.std.proofs.Common.{◌≡◌, ℕ, ◌<◌, Bool, true, false, not, inl, inr, ◌==◌, ◌&&◌, ◌||◌, nat_le, ap, sym, ◌∙◌}
+use Rattle.std.proofs.Common.{arith}
+use Rattle.cut_detector.proofs.Words.{Edge, EdgeSet, HoldsFull, Layout, Masks, Reports, Rule, Tally, and_right}
+use Rattle.cut_detector.proofs.Words.{cases_eq, count_by_agree, edges_in, eqb-true, is_edge, is_full, is_gained}
+use Rattle.cut_detector.proofs.Words.{is_near, is_reported, marked_in, ne_eqb, observer_of, or-false, ring_count}
+use Rattle.cut_detector.proofs.Words.{rule_in, with_edge}
 use Rattle.std.proofs.lemmas.Bool.{eqb-false, or_left}
 use Rattle.cut_detector.proofs.Bits.{edges_in-with_edge}
 use Rattle.cut_detector.proofs.Modes.{is_full-unreported, is_reported-more, marked-is}
@@ -67,10 +71,12 @@ pub record Adds (old : Reports) (reported : Masks) (tally : Tally) (edge : Edge)
   pub reports : reported.masks.items ≡ with_edge old.reported.masks.items edge
   pub rule : tally.rule ≡ old.tally.rule
   pub counts : tally.full.masks.items ≡ with_edge old.tally.full.masks.items edge
-  pub says : marks ≡ (marked_in old.tally.rule tally.full edge.subject && not (marked_in old.tally.rule old.tally.full edge.subject))
+  pub says : marks ≡ (marked_in old.tally.rule tally.full edge.subject
+      && not (marked_in old.tally.rule old.tally.full edge.subject))
   pub process : edge.subject < old.rings.now.nodes
 
-same_marks : (now was reported before : Bool) → was ≡ before → (before ≡ false → now ≡ reported) → now && not was ≡ reported && not before
+same_marks : (now was reported before : Bool) → was ≡ before → (before ≡ false → now ≡ reported) → now && not was
+    ≡ reported && not before
 same_marks now was reported before e f = grind arith
 
 entered : (x y marks : Bool) → marks ≡ x && not y → marks ≡ true → (x ≡ true) × (y ≡ false)
@@ -95,19 +101,24 @@ module _ (old : Reports) (reported : Masks) (tally : Tally) (edge : Edge) (marks
 
   more : (ring p : ℕ) → F ring p ≡ (E ring p || is_edge ring p edge)
   more ring p = ap (λ xs. edges_in xs ring p) adds.reports
-      ∙ edges_in-with_edge old.reported.masks.items edge (omega (arith, adds.process, old.reported.masks.ok.0, old.reported_long)) ring p
+      ∙ edges_in-with_edge old.reported.masks.items edge
+      (omega (arith, adds.process, old.reported.masks.ok.0, old.reported_long)) ring p
 
-  counted : (ring p : ℕ) → ring < R.k → p < r.nodes → edges_in tally.full.masks.items ring p ≡ (is_full r R E ring p || is_edge ring p edge)
+  counted : (ring p : ℕ) → ring < R.k → p < r.nodes → edges_in tally.full.masks.items ring p
+      ≡ (is_full r R E ring p || is_edge ring p edge)
   counted ring p below process =
       ap (λ xs. edges_in xs ring p) adds.counts
-      ∙ edges_in-with_edge old.tally.full.masks.items edge (omega (arith, adds.process, old.tally.full.masks.ok.0, old.full_long)) ring p
+      ∙ edges_in-with_edge old.tally.full.masks.items edge
+      (omega (arith, adds.process, old.tally.full.masks.ok.0, old.full_long)) ring p
       ∙ ap (λ b. b || is_edge ring p edge) (old.full ring p below process)
 
   -- L rings come to count for the subject exactly where it enters the reported processes
   marks-is : marks ≡ is_reported R F edge.subject && not (is_reported R E edge.subject)
   unfolding is_reported
-  marks-is = adds.says ∙ same_marks _ _ _ _ (ap (nat_le R.l) (rings_full-is old edge.subject adds.process) ∙ marked-is r R E edge.subject) (λ is.
-      ap (λ n. nat_le R.l (ring_count n (edges_in tally.full.masks.items) edge.subject)) (tally.rings ∙ ap (λ x. x.k) adds.rule)
+  marks-is = adds.says ∙ same_marks _ _ _ _ (ap (nat_le R.l) (rings_full-is old edge.subject adds.process)
+      ∙ marked-is r R E edge.subject) (λ is.
+      ap (λ n. nat_le R.l (ring_count n (edges_in tally.full.masks.items) edge.subject))
+      (tally.rings ∙ ap (λ x. x.k) adds.rule)
       ∙ ap (nat_le R.l) (count_by_agree _ _ 0 R.k (record {
         same = λ ring _ below. counted ring edge.subject (omega arith) adds.process
             ∙ ap (λ b. b || is_edge ring edge.subject edge) (is_full-unreported r R E ring edge.subject is)
@@ -121,7 +132,8 @@ module _ (old : Reports) (reported : Masks) (tally : Tally) (edge : Edge) (marks
   pub HoldsFull-waiting : marks ≡ false → HoldsFull r (rule_in tally.rule) reported.masks.items tally.full.masks.items
   HoldsFull-waiting is = rw adds.rule (λ ring p below process.
       counted ring p below process
-      ∙ is_full-waiting r R E F edge more (stayed _ _ marks marks-is is (is_reported-stays r R E F edge more edge.subject)) ring p)
+      ∙ is_full-waiting r R E F edge more (stayed _ _ marks marks-is is
+      (is_reported-stays r R E F edge more edge.subject)) ring p)
 
   -- its subject enters the reported processes
   pub HoldsFull-entered : (news : Tally) → marks ≡ true → news.rule ≡ tally.rule

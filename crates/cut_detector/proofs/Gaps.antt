@@ -1,16 +1,24 @@
 -- What equal watermarks, a wider gap between them and implicit alerts change.
-use Rattle.std.proofs.Common.{◌≡◌, inl, inr, ℕ, ◌<◌, ◌≤◌, Bool, true, false, ◌&&◌, ◌||◌, IsTrue, List, Option, Some, None, MatchOption, refl, arith, ◌↔◌, option_map, ap, sym, ◌∙◌}
-use Rattle.cut_detector.proofs.Words.{or-false, AgreeOn, Edge, EdgeSet, Grows, IsMarked, IsOfLeastPlace, IsSettled, Layout, Proposal, ProposesBefore, Rule, cases_lt, false_from_ne_true, filter_agree_on, find, first_of, full_count, is_edge, is_full, is_reported, is_settled, is_some_stable, is_some_unstable, is_stable, is_unstable, le-leb, leb-true, observer_of, proposal_of, range_with_len, reports_of, rule_of, some_and_none_agree, stable_members}
+use Rattle.std.proofs.Common.{◌≡◌, inl, inr, ℕ, ◌<◌, ◌≤◌, Bool, true, false, ◌&&◌, ◌||◌, IsTrue, List, Option, Some}
+use Rattle.std.proofs.Common.{None, MatchOption, refl, arith, ◌↔◌, option_map, ap, sym, ◌∙◌}
+use Rattle.cut_detector.proofs.Words.{or-false, AgreeOn, Edge, EdgeSet, Grows, IsMarked, IsOfLeastPlace, IsSettled}
+use Rattle.cut_detector.proofs.Words.{Layout, Proposal, ProposesBefore, Rule, cases_lt, false_from_ne_true}
+use Rattle.cut_detector.proofs.Words.{filter_agree_on, find, first_of, full_count, is_edge, is_full, is_reported}
+use Rattle.cut_detector.proofs.Words.{is_settled, is_some_stable, is_some_unstable, is_stable, is_unstable, le-leb}
+use Rattle.cut_detector.proofs.Words.{leb-true, observer_of, proposal_of, range_with_len, reports_of, rule_of}
+use Rattle.cut_detector.proofs.Words.{some_and_none_agree, stable_members}
 use Rattle.std.proofs.lemmas.Bool.{or_left}
 use Rattle.cut_lists.proofs.Counts.{list_any_take-le}
-use Rattle.cut_detector.proofs.Modes.{IsWithin, ring_count-le, is_reported-more, stable-is, is_stable-from, unstable-is, is_unstable-from, is_stable-equal, equal_none_unstable}
+use Rattle.cut_detector.proofs.Modes.{IsWithin, ring_count-le, is_reported-more, stable-is, is_stable-from, unstable-is}
+use Rattle.cut_detector.proofs.Modes.{is_unstable-from, is_stable-equal, equal_none_unstable}
 use Rattle.cut_detector.proofs.Places.{NoneSettled, proposes}
 
 keeps : (e f i x y u v : Bool) → (e ≡ true → f ≡ true) → (x ≡ true → u ≡ true) → (y ≡ true → v ≡ true)
     → e || (i && x && y) ≡ true → f || (i && u && v) ≡ true
 keeps e f i x y u v a b c is = grind arith
 
-is_full-more : (r : Layout) (rule : Rule) (E F : EdgeSet) → IsWithin E F → IsWithin (is_full r rule E) (is_full r rule F)
+is_full-more : (r : Layout) (rule : Rule) (E F : EdgeSet) → IsWithin E F
+    → IsWithin (is_full r rule E) (is_full r rule F)
 unfolding is_full
 is_full-more r rule E F within = record {
   all = λ ring s. keeps _ _ rule.implicit _ _ _ _ (within.all ring s)
@@ -18,8 +26,10 @@ is_full-more r rule E F within = record {
 }
 
 -- where edges are added no ring stops counting
-pub full_count-grows : (r : Layout) (rule : Rule) (E F : EdgeSet) (s : ℕ) → IsWithin E F → full_count r rule E s ≤ full_count r rule F s
-full_count-grows r rule E F s within = ring_count-le rule.k (is_full r rule E) (is_full r rule F) s (is_full-more r rule E F within)
+pub full_count-grows : (r : Layout) (rule : Rule) (E F : EdgeSet) (s : ℕ) → IsWithin E F → full_count r rule E s
+    ≤ full_count r rule F s
+full_count-grows r rule E F s within = ring_count-le rule.k (is_full r rule E) (is_full r rule F) s
+    (is_full-more r rule E F within)
 
 -- the gap of one rule lies within that of another, and the same rings count
 record IsWithinGap (r : Layout) (inner outer : Rule) : Type 0 where
@@ -28,28 +38,39 @@ record IsWithinGap (r : Layout) (inner outer : Rule) : Type 0 where
   high : inner.h ≤ outer.h
   same : (E : EdgeSet) (s : ℕ) → full_count r outer E s ≡ full_count r inner E s
 
-proposes-before : (r : Layout) (inner outer : Rule) (E : ℕ → EdgeSet) (count : ℕ) → IsWithinGap r inner outer → Grows E → ProposesBefore (proposal_of r inner E count) (proposal_of r outer E count)
-proposes-before r inner outer E count wide grows = go (proposal_of r outer E count) (proposal_of r inner E count) (proposes r outer E count) (proposes r inner E count)
+proposes-before : (r : Layout) (inner outer : Rule) (E : ℕ → EdgeSet) (count : ℕ) → IsWithinGap r inner outer → Grows E
+    → ProposesBefore (proposal_of r inner E count) (proposal_of r outer E count)
+proposes-before r inner outer E count wide grows = go (proposal_of r outer E count) (proposal_of r inner E count)
+    (proposes r outer E count) (proposes r inner E count)
   where
     settled : (n : ℕ) → IsSettled r outer (E n) → IsSettled r inner (E n)
     settled n is =
         let s = is.some_stable.0 in
         let many : outer.h ≤ full_count r outer (E n) s = stable-is r outer (E n) s is.some_stable.2 in
         record {
-          some_stable = (s, is.some_stable.1, is_stable-from r inner (E n) s (omega (arith, wide.high, wide.same (E n) s)));
+          some_stable = (
+            s,
+            is.some_stable.1,
+            is_stable-from r inner (E n) s
+                (omega (arith, wide.high, wide.same (E n) s)),
+          );
           none_unstable = λ q process t.
               let parts = unstable-is r inner (E n) q t in
               let same : full_count r outer (E n) q ≡ full_count r inner (E n) q = wide.same (E n) q in
-              is.none_unstable q process (is_unstable-from r outer (E n) q (omega (arith, wide.low, parts.0)) (omega (arith, wide.high, parts.1)));
+              is.none_unstable q process (is_unstable-from r outer (E n) q (omega (arith, wide.low, parts.0))
+              (omega (arith, wide.high, parts.1)));
         }
 
-    member : (m n s : ℕ) → m ≤ n → s < r.nodes → IsSettled r outer (E n) → IsTrue (is_stable r inner (E m) s) → IsTrue (is_stable r outer (E n) s)
+    member : (m n s : ℕ) → m ≤ n → s < r.nodes → IsSettled r outer (E n) → IsTrue (is_stable r inner (E m) s)
+        → IsTrue (is_stable r outer (E n) s)
     member m n s before process is stable =
         let many : inner.h ≤ full_count r inner (E m) s = stable-is r inner (E m) s stable in
-        let more : full_count r inner (E m) s ≤ full_count r inner (E n) s = full_count-grows r inner (E m) (E n) s (record { all = λ ring q e. grows m n ring q before e }) in
+        let more : full_count r inner (E m) s ≤ full_count r inner (E n) s = full_count-grows r inner (E m) (E n) s
+        (record { all = λ ring q e. grows m n ring q before e }) in
         let same : full_count r outer (E n) s ≡ full_count r inner (E n) s = wide.same (E n) s in
         elim (cases_lt (full_count r outer (E n) s) outer.h) [
-          | inl unstable ↦ absurd (is.none_unstable s process (is_unstable-from r outer (E n) s (omega (arith, wide.low, wide.gap)) unstable))
+          | inl unstable ↦ absurd (is.none_unstable s process
+              (is_unstable-from r outer (E n) s (omega (arith, wide.low, wide.gap)) unstable))
           | inr enough ↦ is_stable-from r outer (E n) s enough
         ]
 
@@ -72,69 +93,92 @@ pub higher_before : (r : Layout) (k g h l : ℕ) (implicit : Bool) (E : ℕ → 
     → ProposesBefore (proposal_of r (rule_of k h l implicit) E count) (proposal_of r (rule_of k g l implicit) E count)
 unfolding is_full is_reported
 higher_before r k g h l implicit E count gap high =
-    proposes-before r (rule_of k h l implicit) (rule_of k g l implicit) E count (record { low = omega arith; gap = gap; high = high; same = λ E s. refl })
+    proposes-before r (rule_of k h l implicit) (rule_of k g l implicit) E count
+    (record { low = omega arith; gap = gap; high = high; same = λ E s. refl })
 
 pub wider_before : (r : Layout) (k g h l m : ℕ) (E : ℕ → EdgeSet) (count : ℕ) → m ≤ l → l ≤ h → h ≤ g → Grows E
     → ProposesBefore (proposal_of r (rule_of k h l false) E count) (proposal_of r (rule_of k g m false) E count)
 unfolding is_full is_reported
 wider_before r k g h l m E count low gap high =
-    proposes-before r (rule_of k h l false) (rule_of k g m false) E count (record { low = low; gap = gap; high = high; same = λ E s. refl })
+    proposes-before r (rule_of k h l false) (rule_of k g m false) E count
+    (record { low = low; gap = gap; high = high; same = λ E s. refl })
 
 -- an edge of the first m entries is one of the first n
 pub first_of_grows : (edges : List Edge) → Grows (first_of edges)
 first_of_grows edges m n ring s before is = list_any_take-le (λ e. is_edge ring s e) m n edges before is
 
-full_count-on : (r : Layout) (k h l : ℕ) (E : EdgeSet) (s : ℕ) → full_count r (rule_of k h l false) E s ≤ full_count r (rule_of k h l true) E s
+full_count-on : (r : Layout) (k h l : ℕ) (E : EdgeSet) (s : ℕ) → full_count r (rule_of k h l false) E s
+    ≤ full_count r (rule_of k h l true) E s
 unfolding is_full is_reported
 full_count-on r k h l E s =
-    ring_count-le k _ (is_full r (rule_of k h l true) E) s (record { all = λ ring q e. or_left (E ring q) _ (sym (or-false (E ring q)) ∙ e) })
+    ring_count-le k _ (is_full r (rule_of k h l true) E) s
+    (record { all = λ ring q e. or_left (E ring q) _ (sym (or-false (E ring q)) ∙ e) })
 
-pub stable_on : (r : Layout) (k h l : ℕ) (E : EdgeSet) (s : ℕ) → IsTrue (is_stable r (rule_of k h l false) E s) → IsTrue (is_stable r (rule_of k h l true) E s)
+pub stable_on : (r : Layout) (k h l : ℕ) (E : EdgeSet) (s : ℕ) → IsTrue (is_stable r (rule_of k h l false) E s)
+    → IsTrue (is_stable r (rule_of k h l true) E s)
 stable_on r k h l E s is =
     let many : h ≤ full_count r (rule_of k h l false) E s = stable-is r (rule_of k h l false) E s is in
     is_stable-from r (rule_of k h l true) E s (omega (arith, full_count-on r k h l E s))
 
-pub marked_on : (r : Layout) (k h l : ℕ) (E : EdgeSet) (s : ℕ) → l ≤ h → IsMarked r (rule_of k h l false) E s → IsMarked r (rule_of k h l true) E s
+pub marked_on : (r : Layout) (k h l : ℕ) (E : EdgeSet) (s : ℕ) → l ≤ h → IsMarked r (rule_of k h l false) E s
+    → IsMarked r (rule_of k h l true) E s
 marked_on r k h l E s low marked = elim (cases_lt (full_count r (rule_of k h l true) E s) h) [
-  | inl below ↦ inr (is_unstable-from r (rule_of k h l true) E s (omega (arith, full_count-on r k h l E s, marked_low marked)) below)
+  | inl below ↦ inr (is_unstable-from r (rule_of k h l true) E s
+      (omega (arith, full_count-on r k h l E s, marked_low marked)) below)
   | inr enough ↦ inl (is_stable-from r (rule_of k h l true) E s enough)
 ]
   where
     marked_low : IsMarked r (rule_of k h l false) E s → l ≤ full_count r (rule_of k h l false) E s
-    marked_low (inl is) = let many : h ≤ full_count r (rule_of k h l false) E s = stable-is r (rule_of k h l false) E s is in omega arith
+    marked_low (inl is) = let many : h ≤ full_count r (rule_of k h l false) E s = stable-is r (rule_of k h l false) E s
+        is in omega arith
     marked_low (inr is) = (unstable-is r (rule_of k h l false) E s is).0
 
-pub stable_by_reports : (r : Layout) (rule : Rule) (E : EdgeSet) (s : ℕ) → rule.l ≡ rule.h → IsTrue (is_stable r rule E s) ↔ (rule.h ≤ reports_of rule E s)
+pub stable_by_reports : (r : Layout) (rule : Rule) (E : EdgeSet) (s : ℕ) → rule.l ≡ rule.h
+    → IsTrue (is_stable r rule E s) ↔ (rule.h ≤ reports_of rule E s)
 stable_by_reports r rule E s equal = (
   (λ is. leb-true _ _ (sym (is_stable-equal r rule E s equal) ∙ is)),
   (λ many. is_stable-equal r rule E s equal ∙ le-leb _ _ many),
 )
 
-stable_agrees : (r : Layout) (k h : ℕ) (E : EdgeSet) → AgreeOn (λ s. is_stable r (rule_of k h h true) E s) (λ s. is_stable r (rule_of k h h false) E s) 0 r.nodes
-stable_agrees r k h E = record { same = λ s _ _. is_stable-equal r (rule_of k h h true) E s refl ∙ sym (is_stable-equal r (rule_of k h h false) E s refl) }
+stable_agrees : (r : Layout) (k h : ℕ) (E : EdgeSet)
+    → AgreeOn (λ s. is_stable r (rule_of k h h true) E s) (λ s. is_stable r (rule_of k h h false) E s) 0 r.nodes
+stable_agrees r k h E = record {
+  same = λ s _ _. is_stable-equal r (rule_of k h h true) E s refl
+      ∙ sym (is_stable-equal r (rule_of k h h false) E s refl);
+}
 
 never_unstable : (r : Layout) (rule : Rule) (E : EdgeSet) (s : ℕ) → rule.l ≡ rule.h → is_unstable r rule E s ≡ false
 never_unstable r rule E s equal = false_from_ne_true _ (λ t. equal_none_unstable r rule E s equal t)
 
-unstable_agrees : (r : Layout) (k h : ℕ) (E : EdgeSet) → AgreeOn (λ s. is_unstable r (rule_of k h h true) E s) (λ s. is_unstable r (rule_of k h h false) E s) 0 r.nodes
-unstable_agrees r k h E = record { same = λ s _ _. never_unstable r (rule_of k h h true) E s refl ∙ sym (never_unstable r (rule_of k h h false) E s refl) }
+unstable_agrees : (r : Layout) (k h : ℕ) (E : EdgeSet)
+    → AgreeOn (λ s. is_unstable r (rule_of k h h true) E s) (λ s. is_unstable r (rule_of k h h false) E s) 0 r.nodes
+unstable_agrees r k h E = record {
+  same = λ s _ _. never_unstable r (rule_of k h h true) E s refl
+      ∙ sym (never_unstable r (rule_of k h h false) E s refl);
+}
 
-settled_agrees : (r : Layout) (k h : ℕ) (E : EdgeSet) → is_settled r (rule_of k h h true) E ≡ is_settled r (rule_of k h h false) E
+settled_agrees : (r : Layout) (k h : ℕ) (E : EdgeSet) → is_settled r (rule_of k h h true) E
+    ≡ is_settled r (rule_of k h h false) E
 unfolding is_settled is_some_stable is_some_unstable
 settled_agrees r k h E =
     some_and_none_agree _ _ _ _ r.nodes (stable_agrees r k h E) (unstable_agrees r k h E)
 
-members_agree : (r : Layout) (k h : ℕ) (E : EdgeSet) → stable_members r (rule_of k h h true) E ≡ stable_members r (rule_of k h h false) E
+members_agree : (r : Layout) (k h : ℕ) (E : EdgeSet) → stable_members r (rule_of k h h true) E
+    ≡ stable_members r (rule_of k h h false) E
 unfolding stable_members
 members_agree r k h E = filter_agree_on _ _ 0 r.nodes (stable_agrees r k h E)
 
 abbrev proposal_by : (EdgeSet → Bool) → (EdgeSet → List ℕ) → (ℕ → EdgeSet) → ℕ → Option Proposal
-proposal_by settled members E count = option_map {U = Proposal} (λ n. record { members = members (E n); at = n }) (find (λ n. settled (E n)) (range_with_len 1 count))
+proposal_by settled members E count = option_map {U = Proposal} (λ n. record { members = members (E n); at = n })
+    (find (λ n. settled (E n)) (range_with_len 1 count))
 
-pub implicit_changes_nothing : (r : Layout) (k h : ℕ) (E : ℕ → EdgeSet) (count : ℕ) → proposal_of r (rule_of k h h true) E count ≡ proposal_of r (rule_of k h h false) E count
+pub implicit_changes_nothing : (r : Layout) (k h : ℕ) (E : ℕ → EdgeSet) (count : ℕ)
+    → proposal_of r (rule_of k h h true) E count ≡ proposal_of r (rule_of k h h false) E count
 implicit_changes_nothing r k h E count =
-    let settled : ◌≡◌ {A = EdgeSet → Bool} (is_settled r (rule_of k h h true)) (is_settled r (rule_of k h h false)) = λ i F. settled_agrees r k h F i in
-    let members : ◌≡◌ {A = EdgeSet → List ℕ} (stable_members r (rule_of k h h true)) (stable_members r (rule_of k h h false)) = λ i F. members_agree r k h F i in
+    let settled : ◌≡◌ {A = EdgeSet → Bool} (is_settled r (rule_of k h h true)) (is_settled r (rule_of k h h false)) =
+    λ i F. settled_agrees r k h F i in
+    let members : ◌≡◌ {A = EdgeSet → List ℕ} (stable_members r (rule_of k h h true))
+    (stable_members r (rule_of k h h false)) = λ i F. members_agree r k h F i in
     ap (λ (f : EdgeSet → Bool). proposal_by f (stable_members r (rule_of k h h true)) E count) settled
     ∙ ap (λ (g : EdgeSet → List ℕ). proposal_by (is_settled r (rule_of k h h false)) g E count) members
 

@@ -1,13 +1,17 @@
 -- Who observes whom, and what a process gains where it, or its observer, enters the reported ones.
-use Rattle.std.proofs.Common.{◌≡◌, inl, inr, ℕ, ◌+◌, ◌%◌, ◌<◌, Bool, true, false, cond, ◌==◌, ◌&&◌, ◌||◌, List, length, nat_lt, refl, ap, sym, ◌∙◌, arith}
-use Rattle.cut_detector.proofs.Words.{Edge, EdgeSet, IsLayout, Layout, Observes, and-true, and_right, cases_eq, cases_lt, edges_in, eq-eqb, eqb-true, is_edge, is_near, length-set, nat_tests, ne_eqb, observer_of, or-false, position_of, positions_on, with_edge}
+use Rattle.std.proofs.Common.{◌≡◌, inl, inr, ℕ, ◌+◌, ◌%◌, ◌<◌, Bool, true, false, cond, ◌==◌, ◌&&◌, ◌||◌, List, length}
+use Rattle.std.proofs.Common.{nat_lt, refl, ap, sym, ◌∙◌, arith}
+use Rattle.cut_detector.proofs.Words.{Edge, EdgeSet, IsLayout, Layout, Observes, and-true, and_right, cases_eq}
+use Rattle.cut_detector.proofs.Words.{cases_lt, edges_in, eq-eqb, eqb-true, is_edge, is_near, length-set, nat_tests}
+use Rattle.cut_detector.proofs.Words.{ne_eqb, observer_of, or-false, position_of, positions_on, with_edge}
 use Rattle.std.proofs.lemmas.List.Sums.{passes_at_first, fails_before_first}
 use Rattle.cut_lists.proofs.Rounds.{next_one, before}
 use Rattle.cut_lists.proofs.Pigeonhole.{none_missed}
 use Rattle.cut_detector.proofs.Bits.{edges_in-with_edge}
 
 -- the observer is a process
-pub observer_of-lt : (r : Layout) → IsLayout r → (k s : ℕ) → k < length r.positions → s < r.nodes → observer_of r k s < r.nodes
+pub observer_of-lt : (r : Layout) → IsLayout r → (k s : ℕ) → k < length r.positions → s < r.nodes → observer_of r k s
+    < r.nodes
 observer_of-lt r layout k s ring process =
     let test : ℕ → Bool = λ place. (place + 1) % r.nodes == position_of r k s in
     let place = before r.nodes (position_of r k s) (layout.in_range k s ring process) in
@@ -23,29 +27,39 @@ observer_of-lt r layout k s ring process =
     ]
 
 -- the observer observes
-observes : (r : Layout) → IsLayout r → (k p : ℕ) → k < length r.positions → p < r.nodes → Observes r k (observer_of r k p) p
+observes : (r : Layout) → IsLayout r → (k p : ℕ) → k < length r.positions → p < r.nodes
+    → Observes r k (observer_of r k p) p
 observes r layout k p ring process =
-    let inside : observer_of r k p < length (positions_on r k) = omega (arith, observer_of-lt r layout k p ring process, layout.long k ring) in
+    let inside : observer_of r k p < length (positions_on r k) = omega
+    (arith, observer_of-lt r layout k p ring process, layout.long k ring) in
     eqb-true _ _ (passes_at_first (λ place. (place + 1) % r.nodes == position_of r k p) (positions_on r k) 0 inside)
 
 -- s observes u alone
-pub observer_of-is : (r : Layout) → IsLayout r → (k s u p : ℕ) → k < length r.positions → s < r.nodes → u < r.nodes → p < r.nodes → Observes r k s u → (observer_of r k p == s) ≡ (p == u)
+pub observer_of-is : (r : Layout) → IsLayout r → (k s u p : ℕ) → k < length r.positions → s < r.nodes → u < r.nodes → p
+    < r.nodes → Observes r k s u → (observer_of r k p == s) ≡ (p == u)
 observer_of-is r layout k s u p ring observer subject process sees = elim (cases_eq p u) [
   | inl same ↦ (
       let o : ℕ = observer_of r k p in
       let below : o < r.nodes = observer_of-lt r layout k p ring process in
-      let places : position_of r k o ≡ position_of r k s = next_one r.nodes _ _ (layout.in_range k o ring below) (layout.in_range k s ring observer)
+      let places : position_of r k o ≡ position_of r k s = next_one r.nodes _ _ (layout.in_range k o ring below)
+      (layout.in_range k s ring observer)
       (observes r layout k p ring process ∙ ap (position_of r k) same ∙ sym sees) in
       eq-eqb o s (layout.distinct k o s ring below observer places) ∙ sym (eq-eqb p u same))
-  | inr other ↦ ne_eqb _ _ (λ e. other (layout.distinct k p u ring process subject (sym (observes r layout k p ring process) ∙ ap (λ o. (position_of r k o + 1) % r.nodes) e ∙ sees))) ∙ sym (ne_eqb p u other)
+  | inr other ↦ ne_eqb _ _ (λ e. other (layout.distinct k p u ring process subject
+      (sym (observes r layout k p ring process) ∙ ap (λ o. (position_of r k o + 1) % r.nodes) e ∙ sees)))
+      ∙ sym (ne_eqb p u other)
 ]
 
 -- an edge that is added where a test says so
-added : (masks : List ℕ) (edge : Edge) (b : Bool) → edge.subject < length masks → (ring p : ℕ) → edges_in (cond b (with_edge masks edge) masks) ring p ≡ (edges_in masks ring p || (is_edge ring p edge && b))
-added masks edge true inside ring p = edges_in-with_edge masks edge inside ring p ∙ ap (λ x. edges_in masks ring p || x) (sym (and-true (is_edge ring p edge)))
-added masks edge false inside ring p = sym (ap (λ x. edges_in masks ring p || x) (and_right (is_edge ring p edge) false refl) ∙ or-false _)
+added : (masks : List ℕ) (edge : Edge) (b : Bool) → edge.subject < length masks → (ring p : ℕ)
+    → edges_in (cond b (with_edge masks edge) masks) ring p ≡ (edges_in masks ring p || (is_edge ring p edge && b))
+added masks edge true inside ring p = edges_in-with_edge masks edge inside ring p
+    ∙ ap (λ x. edges_in masks ring p || x) (sym (and-true (is_edge ring p edge)))
+added masks edge false inside ring p = sym (ap (λ x. edges_in masks ring p || x)
+    (and_right (is_edge ring p edge) false refl) ∙ or-false _)
 
-pub length-added : (masks : List ℕ) (edge : Edge) (b : Bool) → length (cond b (with_edge masks edge) masks) ≡ length masks
+pub length-added : (masks : List ℕ) (edge : Edge) (b : Bool) → length (cond b (with_edge masks edge) masks)
+    ≡ length masks
 length-added masks edge true = length-set masks edge.subject _
 length-added masks edge false = refl
 
@@ -53,23 +67,33 @@ length-added masks edge false = refl
 abbrev pub with_gains : Layout → (ℕ → ℕ → Bool) → ℕ → ℕ → EdgeSet → EdgeSet
 with_gains r gained s i F ring p = F ring p || (nat_lt ring i && (is_near r s ring p && gained ring p))
 
-one_more : (i ring s u p o : ℕ) (before mid after f : Bool) (gained : ℕ → ℕ → Bool) → mid ≡ (before || (((i == ring) && (s == p)) && gained i s)) → after ≡ (mid || (((i == ring) && (u == p)) && gained i u))
+one_more : (i ring s u p o : ℕ) (before mid after f : Bool) (gained : ℕ → ℕ → Bool) → mid
+    ≡ (before || (((i == ring) && (s == p)) && gained i s)) → after ≡ (mid || (((i == ring) && (u == p)) && gained i u))
     → before ≡ (f || (nat_lt ring i && (((p == s) || (o == s)) && gained ring p))) → (i ≡ ring → (o == s) ≡ (p == u))
     → after ≡ (f || (nat_lt ring (i + 1) && (((p == s) || (o == s)) && gained ring p)))
 one_more i ring s u p o before mid after f gained first second held sees = grind (arith, nat_tests)
 
 -- one ring more
-pub with_gains-more : (r : Layout) → IsLayout r → (gained : ℕ → ℕ → Bool) (s i u : ℕ) → i < length r.positions → s < r.nodes → u < r.nodes → Observes r i s u
+pub with_gains-more : (r : Layout) → IsLayout r → (gained : ℕ → ℕ → Bool) (s i u : ℕ) → i < length r.positions → s
+    < r.nodes → u < r.nodes → Observes r i s u
     → (F : EdgeSet) (before mid after : List ℕ) → length before ≡ r.nodes
-    → mid ≡ cond (gained i s) (with_edge before (record { ring = i; subject = s })) before → after ≡ cond (gained i u) (with_edge mid (record { ring = i; subject = u })) mid
-    → (ring p : ℕ) → p < r.nodes → edges_in before ring p ≡ with_gains r gained s i F ring p → edges_in after ring p ≡ with_gains r gained s (i + 1) F ring p
-with_gains-more r layout gained s i u ring_in observer subject sees F before mid after long first second ring p process held =
-    let long_mid : length mid ≡ r.nodes = ap length first ∙ length-added before (record { ring = i; subject = s }) (gained i s) ∙ long in
-    one_more i ring s u p (observer_of r ring p) (edges_in before ring p) (edges_in mid ring p) (edges_in after ring p) (F ring p) gained
-    (ap (λ xs. edges_in xs ring p) first ∙ added before (record { ring = i; subject = s }) (gained i s) (omega arith) ring p)
-    (ap (λ xs. edges_in xs ring p) second ∙ added mid (record { ring = i; subject = u }) (gained i u) (omega arith) ring p)
+    → mid ≡ cond (gained i s) (with_edge before (record { ring = i; subject = s })) before → after
+    ≡ cond (gained i u) (with_edge mid (record { ring = i; subject = u })) mid
+    → (ring p : ℕ) → p < r.nodes → edges_in before ring p ≡ with_gains r gained s i F ring p → edges_in after ring p
+    ≡ with_gains r gained s (i + 1) F ring p
+with_gains-more r layout gained s i u ring_in observer subject sees F before mid after long first second ring p process
+    held =
+    let long_mid : length mid ≡ r.nodes = ap length first
+    ∙ length-added before (record { ring = i; subject = s }) (gained i s) ∙ long in
+    one_more i ring s u p (observer_of r ring p) (edges_in before ring p) (edges_in mid ring p) (edges_in after ring p)
+    (F ring p) gained
+    (ap (λ xs. edges_in xs ring p) first ∙ added before (record { ring = i; subject = s }) (gained i s) (omega arith)
+    ring p)
+    (ap (λ xs. edges_in xs ring p) second ∙ added mid (record { ring = i; subject = u }) (gained i u) (omega arith) ring
+    p)
     held
-    (λ at. ap (λ k. observer_of r k p == s) (sym at) ∙ observer_of-is r layout i s u p ring_in observer subject process sees)
+    (λ at. ap (λ k. observer_of r k p == s) (sym at)
+    ∙ observer_of-is r layout i s u p ring_in observer subject process sees)
 
 -- without implicit alerts none is gained
 pub gained_off : (i x y : Bool) → i ≡ false → i && x && y ≡ false

@@ -1,6 +1,13 @@
 -- What is found among the places of a run, and what an edge that is delivered once more changes of it.
-use Rattle.std.proofs.Common.{◌≡◌, ℕ, suc, ◌+◌, ◌<◌, ◌≤◌, ◌↔◌, Bool, true, false, cond, ◌&&◌, not, List, Option, Some, None, MatchOption, IsTrue, refl, ap, sym, ◌∙◌, arith, ◌-◌, ◌||◌, ◌∷◌, ◌++◌, length, take, option_map, length-append}
-use Rattle.cut_detector.proofs.Words.{Proposal, both_ways, find, Contains, Edge, EdgeSet, IsOfLeastPlace, IsSettled, IsStrictlyIncreasing, Layout, Rule, and_parts, delayed, first_of, is_edge, is_settled, is_some_stable, is_some_unstable, is_stable, is_unstable, le-leb, list_any-append, list_any_none_passing, list_any_passing, lt-leb, members_after, proposal_after, proposal_of, range_with_len, set_of, stable_members, take-append-le}
+use Rattle.std.proofs.Common.{◌≡◌, ℕ, suc, ◌+◌, ◌<◌, ◌≤◌, ◌↔◌, Bool, true, false, cond, ◌&&◌, not, List, Option, Some}
+use Rattle.std.proofs.Common.{None, MatchOption, IsTrue, refl, ap, sym, ◌∙◌, arith, ◌-◌, ◌||◌, ◌∷◌, ◌++◌, length, take}
+use Rattle.std.proofs.Common.{option_map, length-append}
+use Rattle.cut_detector.proofs.Words.{Proposal, both_ways, find, Contains, Edge, EdgeSet, IsOfLeastPlace, IsSettled}
+use Rattle.cut_detector.proofs.Words.{IsStrictlyIncreasing, Layout, Rule, and_parts, delayed, first_of, is_edge}
+use Rattle.cut_detector.proofs.Words.{is_settled, is_some_stable, is_some_unstable, is_stable, is_unstable, le-leb}
+use Rattle.cut_detector.proofs.Words.{list_any-append, list_any_none_passing, list_any_passing, lt-leb, members_after}
+use Rattle.cut_detector.proofs.Words.{proposal_after, proposal_of, range_with_len, set_of, stable_members}
+use Rattle.cut_detector.proofs.Words.{take-append-le}
 use Rattle.std.proofs.lemmas.List.Kept.{IsStrictlyIncreasing-filter}
 use Rattle.std.proofs.Math.Seq.{take-append-add}
 use Rattle.std.proofs.lemmas.List.Folds.{list_any_at}
@@ -20,7 +27,8 @@ IsSettled-from r rule E e =
     record {
       some_stable = (at.0, (let w = at.1.below in omega arith), at.1.passes);
       none_unstable = λ s low t.
-          let w : is_unstable r rule E s ≡ false = none_passing (λ q. is_unstable r rule E q) 0 r.nodes s none (omega arith) (omega arith) in
+          let w : is_unstable r rule E s ≡ false = none_passing (λ q. is_unstable r rule E q) 0 r.nodes s none
+          (omega arith) (omega arith) in
           cc;
     }
 
@@ -28,16 +36,21 @@ pub is_settled-from : (r : Layout) (rule : Rule) (E : EdgeSet) → IsSettled r r
 unfolding is_settled is_some_stable is_some_unstable
 is_settled-from r rule E settled =
     let at = settled.some_stable in
-    let some : is_some_stable r rule E ≡ true = list_any_passing (λ s. is_stable r rule E s) 0 r.nodes at.0 (omega arith) (omega (arith, at.1)) at.2 in
-    let none : is_some_unstable r rule E ≡ false = list_any_none_passing (λ s. is_unstable r rule E s) 0 r.nodes (λ s _ low t. settled.none_unstable s (omega arith) t) in
+    let some : is_some_stable r rule E ≡ true = list_any_passing (λ s. is_stable r rule E s) 0 r.nodes at.0
+    (omega arith) (omega (arith, at.1)) at.2 in
+    let none : is_some_unstable r rule E ≡ false = list_any_none_passing (λ s. is_unstable r rule E s) 0 r.nodes
+    (λ s _ low t. settled.none_unstable s (omega arith) t) in
     ap (λ b. b && not (is_some_unstable r rule E)) some ∙ ap (λ b. true && not b) none
 
 -- the members are the stable processes, ascending
-pub Contains-members : (r : Layout) (rule : Rule) (E : EdgeSet) (s : ℕ) → Contains (stable_members r rule E) s ↔ ((s < r.nodes) × IsTrue (is_stable r rule E s))
+pub Contains-members : (r : Layout) (rule : Rule) (E : EdgeSet) (s : ℕ) → Contains (stable_members r rule E) s
+    ↔ ((s < r.nodes) × IsTrue (is_stable r rule E s))
 unfolding stable_members
 Contains-members r rule E s = (
-  (λ at. let w = Contains-filter_of (λ q. is_stable r rule E q) 0 r.nodes s at in ((let v = w.below in omega arith), w.passes)),
-  (λ at. Contains_filter (λ q. is_stable r rule E q) 0 r.nodes s (record { from = omega arith; below = omega (arith, at.0); passes = at.1 })),
+  (λ at. let w = Contains-filter_of (λ q. is_stable r rule E q) 0 r.nodes s at
+      in ((let v = w.below in omega arith), w.passes)),
+  (λ at. Contains_filter (λ q. is_stable r rule E q) 0 r.nodes s
+      (record { from = omega arith; below = omega (arith, at.0); passes = at.1 })),
 )
 
 pub members-rise : (r : Layout) (rule : Rule) (E : EdgeSet) → IsStrictlyIncreasing (stable_members r rule E)
@@ -77,7 +90,8 @@ absorbed : (x y z : Bool) → (y ≡ true → x ≡ true) → x || (y || z) ≡ 
 absorbed x y z h = grind arith
 
 -- a set does not hold an edge twice
-set_of-repeat : (before after : List Edge) (edge : Edge) → Contains before edge → set_of (before ++ edge ∷ after) ≡ set_of (before ++ after)
+set_of-repeat : (before after : List Edge) (edge : Edge) → Contains before edge → set_of (before ++ edge ∷ after)
+    ≡ set_of (before ++ after)
 set_of-repeat before after edge at = λ i k s. same k s i
   where
     held : (k s : ℕ) → is_edge k s edge ≡ true → set_of before k s ≡ true
@@ -89,7 +103,9 @@ set_of-repeat before after edge at = λ i k s. same k s i
         ∙ absorbed (set_of before k s) (is_edge k s edge) (set_of after k s) (held k s)
         ∙ sym (list_any-append (λ e. is_edge k s e) before after)
 
-pub proposed_delayed : (r : Layout) (rule : Rule) (before after : List Edge) (edge : Edge) → Contains before edge → proposal_after r rule (before ++ edge ∷ after) ≡ option_map (delayed (length before)) (proposal_after r rule (before ++ after))
+pub proposed_delayed : (r : Layout) (rule : Rule) (before after : List Edge) (edge : Edge) → Contains before edge
+    → proposal_after r rule (before ++ edge ∷ after)
+    ≡ option_map (delayed (length before)) (proposal_after r rule (before ++ after))
 proposed_delayed r rule before after edge at =
     let a : ℕ = length after in
     let b : ℕ = length before in
@@ -119,11 +135,14 @@ proposed_delayed r rule before after edge at =
         ∙ ap set_of (sym (take-append-add before after j))
         ∙ ap (λ n. set_of (take n (before ++ after))) (sym short)
 
-pub members_after_repeat : (r : Layout) (rule : Rule) (before after : List Edge) (edge : Edge) → Contains before edge → members_after r rule (before ++ edge ∷ after) ≡ members_after r rule (before ++ after)
+pub members_after_repeat : (r : Layout) (rule : Rule) (before after : List Edge) (edge : Edge) → Contains before edge
+    → members_after r rule (before ++ edge ∷ after) ≡ members_after r rule (before ++ after)
 members_after_repeat r rule before after edge at =
-    ap (option_map (λ p. p.members)) (proposed_delayed r rule before after edge at) ∙ go (proposal_after r rule (before ++ after))
+    ap (option_map (λ p. p.members)) (proposed_delayed r rule before after edge at)
+    ∙ go (proposal_after r rule (before ++ after))
   where
-    go : (q : Option Proposal) → option_map (λ p. p.members) (option_map (delayed (length before)) q) ≡ option_map (λ p. p.members) q
+    go : (q : Option Proposal) → option_map (λ p. p.members) (option_map (delayed (length before)) q)
+        ≡ option_map (λ p. p.members) q
     go None = refl
     go (Some p) = refl
 

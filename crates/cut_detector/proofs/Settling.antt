@@ -1,60 +1,86 @@
 -- What masks of the rings that count say of the modes of the processes.
-use Rattle.std.proofs.Common.{◌≡◌, inl, inr, ℕ, ◌<◌, ◌≤◌, false, ◌==◌, ◌&&◌, ◌||◌, IsTrue, not, List, replicate, vec_len, nat_le, nat_lt, ap, sym, ◌∙◌, arith}
-use Rattle.cut_detector.proofs.Words.{AgreeOn, EdgeSet, HoldsFull, Layout, Reports, Rule, and_left, cases_lt, count_by_agree, edges_in, filter, filter_agree_on, full_count, get_or_past, is_full, is_reported, is_settled, is_some_stable, is_some_unstable, is_stable, is_unstable, leb-true, list_any, list_any_none_passing, lt-leb, observer_of, range_with_len, reports_of, ring_count, rings_full, rule_in, some_and_none_agree, stable_in, stable_members, unstable_in}
+use Rattle.std.proofs.Common.{◌≡◌, inl, inr, ℕ, ◌<◌, ◌≤◌, false, ◌==◌, ◌&&◌, ◌||◌, IsTrue, not, List, replicate}
+use Rattle.std.proofs.Common.{vec_len, nat_le, nat_lt, ap, sym, ◌∙◌, arith}
+use Rattle.cut_detector.proofs.Words.{AgreeOn, EdgeSet, HoldsFull, Layout, Reports, Rule, and_left, cases_lt}
+use Rattle.cut_detector.proofs.Words.{count_by_agree, edges_in, filter, filter_agree_on, full_count, get_or_past}
+use Rattle.cut_detector.proofs.Words.{is_full, is_reported, is_settled, is_some_stable, is_some_unstable, is_stable}
+use Rattle.cut_detector.proofs.Words.{is_unstable, leb-true, list_any, list_any_none_passing, lt-leb, observer_of}
+use Rattle.cut_detector.proofs.Words.{range_with_len, reports_of, ring_count, rings_full, rule_in, some_and_none_agree}
+use Rattle.cut_detector.proofs.Words.{stable_in, stable_members, unstable_in}
 use Rattle.cut_lists.proofs.BitSets.{has_bit-zeros}
 use Rattle.cut_detector.proofs.Modes.{reports_of-le, no_reports, no_gain}
 use Rattle.cut_detector.proofs.Counting.{touched-each, rings_full-zero}
 
 -- with no edge no ring counts
-is_full-empty : (r : Layout) (rule : Rule) (n ring s : ℕ) → 1 ≤ rule.l → is_full r rule (edges_in (replicate n 0)) ring s ≡ false
+is_full-empty : (r : Layout) (rule : Rule) (n ring s : ℕ) → 1 ≤ rule.l
+    → is_full r rule (edges_in (replicate n 0)) ring s ≡ false
 unfolding is_full is_reported
 is_full-empty r rule n ring s low =
     let E : EdgeSet = edges_in (replicate n 0) in
-    let unreported : is_reported rule E s ≡ false = ap (nat_le rule.l) (no_reports rule E s (λ k _. has_bit-zeros n k s)) ∙ lt-leb rule.l 0 low in
-    ap (λ b. b || (rule.implicit && is_reported rule E s && is_reported rule E (observer_of r ring s))) (has_bit-zeros n ring s)
+    let unreported : is_reported rule E s ≡ false = ap (nat_le rule.l)
+    (no_reports rule E s (λ k _. has_bit-zeros n k s)) ∙ lt-leb rule.l 0 low in
+    ap (λ b. b || (rule.implicit && is_reported rule E s && is_reported rule E (observer_of r ring s)))
+    (has_bit-zeros n ring s)
     ∙ no_gain rule.implicit _ _ unreported
 
-pub is_settled-empty : (r : Layout) (rule : Rule) (n : ℕ) → 1 ≤ rule.l → rule.l ≤ rule.h → is_settled r rule (edges_in (replicate n 0)) ≡ false
+pub is_settled-empty : (r : Layout) (rule : Rule) (n : ℕ) → 1 ≤ rule.l → rule.l ≤ rule.h
+    → is_settled r rule (edges_in (replicate n 0)) ≡ false
 unfolding is_settled is_some_stable is_stable
 is_settled-empty r rule n low high =
     let E : EdgeSet = edges_in (replicate n 0) in
     and_left _ _ (list_any_none_passing _ 0 r.nodes (λ s _ _ t.
     let many : rule.h ≤ full_count r rule E s = leb-true _ _ t in
-    let none : full_count r rule E s ≡ 0 = no_reports rule (is_full r rule E) s (λ ring _. is_full-empty r rule n ring s low) in
+    let none : full_count r rule E s ≡ 0 = no_reports rule (is_full r rule E) s
+    (λ ring _. is_full-empty r rule n ring s low) in
     omega arith))
 
-pub HoldsFull_empty : (r : Layout) (rule : Rule) (reported full : List ℕ) (m n : ℕ) → 1 ≤ rule.l → reported ≡ replicate m 0 → full ≡ replicate n 0 → HoldsFull r rule reported full
+pub HoldsFull_empty : (r : Layout) (rule : Rule) (reported full : List ℕ) (m n : ℕ) → 1 ≤ rule.l → reported
+    ≡ replicate m 0 → full ≡ replicate n 0 → HoldsFull r rule reported full
 HoldsFull_empty r rule reported full m n low none empty ring s _ _ =
-    ap (λ xs. edges_in xs ring s) empty ∙ has_bit-zeros n ring s ∙ sym (ap (λ xs. is_full r rule (edges_in xs) ring s) none ∙ is_full-empty r rule m ring s low)
+    ap (λ xs. edges_in xs ring s) empty ∙ has_bit-zeros n ring s
+    ∙ sym (ap (λ xs. is_full r rule (edges_in xs) ring s) none ∙ is_full-empty r rule m ring s low)
 
 -- the tally counts what the definitions do
-pub rings_full-is : (s : Reports) (p : ℕ) → p < s.rings.now.nodes → rings_full s.tally.full p ≡ full_count s.rings.now (rule_in s.tally.rule) (edges_in s.reported.masks.items) p
+pub rings_full-is : (s : Reports) (p : ℕ) → p < s.rings.now.nodes → rings_full s.tally.full p
+    ≡ full_count s.rings.now (rule_in s.tally.rule) (edges_in s.reported.masks.items) p
 rings_full-is s p inside =
     ap (λ k. ring_count k (edges_in s.tally.full.masks.items) p) s.tally.rings
     ∙ count_by_agree _ _ 0 s.tally.rule.k (record { same = λ ring _ below. s.full ring p (omega arith) inside })
 
-stable_in-is : (s : Reports) → AgreeOn (stable_in s.tally.rule s.tally.full) (is_stable s.rings.now (rule_in s.tally.rule) (edges_in s.reported.masks.items)) 0 s.rings.now.nodes
+stable_in-is : (s : Reports) → AgreeOn (stable_in s.tally.rule s.tally.full)
+    (is_stable s.rings.now (rule_in s.tally.rule) (edges_in s.reported.masks.items)) 0 s.rings.now.nodes
 unfolding is_stable
 stable_in-is s = record { same = λ p _ below. ap (nat_le s.tally.rule.h) (rings_full-is s p (omega arith)) }
 
-unstable_in-is : (s : Reports) → AgreeOn (unstable_in s.tally.rule s.tally.full) (is_unstable s.rings.now (rule_in s.tally.rule) (edges_in s.reported.masks.items)) 0 s.rings.now.nodes
+unstable_in-is : (s : Reports) → AgreeOn (unstable_in s.tally.rule s.tally.full)
+    (is_unstable s.rings.now (rule_in s.tally.rule) (edges_in s.reported.masks.items)) 0 s.rings.now.nodes
 unfolding is_unstable
-unstable_in-is s = record { same = λ p _ below. ap (λ n. nat_le s.tally.rule.l n && nat_lt n s.tally.rule.h) (rings_full-is s p (omega arith)) }
+unstable_in-is s = record {
+  same = λ p _ below. ap (λ n. nat_le s.tally.rule.l n && nat_lt n s.tally.rule.h)
+      (rings_full-is s p (omega arith));
+}
 
-pub settled_is : (s : Reports) → list_any (stable_in s.tally.rule s.tally.full) (range_with_len 0 (vec_len s.tally.full.masks)) && not (list_any (unstable_in s.tally.rule s.tally.full) (range_with_len 0 (vec_len s.tally.full.masks)))
+pub settled_is : (s : Reports) → list_any (stable_in s.tally.rule s.tally.full)
+    (range_with_len 0 (vec_len s.tally.full.masks))
+    && not (list_any (unstable_in s.tally.rule s.tally.full) (range_with_len 0 (vec_len s.tally.full.masks)))
     ≡ is_settled s.rings.now (rule_in s.tally.rule) (edges_in s.reported.masks.items)
 unfolding is_settled is_some_stable is_some_unstable
 settled_is s =
-    ap (λ n. list_any (stable_in s.tally.rule s.tally.full) (range_with_len 0 n) && not (list_any (unstable_in s.tally.rule s.tally.full) (range_with_len 0 n))) s.full_long
+    ap (λ n. list_any (stable_in s.tally.rule s.tally.full) (range_with_len 0 n)
+    && not (list_any (unstable_in s.tally.rule s.tally.full) (range_with_len 0 n))) s.full_long
     ∙ some_and_none_agree _ _ _ _ s.rings.now.nodes (stable_in-is s) (unstable_in-is s)
 
-pub members_are : (s : Reports) → filter (stable_in s.tally.rule s.tally.full) (range_with_len 0 (vec_len s.tally.full.masks)) ≡ stable_members s.rings.now (rule_in s.tally.rule) (edges_in s.reported.masks.items)
+pub members_are : (s : Reports) → filter (stable_in s.tally.rule s.tally.full)
+    (range_with_len 0 (vec_len s.tally.full.masks))
+    ≡ stable_members s.rings.now (rule_in s.tally.rule) (edges_in s.reported.masks.items)
 unfolding stable_members
 members_are s =
-    ap (λ n. filter (stable_in s.tally.rule s.tally.full) (range_with_len 0 n)) s.full_long ∙ filter_agree_on _ _ 0 s.rings.now.nodes (stable_in-is s)
+    ap (λ n. filter (stable_in s.tally.rule s.tally.full) (range_with_len 0 n)) s.full_long
+    ∙ filter_agree_on _ _ 0 s.rings.now.nodes (stable_in-is s)
 
 -- each reported process is touched
-pub reported-touched : (s : Reports) (p : ℕ) → 0 < ring_count s.reported.k (edges_in s.reported.masks.items) p → IsTrue (list_any (λ q. p == q) s.tally.touched.items)
+pub reported-touched : (s : Reports) (p : ℕ) → 0 < ring_count s.reported.k (edges_in s.reported.masks.items) p
+    → IsTrue (list_any (λ q. p == q) s.tally.touched.items)
 reported-touched s p some = elim (cases_lt p s.rings.now.nodes) [
   | inl inside ↦ (
       let R : Rule = rule_in s.tally.rule in
@@ -63,5 +89,7 @@ reported-touched s p some = elim (cases_lt p s.rings.now.nodes) [
       let more : reports_of R E p ≤ full_count s.rings.now R E p = reports_of-le s.rings.now R E p in
       let full_too : rings_full s.tally.full p ≡ full_count s.rings.now R E p = rings_full-is s p inside in
       touched-each s.tally.full s.tally.touched.items s.tally.touches p (omega arith))
-  | inr past ↦ absurd (let none : ring_count s.reported.k (edges_in s.reported.masks.items) p ≡ 0 = rings_full-zero s.reported p (get_or_past s.reported.masks.items p 0 (omega (arith, s.reported.masks.ok.0, s.reported_long))) in omega arith)
+  | inr past ↦ absurd (let none : ring_count s.reported.k (edges_in s.reported.masks.items) p
+      ≡ 0 = rings_full-zero s.reported p (get_or_past s.reported.masks.items p 0
+      (omega (arith, s.reported.masks.ok.0, s.reported_long))) in omega arith)
 ]

@@ -20,8 +20,11 @@ is_near r s ring p = (p == s) || (observer_of r ring p == s)
 
 -- to the rings that count are added those which s gains, and those which its subjects gain from it
 pub record AddsGains (g : Gains) (s : ℕ) (old new : List ℕ) : Type 0 where
-  pub full : (ring p : ℕ) → ring < g.rule.k → p < g.rings.now.nodes → edges_in new ring p ≡ (edges_in old ring p || (is_near g.rings.now s ring p && is_gained g.rings.now (rule_of_gains g) (reported_in g) ring p))
+  pub full : (ring p : ℕ) → ring < g.rule.k → p < g.rings.now.nodes → edges_in new ring p
+      ≡ (edges_in old ring p || (is_near g.rings.now s ring p
+      && is_gained g.rings.now (rule_of_gains g) (reported_in g) ring p))
 
 -- masks hold which rings count, where other masks hold the reported edges
 abbrev pub HoldsFull : Layout → Rule → List ℕ → List ℕ → Type 0
-HoldsFull r rule reported full = (ring s : ℕ) → ring < rule.k → s < r.nodes → edges_in full ring s ≡ is_full r rule (edges_in reported) ring s
+HoldsFull r rule reported full = (ring s : ℕ) → ring < rule.k → s < r.nodes → edges_in full ring s
+    ≡ is_full r rule (edges_in reported) ring s

@@ -8,7 +8,7 @@ use Rattle.cut_detector.specs.Rule.{Rule, rule_in}
 use Rattle.cut_detector.specs.Counts.{is_settled, stable_members}
 use Rattle.cut_detector.specs.Proposal.{settled_proposal}
 use Rattle.cut_detector.specs.Masks.{edges_in}
-use Rattle.cut_detector.specs.State.{State}
+use Rattle.cut_detector.specs.State.{DetectorState}
 
 abbrev pub layout_of : Inside → Layout
 layout_of d = d.reports.rings.now
@@ -19,7 +19,7 @@ rule_of_inside d = rule_in d.reports.tally.rule
 abbrev pub reported_of : Inside → EdgeSet
 reported_of d = edges_in d.reports.reported.masks.items
 
-abbrev pub state_of : Inside → State
+abbrev pub state_of : Inside → DetectorState
 state_of d = record {
   layout = layout_of d;
   rule = rule_of_inside d;
@@ -28,7 +28,8 @@ state_of d = record {
   proposal = settled_proposal (layout_of d) (rule_of_inside d) (reported_of d) d.deliveries;
 }
 
-pub record IsSound (d : Inside) : Type 0 where
+pub record IsDetector (d : Inside) : Type 0 where
   -- where it proposes, these are the members
-  pub members : IsTrue (is_settled (layout_of d) (rule_of_inside d) (reported_of d)) → d.members.items ≡ stable_members (layout_of d) (rule_of_inside d) (reported_of d)
+  pub members : IsTrue (is_settled (layout_of d) (rule_of_inside d) (reported_of d)) → d.members.items
+      ≡ stable_members (layout_of d) (rule_of_inside d) (reported_of d)
   pub room : (layout_of d).nodes ≤ vec_capacity d.members

@@ -1,5 +1,6 @@
 -- Laws of cut detection, in the words of the Rapid paper's section on multi-process cut detection.
-use Rattle.std.specs.Prelude.{◌≡◌, ℕ, ◌<◌, ◌≤◌, ◌↔◌, ◌⊎◌, ◌&&◌, ⊤, Bool, true, false, not, List, ◌∷◌, ◌++◌, length, Option, option_map, MatchOption, if◌then◌else◌, nat_le, suc, IsTrue, Contains}
+use Rattle.std.specs.Prelude.{◌≡◌, ℕ, ◌<◌, ◌≤◌, ◌↔◌, ◌⊎◌, ◌&&◌, ⊤, Bool, true, false, not, List, ◌∷◌, ◌++◌, length}
+use Rattle.std.specs.Prelude.{Option, option_map, MatchOption, if◌then◌else◌, nat_le, suc, IsTrue, Contains}
 use Rattle.std.specs.List.Sorted.{IsStrictlyIncreasing}
 use Rattle.cut_rings.specs.declared.edge.Edge.{Edge}
 use Rattle.cut_rings.specs.Layout.{Layout}
@@ -54,7 +55,8 @@ delayed n p = record { members = p.members; at = if nat_le p.at n then p.at else
 abbrev pub RepeatsDelayByOne : Type 0
 RepeatsDelayByOne =
     (r : Layout) (rule : Rule) (before after : List Edge) (edge : Edge) → Contains before edge →
-    proposal_after r rule (before ++ edge ∷ after) ≡ option_map (delayed (length before)) (proposal_after r rule (before ++ after))
+    proposal_after r rule (before ++ edge ∷ after)
+    ≡ option_map (delayed (length before)) (proposal_after r rule (before ++ after))
 
 -- with L = H a process is stable exactly where at least H distinct rings report it
 abbrev pub StableByReportsAlone : Type 0
@@ -83,7 +85,8 @@ ProposesAtFirstStable =
 
 -- each edge of the set is one to a target, and each target is reported on at least H rings
 pub record ReportsTargetsAlone (r : Layout) (rule : Rule) (E : EdgeSet) (is_target : ℕ → Bool) : Type 0 where
-  pub alone : (ring subject : ℕ) → ring < rule.k → subject < r.nodes → IsTrue (E ring subject) → IsTrue (is_target subject)
+  pub alone : (ring subject : ℕ) → ring < rule.k → subject < r.nodes → IsTrue (E ring subject)
+      → IsTrue (is_target subject)
   pub each : (subject : ℕ) → subject < r.nodes → IsTrue (is_target subject) → rule.h ≤ reports_of rule E subject
 
 -- then the stable processes are exactly the targets
@@ -107,7 +110,8 @@ Grows E = (m n ring s : ℕ) → m ≤ n → IsTrue (E m ring s) → IsTrue (E n
 -- where q proposes p does, at the same place or before, and members of q alone
 abbrev pub ProposesBefore : Option Proposal → Option Proposal → Type 0
 ProposesBefore p q =
-    MatchOption q ⊤ (λ later. MatchOption p ⊥ (λ sooner. (sooner.at ≤ later.at) × ((s : ℕ) → Contains sooner.members s → Contains later.members s)))
+    MatchOption q ⊤ (λ later. MatchOption p ⊥ (λ sooner. (sooner.at ≤ later.at)
+    × ((s : ℕ) → Contains sooner.members s → Contains later.members s)))
 
 -- who proposes with a higher H proposes with a lower one too, no later, and no further members
 abbrev pub AWiderGapProposesLater : Type 0

@@ -34,4 +34,5 @@ marked_count rule full = processes_with (marked_in rule full) full
 
 -- the list has the processes for which some ring counts, and no other
 abbrev pub IsTouched : Masks → List ℕ → Type 0
-IsTouched full touched = (s : ℕ) → list_any (λ p. s == p) touched ≡ (nat_lt s (vec_len full.masks) && nat_lt 0 (rings_full full s))
+IsTouched full touched = (s : ℕ) → list_any (λ p. s == p) touched
+    ≡ (nat_lt s (vec_len full.masks) && nat_lt 0 (rings_full full s))

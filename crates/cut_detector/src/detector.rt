@@ -1,4 +1,5 @@
-ghost use Rattle.std.specs.Prelude.{◌≡◌, ◌+◌, ◌≤◌, ◌<◌, ◌^◌, ◌↔◌, ◌∷◌, ◌++◌, [], List, length, option_map, IfOk, IfSome, IsSome, IsNone, IsTrue};
+ghost use Rattle.std.specs.Prelude.{◌≡◌, ◌+◌, ◌≤◌, ◌<◌, ◌^◌, ◌↔◌, ◌∷◌, ◌++◌, [], List, length, option_map, IfOk};
+ghost use Rattle.std.specs.Prelude.{IfSome, IsSome, IsNone, IsTrue};
 ghost use Rattle.cut_rings.specs.declared.edge.Edge.{Edge};
 ghost use Rattle.cut_rings.specs.Edges.{first_of, is_edge_of, are_edges_of};
 ghost use Rattle.cut_detector.specs.Rule.{rule_of};
@@ -22,15 +23,15 @@ pub struct Detector<'a> {
 }
 
 impl<'a> Model for Detector<'a> {
-    ghost use Rattle.cut_detector.specs.State.{State};
+    ghost use Rattle.cut_detector.specs.State.{DetectorState};
 
-    ghost Value = { State };
+    ghost Value = { DetectorState };
 
-    ghost use Rattle.cut_detector.specs.Inside.{state_of, IsSound};
+    ghost use Rattle.cut_detector.specs.Inside.{state_of, IsDetector};
 
     ghost view = { state_of };
 
-    ghost invariant = { IsSound };
+    ghost invariant = { IsDetector };
 }
 
 impl<'a> Detector<'a> {
@@ -93,7 +94,7 @@ impl<'a> Detector<'a> {
         Step::Settled
     }
 
-    /// What it proposes, as a copy; `None` while it waits. Fails only for want of memory.
+    /// What it proposes, as a copy; `None` while it waits. Fails only where memory runs out.
     pub fn proposal(&self, alloc: Global) -> Result<Option<Proposal>, AllocError>
         ensures { IfOk result (λ p. p ≡ self.now.proposal) }
     {

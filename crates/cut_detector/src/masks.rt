@@ -43,7 +43,7 @@ impl Masks {
         self.masks[usize::from(subject)].count_ones()
     }
 
-    /// Adds an edge, and tells how many edges to its subject there were and are.
+    /// Adds an edge, and returns how many edges to its subject there were and are.
     pub fn add(&mut self, edge: Edge) -> Change
         requires ring { edge.ring < self.old.k }
         requires subject { edge.subject < vec_len self.old.masks }

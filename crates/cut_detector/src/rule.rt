@@ -15,14 +15,14 @@ pub struct Rule {
 }
 
 impl Rule {
-    /// Whether a process with so many rings is reported, and so stable or unstable.
+    /// Whether a process with this many rings is reported, and so stable or unstable.
     pub fn is_reported(self, rings: u32) -> bool
         ensures { result ≡ nat_le self.l rings }
     {
         u32::from(self.l) <= rings
     }
 
-    /// Whether a process for which so many rings count is stable.
+    /// Whether a process for which this many rings count is stable.
     pub fn is_stable(self, rings: u32) -> bool
         ensures { result ≡ nat_le self.h rings }
     {

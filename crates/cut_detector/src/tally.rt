@@ -1,4 +1,5 @@
-ghost use Rattle.std.specs.Prelude.{◌≡◌, ◌==◌, ◌<◌, ◌≤◌, ◌&&◌, ◌+◌, ◌∷◌, ◌++◌, [], cond, if◌then◌else◌, not, IfOk, IsTrue, filter, replicate, vec_len, vec_capacity};
+ghost use Rattle.std.specs.Prelude.{◌≡◌, ◌==◌, ◌<◌, ◌≤◌, ◌&&◌, ◌+◌, ◌∷◌, ◌++◌, [], cond, if◌then◌else◌, not, IfOk};
+ghost use Rattle.std.specs.Prelude.{IsTrue, filter, replicate, vec_len, vec_capacity};
 ghost use Rattle.std.specs.List.{range_with_len, list_any, IsDistinct};
 ghost use Rattle.std.proofs.Props.{props};
 ghost use Rattle.cut_detector.specs.Masks.{with_edge};

@@ -6,7 +6,7 @@ use Rattle.cut_disks.specs.declared.call.DiskCall.TheVariants.{Write, Torn, Sync
 use Rattle.cut_disks.specs.State.{DiskState, fresh, written, begun, synced}
 
 -- the bytes that it began with, the calls since then that changed something, and how many calls failed
-pub record Memory : Type 0 where
+pub record MemoryDiskValue : Type 0 where
   pub first : List ℕ
   pub calls : List DiskCall
   pub failures : ℕ
@@ -18,17 +18,17 @@ after_call d (Torn at stop) = begun d at stop d.bytes
 after_call d Sync = synced d
 
 -- what is on the disk: what its calls made of the bytes that it began with
-abbrev pub state_of : Memory → DiskState
+abbrev pub state_of : MemoryDiskValue → DiskState
 state_of m = fold after_call (fresh m.first) m.calls
 
 -- the same with a call more, and with a failure more
-abbrev pub with_call : Memory → DiskCall → Memory
+abbrev pub with_call : MemoryDiskValue → DiskCall → MemoryDiskValue
 with_call m call = record m { calls = m.calls ++ call ∷ [] }
 
-abbrev pub with_failure : Memory → Memory
+abbrev pub with_failure : MemoryDiskValue → MemoryDiskValue
 with_failure m = record m { failures = one_more m.failures }
 
--- a call was made, or it failed for want of memory and did nothing
-abbrev pub Logs : {E : Type 0} → Result ⊤ E → DiskCall → Memory → Memory → Type 0
+-- a call was made, or it failed as memory ran out and did nothing
+abbrev pub Logs : {E : Type 0} → Result ⊤ E → DiskCall → MemoryDiskValue → MemoryDiskValue → Type 0
 Logs (Ok done) call old new = new ≡ with_call old call
 Logs (Err fault) call old new = new ≡ with_failure old

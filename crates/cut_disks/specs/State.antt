@@ -1,5 +1,6 @@
 -- What is on a disk: what reads give, and what a crash may leave (this project's model of a disk).
-use Rattle.std.specs.Prelude.{◌≡◌, ◌<◌, ◌≤◌, ◌+◌, ◌&&◌, ◌++◌, ◌⊎◌, ℕ, Bool, false, List, [], ◌∷◌, length, take, drop, max, slice_index, nat_lt, nat_le, Result, Ok, Err, ⊤}
+use Rattle.std.specs.Prelude.{◌≡◌, ◌<◌, ◌≤◌, ◌+◌, ◌&&◌, ◌++◌, ◌⊎◌, ℕ, Bool, false, List, [], ◌∷◌, length, take, drop}
+use Rattle.std.specs.Prelude.{max, slice_index, nat_lt, nat_le, Result, Ok, Err, ⊤}
 use Rattle.std.specs.List.{list_any, AllByRecursion}
 
 -- the places from `start` on, up to the one before `stop`
@@ -7,7 +8,7 @@ pub record Span : Type 0 where
   pub start : ℕ
   pub stop : ℕ
 
--- what is sure to be on the disk: its bytes at the last sync that succeeded, and the spans that were to be
+-- what is durable on the disk: its bytes at the last sync that succeeded, and the spans that were to be
 -- written by the writes begun since then, those that failed too
 pub record Stable : Type 0 where
   pub synced : List ℕ
@@ -27,15 +28,16 @@ reach n (span ∷ spans) = max span.stop (reach n spans)
 pub record IsImage (s : Stable) (bytes : List ℕ) : Type 0 where
   pub no_shorter : length s.synced ≤ length bytes
   pub no_longer : length bytes ≤ reach (length s.synced) s.spans
-  pub same : (i : ℕ) → i < length s.synced → list_any (covers i) s.spans ≡ false → slice_index bytes i ≡ slice_index s.synced i
+  pub same : (i : ℕ) → i < length s.synced → list_any (covers i) s.spans ≡ false → slice_index bytes i
+      ≡ slice_index s.synced i
 
--- what reads give, what is sure, and what was sure before that since the disk was made, the newest first
+-- what reads give, what is durable, and what was durable before that since the disk was made, the newest first
 pub record DiskState : Type 0 where
   pub bytes : List ℕ
   pub stable : Stable
   pub past : List Stable
 
--- all that was written is sure
+-- all that was written is durable
 abbrev pub settled : List ℕ → Stable
 settled bytes = record { synced = bytes; spans = [] }
 
@@ -59,7 +61,7 @@ begun d at stop bytes = record {
 abbrev pub written : DiskState → ℕ → List ℕ → DiskState
 written d at put = begun d at (at + length put) (overwritten d.bytes at put)
 
--- all was made sure
+-- all was made durable
 abbrev pub synced : DiskState → DiskState
 synced d = record { bytes = d.bytes; stable = settled d.bytes; past = d.stable ∷ d.past }
 
@@ -67,15 +69,17 @@ synced d = record { bytes = d.bytes; stable = settled d.bytes; past = d.stable �
 pub record IsTorn (at stop : ℕ) (old new : List ℕ) : Type 0 where
   pub no_shorter : length old ≤ length new
   pub no_longer : length new ≤ max stop (length old)
-  pub same : (i : ℕ) → i < length old → covers i (record { start = at; stop = stop }) ≡ false → slice_index new i ≡ slice_index old i
+  pub same : (i : ℕ) → i < length old → covers i (record { start = at; stop = stop }) ≡ false → slice_index new i
+      ≡ slice_index old i
 
 -- a write wrote all; or it failed before it was begun, or after that
-abbrev pub Writes : {E : Type 0} → Result ⊤ E → ℕ → List ℕ → DiskState → DiskState → Type 0
-Writes (Ok done) at put old new = new ≡ written old at put
-Writes (Err fault) at put old new =
-    (new ≡ old) ⊎ ((torn : List ℕ) × (IsTorn at (at + length put) old.bytes torn × (new ≡ begun old at (at + length put) torn)))
+abbrev pub WritesDisk : {E : Type 0} → Result ⊤ E → ℕ → List ℕ → DiskState → DiskState → Type 0
+WritesDisk (Ok done) at put old new = new ≡ written old at put
+WritesDisk (Err fault) at put old new =
+    (new ≡ old) ⊎ ((torn : List ℕ) × (IsTorn at (at + length put) old.bytes torn
+    × (new ≡ begun old at (at + length put) torn)))
 
--- a sync made all sure, or it failed and nothing
+-- a sync made all durable, or it failed and nothing
 abbrev pub Syncs : {E : Type 0} → Result ⊤ E → DiskState → DiskState → Type 0
 Syncs (Ok done) old new = new ≡ synced old
 Syncs (Err fault) old new = new ≡ old

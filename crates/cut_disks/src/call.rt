@@ -18,7 +18,7 @@ impl Model for Written {
 }
 
 impl Written {
-    /// A copy of these bytes. Fails only for want of memory.
+    /// A copy of these bytes. Fails only where memory runs out.
     pub(crate) fn copy_of(alloc: Global, bytes: &[u8]) -> Result<Written, AllocError>
         ensures { IfOk result (λ written. written ≡ bytes.now) }
     {
@@ -50,7 +50,7 @@ pub enum DiskCall {
     Torn {
         /// The first place.
         at: u64,
-        /// The place behind the last.
+        /// The place after the last.
         stop: u64,
     },
     /// A sync succeeded.

@@ -1,6 +1,6 @@
 ghost use Rattle.std.specs.Prelude.{ℕ, ◌≡◌, ◌+◌, ◌<◌, ◌≤◌, ◌^◌, ◌↔◌, length, slice_range, IfOk, OnOk};
 ghost use Rattle.cut_faults.specs.Failures.{counted};
-ghost use Rattle.cut_disks.specs.State.{DiskState, IsImage, Writes, Syncs};
+ghost use Rattle.cut_disks.specs.State.{DiskState, IsImage, WritesDisk, Syncs};
 
 use thiserror::Error;
 
@@ -29,7 +29,7 @@ pub trait Disk {
     /// How many bytes there are.
     fn length(&mut self) -> Result<u64, DiskFault>
         ensures bound { IfOk result (λ n. n < 2 ^ 63) }
-        ensures told { is_honest self.old → IfOk result (λ n. n ≡ length (state self.old).bytes) }
+        ensures reported { is_honest self.old → IfOk result (λ n. n ≡ length (state self.old).bytes) }
         ensures same { is_honest self.old → state self.new ≡ state self.old }
         ensures honest { is_honest self.old ↔ is_honest self.new }
         ensures faults { faults self.new ≡ counted result (faults self.old) };
@@ -38,7 +38,7 @@ pub trait Disk {
     /// contents that a crash could leave now.
     fn read(&mut self, at: u64, into: &mut [u8]) -> Result<(), DiskFault>
         requires { is_honest self.old → at + length into.old ≤ length (state self.old).bytes }
-        ensures told { is_honest self.old →
+        ensures reported { is_honest self.old →
             OnOk result (into.new ≡ slice_range (state self.old).bytes at (at + length into.old)) }
         ensures image { is_honest self.old → IsImage (state self.old).stable (state self.old).bytes }
         ensures same { is_honest self.old → state self.new ≡ state self.old }
@@ -49,12 +49,12 @@ pub trait Disk {
     /// longer; a write that would make it 2^63 bytes long fails.
     fn write_at(&mut self, at: u64, put: &[u8]) -> Result<(), DiskFault>
         requires { is_honest self.old → at ≤ length (state self.old).bytes }
-        ensures written { is_honest self.old → Writes result at put.now (state self.old) (state self.new) }
+        ensures written { is_honest self.old → WritesDisk result at put.now (state self.old) (state self.new) }
         ensures bound { OnOk result (at + length put.now < 2 ^ 63) }
         ensures honest { is_honest self.old ↔ is_honest self.new }
         ensures faults { faults self.new ≡ counted result (faults self.old) };
 
-    /// Makes what was written sure, whatever crash may come.
+    /// Makes what was written durable, whatever crash may come.
     fn sync(&mut self) -> Result<(), DiskFault>
         ensures durable { is_honest self.old → Syncs result (state self.old) (state self.new) }
         ensures honest { is_honest self.old ↔ is_honest self.new }
@@ -65,7 +65,7 @@ pub trait Disk {
         ensures { result ≡ faults self.now };
 }
 
-/// A disk that is lent is one.
+/// A disk that is borrowed is one.
 impl<D: Disk> Disk for &mut D {
     ghost state = { λ d. D.state d.now };
 

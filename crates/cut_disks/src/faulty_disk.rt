@@ -1,5 +1,5 @@
 ghost use Rattle.std.specs.Prelude.{◌≡◌, ◌+◌, ◌-◌, ◌≤◌, ◌<◌, ◌^◌, [], false, length, slice_range, IfOk, OnOk, OnErr};
-ghost use Rattle.cut_disks.specs.State.{IsImage, Writes, Syncs};
+ghost use Rattle.cut_disks.specs.State.{IsImage, WritesDisk, Syncs};
 ghost use Rattle.cut_disks.specs.Memory.{state_of, with_call, with_failure};
 ghost use Rattle.cut_disks.specs.Faulty.{Counts, was_due, torn_call, Looks, FailsWith, FaultyWrites, FaultySyncs};
 ghost use Rattle.cut_disks.specs.declared.call.DiskCall.TheVariants.{Sync};
@@ -18,7 +18,7 @@ pub enum Tear {
     Everything,
 }
 
-/// A disk in memory that fails once as it is told, for trying out what a failure leaves.
+/// A disk in memory that fails once, at the call that it is given, to try out what a failure leaves.
 ///
 /// From the moment it is armed its calls are counted, from 1, all of `length`, `read`, `write_at` and `sync`;
 /// the one with the number `fail_at` fails, none where that is 0. Before and after, it is as any other in
@@ -33,15 +33,15 @@ pub struct FaultyDisk {
 }
 
 impl Model for FaultyDisk {
-    ghost use Rattle.cut_disks.specs.Faulty.{Faulty};
+    ghost use Rattle.cut_disks.specs.Faulty.{FaultyDiskValue};
 
-    ghost Value = { Faulty };
+    ghost Value = { FaultyDiskValue };
 
     ghost view = { λ d. record { memory = d.memory; counting = d.counting; fail_in = d.fail_in; tear = d.tear } };
 }
 
 impl FaultyDisk {
-    /// A disk of these bytes, not armed. Fails only for want of memory.
+    /// A disk of these bytes, not armed. Fails only where memory runs out.
     pub fn of(
         alloc: Global,
         bytes: Vec<u8>,
@@ -77,7 +77,7 @@ impl FaultyDisk {
         &self.memory
     }
 
-    /// Counts a call, and tells whether it is the failing one.
+    /// Counts a call, and returns whether it is the failing one.
     fn is_due(&mut self) -> bool
         ensures counts { Counts self.old self.new }
         ensures due { result ≡ was_due self.old self.new }
@@ -92,7 +92,7 @@ impl FaultyDisk {
         due
     }
 
-    /// Fails a write, and leaves of it what is told, or nothing for want of memory.
+    /// Fails a write, and leaves of it what the disk was made to leave, or nothing where memory runs out.
     fn fail_write(&mut self, at: u64, put: &[u8])
         requires { at ≤ length (state_of self.old.memory).bytes }
         ensures memory { FailsWith (torn_call self.old.tear at put.now) self.old.memory self.new.memory }
@@ -117,7 +117,7 @@ impl Disk for FaultyDisk {
 
     fn length(&mut self) -> Result<u64, DiskFault>
         ensures bound { IfOk result (λ n. n < 2 ^ 63) }
-        ensures told { IfOk result (λ n. n ≡ length (state_of self.old.memory).bytes) }
+        ensures reported { IfOk result (λ n. n ≡ length (state_of self.old.memory).bytes) }
         ensures counts { Counts self.old self.new }
         ensures due { Looks result (was_due self.old self.new) self.old.memory self.new.memory }
     {
@@ -131,7 +131,7 @@ impl Disk for FaultyDisk {
     fn read(&mut self, at: u64, into: &mut [u8]) -> Result<(), DiskFault>
         requires { at + length into.old ≤ length (state_of self.old.memory).bytes }
         ensures image { IsImage (state_of self.old.memory).stable (state_of self.old.memory).bytes }
-        ensures told { OnOk result
+        ensures reported { OnOk result
             (into.new ≡ slice_range (state_of self.old.memory).bytes at (at + length into.old)) }
         ensures counts { Counts self.old self.new }
         ensures due { Looks result (was_due self.old self.new) self.old.memory self.new.memory }
@@ -145,7 +145,7 @@ impl Disk for FaultyDisk {
 
     fn write_at(&mut self, at: u64, put: &[u8]) -> Result<(), DiskFault>
         requires { at ≤ length (state_of self.old.memory).bytes }
-        ensures written { Writes result at put.now (state_of self.old.memory) (state_of self.new.memory) }
+        ensures written { WritesDisk result at put.now (state_of self.old.memory) (state_of self.new.memory) }
         ensures bound { OnOk result (at + length put.now < 2 ^ 63) }
         ensures counts { Counts self.old self.new }
         ensures due { FaultyWrites result self.old.tear (was_due self.old self.new) at put.now

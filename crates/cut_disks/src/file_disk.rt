@@ -11,7 +11,7 @@ const MOST_BYTES: u64 = (1 << 63) - 1;
 
 /// A file of the system as a disk.
 ///
-/// Nothing is promised of what it holds: that the system keeps what a sync made sure, and that no one else
+/// Nothing is promised of what it holds: that the system keeps what a sync made durable, and that no one else
 /// writes the file, are premises. What is promised is which call of the system is made: a call of the disk that
 /// succeeds is that one call.
 ///
@@ -38,7 +38,7 @@ impl<F: RawFile + Drop> FileDisk<F> {
     /// Nothing else makes a disk of a file.
     pub fn over(file: F) -> Result<FileDisk<F>, DiskFault>
         ensures ready { IfOk result (λ disk. (found : F) × ((locked : F) ×
-            (F.told_kind file true found × F.locked found locked × F.synced_folder locked disk.raw))) }
+            (F.kind_reported file true found × F.locked found locked × F.synced_folder locked disk.raw))) }
         ensures faults { IfOk result (λ disk. disk.failures ≡ 0) }
     {
         let mut file = file;
@@ -52,10 +52,10 @@ impl<F: RawFile + Drop> FileDisk<F> {
     }
 }
 
-/// Finds that a file is a regular one, locks it, and makes its entry in its folder sure.
+/// Finds that a file is a regular one, locks it, and makes its entry in its folder durable.
 fn make_ready<F: RawFile>(file: &mut F) -> io::Result<()>
     ensures { OnOk result ((found : F) × ((locked : F) ×
-        (F.told_kind file.old true found × F.locked found locked × F.synced_folder locked file.new))) }
+        (F.kind_reported file.old true found × F.locked found locked × F.synced_folder locked file.new))) }
 {
     if !file.is_regular()? {
         return Err(ErrorKind::Unsupported.into());
@@ -89,7 +89,7 @@ impl<F: RawFile> Disk for FileDisk<F> {
     ghost faults = { λ d. d.failures };
 
     fn length(&mut self) -> Result<u64, DiskFault>
-        ensures called { IfOk result (λ n. F.told_length self.old.raw n self.new.raw) }
+        ensures called { IfOk result (λ n. F.length_reported self.old.raw n self.new.raw) }
         ensures bound { IfOk result (λ n. n < 2 ^ 63) }
         ensures faults { self.new.failures ≡ counted result self.old.failures }
     {
@@ -129,7 +129,7 @@ impl<F: RawFile> Disk for FileDisk<F> {
 
 /// How many bytes a file has, below 2^63.
 fn length_of<F: RawFile>(file: &mut F) -> io::Result<u64>
-    ensures called { IfOk result (λ n. F.told_length file.old n file.new) }
+    ensures called { IfOk result (λ n. F.length_reported file.old n file.new) }
     ensures bound { IfOk result (λ n. n < 2 ^ 63) }
 {
     let length = file.length()?;

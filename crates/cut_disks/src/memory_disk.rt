@@ -1,5 +1,5 @@
 ghost use Rattle.std.specs.Prelude.{◌≡◌, ◌+◌, ◌≤◌, ◌<◌, ◌^◌, [], length, slice_range, IsOk, IsErr, IfOk, OnOk, OnErr};
-ghost use Rattle.cut_disks.specs.State.{IsImage, Writes, Syncs, overwritten};
+ghost use Rattle.cut_disks.specs.State.{IsImage, WritesDisk, Syncs, overwritten};
 ghost use Rattle.cut_disks.specs.Memory.{state_of, with_call, with_failure, Logs};
 ghost use Rattle.cut_disks.specs.declared.call.DiskCall.TheVariants.{Write, Torn, Sync};
 
@@ -22,9 +22,9 @@ pub struct MemoryDisk {
 
 impl Model for MemoryDisk {
     ghost use Rattle.std.specs.Prelude.{◌≡◌};
-    ghost use Rattle.cut_disks.specs.Memory.{Memory, state_of};
+    ghost use Rattle.cut_disks.specs.Memory.{MemoryDiskValue, state_of};
 
-    ghost Value = { Memory };
+    ghost Value = { MemoryDiskValue };
 
     ghost view = { λ d. record { first = d.first.items; calls = d.calls.items; failures = d.failures } };
 
@@ -33,7 +33,7 @@ impl Model for MemoryDisk {
 }
 
 impl MemoryDisk {
-    /// A disk of these bytes, all of them sure. Fails only for want of memory.
+    /// A disk of these bytes, all of them durable. Fails only where memory runs out.
     pub fn of(alloc: Global, bytes: Vec<u8>) -> Result<MemoryDisk, AllocError>
         ensures { IfOk result (λ disk. disk ≡ record { first = bytes.items; calls = []; failures = 0 }) }
     {
@@ -74,7 +74,7 @@ impl MemoryDisk {
         self.failures.add();
     }
 
-    /// Writes, or does nothing for want of memory.
+    /// Writes, or does nothing where memory runs out.
     pub(crate) fn put(&mut self, at: u64, put: &[u8]) -> Result<(), AllocError>
         requires { at ≤ length (state_of self.old).bytes }
         ensures ok { OnOk result (self.new ≡ with_call self.old (Write at put.now)) }
@@ -88,7 +88,7 @@ impl MemoryDisk {
         Ok(())
     }
 
-    /// Begins a write that leaves the bytes as they are, or does nothing for want of memory.
+    /// Begins a write that leaves the bytes as they are, or does nothing where memory runs out.
     pub(crate) fn tear(&mut self, at: u64, put: &[u8]) -> Result<(), AllocError>
         requires { at ≤ length (state_of self.old).bytes }
         ensures ok { OnOk result (self.new ≡ with_call self.old (Torn at (at + length put.now))) }
@@ -99,7 +99,7 @@ impl MemoryDisk {
         self.note(DiskCall::Torn { at, stop })
     }
 
-    /// Notes a call that leaves the bytes as they are, or does nothing for want of memory.
+    /// Notes a call that leaves the bytes as they are, or does nothing where memory runs out.
     fn note(&mut self, call: DiskCall) -> Result<(), AllocError>
         requires { (state_of (with_call self.old call)).bytes ≡ (state_of self.old).bytes }
         ensures ok { OnOk result (self.new ≡ with_call self.old call) }
@@ -120,7 +120,7 @@ impl Disk for MemoryDisk {
     ghost faults = { λ d. d.failures };
 
     fn length(&mut self) -> Result<u64, DiskFault>
-        ensures told { IfOk result (λ n. n ≡ length (state_of self.old).bytes) }
+        ensures reported { IfOk result (λ n. n ≡ length (state_of self.old).bytes) }
         ensures bound { IfOk result (λ n. n < 2 ^ 63) }
         ensures never { IsOk result }
         ensures same { self.new ≡ self.old }
@@ -131,7 +131,7 @@ impl Disk for MemoryDisk {
     fn read(&mut self, at: u64, into: &mut [u8]) -> Result<(), DiskFault>
         requires { at + length into.old ≤ length (state_of self.old).bytes }
         ensures image { IsImage (state_of self.old).stable (state_of self.old).bytes }
-        ensures told { into.new ≡ slice_range (state_of self.old).bytes at (at + length into.old) }
+        ensures reported { into.new ≡ slice_range (state_of self.old).bytes at (at + length into.old) }
         ensures never { IsOk result }
         ensures same { self.new ≡ self.old }
     {
@@ -145,7 +145,7 @@ impl Disk for MemoryDisk {
     fn write_at(&mut self, at: u64, put: &[u8]) -> Result<(), DiskFault>
         requires { at ≤ length (state_of self.old).bytes }
         ensures log { Logs result (Write at put.now) self.old self.new }
-        ensures written { Writes result at put.now (state_of self.old) (state_of self.new) }
+        ensures written { WritesDisk result at put.now (state_of self.old) (state_of self.new) }
         ensures bound { OnOk result (at + length put.now < 2 ^ 63) }
     {
         match self.put(at, put) {
@@ -175,7 +175,7 @@ impl Disk for MemoryDisk {
     }
 }
 
-/// Writes over bytes from a place on, or leaves them for want of memory.
+/// Writes over bytes from a place on, or leaves them where memory runs out.
 fn overwrite(bytes: &mut Vec<u8>, at: usize, put: &[u8]) -> Result<(), AllocError>
     requires { at ≤ length bytes.old.items }
     ensures ok { OnOk result (bytes.new.items ≡ overwritten bytes.old.items at put.now) }

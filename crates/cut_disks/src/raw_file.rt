@@ -8,8 +8,8 @@ use std::io;
 /// these nothing else is known. So where a clause says that one of them holds between two values, that call
 /// was made, once, and no other one with it.
 pub trait RawFile {
-    /// It was told whether this is a regular file.
-    ghost told_kind: { Self → Bool → Self → Type 0 };
+    /// It was asked whether this is a regular file.
+    ghost kind_reported: { Self → Bool → Self → Type 0 };
 
     /// The lock on the file was taken.
     ghost locked: { Self → Self → Type 0 };
@@ -17,8 +17,8 @@ pub trait RawFile {
     /// The folder was synced.
     ghost synced_folder: { Self → Self → Type 0 };
 
-    /// The length was told.
-    ghost told_length: { Self → ℕ → Self → Type 0 };
+    /// The length was asked.
+    ghost length_reported: { Self → ℕ → Self → Type 0 };
 
     /// These bytes were read, all of them, from this place on.
     ghost was_read: { Self → ℕ → List ℕ → Self → Type 0 };
@@ -31,19 +31,19 @@ pub trait RawFile {
 
     /// Whether it is a regular file.
     fn is_regular(&mut self) -> io::Result<bool>
-        ensures { IfOk result (λ is_regular. told_kind self.old is_regular self.new) };
+        ensures { IfOk result (λ is_regular. kind_reported self.old is_regular self.new) };
 
     /// Takes the lock on the file, unless it is held.
     fn try_lock(&mut self) -> io::Result<()>
         ensures { OnOk result (locked self.old self.new) };
 
-    /// Makes the file's entry in its folder sure.
+    /// Makes the file's entry in its folder durable.
     fn sync_folder(&mut self) -> io::Result<()>
         ensures { OnOk result (synced_folder self.old self.new) };
 
     /// How many bytes there are.
     fn length(&mut self) -> io::Result<u64>
-        ensures { IfOk result (λ n. told_length self.old n self.new) };
+        ensures { IfOk result (λ n. length_reported self.old n self.new) };
 
     /// Reads bytes from a place on, as many as fit.
     fn read_exact_at(&mut self, into: &mut [u8], at: u64) -> io::Result<()>
@@ -53,7 +53,7 @@ pub trait RawFile {
     fn write_all_at(&mut self, put: &[u8], at: u64) -> io::Result<()>
         ensures { OnOk result (wrote self.old at put.now self.new) };
 
-    /// Makes the bytes and the length sure.
+    /// Makes the bytes and the length durable.
     fn sync_all(&mut self) -> io::Result<()>
         ensures { OnOk result (synced_all self.old self.new) };
 }

@@ -38,7 +38,7 @@ impl FileDisk {
     /// Opens the regular file at a path, or makes an empty one, and holds the lock on it (`File::try_lock`)
     /// until the disk is dropped.
     ///
-    /// Its folder is synced each time (`File::sync_all` of the folder), so that the entry is sure, also where an
+    /// Its folder is synced each time (`File::sync_all` of the folder), so that the entry is durable, also where an
     /// earlier call made the file and was ended before it synced the folder. Fails where there is something
     /// else than a regular file, where the file can't be read and written, where another program holds the
     /// lock, and where the folder isn't synced. A call that fails may leave a new, empty file; a file that was
@@ -67,13 +67,13 @@ pub fn folder_of(path: &str) -> Path<'_>
 impl RawFile for SystemFile {
     ghost use Rattle.std.specs.Prelude.{⊤};
 
-    ghost told_kind = { λ _ _ _. ⊤ };
+    ghost kind_reported = { λ _ _ _. ⊤ };
 
     ghost locked = { λ _ _. ⊤ };
 
     ghost synced_folder = { λ _ _. ⊤ };
 
-    ghost told_length = { λ _ _ _. ⊤ };
+    ghost length_reported = { λ _ _ _. ⊤ };
 
     ghost was_read = { λ _ _ _ _. ⊤ };
 

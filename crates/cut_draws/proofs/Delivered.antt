@@ -1,5 +1,6 @@
 -- The deliveries at a receiver, sorted.
-use Rattle.std.proofs.Common.{◌≡◌, ◌∙◌, ℕ, ◌+◌, ◌-◌, ◌*◌, ◌<◌, ◌&&◌, Bool, true, List, map, take, length, get_or, nat_lt, ap, sym, arith}
+use Rattle.std.proofs.Common.{◌≡◌, ◌∙◌, ℕ, ◌+◌, ◌-◌, ◌*◌, ◌<◌, ◌&&◌, Bool, true, List, map, take, length, get_or}
+use Rattle.std.proofs.Common.{nat_lt, ap, sym, arith}
 use Rattle.std.specs.Ordering.{is_lt}
 use Rattle.std.specs.List.{All, count_by, list_any, range_with_len}
 use Rattle.std.specs.List.Sorted.{IsPermutation, IsSorted}
@@ -23,15 +24,19 @@ abbrev pub rank_by : (Delivery → ℕ) → ℕ → List Edge → ℕ → Delive
 rank_by key k edges copies x = count_by (λ y. is_lt (compare_by key k y x)) (all_deliveries edges copies)
 
 -- all deliveries, each at the number of those before it
-pub record IsDelivered (key : Delivery → ℕ) (k : ℕ) (edges : List Edge) (copies : ℕ) (order : List Delivery) : Type 0 where
-  pub each_once : IsPermutation (all_deliveries edges copies) order
-  pub ranks : (i : ℕ) → i < length order → (d : Delivery) → rank_by key k edges copies (get_or order i d) ≡ i
+pub record IsDelivered (key : Delivery → ℕ) (k : ℕ) (edges : List Edge) (copies : ℕ) (order : List Delivery) : Type 0
+  where
+    pub each_once : IsPermutation (all_deliveries edges copies) order
+    pub ranks : (i : ℕ) → i < length order → (d : Delivery) → rank_by key k edges copies (get_or order i d) ≡ i
 
 -- sorted, each is at that number
-pub delivered : (key : Delivery → ℕ) (k : ℕ) (edges : List Edge) (copies : ℕ) → are_distinct k edges ≡ true → (order : List Delivery) → IsPermutation (all_deliveries edges copies) order → IsSorted (compare_by key k) order → IsDelivered key k edges copies order
+pub delivered : (key : Delivery → ℕ) (k : ℕ) (edges : List Edge) (copies : ℕ) → are_distinct k edges ≡ true
+    → (order : List Delivery) → IsPermutation (all_deliveries edges copies) order → IsSorted (compare_by key k) order
+    → IsDelivered key k edges copies order
 delivered key k edges copies distinct order moved up = record {
   each_once = moved;
-  ranks = λ i within d. rank_is_index (compare_by key k) (compare_by_total key k) (all_deliveries edges copies) order moved up (deliveries_distinct key k edges copies distinct) i d within;
+  ranks = λ i within d. rank_is_index (compare_by key k) (compare_by_total key k) (all_deliveries edges copies) order
+      moved up (deliveries_distinct key k edges copies distinct) i d within;
 }
 
 -- the edges some copy of which has fewer than n deliveries before it
@@ -40,10 +45,13 @@ early_by key k edges copies n ring subject =
     list_any (λ x. is_edge ring subject x.edge && nat_lt (rank_by key k edges copies x) n) (all_deliveries edges copies)
 
 -- the first n deliveries are those with fewer than n before them
-prefixes : (key : Delivery → ℕ) (k : ℕ) (edges : List Edge) (copies : ℕ) (order : List Delivery) → IsDelivered key k edges copies order → (n : ℕ) → first_of (map (λ x. x.edge) order) n ≡ early_by key k edges copies n
+prefixes : (key : Delivery → ℕ) (k : ℕ) (edges : List Edge) (copies : ℕ) (order : List Delivery)
+    → IsDelivered key k edges copies order → (n : ℕ) → first_of (map (λ x. x.edge) order) n
+    ≡ early_by key k edges copies n
 prefixes key k edges copies order is n = λ i ring subject. same ring subject i
   where
-    same : (ring subject : ℕ) → first_of (map (λ x. x.edge) order) n ring subject ≡ early_by key k edges copies n ring subject
+    same : (ring subject : ℕ) → first_of (map (λ x. x.edge) order) n ring subject
+        ≡ early_by key k edges copies n ring subject
     same ring subject =
         let p : Delivery → Bool = λ x. is_edge ring subject x.edge in
         let rank : Delivery → ℕ = rank_by key k edges copies in
@@ -53,21 +61,28 @@ prefixes key k edges copies order is n = λ i ring subject. same ring subject i
         ∙ sym (any_before p rank order 0 n (λ i d within. is.ranks i within d ∙ (let e : i ≡ 0 + i = omega arith in e)))
         ∙ sym (list_any-IsPermutation (λ x. p x && nat_lt (rank x) n) (all_deliveries edges copies) order is.each_once)
 
-count : (key : Delivery → ℕ) (k : ℕ) (edges : List Edge) (copies : ℕ) (order : List Delivery) → IsDelivered key k edges copies order → length order ≡ copies * length edges
+count : (key : Delivery → ℕ) (k : ℕ) (edges : List Edge) (copies : ℕ) (order : List Delivery)
+    → IsDelivered key k edges copies order → length order ≡ copies * length edges
 count key k edges copies order is =
     length_permutation (all_deliveries edges copies) order is.each_once ∙ count_of_copies edges 0 copies
 
-still_within : (key : Delivery → ℕ) (k : ℕ) (edges : List Edge) (copies : ℕ) (order : List Delivery) → IsDelivered key k edges copies order → (n : ℕ) → are_edges_of k n edges ≡ true → are_edges_of k n (map (λ x. x.edge) order) ≡ true
+still_within : (key : Delivery → ℕ) (k : ℕ) (edges : List Edge) (copies : ℕ) (order : List Delivery)
+    → IsDelivered key k edges copies order → (n : ℕ) → are_edges_of k n edges ≡ true
+    → are_edges_of k n (map (λ x. x.edge) order) ≡ true
 still_within key k edges copies order is n within =
     let P : Delivery → Type 0 = λ x. is_edge_of k n x.edge ≡ true in
     let all : All P (all_deliveries edges copies) =
-    all_of_copies P edges (range_with_len 0 copies) (λ _ _ _. AllPass-from_list_all (λ e. is_edge_of k n e) edges within)
+    all_of_copies P edges (range_with_len 0 copies)
+    (λ _ _ _. AllPass-from_list_all (λ e. is_edge_of k n e) edges within)
     in
     list_all-from_AllPass (λ e. is_edge_of k n e) (map (λ x. x.edge) order)
-    (All-map (λ e. is_edge_of k n e ≡ true) (λ x. x.edge) order (All-permutation P (all_deliveries edges copies) order is.each_once all))
+    (All-map (λ e. is_edge_of k n e ≡ true) (λ x. x.edge) order
+    (All-permutation P (all_deliveries edges copies) order is.each_once all))
 
 -- so the list is in the order in which the deliveries come
-pub ordered : (d : Source) (receiver k : ℕ) (edges : List Edge) (copies : ℕ) (order : List Delivery) → IsDelivered (λ x. key_at d (delivery_place receiver k x)) k edges copies order → IsDeliveryOrder d receiver k edges copies order
+pub ordered : (d : Source) (receiver k : ℕ) (edges : List Edge) (copies : ℕ) (order : List Delivery)
+    → IsDelivered (λ x. key_at d (delivery_place receiver k x)) k edges copies order
+    → IsDeliveryOrder d receiver k edges copies order
 ordered d receiver k edges copies order is =
     let key : Delivery → ℕ = λ x. key_at d (delivery_place receiver k x) in
     record {

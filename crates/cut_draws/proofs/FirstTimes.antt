@@ -1,5 +1,6 @@
 -- How many deliveries there are, and which of an edge's copies comes first.
-use Rattle.std.proofs.Common.{◌≡◌, ◌∙◌, ℕ, ◌+◌, ◌*◌, ◌<◌, ◌≤◌, ◌&&◌, ◌||◌, ◌==◌, Bool, true, false, cond, if◌then◌else◌, List, [], ◌∷◌, length, fold, min, nat_lt, nat_le, refl, ap, sym, arith}
+use Rattle.std.proofs.Common.{◌≡◌, ◌∙◌, ℕ, ◌+◌, ◌*◌, ◌<◌, ◌≤◌, ◌&&◌, ◌||◌, ◌==◌, Bool, true, false, cond, if◌then◌else◌}
+use Rattle.std.proofs.Common.{List, [], ◌∷◌, length, fold, min, nat_lt, nat_le, refl, ap, sym, arith}
 use Rattle.std.specs.List.{count_by, list_any, flat_map, range_with_len, sum_by}
 use Rattle.std.proofs.lemmas.Bool.Decides.{nat_tests}
 use Rattle.std.proofs.lemmas.Bool.{and_parts, and_right, eqb-true}
@@ -16,17 +17,20 @@ use Rattle.cut_draws.proofs.Copies.{count_of_copies}
 pub count_of_all : (edges : List Edge) (copies : ℕ) → length (all_deliveries edges copies) ≡ copies * length edges
 count_of_all edges copies = count_of_copies edges 0 copies
 
-count_of_list : (test : Delivery → Bool) (edges : List Edge) (cs : List ℕ) → count_by test (flat_map (λ c. copies_of edges c) cs)
+count_of_list : (test : Delivery → Bool) (edges : List Edge) (cs : List ℕ)
+    → count_by test (flat_map (λ c. copies_of edges c) cs)
     ≡ sum_by (λ c. count_by (λ e. test (record { edge = e; copy = c })) edges) cs
 count_of_list test edges [] = refl
 count_of_list test edges (c ∷ cs) =
     let each : ℕ → ℕ = λ i. count_by (λ e. test (record { edge = e; copy = i })) edges in
     sum_by-append (λ x. cond (test x) 1 0) (copies_of edges c) (flat_map (λ i. copies_of edges i) cs)
-    ∙ ap (λ n. n + count_by test (flat_map (λ i. copies_of edges i) cs)) (count_by-map test (λ e. record { edge = e; copy = c }) edges)
+    ∙ ap (λ n. n + count_by test (flat_map (λ i. copies_of edges i) cs))
+    (count_by-map test (λ e. record { edge = e; copy = c }) edges)
     ∙ ap (λ n. each c + n) (count_of_list test edges cs)
     ∙ sym (sum_by-cons each c cs)
 
-pub count_by_copies : (test : Delivery → Bool) (edges : List Edge) (copies : ℕ) → count_by test (all_deliveries edges copies)
+pub count_by_copies : (test : Delivery → Bool) (edges : List Edge) (copies : ℕ)
+    → count_by test (all_deliveries edges copies)
     ≡ sum_by (λ c. count_by (λ e. test (record { edge = e; copy = c })) edges) (range_with_len 0 copies)
 count_by_copies test edges copies = count_of_list test edges (range_with_len 0 copies)
 
@@ -81,9 +85,11 @@ copy_of ring subject c = record { edge = record { ring = ring; subject = subject
 -- after n deliveries an edge has come where one of its copies has
 pub early_by_copies : (d : Source) (receiver k : ℕ) (edges : List Edge) (copies n ring subject : ℕ)
     → early d receiver k edges copies n ring subject
-    ≡ (set_of edges ring subject && list_any (λ c. nat_le (time_of d receiver k edges copies (copy_of ring subject c)) n) (range_with_len 0 copies))
+    ≡ (set_of edges ring subject && list_any (λ c. nat_le (time_of d receiver k edges copies (copy_of ring subject c))
+    n) (range_with_len 0 copies))
 early_by_copies d receiver k edges copies n ring subject =
-    let heard : Delivery → Bool = λ x. is_edge ring subject x.edge && nat_lt (delivery_rank d receiver k edges copies x) n in
+    let heard : Delivery → Bool = λ x. is_edge ring subject x.edge
+    && nat_lt (delivery_rank d receiver k edges copies x) n in
     let come : ℕ → Bool = λ c. nat_le (time_of d receiver k edges copies (copy_of ring subject c)) n in
     let one : (c : ℕ) → list_any heard (copies_of edges c) ≡ (set_of edges ring subject && come c) =
     λ c. list_any-map heard (λ e. record { edge = e; copy = c }) edges
@@ -104,12 +110,15 @@ any_by_least f edges copies end n ring subject low = go (set_of edges ring subje
     g : ℕ → ℕ
     g c = f (copy_of ring subject c)
 
-    go : (given : Bool) → (given && list_any (λ c. nat_le (g c) n) cs) ≡ nat_le (if given then fold (λ least c. min least (g c)) end cs else end) n
+    go : (given : Bool) → (given && list_any (λ c. nat_le (g c) n) cs)
+        ≡ nat_le (if given then fold (λ least c. min least (g c)) end cs else end) n
     go true = sym (least_at g n end cs ∙ ap (λ b. b || list_any (λ c. nat_le (g c) n) cs) (above end n low))
     go false = sym (above end n low)
 
-pub early_by_first_time : (d : Source) (receiver k : ℕ) (edges : List Edge) (copies n ring subject : ℕ) → n ≤ copies * length edges
+pub early_by_first_time : (d : Source) (receiver k : ℕ) (edges : List Edge) (copies n ring subject : ℕ) → n
+    ≤ copies * length edges
     → early d receiver k edges copies n ring subject ≡ nat_le (first_time d receiver k edges copies ring subject) n
 early_by_first_time d receiver k edges copies n ring subject within =
     early_by_copies d receiver k edges copies n ring subject
-    ∙ any_by_least (time_of d receiver k edges copies) edges copies (copies * length edges + 1) n ring subject (omega arith)
+    ∙ any_by_least (time_of d receiver k edges copies) edges copies (copies * length edges + 1) n ring subject
+    (omega arith)

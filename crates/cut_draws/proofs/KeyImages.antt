@@ -1,5 +1,6 @@
--- What the high bits of keys tell of the order of deliveries.
-use Rattle.std.proofs.Common.{◌≡◌, ◌∙◌, ℕ, ◌<◌, ◌≤◌, ◌==◌, inl, inr, Bool, true, false, cond, List, nat_lt, nat_le, ap, sym, arith}
+-- What the high bits of keys say of the order of deliveries.
+use Rattle.std.proofs.Common.{◌≡◌, ◌∙◌, ℕ, ◌<◌, ◌≤◌, ◌==◌, inl, inr, Bool, true, false, cond, List, nat_lt, nat_le, ap}
+use Rattle.std.proofs.Common.{sym, arith}
 use Rattle.std.specs.declared.cmp.Ordering.{Ordering}
 use Rattle.std.specs.declared.cmp.Ordering.TheVariants.{Less, Equal, Greater}
 use Rattle.std.specs.Ordering.{nat_cmp, ordering_then, is_lt}
@@ -26,7 +27,8 @@ key d receiver k x = key_at d (delivery_place receiver k x)
 lesser : (d : Source) (receiver k : ℕ) (x y : Delivery) → image_of d receiver k x < image_of d receiver k y
     → compare_deliveries d receiver k x y ≡ Less
 lesser d receiver k x y low =
-    ap (λ (r : Ordering). ordering_then r (compare_by (λ _. 0) k x y)) (nat_cmp-less (key d receiver k x) (key d receiver k y) (omega arith))
+    ap (λ (r : Ordering). ordering_then r (compare_by (λ _. 0) k x y))
+    (nat_cmp-less (key d receiver k x) (key d receiver k y) (omega arith))
 
 -- what comes before is of no greater image
 no_greater : (d : Source) (receiver k : ℕ) (x y : Delivery) → is_lt (compare_deliveries d receiver k x y) ≡ true
@@ -34,20 +36,25 @@ no_greater : (d : Source) (receiver k : ℕ) (x y : Delivery) → is_lt (compare
 no_greater d receiver k x y before = elim (cases_lt (image_of d receiver k y) (image_of d receiver k x)) [
   | inl greater ↦ absurd (
       let after : is_lt (compare_deliveries d receiver k x y) ≡ false =
-      ap (λ (r : Ordering). is_lt (ordering_then r (compare_by (λ _. 0) k x y))) (nat_cmp-greater (key d receiver k x) (key d receiver k y) (omega arith)) in
+      ap (λ (r : Ordering). is_lt (ordering_then r (compare_by (λ _. 0) k x y)))
+      (nat_cmp-greater (key d receiver k x) (key d receiver k y) (omega arith)) in
       cc)
   | inr most ↦ le-leb _ _ most
 ]
 
-pub before_by_image : (d : Source) (receiver k : ℕ) (edges : List Edge) (copies : ℕ) (x y : Delivery) → Contains (all_deliveries edges copies) x
+pub before_by_image : (d : Source) (receiver k : ℕ) (edges : List Edge) (copies : ℕ) (x y : Delivery)
+    → Contains (all_deliveries edges copies) x
     → image_of d receiver k x < image_of d receiver k y
     → delivery_rank d receiver k edges copies x < delivery_rank d receiver k edges copies y
 before_by_image d receiver k edges copies x y among low =
-    rank-less (compare_by_total (key d receiver k) k) (all_deliveries edges copies) x y among (lesser d receiver k x y low)
+    rank-less (compare_by_total (key d receiver k) k) (all_deliveries edges copies) x y among
+    (lesser d receiver k x y low)
 
 -- all of lesser images come before x, and none of a greater image does
-pub low_first : (d : Source) (receiver k : ℕ) (edges : List Edge) (copies w : ℕ) (x : Delivery) → Contains (all_deliveries edges copies) x
-    → nat_le (image_of d receiver k x) w ≡ nat_lt (delivery_rank d receiver k edges copies x) (come_by_image d receiver k edges copies w)
+pub low_first : (d : Source) (receiver k : ℕ) (edges : List Edge) (copies w : ℕ) (x : Delivery)
+    → Contains (all_deliveries edges copies) x
+    → nat_le (image_of d receiver k x) w ≡ nat_lt (delivery_rank d receiver k edges copies x)
+    (come_by_image d receiver k edges copies w)
 low_first d receiver k edges copies w x among =
     let all : List Delivery = all_deliveries edges copies in
     let image : Delivery → ℕ = image_of d receiver k in
@@ -62,7 +69,8 @@ low_first d receiver k edges copies w x among =
       | inr most ↦ (
           let inside : delivery_rank d receiver k edges copies x < come_by_image d receiver k edges copies w =
           count_less comes (λ y. nat_le (image y) w) all among.0 x
-          (λ y e. let up : image y ≤ image x = leb-true _ _ (no_greater d receiver k y x e) in le-leb _ _ (omega arith)) among.1
+          (λ y e. let up : image y ≤ image x = leb-true _ _ (no_greater d receiver k y x e) in le-leb _ _ (omega arith))
+          among.1
           (ap comes among.2 ∙ ap is_lt (tied_itself (compare_by_total (key d receiver k) k) x))
           (ap (λ y. nat_le (image y) w) among.2 ∙ le-leb (image x) w most) in
           le-leb (image x) w most ∙ sym (lt-ltb _ _ inside))

@@ -1,5 +1,6 @@
 -- Deliveries in numbers, sorted.
-use Rattle.std.proofs.Common.{◌≡◌, ℕ, ◌+◌, ◌/◌, ◌%◌, ◌<◌, ◌≤◌, Bool, true, false, cond, ◌==◌, nat_lt, List, [], ◌∷◌, map, length, get_or, refl, ap, sym, subst, ◌∙◌, arith}
+use Rattle.std.proofs.Common.{◌≡◌, ℕ, ◌+◌, ◌/◌, ◌%◌, ◌<◌, ◌≤◌, Bool, true, false, cond, ◌==◌, nat_lt, List, [], ◌∷◌}
+use Rattle.std.proofs.Common.{map, length, get_or, refl, ap, sym, subst, ◌∙◌, arith}
 use Rattle.std.specs.declared.cmp.Ordering.{Ordering}
 use Rattle.std.specs.declared.cmp.Ordering.TheVariants.{Less, Equal, Greater}
 use Rattle.std.specs.Ordering.{is_lt, nat_cmp, ordering_then}
@@ -18,7 +19,7 @@ use Rattle.cut_rings.specs.Edges.{edge_number, is_edge_of, are_edges_of}
 use Rattle.cut_draws.specs.declared.delivery.Delivery.{Delivery}
 use Rattle.cut_draws.specs.declared.packed.Keyed.{Keyed}
 use Rattle.cut_draws.specs.DeliveryOrder.{all_deliveries}
-use Rattle.cut_draws.specs.Packed.{packed_of, delivery_in, compare_keyed, IsRising}
+use Rattle.cut_draws.specs.Packed.{packed_of, delivery_in, compare_keyed, ArePackedRising}
 use Rattle.cut_draws.proofs.Apart.{compare_by}
 use Rattle.cut_draws.proofs.Copies.{all_of_copies}
 
@@ -41,11 +42,20 @@ unpacked key k x few is =
     let ring : packed_of key x % 32 ≡ x.edge.ring = omega arith in
     let subject : packed_of key x / 32 % 2048 ≡ x.edge.subject = omega arith in
     let copy : packed_of key x / 65536 % 4 ≡ x.copy = omega (arith, is.copy) in
-    ap (λ n. let y : Delivery = record { edge = record { ring = n; subject = packed_of key x / 32 % 2048 }; copy = packed_of key x / 65536 % 4 } in y) ring
-    ∙ ap (λ n. let y : Delivery = record { edge = record { ring = x.edge.ring; subject = n }; copy = packed_of key x / 65536 % 4 } in y) subject
+    ap (λ n. let y : Delivery = record {
+      edge = record { ring = n; subject = packed_of key x / 32 % 2048 };
+      copy =
+          packed_of key x / 65536 % 4;
+    } in y) ring
+    ∙ ap (λ n. let y : Delivery = record {
+      edge = record { ring = x.edge.ring; subject = n };
+      copy = packed_of key x /
+          65536 % 4;
+    } in y) subject
     ∙ ap (λ n. let y : Delivery = record { edge = x.edge; copy = n } in y) copy
 
-all_in_range : (k : ℕ) (edges : List Edge) (copies : ℕ) → copies ≤ 4 → are_edges_of k 2048 edges ≡ true → All (IsInRange k) (all_deliveries edges copies)
+all_in_range : (k : ℕ) (edges : List Edge) (copies : ℕ) → copies ≤ 4 → are_edges_of k 2048 edges ≡ true
+    → All (IsInRange k) (all_deliveries edges copies)
 all_in_range k edges copies few within =
     all_of_copies (IsInRange k) edges (range_with_len 0 copies) (λ i c inside j e below.
     let low : get_or (range_with_len 0 copies) i c < copies = range_is_below copies i c inside in
@@ -54,7 +64,8 @@ all_in_range k edges copies few within =
 map-same : {X : Type 0} (f : X → X) (xs : List X) → All (λ x. f x ≡ x) xs → map f xs ≡ xs
 map-same f [] same = refl
 map-same f (x ∷ xs) same =
-    ap (λ y. y ∷ map f xs) (All-head (λ y. f y ≡ y) x xs same) ∙ ap (λ ys. x ∷ ys) (map-same f xs (All-tail (λ y. f y ≡ y) x xs same))
+    ap (λ y. y ∷ map f xs) (All-head (λ y. f y ≡ y) x xs same)
+    ∙ ap (λ ys. x ∷ ys) (map-same f xs (All-tail (λ y. f y ≡ y) x xs same))
 
 -- all deliveries in numbers, in some order
 pub record IsPacked (key : Delivery → ℕ) (k : ℕ) (edges : List Edge) (copies : ℕ) (words : List ℕ) : Type 0 where
@@ -63,7 +74,8 @@ pub record IsPacked (key : Delivery → ℕ) (k : ℕ) (edges : List Edge) (copi
   pub few_copies : copies ≤ 4
   pub within : are_edges_of k 2048 edges ≡ true
 
-all_own : (key : Delivery → ℕ) (k : ℕ) (edges : List Edge) (copies : ℕ) (words : List ℕ) → IsPacked key k edges copies words → All (IsOwn key k) words
+all_own : (key : Delivery → ℕ) (k : ℕ) (edges : List Edge) (copies : ℕ) (words : List ℕ)
+    → IsPacked key k edges copies words → All (IsOwn key k) words
 all_own key k edges copies words is =
     let all : List Delivery = all_deliveries edges copies in
     let pack : Delivery → ℕ = λ x. packed_of (key x) x in
@@ -75,24 +87,32 @@ all_own key k edges copies words is =
     let low : y.edge.ring < k = ltb-true _ _ parts.0 in
     let process : y.edge.subject < 2048 = ltb-true _ _ parts.1 in
     let high : pack y / 262144 ≡ key y / 262144 = omega (arith, fits.copy, is.few_rings) in
-    record { high = high ∙ ap (λ z. key z / 262144) (sym same); edge = ap (λ (z : Delivery). is_edge_of k 2048 z.edge) same ∙ fits.edge }))
+    record {
+      high = high ∙ ap (λ z. key z / 262144) (sym same);
+      edge = ap (λ (z : Delivery). is_edge_of k 2048 z.edge)
+          same ∙ fits.edge;
+    }))
 
 -- their edges are of the first k rings
-pub packed_edges : (key : Delivery → ℕ) (k : ℕ) (edges : List Edge) (copies : ℕ) (words : List ℕ) → IsPacked key k edges copies words → All (λ w. is_edge_of k 2048 (delivery_in w).edge ≡ true) words
+pub packed_edges : (key : Delivery → ℕ) (k : ℕ) (edges : List Edge) (copies : ℕ) (words : List ℕ)
+    → IsPacked key k edges copies words → All (λ w. is_edge_of k 2048 (delivery_in w).edge ≡ true) words
 packed_edges key k edges copies words is = λ i w inside. (all_own key k edges copies words is i w inside).edge
 
 -- they hold each delivery once
-pub packed_moved : (key : Delivery → ℕ) (k : ℕ) (edges : List Edge) (copies : ℕ) (words : List ℕ) → IsPacked key k edges copies words → IsPermutation (all_deliveries edges copies) (map delivery_in words)
+pub packed_moved : (key : Delivery → ℕ) (k : ℕ) (edges : List Edge) (copies : ℕ) (words : List ℕ)
+    → IsPacked key k edges copies words → IsPermutation (all_deliveries edges copies) (map delivery_in words)
 packed_moved key k edges copies words is =
     let all : List Delivery = all_deliveries edges copies in
     let pack : Delivery → ℕ = λ x. packed_of (key x) x in
     let P : List Delivery → Type 0 = λ xs. IsPermutation xs (map delivery_in words) in
     subst P (map-map pack delivery_in all ∙ map-same (λ x. delivery_in (pack x)) all (λ i x inside.
-    unpacked (key (get_or all i x)) k (get_or all i x) is.few_rings (all_in_range k edges copies is.few_copies is.within i x inside)))
+    unpacked (key (get_or all i x)) k (get_or all i x) is.few_rings
+    (all_in_range k edges copies is.few_copies is.within i x inside)))
     (IsPermutation-map delivery_in (map pack all) words is.moved)
 
 -- a list is sorted by an order on what a function gives, where the function's list is sorted
-sorted-map : {X Y : Type 0} (C : Y → Y → Ordering) (f : X → Y) (xs : List X) → IsSorted (λ a b. C (f a) (f b)) xs → IsSorted C (map f xs)
+sorted-map : {X Y : Type 0} (C : Y → Y → Ordering) (f : X → Y) (xs : List X) → IsSorted (λ a b. C (f a) (f b)) xs
+    → IsSorted C (map f xs)
 sorted-map C f [] up = λ k d low within. absurd (omega arith)
 sorted-map C f (x ∷ xs) up = λ k d low within.
     let long : length (map f (x ∷ xs)) ≡ length (x ∷ xs) = length-map (x ∷ xs) f in
@@ -102,29 +122,43 @@ sorted-map C f (x ∷ xs) up = λ k d low within.
 
 pub nat_cmp-greater : (a b : ℕ) → b < a → nat_cmp a b ≡ Greater
 nat_cmp-greater a b more =
-    ap (λ (t : Bool). cond t Less (cond (a == b) Equal Greater)) (le-ltb a b (omega arith)) ∙ ap (λ (t : Bool). cond t Equal Greater) (ne_eqb a b (λ e. omega arith))
+    ap (λ (t : Bool). cond t Less (cond (a == b) Equal Greater)) (le-ltb a b (omega arith))
+    ∙ ap (λ (t : Bool). cond t Equal Greater) (ne_eqb a b (λ e. omega arith))
 
 -- where the packed parts of the keys rise, the deliveries are sorted
-pub rising_sorted : (key : Delivery → ℕ) (k : ℕ) (edges : List Edge) (copies : ℕ) (words : List ℕ) → IsPacked key k edges copies words → IsRising words → IsSorted (compare_by key k) (map delivery_in words)
+pub rising_sorted : (key : Delivery → ℕ) (k : ℕ) (edges : List Edge) (copies : ℕ) (words : List ℕ)
+    → IsPacked key k edges copies words → ArePackedRising words → IsSorted (compare_by key k) (map delivery_in words)
 rising_sorted key k edges copies words is rises = sorted-map (compare_by key k) delivery_in words (λ i w low within.
     let v : ℕ = get_or words i w in
     let u : ℕ = get_or words (i + 1) w in
-    let own : v / 262144 ≡ key (delivery_in v) / 262144 = (all_own key k edges copies words is i w (omega arith)).high in
-    let next : u / 262144 ≡ key (delivery_in u) / 262144 = (all_own key k edges copies words is (i + 1) w within).high in
+    let own : v / 262144 ≡ key (delivery_in v) / 262144 = (all_own key k edges copies words is i w (omega arith)).high
+    in
+    let next : u / 262144 ≡ key (delivery_in u) / 262144 = (all_own key k edges copies words is (i + 1) w within).high
+    in
     let up : v / 262144 < u / 262144 = rises i w within in
     let x : Delivery = delivery_in u in
     let y : Delivery = delivery_in v in
-    ap (λ (r : Ordering). is_lt (ordering_then r (ordering_then (nat_cmp (edge_number k x.edge) (edge_number k y.edge)) (nat_cmp x.copy y.copy)))) (nat_cmp-greater (key (delivery_in u)) (key (delivery_in v)) (omega arith)))
+    ap (λ (r : Ordering). is_lt (ordering_then r (ordering_then (nat_cmp (edge_number k x.edge) (edge_number k y.edge))
+    (nat_cmp x.copy y.copy)))) (nat_cmp-greater (key (delivery_in u)) (key (delivery_in v)) (omega arith)))
 
 -- a packed delivery with what deliveries are ordered by
 abbrev pub keyed_by : (Delivery → ℕ) → ℕ → ℕ → Keyed
-keyed_by key k w = record { key = key (delivery_in w); number = edge_number k (delivery_in w).edge; copy = (delivery_in w).copy; packed = w }
+keyed_by key k w = record {
+  key = key (delivery_in w);
+  number = edge_number k (delivery_in w).edge;
+  copy =
+      (delivery_in w).copy;
+  packed = w;
+}
 
 -- in order of the whole keys they are sorted
-pub keyed_sorted : (key : Delivery → ℕ) (k : ℕ) (words : List ℕ) (keyed : List Keyed) → IsPermutation (map (keyed_by key k) words) keyed → IsSorted compare_keyed keyed → IsSorted (compare_by key k) (map delivery_in (map (λ x. x.packed) keyed))
+pub keyed_sorted : (key : Delivery → ℕ) (k : ℕ) (words : List ℕ) (keyed : List Keyed)
+    → IsPermutation (map (keyed_by key k) words) keyed → IsSorted compare_keyed keyed
+    → IsSorted (compare_by key k) (map delivery_in (map (λ x. x.packed) keyed))
 keyed_sorted key k words keyed moved up =
     let own : All (λ x. x ≡ keyed_by key k x.packed) keyed =
-    All-permutation (λ x. x ≡ keyed_by key k x.packed) (map (keyed_by key k) words) keyed moved (All-map (λ x. x ≡ keyed_by key k x.packed) (keyed_by key k) words (λ _ _ _. refl)) in
+    All-permutation (λ x. x ≡ keyed_by key k x.packed) (map (keyed_by key k) words) keyed moved
+    (All-map (λ x. x ≡ keyed_by key k x.packed) (keyed_by key k) words (λ _ _ _. refl)) in
     subst (IsSorted (compare_by key k)) (sym (map-map (λ x. x.packed) delivery_in keyed))
     (sorted-map (compare_by key k) (λ x. delivery_in x.packed) keyed (λ i x low within.
     ap (λ y. is_lt (compare_keyed y (keyed_by key k (get_or keyed i x).packed))) (sym (own (i + 1) x within))
@@ -132,15 +166,24 @@ keyed_sorted key k words keyed moved up =
     ∙ up i x low within))
 
 -- and are the same numbers
-pub keyed_packed : (key : Delivery → ℕ) (k : ℕ) (edges : List Edge) (copies : ℕ) (words : List ℕ) (keyed : List Keyed) → IsPacked key k edges copies words → IsPermutation (map (keyed_by key k) words) keyed → IsPacked key k edges copies (map (λ x. x.packed) keyed)
+pub keyed_packed : (key : Delivery → ℕ) (k : ℕ) (edges : List Edge) (copies : ℕ) (words : List ℕ) (keyed : List Keyed)
+    → IsPacked key k edges copies words → IsPermutation (map (keyed_by key k) words) keyed
+    → IsPacked key k edges copies (map (λ x. x.packed) keyed)
 keyed_packed key k edges copies words keyed is moved =
     let P : List ℕ → Type 0 = λ xs. IsPermutation xs (map (λ x. x.packed) keyed) in
     let same : IsPermutation words (map (λ x. x.packed) keyed) =
-    subst P (map-map (keyed_by key k) (λ x. x.packed) words ∙ map-same (λ w. w) words (λ _ _ _. refl)) (IsPermutation-map (λ x. x.packed) (map (keyed_by key k) words) keyed moved)
+    subst P (map-map (keyed_by key k) (λ x. x.packed) words ∙ map-same (λ w. w) words (λ _ _ _. refl))
+    (IsPermutation-map (λ x. x.packed) (map (keyed_by key k) words) keyed moved)
     in
-    record { moved = IsPermutation-trans _ _ _ is.moved same; few_rings = is.few_rings; few_copies = is.few_copies; within = is.within }
+    record {
+      moved = IsPermutation-trans _ _ _ is.moved same;
+      few_rings = is.few_rings;
+      few_copies = is.few_copies;
+      within = is.within;
+    }
 
 -- what a test of all neighbours says
-pub rising : (words : List ℕ) (r : Bool) → IsAllAdjacentAnswer (λ v w b. b ≡ nat_lt (v / 262144) (w / 262144)) words r → IsTrue r → IsRising words
+pub rising : (words : List ℕ) (r : Bool) → IsAllAdjacentAnswer (λ v w b. b ≡ nat_lt (v / 262144) (w / 262144)) words r
+    → IsTrue r → ArePackedRising words
 rising words true all passed = λ i w within. ltb-true _ _ (sym (all i w within))
 rising words false some passed = cc

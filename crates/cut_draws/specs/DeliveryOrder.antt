@@ -1,6 +1,7 @@
 -- The order in which the alerts of a trial come to a receiver. That it is random, and apart for each
 -- receiver, is the Rapid paper's; the keys are this project's profile.
-use Rattle.std.specs.Prelude.{◌≡◌, ℕ, ◌+◌, ◌*◌, ◌^◌, ◌&&◌, ◌==◌, List, [], ◌∷◌, map, length, slice_index_or, count_by, Bool, true, not, nat_lt, EachIndex, IsTrue}
+use Rattle.std.specs.Prelude.{◌≡◌, ℕ, ◌+◌, ◌*◌, ◌^◌, ◌&&◌, ◌==◌, List, [], ◌∷◌, map, length, slice_index_or, count_by}
+use Rattle.std.specs.Prelude.{Bool, true, not, nat_lt, EachIndex, IsTrue}
 use Rattle.std.specs.List.Sorted.{IsPermutation}
 use Rattle.std.specs.List.{range_with_len, flat_map, list_any}
 use Rattle.std.specs.declared.cmp.Ordering.{Ordering}
@@ -47,11 +48,13 @@ early d receiver k edges copies n ring subject =
     (all_deliveries edges copies)
 
 -- a list of all deliveries at a receiver, in the order in which they come
-pub record IsDeliveryOrder (d : Source) (receiver k : ℕ) (edges : List Edge) (copies : ℕ) (order : List Delivery) : Type 0 where
+pub record IsDeliveryOrder (d : Source) (receiver k : ℕ) (edges : List Edge) (copies : ℕ) (order : List Delivery) : Type
+    0 where
   -- it holds each delivery once
   pub each_once : IsPermutation (all_deliveries edges copies) order
   -- each stands at the number of those that come before it
-  pub ranks : EachIndex order (λ i. (x : Delivery) → delivery_rank d receiver k edges copies (slice_index_or order i x) ≡ i)
+  pub ranks : EachIndex order (λ i. (x : Delivery) → delivery_rank d receiver k edges copies (slice_index_or order i x)
+      ≡ i)
   -- what has come after n deliveries, as a set of edges
   pub prefixes : (n : ℕ) → first_of (map (λ x. x.edge) order) n ≡ early d receiver k edges copies n
   -- there are as many as copies of all edges

@@ -1,12 +1,14 @@
 -- Laws of the order in which the alerts of a trial come to a receiver: that there is one, how many deliveries it has,
--- when an edge comes first, and what the high bits of the keys tell of it.
-use Rattle.std.specs.Prelude.{◌≡◌, ℕ, ◌+◌, ◌*◌, ◌/◌, ◌^◌, ◌<◌, ◌≤◌, ◌↔◌, Bool, false, if◌then◌else◌, List, ◌∷◌, map, length, slice_index_or, count_by, fold, min, nat_lt, nat_le, IsTrue, Contains}
+-- when an edge comes first, and what the high bits of the keys say of it.
+use Rattle.std.specs.Prelude.{◌≡◌, ℕ, ◌+◌, ◌*◌, ◌/◌, ◌^◌, ◌<◌, ◌≤◌, ◌↔◌, Bool, false, if◌then◌else◌, List, ◌∷◌, map}
+use Rattle.std.specs.Prelude.{length, slice_index_or, count_by, fold, min, nat_lt, nat_le, IsTrue, Contains}
 use Rattle.std.specs.List.{range_with_len, sum_by}
 use Rattle.cut_rings.specs.declared.edge.Edge.{Edge}
 use Rattle.cut_rings.specs.Edges.{set_of}
 use Rattle.cut_draws.specs.declared.delivery.Delivery.{Delivery}
 use Rattle.cut_draws.specs.Source.{Source, key_at}
-use Rattle.cut_draws.specs.DeliveryOrder.{are_distinct, all_deliveries, delivery_place, delivery_rank, early, IsDeliveryOrder}
+use Rattle.cut_draws.specs.DeliveryOrder.{are_distinct, all_deliveries, delivery_place, delivery_rank, early}
+use Rattle.cut_draws.specs.DeliveryOrder.{IsDeliveryOrder}
 
 -- ---- the order
 
@@ -88,7 +90,7 @@ AllAreHeardOfInTheEnd =
     (d : Source) (receiver k : ℕ) (edges : List Edge) (copies ring subject : ℕ) → 1 ≤ copies →
     early d receiver k edges copies (copies * length edges) ring subject ≡ set_of edges ring subject
 
--- ---- what the high bits of keys tell
+-- ---- what the high bits of keys say
 
 -- the image of a delivery's key: its high 30 bits
 abbrev pub image_of : Source → ℕ → ℕ → Delivery → ℕ
@@ -132,8 +134,8 @@ abbrev pub image_at_time : Source → ℕ → ℕ → List Delivery → ℕ → 
 image_at_time d receiver k order last t = slice_index_or (0 ∷ map (λ x. image_of d receiver k x) order) t last
 
 -- every image is below `last`
-abbrev pub AreBelow : Source → ℕ → ℕ → ℕ → Type 0
-AreBelow d receiver k last = (x : Delivery) → image_of d receiver k x < last
+abbrev pub AreImagesBelow : Source → ℕ → ℕ → ℕ → Type 0
+AreImagesBelow d receiver k last = (x : Delivery) → image_of d receiver k x < last
 
 -- what a function gives of numbers rises, is below `last` before `end`, and is `last` from there on
 pub record RisesTo (end last : ℕ) (f : ℕ → ℕ) : Type 0 where
@@ -152,13 +154,13 @@ ImagesStandAtTheirTimes =
 abbrev pub ImagesRise : Type 0
 ImagesRise =
     (d : Source) (receiver k : ℕ) (edges : List Edge) (copies : ℕ) (order : List Delivery) (last : ℕ) →
-    IsDeliveryOrder d receiver k edges copies order → AreBelow d receiver k last →
+    IsDeliveryOrder d receiver k edges copies order → AreImagesBelow d receiver k last →
     RisesTo (copies * length edges + 1) last (image_at_time d receiver k order last)
 
 -- so the least image of an edge's copies is the one at the edge's first time
 abbrev pub LeastImageIsTheFirst : Type 0
 LeastImageIsTheFirst =
     (d : Source) (receiver k : ℕ) (edges : List Edge) (copies : ℕ) (order : List Delivery) (last ring subject : ℕ) →
-    IsDeliveryOrder d receiver k edges copies order → AreBelow d receiver k last →
+    IsDeliveryOrder d receiver k edges copies order → AreImagesBelow d receiver k last →
     least_image d receiver k edges copies last ring subject
     ≡ image_at_time d receiver k order last (first_time d receiver k edges copies ring subject)

@@ -22,8 +22,8 @@ abbrev pub packed_at : Source → ℕ → ℕ → Delivery → ℕ
 packed_at d receiver k x = packed_of (key_at d (delivery_place receiver k x)) x
 
 -- the part of each key that is packed is less than the next
-abbrev pub IsRising : List ℕ → Type 0
-IsRising ws = AllAdjacentBelow (λ v w. v / 262144 < w / 262144) ws (length ws)
+abbrev pub ArePackedRising : List ℕ → Type 0
+ArePackedRising ws = AllAdjacentBelow (λ v w. v / 262144 < w / 262144) ws (length ws)
 
 -- a packed delivery with what deliveries are ordered by
 abbrev pub keyed_at : Source → ℕ → ℕ → ℕ → Keyed

@@ -1,6 +1,8 @@
-ghost use Rattle.std.specs.Prelude.{◌≡◌, [], ◌++◌, ◌<◌, ◌≤◌, ◌^◌, length, map, slice_get, IfOk, OnOk, OnErr, IsTrue, Some, All};
+ghost use Rattle.std.specs.Prelude.{◌≡◌, [], ◌++◌, ◌<◌, ◌≤◌, ◌^◌, length, map, slice_get, IfOk, OnOk, OnErr, IsTrue};
+ghost use Rattle.std.specs.Prelude.{Some, All};
 ghost use Rattle.cut_rings.specs.Edges.{is_edge_of, are_edges_of};
-ghost use Rattle.cut_draws.specs.DeliveryOrder.{all_deliveries, copies_of, are_distinct, delivery_place, IsDeliveryOrder};
+ghost use Rattle.cut_draws.specs.DeliveryOrder.{all_deliveries, copies_of, are_distinct, delivery_place};
+ghost use Rattle.cut_draws.specs.DeliveryOrder.{IsDeliveryOrder};
 ghost use Rattle.cut_draws.specs.Packed.{delivery_in, packed_at, keyed_at};
 
 use crate::packed::{Keyed, deliveries_in, delivery_in, keys_rise, packed, repack, sort_keyed};
@@ -102,7 +104,7 @@ impl Arrivals<'_> {
 impl Draws {
     /// All deliveries of the given edges at a receiver, in the order in which they come: ascending by
     /// key, edge number and copy. That the order is random and apart for each receiver is the Rapid
-    /// paper's, the keys are this project's profile. Fails only for want of memory.
+    /// paper's, the keys are this project's profile. Fails only where memory runs out.
     pub fn deliveries(
         &mut self,
         alloc: Global,
@@ -126,8 +128,8 @@ impl Draws {
     }
 
     /// Puts all deliveries of the given edges at a receiver into an order that may have been used
-    /// before, as `deliveries` gives them, in the memory that the order has. Fails only for want of
-    /// memory, and the order is empty then.
+    /// before, as `deliveries` gives them, in the memory that the order has. Fails only where memory runs
+    /// out, and the order is empty then.
     pub fn order_deliveries(
         &mut self,
         order: &mut DeliveryOrder,

@@ -41,7 +41,7 @@ pub fn edges_come_at_their_first_time()
     ensures all { AllAreHeardOfInTheEnd }
 {}
 
-/// Where the high bits of two deliveries' keys differ they tell which comes first: the deliveries of images up to a
+/// Where the high bits of two deliveries' keys differ they decide which comes first: the deliveries of images up to a
 /// number come before all others, and after them a receiver has heard of the edges whose least image is at most that
 /// number.
 pub fn lesser_images_come_before()

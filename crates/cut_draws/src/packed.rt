@@ -1,14 +1,14 @@
 ghost use Rattle.std.specs.Prelude.{◌≡◌, ◌<◌, map, IfOk, OnOk, IsTrue};
 ghost use Rattle.std.specs.List.Sorted.{IsPermutation, IsSorted};
-ghost use Rattle.cut_draws.specs.Packed.{packed_of, delivery_in, compare_keyed, IsRising};
+ghost use Rattle.cut_draws.specs.Packed.{packed_of, delivery_in, compare_keyed, ArePackedRising};
 
 use crate::Delivery;
 use cut_rings::Edge;
 use std::alloc::{AllocError, Global};
 
-/// How many numbers the bits below those of a key tell apart.
+/// How many numbers the bits below those of a key distinguish.
 const DELIVERIES: u64 = 262_144;
-/// How many numbers the bits below those of a copy tell apart.
+/// How many numbers the bits below those of a copy distinguish.
 const EDGES: u64 = 65_536;
 /// How many processes an edge may have as its subject.
 const SUBJECTS: u64 = 2048;
@@ -56,7 +56,7 @@ pub(crate) fn deliveries_in(alloc: Global, packed: &[u64]) -> Result<Vec<Deliver
 /// Whether the part of each key that is packed is less than the next. Where such parts tie, the order
 /// is that of the whole keys.
 pub(crate) fn keys_rise(packed: &[u64]) -> bool
-    ensures { IsTrue result → IsRising packed.now }
+    ensures { IsTrue result → ArePackedRising packed.now }
 {
     packed.is_sorted_by(|x, y| x / DELIVERIES < y / DELIVERIES)
 }

@@ -61,7 +61,7 @@ impl ProcessOrder {
 
 impl Draws {
     /// The processes 0 to n - 1 in ascending order of key and number (this project's profile). Fails
-    /// only for want of memory.
+    /// only where memory runs out.
     pub fn process_order(&mut self, alloc: Global, n: u16) -> Result<Vec<u16>, AllocError>
         ensures order { IfOk result (λ order. IsProcessOrder self.old n order.items) }
         ensures same { self.new ≡ self.old }
@@ -72,7 +72,7 @@ impl Draws {
     }
 
     /// Puts the processes 0 to n - 1 into an order that may have been used before, as `process_order`
-    /// gives them, in the memory that the order has. Fails only for want of memory, and the order is
+    /// gives them, in the memory that the order has. Fails only where memory runs out, and the order is
     /// empty then.
     pub fn order_processes(&mut self, order: &mut ProcessOrder, n: u16) -> Result<(), AllocError>
         ensures order { OnOk result (IsProcessOrder self.old n order.new) }

@@ -1,7 +1,15 @@
 -- What a fault's number names.
 use Rattle.std.proofs.Common.{◌≡◌, Some, refl, sym, ap, ◌∙◌}
 use Rattle.cut_faults.specs.declared.code.FaultCode.{FaultCode}
-use Rattle.cut_faults.specs.declared.code.FaultCode.TheVariants.{Memory, NotJson, NotObject, UnknownField, MissingField, WrongKind, OutOfRange, NotRising, NoCell, TooManyFaults, TooManyTrials, NotPermutation, TooFew, BadRole, BadPiece, Stranger, Overlap, BadSlip, NotDone, PlanTooLong, Disk, Broken, NoStudy, OtherPlan, Damaged, Held, NoSlot, SeatFull, SeatMissing, SlotsFull, Checkpoint, Write, WorkMemory, AuditMismatch, Stopped, BadKind, TooLong, Truncated, Read, TooManyRequests, BadLength, Disagrees, NotVersion1}
+use Rattle.cut_faults.specs.declared.code.FaultCode.TheVariants.{Memory, NotJson, NotObject, UnknownField, MissingField}
+use Rattle.cut_faults.specs.declared.code.FaultCode.TheVariants.{WrongKind, OutOfRange, NotRising, NoCell}
+use Rattle.cut_faults.specs.declared.code.FaultCode.TheVariants.{TooManyFaults, TooManyTrials, NotPermutation, TooFew}
+use Rattle.cut_faults.specs.declared.code.FaultCode.TheVariants.{BadRole, BadPiece, Stranger, Overlap, BadSlip, NotDone}
+use Rattle.cut_faults.specs.declared.code.FaultCode.TheVariants.{PlanTooLong, Disk, Broken, NoStudy, OtherPlan, Damaged}
+use Rattle.cut_faults.specs.declared.code.FaultCode.TheVariants.{Held, NoSlot, SeatFull, SeatMissing, SlotsFull}
+use Rattle.cut_faults.specs.declared.code.FaultCode.TheVariants.{Checkpoint, Write, WorkMemory, AuditMismatch, Stopped}
+use Rattle.cut_faults.specs.declared.code.FaultCode.TheVariants.{BadKind, TooLong, Truncated, Read, TooManyRequests}
+use Rattle.cut_faults.specs.declared.code.FaultCode.TheVariants.{BadLength, Disagrees, NotVersion1}
 use Rattle.cut_faults.specs.Codes.{all_codes, number_of, code_numbered}
 
 -- a fault is found by its number

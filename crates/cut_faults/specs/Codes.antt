@@ -3,7 +3,15 @@ use Rattle.std.specs.Prelude.{ℕ, ◌==◌, ◌++◌, List, [], ◌∷◌, code
 use Rattle.std.specs.List.{find}
 use Rattle.std.specs.Fmt.{decimal}
 use Rattle.cut_faults.specs.declared.code.FaultCode.{FaultCode}
-use Rattle.cut_faults.specs.declared.code.FaultCode.TheVariants.{Memory, NotJson, NotObject, UnknownField, MissingField, WrongKind, OutOfRange, NotRising, NoCell, TooManyFaults, TooManyTrials, NotPermutation, TooFew, BadRole, BadPiece, Stranger, Overlap, BadSlip, NotDone, PlanTooLong, Disk, Broken, NoStudy, OtherPlan, Damaged, Held, NoSlot, SeatFull, SeatMissing, SlotsFull, Checkpoint, Write, WorkMemory, AuditMismatch, Stopped, BadKind, TooLong, Truncated, Read, TooManyRequests, BadLength, Disagrees, NotVersion1}
+use Rattle.cut_faults.specs.declared.code.FaultCode.TheVariants.{Memory, NotJson, NotObject, UnknownField, MissingField}
+use Rattle.cut_faults.specs.declared.code.FaultCode.TheVariants.{WrongKind, OutOfRange, NotRising, NoCell}
+use Rattle.cut_faults.specs.declared.code.FaultCode.TheVariants.{TooManyFaults, TooManyTrials, NotPermutation, TooFew}
+use Rattle.cut_faults.specs.declared.code.FaultCode.TheVariants.{BadRole, BadPiece, Stranger, Overlap, BadSlip, NotDone}
+use Rattle.cut_faults.specs.declared.code.FaultCode.TheVariants.{PlanTooLong, Disk, Broken, NoStudy, OtherPlan, Damaged}
+use Rattle.cut_faults.specs.declared.code.FaultCode.TheVariants.{Held, NoSlot, SeatFull, SeatMissing, SlotsFull}
+use Rattle.cut_faults.specs.declared.code.FaultCode.TheVariants.{Checkpoint, Write, WorkMemory, AuditMismatch, Stopped}
+use Rattle.cut_faults.specs.declared.code.FaultCode.TheVariants.{BadKind, TooLong, Truncated, Read, TooManyRequests}
+use Rattle.cut_faults.specs.declared.code.FaultCode.TheVariants.{BadLength, Disagrees, NotVersion1}
 
 -- the number of a fault
 abbrev pub number_of : FaultCode → ℕ
@@ -51,7 +59,7 @@ number_of BadLength = 45
 number_of Disagrees = 46
 number_of NotVersion1 = 47
 
--- its name; two faults, of a call and of a running study, are both want of memory
+-- its name; two faults, of a call and of a running study, both say that memory ran out
 abbrev pub name_of : FaultCode → List ℕ
 name_of Memory = codes "Memory"
 name_of NotJson = codes "NotJson"
@@ -98,7 +106,7 @@ name_of Disagrees = codes "Disagrees"
 name_of NotVersion1 = codes "NotVersion1"
 
 -- the status with which a command ends that it ended: 3 where a plan was refused, 5 where memory was
--- wanting, and 4 at any other
+-- out, and 4 at any other
 abbrev pub status_of : FaultCode → ℕ
 status_of Memory = 5
 status_of NotJson = 3
@@ -146,7 +154,11 @@ status_of NotVersion1 = 3
 
 -- every fault, by number
 unfoldable pub all_codes : List FaultCode
-all_codes = Memory ∷ NotJson ∷ NotObject ∷ UnknownField ∷ MissingField ∷ WrongKind ∷ OutOfRange ∷ NotRising ∷ NoCell ∷ TooManyFaults ∷ TooManyTrials ∷ NotPermutation ∷ TooFew ∷ BadRole ∷ BadPiece ∷ Stranger ∷ Overlap ∷ BadSlip ∷ NotDone ∷ PlanTooLong ∷ Disk ∷ Broken ∷ NoStudy ∷ OtherPlan ∷ Damaged ∷ Held ∷ NoSlot ∷ SeatFull ∷ SeatMissing ∷ SlotsFull ∷ Checkpoint ∷ Write ∷ WorkMemory ∷ AuditMismatch ∷ Stopped ∷ BadKind ∷ TooLong ∷ Truncated ∷ Read ∷ TooManyRequests ∷ BadLength ∷ Disagrees ∷ NotVersion1 ∷ []
+all_codes = Memory ∷ NotJson ∷ NotObject ∷ UnknownField ∷ MissingField ∷ WrongKind ∷ OutOfRange ∷ NotRising ∷ NoCell
+    ∷ TooManyFaults ∷ TooManyTrials ∷ NotPermutation ∷ TooFew ∷ BadRole ∷ BadPiece ∷ Stranger ∷ Overlap ∷ BadSlip
+    ∷ NotDone ∷ PlanTooLong ∷ Disk ∷ Broken ∷ NoStudy ∷ OtherPlan ∷ Damaged ∷ Held ∷ NoSlot ∷ SeatFull ∷ SeatMissing
+    ∷ SlotsFull ∷ Checkpoint ∷ Write ∷ WorkMemory ∷ AuditMismatch ∷ Stopped ∷ BadKind ∷ TooLong ∷ Truncated ∷ Read
+    ∷ TooManyRequests ∷ BadLength ∷ Disagrees ∷ NotVersion1 ∷ []
 
 -- the fault with a number
 abbrev pub code_numbered : ℕ → Option FaultCode
@@ -178,6 +190,6 @@ text_with number name = decimal number ++ 32 ∷ name
 abbrev pub code_text : FaultCode → List ℕ
 code_text code = text_with (number_of code) (name_of code)
 
--- the same with what the fault carries behind it, after a blank
+-- the same followed by what the fault carries, after a blank
 abbrev pub text_carrying : FaultCode → List ℕ → List ℕ
 text_carrying code carried = code_text code ++ 32 ∷ carried

@@ -1,5 +1,6 @@
 ghost use Rattle.std.specs.Prelude.{◌≡◌, ◌≤◌, length};
-ghost use Rattle.cut_faults.specs.Codes.{all_codes, number_of, name_of, status_of, code_numbered, name_numbered, status_numbered};
+ghost use Rattle.cut_faults.specs.Codes.{all_codes, number_of, name_of, status_of, code_numbered, name_numbered};
+ghost use Rattle.cut_faults.specs.Codes.{status_numbered};
 
 use std::fmt;
 
@@ -200,7 +201,7 @@ impl FaultCode {
     }
 
     /// The status with which a command ends that this fault ended: 3 where a plan was refused, 5 where
-    /// memory was wanting, and 4 at any other.
+    /// memory ran out, and 4 at any other.
     pub fn status(self) -> u8
         ensures { result ≡ status_of self }
     {

@@ -1,4 +1,4 @@
--- What a board tells of a study at its end.
+-- What a board reports of a study at its end.
 use Rattle.std.proofs.Common.{◌≡◌, ℕ, ◌<◌, ◌∙◌, List, length, Some, ap, arith, zero-add}
 use Rattle.std.specs.Prelude.{slice_get, option_map}
 use Rattle.std.specs.List.{range_with_len}
@@ -7,7 +7,8 @@ use Rattle.std.proofs.lemmas.List.FromFn.{get_or-range_with_len, length-range_wi
 use Rattle.cut_board.specs.declared.view.View.{View}
 use Rattle.cut_board.specs.Totals.{total_of, totals_of}
 
-pub total_at : (n : ℕ) (views : List View) (study : ℕ) → study < n → slice_get (totals_of n views) study ≡ Some (total_of views study)
+pub total_at : (n : ℕ) (views : List View) (study : ℕ) → study < n → slice_get (totals_of n views) study
+    ≡ Some (total_of views study)
 total_at n views study low =
     slice_get-map (total_of views) (range_with_len 0 n) study
     ∙ ap (λ o. option_map (total_of views) o)

@@ -16,14 +16,14 @@ use Rattle.cut_board.specs.contracts.board.Board as board
 use Rattle.cut_board.proofs.board.Board.TheSendSync as board_crosses
 use Rattle.cut_journal.proofs.journal.Journal.TheSendSync as journal_crosses
 use Rattle.cut_hall.proofs.accounts.Accounts.TheSendSync as accounts_crosses
-use Rattle.cut_hall.specs.declared.tally.Tally as tally
+use Rattle.cut_hall.specs.declared.call_ledger.CallLedger as tally
 use Rattle.cut_book.specs.contracts.history.History as history
 use Rattle.cut_book.specs.contracts.book.Book as book
 use Rattle.cut_hall.specs.contracts.slot.Slot as slot
 use Rattle.cut_hall.specs.contracts.accounts.Accounts as accounts
-use Rattle.cut_hall.specs.contracts.work.Bench as bench
-use Rattle.cut_hall.specs.contracts.work.SharedBench as shared
-use Rattle.cut_hall.specs.contracts.hall.Place as place
+use Rattle.cut_hall.specs.contracts.work.StudyInput as input
+use Rattle.cut_hall.specs.contracts.work.SharedInput as shared
+use Rattle.cut_hall.specs.contracts.hall.LockedSlot as place
 use Rattle.cut_hall.specs.contracts.hall.Hall as hall
 use Rattle.cut_hall.specs.contracts.hall.Hall.TheInside as inside
 
@@ -39,14 +39,14 @@ rings_send = search (sendable, crosses) depth 100
 pub rings_sync : IsSync rings.the_row
 rings_sync = search (sendable, crosses) depth 100
 
-pub bench_send : IsSend bench.the_row
-bench_send = search (sendable, crosses, plan_send, rings_send) depth 100
+pub input_send : IsSend input.the_row
+input_send = search (sendable, crosses, plan_send, rings_send) depth 100
 
-pub bench_sync : IsSync bench.the_row
-bench_sync = search (sendable, crosses, plan_sync, rings_sync) depth 100
+pub input_sync : IsSync input.the_row
+input_sync = search (sendable, crosses, plan_sync, rings_sync) depth 100
 
 pub shared_sync : IsSync (shared.the_field).row
-shared_sync = search (sendable, crosses, once_crosses.the_sync, bench_send, bench_sync) depth 100
+shared_sync = search (sendable, crosses, once_crosses.the_sync, input_send, input_sync) depth 100
 
 pub ledger_send : IsSend ledger.the_row
 ledger_send = search (sendable, crosses, plan_send) depth 100
@@ -80,8 +80,13 @@ module _ (D M K : RattleType) (gD : disk.Ghosts D.Denot) (tM : tally.Ghosts M.De
   fields_sync : IsSync (inside.the_row D M K gD tM tK lM lK)
   fields_sync =
       let T = inside.the_type D M K gD tM tK lM lK in
-      recorded_sync (Struct (shape T)) T.D T.to T.to_one (struct_sync (shape T)
-      (board_crosses.the_field_sync, (search (crosses, place_sync), (search (crosses, accounts_send), (search sendable, (search sendable, tt))))))
+      recorded_sync (Struct (shape T)) T.D T.to T.to_one (struct_sync (shape T) (
+        board_crosses.the_field_sync,
+        (
+          search (crosses, place_sync),
+          (search (crosses, accounts_send), (search sendable, (search sendable, tt))),
+        ),
+      ))
 
   pub hall_sync : IsSync (hall.the_row D M K gD tM tK lM lK)
   hall_sync = view_sync _ _ _ _ _ fields_sync

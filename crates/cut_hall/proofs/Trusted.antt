@@ -1,33 +1,54 @@
 -- What a study begins with.
-use Rattle.std.proofs.Common.{◌≡◌, ◌∙◌, ℕ, Bool, true, List, [], Option, Some, None, refl, sym, ap, subst, take, length, arith}
-use Rattle.std.specs.Prelude.{is_some, if◌then◌else◌}
+use Rattle.std.proofs.Common.{◌≡◌, ◌∙◌, ℕ, Bool, true, List, [], Option, Some, None, refl, sym, ap, subst, take, length}
+use Rattle.std.proofs.Common.{arith}
+use Rattle.std.specs.Prelude.{is_some, if◌then◌else◌, IfSome}
 use Rattle.std.proofs.lemmas.List.{take_all}
 use Rattle.cut_plan.specs.Values.{Values}
 use Rattle.cut_ledger.specs.declared.slip.Slip.{Slip}
 use Rattle.cut_ledger.specs.Slips.{AreGood}
 use Rattle.cut_ledger.specs.World.{AreTrue}
-use Rattle.cut_ledger.specs.Machine.{State}
-use Rattle.cut_book.specs.Book.{Progress, IsFresh}
-use Rattle.cut_hall.specs.Slot.{base_of, kept_of, unkept_of}
+use Rattle.cut_ledger.specs.Machine.{StudyState}
+use Rattle.cut_book.specs.Book.{BookValue, IsFresh}
+use Rattle.cut_hall.specs.Slot.{calls_in, base_of, kept_of, unkept_of}
 use Rattle.cut_hall.specs.Trust.{MayBegin}
 
-pub may_begin : (trusts : Bool) (v u : Values) (base : List Slip) → u ≡ v → AreGood v base → (trusts ≡ true → AreTrue v base) → MayBegin trusts u base
-may_begin trusts v u base same good so = subst (λ (w : Values). MayBegin trusts w base) (sym same) (record { good = good; true_if = so })
+pub may_begin : (trusts : Bool) (v u : Values) (base : List Slip) → u ≡ v → AreGood v base
+    → (trusts ≡ true → AreTrue v base) → MayBegin trusts u base
+may_begin trusts v u base same good so = subst (λ (w : Values). MayBegin trusts w base) (sym same)
+    (record { good = good; true_if = so })
 
 -- ---- a slot in which nothing was asked yet
 
-none_unkept : {A D : Type 0} (journal : Option D) (has : Bool) (base : List A) → has ≡ is_some journal → (journal ≡ None → base ≡ [])
+none_unkept : {A D : Type 0} (journal : Option D) (has : Bool) (base : List A) → has ≡ is_some journal
+    → (journal ≡ None → base ≡ [])
     → (if has then [] else base) ≡ []
 none_unkept None has base same none = rw same (none refl)
 none_unkept (Some log) has base same none = rw same refl
 
 -- of a fresh study the slips that it began with are kept, where any are
-pub fresh_unkept : {D : Type 0} (v : Values) (size : ℕ) (b : Progress D) → IsFresh v size b → unkept_of (Some b) ≡ []
+pub fresh_unkept : {D : Type 0} (v : Values) (size : ℕ) (b : BookValue D) → IsFresh v size b → unkept_of (Some b) ≡ []
 fresh_unkept v size b fresh =
-    none_unkept b.journal b.state.has_journal b.state.ledger.base (ap (λ (s : State). s.has_journal) fresh.state) fresh.unkept
+    none_unkept b.journal b.state.has_journal b.state.ledger.base (ap (λ (s : StudyState). s.has_journal) fresh.state)
+    fresh.unkept
 
-pub fresh_first : {D : Type 0} (v : Values) (size : ℕ) (b : Progress D) → IsFresh v size b
+pub fresh_first : {D : Type 0} (v : Values) (size : ℕ) (b : BookValue D) → IsFresh v size b
     → take (length (base_of (Some b))) (kept_of (Some b)) ≡ base_of (Some b)
 fresh_first v size b fresh =
     let base : List Slip = b.state.ledger.base in
-    ap (λ (s : State). take (length base) s.kept) fresh.state ∙ take_all (length base) base (omega arith)
+    ap (λ (s : StudyState). take (length base) s.kept) fresh.state ∙ take_all (length base) base (omega arith)
+
+module _ {D : Type 0} where
+  pub slot_unkept : (book : Option (BookValue D)) → IfSome book (λ b. IsFresh b.state.ledger.plan b.size b)
+      → unkept_of book ≡ []
+  slot_unkept None fresh = refl
+  slot_unkept (Some b) fresh = fresh_unkept b.state.ledger.plan b.size b fresh
+
+  pub slot_first : (book : Option (BookValue D)) → IfSome book (λ b. IsFresh b.state.ledger.plan b.size b)
+      → take (length (base_of book)) (kept_of book) ≡ base_of book
+  slot_first None fresh = refl
+  slot_first (Some b) fresh = fresh_first b.state.ledger.plan b.size b fresh
+
+  pub slot_calls : (book : Option (BookValue D)) → IfSome book (λ b. IsFresh b.state.ledger.plan b.size b)
+      → calls_in book ≡ 0
+  slot_calls None fresh = refl
+  slot_calls (Some b) fresh = ap length fresh.calls

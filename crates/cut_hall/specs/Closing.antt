@@ -8,7 +8,7 @@ use Rattle.cut_hall.specs.declared.not_closed.NotClosed.TheVariants.{Memory, Aud
 use Rattle.cut_hall.specs.Pass.{Holding}
 use Rattle.cut_hall.specs.Report.{AcceptedOther, calls_in_all, made_in_all, counted_in_all}
 
--- why a hall of so many slots and passes was not closed, to which these were brought: some are missing, and
+-- why a hall of this many slots and passes was not closed, to which these were brought: some are missing, and
 -- what was brought comes back; or of the study of one of its slots the passes counted another number than its
 -- history accepted, by the report of all slots, whose calls are as many as the passes made; or memory ran out
 abbrev pub IsNotClosed : {T : Type 0} → (T → Type 0) → ℕ → ℕ → List Holding → NotClosed T → Type 0

@@ -5,12 +5,12 @@ use Rattle.cut_hall.specs.Pass.{Holding}
 
 -- which hall it is, by its board; how many slots it has, and how many passes; and whether the slips that its
 -- studies begin with are those that their trials give
-pub record Rooms : Type 0 where
+pub record HallValue : Type 0 where
   pub id : TableId
   pub slots : ℕ
   pub passes : ℕ
   pub is_trusted : Bool
 
--- a pass whose holder made so many calls more
+-- a pass whose holder made this many calls more
 abbrev pub made_more : Holding → ℕ → Holding
 made_more p n = record p { made = p.made + n }

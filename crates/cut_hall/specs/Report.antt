@@ -1,38 +1,39 @@
--- What a hall tells at its end.
+-- What a hall reports at its end.
 use Rattle.std.specs.Prelude.{◌≡◌, ◌≢◌, ℕ, Bool, false, List, length, map, sum_by, Option, Some, None, slice_get}
 use Rattle.cut_board.specs.Views.{counted_by}
 use Rattle.cut_ledger.specs.Contents.{is_complete}
-use Rattle.cut_ledger.specs.Machine.{State}
-use Rattle.cut_book.specs.History.{Course, opened_by, LeadsTo, accepted_in}
+use Rattle.cut_ledger.specs.Machine.{StudyState}
+use Rattle.cut_book.specs.History.{HistoryValue, opened_by, LeadsTo, accepted_in}
 use Rattle.cut_hall.specs.Pass.{Holding}
 
 -- ---- a slot
 
 -- the history of its study, if it had one, and whether every trial of it was held at the end
 pub record SlotEnd : Type 0 where
-  pub history : Option Course
+  pub history : Option HistoryValue
   pub complete : Bool
 
 -- the history leads to a state in which every trial is held, or not; a slot without a study is not complete
-abbrev pub EndsAs : Option Course → Bool → Type 0
-EndsAs None complete = complete ≡ false
-EndsAs (Some h) complete = (t : State) × (LeadsTo (opened_by h.opening) h.calls t × (complete ≡ is_complete t.ledger))
+abbrev pub IsEndOf : Option HistoryValue → Bool → Type 0
+IsEndOf None complete = complete ≡ false
+IsEndOf (Some h) complete = (t : StudyState) × (LeadsTo (opened_by h.opening) h.calls t
+    × (complete ≡ is_complete t.ledger))
 
 -- how many calls the study had
-abbrev pub calls_told : Option Course → ℕ
-calls_told None = 0
-calls_told (Some h) = length h.calls
+abbrev pub calls_recorded : Option HistoryValue → ℕ
+calls_recorded None = 0
+calls_recorded (Some h) = length h.calls
 
 -- how many trials it accepted
-abbrev pub accepted_told : Option Course → ℕ
-accepted_told None = 0
-accepted_told (Some h) = accepted_in h.calls
+abbrev pub accepted_recorded : Option HistoryValue → ℕ
+accepted_recorded None = 0
+accepted_recorded (Some h) = accepted_in h.calls
 
 -- ---- all slots
 
 -- how many calls the studies had together, and how many the passes made together
 abbrev pub calls_in_all : List SlotEnd → ℕ
-calls_in_all slots = sum_by (λ s. calls_told s.history) slots
+calls_in_all slots = sum_by (λ s. calls_recorded s.history) slots
 
 abbrev pub made_in_all : List Holding → ℕ
 made_in_all passes = sum_by (λ p. p.made) passes
@@ -44,10 +45,10 @@ counted_in_all study passes = counted_by study (map (λ p. p.view) passes)
 -- the study of a slot accepted another number of trials than this
 abbrev pub AcceptedOther : List SlotEnd → ℕ → ℕ → Type 0
 AcceptedOther slots study counted =
-    (s : SlotEnd) → slice_get slots study ≡ Some s → counted ≢ accepted_told s.history
+    (s : SlotEnd) → slice_get slots study ≡ Some s → counted ≢ accepted_recorded s.history
 
 -- of every slot, what the passes counted is what its study accepted
 abbrev pub IsAudited : List SlotEnd → List Holding → Type 0
 IsAudited slots passes =
     (study : ℕ) (s : SlotEnd) → slice_get slots study ≡ Some s
-    → counted_in_all study passes ≡ accepted_told s.history
+    → counted_in_all study passes ≡ accepted_recorded s.history

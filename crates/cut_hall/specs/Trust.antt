@@ -16,7 +16,8 @@ pub record MayBegin (is_trusted : Bool) (v : Values) (base : List Slip) : Type 0
   pub true_if : is_trusted ≡ true → AreTrue v base
 
 -- what is settled is so in one way at most
-pub IsSettledBy-prop : (version : Version) (proposing deliveries settled : ℕ) → IsProp (IsSettledBy version proposing deliveries settled)
+pub IsSettledBy-prop : (version : Version) (proposing deliveries settled : ℕ)
+    → IsProp (IsSettledBy version proposing deliveries settled)
 IsSettledBy-prop One proposing deliveries settled = search props
 IsSettledBy-prop Two proposing deliveries settled = ×_prop (search props) (search props)
 

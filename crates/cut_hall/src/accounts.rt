@@ -1,6 +1,6 @@
 ghost use Rattle.std.specs.Prelude.{◌≡◌, ◌==◌, ◌+◌, ◌-◌, ◌^◌, ◌<◌, ◌≤◌, MatchResult};
 
-use crate::Tally;
+use crate::CallLedger;
 use std::sync::ledger::{Blank, Book, Share};
 
 /// Both ledgers have counted 2^64 - 1 calls, and count no more.
@@ -10,7 +10,7 @@ pub(crate) struct Full;
 /// How many calls were made of all books of a hall: as the passes have them, which made them, and as the slots
 /// have them, which keep them. Both are one number.
 #[derive(Drop)]
-pub(crate) struct Accounts<M: Tally, K: Tally> {
+pub(crate) struct Accounts<M: CallLedger, K: CallLedger> {
     count: u64,
     made: Book<M>,
     kept: Book<K>,
@@ -18,7 +18,7 @@ pub(crate) struct Accounts<M: Tally, K: Tally> {
     ghost kept_is: { kept.total ≡ count },
 }
 
-impl<M: Tally, K: Tally> Accounts<M, K> {
+impl<M: CallLedger, K: CallLedger> Accounts<M, K> {
     /// No calls yet, with a share that has all parts of the one ledger, and one that has all of the other.
     pub(crate) fn open(made: Blank, kept: Blank) -> (Accounts<M, K>, Share<M>, Share<K>)
         requires made { (made.name ≡ M.name) × (made.parts ≡ M.parts) }

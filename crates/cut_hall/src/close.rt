@@ -1,11 +1,13 @@
-ghost use Rattle.std.specs.Prelude.{ℕ, ◌≡◌, ◌≢◌, ◌<◌, ◌≤◌, true, false, Some, length, vec_len, slice_get, All, IfOk, IfErr, OnOk};
+ghost use Rattle.std.specs.Prelude.{ℕ, ◌≡◌, ◌≢◌, ◌<◌, ◌≤◌, true, false, Some, length, vec_len, slice_get, All, IfOk};
+ghost use Rattle.std.specs.Prelude.{IfErr, OnOk};
 ghost use Rattle.cut_board.specs.Names.{board_id, board_of};
 ghost use Rattle.cut_board.specs.declared.totals.StudyTotals.{StudyTotals};
-ghost use Rattle.cut_hall.specs.Report.{SlotEnd, calls_told, calls_in_all, made_in_all, accepted_told, IsAudited};
+ghost use Rattle.cut_hall.specs.Report.{SlotEnd, calls_recorded, calls_in_all, made_in_all, accepted_recorded};
+ghost use Rattle.cut_hall.specs.Report.{IsAudited};
 ghost use Rattle.cut_hall.specs.Closing.{IsNotClosed, IsTakenApart};
 
-use crate::hall::Place;
-use crate::{Hall, Mismatch, NotClosed, Pass, Report, SlotReport, Tally};
+use crate::hall::LockedSlot;
+use crate::{CallLedger, Hall, Mismatch, NotClosed, Pass, Report, SlotReport};
 use cut_board::{Board, BoardTotals, Seat};
 use cut_disks::Disk;
 use std::alloc::{AllocError, Global};
@@ -13,20 +15,20 @@ use std::sync::ledger::Share;
 
 /// The seats of passes, and the share of the calls that all of them made.
 #[derive(Drop)]
-struct Parts<M: Tally> {
+struct Parts<M: CallLedger> {
     seats: Vec<Seat>,
     made: Share<M>,
 }
 
 /// What became of the slots, and the share of the calls that all of them had.
 #[derive(Drop)]
-struct Ends<K: Tally> {
+struct EndedSlots<K: CallLedger> {
     slots: Vec<SlotReport>,
     kept: Share<K>,
 }
 
-impl<D: Disk + Drop, M: Tally, K: Tally> Hall<D, M, K> {
-    /// Ends the hall, which takes all its passes, and tells what became of each slot. The calls that the
+impl<D: Disk + Drop, M: CallLedger, K: CallLedger> Hall<D, M, K> {
+    /// Ends the hall, which takes all its passes, and reports what became of each slot. The calls that the
     /// slots' histories have together are as many as the passes made together, and what the passes counted of
     /// a study is what its history accepted; where these differ, that is reported, with what became of all slots.
     /// Where passes are missing, the hall and these passes come back as they were; where it is refused otherwise,
@@ -66,7 +68,7 @@ impl<D: Disk + Drop, M: Tally, K: Tally> Hall<D, M, K> {
         let Ok(ends) = end_all(alloc, places) else {
             return Err(NotClosed::Memory);
         };
-        let Ends { slots, mut kept } = ends;
+        let EndedSlots { slots, mut kept } = ends;
         accounts.into_inner().compare(&mut made, &mut kept);
         match audit(&totals, slots) {
             Ok(report) => Ok(report),
@@ -76,7 +78,7 @@ impl<D: Disk + Drop, M: Tally, K: Tally> Hall<D, M, K> {
 }
 
 /// Takes a board's passes apart.
-fn take_apart<M: Tally>(
+fn take_apart<M: CallLedger>(
     alloc: Global,
     board: &Board,
     mut passes: Vec<Pass<M>>,
@@ -102,10 +104,10 @@ fn take_apart<M: Tally>(
 }
 
 /// Ends all slots, in order.
-fn end_all<D: Disk + Drop, K: Tally>(
+fn end_all<D: Disk + Drop, K: CallLedger>(
     alloc: Global,
-    mut places: Vec<Place<D, K>>,
-) -> Result<Ends<K>, AllocError>
+    mut places: Vec<LockedSlot<D, K>>,
+) -> Result<EndedSlots<K>, AllocError>
     requires some { 0 < vec_len places }
     ensures slots { IfOk result (λ ends. length ends.slots.items ≡ vec_len places) }
     ensures kept { IfOk result (λ ends.
@@ -119,28 +121,28 @@ fn end_all<D: Disk + Drop, K: Tally>(
         slots.push(slot)?;
         kept.merge(more);
     }
-    Ok(Ends { slots, kept })
+    Ok(EndedSlots { slots, kept })
 }
 
-impl<D: Disk + Drop, K: Tally> Place<D, K> {
+impl<D: Disk + Drop, K: CallLedger> LockedSlot<D, K> {
     /// Ends the slot.
     fn end(self) -> (SlotReport, Share<K>)
         ensures part { result.1.parts ≡ 1 }
-        ensures calls { result.1.amount ≡ calls_told result.0.history }
+        ensures calls { result.1.amount ≡ calls_recorded result.0.history }
     {
-        let Place { slot, .. } = self;
+        let LockedSlot { slot, .. } = self;
         slot.into_inner().end()
     }
 }
 
 /// Compares what was counted of each study with what its history accepted.
 fn audit(totals: &BoardTotals, slots: Vec<SlotReport>) -> Result<Report, Mismatch>
-    requires told { length slots.items ≤ length totals.now }
+    requires counted { length slots.items ≤ length totals.now }
     requires few { length totals.now ≤ 64 }
     ensures same { IfOk result (λ report. report ≡ slots.items) }
     ensures audited { OnOk result ((study : ℕ) (s : SlotEnd) (t : StudyTotals)
         → slice_get slots.items study ≡ Some s → slice_get totals.now study ≡ Some t
-        → t.count ≡ accepted_told s.history) }
+        → t.count ≡ accepted_recorded s.history) }
     ensures report { IfErr result (λ m. m.report ≡ slots.items) }
     ensures within { IfErr result (λ m. m.study < length slots.items) }
     ensures differs { IfErr result (λ m. (t : StudyTotals)
@@ -162,8 +164,8 @@ fn audit(totals: &BoardTotals, slots: Vec<SlotReport>) -> Result<Report, Mismatc
 
 /// Whether a slot accepted as many trials as were counted.
 fn agrees(counted: u64, slot: &SlotReport) -> bool
-    ensures yes { result ≡ true → counted ≡ accepted_told slot.now.history }
-    ensures no { result ≡ false → counted ≢ accepted_told slot.now.history }
+    ensures yes { result ≡ true → counted ≡ accepted_recorded slot.now.history }
+    ensures no { result ≡ false → counted ≢ accepted_recorded slot.now.history }
 {
     counted == slot.accepted()
 }

@@ -1,4 +1,5 @@
-ghost use Rattle.std.specs.Prelude.{true, false, ◌≡◌, ◌+◌, ◌<◌, ◌≤◌, length, vec_len, All, IfOk, IfSome, OnOk, OnErr, IfErr};
+ghost use Rattle.std.specs.Prelude.{true, false, ◌≡◌, ◌+◌, ◌<◌, ◌≤◌, length, vec_len, All, IfOk, IfSome, OnOk, OnErr};
+ghost use Rattle.std.specs.Prelude.{IfErr};
 ghost use Rattle.cut_plan.specs.Cells.{cells_of};
 ghost use Rattle.cut_board.specs.Names.{board_id, board_of, view_of};
 ghost use Rattle.cut_board.specs.Views.{idle, read, seen_in};
@@ -11,9 +12,9 @@ ghost use Rattle.cut_hall.specs.Trust.{MayBegin};
 ghost use Rattle.cut_ledger.specs.Slips.{AreGood};
 
 use crate::accounts::Accounts;
-use crate::slot::{Match, Slot};
-use crate::work::SharedBench;
-use crate::{LineFault, Pass, Tally};
+use crate::slot::{Asked, Match, Slot};
+use crate::work::SharedInput;
+use crate::{CallLedger, LineFault, Pass};
 use cut_board::{Board, Seat, SeatFault};
 use cut_book::{Book, Opened, Shelf, SubmitFault};
 use cut_disks::Disk;
@@ -25,10 +26,10 @@ use std::sync::{Condvar, Mutex, Wait};
 
 /// The lock of a slot, where those wait who wait for a change in it, and what its workers share.
 #[derive(Drop)]
-pub(crate) struct Place<D: Disk, K: Tally> {
+pub(crate) struct LockedSlot<D: Disk, K: CallLedger> {
     pub(crate) slot: Mutex<Slot<D, K>>,
     pub(crate) changed: Condvar,
-    pub(crate) bench: SharedBench,
+    pub(crate) input: SharedInput,
 }
 
 /// A hall in which many threads work on the studies that are submitted to it, each with a pass. Contracts see
@@ -37,20 +38,20 @@ pub(crate) struct Place<D: Disk, K: Tally> {
 /// Two ledgers count the calls of its books: in the one those that the passes made, in the other those that
 /// the slots keep.
 #[derive(Drop)]
-pub struct Hall<D: Disk, M: Tally, K: Tally> {
+pub struct Hall<D: Disk, M: CallLedger, K: CallLedger> {
     pub(crate) board: Board,
-    pub(crate) places: Vec<Place<D, K>>,
+    pub(crate) places: Vec<LockedSlot<D, K>>,
     pub(crate) accounts: Mutex<Accounts<M, K>>,
     pub(crate) passes: u32,
     pub(crate) piece_size: u32,
 }
 
-impl<D: Disk, M: Tally, K: Tally> Model for Hall<D, M, K> {
+impl<D: Disk, M: CallLedger, K: CallLedger> Model for Hall<D, M, K> {
     ghost use Rattle.std.specs.Prelude.{◌≡◌, ◌≤◌, vec_len};
     ghost use Rattle.cut_board.specs.Names.{board_id, studies_of, seats_of};
-    ghost use Rattle.cut_hall.specs.Hall.{Rooms};
+    ghost use Rattle.cut_hall.specs.Hall.{HallValue};
 
-    ghost Value = { Rooms };
+    ghost Value = { HallValue };
 
     ghost view = { λ h.
         record { id = board_id h.board; slots = studies_of h.board; passes = seats_of h.board; is_trusted = K.trusts } };
@@ -66,10 +67,21 @@ impl<D: Disk, M: Tally, K: Tally> Model for Hall<D, M, K> {
         × (studies_of h.board ≡ K.all) };
 }
 
-impl<D: Disk + Drop, M: Tally, K: Tally> Hall<D, M, K> {
+impl<D: Disk + Drop, K: CallLedger> LockedSlot<D, K> {
+    /// The place of a slot, where no worker has been yet.
+    fn new(slot: Slot<D, K>) -> LockedSlot<D, K> {
+        LockedSlot {
+            slot: Mutex::new(slot),
+            changed: Condvar::new(),
+            input: SharedInput::none(),
+        }
+    }
+}
+
+impl<D: Disk + Drop, M: CallLedger, K: CallLedger> Hall<D, M, K> {
     /// A hall of 1 to 64 slots without studies, and its 1 to 129 passes. The blanks are for the two ledgers of
-    /// calls, of which the first has as many parts as passes, and the second as many as slots. Fails only for
-    /// want of memory.
+    /// calls, of which the first has as many parts as passes, and the second as many as slots. Fails only where
+    /// memory runs out.
     pub fn start(
         alloc: Global,
         slots: u32,
@@ -106,7 +118,7 @@ impl<D: Disk + Drop, M: Tally, K: Tally> Hall<D, M, K> {
     }
 
     /// A hall whose only slot has this book, of which nothing was asked yet, and its 1 to 129 passes. The blanks
-    /// are as in `start`. Fails only for want of memory.
+    /// are as in `start`. Fails only where memory runs out.
     pub fn of_book(
         alloc: Global,
         book: Book<D>,
@@ -132,11 +144,8 @@ impl<D: Disk + Drop, M: Tally, K: Tally> Hall<D, M, K> {
         let (accounts, made, kept) = Accounts::open(made, kept);
         let given = deal(alloc, &board, seats, made)?;
         let mut places = Vec::new(alloc);
-        places.push(Place {
-            slot: Mutex::new(Slot::of_book(alloc, book, kept)),
-            changed: Condvar::new(),
-            bench: SharedBench::none(),
-        })?;
+        let slot = Slot::new(alloc, Some(book), kept);
+        places.push(LockedSlot::new(slot))?;
         let hall = Hall {
             board,
             places,
@@ -164,7 +173,7 @@ impl<D: Disk + Drop, M: Tally, K: Tally> Hall<D, M, K> {
         ensures slot { IfOk result (λ o. o.study < self.now.slots) }
         ensures pass { pass.new ≡ pass.old }
     {
-        // That its caller has entered this hall is all that is wanted of the pass here.
+        // That its caller has entered this hall is all that matters of the pass here.
         let _ = pass;
         for (study, place) in self.places.iter().enumerate() {
             let mut slot = place.slot.lock(rt);
@@ -206,7 +215,7 @@ impl<D: Disk + Drop, M: Tally, K: Tally> Hall<D, M, K> {
         ensures short { IfOk result (λ line. length line.items ≤ 294) }
         ensures pass { pass.new ≡ made_more pass.old (rows_of result) }
     {
-        self.wait_for_line(rt, alloc, &mut pass.made, opened, cell)
+        self.wait_for_line(rt, alloc, &mut pass.made, Asked { opened, cell })
     }
 
     /// The line of a cell of an opened study, if it was given before; else none, and `next_row` waits for it. It
@@ -227,30 +236,30 @@ impl<D: Disk + Drop, M: Tally, K: Tally> Hall<D, M, K> {
         ensures why { IfErr result CanNotGiveAgain }
     {
         let slot = self.places[opened.study as usize].slot.lock(rt);
-        slot.line_again(alloc, opened, cell)
+        slot.line_again(alloc, Asked { opened, cell })
     }
 
-    /// The same, with the share of a pass.
+    /// The line that is asked for, which is a call of the share's holder.
     fn wait_for_line<R: Wait>(
         &self,
         rt: &R,
         alloc: Global,
         made: &mut Share<M>,
-        opened: &Opened,
-        cell: u32,
+        asked: Asked<'_>,
     ) -> Result<Vec<u8>, LineFault>
         requires part { made.old.parts ≡ 1 }
-        requires slot { opened.now.study < self.now.slots }
-        requires cell { cell < length (cells_of opened.now.plan) }
-        ensures line { IfOk result (λ line. line.items ≡ full_line opened.now.plan opened.now.base cell) }
+        requires slot { asked.opened.now.study < self.now.slots }
+        ensures line { IfOk result (λ line. line.items
+            ≡ full_line asked.entry.opened.now.plan asked.entry.opened.now.base asked.entry.cell) }
         ensures short { IfOk result (λ line. length line.items ≤ 294) }
         ensures part { made.new.parts ≡ 1 }
         ensures made { made.new.amount ≡ made.old.amount + rows_of result }
     {
-        let place = &self.places[opened.study as usize];
+        let cell = asked.cell;
+        let place = &self.places[asked.opened.study as usize];
         let mut slot = place.slot.lock(rt);
         for _ in rt.forever() {
-            match slot.line(rt, alloc, &self.accounts, made, opened, cell) {
+            match slot.line(rt, alloc, &self.accounts, made, asked) {
                 Ok(Some(line)) => return Ok(line),
                 Ok(None) => {}
                 Err(fault) => return Err(fault),
@@ -262,7 +271,7 @@ impl<D: Disk + Drop, M: Tally, K: Tally> Hall<D, M, K> {
         unreachable!()
     }
 
-    /// How many trials of a study the passes counted: at least as many as this pass was told before.
+    /// How many trials of a study the passes counted: at least as many as this pass saw before.
     pub fn counted(&self, pass: &mut Pass<M>, study: u32) -> Result<u64, SeatFault>
         requires { pass.old.hall ≡ self.now.id }
         ensures pass { (pass.new.hall ≡ pass.old.hall) × (pass.new.made ≡ pass.old.made) }
@@ -277,29 +286,25 @@ impl<D: Disk + Drop, M: Tally, K: Tally> Hall<D, M, K> {
 }
 
 /// The slots, each without a book and with a part of the ledger of kept calls.
-fn places_of<D: Disk + Drop, K: Tally>(
+fn places_of<D: Disk + Drop, K: CallLedger>(
     alloc: Global,
     slots: u32,
     mut rest: Share<K>,
-) -> Result<Vec<Place<D, K>>, AllocError>
+) -> Result<Vec<LockedSlot<D, K>>, AllocError>
     requires parts { rest.parts ≡ slots }
     requires none { rest.amount ≡ 0 }
     ensures { IfOk result (λ places. vec_len places ≡ slots) }
 {
     let mut places = Vec::with_capacity(alloc, slots as usize)?;
     for _ in 0..slots {
-        let slot = Slot::free(alloc, rest.split_off(1, 0));
-        places.push_reserved(Place {
-            slot: Mutex::new(slot),
-            changed: Condvar::new(),
-            bench: SharedBench::none(),
-        });
+        let slot = Slot::new(alloc, None, rest.split_off(1, 0));
+        places.push_reserved(LockedSlot::new(slot));
     }
     Ok(places)
 }
 
 /// The passes, each a seat with a part of the ledger of made calls.
-fn deal<M: Tally>(
+fn deal<M: CallLedger>(
     alloc: Global,
     board: &Board,
     mut seats: Vec<Seat>,

@@ -1,9 +1,9 @@
 //! A hall in which many threads work on many studies.
 //!
-//! A [`Hall`] has slots for the books of studies. Threads come to it with a [`Pass`] each: they submit plans, work on the
-//! pieces of all studies, and wait for the lines of one. Pieces are drawn and trials counted on a board, without a
-//! lock; a book is asked under the lock of its slot. Who holds the lock of a slot may take that of the accounts, for
-//! as long as one call is counted, and never the other way round.
+//! A [`Hall`] has slots for the books of studies. Threads come to it with a [`Pass`] each: they submit plans, work on
+//! the pieces of all studies, and wait for the lines of one. Pieces are drawn and trials counted on a board, without a
+//! lock; a book is asked under the lock of its slot. Who holds the lock of a slot may take that of the accounts, for as
+//! long as one call is counted, and never the other way round.
 //!
 //! Two ledgers count the calls of all books: in the one each pass has a share, in the other each slot. Their sums
 //! are equal, so that when the hall is closed all histories together are as long as what the passes made; and for
@@ -11,6 +11,7 @@
 #![tactic(auto)]
 
 mod accounts;
+mod call_ledger;
 mod close;
 mod gate;
 mod hall;
@@ -19,13 +20,13 @@ mod not_closed;
 mod pass;
 mod report;
 mod slot;
-mod tally;
 mod work;
 
+pub use call_ledger::CallLedger;
 pub use gate::{Gate, OpenGate};
 pub use hall::Hall;
 pub use line_fault::LineFault;
 pub use not_closed::{Mismatch, NotClosed};
 pub use pass::Pass;
 pub use report::{Report, SlotReport};
-pub use tally::Tally;
+pub use work::StudyCell;

@@ -1,5 +1,5 @@
 ghost use Rattle.std.specs.Prelude.{◌≡◌, Some, None, option_copied};
-ghost use Rattle.cut_hall.specs.Report.{calls_told, accepted_told};
+ghost use Rattle.cut_hall.specs.Report.{calls_recorded, accepted_recorded};
 
 use cut_book::History;
 use std::marker::Model;
@@ -13,21 +13,21 @@ pub struct SlotReport {
 }
 
 impl Model for SlotReport {
-    ghost use Rattle.cut_hall.specs.Report.{SlotEnd, EndsAs};
+    ghost use Rattle.cut_hall.specs.Report.{SlotEnd, IsEndOf};
 
     ghost Value = { SlotEnd };
 
     ghost view = { λ r. record { history = r.history; complete = r.complete } };
 
-    ghost invariant = { λ r. EndsAs r.history r.complete };
+    ghost invariant = { λ r. IsEndOf r.history r.complete };
 }
 
 impl SlotReport {
-    ghost use Rattle.cut_hall.specs.Report.{EndsAs};
+    ghost use Rattle.cut_hall.specs.Report.{IsEndOf};
 
     /// The report of a slot whose study has this history, and of one that had none.
     pub(crate) fn new(history: Option<History>, complete: bool) -> SlotReport
-        requires { EndsAs history complete }
+        requires { IsEndOf history complete }
         ensures { result ≡ record { history = history; complete = complete } }
     {
         SlotReport { history, complete }
@@ -35,7 +35,7 @@ impl SlotReport {
 
     /// How many trials it accepted.
     pub fn accepted(&self) -> u64
-        ensures { result ≡ accepted_told self.now.history }
+        ensures { result ≡ accepted_recorded self.now.history }
     {
         match &self.history {
             Some(history) => history.accepted(),
@@ -45,7 +45,7 @@ impl SlotReport {
 
     /// How many calls it had.
     pub fn calls(&self) -> u64
-        ensures { result ≡ calls_told self.now.history }
+        ensures { result ≡ calls_recorded self.now.history }
     {
         match &self.history {
             Some(history) => history.len(),
@@ -56,7 +56,7 @@ impl SlotReport {
     /// Whether every trial was held at the end of its history.
     pub fn complete(&self) -> bool
         ensures complete { result ≡ self.now.complete }
-        ensures end { EndsAs self.now.history self.now.complete }
+        ensures end { IsEndOf self.now.history self.now.complete }
     {
         self.complete
     }

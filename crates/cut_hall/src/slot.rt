@@ -4,15 +4,17 @@ ghost use Rattle.std.specs.Prelude.{Bool, replicate, slice_index_or, slice_set};
 ghost use Rattle.std.specs.List.{list_any};
 ghost use Rattle.cut_plan.specs.Cells.{cells_of};
 ghost use Rattle.cut_hall.specs.Lines.{full_line};
-ghost use Rattle.cut_hall.specs.Report.{calls_told};
-ghost use Rattle.cut_book.specs.Book.{HandsIn, MayRefuse, answer_of};
+ghost use Rattle.cut_hall.specs.Report.{calls_recorded};
+ghost use Rattle.cut_book.specs.Book.{HandsIn, IsHandInFault, answer_of};
 ghost use Rattle.cut_hall.specs.Trust.{MayBegin, IsSettledBy-prop, begun_props};
-ghost use Rattle.cut_hall.specs.Slot.{calls_in, IsBegun, base_of, kept_of, unkept_of, Matches, TakesResult, TakesLoss, GivesLine, calls_of, losses_of, lines_of};
+ghost use Rattle.cut_hall.specs.Slot.{calls_in, IsBegunStudy, base_of, kept_of, unkept_of, Matches, TakesResult};
+ghost use Rattle.cut_hall.specs.Slot.{TakesLoss, GivesLine, calls_of, losses_of, lines_of};
 ghost use Rattle.cut_book.specs.Book.{IsFresh};
-ghost use Rattle.cut_hall.specs.Slot.{IsOpenedAs, TellsUndone, AnswersLine, AnswersAgain, IsNotDone, is_pending, remembered_after, piece_at, HasDone, HasPlan};
+ghost use Rattle.cut_hall.specs.Slot.{IsOpenedAs, SaysWhyUndone, AnswersLine, AnswersAgain, IsNotDone, is_pending};
+ghost use Rattle.cut_hall.specs.Slot.{remembered_after, piece_at, HasDone, HasPlan};
 
 use crate::accounts::Accounts;
-use crate::{LineFault, SlotReport, Tally};
+use crate::{CallLedger, LineFault, SlotReport};
 use cut_book::{Book, BookFault, Opened, Shelf, SubmitFault, open_book};
 use cut_disks::Disk;
 use cut_plan::Plan;
@@ -44,9 +46,17 @@ pub(crate) enum CallFault {
     Refused(BookFault),
 }
 
+/// The line of a cell of an opened study, which is asked for.
+#[derive(Clone, Copy)]
+pub(crate) struct Asked<'a> {
+    pub(crate) opened: &'a Opened,
+    pub(crate) cell: u32,
+    ghost is_cell: { cell < length (cells_of opened.now.plan) },
+}
+
 /// A place for the book of one study in a hall, with how many calls it had, and which of its lines were given.
 #[derive(Drop)]
-pub(crate) struct Slot<D: Disk, K: Tally> {
+pub(crate) struct Slot<D: Disk, K: CallLedger> {
     book: Option<Book<D>>,
     kept: Share<K>,
     stopped: bool,
@@ -56,35 +66,22 @@ pub(crate) struct Slot<D: Disk, K: Tally> {
     ghost counted: { kept.amount ≡ calls_in book },
     ghost first: { take (length (base_of book)) (kept_of book) ≡ base_of book },
     ghost unkept: { unkept_of book ≡ [] },
-    ghost begun: { IfSome book (λ b. MayBegin K.trusts b.state.ledger.plan b.state.ledger.base) } by { Prim.hlevel begun_props },
+    ghost begun: { IfSome book
+        (λ b. MayBegin K.trusts b.state.ledger.plan b.state.ledger.base) } by { Prim.hlevel begun_props },
 }
 
-impl<D: Disk + Drop, K: Tally> Slot<D, K> {
-    /// A slot without a book.
-    pub(crate) fn free(alloc: Global, kept: Share<K>) -> Slot<D, K>
-        requires { (kept.parts ≡ 1) × (kept.amount ≡ 0) }
-        ensures book { result.book ≡ None }
-        ensures works { result.stopped ≡ false }
-    {
-        Slot {
-            book: None,
-            kept,
-            stopped: false,
-            given: Vec::new(alloc),
-        }
-    }
-
-    /// A slot with the book of a study, of which nothing was asked yet. It does not remember which lines it
-    /// gives.
-    pub(crate) fn of_book(alloc: Global, book: Book<D>, kept: Share<K>) -> Slot<D, K>
+impl<D: Disk + Drop, K: CallLedger> Slot<D, K> {
+    /// A slot with the book of a study of which nothing was asked yet, or without one. It does not remember which
+    /// lines of that study it gives.
+    pub(crate) fn new(alloc: Global, book: Option<Book<D>>, kept: Share<K>) -> Slot<D, K>
         requires part { (kept.parts ≡ 1) × (kept.amount ≡ 0) }
-        requires fresh { IsFresh book.state.ledger.plan book.size book }
-        requires begun { MayBegin K.trusts book.state.ledger.plan book.state.ledger.base }
-        ensures book { result.book ≡ Some book }
+        requires fresh { IfSome book (λ b. IsFresh b.state.ledger.plan b.size b) }
+        requires begun { IfSome book (λ b. MayBegin K.trusts b.state.ledger.plan b.state.ledger.base) }
+        ensures book { result.book ≡ book }
         ensures works { result.stopped ≡ false }
     {
         Slot {
-            book: Some(book),
+            book,
             kept,
             stopped: false,
             given: Vec::new(alloc),
@@ -106,7 +103,7 @@ impl<D: Disk + Drop, K: Tally> Slot<D, K> {
     }
 
     /// Hands a result to the book.
-    pub(crate) fn hand_in<M: Tally, R: Wait>(
+    pub(crate) fn hand_in<M: CallLedger, R: Wait>(
         &mut self,
         rt: &R,
         accounts: &Mutex<Accounts<M, K>>,
@@ -136,8 +133,8 @@ impl<D: Disk + Drop, K: Tally> Slot<D, K> {
         }
     }
 
-    /// Tells the book that a piece is lost.
-    pub(crate) fn lose<M: Tally, R: Wait>(
+    /// Notes in the book that a piece is lost.
+    pub(crate) fn lose<M: CallLedger, R: Wait>(
         &mut self,
         rt: &R,
         accounts: &Mutex<Accounts<M, K>>,
@@ -166,25 +163,24 @@ impl<D: Disk + Drop, K: Tally> Slot<D, K> {
         }
     }
 
-    /// The line of a cell of an opened study, once every trial of it is held; none while it can still come.
-    pub(crate) fn line<M: Tally, R: Wait>(
+    /// The line that is asked for, once every trial of its cell is held; none while it can still come.
+    pub(crate) fn line<M: CallLedger, R: Wait>(
         &mut self,
         rt: &R,
         alloc: Global,
         accounts: &Mutex<Accounts<M, K>>,
         made: &mut Share<M>,
-        opened: &Opened,
-        cell: u32,
+        asked: Asked<'_>,
     ) -> Result<Option<Vec<u8>>, LineFault>
-        requires cell { cell < length (cells_of opened.now.plan) }
         requires part { made.old.parts ≡ 1 }
         ensures line { IfOk result (λ found.
-            IfSome found (λ line. line.items ≡ full_line opened.now.plan opened.now.base cell)) }
+            IfSome found (λ line. line.items
+            ≡ full_line asked.entry.opened.now.plan asked.entry.opened.now.base asked.entry.cell)) }
         ensures short { IfOk result (λ found. IfSome found (λ line. length line.items ≤ 294)) }
-        ensures given { GivesLine result cell self.old.book self.new.book }
-        ensures answers { AnswersLine result opened.now cell self.old.book }
+        ensures given { GivesLine result asked.entry.cell self.old.book self.new.book }
+        ensures answers { AnswersLine result asked.entry.opened.now asked.entry.cell self.old.book }
         ensures waits { IfOk result (λ found. IfNone found (self.old.stopped ≡ false)) }
-        ensures remembered { self.new.given.items ≡ remembered_after result cell self.old.given.items }
+        ensures remembered { self.new.given.items ≡ remembered_after result asked.entry.cell self.old.given.items }
         ensures stays { self.new.stopped ≡ self.old.stopped }
         ensures calls { calls_in self.new.book ≡ calls_in self.old.book + lines_of result }
         ensures made { made.new.amount ≡ made.old.amount + lines_of result }
@@ -196,6 +192,7 @@ impl<D: Disk + Drop, K: Tally> Slot<D, K> {
             stopped,
             given,
         } = self;
+        let Asked { opened, cell } = asked;
         let Some(book) = book else {
             return Err(LineFault::AuditMismatch);
         };
@@ -227,30 +224,36 @@ impl<D: Disk + Drop, K: Tally> Slot<D, K> {
     pub(crate) fn is_pending(&self, cell: u32) -> bool
         ensures { result ≡ is_pending self.now.book self.now.stopped cell }
     {
-        match &self.book {
-            Some(book) => is_pending(book, self.stopped, cell),
-            None => false,
-        }
+        let Some(book) = &self.book else {
+            return false;
+        };
+        let ledger = book.ledger();
+        cell < ledger.plan().cells()
+            && !ledger.cell_done(cell)
+            && !book.is_broken()
+            && !book.has_lost()
+            && !self.stopped
     }
 
-    /// The line of a cell of an opened study, if it was given before: it is read from the ledger once more, which
-    /// is no call of the book.
+    /// The line that is asked for, if it was given before: it is read from the ledger once more, which is no call
+    /// of the book.
     pub(crate) fn line_again(
         &self,
         alloc: Global,
-        opened: &Opened,
-        cell: u32,
+        asked: Asked<'_>,
     ) -> Result<Option<Vec<u8>>, LineFault>
-        requires { cell < length (cells_of opened.now.plan) }
         ensures line { IfOk result (λ found.
-            IfSome found (λ line. line.items ≡ full_line opened.now.plan opened.now.base cell)) }
+            IfSome found (λ line. line.items
+            ≡ full_line asked.entry.opened.now.plan asked.entry.opened.now.base asked.entry.cell)) }
         ensures short { IfOk result (λ found. IfSome found (λ line. length line.items ≤ 294)) }
-        ensures answers { AnswersAgain result opened.now cell self.now.book }
+        ensures answers { AnswersAgain result asked.entry.opened.now asked.entry.cell self.now.book }
         ensures given { IfOk result (λ found.
-            IfSome found (λ line. slice_index_or self.now.given.items cell false ≡ true)) }
+            IfSome found (λ line. slice_index_or self.now.given.items asked.entry.cell false ≡ true)) }
         ensures not_given { IfOk result (λ found. IfNone found
-            (slice_index_or self.now.given.items cell false ≡ true → IsNotDone self.now.book cell)) }
+            (slice_index_or self.now.given.items asked.entry.cell false ≡ true
+            → IsNotDone self.now.book asked.entry.cell)) }
     {
+        let Asked { opened, cell } = asked;
         let Some(book) = &self.book else {
             return Err(LineFault::AuditMismatch);
         };
@@ -283,7 +286,7 @@ impl<D: Disk + Drop, K: Tally> Slot<D, K> {
         requires trusted { K.trusts ≡ true → S.is_true shelf.now ≡ true }
         ensures opened { IfOk result (λ o. (o.study ≡ study) × (o.plan ≡ plan)) }
         ensures base { IfOk result (λ o. MayBegin K.trusts plan o.base) }
-        ensures begun { IfOk result (λ o. IsBegun o piece_size self.new.book) }
+        ensures begun { IfOk result (λ o. IsBegunStudy o piece_size self.new.book) }
         ensures none_given { OnOk result (self.new.given.items ≡ replicate (length (cells_of plan)) false) }
         ensures stays { self.new.stopped ≡ self.old.stopped }
         ensures err { OnErr result (self.new ≡ self.old) }
@@ -339,7 +342,7 @@ impl<D: Disk + Drop, K: Tally> Slot<D, K> {
     /// Ends the slot: what became of it, and the share of its calls.
     pub(crate) fn end(self) -> (SlotReport, Share<K>)
         ensures part { result.1.parts ≡ 1 }
-        ensures calls { result.1.amount ≡ calls_told result.0.history }
+        ensures calls { result.1.amount ≡ calls_recorded result.0.history }
     {
         let Slot { book, kept, .. } = self;
         let Some(book) = book else {
@@ -348,13 +351,6 @@ impl<D: Disk + Drop, K: Tally> Slot<D, K> {
         let complete = book.ledger().complete();
         let (history, _) = book.into_parts();
         (SlotReport::new(Some(history), complete), kept)
-    }
-
-    /// Whether there is a study.
-    pub(crate) fn has_book(&self) -> bool
-        ensures { result ≡ is_some self.now.book }
-    {
-        self.book.is_some()
     }
 
     /// Whether there is nothing to work on yet: there is no book, and the work was not ended.
@@ -398,7 +394,7 @@ impl<D: Disk + Drop, K: Tally> Slot<D, K> {
 /// Hands a result to a book, which keeps what it began with.
 fn hand_to<D: Disk + Drop>(book: &mut Book<D>, offered: &PieceResult) -> Result<(), BookFault>
     ensures answer { HandsIn (answer_of result book.old.state) offered.now book.old book.new }
-    ensures faults_told { IfErr result MayRefuse }
+    ensures only_faults { IfErr result IsHandInFault }
     ensures first { take (length book.old.state.ledger.base) book.old.state.kept ≡ book.old.state.ledger.base
         → take (length book.new.state.ledger.base) book.new.state.kept ≡ book.new.state.ledger.base }
     ensures unkept { unkept_of (Some book.old) ≡ [] → unkept_of (Some book.new) ≡ [] }
@@ -426,23 +422,11 @@ fn is_opened_as<D: Disk + Drop>(book: &Book<D>, opened: &Opened) -> bool
     ledger.plan().same(&opened.plan) && ledger.same_base(&opened.base)
 }
 
-/// Whether a cell is not done and can still be.
-fn is_pending<D: Disk + Drop>(book: &Book<D>, stopped: bool, cell: u32) -> bool
-    ensures { result ≡ is_pending (Some book.now) stopped cell }
-{
-    let ledger = book.ledger();
-    cell < ledger.plan().cells()
-        && !ledger.cell_done(cell)
-        && !book.is_broken()
-        && !book.has_lost()
-        && !stopped
-}
-
 /// Whether a cell that is not done can still be: the book is whole, no piece is lost, and work goes on.
 fn may_still_come<D: Disk + Drop>(book: &Book<D>, stopped: bool) -> Result<(), LineFault>
     ensures ok { OnOk result ((book.now.state.broken ≡ false)
         × (list_any (λ is_lost. is_lost) book.now.state.lost ≡ false) × (stopped ≡ false)) }
-    ensures err { IfErr result (λ fault. TellsUndone fault book.now.state) }
+    ensures err { IfErr result (λ fault. SaysWhyUndone fault book.now.state) }
     ensures stopped { IsErrOf result LineFault.Stopped → stopped ≡ true }
 {
     if book.is_broken() {

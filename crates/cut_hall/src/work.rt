@@ -2,8 +2,9 @@ ghost use Rattle.std.specs.Prelude.{◌≡◌, ◌+◌, ◌<◌, ◌≤◌, IfOk
 ghost use Rattle.cut_hall.specs.Slot.{losses_of};
 ghost use Rattle.cut_trial.specs.Outcome.{rings_of};
 
+use crate::hall::LockedSlot;
 use crate::slot::CallFault;
-use crate::{Gate, Hall, Pass, Tally};
+use crate::{CallLedger, Gate, Hall, Pass};
 use cut_book::BookFault;
 use cut_disks::Disk;
 use cut_plan::Plan;
@@ -12,23 +13,32 @@ use cut_trial::{Piece, PieceResult, run_piece};
 use std::alloc::Global;
 use std::sync::{Mutex, OnceLock, Wait};
 
+/// A cell of the study that has a slot of a hall.
+#[derive(Clone, Copy, Debug)]
+pub struct StudyCell {
+    /// The number of the slot.
+    pub study: u32,
+    /// The number of the cell.
+    pub cell: u32,
+}
+
 /// What workers need for the pieces of a study: a copy of its plan, with the rings.
 #[derive(Drop)]
-pub(crate) struct Bench {
+pub(crate) struct StudyInput {
     plan: Plan,
     rings: Rings,
     ghost of_plan: { rings ≡ rings_of plan },
 }
 
-/// The bench of a study, which the first worker that needs it makes and all workers share.
+/// The input of a study, which the first worker that needs it makes and all workers share.
 #[derive(Drop)]
-pub(crate) struct SharedBench {
-    bench: OnceLock<Bench>,
+pub(crate) struct SharedInput {
+    input: OnceLock<StudyInput>,
     making: Mutex<bool>,
 }
 
 /// How a worker goes on after a turn.
-#[derive(Clone, Copy, PartialEq, Eq)]
+#[derive(Clone, Copy)]
 enum Next {
     /// With the next piece of the study.
     Piece,
@@ -46,13 +56,13 @@ struct Drawn {
     piece: Piece,
 }
 
-impl Bench {
-    /// The bench of a plan's study, if there is memory for it.
-    fn new(alloc: Global, plan: Plan) -> Option<Bench>
-        ensures { IfSome result (λ bench. bench.plan ≡ plan) }
+impl StudyInput {
+    /// The input of a plan's study, if there is memory for it.
+    fn new(alloc: Global, plan: Plan) -> Option<StudyInput>
+        ensures { IfSome result (λ input. input.plan ≡ plan) }
     {
         let rings = Rings::hashed(alloc, &plan).ok()?;
-        Some(Bench { plan, rings })
+        Some(StudyInput { plan, rings })
     }
 
     /// Runs a piece, if there is memory for it.
@@ -63,17 +73,17 @@ impl Bench {
     }
 }
 
-impl SharedBench {
-    /// No bench yet.
-    pub(crate) fn none() -> SharedBench {
-        SharedBench {
-            bench: OnceLock::new(),
+impl SharedInput {
+    /// No input yet.
+    pub(crate) fn none() -> SharedInput {
+        SharedInput {
+            input: OnceLock::new(),
             making: Mutex::new(false),
         }
     }
 }
 
-impl<D: Disk + Drop, M: Tally, K: Tally> Hall<D, M, K> {
+impl<D: Disk + Drop, M: CallLedger, K: CallLedger> Hall<D, M, K> {
     /// Works on the studies in the order of their slots, on each as long as pieces of it can be drawn, and then
     /// waits for the next. Each piece is drawn, runs once the gate lets it pass, and is handed in; an accepted
     /// one is counted on the board. A piece for which memory runs out twice, or for the result of which it does, is
@@ -94,7 +104,7 @@ impl<D: Disk + Drop, M: Tally, K: Tally> Hall<D, M, K> {
     }
 
     /// Works on the pieces of one study until none are left to be drawn, as `work` does on each, for a caller that
-    /// lends its thread for so long. In a slot without a study it does nothing. Returns whether it may go on with
+    /// gives its thread for as long. In a slot without a study it does nothing. Returns whether it may go on with
     /// another study: not after `stop`, nor where
     /// nothing more can be drawn by this pass, or counted by the hall.
     pub fn work_off<R: Wait, G: Gate>(
@@ -128,16 +138,17 @@ impl<D: Disk + Drop, M: Tally, K: Tally> Hall<D, M, K> {
         alloc: Global,
         pass: &mut Pass<M>,
         gate: &G,
-        study: u32,
-        cell: u32,
+        wanted: StudyCell,
     )
         requires own { pass.old.hall ≡ self.now.id }
-        requires slot { study < self.now.slots }
+        requires slot { wanted.study < self.now.slots }
         ensures own { pass.new.hall ≡ pass.old.hall }
         ensures made { pass.old.made ≤ pass.new.made }
     {
+        let StudyCell { study, cell } = wanted;
+        let place = &self.places[study as usize];
         for _ in rt.forever() {
-            if self.is_done(rt, study, cell) {
+            if place.slot.lock(rt).is_done(cell) {
                 return;
             }
             match self.turn(rt, alloc, pass, gate, study) {
@@ -166,7 +177,7 @@ impl<D: Disk + Drop, M: Tally, K: Tally> Hall<D, M, K> {
             Err(next) => return next,
         };
         gate.pass(rt, drawn.piece);
-        match self.compute_twice(rt, alloc, drawn) {
+        match self.compute(rt, alloc, drawn) {
             Some(result) => self.hand_in(rt, pass, drawn, &result),
             None => match self.lose(rt, pass, study, drawn.number) {
                 Err(CallFault::Full) => Next::Nothing,
@@ -188,7 +199,7 @@ impl<D: Disk + Drop, M: Tally, K: Tally> Hall<D, M, K> {
         if slot.is_stopped() {
             return Err(Next::Nothing);
         }
-        if !slot.has_book() {
+        if slot.is_idle() {
             return Err(Next::Study);
         }
         let Ok(number) = self.board.draw(&mut pass.seat, study) else {
@@ -205,40 +216,41 @@ impl<D: Disk + Drop, M: Tally, K: Tally> Hall<D, M, K> {
     }
 
     /// Runs a piece, and once more where memory ran out.
-    fn compute_twice<R: Wait>(&self, rt: &R, alloc: Global, drawn: Drawn) -> Option<PieceResult>
-        requires { drawn.study < self.now.slots }
-        ensures { IfSome result (λ r. r.piece ≡ drawn.piece) }
-    {
-        match self.compute(rt, alloc, drawn) {
-            Some(result) => Some(result),
-            None => self.compute(rt, alloc, drawn),
-        }
-    }
-
-    /// Runs a piece, if there is memory for it.
     fn compute<R: Wait>(&self, rt: &R, alloc: Global, drawn: Drawn) -> Option<PieceResult>
         requires { drawn.study < self.now.slots }
         ensures { IfSome result (λ r. r.piece ≡ drawn.piece) }
     {
-        self.bench(rt, alloc, drawn.study)?.run(alloc, drawn.piece)
+        for _ in 0..2 {
+            let Some(input) = self.input(rt, alloc, drawn.study) else {
+                continue;
+            };
+            if let Some(result) = input.run(alloc, drawn.piece) {
+                return Some(result);
+            }
+        }
+        None
     }
 
-    /// The bench of a study, if it has been made or there is memory to make it. Others who need it wait meanwhile,
+    /// The input of a study, if it has been made or there is memory to make it. Others who need it wait meanwhile,
     /// and where memory runs out the next of them tries again.
-    fn bench<R: Wait>(&self, rt: &R, alloc: Global, study: u32) -> Option<&Bench>
+    fn input<R: Wait>(&self, rt: &R, alloc: Global, study: u32) -> Option<&StudyInput>
         requires { study < self.now.slots }
     {
-        let shared = &self.places[study as usize].bench;
-        if let Some(bench) = shared.bench.get() {
-            return Some(bench);
+        let LockedSlot {
+            slot,
+            input: shared,
+            ..
+        } = &self.places[study as usize];
+        if let Some(input) = shared.input.get() {
+            return Some(input);
         }
         let mut is_made = shared.making.lock(rt);
         if !*is_made {
-            let plan = self.plan(rt, alloc, study)?;
-            let _ = shared.bench.set(rt, Bench::new(alloc, plan)?);
+            let plan = slot.lock(rt).plan(alloc)?;
+            let _ = shared.input.set(rt, StudyInput::new(alloc, plan)?);
             *is_made = true;
         }
-        shared.bench.get()
+        shared.input.get()
     }
 
     /// Hands a result in. Where it is accepted its trials are counted before the lock is given back. A study
@@ -276,8 +288,9 @@ impl<D: Disk + Drop, M: Tally, K: Tally> Hall<D, M, K> {
     }
 
     /// Gives a piece of a study up, by its number from 0 in the study's division, as a worker does where memory for
-    /// it is refused: whoever asks for the line of its cell is told so, where that is not done. Returns whether it is
-    /// noted, which is a call of the pass: not where there is no study or no such piece, or it was given up before.
+    /// it is refused: whoever asks for the line of its cell gets that fault, where the cell is not done. Returns
+    /// whether it is noted, which is a call of the pass: not where there is no study or no such piece, or it was given
+    /// up before.
     pub fn give_up<R: Wait>(&self, rt: &R, pass: &mut Pass<M>, study: u32, piece: u64) -> bool
         requires own { pass.old.hall ≡ self.now.id }
         requires slot { study < self.now.slots }
@@ -287,7 +300,7 @@ impl<D: Disk + Drop, M: Tally, K: Tally> Hall<D, M, K> {
         self.lose(rt, pass, study, piece).is_ok()
     }
 
-    /// Tells a piece lost.
+    /// Notes that a piece is lost.
     fn lose<R: Wait>(
         &self,
         rt: &R,
@@ -301,26 +314,12 @@ impl<D: Disk + Drop, M: Tally, K: Tally> Hall<D, M, K> {
         ensures made { pass.new.made ≡ pass.old.made + losses_of result }
     {
         let place = &self.places[study as usize];
-        let told = place
+        let noted = place
             .slot
             .lock(rt)
             .lose(rt, &self.accounts, &mut pass.made, piece);
         place.changed.notify_all();
-        told
-    }
-
-    /// Whether a cell of a study is done.
-    fn is_done<R: Wait>(&self, rt: &R, study: u32, cell: u32) -> bool
-        requires { study < self.now.slots }
-    {
-        self.places[study as usize].slot.lock(rt).is_done(cell)
-    }
-
-    /// A copy of a study's plan, if there is memory for it.
-    fn plan<R: Wait>(&self, rt: &R, alloc: Global, study: u32) -> Option<Plan>
-        requires { study < self.now.slots }
-    {
-        self.places[study as usize].slot.lock(rt).plan(alloc)
+        noted
     }
 
     /// Waits until a slot has a study, or the work in it is ended: whether it is.

@@ -1,5 +1,7 @@
 -- What the two writes of an append leave, whatever crash may come.
-use Rattle.std.proofs.Common.{◌≡◌, ◌∙◌, ◌≤◌, ◌<◌, ◌+◌, ◌-◌, ◌++◌, ◌==◌, inl, inr, ℕ, true, false, List, [], ◌∷◌, Result, Ok, Option, Some, None, unwrap_or, length, take, drop, get_or, refl, sym, ap, subst, arith, append_assoc, length-append, length-drop}
+use Rattle.std.proofs.Common.{◌≡◌, ◌∙◌, ◌≤◌, ◌<◌, ◌+◌, ◌-◌, ◌++◌, ◌==◌, inl, inr, ℕ, true, false, List, [], ◌∷◌, Result}
+use Rattle.std.proofs.Common.{Ok, Option, Some, None, unwrap_or, length, take, drop, get_or, refl, sym, ap, subst}
+use Rattle.std.proofs.Common.{arith, append_assoc, length-append, length-drop}
 use Rattle.std.specs.Bool.{⊤}
 use Rattle.std.specs.Result.{is_ok}
 use Rattle.std.proofs.lemmas.Bool.Decides.{nat_tests, Decides-eqb}
@@ -13,11 +15,12 @@ use Rattle.cut_disks.specs.State.{DiskState, IsImage, IsTorn, Throughout, covers
 use Rattle.cut_disks.specs.Laws.{WritesStayInSpan}
 use Rattle.cut_ledger.specs.declared.slip.Slip.{Slip}
 use Rattle.cut_journal.specs.declared.fault.JournalFault.{JournalFault}
-use Rattle.cut_journal.specs.File.{open_gate, closed_gate, numbers_length, slip_length, body_of, number_bytes, header_digest}
+use Rattle.cut_journal.specs.File.{open_gate, closed_gate, numbers_length, slip_length, body_of, number_bytes}
+use Rattle.cut_journal.specs.File.{header_digest}
 use Rattle.cut_journal.specs.Reading.{is_slip, slip_in, reading}
-use Rattle.cut_journal.specs.Journal.{kept_slips, slips_of, ReadsAs, IsSound}
-use Rattle.cut_journal.specs.Steps.{HasNumbers, TellsAll, WritesThrough, Leave}
-use Rattle.cut_journal.proofs.Counts.{alike_at, alike_front}
+use Rattle.cut_journal.specs.Journal.{kept_slips, slips_of, ReadsAs, IsFileOf}
+use Rattle.cut_journal.specs.Steps.{HasNumbers, HoldsAllTotals, WritesThrough, Leave}
+use Rattle.cut_journal.proofs.Counts.{alike_at, alike_prefix}
 use Rattle.cut_journal.proofs.Gates.{gate_next}
 use Rattle.cut_journal.proofs.Moments.{Through, through_is, settled_images, stays}
 use Rattle.cut_journal.proofs.Readings.{Holds, gate_there, reads_holds, cases_bool, closed_read, opened_read}
@@ -26,12 +29,15 @@ use Rattle.cut_journal.specs.Places.{body_at, first_slips, gate_place, is_open}
 
 -- ---- torn bytes, place by place
 
-pub torn_front : (at stop n : ℕ) (bytes torn : List ℕ) → IsTorn at stop bytes torn → n ≤ at → n ≤ length bytes → take n torn ≡ take n bytes
-torn_front at stop n bytes torn is low long =
+pub torn_prefix : (at stop n : ℕ) (bytes torn : List ℕ) → IsTorn at stop bytes torn → n ≤ at → n ≤ length bytes
+    → take n torn ≡ take n bytes
+torn_prefix at stop n bytes torn is low long =
     alike_at n torn bytes (omega (arith, is.no_shorter)) long
-    (λ i below. is.same i (omega arith) (let outside : covers i (record { start = at; stop = stop }) ≡ false = grind (arith, nat_tests) in outside))
+    (λ i below. is.same i (omega arith) (let outside : covers i (record { start = at; stop = stop })
+    ≡ false = grind (arith, nat_tests) in outside))
 
-pub torn_rest : (at stop : ℕ) (bytes torn : List ℕ) → IsTorn at stop bytes torn → stop ≤ length bytes → drop stop torn ≡ drop stop bytes
+pub torn_rest : (at stop : ℕ) (bytes torn : List ℕ) → IsTorn at stop bytes torn → stop ≤ length bytes → drop stop torn
+    ≡ drop stop bytes
 torn_rest at stop bytes torn is within =
     let n : ℕ = length bytes - stop in
     let long = length-drop stop bytes in
@@ -41,28 +47,31 @@ torn_rest at stop bytes torn is within =
     (λ i below. get_or-drop stop torn i 0 ∙ is.same (stop + i) (omega arith)
     (let outside : covers (stop + i) (record { start = at; stop = stop }) ≡ false = grind (arith, nat_tests) in outside)
     ∙ sym (get_or-drop stop bytes i 0)) in
-    sym (take_all n (drop stop torn) (omega (arith, other, is.no_longer))) ∙ alike ∙ take_all n (drop stop bytes) (omega (arith, long))
+    sym (take_all n (drop stop torn) (omega (arith, other, is.no_longer))) ∙ alike
+    ∙ take_all n (drop stop bytes) (omega (arith, long))
 
 -- ---- what is overwritten
 
-pub over_front : (bytes put : List ℕ) (at : ℕ) → at ≤ length bytes → take at (overwritten bytes at put) ≡ take at bytes
-over_front bytes put at low =
+pub over_prefix : (bytes put : List ℕ) (at : ℕ) → at ≤ length bytes → take at (overwritten bytes at put) ≡ take at bytes
+over_prefix bytes put at low =
     ap (take at) (append_assoc (take at bytes) put (drop (at + length put) bytes))
     ∙ take_at (take at bytes) (put ++ drop (at + length put) bytes) at (omega (arith, length-take at bytes))
 
-pub over_rest : (bytes put : List ℕ) (at : ℕ) → at ≤ length bytes → drop at (overwritten bytes at put) ≡ put ++ drop (at + length put) bytes
+pub over_rest : (bytes put : List ℕ) (at : ℕ) → at ≤ length bytes → drop at (overwritten bytes at put) ≡ put
+    ++ drop (at + length put) bytes
 over_rest bytes put at low =
     ap (drop at) (append_assoc (take at bytes) put (drop (at + length put) bytes))
     ∙ drop_at (take at bytes) (put ++ drop (at + length put) bytes) at (omega (arith, length-take at bytes))
 
 -- ---- the journal that is ready for a slip
 
-pub sound_holds : (v : Values) (n : ℕ) (d : DiskState) → IsSound v n None d → Holds v d.bytes n × (kept_slips v n d ≡ first_slips v d.bytes n) × (d.stable ≡ settled d.bytes)
+pub sound_holds : (v : Values) (n : ℕ) (d : DiskState) → IsFileOf v n None d → Holds v d.bytes n
+    × (kept_slips v n d ≡ first_slips v d.bytes n) × (d.stable ≡ settled d.bytes)
 sound_holds v n d sound = elim sound.bytes [
   | inl reads ↦ (let parts = reads_holds v d.bytes (kept_slips v n d) reads in (
     subst (λ (k : ℕ). Holds v d.bytes k) sound.counted parts.0,
     parts.1 ∙ ap (λ (k : ℕ). first_slips v d.bytes k) sound.counted,
-    sound.sure refl,
+    sound.durable refl,
   ))
   | inr other ↦ absurd (cc (other.1.0))
 ]
@@ -74,87 +83,126 @@ unfolding body_of
 long_body v s =
     let version : Version = version_of v.failing in
     length-append (number_bytes version s) (sha256 (header_digest v ++ number_bytes version s))
-    ∙ (let a = long_bytes version s in let b = length-sha256 (header_digest v ++ number_bytes version s) in omega (arith, a, b))
+    ∙ (let a = long_bytes version s in let b = length-sha256 (header_digest v ++ number_bytes version s)
+    in omega (arith, a, b))
 
--- what is written behind a slip's gate
+-- what is written after a slip's gate
 abbrev pub put_of : Values → Slip → List ℕ
 put_of v s = body_of v s ++ closed_gate ∷ []
 
 pub long_put : (v : Values) (s : Slip) → length (put_of v s) ≡ slip_length (version_of v.failing)
 long_put v s = length-append (body_of v s) (closed_gate ∷ []) ∙ (let a = long_body v s in omega (arith, a))
 
-first_torn : (v : Values) (n stop : ℕ) (bytes torn : List ℕ) → Holds v bytes n → IsTorn (gate_place v n + 1) stop bytes torn → reading v torn ≡ Ok (first_slips v bytes n)
+first_torn : (v : Values) (n stop : ℕ) (bytes torn : List ℕ) → Holds v bytes n
+    → IsTorn (gate_place v n + 1) stop bytes torn → reading v torn ≡ Ok (first_slips v bytes n)
 first_torn v n stop bytes torn holds is =
     let g : ℕ = gate_place v n in
-    let there = gate_there v bytes n holds.front holds.whole in
-    let same : get_or torn g 0 ≡ get_or bytes g 0 = is.same g there (let outside : covers g (record { start = g + 1; stop = stop }) ≡ false = grind (arith, nat_tests) in outside) in
-    closed_read v n bytes torn holds.front holds.whole (torn_front (g + 1) stop g bytes torn is (omega arith) (omega (arith, there)))
+    let there = gate_there v bytes n holds.prefix holds.whole in
+    let same : get_or torn g 0 ≡ get_or bytes g 0 = is.same g there
+    (let outside : covers g (record { start = g + 1; stop = stop }) ≡ false = grind (arith, nat_tests) in outside) in
+    closed_read v n bytes torn holds.prefix holds.whole
+    (torn_prefix (g + 1) stop g bytes torn is (omega arith) (omega (arith, there)))
     (omega (arith, there, is.no_shorter)) (ap (λ (b : ℕ). b == open_gate) same ∙ holds.closed)
 
-pub first_step : {E : Type 0} (result : Result ⊤ E) (v : Values) (n : ℕ) (slip : Slip) (put : List ℕ) (old new : DiskState) → WritesStayInSpan → IsSound v n None old
-    → WritesThrough result (gate_place v n + 1) put old new → Through (ReadsAs v (kept_slips v n old) (Some slip)) result (gate_place v n + 1) put old new
+pub first_step : {E : Type 0} (result : Result ⊤ E) (v : Values) (n : ℕ) (slip : Slip) (put : List ℕ)
+    (old new : DiskState) → WritesStayInSpan → IsFileOf v n None old
+    → WritesThrough result (gate_place v n + 1) put old new
+    → Through (ReadsAs v (kept_slips v n old) (Some slip)) result (gate_place v n + 1) put old new
 first_step result v n slip put old new stay sound is =
     let ready = sound_holds v n old sound in
     through_is (ReadsAs v (kept_slips v n old) (Some slip)) result (gate_place v n + 1) put old new stay ready.2
     (elim sound.bytes [ inl reads ↦ inl reads | inr other ↦ absurd (cc (other.1.0)) ])
-    (λ image torn. inl (first_torn v n (gate_place v n + 1 + length put) old.bytes image ready.0 torn ∙ ap (λ (l : List Slip). Ok l) (sym ready.1))) is
+    (λ image torn. inl (first_torn v n (gate_place v n + 1 + length put) old.bytes image ready.0 torn
+    ∙ ap (λ (l : List Slip). Ok l) (sym ready.1))) is
 
 -- ---- the second write
 
 -- the gate is the only place that may differ
-second_torn : (v : Values) (n : ℕ) (bytes torn : List ℕ) (slip : Slip) → Holds v bytes n → HasNumbers slip → TellsAll (version_of v.failing) slip.totals
+second_torn : (v : Values) (n : ℕ) (bytes torn : List ℕ) (slip : Slip) → Holds v bytes n → HasNumbers slip
+    → HoldsAllTotals (version_of v.failing) slip.totals
     → IsTorn (gate_place v n) (gate_place v n + 1) (overwritten bytes (gate_place v n + 1) (put_of v slip)) torn
-    → (is_open v torn n ≡ true → reading v torn ≡ Ok (first_slips v bytes n ++ slip ∷ [])) × (is_open v torn n ≡ false → reading v torn ≡ Ok (first_slips v bytes n))
-second_torn v n bytes torn slip holds fits tells is =
+    → (is_open v torn n ≡ true → reading v torn ≡ Ok (first_slips v bytes n ++ slip ∷ []))
+    × (is_open v torn n ≡ false → reading v torn ≡ Ok (first_slips v bytes n))
+second_torn v n bytes torn slip holds fits reports is =
     let g : ℕ = gate_place v n in
     let put : List ℕ = put_of v slip in
     let mid : List ℕ = overwritten bytes (g + 1) put in
-    let there = gate_there v bytes n holds.front holds.whole in
-    let rest_mid : drop (g + 1) mid ≡ put ++ drop (g + 1 + length put) bytes = over_rest bytes put (g + 1) (omega (arith, there)) in
+    let there = gate_there v bytes n holds.prefix holds.whole in
+    let rest_mid : drop (g + 1) mid ≡ put ++ drop (g + 1 + length put) bytes = over_rest bytes put (g + 1)
+    (omega (arith, there)) in
     let b : ℕ = numbers_length (version_of v.failing) + 32 in
     let ahead : gate_place v (n + 1) ≡ g + 1 + b = gate_next v n ∙ omega arith in
-    let long : g + 2 + b ≤ length mid = omega (arith, ap (λ (l : List ℕ). length l) rest_mid, length-append put (drop (g + 1 + length put) bytes), long_put v slip, length-drop (g + 1) mid) in
-    let front : take g torn ≡ take g bytes =
-    torn_front g (g + 1) g mid torn is (omega arith) (omega (arith, long)) ∙ alike_front (g + 1) g mid bytes (over_front bytes put (g + 1) (omega (arith, there))) (omega arith) in
-    let rest : drop (g + 1) torn ≡ put ++ drop (g + 1 + length put) bytes = torn_rest g (g + 1) mid torn is (omega (arith, long)) ∙ rest_mid in
+    let long : g + 2 + b ≤ length mid = omega (
+      arith,
+      ap (λ (l : List ℕ). length l) rest_mid,
+      length-append put
+          (drop (g + 1 + length put) bytes),
+      long_put v slip,
+      length-drop (g + 1) mid,
+    ) in
+    let prefix : take g torn ≡ take g bytes =
+    torn_prefix g (g + 1) g mid torn is (omega arith) (omega (arith, long))
+    ∙ alike_prefix (g + 1) g mid bytes (over_prefix bytes put (g + 1) (omega (arith, there))) (omega arith) in
+    let rest : drop (g + 1) torn ≡ put ++ drop (g + 1 + length put) bytes = torn_rest g (g + 1) mid torn is
+    (omega (arith, long)) ∙ rest_mid in
     let longer : g + 2 + b ≤ length torn = omega (arith, long, is.no_shorter) in
     let size : gate_place v (n + 1) - (g + 1) ≡ b = omega (arith, ahead) in
     let body : body_at v torn n ≡ body_of v slip =
-    ap (λ (k : ℕ). take k (drop (g + 1) torn)) size ∙ ap (take b) (rest ∙ append_assoc (body_of v slip) (closed_gate ∷ []) (drop (g + 1 + length put) bytes))
+    ap (λ (k : ℕ). take k (drop (g + 1) torn)) size
+    ∙ ap (take b) (rest ∙ append_assoc (body_of v slip) (closed_gate ∷ []) (drop (g + 1 + length put) bytes))
     ∙ take_at (body_of v slip) ((closed_gate ∷ []) ++ drop (g + 1 + length put) bytes) b (long_body v slip) in
     let next : g + 1 + b ≡ gate_place v (n + 1) = sym ahead in
     let shut : get_or torn (gate_place v (n + 1)) 0 ≡ 0 =
     ap (λ (k : ℕ). get_or torn k 0) (sym next) ∙ sym (get_or-drop (g + 1) torn b 0)
-    ∙ ap (λ (l : List ℕ). get_or l b 0) (rest ∙ append_assoc (body_of v slip) (closed_gate ∷ []) (drop (g + 1 + length put) bytes))
-    ∙ get_or-append_right (body_of v slip) ((closed_gate ∷ []) ++ drop (g + 1 + length put) bytes) b b 0 (long_body v slip) (omega arith)
-    ∙ ap (λ (k : ℕ). get_or ((closed_gate ∷ []) ++ drop (g + 1 + length put) bytes) k 0) (let e : b - b ≡ 0 = omega arith in e) in (
-      λ opens. opened_read v n bytes torn slip holds.front holds.whole front (omega (arith, longer, ahead)) opens
-          (ap (is_slip v) body ∙ slip_whole v slip fits) (ap (slip_in (version_of v.failing)) body ∙ slip_back v slip fits tells) (ap (λ (b : ℕ). b == open_gate) shut),
-      λ closes. closed_read v n bytes torn holds.front holds.whole front (omega (arith, longer)) closes,
+    ∙ ap (λ (l : List ℕ). get_or l b 0) (rest ∙ append_assoc (body_of v slip) (closed_gate ∷ [])
+    (drop (g + 1 + length put) bytes))
+    ∙ get_or-append_right (body_of v slip) ((closed_gate ∷ []) ++ drop (g + 1 + length put) bytes) b b 0
+    (long_body v slip) (omega arith)
+    ∙ ap (λ (k : ℕ). get_or ((closed_gate ∷ []) ++ drop (g + 1 + length put) bytes) k 0)
+    (let e : b - b ≡ 0 = omega arith in e) in (
+      λ opens. opened_read v n bytes torn slip holds.prefix holds.whole prefix (omega (arith, longer, ahead)) opens
+          (ap (is_slip v) body ∙ slip_whole v slip fits)
+          (ap (slip_in (version_of v.failing)) body ∙ slip_back v slip fits reports)
+          (ap (λ (b : ℕ). b == open_gate) shut),
+      λ closes. closed_read v n bytes torn holds.prefix holds.whole prefix (omega (arith, longer)) closes,
     )
 
 -- the second write, and its sync
-pub record Second {E : Type 0} (result : Result ⊤ E) (v : Values) (slips : List Slip) (slip : Slip) (at : ℕ) (old new : DiskState) : Type 0 where
+pub record Second {E : Type 0} (result : Result ⊤ E) (v : Values) (slips : List Slip) (slip : Slip) (at : ℕ)
+    (old new : DiskState) : Type 0 where
   pub through : Through (ReadsAs v slips (Some slip)) result at (open_gate ∷ []) old new
   pub kept : is_ok result ≡ true → reading v new.bytes ≡ Ok (slips ++ slip ∷ [])
 
-pub second_step : {E : Type 0} (result : Result ⊤ E) (v : Values) (n : ℕ) (slip : Slip) (old mid new : DiskState) → WritesStayInSpan → IsSound v n None old → HasNumbers slip → TellsAll (version_of v.failing) slip.totals
+pub second_step : {E : Type 0} (result : Result ⊤ E) (v : Values) (n : ℕ) (slip : Slip) (old mid new : DiskState)
+    → WritesStayInSpan → IsFileOf v n None old → HasNumbers slip → HoldsAllTotals (version_of v.failing) slip.totals
     → mid.bytes ≡ overwritten old.bytes (gate_place v n + 1) (put_of v slip) → mid.stable ≡ settled mid.bytes
-    → WritesThrough result (gate_place v n) (open_gate ∷ []) mid new → Second result v (kept_slips v n old) slip (gate_place v n) mid new
-second_step {E} result v n slip old mid new stay sound fits tells wrote sure is =
+    → WritesThrough result (gate_place v n) (open_gate ∷ []) mid new
+    → Second result v (kept_slips v n old) slip (gate_place v n) mid new
+second_step {E} result v n slip old mid new stay sound fits reports wrote durable is =
     let g : ℕ = gate_place v n in
     let ready = sound_holds v n old sound in
     let slips : List Slip = kept_slips v n old in
     let P : List ℕ → Type 0 = ReadsAs v slips (Some slip) in
-    let there = gate_there v old.bytes n ready.0.front ready.0.whole in
+    let there = gate_there v old.bytes n ready.0.prefix ready.0.whole in
     let put : List ℕ = put_of v slip in
-    let torn = λ (image : List ℕ) (t : IsTorn g (g + 1) mid.bytes image). second_torn v n old.bytes image slip ready.0 fits tells (subst (λ (b : List ℕ). IsTorn g (g + 1) b image) wrote t) in
-    let reads = λ (image : List ℕ) (t : IsTorn g (g + 1) mid.bytes image). (let holds : P image = elim (cases_bool (is_open v image n)) [
-      | inl opens ↦ inr (slip, (refl, (torn image t).0 opens ∙ ap (λ (l : List Slip). Ok (l ++ slip ∷ [])) (sym ready.1)))
+    let torn = λ (image : List ℕ) (t : IsTorn g (g + 1) mid.bytes image). second_torn v n old.bytes image slip ready.0
+    fits reports (subst (λ (b : List ℕ). IsTorn g (g + 1) b image) wrote t) in
+    let reads = λ (image : List ℕ) (t : IsTorn g (g + 1) mid.bytes image).
+    (let holds : P image = elim (cases_bool (is_open v image n)) [
+      | inl opens ↦ inr (
+        slip,
+        (
+          refl,
+          (torn image t).0 opens
+              ∙ ap (λ (l : List Slip). Ok (l ++ slip ∷ [])) (sym ready.1),
+        ),
+      )
       | inr closes ↦ inl ((torn image t).1 closes ∙ ap (λ (l : List Slip). Ok l) (sym ready.1))
     ] in holds) in
-    let before : P mid.bytes = reads mid.bytes (record { no_shorter = omega arith; no_longer = omega arith; same = λ i low outside. refl }) in
-    let step : Through P result g (open_gate ∷ []) mid new = through_is P result g (open_gate ∷ []) mid new stay sure before reads is in
+    let before : P mid.bytes = reads mid.bytes (record
+    { no_shorter = omega arith; no_longer = omega arith; same = λ i low outside. refl }) in
+    let step : Through P result g (open_gate ∷ []) mid new = through_is P result g (open_gate ∷ []) mid new stay durable
+    before reads is in
     record {
       through = step;
       kept = λ ok. (let bytes : new.bytes ≡ overwritten mid.bytes g (open_gate ∷ []) = step.bytes ok in
@@ -167,66 +215,93 @@ second_step {E} result v n slip old mid new stay sound fits tells wrote sure is 
             length-drop (g + 1) (overwritten old.bytes (g + 1) put),
           ) in
           let first : get_or new.bytes g 0 ≡ open_gate =
-          ap (λ (l : List ℕ). get_or l g 0) bytes ∙ ap (λ (k : ℕ). get_or (overwritten mid.bytes g (open_gate ∷ [])) k 0) (let e : g ≡ g + 0 = omega arith in e)
-          ∙ sym (get_or-drop g (overwritten mid.bytes g (open_gate ∷ [])) 0 0) ∙ ap (λ (l : List ℕ). get_or l 0 0) (over_rest mid.bytes (open_gate ∷ []) g (omega (arith, long))) in
-          let t : IsTorn g (g + 1) mid.bytes new.bytes = subst (λ (b : List ℕ). IsTorn g (g + 1) mid.bytes b) (sym bytes) (stay mid.bytes (open_gate ∷ []) g) in
-          (torn new.bytes t).0 ((Decides-eqb (get_or new.bytes g 0) open_gate).1 first) ∙ ap (λ (l : List Slip). Ok (l ++ slip ∷ [])) (sym ready.1));
+          ap (λ (l : List ℕ). get_or l g 0) bytes ∙ ap
+          (λ (k : ℕ). get_or (overwritten mid.bytes g (open_gate ∷ [])) k 0) (let e : g ≡ g + 0 = omega arith in e)
+          ∙ sym (get_or-drop g (overwritten mid.bytes g (open_gate ∷ [])) 0 0)
+          ∙ ap (λ (l : List ℕ). get_or l 0 0) (over_rest mid.bytes (open_gate ∷ []) g (omega (arith, long))) in
+          let t : IsTorn g (g + 1) mid.bytes new.bytes = subst (λ (b : List ℕ). IsTorn g (g + 1) mid.bytes b)
+          (sym bytes) (stay mid.bytes (open_gate ∷ []) g) in
+          (torn new.bytes t).0 ((Decides-eqb (get_or new.bytes g 0) open_gate).1 first)
+          ∙ ap (λ (l : List Slip). Ok (l ++ slip ∷ [])) (sym ready.1));
     }
 
 -- ---- at the place of the gate
 
-pub first_at : {E : Type 0} (result : Result ⊤ E) (v : Values) (n place : ℕ) (slip : Slip) (put : List ℕ) (old new : DiskState) → place ≡ gate_place v n → WritesStayInSpan → IsSound v n None old
-    → WritesThrough result (place + 1) put old new → Through (ReadsAs v (kept_slips v n old) (Some slip)) result (place + 1) put old new
+pub first_at : {E : Type 0} (result : Result ⊤ E) (v : Values) (n place : ℕ) (slip : Slip) (put : List ℕ)
+    (old new : DiskState) → place ≡ gate_place v n → WritesStayInSpan → IsFileOf v n None old
+    → WritesThrough result (place + 1) put old new
+    → Through (ReadsAs v (kept_slips v n old) (Some slip)) result (place + 1) put old new
 first_at result v n place slip put old new here stay sound is =
-    subst (λ (p : ℕ). WritesThrough result (p + 1) put old new → Through (ReadsAs v (kept_slips v n old) (Some slip)) result (p + 1) put old new) (sym here)
+    subst (λ (p : ℕ). WritesThrough result (p + 1) put old new
+    → Through (ReadsAs v (kept_slips v n old) (Some slip)) result (p + 1) put old new) (sym here)
     (first_step result v n slip put old new stay sound) is
 
-pub second_at : {E F : Type 0} (first : Result ⊤ F) (result : Result ⊤ E) (v : Values) (n place : ℕ) (slip : Slip) (put : List ℕ) (old mid new : DiskState) → place ≡ gate_place v n → WritesStayInSpan
-    → IsSound v n None old → HasNumbers slip → TellsAll (version_of v.failing) slip.totals → put ≡ put_of v slip → is_ok first ≡ true → WritesThrough first (place + 1) put old mid
+pub second_at : {E F : Type 0} (first : Result ⊤ F) (result : Result ⊤ E) (v : Values) (n place : ℕ) (slip : Slip)
+    (put : List ℕ) (old mid new : DiskState) → place ≡ gate_place v n → WritesStayInSpan
+    → IsFileOf v n None old → HasNumbers slip → HoldsAllTotals (version_of v.failing) slip.totals → put ≡ put_of v slip
+    → is_ok first ≡ true → WritesThrough first (place + 1) put old mid
     → WritesThrough result place (open_gate ∷ []) mid new → Second result v (kept_slips v n old) slip place mid new
-second_at first result v n place slip put old mid new here stay sound fits tells made done before is =
+second_at first result v n place slip put old mid new here stay sound fits reports made done before is =
     let step = first_at first v n place slip put old mid here stay sound before in
     let wrote : mid.bytes ≡ overwritten old.bytes (gate_place v n + 1) (put_of v slip) =
-    step.bytes done ∙ ap (λ (p : ℕ). overwritten old.bytes (p + 1) put) here ∙ ap (λ (l : List ℕ). overwritten old.bytes (gate_place v n + 1) l) made in
-    subst (λ (p : ℕ). WritesThrough result p (open_gate ∷ []) mid new → Second result v (kept_slips v n old) slip p mid new) (sym here)
-    (second_step result v n slip old mid new stay sound fits tells wrote (step.sure done)) is
+    step.bytes done ∙ ap (λ (p : ℕ). overwritten old.bytes (p + 1) put) here
+    ∙ ap (λ (l : List ℕ). overwritten old.bytes (gate_place v n + 1) l) made in
+    subst (λ (p : ℕ). WritesThrough result p (open_gate ∷ []) mid new
+    → Second result v (kept_slips v n old) slip p mid new) (sym here)
+    (second_step result v n slip old mid new stay sound fits reports wrote (step.durable done)) is
 
 -- there is room for both writes
-pub gate_before : (v : Values) (n place : ℕ) (d : DiskState) → place ≡ gate_place v n → IsSound v n None d → place + 1 ≤ length d.bytes
+pub gate_before : (v : Values) (n place : ℕ) (d : DiskState) → place ≡ gate_place v n → IsFileOf v n None d → place + 1
+    ≤ length d.bytes
 gate_before v n place d here sound =
     let ready = sound_holds v n d sound in
-    let there = gate_there v d.bytes n ready.0.front ready.0.whole in
+    let there = gate_there v d.bytes n ready.0.prefix ready.0.whole in
     omega (arith, there, here)
 
 pub over_long : (bytes put : List ℕ) (at : ℕ) → at ≤ length bytes → length bytes ≤ length (overwritten bytes at put)
 over_long bytes put at low =
     let rest = ap (λ (l : List ℕ). length l) (over_rest bytes put at low) in
-    let front = ap (λ (l : List ℕ). length l) (over_front bytes put at low) in
-    omega (arith, rest, front, length-take at bytes, length-take at (overwritten bytes at put), length-append put (drop (at + length put) bytes), length-drop (at + length put) bytes, length-drop at (overwritten bytes at put))
+    let prefix = ap (λ (l : List ℕ). length l) (over_prefix bytes put at low) in
+    omega (
+      arith,
+      rest,
+      prefix,
+      length-take at bytes,
+      length-take at (overwritten bytes at put),
+      length-append put
+          (drop (at + length put) bytes),
+      length-drop (at + length put) bytes,
+      length-drop at (overwritten bytes at put),
+    )
 
 -- ---- a journal that was opened
 
-pub kept_are : (v : Values) (n : ℕ) (slips : List Slip) (d : DiskState) → reading v d.bytes ≡ Ok slips → n ≡ length slips → kept_slips v n d ≡ slips
-kept_are v n slips d reads long = ap (λ (r : Result (List Slip) JournalFault). take n (slips_of r)) reads ∙ take_all n slips (omega (arith, long))
+pub kept_are : (v : Values) (n : ℕ) (slips : List Slip) (d : DiskState) → reading v d.bytes ≡ Ok slips → n
+    ≡ length slips → kept_slips v n d ≡ slips
+kept_are v n slips d reads long = ap (λ (r : Result (List Slip) JournalFault). take n (slips_of r)) reads
+    ∙ take_all n slips (omega (arith, long))
 
-pub opened_sound : (v : Values) (n : ℕ) (slips : List Slip) (d : DiskState) → reading v d.bytes ≡ Ok slips → n ≡ length slips → d.stable ≡ settled d.bytes → IsSound v n None d
-opened_sound v n slips d reads long sure =
+pub opened_sound : (v : Values) (n : ℕ) (slips : List Slip) (d : DiskState) → reading v d.bytes ≡ Ok slips → n
+    ≡ length slips → d.stable ≡ settled d.bytes → IsFileOf v n None d
+opened_sound v n slips d reads long durable =
     let same : kept_slips v n d ≡ slips = kept_are v n slips d reads long in
     let says : ReadsAs v (kept_slips v n d) None d.bytes = inl (reads ∙ ap (λ (l : List Slip). Ok l) (sym same)) in
     record {
       counted = ap (λ (l : List Slip). length l) same ∙ sym long;
       bytes = says;
-      images = settled_images (ReadsAs v (kept_slips v n d) None) d.stable d.bytes sure says;
-      sure = λ none. sure;
+      images = settled_images (ReadsAs v (kept_slips v n d) None) d.stable d.bytes durable says;
+      durable = λ none. durable;
     }
 
 -- a doubtful slip, or another one in its place
-pub reads_more : (v : Values) (slips : List Slip) (doubtful : Option Slip) (slip : Slip) (bytes : List ℕ) → ReadsAs v slips doubtful bytes → ReadsAs v slips (Some (unwrap_or doubtful slip)) bytes
+pub reads_more : (v : Values) (slips : List Slip) (doubtful : Option Slip) (slip : Slip) (bytes : List ℕ)
+    → ReadsAs v slips doubtful bytes → ReadsAs v slips (Some (unwrap_or doubtful slip)) bytes
 reads_more v slips None slip bytes (inl reads) = inl reads
 reads_more v slips None slip bytes (inr other) = absurd (cc (other.1.0))
 reads_more v slips (Some doubtful) slip bytes reads = reads
 
-pub sound_stays : (v : Values) (n : ℕ) (doubtful : Option Slip) (slip : Slip) (d new : DiskState) → new ≡ d → IsSound v n doubtful d
+pub sound_stays : (v : Values) (n : ℕ) (doubtful : Option Slip) (slip : Slip) (d new : DiskState) → new ≡ d
+    → IsFileOf v n doubtful d
     → Throughout d new (ReadsAs v (kept_slips v n d) (Some (unwrap_or doubtful slip)))
 sound_stays v n doubtful slip d new same sound =
     stays (ReadsAs v (kept_slips v n d) (Some (unwrap_or doubtful slip))) d new same
@@ -234,27 +309,37 @@ sound_stays v n doubtful slip d new same sound =
 
 -- ---- the journal after an append
 
-pub added : (v : Values) (n : ℕ) (slip : Slip) (old new : DiskState) → IsSound v n None old → reading v new.bytes ≡ Ok (kept_slips v n old ++ slip ∷ []) → new.stable ≡ settled new.bytes
-    → IsSound v (n + 1) None new × (kept_slips v (n + 1) new ≡ kept_slips v n old ++ slip ∷ [])
-added v n slip old new sound reads sure =
-    let long : n + 1 ≡ length (kept_slips v n old ++ slip ∷ []) = (let c = sound.counted in let a = length-append (kept_slips v n old) (slip ∷ []) in omega (arith, c, a)) in
-    (opened_sound v (n + 1) (kept_slips v n old ++ slip ∷ []) new reads long sure, kept_are v (n + 1) (kept_slips v n old ++ slip ∷ []) new reads long)
+pub added : (v : Values) (n : ℕ) (slip : Slip) (old new : DiskState) → IsFileOf v n None old → reading v new.bytes
+    ≡ Ok (kept_slips v n old ++ slip ∷ []) → new.stable ≡ settled new.bytes
+    → IsFileOf v (n + 1) None new × (kept_slips v (n + 1) new ≡ kept_slips v n old ++ slip ∷ [])
+added v n slip old new sound reads durable =
+    let long : n + 1 ≡ length (kept_slips v n old ++ slip ∷ []) =
+    (let c = sound.counted in let a = length-append (kept_slips v n old) (slip ∷ []) in omega (arith, c, a)) in (
+      opened_sound v (n + 1) (kept_slips v n old ++ slip ∷ []) new reads long durable,
+      kept_are v (n + 1)
+          (kept_slips v n old ++ slip ∷ []) new reads long,
+    )
 
 -- the slips that count are the same, whether the doubtful one is there or not
-pub kept_same : (v : Values) (n : ℕ) (slip : Slip) (old new : DiskState) → length (kept_slips v n old) ≡ n → ReadsAs v (kept_slips v n old) (Some slip) new.bytes → kept_slips v n new ≡ kept_slips v n old
+pub kept_same : (v : Values) (n : ℕ) (slip : Slip) (old new : DiskState) → length (kept_slips v n old) ≡ n
+    → ReadsAs v (kept_slips v n old) (Some slip) new.bytes → kept_slips v n new ≡ kept_slips v n old
 kept_same v n slip old new long (inl reads) = kept_are v n (kept_slips v n old) new reads (sym long)
 kept_same v n slip old new long (inr (other, both)) =
-    ap (λ (r : Result (List Slip) JournalFault). take n (slips_of r)) both.1 ∙ take_at (kept_slips v n old) (other ∷ []) n long
+    ap (λ (r : Result (List Slip) JournalFault). take n (slips_of r)) both.1
+    ∙ take_at (kept_slips v n old) (other ∷ []) n long
 
-pub failed_sound : (v : Values) (n : ℕ) (slip : Slip) (old new : DiskState) → length (kept_slips v n old) ≡ n → Leave (ReadsAs v (kept_slips v n old) (Some slip)) new → IsSound v n (Some slip) new
+pub failed_sound : (v : Values) (n : ℕ) (slip : Slip) (old new : DiskState) → length (kept_slips v n old) ≡ n
+    → Leave (ReadsAs v (kept_slips v n old) (Some slip)) new → IsFileOf v n (Some slip) new
 failed_sound v n slip old new long left =
     let same : kept_slips v n new ≡ kept_slips v n old = kept_same v n slip old new long left.0 in
     record {
       counted = ap (λ (l : List Slip). length l) same ∙ long;
       bytes = subst (λ (l : List Slip). ReadsAs v l (Some slip) new.bytes) (sym same) left.0;
       images = λ image of. subst (λ (l : List Slip). ReadsAs v l (Some slip) image) (sym same) (left.1 image of);
-      sure = λ none. absurd (cc);
+      durable = λ none. absurd (cc);
     }
 
-pub all_read : (v : Values) (slips : List Slip) (d : DiskState) → reading v d.bytes ≡ Ok slips → d.stable ≡ settled d.bytes → (image : List ℕ) → IsImage d.stable image → reading v image ≡ Ok slips
-all_read v slips d reads sure = settled_images (λ (image : List ℕ). reading v image ≡ Ok slips) d.stable d.bytes sure reads
+pub all_read : (v : Values) (slips : List Slip) (d : DiskState) → reading v d.bytes ≡ Ok slips → d.stable
+    ≡ settled d.bytes → (image : List ℕ) → IsImage d.stable image → reading v image ≡ Ok slips
+all_read v slips d reads durable = settled_images (λ (image : List ℕ). reading v image ≡ Ok slips) d.stable d.bytes
+    durable reads

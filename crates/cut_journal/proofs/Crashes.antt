@@ -1,5 +1,6 @@
 -- What a crash leaves is what the machine of runs says.
-use Rattle.std.proofs.Common.{◌≡◌, ◌∙◌, ◌++◌, inl, inr, ℕ, Bool, true, false, cond, List, [], ◌∷◌, Ok, Err, Option, Some, None, is_some, unwrap_or, refl, sym, ap, subst, append-nil}
+use Rattle.std.proofs.Common.{◌≡◌, ◌∙◌, ◌++◌, inl, inr, ℕ, Bool, true, false, cond, List, [], ◌∷◌, Ok, Err, Option}
+use Rattle.std.proofs.Common.{Some, None, is_some, unwrap_or, refl, sym, ap, subst, append-nil}
 use Rattle.std.specs.Prelude.{IsSome, option_map}
 use Rattle.cut_faults.specs.declared.code.FaultCode.{FaultCode}
 use Rattle.cut_faults.specs.declared.code.FaultCode.TheVariants as code
@@ -7,31 +8,40 @@ use Rattle.cut_plan.specs.Values.{Values}
 use Rattle.cut_trial.specs.Computed.{Computed}
 use Rattle.cut_disks.specs.State.{DiskState}
 use Rattle.cut_ledger.specs.declared.slip.Slip.{Slip}
-use Rattle.cut_ledger.specs.declared.event.Event.TheVariants.{Draw, HandIn, HandInDiskFails, Lose, CrashReopen, Emit, WireFails, NewWire, Finish}
+use Rattle.cut_ledger.specs.declared.event.Event.TheVariants.{Draw, HandIn, HandInDiskFails, Lose, CrashReopen, Emit}
+use Rattle.cut_ledger.specs.declared.event.Event.TheVariants.{WireFails, NewWire, Finish}
 use Rattle.cut_ledger.specs.FaultCode.{code_of}
-use Rattle.cut_ledger.specs.Machine.{State, after, opened, slip_of, slips_found, some_slip, refused_code, unless_refused, taken, failed}
+use Rattle.cut_ledger.specs.Machine.{StudyState, after, opened, slip_of, slips_found, some_slip, refused_code}
+use Rattle.cut_ledger.specs.Machine.{unless_refused, taken, failed}
 use Rattle.cut_ledger.specs.Refusals.{refusal_of}
-use Rattle.cut_journal.specs.declared.fault.JournalFault.TheVariants.{Memory, Disk, Broken, NoStudy, OtherPlan, Damaged, Held}
-use Rattle.cut_journal.specs.Journal.{Log, kept_slips, ReadsAs}
-use Rattle.cut_journal.specs.Laws.{IsJournalOf, IsResumed, CrashesBetweenCalls, CrashesInAppends, AppendsFollow, OpeningsFollow, OtherEventsFollow}
+use Rattle.cut_journal.specs.declared.fault.JournalFault.TheVariants.{Memory, Disk, Broken, NoStudy, OtherPlan, Damaged}
+use Rattle.cut_journal.specs.declared.fault.JournalFault.TheVariants.{Held}
+use Rattle.cut_journal.specs.Journal.{JournalValue, kept_slips, ReadsAs}
+use Rattle.cut_journal.specs.Laws.{IsJournalOf, IsResumed, CrashesBetweenCalls, CrashesInAppends, AppendsFollow}
+use Rattle.cut_journal.specs.Laws.{OpeningsFollow, OtherEventsFollow}
 use Rattle.cut_journal.proofs.Appends.{kept_are}
 use Rattle.cut_journal.proofs.Moments.{weaker}
 
 -- a study that is opened over what a run finds
-reopened : (v : Values) (s : State) (keep : Bool) (slips : List Slip) → s.ledger.plan ≡ v → s.has_journal ≡ true → slips_found s keep ≡ slips
+reopened : (v : Values) (s : StudyState) (keep : Bool) (slips : List Slip) → s.ledger.plan ≡ v → s.has_journal ≡ true
+    → slips_found s keep ≡ slips
     → (size : ℕ) → after s (CrashReopen keep size) ≡ opened v true slips size
 reopened v s keep slips plan journal found size =
-    ap (λ (u : Values). opened u s.has_journal (slips_found s keep) size) plan ∙ ap (λ (h : Bool). opened v h (slips_found s keep) size) journal
+    ap (λ (u : Values). opened u s.has_journal (slips_found s keep) size) plan
+    ∙ ap (λ (h : Bool). opened v h (slips_found s keep) size) journal
     ∙ ap (λ (l : List Slip). opened v true l size) found
 
-resumed : (v : Values) (s : State) (ks : List Slip) (doubtful : Option Slip) (bytes : List ℕ) → s.ledger.plan ≡ v → s.has_journal ≡ true → s.kept ≡ ks → s.doubtful ≡ doubtful
+resumed : (v : Values) (s : StudyState) (ks : List Slip) (doubtful : Option Slip) (bytes : List ℕ) → s.ledger.plan ≡ v
+    → s.has_journal ≡ true → s.kept ≡ ks → s.doubtful ≡ doubtful
     → ReadsAs v ks doubtful bytes → IsResumed v s bytes
 resumed v s ks doubtful bytes plan journal kept doubt (inl reads) =
-    let found : slips_found s false ≡ ks = ap (λ (b : Bool). cond b (s.kept ++ []) []) journal ∙ append-nil s.kept ∙ kept in
+    let found : slips_found s false ≡ ks = ap (λ (b : Bool). cond b (s.kept ++ []) []) journal ∙ append-nil s.kept
+    ∙ kept in
     (false, (ks, (reads, reopened v s false ks plan journal found)))
 resumed v s ks doubtful bytes plan journal kept doubt (inr (slip, both)) =
     let found : slips_found s true ≡ ks ++ slip ∷ [] =
-    ap (λ (b : Bool). cond b (s.kept ++ some_slip s.doubtful) []) journal ∙ ap (λ (l : List Slip). l ++ some_slip s.doubtful) kept
+    ap (λ (b : Bool). cond b (s.kept ++ some_slip s.doubtful) []) journal
+    ∙ ap (λ (l : List Slip). l ++ some_slip s.doubtful) kept
     ∙ ap (λ (o : Option Slip). ks ++ some_slip o) (doubt ∙ both.0) in
     (true, (ks ++ slip ∷ [], (both.1, reopened v s true (ks ++ slip ∷ []) plan journal found)))
 
@@ -40,34 +50,46 @@ between_calls v count doubtful d s sound of image is =
     resumed v s (kept_slips v count d) doubtful image of.plan of.journal of.kept of.doubt (sound.images image is)
 
 -- what the run makes of a result that the ledger takes
-not_refused : (s : State) (r : Computed) → s.broken ≡ false → refusal_of s.ledger r ≡ None → refused_code s r ≡ None
+not_refused : (s : StudyState) (r : Computed) → s.broken ≡ false → refusal_of s.ledger r ≡ None → refused_code s r
+    ≡ None
 not_refused s r sound fine =
-    ap (λ (b : Bool). (let o : Option FaultCode = cond b (Some code.Checkpoint) (option_map code_of (refusal_of s.ledger r)) in o)) sound ∙ ap (option_map code_of) fine
+    ap (λ (b : Bool). (let o : Option FaultCode = cond b (Some code.Checkpoint)
+    (option_map code_of (refusal_of s.ledger r)) in o)) sound ∙ ap (option_map code_of) fine
 
-refused_broken : (s : State) (r : Computed) → s.broken ≡ true → refused_code s r ≡ Some code.Checkpoint
-refused_broken s r broken = ap (λ (b : Bool). (let o : Option FaultCode = cond b (Some code.Checkpoint) (option_map code_of (refusal_of s.ledger r)) in o)) broken
+refused_broken : (s : StudyState) (r : Computed) → s.broken ≡ true → refused_code s r ≡ Some code.Checkpoint
+refused_broken s r broken = ap (λ (b : Bool). (let o : Option FaultCode = cond b (Some code.Checkpoint)
+    (option_map code_of (refusal_of s.ledger r)) in o)) broken
 
-after_failing : (s : State) (r : Computed) → s.broken ≡ false → refusal_of s.ledger r ≡ None → after s (HandInDiskFails r) ≡ failed s r
-after_failing s r sound fine = ap (λ (o : Option FaultCode). unless_refused o s (failed s r)) (not_refused s r sound fine)
+after_failing : (s : StudyState) (r : Computed) → s.broken ≡ false → refusal_of s.ledger r ≡ None
+    → after s (HandInDiskFails r) ≡ failed s r
+after_failing s r sound fine = ap (λ (o : Option FaultCode). unless_refused o s (failed s r))
+    (not_refused s r sound fine)
 
-after_broken : (s : State) (r : Computed) → s.broken ≡ true → after s (HandInDiskFails r) ≡ s
+after_broken : (s : StudyState) (r : Computed) → s.broken ≡ true → after s (HandInDiskFails r) ≡ s
 after_broken s r broken = ap (λ (o : Option FaultCode). unless_refused o s (failed s r)) (refused_broken s r broken)
 
-after_taking : (s : State) (r : Computed) → s.broken ≡ false → refusal_of s.ledger r ≡ None → after s (HandIn r) ≡ taken s r
+after_taking : (s : StudyState) (r : Computed) → s.broken ≡ false → refusal_of s.ledger r ≡ None → after s (HandIn r)
+    ≡ taken s r
 after_taking s r sound fine = ap (λ (o : Option FaultCode). unless_refused o s (taken s r)) (not_refused s r sound fine)
 
-in_append : (v : Values) (ks : List Slip) (doubtful : Option Slip) (s : State) (r : Computed) → s.ledger.plan ≡ v → s.has_journal ≡ true → s.kept ≡ ks → s.doubtful ≡ doubtful
-    → s.broken ≡ is_some doubtful → refusal_of s.ledger r ≡ None → (bytes : List ℕ) → ReadsAs v ks (Some (unwrap_or doubtful (slip_of r))) bytes
+in_append : (v : Values) (ks : List Slip) (doubtful : Option Slip) (s : StudyState) (r : Computed) → s.ledger.plan ≡ v
+    → s.has_journal ≡ true → s.kept ≡ ks → s.doubtful ≡ doubtful
+    → s.broken ≡ is_some doubtful → refusal_of s.ledger r ≡ None → (bytes : List ℕ)
+    → ReadsAs v ks (Some (unwrap_or doubtful (slip_of r))) bytes
     → IsResumed v (after s (HandInDiskFails r)) bytes
 in_append v ks None s r plan journal kept doubt broken fine bytes reads =
-    subst (λ (x : State). IsResumed v x bytes) (sym (after_failing s r broken fine)) (resumed v (failed s r) ks (Some (slip_of r)) bytes plan journal kept refl reads)
+    subst (λ (x : StudyState). IsResumed v x bytes) (sym (after_failing s r broken fine))
+    (resumed v (failed s r) ks (Some (slip_of r)) bytes plan journal kept refl reads)
 in_append v ks (Some slip) s r plan journal kept doubt broken fine bytes reads =
-    subst (λ (x : State). IsResumed v x bytes) (sym (after_broken s r broken)) (resumed v s ks (Some slip) bytes plan journal kept doubt reads)
+    subst (λ (x : StudyState). IsResumed v x bytes) (sym (after_broken s r broken))
+    (resumed v s ks (Some slip) bytes plan journal kept doubt reads)
 
 pub in_appends : CrashesInAppends
 in_appends v count doubtful old new s r of fine moments =
-    weaker (ReadsAs v (kept_slips v count old) (Some (unwrap_or doubtful (slip_of r)))) (IsResumed v (after s (HandInDiskFails r)))
-    (in_append v (kept_slips v count old) doubtful s r of.plan of.journal of.kept of.doubt of.broken fine) old new moments
+    weaker (ReadsAs v (kept_slips v count old) (Some (unwrap_or doubtful (slip_of r))))
+    (IsResumed v (after s (HandInDiskFails r)))
+    (in_append v (kept_slips v count old) doubtful s r of.plan of.journal of.kept of.doubt of.broken fine) old new
+    moments
 
 -- ---- the journal of a run stays so
 
@@ -75,14 +97,16 @@ no_doubt : (doubtful : Option Slip) → (IsSome doubtful → ⊥) → doubtful �
 no_doubt None none = refl
 no_doubt (Some slip) none = absurd (none refl)
 
-unchanged : {D : Type 0} (old new : Log D) (before now : DiskState) (s : State) → IsJournalOf old.plan old.count old.doubtful before s → new ≡ old
-    → kept_slips new.plan new.count now ≡ kept_slips old.plan old.count before → IsJournalOf new.plan new.count new.doubtful now s
+unchanged : {D : Type 0} (old new : JournalValue D) (before now : DiskState) (s : StudyState)
+    → IsJournalOf old.plan old.count old.doubtful before s → new ≡ old
+    → kept_slips new.plan new.count now ≡ kept_slips old.plan old.count before
+    → IsJournalOf new.plan new.count new.doubtful now s
 unchanged {D} old new before now s of same kept = record {
-  plan = of.plan ∙ ap (λ (l : Log D). l.plan) (sym same);
+  plan = of.plan ∙ ap (λ (l : JournalValue D). l.plan) (sym same);
   journal = of.journal;
   kept = of.kept ∙ sym kept;
-  doubt = of.doubt ∙ ap (λ (l : Log D). l.doubtful) (sym same);
-  broken = of.broken ∙ ap (λ (l : Log D). is_some l.doubtful) (sym same);
+  doubt = of.doubt ∙ ap (λ (l : JournalValue D). l.doubtful) (sym same);
+  broken = of.broken ∙ ap (λ (l : JournalValue D). is_some l.doubtful) (sym same);
 }
 
 pub follows : {D : Type 0} → AppendsFollow D
@@ -92,11 +116,13 @@ follows (Ok number) r old new before now s of fine broken left kept =
     let goes : IsJournalOf new.plan new.count new.doubtful now (taken s r) = record {
       plan = of.plan ∙ sym left.0;
       journal = of.journal;
-      kept = ap (λ (b : Bool). cond b (s.kept ++ slip_of r ∷ []) s.kept) of.journal ∙ ap (λ (l : List Slip). l ++ slip_of r ∷ []) of.kept ∙ sym kept;
+      kept = ap (λ (b : Bool). cond b (s.kept ++ slip_of r ∷ []) s.kept) of.journal
+          ∙ ap (λ (l : List Slip). l ++ slip_of r ∷ []) of.kept ∙ sym kept;
       doubt = of.doubt ∙ none ∙ sym left.2;
       broken = sound ∙ ap is_some (sym left.2);
     } in
-    subst (λ (x : State). IsJournalOf new.plan new.count new.doubtful now x) (sym (after_taking s r sound fine)) goes
+    subst (λ (x : StudyState). IsJournalOf new.plan new.count new.doubtful now x) (sym (after_taking s r sound fine))
+    goes
 follows (Err Disk) r old new before now s of fine broken left kept =
     let none : old.doubtful ≡ None = no_doubt old.doubtful (λ some. absurd (cc (broken.1 some))) in
     let goes : IsJournalOf new.plan new.count new.doubtful now (failed s r) = record {
@@ -106,12 +132,14 @@ follows (Err Disk) r old new before now s of fine broken left kept =
       doubt = sym left.2;
       broken = ap is_some (sym left.2);
     } in
-    subst (λ (x : State). IsJournalOf new.plan new.count new.doubtful now x) (sym (after_failing s r (of.broken ∙ ap is_some none) fine)) goes
+    subst (λ (x : StudyState). IsJournalOf new.plan new.count new.doubtful now x)
+    (sym (after_failing s r (of.broken ∙ ap is_some none) fine)) goes
 follows (Err Memory) r old new before now s of fine broken left kept = unchanged old new before now s of left kept
 follows (Err Broken) r old new before now s of fine broken left kept = unchanged old new before now s of left kept
 follows (Err NoStudy) r old new before now s of fine broken left kept = unchanged old new before now s of left kept
 follows (Err OtherPlan) r old new before now s of fine broken left kept = unchanged old new before now s of left kept
-follows (Err (Damaged number)) r old new before now s of fine broken left kept = unchanged old new before now s of left kept
+follows (Err (Damaged number)) r old new before now s of fine broken left kept = unchanged old new before now s of left
+    kept
 follows (Err Held) r old new before now s of fine broken left kept = unchanged old new before now s of left kept
 
 pub opening_follows : OpeningsFollow
@@ -124,12 +152,17 @@ opening_follows v count slips d size reads long = record {
 }
 
 pub others_follow : OtherEventsFollow
-others_follow v count doubtful d s Draw of leaves = record { plan = of.plan; journal = of.journal; kept = of.kept; doubt = of.doubt; broken = of.broken }
+others_follow v count doubtful d s Draw of leaves = record
+    { plan = of.plan; journal = of.journal; kept = of.kept; doubt = of.doubt; broken = of.broken }
 others_follow v count doubtful d s (HandIn r) of leaves = absurd (leaves)
 others_follow v count doubtful d s (HandInDiskFails r) of leaves = absurd (leaves)
-others_follow v count doubtful d s (Lose i) of leaves = record { plan = of.plan; journal = of.journal; kept = of.kept; doubt = of.doubt; broken = of.broken }
+others_follow v count doubtful d s (Lose i) of leaves = record
+    { plan = of.plan; journal = of.journal; kept = of.kept; doubt = of.doubt; broken = of.broken }
 others_follow v count doubtful d s (CrashReopen keep size) of leaves = absurd (leaves)
-others_follow v count doubtful d s (Emit n) of leaves = record { plan = of.plan; journal = of.journal; kept = of.kept; doubt = of.doubt; broken = of.broken }
-others_follow v count doubtful d s (WireFails n) of leaves = record { plan = of.plan; journal = of.journal; kept = of.kept; doubt = of.doubt; broken = of.broken }
-others_follow v count doubtful d s NewWire of leaves = record { plan = of.plan; journal = of.journal; kept = of.kept; doubt = of.doubt; broken = of.broken }
+others_follow v count doubtful d s (Emit n) of leaves = record
+    { plan = of.plan; journal = of.journal; kept = of.kept; doubt = of.doubt; broken = of.broken }
+others_follow v count doubtful d s (WireFails n) of leaves = record
+    { plan = of.plan; journal = of.journal; kept = of.kept; doubt = of.doubt; broken = of.broken }
+others_follow v count doubtful d s NewWire of leaves = record
+    { plan = of.plan; journal = of.journal; kept = of.kept; doubt = of.doubt; broken = of.broken }
 others_follow v count doubtful d s Finish of leaves = of

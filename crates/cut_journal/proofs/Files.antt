@@ -1,5 +1,6 @@
 -- The bytes of a study's file, as the writes of a journal leave them.
-use Rattle.std.proofs.Common.{◌≡◌, ◌∙◌, ◌+◌, ◌++◌, ℕ, List, [], ◌∷◌, length, take, drop, refl, sym, ap, arith, append-nil, append_assoc, length-append}
+use Rattle.std.proofs.Common.{◌≡◌, ◌∙◌, ◌+◌, ◌++◌, ℕ, List, [], ◌∷◌, length, take, drop, refl, sym, ap, arith}
+use Rattle.std.proofs.Common.{append-nil, append_assoc, length-append}
 use Rattle.std.specs.Io.{StartsWith}
 use Rattle.std.specs.List.{flat_map}
 use Rattle.std.proofs.lemmas.Grind.{flat_map-append}
@@ -7,13 +8,13 @@ use Rattle.std.proofs.lemmas.List.{take_at, drop_at}
 use Rattle.cut_plan.specs.Values.{Values}
 use Rattle.cut_disks.specs.State.{overwritten}
 use Rattle.cut_ledger.specs.declared.slip.Slip.{Slip}
-use Rattle.cut_journal.specs.File.{open_gate, closed_gate, front_of, file_of, body_of}
+use Rattle.cut_journal.specs.File.{open_gate, closed_gate, prefix_of, file_of, body_of}
 use Rattle.cut_journal.specs.Journal.{ExtendsFile}
 use Rattle.cut_journal.specs.Steps.{BeginsAs}
 use Rattle.cut_journal.proofs.Appends.{put_of, long_body}
-use Rattle.cut_journal.proofs.Fronts.{long_front}
+use Rattle.cut_journal.proofs.Prefixes.{long_prefix}
 use Rattle.cut_journal.proofs.Gates.{gate_first, gate_next}
-use Rattle.cut_journal.proofs.Makings.{whole_front}
+use Rattle.cut_journal.proofs.Makings.{whole_prefix}
 use Rattle.cut_journal.specs.Places.{gate_place}
 
 begins : (bytes prefix rest : List ℕ) → bytes ≡ prefix ++ rest → StartsWith bytes prefix
@@ -21,13 +22,14 @@ begins bytes prefix rest is = ap (take (length prefix)) is ∙ take_at prefix re
 
 -- ---- a new study
 
-pub new_file : (v : Values) (bytes : List ℕ) → BeginsAs v bytes → StartsWith (overwritten bytes 0 (open_gate ∷ [])) (file_of v [])
+pub new_file : (v : Values) (bytes : List ℕ) → BeginsAs v bytes
+    → StartsWith (overwritten bytes 0 (open_gate ∷ [])) (file_of v [])
 new_file v bytes begun =
     let rest : List ℕ = begun.1.0 in
     begins (overwritten bytes 0 (open_gate ∷ [])) (file_of v []) rest
-    (ap (λ (l : List ℕ). overwritten l 0 (open_gate ∷ [])) begun.1.1.0 ∙ whole_front v rest
-    ∙ ap (λ (l : List ℕ). l ++ (closed_gate ∷ rest)) (sym (append-nil (front_of v)))
-    ∙ sym (append_assoc (front_of v ++ []) (closed_gate ∷ []) rest))
+    (ap (λ (l : List ℕ). overwritten l 0 (open_gate ∷ [])) begun.1.1.0 ∙ whole_prefix v rest
+    ∙ ap (λ (l : List ℕ). l ++ (closed_gate ∷ rest)) (sym (append-nil (prefix_of v)))
+    ∙ sym (append_assoc (prefix_of v ++ []) (closed_gate ∷ []) rest))
 
 -- ---- one slip more
 
@@ -39,7 +41,8 @@ gated v s = open_gate ∷ body_of v s
 abbrev gated_slips : Values → List Slip → List ℕ
 gated_slips v slips = flat_map (gated v) slips
 
-long_slips : (v : Values) (k : ℕ) (slips : List Slip) → gate_place v k + length (gated_slips v slips) ≡ gate_place v (k + length slips)
+long_slips : (v : Values) (k : ℕ) (slips : List Slip) → gate_place v k + length (gated_slips v slips)
+    ≡ gate_place v (k + length slips)
 long_slips v k [] =
     let none : gate_place v k + 0 ≡ gate_place v k = omega arith in
     none ∙ ap (λ n. gate_place v n) (let e : k ≡ k + 0 = omega arith in e)
@@ -48,56 +51,67 @@ long_slips v k (s ∷ slips) =
     let body = long_body v s in
     let next = gate_next v k in
     let rest = long_slips v (k + 1) slips in
-    let size : gate_place v k + length (gated_slips v (s ∷ slips)) ≡ gate_place v (k + 1 + length slips) = omega (arith, one, body, next, rest) in
+    let size : gate_place v k + length (gated_slips v (s ∷ slips))
+    ≡ gate_place v (k + 1 + length slips) = omega (arith, one, body, next, rest) in
     size ∙ ap (λ n. gate_place v n) (let e : k + 1 + length slips ≡ k + length (s ∷ slips) = omega arith in e)
 
-long_file : (v : Values) (slips : List Slip) → length (front_of v ++ gated_slips v slips) ≡ gate_place v (length slips)
+long_file : (v : Values) (slips : List Slip) → length (prefix_of v ++ gated_slips v slips) ≡ gate_place v (length slips)
 long_file v slips =
-    let all = length-append (front_of v) (gated_slips v slips) in
-    let front = long_front v in
+    let all = length-append (prefix_of v) (gated_slips v slips) in
+    let prefix = long_prefix v in
     let first = gate_first v in
     let rest = long_slips v 0 slips in
-    let size : length (front_of v ++ gated_slips v slips) ≡ gate_place v (0 + length slips) = omega (arith, all, front, first, rest) in
+    let size : length (prefix_of v ++ gated_slips v slips)
+    ≡ gate_place v (0 + length slips) = omega (arith, all, prefix, first, rest) in
     size ∙ ap (λ n. gate_place v n) (let e : 0 + length slips ≡ length slips = omega arith in e)
 
-regrouped : (front slips body rest : List ℕ) → ((front ++ slips) ++ open_gate ∷ []) ++ ((body ++ closed_gate ∷ []) ++ rest) ≡ ((front ++ (slips ++ (open_gate ∷ body))) ++ closed_gate ∷ []) ++ rest
-regrouped front slips body rest =
-    append_assoc (front ++ slips) (open_gate ∷ []) ((body ++ closed_gate ∷ []) ++ rest)
-    ∙ append_assoc front slips (open_gate ∷ ((body ++ closed_gate ∷ []) ++ rest))
-    ∙ ap (λ (l : List ℕ). front ++ (slips ++ (open_gate ∷ l))) (append_assoc body (closed_gate ∷ []) rest)
-    ∙ ap (λ (l : List ℕ). front ++ l) (sym (append_assoc slips (open_gate ∷ body) (closed_gate ∷ rest)))
-    ∙ sym (append_assoc front (slips ++ (open_gate ∷ body)) (closed_gate ∷ rest))
-    ∙ sym (append_assoc (front ++ (slips ++ (open_gate ∷ body))) (closed_gate ∷ []) rest)
+regrouped : (prefix slips body rest : List ℕ) → ((prefix ++ slips) ++ open_gate ∷ [])
+    ++ ((body ++ closed_gate ∷ []) ++ rest) ≡ ((prefix ++ (slips ++ (open_gate ∷ body))) ++ closed_gate ∷ []) ++ rest
+regrouped prefix slips body rest =
+    append_assoc (prefix ++ slips) (open_gate ∷ []) ((body ++ closed_gate ∷ []) ++ rest)
+    ∙ append_assoc prefix slips (open_gate ∷ ((body ++ closed_gate ∷ []) ++ rest))
+    ∙ ap (λ (l : List ℕ). prefix ++ (slips ++ (open_gate ∷ l))) (append_assoc body (closed_gate ∷ []) rest)
+    ∙ ap (λ (l : List ℕ). prefix ++ l) (sym (append_assoc slips (open_gate ∷ body) (closed_gate ∷ rest)))
+    ∙ sym (append_assoc prefix (slips ++ (open_gate ∷ body)) (closed_gate ∷ rest))
+    ∙ sym (append_assoc (prefix ++ (slips ++ (open_gate ∷ body))) (closed_gate ∷ []) rest)
 
--- the slips with one more behind them
-more_slips : (v : Values) (slips : List Slip) (s : Slip) → gated_slips v (slips ++ s ∷ []) ≡ gated_slips v slips ++ gated v s
-more_slips v slips s = flat_map-append (gated v) slips (s ∷ []) ∙ ap (λ (l : List ℕ). gated_slips v slips ++ l) (append-nil (gated v s))
+-- the slips with one more after them
+more_slips : (v : Values) (slips : List Slip) (s : Slip) → gated_slips v (slips ++ s ∷ []) ≡ gated_slips v slips
+    ++ gated v s
+more_slips v slips s = flat_map-append (gated v) slips (s ∷ [])
+    ∙ ap (λ (l : List ℕ). gated_slips v slips ++ l) (append-nil (gated v s))
 
 -- the two writes of an append
-pub extended : (v : Values) (n : ℕ) (slip : Slip) (old mid new : List ℕ) → mid ≡ overwritten old (gate_place v n + 1) (put_of v slip) → new ≡ overwritten mid (gate_place v n) (open_gate ∷ [])
+pub extended : (v : Values) (n : ℕ) (slip : Slip) (old mid new : List ℕ) → mid
+    ≡ overwritten old (gate_place v n + 1) (put_of v slip) → new ≡ overwritten mid (gate_place v n) (open_gate ∷ [])
     → ExtendsFile v n slip old new
 extended v n slip old mid new wrote opened = λ slips long starts.
     let g : ℕ = gate_place v n in
-    let kept : List ℕ = front_of v ++ gated_slips v slips in
+    let kept : List ℕ = prefix_of v ++ gated_slips v slips in
     let put : List ℕ = put_of v slip in
     let rest : List ℕ = drop (g + 1 + length put) old in
     let size : length kept ≡ g = long_file v slips ∙ ap (λ k. gate_place v k) long in
-    let whole : length (file_of v slips) ≡ g + 1 = (let a = length-append kept (closed_gate ∷ []) in omega (arith, a, size)) in
-    let front : take (g + 1) old ≡ kept ++ closed_gate ∷ [] = ap (λ k. take k old) (sym whole) ∙ starts in
+    let whole : length (file_of v slips) ≡ g + 1 =
+    (let a = length-append kept (closed_gate ∷ []) in omega (arith, a, size)) in
+    let prefix : take (g + 1) old ≡ kept ++ closed_gate ∷ [] = ap (λ k. take k old) (sym whole) ∙ starts in
     let between : mid ≡ kept ++ (closed_gate ∷ (put ++ rest)) =
-    wrote ∙ ap (λ (l : List ℕ). (l ++ put) ++ rest) front ∙ append_assoc (kept ++ closed_gate ∷ []) put rest ∙ append_assoc kept (closed_gate ∷ []) (put ++ rest) in
+    wrote ∙ ap (λ (l : List ℕ). (l ++ put) ++ rest) prefix ∙ append_assoc (kept ++ closed_gate ∷ []) put rest
+    ∙ append_assoc kept (closed_gate ∷ []) (put ++ rest) in
     let ahead : take g mid ≡ kept = ap (take g) between ∙ take_at kept (closed_gate ∷ (put ++ rest)) g size in
     let after : drop (g + 1) mid ≡ put ++ rest =
     ap (drop (g + 1)) (between ∙ sym (append_assoc kept (closed_gate ∷ []) (put ++ rest)))
-    ∙ drop_at (kept ++ closed_gate ∷ []) (put ++ rest) (g + 1) (let a = length-append kept (closed_gate ∷ []) in omega (arith, a, size)) in
+    ∙ drop_at (kept ++ closed_gate ∷ []) (put ++ rest) (g + 1)
+    (let a = length-append kept (closed_gate ∷ []) in omega (arith, a, size)) in
     begins new (file_of v (slips ++ slip ∷ [])) rest
     (opened ∙ ap (λ (l : List ℕ). (l ++ open_gate ∷ []) ++ drop (g + 1) mid) ahead
     ∙ ap (λ (l : List ℕ). (kept ++ open_gate ∷ []) ++ l) after
-    ∙ regrouped (front_of v) (gated_slips v slips) (body_of v slip) rest
-    ∙ ap (λ (l : List ℕ). ((front_of v ++ l) ++ closed_gate ∷ []) ++ rest) (sym (more_slips v slips slip)))
+    ∙ regrouped (prefix_of v) (gated_slips v slips) (body_of v slip) rest
+    ∙ ap (λ (l : List ℕ). ((prefix_of v ++ l) ++ closed_gate ∷ []) ++ rest) (sym (more_slips v slips slip)))
 
 -- at the place of the gate
-pub extended_at : (v : Values) (n place : ℕ) (slip : Slip) (old mid new : List ℕ) → place ≡ gate_place v n → mid ≡ overwritten old (place + 1) (put_of v slip) → new ≡ overwritten mid place (open_gate ∷ [])
+pub extended_at : (v : Values) (n place : ℕ) (slip : Slip) (old mid new : List ℕ) → place ≡ gate_place v n → mid
+    ≡ overwritten old (place + 1) (put_of v slip) → new ≡ overwritten mid place (open_gate ∷ [])
     → ExtendsFile v n slip old new
 extended_at v n place slip old mid new here wrote opened =
-    extended v n slip old mid new (wrote ∙ ap (λ k. overwritten old (k + 1) (put_of v slip)) here) (opened ∙ ap (λ k. overwritten mid k (open_gate ∷ [])) here)
+    extended v n slip old mid new (wrote ∙ ap (λ k. overwritten old (k + 1) (put_of v slip)) here)
+    (opened ∙ ap (λ k. overwritten mid k (open_gate ∷ [])) here)

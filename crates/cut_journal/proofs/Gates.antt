@@ -17,7 +17,8 @@ first_at : (version : Version) (text : ℕ) → text + 45 + slip_length version 
 first_at One text = omega arith
 first_at Two text = omega arith
 
-next_at : (version : Version) (text i : ℕ) → text + 45 + slip_length version * (i + 1) ≡ text + 45 + slip_length version * i + slip_length version
+next_at : (version : Version) (text i : ℕ) → text + 45 + slip_length version * (i + 1) ≡ text + 45
+    + slip_length version * i + slip_length version
 next_at One text i = omega arith
 next_at Two text i = omega arith
 
@@ -25,7 +26,8 @@ far_at : (version : Version) (text i : ℕ) → i + 45 ≤ text + 45 + slip_leng
 far_at One text i = omega arith
 far_at Two text i = omega arith
 
-rises_at : (version : Version) (text i k : ℕ) → i < k → text + 45 + slip_length version * i + slip_length version ≤ text + 45 + slip_length version * k
+rises_at : (version : Version) (text i k : ℕ) → i < k → text + 45 + slip_length version * i + slip_length version ≤ text
+    + 45 + slip_length version * k
 rises_at One text i k low = omega (arith, low)
 rises_at Two text i k low = omega (arith, low)
 
@@ -34,17 +36,17 @@ pub gate_first : (v : Values) → gate_place v 0 ≡ length (canonical_text v) +
 unfolding gate_place
 gate_first v = first_at (version_of v.failing) (length (canonical_text v))
 
--- the gate behind a slip's
+-- the gate after a slip's
 pub gate_next : (v : Values) (i : ℕ) → gate_place v (i + 1) ≡ gate_place v i + slip_length (version_of v.failing)
 unfolding gate_place
 gate_next v i = next_at (version_of v.failing) (length (canonical_text v)) i
 
--- there are fewer slips in front of a gate than bytes
+-- there are fewer slips before a gate than bytes
 pub gate_far : (v : Values) (i : ℕ) → i + 45 ≤ gate_place v i
 unfolding gate_place
 gate_far v i = far_at (version_of v.failing) (length (canonical_text v)) i
 
--- a slip in front of a gate ends there at the latest
+-- a slip before a gate ends there at the latest
 pub gate_rises : (v : Values) (i k : ℕ) → i < k → gate_place v i + slip_length (version_of v.failing) ≤ gate_place v k
 unfolding gate_place
 gate_rises v i k low = rises_at (version_of v.failing) (length (canonical_text v)) i k low

@@ -26,6 +26,7 @@ pub resumed_good : TrueSlipsAreGood
 resumed_good good every v size events keep plan results =
     let w : World = run (begun (start v size true)) events in
     let crash : Event = CrashReopen keep 1 in
-    let right : IsRight v (step w crash) = subst (λ (x : World). IsRight v x) (run_more (begun (start v size true)) events crash)
+    let right : IsRight v (step w crash) = subst (λ (x : World). IsRight v x)
+    (run_more (begun (start v size true)) events crash)
     (every true v size (events ++ crash ∷ []) plan (all_more events keep 1 results)) in
     good v (slips_found w.state keep) (record { each = right.kept; apart = right.apart })

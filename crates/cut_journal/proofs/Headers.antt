@@ -1,5 +1,6 @@
 -- The header of a plan's study is whole.
-use Rattle.std.proofs.Common.{◌≡◌, ◌∙◌, ◌≤◌, ◌<◌, ◌+◌, ◌-◌, ◌++◌, ◌&&◌, ℕ, suc, Bool, true, false, List, ◌∷◌, length, take, drop, slice_range, nat_le, refl, sym, ap, arith}
+use Rattle.std.proofs.Common.{◌≡◌, ◌∙◌, ◌≤◌, ◌<◌, ◌+◌, ◌-◌, ◌++◌, ◌&&◌, ℕ, suc, Bool, true, false, List, ◌∷◌, length}
+use Rattle.std.proofs.Common.{take, drop, slice_range, nat_le, refl, sym, ap, arith}
 use Rattle.std.specs.Prelude.{bytes_eq, ◌==◌}
 use Rattle.std.specs.Int.{w32, to_be_bytes, from_be_bytes}
 use Rattle.std.proofs.lemmas.Bool.Decides.{nat_tests, Decides-eqb}
@@ -13,50 +14,56 @@ use Rattle.cut_plan.specs.declared.version.Version.TheVariants.{One, Two}
 use Rattle.cut_plan.specs.Versions.{version_of}
 use Rattle.cut_plan.specs.Values.{Values}
 use Rattle.cut_plan.specs.Canonical.{canonical_text}
-use Rattle.cut_journal.specs.File.{open_gate, magic_of, header_of, header_digest, front_of}
+use Rattle.cut_journal.specs.File.{open_gate, magic_of, header_of, header_digest, prefix_of}
 use Rattle.cut_journal.specs.Reading.{text_length, is_magic, can_have_header, has_header, says_plan, has_magic}
 use Rattle.cut_journal.proofs.Counts.{alike_part}
-use Rattle.cut_journal.proofs.Fronts.{long_header, long_front}
+use Rattle.cut_journal.proofs.Prefixes.{long_header, long_prefix}
 use Rattle.cut_journal.proofs.Gates.{gate_first}
 use Rattle.cut_journal.specs.Places.{gate_place}
 
-letters_at : (version : Version) (size text digest : List ℕ) → slice_range (open_gate ∷ ((magic_of version ++ size) ++ text) ++ digest) 1 9 ≡ magic_of version
+letters_at : (version : Version) (size text digest : List ℕ)
+    → slice_range (open_gate ∷ ((magic_of version ++ size) ++ text) ++ digest) 1 9 ≡ magic_of version
 letters_at One size text digest = refl
 letters_at Two size text digest = refl
 
-letters_of : (v : Values) → slice_range (front_of v) 1 9 ≡ magic_of (version_of v.failing)
-unfolding front_of header_of
-letters_of v = letters_at (version_of v.failing) (to_be_bytes w32 (length (canonical_text v))) (canonical_text v) (header_digest v)
+letters_of : (v : Values) → slice_range (prefix_of v) 1 9 ≡ magic_of (version_of v.failing)
+unfolding prefix_of header_of
+letters_of v = letters_at (version_of v.failing) (to_be_bytes w32 (length (canonical_text v))) (canonical_text v)
+    (header_digest v)
 
 is_magic_of : (version : Version) → is_magic (magic_of version) ≡ true
 unfolding is_magic
 is_magic_of One = refl
 is_magic_of Two = refl
 
-size_at : (version : Version) (n : ℕ) (text digest : List ℕ) → slice_range (open_gate ∷ ((magic_of version ++ to_be_bytes w32 n) ++ text) ++ digest) 9 13 ≡ to_be_bytes w32 n
+size_at : (version : Version) (n : ℕ) (text digest : List ℕ)
+    → slice_range (open_gate ∷ ((magic_of version ++ to_be_bytes w32 n) ++ text) ++ digest) 9 13 ≡ to_be_bytes w32 n
 size_at One n text digest = refl
 size_at Two n text digest = refl
 
-size_of : (v : Values) → slice_range (front_of v) 9 13 ≡ to_be_bytes w32 (length (canonical_text v))
-unfolding front_of header_of
+size_of : (v : Values) → slice_range (prefix_of v) 9 13 ≡ to_be_bytes w32 (length (canonical_text v))
+unfolding prefix_of header_of
 size_of v = size_at (version_of v.failing) (length (canonical_text v)) (canonical_text v) (header_digest v)
 
-header_in : (v : Values) (n : ℕ) → n ≡ length (canonical_text v) → slice_range (front_of v) 1 (n + 13) ≡ header_of v
-unfolding front_of
+header_in : (v : Values) (n : ℕ) → n ≡ length (canonical_text v) → slice_range (prefix_of v) 1 (n + 13) ≡ header_of v
+unfolding prefix_of
 header_in v n is =
     let size : n + 13 - 1 ≡ n + 12 = omega arith in
     let long = long_header v in
-    ap (λ (k : ℕ). take k (header_of v ++ header_digest v)) size ∙ take_at (header_of v) (header_digest v) (n + 12) (omega (arith, long, is))
+    ap (λ (k : ℕ). take k (header_of v ++ header_digest v)) size
+    ∙ take_at (header_of v) (header_digest v) (n + 12) (omega (arith, long, is))
 
-digest_in : (v : Values) (n : ℕ) → n ≡ length (canonical_text v) → slice_range (front_of v) (n + 13) (n + 45) ≡ sha256 (header_of v)
-unfolding front_of header_digest
+digest_in : (v : Values) (n : ℕ) → n ≡ length (canonical_text v) → slice_range (prefix_of v) (n + 13) (n + 45)
+    ≡ sha256 (header_of v)
+unfolding prefix_of header_digest
 digest_in v n is =
     let size : n + 45 - (n + 13) ≡ 32 = omega arith in
     let long = long_header v in
     let sum = length-sha256 (header_of v) in
     let next : n + 13 ≡ suc (n + 12) = omega arith in
-    ap (λ (k : ℕ). take k (drop (n + 13) (front_of v))) size ∙ ap (λ (k : ℕ). take 32 (drop k (front_of v))) next
-    ∙ ap (take 32) (drop_at (header_of v) (sha256 (header_of v)) (n + 12) (omega (arith, long, is))) ∙ take_all 32 (sha256 (header_of v)) (omega (arith, sum))
+    ap (λ (k : ℕ). take k (drop (n + 13) (prefix_of v))) size ∙ ap (λ (k : ℕ). take 32 (drop k (prefix_of v))) next
+    ∙ ap (take 32) (drop_at (header_of v) (sha256 (header_of v)) (n + 12) (omega (arith, long, is)))
+    ∙ take_all 32 (sha256 (header_of v)) (omega (arith, sum))
 
 pub both : (a b : Bool) → (a && b) ≡ true → (a ≡ true) × (b ≡ true)
 both true b is = (refl, is)
@@ -72,41 +79,52 @@ if_same : (a b c : Bool) → (a ≡ true → b ≡ c) → (a && b) ≡ (a && c)
 if_same true b c same = same refl
 if_same false b c same = refl
 
-all_five : (a b c d e : Bool) → a ≡ true → b ≡ true → c ≡ true → d ≡ true → e ≡ true → ((((a && b) && c) && d) && e) ≡ true
+all_five : (a b c d e : Bool) → a ≡ true → b ≡ true → c ≡ true → d ≡ true → e ≡ true → ((((a && b) && c) && d) && e)
+    ≡ true
 all_five a b c d e p q r s t = cc
 
-rest_at : (version : Version) (n : ℕ) (text digest : List ℕ) → drop 13 (open_gate ∷ ((magic_of version ++ to_be_bytes w32 n) ++ text) ++ digest) ≡ text ++ digest
+rest_at : (version : Version) (n : ℕ) (text digest : List ℕ)
+    → drop 13 (open_gate ∷ ((magic_of version ++ to_be_bytes w32 n) ++ text) ++ digest) ≡ text ++ digest
 rest_at One n text digest = refl
 rest_at Two n text digest = refl
 
-text_in : (v : Values) (n : ℕ) → n ≡ length (canonical_text v) → slice_range (front_of v) 13 (n + 13) ≡ canonical_text v
-unfolding front_of header_of
+text_in : (v : Values) (n : ℕ) → n ≡ length (canonical_text v) → slice_range (prefix_of v) 13 (n + 13)
+    ≡ canonical_text v
+unfolding prefix_of header_of
 text_in v n is =
     let size : n + 13 - 13 ≡ n = omega arith in
-    ap (λ (k : ℕ). take k (drop 13 (front_of v))) size
-    ∙ ap (take n) (rest_at (version_of v.failing) (length (canonical_text v)) (canonical_text v) (header_digest v)) ∙ take_at (canonical_text v) (header_digest v) n (sym is)
+    ap (λ (k : ℕ). take k (drop 13 (prefix_of v))) size
+    ∙ ap (take n) (rest_at (version_of v.failing) (length (canonical_text v)) (canonical_text v) (header_digest v))
+    ∙ take_at (canonical_text v) (header_digest v) n (sym is)
 
 -- the text in what a study's file begins with
-pub own_text : (v : Values) (mine : List ℕ) (n : ℕ) → mine ≡ front_of v → n ≡ length (canonical_text v) + 45 → slice_range mine 13 (n - 32) ≡ canonical_text v
+pub own_text : (v : Values) (mine : List ℕ) (n : ℕ) → mine ≡ prefix_of v → n ≡ length (canonical_text v) + 45
+    → slice_range mine 13 (n - 32) ≡ canonical_text v
 own_text v mine n is long =
     let size : n - 32 ≡ length (canonical_text v) + 13 = omega (arith, long) in
-    ap (λ (l : List ℕ). slice_range l 13 (n - 32)) is ∙ ap (λ (k : ℕ). slice_range (front_of v) 13 k) size ∙ text_in v (length (canonical_text v)) refl
+    ap (λ (l : List ℕ). slice_range l 13 (n - 32)) is ∙ ap (λ (k : ℕ). slice_range (prefix_of v) 13 k) size
+    ∙ text_in v (length (canonical_text v)) refl
 
 -- whether bytes say a text, by both tests
-pub says_other : (v : Values) (bytes digits : List ℕ) (n : ℕ) → digits ≡ slice_range bytes 9 13 → n ≡ from_be_bytes w32 digits → (n ≡ length (canonical_text v) → ⊥) → false ≡ says_plan v bytes
+pub says_other : (v : Values) (bytes digits : List ℕ) (n : ℕ) → digits ≡ slice_range bytes 9 13 → n
+    ≡ from_be_bytes w32 digits → (n ≡ length (canonical_text v) → ⊥) → false ≡ says_plan v bytes
 unfolding says_plan
 says_other v bytes digits n read is other =
     let text : text_length bytes ≡ n = ap (from_be_bytes w32) (sym read) ∙ sym is in
     let test : (text_length bytes == length (canonical_text v)) ≡ false = grind (arith, nat_tests, text, other) in
     sym (ap (λ (b : Bool). b && bytes_eq (slice_range bytes 13 (text_length bytes + 13)) (canonical_text v)) test)
 
-pub says_same : (v : Values) (bytes digits text : List ℕ) (n : ℕ) → digits ≡ slice_range bytes 9 13 → n ≡ from_be_bytes w32 digits → text ≡ canonical_text v → n ≡ length text
+pub says_same : (v : Values) (bytes digits text : List ℕ) (n : ℕ) → digits ≡ slice_range bytes 9 13 → n
+    ≡ from_be_bytes w32 digits → text ≡ canonical_text v → n ≡ length text
     → bytes_eq (slice_range bytes 13 (length text + 13)) text ≡ says_plan v bytes
 unfolding says_plan
 says_same v bytes digits text n read is mine long =
     let same : text_length bytes ≡ length text = ap (from_be_bytes w32) (sym read) ∙ sym is ∙ long in
-    let test : (text_length bytes == length (canonical_text v)) ≡ true = (Decides-eqb (text_length bytes) (length (canonical_text v))).1 (same ∙ ap (λ (l : List ℕ). length l) mine) in
-    ap (λ (k : ℕ). bytes_eq (slice_range bytes 13 (k + 13)) text) (sym same) ∙ ap (bytes_eq (slice_range bytes 13 (text_length bytes + 13))) mine
+    let test : (text_length bytes == length (canonical_text v))
+    ≡ true = (Decides-eqb (text_length bytes) (length (canonical_text v))).1
+    (same ∙ ap (λ (l : List ℕ). length l) mine) in
+    ap (λ (k : ℕ). bytes_eq (slice_range bytes 13 (k + 13)) text) (sym same)
+    ∙ ap (bytes_eq (slice_range bytes 13 (text_length bytes + 13))) mine
     ∙ sym (ap (λ (b : Bool). b && bytes_eq (slice_range bytes 13 (text_length bytes + 13)) (canonical_text v)) test)
 
 -- bytes that begin as the file of a plan's study
@@ -116,28 +134,35 @@ pub record Begins (v : Values) (bytes : List ℕ) : Type 0 where
   pub letters : has_magic v bytes ≡ true
 
 -- have a whole header, of this plan
-pub front_begins : (v : Values) (bytes : List ℕ) → length (canonical_text v) ≤ 65536 → gate_place v 0 < length bytes → take (gate_place v 0) bytes ≡ front_of v → Begins v bytes
+pub prefix_begins : (v : Values) (bytes : List ℕ) → length (canonical_text v) ≤ 65536 → gate_place v 0 < length bytes
+    → take (gate_place v 0) bytes ≡ prefix_of v → Begins v bytes
 unfolding has_header can_have_header says_plan has_magic
-front_begins v bytes short long front =
+prefix_begins v bytes short long prefix =
     let n : ℕ = text_length bytes in
     let m : ℕ = gate_place v 0 in
     let place : m ≡ length (canonical_text v) + 45 = gate_first v in
-    let size = long_front v in
-    let alike : take m bytes ≡ take m (front_of v) = front ∙ sym (take_all m (front_of v) (omega (arith, size, place))) in
+    let size = long_prefix v in
+    let alike : take m bytes ≡ take m (prefix_of v) = prefix
+    ∙ sym (take_all m (prefix_of v) (omega (arith, size, place))) in
     let is : n ≡ length (canonical_text v) =
-    ap (from_be_bytes w32) (alike_part m 9 13 bytes (front_of v) alike (omega (arith, place)) ∙ size_of v) ∙ from_be_bytes-to_be_bytes_4 (length (canonical_text v)) (omega (arith, short)) in
-    let letters = alike_part m 1 9 bytes (front_of v) alike (omega (arith, place)) ∙ letters_of v in
-    let text = alike_part m 13 (n + 13) bytes (front_of v) alike (omega (arith, is, place)) ∙ text_in v n is in
-    let header = alike_part m 1 (n + 13) bytes (front_of v) alike (omega (arith, is, place)) ∙ header_in v n is in
-    let digest = alike_part m (n + 13) (n + 45) bytes (front_of v) alike (omega (arith, is, place)) ∙ digest_in v n is in
+    ap (from_be_bytes w32) (alike_part m 9 13 bytes (prefix_of v) alike (omega (arith, place)) ∙ size_of v)
+    ∙ from_be_bytes-to_be_bytes_4 (length (canonical_text v)) (omega (arith, short)) in
+    let letters = alike_part m 1 9 bytes (prefix_of v) alike (omega (arith, place)) ∙ letters_of v in
+    let text = alike_part m 13 (n + 13) bytes (prefix_of v) alike (omega (arith, is, place)) ∙ text_in v n is in
+    let header = alike_part m 1 (n + 13) bytes (prefix_of v) alike (omega (arith, is, place)) ∙ header_in v n is in
+    let digest = alike_part m (n + 13) (n + 45) bytes (prefix_of v) alike (omega (arith, is, place)) ∙ digest_in v n is
+    in
     record {
       header =
-          all_five (nat_le 13 (length bytes)) (is_magic (slice_range bytes 1 9)) (nat_le n 65536) (nat_le (n + 46) (length bytes))
+          all_five (nat_le 13 (length bytes)) (is_magic (slice_range bytes 1 9)) (nat_le n 65536)
+          (nat_le (n + 46) (length bytes))
           (bytes_eq (sha256 (slice_range bytes 1 (n + 13))) (slice_range bytes (n + 13) (n + 45)))
           (grind (arith, nat_tests, long, place)) (ap is_magic letters ∙ is_magic_of (version_of v.failing))
           (grind (arith, nat_tests, short, is)) (grind (arith, nat_tests, long, is, place))
-          ((bytes_eq-Decides (sha256 (slice_range bytes 1 (n + 13))) (slice_range bytes (n + 13) (n + 45))).1 (ap sha256 header ∙ sym digest));
-      text = together (n == length (canonical_text v)) (bytes_eq (slice_range bytes 13 (n + 13)) (canonical_text v)) ((Decides-eqb n (length (canonical_text v))).1 is)
+          ((bytes_eq-Decides (sha256 (slice_range bytes 1 (n + 13))) (slice_range bytes (n + 13) (n + 45))).1
+          (ap sha256 header ∙ sym digest));
+      text = together (n == length (canonical_text v)) (bytes_eq (slice_range bytes 13 (n + 13)) (canonical_text v))
+          ((Decides-eqb n (length (canonical_text v))).1 is)
           ((bytes_eq-Decides (slice_range bytes 13 (n + 13)) (canonical_text v)).1 text);
       letters = (bytes_eq-Decides (slice_range bytes 1 9) (magic_of (version_of v.failing))).1 letters;
     }
@@ -152,70 +177,96 @@ header_parts true false c d is = absurd (cc)
 header_parts false b c d is = absurd (cc)
 
 -- the text that bytes say has the length of the plan's
-pub says_length : (v : Values) (bytes : List ℕ) → says_plan v bytes ≡ true → text_length bytes ≡ length (canonical_text v)
+pub says_length : (v : Values) (bytes : List ℕ) → says_plan v bytes ≡ true → text_length bytes
+    ≡ length (canonical_text v)
 unfolding says_plan
 says_length v bytes says =
     (Decides-eqb (text_length bytes) (length (canonical_text v))).0
-    (both (text_length bytes == length (canonical_text v)) (bytes_eq (slice_range bytes 13 (text_length bytes + 13)) (canonical_text v)) says).0
+    (both (text_length bytes == length (canonical_text v))
+    (bytes_eq (slice_range bytes 13 (text_length bytes + 13)) (canonical_text v)) says).0
 
--- there is room for a whole header, and a gate behind it
+-- there is room for a whole header, and a gate after it
 pub header_room : (bytes : List ℕ) → can_have_header bytes ≡ true → text_length bytes + 46 ≤ length bytes
 unfolding can_have_header
 header_room bytes can =
-    let parts = header_parts (nat_le 13 (length bytes)) (is_magic (slice_range bytes 1 9)) (nat_le (text_length bytes) 65536) (nat_le (text_length bytes + 46) (length bytes)) can in
+    let parts = header_parts (nat_le 13 (length bytes)) (is_magic (slice_range bytes 1 9))
+    (nat_le (text_length bytes) 65536) (nat_le (text_length bytes + 46) (length bytes)) can in
     grind (arith, nat_tests, parts.3)
 
 pub has_can : (bytes : List ℕ) → has_header bytes ≡ true → can_have_header bytes ≡ true
 unfolding has_header
 has_can bytes has =
-    (both (can_have_header bytes) (bytes_eq (sha256 (slice_range bytes 1 (text_length bytes + 13))) (slice_range bytes (text_length bytes + 13) (text_length bytes + 45))) has).0
+    (both (can_have_header bytes) (bytes_eq (sha256 (slice_range bytes 1 (text_length bytes + 13)))
+    (slice_range bytes (text_length bytes + 13) (text_length bytes + 45))) has).0
 
-can_alike : (m : ℕ) (bytes others : List ℕ) → take m others ≡ take m bytes → m < length others → 45 ≤ m → text_length bytes + 45 ≤ m → can_have_header bytes ≡ true → can_have_header others ≡ true
+can_alike : (m : ℕ) (bytes others : List ℕ) → take m others ≡ take m bytes → m < length others → 45 ≤ m
+    → text_length bytes + 45 ≤ m → can_have_header bytes ≡ true → can_have_header others ≡ true
 unfolding can_have_header
 can_alike m bytes others alike long room size can =
-    let parts = header_parts (nat_le 13 (length bytes)) (is_magic (slice_range bytes 1 9)) (nat_le (text_length bytes) 65536) (nat_le (text_length bytes + 46) (length bytes)) can in
-    let is : text_length others ≡ text_length bytes = ap (from_be_bytes w32) (alike_part m 9 13 others bytes alike (omega (arith, room))) in
-    all_four (nat_le 13 (length others)) (is_magic (slice_range others 1 9)) (nat_le (text_length others) 65536) (nat_le (text_length others + 46) (length others))
-    (grind (arith, nat_tests, long, room)) (ap is_magic (alike_part m 1 9 others bytes alike (omega (arith, room))) ∙ parts.1)
+    let parts = header_parts (nat_le 13 (length bytes)) (is_magic (slice_range bytes 1 9))
+    (nat_le (text_length bytes) 65536) (nat_le (text_length bytes + 46) (length bytes)) can in
+    let is : text_length others ≡ text_length bytes = ap (from_be_bytes w32)
+    (alike_part m 9 13 others bytes alike (omega (arith, room))) in
+    all_four (nat_le 13 (length others)) (is_magic (slice_range others 1 9)) (nat_le (text_length others) 65536)
+    (nat_le (text_length others + 46) (length others))
+    (grind (arith, nat_tests, long, room)) (ap is_magic (alike_part m 1 9 others bytes alike (omega (arith, room)))
+    ∙ parts.1)
     (ap (λ (k : ℕ). nat_le k 65536) is ∙ parts.2) (grind (arith, nat_tests, long, size, is))
 
-header_alike : (m : ℕ) (bytes others : List ℕ) → take m others ≡ take m bytes → m < length others → 45 ≤ m → text_length bytes + 45 ≤ m → has_header bytes ≡ true → has_header others ≡ true
+header_alike : (m : ℕ) (bytes others : List ℕ) → take m others ≡ take m bytes → m < length others → 45 ≤ m
+    → text_length bytes + 45 ≤ m → has_header bytes ≡ true → has_header others ≡ true
 unfolding has_header
 header_alike m bytes others alike long room size has =
     let n : ℕ = text_length bytes in
-    let parts = both (can_have_header bytes) (bytes_eq (sha256 (slice_range bytes 1 (n + 13))) (slice_range bytes (n + 13) (n + 45))) has in
-    let is : text_length others ≡ n = ap (from_be_bytes w32) (alike_part m 9 13 others bytes alike (omega (arith, room))) in
-    let digest : bytes_eq (sha256 (slice_range others 1 (text_length others + 13))) (slice_range others (text_length others + 13) (text_length others + 45)) ≡ true =
+    let parts = both (can_have_header bytes) (bytes_eq (sha256 (slice_range bytes 1 (n + 13)))
+    (slice_range bytes (n + 13) (n + 45))) has in
+    let is : text_length others ≡ n = ap (from_be_bytes w32)
+    (alike_part m 9 13 others bytes alike (omega (arith, room))) in
+    let digest : bytes_eq (sha256 (slice_range others 1 (text_length others + 13)))
+    (slice_range others (text_length others + 13) (text_length others + 45)) ≡ true =
     ap (λ (k : ℕ). bytes_eq (sha256 (slice_range others 1 (k + 13))) (slice_range others (k + 13) (k + 45))) is
-    ∙ ap (λ (l : List ℕ). bytes_eq (sha256 l) (slice_range others (n + 13) (n + 45))) (alike_part m 1 (n + 13) others bytes alike (omega (arith, size)))
-    ∙ ap (λ (l : List ℕ). bytes_eq (sha256 (slice_range bytes 1 (n + 13))) l) (alike_part m (n + 13) (n + 45) others bytes alike (omega (arith, size))) ∙ parts.1 in
-    together (can_have_header others) (bytes_eq (sha256 (slice_range others 1 (text_length others + 13))) (slice_range others (text_length others + 13) (text_length others + 45)))
+    ∙ ap (λ (l : List ℕ). bytes_eq (sha256 l) (slice_range others (n + 13) (n + 45)))
+    (alike_part m 1 (n + 13) others bytes alike (omega (arith, size)))
+    ∙ ap (λ (l : List ℕ). bytes_eq (sha256 (slice_range bytes 1 (n + 13))) l)
+    (alike_part m (n + 13) (n + 45) others bytes alike (omega (arith, size))) ∙ parts.1 in
+    together (can_have_header others) (bytes_eq (sha256 (slice_range others 1 (text_length others + 13)))
+    (slice_range others (text_length others + 13) (text_length others + 45)))
     (can_alike m bytes others alike long room size parts.0) digest
 
--- what a header says of a plan is told by its bytes
-pub says_alike : (v : Values) (bytes others : List ℕ) → take (gate_place v 0) others ≡ take (gate_place v 0) bytes → says_plan v others ≡ says_plan v bytes
+-- what a header says of a plan is decided by its bytes
+pub says_alike : (v : Values) (bytes others : List ℕ) → take (gate_place v 0) others ≡ take (gate_place v 0) bytes
+    → says_plan v others ≡ says_plan v bytes
 unfolding says_plan
 says_alike v bytes others alike =
     let m : ℕ = gate_place v 0 in
     let place : m ≡ length (canonical_text v) + 45 = gate_first v in
-    let is : text_length others ≡ text_length bytes = ap (from_be_bytes w32) (alike_part m 9 13 others bytes alike (omega (arith, place))) in
+    let is : text_length others ≡ text_length bytes = ap (from_be_bytes w32)
+    (alike_part m 9 13 others bytes alike (omega (arith, place))) in
     ap (λ (k : ℕ). (k == length (canonical_text v)) && bytes_eq (slice_range others 13 (k + 13)) (canonical_text v)) is
-    ∙ if_same (text_length bytes == length (canonical_text v)) (bytes_eq (slice_range others 13 (text_length bytes + 13)) (canonical_text v)) (bytes_eq (slice_range bytes 13 (text_length bytes + 13)) (canonical_text v))
-    (λ same. (let long : text_length bytes ≡ length (canonical_text v) = (Decides-eqb (text_length bytes) (length (canonical_text v))).0 same in
-    ap (λ (l : List ℕ). bytes_eq l (canonical_text v)) (alike_part m 13 (text_length bytes + 13) others bytes alike (omega (arith, place, long)))))
+    ∙ if_same (text_length bytes == length (canonical_text v))
+    (bytes_eq (slice_range others 13 (text_length bytes + 13)) (canonical_text v))
+    (bytes_eq (slice_range bytes 13 (text_length bytes + 13)) (canonical_text v))
+    (λ same. (let long : text_length bytes ≡ length (canonical_text v) =
+    (Decides-eqb (text_length bytes) (length (canonical_text v))).0 same in
+    ap (λ (l : List ℕ). bytes_eq l (canonical_text v))
+    (alike_part m 13 (text_length bytes + 13) others bytes alike (omega (arith, place, long)))))
 
-pub magic_alike : (v : Values) (bytes others : List ℕ) → take (gate_place v 0) others ≡ take (gate_place v 0) bytes → has_magic v others ≡ has_magic v bytes
+pub magic_alike : (v : Values) (bytes others : List ℕ) → take (gate_place v 0) others ≡ take (gate_place v 0) bytes
+    → has_magic v others ≡ has_magic v bytes
 unfolding has_magic
 magic_alike v bytes others alike =
     let place : gate_place v 0 ≡ length (canonical_text v) + 45 = gate_first v in
-    ap (λ (l : List ℕ). bytes_eq l (magic_of (version_of v.failing))) (alike_part (gate_place v 0) 1 9 others bytes alike (omega (arith, place)))
+    ap (λ (l : List ℕ). bytes_eq l (magic_of (version_of v.failing)))
+    (alike_part (gate_place v 0) 1 9 others bytes alike (omega (arith, place)))
 
-pub begin_alike : (v : Values) (bytes others : List ℕ) → take (gate_place v 0) others ≡ take (gate_place v 0) bytes → gate_place v 0 < length others → Begins v bytes → Begins v others
+pub begin_alike : (v : Values) (bytes others : List ℕ) → take (gate_place v 0) others ≡ take (gate_place v 0) bytes
+    → gate_place v 0 < length others → Begins v bytes → Begins v others
 begin_alike v bytes others alike long begins =
     let place : gate_place v 0 ≡ length (canonical_text v) + 45 = gate_first v in
     let size = says_length v bytes begins.text in
     record {
-      header = header_alike (gate_place v 0) bytes others alike long (omega (arith, place)) (omega (arith, place, size)) begins.header;
+      header = header_alike (gate_place v 0) bytes others alike long (omega (arith, place)) (omega (arith, place, size))
+          begins.header;
       text = says_alike v bytes others alike ∙ begins.text;
       letters = magic_alike v bytes others alike ∙ begins.letters;
     }

@@ -1,7 +1,7 @@
 pub mod Counts
 pub mod Crashes
 pub mod Makings
-pub mod Fronts
+pub mod Prefixes
 pub mod Gates
 pub mod GoodSlips
 pub mod Headers

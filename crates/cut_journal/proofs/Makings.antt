@@ -1,5 +1,7 @@
 -- What the writes of a new study leave, whatever crash may come.
-use Rattle.std.proofs.Common.{◌≡◌, ◌∙◌, ◌≤◌, ◌<◌, ◌+◌, ◌-◌, ◌++◌, ◌==◌, ◌&&◌, ◌⊎◌, inl, inr, ℕ, Bool, false, List, [], ◌∷◌, Result, Ok, length, take, drop, get_or, nat_lt, slice_index, refl, sym, ap, subst, arith, append_assoc, length-append}
+use Rattle.std.proofs.Common.{◌≡◌, ◌∙◌, ◌≤◌, ◌<◌, ◌+◌, ◌-◌, ◌++◌, ◌==◌, ◌&&◌, ◌⊎◌, inl, inr, ℕ, Bool, false, List, []}
+use Rattle.std.proofs.Common.{◌∷◌, Result, Ok, length, take, drop, get_or, nat_lt, slice_index, refl, sym, ap, subst}
+use Rattle.std.proofs.Common.{arith, append_assoc, length-append}
 use Rattle.std.specs.Bool.{⊤}
 use Rattle.std.proofs.lemmas.Bool.Decides.{nat_tests, Decides-eqb}
 use Rattle.std.proofs.lemmas.List.{take_at, get_or-append_right}
@@ -8,13 +10,13 @@ use Rattle.cut_plan.specs.Canonical.{canonical_text}
 use Rattle.cut_disks.specs.State.{DiskState, Throughout, settled, synced, overwritten, covers}
 use Rattle.cut_disks.specs.Laws.{WritesStayInSpan}
 use Rattle.cut_journal.specs.declared.fault.JournalFault.TheVariants.{Disk}
-use Rattle.cut_journal.specs.File.{open_gate, closed_gate, front_of, rest_of, header_of, header_digest}
+use Rattle.cut_journal.specs.File.{open_gate, closed_gate, prefix_of, rest_of, header_of, header_digest}
 use Rattle.cut_journal.specs.Reading.{is_study, reading}
 use Rattle.cut_journal.specs.Opening.{IsNewStudy, IsNotMade}
 use Rattle.cut_journal.specs.Steps.{BeginsAs, WritesThrough}
 use Rattle.cut_journal.proofs.Moments.{Through, through_is, stays, settled_images}
 use Rattle.cut_journal.proofs.Appends.{torn_rest}
-use Rattle.cut_journal.proofs.Fronts.{long_front}
+use Rattle.cut_journal.proofs.Prefixes.{long_prefix}
 use Rattle.cut_journal.proofs.Gates.{gate_first}
 use Rattle.cut_journal.proofs.Readings.{cases_bool, both_not, of_plan_from, holds_reads, none_read}
 use Rattle.cut_journal.specs.Places.{gate_place}
@@ -27,78 +29,96 @@ left_false : (a b : Bool) → a ≡ false → (a && b) ≡ false
 left_false a b none = ap (λ c. c && b) none
 
 short_none : (bytes : List ℕ) → length bytes ≤ 1 → IsNone bytes
-short_none bytes short = left_false (nat_lt 1 (length bytes)) (slice_index bytes 0 == open_gate) (let e : nat_lt 1 (length bytes) ≡ false = grind (arith, nat_tests) in e)
+short_none bytes short = left_false (nat_lt 1 (length bytes)) (slice_index bytes 0 == open_gate)
+    (let e : nat_lt 1 (length bytes) ≡ false = grind (arith, nat_tests) in e)
 
 closed_none : (bytes : List ℕ) → (slice_index bytes 0 == open_gate) ≡ false → IsNone bytes
 closed_none bytes closed = both_not (nat_lt 1 (length bytes)) (slice_index bytes 0 == open_gate) closed
 
-pub close_step : {E : Type 0} (result : Result ⊤ E) (old new : DiskState) → WritesStayInSpan → old.stable ≡ settled old.bytes → length old.bytes ≤ 1
+pub close_step : {E : Type 0} (result : Result ⊤ E) (old new : DiskState) → WritesStayInSpan → old.stable
+    ≡ settled old.bytes → length old.bytes ≤ 1
     → WritesThrough result 0 (closed_gate ∷ []) old new → Through IsNone result 0 (closed_gate ∷ []) old new
-close_step result old new stay sure short is =
-    through_is IsNone result 0 (closed_gate ∷ []) old new stay sure (short_none old.bytes short) (λ image torn. short_none image (omega (arith, torn.no_longer, short))) is
+close_step result old new stay durable short is =
+    through_is IsNone result 0 (closed_gate ∷ []) old new stay durable (short_none old.bytes short)
+    (λ image torn. short_none image (omega (arith, torn.no_longer, short))) is
 
-pub close_closes : (bytes : List ℕ) → ((slice_index (overwritten bytes 0 (closed_gate ∷ [])) 0 == open_gate) ≡ false) × (0 < length (overwritten bytes 0 (closed_gate ∷ [])))
+pub close_closes : (bytes : List ℕ) → ((slice_index (overwritten bytes 0 (closed_gate ∷ [])) 0 == open_gate) ≡ false)
+    × (0 < length (overwritten bytes 0 (closed_gate ∷ [])))
 close_closes bytes = (refl, omega arith)
 
-pub rest_step : {E : Type 0} (result : Result ⊤ E) (put : List ℕ) (old new : DiskState) → WritesStayInSpan → old.stable ≡ settled old.bytes → 0 < length old.bytes → (slice_index old.bytes 0 == open_gate) ≡ false
+pub rest_step : {E : Type 0} (result : Result ⊤ E) (put : List ℕ) (old new : DiskState) → WritesStayInSpan → old.stable
+    ≡ settled old.bytes → 0 < length old.bytes → (slice_index old.bytes 0 == open_gate) ≡ false
     → WritesThrough result 1 put old new → Through IsNone result 1 put old new
-rest_step result put old new stay sure some closed is =
-    through_is IsNone result 1 put old new stay sure (closed_none old.bytes closed)
+rest_step result put old new stay durable some closed is =
+    through_is IsNone result 1 put old new stay durable (closed_none old.bytes closed)
     (λ image torn. closed_none image (ap (λ (b : ℕ). b == open_gate)
-    (torn.same 0 some (let outside : covers 0 (record { start = 1; stop = 1 + length put }) ≡ false = grind (arith, nat_tests) in outside)) ∙ closed)) is
+    (torn.same 0 some (let outside : covers 0 (record { start = 1; stop = 1 + length put })
+    ≡ false = grind (arith, nat_tests) in outside)) ∙ closed)) is
 
-pub rest_begins : (v : Values) (bytes : List ℕ) → 0 < length bytes → (slice_index bytes 0 == open_gate) ≡ false → BeginsAs v (overwritten bytes 1 (rest_of v))
+pub rest_begins : (v : Values) (bytes : List ℕ) → 0 < length bytes → (slice_index bytes 0 == open_gate) ≡ false
+    → BeginsAs v (overwritten bytes 1 (rest_of v))
 rest_begins v [] some closed = absurd (omega arith)
 rest_begins v (b ∷ bytes) some closed = (b, (drop (1 + length (rest_of v)) (b ∷ bytes), (refl, closed)))
 
 -- ---- the gate of the study is opened
 
-behind : (first : ℕ) (bytes others : List ℕ) → 0 < length others → drop 1 others ≡ bytes → (c : ℕ) × (others ≡ c ∷ bytes)
-behind first bytes [] some is = absurd (omega arith)
-behind first bytes (c ∷ others) some is = (c, ap (λ (l : List ℕ). c ∷ l) is)
+later : (first : ℕ) (bytes others : List ℕ) → 0 < length others → drop 1 others ≡ bytes → (c : ℕ) × (others ≡ c ∷ bytes)
+later first bytes [] some is = absurd (omega arith)
+later first bytes (c ∷ others) some is = (c, ap (λ (l : List ℕ). c ∷ l) is)
 
-pub whole_front : (v : Values) (rest : List ℕ) → open_gate ∷ rest_of v ++ rest ≡ front_of v ++ (closed_gate ∷ rest)
-unfolding rest_of front_of
-whole_front v rest = ap (λ (l : List ℕ). open_gate ∷ l) (append_assoc (header_of v ++ header_digest v) (closed_gate ∷ []) rest)
+pub whole_prefix : (v : Values) (rest : List ℕ) → open_gate ∷ rest_of v ++ rest ≡ prefix_of v ++ (closed_gate ∷ rest)
+unfolding rest_of prefix_of
+whole_prefix v rest = ap (λ (l : List ℕ). open_gate ∷ l)
+    (append_assoc (header_of v ++ header_digest v) (closed_gate ∷ []) rest)
 
-pub new_read : (v : Values) (rest : List ℕ) → length (canonical_text v) ≤ 65536 → reading v (open_gate ∷ rest_of v ++ rest) ≡ Ok []
+pub new_read : (v : Values) (rest : List ℕ) → length (canonical_text v) ≤ 65536
+    → reading v (open_gate ∷ rest_of v ++ rest) ≡ Ok []
 new_read v rest short =
     let bytes : List ℕ = open_gate ∷ rest_of v ++ rest in
-    let is : bytes ≡ front_of v ++ (closed_gate ∷ rest) = whole_front v rest in
-    let long = long_front v in
-    let size : length (front_of v) ≡ gate_place v 0 = omega (arith, long, gate_first v) in
-    let there : gate_place v 0 < length bytes = omega (arith, ap (λ (l : List ℕ). length l) is, length-append (front_of v) (closed_gate ∷ rest), size) in
-    let front : take (gate_place v 0) bytes ≡ front_of v = ap (take (gate_place v 0)) is ∙ take_at (front_of v) (closed_gate ∷ rest) (gate_place v 0) size in
+    let is : bytes ≡ prefix_of v ++ (closed_gate ∷ rest) = whole_prefix v rest in
+    let long = long_prefix v in
+    let size : length (prefix_of v) ≡ gate_place v 0 = omega (arith, long, gate_first v) in
+    let there : gate_place v 0 < length bytes = omega
+    (arith, ap (λ (l : List ℕ). length l) is, length-append (prefix_of v) (closed_gate ∷ rest), size) in
+    let prefix : take (gate_place v 0) bytes ≡ prefix_of v = ap (take (gate_place v 0)) is
+    ∙ take_at (prefix_of v) (closed_gate ∷ rest) (gate_place v 0) size in
     let shut : get_or bytes (gate_place v 0) 0 ≡ 0 =
-    ap (λ (l : List ℕ). get_or l (gate_place v 0) 0) is ∙ get_or-append_right (front_of v) (closed_gate ∷ rest) (gate_place v 0) (gate_place v 0) 0 size (omega arith)
-    ∙ ap (λ (k : ℕ). get_or (closed_gate ∷ rest) k 0) (let e : gate_place v 0 - gate_place v 0 ≡ 0 = omega arith in e) in
+    ap (λ (l : List ℕ). get_or l (gate_place v 0) 0) is
+    ∙ get_or-append_right (prefix_of v) (closed_gate ∷ rest) (gate_place v 0) (gate_place v 0) 0 size (omega arith)
+    ∙ ap (λ (k : ℕ). get_or (closed_gate ∷ rest) k 0) (let e : gate_place v 0 - gate_place v 0 ≡ 0 = omega arith in e)
+    in
     holds_reads v bytes 0 (record {
-      front = of_plan_from v bytes short there front;
+      prefix = of_plan_from v bytes short there prefix;
       whole = λ i low. absurd (omega (arith, low));
       closed = ap (λ (b : ℕ). b == open_gate) shut;
     })
 
-new_or_none : (v : Values) (c : ℕ) (rest : List ℕ) → length (canonical_text v) ≤ 65536 → IsNewStudy v (c ∷ rest_of v ++ rest)
+new_or_none : (v : Values) (c : ℕ) (rest : List ℕ) → length (canonical_text v) ≤ 65536
+    → IsNewStudy v (c ∷ rest_of v ++ rest)
 new_or_none v c rest short = elim (cases_bool (c == open_gate)) [
-  | inl opens ↦ (let is : c ≡ open_gate = (Decides-eqb c open_gate).0 opens in inr (ap (λ (b : ℕ). reading v (b ∷ rest_of v ++ rest)) is ∙ new_read v rest short))
+  | inl opens ↦ (let is : c ≡ open_gate = (Decides-eqb c open_gate).0 opens
+      in inr (ap (λ (b : ℕ). reading v (b ∷ rest_of v ++ rest)) is ∙ new_read v rest short))
   | inr closed ↦ inl (none_read v (c ∷ rest_of v ++ rest) (closed_none (c ∷ rest_of v ++ rest) closed))
 ]
 
-pub open_step : {E : Type 0} (result : Result ⊤ E) (v : Values) (old new : DiskState) → length (canonical_text v) ≤ 65536 → WritesStayInSpan → old.stable ≡ settled old.bytes → BeginsAs v old.bytes
+pub open_step : {E : Type 0} (result : Result ⊤ E) (v : Values) (old new : DiskState) → length (canonical_text v)
+    ≤ 65536 → WritesStayInSpan → old.stable ≡ settled old.bytes → BeginsAs v old.bytes
     → WritesThrough result 0 (open_gate ∷ []) old new → Through (IsNewStudy v) result 0 (open_gate ∷ []) old new
-open_step result v old new short stay sure begins is =
+open_step result v old new short stay durable begins is =
     let first : ℕ = begins.0 in
     let rest : List ℕ = begins.1.0 in
     let all : old.bytes ≡ first ∷ rest_of v ++ rest = begins.1.1.0 in
-    through_is (IsNewStudy v) result 0 (open_gate ∷ []) old new stay sure
+    through_is (IsNewStudy v) result 0 (open_gate ∷ []) old new stay durable
     (subst (IsNewStudy v) (sym all) (new_or_none v first rest short))
     (λ image torn. (let size = ap (λ (l : List ℕ). length l) all in
     let some : 0 < length image = omega (arith, torn.no_shorter, size) in
-    let same : drop 1 image ≡ rest_of v ++ rest = torn_rest 0 1 old.bytes image torn (omega (arith, size)) ∙ ap (drop 1) all in
-    let parts = behind first (rest_of v ++ rest) image some same in
+    let same : drop 1 image ≡ rest_of v ++ rest = torn_rest 0 1 old.bytes image torn (omega (arith, size))
+    ∙ ap (drop 1) all in
+    let parts = later first (rest_of v ++ rest) image some same in
     let holds : IsNewStudy v image = subst (IsNewStudy v) (sym parts.1) (new_or_none v parts.0 rest short) in holds)) is
 
-pub open_reads : (v : Values) (bytes : List ℕ) → length (canonical_text v) ≤ 65536 → BeginsAs v bytes → reading v (overwritten bytes 0 (open_gate ∷ [])) ≡ Ok []
+pub open_reads : (v : Values) (bytes : List ℕ) → length (canonical_text v) ≤ 65536 → BeginsAs v bytes
+    → reading v (overwritten bytes 0 (open_gate ∷ [])) ≡ Ok []
 open_reads v bytes short begins =
     ap (λ (l : List ℕ). reading v (overwritten l 0 (open_gate ∷ []))) begins.1.1.0 ∙ new_read v begins.1.0 short
 
@@ -108,14 +128,16 @@ pub look_failed : (v : Values) (old new : DiskState) → (new ≡ old) ⊎ (new 
 look_failed v old new is = (
   λ none. elim is [
     | inl same ↦ inl same
-    | inr sure ↦ inr (stays (IsNewStudy v) (synced old) new sure (settled_images (IsNewStudy v) (synced old).stable old.bytes refl (inl none)))
+    | inr durable ↦ inr (stays (IsNewStudy v) (synced old) new durable
+        (settled_images (IsNewStudy v) (synced old).stable old.bytes refl (inl none)))
   ],
   λ some. is,
 )
 
-pub write_failed : (v : Values) (old mid new : DiskState) → mid ≡ synced old → is_study old.bytes ≡ false → Throughout mid new (IsNewStudy v) → IsNotMade v Disk old new
-write_failed v old mid new sure none moments = (
-  λ read. inr (subst (λ (d : DiskState). Throughout d new (IsNewStudy v)) sure moments),
+pub write_failed : (v : Values) (old mid new : DiskState) → mid ≡ synced old → is_study old.bytes ≡ false
+    → Throughout mid new (IsNewStudy v) → IsNotMade v Disk old new
+write_failed v old mid new durable none moments = (
+  λ read. inr (subst (λ (d : DiskState). Throughout d new (IsNewStudy v)) durable moments),
   λ some. absurd (some (none_read v old.bytes none)),
 )
 

@@ -1,20 +1,24 @@
--- What every crash may leave of an honest disk, at each moment of a write that is made sure.
-use Rattle.std.proofs.Common.{◌≡◌, ◌∙◌, ◌+◌, ◌++◌, ◌||◌, inl, inr, ℕ, Bool, true, false, List, [], ◌∷◌, Result, Ok, Err, length, refl, sym, ap, subst, arith, append_assoc}
+-- What every crash may leave of an honest disk, at each moment of a write that is made durable.
+use Rattle.std.proofs.Common.{◌≡◌, ◌∙◌, ◌+◌, ◌++◌, ◌||◌, inl, inr, ℕ, Bool, true, false, List, [], ◌∷◌, Result, Ok, Err}
+use Rattle.std.proofs.Common.{length, refl, sym, ap, subst, arith, append_assoc}
 use Rattle.std.specs.Bool.{⊤}
 use Rattle.std.specs.List.{AllByRecursion}
 use Rattle.std.specs.Result.{is_ok, OnOk}
 use Rattle.std.proofs.lemmas.List.{take_all}
-use Rattle.cut_disks.specs.State.{Stable, DiskState, IsImage, IsTorn, Throughout, Syncs, covers, settled, written, begun, synced, overwritten}
+use Rattle.cut_disks.specs.State.{Stable, DiskState, IsImage, IsTorn, Throughout, Syncs, covers, settled, written}
+use Rattle.cut_disks.specs.State.{begun, synced, overwritten}
 use Rattle.cut_disks.specs.Laws.{WritesStayInSpan}
 use Rattle.cut_journal.specs.Steps.{WritesThrough, Leave}
 use Rattle.cut_journal.proofs.Counts.{alike_at}
 
 -- a sync after a write
-pub through_sync : {E : Type 0} (result : Result ⊤ E) (at : ℕ) (put : List ℕ) (old mid new : DiskState) → WritesStayInSpan → mid ≡ written old at put → Syncs result mid new → WritesThrough result at put old new
+pub through_sync : {E : Type 0} (result : Result ⊤ E) (at : ℕ) (put : List ℕ) (old mid new : DiskState)
+    → WritesStayInSpan → mid ≡ written old at put → Syncs result mid new → WritesThrough result at put old new
 through_sync (Ok done) at put old mid new stay wrote is = is ∙ ap synced wrote
-through_sync (Err fault) at put old mid new stay wrote is = inr (overwritten old.bytes at put, (stay old.bytes put at, is ∙ wrote))
+through_sync (Err fault) at put old mid new stay wrote is = inr
+    (overwritten old.bytes at put, (stay old.bytes put at, is ∙ wrote))
 
--- the only image of what is sure
+-- the only image of what is durable
 pub settled_is : (bytes image : List ℕ) → IsImage (settled bytes) image → image ≡ bytes
 settled_is bytes image is =
     sym (take_all (length bytes) image (omega (arith, is.no_longer)))
@@ -25,7 +29,9 @@ either_none : (a : Bool) → a ≡ false → (a || false) ≡ false
 either_none a none = ap (λ b. b || false) none
 
 -- the images of one write that was begun
-pub begun_is : (bytes image : List ℕ) (at stop : ℕ) → IsImage (record { synced = bytes; spans = record { start = at; stop = stop } ∷ [] }) image → IsTorn at stop bytes image
+pub begun_is : (bytes image : List ℕ) (at stop : ℕ)
+    → IsImage (record { synced = bytes; spans = record { start = at; stop = stop } ∷ [] }) image
+    → IsTorn at stop bytes image
 begun_is bytes image at stop is = record {
   no_shorter = is.no_shorter;
   no_longer = is.no_longer;
@@ -37,7 +43,8 @@ abbrev pub Images : (List ℕ → Type 0) → Stable → Type 0
 Images P s = (image : List ℕ) → IsImage s image → P image
 
 pub settled_images : (P : List ℕ → Type 0) (s : Stable) (bytes : List ℕ) → s ≡ settled bytes → P bytes → Images P s
-settled_images P s bytes is holds image of = subst P (sym (settled_is bytes image (subst (λ (t : Stable). IsImage t image) is of))) holds
+settled_images P s bytes is holds image of = subst P
+    (sym (settled_is bytes image (subst (λ (t : Stable). IsImage t image) is of))) holds
 
 -- nothing happened
 pub stays : (P : List ℕ → Type 0) (old new : DiskState) → new ≡ old → Images P old.stable → Throughout old new P
@@ -47,70 +54,91 @@ stays P old new is images = record {
   each = (subst (λ (d : DiskState). Images P d.stable) (sym is) images, tt);
 }
 
-each_append : (P : Stable → Type 0) (xs ys : List Stable) → AllByRecursion P xs → AllByRecursion P ys → AllByRecursion P (xs ++ ys)
+each_append : (P : Stable → Type 0) (xs ys : List Stable) → AllByRecursion P xs → AllByRecursion P ys
+    → AllByRecursion P (xs ++ ys)
 each_append P [] ys all more = more
 each_append P (x ∷ xs) ys all more = (all.0, each_append P xs ys all.1 more)
 
 -- one thing after another
-pub and_then : (P : List ℕ → Type 0) (old mid new : DiskState) → Throughout old mid P → Throughout mid new P → Throughout old new P
+pub and_then : (P : List ℕ → Type 0) (old mid new : DiskState) → Throughout old mid P → Throughout mid new P
+    → Throughout old new P
 and_then P old mid new first next = record {
   since = next.since ++ first.since;
-  goes_on = next.goes_on ∙ ap (λ (past : List Stable). next.since ++ past) first.goes_on ∙ sym (append_assoc next.since first.since old.past);
+  goes_on = next.goes_on ∙ ap (λ (past : List Stable). next.since ++ past) first.goes_on
+      ∙ sym (append_assoc next.since first.since old.past);
   each = (next.each.0, each_append (Images P) next.since first.since next.each.1 first.each.1);
 }
 
-each_weaker : (P Q : List ℕ → Type 0) → ((bytes : List ℕ) → P bytes → Q bytes) → (xs : List Stable) → AllByRecursion (Images P) xs → AllByRecursion (Images Q) xs
+each_weaker : (P Q : List ℕ → Type 0) → ((bytes : List ℕ) → P bytes → Q bytes) → (xs : List Stable)
+    → AllByRecursion (Images P) xs → AllByRecursion (Images Q) xs
 each_weaker P Q implies [] all = tt
 each_weaker P Q implies (x ∷ xs) all = (λ image of. implies image (all.0 image of), each_weaker P Q implies xs all.1)
 
-pub weaker : (P Q : List ℕ → Type 0) → ((bytes : List ℕ) → P bytes → Q bytes) → (old new : DiskState) → Throughout old new P → Throughout old new Q
+pub weaker : (P Q : List ℕ → Type 0) → ((bytes : List ℕ) → P bytes → Q bytes) → (old new : DiskState)
+    → Throughout old new P → Throughout old new Q
 weaker P Q implies old new holds = record {
   since = holds.since;
   goes_on = holds.goes_on;
   each = (λ image of. implies image (holds.each.0 image of), each_weaker P Q implies holds.since holds.each.1);
 }
 
--- a write through to a disk on which all was sure
-pub record Through {E : Type 0} (P : List ℕ → Type 0) (result : Result ⊤ E) (at : ℕ) (put : List ℕ) (old new : DiskState) : Type 0 where
+-- a durable write to a disk on which all was durable
+pub record Through {E : Type 0} (P : List ℕ → Type 0) (result : Result ⊤ E) (at : ℕ) (put : List ℕ)
+    (old new : DiskState) : Type 0 where
   pub moments : Throughout old new P
   pub left : Leave P new
-  pub sure : is_ok result ≡ true → new.stable ≡ settled new.bytes
+  pub durable : is_ok result ≡ true → new.stable ≡ settled new.bytes
   pub bytes : is_ok result ≡ true → new.bytes ≡ overwritten old.bytes at put
 
 begun_images : (P : List ℕ → Type 0) (at stop : ℕ) (old : DiskState) (torn : List ℕ) → old.stable ≡ settled old.bytes
     → ((image : List ℕ) → IsTorn at stop old.bytes image → P image) → Images P (begun old at stop torn).stable
-begun_images P at stop old torn sure holds image of =
-    holds image (begun_is old.bytes image at stop (subst (λ (s : Stable). IsImage (record { synced = s.synced; spans = record { start = at; stop = stop } ∷ s.spans }) image) sure of))
+begun_images P at stop old torn durable holds image of =
+    holds image (begun_is old.bytes image at stop (subst
+    (λ (s : Stable). IsImage (record { synced = s.synced; spans = record { start = at; stop = stop } ∷ s.spans })
+    image) durable of))
 
-pub through_is : {E : Type 0} (P : List ℕ → Type 0) (result : Result ⊤ E) (at : ℕ) (put : List ℕ) (old new : DiskState) → WritesStayInSpan
-    → old.stable ≡ settled old.bytes → P old.bytes → ((image : List ℕ) → IsTorn at (at + length put) old.bytes image → P image)
+pub through_is : {E : Type 0} (P : List ℕ → Type 0) (result : Result ⊤ E) (at : ℕ) (put : List ℕ) (old new : DiskState)
+    → WritesStayInSpan
+    → old.stable ≡ settled old.bytes → P old.bytes
+    → ((image : List ℕ) → IsTorn at (at + length put) old.bytes image → P image)
     → WritesThrough result at put old new → Through P result at put old new
-through_is {E} P (Ok done) at put old new stay sure before torn is =
+through_is {E} P (Ok done) at put old new stay durable before torn is =
     let there : DiskState = synced (written old at put) in
     let after : P there.bytes = torn (overwritten old.bytes at put) (stay old.bytes put at) in
     subst (λ (d : DiskState). Through {E = E} P (Ok done) at put old d) (sym is) (record {
       moments = record {
         since = (written old at put).stable ∷ old.stable ∷ [];
         goes_on = refl;
-        each = (settled_images P there.stable there.bytes refl after, (begun_images P at (at + length put) old there.bytes sure torn, (settled_images P old.stable old.bytes sure before, tt)));
+        each = (
+          settled_images P there.stable there.bytes refl after,
+          (
+            begun_images P at (at + length put) old there.bytes durable torn,
+            (settled_images P old.stable old.bytes durable before, tt),
+          ),
+        );
       };
       left = (after, settled_images P there.stable there.bytes refl after);
-      sure = λ ok. refl;
+      durable = λ ok. refl;
       bytes = λ ok. refl;
     })
-through_is {E} P (Err fault) at put old new stay sure before torn (inl none) = record {
-  moments = stays P old new none (settled_images P old.stable old.bytes sure before);
-  left = subst (λ (d : DiskState). Leave P d) (sym none) (before, settled_images P old.stable old.bytes sure before);
-  sure = λ ok. absurd (cc);
+through_is {E} P (Err fault) at put old new stay durable before torn (inl none) = record {
+  moments = stays P old new none (settled_images P old.stable old.bytes durable before);
+  left = subst (λ (d : DiskState). Leave P d) (sym none) (before, settled_images P old.stable old.bytes durable before);
+  durable = λ ok. absurd (cc);
   bytes = λ ok. absurd (cc);
 }
-through_is {E} P (Err fault) at put old new stay sure before torn (inr (left, is)) =
+through_is {E} P (Err fault) at put old new stay durable before torn (inr (left, is)) =
     let stop : ℕ = at + length put in
-    let images : Images P (begun old at stop left).stable = begun_images P at stop old left sure torn in
+    let images : Images P (begun old at stop left).stable = begun_images P at stop old left durable torn in
     subst (λ (d : DiskState). Through {E = E} P (Err fault) at put old d) (sym is.1) (record {
-      moments = record { since = old.stable ∷ []; goes_on = refl; each = (images, (settled_images P old.stable old.bytes sure before, tt)) };
+      moments = record {
+        since = old.stable ∷ [];
+        goes_on = refl;
+        each =
+            (images, (settled_images P old.stable old.bytes durable before, tt));
+      };
       left = (torn left is.0, images);
-      sure = λ ok. absurd (cc);
+      durable = λ ok. absurd (cc);
       bytes = λ ok. absurd (cc);
     })
 

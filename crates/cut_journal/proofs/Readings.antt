@@ -1,5 +1,7 @@
 -- How bytes are read.
-use Rattle.std.proofs.Common.{◌≡◌, ◌∙◌, ◌≤◌, ◌<◌, ◌+◌, ◌-◌, ◌++◌, ◌==◌, ◌&&◌, ◌⊎◌, inl, inr, ℕ, zero, suc, Bool, true, false, not, cond, List, [], ◌∷◌, Result, Ok, Err, length, take, drop, get_or, slice_range, slice_index, nat_lt, nat_le, refl, sym, ap, subst, arith, zero-add}
+use Rattle.std.proofs.Common.{◌≡◌, ◌∙◌, ◌≤◌, ◌<◌, ◌+◌, ◌-◌, ◌++◌, ◌==◌, ◌&&◌, ◌⊎◌, inl, inr, ℕ, zero, suc, Bool, true}
+use Rattle.std.proofs.Common.{false, not, cond, List, [], ◌∷◌, Result, Ok, Err, length, take, drop, get_or, slice_range}
+use Rattle.std.proofs.Common.{slice_index, nat_lt, nat_le, refl, sym, ap, subst, arith, zero-add}
 use Rattle.std.specs.Prelude.{bytes_eq, Option, Some, None, IfErr}
 use Rattle.std.specs.Int.{w32, from_be_bytes}
 use Rattle.std.proofs.lemmas.Bool.{cases_lt}
@@ -13,16 +15,20 @@ use Rattle.cut_plan.specs.Canonical.{canonical_text}
 use Rattle.cut_disks.specs.State.{DiskState}
 use Rattle.cut_ledger.specs.declared.slip.Slip.{Slip}
 use Rattle.cut_journal.specs.declared.fault.JournalFault.{JournalFault}
-use Rattle.cut_journal.specs.declared.fault.JournalFault.TheVariants.{Memory, Disk, Broken, NoStudy, OtherPlan, Damaged, Held}
-use Rattle.cut_journal.specs.File.{open_gate, front_of, slip_length}
-use Rattle.cut_journal.specs.Reading.{is_study, says_plan, has_magic, is_magic, text_length, can_have_header, has_header, is_slip, slip_in, slips_in, slips_reading, reading}
+use Rattle.cut_journal.specs.declared.fault.JournalFault.TheVariants.{Memory, Disk, Broken, NoStudy, OtherPlan, Damaged}
+use Rattle.cut_journal.specs.declared.fault.JournalFault.TheVariants.{Held}
+use Rattle.cut_journal.specs.File.{open_gate, prefix_of, slip_length}
+use Rattle.cut_journal.specs.Reading.{is_study, says_plan, has_magic, is_magic, text_length, can_have_header}
+use Rattle.cut_journal.specs.Reading.{has_header, is_slip, slip_in, slips_in, slips_reading, reading}
 use Rattle.cut_journal.specs.Opening.{IsReopenFault}
 use Rattle.cut_journal.specs.Steps.{IsOfPlan, AreWhole, IsSlipFault}
-use Rattle.cut_journal.proofs.Places.{ok_not, placed, slips_placed, closed_placed, damaged_placed, are_placed, placed_some}
+use Rattle.cut_journal.proofs.Places.{ok_not, placed, slips_placed, closed_placed, damaged_placed, are_placed}
+use Rattle.cut_journal.proofs.Places.{placed_some}
 use Rattle.cut_journal.proofs.Gates.{gate_first, gate_next, gate_far, gate_rises, nine_numbers}
-use Rattle.cut_journal.proofs.Headers.{both, together, front_begins, begin_alike, says_length, has_can, header_room, says_alike, magic_alike}
+use Rattle.cut_journal.proofs.Headers.{both, together, prefix_begins, begin_alike, says_length, has_can, header_room}
+use Rattle.cut_journal.proofs.Headers.{says_alike, magic_alike}
 use Rattle.std.proofs.Math.Seq.{take-take}
-use Rattle.cut_journal.proofs.Counts.{map_alike, alike_place, alike_front, alike_part}
+use Rattle.cut_journal.proofs.Counts.{map_alike, alike_place, alike_prefix, alike_part}
 use Rattle.cut_journal.specs.Places.{body_at, first_slips, gate_place, is_open, is_whole}
 
 pub cases_bool : (b : Bool) → (b ≡ true) ⊎ (b ≡ false)
@@ -31,43 +37,60 @@ cases_bool false = inr refl
 
 -- bytes are the file of a study of a plan, with n slips
 pub record Holds (v : Values) (bytes : List ℕ) (n : ℕ) : Type 0 where
-  pub front : IsOfPlan v bytes
+  pub prefix : IsOfPlan v bytes
   pub whole : AreWhole v bytes n
   pub closed : is_open v bytes n ≡ false
 
--- ---- the front
+-- ---- the first bytes
 
-front_opens : (v : Values) → get_or (front_of v) 0 0 ≡ open_gate
-unfolding front_of
-front_opens v = refl
+prefix_opens : (v : Values) → get_or (prefix_of v) 0 0 ≡ open_gate
+unfolding prefix_of
+prefix_opens v = refl
 
 is_study_from : (bytes : List ℕ) → 1 < length bytes → get_or bytes 0 0 ≡ open_gate → is_study bytes ≡ true
 is_study_from bytes long first =
     together (nat_lt 1 (length bytes)) (slice_index bytes 0 == open_gate)
     ((Decides-ltb 1 (length bytes)).1 long) ((Decides-eqb (slice_index bytes 0) open_gate).1 first)
 
-pub of_plan_from : (v : Values) (bytes : List ℕ) → length (canonical_text v) ≤ 65536 → gate_place v 0 < length bytes → take (gate_place v 0) bytes ≡ front_of v → IsOfPlan v bytes
+pub of_plan_from : (v : Values) (bytes : List ℕ) → length (canonical_text v) ≤ 65536 → gate_place v 0 < length bytes
+    → take (gate_place v 0) bytes ≡ prefix_of v → IsOfPlan v bytes
 of_plan_from v bytes short long is =
     let place = gate_first v in
-    let begins = front_begins v bytes short long is in
-    let first : get_or bytes 0 0 ≡ open_gate = sym (get_or-take (gate_place v 0) bytes 0 0 (omega (arith, place))) ∙ ap (λ l. get_or l 0 0) is ∙ front_opens v in
-    record { study = is_study_from bytes (omega (arith, long, place)) first; header = begins.header; text = begins.text; letters = begins.letters }
+    let begins = prefix_begins v bytes short long is in
+    let first : get_or bytes 0 0 ≡ open_gate = sym (get_or-take (gate_place v 0) bytes 0 0 (omega (arith, place)))
+    ∙ ap (λ l. get_or l 0 0) is ∙ prefix_opens v in
+    record {
+      study = is_study_from bytes (omega (arith, long, place)) first;
+      header = begins.header;
+      text = begins.text;
+      letters = begins.letters;
+    }
 
 -- the gate of the first slip is there
-pub first_there : (v : Values) (bytes : List ℕ) → has_header bytes ≡ true → says_plan v bytes ≡ true → gate_place v 0 < length bytes
+pub first_there : (v : Values) (bytes : List ℕ) → has_header bytes ≡ true → says_plan v bytes ≡ true → gate_place v 0
+    < length bytes
 first_there v bytes header text =
     let room = header_room bytes (has_can bytes header) in
     let size = says_length v bytes text in
     let place = gate_first v in
     omega (arith, room, size, place)
 
-of_plan_alike : (v : Values) (bytes others : List ℕ) → take (gate_place v 0) others ≡ take (gate_place v 0) bytes → gate_place v 0 < length others → IsOfPlan v bytes → IsOfPlan v others
+of_plan_alike : (v : Values) (bytes others : List ℕ) → take (gate_place v 0) others ≡ take (gate_place v 0) bytes
+    → gate_place v 0 < length others → IsOfPlan v bytes → IsOfPlan v others
 of_plan_alike v bytes others alike long is =
     let place = gate_first v in
     let opens = (both (nat_lt 1 (length bytes)) (slice_index bytes 0 == open_gate) is.study).1 in
-    let first : get_or others 0 0 ≡ open_gate = alike_place (gate_place v 0) 0 others bytes alike (omega (arith, place)) ∙ (Decides-eqb (slice_index bytes 0) open_gate).0 opens in
-    let begins = begin_alike v bytes others alike long (record { header = is.header; text = is.text; letters = is.letters }) in
-    record { study = is_study_from others (omega (arith, long, place)) first; header = begins.header; text = begins.text; letters = begins.letters }
+    let first : get_or others 0 0 ≡ open_gate = alike_place (gate_place v 0) 0 others bytes alike (omega (arith, place))
+    ∙ (Decides-eqb (slice_index bytes 0) open_gate).0 opens in
+    let begins = begin_alike v bytes others alike long
+    (record { header = is.header; text = is.text; letters = is.letters }) in
+    record {
+      study = is_study_from others (omega (arith, long, place)) first;
+      header = begins.header;
+      text =
+          begins.text;
+      letters = begins.letters;
+    }
 
 -- ---- the slips
 
@@ -75,20 +98,26 @@ pub both_not : (a b : Bool) → b ≡ false → (a && b) ≡ false
 both_not true b none = none
 both_not false b none = refl
 
-whole_is : (v : Values) (bytes : List ℕ) (i : ℕ) → is_whole v bytes i ≡ true → (gate_place v (i + 1) < length bytes) × (is_slip v (body_at v bytes i) ≡ true)
+whole_is : (v : Values) (bytes : List ℕ) (i : ℕ) → is_whole v bytes i ≡ true → (gate_place v (i + 1) < length bytes)
+    × (is_slip v (body_at v bytes i) ≡ true)
 whole_is v bytes i is =
     let parts = both (nat_lt (gate_place v (i + 1)) (length bytes)) (is_slip v (body_at v bytes i)) is in
     ((Decides-ltb (gate_place v (i + 1)) (length bytes)).0 parts.0, parts.1)
 
-pub whole_from : (v : Values) (bytes : List ℕ) (i : ℕ) → gate_place v (i + 1) < length bytes → is_slip v (body_at v bytes i) ≡ true → is_whole v bytes i ≡ true
+pub whole_from : (v : Values) (bytes : List ℕ) (i : ℕ) → gate_place v (i + 1) < length bytes
+    → is_slip v (body_at v bytes i) ≡ true → is_whole v bytes i ≡ true
 whole_from v bytes i long is =
-    together (nat_lt (gate_place v (i + 1)) (length bytes)) (is_slip v (body_at v bytes i)) ((Decides-ltb (gate_place v (i + 1)) (length bytes)).1 long) is
+    together (nat_lt (gate_place v (i + 1)) (length bytes)) (is_slip v (body_at v bytes i))
+    ((Decides-ltb (gate_place v (i + 1)) (length bytes)).1 long) is
 
-ap_place : (v : Values) (bytes : List ℕ) (i k : ℕ) → i ≡ k → gate_place v i < length bytes → gate_place v k < length bytes
+ap_place : (v : Values) (bytes : List ℕ) (i k : ℕ) → i ≡ k → gate_place v i < length bytes → gate_place v k
+    < length bytes
 ap_place v bytes i k is there = subst (λ (n : ℕ). gate_place v n < length bytes) is there
 
-pub opens_at : (v : Values) (bytes : List ℕ) (i at : ℕ) (is : Bool) → at ≡ gate_place v i → is ≡ (slice_index bytes at == open_gate) → is ≡ true → is_open v bytes i ≡ true
-opens_at v bytes i at is here told opens = ap (λ (p : ℕ). slice_index bytes p == open_gate) (sym here) ∙ sym told ∙ opens
+pub opens_at : (v : Values) (bytes : List ℕ) (i at : ℕ) (is : Bool) → at ≡ gate_place v i → is
+    ≡ (slice_index bytes at == open_gate) → is ≡ true → is_open v bytes i ≡ true
+opens_at v bytes i at is here reported opens = ap (λ (p : ℕ). slice_index bytes p == open_gate) (sym here)
+    ∙ sym reported ∙ opens
 
 -- a slip that the end of the file cuts off is not whole
 pub cut_short : (v : Values) (bytes : List ℕ) (i : ℕ) → length bytes ≤ gate_place v (i + 1) → is_whole v bytes i ≡ false
@@ -96,14 +125,18 @@ cut_short v bytes i short =
     let test : nat_lt (gate_place v (i + 1)) (length bytes) ≡ false = grind (arith, nat_tests) in
     ap (λ (b : Bool). b && is_slip v (body_at v bytes i)) test
 
--- what was read behind a gate stands there
-pub body_read : (v : Values) (i at k : ℕ) (zeros : List ℕ) (old mid : DiskState) (body : List ℕ) → at ≡ gate_place v i → k ≡ slip_length (version_of v.failing) → 1 ≤ k → k ≤ 113 → mid ≡ old
-    → body ≡ slice_range mid.bytes (at + 1) (at + 1 + length (take (k - 1) zeros)) → length zeros ≡ 112 → body ≡ body_at v old.bytes i
+-- what was read after a gate stands there
+pub body_read : (v : Values) (i at k : ℕ) (zeros : List ℕ) (old mid : DiskState) (body : List ℕ) → at ≡ gate_place v i
+    → k ≡ slip_length (version_of v.failing) → 1 ≤ k → k ≤ 113 → mid ≡ old
+    → body ≡ slice_range mid.bytes (at + 1) (at + 1 + length (take (k - 1) zeros)) → length zeros ≡ 112 → body
+    ≡ body_at v old.bytes i
 body_read v i at k zeros old mid body here long least most same read buffer =
     let next = gate_next v i in
     let count : length (take (k - 1) zeros) ≡ k - 1 = omega (arith, length-take (k - 1) zeros, buffer, most) in
-    let end : at + 1 + length (take (k - 1) zeros) ≡ gate_place v (i + 1) = omega (arith, here, long, next, count, least) in
-    read ∙ ap (λ (d : DiskState). slice_range d.bytes (at + 1) (at + 1 + length (take (k - 1) zeros))) same ∙ ap (λ (e : ℕ). slice_range old.bytes (at + 1) e) end
+    let end : at + 1 + length (take (k - 1) zeros)
+    ≡ gate_place v (i + 1) = omega (arith, here, long, next, count, least) in
+    read ∙ ap (λ (d : DiskState). slice_range d.bytes (at + 1) (at + 1 + length (take (k - 1) zeros))) same
+    ∙ ap (λ (e : ℕ). slice_range old.bytes (at + 1) e) end
     ∙ ap (λ (e : ℕ). slice_range old.bytes (e + 1) (gate_place v (i + 1))) here
 
 -- what a slip's bytes are found to be
@@ -115,59 +148,74 @@ found_none : (is : Bool) (made : Slip) → cond is (Some made) None ≡ None →
 found_none false made same = refl
 found_none true made same = (let some : Some made ≡ None = same in absurd (cc (some)))
 
-pub next_whole : (v : Values) (bytes body : List ℕ) (i : ℕ) (found : Option Slip) (slip : Slip) → found ≡ cond (is_slip v body) (Some (slip_in (version_of v.failing) body)) None → body ≡ body_at v bytes i
-    → gate_place v (i + 1) < length bytes → found ≡ Some slip → (is_whole v bytes i ≡ true) × (slip ≡ slip_in (version_of v.failing) (body_at v bytes i))
-next_whole v bytes body i found slip told read long some =
-    let parts = found_some (is_slip v body) (slip_in (version_of v.failing) body) slip (sym told ∙ some) in
-    (whole_from v bytes i long (ap (is_slip v) (sym read) ∙ parts.0), parts.1 ∙ ap (slip_in (version_of v.failing)) read)
+pub next_whole : (v : Values) (bytes body : List ℕ) (i : ℕ) (found : Option Slip) (slip : Slip) → found
+    ≡ cond (is_slip v body) (Some (slip_in (version_of v.failing) body)) None → body ≡ body_at v bytes i
+    → gate_place v (i + 1) < length bytes → found ≡ Some slip → (is_whole v bytes i ≡ true)
+    × (slip ≡ slip_in (version_of v.failing) (body_at v bytes i))
+next_whole v bytes body i found slip reported read long some =
+    let parts = found_some (is_slip v body) (slip_in (version_of v.failing) body) slip (sym reported ∙ some) in (
+      whole_from v bytes i long (ap (is_slip v) (sym read) ∙ parts.0),
+      parts.1
+          ∙ ap (slip_in (version_of v.failing)) read,
+    )
 
-pub next_broken : (v : Values) (bytes body : List ℕ) (i : ℕ) (found : Option Slip) → found ≡ cond (is_slip v body) (Some (slip_in (version_of v.failing) body)) None → body ≡ body_at v bytes i
+pub next_broken : (v : Values) (bytes body : List ℕ) (i : ℕ) (found : Option Slip) → found
+    ≡ cond (is_slip v body) (Some (slip_in (version_of v.failing) body)) None → body ≡ body_at v bytes i
     → found ≡ None → is_whole v bytes i ≡ false
-next_broken v bytes body i found told read none =
-    let wrong = found_none (is_slip v body) (slip_in (version_of v.failing) body) (sym told ∙ none) in
-    let behind : is_slip v (body_at v bytes i) ≡ false = ap (is_slip v) (sym read) ∙ wrong in
-    both_not (nat_lt (gate_place v (i + 1)) (length bytes)) (is_slip v (body_at v bytes i)) behind
+next_broken v bytes body i found reported read none =
+    let wrong = found_none (is_slip v body) (slip_in (version_of v.failing) body) (sym reported ∙ none) in
+    let later : is_slip v (body_at v bytes i) ≡ false = ap (is_slip v) (sym read) ∙ wrong in
+    both_not (nat_lt (gate_place v (i + 1)) (length bytes)) (is_slip v (body_at v bytes i)) later
 
--- the gate behind whole slips is there
-pub gate_there : (v : Values) (bytes : List ℕ) (n : ℕ) → IsOfPlan v bytes → AreWhole v bytes n → gate_place v n < length bytes
-gate_there v bytes zero front whole = first_there v bytes front.header front.text
-gate_there v bytes (suc n) front whole =
+-- the gate after whole slips is there
+pub gate_there : (v : Values) (bytes : List ℕ) (n : ℕ) → IsOfPlan v bytes → AreWhole v bytes n → gate_place v n
+    < length bytes
+gate_there v bytes zero prefix whole = first_there v bytes prefix.header prefix.text
+gate_there v bytes (suc n) prefix whole =
     let there = (whole_is v bytes n (whole n (omega arith)).1).0 in
     ap_place v bytes (n + 1) (suc n) (omega arith) there
 
--- what bytes are read as, by what the tests of their front say
+-- what bytes are read as, by what the tests of the first ones say
 choice : Bool → Bool → Bool → Bool → Result (List Slip) JournalFault → Result (List Slip) JournalFault
 choice study header text letters slips =
-    cond (not study) (Err NoStudy) (cond (not header) (Err (Damaged 0)) (cond (not text) (Err OtherPlan) (cond (not letters) (Err (Damaged 0)) slips)))
+    cond (not study) (Err NoStudy) (cond (not header) (Err (Damaged 0))
+    (cond (not text) (Err OtherPlan) (cond (not letters) (Err (Damaged 0)) slips)))
 
-choice_is : (v : Values) (bytes : List ℕ) → reading v bytes ≡ choice (is_study bytes) (has_header bytes) (says_plan v bytes) (has_magic v bytes) (slips_reading v bytes)
+choice_is : (v : Values) (bytes : List ℕ) → reading v bytes
+    ≡ choice (is_study bytes) (has_header bytes) (says_plan v bytes) (has_magic v bytes) (slips_reading v bytes)
 unfolding choice reading
 choice_is v bytes = refl
 
-choice_none : (study header text letters : Bool) (read : Result (List Slip) JournalFault) → study ≡ false → choice study header text letters read ≡ Err NoStudy
+choice_none : (study header text letters : Bool) (read : Result (List Slip) JournalFault) → study ≡ false
+    → choice study header text letters read ≡ Err NoStudy
 unfolding choice
 choice_none false header text letters read none = refl
 choice_none true header text letters read none = absurd (cc)
 
-choice_damaged : (study header text letters : Bool) (read : Result (List Slip) JournalFault) → study ≡ true → header ≡ false → choice study header text letters read ≡ Err (Damaged 0)
+choice_damaged : (study header text letters : Bool) (read : Result (List Slip) JournalFault) → study ≡ true → header
+    ≡ false → choice study header text letters read ≡ Err (Damaged 0)
 unfolding choice
 choice_damaged study header text letters read some none = rw (some, none) refl
 
-choice_other : (study header text letters : Bool) (read : Result (List Slip) JournalFault) → study ≡ true → header ≡ true → text ≡ false → choice study header text letters read ≡ Err OtherPlan
+choice_other : (study header text letters : Bool) (read : Result (List Slip) JournalFault) → study ≡ true → header
+    ≡ true → text ≡ false → choice study header text letters read ≡ Err OtherPlan
 unfolding choice
 choice_other study header text letters read some whole none = rw (some, whole, none) refl
 
-choice_version : (study header text letters : Bool) (read : Result (List Slip) JournalFault) → study ≡ true → header ≡ true → text ≡ true → letters ≡ false
+choice_version : (study header text letters : Bool) (read : Result (List Slip) JournalFault) → study ≡ true → header
+    ≡ true → text ≡ true → letters ≡ false
     → choice study header text letters read ≡ Err (Damaged 0)
 unfolding choice
 choice_version study header text letters read some whole says none = rw (some, whole, says, none) refl
 
-choice_plan : (study header text letters : Bool) (read : Result (List Slip) JournalFault) → study ≡ true → header ≡ true → text ≡ true → letters ≡ true
+choice_plan : (study header text letters : Bool) (read : Result (List Slip) JournalFault) → study ≡ true → header ≡ true
+    → text ≡ true → letters ≡ true
     → choice study header text letters read ≡ read
 unfolding choice
 choice_plan study header text letters read some whole says has = rw (some, whole, says, has) refl
 
-choice_some : (study header text letters : Bool) (read : Result (List Slip) JournalFault) → study ≡ true → (read ≡ Err NoStudy → ⊥) → choice study header text letters read ≡ Err NoStudy → ⊥
+choice_some : (study header text letters : Bool) (read : Result (List Slip) JournalFault) → study ≡ true
+    → (read ≡ Err NoStudy → ⊥) → choice study header text letters read ≡ Err NoStudy → ⊥
 unfolding choice
 choice_some true true true true read study some is = some is
 choice_some true true true false read study some is = absurd (cc)
@@ -175,7 +223,8 @@ choice_some true true false letters read study some is = absurd (cc)
 choice_some true false text letters read study some is = absurd (cc)
 choice_some false header text letters read study some is = absurd (cc)
 
-choice_ok : (study header text letters : Bool) (read : Result (List Slip) JournalFault) (slips : List Slip) → choice study header text letters read ≡ Ok slips
+choice_ok : (study header text letters : Bool) (read : Result (List Slip) JournalFault) (slips : List Slip)
+    → choice study header text letters read ≡ Ok slips
     → (study ≡ true) × (header ≡ true) × (text ≡ true) × (letters ≡ true) × (read ≡ Ok slips)
 unfolding choice
 choice_ok true true true true read slips is = (refl, refl, refl, refl, is)
@@ -187,60 +236,78 @@ choice_ok false header text letters read slips is = absurd (ok_not slips NoStudy
 -- a study of the plan
 pub plan_read : (v : Values) (bytes : List ℕ) → IsOfPlan v bytes → reading v bytes ≡ slips_reading v bytes
 plan_read v bytes is =
-    choice_is v bytes ∙ choice_plan (is_study bytes) (has_header bytes) (says_plan v bytes) (has_magic v bytes) (slips_reading v bytes) is.study is.header is.text is.letters
+    choice_is v bytes ∙ choice_plan (is_study bytes) (has_header bytes) (says_plan v bytes) (has_magic v bytes)
+    (slips_reading v bytes) is.study is.header is.text is.letters
 
 -- the slips of a study, by the places of their gates
 reading_placed : (v : Values) (bytes : List ℕ) → slips_reading v bytes ≡ placed v bytes (length bytes) 1 0
 unfolding slips_reading
-reading_placed v bytes = ap (λ (p : ℕ). slips_in v (length bytes) 1 (drop p bytes)) (sym (gate_first v)) ∙ slips_placed v bytes (length bytes) 1 0
+reading_placed v bytes = ap (λ (p : ℕ). slips_in v (length bytes) 1 (drop p bytes)) (sym (gate_first v))
+    ∙ slips_placed v bytes (length bytes) 1 0
 
-pub slips_read : (v : Values) (bytes : List ℕ) (n : ℕ) → Holds v bytes n → slips_reading v bytes ≡ Ok (first_slips v bytes n)
+pub slips_read : (v : Values) (bytes : List ℕ) (n : ℕ) → Holds v bytes n → slips_reading v bytes
+    ≡ Ok (first_slips v bytes n)
 slips_read v bytes n holds =
-    let there = gate_there v bytes n holds.front holds.whole in
+    let there = gate_there v bytes n holds.prefix holds.whole in
     reading_placed v bytes
-    ∙ closed_placed v bytes n (length bytes) 1 0 (omega (arith, there, gate_far v n)) (λ j low high. holds.whole j (omega (arith, high))) (ap (is_open v bytes) (zero-add n) ∙ holds.closed)
+    ∙ closed_placed v bytes n (length bytes) 1 0 (omega (arith, there, gate_far v n))
+    (λ j low high. holds.whole j (omega (arith, high))) (ap (is_open v bytes) (zero-add n) ∙ holds.closed)
 
 pub holds_reads : (v : Values) (bytes : List ℕ) (n : ℕ) → Holds v bytes n → reading v bytes ≡ Ok (first_slips v bytes n)
-holds_reads v bytes n holds = plan_read v bytes holds.front ∙ slips_read v bytes n holds
+holds_reads v bytes n holds = plan_read v bytes holds.prefix ∙ slips_read v bytes n holds
 
 -- a slip with an open gate, after slips that are whole, and is not so
-pub damage_read : (v : Values) (bytes : List ℕ) (i : ℕ) → IsOfPlan v bytes → AreWhole v bytes i → is_open v bytes i ≡ true → is_whole v bytes i ≡ false
+pub damage_read : (v : Values) (bytes : List ℕ) (i : ℕ) → IsOfPlan v bytes → AreWhole v bytes i → is_open v bytes i
+    ≡ true → is_whole v bytes i ≡ false
     → slips_reading v bytes ≡ Err (Damaged (i + 1))
-damage_read v bytes i front before opens broken =
-    let there = gate_there v bytes i front before in
+damage_read v bytes i prefix before opens broken =
+    let there = gate_there v bytes i prefix before in
     reading_placed v bytes
-    ∙ damaged_placed v bytes i (length bytes) 1 0 (omega (arith, there, gate_far v i)) (λ j low high. before j (omega (arith, high)))
+    ∙ damaged_placed v bytes i (length bytes) 1 0 (omega (arith, there, gate_far v i))
+    (λ j low high. before j (omega (arith, high)))
     (ap (is_open v bytes) (zero-add i) ∙ opens) (ap (is_whole v bytes) (zero-add i) ∙ broken)
     ∙ ap (λ (k : ℕ). Err (Damaged k)) (let e : 1 + i ≡ i + 1 = omega arith in e)
 
 -- where there is no study, that is all that is said; where there is one, something else
 pub none_read : (v : Values) (bytes : List ℕ) → is_study bytes ≡ false → reading v bytes ≡ Err NoStudy
-none_read v bytes none = choice_is v bytes ∙ choice_none (is_study bytes) (has_header bytes) (says_plan v bytes) (has_magic v bytes) (slips_reading v bytes) none
+none_read v bytes none = choice_is v bytes ∙ choice_none (is_study bytes) (has_header bytes) (says_plan v bytes)
+    (has_magic v bytes) (slips_reading v bytes) none
 
 pub some_read : (v : Values) (bytes : List ℕ) → is_study bytes ≡ true → reading v bytes ≡ Err NoStudy → ⊥
 some_read v bytes some is =
-    choice_some (is_study bytes) (has_header bytes) (says_plan v bytes) (has_magic v bytes) (slips_reading v bytes) some (λ read. placed_some v bytes (length bytes) 1 0 (sym (reading_placed v bytes) ∙ read))
+    choice_some (is_study bytes) (has_header bytes) (says_plan v bytes) (has_magic v bytes) (slips_reading v bytes) some
+    (λ read. placed_some v bytes (length bytes) 1 0 (sym (reading_placed v bytes) ∙ read))
     (sym (choice_is v bytes) ∙ is)
 
 -- a study without a whole header, and one of another plan
-pub damaged_read : (v : Values) (bytes : List ℕ) → is_study bytes ≡ true → has_header bytes ≡ false → reading v bytes ≡ Err (Damaged 0)
-damaged_read v bytes some header = choice_is v bytes ∙ choice_damaged (is_study bytes) (has_header bytes) (says_plan v bytes) (has_magic v bytes) (slips_reading v bytes) some header
+pub damaged_read : (v : Values) (bytes : List ℕ) → is_study bytes ≡ true → has_header bytes ≡ false → reading v bytes
+    ≡ Err (Damaged 0)
+damaged_read v bytes some header = choice_is v bytes
+    ∙ choice_damaged (is_study bytes) (has_header bytes) (says_plan v bytes) (has_magic v bytes) (slips_reading v bytes)
+    some header
 
-pub other_read : (v : Values) (bytes : List ℕ) → is_study bytes ≡ true → has_header bytes ≡ true → says_plan v bytes ≡ false → reading v bytes ≡ Err OtherPlan
-other_read v bytes some header text = choice_is v bytes ∙ choice_other (is_study bytes) (has_header bytes) (says_plan v bytes) (has_magic v bytes) (slips_reading v bytes) some header text
+pub other_read : (v : Values) (bytes : List ℕ) → is_study bytes ≡ true → has_header bytes ≡ true → says_plan v bytes
+    ≡ false → reading v bytes ≡ Err OtherPlan
+other_read v bytes some header text = choice_is v bytes
+    ∙ choice_other (is_study bytes) (has_header bytes) (says_plan v bytes) (has_magic v bytes) (slips_reading v bytes)
+    some header text
 
 -- one whose letters are those of the other version
-pub version_read : (v : Values) (bytes : List ℕ) → is_study bytes ≡ true → has_header bytes ≡ true → says_plan v bytes ≡ true → has_magic v bytes ≡ false → reading v bytes ≡ Err (Damaged 0)
+pub version_read : (v : Values) (bytes : List ℕ) → is_study bytes ≡ true → has_header bytes ≡ true → says_plan v bytes
+    ≡ true → has_magic v bytes ≡ false → reading v bytes ≡ Err (Damaged 0)
 version_read v bytes some header text letters =
-    choice_is v bytes ∙ choice_version (is_study bytes) (has_header bytes) (says_plan v bytes) (has_magic v bytes) (slips_reading v bytes) some header text letters
+    choice_is v bytes ∙ choice_version (is_study bytes) (has_header bytes) (says_plan v bytes) (has_magic v bytes)
+    (slips_reading v bytes) some header text letters
 
 -- bytes that say slips
-pub reads_holds : (v : Values) (bytes : List ℕ) (slips : List Slip) → reading v bytes ≡ Ok slips → Holds v bytes (length slips) × (slips ≡ first_slips v bytes (length slips))
+pub reads_holds : (v : Values) (bytes : List ℕ) (slips : List Slip) → reading v bytes ≡ Ok slips
+    → Holds v bytes (length slips) × (slips ≡ first_slips v bytes (length slips))
 reads_holds v bytes slips is =
-    let parts = choice_ok (is_study bytes) (has_header bytes) (says_plan v bytes) (has_magic v bytes) (slips_reading v bytes) slips (sym (choice_is v bytes) ∙ is) in
+    let parts = choice_ok (is_study bytes) (has_header bytes) (says_plan v bytes) (has_magic v bytes)
+    (slips_reading v bytes) slips (sym (choice_is v bytes) ∙ is) in
     let slips_there = are_placed v bytes (length bytes) 1 0 slips (sym (reading_placed v bytes) ∙ parts.4) in
     let holds : Holds v bytes (length slips) = record {
-      front = record { study = parts.0; header = parts.1; text = parts.2; letters = parts.3 };
+      prefix = record { study = parts.0; header = parts.1; text = parts.2; letters = parts.3 };
       whole = λ i low. slips_there.whole i (omega arith) (omega (arith, low));
       closed = ap (is_open v bytes) (sym (zero-add (length slips))) ∙ slips_there.closed;
     } in
@@ -248,11 +315,14 @@ reads_holds v bytes slips is =
 
 -- ---- bytes that begin alike
 
-slip_same : (v : Values) (m i : ℕ) (bytes others : List ℕ) → take m others ≡ take m bytes → gate_place v (i + 1) ≤ m → body_at v others i ≡ body_at v bytes i
+slip_same : (v : Values) (m i : ℕ) (bytes others : List ℕ) → take m others ≡ take m bytes → gate_place v (i + 1) ≤ m
+    → body_at v others i ≡ body_at v bytes i
 slip_same v m i bytes others alike low = alike_part m (gate_place v i + 1) (gate_place v (i + 1)) others bytes alike low
 
-open_same : (v : Values) (m i : ℕ) (bytes others : List ℕ) → take m others ≡ take m bytes → gate_place v i < m → is_open v others i ≡ is_open v bytes i
-open_same v m i bytes others alike low = ap (λ (b : ℕ). b == open_gate) (alike_place m (gate_place v i) others bytes alike low)
+open_same : (v : Values) (m i : ℕ) (bytes others : List ℕ) → take m others ≡ take m bytes → gate_place v i < m
+    → is_open v others i ≡ is_open v bytes i
+open_same v m i bytes others alike low = ap (λ (b : ℕ). b == open_gate)
+    (alike_place m (gate_place v i) others bytes alike low)
 
 slip_ends : (v : Values) (i n : ℕ) → i < n → gate_place v (i + 1) ≤ gate_place v n
 slip_ends v i n low = omega (arith, gate_next v i, gate_rises v i n low)
@@ -261,47 +331,59 @@ gate_first_least : (v : Values) (n : ℕ) → gate_place v 0 ≤ gate_place v n
 gate_first_least v zero = omega arith
 gate_first_least v (suc n) = omega (arith, gate_rises v 0 (suc n) (omega arith))
 
--- the slips in front of a place are the same
+-- the slips before a place are the same
 pub before_same : (v : Values) (n : ℕ) (bytes others : List ℕ) → IsOfPlan v bytes → AreWhole v bytes n
     → take (gate_place v n) others ≡ take (gate_place v n) bytes → gate_place v n < length others
     → IsOfPlan v others × (AreWhole v others n) × (first_slips v others n ≡ first_slips v bytes n)
-before_same v n bytes others front whole alike long =
+before_same v n bytes others prefix whole alike long =
     let m : ℕ = gate_place v n in
     let first : gate_place v 0 ≤ m = gate_first_least v n in (
-      of_plan_alike v bytes others (alike_front m (gate_place v 0) others bytes alike first) (omega (arith, long, first)) front,
+      of_plan_alike v bytes others (alike_prefix m (gate_place v 0) others bytes alike first)
+          (omega (arith, long, first)) prefix,
       λ i low. (let end : gate_place v (i + 1) ≤ m = slip_ends v i n low in (
-        open_same v m i bytes others alike (omega (arith, gate_next v i, end, nine_numbers (version_of v.failing))) ∙ (whole i low).0,
-        whole_from v others i (omega (arith, end, long)) (ap (is_slip v) (slip_same v m i bytes others alike end) ∙ (whole_is v bytes i (whole i low).1).1),
+        open_same v m i bytes others alike (omega (arith, gate_next v i, end, nine_numbers (version_of v.failing)))
+            ∙ (whole i low).0,
+        whole_from v others i (omega (arith, end, long))
+            (ap (is_slip v) (slip_same v m i bytes others alike end) ∙ (whole_is v bytes i (whole i low).1).1),
       )),
-      map_alike (λ i. slip_in (version_of v.failing) (body_at v others i)) (λ i. slip_in (version_of v.failing) (body_at v bytes i)) n
+      map_alike (λ i. slip_in (version_of v.failing) (body_at v others i))
+          (λ i. slip_in (version_of v.failing) (body_at v bytes i)) n
           (λ i low. ap (slip_in (version_of v.failing)) (slip_same v m i bytes others alike (slip_ends v i n low))),
     )
 
--- where the gate behind them is closed, that is all
+-- where the gate after them is closed, that is all
 pub closed_read : (v : Values) (n : ℕ) (bytes others : List ℕ) → IsOfPlan v bytes → AreWhole v bytes n
-    → take (gate_place v n) others ≡ take (gate_place v n) bytes → gate_place v n < length others → is_open v others n ≡ false
+    → take (gate_place v n) others ≡ take (gate_place v n) bytes → gate_place v n < length others → is_open v others n
+    ≡ false
     → reading v others ≡ Ok (first_slips v bytes n)
-closed_read v n bytes others front whole alike long shut =
-    let same = before_same v n bytes others front whole alike long in
-    holds_reads v others n (record { front = same.0; whole = same.1; closed = shut }) ∙ ap (λ (l : List Slip). Ok l) same.2
+closed_read v n bytes others prefix whole alike long shut =
+    let same = before_same v n bytes others prefix whole alike long in
+    holds_reads v others n (record { prefix = same.0; whole = same.1; closed = shut })
+    ∙ ap (λ (l : List Slip). Ok l) same.2
 
--- where it is open, and a slip stands whole behind it, before a closed gate, that is one more
+-- where it is open, and a slip stands whole after it, before a closed gate, that is one more
 pub opened_read : (v : Values) (n : ℕ) (bytes others : List ℕ) (slip : Slip) → IsOfPlan v bytes → AreWhole v bytes n
-    → take (gate_place v n) others ≡ take (gate_place v n) bytes → gate_place v (n + 1) < length others → is_open v others n ≡ true
-    → is_slip v (body_at v others n) ≡ true → slip_in (version_of v.failing) (body_at v others n) ≡ slip → is_open v others (n + 1) ≡ false
+    → take (gate_place v n) others ≡ take (gate_place v n) bytes → gate_place v (n + 1) < length others
+    → is_open v others n ≡ true
+    → is_slip v (body_at v others n) ≡ true → slip_in (version_of v.failing) (body_at v others n) ≡ slip
+    → is_open v others (n + 1) ≡ false
     → reading v others ≡ Ok (first_slips v bytes n ++ slip ∷ [])
-opened_read v n bytes others slip front whole alike long opens is says shut =
-    let same = before_same v n bytes others front whole alike (omega (arith, long, gate_next v n)) in
+opened_read v n bytes others slip prefix whole alike long opens is says shut =
+    let same = before_same v n bytes others prefix whole alike (omega (arith, long, gate_next v n)) in
     let more : AreWhole v others (n + 1) = λ i low. elim (cases_lt i n) [
       | inl before ↦ same.1 i before
-      | inr last ↦ (let here : i ≡ n = omega arith in (ap (is_open v others) here ∙ opens, ap (is_whole v others) here ∙ whole_from v others n long is))
+      | inr last ↦ (let here : i ≡ n = omega arith
+          in (ap (is_open v others) here ∙ opens, ap (is_whole v others) here ∙ whole_from v others n long is))
     ] in
-    holds_reads v others (n + 1) (record { front = same.0; whole = more; closed = shut })
-    ∙ ap (λ (l : List Slip). Ok l) (map-range_with_len_more (λ i. slip_in (version_of v.failing) (body_at v others i)) 0 n n (zero-add n)
-    ∙ ap (λ (l : List Slip). l ++ slip_in (version_of v.failing) (body_at v others n) ∷ []) same.2 ∙ ap (λ (x : Slip). first_slips v bytes n ++ x ∷ []) says)
+    holds_reads v others (n + 1) (record { prefix = same.0; whole = more; closed = shut })
+    ∙ ap (λ (l : List Slip). Ok l) (map-range_with_len_more (λ i. slip_in (version_of v.failing) (body_at v others i)) 0
+    n n (zero-add n)
+    ∙ ap (λ (l : List Slip). l ++ slip_in (version_of v.failing) (body_at v others n) ∷ []) same.2
+    ∙ ap (λ (x : Slip). first_slips v bytes n ++ x ∷ []) says)
 
 -- one whole slip more
-pub one_more_whole : (v : Values) (bytes : List ℕ) (n : ℕ) → AreWhole v bytes n → is_open v bytes n ≡ true → is_whole v bytes n ≡ true → AreWhole v bytes (n + 1)
+pub one_more_whole : (v : Values) (bytes : List ℕ) (n : ℕ) → AreWhole v bytes n → is_open v bytes n ≡ true
+    → is_whole v bytes n ≡ true → AreWhole v bytes (n + 1)
 one_more_whole v bytes n whole opens is = λ i low. elim (cases_lt i n) [
   | inl before ↦ whole i before
   | inr last ↦ (let here : i ≡ n = omega arith in (ap (is_open v bytes) here ∙ opens, ap (is_whole v bytes) here ∙ is))
@@ -309,65 +391,95 @@ one_more_whole v bytes n whole opens is = λ i low. elim (cases_lt i n) [
 
 -- ---- headers
 
--- a file that has no room for the plan's front is of another plan
-pub short_other : (v : Values) (bytes : List ℕ) → has_header bytes ≡ true → length bytes ≤ gate_place v 0 → says_plan v bytes ≡ false
+-- a file that has no room for the plan's header is of another plan
+pub short_other : (v : Values) (bytes : List ℕ) → has_header bytes ≡ true → length bytes ≤ gate_place v 0
+    → says_plan v bytes ≡ false
 short_other v bytes header short = elim (cases_bool (says_plan v bytes)) [
   | inl says ↦ absurd (omega (arith, first_there v bytes header says, short))
   | inr other ↦ other
 ]
 
--- what the bytes of a front say, the file says
-front_alike : (v : Values) (bytes front into : List ℕ) (n : ℕ) → n ≡ length (canonical_text v) + 45 → front ≡ slice_range bytes 0 n → into ≡ front → take (gate_place v 0) into ≡ take (gate_place v 0) bytes
-front_alike v bytes front into n size read same =
+-- what the bytes of a header say, the file says
+prefix_alike : (v : Values) (bytes prefix into : List ℕ) (n : ℕ) → n ≡ length (canonical_text v) + 45 → prefix
+    ≡ slice_range bytes 0 n → into ≡ prefix → take (gate_place v 0) into ≡ take (gate_place v 0) bytes
+prefix_alike v bytes prefix into n size read same =
     let k : n - 0 ≡ gate_place v 0 = omega (arith, size, gate_first v) in
-    ap (take (gate_place v 0)) (same ∙ read ∙ ap (λ (m : ℕ). take m bytes) k) ∙ take-take (gate_place v 0) (gate_place v 0) bytes (omega arith)
+    ap (take (gate_place v 0)) (same ∙ read ∙ ap (λ (m : ℕ). take m bytes) k)
+    ∙ take-take (gate_place v 0) (gate_place v 0) bytes (omega arith)
 
-pub text_said : (v : Values) (bytes front into : List ℕ) (n : ℕ) (says : Bool) → n ≡ length (canonical_text v) + 45 → front ≡ slice_range bytes 0 n → into ≡ front → says ≡ says_plan v into → says_plan v bytes ≡ says
-text_said v bytes front into n says size read same told = sym (told ∙ says_alike v bytes into (front_alike v bytes front into n size read same))
+pub text_said : (v : Values) (bytes prefix into : List ℕ) (n : ℕ) (says : Bool) → n ≡ length (canonical_text v) + 45
+    → prefix ≡ slice_range bytes 0 n → into ≡ prefix → says ≡ says_plan v into → says_plan v bytes ≡ says
+text_said v bytes prefix into n says size read same reported = sym
+    (reported ∙ says_alike v bytes into (prefix_alike v bytes prefix into n size read same))
 
-pub letters_said : (v : Values) (bytes front into : List ℕ) (n : ℕ) (has : Bool) → n ≡ length (canonical_text v) + 45 → front ≡ slice_range bytes 0 n → into ≡ front → has ≡ has_magic v into → has_magic v bytes ≡ has
-letters_said v bytes front into n has size read same told = sym (told ∙ magic_alike v bytes into (front_alike v bytes front into n size read same))
+pub letters_said : (v : Values) (bytes prefix into : List ℕ) (n : ℕ) (has : Bool) → n ≡ length (canonical_text v) + 45
+    → prefix ≡ slice_range bytes 0 n → into ≡ prefix → has ≡ has_magic v into → has_magic v bytes ≡ has
+letters_said v bytes prefix into n has size read same reported = sym
+    (reported ∙ magic_alike v bytes into (prefix_alike v bytes prefix into n size read same))
 
 -- whether a header can be there, by its four tests
-pub header_test : (bytes : List ℕ) (a b c d : Bool) → a ≡ nat_le 13 (length bytes) → b ≡ is_magic (slice_range bytes 1 9) → c ≡ nat_le (text_length bytes) 65536
+pub header_test : (bytes : List ℕ) (a b c d : Bool) → a ≡ nat_le 13 (length bytes) → b
+    ≡ is_magic (slice_range bytes 1 9) → c ≡ nat_le (text_length bytes) 65536
     → d ≡ nat_le (text_length bytes + 46) (length bytes) → can_have_header bytes ≡ (((a && b) && c) && d)
 unfolding can_have_header
 header_test bytes a b c d p q r s = sym (rw (p, q, r, s) refl)
 
 -- the length in a header, where one can be there, by the same tests
-pub text_told : (bytes : List ℕ) (a b c d : Bool) (found : Option ℕ) → a ≡ nat_le 13 (length bytes) → b ≡ is_magic (slice_range bytes 1 9) → c ≡ nat_le (text_length bytes) 65536
-    → d ≡ nat_le (text_length bytes + 46) (length bytes) → found ≡ cond (((a && b) && c) && d) (Some (text_length bytes)) None → found ≡ cond (can_have_header bytes) (Some (text_length bytes)) None
-text_told bytes a b c d found p q r s is = is ∙ sym (ap (λ (x : Bool). (let o : Option ℕ = cond x (Some (text_length bytes)) None in o)) (header_test bytes a b c d p q r s))
+pub text_shown : (bytes : List ℕ) (a b c d : Bool) (found : Option ℕ) → a ≡ nat_le 13 (length bytes) → b
+    ≡ is_magic (slice_range bytes 1 9) → c ≡ nat_le (text_length bytes) 65536
+    → d ≡ nat_le (text_length bytes + 46) (length bytes) → found
+    ≡ cond (((a && b) && c) && d) (Some (text_length bytes)) None → found
+    ≡ cond (can_have_header bytes) (Some (text_length bytes)) None
+text_shown bytes a b c d found p q r s is = is ∙ sym
+    (ap (λ (x : Bool). (let o : Option ℕ = cond x (Some (text_length bytes)) None in o))
+    (header_test bytes a b c d p q r s))
 
-pub text_read : (old mid : DiskState) (digits : List ℕ) (text : ℕ) → text ≡ from_be_bytes w32 digits → digits ≡ slice_range mid.bytes 9 13 → mid ≡ old → text ≡ text_length old.bytes
-text_read old mid digits text is read same = is ∙ ap (from_be_bytes w32) (read ∙ ap (λ (d : DiskState). slice_range d.bytes 9 13) same)
+pub text_read : (old mid : DiskState) (digits : List ℕ) (text : ℕ) → text ≡ from_be_bytes w32 digits → digits
+    ≡ slice_range mid.bytes 9 13 → mid ≡ old → text ≡ text_length old.bytes
+text_read old mid digits text is read same = is ∙ ap (from_be_bytes w32)
+    (read ∙ ap (λ (d : DiskState). slice_range d.bytes 9 13) same)
 
 -- what the length in a header says of the header
-pub text_none : (bytes : List ℕ) (found : Option ℕ) → found ≡ cond (can_have_header bytes) (Some (text_length bytes)) None → found ≡ None → has_header bytes ≡ false
+pub text_none : (bytes : List ℕ) (found : Option ℕ) → found
+    ≡ cond (can_have_header bytes) (Some (text_length bytes)) None → found ≡ None → has_header bytes ≡ false
 unfolding has_header
-text_none bytes found told none = elim (cases_bool (can_have_header bytes)) [
-  | inl can ↦ (let same : Some (text_length bytes) ≡ None = sym (told ∙ ap (λ (b : Bool). (let o : Option ℕ = cond b (Some (text_length bytes)) None in o)) can) ∙ none in absurd (cc (same)))
-  | inr cannot ↦ ap (λ (b : Bool). b && bytes_eq (sha256 (slice_range bytes 1 (text_length bytes + 13))) (slice_range bytes (text_length bytes + 13) (text_length bytes + 45))) cannot
+text_none bytes found reported none = elim (cases_bool (can_have_header bytes)) [
+  | inl can ↦ (let same : Some (text_length bytes)
+      ≡ None = sym (reported ∙ ap (λ (b : Bool). (let o : Option ℕ = cond b (Some (text_length bytes)) None in o)) can)
+      ∙ none in absurd (cc (same)))
+  | inr cannot ↦ ap (λ (b : Bool). b && bytes_eq (sha256 (slice_range bytes 1 (text_length bytes + 13)))
+      (slice_range bytes (text_length bytes + 13) (text_length bytes + 45))) cannot
 ]
 
-pub text_some : (bytes : List ℕ) (found : Option ℕ) (text : ℕ) → found ≡ cond (can_have_header bytes) (Some (text_length bytes)) None → found ≡ Some text
+pub text_some : (bytes : List ℕ) (found : Option ℕ) (text : ℕ) → found
+    ≡ cond (can_have_header bytes) (Some (text_length bytes)) None → found ≡ Some text
     → (can_have_header bytes ≡ true) × (text ≡ text_length bytes)
-text_some bytes found text told some = elim (cases_bool (can_have_header bytes)) [
-  | inl can ↦ (can, (let same : Some text ≡ Some (text_length bytes) = sym some ∙ told ∙ ap (λ (b : Bool). (let o : Option ℕ = cond b (Some (text_length bytes)) None in o)) can in cc (same)))
-  | inr cannot ↦ (let same : Some text ≡ None = sym some ∙ told ∙ ap (λ (b : Bool). (let o : Option ℕ = cond b (Some (text_length bytes)) None in o)) cannot in absurd (cc (same)))
+text_some bytes found text reported some = elim (cases_bool (can_have_header bytes)) [
+  | inl can ↦ (
+    can,
+    (let same : Some text ≡ Some (text_length bytes) = sym some ∙ reported
+        ∙ ap (λ (b : Bool). (let o : Option ℕ = cond b (Some (text_length bytes)) None in o)) can in cc (same)),
+  )
+  | inr cannot ↦ (let same : Some text ≡ None = sym some ∙ reported
+      ∙ ap (λ (b : Bool). (let o : Option ℕ = cond b (Some (text_length bytes)) None in o)) cannot
+      in absurd (cc (same)))
 ]
 
-pub digest_test : (old mid : DiskState) (n : ℕ) (has : Bool) → mid ≡ old → can_have_header old.bytes ≡ true → n ≡ text_length old.bytes + 12
-    → has ≡ bytes_eq (sha256 (slice_range mid.bytes 1 (n + 1))) (slice_range mid.bytes (n + 1) (n + 33)) → has ≡ has_header old.bytes
+pub digest_test : (old mid : DiskState) (n : ℕ) (has : Bool) → mid ≡ old → can_have_header old.bytes ≡ true → n
+    ≡ text_length old.bytes + 12
+    → has ≡ bytes_eq (sha256 (slice_range mid.bytes 1 (n + 1))) (slice_range mid.bytes (n + 1) (n + 33)) → has
+    ≡ has_header old.bytes
 unfolding has_header
 digest_test old mid n has same can size is =
     let t : ℕ = text_length old.bytes in
     let a : n + 1 ≡ t + 13 = omega (arith, size) in
     let b : n + 33 ≡ t + 45 = omega (arith, size) in
-    is ∙ ap (λ (d : DiskState). bytes_eq (sha256 (slice_range d.bytes 1 (n + 1))) (slice_range d.bytes (n + 1) (n + 33))) same
+    is ∙ ap (λ (d : DiskState). bytes_eq (sha256 (slice_range d.bytes 1 (n + 1)))
+    (slice_range d.bytes (n + 1) (n + 33))) same
     ∙ ap (λ (k : ℕ). bytes_eq (sha256 (slice_range old.bytes 1 k)) (slice_range old.bytes k (n + 33))) a
     ∙ ap (λ (k : ℕ). bytes_eq (sha256 (slice_range old.bytes 1 (t + 13))) (slice_range old.bytes (t + 13) k)) b
-    ∙ sym (ap (λ (b : Bool). b && bytes_eq (sha256 (slice_range old.bytes 1 (t + 13))) (slice_range old.bytes (t + 13) (t + 45))) can)
+    ∙ sym (ap (λ (b : Bool). b && bytes_eq (sha256 (slice_range old.bytes 1 (t + 13)))
+    (slice_range old.bytes (t + 13) (t + 45))) can)
 
 -- ---- a study that is read to its end
 
@@ -379,7 +491,8 @@ pub shown_none : (shown : Bool) → not shown ≡ true → shown ≡ false
 shown_none true is = absurd (cc)
 shown_none false is = refl
 
-pub slips_refused : {T : Type 0} (result : Result T JournalFault) (v : Values) (bytes : List ℕ) (read : Result (List Slip) JournalFault) → reading v bytes ≡ read → IfErr result IsSlipFault
+pub slips_refused : {T : Type 0} (result : Result T JournalFault) (v : Values) (bytes : List ℕ)
+    (read : Result (List Slip) JournalFault) → reading v bytes ≡ read → IfErr result IsSlipFault
     → IfErr result (λ e. (number : ℕ) → e ≡ Damaged number → read ≡ Err e) → IfErr result (IsReopenFault v bytes)
 slips_refused (Ok found) v bytes read is faults refused = tt
 slips_refused (Err Memory) v bytes read is faults refused = tt

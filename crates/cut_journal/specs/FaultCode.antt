@@ -5,7 +5,8 @@ use Rattle.cut_faults.specs.declared.code.FaultCode.{FaultCode}
 use Rattle.cut_faults.specs.declared.code.FaultCode.TheVariants as code
 use Rattle.cut_faults.specs.Codes.{code_text, text_carrying}
 use Rattle.cut_journal.specs.declared.fault.JournalFault.{JournalFault}
-use Rattle.cut_journal.specs.declared.fault.JournalFault.TheVariants.{Memory, Disk, Broken, NoStudy, OtherPlan, Damaged, Held}
+use Rattle.cut_journal.specs.declared.fault.JournalFault.TheVariants.{Memory, Disk, Broken, NoStudy, OtherPlan, Damaged}
+use Rattle.cut_journal.specs.declared.fault.JournalFault.TheVariants.{Held}
 
 abbrev pub code_of : JournalFault → FaultCode
 code_of Memory = code.Memory

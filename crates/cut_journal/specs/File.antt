@@ -12,7 +12,7 @@ use Rattle.cut_plan.specs.Canonical.{canonical_text}
 use Rattle.cut_trial.specs.declared.totals.Totals.{Totals}
 use Rattle.cut_ledger.specs.declared.slip.Slip.{Slip}
 
--- a gate is a byte that says whether what stands behind it counts: it is open where it is this byte, and closed
+-- a gate is a byte that says whether what follows it counts: it is open where it is this byte, and closed
 -- where it is any other; closed gates are written as 0
 abbrev pub open_gate : ℕ
 open_gate = 165
@@ -51,8 +51,8 @@ unfoldable pub header_digest : Values → List ℕ
 header_digest v = sha256 (header_of v)
 
 -- what a study's file begins with: the open gate of the study, the header, and the header's digest
-unfoldable pub front_of : Values → List ℕ
-front_of v = open_gate ∷ header_of v ++ header_digest v
+unfoldable pub prefix_of : Values → List ℕ
+prefix_of v = open_gate ∷ header_of v ++ header_digest v
 
 -- the numbers of a slip, in order
 abbrev pub numbers_of : Version → Slip → List ℕ
@@ -65,16 +65,16 @@ numbers_of version s =
 unfoldable pub number_bytes : Version → Slip → List ℕ
 number_bytes version s = flat_map (to_be_bytes w64) (numbers_of version s)
 
--- what stands behind a slip's gate: its numbers, and the digest of the header's digest and of these
+-- what follows a slip's gate: its numbers, and the digest of the header's digest and of these
 unfoldable pub body_of : Values → Slip → List ℕ
 body_of v s =
     number_bytes (version_of v.failing) s ++ sha256 (header_digest v ++ number_bytes (version_of v.failing) s)
 
--- the file of a study with these slips: they stand behind open gates, and the next gate is closed
+-- the file of a study with these slips: they stand after open gates, and the next gate is closed
 abbrev pub file_of : Values → List Slip → List ℕ
-file_of v slips = front_of v ++ flat_map (λ s. open_gate ∷ body_of v s) slips ++ closed_gate ∷ []
+file_of v slips = prefix_of v ++ flat_map (λ s. open_gate ∷ body_of v s) slips ++ closed_gate ∷ []
 
--- what stands in a new study's file behind its gate: the header, its digest, and the closed gate of the first
+-- what stands in a new study's file after its gate: the header, its digest, and the closed gate of the first
 -- slip
 unfoldable pub rest_of : Values → List ℕ
 rest_of v = header_of v ++ header_digest v ++ closed_gate ∷ []

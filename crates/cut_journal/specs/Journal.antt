@@ -1,5 +1,6 @@
 -- A journal as contracts see it, what is true of it between calls, and what an append leaves.
-use Rattle.std.specs.Prelude.{◌≡◌, ◌⊎◌, ◌++◌, ◌+◌, ℕ, List, [], ◌∷◌, length, take, Option, Some, None, Result, Ok, Err, ⊤}
+use Rattle.std.specs.Prelude.{◌≡◌, ◌⊎◌, ◌++◌, ◌+◌, ℕ, List, [], ◌∷◌, length, take, Option, Some, None, Result, Ok, Err}
+use Rattle.std.specs.Prelude.{⊤}
 use Rattle.std.specs.Io.{StartsWith}
 use Rattle.cut_faults.specs.Failures.{one_more}
 use Rattle.cut_plan.specs.Values.{Values}
@@ -12,7 +13,7 @@ use Rattle.cut_journal.specs.Reading.{reading}
 
 -- the disk, the plan of the study, how many slips are kept, and the slip of an append in which the disk failed,
 -- which may be kept too
-pub record Log (D : Type 0) : Type 0 where
+pub record JournalValue (D : Type 0) : Type 0 where
   pub disk : D
   pub plan : Values
   pub count : ℕ
@@ -23,7 +24,7 @@ abbrev pub slips_of : Result (List Slip) JournalFault → List Slip
 slips_of (Ok slips) = slips
 slips_of (Err fault) = []
 
--- the kept slips: the first so many of those that the bytes of the disk say
+-- the kept slips: as many of the first ones as are counted, of those that the bytes of the disk say
 abbrev pub kept_slips : Values → ℕ → DiskState → List Slip
 kept_slips v count d = take count (slips_of (reading v d.bytes))
 
@@ -35,12 +36,12 @@ ReadsAs v slips doubtful bytes =
 
 -- what is true of an honest disk between the calls of its journal: as many slips are kept as the journal
 -- counts; what reads give, and whatever a crash may leave, says these, or these and the doubtful one; and where
--- there is no doubtful one, all that was written is sure
-pub record IsSound (v : Values) (count : ℕ) (doubtful : Option Slip) (d : DiskState) : Type 0 where
+-- there is no doubtful one, all that was written is durable
+pub record IsFileOf (v : Values) (count : ℕ) (doubtful : Option Slip) (d : DiskState) : Type 0 where
   pub counted : length (kept_slips v count d) ≡ count
   pub bytes : ReadsAs v (kept_slips v count d) doubtful d.bytes
   pub images : (image : List ℕ) → IsImage d.stable image → ReadsAs v (kept_slips v count d) doubtful image
-  pub sure : doubtful ≡ None → d.stable ≡ settled d.bytes
+  pub durable : doubtful ≡ None → d.stable ≡ settled d.bytes
 
 -- ---- an append
 
@@ -53,10 +54,10 @@ IsAppendFault fault = ⊥
 
 -- what a journal is after an append: one more slip is kept; or the disk failed, and the slip is doubtful; or it
 -- is as before
-abbrev pub Leaves : {D : Type 0} → Result ℕ JournalFault → Slip → Log D → Log D → Type 0
-Leaves (Ok number) slip old new = (new.plan ≡ old.plan) × (new.count ≡ old.count + 1) × (new.doubtful ≡ None)
-Leaves (Err Disk) slip old new = (new.plan ≡ old.plan) × (new.count ≡ old.count) × (new.doubtful ≡ Some slip)
-Leaves (Err fault) slip old new = new ≡ old
+abbrev pub LeavesAppend : {D : Type 0} → Result ℕ JournalFault → Slip → JournalValue D → JournalValue D → Type 0
+LeavesAppend (Ok number) slip old new = (new.plan ≡ old.plan) × (new.count ≡ old.count + 1) × (new.doubtful ≡ None)
+LeavesAppend (Err Disk) slip old new = (new.plan ≡ old.plan) × (new.count ≡ old.count) × (new.doubtful ≡ Some slip)
+LeavesAppend (Err fault) slip old new = new ≡ old
 
 -- the slips that are kept after an append
 abbrev pub slips_after : Result ℕ JournalFault → Slip → List Slip → List Slip

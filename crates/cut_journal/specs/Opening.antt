@@ -9,7 +9,7 @@ use Rattle.cut_journal.specs.Reading.{reading}
 
 -- ---- reopening
 
--- what bytes say of a reopening that was refused: the fault is the one that they are read with; want of memory
+-- what bytes say of a reopening that was refused: the fault is the one that they are read with; that memory ran out
 -- and a failing disk say nothing of them, and no other fault comes
 abbrev pub IsReopenFault : Values → List ℕ → JournalFault → Type 0
 IsReopenFault v bytes Memory = ⊤
@@ -20,13 +20,13 @@ IsReopenFault v bytes (Damaged number) = reading v bytes ≡ Err (Damaged number
 IsReopenFault v bytes fault = ⊥
 
 -- the faults that a reopening may answer, of whichever disk
-abbrev pub MayRefuse : JournalFault → Type 0
-MayRefuse Memory = ⊤
-MayRefuse Disk = ⊤
-MayRefuse NoStudy = ⊤
-MayRefuse OtherPlan = ⊤
-MayRefuse (Damaged number) = ⊤
-MayRefuse fault = ⊥
+abbrev pub IsOpeningFaultOf : JournalFault → Type 0
+IsOpeningFaultOf Memory = ⊤
+IsOpeningFaultOf Disk = ⊤
+IsOpeningFaultOf NoStudy = ⊤
+IsOpeningFaultOf OtherPlan = ⊤
+IsOpeningFaultOf (Damaged number) = ⊤
+IsOpeningFaultOf fault = ⊥
 
 -- the faults of a step that only reads
 abbrev pub IsReadFault : JournalFault → Type 0
@@ -34,7 +34,7 @@ IsReadFault Memory = ⊤
 IsReadFault Disk = ⊤
 IsReadFault fault = ⊥
 
--- what is on the disk: as before, but for a first sync that made all sure; nothing else where it was read to
+-- what is on the disk: as before, but for a first sync that made all durable; nothing else where it was read to
 -- its end
 abbrev pub IsRead : JournalFault → DiskState → DiskState → Type 0
 IsRead Memory old new = (new ≡ old) ⊎ (new ≡ synced old)
@@ -56,15 +56,16 @@ IsNewStudy v bytes = (reading v bytes ≡ Err NoStudy) ⊎ (reading v bytes ≡ 
 
 -- what is on the disk at the end: as before; or, from the first sync on, each crash at each moment leaves no
 -- study, or one without slips
-abbrev pub IsBegun : Values → DiskState → DiskState → Type 0
-IsBegun v old new = (new ≡ old) ⊎ Throughout (synced old) new (IsNewStudy v)
+abbrev pub IsBegunFile : Values → DiskState → DiskState → Type 0
+IsBegunFile v old new = (new ≡ old) ⊎ Throughout (synced old) new (IsNewStudy v)
 
 -- what is on the disk where no journal was made: Held comes exactly where there is a study already, and then
--- nothing was written; want of memory comes before anything is done
+-- nothing was written; where memory runs out that is before anything is done
 abbrev pub IsNotMade : Values → JournalFault → DiskState → DiskState → Type 0
 IsNotMade v Held old new = (reading v old.bytes ≢ Err NoStudy) × (new ≡ synced old)
 IsNotMade v Memory old new = new ≡ old
-IsNotMade v Disk old new = (reading v old.bytes ≡ Err NoStudy → IsBegun v old new) × (reading v old.bytes ≢ Err NoStudy → (new ≡ old) ⊎ (new ≡ synced old))
+IsNotMade v Disk old new = (reading v old.bytes ≡ Err NoStudy → IsBegunFile v old new)
+    × (reading v old.bytes ≢ Err NoStudy → (new ≡ old) ⊎ (new ≡ synced old))
 IsNotMade v fault old new = ⊥
 
 -- ---- opening, whether there is a study or not
@@ -73,7 +74,7 @@ IsNotMade v fault old new = ⊥
 abbrev pub IsFoundOn : Values → List ℕ → List Slip → Type 0
 IsFoundOn v bytes slips = (reading v bytes ≡ Ok slips) ⊎ ((reading v bytes ≡ Err NoStudy) × (slips ≡ []))
 
--- what bytes say where none is opened; want of memory and a failing disk say nothing of them, and no other fault
+-- what bytes say where none is opened; that memory ran out or a disk failed says nothing of them, and no other fault
 -- comes
 abbrev pub IsOpenFault : Values → List ℕ → JournalFault → Type 0
 IsOpenFault v bytes Memory = ⊤
@@ -91,7 +92,7 @@ MayNotOpen (Damaged number) = ⊤
 MayNotOpen Held = ⊤
 MayNotOpen fault = ⊥
 
--- what is on the disk at the end: as before, but for a first sync that made all sure; or, where there was no
+-- what is on the disk at the end: as before, but for a first sync that made all durable; or, where there was no
 -- study, from the second sync on each crash at each moment leaves none, or one without slips
 abbrev pub IsOpening : Values → DiskState → DiskState → Type 0
 IsOpening v old new =

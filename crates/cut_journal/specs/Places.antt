@@ -8,7 +8,7 @@ use Rattle.cut_ledger.specs.declared.slip.Slip.{Slip}
 use Rattle.cut_journal.specs.File.{open_gate, slip_length}
 use Rattle.cut_journal.specs.Reading.{is_slip, slip_in}
 
--- the place of the gate of a slip, the first being number 0: slips stand one behind another
+-- the place of the gate of a slip, the first being number 0: slips stand one after another
 unfoldable pub gate_place : Values → ℕ → ℕ
 gate_place v i = length (canonical_text v) + 45 + slip_length (version_of v.failing) * i
 
@@ -24,6 +24,6 @@ body_at v bytes i = slice_range bytes (gate_place v i + 1) (gate_place v (i + 1)
 abbrev pub is_whole : Values → List ℕ → ℕ → Bool
 is_whole v bytes i = nat_lt (gate_place v (i + 1)) (length bytes) && is_slip v (body_at v bytes i)
 
--- the first so many slips
+-- the first slips, this many
 abbrev pub first_slips : Values → List ℕ → ℕ → List Slip
 first_slips v bytes n = map (λ i. slip_in (version_of v.failing) (body_at v bytes i)) (range_with_len 0 n)

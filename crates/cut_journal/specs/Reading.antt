@@ -1,6 +1,8 @@
 -- What the bytes of a file say: the slips of a study of a plan, or why they don't say any (this project's
 -- format).
-use Rattle.std.specs.Prelude.{ℕ, zero, suc, ◌+◌, ◌*◌, ◌^◌, ◌==◌, ◌&&◌, ◌||◌, ◌++◌, Bool, not, List, [], ◌∷◌, length, take, drop, slice_index, slice_range, nat_lt, nat_le, bytes_eq, if◌then◌else◌, Result, Ok, Err}
+use Rattle.std.specs.Prelude.{ℕ, zero, suc, ◌+◌, ◌*◌, ◌^◌, ◌==◌, ◌&&◌, ◌||◌, ◌++◌, Bool, not, List, [], ◌∷◌, length}
+use Rattle.std.specs.Prelude.{take, drop, slice_index, slice_range, nat_lt, nat_le, bytes_eq, if◌then◌else◌, Result, Ok}
+use Rattle.std.specs.Prelude.{Err}
 use Rattle.std.specs.Int.{w32, w64, from_be_bytes}
 use Rattle.sha2.specs.Sha256.{sha256}
 use Rattle.cut_plan.specs.declared.version.Version.{Version}
@@ -37,7 +39,8 @@ can_have_header bytes =
 unfoldable pub has_header : List ℕ → Bool
 has_header bytes =
     can_have_header bytes
-    && bytes_eq (sha256 (slice_range bytes 1 (text_length bytes + 13))) (slice_range bytes (text_length bytes + 13) (text_length bytes + 45))
+    && bytes_eq (sha256 (slice_range bytes 1 (text_length bytes + 13)))
+    (slice_range bytes (text_length bytes + 13) (text_length bytes + 45))
 
 -- whether the header says the text of this plan
 unfoldable pub says_plan : Values → List ℕ → Bool
@@ -49,7 +52,7 @@ says_plan v bytes =
 unfoldable pub has_magic : Values → List ℕ → Bool
 has_magic v bytes = bytes_eq (slice_range bytes 1 9) (magic_of (version_of v.failing))
 
--- ---- a slip, by what stands behind its gate
+-- ---- a slip, by what follows its gate
 
 -- a number of a slip
 unfoldable pub number_at : List ℕ → ℕ → ℕ
@@ -99,8 +102,10 @@ abbrev pub slips_in : Values → ℕ → ℕ → List ℕ → Result (List Slip)
 slips_in v zero number rest = Err (Damaged number)
 slips_in v (suc more) number rest =
     if not (slice_index rest 0 == open_gate) then Ok []
-    else (if not (nat_lt (slip_length (version_of v.failing)) (length rest) && is_slip v (body_in v rest)) then Err (Damaged number)
-    else then_slips (slip_in (version_of v.failing) (body_in v rest)) (slips_in v more (number + 1) (drop (slip_length (version_of v.failing)) rest)))
+    else (if not (nat_lt (slip_length (version_of v.failing)) (length rest) && is_slip v (body_in v rest)) then Err
+    (Damaged number)
+    else then_slips (slip_in (version_of v.failing) (body_in v rest))
+    (slips_in v more (number + 1) (drop (slip_length (version_of v.failing)) rest)))
 
 -- ---- the reading
 
@@ -108,7 +113,7 @@ slips_in v (suc more) number rest =
 unfoldable pub slips_reading : Values → List ℕ → Result (List Slip) JournalFault
 slips_reading v bytes = slips_in v (length bytes) 1 (drop (length (canonical_text v) + 45) bytes)
 
--- what the bytes say, read as a study of this plan, told in this order: whether there is a study, whether its
+-- what the bytes say, read as a study of this plan, reported in this order: whether there is a study, whether its
 -- header is whole, whether it is of this plan, whether its letters are those of the plan's version, and the slips
 unfoldable pub reading : Values → List ℕ → Result (List Slip) JournalFault
 reading v bytes =

@@ -1,5 +1,6 @@
 -- What the private steps of a journal do to an honest disk.
-use Rattle.std.specs.Prelude.{◌≡◌, ◌⊎◌, ◌∷◌, ◌++◌, ◌+◌, ◌^◌, ◌<◌, ◌==◌, ℕ, true, false, List, length, Option, Some, None, Result, Ok, Err, ⊤}
+use Rattle.std.specs.Prelude.{◌≡◌, ◌⊎◌, ◌∷◌, ◌++◌, ◌+◌, ◌^◌, ◌<◌, ◌==◌, ℕ, true, false, List, length, Option, Some}
+use Rattle.std.specs.Prelude.{None, Result, Ok, Err, ⊤}
 use Rattle.cut_plan.specs.declared.version.Version.{Version}
 use Rattle.cut_plan.specs.declared.version.Version.TheVariants.{One, Two}
 use Rattle.cut_plan.specs.Versions.{version_of}
@@ -13,13 +14,14 @@ use Rattle.cut_journal.specs.File.{open_gate, rest_of}
 use Rattle.cut_journal.specs.Reading.{is_study, has_header, says_plan, has_magic, slip_in}
 use Rattle.cut_journal.specs.Places.{body_at, is_open, is_whole}
 
--- a write and a sync: all is sure; or the write did nothing, or was begun
+-- a write and a sync: all is durable; or the write did nothing, or was begun
 abbrev pub WritesThrough : {E : Type 0} → Result ⊤ E → ℕ → List ℕ → DiskState → DiskState → Type 0
 WritesThrough (Ok done) at put old new = new ≡ synced (written old at put)
 WritesThrough (Err fault) at put old new =
-    (new ≡ old) ⊎ ((torn : List ℕ) × (IsTorn at (at + length put) old.bytes torn × (new ≡ begun old at (at + length put) torn)))
+    (new ≡ old) ⊎ ((torn : List ℕ) × (IsTorn at (at + length put) old.bytes torn
+    × (new ≡ begun old at (at + length put) torn)))
 
--- the first sync with its reads: all is sure, also where a read failed after it
+-- the first sync with its reads: all is durable, also where a read failed after it
 abbrev pub Settles : {T E : Type 0} → Result T E → DiskState → DiskState → Type 0
 Settles (Ok look) old new = new ≡ synced old
 Settles (Err fault) old new = (new ≡ old) ⊎ (new ≡ synced old)
@@ -31,11 +33,12 @@ pub record IsOfPlan (v : Values) (bytes : List ℕ) : Type 0 where
   pub text : says_plan v bytes ≡ true
   pub letters : has_magic v bytes ≡ true
 
--- what the next slip is found to be: none behind a closed gate, a whole one, or one that is damaged
+-- what the next slip is found to be: none after a closed gate, a whole one, or one that is damaged
 abbrev pub IsNext : Result (Option Slip) JournalFault → Values → List ℕ → ℕ → Type 0
 IsNext (Ok None) v bytes i = is_open v bytes i ≡ false
 IsNext (Ok (Some slip)) v bytes i =
-    (is_open v bytes i ≡ true) × (is_whole v bytes i ≡ true) × (slip ≡ slip_in (version_of v.failing) (body_at v bytes i))
+    (is_open v bytes i ≡ true) × (is_whole v bytes i ≡ true)
+    × (slip ≡ slip_in (version_of v.failing) (body_at v bytes i))
 IsNext (Err (Damaged number)) v bytes i =
     (number ≡ i + 1) × (is_open v bytes i ≡ true) × (is_whole v bytes i ≡ false)
 IsNext (Err fault) v bytes i = ⊤
@@ -47,7 +50,7 @@ IsSlipFault Disk = ⊤
 IsSlipFault (Damaged number) = 0 < number
 IsSlipFault fault = ⊥
 
--- each slip in front of number n has an open gate and is whole
+-- each slip before number n has an open gate and is whole
 abbrev pub AreWhole : Values → List ℕ → ℕ → Type 0
 AreWhole v bytes n = (i : ℕ) → i < n → (is_open v bytes i ≡ true) × (is_whole v bytes i ≡ true)
 
@@ -55,14 +58,15 @@ AreWhole v bytes n = (i : ℕ) → i < n → (is_open v bytes i ≡ true) × (is
 abbrev pub Leave : (List ℕ → Type 0) → DiskState → Type 0
 Leave P d = P d.bytes × ((image : List ℕ) → IsImage d.stable image → P image)
 
--- bytes go on, behind their first one, as the file of a study without slips does
+-- bytes go on, after their first one, as the file of a study without slips does
 abbrev pub BeginsAs : Values → List ℕ → Type 0
-BeginsAs v bytes = (first : ℕ) × ((rest : List ℕ) × ((bytes ≡ first ∷ rest_of v ++ rest) × ((first == open_gate) ≡ false)))
+BeginsAs v bytes = (first : ℕ) × ((rest : List ℕ) ×
+    ((bytes ≡ first ∷ rest_of v ++ rest) × ((first == open_gate) ≡ false)))
 
--- a slip of a version tells all of these totals: `settled` is 0 where it is not told
-abbrev pub TellsAll : Version → Totals → Type 0
-TellsAll One x = x.settled ≡ 0
-TellsAll Two x = ⊤
+-- a slip of a version has all of these totals: `settled` is 0 where it is not kept
+abbrev pub HoldsAllTotals : Version → Totals → Type 0
+HoldsAllTotals One x = x.settled ≡ 0
+HoldsAllTotals Two x = ⊤
 
 -- the numbers of a slip have 64 bits, those of its piece 32
 pub record HasNumbers (s : Slip) : Type 0 where

@@ -1,18 +1,21 @@
-ghost use Rattle.std.specs.Prelude.{ℕ, List, ◌≡◌, ◌≢◌, ◌⊎◌, ◌+◌, ◌<◌, ◌≤◌, ◌^◌, ◌↔◌, ◌++◌, [], ◌∷◌, None, Some, Ok, Err, length, unwrap_or, IfOk, IfErr, OnOk, IsErrOf, IsSome};
+ghost use Rattle.std.specs.Prelude.{ℕ, List, ◌≡◌, ◌≢◌, ◌⊎◌, ◌+◌, ◌<◌, ◌≤◌, ◌^◌, ◌↔◌, ◌++◌, [], ◌∷◌, None, Some, Ok};
+ghost use Rattle.std.specs.Prelude.{Err, length, unwrap_or, IfOk, IfErr, OnOk, IsErrOf, IsSome};
 ghost use Rattle.cut_plan.specs.Values.{Values};
 ghost use Rattle.cut_disks.specs.State.{IsImage, settled, synced, Throughout};
 ghost use Rattle.cut_ledger.specs.Machine.{slip_of};
 ghost use Rattle.std.specs.Io.{StartsWith};
 ghost use Rattle.cut_journal.specs.File.{file_of};
 ghost use Rattle.cut_journal.specs.Reading.{reading};
-ghost use Rattle.cut_journal.specs.Journal.{Log, kept_slips, ReadsAs, IsSound, IsAppendFault, Leaves, ExtendsFile, slips_after, disk_faults};
-ghost use Rattle.cut_journal.specs.Opening.{IsReopenFault, MayRefuse, IsRead, IsBegun, IsNotMade, MayNotMake};
+ghost use Rattle.cut_journal.specs.Journal.{JournalValue, kept_slips, ReadsAs, IsFileOf, IsAppendFault, LeavesAppend};
+ghost use Rattle.cut_journal.specs.Journal.{ExtendsFile, slips_after, disk_faults};
+ghost use Rattle.cut_journal.specs.Opening.{IsReopenFault, IsOpeningFaultOf, IsRead, IsBegunFile, IsNotMade};
+ghost use Rattle.cut_journal.specs.Opening.{MayNotMake};
 
 use crate::JournalFault;
-use crate::append::keep;
-use crate::create::make;
-use crate::file::{Gate, Study};
-use crate::reopen::find;
+use crate::format::{FileHeader, Gate};
+use crate::kept_study::find;
+use crate::new_study::make;
+use crate::slip_append::keep;
 use crate::slips::Slips;
 use cut_disks::Disk;
 use cut_ledger::Slip;
@@ -28,17 +31,17 @@ use std::marker::Model;
 #[derive(Drop)]
 pub struct Journal<D: Disk> {
     disk: D,
-    study: Study,
+    study: FileHeader,
     gate: Gate,
     doubtful: Option<Slip>,
 }
 
 impl<D: Disk> Model for Journal<D> {
     ghost use Rattle.std.specs.Prelude.{◌≡◌, ◌<◌, ◌^◌};
-    ghost use Rattle.cut_journal.specs.Journal.{Log, IsSound};
+    ghost use Rattle.cut_journal.specs.Journal.{JournalValue, IsFileOf};
     ghost use Rattle.cut_journal.specs.Places.{gate_place};
 
-    ghost Value = { Log D };
+    ghost Value = { JournalValue D };
 
     ghost view = { λ j.
         record { disk = j.disk; plan = j.study; count = j.gate.number; doubtful = j.doubtful } };
@@ -46,12 +49,12 @@ impl<D: Disk> Model for Journal<D> {
     ghost invariant = { λ j.
         (j.gate.place ≡ gate_place j.study j.gate.number)
         × (j.gate.place < 2 ^ 63)
-        × (D.is_honest j.disk → IsSound j.study j.gate.number j.doubtful (D.state j.disk)) };
+        × (D.is_honest j.disk → IsFileOf j.study j.gate.number j.doubtful (D.state j.disk)) };
 }
 
 impl<D: Disk> Journal<D> {
     /// Makes the journal of a study on a disk that holds none. The disk is handed back where none is made:
-    /// it holds a study already, it failed, or memory was wanting.
+    /// it holds a study already, it failed, or memory ran out.
     pub fn create(alloc: Global, disk: D, plan: &Plan) -> Result<Journal<D>, (JournalFault, D)>
         ensures plan { IfOk result (λ journal. journal.plan ≡ plan.now) }
         ensures empty { IfOk result (λ journal. (journal.count ≡ 0) × (journal.doubtful ≡ None)) }
@@ -61,7 +64,7 @@ impl<D: Disk> Journal<D> {
         ensures file { D.is_honest disk →
             IfOk result (λ journal. StartsWith (D.state journal.disk).bytes (file_of plan.now [])) }
         ensures begun { D.is_honest disk →
-            IfOk result (λ journal. IsBegun plan.now (D.state disk) (D.state journal.disk)) }
+            IfOk result (λ journal. IsBegunFile plan.now (D.state disk) (D.state journal.disk)) }
         ensures refused { D.is_honest disk →
             IfErr result (λ e. IsNotMade plan.now e.0 (D.state disk) (D.state e.1)) }
         ensures may { IfErr result (λ e. MayNotMake e.0) }
@@ -71,7 +74,7 @@ impl<D: Disk> Journal<D> {
         ensures faults_back { IfErr result (λ e. D.faults e.1 ≡ disk_faults {T = ℕ} (Err e.0) (D.faults disk)) }
     {
         let mut disk = disk;
-        let study = match Study::of(alloc, plan) {
+        let study = match FileHeader::of(alloc, plan) {
             Ok(study) => study,
             Err(_) => return Err((JournalFault::Memory, disk)),
         };
@@ -90,7 +93,7 @@ impl<D: Disk> Journal<D> {
     }
 
     /// Opens the journal of a study again, with the slips that are kept. The disk is handed back where it
-    /// holds no study, or one of another plan, or is damaged, where it failed, or memory was wanting.
+    /// holds no study, or one of another plan, or is damaged, where it failed, or memory ran out.
     ///
     /// Nothing is written.
     pub fn reopen(
@@ -105,7 +108,7 @@ impl<D: Disk> Journal<D> {
         ensures settled { D.is_honest disk → IfOk result (λ r. D.state r.0.disk ≡ synced (D.state disk)) }
         ensures refused { D.is_honest disk →
             IfErr result (λ e. IsReopenFault plan.now (D.state disk).bytes e.0) }
-        ensures may { IfErr result (λ e. MayRefuse e.0) }
+        ensures may { IfErr result (λ e. IsOpeningFaultOf e.0) }
         ensures left { D.is_honest disk → IfErr result (λ e. IsRead e.0 (D.state disk) (D.state e.1)) }
         ensures honest { IfOk result (λ r. D.is_honest disk ↔ D.is_honest r.0.disk) }
         ensures honest_back { IfErr result (λ e. D.is_honest disk ↔ D.is_honest e.1) }
@@ -113,7 +116,7 @@ impl<D: Disk> Journal<D> {
         ensures faults_back { IfErr result (λ e. D.faults e.1 ≡ disk_faults {T = ℕ} (Err e.0) (D.faults disk)) }
     {
         let mut disk = disk;
-        let study = match Study::of(alloc, plan) {
+        let study = match FileHeader::of(alloc, plan) {
             Ok(study) => study,
             Err(_) => return Err((JournalFault::Memory, disk)),
         };
@@ -141,7 +144,7 @@ impl<D: Disk> Journal<D> {
             ↔ ((self.old.doubtful ≡ None) × (offered.now.plan ≢ self.old.plan)) }
         ensures others { IfErr result IsAppendFault }
         ensures number { IfOk result (λ number. number ≡ self.new.count) }
-        ensures left { Leaves result (slip_of offered.now) self.old self.new }
+        ensures left { LeavesAppend result (slip_of offered.now) self.old self.new }
         ensures moments { D.is_honest self.old.disk →
             Throughout (D.state self.old.disk) (D.state self.new.disk)
             (ReadsAs self.old.plan (kept_slips self.old.plan self.old.count (D.state self.old.disk))
@@ -197,7 +200,7 @@ impl<D: Disk> Journal<D> {
     pub fn disk(&self) -> &D
         ensures disk { result.now ≡ self.now.disk }
         ensures sound { D.is_honest self.now.disk →
-            IsSound self.now.plan self.now.count self.now.doubtful (D.state self.now.disk) }
+            IsFileOf self.now.plan self.now.count self.now.doubtful (D.state self.now.disk) }
     {
         &self.disk
     }
@@ -206,7 +209,7 @@ impl<D: Disk> Journal<D> {
     pub fn into_disk(self) -> D
         ensures disk { result ≡ self.disk }
         ensures sound { D.is_honest self.disk →
-            IsSound self.plan self.count self.doubtful (D.state self.disk) }
+            IsFileOf self.plan self.count self.doubtful (D.state self.disk) }
     {
         self.disk
     }

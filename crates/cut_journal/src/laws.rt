@@ -1,10 +1,11 @@
 //! What is true of every journal of a run, whatever crash comes. Each function does nothing that is seen, and
 //! its contract is the law.
 
-ghost use Rattle.cut_journal.specs.Laws.{AppendsFollow, CrashesBetweenCalls, CrashesInAppends, OpeningsFollow, OtherEventsFollow, ResumedSlipsAreGood};
+ghost use Rattle.cut_journal.specs.Laws.{AppendsFollow, CrashesBetweenCalls, CrashesInAppends, OpeningsFollow};
+ghost use Rattle.cut_journal.specs.Laws.{OtherEventsFollow, ResumedSlipsAreGood};
 
 use cut_disks::Disk;
-use cut_ledger::laws::{every_run_is_right, true_slips_tell_the_table};
+use cut_ledger::laws::{every_run_is_right, true_slips_give_the_table};
 
 /// A crash is a resumption of the run, as the machine has it: whatever is left of the disk, between two calls
 /// or at any moment of an append, says the slips that the run finds with one choice whether the slip whose
@@ -33,5 +34,5 @@ pub fn resumed_slips_are_good()
     ensures { ResumedSlipsAreGood }
 {
     every_run_is_right();
-    true_slips_tell_the_table();
+    true_slips_give_the_table();
 }

@@ -12,7 +12,7 @@ use std::alloc::Global;
 impl<D: Disk> Journal<D> {
     /// Opens the journal of a study again with the slips that are kept, or makes one without slips where the
     /// disk holds no study. The disk is handed back where its study is of another plan or is damaged, where
-    /// it failed, or memory was wanting.
+    /// it failed, or memory ran out.
     ///
     /// Of a disk that is not honest, the answer may also be that it holds a study after all.
     pub fn open(

@@ -7,18 +7,18 @@ ghost use Rattle.cut_journal.specs.Steps.{IsOfPlan, IsNext, IsSlipFault, AreWhol
 ghost use Rattle.cut_journal.specs.Places.{gate_place};
 
 use crate::JournalFault;
-use crate::file::{Gate, Study};
-use crate::look::read_gate;
+use crate::first_look::read_gate;
+use crate::format::{FileHeader, Gate};
 use cut_disks::Disk;
 use cut_ledger::Slip;
 use std::alloc::Global;
 
-/// The slips of a study, and the gate behind them.
+/// The slips of a study, and the gate after them.
 #[derive(Drop)]
 pub(crate) struct Slips {
     /// The slips.
     pub slips: Vec<Slip>,
-    /// The gate behind the last of them.
+    /// The gate after the last of them.
     pub gate: Gate,
 }
 
@@ -26,19 +26,19 @@ pub(crate) struct Slips {
 pub(crate) fn read_slips<D: Disk>(
     alloc: Global,
     disk: &mut D,
-    study: &Study,
+    study: &FileHeader,
     size: u64,
 ) -> Result<Slips, JournalFault>
     requires within { gate_place study.now 0 < size }
     requires bound { size < 2 ^ 63 }
     requires size { D.is_honest disk.old → size ≡ length (D.state disk.old).bytes }
-    requires front { D.is_honest disk.old → IsOfPlan study.now (D.state disk.old).bytes }
-    ensures told { D.is_honest disk.old →
+    requires prefix { D.is_honest disk.old → IsOfPlan study.now (D.state disk.old).bytes }
+    ensures reported { D.is_honest disk.old →
         IfOk result (λ found. slips_reading study.now (D.state disk.old).bytes ≡ Ok found.slips.items) }
     ensures refused { D.is_honest disk.old →
         IfErr result (λ e. (number : ℕ) → e ≡ JournalFault.Damaged number
         → slips_reading study.now (D.state disk.old).bytes ≡ Err e) }
-    ensures faults_told { IfErr result IsSlipFault }
+    ensures only_faults { IfErr result IsSlipFault }
     ensures number { IfOk result (λ found. found.gate.number ≡ length found.slips.items) }
     ensures place { IfOk result (λ found. found.gate.place ≡ gate_place study.now found.gate.number) }
     ensures bound { IfOk result (λ found. found.gate.place < 2 ^ 63) }
@@ -61,10 +61,10 @@ pub(crate) fn read_slips<D: Disk>(
     Ok(Slips { slips, gate })
 }
 
-/// Reads the slip behind a gate, if that is open.
+/// Reads the slip after a gate, if that is open.
 fn next_slip<D: Disk>(
     disk: &mut D,
-    study: &Study,
+    study: &FileHeader,
     gate: Gate,
     size: u64,
 ) -> Result<Option<Slip>, JournalFault>
@@ -72,9 +72,10 @@ fn next_slip<D: Disk>(
     requires within { gate.place < size }
     requires bound { size < 2 ^ 63 }
     requires size { D.is_honest disk.old → size ≡ length (D.state disk.old).bytes }
-    ensures told { D.is_honest disk.old → IsNext result study.now (D.state disk.old).bytes gate.number }
-    ensures faults_told { IfErr result IsSlipFault }
-    ensures reach { IfOk result (λ slip. IfSome slip (λ s. gate.place + slip_length (version_of study.now.failing) < size)) }
+    ensures reported { D.is_honest disk.old → IsNext result study.now (D.state disk.old).bytes gate.number }
+    ensures only_faults { IfErr result IsSlipFault }
+    ensures reach { IfOk result (λ slip. IfSome slip
+        (λ s. gate.place + slip_length (version_of study.now.failing) < size)) }
     ensures same { D.is_honest disk.old → D.state disk.new ≡ D.state disk.old }
     ensures honest { D.is_honest disk.old ↔ D.is_honest disk.new }
     ensures faults { D.faults disk.new ≡ disk_faults result (D.faults disk.old) }

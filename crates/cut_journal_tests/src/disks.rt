@@ -11,7 +11,7 @@ fn four(alloc: Global) -> Result<MemoryDisk, AllocError> {
     MemoryDisk::of(alloc, Vec::from_slice(alloc, b"abcd")?)
 }
 
-// Whether a call is a write of these bytes at the front, or a torn one up to this place.
+// Whether a call is a write of these bytes at the beginning, or a torn one up to this place.
 fn is_call(call: &DiskCall, wanted: Result<&[u8], u64>) -> bool {
     match (call, wanted) {
         (DiskCall::Write { at, put }, Ok(bytes)) => *at == 0 && put.as_slice() == bytes,
@@ -54,23 +54,23 @@ fn a_disk_in_memory_keeps_its_calls(rt: HostRuntime) -> Result<(), Fail> {
     Ok(())
 }
 
-// Whether a disk that is lent answers as one.
-fn is_lent(lent: &mut &mut MemoryDisk) -> Result<bool, DiskFault> {
-    lent.write_at(0, b"XY")?;
-    lent.sync()?;
-    lent.read(0, &mut [])?;
-    Ok(lent.length() == Ok(4) && lent.failures() == 0)
+// Whether a disk that is borrowed answers as one.
+fn is_disk(borrowed: &mut &mut MemoryDisk) -> Result<bool, DiskFault> {
+    borrowed.write_at(0, b"XY")?;
+    borrowed.sync()?;
+    borrowed.read(0, &mut [])?;
+    Ok(borrowed.length() == Ok(4) && borrowed.failures() == 0)
 }
 
 #[test]
-fn a_disk_that_is_lent(rt: HostRuntime) -> Result<(), Fail> {
+fn a_disk_that_is_borrowed(rt: HostRuntime) -> Result<(), Fail> {
     let mut disk = four(rt.alloc())?;
-    assert!(rt; is_lent(&mut &mut disk)?);
+    assert!(rt; is_disk(&mut &mut disk)?);
     assert!(rt; disk.bytes() == b"XYcd".as_slice());
     Ok(())
 }
 
-// Two writes at the front of a disk, each made sure.
+// Two writes at the beginning of a disk, each made durable.
 fn change(disk: &mut FaultyDisk) -> Result<(), DiskFault> {
     disk.write_at(0, b"XY")?;
     disk.sync()?;

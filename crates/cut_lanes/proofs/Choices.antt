@@ -1,5 +1,7 @@
 -- Bits, sums and marks of lanes of vectors of four.
-use Rattle.std.proofs.Common.{◌≡◌, ◌∙◌, ℕ, ◌+◌, ◌/◌, ◌%◌, ◌^◌, ◌<◌, ◌≤◌, ◌||◌, ◌&&◌, Bool, true, false, cond, not, ltb, eqb, nat_eq, sum, List, [], ◌∷◌, length, map, replicate, slice_index, get_or, Fits, inl, inr, refl, ap, sym, le-ltb, ne_eqb, eq-eqb, arith}
+use Rattle.std.proofs.Common.{◌≡◌, ◌∙◌, ℕ, ◌+◌, ◌/◌, ◌%◌, ◌^◌, ◌<◌, ◌≤◌, ◌||◌, ◌&&◌, Bool, true, false, cond, not, ltb}
+use Rattle.std.proofs.Common.{eqb, nat_eq, sum, List, [], ◌∷◌, length, map, replicate, slice_index, get_or, Fits, inl}
+use Rattle.std.proofs.Common.{inr, refl, ap, sym, le-ltb, ne_eqb, eq-eqb, arith}
 use Rattle.std.specs.Int.{w32}
 use Rattle.std.specs.Simd.Lanes.{Each1, zip2, mask_l}
 use Rattle.std.proofs.Math.Nat.{zero-div}
@@ -49,7 +51,8 @@ none_risen a b la lb clear i low =
       | inl is ↦ is
       | inr some ↦ absurd (
           let set = ne_eqb (mask_l ms) 0 some in
-          let unset : not (nat_eq (mask_l ms) 0) ≡ false = ap (λ m. not (nat_eq m 0)) (sym (mask_is a b la lb)) ∙ clear in
+          let unset : not (nat_eq (mask_l ms) 0) ≡ false = ap (λ m. not (nat_eq m 0)) (sym (mask_is a b la lb)) ∙ clear
+          in
           cc)
     ] in
     let bit : get_or ms i false ≡ false =

@@ -1,7 +1,9 @@
 -- A piece with its sums added to what a ledger holds: what is held and summed then.
-use Rattle.std.proofs.Common.{◌≡◌, ℕ, ◌+◌, ◌*◌, ◌/◌, ◌<◌, ◌≤◌, inl, inr, Bool, true, false, ◌==◌, ◌&&◌, ◌||◌, not, cond, List, [], ◌∷◌, ◌++◌, map, length, set, refl, sym, ap, ◌∙◌, subst, arith, append-nil}
+use Rattle.std.proofs.Common.{◌≡◌, ℕ, ◌+◌, ◌*◌, ◌/◌, ◌<◌, ◌≤◌, inl, inr, Bool, true, false, ◌==◌, ◌&&◌, ◌||◌, not, cond}
+use Rattle.std.proofs.Common.{List, [], ◌∷◌, ◌++◌, map, length, set, refl, sym, ap, ◌∙◌, subst, arith, append-nil}
 use Rattle.std.proofs.Math.Bool.{or-false}
-use Rattle.std.proofs.lemmas.Bool.{cases_eq, eq-eqb, ne_eqb, false_from_ne_true, or_cases, or_left, or_right, and_left, not_from_false}
+use Rattle.std.proofs.lemmas.Bool.{cases_eq, eq-eqb, ne_eqb, false_from_ne_true, or_cases, or_left, or_right, and_left}
+use Rattle.std.proofs.lemmas.Bool.{not_from_false}
 use Rattle.std.proofs.lemmas.List.{get_or-set_same, get_or-set_other, length-set}
 use Rattle.std.proofs.lemmas.List.Elements.{filter-append, filter_agree}
 use Rattle.std.proofs.lemmas.List.Folds.{list_any-append}
@@ -20,7 +22,8 @@ use Rattle.cut_ledger.proofs.CellLemmas.{PieceFacts, piece_facts, in_piece, IsMo
 
 -- ---- what is known of the call
 
-pub record Adding (v : Values) (base : List Slip) (old new : held.Held) (olds news : List Totals) (p : Piece) (x : Totals) : Type 0 where
+pub record Adding (v : Values) (base : List Slip) (old new : held.Held) (olds news : List Totals) (p : Piece)
+    (x : Totals) : Type 0 where
   pub kept : AreKept v base old olds
   pub piece : IsTrue (is_piece v p)
   pub apart : list_any (held.has old) (trials_in p) ≡ false
@@ -35,47 +38,73 @@ pub record Added (v : Values) (old new : held.Held) (olds : List Totals) (p : Pi
   pub more : IsMore (held.has old) (held.has new) p
   pub part : PassesPart (held.has old) (held.has new) (p.first / v.repeats * v.repeats) v.repeats p.first p.count
 
-pub added_is : (v : Values) (base : List Slip) (old new : held.Held) (olds news : List Totals) (p : Piece) (x : Totals) → Adding v base old new olds news p x → Added v old new olds p
+pub added_is : (v : Values) (base : List Slip) (old new : held.Held) (olds news : List Totals) (p : Piece) (x : Totals)
+    → Adding v base old new olds news p x → Added v old new olds p
 added_is v base old new olds news p x adding =
     let facts = piece_facts v p adding.kept.plan adding.piece in
     let within : p.first / v.repeats < length olds = omega (arith, facts.cell, adding.kept.long) in
     let apart : (t : ℕ) → is_in p t ≡ true → held.has old t ≡ false = λ t e.
     (let at = in_piece p t e in none_passing (held.has old) p.first p.count t adding.apart at.0 at.1) in
     let more = more_is old new p (omega (arith, facts.end, adding.kept.all)) adding.added.held in
-    record { facts = facts; within = within; apart = apart; more = more; part = more_part (held.has old) (held.has new) v p (p.first / v.repeats) facts more apart }
+    record {
+      facts = facts;
+      within = within;
+      apart = apart;
+      more = more;
+      part = more_part (held.has old) (held.has new)
+          v p (p.first / v.repeats) facts more apart;
+    }
 
 -- ---- sums
 
 -- of a test that passes more, where the base stays
-taken_sums : (v : Values) (base : List Slip) (test new : ℕ → Bool) (p : Piece) (c : ℕ) → PieceFacts v p c → PassesPart test new (c * v.repeats) v.repeats p.first p.count → ((t : ℕ) → is_in_base base t ≡ true → test t ≡ true) → sum_where v base new c ≡ plus (sum_where v base test c) (sum_of v (trials_in p))
+taken_sums : (v : Values) (base : List Slip) (test new : ℕ → Bool) (p : Piece) (c : ℕ) → PieceFacts v p c
+    → PassesPart test new (c * v.repeats) v.repeats p.first p.count
+    → ((t : ℕ) → is_in_base base t ≡ true → test t ≡ true) → sum_where v base new c
+    ≡ plus (sum_where v base test c) (sum_of v (trials_in p))
 taken_sums v base test new p c facts part based =
-    let part-2 : PassesPart (λ t. test t && not (is_in_base base t)) (λ t. new t && not (is_in_base base t)) (c * v.repeats) v.repeats p.first p.count = record {
+    let part-2 : PassesPart (λ t. test t && not (is_in_base base t)) (λ t. new t && not (is_in_base base t))
+    (c * v.repeats) v.repeats p.first p.count = record {
       starts = part.starts;
       ends = part.ends;
       inside = λ t a b.
           (let at = part.inside t a b in
-          let free : is_in_base base t ≡ false = false_from_ne_true (is_in_base base t) (λ e. let w : test t ≡ true = based t e in cc) in
-          (and_left (test t) (not (is_in_base base t)) at.0, ap (λ x. x && not (is_in_base base t)) at.1 ∙ not_from_false (is_in_base base t) free));
+          let free : is_in_base base t ≡ false = false_from_ne_true (is_in_base base t)
+          (λ e. let w : test t ≡ true = based t e in cc) in (
+            and_left (test t) (not (is_in_base base t)) at.0,
+            ap (λ x. x && not (is_in_base base t)) at.1
+                ∙ not_from_false (is_in_base base t) free,
+          ));
       outside = λ t out. ap (λ x. x && not (is_in_base base t)) (part.outside t out);
     } in
-    let each : (n : Totals → ℕ) → sum_by (λ s. n s.totals) (slips_of_cell v base c) + sum_by (λ t. n (outcome v t)) (further_trials v base new c) ≡ sum_by (λ s. n s.totals) (slips_of_cell v base c) + sum_by (λ t. n (outcome v t)) (further_trials v base test c) + sum_by (λ t. n (outcome v t)) (trials_in p) = λ n.
-    (let more = sum_of_more (λ t. n (outcome v t)) (λ t. test t && not (is_in_base base t)) (λ t. new t && not (is_in_base base t)) (c * v.repeats) v.repeats p.first p.count part-2 in
+    let each : (n : Totals → ℕ) → sum_by (λ s. n s.totals) (slips_of_cell v base c)
+    + sum_by (λ t. n (outcome v t)) (further_trials v base new c) ≡ sum_by (λ s. n s.totals) (slips_of_cell v base c)
+    + sum_by (λ t. n (outcome v t)) (further_trials v base test c)
+    + sum_by (λ t. n (outcome v t)) (trials_in p) = λ n.
+    (let more = sum_of_more (λ t. n (outcome v t)) (λ t. test t && not (is_in_base base t))
+    (λ t. new t && not (is_in_base base t)) (c * v.repeats) v.repeats p.first p.count part-2 in
     omega (arith, more)) in
     ap (λ (g : (Totals → ℕ) → ℕ). each_number g) (λ i n. each n i)
 
-same_sums : (v : Values) (base : List Slip) (test new : ℕ → Bool) (d : ℕ) → ((t : ℕ) → d * v.repeats ≤ t → t < d * v.repeats + v.repeats → new t ≡ test t) → sum_where v base new d ≡ sum_where v base test d
+same_sums : (v : Values) (base : List Slip) (test new : ℕ → Bool) (d : ℕ)
+    → ((t : ℕ) → d * v.repeats ≤ t → t < d * v.repeats + v.repeats → new t ≡ test t) → sum_where v base new d
+    ≡ sum_where v base test d
 same_sums v base test new d same =
     let trials : further_trials v base new d ≡ further_trials v base test d =
-    filter_agree_on (λ t. new t && not (is_in_base base t)) (λ t. test t && not (is_in_base base t)) (d * v.repeats) v.repeats (record { same = λ t a b. ap (λ x. x && not (is_in_base base t)) (same t a b) }) in
-    ap (λ ts. each_number (λ n. sum_by (λ s. n s.totals) (slips_of_cell v base d) + sum_by (λ t. n (outcome v t)) ts)) trials
+    filter_agree_on (λ t. new t && not (is_in_base base t)) (λ t. test t && not (is_in_base base t)) (d * v.repeats)
+    v.repeats (record { same = λ t a b. ap (λ x. x && not (is_in_base base t)) (same t a b) }) in
+    ap (λ ts. each_number (λ n. sum_by (λ s. n s.totals) (slips_of_cell v base d) + sum_by (λ t. n (outcome v t)) ts))
+    trials
 
 -- of a base with one slip more, whose trials are those that pass too
-pub in_base_more : (base : List Slip) (s : Slip) (t : ℕ) → is_in_base (base ++ s ∷ []) t ≡ (is_in_base base t || is_in s.piece t)
+pub in_base_more : (base : List Slip) (s : Slip) (t : ℕ) → is_in_base (base ++ s ∷ []) t
+    ≡ (is_in_base base t || is_in s.piece t)
 in_base_more base s t =
     list_any-append (λ (y : Slip). is_in y.piece t) base (s ∷ [])
     ∙ ap (λ b. is_in_base base t || b) (or-false (is_in s.piece t))
 
-apart_tests : (test base own : Bool) → (own ≡ true → test ≡ false) → (test || own) && not (base || own) ≡ test && not base
+apart_tests : (test base own : Bool) → (own ≡ true → test ≡ false) → (test || own) && not (base || own) ≡ test
+    && not base
 apart_tests true base true apart = let w : true ≡ false = apart refl in cc
 apart_tests true true false apart = refl
 apart_tests true false false apart = refl
@@ -86,7 +115,9 @@ apart_tests false base true apart = by base
     by false = refl
 apart_tests false base false apart = refl
 
-slip_trials : (v : Values) (base : List Slip) (s : Slip) (test new : ℕ → Bool) (d : ℕ) → IsMore test new s.piece → ((t : ℕ) → is_in s.piece t ≡ true → test t ≡ false) → further_trials v (base ++ s ∷ []) new d ≡ further_trials v base test d
+slip_trials : (v : Values) (base : List Slip) (s : Slip) (test new : ℕ → Bool) (d : ℕ) → IsMore test new s.piece
+    → ((t : ℕ) → is_in s.piece t ≡ true → test t ≡ false) → further_trials v (base ++ s ∷ []) new d
+    ≡ further_trials v base test d
 slip_trials v base s test new d more apart =
     filter_agree (λ t. new t && not (is_in_base (base ++ s ∷ []) t)) (λ t. test t && not (is_in_base base t))
     (λ t.
@@ -95,28 +126,41 @@ slip_trials v base s test new d more apart =
     ∙ apart_tests (test t) (is_in_base base t) (is_in s.piece t) (apart t))
     (trials_of_cell v d)
 
-slip_in_cell : (v : Values) (base : List Slip) (s : Slip) (d : ℕ) (b : Bool) → (s.piece.first / v.repeats == d) ≡ b → slips_of_cell v (base ++ s ∷ []) d ≡ slips_of_cell v base d ++ cond b (s ∷ []) []
+slip_in_cell : (v : Values) (base : List Slip) (s : Slip) (d : ℕ) (b : Bool) → (s.piece.first / v.repeats == d) ≡ b
+    → slips_of_cell v (base ++ s ∷ []) d ≡ slips_of_cell v base d ++ cond b (s ∷ []) []
 slip_in_cell v base s d b e =
     filter-append (λ (y : Slip). y.piece.first / v.repeats == d) base (s ∷ [])
     ∙ ap (λ x. slips_of_cell v base d ++ cond x (s ∷ []) []) e
 
-slip_sums : (v : Values) (base : List Slip) (s : Slip) (test new : ℕ → Bool) → IsMore test new s.piece → ((t : ℕ) → is_in s.piece t ≡ true → test t ≡ false) → sum_where v (base ++ s ∷ []) new (s.piece.first / v.repeats) ≡ plus (sum_where v base test (s.piece.first / v.repeats)) s.totals
+slip_sums : (v : Values) (base : List Slip) (s : Slip) (test new : ℕ → Bool) → IsMore test new s.piece
+    → ((t : ℕ) → is_in s.piece t ≡ true → test t ≡ false) → sum_where v (base ++ s ∷ []) new (s.piece.first / v.repeats)
+    ≡ plus (sum_where v base test (s.piece.first / v.repeats)) s.totals
 slip_sums v base s test new more apart =
     let c : ℕ = s.piece.first / v.repeats in
-    let slips : slips_of_cell v (base ++ s ∷ []) c ≡ slips_of_cell v base c ++ s ∷ [] = slip_in_cell v base s c true (eq-eqb c c refl) in
+    let slips : slips_of_cell v (base ++ s ∷ []) c ≡ slips_of_cell v base c ++ s
+    ∷ [] = slip_in_cell v base s c true (eq-eqb c c refl) in
     let trials = slip_trials v base s test new c more apart in
-    let each : (n : Totals → ℕ) → sum_by (λ y. n y.totals) (slips_of_cell v (base ++ s ∷ []) c) + sum_by (λ t. n (outcome v t)) (further_trials v (base ++ s ∷ []) new c) ≡ sum_by (λ y. n y.totals) (slips_of_cell v base c) + sum_by (λ t. n (outcome v t)) (further_trials v base test c) + n s.totals = λ n.
-    (let one = ap (sum_by (λ (y : Slip). n y.totals)) slips ∙ sum_by_push (λ (y : Slip). n y.totals) (slips_of_cell v base c) s in
+    let each : (n : Totals → ℕ) → sum_by (λ y. n y.totals) (slips_of_cell v (base ++ s ∷ []) c)
+    + sum_by (λ t. n (outcome v t)) (further_trials v (base ++ s ∷ []) new c)
+    ≡ sum_by (λ y. n y.totals) (slips_of_cell v base c)
+    + sum_by (λ t. n (outcome v t)) (further_trials v base test c) + n s.totals = λ n.
+    (let one = ap (sum_by (λ (y : Slip). n y.totals)) slips
+    ∙ sum_by_push (λ (y : Slip). n y.totals) (slips_of_cell v base c) s in
     let same = ap (sum_by (λ t. n (outcome v t))) trials in
     omega (arith, one, same)) in
     ap (λ (g : (Totals → ℕ) → ℕ). each_number g) (λ i n. each n i)
 
-slip_elsewhere : (v : Values) (base : List Slip) (s : Slip) (test new : ℕ → Bool) (d : ℕ) → IsMore test new s.piece → ((t : ℕ) → is_in s.piece t ≡ true → test t ≡ false) → (d ≡ s.piece.first / v.repeats → ⊥) → sum_where v (base ++ s ∷ []) new d ≡ sum_where v base test d
+slip_elsewhere : (v : Values) (base : List Slip) (s : Slip) (test new : ℕ → Bool) (d : ℕ) → IsMore test new s.piece
+    → ((t : ℕ) → is_in s.piece t ≡ true → test t ≡ false) → (d ≡ s.piece.first / v.repeats → ⊥)
+    → sum_where v (base ++ s ∷ []) new d ≡ sum_where v base test d
 slip_elsewhere v base s test new d more apart other =
     let slips : slips_of_cell v (base ++ s ∷ []) d ≡ slips_of_cell v base d =
-    slip_in_cell v base s d false (ne_eqb (s.piece.first / v.repeats) d (λ e. other (sym e))) ∙ append-nil (slips_of_cell v base d) in
-    ap (λ ss. each_number (λ n. sum_by (λ y. n y.totals) ss + sum_by (λ t. n (outcome v t)) (further_trials v (base ++ s ∷ []) new d))) slips
-    ∙ ap (λ ts. each_number (λ n. sum_by (λ (y : Slip). n y.totals) (slips_of_cell v base d) + sum_by (λ t. n (outcome v t)) ts)) (slip_trials v base s test new d more apart)
+    slip_in_cell v base s d false (ne_eqb (s.piece.first / v.repeats) d (λ e. other (sym e)))
+    ∙ append-nil (slips_of_cell v base d) in
+    ap (λ ss. each_number (λ n. sum_by (λ y. n y.totals) ss
+    + sum_by (λ t. n (outcome v t)) (further_trials v (base ++ s ∷ []) new d))) slips
+    ∙ ap (λ ts. each_number (λ n. sum_by (λ (y : Slip). n y.totals) (slips_of_cell v base d)
+    + sum_by (λ t. n (outcome v t)) ts)) (slip_trials v base s test new d more apart)
 
 -- ---- bounds
 
@@ -134,15 +178,23 @@ at_most_more m n a b few more = record {
 
 -- ---- what is held then
 
--- over a base whose sums are told
-kept_then : (v : Values) (base bases : List Slip) (old new : held.Held) (olds news : List Totals) (p : Piece) (x : Totals) → Adding v base old new olds news p x → sum_where v bases (held.has new) (p.first / v.repeats) ≡ plus (sum_where v base (held.has old) (p.first / v.repeats)) x → ((d : ℕ) → (d ≡ p.first / v.repeats → ⊥) → sum_where v bases (held.has new) d ≡ sum_where v base (held.has old) d) → ((t : ℕ) → is_in_base bases t ≡ true → held.has new t ≡ true) → AreKept v bases new news
+-- over a base whose sums are known
+kept_then : (v : Values) (base bases : List Slip) (old new : held.Held) (olds news : List Totals) (p : Piece)
+    (x : Totals) → Adding v base old new olds news p x → sum_where v bases (held.has new) (p.first / v.repeats)
+    ≡ plus (sum_where v base (held.has old) (p.first / v.repeats)) x
+    → ((d : ℕ) → (d ≡ p.first / v.repeats → ⊥) → sum_where v bases (held.has new) d
+    ≡ sum_where v base (held.has old) d) → ((t : ℕ) → is_in_base bases t ≡ true → held.has new t ≡ true)
+    → AreKept v bases new news
 kept_then v base bases old new olds news p x adding own others based = record {
   plan = adding.kept.plan;
   section_len = adding.added.section_len ∙ adding.kept.section_len;
-  all = ap length adding.added.held ∙ length-map-range_with_len (λ t. held.has old t || is_in p t) 0 (length old.held) ∙ adding.kept.all;
-  cells = ap length adding.added.others ∙ length-set old.room (p.first / v.repeats) (held.has_room new (p.first / v.repeats)) ∙ adding.kept.cells;
+  all = ap length adding.added.held ∙ length-map-range_with_len (λ t. held.has old t || is_in p t) 0 (length old.held)
+      ∙ adding.kept.all;
+  cells = ap length adding.added.others ∙ length-set old.room (p.first / v.repeats)
+      (held.has_room new (p.first / v.repeats)) ∙ adding.kept.cells;
   long = many ∙ adding.kept.long;
-  each = λ d in'. subst (AreSumsOf v bases (held.has new) d) (sym (ap (λ xs. sum_at xs d) adding.added.sums)) (by d (omega (arith, many)));
+  each = λ d in'. subst (AreSumsOf v bases (held.has new) d) (sym (ap (λ xs. sum_at xs d) adding.added.sums))
+      (by d (omega (arith, many)));
   based = based;
 }
   where
@@ -150,7 +202,8 @@ kept_then v base bases old new olds news p x adding own others based = record {
     c = p.first / v.repeats
 
     many : length news ≡ length olds
-    many = ap length adding.added.sums ∙ length-set olds (p.first / v.repeats) (plus (sum_at olds (p.first / v.repeats)) x)
+    many = ap length adding.added.sums ∙ length-set olds (p.first / v.repeats)
+        (plus (sum_at olds (p.first / v.repeats)) x)
 
     known : Added v old new olds p
     known = added_is v base old new olds news p x adding
@@ -159,45 +212,60 @@ kept_then v base bases old new olds news p x adding own others based = record {
     mine =
         let before : AreSumsOf v base (held.has old) c (sum_at olds c) = adding.kept.each c known.within in
         let more = count_of_more (held.has old) (held.has new) (c * v.repeats) v.repeats p.first p.count known.part in
-        let bound : 2048 * count_by (held.has old) (trials_of_cell v c) + 2048 * p.count ≡ 2048 * count_by (held.has new) (trials_of_cell v c) = omega (arith, more) in
+        let bound : 2048 * count_by (held.has old) (trials_of_cell v c) + 2048 * p.count
+        ≡ 2048 * count_by (held.has new) (trials_of_cell v c) = omega (arith, more) in
         record {
           sums = ap (λ y. plus y x) before.sums ∙ sym own;
-          few = subst (λ n. IsAtMost n (plus (sum_at olds c) x)) bound (at_most_more _ (2048 * p.count) (sum_at olds c) x before.few adding.few);
+          few = subst (λ n. IsAtMost n (plus (sum_at olds c) x)) bound
+              (at_most_more _ (2048 * p.count) (sum_at olds c) x before.few adding.few);
         }
 
-    by : (d : ℕ) → d < length olds → AreSumsOf v bases (held.has new) d (sum_at (set olds (p.first / v.repeats) (plus (sum_at olds (p.first / v.repeats)) x)) d)
+    by : (d : ℕ) → d < length olds → AreSumsOf v bases (held.has new) d
+        (sum_at (set olds (p.first / v.repeats) (plus (sum_at olds (p.first / v.repeats)) x)) d)
     by d in' = elim (cases_eq d (p.first / v.repeats)) [
       | inl here ↦
           subst (λ i. AreSumsOf v bases (held.has new) i (sum_at (set olds c (plus (sum_at olds c) x)) i)) (sym here)
-          (subst (AreSumsOf v bases (held.has new) c) (sym (get_or-set_same olds c (plus (sum_at olds c) x) (each_number (λ n. 0)) known.within)) mine)
+          (subst (AreSumsOf v bases (held.has new) c)
+          (sym (get_or-set_same olds c (plus (sum_at olds c) x) (each_number (λ n. 0)) known.within)) mine)
       | inr other ↦
           (let before : AreSumsOf v base (held.has old) d (sum_at olds d) = adding.kept.each d in' in
           let count : count_by (held.has new) (trials_of_cell v d) ≡ count_by (held.has old) (trials_of_cell v d) =
-          count_by_agree (held.has new) (held.has old) (d * v.repeats) v.repeats (record { same = λ t a b. more_elsewhere (held.has old) (held.has new) v p c d t known.facts known.more other a b }) in
+          count_by_agree (held.has new) (held.has old) (d * v.repeats) v.repeats
+          (record {
+            same = λ t a b. more_elsewhere (held.has old) (held.has new) v p c d t known.facts known.more
+                other a b;
+          }) in
           let same : AreSumsOf v bases (held.has new) d (sum_at olds d) = record {
             sums = before.sums ∙ sym (others d other);
             few = subst (λ n. IsAtMost (2048 * n) (sum_at olds d)) (sym count) before.few;
           } in
-          subst (AreSumsOf v bases (held.has new) d) (sym (get_or-set_other olds c d (plus (sum_at olds c) x) (each_number (λ n. 0)) other)) same)
+          subst (AreSumsOf v bases (held.has new) d)
+          (sym (get_or-set_other olds c d (plus (sum_at olds c) x) (each_number (λ n. 0)) other)) same)
     ]
 
 -- the result of a piece, whose sums are those of its trials
-pub taken_kept : (v : Values) (base : List Slip) (old new : held.Held) (olds news : List Totals) (p : Piece) → Adding v base old new olds news p (sum_of v (trials_in p)) → AreKept v base new news
+pub taken_kept : (v : Values) (base : List Slip) (old new : held.Held) (olds news : List Totals) (p : Piece)
+    → Adding v base old new olds news p (sum_of v (trials_in p)) → AreKept v base new news
 taken_kept v base old new olds news p adding =
     let c : ℕ = p.first / v.repeats in
     let known = added_is v base old new olds news p (sum_of v (trials_in p)) adding in
     kept_then v base base old new olds news p (sum_of v (trials_in p)) adding
     (taken_sums v base (held.has old) (held.has new) p c known.facts known.part adding.kept.based)
-    (λ d other. same_sums v base (held.has old) (held.has new) d (λ t a b. more_elsewhere (held.has old) (held.has new) v p c d t known.facts known.more other a b))
+    (λ d other. same_sums v base (held.has old) (held.has new) d
+    (λ t a b. more_elsewhere (held.has old) (held.has new) v p c d t known.facts known.more other a b))
     (λ t e. known.more.same t ∙ or_left (held.has old t) (is_in p t) (adding.kept.based t e))
 
 -- and its contents
-pub taken_contents : (v : Values) (base : List Slip) (old new : held.Held) (olds : List Totals) (p : Piece) → AreKept v base old olds → new.held ≡ held.with_span old (span_of p) → contents_in v base new ≡ with_piece (contents_in v base old) p
+pub taken_contents : (v : Values) (base : List Slip) (old new : held.Held) (olds : List Totals) (p : Piece)
+    → AreKept v base old olds → new.held ≡ held.with_span old (span_of p) → contents_in v base new
+    ≡ with_piece (contents_in v base old) p
 taken_contents v base old new olds p kept put =
-    ap (λ bs. record { plan = v; base = base; held = bs }) (put ∙ ap (λ n. map (λ t. held.has old t || is_in p t) (range_with_len 0 n)) kept.all)
+    ap (λ bs. record { plan = v; base = base; held = bs })
+    (put ∙ ap (λ n. map (λ t. held.has old t || is_in p t) (range_with_len 0 n)) kept.all)
 
 -- and a slip, which is one of the base from then on
-pub slip_kept : (v : Values) (base : List Slip) (old new : held.Held) (olds news : List Totals) (s : Slip) → Adding v base old new olds news s.piece s.totals → AreKept v (base ++ s ∷ []) new news
+pub slip_kept : (v : Values) (base : List Slip) (old new : held.Held) (olds news : List Totals) (s : Slip)
+    → Adding v base old new olds news s.piece s.totals → AreKept v (base ++ s ∷ []) new news
 slip_kept v base old new olds news s adding =
     let known = added_is v base old new olds news s.piece s.totals adding in
     kept_then v base (base ++ s ∷ []) old new olds news s.piece s.totals adding

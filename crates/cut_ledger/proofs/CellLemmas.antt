@@ -1,8 +1,11 @@
 -- The trials of cells: a piece that is added, the sums over a cell, and a ledger that holds none.
-use Rattle.std.proofs.Common.{◌≡◌, ℕ, ◌+◌, ◌-◌, ◌*◌, ◌/◌, ◌<◌, ◌≤◌, ◌^◌, inl, inr, Bool, true, false, ◌==◌, ◌&&◌, ◌||◌, not, List, [], ◌++◌, length, get_or, replicate, nat_lt, nat_le, sym, ap, ◌∙◌, subst, arith, zero-add}
+use Rattle.std.proofs.Common.{◌≡◌, ℕ, ◌+◌, ◌-◌, ◌*◌, ◌/◌, ◌<◌, ◌≤◌, ◌^◌, inl, inr, Bool, true, false, ◌==◌, ◌&&◌, ◌||◌}
+use Rattle.std.proofs.Common.{not, List, [], ◌++◌, length, get_or, replicate, nat_lt, nat_le, sym, ap, ◌∙◌, subst}
+use Rattle.std.proofs.Common.{arith, zero-add}
 use Rattle.std.proofs.Math.Nat.{div-mul-le_self, lt-div-mul-add}
 use Rattle.std.proofs.Math.Bool.{or-false}
-use Rattle.std.proofs.lemmas.Bool.{cases_lt, false_from_ne_true, and_parts, eqb-true, ltb-true, leb-true, or_right, and_left}
+use Rattle.std.proofs.lemmas.Bool.{cases_lt, false_from_ne_true, and_parts, eqb-true, ltb-true, leb-true, or_right}
+use Rattle.std.proofs.lemmas.Bool.{and_left}
 use Rattle.std.proofs.lemmas.List.{get_or-replicate, get_or_past, flat_map_more, length-replicate}
 use Rattle.std.proofs.lemmas.List.Sums.{count_by-le-length}
 use Rattle.std.proofs.lemmas.List.FromFn.{length-range_with_len, get_or-map-range_with_len, length-map-range_with_len}
@@ -45,7 +48,8 @@ pub piece_in_cell : (v : Values) (p : Piece) → 0 < v.repeats → IsTrue (is_pi
 piece_in_cell v p repeats piece =
     let r : ℕ = v.repeats in
     let last : ℕ = p.first + p.count - 1 in
-    let parts = and_parts (nat_lt 0 p.count && nat_le (p.first + p.count) (trial_count v)) (p.first / r == last / r) piece in
+    let parts = and_parts (nat_lt 0 p.count && nat_le (p.first + p.count) (trial_count v)) (p.first / r == last / r)
+    piece in
     let ends = and_parts (nat_lt 0 p.count) (nat_le (p.first + p.count) (trial_count v)) parts.0 in
     let some : 0 < p.count = ltb-true 0 p.count ends.0 in
     let end : p.first + p.count ≤ trial_count v = leb-true (p.first + p.count) (trial_count v) ends.1 in
@@ -69,7 +73,8 @@ in_piece p t e =
     let parts = and_parts (nat_le p.first t) (nat_lt t (p.first + p.count)) e in
     (leb-true p.first t parts.0, ltb-true t (p.first + p.count) parts.1)
 
-pub piece_cell : (v : Values) (p : Piece) (c t : ℕ) → PieceFacts v p c → p.first ≤ t → t < p.first + p.count → t / v.repeats ≡ c
+pub piece_cell : (v : Values) (p : Piece) (c t : ℕ) → PieceFacts v p c → p.first ≤ t → t < p.first + p.count
+    → t / v.repeats ≡ c
 piece_cell v p c t facts from to =
     let starts = facts.starts in
     let ends = facts.ends in
@@ -77,7 +82,8 @@ piece_cell v p c t facts from to =
 
 -- ---- what is held
 
-pub has_where : (v : Values) (base : List Slip) (test : ℕ → Bool) (t : ℕ) → t < trial_count v → has (record { plan = v; base = base; held = held_where v test }) t ≡ test t
+pub has_where : (v : Values) (base : List Slip) (test : ℕ → Bool) (t : ℕ) → t < trial_count v
+    → has (record { plan = v; base = base; held = held_where v test }) t ≡ test t
 has_where v base test t low = get_or-map-range_with_len test 0 (trial_count v) t t false low (omega arith)
 
 -- ---- a piece added to its cell
@@ -87,31 +93,43 @@ pub record IsMore (test new : ℕ → Bool) (p : Piece) : Type 0 where
   pub same : (t : ℕ) → new t ≡ (test t || is_in p t)
 
 -- as the set's numbers do after the piece is put in
-pub more_is : (old new : held.Held) (p : Piece) → p.first + p.count ≤ length old.held → new.held ≡ held.with_span old (span_of p) → IsMore (held.has old) (held.has new) p
+pub more_is : (old new : held.Held) (p : Piece) → p.first + p.count ≤ length old.held → new.held
+    ≡ held.with_span old (span_of p) → IsMore (held.has old) (held.has new) p
 more_is old new p ends put = record {
   same = λ t. ap (λ (bs : List Bool). get_or bs t false) put ∙ elim (cases_lt t (length old.held)) [
-    | inl low ↦ get_or-map-range_with_len (λ x. held.has old x || is_in p x) 0 (length old.held) t t false low (omega arith)
+    | inl low ↦ get_or-map-range_with_len (λ x. held.has old x || is_in p x) 0 (length old.held) t t false low
+        (omega arith)
     | inr past ↦
         (let long = length-map-range_with_len (λ x. held.has old x || is_in p x) 0 (length old.held) in
         get_or_past (held.with_span old (span_of p)) t false (omega arith)
-        ∙ sym (ap (λ b. b || is_in p t) (get_or_past old.held t false past) ∙ within_above p.first (p.first + p.count) t (omega arith)))
+        ∙ sym (ap (λ b. b || is_in p t) (get_or_past old.held t false past)
+        ∙ within_above p.first (p.first + p.count) t (omega arith)))
   ];
 }
 
 -- what passes among a cell's trials, where none of the piece's passed
-pub more_part : (test new : ℕ → Bool) (v : Values) (p : Piece) (c : ℕ) → PieceFacts v p c → IsMore test new p → ((t : ℕ) → is_in p t ≡ true → test t ≡ false) → PassesPart test new (c * v.repeats) v.repeats p.first p.count
+pub more_part : (test new : ℕ → Bool) (v : Values) (p : Piece) (c : ℕ) → PieceFacts v p c → IsMore test new p
+    → ((t : ℕ) → is_in p t ≡ true → test t ≡ false) → PassesPart test new (c * v.repeats) v.repeats p.first p.count
 more_part test new v p c facts more apart = record {
   starts = facts.starts;
   ends = facts.ends;
-  inside = λ t a b. (apart t (within_is p.first (p.first + p.count) t a b), more.same t ∙ or_right (test t) (is_in p t) (within_is p.first (p.first + p.count) t a b));
-  outside = λ t out. more.same t ∙ ap (λ b. test t || b) (false_from_ne_true (is_in p t) (λ e. (let at = in_piece p t e in out at.0 at.1))) ∙ or-false (test t);
+  inside = λ t a b. (
+    apart t (within_is p.first (p.first + p.count) t a b),
+    more.same t
+        ∙ or_right (test t) (is_in p t) (within_is p.first (p.first + p.count) t a b),
+  );
+  outside = λ t out. more.same t ∙ ap (λ b. test t || b)
+      (false_from_ne_true (is_in p t) (λ e. (let at = in_piece p t e in out at.0 at.1))) ∙ or-false (test t);
 }
 
 -- and outside its cell nothing changes
-pub more_elsewhere : (test new : ℕ → Bool) (v : Values) (p : Piece) (c d t : ℕ) → PieceFacts v p c → IsMore test new p → (d ≡ c → ⊥) → d * v.repeats ≤ t → t < d * v.repeats + v.repeats → new t ≡ test t
+pub more_elsewhere : (test new : ℕ → Bool) (v : Values) (p : Piece) (c d t : ℕ) → PieceFacts v p c → IsMore test new p
+    → (d ≡ c → ⊥) → d * v.repeats ≤ t → t < d * v.repeats + v.repeats → new t ≡ test t
 more_elsewhere test new v p c d t facts more other low high =
     more.same t
-    ∙ ap (λ b. test t || b) (false_from_ne_true (is_in p t) (λ e. (let at = in_piece p t e in other (sym (cell_is v.repeats d t low high) ∙ piece_cell v p c t facts at.0 at.1))))
+    ∙ ap (λ b. test t || b) (false_from_ne_true (is_in p t)
+    (λ e. (let at = in_piece p t e in other (sym (cell_is v.repeats d t low high)
+    ∙ piece_cell v p c t facts at.0 at.1))))
     ∙ or-false (test t)
 
 -- ---- sums
@@ -129,7 +147,8 @@ at_most_above m n x le few = record {
   settled = omega (arith, few.settled);
 }
 
-pub sums_fit : (v : Values) (base : List Slip) (trials : held.Held) (sums : List Totals) (c : ℕ) → AreKept v base trials sums → c < length sums → IsAtMost (2 ^ 43) (sum_at sums c)
+pub sums_fit : (v : Values) (base : List Slip) (trials : held.Held) (sums : List Totals) (c : ℕ)
+    → AreKept v base trials sums → c < length sums → IsAtMost (2 ^ 43) (sum_at sums c)
 sums_fit v base trials sums c kept in' =
     let few = kept.plan.few_repeats in
     let count = count_by-le-length (held.has trials) (trials_of_cell v c) in
@@ -138,7 +157,9 @@ sums_fit v base trials sums c kept in' =
 
 -- ---- nothing is held
 
-pub none_over : (v : Values) (trials : held.Held) (sums : List Totals) → IsPlan v → trials.section_len ≡ v.repeats → trials.held ≡ replicate (trial_count v) false → length trials.room ≡ length (cells_of v) → sums ≡ replicate (length (cells_of v)) (each_number (λ n. 0)) → AreOver v [] trials sums
+pub none_over : (v : Values) (trials : held.Held) (sums : List Totals) → IsPlan v → trials.section_len ≡ v.repeats
+    → trials.held ≡ replicate (trial_count v) false → length trials.room ≡ length (cells_of v) → sums
+    ≡ replicate (length (cells_of v)) (each_number (λ n. 0)) → AreOver v [] trials sums
 none_over v trials sums plan section_len held-is room sums-are = record {
   kept = record {
     plan = plan;
@@ -169,31 +190,40 @@ none_over v trials sums plan section_len held-is room sums-are = record {
 
     zero_at : (c : ℕ) → c < length sums → sum_at sums c ≡ each_number (λ n. 0)
     zero_at c in' =
-        ap (λ xs. sum_at xs c) sums-are ∙ get_or-replicate {A = Totals} (length (cells_of v)) c (each_number (λ n. 0)) (each_number (λ n. 0)) (omega (arith, many))
+        ap (λ xs. sum_at xs c) sums-are ∙ get_or-replicate {A = Totals} (length (cells_of v)) c (each_number (λ n. 0))
+        (each_number (λ n. 0)) (omega (arith, many))
 
     none : (t : ℕ) → held.has trials t ≡ false
     none t = ap (λ (bs : List Bool). get_or bs t false) held-is ∙ elim (cases_lt t (trial_count v)) [
       | inl low ↦ get_or-replicate {A = Bool} (trial_count v) t false false low
-      | inr past ↦ get_or_past (replicate {A = Bool} (trial_count v) false) t false (omega (arith, length-replicate {A = Bool} (trial_count v) false))
+      | inr past ↦ get_or_past (replicate {A = Bool} (trial_count v) false) t false
+          (omega (arith, length-replicate {A = Bool} (trial_count v) false))
     ]
 
     none_of : (c : ℕ) → further_trials v [] (held.has trials) c ≡ []
-    none_of c = filter-none (λ t. held.has trials t && not (is_in_base [] t)) (trials_of_cell v c) (λ k d low. and_left (held.has trials (get_or (trials_of_cell v c) k d)) (not (is_in_base [] (get_or (trials_of_cell v c) k d))) (none (get_or (trials_of_cell v c) k d)))
+    none_of c = filter-none (λ t. held.has trials t && not (is_in_base [] t)) (trials_of_cell v c)
+        (λ k d low. and_left (held.has trials (get_or (trials_of_cell v c) k d))
+        (not (is_in_base [] (get_or (trials_of_cell v c) k d))) (none (get_or (trials_of_cell v c) k d)))
 
 -- ---- gaps, cell by cell
 
-pub one_cell_more : {X : Type 0} (f : ℕ → List X) (i : ℕ) → flat_map f (range_with_len 0 i) ++ f i ≡ flat_map f (range_with_len 0 (i + 1))
-one_cell_more f i = flat_map_more f [] (range_with_len 0 i) i ∙ ap (flat_map f) (sym (range_with_len_more 0 i i (zero-add i)))
+pub one_cell_more : {X : Type 0} (f : ℕ → List X) (i : ℕ) → flat_map f (range_with_len 0 i) ++ f i
+    ≡ flat_map f (range_with_len 0 (i + 1))
+one_cell_more f i = flat_map_more f [] (range_with_len 0 i) i
+    ∙ ap (flat_map f) (sym (range_with_len_more 0 i i (zero-add i)))
 
 -- ---- a change of memory alone
 
-pub kept_alike : (v : Values) (base : List Slip) (old new : held.Held) (sums : List Totals) → AreKept v base old sums → new.section_len ≡ old.section_len → new.held ≡ old.held → length new.room ≡ length old.room → AreKept v base new sums
+pub kept_alike : (v : Values) (base : List Slip) (old new : held.Held) (sums : List Totals) → AreKept v base old sums
+    → new.section_len ≡ old.section_len → new.held ≡ old.held → length new.room ≡ length old.room
+    → AreKept v base new sums
 kept_alike v base old new sums kept section_len same room = record {
   plan = kept.plan;
   section_len = section_len ∙ kept.section_len;
   all = ap length same ∙ kept.all;
   cells = room ∙ kept.cells;
   long = kept.long;
-  each = λ c in'. subst (λ (bs : List Bool). AreSumsOf v base (λ t. get_or bs t false) c (sum_at sums c)) (sym same) (kept.each c in');
+  each = λ c in'. subst (λ (bs : List Bool). AreSumsOf v base (λ t. get_or bs t false) c (sum_at sums c)) (sym same)
+      (kept.each c in');
   based = λ t e. ap (λ (bs : List Bool). get_or bs t false) same ∙ kept.based t e;
 }

@@ -1,5 +1,6 @@
 -- Gaps, and the pieces that they are cut into, cover what is not held, each trial once.
-use Rattle.std.proofs.Common.{◌≡◌, ℕ, zero, suc, ◌+◌, ◌-◌, ◌*◌, ◌<◌, ◌≤◌, Bool, not, min, List, [], ◌∷◌, ◌++◌, map, filter, length, get_or, sym, ap, ◌∙◌, arith, append-nil, zero-add}
+use Rattle.std.proofs.Common.{◌≡◌, ℕ, zero, suc, ◌+◌, ◌-◌, ◌*◌, ◌<◌, ◌≤◌, Bool, not, min, List, [], ◌∷◌, ◌++◌, map}
+use Rattle.std.proofs.Common.{filter, length, get_or, sym, ap, ◌∙◌, arith, append-nil, zero-add}
 use Rattle.std.proofs.Math.Nat.{zero-mul}
 use Rattle.std.proofs.lemmas.Grind.{flat_map-append, div_ceil_times}
 use Rattle.std.proofs.lemmas.List.Folds.{flat_map-map}
@@ -10,13 +11,15 @@ use Rattle.cut_lists.proofs.Ranges.{ranges-join}
 use Rattle.range_set.specs.Laws.{SpansCover}
 use Rattle.range_set.specs.Spans.{spans}
 use Rattle.cut_ledger.proofs.Words.{Contents, Piece, all_trials, cells_of, div_ceil, flat_map}
-use Rattle.cut_ledger.proofs.Words.{gaps_of, has, part_of, parts_of, piece_at, pieces_of, range_with_len, trial_count, trials_in}
+use Rattle.cut_ledger.proofs.Words.{gaps_of, has, part_of, parts_of, piece_at, pieces_of, range_with_len, trial_count}
+use Rattle.cut_ledger.proofs.Words.{trials_in}
 use Rattle.cut_ledger.proofs.GapPieces.{part_within}
 
 -- ---- cells
 
 -- what passes of each cell in turn is what passes
-by_cells : (test : ℕ → Bool) (r a m : ℕ) → flat_map (λ c. filter test (range_with_len (c * r) r)) (range_with_len a m) ≡ filter test (range_with_len (a * r) (m * r))
+by_cells : (test : ℕ → Bool) (r a m : ℕ) → flat_map (λ c. filter test (range_with_len (c * r) r)) (range_with_len a m)
+    ≡ filter test (range_with_len (a * r) (m * r))
 by_cells test r a zero = ap (λ k. filter test (range_with_len (a * r) k)) (sym (zero-mul r))
 by_cells test r a (suc m) =
     let next : (a + 1) * r ≡ a * r + r = omega arith in
@@ -27,13 +30,15 @@ by_cells test r a (suc m) =
     ∙ ap (filter test) (ranges-join (a * r) r (m * r))
     ∙ ap (λ k. filter test (range_with_len (a * r) k)) (sym count)
 
-pub gaps_cover : SpansCover → (l : Contents) → flat_map trials_in (gaps_of l) ≡ filter (λ t. not (has l t)) (all_trials l.plan)
+pub gaps_cover : SpansCover → (l : Contents) → flat_map trials_in (gaps_of l)
+    ≡ filter (λ t. not (has l t)) (all_trials l.plan)
 gaps_cover cover l =
     let free : ℕ → Bool = λ t. not (has l t) in
     let r : ℕ = l.plan.repeats in
     let cells : List ℕ = range_with_len 0 (length (cells_of l.plan)) in
     flat_map-flat_map trials_in (λ c. map piece_at (spans free (c * r) r)) cells
-    ∙ flat_map-agree (λ c. flat_map trials_in (map piece_at (spans free (c * r) r))) (λ c. filter free (range_with_len (c * r) r)) cells (λ k d low.
+    ∙ flat_map-agree (λ c. flat_map trials_in (map piece_at (spans free (c * r) r)))
+    (λ c. filter free (range_with_len (c * r) r)) cells (λ k d low.
     flat_map-map trials_in piece_at (spans free (get_or cells k d * r) r) ∙ cover free (get_or cells k d * r) r)
     ∙ by_cells free r 0 (length (cells_of l.plan))
     ∙ ap (λ k. filter free (range_with_len k (trial_count l.plan))) (zero-mul r)
@@ -41,8 +46,10 @@ gaps_cover cover l =
 -- ---- parts
 
 -- parts of a size up to one of them have the numbers up to there
-parts_cover_to : (size : ℕ) (p : Piece) (n : ℕ) → 1 ≤ size → n ≤ div_ceil p.count size → flat_map trials_in (map (part_of size p) (range_with_len 0 n)) ≡ range_with_len p.first (min (n * size) p.count)
-parts_cover_to size p zero some le = ap (λ k. range_with_len p.first k) (sym (let none : min (0 * size) p.count ≡ 0 = omega (arith, zero-mul size) in none))
+parts_cover_to : (size : ℕ) (p : Piece) (n : ℕ) → 1 ≤ size → n ≤ div_ceil p.count size
+    → flat_map trials_in (map (part_of size p) (range_with_len 0 n)) ≡ range_with_len p.first (min (n * size) p.count)
+parts_cover_to size p zero some le = ap (λ k. range_with_len p.first k)
+    (sym (let none : min (0 * size) p.count ≡ 0 = omega (arith, zero-mul size) in none))
 parts_cover_to size p (suc n) some le =
     let inside : n * size < p.count = part_within size n p.count some (omega arith) in
     let part : ℕ → Piece = part_of size p in
@@ -65,8 +72,10 @@ parts_cover size p some =
     let all : min (div_ceil p.count size * size) p.count ≡ p.count = omega (arith, bound.0) in
     parts_cover_to size p (div_ceil p.count size) some (omega arith) ∙ ap (range_with_len p.first) all
 
-pub pieces_cover : SpansCover → (l : Contents) (size : ℕ) → 1 ≤ size → flat_map trials_in (pieces_of l size) ≡ filter (λ t. not (has l t)) (all_trials l.plan)
+pub pieces_cover : SpansCover → (l : Contents) (size : ℕ) → 1 ≤ size → flat_map trials_in (pieces_of l size)
+    ≡ filter (λ t. not (has l t)) (all_trials l.plan)
 pieces_cover cover l size some =
     flat_map-flat_map trials_in (parts_of size) (gaps_of l)
-    ∙ flat_map-agree (λ p. flat_map trials_in (parts_of size p)) trials_in (gaps_of l) (λ k d low. parts_cover size (get_or (gaps_of l) k d) some)
+    ∙ flat_map-agree (λ p. flat_map trials_in (parts_of size p)) trials_in (gaps_of l)
+    (λ k d low. parts_cover size (get_or (gaps_of l) k d) some)
     ∙ gaps_cover cover l

@@ -1,14 +1,16 @@
 -- The piece of a number, found by the gap that it is of.
-use Rattle.std.proofs.Common.{◌≡◌, ◌∙◌, ℕ, zero, suc, ◌+◌, ◌-◌, ◌≤◌, ◌<◌, inl, inr, List, [], ◌∷◌, ◌++◌, take, length, get_or, slice_get, Some, None, sym, ap, subst, arith, append-nil, length-append}
+use Rattle.std.proofs.Common.{◌≡◌, ◌∙◌, ℕ, zero, suc, ◌+◌, ◌-◌, ◌≤◌, ◌<◌, inl, inr, List, [], ◌∷◌, ◌++◌, take, length}
+use Rattle.std.proofs.Common.{get_or, slice_get, Some, None, sym, ap, subst, arith, append-nil, length-append}
 use Rattle.std.proofs.lemmas.Bool.{cases_lt}
 use Rattle.std.proofs.lemmas.Grind.{flat_map-append, take_at_read}
-use Rattle.std.proofs.lemmas.List.{map-append, take_all, take-append-le, get_or-map, get_or_push, get_or_append_left, length-map}
+use Rattle.std.proofs.lemmas.List.{map-append, take_all, take-append-le, get_or-map, get_or_push, get_or_append_left}
+use Rattle.std.proofs.lemmas.List.{length-map}
 use Rattle.std.proofs.lemmas.List.Concat.{get_or-flat_map}
 use Rattle.std.proofs.lemmas.List.Folds.{length-flat_map-take}
 use Rattle.std.proofs.lemmas.List.FromFn.{get_or-map-range_with_len, length-map-range_with_len}
 use Rattle.std.proofs.lemmas.Option.{slice_get-get_or, slice_get_past}
 use Rattle.cut_ledger.specs.declared.division.Stretch.{Stretch}
-use Rattle.cut_ledger.specs.DivisionInside.{AreCounted, HasNumber, gaps_in, piece_of, pieces_up_to}
+use Rattle.cut_ledger.specs.DivisionInside.{ArePiecesCounted, HasNumber, gaps_in, piece_of, pieces_up_to}
 use Rattle.cut_ledger.proofs.Words.{IsNonDecreasingBy, IsPartitionPoint, Piece, div_ceil, flat_map, part_of, parts_of}
 
 abbrev pub no_piece : Piece
@@ -27,7 +29,8 @@ parts_long size p = length-map-range_with_len (part_of size p) 0 (div_ceil p.cou
 
 -- the pieces of one gap more
 pub one_gap : (size : ℕ) (gaps : List Piece) (i : ℕ) (d : Piece) → i < length gaps
-    → length (flat_map (parts_of size) (take (i + 1) gaps)) ≡ length (flat_map (parts_of size) (take i gaps)) + div_ceil (get_or gaps i d).count size
+    → length (flat_map (parts_of size) (take (i + 1) gaps)) ≡ length (flat_map (parts_of size) (take i gaps))
+    + div_ceil (get_or gaps i d).count size
 one_gap size gaps i d low =
     let parts : Piece → List Piece = parts_of size in
     let last : Piece = get_or gaps i d in
@@ -38,16 +41,25 @@ one_gap size gaps i d low =
     ∙ ap (λ n. length (flat_map parts (take i gaps)) + n) (parts_long size last)
 
 pub few_before : (size : ℕ) (gaps : List Piece) (i : ℕ) (d : Piece) → i < length gaps
-    → length (flat_map (parts_of size) (take i gaps)) + div_ceil (get_or gaps i d).count size ≤ length (flat_map (parts_of size) gaps)
-few_before size gaps i d low = omega (arith, length-flat_map-take (parts_of size) gaps i d low, parts_long size (get_or gaps i d))
+    → length (flat_map (parts_of size) (take i gaps)) + div_ceil (get_or gaps i d).count size
+    ≤ length (flat_map (parts_of size) gaps)
+few_before size gaps i d low = omega (
+  arith,
+  length-flat_map-take (parts_of size) gaps i d low,
+  parts_long size
+      (get_or gaps i d),
+)
 
 -- what stands before a stretch that is added is as it was
-before_it : (size : ℕ) (ss : List Stretch) (s : Stretch) (n : ℕ) → n ≤ length ss → pieces_up_to size (ss ++ s ∷ []) n ≡ pieces_up_to size ss n
+before_it : (size : ℕ) (ss : List Stretch) (s : Stretch) (n : ℕ) → n ≤ length ss → pieces_up_to size (ss ++ s ∷ []) n
+    ≡ pieces_up_to size ss n
 before_it size ss s n low =
     ap (λ ps. flat_map (parts_of size) (take n ps)) (map-append (λ (t : Stretch). t.gap) ss (s ∷ []))
-    ∙ ap (flat_map (parts_of size)) (take-append-le n (gaps_in ss) (s.gap ∷ []) (omega (arith, length-map ss (λ (t : Stretch). t.gap))))
+    ∙ ap (flat_map (parts_of size)) (take-append-le n (gaps_in ss) (s.gap ∷ [])
+    (omega (arith, length-map ss (λ (t : Stretch). t.gap))))
 
-pub counted_push : (size : ℕ) (ss : List Stretch) (s : Stretch) → AreCounted size ss → s.end ≡ length (pieces_up_to size (ss ++ s ∷ []) (length ss + 1)) → AreCounted size (ss ++ s ∷ [])
+pub counted_push : (size : ℕ) (ss : List Stretch) (s : Stretch) → ArePiecesCounted size ss → s.end
+    ≡ length (pieces_up_to size (ss ++ s ∷ []) (length ss + 1)) → ArePiecesCounted size (ss ++ s ∷ [])
 counted_push size ss s are end i d low = elim (cases_lt i (length ss)) [
   | inl before ↦ ap (λ (t : Stretch). t.end) (get_or_append_left ss (s ∷ []) d i before) ∙ are i d before
       ∙ ap length (sym (before_it size ss s (i + 1) (omega arith)))
@@ -67,20 +79,22 @@ pub record IsFound (size : ℕ) (ss : List Stretch) (number : ℕ) (s : Stretch)
 abbrev pub IsSplit : List Stretch → ℕ → ℕ → Type 0
 IsSplit ss number at = IsPartitionPoint (λ (s : Stretch). s.end ≤ number) (λ s. number < s.end) ss at
 
-module _ (size : ℕ) (ss : List Stretch) (are : AreCounted size ss) where
+module _ (size : ℕ) (ss : List Stretch) (are : ArePiecesCounted size ss) where
   gaps_long : length (gaps_in ss) ≡ length ss
   gaps_long = length-map ss (λ (s : Stretch). s.gap)
 
   gap_at : (i : ℕ) (d : Stretch) → i < length ss → get_or (gaps_in ss) i no_piece ≡ (get_or ss i d).gap
   gap_at i d low = get_or-map (λ (s : Stretch). s.gap) ss i d no_piece low
 
-  rises_by_parts : (i : ℕ) (d : Stretch) → i < length ss → (get_or ss i d).end ≡ length (pieces_up_to size ss i) + div_ceil (get_or ss i d).gap.count size
+  rises_by_parts : (i : ℕ) (d : Stretch) → i < length ss → (get_or ss i d).end ≡ length (pieces_up_to size ss i)
+      + div_ceil (get_or ss i d).gap.count size
   rises_by_parts i d low =
       are i d low ∙ one_gap size (gaps_in ss) i no_piece (omega (arith, gaps_long))
       ∙ ap (λ (p : Piece). length (pieces_up_to size ss i) + div_ceil p.count size) (gap_at i d low)
 
   rises_to : (i j k : ℕ) (d : Stretch) → j ≡ i + k → j < length ss → (get_or ss i d).end ≤ (get_or ss j d).end
-  rises_to i j zero d e low = subst (λ (n : ℕ). (get_or ss i d).end ≤ (get_or ss n d).end) (let same : i ≡ j = omega arith in same) (omega arith)
+  rises_to i j zero d e low = subst (λ (n : ℕ). (get_or ss i d).end ≤ (get_or ss n d).end)
+      (let same : i ≡ j = omega arith in same) (omega arith)
   rises_to i j (suc k) d e low =
       let m : ℕ = j - 1 in
       let back : m + 1 ≡ j = omega arith in
@@ -109,10 +123,12 @@ module _ (size : ℕ) (ss : List Stretch) (are : AreCounted size ss) where
 
   pub none_past : (number at : ℕ) → IsSplit ss number at → at ≡ length ss → slice_get (all_pieces size ss) number ≡ None
   none_past number at split e =
-      let all : length (pieces_up_to size ss (length ss)) ≤ number = subst (λ n. length (pieces_up_to size ss n) ≤ number) e (passed number at split (omega arith)) in
+      let all : length (pieces_up_to size ss (length ss))
+      ≤ number = subst (λ n. length (pieces_up_to size ss n) ≤ number) e (passed number at split (omega arith)) in
       slice_get_past (all_pieces size ss) number (omega (arith, all, ap length all_of_them))
 
-  found_at : (number at : ℕ) (d : Stretch) → at < length ss → HasNumber size (get_or ss at d) number → slice_get (all_pieces size ss) number ≡ Some (piece_of size (get_or ss at d) number)
+  found_at : (number at : ℕ) (d : Stretch) → at < length ss → HasNumber size (get_or ss at d) number
+      → slice_get (all_pieces size ss) number ≡ Some (piece_of size (get_or ss at d) number)
   found_at number at d low has =
       let s : Stretch = get_or ss at d in
       let before : ℕ = length (pieces_up_to size ss at) in
@@ -126,26 +142,34 @@ module _ (size : ℕ) (ss : List Stretch) (are : AreCounted size ss) where
       let few : i < div_ceil s.gap.count size = omega (arith, rises, from, below) in
       let gap : get_or (gaps_in ss) at no_piece ≡ s.gap = gap_at at d low in
       let total = few_before size (gaps_in ss) at no_piece (omega (arith, gaps_long)) in
-      let count : div_ceil (get_or (gaps_in ss) at no_piece).count size ≡ div_ceil s.gap.count size = ap (λ (p : Piece). div_ceil p.count size) gap in
+      let count : div_ceil (get_or (gaps_in ss) at no_piece).count size
+      ≡ div_ceil s.gap.count size = ap (λ (p : Piece). div_ceil p.count size) gap in
       slice_get-get_or (all_pieces size ss) number no_piece (omega (arith, total, count, rises, below))
       ∙ ap (λ n. Some (get_or (all_pieces size ss) n no_piece)) (sym place)
-      ∙ ap Some (get_or-flat_map (parts_of size) (gaps_in ss) at i no_piece no_piece (omega (arith, gaps_long)) (omega (arith, few, count, parts_long size (get_or (gaps_in ss) at no_piece))))
+      ∙ ap Some (get_or-flat_map (parts_of size) (gaps_in ss) at i no_piece no_piece (omega (arith, gaps_long))
+      (omega (arith, few, count, parts_long size (get_or (gaps_in ss) at no_piece))))
       ∙ ap (λ (p : Piece). Some (get_or (parts_of size p) i no_piece)) gap
-      ∙ ap Some (get_or-map-range_with_len (part_of size s.gap) 0 (div_ceil s.gap.count size) i i no_piece few (omega arith))
+      ∙ ap Some (get_or-map-range_with_len (part_of size s.gap) 0 (div_ceil s.gap.count size) i i no_piece few
+      (omega arith))
       ∙ ap (λ n. Some (part_of size s.gap (number - n))) (sym number-in)
 
-  pub found_here : (number at : ℕ) (d : Stretch) → IsSplit ss number at → at < length ss → IsFound size ss number (get_or ss at d)
+  pub found_here : (number at : ℕ) (d : Stretch) → IsSplit ss number at → at < length ss
+      → IsFound size ss number (get_or ss at d)
   found_here number at d split low =
       let rises = rises_by_parts at d low in
       let before = passed number at split (omega arith) in
       let below : number < (get_or ss at d).end = split.1 at d (omega arith) low in
-      let has : HasNumber size (get_or ss at d) number = record { parts = omega (arith, rises); from = omega (arith, rises, before); below = below } in
+      let has : HasNumber size (get_or ss at d) number = record
+      { parts = omega (arith, rises); from = omega (arith, rises, before); below = below } in
       record { has = has; is = found_at number at d low has }
 
 -- by two readings of the stretches, as the search and the look-up have them
-pub found_by : (size : ℕ) (ss xs ys : List Stretch) (number at : ℕ) (s : Stretch) → AreCounted size ss → xs ≡ ss → ys ≡ ss → IsSplit xs number at → at < length ys → ((d : Stretch) → s ≡ get_or ys at d)
+pub found_by : (size : ℕ) (ss xs ys : List Stretch) (number at : ℕ) (s : Stretch) → ArePiecesCounted size ss → xs ≡ ss
+    → ys ≡ ss → IsSplit xs number at → at < length ys → ((d : Stretch) → s ≡ get_or ys at d)
     → IsFound size ss number s
 found_by size ss xs ys number at s are first second split low is =
     let there : at < length ss = subst (λ (zs : List Stretch). at < length zs) second low in
-    let same : get_or ss at no_stretch ≡ s = ap (λ (zs : List Stretch). get_or zs at no_stretch) (sym second) ∙ sym (is no_stretch) in
-    subst (IsFound size ss number) same (found_here size ss are number at no_stretch (subst (λ (zs : List Stretch). IsSplit zs number at) first split) there)
+    let same : get_or ss at no_stretch ≡ s = ap (λ (zs : List Stretch). get_or zs at no_stretch) (sym second)
+    ∙ sym (is no_stretch) in
+    subst (IsFound size ss number) same (found_here size ss are number at no_stretch
+    (subst (λ (zs : List Stretch). IsSplit zs number at) first split) there)

@@ -1,5 +1,6 @@
 -- Gaps and their parts are pieces of the plan.
-use Rattle.std.proofs.Common.{◌≡◌, ℕ, ◌+◌, ◌-◌, ◌*◌, ◌/◌, ◌<◌, ◌≤◌, Bool, not, ◌==◌, ◌&&◌, All, map, length, get_or, nat_lt, nat_le, sym, ◌∙◌, arith}
+use Rattle.std.proofs.Common.{◌≡◌, ℕ, ◌+◌, ◌-◌, ◌*◌, ◌/◌, ◌<◌, ◌≤◌, Bool, not, ◌==◌, ◌&&◌, All, map, length, get_or}
+use Rattle.std.proofs.Common.{nat_lt, nat_le, sym, ◌∙◌, arith}
 use Rattle.std.proofs.Math.Nat.{mul-le-mul_right}
 use Rattle.std.proofs.lemmas.Bool.{and_from, eq-eqb, lt-ltb, le-leb}
 use Rattle.std.proofs.lemmas.Grind.{div_ceil_times}
@@ -9,13 +10,15 @@ use Rattle.cut_lists.proofs.Ranges.{All-range_with_len}
 use Rattle.range_set.specs.Laws.{SpansWithin}
 use Rattle.range_set.specs.Spans.{spans}
 use Rattle.cut_ledger.proofs.Words.{Contents, IsPlan, IsTrue, Piece, Values, cells_of, div_ceil}
-use Rattle.cut_ledger.proofs.Words.{gaps_of, has, is_piece, part_of, parts_of, piece_at, pieces_of, range_with_len, trial_count}
+use Rattle.cut_ledger.proofs.Words.{gaps_of, has, is_piece, part_of, parts_of, piece_at, pieces_of, range_with_len}
+use Rattle.cut_ledger.proofs.Words.{trial_count}
 use Rattle.cut_ledger.proofs.CellLemmas.{piece_facts, cell_is}
 
 -- ---- pieces
 
 -- what a cell's trials hold is a piece
-pub piece_within : (v : Values) (p : Piece) (c : ℕ) → 0 < p.count → c < length (cells_of v) → c * v.repeats ≤ p.first → p.first + p.count ≤ c * v.repeats + v.repeats → IsTrue (is_piece v p)
+pub piece_within : (v : Values) (p : Piece) (c : ℕ) → 0 < p.count → c < length (cells_of v) → c * v.repeats ≤ p.first
+    → p.first + p.count ≤ c * v.repeats + v.repeats → IsTrue (is_piece v p)
 piece_within v p c some cell starts ends =
     let last : ℕ = p.first + p.count - 1 in
     let row = mul-le-mul_right {m = c + 1} {n = length (cells_of v)} v.repeats (omega arith) in
@@ -23,7 +26,8 @@ piece_within v p c some cell starts ends =
     let first-in : p.first / v.repeats ≡ c = cell_is v.repeats c p.first starts (omega arith) in
     let last-in : last / v.repeats ≡ c = cell_is v.repeats c last (omega arith) (omega arith) in
     and_from (nat_lt 0 p.count && nat_le (p.first + p.count) (trial_count v)) (p.first / v.repeats == last / v.repeats)
-    (and_from (nat_lt 0 p.count) (nat_le (p.first + p.count) (trial_count v)) (lt-ltb 0 p.count some) (le-leb (p.first + p.count) (trial_count v) end))
+    (and_from (nat_lt 0 p.count) (nat_le (p.first + p.count) (trial_count v)) (lt-ltb 0 p.count some)
+    (le-leb (p.first + p.count) (trial_count v) end))
     (eq-eqb (p.first / v.repeats) (last / v.repeats) (first-in ∙ sym last-in))
 
 -- ---- gaps
@@ -32,11 +36,14 @@ pub gaps_are_pieces : SpansWithin → (l : Contents) → All (λ p. IsTrue (is_p
 gaps_are_pieces within l =
     let v : Values = l.plan in
     let free : ℕ → Bool = λ t. not (has l t) in
-    All-flat_map (λ p. IsTrue (is_piece v p)) (λ c. map piece_at (spans free (c * v.repeats) v.repeats)) (range_with_len 0 (length (cells_of v)))
-    (All-range_with_len (λ c. All (λ p. IsTrue (is_piece v p)) (map piece_at (spans free (c * v.repeats) v.repeats))) 0 (length (cells_of v)) (λ c _ cell.
+    All-flat_map (λ p. IsTrue (is_piece v p)) (λ c. map piece_at (spans free (c * v.repeats) v.repeats))
+    (range_with_len 0 (length (cells_of v)))
+    (All-range_with_len (λ c. All (λ p. IsTrue (is_piece v p)) (map piece_at (spans free (c * v.repeats) v.repeats))) 0
+    (length (cells_of v)) (λ c _ cell.
     All-map (λ p. IsTrue (is_piece v p)) piece_at (spans free (c * v.repeats) v.repeats) (λ k d low.
     let is = within free (c * v.repeats) v.repeats k d low in
-    piece_within v (piece_at (get_or (spans free (c * v.repeats) v.repeats) k d)) c is.some (omega arith) is.starts is.ends)))
+    piece_within v (piece_at (get_or (spans free (c * v.repeats) v.repeats) k d)) c is.some (omega arith) is.starts
+    is.ends)))
 
 -- ---- parts
 
@@ -47,7 +54,8 @@ part_within size i count some low =
     let row = mul-le-mul_right {m = i + 1} {n = div_ceil count size} size (omega arith) in
     omega (arith, bound.1, row)
 
-pub parts_are_pieces : (v : Values) (size : ℕ) (p : Piece) → IsPlan v → 1 ≤ size → IsTrue (is_piece v p) → All (λ q. IsTrue (is_piece v q)) (parts_of size p)
+pub parts_are_pieces : (v : Values) (size : ℕ) (p : Piece) → IsPlan v → 1 ≤ size → IsTrue (is_piece v p)
+    → All (λ q. IsTrue (is_piece v q)) (parts_of size p)
 parts_are_pieces v size p plan some piece =
     let facts = piece_facts v p plan piece in
     let starts = facts.starts in
@@ -57,6 +65,8 @@ parts_are_pieces v size p plan some piece =
     let inside : i * size < p.count = part_within size i p.count some (omega arith) in
     piece_within v (part_of size p i) (p.first / v.repeats) (omega arith) facts.cell (omega arith) (omega arith)))
 
-pub pieces_are_pieces : SpansWithin → (l : Contents) (size : ℕ) → IsPlan l.plan → 1 ≤ size → All (λ p. IsTrue (is_piece l.plan p)) (pieces_of l size)
+pub pieces_are_pieces : SpansWithin → (l : Contents) (size : ℕ) → IsPlan l.plan → 1 ≤ size
+    → All (λ p. IsTrue (is_piece l.plan p)) (pieces_of l size)
 pieces_are_pieces within l size plan some =
-    All-flat_map (λ p. IsTrue (is_piece l.plan p)) (parts_of size) (gaps_of l) (λ k d low. parts_are_pieces l.plan size (get_or (gaps_of l) k d) plan some (gaps_are_pieces within l k d low))
+    All-flat_map (λ p. IsTrue (is_piece l.plan p)) (parts_of size) (gaps_of l)
+    (λ k d low. parts_are_pieces l.plan size (get_or (gaps_of l) k d) plan some (gaps_are_pieces within l k d low))

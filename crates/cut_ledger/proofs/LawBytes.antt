@@ -1,10 +1,11 @@
--- What can be written of a table, and what has been: a front of it.
-use Rattle.std.proofs.Common.{◌≡◌, ℕ, ◌+◌, ◌*◌, ◌<◌, ◌≤◌, true, List, ◌++◌, length, take, drop, sym, ap, ◌∙◌, arith, append_assoc, length-append, length-take-le, take-append-drop}
+-- What can be written of a table, and what has been: a prefix of it.
+use Rattle.std.proofs.Common.{◌≡◌, ℕ, ◌+◌, ◌*◌, ◌<◌, ◌≤◌, true, List, ◌++◌, length, take, drop, sym, ap, ◌∙◌, arith}
+use Rattle.std.proofs.Common.{append_assoc, length-append, length-take-le, take-append-drop}
 use Rattle.std.proofs.Math.Nat.{mul-le-mul_right, add-mul}
 use Rattle.std.proofs.Math.Seq.{take-append_seam}
 use Rattle.std.proofs.lemmas.List.{take-append-le}
 use Rattle.std.proofs.lemmas.List.Concat.{flat_map-append}
-use Rattle.cut_lists.proofs.Fronts.{flat_map_front, longer_front, whole_front}
+use Rattle.cut_lists.proofs.Prefixes.{flat_map_prefix, longer_prefix, whole_prefix}
 use Rattle.cut_lists.proofs.Intervals.{list_all_passing, passes_at}
 use Rattle.cut_lines.specs.Lines.{table}
 use Rattle.cut_plan.specs.Versions.{version_of}
@@ -18,35 +19,45 @@ use Rattle.cut_ledger.proofs.LawSums.{done_sums}
 
 -- a trial of a cell of the plan is one of the plan
 pub in_plan : (c n r t : ℕ) → c < n → t < c * r + r → t < n * r
-in_plan c n r t low at = let le : (c + 1) * r ≤ n * r = mul-le-mul_right r (omega (arith, low)) in omega (arith, le, add-mul c 1 r, at)
+in_plan c n r t low at = let le : (c + 1) * r ≤ n * r = mul-le-mul_right r (omega (arith, low))
+    in omega (arith, le, add-mul c 1 r, at)
 
--- the lines of the cells in front that are done, as the table has them
+-- the lines of the first cells that are done, as the table has them
 abbrev pub lines_done : Values → Contents → List ℕ
 lines_done v l = flat_map (λ c. line_of v c) (take_while (cell_done l) (range_with_len 0 (length (cells_of v))))
 
-pub available_is : (v : Values) (l : Contents) → IsFounded v l → available l ≡ header (version_of v.failing) ++ lines_done v l
+pub available_is : (v : Values) (l : Contents) → IsFounded v l → available l ≡ header (version_of v.failing)
+    ++ lines_done v l
 available_is v l sound =
-    ap (λ w. header (version_of w.failing) ++ flat_map (λ c. line_with w c (cell_sum l c)) (take_while (cell_done l) (range_with_len 0 (length (cells_of w))))) sound.plan
-    ∙ ap (λ ys. header (version_of v.failing) ++ ys) (flat_map_front (λ c. line_with v c (cell_sum l c)) (λ c. line_of v c) (cell_done l) (range_with_len 0 (length (cells_of v)))
-    (λ c done. ap (λ (x : Totals). line_with v c x) (done_sums v l c sound.plan sound.some sound.base sound.apart done)))
+    ap (λ w. header (version_of w.failing) ++ flat_map (λ c. line_with w c (cell_sum l c))
+    (take_while (cell_done l) (range_with_len 0 (length (cells_of w))))) sound.plan
+    ∙ ap (λ ys. header (version_of v.failing) ++ ys)
+    (flat_map_prefix (λ c. line_with v c (cell_sum l c)) (λ c. line_of v c) (cell_done l)
+    (range_with_len 0 (length (cells_of v)))
+    (λ c done. ap (λ (x : Totals). line_with v c x)
+    (done_sums v l c sound.plan sound.some sound.base sound.apart done)))
 
--- it is a front of the table
-pub available_front : (v : Values) (l : Contents) → IsFounded v l → (rest : List ℕ) × (table v ≡ available l ++ rest)
+-- it is a prefix of the table
+pub available_prefix : (v : Values) (l : Contents) → IsFounded v l → (rest : List ℕ) × (table v ≡ available l ++ rest)
 unfolding table
-available_front v l sound =
+available_prefix v l sound =
     let all : List ℕ = range_with_len 0 (length (cells_of v)) in
     let n : ℕ = prefix_len (cell_done l) all in
     let lines : List ℕ → List ℕ = λ cs. flat_map (λ c. line_of v c) cs in (
       lines (drop n all),
-      ap (λ cs. header (version_of v.failing) ++ lines cs) (sym (take-append-drop n all)) ∙ ap (λ ys. header (version_of v.failing) ++ ys) (flat_map-append (λ c. line_of v c) (take n all) (drop n all))
+      ap (λ cs. header (version_of v.failing) ++ lines cs) (sym (take-append-drop n all))
+          ∙ ap (λ ys. header (version_of v.failing) ++ ys)
+          (flat_map-append (λ c. line_of v c) (take n all) (drop n all))
           ∙ sym (append_assoc (header (version_of v.failing)) (lines (take n all)) (lines (drop n all)))
           ∙ ap (λ ys. ys ++ lines (drop n all)) (sym (available_is v l sound)),
     )
 
 -- and grows with what is held
-pub available_grows : (v : Values) (k l : Contents) → IsFounded v k → IsFounded v l → ((c : ℕ) → cell_done k c ≡ true → cell_done l c ≡ true) → length (available k) ≤ length (available l)
+pub available_grows : (v : Values) (k l : Contents) → IsFounded v k → IsFounded v l
+    → ((c : ℕ) → cell_done k c ≡ true → cell_done l c ≡ true) → length (available k) ≤ length (available l)
 available_grows v k l fewer more grows =
-    let longer = longer_front (λ c. line_of v c) (cell_done k) (cell_done l) (range_with_len 0 (length (cells_of v))) grows in
+    let longer = longer_prefix (λ c. line_of v c) (cell_done k) (cell_done l) (range_with_len 0 (length (cells_of v)))
+    grows in
     omega (
       arith,
       longer,
@@ -61,33 +72,44 @@ pub available_whole : (v : Values) (l : Contents) → IsFounded v l → is_compl
 unfolding table
 available_whole v l sound complete =
     let held : (t : ℕ) → t < trial_count v → has l t ≡ true = λ t low.
-    passes_at (has l) 0 (trial_count v) (ap (λ w. list_all (has l) (all_trials w)) (sym sound.plan) ∙ complete) t (omega arith) (omega (arith, low)) in
+    passes_at (has l) 0 (trial_count v) (ap (λ w. list_all (has l) (all_trials w)) (sym sound.plan) ∙ complete) t
+    (omega arith) (omega (arith, low)) in
     let done : (c : ℕ) → 0 ≤ c → c < 0 + length (cells_of v) → cell_done l c ≡ true = λ c low high.
     ap (λ w. list_all (has l) (trials_of_cell w c)) sound.plan
-    ∙ list_all_passing (has l) (c * v.repeats) v.repeats (λ t from to. held t (in_plan c (length (cells_of v)) v.repeats t (omega (arith, high)) to)) in
+    ∙ list_all_passing (has l) (c * v.repeats) v.repeats
+    (λ t from to. held t (in_plan c (length (cells_of v)) v.repeats t (omega (arith, high)) to)) in
     available_is v l sound
-    ∙ ap (λ cs. header (version_of v.failing) ++ flat_map (λ c. line_of v c) cs) (whole_front (cell_done l) (range_with_len 0 (length (cells_of v))) (list_all_passing (cell_done l) 0 (length (cells_of v)) done))
+    ∙ ap (λ cs. header (version_of v.failing) ++ flat_map (λ c. line_of v c) cs)
+    (whole_prefix (cell_done l) (range_with_len 0 (length (cells_of v)))
+    (list_all_passing (cell_done l) 0 (length (cells_of v)) done))
 
 -- ---- what has been written
 
--- the first bytes of a text have been written, no more than a front of it has
-pub record Written (text : List ℕ) (sent : ℕ) (bytes : List ℕ) (front : List ℕ) : Type 0 where
-  pub within : sent ≤ length front
+-- the first bytes of a text have been written, no more than a prefix of it has
+pub record Written (text : List ℕ) (sent : ℕ) (bytes : List ℕ) (prefix : List ℕ) : Type 0 where
+  pub within : sent ≤ length prefix
   pub first : bytes ≡ take sent text
 
-pub written_more : (text front rest bytes : List ℕ) (sent n : ℕ) → text ≡ front ++ rest → Written text sent bytes front
-    → Written text (sent + length (take n (drop sent front))) (bytes ++ take n (drop sent front)) front
-written_more text front rest bytes sent n whole before =
-    let more : List ℕ = take n (drop sent front) in
-    let last : List ℕ = drop n (drop sent front) in
-    let first : List ℕ = take sent front in
-    let split : front ≡ (first ++ more) ++ last = sym (take-append-drop sent front) ∙ ap (λ xs. first ++ xs) (sym (take-append-drop n (drop sent front))) ∙ sym (append_assoc first more last) in
-    let long : length first ≡ sent = length-take-le sent front before.within in
-    let size : length (first ++ more) ≡ sent + length more = length-append first more ∙ ap (λ k. k + length more) long in
-    let text_is : text ≡ (first ++ more) ++ (last ++ rest) = whole ∙ ap (λ xs. xs ++ rest) split ∙ append_assoc (first ++ more) last rest in
-    let start : take sent text ≡ first = ap (λ xs. take sent xs) whole ∙ take-append-le sent front rest before.within in
+pub written_more : (text prefix rest bytes : List ℕ) (sent n : ℕ) → text ≡ prefix ++ rest
+    → Written text sent bytes prefix
+    → Written text (sent + length (take n (drop sent prefix))) (bytes ++ take n (drop sent prefix)) prefix
+written_more text prefix rest bytes sent n whole before =
+    let more : List ℕ = take n (drop sent prefix) in
+    let last : List ℕ = drop n (drop sent prefix) in
+    let first : List ℕ = take sent prefix in
+    let split : prefix ≡ (first ++ more) ++ last = sym (take-append-drop sent prefix)
+    ∙ ap (λ xs. first ++ xs) (sym (take-append-drop n (drop sent prefix))) ∙ sym (append_assoc first more last) in
+    let long : length first ≡ sent = length-take-le sent prefix before.within in
+    let size : length (first ++ more) ≡ sent + length more = length-append first more ∙ ap (λ k. k + length more) long
+    in
+    let text_is : text ≡ (first ++ more) ++ (last ++ rest) = whole ∙ ap (λ xs. xs ++ rest) split
+    ∙ append_assoc (first ++ more) last rest in
+    let start : take sent text ≡ first = ap (λ xs. take sent xs) whole ∙ take-append-le sent prefix rest before.within
+    in
     record {
       within = omega (arith, size, length-append (first ++ more) last, ap (λ xs. length xs) split);
       first = ap (λ xs. xs ++ more) (before.first ∙ start)
-          ∙ sym (ap (λ xs. take (sent + length more) xs) text_is ∙ ap (λ k. take k ((first ++ more) ++ (last ++ rest))) (sym size) ∙ take-append_seam (first ++ more) (last ++ rest));
+          ∙ sym (ap (λ xs. take (sent + length more) xs) text_is
+          ∙ ap (λ k. take k ((first ++ more) ++ (last ++ rest))) (sym size)
+          ∙ take-append_seam (first ++ more) (last ++ rest));
     }

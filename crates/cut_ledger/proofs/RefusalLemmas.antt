@@ -9,20 +9,23 @@ use Rattle.cut_ledger.specs.Refusals.{is_same_plan}
 
 pub same_plan : (a b : Values) (r : Bool) → (IsTrue r ↔ (canonical_text a ≡ canonical_text b)) → is_same_plan a b ≡ r
 unfolding is_same_plan
-same_plan a b r told =
-    same_from_decides _ r (slice_eq-Decides Decides-eqb (canonical_text a) (canonical_text b) (is_same_plan a b) refl) told
+same_plan a b r reported =
+    same_from_decides _ r (slice_eq-Decides Decides-eqb (canonical_text a) (canonical_text b) (is_same_plan a b) refl)
+    reported
 
 -- ---- the three answers
 
 pub refusal_other : (l : Contents) (r : Computed) → is_same_plan l.plan r.plan ≡ false → Some Stranger ≡ refusal_of l r
 refusal_other l r other = ap (λ b. cond b (cond (overlaps l r.piece) (Some Overlap) None) (Some Stranger)) (sym other)
 
-pub refusal_held : (l : Contents) (r : Computed) → is_same_plan l.plan r.plan ≡ true → overlaps l r.piece ≡ true → Some Overlap ≡ refusal_of l r
+pub refusal_held : (l : Contents) (r : Computed) → is_same_plan l.plan r.plan ≡ true → overlaps l r.piece ≡ true
+    → Some Overlap ≡ refusal_of l r
 refusal_held l r same held =
     ap (λ b. cond b (Some Overlap) None) (sym held)
     ∙ ap (λ b. cond b (cond (overlaps l r.piece) (Some Overlap) None) (Some Stranger)) (sym same)
 
-pub refusal_none : (l : Contents) (r : Computed) → is_same_plan l.plan r.plan ≡ true → overlaps l r.piece ≡ false → None ≡ refusal_of l r
+pub refusal_none : (l : Contents) (r : Computed) → is_same_plan l.plan r.plan ≡ true → overlaps l r.piece ≡ false → None
+    ≡ refusal_of l r
 refusal_none l r same free =
     ap (λ b. cond b (Some Overlap) None) (sym free)
     ∙ ap (λ b. cond b (cond (overlaps l r.piece) (Some Overlap) None) (Some Stranger)) (sym same)

@@ -12,5 +12,5 @@ abbrev pub has_room : Account → ℕ → Bool
 has_room a c = slice_index_or a.room c false
 
 -- the room of every cell but number c is as before
-abbrev pub KeepsOtherRoom : Account → Account → ℕ → Type 0
-KeepsOtherRoom old new c = new.room ≡ slice_set old.room c (has_room new c)
+abbrev pub KeepsRoomOfOthers : Account → Account → ℕ → Type 0
+KeepsRoomOfOthers old new c = new.room ≡ slice_set old.room c (has_room new c)

@@ -18,8 +18,8 @@ abbrev pub pieces_in : Inside → List Piece
 pieces_in d = flat_map (parts_of d.size) (gaps_in d.stretches.items)
 
 -- beside each gap stands how many pieces there are up to its end
-abbrev pub AreCounted : ℕ → List Stretch → Type 0
-AreCounted size ss =
+abbrev pub ArePiecesCounted : ℕ → List Stretch → Type 0
+ArePiecesCounted size ss =
     (i : ℕ) (d : Stretch) → i < length ss → (slice_index_or ss i d).end ≡ length (pieces_up_to size ss (i + 1))
 
 -- each gap ends below 2^32
@@ -39,5 +39,5 @@ piece_of size s number = part_of size s.gap (number - (s.end - div_ceil s.gap.co
 pub record IsDivision (d : Inside) : Type 0 where
   pub some : 1 ≤ d.size
   pub within : AreWithin d.stretches.items
-  pub counted : AreCounted d.size d.stretches.items
+  pub counted : ArePiecesCounted d.size d.stretches.items
   pub few : length (pieces_in d) < 2 ^ 32

@@ -26,6 +26,6 @@ part_of size p i = record { first = p.first + i * size; count = min size (p.coun
 abbrev pub parts_of : ℕ → Piece → List Piece
 parts_of size p = map (part_of size p) (range_with_len 0 (div_ceil p.count size))
 
--- the gaps in order, each cut from its front into pieces of a size
+-- the gaps in order, each cut from its beginning into pieces of a size
 abbrev pub pieces_of : Contents → ℕ → List Piece
 pieces_of l size = flat_map (parts_of size) (gaps_of l)

@@ -1,5 +1,6 @@
 -- Laws of gaps, of the pieces that they are cut into, and of plans that are the same.
-use Rattle.std.specs.Prelude.{◌≡◌, ℕ, ◌<◌, ◌≤◌, ◌↔◌, not, filter, List, [], Some, fold, length, take, slice_get, true, false, IsTrue}
+use Rattle.std.specs.Prelude.{◌≡◌, ℕ, ◌<◌, ◌≤◌, ◌↔◌, not, filter, List, [], Some, fold, length, take, slice_get, true}
+use Rattle.std.specs.Prelude.{false, IsTrue}
 use Rattle.std.specs.List.{flat_map}
 use Rattle.cut_plan.specs.Cells.{cells_of}
 use Rattle.cut_plan.specs.Plan.{IsPlan}
@@ -8,7 +9,8 @@ use Rattle.cut_trial.specs.declared.piece.Piece.{Piece}
 use Rattle.cut_trial.specs.Sum.{sum_of, trials_in, trials_of_cell}
 use Rattle.cut_lines.specs.Lines.{table}
 use Rattle.cut_ledger.specs.declared.slip.Slip.{Slip}
-use Rattle.cut_ledger.specs.Contents.{Contents, has, all_trials, over_base, with_piece, overlaps, cell_done, is_complete, sum_where}
+use Rattle.cut_ledger.specs.Contents.{Contents, has, all_trials, over_base, with_piece, overlaps, cell_done}
+use Rattle.cut_ledger.specs.Contents.{is_complete, sum_where}
 use Rattle.cut_ledger.specs.Gaps.{gaps_of, pieces_of}
 use Rattle.cut_ledger.specs.Machine.{available, table_over}
 use Rattle.cut_ledger.specs.Refusals.{is_same_plan}
@@ -45,8 +47,8 @@ abbrev pub PiecesFill : Type 0
 PiecesFill = (l : Contents) (size : ℕ) → 1 ≤ size → AreFilling l (pieces_of l size)
 
 -- and what can be written then is the table over the ledger's slips
-abbrev pub FilledTellTheirTable : Type 0
-FilledTellTheirTable =
+abbrev pub FilledGiveTheirTable : Type 0
+FilledGiveTheirTable =
     (v : Values) (ss : List Slip) (size : ℕ) → 1 ≤ size
     → available (with_pieces (over_base v ss) (pieces_of (over_base v ss) size)) ≡ table_over v ss
 
@@ -55,8 +57,8 @@ abbrev pub TrueSlipsAreGood : Type 0
 TrueSlipsAreGood = (v : Values) (ss : List Slip) → AreTrue v ss → AreGood v ss
 
 -- and the table over them is the table of the plan
-abbrev pub TrueSlipsTellTheTable : Type 0
-TrueSlipsTellTheTable = (v : Values) (ss : List Slip) → IsPlan v → AreTrue v ss → table_over v ss ≡ table v
+abbrev pub TrueSlipsGiveTheTable : Type 0
+TrueSlipsGiveTheTable = (v : Values) (ss : List Slip) → IsPlan v → AreTrue v ss → table_over v ss ≡ table v
 
 -- and what such slips and the trials that they lack make of each cell are the sums over its trials
 abbrev pub TrueSlipsSumAll : Type 0

@@ -24,7 +24,7 @@ use Rattle.cut_ledger.specs.Gaps.{pieces_of}
 use Rattle.cut_ledger.specs.FaultCode.{code_of}
 use Rattle.cut_ledger.specs.Refusals.{refusal_of}
 
-pub record State : Type 0 where
+pub record StudyState : Type 0 where
   -- what is held; its plan and its base are the run's
   pub ledger : Contents
   -- whether slips are kept on a disk
@@ -44,7 +44,7 @@ pub record State : Type 0 where
 
 -- ---- bytes
 
--- the cells in front that are done, up to the first that is not
+-- the first cells that are done, up to one that is not
 abbrev pub cells_done : Contents → List ℕ
 cells_done l = take_while (cell_done l) (range_with_len 0 (length (cells_of l.plan)))
 
@@ -58,13 +58,13 @@ abbrev pub table_over : Values → List Slip → List ℕ
 table_over v ss = available (filled v ss)
 
 -- what the wire takes next, at most n bytes
-abbrev pub next_bytes : State → ℕ → List ℕ
+abbrev pub next_bytes : StudyState → ℕ → List ℕ
 next_bytes s n = if s.wire_lost then [] else take n (drop s.sent (available s.ledger))
 
 -- ---- opening
 
 -- a study over slips that were kept, divided anew
-abbrev pub opened : Values → Bool → List Slip → ℕ → State
+abbrev pub opened : Values → Bool → List Slip → ℕ → StudyState
 opened v has_journal slips size = record {
   ledger = over_base v slips;
   has_journal = has_journal;
@@ -79,7 +79,7 @@ opened v has_journal slips size = record {
 }
 
 -- a study that begins
-abbrev pub start : Values → ℕ → Bool → State
+abbrev pub start : Values → ℕ → Bool → StudyState
 start v size has_journal = opened v has_journal [] size
 
 -- the slips of an option
@@ -89,7 +89,7 @@ some_slip (Some slip) = slip ∷ []
 
 -- the slips that are found at a resumption: with a journal those that are kept, and the doubtful one if it
 -- is, and else none
-abbrev pub slips_found : State → Bool → List Slip
+abbrev pub slips_found : StudyState → Bool → List Slip
 slips_found s keep = if s.has_journal then s.kept ++ (if keep then some_slip s.doubtful else []) else []
 
 -- ---- results
@@ -99,22 +99,22 @@ abbrev pub slip_of : Computed → Slip
 slip_of r = record { piece = r.piece; totals = sum_of r.plan (trials_in r.piece) }
 
 -- why a result is refused, if it is: an append has failed, or the ledger refuses it
-abbrev pub refused_code : State → Computed → Option FaultCode
+abbrev pub refused_code : StudyState → Computed → Option FaultCode
 refused_code s r = if s.broken then Some code.Checkpoint else option_map code_of (refusal_of s.ledger r)
 
 -- a result that is not refused is taken
-abbrev pub taken : State → Computed → State
+abbrev pub taken : StudyState → Computed → StudyState
 taken s r = record s {
   ledger = with_piece s.ledger r.piece;
   kept = if s.has_journal then s.kept ++ slip_of r ∷ [] else s.kept;
 }
 
 -- or its append has failed
-abbrev pub failed : State → Computed → State
+abbrev pub failed : StudyState → Computed → StudyState
 failed s r = record s { doubtful = Some (slip_of r); broken = true }
 
 -- the state after a result, by whether it was refused
-abbrev pub unless_refused : Option FaultCode → State → State → State
+abbrev pub unless_refused : Option FaultCode → StudyState → StudyState → StudyState
 unless_refused None old new = new
 unless_refused (Some code) old new = old
 
@@ -131,11 +131,11 @@ drawn_piece None = reply.NoPiece
 drawn_piece (Some p) = reply.Piece p
 
 -- every trial is held, and the wire has taken the whole table
-abbrev pub is_finished : State → Bool
+abbrev pub is_finished : StudyState → Bool
 is_finished s = is_complete s.ledger && (not s.wire_lost && (s.sent == length (available s.ledger)))
 
 -- what is answered to an event
-abbrev pub reply_to : State → Event → replies.Reply
+abbrev pub reply_to : StudyState → Event → replies.Reply
 reply_to s Draw = drawn_piece (slice_get s.division s.drawn)
 reply_to s (HandIn r) = accepted_unless (refused_code s r)
 reply_to s (HandInDiskFails r) = reply.Refused (unwrap_or (refused_code s r) code.Checkpoint)
@@ -150,7 +150,7 @@ reply_to s Finish =
     else (if list_any (λ is_lost. is_lost) s.lost then reply.Refused code.WorkMemory else reply.NotYet))
 
 -- the state after an event
-abbrev pub after : State → Event → State
+abbrev pub after : StudyState → Event → StudyState
 after s Draw = record s { drawn = if nat_lt s.drawn (length s.division) then s.drawn + 1 else s.drawn }
 after s (HandIn r) = unless_refused (refused_code s r) s (taken s r)
 after s (HandInDiskFails r) = unless_refused (refused_code s r) s (failed s r)
@@ -162,17 +162,17 @@ after s NewWire = record s { sent = 0; wire_lost = false }
 after s Finish = s
 
 -- an event that a run can be given: pieces of a new division have some size
-abbrev pub IsSized : Event → Type 0
-IsSized (CrashReopen keep size) = 0 < size
-IsSized event = ⊤
+abbrev pub IsSizedEvent : Event → Type 0
+IsSizedEvent (CrashReopen keep size) = 0 < size
+IsSizedEvent event = ⊤
 
 -- whether only the length of the table is left to ask: every trial is held, and the wire is good
-abbrev pub is_all_held : State → Bool
+abbrev pub is_all_held : StudyState → Bool
 is_all_held s = is_complete s.ledger && not s.wire_lost
 
 -- an event that is answered without memory. Some is needed to take a result that is not refused, to open a
--- study, to write to a good wire, and to tell how long the whole table is.
-abbrev pub TakesNone : State → Event → Type 0
+-- study, to write to a good wire, and to say how long the whole table is.
+abbrev pub TakesNone : StudyState → Event → Type 0
 TakesNone s (HandIn r) = IsSome (refused_code s r)
 TakesNone s (CrashReopen keep size) = ⊥
 TakesNone s (Emit n) = s.wire_lost ≡ true

@@ -6,7 +6,7 @@ use Rattle.cut_plan.specs.Cells.{trial_count}
 use Rattle.cut_trial.specs.Outcome.{one_if}
 use Rattle.cut_ledger.specs.declared.slip.Slip.{Slip}
 use Rattle.cut_ledger.specs.Contents.{Contents, has, is_in}
-use Rattle.cut_ledger.specs.Machine.{State, available}
+use Rattle.cut_ledger.specs.Machine.{StudyState, available}
 use Rattle.cut_ledger.specs.World.{IsTrueSlip, times_in, pieces_of_slips}
 
 -- the slip of an append that failed: it is true, and none of its trials is held
@@ -23,7 +23,7 @@ pub record IsFounded (v : Values) (l : Contents) : Type 0 where
   pub apart : (t : ℕ) → times_in (pieces_of_slips l.base) t ≤ 1
 
 -- the state of a run of a plan
-pub record IsReached (v : Values) (s : State) : Type 0 where
+pub record IsReached (v : Values) (s : StudyState) : Type 0 where
   pub ledger : IsFounded v s.ledger
   -- the slips that are kept are true, and each of their trials is held, in one of them
   pub kept : AllByRecursion (IsTrueSlip v) s.kept

@@ -1,9 +1,9 @@
 -- What of a `Run` contracts see, and what is always true of it.
 use Rattle.cut_ledger.specs.declared.run.Run.TheInside.{Inside}
-use Rattle.cut_ledger.specs.Machine.{State}
+use Rattle.cut_ledger.specs.Machine.{StudyState}
 use Rattle.cut_ledger.specs.Reached.{IsReached}
 
-abbrev pub state_of : Inside → State
+abbrev pub state_of : Inside → StudyState
 state_of r = record {
   ledger = r.ledger.contents;
   has_journal = r.has_journal;
@@ -17,5 +17,5 @@ state_of r = record {
   wire_lost = r.wire_lost;
 }
 
-abbrev pub IsRun : Inside → Type 0
-IsRun r = IsReached r.ledger.contents.plan (state_of r)
+abbrev pub IsStudyRun : Inside → Type 0
+IsStudyRun r = IsReached r.ledger.contents.plan (state_of r)

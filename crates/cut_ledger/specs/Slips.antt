@@ -31,7 +31,7 @@ pub record IsFirstBad (v : Values) (ss : List Slip) (n : ℕ) : Type 0 where
   pub earlier : AreGoodUpTo v ss (n - 1)
   pub bad : (d : Slip) → IsGood v (take (n - 1) ss) (slice_index_or ss (n - 1) d) → ⊥
 
--- what a fault says of slips: it is want of memory, which says nothing, or tells the first bad one
-abbrev pub IsToldOf : Values → List Slip → SlipsFault → Type 0
-IsToldOf v ss Memory = ⊤
-IsToldOf v ss (BadSlip n) = IsFirstBad v ss n
+-- what a fault says of slips: memory ran out, which says nothing of them, or it names the first bad one
+abbrev pub IsFaultOfSlips : Values → List Slip → SlipsFault → Type 0
+IsFaultOfSlips v ss Memory = ⊤
+IsFaultOfSlips v ss (BadSlip n) = IsFirstBad v ss n

@@ -14,17 +14,17 @@ use Rattle.cut_ledger.specs.declared.event.Event.TheVariants.{Finish}
 use Rattle.cut_ledger.specs.declared.event.Reply as replies
 use Rattle.cut_ledger.specs.declared.event.Reply.TheVariants as reply
 use Rattle.cut_ledger.specs.Contents.{is_in, has, is_complete}
-use Rattle.cut_ledger.specs.Machine.{State, available, after, reply_to}
+use Rattle.cut_ledger.specs.Machine.{StudyState, available, after, reply_to}
 
 -- the state of a run, the bytes that the present wire took, joined, and the pieces whose results were
 -- accepted since the study was opened
 pub record World : Type 0 where
-  pub state : State
+  pub state : StudyState
   pub bytes : List ℕ
   pub accepted : List pieces.Piece
 
 -- a run that nothing has happened to
-abbrev pub begun : State → World
+abbrev pub begun : StudyState → World
 begun s = record { state = s; bytes = []; accepted = [] }
 
 -- the bytes that the present wire took, after an event and its reply
@@ -83,7 +83,7 @@ HasTrueResult event = ⊤
 pub record IsRight (v : Values) (w : World) : Type 0 where
   -- it is a run of that plan
   pub plan : w.state.ledger.plan ≡ v
-  -- what the present wire took is the front of the plan's table
+  -- what the present wire took is a prefix of the plan's table
   pub begins : (rest : List ℕ) × (table v ≡ w.bytes ++ rest)
   -- and all of it where the run is done
   pub whole : reply_to w.state Finish ≡ reply.Done → w.bytes ≡ table v
@@ -98,7 +98,7 @@ pub record IsRight (v : Values) (w : World) : Type 0 where
   pub apart : (t : ℕ) → times_in (pieces_of_slips w.state.kept) t ≤ 1
 
 -- two runs that hold every trial can write the same bytes, and two that are done have written the same
-pub record TellAlike (a b : World) : Type 0 where
+pub record SayAlike (a b : World) : Type 0 where
   pub offered : IsTrue (is_complete a.state.ledger) → IsTrue (is_complete b.state.ledger) →
       available a.state.ledger ≡ available b.state.ledger
   pub written : reply_to a.state Finish ≡ reply.Done → reply_to b.state Finish ≡ reply.Done →

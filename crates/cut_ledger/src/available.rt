@@ -8,7 +8,7 @@ use crate::Ledger;
 use cut_lines::{cell_line, header};
 use std::alloc::{AllocError, Global};
 
-/// The part of a study's table that can be written: the header, and the lines of the cells in front that are
+/// The part of a study's table that can be written: the header, and the lines of the first cells that are
 /// done.
 pub(crate) fn available(alloc: Global, ledger: &Ledger) -> Result<Vec<u8>, AllocError>
     ensures { IfOk result (λ text. text.items ≡ available ledger.now.contents) }
@@ -21,7 +21,7 @@ pub(crate) fn available(alloc: Global, ledger: &Ledger) -> Result<Vec<u8>, Alloc
     Ok(text)
 }
 
-/// How many cells in front are done, up to the first that is not.
+/// How many of the first cells are done, up to one that is not.
 fn cells_done(ledger: &Ledger) -> u32
     ensures { result ≡ prefix_len (cell_done ledger.now.contents)
         (range_with_len 0 (length (cells_of ledger.now.contents.plan))) }

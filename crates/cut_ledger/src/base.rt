@@ -42,7 +42,7 @@ impl Base {
         self.slips.as_slice()
     }
 
-    /// A copy of the base. Fails only for want of memory.
+    /// A copy of the base. Fails only where memory runs out.
     pub fn try_clone(&self, alloc: Global) -> Result<Base, AllocError>
         ensures { IfOk result (λ base. base ≡ self.now) }
     {

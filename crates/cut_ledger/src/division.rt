@@ -16,7 +16,7 @@ struct Stretch {
     end: u32,
 }
 
-/// How the gaps of a ledger are cut into pieces of one size, each gap from its front, its last piece shorter
+/// How the gaps of a ledger are cut into pieces of one size, each gap from its beginning, its last piece shorter
 /// where less is left. Contracts see it as the list of its pieces, in order.
 ///
 /// It takes memory for each gap and none for a piece: a piece is worked out from its number.

@@ -11,7 +11,7 @@ pub enum Event {
     HandIn(PieceResult),
     /// A worker hands in a result, and the disk fails in the append of its slip.
     HandInDiskFails(PieceResult),
-    /// The piece of this number, counted from 0 in the division, is lost for want of memory.
+    /// The piece of this number, counted from 0 in the division, is lost, as memory ran out.
     Lose(u64),
     /// The program ends, at whatever moment, and the study is resumed from its slips.
     CrashReopen {

@@ -1,4 +1,5 @@
-ghost use Rattle.std.specs.Prelude.{◌≡◌, ◌+◌, ◌*◌, ◌/◌, ◌≤◌, ◌↔◌, false, List, [], length, IfOk, OnOk, OnErr, IsOk, IsTrue};
+ghost use Rattle.std.specs.Prelude.{◌≡◌, ◌+◌, ◌*◌, ◌/◌, ◌≤◌, ◌↔◌, false, List, [], length, IfOk, OnOk, OnErr, IsOk};
+ghost use Rattle.std.specs.Prelude.{IsTrue};
 ghost use Rattle.std.specs.List.{list_any};
 ghost use Rattle.cut_plan.specs.Cells.{trial_count};
 ghost use Rattle.cut_trial.specs.Sum.{is_piece, trials_in, IsAtMost};

@@ -6,11 +6,11 @@ ghost use Rattle.std.specs.List.{AllByRecursion};
 ghost use Rattle.cut_plan.specs.Values.{Values};
 ghost use Rattle.cut_plan.specs.Plan.{IsPlan};
 ghost use Rattle.cut_ledger.specs.Laws.{GapsCover, PiecesCover, SamePlansAreEqual};
-ghost use Rattle.cut_ledger.specs.Laws.{PiecesFill, CompleteIsDone, FilledTellTheirTable};
-ghost use Rattle.cut_ledger.specs.Laws.{TrueSlipsAreGood, TrueSlipsTellTheTable, TrueSlipsSumAll, NoSlipsAreTrue};
+ghost use Rattle.cut_ledger.specs.Laws.{PiecesFill, CompleteIsDone, FilledGiveTheirTable};
+ghost use Rattle.cut_ledger.specs.Laws.{TrueSlipsAreGood, TrueSlipsGiveTheTable, TrueSlipsSumAll, NoSlipsAreTrue};
 ghost use Rattle.cut_ledger.specs.declared.event.Event.{Event};
 ghost use Rattle.cut_ledger.specs.Machine.{start};
-ghost use Rattle.cut_ledger.specs.World.{begun, run, HasTrueResult, IsRight, TellAlike};
+ghost use Rattle.cut_ledger.specs.World.{begun, run, HasTrueResult, IsRight, SayAlike};
 
 use cut_plan::canonical_text_reads_back;
 use cut_trial::laws::pieces_have_possible_totals;
@@ -31,24 +31,24 @@ pub fn gaps_are_what_is_not_held()
 pub fn pieces_fill_a_ledger()
     ensures fill { PiecesFill }
     ensures done { CompleteIsDone }
-    ensures table { FilledTellTheirTable }
+    ensures table { FilledGiveTheirTable }
 {
     spans_are_what_passes();
 }
 
 /// Slips that are true, no trial of which is in two, are good ones to begin a ledger with, and the table over
-/// them is the table of the plan: so a study that is resumed from such slips, or from none, tells what a study
+/// them is the table of the plan: so a study that is resumed from such slips, or from none, gives what a study
 /// does that ran at once.
-pub fn true_slips_tell_the_table()
+pub fn true_slips_give_the_table()
     ensures good { TrueSlipsAreGood }
-    ensures table { TrueSlipsTellTheTable }
+    ensures table { TrueSlipsGiveTheTable }
     ensures sums { TrueSlipsSumAll }
     ensures none { NoSlipsAreTrue }
 {
     pieces_have_possible_totals();
 }
 
-/// Plans are told apart by their canonical texts, and a plan can be read back from its own: so plans that
+/// Plans are distinguished by their canonical texts, and a plan can be read back from its own: so plans that
 /// are the same are equal in every value.
 pub fn same_plans_are_equal()
     ensures { SamePlansAreEqual }
@@ -57,7 +57,7 @@ pub fn same_plans_are_equal()
 }
 
 /// Every run is right: over every list of events, resumptions after crashes included, and any results of
-/// any plans, what the present wire took is the front of the plan's table, and all of it where the run
+/// any plans, what the present wire took is a prefix of the plan's table, and all of it where the run
 /// answers that it is done; each trial is held at most once; where all are held the whole table can be
 /// written; and the slips that are kept are true, no trial being in two of them.
 pub fn every_run_is_right()
@@ -67,13 +67,13 @@ pub fn every_run_is_right()
     canonical_text_reads_back();
 }
 
-/// One plan, one table: two runs of a plan that hold every trial, or that are done, tell the same table,
+/// One plan, one table: two runs of a plan that hold every trial, or that are done, give the same table,
 /// whatever their divisions, the sizes of their pieces, the order, loss and repetition of results, their
 /// wires and their crashes were.
 pub fn one_plan_has_one_table()
     ensures { (v : Values) (journal other_journal : Bool) (size other_size : ℕ) (events others : List Event)
         → IsPlan v → AllByRecursion HasTrueResult events → AllByRecursion HasTrueResult others
-        → TellAlike (run (begun (start v size journal)) events)
+        → SayAlike (run (begun (start v size journal)) events)
         (run (begun (start v other_size other_journal)) others) }
 {
     canonical_text_reads_back();

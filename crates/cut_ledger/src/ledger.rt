@@ -3,13 +3,13 @@ ghost use Rattle.std.specs.Prelude.{Some, None, IsTrue, IfOk, OnOk, OnErr, IfErr
 ghost use Rattle.cut_plan.specs.Cells.{cells_of, trial_count};
 ghost use Rattle.cut_plan.specs.Plan.{IsPlan};
 ghost use Rattle.cut_trial.specs.Sum.{is_piece};
-ghost use Rattle.cut_ledger.specs.Account.{has_room, KeepsOtherRoom};
+ghost use Rattle.cut_ledger.specs.Account.{has_room, KeepsRoomOfOthers};
 ghost use Rattle.cut_ledger.specs.Contents.{has, over_base, with_piece, cell_of_piece, cell_done, cell_sum};
 ghost use Rattle.cut_ledger.specs.Contents.{is_complete};
 ghost use Rattle.cut_ledger.specs.Gaps.{gaps_of, parts_of, pieces_of};
 ghost use Rattle.cut_ledger.specs.Kept.{AreOver};
 ghost use Rattle.cut_ledger.specs.Refusals.{CanTake, refusal_of, fault_of_offer};
-ghost use Rattle.cut_ledger.specs.Slips.{AreGood, IsToldOf};
+ghost use Rattle.cut_ledger.specs.Slips.{AreGood, IsFaultOfSlips};
 
 use crate::kept::Kept;
 use crate::spans::{pieces_at, span_of_cell};
@@ -43,7 +43,7 @@ impl Model for Ledger {
 }
 
 impl Ledger {
-    /// A ledger that holds no trial. Fails only for want of memory.
+    /// A ledger that holds no trial. Fails only where memory runs out.
     pub fn fresh(alloc: Global, plan: Plan) -> Result<Ledger, AllocError>
         ensures { IfOk result (λ l. l.contents ≡ over_base plan []) }
     {
@@ -52,13 +52,13 @@ impl Ledger {
         Ok(Ledger { plan, base, kept })
     }
 
-    /// A ledger that holds the trials of slips, with the sums that they tell. It is refused by the number
+    /// A ledger that holds the trials of slips, with their sums. It is refused by the number
     /// of the first slip that is no piece of the plan, has a trial of an earlier one, or whose totals are
     /// not possible ones.
     pub fn from_slips(alloc: Global, plan: Plan, slips: &[Slip]) -> Result<Ledger, SlipsFault>
         ensures ok { IfOk result (λ l. l.contents ≡ over_base plan slips.now) }
         ensures good { OnOk result (AreGood plan slips.now) }
-        ensures err { IfErr result (λ e. IsToldOf plan slips.now e) }
+        ensures err { IfErr result (λ e. IsFaultOfSlips plan slips.now e) }
     {
         let mut kept = Kept::none(alloc, &plan)?;
         add_slips(&mut kept, &plan, slips)?;
@@ -126,7 +126,7 @@ impl Ledger {
     }
 
     /// The gaps: the greatest runs of trials that are not held, ascending, none over two cells. Each is a
-    /// piece of the plan. Fails only for want of memory.
+    /// piece of the plan. Fails only where memory runs out.
     pub fn gaps(&self, alloc: Global) -> Result<Vec<Piece>, AllocError>
         ensures value { IfOk result (λ gaps. gaps.items ≡ gaps_of self.now.contents) }
         ensures pieces { IfOk result
@@ -142,8 +142,8 @@ impl Ledger {
         pieces_at(alloc, &gaps)
     }
 
-    /// The gaps in order, each cut from its front into pieces of this size, its last one shorter where
-    /// less is left. Fails only for want of memory.
+    /// The gaps in order, each cut from its beginning into pieces of this size, its last one shorter where
+    /// less is left. Fails only where memory runs out.
     pub fn pieces(&self, alloc: Global, size: u32) -> Result<Vec<Piece>, AllocError>
         requires { 1 ≤ size }
         ensures value { IfOk result (λ pieces. pieces.items ≡ pieces_of self.now.contents size) }
@@ -179,7 +179,7 @@ impl Ledger {
         self.kept.trials.has_room(cell)
     }
 
-    /// Makes room for a piece of a cell. Fails only for want of memory.
+    /// Makes room for a piece of a cell. Fails only where memory runs out.
     pub fn reserve(&mut self, cell: u32) -> Result<(), AllocError>
         requires { cell < length (cells_of self.old.contents.plan) }
         ensures ok { OnOk result (self.new ≡ record self.old { room = slice_set self.old.room cell true }) }
@@ -204,12 +204,12 @@ impl Ledger {
     }
 
     /// Takes a result that is not refused: its trials are held, and their outcomes in the sums. Fails
-    /// only for want of memory, and never where there is room.
+    /// only where memory runs out, and never where there is room.
     pub fn take(&mut self, offered: &PieceResult) -> Result<(), AllocError>
         requires { CanTake self.old.contents offered.now }
         ensures ok { OnOk result (self.new.contents ≡ with_piece self.old.contents offered.now.piece) }
         ensures others { OnOk result
-            (KeepsOtherRoom self.old self.new (cell_of_piece self.old.contents offered.now.piece)) }
+            (KeepsRoomOfOthers self.old self.new (cell_of_piece self.old.contents offered.now.piece)) }
         ensures room { IsTrue (has_room self.old (cell_of_piece self.old.contents offered.now.piece)) →
             IsOk result }
         ensures err { OnErr result (self.new ≡ self.old) }
@@ -222,7 +222,7 @@ impl Ledger {
         ensures free { OnOk result (refusal_of self.old.contents offered.now ≡ None) }
         ensures taken { OnOk result (self.new.contents ≡ with_piece self.old.contents offered.now.piece) }
         ensures others { OnOk result
-            (KeepsOtherRoom self.old self.new (cell_of_piece self.old.contents offered.now.piece)) }
+            (KeepsRoomOfOthers self.old self.new (cell_of_piece self.old.contents offered.now.piece)) }
         ensures err { IfErr result (λ e. e ≡ fault_of_offer (refusal_of self.old.contents offered.now)) }
         ensures unchanged { OnErr result (self.new ≡ self.old) }
         ensures room { IsTrue (has_room self.old (cell_of_piece self.old.contents offered.now.piece)) →
@@ -241,7 +241,7 @@ fn add_slips(kept: &mut Kept, plan: &Plan, slips: &[Slip]) -> Result<(), SlipsFa
     requires { AreOver plan.now [] kept.old.trials kept.old.sums.items }
     ensures ok { OnOk result (AreOver plan.now slips.now kept.new.trials kept.new.sums.items) }
     ensures good { OnOk result (AreGood plan.now slips.now) }
-    ensures err { IfErr result (λ e. IsToldOf plan.now slips.now e) }
+    ensures err { IfErr result (λ e. IsFaultOfSlips plan.now slips.now e) }
 {
     for (i, slip) in slips.iter().enumerate() {
         if !kept.is_good(plan, slip) {
@@ -252,7 +252,7 @@ fn add_slips(kept: &mut Kept, plan: &Plan, slips: &[Slip]) -> Result<(), SlipsFa
     Ok(())
 }
 
-/// Adds the parts of a piece, from its front, each of this size but for the last.
+/// Adds the parts of a piece, from its beginning, each of this size but for the last.
 fn add_parts(parts: &mut Vec<Piece>, piece: Piece, size: u32) -> Result<(), AllocError>
     requires some { 1 ≤ size }
     requires fits { piece.first + piece.count < 2 ^ 32 }

@@ -21,7 +21,7 @@ pub(crate) fn is_possible(plan: &Plan, slip: &Slip) -> bool
     are_counted(plan, cell, piece.count, totals) && are_settled(plan, cell, totals)
 }
 
-/// Whether totals are possible ones of so many trials of a cell, `settled` aside.
+/// Whether totals are possible ones of this many trials of a cell, `settled` aside.
 fn are_counted(plan: &Plan, cell: Cell, trials: u32, totals: Totals) -> bool
     requires { IsCellOf plan.now cell }
     ensures counted { IsTrue result ↔ AreCounted plan.now cell trials totals }
@@ -59,7 +59,7 @@ fn deliveries_of(plan: &Plan, cell: Cell) -> u64
     u64::from(plan.nodes()) * u64::from(cell.k) * u64::from(plan.copies())
 }
 
-/// Whether so many proposals, each after so many deliveries at most, can be settled by this number.
+/// Whether this many proposals, each after a number of deliveries at most, can be settled by this number.
 fn is_settled_by(version: Version, proposing: u64, deliveries: u64, settled: u64) -> bool
     requires proposing { proposing ≤ 2 ^ 43 }
     requires deliveries { deliveries ≤ 262144 }

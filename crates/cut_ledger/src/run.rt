@@ -6,7 +6,7 @@ ghost use Rattle.cut_trial.specs.Sum.{is_piece};
 ghost use Rattle.cut_ledger.specs.Contents.{over_base};
 ghost use Rattle.cut_ledger.specs.Refusals.{CanTake};
 ghost use Rattle.cut_ledger.specs.Machine.{start, opened, available, slips_found, next_bytes, is_finished};
-ghost use Rattle.cut_ledger.specs.Machine.{refused_code, slip_of, reply_to, after, is_all_held, IsSized};
+ghost use Rattle.cut_ledger.specs.Machine.{refused_code, slip_of, reply_to, after, is_all_held, IsSizedEvent};
 ghost use Rattle.cut_ledger.specs.Machine.{TakesNone};
 ghost use Rattle.cut_ledger.specs.World.{IsTrueSlip, times_in, pieces_of_slips};
 
@@ -21,7 +21,7 @@ use std::marker::Model;
 
 /// One study with one wire at a time: the machine whose events are what happens to a running study.
 ///
-/// Contracts see its state. Want of memory leaves it as it was.
+/// Contracts see its state. Where memory runs out it stays as it was.
 #[derive(Debug, Drop)]
 pub struct Run {
     ledger: Ledger,
@@ -37,15 +37,15 @@ pub struct Run {
 }
 
 impl Model for Run {
-    ghost use Rattle.cut_ledger.specs.Machine.{State};
+    ghost use Rattle.cut_ledger.specs.Machine.{StudyState};
 
-    ghost Value = { State };
+    ghost Value = { StudyState };
 
-    ghost use Rattle.cut_ledger.specs.RunInside.{state_of, IsRun};
+    ghost use Rattle.cut_ledger.specs.RunInside.{state_of, IsStudyRun};
 
     ghost view = { state_of };
 
-    ghost invariant = { IsRun };
+    ghost invariant = { IsStudyRun };
 }
 
 impl Run {
@@ -90,11 +90,11 @@ impl Run {
         })
     }
 
-    /// What the run answers to an event, after which it is in the state that follows. Memory is wanted only
-    /// to take a result that is not refused, to resume, to write to a good wire, and to tell at the end how
+    /// What the run answers to an event, after which it is in the state that follows. Memory is needed only
+    /// to take a result that is not refused, to resume, to write to a good wire, and to say at the end how
     /// long the whole table is.
     pub fn apply(&mut self, alloc: Global, event: Event) -> Result<Reply, AllocError>
-        requires { IsSized event }
+        requires { IsSizedEvent event }
         ensures reply { IfOk result (λ reply. reply ≡ reply_to self.old event) }
         ensures after { OnOk result (self.new ≡ after self.old event) }
         ensures free { TakesNone self.old event → IsOk result }
@@ -238,7 +238,7 @@ impl Run {
         Ok(Reply::Bytes(Bytes::from_vec(bytes)))
     }
 
-    /// The next bytes that there are for a good wire, at most so many.
+    /// The next bytes that there are for a good wire, at most `limit`.
     fn next_bytes(&self, alloc: Global, limit: u64) -> Result<Vec<u8>, AllocError>
         requires { self.now.wire_lost ≡ false }
         ensures bytes { IfOk result (λ bytes. bytes.items ≡ next_bytes self.now limit) }

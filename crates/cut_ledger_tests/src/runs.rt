@@ -1,7 +1,7 @@
 //! Runs of the machine that were worked by hand.
 
 ghost use Rattle.std.specs.Prelude.{IfOk};
-ghost use Rattle.cut_ledger.specs.Machine.{IsSized};
+ghost use Rattle.cut_ledger.specs.Machine.{IsSizedEvent};
 
 use crate::studies::{PLAN, result_of};
 use cut_ledger::{Event, Reply, Run};
@@ -100,7 +100,7 @@ fn written(alloc: Global, reply: &Reply) -> Result<String, AllocError> {
 }
 
 fn event_of(alloc: Global, plan: &Plan, step: Step) -> Result<Event, Fail>
-    ensures { IfOk result IsSized }
+    ensures { IfOk result IsSizedEvent }
 {
     let event = match step {
         Step::Draw => Event::Draw,

@@ -1,5 +1,6 @@
 -- The text of a record of numbers has no quotes.
-use Rattle.std.proofs.Common.{◌≡◌, ◌==◌, ◌||◌, ℕ, suc, get_or, append-nil, ◌+◌, ◌*◌, ◌%◌, length-append, ◌<◌, ◌≤◌, false, cond, List, [], ◌∷◌, ◌++◌, length, map, ◌^◌, refl, ap, ◌∙◌, arith}
+use Rattle.std.proofs.Common.{◌≡◌, ◌==◌, ◌||◌, ℕ, suc, get_or, append-nil, ◌+◌, ◌*◌, ◌%◌, length-append, ◌<◌, ◌≤◌}
+use Rattle.std.proofs.Common.{false, cond, List, [], ◌∷◌, ◌++◌, length, map, ◌^◌, refl, ap, ◌∙◌, arith}
 use Rattle.std.specs.Fmt.{decimal}
 use Rattle.std.specs.List.{list_any, join_with_byte}
 use Rattle.csv.specs.Writing.{default_writer, needs_byte, field_text, quoted, fields_text, is_blank, row_body, row_text}
@@ -25,7 +26,8 @@ record IsPlain (bs : List ℕ) : Type 0 where
   some : 0 < length bs
 
 one_digit : (d : ℕ) → d < 10 → list_any (needs_byte default_writer) ((48 + d) ∷ []) ≡ false
-one_digit d low = or_from (needs_byte default_writer (48 + d)) false (digit_needs_none (48 + d) (omega arith) (omega arith)) refl
+one_digit d low = or_from (needs_byte default_writer (48 + d)) false
+    (digit_needs_none (48 + d) (omega arith) (omega arith)) refl
 
 decimal_is_plain : (n : ℕ) → n < 2 ^ 64 → IsPlain (decimal n)
 decimal_is_plain n fits =
@@ -33,7 +35,8 @@ decimal_is_plain n fits =
     (λ m low. record { none = one_digit m low; some = omega arith })
     (λ m ds high plain. record {
       none = list_any-append (needs_byte default_writer) ds ((48 + m % 10) ∷ [])
-          ∙ or_from (list_any (needs_byte default_writer) ds) (list_any (needs_byte default_writer) ((48 + m % 10) ∷ [])) plain.none (one_digit (m % 10) (omega arith));
+          ∙ or_from (list_any (needs_byte default_writer) ds)
+          (list_any (needs_byte default_writer) ((48 + m % 10) ∷ [])) plain.none (one_digit (m % 10) (omega arith));
       some = omega (arith, length-append ds ((48 + m % 10) ∷ []), plain.some);
     })
     n fits
@@ -44,7 +47,8 @@ plain_field n fits =
     let known : IsPlain (decimal n) = decimal_is_plain n fits in
     ap (λ t. cond t (quoted default_writer (decimal n)) (decimal n)) known.none
 
-plain_fields : (ns : List ℕ) (n : ℕ) → ((k : ℕ) → k < length (n ∷ ns) → get_or (n ∷ ns) k 0 < 2 ^ 64) → row_body default_writer (map decimal (n ∷ ns)) ≡ join_with_byte 44 (map decimal (n ∷ ns))
+plain_fields : (ns : List ℕ) (n : ℕ) → ((k : ℕ) → k < length (n ∷ ns) → get_or (n ∷ ns) k 0 < 2 ^ 64)
+    → row_body default_writer (map decimal (n ∷ ns)) ≡ join_with_byte 44 (map decimal (n ∷ ns))
 unfolding fields_text
 plain_fields [] n fit = append-nil (field_text default_writer (decimal n)) ∙ plain_field n (fit 0 (omega arith))
 plain_fields (m ∷ ns) n fit =
@@ -55,17 +59,22 @@ not_blank : (n : ℕ) (ns : List ℕ) → n < 2 ^ 64 → is_blank default_writer
 unfolding is_blank
 not_blank n [] fits =
     let known : IsPlain (decimal n) = decimal_is_plain n fits in
-    ne_eqb (length (field_text default_writer (decimal n))) 0 (λ e. omega (arith, ap (λ x. length x) (plain_field n fits), known.some))
+    ne_eqb (length (field_text default_writer (decimal n))) 0
+    (λ e. omega (arith, ap (λ x. length x) (plain_field n fits), known.some))
 not_blank n (m ∷ ns) fits = refl
 
 -- a record of numbers is written as a line with commas
-pub row_text-numbers : (n : ℕ) (ns : List ℕ) → ((k : ℕ) → k < length (n ∷ ns) → get_or (n ∷ ns) k 0 < 2 ^ 64) → row_text default_writer (map decimal (n ∷ ns)) ≡ comma_line (n ∷ ns)
+pub row_text-numbers : (n : ℕ) (ns : List ℕ) → ((k : ℕ) → k < length (n ∷ ns) → get_or (n ∷ ns) k 0 < 2 ^ 64)
+    → row_text default_writer (map decimal (n ∷ ns)) ≡ comma_line (n ∷ ns)
 row_text-numbers n ns fit =
-    ap (λ x. x ++ (cond (is_blank default_writer (map decimal (n ∷ ns))) (34 ∷ 34 ∷ []) [] ++ 10 ∷ [])) (plain_fields ns n fit)
-    ∙ ap (λ t. join_with_byte 44 (map decimal (n ∷ ns)) ++ (cond t (34 ∷ 34 ∷ []) [] ++ 10 ∷ [])) (not_blank n ns (fit 0 (omega arith)))
+    ap (λ x. x ++ (cond (is_blank default_writer (map decimal (n ∷ ns))) (34 ∷ 34 ∷ []) [] ++ 10 ∷ []))
+    (plain_fields ns n fit)
+    ∙ ap (λ t. join_with_byte 44 (map decimal (n ∷ ns)) ++ (cond t (34 ∷ 34 ∷ []) [] ++ 10 ∷ []))
+    (not_blank n ns (fit 0 (omega arith)))
 
 -- the same, of any numbers that are not none
-pub numbers_line : (ns : List ℕ) → 0 < length ns → ((k : ℕ) → k < length ns → get_or ns k 0 < 2 ^ 64) → row_text default_writer (map decimal ns) ≡ comma_line ns
+pub numbers_line : (ns : List ℕ) → 0 < length ns → ((k : ℕ) → k < length ns → get_or ns k 0 < 2 ^ 64)
+    → row_text default_writer (map decimal ns) ≡ comma_line ns
 numbers_line [] some fit = absurd (omega arith)
 numbers_line (n ∷ ns) some fit = row_text-numbers n ns fit
 
@@ -73,11 +82,20 @@ short_decimal : (n : ℕ) → n < 2 ^ 64 → length (decimal n) ≤ 20
 short_decimal n fits = length-decimal-le 20 n (omega arith) (omega (arith, fits)) fits
 
 -- a line has at most 20 digits and one other byte for each number
-pub short_line : (ns : List ℕ) → 0 < length ns → ((k : ℕ) → k < length ns → get_or ns k 0 < 2 ^ 64) → length (comma_line ns) ≤ 21 * length ns
+pub short_line : (ns : List ℕ) → 0 < length ns → ((k : ℕ) → k < length ns → get_or ns k 0 < 2 ^ 64)
+    → length (comma_line ns) ≤ 21 * length ns
 short_line [] some fit = absurd (omega arith)
 short_line (n ∷ []) some fit = omega (arith, short_decimal n (fit 0 (omega arith)), length-append (decimal n) (10 ∷ []))
 short_line (n ∷ m ∷ ns) some fit =
     let rest : List ℕ = join_with_byte 44 (map decimal (m ∷ ns)) in
     let whole : length (comma_line (n ∷ m ∷ ns)) ≡ length (decimal n) + (length rest + 1 + 1) =
-    length-append (decimal n ++ 44 ∷ rest) (10 ∷ []) ∙ (let w = length-append (decimal n) (44 ∷ rest) in omega (arith, w)) in
-    omega (arith, whole, length-append rest (10 ∷ []), short_decimal n (fit 0 (omega arith)), short_line (m ∷ ns) (omega arith) (λ k low. fit (suc k) (omega arith)))
+    length-append (decimal n ++ 44 ∷ rest) (10 ∷ [])
+    ∙ (let w = length-append (decimal n) (44 ∷ rest) in omega (arith, w)) in
+    omega (
+      arith,
+      whole,
+      length-append rest (10 ∷ []),
+      short_decimal n (fit 0 (omega arith)),
+      short_line (m ∷ ns)
+          (omega arith) (λ k low. fit (suc k) (omega arith)),
+    )

@@ -17,7 +17,7 @@ use Rattle.cut_trial.specs.Sum.{sum_of, trials_of_cell}
 abbrev pub comma_line : List ℕ → List ℕ
 comma_line numbers = join_with_byte 44 (map decimal numbers) ++ 10 ∷ []
 
--- the names of the columns of a version's tables: those of version 2 tell `settled`
+-- the names of the columns of a version's tables: those of version 2 have `settled`
 abbrev pub names_of : Version → List ℕ
 names_of One = codes "k,h,l,f,trials,receivers,conflicts,silent,extra,votes,decided,right,ppm"
 names_of Two = codes "k,h,l,f,trials,receivers,conflicts,silent,extra,votes,decided,right,settled,ppm"

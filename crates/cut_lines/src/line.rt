@@ -9,7 +9,7 @@ use cut_trial::Totals;
 use std::alloc::{AllocError, Global};
 
 /// The first line of a plan's table: the names of its columns, with a line feed. A table of version 2 has
-/// the column `settled`, in front of `ppm`. It has at most 80 bytes.
+/// the column `settled`, before `ppm`. It has at most 80 bytes.
 pub fn header(plan: &Plan) -> &'static [u8]
     ensures names { result.now ≡ header (version_of plan.now.failing) }
     ensures short { length result.now ≤ 80 }

@@ -34,25 +34,25 @@ sum_of_more f old new low n from m part =
     let right : ℕ = low + n - (from + m) in
     let before : List ℕ = range_with_len low left in
     let own : List ℕ = range_with_len from m in
-    let behind : List ℕ = range_with_len (from + m) right in
+    let later : List ℕ = range_with_len (from + m) right in
     let first : low + left ≡ from = omega arith in
     let second : low + (left + m) ≡ from + m = omega arith in
     let all : left + m + right ≡ n = omega arith in
-    let parts : range_with_len low n ≡ (before ++ own) ++ behind =
+    let parts : range_with_len low n ≡ (before ++ own) ++ later =
     ap (range_with_len low) (sym all)
     ∙ sym (ranges-join low (left + m) right)
     ∙ ap (λ x. range_with_len low (left + m) ++ range_with_len x right) second
-    ∙ ap (λ xs. xs ++ behind) (sym (ranges-join low left m) ∙ ap (λ x. before ++ range_with_len x m) first) in
+    ∙ ap (λ xs. xs ++ later) (sym (ranges-join low left m) ∙ ap (λ x. before ++ range_with_len x m) first) in
     let sum : (ℕ → Bool) → List ℕ → ℕ = λ p xs. sum_by f (filter p xs) in
-    let sums : (p : ℕ → Bool) → sum p (range_with_len low n) ≡ sum p before + sum p own + sum p behind = λ p.
+    let sums : (p : ℕ → Bool) → sum p (range_with_len low n) ≡ sum p before + sum p own + sum p later = λ p.
     (ap (λ xs. sum_by f (filter p xs)) parts
-    ∙ ap (sum_by f) (filter-append p (before ++ own) behind
-    ∙ ap (λ xs. xs ++ filter p behind) (filter-append p before own))
-    ∙ sum_by-append f (filter p before ++ filter p own) (filter p behind)
-    ∙ ap (λ x. x + sum_by f (filter p behind)) (sum_by-append f (filter p before) (filter p own))) in
+    ∙ ap (sum_by f) (filter-append p (before ++ own) later
+    ∙ ap (λ xs. xs ++ filter p later) (filter-append p before own))
+    ∙ sum_by-append f (filter p before ++ filter p own) (filter p later)
+    ∙ ap (λ x. x + sum_by f (filter p later)) (sum_by-append f (filter p before) (filter p own))) in
     let same-before : filter new before ≡ filter old before =
     filter_agree_on new old low left (record { same = λ t a b. part.outside t (λ c d. omega arith) }) in
-    let same-behind : filter new behind ≡ filter old behind =
+    let same-later : filter new later ≡ filter old later =
     filter_agree_on new old (from + m) right
     (record { same = λ t a b. part.outside t (λ c d. omega arith) }) in
     let none : filter old own ≡ [] =
@@ -61,7 +61,7 @@ sum_of_more f old new low n from m part =
     filter-all new own (All-range_with_len (λ t. new t ≡ true) from m (λ t a b. (part.inside t a b).1)) in
     let left-out = ap (sum_by f) none in
     let kept = ap (sum_by f) each in
-    omega (arith, sums new, sums old, ap (sum_by f) same-before, ap (sum_by f) same-behind, left-out, kept)
+    omega (arith, sums new, sums old, ap (sum_by f) same-before, ap (sum_by f) same-later, left-out, kept)
 
 ones : {X : Type 0} (xs : List X) → sum_by (λ _. 1) xs ≡ length xs
 ones [] = refl

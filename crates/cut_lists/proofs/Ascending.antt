@@ -12,18 +12,23 @@ use Rattle.std.proofs.lemmas.Bool.Decides.{Decides-eqb}
 use Rattle.std.proofs.lemmas.Cmp.{nat_cmp_total, nat_eq_equiv}
 use Rattle.std.proofs.lemmas.List.Kept.{AllPairs-filter, IsStrictlySortedBy-filter}
 use Rattle.std.proofs.lemmas.List.Sorted.{IsNonDecreasingBy-from_sort, list_any-IsPermutation}
-use Rattle.std.proofs.lemmas.Map.Keys.{IsDistinct-IsPermutation, IsStrictlyIncreasing-from_distinct, sorted_from_strictly_increasing}
+use Rattle.std.proofs.lemmas.Map.Keys.{IsDistinct-IsPermutation, IsStrictlyIncreasing-from_distinct}
+use Rattle.std.proofs.lemmas.Map.Keys.{sorted_from_strictly_increasing}
 use Rattle.std.proofs.lemmas.Map.Lookups.{btree_set_from_contains, exact_unsigned}
 use Rattle.std.proofs.lemmas.Map.Made.{AllPairs-from_IsDistinct, IsDistinct-from_AllPairs}
 use Rattle.std.proofs.lemmas.Map.Views.{any-filter_same}
 use Rattle.cut_lists.proofs.Ranges.{filter_agree_on, range-rises, list_any_passing, list_any_none_passing}
 
 IsDistinct-filter : (p : ℕ → Bool) (xs : List ℕ) → IsDistinct ◌==◌ xs → IsDistinct ◌==◌ (filter p xs)
-IsDistinct-filter p xs distinct = IsDistinct-from_AllPairs Decides-eqb _ (AllPairs-filter (λ (x y : ℕ). x ≡ y → ⊥) p xs (AllPairs-from_IsDistinct Decides-eqb xs distinct))
+IsDistinct-filter p xs distinct = IsDistinct-from_AllPairs Decides-eqb _
+    (AllPairs-filter (λ (x y : ℕ). x ≡ y → ⊥) p xs (AllPairs-from_IsDistinct Decides-eqb xs distinct))
 
-ascending : (xs ys : List ℕ) → IsDistinct ◌==◌ xs → IsPermutation xs ys → IsSorted nat_cmp ys → IsStrictlySortedBy nat_cmp ys
+ascending : (xs ys : List ℕ) → IsDistinct ◌==◌ xs → IsPermutation xs ys → IsSorted nat_cmp ys
+    → IsStrictlySortedBy nat_cmp ys
 ascending xs ys distinct permutation order =
-    sorted_from_strictly_increasing ys (IsStrictlyIncreasing-from_distinct ys (IsNonDecreasingBy-from_sort (λ x. x) ys order) (IsDistinct-IsPermutation ◌==◌ (λ x y. nat_eq_equiv.symm x y) xs ys permutation distinct))
+    sorted_from_strictly_increasing ys (IsStrictlyIncreasing-from_distinct ys
+    (IsNonDecreasingBy-from_sort (λ x. x) ys order)
+    (IsDistinct-IsPermutation ◌==◌ (λ x y. nat_eq_equiv.symm x y) xs ys permutation distinct))
 
 is_at : (q k : ℕ) → is_eq (nat_cmp q k) ≡ (q == k)
 is_at q k = elim (cases_order q k) [
@@ -38,8 +43,10 @@ kept p xs q = any-filter_same (λ k. q == k) p (p q) (λ k same. ap p (sym (eqb-
 
 ranged : (n q : ℕ) → list_any (λ k. q == k) (range_with_len 0 n) ≡ nat_lt q n
 ranged n q = elim (cases_lt q n) [
-  | inl below ↦ list_any_passing (λ k. q == k) 0 n q (omega arith) (omega arith) (eq-eqb q q refl) ∙ sym (lt-ltb q n below)
-  | inr above ↦ list_any_none_passing (λ k. q == k) 0 n (λ i _ low e. let same : q ≡ i = eqb-true q i e in omega arith) ∙ sym (le-ltb q n above)
+  | inl below ↦ list_any_passing (λ k. q == k) 0 n q (omega arith) (omega arith) (eq-eqb q q refl)
+      ∙ sym (lt-ltb q n below)
+  | inr above ↦ list_any_none_passing (λ k. q == k) 0 n (λ i _ low e. let same : q ≡ i = eqb-true q i e in omega arith)
+      ∙ sym (le-ltb q n above)
 ]
 
 -- what passes in a range is what the range has of it
@@ -58,7 +65,9 @@ where_true true x y same = same refl
 where_true false x y same = refl
 
 -- what passes among a list, sorted, is what passes among the first n numbers, where the list has each of these once
-pub sorted-filter : (p : ℕ → Bool) (n : ℕ) (xs ys : List ℕ) → IsDistinct ◌==◌ xs → ((q : ℕ) → p q ≡ true → list_any (λ k. q == k) xs ≡ nat_lt q n) → IsPermutation (filter p xs) ys → IsSorted nat_cmp ys → ys ≡ filter p (range_with_len 0 n)
+pub sorted-filter : (p : ℕ → Bool) (n : ℕ) (xs ys : List ℕ) → IsDistinct ◌==◌ xs
+    → ((q : ℕ) → p q ≡ true → list_any (λ k. q == k) xs ≡ nat_lt q n) → IsPermutation (filter p xs) ys
+    → IsSorted nat_cmp ys → ys ≡ filter p (range_with_len 0 n)
 sorted-filter p n xs ys distinct held permutation order =
     let range : List ℕ = range_with_len 0 n in
     let all : BTreeSet ℕ = record { keys = filter p range } in

@@ -1,12 +1,15 @@
 -- A list of masks as a set of pairs of a place and an index: a bit of the mask at the index is set.
-use Rattle.std.proofs.Common.{◌≡◌, inl, inr, ℕ, ◌*◌, ◌%◌, ◌^◌, ◌<◌, ◌≤◌, Bool, true, false, cond, ◌==◌, ◌&&◌, ◌||◌, IsTrue, List, length, get_or, replicate, max, refl, ap, sym, ◌∙◌, arith, get_or-set_other, set}
+use Rattle.std.proofs.Common.{◌≡◌, inl, inr, ℕ, ◌*◌, ◌%◌, ◌^◌, ◌<◌, ◌≤◌, Bool, true, false, cond, ◌==◌, ◌&&◌, ◌||◌}
+use Rattle.std.proofs.Common.{IsTrue, List, length, get_or, replicate, max, refl, ap, sym, ◌∙◌, arith, get_or-set_other}
+use Rattle.std.proofs.Common.{set}
 use Rattle.std.specs.List.{list_any, count_by, range_with_len, All}
 use Rattle.std.specs.Int.{bit_at}
 use Rattle.std.specs.Int.Bits.{bit_or}
 use Rattle.std.proofs.Math.Bool.{or-false}
 use Rattle.std.proofs.Math.Nat.{mod-eq_of_lt, pos_of_ne-zero}
 use Rattle.std.proofs.Math.Pow.{pow-lt}
-use Rattle.std.proofs.lemmas.Bool.{cases_lt, cases_eq, eq-eqb, ne_eqb, and_left, and_right, and_from, or_right, cond_both, both_ways}
+use Rattle.std.proofs.lemmas.Bool.{cases_lt, cases_eq, eq-eqb, ne_eqb, and_left, and_right, and_from, or_right}
+use Rattle.std.proofs.lemmas.Bool.{cond_both, both_ways}
 use Rattle.std.proofs.lemmas.Grind.{get_or-set_at}
 use Rattle.std.proofs.lemmas.List.{ext_get_or, get_or-replicate, get_or_past, length-replicate}
 use Rattle.std.proofs.lemmas.List.Elements.{All-set}
@@ -77,14 +80,16 @@ pub has_bit-zeros : (n b i : ℕ) → has_bit (replicate n 0) b i ≡ false
 has_bit-zeros n b i = ap (λ m. bit_at m b == 1) (get_or-zeros n i) ∙ ap (λ d. d == 1) (bit_at-zero b)
 
 -- a mask with no place is 0
-pub mask-zero : (k : ℕ) (masks : List ℕ) (i : ℕ) → All (λ mask. mask < 2 ^ k) masks → places_of k masks i ≡ 0 → get_or masks i 0 ≡ 0
+pub mask-zero : (k : ℕ) (masks : List ℕ) (i : ℕ) → All (λ mask. mask < 2 ^ k) masks → places_of k masks i ≡ 0
+    → get_or masks i 0 ≡ 0
 mask-zero k masks i below none = elim (cases_lt i (length masks)) [
   | inl inside ↦ zero_from_ones (get_or masks i 0) (sym (count_by-ones k (get_or masks i 0) (below i 0 inside)) ∙ none)
   | inr past ↦ get_or_past masks i 0 past
 ]
 
 -- what is left of masks where those at some indices are made 0, which all pairs have
-pub cleared : (k : ℕ) (masks news : List ℕ) (indices : List ℕ) → All (λ mask. mask < 2 ^ k) masks → length news ≡ length masks
+pub cleared : (k : ℕ) (masks news : List ℕ) (indices : List ℕ) → All (λ mask. mask < 2 ^ k) masks → length news
+    ≡ length masks
     → ((i : ℕ) → 0 < places_of k masks i → IsTrue (list_any (λ p. i == p) indices))
     → ((i : ℕ) → get_or news i 0 ≡ cond (list_any (λ p. i == p) indices) 0 (get_or masks i 0))
     → news ≡ replicate (length masks) 0

@@ -1,5 +1,7 @@
 -- How many of a list pass a test, and whether some do.
-use Rattle.std.proofs.Common.{◌≡◌, inl, inr, ℕ, zero, suc, ◌+◌, ◌<◌, ◌≤◌, Bool, true, false, cond, ◌==◌, ◌&&◌, ◌||◌, List, [], ◌∷◌, IsTrue, not, nat_lt, length, get_or, take, filter, refl, ap, sym, ◌∙◌, arith}
+use Rattle.std.proofs.Common.{◌≡◌, inl, inr, ℕ, zero, suc, ◌+◌, ◌<◌, ◌≤◌, Bool, true, false, cond, ◌==◌, ◌&&◌, ◌||◌}
+use Rattle.std.proofs.Common.{List, [], ◌∷◌, IsTrue, not, nat_lt, length, get_or, take, filter, refl, ap, sym, ◌∙◌}
+use Rattle.std.proofs.Common.{arith}
 use Rattle.std.specs.List.{range_with_len, count_by, list_any, All, Contains}
 use Rattle.std.proofs.lemmas.Bool.{cases_eq, eq-eqb, ne_eqb, lt-ltb, or_left, or_right, or_cases}
 use Rattle.std.proofs.lemmas.List.Elements.{All-head, All-tail, Contains-get_or}
@@ -15,27 +17,34 @@ one_more false rest n e = e ∙ ap (nat_lt 0) (let w : n ≡ 0 + n = omega arith
 pub list_any-count_by : {X : Type 0} (p : X → Bool) (xs : List X) → list_any p xs ≡ nat_lt 0 (count_by p xs)
 list_any-count_by p [] = refl
 list_any-count_by p (x ∷ xs) =
-    one_more (p x) _ (count_by p xs) (list_any-count_by p xs) ∙ ap (nat_lt 0) (sym (sum_by-cons (λ y. cond (p y) 1 0) x xs))
+    one_more (p x) _ (count_by p xs) (list_any-count_by p xs)
+    ∙ ap (nat_lt 0) (sym (sum_by-cons (λ y. cond (p y) 1 0) x xs))
 
 -- two tests that differ at one number alone
 pub record DifferAt (p q : ℕ → Bool) (s : ℕ) : Type 0 where
   pub others : (i : ℕ) → (i ≡ s → ⊥) → p i ≡ q i
 
-pub count_by-differ : (p q : ℕ → Bool) (a n s : ℕ) → DifferAt p q s → a ≤ s → s < a + n → count_by q (range_with_len a n) + cond (p s) 1 0 ≡ count_by p (range_with_len a n) + cond (q s) 1 0
+pub count_by-differ : (p q : ℕ → Bool) (a n s : ℕ) → DifferAt p q s → a ≤ s → s < a + n
+    → count_by q (range_with_len a n) + cond (p s) 1 0 ≡ count_by p (range_with_len a n) + cond (q s) 1 0
 count_by-differ p q a zero s differ low high = absurd (omega arith)
 count_by-differ p q a (suc n) s differ low high =
     let rest : List ℕ = range_with_len (a + 1) n in
-    let ps : count_by p (range_with_len a (suc n)) ≡ cond (p a) 1 0 + count_by p rest = sum_by-cons (λ y. cond (p y) 1 0) a rest in
-    let qs : count_by q (range_with_len a (suc n)) ≡ cond (q a) 1 0 + count_by q rest = sum_by-cons (λ y. cond (q y) 1 0) a rest in
+    let ps : count_by p (range_with_len a (suc n)) ≡ cond (p a) 1 0
+    + count_by p rest = sum_by-cons (λ y. cond (p y) 1 0) a rest in
+    let qs : count_by q (range_with_len a (suc n)) ≡ cond (q a) 1 0
+    + count_by q rest = sum_by-cons (λ y. cond (q y) 1 0) a rest in
     elim (cases_eq a s) [
       | inl here ↦ (
-          let same : count_by p rest ≡ count_by q rest = count_by_agree p q (a + 1) n (record { same = λ i above _. differ.others i (λ e. omega arith) }) in
+          let same : count_by p rest ≡ count_by q rest = count_by_agree p q (a + 1) n
+          (record { same = λ i above _. differ.others i (λ e. omega arith) }) in
           let first_p : cond {A = ℕ} (p a) 1 0 ≡ cond {A = ℕ} (p s) 1 0 = ap (λ i. cond {A = ℕ} (p i) 1 0) here in
           let first_q : cond {A = ℕ} (q a) 1 0 ≡ cond {A = ℕ} (q s) 1 0 = ap (λ i. cond {A = ℕ} (q i) 1 0) here in
           omega arith)
       | inr later ↦ (
-          let more : count_by q rest + cond (p s) 1 0 ≡ count_by p rest + cond (q s) 1 0 = count_by-differ p q (a + 1) n s differ (omega arith) (omega arith) in
-          let first : cond {A = ℕ} (p a) 1 0 ≡ cond {A = ℕ} (q a) 1 0 = ap (λ b. cond {A = ℕ} b 1 0) (differ.others a later) in
+          let more : count_by q rest + cond (p s) 1 0 ≡ count_by p rest
+          + cond (q s) 1 0 = count_by-differ p q (a + 1) n s differ (omega arith) (omega arith) in
+          let first : cond {A = ℕ} (p a) 1 0 ≡ cond {A = ℕ} (q a) 1 0 = ap (λ b. cond {A = ℕ} b 1 0)
+          (differ.others a later) in
           omega arith)
     ]
 
@@ -46,13 +55,15 @@ not_above (suc n) = ne_eqb (suc n) 0 (λ e. omega arith) ∙ sym (ap not (lt-ltb
 
 -- some number passes one test and none another, where the tests agree with others
 pub some_and_none_agree : (p q f g : ℕ → Bool) (n : ℕ) → AgreeOn p f 0 n → AgreeOn q g 0 n
-    → list_any p (range_with_len 0 n) && not (list_any q (range_with_len 0 n)) ≡ list_any f (range_with_len 0 n) && not (list_any g (range_with_len 0 n))
+    → list_any p (range_with_len 0 n) && not (list_any q (range_with_len 0 n)) ≡ list_any f (range_with_len 0 n)
+    && not (list_any g (range_with_len 0 n))
 some_and_none_agree p q f g n some none =
     ap (λ b. b && not (list_any q (range_with_len 0 n))) (list_any_agree p f 0 n some)
     ∙ ap (λ b. list_any f (range_with_len 0 n) && not b) (list_any_agree q g 0 n none)
 
 -- what passes among the first m entries does among the first n
-pub list_any_take-le : {X : Type 0} (p : X → Bool) (m n : ℕ) (xs : List X) → m ≤ n → IsTrue (list_any p (take m xs)) → IsTrue (list_any p (take n xs))
+pub list_any_take-le : {X : Type 0} (p : X → Bool) (m n : ℕ) (xs : List X) → m ≤ n → IsTrue (list_any p (take m xs))
+    → IsTrue (list_any p (take n xs))
 list_any_take-le p zero n xs before is = absurd (let w : false ≡ true = is in cc)
 list_any_take-le p (suc m) zero xs before is = absurd (omega arith)
 list_any_take-le p (suc m) (suc n) [] before is = is
@@ -137,5 +148,6 @@ some_and_none-count p q r xs parts =
     ∙ ap (λ b. nat_lt 0 (count_by q xs) && not b) (list_any-count_by r xs)
     ∙ ap (λ b. nat_lt 0 (count_by q xs) && b) (sym (not_above (count_by r xs)) ∙ elim (cases_eq (count_by r xs) 0) [
       | inl none ↦ eq-eqb (count_by r xs) 0 none ∙ sym (eq-eqb (count_by q xs) (count_by p xs) (omega (arith, same)))
-      | inr some ↦ ne_eqb (count_by r xs) 0 some ∙ sym (ne_eqb (count_by q xs) (count_by p xs) (λ e. some (omega (arith, same))))
+      | inr some ↦ ne_eqb (count_by r xs) 0 some ∙ sym
+          (ne_eqb (count_by q xs) (count_by p xs) (λ e. some (omega (arith, same))))
     ])

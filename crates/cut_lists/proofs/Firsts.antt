@@ -1,5 +1,6 @@
 -- The first number of a range that passes a test, and what is made of it.
-use Rattle.std.proofs.Common.{◌≡◌, ℕ, zero, suc, ◌+◌, ◌<◌, ◌≤◌, Bool, true, false, cond, [], ◌∷◌, Option, Some, None, MatchOption, option_map, inl, inr, refl, ap, sym, ◌∙◌, arith}
+use Rattle.std.proofs.Common.{◌≡◌, ℕ, zero, suc, ◌+◌, ◌<◌, ◌≤◌, Bool, true, false, cond, [], ◌∷◌, Option, Some, None}
+use Rattle.std.proofs.Common.{MatchOption, option_map, inl, inr, refl, ap, sym, ◌∙◌, arith}
 use Rattle.std.specs.List.{find, range_with_len}
 use Rattle.std.specs.Option.{option_or}
 use Rattle.std.proofs.lemmas.Bool.{cases_lt}
@@ -18,7 +19,8 @@ pub record IsFirst (p : ℕ → Bool) (a n m : ℕ) : Type 0 where
   pub least : (i : ℕ) → a ≤ i → i < m → p i ≡ false
 
 -- what `find` gives of a range
-pub found_first : (p : ℕ → Bool) (a n : ℕ) → MatchOption (find p (range_with_len a n)) (NonePasses p a n) (IsFirst p a n)
+pub found_first : (p : ℕ → Bool) (a n : ℕ) → MatchOption (find p (range_with_len a n)) (NonePasses p a n)
+    (IsFirst p a n)
 found_first p a zero = λ i low high. absurd (omega arith)
 found_first p a (suc n) = here (p a) refl (find p (range_with_len (a + 1) n)) (found_first p (a + 1) n)
   where
@@ -30,7 +32,13 @@ found_first p a (suc n) = here (p a) refl (find p (range_with_len (a + 1) n)) (f
 
     here : (b : Bool) → p a ≡ b → (q : Option ℕ) → MatchOption q (NonePasses p (a + 1) n) (IsFirst p (a + 1) n)
         → MatchOption (cond b (Some a) q) (NonePasses p a (suc n)) (IsFirst p a (suc n))
-    here true is q rest = record { from = omega arith; below = omega arith; passes = is; least = λ i low high. absurd (omega arith) }
+    here true is q rest = record {
+      from = omega arith;
+      below = omega arith;
+      passes = is;
+      least = λ i low high. absurd
+          (omega arith);
+    }
     here false is None none = after (a + suc n) is (λ i low high. none i low (omega arith))
     here false is (Some m) first = record {
       from = (let w = first.from in omega arith);
@@ -59,7 +67,8 @@ module _ {S X : Type 0} (p : S → Bool) (f : S → ℕ → X) where
           ≡ option_map (λ m. f (F m) m) (find (λ m. p (F m)) (range_with_len a k))
       from a zero equal = refl
       from a (suc k) equal =
-          rw (equal a (omega arith) (omega arith)) (either (p (F a)) _ _ (from (a + 1) k (λ m low high. equal m (omega arith) (omega arith))))
+          rw (equal a (omega arith) (omega arith))
+          (either (p (F a)) _ _ (from (a + 1) k (λ m low high. equal m (omega arith) (omega arith))))
         where
           either : (b : Bool) (x y : Option ℕ) → option_map (λ m. f (E m) m) x ≡ option_map (λ m. f (F m) m) y
               → option_map (λ m. f (E m) m) (cond b (Some a) x) ≡ option_map (λ m. f (F m) m) (cond b (Some a) y)
@@ -93,7 +102,8 @@ module _ {S X : Type 0} (p : S → Bool) (f : S → ℕ → X) where
       ∙ go (find (λ m. p (E m)) (range_with_len 1 b)) (found_first (λ m. p (E m)) 1 b))
     where
       go : (q : Option ℕ) → MatchOption q (NonePasses (λ m. p (E m)) 1 b) (IsFirst (λ m. p (E m)) 1 b)
-          → option_or (option_map (λ m. f (E m) m) q) (made_at (E b) (b + 1)) ≡ option_map delay (option_map (λ m. f (E m) m) q)
+          → option_or (option_map (λ m. f (E m) m) q) (made_at (E b) (b + 1))
+          ≡ option_map delay (option_map (λ m. f (E m) m) q)
       go None none = ap (λ t. cond t (Some (f (E b) (b + 1))) None) (none b some (omega arith))
       go (Some m) is = ap Some (sym (early (E m) m (let w = is.below in omega arith)))
   found-repeat E F b delay some early late first later (suc a) =
@@ -106,7 +116,8 @@ module _ {S X : Type 0} (p : S → Bool) (f : S → ℕ → X) where
       ∙ delayed (found E (a + b)) (p (E n))
       ∙ ap (option_map delay) (sym (found-more E (a + b))))
     where
-      delayed : (q : Option X) (t : Bool) → option_or (option_map delay q) (cond t (Some (f (E (a + b + 1)) (a + b + 1 + 1))) None)
+      delayed : (q : Option X) (t : Bool) → option_or (option_map delay q)
+          (cond t (Some (f (E (a + b + 1)) (a + b + 1 + 1))) None)
           ≡ option_map delay (option_or q (cond t (Some (f (E (a + b + 1)) (a + b + 1))) None))
       delayed (Some x) t = refl
       delayed None false = refl

@@ -73,7 +73,7 @@ passes_at p a n all t low high = elim (cases_Bool (p t)) [
   | inr fails ↦ absurd (both_ways _ (list_all_failing p a n t low high fails) all)
 ]
 
--- how many numbers of a range are in front of the first that fails
+-- how many numbers of a range are before the first that fails
 pub first_failing : (p : ℕ → Bool) (a m n : ℕ) → m ≤ n → ((t : ℕ) → a ≤ t → t < a + m → p t ≡ true)
     → (m < n → p (a + m) ≡ false) → prefix_len p (range_with_len a n) ≡ m
 first_failing p a m n few passes stops =

@@ -1,5 +1,6 @@
 -- Numbers that are sorted by a key and, where keys tie, by themselves.
-use Rattle.std.proofs.Common.{◌≡◌, ℕ, ◌<◌, ◌==◌, subst, false, List, map, length, get_or, refl, ap, sym, ◌∙◌, arith, cond}
+use Rattle.std.proofs.Common.{◌≡◌, ℕ, ◌<◌, ◌==◌, subst, false, List, map, length, get_or, refl, ap, sym, ◌∙◌, arith}
+use Rattle.std.proofs.Common.{cond}
 use Rattle.std.specs.declared.cmp.Ordering.{Ordering}
 use Rattle.std.specs.declared.cmp.Ordering.TheVariants.{Less, Equal, Greater}
 use Rattle.std.specs.Ordering.{is_lt, is_eq, eq_by_cmp, nat_cmp, ordering_then}
@@ -37,11 +38,14 @@ untied Less s less = refl
 untied Equal s less = ap is_eq less
 untied Greater s less = refl
 
-keyed_apart : {K : Type 0} (C : K → K → Ordering) (key : ℕ → K) (n : ℕ) → IsDistinct (eq_by_cmp (pair_cmp C)) (keyed key n)
+keyed_apart : {K : Type 0} (C : K → K → Ordering) (key : ℕ → K) (n : ℕ)
+    → IsDistinct (eq_by_cmp (pair_cmp C)) (keyed key n)
 keyed_apart {K} C key n = IsDistinct-from_apart (eq_by_cmp (pair_cmp C)) (keyed key n) (λ i j d before within.
     let long : length (keyed key n) ≡ n = length-map-range_with_len (λ p. (key p, p)) 0 n in
-    let low : get_or (keyed key n) i d ≡ (key i, i) = get_or-map-range_with_len (λ p. (key p, p)) 0 n i i d (omega arith) (omega arith) in
-    let high : get_or (keyed key n) j d ≡ (key j, j) = get_or-map-range_with_len (λ p. (key p, p)) 0 n j j d (omega arith) (omega arith) in
+    let low : get_or (keyed key n) i d ≡ (key i, i) = get_or-map-range_with_len (λ p. (key p, p)) 0 n i i d
+    (omega arith) (omega arith) in
+    let high : get_or (keyed key n) j d ≡ (key j, j) = get_or-map-range_with_len (λ p. (key p, p)) 0 n j j d
+    (omega arith) (omega arith) in
     ap (λ x. eq_by_cmp (pair_cmp C) x (get_or (keyed key n) j d)) low
     ∙ ap (eq_by_cmp (pair_cmp C) (key i, i)) high
     ∙ untied (C (key i) (key j)) (nat_cmp i j) (less i j before))
@@ -54,7 +58,9 @@ numbers : {K : Type 0} (key : ℕ → K) (n : ℕ) → map (λ x. x.1) (keyed ke
 numbers {K} key n = map-map (λ p. (key p, p)) (λ x. x.1) (range_with_len 0 n) ∙ map-id (range_with_len 0 n)
 
 -- what a sort of the pairs gives
-pub ranked : {K : Type 0} (C : K → K → Ordering) → IsTotalOrder C → (key : ℕ → K) (n : ℕ) (sorted : List (K × ℕ)) → IsPermutation (keyed key n) sorted → IsSorted (pair_cmp C) sorted → IsRanked (compare_by C key) n (map (λ x. x.1) sorted)
+pub ranked : {K : Type 0} (C : K → K → Ordering) → IsTotalOrder C → (key : ℕ → K) (n : ℕ) (sorted : List (K × ℕ))
+    → IsPermutation (keyed key n) sorted → IsSorted (pair_cmp C) sorted
+    → IsRanked (compare_by C key) n (map (λ x. x.1) sorted)
 ranked {K} C total key n sorted moved up = record {
   each_once =
       let P : List ℕ → Type 0 = λ xs. IsPermutation xs (map (λ x. x.1) sorted) in
@@ -65,9 +71,11 @@ ranked {K} C total key n sorted moved up = record {
       let short : i < length sorted = omega arith in
       let x : K × ℕ = get_or sorted i d in
       let number : get_or (map (λ x. x.1) sorted) i 0 ≡ x.1 = get_or-map (λ x. x.1) sorted i d 0 short in
-      let own : x ≡ (key x.1, x.1) = All-permutation (λ x. x ≡ (key x.1, x.1)) (keyed key n) sorted moved (keyed_by key n) i d short in
+      let own : x ≡ (key x.1, x.1) = All-permutation (λ x. x ≡ (key x.1, x.1)) (keyed key n) sorted moved
+      (keyed_by key n) i d short in
       let rank : count_by (λ y. is_lt (pair_cmp C y x)) (keyed key n) ≡ i =
-      rank_is_index (pair_cmp C) (then_total (on_total (λ x. x.0) total) (on_total (λ x. x.1) nat_cmp_total)) (keyed key n) sorted moved up (keyed_apart C key n) i d short
+      rank_is_index (pair_cmp C) (then_total (on_total (λ x. x.0) total) (on_total (λ x. x.1) nat_cmp_total))
+      (keyed key n) sorted moved up (keyed_apart C key n) i d short
       in
       ap (λ p. count_by (λ q. is_lt (compare_by C key q p)) (range_with_len 0 n)) number
       ∙ sym (count_by-map (λ y. is_lt (pair_cmp C y (key x.1, x.1))) (λ q. (key q, q)) (range_with_len 0 n))

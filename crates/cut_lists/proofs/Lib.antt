@@ -4,7 +4,7 @@ pub mod Counts
 pub mod Finds
 pub mod Firsts
 pub mod FlatMaps
-pub mod Fronts
+pub mod Prefixes
 pub mod Greatest
 pub mod Intervals
 pub mod Keyed

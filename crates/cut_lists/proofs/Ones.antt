@@ -1,5 +1,6 @@
 -- The ones of a mask are counted place by place.
-use Rattle.std.proofs.Common.{◌≡◌, ℕ, zero, suc, ◌^◌, ◌<◌, Bool, false, cond, ◌==◌, List, map, length, refl, ap, sym, ◌∙◌, arith}
+use Rattle.std.proofs.Common.{◌≡◌, ℕ, zero, suc, ◌^◌, ◌<◌, Bool, false, cond, ◌==◌, List, map, length, refl, ap, sym}
+use Rattle.std.proofs.Common.{◌∙◌, arith}
 use Rattle.std.specs.List.{range_with_len, count_by}
 use Rattle.std.specs.Int.{bit_at}
 use Rattle.std.specs.Simd.Lanes.{mask_l}
@@ -15,7 +16,8 @@ one_bit (suc zero) low = refl
 one_bit (suc (suc b)) low = absurd (omega arith)
 
 -- a mask below 2^k has as many ones as there are places below k whose bit is set
-pub count_by-ones : (k mask : ℕ) → mask < 2 ^ k → count_by (λ i. bit_at mask i == 1) (range_with_len 0 k) ≡ count_ones mask
+pub count_by-ones : (k mask : ℕ) → mask < 2 ^ k → count_by (λ i. bit_at mask i == 1) (range_with_len 0 k)
+    ≡ count_ones mask
 count_by-ones k mask low =
     let bits : List Bool = map (λ i. bit_at mask i == 1) (range_with_len 0 k) in
     let long : length bits ≡ k = length-map-range_with_len (λ i. bit_at mask i == 1) 0 k in

@@ -1,5 +1,6 @@
 -- As many different numbers below n as n are all of them.
-use Rattle.std.proofs.Common.{◌≡◌, ℕ, suc, ◌<◌, ◌≤◌, ◌⊎◌, inl, inr, ◌==◌, true, cond, List, map, length, nat_lt, ap, sym, ◌∙◌, arith}
+use Rattle.std.proofs.Common.{◌≡◌, ℕ, suc, ◌<◌, ◌≤◌, ◌⊎◌, inl, inr, ◌==◌, true, cond, List, map, length, nat_lt, ap}
+use Rattle.std.proofs.Common.{sym, ◌∙◌, arith}
 use Rattle.std.proofs.lemmas.Bool.{eqb-true, false_from_ne_true, cases_lt, lt-ltb, le-ltb}
 use Rattle.std.specs.List.{range_with_len, IsDistinct, Any}
 use Rattle.std.proofs.lemmas.List.Folds.{Any-from_list_any}
@@ -21,12 +22,14 @@ pigeonhole n m f into one =
     let xs : List ℕ = map f (range_with_len 0 n) in
     let long : length xs ≡ n = length-map-range_with_len f 0 n in
     let distinct : IsDistinct ◌==◌ xs = IsDistinct-from_apart ◌==◌ xs (λ i j d early low. false_from_ne_true _ (λ t.
-    let same : f i ≡ f j = sym (get_or-map-range_with_len f 0 n i i d (omega arith) (omega arith)) ∙ eqb-true _ _ t ∙ get_or-map-range_with_len f 0 n j j d (omega arith) (omega arith) in
+    let same : f i ≡ f j = sym (get_or-map-range_with_len f 0 n i i d (omega arith) (omega arith)) ∙ eqb-true _ _ t
+    ∙ get_or-map-range_with_len f 0 n j j d (omega arith) (omega arith) in
     let index : i ≡ j = one i j (omega arith) (omega arith) same in
     omega arith)) in
     let few : length xs ≤ m = length-le_from_distinct_below xs m distinct (λ q among.
     let found : Any (λ x. (q == x) ≡ true) xs = Any-from_list_any (λ x. q == x) xs among in
-    let at : q ≡ f found.0 = eqb-true _ _ found.4 ∙ sym found.3 ∙ get_or-map-range_with_len f 0 n found.0 found.0 found.1 (omega (arith, found.2)) (omega arith) in
+    let at : q ≡ f found.0 = eqb-true _ _ found.4 ∙ sym found.3
+    ∙ get_or-map-range_with_len f 0 n found.0 found.0 found.1 (omega (arith, found.2)) (omega arith) in
     let low : f found.0 < m = into found.0 (omega (arith, found.2)) in
     omega arith) in
     omega arith
@@ -35,7 +38,8 @@ pigeonhole n m f into one =
 abbrev extended : (ℕ → ℕ) → ℕ → ℕ → ℕ → ℕ
 extended f n b i = cond (nat_lt i n) (f i) b
 
-extended_is : (f : ℕ → ℕ) (n b i : ℕ) → i < suc n → ((i < n) × (extended f n b i ≡ f i)) ⊎ ((i ≡ n) × (extended f n b i ≡ b))
+extended_is : (f : ℕ → ℕ) (n b i : ℕ) → i < suc n → ((i < n) × (extended f n b i ≡ f i))
+    ⊎ ((i ≡ n) × (extended f n b i ≡ b))
 extended_is f n b i low = elim (cases_lt i n) [
   | inl below ↦ inl (below, ap (λ t. cond t (f i) b) (lt-ltb i n below))
   | inr above ↦ inr (omega arith, ap (λ t. cond t (f i) b) (le-ltb i n above))
@@ -43,7 +47,8 @@ extended_is f n b i low = elim (cases_lt i n) [
 
 -- n different numbers below n are all of them
 pub none_missed : (n b : ℕ) (f : ℕ → ℕ) → b < n → Into f n n → OneToOne f n → ((p : ℕ) → p < n → f p ≡ b → ⊥) → ⊥
-none_missed n b f low into one missed = let w : suc n ≤ n = pigeonhole (suc n) n (extended f n b) into_longer one_longer in omega arith
+none_missed n b f low into one missed = let w : suc n ≤ n = pigeonhole (suc n) n (extended f n b) into_longer one_longer
+    in omega arith
   where
     into_longer : Into (extended f n b) (suc n) n
     into_longer i below = elim (extended_is f n b i below) [

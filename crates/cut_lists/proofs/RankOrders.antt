@@ -1,5 +1,6 @@
--- The ranks of the first n numbers, by a total order that tells them apart, are these numbers in some order.
-use Rattle.std.proofs.Common.{◌≡◌, ◌≢◌, ℕ, zero, suc, ◌+◌, ◌-◌, ◌<◌, Bool, cond, map, not, nat_lt, get_or, refl, inl, inr, sym, ap, ◌∙◌, arith, zero-add}
+-- The ranks of the first n numbers, by a total order that distinguishes them, are these numbers in some order.
+use Rattle.std.proofs.Common.{◌≡◌, ◌≢◌, ℕ, zero, suc, ◌+◌, ◌-◌, ◌<◌, Bool, cond, map, not, nat_lt, get_or, refl, inl}
+use Rattle.std.proofs.Common.{inr, sym, ap, ◌∙◌, arith, zero-add}
 use Rattle.std.specs.Prelude.{count_by}
 use Rattle.std.specs.List.{range_with_len, Contains}
 use Rattle.std.specs.declared.cmp.Ordering.{Ordering}
@@ -51,9 +52,9 @@ ranks-differ {R} total exact n p q low high apart same = by (R p q) refl
         omega (arith, rank-less total (range_with_len 0 n) q p (below n q high) back, same)
 
 -- numbers of one rank are one
-pub ranks-tell : {R : ℕ → ℕ → Ordering} → IsTotalOrder R → CmpEqualImpliesEq R → (n p q : ℕ) → p < n → q < n
+pub ranks-decide : {R : ℕ → ℕ → Ordering} → IsTotalOrder R → CmpEqualImpliesEq R → (n p q : ℕ) → p < n → q < n
     → rank_of R n p ≡ rank_of R n q → p ≡ q
-ranks-tell total exact n p q low high same = elim (cases_lt p q) [
+ranks-decide total exact n p q low high same = elim (cases_lt p q) [
   | inl less ↦ absurd (ranks-differ total exact n p q low high (λ e. omega (arith, less, e)) same)
   | inr most ↦ elim (cases_lt q p) [
     | inl more ↦ absurd (ranks-differ total exact n p q low high (λ e. omega (arith, more, e)) same)

@@ -1,6 +1,7 @@
 -- In a list that is sorted by a total order and has no equal elements, the index of an element is
 -- the number of lesser ones.
-use Rattle.std.proofs.Common.{◌≡◌, ℕ, suc, ◌+◌, ◌-◌, ◌<◌, ◌≤◌, ◌⊎◌, inl, inr, Bool, true, false, List, [], ◌∷◌, length, get_or, take, drop, refl, ap, sym, ◌∙◌, arith, cond}
+use Rattle.std.proofs.Common.{◌≡◌, ℕ, suc, ◌+◌, ◌-◌, ◌<◌, ◌≤◌, ◌⊎◌, inl, inr, Bool, true, false, List, [], ◌∷◌, length}
+use Rattle.std.proofs.Common.{get_or, take, drop, refl, ap, sym, ◌∙◌, arith, cond}
 use Rattle.std.specs.declared.cmp.Ordering.{Ordering}
 use Rattle.std.specs.declared.cmp.Ordering.TheVariants.{Less, Equal, Greater}
 use Rattle.std.specs.Ordering.{is_lt, is_eq, eq_by_cmp, ordering_reverse}
@@ -22,7 +23,8 @@ count_by_all p (x ∷ xs) all =
     let head : p x ≡ true = All-head (λ x. p x ≡ true) x xs all in
     let rest : count_by p xs ≡ length xs = count_by_all p xs (All-tail (λ x. p x ≡ true) x xs all) in
     let here : cond {A = ℕ} (p x) 1 0 ≡ 1 = ap (λ (b : Bool). cond {A = ℕ} b 1 0) head in
-    sum_by-cons (λ x. cond (p x) 1 0) x xs ∙ (let goal : cond {A = ℕ} (p x) 1 0 + count_by p xs ≡ suc (length xs) = omega arith in goal)
+    sum_by-cons (λ x. cond (p x) 1 0) x xs ∙ (let goal : cond {A = ℕ} (p x) 1 0 + count_by p xs
+    ≡ suc (length xs) = omega arith in goal)
 
 pub count_by_none : {X : Type 0} (p : X → Bool) (xs : List X) → All (λ x. p x ≡ false) xs → count_by p xs ≡ 0
 count_by_none p [] all = refl
@@ -30,7 +32,8 @@ count_by_none p (x ∷ xs) all =
     let head : p x ≡ false = All-head (λ x. p x ≡ false) x xs all in
     let rest : count_by p xs ≡ 0 = count_by_none p xs (All-tail (λ x. p x ≡ false) x xs all) in
     let here : cond {A = ℕ} (p x) 1 0 ≡ 0 = ap (λ (b : Bool). cond {A = ℕ} b 1 0) head in
-    sum_by-cons (λ x. cond (p x) 1 0) x xs ∙ (let goal : cond {A = ℕ} (p x) 1 0 + count_by p xs ≡ 0 = omega arith in goal)
+    sum_by-cons (λ x. cond (p x) 1 0) x xs ∙ (let goal : cond {A = ℕ} (p x) 1 0 + count_by p xs ≡ 0 = omega arith
+    in goal)
 
 -- fewer elements come before one of a list than there are
 pub rank-below : {X : Type 0} {R : X → X → Ordering} → IsTotalOrder R → (xs : List X) (x : X)
@@ -66,25 +69,29 @@ only_less Less s e l t = refl
 only_less Equal s e l t = cc
 only_less Greater s e l t = let lesser : is_lt s ≡ true = ap is_lt t in cc
 
-pub rises : {X : Type 0} (R : X → X → Ordering) → IsTotalOrder R → (ys : List X) → IsSorted R ys → IsDistinct (eq_by_cmp R) ys → Rises R ys
+pub rises : {X : Type 0} (R : X → X → Ordering) → IsTotalOrder R → (ys : List X) → IsSorted R ys
+    → IsDistinct (eq_by_cmp R) ys → Rises R ys
 rises R total ys sorted distinct i j d before within =
     only_less _ _ (apart_from_distinct (eq_by_cmp R) ys i j d distinct before within)
     (sorted_far (λ x y. is_lt (R x y)) (ranks_by total (λ x. x)) ys sorted i j d (omega arith) within)
     (total.antisymm _ _)
 
-not_less_after : {X : Type 0} (R : X → X → Ordering) → IsTotalOrder R → (ys : List X) → Rises R ys → (i j : ℕ) (d : X) → i ≤ j → j < length ys → is_lt (R (get_or ys j d) (get_or ys i d)) ≡ false
+not_less_after : {X : Type 0} (R : X → X → Ordering) → IsTotalOrder R → (ys : List X) → Rises R ys → (i j : ℕ) (d : X)
+    → i ≤ j → j < length ys → is_lt (R (get_or ys j d) (get_or ys i d)) ≡ false
 not_less_after {X} R total ys up i j d after within = by (eq-or-lt_of_le after)
   where
     by : (i ≡ j) ⊎ (i < j) → is_lt (R (get_or ys j d) (get_or ys i d)) ≡ false
     by (inl same) = ap is_lt (ap (λ k. R (get_or ys j d) (get_or ys k d)) same ∙ tied_itself total (get_or ys j d))
-    by (inr more) = ap is_lt (total.antisymm (get_or ys j d) (get_or ys i d) ∙ ap ordering_reverse (up i j d more within))
+    by (inr more) = ap is_lt (total.antisymm (get_or ys j d) (get_or ys i d)
+        ∙ ap ordering_reverse (up i j d more within))
 
-pub rank_in_rising : {X : Type 0} (R : X → X → Ordering) → IsTotalOrder R → (ys : List X) → Rises R ys → (i : ℕ) (d : X) → i < length ys → count_by (λ y. is_lt (R y (get_or ys i d))) ys ≡ i
+pub rank_in_rising : {X : Type 0} (R : X → X → Ordering) → IsTotalOrder R → (ys : List X) → Rises R ys → (i : ℕ) (d : X)
+    → i < length ys → count_by (λ y. is_lt (R y (get_or ys i d))) ys ≡ i
 rank_in_rising {X} R total ys up i d within =
     let p : X → Bool = λ y. is_lt (R y (get_or ys i d)) in
-    let front_length : length (take i ys) ≡ i = length-take-le i ys (omega arith) in
+    let first_length : length (take i ys) ≡ i = length-take-le i ys (omega arith) in
     let back_length : length (drop i ys) ≡ length ys - i = length-drop i ys in
-    let front : count_by p (take i ys) ≡ length (take i ys) =
+    let prefix : count_by p (take i ys) ≡ length (take i ys) =
     count_by_all p (take i ys) (λ k e h.
     let early : k < i = omega arith in
     let short : k < length ys = omega arith in
@@ -93,12 +100,14 @@ rank_in_rising {X} R total ys up i d within =
     let back : count_by p (drop i ys) ≡ 0 =
     count_by_none p (drop i ys) (λ k e h.
     let short : i + k < length ys = omega arith in
-    ap p (get_or-drop i ys k e ∙ get_or_default ys (i + k) e d short) ∙ not_less_after R total ys up i (i + k) d (omega arith) short)
+    ap p (get_or-drop i ys k e ∙ get_or_default ys (i + k) e d short)
+    ∙ not_less_after R total ys up i (i + k) d (omega arith) short)
     in
-    let joined : count_by p (take i ys) + count_by p (drop i ys) ≡ count_by p ys = sum_by-take-drop (λ x. cond (p x) 1 0) ys i in
+    let joined : count_by p (take i ys) + count_by p (drop i ys)
+    ≡ count_by p ys = sum_by-take-drop (λ x. cond (p x) 1 0) ys i in
     omega arith
 
--- two elements that the order does not tell apart are so both ways
+-- two elements that the order does not distinguish are so both ways
 pub tied_both : {X : Type 0} {R : X → X → Ordering} → IsTotalOrder R → (x y : X) → eq_by_cmp R x y ≡ eq_by_cmp R y x
 tied_both {R = R} total x y = ap is_eq (total.antisymm x y) ∙ turned (R y x)
   where
@@ -108,8 +117,11 @@ tied_both {R = R} total x y = ap is_eq (total.antisymm x y) ∙ turned (R y x)
     turned Greater = refl
 
 -- the statement that every sort here stands on
-pub rank_is_index : {X : Type 0} (R : X → X → Ordering) → IsTotalOrder R → (xs ys : List X) → IsPermutation xs ys → IsSorted R ys → IsDistinct (eq_by_cmp R) xs → (i : ℕ) (d : X) → i < length ys → count_by (λ y. is_lt (R y (get_or ys i d))) xs ≡ i
+pub rank_is_index : {X : Type 0} (R : X → X → Ordering) → IsTotalOrder R → (xs ys : List X) → IsPermutation xs ys
+    → IsSorted R ys → IsDistinct (eq_by_cmp R) xs → (i : ℕ) (d : X) → i < length ys
+    → count_by (λ y. is_lt (R y (get_or ys i d))) xs ≡ i
 rank_is_index R total xs ys moved sorted distinct i d within =
-    let apart : IsDistinct (eq_by_cmp R) ys = IsDistinct-IsPermutation (eq_by_cmp R) (tied_both total) xs ys moved distinct in
+    let apart : IsDistinct (eq_by_cmp R) ys = IsDistinct-IsPermutation (eq_by_cmp R) (tied_both total) xs ys moved
+    distinct in
     sym (sum_by-IsPermutation (λ y. cond (is_lt (R y (get_or ys i d))) 1 0) xs ys moved)
     ∙ rank_in_rising R total ys (rises R total ys sorted apart) i d within

@@ -9,18 +9,35 @@ pub record IsBefore (n b t : ℕ) : Type 0 where
   pub next : (b + 1) % n ≡ t
 
 pub before : (n t : ℕ) → t < n → (b : ℕ) × IsBefore n b t
-before n zero low = (n - 1, record { below = omega arith; next = (let e : n - 1 + 1 ≡ n = omega arith in rw e (mod_self n)) })
-before n (suc t) low = (t, record { below = omega arith; next = mod-eq_of_lt (let w : t + 1 < n = omega arith in w) ∙ (let w : t + 1 ≡ suc t = omega arith in w) })
+before n zero low = (
+  n - 1,
+  record {
+    below = omega arith;
+    next =
+        (let e : n - 1 + 1 ≡ n = omega arith in rw e (mod_self n));
+  },
+)
+before n (suc t) low = (
+  t,
+  record {
+    below = omega arith;
+    next = mod-eq_of_lt (let w : t + 1 < n = omega arith in w)
+        ∙ (let w : t + 1 ≡ suc t = omega arith in w);
+  },
+)
 
 -- places with one next place are one place
 pub next_one : (n a b : ℕ) → a < n → b < n → (a + 1) % n ≡ (b + 1) % n → a ≡ b
 next_one n a b low high e = elim (cases_eq (a + 1) n) [
   | inl last ↦ elim (cases_eq (b + 1) n) [
     | inl both ↦ omega arith
-    | inr inner ↦ absurd (let w : (a + 1) % n ≡ 0 = ap (λ x. x % n) last ∙ mod_self n in let v : (b + 1) % n ≡ b + 1 = mod-eq_of_lt (let h : b + 1 < n = omega arith in h) in omega arith)
+    | inr inner ↦ absurd (let w : (a + 1) % n ≡ 0 = ap (λ x. x % n) last ∙ mod_self n in let v : (b + 1) % n ≡ b
+        + 1 = mod-eq_of_lt (let h : b + 1 < n = omega arith in h) in omega arith)
   ]
   | inr inner ↦ elim (cases_eq (b + 1) n) [
-    | inl last ↦ absurd (let w : (b + 1) % n ≡ 0 = ap (λ x. x % n) last ∙ mod_self n in let v : (a + 1) % n ≡ a + 1 = mod-eq_of_lt (let h : a + 1 < n = omega arith in h) in omega arith)
-    | inr too ↦ (let w : (b + 1) % n ≡ b + 1 = mod-eq_of_lt (let h : b + 1 < n = omega arith in h) in let v : (a + 1) % n ≡ a + 1 = mod-eq_of_lt (let h : a + 1 < n = omega arith in h) in omega arith)
+    | inl last ↦ absurd (let w : (b + 1) % n ≡ 0 = ap (λ x. x % n) last ∙ mod_self n in let v : (a + 1) % n ≡ a
+        + 1 = mod-eq_of_lt (let h : a + 1 < n = omega arith in h) in omega arith)
+    | inr too ↦ (let w : (b + 1) % n ≡ b + 1 = mod-eq_of_lt (let h : b + 1 < n = omega arith in h)
+        in let v : (a + 1) % n ≡ a + 1 = mod-eq_of_lt (let h : a + 1 < n = omega arith in h) in omega arith)
   ]
 ]

@@ -12,4 +12,5 @@ IsOrder n order = IsPermutation (range_with_len 0 n) order
 -- an order in which each process stands at the number of lesser ones
 pub record IsRanked (compare : ℕ → ℕ → Ordering) (n : ℕ) (order : List ℕ) : Type 0 where
   pub each_once : IsOrder n order
-  pub ranks : (i : ℕ) → i < length order → count_by (λ q. is_lt (compare q (slice_index order i))) (range_with_len 0 n) ≡ i
+  pub ranks : (i : ℕ) → i < length order → count_by (λ q. is_lt (compare q (slice_index order i))) (range_with_len 0 n)
+      ≡ i

@@ -5,7 +5,7 @@
 //!   (the first that passes), `Listed` (lists of exactly those that pass), `Pigeonhole`, `Rounds` (places
 //!   round a ring);
 //! - elements of any list: `Counts` and `Parts` (how many pass a test), `Finds` (the first that passes),
-//!   `Fronts` (what is in front of the first that fails), `Maps` and `FlatMaps`;
+//!   `Prefixes` (what is before the first that fails), `Maps` and `FlatMaps`;
 //! - order: `Ascending`, `Greatest`, `Keyed` (numbers sorted by a key), `Orders` (lists that hold each of the
 //!   first numbers once), `Ranks` and `RankOrders` (how many come before);
 //! - masks: `Ones` (their bits counted), `BitSets` (lists of them as sets of pairs).

@@ -1,5 +1,6 @@
--- Frames at the front of some bytes.
-use Rattle.std.proofs.Common.{◌≡◌, ◌∙◌, ◌+◌, ◌≤◌, ◌++◌, ℕ, true, false, List, [], ◌∷◌, length, take, drop, nat_lt, Option, Some, None, refl, ap, arith, append_assoc, length-append}
+-- Frames at the beginning of some bytes.
+use Rattle.std.proofs.Common.{◌≡◌, ◌∙◌, ◌+◌, ◌≤◌, ◌++◌, ℕ, true, false, List, [], ◌∷◌, length, take, drop, nat_lt}
+use Rattle.std.proofs.Common.{Option, Some, None, refl, ap, arith, append_assoc, length-append}
 use Rattle.std.specs.Int.{w32, to_be_bytes, from_be_bytes}
 use Rattle.std.proofs.lemmas.Bool.Decides.{nat_tests}
 use Rattle.std.proofs.lemmas.Nat.{from_be_bytes-to_be_bytes_4}
@@ -9,7 +10,7 @@ use Rattle.cut_messages.specs.declared.side.Side.{Side}
 use Rattle.cut_messages.specs.declared.message.Message.{Message}
 use Rattle.cut_messages.specs.declared.fault.StreamFault.{StreamFault}
 use Rattle.cut_messages.specs.Kinds.{kind_at, length_of, fits}
-use Rattle.cut_messages.specs.Frames.{frame, frame_of, IsMessage, length_fault, fault_behind, fault_at}
+use Rattle.cut_messages.specs.Frames.{frame, frame_of, IsMessage, length_fault, fault_after, fault_at}
 use Rattle.cut_messages.specs.Reading.{HasNoMessage}
 
 pub less_no : (a b : ℕ) → b ≤ a → nat_lt a b ≡ false
@@ -18,21 +19,21 @@ less_no a b h = grind (arith, nat_tests)
 pub long_frame : (kind : Kind) (payload : List ℕ) → length (frame kind payload) ≡ 5 + length payload
 long_frame kind payload = omega (arith, length-append (to_be_bytes w32 (length payload)) payload)
 
--- what stands behind a frame's letter
-pub front_four : (payload tail : List ℕ)
+-- what stands after a frame's letter
+pub prefix_four : (payload tail : List ℕ)
     → take 4 ((to_be_bytes w32 (length payload) ++ payload) ++ tail) ≡ to_be_bytes w32 (length payload)
-front_four payload tail = ap (take 4) (append_assoc (to_be_bytes w32 (length payload)) payload tail)
+prefix_four payload tail = ap (take 4) (append_assoc (to_be_bytes w32 (length payload)) payload tail)
     ∙ take_at (to_be_bytes w32 (length payload)) (payload ++ tail) 4 refl
 
-pub behind_four : (payload tail : List ℕ)
+pub after_four : (payload tail : List ℕ)
     → drop 4 ((to_be_bytes w32 (length payload) ++ payload) ++ tail) ≡ payload ++ tail
-behind_four payload tail = ap (drop 4) (append_assoc (to_be_bytes w32 (length payload)) payload tail)
+after_four payload tail = ap (drop 4) (append_assoc (to_be_bytes w32 (length payload)) payload tail)
     ∙ drop_at (to_be_bytes w32 (length payload)) (payload ++ tail) 4 refl
 
--- the length that it tells is the payload's
-pub length_told : (payload tail : List ℕ) → length payload ≤ 65536
+-- the length that it gives is the payload's
+pub length_given : (payload tail : List ℕ) → length payload ≤ 65536
     → from_be_bytes w32 (take 4 ((to_be_bytes w32 (length payload) ++ payload) ++ tail)) ≡ length payload
-length_told payload tail short = ap (from_be_bytes w32) (front_four payload tail)
+length_given payload tail short = ap (from_be_bytes w32) (prefix_four payload tail)
     ∙ from_be_bytes-to_be_bytes_4 (length payload) (omega (arith, short))
 
 -- a payload's length that is right
@@ -45,10 +46,14 @@ pub frame_right : (side : Side) (m : Message) (tail : List ℕ) → IsMessage si
 frame_right side m tail is =
     let rest : List ℕ = (to_be_bytes w32 (length m.payload) ++ m.payload) ++ tail in
     let long : length rest ≡ 4 + length (m.payload ++ tail) =
-    cc (append_assoc (to_be_bytes w32 (length m.payload)) m.payload tail, length-append (to_be_bytes w32 (length m.payload)) (m.payload ++ tail)) in
-    let told : from_be_bytes w32 (take 4 rest) ≡ length m.payload = length_told m.payload tail is.short in
-    ap (λ (k : Option Kind). fault_behind side k rest) is.kind
-    ∙ rw (less_no (length rest) 4 (omega (arith, long)), told)
+    cc (
+      append_assoc (to_be_bytes w32 (length m.payload)) m.payload tail,
+      length-append
+          (to_be_bytes w32 (length m.payload)) (m.payload ++ tail),
+    ) in
+    let reported : from_be_bytes w32 (take 4 rest) ≡ length m.payload = length_given m.payload tail is.short in
+    ap (λ (k : Option Kind). fault_after side k rest) is.kind
+    ∙ rw (less_no (length rest) 4 (omega (arith, long)), reported)
     (length_right (length_of side m.kind) (length m.payload) is.short is.fits)
 
 pub no_message : (side : Side) (bytes : List ℕ) (fault : StreamFault) → fault_at side bytes ≡ Some fault
@@ -58,15 +63,19 @@ no_message side bytes fault wrong m tail is stands =
 
 -- ---- a fault stays
 
-behind_more : (side : Side) (kind : Option Kind) (rest more : List ℕ) (fault : StreamFault)
-    → fault_behind side kind rest ≡ Some fault → fault_behind side kind (rest ++ more) ≡ Some fault
-behind_more side None rest more fault wrong = wrong
-behind_more side (Some kind) rest more fault wrong =
+later_more : (side : Side) (kind : Option Kind) (rest more : List ℕ) (fault : StreamFault)
+    → fault_after side kind rest ≡ Some fault → fault_after side kind (rest ++ more) ≡ Some fault
+later_more side None rest more fault wrong = wrong
+later_more side (Some kind) rest more fault wrong =
     let enough : 4 ≤ length rest = grind (arith, nat_tests) in
-    rw (less_no (length (rest ++ more)) 4 (omega (arith, enough, length-append rest more)), take-append-le 4 rest more enough)
+    rw (
+      less_no (length (rest ++ more)) 4 (omega (arith, enough, length-append rest more)),
+      take-append-le 4 rest more
+          enough,
+    )
     (rw (less_no (length rest) 4 enough) at wrong)
 
 pub fault_more : (side : Side) (bytes more : List ℕ) (fault : StreamFault) → fault_at side bytes ≡ Some fault
     → fault_at side (bytes ++ more) ≡ Some fault
 fault_more side [] more fault wrong = cc
-fault_more side (first ∷ rest) more fault wrong = behind_more side (kind_at side first) rest more fault wrong
+fault_more side (first ∷ rest) more fault wrong = later_more side (kind_at side first) rest more fault wrong

@@ -1,26 +1,29 @@
 -- An answer that is heard read by read.
-use Rattle.std.proofs.Common.{◌≡◌, ◌∙◌, ◌+◌, ◌^◌, ◌<◌, ◌≤◌, ◌++◌, ℕ, false, List, [], length, take, nat_eq, Some, None, Result, Ok, Err, refl, sym, ap, subst, arith, append_assoc, append-nil, length-append, length-take-le}
+use Rattle.std.proofs.Common.{◌≡◌, ◌∙◌, ◌+◌, ◌^◌, ◌<◌, ◌≤◌, ◌++◌, ℕ, false, List, [], length, take, nat_eq, Some, None}
+use Rattle.std.proofs.Common.{Result, Ok, Err, refl, sym, ap, subst, arith, append_assoc, append-nil, length-append}
+use Rattle.std.proofs.Common.{length-take-le}
 use Rattle.std.specs.Bool.{⊤}
 use Rattle.std.proofs.lemmas.Bool.Decides.{nat_tests}
-use Rattle.cut_wires.specs.Log.{Log, passing, with_taken, with_given, wrote, gave, read_failed}
+use Rattle.cut_wires.specs.Log.{WireLog, passing, with_taken, with_given, wrote, gave, read_failed}
 use Rattle.cut_wires.proofs.Logs.{passing_twice, passing_same}
 use Rattle.cut_messages.specs.declared.side.Side.TheVariants.{Replies}
 use Rattle.cut_messages.specs.declared.message.Message.{Message}
 use Rattle.cut_messages.specs.declared.ask_fault.AskFault.{AskFault}
 use Rattle.cut_messages.specs.declared.ask_fault.AskFault.TheVariants as ask
-use Rattle.cut_messages.specs.declared.replies.Progress.{Progress}
-use Rattle.cut_messages.specs.declared.replies.Progress.TheVariants.{More, Done}
+use Rattle.cut_messages.specs.declared.replies.AnswerState.{AnswerState}
+use Rattle.cut_messages.specs.declared.replies.AnswerState.TheVariants.{More, Done}
 use Rattle.cut_messages.specs.Frames.{fault_at}
-use Rattle.cut_messages.specs.Reading.{Reading, HasRead}
-use Rattle.cut_messages.specs.Asking.{request, asked, heard, ended, left_by, Passes, Concludes, IsUnread, Hears, Asks}
+use Rattle.cut_messages.specs.Reading.{Reading, HasReadFrames}
+use Rattle.cut_messages.specs.Asking.{request, asked, heard, ended, left_by, Passes, ConcludesAnswer, IsUnread, Hears}
+use Rattle.cut_messages.specs.Asking.{Asks}
 use Rattle.cut_messages.specs.Listening.{Step, Steps}
 use Rattle.cut_messages.proofs.Answered.{passes_then}
 
 -- a client that listens: the request was sent, and the answer so far has no last reply and no fault
-pub record Listens (plan : List ℕ) (r : Reading) (reads : ℕ) (old now o p : Log) : Type 0 where
+pub record Listens (plan : List ℕ) (r : Reading) (reads : ℕ) (old now o p : WireLog) : Type 0 where
   pub stream : List ℕ
   pub messages : List Message
-  pub read : HasRead r stream messages
+  pub read : HasReadFrames r stream messages
   pub right : r.fault ≡ None
   pub side : r.side ≡ Replies
   pub long : reads ≤ length stream
@@ -30,32 +33,38 @@ pub record Listens (plan : List ℕ) (r : Reading) (reads : ℕ) (old now o p : 
 -- ---- what passed over its wire
 
 -- what a read gives comes after what was heard
-wire_on : (plan stream buffer : List ℕ) (n : ℕ) (old mid new : Log) → mid ≡ heard plan stream old
+wire_on : (plan stream buffer : List ℕ) (n : ℕ) (old mid new : WireLog) → mid ≡ heard plan stream old
     → new ≡ gave mid buffer n → 0 < n → new ≡ heard plan (stream ++ take n buffer) old
 wire_on plan stream buffer n old mid new before is some =
     let some : nat_eq n 0 ≡ false = grind (arith, nat_tests) in
-    cc (passing_twice (λ t. with_given t buffer n) (asked plan stream) old, passing_same (λ t. with_given (asked plan stream t) buffer n) (asked plan (stream ++ take n buffer)) old (λ t. cc (append_assoc t.given stream (take n buffer))))
+    cc (
+      passing_twice (λ t. with_given t buffer n) (asked plan stream) old,
+      passing_same
+          (λ t. with_given (asked plan stream t) buffer n) (asked plan (stream ++ take n buffer)) old
+          (λ t. cc (append_assoc t.given stream (take n buffer))),
+    )
 
-wire_still : (plan stream : List ℕ) (old new : Log) → new ≡ heard plan stream old
+wire_still : (plan stream : List ℕ) (old new : WireLog) → new ≡ heard plan stream old
     → new ≡ heard plan (stream ++ []) old
 wire_still plan stream old new is = cc (append-nil stream)
 
 -- or it is the end
-wire_ends : (plan stream buffer : List ℕ) (n : ℕ) (old mid new : Log) → mid ≡ heard plan stream old
+wire_ends : (plan stream buffer : List ℕ) (n : ℕ) (old mid new : WireLog) → mid ≡ heard plan stream old
     → new ≡ gave mid buffer n → n ≡ 0 → new ≡ passing ended (heard plan (stream ++ []) old)
 wire_ends plan stream buffer n old mid new before is none =
     cc (passing_same (λ t. with_given t buffer 0) ended mid (λ t. cc (append-nil t.given)), append-nil stream)
 
 -- a client that has sent its request
-pub begins : (plan : List ℕ) (old now : Log) → now ≡ wrote old (request plan) → now ≡ heard plan [] old
+pub begins : (plan : List ℕ) (old now : WireLog) → now ≡ wrote old (request plan) → now ≡ heard plan [] old
 begins plan old now is =
     is ∙ passing_same (λ t. with_taken t (request plan)) (asked plan []) old (λ t. cc (append-nil t.given))
 
 -- ---- what was read
 
-module _ {plan : List ℕ} {r : Reading} {reads : ℕ} {old now o p : Log} (l : Listens plan r reads old now o p) where
+module _ {plan : List ℕ} {r : Reading} {reads : ℕ} {old now o p : WireLog} (l : Listens plan r reads old now o p) where
   -- the asking ended with what was heard before the last read
-  still : (x : Result ⊤ AskFault) (last : List ℕ) (new : Log) → Concludes x l.stream l.messages l.read.rest o p
+  still : (x : Result ⊤ AskFault) (last : List ℕ) (new : WireLog)
+      → ConcludesAnswer x l.stream l.messages l.read.rest o p
       → IsUnread x last → new ≡ left_by x (heard plan (l.stream ++ last) old) → Hears plan x old new o p
   still x last new ends unread wire = record {
     stream = l.stream;
@@ -72,10 +81,11 @@ module _ {plan : List ℕ} {r : Reading} {reads : ℕ} {old now o p : Log} (l : 
   so_far : Passes l.messages (Ok More) o p × (fault_at Replies l.read.rest ≡ None)
   so_far = (l.passed, cc (l.side, l.read.fault, l.right))
 
-  pub unread : (new : Log) → new ≡ read_failed now → Hears plan (Err ask.Read) old new o p
-  unread new is = still (Err ask.Read) [] new so_far refl (is ∙ ap read_failed (wire_still plan l.stream old now l.wire))
+  pub unread : (new : WireLog) → new ≡ read_failed now → Hears plan (Err ask.Read) old new o p
+  unread new is = still (Err ask.Read) [] new so_far refl
+      (is ∙ ap read_failed (wire_still plan l.stream old now l.wire))
 
-  pub truncated : (buffer : List ℕ) (n : ℕ) (new : Log) → new ≡ gave now buffer n → n ≡ 0
+  pub truncated : (buffer : List ℕ) (n : ℕ) (new : WireLog) → new ≡ gave now buffer n → n ≡ 0
       → Hears plan (Err ask.Truncated) old new o p
   truncated buffer n new is none =
       still (Err ask.Truncated) [] new so_far refl (wire_ends plan l.stream buffer n old now new l.wire is none)
@@ -87,8 +97,8 @@ module _ {plan : List ℕ} {r : Reading} {reads : ℕ} {old now o p : Log} (l : 
 
 -- ---- a read, and what was made of the bytes that it gave
 
-module _ {plan : List ℕ} {r : Reading} {reads : ℕ} {old now o p : Log} (l : Listens plan r reads old now o p)
-    (buffer : List ℕ) (n : ℕ) (next : Reading) (new q : Log) (gives : new ≡ gave now buffer n) (some : 0 < n)
+module _ {plan : List ℕ} {r : Reading} {reads : ℕ} {old now o p : WireLog} (l : Listens plan r reads old now o p)
+    (buffer : List ℕ) (n : ℕ) (next : Reading) (new q : WireLog) (gives : new ≡ gave now buffer n) (some : 0 < n)
     (within : n ≤ length buffer) (side : next.side ≡ r.side) where
   pub goes_on : Steps (Ok More) r next l.stream (take n buffer) l.messages p q
       → Listens plan next (reads + 1) old new o q
@@ -104,10 +114,10 @@ module _ {plan : List ℕ} {r : Reading} {reads : ℕ} {old now o p : Log} (l : 
   }
 
   -- the asking ended with the replies of that piece
-  ends_with : (y : Result ⊤ AskFault) (z : Result Progress AskFault)
+  ends_with : (y : Result ⊤ AskFault) (z : Result AnswerState AskFault)
       → (s : Step next l.stream (take n buffer) l.messages z p q)
-      → Concludes y (l.stream ++ take n buffer) (l.messages ++ s.more) s.read.rest o q → IsUnread y []
-      → ((m : Log) → left_by y m ≡ m) → Hears plan y old new o q
+      → ConcludesAnswer y (l.stream ++ take n buffer) (l.messages ++ s.more) s.read.rest o q → IsUnread y []
+      → ((m : WireLog) → left_by y m ≡ m) → Hears plan y old new o q
   ends_with y z s ends none left = record {
     stream = l.stream ++ take n buffer;
     messages = l.messages ++ s.more;
@@ -122,7 +132,7 @@ module _ {plan : List ℕ} {r : Reading} {reads : ℕ} {old now o p : Log} (l : 
   }
 
   -- what its replies make of the output
-  passes_all : (z : Result Progress AskFault) → (s : Step next l.stream (take n buffer) l.messages z p q)
+  passes_all : (z : Result AnswerState AskFault) → (s : Step next l.stream (take n buffer) l.messages z p q)
       → Passes (l.messages ++ s.more) z o q
   passes_all z s = passes_then l.messages s.more z o p q l.passed s.passes
 
@@ -131,8 +141,11 @@ module _ {plan : List ℕ} {r : Reading} {reads : ℕ} {old now o p : Log} (l : 
 
   pub has_failed : (fault : AskFault) → Steps (Err fault) r next l.stream (take n buffer) l.messages p q
       → length buffer ≤ 4096 → length plan ≤ 65536 → Asks plan (Err fault) old new o q
-  has_failed (ask.Told k) s short few =
-      (few, ends_with (Err (ask.Told k)) (Err (ask.Told k)) s (passes_all (Err (ask.Told k)) s) refl (λ m. refl))
+  has_failed (ask.Reported k) s short few = (
+    few,
+    ends_with (Err (ask.Reported k)) (Err (ask.Reported k)) s (passes_all (Err (ask.Reported k)) s) refl
+        (λ m. refl),
+  )
   has_failed ask.Output s short few =
       (few, ends_with (Err ask.Output) (Err ask.Output) s (passes_all (Err ask.Output) s) refl (λ m. refl))
   has_failed (ask.Stream f) (s, is) short few =
@@ -140,7 +153,7 @@ module _ {plan : List ℕ} {r : Reading} {reads : ℕ} {old now o p : Log} (l : 
       (few, ends_with (Err (ask.Stream f)) (Ok More) s (passes_all (Ok More) s, wrong) refl (λ m. refl))
   has_failed ask.Memory (same, taken) short few = (
     few,
-    subst (λ (out : Log). Hears plan (Err ask.Memory) old new o out) (sym taken)
+    subst (λ (out : WireLog). Hears plan (Err ask.Memory) old new o out) (sym taken)
         (still l (Err ask.Memory) (take n buffer) new l.passed
         (omega (arith, length-take-le n buffer within, short, within))
         (wire_on plan l.stream buffer n old now new l.wire gives some)),

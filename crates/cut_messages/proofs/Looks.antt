@@ -1,5 +1,7 @@
--- What stands at the front of some bytes, as it is found test by test.
-use Rattle.std.proofs.Common.{inl, inr, ◌≡◌, ◌∙◌, ◌+◌, ◌-◌, ◌<◌, ◌≤◌, ◌++◌, ℕ, true, List, [], ◌∷◌, length, take, drop, get_or, Option, Some, None, sym, ap, arith, append_assoc, length-take-le, length-drop, take-append-drop}
+-- What some bytes begin with, as it is found test by test.
+use Rattle.std.proofs.Common.{inl, inr, ◌≡◌, ◌∙◌, ◌+◌, ◌-◌, ◌<◌, ◌≤◌, ◌++◌, ℕ, true, List, [], ◌∷◌, length, take, drop}
+use Rattle.std.proofs.Common.{get_or, Option, Some, None, sym, ap, arith, append_assoc, length-take-le, length-drop}
+use Rattle.std.proofs.Common.{take-append-drop}
 use Rattle.std.specs.Int.{w32, to_be_bytes, from_be_bytes}
 use Rattle.std.proofs.lemmas.Bool.Decides.{nat_tests}
 use Rattle.std.proofs.lemmas.Nat.{be_bytes_4}
@@ -13,7 +15,7 @@ use Rattle.cut_messages.specs.declared.side.Side.{Side}
 use Rattle.cut_messages.specs.declared.side.Side.TheVariants.{Requests, Replies}
 use Rattle.cut_messages.specs.Kinds.{byte_of, kind_at, length_of, fits}
 use Rattle.cut_messages.specs.Frames.{length_fault}
-use Rattle.cut_messages.specs.Fronts.{IsWhole}
+use Rattle.cut_messages.specs.Prefixes.{IsWhole}
 
 -- a kind's letter is the byte that it was found by
 kind_byte : (side : Side) (byte : ℕ) (kind : Kind) → kind_at side byte ≡ Some kind → byte_of kind ≡ byte
@@ -23,7 +25,7 @@ kind_byte Replies byte kind found = grind (arith, nat_tests)
 length_fine : (right : Option ℕ) (n : ℕ) → length_fault right n ≡ None → (n ≤ 65536) × (fits right n ≡ true)
 length_fine right n none = (grind (arith, nat_tests), grind (arith, nat_tests))
 
--- the first byte, the next four, and those behind
+-- the first byte, the next four, and those after them
 parted : (bytes : List ℕ) → 5 ≤ length bytes
     → bytes ≡ get_or bytes 0 0 ∷ (take 4 (drop 1 bytes) ++ drop 5 bytes)
 parted [] long = absurd (omega (arith, long))
@@ -36,7 +38,7 @@ pub whole_there : (side : Side) (bytes : List ℕ) (kind : Kind) (n : ℕ)
     → ((i : ℕ) → get_or (take 4 (drop 1 bytes)) i 0 < 256)
     → n ≡ from_be_bytes w32 (take 4 (drop 1 bytes)) → length_fault (length_of side kind) n ≡ None
     → n ≤ length bytes - 5 → IsWhole side bytes kind n
-whole_there side bytes kind n found long small told right there =
+whole_there side bytes kind n found long small reported right there =
     let payload : List ℕ = take n (drop 5 bytes) in
     let fine = length_fine (length_of side kind) n right in
     let rest_long : length (drop 5 bytes) ≡ length bytes - 5 = length-drop 5 bytes in
@@ -45,8 +47,8 @@ whole_there side bytes kind n found long small told right there =
     let four_long : length (take 4 (drop 1 bytes)) ≡ 4 =
     length-take-le 4 (drop 1 bytes) (omega (arith, long, length-drop 1 bytes)) in
     let four : to_be_bytes w32 (length payload) ≡ take 4 (drop 1 bytes) =
-    ap (to_be_bytes w32) payload_long ∙ be_bytes_4 (take 4 (drop 1 bytes)) n four_long small told in
-    let behind : drop 5 bytes ≡ payload ++ drop (5 + n) bytes =
+    ap (to_be_bytes w32) payload_long ∙ be_bytes_4 (take 4 (drop 1 bytes)) n four_long small reported in
+    let later : drop 5 bytes ≡ payload ++ drop (5 + n) bytes =
     sym (take-append-drop n (drop 5 bytes))
     ∙ ap (λ (l : List ℕ). payload ++ l) (drop-drop n 5 bytes) in
     record {

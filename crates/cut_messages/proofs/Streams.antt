@@ -1,5 +1,6 @@
 -- A stream has one reading.
-use Rattle.std.proofs.Common.{◌≡◌, ◌∙◌, ◌+◌, ◌*◌, ◌≤◌, ◌++◌, ℕ, List, [], ◌∷◌, length, take, drop, Some, refl, sym, ap, arith, append_assoc, append-nil, length-append}
+use Rattle.std.proofs.Common.{◌≡◌, ◌∙◌, ◌+◌, ◌*◌, ◌≤◌, ◌++◌, ℕ, List, [], ◌∷◌, length, take, drop, Some, refl, sym, ap}
+use Rattle.std.proofs.Common.{arith, append_assoc, append-nil, length-append}
 use Rattle.std.specs.List.{AllByRecursion, flat_map}
 use Rattle.std.specs.Int.{w32, to_be_bytes, from_be_bytes}
 use Rattle.std.proofs.lemmas.List.{take_at, drop_at}
@@ -11,22 +12,23 @@ use Rattle.cut_messages.specs.declared.message.Message.{Message}
 use Rattle.cut_messages.specs.Kinds.{byte_of, kind_at}
 use Rattle.cut_messages.specs.Frames.{frame_of, IsMessage}
 use Rattle.cut_messages.specs.Reading.{HasNoMessage}
-use Rattle.cut_messages.specs.Fronts.{message_in, IsWhole}
+use Rattle.cut_messages.specs.Prefixes.{message_in, IsWhole}
 use Rattle.cut_messages.specs.Laws.{ReadingsAgree, MessagesTakeRoom}
-use Rattle.cut_messages.proofs.Frames.{long_frame, behind_four, length_told}
+use Rattle.cut_messages.proofs.Frames.{long_frame, after_four, length_given}
 
--- two messages at the front of the same bytes are one
+-- two messages at the beginning of the same bytes are one
 one_frame : (side : Side) (m n : Message) (t u : List ℕ) → IsMessage side m → IsMessage side n
     → frame_of m ++ t ≡ frame_of n ++ u → (m ≡ n) × (t ≡ u)
 one_frame side m n t u is is_too same =
     let letters : byte_of m.kind ≡ byte_of n.kind = cc in
-    let others : (to_be_bytes w32 (length m.payload) ++ m.payload) ++ t ≡ (to_be_bytes w32 (length n.payload) ++ n.payload) ++ u = cc in
+    let others : (to_be_bytes w32 (length m.payload) ++ m.payload) ++ t
+    ≡ (to_be_bytes w32 (length n.payload) ++ n.payload) ++ u = cc in
     let found : Some m.kind ≡ Some n.kind = sym is.kind ∙ ap (kind_at side) letters ∙ is_too.kind in
     let long : length m.payload ≡ length n.payload =
-    sym (length_told m.payload t is.short) ∙ ap (λ (l : List ℕ). from_be_bytes w32 (take 4 l)) others
-    ∙ length_told n.payload u is_too.short in
+    sym (length_given m.payload t is.short) ∙ ap (λ (l : List ℕ). from_be_bytes w32 (take 4 l)) others
+    ∙ length_given n.payload u is_too.short in
     let rest : m.payload ++ t ≡ n.payload ++ u =
-    sym (behind_four m.payload t) ∙ ap (drop 4) others ∙ behind_four n.payload u in
+    sym (after_four m.payload t) ∙ ap (drop 4) others ∙ after_four n.payload u in
     let payloads : m.payload ≡ n.payload =
     sym (take_at m.payload t (length m.payload) refl) ∙ ap (take (length m.payload)) rest
     ∙ take_at n.payload u (length m.payload) (sym long) in
@@ -49,11 +51,11 @@ one_reading side (m ∷ ms) [] r s are are_too none none_too same =
     absurd (none_too m (flat_map frame_of ms ++ r) are.0
     (sym same ∙ append_assoc (frame_of m) (flat_map frame_of ms) r))
 one_reading side (m ∷ ms) (n ∷ ns) r s are are_too none none_too same =
-    let front = one_frame side m n (flat_map frame_of ms ++ r) (flat_map frame_of ns ++ s) are.0 are_too.0
+    let prefix = one_frame side m n (flat_map frame_of ms ++ r) (flat_map frame_of ns ++ s) are.0 are_too.0
     (sym (append_assoc (frame_of m) (flat_map frame_of ms) r) ∙ same
     ∙ append_assoc (frame_of n) (flat_map frame_of ns) s) in
-    let rest = one_reading side ms ns r s are.1 are_too.1 none none_too front.1 in
-    (ap (λ (x : Message). x ∷ ms) front.0 ∙ ap (λ (xs : List Message). n ∷ xs) rest.0, rest.1)
+    let rest = one_reading side ms ns r s are.1 are_too.1 none none_too prefix.1 in
+    (ap (λ (x : Message). x ∷ ms) prefix.0 ∙ ap (λ (xs : List Message). n ∷ xs) rest.0, rest.1)
 
 pub agree : ReadingsAgree
 agree side stream ms ns r s splits splits_too =
@@ -68,7 +70,13 @@ pub one_more : (side : Side) (bytes : List ℕ) (messages : List Message) (read 
 one_more side bytes messages read n kind stands is =
     let m : Message = message_in (drop read bytes) kind n in
     stands ∙ ap (λ (l : List ℕ). flat_map frame_of messages ++ l) is.stands
-    ∙ cc (append_assoc (flat_map frame_of messages) (frame_of m) (drop (5 + n) (drop read bytes)), append-nil (frame_of m), flat_map-append frame_of messages (m ∷ []), drop-drop (5 + n) read bytes)
+    ∙ cc (
+      append_assoc (flat_map frame_of messages) (frame_of m) (drop (5 + n) (drop read bytes)),
+      append-nil
+          (frame_of m),
+      flat_map-append frame_of messages (m ∷ []),
+      drop-drop (5 + n) read bytes,
+    )
 
 frames_room : (side : Side) (ms : List Message) → AllByRecursion (IsMessage side) ms
     → (5 * length ms ≤ length (flat_map frame_of ms)) × (length (flat_map frame_of ms) ≤ 65541 * length ms)

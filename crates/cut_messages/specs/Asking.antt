@@ -5,15 +5,15 @@ use Rattle.std.specs.Prelude.{Some, None, Result, Ok, Err, ⊤}
 use Rattle.std.specs.List.{AllByRecursion, flat_map}
 use Rattle.std.specs.Int.{w16, from_be_bytes}
 use Rattle.cut_faults.specs.Failures.{one_more}
-use Rattle.cut_wires.specs.Log.{Traffic, Log, passing, wrote, read_failed, write_failed}
+use Rattle.cut_wires.specs.Log.{Traffic, WireLog, passing, wrote, read_failed, write_failed}
 use Rattle.cut_messages.specs.declared.side.Side.TheVariants.{Replies}
 use Rattle.cut_messages.specs.declared.kind.Kind.{Kind}
 use Rattle.cut_messages.specs.declared.kind.Kind.TheVariants as kind
 use Rattle.cut_messages.specs.declared.message.Message.{Message}
 use Rattle.cut_messages.specs.declared.ask_fault.AskFault.{AskFault}
 use Rattle.cut_messages.specs.declared.ask_fault.AskFault.TheVariants as ask
-use Rattle.cut_messages.specs.declared.replies.Progress.{Progress}
-use Rattle.cut_messages.specs.declared.replies.Progress.TheVariants.{More, Done}
+use Rattle.cut_messages.specs.declared.replies.AnswerState.{AnswerState}
+use Rattle.cut_messages.specs.declared.replies.AnswerState.TheVariants.{More, Done}
 use Rattle.cut_messages.specs.Frames.{frame, fault_at}
 use Rattle.cut_messages.specs.Reading.{Splits}
 
@@ -22,15 +22,15 @@ abbrev pub request : List ℕ → List ℕ
 request plan = frame kind.Submit plan ++ frame kind.Quit []
 
 -- some first bytes were written, and not all, when a write failed
-abbrev pub IsCutOff : List ℕ → Log → Log → Type 0
+abbrev pub IsCutOff : List ℕ → WireLog → WireLog → Type 0
 IsCutOff bytes old new = (n : ℕ) × (n < length bytes) × (new ≡ write_failed (wrote old (take n bytes)))
 
 -- the request was sent, or a write of it failed
-abbrev pub Requests : {E : Type 0} → Result ⊤ E → List ℕ → Log → Log → Type 0
+abbrev pub Requests : {E : Type 0} → Result ⊤ E → List ℕ → WireLog → WireLog → Type 0
 Requests (Ok done) plan old new = new ≡ wrote old (request plan)
 Requests (Err fault) plan old new = IsCutOff (request plan) old new
 
--- whether a reply is the last that it wants: the table is whole, or the request failed
+-- whether a reply is the last one: the table is whole, or the request failed
 abbrev pub is_last : Kind → Bool
 is_last kind.Done = true
 is_last kind.Fault = true
@@ -61,12 +61,12 @@ pub record Stop (messages : List Message) : Type 0 where
 -- what an output took of replies: the lines of all of them, where none is a last one; or those
 -- before the one at which it stops, which says that the table is whole, or has a fault's number,
 -- or has a line of which a part was written
-abbrev pub Passes : List Message → Result Progress AskFault → Log → Log → Type 0
+abbrev pub Passes : List Message → Result AnswerState AskFault → WireLog → WireLog → Type 0
 Passes messages (Ok More) old new =
     AllByRecursion GoesOn messages × (new ≡ wrote old (lines_of messages))
 Passes messages (Ok Done) old new =
     (s : Stop messages) × (s.here.kind ≡ kind.Done) × (new ≡ wrote old (lines_of s.before))
-Passes messages (Err (ask.Told n)) old new =
+Passes messages (Err (ask.Reported n)) old new =
     (s : Stop messages) × (s.here.kind ≡ kind.Fault) × (n ≡ from_be_bytes w16 s.here.payload)
     × (new ≡ wrote old (lines_of s.before))
 Passes messages (Err ask.Output) old new =
@@ -76,22 +76,22 @@ Passes messages (Err fault) old new = ⊥
 
 -- why it stopped, where it sent its request, and what its output took then, by the replies of the
 -- stream that was read and by what comes after them
-abbrev pub Concludes : Result ⊤ AskFault → List ℕ → List Message → List ℕ → Log → Log → Type 0
-Concludes (Ok done) stream messages rest old new = Passes messages (Ok Done) old new
-Concludes (Err (ask.Told n)) stream messages rest old new =
-    Passes messages (Err (ask.Told n)) old new
-Concludes (Err ask.Output) stream messages rest old new = Passes messages (Err ask.Output) old new
-Concludes (Err ask.Memory) stream messages rest old new = Passes messages (Ok More) old new
-Concludes (Err (ask.Stream fault)) stream messages rest old new =
+abbrev pub ConcludesAnswer : Result ⊤ AskFault → List ℕ → List Message → List ℕ → WireLog → WireLog → Type 0
+ConcludesAnswer (Ok done) stream messages rest old new = Passes messages (Ok Done) old new
+ConcludesAnswer (Err (ask.Reported n)) stream messages rest old new =
+    Passes messages (Err (ask.Reported n)) old new
+ConcludesAnswer (Err ask.Output) stream messages rest old new = Passes messages (Err ask.Output) old new
+ConcludesAnswer (Err ask.Memory) stream messages rest old new = Passes messages (Ok More) old new
+ConcludesAnswer (Err (ask.Stream fault)) stream messages rest old new =
     Passes messages (Ok More) old new × (fault_at Replies rest ≡ Some fault)
-Concludes (Err ask.Endless) stream messages rest old new =
+ConcludesAnswer (Err ask.Endless) stream messages rest old new =
     Passes messages (Ok More) old new × (fault_at Replies rest ≡ None) × (2 ^ 32 ≤ length stream)
-Concludes (Err ask.Truncated) stream messages rest old new =
+ConcludesAnswer (Err ask.Truncated) stream messages rest old new =
     Passes messages (Ok More) old new × (fault_at Replies rest ≡ None)
-Concludes (Err ask.Read) stream messages rest old new =
+ConcludesAnswer (Err ask.Read) stream messages rest old new =
     Passes messages (Ok More) old new × (fault_at Replies rest ≡ None)
-Concludes (Err ask.PlanTooLong) stream messages rest old new = ⊥
-Concludes (Err ask.Request) stream messages rest old new = ⊥
+ConcludesAnswer (Err ask.PlanTooLong) stream messages rest old new = ⊥
+ConcludesAnswer (Err ask.Request) stream messages rest old new = ⊥
 
 -- what the last read gave and no reader took: nothing, but where memory ran out
 abbrev pub IsUnread : Result ⊤ AskFault → List ℕ → Type 0
@@ -103,7 +103,7 @@ abbrev pub asked : List ℕ → List ℕ → Traffic → Traffic
 asked plan given t =
     record { taken = t.taken ++ request plan; given = t.given ++ given; ends = t.ends }
 
-abbrev pub heard : List ℕ → List ℕ → Log → Log
+abbrev pub heard : List ℕ → List ℕ → WireLog → WireLog
 heard plan given l = passing (asked plan given) l
 
 -- and whose last read gave the end exactly where the answer ended before the table did, and failed exactly where
@@ -111,27 +111,27 @@ heard plan given l = passing (asked plan given) l
 abbrev pub ended : Traffic → Traffic
 ended t = record { taken = t.taken; given = t.given; ends = one_more t.ends }
 
-abbrev pub left_by : Result ⊤ AskFault → Log → Log
+abbrev pub left_by : Result ⊤ AskFault → WireLog → WireLog
 left_by (Err ask.Truncated) l = passing ended l
 left_by (Err ask.Read) l = read_failed l
 left_by result l = l
 
 -- the whole request was sent, a stream was read, and the asking ended for what stands in it
-pub record Hears (plan : List ℕ) (result : Result ⊤ AskFault) (old new out_old out_new : Log)
+pub record Hears (plan : List ℕ) (result : Result ⊤ AskFault) (old new out_old out_new : WireLog)
     : Type 0 where
   pub stream : List ℕ
   pub messages : List Message
   pub rest : List ℕ
   pub last : List ℕ
   pub splits : Splits Replies stream messages rest
-  pub ends : Concludes result stream messages rest out_old out_new
+  pub ends : ConcludesAnswer result stream messages rest out_old out_new
   pub unread : IsUnread result last
   pub wire : new ≡ left_by result (heard plan (stream ++ last) old)
 
 -- what passed over the wire and the output, and which calls failed: nothing, where the plan is too long; a part of
 -- the request, where a write of it failed; else the request and an answer. Of a wire of which nothing is known there
 -- is some answer of which the output took the lines.
-abbrev pub Asks : List ℕ → Result ⊤ AskFault → Log → Log → Log → Log → Type 0
+abbrev pub Asks : List ℕ → Result ⊤ AskFault → WireLog → WireLog → WireLog → WireLog → Type 0
 Asks plan (Err ask.PlanTooLong) old new out_old out_new =
     (65536 < length plan) × (new ≡ old) × (out_new ≡ out_old)
 Asks plan (Err ask.Request) old new out_old out_new =

@@ -29,7 +29,7 @@ number_of_ask ask.Read = number_of code.Read
 number_of_ask ask.Endless = number_of code.Read
 number_of_ask ask.Truncated = number_of code.Truncated
 number_of_ask (ask.Stream fault) = number_of (code_of_stream fault)
-number_of_ask (ask.Told number) = number
+number_of_ask (ask.Reported number) = number
 
 -- number and name, `Unknown` where the list has none
 abbrev pub ask_fault_text : AskFault → List ℕ

@@ -33,13 +33,13 @@ length_fault right n =
 
 -- what is wrong with a message after its first byte, which stands for this kind, if for any: first
 -- that it is no kind; then, once the four bytes of the length are there, the length
-abbrev pub fault_behind : Side → Option Kind → List ℕ → Option StreamFault
-fault_behind side None rest = Some BadKind
-fault_behind side (Some kind) rest =
+abbrev pub fault_after : Side → Option Kind → List ℕ → Option StreamFault
+fault_after side None rest = Some BadKind
+fault_after side (Some kind) rest =
     if nat_lt (length rest) 4 then None
     else length_fault (length_of side kind) (from_be_bytes w32 (take 4 rest))
 
--- the fault that stands at the front of some bytes, if one does, as soon as these bytes show it
+-- the fault that some bytes begin with, if there is one, as soon as these bytes show it
 abbrev pub fault_at : Side → List ℕ → Option StreamFault
 fault_at side [] = None
-fault_at side (first ∷ rest) = fault_behind side (kind_at side first) rest
+fault_at side (first ∷ rest) = fault_after side (kind_at side first) rest

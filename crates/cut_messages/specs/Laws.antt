@@ -17,7 +17,7 @@ MessagesTakeRoom = (side : Side) (stream : List ℕ) (ms : List Message) (r : Li
     Splits side stream ms r →
     (5 * length ms + length r ≤ length stream) × (length stream ≤ 65541 * length ms + length r)
 
--- a fault at the front of some bytes stays there whatever comes after them, and no message stands
+-- a fault at the beginning of some bytes stays there whatever comes after them, and no message stands
 -- there
 abbrev pub FaultsStay : Type 0
 FaultsStay = (side : Side) (bytes more : List ℕ) (fault : StreamFault)

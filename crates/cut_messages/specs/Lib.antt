@@ -1,7 +1,7 @@
 pub mod Kinds
 pub mod Frames
 pub mod Reading
-pub mod Fronts
+pub mod Prefixes
 pub mod Asking
 pub mod Listening
 pub mod FaultCode

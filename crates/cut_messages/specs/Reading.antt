@@ -8,12 +8,12 @@ use Rattle.cut_messages.specs.declared.fault.EndFault.{EndFault}
 use Rattle.cut_messages.specs.declared.fault.EndFault.TheVariants.{Stream, Truncated}
 use Rattle.cut_messages.specs.Frames.{frame_of, IsMessage, fault_at}
 
--- no whole message stands at the front of some bytes
+-- some bytes begin with no whole message
 abbrev pub HasNoMessage : Side → List ℕ → Type 0
 HasNoMessage side bytes =
     (m : Message) (tail : List ℕ) → IsMessage side m → bytes ≡ frame_of m ++ tail → ⊥
 
--- the messages of a stream, as it is so far: their frames stand at its front, one after another,
+-- the messages of a stream, as it is so far: their frames stand at its beginning, one after another,
 -- each may go this way, and no whole message comes after them
 pub record Splits (side : Side) (stream : List ℕ) (messages : List Message) (rest : List ℕ)
     : Type 0 where
@@ -34,7 +34,7 @@ fresh side = record { side = side; held = []; fault = None }
 
 -- a reader was fed this stream, in whatever pieces, and gave these messages: they are the stream's;
 -- the fault is that after them; and where there is none, the bytes after them are held
-pub record HasRead (r : Reading) (stream : List ℕ) (messages : List Message) : Type 0 where
+pub record HasReadFrames (r : Reading) (stream : List ℕ) (messages : List Message) : Type 0 where
   pub rest : List ℕ
   pub splits : Splits r.side stream messages rest
   pub fault : r.fault ≡ fault_at r.side rest

@@ -27,7 +27,7 @@ pub enum AskFault {
     /// Something that is no reply stands in the answer.
     Stream(StreamFault),
     /// The server reported the fault with this number.
-    Told(u16),
+    Reported(u16),
 }
 
 impl AskFault {
@@ -36,7 +36,7 @@ impl AskFault {
         ensures { result ≡ number_of_ask self }
     {
         let code = match self {
-            AskFault::Told(number) => return number,
+            AskFault::Reported(number) => return number,
             AskFault::Memory => FaultCode::WorkMemory,
             AskFault::PlanTooLong => FaultCode::PlanTooLong,
             AskFault::Request | AskFault::Output => FaultCode::Write,

@@ -3,7 +3,7 @@ ghost use Rattle.cut_wires.specs.Sending.{Sends, sending};
 ghost use Rattle.cut_messages.specs.Asking.{request, Requests, Asks};
 
 use crate::frame::send_message;
-use crate::replies::{Progress, take_piece};
+use crate::replies::{AnswerState, take_piece};
 use crate::side::LONGEST;
 use crate::{AskFault, Kind, Reader};
 use cut_wires::{Line, Wire, WriteFault};
@@ -49,8 +49,8 @@ pub fn ask<W: Wire, O: Wire>(
             return Err(AskFault::Truncated);
         }
         match take_piece(alloc, &mut reader, &buffer[..count], output) {
-            Ok(Progress::More) => {}
-            Ok(Progress::Done) => return Ok(()),
+            Ok(AnswerState::More) => {}
+            Ok(AnswerState::Done) => return Ok(()),
             Err(fault) => return Err(fault),
         }
     }

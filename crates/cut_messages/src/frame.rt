@@ -5,7 +5,7 @@ ghost use Rattle.cut_messages.specs.Kinds.{byte_of};
 ghost use Rattle.cut_messages.specs.Frames.{frame};
 
 use crate::Kind;
-use crate::front::HEAD;
+use crate::prefix::HEAD;
 use cut_wires::{Framing, Line, Wire, WriteFault};
 
 /// How many bytes a frame has at most that is sent by one write, where the wire takes it whole.

@@ -1,7 +1,7 @@
 ghost use Rattle.std.specs.Prelude.{◌≡◌, ◌++◌, ◌≤◌, [], List, ℕ, length, drop, Some, IfOk, OnErr};
 ghost use Rattle.cut_messages.specs.declared.message.Message.{Message};
 ghost use Rattle.cut_messages.specs.declared.fault.StreamFault.{StreamFault};
-ghost use Rattle.cut_messages.specs.Reading.{fresh, HasRead, end_of};
+ghost use Rattle.cut_messages.specs.Reading.{fresh, HasReadFrames, end_of};
 
 use crate::split::messages_in;
 use crate::{EndFault, Fed, Side, StreamFault};
@@ -31,7 +31,7 @@ impl Reader {
     /// A reader of what a client sends. This takes no memory.
     pub fn requests(alloc: Global) -> Reader
         ensures value { result ≡ fresh Side.Requests }
-        ensures nothing { HasRead result [] [] }
+        ensures nothing { HasReadFrames result [] [] }
     {
         Reader::of(alloc, Side::Requests)
     }
@@ -39,7 +39,7 @@ impl Reader {
     /// A reader of what a server answers. This takes no memory.
     pub fn replies(alloc: Global) -> Reader
         ensures value { result ≡ fresh Side.Replies }
-        ensures nothing { HasRead result [] [] }
+        ensures nothing { HasReadFrames result [] [] }
     {
         Reader::of(alloc, Side::Replies)
     }
@@ -47,7 +47,7 @@ impl Reader {
     /// A reader of nothing yet.
     fn of(alloc: Global, side: Side) -> Reader
         ensures value { result ≡ fresh side }
-        ensures nothing { HasRead result [] [] }
+        ensures nothing { HasReadFrames result [] [] }
     {
         Reader {
             side,
@@ -62,8 +62,8 @@ impl Reader {
     /// nothing of the piece is read.
     pub fn feed(&mut self, alloc: Global, piece: &[u8]) -> Result<Fed, AllocError>
         ensures reads { (stream : List ℕ) (messages : List Message) →
-            HasRead self.old stream messages → IfOk result
-            (λ fed. HasRead self.new (stream ++ piece.now) (messages ++ fed.messages.items)) }
+            HasReadFrames self.old stream messages → IfOk result
+            (λ fed. HasReadFrames self.new (stream ++ piece.now) (messages ++ fed.messages.items)) }
         ensures fault { IfOk result (λ fed. fed.fault ≡ self.new.fault) }
         ensures stays { (fault : StreamFault) → self.old.fault ≡ Some fault →
             IfOk result (λ fed. (fed.messages.items ≡ []) × (self.new ≡ self.old)) }
@@ -89,7 +89,7 @@ impl Reader {
         self.fault = split.fault;
         match split.fault {
             Some(_) => self.held.clear(),
-            None => drop_front(&mut self.held, split.read),
+            None => drop_prefix(&mut self.held, split.read),
         }
         Ok(Fed {
             messages: split.messages,
@@ -110,7 +110,7 @@ impl Reader {
 }
 
 /// Drops the first bytes.
-fn drop_front(bytes: &mut Vec<u8>, count: usize)
+fn drop_prefix(bytes: &mut Vec<u8>, count: usize)
     requires { count ≤ length bytes.old.items }
     ensures { bytes.new.items ≡ drop count bytes.old.items }
 {

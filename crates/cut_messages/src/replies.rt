@@ -1,7 +1,7 @@
 ghost use Rattle.std.specs.Prelude.{◌≡◌, [], ◌∷◌, List, ℕ};
 ghost use Rattle.std.specs.Int.{w16, from_be_bytes};
 ghost use Rattle.cut_messages.specs.declared.message.Message.{Message};
-ghost use Rattle.cut_messages.specs.Reading.{HasRead};
+ghost use Rattle.cut_messages.specs.Reading.{HasReadFrames};
 ghost use Rattle.cut_messages.specs.Asking.{Passes};
 ghost use Rattle.cut_messages.specs.Listening.{Steps};
 
@@ -11,7 +11,7 @@ use std::alloc::Global;
 
 /// Whether an answer is at its end.
 #[derive(Clone, Copy)]
-pub(crate) enum Progress {
+pub(crate) enum AnswerState {
     /// It has more to come.
     More,
     /// The table is whole.
@@ -24,8 +24,8 @@ pub(crate) fn take_piece<O: Wire>(
     reader: &mut Reader,
     piece: &[u8],
     output: &mut O,
-) -> Result<Progress, AskFault>
-    ensures steps { (stream : List ℕ) (messages : List Message) → HasRead reader.old stream messages →
+) -> Result<AnswerState, AskFault>
+    ensures steps { (stream : List ℕ) (messages : List Message) → HasReadFrames reader.old stream messages →
         Steps result reader.old reader.new stream piece.now messages (O.log output.old) (O.log output.new) }
     ensures side { reader.new.side ≡ reader.old.side }
 {
@@ -34,42 +34,42 @@ pub(crate) fn take_piece<O: Wire>(
         Err(_) => return Err(AskFault::Memory),
     };
     match pass_all(fed.messages.as_slice(), output) {
-        Ok(Progress::More) => match fed.fault {
+        Ok(AnswerState::More) => match fed.fault {
             Some(fault) => Err(AskFault::Stream(fault)),
-            None => Ok(Progress::More),
+            None => Ok(AnswerState::More),
         },
-        Ok(Progress::Done) => Ok(Progress::Done),
+        Ok(AnswerState::Done) => Ok(AnswerState::Done),
         Err(fault) => Err(fault),
     }
 }
 
 /// Writes the lines of replies, up to the first that is a last one.
-fn pass_all<O: Wire>(messages: &[Message], output: &mut O) -> Result<Progress, AskFault>
+fn pass_all<O: Wire>(messages: &[Message], output: &mut O) -> Result<AnswerState, AskFault>
     ensures { Passes messages.now result (O.log output.old) (O.log output.new) }
 {
     for message in messages {
         match pass(message, output) {
-            Ok(Progress::More) => {}
-            Ok(Progress::Done) => return Ok(Progress::Done),
+            Ok(AnswerState::More) => {}
+            Ok(AnswerState::Done) => return Ok(AnswerState::Done),
             Err(fault) => return Err(fault),
         }
     }
-    Ok(Progress::More)
+    Ok(AnswerState::More)
 }
 
 /// Writes the line of one reply, if it has one.
-fn pass<O: Wire>(message: &Message, output: &mut O) -> Result<Progress, AskFault>
+fn pass<O: Wire>(message: &Message, output: &mut O) -> Result<AnswerState, AskFault>
     ensures { Passes (message.now ∷ []) result (O.log output.old) (O.log output.new) }
 {
     let payload = message.payload.as_slice();
     match message.kind {
         Kind::Row => match send_all(output, payload) {
-            Ok(()) => Ok(Progress::More),
+            Ok(()) => Ok(AnswerState::More),
             Err(_) => Err(AskFault::Output),
         },
-        Kind::Done => Ok(Progress::Done),
-        Kind::Fault => Err(AskFault::Told(number_in(payload))),
-        Kind::Submit | Kind::Count | Kind::Quit => Ok(Progress::More),
+        Kind::Done => Ok(AnswerState::Done),
+        Kind::Fault => Err(AskFault::Reported(number_in(payload))),
+        Kind::Submit | Kind::Count | Kind::Quit => Ok(AnswerState::More),
     }
 }
 

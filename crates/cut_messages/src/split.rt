@@ -2,7 +2,7 @@ ghost use Rattle.std.specs.Prelude.{◌≡◌, ◌-◌, ◌≤◌, None, length,
 ghost use Rattle.cut_messages.specs.Frames.{fault_at};
 ghost use Rattle.cut_messages.specs.Reading.{Splits};
 
-use crate::front::{Front, HEAD, front_of};
+use crate::prefix::{HEAD, Prefix, prefix_of};
 use crate::{Message, Payload, Side, StreamFault};
 use std::alloc::{AllocError, Global};
 
@@ -16,7 +16,7 @@ pub(crate) struct Split {
     pub fault: Option<StreamFault>,
 }
 
-/// Reads the messages at the front of some bytes.
+/// Reads the messages that some bytes begin with.
 pub(crate) fn messages_in(alloc: Global, side: Side, bytes: &[u8]) -> Result<Split, AllocError>
     ensures splits { IfOk result
         (λ s. Splits side bytes.now s.messages.items (drop s.read bytes.now)) }
@@ -27,14 +27,14 @@ pub(crate) fn messages_in(alloc: Global, side: Side, bytes: &[u8]) -> Result<Spl
     let mut messages = Vec::new(alloc);
     let mut read = 0;
     loop {
-        let (kind, length) = match front_of(side, &bytes[read..]) {
-            Front::Whole(kind, length) => (kind, length),
-            Front::Wrong(fault) => return Ok(Split {
+        let (kind, length) = match prefix_of(side, &bytes[read..]) {
+            Prefix::Whole(kind, length) => (kind, length),
+            Prefix::Wrong(fault) => return Ok(Split {
                 messages,
                 read,
                 fault: Some(fault),
             }),
-            Front::Short => return Ok(Split {
+            Prefix::Short => return Ok(Split {
                 messages,
                 read,
                 fault: None,

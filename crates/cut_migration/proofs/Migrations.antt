@@ -1,5 +1,6 @@
 -- What a migration has moved, slip by slip, and what each crash of it leaves.
-use Rattle.std.proofs.Common.{◌≡◌, ◌∙◌, ◌≤◌, ◌<◌, ◌+◌, ◌-◌, ◌++◌, inl, inr, ℕ, List, [], ◌∷◌, Ok, Err, Option, Some, None, unwrap_or, refl, sym, ap, subst, arith, append-nil, append_assoc}
+use Rattle.std.proofs.Common.{◌≡◌, ◌∙◌, ◌≤◌, ◌<◌, ◌+◌, ◌-◌, ◌++◌, inl, inr, ℕ, List, [], ◌∷◌, Ok, Err, Option, Some}
+use Rattle.std.proofs.Common.{None, unwrap_or, refl, sym, ap, subst, arith, append-nil, append_assoc}
 use Rattle.std.specs.Bool.{⊤}
 use Rattle.std.specs.Prelude.{IsSome, IsErrOf, OnOk, Result, ◌↔◌, ◌⊎◌, slice_get, slice_index_or}
 use Rattle.std.proofs.Math.Nat.{eq-or-lt_of_le, eq-zero-or-pos}
@@ -15,9 +16,12 @@ use Rattle.cut_ledger.specs.World.{IsTrueSlip}
 use Rattle.cut_journal.specs.declared.fault.JournalFault.{JournalFault}
 use Rattle.cut_journal.specs.declared.fault.JournalFault.TheVariants as journal
 use Rattle.cut_migration.specs.declared.fault.MigrateFault.{MigrateFault}
-use Rattle.cut_migration.specs.declared.fault.MigrateFault.TheVariants.{Memory, NotVersion1, BadSlip, OtherPlan, Disagrees, Broken, Disk}
-use Rattle.cut_journal.specs.Journal.{Log, ReadsAs, IsAppendFault, IsSound, Leaves, disk_faults, kept_slips, slips_after}
-use Rattle.cut_migration.specs.Migration.{moved, first_moved, fault_of, moving_faults, taken, AppendsEach, AreTrueUpTo, CanMove, Ends, HasMoved, MovesOne}
+use Rattle.cut_migration.specs.declared.fault.MigrateFault.TheVariants.{Memory, NotVersion1, BadSlip, OtherPlan}
+use Rattle.cut_migration.specs.declared.fault.MigrateFault.TheVariants.{Disagrees, Broken, Disk}
+use Rattle.cut_journal.specs.Journal.{JournalValue, ReadsAs, IsAppendFault, IsFileOf, LeavesAppend, disk_faults}
+use Rattle.cut_journal.specs.Journal.{kept_slips, slips_after}
+use Rattle.cut_migration.specs.Migration.{moved, first_moved, fault_of, moving_faults, taken, AppendsEach, AreTrueUpTo}
+use Rattle.cut_migration.specs.Migration.{CanMove, EndsMigration, HasMoved, MovesOne}
 use Rattle.cut_journal.specs.Reading.{reading}
 use Rattle.cut_journal.proofs.Moments.{stays, weaker, and_then}
 
@@ -35,10 +39,10 @@ none_of None never = refl
 none_of (Some s) never = absurd (never refl)
 
 -- an append that failed ends the move of a slip that is true
-pub append_failed : {D : Type 0} (e : JournalFault) (v : Values) (number : ℕ) (s slip : Slip) (old new : Log D)
+pub append_failed : {D : Type 0} (e : JournalFault) (v : Values) (number : ℕ) (s slip : Slip) (old new : JournalValue D)
     → IsAppendFault e → (IsErrOf {T = ℕ} (Err e) journal.OtherPlan → ⊥)
     → (IsErrOf {T = ℕ} (Err e) journal.Broken ↔ IsSome old.doubtful)
-    → Leaves (Err e) slip old new → slip ≡ moved v s → IsTrueSlip v s
+    → LeavesAppend (Err e) slip old new → slip ≡ moved v s → IsTrueSlip v s
     → MovesOne {T = ⊤} (Err (fault_of e)) v number s old new
 append_failed journal.Memory v number s slip old new may other broken left is holds = absurd may
 append_failed journal.Disk v number s slip old new may other broken left is holds =
@@ -49,7 +53,7 @@ append_failed journal.OtherPlan v number s slip old new may other broken left is
 append_failed (journal.Damaged n) v number s slip old new may other broken left is holds = absurd may
 append_failed journal.Held v number s slip old new may other broken left is holds = absurd may
 
--- and it is a call of the disk that failed exactly where it is told so
+-- and it is a call of the disk that failed exactly where that is reported
 pub failed_calls : (e : JournalFault) (n : ℕ) → IsAppendFault e → (e ≡ journal.OtherPlan → ⊥)
     → disk_faults {T = ℕ} (Err e) n ≡ moving_faults {T = ⊤} (Err (fault_of e)) n
 failed_calls journal.Memory n may other = absurd may
@@ -69,7 +73,7 @@ first_more v ss n s at =
     map_more (moved v) ss n s (slice_get_within ss n s at)
     ∙ ap (λ (x : Slip). first_moved v ss n ++ moved v x ∷ []) (get_or_from_slice_get ss n s s at)
 
-pub none_moved : {D : Type 0} (v : Values) (ss : List Slip) (log : Log D) → HasMoved v ss 0 log log
+pub none_moved : {D : Type 0} (v : Values) (ss : List Slip) (log : JournalValue D) → HasMoved v ss 0 log log
 none_moved v ss log = record {
   within = omega arith;
   true = λ i d low. absurd (omega arith);
@@ -79,19 +83,23 @@ none_moved v ss log = record {
   untouched = λ none. refl;
 }
 
-true_at : (v : Values) (ss : List Slip) (n : ℕ) (s : Slip) → slice_get ss n ≡ Some s → AreTrueUpTo v ss n → IsTrueSlip v s
+true_at : (v : Values) (ss : List Slip) (n : ℕ) (s : Slip) → slice_get ss n ≡ Some s → AreTrueUpTo v ss n
+    → IsTrueSlip v s
     → (i : ℕ) (d : Slip) → (i ≡ n) ⊎ (i < n) → IsTrueSlip v (slice_index_or ss i d)
 true_at v ss n s at before here i d (inl is) =
     subst (λ (x : Slip). IsTrueSlip v x)
     (sym (ap (λ k. slice_index_or ss k d) is ∙ get_or_from_slice_get ss n s d at)) here
 true_at v ss n s at before here i d (inr below) = before i d below
 
-pub true_more : (v : Values) (ss : List Slip) (n : ℕ) (s : Slip) → slice_get ss n ≡ Some s → AreTrueUpTo v ss n → IsTrueSlip v s
+pub true_more : (v : Values) (ss : List Slip) (n : ℕ) (s : Slip) → slice_get ss n ≡ Some s → AreTrueUpTo v ss n
+    → IsTrueSlip v s
     → AreTrueUpTo v ss (n + 1)
 true_more v ss n s at before here i d low = true_at v ss n s at before here i d (eq-or-lt_of_le (omega (arith, low)))
 
-pub moved_more : {D : Type 0} (v : Values) (ss : List Slip) (n number : ℕ) (s : Slip) (old mid new : Log D) → slice_get ss n ≡ Some s
-    → HasMoved v ss n old mid → mid.doubtful ≡ old.doubtful → MovesOne {T = ⊤} (Ok tt) v number s mid new → HasMoved v ss (n + 1) old new
+pub moved_more : {D : Type 0} (v : Values) (ss : List Slip) (n number : ℕ) (s : Slip) (old mid new : JournalValue D)
+    → slice_get ss n ≡ Some s
+    → HasMoved v ss n old mid → mid.doubtful ≡ old.doubtful → MovesOne {T = ⊤} (Ok tt) v number s mid new
+    → HasMoved v ss (n + 1) old new
 moved_more v ss n number s old mid new at before doubt one = record {
   within = (let below = slice_get_within ss n s at in omega (arith, below));
   true = true_more v ss n s at before.true one.0;
@@ -113,14 +121,18 @@ not_taken n taken = none_by n (eq-zero-or-pos n) (λ m. cc (taken m))
 not_some : IsSome {T = Slip} None → ⊥
 not_some some = cc some
 
-none_before : {D : Type 0} (v : Values) (ss : List Slip) (n : ℕ) (old mid : Log D) → HasMoved v ss n old mid → IsSome old.doubtful
+none_before : {D : Type 0} (v : Values) (ss : List Slip) (n : ℕ) (old mid : JournalValue D) → HasMoved v ss n old mid
+    → IsSome old.doubtful
     → n ≡ 0
-none_before v ss n old mid before some = none_by n (eq-zero-or-pos n) (λ m. not_some (subst (λ (o : Option Slip). IsSome o) (before.taken m) some))
+none_before v ss n old mid before some = none_by n (eq-zero-or-pos n)
+    (λ m. not_some (subst (λ (o : Option Slip). IsSome o) (before.taken m) some))
 
--- at a slip that is not moved, behind the first n
-pub stopped : {D : Type 0} (e : MigrateFault) (v : Values) (ss : List Slip) (n number : ℕ) (s : Slip) (old mid new : Log D)
-    → number ≡ n + 1 → CanMove v ss old → slice_get ss n ≡ Some s → HasMoved v ss n old mid → mid.doubtful ≡ old.doubtful
-    → MovesOne {T = ⊤} (Err e) v number s mid new → Ends (Err e) v ss old new
+-- at a slip that is not moved, after the first n
+pub stopped : {D : Type 0} (e : MigrateFault) (v : Values) (ss : List Slip) (n number : ℕ) (s : Slip)
+    (old mid new : JournalValue D)
+    → number ≡ n + 1 → CanMove v ss old → slice_get ss n ≡ Some s → HasMoved v ss n old mid → mid.doubtful
+    ≡ old.doubtful
+    → MovesOne {T = ⊤} (Err e) v number s mid new → EndsMigration (Err e) v ss old new
 stopped Memory v ss n number s old mid new is_number can at before doubt is = (
   can.version,
   inr (
@@ -128,8 +140,8 @@ stopped Memory v ss n number s old mid new is_number can at before doubt is = (
     (
       n,
       (
-        subst (λ (l : Log _). HasMoved v ss n old l) (sym is) before,
-        ap (λ (l : Log _). l.doubtful) is ∙ doubt,
+        subst (λ (l : JournalValue _). HasMoved v ss n old l) (sym is) before,
+        ap (λ (l : JournalValue _). l.doubtful) is ∙ doubt,
       ),
     ),
   ),
@@ -148,8 +160,9 @@ stopped (Disagrees k) v ss n number s old mid new is_number can at before doubt 
         untrue = λ d holds. is.1 (subst (λ (x : Slip). IsTrueSlip v x)
             (ap (λ m. slice_index_or ss m d) (sym same) ∙ get_or_from_slice_get ss n s d at) holds);
       },
-      subst (λ m. HasMoved v ss m old new) same (subst (λ (l : Log _). HasMoved v ss n old l) (sym is.2) before),
-      ap (λ (l : Log _). l.doubtful) is.2 ∙ doubt,
+      subst (λ m. HasMoved v ss m old new) same (subst (λ (l : JournalValue _). HasMoved v ss n old l) (sym is.2)
+          before),
+      ap (λ (l : JournalValue _). l.doubtful) is.2 ∙ doubt,
     )
 stopped Broken v ss n number s old mid new is_number can at before doubt is =
     let some : IsSome old.doubtful = subst (λ (o : Option Slip). IsSome o) doubt is.1 in
@@ -177,7 +190,7 @@ stopped Disk v ss n number s old mid new is_number can at before doubt is = (
 )
 
 -- and the slips that are kept then are those of the first n
-pub kept_of : {D : Type 0} (v : Values) (ss : List Slip) (n m : ℕ) (old new : Log D) (before now : List Slip)
+pub kept_of : {D : Type 0} (v : Values) (ss : List Slip) (n m : ℕ) (old new : JournalValue D) (before now : List Slip)
     → new.count ≡ old.count + n → now ≡ before ++ first_moved v ss n → new.count ≡ old.count + m
     → now ≡ before ++ first_moved v ss m
 kept_of v ss n m old new before now is kept other =
@@ -185,7 +198,8 @@ kept_of v ss n m old new before now is kept other =
 
 -- ---- what a crash leaves
 
-reads_on : (v : Values) (kept : List Slip) (e : Option Slip) (bytes : List ℕ) → ReadsAs v kept None bytes → ReadsAs v kept e bytes
+reads_on : (v : Values) (kept : List Slip) (e : Option Slip) (bytes : List ℕ) → ReadsAs v kept None bytes
+    → ReadsAs v kept e bytes
 reads_on v kept e bytes (inl reads) = inl reads
 reads_on v kept e bytes (inr other) = absurd (cc (other.1.0))
 
@@ -193,26 +207,31 @@ reads_on v kept e bytes (inr other) = absurd (cc (other.1.0))
 abbrev pub LeavesDoubt : Option Slip → Option Slip → List Slip → Type 0
 LeavesDoubt d e ys = (d ≡ None) ⊎ ((ys ≡ []) × (e ≡ d))
 
--- moments at which only the kept slips are there, in front of others
-begun_with : (v : Values) (kept ys : List Slip) (d e : Option Slip) (old mid new : DiskState) → LeavesDoubt d e ys → Throughout old mid (ReadsAs v kept d)
+-- moments at which only the kept slips are there, before others
+begun_with : (v : Values) (kept ys : List Slip) (d e : Option Slip) (old mid new : DiskState) → LeavesDoubt d e ys
+    → Throughout old mid (ReadsAs v kept d)
     → AppendsEach v kept e ys mid new → AppendsEach v kept e ys old new
 begun_with v kept [] d e old mid new (inl none) before after =
     and_then (ReadsAs v kept e) old mid new
-    (weaker (ReadsAs v kept None) (ReadsAs v kept e) (reads_on v kept e) old mid (subst (λ (o : Option Slip). Throughout old mid (ReadsAs v kept o)) none before)) after
+    (weaker (ReadsAs v kept None) (ReadsAs v kept e) (reads_on v kept e) old mid
+    (subst (λ (o : Option Slip). Throughout old mid (ReadsAs v kept o)) none before)) after
 begun_with v kept [] d e old mid new (inr same) before after =
-    and_then (ReadsAs v kept e) old mid new (subst (λ (o : Option Slip). Throughout old mid (ReadsAs v kept o)) (sym same.1) before) after
+    and_then (ReadsAs v kept e) old mid new (subst (λ (o : Option Slip). Throughout old mid (ReadsAs v kept o))
+    (sym same.1) before) after
 begun_with v kept (y ∷ ys) d e old mid new (inl none) before after = (
   after.0,
   (
     and_then (ReadsAs v kept (Some y)) old mid after.0
-        (weaker (ReadsAs v kept None) (ReadsAs v kept (Some y)) (reads_on v kept (Some y)) old mid (subst (λ (o : Option Slip). Throughout old mid (ReadsAs v kept o)) none before)) after.1.0,
+        (weaker (ReadsAs v kept None) (ReadsAs v kept (Some y)) (reads_on v kept (Some y)) old mid
+        (subst (λ (o : Option Slip). Throughout old mid (ReadsAs v kept o)) none before)) after.1.0,
     after.1.1,
   ),
 )
 begun_with v kept (y ∷ ys) d e old mid new (inr same) before after = absurd (cc (same.0))
 
 -- slips that are appended after others
-pub each_then : (v : Values) (kept now xs ys : List Slip) (d e : Option Slip) (old mid new : DiskState) → now ≡ kept ++ xs → LeavesDoubt d e ys
+pub each_then : (v : Values) (kept now xs ys : List Slip) (d e : Option Slip) (old mid new : DiskState) → now ≡ kept
+    ++ xs → LeavesDoubt d e ys
     → AppendsEach v kept d xs old mid → AppendsEach v now e ys mid new → AppendsEach v kept e (xs ++ ys) old new
 each_then v kept now [] ys d e old mid new are doubt before after =
     begun_with v kept ys d e old mid new doubt before
@@ -221,35 +240,45 @@ each_then v kept now (x ∷ xs) ys d e old mid new are doubt before after = (
   before.0,
   (
     before.1.0,
-    each_then v (kept ++ x ∷ []) now xs ys d e before.0 mid new (are ∙ sym (append_assoc kept (x ∷ []) xs)) doubt before.1.1 after,
+    each_then v (kept ++ x ∷ []) now xs ys d e before.0 mid new (are ∙ sym (append_assoc kept (x ∷ []) xs)) doubt
+        before.1.1 after,
   ),
 )
 
 -- nothing is appended
-pub nothing_appended : (v : Values) (count : ℕ) (doubtful : Option Slip) (d : DiskState) → IsSound v count doubtful d
+pub nothing_appended : (v : Values) (count : ℕ) (doubtful : Option Slip) (d : DiskState) → IsFileOf v count doubtful d
     → AppendsEach v (kept_slips v count d) doubtful [] d d
 nothing_appended v count doubtful d sound =
     stays (ReadsAs v (kept_slips v count d) doubtful) d d refl (λ image of. sound.images image of)
 
-same_moments : {D : Type 0} (state : D → DiskState) (old new : Log D) → new ≡ old → IsSound old.plan old.count old.doubtful (state old.disk)
-    → AppendsEach old.plan (kept_slips old.plan old.count (state old.disk)) new.doubtful [] (state old.disk) (state new.disk)
+same_moments : {D : Type 0} (state : D → DiskState) (old new : JournalValue D) → new ≡ old
+    → IsFileOf old.plan old.count old.doubtful (state old.disk)
+    → AppendsEach old.plan (kept_slips old.plan old.count (state old.disk)) new.doubtful [] (state old.disk)
+    (state new.disk)
 same_moments state old new same sound =
-    subst (λ (l : Log _). AppendsEach old.plan (kept_slips old.plan old.count (state old.disk)) l.doubtful [] (state old.disk) (state l.disk)) (sym same)
+    subst (λ (l : JournalValue _). AppendsEach old.plan (kept_slips old.plan old.count (state old.disk)) l.doubtful []
+    (state old.disk) (state l.disk)) (sym same)
     (nothing_appended old.plan old.count old.doubtful (state old.disk) sound)
 
 -- one append
-pub append_moments : {D : Type 0} (result : Result ℕ JournalFault) (slip : Slip) (state : D → DiskState) (old new : Log D)
-    → Leaves result slip old new → (IsErrOf result journal.Broken ↔ IsSome old.doubtful)
-    → IsSound old.plan old.count old.doubtful (state old.disk)
-    → Throughout (state old.disk) (state new.disk) (ReadsAs old.plan (kept_slips old.plan old.count (state old.disk)) (Some (unwrap_or old.doubtful slip)))
-    → OnOk result ((image : List ℕ) → IsImage (state new.disk).stable image → reading old.plan image ≡ Ok (kept_slips new.plan new.count (state new.disk)))
-    → kept_slips new.plan new.count (state new.disk) ≡ slips_after result slip (kept_slips old.plan old.count (state old.disk))
-    → AppendsEach old.plan (kept_slips old.plan old.count (state old.disk)) new.doubtful (taken result slip) (state old.disk) (state new.disk)
+pub append_moments : {D : Type 0} (result : Result ℕ JournalFault) (slip : Slip) (state : D → DiskState)
+    (old new : JournalValue D)
+    → LeavesAppend result slip old new → (IsErrOf result journal.Broken ↔ IsSome old.doubtful)
+    → IsFileOf old.plan old.count old.doubtful (state old.disk)
+    → Throughout (state old.disk) (state new.disk)
+    (ReadsAs old.plan (kept_slips old.plan old.count (state old.disk)) (Some (unwrap_or old.doubtful slip)))
+    → OnOk result ((image : List ℕ) → IsImage (state new.disk).stable image → reading old.plan image
+    ≡ Ok (kept_slips new.plan new.count (state new.disk)))
+    → kept_slips new.plan new.count (state new.disk)
+    ≡ slips_after result slip (kept_slips old.plan old.count (state old.disk))
+    → AppendsEach old.plan (kept_slips old.plan old.count (state old.disk)) new.doubtful (taken result slip)
+    (state old.disk) (state new.disk)
 append_moments (Ok n) slip state old new left broken sound moments known kept =
     let none : old.doubtful ≡ None = none_of old.doubtful (λ some. cc (broken.1 some)) in
     let before : List Slip = kept_slips old.plan old.count (state old.disk) in
     let step : Throughout (state old.disk) (state new.disk) (ReadsAs old.plan before (Some slip)) =
-    subst (λ (o : Option Slip). Throughout (state old.disk) (state new.disk) (ReadsAs old.plan before (Some (unwrap_or o slip)))) none moments in (
+    subst (λ (o : Option Slip). Throughout (state old.disk) (state new.disk)
+    (ReadsAs old.plan before (Some (unwrap_or o slip)))) none moments in (
       state new.disk,
       (
         step,
@@ -261,63 +290,81 @@ append_moments (Err journal.Disk) slip state old new left broken sound moments k
     let none : old.doubtful ≡ None = none_of old.doubtful (λ some. cc (broken.1 some)) in
     let before : List Slip = kept_slips old.plan old.count (state old.disk) in
     let step : Throughout (state old.disk) (state new.disk) (ReadsAs old.plan before (Some slip)) =
-    subst (λ (o : Option Slip). Throughout (state old.disk) (state new.disk) (ReadsAs old.plan before (Some (unwrap_or o slip)))) none moments in
-    subst (λ (o : Option Slip). Throughout (state old.disk) (state new.disk) (ReadsAs old.plan before o)) (sym left.2) step
-append_moments (Err journal.Memory) slip state old new left broken sound moments known kept = same_moments state old new left sound
-append_moments (Err journal.Broken) slip state old new left broken sound moments known kept = same_moments state old new left sound
-append_moments (Err journal.NoStudy) slip state old new left broken sound moments known kept = same_moments state old new left sound
-append_moments (Err journal.OtherPlan) slip state old new left broken sound moments known kept = same_moments state old new left sound
-append_moments (Err (journal.Damaged k)) slip state old new left broken sound moments known kept = same_moments state old new left sound
-append_moments (Err journal.Held) slip state old new left broken sound moments known kept = same_moments state old new left sound
+    subst (λ (o : Option Slip). Throughout (state old.disk) (state new.disk)
+    (ReadsAs old.plan before (Some (unwrap_or o slip)))) none moments in
+    subst (λ (o : Option Slip). Throughout (state old.disk) (state new.disk) (ReadsAs old.plan before o)) (sym left.2)
+    step
+append_moments (Err journal.Memory) slip state old new left broken sound moments known kept = same_moments state old new
+    left sound
+append_moments (Err journal.Broken) slip state old new left broken sound moments known kept = same_moments state old new
+    left sound
+append_moments (Err journal.NoStudy) slip state old new left broken sound moments known kept = same_moments state old
+    new left sound
+append_moments (Err journal.OtherPlan) slip state old new left broken sound moments known kept = same_moments state old
+    new left sound
+append_moments (Err (journal.Damaged k)) slip state old new left broken sound moments known kept = same_moments state
+    old new left sound
+append_moments (Err journal.Held) slip state old new left broken sound moments known kept = same_moments state old new
+    left sound
 
 -- a migration that does nothing
 pub nothing_moved : (v : Values) (ss : List Slip) (plan : Values) (count : ℕ) (doubtful : Option Slip) (d : DiskState)
-    → IsSound plan count doubtful d → (n : ℕ) → count ≡ count + n → AppendsEach plan (kept_slips plan count d) doubtful (first_moved v ss n) d d
+    → IsFileOf plan count doubtful d → (n : ℕ) → count ≡ count + n
+    → AppendsEach plan (kept_slips plan count d) doubtful (first_moved v ss n) d d
 nothing_moved v ss plan count doubtful d sound n is =
     subst (λ k. AppendsEach plan (kept_slips plan count d) doubtful (first_moved v ss k) d d)
     (let none : 0 ≡ n = omega (arith, is) in none) (nothing_appended plan count doubtful d sound)
 
 -- what one move says of the doubtful slip
-doubt_after : {T D : Type 0} (result : Result T MigrateFault) (v : Values) (number : ℕ) (s slip : Slip) (old new : Log D) → MovesOne result v number s old new
+doubt_after : {T D : Type 0} (result : Result T MigrateFault) (v : Values) (number : ℕ) (s slip : Slip)
+    (old new : JournalValue D) → MovesOne result v number s old new
     → LeavesDoubt old.doubtful new.doubtful (taken result slip)
 doubt_after (Ok done) v number s slip old new is = inl is.3
-doubt_after (Err Memory) v number s slip old new is = inr (refl, ap (λ (l : Log _). l.doubtful) is)
+doubt_after (Err Memory) v number s slip old new is = inr (refl, ap (λ (l : JournalValue _). l.doubtful) is)
 doubt_after (Err NotVersion1) v number s slip old new is = absurd is
 doubt_after (Err (BadSlip k)) v number s slip old new is = absurd is
 doubt_after (Err OtherPlan) v number s slip old new is = absurd is
-doubt_after (Err (Disagrees k)) v number s slip old new is = inr (refl, ap (λ (l : Log _). l.doubtful) is.2)
-doubt_after (Err Broken) v number s slip old new is = inr (refl, ap (λ (l : Log _). l.doubtful) is.2)
+doubt_after (Err (Disagrees k)) v number s slip old new is = inr (refl, ap (λ (l : JournalValue _). l.doubtful) is.2)
+doubt_after (Err Broken) v number s slip old new is = inr (refl, ap (λ (l : JournalValue _). l.doubtful) is.2)
 doubt_after (Err Disk) v number s slip old new is = inl is.3
 
 -- the moments of a migration with those of one slip more
-pub moments_more : {T D : Type 0} (result : Result T MigrateFault) (v : Values) (ss : List Slip) (plan : Values) (kept now : List Slip) (n number : ℕ) (s : Slip) (mid new : Log D)
-    (before between after : DiskState) → MovesOne result v number s mid new → mid.plan ≡ plan → now ≡ kept ++ first_moved v ss n
+pub moments_more : {T D : Type 0} (result : Result T MigrateFault) (v : Values) (ss : List Slip) (plan : Values)
+    (kept now : List Slip) (n number : ℕ) (s : Slip) (mid new : JournalValue D)
+    (before between after : DiskState) → MovesOne result v number s mid new → mid.plan ≡ plan → now ≡ kept
+    ++ first_moved v ss n
     → AppendsEach plan kept mid.doubtful (first_moved v ss n) before between
     → AppendsEach mid.plan now new.doubtful (taken result (moved v s)) between after
     → AppendsEach plan kept new.doubtful (first_moved v ss n ++ taken result (moved v s)) before after
 moments_more result v ss plan kept now n number s mid new before between after is same are moments one =
-    each_then plan kept now (first_moved v ss n) (taken result (moved v s)) mid.doubtful new.doubtful before between after are
+    each_then plan kept now (first_moved v ss n) (taken result (moved v s)) mid.doubtful new.doubtful before between
+    after are
     (doubt_after result v number s (moved v s) mid new is) moments
     (subst (λ (w : Values). AppendsEach w now new.doubtful (taken result (moved v s)) between after) same one)
 
 -- where the slip was not taken, they are those of the first n
-same_count : {D : Type 0} (e : MigrateFault) (v : Values) (number : ℕ) (s : Slip) (old new : Log D) → MovesOne {T = ⊤} (Err e) v number s old new → new.count ≡ old.count
-same_count Memory v number s old new is = ap (λ (l : Log _). l.count) is
+same_count : {D : Type 0} (e : MigrateFault) (v : Values) (number : ℕ) (s : Slip) (old new : JournalValue D)
+    → MovesOne {T = ⊤} (Err e) v number s old new → new.count ≡ old.count
+same_count Memory v number s old new is = ap (λ (l : JournalValue _). l.count) is
 same_count NotVersion1 v number s old new is = absurd is
 same_count (BadSlip k) v number s old new is = absurd is
 same_count OtherPlan v number s old new is = absurd is
-same_count (Disagrees k) v number s old new is = ap (λ (l : Log _). l.count) is.2
-same_count Broken v number s old new is = ap (λ (l : Log _). l.count) is.2
+same_count (Disagrees k) v number s old new is = ap (λ (l : JournalValue _). l.count) is.2
+same_count Broken v number s old new is = ap (λ (l : JournalValue _). l.count) is.2
 same_count Disk v number s old new is = is.2
 
-pub moments_stop : {D : Type 0} (e : MigrateFault) (v : Values) (ss : List Slip) (plan : Values) (kept now : List Slip) (n m number : ℕ) (s : Slip) (old mid new : Log D)
-    (before between after : DiskState) → MovesOne {T = ⊤} (Err e) v number s mid new → HasMoved v ss n old mid → plan ≡ old.plan → new.count ≡ old.count + m → now ≡ kept ++ first_moved v ss n
+pub moments_stop : {D : Type 0} (e : MigrateFault) (v : Values) (ss : List Slip) (plan : Values) (kept now : List Slip)
+    (n m number : ℕ) (s : Slip) (old mid new : JournalValue D)
+    (before between after : DiskState) → MovesOne {T = ⊤} (Err e) v number s mid new → HasMoved v ss n old mid → plan
+    ≡ old.plan → new.count ≡ old.count + m → now ≡ kept ++ first_moved v ss n
     → AppendsEach plan kept mid.doubtful (first_moved v ss n) before between
     → AppendsEach mid.plan now new.doubtful [] between after
     → AppendsEach plan kept new.doubtful (first_moved v ss m) before after
 moments_stop e v ss plan kept now n m number s old mid new before between after is moved_so held other are moments one =
     let count = same_count e v number s mid new is in
     let first = moved_so.count in
-    subst (λ k. AppendsEach plan kept new.doubtful (first_moved v ss k) before after) (let same : n ≡ m = omega (arith, count, first, other) in same)
+    subst (λ k. AppendsEach plan kept new.doubtful (first_moved v ss k) before after)
+    (let same : n ≡ m = omega (arith, count, first, other) in same)
     (subst (λ (l : List Slip). AppendsEach plan kept new.doubtful l before after) (append-nil (first_moved v ss n))
-    (moments_more {T = ⊤} (Err e) v ss plan kept now n number s mid new before between after is (moved_so.plan ∙ sym held) are moments one))
+    (moments_more {T = ⊤} (Err e) v ss plan kept now n number s mid new before between after is
+    (moved_so.plan ∙ sym held) are moments one))

@@ -1,5 +1,6 @@
 -- What a migration leaves: the slips of a study of version 1, worked out anew for the plan's upgrade.
-use Rattle.std.specs.Prelude.{◌≡◌, ◌≢◌, ◌⊎◌, ◌≤◌, ◌<◌, ◌+◌, ◌-◌, ◌++◌, ℕ, List, length, [], ◌∷◌, map, take, slice_index_or, Option, None, Some, IsSome, Result, Ok, Err, ⊤}
+use Rattle.std.specs.Prelude.{◌≡◌, ◌≢◌, ◌⊎◌, ◌≤◌, ◌<◌, ◌+◌, ◌-◌, ◌++◌, ℕ, List, length, [], ◌∷◌, map, take}
+use Rattle.std.specs.Prelude.{slice_index_or, Option, None, Some, IsSome, Result, Ok, Err, ⊤}
 use Rattle.cut_faults.specs.Failures.{one_more}
 use Rattle.cut_plan.specs.declared.version.Version.TheVariants.{One, Two}
 use Rattle.cut_plan.specs.Targets.{upgraded}
@@ -11,10 +12,11 @@ use Rattle.cut_ledger.specs.declared.slip.Slip.{Slip}
 use Rattle.cut_ledger.specs.Slips.{AreGood, IsFirstBad}
 use Rattle.cut_ledger.specs.World.{IsTrueSlip}
 use Rattle.cut_migration.specs.declared.fault.MigrateFault.{MigrateFault}
-use Rattle.cut_migration.specs.declared.fault.MigrateFault.TheVariants.{Memory, NotVersion1, BadSlip, OtherPlan, Disagrees, Broken, Disk}
+use Rattle.cut_migration.specs.declared.fault.MigrateFault.TheVariants.{Memory, NotVersion1, BadSlip, OtherPlan}
+use Rattle.cut_migration.specs.declared.fault.MigrateFault.TheVariants.{Disagrees, Broken, Disk}
 use Rattle.cut_journal.specs.declared.fault.JournalFault.{JournalFault}
 use Rattle.cut_journal.specs.declared.fault.JournalFault.TheVariants as journal
-use Rattle.cut_journal.specs.Journal.{Log, ReadsAs}
+use Rattle.cut_journal.specs.Journal.{JournalValue, ReadsAs}
 
 -- a slip of the plan's upgrade: the same piece, with the sums that its trials have there
 abbrev pub moved : Values → Slip → Slip
@@ -36,13 +38,13 @@ pub record IsFirstUntrue (v : Values) (ss : List Slip) (n : ℕ) : Type 0 where
   pub untrue : (d : Slip) → IsTrueSlip v (slice_index_or ss (n - 1) d) → ⊥
 
 -- these slips of a plan can be moved to a journal: a ledger can begin with them, and the journal is the upgrade's
-pub record CanMove {D : Type 0} (v : Values) (ss : List Slip) (log : Log D) : Type 0 where
+pub record CanMove {D : Type 0} (v : Values) (ss : List Slip) (log : JournalValue D) : Type 0 where
   pub version : version_of v.failing ≡ One
   pub good : AreGood v ss
   pub plan : log.plan ≡ upgraded v
 
 -- the first n slips, which are true, were moved, and no more; only a journal that is not broken takes one
-pub record HasMoved {D : Type 0} (v : Values) (ss : List Slip) (n : ℕ) (old new : Log D) : Type 0 where
+pub record HasMoved {D : Type 0} (v : Values) (ss : List Slip) (n : ℕ) (old new : JournalValue D) : Type 0 where
   pub within : n ≤ length ss
   pub true : AreTrueUpTo v ss n
   pub plan : new.plan ≡ old.plan
@@ -51,7 +53,7 @@ pub record HasMoved {D : Type 0} (v : Values) (ss : List Slip) (n : ℕ) (old ne
   pub untouched : n ≡ 0 → new ≡ old
 
 -- the first n slips were moved, and the disk failed while the next one was, which is true too and doubtful now
-pub record HasFailed {D : Type 0} (v : Values) (ss : List Slip) (n : ℕ) (old new : Log D) : Type 0 where
+pub record FailsMigration {D : Type 0} (v : Values) (ss : List Slip) (n : ℕ) (old new : JournalValue D) : Type 0 where
   pub within : n < length ss
   pub true : AreTrueUpTo v ss (n + 1)
   pub plan : new.plan ≡ old.plan
@@ -61,19 +63,20 @@ pub record HasFailed {D : Type 0} (v : Values) (ss : List Slip) (n : ℕ) (old n
 
 -- how a migration ends, by its answer: how many slips it moved, which are all; or why it stopped, and what it
 -- moved before. A refusal of memory may come at any step once the version is known.
-abbrev pub Ends : {D : Type 0} → Result ℕ MigrateFault → Values → List Slip → Log D → Log D → Type 0
-Ends (Ok n) v ss old new =
+abbrev pub EndsMigration : {D : Type 0} → Result ℕ MigrateFault → Values → List Slip → JournalValue D → JournalValue D
+    → Type 0
+EndsMigration (Ok n) v ss old new =
     (n ≡ length ss) × CanMove v ss old × HasMoved v ss n old new × (new.doubtful ≡ old.doubtful)
-Ends (Err NotVersion1) v ss old new = (version_of v.failing ≡ Two) × (new ≡ old)
-Ends (Err (BadSlip n)) v ss old new = (version_of v.failing ≡ One) × IsFirstBad v ss n × (new ≡ old)
-Ends (Err OtherPlan) v ss old new =
+EndsMigration (Err NotVersion1) v ss old new = (version_of v.failing ≡ Two) × (new ≡ old)
+EndsMigration (Err (BadSlip n)) v ss old new = (version_of v.failing ≡ One) × IsFirstBad v ss n × (new ≡ old)
+EndsMigration (Err OtherPlan) v ss old new =
     (version_of v.failing ≡ One) × AreGood v ss × (old.plan ≢ upgraded v) × (new ≡ old)
-Ends (Err (Disagrees n)) v ss old new =
+EndsMigration (Err (Disagrees n)) v ss old new =
     CanMove v ss old × IsFirstUntrue v ss n × HasMoved v ss (n - 1) old new × (new.doubtful ≡ old.doubtful)
-Ends (Err Broken) v ss old new =
+EndsMigration (Err Broken) v ss old new =
     CanMove v ss old × (1 ≤ length ss) × AreTrueUpTo v ss 1 × IsSome old.doubtful × (new ≡ old)
-Ends (Err Disk) v ss old new = CanMove v ss old × ((n : ℕ) × HasFailed v ss n old new)
-Ends (Err Memory) v ss old new =
+EndsMigration (Err Disk) v ss old new = CanMove v ss old × ((n : ℕ) × FailsMigration v ss n old new)
+EndsMigration (Err Memory) v ss old new =
     (version_of v.failing ≡ One)
     × ((new ≡ old)
     ⊎ (CanMove v ss old × ((n : ℕ) × (HasMoved v ss n old new × (new.doubtful ≡ old.doubtful)))))
@@ -94,14 +97,15 @@ moving_faults result n = n
 
 -- ---- the move of one slip
 
--- the fault of an append, as a migration tells it; an append has no other faults than these three
+-- the fault of an append, as a migration reports it; an append has no other faults than these three
 abbrev pub fault_of : JournalFault → MigrateFault
 fault_of journal.Disk = Disk
 fault_of journal.Broken = Broken
 fault_of fault = OtherPlan
 
 -- how it ends: the slip is true and was taken; or why it was not
-abbrev pub MovesOne : {T D : Type 0} → Result T MigrateFault → Values → ℕ → Slip → Log D → Log D → Type 0
+abbrev pub MovesOne : {T D : Type 0} → Result T MigrateFault → Values → ℕ → Slip → JournalValue D → JournalValue D
+    → Type 0
 MovesOne (Ok done) v number s old new =
     IsTrueSlip v s × (new.plan ≡ old.plan) × (new.count ≡ old.count + 1) × (old.doubtful ≡ None)
     × (new.doubtful ≡ None)

@@ -8,7 +8,8 @@ ghost use Rattle.cut_trial.specs.Sum.{is_piece, sum_of, trials_in, without_settl
 ghost use Rattle.cut_ledger.specs.Slips.{AreGood};
 ghost use Rattle.cut_ledger.specs.World.{IsTrueSlip};
 ghost use Rattle.cut_journal.specs.Journal.{kept_slips};
-ghost use Rattle.cut_migration.specs.Migration.{AppendsEach, Ends, IsJudgedBy, MovesOne, fault_of, first_moved, kept_after, moved, moving_faults, taken};
+ghost use Rattle.cut_migration.specs.Migration.{AppendsEach, EndsMigration, IsJudgedBy, MovesOne, fault_of};
+ghost use Rattle.cut_migration.specs.Migration.{first_moved, kept_after, moved, moving_faults, taken};
 
 use crate::MigrateFault;
 use cut_disks::Disk;
@@ -21,7 +22,7 @@ use cut_trial::{PieceResult, Totals, TrialFault, run_piece};
 use std::alloc::Global;
 
 /// Moves the slips of a study of version 1 to the journal of its plan's upgrade: runs the trials of each slip
-/// again for the upgrade, and keeps the result where the numbers that both versions tell are those of the
+/// again for the upgrade, and keeps the result where the numbers that both versions have are those of the
 /// slip. It answers how many slips it moved, which are all.
 ///
 /// It is refused before any write where the plan is not of version 1, then where a slip is one that no ledger
@@ -39,7 +40,7 @@ pub fn migrate<D: Disk>(
     journal: &mut Journal<D>,
 ) -> Result<u64, MigrateFault>
     ensures version { IsErrOf result MigrateFault.NotVersion1 ↔ (version_of plan.now.failing ≡ Two) }
-    ensures ends { Ends result plan.now slips.now journal.old journal.new }
+    ensures ends { EndsMigration result plan.now slips.now journal.old journal.new }
     ensures moments { D.is_honest journal.old.disk → (n : ℕ) → journal.new.count ≡ journal.old.count + n →
         AppendsEach journal.old.plan (kept_slips journal.old.plan journal.old.count (D.state journal.old.disk))
         journal.new.doubtful (first_moved plan.now slips.now n)
@@ -102,7 +103,7 @@ fn move_slips<D: Disk>(
 ) -> Result<u64, MigrateFault>
     requires good { AreGood target.plan.now slips.now }
     requires plan { journal.old.plan ≡ upgraded target.plan.now }
-    ensures ends { Ends result target.entry.plan.now slips.now journal.old journal.new }
+    ensures ends { EndsMigration result target.entry.plan.now slips.now journal.old journal.new }
     ensures version { IsErrOf result MigrateFault.NotVersion1 → ⊥ }
     ensures moments { D.is_honest journal.old.disk → (n : ℕ) → journal.new.count ≡ journal.old.count + n →
         AppendsEach journal.old.plan (kept_slips journal.old.plan journal.old.count (D.state journal.old.disk))
@@ -184,11 +185,11 @@ fn is_true(slip: &Slip, found: &PieceResult, target: Target<'_>) -> bool
 {
     pieces_have_possible_totals();
     upgrades_keep_outcomes();
-    let untold = Totals {
+    let unshown = Totals {
         settled: 0,
         ..found.totals()
     };
-    are_same(untold, slip.totals)
+    are_same(unshown, slip.totals)
 }
 
 /// Whether two sums are the same, number by number.

@@ -17,7 +17,7 @@ use Rattle.cut_nodes.specs.declared.slots.Slot.{Slot}
 use Rattle.cut_nodes.specs.declared.node.Cause.{Cause}
 use Rattle.cut_nodes.specs.declared.reported.Reported.{Reported}
 use Rattle.cut_nodes.specs.Slots.{key_of, key_in, Extends}
-use Rattle.cut_nodes.specs.Nodes.{cause_of, cause_in, IsWithin}
+use Rattle.cut_nodes.specs.Nodes.{cause_of, cause_in, AreNodesWithin}
 use Rattle.cut_nodes.specs.Reported.{alerts_of, rule_of_reported, IsGain, AreCauses}
 use Rattle.cut_nodes.proofs.ListLemmas.{maps_agree, list_any-filter}
 use Rattle.cut_nodes.proofs.SlotLemmas.{key_kept}
@@ -69,7 +69,7 @@ causes_push t blocks s ring olds news heard gained full hear gain pushed are =
           ∙ ap (λ xs. xs ++ kept c ∷ []) are.each
           ∙ ap (λ x. map of_ring (rings_to ring (is_full t.rings.now (rule_of_reported t) E) s) ++ x ∷ []) is
           ∙ sym (map_filter_kept of_ring (λ ring. is_full t.rings.now (rule_of_reported t) E ring s) ring full);
-      within = All-push (λ c. IsWithin blocks t.subjects.now c) olds c are.within
+      within = All-push (λ c. AreNodesWithin blocks t.subjects.now c) olds c are.within
           (record { heard = hear.within; gained = gain.within });
     })
 
@@ -122,17 +122,17 @@ heard_within old new m None extends within = within
 heard_within old new m (Some slot) extends within = (omega (arith, extends.long, within.0), within.1)
 
 pub causes_in_kept : (old new subjects : List ℕ) (m : ℕ) (causes : List Cause) → Extends old m new
-    → All (λ c. IsWithin old subjects c) causes
+    → All (λ c. AreNodesWithin old subjects c) causes
     → map (λ c. cause_in new subjects c) causes ≡ map (λ c. cause_in old subjects c) causes
 causes_in_kept old new subjects m causes extends within =
     maps_agree (λ c. cause_in new subjects c) (λ c. cause_in old subjects c) causes
-    (All-weaker (λ c. IsWithin old subjects c) (λ c. cause_in new subjects c ≡ cause_in old subjects c)
+    (All-weaker (λ c. AreNodesWithin old subjects c) (λ c. cause_in new subjects c ≡ cause_in old subjects c)
     (λ c low. ap (λ (key : Option (ℕ × ℕ)). (key, option_map (λ place. slice_index subjects place) c.gained))
     (heard_kept old new m c.heard extends low.heard))
     causes within)
 
 pub within_kept : (old new subjects : List ℕ) (m : ℕ) (causes : List Cause) → Extends old m new
-    → All (λ c. IsWithin old subjects c) causes → All (λ c. IsWithin new subjects c) causes
+    → All (λ c. AreNodesWithin old subjects c) causes → All (λ c. AreNodesWithin new subjects c) causes
 within_kept old new subjects m causes extends within =
-    All-weaker (λ c. IsWithin old subjects c) (λ c. IsWithin new subjects c)
+    All-weaker (λ c. AreNodesWithin old subjects c) (λ c. AreNodesWithin new subjects c)
     (λ c low. record { heard = heard_within old new m c.heard extends low.heard; gained = low.gained }) causes within

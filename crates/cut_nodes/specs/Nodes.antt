@@ -25,7 +25,7 @@ cause_in blocks subjects c =
     (option_map (λ slot. key_in blocks slot) c.heard, option_map (λ place. slice_index subjects place) c.gained)
 
 -- slot and place are among these blocks and subjects
-pub record IsWithin (blocks subjects : List ℕ) (c : Cause) : Type 0 where
+pub record AreNodesWithin (blocks subjects : List ℕ) (c : Cause) : Type 0 where
   pub heard : IfSome c.heard (λ slot. (slot.block < length blocks) × (slot.key < 8))
   pub gained : IfSome c.gained (λ place. place < length subjects)
 
@@ -34,7 +34,7 @@ pub record IsNode (r : Layout) (rule : Rule) (E : EdgeSet) (blocks subjects : Li
   pub heard : AreSlots rule.k blocks (map (λ ring. edge_to d.subject ring) (rings_to rule.k E d.subject)) d.heard.items
   pub causes : map (λ c. cause_in blocks subjects c) d.causes.items
       ≡ map (λ ring. cause_of r rule E d.subject ring) (rings_to rule.k (is_full r rule E) d.subject)
-  pub within : All (λ c. IsWithin blocks subjects c) d.causes.items
+  pub within : All (λ c. AreNodesWithin blocks subjects c) d.causes.items
   pub gains : d.gains ≡ list_any (λ ring. is_gained r rule E ring d.subject) (range_with_len 0 rule.k)
 
 -- the subjects of nodes

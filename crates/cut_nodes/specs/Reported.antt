@@ -11,7 +11,7 @@ use Rattle.cut_nodes.specs.declared.node.Cause.{Cause}
 use Rattle.cut_nodes.specs.declared.node.Node.{Node}
 use Rattle.cut_nodes.specs.declared.reported.Reported.{Reported}
 use Rattle.cut_nodes.specs.Runs.{run_of}
-use Rattle.cut_nodes.specs.Nodes.{cause_of, cause_in, IsWithin, IsNode, subjects_of}
+use Rattle.cut_nodes.specs.Nodes.{cause_of, cause_in, AreNodesWithin, IsNode, subjects_of}
 
 -- the edges and the rule of a trial
 abbrev pub alerts_of : Reported → EdgeSet
@@ -21,7 +21,7 @@ abbrev pub rule_of_reported : Reported → Rule
 rule_of_reported t = rule_in t.rule
 
 -- the alerts about a process
-pub record IsRun (t : Reported) (s : ℕ) (edges : List Edge) : Type 0 where
+pub record IsRunOfNodes (t : Reported) (s : ℕ) (edges : List Edge) : Type 0 where
   pub process : s < t.rings.now.nodes
   pub all : edges ≡ run_of t.rule.k (alerts_of t) s
 
@@ -36,7 +36,7 @@ pub record IsGain (r : Layout) (rule : Rule) (E : EdgeSet) (subjects : List ℕ)
 pub record AreCauses (t : Reported) (blocks rings : List ℕ) (s : ℕ) (causes : List Cause) : Type 0 where
   pub each : map (λ c. cause_in blocks t.subjects.now c) causes
       ≡ map (λ ring. cause_of t.rings.now (rule_of_reported t) (alerts_of t) s ring) rings
-  pub within : All (λ c. IsWithin blocks t.subjects.now c) causes
+  pub within : All (λ c. AreNodesWithin blocks t.subjects.now c) causes
 
 -- the nodes among the first s processes
 pub record HasListed (t : Reported) (s : ℕ) (blocks : List ℕ) (nodes : List Node) : Type 0 where

@@ -1,4 +1,5 @@
-ghost use Rattle.std.specs.Prelude.{◌≡◌, ◌||◌, ◌+◌, ◌^◌, ◌<◌, ◌≤◌, ℕ, List, length, filter, nat_le, is_some, IfOk, OnOk, IsTrue};
+ghost use Rattle.std.specs.Prelude.{◌≡◌, ◌||◌, ◌+◌, ◌^◌, ◌<◌, ◌≤◌, ℕ, List, length, filter, nat_le, is_some, IfOk};
+ghost use Rattle.std.specs.Prelude.{OnOk, IsTrue};
 ghost use Rattle.std.specs.List.{range_with_len, list_any};
 ghost use Rattle.cut_rings.specs.Edges.{set_of, rings_to, edges_in};
 ghost use Rattle.cut_rings.specs.Layout.{IsLayout};
@@ -30,7 +31,7 @@ pub(crate) struct Reported<'a> {
 
 impl<'a> Reported<'a> {
     ghost use Rattle.cut_nodes.specs.Nodes.{IsNode, AreNodesOf};
-    ghost use Rattle.cut_nodes.specs.Reported.{alerts_of, rule_of_reported, IsRun, IsGain, AreCauses, HasListed};
+    ghost use Rattle.cut_nodes.specs.Reported.{alerts_of, rule_of_reported, IsRunOfNodes, IsGain, AreCauses, HasListed};
 
     /// The nodes.
     pub fn nodes(&self, alloc: Global) -> Result<Nodes, AllocError>
@@ -59,7 +60,7 @@ impl<'a> Reported<'a> {
         subject: u16,
         edges: &[Edge],
     ) -> Result<(), AllocError>
-        requires run { IsRun self.now subject edges.now }
+        requires run { IsRunOfNodes self.now subject edges.now }
         requires room { length nodes.old.blocks.items + length edges.now ≤ 2 ^ 16 }
         requires listed { HasListed self.now subject nodes.old.blocks.items nodes.old.nodes.items }
         ensures listed { OnOk result
@@ -83,7 +84,7 @@ impl<'a> Reported<'a> {
         subject: u16,
         edges: &[Edge],
     ) -> Result<Node, AllocError>
-        requires run { IsRun self.now subject edges.now }
+        requires run { IsRunOfNodes self.now subject edges.now }
         requires reported { IsTrue (is_reported (rule_of_reported self.now) (alerts_of self.now) subject) }
         requires room { length blocks.old.items + length edges.now ≤ 2 ^ 16 }
         ensures subject { IfOk result (λ d. d.subject ≡ subject) }
@@ -110,7 +111,7 @@ impl<'a> Reported<'a> {
         edges: &[Edge],
         slots: &[Slot],
     ) -> Result<Vec<Cause>, AllocError>
-        requires run { IsRun self.now subject edges.now }
+        requires run { IsRunOfNodes self.now subject edges.now }
         requires reported { IsTrue (is_reported (rule_of_reported self.now) (alerts_of self.now) subject) }
         requires slots { length slots.now ≡ length edges.now }
         ensures { IfOk result (λ causes. (blocks : List ℕ) → AreSlots self.now.rule.k blocks edges.now slots.now →

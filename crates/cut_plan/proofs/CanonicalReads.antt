@@ -1,9 +1,11 @@
 -- The canonical text of a plan reads as the JSON value that was built of it.
-use Rattle.std.proofs.Common.{◌≡◌, ℕ, ◌^◌, ◌≤◌, ◌<◌, List, [], ◌∷◌, map, Some, option_map, option_and_then, refl, sym, ap, ◌∙◌, arith, append-nil}
+use Rattle.std.proofs.Common.{◌≡◌, ℕ, ◌^◌, ◌≤◌, ◌<◌, List, [], ◌∷◌, map, Some, option_map, option_and_then, refl, sym}
+use Rattle.std.proofs.Common.{ap, ◌∙◌, arith, append-nil}
 use Rattle.std.specs.List.{fold}
 use Rattle.json.specs.Json as json
 use Rattle.json.specs.Print.{print}
-use Rattle.json.specs.Tree.{json_tokens, HasNumbers, ItemsHaveNumbers, MembersHaveNumbers, depth, items_depth, members_depth}
+use Rattle.json.specs.Tree.{json_tokens, HasNumbers, ItemsHaveNumbers, MembersHaveNumbers, depth, items_depth}
+use Rattle.json.specs.Tree.{members_depth}
 use Rattle.json.proofs.Printed.Decimals.{IsNumber-decimal}
 use Rattle.json.proofs.Printed.Tokens.{tokens-print}
 use Rattle.json.proofs.Printed.Trees.{ArePrintable-json_tokens, value-json_tokens}
@@ -25,24 +27,28 @@ use Rattle.cut_plan.proofs.Writing.{with_own_fields}
 
 -- ---- what is read of a printed value
 
-printed_reads : (j : json.Json) (d : Data) → HasNumbers j → depth j ≤ 127 → of_json j ≡ Some d → read (print (json_tokens j)) ≡ Some d
+printed_reads : (j : json.Json) (d : Data) → HasNumbers j → depth j ≤ 127 → of_json j ≡ Some d
+    → read (print (json_tokens j)) ≡ Some d
 printed_reads j d numbers shallow reads =
     let same = tokens-print (json_tokens j) (ArePrintable-json_tokens j numbers) ∙ sym (append-nil (json_tokens j)) in
     ap (λ ts. option_and_then of_json (option_and_then (λ p. json.if_last p.0 p.1) (json.value 127 ts))) same
-    ∙ ap (λ o. option_and_then of_json (option_and_then (λ p. json.if_last p.0 p.1) o)) (value-json_tokens j 127 [] shallow)
+    ∙ ap (λ o. option_and_then of_json (option_and_then (λ p. json.if_last p.0 p.1) o))
+    (value-json_tokens j 127 [] shallow)
     ∙ reads
 
 -- ---- each of the four kinds
 
 items_numbers : (xs : List ℕ) → AreSmall xs → ItemsHaveNumbers (items_outline (items_of (map number_data xs)))
 items_numbers [] small = tt
-items_numbers (x ∷ xs) small = let first : x < 10000 = small.0 in (IsNumber-decimal x (omega arith), items_numbers xs small.1)
+items_numbers (x ∷ xs) small = let first : x < 10000 = small.0
+    in (IsNumber-decimal x (omega arith), items_numbers xs small.1)
 
 items_shallow : (xs : List ℕ) → items_depth (items_outline (items_of (map number_data xs))) ≡ 0
 items_shallow [] = refl
 items_shallow (x ∷ xs) = rw (items_shallow xs) refl
 
-items_read : (xs : List ℕ) → AreSmall xs → of_items (items_outline (items_of (map number_data xs))) ≡ Some (items_of (map number_data xs))
+items_read : (xs : List ℕ) → AreSmall xs → of_items (items_outline (items_of (map number_data xs)))
+    ≡ Some (items_of (map number_data xs))
 items_read [] small = refl
 items_read (x ∷ xs) small =
     let first : x < 10000 = small.0 in
@@ -69,9 +75,14 @@ tame_reads (truth b) h = refl
 
 -- ---- the members
 
-members_numbers : (v : Values) → IsPlan v → (fields : List Field) → MembersHaveNumbers (members_outline (members_with v fields))
+members_numbers : (v : Values) → IsPlan v → (fields : List Field)
+    → MembersHaveNumbers (members_outline (members_with v fields))
 members_numbers v plan [] = tt
-members_numbers v plan (field ∷ fields) = (tame_numbers (datum v field) (tame v plan field).0, members_numbers v plan fields)
+members_numbers v plan (field ∷ fields) = (
+  tame_numbers (datum v field) (tame v plan field).0,
+  members_numbers v plan
+      fields,
+)
 
 members_shallow : (v : Values) (fields : List Field) → members_depth (members_outline (members_with v fields)) ≤ 1
 members_shallow v [] = omega arith
@@ -81,9 +92,11 @@ members_shallow v (field ∷ fields) =
     omega (arith, first, rest)
 
 members_read : (v : Values) → IsPlan v → (fields : List Field) (found : Members)
-    → of_members (members_outline (members_with v fields)) found ≡ Some (fold (λ ms field. put (name_of field) (field_data v field) ms) found fields)
+    → of_members (members_outline (members_with v fields)) found
+    ≡ Some (fold (λ ms field. put (name_of field) (field_data v field) ms) found fields)
 members_read v plan [] found = refl
-members_read v plan (field ∷ fields) found = rw (tame_reads (datum v field) (tame v plan field).0) (members_read v plan fields (put (name_of field) (field_data v field) found))
+members_read v plan (field ∷ fields) found = rw (tame_reads (datum v field) (tame v plan field).0)
+    (members_read v plan fields (put (name_of field) (field_data v field) found))
 
 -- the value that was built reads back
 data_numbers : (v : Values) → IsPlan v → HasNumbers (outline (data_of v))
@@ -96,9 +109,11 @@ data_shallow v = let shallow = members_shallow v (fields_of (version_of v.failin
 
 data_reads : (v : Values) → IsPlan v → of_json (outline (data_of v)) ≡ Some (data_of v)
 unfolding data_of
-data_reads v plan = ap (option_map object) (members_read v plan (fields_of (version_of v.failing)) no_members) ∙ ap Some (with_own_fields v)
+data_reads v plan = ap (option_map object) (members_read v plan (fields_of (version_of v.failing)) no_members)
+    ∙ ap Some (with_own_fields v)
 
 pub canonical_reads : (v : Values) → IsPlan v → read (canonical_text v) ≡ Some (data_of v)
 unfolding canonical_text
 canonical_reads v plan =
-    ap read (sym (print-outline (data_of v))) ∙ printed_reads (outline (data_of v)) (data_of v) (data_numbers v plan) (data_shallow v) (data_reads v plan)
+    ap read (sym (print-outline (data_of v))) ∙ printed_reads (outline (data_of v)) (data_of v) (data_numbers v plan)
+    (data_shallow v) (data_reads v plan)

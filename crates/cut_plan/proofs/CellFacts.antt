@@ -7,7 +7,8 @@ use Rattle.cut_plan.specs.declared.cell.Cell.{Cell}
 use Rattle.cut_plan.specs.Values.{Values}
 use Rattle.cut_plan.specs.Cells.{cells_at, cells_of, largest, IsCellOf}
 use Rattle.cut_plan.specs.Plan.{IsPlan}
-use Rattle.cut_plan.proofs.Every.{every-map, every-flat_map, every-cond, every-always, every-list_all, every-both, every-get_or, every_below_fold}
+use Rattle.cut_plan.proofs.Every.{every-map, every-flat_map, every-cond, every-always, every-list_all, every-both}
+use Rattle.cut_plan.proofs.Every.{every-get_or, every_below_fold}
 
 abbrev IsFailedCount : Values → ℕ → Type 0
 IsFailedCount v f = (f < v.nodes) × (f ≤ largest v.f)
@@ -19,9 +20,11 @@ failed_counts v plan =
     (every_below_fold 0 v.f).1
 
 lows : (v : Values) → IsPlan v → AllByRecursion (λ l. 1 ≤ l) v.l
-lows v plan = every-list_all (λ x. nat_le 1 x && nat_le x 32) (λ l. 1 ≤ l) (λ l h. leb-true 1 l (and_parts (nat_le 1 l) (nat_le l 32) h).0) v.l plan.ls.range
+lows v plan = every-list_all (λ x. nat_le 1 x && nat_le x 32) (λ l. 1 ≤ l)
+    (λ l h. leb-true 1 l (and_parts (nat_le 1 l) (nat_le l 32) h).0) v.l plan.ls.range
 
-cells_at-every : (v : Values) → IsPlan v → (k h l : ℕ) → k ≤ largest v.k → 1 ≤ l → AllByRecursion (IsCellOf v) (cells_at v.f k h l)
+cells_at-every : (v : Values) → IsPlan v → (k h l : ℕ) → k ≤ largest v.k → 1 ≤ l
+    → AllByRecursion (IsCellOf v) (cells_at v.f k h l)
 cells_at-every v plan k h l top low =
     every-cond (IsCellOf v) (nat_le l h && nat_le h k) _ (λ e.
     let parts = and_parts (nat_le l h) (nat_le h k) e in
@@ -31,7 +34,14 @@ cells_at-every v plan k h l top low =
     every-map (IsFailedCount v) (IsCellOf v) _ (λ f c.
     let small : f < v.nodes = c.0 in
     let under : f ≤ largest v.f = c.1 in
-    record { low = low; thresholds = below; rings = within; most_rings = top; faults_fit = omega arith; one_left = small }) v.f (failed_counts v plan))
+    record {
+      low = low;
+      thresholds = below;
+      rings = within;
+      most_rings = top;
+      faults_fit = omega arith;
+      one_left = small;
+    }) v.f (failed_counts v plan))
 
 pub every-cells : (v : Values) → IsPlan v → AllByRecursion (IsCellOf v) (cells_of v)
 every-cells v plan =
@@ -41,7 +51,9 @@ every-cells v plan =
     v.h (every-always (λ _. ⊤) (λ _. tt) v.h))
     v.k (every_below_fold 0 v.k).1
 
-pub cell-facts : (v : Values) (i : ℕ) (c : Cell) (cells : List Cell) → IsPlan v → cells ≡ cells_of v → i < length (cells_of v) → c ≡ get_or cells i c → IsCellOf v c
+pub cell-facts : (v : Values) (i : ℕ) (c : Cell) (cells : List Cell) → IsPlan v → cells ≡ cells_of v → i
+    < length (cells_of v) → c ≡ get_or cells i c → IsCellOf v c
 cell-facts v i c cells plan same within found =
-    let known : IsCellOf v (get_or (cells_of v) i c) = every-get_or (IsCellOf v) (cells_of v) i c (every-cells v plan) within in
+    let known : IsCellOf v (get_or (cells_of v) i c) = every-get_or (IsCellOf v) (cells_of v) i c (every-cells v plan)
+    within in
     rw (found, same) known

@@ -1,5 +1,6 @@
 -- What the checks on an object's fields show.
-use Rattle.std.proofs.Common.{◌≡◌, ℕ, zero, suc, ◌≤◌, ◌<◌, ◌&&◌, List, [], ◌∷◌, Bool, true, false, not, nat_lt, nat_le, Option, None, Some, Result, Ok, if◌then◌else◌, get_or, refl, arith}
+use Rattle.std.proofs.Common.{◌≡◌, ℕ, zero, suc, ◌≤◌, ◌<◌, ◌&&◌, List, [], ◌∷◌, Bool, true, false, not, nat_lt, nat_le}
+use Rattle.std.proofs.Common.{Option, None, Some, Result, Ok, if◌then◌else◌, get_or, refl, arith}
 use Rattle.std.proofs.lemmas.Bool.{and_parts, ltb-true, leb-true, lt-ltb}
 use Rattle.std.specs.List.{AllByRecursion, list_all, find}
 use Rattle.serde_json.specs.Data.{Data}
@@ -8,30 +9,36 @@ use Rattle.cut_plan.specs.declared.field.Field.{Field}
 use Rattle.cut_plan.specs.declared.field.Field.TheVariants.{F, H, K, L, Nodes}
 use Rattle.cut_plan.specs.declared.version.Version.{Version}
 use Rattle.cut_plan.specs.Fields.{fields_of, number_at, numbers_at}
-use Rattle.cut_plan.specs.Accepted.{is_present, is_of_kind, is_in_range, is_in_scale, has_some, rises_at, wanted, fault_at, each, version_in, checks_by, field_check}
+use Rattle.cut_plan.specs.Accepted.{is_present, is_of_kind, is_in_range, is_in_scale, has_some, rises_at, wanted}
+use Rattle.cut_plan.specs.Accepted.{fault_at, each, version_in, checks_by, field_check}
 use Rattle.cut_plan.specs.Plan.{all_within}
 use Rattle.cut_plan.specs.Look.{AreBelow}
 use Rattle.cut_plan.proofs.Versions.{has, every_field}
 
-pub wanted_ok : {A : Type 0} (b : Bool) (fault : Refusal) (later : Result A Refusal) (x : A) → wanted b fault later ≡ Ok x → (b ≡ true) × (later ≡ Ok x)
+pub wanted_ok : {A : Type 0} (b : Bool) (fault : Refusal) (later : Result A Refusal) (x : A) → wanted b fault later
+    ≡ Ok x → (b ≡ true) × (later ≡ Ok x)
 wanted_ok true fault later x h = (refl, h)
 wanted_ok false fault later x h = cc h
 
-fault_at_ok : {A : Type 0} (o : Option Field) (fault : Field → Refusal) (later : Result A Refusal) (x : A) → fault_at o fault later ≡ Ok x → (o ≡ None) × (later ≡ Ok x)
+fault_at_ok : {A : Type 0} (o : Option Field) (fault : Field → Refusal) (later : Result A Refusal) (x : A)
+    → fault_at o fault later ≡ Ok x → (o ≡ None) × (later ≡ Ok x)
 fault_at_ok None fault later x h = (refl, h)
 fault_at_ok (Some field) fault later x h = cc h
 
-find_cons : (holds : Field → Bool) (b : Bool) (field : Field) (rest : Option Field) → (if not b then Some field else rest) ≡ None → (b ≡ true) × (rest ≡ None)
+find_cons : (holds : Field → Bool) (b : Bool) (field : Field) (rest : Option Field)
+    → (if not b then Some field else rest) ≡ None → (b ≡ true) × (rest ≡ None)
 find_cons holds true field rest h = (refl, h)
 find_cons holds false field rest h = cc h
 
-find_none : (holds : Field → Bool) (fields : List Field) → find (λ field. not (holds field)) fields ≡ None → AllByRecursion (λ field. holds field ≡ true) fields
+find_none : (holds : Field → Bool) (fields : List Field) → find (λ field. not (holds field)) fields ≡ None
+    → AllByRecursion (λ field. holds field ≡ true) fields
 find_none holds [] h = tt
 find_none holds (field ∷ fields) h =
     let parts = find_cons holds (holds field) field _ h in
     (parts.0, find_none holds fields parts.1)
 
-each_ok : {A : Type 0} (version : Version) (holds : Field → Bool) (fault : Field → Refusal) (later : Result A Refusal) (x : A) → each version holds fault later ≡ Ok x
+each_ok : {A : Type 0} (version : Version) (holds : Field → Bool) (fault : Field → Refusal) (later : Result A Refusal)
+    (x : A) → each version holds fault later ≡ Ok x
     → ((field : Field) → has field version ≡ true → holds field ≡ true) × (later ≡ Ok x)
 each_ok version holds fault later x h =
     let parts = fault_at_ok (find (λ field. not (holds field)) (fields_of version)) fault later x h in
@@ -64,7 +71,8 @@ within_bounds low high n h =
     let parts = and_parts (nat_le low n) (nat_le n high) h in
     (leb-true low n parts.0, leb-true n high parts.1)
 
-widened : (p : ℕ → Bool) (bound : ℕ) → ((x : ℕ) → p x ≡ true → x < bound) → (xs : List ℕ) → list_all p xs ≡ true → AreBelow bound xs
+widened : (p : ℕ → Bool) (bound : ℕ) → ((x : ℕ) → p x ≡ true → x < bound) → (xs : List ℕ) → list_all p xs ≡ true
+    → AreBelow bound xs
 widened p bound small [] h = refl
 widened p bound small (x ∷ xs) h =
     let parts = and_parts (p x) (list_all p xs) h in
@@ -73,11 +81,14 @@ widened p bound small (x ∷ xs) h =
 
 pub scale_bytes : (xs : List ℕ) → is_in_scale xs ≡ true → AreBelow 256 xs
 scale_bytes xs h =
-    widened (λ x. nat_le 1 x && nat_le x 32) 256 (λ x e. let b = within_bounds 1 32 x e in let top : x ≤ 32 = b.1 in omega arith) xs (and_parts (has_some xs) (all_within 1 32 xs) h).1
+    widened (λ x. nat_le 1 x && nat_le x 32) 256 (λ x e. let b = within_bounds 1 32 x e in let top : x ≤ 32 = b.1
+    in omega arith) xs (and_parts (has_some xs) (all_within 1 32 xs) h).1
 
-pub failed_shorts : (bound : ℕ) (xs : List ℕ) → bound ≤ 2048 → (has_some xs && list_all (λ f. nat_lt f bound) xs) ≡ true → AreBelow 65536 xs
+pub failed_shorts : (bound : ℕ) (xs : List ℕ) → bound ≤ 2048 → (has_some xs && list_all (λ f. nat_lt f bound) xs) ≡ true
+    → AreBelow 65536 xs
 failed_shorts bound xs few h =
-    widened (λ f. nat_lt f bound) 65536 (λ x e. let lt = ltb-true x bound e in omega arith) xs (and_parts (has_some xs) (list_all (λ f. nat_lt f bound) xs) h).1
+    widened (λ f. nat_lt f bound) 65536 (λ x e. let lt = ltb-true x bound e in omega arith) xs
+    (and_parts (has_some xs) (list_all (λ f. nat_lt f bound) xs) h).1
 
 pub below_at : (bound : ℕ) (xs : List ℕ) (i : ℕ) → 0 < bound → AreBelow bound xs → get_or xs i 0 < bound
 below_at bound [] i some h = some

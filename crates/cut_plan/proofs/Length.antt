@@ -1,5 +1,6 @@
 -- The canonical text of a plan is UTF-8, and short.
-use Rattle.std.proofs.Common.{◌≡◌, ℕ, ◌^◌, ◌+◌, ◌*◌, ◌≤◌, ◌<◌, List, [], ◌∷◌, ◌++◌, map, length, length-append, Bool, true, false, ◌&&◌, cond, nat_lt, nat_le, decimal, refl, arith}
+use Rattle.std.proofs.Common.{◌≡◌, ℕ, ◌^◌, ◌+◌, ◌*◌, ◌≤◌, ◌<◌, List, [], ◌∷◌, ◌++◌, map, length, length-append, Bool}
+use Rattle.std.proofs.Common.{true, false, ◌&&◌, cond, nat_lt, nat_le, decimal, refl, arith}
 use Rattle.std.proofs.lemmas.Bool.{and_parts, leb-true}
 use Rattle.std.proofs.lemmas.Fmt.{IsAscii-decimal, length-decimal-le}
 use Rattle.std.proofs.lemmas.Str.{IsUtf8-nil, IsUtf8-from_ascii}
@@ -28,7 +29,11 @@ plain_comma true = one_byte 44 refl
 plain_comma false = record { utf8 = IsUtf8-nil; short = omega arith }
 
 plain_decimal : (k n : ℕ) → 0 < k → n < 10 ^ k → n < 2 ^ 64 → IsPlain k (decimal n)
-plain_decimal k n some small fits = record { utf8 = IsUtf8-from_ascii (decimal n) (IsAscii-decimal n fits); short = length-decimal-le k n some small fits }
+plain_decimal k n some small fits = record {
+  utf8 = IsUtf8-from_ascii (decimal n) (IsAscii-decimal n fits);
+  short =
+      length-decimal-le k n some small fits;
+}
 
 -- ---- texts in quotes
 
@@ -39,7 +44,8 @@ length_if false n xs ys h k = k
 length_escape_byte : (x : ℕ) → length (escape_byte x) ≤ 6
 unfolding escape_byte
 length_escape_byte x =
-    length_if (nat_lt 0 (escape_letter x)) 6 _ _ (omega arith) (length_if (nat_lt x 32) 6 _ _ (omega arith) (omega arith))
+    length_if (nat_lt 0 (escape_letter x)) 6 _ _ (omega arith)
+    (length_if (nat_lt x 32) 6 _ _ (omega arith) (omega arith))
 
 length_escape : (xs : List ℕ) → length (escape xs) ≤ 6 * length xs
 length_escape [] = omega arith
@@ -52,7 +58,11 @@ plain_quoted : (n : ℕ) (xs : List ℕ) → IsPlain n xs → IsPlain (6 * n + 2
 plain_quoted n xs plain =
     let short = plain.short in
     let escaped = length_escape xs in
-    record { utf8 = IsUtf8-quoted xs plain.utf8; short = omega (arith, short, escaped, length-append (escape xs) (34 ∷ [])) }
+    record {
+      utf8 = IsUtf8-quoted xs plain.utf8;
+      short = omega
+          (arith, short, escaped, length-append (escape xs) (34 ∷ []));
+    }
 
 -- a name is short, and of ASCII
 abbrev is_short_name : Field → Bool
@@ -82,18 +92,22 @@ plain_name field =
 
 -- ---- lists of numbers
 
-plain_items : (later : Bool) (xs : List ℕ) → AreSmall xs → IsPlain (5 * length xs + 1) (items_text later (items_of (map number_data xs)))
+plain_items : (later : Bool) (xs : List ℕ) → AreSmall xs
+    → IsPlain (5 * length xs + 1) (items_text later (items_of (map number_data xs)))
 plain_items later [] small = one_byte 93 refl
 plain_items later (x ∷ xs) small =
     let first : x < 10000 = small.0 in
     let rest = plain_items true xs small.1 in
     let number = plain_decimal 4 x (omega arith) first (omega arith) in
-    let whole = plain_both 1 (4 + (5 * length xs + 1)) (comma_if later) _ (plain_comma later) (plain_both 4 (5 * length xs + 1) (decimal x) _ number rest) in
+    let whole = plain_both 1 (4 + (5 * length xs + 1)) (comma_if later) _ (plain_comma later)
+    (plain_both 4 (5 * length xs + 1) (decimal x) _ number rest) in
     plain_more _ _ _ (omega arith) whole
 
-plain_list : (n : ℕ) (xs : List ℕ) → AreSmall xs → length xs ≤ n → IsPlain (5 * n + 2) (91 ∷ items_text false (items_of (map number_data xs)))
+plain_list : (n : ℕ) (xs : List ℕ) → AreSmall xs → length xs ≤ n
+    → IsPlain (5 * n + 2) (91 ∷ items_text false (items_of (map number_data xs)))
 plain_list n xs small few =
-    plain_more _ _ _ (omega arith) (plain_both 1 (5 * length xs + 1) (91 ∷ []) (items_text false (items_of (map number_data xs))) (one_byte 91 refl) (plain_items false xs small))
+    plain_more _ _ _ (omega arith) (plain_both 1 (5 * length xs + 1) (91 ∷ [])
+    (items_text false (items_of (map number_data xs))) (one_byte 91 refl) (plain_items false xs small))
 
 -- ---- each of the four kinds
 
@@ -131,14 +145,19 @@ most_with (field ∷ fields) = 52 + (most_of field + most_with fields)
 plain_member : (later : Bool) (name text rest : List ℕ) (m n : ℕ) → IsPlain 8 name → IsPlain m text → IsPlain n rest
     → IsPlain (52 + (m + n)) (comma_if later ++ (quoted name ++ 58 ∷ (text ++ rest)))
 plain_member later name text rest m n named valued others =
-    let tail = plain_both 1 (m + n) (58 ∷ []) (text ++ rest) (one_byte 58 refl) (plain_both m n text rest valued others) in
-    let keyed = plain_both (6 * 8 + 2) (1 + (m + n)) (quoted name) (58 ∷ (text ++ rest)) (plain_quoted 8 name named) tail in
-    plain_more _ _ _ (omega arith) (plain_both 1 (6 * 8 + 2 + (1 + (m + n))) (comma_if later) _ (plain_comma later) keyed)
+    let tail = plain_both 1 (m + n) (58 ∷ []) (text ++ rest) (one_byte 58 refl) (plain_both m n text rest valued others)
+    in
+    let keyed = plain_both (6 * 8 + 2) (1 + (m + n)) (quoted name) (58 ∷ (text ++ rest)) (plain_quoted 8 name named)
+    tail in
+    plain_more _ _ _ (omega arith) (plain_both 1 (6 * 8 + 2 + (1 + (m + n))) (comma_if later) _ (plain_comma later)
+    keyed)
 
-plain_members : (v : Values) → IsPlan v → (later : Bool) (fields : List Field) → IsPlain (most_with fields) (members_text later (members_with v fields))
+plain_members : (v : Values) → IsPlan v → (later : Bool) (fields : List Field)
+    → IsPlain (most_with fields) (members_text later (members_with v fields))
 plain_members v plan later [] = one_byte 125 refl
 plain_members v plan later (field ∷ fields) =
-    plain_member later (name_of field) (compact_text (field_data v field)) (members_text true (members_with v fields)) (most_of field) (most_with fields)
+    plain_member later (name_of field) (compact_text (field_data v field)) (members_text true (members_with v fields))
+    (most_of field) (most_with fields)
     (plain_name field) (plain_field v plan field) (plain_members v plan true fields)
 
 few_with : (version : Version) → 1 + most_with (fields_of version) ≤ 65536
@@ -150,5 +169,7 @@ pub canonical_plain : (v : Values) → IsPlan v → IsPlain 65536 (canonical_tex
 unfolding canonical_text data_of
 canonical_plain v plan =
     let fields = fields_of (version_of v.failing) in
-    plain_more (1 + most_with fields) 65536 (123 ∷ members_text false (members_with v fields)) (few_with (version_of v.failing))
-    (plain_both 1 (most_with fields) (123 ∷ []) (members_text false (members_with v fields)) (one_byte 123 refl) (plain_members v plan false fields))
+    plain_more (1 + most_with fields) 65536 (123 ∷ members_text false (members_with v fields))
+    (few_with (version_of v.failing))
+    (plain_both 1 (most_with fields) (123 ∷ []) (members_text false (members_with v fields)) (one_byte 123 refl)
+    (plain_members v plan false fields))

@@ -24,10 +24,13 @@ map_twice f g (x ∷ xs) = ap (λ ys. f (g x) ∷ ys) (map_twice f g xs)
 pub numbers_found : (ds : List Data) (vs : List Value) → map view vs ≡ ds → item_numbers vs ≡ map number_or_zero ds
 numbers_found ds vs e = rw (← e) (sym (map_twice number_or_zero view vs))
 
-named_members : (version : Version) (es : List (String Global × Value)) → list_all (λ key. is_named version (string_bytes key)) (keys_of es) ≡ list_all (is_named version) (keys_of_members (members_view es))
+named_members : (version : Version) (es : List (String Global × Value))
+    → list_all (λ key. is_named version (string_bytes key)) (keys_of es)
+    ≡ list_all (is_named version) (keys_of_members (members_view es))
 named_members version [] = refl
 named_members version (e ∷ es) = ap (λ b. is_named version (string_bytes e.0) && b) (named_members version es)
 
-pub named_found : (version : Version) (d : Data) (es : List (String Global × Value)) → Some (members_view es) ≡ as_object d
+pub named_found : (version : Version) (d : Data) (es : List (String Global × Value)) → Some (members_view es)
+    ≡ as_object d
     → list_all (λ key. is_named version (string_bytes key)) (keys_of es) ≡ list_all (is_named version) (keys d)
 named_found version d es e = rw (← e) (named_members version es)

@@ -1,5 +1,6 @@
 -- What is known of a plan whose checks were passed.
-use Rattle.std.proofs.Common.{◌≡◌, ℕ, suc, ◌+◌, ◌≤◌, ◌<◌, ◌&&◌, List, [], ◌∷◌, length, max, true, nat_lt, nat_le, Result, Ok, Err, refl, sym, subst, ◌∙◌, arith}
+use Rattle.std.proofs.Common.{◌≡◌, ℕ, suc, ◌+◌, ◌≤◌, ◌<◌, ◌&&◌, List, [], ◌∷◌, length, max, true, nat_lt, nat_le}
+use Rattle.std.proofs.Common.{Result, Ok, Err, refl, sym, subst, ◌∙◌, arith}
 use Rattle.std.proofs.lemmas.Bool.{and_parts, ltb-true, leb-true, lt-ltb}
 use Rattle.std.specs.List.{AllByRecursion, list_all, fold}
 use Rattle.std.specs.Option.{unwrap_or}
@@ -8,12 +9,14 @@ use Rattle.hex.specs.Hex.{decode_sized, IsBytes}
 use Rattle.hex.specs.declared.error.FromHexError.{FromHexError}
 use Rattle.hex.proofs.HexLemmas.{decode_sized-ok, decode_sized-twice, decode_of-ok}
 use Rattle.serde_json.specs.Data.{Data}
-use Rattle.cut_plan.specs.declared.field.Field.TheVariants.{Copies, Deaf, F, H, K, L, Liars, Links, Nodes, Repeats, Seed}
+use Rattle.cut_plan.specs.declared.field.Field.TheVariants.{Copies, Deaf, F, H, K, L, Liars, Links, Nodes, Repeats}
+use Rattle.cut_plan.specs.declared.field.Field.TheVariants.{Seed}
 use Rattle.cut_plan.specs.declared.version.Version.{Version}
 use Rattle.cut_plan.specs.declared.version.Version.TheVariants.{One, Two}
 use Rattle.cut_plan.specs.Versions.{deaf_in}
 use Rattle.cut_plan.specs.Fields.{number_at, numbers_at, text_at}
-use Rattle.cut_plan.specs.Accepted.{is_in_scale, has_some, datum_at, version_in, failing_by, field_check, limit_check, limits, values_in}
+use Rattle.cut_plan.specs.Accepted.{is_in_scale, has_some, datum_at, version_in, failing_by, field_check, limit_check}
+use Rattle.cut_plan.specs.Accepted.{limits, values_in}
 use Rattle.cut_plan.specs.Cells.{cells_of, largest}
 use Rattle.cut_plan.specs.Values.{Values}
 use Rattle.cut_plan.specs.Plan.{all_within, is_rising, IsScale, IsPlan}
@@ -25,13 +28,16 @@ use Rattle.cut_plan.proofs.Counting.{rising_length}
 pub scale_length : (xs : List ℕ) → is_in_scale xs ≡ true → is_rising xs ≡ true → length xs ≤ 32
 scale_length xs range rises =
     let all = (and_parts (has_some xs) (all_within 1 32 xs) range).1 in
-    let below = every-list_all (λ x. nat_le 1 x && nat_le x 32) (λ x. x < 33) (λ x e. let b = within_bounds 1 32 x e in let top : x ≤ 32 = b.1 in omega arith) xs all in
-    let above = every-list_all (λ x. nat_le 1 x && nat_le x 32) (λ x. 1 ≤ x) (λ x e. (within_bounds 1 32 x e).0) xs all in
+    let below = every-list_all (λ x. nat_le 1 x && nat_le x 32) (λ x. x < 33)
+    (λ x e. let b = within_bounds 1 32 x e in let top : x ≤ 32 = b.1 in omega arith) xs all in
+    let above = every-list_all (λ x. nat_le 1 x && nat_le x 32) (λ x. 1 ≤ x) (λ x e. (within_bounds 1 32 x e).0) xs all
+    in
     let room = rising_length 1 33 xs rises below above (omega arith) in
     omega (arith, room)
 
 -- a rising list of process numbers has no more than there are processes
-pub failed_length : (nodes : ℕ) (xs : List ℕ) → list_all (λ f. nat_lt f nodes) xs ≡ true → is_rising xs ≡ true → length xs ≤ nodes
+pub failed_length : (nodes : ℕ) (xs : List ℕ) → list_all (λ f. nat_lt f nodes) xs ≡ true → is_rising xs ≡ true
+    → length xs ≤ nodes
 failed_length nodes xs all rises =
     let below = every-list_all (λ f. nat_lt f nodes) (λ f. f < nodes) (λ f e. ltb-true f nodes e) xs all in
     let above = every-list_all (λ f. nat_lt f nodes) (λ f. 0 ≤ f) (λ f e. omega arith) xs all in
@@ -51,11 +57,13 @@ pub few_f : (d : Data) → field_check d ≡ Ok tt → length (numbers_at d F) �
 few_f d h =
     let known = checked_facts d h in
     let bounds = within_bounds 2 2048 (number_at d Nodes) (known.ranges Nodes refl) in
-    let all = (and_parts (has_some (numbers_at d F)) (list_all (λ f. nat_lt f (number_at d Nodes)) (numbers_at d F)) (known.ranges F refl)).1 in
+    let all = (and_parts (has_some (numbers_at d F)) (list_all (λ f. nat_lt f (number_at d Nodes)) (numbers_at d F))
+    (known.ranges F refl)).1 in
     let short = failed_length (number_at d Nodes) (numbers_at d F) all (known.rises F refl) in
     omega (arith, short, bounds.1)
 
-pub few_deaf : (version : Version) (d : Data) → IsChecked version d → unwrap_or (deaf_in (failing_by version (datum_at d))) 0 ≤ 2048
+pub few_deaf : (version : Version) (d : Data) → IsChecked version d
+    → unwrap_or (deaf_in (failing_by version (datum_at d))) 0 ≤ 2048
 few_deaf One d known = omega arith
 few_deaf Two d known = (within_bounds 0 2048 (number_at d Deaf) (known.ranges Deaf refl)).1
 
@@ -94,8 +102,10 @@ scale_facts xs range rises =
 scale_top : (xs : List ℕ) → is_in_scale xs ≡ true → (largest xs ≤ 32) × (1 ≤ largest xs)
 scale_top xs range =
     let parts = and_parts (has_some xs) (all_within 1 32 xs) range in
-    let below = every-list_all (λ x. nat_le 1 x && nat_le x 32) (λ x. x ≤ 32) (λ x e. (within_bounds 1 32 x e).1) xs parts.1 in
-    let above = every-list_all (λ x. nat_le 1 x && nat_le x 32) (λ x. 1 ≤ x) (λ x e. (within_bounds 1 32 x e).0) xs parts.1 in
+    let below = every-list_all (λ x. nat_le 1 x && nat_le x 32) (λ x. x ≤ 32) (λ x e. (within_bounds 1 32 x e).1) xs
+    parts.1 in
+    let above = every-list_all (λ x. nat_le 1 x && nat_le x 32) (λ x. 1 ≤ x) (λ x e. (within_bounds 1 32 x e).0) xs
+    parts.1 in
     (largest_within 32 0 xs (omega arith) below, largest_reached 1 xs (ltb-true 0 (length xs) parts.0) above)
 
 ok_value : (r : Result (List ℕ) FromHexError) → is_ok r ≡ true → (bytes : List ℕ) × (r ≡ Ok bytes)
@@ -107,7 +117,8 @@ all_bytes [] h = refl
 all_bytes (x ∷ xs) h = rw (lt-ltb x 256 (h 0)) (all_bytes xs (λ i. h (suc i)))
 
 seed_facts : (text : List ℕ) → is_ok (decode_sized text 32) ≡ true
-    → (length (unwrap_or (result_ok (decode_sized text 32)) []) ≡ 32) × (list_all (λ b. nat_lt b 256) (unwrap_or (result_ok (decode_sized text 32)) []) ≡ true)
+    → (length (unwrap_or (result_ok (decode_sized text 32)) []) ≡ 32)
+    × (list_all (λ b. nat_lt b 256) (unwrap_or (result_ok (decode_sized text 32)) []) ≡ true)
 seed_facts text h =
     let found = ok_value (decode_sized text 32) h in
     let twice = decode_sized-ok text 32 found.0 found.1 in
@@ -115,14 +126,16 @@ seed_facts text h =
     let len : length found.0 ≡ 32 = omega (arith, twice, facts.2) in
     rw found.1 (len, all_bytes found.0 facts.3)
 
-limits_ok : (cells faults nodes : ℕ) → limits cells faults nodes ≡ Ok tt → (0 < cells) × (faults ≤ nodes) × (cells ≤ 4096)
+limits_ok : (cells faults nodes : ℕ) → limits cells faults nodes ≡ Ok tt → (0 < cells) × (faults ≤ nodes)
+    × (cells ≤ 4096)
 limits_ok cells faults nodes h =
     let some = wanted_ok (nat_lt 0 cells) _ _ tt h in
     let fit = wanted_ok (nat_le faults nodes) _ _ tt some.1 in
     let few = wanted_ok (nat_le cells 4096) _ _ tt fit.1 in
     (ltb-true 0 cells some.0, leb-true faults nodes fit.0, leb-true cells 4096 few.0)
 
-counted_facts : (v : Values) → limit_check v ≡ Ok tt → (0 < length (cells_of v)) × (largest v.f + v.liars + v.links ≤ v.nodes) × (length (cells_of v) ≤ 4096)
+counted_facts : (v : Values) → limit_check v ≡ Ok tt → (0 < length (cells_of v))
+    × (largest v.f + v.liars + v.links ≤ v.nodes) × (length (cells_of v) ≤ 4096)
 unfolding limit_check
 counted_facts v h = limits_ok (length (cells_of v)) (largest v.f + v.liars + v.links) v.nodes h
 
@@ -132,7 +145,8 @@ plan_facts d ok together =
     let copies = within_bounds 1 4 (number_at d Copies) (known.ranges Copies refl) in
     let nodes = within_bounds 2 2048 (number_at d Nodes) (known.ranges Nodes refl) in
     let repeats = within_bounds 1 1000000 (number_at d Repeats) (known.ranges Repeats refl) in
-    let failed = and_parts (has_some (numbers_at d F)) (list_all (λ f. nat_lt f (number_at d Nodes)) (numbers_at d F)) (known.ranges F refl) in
+    let failed = and_parts (has_some (numbers_at d F)) (list_all (λ f. nat_lt f (number_at d Nodes)) (numbers_at d F))
+    (known.ranges F refl) in
     let seed = seed_facts (text_at d Seed) (known.ranges Seed refl) in
     let rings = scale_top (numbers_at d K) (known.ranges K refl) in
     let counts = counted_facts (values_in d) together in

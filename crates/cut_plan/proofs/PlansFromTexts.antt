@@ -1,5 +1,6 @@
 -- What is accepted is a plan.
-use Rattle.std.proofs.Common.{◌≡◌, ℕ, List, length, Bool, true, false, nat_lt, cond, Option, Some, None, Result, Ok, Err, refl, subst}
+use Rattle.std.proofs.Common.{◌≡◌, ℕ, List, length, Bool, true, false, nat_lt, cond, Option, Some, None, Result, Ok}
+use Rattle.std.proofs.Common.{Err, refl, subst}
 use Rattle.std.specs.Bool.{⊤}
 use Rattle.serde_json.specs.Data.{Data}
 use Rattle.cut_plan.specs.declared.refusal.Refusal.{Refusal}
@@ -8,7 +9,8 @@ use Rattle.cut_plan.specs.Plan.{IsPlan}
 use Rattle.cut_plan.specs.Accepted.{field_check, limit_check, values_in, after, plan_in, found_in, plan_of}
 use Rattle.cut_plan.proofs.PlanFacts.{plan_facts}
 
-after_ok : {B : Type 0} (r : Result ⊤ Refusal) (later : Result B Refusal) (x : B) → after r later ≡ Ok x → (r ≡ Ok tt) × (later ≡ Ok x)
+after_ok : {B : Type 0} (r : Result ⊤ Refusal) (later : Result B Refusal) (x : B) → after r later ≡ Ok x → (r ≡ Ok tt)
+    × (later ≡ Ok x)
 after_ok (Ok y) later x h = (refl, h)
 after_ok (Err e) later x h = cc h
 
@@ -24,7 +26,8 @@ found_is_plan : (o : Option Data) (v : Values) → found_in o ≡ Ok v → IsPla
 found_is_plan None v h = cc h
 found_is_plan (Some d) v h = plan_in_is_plan d v h
 
-past_error : (b : Bool) (fault : Refusal) (later : Result Values Refusal) (v : Values) → cond b (Err fault) later ≡ Ok v → later ≡ Ok v
+past_error : (b : Bool) (fault : Refusal) (later : Result Values Refusal) (v : Values) → cond b (Err fault) later ≡ Ok v
+    → later ≡ Ok v
 past_error true fault later v h = cc h
 past_error false fault later v h = h
 

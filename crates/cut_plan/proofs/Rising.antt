@@ -1,5 +1,6 @@
 -- Tests on lists of numbers, place by place.
-use Rattle.std.proofs.Common.{◌≡◌, ℕ, zero, suc, ◌≤◌, ◌<◌, ◌==◌, ◌&&◌, List, [], ◌∷◌, length, drop, get_or, Bool, true, false, nat_lt, refl, sym, ap, ◌∙◌, arith}
+use Rattle.std.proofs.Common.{◌≡◌, ℕ, zero, suc, ◌≤◌, ◌<◌, ◌==◌, ◌&&◌, List, [], ◌∷◌, length, drop, get_or, Bool, true}
+use Rattle.std.proofs.Common.{false, nat_lt, refl, sym, ap, ◌∙◌, arith}
 use Rattle.std.proofs.lemmas.Bool.{lt-ltb, true≢false}
 use Rattle.std.proofs.lemmas.List.Folds.{list_all-map}
 use Rattle.std.specs.List.{list_all}
@@ -28,19 +29,22 @@ some_numbers xs h =
     lt-ltb 0 (length (item_numbers xs)) (rw (length_numbers xs) some)
 
 -- a test of each number, after the test that there is one
-pub numbers_pass : (p : ℕ → Bool) (xs : List Value) (r e : Bool) → e ≡ (length xs == 0) → e ≡ false → r ≡ list_all (λ v. p (number_or_zero (view v))) xs
+pub numbers_pass : (p : ℕ → Bool) (xs : List Value) (r e : Bool) → e ≡ (length xs == 0) → e ≡ false → r
+    ≡ list_all (λ v. p (number_or_zero (view v))) xs
     → r ≡ (has_some (item_numbers xs) && list_all p (item_numbers xs))
 numbers_pass p xs r e is some all =
     both_tests (has_some (item_numbers xs)) r (list_all p (item_numbers xs)) (some_numbers xs (sym is ∙ some))
     (all ∙ sym (list_all-map p (λ v. number_or_zero (view v)) xs))
 
-pub number_at_place : (xs : List Value) (i : ℕ) (d : Value) → i < length xs → get_or (item_numbers xs) i 0 ≡ number_or_zero (view (get_or xs i d))
+pub number_at_place : (xs : List Value) (i : ℕ) (d : Value) → i < length xs → get_or (item_numbers xs) i 0
+    ≡ number_or_zero (view (get_or xs i d))
 number_at_place [] i d h = absurd (omega arith)
 number_at_place (x ∷ xs) zero d h = refl
 number_at_place (x ∷ xs) (suc i) d h = number_at_place xs i d (omega arith)
 
 -- whether a list rises from a place on is whether it does at that place, and from the next on
-pub rising_step : (xs : List ℕ) (j : ℕ) → suc j < length xs → is_rising (drop j xs) ≡ (nat_lt (get_or xs j 0) (get_or xs (suc j) 0) && is_rising (drop (suc j) xs))
+pub rising_step : (xs : List ℕ) (j : ℕ) → suc j < length xs → is_rising (drop j xs)
+    ≡ (nat_lt (get_or xs j 0) (get_or xs (suc j) 0) && is_rising (drop (suc j) xs))
 rising_step [] j h = absurd (omega arith)
 rising_step (x ∷ []) j h = absurd (omega arith)
 rising_step (x ∷ y ∷ rest) zero h = refl
@@ -54,7 +58,9 @@ rising_end (x ∷ []) zero h = refl
 rising_end (x ∷ y ∷ rest) zero h = absurd (omega arith)
 rising_end (x ∷ xs) (suc j) h = rising_end xs j (omega arith)
 
-pub rising_whole : (xs : List Value) (i : ℕ) → 1 ≤ i → length xs ≤ i → ((j : ℕ) → suc j ≡ i → is_rising (item_numbers xs) ≡ is_rising (drop j (item_numbers xs))) → true ≡ is_rising (item_numbers xs)
+pub rising_whole : (xs : List Value) (i : ℕ) → 1 ≤ i → length xs ≤ i
+    → ((j : ℕ) → suc j ≡ i → is_rising (item_numbers xs) ≡ is_rising (drop j (item_numbers xs))) → true
+    ≡ is_rising (item_numbers xs)
 rising_whole xs zero some past known = absurd (omega arith)
 rising_whole xs (suc j) some past known =
     let within : length (item_numbers xs) ≤ suc j = rw (length_numbers xs) past in

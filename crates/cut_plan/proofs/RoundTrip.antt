@@ -23,4 +23,5 @@ texts_differ v w pv pw same =
 pub reads_back : (v : Values) → IsPlan v → plan_of (canonical_text v) ≡ Ok v
 reads_back v plan =
     let plain = canonical_plain v plan in
-    plan_of-text (canonical_text v) (omega (arith, plain.short)) plain.utf8 ∙ ap found_in (canonical_reads v plan) ∙ plan_in_back v plan
+    plan_of-text (canonical_text v) (omega (arith, plain.short)) plain.utf8 ∙ ap found_in (canonical_reads v plan)
+    ∙ plan_in_back v plan

@@ -1,5 +1,6 @@
 -- What every plan says in each field: small numbers, short lists that rise, short texts, each in the field's range.
-use Rattle.std.proofs.Common.{◌≡◌, ℕ, ◌+◌, ◌≤◌, ◌<◌, List, [], ◌∷◌, ◌++◌, length, length-append, Bool, true, nat_le, nat_lt, ◌&&◌, is_some, unwrap_or, refl, arith}
+use Rattle.std.proofs.Common.{◌≡◌, ℕ, ◌+◌, ◌≤◌, ◌<◌, List, [], ◌∷◌, ◌++◌, length, length-append, Bool, true, nat_le}
+use Rattle.std.proofs.Common.{nat_lt, ◌&&◌, is_some, unwrap_or, refl, arith}
 use Rattle.std.proofs.lemmas.Bool.{and_from, ltb-true, lt-ltb, le-leb}
 use Rattle.std.proofs.lemmas.Str.{IsUtf8-append, IsUtf8-from_ascii}
 use Rattle.std.proofs.lemmas.Str.Ascii.{IsAscii-nil, IsAscii-cons}
@@ -32,7 +33,7 @@ use Rattle.cut_plan.proofs.Members.{dead_back, faults_back, seed_back}
 
 -- ---- short texts in UTF-8
 
--- a text in UTF-8 of at most so many bytes
+-- a text in UTF-8 of at most this many bytes
 pub record IsPlain (most : ℕ) (text : List ℕ) : Type 0 where
   pub utf8 : IsUtf8 text
   pub short : length text ≤ most
@@ -61,7 +62,11 @@ pub tested : (xs : List ℕ) → are_ascii xs ≡ true → IsUtf8 xs
 tested xs h = IsUtf8-from_ascii xs (ascii_bytes xs (small_bytes xs h))
 
 pub one_byte : (x : ℕ) → nat_lt x 128 ≡ true → IsPlain 1 (x ∷ [])
-one_byte x h = record { utf8 = IsUtf8-from_ascii (x ∷ []) (IsAscii-cons x [] (ltb-true x 128 h) IsAscii-nil); short = omega arith }
+one_byte x h = record {
+  utf8 = IsUtf8-from_ascii (x ∷ []) (IsAscii-cons x [] (ltb-true x 128 h) IsAscii-nil);
+  short =
+      omega arith;
+}
 
 plain_dead : (dead : Dead) → IsPlain 64 (dead_word dead)
 plain_dead Silent = record { utf8 = tested (dead_word Silent) refl; short = omega arith }
@@ -77,7 +82,11 @@ plain_seed v plan =
     let digits = ascii_bytes lower_digits (small_bytes lower_digits refl) in
     let len = length-encode_with lower_digits v.seed in
     let bytes = plan.seed_length in
-    record { utf8 = IsUtf8-from_ascii (encode_lower v.seed) (IsAscii-encode_with lower_digits v.seed digits); short = omega (arith, len, bytes) }
+    record {
+      utf8 = IsUtf8-from_ascii (encode_lower v.seed) (IsAscii-encode_with lower_digits v.seed digits);
+      short =
+          omega (arith, len, bytes);
+    }
 
 -- ---- small numbers
 
@@ -104,7 +113,8 @@ scale_short : (xs : List ℕ) → IsScale xs → IsShort xs
 scale_short xs scale =
     let few = scale_length xs (scale_back xs scale) scale.rising in
     record {
-      small = every-list_all (λ x. nat_le 1 x && nat_le x 32) (λ x. x < 10000) (λ x e. let b = within_bounds 1 32 x e in let top : x ≤ 32 = b.1 in omega arith) xs scale.range;
+      small = every-list_all (λ x. nat_le 1 x && nat_le x 32) (λ x. x < 10000)
+          (λ x e. let b = within_bounds 1 32 x e in let top : x ≤ 32 = b.1 in omega arith) xs scale.range;
       few = omega (arith, few);
       rising = scale.rising;
     }
@@ -114,7 +124,8 @@ failed_short v plan =
     let few = plan.few_nodes in
     let short = failed_length v.nodes v.f plan.fs plan.fs_rising in
     record {
-      small = every-list_all (λ f. nat_lt f v.nodes) (λ f. f < 10000) (λ f e. let below = ltb-true f v.nodes e in omega arith) v.f plan.fs;
+      small = every-list_all (λ f. nat_lt f v.nodes) (λ f. f < 10000)
+          (λ f e. let below = ltb-true f v.nodes e in omega arith) v.f plan.fs;
       few = omega (arith, few, short);
       rising = plan.fs_rising;
     }
@@ -125,9 +136,11 @@ within : (low high n : ℕ) → low ≤ n → n ≤ high → is_within low high 
 within low high n above below = and_from (nat_le low n) (nat_le n high) (le-leb low n above) (le-leb n high below)
 
 some_failed : (v : Values) → IsPlan v → (has_some v.f && list_all (λ f. nat_lt f v.nodes) v.f) ≡ true
-some_failed v plan = and_from (has_some v.f) (list_all (λ f. nat_lt f v.nodes) v.f) (lt-ltb 0 (length v.f) plan.some_f) plan.fs
+some_failed v plan = and_from (has_some v.f) (list_all (λ f. nat_lt f v.nodes) v.f) (lt-ltb 0 (length v.f) plan.some_f)
+    plan.fs
 
-faults_known : (failing : Failing) → has field.Faults (version_of failing) ≡ true → is_some (faults_of (faults_text failing)) ≡ true
+faults_known : (failing : Failing) → has field.Faults (version_of failing) ≡ true
+    → is_some (faults_of (faults_text failing)) ≡ true
 faults_known (Alike faults) own = rw (faults_back faults) refl
 faults_known (Mixed deaf) own = cc own
 
@@ -136,7 +149,8 @@ version_within One = (omega arith, omega arith)
 version_within Two = (omega arith, omega arith)
 
 -- what a plan says in each field is small and short, and, of a field of its version, in range
-pub tame : (v : Values) → IsPlan v → (field : Field) → IsTame (datum v field) × (has field (version_of v.failing) ≡ true → in_range (datum v) field ≡ true)
+pub tame : (v : Values) → IsPlan v → (field : Field) → IsTame (datum v field)
+    × (has field (version_of v.failing) ≡ true → in_range (datum v) field ≡ true)
 tame v plan field.Copies = let top = plan.few_copies in (omega arith, λ own. within 1 4 v.copies plan.some_copies top)
 tame v plan field.Dead = (plain_dead v.dead, λ own. rw (dead_back v.dead) refl)
 tame v plan field.Deaf =
@@ -151,7 +165,8 @@ tame v plan field.L = (scale_short v.l plan.ls, λ own. scale_back v.l plan.ls)
 tame v plan field.Liars = let top = plan.liars in (omega arith, λ own. within 0 2048 v.liars (omega arith) top)
 tame v plan field.Links = let top = plan.links in (omega arith, λ own. within 0 2048 v.links (omega arith) top)
 tame v plan field.Nodes = let top = plan.few_nodes in (omega arith, λ own. within 2 2048 v.nodes plan.some_nodes top)
-tame v plan field.Repeats = let top = plan.few_repeats in (omega arith, λ own. within 1 1000000 v.repeats plan.some_repeats top)
+tame v plan field.Repeats = let top = plan.few_repeats
+    in (omega arith, λ own. within 1 1000000 v.repeats plan.some_repeats top)
 tame v plan field.Seed = (plain_seed v plan, λ own. rw (seed_back v plan) refl)
 tame v plan field.Version =
     let bounds = version_within (version_of v.failing) in

@@ -12,7 +12,8 @@ use Rattle.cut_plan.specs.Targets.{deaf_among, deaf_of, most_deaf, upgraded}
 use Rattle.cut_plan.specs.Plan.{IsPlan}
 use Rattle.cut_plan.proofs.Every.{every-get_or, every_below_fold}
 
-few_deaf : (how : Failing) (fs : List ℕ) → largest fs ≤ 2048 → unwrap_or (deaf_in how) 0 ≤ 2048 → most_deaf how fs ≤ 2048
+few_deaf : (how : Failing) (fs : List ℕ) → largest fs ≤ 2048 → unwrap_or (deaf_in how) 0 ≤ 2048 → most_deaf how fs
+    ≤ 2048
 few_deaf (Alike Crash) fs few said = omega arith
 few_deaf (Alike Deaf) fs few said = few
 few_deaf (Mixed deaf) fs few said = said

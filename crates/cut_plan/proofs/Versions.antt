@@ -29,7 +29,8 @@ has field.Seed version = true
 has field.Version version = true
 
 -- what holds of each field of a version's list holds of each that the version has
-pub every_field : (version : Version) (P : Field → Type 0) → AllByRecursion P (fields_of version) → (field : Field) → has field version ≡ true → P field
+pub every_field : (version : Version) (P : Field → Type 0) → AllByRecursion P (fields_of version) → (field : Field)
+    → has field version ≡ true → P field
 unfolding fields_of
 every_field version P h field.Copies own = h.0
 every_field version P h field.Dead own = h.1.0
@@ -51,7 +52,8 @@ every_field version P h field.Seed own = h.1.1.1.1.1.1.1.1.1.1.1.1.0
 every_field version P h field.Version own = h.1.1.1.1.1.1.1.1.1.1.1.1.1.0
 
 -- and what holds of each that the version has holds of each of its list
-pub all_own : (version : Version) (P : Field → Type 0) → ((field : Field) → has field version ≡ true → P field) → AllByRecursion P (fields_of version)
+pub all_own : (version : Version) (P : Field → Type 0) → ((field : Field) → has field version ≡ true → P field)
+    → AllByRecursion P (fields_of version)
 unfolding fields_of
 all_own One P h = (
   h field.Copies refl,
@@ -67,7 +69,19 @@ all_own One P h = (
             h field.Implicit refl,
             (
               h field.K refl,
-              (h field.L refl, (h field.Liars refl, (h field.Links refl, (h field.Nodes refl, (h field.Repeats refl, (h field.Seed refl, (h field.Version refl, tt))))))),
+              (
+                h field.L refl,
+                (
+                  h field.Liars refl,
+                  (
+                    h field.Links refl,
+                    (
+                      h field.Nodes refl,
+                      (h field.Repeats refl, (h field.Seed refl, (h field.Version refl, tt))),
+                    ),
+                  ),
+                ),
+              ),
             ),
           ),
         ),
@@ -89,7 +103,19 @@ all_own Two P h = (
             h field.Implicit refl,
             (
               h field.K refl,
-              (h field.L refl, (h field.Liars refl, (h field.Links refl, (h field.Nodes refl, (h field.Repeats refl, (h field.Seed refl, (h field.Version refl, tt))))))),
+              (
+                h field.L refl,
+                (
+                  h field.Liars refl,
+                  (
+                    h field.Links refl,
+                    (
+                      h field.Nodes refl,
+                      (h field.Repeats refl, (h field.Seed refl, (h field.Version refl, tt))),
+                    ),
+                  ),
+                ),
+              ),
             ),
           ),
         ),
@@ -98,6 +124,6 @@ all_own Two P h = (
   ),
 )
 
-pub version_told : (version : Version) → version_by (version_number version) ≡ version
-version_told One = refl
-version_told Two = refl
+pub version_shown : (version : Version) → version_by (version_number version) ≡ version
+version_shown One = refl
+version_shown Two = refl

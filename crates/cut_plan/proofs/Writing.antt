@@ -14,7 +14,8 @@ use Rattle.cut_plan.specs.Datum.{Datum, one, many, word, truth, json_of, number_
 use Rattle.cut_plan.specs.Canonical.{datum, members_with, data_of}
 use Rattle.cut_plan.specs.Look.{with_fields}
 
-with_fields_by : (version : Version) (v : Values) → with_fields v (fields_of version) ≡ members_with v (fields_of version)
+with_fields_by : (version : Version) (v : Values) → with_fields v (fields_of version)
+    ≡ members_with v (fields_of version)
 unfolding fields_of
 with_fields_by One v = refl
 with_fields_by Two v = refl
@@ -41,7 +42,8 @@ pub no_floats : (v : Values) → has_float (data_of v) ≡ false
 unfolding data_of
 no_floats v = no_member_floats v (fields_of (version_of v.failing))
 
-pub take_fields : (version : Version) (fields : List Field) (i : ℕ) → fields ≡ fields_of version → 14 ≤ i → take i fields ≡ fields_of version
+pub take_fields : (version : Version) (fields : List Field) (i : ℕ) → fields ≡ fields_of version → 14 ≤ i
+    → take i fields ≡ fields_of version
 unfolding fields_of
 take_fields version fields i same past =
     let long : length fields ≤ i = rw same past in

@@ -1,6 +1,7 @@
 -- Which texts are accepted plans, and the first fault of any other (this project's profile). The checks run in
 -- the order below, each over all fields before the next begins.
-use Rattle.std.specs.Prelude.{◌≡◌, ℕ, ◌+◌, ◌&&◌, List, [], length, Bool, true, not, nat_le, nat_lt, if◌then◌else◌, Option, Some, None, is_some, unwrap_or, Result, Ok, Err, ⊤}
+use Rattle.std.specs.Prelude.{◌≡◌, ℕ, ◌+◌, ◌&&◌, List, [], length, Bool, true, not, nat_le, nat_lt, if◌then◌else◌}
+use Rattle.std.specs.Prelude.{Option, Some, None, is_some, unwrap_or, Result, Ok, Err, ⊤}
 use Rattle.std.specs.Bool.{⊤}
 use Rattle.std.specs.List.{list_all, find}
 use Rattle.std.specs.Str.{is_utf8}
@@ -10,7 +11,9 @@ use Rattle.serde_json.specs.Data.{Data}
 use Rattle.serde_json.specs.Find.{get, as_object}
 use Rattle.serde_json.specs.Read.{read}
 use Rattle.cut_plan.specs.declared.refusal.Refusal.{Refusal}
-use Rattle.cut_plan.specs.declared.refusal.Refusal.TheVariants.{NotJson, NotObject, UnknownField, MissingField, WrongKind, OutOfRange, NotRising, NoCell, TooManyFaults, TooManyTrials, PlanTooLong}
+use Rattle.cut_plan.specs.declared.refusal.Refusal.TheVariants.{NotJson, NotObject, UnknownField, MissingField}
+use Rattle.cut_plan.specs.declared.refusal.Refusal.TheVariants.{WrongKind, OutOfRange, NotRising, NoCell, TooManyFaults}
+use Rattle.cut_plan.specs.declared.refusal.Refusal.TheVariants.{TooManyTrials, PlanTooLong}
 use Rattle.cut_plan.specs.declared.field.Field.{Field}
 use Rattle.cut_plan.specs.declared.field.Field.TheVariants as field
 use Rattle.cut_plan.specs.declared.dead.Dead.TheVariants.{Silent}
@@ -59,7 +62,8 @@ abbrev pub in_range : (Field → Datum) → Field → Bool
 in_range at field.Copies = is_within 1 4 (number_of (at field.Copies))
 in_range at field.Dead = is_some (dead_of (text_of (at field.Dead)))
 in_range at field.Deaf = is_within 0 2048 (number_of (at field.Deaf))
-in_range at field.F = has_some (numbers_of (at field.F)) && list_all (λ f. nat_lt f (number_of (at field.Nodes))) (numbers_of (at field.F))
+in_range at field.F = has_some (numbers_of (at field.F))
+    && list_all (λ f. nat_lt f (number_of (at field.Nodes))) (numbers_of (at field.F))
 in_range at field.Faults = is_some (faults_of (text_of (at field.Faults)))
 in_range at field.H = is_in_scale (numbers_of (at field.H))
 in_range at field.Implicit = true
@@ -173,4 +177,5 @@ found_in (Some d) = plan_in d
 
 -- the plan that a text is, or its first fault: the text has at most 65,536 bytes, is UTF-8, and `serde_json` reads it
 unfoldable pub plan_of : List ℕ → Result Values Refusal
-plan_of text = if nat_lt 65536 (length text) then Err PlanTooLong else found_in (if is_utf8 text then read text else None)
+plan_of text = if nat_lt 65536 (length text) then Err PlanTooLong else found_in
+    (if is_utf8 text then read text else None)

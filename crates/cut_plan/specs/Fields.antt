@@ -1,11 +1,13 @@
 -- The fields of a plan's JSON object: their names, their kinds, and what stands in them.
-use Rattle.std.specs.Prelude.{ℕ, List, [], ◌∷◌, map, Bool, ◌&&◌, codes, Option, Some, None, is_some, unwrap_or, option_and_then}
+use Rattle.std.specs.Prelude.{ℕ, List, [], ◌∷◌, map, Bool, ◌&&◌, codes, Option, Some, None, is_some, unwrap_or}
+use Rattle.std.specs.Prelude.{option_and_then}
 use Rattle.std.specs.List.{list_all, list_any}
 use Rattle.std.specs.Str.{bytes_eq}
 use Rattle.serde_json.specs.Data.{Data, null, Items, no_items, item, Members, no_members, member}
 use Rattle.serde_json.specs.Find.{get, as_bool, as_number, as_str, as_array, as_object, as_u64}
 use Rattle.cut_plan.specs.declared.field.Field.{Field}
-use Rattle.cut_plan.specs.declared.field.Field.TheVariants.{Copies, Dead, Deaf, F, Faults, H, Implicit, K, L, Liars, Links, Nodes, Repeats, Seed, Version}
+use Rattle.cut_plan.specs.declared.field.Field.TheVariants.{Copies, Dead, Deaf, F, Faults, H, Implicit, K, L, Liars}
+use Rattle.cut_plan.specs.declared.field.Field.TheVariants.{Links, Nodes, Repeats, Seed, Version}
 use Rattle.cut_plan.specs.declared.version.Version as format
 use Rattle.cut_plan.specs.declared.version.Version.TheVariants.{One, Two}
 use Rattle.cut_plan.specs.declared.kind.Kind.{Kind}
@@ -41,7 +43,8 @@ fourth Two = F
 
 -- every field of a version, in byte order of the names: version 1 has faults, version 2 has deaf in its place
 unfoldable pub fields_of : format.Version → List Field
-fields_of version = Copies ∷ Dead ∷ third version ∷ fourth version ∷ H ∷ Implicit ∷ K ∷ L ∷ Liars ∷ Links ∷ Nodes ∷ Repeats ∷ Seed ∷ Version ∷ []
+fields_of version = Copies ∷ Dead ∷ third version ∷ fourth version ∷ H ∷ Implicit ∷ K ∷ L ∷ Liars ∷ Links ∷ Nodes
+    ∷ Repeats ∷ Seed ∷ Version ∷ []
 
 -- whether a text is the name of a field of a version
 abbrev pub is_named : format.Version → List ℕ → Bool

@@ -24,6 +24,6 @@ values_of p = record {
 }
 
 -- the values are those of an accepted plan, and the cells are theirs
-pub record IsSound (p : Inside) : Type 0 where
+pub record IsPlanInside (p : Inside) : Type 0 where
   pub plan : IsPlan (values_of p)
   pub cells : p.cells.items ≡ cells_of (values_of p)

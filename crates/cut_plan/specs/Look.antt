@@ -9,7 +9,7 @@ use Rattle.cut_plan.specs.Values.{Values}
 use Rattle.cut_plan.specs.Canonical.{field_data}
 use Rattle.cut_plan.specs.declared.field.Field.{Field}
 use Rattle.cut_plan.specs.declared.field.Field.TheVariants as field
-use Rattle.cut_plan.specs.declared.make.Lists.{Lists}
+use Rattle.cut_plan.specs.declared.plan_lists.Lists.{Lists}
 
 -- the numbers that values hold, 0 for a value of another kind
 abbrev pub item_numbers : List Value → List ℕ

@@ -1,10 +1,12 @@
--- What is told of a text that is no accepted plan.
+-- What is reported of a text that is no accepted plan.
 use Rattle.std.specs.Prelude.{◌≡◌, ℕ, List, Option, Some, None, Result, Err, ⊤}
 use Rattle.cut_faults.specs.declared.code.FaultCode.{FaultCode}
 use Rattle.cut_faults.specs.declared.code.FaultCode.TheVariants as code
 use Rattle.cut_faults.specs.Codes.{code_text, text_carrying}
 use Rattle.cut_plan.specs.declared.refusal.Refusal.{Refusal}
-use Rattle.cut_plan.specs.declared.refusal.Refusal.TheVariants.{NotJson, NotObject, UnknownField, MissingField, WrongKind, OutOfRange, NotRising, NoCell, TooManyFaults, TooManyTrials, PlanTooLong}
+use Rattle.cut_plan.specs.declared.refusal.Refusal.TheVariants.{NotJson, NotObject, UnknownField, MissingField}
+use Rattle.cut_plan.specs.declared.refusal.Refusal.TheVariants.{WrongKind, OutOfRange, NotRising, NoCell, TooManyFaults}
+use Rattle.cut_plan.specs.declared.refusal.Refusal.TheVariants.{TooManyTrials, PlanTooLong}
 use Rattle.cut_plan.specs.declared.refusal.PlanFault.{PlanFault}
 use Rattle.cut_plan.specs.declared.refusal.PlanFault.TheVariants.{Memory, Refused}
 use Rattle.cut_plan.specs.declared.field.Field.{Field}
@@ -50,8 +52,8 @@ abbrev pub fault_text : PlanFault → List ℕ
 fault_text Memory = code_text code.Memory
 fault_text (Refused refusal) = refusal_text refusal
 
--- what a fault says of the text's plan: a refusal is exactly the one that is given for it, and want of
+-- what a fault says of the text's plan: a refusal is exactly the one that is given for it, and that
 -- memory says nothing
-abbrev pub IsToldOf : {A : Type 0} → Result A Refusal → PlanFault → Type 0
-IsToldOf given Memory = ⊤
-IsToldOf given (Refused refusal) = given ≡ Err refusal
+abbrev pub IsFaultOfText : {A : Type 0} → Result A Refusal → PlanFault → Type 0
+IsFaultOfText given Memory = ⊤
+IsFaultOfText given (Refused refusal) = given ≡ Err refusal

@@ -13,7 +13,8 @@ dead_word Speak = codes "speak"
 
 -- what a word says of crashed observers
 abbrev pub dead_of : List ℕ → Option Dead
-dead_of word = if bytes_eq word (codes "silent") then Some Silent else if bytes_eq word (codes "speak") then Some Speak else None
+dead_of word = if bytes_eq word (codes "silent") then Some Silent else if bytes_eq word (codes "speak") then Some Speak
+    else None
 
 -- the word that names how targets fail
 abbrev pub faults_word : Faults → List ℕ
@@ -22,4 +23,5 @@ faults_word Deaf = codes "deaf"
 
 -- how targets fail by a word
 abbrev pub faults_of : List ℕ → Option Faults
-faults_of word = if bytes_eq word (codes "crash") then Some Crash else if bytes_eq word (codes "deaf") then Some Deaf else None
+faults_of word = if bytes_eq word (codes "crash") then Some Crash else if bytes_eq word (codes "deaf") then Some Deaf
+    else None

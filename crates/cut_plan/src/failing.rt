@@ -8,7 +8,7 @@ use crate::{Faults, Version};
 pub enum Failing {
     /// All in this one way.
     Alike(Faults),
-    /// So many of a cell's targets are deaf, or all where it has fewer; the others have crashed.
+    /// This many of a cell's targets are deaf, or all where it has fewer; the others have crashed.
     Mixed(u16),
 }
 

@@ -5,21 +5,21 @@
 #![tactic(auto)]
 
 mod cell;
-mod check;
-mod combine;
+mod combinations;
 mod dead;
 mod failing;
 mod faults;
 mod field;
+mod field_checks;
+mod json_object;
 mod kind;
 mod laws;
-mod make;
-mod object;
+mod number_lists;
 mod plan;
-mod read;
+mod plan_lists;
+mod plan_text;
 mod refusal;
 mod version;
-mod write;
 
 pub use cell::Cell;
 pub use dead::Dead;

@@ -1,9 +1,10 @@
-ghost use Rattle.std.specs.Prelude.{◌≡◌, ◌<◌, ◌≤◌, ◌/◌, ◌↔◌, length, slice_get, Some, IfOk, IfErr, OnOk, IsErrOf, IsTrue, Ok, false};
+ghost use Rattle.std.specs.Prelude.{◌≡◌, ◌<◌, ◌≤◌, ◌/◌, ◌↔◌, length, slice_get, Some, IfOk, IfErr, OnOk, IsErrOf};
+ghost use Rattle.std.specs.Prelude.{IsTrue, Ok, false};
 ghost use Rattle.std.specs.Str.{is_utf8};
 ghost use Rattle.serde_json.specs.View.{view};
 ghost use Rattle.cut_plan.specs.Accepted.{IsChecked, limit_check, plan_of, values_in};
 ghost use Rattle.cut_plan.specs.Canonical.{canonical_text, data_of, field_data};
-ghost use Rattle.cut_plan.specs.Refusals.{IsToldOf};
+ghost use Rattle.cut_plan.specs.Refusals.{IsFaultOfText};
 ghost use Rattle.cut_plan.specs.declared.refusal.PlanFault.TheVariants.{Refused};
 ghost use Rattle.cut_plan.specs.declared.refusal.Refusal.TheVariants.{NotJson, PlanTooLong};
 ghost use Rattle.cut_plan.specs.Cells.{cells_of, largest, trial_count, IsCellOf};
@@ -11,13 +12,13 @@ ghost use Rattle.cut_plan.specs.Plan.{IsPlan};
 ghost use Rattle.cut_plan.specs.Targets.{deaf_of, most_deaf, upgraded};
 ghost use Rattle.cut_plan.specs.Versions.{version_of, faults_in, deaf_in};
 
-use crate::check::{dead_at, failing_at, seed_at};
-use crate::combine::combine;
+use crate::combinations::combine;
 use crate::field::fields_of;
-use crate::make::{Lists, check_together, read_lists};
-use crate::object::{number_at, truth_at};
-use crate::read::read_text;
-use crate::write::{bytes_value, shorts_value};
+use crate::field_checks::{dead_at, failing_at, seed_at};
+use crate::json_object::{number_at, truth_at};
+use crate::number_lists::{bytes_value, shorts_value};
+use crate::plan_lists::{Lists, check_together, read_lists};
+use crate::plan_text::read_text;
 use crate::{Cell, Dead, Failing, Faults, Field, PlanFault, Refusal, Version};
 use serde_json::{Map, Value};
 use std::alloc::{AllocError, Global};
@@ -48,11 +49,11 @@ impl Model for Plan {
 
     ghost Value = { Values };
 
-    ghost use Rattle.cut_plan.specs.Inside.{values_of, IsSound};
+    ghost use Rattle.cut_plan.specs.Inside.{values_of, IsPlanInside};
 
     ghost view = { values_of };
 
-    ghost invariant = { IsSound };
+    ghost invariant = { IsPlanInside };
 }
 
 impl Plan {
@@ -62,7 +63,7 @@ impl Plan {
     #[tactic(auto, unfolding(crate::specs::Accepted::plan_of))]
     pub fn from_json(alloc: Global, text: &[u8]) -> Result<Plan, PlanFault>
         ensures ok { IfOk result (λ p. plan_of text.now ≡ Ok p) }
-        ensures err { IfErr result (λ e. IsToldOf (plan_of text.now) e) }
+        ensures err { IfErr result (λ e. IsFaultOfText (plan_of text.now) e) }
         ensures too_long { 65536 < length text.now → IsErrOf result (Refused PlanTooLong) }
         ensures no_text { length text.now ≤ 65536 → is_utf8 text.now ≡ false → IsErrOf result (Refused NotJson) }
     {
@@ -80,7 +81,7 @@ impl Plan {
         requires { IsChecked (view value.now) }
         ensures ok { IfOk result (λ p. p ≡ values_in (view value.now)) }
         ensures within { OnOk result (limit_check (values_in (view value.now)) ≡ Ok tt) }
-        ensures err { IfErr result (λ e. IsToldOf (limit_check (values_in (view value.now))) e) }
+        ensures err { IfErr result (λ e. IsFaultOfText (limit_check (values_in (view value.now))) e) }
     {
         let lists = read_lists(alloc, value)?;
         check_together(&lists, value)?;
@@ -282,7 +283,7 @@ impl Plan {
         trial / self.repeats
     }
 
-    /// A copy of the plan. Fails only for want of memory.
+    /// A copy of the plan. Fails only where memory runs out.
     pub fn try_clone(&self, alloc: Global) -> Result<Plan, AllocError>
         ensures value { IfOk result (λ p. p ≡ self.now) }
     {
@@ -305,9 +306,9 @@ impl Plan {
     }
 
     /// The plan of version 2 whose targets fail in the same way, so that every trial has the same
-    /// outcome but for the number that version 1 does not tell: none of them is deaf where they crash, and
+    /// outcome but for the number that version 1 does not have: none of them is deaf where they crash, and
     /// as many as the greatest number of failed processes where they are deaf. Of a plan of version 2 it is
-    /// a copy. Fails only for want of memory.
+    /// a copy. Fails only where memory runs out.
     pub fn upgrade(&self, alloc: Global) -> Result<Plan, AllocError>
         ensures value { IfOk result (λ p. p ≡ upgraded self.now) }
     {
@@ -366,7 +367,7 @@ impl Plan {
     }
 
     /// The plan's one text: compact JSON, keys in byte order, the seed in lower-case digits. Two
-    /// plans say the same where their texts are equal. Fails only for want of memory.
+    /// plans say the same where their texts are equal. Fails only where memory runs out.
     pub fn canonical(&self, alloc: Global) -> Result<Vec<u8>, AllocError>
         ensures text { IfOk result (λ t. t.items ≡ canonical_text self.now) }
     {

@@ -1,7 +1,7 @@
 ghost use Rattle.std.specs.Prelude.{◌≡◌};
 ghost use Rattle.cut_plan.specs.Versions.{version_number, version_by};
 
-/// The version of a plan's format. Which fields a plan has is told by it.
+/// The version of a plan's format, which decides what fields a plan has.
 #[derive(Clone, Copy, Debug, PartialEq, Eq)]
 pub enum Version {
     /// All targets fail in one way.

@@ -1,5 +1,6 @@
 -- Least times by which all has ended.
-use Rattle.std.proofs.Common.{◌≡◌, ◌∙◌, ℕ, ◌+◌, ◌<◌, ◌≤◌, ◌&&◌, ◌||◌, Bool, true, false, cond, ltb, eqb, max, List, length, slice_index, inl, inr, refl, subst, ap, sym, le-ltb, arith}
+use Rattle.std.proofs.Common.{◌≡◌, ◌∙◌, ℕ, ◌+◌, ◌<◌, ◌≤◌, ◌&&◌, ◌||◌, Bool, true, false, cond, ltb, eqb, max, List}
+use Rattle.std.proofs.Common.{length, slice_index, inl, inr, refl, subst, ap, sym, le-ltb, arith}
 use Rattle.std.specs.List.{list_any}
 use Rattle.std.proofs.lemmas.Bool.{cases_lt, lt-ltb}
 use Rattle.cut_ranks.specs.Ranks.{IsRank}
@@ -14,7 +15,8 @@ raised_above time low bound high = omega arith
 raised_over : (time low bound high : ℕ) → low < bound → high ≤ max time (cond (ltb low bound) high 0)
 raised_over time low bound high less = rw (lt-ltb low bound less) (omega arith)
 
-raised_within : (w time low bound high : ℕ) → time ≤ w → (low < bound → high ≤ w) → max time (cond (ltb low bound) high 0) ≤ w
+raised_within : (w time low bound high : ℕ) → time ≤ w → (low < bound → high ≤ w)
+    → max time (cond (ltb low bound) high 0) ≤ w
 raised_within w time low bound high old ends = elim (cases_lt low bound) [
   | inl less ↦ (let over = ends less in rw (lt-ltb low bound less) (omega (arith, old, over)))
   | inr after ↦ rw (le-ltb low bound after) (omega (arith, old))
@@ -75,7 +77,8 @@ raised_none first lows highs old = record {
   least = λ w enough from. from;
 }
 
-pub raised_all : (first n : ℕ) (lows highs : List ℕ) (old new : ℕ) → length lows ≤ n → IsRaisedTo first n lows highs old new
+pub raised_all : (first n : ℕ) (lows highs : List ℕ) (old new : ℕ) → length lows ≤ n
+    → IsRaisedTo first n lows highs old new
     → IsRaised first lows highs old new
 raised_all first n lows highs old new all is = record {
   later = is.later;
@@ -102,7 +105,8 @@ raised_more first n lows highs old time low high new inside low_is high_is new_i
       least = λ w enough after.
           let old_within = is.least w enough after in
           let within = raised_within w time low time high old_within (λ less.
-          let ends = enough.before n inside (omega (arith, less, low_is, old_within)) in omega (arith, ends, high_is)) in
+          let ends = enough.before n inside (omega (arith, less, low_is, old_within)) in omega (arith, ends, high_is))
+          in
           omega (arith, within, new_is);
     }
 
@@ -138,4 +142,5 @@ pub doubt_is : (end : ℕ) (lows : List ℕ) (first second time mark : ℕ) → 
 doubt_is end lows first second time mark low least one two is =
     ap (λ m. eqb second first || (ltb first time && eqb m 1)) is
     ∙ ap (λ b. eqb second first || (ltb first time && b)) (marked_bit (list_any (λ x. eqb x time) lows))
-    ∙ ap (λ b. b || (ltb first time && list_any (λ x. eqb x time) lows)) (second_is_first end lows first second low least one two)
+    ∙ ap (λ b. b || (ltb first time && list_any (λ x. eqb x time) lows))
+    (second_is_first end lows first second low least one two)

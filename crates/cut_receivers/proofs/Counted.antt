@@ -1,5 +1,6 @@
 -- The times from which on the rings of a node count, of which its high is a rank.
-use Rattle.std.proofs.Common.{◌≡◌, ◌∙◌, inl, inr, ℕ, ◌<◌, ◌≤◌, Bool, List, map, Option, Some, None, if◌then◌else◌, ap, sym, subst, arith}
+use Rattle.std.proofs.Common.{◌≡◌, ◌∙◌, inl, inr, ℕ, ◌<◌, ◌≤◌, Bool, List, map, Option, Some, None, if◌then◌else◌, ap}
+use Rattle.std.proofs.Common.{sym, subst, arith}
 use Rattle.std.specs.List.{All, range_with_len}
 use Rattle.std.proofs.lemmas.Bool.{cases_Bool}
 use Rattle.std.proofs.lemmas.List.Elements.{All-filter, All-map}
@@ -13,7 +14,8 @@ use Rattle.cut_detector.specs.Counts.{is_full, is_gained}
 use Rattle.cut_blocks.specs.Images.{never}
 use Rattle.cut_ranks.specs.Ranks.{IsRank}
 use Rattle.cut_arrivals.specs.Times.{full_time}
-use Rattle.cut_arrivals.specs.Laws.{ImagesAreLeast, OthersNeverCome, GainedCountByLows, HighIsRankOfFullTimes, UngainedCountByImage}
+use Rattle.cut_arrivals.specs.Laws.{ImagesAreLeast, OthersNeverCome, GainedCountByLows, HighIsRankOfFullTimes}
+use Rattle.cut_arrivals.specs.Laws.{UngainedCountByImage}
 use Rattle.cut_arrivals.specs.Hearing.{images_at, highs_at}
 use Rattle.cut_nodes.specs.declared.node.Node.{Node}
 use Rattle.cut_nodes.specs.Nodes.{cause_in, cause_of, subjects_of}

@@ -1,5 +1,7 @@
 -- Counts of deliveries by the slots of their edges.
-use Rattle.std.proofs.Common.{◌≡◌, ◌∙◌, inl, inr, ℕ, ◌+◌, ◌*◌, ◌^◌, ◌<◌, ◌≤◌, ◌==◌, Bool, nat_lt, nat_le, cond, min, List, [], ◌∷◌, ◌++◌, length, map, take, slice_index, slice_index_or, refl, ap, sym, zero-add, arith}
+use Rattle.std.proofs.Common.{◌≡◌, ◌∙◌, inl, inr, ℕ, ◌+◌, ◌*◌, ◌^◌, ◌<◌, ◌≤◌, ◌==◌, Bool, nat_lt, nat_le, cond, min}
+use Rattle.std.proofs.Common.{List, [], ◌∷◌, ◌++◌, length, map, take, slice_index, slice_index_or, refl, ap, sym}
+use Rattle.std.proofs.Common.{zero-add, arith}
 use Rattle.std.specs.List.{All, count_by, range_with_len, flat_map}
 use Rattle.std.proofs.lemmas.Bool.{cases_Bool, cases_lt, cases_eq, lt-ltb, le-ltb, eq-eqb, ne_eqb}
 use Rattle.std.proofs.lemmas.Bool.Decides.{nat_tests}
@@ -13,7 +15,8 @@ use Rattle.cut_draws.specs.declared.delivery.Delivery.{Delivery}
 use Rattle.cut_draws.specs.DeliveryOrder.{copies_of}
 use Rattle.cut_draws.specs.Source.{Source}
 unfoldable use Rattle.cut_blocks.specs.Images.{least_image}
-use Rattle.cut_blocks.specs.Images.{never, eight, image_at, place_in, row_of, DeliveriesStandInBlocks, ImagesAreBelowNever}
+use Rattle.cut_blocks.specs.Images.{never, eight, image_at, place_in, row_of, DeliveriesStandInBlocks}
+use Rattle.cut_blocks.specs.Images.{ImagesAreBelowNever}
 use Rattle.cut_arrivals.specs.Hearing.{Hearing, deliveries_of, image_of}
 use Rattle.cut_nodes.specs.declared.slots.Slot.{Slot}
 use Rattle.cut_nodes.specs.Slots.{AreSlots, key_in, key_of}
@@ -41,7 +44,7 @@ count_append : {X : Type 0} (p : X → Bool) (xs ys : List X) → count_by p (xs
 count_append p [] ys = sym (zero-add (count_by p ys))
 count_append p (x ∷ xs) ys =
     sum_by-cons _ x (xs ++ ys) ∙ ap (λ n. cond (p x) 1 0 + n) (count_append p xs ys)
-    ∙ (let front = sum_by-cons (λ z. cond {A = ℕ} (p z) 1 0) x xs in omega (arith, front))
+    ∙ (let prefix = sum_by-cons (λ z. cond {A = ℕ} (p z) 1 0) x xs in omega (arith, prefix))
 
 -- tests that agree on all elements
 count_agree : {X : Type 0} (p q : X → Bool) (xs : List X) → All (λ x. p x ≡ q x) xs → count_by p xs ≡ count_by q xs
@@ -143,7 +146,13 @@ pub copy_more : DeliveriesStandInBlocks → ImagesAreBelowNever
     → new ≡ old + count_by (λ slot. nat_lt (image_in images i slot) bound) slots → old ≡ count_below x c bound
     → new ≡ count_below x (c + 1) bound
 copy_more stand below x c i bound js blocks slots images old new drawn four low who are more is =
-    omega (arith, more, is, copy_counted stand below x c i bound js blocks slots images drawn four low who are, below_more x c bound)
+    omega (
+      arith,
+      more,
+      is,
+      copy_counted stand below x c i bound js blocks slots images drawn four low who are,
+      below_more x c bound,
+    )
 
 pub few_more : (c k : ℕ) (blocks : List ℕ) (edges : List Edge) (slots : List Slot) (test : Slot
     → Bool) (old new : ℕ) → AreSlots k blocks edges slots

@@ -1,5 +1,7 @@
 -- What a lane's times say of the proposal.
-use Rattle.std.proofs.Common.{◌≡◌, ◌≢◌, ◌∙◌, inl, inr, ℕ, ◌/◌, ◌%◌, ◌^◌, ◌<◌, ◌==◌, ◌&&◌, Bool, true, false, not, nat_lt, nat_le, cond, if◌then◌else◌, List, [], ◌∷◌, length, filter, slice_index, slice_index_or, Option, Some, None, IfSome, refl, ap, sym, subst, arith}
+use Rattle.std.proofs.Common.{◌≡◌, ◌≢◌, ◌∙◌, inl, inr, ℕ, ◌/◌, ◌%◌, ◌^◌, ◌<◌, ◌==◌, ◌&&◌, Bool, true, false, not}
+use Rattle.std.proofs.Common.{nat_lt, nat_le, cond, if◌then◌else◌, List, [], ◌∷◌, length, filter, slice_index}
+use Rattle.std.proofs.Common.{slice_index_or, Option, Some, None, IfSome, refl, ap, sym, subst, arith}
 use Rattle.std.specs.List.{All, AllPairs, Contains, list_any, range_with_len}
 use Rattle.std.proofs.lemmas.Bool.{and_parts, both_ways, cases_Bool, eq-eqb, eqb-true, lt-ltb, ltb-true}
 use Rattle.std.proofs.lemmas.Bool.Decides.{nat_tests}
@@ -7,13 +9,14 @@ use Rattle.std.proofs.lemmas.List.{get_or-map}
 use Rattle.std.proofs.lemmas.List.Elements.{All-filter}
 use Rattle.std.proofs.lemmas.List.Folds.{Any-from_list_any, list_any_at}
 use Rattle.std.proofs.lemmas.List.Kept.{AllPairs-from_increasing, AllPairs-filter}
-use Rattle.cut_lists.proofs.Ranges.{All-range_with_len, Contains-filter_of, Contains_filter, filter_agree_on, none_passing, passing, range-rises}
+use Rattle.cut_lists.proofs.Ranges.{All-range_with_len, Contains-filter_of, Contains_filter, filter_agree_on}
+use Rattle.cut_lists.proofs.Ranges.{none_passing, passing, range-rises}
 use Rattle.cut_blocks.specs.Images.{never}
 use Rattle.cut_lanes.specs.Lanes.{lane}
 use Rattle.cut_ranks.specs.Closing.{is_doubtful}
 use Rattle.cut_arrivals.specs.Times.{members_by}
 use Rattle.cut_arrivals.specs.Nodes.{AreNodes, IsClosed}
-use Rattle.cut_arrivals.specs.Laws.{ClosesAsProposed, NodesTellOther}
+use Rattle.cut_arrivals.specs.Laws.{ClosesAsProposed, NodesShowOther}
 use Rattle.cut_arrivals.specs.Hearing.{Hearing, lows_at, highs_at}
 use Rattle.cut_receivers.specs.declared.receivers.Receivers as declared
 use Rattle.cut_receivers.specs.declared.finding.Finding.{Finding}
@@ -80,15 +83,15 @@ module _ (x : Hearing) (subjects : List ℕ) (i : ℕ) (f : declared.Receivers) 
 
   pub closed : is_doubtful (lane i f.lows.items) first time ≡ false
       → IsClosed n never (lows_at x never) (highs_at x never) (lane i f.lows.items) (lane i f.highs.items) first time
-  closed sure = record {
+  closed certain = record {
     nodes = (subjects, nodes_are);
     least = h.least;
     closing = h.closing;
-    sure = sure;
+    certain = certain;
   }
 
   -- who has ended by a time that comes is a node
-  ended_heard : NodesTellOther → time < never → (s : ℕ) → s < n → has_ended s ≡ true → is_heard s ≡ true
+  ended_heard : NodesShowOther → time < never → (s : ℕ) → s < n → has_ended s ≡ true → is_heard s ≡ true
   ended_heard law comes s process ended =
       let is : ℕ → Bool = λ p. not (not (p == s)) in
       let member : Contains (members_by n (highs_at x never) time) s =
@@ -104,7 +107,7 @@ module _ (x : Hearing) (subjects : List ℕ) (i : ℕ) (f : declared.Receivers) 
       subst (λ p. is_heard p ≡ true) same
       (Contains-filter_of is_heard 0 n at.1 (subst (λ ns. Contains ns at.1) h.subjects_are (at.0, at.2, at.3))).passes
 
-  pub members_filtered : NodesTellOther → time < never
+  pub members_filtered : NodesShowOther → time < never
       → members_by n (highs_at x never) time ≡ filter has_ended subjects
   members_filtered law comes =
       sym (ap (λ (ns : List ℕ). filter has_ended ns) h.subjects_are
@@ -113,10 +116,10 @@ module _ (x : Hearing) (subjects : List ℕ) (i : ℕ) (f : declared.Receivers) 
       (record { same = λ s _ low. absorbed (is_heard s) (has_ended s) (ended_heard law comes s (omega (arith, low))) }))
 
   -- the members that are proposed, where nothing is doubted
-  pub members_are : ClosesAsProposed → NodesTellOther → is_doubtful (lane i f.lows.items) first time ≡ false
+  pub members_are : ClosesAsProposed → NodesShowOther → is_doubtful (lane i f.lows.items) first time ≡ false
       → members_at x ≡ (if nat_lt time never then Some (filter has_ended subjects) else None)
-  members_are closes law sure =
-      closes x never (lane i f.lows.items) (lane i f.highs.items) first time h.hearing (omega arith) (closed sure)
+  members_are closes law certain =
+      closes x never (lane i f.lows.items) (lane i f.highs.items) first time h.hearing (omega arith) (closed certain)
       ∙ elim (cases_Bool (nat_lt time never)) [
         | inl comes ↦ rw comes (ap (λ (ms : List ℕ). Some ms) (members_filtered law (ltb-true time never comes)))
         | inr not ↦ rw not refl
@@ -129,8 +132,8 @@ module _ (x : Hearing) (subjects : List ℕ) (i : ℕ) (f : declared.Receivers) 
       (range-rises 0 n)))
 
   -- nothing is doubted where the bit is not set
-  pub sure_of : has_bit f.closing.doubt i ≡ false → is_doubtful (lane i f.lows.items) first time ≡ false
-  sure_of clear = sym (bit_is (is_doubtful (lane i f.lows.items) first time)
+  pub certain_of : has_bit f.closing.doubt i ≡ false → is_doubtful (lane i f.lows.items) first time ≡ false
+  certain_of clear = sym (bit_is (is_doubtful (lane i f.lows.items) first time)
       (f.closing.doubt / 2 ^ i % 2) h.doubt) ∙ clear
 
   -- ---- flags of nodes
@@ -181,7 +184,8 @@ pub found : (doubted comes other : Bool) (proposed : Option (List ℕ)) (ended w
     → (doubted ≡ false → proposed ≡ (if comes then Some ended else None))
     → (other ≡ false → ended ≡ wanted) → (other ≡ true → ended ≢ wanted)
     → Finds wanted proposed
-    (if doubted then Finding.Doubtful else if not comes then Finding.Silent else if other then Finding.Other else Finding.Wanted)
+    (if doubted then Finding.Doubtful else if not comes then Finding.Silent else if other then Finding.Other else
+    Finding.Wanted)
 found true comes other proposed ended wanted is same differ = tt
 found false false other proposed ended wanted is same differ = is refl
 found false true true proposed ended wanted is same differ = (ended, is refl, differ refl)

@@ -1,11 +1,12 @@
 -- A filter of one element more.
-use Rattle.std.proofs.Common.{◌≡◌, ◌∙◌, ℕ, ◌+◌, ◌<◌, Bool, true, false, cond, List, [], ◌∷◌, ◌++◌, length, take, filter, slice_index, ap, sym}
+use Rattle.std.proofs.Common.{◌≡◌, ◌∙◌, ℕ, ◌+◌, ◌<◌, Bool, true, false, cond, List, [], ◌∷◌, ◌++◌, length, take, filter}
+use Rattle.std.proofs.Common.{slice_index, ap, sym}
 use Rattle.std.proofs.lemmas.List.{take_more, append-nil}
 
-first_of : (x : ℕ) (c : Bool) (all front rest : List ℕ) → all ≡ front ++ rest
-    → cond c (x ∷ all) all ≡ cond c (x ∷ front) front ++ rest
-first_of x true all front rest is = ap (λ (ys : List ℕ). x ∷ ys) is
-first_of x false all front rest is = is
+first_of : (x : ℕ) (c : Bool) (all prefix rest : List ℕ) → all ≡ prefix ++ rest
+    → cond c (x ∷ all) all ≡ cond c (x ∷ prefix) prefix ++ rest
+first_of x true all prefix rest is = ap (λ (ys : List ℕ). x ∷ ys) is
+first_of x false all prefix rest is = is
 
 filter_append : (p : ℕ → Bool) (xs : List ℕ) (y : ℕ) (b : Bool) → p y ≡ b
     → filter p (xs ++ y ∷ []) ≡ filter p xs ++ cond b (y ∷ []) []

@@ -1,5 +1,6 @@
 -- Whether one node more differs from its flag.
-use Rattle.std.proofs.Common.{◌≡◌, ◌∙◌, ℕ, ◌+◌, Bool, true, false, ◌||◌, not, nat_lt, cond, List, [], ◌∷◌, slice_index, slice_index_or, refl, ap, sym, arith}
+use Rattle.std.proofs.Common.{◌≡◌, ◌∙◌, ℕ, ◌+◌, Bool, true, false, ◌||◌, not, nat_lt, cond, List, [], ◌∷◌, slice_index}
+use Rattle.std.proofs.Common.{slice_index_or, refl, ap, sym, arith}
 use Rattle.std.specs.List.{list_any, range_with_len}
 use Rattle.std.proofs.lemmas.List.Folds.{list_any-append}
 use Rattle.cut_lists.proofs.Ranges.{range_with_len_more}

@@ -1,5 +1,6 @@
 -- Nodes by their places.
-use Rattle.std.proofs.Common.{◌≡◌, ◌∙◌, ℕ, ◌<◌, ◌≤◌, inl, List, [], ◌∷◌, length, map, filter, nat_lt, slice_index, slice_index_or, ap, sym, subst, arith}
+use Rattle.std.proofs.Common.{◌≡◌, ◌∙◌, ℕ, ◌<◌, ◌≤◌, inl, List, [], ◌∷◌, length, map, filter, nat_lt, slice_index}
+use Rattle.std.proofs.Common.{slice_index_or, ap, sym, subst, arith}
 use Rattle.std.specs.List.{All, range_with_len}
 use Rattle.std.proofs.lemmas.List.{get_or-map, length-map, ext_get_or}
 use Rattle.std.proofs.lemmas.List.Elements.{All-filter}

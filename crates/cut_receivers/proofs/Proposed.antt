@@ -1,5 +1,6 @@
 -- At which place a lane's receiver proposes.
-use Rattle.std.proofs.Common.{◌≡◌, ◌∙◌, inl, inr, ℕ, ◌<◌, ◌≤◌, ◌==◌, false, not, nat_lt, List, length, slice_index, Option, IfSome, sym, subst, arith}
+use Rattle.std.proofs.Common.{◌≡◌, ◌∙◌, inl, inr, ℕ, ◌<◌, ◌≤◌, ◌==◌, false, not, nat_lt, List, length, slice_index}
+use Rattle.std.proofs.Common.{Option, IfSome, sym, subst, arith}
 use Rattle.std.specs.List.{count_by}
 use Rattle.std.proofs.lemmas.Bool.{cases_Bool}
 use Rattle.std.proofs.lemmas.Bool.Decides.{nat_tests}
@@ -13,11 +14,11 @@ use Rattle.cut_receivers.specs.declared.receivers.Receivers as declared
 use Rattle.cut_receivers.specs.declared.places.Places as counted
 use Rattle.cut_receivers.specs.Heard.{HasHeard}
 use Rattle.cut_receivers.specs.Findings.{has_bit}
-use Rattle.cut_receivers.specs.Places.{HasCounted}
+use Rattle.cut_receivers.specs.Places.{HasCountedPlaces}
 use Rattle.cut_receivers.proofs.Bounds.{high_within}
 use Rattle.cut_receivers.proofs.Choices.{length_lane}
 use Rattle.cut_receivers.proofs.Placed.{lane_long}
-use Rattle.cut_receivers.proofs.Judged.{closed, sure_of, high_at}
+use Rattle.cut_receivers.proofs.Judged.{closed, certain_of, high_at}
 
 -- no closing time is after `never`
 pub time_within : (x : Hearing) (subjects : List ℕ) (i : ℕ) (f : declared.Receivers) → HasHeard x subjects i f
@@ -35,7 +36,8 @@ at_most_one n is = grind (arith, nat_tests, is)
 
 pub placed : ClosesAtPlace → (x : Hearing) (subjects : List ℕ) (i : ℕ) (f : declared.Receivers)
     (p : counted.Places) → HasHeard x subjects i f
-    → has_bit f.closing.doubt i ≡ false → HasCounted x (slice_index f.closing.time i) i p → has_bit p.doubt i ≡ false
+    → has_bit f.closing.doubt i ≡ false → HasCountedPlaces x (slice_index f.closing.time i) i p → has_bit p.doubt i
+    ≡ false
     → IfSome (proposal_at x) (λ q. q.at ≡ slice_index p.until i)
 placed law x subjects i f p h clear counts apart =
     let t : ℕ = slice_index f.closing.time i in
@@ -44,7 +46,7 @@ placed law x subjects i f p h clear counts apart =
     at_most_one (count_by (λ y. image_of x y == t) ys) (sym counts.doubt ∙ apart) in
     let proposed = law x never (lane i f.lows.items) (lane i f.highs.items)
     (slice_index f.closing.first i) t h.hearing (omega arith)
-    (closed x subjects i f h (sure_of x subjects i f h clear)) one in
+    (closed x subjects i f h (certain_of x subjects i f h clear)) one in
     subst (λ (o : Option Proposal). IfSome o (λ q. q.at ≡ slice_index p.until i)) (sym proposed)
     (elim (cases_Bool (nat_lt t never)) [
       | inl comes ↦ rw comes (sym counts.until)

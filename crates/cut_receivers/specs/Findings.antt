@@ -1,5 +1,6 @@
 -- What lanes are found to propose.
-use Rattle.std.specs.Prelude.{◌≡◌, ◌≢◌, ℕ, ◌/◌, ◌%◌, ◌^◌, ◌==◌, Bool, true, false, cond, not, nat_lt, if◌then◌else◌, List, [], ◌∷◌, slice_index, slice_index_or, Option, Some, None, option_map, ⊤}
+use Rattle.std.specs.Prelude.{◌≡◌, ◌≢◌, ℕ, ◌/◌, ◌%◌, ◌^◌, ◌==◌, Bool, true, false, cond, not, nat_lt, if◌then◌else◌}
+use Rattle.std.specs.Prelude.{List, [], ◌∷◌, slice_index, slice_index_or, Option, Some, None, option_map, ⊤}
 use Rattle.std.specs.List.{range_with_len, list_any}
 use Rattle.cut_arrivals.specs.Hearing.{Hearing, proposal_at}
 use Rattle.cut_detector.specs.declared.proposal.Proposal.{Proposal}
@@ -19,7 +20,8 @@ has_bit bits i = bits / 2 ^ i % 2 == 1
 -- what is found of lane i
 abbrev pub finding_in : declared.Findings → ℕ → Finding
 finding_in f i =
-    if has_bit f.doubtful i then Finding.Doubtful else if has_bit f.silent i then Finding.Silent else if has_bit f.others i then Finding.Other else Finding.Wanted
+    if has_bit f.doubtful i then Finding.Doubtful else if has_bit f.silent i then Finding.Silent else if has_bit
+    f.others i then Finding.Other else Finding.Wanted
 
 -- whether a finding is that of a proposal
 abbrev pub is_proposal : Finding → Bool
@@ -36,7 +38,7 @@ has_proposals f = list_any (λ i. is_proposal (finding_in f i)) (range_with_len 
 abbrev pub members_at : Hearing → Option (List ℕ)
 members_at x = option_map (λ (p : Proposal). p.members) (proposal_at x)
 
--- what a finding says of the proposed members, where some members are wanted
+-- what a finding says of the proposed members, compared with expected ones
 abbrev pub Finds : List ℕ → Option (List ℕ) → Finding → Type 0
 Finds wanted proposed Finding.Doubtful = ⊤
 Finds wanted proposed Finding.Silent = proposed ≡ None

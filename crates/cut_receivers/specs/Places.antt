@@ -11,6 +11,6 @@ image_in images i slot = slice_index (slice_index_or (slice_index_or images slot
 
 -- in lane i is counted how many deliveries have an image up to a time, and the place is in doubt exactly where the time
 -- is not the image of exactly one delivery
-pub record HasCounted (x : Hearing) (time i : ℕ) (p : declared.Places) : Type 0 where
+pub record HasCountedPlaces (x : Hearing) (time i : ℕ) (p : declared.Places) : Type 0 where
   pub until : slice_index p.until i ≡ count_by (λ y. nat_le (image_of x y) time) (deliveries_of x)
   pub doubt : has_bit p.doubt i ≡ not (count_by (λ y. image_of x y == time) (deliveries_of x) == 1)

@@ -1,5 +1,6 @@
 -- The times of nodes in a lane, by the keys that are drawn.
-use Rattle.std.specs.Prelude.{◌≡◌, ℕ, ◌<◌, false, List, [], map, min, max, length, slice_index, slice_index_or, Option, Some, None, ◌⊎◌}
+use Rattle.std.specs.Prelude.{◌≡◌, ℕ, ◌<◌, false, List, [], map, min, max, length, slice_index, slice_index_or, Option}
+use Rattle.std.specs.Prelude.{Some, None, ◌⊎◌}
 use Rattle.cut_detector.specs.Rule.{rule_in}
 use Rattle.cut_rings.specs.Edges.{set_of}
 use Rattle.cut_blocks.specs.Images.{never, row_of, least_image}

@@ -2,22 +2,23 @@ ghost use Rattle.std.specs.Prelude.{◌≡◌, ℕ, ◌<◌, ◌↔◌, false, L
 ghost use Rattle.cut_arrivals.specs.Hearing.{Hearing};
 ghost use Rattle.cut_nodes.specs.Nodes.{subjects_of};
 ghost use Rattle.cut_receivers.specs.Heard.{HasHeard};
-ghost use Rattle.cut_receivers.specs.Findings.{flagged, has_bit, is_proposal, has_proposals, finding_in, members_at, Finds};
+ghost use Rattle.cut_receivers.specs.Findings.{flagged, has_bit, is_proposal, has_proposals, finding_in, members_at};
+ghost use Rattle.cut_receivers.specs.Findings.{Finds};
 
 use crate::Receivers;
 use crate::lanes::{bits_of, has_ended, others, silences};
-use cut_arrivals::laws::{images_tell_the_members, nodes_tell_the_verdict};
+use cut_arrivals::laws::{images_give_the_members, nodes_show_the_verdict};
 use cut_nodes::Nodes;
 use std::alloc::AllocError;
 
-/// What a receiver is found to propose, where some members are wanted.
+/// What a receiver is found to propose, compared with the expected members.
 #[derive(Clone, Copy, Debug, PartialEq, Eq)]
 pub enum Finding {
     /// Equal images leave it open: its deliveries are to be replayed by whole keys.
     Doubtful,
     /// No proposal.
     Silent,
-    /// A proposal with exactly the members that are wanted.
+    /// A proposal with exactly the expected members.
     Wanted,
     /// A proposal with other members.
     Other,
@@ -79,15 +80,15 @@ pub(crate) fn has_bit(bits: u64, lane: usize) -> bool
 }
 
 impl Receivers {
-    /// Judges what four receivers propose, where the nodes with a flag are the members that are wanted.
+    /// Judges what four receivers propose, where the nodes with a flag are the expected members.
     pub fn judge(&self, wanted: &[bool]) -> Findings
         requires { length wanted.now ≡ length self.now.highs.items }
         ensures doubtful { result.doubtful ≡ self.now.closing.doubt }
         ensures finds { (x : Hearing) (subjects : List ℕ) (i : ℕ) → i < 4 → HasHeard x subjects i self.now
             → Finds (flagged subjects wanted.now) (members_at x) (finding_in result i) }
     {
-        images_tell_the_members();
-        nodes_tell_the_verdict();
+        images_give_the_members();
+        nodes_show_the_verdict();
         let time = self.closing.time;
         Findings {
             doubtful: self.closing.doubt,
@@ -110,8 +111,8 @@ impl Receivers {
             → has_bit self.now.closing.doubt lane ≡ false → IfSome (members_at x) (λ ms. members.new.items ≡ ms)) }
         ensures err { OnErr result (members.new.items ≡ []) }
     {
-        images_tell_the_members();
-        nodes_tell_the_verdict();
+        images_give_the_members();
+        nodes_show_the_verdict();
         members.clear();
         members.reserve(nodes.nodes.len())?;
         for (place, node) in nodes.nodes.iter().enumerate() {

@@ -1,5 +1,6 @@
 //! What is done in each lane of vectors alike.
-ghost use Rattle.std.specs.Prelude.{◌≡◌, ℕ, ◌<◌, ◌/◌, ◌%◌, ◌^◌, ◌==◌, cond, ◌+◌, ◌≤◌, not, nat_lt, nat_le, min, max, map, length, slice_index, All};
+ghost use Rattle.std.specs.Prelude.{◌≡◌, ℕ, ◌<◌, ◌/◌, ◌%◌, ◌^◌, ◌==◌, cond, ◌+◌, ◌≤◌, not, nat_lt, nat_le, min, max};
+ghost use Rattle.std.specs.Prelude.{map, length, slice_index, All};
 ghost use Rattle.cut_blocks.specs.Images.{never, row_of};
 ghost use Rattle.cut_lanes.specs.Lanes.{lane};
 ghost use Rattle.cut_receivers.specs.Findings.{is_other};
@@ -53,7 +54,7 @@ pub(crate) fn silences(time: u32x4) -> u32x4
         .select(u32x4::splat(0), u32x4::splat(1))
 }
 
-/// 1 where some node has ended by the time and is not wanted, or is wanted and has not ended; 0 elsewhere.
+/// 1 where some node has ended by the time and is not expected, or is expected and has not ended; 0 elsewhere.
 #[inline(always)]
 pub(crate) fn others(highs: &[u32x4], time: u32x4, wanted: &[bool]) -> u32x4
     requires { length wanted.now ≡ length highs.now }

@@ -1,15 +1,16 @@
-ghost use Rattle.std.specs.Prelude.{◌≡◌, ℕ, ◌+◌, ◌^◌, ◌<◌, ◌≤◌, false, nat_lt, List, length, slice_index, count_by, All, IfOk, IfSome};
+ghost use Rattle.std.specs.Prelude.{◌≡◌, ℕ, ◌+◌, ◌^◌, ◌<◌, ◌≤◌, false, nat_lt, List, length, slice_index, count_by};
+ghost use Rattle.std.specs.Prelude.{All, IfOk, IfSome};
 ghost use Rattle.cut_blocks.specs.Images.{never};
 ghost use Rattle.cut_arrivals.specs.Hearing.{Hearing, proposal_at};
 ghost use Rattle.cut_nodes.specs.Slots.{AreSlots};
 ghost use Rattle.cut_receivers.specs.Heard.{hearing_of, HasHeard};
 ghost use Rattle.cut_receivers.specs.Findings.{has_bit};
-ghost use Rattle.cut_receivers.specs.Places.{image_in, HasCounted};
+ghost use Rattle.cut_receivers.specs.Places.{image_in, HasCountedPlaces};
 
 use crate::finding::has_bit;
 use crate::lanes::{bits_of, counted, next_of, not_next, rows_of};
 use crate::{Receivers, Trial};
-use cut_arrivals::laws::images_tell_the_place;
+use cut_arrivals::laws::images_give_the_place;
 use cut_blocks::laws::{deliveries_stand_in_blocks, images_are_below_never};
 use cut_nodes::{Slot, Slots};
 use std::alloc::AllocError;
@@ -65,14 +66,14 @@ impl Receivers {
             (λ q. q.at ≡ slice_index p.until i)) }
         ensures counted { IfOk result (λ p. (i : ℕ) (subjects : List ℕ) → i < 4
             → HasHeard (hearing_of trial.entry (slice_index receivers i)) subjects i self.old
-            → HasCounted (hearing_of trial.entry (slice_index receivers i))
+            → HasCountedPlaces (hearing_of trial.entry (slice_index receivers i))
             (slice_index self.old.closing.time i) i p) }
         ensures four { IfOk result (λ p. p.doubt < 2 ^ 4) }
         ensures same { (x : Hearing) (subjects : List ℕ) (i : ℕ) → HasHeard x subjects i self.old
             → HasHeard x subjects i self.new }
         ensures closing { self.new.closing ≡ self.old.closing }
     {
-        images_tell_the_place();
+        images_give_the_place();
         let time = self.closing.time;
         count_deliveries(&trial, receivers, slots, time, &mut self.images)
     }
@@ -91,7 +92,7 @@ fn count_deliveries(
     requires blocks { All (λ block. block < 2 ^ 13) slots.now.blocks.items }
     requires few { length trial.now.edges.now ≤ 2 ^ 16 }
     ensures counted { IfOk result (λ p. (i : ℕ) → i < 4 → slice_index time i ≤ never
-        → HasCounted (hearing_of trial.now (slice_index receivers i)) (slice_index time i) i p) }
+        → HasCountedPlaces (hearing_of trial.now (slice_index receivers i)) (slice_index time i) i p) }
     ensures four { IfOk result (λ p. p.doubt < 2 ^ 4) }
 {
     deliveries_stand_in_blocks();

@@ -77,7 +77,7 @@ impl Receivers {
         Ok(())
     }
 
-    /// Makes room for the times of so many nodes.
+    /// Makes room for the times of this many nodes.
     fn reserve(&mut self, nodes: usize) -> Result<(), AllocError>
         ensures lows { OnOk result (nodes ≤ vec_capacity self.new.lows) }
         ensures highs { OnOk result (nodes ≤ vec_capacity self.new.highs) }

@@ -4,12 +4,12 @@ ghost use Rattle.cut_blocks.specs.Images.{never};
 ghost use Rattle.cut_ranks.specs.Ranks.{IsRank};
 ghost use Rattle.cut_lanes.specs.Lanes.{lane};
 ghost use Rattle.cut_arrivals.specs.Hearing.{lows_at, highs_at};
-ghost use Rattle.cut_nodes.specs.Nodes.{IsWithin, cause_in};
+ghost use Rattle.cut_nodes.specs.Nodes.{AreNodesWithin, cause_in};
 ghost use Rattle.cut_receivers.specs.Times.{hearing_in, subjects_in, IsNodeOf, AreLows, IsHigh, time_of_cause};
 
 use crate::images::Images;
 use crate::lanes::earlier;
-use cut_arrivals::laws::{few_values_tell_lows_and_highs, images_stand_in_blocks};
+use cut_arrivals::laws::{few_values_give_lows_and_highs, images_stand_in_blocks};
 use cut_blocks::NEVER;
 use cut_detector::Rule;
 use cut_lanes::select;
@@ -28,7 +28,7 @@ impl Images<'_> {
         ensures capacity { vec_capacity values.new ≡ vec_capacity values.old }
     {
         images_stand_in_blocks();
-        few_values_tell_lows_and_highs();
+        few_values_give_lows_and_highs();
         self.gather(values, node.heard.as_slice());
         ranks(self.trial.rule, values.as_slice())
     }
@@ -51,7 +51,7 @@ impl Images<'_> {
         ensures capacity { vec_capacity values.new ≡ vec_capacity values.old }
     {
         images_stand_in_blocks();
-        few_values_tell_lows_and_highs();
+        few_values_give_lows_and_highs();
         self.gather_counted(values, lows, low, node);
         let (_, high) = ranks(self.trial.rule, values.as_slice());
         high
@@ -80,7 +80,7 @@ impl Images<'_> {
     /// From when on a ring counts for a node that is reported from `low` on.
     #[inline(always)]
     fn counted_from(&self, lows: &[u32x4], low: u32x4, cause: Cause) -> u32x4
-        requires cause { IsWithin self.now.trial.nodes.now.blocks.items (subjects_in self.now) cause }
+        requires cause { AreNodesWithin self.now.trial.nodes.now.blocks.items (subjects_in self.now) cause }
         requires lows { AreLows self.now lows.now }
         ensures { (i s : ℕ) → i < 4 → slice_index low i ≡ lows_at (hearing_in self.now i) never s
             → slice_index result i ≡ time_of_cause (hearing_in self.now i) s

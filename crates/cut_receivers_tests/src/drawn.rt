@@ -87,7 +87,7 @@ pub(crate) fn drawn_roles(
     Roles::given_mixed(alloc, processes, crashed, deaf, liars, links, dead)
 }
 
-/// Adds a process to the list that a word tells, if to any.
+/// Adds a process to the list that a word names, if it names one.
 fn add(lists: &mut Lists, process: u16, processes: u16, word: u32) -> Result<(), AllocError> {
     match word % 8 {
         0 => lists.crashed.push(process)?,

@@ -29,15 +29,15 @@ const LISTS: [&[u16]; 4] = [&[5], &[2047, 0, 1], &[700, 3, 3, 12], &[8, 9, 10, 1
 
 /// How many receivers were found to propose nothing, what was wanted, and others.
 #[derive(Clone, Copy, Default)]
-struct Tally {
+struct Counts {
     silent: u32,
     wanted: u32,
     others: u32,
 }
 
-impl Tally {
+impl Counts {
     /// The tally with a finding more.
-    fn with(self, finding: Finding) -> Tally {
+    fn with(self, finding: Finding) -> Counts {
         let mut tally = self;
         match finding {
             Finding::Doubtful => {}
@@ -49,8 +49,8 @@ impl Tally {
     }
 
     /// Both tallies together.
-    fn plus(self, other: Tally) -> Tally {
-        Tally {
+    fn plus(self, other: Counts) -> Counts {
+        Counts {
             silent: self.silent.saturating_add(other.silent),
             wanted: self.wanted.saturating_add(other.wanted),
             others: self.others.saturating_add(other.others),
@@ -58,7 +58,7 @@ impl Tally {
     }
 }
 
-/// The members that are wanted, and for each node whether it is one.
+/// The expected members, and for each node whether it is one.
 #[derive(Drop)]
 pub(crate) struct Wanted {
     members: Vec<u16>,
@@ -184,8 +184,8 @@ fn check_list(
     scene: Scene<'_>,
     wanted: &Wanted,
     receivers: &[u16],
-) -> Result<Tally, Fail> {
-    let mut tally = Tally::default();
+) -> Result<Counts, Fail> {
+    let mut tally = Counts::default();
     for four in 0..receivers.len().div_ceil(4) {
         let receivers = four_from(receivers, four.saturating_mul(4));
         let found = found_as_replayed(alloc, heard, scene, receivers, wanted)?;
@@ -200,8 +200,8 @@ fn check_list(
 }
 
 /// What is found of the receivers in four lanes.
-fn tally_of(findings: Findings) -> Tally {
-    let mut tally = Tally::default();
+fn tally_of(findings: Findings) -> Counts {
+    let mut tally = Counts::default();
     for lane in 0..4 {
         tally = tally.with(findings.at(lane));
     }
@@ -215,11 +215,11 @@ fn check_trial(
     heard: &mut Receivers,
     rule: Rule,
     number: u32,
-) -> Result<Tally, Fail> {
+) -> Result<Counts, Fail> {
     let setting = Setting::drawn(rt, alloc, rule, number)?;
     let blocks = Blocks::new(SEED, number);
     let scene = setting.scene(&blocks, number, 1 + (number % 3) as u8);
-    let mut tally = Tally::default();
+    let mut tally = Counts::default();
     if scene.trial.nodes.nodes.is_empty() {
         return Ok(tally);
     }
@@ -233,7 +233,7 @@ fn check_trial(
 #[test]
 fn lanes_propose_what_the_detector_does(rt: HostRuntime) -> Result<(), Fail> {
     let mut heard = Receivers::new(rt.alloc());
-    let mut tally = Tally::default();
+    let mut tally = Counts::default();
     let mut number = 0;
     for (k, h, l) in RULES {
         assert!(rt; 1 <= l && l <= h && h <= k && k <= 32);

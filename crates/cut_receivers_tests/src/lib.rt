@@ -2,8 +2,8 @@
 //! replayed one by one, receivers whose images tie, images of so few bits that many tie, and receivers for whose times
 //! memory runs out.
 //!
-//! The tests stand in a crate of their own, as they use the crate as its callers do, and its proof need not be made again
-//! for them.
+//! The tests stand in a crate of their own, as they use the crate as its callers do, and its proof need not be made
+//! again for them.
 #![tactic(auto)]
 
 #[cfg(test)]

@@ -1,5 +1,5 @@
-//! Images of seven bits, so that many are equal: where a lane is not in doubt, what has ended by its closing time is what
-//! the detector proposes when the same alerts come in the order of their whole keys.
+//! Images of seven bits, so that many are equal: where a lane is not in doubt, what has ended by its closing time is
+//! what the detector proposes when the same alerts come in the order of their whole keys.
 ghost use Rattle.std.specs.Prelude.{◌≡◌, ℕ, ◌<◌, ◌≤◌, length, slice_index, All, IfOk};
 ghost use Rattle.cut_blocks.specs.Images.{never};
 ghost use Rattle.cut_lanes.specs.Lanes.{lane};
@@ -29,7 +29,7 @@ struct Alert {
 
 /// How many lanes were in doubt, silent, and proposed.
 #[derive(Clone, Copy, Default)]
-struct Tally {
+struct Counts {
     doubts: u32,
     silent: u32,
     proposals: u32,
@@ -185,7 +185,7 @@ fn check_alerts(
     alloc: Global,
     words: &mut ChaCha8Rng,
     rule: Rule,
-    tally: &mut Tally,
+    tally: &mut Counts,
 ) -> Result<(), Fail> {
     let rings = drawn_rings(alloc, words, PROCESSES, rule.k)?;
     let alerts = drawn_alerts(alloc, words, rule.k)?;
@@ -211,7 +211,7 @@ fn check_alerts(
 #[test]
 fn lanes_of_seven_bits_propose_what_whole_keys_do(rt: HostRuntime) -> Result<(), Fail> {
     let mut words = ChaCha8Rng::from_seed([3; 32]);
-    let mut tally = Tally::default();
+    let mut tally = Counts::default();
     for (k, h, l) in [(4, 3, 2), (6, 6, 1), (10, 7, 4), (8, 5, 5)] {
         let rule = Rule {
             k,

@@ -1,5 +1,5 @@
-//! Receivers whose images tie where it matters. They were found by a search through the key stream that was written apart
-//! from this project, with the alerts that the roles below give.
+//! Receivers whose images tie where it matters. They were found by a search through the key stream that was written
+//! apart from this project, with the alerts that the roles below give.
 ghost use Rattle.std.specs.Prelude.{◌<◌};
 
 use crate::replays::replayed;
@@ -59,7 +59,7 @@ fn setting(rt: &impl Abort, alloc: Global) -> Result<Setting, Fail> {
     Setting::new(rt, alloc, RULE, rings, &roles)
 }
 
-/// What is found of a receiver in the second lane, where process 0 alone is wanted.
+/// What is found of a receiver in the second lane, where process 0 alone is expected.
 fn found_of_receiver(
     alloc: Global,
     scene: Scene<'_>,

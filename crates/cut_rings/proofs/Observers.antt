@@ -10,7 +10,8 @@ use Rattle.cut_rings.specs.Layout.{Layout, IsLayout, Observes, observer_of, posi
 abbrev is_before : Layout → ℕ → ℕ → ℕ → Bool
 is_before r ring s place = (place + 1) % r.nodes == position_of r ring s
 
-observer_below : (r : Layout) → IsLayout r → (ring s : ℕ) → ring < length r.positions → s < r.nodes → observer_of r ring s < r.nodes
+observer_below : (r : Layout) → IsLayout r → (ring s : ℕ) → ring < length r.positions → s < r.nodes
+    → observer_of r ring s < r.nodes
 observer_below r layout ring s ring_in process = elim (cases_lt (observer_of r ring s) r.nodes) [
   | inl below ↦ below
   | inr beyond ↦ (
@@ -19,8 +20,10 @@ observer_below r layout ring s ring_in process = elim (cases_lt (observer_of r r
       (λ p low. layout.in_range ring p ring_in low)
       (λ p q low high e. layout.distinct ring p q ring_in low high e)
       (λ p low e.
-      let fails : is_before r ring s (position_of r ring p) ≡ false = fails_before_first (is_before r ring s) (positions_on r ring) p 0 (omega arith) in
-      let passes : is_before r ring s (position_of r ring p) ≡ true = ap (is_before r ring s) e ∙ eq-eqb _ _ place.1.next in
+      let fails : is_before r ring s (position_of r ring p)
+      ≡ false = fails_before_first (is_before r ring s) (positions_on r ring) p 0 (omega arith) in
+      let passes : is_before r ring s (position_of r ring p) ≡ true = ap (is_before r ring s) e
+      ∙ eq-eqb _ _ place.1.next in
       cc)))
 ]
 

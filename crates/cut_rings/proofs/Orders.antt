@@ -1,5 +1,7 @@
 -- What is known of an order of the first n processes, and when a table of places is its inverse.
-use Rattle.std.proofs.Common.{◌≡◌, ℕ, suc, ◌∷◌, ◌+◌, ◌<◌, ◌≢◌, ◌==◌, ◌&&◌, Bool, refl, true, false, List, [], length, get_or, map, set, get_or-set_other, get_or-set_same, Vec, Global, subst, below_more, ap, sym, ◌∙◌, arith}
+use Rattle.std.proofs.Common.{◌≡◌, ℕ, suc, ◌∷◌, ◌+◌, ◌<◌, ◌≢◌, ◌==◌, ◌&&◌, Bool, refl, true, false, List, [], length}
+use Rattle.std.proofs.Common.{get_or, map, set, get_or-set_other, get_or-set_same, Vec, Global, subst, below_more, ap}
+use Rattle.std.proofs.Common.{sym, ◌∙◌, arith}
 use Rattle.std.specs.Prelude.{◌↔◌}
 use Rattle.std.specs.List.{Any, list_all, list_any, All, Contains, count_by, range_with_len}
 use Rattle.std.proofs.lemmas.List.Elements.{All-weaker}
@@ -16,7 +18,9 @@ use Rattle.cut_rings.specs.Listed.{is_order}
 use Rattle.cut_rings.specs.Inverse.{IsInverse}
 
 -- where a process stands, by a table in which each place is right
-place_of : (n : ℕ) (order positions : List ℕ) → IsOrder n order → ((i : ℕ) → i < n → get_or positions (get_or order i 0) 0 ≡ i) → (p : ℕ) → p < n → (get_or positions p 0 < n) × (get_or order (get_or positions p 0) 0 ≡ p)
+place_of : (n : ℕ) (order positions : List ℕ) → IsOrder n order
+    → ((i : ℕ) → i < n → get_or positions (get_or order i 0) 0 ≡ i) → (p : ℕ) → p < n → (get_or positions p 0 < n)
+    × (get_or order (get_or positions p 0) 0 ≡ p)
 place_of n order positions is placed p below =
     let many : length order ≡ n = length-order n order is in
     let has : Contains order p = order_has n order is p below in
@@ -26,7 +30,8 @@ place_of n order positions is placed p below =
     let place : get_or positions p 0 ≡ i = ap (λ q. get_or positions q 0) (sym at) ∙ placed i (omega arith) in
     (omega arith, ap (λ j. get_or order j 0) place ∙ at)
 
-pub is_inverse : (n : ℕ) (order positions : List ℕ) → IsOrder n order → length positions ≡ n → ((i : ℕ) → i < n → get_or positions (get_or order i 0) 0 ≡ i) → IsInverse n order positions
+pub is_inverse : (n : ℕ) (order positions : List ℕ) → IsOrder n order → length positions ≡ n
+    → ((i : ℕ) → i < n → get_or positions (get_or order i 0) 0 ≡ i) → IsInverse n order positions
 is_inverse n order positions is long placed =
     let many : length order ≡ n = length-order n order is in
     record {
@@ -39,7 +44,9 @@ is_inverse n order positions is long placed =
     }
 
 -- one more place is written
-pub placed_more : (n : ℕ) (order positions : List ℕ) → IsOrder n order → length positions ≡ n → (place process : ℕ) → place < n → process ≡ get_or order place 0 → ((i : ℕ) → i < place → get_or positions (get_or order i 0) 0 ≡ i) → (i : ℕ) → i < place + 1 → get_or (set positions process place) (get_or order i 0) 0 ≡ i
+pub placed_more : (n : ℕ) (order positions : List ℕ) → IsOrder n order → length positions ≡ n → (place process : ℕ)
+    → place < n → process ≡ get_or order place 0 → ((i : ℕ) → i < place → get_or positions (get_or order i 0) 0 ≡ i)
+    → (i : ℕ) → i < place + 1 → get_or (set positions process place) (get_or order i 0) 0 ≡ i
 placed_more n order positions is long place process within at before =
     let many : length order ≡ n = length-order n order is in
     below_more _ _
@@ -48,10 +55,13 @@ placed_more n order positions is long place process within at before =
     let other : get_or order i 0 ≢ process = omega arith in
     get_or-set_other positions process (get_or order i 0) place 0 other ∙ before i early)
     (let below : get_or order place 0 < n = order_is_below n order is place 0 (omega arith) in
-    ap (λ q. get_or (set positions process place) q 0) (sym at) ∙ get_or-set_same positions process place 0 (omega arith))
+    ap (λ q. get_or (set positions process place) q 0) (sym at)
+    ∙ get_or-set_same positions process place 0 (omega arith))
 
 -- where each process stands at the number of lesser ones, these numbers are the places
-pub ranked_positions : (compare : ℕ → ℕ → Ordering) (n : ℕ) (order positions : List ℕ) → IsRanked compare n order → IsInverse n order positions → positions ≡ map (λ p. count_by (λ q. is_lt (compare q p)) (range_with_len 0 n)) (range_with_len 0 n)
+pub ranked_positions : (compare : ℕ → ℕ → Ordering) (n : ℕ) (order positions : List ℕ) → IsRanked compare n order
+    → IsInverse n order positions → positions ≡ map (λ p. count_by (λ q. is_lt (compare q p)) (range_with_len 0 n))
+    (range_with_len 0 n)
 ranked_positions compare n order positions ranked inverse =
     let rank : ℕ → ℕ = λ p. count_by (λ q. is_lt (compare q p)) (range_with_len 0 n) in
     let many : length order ≡ n = inverse.order_length in
@@ -80,14 +90,16 @@ order_tested n list = (to, from)
         let same : length list ≡ n = eqb-true (length list) n parts.0 in
         moved (range_with_len 0 n) list (range_differs n) (omega arith) (λ k d within.
         let p : ℕ = get_or (range_with_len 0 n) k d in
-        let found = Any-from_list_any (λ q. q == p) list (AllPass-from_list_all has (range_with_len 0 n) parts.1 k d within) in
+        let found = Any-from_list_any (λ q. q == p) list
+        (AllPass-from_list_all has (range_with_len 0 n) parts.1 k d within) in
         let is_p : found.1 ≡ p = eqb-true found.1 p found.4 in
         (found.0, found.2, get_or_default list found.0 p found.1 found.2 ∙ found.3 ∙ is_p))
 
     from : IsOrder n list → is_order n list ≡ true
     from is =
         let long : length (range_with_len 0 n) ≡ n = length-range_with_len 0 n in
-        and_from (length list == n) (list_all has (range_with_len 0 n)) (eq-eqb (length list) n (length-order n list is))
+        and_from (length list == n) (list_all has (range_with_len 0 n))
+        (eq-eqb (length list) n (length-order n list is))
         (list_all-from_AllPass has (range_with_len 0 n) (λ k d within.
         let p : ℕ = get_or (range_with_len 0 n) k d in
         let at : p ≡ 0 + k = get_or-range_with_len 0 n k d (omega arith) in
@@ -105,13 +117,16 @@ some_fails {X} p (x ∷ xs) none = by (some_fails p xs) (p x) refl
         let later = rest (sym (ap (λ b. b && list_all p xs) passes) ∙ none) in
         (suc later.0, later.1, omega (arith, later.2), later.3, later.4)
 
--- whether lists are orders, told by the test of each
-pub all_orders : (n : ℕ) (lists : List (Vec ℕ Global)) → list_all (λ list. is_order n list.items) lists ≡ true → All (λ list. IsOrder n list.items) lists
+-- whether lists are orders, by the test of each
+pub all_orders : (n : ℕ) (lists : List (Vec ℕ Global)) → list_all (λ list. is_order n list.items) lists ≡ true
+    → All (λ list. IsOrder n list.items) lists
 all_orders n lists pass =
-    All-weaker (λ list. is_order n list.items ≡ true) (λ list. IsOrder n list.items) (λ list passes. (order_tested n list.items).0 passes) lists
+    All-weaker (λ list. is_order n list.items ≡ true) (λ list. IsOrder n list.items)
+    (λ list passes. (order_tested n list.items).0 passes) lists
     (AllPass-from_list_all (λ list. is_order n list.items) lists pass)
 
-pub some_not_order : (n : ℕ) (lists : List (Vec ℕ Global)) → list_all (λ list. is_order n list.items) lists ≡ false → Any (λ list. ¬ IsOrder n list.items) lists
+pub some_not_order : (n : ℕ) (lists : List (Vec ℕ Global)) → list_all (λ list. is_order n list.items) lists ≡ false
+    → Any (λ list. ¬ IsOrder n list.items) lists
 some_not_order n lists fail =
     let bad = some_fails (λ list. is_order n list.items) lists fail in
     (bad.0, bad.1, bad.2, bad.3, λ is. both_ways (is_order n bad.1.items) bad.4 ((order_tested n bad.1.items).1 is))

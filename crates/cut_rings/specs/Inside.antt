@@ -9,6 +9,8 @@ use Rattle.cut_rings.specs.Inverse.{IsInverse}
 abbrev pub layout_of : Inside → Layout
 layout_of r = record { nodes = r.nodes; positions = map (λ ring. ring.positions.items) r.rings.items }
 
-pub record IsSound (r : Inside) : Type 0 where
+pub record AreRings (r : Inside) : Type 0 where
   pub layout : IsLayout (layout_of r)
-  pub inverse : (ring : ℕ) (d : Ring) → ring < length r.rings.items → IsInverse r.nodes (slice_index_or r.rings.items ring d).order.items (slice_index_or r.rings.items ring d).positions.items
+  pub inverse : (ring : ℕ) (d : Ring) → ring < length r.rings.items
+      → IsInverse r.nodes (slice_index_or r.rings.items ring d).order.items
+      (slice_index_or r.rings.items ring d).positions.items

@@ -15,6 +15,6 @@ abbrev pub EdgeNumbersAreFew : Type 0
 EdgeNumbersAreFew = (k n : ℕ) (e : Edge) → IsTrue (is_edge_of k n e) → edge_number k e < n * k
 
 -- and edges of one number are one edge
-abbrev pub EdgeNumbersTellEdges : Type 0
-EdgeNumbersTellEdges =
+abbrev pub EdgeNumbersNameEdges : Type 0
+EdgeNumbersNameEdges =
     (k : ℕ) (e f : Edge) → e.ring < k → f.ring < k → edge_number k e ≡ edge_number k f → e ≡ f

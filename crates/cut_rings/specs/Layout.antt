@@ -41,4 +41,5 @@ pub record IsLayout (r : Layout) : Type 0 where
   -- a position is below the number of processes
   pub in_range : (ring p : ℕ) → ring < length r.positions → p < r.nodes → position_of r ring p < r.nodes
   -- no two processes share a position
-  pub distinct : (ring p q : ℕ) → ring < length r.positions → p < r.nodes → q < r.nodes → position_of r ring p ≡ position_of r ring q → p ≡ q
+  pub distinct : (ring p q : ℕ) → ring < length r.positions → p < r.nodes → q < r.nodes → position_of r ring p
+      ≡ position_of r ring q → p ≡ q

@@ -1,6 +1,6 @@
 //! Laws of observers, and of the numbers of edges. Each function does nothing, and its contract is the law.
 
-ghost use Rattle.cut_rings.specs.Laws.{ObserversAreProcesses, EdgeNumbersAreFew, EdgeNumbersTellEdges};
+ghost use Rattle.cut_rings.specs.Laws.{ObserversAreProcesses, EdgeNumbersAreFew, EdgeNumbersNameEdges};
 
 /// On every ring the observer of a process is one of the processes, and observes it.
 pub fn observers_are_processes()
@@ -8,7 +8,7 @@ pub fn observers_are_processes()
 {}
 
 /// The edges of k rings and n processes have different numbers below n * k.
-pub fn edge_numbers_tell_edges()
+pub fn edge_numbers_name_edges()
     ensures few { EdgeNumbersAreFew }
-    ensures tell { EdgeNumbersTellEdges }
+    ensures names { EdgeNumbersNameEdges }
 {}

@@ -26,17 +26,17 @@ impl Model for Rings {
 
     ghost Value = { Layout };
 
-    ghost use Rattle.cut_rings.specs.Inside.{layout_of, IsSound};
+    ghost use Rattle.cut_rings.specs.Inside.{layout_of, AreRings};
 
     ghost view = { layout_of };
 
-    ghost invariant = { IsSound };
+    ghost invariant = { AreRings };
 }
 
 impl Rings {
     /// The rings of a plan: as many as its largest k, each in ascending order of the SHA-256 digest
     /// of seed, ring number and process number (this project's profile, over FIPS 180-4). Fails only
-    /// for want of memory.
+    /// where memory runs out.
     pub fn hashed(alloc: Global, plan: &Plan) -> Result<Rings, AllocError>
         ensures { IfOk result
             (λ r. r ≡ hashed_layout plan.now.seed plan.now.nodes (largest plan.now.k)) }
@@ -52,7 +52,7 @@ impl Rings {
     }
 
     /// The rings that lists of the processes 0 to n - 1 are: the position of a process on a ring is its
-    /// index in that ring's list (this project's profile). Too few processes or lists are told before a
+    /// index in that ring's list (this project's profile). Too few processes or lists are reported before a
     /// list that does not hold each process once, and both before memory is asked for.
     pub fn from_lists(alloc: Global, n: u16, lists: &[Vec<u16>]) -> Result<Rings, RingsFault>
         requires few_nodes { n ≤ 2048 }

@@ -1,26 +1,27 @@
 -- What serving studies leaves, and how it may end.
-use Rattle.std.specs.Prelude.{◌≡◌, ◌≤◌, ◌<◌, ◌++◌, ◌∷◌, ℕ, zero, suc, List, [], All, length, take, sum_by, codes, Result, Ok, Err, ⊤}
+use Rattle.std.specs.Prelude.{◌≡◌, ◌≤◌, ◌<◌, ◌++◌, ◌∷◌, ℕ, zero, suc, List, [], All, length, take, sum_by, codes}
+use Rattle.std.specs.Prelude.{Result, Ok, Err, ⊤}
 use Rattle.std.specs.Fmt.{decimal}
 use Rattle.cut_faults.specs.Failures.{one_more}
-use Rattle.cut_wires.specs.Log.{Log, wrote, write_failed}
-use Rattle.cut_hall.specs.Report.{SlotEnd, EndsAs, accepted_told}
-use Rattle.cut_server.specs.declared.crew.Crew.{Crew}
+use Rattle.cut_wires.specs.Log.{WireLog, wrote, write_failed}
+use Rattle.cut_hall.specs.Report.{SlotEnd, IsEndOf, accepted_recorded}
+use Rattle.cut_server.specs.declared.capacity.Capacity.{Capacity}
 use Rattle.cut_commands.specs.declared.fault.CliFault.{CliFault}
 use Rattle.cut_commands.specs.declared.fault.CliFault.TheVariants.{Socket, Write, Folder, WorkMemory, AuditMismatch}
 
 -- there are 1 to 64 of each
-abbrev pub IsStaffed : Crew → Type 0
-IsStaffed crew =
-    (1 ≤ crew.workers) × (crew.workers ≤ 64)
-    × (1 ≤ crew.sessions) × (crew.sessions ≤ 64)
-    × (1 ≤ crew.studies) × (crew.studies ≤ 64)
+abbrev pub IsStaffed : Capacity → Type 0
+IsStaffed capacity =
+    (1 ≤ capacity.workers) × (capacity.workers ≤ 64)
+    × (1 ≤ capacity.sessions) × (capacity.sessions ≤ 64)
+    × (1 ≤ capacity.studies) × (capacity.studies ≤ 64)
 
 -- why the threads of a server did not come to their end: a connection did not come, or memory or a thread was
 -- refused
-abbrev pub IsOfAttending : CliFault → Type 0
-IsOfAttending Socket = ⊤
-IsOfAttending WorkMemory = ⊤
-IsOfAttending fault = ⊥
+abbrev pub IsOfThreads : CliFault → Type 0
+IsOfThreads Socket = ⊤
+IsOfThreads WorkMemory = ⊤
+IsOfThreads fault = ⊥
 
 -- why a hall with all its passes was not closed
 abbrev pub IsOfClosing : CliFault → Type 0
@@ -52,7 +53,7 @@ abbrev pub called : {T E : Type 0} → Result T E → Calls → Calls
 called (Ok connection) calls = record { given = one_more calls.given; failed = calls.failed }
 called (Err fault) calls = record { given = calls.given; failed = one_more calls.failed }
 
--- after so many more connections
+-- after this many more connections
 abbrev pub more_given : ℕ → ℕ → ℕ
 more_given zero n = n
 more_given (suc connections) n = one_more (more_given connections n)
@@ -60,7 +61,7 @@ more_given (suc connections) n = one_more (more_given connections n)
 abbrev pub all_given : ℕ → Calls → Calls
 all_given connections calls = record { given = more_given connections calls.given; failed = calls.failed }
 
--- a listener was asked for so many connections: one did not come, and that call failed and no other; or memory or a
+-- a listener was asked for this many connections: one did not come, and that call failed and no other; or memory or a
 -- thread was refused, and no call failed; or all of them came, whatever happened then
 abbrev pub Listens : {T : Type 0} → ℕ → Result T CliFault → Calls → Calls → Type 0
 Listens connections (Err Socket) old new = new.failed ≡ one_more old.failed
@@ -71,29 +72,29 @@ Listens connections result old new = new ≡ all_given connections old
 
 -- how many trials the studies of a report accepted together
 abbrev pub accepted_in_all : List SlotEnd → ℕ
-accepted_in_all slots = sum_by (λ s. accepted_told s.history) slots
+accepted_in_all slots = sum_by (λ s. accepted_recorded s.history) slots
 
 -- the line that says so
 abbrev pub accepted_line : ℕ → List ℕ
 accepted_line total = codes "accepted " ++ (decimal total ++ 10 ∷ [])
 
--- a report of so many studies: each slot's end is that of a legal history
+-- a report of this many studies: each slot's end is that of a legal history
 pub record IsReport (studies : ℕ) (report : List SlotEnd) : Type 0 where
   pub slots : length report ≡ studies
-  pub legal : All (λ s. EndsAs s.history s.complete) report
+  pub legal : All (λ s. IsEndOf s.history s.complete) report
 
 -- the line of a report was written, or its first bytes before a write failed
-abbrev pub IsWrittenWhole : List SlotEnd → Log → Log → Type 0
+abbrev pub IsWrittenWhole : List SlotEnd → WireLog → WireLog → Type 0
 IsWrittenWhole report old new = new ≡ wrote old (accepted_line (accepted_in_all report))
 
-abbrev pub IsWrittenUpTo : ℕ → List SlotEnd → Log → Log → Type 0
+abbrev pub IsWrittenUpTo : ℕ → List SlotEnd → WireLog → WireLog → Type 0
 IsWrittenUpTo sent report old new =
     (sent < length (accepted_line (accepted_in_all report)))
     × (new ≡ write_failed (wrote old (take sent (accepted_line (accepted_in_all report)))))
 
--- what is written of a server of so many studies: the line of the report that it returns, or as many of its first
+-- what is written of a server of this many studies: the line of the report that it returns, or as many of its first
 -- bytes as were written before a write failed; and nothing where there is no report. No other call of the wire fails.
-abbrev pub WritesReport : ℕ → Result (List SlotEnd) CliFault → Log → Log → Type 0
+abbrev pub WritesReport : ℕ → Result (List SlotEnd) CliFault → WireLog → WireLog → Type 0
 WritesReport studies (Ok report) old new = IsReport studies report × IsWrittenWhole report old new
 WritesReport studies (Err (Write fault)) old new =
     (report : List SlotEnd) × (IsReport studies report × IsWrittenUpTo fault.sent report old new)
@@ -104,7 +105,7 @@ WritesReport studies (Err AuditMismatch) old new = new ≡ old
 WritesReport studies (Err fault) old new = ⊥
 
 -- the same where the report is not returned
-abbrev pub EndsServing : ℕ → Result ⊤ CliFault → Log → Log → Type 0
+abbrev pub EndsServing : ℕ → Result ⊤ CliFault → WireLog → WireLog → Type 0
 EndsServing studies (Ok done) old new =
     (report : List SlotEnd) × (IsReport studies report × IsWrittenWhole report old new)
 EndsServing studies (Err fault) old new = WritesReport studies (Err fault) old new

@@ -2,19 +2,19 @@
 //!
 //! [`serve_sessions`] takes its connections from any [`Listener`], serves each in a thread of its own, and gives the
 //! hall's report; [`serve_io`] writes how many trials the studies of it accepted, and [`serve_at`] does so for the
-//! connections of a [`Door`], which is a socket at a path. A [`FolderShelf`] keeps each study in a file of a folder.
+//! connections of a [`Socket`], which is a socket at a path. A [`FolderShelf`] keeps each study in a file of a folder.
 //!
 //! Nothing is claimed of waiting: not that a connection comes, nor that a session ends.
 #![tactic(auto)]
 
-mod attend;
-mod crew;
-mod door;
+mod capacity;
 mod serve;
 mod shelf;
+mod socket;
+mod threads;
 
-pub use attend::{ListenFault, Listener};
-pub use crew::Crew;
-pub use door::{Door, SocketWire};
+pub use capacity::Capacity;
 pub use serve::{serve_at, serve_io, serve_sessions};
 pub use shelf::FolderShelf;
+pub use socket::{Socket, SocketWire};
+pub use threads::{ListenFault, Listener};

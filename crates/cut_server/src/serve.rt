@@ -2,16 +2,16 @@
 ghost use Rattle.std.specs.Prelude.{◌≡◌, ◌≤◌, ◌+◌, length, All, IfOk, IfErr};
 ghost use Rattle.cut_server.specs.Serve.{Listens, WritesReport, accepted_in_all};
 ghost use Rattle.cut_server.specs.Serve.{IsOfClosing, IsOfServing, IsOfWriting, IsStaffed};
-ghost use Rattle.cut_hall.specs.Report.{EndsAs};
+ghost use Rattle.cut_hall.specs.Report.{IsEndOf};
 
-use crate::Crew;
-use crate::attend::{Listener, Site, attend};
-use crate::door::{Door, SocketWire};
+use crate::Capacity;
 use crate::shelf::FolderShelf;
+use crate::socket::{Socket, SocketWire};
+use crate::threads::{Listener, Site, run_threads};
 use cut_book::Shelf;
 use cut_commands::{CliFault, FaultText};
 use cut_disks::{Disk, FileDisk};
-use cut_hall::{Hall, NotClosed, Pass, Report, Tally};
+use cut_hall::{CallLedger, Hall, NotClosed, Pass, Report};
 use cut_wires::{Wire, send_all};
 use itoa::Buffer;
 use std::alloc::Global;
@@ -24,7 +24,7 @@ use std::thread::Threads;
 /// How many trials the pieces of a server's studies have.
 const PIECE_SIZE: u32 = 16;
 
-/// Serves as many connections as the crew has sessions, each in a thread of its own, and lets its workers work on
+/// Serves as many connections as the capacity has sessions, each in a thread of its own, and lets its workers work on
 /// the studies that come. Once every session has ended it closes the hall, and gives its report: of every study
 /// the trials that were counted are those that its history accepted.
 ///
@@ -35,7 +35,7 @@ pub fn serve_sessions<D, S, L, W, R>(
     alloc: Global,
     listener: L,
     shelf: &S,
-    crew: Crew,
+    capacity: Capacity,
 ) -> (L, Result<Report, CliFault>)
 where
     D: Disk + Drop + Send,
@@ -43,15 +43,15 @@ where
     L: Listener<W> + Drop,
     W: Wire + Send + Drop,
     R: Threads + Wait + Sync,
-    requires { IsStaffed crew }
-    ensures slots { IfOk result.1 (λ report. length report ≡ crew.studies) }
+    requires { IsStaffed capacity }
+    ensures slots { IfOk result.1 (λ report. length report ≡ capacity.studies) }
     ensures why { IfErr result.1 IsOfServing }
-    ensures listens { Listens crew.sessions result.1 (L.calls listener) (L.calls result.0) }
+    ensures listens { Listens capacity.sessions result.1 (L.calls listener) (L.calls result.0) }
 {
-    let made = Blank::new(u64::from(crew.workers) + u64::from(crew.sessions));
-    let kept = Blank::new(u64::from(crew.studies));
+    let made = Blank::new(u64::from(capacity.workers) + u64::from(capacity.sessions));
+    let kept = Blank::new(u64::from(capacity.studies));
     let blanks = Blanks { made, kept };
-    serve_by::<D, Brand, Brand, S, L, W, R>(rt, alloc, listener, shelf, crew, blanks)
+    serve_by::<D, Brand, Brand, S, L, W, R>(rt, alloc, listener, shelf, capacity, blanks)
 }
 
 /// The blanks of the ledgers of calls that were made and of calls that were kept.
@@ -67,30 +67,30 @@ fn serve_by<D, M, K, S, L, W, R>(
     alloc: Global,
     listener: L,
     shelf: &S,
-    crew: Crew,
+    capacity: Capacity,
     blanks: Blanks,
 ) -> (L, Result<Report, CliFault>)
 where
     D: Disk + Drop + Send,
-    M: Tally + Send + Sync,
-    K: Tally + Send + Sync,
+    M: CallLedger + Send + Sync,
+    K: CallLedger + Send + Sync,
     S: Shelf<D> + Sync,
     L: Listener<W> + Drop,
     W: Wire + Send + Drop,
     R: Threads + Wait + Sync,
-    requires crew { IsStaffed crew }
+    requires capacity { IsStaffed capacity }
     requires made { (blanks.made.name ≡ M.name) × (blanks.made.parts ≡ M.parts)
-        × (M.all ≡ M.parts) × (M.all ≡ crew.workers + crew.sessions) }
+        × (M.all ≡ M.parts) × (M.all ≡ capacity.workers + capacity.sessions) }
     requires kept { (blanks.kept.name ≡ K.name) × (blanks.kept.parts ≡ K.parts)
-        × (K.all ≡ K.parts) × (K.all ≡ crew.studies) }
+        × (K.all ≡ K.parts) × (K.all ≡ capacity.studies) }
     requires trusted { K.trusts ≡ S.is_true shelf.now }
-    ensures slots { IfOk result.1 (λ report. length report ≡ crew.studies) }
+    ensures slots { IfOk result.1 (λ report. length report ≡ capacity.studies) }
     ensures why { IfErr result.1 IsOfServing }
-    ensures listens { Listens crew.sessions result.1 (L.calls listener) (L.calls result.0) }
+    ensures listens { Listens capacity.sessions result.1 (L.calls listener) (L.calls result.0) }
 {
     let Blanks { made, kept } = blanks;
-    let seats = crew.workers + crew.sessions;
-    let started = Hall::<D, M, K>::start(alloc, crew.studies, seats, PIECE_SIZE, made, kept);
+    let seats = capacity.workers + capacity.sessions;
+    let started = Hall::<D, M, K>::start(alloc, capacity.studies, seats, PIECE_SIZE, made, kept);
     let Ok((hall, passes)) = started else {
         return (listener, Err(CliFault::WorkMemory));
     };
@@ -100,8 +100,8 @@ where
         hall: &hall,
         shelf,
     };
-    let (listener, attended) = attend(&site, listener, passes, crew.workers);
-    match attended {
+    let (listener, finished) = run_threads(&site, listener, passes, capacity.workers);
+    match finished {
         Ok(passes) => (listener, closed(alloc, hall, passes)),
         Err(fault) => (listener, Err(fault)),
     }
@@ -115,8 +115,8 @@ fn closed<D, M, K>(
 ) -> Result<Report, CliFault>
 where
     D: Disk + Drop,
-    M: Tally,
-    K: Tally,
+    M: CallLedger,
+    K: CallLedger,
     requires ledgers { (M.all ≡ M.parts) × (K.all ≡ K.parts) }
     requires own { All (λ p. p.hall ≡ hall.id) passes.items }
     requires whole { hall.passes ≤ length passes.items }
@@ -138,7 +138,7 @@ pub fn serve_io<D, S, L, C, W, R>(
     alloc: Global,
     listener: L,
     shelf: &S,
-    crew: Crew,
+    capacity: Capacity,
     wire: &mut W,
 ) -> (L, Result<Report, CliFault>)
 where
@@ -148,11 +148,11 @@ where
     C: Wire + Send + Drop,
     W: Wire,
     R: Threads + Wait + Sync,
-    requires { IsStaffed crew }
-    ensures writes { WritesReport crew.studies result.1 (W.log wire.old) (W.log wire.new) }
-    ensures listens { Listens crew.sessions result.1 (L.calls listener) (L.calls result.0) }
+    requires { IsStaffed capacity }
+    ensures writes { WritesReport capacity.studies result.1 (W.log wire.old) (W.log wire.new) }
+    ensures listens { Listens capacity.sessions result.1 (L.calls listener) (L.calls result.0) }
 {
-    let (listener, served) = serve_sessions(rt, alloc, listener, shelf, crew);
+    let (listener, served) = serve_sessions(rt, alloc, listener, shelf, capacity);
     match served {
         Ok(report) => (listener, write_accepted(report, wire)),
         Err(fault) => (listener, Err(fault)),
@@ -181,7 +181,7 @@ fn write_accepted<W: Wire>(report: Report, wire: &mut W) -> Result<Report, CliFa
 fn accepted(report: &Report) -> u128
     requires { length report.now ≤ 64 }
     ensures value { result ≡ accepted_in_all report.now }
-    ensures legal { All (λ s. EndsAs s.history s.complete) report.now }
+    ensures legal { All (λ s. IsEndOf s.history s.complete) report.now }
 {
     let slots = report.slots();
     let mut total = 0;
@@ -199,32 +199,32 @@ pub fn serve_at<W, R>(
     host: &HostRuntime,
     rt: &R,
     path: &str,
-    crew: Crew,
+    capacity: Capacity,
     folder: Option<&str>,
     wire: &mut W,
 ) -> Result<Report, CliFault>
 where
     W: Wire,
     R: Threads + Wait + Sync,
-    requires { IsStaffed crew }
-    ensures writes { WritesReport crew.studies result (W.log wire.old) (W.log wire.new) }
+    requires { IsStaffed capacity }
+    ensures writes { WritesReport capacity.studies result (W.log wire.old) (W.log wire.new) }
 {
     if !is_folder(host, folder) {
         return Err(CliFault::Folder);
     }
-    let Ok(door) = Door::open(host, path) else {
+    let Ok(socket) = Socket::open(host, path) else {
         return Err(CliFault::Socket);
     };
     let shelf = FolderShelf { host, folder };
-    let (mut door, served) = serve_io::<FileDisk, FolderShelf, Door, SocketWire, W, R>(
+    let (mut socket, served) = serve_io::<FileDisk, FolderShelf, Socket, SocketWire, W, R>(
         rt,
         host.alloc(),
-        door,
+        socket,
         &shelf,
-        crew,
+        capacity,
         wire,
     );
-    door.close();
+    socket.close();
     served
 }
 

@@ -1,15 +1,17 @@
 -- Sessions, read by read.
-use Rattle.std.proofs.Common.{◌≡◌, ◌∙◌, ◌+◌, ◌-◌, ◌*◌, ◌^◌, ◌<◌, ◌≤◌, ◌++◌, min, ℕ, false, List, [], ◌∷◌, length, take, nat_eq, None, Ok, Err, inr, refl, sym, ap, arith, append_assoc, append-nil, length-append, length-take-le}
+use Rattle.std.proofs.Common.{◌≡◌, ◌∙◌, ◌+◌, ◌-◌, ◌*◌, ◌^◌, ◌<◌, ◌≤◌, ◌++◌, min, ℕ, false, List, [], ◌∷◌, length, take}
+use Rattle.std.proofs.Common.{nat_eq, None, Ok, Err, inr, refl, sym, ap, arith, append_assoc, append-nil, length-append}
+use Rattle.std.proofs.Common.{length-take-le}
 use Rattle.std.specs.Borrow.{GName}
 use Rattle.std.proofs.lemmas.Bool.Decides.{nat_tests}
 use Rattle.std.proofs.Math.Seq.{take-append-add}
 use Rattle.cut_board.specs.declared.view.View.{View}
-use Rattle.cut_wires.specs.Log.{Traffic, Log, passing, with_taken, with_given, wrote, read_failed}
+use Rattle.cut_wires.specs.Log.{Traffic, WireLog, passing, with_taken, with_given, wrote, read_failed}
 use Rattle.cut_wires.specs.Sending.{Sending, sent_on, got_on}
 use Rattle.cut_wires.proofs.Logs.{passing_twice, passing_same, passing_none}
 use Rattle.cut_messages.specs.declared.side.Side.TheVariants.{Requests}
 use Rattle.cut_messages.specs.declared.fault.EndFault.{EndFault}
-use Rattle.cut_hall.specs.Hall.{Rooms}
+use Rattle.cut_hall.specs.Hall.{HallValue}
 use Rattle.cut_hall.specs.Pass.{Holding}
 use Rattle.cut_session.specs.declared.session_end.SessionEnd.{SessionEnd}
 use Rattle.cut_session.specs.declared.session_end.SessionEnd.TheVariants as end
@@ -17,15 +19,16 @@ use Rattle.cut_session.specs.declared.session_end.SessionFault.{SessionFault}
 use Rattle.cut_session.specs.declared.session_end.SessionFault.TheVariants as session
 use Rattle.cut_session.specs.FaultCode.{code_of_session}
 use Rattle.cut_messages.specs.Frames.{fault_at}
-use Rattle.cut_messages.specs.Reading.{Reading, HasRead, end_of}
+use Rattle.cut_messages.specs.Reading.{Reading, HasReadFrames, end_of}
 use Rattle.cut_session.specs.Answering.{Rises, error_frame}
-use Rattle.cut_session.specs.Session.{request_limit, Course, IsCourse, IsDue, passed, with_end, ended, read_by, EndsAs, Ends}
-use Rattle.cut_session.specs.Serving.{Leaves, IsServing, Concludes, conveyed, served, longest_reply}
+use Rattle.cut_session.specs.Session.{request_limit, Course, IsCourse, IsDue, passed, with_end, ended, read_by}
+use Rattle.cut_session.specs.Session.{EndsSessionAs, EndsSession}
+use Rattle.cut_session.specs.Serving.{LeavesSending, IsServing, ConcludesTable, conveyed, served, longest_reply}
 
 -- ---- the wire of a session
 
 -- writes after others
-conveyed_more : (out given more : List ℕ) (l : Log)
+conveyed_more : (out given more : List ℕ) (l : WireLog)
     → wrote (passing (conveyed out given) l) more ≡ passing (conveyed (out ++ more) given) l
 conveyed_more out given more l =
     passing_twice (λ t. with_taken t more) (conveyed out given) l
@@ -40,7 +43,7 @@ served_more first now out given more is =
     cc (is, count, conveyed_more out given more first.log)
 
 -- what the last read did is the same before and after a write
-read_by_more : (fault : SessionFault) (l : Log) (bytes : List ℕ)
+read_by_more : (fault : SessionFault) (l : WireLog) (bytes : List ℕ)
     → wrote (read_by fault l) bytes ≡ read_by fault (wrote l bytes)
 read_by_more session.Truncated l bytes =
     passing_twice (λ t. with_taken t bytes) with_end l ∙ sym (passing_twice with_end (λ t. with_taken t bytes) l)
@@ -56,18 +59,19 @@ pub record Stands (first : Sending) (fault : SessionFault) (c : Course) (mid : S
   pub sent : mid.sent ≡ length c.out
   pub short : length c.out ≤ longest_reply * 1000000
 
-module _ {hall : Rooms} {low high : View} {c : Course} {fault : SessionFault} {first mid : Sending}
+module _ {hall : HallValue} {low high : View} {c : Course} {fault : SessionFault} {first mid : Sending}
     (is : IsCourse hall low high c) (due : IsDue fault c) (stands : Stands first fault c mid) where
   passed_more : (bytes : List ℕ) → wrote mid.log bytes ≡ read_by fault (passed c (c.out ++ bytes) first.log)
   passed_more bytes =
       let same = read_by_more fault (passed c c.out first.log) bytes in
       cc (stands.log, conveyed_more c.out (c.stream ++ c.last) bytes first.log)
 
-  pub leaves : (result : SessionEnd) (new : Sending) → Leaves fault result mid new
-      → Concludes hall low high result first new
+  pub leaves : (result : SessionEnd) (new : Sending) → LeavesSending fault result mid new
+      → ConcludesTable hall low high result first new
   leaves (end.Fault sent) new (same, on) =
       let frame : List ℕ = error_frame (code_of_session fault) in
-      let ends : EndsAs hall low high (end.Fault fault) c first.log new.log = (due, cc (on, passed_more frame)) in
+      let ends : EndsSessionAs hall low high (end.Fault fault) c first.log new.log = (due, cc (on, passed_more frame))
+      in
       rw same ((c, is, ends), cc (on, stands.wire))
   leaves (end.Write failed) new (count, (k, low_k, cut)) =
       let frame : List ℕ = error_frame (code_of_session fault) in
@@ -76,7 +80,7 @@ module _ {hall : Rooms} {low high : View} {c : Course} {fault : SessionFault} {f
       let sum : failed.sent ≡ length c.out + k =
       omega (arith, ap (λ (s : Sending). s.sent) cut, stands.sent, stands.short) in
       let part : c.out ++ take k frame ≡ take failed.sent (c.out ++ frame) = cc (sum, take-append-add c.out frame k) in
-      let ends : EndsAs hall low high (end.Write failed) c first.log new.log = inr (
+      let ends : EndsSessionAs hall low high (end.Write failed) c first.log new.log = inr (
         fault,
         due,
         omega (arith, sum),
@@ -97,7 +101,7 @@ some_held [] e ends none = cc
 some_held (b ∷ held) e ends none = cc
 
 -- the course so far, with what a read gave that is not read yet
-abbrev pub course_of : {hall : Rooms} {low high : View} {r : Reading} {requests : ℕ} {piece : List ℕ}
+abbrev pub course_of : {hall : HallValue} {low high : View} {r : Reading} {requests : ℕ} {piece : List ℕ}
     {first now : Sending} → List ℕ → IsServing hall low high r requests piece first now → Course
 course_of last s = record {
   stream = s.stream;
@@ -108,7 +112,7 @@ course_of last s = record {
   out = s.out;
 }
 
-module _ {hall : Rooms} {low high : View} {r : Reading} {requests : ℕ} {piece : List ℕ} {first now : Sending}
+module _ {hall : HallValue} {low high : View} {r : Reading} {requests : ℕ} {piece : List ℕ} {first now : Sending}
     (s : IsServing hall low high r requests piece first now) (few : requests ≤ request_limit)
     (none_sent : first.sent ≡ 0) where
   pub is_course : (last : List ℕ) → IsCourse hall low high (course_of last s)
@@ -133,13 +137,14 @@ module _ {hall : Rooms} {low high : View} {r : Reading} {requests : ℕ} {piece 
 
   -- memory ran out for what a read gave
   pub ends_full : (result : SessionEnd) (new : Sending) → 0 < length piece → length piece ≤ 4096
-      → Leaves session.Memory result now new → Concludes hall low high result first new
+      → LeavesSending session.Memory result now new → ConcludesTable hall low high result first new
   ends_full result new some short l =
       leaves (is_course piece) (refl, some, short, right_after)
       (stands_at session.Memory piece now refl refl (ap (λ (t : Sending). t.log) s.line)) result new l
 
 -- at first
-pub serves_first : (hall : Rooms) (v : View) (r : Reading) (first : Sending) → HasRead r [] [] → r.fault ≡ None
+pub serves_first : (hall : HallValue) (v : View) (r : Reading) (first : Sending) → HasReadFrames r [] [] → r.fault
+    ≡ None
     → r.side ≡ Requests → Rises v v → first.sent ≡ 0 → IsServing hall v v r 0 [] first first
 serves_first hall v r first read right side rises none_sent = record {
   stream = [];
@@ -152,7 +157,7 @@ serves_first hall v r first read right side rises none_sent = record {
   replies = (rises, refl);
   few = omega arith;
   line =
-      let on : Log → ℕ → Sending = λ log sent. record { wire = first.wire; log = log; sent = sent } in
+      let on : WireLog → ℕ → Sending = λ log sent. record { wire = first.wire; log = log; sent = sent } in
       let bytes : Traffic → List ℕ → List ℕ → Traffic = λ t out given. record {
         taken = out;
         given = given;
@@ -164,7 +169,7 @@ serves_first hall v r first read right side rises none_sent = record {
       ap (λ log. on log first.sent) (sym nothing) ∙ ap (on (passing (conveyed [] []) first.log)) count;
 }
 
-module _ {hall : Rooms} {low high : View} {r : Reading} {requests : ℕ} {first now : Sending}
+module _ {hall : HallValue} {low high : View} {r : Reading} {requests : ℕ} {first now : Sending}
     (s : IsServing hall low high r requests [] first now) (new : Sending) where
   -- a read gave some bytes
   pub serves_given : (buffer : List ℕ) (n : ℕ) → new ≡ got_on now buffer n → 0 < n
@@ -182,7 +187,14 @@ module _ {hall : Rooms} {low high : View} {r : Reading} {requests : ℕ} {first 
         many = s.many;
         replies = s.replies;
         few = s.few;
-        line = cc (is, s.line, passing_twice (λ t. with_given t buffer n) (conveyed s.out (s.stream ++ [])) first.log, passing_same (λ t. with_given (conveyed s.out (s.stream ++ []) t) buffer n) (conveyed s.out (s.stream ++ piece)) first.log (λ t. cc (not_zero, append-nil s.stream, append_assoc t.given s.stream piece)));
+        line = cc (
+          is,
+          s.line,
+          passing_twice (λ t. with_given t buffer n) (conveyed s.out (s.stream ++ [])) first.log,
+          passing_same (λ t. with_given (conveyed s.out (s.stream ++ []) t) buffer n)
+              (conveyed s.out (s.stream ++ piece)) first.log
+              (λ t. cc (not_zero, append-nil s.stream, append_assoc t.given s.stream piece)),
+        );
       }
 
   -- or the end
@@ -193,17 +205,17 @@ module _ {hall : Rooms} {low high : View} {r : Reading} {requests : ℕ} {first 
 
   pub ends_between : (buffer : List ℕ) (n : ℕ) → requests ≤ request_limit → first.sent ≡ 0
       → new ≡ got_on now buffer n → n ≡ 0 → end_of r.fault r.held ≡ Ok tt
-      → Concludes hall low high end.EndOfInput first new
+      → ConcludesTable hall low high end.EndOfInput first new
   ends_between buffer n few none_sent is none whole =
       let rest : s.read.rest ≡ [] = sym (s.read.held s.right) ∙ none_held r.held (rw s.right at whole) in
-      let ends : EndsAs hall low high end.EndOfInput (course_of [] s) first.log new.log =
+      let ends : EndsSessionAs hall low high end.EndOfInput (course_of [] s) first.log new.log =
       ((refl, refl), rest, gave_end buffer n is none) in
       ((course_of [] s, is_course s few none_sent [], ends), cc (is, s.line))
 
   pub ends_within : (buffer : List ℕ) (n : ℕ) (result : SessionEnd) (e : EndFault) (last : Sending)
       → requests ≤ request_limit → first.sent ≡ 0 → new ≡ got_on now buffer n → n ≡ 0
-      → end_of r.fault r.held ≡ Err e → Leaves session.Truncated result new last
-      → Concludes hall low high result first last
+      → end_of r.fault r.held ≡ Err e → LeavesSending session.Truncated result new last
+      → ConcludesTable hall low high result first last
   ends_within buffer n result e last few none_sent is none part l =
       let due : IsDue session.Truncated (course_of [] s) = (
         (refl, refl),
@@ -217,7 +229,7 @@ module _ {hall : Rooms} {low high : View} {r : Reading} {requests : ℕ} {first 
   -- or failed
   pub ends_unread : (result : SessionEnd) (last : Sending) → requests ≤ request_limit → first.sent ≡ 0
       → new ≡ record { wire = now.wire; log = read_failed now.log; sent = now.sent }
-      → Leaves session.Read result new last → Concludes hall low high result first last
+      → LeavesSending session.Read result new last → ConcludesTable hall low high result first last
   ends_unread result last few none_sent is l =
       let due : IsDue session.Read (course_of [] s) = ((refl, refl), right_after s few none_sent) in
       leaves (is_course s few none_sent []) due
@@ -226,17 +238,18 @@ module _ {hall : Rooms} {low high : View} {r : Reading} {requests : ℕ} {first 
 
 -- ---- once the line and the session are given up
 
-pub concludes_at : {X : Type 0} (log : X → Log) (hall : Rooms) (low high : View) (end : SessionEnd)
+pub concludes_at : {X : Type 0} (log : X → WireLog) (hall : HallValue) (low high : View) (end : SessionEnd)
     (first last after : X) (name other : GName) (sent : ℕ) (old : Sending)
     → old ≡ record { wire = name; log = log first; sent = 0 }
-    → Concludes hall low high end old (record { wire = other; log = log last; sent = sent })
-    → (name ≡ other → after ≡ last) → Ends hall low high end (log first) (log after)
+    → ConcludesTable hall low high end old (record { wire = other; log = log last; sent = sent })
+    → (name ≡ other → after ≡ last) → EndsSession hall low high end (log first) (log after)
 concludes_at log hall low high end first last after name other sent old fresh (ends, same) leaves =
     let wires : name ≡ other = cc (same, fresh) in
     rw (leaves wires) (rw fresh at ends)
 
-pub seen_at : (hall : Rooms) (low : View) (end : SessionEnd) (old new : Log) (last after : Holding) (name other : GName)
-    → other ≡ name → (name ≡ other → after ≡ last) → Ends hall low last.view end old new
-    → Ends hall low after.view end old new
+pub seen_at : (hall : HallValue) (low : View) (end : SessionEnd) (old new : WireLog) (last after : Holding)
+    (name other : GName)
+    → other ≡ name → (name ≡ other → after ≡ last) → EndsSession hall low last.view end old new
+    → EndsSession hall low after.view end old new
 seen_at hall low end old new last after name other same leaves ends =
     rw (leaves (sym same)) ends

@@ -1,24 +1,28 @@
 -- What a session makes of a piece of its input.
-use Rattle.std.proofs.Common.{◌≡◌, ◌∙◌, ◌+◌, ◌*◌, ◌<◌, ◌≤◌, ◌++◌, ℕ, List, [], ◌∷◌, length, take, drop, Some, None, Ok, Err, inl, refl, sym, ap, arith, append_assoc, append-nil, length-append, length-take-le, take-append-drop}
+use Rattle.std.proofs.Common.{◌≡◌, ◌∙◌, ◌+◌, ◌*◌, ◌<◌, ◌≤◌, ◌++◌, ℕ, List, [], ◌∷◌, length, take, drop, Some, None, Ok}
+use Rattle.std.proofs.Common.{Err, inl, refl, sym, ap, arith, append_assoc, append-nil, length-append, length-take-le}
+use Rattle.std.proofs.Common.{take-append-drop}
 use Rattle.std.proofs.lemmas.List.{length-drop, drop_all}
 use Rattle.std.proofs.Math.Seq.{take-append-add}
 use Rattle.cut_board.specs.declared.view.View.{View}
-use Rattle.cut_wires.specs.Log.{Log, write_failed}
+use Rattle.cut_wires.specs.Log.{WireLog, write_failed}
 use Rattle.cut_wires.specs.declared.send.WriteFault.{WriteFault}
 use Rattle.cut_wires.specs.Sending.{Sending, Sends, sent_on}
 use Rattle.cut_messages.specs.declared.side.Side.TheVariants.{Requests}
 use Rattle.cut_messages.specs.declared.message.Message.{Message}
 use Rattle.cut_messages.specs.declared.fault.StreamFault.{StreamFault}
 use Rattle.cut_messages.specs.Frames.{fault_at}
-use Rattle.cut_messages.specs.Reading.{Reading, HasRead}
-use Rattle.cut_hall.specs.Hall.{Rooms}
+use Rattle.cut_messages.specs.Reading.{Reading, HasReadFrames}
+use Rattle.cut_hall.specs.Hall.{HallValue}
 use Rattle.cut_session.specs.declared.session_end.SessionEnd.{SessionEnd}
 use Rattle.cut_session.specs.declared.session_end.SessionEnd.TheVariants as end
 use Rattle.cut_session.specs.declared.session_end.SessionFault.{SessionFault}
 use Rattle.cut_session.specs.declared.session_end.SessionFault.TheVariants as session
 use Rattle.cut_session.specs.Answering.{AnswersAll}
-use Rattle.cut_session.specs.Session.{request_limit, Course, IsCourse, LastReply, QuitsAtOnce, IsDue, passed, read_by, CutsReply, EndsAs}
-use Rattle.cut_session.specs.Serving.{Replies, ServesFirst, Leaves, Concludes, IsServing, served, longest_reply}
+use Rattle.cut_session.specs.Session.{request_limit, Course, IsCourse, LastReply, QuitsAtOnce, IsDue, passed, read_by}
+use Rattle.cut_session.specs.Session.{CutsReply, EndsSessionAs}
+use Rattle.cut_session.specs.Serving.{Replies, ServesFirst, LeavesSending, ConcludesTable, IsServing, served}
+use Rattle.cut_session.specs.Serving.{longest_reply}
 use Rattle.cut_session.proofs.Courses.{Stands, leaves, served_more}
 use Rattle.cut_session.proofs.Turns.{all_then}
 
@@ -28,9 +32,10 @@ quits_more [] more quits = absurd quits
 quits_more (m ∷ ms) more quits = (quits, omega arith)
 
 -- a piece was read that completes messages, of which the first ones are to be answered
-module _ {hall : Rooms} {low middle : View} {r next : Reading} {requests : ℕ} {piece : List ℕ} {first now : Sending}
+module _ {hall : HallValue} {low middle : View} {r next : Reading} {requests : ℕ} {piece : List ℕ} {first now : Sending}
     {more shown : List Message} (s : IsServing hall low middle r requests piece first now) (high : View) (count : ℕ)
-    (read : HasRead next (s.stream ++ piece) (s.messages ++ more)) (side : next.side ≡ r.side) (same : shown ≡ more)
+    (read : HasReadFrames next (s.stream ++ piece) (s.messages ++ more)) (side : next.side ≡ r.side)
+    (same : shown ≡ more)
     (few : requests + count ≤ request_limit) (within : count ≤ length shown) (none_sent : first.sent ≡ 0) where
   -- the line with some more bytes
   fed_line : (bytes : List ℕ) (new : Sending) → new ≡ sent_on now bytes
@@ -72,11 +77,11 @@ module _ {hall : Rooms} {low middle : View} {r next : Reading} {requests : ℕ} 
 
     -- a message quits
     pub fed_quits : (new : Sending) → new ≡ sent_on now f.out → QuitsAtOnce f.unanswered
-        → Concludes hall low high end.Quit first new
+        → ConcludesTable hall low high end.Quit first new
     fed_quits new is quits =
         let line = fed_line f.out new is in
         let more_quits = quits_more f.unanswered (drop count shown) quits in
-        let ends : EndsAs hall low high end.Quit fed_course first.log new.log = (
+        let ends : EndsSessionAs hall low high end.Quit fed_course first.log new.log = (
           more_quits.0,
           omega (arith, more_quits.1, fed_count, s.many, length-append s.messages f.answered),
           refl,
@@ -86,7 +91,7 @@ module _ {hall : Rooms} {low middle : View} {r next : Reading} {requests : ℕ} 
 
     -- a write of the last reply fails
     pub fed_cut : (fault : WriteFault) (new : Sending) → (l : LastReply hall middle high f.answered f.out)
-        → Sends (Err fault) l.reply (sent_on now l.first) new → Concludes hall low high (end.Write fault) first new
+        → Sends (Err fault) l.reply (sent_on now l.first) new → ConcludesTable hall low high (end.Write fault) first new
     fed_cut fault new l (total, (k, low_k, is)) =
         let before : List ℕ = s.out ++ l.first in
         let joined : s.out ++ f.out ≡ before ++ l.reply = cc (l.joined, append_assoc s.out l.first l.reply) in
@@ -138,7 +143,8 @@ module _ {hall : Rooms} {low middle : View} {r next : Reading} {requests : ℕ} 
       short = all.2;
     }
 
-    all_stands : (fault : SessionFault) → ((l : Log) → l ≡ read_by fault l) → Stands first fault (fed_course all_first) mid
+    all_stands : (fault : SessionFault) → ((l : WireLog) → l ≡ read_by fault l)
+        → Stands first fault (fed_course all_first) mid
     all_stands fault same =
         let line = fed_line all.0 mid all.3 in
         let short = fed_short all_first in
@@ -155,7 +161,7 @@ module _ {hall : Rooms} {low middle : View} {r next : Reading} {requests : ℕ} 
 
     -- no more messages may be answered
     pub fed_limit : (result : SessionEnd) (new : Sending) → requests + count ≡ request_limit → count < length shown
-        → Leaves session.TooManyRequests result mid new → Concludes hall low high result first new
+        → LeavesSending session.TooManyRequests result mid new → ConcludesTable hall low high result first new
     fed_limit result new limit some l =
         let due : IsDue session.TooManyRequests (fed_course all_first) =
         (omega (arith, all_count), omega (arith, length-drop count shown), refl) in
@@ -163,8 +169,8 @@ module _ {hall : Rooms} {low middle : View} {r next : Reading} {requests : ℕ} 
 
     -- a fault stands after them
     pub fed_fault : (fault : StreamFault) (result : SessionEnd) (new : Sending) → length shown ≤ count
-        → next.fault ≡ Some fault → Leaves (session.Stream fault) result mid new
-        → Concludes hall low high result first new
+        → next.fault ≡ Some fault → LeavesSending (session.Stream fault) result mid new
+        → ConcludesTable hall low high result first new
     fed_fault fault result new none wrong l =
         let stands : fault_at Requests read.rest ≡ Some fault = cc (side, s.side, read.fault, wrong) in
         let due : IsDue (session.Stream fault) (fed_course all_first) = ((drop_all count shown none, refl), stands) in

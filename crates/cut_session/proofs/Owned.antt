@@ -1,5 +1,6 @@
 -- Rows over true slips are the rows of the plan's own table.
-use Rattle.std.proofs.Common.{◌≡◌, ℕ, zero, suc, ◌+◌, ◌≤◌, ◌<◌, ◌++◌, inl, inr, true, List, length, Ok, Result, refl, ap, subst, ◌∙◌, arith}
+use Rattle.std.proofs.Common.{◌≡◌, ℕ, zero, suc, ◌+◌, ◌≤◌, ◌<◌, ◌++◌, inl, inr, true, List, length, Ok, Result, refl}
+use Rattle.std.proofs.Common.{ap, subst, ◌∙◌, arith}
 use Rattle.std.specs.List.{flat_map, range_with_len}
 use Rattle.cut_plan.specs.Accepted.{plan_of}
 use Rattle.cut_plan.specs.Cells.{cells_of}
@@ -17,14 +18,17 @@ use Rattle.cut_hall.specs.Faults.{code_of_line}
 use Rattle.cut_hall.specs.Lines.{full_line}
 use Rattle.cut_messages.specs.declared.kind.Kind.TheVariants as kind
 use Rattle.cut_messages.specs.Frames.{frame}
-use Rattle.cut_session.specs.Answering.{AnswersText, AnswersRead, AnswersPlan, IsTable, IsBrokenOff, row_frame, rows_to, end_frame, error_frame}
+use Rattle.cut_session.specs.Answering.{AnswersText, AnswersRead, IsSubmissionAnswered, IsTable, IsBrokenOff, row_frame}
+use Rattle.cut_session.specs.Answering.{rows_to, end_frame, error_frame}
 use Rattle.cut_session.specs.Own.{own_frame, own_rows_to, IsOwnTable, IsOwnPrefix, IsOwnReply}
 
-own_line : (v : Values) (base : List Slip) (c : ℕ) → TrueSlipsSumAll → IsPlan v → AreTrue v base → c < length (cells_of v) → full_line v base c ≡ line_of v c
+own_line : (v : Values) (base : List Slip) (c : ℕ) → TrueSlipsSumAll → IsPlan v → AreTrue v base → c
+    < length (cells_of v) → full_line v base c ≡ line_of v c
 unfolding full_line
 own_line v base c sums plan are low = ap (λ t. line_with v c t) (sums v base plan are c low)
 
-own_frames : (v : Values) (base : List Slip) → TrueSlipsSumAll → IsPlan v → AreTrue v base → (a m : ℕ) → a + m ≤ length (cells_of v)
+own_frames : (v : Values) (base : List Slip) → TrueSlipsSumAll → IsPlan v → AreTrue v base → (a m : ℕ) → a + m
+    ≤ length (cells_of v)
     → flat_map (row_frame v base) (range_with_len a m) ≡ flat_map (own_frame v) (range_with_len a m)
 own_frames v base sums plan are a zero fits = refl
 own_frames v base sums plan are a (suc m) fits =
@@ -32,7 +36,8 @@ own_frames v base sums plan are a (suc m) fits =
     (own_line v base a sums plan are (omega arith))
     ∙ ap (λ rest. own_frame v a ++ rest) (own_frames v base sums plan are (a + 1) m (omega arith))
 
-own_rows : (v : Values) (base : List Slip) (n : ℕ) → TrueSlipsSumAll → IsPlan v → AreTrue v base → n ≤ length (cells_of v) → rows_to v base n ≡ own_rows_to v n
+own_rows : (v : Values) (base : List Slip) (n : ℕ) → TrueSlipsSumAll → IsPlan v → AreTrue v base → n
+    ≤ length (cells_of v) → rows_to v base n ≡ own_rows_to v n
 unfolding rows_to own_rows_to
 own_rows v base n sums plan are fits =
     ap (λ rest. frame kind.Row (header (version_of v.failing)) ++ rest)
@@ -40,22 +45,25 @@ own_rows v base n sums plan are fits =
 
 own_table : (v : Values) (out : List ℕ) → TrueSlipsSumAll → IsPlan v → IsTable true v out → IsOwnTable v out
 own_table v out sums plan is =
-    is.2 ∙ ap (λ rows. rows ++ end_frame) (own_rows v is.0 (length (cells_of v)) sums plan (is.1.true_if refl) (omega arith))
+    is.2 ∙ ap (λ rows. rows ++ end_frame) (own_rows v is.0 (length (cells_of v)) sums plan (is.1.true_if refl)
+    (omega arith))
 
 own_prefix : (v : Values) (out : List ℕ) → TrueSlipsSumAll → IsPlan v → IsBrokenOff true v out → IsOwnPrefix v out
 own_prefix v out sums plan is = (
   is.2,
   code_of_line is.3,
   is.4,
-  is.5 ∙ ap (λ rows. rows ++ error_frame (code_of_line is.3)) (own_rows v is.0 is.2 sums plan (is.1.true_if refl) (omega (arith, is.4))),
+  is.5 ∙ ap (λ rows. rows ++ error_frame (code_of_line is.3))
+      (own_rows v is.0 is.2 sums plan (is.1.true_if refl) (omega (arith, is.4))),
 )
 
-own_plan : (v : Values) (out : List ℕ) → TrueSlipsSumAll → IsPlan v → AnswersPlan true v out → IsOwnReply v out
+own_plan : (v : Values) (out : List ℕ) → TrueSlipsSumAll → IsPlan v → IsSubmissionAnswered true v out → IsOwnReply v out
 own_plan v out sums plan (inl whole) = inl (own_table v out sums plan whole)
 own_plan v out sums plan (inr (inl part)) = inr (inl (own_prefix v out sums plan part))
 own_plan v out sums plan (inr (inr not_taken)) = inr (inr (code_of_submit not_taken.0, not_taken.1))
 
-pub own_reply : (text : List ℕ) (v : Values) (out : List ℕ) → TrueSlipsSumAll → IsPlan v → plan_of text ≡ Ok v → AnswersText true text out → IsOwnReply v out
+pub own_reply : (text : List ℕ) (v : Values) (out : List ℕ) → TrueSlipsSumAll → IsPlan v → plan_of text ≡ Ok v
+    → AnswersText true text out → IsOwnReply v out
 own_reply text v out sums plan reads (inl memory) = inr (inr (code.WorkMemory, memory))
 own_reply text v out sums plan reads (inr read) =
     own_plan v out sums plan (subst (λ (r : Result Values Refusal). AnswersRead true r out) reads read)

@@ -1,5 +1,6 @@
 -- The frames of a table, as they are sent.
-use Rattle.std.proofs.Common.{◌≡◌, ◌+◌, ◌*◌, ◌≤◌, ◌++◌, ℕ, Bool, List, length, Result, Ok, Err, inl, inr, refl, ap, subst, arith, length-append}
+use Rattle.std.proofs.Common.{◌≡◌, ◌+◌, ◌*◌, ◌≤◌, ◌++◌, ℕ, Bool, List, length, Result, Ok, Err, inl, inr, refl, ap}
+use Rattle.std.proofs.Common.{subst, arith, length-append}
 use Rattle.std.specs.Bool.{⊤}
 use Rattle.std.specs.Borrow.{GName}
 use Rattle.std.proofs.lemmas.Bool.{cases_lt}
@@ -23,7 +24,7 @@ use Rattle.cut_hall.specs.Pass.{Holding}
 use Rattle.cut_hall.specs.Trust.{MayBegin}
 use Rattle.cut_messages.specs.declared.kind.Kind.TheVariants as kind
 use Rattle.cut_messages.specs.Frames.{frame}
-use Rattle.cut_session.specs.Answering.{error_frame, end_frame, rows_to, AnswersPlan, AnswersText}
+use Rattle.cut_session.specs.Answering.{error_frame, end_frame, rows_to, IsSubmissionAnswered, AnswersText}
 use Rattle.cut_session.specs.Rows.{IsKept, lines_of, EndsTable}
 use Rattle.cut_session.specs.Serving.{Replies, longest_reply}
 
@@ -54,7 +55,7 @@ module _ (trusts : Bool) (plan : Values) (base : List Slip) (name : GName) (pass
     -- the first of them
     pub table_sent : (x : Result ⊤ (RowsFault LineFault)) (result : Result ⊤ WriteFault) (new : Sending)
         → SendsFrames plan base name pass new_name new_pass x old mid → EndsTable x result mid new
-        → Replies (AnswersPlan trusts plan) longest_reply result old new
+        → Replies (IsSubmissionAnswered trusts plan) longest_reply result old new
     unfolding rows_to
     table_sent (Ok done) result new s sends = (
       rows_to plan base s.count ++ end_frame,
@@ -94,10 +95,11 @@ module _ (trusts : Bool) (plan : Values) (base : List Slip) (name : GName) (pass
 
 pub plan_answered : (trusts : Bool) (text : List ℕ) (plan taken : Values) (result : Result ⊤ WriteFault)
     (old new : Sending) → plan_of text ≡ Ok plan → taken ≡ plan
-    → Replies (AnswersPlan trusts taken) longest_reply result old new
+    → Replies (IsSubmissionAnswered trusts taken) longest_reply result old new
     → Replies (AnswersText trusts text) longest_reply result old new
 plan_answered trusts text plan taken result old new is same (out, answers, short, sends) =
-    let taken_as : AnswersPlan trusts plan out = subst (λ (v : Values). AnswersPlan trusts v out) same answers in
+    let taken_as : IsSubmissionAnswered trusts plan out = subst (λ (v : Values). IsSubmissionAnswered trusts v out) same
+    answers in
     (out, inr (rw is taken_as), short, sends)
 
 -- or why the hall took no study of the plan
@@ -105,5 +107,5 @@ pub plan_refused : (trusts : Bool) (text : List ℕ) (plan : Values) (fault : Su
     (result : Result ⊤ WriteFault) (old new : Sending) → plan_of text ≡ Ok plan → code ≡ code_of_submit fault
     → Sends result (error_frame code) old new → Replies (AnswersText trusts text) longest_reply result old new
 plan_refused trusts text plan fault code result old new is same sends =
-    let not_taken : AnswersPlan trusts plan (error_frame code) = inr (inr (fault, cc (same))) in
+    let not_taken : IsSubmissionAnswered trusts plan (error_frame code) = inr (inr (fault, cc (same))) in
     (error_frame code, inr (rw is not_taken), omega arith, sends)

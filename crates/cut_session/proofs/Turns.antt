@@ -1,9 +1,11 @@
 -- Requests that are answered one after another.
-use Rattle.std.proofs.Common.{◌≡◌, ◌∙◌, ◌+◌, ◌-◌, ◌*◌, ◌^◌, ◌<◌, ◌≤◌, ◌++◌, min, ℕ, List, [], ◌∷◌, length, take, drop, get_or, Ok, Err, inl, inr, refl, sym, ap, subst, arith, append_assoc, append-nil, take-append-drop, length-append}
+use Rattle.std.proofs.Common.{◌≡◌, ◌∙◌, ◌+◌, ◌-◌, ◌*◌, ◌^◌, ◌<◌, ◌≤◌, ◌++◌, min, ℕ, List, [], ◌∷◌, length, take, drop}
+use Rattle.std.proofs.Common.{get_or, Ok, Err, inl, inr, refl, sym, ap, subst, arith, append_assoc, append-nil}
+use Rattle.std.proofs.Common.{take-append-drop, length-append}
 use Rattle.std.specs.Prelude.{◌⊎◌}
 use Rattle.std.specs.Int.{w32, from_be_bytes}
 use Rattle.cut_board.specs.declared.view.View.{View}
-use Rattle.cut_wires.specs.Log.{Log, wrote}
+use Rattle.cut_wires.specs.Log.{WireLog, wrote}
 use Rattle.cut_wires.specs.declared.send.WriteFault.{WriteFault}
 use Rattle.cut_wires.specs.Sending.{Sending, Sends, sent_on}
 use Rattle.cut_wires.proofs.Logs.{wrote_none}
@@ -11,9 +13,9 @@ use Rattle.cut_wires.proofs.Sendings.{sent_more}
 use Rattle.cut_messages.specs.declared.kind.Kind.{Kind}
 use Rattle.cut_messages.specs.declared.kind.Kind.TheVariants as kind
 use Rattle.cut_messages.specs.declared.message.Message.{Message}
-use Rattle.cut_hall.specs.Hall.{Rooms}
-use Rattle.cut_session.specs.Answering.{Rises, AnswersKind, Answers, AnswersAll}
-use Rattle.cut_session.specs.declared.answer.Turn.TheVariants.{On, Over}
+use Rattle.cut_hall.specs.Hall.{HallValue}
+use Rattle.cut_session.specs.Answering.{Rises, AnswersKind, IsAnswered, AnswersAll}
+use Rattle.cut_session.specs.declared.answer.Continuation.TheVariants.{On, Over}
 use Rattle.cut_session.specs.Serving.{Replies, Serves, ServesAll, longest_reply}
 use Rattle.cut_messages.proofs.Answered.{take_next}
 
@@ -23,32 +25,32 @@ rises_none v = λ study. omega arith
 pub rises_on : (low middle high : View) → Rises low middle → Rises middle high → Rises low high
 rises_on low middle high first second = λ study. omega (arith, first study, second study)
 
-kind_from : (hall : Rooms) (low middle high : View) (k : Kind) (payload out : List ℕ) → Rises low middle
+kind_from : (hall : HallValue) (low middle high : View) (k : Kind) (payload out : List ℕ) → Rises low middle
     → AnswersKind hall middle high k payload out → AnswersKind hall low high k payload out
 kind_from hall low middle high kind.Submit payload out rises is = is
-kind_from hall low middle high kind.Count payload out rises (inl (there, told)) =
-    inl (there, (omega (arith, rises (from_be_bytes w32 payload), told.0), told.1))
+kind_from hall low middle high kind.Count payload out rises (inl (there, reported)) =
+    inl (there, (omega (arith, rises (from_be_bytes w32 payload), reported.0), reported.1))
 kind_from hall low middle high kind.Count payload out rises (inr none) = inr none
 kind_from hall low middle high kind.Quit payload out rises is = absurd is
 kind_from hall low middle high other payload out rises is = is
 
 -- what is no request has no reply
-pub no_reply : (hall : Rooms) (low high : View) (k : Kind) (payload : List ℕ)
+pub no_reply : (hall : HallValue) (low high : View) (k : Kind) (payload : List ℕ)
     → (k ≡ kind.Row) ⊎ ((k ≡ kind.Done) ⊎ (k ≡ kind.Fault)) → AnswersKind hall low high k payload []
 no_reply hall low high k payload (inl is) = rw is refl
 no_reply hall low high k payload (inr (inl is)) = rw is refl
 no_reply hall low high k payload (inr (inr is)) = rw is refl
 
 -- what had been seen before may be less
-pub all_from : (hall : Rooms) (low middle high : View) (ms : List Message) (out : List ℕ) → Rises low middle
+pub all_from : (hall : HallValue) (low middle high : View) (ms : List Message) (out : List ℕ) → Rises low middle
     → AnswersAll hall middle high ms out → AnswersAll hall low high ms out
 all_from hall low middle high [] out rises all = (rises_on low middle high rises all.0, all.1)
 all_from hall low middle high (m ∷ ms) out rises (next, first, others, (here, is), rest, joined) =
-    let answers : Answers hall low next m first =
+    let answers : IsAnswered hall low next m first =
     (rises_on low middle next rises here, kind_from hall low middle next m.kind m.payload first rises is) in
     (next, first, others, answers, rest, joined)
 
-pub all_then : (hall : Rooms) (low middle high : View) (xs ys : List Message) (a b : List ℕ)
+pub all_then : (hall : HallValue) (low middle high : View) (xs ys : List Message) (a b : List ℕ)
     → AnswersAll hall low middle xs a → AnswersAll hall middle high ys b
     → AnswersAll hall low high (xs ++ ys) (a ++ b)
 all_then hall low middle high [] ys a b (rises, none) second =
@@ -57,18 +59,18 @@ all_then hall low middle high (x ∷ xs) ys a b (next, first, others, here, rest
     let after = all_then hall next middle high xs ys others b rest second in
     (next, first, others ++ b, here, after, cc (joined, append_assoc first others b))
 
-pub all_one : (hall : Rooms) (low high : View) (m : Message) (out : List ℕ) → Answers hall low high m out
+pub all_one : (hall : HallValue) (low high : View) (m : Message) (out : List ℕ) → IsAnswered hall low high m out
     → AnswersAll hall low high (m ∷ []) out
 all_one hall low high m out is = (high, out, [], is, (rises_none high, refl), sym (append-nil out))
 
 -- and what has been seen since, more
-pub all_to : (hall : Rooms) (low middle high : View) (ms : List Message) (out : List ℕ) → Rises middle high
+pub all_to : (hall : HallValue) (low middle high : View) (ms : List Message) (out : List ℕ) → Rises middle high
     → AnswersAll hall low middle ms out → AnswersAll hall low high ms out
 all_to hall low middle high [] out rises (before, none) = (rises_on low middle high before rises, none)
 all_to hall low middle high (m ∷ ms) out rises (next, first, others, here, rest, joined) =
     (next, first, others, here, all_to hall next middle high ms others rises rest, joined)
 
-pub all_rises : (hall : Rooms) (low high : View) (ms : List Message) (out : List ℕ)
+pub all_rises : (hall : HallValue) (low high : View) (ms : List Message) (out : List ℕ)
     → AnswersAll hall low high ms out → Rises low high
 all_rises hall low high [] out all = all.0
 all_rises hall low high (m ∷ ms) out all =
@@ -79,16 +81,16 @@ all_rises hall low high (m ∷ ms) out all =
 -- nothing was sent
 pub none_sent : (s : Sending) → s.sent < 2 ^ 64 → s ≡ sent_on s []
 none_sent s small =
-    let on : Log → ℕ → Sending = λ log sent. record { wire = s.wire; log = log; sent = sent } in
+    let on : WireLog → ℕ → Sending = λ log sent. record { wire = s.wire; log = log; sent = sent } in
     let count : s.sent ≡ min (s.sent + 0) (2 ^ 64 - 1) = omega (arith, small) in
     ap (λ log. on log s.sent) (sym (wrote_none s.log)) ∙ ap (on (wrote s.log [])) count
 
 -- a message after others that were answered
-module _ (hall : Rooms) (low middle high : View) (ms : List Message) (i : ℕ) (m : Message) (old now new : Sending)
+module _ (hall : HallValue) (low middle high : View) (ms : List Message) (i : ℕ) (m : Message) (old now new : Sending)
     (low_i : i < length ms) (is : m ≡ get_or ms i m) (first : Replies (AnswersAll hall low middle (take i ms))
     (longest_reply * length (take i ms)) (Ok tt) old now) where
   -- the replies to it too
-  both : (out : List ℕ) → Answers hall middle high m out
+  both : (out : List ℕ) → IsAnswered hall middle high m out
       → AnswersAll hall low high (take i ms ++ m ∷ []) (first.0 ++ out)
   both out answers =
       all_then hall low middle high (take i ms) (m ∷ []) first.0 out first.1 (all_one hall middle high m out answers)

@@ -19,7 +19,7 @@ use Rattle.cut_book.specs.declared.submit_fault.SubmitFault.{SubmitFault}
 use Rattle.cut_hall.specs.declared.line_fault.LineFault.{LineFault}
 use Rattle.cut_book.specs.Faults.{code_of_submit}
 use Rattle.cut_hall.specs.Faults.{code_of_line}
-use Rattle.cut_hall.specs.Hall.{Rooms}
+use Rattle.cut_hall.specs.Hall.{HallValue}
 use Rattle.cut_hall.specs.Lines.{full_line}
 use Rattle.cut_hall.specs.Trust.{MayBegin}
 use Rattle.cut_messages.specs.declared.kind.Kind.{Kind}
@@ -66,12 +66,13 @@ abbrev pub IsNotTaken : List ℕ → Type 0
 IsNotTaken out = (fault : SubmitFault) × (out ≡ error_frame (code_of_submit fault))
 
 -- to an accepted plan
-abbrev pub AnswersPlan : Bool → Values → List ℕ → Type 0
-AnswersPlan is_trusted plan out = IsTable is_trusted plan out ⊎ (IsBrokenOff is_trusted plan out ⊎ IsNotTaken out)
+abbrev pub IsSubmissionAnswered : Bool → Values → List ℕ → Type 0
+IsSubmissionAnswered is_trusted plan out = IsTable is_trusted plan out
+    ⊎ (IsBrokenOff is_trusted plan out ⊎ IsNotTaken out)
 
 -- to a text that is a plan, or that is refused
 abbrev pub AnswersRead : Bool → Result Values Refusal → List ℕ → Type 0
-AnswersRead is_trusted (Ok plan) out = AnswersPlan is_trusted plan out
+AnswersRead is_trusted (Ok plan) out = IsSubmissionAnswered is_trusted plan out
 AnswersRead is_trusted (Err refusal) out = out ≡ error_frame (code_of_refusal refusal)
 
 -- to a text, for whose reading memory may run out
@@ -86,31 +87,31 @@ abbrev pub Rises : View → View → Type 0
 Rises low high = (study : ℕ) → seen_in study low ≤ seen_in study high
 
 -- the count that the session has seen now, which is no less than what it had seen before
-abbrev pub TellsCount : View → View → ℕ → List ℕ → Type 0
-TellsCount low high study out =
+abbrev pub ReportsCount : View → View → ℕ → List ℕ → Type 0
+ReportsCount low high study out =
     (seen_in study low ≤ seen_in study high) × (out ≡ frame kind.Count (to_be_bytes w64 (seen_in study high)))
 
 -- that there is no slot of this number, exactly where there is none
-abbrev pub AnswersCount : Rooms → View → View → ℕ → List ℕ → Type 0
+abbrev pub AnswersCount : HallValue → View → View → ℕ → List ℕ → Type 0
 AnswersCount hall low high study out =
-    ((study < hall.slots) × TellsCount low high study out) ⊎ ((hall.slots ≤ study) × (out ≡ error_frame code.NoSlot))
+    ((study < hall.slots) × ReportsCount low high study out) ⊎ ((hall.slots ≤ study) × (out ≡ error_frame code.NoSlot))
 
 -- ---- the replies to requests
 
 -- to one request, in a hall, by a session that had seen low and has seen high. None follows
 -- a message that quits; what is no request has no reply.
-abbrev pub AnswersKind : Rooms → View → View → Kind → List ℕ → List ℕ → Type 0
+abbrev pub AnswersKind : HallValue → View → View → Kind → List ℕ → List ℕ → Type 0
 AnswersKind hall low high kind.Submit payload out = AnswersText hall.is_trusted payload out
 AnswersKind hall low high kind.Count payload out = AnswersCount hall low high (from_be_bytes w32 payload) out
 AnswersKind hall low high kind.Quit payload out = ⊥
 AnswersKind hall low high other payload out = out ≡ []
 
-abbrev pub Answers : Rooms → View → View → Message → List ℕ → Type 0
-Answers hall low high m out = Rises low high × AnswersKind hall low high m.kind m.payload out
+abbrev pub IsAnswered : HallValue → View → View → Message → List ℕ → Type 0
+IsAnswered hall low high m out = Rises low high × AnswersKind hall low high m.kind m.payload out
 
 -- to several in order: what was seen after one is what had been seen before the next
-abbrev pub AnswersAll : Rooms → View → View → List Message → List ℕ → Type 0
+abbrev pub AnswersAll : HallValue → View → View → List Message → List ℕ → Type 0
 AnswersAll hall low high [] out = Rises low high × (out ≡ [])
 AnswersAll hall low high (m ∷ ms) out =
-    (middle : View) × (first : List ℕ) × (others : List ℕ) × Answers hall low middle m first
+    (middle : View) × (first : List ℕ) × (others : List ℕ) × IsAnswered hall low middle m first
     × AnswersAll hall middle high ms others × (out ≡ first ++ others)

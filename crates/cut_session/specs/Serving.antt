@@ -7,16 +7,16 @@ use Rattle.cut_wires.specs.declared.send.WriteFault.{WriteFault}
 use Rattle.cut_messages.specs.declared.side.Side.TheVariants.{Requests}
 use Rattle.cut_messages.specs.declared.kind.Kind.TheVariants as kind
 use Rattle.cut_messages.specs.declared.message.Message.{Message}
-use Rattle.cut_session.specs.declared.answer.Turn.{Turn}
-use Rattle.cut_session.specs.declared.answer.Turn.TheVariants.{On, Over}
+use Rattle.cut_session.specs.declared.answer.Continuation.{Continuation}
+use Rattle.cut_session.specs.declared.answer.Continuation.TheVariants.{On, Over}
 use Rattle.cut_session.specs.declared.session_end.SessionEnd.{SessionEnd}
 use Rattle.cut_session.specs.declared.session_end.SessionEnd.TheVariants as end
 use Rattle.cut_session.specs.declared.session_end.SessionFault.{SessionFault}
 use Rattle.cut_session.specs.FaultCode.{code_of_session}
-use Rattle.cut_messages.specs.Reading.{Reading, HasRead}
-use Rattle.cut_hall.specs.Hall.{Rooms}
-use Rattle.cut_session.specs.Answering.{Rises, Answers, AnswersAll, error_frame}
-use Rattle.cut_session.specs.Session.{QuitsAtOnce, LastReply, Ends}
+use Rattle.cut_messages.specs.Reading.{Reading, HasReadFrames}
+use Rattle.cut_hall.specs.Hall.{HallValue}
+use Rattle.cut_session.specs.Answering.{Rises, IsAnswered, AnswersAll, error_frame}
+use Rattle.cut_session.specs.Session.{QuitsAtOnce, LastReply, EndsSession}
 
 -- ---- one reply
 
@@ -31,13 +31,13 @@ Replies P most result old new = (out : List ℕ) × P out × (length out ≤ mos
 -- ---- the replies to some messages
 
 -- of one message: the reply to it, or none where it quits
-abbrev pub Serves : Rooms → View → View → Message → Result Turn WriteFault → Sending → Sending → Type 0
-Serves hall low high m (Ok On) old new = Replies (Answers hall low high m) longest_reply (Ok tt) old new
+abbrev pub Serves : HallValue → View → View → Message → Result Continuation WriteFault → Sending → Sending → Type 0
+Serves hall low high m (Ok On) old new = Replies (IsAnswered hall low high m) longest_reply (Ok tt) old new
 Serves hall low high m (Ok Over) old new = (m.kind ≡ kind.Quit) × Rises low high × (new ≡ old)
-Serves hall low high m (Err fault) old new = Replies (Answers hall low high m) longest_reply (Err fault) old new
+Serves hall low high m (Err fault) old new = Replies (IsAnswered hall low high m) longest_reply (Err fault) old new
 
 -- the first of some messages, and replies to them
-pub record ServesFirst (hall : Rooms) (low high : View) (messages : List Message) : Type 0 where
+pub record ServesFirst (hall : HallValue) (low high : View) (messages : List Message) : Type 0 where
   pub answered : List Message
   pub unanswered : List Message
   pub out : List ℕ
@@ -46,7 +46,8 @@ pub record ServesFirst (hall : Rooms) (low high : View) (messages : List Message
   pub short : length out ≤ longest_reply * length answered
 
 -- all of them were answered, or those before one that quits, or those up to one whose reply was not sent whole
-abbrev pub ServesAll : Rooms → View → View → List Message → Result Turn WriteFault → Sending → Sending → Type 0
+abbrev pub ServesAll : HallValue → View → View → List Message → Result Continuation WriteFault → Sending → Sending
+    → Type 0
 ServesAll hall low high messages (Ok On) old new =
     Replies (AnswersAll hall low high messages) (longest_reply * length messages) (Ok tt) old new
 ServesAll hall low high messages (Ok Over) old new =
@@ -58,10 +59,11 @@ ServesAll hall low high messages (Err fault) old new =
 -- ---- the frame of a fault that ends a session
 
 -- it was sent, or a write of it failed
-abbrev pub Leaves : SessionFault → SessionEnd → Sending → Sending → Type 0
-Leaves fault (end.Fault sent) old new = (sent ≡ fault) × (new ≡ sent_on old (error_frame (code_of_session fault)))
-Leaves fault (end.Write failed) old new = Sends (Err failed) (error_frame (code_of_session fault)) old new
-Leaves fault other old new = ⊥
+abbrev pub LeavesSending : SessionFault → SessionEnd → Sending → Sending → Type 0
+LeavesSending fault (end.Fault sent) old new = (sent ≡ fault)
+    × (new ≡ sent_on old (error_frame (code_of_session fault)))
+LeavesSending fault (end.Write failed) old new = Sends (Err failed) (error_frame (code_of_session fault)) old new
+LeavesSending fault other old new = ⊥
 
 -- ---- between two reads
 
@@ -78,12 +80,12 @@ served s out given = record {
 }
 
 -- all messages so far are answered, and no fault stands after them; a piece was given that is not read yet
-pub record IsServing (hall : Rooms) (low high : View) (r : Reading) (requests : ℕ) (piece : List ℕ)
+pub record IsServing (hall : HallValue) (low high : View) (r : Reading) (requests : ℕ) (piece : List ℕ)
     (old now : Sending) : Type 0 where
   pub stream : List ℕ
   pub messages : List Message
   pub out : List ℕ
-  pub read : HasRead r stream messages
+  pub read : HasReadFrames r stream messages
   pub right : r.fault ≡ None
   pub side : r.side ≡ Requests
   pub many : requests ≡ length messages
@@ -92,10 +94,10 @@ pub record IsServing (hall : Rooms) (low high : View) (r : Reading) (requests : 
   pub line : now ≡ served old out (stream ++ piece)
 
 -- how a session ended over a line that had sent nothing before it
-abbrev pub Concludes : Rooms → View → View → SessionEnd → Sending → Sending → Type 0
-Concludes hall low high end old new = Ends hall low high end old.log new.log × (new.wire ≡ old.wire)
+abbrev pub ConcludesTable : HallValue → View → View → SessionEnd → Sending → Sending → Type 0
+ConcludesTable hall low high end old new = EndsSession hall low high end old.log new.log × (new.wire ≡ old.wire)
 
 -- after a piece the session goes on, or has ended
-abbrev pub Goes : Rooms → View → View → Result ℕ SessionEnd → Reading → Sending → Sending → Type 0
+abbrev pub Goes : HallValue → View → View → Result ℕ SessionEnd → Reading → Sending → Sending → Type 0
 Goes hall low high (Ok requests) r old new = IsServing hall low high r requests [] old new
-Goes hall low high (Err end) r old new = Concludes hall low high end old new
+Goes hall low high (Err end) r old new = ConcludesTable hall low high end old new

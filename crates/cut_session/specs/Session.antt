@@ -2,7 +2,7 @@
 use Rattle.std.specs.Prelude.{◌≡◌, ◌<◌, ◌≤◌, ◌⊎◌, ◌++◌, ℕ, List, [], ◌∷◌, length, take, Some, None}
 use Rattle.cut_faults.specs.Failures.{one_more}
 use Rattle.cut_board.specs.declared.view.View.{View}
-use Rattle.cut_wires.specs.Log.{Traffic, Log, passing, read_failed, write_failed}
+use Rattle.cut_wires.specs.Log.{Traffic, WireLog, passing, read_failed, write_failed}
 use Rattle.cut_messages.specs.declared.side.Side.TheVariants.{Requests}
 use Rattle.cut_messages.specs.declared.kind.Kind.TheVariants as kind
 use Rattle.cut_messages.specs.declared.message.Message.{Message}
@@ -13,7 +13,7 @@ use Rattle.cut_session.specs.declared.session_end.SessionFault.TheVariants as se
 use Rattle.cut_session.specs.FaultCode.{code_of_session}
 use Rattle.cut_messages.specs.Frames.{fault_at}
 use Rattle.cut_messages.specs.Reading.{Splits}
-use Rattle.cut_hall.specs.Hall.{Rooms}
+use Rattle.cut_hall.specs.Hall.{HallValue}
 use Rattle.cut_session.specs.Answering.{AnswersAll, error_frame}
 
 -- how many requests a session answers
@@ -32,7 +32,7 @@ pub record Course : Type 0 where
 
 -- the messages are those of the stream, no more are answered than may be, and the replies are some that a
 -- hall may give, where the session had seen low at its begin and has seen high
-pub record IsCourse (hall : Rooms) (low high : View) (c : Course) : Type 0 where
+pub record IsCourse (hall : HallValue) (low high : View) (c : Course) : Type 0 where
   pub splits : Splits Requests c.stream (c.answered ++ c.unanswered) c.rest
   pub few : length c.answered ≤ request_limit
   pub replies : AnswersAll hall low high c.answered c.out
@@ -68,24 +68,24 @@ abbrev pub gave_and_took : Course → List ℕ → Traffic → Traffic
 gave_and_took c taken t =
     record { taken = t.taken ++ taken; given = t.given ++ (c.stream ++ c.last); ends = t.ends }
 
-abbrev pub passed : Course → List ℕ → Log → Log
+abbrev pub passed : Course → List ℕ → WireLog → WireLog
 passed c taken l = passing (gave_and_took c taken) l
 
 -- and whose last read gave the end of the input
 abbrev pub with_end : Traffic → Traffic
 with_end t = record { taken = t.taken; given = t.given; ends = one_more t.ends }
 
-abbrev pub ended : Log → Log
+abbrev pub ended : WireLog → WireLog
 ended l = passing with_end l
 
 -- what the last read did, where this fault is due: it gave the end, or it failed
-abbrev pub read_by : SessionFault → Log → Log
+abbrev pub read_by : SessionFault → WireLog → WireLog
 read_by session.Truncated l = ended l
 read_by session.Read l = read_failed l
 read_by fault l = l
 
 -- the last of the messages that are answered, with the replies to those before it and the reply to it
-pub record LastReply (hall : Rooms) (low high : View) (answered : List Message) (out : List ℕ) : Type 0 where
+pub record LastReply (hall : HallValue) (low high : View) (answered : List Message) (out : List ℕ) : Type 0 where
   pub before : List Message
   pub here : Message
   pub middle : View
@@ -97,13 +97,13 @@ pub record LastReply (hall : Rooms) (low high : View) (answered : List Message) 
   pub joined : out ≡ first ++ reply
 
 -- a write failed of the last reply: those before it were sent whole, and it was not
-abbrev pub CutsReply : Rooms → View → View → ℕ → Course → Log → Log → Type 0
+abbrev pub CutsReply : HallValue → View → View → ℕ → Course → WireLog → WireLog → Type 0
 CutsReply hall low high sent c old new =
     (l : LastReply hall low high c.answered c.out) × (length l.first ≤ sent) × (sent < length c.out) × (c.last ≡ [])
     × (new ≡ write_failed (passed c (take sent c.out) old))
 
 -- a write of the frame failed that has the fault which ended the session
-abbrev pub CutsEnd : ℕ → Course → Log → Log → Type 0
+abbrev pub CutsEnd : ℕ → Course → WireLog → WireLog → Type 0
 CutsEnd sent c old new =
     (fault : SessionFault) × IsDue fault c × (length c.out ≤ sent) × (sent < length (replies_to fault c))
     × (new ≡ write_failed (read_by fault (passed c (take sent (replies_to fault c)) old)))
@@ -111,16 +111,17 @@ CutsEnd sent c old new =
 -- how a session ends, what its wire took and gave, and which calls failed: all replies to the messages before one
 -- that quits; all replies, where the input ended after them; the replies and the fault's frame; or exactly as many
 -- of the first bytes of these as are reported, where a write failed
-abbrev pub EndsAs : Rooms → View → View → SessionEnd → Course → Log → Log → Type 0
-EndsAs hall low high Quit c old new =
+abbrev pub EndsSessionAs : HallValue → View → View → SessionEnd → Course → WireLog → WireLog → Type 0
+EndsSessionAs hall low high Quit c old new =
     QuitsAtOnce c.unanswered × (length c.answered < request_limit) × (c.last ≡ []) × (new ≡ passed c c.out old)
-EndsAs hall low high EndOfInput c old new =
+EndsSessionAs hall low high EndOfInput c old new =
     IsAnswered c × (c.rest ≡ []) × (new ≡ ended (passed c c.out old))
-EndsAs hall low high (Fault fault) c old new =
+EndsSessionAs hall low high (Fault fault) c old new =
     IsDue fault c × (new ≡ read_by fault (passed c (replies_to fault c) old))
-EndsAs hall low high (Write fault) c old new =
+EndsSessionAs hall low high (Write fault) c old new =
     CutsReply hall low high fault.sent c old new ⊎ CutsEnd fault.sent c old new
 
 -- of a wire of which nothing is known there is some course of which this is so
-abbrev pub Ends : Rooms → View → View → SessionEnd → Log → Log → Type 0
-Ends hall low high end old new = (c : Course) × IsCourse hall low high c × EndsAs hall low high end c old new
+abbrev pub EndsSession : HallValue → View → View → SessionEnd → WireLog → WireLog → Type 0
+EndsSession hall low high end old new = (c : Course) × IsCourse hall low high c
+    × EndsSessionAs hall low high end c old new

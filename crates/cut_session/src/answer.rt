@@ -5,12 +5,12 @@ ghost use Rattle.cut_session.specs.Answering.{AnswersCount, AnswersText, Rises};
 ghost use Rattle.cut_session.specs.Serving.{Replies, Serves, ServesAll, longest_reply};
 
 use crate::fault_reply::send_fault;
-use crate::study::{OpenedRows, send_table};
+use crate::rows::{OpenedRows, send_table};
 use cut_board::laws::reads_are_seen;
 use cut_book::Shelf;
 use cut_disks::Disk;
 use cut_faults::FaultCode;
-use cut_hall::{Hall, Pass, Tally};
+use cut_hall::{CallLedger, Hall, Pass};
 use cut_messages::{Kind, Message, send_message};
 use cut_plan::{Plan, PlanFault};
 use cut_wires::{Line, Wire, WriteFault};
@@ -19,7 +19,7 @@ use std::sync::Wait;
 
 /// How a session goes on after requests.
 #[derive(Clone, Copy)]
-pub(crate) enum Turn {
+pub(crate) enum Continuation {
     /// It takes the next one.
     On,
     /// The client has quit.
@@ -28,7 +28,7 @@ pub(crate) enum Turn {
 
 /// What a session borrows to answer its requests: the hall and its own pass, and the shelf on which studies are kept.
 #[derive(Drop)]
-pub(crate) struct Session<'a, D: Disk, M: Tally, K: Tally, S: Shelf<D>, R> {
+pub(crate) struct Session<'a, D: Disk, M: CallLedger, K: CallLedger, S: Shelf<D>, R> {
     pub(crate) rt: &'a R,
     pub(crate) alloc: Global,
     pub(crate) hall: &'a Hall<D, M, K>,
@@ -41,8 +41,8 @@ pub(crate) struct Session<'a, D: Disk, M: Tally, K: Tally, S: Shelf<D>, R> {
 impl<D, M, K, S, R> Session<'_, D, M, K, S, R>
 where
     D: Disk + Drop,
-    M: Tally,
-    K: Tally,
+    M: CallLedger,
+    K: CallLedger,
     S: Shelf<D>,
     R: Wait,
 {
@@ -51,7 +51,7 @@ where
         &mut self,
         line: &mut Line<'_, W>,
         messages: &[Message],
-    ) -> Result<Turn, WriteFault>
+    ) -> Result<Continuation, WriteFault>
         ensures serves { ServesAll self.old.hall.now self.old.pass.now.view self.new.pass.now.view messages.now
             result (sending W.log line.old) (sending W.log line.new) }
         ensures stays { (self.new.hall.now ≡ self.old.hall.now)
@@ -59,12 +59,12 @@ where
     {
         for message in messages {
             match self.answer(line, message) {
-                Ok(Turn::On) => {}
-                Ok(Turn::Over) => return Ok(Turn::Over),
+                Ok(Continuation::On) => {}
+                Ok(Continuation::Over) => return Ok(Continuation::Over),
                 Err(fault) => return Err(fault),
             }
         }
-        Ok(Turn::On)
+        Ok(Continuation::On)
     }
 
     /// Answers one request.
@@ -72,7 +72,7 @@ where
         &mut self,
         line: &mut Line<'_, W>,
         message: &Message,
-    ) -> Result<Turn, WriteFault>
+    ) -> Result<Continuation, WriteFault>
         ensures serves { Serves self.old.hall.now self.old.pass.now.view self.new.pass.now.view message.now
             result (sending W.log line.old) (sending W.log line.new) }
         ensures stays { (self.new.hall.now ≡ self.old.hall.now)
@@ -81,15 +81,15 @@ where
         let payload = message.payload.as_slice();
         match message.kind {
             Kind::Submit => match self.answer_submit(line, payload) {
-                Ok(()) => Ok(Turn::On),
+                Ok(()) => Ok(Continuation::On),
                 Err(fault) => Err(fault),
             },
             Kind::Count => match self.answer_count(line, payload) {
-                Ok(()) => Ok(Turn::On),
+                Ok(()) => Ok(Continuation::On),
                 Err(fault) => Err(fault),
             },
-            Kind::Quit => Ok(Turn::Over),
-            Kind::Row | Kind::Done | Kind::Fault => Ok(Turn::On),
+            Kind::Quit => Ok(Continuation::Over),
+            Kind::Row | Kind::Done | Kind::Fault => Ok(Continuation::On),
         }
     }
 

@@ -8,9 +8,9 @@
 mod answer;
 mod ending;
 mod fault_reply;
+mod rows;
 mod serve;
 mod session_end;
-mod study;
 mod trust;
 
 pub use cut_messages::{

@@ -1,15 +1,15 @@
 ghost use Rattle.std.specs.Prelude.{true, ◌≡◌, ◌<◌, ◌≤◌, length, IfOk};
 ghost use Rattle.cut_board.specs.declared.view.View.{View};
 ghost use Rattle.cut_wires.specs.Sending.{Sending, sending};
-ghost use Rattle.cut_session.specs.Session.{Ends};
-ghost use Rattle.cut_session.specs.Serving.{IsServing, Goes, Leaves, Concludes};
+ghost use Rattle.cut_session.specs.Session.{EndsSession};
+ghost use Rattle.cut_session.specs.Serving.{IsServing, Goes, LeavesSending, ConcludesTable};
 
-use crate::answer::{Session, Turn};
+use crate::answer::{Continuation, Session};
 use crate::fault_reply::send_fault;
 use crate::{SessionEnd, SessionFault};
 use cut_book::Shelf;
 use cut_disks::Disk;
-use cut_hall::{Hall, Pass, Tally};
+use cut_hall::{CallLedger, Hall, Pass};
 use cut_messages::Reader;
 use cut_wires::{Line, Wire};
 use std::alloc::Global;
@@ -38,14 +38,14 @@ pub fn session<D, M, K, S, W, R>(
 ) -> SessionEnd
 where
     D: Disk + Drop,
-    M: Tally,
-    K: Tally,
+    M: CallLedger,
+    K: CallLedger,
     S: Shelf<D>,
     W: Wire,
     R: Wait,
     requires own { pass.old.hall ≡ hall.now.id }
     requires trusted { hall.now.is_trusted ≡ true → S.is_true shelf.now ≡ true }
-    ensures ends { Ends hall.now pass.old.view pass.new.view result (W.log wire.old) (W.log wire.new) }
+    ensures ends { EndsSession hall.now pass.old.view pass.new.view result (W.log wire.old) (W.log wire.new) }
     ensures own { pass.new.hall ≡ pass.old.hall }
 {
     let mut session = Session {
@@ -61,14 +61,14 @@ where
 impl<D, M, K, S, R> Session<'_, D, M, K, S, R>
 where
     D: Disk + Drop,
-    M: Tally,
-    K: Tally,
+    M: CallLedger,
+    K: CallLedger,
     S: Shelf<D>,
     R: Wait,
 {
     /// Serves a client over a wire.
     fn run<W: Wire>(&mut self, wire: &mut W) -> SessionEnd
-        ensures ends { Ends self.old.hall.now self.old.pass.now.view self.new.pass.now.view result
+        ensures ends { EndsSession self.old.hall.now self.old.pass.now.view self.new.pass.now.view result
             (W.log wire.old) (W.log wire.new) }
         ensures stays { (self.new.hall.now ≡ self.old.hall.now)
             × (self.new.pass.ghost_name ≡ self.old.pass.ghost_name) }
@@ -79,7 +79,7 @@ where
     /// Serves a client over a line, over which nothing was sent yet.
     fn serve<W: Wire>(&mut self, line: &mut Line<'_, W>) -> SessionEnd
         requires { (sending W.log line.old).sent ≡ 0 }
-        ensures ends { Concludes self.old.hall.now self.old.pass.now.view self.new.pass.now.view result
+        ensures ends { ConcludesTable self.old.hall.now self.old.pass.now.view self.new.pass.now.view result
             (sending W.log line.old) (sending W.log line.new) }
         ensures stays { (self.new.hall.now ≡ self.old.hall.now)
             × (self.new.pass.ghost_name ≡ self.old.pass.ghost_name) }
@@ -132,8 +132,8 @@ where
         let messages = fed.messages.as_slice();
         let count = messages.len().min((MOST_REQUESTS - requests) as usize);
         match self.answer_all(line, &messages[..count]) {
-            Ok(Turn::On) => {}
-            Ok(Turn::Over) => return Err(SessionEnd::Quit),
+            Ok(Continuation::On) => {}
+            Ok(Continuation::Over) => return Err(SessionEnd::Quit),
             Err(fault) => return Err(SessionEnd::Write(fault)),
         }
         if count < messages.len() {
@@ -148,7 +148,7 @@ where
 
 /// Sends the client the fault that ends the session.
 fn leave<W: Wire>(line: &mut Line<'_, W>, fault: SessionFault) -> SessionEnd
-    ensures { Leaves fault result (sending W.log line.old) (sending W.log line.new) }
+    ensures { LeavesSending fault result (sending W.log line.old) (sending W.log line.new) }
 {
     match send_fault(line, fault.code()) {
         Ok(()) => SessionEnd::Fault(fault),

@@ -1,6 +1,6 @@
 ghost use Rattle.cut_session.specs.Own.{TrustedRepliesAreOwn};
 
-use cut_ledger::laws::true_slips_tell_the_table;
+use cut_ledger::laws::true_slips_give_the_table;
 use cut_plan::accepted_texts_give_plans;
 
 /// A client of a hall whose studies begin with true slips reads the frames of its plan's own table, line by line
@@ -12,5 +12,5 @@ pub fn trusted_replies_are_own()
     ensures { TrustedRepliesAreOwn }
 {
     accepted_texts_give_plans();
-    true_slips_tell_the_table();
+    true_slips_give_the_table();
 }

@@ -14,7 +14,7 @@ pub(crate) const PLAN: &[u8] =
 const TABLE: &[u8] =
     b"k,h,l,f,trials,receivers,conflicts,silent,extra,votes,decided,right,ppm\n1,1,1,1,2,8,0,0,0,8,2,2,0\n";
 
-/// The frame of the table's first line, that of its second line with the one behind it, and that of
+/// The frame of the table's first line, that of its second line with the one after it, and that of
 /// a count.
 pub(crate) const FIRST: &[u8] =
     b"T\0\0\0\x48k,h,l,f,trials,receivers,conflicts,silent,extra,votes,decided,right,ppm\n";
@@ -105,7 +105,7 @@ fn failing_row(number: usize) -> (Row, (Result<(), AskFault>, usize, usize)) {
     }
 }
 
-/// One whose reads come byte for byte, and the next one after so many fails, when so many bytes of the table are
+/// One whose reads come byte for byte, and the next one after some of them fails, when this many bytes of the table are
 /// written.
 fn unread(bytes: usize, written: usize) -> (Row, (Result<(), AskFault>, usize, usize)) {
     let row = Row {
@@ -163,9 +163,9 @@ fn faults_of_askings_are_printed(rt: HostRuntime) -> Result<(), Fail> {
         (AskFault::Endless, "43 Read"),
         (AskFault::Truncated, "42 Truncated"),
         (AskFault::Stream(StreamFault::BadLength), "45 BadLength"),
-        (AskFault::Told(29), "29 SlotsFull"),
-        (AskFault::Told(46), "46 Disagrees"),
-        (AskFault::Told(48), "48 Unknown"),
+        (AskFault::Reported(29), "29 SlotsFull"),
+        (AskFault::Reported(46), "46 Disagrees"),
+        (AskFault::Reported(48), "48 Unknown"),
     ];
     for (fault, text) in rows {
         assert_eq!(rt; fault.to_string(alloc)?.as_str(), text);

@@ -1,4 +1,4 @@
-//! Sessions whose requests are drawn, with each end behind any number of them; a million requests; and studies
+//! Sessions whose requests are drawn, with each end after any number of them; a million requests; and studies
 //! that don't come.
 ghost use Rattle.std.specs.Prelude.{true, ◌≡◌};
 
@@ -24,7 +24,7 @@ const REQUESTS: [(&[u8], &[u8]); 7] = [
     (b"R\0\0\0\x07{\"Q\":0}", b"E\0\0\0\x02\0\x03"),
 ];
 
-/// What may stand behind requests, what it is answered, and how the session ends then.
+/// What may follow requests, what it is answered, and how the session ends then.
 const ENDS: [(&[u8], &[u8], SessionEnd); 15] = [
     (b"", b"", SessionEnd::EndOfInput),
     (b"Q\0\0\0\0", b"", SessionEnd::Quit),
@@ -64,7 +64,7 @@ fn drawn(seed: usize, length: usize) -> usize {
     seed.wrapping_mul(2_654_435_769).wrapping_add(40_503) / 65_536 % length.max(1)
 }
 
-/// So many drawn requests, with what ends them, and the replies.
+/// Drawn requests, this many, with what ends them, and the replies.
 fn stream(
     alloc: Global,
     seed: usize,
@@ -85,7 +85,7 @@ fn stream(
     Ok((sent, replies))
 }
 
-/// How a session ends in an empty hall of one slot, to which so many bytes come at once, and what its wire
+/// How a session ends in an empty hall of one slot, to which a number of bytes come at once, and what its wire
 /// takes.
 fn alone<S: Shelf<FaultyDisk>, R: Wait>(
     rt: &R,
@@ -102,7 +102,7 @@ fn alone<S: Shelf<FaultyDisk>, R: Wait>(
 }
 
 #[test]
-fn each_end_comes_behind_any_number_of_requests(rt: HostRuntime) -> Result<(), Fail> {
+fn each_end_comes_after_any_number_of_requests(rt: HostRuntime) -> Result<(), Fail> {
     let alloc = rt.alloc();
     for (number, (last, reply, right)) in ENDS.iter().enumerate() {
         for count in 0..24 {
@@ -112,7 +112,7 @@ fn each_end_comes_behind_any_number_of_requests(rt: HostRuntime) -> Result<(), F
                 let (end, taken) = alone(&rt, alloc, &NoShelf, sent, per)?;
                 assert!(rt;
                     end == *right && taken == replies,
-                    "end {number} behind {count}"
+                    "end {number} later {count}"
                 );
             }
         }
@@ -220,7 +220,7 @@ impl Shelf<FaultyDisk> for FaultyShelf {
     }
 }
 
-/// What the study of two cells is answered, with the count behind it, after so many of its two pieces were
+/// What the study of two cells is answered, with the count after it, when this many of its two pieces were
 /// worked on, over a disk that fails in the call with this number.
 fn after_pieces<R: Wait>(
     rt: &R,
@@ -242,7 +242,7 @@ fn after_pieces<R: Wait>(
     Ok(Vec::from_slice(alloc, wire.taken())?)
 }
 
-/// The first so many bytes of the whole answer, what tells why no more come, and how many trials are counted.
+/// The first bytes of the whole answer, this many, what says why no more come, and how many trials are counted.
 fn broken_off(alloc: Global, bytes: usize, frame: &[u8], counted: u8) -> Result<Vec<u8>, Fail> {
     let (_, mut replies) = two_cells(alloc, bytes)?;
     replies.extend_from_slice(frame)?;
@@ -252,7 +252,7 @@ fn broken_off(alloc: Global, bytes: usize, frame: &[u8], counted: u8) -> Result<
 }
 
 #[test]
-fn a_study_may_break_off_behind_any_line(rt: HostRuntime) -> Result<(), Fail> {
+fn a_study_may_break_off_after_any_line(rt: HostRuntime) -> Result<(), Fail> {
     let alloc = rt.alloc();
     // Ten calls open the disk, and each append makes four.
     let rows: [(u64, u64, usize, &[u8], u8); 5] = [

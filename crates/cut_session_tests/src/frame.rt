@@ -5,7 +5,7 @@ use cut_session::Kind;
 use std::alloc::{AllocError, Global};
 
 /// The bytes of a message as they stand in a stream: the kind's letter, the payload's length in four bytes, the high
-/// one first, and the payload, which is as short as a message's has to be. Fails only for want of memory.
+/// one first, and the payload, which is as short as a message's has to be. Fails only where memory runs out.
 pub fn frame(alloc: Global, kind: Kind, payload: &[u8]) -> Result<Vec<u8>, AllocError>
     requires { length payload.now ≤ 65536 }
     ensures { IfOk result (λ bytes. bytes.items ≡ frame kind payload.now) }

@@ -3,7 +3,7 @@ ghost use Rattle.std.specs.Prelude.{true, ◌≡◌, ◌<◌, ◌≤◌};
 
 use cut_book::Shelf;
 use cut_disks::FaultyDisk;
-use cut_hall::{Gate, Hall, Pass, Tally};
+use cut_hall::{CallLedger, Gate, Hall, Pass};
 use cut_plan::Plan;
 use cut_session::{Kind, Reader, SessionEnd, session};
 use cut_trial::Piece;
@@ -18,7 +18,7 @@ use std::test::Fail;
 /// A hall whose disks may fail.
 type Stormy<M, K> = Hall<FaultyDisk, M, K>;
 
-/// A wire over these bytes, which come so many at once, on which no call fails.
+/// A wire over these bytes, of which `per` come at once, on which no call fails.
 pub(crate) fn wire_over(alloc: Global, input: Vec<u8>, per: usize) -> FaultyWire {
     FaultyWire::new(alloc, input, per, usize::MAX, 0)
 }
@@ -39,15 +39,23 @@ pub(crate) const EMPTY: House = House {
     pieces: 0,
 };
 
-/// A gate that ends the work in its hall when so many workers have passed.
+/// A hall for a session, the requests whose studies are submitted to it before, and where their disks come from.
 #[derive(Drop)]
-struct LastGate<'h, M: Tally, K: Tally> {
+struct Scene<'a, S> {
+    house: House,
+    before: &'a [u8],
+    shelf: &'a S,
+}
+
+/// A gate that ends the work in its hall once the last worker has passed.
+#[derive(Drop)]
+struct LastGate<'h, M: CallLedger, K: CallLedger> {
     hall: &'h Stormy<M, K>,
     passed: AtomicU64,
     last: u64,
 }
 
-impl<M: Tally, K: Tally> Gate for LastGate<'_, M, K> {
+impl<M: CallLedger, K: CallLedger> Gate for LastGate<'_, M, K> {
     fn pass<R: Wait>(&self, rt: &R, _piece: Piece) {
         if self.passed.fetch_add(1, Ordering::SeqCst) >= self.last {
             self.hall.stop(rt);
@@ -55,37 +63,42 @@ impl<M: Tally, K: Tally> Gate for LastGate<'_, M, K> {
     }
 }
 
-/// Submits the studies among these requests to a hall, and works on so many pieces of them, if any. Then the hall
-/// is stopped.
+/// Submits the studies that come before the session, and works on some pieces of them, if any. Then the hall is
+/// stopped.
 fn work_through<M, K, S, R>(
     rt: &R,
     alloc: Global,
     hall: &Stormy<M, K>,
     pass: &mut Pass<M>,
-    shelf: &S,
-    requests: &[u8],
-    pieces: u64,
+    scene: &Scene<'_, S>,
 ) -> Result<(), Fail>
 where
-    M: Tally,
-    K: Tally,
+    M: CallLedger,
+    K: CallLedger,
     S: Shelf<FaultyDisk>,
     R: Wait,
     requires own { pass.old.hall ≡ hall.now.id }
-    requires trusted { S.is_true shelf.now ≡ true }
+    requires trusted { S.is_true scene.now.shelf.now ≡ true }
 {
     let mut reader = Reader::requests(alloc);
-    let fed = reader.feed(alloc, requests)?;
+    let fed = reader.feed(alloc, scene.before)?;
     for message in fed.messages.iter() {
         if message.kind == Kind::Submit {
-            submit(rt, alloc, hall, pass, shelf, message.payload.as_slice())?;
+            submit(
+                rt,
+                alloc,
+                hall,
+                pass,
+                scene.shelf,
+                message.payload.as_slice(),
+            )?;
         }
     }
-    if pieces > 0 {
+    if scene.house.pieces > 0 {
         let gate = LastGate {
             hall,
             passed: AtomicU64::new(0),
-            last: pieces - 1,
+            last: scene.house.pieces - 1,
         };
         hall.work(rt, alloc, pass, &gate);
     }
@@ -102,8 +115,8 @@ fn submit<M, K, S, R>(
     text: &[u8],
 ) -> Result<(), Fail>
 where
-    M: Tally,
-    K: Tally,
+    M: CallLedger,
+    K: CallLedger,
     S: Shelf<FaultyDisk>,
     R: Wait,
     requires own { pass.old.hall ≡ hall.now.id }
@@ -116,30 +129,29 @@ where
     Ok(())
 }
 
-/// A session over this wire, in a hall to which the studies of some requests were submitted before.
+/// A session over this wire, in a new hall.
 fn served<M, K, S, R>(
     rt: &R,
     alloc: Global,
-    house: House,
-    before: &[u8],
-    shelf: &S,
+    scene: &Scene<'_, S>,
     wire: &mut FaultyWire,
     made: Blank,
     kept: Blank,
 ) -> Result<SessionEnd, Fail>
 where
-    M: Tally,
-    K: Tally,
+    M: CallLedger,
+    K: CallLedger,
     S: Shelf<FaultyDisk>,
     R: Wait,
-    requires slots { (0 < house.slots) × (house.slots ≤ 64) }
-    requires size { 1 ≤ house.size }
-    requires trusted { S.is_true shelf.now ≡ true }
+    requires slots { (0 < scene.now.house.slots) × (scene.now.house.slots ≤ 64) }
+    requires size { 1 ≤ scene.now.house.size }
+    requires trusted { S.is_true scene.now.shelf.now ≡ true }
     requires made { (made.name ≡ M.name) × (made.parts ≡ M.parts) × (M.all ≡ M.parts) × (M.all ≡ 2) }
     requires kept { (kept.name ≡ K.name) × (kept.parts ≡ K.parts)
-        × (K.all ≡ K.parts) × (K.all ≡ house.slots) }
+        × (K.all ≡ K.parts) × (K.all ≡ scene.now.house.slots) }
 {
-    let started = Hall::start(alloc, house.slots, 2, house.size, made, kept);
+    let House { slots, size, .. } = scene.house;
+    let started = Hall::start(alloc, slots, 2, size, made, kept);
     let (hall, mut passes): (Stormy<M, K>, Vec<Pass<M>>) = started?;
     let Some(mut first) = passes.pop() else {
         unreachable!()
@@ -147,8 +159,8 @@ where
     let Some(mut second) = passes.pop() else {
         unreachable!()
     };
-    work_through(rt, alloc, &hall, &mut first, shelf, before, house.pieces)?;
-    Ok(session(rt, alloc, &hall, &mut second, shelf, wire))
+    work_through(rt, alloc, &hall, &mut first, scene)?;
+    Ok(session(rt, alloc, &hall, &mut second, scene.shelf, wire))
 }
 
 /// How a session ends over this wire, in a hall to which the studies of some requests were submitted before.
@@ -167,6 +179,11 @@ where
     requires size { 1 ≤ house.size }
     requires trusted { S.is_true shelf.now ≡ true }
 {
+    let scene = Scene {
+        house,
+        before,
+        shelf,
+    };
     let kept = Blank::new(u64::from(house.slots));
-    served::<Brand, Brand, S, R>(rt, alloc, house, before, shelf, wire, Blank::new(2), kept)
+    served::<Brand, Brand, S, R>(rt, alloc, &scene, wire, Blank::new(2), kept)
 }

@@ -5,7 +5,7 @@ use cut_session::{EndFault, Kind, Message, Payload, Reader, Side, StreamFault};
 use std::alloc::Global;
 use std::test::Fail;
 
-/// The bytes of words of hexadecimal digits. A word may tell how often its bytes stand: `20*3` is three blanks.
+/// The bytes of words of hexadecimal digits. A word may say how often its bytes stand: `20*3` is three blanks.
 pub(crate) fn from_hex(alloc: Global, words: &str) -> Result<Vec<u8>, Fail> {
     let mut bytes = Vec::new(alloc);
     for word in words.split(' ') {
@@ -92,7 +92,7 @@ fn streams_are_read_however_they_are_cut(rt: HostRuntime) -> Result<(), Fail> {
 }
 
 #[test]
-fn a_fault_is_told_at_its_first_byte(rt: HostRuntime) -> Result<(), Fail> {
+fn a_fault_is_reported_at_its_first_byte(rt: HostRuntime) -> Result<(), Fail> {
     let alloc = rt.alloc();
     let rows: [(&[u8], StreamFault); 3] = [
         (b"X", StreamFault::BadKind),

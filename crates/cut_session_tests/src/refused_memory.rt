@@ -10,7 +10,7 @@ use std::alloc::Global;
 use std::sync::Wait;
 use std::test::Fail;
 
-/// The frame that tells of want of memory, and the count of a study whose piece was lost.
+/// The frame that reports that memory ran out, and the count of a study whose piece was lost.
 const WANT: &[u8] = b"E\0\0\0\x02\0\x20";
 
 const NONE_COUNTED: &[u8] = b"S\0\0\0\x08\0\0\0\0\0\0\0\0";
@@ -20,14 +20,14 @@ const NONE_COUNTED: &[u8] = b"S\0\0\0\x08\0\0\0\0\0\0\0\0";
 enum End {
     /// With the whole table and the count of its two trials.
     Whole,
-    /// For want of memory, which was told, or was that of the wire.
+    /// As memory ran out, which was reported, or was that of the wire.
     Refused,
     /// Otherwise.
     Wrong,
 }
 
-/// Whether these are replies in which want of memory is told: in place of the table, or after its header.
-fn tells_want(taken: &[u8]) -> bool {
+/// Whether these replies report that memory ran out: in place of the table, or after its header.
+fn reports_lack(taken: &[u8]) -> bool {
     let table = taken.strip_prefix(FIRST).unwrap_or(taken);
     match table.strip_prefix(WANT) {
         Some(count) => count == COUNT || count == NONE_COUNTED,
@@ -39,7 +39,7 @@ fn tells_want(taken: &[u8]) -> bool {
 fn end_of(end: SessionEnd, taken: &[u8], replies: &[u8]) -> End {
     match end {
         SessionEnd::Quit if taken == replies => End::Whole,
-        SessionEnd::Quit if tells_want(taken) => End::Refused,
+        SessionEnd::Quit if reports_lack(taken) => End::Refused,
         SessionEnd::Fault(SessionFault::Memory) if taken == WANT => End::Refused,
         SessionEnd::Write(fault)
             if replies.starts_with(taken) && fault.sent == taken.len() as u64 => { End::Refused }
@@ -56,7 +56,7 @@ fn exchanged<R: Wait>(rt: &R, alloc: Global, sent: &[u8], replies: &[u8]) -> Res
 }
 
 #[test]
-fn one_refused_allocation_is_told_by_one_session(rt: HostRuntime) -> Result<(), Fail> {
+fn one_refused_allocation_is_reported_by_one_session(rt: HostRuntime) -> Result<(), Fail> {
     let alloc = rt.alloc();
     let sent = joined(alloc, &[SUBMIT, PLAN, ASK, QUIT])?;
     let replies = joined(alloc, &[FIRST, SECOND, COUNT])?;

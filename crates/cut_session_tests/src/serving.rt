@@ -15,7 +15,7 @@ use std::test::Fail;
 pub(crate) const OTHER: &[u8] =
     br#"{"copies":1,"dead":"silent","f":[0],"faults":"crash","h":[1],"implicit":true,"k":[1],"l":[1],"liars":1,"links":0,"nodes":5,"repeats":1,"seed":"0000000000000000000000000000000000000000000000000000000000000000","version":1}"#;
 
-/// What is sent in front of either plan, then the question for the count of slot 0, and that nothing follows.
+/// What is sent before either plan, then the question for the count of slot 0, and that nothing follows.
 pub(crate) const SUBMIT: &[u8] = b"R\0\0\0\xdd";
 
 pub(crate) const ASK: &[u8] = b"S\0\0\0\x04\0\0\0\0";
@@ -81,7 +81,7 @@ fn is_right<R: Wait>(rt: &R, alloc: Global, exchange: &Exchange, row: Row) -> Re
 }
 
 /// The word for an end, with its number.
-pub(crate) fn told(alloc: Global, end: SessionEnd) -> Result<String, AllocError> {
+pub(crate) fn end_text(alloc: Global, end: SessionEnd) -> Result<String, AllocError> {
     match end {
         SessionEnd::Quit => String::from_str(alloc, "Quit"),
         SessionEnd::EndOfInput => String::from_str(alloc, "EndOfInput"),
@@ -102,7 +102,7 @@ fn is_served<R: Wait>(rt: &R, alloc: Global, session: Session, per: usize) -> Re
     let before = sent.as_slice();
     let end = serve(rt, alloc, house, before, &NoShelf, &mut wire)?;
     let replies = from_hex(alloc, session.replies.bytes)?;
-    Ok(told(alloc, end)?.as_str() == session.end && wire.taken() == replies.as_slice())
+    Ok(end_text(alloc, end)?.as_str() == session.end && wire.taken() == replies.as_slice())
 }
 
 #[test]
@@ -143,7 +143,7 @@ const UNREAD: &[u8] = b"E\0\0\0\x02\0\x2b";
 
 const CUT: &[u8] = b"E\0\0\0\x02\0\x2a";
 
-/// How the session of the exchange goes whose wire has room for so many bytes.
+/// How the session of the exchange goes whose wire has room for this many bytes.
 fn in_room(room: usize) -> Row {
     Row {
         room,

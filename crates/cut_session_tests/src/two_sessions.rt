@@ -14,7 +14,7 @@ use std::thread::Threads;
 /// The replies to the other study below the header: its line, in which one liar is believed, and the end.
 const OTHER_SECOND: &[u8] = b"T\0\0\0\x1a1,1,1,0,1,5,0,0,5,5,1,0,0\nZ\0\0\0\0";
 
-/// How two sessions end, of which the first asks for the study of two trials over a wire with room for so many bytes,
+/// How two sessions end, of which the first asks for the study of two trials over a wire with room for this many bytes,
 /// and the second for the other study.
 fn serve_both<R>(rt: &R, alloc: Global, rooms: (usize, usize)) -> Result<Served, Fail>
 where

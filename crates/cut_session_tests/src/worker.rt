@@ -1,14 +1,15 @@
-//! Sessions beside a worker: each is served in a thread of its own, and the worker works in another on what they submit.
+//! Sessions beside a worker: each is served in a thread of its own, and the worker works in another on what they
+//! submit.
 ghost use Rattle.std.specs.Prelude.{◌≡◌, All};
 ghost use Rattle.atomic_table.specs.Seated.{TableId};
 
 use crate::asking::PLAN;
 use crate::readings::from_hex;
-use crate::serving::{SUBMIT, told};
+use crate::serving::{SUBMIT, end_text};
 use crate::vectors::{Session, sessions};
 use cut_book::NoShelf;
 use cut_disks::MemoryDisk;
-use cut_hall::{Hall, OpenGate, Pass, Report, Tally};
+use cut_hall::{CallLedger, Hall, OpenGate, Pass, Report};
 use cut_session::{SessionEnd, session};
 use cut_wires::FaultyWire;
 use std::alloc::Global;
@@ -40,7 +41,7 @@ struct Shared {
 type OpenHall<M, K> = Hall<MemoryDisk, M, K>;
 
 /// A hall as the threads of a worker and of two clients share it.
-trait Workplace<M: Tally> {
+trait SessionHall<M: CallLedger> {
     /// Which hall it is.
     ghost id_of: { Self → TableId };
 
@@ -51,7 +52,7 @@ trait Workplace<M: Tally> {
         ensures { pass.new.hall ≡ id_of self.now };
 }
 
-impl<M: Tally, K: Tally> Workplace<M> for OpenHall<M, K> {
+impl<M: CallLedger, K: CallLedger> SessionHall<M> for OpenHall<M, K> {
     ghost id_of = { λ h. h.id };
 
     fn take_part<R: Wait>(&self, rt: &R, alloc: Global, shared: &Shared, pass: &mut Pass<M>) {
@@ -66,7 +67,7 @@ impl<M: Tally, K: Tally> Workplace<M> for OpenHall<M, K> {
 }
 
 /// Serves the next of the clients that wait, and notes how its session ended.
-fn serve_next<M: Tally, K: Tally, R: Wait>(
+fn serve_next<M: CallLedger, K: CallLedger, R: Wait>(
     rt: &R,
     alloc: Global,
     hall: &OpenHall<M, K>,
@@ -92,8 +93,8 @@ fn take_part_all<W, M, R>(
     passes: &mut Vec<Pass<M>>,
 )
 where
-    W: Workplace<M> + Sync,
-    M: Tally + Send + Sync,
+    W: SessionHall<M> + Sync,
+    M: CallLedger + Send + Sync,
     R: Threads + Wait + Sync,
     requires { All (λ p. p.hall ≡ W.id_of hall.now) passes.old.items }
     ensures { All (λ p. p.hall ≡ W.id_of hall.now) passes.new.items }
@@ -125,8 +126,8 @@ fn served_in<M, K, R>(
     kept: Blank,
 ) -> Result<Report, Fail>
 where
-    M: Tally + Send + Sync,
-    K: Tally + Send + Sync,
+    M: CallLedger + Send + Sync,
+    K: CallLedger + Send + Sync,
     R: Threads + Wait + Sync,
     requires made { (made.name ≡ M.name) × (made.parts ≡ M.parts) × (M.all ≡ M.parts) × (M.all ≡ 3) }
     requires kept { (kept.name ≡ K.name) × (kept.parts ≡ K.parts) × (K.all ≡ K.parts) × (K.all ≡ 2) }
@@ -178,7 +179,7 @@ pub(crate) fn serve_two<R: Threads + Wait + Sync>(
     Ok(Served { clients, report })
 }
 
-/// Serves a client whose requests are these, so many bytes at once, and one that leaves at once.
+/// Serves a client whose requests are these, `per` bytes at once, and one that leaves at once.
 fn serve_one<R: Threads + Wait + Sync>(
     rt: &R,
     alloc: Global,
@@ -199,7 +200,7 @@ fn is_whole(report: &Report, trials: &[u64]) -> bool {
         })
 }
 
-/// Whether a session goes beside a worker as it was worked out, where so many bytes come at once.
+/// Whether a session goes beside a worker as it was worked out, where this many bytes come at once.
 fn is_served<R: Threads + Wait + Sync>(
     rt: &R,
     alloc: Global,
@@ -212,7 +213,7 @@ fn is_served<R: Threads + Wait + Sync>(
         return Ok(false);
     };
     Ok(
-        told(alloc, end)?.as_str() == session.end
+        end_text(alloc, end)?.as_str() == session.end
             && taken == replies.as_slice()
             && is_whole(&served.report, &session.trials),
     )
@@ -233,7 +234,7 @@ fn a_worker_makes_the_lines_that_a_session_waits_for(rt: HostRuntime) -> Result<
     Ok(())
 }
 
-/// How many calls the history of a study of two trials has, whose table is asked for so many times.
+/// How many calls the history of a study of two trials has, whose table is asked for this many times.
 fn calls_for<R: Threads + Wait + Sync>(
     rt: &R,
     alloc: Global,

@@ -8,15 +8,16 @@ use Rattle.cut_plan.specs.Cells.{cells_of}
 use Rattle.cut_ledger.specs.declared.slip.Slip.{Slip}
 use Rattle.cut_ledger.specs.Machine.{table_over}
 use Rattle.cut_ledger.specs.Slips.{AreGood}
-use Rattle.cut_wires.specs.Log.{Log, wrote}
+use Rattle.cut_wires.specs.Log.{WireLog, wrote}
 use Rattle.cut_wires.specs.declared.rows.RowsFault.{RowsFault}
 use Rattle.cut_wires.specs.declared.rows.RowsFault.TheVariants as rows
 use Rattle.cut_hall.specs.declared.line_fault.LineFault.{LineFault}
 use Rattle.cut_study.specs.declared.run_fault.RunFault.{RunFault}
-use Rattle.cut_study.specs.declared.run_fault.RunFault.TheVariants.{BadSlip, Checkpoint, Write, WorkMemory, AuditMismatch}
-use Rattle.cut_study.specs.declared.study.Done.{Done}
+use Rattle.cut_study.specs.declared.run_fault.RunFault.TheVariants.{BadSlip, Checkpoint, Write, WorkMemory}
+use Rattle.cut_study.specs.declared.run_fault.RunFault.TheVariants.{AuditMismatch}
+use Rattle.cut_study.specs.declared.study_run.Done.{Done}
 use Rattle.cut_study.specs.Conclusion.{NoWriteFailed, Concludes}
-use Rattle.cut_study.specs.Emission.{Emits, WrotePrefix}
+use Rattle.cut_study.specs.Emission.{EmitsStudy, WrotePrefix}
 use Rattle.cut_hall.specs.Pass.{Holding}
 use Rattle.cut_hall.specs.Report.{SlotEnd, calls_in_all, made_in_all}
 use Rattle.cut_study.specs.Running.{HasEnded, Takes}
@@ -26,8 +27,8 @@ pub last_of_all : (passes : List Holding) (last : Holding) → last.made ≤ mad
 last_of_all passes last = omega (arith, sum_by-append (λ (p : Holding). p.made) passes (last ∷ []))
 
 -- where no write failed, some first bytes were written
-prefix_by : (whole : List ℕ) (sent : Result ℕ (RowsFault LineFault)) (old new : Log) → NoWriteFailed sent
-    → Emits whole sent old new → WrotePrefix whole old new
+prefix_by : (whole : List ℕ) (sent : Result ℕ (RowsFault LineFault)) (old new : WireLog) → NoWriteFailed sent
+    → EmitsStudy whole sent old new → WrotePrefix whole old new
 prefix_by whole (Ok n) old new fine emits =
     (length whole, emits.1 ∙ ap (λ (xs : List ℕ). wrote old xs) (sym (take_all (length whole) whole (omega arith))))
 prefix_by whole (Err (rows.Write f)) old new fine emits = absurd fine
@@ -35,14 +36,15 @@ prefix_by whole (Err (rows.Row fault)) old new fine emits = emits
 
 module _ (v : Values) (slips : List Slip) (has_journal : Bool) (sent : Result ℕ (RowsFault LineFault))
     (closed : Result (List SlotEnd) RunFault) where
-  pub ended : (result : Result Done RunFault) (old new : Log) → AreGood v slips → Emits (table_over v slips) sent old new
+  pub ended : (result : Result Done RunFault) (old new : WireLog) → AreGood v slips
+      → EmitsStudy (table_over v slips) sent old new
       → IfOk closed (λ report. length report ≡ 1)
       → OnOk sent (IfOk closed (λ report. length (cells_of v) ≤ calls_in_all report))
       → Concludes sent closed has_journal result → HasEnded v slips has_journal result
   ended (Ok d) old new good emits one calls is =
       let all : IfOk closed (λ report. length (cells_of v) ≤ calls_in_all report) = rw is.0 at calls in (
         good,
-        (subst (λ (s : Result ℕ (RowsFault LineFault)). Emits (table_over v slips) s old new) is.0 emits).0,
+        (subst (λ (s : Result ℕ (RowsFault LineFault)). EmitsStudy (table_over v slips) s old new) is.0 emits).0,
         subst (λ (c : Result (List SlotEnd) RunFault). IfOk c (λ report. length report ≡ 1)) is.1 one,
         subst (λ (c : Result (List SlotEnd) RunFault). IfOk c (λ report. length (cells_of v) ≤ calls_in_all report))
             is.1 all,
@@ -50,18 +52,18 @@ module _ (v : Values) (slips : List Slip) (has_journal : Bool) (sent : Result �
   ended (Err (BadSlip n)) old new good emits one calls is = absurd is
   ended (Err Checkpoint) old new good emits one calls is = (good, is.1)
   ended (Err (Write fault)) old new good emits one calls is =
-      (good, (subst (λ (s : Result ℕ (RowsFault LineFault)). Emits (table_over v slips) s old new) is emits).0)
+      (good, (subst (λ (s : Result ℕ (RowsFault LineFault)). EmitsStudy (table_over v slips) s old new) is emits).0)
   ended (Err WorkMemory) old new good emits one calls is = tt
   ended (Err AuditMismatch) old new good emits one calls is = good
 
-  pub takes : (result : Result Done RunFault) (old new : Log) → AreGood v slips
-      → Emits (table_over v slips) sent old new → Concludes sent closed has_journal result
+  pub takes : (result : Result Done RunFault) (old new : WireLog) → AreGood v slips
+      → EmitsStudy (table_over v slips) sent old new → Concludes sent closed has_journal result
       → Takes v slips result old new
   takes (Ok d) old new good emits is =
-      (subst (λ (s : Result ℕ (RowsFault LineFault)). Emits (table_over v slips) s old new) is.0 emits).1
+      (subst (λ (s : Result ℕ (RowsFault LineFault)). EmitsStudy (table_over v slips) s old new) is.0 emits).1
   takes (Err (BadSlip n)) old new good emits is = absurd is
   takes (Err Checkpoint) old new good emits is = prefix_by (table_over v slips) sent old new is.0 emits
   takes (Err (Write fault)) old new good emits is =
-      (subst (λ (s : Result ℕ (RowsFault LineFault)). Emits (table_over v slips) s old new) is emits).1
+      (subst (λ (s : Result ℕ (RowsFault LineFault)). EmitsStudy (table_over v slips) s old new) is emits).1
   takes (Err WorkMemory) old new good emits is = inr (good, prefix_by (table_over v slips) sent old new is emits)
   takes (Err AuditMismatch) old new good emits is = prefix_by (table_over v slips) sent old new is emits

@@ -1,6 +1,7 @@
 -- The table over slips, as it is written line by line.
 use Rattle.std.proofs.Common.{◌≡◌, ◌∙◌, ◌<◌, ◌≤◌, ◌+◌, ◌-◌, ◌*◌, ◌^◌, ◌++◌, min, ℕ, true, Result, Ok, Err}
-use Rattle.std.proofs.Common.{List, length, take, ap, sym, subst, zero-add, arith, append_assoc, length-append, length-take-le}
+use Rattle.std.proofs.Common.{List, length, take, ap, sym, subst, zero-add, arith, append_assoc, length-append}
+use Rattle.std.proofs.Common.{length-take-le}
 use Rattle.std.specs.Bool.{⊤}
 use Rattle.std.specs.Prelude.{OnOk}
 use Rattle.std.specs.Borrow.{GName}
@@ -10,7 +11,7 @@ use Rattle.std.proofs.Math.Seq.{take-append_seam}
 use Rattle.std.proofs.lemmas.List.{take-append-le, take_all}
 use Rattle.std.proofs.lemmas.List.Concat.{flat_map-append}
 use Rattle.std.proofs.lemmas.List.FromFn.{get_or-map-range_with_len}
-use Rattle.cut_lists.proofs.Fronts.{whole_front, flat_map_front}
+use Rattle.cut_lists.proofs.Prefixes.{whole_prefix, flat_map_prefix}
 use Rattle.cut_lists.proofs.Intervals.{list_all_passing}
 use Rattle.cut_lists.proofs.Ranges.{ranges-join}
 use Rattle.cut_plan.specs.Values.{Values}
@@ -22,11 +23,11 @@ use Rattle.cut_ledger.specs.Contents.{Contents, has, filled, cell_done, cell_sum
 use Rattle.cut_ledger.specs.Machine.{table_over}
 use Rattle.cut_wires.specs.declared.rows.RowsFault.{RowsFault}
 use Rattle.cut_wires.specs.declared.rows.RowsFault.TheVariants.{Row, Write}
-use Rattle.cut_wires.specs.Log.{Log, wrote, write_failed}
+use Rattle.cut_wires.specs.Log.{WireLog, wrote, write_failed}
 use Rattle.cut_wires.specs.Rows.{SendsRows, rows_to}
 use Rattle.cut_wires.specs.Sending.{Sending}
 use Rattle.cut_hall.specs.declared.line_fault.LineFault.{LineFault}
-use Rattle.cut_study.specs.Emission.{Emits, Worked, emitted, lines_of}
+use Rattle.cut_study.specs.Emission.{EmitsStudy, Worked, emitted, lines_of}
 use Rattle.cut_hall.specs.Lines.{full_line}
 use Rattle.cut_hall.specs.Pass.{Holding}
 use Rattle.cut_hall.proofs.FullLines.{done_line}
@@ -58,10 +59,11 @@ pub table_ends : (v : Values) (base : List Slip) → table_over v base ≡ lines
 table_ends v base =
     let l : Contents = filled v base in
     let n : ℕ = length (cells_of v) in
-    ap (λ ys. header (version_of v.failing) ++ ys) (flat_map_front (λ c. line_with v c (cell_sum l c)) (full_line v base)
+    ap (λ ys. header (version_of v.failing) ++ ys)
+    (flat_map_prefix (λ c. line_with v c (cell_sum l c)) (full_line v base)
     (cell_done l) (range_with_len 0 n) (λ c done. done_line l c done))
     ∙ ap (λ cs. header (version_of v.failing) ++ flat_map (full_line v base) cs)
-    (whole_front (cell_done l) (range_with_len 0 n)
+    (whole_prefix (cell_done l) (range_with_len 0 n)
     (list_all_passing (cell_done l) 0 n (λ c from to. all_done v base c (omega (arith, to)))))
 
 table_splits : (v : Values) (base : List Slip) (n : ℕ) → n ≤ length (cells_of v)
@@ -118,9 +120,9 @@ sent_first xs n rows k few many short low = omega (arith, few, many, short, low,
 
 -- what the wire took of the table, by what was sent of its lines over a line that had sent nothing
 emits : (v : Values) (base : List Slip) (name : GName) (pass : Holding) (new_name : GName) (new_pass : Holding)
-    (wire : GName) (log : Log) (result : Result ⊤ (RowsFault LineFault)) (new : Sending)
+    (wire : GName) (log : WireLog) (result : Result ⊤ (RowsFault LineFault)) (new : Sending)
     → SendsLines v base name pass new_name new_pass result (record { wire = wire; log = log; sent = 0 }) new
-    → Emits (table_over v base) (emitted result new.sent) log new.log
+    → EmitsStudy (table_over v base) (emitted result new.sent) log new.log
 emits v base name pass new_name new_pass wire log (Ok done) new s =
     let xs : List ℕ = lines_to v base s.count in
     let whole : table_over v base ≡ xs = table_ends v base ∙ ap (λ n. lines_to v base n) (sym s.ends.0) in (
@@ -160,15 +162,16 @@ emits v base name pass new_name new_pass wire log (Err (Row fault)) new s =
     )
 
 -- and what its wire has taken once the line is given up
-pub emits_at : {X : Type 0} (log : X → Log) (v : Values) (base : List Slip) (name : GName) (pass : Holding)
+pub emits_at : {X : Type 0} (log : X → WireLog) (v : Values) (base : List Slip) (name : GName) (pass : Holding)
     (new_name : GName) (new_pass : Holding) (result : Result ⊤ (RowsFault LineFault)) (first last after : X)
     (wire other : GName) (sent : ℕ) (old : Sending) → old ≡ record { wire = wire; log = log first; sent = 0 }
     → SendsLines v base name pass new_name new_pass result old (record { wire = other; log = log last; sent = sent })
-    → (wire ≡ other → after ≡ last) → Emits (table_over v base) (emitted result sent) (log first) (log after)
+    → (wire ≡ other → after ≡ last) → EmitsStudy (table_over v base) (emitted result sent) (log first) (log after)
 emits_at log v base name pass new_name new_pass result first last after wire other sent old fresh sends leaves =
     let new : Sending = record { wire = other; log = log last; sent = sent } in
     let same : other ≡ wire =
     same_wire v base name pass new_name new_pass result old new sends ∙ ap (λ (s : Sending). s.wire) fresh in
-    subst (λ (x : Log). Emits (table_over v base) (emitted result sent) (log first) x) (sym (ap log (leaves (sym same))))
+    subst (λ (x : WireLog). EmitsStudy (table_over v base) (emitted result sent) (log first) x)
+    (sym (ap log (leaves (sym same))))
     (emits v base name pass new_name new_pass wire (log first) result new
     (subst (λ (s : Sending). SendsLines v base name pass new_name new_pass result s new) fresh sends))

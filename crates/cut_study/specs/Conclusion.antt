@@ -7,8 +7,9 @@ use Rattle.cut_wires.specs.declared.rows.RowsFault.{RowsFault}
 use Rattle.cut_wires.specs.declared.rows.RowsFault.TheVariants as rows
 use Rattle.cut_hall.specs.declared.line_fault.LineFault.{LineFault}
 use Rattle.cut_study.specs.declared.run_fault.RunFault.{RunFault}
-use Rattle.cut_study.specs.declared.run_fault.RunFault.TheVariants.{BadSlip, Checkpoint, Write, WorkMemory, AuditMismatch}
-use Rattle.cut_study.specs.declared.study.Done.{Done}
+use Rattle.cut_study.specs.declared.run_fault.RunFault.TheVariants.{BadSlip, Checkpoint, Write, WorkMemory}
+use Rattle.cut_study.specs.declared.run_fault.RunFault.TheVariants.{AuditMismatch}
+use Rattle.cut_study.specs.declared.study_run.Done.{Done}
 use Rattle.cut_hall.specs.Report.{SlotEnd}
 
 -- why a run did not begin: where memory ran out, which says nothing of the slips, or for the first bad slip

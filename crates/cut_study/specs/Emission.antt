@@ -9,23 +9,23 @@ use Rattle.cut_lines.specs.Lines.{header}
 use Rattle.cut_ledger.specs.declared.slip.Slip.{Slip}
 use Rattle.cut_wires.specs.declared.rows.RowsFault.{RowsFault}
 use Rattle.cut_wires.specs.declared.rows.RowsFault.TheVariants.{Write, Row}
-use Rattle.cut_wires.specs.Log.{Log, wrote, write_failed}
+use Rattle.cut_wires.specs.Log.{WireLog, wrote, write_failed}
 use Rattle.cut_wires.specs.Rows.{Table}
 use Rattle.cut_hall.specs.declared.line_fault.LineFault.{LineFault}
 use Rattle.cut_hall.specs.Lines.{full_line}
 use Rattle.cut_hall.specs.Pass.{Holding}
 
 -- some first bytes of a whole were written
-abbrev pub WrotePrefix : List ℕ → Log → Log → Type 0
+abbrev pub WrotePrefix : List ℕ → WireLog → WireLog → Type 0
 WrotePrefix whole old new = (n : ℕ) × (new ≡ wrote old (take n whole))
 
 -- how many bytes of a whole are reported, and what the wire took: all of it; exactly as many of its first bytes and
 -- not all where a write failed; and some first bytes where a line did not come
-abbrev pub Emits : List ℕ → Result ℕ (RowsFault LineFault) → Log → Log → Type 0
-Emits whole (Ok sent) old new = (sent ≡ length whole) × (new ≡ wrote old whole)
-Emits whole (Err (Write fault)) old new =
+abbrev pub EmitsStudy : List ℕ → Result ℕ (RowsFault LineFault) → WireLog → WireLog → Type 0
+EmitsStudy whole (Ok sent) old new = (sent ≡ length whole) × (new ≡ wrote old whole)
+EmitsStudy whole (Err (Write fault)) old new =
     (fault.sent < length whole) × (new ≡ write_failed (wrote old (take fault.sent whole)))
-Emits whole (Err (Row fault)) old new = WrotePrefix whole old new
+EmitsStudy whole (Err (Row fault)) old new = WrotePrefix whole old new
 
 -- how the writing of a table ended, by how the sending of its lines did, and by how many bytes were sent then
 abbrev pub emitted : {E : Type 0} → Result ⊤ E → ℕ → Result ℕ E
@@ -43,7 +43,7 @@ lines_of v base = record {
   longest = 294;
 }
 
--- the same pass has made at least so many calls more
+-- the same pass has made at least this many calls more
 pub record Worked (old_name : GName) (old : Holding) (calls : ℕ) (new_name : GName) (new : Holding) : Type 0 where
   pub same : new_name ≡ old_name
   pub own : new.hall ≡ old.hall

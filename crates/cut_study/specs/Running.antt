@@ -1,16 +1,18 @@
 -- How a study ends that is run from its beginning, or from its slips, to its end.
-use Rattle.std.specs.Prelude.{◌≡◌, ◌⊎◌, ◌<◌, ◌≤◌, Bool, IsTrue, List, [], length, take, Option, Some, None, Vec, Result, Ok, Err, ⊤}
+use Rattle.std.specs.Prelude.{◌≡◌, ◌⊎◌, ◌<◌, ◌≤◌, Bool, IsTrue, List, [], length, take, Option, Some, None, Vec, Result}
+use Rattle.std.specs.Prelude.{Ok, Err, ⊤}
 use Rattle.cut_plan.specs.Values.{Values}
 use Rattle.cut_plan.specs.Cells.{cells_of}
 use Rattle.cut_ledger.specs.declared.slip.Slip.{Slip}
 use Rattle.cut_ledger.specs.Machine.{table_over}
 use Rattle.cut_ledger.specs.Slips.{AreGood, IsFirstBad}
-use Rattle.cut_wires.specs.Log.{Log, wrote, write_failed}
+use Rattle.cut_wires.specs.Log.{WireLog, wrote, write_failed}
 use Rattle.cut_study.specs.Emission.{WrotePrefix}
 use Rattle.cut_hall.specs.Report.{calls_in_all}
 use Rattle.cut_study.specs.declared.run_fault.RunFault.{RunFault}
-use Rattle.cut_study.specs.declared.run_fault.RunFault.TheVariants.{BadSlip, Checkpoint, Write, WorkMemory, AuditMismatch}
-use Rattle.cut_study.specs.declared.study.Done.{Done}
+use Rattle.cut_study.specs.declared.run_fault.RunFault.TheVariants.{BadSlip, Checkpoint, Write, WorkMemory}
+use Rattle.cut_study.specs.declared.run_fault.RunFault.TheVariants.{AuditMismatch}
+use Rattle.cut_study.specs.declared.study_run.Done.{Done}
 
 -- the slips with which a study begins: those of its journal, or none
 abbrev pub slips_of : {J A : Type 0} → Option (J × Vec Slip A) → List Slip
@@ -32,7 +34,7 @@ HasEnded v slips has_journal (Err AuditMismatch) = AreGood v slips
 
 -- what the wire took then, and whether a write failed: the table over the slips at Ok, exactly as many of its first
 -- bytes as are reported where a write failed, nothing where a slip is bad, and else some first bytes of it
-abbrev pub Takes : Values → List Slip → Result Done RunFault → Log → Log → Type 0
+abbrev pub Takes : Values → List Slip → Result Done RunFault → WireLog → WireLog → Type 0
 Takes v slips (Ok d) old new = new ≡ wrote old (table_over v slips)
 Takes v slips (Err (BadSlip number)) old new = new ≡ old
 Takes v slips (Err (Write fault)) old new = new ≡ write_failed (wrote old (take fault.sent (table_over v slips)))

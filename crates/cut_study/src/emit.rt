@@ -1,11 +1,11 @@
 ghost use Rattle.std.specs.Prelude.{◌≡◌, ◌+◌, ◌<◌, ◌≤◌, length, OnOk};
 ghost use Rattle.cut_plan.specs.Cells.{cells_of};
 ghost use Rattle.cut_ledger.specs.Machine.{table_over};
-ghost use Rattle.cut_study.specs.Emission.{Emits, emitted};
+ghost use Rattle.cut_study.specs.Emission.{EmitsStudy, emitted};
 
 use cut_book::Opened;
 use cut_disks::Disk;
-use cut_hall::{Gate, Hall, LineFault, Pass, Tally};
+use cut_hall::{CallLedger, Gate, Hall, LineFault, Pass, StudyCell};
 use cut_lines::header;
 use cut_wires::{Line, Plain, Rows, RowsFault, Wire, send_rows};
 use std::alloc::Global;
@@ -17,7 +17,7 @@ pub(crate) type EmitFault = RowsFault<LineFault>;
 /// The lines of an opened study, each as soon as it comes. While one does not, this thread works on the study's
 /// pieces too. Each line is one call that the pass made.
 #[derive(Drop)]
-pub(crate) struct StudyRows<'a, D: Disk, M: Tally, K: Tally, G, R> {
+pub(crate) struct StudyRows<'a, D: Disk, M: CallLedger, K: CallLedger, G, R> {
     pub(crate) rt: &'a R,
     pub(crate) alloc: Global,
     pub(crate) hall: &'a Hall<D, M, K>,
@@ -31,8 +31,8 @@ pub(crate) struct StudyRows<'a, D: Disk, M: Tally, K: Tally, G, R> {
 impl<D, M, K, G, R> Rows for StudyRows<'_, D, M, K, G, R>
 where
     D: Disk + Drop,
-    M: Tally,
-    K: Tally,
+    M: CallLedger,
+    K: CallLedger,
     G: Gate,
     R: Wait,
 {
@@ -59,14 +59,11 @@ where
 
     fn row(&mut self, place: u32) -> Result<Vec<u8>, LineFault> {
         let (hall, opened) = (self.hall, self.opened);
-        hall.work_on_cell(
-            self.rt,
-            self.alloc,
-            self.pass,
-            self.gate,
-            opened.study,
-            place,
-        );
+        let wanted = StudyCell {
+            study: opened.study,
+            cell: place,
+        };
+        hall.work_on_cell(self.rt, self.alloc, self.pass, self.gate, wanted);
         hall.next_row(self.rt, self.alloc, self.pass, opened, place)
     }
 
@@ -83,12 +80,12 @@ pub(crate) fn emit<D, M, K, W, G, R>(
 ) -> Result<u64, EmitFault>
 where
     D: Disk + Drop,
-    M: Tally,
-    K: Tally,
+    M: CallLedger,
+    K: CallLedger,
     W: Wire,
     G: Gate,
     R: Wait,
-    ensures emits { Emits (table_over rows.old.opened.now.plan rows.old.opened.now.base) result
+    ensures emits { EmitsStudy (table_over rows.old.opened.now.plan rows.old.opened.now.base) result
         (W.log wire.old) (W.log wire.new) }
     ensures pass { rows.new.pass.ghost_name ≡ rows.old.pass.ghost_name }
     ensures own { rows.new.pass.now.hall ≡ rows.old.pass.now.hall }

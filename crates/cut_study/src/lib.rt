@@ -7,7 +7,7 @@
 mod emit;
 mod private_hall;
 mod run_fault;
-mod study;
+mod study_run;
 
 pub use run_fault::RunFault;
-pub use study::{Done, StudyRun};
+pub use study_run::{Done, StudyRun};

@@ -5,7 +5,7 @@ ghost use Rattle.cut_plan.specs.Cells.{cells_of};
 ghost use Rattle.cut_ledger.specs.Machine.{table_over};
 ghost use Rattle.cut_ledger.specs.Slips.{AreGood};
 ghost use Rattle.cut_study.specs.Conclusion.{IsNotEnded};
-ghost use Rattle.cut_study.specs.Emission.{Emits};
+ghost use Rattle.cut_study.specs.Emission.{EmitsStudy};
 ghost use Rattle.cut_hall.specs.Report.{calls_in_all};
 ghost use Rattle.cut_study.specs.Faults.{of_closing};
 ghost use Rattle.cut_book.specs.Book.{IsFresh};
@@ -15,7 +15,7 @@ use crate::RunFault;
 use crate::emit::{EmitFault, StudyRows, emit};
 use cut_book::{Book, Opened};
 use cut_disks::Disk;
-use cut_hall::{Gate, Hall, NotClosed, Pass, Report, Tally};
+use cut_hall::{CallLedger, Gate, Hall, NotClosed, Pass, Report};
 use cut_wires::Wire;
 use std::alloc::{AllocError, Global};
 use std::sync::Wait;
@@ -52,7 +52,7 @@ pub(crate) struct Blanks {
 
 /// A hall whose only slot has a study, with the passes of its workers: one is that of the thread that writes.
 #[derive(Drop)]
-pub(crate) struct PrivateHall<D: Disk, M: Tally, K: Tally> {
+pub(crate) struct PrivateHall<D: Disk, M: CallLedger, K: CallLedger> {
     hall: Hall<D, M, K>,
     pub(crate) opened: Opened,
     others: Vec<Pass<M>>,
@@ -63,9 +63,9 @@ pub(crate) struct PrivateHall<D: Disk, M: Tally, K: Tally> {
     ghost writer_own: { writer.hall ≡ hall.id },
 }
 
-impl<D: Disk + Drop, M: Tally, K: Tally> PrivateHall<D, M, K> {
-    /// The hall of a study that has begun. The blanks are for the two ledgers of calls, of which the first has a part for
-    /// each worker, and the second has one part. Fails only where memory runs out.
+impl<D: Disk + Drop, M: CallLedger, K: CallLedger> PrivateHall<D, M, K> {
+    /// The hall of a study that has begun. The blanks are for the two ledgers of calls, of which the first has a part
+    /// for each worker, and the second has one part. Fails only where memory runs out.
     pub(crate) fn open(
         alloc: Global,
         begun: Begun<D>,
@@ -103,7 +103,7 @@ impl<D: Disk + Drop, M: Tally, K: Tally> PrivateHall<D, M, K> {
     }
 
     /// Lets the other workers work, each in a thread of its own where one can be made, and writes the table in this
-    /// one, which works too while a line is not there. Then closes the hall. Tells how either ended.
+    /// one, which works too while a line is not there. Then closes the hall. Returns how either ended.
     pub(crate) fn run<'a, W, G, R>(
         self,
         rt: &'a R,
@@ -119,7 +119,7 @@ impl<D: Disk + Drop, M: Tally, K: Tally> PrivateHall<D, M, K> {
         G: Gate + Sync,
         R: Threads + Wait + Sync,
         requires ledgers { (M.all ≡ M.parts) × (K.all ≡ K.parts) }
-        ensures emits { Emits (table_over self.opened.plan self.opened.base) result.0
+        ensures emits { EmitsStudy (table_over self.opened.plan self.opened.base) result.0
             (W.log wire.old) (W.log wire.new) }
         ensures one { IfOk result.1 (λ report. length report ≡ 1) }
         ensures calls { OnOk result.0 (IfOk result.1
@@ -150,15 +150,15 @@ fn stream<D, M, K, W, G, R>(
 ) -> Result<u64, EmitFault>
 where
     D: Disk + Drop + Send,
-    M: Tally + Send + Sync,
-    K: Tally + Send + Sync,
+    M: CallLedger + Send + Sync,
+    K: CallLedger + Send + Sync,
     W: Wire,
     G: Gate + Sync,
     R: Threads + Wait + Sync,
     requires slot { opened.now.study < hall.now.slots }
     requires others { All (λ p. p.hall ≡ hall.now.id) others.old.items }
     requires writer { writer.old.hall ≡ hall.now.id }
-    ensures emits { Emits (table_over opened.now.plan opened.now.base) result
+    ensures emits { EmitsStudy (table_over opened.now.plan opened.now.base) result
         (W.log wire.old) (W.log wire.new) }
     ensures others { All (λ p. p.hall ≡ hall.now.id) others.new.items }
     ensures writer { writer.new.hall ≡ hall.now.id }
@@ -168,7 +168,7 @@ where
     let mut write = || -> Result<u64, EmitFault>
         requires own { writer.now.hall ≡ hall.now.id }
         requires slot { opened.now.study < hall.now.slots }
-        ensures emits { Emits (table_over opened.entry.now.plan opened.entry.now.base) result
+        ensures emits { EmitsStudy (table_over opened.entry.now.plan opened.entry.now.base) result
             (W.log wire.entry.now) (W.log wire.exit.now) }
         ensures own { writer.exit.now.hall ≡ hall.entry.now.id }
         ensures made { OnOk result (length (cells_of opened.entry.now.plan) ≤ writer.exit.now.made) }
@@ -189,7 +189,7 @@ where
 }
 
 /// A hall as the threads of workers share it.
-trait Workplace<M: Tally> {
+trait Workplace<M: CallLedger> {
     /// Which hall it is.
     ghost id_of: { Self → TableId };
 
@@ -203,7 +203,7 @@ trait Workplace<M: Tally> {
         ensures { pass.new.hall ≡ pass.old.hall };
 }
 
-impl<D: Disk + Drop, M: Tally, K: Tally> Workplace<M> for Hall<D, M, K> {
+impl<D: Disk + Drop, M: CallLedger, K: CallLedger> Workplace<M> for Hall<D, M, K> {
     ghost id_of = { λ h. h.id };
 
     ghost has_slot = { λ h. 0 < h.slots };
@@ -231,7 +231,7 @@ fn work_beside<S, M, G, R, F>(
 ) -> Result<u64, EmitFault>
 where
     S: Workplace<M> + Sync,
-    M: Tally + Send + Sync,
+    M: CallLedger + Send + Sync,
     G: Gate + Sync,
     R: Threads + Wait + Sync,
     F: FnMut() -> Result<u64, EmitFault>,
@@ -254,7 +254,7 @@ where
 fn work_off_all<S, M, G, R>(rt: &R, alloc: Global, hall: &S, gate: &G, passes: &mut Vec<Pass<M>>)
 where
     S: Workplace<M> + Sync,
-    M: Tally + Send + Sync,
+    M: CallLedger + Send + Sync,
     G: Gate + Sync,
     R: Threads + Wait + Sync,
     requires slot { S.has_slot hall.now }
@@ -278,8 +278,8 @@ where
     }
 }
 
-/// Closes a hall with the passes of the other workers and that of the thread that writes. Where passes are missing, it was
-/// for want of memory.
+/// Closes a hall with the passes of the other workers and that of the thread that writes. Where passes are missing, it
+/// was where memory runs out.
 fn closed<D, M, K>(
     alloc: Global,
     hall: Hall<D, M, K>,
@@ -288,8 +288,8 @@ fn closed<D, M, K>(
 ) -> Result<Report, RunFault>
 where
     D: Disk + Drop,
-    M: Tally,
-    K: Tally,
+    M: CallLedger,
+    K: CallLedger,
     requires ledgers { (M.all ≡ M.parts) × (K.all ≡ K.parts) }
     requires others { All (λ p. p.hall ≡ hall.id) others.items }
     requires writer { writer.hall ≡ hall.id }

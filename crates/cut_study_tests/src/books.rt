@@ -243,7 +243,7 @@ fn a_journal_keeps_what_is_accepted(rt: HostRuntime) -> Result<(), Fail> {
     Ok(())
 }
 
-/// What is printed of a book that is opened over the slip of the first trial, so many times.
+/// What is printed of a book that is opened over the slip of the first trial, this many times.
 fn opened(alloc: Global, times: usize) -> Result<String, Fail> {
     let result = result(alloc, TWO_TRIALS, 0)?;
     let slip = Slip {
@@ -259,7 +259,7 @@ fn opened(alloc: Global, times: usize) -> Result<String, Fail> {
 }
 
 #[test]
-fn bad_slips_are_told(rt: HostRuntime) -> Result<(), Fail> {
+fn bad_slips_are_reported(rt: HostRuntime) -> Result<(), Fail> {
     for (times, wanted) in [(1, "done"), (2, "17 BadSlip 2")] {
         assert!(rt; opened(rt.alloc(), times)?.as_str() == wanted, "{times}");
     }

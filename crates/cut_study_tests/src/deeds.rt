@@ -4,7 +4,7 @@ ghost use Rattle.std.specs.Prelude.{true, ◌≡◌, ◌<◌, All, IfOk};
 use crate::studies::Study;
 use cut_book::{Opened, Shelf, ShelfFault, SubmitFault};
 use cut_disks::{FaultyDisk, Tear};
-use cut_hall::{Hall, LineFault, OpenGate, Pass, Report, Tally};
+use cut_hall::{CallLedger, Hall, LineFault, OpenGate, Pass, Report, StudyCell};
 use cut_plan::Plan;
 use std::alloc::Global;
 use std::sync::Wait;
@@ -48,9 +48,9 @@ pub(crate) enum Deed {
     WorkOff,
     /// Asks how many trials are counted.
     Count,
-    /// Tells a piece lost.
+    /// Notes that a piece is lost.
     Lose(u64),
-    /// Tells a piece lost, and once more, which is not noted.
+    /// Gives a piece up, and once more, which is not noted.
     LoseTwice(u64),
     /// Ends the work of all.
     Stop,
@@ -67,7 +67,7 @@ pub(crate) enum End {
     NotGiven,
     /// The work may go on in other slots, or not.
     Worked(bool),
-    /// So many trials are counted, which are not more than the study has.
+    /// This many trials are counted, which are not more than the study has.
     Counted(u64),
     /// The loss was noted, or not.
     Noted(bool),
@@ -105,156 +105,150 @@ fn end_of_line(study: Study, cell: u32, line: &[u8]) -> End {
     }
 }
 
-/// Waits for the line of a cell.
-fn wait_for_row<M: Tally, K: Tally, R: Wait>(
-    rt: &R,
-    alloc: Global,
-    hall: &Stormy<M, K>,
-    pass: &mut Pass<M>,
-    opened: &Opened,
-    study: Study,
-    cell: u32,
-) -> End
-    requires own { pass.old.hall ≡ hall.now.id }
-    requires slot { opened.now.study < hall.now.slots }
-    ensures { pass.new.hall ≡ pass.old.hall }
-{
-    if cell >= opened.plan.cells() {
-        return End::Wrong;
-    }
-    match hall.next_row(rt, alloc, pass, opened, cell) {
-        Ok(line) => end_of_line(study, cell, line.as_slice()),
-        Err(fault) => end_of_fault(fault),
-    }
+/// A thread that comes to a hall with a pass.
+#[derive(Drop)]
+pub(crate) struct Guest<'a, M: CallLedger, K: CallLedger, R: Wait> {
+    pub rt: &'a R,
+    pub alloc: Global,
+    pub hall: &'a Stormy<M, K>,
 }
 
-/// Asks for the line of a cell if it was given before.
-fn ask_again<M: Tally, K: Tally, R: Wait>(
-    rt: &R,
-    alloc: Global,
-    hall: &Stormy<M, K>,
-    opened: &Opened,
-    study: Study,
-    cell: u32,
-) -> End
-    requires { opened.now.study < hall.now.slots }
-{
-    if cell >= opened.plan.cells() {
-        return End::Wrong;
+impl<M: CallLedger, K: CallLedger, R: Wait> Guest<'_, M, K, R> {
+    /// Waits for the line of a cell.
+    fn wait_for_row(&self, pass: &mut Pass<M>, opened: &Opened, study: Study, cell: u32) -> End
+        requires own { pass.old.hall ≡ self.now.hall.now.id }
+        requires slot { opened.now.study < self.now.hall.now.slots }
+        ensures { pass.new.hall ≡ pass.old.hall }
+    {
+        if cell >= opened.plan.cells() {
+            return End::Wrong;
+        }
+        match self.hall.next_row(self.rt, self.alloc, pass, opened, cell) {
+            Ok(line) => end_of_line(study, cell, line.as_slice()),
+            Err(fault) => end_of_fault(fault),
+        }
     }
-    match hall.given_row(rt, alloc, opened, cell) {
-        Ok(Some(line)) => end_of_line(study, cell, line.as_slice()),
-        Ok(None) => End::NotGiven,
-        Err(fault) => end_of_fault(fault),
+
+    /// Asks for the line of a cell if it was given before.
+    fn ask_again(&self, opened: &Opened, study: Study, cell: u32) -> End
+        requires { opened.now.study < self.now.hall.now.slots }
+    {
+        if cell >= opened.plan.cells() {
+            return End::Wrong;
+        }
+        match self.hall.given_row(self.rt, self.alloc, opened, cell) {
+            Ok(Some(line)) => end_of_line(study, cell, line.as_slice()),
+            Ok(None) => End::NotGiven,
+            Err(fault) => end_of_fault(fault),
+        }
     }
-}
 
-/// Works on an opened study until a cell is done, and asks for its line, twice where it comes.
-fn make_row<M: Tally, K: Tally, R: Wait>(
-    rt: &R,
-    alloc: Global,
-    hall: &Stormy<M, K>,
-    pass: &mut Pass<M>,
-    opened: &Opened,
-    study: Study,
-    cell: u32,
-) -> End
-    requires own { pass.old.hall ≡ hall.now.id }
-    requires slot { opened.now.study < hall.now.slots }
-    ensures { pass.new.hall ≡ pass.old.hall }
-{
-    hall.work_on_cell(rt, alloc, pass, &OpenGate, opened.study, cell);
-    match wait_for_row(rt, alloc, hall, pass, opened, study, cell) {
-        End::Line => ask_again(rt, alloc, hall, opened, study, cell),
-        end => end,
+    /// Works on an opened study until a cell is done, and asks for its line, twice where it comes.
+    fn make_row(&self, pass: &mut Pass<M>, opened: &Opened, study: Study, cell: u32) -> End
+        requires own { pass.old.hall ≡ self.now.hall.now.id }
+        requires slot { opened.now.study < self.now.hall.now.slots }
+        ensures { pass.new.hall ≡ pass.old.hall }
+    {
+        let wanted = StudyCell {
+            study: opened.study,
+            cell,
+        };
+        self.hall
+            .work_on_cell(self.rt, self.alloc, pass, &OpenGate, wanted);
+        match self.wait_for_row(pass, opened, study, cell) {
+            End::Line => self.ask_again(opened, study, cell),
+            end => end,
+        }
     }
-}
 
-/// Asks how many trials of an opened study are counted, which are not more than it has.
-fn ask_count<M: Tally, K: Tally>(hall: &Stormy<M, K>, pass: &mut Pass<M>, opened: &Opened) -> End
-    requires { pass.old.hall ≡ hall.now.id }
-    ensures { pass.new.hall ≡ pass.old.hall }
-{
-    match hall.counted(pass, opened.study) {
-        Ok(count) if count <= u64::from(opened.plan.trials()) => End::Counted(count),
-        _ => End::Wrong,
+    /// Asks how many trials of an opened study are counted, which are not more than it has.
+    fn ask_count(&self, pass: &mut Pass<M>, opened: &Opened) -> End
+        requires { pass.old.hall ≡ self.now.hall.now.id }
+        ensures { pass.new.hall ≡ pass.old.hall }
+    {
+        match self.hall.counted(pass, opened.study) {
+            Ok(count) if count <= u64::from(opened.plan.trials()) => End::Counted(count),
+            _ => End::Wrong,
+        }
     }
-}
 
-/// Tells a piece of a study lost, and once more: whether the loss was noted the first time alone.
-fn lose_twice<M: Tally, K: Tally, R: Wait>(
-    rt: &R,
-    hall: &Stormy<M, K>,
-    pass: &mut Pass<M>,
-    study: u32,
-    piece: u64,
-) -> End
-    requires own { pass.old.hall ≡ hall.now.id }
-    requires slot { study < hall.now.slots }
-    ensures { pass.new.hall ≡ pass.old.hall }
-{
-    let first = hall.give_up(rt, pass, study, piece);
-    let second = hall.give_up(rt, pass, study, piece);
-    End::Noted(first && !second)
-}
+    /// Gives a piece of a study up, twice: whether it is noted the first time alone.
+    fn lose_twice(&self, pass: &mut Pass<M>, study: u32, piece: u64) -> End
+        requires own { pass.old.hall ≡ self.now.hall.now.id }
+        requires slot { study < self.now.hall.now.slots }
+        ensures { pass.new.hall ≡ pass.old.hall }
+    {
+        let first = self.hall.give_up(self.rt, pass, study, piece);
+        let second = self.hall.give_up(self.rt, pass, study, piece);
+        End::Noted(first && !second)
+    }
 
-/// Does a deed for an opened study, which is of this plan and has these lines.
-pub(crate) fn act_in<M: Tally, K: Tally, R: Wait>(
-    rt: &R,
-    alloc: Global,
-    hall: &Stormy<M, K>,
-    pass: &mut Pass<M>,
-    opened: &Opened,
-    study: Study,
-    deed: Deed,
-) -> End
-    requires own { pass.old.hall ≡ hall.now.id }
-    requires slot { opened.now.study < hall.now.slots }
-    ensures { pass.new.hall ≡ pass.old.hall }
-{
-    match deed {
-        Deed::Submit => End::Slot(opened.study),
-        Deed::Row(cell) => make_row(rt, alloc, hall, pass, opened, study, cell),
-        Deed::Wait(cell) => wait_for_row(rt, alloc, hall, pass, opened, study, cell),
-        Deed::Again(cell) => ask_again(rt, alloc, hall, opened, study, cell),
-        Deed::Count => ask_count(hall, pass, opened),
-        Deed::Lose(piece) => End::Noted(hall.give_up(rt, pass, opened.study, piece)),
-        Deed::LoseTwice(piece) => lose_twice(rt, hall, pass, opened.study, piece),
-        Deed::WorkOff => End::Worked(hall.work_off(rt, alloc, pass, &OpenGate, opened.study)),
-        Deed::Stop => {
-            hall.stop(rt);
-            End::Ended
+    /// Works on an opened study until nothing is left of it.
+    pub(crate) fn work_off(&self, pass: &mut Pass<M>, study: u32) -> End
+        requires own { pass.old.hall ≡ self.now.hall.now.id }
+        requires slot { study < self.now.hall.now.slots }
+        ensures { pass.new.hall ≡ pass.old.hall }
+    {
+        let may_go_on = self
+            .hall
+            .work_off(self.rt, self.alloc, pass, &OpenGate, study);
+        End::Worked(may_go_on)
+    }
+
+    /// Does a deed for an opened study, which is of this plan and has these lines.
+    pub(crate) fn act_in(
+        &self,
+        pass: &mut Pass<M>,
+        opened: &Opened,
+        study: Study,
+        deed: Deed,
+    ) -> End
+        requires own { pass.old.hall ≡ self.now.hall.now.id }
+        requires slot { opened.now.study < self.now.hall.now.slots }
+        ensures { pass.new.hall ≡ pass.old.hall }
+    {
+        match deed {
+            Deed::Submit => End::Slot(opened.study),
+            Deed::Row(cell) => self.make_row(pass, opened, study, cell),
+            Deed::Wait(cell) => self.wait_for_row(pass, opened, study, cell),
+            Deed::Again(cell) => self.ask_again(opened, study, cell),
+            Deed::Count => self.ask_count(pass, opened),
+            Deed::Lose(piece) => End::Noted(self.hall.give_up(self.rt, pass, opened.study, piece)),
+            Deed::LoseTwice(piece) => self.lose_twice(pass, opened.study, piece),
+            Deed::WorkOff => self.work_off(pass, opened.study),
+            Deed::Stop => {
+                self.hall.stop(self.rt);
+                End::Ended
+            }
+        }
+    }
+
+    /// Submits a study, and does a deed for it.
+    pub(crate) fn act<S: Shelf<FaultyDisk>>(
+        &self,
+        pass: &mut Pass<M>,
+        shelf: &S,
+        study: Study,
+        deed: Deed,
+    ) -> End
+        requires own { pass.old.hall ≡ self.now.hall.now.id }
+        requires trusted { S.is_true shelf.now ≡ true }
+        ensures { pass.new.hall ≡ pass.old.hall }
+    {
+        let Ok(plan) = Plan::from_json(self.alloc, study.plan.as_bytes()) else {
+            return End::Wrong;
+        };
+        match self.hall.submit(self.rt, self.alloc, pass, plan, shelf) {
+            Ok(opened) => self.act_in(pass, &opened, study, deed),
+            Err(SubmitFault::SlotsFull) => End::NoSlot,
+            Err(SubmitFault::Checkpoint) => End::Failed,
+            Err(SubmitFault::WorkMemory) => End::Wrong,
         }
     }
 }
 
-/// Submits a study, and does a deed for it.
-pub(crate) fn act<M: Tally, K: Tally, S: Shelf<FaultyDisk>, R: Wait>(
-    rt: &R,
-    alloc: Global,
-    hall: &Stormy<M, K>,
-    pass: &mut Pass<M>,
-    shelf: &S,
-    study: Study,
-    deed: Deed,
-) -> End
-    requires own { pass.old.hall ≡ hall.now.id }
-    requires trusted { S.is_true shelf.now ≡ true }
-    ensures { pass.new.hall ≡ pass.old.hall }
-{
-    let Ok(plan) = Plan::from_json(alloc, study.plan.as_bytes()) else {
-        return End::Wrong;
-    };
-    match hall.submit(rt, alloc, pass, plan, shelf) {
-        Ok(opened) => act_in(rt, alloc, hall, pass, &opened, study, deed),
-        Err(SubmitFault::SlotsFull) => End::NoSlot,
-        Err(SubmitFault::Checkpoint) => End::Failed,
-        Err(SubmitFault::WorkMemory) => End::Wrong,
-    }
-}
-
 /// Puts a pass of a hall among others of it.
-pub(crate) fn put_back<M: Tally, K: Tally>(
+pub(crate) fn put_back<M: CallLedger, K: CallLedger>(
     hall: &Stormy<M, K>,
     passes: &mut Vec<Pass<M>>,
     pass: Pass<M>,
@@ -268,7 +262,7 @@ pub(crate) fn put_back<M: Tally, K: Tally>(
 }
 
 /// Closes a hall with its passes.
-pub(crate) fn closed<M: Tally, K: Tally>(
+pub(crate) fn closed<M: CallLedger, K: CallLedger>(
     alloc: Global,
     hall: Stormy<M, K>,
     passes: Vec<Pass<M>>,

@@ -3,12 +3,12 @@
 ghost use Rattle.std.specs.Prelude.{◌≡◌, ◌<◌, ◌≤◌, All, Err, IfOk, length};
 ghost use Rattle.cut_hall.specs.declared.not_closed.NotClosed.TheVariants.{SeatMissing};
 
-use crate::deeds::{Deed, End, Stormy, act, act_in, closed, put_back};
+use crate::deeds::{Deed, End, Guest, Stormy, closed, put_back};
 use crate::piece::result_of;
 use crate::runs::workers_from;
 use crate::studies::{ONE_LIAR, Study, TWO_TRIALS};
 use cut_book::{NoShelf, Opened};
-use cut_hall::{Hall, NotClosed, OpenGate, Pass, Report, Tally};
+use cut_hall::{CallLedger, Hall, NotClosed, OpenGate, Pass, Report, StudyCell};
 use cut_ledger::{Base, Slip};
 use cut_trial::Piece;
 use std::alloc::Global;
@@ -27,7 +27,7 @@ enum Step {
     Stop,
     /// Submits a study, and does a deed for it.
     Own(Study, Deed),
-    /// Does a deed for the study of the first slot by what another hall opened, with the slips of so many of the
+    /// Does a deed for the study of the first slot by what another hall opened, with the slips of this many of the
     /// first trials.
     Foreign(Study, u32, Deed),
 }
@@ -35,7 +35,7 @@ enum Step {
 /// Steps, and how each ends.
 type Script = &'static [(Step, End)];
 
-/// What is done in a new hall of so many slots: by a first pass, by a second one, and by the first one again.
+/// What is done in a new hall of this many slots: by a first pass, by a second one, and by the first one again.
 #[derive(Clone, Copy)]
 struct Scene {
     slots: u32,
@@ -56,7 +56,7 @@ fn slip_of(alloc: Global, study: Study, first: u32) -> Result<Slip, Fail> {
     })
 }
 
-/// What another hall opens for a study where its disk has the slips of so many of the first trials.
+/// What another hall opens for a study where its disk has the slips of this many of the first trials.
 fn opened_elsewhere(alloc: Global, study: Study, slips: u32) -> Result<Opened, Fail> {
     let mut kept = Vec::new(alloc);
     for trial in 0..slips {
@@ -69,59 +69,75 @@ fn opened_elsewhere(alloc: Global, study: Study, slips: u32) -> Result<Opened, F
     })
 }
 
-/// Takes a step: how it ends.
-fn take_step<M: Tally, K: Tally, R: Wait>(
-    rt: &R,
-    alloc: Global,
-    hall: &Stormy<M, K>,
-    pass: &mut Pass<M>,
-    step: Step,
-) -> Result<End, Fail>
-    requires own { pass.old.hall ≡ hall.now.id }
-    requires slot { 0 < hall.now.slots }
-    ensures { pass.new.hall ≡ pass.old.hall }
-{
-    match step {
-        Step::Work => {
-            hall.work_on_cell(rt, alloc, pass, &OpenGate, 0, 0);
-            Ok(End::Worked(hall.work_off(rt, alloc, pass, &OpenGate, 0)))
-        }
-        Step::Stop => {
-            hall.stop(rt);
-            Ok(End::Ended)
-        }
-        Step::Own(study, deed) => Ok(act(rt, alloc, hall, pass, &NoShelf, study, deed)),
-        Step::Foreign(study, slips, deed) => {
-            let opened = opened_elsewhere(alloc, study, slips)?;
-            if opened.study > 0 {
-                return Ok(End::Wrong);
+impl<M: CallLedger, K: CallLedger, R: Wait> Guest<'_, M, K, R> {
+    /// Takes a step: how it ends.
+    fn take_step(&self, pass: &mut Pass<M>, step: Step) -> Result<End, Fail>
+        requires own { pass.old.hall ≡ self.now.hall.now.id }
+        requires slot { 0 < self.now.hall.now.slots }
+        ensures { pass.new.hall ≡ pass.old.hall }
+    {
+        match step {
+            Step::Work => {
+                let first = StudyCell { study: 0, cell: 0 };
+                self.hall
+                    .work_on_cell(self.rt, self.alloc, pass, &OpenGate, first);
+                Ok(self.work_off(pass, 0))
             }
-            Ok(act_in(rt, alloc, hall, pass, &opened, study, deed))
+            Step::Stop => {
+                self.hall.stop(self.rt);
+                Ok(End::Ended)
+            }
+            Step::Own(study, deed) => Ok(self.act(pass, &NoShelf, study, deed)),
+            Step::Foreign(study, slips, deed) => {
+                let opened = opened_elsewhere(self.alloc, study, slips)?;
+                if opened.study > 0 {
+                    return Ok(End::Wrong);
+                }
+                Ok(self.act_in(pass, &opened, study, deed))
+            }
         }
     }
 }
 
-/// Takes the steps of a script, and asserts how they end.
-fn play<M: Tally, K: Tally, R: Wait + Abort>(
-    rt: &R,
-    alloc: Global,
-    hall: &Stormy<M, K>,
-    pass: &mut Pass<M>,
-    script: Script,
-) -> Result<(), Fail>
-    requires own { pass.old.hall ≡ hall.now.id }
-    requires slot { 0 < hall.now.slots }
-    ensures { pass.new.hall ≡ pass.old.hall }
-{
-    for row in script {
-        let (step, wanted) = *row;
-        assert!(rt; take_step(rt, alloc, hall, pass, step)? == wanted);
+impl<M: CallLedger, K: CallLedger, R: Wait + Abort> Guest<'_, M, K, R> {
+    /// Takes the steps of a script, and asserts how they end.
+    fn play(&self, pass: &mut Pass<M>, script: Script) -> Result<(), Fail>
+        requires own { pass.old.hall ≡ self.now.hall.now.id }
+        requires slot { 0 < self.now.hall.now.slots }
+        ensures { pass.new.hall ≡ pass.old.hall }
+    {
+        for row in script {
+            let (step, wanted) = *row;
+            assert!(self.rt; self.take_step(pass, step)? == wanted);
+        }
+        Ok(())
     }
-    Ok(())
+
+    /// Plays a scene by a first pass of a hall, and by one of the others.
+    fn play_by_two(
+        &self,
+        first: &mut Pass<M>,
+        others: &mut Vec<Pass<M>>,
+        scene: Scene,
+    ) -> Result<(), Fail>
+        requires first { first.old.hall ≡ self.now.hall.now.id }
+        requires others { All (λ p. p.hall ≡ self.now.hall.now.id) others.old.items }
+        requires slot { 0 < self.now.hall.now.slots }
+        ensures first { first.new.hall ≡ first.old.hall }
+        ensures others { IfOk result (λ _. All (λ p. p.hall ≡ self.now.hall.now.id) others.new.items) }
+    {
+        self.play(first, scene.first)?;
+        let Some(mut second) = others.pop() else {
+            return Err("a hall of one pass")?;
+        };
+        self.play(&mut second, scene.second)?;
+        self.play(first, scene.last)?;
+        put_back(self.hall, others, second)
+    }
 }
 
 /// A hall and its passes, given back as a pass was missing.
-fn given_back<M: Tally, K: Tally>(
+fn given_back<M: CallLedger, K: CallLedger>(
     closing: Result<Report, NotClosed<(Stormy<M, K>, Vec<Pass<M>>)>>,
 ) -> Result<(Stormy<M, K>, Vec<Pass<M>>), Fail>
     ensures { IfOk result (λ back. closing ≡ Err (SeatMissing back)) }
@@ -135,7 +151,7 @@ fn given_back<M: Tally, K: Tally>(
 }
 
 /// Closes a hall with its first pass kept back: the hall and the others come back, and the first is the last then.
-fn kept_back<M: Tally, K: Tally>(
+fn kept_back<M: CallLedger, K: CallLedger>(
     alloc: Global,
     hall: Stormy<M, K>,
     mut passes: Vec<Pass<M>>,
@@ -158,7 +174,7 @@ fn kept_back<M: Tally, K: Tally>(
 
 /// Closes a hall with each of its three passes, of which one is the last, kept back in turn, and then with all: the
 /// accepted trials and the calls of the first slot, and whether its study is complete.
-fn closed_at_last<M: Tally, K: Tally>(
+fn closed_at_last<M: CallLedger, K: CallLedger>(
     alloc: Global,
     hall: Stormy<M, K>,
     mut passes: Vec<Pass<M>>,
@@ -181,32 +197,8 @@ fn first_slot(report: &Report) -> Option<(u64, u64, bool)> {
     Some((slot.accepted(), slot.calls(), slot.complete()))
 }
 
-/// Plays a scene by a first pass of a hall, and by one of the others.
-fn play_by_two<M: Tally, K: Tally, R: Wait + Abort>(
-    rt: &R,
-    alloc: Global,
-    hall: &Stormy<M, K>,
-    first: &mut Pass<M>,
-    others: &mut Vec<Pass<M>>,
-    scene: Scene,
-) -> Result<(), Fail>
-    requires first { first.old.hall ≡ hall.now.id }
-    requires others { All (λ p. p.hall ≡ hall.now.id) others.old.items }
-    requires slot { 0 < hall.now.slots }
-    ensures first { first.new.hall ≡ first.old.hall }
-    ensures others { IfOk result (λ _. All (λ p. p.hall ≡ hall.now.id) others.new.items) }
-{
-    play(rt, alloc, hall, first, scene.first)?;
-    let Some(mut second) = others.pop() else {
-        return Err("a hall of one pass")?;
-    };
-    play(rt, alloc, hall, &mut second, scene.second)?;
-    play(rt, alloc, hall, first, scene.last)?;
-    put_back(hall, others, second)
-}
-
 /// Plays a scene in a new hall.
-fn play_in_hall<M: Tally, K: Tally, R: Wait + Abort>(
+fn play_in_hall<M: CallLedger, K: CallLedger, R: Wait + Abort>(
     rt: &R,
     alloc: Global,
     scene: Scene,
@@ -229,7 +221,12 @@ fn play_in_hall<M: Tally, K: Tally, R: Wait + Abort>(
     let Some(mut first) = passes.pop() else {
         unreachable!()
     };
-    play_by_two(rt, alloc, &hall, &mut first, &mut passes, scene)?;
+    let guest = Guest {
+        rt,
+        alloc,
+        hall: &hall,
+    };
+    guest.play_by_two(&mut first, &mut passes, scene)?;
     assert!(rt; closed_at_last(alloc, hall, passes, first)? == Some(scene.report));
     Ok(())
 }

@@ -21,8 +21,8 @@ const TABLE: &[u8] =
 enum End {
     /// With the whole table, of the study's two trials.
     Whole,
-    /// For want of memory: its own, or that of the wire, which then took as many bytes as told. These are the first ones
-    /// of the table.
+    /// As memory ran out: its own, or that of the wire, which then took as many bytes as reported. These are the first
+    /// ones of the table.
     Refused,
     /// Otherwise.
     Wrong,
@@ -40,7 +40,7 @@ fn end_of(answer: &Result<Done, RunFault>, taken: &[u8]) -> End {
     }
 }
 
-/// Whether a run reports a table of so many bytes, and two accepted trials, which are all.
+/// Whether a run reports a table of this many bytes, and two accepted trials, which are all.
 fn is_whole(done: &Done) -> bool {
     match done.report.slots().first() {
         Some(slot) => done.sent == 98 && slot.accepted() == 2 && slot.complete(),
@@ -48,7 +48,7 @@ fn is_whole(done: &Done) -> bool {
     }
 }
 
-/// How a run by so many workers ends, in pieces of one trial.
+/// How a run by this many workers ends, in pieces of one trial.
 fn run_by<R: Threads + Wait + Sync>(rt: &R, alloc: Global, plan: &Plan, workers: u32) -> End {
     let mut wire = FaultyWire::new(alloc, Vec::new(alloc), 7, 1000, 0);
     let order = Order {
@@ -61,7 +61,7 @@ fn run_by<R: Threads + Wait + Sync>(rt: &R, alloc: Global, plan: &Plan, workers:
 }
 
 #[test]
-fn one_refused_allocation_is_told_by_one_study(rt: HostRuntime) -> Result<(), Fail> {
+fn one_refused_allocation_is_reported_by_one_study(rt: HostRuntime) -> Result<(), Fail> {
     let plan = TWO_TRIALS.read_plan(rt.alloc())?;
     let mut refused = 0u32;
     for workers in 1..4u32 {

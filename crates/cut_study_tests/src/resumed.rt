@@ -90,7 +90,7 @@ fn run_over<R: Threads + Wait + Sync>(
     Ok(report(alloc, answer)?)
 }
 
-/// Whether a report is as wanted, where a `#` stands for so many bytes, and a `*` for any words.
+/// Whether a report is as wanted, where a `#` stands for this many bytes, and a `*` for any words.
 fn is_reported(alloc: Global, text: &str, wanted: &str, taken: usize) -> Result<bool, AllocError> {
     let taken = format!(in alloc; "{taken}")?;
     let wanted = String::from_str(alloc, wanted)?.replace(alloc, "#", taken.as_str())?;
@@ -100,8 +100,8 @@ fn is_reported(alloc: Global, text: &str, wanted: &str, taken: usize) -> Result<
     }
 }
 
-/// Whether a wire took the first bytes of a table: so many, where it is certain how many.
-fn is_front(taken: &[u8], table: &[u8], length: Option<usize>) -> bool {
+/// Whether a wire took the first bytes of a table: this many, where it is certain how many.
+fn is_prefix(taken: &[u8], table: &[u8], length: Option<usize>) -> bool {
     table.starts_with(taken) && length.is_none_or(|length| taken.len() == length)
 }
 
@@ -120,7 +120,7 @@ fn goes_so<R: Threads + Wait + Sync>(
     let length = disk.memory().bytes().len();
     Ok(
         is_reported(alloc, text.as_str(), row.report, wire.taken().len())?
-            && is_front(wire.taken(), table.as_bytes(), row.taken)
+            && is_prefix(wire.taken(), table.as_bytes(), row.taken)
             && row.length.is_none_or(|wanted| length == wanted),
     )
 }
@@ -216,13 +216,13 @@ fn a_slip_that_is_kept_twice_is_bad(rt: HostRuntime) -> Result<(), Fail> {
 /// How many trials the study has that has more slips than a word has bits.
 const TRIALS: usize = 130;
 
-/// How long its file with so many slips is: the plan has 223 bytes, 46 more stand beside it, and each slip has 105.
+/// How long its file with this many slips is: the plan has 223 bytes, 46 more stand beside it, and each slip has 105.
 fn file_of(slips: usize) -> Option<usize> {
     Some(223 + 46 + 105 * slips.min(TRIALS))
 }
 
-/// The first run that goes otherwise, where the disk of that study fails after so many of its slips: the study goes on
-/// with the others, as this report says, and is then whole.
+/// The first run that goes otherwise, where the disk of that study fails after this many of its slips: the study goes
+/// on with the others, as this report says, and is then whole.
 fn wrong_after<R: Threads + Wait + Sync>(
     rt: &R,
     alloc: Global,

@@ -104,8 +104,8 @@ where
     Ok(report(alloc, answer)?.as_str() == wanted.report && wire.taken() == wanted.taken)
 }
 
-/// Whether a run of a study in pieces of this many trials ends so over a wire with this much room: it takes as many bytes
-/// of the table as it has room for.
+/// Whether a run of a study in pieces of this many trials ends so over a wire with this much room: it takes as many
+/// bytes of the table as it has room for.
 fn fills<R: Threads + Wait + Sync>(
     rt: &R,
     alloc: Global,
@@ -167,7 +167,7 @@ fn a_wire_takes_the_bytes_that_are_reported(rt: HostRuntime) -> Result<(), Fail>
     Ok(())
 }
 
-/// A gate at which a call waits until so many have begun, for 10,000 turns of a millisecond at most.
+/// A gate at which a call waits until this many have begun, for 10,000 turns of a millisecond at most.
 #[derive(Drop)]
 struct Meeting<'a, C> {
     clock: &'a C,

@@ -2,9 +2,9 @@
 ghost use Rattle.std.specs.Prelude.{◌≡◌, ◌<◌, ◌≤◌, All};
 ghost use Rattle.atomic_table.specs.Seated.{TableId};
 
-use crate::deeds::{Brittle, Deed, End, Stormy, act, closed, put_back};
+use crate::deeds::{Brittle, Deed, End, Guest, Stormy, closed, put_back};
 use crate::studies::{Study, long_studies};
-use cut_hall::{Hall, OpenGate, Pass, Report, Tally};
+use cut_hall::{CallLedger, Hall, OpenGate, Pass, Report};
 use rand_chacha::ChaCha8Rng;
 use rand_core::SeedableRng;
 use rand_core::utils::NextWord;
@@ -75,47 +75,43 @@ fn drawn_deed(words: &mut ChaCha8Rng, storm: Storm) -> (Study, Deed) {
 }
 
 /// Works off each of the long studies that has a slot.
-fn work_off_all<M: Tally, K: Tally, R: Wait>(
-    rt: &R,
-    alloc: Global,
-    hall: &Stormy<M, K>,
+fn work_off_all<M: CallLedger, K: CallLedger, R: Wait>(
+    guest: &Guest<'_, M, K, R>,
     shelf: Brittle,
     pass: &mut Pass<M>,
 )
-    requires { pass.old.hall ≡ hall.now.id }
+    requires { pass.old.hall ≡ guest.now.hall.now.id }
     ensures { pass.new.hall ≡ pass.old.hall }
 {
     for study in long_studies() {
-        act(rt, alloc, hall, pass, &shelf, study, Deed::WorkOff);
+        guest.act(pass, &shelf, study, Deed::WorkOff);
     }
 }
 
 /// Does the deeds of the thread of this number, from 0, and notes how each ended. A worker works on all
 /// studies, and in a calm storm the others work them off at the end.
-fn play<M: Tally, K: Tally, R: Wait>(
-    rt: &R,
-    alloc: Global,
-    hall: &Stormy<M, K>,
-    storm: Storm,
+fn play<M: CallLedger, K: CallLedger, R: Wait>(
+    guest: &Guest<'_, M, K, R>,
+    shared: &Shared,
     number: u64,
     pass: &mut Pass<M>,
-    ends: &Mutex<Vec<End>>,
 )
-    requires { pass.old.hall ≡ hall.now.id }
+    requires { pass.old.hall ≡ guest.now.hall.now.id }
     ensures { pass.new.hall ≡ pass.old.hall }
 {
+    let storm = shared.storm;
     if storm.has_worker && number == 2 {
-        return hall.work(rt, alloc, pass, &OpenGate);
+        return guest.hall.work(guest.rt, guest.alloc, pass, &OpenGate);
     }
     let mut words = ChaCha8Rng::from_seed([0; 32]);
     words.set_stream(storm.stream.wrapping_add(number));
     for _ in 0..DEEDS {
         let (study, deed) = drawn_deed(&mut words, storm);
-        let end = act(rt, alloc, hall, pass, &storm.shelf, study, deed);
-        let _ = ends.lock(rt).push(end);
+        let end = guest.act(pass, &storm.shelf, study, deed);
+        let _ = shared.ends.lock(guest.rt).push(end);
     }
     if storm.is_calm {
-        work_off_all(rt, alloc, hall, storm.shelf, pass);
+        work_off_all(guest, storm.shelf, pass);
     }
 }
 
@@ -146,7 +142,7 @@ impl Shared {
 }
 
 /// A hall as the threads of a storm share it.
-trait Arena<M: Tally> {
+trait Arena<M: CallLedger> {
     ghost id_of: { Self → TableId };
 
     /// Does the deeds of the next thread. Where it is the last one that is no worker, it ends the work.
@@ -155,12 +151,17 @@ trait Arena<M: Tally> {
         ensures { pass.new.hall ≡ id_of self.now };
 }
 
-impl<M: Tally, K: Tally> Arena<M> for Stormy<M, K> {
+impl<M: CallLedger, K: CallLedger> Arena<M> for Stormy<M, K> {
     ghost id_of = { λ h. h.id };
 
     fn play_next<R: Wait>(&self, rt: &R, alloc: Global, shared: &Shared, pass: &mut Pass<M>) {
         let number = shared.begun.fetch_add(1, Ordering::SeqCst);
-        play(rt, alloc, self, shared.storm, number, pass, &shared.ends);
+        let guest = Guest {
+            rt,
+            alloc,
+            hall: self,
+        };
+        play(&guest, shared, number, pass);
         if shared
             .ended
             .fetch_add(1, Ordering::SeqCst)
@@ -187,7 +188,7 @@ fn keep_time<R: Abort + Clock>(rt: &R, shared: &Shared) {
 fn play_all<A, M, R>(rt: &R, alloc: Global, arena: &A, shared: &Shared, passes: &mut Vec<Pass<M>>)
 where
     A: Arena<M> + Sync,
-    M: Tally + Send + Sync,
+    M: CallLedger + Send + Sync,
     R: Threads + Wait + Sync,
     requires { All (λ p. p.hall ≡ A.id_of arena.now) passes.old.items }
     ensures { All (λ p. p.hall ≡ A.id_of arena.now) passes.new.items }
@@ -220,7 +221,7 @@ fn play_timed<A, M, R, T>(
 )
 where
     A: Arena<M> + Sync,
-    M: Tally + Send + Sync,
+    M: CallLedger + Send + Sync,
     R: Threads + Wait + Sync,
     T: FnMut(),
     requires own { All (λ p. p.hall ≡ A.id_of arena.now) passes.old.items }
@@ -235,7 +236,7 @@ where
 }
 
 /// The slots that have the four studies, each with the trials of its study.
-fn slots_of<M: Tally, K: Tally, R: Wait>(
+fn slots_of<M: CallLedger, K: CallLedger, R: Wait>(
     rt: &R,
     alloc: Global,
     hall: &Stormy<M, K>,
@@ -261,8 +262,8 @@ fn slots_of<M: Tally, K: Tally, R: Wait>(
 fn is_right(report: &Report, slots: &[(u32, u64)], is_calm: bool) -> bool {
     slots.iter().all(|(slot, trials)| {
         match report.slots().get(*slot as usize) {
-            Some(told) if told.complete() => told.accepted() == *trials,
-            Some(told) => told.accepted() < *trials && !is_calm,
+            Some(slot) if slot.complete() => slot.accepted() == *trials,
+            Some(slot) => slot.accepted() < *trials && !is_calm,
             None => false,
         }
     })
@@ -277,8 +278,8 @@ fn play_in<M, K, R>(
     passes: &mut Vec<Pass<M>>,
 )
 where
-    M: Tally + Send + Sync,
-    K: Tally + Send + Sync,
+    M: CallLedger + Send + Sync,
+    K: CallLedger + Send + Sync,
     R: Threads + Wait + Abort + Clock + Sync,
     requires { All (λ p. p.hall ≡ hall.now.id) passes.old.items }
     ensures { All (λ p. p.hall ≡ hall.now.id) passes.new.items }
@@ -296,8 +297,8 @@ fn run_storm<M, K, R>(
     kept: Blank,
 ) -> Result<Vec<End>, Fail>
 where
-    M: Tally + Send + Sync,
-    K: Tally + Send + Sync,
+    M: CallLedger + Send + Sync,
+    K: CallLedger + Send + Sync,
     R: Threads + Wait + Abort + Clock + Sync,
     requires storm { (0 < storm.slots) × (storm.slots ≤ 64) × (1 ≤ storm.piece_size) }
     requires made { (made.name ≡ M.name) × (made.parts ≡ M.parts) × (M.all ≡ M.parts) × (M.all ≡ 4) }

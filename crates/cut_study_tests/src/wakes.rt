@@ -1,10 +1,10 @@
-//! Threads that wait for a line which another thread keeps from coming: each is woken, and told why.
+//! Threads that wait for a line which another thread keeps from coming: each is woken, and learns why.
 ghost use Rattle.std.specs.Prelude.{◌≡◌};
 ghost use Rattle.atomic_table.specs.Seated.{TableId};
 
-use crate::deeds::{Brittle, Deed, End, Stormy, act};
+use crate::deeds::{Brittle, Deed, End, Guest, Stormy};
 use crate::studies::TWO_CELLS;
-use cut_hall::{Hall, Pass, Tally};
+use cut_hall::{CallLedger, Hall, Pass};
 use std::alloc::Global;
 use std::marker::Brand;
 use std::process::Abort;
@@ -18,7 +18,7 @@ use std::time::{Clock, Duration};
 /// Why the second line can't come.
 #[derive(Clone, Copy, Debug)]
 enum Cause {
-    /// Its only piece is told lost.
+    /// Its only piece is given up.
     Loss,
     /// The hall is stopped.
     Stop,
@@ -26,7 +26,8 @@ enum Cause {
     Disk,
 }
 
-/// What keeps the second line from coming, after a pause of so many milliseconds; and where the study's disk comes from.
+/// What keeps the second line from coming, after a pause of this many milliseconds; and where the study's disk comes
+/// from.
 #[derive(Clone, Copy, Debug)]
 struct Hindrance {
     cause: Cause,
@@ -35,7 +36,7 @@ struct Hindrance {
 }
 
 /// Keeps the second line from coming: how that ends.
-fn hinder<M: Tally, K: Tally, R: Wait>(
+fn hinder<M: CallLedger, K: CallLedger, R: Wait>(
     rt: &R,
     alloc: Global,
     hall: &Stormy<M, K>,
@@ -50,11 +51,12 @@ fn hinder<M: Tally, K: Tally, R: Wait>(
         Cause::Stop => Deed::Stop,
         Cause::Disk => Deed::WorkOff,
     };
-    act(rt, alloc, hall, pass, &hindrance.shelf, TWO_CELLS, deed)
+    let guest = Guest { rt, alloc, hall };
+    guest.act(pass, &hindrance.shelf, TWO_CELLS, deed)
 }
 
 /// A hall as the thread that waits has it.
-trait Desk<M: Tally> {
+trait Desk<M: CallLedger> {
     /// Which hall it is.
     ghost id_of: { Self → TableId };
 
@@ -70,7 +72,7 @@ trait Desk<M: Tally> {
         ensures { pass.new.hall ≡ pass.old.hall };
 }
 
-impl<M: Tally, K: Tally> Desk<M> for Stormy<M, K> {
+impl<M: CallLedger, K: CallLedger> Desk<M> for Stormy<M, K> {
     ghost id_of = { λ h. h.id };
 
     fn wait_for_second<R: Wait>(
@@ -80,8 +82,20 @@ impl<M: Tally, K: Tally> Desk<M> for Stormy<M, K> {
         pass: &mut Pass<M>,
         shelf: Brittle,
     ) -> End {
-        act(rt, alloc, self, pass, &shelf, TWO_CELLS, Deed::Wait(1))
+        let guest = Guest {
+            rt,
+            alloc,
+            hall: self,
+        };
+        guest.act(pass, &shelf, TWO_CELLS, Deed::Wait(1))
     }
+}
+
+/// A wait for the second line of a study whose disk comes from a shelf: 1 once it has ended.
+#[derive(Drop)]
+struct Vigil {
+    shelf: Brittle,
+    ended: AtomicU64,
 }
 
 /// Lets a thread wait for the second line, while this one goes on. Notes that the wait has ended.
@@ -90,13 +104,12 @@ fn wait_beside<H, M, R, F>(
     alloc: Global,
     hall: &H,
     waiter: &mut Pass<M>,
-    shelf: Brittle,
-    ended: &AtomicU64,
+    vigil: &Vigil,
     go_on: &mut F,
 ) -> (End, End)
 where
     H: Desk<M> + Sync,
-    M: Tally + Send + Sync,
+    M: CallLedger + Send + Sync,
     R: Threads + Wait + Sync,
     F: FnMut() -> End,
     requires own { waiter.old.hall ≡ H.id_of hall.now }
@@ -108,17 +121,17 @@ where
         requires { waiter.now.hall ≡ H.id_of hall.now }
         ensures { waiter.exit.now.hall ≡ H.id_of hall.entry.now }
     {
-        let end = hall.wait_for_second(rt, alloc, waiter, shelf);
-        ended.store(1, Ordering::SeqCst);
+        let end = hall.wait_for_second(rt, alloc, waiter, vigil.shelf);
+        vigil.ended.store(1, Ordering::SeqCst);
         end
     };
     join_mut(rt, &mut wait, go_on)
 }
 
 /// Waits until a wait has ended, for 10,000 turns of a millisecond at most.
-fn keep_time<R: Abort + Clock>(rt: &R, ended: &AtomicU64) {
+fn keep_time<R: Abort + Clock>(rt: &R, vigil: &Vigil) {
     for _ in 0..10_000 {
-        if ended.load(Ordering::SeqCst) == 1 {
+        if vigil.ended.load(Ordering::SeqCst) == 1 {
             return;
         }
         rt.sleep(Duration::from_millis(1));
@@ -137,25 +150,43 @@ fn woken<M, K, R>(
     hindrance: Hindrance,
 ) -> (End, End)
 where
-    M: Tally + Send + Sync,
-    K: Tally + Send + Sync,
+    M: CallLedger + Send + Sync,
+    K: CallLedger + Send + Sync,
     R: Threads + Wait + Abort + Clock + Sync,
     requires waiter { waiter.old.hall ≡ hall.now.id }
     requires other { other.old.hall ≡ hall.now.id }
     ensures waiter { waiter.new.hall ≡ hall.now.id }
     ensures other { other.new.hall ≡ hall.now.id }
 {
-    let ended = AtomicU64::new(0);
+    let vigil = Vigil {
+        shelf: hindrance.shelf,
+        ended: AtomicU64::new(0),
+    };
     let mut go_on = || -> End
         requires { other.now.hall ≡ hall.now.id }
         ensures { other.exit.now.hall ≡ hall.entry.now.id }
     {
         rt.sleep(Duration::from_millis(hindrance.pause));
         let end = hinder(rt, alloc, hall, other, hindrance);
-        keep_time(rt, &ended);
+        keep_time(rt, &vigil);
         end
     };
-    wait_beside(rt, alloc, hall, waiter, hindrance.shelf, &ended, &mut go_on)
+    wait_beside(rt, alloc, hall, waiter, &vigil, &mut go_on)
+}
+
+/// How it ends to ask for the first line.
+fn first_line<M: CallLedger, K: CallLedger, R: Wait>(
+    rt: &R,
+    alloc: Global,
+    hall: &Stormy<M, K>,
+    pass: &mut Pass<M>,
+    shelf: Brittle,
+) -> End
+    requires { pass.old.hall ≡ hall.now.id }
+    ensures { pass.new.hall ≡ pass.old.hall }
+{
+    let guest = Guest { rt, alloc, hall };
+    guest.act(pass, &shelf, TWO_CELLS, Deed::Row(0))
 }
 
 /// How it ends to wait for the second line in a new hall of one slot, and to keep it from coming. The first line comes
@@ -168,8 +199,8 @@ fn woken_in<M, K, R>(
     kept: Blank,
 ) -> Result<(End, End), Fail>
 where
-    M: Tally + Send + Sync,
-    K: Tally + Send + Sync,
+    M: CallLedger + Send + Sync,
+    K: CallLedger + Send + Sync,
     R: Threads + Wait + Abort + Clock + Sync,
     requires made { (made.name ≡ M.name) × (made.parts ≡ M.parts) × (M.all ≡ M.parts) × (M.all ≡ 2) }
     requires kept { (kept.name ≡ K.name) × (kept.parts ≡ K.parts) × (K.all ≡ K.parts) × (K.all ≡ 1) }
@@ -181,32 +212,15 @@ where
     let Some(mut other) = passes.pop() else {
         unreachable!()
     };
-    let shelf = hindrance.shelf;
-    let before = act(
-        rt,
-        alloc,
-        &hall,
-        &mut other,
-        &shelf,
-        TWO_CELLS,
-        Deed::Row(0),
-    );
+    let before = first_line(rt, alloc, &hall, &mut other, hindrance.shelf);
     let ends = woken(rt, alloc, &hall, &mut waiter, &mut other, hindrance);
-    let after = act(
-        rt,
-        alloc,
-        &hall,
-        &mut other,
-        &shelf,
-        TWO_CELLS,
-        Deed::Row(0),
-    );
+    let after = first_line(rt, alloc, &hall, &mut other, hindrance.shelf);
     assert!(rt; before == End::Line && after == End::Line);
     Ok(ends)
 }
 
 #[test]
-fn who_waits_for_a_line_is_told_why_it_does_not_come(rt: HostRuntime) -> Result<(), Fail> {
+fn who_waits_for_a_line_learns_why_it_does_not_come(rt: HostRuntime) -> Result<(), Fail> {
     let alloc = rt.alloc();
     // Ten calls open the disk, and each append makes four: the slip of the first piece is kept, that of the second
     // is not.

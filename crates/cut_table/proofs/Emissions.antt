@@ -1,6 +1,8 @@
 -- The lines of a table, as they are written one after the other.
-use Rattle.std.proofs.Common.{◌≡◌, ◌∙◌, ◌<◌, ◌≤◌, ◌+◌, ◌-◌, ◌*◌, ◌^◌, ◌++◌, ◌∷◌, [], min, ℕ, zero, suc, true, false, map, Result, Ok, Err, inl, inr}
-use Rattle.std.proofs.Common.{List, length, take, drop, cond, refl, sym, ap, subst, zero-add, arith, append_assoc, append-nil, length-append, length-take-le}
+use Rattle.std.proofs.Common.{◌≡◌, ◌∙◌, ◌<◌, ◌≤◌, ◌+◌, ◌-◌, ◌*◌, ◌^◌, ◌++◌, ◌∷◌, [], min, ℕ, zero, suc, true, false}
+use Rattle.std.proofs.Common.{map, Result, Ok, Err, inl, inr}
+use Rattle.std.proofs.Common.{List, length, take, drop, cond, refl, sym, ap, subst, zero-add, arith, append_assoc}
+use Rattle.std.proofs.Common.{append-nil, length-append, length-take-le}
 use Rattle.std.specs.Bool.{⊤}
 use Rattle.std.specs.Borrow.{GName}
 use Rattle.std.specs.Fmt.{decimal}
@@ -11,7 +13,7 @@ use Rattle.std.proofs.lemmas.List.Concat.{flat_map-append}
 use Rattle.std.proofs.lemmas.List.FromFn.{length-range_with_len, get_or-range_with_len}
 use Rattle.std.proofs.lemmas.List.Sums.{take_while-cons}
 use Rattle.std.proofs.Math.Seq.{take-append_seam}
-use Rattle.cut_lists.proofs.Fronts.{take_while-front}
+use Rattle.cut_lists.proofs.Prefixes.{take_while-prefix}
 use Rattle.cut_lists.proofs.Intervals.{take_range, drop_range}
 use Rattle.cut_plan.specs.Cells.{cells_of}
 use Rattle.cut_plan.specs.Versions.{version_of}
@@ -20,7 +22,7 @@ use Rattle.cut_ledger.specs.Contents.{Contents, cell_done, cell_sum}
 use Rattle.cut_ledger.specs.Machine.{available}
 use Rattle.cut_wires.specs.declared.rows.RowsFault.{RowsFault}
 use Rattle.cut_wires.specs.declared.rows.RowsFault.TheVariants.{Row, Write}
-use Rattle.cut_wires.specs.Log.{Log, wrote, write_failed}
+use Rattle.cut_wires.specs.Log.{WireLog, wrote, write_failed}
 use Rattle.cut_wires.specs.Rows.{SendsRows, rows_to}
 use Rattle.cut_wires.specs.Sending.{Sending, sent_on, cut_off}
 use Rattle.cut_wires.proofs.RowLemmas.{rows_more}
@@ -43,7 +45,7 @@ available_splits l n few done =
     let first : List ℕ = header (version_of l.plan.failing) in
     let others : List ℕ = take_while (cell_done l) (range_with_len n (all - n)) in
     let split : take_while (cell_done l) (range_with_len 0 all) ≡ range_with_len 0 n ++ others =
-    take_while-front (cell_done l) 0 (range_with_len 0 all) n
+    take_while-prefix (cell_done l) 0 (range_with_len 0 all) n
     (omega (arith, few, length-range_with_len 0 all))
     (λ k low. ap (cell_done l) (get_or-range_with_len 0 all k 0 (omega (arith, low, few)) ∙ zero-add k)
     ∙ done k low)
@@ -76,7 +78,11 @@ available_ends l n few done undone =
 some_line : (l : Contents) (n : ℕ) → 0 < length (row_of l n)
 some_line l n =
     let feed : List ℕ = 10 ∷ [] in
-    omega (arith, length-append (join_with_byte 44 (map decimal (columns l.plan (cell_numbered l.plan n) (cell_sum l n)))) feed)
+    omega (
+      arith,
+      length-append (join_with_byte 44
+          (map decimal (columns l.plan (cell_numbered l.plan n) (cell_sum l n)))) feed,
+    )
 
 -- and that of a done cell comes after those before it
 longer : (l : Contents) (n : ℕ) → n < length (cells_of l.plan) → ((k : ℕ) → k < n → cell_done l k ≡ true)
@@ -116,7 +122,7 @@ same_wire l now (Err (Write fault)) old new s = ap (λ (x : Sending). x.wire) s.
 same_wire l now (Err (Row e)) old new s = ap (λ (x : Sending). x.wire) s.ends.2
 
 -- what a wire took of a table, by what was sent of its rows over a line that had sent nothing
-emits : (l now : Contents) (name : GName) (log : Log) (result : Result ⊤ (RowsFault RowFault)) (new : Sending)
+emits : (l now : Contents) (name : GName) (log : WireLog) (result : Result ⊤ (RowsFault RowFault)) (new : Sending)
     → SendsLines l now result (record { wire = name; log = log; sent = 0 }) new
     → Emits l (emitted result new.sent) log new.log
 emits l now name log (Ok done) new s =
@@ -171,7 +177,7 @@ emits l now name log (Err (Row row.Memory)) new s =
     )
 
 -- and what its wire has taken once the line is given up
-pub emits_at : {X : Type 0} (log : X → Log) (l now : Contents) (result : Result ⊤ (RowsFault RowFault))
+pub emits_at : {X : Type 0} (log : X → WireLog) (l now : Contents) (result : Result ⊤ (RowsFault RowFault))
     (first last after : X) (name other : GName) (sent : ℕ) (old : Sending)
     → old ≡ record { wire = name; log = log first; sent = 0 }
     → SendsLines l now result old (record { wire = other; log = log last; sent = sent })
@@ -180,6 +186,6 @@ emits_at log l now result first last after name other sent old fresh sends leave
     let new : Sending = record { wire = other; log = log last; sent = sent } in
     let same : other ≡ name =
     same_wire l now result old new sends ∙ ap (λ (s : Sending). s.wire) fresh in
-    subst (λ (x : Log). Emits l (emitted result sent) (log first) x) (sym (ap log (leaves (sym same))))
+    subst (λ (x : WireLog). Emits l (emitted result sent) (log first) x) (sym (ap log (leaves (sym same))))
     (emits l now name (log first) result new
     (subst (λ (s : Sending). SendsLines l now result s new) fresh sends))

@@ -6,7 +6,7 @@ use Rattle.cut_plan.specs.Versions.{version_of}
 use Rattle.cut_lines.specs.Lines.{header, line_with}
 use Rattle.cut_ledger.specs.Contents.{Contents, cell_done, cell_sum}
 use Rattle.cut_ledger.specs.Machine.{available}
-use Rattle.cut_wires.specs.Log.{Log, wrote, write_failed}
+use Rattle.cut_wires.specs.Log.{WireLog, wrote, write_failed}
 use Rattle.cut_wires.specs.declared.rows.RowsFault.{RowsFault}
 use Rattle.cut_wires.specs.declared.rows.RowsFault.TheVariants.{Row, Write as Unsent}
 use Rattle.cut_wires.specs.Rows.{Table}
@@ -37,7 +37,7 @@ AreDone l = (i : ℕ) → i < length (cells_of l.plan) → cell_done l i ≡ tru
 -- what a wire took of a table, and why its writing ended: the header and the lines of all cells; those before the
 -- first cell that is not done; or exactly as many of the first bytes of these as are reported and not all, where a
 -- write failed or memory ran out
-abbrev pub Emits : Contents → Result ⊤ TableFault → Log → Log → Type 0
+abbrev pub Emits : Contents → Result ⊤ TableFault → WireLog → WireLog → Type 0
 Emits l (Ok done) old new = AreDone l × (new ≡ wrote old (available l))
 Emits l (Err (NotDone c)) old new = IsFirstUndone l c × (new ≡ wrote old (available l))
 Emits l (Err (Write fault)) old new =

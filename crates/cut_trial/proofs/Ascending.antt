@@ -1,6 +1,9 @@
 -- Ascending members and the targets among them, by counts.
-use Rattle.std.proofs.Common.{◌≡◌, ℕ, ◌+◌, false, not, refl, List, Option, Some, None, option_map, length, nat_lt, sym, ap, ◌∙◌, arith}
-use Rattle.cut_trial.proofs.Words.{find, IfSome, count_by, range_with_len, EdgeSet, Layout, is_settled, is_stable, stable_members, Rule, proposal_of, Proposal, Assignment, is_target, has_process, processes_of, targets_of, lacks_target, has_other, is_missed, judged, AreAscending}
+use Rattle.std.proofs.Common.{◌≡◌, ℕ, ◌+◌, false, not, refl, List, Option, Some, None, option_map, length, nat_lt, sym}
+use Rattle.std.proofs.Common.{ap, ◌∙◌, arith}
+use Rattle.cut_trial.proofs.Words.{find, IfSome, count_by, range_with_len, EdgeSet, Layout, is_settled, is_stable}
+use Rattle.cut_trial.proofs.Words.{stable_members, Rule, proposal_of, Proposal, Assignment, is_target, has_process}
+use Rattle.cut_trial.proofs.Words.{processes_of, targets_of, lacks_target, has_other, is_missed, judged, AreAscending}
 use Rattle.std.specs.Borrow.{Bor}
 use Rattle.std.proofs.lemmas.Bool.{le-ltb}
 use Rattle.std.proofs.lemmas.List.Elements.{filter_passes}
@@ -38,7 +41,8 @@ pub exact_is_right : (a : Assignment) (p : Proposal) → p.members ≡ targets_o
 exact_is_right a p is =
     let targets : List ℕ = targets_of a in
     let all = count_by_all (λ x. is_target a x) targets (filter_passes (λ x. is_target a x) (processes_of a)) in
-    let none : nat_lt (count_by (λ x. is_target a x) targets) (length targets) ≡ false = le-ltb _ _ (omega (arith, all)) in
+    let none : nat_lt (count_by (λ x. is_target a x) targets) (length targets) ≡ false = le-ltb _ _ (omega (arith, all))
+    in
     let lacks = lacks_target-count a targets (filter-again (λ x. is_target a x) (length a.roles)) ∙ none in
     let other = has_other-count a targets ∙ none in
     rw (is, lacks, other) refl

@@ -1,7 +1,12 @@
 -- With a higher H, and without implicit alerts with a lower L too, a receiver proposes later and of more, so
 -- it is judged silent more often and a conflict less often.
-use Rattle.std.proofs.Common.{◌≡◌, ℕ, ◌≤◌, Bool, true, false, not, List, Option, Some, None, length, inl, inr, refl, sym, ap, subst}
-use Rattle.cut_trial.proofs.Words.{◌||◌, ◌==◌, Contains, Cell, Values, Edge, EdgeSet, Layout, Source, all_deliveries, early, Assignment, is_target, alert_list, drawn, proposal_of, rule_of, ProposesBefore, AWiderGapProposesLater, AGapWiderAtBothEndsProposesLater, Proposal, Verdict, with_marks, IsMoreCautious, AreMoreCautious, has_process, processes_of, is_missed, lacks_target, judged, receivers_of, receiver_proposal, cell_outcome}
+use Rattle.std.proofs.Common.{◌≡◌, ℕ, ◌≤◌, Bool, true, false, not, List, Option, Some, None, length, inl, inr, refl}
+use Rattle.std.proofs.Common.{sym, ap, subst}
+use Rattle.cut_trial.proofs.Words.{◌||◌, ◌==◌, Contains, Cell, Values, Edge, EdgeSet, Layout, Source, all_deliveries}
+use Rattle.cut_trial.proofs.Words.{early, Assignment, is_target, alert_list, drawn, proposal_of, rule_of}
+use Rattle.cut_trial.proofs.Words.{ProposesBefore, AWiderGapProposesLater, AGapWiderAtBothEndsProposesLater, Proposal}
+use Rattle.cut_trial.proofs.Words.{Verdict, with_marks, IsMoreCautious, AreMoreCautious, has_process, processes_of}
+use Rattle.cut_trial.proofs.Words.{is_missed, lacks_target, judged, receivers_of, receiver_proposal, cell_outcome}
 use Rattle.std.proofs.lemmas.Bool.{and_from, and_parts, or_cases, or_right, cases_Bool, both_ways, not_from_false}
 use Rattle.cut_lists.proofs.Counts.{list_any-implied, list_any-among, counts-into}
 use Rattle.cut_lists.proofs.Maps.{count_by-map}

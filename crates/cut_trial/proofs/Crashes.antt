@@ -1,8 +1,16 @@
 -- Where nothing fails, no edge is alerted. Where processes fail by crashes alone, only targets are alerted,
 -- so only targets are proposed; and where crashed observers speak, every receiver hears of each target on all
 -- rings, and proposes.
-use Rattle.std.proofs.Common.{◌≡◌, ◌⊎◌, ℕ, ◌<◌, ◌≤◌, Bool, true, false, not, List, [], ◌∷◌, Option, Some, None, MatchOption, length, get_or, map, nat_lt, nat_le, inl, inr, refl, sym, ap, ◌∙◌, arith}
-use Rattle.cut_trial.proofs.Words.{◌&&◌, ◌||◌, count_by, range_with_len, flat_map, Cell, trial_count, IsPlan, Values, Edge, EdgeSet, Layout, observer_of, Source, source_of, all_deliveries, copies_of, early, Assignment, role_at, has_crashed, is_target, alerts_about, is_alerted, alert_list, all_edges, speaks, Rule, rule_of, ring_count, reports_of, is_reported, is_gained, is_full, full_count, is_stable, proposal_of, IsSettled, IsOfLeastPlace, ProposesAtLeastPlace, ReportsTargetsAlone, StableAreTargets, TargetsAloneLeaveNoneUnstable, Proposal, OnlyCrashes, judged, receivers_of, processes_of, rings_of, receiver_proposal, cell_at, outcome}
+use Rattle.std.proofs.Common.{◌≡◌, ◌⊎◌, ℕ, ◌<◌, ◌≤◌, Bool, true, false, not, List, [], ◌∷◌, Option, Some, None}
+use Rattle.std.proofs.Common.{MatchOption, length, get_or, map, nat_lt, nat_le, inl, inr, refl, sym, ap, ◌∙◌, arith}
+use Rattle.cut_trial.proofs.Words.{◌&&◌, ◌||◌, count_by, range_with_len, flat_map, Cell, trial_count, IsPlan, Values}
+use Rattle.cut_trial.proofs.Words.{Edge, EdgeSet, Layout, observer_of, Source, source_of, all_deliveries, copies_of}
+use Rattle.cut_trial.proofs.Words.{early, Assignment, role_at, has_crashed, is_target, alerts_about, is_alerted}
+use Rattle.cut_trial.proofs.Words.{alert_list, all_edges, speaks, Rule, rule_of, ring_count, reports_of, is_reported}
+use Rattle.cut_trial.proofs.Words.{is_gained, is_full, full_count, is_stable, proposal_of, IsSettled, IsOfLeastPlace}
+use Rattle.cut_trial.proofs.Words.{ProposesAtLeastPlace, ReportsTargetsAlone, StableAreTargets}
+use Rattle.cut_trial.proofs.Words.{TargetsAloneLeaveNoneUnstable, Proposal, OnlyCrashes, judged, receivers_of}
+use Rattle.cut_trial.proofs.Words.{processes_of, rings_of, receiver_proposal, cell_at, outcome}
 use Rattle.std.proofs.lemmas.Bool.{and_from, and_parts, or_left, or_right, lt-ltb, leb-true, ltb-true}
 use Rattle.std.proofs.lemmas.List.Elements.{All-contains, All-map, Contains-get_or}
 use Rattle.std.proofs.lemmas.List.Folds.{list_any_none}

@@ -1,7 +1,13 @@
 -- How soon receivers propose: each ring of a process is heard of by a delivery of its own, so not before as
 -- many deliveries as a watermark says.
-use Rattle.std.proofs.Common.{◌≡◌, ℕ, ◌-◌, ◌*◌, ◌<◌, ◌≤◌, Bool, true, false, ◌&&◌, ◌||◌, List, Option, Some, None, MatchOption, filter, length, get_or, inl, inr, refl, sym, ap, ◌∙◌, arith, nat_lt}
-use Rattle.cut_trial.proofs.Words.{Contains, IfSome, range_with_len, Cell, Values, cell_at, outcome, rings_of, deliveries_at, rule_of, source_of, Edge, EdgeSet, Layout, observer_of, edge_number, is_edge, Source, key_at, Delivery, all_deliveries, compare_deliveries, delivery_place, delivery_rank, early, Rule, reports_of, ring_count, is_full, is_reported, is_stable, full_count, IsOfLeastPlace, IsSettled, ProposesAtLeastPlace, Proposal}
+use Rattle.std.proofs.Common.{◌≡◌, ℕ, ◌-◌, ◌*◌, ◌<◌, ◌≤◌, Bool, true, false, ◌&&◌, ◌||◌, List, Option, Some, None}
+use Rattle.std.proofs.Common.{MatchOption, filter, length, get_or, inl, inr, refl, sym, ap, ◌∙◌, arith, nat_lt}
+use Rattle.cut_trial.proofs.Words.{Contains, IfSome, range_with_len, Cell, Values, cell_at, outcome, rings_of}
+use Rattle.cut_trial.proofs.Words.{deliveries_at, rule_of, source_of, Edge, EdgeSet, Layout, observer_of, edge_number}
+use Rattle.cut_trial.proofs.Words.{is_edge, Source, key_at, Delivery, all_deliveries, compare_deliveries}
+use Rattle.cut_trial.proofs.Words.{delivery_place, delivery_rank, early, Rule, reports_of, ring_count, is_full}
+use Rattle.cut_trial.proofs.Words.{is_reported, is_stable, full_count, IsOfLeastPlace, IsSettled, ProposesAtLeastPlace}
+use Rattle.cut_trial.proofs.Words.{Proposal}
 use Rattle.std.specs.declared.cmp.Ordering.{Ordering}
 use Rattle.std.specs.declared.cmp.Ordering.TheVariants.{Less, Equal, Greater}
 use Rattle.std.specs.Ordering.{nat_cmp, ordering_then, ordering_reverse}
@@ -95,7 +101,8 @@ module _ (d : Source) (j k : ℕ) (edges : List Edge) (copies n s : ℕ) where
           omega (arith, same, less))
       by Equal is =
           let number : edge_number k x.edge ≡ edge_number k y.edge =
-          exact_unsigned _ _ (numbers_tie (nat_cmp (key_at d (delivery_place j k x)) (key_at d (delivery_place j k y))) _ _ is) in
+          exact_unsigned _ _ (numbers_tie (nat_cmp (key_at d (delivery_place j k x)) (key_at d (delivery_place j k y)))
+          _ _ is) in
           let subject : x.edge.subject * k ≡ y.edge.subject * k = ap (λ q. q * k) (first.about ∙ sym second.about) in
           omega (arith, number, subject, first.on_ring, second.on_ring)
 
@@ -103,18 +110,19 @@ module _ (d : Source) (j k : ℕ) (edges : List Edge) (copies n s : ℕ) where
   pub few_rings : ring_count k (λ ring q. early d j k edges copies n ring q) s ≤ n
   few_rings =
       let rings : List ℕ = filter heard (range_with_len 0 k) in
-      let up = sorted_from_strictly_increasing rings (IsStrictlyIncreasing-filter heard (range_with_len 0 k) (range-rises 0 k)) in
+      let up = sorted_from_strictly_increasing rings
+      (IsStrictlyIncreasing-filter heard (range_with_len 0 k) (range-rises 0 k)) in
       let ring : ℕ → ℕ = λ i. get_or rings i 0 in
       let is : (i : ℕ) → i < length rings → heard (ring i) ≡ true =
       λ i low. (Contains-filter_of heard 0 k (ring i) (Contains-get_or rings i 0 low)).passes in
       let rank_at : ℕ → ℕ = λ i. rank_by (ring i) (heard (ring i)) refl in
-      let told : (i : ℕ) → i < length rings → (x : Delivery) × (rank_at i ≡ rank x) × Brings (ring i) x =
+      let reported : (i : ℕ) → i < length rings → (x : Delivery) × (rank_at i ≡ rank x) × Brings (ring i) x =
       λ i low. rank_is (ring i) (heard (ring i)) refl (is i low) in
       let few = pigeonhole (length rings) n rank_at
-      (λ i low. (let x = told i low in let soon = x.2.soon in omega (arith, x.1, soon)))
+      (λ i low. (let x = reported i low in let soon = x.2.soon in omega (arith, x.1, soon)))
       (λ a b low_a low_b same.
-      (let x = told a low_a in
-      let y = told b low_b in
+      (let x = reported a low_a in
+      let y = reported b low_b in
       let one : ring a ≡ ring b = same_ring (ring a) (ring b) x.0 y.0 x.2 y.2 (sym x.1 ∙ same ∙ y.1) in
       elim (cases_lt a b) [
         | inl less ↦ absurd (let rises = below_from_sorted rings a b 0 up less low_b in omega (arith, one, rises))

@@ -1,6 +1,9 @@
 -- The fast round: votes and quorums, and how a ballot's entries follow the proposals that were added.
-use Rattle.std.proofs.Common.{◌≡◌, ℕ, ◌+◌, ◌<◌, ◌≤◌, Bool, true, false, cond, List, [], ◌∷◌, ◌++◌, replicate, Option, Some, None, length, get_or, map, max, fold, ◌*◌, mul-one, mul-zero, refl, sym, ap, ◌∙◌, inl, inr, arith, add-zero, nat_le, unwrap_or}
-use Rattle.cut_trial.proofs.Words.{IsDistinct, Assignment, Proposal, judged, count_by, same_members, quorum_of, votes_of, most_votes, cast_of, HasCounted, one_if}
+use Rattle.std.proofs.Common.{◌≡◌, ℕ, ◌+◌, ◌<◌, ◌≤◌, Bool, true, false, cond, List, [], ◌∷◌, ◌++◌, replicate, Option}
+use Rattle.std.proofs.Common.{Some, None, length, get_or, map, max, fold, ◌*◌, mul-one, mul-zero, refl, sym, ap, ◌∙◌}
+use Rattle.std.proofs.Common.{inl, inr, arith, add-zero, nat_le, unwrap_or}
+use Rattle.cut_trial.proofs.Words.{IsDistinct, Assignment, Proposal, judged, count_by, same_members, quorum_of}
+use Rattle.cut_trial.proofs.Words.{votes_of, most_votes, cast_of, HasCounted, one_if}
 use Rattle.std.specs.Cmp.Lexicographic.{same_text, on_texts_equal}
 use Rattle.std.specs.HashMap.{HashMap, UpdatesBy}
 use Rattle.std.specs.Map.{lookup, keys_of, values_of, KeepsOthers}
@@ -72,8 +75,18 @@ few_cast ((Some p) ∷ ps) = omega (arith, few_cast ps)
 pub cast_or_silent : (a : Assignment) (ps : List (Option Proposal))
     → length (cast_of ps) + count_by (λ p. (judged a p).silent) ps ≡ length ps
 cast_or_silent a [] = refl
-cast_or_silent a (None ∷ ps) = omega (arith, cast_or_silent a ps, sum_by-cons (λ p. cond (judged a p).silent 1 0) None ps)
-cast_or_silent a ((Some p) ∷ ps) = omega (arith, cast_or_silent a ps, sum_by-cons (λ p. cond (judged a p).silent 1 0) (Some p) ps)
+cast_or_silent a (None ∷ ps) = omega (
+  arith,
+  cast_or_silent a ps,
+  sum_by-cons (λ p. cond (judged a p).silent 1 0) None
+      ps,
+)
+cast_or_silent a ((Some p) ∷ ps) = omega (
+  arith,
+  cast_or_silent a ps,
+  sum_by-cons (λ p. cond (judged a p).silent 1 0)
+      (Some p) ps,
+)
 
 -- where the votes reach a quorum, they are as many
 pub quorum_of_votes : (q votes : ℕ) → q * one_if (nat_le q votes) ≤ votes

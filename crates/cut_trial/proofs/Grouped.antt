@@ -17,7 +17,8 @@ nothing_of_each (x ∷ xs) = nothing_of_each xs
 pub none_are_grouped : (k n : ℕ) → [] ≡ edges_in k n (set_of [])
 none_are_grouped k n =
     nothing_of_each (range_with_len 0 n)
-    ∙ flat_map-agree (λ s. nothing s) (λ s. map (λ ring. edge_to s ring) (rings_to k (set_of []) s)) (range_with_len 0 n)
+    ∙ flat_map-agree (λ s. nothing s) (λ s. map (λ ring. edge_to s ring) (rings_to k (set_of []) s))
+    (range_with_len 0 n)
     (All-range_with_len (λ s. nothing s ≡ map (λ ring. edge_to s ring) (rings_to k (set_of []) s)) 0 n
     (λ s _ _. ap (λ rings. map (λ ring. edge_to s ring) rings)
     (sym (filter-none (λ ring. false) (range_with_len 0 k) (λ j d low. refl)))))

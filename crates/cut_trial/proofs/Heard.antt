@@ -1,6 +1,9 @@
 -- What a receiver has heard: nothing that is not alerted, and at the end all that is.
 use Rattle.std.proofs.Common.{◌≡◌, ℕ, ◌<◌, ◌≤◌, Bool, true, List, length, get_or, nat_lt, refl, sym, ap, ◌∙◌, arith}
-use Rattle.cut_trial.proofs.Words.{◌&&◌, range_with_len, list_any, Edge, set_of, is_edge, edge_number, Layout, observer_of, Delivery, Source, key_at, all_deliveries, copies_of, delivery_place, compare_deliveries, delivery_rank, early, Assignment, alerts_about, is_alerted, alert_list, all_edges, edges_of, Grows}
+use Rattle.cut_trial.proofs.Words.{◌&&◌, range_with_len, list_any, Edge, set_of, is_edge, edge_number, Layout}
+use Rattle.cut_trial.proofs.Words.{observer_of, Delivery, Source, key_at, all_deliveries, copies_of, delivery_place}
+use Rattle.cut_trial.proofs.Words.{compare_deliveries, delivery_rank, early, Assignment, alerts_about, is_alerted}
+use Rattle.cut_trial.proofs.Words.{alert_list, all_edges, edges_of, Grows}
 use Rattle.std.proofs.lemmas.Bool.{and_from, and_parts, eq-eqb, eqb-true, lt-ltb, ltb-true}
 use Rattle.std.proofs.lemmas.Cmp.{nat_cmp_total, then_total, on_total}
 use Rattle.std.proofs.lemmas.List.Elements.{Contains-get_or}

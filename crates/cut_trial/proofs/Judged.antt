@@ -1,5 +1,7 @@
 -- How receivers are judged by what is found in lanes.
-use Rattle.std.proofs.Common.{◌≡◌, ℕ, ◌+◌, ◌<◌, ◌≤◌, ◌||◌, ◌&&◌, Bool, true, false, not, min, List, [], ◌∷◌, ◌++◌, Option, Some, None, map, filter, take, get_or, length, inl, inr, refl, sym, ap, ◌∙◌, subst, arith}
+use Rattle.std.proofs.Common.{◌≡◌, ℕ, ◌+◌, ◌<◌, ◌≤◌, ◌||◌, ◌&&◌, Bool, true, false, not, min, List, [], ◌∷◌, ◌++◌}
+use Rattle.std.proofs.Common.{Option, Some, None, map, filter, take, get_or, length, inl, inr, refl, sym, ap, ◌∙◌}
+use Rattle.std.proofs.Common.{subst, arith}
 use Rattle.std.specs.Prelude.{All, IfSome, Result, Ok, Err, OnOk, ◌^◌}
 use Rattle.std.proofs.lemmas.Bool.{both_ways, cases_Bool, cases_lt, le-leb, leb-true, ltb-true}
 use Rattle.std.proofs.lemmas.List.{length-map, length-take, map_more, take_all}
@@ -7,7 +9,8 @@ use Rattle.std.proofs.lemmas.List.Elements.{All-filter}
 use Rattle.std.proofs.lemmas.List.Sums.{length-filter}
 use Rattle.cut_lists.proofs.Counts.{list_any-count_by}
 use Rattle.cut_lists.proofs.Maps.{count_by-map}
-use Rattle.cut_lists.proofs.Ranges.{All-range_with_len, few_filtered, count_by_agree, none_passing, passing, list_any_passing}
+use Rattle.cut_lists.proofs.Ranges.{All-range_with_len, few_filtered, count_by_agree, none_passing, passing}
+use Rattle.cut_lists.proofs.Ranges.{list_any_passing}
 use Rattle.cut_detector.specs.Counts.{full_count, reports_of}
 unfoldable use Rattle.cut_detector.specs.Counts.{is_full, is_reported, is_some_stable, is_stable}
 use Rattle.cut_receivers.specs.declared.finding.Finding.{Finding}
@@ -15,7 +18,9 @@ use Rattle.cut_receivers.specs.declared.finding.Finding.TheVariants.{Doubtful, O
 use Rattle.cut_receivers.specs.Findings.{flagged, Finds}
 use Rattle.cut_trial.specs.declared.alerts.Alerts.{Alerts}
 use Rattle.cut_trial.specs.Judging.{proposed_by, proposals_to}
-use Rattle.cut_trial.proofs.Words.{Assignment, Cell, Edge, EdgeSet, IsTrue, Layout, Rule, Source, Values, all_deliveries, count_by, early, is_target, list_any, proposal_of, range_with_len, receiver_proposal, receivers_of, rule_of}
+use Rattle.cut_trial.proofs.Words.{Assignment, Cell, Edge, EdgeSet, IsTrue, Layout, Rule, Source, Values}
+use Rattle.cut_trial.proofs.Words.{all_deliveries, count_by, early, is_target, list_any, proposal_of, range_with_len}
+use Rattle.cut_trial.proofs.Words.{receiver_proposal, receivers_of, rule_of}
 
 -- ---- flags
 
@@ -47,7 +52,8 @@ all_of_both : (f q : ℕ → Bool) (xs : List ℕ) → length (filter f (filter 
 all_of_both f q [] many = refl
 all_of_both f q (x ∷ xs) many = elim (cases_Bool (q x)) [
   | inl both ↦ elim (cases_Bool (f x)) [
-    | inl is ↦ rw (both, is) (ap (λ ys. x ∷ ys) (all_of_both f q xs (let same = rw (both, is) at many in omega (arith, same))))
+    | inl is ↦ rw (both, is) (ap (λ ys. x ∷ ys) (all_of_both f q xs
+        (let same = rw (both, is) at many in omega (arith, same))))
     | inr is ↦ rw (both, is) (all_of_both f q xs (rw (both, is) at many))
   ]
   | inr not_both ↦ elim (cases_Bool (f x)) [
@@ -97,14 +103,16 @@ some_reported r rule E gap some =
     (stable_is_reported r rule E found.0 gap found.1.passes)
 
 -- so where some process is stable in the end there is a node
-pub some_node : {X : Type 0} (r : Layout) (rule : Rule) (E : EdgeSet) (subject : X → ℕ) (nodes : List X) → rule.l ≤ rule.h
+pub some_node : {X : Type 0} (r : Layout) (rule : Rule) (E : EdgeSet) (subject : X → ℕ) (nodes : List X) → rule.l
+    ≤ rule.h
     → is_some_stable r rule E ≡ true
     → map subject nodes ≡ filter (λ s. is_reported rule E s) (range_with_len 0 r.nodes) → 0 < length nodes
 some_node r rule E subject nodes gap some are =
     let reported : ℕ → Bool = λ s. is_reported rule E s in
     let many : length nodes ≡ count_by reported (range_with_len 0 r.nodes) =
     sym (length-map nodes subject) ∙ ap (λ xs. length xs) are ∙ length-filter reported (range_with_len 0 r.nodes) in
-    let any = ltb-true 0 _ (sym (list_any-count_by reported (range_with_len 0 r.nodes)) ∙ some_reported r rule E gap some) in
+    let any = ltb-true 0 _ (sym (list_any-count_by reported (range_with_len 0 r.nodes))
+    ∙ some_reported r rule E gap some) in
     omega (arith, many, any)
 
 -- ---- receivers
@@ -188,7 +196,8 @@ pub subjects_within : (q : ℕ → Bool) (n m : ℕ) (subjects : List ℕ) → s
     → All (λ s. s < m) subjects
 subjects_within q n m subjects are same =
     subst (λ (xs : List ℕ). All (λ s. s < m) xs) (sym are)
-    (All-filter q (λ s. s < m) (range_with_len 0 n) (All-range_with_len (λ s. s < m) 0 n (λ s _ below. omega (arith, below, same))))
+    (All-filter q (λ s. s < m) (range_with_len 0 n)
+    (All-range_with_len (λ s. s < m) 0 n (λ s _ below. omega (arith, below, same))))
 
 -- ---- other members
 

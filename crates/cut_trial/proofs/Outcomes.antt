@@ -1,6 +1,12 @@
 -- One trial: its numbers are its outcome once its parts are those of the plan, and they are possible ones.
-use Rattle.std.proofs.Common.{◌≡◌, ℕ, ◌+◌, ◌-◌, ◌*◌, ◌/◌, ◌^◌, ◌<◌, ◌≤◌, min, Bool, true, cond, List, [], ◌∷◌, ◌++◌, Option, Some, None, option_map, get_or, map, length, refl, sym, ap, ◌∙◌, arith, nat_le}
-use Rattle.cut_trial.proofs.Words.{Contains, IfSome, count_by, slice_get, early, rule_of, Cell, Values, IsPlan, cells_of, deliveries_at, largest, trial_count, Edge, Layout, Source, source_of, Assignment, drawn, alert_list, Proposal, receivers_of, targets_of, judged, quorum_of, votes_of, most_votes, cast_of, rings_of, receiver_proposal, totals_of, cell_at, no_cell, one_if, outcome, place_of, place_for, settled_of, IsPlaced, AreByVotes, ArePossible, LiesWithin}
+use Rattle.std.proofs.Common.{◌≡◌, ℕ, ◌+◌, ◌-◌, ◌*◌, ◌/◌, ◌^◌, ◌<◌, ◌≤◌, min, Bool, true, cond, List, [], ◌∷◌, ◌++◌}
+use Rattle.std.proofs.Common.{Option, Some, None, option_map, get_or, map, length, refl, sym, ap, ◌∙◌, arith, nat_le}
+use Rattle.cut_trial.proofs.Words.{Contains, IfSome, count_by, slice_get, early, rule_of, Cell, Values, IsPlan}
+use Rattle.cut_trial.proofs.Words.{cells_of, deliveries_at, largest, trial_count, Edge, Layout, Source, source_of}
+use Rattle.cut_trial.proofs.Words.{Assignment, drawn, alert_list, Proposal, receivers_of, targets_of, judged, quorum_of}
+use Rattle.cut_trial.proofs.Words.{votes_of, most_votes, cast_of, rings_of, receiver_proposal, totals_of, cell_at}
+use Rattle.cut_trial.proofs.Words.{no_cell, one_if, outcome, place_of, place_for, settled_of, IsPlaced, AreByVotes}
+use Rattle.cut_trial.proofs.Words.{ArePossible, LiesWithin}
 use Rattle.std.specs.List.{sum_by}
 use Rattle.std.proofs.lemmas.Nat.{div_below}
 use Rattle.std.proofs.lemmas.List.{length-map, length_push}
@@ -10,7 +16,8 @@ use Rattle.std.proofs.lemmas.List.Sums.{count_by-le-length, sum_by_push}
 use Rattle.std.proofs.lemmas.Option.{get_or_from_slice_get}
 use mir.Val.{bool_byte}
 use Rattle.cut_lists.proofs.Counts.{counts-apart}
-use Rattle.cut_trial.proofs.FastRound.{byte_of, cast_or_silent, few_cast, few_votes_cast, most_votes_are_most, one_if-le, quorum_of_votes}
+use Rattle.cut_trial.proofs.FastRound.{byte_of, cast_or_silent, few_cast, few_votes_cast, most_votes_are_most}
+use Rattle.cut_trial.proofs.FastRound.{one_if-le, quorum_of_votes}
 use Rattle.cut_trial.proofs.Places.{IsPlacedBy, few_deliveries, placed, places_from, places_within, settled_by}
 use Rattle.cut_trial.proofs.Roles.{receivers_are_the_rest}
 use Rattle.cut_plan.specs.declared.version.Version.{Version}

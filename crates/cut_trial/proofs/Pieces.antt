@@ -1,5 +1,6 @@
 -- What is known of a piece of a plan: it ends below 2^32, and its trials are of one cell.
-use Rattle.std.proofs.Common.{◌≡◌, ℕ, zero, suc, ◌+◌, ◌-◌, ◌/◌, ◌<◌, ◌≤◌, ◌^◌, ◌==◌, ◌&&◌, length, get_or, ap, arith, nat_lt, nat_le}
+use Rattle.std.proofs.Common.{◌≡◌, ℕ, zero, suc, ◌+◌, ◌-◌, ◌/◌, ◌<◌, ◌≤◌, ◌^◌, ◌==◌, ◌&&◌, length, get_or, ap, arith}
+use Rattle.std.proofs.Common.{nat_lt, nat_le}
 use Rattle.cut_trial.proofs.Words.{IsTrue, cells_of, trial_count, IsPlan, Values, Piece, cell_at, no_cell, is_piece}
 use Rattle.std.proofs.Math.Nat.{div-mul-le_self, div-zero}
 use Rattle.std.proofs.lemmas.Bool.{and_parts, eqb-true, ltb-true, leb-true}

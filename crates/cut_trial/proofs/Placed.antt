@@ -41,7 +41,8 @@ pub found_placed : (x : Hearing) (version : Version) (wanted : List ℕ) (i : �
 found_placed x version wanted i doubt f None place low unasked known silent counted finds doubtful =
     subst (λ o. IfSome o (λ n. doubt ≡ false → IfSome (proposal_at x) (λ p. IsPlaced version n (Some p)))) (sym unasked)
     (λ certain. silent_placed version (proposal_at x) (λ two.
-    (none_proposed (proposal_at x) (sym (unproposed wanted (members_at x) (finding_in f i) doubt (silent two i low) doubtful
+    (none_proposed (proposal_at x) (sym (unproposed wanted (members_at x) (finding_in f i) doubt (silent two i low)
+    doubtful
     certain finds)))))
 found_placed x version wanted i doubt f (Some p) None low unasked known silent counted finds doubtful = tt
 found_placed x version wanted i doubt f (Some p) (Some n) low unasked known silent counted finds doubtful =

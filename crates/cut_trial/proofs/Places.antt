@@ -1,6 +1,10 @@
 -- After how many deliveries receivers propose, and what these places add up to.
-use Rattle.std.proofs.Common.{◌≡◌, ℕ, ◌+◌, ◌-◌, ◌*◌, ◌≤◌, Bool, true, false, cond, List, [], ◌∷◌, Option, Some, None, option_map, length, refl, arith, mul-add, mul-one, mul-zero}
-use Rattle.cut_trial.proofs.Words.{All, IfSome, count_by, find, range_with_len, flat_map, Edge, EdgeSet, Layout, Delivery, all_deliveries, copies_of, Assignment, alert_list, all_edges, edges_of, is_alerted, is_settled, stable_members, Rule, proposal_of, Proposal, judged, place_of, settled_of, IsSettledBy, LiesWithin}
+use Rattle.std.proofs.Common.{◌≡◌, ℕ, ◌+◌, ◌-◌, ◌*◌, ◌≤◌, Bool, true, false, cond, List, [], ◌∷◌, Option, Some, None}
+use Rattle.std.proofs.Common.{option_map, length, refl, arith, mul-add, mul-one, mul-zero}
+use Rattle.cut_trial.proofs.Words.{All, IfSome, count_by, find, range_with_len, flat_map, Edge, EdgeSet, Layout}
+use Rattle.cut_trial.proofs.Words.{Delivery, all_deliveries, copies_of, Assignment, alert_list, all_edges, edges_of}
+use Rattle.cut_trial.proofs.Words.{is_alerted, is_settled, stable_members, Rule, proposal_of, Proposal, judged}
+use Rattle.cut_trial.proofs.Words.{place_of, settled_of, IsSettledBy, LiesWithin}
 use Rattle.std.specs.List.{sum_by}
 use Rattle.std.proofs.lemmas.List.{length-map}
 use Rattle.std.proofs.lemmas.List.Concat.{length-flat_map}
@@ -126,7 +130,7 @@ places_from a b (o ∷ ps) each =
     one_more_from a b o ps (All-head (λ o. IfSome o (λ (p : Proposal). b ≤ p.at)) o ps each)
     (places_from a b ps (All-tail (λ o. IfSome o (λ (p : Proposal). b ≤ p.at)) o ps each))
 
--- ---- what a plan of either version tells of it
+-- ---- what a plan of either version has of it
 
 pub settled_by : (version : Version) (ps : List (Option Proposal)) (n m most : ℕ)
     → LiesWithin n m (sum_by place_of ps) → m ≤ most → IsSettledBy version n most (settled_of version ps)

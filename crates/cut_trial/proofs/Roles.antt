@@ -1,7 +1,10 @@
 -- The roles of a trial: who is a target, and how many receive. Ranks are a bijection, so as many processes
 -- are targets as the cell fails.
-use Rattle.std.proofs.Common.{◌≡◌, ◌⊎◌, ℕ, ◌+◌, ◌-◌, ◌<◌, ◌||◌, Bool, true, false, length, map, not, nat_lt, inl, inr, refl, sym, ap, ◌∙◌, arith, zero-add}
-use Rattle.cut_trial.proofs.Words.{count_by, if◌then◌else◌, range_with_len, Values, deaf_of, Layout, subject_of, Source, key_at, process_place, process_rank, compare_processes, is_crashed_role, is_deaf_role, is_target, role_at, drawn, ranked_role, receivers_of}
+use Rattle.std.proofs.Common.{◌≡◌, ◌⊎◌, ℕ, ◌+◌, ◌-◌, ◌<◌, ◌||◌, Bool, true, false, length, map, not, nat_lt, inl, inr}
+use Rattle.std.proofs.Common.{refl, sym, ap, ◌∙◌, arith, zero-add}
+use Rattle.cut_trial.proofs.Words.{count_by, if◌then◌else◌, range_with_len, Values, deaf_of, Layout, subject_of, Source}
+use Rattle.cut_trial.proofs.Words.{key_at, process_place, process_rank, compare_processes, is_crashed_role}
+use Rattle.cut_trial.proofs.Words.{is_deaf_role, is_target, role_at, drawn, ranked_role, receivers_of}
 use Rattle.std.specs.Ordering.{nat_cmp}
 use Rattle.std.proofs.lemmas.Bool.{cases_lt, lt-ltb, ltb-true, le-ltb}
 use Rattle.std.proofs.lemmas.Cmp.{nat_cmp_total, then_total, on_total}

@@ -1,6 +1,8 @@
 -- Sums over trials: one trial more, parts, and what the sums over trials of one cell can be.
-use Rattle.std.proofs.Common.{◌≡◌, ℕ, ◌+◌, ◌-◌, ◌*◌, ◌≤◌, List, [], ◌∷◌, ◌++◌, length, sym, ap, ◌∙◌, arith, zero-mul, suc-mul, mul-zero, mul-add}
-use Rattle.cut_trial.proofs.Words.{All, IsTrue, range_with_len, Cell, Values, IsPlan, Piece, Totals, cell_at, outcome, each_number, plus, sum_of, is_piece, IsAtMost, AreByVotes, ArePossible, quorum_of}
+use Rattle.std.proofs.Common.{◌≡◌, ℕ, ◌+◌, ◌-◌, ◌*◌, ◌≤◌, List, [], ◌∷◌, ◌++◌, length, sym, ap, ◌∙◌, arith, zero-mul}
+use Rattle.std.proofs.Common.{suc-mul, mul-zero, mul-add}
+use Rattle.cut_trial.proofs.Words.{All, IsTrue, range_with_len, Cell, Values, IsPlan, Piece, Totals, cell_at, outcome}
+use Rattle.cut_trial.proofs.Words.{each_number, plus, sum_of, is_piece, IsAtMost, AreByVotes, ArePossible, quorum_of}
 use Rattle.std.proofs.lemmas.List.Elements.{All-head, All-tail}
 use Rattle.std.proofs.lemmas.List.FromFn.{length-range_with_len}
 use Rattle.std.proofs.lemmas.List.Sums.{sum_by_push, sum_by-append, sum_by-cons}

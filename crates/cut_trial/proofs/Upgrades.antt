@@ -1,7 +1,9 @@
 -- A plan and its upgrade: as many targets of a trial are deaf, so it draws the same roles, and all else but what
--- the plan tells of places is the same.
+-- the plan says of places is the same.
 use Rattle.std.proofs.Common.{◌≡◌, ℕ, List, [], ◌∷◌, refl, ap, arith}
-use Rattle.cut_trial.proofs.Words.{All, Contains, Cell, Values, IsPlan, Totals, deaf_of, Layout, Source, source_of, drawn, rings_of, totals_of, cell_at, each_number, outcome, proposals_of, trials_in, without_settled}
+use Rattle.cut_trial.proofs.Words.{All, Contains, Cell, Values, IsPlan, Totals, deaf_of, Layout, Source, source_of}
+use Rattle.cut_trial.proofs.Words.{drawn, rings_of, totals_of, cell_at, each_number, outcome, proposals_of, trials_in}
+use Rattle.cut_trial.proofs.Words.{without_settled}
 use Rattle.std.specs.List.{sum_by}
 use Rattle.std.proofs.lemmas.List.Elements.{All-head, All-tail}
 use Rattle.std.proofs.lemmas.List.Sums.{sum_by-cons}

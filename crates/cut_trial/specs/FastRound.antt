@@ -1,7 +1,8 @@
 -- The fast round: equal proposals are counted up to a quorum. (The Rapid paper's section on the
 -- leaderless fast path; that the quorum is of all processes, failed ones included, is this project's
 -- profile.)
-use Rattle.std.specs.Prelude.{◌≡◌, ℕ, ◌-◌, ◌/◌, ◌==◌, Bool, max, fold, List, map, count_by, Option, Some, None, unwrap_or}
+use Rattle.std.specs.Prelude.{◌≡◌, ℕ, ◌-◌, ◌/◌, ◌==◌, Bool, max, fold, List, map, count_by, Option, Some, None}
+use Rattle.std.specs.Prelude.{unwrap_or}
 use Rattle.std.specs.List.{filter_map}
 use Rattle.std.specs.Map.{lookup}
 use Rattle.std.specs.Cmp.Lexicographic.{pointwise}

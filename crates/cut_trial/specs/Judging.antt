@@ -10,9 +10,9 @@ use Rattle.cut_arrivals.specs.Hearing.{Hearing, proposal_at}
 use Rattle.cut_receivers.specs.declared.finding.Finding.{Finding}
 use Rattle.cut_receivers.specs.Findings.{members_at, Finds}
 use Rattle.cut_trial.specs.declared.judges.Found.{Found}
-use Rattle.cut_trial.specs.declared.study.Study.{Study}
+use Rattle.cut_trial.specs.declared.input.TrialInput.{TrialInput}
 use Rattle.cut_trial.specs.declared.alerts.Alerts.{Alerts}
-use Rattle.cut_trial.specs.declared.replays.Replays.{Replays}
+use Rattle.cut_trial.specs.declared.replays.Replay.{Replay}
 use Rattle.cut_trial.specs.declared.judges.Judges.{Judges}
 use Rattle.cut_trial.specs.Outcome.{receiver_proposal, IsPlaced}
 
@@ -25,20 +25,21 @@ abbrev pub proposals_to : Alerts → Source → List ℕ → ℕ → List (Optio
 proposals_to x d receivers n = map (λ j. proposed_by x d j) (take n receivers)
 
 -- a detector replays a cell of a study: over its rings, by the cell's rule
-pub record BelongsTo (study : Study) (cell : Cell) (x : Replays) : Type 0 where
+pub record BelongsTo (study : TrialInput) (cell : Cell) (x : Replay) : Type 0 where
   pub layout : x.detector.layout ≡ study.rings.now
   pub rule : x.detector.rule ≡ rule_of cell.k cell.h cell.l study.plan.now.implicit
 
 -- judges judge a cell of a study: their detector replays it, and they report places as the plan's version asks
-pub record AreFor (study : Study) (cell : Cell) (x : Judges) : Type 0 where
+pub record AreFor (study : TrialInput) (cell : Cell) (x : Judges) : Type 0 where
   pub replays : BelongsTo study cell x.replays
   pub version : x.outcome.version ≡ version_of study.plan.now.failing
 
--- what was found of a receiver that hears this, where these members are wanted: what it proposes, where the closing of
+-- what was found of a receiver that hears this, compared with these expected members: what it proposes, where the
+-- closing of
 -- its lane is in no doubt, and at which place, where a plan's version asks for it
 pub record IsFound (x : Hearing) (version : Version) (wanted : List ℕ) (doubt : Bool) (found : Found) : Type 0 where
   pub finds : Finds wanted (members_at x) found.finding
-  pub sure : IsTrue doubt → found.finding ≡ Finding.Doubtful
+  pub certain : IsTrue doubt → found.finding ≡ Finding.Doubtful
   pub placed : IfSome found.place (λ n. doubt ≡ false
       → IfSome (proposal_at x) (λ p. IsPlaced version n (Some p)))
   pub few : IfSome found.place (λ n. n < 2 ^ 32)

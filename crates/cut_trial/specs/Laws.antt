@@ -71,7 +71,8 @@ abbrev pub PartsAddUp : Type 0
 PartsAddUp =
     (v : Values) (first m n : ℕ) →
     sum_of v (trials_in (record { first = first; count = m + n }))
-    ≡ plus (sum_of v (trials_in (record { first = first; count = m }))) (sum_of v (trials_in (record { first = first + m; count = n })))
+    ≡ plus (sum_of v (trials_in (record { first = first; count = m })))
+    (sum_of v (trials_in (record { first = first + m; count = n })))
 
 -- where f processes fail, the receivers are all the others: ranks are a bijection
 abbrev pub ReceiversAreTheRest : Type 0

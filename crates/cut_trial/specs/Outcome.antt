@@ -1,5 +1,6 @@
 -- What a trial gives: what its receivers propose, what they are judged to be, and its eight numbers.
-use Rattle.std.specs.Prelude.{◌≡◌, ◌≤◌, ℕ, ◌+◌, ◌*◌, ◌-◌, ◌/◌, ◌^◌, ◌++◌, ⊤, Bool, List, map, length, replicate, count_by, nat_le, slice_index_or, if◌then◌else◌, Option, Some, None}
+use Rattle.std.specs.Prelude.{◌≡◌, ◌≤◌, ℕ, ◌+◌, ◌*◌, ◌-◌, ◌/◌, ◌^◌, ◌++◌, ⊤, Bool, List, map, length, replicate}
+use Rattle.std.specs.Prelude.{count_by, nat_le, slice_index_or, if◌then◌else◌, Option, Some, None}
 use Rattle.std.specs.List.{sum_by}
 use Rattle.cut_plan.specs.declared.cell.Cell.{Cell}
 use Rattle.cut_plan.specs.declared.version.Version.{Version}
@@ -18,7 +19,7 @@ use Rattle.cut_alerts.specs.Alerted.{alert_list}
 use Rattle.cut_detector.specs.Rule.{rule_of}
 use Rattle.cut_detector.specs.Proposal.{proposal_of}
 use Rattle.cut_detector.specs.declared.proposal.Proposal.{Proposal}
-use Rattle.cut_trial.specs.declared.outcome.Outcome as declared
+use Rattle.cut_trial.specs.declared.outcome.VerdictCounts as declared
 use Rattle.cut_trial.specs.declared.totals.Totals.{Totals}
 use Rattle.cut_trial.specs.Verdicts.{receivers_of, targets_of, judged}
 use Rattle.cut_trial.specs.FastRound.{quorum_of, votes_of, most_votes, cast_of, HasCounted}
@@ -42,7 +43,7 @@ abbrev pub place_of : Option Proposal → ℕ
 place_of None = 0
 place_of (Some p) = p.at
 
--- the sum of these places, which a plan of version 1 does not tell
+-- the sum of these places, which a plan of version 1 does not have
 abbrev pub settled_of : Version → List (Option Proposal) → ℕ
 settled_of One proposals = 0
 settled_of Two proposals = sum_by place_of proposals
@@ -58,7 +59,7 @@ IsPlaced One place p = ⊤
 IsPlaced Two place p = place_of p ≡ place
 
 -- the verdicts on these proposals, and on the silences among them, are counted, and their places are added up
-pub record HasVerdicts (a : Assignment) (o : declared.Outcome) (proposals : List (Option Proposal)) : Type 0 where
+pub record HasVerdicts (a : Assignment) (o : declared.VerdictCounts) (proposals : List (Option Proposal)) : Type 0 where
   pub conflicts : o.conflicts ≡ count_by (λ p. (judged a p).conflict) proposals
   pub silent : o.silent ≡ count_by (λ p. (judged a p).silent) proposals
   pub extra : o.extra ≡ count_by (λ p. (judged a p).extra) proposals
@@ -67,7 +68,7 @@ pub record HasVerdicts (a : Assignment) (o : declared.Outcome) (proposals : List
 
 -- the receivers that made these proposals have been judged by the roles, and the votes of those that didn't propose
 -- exactly the targets are in the ballot
-pub record IsJudging (a : Assignment) (o : declared.Outcome) (proposals : List (Option Proposal)) : Type 0 where
+pub record IsJudging (a : Assignment) (o : declared.VerdictCounts) (proposals : List (Option Proposal)) : Type 0 where
   pub verdicts : HasVerdicts a o proposals
   pub others : List (List ℕ)
   pub ballot : HasCounted o.ballot others
@@ -76,7 +77,7 @@ pub record IsJudging (a : Assignment) (o : declared.Outcome) (proposals : List (
   pub few : length others + o.exact ≤ length proposals
 
 -- the receivers that made these proposals have been judged by the roles, and their votes are counted
-pub record HasJudged (a : Assignment) (o : declared.Outcome) (proposals : List (Option Proposal)) : Type 0 where
+pub record HasJudged (a : Assignment) (o : declared.VerdictCounts) (proposals : List (Option Proposal)) : Type 0 where
   pub verdicts : HasVerdicts a o proposals
   pub votes : HasCounted o.ballot (cast_of proposals)
 

@@ -7,14 +7,14 @@ use Rattle.cut_plan.specs.Values.{Values}
 use Rattle.cut_plan.specs.Versions.{version_of}
 use Rattle.cut_trial.specs.declared.totals.Totals.{Totals}
 
--- what the places of so many proposals, each after so many deliveries at most, can add up to: a plan of
--- version 1 does not tell it
+-- what the places of this many proposals, each after a number of deliveries at most, can add up to: a plan of
+-- version 1 does not have it
 abbrev pub IsSettledBy : Version → ℕ → ℕ → ℕ → Type 0
 IsSettledBy One proposing deliveries settled = settled ≡ 0
 IsSettledBy Two proposing deliveries settled =
     (proposing ≤ settled) × (settled ≤ proposing * deliveries)
 
--- the sums of so many trials of a plan's cell, as far as they do not tell after how many deliveries receivers
+-- the sums of this many trials of a plan's cell, as far as they do not say after how many deliveries receivers
 -- propose
 pub record AreCounted (v : Values) (c : Cell) (trials : ℕ) (x : Totals) : Type 0 where
   -- the receivers are those of all trials
@@ -30,7 +30,7 @@ pub record AreCounted (v : Values) (c : Cell) (trials : ℕ) (x : Totals) : Type
   -- and is right only where it is decided
   pub right : x.right ≤ x.decided
 
--- the sums of so many trials of a plan's cell
+-- the sums of this many trials of a plan's cell
 pub record ArePossible (v : Values) (c : Cell) (trials : ℕ) (x : Totals) : Type 0 where
   pub counted : AreCounted v c trials x
   -- who proposes does so after one delivery at least, and after all copies of all edges at most

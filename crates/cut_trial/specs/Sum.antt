@@ -24,7 +24,7 @@ each_number g = record {
 abbrev pub plus : Totals → Totals → Totals
 plus a b = each_number (λ n. n a + n b)
 
--- the numbers that both versions of a plan tell: with 0 in the place of `settled`
+-- the numbers that both versions of a plan have: with 0 in the place of `settled`
 abbrev pub without_settled : Totals → Totals
 without_settled x = record x { settled = 0 }
 

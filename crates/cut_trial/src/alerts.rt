@@ -5,7 +5,7 @@ ghost use Rattle.cut_draws.specs.DeliveryOrder.{are_distinct};
 ghost use Rattle.cut_alerts.specs.Alerted.{alert_list};
 ghost use Rattle.cut_detector.specs.Rule.{rule_in, rule_of};
 
-use crate::study::Study;
+use crate::input::TrialInput;
 use cut_alerts::{Roles, alerts_into};
 use cut_detector::Rule;
 use cut_plan::Cell;
@@ -15,7 +15,7 @@ use std::alloc::{AllocError, Global};
 /// The alerted edges of a trial of a cell.
 #[derive(Drop)]
 pub(crate) struct Alerts<'a> {
-    pub study: Study<'a>,
+    pub study: TrialInput<'a>,
     pub cell: Cell,
     pub edges: Vec<Edge>,
     ghost cell_of_plan: { IsCellOf study.plan.now cell },
@@ -27,7 +27,7 @@ pub(crate) struct Alerts<'a> {
 
 impl<'a> Alerts<'a> {
     /// No alerts yet.
-    pub fn none(alloc: Global, study: Study<'a>, cell: Cell) -> Alerts<'a>
+    pub fn none(alloc: Global, study: TrialInput<'a>, cell: Cell) -> Alerts<'a>
         requires { IsCellOf study.plan.now cell }
         ensures study { result.study ≡ study.entry }
         ensures cell { result.cell ≡ cell }
@@ -52,7 +52,8 @@ impl<'a> Alerts<'a> {
 
     /// By which processes are reported and stable.
     pub fn rule(&self) -> Rule
-        ensures rule { rule_in result ≡ rule_of self.now.cell.k self.now.cell.h self.now.cell.l self.now.study.plan.now.implicit }
+        ensures rule { rule_in result
+            ≡ rule_of self.now.cell.k self.now.cell.h self.now.cell.l self.now.study.plan.now.implicit }
         ensures rings { result.k ≤ length self.now.study.rings.now.positions }
     {
         Rule {

@@ -1,4 +1,5 @@
-ghost use Rattle.std.specs.Prelude.{◌≡◌, ◌≤◌, ◌+◌, ◌^◌, ◌-◌, ◌<◌, [], ◌∷◌, ◌++◌, List, ℕ, length, replicate, OnOk, OnErr};
+ghost use Rattle.std.specs.Prelude.{◌≡◌, ◌≤◌, ◌+◌, ◌^◌, ◌-◌, ◌<◌, [], ◌∷◌, ◌++◌, List, ℕ, length, replicate, OnOk};
+ghost use Rattle.std.specs.Prelude.{OnErr};
 ghost use Rattle.cut_trial.specs.FastRound.{quorum_of, votes_of, most_votes, HasCounted};
 
 use cut_detector::Proposal;
@@ -52,7 +53,7 @@ impl Ballot {
         self.votes.clear();
     }
 
-    /// Counts a proposal. Fails only for want of memory, and then counts nothing.
+    /// Counts a proposal. Fails only where memory runs out, and then counts nothing.
     pub fn add(&mut self, proposal: &Proposal) -> Result<(), AllocError>
         ensures counted { OnOk result ((cast : List (List ℕ)) → length cast < 2 ^ 64 - 1 →
             HasCounted self.old cast → HasCounted self.new (cast ++ proposal.now.members ∷ [])) }

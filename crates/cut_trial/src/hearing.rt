@@ -7,7 +7,8 @@ use cut_draws::DeliveryOrder;
 
 /// Delivers the edges to a process in this order, up to its proposal.
 pub(crate) fn hear_all(detector: &mut Detector<'_>, order: &DeliveryOrder)
-    requires within { IsTrue (are_edges_of detector.old.rule.k detector.old.layout.nodes (map (λ x. x.edge) order.now)) }
+    requires within { IsTrue (are_edges_of detector.old.rule.k detector.old.layout.nodes (map
+        (λ x. x.edge) order.now)) }
     requires few { length order.now < 2 ^ 63 }
     ensures proposal { detector.new.proposal ≡ proposal_of detector.old.layout detector.old.rule
         (first_of (map (λ x. x.edge) order.now)) (length order.now) }

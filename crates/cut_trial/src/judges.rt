@@ -1,4 +1,6 @@
-ghost use Rattle.std.specs.Prelude.{◌≡◌, ◌+◌, ◌^◌, ◌<◌, ◌≤◌, ◌++◌, ◌∷◌, [], ℕ, true, List, Option, Some, None, IfSome, IfNone, false, length, map, count_by, slice_index, IfOk, IsTrue, OnOk, All, Contains};
+ghost use Rattle.std.specs.Prelude.{◌≡◌, ◌+◌, ◌^◌, ◌<◌, ◌≤◌, ◌++◌, ◌∷◌, [], ℕ, true, List, Option, Some, None, IfSome};
+ghost use Rattle.std.specs.Prelude.{IfNone, false, length, map, count_by, slice_index, IfOk, IsTrue, OnOk, All};
+ghost use Rattle.std.specs.Prelude.{Contains};
 ghost use Rattle.cut_plan.specs.Cells.{IsCellOf};
 ghost use Rattle.cut_draws.specs.Source.{source_of};
 ghost use Rattle.cut_alerts.specs.Assignment.{is_target};
@@ -17,9 +19,9 @@ ghost use Rattle.cut_trial.specs.Judging.{AreFor, IsFound, proposed_by, proposal
 
 use crate::alerts::Alerts;
 use crate::cast::Cast;
-use crate::outcome::Outcome;
-use crate::replays::Replays;
-use crate::study::{Study, rings_are_a_layout};
+use crate::input::{TrialInput, rings_are_a_layout};
+use crate::outcome::VerdictCounts;
+use crate::replays::Replay;
 use cut_alerts::Roles;
 use cut_arrivals::laws::none_proposes_where_none_ends_stable;
 use cut_blocks::Blocks;
@@ -32,8 +34,8 @@ use std::alloc::{AllocError, Global};
 /// What judges the receivers of a cell's trials, in memory that all trials share.
 #[derive(Drop)]
 pub(crate) struct Judges<'a> {
-    replays: Replays<'a>,
-    pub outcome: Outcome,
+    replays: Replay<'a>,
+    pub outcome: VerdictCounts,
     times: Receivers,
     members: Vec<u16>,
 }
@@ -55,7 +57,8 @@ struct Round<'a> {
         flagged (subjects_of trial.nodes.now.nodes.items) wanted.now ≡ targets_of cast.roles.now },
     ghost heard: { (j : ℕ) → proposal_at (hearing_of trial j) ≡ proposed_by cast.alerts.now trial.blocks.now j },
     ghost nodes: { trial.rings.now.nodes ≡ length cast.roles.now.roles },
-    ghost slots_are: { IfSome slots (λ s. AreSlots trial.rule.k s.now.blocks.items trial.edges.now s.now.slots.items) } by { Prim.hlevel props },
+    ghost slots_are: { IfSome slots
+        (λ s. AreSlots trial.rule.k s.now.blocks.items trial.edges.now s.now.slots.items) } by { Prim.hlevel props },
     ghost blocks: { IfSome slots (λ s. All (λ block. block < 2 ^ 13) s.now.blocks.items) } by { Prim.hlevel props },
     ghost few: { length trial.edges.now ≤ 2 ^ 16 },
     ghost unasked: { slots ≡ None → version_of cast.alerts.now.study.plan.now.failing ≡ One },
@@ -71,13 +74,13 @@ struct Found {
 
 impl<'a> Judges<'a> {
     /// What judges the receivers of this cell's trials.
-    pub fn new(alloc: Global, study: Study<'a>, cell: Cell) -> Result<Judges<'a>, AllocError>
+    pub fn new(alloc: Global, study: TrialInput<'a>, cell: Cell) -> Result<Judges<'a>, AllocError>
         requires { IsCellOf study.plan.now cell }
         ensures { IfOk result (λ j. AreFor study.entry cell j) }
     {
         Ok(Judges {
-            outcome: Outcome::new(alloc, study.plan.version()),
-            replays: Replays::new(alloc, study, cell)?,
+            outcome: VerdictCounts::new(alloc, study.plan.version()),
+            replays: Replay::new(alloc, study, cell)?,
             times: Receivers::new(alloc),
             members: Vec::new(alloc),
         })
@@ -119,7 +122,7 @@ impl<'a> Judges<'a> {
         ensures fit { AreFor cast.entry.alerts.now.study cast.entry.alerts.now.cell self.new }
     {
         let alerts = cast.alerts;
-        let Study { plan, rings } = alerts.study;
+        let TrialInput { plan, rings } = alerts.study;
         let rule = alerts.rule();
         let edges = alerts.edges.as_slice();
         let nodes = Nodes::of(alloc, rings, rule, edges)?;
@@ -293,7 +296,8 @@ impl<'a> Judges<'a> {
         requires receiver { receiver < length cast.roles.now.roles }
         ensures judged { OnOk result ((before : List (Option proposals.Proposal)) → length before < 2 ^ 32 →
             IsJudging cast.entry.roles.now self.old.outcome before →
-            IsJudging cast.entry.roles.now self.new.outcome (before ++ proposed_by cast.entry.alerts.now draws.old receiver ∷ [])) }
+            IsJudging cast.entry.roles.now self.new.outcome (before
+            ++ proposed_by cast.entry.alerts.now draws.old receiver ∷ [])) }
         ensures fit { AreFor cast.entry.alerts.now.study cast.entry.alerts.now.cell self.new }
         ensures times { self.new.times ≡ self.old.times }
         ensures draws { draws.new ≡ draws.old }
@@ -312,7 +316,8 @@ impl<'a> Judges<'a> {
 /// Which nodes are targets.
 fn wanted_nodes(alloc: Global, nodes: &Nodes, roles: &Roles) -> Result<Vec<bool>, AllocError>
     requires { All (λ s. s < length roles.now.roles) (subjects_of nodes.now.nodes.items) }
-    ensures { IfOk result (λ wanted. wanted.items ≡ map (λ s. is_target roles.now s) (subjects_of nodes.now.nodes.items)) }
+    ensures { IfOk result (λ wanted. wanted.items ≡ map
+        (λ s. is_target roles.now s) (subjects_of nodes.now.nodes.items)) }
 {
     let mut wanted = Vec::with_capacity(alloc, nodes.nodes.len())?;
     for node in &nodes.nodes {
@@ -354,7 +359,8 @@ fn receiver_at(receivers: &[u16], place: usize) -> u16
 
 /// The slots of all alerts of a trial, if its plan's version asks for the places of proposals.
 fn all_slots(alloc: Global, alerts: &Alerts<'_>) -> Result<Option<Slots>, AllocError>
-    ensures slots { IfOk result (λ found. IfSome found (λ s. AreSlots alerts.now.cell.k s.blocks.items alerts.now.edges.items s.slots.items)) }
+    ensures slots { IfOk result (λ found. IfSome found
+        (λ s. AreSlots alerts.now.cell.k s.blocks.items alerts.now.edges.items s.slots.items)) }
     ensures within { IfOk result (λ found. IfSome found (λ s. All (λ block. block < 2 ^ 13) s.blocks.items)) }
     ensures unasked { IfOk result (λ found. found ≡ None → version_of alerts.now.study.plan.now.failing ≡ One) }
 {
@@ -368,7 +374,8 @@ fn all_slots(alloc: Global, alerts: &Alerts<'_>) -> Result<Option<Slots>, AllocE
 fn place_in(places: Option<Places>, lane: usize) -> Option<u64>
     requires { lane < 4 }
     ensures unasked { IfNone places (result ≡ Some 0) }
-    ensures place { IfSome places (λ p. IfSome result (λ n. (has_bit p.doubt lane ≡ false) × (n ≡ slice_index p.until lane))) }
+    ensures place { IfSome places (λ p. IfSome result
+        (λ n. (has_bit p.doubt lane ≡ false) × (n ≡ slice_index p.until lane))) }
     ensures few { IfSome result (λ n. n < 2 ^ 32) }
 {
     let Some(places) = places else {

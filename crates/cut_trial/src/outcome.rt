@@ -1,4 +1,5 @@
-ghost use Rattle.std.specs.Prelude.{◌≡◌, ◌^◌, ◌<◌, ◌≤◌, [], ◌∷◌, ◌++◌, List, Option, Some, length, OnOk, option_map, IfSome};
+ghost use Rattle.std.specs.Prelude.{◌≡◌, ◌^◌, ◌<◌, ◌≤◌, [], ◌∷◌, ◌++◌, List, Option, Some, length, OnOk, option_map};
+ghost use Rattle.std.specs.Prelude.{IfSome};
 ghost use Rattle.cut_plan.specs.Cells.{IsCellOf};
 ghost use Rattle.cut_plan.specs.Versions.{version_of};
 ghost use Rattle.cut_detector.specs.declared.proposal.Proposal as proposals;
@@ -42,7 +43,7 @@ impl Verdict {
 /// What the receivers of a trial were judged to be so far. Those that proposed exactly the targets are counted apart
 /// from the ballot, so that no list is made for them.
 #[derive(Debug, Drop)]
-pub(crate) struct Outcome {
+pub(crate) struct VerdictCounts {
     pub version: Version,
     conflicts: u64,
     silent: u64,
@@ -52,14 +53,14 @@ pub(crate) struct Outcome {
     ballot: Ballot,
 }
 
-impl Outcome {
+impl VerdictCounts {
     ghost use Rattle.cut_trial.specs.Outcome.{HasVerdicts, HasJudged, IsJudging, IsPlaced, place_of, totals_of};
 
     /// No receiver of a plan of this version has been judged.
-    pub(crate) fn new(alloc: Global, version: Version) -> Outcome
+    pub(crate) fn new(alloc: Global, version: Version) -> VerdictCounts
         ensures { result.version ≡ version }
     {
-        Outcome {
+        VerdictCounts {
             version,
             conflicts: 0,
             silent: 0,
@@ -125,7 +126,8 @@ impl Outcome {
     /// Counts one more verdict, and adds the place of the proposal where the plan's version reports it.
     fn count(&mut self, verdict: Verdict, place: u64)
         requires { place < 2 ^ 32 }
-        ensures verdicts { (a : Assignment) → (p : Option proposals.Proposal) → (before : List (Option proposals.Proposal)) →
+        ensures verdicts { (a : Assignment) → (p : Option proposals.Proposal)
+            → (before : List (Option proposals.Proposal)) →
             verdict ≡ judged a p → IsPlaced self.old.version place p → length before < 2 ^ 32 →
             HasVerdicts a self.old before → HasVerdicts a self.new (before ++ p ∷ []) }
         ensures ballot { self.new.ballot ≡ self.old.ballot }

@@ -4,7 +4,7 @@ ghost use Rattle.cut_trial.specs.Outcome.{rings_of, cell_at};
 ghost use Rattle.cut_trial.specs.Possible.{ArePossible};
 ghost use Rattle.cut_trial.specs.Sum.{is_piece, sum_of, trials_in, IsAtMost};
 
-use crate::study::Study;
+use crate::input::TrialInput;
 use crate::trial::Trials;
 use crate::{Totals, TrialFault};
 use cut_plan::Plan;
@@ -84,7 +84,7 @@ pub fn run_piece(
     if !is_piece(plan, piece) {
         return Err(TrialFault::BadPiece);
     }
-    let totals = sum_piece(alloc, Study::new(plan, rings), piece)?;
+    let totals = sum_piece(alloc, TrialInput::new(plan, rings), piece)?;
     let plan = plan.try_clone(alloc)?;
     Ok(PieceResult {
         plan,
@@ -105,7 +105,7 @@ pub fn is_piece(plan: &Plan, piece: Piece) -> bool
 }
 
 /// The sums over a piece's trials.
-fn sum_piece(alloc: Global, study: Study<'_>, piece: Piece) -> Result<Totals, AllocError>
+fn sum_piece(alloc: Global, study: TrialInput<'_>, piece: Piece) -> Result<Totals, AllocError>
     requires { IsTrue (is_piece study.plan.now piece) }
     ensures value { IfOk result (λ totals. totals ≡ sum_of study.entry.plan.now (trials_in piece)) }
     ensures few { IfOk result (λ totals. IsAtMost (2048 * piece.count) totals) }

@@ -4,7 +4,7 @@ ghost use Rattle.cut_trial.specs.Judging.{BelongsTo, proposed_by};
 
 use crate::alerts::Alerts;
 use crate::hearing::hear_all;
-use crate::study::Study;
+use crate::input::TrialInput;
 use cut_detector::Detector;
 use cut_draws::{DeliveryOrder, Draws};
 use cut_plan::Cell;
@@ -13,20 +13,20 @@ use std::alloc::{AllocError, Global};
 /// What replays the trials of a cell at one receiver after another: the detector and the order of deliveries, whose
 /// memory all receivers share.
 #[derive(Drop)]
-pub(crate) struct Replays<'a> {
+pub(crate) struct Replay<'a> {
     pub detector: Detector<'a>,
     order: DeliveryOrder,
 }
 
-impl<'a> Replays<'a> {
-    /// Replays of the trials of a cell.
-    pub fn new(alloc: Global, study: Study<'a>, cell: Cell) -> Result<Replays<'a>, AllocError>
+impl<'a> Replay<'a> {
+    /// The replays of the trials of a cell.
+    pub fn new(alloc: Global, study: TrialInput<'a>, cell: Cell) -> Result<Replay<'a>, AllocError>
         requires { IsCellOf study.plan.now cell }
         ensures { IfOk result (λ r. BelongsTo study.entry cell r) }
     {
         let implicit = study.plan.implicit();
         let detector = Detector::new(alloc, study.rings, cell.k, cell.h, cell.l, implicit)?;
-        Ok(Replays {
+        Ok(Replay {
             detector,
             order: DeliveryOrder::new(alloc),
         })

@@ -1,7 +1,7 @@
 ghost use Rattle.std.specs.Prelude.{◌≡◌, ◌^◌};
 ghost use Rattle.cut_trial.specs.Sum.{plus, IsAtMost};
 
-/// The sums over trials that a line of the table tells.
+/// The sums over trials that a line of the table has.
 #[derive(Clone, Copy, Debug, PartialEq, Eq)]
 pub struct Totals {
     /// How many receivers there were: the processes that are not targets.
@@ -19,7 +19,7 @@ pub struct Totals {
     /// In how many trials a quorum proposed exactly the targets.
     pub right: u64,
     /// The sum of the places at which receivers proposed, each counted in deliveries from 1. 0 for a plan
-    /// of version 1, whose tables don't tell it.
+    /// of version 1, whose tables don't have it.
     pub settled: u64,
 }
 

@@ -6,8 +6,8 @@ ghost use Rattle.cut_trial.specs.Judging.{AreFor};
 use crate::Totals;
 use crate::alerts::Alerts;
 use crate::cast::{Cast, list_receivers, list_targets};
+use crate::input::TrialInput;
 use crate::judges::Judges;
-use crate::study::Study;
 use cut_alerts::Roles;
 use cut_draws::{Draws, ProcessOrder};
 use cut_plan::{Cell, Plan};
@@ -17,7 +17,7 @@ use std::alloc::{AllocError, Global};
 /// The outcome of a trial of a plan, whose rings these are. Trials are numbered through all cells.
 /// That each receiver hears the alerts in a random order of its own, and that conflicts are counted,
 /// is the Rapid paper's sensitivity study; the other numbers are this project's profile. Fails only
-/// for want of memory.
+/// where memory runs out.
 pub fn run_trial(
     alloc: Global,
     plan: &Plan,
@@ -29,7 +29,7 @@ pub fn run_trial(
     ensures { IfOk result (λ totals. totals ≡ outcome plan.now trial) }
 {
     let cell = plan.cell(plan.cell_of(trial));
-    let mut trials = Trials::new(alloc, Study::new(plan, rings), cell)?;
+    let mut trials = Trials::new(alloc, TrialInput::new(plan, rings), cell)?;
     trials.run(trial)
 }
 
@@ -48,7 +48,7 @@ pub(crate) struct Trials<'a> {
 
 impl<'a> Trials<'a> {
     /// What runs the trials of this cell.
-    pub fn new(alloc: Global, study: Study<'a>, cell: Cell) -> Result<Trials<'a>, AllocError>
+    pub fn new(alloc: Global, study: TrialInput<'a>, cell: Cell) -> Result<Trials<'a>, AllocError>
         requires { IsCellOf study.plan.now cell }
         ensures study { IfOk result (λ t. t.alerts.study.plan.now ≡ study.entry.plan.now) }
         ensures cell { IfOk result (λ t. t.alerts.cell ≡ cell) }
@@ -71,7 +71,7 @@ impl<'a> Trials<'a> {
         ensures study { self.new.alerts.study ≡ self.old.alerts.study }
         ensures cell { self.new.alerts.cell ≡ self.old.alerts.cell }
     {
-        let Study { plan, rings } = self.alerts.study;
+        let TrialInput { plan, rings } = self.alerts.study;
         let cell = self.alerts.cell;
         let mut draws = Draws::new(plan.seed(), trial);
         let order = &mut self.processes;

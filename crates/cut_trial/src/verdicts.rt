@@ -24,7 +24,7 @@ pub fn verdict(proposal: Option<&Proposal>, roles: &Roles) -> Verdict
     }
 }
 
-/// The verdict on a proposal of ascending members, where there are so many targets. It looks at each
+/// The verdict on a proposal of ascending members, where there are this many targets. It looks at each
 /// member once: all targets are among them where as many members are targets as there are targets.
 pub(crate) fn verdict_on_ascending(members: &[u16], roles: &Roles, targets: usize) -> Verdict
     requires ascending { AreAscending roles.now members.now }

@@ -69,7 +69,7 @@ fn edges_text(alloc: Global, edges: &[Edge]) -> Result<String, AllocError> {
     Ok(text)
 }
 
-// The alerted edges of roles are those that a row tells.
+// The alerted edges of roles are those that a row has.
 fn check_row(
     rt: &impl Abort,
     alloc: Global,
@@ -141,7 +141,7 @@ fn alerts_of_crashed_and_deaf_targets(rt: HostRuntime) -> Result<(), Fail> {
     check_mixed(&rt, rt.alloc(), &rings)
 }
 
-// Whether no roles were given, and this is told.
+// Whether no roles were given, and this is reported.
 fn is_refused(alloc: Global, given: Result<Roles, RolesFault>) -> Result<bool, AllocError> {
     match given {
         Ok(_) => Ok(false),

@@ -30,8 +30,8 @@ fn proposal_text(alloc: Global, proposal: &Proposal) -> Result<String, AllocErro
     Ok(text)
 }
 
-// Whether a text tells what is proposed.
-fn is_told(alloc: Global, found: Option<Proposal>, wanted: &str) -> Result<bool, AllocError> {
+// Whether a text says what is proposed.
+fn is_reported(alloc: Global, found: Option<Proposal>, wanted: &str) -> Result<bool, AllocError> {
     match found {
         Some(proposal) => Ok(proposal_text(alloc, &proposal)?.as_str() == wanted),
         None => Ok(wanted == "none"),
@@ -73,7 +73,7 @@ fn check_row(
     assert!(rt; all_within(k, rings.nodes(), edges), "{row}");
     let found = replay(alloc, rings, k, h, l, implicit, edges)?;
     let at = found.as_ref().map_or(u64::MAX, |proposal| proposal.at);
-    assert!(rt; is_told(alloc, found, wanted)?, "{row}");
+    assert!(rt; is_reported(alloc, found, wanted)?, "{row}");
     let mut detector = Detector::new(alloc, rings, k, h, l, implicit)?;
     check_steps(rt, &mut detector, edges, at, row)
 }

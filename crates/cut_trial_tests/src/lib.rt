@@ -1,5 +1,5 @@
-//! What no contract of the crates up to `cut_trial` and `cut_lines` says: plans, rings, draws, alerts, detectors, trials
-//! and lines beside values that were computed elsewhere, and printed faults.
+//! What no contract of the crates up to `cut_trial` and `cut_lines` says: plans, rings, draws, alerts, detectors,
+//! trials and lines beside values that were computed elsewhere, and printed faults.
 //!
 //! The tests stand in a crate of their own, as they use these crates as their callers do, and the proofs of the crates
 //! need not be made again for them.

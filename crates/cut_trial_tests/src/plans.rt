@@ -44,7 +44,7 @@ const STRAIGHT_UPGRADED: &str =
 const LARGE_UPGRADED: &str =
     r#"{"copies":3,"dead":"speak","deaf":16,"f":[2,4,8,16],"h":[6,7,8,9],"implicit":false,"k":[10],"l":[1,2,3,4],"liars":7,"links":9,"nodes":1999,"repeats":777777,"seed":"00112233445566778899aabbccddeeff00112233445566778899aabbccddeeff","version":2}"#;
 
-// Edits of the first plan: what is told of it, what is taken out, and what comes there.
+// Edits of the first plan: the fault of the edited text, what is taken out, and what comes there.
 const EDITS: &str = r#"3 UnknownField|"version":1|"version":1,"x":0
 4 MissingField seed|"seed":"0000000000000000000000000000000000000000000000000000000000000000",|
 5 WrongKind repeats|"repeats":2|"repeats":1.0
@@ -69,25 +69,25 @@ const MIXED_EDITS: &str = r#"accepted|"x"|
 accepted|"deaf":0|"deaf":2048
 6 OutOfRange deaf|"deaf":0|"deaf":2049"#;
 
-// What is told of a text: its fault as it is printed.
-fn told(alloc: Global, text: &[u8]) -> Result<String, AllocError> {
+// The fault of a text, as it is printed.
+fn fault_text(alloc: Global, text: &[u8]) -> Result<String, AllocError> {
     match Plan::from_json(alloc, text) {
         Ok(_) => String::from_str(alloc, "accepted"),
         Err(fault) => format!(in alloc; "{fault}"),
     }
 }
 
-// Whether this is told of a text.
-fn is_told(alloc: Global, text: &[u8], fault: &str) -> Result<bool, AllocError> {
-    Ok(told(alloc, text)?.as_str() == fault)
+// Whether this is the fault of a text.
+fn is_reported(alloc: Global, text: &[u8], fault: &str) -> Result<bool, AllocError> {
+    Ok(fault_text(alloc, text)?.as_str() == fault)
 }
 
-// How many texts there are, each of which is told of as the line above it says.
+// How many texts there are, each of which has the fault that the line above it names.
 fn count_judged(rt: &impl Abort, alloc: Global, texts: &str) -> Result<u32, Fail> {
     let mut rows = 0u32;
     for row in texts.split("\n---\n") {
         let (fault, text) = row.split_once('\n').ok_or("a row of one line")?;
-        assert!(rt; is_told(alloc, text.as_bytes(), fault)?, "{row}");
+        assert!(rt; is_reported(alloc, text.as_bytes(), fault)?, "{row}");
         rows = rows.saturating_add(1);
     }
     Ok(rows)
@@ -109,19 +109,19 @@ fn mixed_edits() -> &'static str {
     MIXED_EDITS
 }
 
-// Whether a text after an edit is told of as the row of the edit says.
-fn is_edit_told(alloc: Global, text: &str, row: &str) -> Result<bool, Fail> {
+// Whether a text after an edit has the fault that the row of the edit names.
+fn is_edit_answered(alloc: Global, text: &str, row: &str) -> Result<bool, Fail> {
     let (fault, edit) = row.split_once('|').ok_or("a row without an edit")?;
     let (own, other) = edit.split_once('|').ok_or("an edit without a text")?;
     let edited = text.replace(alloc, own, other)?;
-    Ok(is_told(alloc, edited.as_bytes(), fault)?)
+    Ok(is_reported(alloc, edited.as_bytes(), fault)?)
 }
 
-// How many edits of this text there are, each of which is told of as its row says.
+// How many edits of this text there are, each of which leads to the fault that its row names.
 fn count_edits(rt: &impl Abort, alloc: Global, text: &str, rows: &str) -> Result<u32, Fail> {
     let mut count = 0u32;
     for row in rows.split("\n") {
-        assert!(rt; is_edit_told(alloc, text, row)?, "{row}");
+        assert!(rt; is_edit_answered(alloc, text, row)?, "{row}");
         count = count.saturating_add(1);
     }
     Ok(count)
@@ -145,7 +145,7 @@ fn refuses_what_is_no_object(rt: HostRuntime) -> Result<(), Fail> {
         (PLAN.as_bytes(), "accepted"),
     ];
     for (text, fault) in rows {
-        assert!(rt; is_told(rt.alloc(), text, fault)?, "{fault}");
+        assert!(rt; is_reported(rt.alloc(), text, fault)?, "{fault}");
     }
     Ok(())
 }
@@ -168,12 +168,12 @@ fn wide(alloc: Global, k: &str, h: &str, liars: &str) -> Result<String, AllocErr
     )
 }
 
-// Too many faults are told before too many trials.
+// Too many faults are reported before too many trials.
 #[test]
-fn tells_limits_in_order(rt: HostRuntime) -> Result<(), Fail> {
+fn checks_limits_in_order(rt: HostRuntime) -> Result<(), Fail> {
     for (liars, fault) in [("0", "10 TooManyTrials"), ("2048", "9 TooManyFaults")] {
         let text = wide(rt.alloc(), "[3]", "[1,2,3]", liars)?;
-        assert!(rt; is_told(rt.alloc(), text.as_bytes(), fault)?, "{fault}");
+        assert!(rt; is_reported(rt.alloc(), text.as_bytes(), fault)?, "{fault}");
     }
     Ok(())
 }
@@ -182,7 +182,7 @@ fn tells_limits_in_order(rt: HostRuntime) -> Result<(), Fail> {
 fn refuses_a_long_text(rt: HostRuntime) -> Result<(), Fail> {
     for (length, fault) in [(65_536, "1 NotJson"), (65_537, "19 PlanTooLong")] {
         let blanks = vec![in rt.alloc(); b' '; length]?;
-        assert!(rt; is_told(rt.alloc(), &blanks, fault)?, "{fault}");
+        assert!(rt; is_reported(rt.alloc(), &blanks, fault)?, "{fault}");
     }
     Ok(())
 }
@@ -238,7 +238,7 @@ fn check_many_deaf(rt: &impl Abort, plan: &Plan) {
 }
 
 #[test]
-fn tells_what_it_read(rt: HostRuntime) -> Result<(), Fail> {
+fn says_what_it_read(rt: HostRuntime) -> Result<(), Fail> {
     check_large(&rt, &Plan::from_json(rt.alloc(), LARGE.as_bytes())?);
     check_many_deaf(&rt, &Plan::from_json(rt.alloc(), MANY_DEAF.as_bytes())?);
     Ok(())

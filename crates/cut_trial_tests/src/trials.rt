@@ -16,7 +16,7 @@ use std::test::Fail;
 
 mod tables;
 
-// A plan of small cells, where crashed processes speak: of so many processes, copies and trials a cell,
+// A plan of small cells, where crashed processes speak: of this many processes, copies and trials a cell,
 // and with these numbers of targets.
 fn small_plan(
     alloc: Global,
@@ -337,7 +337,7 @@ fn check_trial(
 
 // The deaf process of trial 0 is 0, and that of trial 1 is 4. It is alerted, as it is silent, and so is the
 // process that it observes. A receiver proposes the first that it hears of: three propose the deaf process
-// and one the other, by a script apart from this crate. Only the second version tells the four places.
+// and one the other, by a script apart from this crate. Only the second version has the four places.
 #[test]
 fn both_versions_have_the_same_deaf_process(rt: HostRuntime) -> Result<(), Fail> {
     let trials: [(u32, &[(u8, u16)]); 2] = [(0, &[(0, 0), (0, 4)]), (1, &[(0, 2), (0, 4)])];

@@ -1,9 +1,10 @@
 -- Logs of wires, call by call.
-use Rattle.std.proofs.Common.{◌≡◌, ◌∙◌, ◌++◌, List, [], ℕ, Option, Some, None, option_map, refl, sym, ap, append_assoc, append-nil}
-use Rattle.cut_wires.specs.Log.{Traffic, Failed, Log, passing, with_taken, wrote}
+use Rattle.std.proofs.Common.{◌≡◌, ◌∙◌, ◌++◌, List, [], ℕ, Option, Some, None, option_map, refl, sym, ap, append_assoc}
+use Rattle.std.proofs.Common.{append-nil}
+use Rattle.cut_wires.specs.Log.{Traffic, Failed, WireLog, passing, with_taken, wrote}
 
 -- two changes of what passed are one
-pub passing_twice : (f g : Traffic → Traffic) (l : Log) → passing f (passing g l) ≡ passing (λ t. f (g t)) l
+pub passing_twice : (f g : Traffic → Traffic) (l : WireLog) → passing f (passing g l) ≡ passing (λ t. f (g t)) l
 passing_twice f g l = both l.traffic l.failed
   where
     both : (o : Option Traffic) (w : Failed) → passing f (passing g (record { traffic = o; failed = w }))
@@ -12,21 +13,21 @@ passing_twice f g l = both l.traffic l.failed
     both (Some t) w = refl
 
 -- changes that agree on what passed
-pub passing_same : (f g : Traffic → Traffic) (l : Log) → ((t : Traffic) → f t ≡ g t) → passing f l ≡ passing g l
+pub passing_same : (f g : Traffic → Traffic) (l : WireLog) → ((t : Traffic) → f t ≡ g t) → passing f l ≡ passing g l
 passing_same f g l same = both l.traffic l.failed
   where
     both : (o : Option Traffic) (w : Failed) → passing f (record { traffic = o; failed = w })
         ≡ passing g (record { traffic = o; failed = w })
     both None w = refl
-    both (Some t) w = ap (λ (u : Traffic). (let l : Log = record { traffic = Some u; failed = w } in l)) (same t)
+    both (Some t) w = ap (λ (u : Traffic). (let l : WireLog = record { traffic = Some u; failed = w } in l)) (same t)
 
-pub passing_none : (f : Traffic → Traffic) (l : Log) → ((t : Traffic) → f t ≡ t) → passing f l ≡ l
+pub passing_none : (f : Traffic → Traffic) (l : WireLog) → ((t : Traffic) → f t ≡ t) → passing f l ≡ l
 passing_none f l same = both l.traffic l.failed
   where
     both : (o : Option Traffic) (w : Failed) → passing f (record { traffic = o; failed = w })
         ≡ record { traffic = o; failed = w }
     both None w = refl
-    both (Some t) w = ap (λ (u : Traffic). (let l : Log = record { traffic = Some u; failed = w } in l)) (same t)
+    both (Some t) w = ap (λ (u : Traffic). (let l : WireLog = record { traffic = Some u; failed = w } in l)) (same t)
 
 -- ---- writes
 
@@ -35,18 +36,18 @@ taken_twice xs ys t =
     ap (λ (taken : List ℕ). (let u : Traffic = record { taken = taken; given = t.given; ends = t.ends } in u))
     (append_assoc t.taken xs ys)
 
-pub wrote_twice : (l : Log) (xs ys : List ℕ) → wrote (wrote l xs) ys ≡ wrote l (xs ++ ys)
+pub wrote_twice : (l : WireLog) (xs ys : List ℕ) → wrote (wrote l xs) ys ≡ wrote l (xs ++ ys)
 wrote_twice l xs ys =
     passing_twice (λ t. with_taken t ys) (λ t. with_taken t xs) l
     ∙ passing_same (λ t. with_taken (with_taken t xs) ys) (λ t. with_taken t (xs ++ ys)) l (taken_twice xs ys)
 
-pub wrote_none : (l : Log) → wrote l [] ≡ l
+pub wrote_none : (l : WireLog) → wrote l [] ≡ l
 wrote_none l = passing_none (λ t. with_taken t []) l (λ t.
     ap (λ (taken : List ℕ). (let u : Traffic = record { taken = taken; given = t.given; ends = t.ends } in u))
     (append-nil t.taken))
 
 -- a write more
-pub wrote_more : (old mid new : Log) (xs ys : List ℕ) → mid ≡ wrote old xs → new ≡ wrote mid ys
+pub wrote_more : (old mid new : WireLog) (xs ys : List ℕ) → mid ≡ wrote old xs → new ≡ wrote mid ys
     → new ≡ wrote old (xs ++ ys)
 wrote_more old mid new xs ys first second =
-    second ∙ ap (λ (l : Log). wrote l ys) first ∙ wrote_twice old xs ys
+    second ∙ ap (λ (l : WireLog). wrote l ys) first ∙ wrote_twice old xs ys

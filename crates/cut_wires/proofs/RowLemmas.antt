@@ -1,5 +1,6 @@
 -- The rows of a table, one after the other.
-use Rattle.std.proofs.Common.{◌≡◌, ◌∙◌, ◌≤◌, ◌+◌, ◌*◌, ◌++◌, ◌∷◌, [], ℕ, List, length, sym, ap, zero-add, arith, append_assoc, append-nil, length-append}
+use Rattle.std.proofs.Common.{◌≡◌, ◌∙◌, ◌≤◌, ◌+◌, ◌*◌, ◌++◌, ◌∷◌, [], ℕ, List, length, sym, ap, zero-add, arith}
+use Rattle.std.proofs.Common.{append_assoc, append-nil, length-append}
 use Rattle.std.specs.List.{range_with_len, flat_map}
 use Rattle.std.proofs.Math.Nat.{add-mul}
 use Rattle.std.proofs.lemmas.List.Concat.{flat_map-append}
@@ -15,7 +16,7 @@ module _ (framed : List ℕ → List ℕ) (t : Table) where
       ∙ ap (λ xs. flat_map row (range_with_len 0 n) ++ xs) (append-nil (row n)))
       ∙ sym (append_assoc (framed t.header) (flat_map row (range_with_len 0 n)) (row n))
 
-  -- a row more of at most so many bytes
+  -- a row more of at most this many bytes
   pub short_more : (n : ℕ) → length (rows_to framed t n) ≤ (n + 1) * (t.longest + 5)
       → length (framed (t.row n)) ≤ t.longest + 5
       → length (rows_to framed t (n + 1)) ≤ ((n + 1) + 1) * (t.longest + 5)

@@ -1,16 +1,17 @@
 -- What was sent over a line, text by text.
-use Rattle.std.proofs.Common.{Result, Ok, Err, ◌≡◌, ◌∙◌, ◌<◌, ◌≤◌, ◌+◌, ◌-◌, ◌^◌, ◌++◌, min, List, ℕ, length, take, refl, sym, ap, subst, arith, append_assoc, append-nil, length-append, length-take-le}
+use Rattle.std.proofs.Common.{Result, Ok, Err, ◌≡◌, ◌∙◌, ◌<◌, ◌≤◌, ◌+◌, ◌-◌, ◌^◌, ◌++◌, min, List, ℕ, length, take}
+use Rattle.std.proofs.Common.{refl, sym, ap, subst, arith, append_assoc, append-nil, length-append, length-take-le}
 use Rattle.std.proofs.Math.Seq.{take-append-add}
 use Rattle.std.proofs.lemmas.List.{take-append-le}
 use Rattle.std.specs.Bool.{⊤}
 use Rattle.std.specs.Borrow.{GName}
-use Rattle.cut_wires.specs.Log.{Log, wrote}
+use Rattle.cut_wires.specs.Log.{WireLog, wrote}
 use Rattle.cut_wires.specs.declared.send.WriteFault.{WriteFault}
 use Rattle.cut_wires.specs.Sending.{Sending, sent_on, cut_off, IsCut, Sends}
 use Rattle.cut_wires.proofs.Logs.{wrote_twice, wrote_none}
 
 -- a line of which the wire is known
-abbrev on : GName → Log → ℕ → Sending
+abbrev on : GName → WireLog → ℕ → Sending
 on wire log sent = record { wire = wire; log = log; sent = sent }
 
 -- two texts that were sent are one
@@ -18,7 +19,7 @@ pub sent_twice : (s : Sending) (xs ys : List ℕ) → sent_on (sent_on s xs) ys 
 sent_twice s xs ys =
     let count : min (min (s.sent + length xs) (2 ^ 64 - 1) + length ys) (2 ^ 64 - 1)
     ≡ min (s.sent + length (xs ++ ys)) (2 ^ 64 - 1) = omega (arith, length-append xs ys) in
-    ap (λ (l : Log). on s.wire l (min (min (s.sent + length xs) (2 ^ 64 - 1) + length ys) (2 ^ 64 - 1)))
+    ap (λ (l : WireLog). on s.wire l (min (min (s.sent + length xs) (2 ^ 64 - 1) + length ys) (2 ^ 64 - 1)))
     (wrote_twice s.log xs ys)
     ∙ ap (λ (n : ℕ). on s.wire (wrote s.log (xs ++ ys)) n) count
 

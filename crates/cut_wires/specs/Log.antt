@@ -53,43 +53,43 @@ all_failed f = min (f.reads + f.writes) (2 ^ 64 - 1)
 -- ---- both
 
 -- what passed over a wire, where that is known, and the calls that failed
-pub record Log : Type 0 where
+pub record WireLog : Type 0 where
   pub traffic : Option Traffic
   pub failed : Failed
 
 -- a log in which what passed is changed
-abbrev pub passing : (Traffic → Traffic) → Log → Log
+abbrev pub passing : (Traffic → Traffic) → WireLog → WireLog
 passing f l = record { traffic = option_map f l.traffic; failed = l.failed }
 
 -- writes took these bytes
-abbrev pub wrote : Log → List ℕ → Log
+abbrev pub wrote : WireLog → List ℕ → WireLog
 wrote l bytes = passing (λ t. with_taken t bytes) l
 
 -- a read gave the first n bytes of its buffer
-abbrev pub gave : Log → List ℕ → ℕ → Log
+abbrev pub gave : WireLog → List ℕ → ℕ → WireLog
 gave l buffer n = passing (λ t. with_given t buffer n) l
 
 -- one more read failed, and one more write
-abbrev pub read_failed : Log → Log
+abbrev pub read_failed : WireLog → WireLog
 read_failed l = record { traffic = l.traffic; failed = with_read l.failed }
 
-abbrev pub write_failed : Log → Log
+abbrev pub write_failed : WireLog → WireLog
 write_failed l = record { traffic = l.traffic; failed = with_write l.failed }
 
 -- ---- calls
 
 -- a write took the first n of some bytes, or failed and took none
-abbrev pub Writes : {E : Type 0} → Result ℕ E → List ℕ → Log → Log → Type 0
-Writes (Ok n) put old new = new ≡ wrote old (take n put)
-Writes (Err e) put old new = new ≡ write_failed old
+abbrev pub WritesWire : {E : Type 0} → Result ℕ E → List ℕ → WireLog → WireLog → Type 0
+WritesWire (Ok n) put old new = new ≡ wrote old (take n put)
+WritesWire (Err e) put old new = new ≡ write_failed old
 
 -- a read left n bytes in the first places of the buffer, or failed and gave none
-abbrev pub Reads : {E : Type 0} → Result ℕ E → List ℕ → Log → Log → Type 0
+abbrev pub Reads : {E : Type 0} → Result ℕ E → List ℕ → WireLog → WireLog → Type 0
 Reads (Ok n) buffer old new = new ≡ gave old buffer n
 Reads (Err e) buffer old new = new ≡ read_failed old
 
 -- all of some bytes were written; or a write failed, after exactly as many of the first as are reported
-abbrev pub SendsAll : Result ⊤ WriteFault → List ℕ → Log → Log → Type 0
+abbrev pub SendsAll : Result ⊤ WriteFault → List ℕ → WireLog → WireLog → Type 0
 SendsAll (Ok done) bytes old new = new ≡ wrote old bytes
 SendsAll (Err fault) bytes old new =
     (new ≡ write_failed (wrote old (take fault.sent bytes))) × (fault.sent < length bytes)

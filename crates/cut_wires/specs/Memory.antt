@@ -5,31 +5,31 @@ use Rattle.cut_wires.specs.Log.{Traffic, Failed, with_taken, with_given, with_re
 
 -- the bytes of its input, what passed over it, how many bytes a call moves at most, and how many of its calls
 -- failed
-pub record Memory : Type 0 where
+pub record MemoryWireValue : Type 0 where
   pub input : List ℕ
   pub traffic : Traffic
   pub per : ℕ
   pub failed : Failed
 
 -- the bytes of the input that no read has given
-abbrev pub rest_of : Memory → List ℕ
+abbrev pub rest_of : MemoryWireValue → List ℕ
 rest_of m = drop (length m.traffic.given) m.input
 
 -- how many bytes a read moves to a buffer of this length: as many as are left, a call moves, and it holds
-abbrev pub read_moves : Memory → ℕ → ℕ
+abbrev pub read_moves : MemoryWireValue → ℕ → ℕ
 read_moves m room = min (min (length (rest_of m)) m.per) room
 
 -- a read failed: that is one failure more, and nothing else
-abbrev pub HasFailedRead : Memory → Memory → Type 0
+abbrev pub HasFailedRead : MemoryWireValue → MemoryWireValue → Type 0
 HasFailedRead old new = new ≡ record old { failed = with_read old.failed }
 
 -- and so for a write
-abbrev pub HasFailedWrite : Memory → Memory → Type 0
+abbrev pub HasFailedWrite : MemoryWireValue → MemoryWireValue → Type 0
 HasFailedWrite old new = new ≡ record old { failed = with_write old.failed }
 
 -- a read to a buffer, by what it was and what it is: the next bytes of the input come into its first places, and
 -- what comes after them stays. It fails exactly where a call moves none, and then all of it stays.
-abbrev pub HasRead : Memory → Result ℕ WireFault → List ℕ → List ℕ → Memory → Type 0
+abbrev pub HasRead : MemoryWireValue → Result ℕ WireFault → List ℕ → List ℕ → MemoryWireValue → Type 0
 HasRead old (Ok n) was is new =
     (0 < old.per) × (n ≡ read_moves old (length was)) × (is ≡ take n (rest_of old) ++ drop n was)
     × (new ≡ record old { traffic = with_given old.traffic is n })
@@ -37,7 +37,7 @@ HasRead old (Err e) was is new = (old.per ≡ 0) × (is ≡ was) × HasFailedRea
 
 -- a write of bytes: as many of the first are taken as a call moves. A write of none never fails; another fails
 -- where a call moves none, and else only where memory runs out.
-abbrev pub HasWritten : Memory → Result ℕ WireFault → List ℕ → Memory → Type 0
+abbrev pub HasWritten : MemoryWireValue → Result ℕ WireFault → List ℕ → MemoryWireValue → Type 0
 HasWritten old (Ok n) bytes new =
     (n ≡ min (length bytes) old.per) × (0 < length bytes → 0 < n)
     × (new ≡ record old { traffic = with_taken old.traffic (take n bytes) })

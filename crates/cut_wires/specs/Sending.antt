@@ -3,16 +3,16 @@ use Rattle.std.specs.Prelude.{◌≡◌, ◌+◌, ◌-◌, ◌^◌, ◌<◌, ℕ
 use Rattle.std.specs.Borrow.{GName}
 use Rattle.cut_wires.specs.declared.line.Line.{Line}
 use Rattle.cut_wires.specs.declared.send.WriteFault.{WriteFault}
-use Rattle.cut_wires.specs.Log.{Log, wrote, gave, read_failed, write_failed}
+use Rattle.cut_wires.specs.Log.{WireLog, wrote, gave, read_failed, write_failed}
 
 -- the wire that a line borrows, that wire's log, and how many bytes were sent over the line, a count that stays at
 -- 2^64 - 1
 pub record Sending : Type 0 where
   pub wire : GName
-  pub log : Log
+  pub log : WireLog
   pub sent : ℕ
 
-abbrev pub sending : {W : Type 0} → (W → Log) → Line W → Sending
+abbrev pub sending : {W : Type 0} → (W → WireLog) → Line W → Sending
 sending log line = record { wire = line.wire.ghost_name; log = log line.wire.now; sent = line.sent }
 
 -- these bytes were sent

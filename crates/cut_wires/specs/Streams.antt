@@ -2,7 +2,7 @@
 use Rattle.std.specs.Prelude.{ℕ, ◌-◌, ◌<◌, List, [], length, take, drop, Option, Some, None, unwrap_or, IfSome, refl}
 use Rattle.std.specs.Coded.{Coded, code_by, coded×, coded_ℕ}
 use Rattle.std.specs.Io.KnownBytes.{Appends, Consumes, IsAtEnd}
-use Rattle.cut_wires.specs.Log.{Traffic, Log}
+use Rattle.cut_wires.specs.Log.{Traffic, WireLog}
 
 -- the reader and the writer; both as they were when the wire was made of them; how many reads gave the end of
 -- the input; and how many reads and writes failed
@@ -78,7 +78,7 @@ module _ {R W : Type 0} (remaining : R → Option (List ℕ)) (contents : W → 
   }
 
   -- what passed is known where the bytes of both were when the wire was made of them
-  abbrev pub log_of : Streams R W → Log
+  abbrev pub log_of : Streams R W → WireLog
   log_of s = record {
     traffic = if_both (remaining s.first) (contents s.held) (traffic_of s);
     failed = record { reads = s.failed_reads; writes = s.failed_writes };

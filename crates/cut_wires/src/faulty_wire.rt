@@ -18,9 +18,9 @@ pub struct FaultyWire {
 }
 
 impl Model for FaultyWire {
-    ghost use Rattle.cut_wires.specs.Faulty.{Faulty};
+    ghost use Rattle.cut_wires.specs.Faulty.{FaultyWireValue};
 
-    ghost Value = { Faulty };
+    ghost Value = { FaultyWireValue };
 
     ghost view = { λ w. record { memory = w.memory; room = w.room; fail_in = w.fail_in } };
 }
@@ -51,7 +51,7 @@ impl FaultyWire {
 
 impl Wire for FaultyWire {
     ghost use Rattle.std.specs.Prelude.{◌<◌, ◌≤◌, length, IfOk};
-    ghost use Rattle.cut_wires.specs.Log.{Writes};
+    ghost use Rattle.cut_wires.specs.Log.{WritesWire};
     ghost use Rattle.cut_wires.specs.Faulty.{HasReadInTurn, HasWrittenInRoom};
 
     ghost log = { λ w. record { traffic = Some w.memory.traffic; failed = w.memory.failed } };
@@ -72,7 +72,7 @@ impl Wire for FaultyWire {
         ensures exact { HasWrittenInRoom self.old result bytes.now self.new }
         ensures bound { IfOk result (λ n. n ≤ length bytes.now) }
         ensures some { 0 < length bytes.now → IfOk result (λ n. 0 < n) }
-        ensures writes { Writes result bytes.now
+        ensures writes { WritesWire result bytes.now
             (record { traffic = Some self.old.memory.traffic; failed = self.old.memory.failed })
             (record { traffic = Some self.new.memory.traffic; failed = self.new.memory.failed }) }
     {

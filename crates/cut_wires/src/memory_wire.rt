@@ -24,9 +24,9 @@ pub struct MemoryWire {
 
 impl Model for MemoryWire {
     ghost use Rattle.std.specs.Prelude.{◌≤◌, length, take};
-    ghost use Rattle.cut_wires.specs.Memory.{Memory};
+    ghost use Rattle.cut_wires.specs.Memory.{MemoryWireValue};
 
-    ghost Value = { Memory };
+    ghost Value = { MemoryWireValue };
 
     ghost view = { λ w. record {
       input = w.input.items;

@@ -1,5 +1,5 @@
 ghost use Rattle.std.specs.Prelude.{◌≡◌, ◌<◌, ◌≤◌, length, IfOk};
-ghost use Rattle.cut_wires.specs.Log.{Log, Reads, Writes, all_failed};
+ghost use Rattle.cut_wires.specs.Log.{WireLog, Reads, WritesWire, all_failed};
 
 use thiserror::Error;
 
@@ -15,7 +15,7 @@ pub struct WireFault;
 /// stays. What passed over a wire in memory is known, and of one over a socket only the counts are.
 pub trait Wire {
     /// What passed over the wire, where that is known, and how many of its calls failed.
-    ghost log: { Self → Log };
+    ghost log: { Self → WireLog };
 
     /// Reads some bytes into the first places of the buffer, and returns how many. None are the end of the input.
     fn read(&mut self, buffer: &mut [u8]) -> Result<usize, WireFault>
@@ -27,7 +27,7 @@ pub trait Wire {
     fn write(&mut self, bytes: &[u8]) -> Result<usize, WireFault>
         ensures bound { IfOk result (λ n. n ≤ length bytes.now) }
         ensures some { 0 < length bytes.now → IfOk result (λ n. 0 < n) }
-        ensures writes { Writes result bytes.now (log self.old) (log self.new) };
+        ensures writes { WritesWire result bytes.now (log self.old) (log self.new) };
 
     /// How many of its calls failed, reads and writes together.
     fn failures(&self) -> u64

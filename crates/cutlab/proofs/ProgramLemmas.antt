@@ -4,18 +4,20 @@ use Rattle.std.specs.Prelude.{◌≢◌}
 use Rattle.std.specs.Bool.{⊤}
 use Rattle.std.specs.declared.io.ErrorKind as io
 use Rattle.std.specs.declared.io.ErrorKind.TheVariants.{InvalidData}
-use Rattle.cut_wires.specs.Log.{Log, SendsAll}
+use Rattle.cut_wires.specs.Log.{WireLog, SendsAll}
 use Rattle.cut_wires.specs.declared.send.WriteFault.{WriteFault}
 use Rattle.cut_commands.specs.Faults.{fault_line}
 use Rattle.cut_commands.specs.declared.fault.CliFault.TheVariants.{Memory}
 use Rattle.cutlab.specs.Program.{IsSent, unread_status, unread_text}
 
 -- a text was sent, or a part of it up to a write that failed
-pub sent_is : (text : List ℕ) (result : Result ⊤ WriteFault) (old new : Log) → SendsAll result text old new → IsSent text old new
+pub sent_is : (text : List ℕ) (result : Result ⊤ WriteFault) (old new : WireLog) → SendsAll result text old new
+    → IsSent text old new
 sent_is text (Ok done) old new is = inl is
 sent_is text (Err fault) old new is = inr (fault.sent, (is.1, is.0))
 
 -- words that can't be read for another reason than that one of them is not UTF-8
-pub unread_otherwise : (kind : io.ErrorKind) → kind ≢ InvalidData → (unread_status kind ≡ 5) × (unread_text kind ≡ fault_line Memory)
+pub unread_otherwise : (kind : io.ErrorKind) → kind ≢ InvalidData → (unread_status kind ≡ 5)
+    × (unread_text kind ≡ fault_line Memory)
 unread_otherwise InvalidData other = absurd (other refl)
 unread_otherwise kind other = (refl, refl)

@@ -4,7 +4,7 @@ use Rattle.std.specs.declared.io.ErrorKind as io
 use Rattle.std.specs.declared.io.ErrorKind.TheVariants.{InvalidData}
 use Rattle.clap.specs.Words.{fault_of}
 use Rattle.clap.specs.declared.error.kind.ErrorKind.{ErrorKind}
-use Rattle.cut_wires.specs.Log.{Log, wrote, write_failed}
+use Rattle.cut_wires.specs.Log.{WireLog, wrote, write_failed}
 use Rattle.cut_wires.specs.declared.send.WriteFault.{WriteFault}
 use Rattle.cut_command_line.specs.Line.{program_app, NamesJob, status_of_kind, IsAsked}
 use Rattle.cut_command_line.specs.declared.line.Job.{Job}
@@ -14,21 +14,21 @@ use Rattle.cut_commands.specs.declared.fault.CliFault.TheVariants.{Memory, Write
 use Rattle.cutlab.specs.Jobs.{EndsJob}
 
 -- some first bytes of a text were written, and not all, when a write failed
-abbrev pub IsCut : List ℕ → ℕ → Log → Log → Type 0
-IsCut text sent old new = (sent < length text) × (new ≡ write_failed (wrote old (take sent text)))
+abbrev pub IsCutShort : List ℕ → ℕ → WireLog → WireLog → Type 0
+IsCutShort text sent old new = (sent < length text) × (new ≡ write_failed (wrote old (take sent text)))
 
 -- exactly this text was written, up to a write that failed, if one did
-abbrev pub IsSent : List ℕ → Log → Log → Type 0
-IsSent text old new = (new ≡ wrote old text) ⊎ ((sent : ℕ) × IsCut text sent old new)
+abbrev pub IsSent : List ℕ → WireLog → WireLog → Type 0
+IsSent text old new = (new ≡ wrote old text) ⊎ ((sent : ℕ) × IsCutShort text sent old new)
 
 -- how the end of a command is reported on the errors and by the status: nothing and 0 where it was done, else
 -- the fault's line and status
-abbrev pub ReportsEnd : Result ⊤ CliFault → Log → Log → ℕ → Type 0
+abbrev pub ReportsEnd : Result ⊤ CliFault → WireLog → WireLog → ℕ → Type 0
 ReportsEnd (Ok done) old new status = (new ≡ old) × (status ≡ 0)
 ReportsEnd (Err fault) old new status = IsSent (fault_line fault) old new × (status ≡ status_of fault)
 
 -- the words name a job, and clap finds no fault in them: the job ran, and its end is reported
-pub record RunsJob (words : List (List ℕ)) (old new errors_old errors_new : Log) (status : ℕ) : Type 0 where
+pub record RunsJob (words : List (List ℕ)) (old new errors_old errors_new : WireLog) (status : ℕ) : Type 0 where
   pub job : Job
   pub named : NamesJob words job
   pub faultless : fault_of program_app words ≡ []
@@ -37,13 +37,14 @@ pub record RunsJob (words : List (List ℕ)) (old new errors_old errors_new : Lo
   pub reported : ReportsEnd ended errors_old errors_new status
 
 -- help was written to the output, or a part of it, which is reported as a failed write
-abbrev pub ShowsHelp : List ℕ → Log → Log → Log → Log → ℕ → Type 0
+abbrev pub ShowsHelp : List ℕ → WireLog → WireLog → WireLog → WireLog → ℕ → Type 0
 ShowsHelp text old new errors_old errors_new status =
     ((new ≡ wrote old text) × (errors_new ≡ errors_old) × (status ≡ 0))
-    ⊎ ((fault : WriteFault) × IsCut text fault.sent old new × ReportsEnd (Err (Write fault)) errors_old errors_new status)
+    ⊎ ((fault : WriteFault) × IsCutShort text fault.sent old new
+    × ReportsEnd (Err (Write fault)) errors_old errors_new status)
 
 -- how a command line without a job is reported, by the status and the text that clap gives it
-pub record ReportsLine (line_status : ℕ) (text : List ℕ) (old new errors_old errors_new : Log) (status : ℕ)
+pub record ReportsLine (line_status : ℕ) (text : List ℕ) (old new errors_old errors_new : WireLog) (status : ℕ)
     : Type 0 where
   -- no memory was left for the text
   pub no_text : text ≡ [] → (new ≡ old) × ReportsEnd (Err Memory) errors_old errors_new status
@@ -54,15 +55,15 @@ pub record ReportsLine (line_status : ℕ) (text : List ℕ) (old new errors_old
       → (new ≡ old) × IsSent text errors_old errors_new × (status ≡ line_status)
 
 -- the words name no job: nothing was read, and what clap says of them is reported
-pub record RunsNone (words : List (List ℕ)) (old new errors_old errors_new : Log) (status : ℕ) : Type 0 where
+pub record RunsNone (words : List (List ℕ)) (old new errors_old errors_new : WireLog) (status : ℕ) : Type 0 where
   pub kind : ErrorKind
   pub asked : IsAsked words kind
   pub text : List ℕ
   pub reported : ReportsLine (status_of_kind kind) text old new errors_old errors_new status
 
 -- how the program ends
-abbrev pub HasEnded : List (List ℕ) → Log → Log → Log → Log → ℕ → Type 0
-HasEnded words old new errors_old errors_new status =
+abbrev pub EndsProgram : List (List ℕ) → WireLog → WireLog → WireLog → WireLog → ℕ → Type 0
+EndsProgram words old new errors_old errors_new status =
     RunsJob words old new errors_old errors_new status ⊎ RunsNone words old new errors_old errors_new status
 
 -- where the words themselves can't be read: one that is not UTF-8 is a mistake in them, else memory ran out

@@ -1,10 +1,10 @@
-ghost use Rattle.cut_command_line.specs.Line.{IsSized};
+ghost use Rattle.cut_command_line.specs.Line.{IsSizedJob};
 ghost use Rattle.cutlab.specs.Jobs.{EndsJob};
 
 use cut_command_line::Job;
 use cut_commands::{CliFault, ask_at, check_io, migrate_files, run_file, run_io};
 use cut_disks::FileDisk;
-use cut_server::{Crew, serve_at};
+use cut_server::{Capacity, serve_at};
 use cut_wires::Wire;
 use std::sync::Wait;
 use std::thread::Threads;
@@ -19,7 +19,7 @@ pub(crate) fn answer<W, R>(
 where
     W: Wire,
     R: Threads + Wait + Sync,
-    requires { IsSized job }
+    requires { IsSizedJob job }
     ensures { EndsJob job.entry (W.log wire.old) (W.log wire.new) result }
 {
     let alloc = host.alloc();
@@ -42,12 +42,12 @@ where
             studies,
             folder,
         } => {
-            let crew = Crew {
+            let capacity = Capacity {
                 workers,
                 sessions,
                 studies,
             };
-            match serve_at(host, rt, socket, crew, folder, wire) {
+            match serve_at(host, rt, socket, capacity, folder, wire) {
                 Ok(_report) => Ok(()),
                 Err(fault) => Err(fault),
             }

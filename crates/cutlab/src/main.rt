@@ -7,10 +7,10 @@ mod program;
 #[cfg(test)]
 mod tests;
 
-pub use cut_command_line::{Job, LineFault, parse_line};
+pub use cut_command_line::{Job, NoJob, parse_line};
 pub use cut_commands::{CliFault, ask_io, check_io, migrate_io, run_io};
 pub use cut_server::{
-    Crew, Door, FolderShelf, ListenFault, Listener, SocketWire, serve_io, serve_sessions,
+    Capacity, FolderShelf, ListenFault, Listener, Socket, SocketWire, serve_io, serve_sessions,
 };
 pub use cut_wires::StreamWire;
 pub use program::{end_unread, run_words};

@@ -1,9 +1,9 @@
 //! The program, over its words and wires.
 ghost use Rattle.std.specs.Prelude.{◌≡◌, map, string_bytes, Err};
-ghost use Rattle.cutlab.specs.Program.{HasEnded, IsSent, ReportsEnd, ReportsLine, unread_status, unread_text};
+ghost use Rattle.cutlab.specs.Program.{EndsProgram, IsSent, ReportsEnd, ReportsLine, unread_status, unread_text};
 
 use crate::jobs::answer;
-use cut_command_line::{LineFault, parse_line};
+use cut_command_line::{NoJob, parse_line};
 use cut_commands::CliFault;
 use cut_wires::{Wire, send_all};
 use std::convert::AsStr;
@@ -32,7 +32,7 @@ where
     S: AsStr,
     W: Wire,
     E: Wire,
-    ensures { HasEnded (map S.text words.now) (W.log wire.old) (W.log wire.new)
+    ensures { EndsProgram (map S.text words.now) (W.log wire.old) (W.log wire.new)
         (E.log errors.old) (E.log errors.new) result }
 {
     match parse_line(host.alloc(), words) {
@@ -65,7 +65,7 @@ fn end_fault<E: Wire>(fault: &CliFault, errors: &mut E) -> u8
 }
 
 /// Ends where the words name no job: help goes to the output, and a mistake to the errors.
-fn end_line<W: Wire, E: Wire>(fault: &LineFault, wire: &mut W, errors: &mut E) -> u8
+fn end_line<W: Wire, E: Wire>(fault: &NoJob, wire: &mut W, errors: &mut E) -> u8
     ensures { ReportsLine fault.now.status (string_bytes fault.now.text)
         (W.log wire.old) (W.log wire.new) (E.log errors.old) (E.log errors.new) result }
 {

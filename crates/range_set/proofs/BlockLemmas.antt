@@ -1,5 +1,7 @@
 -- Blocks of a section: one that is changed, and room in all.
-use Rattle.std.proofs.Common.{◌≡◌, ◌∙◌, ℕ, zero, suc, ◌∷◌, ◌+◌, ◌*◌, ◌-◌, ◌/◌, ◌%◌, ◌<◌, ◌≤◌, inl, inr, true, false, ◌&&◌, List, [], map, length, get_or, set, min, max, nat_lt, Result, Ok, Err, refl, ap, sym, arith}
+use Rattle.std.proofs.Common.{◌≡◌, ◌∙◌, ℕ, zero, suc, ◌∷◌, ◌+◌, ◌*◌, ◌-◌, ◌/◌, ◌%◌, ◌<◌, ◌≤◌, inl, inr, true, false}
+use Rattle.std.proofs.Common.{◌&&◌, List, [], map, length, get_or, set, min, max, nat_lt, Result, Ok, Err, refl, ap}
+use Rattle.std.proofs.Common.{sym, arith}
 use Rattle.std.specs.List.{list_all}
 use Rattle.std.specs.Result.{OnErr}
 use Rattle.std.proofs.Math.Bool.{and-true, and-false}
@@ -29,12 +31,14 @@ pub record AreReserved (olds news : List Row) (n : ℕ) : Type 0 where
   pub done : (k : ℕ) → k < n → (get_or news k no_row).room ≡ true
   pub rest : (k : ℕ) → n ≤ k → get_or news k no_row ≡ get_or olds k no_row
 
-pub reserved_more : (olds news : List Row) (n : ℕ) (r : Row) → AreReserved olds news n → n < length news → r ≡ record (get_or news n no_row) { room = true } → AreReserved olds (set news n r) (n + 1)
+pub reserved_more : (olds news : List Row) (n : ℕ) (r : Row) → AreReserved olds news n → n < length news → r
+    ≡ record (get_or news n no_row) { room = true } → AreReserved olds (set news n r) (n + 1)
 reserved_more olds news n r are in' is = record {
   len = length-set news n r ∙ are.len;
   edges = map-set_same (λ (x : Row). x.edges) news n r no_row (ap (λ (x : Row). x.edges) is) ∙ are.edges;
   done = λ k low. elim (cases_eq k n) [
-    | inl same ↦ ap (λ i. (get_or (set news n r) i no_row).room) same ∙ ap (λ (x : Row). x.room) (get_or-set_same news n r no_row in' ∙ is)
+    | inl same ↦ ap (λ i. (get_or (set news n r) i no_row).room) same
+        ∙ ap (λ (x : Row). x.room) (get_or-set_same news n r no_row in' ∙ is)
     | inr other ↦ ap (λ (x : Row). x.room) (get_or-set_other news n k r no_row other) ∙ are.done k (omega arith)
   ];
   rest = λ k le. get_or-set_other news n k r no_row (λ e. omega arith) ∙ are.rest k (omega arith);
@@ -42,7 +46,8 @@ reserved_more olds news n r are in' is = record {
 
 -- all of them
 pub all_reserved : (olds news : List Row) → AreReserved olds news (length olds) → list_all (λ r. r.room) news ≡ true
-all_reserved olds news are = list_all-from_AllPass (λ (r : Row). r.room) news (λ k d low. get_same news k d low ∙ are.done k (omega (arith, are.len)))
+all_reserved olds news are = list_all-from_AllPass (λ (r : Row). r.room) news
+    (λ k d low. get_same news k d low ∙ are.done k (omega (arith, are.len)))
   where
     get_same : (rs : List Row) (k : ℕ) (d : Row) → k < length rs → (get_or rs k d).room ≡ (get_or rs k no_row).room
     get_same [] k d low = absurd (omega arith)
@@ -50,21 +55,26 @@ all_reserved olds news are = list_all-from_AllPass (λ (r : Row). r.room) news (
     get_same (r ∷ rs) (suc k) d low = get_same rs k d (omega arith)
 
 -- where one is refused, what was done so far is not seen
-pub refused : (olds news : List Row) (n : ℕ) (r : Row) → AreReserved olds news n → n < length news → r ≡ get_or news n no_row → r.room ≡ false → blocks_in (set news n r) ≡ blocks_in olds
+pub refused : (olds news : List Row) (n : ℕ) (r : Row) → AreReserved olds news n → n < length news → r
+    ≡ get_or news n no_row → r.room ≡ false → blocks_in (set news n r) ≡ blocks_in olds
 refused olds news n r are in' same none =
     let edges : map (λ x. x.edges) (set news n r) ≡ map (λ x. x.edges) olds =
     map-set_same (λ (x : Row). x.edges) news n r no_row (ap (λ (x : Row). x.edges) same) ∙ are.edges in
     let now : list_all (λ x. x.room) (set news n r) ≡ false =
-    list_all_at (λ (x : Row). x.room) (set news n r) n no_row (omega (arith, length-set news n r)) (ap (λ (x : Row). x.room) (get_or-set_same news n r no_row in') ∙ none) in
+    list_all_at (λ (x : Row). x.room) (set news n r) n no_row (omega (arith, length-set news n r))
+    (ap (λ (x : Row). x.room) (get_or-set_same news n r no_row in') ∙ none) in
     let before : list_all (λ x. x.room) olds ≡ false =
-    list_all_at (λ (x : Row). x.room) olds n no_row (omega (arith, are.len)) (ap (λ (x : Row). x.room) (sym (same ∙ are.rest n (omega arith))) ∙ none) in
+    list_all_at (λ (x : Row). x.room) olds n no_row (omega (arith, are.len))
+    (ap (λ (x : Row). x.room) (sym (same ∙ are.rest n (omega arith))) ∙ none) in
     ap (λ bs. record { blocks = bs; room = list_all (λ x. x.room) (set news n r) }) edges
     ∙ ap (λ b. record { blocks = map (λ x. x.edges) olds; room = b }) (now ∙ sym before)
 
 -- and there was not room in all
-pub had_none : (olds news : List Row) (n : ℕ) → AreReserved olds news n → n < length news → (get_or news n no_row).room ≡ false → list_all (λ x. x.room) olds ≡ false
+pub had_none : (olds news : List Row) (n : ℕ) → AreReserved olds news n → n < length news → (get_or news n no_row).room
+    ≡ false → list_all (λ x. x.room) olds ≡ false
 had_none olds news n are in' none =
-    list_all_at (λ (x : Row). x.room) olds n no_row (omega (arith, are.len)) (ap (λ (x : Row). x.room) (sym (are.rest n (omega arith))) ∙ none)
+    list_all_at (λ (x : Row). x.room) olds n no_row (omega (arith, are.len))
+    (ap (λ (x : Row). x.room) (sym (are.rest n (omega arith))) ∙ none)
 
 pub on_err : {T E P : Type 0} (r : Result T E) → P → OnErr r P
 on_err (Ok x) p = tt
@@ -73,7 +83,8 @@ on_err (Err e) p = p
 -- ---- numbers turned round
 
 -- a block's part of what lies between two numbers
-between_in : (from end n t : ℕ) → end ≤ 4294967295 → t / 65536 ≡ n → is_between (max from (n * 65536)) (min end (min (n * 65536 + 65536) 4294967295)) t ≡ is_between from end t
+between_in : (from end n t : ℕ) → end ≤ 4294967295 → t / 65536 ≡ n
+    → is_between (max from (n * 65536)) (min end (min (n * 65536 + 65536) 4294967295)) t ≡ is_between from end t
 between_in from end n t small own = elim (cases_lt t from) [
   | inl low ↦ within_below _ _ t (omega arith) ∙ sym (within_below from end t low)
   | inr high ↦ elim (cases_lt t end) [
@@ -91,22 +102,33 @@ pub none_flipped : (blocks : List (List ℕ)) (from end : ℕ) → AreFlipped bl
 none_flipped blocks from end = record {
   len = refl;
   each = λ t. elim (cases_lt t from) [
-    | inl low ↦ sym (ap (λ b. flipped (b && nat_lt (t / 65536) (from / 65536)) (is_at blocks t)) (within_below from end t low))
-    | inr high ↦ sym (ap (λ b. flipped (is_between from end t && b) (is_at blocks t)) (le-ltb (t / 65536) (from / 65536) (omega arith)) ∙ ap (λ b. flipped b (is_at blocks t)) (and-false (is_between from end t)))
+    | inl low ↦ sym (ap (λ b. flipped (b && nat_lt (t / 65536) (from / 65536)) (is_at blocks t))
+        (within_below from end t low))
+    | inr high ↦ sym (ap (λ b. flipped (is_between from end t && b) (is_at blocks t))
+        (le-ltb (t / 65536) (from / 65536) (omega arith))
+        ∙ ap (λ b. flipped b (is_at blocks t)) (and-false (is_between from end t)))
   ];
 }
 
-pub flipped_more : (olds news : List (List ℕ)) (from end n : ℕ) (xs : List ℕ) → end ≤ 4294967295 → n < length news → AreFlipped olds news from end n → ((t : ℕ) → is_within xs t ≡ flipped (is_between (max from (n * 65536)) (min end (min (n * 65536 + 65536) 4294967295)) t) (is_within (get_or news n []) t)) → AreFlipped olds (set news n xs) from end (n + 1)
+pub flipped_more : (olds news : List (List ℕ)) (from end n : ℕ) (xs : List ℕ) → end ≤ 4294967295 → n < length news
+    → AreFlipped olds news from end n → ((t : ℕ) → is_within xs t
+    ≡ flipped (is_between (max from (n * 65536)) (min end (min (n * 65536 + 65536) 4294967295)) t)
+    (is_within (get_or news n []) t)) → AreFlipped olds (set news n xs) from end (n + 1)
 flipped_more olds news from end n xs small in' are turned = record {
   len = length-set news n xs ∙ are.len;
   each = λ t. elim (cases_eq (t / 65536) n) [
     | inl own ↦
-        (let before : is_at news t ≡ is_at olds t = are.each t ∙ ap (λ b. flipped (is_between from end t && b) (is_at olds t)) (le-ltb (t / 65536) n (omega arith)) ∙ ap (λ b. flipped b (is_at olds t)) (and-false (is_between from end t)) in
+        (let before : is_at news t ≡ is_at olds t = are.each t
+        ∙ ap (λ b. flipped (is_between from end t && b) (is_at olds t)) (le-ltb (t / 65536) n (omega arith))
+        ∙ ap (λ b. flipped b (is_at olds t)) (and-false (is_between from end t)) in
         ap (λ i. is_within (get_or (set news n xs) i []) t) own
         ∙ ap (λ ys. is_within ys t) (get_or-set_same news n xs [] in')
         ∙ turned t
-        ∙ ap (λ b. flipped b (is_within (get_or news n []) t)) (between_in from end n t small own ∙ sym (and-true (is_between from end t)) ∙ ap (λ b. is_between from end t && b) (sym (lt-ltb (t / 65536) (n + 1) (omega arith))))
-        ∙ ap (flipped (is_between from end t && nat_lt (t / 65536) (n + 1))) (ap (λ i. is_within (get_or news i []) t) (sym own) ∙ before))
+        ∙ ap (λ b. flipped b (is_within (get_or news n []) t))
+        (between_in from end n t small own ∙ sym (and-true (is_between from end t))
+        ∙ ap (λ b. is_between from end t && b) (sym (lt-ltb (t / 65536) (n + 1) (omega arith))))
+        ∙ ap (flipped (is_between from end t && nat_lt (t / 65536) (n + 1)))
+        (ap (λ i. is_within (get_or news i []) t) (sym own) ∙ before))
     | inr other ↦
         ap (λ ys. is_within ys t) (get_or-set_other news n (t / 65536) xs [] other)
         ∙ are.each t
@@ -120,19 +142,28 @@ flipped_more olds news from end n xs small in' are turned = record {
       | inr high ↦ le-ltb k n high ∙ sym (le-ltb k (n + 1) (omega arith))
     ]
 
-pub all_flipped : (olds news : List (List ℕ)) (from end t : ℕ) → from < end → AreFlipped olds news from end ((end - 1) / 65536 + 1) → is_at news t ≡ flipped (is_between from end t) (is_at olds t)
+pub all_flipped : (olds news : List (List ℕ)) (from end t : ℕ) → from < end
+    → AreFlipped olds news from end ((end - 1) / 65536 + 1) → is_at news t
+    ≡ flipped (is_between from end t) (is_at olds t)
 all_flipped olds news from end t some are = are.each t ∙ elim (cases_lt t end) [
-  | inl low ↦ ap (λ b. flipped (is_between from end t && b) (is_at olds t)) (lt-ltb (t / 65536) _ (omega arith)) ∙ ap (λ b. flipped b (is_at olds t)) (and-true (is_between from end t))
-  | inr past ↦ (let out = within_above from end t past in ap (λ b. flipped (b && nat_lt (t / 65536) ((end - 1) / 65536 + 1)) (is_at olds t)) out ∙ sym (ap (λ b. flipped b (is_at olds t)) out))
+  | inl low ↦ ap (λ b. flipped (is_between from end t && b) (is_at olds t)) (lt-ltb (t / 65536) _ (omega arith))
+      ∙ ap (λ b. flipped b (is_at olds t)) (and-true (is_between from end t))
+  | inr past ↦ (let out = within_above from end t past
+      in ap (λ b. flipped (b && nat_lt (t / 65536) ((end - 1) / 65536 + 1)) (is_at olds t)) out
+      ∙ sym (ap (λ b. flipped b (is_at olds t)) out))
 ]
 
 -- ---- the edges of a block
 
-pub edges_at : (rows : List Row) (k : ℕ) → k < length rows → get_or (map (λ r. r.edges) rows) k [] ≡ (get_or rows k no_row).edges
+pub edges_at : (rows : List Row) (k : ℕ) → k < length rows → get_or (map (λ r. r.edges) rows) k []
+    ≡ (get_or rows k no_row).edges
 edges_at rows k low = get_or-map (λ (r : Row). r.edges) rows k no_row [] low
 
 -- up to the end of a run of its block, or of the block
-pub run_within : (rows : List Row) (p : ℕ) (run : Run) (r : Row) → p / 65536 < length rows → r ≡ get_or rows (p / 65536) no_row → p < 4294967295 → IsRun (is_within r.edges) p run → IsRun (is_at (map (λ x. x.edges) rows)) p (record { held = run.held; end = min run.end (min (p + (65536 - p % 65536)) 4294967295) })
+pub run_within : (rows : List Row) (p : ℕ) (run : Run) (r : Row) → p / 65536 < length rows → r
+    ≡ get_or rows (p / 65536) no_row → p < 4294967295 → IsRun (is_within r.edges) p run
+    → IsRun (is_at (map (λ x. x.edges) rows)) p (record
+    { held = run.held; end = min run.end (min (p + (65536 - p % 65536)) 4294967295) })
 run_within rows p run r in' same small its =
     let longer = its.longer in
     record {
@@ -145,5 +176,6 @@ run_within rows p run r in' same small its =
           ∙ its.lasts t low (omega arith));
     }
 
-pub there : (rows : List Row) (p : ℕ) (b : Blocks) → blocks_in rows ≡ b → p / 65536 < length b.blocks → p / 65536 < length rows
+pub there : (rows : List Row) (p : ℕ) (b : Blocks) → blocks_in rows ≡ b → p / 65536 < length b.blocks → p / 65536
+    < length rows
 there rows p b is low = omega (arith, ap (λ (x : Blocks). length x.blocks) is, length-map rows (λ (r : Row). r.edges))

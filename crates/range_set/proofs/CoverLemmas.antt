@@ -1,5 +1,7 @@
 -- The longest spans of what passes a test have the numbers that pass, and lie among those that are looked at.
-use Rattle.std.proofs.Common.{◌≡◌, ℕ, zero, suc, ◌+◌, ◌-◌, ◌<◌, ◌≤◌, ◌⊎◌, inl, inr, Bool, true, false, ◌==◌, ◌||◌, not, cond, List, [], ◌∷◌, ◌++◌, All, map, filter, length, get_or, refl, sym, ap, ◌∙◌, subst, arith, append-nil}
+use Rattle.std.proofs.Common.{◌≡◌, ℕ, zero, suc, ◌+◌, ◌-◌, ◌<◌, ◌≤◌, ◌⊎◌, inl, inr, Bool, true, false, ◌==◌, ◌||◌, not}
+use Rattle.std.proofs.Common.{cond, List, [], ◌∷◌, ◌++◌, All, map, filter, length, get_or, refl, sym, ap, ◌∙◌, subst}
+use Rattle.std.proofs.Common.{arith, append-nil}
 use Rattle.std.specs.List.{range_with_len, take_while, prefix_len, flat_map}
 use Rattle.std.proofs.lemmas.Bool.{and_parts, cases_lt, lt-ltb, le-ltb}
 use Rattle.std.proofs.lemmas.Grind.{flat_map-append}
@@ -27,12 +29,16 @@ span_numbers low (suc m) =
     ∙ append-nil (range_with_len low (low + suc m - low))
     ∙ ap (range_with_len low) long
 
-passes_all : (test : ℕ → Bool) (low m : ℕ) → Gives test true low (low + m) → filter test (range_with_len low m) ≡ range_with_len low m
-passes_all test low m passes = filter-all test (range_with_len low m) (All-range_with_len (λ t. test t ≡ true) low m passes)
+passes_all : (test : ℕ → Bool) (low m : ℕ) → Gives test true low (low + m) → filter test (range_with_len low m)
+    ≡ range_with_len low m
+passes_all test low m passes = filter-all test (range_with_len low m)
+    (All-range_with_len (λ t. test t ≡ true) low m passes)
 
 -- the spans of a test, one after another, are what passes it
-cover_by : (fuel : ℕ) (test : ℕ → Bool) (low n : ℕ) → n ≤ fuel → flat_map numbers_in (spans test low n) ≡ filter test (range_with_len low n)
-cover_by zero test low n le = let none : n ≡ 0 = omega arith in subst (λ k. flat_map numbers_in (spans test low k) ≡ filter test (range_with_len low k)) (sym none) refl
+cover_by : (fuel : ℕ) (test : ℕ → Bool) (low n : ℕ) → n ≤ fuel → flat_map numbers_in (spans test low n)
+    ≡ filter test (range_with_len low n)
+cover_by zero test low n le = let none : n ≡ 0 = omega arith
+    in subst (λ k. flat_map numbers_in (spans test low k) ≡ filter test (range_with_len low k)) (sym none) refl
 cover_by (suc fuel) test low n le = by (λ a k few. cover_by fuel test a k few) (cases_lt m n)
   where
     all : List ℕ
@@ -48,7 +54,9 @@ cover_by (suc fuel) test low n le = by (λ a k few. cover_by fuel test a k few) 
         let at : get_or all (t - low) 0 ≡ t = get_or-range_with_len low n (t - low) 0 (omega arith) ∙ omega arith in
         ap test (sym at) ∙ prefix_len_passes test all (t - low) 0 (omega arith))
 
-    by : ((a k : ℕ) → k ≤ fuel → flat_map numbers_in (spans test a k) ≡ filter test (range_with_len a k)) → (prefix_len test (range_with_len low n) < n) ⊎ (n ≤ prefix_len test (range_with_len low n)) → flat_map numbers_in (spans test low n) ≡ filter test (range_with_len low n)
+    by : ((a k : ℕ) → k ≤ fuel → flat_map numbers_in (spans test a k) ≡ filter test (range_with_len a k))
+        → (prefix_len test (range_with_len low n) < n) ⊎ (n ≤ prefix_len test (range_with_len low n))
+        → flat_map numbers_in (spans test low n) ≡ filter test (range_with_len low n)
     by shorter (inr whole) =
         let few = prefix_len-le-length test all in
         let long = length-range_with_len low n in
@@ -61,7 +69,8 @@ cover_by (suc fuel) test low n le = by (λ a k few. cover_by fuel test a k few) 
         let long = length-range_with_len low n in
         let at : get_or all m 0 ≡ low + m = get_or-range_with_len low n m 0 stops in
         let fails : test (low + m) ≡ false = ap test (sym at) ∙ prefix_len_stops test all 0 (omega arith) in
-        let out : Gives test false (low + m) (low + (m + 1)) = λ t from to. (let same : t ≡ low + m = omega arith in ap test same ∙ fails) in
+        let out : Gives test false (low + m) (low + (m + 1)) = λ t from to.
+        (let same : t ≡ low + m = omega arith in ap test same ∙ fails) in
         let later = shorter (low + (m + 1)) rest (omega arith) in
         let first : filter test (range_with_len low (m + 1)) ≡ range_with_len low m =
         ap (filter test) (sym (ranges-join low m 1))
@@ -80,17 +89,20 @@ cover_by (suc fuel) test low n le = by (λ a k few. cover_by fuel test a k few) 
         ∙ ap (filter test) (ranges-join low (m + 1) rest)
         ∙ ap (λ k. filter test (range_with_len low k)) parts
 
-pub spans_cover : (test : ℕ → Bool) (low n : ℕ) → flat_map numbers_in (spans test low n) ≡ filter test (range_with_len low n)
+pub spans_cover : (test : ℕ → Bool) (low n : ℕ) → flat_map numbers_in (spans test low n)
+    ≡ filter test (range_with_len low n)
 spans_cover test low n = cover_by n test low n (omega arith)
 
 -- ---- where they lie
 
-at_is : (test : ℕ → Bool) (low n t : ℕ) → low ≤ t → t < low + n → test t ≡ true → IsWithin low n (span_at test (low + n) t)
+at_is : (test : ℕ → Bool) (low n t : ℕ) → low ≤ t → t < low + n → test t ≡ true
+    → IsWithin low n (span_at test (low + n) t)
 at_is test low n t from to passes =
     let high : ℕ = low + n in
     let rest : ℕ = high - t - 1 in
     let long : high - t ≡ suc rest = omega arith in
-    let count : length (take_while test (range_with_len t (high - t))) ≡ 1 + prefix_len test (range_with_len (t + 1) rest) =
+    let count : length (take_while test (range_with_len t (high - t))) ≡ 1
+    + prefix_len test (range_with_len (t + 1) rest) =
     ap (λ k. length (take_while test (range_with_len t k))) long
     ∙ length-prefix_len test (range_with_len t (suc rest))
     ∙ ap (λ b. cond b (1 + prefix_len test (range_with_len (t + 1) rest)) 0) passes
@@ -99,13 +111,21 @@ at_is test low n t from to passes =
     let most = length-range_with_len (t + 1) rest in
     record { some = omega arith; starts = from; ends = omega arith }
 
-each_within : (test : ℕ → Bool) (low n a m : ℕ) → low ≤ a → a + m ≤ low + n → All (IsWithin low n) (map (span_at test (low + n)) (filter (begins test low) (range_with_len a m)))
+each_within : (test : ℕ → Bool) (low n a m : ℕ) → low ≤ a → a + m ≤ low + n
+    → All (IsWithin low n) (map (span_at test (low + n)) (filter (begins test low) (range_with_len a m)))
 each_within test low n a zero le high = All-nil (IsWithin low n)
-each_within test low n a (suc m) le high = by (begins test low a) refl (each_within test low n (a + 1) m (omega arith) (omega arith))
+each_within test low n a (suc m) le high = by (begins test low a) refl
+    (each_within test low n (a + 1) m (omega arith) (omega arith))
   where
-    by : (b : Bool) → begins test low a ≡ b → All (IsWithin low n) (map (span_at test (low + n)) (filter (begins test low) (range_with_len (a + 1) m))) → All (IsWithin low n) (map (span_at test (low + n)) (cond b (a ∷ filter (begins test low) (range_with_len (a + 1) m)) (filter (begins test low) (range_with_len (a + 1) m))))
+    by : (b : Bool) → begins test low a ≡ b → All (IsWithin low n)
+        (map (span_at test (low + n)) (filter (begins test low) (range_with_len (a + 1) m)))
+        → All (IsWithin low n) (map (span_at test (low + n))
+        (cond b (a ∷ filter (begins test low) (range_with_len (a + 1) m))
+        (filter (begins test low) (range_with_len (a + 1) m))))
     by true is rest =
-        All-cons (IsWithin low n) (span_at test (low + n) a) (map (span_at test (low + n)) (filter (begins test low) (range_with_len (a + 1) m))) (at_is test low n a le (omega arith) (and_parts (test a) (a == low || not (test (a - 1))) is).0) rest
+        All-cons (IsWithin low n) (span_at test (low + n) a)
+        (map (span_at test (low + n)) (filter (begins test low) (range_with_len (a + 1) m)))
+        (at_is test low n a le (omega arith) (and_parts (test a) (a == low || not (test (a - 1))) is).0) rest
     by false is rest = rest
 
 pub spans_within : (test : ℕ → Bool) (low n : ℕ) → All (IsWithin low n) (spans test low n)

@@ -1,11 +1,14 @@
 -- Numbers and their sections: what is held, and a span that is put into one.
-use Rattle.std.proofs.Common.{◌≡◌, ◌∙◌, ℕ, ◌+◌, ◌*◌, ◌-◌, ◌/◌, ◌%◌, ◌<◌, ◌≤◌, inl, inr, Bool, true, false, ◌||◌, List, [], All, map, length, get_or, set, replicate, min, refl, ap, sym, subst, arith}
+use Rattle.std.proofs.Common.{◌≡◌, ◌∙◌, ℕ, ◌+◌, ◌*◌, ◌-◌, ◌/◌, ◌%◌, ◌<◌, ◌≤◌, inl, inr, Bool, true, false, ◌||◌, List}
+use Rattle.std.proofs.Common.{[], All, map, length, get_or, set, replicate, min, refl, ap, sym, subst, arith}
 use Rattle.std.specs.Int.{div_ceil}
 use Rattle.std.specs.List.{range_with_len}
 use Rattle.std.proofs.Math.Bool.{or-false}
-use Rattle.std.proofs.Math.Nat.{add-mul, div-add-mod', lt-div-mul-add, mul-le-mul_left, mul-le-mul_right, mul-one, one-mul}
+use Rattle.std.proofs.Math.Nat.{add-mul, div-add-mod', lt-div-mul-add, mul-le-mul_left, mul-le-mul_right, mul-one}
+use Rattle.std.proofs.Math.Nat.{one-mul}
 use Rattle.std.proofs.lemmas.Bool.{cases_eq, cases_lt}
-use Rattle.std.proofs.lemmas.List.{ext_get_or, get_or-replicate, get_or_past, get_or-set_same, get_or-set_other, length-replicate, length-set, length-map, map-set}
+use Rattle.std.proofs.lemmas.List.{ext_get_or, get_or-replicate, get_or_past, get_or-set_same, get_or-set_other}
+use Rattle.std.proofs.lemmas.List.{length-replicate, length-set, length-map, map-set}
 use Rattle.std.proofs.lemmas.List.FromFn.{get_or-map-range_with_len, length-map-range_with_len}
 use Rattle.std.proofs.lemmas.Nat.{div-mul-add, mod-mul-add, div_below}
 use Rattle.cut_lists.proofs.Intervals.{map_agree, within_is, within_below, within_above}
@@ -55,15 +58,19 @@ pub length_is : (l : ℕ) (ss : List Blocks) → length (held_in l ss).held ≡ 
 length_is l ss = length-map-range_with_len (is_held l ss) 0 (length ss * l)
 
 -- the blocks of a section that there is
-pub block_of : (l : ℕ) (ss : List Blocks) (c p : ℕ) → All (λ s. length s.blocks ≡ div_ceil l 65536) ss → c < length ss → p < l → p / 65536 < length (section_at ss c).blocks
+pub block_of : (l : ℕ) (ss : List Blocks) (c p : ℕ) → All (λ s. length s.blocks ≡ div_ceil l 65536) ss → c < length ss
+    → p < l → p / 65536 < length (section_at ss c).blocks
 block_of l ss c p long in' low =
     let own : length (section_at ss c).blocks ≡ div_ceil l 65536 = long c no_blocks in' in
     omega (arith, own)
 
 -- up to the end of a run of its section, or of the section
-pub run_in : (l : ℕ) (ss : List Blocks) (t : ℕ) (r : Run) (s : Blocks) → 0 < l → t < length ss * l → s ≡ section_at ss (t / l) → IsRun (is_at s.blocks) (t % l) r → IsRun (has (held_in l ss)) t (record { held = r.held; end = t - t % l + min r.end l })
+pub run_in : (l : ℕ) (ss : List Blocks) (t : ℕ) (r : Run) (s : Blocks) → 0 < l → t < length ss * l → s
+    ≡ section_at ss (t / l) → IsRun (is_at s.blocks) (t % l) r
+    → IsRun (has (held_in l ss)) t (record { held = r.held; end = t - t % l + min r.end l })
 run_in l ss t r s some low same its =
-    let run : IsRun (is_at (section_at ss (t / l)).blocks) (t % l) r = subst (λ x. IsRun (is_at x.blocks) (t % l) r) same its in
+    let run : IsRun (is_at (section_at ss (t / l)).blocks) (t % l) r = subst (λ x. IsRun (is_at x.blocks) (t % l) r)
+    same its in
     let at = number l (length ss) t some low in
     let is = at.is in
     let below = at.place in
@@ -82,10 +89,13 @@ run_in l ss t r s some low same its =
 
 -- ---- a set without numbers
 
-pub none_held : (l n : ℕ) (ss : List Blocks) → length ss ≡ n → ((c : ℕ) → c < n → (section_at ss c).blocks ≡ replicate (div_ceil l 65536) []) → (held_in l ss).held ≡ replicate (n * l) false
+pub none_held : (l n : ℕ) (ss : List Blocks) → length ss ≡ n
+    → ((c : ℕ) → c < n → (section_at ss c).blocks ≡ replicate (div_ceil l 65536) []) → (held_in l ss).held
+    ≡ replicate (n * l) false
 none_held l n ss long none =
     let size : length (held_in l ss).held ≡ n * l = length_is l ss ∙ ap (λ k. k * l) long in
-    ext_get_or false (held_in l ss).held (replicate (n * l) false) (size ∙ sym (length-replicate {A = Bool} (n * l) false)) (λ t low.
+    ext_get_or false (held_in l ss).held (replicate (n * l) false)
+    (size ∙ sym (length-replicate {A = Bool} (n * l) false)) (λ t low.
     has_is l ss t (omega (arith, low, length_is l ss))
     ∙ nothing (t / l) (t % l)
     ∙ sym (get_or-replicate {A = Bool} (n * l) t false false (omega (arith, low, size))))
@@ -108,7 +118,8 @@ none_held l n ss long none =
 abbrev pub rooms : List Blocks → List Bool
 rooms ss = map (λ s. s.room) ss
 
-pub others_stay : (ss : List Blocks) (c : ℕ) (s : Blocks) → c < length ss → rooms (set ss c s) ≡ set (rooms ss) c (get_or (rooms (set ss c s)) c false)
+pub others_stay : (ss : List Blocks) (c : ℕ) (s : Blocks) → c < length ss → rooms (set ss c s)
+    ≡ set (rooms ss) c (get_or (rooms (set ss c s)) c false)
 others_stay ss c s within =
     let one = map-set (λ (x : Blocks). x.room) ss c s in
     let long = length-map ss (λ (x : Blocks). x.room) in
@@ -116,14 +127,18 @@ others_stay ss c s within =
     one ∙ ap (λ b. set (rooms ss) c b) (sym (ap (λ xs. get_or xs c false) one ∙ here))
 
 -- where its numbers stay
-pub held_stays : (l : ℕ) (ss : List Blocks) (c : ℕ) (s : Blocks) → c < length ss → s.blocks ≡ (section_at ss c).blocks → (held_in l (set ss c s)).held ≡ (held_in l ss).held
+pub held_stays : (l : ℕ) (ss : List Blocks) (c : ℕ) (s : Blocks) → c < length ss → s.blocks ≡ (section_at ss c).blocks
+    → (held_in l (set ss c s)).held ≡ (held_in l ss).held
 held_stays l ss c s in' same =
     ap (λ n. map (is_held l (set ss c s)) (range_with_len 0 (n * l))) (length-set ss c s)
-    ∙ map_agree (is_held l (set ss c s)) (is_held l ss) 0 (length ss * l) (λ t _ _. ap (λ bs. is_at bs (t % l)) (by (t / l)))
+    ∙ map_agree (is_held l (set ss c s)) (is_held l ss) 0 (length ss * l)
+    (λ t _ _. ap (λ bs. is_at bs (t % l)) (by (t / l)))
   where
     by : (d : ℕ) → (section_at (set ss c s) d).blocks ≡ (section_at ss d).blocks
     by d = elim (cases_eq d c) [
-      | inl here ↦ ap (λ i. (section_at (set ss c s) i).blocks) here ∙ ap (λ (x : Blocks). x.blocks) (get_or-set_same ss c s no_blocks in') ∙ same ∙ ap (λ i. (section_at ss i).blocks) (sym here)
+      | inl here ↦ ap (λ i. (section_at (set ss c s) i).blocks) here
+          ∙ ap (λ (x : Blocks). x.blocks) (get_or-set_same ss c s no_blocks in') ∙ same
+          ∙ ap (λ i. (section_at ss i).blocks) (sym here)
       | inr other ↦ ap (λ (x : Blocks). x.blocks) (get_or-set_other ss c d s no_blocks other)
     ]
 
@@ -149,22 +164,28 @@ are_in l ss p some of =
     record { some = of.some; within = first.section; is = first.is; end = omega arith; last = first.end }
 
 -- what a number is in, and the place of that number
-in_place : (l c t : ℕ) (p : Span) → p.first ≡ c * l + p.first % l → t / l ≡ c → t ≡ t / l * l + t % l → is_between (p.first % l) (p.first % l + p.count) (t % l) ≡ is_in p t
+in_place : (l c t : ℕ) (p : Span) → p.first ≡ c * l + p.first % l → t / l ≡ c → t ≡ t / l * l + t % l
+    → is_between (p.first % l) (p.first % l + p.count) (t % l) ≡ is_in p t
 in_place l c t p first own is =
     let at : t ≡ c * l + t % l = is ∙ ap (λ d. d * l + t % l) own in
     elim (cases_lt t p.first) [
       | inl low ↦ within_below _ _ (t % l) (omega arith) ∙ sym (within_below p.first (p.first + p.count) t low)
       | inr high ↦ elim (cases_lt t (p.first + p.count)) [
-        | inl in' ↦ within_is _ _ (t % l) (omega arith) (omega arith) ∙ sym (within_is p.first (p.first + p.count) t high in')
+        | inl in' ↦ within_is _ _ (t % l) (omega arith) (omega arith)
+            ∙ sym (within_is p.first (p.first + p.count) t high in')
         | inr past ↦ within_above _ _ (t % l) (omega arith) ∙ sym (within_above p.first (p.first + p.count) t past)
       ]
     ]
 
 -- where none of its numbers was there, they are now, and all others are as before
-pub span_put : (l : ℕ) (ss : List Blocks) (s : Blocks) (p : Span) → 0 < l → IsOfSection (held_in l ss) p → overlaps (held_in l ss) p ≡ false → ((t : ℕ) → is_at s.blocks t ≡ flipped (is_between (p.first % l) (p.first % l + p.count) t) (is_at (section_at ss (p.first / l)).blocks t)) → (held_in l (set ss (p.first / l) s)).held ≡ with_span (held_in l ss) p
+pub span_put : (l : ℕ) (ss : List Blocks) (s : Blocks) (p : Span) → 0 < l → IsOfSection (held_in l ss) p
+    → overlaps (held_in l ss) p ≡ false → ((t : ℕ) → is_at s.blocks t
+    ≡ flipped (is_between (p.first % l) (p.first % l + p.count) t) (is_at (section_at ss (p.first / l)).blocks t))
+    → (held_in l (set ss (p.first / l) s)).held ≡ with_span (held_in l ss) p
 span_put l ss s p some of apart turned =
     ap (λ n. map (is_held l (set ss (p.first / l) s)) (range_with_len 0 (n * l))) (length-set ss (p.first / l) s)
-    ∙ map_agree (is_held l (set ss (p.first / l) s)) (λ t. has (held_in l ss) t || is_in p t) 0 (length ss * l) (λ t _ low. by t (omega arith))
+    ∙ map_agree (is_held l (set ss (p.first / l) s)) (λ t. has (held_in l ss) t || is_in p t) 0 (length ss * l)
+    (λ t _ low. by t (omega arith))
     ∙ ap (λ n. map (λ t. has (held_in l ss) t || is_in p t) (range_with_len 0 n)) (sym (length_is l ss))
   where
     facts : AreIn l ss p
@@ -187,7 +208,8 @@ span_put l ss s p some of apart turned =
     out t other = elim (cases_lt t p.first) [
       | inl low ↦ within_below p.first (p.first + p.count) t low
       | inr high ↦ elim (cases_lt t (p.first + p.count)) [
-        | inl in' ↦ absurd (other (at_place l (p.first / l) (p.first % l + (t - p.first)) t (let e = facts.end in omega arith) (let e = facts.is in omega arith)).section)
+        | inl in' ↦ absurd (other (at_place l (p.first / l) (p.first % l + (t - p.first)) t
+            (let e = facts.end in omega arith) (let e = facts.is in omega arith)).section)
         | inr past ↦ within_above p.first (p.first + p.count) t past
       ]
     ]
@@ -198,8 +220,10 @@ span_put l ss s p some of apart turned =
           ap (λ c. is_at (section_at (set ss (p.first / l) s) c).blocks (t % l)) own
           ∙ ap (λ (x : Blocks). is_at x.blocks (t % l)) (get_or-set_same ss (p.first / l) s no_blocks facts.within)
           ∙ turned (t % l)
-          ∙ ap (λ b. flipped b (is_at (section_at ss (p.first / l)).blocks (t % l))) (in_place l (p.first / l) t p facts.is own (number l (length ss) t some low).is)
-          ∙ ap (flipped (is_in p t)) (ap (λ c. is_at (section_at ss c).blocks (t % l)) (sym own) ∙ sym (has_is l ss t low))
+          ∙ ap (λ b. flipped b (is_at (section_at ss (p.first / l)).blocks (t % l)))
+          (in_place l (p.first / l) t p facts.is own (number l (length ss) t some low).is)
+          ∙ ap (flipped (is_in p t)) (ap (λ c. is_at (section_at ss c).blocks (t % l)) (sym own)
+          ∙ sym (has_is l ss t low))
           ∙ free (is_in p t) (has (held_in l ss) t) (clear t)
       | inr other ↦
           ap (λ (x : Blocks). is_at x.blocks (t % l)) (get_or-set_other ss (p.first / l) (t / l) s no_blocks other)
@@ -208,7 +232,9 @@ span_put l ss s p some of apart turned =
     ]
 
 -- room made in a section
-pub reserved_is : (l : ℕ) (ss : List Blocks) (c : ℕ) (s : Blocks) → c < length ss → s ≡ record { blocks = (section_at ss c).blocks; room = true } → held_in l (set ss c s) ≡ record { section_len = l; held = (held_in l ss).held; room = set (rooms ss) c true }
+pub reserved_is : (l : ℕ) (ss : List Blocks) (c : ℕ) (s : Blocks) → c < length ss → s
+    ≡ record { blocks = (section_at ss c).blocks; room = true } → held_in l (set ss c s)
+    ≡ record { section_len = l; held = (held_in l ss).held; room = set (rooms ss) c true }
 reserved_is l ss c s in' made =
     let held = held_stays l ss c s in' (ap (λ (x : Blocks). x.blocks) made) in
     let room : rooms (set ss c s) ≡ set (rooms ss) c true =

@@ -1,5 +1,6 @@
 -- The numbers at which a set begins or ends. Only the crate's private clauses cite it.
-use Rattle.std.specs.Prelude.{◌≡◌, ℕ, ◌<◌, ◌≤◌, ◌%◌, ◌==◌, ◌&&◌, Bool, not, List, nat_le, nat_lt, count_by, if◌then◌else◌}
+use Rattle.std.specs.Prelude.{◌≡◌, ℕ, ◌<◌, ◌≤◌, ◌%◌, ◌==◌, ◌&&◌, Bool, not, List, nat_le, nat_lt, count_by}
+use Rattle.std.specs.Prelude.{if◌then◌else◌}
 use Rattle.range_set.specs.declared.run.Run.{Run}
 
 -- the edges of a set, ascending, and whether two more can be put among them without memory

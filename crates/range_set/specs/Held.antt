@@ -1,5 +1,6 @@
 -- A set of numbers as contracts see it.
-use Rattle.std.specs.Prelude.{◌≡◌, ℕ, ◌+◌, ◌-◌, ◌/◌, ◌<◌, ◌≤◌, ◌||◌, Bool, false, List, map, length, slice_index_or, slice_set}
+use Rattle.std.specs.Prelude.{◌≡◌, ℕ, ◌+◌, ◌-◌, ◌/◌, ◌<◌, ◌≤◌, ◌||◌, Bool, false, List, map, length, slice_index_or}
+use Rattle.std.specs.Prelude.{slice_set}
 use Rattle.std.specs.List.{range_with_len, list_any, list_all}
 use Rattle.range_set.specs.declared.span.Span.{Span}
 use Rattle.range_set.specs.Spans.{is_in, numbers_in}

@@ -1,4 +1,4 @@
-//! Asking for a table: answers that were worked out by hand, and what is told of each.
+//! Asking for a table: answers that were worked out by hand, and what is reported of each.
 
 use super::{NAMES, PLAN};
 use cut_commands::ask_io;
@@ -10,24 +10,24 @@ use std::test::Fail;
 const ANSWER: &[u8] =
     b"T\0\0\0\x48k,h,l,f,trials,receivers,conflicts,silent,extra,votes,decided,right,ppm\nT\0\0\0\x1a1,1,1,1,2,8,0,0,0,8,2,2,0\nZ\0\0\0\0";
 
-/// What is told of an asking, its status, and how many bytes its wire and the server's took.
+/// How a command `ask` ended: its text and status, and how many bytes its wire and the server's took.
 #[derive(Debug, Drop, PartialEq)]
-struct Told {
+struct AskEnd {
     text: String,
     status: u8,
     written: usize,
     sent: usize,
 }
 
-/// What is told where a text is asked for, and these bytes are answered.
-fn told_of(alloc: Global, text: &[u8], answer: &[u8]) -> Result<Told, Fail> {
+/// How it ends to ask for the table of a text where these bytes are answered.
+fn ended(alloc: Global, text: &[u8], answer: &[u8]) -> Result<AskEnd, Fail> {
     let mut wire = MemoryWire::new(alloc, Vec::from_slice(alloc, text)?, 4096);
     let mut server = MemoryWire::new(alloc, Vec::from_slice(alloc, answer)?, 7);
     let (text, status) = match ask_io(alloc, &mut wire, &mut server) {
         Ok(()) => (String::new(alloc), 0),
         Err(fault) => (fault.to_string(alloc)?, fault.status()),
     };
-    Ok(Told {
+    Ok(AskEnd {
         text,
         status,
         written: wire.taken().len(),
@@ -51,7 +51,7 @@ fn a_table_is_asked_for(rt: HostRuntime) -> Result<(), Fail> {
 }
 
 #[test]
-fn what_a_server_tells_is_told(rt: HostRuntime) -> Result<(), Fail> {
+fn a_fault_from_the_server_is_reported(rt: HostRuntime) -> Result<(), Fail> {
     let alloc = rt.alloc();
     let rows: [(&[u8], &str, u8); 8] = [
         (b"E\0\0\0\x02\0\x08", "cutlab: fault 8 NoCell", 3),
@@ -64,16 +64,13 @@ fn what_a_server_tells_is_told(rt: HostRuntime) -> Result<(), Fail> {
         (b"Z\0\0\0\x01", "cutlab: fault 45 BadLength", 4),
     ];
     for (answer, text, status) in rows {
-        let wanted = Told {
+        let wanted = AskEnd {
             text: String::from_str(alloc, text)?,
             status,
             written: 0,
             sent: 231,
         };
-        assert!(rt;
-            told_of(alloc, PLAN.as_bytes(), answer)? == wanted,
-            "{text}"
-        );
+        assert!(rt; ended(alloc, PLAN.as_bytes(), answer)? == wanted, "{text}");
     }
     Ok(())
 }
@@ -82,12 +79,12 @@ fn what_a_server_tells_is_told(rt: HostRuntime) -> Result<(), Fail> {
 fn a_text_that_is_too_long_is_not_sent(rt: HostRuntime) -> Result<(), Fail> {
     let alloc = rt.alloc();
     let blanks = vec![in alloc; b' '; 65_537]?;
-    let wanted = Told {
+    let wanted = AskEnd {
         text: String::from_str(alloc, "cutlab: fault 19 PlanTooLong")?,
         status: 3,
         written: 0,
         sent: 0,
     };
-    assert!(rt; told_of(alloc, blanks.as_slice(), ANSWER)? == wanted);
+    assert!(rt; ended(alloc, blanks.as_slice(), ANSWER)? == wanted);
     Ok(())
 }

@@ -40,7 +40,7 @@ pub(super) fn disk_of(alloc: Global, bytes: Vec<u8>) -> Result<FaultyDisk, Fail>
     Ok(FaultyDisk::of(alloc, bytes, 0, Tear::Nothing)?)
 }
 
-/// Whether the plan's study over a disk, by pieces of this size, writes its table and leaves so many bytes there.
+/// Whether the plan's study over a disk, by pieces of this size, writes its table and leaves this many bytes there.
 fn leaves<T: Threads + Wait + Sync>(
     rt: &T,
     alloc: Global,
@@ -72,8 +72,8 @@ fn a_study_is_kept_and_read_back(rt: HostRuntime) -> Result<(), Fail> {
 /// look again and to make the study.
 const OPENING_CALLS: u64 = 10;
 
-/// Whether a run told the failure of this call of the disk.
-fn is_told(ended: Result<Vec<u8>, CliFault>, fail_at: u64) -> bool {
+/// Whether a run reported the failure of this call of the disk.
+fn is_reported(ended: Result<Vec<u8>, CliFault>, fail_at: u64) -> bool {
     match ended {
         Err(CliFault::Journal(JournalFault::Disk)) => fail_at <= OPENING_CALLS,
         Err(CliFault::Checkpoint) => fail_at > OPENING_CALLS,
@@ -82,19 +82,19 @@ fn is_told(ended: Result<Vec<u8>, CliFault>, fail_at: u64) -> bool {
 }
 
 /// Runs the plan on a disk that fails at this call, and where it did then again. Whether the disk failed; and whether
-/// the first run was told so where it did, and the second one wrote the table.
+/// the first run reported it where it did, and the second one wrote the table.
 fn runs_twice<T: Threads + Wait + Sync>(
     rt: &T,
     alloc: Global,
     fail_at: u64,
     disk: &mut FaultyDisk,
 ) -> Result<(bool, bool), Fail> {
-    let told = is_told(written(rt, alloc, PLAN, 1, &mut *disk), fail_at);
+    let is_right = is_reported(written(rt, alloc, PLAN, 1, &mut *disk), fail_at);
     if disk.failures() != 1 {
-        return Ok((false, !told));
+        return Ok((false, !is_right));
     }
     let second = written(rt, alloc, PLAN, 2, disk)?;
-    Ok((true, told && is_table(second.as_slice())))
+    Ok((true, is_right && is_table(second.as_slice())))
 }
 
 /// The same on a new disk.
@@ -121,7 +121,7 @@ fn each_call_of_the_disk_fails(rt: HostRuntime) -> Result<(), Fail> {
     Ok(())
 }
 
-/// Whether a run whose wire has room for 80 bytes tells so, and keeps both trials on the disk.
+/// Whether a run whose wire has room for 80 bytes reports as many, and keeps both trials on the disk.
 fn is_cut_off<T: Threads + Wait + Sync>(
     rt: &T,
     alloc: Global,
@@ -130,8 +130,8 @@ fn is_cut_off<T: Threads + Wait + Sync>(
     let input = Vec::from_slice(alloc, PLAN.as_bytes())?;
     let mut wire = FaultyWire::new(alloc, input, 4096, 80, 0);
     let ended = run_io(rt, alloc, &mut wire, 1, 2, Some(&mut *disk));
-    let is_told = matches!(ended, Err(CliFault::Write(WriteFault { sent: 80 })));
-    Ok(is_told && disk.memory().bytes().len() == 477)
+    let is_reported = matches!(ended, Err(CliFault::Write(WriteFault { sent: 80 })));
+    Ok(is_reported && disk.memory().bytes().len() == 477)
 }
 
 #[test]
@@ -173,7 +173,7 @@ pub(super) fn whole_file<T: Threads + Wait + Sync>(
     Ok(Vec::from_slice(alloc, disk.memory().bytes())?)
 }
 
-/// Writes an open gate and these numbers behind it.
+/// Writes an open gate and these numbers after it.
 pub(super) fn push_numbers(file: &mut Vec<u8>, numbers: &[u64]) -> Result<(), Fail> {
     file.push(0xA5)?;
     for number in numbers {

@@ -50,7 +50,8 @@ impl<D: Disk> Disk for Gated<'_, D> {
     }
 }
 
-/// A wire whose writes wait until so many gates are moved on the disk, for so many turns of a millisecond at most.
+/// A wire whose writes wait until a number of gates are moved on the disk, for a number of turns of a millisecond at
+/// most.
 #[derive(Drop)]
 struct Held<'a, W: Wire, C> {
     wire: W,
@@ -61,7 +62,7 @@ struct Held<'a, W: Wire, C> {
     seen: Option<u64>,
 }
 
-/// Waits until there are so many, for so many turns of a millisecond at most: how many there are then.
+/// Waits until there are `wanted`, for `turns` turns of a millisecond at most: how many there are then.
 fn wait_for<C: Clock>(clock: &C, gates: &AtomicU64, wanted: u64, turns: u32) -> u64 {
     for _ in 0..turns {
         let moved = gates.load(Ordering::SeqCst);

@@ -94,7 +94,7 @@ fn stops_at_read<T: Threads + Wait + Sync>(
     }
 }
 
-/// How many bytes so many writes take, of at most `step` bytes each and none over the end of a line: the table
+/// How many bytes this many writes take, of at most `step` bytes each and none over the end of a line: the table
 /// has a line of 72 bytes and one of 26.
 fn taken_by(step: usize, writes: usize) -> usize {
     let first = 72usize.div_ceil(step.max(1));
@@ -128,7 +128,7 @@ fn stops_at_write<T: Threads + Wait + Sync>(
 
 #[test]
 fn each_read_fails(rt: HostRuntime) -> Result<(), Fail> {
-    // A call for each byte, and one that tells the end.
+    // A call for each byte, and one that finds the end.
     for at in 0..PLAN.len() + 1 {
         assert!(rt;
             stops_at_read(&rt, rt.alloc(), at, ErrorKind::Other),
@@ -197,7 +197,7 @@ fn reads_no_further_than_the_limit(rt: HostRuntime) -> Result<(), Fail> {
     Ok(())
 }
 
-/// Every kind of failure that a device can tell.
+/// Every kind of failure that a device can report.
 const KINDS: [ErrorKind; 41] = [
     ErrorKind::NotFound,
     ErrorKind::PermissionDenied,
@@ -243,7 +243,7 @@ const KINDS: [ErrorKind; 41] = [
 ];
 
 /// Whether a wire over a reader that fails at its second call of three makes each call once, and counts and
-/// tells that failure alone.
+/// reports that failure alone.
 fn counts_a_read(alloc: Global, kind: ErrorKind, size: usize) -> Result<bool, AllocError> {
     let mut buffer = vec![in alloc; 7u8; size]?;
     if buffer.is_empty() {

@@ -167,7 +167,7 @@ fn moves<T: Threads + Wait + Sync>(
     goes_so(alloc, wanted, &mut old, &mut new)
 }
 
-/// One whose text is not the plan's, or whose study has no true slip: it ends so, and leaves so many bytes.
+/// One whose text is not the plan's, or whose study has no true slip: it ends so, and leaves this many bytes.
 fn ends(text: &'static str, end: (u8, &'static str), length: usize) -> Move {
     Move {
         text,
@@ -248,8 +248,8 @@ fn goes_on<T: Threads + Wait + Sync>(
         return Ok(is_moved && new.failures() == 0);
     }
     let failed = ends(PLAN, (4, "cutlab: fault 20 Disk"), 0);
-    let is_told = ends_so(alloc, failed, &mut old, &mut new)?;
-    Ok(is_told && new.failures() == 1 && writes_upgrade(rt, alloc, &mut new)?)
+    let is_reported = ends_so(alloc, failed, &mut old, &mut new)?;
+    Ok(is_reported && new.failures() == 1 && writes_upgrade(rt, alloc, &mut new)?)
 }
 
 #[test]

@@ -35,13 +35,13 @@ impl Noted<'_> {
 impl RawFile for Noted<'_> {
     ghost use Rattle.std.specs.Prelude.{⊤};
 
-    ghost told_kind = { λ _ _ _. ⊤ };
+    ghost kind_reported = { λ _ _ _. ⊤ };
 
     ghost locked = { λ _ _. ⊤ };
 
     ghost synced_folder = { λ _ _. ⊤ };
 
-    ghost told_length = { λ _ _ _. ⊤ };
+    ghost length_reported = { λ _ _ _. ⊤ };
 
     ghost was_read = { λ _ _ _ _. ⊤ };
 
@@ -147,7 +147,7 @@ fn each_call_of_a_file_is_one_of_the_system(rt: HostRuntime) -> Result<(), Fail>
     Ok(())
 }
 
-// Whether a sync that fails is told, and counted.
+// Whether a sync that fails is reported, and counted.
 fn sync_fails(disk: &mut FileDisk<Noted<'_>>) -> bool {
     disk.sync() == Err(DiskFault) && disk.failures() == 1
 }

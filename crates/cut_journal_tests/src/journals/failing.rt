@@ -118,7 +118,7 @@ fn opening_holds(
     })
 }
 
-// Asserts that of each call, of which an opening makes so many.
+// Asserts that of each call of an opening.
 fn check_openings(
     rt: &impl Abort,
     alloc: Global,

@@ -3,7 +3,7 @@
 //
 // The first block of a text has the plan, the file's bytes in hexadecimal digits and the slips that it is read
 // as, each of nine numbers, or of ten where the plan is of version 2. Each other block is a changed file: how
-// many bytes stay, the bytes that stand in place of others from some place on, those that are added behind,
+// many bytes stay, the bytes that stand in place of others from some place on, those that are added at the end,
 // and what it is read as.
 //
 // Two blank lines stand between texts.

@@ -1,4 +1,4 @@
-//! Texts that are no accepted plans for their values, each below what is told
+//! Texts that are no accepted plans for their values, each below the fault that is reported
 //! of it and above a line of dashes. They were made and judged apart from this program.
 
 pub(super) fn texts() -> &'static str {

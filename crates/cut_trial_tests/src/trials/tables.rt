@@ -1,5 +1,5 @@
 // Tables that a script apart from this crate computed, from sets and counts: receivers, conflicts,
-// silent, extra, votes, decided, right and settled of each cell. The plans of version 1 tell no places.
+// silent, extra, votes, decided, right and settled of each cell. The plans of version 1 have no places.
 
 pub(super) const STUDIES: &[(&str, &str, &[[u64; 8]])] = &[
     (

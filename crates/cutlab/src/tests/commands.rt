@@ -127,7 +127,7 @@ fn help_is_output_and_a_mistake_is_not(rt: HostRuntime) {
     assert!(rt; has(&mistake.errors, "unrecognized subcommand 'frob'"));
 }
 
-/// What the program leaves of a command whose output takes so many bytes: its status and its errors.
+/// What the program leaves of a command whose output takes this many bytes: its status and its errors.
 fn left_on_a_full_output<T: Threads + Wait + Sync>(
     host: &HostRuntime,
     rt: &T,

@@ -12,4 +12,5 @@ loop-subject-preserved c =
 pub returns : goal.returns
 returns c =
     let all : c.loop-subject.subject ≡ c.args.rings.now.nodes = omega arith in
-    c.loop-subject.invariant ∙ ap (λ n. filter (λ (e : Edge). is_alerted c.args.rings.now c.args.roles.now e) (all_edges c.args.k n)) all
+    c.loop-subject.invariant ∙ ap (λ n. filter (λ (e : Edge). is_alerted c.args.rings.now c.args.roles.now e)
+    (all_edges c.args.k n)) all

@@ -5,4 +5,9 @@ use Rattle.cut_alerts.proofs.given.is_named_once.Goals as goal
 
 pub returns : goal.returns
 returns c =
-    grind (arith, nat_tests, times_named-lists c.args.crashed.now c.args.deaf.now c.args.liars.now c.args.links.now c.args.process)
+    grind (
+      arith,
+      nat_tests,
+      times_named-lists c.args.crashed.now c.args.deaf.now c.args.liars.now c.args.links.now
+          c.args.process,
+    )

@@ -5,7 +5,8 @@ use Rattle.cut_blocks.proofs.images.images_of.Goals as goal
 
 pub returns : goal.returns
 returns c f rows is =
-    let at : (q : ℕ) → slice_index_or c.args.words q [] ≡ slice_index_or (eight f rows) q [] = λ q. ap (λ (l : List (List ℕ)). slice_index_or l q []) is in
+    let at : (q : ℕ) → slice_index_or c.args.words q []
+    ≡ slice_index_or (eight f rows) q [] = λ q. ap (λ (l : List (List ℕ)). slice_index_or l q []) is in
     eight_from (λ q row. f q row / 4) rows c.quarter_of.result c.quarter_of-2.result c.quarter_of-3.result
     c.quarter_of-4.result c.quarter_of-5.result c.quarter_of-6.result c.quarter_of-7.result c.quarter_of-8.result
     (c.quarter_of.ensures (λ x. f 0 x) rows (at 0)) (c.quarter_of-2.ensures (λ x. f 1 x) rows (at 1))

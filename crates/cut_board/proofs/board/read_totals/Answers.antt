@@ -22,12 +22,12 @@ loop-study-preserved c =
           c.word-in-loop-study.result;
     } = λ i. record { draws = draws i; count = count i } in
     record {
-      told = c.push_reserved.ensures.items ∙ ap
-          (λ told. told ++ record {
+      reported = c.push_reserved.ensures.items ∙ ap
+          (λ reported. reported ++ record {
             draws = c.word.result;
             count =
                 c.word-in-loop-study.result;
-          } ∷ []) c.loop-study.invariant.told
+          } ∷ []) c.loop-study.invariant.reported
           ∙ ap (λ x. map (words_of_study words) (range_with_len 0 study) ++ x ∷ []) (sym one) ∙ sym
           (map-range_with_len_more (words_of_study words) 0 study study (omega arith));
       many = omega (arith, c.push_reserved.ensures.len);

@@ -6,7 +6,7 @@ use Rattle.cut_board.proofs.board.read_totals.Given as goal
 
 abbrev pub invariant-loop-study : goal.invariant-loop-study
 invariant-loop-study l = record {
-  told : l.totals.items ≡ map (words_of_study (slots_items l.closed.words)) (range_with_len 0 l.study);
+  reported : l.totals.items ≡ map (words_of_study (slots_items l.closed.words)) (range_with_len 0 l.study);
   many : vec_len l.totals ≡ l.study;
   room : l.studies ≤ vec_capacity l.totals;
 }

@@ -9,7 +9,8 @@ pub loop-done-preserved : goal.loop-done-preserved
 loop-done-preserved g c =
     let own = All-pop
     (λ one. IfSome one
-    (λ (done : Worked). board_of done.seat ≡ board_id c.in_ok-board.board)) c.loop-done.all_done.items c.pop.new.self.items (Some c.in-Some.done) c.in-Some.ensures.items c.loop-done.invariant.left in
+    (λ (done : Worked). board_of done.seat ≡ board_id c.in_ok-board.board)) c.loop-done.all_done.items
+    c.pop.new.self.items (Some c.in-Some.done) c.in-Some.ensures.items c.loop-done.invariant.left in
     let mine : board_of c.in-Some-done.done.seat ≡ board_id c.in_ok-board.board =
     subst (λ one. IfSome one
     (λ (done : Worked). board_of done.seat ≡ board_id c.in_ok-board.board)) c.in-Some-done.is own.1 in
@@ -17,6 +18,7 @@ loop-done-preserved g c =
       back = subst (All (λ (s : Seat). board_of s ≡ board_id c.in_ok-board.board))
           (sym c.in_ok-push.ensures.items)
           (All-push
-          (λ (s : Seat). board_of s ≡ board_id c.in_ok-board.board) c.loop-done.back.items c.in-Some-done.done.seat c.loop-done.invariant.back mine);
+          (λ (s : Seat). board_of s ≡ board_id c.in_ok-board.board) c.loop-done.back.items c.in-Some-done.done.seat
+          c.loop-done.invariant.back mine);
       left = own.0;
     }

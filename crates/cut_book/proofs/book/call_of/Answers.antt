@@ -13,8 +13,9 @@ use Rattle.cut_book.proofs.book.call_of.Goals as goal
 
 same_plan : (a b : Values) (r : Bool) → (IsTrue r ↔ (canonical_text a ≡ canonical_text b)) → is_same_plan a b ≡ r
 unfolding is_same_plan
-same_plan a b r told =
-    same_from_decides _ r (slice_eq-Decides Decides-eqb (canonical_text a) (canonical_text b) (is_same_plan a b) refl) told
+same_plan a b r reported =
+    same_from_decides _ r (slice_eq-Decides Decides-eqb (canonical_text a) (canonical_text b) (is_same_plan a b) refl)
+    reported
 
 -- a slip by its two parts
 abbrev slip_by : Piece → Totals → Slip
@@ -23,7 +24,10 @@ slip_by p t = record { piece = p; totals = t }
 pub returns-clause-call : goal.returns-clause-call
 returns-clause-call c =
     let slip : slip_by c.piece.result c.totals.result ≡ slip_of c.args.offered.now =
-    ap (λ (p : Piece). slip_by p c.totals.result) c.piece.ensures.value ∙ ap (λ (t : Totals). slip_by c.args.offered.now.piece t) c.totals.ensures.value in
+    ap (λ (p : Piece). slip_by p c.totals.result) c.piece.ensures.value
+    ∙ ap (λ (t : Totals). slip_by c.args.offered.now.piece t) c.totals.ensures.value in
     let own : c.same.result ≡ is_same_plan c.args.plan.now c.args.offered.now.plan =
-    sym (same_plan c.args.plan.now c.plan.result.now c.same.result c.same.ensures.texts) ∙ ap (λ (v : Values). is_same_plan c.args.plan.now v) c.plan.ensures in
-    ap (λ (s : Slip). HandIn s c.same.result c.args.answer) slip ∙ ap (λ (b : Bool). HandIn (slip_of c.args.offered.now) b c.args.answer) own
+    sym (same_plan c.args.plan.now c.plan.result.now c.same.result c.same.ensures.texts)
+    ∙ ap (λ (v : Values). is_same_plan c.args.plan.now v) c.plan.ensures in
+    ap (λ (s : Slip). HandIn s c.same.result c.args.answer) slip
+    ∙ ap (λ (b : Bool). HandIn (slip_of c.args.offered.now) b c.args.answer) own

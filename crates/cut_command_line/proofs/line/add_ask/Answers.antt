@@ -12,4 +12,5 @@ returns c =
     let made : app_of c.in_ok-ask.ask ≡ ask_app =
     c.in_ok-ask.ensures.shape c.socket_word.ensures.local ∙ ap₂ with_rule helped c.socket_word.ensures.rule in
     IfOk-weaker c.subcommand.result _ _
-    (λ r h. h.shape (search rules) ∙ ap (λ (a : App). with_subcommand (app_of c.args.program) a.top) made) c.subcommand.ensures
+    (λ r h. h.shape (search rules) ∙ ap (λ (a : App). with_subcommand (app_of c.args.program) a.top) made)
+    c.subcommand.ensures

@@ -10,4 +10,5 @@ returns c =
     let made : app_of c.after_help-check.result ≡ check_app =
     ap app_of_fields c.after_help-check.ensures ∙ ap app_of_fields c.about.ensures ∙ c.new.ensures.app in
     IfOk-weaker c.subcommand.result _ _
-    (λ r h. h.shape (search rules) ∙ ap (λ (a : App). with_subcommand (app_of c.args.program) a.top) made) c.subcommand.ensures
+    (λ r h. h.shape (search rules) ∙ ap (λ (a : App). with_subcommand (app_of c.args.program) a.top) made)
+    c.subcommand.ensures

@@ -14,4 +14,5 @@ returns c =
     let made : app_of c.in_ok-migrate.migrate ≡ migrate_app =
     c.in_ok-migrate.ensures.shape c.file_word-2.ensures.local ∙ ap₂ with_rule first c.file_word-2.ensures.rule in
     IfOk-weaker c.subcommand.result _ _
-    (λ r h. h.shape (search rules) ∙ ap (λ (a : App). with_subcommand (app_of c.args.program) a.top) made) c.subcommand.ensures
+    (λ r h. h.shape (search rules) ∙ ap (λ (a : App). with_subcommand (app_of c.args.program) a.top) made)
+    c.subcommand.ensures

@@ -11,9 +11,13 @@ returns c =
     let helped : app_of c.after_help.result ≡ new_app (codes "run") = ap app_of_fields c.after_help.ensures ∙ named in
     let pieces_is : app_of c.in_ok-arg.field-0 ≡ with_rule (new_app (codes "run")) piece_rule =
     c.in_ok-arg.ensures.shape c.piece_option.ensures.local ∙ ap₂ with_rule helped c.piece_option.ensures.rule in
-    let workers_is : app_of c.in_ok-arg-2.field-0 ≡ with_rule (with_rule (new_app (codes "run")) piece_rule) workers_rule =
-    c.in_ok-arg-2.ensures.shape c.workers_option.ensures.local ∙ ap₂ with_rule pieces_is c.workers_option.ensures.rule in
+    let workers_is : app_of c.in_ok-arg-2.field-0 ≡ with_rule (with_rule (new_app (codes "run")) piece_rule)
+    workers_rule =
+    c.in_ok-arg-2.ensures.shape c.workers_option.ensures.local ∙ ap₂ with_rule pieces_is c.workers_option.ensures.rule
+    in
     let made : app_of c.in_ok-run.run' ≡ run_app =
-    c.in_ok-run.ensures.shape c.checkpoint_option.ensures.local ∙ ap₂ with_rule workers_is c.checkpoint_option.ensures.rule in
+    c.in_ok-run.ensures.shape c.checkpoint_option.ensures.local
+    ∙ ap₂ with_rule workers_is c.checkpoint_option.ensures.rule in
     IfOk-weaker c.subcommand.result _ _
-    (λ r h. h.shape (search rules) ∙ ap (λ (a : App). with_subcommand (app_of c.args.program) a.top) made) c.subcommand.ensures
+    (λ r h. h.shape (search rules) ∙ ap (λ (a : App). with_subcommand (app_of c.args.program) a.top) made)
+    c.subcommand.ensures

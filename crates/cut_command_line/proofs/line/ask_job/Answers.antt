@@ -12,8 +12,10 @@ no_socket : (rows : List Row) → first_of (codes "socket") rows ≡ None → Gi
 no_socket rows none (Ask socket) is gives = (let bad = sym none ∙ gives in cc)
 no_socket rows none (Serve socket workers sessions studies folder) is gives =
     other_word (codes "serve") (codes "ask") 115 97 is refl refl (λ bad. omega (arith, bad))
-no_socket rows none Check is gives = other_word (codes "check") (codes "ask") 99 97 is refl refl (λ bad. omega (arith, bad))
-no_socket rows none (Run piece workers file) is gives = other_word (codes "run") (codes "ask") 114 97 is refl refl (λ bad. omega (arith, bad))
+no_socket rows none Check is gives = other_word (codes "check") (codes "ask") 99 97 is refl refl
+    (λ bad. omega (arith, bad))
+no_socket rows none (Run piece workers file) is gives = other_word (codes "run") (codes "ask") 114 97 is refl refl
+    (λ bad. omega (arith, bad))
 no_socket rows none (Migrate from to) is gives =
     other_word (codes "migrate") (codes "ask") 109 97 is refl refl (λ bad. omega (arith, bad))
 

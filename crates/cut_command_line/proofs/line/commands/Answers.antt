@@ -18,12 +18,18 @@ top_of a = a.top
 pub returns : goal.returns
 unfolding program_app
 returns c =
-    let named : app_of c.in_ok-bin_name.field-0 ≡ new_app (codes "cutlab") = ap app_of_fields c.in_ok-bin_name.ensures.0 ∙ c.new.ensures.app in
+    let named : app_of c.in_ok-bin_name.field-0 ≡ new_app (codes "cutlab") = ap app_of_fields c.in_ok-bin_name.ensures.0
+    ∙ c.new.ensures.app in
     let about : app_of c.about.result ≡ new_app (codes "cutlab") = ap app_of_fields c.about.ensures ∙ named in
-    let helped : app_of c.after_help.result ≡ new_app (codes "cutlab") = ap app_of_fields c.after_help.ensures ∙ about in
-    let one : app_of c.subcommand_required.result ≡ requires_one (new_app (codes "cutlab")) = ap app_of_fields c.subcommand_required.ensures ∙ ap requires_one helped in
-    let asks : app_of c.arg_required_else_help-program.result ≡ helps (requires_one (new_app (codes "cutlab"))) = ap app_of_fields c.arg_required_else_help-program.ensures ∙ ap helps one in
-    let added : (a b : App) → a ≡ b → (sub : App) → with_subcommand a sub.top ≡ with_subcommand b sub.top = λ a b same sub. ap (λ (x : App). with_subcommand x sub.top) same in
+    let helped : app_of c.after_help.result ≡ new_app (codes "cutlab") = ap app_of_fields c.after_help.ensures ∙ about
+    in
+    let one : app_of c.subcommand_required.result ≡ requires_one (new_app (codes "cutlab")) = ap app_of_fields
+    c.subcommand_required.ensures ∙ ap requires_one helped in
+    let asks : app_of c.arg_required_else_help-program.result
+    ≡ helps (requires_one (new_app (codes "cutlab"))) = ap app_of_fields c.arg_required_else_help-program.ensures
+    ∙ ap helps one in
+    let added : (a b : App) → a ≡ b → (sub : App) → with_subcommand a sub.top
+    ≡ with_subcommand b sub.top = λ a b same sub. ap (λ (x : App). with_subcommand x sub.top) same in
     let runs = c.in_ok-add_run.ensures ∙ added _ _ asks run_app in
     let checks = c.in_ok-program.ensures ∙ added _ _ runs check_app in
     let serves = c.in_ok-add_serve.ensures ∙ added _ _ checks serve_app in

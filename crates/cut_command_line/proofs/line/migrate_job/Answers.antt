@@ -10,17 +10,25 @@ use Rattle.cut_command_line.proofs.line.migrate_job.Goals as goal
 -- matches that lack one of the two files give no migration
 no_old : (rows : List Row) → first_of (codes "old") rows ≡ None → GivesJob (codes "migrate") rows None
 no_old rows none (Migrate from to) is gives = (let bad = sym none ∙ gives.0 in cc)
-no_old rows none (Run piece workers file) is gives = other_word (codes "run") (codes "migrate") 114 109 is refl refl (λ bad. omega (arith, bad))
-no_old rows none Check is gives = other_word (codes "check") (codes "migrate") 99 109 is refl refl (λ bad. omega (arith, bad))
-no_old rows none (Serve socket workers sessions studies folder) is gives = other_word (codes "serve") (codes "migrate") 115 109 is refl refl (λ bad. omega (arith, bad))
-no_old rows none (Ask socket) is gives = other_word (codes "ask") (codes "migrate") 97 109 is refl refl (λ bad. omega (arith, bad))
+no_old rows none (Run piece workers file) is gives = other_word (codes "run") (codes "migrate") 114 109 is refl refl
+    (λ bad. omega (arith, bad))
+no_old rows none Check is gives = other_word (codes "check") (codes "migrate") 99 109 is refl refl
+    (λ bad. omega (arith, bad))
+no_old rows none (Serve socket workers sessions studies folder) is gives = other_word (codes "serve") (codes "migrate")
+    115 109 is refl refl (λ bad. omega (arith, bad))
+no_old rows none (Ask socket) is gives = other_word (codes "ask") (codes "migrate") 97 109 is refl refl
+    (λ bad. omega (arith, bad))
 
 no_new : (rows : List Row) → first_of (codes "new") rows ≡ None → GivesJob (codes "migrate") rows None
 no_new rows none (Migrate from to) is gives = (let bad = sym none ∙ gives.1 in cc)
-no_new rows none (Run piece workers file) is gives = other_word (codes "run") (codes "migrate") 114 109 is refl refl (λ bad. omega (arith, bad))
-no_new rows none Check is gives = other_word (codes "check") (codes "migrate") 99 109 is refl refl (λ bad. omega (arith, bad))
-no_new rows none (Serve socket workers sessions studies folder) is gives = other_word (codes "serve") (codes "migrate") 115 109 is refl refl (λ bad. omega (arith, bad))
-no_new rows none (Ask socket) is gives = other_word (codes "ask") (codes "migrate") 97 109 is refl refl (λ bad. omega (arith, bad))
+no_new rows none (Run piece workers file) is gives = other_word (codes "run") (codes "migrate") 114 109 is refl refl
+    (λ bad. omega (arith, bad))
+no_new rows none Check is gives = other_word (codes "check") (codes "migrate") 99 109 is refl refl
+    (λ bad. omega (arith, bad))
+no_new rows none (Serve socket workers sessions studies folder) is gives = other_word (codes "serve") (codes "migrate")
+    115 109 is refl refl (λ bad. omega (arith, bad))
+no_new rows none (Ask socket) is gives = other_word (codes "ask") (codes "migrate") 97 109 is refl refl
+    (λ bad. omega (arith, bad))
 
 pub returns-in_err-old-clause-gives : goal.returns-in_err-old-clause-gives
 returns-in_err-old-clause-gives c =

@@ -13,7 +13,8 @@ returns-in_err-number-clause-none c =
     let option : Text = c.args.option.now in
     let reads : (t : Text) → one_of option rows ≡ Some t → ReadsOne ReadsNumber t None = λ t at.
     c.in_err-number.ensures.value t (one_text-rows (found_of c.args.given.now) option ∙ at) in
-    subst (λ (o : Option ℕ). IfNone o ((n : ℕ) → GivesNumber option c.args.most rows n → ⊥)) (sym c.from_residual.ensures)
+    subst (λ (o : Option ℕ). IfNone o ((n : ℕ) → GivesNumber option c.args.most rows n → ⊥))
+    (sym c.from_residual.ensures)
     (none_given option c.args.most rows (omega (arith)) reads)
 
 pub returns-then-number-lt1-clause-none : goal.returns-then-number-lt1-clause-none
@@ -37,4 +38,5 @@ returns-clause-some c =
     c.in_ok-number.ensures.value t (one_text-rows (found_of c.args.given.now) option ∙ at) in
     let none : one_of option rows ≡ None → ⊥ = λ lacks.
     (let bad = c.in_ok-number.ensures.none (one_text-rows (found_of c.args.given.now) option ∙ lacks) in cc) in
-    is_given option c.args.most rows c.in_ok-number.number none reads (omega (arith, c.if-number-lt1.false)) (omega (arith, c.if-number-most.false))
+    is_given option c.args.most rows c.in_ok-number.number none reads (omega (arith, c.if-number-lt1.false))
+    (omega (arith, c.if-number-most.false))

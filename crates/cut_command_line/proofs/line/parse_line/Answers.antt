@@ -1,5 +1,6 @@
 use Rattle.std.proofs.Common.{[], ◌≡◌, List, Option, map, true, inl, inr, refl, subst, sym, ap, ◌∙◌}
-use Rattle.clap.specs.Words.{App, HasKind, IsAmong, Row, Text, app_of, fault_of, is_simple, is_simple_and_free, kind_of, subcommand_of, subcommand_rows_of}
+use Rattle.clap.specs.Words.{App, HasKind, IsAmong, Row, Text, app_of, fault_of, is_simple, is_simple_and_free, kind_of}
+use Rattle.clap.specs.Words.{subcommand_of, subcommand_rows_of}
 use Rattle.clap.proofs.OnLiterals.{clap_on_literals}
 use Rattle.clap.specs.declared.error.kind.ErrorKind.{ErrorKind}
 use Rattle.clap.specs.declared.error.kind.ErrorKind.TheVariants.{MissingSubcommand, OutOfMemory}
@@ -21,7 +22,8 @@ pub returns-in-Err-clause-err : goal.returns-in-Err-clause-err
 returns-in-Err-clause-err g c =
     let words : List Text = map g.S.AsStr.text c.args.words.now in
     let app : app_of c.in-Ok.command ≡ program_app = c.in-Ok.ensures in
-    let kinds : HasKind (fault_of (app_of c.in-Ok.command) words) c.in-Err.error = c.in-Err.ensures.kinds (ap is_simple_and_free app ∙ is_free) in
+    let kinds : HasKind (fault_of (app_of c.in-Ok.command) words) c.in-Err.error = c.in-Err.ensures.kinds
+    (ap is_simple_and_free app ∙ is_free) in
     let kind : ErrorKind = kind_of c.in-Err.error in
     let asked : IsAsked words kind = elim kinds [
       | inl none ↦ inr (inl none)
@@ -33,25 +35,38 @@ faultless : (c : App) (words : List Text) → c ≡ program_app → fault_of c w
 faultless a words is none = ap (λ (x : App). fault_of x words) (sym is) ∙ none
 
 -- the subcommand that a parse entered is the one that the words name
-named : (a : App) (words : List Text) (sub : Option (Text × List Row)) → a ≡ program_app → (is_simple a ≡ true → sub ≡ subcommand_of a words) → sub ≡ subcommand_of program_app words
+named : (a : App) (words : List Text) (sub : Option (Text × List Row)) → a ≡ program_app
+    → (is_simple a ≡ true → sub ≡ subcommand_of a words) → sub ≡ subcommand_of program_app words
 named a words sub is matches = matches (ap is_simple is ∙ is_plain) ∙ ap (λ (x : App). subcommand_of x words) is
 
 pub returns-in-Some-clause-faultless : goal.returns-in-Some-clause-faultless
 returns-in-Some-clause-faultless g c =
     let app : app_of c.in-Ok.command ≡ program_app = c.in-Ok.ensures in
-    faultless (app_of c.in-Ok.command) (map g.S.AsStr.text c.args.words.now) app (c.in-Ok-try_get_matches_from.ensures.kinds (ap is_simple_and_free app ∙ is_free))
+    faultless (app_of c.in-Ok.command) (map g.S.AsStr.text c.args.words.now) app
+    (c.in-Ok-try_get_matches_from.ensures.kinds (ap is_simple_and_free app ∙ is_free))
 
 pub returns-in-Some-clause-ok : goal.returns-in-Some-clause-ok
 returns-in-Some-clause-ok g c =
     let words : List Text = map g.S.AsStr.text c.args.words.now in
     let app : app_of c.in-Ok.command ≡ program_app = c.in-Ok.ensures in
-    let same = named (app_of c.in-Ok.command) words (subcommand_rows_of c.in-Ok-try_get_matches_from.matches) app (λ simple. (c.in-Ok-try_get_matches_from.ensures.matches simple).1) in
+    let same = named (app_of c.in-Ok.command) words (subcommand_rows_of c.in-Ok-try_get_matches_from.matches) app
+    (λ simple. (c.in-Ok-try_get_matches_from.ensures.matches simple).1) in
     subst (λ (sub : Option (Text × List Row)). IsJobOf sub c.in-Some.job) same c.in-Some.ensures.some
 
 pub returns-clause-err : goal.returns-clause-err
 returns-clause-err g c =
     let words : List Text = map g.S.AsStr.text c.args.words.now in
     let app : app_of c.in-Ok.command ≡ program_app = c.in-Ok.ensures in
-    let same = named (app_of c.in-Ok.command) words (subcommand_rows_of c.in-Ok-try_get_matches_from.matches) app (λ simple. (c.in-Ok-try_get_matches_from.ensures.matches simple).1) in
-    let none : NamesNone words = λ job is. c.in-None.ensures.none job (subst (λ (sub : Option (Text × List Row)). IsJobOf sub job) (sym same) is) in
-    (MissingSubcommand, inr (inr (none, faultless (app_of c.in-Ok.command) words app (c.in-Ok-try_get_matches_from.ensures.kinds (ap is_simple_and_free app ∙ is_free)), refl)), c.line_fault-in-None.ensures)
+    let same = named (app_of c.in-Ok.command) words (subcommand_rows_of c.in-Ok-try_get_matches_from.matches) app
+    (λ simple. (c.in-Ok-try_get_matches_from.ensures.matches simple).1) in
+    let none : NamesNone words = λ job is. c.in-None.ensures.none job
+    (subst (λ (sub : Option (Text × List Row)). IsJobOf sub job) (sym same) is) in (
+      MissingSubcommand,
+      inr (inr (
+        none,
+        faultless (app_of c.in-Ok.command) words app
+            (c.in-Ok-try_get_matches_from.ensures.kinds (ap is_simple_and_free app ∙ is_free)),
+        refl,
+      )),
+      c.line_fault-in-None.ensures,
+    )

@@ -2,9 +2,9 @@ use Rattle.std.proofs.Common.{◌∙◌, List, ℕ, Result, Ok, Err, refl, sym, 
 use Rattle.std.specs.Bool.{⊤}
 use Rattle.std.proofs.lemmas.Result.{err_from_is_err_and}
 use Rattle.cut_plan.specs.Values.{Values}
-use Rattle.cut_wires.specs.Log.{Log}
+use Rattle.cut_wires.specs.Log.{WireLog}
 use Rattle.cut_commands.specs.Migrate.{migrate_task}
-use Rattle.cut_commands.specs.Run.{Ends, GivesPlan}
+use Rattle.cut_commands.specs.Run.{EndsCommand, GivesPlan}
 use Rattle.cut_commands.specs.Task.{Task}
 use Rattle.cut_commands.specs.declared.fault.CliFault.{CliFault}
 use Rattle.cut_commands.specs.declared.fault.CliFault.TheVariants.{Memory}
@@ -14,45 +14,53 @@ use Rattle.cut_commands.proofs.migrate.migrate_io.Goals as goal
 
 pub returns-in_err-plan : goal.returns-in_err-plan
 returns-in_err-plan g c =
-    let task : Task = migrate_task g.O.Disk.is_honest g.O.Disk.state g.N.Disk.is_honest g.N.Disk.state c.args.old c.args.new in
-    let old : Log = g.W.Wire.log c.args.wire.now in
-    let new : Log = g.W.Wire.log c.read_plan.new.wire in
+    let task : Task = migrate_task g.O.Disk.is_honest g.O.Disk.state g.N.Disk.is_honest g.N.Disk.state c.args.old
+    c.args.new in
+    let old : WireLog = g.W.Wire.log c.args.wire.now in
+    let new : WireLog = g.W.Wire.log c.read_plan.new.wire in
     let p = err_from_is_err_and c.from_residual.result c.from_residual.ensures.1 in
-    subst (λ (x : Result ⊤ CliFault). Ends task old new x) (sym p.1)
+    subst (λ (x : Result ⊤ CliFault). EndsCommand task old new x) (sym p.1)
     (rw p.2 (ends_unread task c.in_err-plan.field-0.0 old new c.in_err-plan.ensures))
 
 pub returns-in_err-count : goal.returns-in_err-count
 returns-in_err-count g c =
-    let task : Task = migrate_task g.O.Disk.is_honest g.O.Disk.state g.N.Disk.is_honest g.N.Disk.state c.args.old c.args.new in
+    let task : Task = migrate_task g.O.Disk.is_honest g.O.Disk.state g.N.Disk.is_honest g.N.Disk.state c.args.old
+    c.args.new in
     let v : Values = c.in_ok-plan.plan in
     let fault : CliFault = c.in_err-count.field-0.0 in
-    let old : Log = g.W.Wire.log c.args.wire.now in
-    let mid : Log = g.W.Wire.log c.read_plan.new.wire in
-    let given : GivesPlan (Ok v) old mid = subst (λ (x : Result Values CliFault). GivesPlan x old mid) c.in_ok-plan.was c.read_plan.ensures in
+    let old : WireLog = g.W.Wire.log c.args.wire.now in
+    let mid : WireLog = g.W.Wire.log c.read_plan.new.wire in
+    let given : GivesPlan (Ok v) old mid = subst (λ (x : Result Values CliFault). GivesPlan x old mid) c.in_ok-plan.was
+    c.read_plan.ensures in
     let p = err_from_is_err_and c.from_residual-in_err-count.result c.from_residual-in_err-count.ensures.1 in
-    subst (λ (x : Result ⊤ CliFault). Ends task old mid x) (sym p.1)
+    subst (λ (x : Result ⊤ CliFault). EndsCommand task old mid x) (sym p.1)
     (rw p.2 (ends_left task v (Err fault) old mid mid given
     (leaves_none g.O.Disk.is_honest g.O.Disk.state g.N.Disk.is_honest g.N.Disk.state c.args.old c.args.new v fault mid
     c.in_err-count.ensures)))
 
 pub returns-in_err-text : goal.returns-in_err-text
 returns-in_err-text g c =
-    let task : Task = migrate_task g.O.Disk.is_honest g.O.Disk.state g.N.Disk.is_honest g.N.Disk.state c.args.old c.args.new in
+    let task : Task = migrate_task g.O.Disk.is_honest g.O.Disk.state g.N.Disk.is_honest g.N.Disk.state c.args.old
+    c.args.new in
     let v : Values = c.in_ok-plan.plan in
-    let old : Log = g.W.Wire.log c.args.wire.now in
-    let mid : Log = g.W.Wire.log c.read_plan.new.wire in
-    let given : GivesPlan (Ok v) old mid = subst (λ (x : Result Values CliFault). GivesPlan x old mid) c.in_ok-plan.was c.read_plan.ensures in
+    let old : WireLog = g.W.Wire.log c.args.wire.now in
+    let mid : WireLog = g.W.Wire.log c.read_plan.new.wire in
+    let given : GivesPlan (Ok v) old mid = subst (λ (x : Result Values CliFault). GivesPlan x old mid) c.in_ok-plan.was
+    c.read_plan.ensures in
     let p = err_from_is_err_and c.from_residual-in_err-text.result c.from_residual-in_err-text.ensures.1 in
-    subst (λ (x : Result ⊤ CliFault). Ends task old mid x) (sym p.1)
+    subst (λ (x : Result ⊤ CliFault). EndsCommand task old mid x) (sym p.1)
     (rw p.2 (ends_left task v (Err Memory) old mid mid given (leaves_nothing task v Memory mid refl refl)))
 
 pub returns : goal.returns
 returns g c =
-    let task : Task = migrate_task g.O.Disk.is_honest g.O.Disk.state g.N.Disk.is_honest g.N.Disk.state c.args.old c.args.new in
+    let task : Task = migrate_task g.O.Disk.is_honest g.O.Disk.state g.N.Disk.is_honest g.N.Disk.state c.args.old
+    c.args.new in
     let v : Values = c.in_ok-plan.plan in
-    let old : Log = g.W.Wire.log c.args.wire.now in
-    let mid : Log = g.W.Wire.log c.read_plan.new.wire in
-    let given : GivesPlan (Ok v) old mid = subst (λ (x : Result Values CliFault). GivesPlan x old mid) c.in_ok-plan.was c.read_plan.ensures in
+    let old : WireLog = g.W.Wire.log c.args.wire.now in
+    let mid : WireLog = g.W.Wire.log c.read_plan.new.wire in
+    let given : GivesPlan (Ok v) old mid = subst (λ (x : Result Values CliFault). GivesPlan x old mid) c.in_ok-plan.was
+    c.read_plan.ensures in
     ends_left task v c.write_answer.result old mid (g.W.Wire.log c.write_answer.new.wire) given
     (leaves_answer task v c.as_bytes.result.now c.write_answer.result mid (g.W.Wire.log c.write_answer.new.wire)
-    (c.in_ok-count.count, c.in_ok-count.ensures, c.as_bytes.ensures.value ∙ c.in_ok-text.ensures) c.write_answer.ensures)
+    (c.in_ok-count.count, c.in_ok-count.ensures, c.as_bytes.ensures.value ∙ c.in_ok-text.ensures)
+    c.write_answer.ensures)

@@ -15,13 +15,15 @@ returns-in_err-count g c =
     let v : Values = c.args.plan.now in
     let upgrade : Values = c.in_ok-upgrade.upgrade in
     let p = err_from_is_err_and c.from_residual-in_err-count.result c.from_residual-in_err-count.ensures.1 in
-    subst (λ (x : Result ℕ CliFault). EndsMove g.O.Disk.is_honest g.O.Disk.state g.N.Disk.is_honest g.N.Disk.state c.args.old c.args.new v x)
+    subst (λ (x : Result ℕ CliFault). EndsMove g.O.Disk.is_honest g.O.Disk.state g.N.Disk.is_honest g.N.Disk.state
+    c.args.old c.args.new v x)
     (sym (p.1 ∙ ap (λ (x : CliFault). Err x) p.2))
     (not_moved g.O.Disk.is_honest g.O.Disk.state g.N.Disk.is_honest g.N.Disk.state c.args.old c.args.new v
     c.in_ok-slips.slips.items c.in_err-count.field-0.0 c.in_ok-journal.journal c.migrate.new.journal
     c.in_ok-slips.ensures.read
-    (λ honest. subst (λ (w : Values). reading w (g.N.Disk.state c.args.new).bytes ≡ Err NoStudy) c.in_ok-upgrade.ensures.value
+    (λ honest. subst (λ (w : Values). reading w (g.N.Disk.state c.args.new).bytes ≡ Err NoStudy)
+    c.in_ok-upgrade.ensures.value
     (c.in_ok-journal.ensures.free honest))
     (c.in_ok-journal.ensures.plan ∙ c.in_ok-upgrade.ensures.value) c.in_ok-journal.ensures.whole
-    (subst (λ xs. moves.Ends (Err c.in_err-count.field-0.0) v xs c.in_ok-journal.journal c.migrate.new.journal)
+    (subst (λ xs. moves.EndsMigration (Err c.in_err-count.field-0.0) v xs c.in_ok-journal.journal c.migrate.new.journal)
     c.as_slice.ensures.value c.in_err-count.ensures.ends))

@@ -3,11 +3,11 @@ use Rattle.std.specs.Bool.{⊤}
 use Rattle.std.proofs.lemmas.Result.{err_from_is_err_and}
 use Rattle.cut_plan.specs.Values.{Values}
 use Rattle.cut_ledger.specs.declared.slip.Slip.{Slip}
-use Rattle.cut_wires.specs.Log.{Log}
+use Rattle.cut_wires.specs.Log.{WireLog}
 use Rattle.cut_study.specs.Running.{slips_of, HasEnded}
-use Rattle.cut_study.specs.declared.study.Done.{Done}
+use Rattle.cut_study.specs.declared.study_run.Done.{Done}
 use Rattle.cut_commands.specs.declared.fault.CliFault.{CliFault}
-use Rattle.cut_commands.specs.Run.{Ends, GivesPlan}
+use Rattle.cut_commands.specs.Run.{EndsCommand, GivesPlan}
 use Rattle.cut_commands.specs.Study.{study_task}
 use Rattle.cut_commands.specs.Task.{Task}
 use Rattle.cut_commands.proofs.RunLemmas.{ends_left, ends_unread}
@@ -17,10 +17,10 @@ use Rattle.cut_commands.proofs.run.run.Goals as goal
 pub returns-in_err-plan : goal.returns-in_err-plan
 returns-in_err-plan g c =
     let task : Task = study_task g.D.Disk.is_honest g.D.Disk.state c.args.disk in
-    let old : Log = g.W.Wire.log c.args.wire.now in
-    let new : Log = g.W.Wire.log c.read_plan.new.wire in
+    let old : WireLog = g.W.Wire.log c.args.wire.now in
+    let new : WireLog = g.W.Wire.log c.read_plan.new.wire in
     let p = err_from_is_err_and c.from_residual.result c.from_residual.ensures.1 in
-    subst (λ (x : Result ⊤ CliFault). Ends task old new x) (sym p.1)
+    subst (λ (x : Result ⊤ CliFault). EndsCommand task old new x) (sym p.1)
     (rw p.2 (ends_unread task c.in_err-plan.field-0.0 old new c.in_err-plan.ensures))
 
 pub returns-in_err-kept : goal.returns-in_err-kept
@@ -29,11 +29,12 @@ returns-in_err-kept g c =
     let state = g.D.Disk.state in
     let task : Task = study_task honest state c.args.disk in
     let v : Values = c.in_ok-plan.plan in
-    let old : Log = g.W.Wire.log c.args.wire.now in
-    let mid : Log = g.W.Wire.log c.read_plan.new.wire in
-    let given : GivesPlan (Ok v) old mid = subst (λ (x : Result Values CliFault). GivesPlan x old mid) c.in_ok-plan.was c.read_plan.ensures in
+    let old : WireLog = g.W.Wire.log c.args.wire.now in
+    let mid : WireLog = g.W.Wire.log c.read_plan.new.wire in
+    let given : GivesPlan (Ok v) old mid = subst (λ (x : Result Values CliFault). GivesPlan x old mid) c.in_ok-plan.was
+    c.read_plan.ensures in
     let p = err_from_is_err_and c.from_residual-in_err-kept.result c.from_residual-in_err-kept.ensures.1 in
-    subst (λ (x : Result ⊤ CliFault). Ends task old mid x) (sym p.1)
+    subst (λ (x : Result ⊤ CliFault). EndsCommand task old mid x) (sym p.1)
     (rw p.2 (ends_left task v (Err c.in_err-kept.field-0.0) old mid mid given
     (leaves_none honest state c.args.disk v c.in_err-kept.field-0.0 mid c.in_err-kept.ensures.err)))
 
@@ -45,13 +46,15 @@ returns-in-Ok g c =
     let v : Values = c.in_ok-plan.plan in
     let done : Done = c.in-Ok._done in
     let slips : List Slip = slips_of c.in_ok-kept.kept in
-    let old : Log = g.W.Wire.log c.args.wire.now in
-    let mid : Log = g.W.Wire.log c.read_plan.new.wire in
-    let new : Log = g.W.Wire.log c.run.new.wire in
-    let given : GivesPlan (Ok v) old mid = subst (λ (x : Result Values CliFault). GivesPlan x old mid) c.in_ok-plan.was c.read_plan.ensures in
+    let old : WireLog = g.W.Wire.log c.args.wire.now in
+    let mid : WireLog = g.W.Wire.log c.read_plan.new.wire in
+    let new : WireLog = g.W.Wire.log c.run.new.wire in
+    let given : GivesPlan (Ok v) old mid = subst (λ (x : Result Values CliFault). GivesPlan x old mid) c.in_ok-plan.was
+    c.read_plan.ensures in
     ends_left task v (Ok tt) old mid new given
     (leaves_all honest state c.args.disk v slips done mid new c.in_ok-kept.ensures.begins
-    (subst (λ (b : Bool). HasEnded v slips b (Ok done)) c.in_ok-kept.ensures.some c.in-Ok.ensures.ended) c.in-Ok.ensures.takes)
+    (subst (λ (b : Bool). HasEnded v slips b (Ok done)) c.in_ok-kept.ensures.some c.in-Ok.ensures.ended)
+    c.in-Ok.ensures.takes)
 
 pub returns : goal.returns
 returns g c =
@@ -60,11 +63,13 @@ returns g c =
     let task : Task = study_task honest state c.args.disk in
     let v : Values = c.in_ok-plan.plan in
     let slips : List Slip = slips_of c.in_ok-kept.kept in
-    let old : Log = g.W.Wire.log c.args.wire.now in
-    let mid : Log = g.W.Wire.log c.read_plan.new.wire in
-    let new : Log = g.W.Wire.log c.run.new.wire in
-    let given : GivesPlan (Ok v) old mid = subst (λ (x : Result Values CliFault). GivesPlan x old mid) c.in_ok-plan.was c.read_plan.ensures in
-    subst (λ (e : CliFault). Ends task old new (Err e)) (sym c.from.ensures)
+    let old : WireLog = g.W.Wire.log c.args.wire.now in
+    let mid : WireLog = g.W.Wire.log c.read_plan.new.wire in
+    let new : WireLog = g.W.Wire.log c.run.new.wire in
+    let given : GivesPlan (Ok v) old mid = subst (λ (x : Result Values CliFault). GivesPlan x old mid) c.in_ok-plan.was
+    c.read_plan.ensures in
+    subst (λ (e : CliFault). EndsCommand task old new (Err e)) (sym c.from.ensures)
     (ends_left task v (Err _) old mid new given
     (leaves_some honest state c.args.disk v slips c.in-Err.fault mid new c.in_ok-kept.ensures.begins
-    (subst (λ (b : Bool). HasEnded v slips b (Err c.in-Err.fault)) c.in_ok-kept.ensures.some c.in-Err.ensures.ended) c.in-Err.ensures.takes))
+    (subst (λ (b : Bool). HasEnded v slips b (Err c.in-Err.fault)) c.in_ok-kept.ensures.some c.in-Err.ensures.ended)
+    c.in-Err.ensures.takes))

@@ -7,6 +7,9 @@ pub returns-clause-table : goal.returns-clause-table
 returns-clause-table g c = λ store.
     let honest = g.D.Disk.is_honest in
     let state = g.D.Disk.state in
-    ends_as (study_task honest state c.args.disk) (table_task honest state c.args.disk) (g.W.Wire.log c.args.wire.now) (g.W.Wire.log c.run.new.wire) c.run.result
-    (over_true_store honest state c.args.disk c.accepted_texts_give_plans.ensures c.true_slips_tell_the_table.ensures.good c.true_slips_tell_the_table.ensures.table c.true_slips_tell_the_table.ensures.none store)
+    ends_as (study_task honest state c.args.disk) (table_task honest state c.args.disk) (g.W.Wire.log c.args.wire.now)
+    (g.W.Wire.log c.run.new.wire) c.run.result
+    (over_true_store honest state c.args.disk c.accepted_texts_give_plans.ensures
+    c.true_slips_give_the_table.ensures.good c.true_slips_give_the_table.ensures.table
+    c.true_slips_give_the_table.ensures.none store)
     c.run.ensures

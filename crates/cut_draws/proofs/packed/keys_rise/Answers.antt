@@ -6,4 +6,5 @@ use Rattle.cut_draws.proofs.packed.keys_rise.Goals as goal
 pub returns : goal.returns
 returns c =
     rising c.args.packed.now c.is_sorted_by.result
-    (c.is_sorted_by.ensures.cases (λ x y. nat_lt (x / 262144) (y / 262144)) (answers_always _ _ _ (λ f a r g called. search rules)))
+    (c.is_sorted_by.ensures.cases (λ x y. nat_lt (x / 262144) (y / 262144))
+    (answers_always _ _ _ (λ f a r g called. search rules)))

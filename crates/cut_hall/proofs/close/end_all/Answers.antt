@@ -1,13 +1,13 @@
 use Rattle.std.proofs.Common.{◌≡◌, ◌+◌, ◌++◌, ◌∙◌, List, [], ◌∷◌, length, ap, arith, length-append}
 use Rattle.std.proofs.lemmas.List.Sums.{sum_by_push}
-use Rattle.cut_hall.specs.Report.{SlotEnd, calls_told, calls_in_all}
+use Rattle.cut_hall.specs.Report.{SlotEnd, calls_recorded, calls_in_all}
 use Rattle.cut_hall.proofs.close.end_all.Goals as goal
 
 one_more : (slots now : List SlotEnd) (slot : SlotEnd) → now ≡ slots ++ slot ∷ []
-    → (length now ≡ length slots + 1) × (calls_in_all now ≡ calls_in_all slots + calls_told slot.history)
+    → (length now ≡ length slots + 1) × (calls_in_all now ≡ calls_in_all slots + calls_recorded slot.history)
 one_more slots now slot is = (
   ap length is ∙ length-append slots (slot ∷ []),
-  ap calls_in_all is ∙ sum_by_push (λ (s : SlotEnd). calls_told s.history) slots slot,
+  ap calls_in_all is ∙ sum_by_push (λ (s : SlotEnd). calls_recorded s.history) slots slot,
 )
 
 none_yet : (slots : List SlotEnd) → slots ≡ [] → (length slots ≡ 0) × (calls_in_all slots ≡ 0)
@@ -16,7 +16,8 @@ none_yet slots is = (ap length is, ap calls_in_all is)
 pub loop-place-init : goal.loop-place-init
 loop-place-init g c =
     let none = none_yet c.in_ok-slots.slots.items c.in_ok-slots.ensures.items in
-    let more = one_more c.in_ok-slots.slots.items c.push.new.self.items c.end-slot.result.0 c.in_ok-push.ensures.items in
+    let more = one_more c.in_ok-slots.slots.items c.push.new.self.items c.end-slot.result.0 c.in_ok-push.ensures.items
+    in
     record {
       many = omega (arith, none.0, more.0, c.into_iter-place-iterator.ensures.into_iter_gives.1, c.remove.ensures.len);
       parts = omega (arith, none.0, more.0, c.end-slot.ensures.part);

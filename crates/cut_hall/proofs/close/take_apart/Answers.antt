@@ -32,7 +32,8 @@ loop-pass-preserved g c =
         pass ∷ taken.0,
         taken.1 ∙ ap (λ (l : List Holding). l ++ taken.0) c.in-Some-pop.ensures.items
             ∙ append_assoc left (pass ∷ []) taken.0,
-        subst (λ (seats : List Seat). IsTakenApart (pass ∷ taken.0) seats c.merge.new.self.parts c.merge.new.self.amount)
+        subst (λ (seats : List Seat). IsTakenApart (pass ∷ taken.0) seats c.merge.new.self.parts
+            c.merge.new.self.amount)
             (sym c.in_ok-push-2.ensures.items) more,
       );
     }

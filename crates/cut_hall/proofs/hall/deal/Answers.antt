@@ -1,4 +1,5 @@
-use Rattle.std.proofs.Common.{◌≡◌, ◌+◌, ◌++◌, List, [], ◌∷◌, All, Some, length, sym, ap, subst, arith, length-append, ◌∙◌}
+use Rattle.std.proofs.Common.{◌≡◌, ◌+◌, ◌++◌, List, [], ◌∷◌, All, Some, length, sym, ap, subst, arith, length-append}
+use Rattle.std.proofs.Common.{◌∙◌}
 use Rattle.std.proofs.lemmas.List.Elements.{All-pop, All-push}
 use Rattle.cut_board.specs.declared.seat.Seat.{Seat}
 use Rattle.cut_board.specs.Names.{board_id, board_of, view_of}
@@ -9,7 +10,8 @@ use Rattle.cut_hall.proofs.hall.deal.Goals as goal
 one_longer : {A : Type 0} (xs now : List A) (x : A) → now ≡ xs ++ x ∷ [] → length now ≡ length xs + 1
 one_longer xs now x is = ap length is ∙ length-append xs (x ∷ [])
 
-still_all : (P : Holding → Type 0) (passes now : List Holding) (pass : Holding) → now ≡ passes ++ pass ∷ [] → All P passes → P pass → All P now
+still_all : (P : Holding → Type 0) (passes now : List Holding) (pass : Holding) → now ≡ passes ++ pass ∷ []
+    → All P passes → P pass → All P now
 still_all P passes now pass is all this = subst (All P) (sym is) (All-push P passes pass all this)
 
 pub loop-seat-preserved : goal.loop-seat-preserved

@@ -13,7 +13,8 @@ invariant-loop-slips g l = record {
   honest : g.D.Disk.is_honest l.fn.disk ↔ g.D.Disk.is_honest l.disk;
   same : g.D.Disk.is_honest l.fn.disk → g.D.Disk.state l.disk ≡ g.D.Disk.state l.fn.disk;
   whole : g.D.Disk.is_honest l.fn.disk → AreWhole l.study (g.D.Disk.state l.fn.disk).bytes l.gate.number;
-  slips : g.D.Disk.is_honest l.fn.disk → l.slips.items ≡ first_slips l.study (g.D.Disk.state l.fn.disk).bytes l.gate.number;
+  slips : g.D.Disk.is_honest l.fn.disk → l.slips.items
+      ≡ first_slips l.study (g.D.Disk.state l.fn.disk).bytes l.gate.number;
   faults : g.D.Disk.faults l.disk ≡ g.D.Disk.faults l.fn.disk;
 }
 

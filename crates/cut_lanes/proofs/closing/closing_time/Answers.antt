@@ -19,7 +19,8 @@ loop-later-smaller c =
     sum_below c.loop-later.time c.loop-later.auto.time.0 c.loop-later.auto.time.1 in
     let more : sum c.loop-later.time < sum c.later_time-later.result =
     c.has_risen.ensures.some c.if-not-has_risen.false (λ i low. (c.later_time-later.ensures i 0 low).later) in
-    let smaller : 2 ^ 34 - sum c.later_time-later.result < 2 ^ 34 - sum c.loop-later.time = omega (arith, below, more) in
+    let smaller : 2 ^ 34 - sum c.later_time-later.result < 2 ^ 34 - sum c.loop-later.time = omega (arith, below, more)
+    in
     smaller
 
 pub returns-then-not-has_risen : goal.returns-then-not-has_risen

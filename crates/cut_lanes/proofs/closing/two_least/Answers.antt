@@ -1,4 +1,5 @@
-use Rattle.std.proofs.Common.{◌∙◌, ℕ, ◌+◌, ◌<◌, ◌≤◌, List, [], length, take, slice_index, slice_index_or, subst, sym, refl, arith}
+use Rattle.std.proofs.Common.{◌∙◌, ℕ, ◌+◌, ◌<◌, ◌≤◌, List, [], length, take, slice_index, slice_index_or, subst, sym}
+use Rattle.std.proofs.Common.{refl, arith}
 use Rattle.cut_blocks.specs.Images.{never}
 use Rattle.cut_ranks.specs.Ranks.{IsRank, AreRanks}
 use Rattle.cut_lanes.specs.Lanes.{lane}
@@ -20,7 +21,8 @@ loop-low-preserved c =
           let within : slice_index (slice_index_or lows place []) i ≤ never + 1 =
           omega (arith, bound_lane i place never lows one (c.requires.times i low)) in
           subst (λ ys. AreRanks (never + 1) ys (lane i c.insert.new.sorted)) (sym (taken_lane i place lows one))
-          (c.insert.ensures.ranks i (never + 1) (take place (lane i lows)) low within (c.loop-low.invariant.ranks i low));
+          (c.insert.ensures.ranks i (never + 1) (take place (lane i lows)) low within
+          (c.loop-low.invariant.ranks i low));
     }
 
 pub returns-clause-first : goal.returns-clause-first

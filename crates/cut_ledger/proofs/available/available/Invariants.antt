@@ -5,4 +5,5 @@ use Rattle.cut_ledger.proofs.available.available.Given as goal
 
 -- the header and the lines so far
 abbrev pub invariant-loop-cell : goal.invariant-loop-cell
-invariant-loop-cell l = l.text.items ≡ header (version_of l.ledger.contents.plan.failing) ++ flat_map (λ i. line_with l.ledger.contents.plan i (cell_sum l.ledger.contents i)) (range_with_len 0 l.cell)
+invariant-loop-cell l = l.text.items ≡ header (version_of l.ledger.contents.plan.failing)
+    ++ flat_map (λ i. line_with l.ledger.contents.plan i (cell_sum l.ledger.contents i)) (range_with_len 0 l.cell)

@@ -12,10 +12,12 @@ pub returns-clause-line : goal.returns-clause-line
 returns-clause-line c =
     let v = c.args.plan.now in
     let x : Totals = c.args.totals in
-    let cell_is : c.cell-cell.result ≡ cell_numbered v c.args.number = sym (get_or_from_slice_get (cells_of v) c.args.number c.cell-cell.result no_cell c.cell-cell.ensures.value) in
+    let cell_is : c.cell-cell.result ≡ cell_numbered v c.args.number = sym
+    (get_or_from_slice_get (cells_of v) c.args.number c.cell-cell.result no_cell c.cell-cell.ensures.value) in
     let settled : List ℕ = settled_column (version_of v.failing) x in
     let first : List ℕ =
-    c.from.result ∷ c.from-2.result ∷ c.from-3.result ∷ c.from-4.result ∷ c.from-5.result ∷ x.receivers ∷ x.conflicts ∷ x.silent
+    c.from.result ∷ c.from-2.result ∷ c.from-3.result ∷ c.from-4.result ∷ c.from-5.result ∷ x.receivers ∷ x.conflicts
+    ∷ x.silent
     ∷ x.extra ∷ x.votes ∷ x.decided ∷ x.right ∷ [] in
     let written : c.as_slice-2.result.now ≡ (first ++ settled) ++ c.ppm_of.result ∷ [] =
     c.as_slice-2.ensures.value ∙ c.in_ok-push.ensures.items

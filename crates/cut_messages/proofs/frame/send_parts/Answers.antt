@@ -6,7 +6,8 @@ pub returns-in-Ok : goal.returns-in-Ok
 returns-in-Ok g c =
     let log = g.W.Wire.log in
     sends_after c.send-in-Ok.result (sending log c.args.line.now) (sending log c.send.new.self)
-    (sending log c.send-in-Ok.new.self) _ c.args.payload.now (rw (c.as_slice.ensures, c.head_of-head.ensures) at c.in-Ok.ensures)
+    (sending log c.send-in-Ok.new.self) _ c.args.payload.now
+    (rw (c.as_slice.ensures, c.head_of-head.ensures) at c.in-Ok.ensures)
     c.send-in-Ok.ensures
 
 pub returns-in-Err : goal.returns-in-Err

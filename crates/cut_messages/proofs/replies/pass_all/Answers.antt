@@ -1,5 +1,5 @@
 use Rattle.std.proofs.Common.{Ok, Err}
-use Rattle.cut_messages.specs.declared.replies.Progress.TheVariants.{Done}
+use Rattle.cut_messages.specs.declared.replies.AnswerState.TheVariants.{Done}
 use Rattle.cut_messages.proofs.Answered.{passes_stop}
 use Rattle.cut_messages.proofs.replies.pass_all.Goals as goal
 

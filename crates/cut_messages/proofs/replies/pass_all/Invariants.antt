@@ -1,5 +1,5 @@
 use Rattle.std.proofs.Common.{Ok, take}
-use Rattle.cut_messages.specs.declared.replies.Progress.TheVariants.{More}
+use Rattle.cut_messages.specs.declared.replies.AnswerState.TheVariants.{More}
 use Rattle.cut_messages.specs.Asking.{Passes}
 use Rattle.cut_messages.proofs.replies.pass_all.Given as goal
 

@@ -1,18 +1,20 @@
-use Rattle.std.proofs.Common.{◌≡◌, ◌∙◌, ◌-◌, ◌+◌, ◌++◌, ℕ, List, [], ◌∷◌, length, length-drop, take, drop, sym, ap, subst, arith}
+use Rattle.std.proofs.Common.{◌≡◌, ◌∙◌, ◌-◌, ◌+◌, ◌++◌, ℕ, List, [], ◌∷◌, length, length-drop, take, drop, sym, ap}
+use Rattle.std.proofs.Common.{subst, arith}
 use Rattle.std.proofs.ByRecursion.{All-push}
 use Rattle.std.proofs.lemmas.List.{take_rest}
 use Rattle.std.proofs.Math.Seq.{drop-drop}
 use Rattle.std.specs.List.{AllByRecursion}
 use Rattle.cut_messages.specs.declared.message.Message.{Message}
 use Rattle.cut_messages.specs.Frames.{IsMessage, fault_at}
-use Rattle.cut_messages.specs.Fronts.{message_in, IsWhole, IsShort}
+use Rattle.cut_messages.specs.Prefixes.{message_in, IsWhole, IsShort}
 use Rattle.cut_messages.proofs.Frames.{no_message}
 use Rattle.cut_messages.proofs.Streams.{one_more}
 use Rattle.cut_messages.proofs.split.messages_in.Goals as goal
 
 pub returns-in-Wrong-clause-splits : goal.returns-in-Wrong-clause-splits
 returns-in-Wrong-clause-splits c =
-    let same : take (length c.args.bytes.now - c.loop-kind.read) (drop c.loop-kind.read c.args.bytes.now) ≡ drop c.loop-kind.read c.args.bytes.now =
+    let same : take (length c.args.bytes.now - c.loop-kind.read) (drop c.loop-kind.read c.args.bytes.now)
+    ≡ drop c.loop-kind.read c.args.bytes.now =
     take_rest c.args.bytes.now c.loop-kind.read in
     record {
       whole = c.loop-kind.invariant.whole;
@@ -47,7 +49,12 @@ loop-kind-preserved c =
     let next : read + (5 + n) ≡ read + 5 + n = omega arith in
     record {
       within = omega (arith, is.within, length-drop read bytes, c.loop-kind.invariant.within);
-      whole = cc (one_more c.args.side bytes c.loop-kind.messages.items read n c.in-Whole.kind c.loop-kind.invariant.whole is, next, made);
+      whole = cc (
+        one_more c.args.side bytes c.loop-kind.messages.items read n c.in-Whole.kind
+            c.loop-kind.invariant.whole is,
+        next,
+        made,
+      );
       each = subst (λ (ms : List Message). AllByRecursion (IsMessage c.args.side) ms) (sym made)
           (All-push (IsMessage c.args.side) c.loop-kind.messages.items m c.loop-kind.invariant.each is.message);
     }

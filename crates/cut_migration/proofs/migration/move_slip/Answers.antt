@@ -6,7 +6,7 @@ use Rattle.cut_ledger.specs.declared.slip.Slip.{Slip}
 use Rattle.cut_ledger.specs.Machine.{slip_of}
 use Rattle.cut_journal.specs.declared.fault.JournalFault.TheVariants as journal
 use Rattle.cut_migration.specs.declared.fault.MigrateFault.{MigrateFault}
-use Rattle.cut_journal.specs.Journal.{IsAppendFault, Leaves, kept_slips}
+use Rattle.cut_journal.specs.Journal.{IsAppendFault, LeavesAppend, kept_slips}
 use Rattle.cut_migration.specs.Migration.{AppendsEach, MovesOne}
 use Rattle.cut_migration.proofs.Migrations.{moved_is, append_failed, append_moments, nothing_appended}
 use Rattle.cut_migration.proofs.migration.move_slip.Goals as goal
@@ -24,30 +24,40 @@ returns-then-not-is_true-clause-moments g c =
 pub returns-in-Ok-append-clause-moments : goal.returns-in-Ok-append-clause-moments
 returns-in-Ok-append-clause-moments g c =
     let log = c.args.journal.now in
-    let is = moved_is c.args.target.plan.now c.args.target.upgrade.now c.args.slip.now c.in-Ok.result c.args.target.upgrade_of c.in-Ok.ensures.ok in
-    λ honest. subst (λ (x : Slip). AppendsEach log.plan (kept_slips log.plan log.count (g.D.Disk.state log.disk)) c.append.new.self.doubtful (x ∷ [])
+    let is = moved_is c.args.target.plan.now c.args.target.upgrade.now c.args.slip.now c.in-Ok.result
+    c.args.target.upgrade_of c.in-Ok.ensures.ok in
+    λ honest. subst (λ (x : Slip). AppendsEach log.plan (kept_slips log.plan log.count (g.D.Disk.state log.disk))
+    c.append.new.self.doubtful (x ∷ [])
     (g.D.Disk.state log.disk) (g.D.Disk.state c.append.new.self.disk)) is
     (append_moments (Ok c.in-Ok-append.field-0) (slip_of c.in-Ok.result) (λ d. g.D.Disk.state d) log c.append.new.self
-    c.in-Ok-append.ensures.left c.in-Ok-append.ensures.broken (c.disk.ensures.sound honest) (c.append.ensures.moments honest)
+    c.in-Ok-append.ensures.left c.in-Ok-append.ensures.broken (c.disk.ensures.sound honest)
+    (c.append.ensures.moments honest)
     (c.in-Ok-append.ensures.acknowledged honest) (c.in-Ok-append.ensures.kept honest))
 
 pub returns-in-Ok-append-clause-kept : goal.returns-in-Ok-append-clause-kept
 returns-in-Ok-append-clause-kept g c =
-    let is = moved_is c.args.target.plan.now c.args.target.upgrade.now c.args.slip.now c.in-Ok.result c.args.target.upgrade_of c.in-Ok.ensures.ok in
+    let is = moved_is c.args.target.plan.now c.args.target.upgrade.now c.args.slip.now c.in-Ok.result
+    c.args.target.upgrade_of c.in-Ok.ensures.ok in
     λ honest. c.in-Ok-append.ensures.kept honest
-    ∙ ap (λ (x : Slip). kept_slips c.args.journal.now.plan c.args.journal.now.count (g.D.Disk.state c.args.journal.now.disk) ++ x ∷ []) is
+    ∙ ap (λ (x : Slip). kept_slips c.args.journal.now.plan c.args.journal.now.count
+    (g.D.Disk.state c.args.journal.now.disk) ++ x ∷ []) is
 
 pub returns-clause-ends : goal.returns-clause-ends
 returns-clause-ends g c =
     let target = c.args.target in
-    let is = moved_is target.plan.now target.upgrade.now c.args.slip.now c.in-Ok.result target.upgrade_of c.in-Ok.ensures.ok in
-    let left : Leaves {D = _} (Err c.in-Err.fault) (slip_of c.in-Ok.result) c.args.journal.now c.append.new.self = c.in-Err.ensures.left in
+    let is = moved_is target.plan.now target.upgrade.now c.args.slip.now c.in-Ok.result target.upgrade_of
+    c.in-Ok.ensures.ok in
+    let left : LeavesAppend {D = _} (Err c.in-Err.fault) (slip_of c.in-Ok.result) c.args.journal.now c.append.new.self =
+    c.in-Err.ensures.left in
     let others : IsAppendFault c.in-Err.fault = c.in-Err.ensures.others in
-    let broken : IsErrOf {T = ℕ} (Err c.in-Err.fault) journal.Broken ↔ IsSome c.args.journal.now.doubtful = c.in-Err.ensures.broken in
+    let broken : IsErrOf {T = ℕ} (Err c.in-Err.fault) journal.Broken
+    ↔ IsSome c.args.journal.now.doubtful = c.in-Err.ensures.broken in
     let other : IsErrOf {T = ℕ} (Err c.in-Err.fault) journal.OtherPlan → ⊥ =
-    λ is. (c.in-Err.ensures.other_plan.0 is).1 (ap (λ (r : Computed). r.plan) c.in-Ok.ensures.ok ∙ target.upgrade_of ∙ sym c.requires.plan) in
+    λ is. (c.in-Err.ensures.other_plan.0 is).1 (ap (λ (r : Computed). r.plan) c.in-Ok.ensures.ok ∙ target.upgrade_of
+    ∙ sym c.requires.plan) in
     let holds = c.is_true.ensures.0 (search rules) in
-    subst (λ (e : MigrateFault). MovesOne {T = ⊤} (Err e) target.plan.now c.args.number c.args.slip.now c.args.journal.now c.append.new.self)
+    subst (λ (e : MigrateFault). MovesOne {T = ⊤} (Err e) target.plan.now c.args.number c.args.slip.now
+    c.args.journal.now c.append.new.self)
     (sym c.fault_of.ensures)
     (append_failed c.in-Err.fault target.plan.now c.args.number c.args.slip.now (slip_of c.in-Ok.result)
     c.args.journal.now c.append.new.self others other broken left is holds)

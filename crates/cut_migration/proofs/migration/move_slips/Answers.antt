@@ -1,4 +1,5 @@
-use Rattle.std.proofs.Common.{◌+◌, ◌∙◌, ◌∷◌, ◌++◌, [], List, Result, Ok, Err, ℕ, get_or, refl, sym, ap, subst, append-nil, append_assoc}
+use Rattle.std.proofs.Common.{◌+◌, ◌∙◌, ◌∷◌, ◌++◌, [], List, Result, Ok, Err, ℕ, get_or, refl, sym, ap, subst}
+use Rattle.std.proofs.Common.{append-nil, append_assoc}
 use Rattle.std.specs.Bool.{⊤}
 use Rattle.std.proofs.lemmas.Result.{err_from_is_err_and}
 use Rattle.std.proofs.lemmas.Option.{slice_get-get_or}
@@ -7,8 +8,9 @@ use Rattle.cut_trial.specs.Sum.{each_number}
 use Rattle.cut_ledger.specs.declared.slip.Slip.{Slip}
 use Rattle.cut_migration.specs.declared.fault.MigrateFault.{MigrateFault}
 use Rattle.cut_journal.specs.Journal.{kept_slips}
-use Rattle.cut_migration.specs.Migration.{AppendsEach, Ends, MovesOne, first_moved, moved}
-use Rattle.cut_migration.proofs.Migrations.{nothing_appended, none_moved, moved_more, first_more, stopped, moments_more, moments_stop}
+use Rattle.cut_migration.specs.Migration.{AppendsEach, EndsMigration, MovesOne, first_moved, moved}
+use Rattle.cut_migration.proofs.Migrations.{nothing_appended, none_moved, moved_more, first_more, stopped, moments_more}
+use Rattle.cut_migration.proofs.Migrations.{moments_stop}
 use Rattle.cut_migration.proofs.migration.move_slips.Goals as goal
 
 -- what is read of a list where nothing is
@@ -23,7 +25,8 @@ loop-slip-init g c =
       moved = none_moved c.args.target.plan.now c.args.slips.now log;
       doubtful = refl;
       kept = λ honest. sym (append-nil (kept_slips log.plan log.count (g.D.Disk.state log.disk)));
-      moments = λ honest. nothing_appended log.plan log.count log.doubtful (g.D.Disk.state log.disk) (c.disk.ensures.sound honest);
+      moments = λ honest. nothing_appended log.plan log.count log.doubtful (g.D.Disk.state log.disk)
+          (c.disk.ensures.sound honest);
       honest = (λ h. h, λ h. h);
       faults = refl;
     }
@@ -37,7 +40,7 @@ returns-in_err-move_slip-clause-ends g c =
     let n : ℕ = c.loop-slip.slip-index in
     let one : MovesOne {T = ⊤} (Err c.in_err-move_slip.field-0.0) v (c.loop-slip.count + 1) (get_or ss n no_slip)
     c.loop-slip.journal c.move_slip.new.journal = c.in_err-move_slip.ensures.ends in
-    subst (λ (x : Result ℕ MigrateFault). Ends x v ss c.args.journal.now c.move_slip.new.journal)
+    subst (λ (x : Result ℕ MigrateFault). EndsMigration x v ss c.args.journal.now c.move_slip.new.journal)
     (sym (p.1 ∙ ap (λ (e : MigrateFault). Err e) p.2))
     (stopped c.in_err-move_slip.field-0.0 v ss n (c.loop-slip.count + 1) (get_or ss n no_slip) c.args.journal.now
     c.loop-slip.journal c.move_slip.new.journal (ap (λ k. k + 1) held.count)
@@ -71,24 +74,33 @@ loop-slip-preserved g c =
     let log = c.args.journal.now in
     let mid = c.loop-slip.journal in
     let at = slice_get-get_or ss n no_slip c.loop-slip-test.true in
-    let one : MovesOne {T = ⊤} (Ok tt) v (c.loop-slip.count + 1) s mid c.move_slip.new.journal = c.in_ok-move_slip.ensures.ends in
+    let one : MovesOne {T = ⊤} (Ok tt) v (c.loop-slip.count + 1) s mid c.move_slip.new.journal =
+    c.in_ok-move_slip.ensures.ends in
     record {
       count = ap (λ k. k + 1) held.count;
-      moved = moved_more v ss n (c.loop-slip.count + 1) s log mid c.move_slip.new.journal at held.moved held.doubtful one;
+      moved = moved_more v ss n (c.loop-slip.count + 1) s log mid c.move_slip.new.journal at held.moved held.doubtful
+          one;
       doubtful = one.4 ∙ sym one.3 ∙ held.doubtful;
       kept = λ honest. c.in_ok-move_slip.ensures.kept (held.honest.0 honest)
           ∙ ap (λ (l : List Slip). l ++ moved v s ∷ []) (held.kept honest)
           ∙ append_assoc (kept_slips log.plan log.count (g.D.Disk.state log.disk)) (first_moved v ss n) (moved v s ∷ [])
-          ∙ ap (λ (l : List Slip). kept_slips log.plan log.count (g.D.Disk.state log.disk) ++ l) (sym (first_more v ss n s at));
-      moments = λ honest. subst (λ (l : List Slip). AppendsEach log.plan (kept_slips log.plan log.count (g.D.Disk.state log.disk))
+          ∙ ap (λ (l : List Slip). kept_slips log.plan log.count (g.D.Disk.state log.disk) ++ l)
+          (sym (first_more v ss n s at));
+      moments = λ honest. subst (λ (l : List Slip). AppendsEach log.plan
+          (kept_slips log.plan log.count (g.D.Disk.state log.disk))
           c.move_slip.new.journal.doubtful l (g.D.Disk.state log.disk) (g.D.Disk.state c.move_slip.new.journal.disk))
           (sym (first_more v ss n s at))
           (moments_more {T = ⊤} (Ok tt) v ss log.plan
-          (kept_slips log.plan log.count (g.D.Disk.state log.disk)) (kept_slips mid.plan mid.count (g.D.Disk.state mid.disk))
+          (kept_slips log.plan log.count (g.D.Disk.state log.disk))
+          (kept_slips mid.plan mid.count (g.D.Disk.state mid.disk))
           n (c.loop-slip.count + 1) s mid c.move_slip.new.journal
           (g.D.Disk.state log.disk) (g.D.Disk.state mid.disk) (g.D.Disk.state c.move_slip.new.journal.disk)
           one held.moved.plan (held.kept honest) (held.moments honest)
           (c.in_ok-move_slip.ensures.moments (held.honest.0 honest)));
-      honest = (λ h. c.move_slip.ensures.honest.0 (held.honest.0 h), λ h. held.honest.1 (c.move_slip.ensures.honest.1 h));
+      honest = (
+        λ h. c.move_slip.ensures.honest.0 (held.honest.0 h),
+        λ h. held.honest.1
+            (c.move_slip.ensures.honest.1 h),
+      );
       faults = c.in_ok-move_slip.ensures.faults ∙ held.faults;
     }

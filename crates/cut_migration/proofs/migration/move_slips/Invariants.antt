@@ -4,7 +4,7 @@ use Rattle.cut_journal.specs.Journal.{kept_slips}
 use Rattle.cut_migration.specs.Migration.{AppendsEach, HasMoved, first_moved}
 use Rattle.cut_migration.proofs.migration.move_slips.Given as goal
 
--- so many slips were moved as were looked at
+-- as many slips were moved as were looked at
 abbrev pub invariant-loop-slip : goal.invariant-loop-slip
 invariant-loop-slip g l = record {
   count : l.count ≡ l.slip-index;

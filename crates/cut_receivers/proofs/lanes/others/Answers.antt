@@ -12,7 +12,8 @@ loop-place-preserved c i low =
     let highs : List ℕ = lane i c.args.highs.now in
     let flags : List Bool = c.args.wanted.now in
     let high : slice_index
-    (slice_index_or c.args.highs.now place []) i ≡ slice_index highs place = value_lane i place c.args.highs.now c.loop-place-test.true in
+    (slice_index_or c.args.highs.now place []) i ≡ slice_index highs place = value_lane i place c.args.highs.now
+    c.loop-place-test.true in
     elim c.if-wanted-place.branch [
       | then-wanted-place w ↦ ap (λ (v : List ℕ). slice_index v i) w.next-is ∙ w.marked_late-next.ensures i low
           ∙ ap (λ (h : ℕ). cond (nat_lt t h) 1 (slice_index c.loop-place.marks i)) high

@@ -1,4 +1,5 @@
-use Rattle.std.proofs.Common.{rules, ◌≡◌, ◌∙◌, ℕ, ◌+◌, ◌≤◌, ◌==◌, not, List, length, map, slice_index, refl, ap, sym, subst, arith}
+use Rattle.std.proofs.Common.{rules, ◌≡◌, ◌∙◌, ℕ, ◌+◌, ◌≤◌, ◌==◌, not, List, length, map, slice_index, refl, ap, sym}
+use Rattle.std.proofs.Common.{subst, arith}
 use Rattle.cut_blocks.specs.Images.{never, eight, least_image, row_of}
 use Rattle.cut_nodes.specs.declared.slots.Slot.{Slot}
 use Rattle.cut_nodes.specs.Slots.{AreSlots}
@@ -33,15 +34,19 @@ loop-copy-preserved c =
     record {
       until = λ i low. copy_more c.deliveries_stand_in_blocks.ensures.place c.images_are_below_never.ensures
           (hearing_of trial (slice_index js i))
-          copy i (slice_index c.next_of-next.result i) js blocks c.as_slice-in-loop-copy-2.result.now c.as_slice-in-loop-copy.result.now
+          copy i (slice_index c.next_of-next.result i) js blocks c.as_slice-in-loop-copy-2.result.now
+          c.as_slice-in-loop-copy.result.now
           _ _ first four low refl slots (c.count-more.ensures i low) (c.loop-copy.invariant.until i low);
       before = λ i low. copy_more c.deliveries_stand_in_blocks.ensures.place c.images_are_below_never.ensures
           (hearing_of trial (slice_index js i))
-          copy i (slice_index c.args.time i) js blocks c.as_slice-in-loop-copy-4.result.now c.as_slice-in-loop-copy-3.result.now
+          copy i (slice_index c.args.time i) js blocks c.as_slice-in-loop-copy-4.result.now
+          c.as_slice-in-loop-copy-3.result.now
           _ _ second four low refl same (c.count-more-in-loop-copy.ensures i low) (c.loop-copy.invariant.before i low);
-      few_until = λ i low. few_more copy trial.rule.k blocks trial.edges.now c.as_slice-in-loop-copy-2.result.now _ _ _ slots c.requires.few
+      few_until = λ i low. few_more copy trial.rule.k blocks trial.edges.now c.as_slice-in-loop-copy-2.result.now _ _ _
+          slots c.requires.few
           (c.count-more.ensures i low) (c.loop-copy.invariant.few_until i low);
-      few_before = λ i low. few_more copy trial.rule.k blocks trial.edges.now c.as_slice-in-loop-copy-4.result.now _ _ _ same c.requires.few
+      few_before = λ i low. few_more copy trial.rule.k blocks trial.edges.now c.as_slice-in-loop-copy-4.result.now _ _ _
+          same c.requires.few
           (c.count-more-in-loop-copy.ensures i low) (c.loop-copy.invariant.few_before i low);
     }
 

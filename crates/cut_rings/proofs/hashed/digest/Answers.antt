@@ -11,4 +11,5 @@ pub returns : goal.returns
 unfolding digest_of
 returns c =
     c.finalize.ensures _ (c.update-3.ensures _ (c.update-2.ensures _ (c.update.ensures [] c.new-hasher.ensures)))
-    ∙ joined _ _ _ _ _ _ c.as_slice.ensures (c.to_be_bytes.ensures ∙ ap (to_be_bytes w32) c.from.ensures) (c.to_be_bytes-2.ensures ∙ ap (to_be_bytes w32) c.from-2.ensures)
+    ∙ joined _ _ _ _ _ _ c.as_slice.ensures (c.to_be_bytes.ensures ∙ ap (to_be_bytes w32) c.from.ensures)
+    (c.to_be_bytes-2.ensures ∙ ap (to_be_bytes w32) c.from-2.ensures)

@@ -11,8 +11,11 @@ pub returns : goal.returns
 returns c =
     let items = c.sort_unstable.new.self.items in
     let moved = rw c.in_ok-digests.ensures at c.sort_unstable.ensures.permutation in
-    let order : IsRanked (compare_by (slice_cmp nat_cmp) (digest_of c.args.seed.now c.args.ring)) c.args.nodes (map (λ x. x.1) items)
-    = ranked (slice_cmp nat_cmp) nat_list_cmp_total (digest_of c.args.seed.now c.args.ring) c.args.nodes items moved c.sort_unstable.ensures.sorted
+    let order : IsRanked (compare_by (slice_cmp nat_cmp) (digest_of c.args.seed.now c.args.ring)) c.args.nodes
+    (map (λ x. x.1) items)
+    = ranked (slice_cmp nat_cmp) nat_list_cmp_total (digest_of c.args.seed.now c.args.ring) c.args.nodes items moved
+    c.sort_unstable.ensures.sorted
     in
     let P : List ℕ → Type 0 = λ xs. IsRanked (compare_hashed c.args.seed.now c.args.ring) c.args.nodes xs in
-    IfOk-weaker c.processes.result _ _ (λ v same. subst P (sym (same ∙ ap (map (λ x. x.1)) c.as_slice.ensures.value)) order) c.processes.ensures
+    IfOk-weaker c.processes.result _ _ (λ v same. subst P (sym (same ∙ ap (map (λ x. x.1)) c.as_slice.ensures.value))
+    order) c.processes.ensures

@@ -10,5 +10,6 @@ returns-clause-positions c =
     let compare = compare_hashed c.args.seed.now c.args.ring in
     let P : List ℕ → Type 0 = λ xs. IsRanked compare c.args.nodes xs in
     IfOk-both c.of_order.result _ _ _
-    (λ r same inverse. ranked_positions compare c.args.nodes r.order.items r.positions.items (subst P (sym same) c.in_ok-order.ensures) inverse)
+    (λ r same inverse. ranked_positions compare c.args.nodes r.order.items r.positions.items
+    (subst P (sym same) c.in_ok-order.ensures) inverse)
     c.of_order.ensures.order c.of_order.ensures.inverse

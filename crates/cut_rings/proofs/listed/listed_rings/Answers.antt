@@ -11,7 +11,8 @@ use Rattle.cut_rings.proofs.listed.listed_rings.Goals as goal
 pub loop-list-preserved : goal.loop-list-preserved
 loop-list-preserved c =
     let P : Ring → Type 0 = λ r. IsInverse c.args.nodes r.order.items r.positions.items in
-    let table : Vec ℕ Global → List ℕ = λ list. map (λ p. listed_position list.items p) (range_with_len 0 c.args.nodes) in
+    let table : Vec ℕ Global → List ℕ = λ list. map (λ p. listed_position list.items p) (range_with_len 0 c.args.nodes)
+    in
     let place = c.loop-list.list-index in
     let lists = c.args.lists.now in
     let item = c.list-item.result in
@@ -23,8 +24,10 @@ loop-list-preserved c =
     in
     record {
       positions =
-          positions_pushed c.loop-list.rings.items c.push.new.self.items ring (map table (take place lists)) (table (get_or lists place item))
+          positions_pushed c.loop-list.rings.items c.push.new.self.items ring (map table (take place lists))
+          (table (get_or lists place item))
           c.in_ok-push.ensures.items here c.loop-list.invariant.positions
           ∙ sym (map_more table lists place item c.loop-list-test.true);
-      inverse = All-same P _ _ c.in_ok-push.ensures.items (All-push P _ _ c.loop-list.invariant.inverse c.in_ok-listed_ring.ensures.inverse);
+      inverse = All-same P _ _ c.in_ok-push.ensures.items
+          (All-push P _ _ c.loop-list.invariant.inverse c.in_ok-listed_ring.ensures.inverse);
     }

@@ -3,29 +3,34 @@ use Rattle.std.proofs.lemmas.Grind.{take_at_read}
 use Rattle.std.proofs.lemmas.List.{take_all}
 use Rattle.std.proofs.lemmas.List.Elements.{All-push}
 use Rattle.std.proofs.lemmas.List.Sums.{sum_by_push}
-use Rattle.cut_hall.specs.Report.{EndsAs, SlotEnd, accepted_told}
+use Rattle.cut_hall.specs.Report.{IsEndOf, SlotEnd, accepted_recorded}
 use Rattle.cut_server.proofs.serve.accepted.Goals as goal
 
 pub loop-study-preserved : goal.loop-study-preserved
 loop-study-preserved c =
     let slots : List SlotEnd = c.slots-slots.result.now in
     let n : ℕ = c.loop-study.study in
-    let told : SlotEnd → ℕ = λ s. accepted_told s.history in
+    let reported : SlotEnd → ℕ = λ s. accepted_recorded s.history in
     let first : SlotEnd = c.index-slots-study.result in
     let second : SlotEnd = c.index-slots-study-in-loop-study.result in
     let low : n < length slots = omega (arith, c.loop-study-test.true) in
-    let last : told second ≡ told (get_or slots n second) = ap told c.index-slots-study-in-loop-study.is in
-    let sums : sum_by told (take (n + 1) slots) ≡ sum_by told (take n slots) + told (get_or slots n second) =
-    ap (sum_by told) (take_at_read slots n second low).1 ∙ sum_by_push told (take n slots) (get_or slots n second) in
-    let ends : EndsAs (get_or slots n first).history (get_or slots n first).complete =
-    subst (λ (s : SlotEnd). EndsAs s.history s.complete) c.index-slots-study.is c.complete.ensures.end in
+    let last : reported second ≡ reported (get_or slots n second) = ap reported c.index-slots-study-in-loop-study.is in
+    let sums : sum_by reported (take (n + 1) slots) ≡ sum_by reported (take n slots)
+    + reported (get_or slots n second) =
+    ap (sum_by reported) (take_at_read slots n second low).1
+    ∙ sum_by_push reported (take n slots) (get_or slots n second) in
+    let ends : IsEndOf (get_or slots n first).history (get_or slots n first).complete =
+    subst (λ (s : SlotEnd). IsEndOf s.history s.complete) c.index-slots-study.is c.complete.ensures.end in
     record {
       sum = omega (arith, c.loop-study.invariant.sum, c.from-total.ensures, c.accepted.ensures, last, sums);
       small = omega (arith, c.loop-study.invariant.small, c.from-total.ensures, c.accepted.type_inv);
-      legal = subst (All (λ (s : SlotEnd). EndsAs s.history s.complete)) (sym (take_at_read slots n first low).1)
-          (All-push (λ (s : SlotEnd). EndsAs s.history s.complete) (take n slots) (get_or slots n first) c.loop-study.invariant.legal ends);
+      legal = subst (All (λ (s : SlotEnd). IsEndOf s.history s.complete)) (sym (take_at_read slots n first low).1)
+          (All-push (λ (s : SlotEnd). IsEndOf s.history s.complete) (take n slots) (get_or slots n first)
+          c.loop-study.invariant.legal ends);
     }
 
 pub returns-clause-legal : goal.returns-clause-legal
 returns-clause-legal c =
-    subst (All (λ (s : SlotEnd). EndsAs s.history s.complete)) (take_all c.loop-study.study c.slots-slots.result.now c.loop-study-test.false ∙ c.slots-slots.ensures) c.loop-study.invariant.legal
+    subst (All (λ (s : SlotEnd). IsEndOf s.history s.complete))
+    (take_all c.loop-study.study c.slots-slots.result.now c.loop-study-test.false ∙ c.slots-slots.ensures)
+    c.loop-study.invariant.legal

@@ -1,11 +1,11 @@
 use Rattle.std.proofs.Common.{◌≡◌, ◌≤◌, ◌*◌, ◌^◌, All, sum_by, take}
-use Rattle.cut_hall.specs.Report.{EndsAs, accepted_told}
+use Rattle.cut_hall.specs.Report.{IsEndOf, accepted_recorded}
 use Rattle.cut_server.proofs.serve.accepted.Given as goal
 
 -- the slots so far are added up
 abbrev pub invariant-loop-study : goal.invariant-loop-study
 invariant-loop-study l = record {
-  sum : l.total ≡ sum_by (λ s. accepted_told s.history) (take l.study l.slots);
+  sum : l.total ≡ sum_by (λ s. accepted_recorded s.history) (take l.study l.slots);
   small : l.total ≤ l.study * 2 ^ 64;
-  legal : All (λ s. EndsAs s.history s.complete) (take l.study l.slots);
+  legal : All (λ s. IsEndOf s.history s.complete) (take l.study l.slots);
 }

@@ -2,5 +2,5 @@ use denote.Param.Send.{sendable}
 use Rattle.cut_hall.proofs.Crossing.{hall_sync}
 use Rattle.cut_server.proofs.serve.serve_by.Goals as goal
 
-pub attend-listener-requires-sync-H : goal.attend-listener-requires-sync-H
-attend-listener-requires-sync-H g c κs within = search (sendable, hall_sync, c.type_bounds.send-D) depth 40
+pub run_threads-listener-requires-sync-H : goal.run_threads-listener-requires-sync-H
+run_threads-listener-requires-sync-H g c κs within = search (sendable, hall_sync, c.type_bounds.send-D) depth 40

@@ -7,8 +7,8 @@ ghosts-serve_by-M-Ledger g a = record { name = a.blanks.made.name; parts = a.bla
 abbrev pub ghosts-serve_by-K-Ledger : goal.ghosts-serve_by-K-Ledger
 ghosts-serve_by-K-Ledger g a = record { name = a.blanks.kept.name; parts = a.blanks.kept.parts }
 
-abbrev pub ghosts-serve_by-M-Tally : goal.ghosts-serve_by-M-Tally
-ghosts-serve_by-M-Tally g a = record { all = a.blanks.made.parts; trusts = false }
+abbrev pub ghosts-serve_by-M-CallLedger : goal.ghosts-serve_by-M-CallLedger
+ghosts-serve_by-M-CallLedger g a = record { all = a.blanks.made.parts; trusts = false }
 
-abbrev pub ghosts-serve_by-K-Tally : goal.ghosts-serve_by-K-Tally
-ghosts-serve_by-K-Tally g a = record { all = a.blanks.kept.parts; trusts = g.S.Shelf.is_true a.shelf.now }
+abbrev pub ghosts-serve_by-K-CallLedger : goal.ghosts-serve_by-K-CallLedger
+ghosts-serve_by-K-CallLedger g a = record { all = a.blanks.kept.parts; trusts = g.S.Shelf.is_true a.shelf.now }

@@ -7,8 +7,8 @@ ghosts-served-M-Ledger g a = record { name = a.made.name; parts = a.made.parts }
 abbrev pub ghosts-served-K-Ledger : goal.ghosts-served-K-Ledger
 ghosts-served-K-Ledger g a = record { name = a.kept.name; parts = a.kept.parts }
 
-abbrev pub ghosts-served-M-Tally : goal.ghosts-served-M-Tally
-ghosts-served-M-Tally g a = record { all = a.made.parts; trusts = false }
+abbrev pub ghosts-served-M-CallLedger : goal.ghosts-served-M-CallLedger
+ghosts-served-M-CallLedger g a = record { all = a.made.parts; trusts = false }
 
-abbrev pub ghosts-served-K-Tally : goal.ghosts-served-K-Tally
-ghosts-served-K-Tally g a = record { all = a.kept.parts; trusts = false }
+abbrev pub ghosts-served-K-CallLedger : goal.ghosts-served-K-CallLedger
+ghosts-served-K-CallLedger g a = record { all = a.kept.parts; trusts = false }

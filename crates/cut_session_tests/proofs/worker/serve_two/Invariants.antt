@@ -7,8 +7,8 @@ ghosts-served_in-M-Ledger g a = record { name = a.made.name; parts = a.made.part
 abbrev pub ghosts-served_in-K-Ledger : goal.ghosts-served_in-K-Ledger
 ghosts-served_in-K-Ledger g a = record { name = a.kept.name; parts = a.kept.parts }
 
-abbrev pub ghosts-served_in-M-Tally : goal.ghosts-served_in-M-Tally
-ghosts-served_in-M-Tally g a = record { all = a.made.parts; trusts = false }
+abbrev pub ghosts-served_in-M-CallLedger : goal.ghosts-served_in-M-CallLedger
+ghosts-served_in-M-CallLedger g a = record { all = a.made.parts; trusts = false }
 
-abbrev pub ghosts-served_in-K-Tally : goal.ghosts-served_in-K-Tally
-ghosts-served_in-K-Tally g a = record { all = a.kept.parts; trusts = false }
+abbrev pub ghosts-served_in-K-CallLedger : goal.ghosts-served_in-K-CallLedger
+ghosts-served_in-K-CallLedger g a = record { all = a.kept.parts; trusts = false }

@@ -7,8 +7,8 @@ ghosts-play_in_hall-M-Ledger g a = record { name = a.made.name; parts = a.made.p
 abbrev pub ghosts-play_in_hall-K-Ledger : goal.ghosts-play_in_hall-K-Ledger
 ghosts-play_in_hall-K-Ledger g a = record { name = a.kept.name; parts = a.kept.parts }
 
-abbrev pub ghosts-play_in_hall-M-Tally : goal.ghosts-play_in_hall-M-Tally
-ghosts-play_in_hall-M-Tally g a = record { all = a.made.parts; trusts = false }
+abbrev pub ghosts-play_in_hall-M-CallLedger : goal.ghosts-play_in_hall-M-CallLedger
+ghosts-play_in_hall-M-CallLedger g a = record { all = a.made.parts; trusts = false }
 
-abbrev pub ghosts-play_in_hall-K-Tally : goal.ghosts-play_in_hall-K-Tally
-ghosts-play_in_hall-K-Tally g a = record { all = a.kept.parts; trusts = false }
+abbrev pub ghosts-play_in_hall-K-CallLedger : goal.ghosts-play_in_hall-K-CallLedger
+ghosts-play_in_hall-K-CallLedger g a = record { all = a.kept.parts; trusts = false }

@@ -7,8 +7,8 @@ ghosts-run_storm-M-Ledger g a = record { name = a.made.name; parts = a.made.part
 abbrev pub ghosts-run_storm-K-Ledger : goal.ghosts-run_storm-K-Ledger
 ghosts-run_storm-K-Ledger g a = record { name = a.kept.name; parts = a.kept.parts }
 
-abbrev pub ghosts-run_storm-M-Tally : goal.ghosts-run_storm-M-Tally
-ghosts-run_storm-M-Tally g a = record { all = a.made.parts; trusts = false }
+abbrev pub ghosts-run_storm-M-CallLedger : goal.ghosts-run_storm-M-CallLedger
+ghosts-run_storm-M-CallLedger g a = record { all = a.made.parts; trusts = false }
 
-abbrev pub ghosts-run_storm-K-Tally : goal.ghosts-run_storm-K-Tally
-ghosts-run_storm-K-Tally g a = record { all = a.kept.parts; trusts = false }
+abbrev pub ghosts-run_storm-K-CallLedger : goal.ghosts-run_storm-K-CallLedger
+ghosts-run_storm-K-CallLedger g a = record { all = a.kept.parts; trusts = false }

@@ -1,5 +1,6 @@
-use Rattle.std.proofs.Common.{◌≡◌, ◌+◌, ◌++◌, ◌∷◌, [], ℕ, Bool, true, List, Some, map, take, drop, get_or, slice_get, ◌∙◌, arith}
-use Rattle.cut_trial.proofs.Words.{Edge, is_edge_of, Delivery, State, HasDelivered}
+use Rattle.std.proofs.Common.{◌≡◌, ◌+◌, ◌++◌, ◌∷◌, [], ℕ, Bool, true, List, Some, map, take, drop, get_or, slice_get}
+use Rattle.std.proofs.Common.{◌∙◌, arith}
+use Rattle.cut_trial.proofs.Words.{Edge, is_edge_of, Delivery, DetectorState, HasDelivered}
 use Rattle.std.proofs.lemmas.List.{get_or-map, length-map, map_more, map-append, take-append-drop}
 use Rattle.std.proofs.lemmas.List.Sums.{AllPass-from_list_all}
 use Rattle.std.proofs.lemmas.Option.{get_or_from_slice_get, slice_get_within}
@@ -13,7 +14,7 @@ abbrev none : Delivery
 none = record { edge = record { ring = 0; subject = 0 }; copy = 0 }
 
 -- one delivery more has been heard
-heard_more : (order : List Delivery) (i : ℕ) (x : Delivery) → slice_get order i ≡ Some x → (d : State)
+heard_more : (order : List Delivery) (i : ℕ) (x : Delivery) → slice_get order i ≡ Some x → (d : DetectorState)
     → HasDelivered d (map edge_of (take i order) ++ x.edge ∷ [])
     → HasDelivered d (map edge_of (take (i + 1) order))
 heard_more order i x at d h =

@@ -7,7 +7,8 @@ four_within : (xs : List ℕ) (a b c d : ℕ) → Contains xs a → Contains xs 
     → All (λ j. Contains xs j) (a ∷ b ∷ c ∷ d ∷ [])
 four_within xs a b c d in_a in_b in_c in_d =
     All-cons (λ j. Contains xs j) a (b ∷ c ∷ d ∷ []) in_a (All-cons (λ j. Contains xs j) b (c ∷ d ∷ []) in_b
-    (All-cons (λ j. Contains xs j) c (d ∷ []) in_c (All-cons (λ j. Contains xs j) d [] in_d (All-nil (λ j. Contains xs j)))))
+    (All-cons (λ j. Contains xs j) c (d ∷ []) in_c
+    (All-cons (λ j. Contains xs j) d [] in_d (All-nil (λ j. Contains xs j)))))
 
 pub returns-clause-all : goal.returns-clause-all
 returns-clause-all c =

@@ -23,5 +23,6 @@ returns c =
     let nodes : List Node = c.args.nodes.now.nodes.items in
     c.loop-node.invariant
     ∙ ap (λ (ds : List Node). map (λ (d : Node). is_target c.args.roles.now d.subject) ds)
-    (taken_all nodes c.deref-node-items.result.now c.loop-node.node-index c.deref-node-items.ensures.value c.loop-node-test.false)
+    (taken_all nodes c.deref-node-items.result.now c.loop-node.node-index c.deref-node-items.ensures.value
+    c.loop-node-test.false)
     ∙ sym (map-map (λ (d : Node). d.subject) (λ s. is_target c.args.roles.now s) nodes)

@@ -1,5 +1,6 @@
 use Rattle.std.proofs.Common.{◌≡◌, ◌+◌, ◌-◌, ◌*◌, ◌^◌, ◌<◌, ◌≤◌, ℕ, sym, ap, ◌∙◌, arith}
-use Rattle.cut_trial.proofs.Words.{Cell, IsTrue, range_with_len, IsPlan, Values, Piece, cell_at, sum_of, is_piece, IsAtMost}
+use Rattle.cut_trial.proofs.Words.{Cell, IsTrue, range_with_len, IsPlan, Values, Piece, cell_at, sum_of, is_piece}
+use Rattle.cut_trial.proofs.Words.{IsAtMost}
 use Rattle.cut_plan.specs.Cells.{IsCellOf}
 use Rattle.cut_trial.proofs.Outcomes.{cell_read, possible_outcome}
 use Rattle.cut_trial.proofs.Pieces.{piece_facts, few_trials}

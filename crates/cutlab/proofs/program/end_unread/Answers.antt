@@ -13,5 +13,6 @@ returns-in_default g c =
     let known = unread_otherwise c.args.kind c.in_default.not-InvalidData in
     record {
       status = c.end_fault.ensures.1 ∙ sym known.0;
-      text = subst (λ (text : List ℕ). IsSent text (g.E.Wire.log c.args.errors.now) (g.E.Wire.log c.end_fault.new.errors)) (sym known.1) c.end_fault.ensures.0;
+      text = subst (λ (text : List ℕ). IsSent text (g.E.Wire.log c.args.errors.now)
+          (g.E.Wire.log c.end_fault.new.errors)) (sym known.1) c.end_fault.ensures.0;
     }

@@ -8,7 +8,8 @@ use Rattle.range_set.proofs.edges.flip_from.Goals as goal
 
 pub returns-then-index-number-clause-sorted : goal.returns-then-index-number-clause-sorted
 returns-then-index-number-clause-sorted c =
-    subst IsNonDecreasing (sym c.remove.ensures.items) (sorted_remove c.args.edges.now.items _ (omega arith) c.requires.sorted)
+    subst IsNonDecreasing (sym c.remove.ensures.items)
+    (sorted_remove c.args.edges.now.items _ (omega arith) c.requires.sorted)
 
 pub returns-clause-sorted : goal.returns-clause-sorted
 returns-clause-sorted c =

@@ -21,13 +21,15 @@ returns-in_err-roles-clause-bad_role c =
 pub invariant_of-result : goal.invariant_of-result
 invariant_of-result c =
     let long : length c.in_ok-roles.roles.items ≡ c.args.nodes =
-    ap length c.in_ok-roles.ensures ∙ length-map-range_with_len (given_role c.args.crashed.now c.args.deaf.now c.args.liars.now c.args.links.now) 0 c.args.nodes
+    ap length c.in_ok-roles.ensures ∙ length-map-range_with_len
+    (given_role c.args.crashed.now c.args.deaf.now c.args.liars.now c.args.links.now) 0 c.args.nodes
     in
     omega arith
 
 pub returns-clause-legal : goal.returns-clause-legal
 returns-clause-legal c =
-    (legal c.args.nodes (c.args.crashed.now ++ c.args.deaf.now) c.args.liars.now c.args.links.now).0 (sym c.are_legal.ensures ∙ c.if-not-are_legal.false)
+    (legal c.args.nodes (c.args.crashed.now ++ c.args.deaf.now) c.args.liars.now c.args.links.now).0
+    (sym c.are_legal.ensures ∙ c.if-not-are_legal.false)
 
 pub returns-clause-bad_role : goal.returns-clause-bad_role
 returns-clause-bad_role c =

@@ -12,7 +12,8 @@ fetch_add-seat-requires c =
     let key = board.table.shared.key in (
       c.requires,
       omega arith,
-      count_allowed key.studies key.seats board.table.shared.table_id.slots seat.token.id c.count_place.result c.args.study c.args.n seat.token.me c.count_place.ensures (omega arith) seat.one_part (omega arith),
+      count_allowed key.studies key.seats board.table.shared.table_id.slots seat.token.id c.count_place.result
+          c.args.study c.args.n seat.token.me c.count_place.ensures (omega arith) seat.one_part (omega arith),
     )
 
 pub invariant_of-seat : goal.invariant_of-seat

@@ -11,13 +11,15 @@ fetch_add-number-requires c =
     let key = board.table.shared.key in (
       c.requires,
       omega arith,
-      draw_allowed key.studies key.seats board.table.shared.table_id.slots seat.token.id c.draw_place.result c.args.study seat.token.me c.draw_place.ensures (omega arith) seat.one_part (omega arith),
+      draw_allowed key.studies key.seats board.table.shared.table_id.slots seat.token.id c.draw_place.result
+          c.args.study seat.token.me c.draw_place.ensures (omega arith) seat.one_part (omega arith),
     )
 
 pub invariant_of-seat : goal.invariant_of-seat
 invariant_of-seat c =
     let seat = c.args.seat.now in
-    let then : c.fetch_add-number.new.seat.me.0 ≡ drew seat.token.me.0 c.args.study c.fetch_add-number.result = (c.fetch_add-number.ensures.2.1 c.args.study c.draw_place.ensures).0 in
+    let then : c.fetch_add-number.new.seat.me.0 ≡ drew seat.token.me.0 c.args.study c.fetch_add-number.result =
+    (c.fetch_add-number.ensures.2.1 c.args.study c.draw_place.ensures).0 in
     record {
       one_part = ap (λ (v : View). v.parts) then ∙ seat.one_part;
       no_slot = c.fetch_add-number.ensures.2.0 ∙ seat.no_slot;

@@ -12,7 +12,8 @@ join_seat-requires c =
     let key = c.args.self.now.table.shared.key in
     let seat = c.in-Some-pop.seat in
     let own = All-pop
-    (λ (s : Seat). board_of s ≡ board_id c.args.self.now) c.loop-seat.seats.items c.pop-in-loop-seat.new.self.items (Some seat) c.in-Some-pop.ensures.items c.loop-seat.invariant.each_own in (
+    (λ (s : Seat). board_of s ≡ board_id c.args.self.now) c.loop-seat.seats.items c.pop-in-loop-seat.new.self.items
+    (Some seat) c.in-Some-pop.ensures.items c.loop-seat.invariant.each_own in (
       c.loop-seat.invariant.own,
       own.1,
       seat.no_slot,
@@ -25,7 +26,8 @@ loop-seat-preserved c =
     let seat = c.in-Some-pop.seat in
     let taken = c.loop-seat.invariant.gathered in
     let own = All-pop
-    (λ (s : Seat). board_of s ≡ board_id c.args.self.now) c.loop-seat.seats.items c.pop-in-loop-seat.new.self.items (Some seat) c.in-Some-pop.ensures.items c.loop-seat.invariant.each_own in
+    (λ (s : Seat). board_of s ≡ board_id c.args.self.now) c.loop-seat.seats.items c.pop-in-loop-seat.new.self.items
+    (Some seat) c.in-Some-pop.ensures.items c.loop-seat.invariant.each_own in
     let me = c.join_seat.ensures.2 in
     record {
       own = c.join_seat.ensures.0 ∙ c.loop-seat.invariant.own;

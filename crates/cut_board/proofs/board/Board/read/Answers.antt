@@ -12,7 +12,8 @@ load-requires c =
     let key = board.table.shared.key in (
       c.requires,
       omega arith,
-      read_allowed key.studies key.seats board.table.shared.table_id.slots seat.token.id c.count_place.result c.args.study seat.token.me c.count_place.ensures (omega arith),
+      read_allowed key.studies key.seats board.table.shared.table_id.slots seat.token.id c.count_place.result
+          c.args.study seat.token.me c.count_place.ensures (omega arith),
     )
 
 pub invariant_of-seat : goal.invariant_of-seat
@@ -31,10 +32,10 @@ invariant_of-seat c =
 pub returns-clause-seen : goal.returns-clause-seen
 returns-clause-seen c =
     let old = c.args.seat.now.token.me.0 in
-    let told = c.load.ensures.2.1 c.args.study c.count_place.ensures in
+    let reported = c.load.ensures.2.1 c.args.study c.count_place.ensures in
     let then : seen_in c.args.study c.load.new.seat.me.0 ≡ seen_in c.args.study
-    (read old c.args.study c.load.result) = ap (seen_in c.args.study) told.0 in
-    let rises : seen_in c.args.study old ≤ c.load.result = told.1 in
+    (read old c.args.study c.load.result) = ap (seen_in c.args.study) reported.0 in
+    let rises : seen_in c.args.study old ≤ c.load.result = reported.1 in
     let more = log_greatest c.args.study c.args.study c.load.result old.read refl in
     omega arith
 

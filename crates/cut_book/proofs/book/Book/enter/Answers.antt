@@ -3,16 +3,17 @@ use Rattle.cut_plan.specs.Values.{Values}
 use Rattle.cut_trial.specs.declared.piece.Piece.{Piece}
 use Rattle.cut_ledger.specs.Account.{Account, has_room}
 use Rattle.cut_ledger.specs.Contents.{Contents, cell_of_piece, with_piece}
-use Rattle.cut_ledger.specs.Machine.{State, after, slip_of}
+use Rattle.cut_ledger.specs.Machine.{StudyState, after, slip_of}
 use Rattle.cut_ledger.specs.Refusals.{is_same_plan}
 use Rattle.cut_book.specs.declared.call.Answer.TheVariants.{Accepted, DiskFails}
 use Rattle.cut_book.specs.declared.call.Call.{Call}
 use Rattle.cut_book.specs.declared.call.Call.TheVariants.{HandIn}
 use Rattle.cut_book.specs.History.{IsStep, event_of}
-use Rattle.cut_book.specs.Book.{Answers, Progress, hand_in_of, progress_in, refusal_in, state_in}
+use Rattle.cut_book.specs.Book.{GivesAnswer, BookValue, hand_in_of, book_value_in, refusal_in, state_in}
 use Rattle.cut_book.proofs.Legal.{Noted, legal_on, noted}
 use Rattle.cut_book.proofs.Refused.{IsFree, free}
-use Rattle.cut_book.proofs.Entered.{accepted_answer, accepted_book, accepted_hands, entered_step, failed_answer, failed_book, failed_journal}
+use Rattle.cut_book.proofs.Entered.{accepted_answer, accepted_book, accepted_hands, entered_step, failed_answer}
+use Rattle.cut_book.proofs.Entered.{failed_book, failed_journal}
 use Rattle.cut_book.proofs.book.Book.enter.Goals as goal
 
 ok_holds : {T E P : Type 0} (r : Result T E) → IsOk r → OnOk r P → P
@@ -21,71 +22,115 @@ ok_holds (Err e) ok holds = absurd (let no : ⊥ = cc in no)
 
 pub push-requires-clause-legal : goal.push-requires-clause-legal
 push-requires-clause-legal g c =
-    let s : State = state_in c.self.inside.ledger.contents c.self.inside.journal c.self.inside.division c.self.inside.lost c.self.inside.history c.self.inside.broken in
-    let fit : IsFree s c.args.offered.now = free s c.args.offered.now (ap (λ (p : Progress _). refusal_in p.state c.args.offered.now) c.self.view_is ∙ c.requires.free) in
+    let s : StudyState = state_in c.self.inside.ledger.contents c.self.inside.journal c.self.inside.division
+    c.self.inside.lost c.self.inside.history c.self.inside.broken in
+    let fit : IsFree s c.args.offered.now = free s c.args.offered.now
+    (ap (λ (p : BookValue _). refusal_in p.state c.args.offered.now) c.self.view_is ∙ c.requires.free) in
     let called : c.call_of-call.result ≡ hand_in_of s c.args.offered.now Accepted =
-    c.call_of-call.ensures.call ∙ ap (λ (v : Values). HandIn (slip_of c.args.offered.now) (is_same_plan v c.args.offered.now.plan) Accepted) (c.plan-in-Ok.ensures.value ∙ ap (λ (a : Account). a.contents.plan) c.in_ok-reserve-2.ensures.ok) in
-    legal_on c.call_of-call.result c.self.inside.history c.reserve.new.self s _ c.reserve.ensures.opening c.reserve.ensures.calls c.self.invariant.legal
+    c.call_of-call.ensures.call ∙ ap (λ (v : Values). HandIn (slip_of c.args.offered.now)
+    (is_same_plan v c.args.offered.now.plan) Accepted)
+    (c.plan-in-Ok.ensures.value ∙ ap (λ (a : Account). a.contents.plan) c.in_ok-reserve-2.ensures.ok) in
+    legal_on c.call_of-call.result c.self.inside.history c.reserve.new.self s _ c.reserve.ensures.opening
+    c.reserve.ensures.calls c.self.invariant.legal
     (subst (λ (k : Call). IsStep s k (after s (event_of Accepted c.args.offered.now))) (sym called)
-    (entered_step s c.args.offered.now Accepted (c.call_of-call.ensures.plan, c.call_of-call.ensures.piece) (accepted_answer s c.args.offered.now fit)))
+    (entered_step s c.args.offered.now Accepted (c.call_of-call.ensures.plan, c.call_of-call.ensures.piece)
+    (accepted_answer s c.args.offered.now fit)))
 
 pub push-requires-in-Err-clause-legal : goal.push-requires-in-Err-clause-legal
 push-requires-in-Err-clause-legal g c =
-    let s : State = state_in c.self.inside.ledger.contents c.self.inside.journal c.self.inside.division c.self.inside.lost c.self.inside.history c.self.inside.broken in
-    let fit : IsFree s c.args.offered.now = free s c.args.offered.now (ap (λ (p : Progress _). refusal_in p.state c.args.offered.now) c.self.view_is ∙ c.requires.free) in
+    let s : StudyState = state_in c.self.inside.ledger.contents c.self.inside.journal c.self.inside.division
+    c.self.inside.lost c.self.inside.history c.self.inside.broken in
+    let fit : IsFree s c.args.offered.now = free s c.args.offered.now
+    (ap (λ (p : BookValue _). refusal_in p.state c.args.offered.now) c.self.view_is ∙ c.requires.free) in
     let called : c.call_of-call-in-Err.result ≡ hand_in_of s c.args.offered.now DiskFails =
-    c.call_of-call-in-Err.ensures.call ∙ ap (λ (v : Values). HandIn (slip_of c.args.offered.now) (is_same_plan v c.args.offered.now.plan) DiskFails) (c.plan-in-Err.ensures.value ∙ ap (λ (a : Account). a.contents.plan) c.in_ok-reserve-2.ensures.ok) in
-    let both = failed_journal (slip_of c.args.offered.now) s.ledger.plan c.self.inside.journal c.append.new.journal c.in-Err.ensures.journal c.self.invariant.of_plan in
-    legal_on c.call_of-call-in-Err.result c.self.inside.history c.reserve.new.self s _ c.reserve.ensures.opening c.reserve.ensures.calls c.self.invariant.legal
+    c.call_of-call-in-Err.ensures.call ∙ ap (λ (v : Values). HandIn (slip_of c.args.offered.now)
+    (is_same_plan v c.args.offered.now.plan) DiskFails)
+    (c.plan-in-Err.ensures.value ∙ ap (λ (a : Account). a.contents.plan) c.in_ok-reserve-2.ensures.ok) in
+    let both = failed_journal (slip_of c.args.offered.now) s.ledger.plan c.self.inside.journal c.append.new.journal
+    c.in-Err.ensures.journal c.self.invariant.of_plan in
+    legal_on c.call_of-call-in-Err.result c.self.inside.history c.reserve.new.self s _ c.reserve.ensures.opening
+    c.reserve.ensures.calls c.self.invariant.legal
     (subst (λ (k : Call). IsStep s k (after s (event_of DiskFails c.args.offered.now))) (sym called)
-    (entered_step s c.args.offered.now DiskFails (c.call_of-call-in-Err.ensures.plan, c.call_of-call-in-Err.ensures.piece) (failed_answer s c.args.offered.now fit (c.self.invariant.has_journal ∙ both.1))))
+    (entered_step s c.args.offered.now DiskFails (
+      c.call_of-call-in-Err.ensures.plan,
+      c.call_of-call-in-Err.ensures.piece,
+    ) (failed_answer s c.args.offered.now fit
+    (c.self.invariant.has_journal ∙ both.1))))
 
 pub invariant_of-self-in-Err : goal.invariant_of-self-in-Err
 invariant_of-self-in-Err g c =
-    let s : State = state_in c.self.inside.ledger.contents c.self.inside.journal c.self.inside.division c.self.inside.lost c.self.inside.history c.self.inside.broken in
-    let fit : IsFree s c.args.offered.now = free s c.args.offered.now (ap (λ (p : Progress _). refusal_in p.state c.args.offered.now) c.self.view_is ∙ c.requires.free) in
+    let s : StudyState = state_in c.self.inside.ledger.contents c.self.inside.journal c.self.inside.division
+    c.self.inside.lost c.self.inside.history c.self.inside.broken in
+    let fit : IsFree s c.args.offered.now = free s c.args.offered.now
+    (ap (λ (p : BookValue _). refusal_in p.state c.args.offered.now) c.self.view_is ∙ c.requires.free) in
     let called : c.call_of-call-in-Err.result ≡ hand_in_of s c.args.offered.now DiskFails =
-    c.call_of-call-in-Err.ensures.call ∙ ap (λ (v : Values). HandIn (slip_of c.args.offered.now) (is_same_plan v c.args.offered.now.plan) DiskFails) (c.plan-in-Err.ensures.value ∙ ap (λ (a : Account). a.contents.plan) c.in_ok-reserve-2.ensures.ok) in
+    c.call_of-call-in-Err.ensures.call ∙ ap (λ (v : Values). HandIn (slip_of c.args.offered.now)
+    (is_same_plan v c.args.offered.now.plan) DiskFails)
+    (c.plan-in-Err.ensures.value ∙ ap (λ (a : Account). a.contents.plan) c.in_ok-reserve-2.ensures.ok) in
     let is : Noted c.call_of-call-in-Err.result c.self.inside.history c.push-in-Err.new.self =
-    noted c.call_of-call-in-Err.result c.self.inside.history c.reserve.new.self c.push-in-Err.new.self c.reserve.ensures.opening c.reserve.ensures.calls c.push-in-Err.ensures.opening c.push-in-Err.ensures.calls in
-    failed_book g.D.Disk.is_honest g.D.Disk.state g.D.Disk.faults c.self.inside.journal c.append.new.journal c.self.inside.ledger.contents _ _ c.self.inside.broken c.args.offered.now c.call_of-call-in-Err.result
-    c.self.inside.history c.push-in-Err.new.self _ _ c.self.invariant is (omega (arith, c.reserve.ensures.room, c.push-in-Err.ensures.room, c.self.invariant.room)) fit
-    (c.call_of-call-in-Err.ensures.plan, c.call_of-call-in-Err.ensures.piece) c.reserve-2.new.self.contents (ap (λ (a : Account). a.contents) c.in_ok-reserve-2.ensures.ok) called
+    noted c.call_of-call-in-Err.result c.self.inside.history c.reserve.new.self c.push-in-Err.new.self
+    c.reserve.ensures.opening c.reserve.ensures.calls c.push-in-Err.ensures.opening c.push-in-Err.ensures.calls in
+    failed_book g.D.Disk.is_honest g.D.Disk.state g.D.Disk.faults c.self.inside.journal c.append.new.journal
+    c.self.inside.ledger.contents _ _ c.self.inside.broken c.args.offered.now c.call_of-call-in-Err.result
+    c.self.inside.history c.push-in-Err.new.self _ _ c.self.invariant is
+    (omega (arith, c.reserve.ensures.room, c.push-in-Err.ensures.room, c.self.invariant.room)) fit
+    (c.call_of-call-in-Err.ensures.plan, c.call_of-call-in-Err.ensures.piece) c.reserve-2.new.self.contents
+    (ap (λ (a : Account). a.contents) c.in_ok-reserve-2.ensures.ok) called
     c.in-Err.ensures.journal c.in-Err.ensures.follows c.in-Err.ensures.faults
 
 -- the piece was entered, since there was room for it
-held : (g : _) (c : goal.After-take g) → c.take.new.self.contents ≡ with_piece c.self.inside.ledger.contents c.args.offered.now.piece
+held : (g : _) (c : goal.After-take g) → c.take.new.self.contents
+    ≡ with_piece c.self.inside.ledger.contents c.args.offered.now.piece
 held g c =
-    let same : c.reserve-2.new.self.contents ≡ c.self.inside.ledger.contents = ap (λ (a : Account). a.contents) c.in_ok-reserve-2.ensures.ok in
+    let same : c.reserve-2.new.self.contents ≡ c.self.inside.ledger.contents = ap (λ (a : Account). a.contents)
+    c.in_ok-reserve-2.ensures.ok in
     let cell : c.cell_of-cell.result ≡ cell_of_piece c.reserve-2.new.self.contents c.args.offered.now.piece =
     c.cell_of-cell.ensures.value ∙ ap (λ (p : Piece). p.first / c.plan.result.now.repeats) c.piece.ensures.value
-    ∙ ap (λ (v : Values). c.args.offered.now.piece.first / v.repeats) (c.plan.ensures.value ∙ sym (ap (λ (l : Contents). l.plan) same)) in
-    ok_holds c.take.result (c.take.ensures.room (subst (λ (n : ℕ). IsTrue (has_room c.reserve-2.new.self n)) cell c.in_ok-reserve-2.ensures.room)) c.take.ensures.ok
+    ∙ ap (λ (v : Values). c.args.offered.now.piece.first / v.repeats)
+    (c.plan.ensures.value ∙ sym (ap (λ (l : Contents). l.plan) same)) in
+    ok_holds c.take.result (c.take.ensures.room (subst (λ (n : ℕ). IsTrue (has_room c.reserve-2.new.self n)) cell
+    c.in_ok-reserve-2.ensures.room)) c.take.ensures.ok
     ∙ ap (λ (l : Contents). with_piece l c.args.offered.now.piece) same
 
 pub invariant_of-self-in-Ok : goal.invariant_of-self-in-Ok
 invariant_of-self-in-Ok g c =
-    let s : State = state_in c.self.inside.ledger.contents c.self.inside.journal c.self.inside.division c.self.inside.lost c.self.inside.history c.self.inside.broken in
-    let fit : IsFree s c.args.offered.now = free s c.args.offered.now (ap (λ (p : Progress _). refusal_in p.state c.args.offered.now) c.self.view_is ∙ c.requires.free) in
+    let s : StudyState = state_in c.self.inside.ledger.contents c.self.inside.journal c.self.inside.division
+    c.self.inside.lost c.self.inside.history c.self.inside.broken in
+    let fit : IsFree s c.args.offered.now = free s c.args.offered.now
+    (ap (λ (p : BookValue _). refusal_in p.state c.args.offered.now) c.self.view_is ∙ c.requires.free) in
     let called : c.call_of-call.result ≡ hand_in_of s c.args.offered.now Accepted =
-    c.call_of-call.ensures.call ∙ ap (λ (v : Values). HandIn (slip_of c.args.offered.now) (is_same_plan v c.args.offered.now.plan) Accepted) (c.plan-in-Ok.ensures.value ∙ ap (λ (a : Account). a.contents.plan) c.in_ok-reserve-2.ensures.ok) in
+    c.call_of-call.ensures.call ∙ ap (λ (v : Values). HandIn (slip_of c.args.offered.now)
+    (is_same_plan v c.args.offered.now.plan) Accepted)
+    (c.plan-in-Ok.ensures.value ∙ ap (λ (a : Account). a.contents.plan) c.in_ok-reserve-2.ensures.ok) in
     let is : Noted c.call_of-call.result c.self.inside.history c.push.new.self =
-    noted c.call_of-call.result c.self.inside.history c.reserve.new.self c.push.new.self c.reserve.ensures.opening c.reserve.ensures.calls c.push.ensures.opening c.push.ensures.calls in
-    accepted_book g.D.Disk.is_honest g.D.Disk.state g.D.Disk.faults c.self.inside.journal c.append.new.journal c.self.inside.ledger.contents _ _ c.self.inside.broken c.args.offered.now c.call_of-call.result
-    c.self.inside.history c.push.new.self _ _ c.self.invariant is (omega (arith, c.reserve.ensures.room, c.push.ensures.room, c.self.invariant.room)) fit
+    noted c.call_of-call.result c.self.inside.history c.reserve.new.self c.push.new.self c.reserve.ensures.opening
+    c.reserve.ensures.calls c.push.ensures.opening c.push.ensures.calls in
+    accepted_book g.D.Disk.is_honest g.D.Disk.state g.D.Disk.faults c.self.inside.journal c.append.new.journal
+    c.self.inside.ledger.contents _ _ c.self.inside.broken c.args.offered.now c.call_of-call.result
+    c.self.inside.history c.push.new.self _ _ c.self.invariant is
+    (omega (arith, c.reserve.ensures.room, c.push.ensures.room, c.self.invariant.room)) fit
     (c.call_of-call.ensures.plan, c.call_of-call.ensures.piece) c.take.new.self.contents (held g c) called
     c.in-Ok.ensures.journal c.in-Ok.ensures.follows c.in-Ok.ensures.faults
 
 pub returns-in-Ok-clause-answer : goal.returns-in-Ok-clause-answer
 returns-in-Ok-clause-answer g c =
-    let s : State = state_in c.self.inside.ledger.contents c.self.inside.journal c.self.inside.division c.self.inside.lost c.self.inside.history c.self.inside.broken in
-    let fit : IsFree s c.args.offered.now = free s c.args.offered.now (ap (λ (p : Progress _). refusal_in p.state c.args.offered.now) c.self.view_is ∙ c.requires.free) in
+    let s : StudyState = state_in c.self.inside.ledger.contents c.self.inside.journal c.self.inside.division
+    c.self.inside.lost c.self.inside.history c.self.inside.broken in
+    let fit : IsFree s c.args.offered.now = free s c.args.offered.now
+    (ap (λ (p : BookValue _). refusal_in p.state c.args.offered.now) c.self.view_is ∙ c.requires.free) in
     let called : c.call_of-call.result ≡ hand_in_of s c.args.offered.now Accepted =
-    c.call_of-call.ensures.call ∙ ap (λ (v : Values). HandIn (slip_of c.args.offered.now) (is_same_plan v c.args.offered.now.plan) Accepted) (c.plan-in-Ok.ensures.value ∙ ap (λ (a : Account). a.contents.plan) c.in_ok-reserve-2.ensures.ok) in
+    c.call_of-call.ensures.call ∙ ap (λ (v : Values). HandIn (slip_of c.args.offered.now)
+    (is_same_plan v c.args.offered.now.plan) Accepted)
+    (c.plan-in-Ok.ensures.value ∙ ap (λ (a : Account). a.contents.plan) c.in_ok-reserve-2.ensures.ok) in
     let is : Noted c.call_of-call.result c.self.inside.history c.push.new.self =
-    noted c.call_of-call.result c.self.inside.history c.reserve.new.self c.push.new.self c.reserve.ensures.opening c.reserve.ensures.calls c.push.ensures.opening c.push.ensures.calls in
-    subst (λ (p : Progress _). Answers Accepted c.args.offered.now p
-    (progress_in c.append.new.journal (state_in c.take.new.self.contents c.append.new.journal c.self.inside.division c.self.inside.lost c.push.new.self c.self.inside.broken) c.push.new.self c.self.inside.failed)) c.self.view_is
-    (accepted_hands g.D.Disk.is_honest g.D.Disk.state g.D.Disk.faults c.self.inside.journal c.append.new.journal c.self.inside.ledger.contents _ _ c.self.inside.broken c.args.offered.now c.call_of-call.result
-    c.self.inside.history c.push.new.self _ _ c.self.invariant is (omega (arith, c.reserve.ensures.room, c.push.ensures.room, c.self.invariant.room)) fit
-    (c.call_of-call.ensures.plan, c.call_of-call.ensures.piece) c.take.new.self.contents (held g c) called c.in-Ok.ensures.journal)
+    noted c.call_of-call.result c.self.inside.history c.reserve.new.self c.push.new.self c.reserve.ensures.opening
+    c.reserve.ensures.calls c.push.ensures.opening c.push.ensures.calls in
+    subst (λ (p : BookValue _). GivesAnswer Accepted c.args.offered.now p
+    (book_value_in c.append.new.journal (state_in c.take.new.self.contents c.append.new.journal c.self.inside.division
+    c.self.inside.lost c.push.new.self c.self.inside.broken) c.push.new.self c.self.inside.failed)) c.self.view_is
+    (accepted_hands g.D.Disk.is_honest g.D.Disk.state g.D.Disk.faults c.self.inside.journal c.append.new.journal
+    c.self.inside.ledger.contents _ _ c.self.inside.broken c.args.offered.now c.call_of-call.result
+    c.self.inside.history c.push.new.self _ _ c.self.invariant is
+    (omega (arith, c.reserve.ensures.room, c.push.ensures.room, c.self.invariant.room)) fit
+    (c.call_of-call.ensures.plan, c.call_of-call.ensures.piece) c.take.new.self.contents (held g c) called
+    c.in-Ok.ensures.journal)

@@ -1,12 +1,14 @@
 use Rattle.std.proofs.Common.{subst}
 use Rattle.cut_ledger.specs.declared.event.Event.TheVariants.{HandInDiskFails}
 use Rattle.cut_ledger.specs.Machine.{after}
-use Rattle.cut_book.specs.Book.{Progress, LeavesResumed}
+use Rattle.cut_book.specs.Book.{BookValue, LeavesResumed}
 use Rattle.cut_book.proofs.Resumed.{resumable}
 use Rattle.cut_book.proofs.book.Book.is_resumable.Goals as goal
 
 pub returns-in-Some : goal.returns-in-Some
 returns-in-Some g c =
-    subst (λ (p : Progress _). LeavesResumed g.D.Disk.is_honest g.D.Disk.state p.journal p.journal (after p.state (HandInDiskFails c.args.offered.now))) c.self.view_is
-    (resumable g.D.Disk.is_honest g.D.Disk.state c.self.inside.journal c.in-Some.journal _ c.args.offered.now c.crashes_are_resumptions.ensures.between
+    subst (λ (p : BookValue _). LeavesResumed g.D.Disk.is_honest g.D.Disk.state p.journal p.journal
+    (after p.state (HandInDiskFails c.args.offered.now))) c.self.view_is
+    (resumable g.D.Disk.is_honest g.D.Disk.state c.self.inside.journal c.in-Some.journal _ c.args.offered.now
+    c.crashes_are_resumptions.ensures.between
     c.crashes_are_resumptions.ensures.within c.in-Some.is c.disk.ensures.sound c.self.invariant.followed)

@@ -2,26 +2,31 @@ use Rattle.std.proofs.Common.{◌≡◌, ◌∙◌, ◌-◌, ◌++◌, [], List,
 use Rattle.std.proofs.lemmas.List.{drop_all, length-drop, take_all}
 use Rattle.cut_book.specs.declared.call.Call.{Call}
 use Rattle.cut_book.specs.declared.history.Entry.{Entry}
-use Rattle.cut_book.specs.History.{Course}
+use Rattle.cut_book.specs.History.{HistoryValue}
 use Rattle.cut_book.specs.HistoryInside.{AreInOrder, calls_from, lost_call}
 use Rattle.cut_book.proofs.Merged.{bounds_at, next_calls, no_entry, within}
 use Rattle.cut_book.proofs.history.History.calls.Goals as goal
 
 pub offset_bounds-losses-listed : goal.offset_bounds-losses-listed
 offset_bounds-losses-listed c =
-    let most = within c.loop-entry.listed (length c.as_slice-losses.result.now) (drop c.loop-entry.entry-index c.deref-entry-items.result.now) c.loop-entry.invariant.order in
+    let most = within c.loop-entry.listed (length c.as_slice-losses.result.now)
+    (drop c.loop-entry.entry-index c.deref-entry-items.result.now) c.loop-entry.invariant.order in
     omega (arith, most, c.as_slice-losses.type_inv)
 
 pub slice_bounds-push_losses-end : goal.slice_bounds-push_losses-end
 slice_bounds-push_losses-end c =
-    let most = (bounds_at c.loop-entry.listed (length c.as_slice-losses.result.now) c.deref-entry-items.result.now c.loop-entry.entry-index no_entry c.loop-entry-test.true c.loop-entry.invariant.order).most in
+    let most = (bounds_at c.loop-entry.listed (length c.as_slice-losses.result.now) c.deref-entry-items.result.now
+    c.loop-entry.entry-index no_entry c.loop-entry-test.true c.loop-entry.invariant.order).most in
     omega (arith, most)
 
 pub loop-entry-init : goal.loop-entry-init
 loop-entry-init c = record {
-  all = ap (λ (cs : List Call). cs ++ calls_from 0 c.deref-entry-items.result.now c.as_slice-losses.result.now) c.new-calls.ensures.items;
-  order = subst (λ (es : List Entry). AreInOrder 0 es (length c.as_slice-losses.result.now)) (sym c.deref-entry-items.ensures.value)
-      (subst (λ (ls : List ℕ). AreInOrder 0 c.self.inside.entries.items (length ls)) (sym c.as_slice-losses.ensures.value) c.self.invariant.order);
+  all = ap (λ (cs : List Call). cs ++ calls_from 0 c.deref-entry-items.result.now c.as_slice-losses.result.now)
+      c.new-calls.ensures.items;
+  order = subst (λ (es : List Entry). AreInOrder 0 es (length c.as_slice-losses.result.now))
+      (sym c.deref-entry-items.ensures.value)
+      (subst (λ (ls : List ℕ). AreInOrder 0 c.self.inside.entries.items (length ls))
+      (sym c.as_slice-losses.ensures.value) c.self.invariant.order);
 }
 
 pub loop-entry-preserved : goal.loop-entry-preserved
@@ -30,8 +35,10 @@ loop-entry-preserved c =
     let i : ℕ = c.loop-entry.entry-index in
     let ls : List ℕ = c.as_slice-losses.result.now in
     record {
-      all = next_calls c.loop-entry.listed es i _ ls c.loop-entry.calls.items c.push_losses.new.calls.items _ _ c.loop-entry-test.true c.loop-entry.invariant.all c.in_ok-push_losses.ensures c.in_ok-push.ensures.items;
-      order = (bounds_at c.loop-entry.listed (length ls) es i _ c.loop-entry-test.true c.loop-entry.invariant.order).rest;
+      all = next_calls c.loop-entry.listed es i _ ls c.loop-entry.calls.items c.push_losses.new.calls.items _ _
+          c.loop-entry-test.true c.loop-entry.invariant.all c.in_ok-push_losses.ensures c.in_ok-push.ensures.items;
+      order = (bounds_at c.loop-entry.listed (length ls) es i _ c.loop-entry-test.true
+          c.loop-entry.invariant.order).rest;
     }
 
 pub returns-clause-calls : goal.returns-clause-calls
@@ -42,9 +49,10 @@ returns-clause-calls c =
     let olds : List Call = c.loop-entry.calls.items in
     let left : drop c.loop-entry.entry-index es ≡ [] = drop_all c.loop-entry.entry-index es c.loop-entry-test.false in
     c.in_ok-push_losses-2.ensures
-    ∙ ap (λ (xs : List ℕ). olds ++ map lost_call xs) (take_all (length ls - listed) (drop listed ls) (omega (arith, length-drop listed ls)))
+    ∙ ap (λ (xs : List ℕ). olds ++ map lost_call xs)
+    (take_all (length ls - listed) (drop listed ls) (omega (arith, length-drop listed ls)))
     ∙ ap (λ (xs : List Entry). olds ++ calls_from listed xs ls) (sym left)
     ∙ c.loop-entry.invariant.all
     ∙ ap (λ (xs : List Entry). calls_from 0 xs ls) c.deref-entry-items.ensures.value
     ∙ ap (λ (xs : List ℕ). calls_from 0 c.self.inside.entries.items xs) c.as_slice-losses.ensures.value
-    ∙ ap (λ (h : Course). h.calls) c.self.view_is
+    ∙ ap (λ (h : HistoryValue). h.calls) c.self.view_is

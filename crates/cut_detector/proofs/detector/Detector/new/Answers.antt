@@ -1,19 +1,27 @@
 -- What is made has no reported edge.
 use Rattle.std.proofs.Common.{[], ap, sym, subst, refl, arith}
 use Rattle.cut_detector.proofs.Words.{HasDelivered, Inside, rule_in, rule_of}
-use Rattle.cut_detector.proofs.History.{IsEmpty, IsSound-empty, is_fresh, fresh-delivered}
+use Rattle.cut_detector.proofs.History.{IsEmpty, IsDetector-empty, is_fresh, fresh-delivered}
 use Rattle.cut_detector.proofs.detector.Detector.new.Goals as goal
 
 made : goal.In_ok-reports → Inside
 made c = record { reports = c.in_ok-reports.reports; deliveries = 0; members = c.in_ok-members.members }
 
-empty : (c : goal.In_ok-reports) → IsEmpty (made c) c.args.rings.now (rule_of c.args.k c.args.h c.args.l c.args.implicit)
+empty : (c : goal.In_ok-reports) → IsEmpty (made c) c.args.rings.now
+    (rule_of c.args.k c.args.h c.args.l c.args.implicit)
 unfolding made
-empty c = record { layout = c.in_ok-reports.ensures.rings; rule = ap rule_in c.in_ok-reports.ensures.rule; reported = c.in_ok-reports.ensures.reported; deliveries = refl }
+empty c = record {
+  layout = c.in_ok-reports.ensures.rings;
+  rule = ap rule_in c.in_ok-reports.ensures.rule;
+  reported =
+      c.in_ok-reports.ensures.reported;
+  deliveries = refl;
+}
 
 pub invariant_of-result : goal.invariant_of-result
 unfolding made
-invariant_of-result c = IsSound-empty (made c) _ _ (empty c) (omega (arith, c.in_ok-members.ensures.exact, ap (λ r. r.nodes) c.in_ok-reports.ensures.rings))
+invariant_of-result c = IsDetector-empty (made c) _ _ (empty c)
+    (omega (arith, c.in_ok-members.ensures.exact, ap (λ r. r.nodes) c.in_ok-reports.ensures.rings))
 
 pub returns-clause-made : goal.returns-clause-made
 unfolding made

@@ -1,7 +1,7 @@
 -- What is left has no reported edge.
 use Rattle.std.proofs.Common.{[], replicate, ap, sym, subst, ◌∙◌, refl, arith}
 use Rattle.cut_detector.proofs.Words.{HasDelivered, Inside, rule_in}
-use Rattle.cut_detector.proofs.History.{IsEmpty, IsSound-empty, is_fresh, fresh-delivered}
+use Rattle.cut_detector.proofs.History.{IsEmpty, IsDetector-empty, is_fresh, fresh-delivered}
 use Rattle.cut_detector.proofs.detector.Detector.reset.Goals as goal
 
 left : goal.After-self-1 → Inside
@@ -18,7 +18,8 @@ empty c = record {
 
 pub invariant_of-self : goal.invariant_of-self
 unfolding left
-invariant_of-self c = IsSound-empty (left c) _ _ (empty c) (omega (arith, c.self.invariant.room, ap (λ r. r.nodes) c.clear.ensures.rings))
+invariant_of-self c = IsDetector-empty (left c) _ _ (empty c)
+    (omega (arith, c.self.invariant.room, ap (λ r. r.nodes) c.clear.ensures.rings))
 
 pub returns-clause-fresh : goal.returns-clause-fresh
 unfolding left

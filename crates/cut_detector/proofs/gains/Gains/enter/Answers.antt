@@ -1,7 +1,9 @@
 -- Without implicit alerts nothing is gained. With them one ring more, and at the end all rings.
 use Rattle.std.proofs.Common.{◌≡◌, ◌<◌, ◌||◌, ◌&&◌, length, cond, refl, ap, sym, ◌∙◌, arith}
-use Rattle.cut_detector.proofs.Words.{and_right, edges_in, eq-eqb, eqb-true, is_gained, is_near, is_reported, lt-ltb, observer_of, or-false, reported_in, rule_of_gains, with_edge}
-use Rattle.cut_detector.proofs.Neighbours.{with_gains-more, length-added, observer_of-is, gained_off, gained_own, gained_theirs}
+use Rattle.cut_detector.proofs.Words.{and_right, edges_in, eq-eqb, eqb-true, is_gained, is_near, is_reported, lt-ltb}
+use Rattle.cut_detector.proofs.Words.{observer_of, or-false, reported_in, rule_of_gains, with_edge}
+use Rattle.cut_detector.proofs.Neighbours.{with_gains-more, length-added, observer_of-is, gained_off, gained_own}
+use Rattle.cut_detector.proofs.Neighbours.{gained_theirs}
 use Rattle.cut_detector.proofs.gains.Gains.enter.Goals as goal
 
 pub returns-then-not-self-clause-full : goal.returns-then-not-self-clause-full
@@ -10,7 +12,8 @@ returns-then-not-self-clause-full c =
     record {
       full = λ ring p _ _.
           sym (or-false (edges_in c.args.tally.now.full.masks.items ring p))
-          ∙ ap (λ b. edges_in c.args.tally.now.full.masks.items ring p || b) (sym (and_right (is_near g.rings.now c.args.process ring p) _ (gained_off _ _ _ c.if-not-self.true)));
+          ∙ ap (λ b. edges_in c.args.tally.now.full.masks.items ring p || b)
+          (sym (and_right (is_near g.rings.now c.args.process ring p) _ (gained_off _ _ _ c.if-not-self.true)));
     }
 
 pub loop-ring-preserved : goal.loop-ring-preserved
@@ -25,21 +28,39 @@ loop-ring-preserved c =
     let before = c.loop-ring.tally.full.masks.items in
     let mid = c.gain.new.tally.full.masks.items in
     let after = c.gain-in-loop-ring.new.tally.full.masks.items in
-    let wide : length before ≡ r.nodes = omega (arith, c.loop-ring.tally.full.masks.ok.0, c.loop-ring.invariant.long, c.requires.long) in
-    let same : length after ≡ length before = ap length c.gain-in-loop-ring.ensures.full ∙ length-added _ _ _ ∙ ap length c.gain.ensures.full ∙ length-added _ _ _ in
-    let observer : observer_of r i u ≡ s = eqb-true _ _ (observer_of-is r g.layout i s u u low c.requires.process c.subject-subject.ensures.in_range c.subject-subject.ensures.in_range c.subject-subject.ensures.observes ∙ eq-eqb u u refl) in
+    let wide : length before ≡ r.nodes = omega (
+      arith,
+      c.loop-ring.tally.full.masks.ok.0,
+      c.loop-ring.invariant.long,
+      c.requires.long,
+    ) in
+    let same : length after ≡ length before = ap length c.gain-in-loop-ring.ensures.full ∙ length-added _ _ _
+    ∙ ap length c.gain.ensures.full ∙ length-added _ _ _ in
+    let observer : observer_of r i u ≡ s = eqb-true _ _
+    (observer_of-is r g.layout i s u u low c.requires.process c.subject-subject.ensures.in_range
+    c.subject-subject.ensures.in_range c.subject-subject.ensures.observes ∙ eq-eqb u u refl) in
     let own : is_gained r rule (reported_in g) i s ≡ is_reported rule (reported_in g) c.observer-observer.result =
-    gained_own _ _ _ c.if-not-self.false c.requires.reported ∙ sym (ap (is_reported rule (reported_in g)) c.observer-observer.ensures.value) in
+    gained_own _ _ _ c.if-not-self.false c.requires.reported
+    ∙ sym (ap (is_reported rule (reported_in g)) c.observer-observer.ensures.value) in
     let theirs : is_gained r rule (reported_in g) i u ≡ is_reported rule (reported_in g) u =
     gained_theirs _ _ _ c.if-not-self.false (ap (is_reported rule (reported_in g)) observer ∙ c.requires.reported) in
     record {
       rule = c.gain-in-loop-ring.ensures.rule ∙ c.gain.ensures.rule ∙ c.loop-ring.invariant.rule;
-      long = omega (arith, same, c.gain-in-loop-ring.new.tally.full.masks.ok.0, c.loop-ring.tally.full.masks.ok.0, c.loop-ring.invariant.long);
+      long = omega (
+        arith,
+        same,
+        c.gain-in-loop-ring.new.tally.full.masks.ok.0,
+        c.loop-ring.tally.full.masks.ok.0,
+        c.loop-ring.invariant.long,
+      );
       full = λ ring p process.
-          with_gains-more r g.layout (is_gained r rule (reported_in g)) s i u low c.requires.process c.subject-subject.ensures.in_range c.subject-subject.ensures.observes
+          with_gains-more r g.layout (is_gained r rule (reported_in g)) s i u low c.requires.process
+          c.subject-subject.ensures.in_range c.subject-subject.ensures.observes
           (edges_in c.args.tally.now.full.masks.items) before mid after wide
-          (c.gain.ensures.full ∙ ap (λ b. cond b (with_edge before (record { ring = i; subject = s })) before) (sym own))
-          (c.gain-in-loop-ring.ensures.full ∙ ap (λ b. cond b (with_edge mid (record { ring = i; subject = u })) mid) (sym theirs))
+          (c.gain.ensures.full ∙ ap (λ b. cond b (with_edge before (record { ring = i; subject = s })) before)
+          (sym own))
+          (c.gain-in-loop-ring.ensures.full ∙ ap (λ b. cond b (with_edge mid (record { ring = i; subject = u })) mid)
+          (sym theirs))
           ring p process (c.loop-ring.invariant.full ring p process);
     }
 
@@ -49,5 +70,8 @@ returns-clause-full c =
     record {
       full = λ ring p below process.
           c.loop-ring.invariant.full ring p process
-          ∙ ap (λ b. edges_in c.args.tally.now.full.masks.items ring p || (b && (is_near g.rings.now c.args.process ring p && is_gained g.rings.now (rule_of_gains g) (reported_in g) ring p))) (lt-ltb ring c.loop-ring.ring (omega arith));
+          ∙ ap (λ b. edges_in c.args.tally.now.full.masks.items ring p
+          || (b && (is_near g.rings.now c.args.process ring p
+          && is_gained g.rings.now (rule_of_gains g) (reported_in g) ring p)))
+          (lt-ltb ring c.loop-ring.ring (omega arith));
     }

@@ -16,13 +16,19 @@ pub returns-clause-added : goal.returns-clause-added
 returns-clause-added c =
     let m = c.args.self.now in
     let old = mask-read m c.args.edge.subject _ _ c.requires.subject c.from-subject.ensures c.index-before.ensures in
-    record { masks = written m c.args.edge _ _ c.requires.ring c.from-subject.ensures old; long = (search rules); k = refl }
+    record {
+      masks = written m c.args.edge _ _ c.requires.ring c.from-subject.ensures old;
+      long = (search rules);
+      k =
+          refl;
+    }
 
 pub returns-clause-before : goal.returns-clause-before
 returns-clause-before c =
     let m = c.args.self.now in
     let s = c.args.edge.subject in
-    ap count_ones (mask-read m s _ _ c.requires.subject c.from-subject.ensures c.index-before.ensures) ∙ ones-are m.k s m.masks.items m.below (omega (arith, m.masks.ok.0))
+    ap count_ones (mask-read m s _ _ c.requires.subject c.from-subject.ensures c.index-before.ensures)
+    ∙ ones-are m.k s m.masks.items m.below (omega (arith, m.masks.ok.0))
 
 pub returns-clause-after : goal.returns-clause-after
 returns-clause-after c =
@@ -33,5 +39,7 @@ returns-clause-after c =
     let inside : i < length m.masks.items = omega (arith, m.masks.ok.0, c.requires.subject, c.from-subject.ensures) in
     let old = mask-read m e.subject _ _ c.requires.subject c.from-subject.ensures c.index-before.ensures in
     let below = below-written m e _ _ c.requires.ring c.requires.subject c.from-subject.ensures old in
-    let long : e.subject < length (set m.masks.items i mask) = omega (arith, length-set m.masks.items i mask, c.from-subject.ensures, inside) in
-    ap count_ones (sym (get_or-set_at m.masks.items i e.subject mask 0 (sym c.from-subject.ensures) inside)) ∙ ones-are m.k e.subject (set m.masks.items i mask) below long
+    let long : e.subject < length (set m.masks.items i mask) = omega
+    (arith, length-set m.masks.items i mask, c.from-subject.ensures, inside) in
+    ap count_ones (sym (get_or-set_at m.masks.items i e.subject mask 0 (sym c.from-subject.ensures) inside))
+    ∙ ones-are m.k e.subject (set m.masks.items i mask) below long

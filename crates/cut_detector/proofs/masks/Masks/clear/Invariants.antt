@@ -6,5 +6,6 @@ abbrev pub invariant-loop-subject : goal.invariant-loop-subject
 invariant-loop-subject l = record {
   k : l.self.k ≡ l.initial.self.k;
   long : length l.self.masks.items ≡ length l.initial.self.masks.items;
-  masks : (s : ℕ) → slice_index l.self.masks.items s ≡ cond (list_any (λ p. s == p) (take l.subject-index l.subjects)) 0 (slice_index l.initial.self.masks.items s);
+  masks : (s : ℕ) → slice_index l.self.masks.items s
+      ≡ cond (list_any (λ p. s == p) (take l.subject-index l.subjects)) 0 (slice_index l.initial.self.masks.items s);
 }

@@ -9,7 +9,9 @@ pub clear-requires-clause-within : goal.clear-requires-clause-within
 clear-requires-clause-within c =
     let s = c.args.self.now in
     let same : vec_len s.tally.full.masks ≡ vec_len s.reported.masks = s.full_long ∙ sym s.reported_long in
-    subst (λ n. All (λ p. p < n) c.deref.result.now) same (subst (All (λ p. p < vec_len s.tally.full.masks)) (sym c.deref.ensures.value) (touched-all s.tally.full s.tally.touched.items s.tally.touches))
+    subst (λ n. All (λ p. p < n) c.deref.result.now) same
+    (subst (All (λ p. p < vec_len s.tally.full.masks)) (sym c.deref.ensures.value)
+    (touched-all s.tally.full s.tally.touched.items s.tally.touches))
 
 pub clear-requires-clause-alone : goal.clear-requires-clause-alone
 clear-requires-clause-alone c p some =
@@ -20,4 +22,5 @@ clear-requires-clause-alone c p some =
 pub invariant_of-self-2-clause-full : goal.invariant_of-self-2-clause-full
 invariant_of-self-2-clause-full c =
     let t = c.clear-2.new.self in
-    HoldsFull_empty c.args.self.now.rings.now (rule_in t.rule) _ _ _ _ t.rule.low c.clear.ensures.masks c.clear-2.ensures.full
+    HoldsFull_empty c.args.self.now.rings.now (rule_in t.rule) _ _ _ _ t.rule.low c.clear.ensures.masks
+    c.clear-2.ensures.full

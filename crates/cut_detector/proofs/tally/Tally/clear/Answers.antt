@@ -7,7 +7,8 @@ use Rattle.cut_detector.proofs.tally.Tally.clear.Goals as goal
 pub clear-requires-clause-within : goal.clear-requires-clause-within
 clear-requires-clause-within c =
     let t = c.args.self.now in
-    subst (All (λ s. s < vec_len t.full.masks)) (sym c.deref.ensures.value) (touched-all t.full t.touched.items t.touches)
+    subst (All (λ s. s < vec_len t.full.masks)) (sym c.deref.ensures.value)
+    (touched-all t.full t.touched.items t.touches)
 
 pub clear-requires-clause-alone : goal.clear-requires-clause-alone
 clear-requires-clause-alone c s some =
@@ -17,15 +18,18 @@ clear-requires-clause-alone c s some =
 pub invariant_of-self-clause-stable_counted : goal.invariant_of-self-clause-stable_counted
 invariant_of-self-clause-stable_counted c =
     let t = c.args.self.now in
-    processes_with-empty (λ n. nat_le t.rule.h n) c.clear.new.self _ c.clear.ensures.masks (lt-leb t.rule.h 0 (omega (arith, t.rule.low, t.rule.thresholds)))
+    processes_with-empty (λ n. nat_le t.rule.h n) c.clear.new.self _ c.clear.ensures.masks
+    (lt-leb t.rule.h 0 (omega (arith, t.rule.low, t.rule.thresholds)))
 
 pub invariant_of-self-clause-marked_counted : goal.invariant_of-self-clause-marked_counted
 invariant_of-self-clause-marked_counted c =
     let t = c.args.self.now in
-    processes_with-empty (λ n. nat_le t.rule.l n) c.clear.new.self _ c.clear.ensures.masks (lt-leb t.rule.l 0 t.rule.low)
+    processes_with-empty (λ n. nat_le t.rule.l n) c.clear.new.self _ c.clear.ensures.masks
+    (lt-leb t.rule.l 0 t.rule.low)
 
 pub invariant_of-self-clause-touches : goal.invariant_of-self-clause-touches
-invariant_of-self-clause-touches c = IsTouched-empty c.clear.new.self _ c.clear-2.new.self.items c.clear.ensures.masks c.clear-2.ensures.items
+invariant_of-self-clause-touches c = IsTouched-empty c.clear.new.self _ c.clear-2.new.self.items c.clear.ensures.masks
+    c.clear-2.ensures.items
 
 pub invariant_of-self-clause-distinct : goal.invariant_of-self-clause-distinct
 invariant_of-self-clause-distinct c = IsDistinct-empty c.clear-2.new.self.items c.clear-2.ensures.items

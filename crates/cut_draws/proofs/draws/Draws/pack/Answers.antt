@@ -16,7 +16,9 @@ loop-copy-preserved c =
       same = c.pack_copy.ensures.same ∙ c.loop-copy.invariant.same;
       keys =
           c.in_ok-pack_copy.ensures.keys
-          ∙ ap (λ d. c.loop-copy.packed.items ++ map (λ x. packed_at d receiver k x) (copies_of edges copy)) c.loop-copy.invariant.same
+          ∙ ap (λ d. c.loop-copy.packed.items ++ map (λ x. packed_at d receiver k x) (copies_of edges copy))
+          c.loop-copy.invariant.same
           ∙ ap (λ xs. xs ++ map (λ x. packed_at self receiver k x) (copies_of edges copy)) c.loop-copy.invariant.keys
-          ∙ sym (ap (map (λ x. packed_at self receiver k x)) (one_more_copy edges copy) ∙ map-append (λ x. packed_at self receiver k x) (all_deliveries edges copy) (copies_of edges copy));
+          ∙ sym (ap (map (λ x. packed_at self receiver k x)) (one_more_copy edges copy)
+          ∙ map-append (λ x. packed_at self receiver k x) (all_deliveries edges copy) (copies_of edges copy));
     }

@@ -5,7 +5,8 @@ use Rattle.cut_draws.specs.Source.{key_at}
 use Rattle.cut_draws.specs.ProcessOrder.{process_place}
 use Rattle.cut_draws.proofs.draws.Draws.process_keys.Goals as goal
 
-keys_more : (f : ℕ → ℕ) (n key : ℕ) (before after : List (ℕ × ℕ)) → after ≡ before ++ (key, n) ∷ [] → key ≡ f n → before ≡ map (λ p. (f p, p)) (range_with_len 0 n) → after ≡ map (λ p. (f p, p)) (range_with_len 0 (n + 1))
+keys_more : (f : ℕ → ℕ) (n key : ℕ) (before after : List (ℕ × ℕ)) → after ≡ before ++ (key, n) ∷ [] → key ≡ f n → before
+    ≡ map (λ p. (f p, p)) (range_with_len 0 n) → after ≡ map (λ p. (f p, p)) (range_with_len 0 (n + 1))
 keys_more f n key before after pushed value keys =
     pushed
     ∙ ap (λ xs. xs ++ (key, n) ∷ []) keys
@@ -18,8 +19,10 @@ loop-process-preserved c =
     record {
       same = c.key-key.ensures.same ∙ c.loop-process.invariant.same;
       keys =
-          keys_more (λ p. key_at c.args.self.now (process_place p)) process c.key-key.result c.loop-process.keyed.items c.push.new.self.items
+          keys_more (λ p. key_at c.args.self.now (process_place p)) process c.key-key.result c.loop-process.keyed.items
+          c.push.new.self.items
           c.in_ok-push.ensures.items
-          (c.key-key.ensures.value ∙ ap (λ d. key_at d (2 * c.from-in-loop-process.result)) c.loop-process.invariant.same ∙ ap (λ p. key_at c.args.self.now (2 * p)) c.from-in-loop-process.ensures)
+          (c.key-key.ensures.value ∙ ap (λ d. key_at d (2 * c.from-in-loop-process.result))
+          c.loop-process.invariant.same ∙ ap (λ p. key_at c.args.self.now (2 * p)) c.from-in-loop-process.ensures)
           c.loop-process.invariant.keys;
     }

@@ -4,33 +4,33 @@ use Rattle.std.proofs.lemmas.Option.{slice_get_within}
 use Rattle.cut_board.specs.declared.totals.StudyTotals.{StudyTotals}
 use Rattle.cut_board.specs.Names.{studies_of, views_of}
 use Rattle.cut_board.specs.Totals.{total_of}
-use Rattle.cut_hall.specs.Hall.{Rooms}
+use Rattle.cut_hall.specs.Hall.{HallValue}
 use Rattle.cut_hall.specs.Report.{SlotEnd, calls_in_all}
 use Rattle.cut_hall.proofs.Audits.{total_at, totals_many}
 use Rattle.cut_hall.proofs.hall.Hall.close.Goals as goal
 
 pub take_apart-requires-clause-own : goal.take_apart-requires-clause-own
 take_apart-requires-clause-own g c =
-    λ k d low. c.requires.own k d low ∙ sym (ap (λ (r : Rooms). r.id) c.self.view_is)
+    λ k d low. c.requires.own k d low ∙ sym (ap (λ (r : HallValue). r.id) c.self.view_is)
 
-pub audit-requires-clause-told : goal.audit-requires-clause-told
-audit-requires-clause-told g c =
+pub audit-requires-clause-counted : goal.audit-requires-clause-counted
+audit-requires-clause-counted g c =
     let n : ℕ = studies_of c.self.inside.board in
     let views = views_of c.in-Ok.parts.seats.items in
     let many = c.in-Ok-end_all.ensures.slots in
     let places = c.self.invariant.0 in
-    let told = ap (λ (ts : List StudyTotals). length ts) c.in-Ok-finish.ensures.totals in
+    let reported = ap (λ (ts : List StudyTotals). length ts) c.in-Ok-finish.ensures.totals in
     let all = totals_many n views in
-    omega (arith, many, places, told, all)
+    omega (arith, many, places, reported, all)
 
 pub audit-requires-clause-few : goal.audit-requires-clause-few
 audit-requires-clause-few g c =
     let n : ℕ = studies_of c.self.inside.board in
     let views = views_of c.in-Ok.parts.seats.items in
-    let told = ap (λ (ts : List StudyTotals). length ts) c.in-Ok-finish.ensures.totals in
+    let reported = ap (λ (ts : List StudyTotals). length ts) c.in-Ok-finish.ensures.totals in
     let few = c.self.inside.board.few in
     let all = totals_many n views in
-    omega (arith, told, all, few)
+    omega (arith, reported, all, few)
 
 pub returns-in-Ok-audit-clause-audit : goal.returns-in-Ok-audit-clause-audit
 returns-in-Ok-audit-clause-audit g c =
@@ -44,9 +44,10 @@ returns-in-Ok-audit-clause-audit g c =
     (let within = slice_get_within slots study s here in
     let many = c.in-Ok-end_all.ensures.slots in
     let places = c.self.invariant.0 in omega (arith, within, many, places)) in
-    let told : slice_get c.in-Ok-finish.totals study ≡ Some (total_of views study) =
+    let reported : slice_get c.in-Ok-finish.totals study ≡ Some (total_of views study) =
     ap (λ (ts : List StudyTotals). slice_get ts study) c.in-Ok-finish.ensures.totals ∙ total_at n views study low in
-    sym (c.in-Ok.ensures.parts.counted study) ∙ c.in-Ok-audit.ensures.audited study s (total_of views study) here told
+    sym (c.in-Ok.ensures.parts.counted study) ∙ c.in-Ok-audit.ensures.audited study s (total_of views study) here
+    reported
 
 pub returns-clause-why : goal.returns-clause-why
 returns-clause-why g c =
@@ -58,17 +59,18 @@ returns-clause-why g c =
     let ended = c.in-Ok-end_all.ensures.slots in
     let places = c.self.invariant.0 in
     let low : study < n = omega (arith, within, ended, places) in
-    let told : slice_get c.in-Ok-finish.totals study ≡ Some (total_of views study) =
+    let reported : slice_get c.in-Ok-finish.totals study ≡ Some (total_of views study) =
     ap (λ (ts : List StudyTotals). slice_get ts study) c.in-Ok-finish.ensures.totals ∙ total_at n views study low in
     let enough = c.in-Ok-finish.ensures.whole in
     let many = c.in-Ok.ensures.parts.many in
-    let all = ap (λ (r : Rooms). r.passes) c.self.view_is in
-    let rooms = ap (λ (r : Rooms). r.slots) c.self.view_is in
+    let all = ap (λ (r : HallValue). r.passes) c.self.view_is in
+    let rooms = ap (λ (r : HallValue). r.slots) c.self.view_is in
     let report : c.in-Err.mismatch.report ≡ slots = c.in-Err.ensures.report in (
       omega (arith, enough, many, all),
       omega (arith, ap (λ (l : List SlotEnd). length l) report, ended, places, rooms),
       omega (arith, low, rooms),
-      sym (c.in-Err.ensures.differs (total_of views study) told) ∙ c.in-Ok.ensures.parts.counted study,
+      sym (c.in-Err.ensures.differs (total_of views study) reported) ∙ c.in-Ok.ensures.parts.counted study,
       c.in-Err.mismatch.differ,
-      ap calls_in_all report ∙ sym c.in-Ok-end_all.ensures.kept.1 ∙ sym c.compare.ensures ∙ c.in-Ok.ensures.parts.amount_is,
+      ap calls_in_all report ∙ sym c.in-Ok-end_all.ensures.kept.1 ∙ sym c.compare.ensures
+          ∙ c.in-Ok.ensures.parts.amount_is,
     )

@@ -1,23 +1,23 @@
 use Rattle.std.proofs.Common.{◌∙◌, Bool, IfOk, sym, ap, subst}
 use Rattle.cut_plan.specs.Values.{Values}
-use Rattle.cut_hall.specs.Hall.{Rooms}
+use Rattle.cut_hall.specs.Hall.{HallValue}
 use Rattle.cut_hall.specs.Trust.{MayBegin}
 use Rattle.cut_hall.proofs.hall.Hall.submit.Goals as goal
 
 pub returns-in-Same-clause-base : goal.returns-in-Same-clause-base
 returns-in-Same-clause-base g c =
     subst (λ (b : Bool). IfOk c.opened.result (λ o. MayBegin b c.args.plan o.base))
-    (ap (λ (r : Rooms). r.is_trusted) c.self.view_is)
-    (subst (λ (v : Values). IfOk c.opened.result (λ o. MayBegin g.K.Tally.trusts v o.base))
+    (ap (λ (r : HallValue). r.is_trusted) c.self.view_is)
+    (subst (λ (v : Values). IfOk c.opened.result (λ o. MayBegin g.K.CallLedger.trusts v o.base))
     c.loop-study.invariant.0 c.opened.ensures.begun)
 
 pub begin-opened-requires-clause-trusted : goal.begin-opened-requires-clause-trusted
 begin-opened-requires-clause-trusted g c = λ t.
-    c.requires.trusted (sym (ap (λ (r : Rooms). r.is_trusted) c.self.view_is) ∙ t)
+    c.requires.trusted (sym (ap (λ (r : HallValue). r.is_trusted) c.self.view_is) ∙ t)
 
 pub returns-in-Free-clause-base : goal.returns-in-Free-clause-base
 returns-in-Free-clause-base g c =
     subst (λ (b : Bool). IfOk c.begin-opened.result (λ o. MayBegin b c.args.plan o.base))
-    (ap (λ (r : Rooms). r.is_trusted) c.self.view_is)
-    (subst (λ (v : Values). IfOk c.begin-opened.result (λ o. MayBegin g.K.Tally.trusts v o.base))
+    (ap (λ (r : HallValue). r.is_trusted) c.self.view_is)
+    (subst (λ (v : Values). IfOk c.begin-opened.result (λ o. MayBegin g.K.CallLedger.trusts v o.base))
     c.loop-study.invariant.0 c.begin-opened.ensures.base)

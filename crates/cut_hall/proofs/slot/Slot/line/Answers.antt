@@ -8,6 +8,6 @@ returns-in-Ok-clause-line g c =
     let book = c.in-Some.book in
     let same = c.is_opened_as.ensures.yes (c.if-not-is_opened_as.false) in
     c.in-Ok.ensures.line
-    ∙ done_line book.state.ledger c.args.cell c.in-Ok.ensures.asked.0
-    ∙ ap (λ v. full_line v book.state.ledger.base c.args.cell) same.0
-    ∙ ap (λ base. full_line c.args.opened.now.plan base c.args.cell) same.1
+    ∙ done_line book.state.ledger c.args.asked.cell c.in-Ok.ensures.asked.0
+    ∙ ap (λ v. full_line v book.state.ledger.base c.args.asked.cell) same.0
+    ∙ ap (λ base. full_line c.args.asked.opened.now.plan base c.args.asked.cell) same.1

@@ -10,7 +10,7 @@ returns-in-Ok-clause-line g c =
     let book = c.in-Some.book in
     let same = c.is_opened_as-is_its_book.ensures.yes (c.if-not-is_its_book.false) in
     c.in-Ok.ensures.ok
-    ∙ done_line held c.args.cell c.in-Ok.ensures.done
-    ∙ ap (λ (l : Contents). full_line l.plan l.base c.args.cell) c.ledger.ensures
-    ∙ ap (λ v. full_line v book.state.ledger.base c.args.cell) same.0
-    ∙ ap (λ base. full_line c.args.opened.now.plan base c.args.cell) same.1
+    ∙ done_line held c.args.asked.cell c.in-Ok.ensures.done
+    ∙ ap (λ (l : Contents). full_line l.plan l.base c.args.asked.cell) c.ledger.ensures
+    ∙ ap (λ v. full_line v book.state.ledger.base c.args.asked.cell) same.0
+    ∙ ap (λ base. full_line c.args.asked.opened.now.plan base c.args.asked.cell) same.1

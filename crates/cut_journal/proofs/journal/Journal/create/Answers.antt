@@ -8,5 +8,6 @@ invariant_of-result g c = (
   c.first_gate-gate.ensures.place ∙ ap (λ (n : ℕ). gate_place c.in-Ok.study n) (sym c.first_gate-gate.ensures.number),
   omega (arith, c.first_gate-gate.ensures.short),
   λ honest. (let made = c.in-Ok-make.ensures.made (c.make.ensures.honest.1 honest) in
-      opened_sound c.in-Ok.study c.first_gate-gate.result.number [] (g.D.Disk.state c.make.new.disk) made.1 c.first_gate-gate.ensures.number made.2),
+      opened_sound c.in-Ok.study c.first_gate-gate.result.number [] (g.D.Disk.state c.make.new.disk) made.1
+      c.first_gate-gate.ensures.number made.2),
 )

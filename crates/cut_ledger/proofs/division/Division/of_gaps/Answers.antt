@@ -3,14 +3,21 @@ use Rattle.std.proofs.lemmas.Grind.{take_at_read}
 use Rattle.std.proofs.lemmas.List.{length-map, length-take-le, map-append, take_all}
 use Rattle.std.proofs.lemmas.List.Elements.{All-push}
 use Rattle.cut_ledger.specs.declared.division.Stretch.{Stretch}
-use Rattle.cut_ledger.specs.DivisionInside.{AreCounted, AreWithin, gaps_in, pieces_up_to}
+use Rattle.cut_ledger.specs.DivisionInside.{ArePiecesCounted, AreWithin, gaps_in, pieces_up_to}
 use Rattle.cut_ledger.proofs.DivisionLemmas.{counted_push, few_before, no_piece, one_gap}
 use Rattle.cut_ledger.proofs.Words.{Piece, flat_map, parts_of}
 use Rattle.cut_ledger.proofs.division.Division.of_gaps.Goals as goal
 
 pub overflow_add-end : goal.overflow_add-end
 overflow_add-end c =
-    omega (arith, c.requires.few, c.loop-gap.invariant.end, c.div_ceil-end.ensures, few_before c.args.size c.args.gaps.now c.loop-gap.gap-index no_piece c.loop-gap-test.true)
+    omega (
+      arith,
+      c.requires.few,
+      c.loop-gap.invariant.end,
+      c.div_ceil-end.ensures,
+      few_before c.args.size
+          c.args.gaps.now c.loop-gap.gap-index no_piece c.loop-gap-test.true,
+    )
 
 pub loop-gap-preserved : goal.loop-gap-preserved
 loop-gap-preserved c =
@@ -23,12 +30,21 @@ loop-gap-preserved c =
     let low : i < length all = c.loop-gap-test.true in
     let next : take (i + 1) all ≡ take i all ++ gap ∷ [] = (take_at_read all i no_piece low).1 in
     let gaps : gaps_in (ss ++ s ∷ []) ≡ take (i + 1) all =
-    map-append (λ (t : Stretch). t.gap) ss (s ∷ []) ∙ ap (λ (ps : List Piece). ps ++ gap ∷ []) c.loop-gap.invariant.gaps ∙ sym next in
+    map-append (λ (t : Stretch). t.gap) ss (s ∷ []) ∙ ap (λ (ps : List Piece). ps ++ gap ∷ []) c.loop-gap.invariant.gaps
+    ∙ sym next in
     let end : s.end ≡ length (flat_map (parts_of c.args.size) (take (i + 1) all)) =
     omega (arith, c.loop-gap.invariant.end, c.div_ceil-end.ensures, one_gap c.args.size all i no_piece low) in
-    let long : length ss ≡ i = omega (arith, length-map ss (λ (t : Stretch). t.gap), ap length c.loop-gap.invariant.gaps, length-take-le i all (omega (arith, low))) in
-    let upto : length (flat_map (parts_of c.args.size) (take (i + 1) all)) ≡ length (pieces_up_to c.args.size (ss ++ s ∷ []) (length ss + 1)) =
-    ap (λ (ps : List Piece). length (flat_map (parts_of c.args.size) ps)) (sym (take_all (i + 1) (take (i + 1) all) (omega (arith, length-take-le (i + 1) all (omega (arith, low))))))
+    let long : length ss ≡ i = omega (
+      arith,
+      length-map ss (λ (t : Stretch). t.gap),
+      ap length
+          c.loop-gap.invariant.gaps,
+      length-take-le i all (omega (arith, low)),
+    ) in
+    let upto : length (flat_map (parts_of c.args.size) (take (i + 1) all))
+    ≡ length (pieces_up_to c.args.size (ss ++ s ∷ []) (length ss + 1)) =
+    ap (λ (ps : List Piece). length (flat_map (parts_of c.args.size) ps))
+    (sym (take_all (i + 1) (take (i + 1) all) (omega (arith, length-take-le (i + 1) all (omega (arith, low))))))
     ∙ ap (λ (ps : List Piece). length (flat_map (parts_of c.args.size) (take (i + 1) ps))) (sym gaps)
     ∙ ap (λ n. length (pieces_up_to c.args.size (ss ++ s ∷ []) (n + 1))) (sym long)
     in
@@ -36,8 +52,10 @@ loop-gap-preserved c =
     record {
       gaps = ap gaps_in items ∙ gaps;
       end = end;
-      within = subst AreWithin (sym items) (All-push (λ (t : Stretch). t.gap.first + t.gap.count < 2 ^ 32) ss s c.loop-gap.invariant.within fits);
-      counted = subst (AreCounted c.args.size) (sym items) (counted_push c.args.size ss s c.loop-gap.invariant.counted (end ∙ upto));
+      within = subst AreWithin (sym items) (All-push (λ (t : Stretch). t.gap.first + t.gap.count < 2 ^ 32) ss s
+          c.loop-gap.invariant.within fits);
+      counted = subst (ArePiecesCounted c.args.size) (sym items)
+          (counted_push c.args.size ss s c.loop-gap.invariant.counted (end ∙ upto));
     }
 
 -- all gaps are there
@@ -49,7 +67,8 @@ invariant_of-result c = record {
   some = c.requires.size;
   within = c.loop-gap.invariant.within;
   counted = c.loop-gap.invariant.counted;
-  few = subst (λ (ps : List Piece). length (flat_map (parts_of c.args.size) ps) < 2 ^ 32) (sym (all_gaps c)) c.requires.few;
+  few = subst (λ (ps : List Piece). length (flat_map (parts_of c.args.size) ps) < 2 ^ 32) (sym (all_gaps c))
+      c.requires.few;
 }
 
 pub returns : goal.returns

@@ -11,4 +11,5 @@ plus-requires-clause-self_fits c =
     let sums : List Totals = c.args.self.now.sums.items in
     let cell : ℕ = c.cell_of-cell.result in
     let within : cell < length sums = omega (arith, kept.long, c.cell_of-cell.ensures.in_range) in
-    subst (IsAtMost (2 ^ 43)) (sym (get_or_read sums cell c.index.result.now within c.index.ensures (each_number (λ n. 0)))) (sums_fit c.args.plan.now c.requires.kept.0 c.args.self.now.trials sums cell kept within)
+    subst (IsAtMost (2 ^ 43)) (sym (get_or_read sums cell c.index.result.now within c.index.ensures
+    (each_number (λ n. 0)))) (sums_fit c.args.plan.now c.requires.kept.0 c.args.self.now.trials sums cell kept within)

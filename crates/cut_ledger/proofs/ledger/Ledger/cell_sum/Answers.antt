@@ -13,14 +13,16 @@ returns-clause-value c =
     let low = rw (← c.self.view_is) at c.requires in
     let within : c.args.cell < length l.kept.sums.items = omega (arith, c.self.invariant.long) in
     rw (← c.self.view_is)
-    (get_or_read l.kept.sums.items c.args.cell c.index.result.now within c.index.ensures (each_number (λ n. 0)) ∙ (c.self.invariant.each c.args.cell within).sums)
+    (get_or_read l.kept.sums.items c.args.cell c.index.result.now within c.index.ensures (each_number (λ n. 0))
+    ∙ (c.self.invariant.each c.args.cell within).sums)
 
 pub returns-clause-few : goal.returns-clause-few
 returns-clause-few c =
     let l = c.self.inside in
     let low = rw (← c.self.view_is) at c.requires in
     let within : c.args.cell < length l.kept.sums.items = omega (arith, c.self.invariant.long) in
-    let own = get_or_read l.kept.sums.items c.args.cell c.index.result.now within c.index.ensures (each_number (λ n. 0)) in
+    let own = get_or_read l.kept.sums.items c.args.cell c.index.result.now within c.index.ensures (each_number (λ n. 0))
+    in
     let few = (c.self.invariant.each c.args.cell within).few.conflicts in
     let count = count_by-le-length (has l.kept.trials) (trials_of_cell l.plan c.args.cell) in
     let long = length-range_with_len (c.args.cell * l.plan.repeats) l.plan.repeats in

@@ -1,4 +1,4 @@
--- What is held is what the slips tell.
+-- What is held is what the slips say.
 use Rattle.std.proofs.Common.{ap, ◌∙◌}
 use Rattle.cut_ledger.specs.Kept.{contents_in}
 use Rattle.cut_ledger.proofs.SlipLemmas.{over_contents}

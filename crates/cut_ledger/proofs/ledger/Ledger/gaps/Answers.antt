@@ -21,23 +21,28 @@ loop-cell-preserved c =
     let added : List Span → List Span = λ xs. c.loop-cell.gaps.items ++ xs in
     let repeats = ap (λ a. a.contents.plan.repeats) c.self.view_is in
     c.in_ok-gaps_into.ensures
-    ∙ ap (λ (n : ℕ). added (all.spans (λ t. not (held.has c.self.inside.kept.trials t)) n c.span_of_cell-span.result.count)) c.span_of_cell-span.ensures.first
-    ∙ ap (λ (n : ℕ). added (all.spans (λ t. not (held.has c.self.inside.kept.trials t)) (i * c.self.inside.plan.repeats) n)) c.span_of_cell-span.ensures.count
+    ∙ ap (λ (n : ℕ). added (all.spans (λ t. not (held.has c.self.inside.kept.trials t)) n
+    c.span_of_cell-span.result.count)) c.span_of_cell-span.ensures.first
+    ∙ ap (λ (n : ℕ). added (all.spans (λ t. not (held.has c.self.inside.kept.trials t)) (i * c.self.inside.plan.repeats)
+    n)) c.span_of_cell-span.ensures.count
     ∙ ap (λ a. added (spans_in a.contents i)) c.self.view_is
     ∙ ap (λ xs. xs ++ spans_in l i) c.loop-cell.invariant
     ∙ one_cell_more (spans_in l) i
 
 pieces_are : (f : ℕ → List Span) (cs : List ℕ) → map piece_at (flat_map f cs) ≡ flat_map (λ c. map piece_at (f c)) cs
 pieces_are f [] = refl
-pieces_are f (c ∷ cs) = map-append piece_at (f c) (flat_map f cs) ∙ ap (λ xs. map piece_at (f c) ++ xs) (pieces_are f cs)
+pieces_are f (c ∷ cs) = map-append piece_at (f c) (flat_map f cs)
+    ∙ ap (λ xs. map piece_at (f c) ++ xs) (pieces_are f cs)
 
-value : (c : goal.After-drop-gaps-2) (gaps : List Piece) → gaps ≡ map piece_at c.deref.result.now → gaps ≡ gaps_of c.args.self.now.contents
+value : (c : goal.After-drop-gaps-2) (gaps : List Piece) → gaps ≡ map piece_at c.deref.result.now → gaps
+    ≡ gaps_of c.args.self.now.contents
 value c gaps is =
     let l : Contents = c.args.self.now.contents in
     let plan = ap (λ a. length (cells_of a.contents.plan)) c.self.view_is in
     let end : c.loop-cell.cell ≡ length (cells_of l.plan) = omega (arith, c.cells-cell-end.ensures.value) in
     is
-    ∙ ap (map piece_at) (c.deref.ensures.value ∙ c.loop-cell.invariant ∙ ap (λ (n : ℕ). flat_map (spans_in l) (range_with_len 0 n)) end)
+    ∙ ap (map piece_at) (c.deref.ensures.value ∙ c.loop-cell.invariant
+    ∙ ap (λ (n : ℕ). flat_map (spans_in l) (range_with_len 0 n)) end)
     ∙ pieces_are (spans_in l) (range_with_len 0 (length (cells_of l.plan)))
 
 pub returns-clause-value : goal.returns-clause-value
@@ -46,4 +51,5 @@ returns-clause-value c = IfOk-weaker c.pieces_at.result _ _ (λ gaps is. value c
 pub returns-clause-pieces : goal.returns-clause-pieces
 returns-clause-pieces c =
     let l : Contents = c.args.self.now.contents in
-    IfOk-weaker c.pieces_at.result _ _ (λ gaps is. subst (All (λ (p : Piece). IsTrue (is_piece l.plan p))) (sym (value c gaps.items is)) (gaps_are_pieces c.spans_are_what_passes.ensures.within l)) c.pieces_at.ensures
+    IfOk-weaker c.pieces_at.result _ _ (λ gaps is. subst (All (λ (p : Piece). IsTrue (is_piece l.plan p)))
+    (sym (value c gaps.items is)) (gaps_are_pieces c.spans_are_what_passes.ensures.within l)) c.pieces_at.ensures

@@ -6,4 +6,5 @@ use Rattle.cut_ledger.proofs.ledger.Ledger.gaps.Given as goal
 -- the gaps of the cells so far
 abbrev pub invariant-loop-cell : goal.invariant-loop-cell
 invariant-loop-cell l =
-    l.gaps.items ≡ flat_map (λ c. spans (λ t. not (has l.self.contents t)) (c * l.self.contents.plan.repeats) l.self.contents.plan.repeats) (range_with_len 0 l.cell)
+    l.gaps.items ≡ flat_map (λ c. spans (λ t. not (has l.self.contents t)) (c * l.self.contents.plan.repeats)
+    l.self.contents.plan.repeats) (range_with_len 0 l.cell)

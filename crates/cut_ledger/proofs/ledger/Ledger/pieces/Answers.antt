@@ -13,8 +13,10 @@ add_parts-requires-clause-fits c =
     let plan = c.gaps.ensures.plan in
     let none : Piece = record { first = 0; count = 0 } in
     let gaps : List Piece = c.deref-gap-items.result.now in
-    let all = subst (All (λ p. IsTrue (is_piece v p))) (sym c.deref-gap-items.ensures.value) c.in_ok-gaps.ensures.pieces in
-    let facts = piece_facts v (get_or gaps c.loop-gap.gap-index none) plan (all c.loop-gap.gap-index none (omega arith)) in
+    let all = subst (All (λ p. IsTrue (is_piece v p))) (sym c.deref-gap-items.ensures.value) c.in_ok-gaps.ensures.pieces
+    in
+    let facts = piece_facts v (get_or gaps c.loop-gap.gap-index none) plan (all c.loop-gap.gap-index none (omega arith))
+    in
     omega (arith, facts.end, mul-le (length (cells_of v)) v.repeats 4096 1000000 plan.few_cells plan.few_repeats)
 
 pub returns-clause-pieces : goal.returns-clause-pieces
@@ -25,4 +27,5 @@ returns-clause-pieces c =
     ∙ ap (flat_map (parts_of c.args.size)) (take_all c.loop-gap.gap-index c.deref-gap-items.result.now (omega arith))
     ∙ ap (flat_map (parts_of c.args.size)) (c.deref-gap-items.ensures.value ∙ c.in_ok-gaps.ensures.value)
     in
-    subst (All (λ p. IsTrue (is_piece l.plan p))) (sym value) (pieces_are_pieces c.spans_are_what_passes.ensures.within l c.args.size c.gaps.ensures.plan c.requires)
+    subst (All (λ p. IsTrue (is_piece l.plan p))) (sym value)
+    (pieces_are_pieces c.spans_are_what_passes.ensures.within l c.args.size c.gaps.ensures.plan c.requires)

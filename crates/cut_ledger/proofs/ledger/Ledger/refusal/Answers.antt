@@ -6,14 +6,16 @@ use Rattle.cut_ledger.proofs.RefusalLemmas.{same_plan, refusal_other, refusal_he
 use Rattle.cut_ledger.proofs.ledger.Ledger.refusal.Goals as goal
 
 -- what the set answered of the piece
-met : (test : ℕ → Bool) (p q : Piece) (b : Bool) → q ≡ p → b ≡ list_any test (trials_in q) → list_any test (trials_in p) ≡ b
-met test p q b same told = sym (told ∙ ap (λ (y : Piece). list_any test (trials_in y)) same)
+met : (test : ℕ → Bool) (p q : Piece) (b : Bool) → q ≡ p → b ≡ list_any test (trials_in q) → list_any test (trials_in p)
+    ≡ b
+met test p q b same reported = sym (reported ∙ ap (λ (y : Piece). list_any test (trials_in y)) same)
 
 pub returns-then-not-same-clause-value : goal.returns-then-not-same-clause-value
 returns-then-not-same-clause-value c =
     let l = c.self.inside in
     rw (← c.self.view_is)
-    (refusal_other (contents_in l.plan l.base l.kept.trials) c.args.offered.now (same_plan l.plan _ false (rw c.plan.ensures at c.if-not-same.ensures.texts)))
+    (refusal_other (contents_in l.plan l.base l.kept.trials) c.args.offered.now
+    (same_plan l.plan _ false (rw c.plan.ensures at c.if-not-same.ensures.texts)))
 
 pub returns-then-overlaps-clause-value : goal.returns-then-overlaps-clause-value
 returns-then-overlaps-clause-value c =
@@ -37,5 +39,6 @@ returns-clause-none c =
     rw (← c.self.view_is)
     (record {
       plan = sym ((c.if-not-same.ensures.values).0 refl ∙ c.plan.ensures);
-      apart = met (has l.kept.trials) c.args.offered.now.piece c.piece.result false c.piece.ensures.value c.if-overlaps.ensures;
+      apart = met (has l.kept.trials) c.args.offered.now.piece c.piece.result false c.piece.ensures.value
+          c.if-overlaps.ensures;
     })

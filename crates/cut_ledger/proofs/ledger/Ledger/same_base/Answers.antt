@@ -5,6 +5,10 @@ use Rattle.cut_ledger.proofs.ledger.Ledger.same_base.Goals as goal
 
 pub returns : goal.returns
 returns c =
-    let told = slice_eq-Decides (λ a b. search rules) c.as_slice.result.now c.as_slice-2.result.now c.eq.result c.eq.ensures in
-    rw (← c.self.view_is)
-    (λ e. sym c.as_slice.ensures ∙ told.0 e ∙ c.as_slice-2.ensures, λ e. told.1 (c.as_slice.ensures ∙ e ∙ sym c.as_slice-2.ensures))
+    let reported = slice_eq-Decides (λ a b. search rules) c.as_slice.result.now c.as_slice-2.result.now c.eq.result
+    c.eq.ensures in
+    rw (← c.self.view_is) (
+      λ e. sym c.as_slice.ensures ∙ reported.0 e ∙ c.as_slice-2.ensures,
+      λ e. reported.1
+          (c.as_slice.ensures ∙ e ∙ sym c.as_slice-2.ensures),
+    )

@@ -8,7 +8,10 @@ use Rattle.cut_ledger.proofs.AddLemmas.{taken_kept}
 use Rattle.cut_ledger.proofs.ledger.Ledger.take.Goals as goal
 
 -- the call in the ledger's own words
-taken : (v w : Values) (base : List Slip) (old new : Held) (olds news : List Totals) (p q : Piece) (x : Totals) → AreKept v base old olds → q ≡ p → w ≡ v → x ≡ sum_of w (trials_in p) → IsTrue (is_piece w p) → list_any (has old) (trials_in p) ≡ false → IsAtMost (2048 * p.count) x → IsAdded old new olds news (q.first / v.repeats) q x → AreKept v base new news
+taken : (v w : Values) (base : List Slip) (old new : Held) (olds news : List Totals) (p q : Piece) (x : Totals)
+    → AreKept v base old olds → q ≡ p → w ≡ v → x ≡ sum_of w (trials_in p) → IsTrue (is_piece w p)
+    → list_any (has old) (trials_in p) ≡ false → IsAtMost (2048 * p.count) x
+    → IsAdded old new olds news (q.first / v.repeats) q x → AreKept v base new news
 taken v w base old new olds news p q x kept same-piece same-plan sums piece apart few added =
     let total : x ≡ sum_of v (trials_in p) = sums ∙ ap (λ (y : Values). sum_of y (trials_in p)) same-plan in
     taken_kept v base old new olds news p (record {
@@ -16,7 +19,8 @@ taken v w base old new olds news p q x kept same-piece same-plan sums piece apar
       piece = subst (λ (y : Values). IsTrue (is_piece y p)) same-plan piece;
       apart = apart;
       few = subst (IsAtMost (2048 * p.count)) total few;
-      added = subst (IsAdded old new olds news (p.first / v.repeats) p) total (subst (λ (y : Piece). IsAdded old new olds news (y.first / v.repeats) y x) same-piece added);
+      added = subst (IsAdded old new olds news (p.first / v.repeats) p) total
+          (subst (λ (y : Piece). IsAdded old new olds news (y.first / v.repeats) y x) same-piece added);
     })
 
 either : {E P Q : Type 0} (r : Result (Unit {0}) E) (S : Type 0) → OnOk r P → OnErr r Q → (P → S) → (Q → S) → S
@@ -31,5 +35,7 @@ invariant_of-self c =
     let apart = rw (← c.self.view_is) at c.requires.apart in
     let plan = rw (← c.self.view_is) at c.requires.plan in
     either c.add.result (AreKept l.plan l.base new.trials new.sums.items) c.add.ensures.ok c.add.ensures.err
-    (taken l.plan c.args.offered.now.plan l.base l.kept.trials new.trials l.kept.sums.items new.sums.items p c.piece.result c.totals.result c.self.invariant c.piece.ensures.value plan c.totals.ensures.value c.piece.ensures.piece apart c.totals.ensures.few)
+    (taken l.plan c.args.offered.now.plan l.base l.kept.trials new.trials l.kept.sums.items new.sums.items p
+    c.piece.result c.totals.result c.self.invariant c.piece.ensures.value plan c.totals.ensures.value
+    c.piece.ensures.piece apart c.totals.ensures.few)
     (λ same. subst (λ (k : Kept). AreKept l.plan l.base k.trials k.sums.items) (sym same) c.self.invariant)

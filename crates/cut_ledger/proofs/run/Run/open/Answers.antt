@@ -14,7 +14,9 @@ invariant_of-result c =
 
 pub returns : goal.returns
 returns c =
-    let lost : c.in_ok-lost.lost.items ≡ replicate c.len.result false = c.in_ok-lost.ensures.items_if_clones_equal (λ y same. same) in
+    let lost : c.in_ok-lost.lost.items ≡ replicate c.len.result false = c.in_ok-lost.ensures.items_if_clones_equal
+    (λ y same. same) in
     let each : c.in_ok-lost.lost.items ≡ map (λ p. false) c.in_ok-division.division.items =
-    lost ∙ splat_is_map c.in_ok-division.division.items c.len.result false (omega (arith, c.len.ensures, c.in_ok-division.division.ok)) in
+    lost ∙ splat_is_map c.in_ok-division.division.items c.len.result false
+    (omega (arith, c.len.ensures, c.in_ok-division.division.ok)) in
     cc (each, c.in_ok-division.ensures.value, c.requires.ledger)

@@ -37,6 +37,6 @@ returns-clause-reads c = λ stream messages has.
       | in-None w ↦ read_on c.args.self.now c.match-split.self stream c.args.piece.now bytes rest messages
           c.in-Ok.split.messages.items right has are splits
           (ap (λ (r : Reading). r.side) w.self-is ∙ side) (ap (λ (r : Reading). r.fault) w.self-is ∙ fault)
-          (λ none. ap (λ (r : Reading). r.held) w.self-is ∙ w.drop_front.ensures
+          (λ none. ap (λ (r : Reading). r.held) w.self-is ∙ w.drop_prefix.ensures
           ∙ ap (λ (l : List ℕ). drop c.in-Ok.split.read l) (sym c.as_slice.ensures.value))
     ]

@@ -13,7 +13,8 @@ pub slots_among-requires-clause-edges : goal.slots_among-requires-clause-edges
 slots_among-requires-clause-edges c =
     let t = c.args.self.now in
     subst (λ es. are_edges_of t.rule.k 2048 es ≡ true) (sym c.requires.run.all)
-    (edges_of_run t.rule.k (alerts_of t) c.args.subject 2048 (omega (arith, c.requires.run.process, t.layout.few_nodes)))
+    (edges_of_run t.rule.k (alerts_of t) c.args.subject 2048
+    (omega (arith, c.requires.run.process, t.layout.few_nodes)))
 
 pub returns-clause-node : goal.returns-clause-node
 returns-clause-node c =

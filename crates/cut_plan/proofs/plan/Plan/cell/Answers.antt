@@ -8,4 +8,5 @@ pub returns-clause-cell : goal.returns-clause-cell
 returns-clause-cell c =
     let plan : IsPlan c.args.self.now = search rules in
     let same : c.self.inside.cells.items ≡ cells_of c.args.self.now = search rules in
-    cell-facts c.args.self.now c.args.i c.index.result.now c.self.inside.cells.items plan same c.requires c.index.ensures
+    cell-facts c.args.self.now c.args.i c.index.result.now c.self.inside.cells.items plan same c.requires
+    c.index.ensures

@@ -31,7 +31,8 @@ seed_at-requires c = (checked_facts (view c.args.value.now) c.requires).ranges f
 pub returns-clause-ok : goal.returns-clause-ok
 returns-clause-ok c =
     let d = view c.args.value.now in
-    let seed : c.seed_at.result ≡ unwrap_or (result_ok (decode_sized (text_at d field.Seed) 32)) [] = rw c.seed_at.ensures refl in
+    let seed : c.seed_at.result ≡ unwrap_or (result_ok (decode_sized (text_at d field.Seed) 32)) [] = rw
+    c.seed_at.ensures refl in
     rw (
       c.number_at.ensures,
       c.dead_at.ensures,
@@ -52,5 +53,10 @@ pub invariant_of-result : goal.invariant_of-result
 invariant_of-result c =
     let d = view c.args.value.now in
     let plan = plan_facts d c.requires (sym c.in_ok-check_together.ensures) in
-    let cells = rw (c.as_slice.ensures.value, c.as_slice-2.ensures.value, c.as_slice-3.ensures.value, c.as_slice-4.ensures.value) at c.in_ok-cells.ensures in
+    let cells = rw (
+      c.as_slice.ensures.value,
+      c.as_slice-2.ensures.value,
+      c.as_slice-3.ensures.value,
+      c.as_slice-4.ensures.value,
+    ) at c.in_ok-cells.ensures in
     record { plan = subst IsPlan (sym (returns-clause-ok c)) plan; cells = cells }

@@ -10,5 +10,6 @@ use Rattle.cut_plan.proofs.plan.Plan.to_value.Goals as goal
 pub returns : goal.returns
 returns c =
     let v = c.args.self.now in
-    let whole = take_fields (version_of v.failing) c.fields_of-fields.result c.loop-field.field-index (c.fields_of-fields.ensures ∙ ap fields_of c.version.ensures.value) c.loop-field-test.false in
+    let whole = take_fields (version_of v.failing) c.fields_of-fields.result c.loop-field.field-index
+    (c.fields_of-fields.ensures ∙ ap fields_of c.version.ensures.value) c.loop-field-test.false in
     view-Object c.loop-field.members ∙ ap object (c.loop-field.invariant ∙ ap (with_fields v) whole) ∙ with_own_fields v

@@ -1,4 +1,5 @@
-use Rattle.std.proofs.Common.{◌≡◌, ◌∙◌, ℕ, ◌<◌, List, [], min, max, slice_index, slice_index_or, option_map, Option, IfSome, length, ap, sym, subst}
+use Rattle.std.proofs.Common.{◌≡◌, ◌∙◌, ℕ, ◌<◌, List, [], min, max, slice_index, slice_index_or, option_map, Option}
+use Rattle.std.proofs.Common.{IfSome, length, ap, sym, subst}
 use Rattle.std.proofs.lemmas.List.{get_or-replicate}
 use Rattle.cut_blocks.specs.Images.{never}
 use Rattle.cut_arrivals.specs.Hearing.{lows_at}

@@ -11,8 +11,12 @@ pub loop-cause-init : goal.loop-cause-init
 loop-cause-init c = record {
   times = λ i low. ap (λ (vs : List (List ℕ)). lane i vs) c.clear.ensures.items;
   many = c.clear.ensures.len;
-  room = omega
-      (arith, few_causes c.args.self.now.trial c.args.node.now c.requires.node, c.requires.room, c.clear.ensures.capacity);
+  room = omega (
+    arith,
+    few_causes c.args.self.now.trial c.args.node.now c.requires.node,
+    c.requires.room,
+    c.clear.ensures.capacity,
+  );
   capacity = refl;
 }
 

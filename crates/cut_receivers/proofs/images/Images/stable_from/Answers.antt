@@ -15,7 +15,7 @@ pub ranks-requires-clause-times : goal.ranks-requires-clause-times
 ranks-requires-clause-times c i low =
     let t = c.args.self.now.trial in
     let j : ℕ = slice_index c.args.self.now.receivers i in
-    let laws = c.few_values_tell_lows_and_highs.ensures in
+    let laws = c.few_values_give_lows_and_highs.ensures in
     let known : AreKnown = record {
       least = c.images_stand_in_blocks.ensures;
       others = laws.others;
@@ -31,7 +31,7 @@ pub returns-clause-high : goal.returns-clause-high
 returns-clause-high c i low =
     let t = c.args.self.now.trial in
     let j : ℕ = slice_index c.args.self.now.receivers i in
-    let laws = c.few_values_tell_lows_and_highs.ensures in
+    let laws = c.few_values_give_lows_and_highs.ensures in
     let known : AreKnown = record {
       least = c.images_stand_in_blocks.ensures;
       others = laws.others;

@@ -37,7 +37,7 @@ returns-clause-low c i low =
     ap (λ (vs : List (List ℕ)). lane i vs) c.as_slice-2.ensures.value ∙ c.gather.ensures.images i low
     ∙ ap (λ (slots : List Slot). map (λ slot. image_of_key (hearing_in c.args.self.now i)
     (key_in t.nodes.now.blocks.items slot)) slots) c.as_slice.ensures.value in
-    low_is c.images_stand_in_blocks.ensures c.few_values_tell_lows_and_highs.ensures.low t c.args.node.now j
+    low_is c.images_stand_in_blocks.ensures c.few_values_give_lows_and_highs.ensures.low t c.args.node.now j
     (slice_index c.ranks.result.0 i)
     c.requires.node (subst (λ (xs : List ℕ). IsRank never t.rule.l xs (slice_index c.ranks.result.0 i)) values
     (c.ranks.ensures.low i low))
@@ -50,7 +50,8 @@ returns-clause-high c none i low =
     ap (λ (vs : List (List ℕ)). lane i vs) c.as_slice-2.ensures.value ∙ c.gather.ensures.images i low
     ∙ ap (λ (slots : List Slot). map (λ slot. image_of_key (hearing_in c.args.self.now i)
     (key_in t.nodes.now.blocks.items slot)) slots) c.as_slice.ensures.value in
-    high_is c.images_stand_in_blocks.ensures c.few_values_tell_lows_and_highs.ensures.high c.few_values_tell_lows_and_highs.ensures.ungained
+    high_is c.images_stand_in_blocks.ensures c.few_values_give_lows_and_highs.ensures.high
+    c.few_values_give_lows_and_highs.ensures.ungained
     t c.args.node.now j (slice_index c.ranks.result.1 i) c.requires.node none
     (subst (λ (xs : List ℕ). IsRank never t.rule.h xs (slice_index c.ranks.result.1 i)) values
     (c.ranks.ensures.high i low))

@@ -3,7 +3,8 @@ use Rattle.cut_blocks.specs.Images.{never}
 use Rattle.cut_lanes.specs.Lanes.{lane}
 use Rattle.cut_ranks.specs.Closing.{is_doubtful}
 use Rattle.cut_receivers.specs.Findings.{flagged, has_bit, is_other, members_at}
-use Rattle.cut_receivers.proofs.Judged.{has_ended, members_are, wanted_members, other_members, bit_is, silent_bit, found}
+use Rattle.cut_receivers.proofs.Judged.{has_ended, members_are, wanted_members, other_members, bit_is, silent_bit}
+use Rattle.cut_receivers.proofs.Judged.{found}
 use Rattle.cut_receivers.proofs.Placed.{lane_long}
 use Rattle.cut_receivers.proofs.receivers.Receivers.judge.Goals as goal
 
@@ -30,6 +31,6 @@ returns-clause-finds c x subjects i low h =
     rw (doubt_bit, silent_is, other_is)
     (found doubted comes other (members_at x) (filter (λ s. has_ended x subjects i f h s) subjects)
     (flagged subjects flags)
-    (members_are x subjects i f h c.images_tell_the_members.ensures c.nodes_tell_the_verdict.ensures.other)
+    (members_are x subjects i f h c.images_give_the_members.ensures c.nodes_show_the_verdict.ensures.other)
     (wanted_members x subjects i f h flags m long many)
     (other_members x subjects i f h flags m long many))

@@ -1,4 +1,5 @@
-use Rattle.std.proofs.Common.{Vec, Global, ◌≡◌, ◌∙◌, ℕ, ◌<◌, ◌≤◌, nat_le, nat_lt, List, [], ◌∷◌, ◌++◌, length, filter, slice_index, slice_index_or, vec_len, vec_capacity, ap, sym, subst, refl, arith}
+use Rattle.std.proofs.Common.{Vec, Global, ◌≡◌, ◌∙◌, ℕ, ◌<◌, ◌≤◌, nat_le, nat_lt, List, [], ◌∷◌, ◌++◌, length, filter}
+use Rattle.std.proofs.Common.{slice_index, slice_index_or, vec_len, vec_capacity, ap, sym, subst, refl, arith}
 use Rattle.std.proofs.lemmas.List.{get_or_read_under, take_all}
 use Rattle.cut_blocks.specs.Images.{never}
 use Rattle.cut_arrivals.specs.Hearing.{Hearing, highs_at}
@@ -8,7 +9,7 @@ use Rattle.cut_receivers.specs.Heard.{HasHeard}
 use Rattle.cut_receivers.specs.Findings.{members_at}
 use Rattle.cut_receivers.proofs.Choices.{value_lane}
 use Rattle.cut_receivers.proofs.Placed.{subject_at, count_subjects}
-use Rattle.cut_receivers.proofs.Judged.{high_at, members_are, if_some, sure_of}
+use Rattle.cut_receivers.proofs.Judged.{high_at, members_are, if_some, certain_of}
 use Rattle.cut_receivers.proofs.Kept.{filter_kept_next, filter_left_next}
 use Rattle.cut_receivers.proofs.receivers.Receivers.members.Goals.{then-has_ended, else-has_ended}
 use Rattle.cut_receivers.proofs.receivers.Receivers.members.Goals as goal
@@ -85,8 +86,9 @@ returns-clause-members c x h clear =
     let nodes : List Node = c.args.nodes.now.nodes.items in
     let subjects : List ℕ = subjects_of nodes in
     let time : ℕ = slice_index c.args.self.now.closing.time c.args.lane in
-    let known = members_are x subjects c.args.lane c.args.self.now h c.images_tell_the_members.ensures c.nodes_tell_the_verdict.ensures.other
-    (sure_of x subjects c.args.lane c.args.self.now h clear) in
+    let known = members_are x subjects c.args.lane c.args.self.now h c.images_give_the_members.ensures
+    c.nodes_show_the_verdict.ensures.other
+    (certain_of x subjects c.args.lane c.args.self.now h clear) in
     let all : length subjects ≤ c.loop-place.place =
     omega (
       arith,

@@ -9,7 +9,7 @@ returns-clause-places c =
     IfOk-weaker c.count_deliveries.result _ _ (λ p counts i subjects low h clear apart.
     let x = hearing_of c.args.trial (slice_index c.args.receivers i) in
     let f = c.args.self.now in
-    placed c.images_tell_the_place.ensures x subjects i f p h clear (counts i low (time_within x subjects i f h)) apart)
+    placed c.images_give_the_place.ensures x subjects i f p h clear (counts i low (time_within x subjects i f h)) apart)
     c.count_deliveries.ensures.counted
 
 pub returns-clause-counted : goal.returns-clause-counted

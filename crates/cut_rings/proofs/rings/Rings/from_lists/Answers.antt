@@ -15,25 +15,38 @@ use Rattle.cut_rings.proofs.rings.Rings.from_lists.Goals as goal
 pub returns-then-not-are_orders-clause-not_permutation :
     goal.returns-then-not-are_orders-clause-not_permutation
 returns-then-not-are_orders-clause-not_permutation c =
-    let some : 0 < length c.args.lists.now = grind (arith, nat_tests) in
-    (λ _. (omega arith, some, some_not_order c.args.n c.args.lists.now (sym c.are_orders.ensures ∙ c.if-not-are_orders.true)), λ _. refl)
+    let some : 0 < length c.args.lists.now = grind (arith, nat_tests) in (
+      λ _. (
+        omega arith,
+        some,
+        some_not_order c.args.n c.args.lists.now
+            (sym c.are_orders.ensures ∙ c.if-not-are_orders.true),
+      ),
+      λ _. refl,
+    )
 
 pub listed_rings-requires-clause-each_once : goal.listed_rings-requires-clause-each_once
-listed_rings-requires-clause-each_once c = all_orders c.args.n c.args.lists.now (sym c.are_orders.ensures ∙ c.if-not-are_orders.false)
+listed_rings-requires-clause-each_once c = all_orders c.args.n c.args.lists.now
+    (sym c.are_orders.ensures ∙ c.if-not-are_orders.false)
 
 pub returns-in_err-rings-clause-not_permutation : goal.returns-in_err-rings-clause-not_permutation
 returns-in_err-rings-clause-not_permutation c =
     let never : IsErrOf c.from_residual.result NotPermutation → ⊥ = search rules in
-    let all = all_orders c.args.n c.args.lists.now (sym c.are_orders.ensures ∙ c.if-not-are_orders.false) in
-    (λ told. absurd (never told), λ bad. absurd (denied (λ list. IsOrder c.args.n list.items) c.args.lists.now all bad.2))
+    let all = all_orders c.args.n c.args.lists.now (sym c.are_orders.ensures ∙ c.if-not-are_orders.false) in (
+      λ reported. absurd (never reported),
+      λ bad. absurd
+          (denied (λ list. IsOrder c.args.n list.items) c.args.lists.now all bad.2),
+    )
 
 pub invariant_of-result : goal.invariant_of-result
 invariant_of-result c =
     let table : Vec ℕ Global → List ℕ = λ list. map (λ p. listed_position list.items p) (range_with_len 0 c.args.n) in
     let many : length c.in_ok-rings.rings.items ≡ length c.args.lists.now =
-    many_rings c.in_ok-rings.rings.items (map table c.args.lists.now) c.in_ok-rings.ensures.positions ∙ length-map c.args.lists.now table
+    many_rings c.in_ok-rings.rings.items (map table c.args.lists.now) c.in_ok-rings.ensures.positions
+    ∙ length-map c.args.lists.now table
     in
-    sound _ (omega arith) (omega arith) (let some : 0 < length c.args.lists.now = grind (arith, nat_tests) in omega arith) (omega arith) c.in_ok-rings.ensures.inverse
+    sound _ (omega arith) (omega arith) (let some : 0 < length c.args.lists.now = grind (arith, nat_tests)
+    in omega arith) (omega arith) c.in_ok-rings.ensures.inverse
 
 pub returns-clause-layout : goal.returns-clause-layout
 returns-clause-layout c =
@@ -47,4 +60,4 @@ returns-clause-each_once c = all_orders c.args.n c.args.lists.now (sym c.are_ord
 pub returns-clause-not_permutation : goal.returns-clause-not_permutation
 returns-clause-not_permutation c =
     let all = all_orders c.args.n c.args.lists.now (sym c.are_orders.ensures ∙ c.if-not-are_orders.false) in
-    (λ told. cc, λ bad. absurd (denied (λ list. IsOrder c.args.n list.items) c.args.lists.now all bad.2))
+    (λ reported. cc, λ bad. absurd (denied (λ list. IsOrder c.args.n list.items) c.args.lists.now all bad.2))

@@ -11,14 +11,17 @@ found c =
     let before = c.if-place-eq0.before in
     let is : IsLayout l = subst IsLayout c.self.view_is c.self.invariant.layout in
     let same : l.nodes ≡ c.self.inside.nodes = ap (λ m. m.nodes) (sym c.self.view_is) in
-    let is_read = read c.self.inside c.self.invariant l c.self.view_is c.args.ring c.index-ring.result.now c.args.subject place before c.index.result.now c.requires.ring c.requires.subject c.index-ring.ensures c.index-place.ensures c.index.ensures in
+    let is_read = read c.self.inside c.self.invariant l c.self.view_is c.args.ring c.index-ring.result.now
+    c.args.subject place before c.index.result.now c.requires.ring c.requires.subject c.index-ring.ensures
+    c.index-place.ensures c.index.ensures in
     let next : IsNext l.nodes before place =
     elim c.if-place-eq0.branch [
       | then-place-eq0 w ↦ inl (omega (arith, is.some_nodes), omega arith)
       | else-place-eq0 w ↦ inr ((λ e. omega (arith, is_read.place_in)), omega arith)
     ]
     in
-    observer_read l is c.args.ring c.args.subject place before c.index.result.now c.requires.ring c.requires.subject is_read next
+    observer_read l is c.args.ring c.args.subject place before c.index.result.now c.requires.ring c.requires.subject
+    is_read next
 
 pub returns-clause-value : goal.returns-clause-value
 returns-clause-value c = (found c).observer

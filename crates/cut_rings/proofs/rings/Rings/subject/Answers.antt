@@ -11,14 +11,17 @@ found c =
     let after = c.if-place-self.after in
     let is : IsLayout l = subst IsLayout c.self.view_is c.self.invariant.layout in
     let same : l.nodes ≡ c.self.inside.nodes = ap (λ m. m.nodes) (sym c.self.view_is) in
-    let is_read = read c.self.inside c.self.invariant l c.self.view_is c.args.ring c.index-ring.result.now c.args.observer place after c.index.result.now c.requires.ring c.requires.observer c.index-ring.ensures c.index-place.ensures c.index.ensures in
+    let is_read = read c.self.inside c.self.invariant l c.self.view_is c.args.ring c.index-ring.result.now
+    c.args.observer place after c.index.result.now c.requires.ring c.requires.observer c.index-ring.ensures
+    c.index-place.ensures c.index.ensures in
     let next : IsNext l.nodes place after =
     elim c.if-place-self.branch [
       | then-place-self w ↦ inl (omega arith, w.after-is)
       | else-place-self w ↦ inr ((λ e. w.if-place-self.false (omega arith)), w.after-is)
     ]
     in
-    subject_read l is c.args.ring c.args.observer place after c.index.result.now c.requires.ring c.requires.observer is_read next
+    subject_read l is c.args.ring c.args.observer place after c.index.result.now c.requires.ring c.requires.observer
+    is_read next
 
 pub returns-clause-value : goal.returns-clause-value
 returns-clause-value c = (found c).subject

@@ -21,5 +21,6 @@ pub returns-in-Err-clause-replies : goal.returns-in-Err-clause-replies
 returns-in-Err-clause-replies g c =
     let log = g.W.Wire.log in
     plan_refused c.args.self.now.hall.now.is_trusted c.args.text.now c.in-Ok.plan c.in-Err.fault c.code-in-Err.result
-    c.send_fault-in-Err.result (sending log c.args.line.now) (sending log c.send_fault-in-Err.new.line) c.in-Ok.ensures.ok
+    c.send_fault-in-Err.result (sending log c.args.line.now) (sending log c.send_fault-in-Err.new.line)
+    c.in-Ok.ensures.ok
     c.code-in-Err.ensures c.send_fault-in-Err.ensures

@@ -6,6 +6,7 @@ pub returns-clause-ends : goal.returns-clause-ends
 returns-clause-ends g c =
     let log = g.W.Wire.log in
     let line = c.serve.new.line in
-    concludes_at log c.args.self.now.hall.now c.args.self.now.pass.now.view c.serve.new.self.pass.now.view c.serve.result
+    concludes_at log c.args.self.now.hall.now c.args.self.now.pass.now.view c.serve.new.self.pass.now.view
+    c.serve.result
     c.args.wire.now line.wire.now _ _ line.wire.ghost_name line.sent (sending log c.new.result) c.new.ensures
     c.serve.ensures.ends assumption

@@ -55,7 +55,8 @@ loop-init g c = record {
   serving = serves_first c.args.self.now.hall.now c.args.self.now.pass.now.view c.requests-reader.result
       (sending g.W.Wire.log c.args.line.now) c.requests-reader.ensures.nothing
       (ap (λ (r : Reading). r.fault) c.requests-reader.ensures.value)
-      (ap (λ (r : Reading). r.side) c.requests-reader.ensures.value) (rises_none c.args.self.now.pass.now.view) c.requires;
+      (ap (λ (r : Reading). r.side) c.requests-reader.ensures.value) (rises_none c.args.self.now.pass.now.view)
+      c.requires;
   few = omega arith;
   hall = refl;
   pass = refl;

@@ -49,9 +49,11 @@ judge_one-requires-clause-heard c =
     let end : c.min-lane-end.result ≡ min 4 (length round.cast.receivers.now - c.args.first) = search rules in
     let low : lane < 4 = omega (arith, end, c.loop-lane-test.true) in
     let inside : c.args.first + lane < length round.cast.receivers.now = omega (arith, end, c.loop-lane-test.true) in
-    subst (λ (t : Receivers). HasHeard (hearing_of round.trial (slice_index round.cast.receivers.now (c.args.first + lane))) subjects lane t)
+    subst (λ (t : Receivers). HasHeard (hearing_of round.trial
+    (slice_index round.cast.receivers.now (c.args.first + lane))) subjects lane t)
     (sym c.loop-lane.invariant.times)
-    (subst (λ j. HasHeard (hearing_of round.trial j) subjects lane c.places.new.self.times) (c.four_from-four.ensures.each lane inside low)
+    (subst (λ j. HasHeard (hearing_of round.trial j) subjects lane c.places.new.self.times)
+    (c.four_from-four.ensures.each lane inside low)
     (c.in_ok-places.ensures.same _ subjects lane (c.in_ok-hear.ensures lane low)))
 
 pub judge_one-requires-clause-found : goal.judge_one-requires-clause-found
@@ -73,16 +75,20 @@ judge_one-requires-clause-found c =
     let f : Found = record { finding = c.at.result; place = c.place_in.result } in
     let found : IsFound x version wanted doubt f = record {
       finds = subst (λ f. Finds wanted (members_at x) f) (sym c.at.ensures.finding) finds;
-      sure = λ set. c.at.ensures.doubtful.1 (subst (λ n. IsTrue (has_bit n lane)) (sym c.judge-findings.ensures.doubtful) set);
-      placed = found_placed x version wanted lane doubt c.judge-findings.result c.in_ok-places.places c.place_in.result low
+      certain = λ set. c.at.ensures.doubtful.1 (subst (λ n. IsTrue (has_bit n lane))
+          (sym c.judge-findings.ensures.doubtful) set);
+      placed = found_placed x version wanted lane doubt c.judge-findings.result c.in_ok-places.places c.place_in.result
+          low
           c.place_in.ensures.unasked c.place_in.ensures.place c.in_ok-places.ensures.unasked
-          (IfSome_then c.in_ok-places.places c.in_ok-places.ensures.places (λ p counted. counted lane subjects low heard))
+          (IfSome_then c.in_ok-places.places c.in_ok-places.ensures.places
+          (λ p counted. counted lane subjects low heard))
           finds
           (λ is. subst (λ n. IsTrue (has_bit n lane)) c.judge-findings.ensures.doubtful (c.at.ensures.doubtful.0
           (c.at.ensures.finding ∙ is)));
       few = c.place_in.ensures.few;
     } in
-    subst (λ (j : ℕ). IsFound (hearing_of round.trial j) version wanted (has_bit c.loop-lane.self.times.closing.doubt lane) f)
+    subst (λ (j : ℕ). IsFound (hearing_of round.trial j) version wanted
+    (has_bit c.loop-lane.self.times.closing.doubt lane) f)
     (c.four_from-four.ensures.each lane inside low)
     (subst (λ n. IsFound x version wanted (has_bit n lane) f) (sym same) found)
 

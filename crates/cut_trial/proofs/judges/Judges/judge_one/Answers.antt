@@ -7,7 +7,8 @@ use Rattle.cut_plan.specs.Versions.{version_of}
 use Rattle.cut_trial.specs.Judging.{proposed_by, proposals_to}
 use Rattle.cut_trial.proofs.Placed.{placed_for}
 use Rattle.cut_trial.proofs.Words.{IfSome, Proposal, IsPlaced, all_deliveries, early, rule_of}
-use Rattle.cut_trial.proofs.Judged.{few_judged, found_other, not_doubtful, wanted_is_certain, other_is_certain, found_silent, found_wanted, on_ok, one_more_judged, receiver_within}
+use Rattle.cut_trial.proofs.Judged.{few_judged, found_other, not_doubtful, wanted_is_certain, other_is_certain}
+use Rattle.cut_trial.proofs.Judged.{found_silent, found_wanted, on_ok, one_more_judged, receiver_within}
 use Rattle.cut_trial.proofs.Ascending.{proposed_ascend}
 use Rattle.cut_trial.proofs.Outcomes.{none_proposed, some_proposed}
 use Rattle.cut_trial.proofs.judges.Judges.judge_one.Goals as goal
@@ -48,9 +49,11 @@ returns-in-Wanted-Some-clause-judged c =
     let same : proposal_at (hearing_of round.trial j) ≡ p =
     round.heard j ∙ ap (λ x. proposed_by cast.alerts.now x j) (sym c.requires.draws) in
     let proposed = ap (option_map (λ (x : Proposal). x.members)) (sym same)
-    ∙ found_wanted wanted (members_at (hearing_of round.trial j)) c.args.found.finding c.in-Wanted-Some.is-0 c.requires.found.finds in
+    ∙ found_wanted wanted (members_at (hearing_of round.trial j)) c.args.found.finding c.in-Wanted-Some.is-0
+    c.requires.found.finds in
     let found = some_proposed p wanted (sym proposed) in
-    let certain = not_doubtful _ c.args.found.finding (wanted_is_certain c.args.found.finding c.in-Wanted-Some.is-0) c.requires.found.sure in
+    let certain = not_doubtful _ c.args.found.finding (wanted_is_certain c.args.found.finding c.in-Wanted-Some.is-0)
+    c.requires.found.certain in
     rw (one_more_judged cast.alerts.now d cast.receivers.now c.args.index c.requires.some, found.1)
     (c.add_exact.ensures.judging cast.roles.now found.0 (proposals_to cast.alerts.now d cast.receivers.now c.args.index)
     (found.2 ∙ round.complete c.if-round.true)
@@ -81,10 +84,11 @@ add-requires-in-Other-Some-clause-ascending c =
     let j : ℕ = get_or cast.receivers.now c.args.index 0 in
     let same : proposal_at (hearing_of round.trial j) ≡ proposed_by alerts d j =
     round.heard j ∙ ap (λ x. proposed_by alerts x j) (sym c.requires.draws) in
-    let sure = not_doubtful _ c.args.found.finding (other_is_certain c.args.found.finding c.in-Other-Some.is-0) c.requires.found.sure in
+    let certain = not_doubtful _ c.args.found.finding (other_is_certain c.args.found.finding c.in-Other-Some.is-0)
+    c.requires.found.certain in
     let listed = found_other (flagged (subjects_of round.trial.nodes.now.nodes.items) round.wanted.now)
     (members_at (hearing_of round.trial j)) c.args.found.finding _ c.in-Other-Some.is-0 c.requires.found.finds
-    (c.in_ok-members-in-Other-Some.ensures.members (hearing_of round.trial j) c.requires.heard sure) in
+    (c.in_ok-members-in-Other-Some.ensures.members (hearing_of round.trial j) c.requires.heard certain) in
     proposed_ascend cast.roles.now alerts.study.rings.now
     (rule_of alerts.cell.k alerts.cell.h alerts.cell.l v.implicit)
     (early d j alerts.cell.k alerts.edges.items v.copies)
@@ -102,10 +106,11 @@ returns-in_ok-members-in-Other-Some-clause-judged c =
     let p : Option Proposal = proposed_by cast.alerts.now d j in
     let same : proposal_at (hearing_of round.trial j) ≡ p =
     round.heard j ∙ ap (λ x. proposed_by cast.alerts.now x j) (sym c.requires.draws) in
-    let sure = not_doubtful _ c.args.found.finding (other_is_certain c.args.found.finding c.in-Other-Some.is-0) c.requires.found.sure in
+    let certain = not_doubtful _ c.args.found.finding (other_is_certain c.args.found.finding c.in-Other-Some.is-0)
+    c.requires.found.certain in
     let listed = found_other (flagged (subjects_of round.trial.nodes.now.nodes.items) round.wanted.now)
     (members_at (hearing_of round.trial j)) c.args.found.finding _ c.in-Other-Some.is-0 c.requires.found.finds
-    (c.in_ok-members-in-Other-Some.ensures.members (hearing_of round.trial j) c.requires.heard sure) in
+    (c.in_ok-members-in-Other-Some.ensures.members (hearing_of round.trial j) c.requires.heard certain) in
     let proposed = ap (λ (ms : List ℕ). Some ms) c.as_slice.ensures.value ∙ listed
     ∙ ap (option_map (λ (x : Proposal). x.members)) same in
     let found = some_proposed p c.as_slice.result.now proposed in
@@ -113,7 +118,7 @@ returns-in_ok-members-in-Other-Some-clause-judged c =
     (λ more. rw (one_more_judged cast.alerts.now d cast.receivers.now c.args.index c.requires.some)
     (more p (proposals_to cast.alerts.now d cast.receivers.now c.args.index) proposed
     (placed_for (hearing_of round.trial j) (version_of cast.alerts.now.study.plan.now.failing)
-    c.args.self.now.outcome.version c.args.found.place c.in-Other-Some.place _ p c.in-Other-Some.is-1 sure same
+    c.args.self.now.outcome.version c.args.found.place c.in-Other-Some.place _ p c.in-Other-Some.is-1 certain same
     c.requires.fit.version c.requires.found.placed)
     (few_judged cast.roles.now cast.alerts.now d cast.receivers.now c.args.index cast.receivers_are cast.nodes)
     c.requires.before)) c.add-in-Other-Some.ensures.judging

@@ -1,4 +1,5 @@
-use Rattle.std.proofs.Common.{rules, ◌≡◌, ℕ, ◌<◌, ◌^◌, Bool, true, false, List, filter, length, refl, ap, sym, ◌∙◌, arith}
+use Rattle.std.proofs.Common.{rules, ◌≡◌, ℕ, ◌<◌, ◌^◌, Bool, true, false, List, filter, length, refl, ap, sym, ◌∙◌}
+use Rattle.std.proofs.Common.{arith}
 use Rattle.std.specs.Prelude.{All}
 use Rattle.std.proofs.lemmas.Bool.{eqb-true}
 use Rattle.cut_detector.specs.Rule.{rule_in}
@@ -35,7 +36,8 @@ judge_silent-requires-clause-silent c = λ j.
     let rule : Rule = rule_of alerts.cell.k alerts.cell.h alerts.cell.l alerts.study.plan.now.implicit in
     let none : is_some_stable alerts.study.rings.now rule (set_of alerts.edges.items) ≡ false =
     ap (λ (es : List Edge). is_some_stable alerts.study.rings.now rule (set_of es)) (sym c.as_slice-edges.ensures.value)
-    ∙ ap (λ (x : Rule). is_some_stable alerts.study.rings.now x (set_of c.as_slice-edges.result.now)) (sym c.rule-rule.ensures.rule)
+    ∙ ap (λ (x : Rule). is_some_stable alerts.study.rings.now x (set_of c.as_slice-edges.result.now))
+    (sym c.rule-rule.ensures.rule)
     ∙ sym c.in_ok-nodes.ensures.ends ∙ search rules in
     c.none_proposes_where_none_ends_stable.ensures
     (record {

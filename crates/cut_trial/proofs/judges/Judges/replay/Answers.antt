@@ -21,6 +21,8 @@ returns-clause-judged c =
     let p : Option Proposal = proposed_by c.args.cast.alerts.now c.args.draws.now c.args.receiver in
     let proposal = c.in_ok-hear.ensures.proposal in
     on_ok c.add.result
-    (λ more before few judging. more p before (c.members.ensures ∙ ap (option_map (λ (p : Proposal). p.members)) proposal)
-    (placed_at _ _ p (subst (λ o. IfSome o (λ x. x.at ≡ c.deliveries.result)) proposal c.deliveries.ensures.place)) few judging)
+    (λ more before few judging. more p before (c.members.ensures
+    ∙ ap (option_map (λ (p : Proposal). p.members)) proposal)
+    (placed_at _ _ p (subst (λ o. IfSome o (λ x. x.at ≡ c.deliveries.result)) proposal c.deliveries.ensures.place)) few
+    judging)
     c.add.ensures.judging

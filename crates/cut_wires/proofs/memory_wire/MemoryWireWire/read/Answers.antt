@@ -3,7 +3,7 @@ use Rattle.std.proofs.Common.{length-take-le}
 use Rattle.std.specs.Prelude.{Ok}
 use Rattle.std.proofs.lemmas.List.{take_rest}
 use Rattle.std.proofs.Math.Seq.{take-add, take-append_seam}
-use Rattle.cut_wires.specs.Memory.{Memory, HasRead, read_moves, rest_of}
+use Rattle.cut_wires.specs.Memory.{MemoryWireValue, HasRead, read_moves, rest_of}
 use Rattle.cut_wires.specs.Log.{Traffic, with_given}
 use Rattle.cut_wires.proofs.memory_wire.MemoryWireWire.read.Goals as goal
 
@@ -21,7 +21,7 @@ returns c =
       ends =
           c.self.inside.ends;
     } in
-    let old : Memory = record {
+    let old : MemoryWireValue = record {
       input = input;
       traffic = traffic;
       per = c.self.inside.per;
@@ -35,17 +35,17 @@ returns c =
     ∙ ap (λ xs. take moved (drop given xs)) c.deref.ensures.value in
     let long : length copied ≡ moved = c.copy_from_slice.ensures.len
     ∙ length-take-le moved was (omega (arith, c.min-moved.ensures)) in
-    let front : take moved buffer ≡ copied =
+    let prefix : take moved buffer ≡ copied =
     ap (λ n. take n buffer) (sym long) ∙ take-append_seam copied (drop moved was) in
     let more : take (given + moved) input ≡ take given input ++ take moved buffer =
-    take-add given moved input ∙ ap (λ (xs : List ℕ). take given input ++ xs) (sym (front ∙ is)) in
+    take-add given moved input ∙ ap (λ (xs : List ℕ). take given input ++ xs) (sym (prefix ∙ is)) in
     let after : Traffic = record {
       taken = c.self.inside.output.items;
       given = take (given + moved) input;
       ends = c.ends_after-self-inside.result;
     } in
     let made : after ≡ with_given traffic buffer moved = cc (more, c.ends_after-self-inside.ensures) in
-    let new : Memory = record {
+    let new : MemoryWireValue = record {
       input = input;
       traffic = after;
       per = c.self.inside.per;
@@ -64,11 +64,11 @@ returns c =
     let left : buffer ≡ take moved (rest_of old) ++ drop moved was =
     ap (λ xs. xs ++ drop moved was) (is ∙ ap (λ xs. take moved xs) (sym rest)) in
     record {
-      exact = subst (λ (m : Memory). HasRead m (Ok moved) was buffer new) c.self.view_is (
+      exact = subst (λ (m : MemoryWireValue). HasRead m (Ok moved) was buffer new) c.self.view_is (
         omega (arith, c.if-self-eq0.false),
         moves,
         left,
-        ap (λ (t : Traffic). (let m : Memory =
+        ap (λ (t : Traffic). (let m : MemoryWireValue =
             record {
               input = input;
               traffic = t;

@@ -11,8 +11,11 @@ invariant_of-self g c =
     let new : Option (List ℕ) = g.R.Read.remaining c.read.new.self in
     let bytes : List ℕ = take c.in-Ok.n c.read.new.buf in
     record {
-      read = consumed had new (given_of had has ++ bytes) (Consumes-trans had has new (given_of had has) bytes c.self.invariant.read c.in-Ok.ensures.bytes.0);
+      read = consumed had new (given_of had has ++ bytes)
+          (Consumes-trans had has new (given_of had has) bytes c.self.invariant.read c.in-Ok.ensures.bytes.0);
       written = c.self.invariant.written;
-      ended = ended_then had has new bytes c.self.inside.ends c.ends_after-self-inside.result c.in-Ok.n (length c.read.new.buf) c.self.invariant.read c.self.invariant.ended
-          c.in-Ok.ensures.bytes.0 c.in-Ok.ensures.bytes.1 (omega (arith, c.requires, c.read.auto.buf)) c.ends_after-self-inside.ensures;
+      ended = ended_then had has new bytes c.self.inside.ends c.ends_after-self-inside.result c.in-Ok.n
+          (length c.read.new.buf) c.self.invariant.read c.self.invariant.ended
+          c.in-Ok.ensures.bytes.0 c.in-Ok.ensures.bytes.1 (omega (arith, c.requires, c.read.auto.buf))
+          c.ends_after-self-inside.ensures;
     }

@@ -5,4 +5,11 @@ use Rattle.range_set.proofs.range_set.RangeSet.end_of.Goals as goal
 
 pub overflow_add-result : goal.overflow_add-result
 overflow_add-result c =
-    omega (arith, c.requires, c.self.invariant.few, ap (λ (h : Held). length h.held) c.self.view_is, length_is c.self.inside.section_len c.self.inside.sections.items)
+    omega (
+      arith,
+      c.requires,
+      c.self.invariant.few,
+      ap (λ (h : Held). length h.held) c.self.view_is,
+      length_is
+          c.self.inside.section_len c.self.inside.sections.items,
+    )

@@ -14,7 +14,8 @@ loop-from-init c =
       order = omega arith;
       within = omega arith;
       free = λ t low high. absurd (omega arith);
-      so_far = ap (λ (n : ℕ). c.args.gaps.now.items ++ spans (λ t. not (has c.args.self.now t)) c.args.span.first n) count;
+      so_far = ap (λ (n : ℕ). c.args.gaps.now.items ++ spans (λ t. not (has c.args.self.now t)) c.args.span.first n)
+          count;
     }
 
 pub loop-from-preserved : goal.loop-from-preserved
@@ -41,7 +42,8 @@ loop-from-preserved-in_ok-push_gap c =
       order = omega arith;
       within = omega arith;
       free = λ t low high. absurd (omega arith);
-      so_far = gaps_step (λ t. not (has c.args.self.now t)) c.loop-from.start c.loop-from.from c.min-next.result c.end_of-end.result c.loop-from.gaps.items c.push_gap.new.gaps.items _ order (omega arith) (omega arith)
+      so_far = gaps_step (λ t. not (has c.args.self.now t)) c.loop-from.start c.loop-from.from c.min-next.result
+          c.end_of-end.result c.loop-from.gaps.items c.push_gap.new.gaps.items _ order (omega arith) (omega arith)
           (λ t low high. ap not (c.loop-from.invariant.free t low high))
           (λ t low high. ap not (run.lasts t low (omega arith) ∙ c.if-run.true))
           c.in_ok-push_gap.ensures c.loop-from.invariant.so_far;
@@ -56,5 +58,7 @@ returns c =
     let within = c.loop-from.invariant.within in
     let rest : start + (end - start) ≡ end = omega arith in
     let last : spans test start (end - start) ≡ span_between start end =
-    spans_last test start (end - start) (λ t low high. ap not (c.loop-from.invariant.free t low (omega arith))) ∙ ap (span_between start) rest in
-    on_ok_weaker c.push_gap-2.result (λ e. e ∙ ap (λ (xs : List Span). c.loop-from.gaps.items ++ xs) (sym last) ∙ c.loop-from.invariant.so_far) c.push_gap-2.ensures
+    spans_last test start (end - start) (λ t low high. ap not (c.loop-from.invariant.free t low (omega arith)))
+    ∙ ap (span_between start) rest in
+    on_ok_weaker c.push_gap-2.result (λ e. e ∙ ap (λ (xs : List Span). c.loop-from.gaps.items ++ xs) (sym last)
+    ∙ c.loop-from.invariant.so_far) c.push_gap-2.ensures

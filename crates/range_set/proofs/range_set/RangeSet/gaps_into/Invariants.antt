@@ -9,7 +9,8 @@ invariant-loop-from l = record {
   order : l.start ≤ l.from;
   within : l.from ≤ l.end;
   free : (t : ℕ) → l.start ≤ t → t < l.from → has l.fn.self t ≡ false;
-  so_far : l.gaps.items ++ spans (λ t. not (has l.fn.self t)) l.start (l.end - l.start) ≡ l.initial.gaps.items ++ spans (λ t. not (has l.fn.self t)) l.fn.span.first l.fn.span.count;
+  so_far : l.gaps.items ++ spans (λ t. not (has l.fn.self t)) l.start (l.end - l.start) ≡ l.initial.gaps.items
+      ++ spans (λ t. not (has l.fn.self t)) l.fn.span.first l.fn.span.count;
 }
 
 abbrev pub decreases-loop-from : goal.decreases-loop-from

@@ -39,7 +39,8 @@ returns-clause-held c =
     rw (← c.self.view_is)
     (on_ok_weaker c.insert.result (λ turned.
     span_put l ss c.insert.new.self p c.self.invariant.some of apart (λ t.
-    turned t ∙ ap (λ (s : Blocks). flipped (is_between (p.first % l) (p.first % l + p.count) t) (is_at s.blocks t)) own)) c.insert.ensures.flipped)
+    turned t ∙ ap (λ (s : Blocks). flipped (is_between (p.first % l) (p.first % l + p.count) t) (is_at s.blocks t))
+    own)) c.insert.ensures.flipped)
 
 pub returns-clause-others : goal.returns-clause-others
 returns-clause-others c =
@@ -48,4 +49,5 @@ returns-clause-others c =
     let of = rw (← c.self.view_is) at c.requires.section in
     let are = are_in l ss c.args.span c.self.invariant.some of in
     rw (← c.self.view_is)
-    (on_ok_weaker c.insert.result (λ _. others_stay ss (c.args.span.first / l) c.insert.new.self are.within) c.insert.ensures.flipped)
+    (on_ok_weaker c.insert.result (λ _. others_stay ss (c.args.span.first / l) c.insert.new.self are.within)
+    c.insert.ensures.flipped)

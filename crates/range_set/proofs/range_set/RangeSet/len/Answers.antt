@@ -9,11 +9,18 @@ count c = omega (arith, c.self.inside.sections.ok.0)
 
 pub overflow_cast-result : goal.overflow_cast-result
 overflow_cast-result c =
-    omega (arith, count c, c.self.invariant.few, few_sections (length c.self.inside.sections.items) c.self.inside.section_len c.self.invariant.some)
+    omega (
+      arith,
+      count c,
+      c.self.invariant.few,
+      few_sections (length c.self.inside.sections.items)
+          c.self.inside.section_len c.self.invariant.some,
+    )
 
 pub overflow_mul-result : goal.overflow_mul-result
 overflow_mul-result c =
-    let low : c.len.result * c.self.inside.section_len < 2 ^ 32 = subst (λ (n : ℕ). n * c.self.inside.section_len < 2 ^ 32) (sym (count c)) c.self.invariant.few in
+    let low : c.len.result * c.self.inside.section_len
+    < 2 ^ 32 = subst (λ (n : ℕ). n * c.self.inside.section_len < 2 ^ 32) (sym (count c)) c.self.invariant.few in
     omega arith
 
 pub returns : goal.returns

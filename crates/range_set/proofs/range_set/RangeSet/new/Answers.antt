@@ -14,12 +14,14 @@ pub invariant_of-result : goal.invariant_of-result
 invariant_of-result c = record {
   some = c.requires.some;
   few = subst (λ n. n * c.args.section_len < 2 ^ 32) (sym (all_made c)) c.requires.few;
-  long = λ k d low. ap length (c.loop-section.invariant.none k d low) ∙ length-replicate {A = List ℕ} (div_ceil c.args.section_len 65536) [];
+  long = λ k d low. ap length (c.loop-section.invariant.none k d low)
+      ∙ length-replicate {A = List ℕ} (div_ceil c.args.section_len 65536) [];
 }
 
 pub returns-clause-held : goal.returns-clause-held
 returns-clause-held c =
-    none_held c.args.section_len c.args.sections c.loop-section.list.items (all_made c) (λ k low. c.loop-section.invariant.none k no_blocks (omega (arith, all_made c)))
+    none_held c.args.section_len c.args.sections c.loop-section.list.items (all_made c)
+    (λ k low. c.loop-section.invariant.none k no_blocks (omega (arith, all_made c)))
 
 pub returns-clause-room : goal.returns-clause-room
 returns-clause-room c = length-map c.loop-section.list.items (λ (s : Blocks). s.room) ∙ all_made c

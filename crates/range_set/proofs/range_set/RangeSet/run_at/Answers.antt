@@ -8,12 +8,15 @@ use Rattle.range_set.proofs.SetLemmas.{IsNumber, block_of, length_is, number, ru
 use Rattle.range_set.proofs.range_set.RangeSet.run_at.Goals as goal
 
 -- the number is one of the set's
-its : (l n t : ℕ) (ss : List Blocks) (h : Held) → held_in l ss ≡ h → 0 < l → t < length h.held → IsNumber l (length ss) t
-its l n t ss h is some low = number l (length ss) t some (omega (arith, ap (λ (x : Held). length x.held) is, length_is l ss))
+its : (l n t : ℕ) (ss : List Blocks) (h : Held) → held_in l ss ≡ h → 0 < l → t < length h.held
+    → IsNumber l (length ss) t
+its l n t ss h is some low = number l (length ss) t some
+    (omega (arith, ap (λ (x : Held). length x.held) is, length_is l ss))
 
 pub index-requires : goal.index-requires
 index-requires c =
-    let at = its c.self.inside.section_len 0 c.args.number c.self.inside.sections.items _ c.self.view_is c.self.invariant.some c.requires in
+    let at = its c.self.inside.section_len 0 c.args.number c.self.inside.sections.items _ c.self.view_is
+    c.self.invariant.some c.requires in
     omega (arith, at.section, c.self.inside.sections.ok.0)
 
 pub run_at-run-requires-clause-within : goal.run_at-run-requires-clause-within
@@ -22,11 +25,13 @@ run_at-run-requires-clause-within c =
     let ss : List Blocks = c.self.inside.sections.items in
     let at = its l 0 c.args.number ss _ c.self.view_is c.self.invariant.some c.requires in
     let own = get_or_read ss (c.args.number / l) c.index.result.now at.section c.index.ensures no_blocks in
-    subst (λ (s : Blocks). c.args.number % l / 65536 < length s.blocks) (sym own) (block_of l ss _ _ c.self.invariant.long at.section at.place)
+    subst (λ (s : Blocks). c.args.number % l / 65536 < length s.blocks) (sym own)
+    (block_of l ss _ _ c.self.invariant.long at.section at.place)
 
 pub overflow_add-result : goal.overflow_add-result
 overflow_add-result c =
-    let at = its c.self.inside.section_len 0 c.args.number c.self.inside.sections.items _ c.self.view_is c.self.invariant.some c.requires in
+    let at = its c.self.inside.section_len 0 c.args.number c.self.inside.sections.items _ c.self.view_is
+    c.self.invariant.some c.requires in
     omega (arith, at.is, at.end, at.place, c.min.ensures, c.self.invariant.few)
 
 pub returns-clause-run : goal.returns-clause-run
@@ -38,7 +43,8 @@ returns-clause-run c =
     let low : t < length ss * l = omega (arith, at.is, at.end, at.place) in
     let own = get_or_read ss (t / l) c.index.result.now at.section c.index.ensures no_blocks in
     rw (← c.self.view_is)
-    (subst (λ (e : ℕ). IsRun (has (held_in l ss)) t (record { held = c.run_at-run.result.held; end = t - t % l + e })) (sym c.min.ensures)
+    (subst (λ (e : ℕ). IsRun (has (held_in l ss)) t (record { held = c.run_at-run.result.held; end = t - t % l + e }))
+    (sym c.min.ensures)
     (run_in l ss t c.run_at-run.result c.index.result.now c.self.invariant.some low own c.run_at-run.ensures))
 
 pub returns-clause-within : goal.returns-clause-within
@@ -46,4 +52,13 @@ returns-clause-within c =
     let l : ℕ = c.self.inside.section_len in
     let ss : List Blocks = c.self.inside.sections.items in
     let at = its l 0 c.args.number ss _ c.self.view_is c.self.invariant.some c.requires in
-    omega (arith, at.is, at.end, at.place, c.min.ensures, ap (λ (x : Held). length x.held) c.self.view_is, length_is l ss)
+    omega (
+      arith,
+      at.is,
+      at.end,
+      at.place,
+      c.min.ensures,
+      ap (λ (x : Held). length x.held) c.self.view_is,
+      length_is l
+          ss,
+    )

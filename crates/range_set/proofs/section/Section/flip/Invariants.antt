@@ -4,6 +4,8 @@ use Rattle.range_set.proofs.section.Section.flip.Given as goal
 
 abbrev pub invariant-loop-at : goal.invariant-loop-at
 invariant-loop-at l = record {
-  flipped : AreFlipped (map (λ e. e.edges) l.initial.self-inside.blocks.items) (map (λ e. e.edges) l.self-inside.blocks.items) l.from l.end l.at;
-  room : (k : ℕ) → l.at ≤ k → k < length l.self-inside.blocks.items → (get_or l.self-inside.blocks.items k no_row).room ≡ true;
+  flipped : AreFlipped (map (λ e. e.edges) l.initial.self-inside.blocks.items)
+      (map (λ e. e.edges) l.self-inside.blocks.items) l.from l.end l.at;
+  room : (k : ℕ) → l.at ≤ k → k < length l.self-inside.blocks.items → (get_or l.self-inside.blocks.items k no_row).room
+      ≡ true;
 }

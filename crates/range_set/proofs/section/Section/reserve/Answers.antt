@@ -16,7 +16,8 @@ returns-in_err-reserve-clause-room c = λ room.
     let rows : List Row = c.loop-at.self-inside.blocks.items in
     let in' : c.loop-at.at < length rows = omega (arith, c.loop-at.self-inside.blocks.ok.0) in
     let own = get_or_read rows c.loop-at.at c.index_mut.result.now in' c.index_mut.ensures.value no_row in
-    let had = had_none c.self.inside.blocks.items rows c.loop-at.at c.loop-at.invariant in' (ap (λ (r : Row). r.room) (sym own) ∙ none c) in
+    let had = had_none c.self.inside.blocks.items rows c.loop-at.at c.loop-at.invariant in'
+    (ap (λ (r : Row). r.room) (sym own) ∙ none c) in
     let all = ap (λ (b : Blocks). b.room) c.self.view_is in
     cc
 
@@ -27,7 +28,8 @@ returns-in_err-reserve-clause-err c =
     let same = c.in_err-reserve.ensures.err in
     let own = get_or_read rows c.loop-at.at c.index_mut.result.now in' c.index_mut.ensures.value no_row in
     on_err c.from_residual.result
-    (refused c.self.inside.blocks.items rows c.loop-at.at c.reserve.new.self c.loop-at.invariant in' (same ∙ own) (ap (λ (r : Row). r.room) same ∙ none c)
+    (refused c.self.inside.blocks.items rows c.loop-at.at c.reserve.new.self c.loop-at.invariant in' (same ∙ own)
+    (ap (λ (r : Row). r.room) same ∙ none c)
     ∙ c.self.view_is)
 
 pub loop-at-preserved : goal.loop-at-preserved
@@ -36,12 +38,14 @@ loop-at-preserved c =
     let in' : c.loop-at.at < length rows = omega (arith, c.loop-at.self-inside.blocks.ok.0) in
     let own = get_or_read rows c.loop-at.at c.index_mut.result.now in' c.index_mut.ensures.value no_row in
     reserved_more c.self.inside.blocks.items rows c.loop-at.at c.reserve.new.self c.loop-at.invariant in'
-    (c.in_ok-reserve.ensures.ok ∙ ap (λ (r : Row). let made : Row = record { edges = r.edges; room = true } in made) own)
+    (c.in_ok-reserve.ensures.ok ∙ ap (λ (r : Row). let made : Row = record { edges = r.edges; room = true } in made)
+    own)
 
 pub returns-clause-ok : goal.returns-clause-ok
 returns-clause-ok c =
     let rows : List Row = c.loop-at.self-inside.blocks.items in
     let at : c.loop-at.at ≡ length c.self.inside.blocks.items = omega (arith, c.self.inside.blocks.ok.0) in
     let are = subst (AreReserved c.self.inside.blocks.items rows) at c.loop-at.invariant in
-    ap (λ bs. record { blocks = bs; room = list_all (λ x. x.room) rows }) (are.edges ∙ ap (λ (b : Blocks). b.blocks) c.self.view_is)
+    ap (λ bs. record { blocks = bs; room = list_all (λ x. x.room) rows })
+    (are.edges ∙ ap (λ (b : Blocks). b.blocks) c.self.view_is)
     ∙ ap (λ b. record { blocks = c.args.self.now.blocks; room = b }) (all_reserved c.self.inside.blocks.items rows are)

@@ -1,7 +1,0 @@
-use Rattle.std.proofs.Common.{rules}
-use Rattle.cut_journal.specs.Reading.{number_at}
-use Rattle.cut_journal.proofs.file.number_at.Goals as goal
-
-pub returns : goal.returns
-unfolding number_at
-returns c = search rules

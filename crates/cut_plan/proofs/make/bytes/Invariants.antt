@@ -1,6 +1,0 @@
-use Rattle.std.proofs.Common.{◌≡◌, take}
-use Rattle.cut_plan.specs.Look.{item_numbers}
-use Rattle.cut_plan.proofs.make.bytes.Given as goal
-
-abbrev pub invariant-loop-i : goal.invariant-loop-i
-invariant-loop-i l = l.numbers.items ≡ take l.i (item_numbers l.items)

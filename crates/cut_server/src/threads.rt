@@ -1,0 +1,372 @@
+//! The threads of a server: each worker and each session has one, and a pass of the hall.
+ghost use Rattle.std.specs.Prelude.{◌≡◌, ◌≤◌, ◌+◌, ◌-◌, Bool, true, length, All, IfOk, IfErr};
+ghost use Rattle.atomic_table.specs.Seated.{TableId};
+ghost use Rattle.cut_server.specs.Serve.{Calls, IsOfThreads, Listens, called};
+
+use cut_book::Shelf;
+use cut_commands::CliFault;
+use cut_disks::Disk;
+use cut_hall::{CallLedger, Hall, OpenGate, Pass};
+use cut_session::session;
+use cut_wires::Wire;
+use std::alloc::Global;
+use std::snapshot::Snapshot;
+use std::sync::Wait;
+use std::thread::{self, Promise, PromisedHandle, Scope, Threads, join_promised};
+use thiserror::Error;
+
+/// No connection came.
+#[derive(Clone, Copy, Debug, PartialEq, Eq, Error)]
+#[error("no connection came")]
+pub struct ListenFault;
+
+/// What a server's connections come from. It counts the connections that it gave, and its calls that failed; at
+/// 2^64 - 1 a count stays.
+pub trait Listener<W> {
+    /// How many connections it gave, and how many of its calls failed.
+    ghost calls: { Self → Calls };
+
+    /// Waits for the next connection.
+    fn accept(&mut self) -> Result<W, ListenFault>
+        ensures { calls self.new ≡ called result (calls self.old) };
+
+    /// Turns those away who wait for their connection to be taken, and all who come later.
+    fn close(&mut self)
+        ensures { calls self.new ≡ calls self.old };
+}
+
+/// That a pass which comes back is of the hall that it was of.
+#[derive(Drop)]
+struct SameHall<M: CallLedger>(Snapshot<Pass<M>>);
+
+impl<M: CallLedger> Promise<Pass<M>> for SameHall<M> {
+    ghost kept_by = { λ p back. back.hall ≡ p.0.value.hall };
+}
+
+/// A thread that gives its pass back.
+type Attendance<M> = PromisedHandle<Pass<M>, SameHall<M>>;
+
+/// A hall as the threads of a server share it.
+trait ServerHall<D: Disk, M: CallLedger> {
+    /// Which hall it is.
+    ghost id_of: { Self → TableId };
+
+    /// Whether the slips that its studies begin with are those that their trials give.
+    ghost is_trusted: { Self → Bool };
+
+    /// Works on all studies until the work is ended.
+    fn work_with<R: Wait>(&self, rt: &R, alloc: Global, pass: &mut Pass<M>)
+        requires { pass.old.hall ≡ id_of self.now }
+        ensures { pass.new.hall ≡ pass.old.hall };
+
+    /// Serves a client, whichever way its session ends.
+    fn serve_with<S, W, R>(
+        &self,
+        rt: &R,
+        alloc: Global,
+        pass: &mut Pass<M>,
+        shelf: &S,
+        wire: &mut W,
+    )
+    where
+        S: Shelf<D>,
+        W: Wire,
+        R: Wait,
+        requires own { pass.old.hall ≡ id_of self.now }
+        requires trusted { is_trusted self.now ≡ true → S.is_true shelf.now ≡ true }
+        ensures { pass.new.hall ≡ pass.old.hall };
+
+    /// Ends the work.
+    fn end_work<R: Wait>(&self, rt: &R);
+}
+
+impl<D: Disk + Drop, M: CallLedger, K: CallLedger> ServerHall<D, M> for Hall<D, M, K> {
+    ghost id_of = { λ h. h.id };
+
+    ghost is_trusted = { λ h. h.is_trusted };
+
+    fn work_with<R: Wait>(&self, rt: &R, alloc: Global, pass: &mut Pass<M>) {
+        self.work(rt, alloc, pass, &OpenGate);
+    }
+
+    fn serve_with<S, W, R>(
+        &self,
+        rt: &R,
+        alloc: Global,
+        pass: &mut Pass<M>,
+        shelf: &S,
+        wire: &mut W,
+    )
+    where
+        S: Shelf<D>,
+        W: Wire,
+        R: Wait,
+    {
+        let _end = session(rt, alloc, self, pass, shelf, wire);
+    }
+
+    fn end_work<R: Wait>(&self, rt: &R) {
+        self.stop(rt);
+    }
+}
+
+/// The threads of the workers, and the passes of the sessions that have ended.
+#[derive(Drop)]
+struct Finished<M: CallLedger> {
+    workers: Vec<Attendance<M>>,
+    served: Vec<Pass<M>>,
+}
+
+/// What the threads of a server share: the hall, and the shelf on which its studies are kept.
+#[derive(Drop)]
+pub(crate) struct Site<'a, H, S, R> {
+    pub(crate) rt: &'a R,
+    pub(crate) alloc: Global,
+    pub(crate) hall: &'a H,
+    pub(crate) shelf: &'a S,
+}
+
+/// Lets this many passes work, each in a thread of its own, and serves a connection with each of the others. Once
+/// the sessions have ended the work is ended, and all passes come back.
+pub(crate) fn run_threads<D, M, H, S, L, W, R>(
+    site: &Site<'_, H, S, R>,
+    listener: L,
+    passes: Vec<Pass<M>>,
+    workers: u32,
+) -> (L, Result<Vec<Pass<M>>, CliFault>)
+where
+    D: Disk + Send,
+    M: CallLedger + Send + Sync,
+    H: ServerHall<D, M> + Sync,
+    S: Shelf<D> + Sync,
+    L: Listener<W> + Drop,
+    W: Wire + Send + Drop,
+    R: Threads + Wait + Sync,
+    requires own { All (λ p. p.hall ≡ H.id_of site.now.hall.now) passes.items }
+    requires trusted { H.is_trusted site.now.hall.now ≡ true → S.is_true site.now.shelf.now ≡ true }
+    requires few { workers ≤ length passes.items }
+    ensures own { IfOk result.1 (λ back. All (λ p. p.hall ≡ H.id_of site.now.hall.now) back.items) }
+    ensures whole { IfOk result.1 (λ back. length back.items ≡ length passes.items) }
+    ensures why { IfErr result.1 IsOfThreads }
+    ensures listens { Listens (length passes.items - workers) result.1 (L.calls listener) (L.calls result.0) }
+{
+    let rt = site.rt;
+    thread::scope(
+        thread::scope_env(),
+        rt,
+        |scope| -> (L, Result<Vec<Pass<M>>, CliFault>)
+            requires own { All (λ p. p.hall ≡ H.id_of site.now.hall.now) passes.items }
+            requires trusted { H.is_trusted site.now.hall.now ≡ true → S.is_true site.now.shelf.now ≡ true }
+            requires few { workers ≤ length passes.items }
+            ensures own { IfOk result.1 (λ back. All (λ p. p.hall ≡ H.id_of site.entry.now.hall.now) back.items) }
+            ensures whole { IfOk result.1 (λ back. length back.items ≡ length passes.items) }
+            ensures why { IfErr result.1 IsOfThreads }
+            ensures listens { Listens (length passes.items - workers) result.1 (L.calls listener) (L.calls result.0) }
+        {
+            let mut listener = listener;
+            let finished = run_in_scope(scope, site, &mut listener, passes, workers);
+            site.hall.end_work(rt);
+            match finished {
+                Ok(finished) => (listener, gathered(rt, finished)),
+                Err(fault) => (listener, Err(fault)),
+            }
+        },
+    )
+}
+
+/// The threads of the workers and those of the sessions.
+#[derive(Drop)]
+struct Started<M: CallLedger> {
+    workers: Vec<Attendance<M>>,
+    sessions: Vec<Attendance<M>>,
+}
+
+/// Starts the workers and the sessions, turns away who comes later, and waits until all sessions have ended.
+fn run_in_scope<'s, E, D, M, H, S, L, W, R>(
+    scope: &Scope<'s, E>,
+    site: &Site<'s, H, S, R>,
+    listener: &mut L,
+    passes: Vec<Pass<M>>,
+    workers: u32,
+) -> Result<Finished<M>, CliFault>
+where
+    D: Disk + Send + 's,
+    M: CallLedger + Send + Sync + 's,
+    H: ServerHall<D, M> + Sync,
+    S: Shelf<D> + Sync,
+    L: Listener<W>,
+    W: Wire + Send + Drop + 's,
+    R: Threads + Wait + Sync,
+    requires own { All (λ p. p.hall ≡ H.id_of site.now.hall.now) passes.items }
+    requires trusted { H.is_trusted site.now.hall.now ≡ true → S.is_true site.now.shelf.now ≡ true }
+    requires few { workers ≤ length passes.items }
+    ensures workers { IfOk result (λ a. All (λ h. h.promise.0.value.hall ≡ H.id_of site.now.hall.now) a.workers.items) }
+    ensures served { IfOk result (λ a. All (λ p. p.hall ≡ H.id_of site.now.hall.now) a.served.items) }
+    ensures whole { IfOk result (λ a. length a.workers.items + length a.served.items ≡ length passes.items) }
+    ensures why { IfErr result IsOfThreads }
+    ensures listens { Listens (length passes.items - workers) result (L.calls listener.old) (L.calls listener.new) }
+{
+    let started = start_all(scope, site, listener, passes, workers);
+    listener.close();
+    let Started { workers, sessions } = started?;
+    let Ok(served) = join_promised(site.rt, sessions) else {
+        return Err(CliFault::WorkMemory);
+    };
+    Ok(Finished { workers, served })
+}
+
+/// Starts the workers, and a session with each of the passes that are left.
+fn start_all<'s, E, D, M, H, S, L, W, R>(
+    scope: &Scope<'s, E>,
+    site: &Site<'s, H, S, R>,
+    listener: &mut L,
+    passes: Vec<Pass<M>>,
+    workers: u32,
+) -> Result<Started<M>, CliFault>
+where
+    D: Disk + Send + 's,
+    M: CallLedger + Send + Sync + 's,
+    H: ServerHall<D, M> + Sync,
+    S: Shelf<D> + Sync,
+    L: Listener<W>,
+    W: Wire + Send + Drop + 's,
+    R: Threads + Wait + Sync,
+    requires own { All (λ p. p.hall ≡ H.id_of site.now.hall.now) passes.items }
+    requires trusted { H.is_trusted site.now.hall.now ≡ true → S.is_true site.now.shelf.now ≡ true }
+    requires few { workers ≤ length passes.items }
+    ensures workers { IfOk result (λ s. All (λ h. h.promise.0.value.hall ≡ H.id_of site.now.hall.now) s.workers.items) }
+    ensures sessions { IfOk result (λ s. All (λ h. h.promise.0.value.hall
+        ≡ H.id_of site.now.hall.now) s.sessions.items) }
+    ensures whole { IfOk result (λ s.
+        length s.workers.items + length s.sessions.items ≡ length passes.items) }
+    ensures why { IfErr result IsOfThreads }
+    ensures listens { Listens (length passes.items - workers) result (L.calls listener.old) (L.calls listener.new) }
+{
+    let mut passes = passes;
+    let workers = start_workers(scope, site, &mut passes, workers)?;
+    let sessions = start_sessions(scope, site, listener, passes)?;
+    Ok(Started { workers, sessions })
+}
+
+/// Starts this many workers, each with one of the passes.
+fn start_workers<'s, E, D, M, H, S, R>(
+    scope: &Scope<'s, E>,
+    site: &Site<'s, H, S, R>,
+    passes: &mut Vec<Pass<M>>,
+    count: u32,
+) -> Result<Vec<Attendance<M>>, CliFault>
+where
+    D: Disk + Send + 's,
+    M: CallLedger + Send + Sync + 's,
+    H: ServerHall<D, M> + Sync,
+    R: Threads + Wait + Sync,
+    requires own { All (λ p. p.hall ≡ H.id_of site.now.hall.now) passes.old.items }
+    requires few { count ≤ length passes.old.items }
+    ensures rest { All (λ p. p.hall ≡ H.id_of site.now.hall.now) passes.new.items }
+    ensures own { IfOk result (λ started. All (λ h. h.promise.0.value.hall ≡ H.id_of site.now.hall.now) started.items) }
+    ensures many { IfOk result (λ started. length started.items ≡ count) }
+    ensures whole { IfOk result (λ started. length started.items + length passes.new.items ≡ length passes.old.items) }
+    ensures why { IfErr result (λ e. e ≡ CliFault.WorkMemory) }
+{
+    let (rt, alloc, hall) = (site.rt, site.alloc, site.hall);
+    let Ok(mut started) = Vec::with_capacity(alloc, count as usize) else {
+        return Err(CliFault::WorkMemory);
+    };
+    for _ in 0..count {
+        let Some(mut pass) = passes.pop() else {
+            unreachable!()
+        };
+        let promise = SameHall(Snapshot::of(&pass));
+        let worker = scope.spawn_with(
+            promise,
+            move || -> Pass<M>
+                requires { pass.hall ≡ H.id_of hall.now }
+                ensures { result.hall ≡ pass.hall }
+            {
+                hall.work_with(rt, alloc, &mut pass);
+                pass
+            },
+        );
+        let Ok(worker) = worker else {
+            return Err(CliFault::WorkMemory);
+        };
+        started.push_reserved(worker);
+    }
+    Ok(started)
+}
+
+/// Starts a session with each of the passes, as the connections come.
+fn start_sessions<'s, E, D, M, H, S, L, W, R>(
+    scope: &Scope<'s, E>,
+    site: &Site<'s, H, S, R>,
+    listener: &mut L,
+    passes: Vec<Pass<M>>,
+) -> Result<Vec<Attendance<M>>, CliFault>
+where
+    D: Disk + Send + 's,
+    M: CallLedger + Send + Sync + 's,
+    H: ServerHall<D, M> + Sync,
+    S: Shelf<D> + Sync,
+    L: Listener<W>,
+    W: Wire + Send + Drop + 's,
+    R: Threads + Wait + Sync,
+    requires own { All (λ p. p.hall ≡ H.id_of site.now.hall.now) passes.items }
+    requires trusted { H.is_trusted site.now.hall.now ≡ true → S.is_true site.now.shelf.now ≡ true }
+    ensures own { IfOk result (λ started. All (λ h. h.promise.0.value.hall ≡ H.id_of site.now.hall.now) started.items) }
+    ensures whole { IfOk result (λ started. length started.items ≡ length passes.items) }
+    ensures why { IfErr result IsOfThreads }
+    ensures listens { Listens (length passes.items) result (L.calls listener.old) (L.calls listener.new) }
+{
+    let (rt, alloc, hall, shelf) = (site.rt, site.alloc, site.hall, site.shelf);
+    let Ok(mut started) = Vec::with_capacity(alloc, passes.len()) else {
+        return Err(CliFault::WorkMemory);
+    };
+    for mut pass in passes {
+        let mut wire = match listener.accept() {
+            Ok(wire) => wire,
+            Err(_) => return Err(CliFault::Socket),
+        };
+        let promise = SameHall(Snapshot::of(&pass));
+        let session = scope.spawn_with(
+            promise,
+            move || -> Pass<M>
+                requires own { pass.hall ≡ H.id_of hall.now }
+                requires trusted { H.is_trusted hall.now ≡ true → S.is_true shelf.now ≡ true }
+                ensures { result.hall ≡ pass.hall }
+            {
+                hall.serve_with(rt, alloc, &mut pass, shelf, &mut wire);
+                pass
+            },
+        );
+        let Ok(session) = session else {
+            return Err(CliFault::WorkMemory);
+        };
+        started.push_reserved(session);
+    }
+    Ok(started)
+}
+
+/// All passes, once the workers have ended.
+fn gathered<M, R>(rt: &R, finished: Finished<M>) -> Result<Vec<Pass<M>>, CliFault>
+where
+    M: CallLedger,
+    R: Threads,
+    ensures own { (hall : TableId) → All (λ h. h.promise.0.value.hall ≡ hall) finished.workers.items
+        → All (λ p. p.hall ≡ hall) finished.served.items
+        → IfOk result (λ back. All (λ p. p.hall ≡ hall) back.items) }
+    ensures whole { IfOk result (λ back.
+        length back.items ≡ length finished.workers.items + length finished.served.items) }
+    ensures why { IfErr result (λ e. e ≡ CliFault.WorkMemory) }
+{
+    let Finished {
+        workers,
+        mut served,
+    } = finished;
+    let Ok(mut passes) = join_promised(rt, workers) else {
+        return Err(CliFault::WorkMemory);
+    };
+    match passes.append(&mut served) {
+        Ok(()) => Ok(passes),
+        Err(_) => Err(CliFault::WorkMemory),
+    }
+}

@@ -1,0 +1,24 @@
+# Completions of cutlab for bash: source this file, or put it where bash-completion looks.
+
+_cutlab() {
+  local current=${COMP_WORDS[COMP_CWORD]} before=${COMP_WORDS[COMP_CWORD-1]}
+  local command=${COMP_WORDS[1]}
+  if [ "$COMP_CWORD" -eq 1 ]; then
+    mapfile -t COMPREPLY < <(compgen -W "run check serve ask migrate help" -- "$current")
+    return
+  fi
+  case $before in
+    --checkpoint) mapfile -t COMPREPLY < <(compgen -f -- "$current"); return ;;
+    --dir) mapfile -t COMPREPLY < <(compgen -d -- "$current"); return ;;
+    --piece | --workers | --sessions | --studies) return ;;
+  esac
+  case $command in
+    run) mapfile -t COMPREPLY < <(compgen -W "--piece --workers --checkpoint --help" -- "$current") ;;
+    check) mapfile -t COMPREPLY < <(compgen -W "--help" -- "$current") ;;
+    serve) mapfile -t COMPREPLY < <(compgen -f -W "--workers --sessions --studies --dir --help" -- "$current") ;;
+    ask | migrate) mapfile -t COMPREPLY < <(compgen -f -W "--help" -- "$current") ;;
+    help) mapfile -t COMPREPLY < <(compgen -W "run check serve ask migrate" -- "$current") ;;
+  esac
+}
+
+complete -o filenames -F _cutlab cutlab
