@@ -1,14 +1,17 @@
 -- The commands of the program, and what its command line asks for.
-use Rattle.std.specs.Prelude.{◌≡◌, ◌⊎◌, ◌≤◌, ℕ, List, [], ◌∷◌, true, codes, pos, Option, Some, None, option_map, ⊤}
+use Rattle.std.specs.Prelude.{◌≡◌, ◌⊎◌, ◌≤◌, ℕ, Bool, List, [], ◌∷◌, true, false, codes, pos, Option, Some, None}
+use Rattle.std.specs.Prelude.{option_map, ⊤}
 use Rattle.std.specs.Str.Parse.{IsNumeral, digits_value, without_leading_plus}
 use Rattle.clap.specs.Words.{App, IsAmong, first_of, Row, Rule, Text, fault_of, new_app, new_rule, one_of}
 use Rattle.clap.specs.Words.{subcommand_of, with_rule, with_subcommand}
+use Rattle.clap.specs.declared.builder.action.ArgAction.TheVariants.{SetTrue}
 use Rattle.clap.specs.declared.builder.value_parser.ValueParser.TheVariants as parsers
 use Rattle.clap.specs.declared.error.kind.ErrorKind.{ErrorKind}
 use Rattle.clap.specs.declared.error.kind.ErrorKind.TheVariants.{DisplayHelp, DisplayVersion, MissingSubcommand}
 use Rattle.clap.specs.declared.error.kind.ErrorKind.TheVariants.{OutOfMemory}
 use Rattle.cut_command_line.specs.declared.line.Job.{Job}
-use Rattle.cut_command_line.specs.declared.line.Job.TheVariants.{Run, Check, Serve, Ask, Migrate}
+use Rattle.cut_command_line.specs.declared.line.Job.TheVariants.{Run, Check, Explain, Canonical, Status, Serve}
+use Rattle.cut_command_line.specs.declared.line.Job.TheVariants.{Ask, Migrate}
 
 -- the option `--piece`: a number from 1 to 1,000,000, which is 16 where it is not given
 abbrev pub piece_rule : Rule
@@ -35,6 +38,10 @@ checkpoint_rule = record (new_rule (codes "checkpoint")) {
   value_names = 1;
 }
 
+-- the flag `--progress`
+abbrev pub progress_rule : Rule
+progress_rule = record (new_rule (codes "progress")) { long = Some (codes "progress"); action = Some SetTrue }
+
 -- the word `SOCKET`: the path of a server's socket
 abbrev pub socket_rule : Rule
 socket_rule = record (new_rule (codes "socket")) { value_names = 1; required = true }
@@ -58,10 +65,21 @@ file_rule name = record (new_rule name) { value_names = 1; required = true }
 
 -- the subcommands
 abbrev pub run_app : App
-run_app = with_rule (with_rule (with_rule (new_app (codes "run")) piece_rule) workers_rule) checkpoint_rule
+run_app =
+    with_rule (with_rule (with_rule (with_rule (new_app (codes "run")) piece_rule) workers_rule) checkpoint_rule)
+    progress_rule
 
 abbrev pub check_app : App
 check_app = new_app (codes "check")
+
+abbrev pub explain_app : App
+explain_app = new_app (codes "explain")
+
+abbrev pub canonical_app : App
+canonical_app = new_app (codes "canonical")
+
+abbrev pub status_app : App
+status_app = with_rule (new_app (codes "status")) (file_rule (codes "file"))
 
 abbrev pub serve_app : App
 serve_app =
@@ -75,15 +93,15 @@ ask_app = with_rule (new_app (codes "ask")) socket_rule
 abbrev pub migrate_app : App
 migrate_app = with_rule (with_rule (new_app (codes "migrate")) (file_rule (codes "old"))) (file_rule (codes "new"))
 
--- the program as clap sees it: it needs one of its subcommands, and without a word it shows its help
+-- the program as clap sees it: it has a version, needs one of its subcommands, and without a word it shows its help
 unfoldable pub program_app : App
 program_app = let bare : App = new_app (codes "cutlab") in
     let asking : App = record bare {
-      top = record bare.top { subcommand_required = true; arg_required_else_help = true };
+      top = record bare.top { has_version = true; subcommand_required = true; arg_required_else_help = true };
     } in
-    with_subcommand (with_subcommand (with_subcommand
-    (with_subcommand (with_subcommand asking run_app.top) check_app.top) serve_app.top)
-    ask_app.top) migrate_app.top
+    with_subcommand (with_subcommand (with_subcommand (with_subcommand (with_subcommand (with_subcommand
+    (with_subcommand (with_subcommand asking run_app.top) check_app.top) explain_app.top) canonical_app.top)
+    status_app.top) serve_app.top) ask_app.top) migrate_app.top
 
 -- the number, from 1 to a greatest one, that a subcommand's matches give for an option
 pub record GivesNumber (option : Text) (most : ℕ) (rows : List Row) (n : ℕ) : Type 0 where
@@ -93,6 +111,12 @@ pub record GivesNumber (option : Text) (most : ℕ) (rows : List Row) (n : ℕ) 
   pub value : digits_value 10 (without_leading_plus text) ≡ n
   pub some : 1 ≤ n
   pub few : n ≤ most
+
+-- whether they give a flag, which is a text that says so
+pub record GivesFlag (flag : Text) (rows : List Row) (is_given : Bool) : Type 0 where
+  pub none : one_of flag rows ≡ None → is_given ≡ false
+  pub yes : one_of flag rows ≡ Some (codes "true") → is_given ≡ true
+  pub no : one_of flag rows ≡ Some (codes "false") → is_given ≡ false
 
 -- the size of a piece, and the number of workers
 abbrev pub GivesPiece : List Row → ℕ → Type 0
@@ -115,17 +139,24 @@ GivesFile name rows path = first_of name rows ≡ Some path
 
 -- the subcommand of a job
 abbrev pub command_of : Job → Text
-command_of (Run piece workers file) = codes "run"
+command_of (Run piece workers file progress) = codes "run"
 command_of Check = codes "check"
+command_of Explain = codes "explain"
+command_of Canonical = codes "canonical"
+command_of (Status file) = codes "status"
 command_of (Serve socket workers sessions studies folder) = codes "serve"
 command_of (Ask socket) = codes "ask"
 command_of (Migrate from to) = codes "migrate"
 
 -- the values of a job, by the matches of its subcommand
 abbrev pub GivesValues : List Row → Job → Type 0
-GivesValues rows (Run piece workers file) =
+GivesValues rows (Run piece workers file progress) =
     GivesPiece rows piece × GivesWorkers rows workers × GivesCheckpoint rows (option_map (λ s. s.now) file)
+    × GivesFlag (codes "progress") rows progress
 GivesValues rows Check = ⊤
+GivesValues rows Explain = ⊤
+GivesValues rows Canonical = ⊤
+GivesValues rows (Status file) = GivesFile (codes "file") rows file.now
 GivesValues rows (Serve socket workers sessions studies folder) =
     GivesSocket rows socket.now × GivesNumber (codes "workers") 64 rows workers
     × GivesNumber (codes "sessions") 64 rows sessions × GivesNumber (codes "studies") 64 rows studies
@@ -171,8 +202,11 @@ EndsLine words status = (kind : ErrorKind) × IsAsked words kind × (status ≡ 
 
 -- the pieces of a job have some trials, and it has some of each that it is to have, and no more than the options allow
 abbrev pub IsSizedJob : Job → Type 0
-IsSizedJob (Run piece workers file) = (1 ≤ piece) × (piece ≤ 1000000) × (1 ≤ workers) × (workers ≤ 64)
+IsSizedJob (Run piece workers file progress) = (1 ≤ piece) × (piece ≤ 1000000) × (1 ≤ workers) × (workers ≤ 64)
 IsSizedJob Check = ⊤
+IsSizedJob Explain = ⊤
+IsSizedJob Canonical = ⊤
+IsSizedJob (Status file) = ⊤
 IsSizedJob (Serve socket workers sessions studies folder) =
     (1 ≤ workers) × (workers ≤ 64) × (1 ≤ sessions) × (sessions ≤ 64) × (1 ≤ studies) × (studies ≤ 64)
 IsSizedJob (Ask socket) = ⊤

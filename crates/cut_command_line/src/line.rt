@@ -1,13 +1,14 @@
 ghost use Rattle.std.specs.Prelude.{◌≡◌, ◌≤◌, ℕ, [], codes, false, map, IfOk, IfErr, IfSome, IfNone};
 ghost use Rattle.clap.specs.Words.{app_of, fault_of, found_of, rows_of, rule_of, subcommand_rows_of, with_subcommand};
 ghost use Rattle.cut_command_line.specs.Line.{checkpoint_rule, file_rule, piece_rule, socket_rule, workers_rule};
-ghost use Rattle.cut_command_line.specs.Line.{ask_app, check_app, count_rule, folder_rule, migrate_app, program_app};
-ghost use Rattle.cut_command_line.specs.Line.{run_app, serve_app, status_of_kind};
-ghost use Rattle.cut_command_line.specs.Line.{EndsLine, GivesJob, GivesNumber, IsJobOf, IsSizedJob, NamesJob};
+ghost use Rattle.cut_command_line.specs.Line.{ask_app, canonical_app, check_app, count_rule, explain_app, folder_rule};
+ghost use Rattle.cut_command_line.specs.Line.{migrate_app, program_app, progress_rule, run_app, serve_app, status_app};
+ghost use Rattle.cut_command_line.specs.Line.{EndsLine, GivesFlag, GivesJob, GivesNumber, IsJobOf, IsSizedJob};
+ghost use Rattle.cut_command_line.specs.Line.{NamesJob, status_of_kind};
 ghost use Rattle.cut_command_line.specs.declared.line.Job.{Job};
 
 use clap::error::ErrorKind;
-use clap::{Arg, ArgMatches, Command, Error};
+use clap::{Arg, ArgAction, ArgMatches, Command, Error};
 use std::alloc::{AllocError, Global};
 use std::convert::AsStr;
 
@@ -17,13 +18,23 @@ const PIECE_MOST: u32 = 1_000_000;
 /// How many workers a study has at most.
 const WORKERS_MOST: u32 = 64;
 
+/// What `--version` prints after the program's name: its version, and that of the kit that it is proved with.
+const VERSION: &str = "0.9.0 (proved with rattle-kit-13f)";
+
 /// What follows the help of each command: an example, and where to read more.
 const GUIDE: &str = "A plan is read from standard input. See docs/GUIDE.md.";
 
 const RUN_EXAMPLE: &str =
-    "Example: cutlab run --workers 4 --checkpoint study.cut < plan.json\nSee docs/GUIDE.md.";
+    "Example: cutlab run --workers 4 --checkpoint study.cut < plan.json\nThe plan is awaited on standard input, also where that is a terminal: Ctrl-D ends it.\nSee docs/GUIDE.md.";
 
 const CHECK_EXAMPLE: &str = "Example: cutlab check < plan.json\nSee docs/GUIDE.md.";
+
+const EXPLAIN_EXAMPLE: &str = "Example: cutlab explain < plan.json\nSee docs/GUIDE.md.";
+
+const CANONICAL_EXAMPLE: &str =
+    "Example: cutlab canonical < plan.json > canonical.json\nSee docs/GUIDE.md.";
+
+const STATUS_EXAMPLE: &str = "Example: cutlab status study.cut\nSee docs/GUIDE.md.";
 
 const SERVE_EXAMPLE: &str =
     "Example: cutlab serve cutlab.sock --workers 4 --sessions 2 --studies 2 --dir studies\nSee docs/GUIDE.md.";
@@ -47,9 +58,20 @@ pub enum Job<'a> {
         workers: u32,
         /// The file that the study is kept in and goes on from, if there is one.
         checkpoint: Option<&'a str>,
+        /// Whether lines on standard error say how many trials are done.
+        progress: bool,
     },
     /// Read a plan and print how many cells and trials it has, and the quorum of its processes.
     Check,
+    /// Read a plan and say in words what is right or wrong with it.
+    Explain,
+    /// Read a plan and print its canonical text.
+    Canonical,
+    /// Print what a checkpoint holds.
+    Status {
+        /// The file of the checkpoint, which is only read.
+        file: &'a str,
+    },
     /// Serve clients at a socket, and print how many trials were accepted.
     Serve {
         /// The path of the server's socket.
@@ -118,6 +140,9 @@ fn job_of<'a>(matches: &ArgMatches<'a>) -> Option<Job<'a>>
     match name {
         "run" => run_job(given),
         "check" => Some(Job::Check),
+        "explain" => Some(Job::Explain),
+        "canonical" => Some(Job::Canonical),
+        "status" => status_job(given),
         "serve" => serve_job(given),
         "ask" => ask_job(given),
         "migrate" => migrate_job(given),
@@ -136,7 +161,17 @@ fn run_job<'a>(given: &ArgMatches<'a>) -> Option<Job<'a>>
         piece,
         workers,
         checkpoint: given.get_str("checkpoint"),
+        progress: flag_given(given, "progress"),
     })
+}
+
+/// The report on a checkpoint that the matches of `status` give.
+fn status_job<'a>(given: &ArgMatches<'a>) -> Option<Job<'a>>
+    ensures gives { GivesJob (codes "status") (rows_of (found_of given.now)) result }
+    ensures sized { IfSome result (λ job. IsSizedJob job) }
+{
+    let file = given.get_str("file")?;
+    Some(Job::Status { file })
 }
 
 /// The server that the matches of `serve` give.
@@ -189,6 +224,13 @@ fn number_given(given: &ArgMatches, option: &str, most: u32) -> Option<u32>
     Some(number)
 }
 
+/// Whether the matches give a flag.
+fn flag_given(given: &ArgMatches, flag: &str) -> bool
+    ensures { GivesFlag flag.now (rows_of (found_of given.now)) result }
+{
+    given.get_flag(flag)
+}
+
 /// The program's commands.
 fn commands<'a>(alloc: Global) -> Result<Command<'a>, AllocError>
     ensures { IfOk result (λ command. app_of command ≡ program_app) }
@@ -196,12 +238,14 @@ fn commands<'a>(alloc: Global) -> Result<Command<'a>, AllocError>
     let program = Command::new(alloc, "cutlab")
         .bin_name("cutlab")?
         .about("How often processes propose a cut that misses failed ones, for each K, H, L and F")
+        .version(VERSION)
         .after_help(GUIDE)
         .subcommand_required(true)
         .arg_required_else_help(true);
     let program = add_check(alloc, add_run(alloc, program)?)?;
-    let with_ask = add_ask(alloc, add_serve(alloc, program)?)?;
-    add_migrate(alloc, with_ask)
+    let with_canonical = add_canonical(alloc, add_explain(alloc, program)?)?;
+    let with_serve = add_serve(alloc, add_status(alloc, with_canonical)?)?;
+    add_migrate(alloc, add_ask(alloc, with_serve)?)
 }
 
 /// Adds the command `run`.
@@ -213,7 +257,8 @@ fn add_run<'a>(alloc: Global, program: Command<'a>) -> Result<Command<'a>, Alloc
         .after_help(RUN_EXAMPLE)
         .arg(piece_option(alloc))?
         .arg(workers_option(alloc))?
-        .arg(checkpoint_option(alloc))?;
+        .arg(checkpoint_option(alloc))?
+        .arg(progress_option(alloc))?;
     program.subcommand(run)
 }
 
@@ -225,6 +270,37 @@ fn add_check<'a>(alloc: Global, program: Command<'a>) -> Result<Command<'a>, All
         .about("Read a plan and print its cells, its trials and the quorum")
         .after_help(CHECK_EXAMPLE);
     program.subcommand(check)
+}
+
+/// Adds the command `explain`.
+fn add_explain<'a>(alloc: Global, program: Command<'a>) -> Result<Command<'a>, AllocError>
+    ensures { IfOk result (λ r. app_of r ≡ with_subcommand (app_of program.entry) explain_app.top) }
+{
+    let explain = Command::new(alloc, "explain")
+        .about("Read a plan and say in words what is right or wrong with it")
+        .after_help(EXPLAIN_EXAMPLE);
+    program.subcommand(explain)
+}
+
+/// Adds the command `canonical`.
+fn add_canonical<'a>(alloc: Global, program: Command<'a>) -> Result<Command<'a>, AllocError>
+    ensures { IfOk result (λ r. app_of r ≡ with_subcommand (app_of program.entry) canonical_app.top) }
+{
+    let canonical = Command::new(alloc, "canonical")
+        .about("Read a plan and print its canonical text")
+        .after_help(CANONICAL_EXAMPLE);
+    program.subcommand(canonical)
+}
+
+/// Adds the command `status`.
+fn add_status<'a>(alloc: Global, program: Command<'a>) -> Result<Command<'a>, AllocError>
+    ensures { IfOk result (λ r. app_of r ≡ with_subcommand (app_of program.entry) status_app.top) }
+{
+    let status = Command::new(alloc, "status")
+        .about("Print what a checkpoint holds, also while a study writes it")
+        .after_help(STATUS_EXAMPLE)
+        .arg(file_word(alloc, "file", "FILE", "The checkpoint, which is only read"))?;
+    program.subcommand(status)
 }
 
 /// Adds the command `serve`.
@@ -356,6 +432,17 @@ fn workers_option<'a>(alloc: Global) -> Arg<'a>
         .value_parser(clap::value_parser!(u32).range(1..=64))
         .default_value("1")
         .help("How many threads work on the study, from 1 to 64")
+}
+
+/// The flag that asks for lines on standard error.
+fn progress_option<'a>(alloc: Global) -> Arg<'a>
+    ensures rule { rule_of result ≡ progress_rule }
+    ensures local { result.global ≡ false }
+{
+    Arg::new(alloc, "progress")
+        .long("progress")
+        .action(ArgAction::SetTrue)
+        .help("Say on standard error, at most once a second, how many trials are done")
 }
 
 /// The option that names the file of a checkpoint.

@@ -11,12 +11,13 @@ fn is_read_as(alloc: Global, words: &[&str], wanted: Job) -> bool {
     }
 }
 
-/// A run of pieces of this size by this many workers.
+/// A run of pieces of this size by this many workers, in silence.
 fn run<'a>(piece: u32, workers: u32, checkpoint: Option<&'a str>) -> Job<'a> {
     Job::Run {
         piece,
         workers,
         checkpoint,
+        progress: false,
     }
 }
 
@@ -70,8 +71,24 @@ fn other_jobs_are_named(rt: HostRuntime) {
         old: "a.cut",
         new: "b.cut",
     };
-    let rows: [(&[&str], Job); 4] = [
+    let reporting = Job::Run {
+        piece: 16,
+        workers: 2,
+        checkpoint: None,
+        progress: true,
+    };
+    let rows: [(&[&str], Job); 8] = [
+        (
+            &["cutlab", "run", "--progress", "--workers", "2"],
+            reporting,
+        ),
         (&["cutlab", "check"], Job::Check),
+        (&["cutlab", "explain"], Job::Explain),
+        (&["cutlab", "canonical"], Job::Canonical),
+        (
+            &["cutlab", "status", "a.cut"],
+            Job::Status { file: "a.cut" },
+        ),
         (&["cutlab", "ask", "a.sock"], Job::Ask { socket: "a.sock" }),
         (&["cutlab", "migrate", "a.cut", "b.cut"], migrate),
         (&server, serve),
@@ -93,12 +110,18 @@ fn is_reported(alloc: Global, words: &[&str], wanted: u8, parts: &[&str]) -> boo
 
 #[test]
 fn help_has_an_example(rt: HostRuntime) {
-    let rows: [(&[&str], &str); 8] = [
+    let rows: [(&[&str], &str); 11] = [
         (&["cutlab", "--help"], "docs/GUIDE.md"),
         (&["cutlab", "--help"], "Move a checkpoint of version 1"),
         (&["cutlab", "help"], "docs/GUIDE.md"),
         (&["cutlab", "run", "--help"], "Example: cutlab run"),
         (&["cutlab", "check", "--help"], "Example: cutlab check"),
+        (&["cutlab", "explain", "--help"], "Example: cutlab explain"),
+        (
+            &["cutlab", "canonical", "--help"],
+            "Example: cutlab canonical",
+        ),
+        (&["cutlab", "status", "--help"], "Example: cutlab status"),
         (&["cutlab", "serve", "--help"], "Example: cutlab serve"),
         (&["cutlab", "ask", "--help"], "Example: cutlab ask"),
         (&["cutlab", "migrate", "--help"], "Example: cutlab migrate"),
@@ -112,10 +135,27 @@ fn help_has_an_example(rt: HostRuntime) {
 }
 
 #[test]
+fn version_is_printed(rt: HostRuntime) {
+    let rows: [&[&str]; 2] = [&["cutlab", "--version"], &["cutlab", "-V"]];
+    for words in rows {
+        assert!(rt;
+            is_reported(
+                rt.alloc(),
+                words,
+                0,
+                &["cutlab 0.9.0 (proved with rattle-kit-"]
+            ),
+            "{words:?}"
+        );
+    }
+}
+
+#[test]
 fn mistakes_are_named(rt: HostRuntime) {
     let missing = "required arguments were not provided";
-    let rows: [(&[&str], &str); 19] = [
+    let rows: [(&[&str], &str); 21] = [
         (&["cutlab", "ask"], missing),
+        (&["cutlab", "status"], missing),
         (&["cutlab", "migrate"], missing),
         (&["cutlab", "migrate", "a.cut"], missing),
         (
@@ -152,6 +192,10 @@ fn mistakes_are_named(rt: HostRuntime) {
         (
             &["cutlab", "check", "--piece", "1"],
             "unexpected argument '--piece' found",
+        ),
+        (
+            &["cutlab", "run", "--progress=true"],
+            "unexpected value 'true' for '--progress' found",
         ),
         (&["cutlab"], "Usage: cutlab <COMMAND>"),
         (&["cutlab", "frob"], "unrecognized subcommand 'frob'"),

@@ -3,3 +3,5 @@ pub mod RunLemmas
 pub mod InputLemmas
 pub mod StudyLemmas
 pub mod MigrateLemmas
+pub mod ExplainLemmas
+pub mod StatusLemmas

@@ -1,7 +1,8 @@
--- What the check of a plan writes.
+-- What is written of a plan: what it has, and its canonical text.
 use Rattle.std.specs.Prelude.{ℕ, List, [], ◌∷◌, ◌++◌, length, codes}
 use Rattle.std.specs.Fmt.{decimal}
 use Rattle.cut_plan.specs.Values.{Values}
+use Rattle.cut_plan.specs.Canonical.{canonical_text}
 use Rattle.cut_plan.specs.Cells.{cells_of, trial_count}
 use Rattle.cut_trial.specs.FastRound.{quorum_of}
 
@@ -14,3 +15,7 @@ unfoldable pub check_text : Values → List ℕ
 check_text v =
     number_line (codes "cells") (length (cells_of v)) ++ number_line (codes "trials") (trial_count v)
     ++ number_line (codes "quorum") (quorum_of v.nodes)
+
+-- its canonical text, as one line
+abbrev pub canonical_line : Values → List ℕ
+canonical_line v = canonical_text v ++ 10 ∷ []

@@ -18,6 +18,8 @@ use Rattle.cut_migration.specs.FaultCode as migrate_codes
 use Rattle.cut_commands.specs.declared.fault.CliFault.{CliFault}
 use Rattle.cut_study.specs.declared.run_fault.RunFault.{RunFault}
 use Rattle.cut_study.specs.declared.run_fault.RunFault.TheVariants as study
+use Rattle.cut_status.specs.declared.fault.StatusFault.{StatusFault}
+use Rattle.cut_status.specs.declared.fault.StatusFault.TheVariants as status
 use Rattle.cut_commands.specs.declared.fault.CliFault.TheVariants.{Memory, Plan, Read, Socket, Asked, Write, Journal}
 use Rattle.cut_commands.specs.declared.fault.CliFault.TheVariants.{Folder, BadSlip, Migrate, Checkpoint, WorkMemory}
 use Rattle.cut_commands.specs.declared.fault.CliFault.TheVariants.{AuditMismatch}
@@ -105,3 +107,11 @@ fault_of_study study.Checkpoint = Checkpoint
 fault_of_study (study.Write fault) = Write fault
 fault_of_study study.WorkMemory = WorkMemory
 fault_of_study study.AuditMismatch = AuditMismatch
+
+-- the fault of the program where a checkpoint has no status
+abbrev pub fault_of_status : StatusFault → CliFault
+fault_of_status status.Memory = Memory
+fault_of_status status.Disk = Journal journal.Disk
+fault_of_status status.NoStudy = Journal journal.NoStudy
+fault_of_status (status.Damaged number) = Journal (journal.Damaged number)
+fault_of_status (status.BadSlip number) = BadSlip number

@@ -5,3 +5,5 @@ pub mod Study
 pub mod Run
 pub mod Ask
 pub mod Migrate
+pub mod Status
+pub mod Explain

@@ -9,7 +9,7 @@ use Rattle.cut_plan.specs.Values.{Values}
 use Rattle.cut_plan.specs.Accepted.{plan_of}
 use Rattle.cut_wires.specs.Log.{Traffic, WireLog, passing, wrote, read_failed, write_failed}
 use Rattle.cut_journal.specs.declared.fault.JournalFault.TheVariants.{Disk}
-use Rattle.cut_commands.specs.Check.{check_text}
+use Rattle.cut_commands.specs.Check.{canonical_line, check_text}
 use Rattle.cut_commands.specs.Study.{file_task}
 use Rattle.cut_commands.specs.Task.{Task}
 use Rattle.cut_commands.specs.declared.fault.CliFault.{CliFault}
@@ -105,6 +105,10 @@ pub record EndsCommand (task : Task) (old new : WireLog) (result : Result ⊤ Cl
 -- the answer of `check`
 abbrev pub check_task : Task
 check_task = record { answers = λ v whole. whole ≡ check_text v; fails = λ v fault. ⊥ }
+
+-- and that of `canonical`
+abbrev pub canonical_task : Task
+canonical_task = record { answers = λ v whole. whole ≡ canonical_line v; fails = λ v fault. ⊥ }
 
 -- how a study ends that is kept in a file: one whose file does not open reads and writes nothing
 abbrev pub EndsFile : WireLog → WireLog → Result ⊤ CliFault → Type 0

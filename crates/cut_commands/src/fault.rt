@@ -8,6 +8,7 @@ use cut_journal::JournalFault;
 use cut_messages::AskFault;
 use cut_migration::MigrateFault;
 use cut_plan::{Field, PlanFault, Refusal};
+use cut_status::StatusFault;
 use cut_study::RunFault;
 use cut_wires::WriteFault;
 use itoa::Buffer;
@@ -230,6 +231,23 @@ impl From<RunFault> for CliFault {
             RunFault::Write(failed) => CliFault::Write(failed),
             RunFault::WorkMemory => CliFault::WorkMemory,
             RunFault::AuditMismatch => CliFault::AuditMismatch,
+        }
+    }
+}
+
+impl From<StatusFault> for CliFault {
+    ghost use Rattle.std.specs.Prelude.{◌≡◌};
+    ghost use Rattle.cut_commands.specs.Faults.{fault_of_status};
+
+    ghost from_gives = { λ fault e. e ≡ fault_of_status fault };
+
+    fn from(fault: StatusFault) -> CliFault {
+        match fault {
+            StatusFault::Memory => CliFault::Memory,
+            StatusFault::Disk => CliFault::Journal(JournalFault::Disk),
+            StatusFault::NoStudy => CliFault::Journal(JournalFault::NoStudy),
+            StatusFault::Damaged(number) => CliFault::Journal(JournalFault::Damaged(number)),
+            StatusFault::BadSlip(number) => CliFault::BadSlip(number),
         }
     }
 }

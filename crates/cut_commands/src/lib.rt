@@ -1,25 +1,33 @@
 //! The program's commands over wires: a plan is read, and what answers it is written.
 //!
-//! [`run_io`] runs a study and writes its table, over any disk or over none, [`run_file`] over a file,
-//! [`check_io`] writes what a plan has, [`migrate_io`] and [`migrate_files`] move a study of version 1 to its plan's
-//! upgrade, and [`ask_io`] asks a server for a table, [`ask_at`] one at a socket. Each
-//! ends with its answer or with a [`CliFault`], whose line and status are those that the program ends with.
+//! [`run_io`] runs a study and writes its table, over any disk or over none, [`run_file`] over a file. Of a plan
+//! [`check_io`] writes what it has, [`explain_io`] what is right or wrong with its text, and [`canonical_io`] its
+//! canonical text. [`status_io`] and [`status_file`] write what a checkpoint holds, [`migrate_io`] and
+//! [`migrate_files`] move a study of version 1 to its plan's upgrade, and [`ask_io`] asks a server for a table,
+//! [`ask_at`] one at a socket. Each ends with its answer or with a [`CliFault`], whose line and status are those that
+//! the program ends with.
 //!
 //! What they say of the bytes on a wire is known where its log has them; that a failed read or write is reported
 //! exactly where one failed holds over every wire.
 #![tactic(auto)]
 
 mod ask;
+mod canonical;
 mod check;
 mod checkpoint;
+mod explain;
 mod fault;
 mod input;
 mod migrate;
 mod output;
 mod run;
+mod status;
 
 pub use ask::{ask_at, ask_io};
+pub use canonical::canonical_io;
 pub use check::check_io;
+pub use explain::explain_io;
 pub use fault::{CliFault, FaultText};
 pub use migrate::{migrate_files, migrate_io};
-pub use run::{run_file, run_io};
+pub use run::{Work, run_file, run_io};
+pub use status::{status_file, status_io};

@@ -6,7 +6,7 @@ use crate::CliFault;
 use crate::checkpoint::open_checkpoint;
 use crate::input::read_plan;
 use cut_disks::{Disk, FileDisk};
-use cut_hall::OpenGate;
+use cut_hall::Gate;
 use cut_journal::JournalFault;
 use cut_ledger::laws::true_slips_give_the_table;
 use cut_plan::accepted_texts_give_plans;
@@ -16,13 +16,26 @@ use std::alloc::Global;
 use std::sync::Wait;
 use std::thread::Threads;
 
-/// Reads a plan from a wire, runs its study by `workers` threads, in pieces of `piece_size`
-/// trials, and writes its table to the wire, each line as soon as its cell and those before it are done.
+/// How a study is worked on, which changes nothing of its table.
+#[derive(Drop)]
+pub struct Work<'a, G> {
+    /// How many trials a piece has, but for the last one of a gap.
+    pub piece_size: u32,
+    /// How many workers there are, 1 to 64.
+    pub workers: u32,
+    /// What they call at each stage of their work.
+    pub gate: &'a G,
+    pub ghost size: { 1 ≤ piece_size },
+    pub ghost few: { (1 ≤ workers) × (workers ≤ 64) },
+}
+
+/// Reads a plan from a wire, runs its study, and writes its table to the wire, each line as soon as its cell and those
+/// before it are done.
 ///
 /// With a disk the study is kept there: it goes on from the slips that the disk holds, or begins where it
 /// holds none, and each piece is kept once it is done.
 ///
-/// For every plan, piece size, number of workers, checkpoint and wire, what the wire took is a prefix of the
+/// For every plan, piece size, number of workers, gate, checkpoint and wire, what the wire took is a prefix of the
 /// plan's table, trial by trial as it is defined: all of it at `Ok`, and exactly as many bytes as are reported
 /// where a write failed. That is the clause `table`, without a disk or over an honest one that holds no study, or
 /// true slips, as those are that this program writes. Over any other disk the clause `ends` says the same of the
@@ -32,44 +45,40 @@ use std::thread::Threads;
 /// checkpoint or its slips; some first bytes may be written where the checkpoint, memory or the audit stop a
 /// study that has begun. Read comes exactly where a read failed, and Write exactly where a write failed or
 /// took nothing. What is too long or no UTF-8 is refused without memory once it is read.
-pub fn run_io<W, D, R>(
+pub fn run_io<W, D, G, R>(
     rt: &R,
     alloc: Global,
     wire: &mut W,
-    piece_size: u32,
-    workers: u32,
+    work: Work<'_, G>,
     disk: Option<D>,
 ) -> Result<(), CliFault>
 where
     W: Wire,
     D: Disk + Drop + Send,
+    G: Gate + Sync,
     R: Threads + Wait + Sync,
-    requires size { 1 ≤ piece_size }
-    requires workers { (1 ≤ workers) × (workers ≤ 64) }
     ensures ends { EndsCommand (study_task D.is_honest D.state disk) (W.log wire.old) (W.log wire.new) result }
     ensures table { IsTrueStore D.is_honest D.state disk →
         EndsCommand (table_task D.is_honest D.state disk) (W.log wire.old) (W.log wire.new) result }
 {
     accepted_texts_give_plans();
     true_slips_give_the_table();
-    run(rt, alloc, wire, piece_size, workers, disk)
+    run(rt, alloc, wire, work, disk)
 }
 
 /// The same, by the slips that the disk holds, whichever they are.
-fn run<W, D, R>(
+fn run<W, D, G, R>(
     rt: &R,
     alloc: Global,
     wire: &mut W,
-    piece_size: u32,
-    workers: u32,
+    work: Work<'_, G>,
     disk: Option<D>,
 ) -> Result<(), CliFault>
 where
     W: Wire,
     D: Disk + Drop + Send,
+    G: Gate + Sync,
     R: Threads + Wait + Sync,
-    requires size { 1 ≤ piece_size }
-    requires workers { (1 ≤ workers) × (workers ≤ 64) }
     ensures { EndsCommand (study_task D.is_honest D.state disk) (W.log wire.old) (W.log wire.new) result }
 {
     let plan = read_plan(alloc, wire)?;
@@ -77,10 +86,10 @@ where
     let study = StudyRun {
         plan: &plan,
         kept,
-        piece_size,
-        workers,
+        piece_size: work.piece_size,
+        workers: work.workers,
     };
-    match study.run(rt, alloc, wire, &OpenGate) {
+    match study.run(rt, alloc, wire, work.gate) {
         Ok(_done) => Ok(()),
         Err(fault) => Err(CliFault::from(fault)),
     }
@@ -90,23 +99,21 @@ where
 ///
 /// The file is opened by `host` before anything is read. Of what it holds nothing is known: what the wire took is
 /// a prefix of the table over some slips.
-pub fn run_file<W, R>(
+pub fn run_file<W, G, R>(
     host: &HostRuntime,
     rt: &R,
     wire: &mut W,
-    piece_size: u32,
-    workers: u32,
+    work: Work<'_, G>,
     path: &str,
 ) -> Result<(), CliFault>
 where
     W: Wire,
+    G: Gate + Sync,
     R: Threads + Wait + Sync,
-    requires size { 1 ≤ piece_size }
-    requires workers { (1 ≤ workers) × (workers ≤ 64) }
     ensures { EndsFile (W.log wire.old) (W.log wire.new) result }
 {
     match FileDisk::open(host, path) {
-        Ok(disk) => run_io(rt, host.alloc(), wire, piece_size, workers, Some(disk)),
+        Ok(disk) => run_io(rt, host.alloc(), wire, work, Some(disk)),
         Err(_) => Err(CliFault::Journal(JournalFault::Disk)),
     }
 }

@@ -12,8 +12,9 @@ mod studies;
 mod tables;
 
 use crate::workers::workers_from;
-use cut_commands::{CliFault, check_io, run_io};
+use cut_commands::{CliFault, Work, check_io, run_io};
 use cut_disks::MemoryDisk;
+use cut_hall::OpenGate;
 use cut_wires::StreamWire;
 use std::alloc::{AllocError, Global};
 use std::io::{Read, Write};
@@ -54,6 +55,15 @@ fn plan_table(alloc: Global) -> Result<String, AllocError> {
     table_with(alloc, LINE)
 }
 
+/// Work in pieces of about this size by about this many workers, none of whom waits.
+fn work_of(size: u32, workers: u32) -> Work<'static, OpenGate> {
+    Work {
+        piece_size: size.max(1),
+        workers: workers_from(workers),
+        gate: &OpenGate,
+    }
+}
+
 /// Runs the plan of a reader by one worker and writes its table to a writer.
 fn run<T, R, W>(rt: &T, alloc: Global, input: R, output: W) -> Result<(), CliFault>
 where
@@ -62,7 +72,7 @@ where
     W: Write + Drop,
 {
     let mut wire = StreamWire::new(input, output);
-    run_io(rt, alloc, &mut wire, 16, 1, NO_DISK)
+    run_io(rt, alloc, &mut wire, work_of(16, 1), NO_DISK)
 }
 
 /// What `run_io` writes for this text by this many workers and pieces of this size.
@@ -75,14 +85,7 @@ fn table_by<T: Threads + Wait + Sync>(
 ) -> Result<Vec<u8>, CliFault> {
     let mut output = Vec::new(alloc);
     let mut wire = StreamWire::new(text, &mut output);
-    run_io(
-        rt,
-        alloc,
-        &mut wire,
-        size.max(1),
-        workers_from(workers),
-        NO_DISK,
-    )?;
+    run_io(rt, alloc, &mut wire, work_of(size, workers), NO_DISK)?;
     drop(wire);
     Ok(output)
 }

@@ -178,7 +178,13 @@ impl<D: Disk + Drop, M: CallLedger, K: CallLedger> Hall<D, M, K> {
         };
         gate.pass(rt, drawn.piece);
         match self.compute(rt, alloc, drawn) {
-            Some(result) => self.hand_in(rt, pass, drawn, &result),
+            Some(result) => match self.hand_in(rt, pass, drawn, &result) {
+                Ok(()) => {
+                    gate.taken(rt, drawn.piece);
+                    Next::Piece
+                }
+                Err(next) => next,
+            },
             None => match self.lose(rt, pass, study, drawn.number) {
                 Err(CallFault::Full) => Next::Nothing,
                 _ => Next::Piece,
@@ -253,15 +259,15 @@ impl<D: Disk + Drop, M: CallLedger, K: CallLedger> Hall<D, M, K> {
         shared.input.get()
     }
 
-    /// Hands a result in. Where it is accepted its trials are counted before the lock is given back. A study
-    /// whose disk has failed takes no more, so the worker leaves it.
+    /// Hands a result in, or returns how the worker goes on where it is not accepted. Where it is, its trials are
+    /// counted before the lock is given back. A study whose disk has failed takes no more, so the worker leaves it.
     fn hand_in<R: Wait>(
         &self,
         rt: &R,
         pass: &mut Pass<M>,
         drawn: Drawn,
         offered: &PieceResult,
-    ) -> Next
+    ) -> Result<(), Next>
         requires own { pass.old.hall ≡ self.now.id }
         requires slot { drawn.study < self.now.slots }
         ensures own { pass.new.hall ≡ pass.old.hall }
@@ -269,22 +275,22 @@ impl<D: Disk + Drop, M: CallLedger, K: CallLedger> Hall<D, M, K> {
     {
         let place = &self.places[drawn.study as usize];
         let mut slot = place.slot.lock(rt);
-        let next = match slot.hand_in(rt, &self.accounts, &mut pass.made, offered) {
+        let handed = match slot.hand_in(rt, &self.accounts, &mut pass.made, offered) {
             Ok(()) => {
                 let trials = u64::from(drawn.piece.count);
                 let _ = self.board.count(&mut pass.seat, drawn.study, trials);
-                Next::Piece
+                Ok(())
             }
-            Err(CallFault::Full) => Next::Nothing,
+            Err(CallFault::Full) => Err(Next::Nothing),
             Err(CallFault::Refused(BookFault::Memory)) => {
                 let _ = slot.lose(rt, &self.accounts, &mut pass.made, drawn.number);
-                Next::Piece
+                Err(Next::Piece)
             }
-            Err(CallFault::Refused(BookFault::Checkpoint)) => Next::Study,
-            Err(_) => Next::Piece,
+            Err(CallFault::Refused(BookFault::Checkpoint)) => Err(Next::Study),
+            Err(_) => Err(Next::Piece),
         };
         place.changed.notify_all();
-        next
+        handed
     }
 
     /// Gives a piece of a study up, by its number from 0 in the study's division, as a worker does where memory for

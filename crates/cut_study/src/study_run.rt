@@ -59,7 +59,7 @@ impl<D: Disk + Drop + Send> StudyRun<'_, D> {
     ///
     /// With a journal the study goes on from the slips that it was opened with, and each piece is kept in it. The
     /// table is that over the slips, which is the plan's where they are true. A bad slip is reported before any byte is
-    /// written.
+    /// written. The gate's `begin` is called once the book is open.
     pub fn run<'a, W, G, R>(
         self,
         rt: &'a R,
@@ -81,6 +81,8 @@ impl<D: Disk + Drop + Send> StudyRun<'_, D> {
             workers,
         } = self;
         let book = open_kept(alloc, plan, kept, piece_size)?;
+        let held = trials_of(book.ledger().base().as_slice());
+        gate.begin(rt, held, u64::from(plan.trials()));
         let begun = Begun {
             book,
             piece_size,
@@ -92,6 +94,13 @@ impl<D: Disk + Drop + Send> StudyRun<'_, D> {
         };
         run_begun::<D, Brand, Brand, W, G, R>(rt, alloc, begun, blanks, wire, gate)
     }
+}
+
+/// How many trials slips have, each of which is no trial of another. At 2^64 - 1 the number stays.
+fn trials_of(slips: &[Slip]) -> u64 {
+    slips.iter().fold(0u64, |trials, slip| {
+        trials.saturating_add(u64::from(slip.piece.count))
+    })
 }
 
 /// The book of a plan's study over a journal and the slips that it was opened with, or over none.

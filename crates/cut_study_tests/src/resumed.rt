@@ -3,10 +3,9 @@ ghost use Rattle.std.specs.Prelude.{◌≡◌, Ok, None, length, IfOk};
 ghost use Rattle.cut_journal.specs.Reading.{reading};
 
 use crate::piece::result_of;
-use crate::runs::{Kept, report, workers_from};
+use crate::runs::{CountingGate, Kept, report, workers_from};
 use crate::studies::{MANY_TRIALS, Study, TWO_TRIALS, studies};
 use cut_disks::{Disk, FaultyDisk, Tear};
-use cut_hall::OpenGate;
 use cut_journal::Journal;
 use cut_plan::Plan;
 use cut_study::StudyRun;
@@ -68,6 +67,7 @@ fn journal_on<D: Disk + Drop>(alloc: Global, disk: D, plan: &Plan) -> Result<Kep
 }
 
 /// What is reported of a run of a plan over the journal on a disk, which is armed once the journal is open, if it is.
+/// Where the study is complete, its gate has counted each trial.
 fn run_over<R: Threads + Wait + Sync>(
     rt: &R,
     alloc: Global,
@@ -86,8 +86,13 @@ fn run_over<R: Threads + Wait + Sync>(
         piece_size: row.piece_size.max(1),
         workers: workers_from(row.workers),
     };
-    let answer = run.run(rt, alloc, wire, &OpenGate);
-    Ok(report(alloc, answer)?)
+    let gate = CountingGate::new();
+    let answer = run.run(rt, alloc, wire, &gate);
+    let text = report(alloc, answer)?;
+    if text.ends_with("complete true") && !gate.has_all() {
+        return Err(Fail::from("a trial was not counted at the gate"));
+    }
+    Ok(text)
 }
 
 /// Whether a report is as wanted, where a `#` stands for this many bytes, and a `*` for any words.

@@ -167,6 +167,41 @@ fn a_wire_takes_the_bytes_that_are_reported(rt: HostRuntime) -> Result<(), Fail>
     Ok(())
 }
 
+/// A gate that counts the trials that are held.
+#[derive(Drop)]
+pub(crate) struct CountingGate {
+    held: AtomicU64,
+    all: AtomicU64,
+}
+
+impl CountingGate {
+    /// A gate of a study that is not opened.
+    pub(crate) fn new() -> CountingGate {
+        CountingGate {
+            held: AtomicU64::new(0),
+            all: AtomicU64::new(0),
+        }
+    }
+
+    /// Whether each trial of the study is held.
+    pub(crate) fn has_all(&self) -> bool {
+        let all = self.all.load(Ordering::SeqCst);
+        all > 0 && self.held.load(Ordering::SeqCst) == all
+    }
+}
+
+impl Gate for CountingGate {
+    fn begin<R: Wait>(&self, _rt: &R, held: u64, all: u64) {
+        self.held.store(held, Ordering::SeqCst);
+        self.all.store(all, Ordering::SeqCst);
+    }
+
+    fn taken<R: Wait>(&self, _rt: &R, piece: Piece) {
+        let trials = u64::from(piece.count);
+        self.held.fetch_add(trials, Ordering::SeqCst);
+    }
+}
+
 /// A gate at which a call waits until this many have begun, for 10,000 turns of a millisecond at most.
 #[derive(Drop)]
 struct Meeting<'a, C> {

@@ -1,20 +1,41 @@
--- What each job leaves on the program's wire.
-use Rattle.std.specs.Prelude.{Some, None, Result, ⊤}
+-- What each job leaves on the program's wire and on its errors.
+use Rattle.std.specs.Prelude.{◌≡◌, Bool, true, false, Option, Some, None, Result, ⊤}
 use Rattle.cut_wires.specs.Log.{WireLog}
+use Rattle.cut_progress.specs.Printed.{HasPrinted}
 use Rattle.cut_commands.specs.Ask.{EndsAsk}
 use Rattle.cut_commands.specs.Migrate.{EndsFiles}
-use Rattle.cut_commands.specs.Run.{EndsCommand, EndsFile, check_task}
+use Rattle.cut_commands.specs.Explain.{EndsExplain}
+use Rattle.cut_commands.specs.Run.{EndsCommand, EndsFile, canonical_task, check_task}
+use Rattle.cut_commands.specs.Status.{EndsStatus}
 use Rattle.cut_server.specs.Serve.{EndsServing}
 use Rattle.cut_commands.specs.Study.{plain_task}
 use Rattle.cut_command_line.specs.declared.line.Job.{Job}
-use Rattle.cut_command_line.specs.declared.line.Job.TheVariants.{Run, Check, Serve, Ask, Migrate}
+use Rattle.cut_command_line.specs.declared.line.Job.TheVariants.{Run, Check, Explain, Canonical, Status, Serve}
+use Rattle.cut_command_line.specs.declared.line.Job.TheVariants.{Ask, Migrate}
 use Rattle.cut_commands.specs.declared.fault.CliFault.{CliFault}
+
+-- how a run ends, by the file that it is kept in, if there is one
+abbrev pub EndsRun : {F : Type 0} → Option F → WireLog → WireLog → Result ⊤ CliFault → Type 0
+EndsRun None old new result = EndsCommand plain_task old new result
+EndsRun (Some file) old new result = EndsFile old new result
 
 -- how a job ends
 abbrev pub EndsJob : Job → WireLog → WireLog → Result ⊤ CliFault → Type 0
-EndsJob (Run piece workers None) old new result = EndsCommand plain_task old new result
-EndsJob (Run piece workers (Some file)) old new result = EndsFile old new result
+EndsJob (Run piece workers file progress) old new result = EndsRun file old new result
 EndsJob Check old new result = EndsCommand check_task old new result
+EndsJob Explain old new result = EndsExplain old new result
+EndsJob Canonical old new result = EndsCommand canonical_task old new result
+EndsJob (Status file) old new result = EndsStatus old new result
 EndsJob (Serve socket workers sessions studies folder) old new result = EndsServing studies result old new
 EndsJob (Ask socket) old new result = EndsAsk old new result
 EndsJob (Migrate from to) old new result = EndsFiles old new result
+
+-- what is printed on the errors where progress is asked for, and where it is not
+abbrev pub PrintsIf : Bool → WireLog → WireLog → Type 0
+PrintsIf true old new = HasPrinted old new
+PrintsIf false old new = new ≡ old
+
+-- what a job prints on the errors while it is done
+abbrev pub PrintsOn : Job → WireLog → WireLog → Type 0
+PrintsOn (Run piece workers file progress) old new = PrintsIf progress old new
+PrintsOn job old new = new ≡ old

@@ -11,7 +11,7 @@ use Rattle.cut_command_line.specs.declared.line.Job.{Job}
 use Rattle.cut_commands.specs.Faults.{fault_line, status_of}
 use Rattle.cut_commands.specs.declared.fault.CliFault.{CliFault}
 use Rattle.cut_commands.specs.declared.fault.CliFault.TheVariants.{Memory, Write}
-use Rattle.cutlab.specs.Jobs.{EndsJob}
+use Rattle.cutlab.specs.Jobs.{EndsJob, PrintsOn}
 
 -- some first bytes of a text were written, and not all, when a write failed
 abbrev pub IsCutShort : List ℕ → ℕ → WireLog → WireLog → Type 0
@@ -27,14 +27,16 @@ abbrev pub ReportsEnd : Result ⊤ CliFault → WireLog → WireLog → ℕ → 
 ReportsEnd (Ok done) old new status = (new ≡ old) × (status ≡ 0)
 ReportsEnd (Err fault) old new status = IsSent (fault_line fault) old new × (status ≡ status_of fault)
 
--- the words name a job, and clap finds no fault in them: the job ran, and its end is reported
+-- the words name a job, and clap finds no fault in them: the job ran, and its end is reported after what it printed
 pub record RunsJob (words : List (List ℕ)) (old new errors_old errors_new : WireLog) (status : ℕ) : Type 0 where
   pub job : Job
   pub named : NamesJob words job
   pub faultless : fault_of program_app words ≡ []
   pub ended : Result ⊤ CliFault
   pub ends : EndsJob job old new ended
-  pub reported : ReportsEnd ended errors_old errors_new status
+  pub errors_then : WireLog
+  pub prints : PrintsOn job errors_old errors_then
+  pub reported : ReportsEnd ended errors_then errors_new status
 
 -- help was written to the output, or a part of it, which is reported as a failed write
 abbrev pub ShowsHelp : List ℕ → WireLog → WireLog → WireLog → WireLog → ℕ → Type 0

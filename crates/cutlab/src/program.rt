@@ -10,6 +10,7 @@ use std::convert::AsStr;
 use std::io::ErrorKind;
 use std::sync::Wait;
 use std::thread::Threads;
+use std::time::Clock;
 
 /// The line of a word that is not UTF-8.
 const UNREADABLE_LINE: &[u8] = b"error: a word of the command line is not UTF-8\n";
@@ -18,8 +19,9 @@ const UNREADABLE_LINE: &[u8] = b"error: a word of the command line is not UTF-8\
 /// status with which it ends.
 ///
 /// A command reads its plan from `wire` and writes its answer to it; its fault is one line on `errors`, from
-/// which nothing is read. Help goes to `wire`, what is wrong with the words to `errors`, both as clap writes
-/// them. The files of checkpoints are opened by `host`, and the threads of a study are made by `rt`.
+/// which nothing is read, after the lines of progress where these are asked for. Help goes to `wire`, what is
+/// wrong with the words to `errors`, both as clap writes them. The files of checkpoints are opened by `host`,
+/// and the threads of a study are made by `rt`.
 pub fn run_words<R, S, W, E>(
     host: &HostRuntime,
     rt: &R,
@@ -28,16 +30,16 @@ pub fn run_words<R, S, W, E>(
     errors: &mut E,
 ) -> u8
 where
-    R: Threads + Wait + Sync,
+    R: Threads + Wait + Clock + Sync,
     S: AsStr,
     W: Wire,
-    E: Wire,
+    E: Wire + Send,
     ensures { EndsProgram (map S.text words.now) (W.log wire.old) (W.log wire.new)
         (E.log errors.old) (E.log errors.new) result }
 {
     match parse_line(host.alloc(), words) {
         Ok(job) => {
-            let ended = answer(host, rt, job, wire);
+            let ended = answer(host, rt, job, wire, errors);
             end(ended, errors)
         }
         Err(fault) => end_line(&fault, wire, errors),

@@ -8,6 +8,7 @@ use cut_wires::StreamWire;
 use std::io;
 use std::sync::Wait;
 use std::thread::Threads;
+use std::time::Clock;
 
 /// A study of one cell: two trials of five processes, of which one crashes.
 const PLAN: &str =
@@ -43,7 +44,7 @@ fn has(bytes: &[u8], part: &str) -> bool {
 }
 
 /// What the program leaves, given these words and this input.
-fn left_by<T: Threads + Wait + Sync>(
+fn left_by<T: Threads + Wait + Clock + Sync>(
     host: &HostRuntime,
     rt: &T,
     words: &[&str],

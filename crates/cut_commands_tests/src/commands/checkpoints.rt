@@ -1,6 +1,6 @@
 //! Studies that are kept on a disk: resumed, stopped at each call of the disk, and refused.
 
-use super::{LINE, NAMES, PLAN, plan_with};
+use super::{LINE, NAMES, PLAN, plan_with, work_of};
 use cut_commands::{CliFault, run_io};
 use cut_disks::{Disk, FaultyDisk, FileDisk, Tear};
 use cut_journal::JournalFault;
@@ -25,7 +25,7 @@ where
 {
     let mut output = Vec::new(alloc);
     let mut wire = StreamWire::new(text.as_bytes(), &mut output);
-    run_io(rt, alloc, &mut wire, size.max(1), 2, Some(disk))?;
+    run_io(rt, alloc, &mut wire, work_of(size, 2), Some(disk))?;
     drop(wire);
     Ok(output)
 }
@@ -129,7 +129,7 @@ fn is_cut_off<T: Threads + Wait + Sync>(
 ) -> Result<bool, Fail> {
     let input = Vec::from_slice(alloc, PLAN.as_bytes())?;
     let mut wire = FaultyWire::new(alloc, input, 4096, 80, 0);
-    let ended = run_io(rt, alloc, &mut wire, 1, 2, Some(&mut *disk));
+    let ended = run_io(rt, alloc, &mut wire, work_of(1, 2), Some(&mut *disk));
     let is_reported = matches!(ended, Err(CliFault::Write(WriteFault { sent: 80 })));
     Ok(is_reported && disk.memory().bytes().len() == 477)
 }

@@ -1,7 +1,6 @@
 //! Runs whose wire holds up the thread that writes: what other workers do meanwhile shows on the disk.
 
-use super::{LINE, NAMES, PLAN};
-use crate::workers::workers_from;
+use super::{LINE, NAMES, PLAN, work_of};
 use cut_commands::{CliFault, run_io};
 use cut_disks::{Disk, DiskFault, MemoryDisk};
 use cut_wires::{MemoryWire, Wire, WireFault};
@@ -123,8 +122,8 @@ fn held_up<T: Threads + Wait + Sync, C: Clock>(
         turns: order.turns,
         seen: None,
     };
-    let (size, workers) = (order.size.max(1), workers_from(order.workers));
-    let ended = run_io(rt, alloc, &mut wire, size, workers, Some(disk));
+    let work = work_of(order.size, order.workers);
+    let ended = run_io(rt, alloc, &mut wire, work, Some(disk));
     let taken = Vec::from_slice(alloc, wire.wire.taken())?;
     Ok((ended, wire.seen, taken))
 }

@@ -7,6 +7,7 @@ use std::alloc::{AllocError, Global};
 use std::sync::Wait;
 use std::test::Fail;
 use std::thread::Threads;
+use std::time::Clock;
 use std::{fs, io};
 
 #[test]
@@ -22,8 +23,31 @@ fn jobs_write_their_answer(rt: HostRuntime) {
     }
 }
 
+#[test]
+fn progress_is_printed_where_it_is_asked_for(rt: HostRuntime) {
+    let left = left_by(&rt, &rt, &["cutlab", "run", "--progress"], PLAN);
+    assert!(rt; left.status == 0 && left.output.as_slice() == TABLE.as_bytes());
+    assert!(rt; has(&left.errors, "cutlab: 2 of 2 trials, "));
+    let refused = left_by(&rt, &rt, &["cutlab", "run", "--progress"], "[]");
+    assert!(rt; refused.is(3, "", "cutlab: fault 2 NotObject\n"));
+}
+
+#[test]
+fn plans_are_explained_and_printed(rt: HostRuntime) {
+    let explained = left_by(&rt, &rt, &["cutlab", "explain"], PLAN);
+    let begin = b"accepted\ncells 1\ntrials 2\nquorum 4\n".as_slice();
+    assert!(rt;
+        explained.status == 0 && explained.output.starts_with(begin) && explained.errors.is_empty()
+    );
+    let refused = left_by(&rt, &rt, &["cutlab", "explain"], "[]");
+    let why = "refused: 2 NotObject\nfound an empty list; expected an object, in braces\n";
+    assert!(rt; refused.is(3, why, "cutlab: fault 2 NotObject\n"));
+    let printed = left_by(&rt, &rt, &["cutlab", "canonical"], PLAN);
+    assert!(rt; printed.status == 0 && printed.output.strip_suffix(b"\n") == Some(PLAN.as_bytes()));
+}
+
 /// Whether `run` and `check` both refuse a text by this line alone.
-fn is_refused<T: Threads + Wait + Sync>(
+fn is_refused<T: Threads + Wait + Clock + Sync>(
     host: &HostRuntime,
     rt: &T,
     text: &str,
@@ -55,13 +79,13 @@ const FOLDER: &str = "cutlab_commands_test";
 const KEPT: &str = "cutlab_commands_test/study.cut";
 
 /// Whether a run that is to be kept at a path is refused, though its input is no plan.
-fn is_not_opened<T: Threads + Wait + Sync>(host: &HostRuntime, rt: &T, path: &str) -> bool {
+fn is_not_opened<T: Threads + Wait + Clock + Sync>(host: &HostRuntime, rt: &T, path: &str) -> bool {
     let words = ["cutlab", "run", "--checkpoint", path];
     left_by(host, rt, &words, "[]").is(4, "", "cutlab: fault 20 Disk\n")
 }
 
 /// Whether a run by pieces of one trial that is kept in the folder writes the table.
-fn is_kept<T: Threads + Wait + Sync>(host: &HostRuntime, rt: &T) -> bool {
+fn is_kept<T: Threads + Wait + Clock + Sync>(host: &HostRuntime, rt: &T) -> bool {
     let words = ["cutlab", "run", "--piece", "1", "--checkpoint", KEPT];
     left_by(host, rt, &words, PLAN).is(0, TABLE, "")
 }
@@ -77,6 +101,11 @@ fn a_checkpoint_is_opened_first(rt: HostRuntime) -> Result<(), Fail> {
         assert!(rt; is_kept(&rt, &rt));
         assert!(rt; fs::read(&rt, KEPT)?.len() == 477);
     }
+    let kept = left_by(&rt, &rt, &["cutlab", "status", KEPT], "");
+    let begin = b"trials 2 of 2\ncells 1 of 1\nslips 2\n{\"copies\":1".as_slice();
+    assert!(rt; kept.status == 0 && kept.output.starts_with(begin) && kept.errors.is_empty());
+    let folder = left_by(&rt, &rt, &["cutlab", "status", FOLDER], "");
+    assert!(rt; folder.is(4, "", "cutlab: fault 20 Disk\n"));
     Ok(fs::remove_dir_all(&rt, FOLDER)?)
 }
 
@@ -128,7 +157,7 @@ fn help_is_output_and_a_mistake_is_not(rt: HostRuntime) {
 }
 
 /// What the program leaves of a command whose output takes this many bytes: its status and its errors.
-fn left_on_a_full_output<T: Threads + Wait + Sync>(
+fn left_on_a_full_output<T: Threads + Wait + Clock + Sync>(
     host: &HostRuntime,
     rt: &T,
     word: &str,

@@ -4,11 +4,11 @@ use super::{Left, PLAN, TABLE, left_by};
 use std::sync::Wait;
 use std::test::Fail;
 use std::thread::Threads;
-use std::time::Duration;
+use std::time::{Clock, Duration};
 use std::{fs, thread};
 
 /// What a server of one session leaves that keeps its studies in a folder.
-fn served<T: Threads + Wait + Sync>(
+fn served<T: Threads + Wait + Clock + Sync>(
     host: &HostRuntime,
     rt: &T,
     socket: &str,
@@ -31,7 +31,7 @@ fn served<T: Threads + Wait + Sync>(
 }
 
 /// What a client leaves, once there is a server.
-fn asked<T: Threads + Wait + Sync>(host: &HostRuntime, rt: &T, socket: &str) -> Left {
+fn asked<T: Threads + Wait + Clock + Sync>(host: &HostRuntime, rt: &T, socket: &str) -> Left {
     let mut left = left_by(host, rt, &["cutlab", "ask", socket], PLAN);
     for _ in 0..10_000 {
         if left.status == 0 {

@@ -87,3 +87,17 @@ returns-in-migrate-clause-none c =
     (rows_of (found_of c.in_ok-name.given.now)) c.migrate_job.result
     (names_agree c.args.matches.now ∙ sym c.in_ok-name.ensures.name) (sym c.in_ok-name.ensures.rows) c.in-migrate.is
     c.migrate_job.ensures.gives
+
+pub returns-in-status-clause-some : goal.returns-in-status-clause-some
+returns-in-status-clause-some c =
+    is_job (subcommand_rows_of c.args.matches.now) c.in_ok-name.name.now (codes "status")
+    (rows_of (found_of c.in_ok-name.given.now)) c.status_job.result
+    (names_agree c.args.matches.now ∙ sym c.in_ok-name.ensures.name) (sym c.in_ok-name.ensures.rows) c.in-status.is
+    c.status_job.ensures.gives
+
+pub returns-in-status-clause-none : goal.returns-in-status-clause-none
+returns-in-status-clause-none c =
+    no_job (subcommand_rows_of c.args.matches.now) c.in_ok-name.name.now (codes "status")
+    (rows_of (found_of c.in_ok-name.given.now)) c.status_job.result
+    (names_agree c.args.matches.now ∙ sym c.in_ok-name.ensures.name) (sym c.in_ok-name.ensures.rows) c.in-status.is
+    c.status_job.ensures.gives

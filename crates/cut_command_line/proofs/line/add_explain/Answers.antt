@@ -1,0 +1,14 @@
+use Rattle.std.proofs.Common.{◌≡◌, ◌∙◌, ap, rules}
+use Rattle.std.proofs.lemmas.Result.{IfOk-weaker}
+use Rattle.clap.specs.Words.{App, app_of, with_subcommand}
+use Rattle.clap.specs.Simple.{app_of_fields}
+use Rattle.cut_command_line.specs.Line.{explain_app}
+use Rattle.cut_command_line.proofs.line.add_explain.Goals as goal
+
+pub returns : goal.returns
+returns c =
+    let made : app_of c.after_help-explain.result ≡ explain_app =
+    ap app_of_fields c.after_help-explain.ensures ∙ ap app_of_fields c.about.ensures ∙ c.new.ensures.app in
+    IfOk-weaker c.subcommand.result _ _
+    (λ r h. h.shape (search rules) ∙ ap (λ (a : App). with_subcommand (app_of c.args.program) a.top) made)
+    c.subcommand.ensures

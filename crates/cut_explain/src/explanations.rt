@@ -1,0 +1,118 @@
+ghost use Rattle.std.specs.Prelude.{◌≡◌, string_bytes, IfOk};
+ghost use Rattle.std.specs.Io.{StartsWith};
+ghost use Rattle.cut_plan.specs.Accepted.{plan_of};
+ghost use Rattle.cut_explain.specs.FirstLine.{first_line};
+
+use crate::findings::list_fields;
+use crate::joint_findings::list_joint;
+use crate::plan_facts::describe_plan;
+use crate::repeated_keys::list_repeated;
+use crate::rules::version_of;
+use crate::shown::Shown;
+use crate::syntax::{explain_bytes, explain_syntax};
+use crate::unknown_fields::list_unknown;
+use cut_plan::{Plan, PlanFault, Refusal};
+use serde_json::Value;
+use std::alloc::{AllocError, Global};
+use std::str;
+
+/// The longest text that is read as a plan, in bytes.
+const LONGEST: usize = 65_536;
+
+/// What a text is as a plan, and what there is to say of it.
+#[derive(Debug, Drop)]
+pub struct Explanation {
+    /// The plan that the text is, or its first fault.
+    pub plan: Result<Plan, Refusal>,
+    /// The explanation, in lines that each end with a line feed. The first is `accepted`, or `refused: ` and the fault.
+    pub text: String,
+}
+
+/// Explains a text. Fails only where memory runs out.
+///
+/// After the first line come, for a plan, the numbers of its cells and trials, its quorum, the values that stand in no
+/// cell, how many keys are drawn at most, and how large its checkpoint gets at most; for any other text every finding,
+/// with what is expected there. Of both, the keys that stand more than once in the text.
+pub fn explain(alloc: Global, text: &[u8]) -> Result<Explanation, AllocError>
+    ensures plan { IfOk result (λ e. plan_of text.now ≡ e.plan) }
+    ensures first_line { IfOk result (λ e. StartsWith (string_bytes e.text) (first_line (plan_of text.now))) }
+{
+    let plan = read_plan(alloc, text)?;
+    let mut lines = first_line(alloc, &plan)?;
+    let help = help_with(alloc, text, &plan)?;
+    lines.push_str(help.as_str())?;
+    Ok(Explanation { plan, text: lines })
+}
+
+/// The plan that a text is, or its first fault. Fails only where memory runs out.
+fn read_plan(alloc: Global, text: &[u8]) -> Result<Result<Plan, Refusal>, AllocError>
+    ensures { IfOk result (λ plan. plan_of text.now ≡ plan) }
+{
+    match Plan::from_json(alloc, text) {
+        Ok(plan) => Ok(Ok(plan)),
+        Err(PlanFault::Refused(refusal)) => Ok(Err(refusal)),
+        Err(PlanFault::Memory) => Err(AllocError),
+    }
+}
+
+/// The first line of an explanation.
+fn first_line(alloc: Global, plan: &Result<Plan, Refusal>) -> Result<String, AllocError>
+    ensures { IfOk result (λ line. string_bytes line ≡ first_line plan.now) }
+{
+    match plan {
+        Ok(_) => String::from_str(alloc, "accepted\n"),
+        Err(refusal) => format!(in alloc; "refused: {refusal}\n"),
+    }
+}
+
+/// The lines after the first.
+fn help_with(
+    alloc: Global,
+    text: &[u8],
+    plan: &Result<Plan, Refusal>,
+) -> Result<String, AllocError> {
+    let mut out = String::new(alloc);
+    if let Ok(plan) = plan {
+        describe_plan(alloc, &mut out, plan)?;
+    }
+    if text.len() > LONGEST {
+        let length = text.len();
+        writeln!(
+            out,
+            "the text has {length} bytes; expected at most {LONGEST}"
+        )?;
+        return Ok(out);
+    }
+    match str::from_utf8(text) {
+        Ok(text) => list_findings(alloc, &mut out, text)?,
+        Err(error) => explain_bytes(&mut out, text, error.valid_up_to())?,
+    }
+    Ok(out)
+}
+
+/// Lists what is wrong with a text, and the keys that stand in it more than once.
+fn list_findings(alloc: Global, out: &mut String, text: &str) -> Result<(), AllocError> {
+    match Value::from_str(alloc, text) {
+        Ok(value) => {
+            list_findings_in(alloc, out, &value)?;
+            list_repeated(alloc, out, text)
+        }
+        Err(error) => if error.is_memory() {
+            Err(AllocError)
+        } else {
+            explain_syntax(alloc, out, text, &error)
+        },
+    }
+}
+
+/// Lists what is wrong with a JSON value: first its keys, then its fields one by one, then its fields together.
+fn list_findings_in(alloc: Global, out: &mut String, value: &Value) -> Result<(), AllocError> {
+    let Some(members) = value.as_object() else {
+        let shown = Shown(value);
+        return writeln!(out, "found {shown}; expected an object, in braces");
+    };
+    let version = version_of(value);
+    list_unknown(alloc, out, members, version)?;
+    list_fields(out, value, version)?;
+    list_joint(out, value)
+}

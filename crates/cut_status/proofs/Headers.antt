@@ -1,0 +1,87 @@
+-- The text that a header says, and the plan whose text it is.
+use Rattle.std.proofs.Common.{◌≡◌, ◌≢◌, ◌∙◌, ◌≤◌, ◌+◌, ◌-◌, ◌==◌, ◌&&◌, ℕ, Bool, true, List, Result, Ok, Err, length}
+use Rattle.std.proofs.Common.{drop, slice_range, nat_le, sym, ap, arith, length-drop}
+use Rattle.std.specs.Prelude.{bytes_eq}
+use Rattle.std.proofs.lemmas.Bool.{and_parts, and_from, leb-true}
+use Rattle.std.proofs.lemmas.Bool.Decides.{Decides-eqb}
+use Rattle.std.proofs.lemmas.List.{length-take}
+use Rattle.std.proofs.lemmas.Slice.Eq.{bytes_eq-Decides}
+use Rattle.cut_plan.specs.Accepted.{plan_of}
+use Rattle.cut_plan.specs.Canonical.{canonical_text}
+use Rattle.cut_plan.specs.Plan.{IsPlan}
+use Rattle.cut_plan.specs.Values.{Values}
+use Rattle.cut_plan.specs.declared.refusal.Refusal.{Refusal}
+use Rattle.cut_journal.specs.Reading.{text_length, can_have_header, has_header, says_plan}
+
+-- a plan can be read back from its canonical text
+abbrev pub ReadsBack : Type 0
+ReadsBack = (v : Values) → IsPlan v → plan_of (canonical_text v) ≡ Ok v
+
+-- ---- what there is room for
+
+-- the first and the fourth of five tests that all pass
+room_of : (a b c d e : Bool) → ((((a && b) && c) && d) && e) ≡ true → (a ≡ true) × (d ≡ true)
+room_of a b c d e is =
+    let four = and_parts (((a && b) && c) && d) e is in
+    let three = and_parts ((a && b) && c) d four.0 in
+    let two = and_parts (a && b) c three.0 in
+    ((and_parts a b two.0).0, three.1)
+
+pub header_room : (bytes : List ℕ) → has_header bytes ≡ true → (13 ≤ length bytes)
+    × (text_length bytes + 46 ≤ length bytes)
+unfolding has_header can_have_header
+header_room bytes has =
+    let room = room_of (nat_le 13 (length bytes)) _ _ (nat_le (text_length bytes + 46) (length bytes)) _ has in
+    (leb-true 13 (length bytes) room.0, leb-true (text_length bytes + 46) (length bytes) room.1)
+
+-- ---- the text of a plan
+
+pub says_text : (v : Values) (bytes : List ℕ) → says_plan v bytes ≡ true
+    → slice_range bytes 13 (text_length bytes + 13) ≡ canonical_text v
+unfolding says_plan
+says_text v bytes says =
+    (bytes_eq-Decides (slice_range bytes 13 (text_length bytes + 13)) (canonical_text v)).0
+    (and_parts (text_length bytes == length (canonical_text v))
+    (bytes_eq (slice_range bytes 13 (text_length bytes + 13)) (canonical_text v)) says).1
+
+length_part : (bytes : List ℕ) (n : ℕ) → n + 13 ≤ length bytes → length (slice_range bytes 13 (n + 13)) ≡ n
+length_part bytes n within = omega (arith, length-take (n + 13 - 13) (drop 13 bytes), length-drop 13 bytes)
+
+pub text_says : (v : Values) (bytes : List ℕ) → text_length bytes + 13 ≤ length bytes
+    → slice_range bytes 13 (text_length bytes + 13) ≡ canonical_text v → says_plan v bytes ≡ true
+unfolding says_plan
+text_says v bytes within is =
+    let n : ℕ = text_length bytes in
+    and_from (n == length (canonical_text v)) (bytes_eq (slice_range bytes 13 (n + 13)) (canonical_text v))
+    ((Decides-eqb n (length (canonical_text v))).1
+    (sym (length_part bytes n within) ∙ ap (λ (l : List ℕ). length l) is))
+    ((bytes_eq-Decides (slice_range bytes 13 (n + 13)) (canonical_text v)).1 is)
+
+-- a header says the text of one plan at most
+pub same_plan : ReadsBack → (v w : Values) (bytes : List ℕ) → IsPlan v → IsPlan w → says_plan v bytes ≡ true
+    → says_plan w bytes ≡ true → v ≡ w
+same_plan back v w bytes plan other says too =
+    let same : canonical_text v ≡ canonical_text w = sym (says_text v bytes says) ∙ says_text w bytes too in
+    let read : Result Values Refusal = plan_of (canonical_text v) in
+    let one : read ≡ Ok v = back v plan in
+    let two : read ≡ Ok w = ap plan_of same ∙ back w other in
+    let both : Ok v ≡ Ok w = sym one ∙ two in
+    cc (both)
+
+-- ---- a text that is no plan's
+
+pub refused_text : ReadsBack → (text : List ℕ) (refusal : Refusal) → plan_of text ≡ Err refusal → (v : Values)
+    → IsPlan v → text ≢ canonical_text v
+refused_text back text refusal refused v plan is =
+    let read : plan_of text ≡ Ok v = ap plan_of is ∙ back v plan in
+    let both : Err refusal ≡ Ok v = sym refused ∙ read in
+    cc (both)
+
+-- nor is a text another plan's that is not its own plan's
+pub other_text : ReadsBack → (text : List ℕ) (v : Values) → plan_of text ≡ Ok v → (text ≡ canonical_text v → ⊥)
+    → (w : Values) → IsPlan w → text ≢ canonical_text w
+other_text back text v read other w plan is =
+    let again : plan_of text ≡ Ok w = ap plan_of is ∙ back w plan in
+    let both : Ok v ≡ Ok w = sym read ∙ again in
+    let same : v ≡ w = cc (both) in
+    other (is ∙ ap canonical_text (sym same))

@@ -1,0 +1,5 @@
+pub mod Headers
+pub mod Readings
+pub mod Counting
+pub mod OneStatus
+pub mod Printing

@@ -1,0 +1,16 @@
+-- The lines of a status, as they are put together.
+use Rattle.std.proofs.Common.{◌≡◌, ◌∙◌, ◌++◌, ◌∷◌, [], List, ℕ, codes, append_assoc, ap}
+use Rattle.std.specs.Fmt.{decimal}
+use Rattle.cut_status.specs.Status.{StatusValue, status_text}
+
+-- the first three
+abbrev pub count_lines : StatusValue → List ℕ
+count_lines s =
+    codes "trials " ++ (decimal s.held ++ (codes " of " ++ (decimal s.trials
+    ++ (10 ∷ codes "cells " ++ (decimal s.done ++ (codes " of " ++ (decimal s.cells
+    ++ (10 ∷ codes "slips " ++ (decimal s.slips ++ 10 ∷ [])))))))))
+
+pub lines_are : (s : StatusValue) (counts all : List ℕ) → counts ≡ count_lines s → all ≡ (counts ++ s.text) ++ 10 ∷ []
+    → all ≡ status_text s
+unfolding status_text
+lines_are s counts all count is = is ∙ ap (λ (xs : List ℕ). (xs ++ s.text) ++ 10 ∷ []) count ∙ simp append_assoc

@@ -1,0 +1,4 @@
+pub mod FaultCode
+pub mod Status
+pub mod Study
+pub mod Laws

@@ -1,0 +1,34 @@
+ghost use Rattle.std.specs.Prelude.{◌≡◌, length};
+ghost use Rattle.cut_plan.specs.Cells.{cells_of};
+ghost use Rattle.cut_plan.specs.Plan.{IsPlan};
+ghost use Rattle.cut_ledger.specs.Slips.{AreGood};
+ghost use Rattle.cut_status.specs.Status.{done_among, held_trials};
+
+use cut_ledger::{Ledger, Slip};
+use cut_plan::Plan;
+
+/// How many trials of a plan slips hold, none of which is in two of them.
+pub(crate) fn trials_held(plan: &Plan, slips: &[Slip]) -> u32
+    requires plan { IsPlan plan.now }
+    requires good { AreGood plan.now slips.now }
+    ensures { result ≡ held_trials plan.now slips.now }
+{
+    let mut held = 0;
+    for slip in slips {
+        held += slip.piece.count;
+    }
+    held
+}
+
+/// How many cells of a ledger's plan are done.
+pub(crate) fn cells_done(ledger: &Ledger) -> u32
+    ensures { result ≡ done_among ledger.now.contents (length (cells_of ledger.now.contents.plan)) }
+{
+    let mut done = 0;
+    for cell in 0..ledger.plan().cells() {
+        if ledger.cell_done(cell) {
+            done += 1;
+        }
+    }
+    done
+}
