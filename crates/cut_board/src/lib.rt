@@ -72,6 +72,3 @@ pub use fault::{SeatFault, Unfinished};
 pub use seat::Seat;
 pub use totals::{BoardTotals, StudyTotals};
 pub use view::{Entry, View};
-
-#[cfg(test)]
-mod tests;

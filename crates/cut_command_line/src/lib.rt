@@ -2,7 +2,5 @@
 #![tactic(auto)]
 
 mod line;
-#[cfg(test)]
-mod tests;
 
 pub use line::{Job, NoJob, parse_line};

@@ -3,21 +3,9 @@ ghost use Rattle.std.specs.Io.{StartsWith};
 ghost use Rattle.cut_plan.specs.Accepted.{plan_of};
 ghost use Rattle.cut_explain.specs.FirstLine.{first_line};
 
-use crate::findings::list_fields;
-use crate::joint_findings::list_joint;
-use crate::plan_facts::describe_plan;
-use crate::repeated_keys::list_repeated;
-use crate::rules::version_of;
-use crate::shown::Shown;
-use crate::syntax::{explain_bytes, explain_syntax};
-use crate::unknown_fields::list_unknown;
+use cut_findings::{describe_plan, list_findings};
 use cut_plan::{Plan, PlanFault, Refusal};
-use serde_json::Value;
 use std::alloc::{AllocError, Global};
-use std::str;
-
-/// The longest text that is read as a plan, in bytes.
-const LONGEST: usize = 65_536;
 
 /// What a text is as a plan, and what there is to say of it.
 #[derive(Debug, Drop)]
@@ -71,48 +59,10 @@ fn help_with(
     text: &[u8],
     plan: &Result<Plan, Refusal>,
 ) -> Result<String, AllocError> {
-    let mut out = String::new(alloc);
+    let mut help = String::new(alloc);
     if let Ok(plan) = plan {
-        describe_plan(alloc, &mut out, plan)?;
+        describe_plan(alloc, &mut help, plan)?;
     }
-    if text.len() > LONGEST {
-        let length = text.len();
-        writeln!(
-            out,
-            "the text has {length} bytes; expected at most {LONGEST}"
-        )?;
-        return Ok(out);
-    }
-    match str::from_utf8(text) {
-        Ok(text) => list_findings(alloc, &mut out, text)?,
-        Err(error) => explain_bytes(&mut out, text, error.valid_up_to())?,
-    }
-    Ok(out)
-}
-
-/// Lists what is wrong with a text, and the keys that stand in it more than once.
-fn list_findings(alloc: Global, out: &mut String, text: &str) -> Result<(), AllocError> {
-    match Value::from_str(alloc, text) {
-        Ok(value) => {
-            list_findings_in(alloc, out, &value)?;
-            list_repeated(alloc, out, text)
-        }
-        Err(error) => if error.is_memory() {
-            Err(AllocError)
-        } else {
-            explain_syntax(alloc, out, text, &error)
-        },
-    }
-}
-
-/// Lists what is wrong with a JSON value: first its keys, then its fields one by one, then its fields together.
-fn list_findings_in(alloc: Global, out: &mut String, value: &Value) -> Result<(), AllocError> {
-    let Some(members) = value.as_object() else {
-        let shown = Shown(value);
-        return writeln!(out, "found {shown}; expected an object, in braces");
-    };
-    let version = version_of(value);
-    list_unknown(alloc, out, members, version)?;
-    list_fields(out, value, version)?;
-    list_joint(out, value)
+    list_findings(alloc, &mut help, text)?;
+    Ok(help)
 }

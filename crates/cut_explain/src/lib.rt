@@ -4,22 +4,14 @@
 //! there, and of a plan how large its study is. [`estimate_study`] runs a few trials of a plan, and
 //! estimates how long all of them take.
 //!
-//! That the first line is right is proved. The lines after it are help: they are made from the text by another way than
-//! the plan, and only the tests say what they are.
+//! That the first line is right is proved. The lines after it are help, which `cut_findings` writes, and only the tests
+//! say what they are.
 #![tactic(auto)]
 
 mod estimates;
 mod explanations;
-mod findings;
-mod joint_findings;
-mod plan_facts;
-mod repeated_keys;
-mod rules;
-mod shown;
-mod syntax;
 #[cfg(test)]
 mod tests;
-mod unknown_fields;
 
 pub use estimates::{Estimate, estimate_study};
 pub use explanations::{Explanation, explain};

@@ -1,8 +1,8 @@
 //! What no clause says: the lines after the first, and how long a study is estimated to take.
 
-use crate::rules::Rule;
 use crate::tests::tables::{LISTS, MISTAKES, PLAN, PLAN_2, PLANS, WRONG_PLANS};
 use crate::{Estimate, estimate_study, explain};
+use cut_findings::Rule;
 use cut_plan::{Field, Plan, PlanFault, Refusal};
 use std::alloc::{AllocError, Global};
 use std::cell::Cell;

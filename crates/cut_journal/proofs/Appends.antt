@@ -15,11 +15,12 @@ use Rattle.cut_disks.specs.State.{DiskState, IsImage, IsTorn, Throughout, covers
 use Rattle.cut_disks.specs.Laws.{WritesStayInSpan}
 use Rattle.cut_ledger.specs.declared.slip.Slip.{Slip}
 use Rattle.cut_journal.specs.declared.fault.JournalFault.{JournalFault}
-use Rattle.cut_journal.specs.File.{open_gate, closed_gate, numbers_length, slip_length, body_of, number_bytes}
+use Rattle.cut_journal.specs.File.{HoldsAllTotals, open_gate, closed_gate, numbers_length, slip_length, body_of}
+use Rattle.cut_journal.specs.File.{number_bytes}
 use Rattle.cut_journal.specs.File.{header_digest}
 use Rattle.cut_journal.specs.Reading.{is_slip, slip_in, reading}
 use Rattle.cut_journal.specs.Journal.{kept_slips, slips_of, ReadsAs, IsFileOf}
-use Rattle.cut_journal.specs.Steps.{HasNumbers, HoldsAllTotals, WritesThrough, Leave}
+use Rattle.cut_journal.specs.Steps.{HasNumbers, WritesThrough, Leave}
 use Rattle.cut_journal.proofs.Counts.{alike_at, alike_prefix}
 use Rattle.cut_journal.proofs.Gates.{gate_next}
 use Rattle.cut_journal.proofs.Moments.{Through, through_is, settled_images, stays}

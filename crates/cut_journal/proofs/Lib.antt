@@ -9,5 +9,6 @@ pub mod Moments
 pub mod Places
 pub mod Readings
 pub mod SlipBytes
+pub mod Series
 pub mod Appends
 pub mod Files

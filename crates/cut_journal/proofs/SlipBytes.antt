@@ -16,10 +16,11 @@ use Rattle.cut_plan.specs.declared.version.Version.TheVariants.{One, Two}
 use Rattle.cut_plan.specs.Versions.{version_of}
 use Rattle.cut_plan.specs.Values.{Values}
 use Rattle.cut_ledger.specs.declared.slip.Slip.{Slip}
-use Rattle.cut_journal.specs.File.{closed_gate, numbers_length, slip_length, numbers_of, number_bytes, body_of}
+use Rattle.cut_journal.specs.File.{HoldsAllTotals, closed_gate, numbers_length, slip_length, numbers_of, number_bytes}
+use Rattle.cut_journal.specs.File.{body_of}
 use Rattle.cut_journal.specs.File.{header_digest}
 use Rattle.cut_journal.specs.Reading.{number_at, settled_at, slip_in, is_slip}
-use Rattle.cut_journal.specs.Steps.{HasNumbers, HoldsAllTotals}
+use Rattle.cut_journal.specs.Steps.{HasNumbers}
 use borrow.Rule.Slice.PartMut.{put_mid}
 use Rattle.cut_journal.proofs.Prefixes.{layered}
 use Rattle.cut_journal.proofs.Headers.{together}

@@ -1,6 +1,6 @@
 -- The file in which a study's slips are kept, byte for byte (this project's format). Numbers are written with
 -- the high byte first.
-use Rattle.std.specs.Prelude.{ℕ, ◌+◌, ◌++◌, List, [], ◌∷◌, length, codes}
+use Rattle.std.specs.Prelude.{ℕ, ◌≡◌, ◌+◌, ◌++◌, List, [], ◌∷◌, length, codes, ⊤}
 use Rattle.std.specs.List.{flat_map}
 use Rattle.std.specs.Int.{w32, w64, to_be_bytes}
 use Rattle.sha2.specs.Sha256.{sha256}
@@ -36,6 +36,11 @@ numbers_length Two = 80
 abbrev pub settled_number : Version → Totals → List ℕ
 settled_number One x = []
 settled_number Two x = x.settled ∷ []
+
+-- a slip of a version keeps all of these totals: `settled` is 0 where it is not kept
+abbrev pub HoldsAllTotals : Version → Totals → Type 0
+HoldsAllTotals One x = x.settled ≡ 0
+HoldsAllTotals Two x = ⊤
 
 -- how many bytes a slip has: its gate, its numbers, and a digest
 abbrev pub slip_length : Version → ℕ

@@ -4,7 +4,7 @@ use Rattle.std.specs.Prelude.{⊤}
 use Rattle.std.specs.Io.{StartsWith}
 use Rattle.cut_faults.specs.Failures.{one_more}
 use Rattle.cut_plan.specs.Values.{Values}
-use Rattle.cut_disks.specs.State.{DiskState, IsImage, settled}
+use Rattle.cut_disks.specs.State.{DiskState, IsImage, Throughout, settled}
 use Rattle.cut_ledger.specs.declared.slip.Slip.{Slip}
 use Rattle.cut_journal.specs.declared.fault.JournalFault.{JournalFault}
 use Rattle.cut_journal.specs.declared.fault.JournalFault.TheVariants.{Broken, OtherPlan, Disk}
@@ -52,6 +52,12 @@ IsAppendFault OtherPlan = ⊤
 IsAppendFault Disk = ⊤
 IsAppendFault fault = ⊥
 
+-- and those of an append of a slip, which no plan comes with
+abbrev pub IsSlipAppendFault : JournalFault → Type 0
+IsSlipAppendFault Broken = ⊤
+IsSlipAppendFault Disk = ⊤
+IsSlipAppendFault fault = ⊥
+
 -- what a journal is after an append: one more slip is kept; or the disk failed, and the slip is doubtful; or it
 -- is as before
 abbrev pub LeavesAppend : {D : Type 0} → Result ℕ JournalFault → Slip → JournalValue D → JournalValue D → Type 0
@@ -69,6 +75,24 @@ abbrev pub ExtendsFile : Values → ℕ → Slip → List ℕ → List ℕ → T
 ExtendsFile v count slip old new =
     (slips : List Slip) → length slips ≡ count → StartsWith old (file_of v slips)
     → StartsWith new (file_of v (slips ++ slip ∷ []))
+
+-- ---- one append after another
+
+-- slips are appended one after another to those that are kept: while one is appended, each crash at each moment
+-- leaves those before it, or those and it; once it is acknowledged, it is one of those that each later crash leaves.
+-- After the last of them the doubtful one, where there is one, may be there too
+abbrev pub AppendsEach : Values → List Slip → Option Slip → List Slip → DiskState → DiskState → Type 0
+AppendsEach v kept doubtful [] old new = Throughout old new (ReadsAs v kept doubtful)
+AppendsEach v kept doubtful (slip ∷ slips) old new =
+    (mid : DiskState) × (Throughout old mid (ReadsAs v kept (Some slip))
+    × AppendsEach v (kept ++ slip ∷ []) doubtful slips mid new)
+
+-- the slip that an append took, if it did
+abbrev pub taken : {T E : Type 0} → Result T E → Slip → List Slip
+taken (Ok done) slip = slip ∷ []
+taken (Err fault) slip = []
+
+-- ---- faults of the disk
 
 -- how many calls of the disk failed after a call of a journal: one more exactly where it answers that fault
 abbrev pub disk_faults : {T : Type 0} → Result T JournalFault → ℕ → ℕ

@@ -1,11 +1,8 @@
 -- What the private steps of a journal do to an honest disk.
 use Rattle.std.specs.Prelude.{◌≡◌, ◌⊎◌, ◌∷◌, ◌++◌, ◌+◌, ◌^◌, ◌<◌, ◌==◌, ℕ, true, false, List, length, Option, Some}
 use Rattle.std.specs.Prelude.{None, Result, Ok, Err, ⊤}
-use Rattle.cut_plan.specs.declared.version.Version.{Version}
-use Rattle.cut_plan.specs.declared.version.Version.TheVariants.{One, Two}
 use Rattle.cut_plan.specs.Versions.{version_of}
 use Rattle.cut_plan.specs.Values.{Values}
-use Rattle.cut_trial.specs.declared.totals.Totals.{Totals}
 use Rattle.cut_disks.specs.State.{DiskState, IsImage, IsTorn, written, begun, synced}
 use Rattle.cut_ledger.specs.declared.slip.Slip.{Slip}
 use Rattle.cut_journal.specs.declared.fault.JournalFault.{JournalFault}
@@ -62,11 +59,6 @@ Leave P d = P d.bytes × ((image : List ℕ) → IsImage d.stable image → P im
 abbrev pub BeginsAs : Values → List ℕ → Type 0
 BeginsAs v bytes = (first : ℕ) × ((rest : List ℕ) ×
     ((bytes ≡ first ∷ rest_of v ++ rest) × ((first == open_gate) ≡ false)))
-
--- a slip of a version has all of these totals: `settled` is 0 where it is not kept
-abbrev pub HoldsAllTotals : Version → Totals → Type 0
-HoldsAllTotals One x = x.settled ≡ 0
-HoldsAllTotals Two x = ⊤
 
 -- the numbers of a slip have 64 bits, those of its piece 32
 pub record HasNumbers (s : Slip) : Type 0 where

@@ -4,10 +4,11 @@ ghost use Rattle.cut_plan.specs.Values.{Values};
 ghost use Rattle.cut_disks.specs.State.{IsImage, settled, synced, Throughout};
 ghost use Rattle.cut_ledger.specs.Machine.{slip_of};
 ghost use Rattle.std.specs.Io.{StartsWith};
-ghost use Rattle.cut_journal.specs.File.{file_of};
+ghost use Rattle.cut_plan.specs.Versions.{version_of};
+ghost use Rattle.cut_journal.specs.File.{file_of, HoldsAllTotals};
 ghost use Rattle.cut_journal.specs.Reading.{reading};
 ghost use Rattle.cut_journal.specs.Journal.{JournalValue, kept_slips, ReadsAs, IsFileOf, IsAppendFault, LeavesAppend};
-ghost use Rattle.cut_journal.specs.Journal.{ExtendsFile, slips_after, disk_faults};
+ghost use Rattle.cut_journal.specs.Journal.{ExtendsFile, IsSlipAppendFault, slips_after, disk_faults};
 ghost use Rattle.cut_journal.specs.Opening.{IsReopenFault, IsOpeningFaultOf, IsRead, IsBegunFile, IsNotMade};
 ghost use Rattle.cut_journal.specs.Opening.{MayNotMake};
 
@@ -169,10 +170,42 @@ impl<D: Disk> Journal<D> {
         if !self.study.plan().same(offered.plan()) {
             return Err(JournalFault::OtherPlan);
         }
-        let slip = Slip {
+        self.append_slip(Slip {
             piece: offered.piece(),
             totals: offered.totals(),
-        };
+        })
+    }
+
+    /// Keeps a slip that is known already, as one of another file of this plan, and answers its number, from 1.
+    /// Takes no memory. A plan of version 1 keeps no `settled`, so the slip's has to be 0 there.
+    ///
+    /// Where the disk fails it is not known whether the slip is kept, and nothing is taken any more.
+    pub fn append_slip(&mut self, slip: Slip) -> Result<u64, JournalFault>
+        requires { HoldsAllTotals (version_of self.old.plan.failing) slip.totals }
+        ensures broken { IsErrOf result JournalFault.Broken ↔ IsSome self.old.doubtful }
+        ensures others { IfErr result IsSlipAppendFault }
+        ensures number { IfOk result (λ number. number ≡ self.new.count) }
+        ensures left { LeavesAppend result slip self.old self.new }
+        ensures moments { D.is_honest self.old.disk →
+            Throughout (D.state self.old.disk) (D.state self.new.disk)
+            (ReadsAs self.old.plan (kept_slips self.old.plan self.old.count (D.state self.old.disk))
+            (Some (unwrap_or self.old.doubtful slip))) }
+        ensures kept { D.is_honest self.old.disk →
+            kept_slips self.new.plan self.new.count (D.state self.new.disk)
+            ≡ slips_after result slip (kept_slips self.old.plan self.old.count (D.state self.old.disk)) }
+        ensures file { D.is_honest self.old.disk →
+            OnOk result (ExtendsFile self.old.plan self.old.count slip
+            (D.state self.old.disk).bytes (D.state self.new.disk).bytes) }
+        ensures acknowledged { D.is_honest self.old.disk → OnOk result ((image : List ℕ)
+            → IsImage (D.state self.new.disk).stable image
+            → reading self.old.plan image
+            ≡ Ok (kept_slips self.new.plan self.new.count (D.state self.new.disk))) }
+        ensures honest { D.is_honest self.old.disk ↔ D.is_honest self.new.disk }
+        ensures faults { D.faults self.new.disk ≡ disk_faults result (D.faults self.old.disk) }
+    {
+        if self.doubtful.is_some() {
+            return Err(JournalFault::Broken);
+        }
         match keep(&mut self.disk, &self.study, self.gate, slip) {
             Ok(()) => {
                 self.gate = Gate {

@@ -7,6 +7,7 @@
 
 mod durable_write;
 mod fault;
+mod first_bytes;
 mod first_look;
 mod format;
 mod journal;
@@ -20,4 +21,5 @@ mod slips;
 
 pub use cut_disks::{Disk, FaultyDisk, FileDisk, MemoryDisk, Tear};
 pub use fault::JournalFault;
+pub use first_bytes::{header_text, is_study};
 pub use journal::Journal;

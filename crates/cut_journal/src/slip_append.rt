@@ -1,11 +1,11 @@
 ghost use Rattle.std.specs.Prelude.{◌≡◌, ◌+◌, ◌<◌, ◌≤◌, ◌^◌, ◌↔◌, ◌++◌, [], ◌∷◌, None, Some, Ok, length, OnOk};
 ghost use Rattle.cut_faults.specs.Failures.{counted};
 ghost use Rattle.cut_disks.specs.State.{settled, Throughout};
-ghost use Rattle.cut_journal.specs.File.{slip_length};
+ghost use Rattle.cut_journal.specs.File.{HoldsAllTotals, slip_length};
 ghost use Rattle.cut_journal.specs.Reading.{reading};
 ghost use Rattle.cut_journal.specs.Journal.{kept_slips, ReadsAs, IsFileOf, ExtendsFile};
 ghost use Rattle.cut_plan.specs.Versions.{version_of};
-ghost use Rattle.cut_journal.specs.Steps.{Leave, HoldsAllTotals};
+ghost use Rattle.cut_journal.specs.Steps.{Leave};
 ghost use Rattle.cut_journal.specs.Places.{gate_place};
 
 use crate::durable_write::write_through;

@@ -1,13 +1,12 @@
 -- What a migration leaves: the slips of a study of version 1, worked out anew for the plan's upgrade.
 use Rattle.std.specs.Prelude.{◌≡◌, ◌≢◌, ◌⊎◌, ◌≤◌, ◌<◌, ◌+◌, ◌-◌, ◌++◌, ℕ, List, length, [], ◌∷◌, map, take}
-use Rattle.std.specs.Prelude.{slice_index_or, Option, None, Some, IsSome, Result, Ok, Err, ⊤}
+use Rattle.std.specs.Prelude.{slice_index_or, None, Some, IsSome, Result, Ok, Err, ⊤}
 use Rattle.cut_faults.specs.Failures.{one_more}
 use Rattle.cut_plan.specs.declared.version.Version.TheVariants.{One, Two}
 use Rattle.cut_plan.specs.Targets.{upgraded}
 use Rattle.cut_plan.specs.Values.{Values}
 use Rattle.cut_plan.specs.Versions.{version_of}
 use Rattle.cut_trial.specs.Sum.{sum_of, trials_in}
-use Rattle.cut_disks.specs.State.{DiskState, Throughout}
 use Rattle.cut_ledger.specs.declared.slip.Slip.{Slip}
 use Rattle.cut_ledger.specs.Slips.{AreGood, IsFirstBad}
 use Rattle.cut_ledger.specs.World.{IsTrueSlip}
@@ -16,7 +15,7 @@ use Rattle.cut_migration.specs.declared.fault.MigrateFault.TheVariants.{Memory, 
 use Rattle.cut_migration.specs.declared.fault.MigrateFault.TheVariants.{Disagrees, Broken, Disk}
 use Rattle.cut_journal.specs.declared.fault.JournalFault.{JournalFault}
 use Rattle.cut_journal.specs.declared.fault.JournalFault.TheVariants as journal
-use Rattle.cut_journal.specs.Journal.{JournalValue, ReadsAs}
+use Rattle.cut_journal.specs.Journal.{JournalValue}
 
 -- a slip of the plan's upgrade: the same piece, with the sums that its trials have there
 abbrev pub moved : Values → Slip → Slip
@@ -81,15 +80,6 @@ EndsMigration (Err Memory) v ss old new =
     × ((new ≡ old)
     ⊎ (CanMove v ss old × ((n : ℕ) × (HasMoved v ss n old new × (new.doubtful ≡ old.doubtful)))))
 
--- slips are appended one after another to those that are kept: while one is appended, each crash at each moment
--- leaves those before it, or those and it; once it is acknowledged, it is one of those that each later crash leaves.
--- After the last of them the doubtful one, where there is one, may be there too
-abbrev pub AppendsEach : Values → List Slip → Option Slip → List Slip → DiskState → DiskState → Type 0
-AppendsEach v kept doubtful [] old new = Throughout old new (ReadsAs v kept doubtful)
-AppendsEach v kept doubtful (slip ∷ slips) old new =
-    (mid : DiskState) × (Throughout old mid (ReadsAs v kept (Some slip))
-    × AppendsEach v (kept ++ slip ∷ []) doubtful slips mid new)
-
 -- how many calls of the disk failed after a migration: one more exactly where it answers that fault
 abbrev pub moving_faults : {T : Type 0} → Result T MigrateFault → ℕ → ℕ
 moving_faults (Err Disk) n = one_more n
@@ -116,11 +106,6 @@ MovesOne (Err Disk) v number s old new =
     × (new.doubtful ≡ Some (moved v s))
 MovesOne (Err Memory) v number s old new = new ≡ old
 MovesOne (Err fault) v number s old new = ⊥
-
--- the slip, where it was taken
-abbrev pub taken : {T E : Type 0} → Result T E → Slip → List Slip
-taken (Ok done) slip = slip ∷ []
-taken (Err fault) slip = []
 
 -- the slips that are kept after it
 abbrev pub kept_after : {T : Type 0} → Result T MigrateFault → Slip → List Slip → List Slip

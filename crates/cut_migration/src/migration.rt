@@ -7,9 +7,9 @@ ghost use Rattle.cut_trial.specs.Outcome.{rings_of};
 ghost use Rattle.cut_trial.specs.Sum.{is_piece, sum_of, trials_in, without_settled};
 ghost use Rattle.cut_ledger.specs.Slips.{AreGood};
 ghost use Rattle.cut_ledger.specs.World.{IsTrueSlip};
-ghost use Rattle.cut_journal.specs.Journal.{kept_slips};
-ghost use Rattle.cut_migration.specs.Migration.{AppendsEach, EndsMigration, IsJudgedBy, MovesOne, fault_of};
-ghost use Rattle.cut_migration.specs.Migration.{first_moved, kept_after, moved, moving_faults, taken};
+ghost use Rattle.cut_journal.specs.Journal.{AppendsEach, kept_slips, taken};
+ghost use Rattle.cut_migration.specs.Migration.{EndsMigration, IsJudgedBy, MovesOne, fault_of, first_moved};
+ghost use Rattle.cut_migration.specs.Migration.{kept_after, moved, moving_faults};
 
 use crate::MigrateFault;
 use cut_disks::Disk;

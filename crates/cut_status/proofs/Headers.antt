@@ -1,8 +1,8 @@
 -- The text that a header says, and the plan whose text it is.
-use Rattle.std.proofs.Common.{◌≡◌, ◌≢◌, ◌∙◌, ◌≤◌, ◌+◌, ◌-◌, ◌==◌, ◌&&◌, ℕ, Bool, true, List, Result, Ok, Err, length}
-use Rattle.std.proofs.Common.{drop, slice_range, nat_le, sym, ap, arith, length-drop}
+use Rattle.std.proofs.Common.{◌≡◌, ◌≢◌, ◌∙◌, ◌≤◌, ◌+◌, ◌-◌, ◌==◌, ℕ, true, List, Result, Ok, Err, length}
+use Rattle.std.proofs.Common.{drop, slice_range, sym, ap, arith, length-drop}
 use Rattle.std.specs.Prelude.{bytes_eq}
-use Rattle.std.proofs.lemmas.Bool.{and_parts, and_from, leb-true}
+use Rattle.std.proofs.lemmas.Bool.{and_parts, and_from}
 use Rattle.std.proofs.lemmas.Bool.Decides.{Decides-eqb}
 use Rattle.std.proofs.lemmas.List.{length-take}
 use Rattle.std.proofs.lemmas.Slice.Eq.{bytes_eq-Decides}
@@ -11,28 +11,11 @@ use Rattle.cut_plan.specs.Canonical.{canonical_text}
 use Rattle.cut_plan.specs.Plan.{IsPlan}
 use Rattle.cut_plan.specs.Values.{Values}
 use Rattle.cut_plan.specs.declared.refusal.Refusal.{Refusal}
-use Rattle.cut_journal.specs.Reading.{text_length, can_have_header, has_header, says_plan}
+use Rattle.cut_journal.specs.Reading.{text_length, says_plan}
 
 -- a plan can be read back from its canonical text
 abbrev pub ReadsBack : Type 0
 ReadsBack = (v : Values) → IsPlan v → plan_of (canonical_text v) ≡ Ok v
-
--- ---- what there is room for
-
--- the first and the fourth of five tests that all pass
-room_of : (a b c d e : Bool) → ((((a && b) && c) && d) && e) ≡ true → (a ≡ true) × (d ≡ true)
-room_of a b c d e is =
-    let four = and_parts (((a && b) && c) && d) e is in
-    let three = and_parts ((a && b) && c) d four.0 in
-    let two = and_parts (a && b) c three.0 in
-    ((and_parts a b two.0).0, three.1)
-
-pub header_room : (bytes : List ℕ) → has_header bytes ≡ true → (13 ≤ length bytes)
-    × (text_length bytes + 46 ≤ length bytes)
-unfolding has_header can_have_header
-header_room bytes has =
-    let room = room_of (nat_le 13 (length bytes)) _ _ (nat_le (text_length bytes + 46) (length bytes)) _ has in
-    (leb-true 13 (length bytes) room.0, leb-true (text_length bytes + 46) (length bytes) room.1)
 
 -- ---- the text of a plan
 

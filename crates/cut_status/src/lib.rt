@@ -11,8 +11,6 @@ mod header;
 pub mod laws;
 mod reading;
 mod status;
-#[cfg(test)]
-mod tests;
 
 pub use fault::StatusFault;
 pub use file::read_file;

@@ -3,10 +3,10 @@ ghost use Rattle.cut_plan.specs.Plan.{IsPlan};
 ghost use Rattle.cut_journal.specs.Reading.{is_study, reading, says_plan};
 ghost use Rattle.cut_status.specs.Study.{IsStatusOf, IsStatusFault, fault_of};
 
-use crate::header::{header_plan, is_study};
+use crate::header::header_plan;
 use crate::{Status, StatusFault};
 use cut_disks::MemoryDisk;
-use cut_journal::{Journal, JournalFault};
+use cut_journal::{Journal, JournalFault, is_study};
 use cut_ledger::Slip;
 use cut_plan::{Plan, canonical_text_reads_back};
 use std::alloc::Global;

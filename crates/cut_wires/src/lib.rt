@@ -12,8 +12,6 @@ mod memory_wire;
 mod rows;
 mod send;
 mod stream_wire;
-#[cfg(test)]
-mod tests;
 mod wire;
 
 pub use faulty_wire::FaultyWire;

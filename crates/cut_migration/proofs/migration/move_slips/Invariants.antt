@@ -1,7 +1,7 @@
 use Rattle.std.proofs.Common.{◌≡◌, ◌++◌}
 use Rattle.std.specs.Prelude.{◌↔◌}
-use Rattle.cut_journal.specs.Journal.{kept_slips}
-use Rattle.cut_migration.specs.Migration.{AppendsEach, HasMoved, first_moved}
+use Rattle.cut_journal.specs.Journal.{AppendsEach, kept_slips}
+use Rattle.cut_migration.specs.Migration.{HasMoved, first_moved}
 use Rattle.cut_migration.proofs.migration.move_slips.Given as goal
 
 -- as many slips were moved as were looked at

@@ -1,0 +1,130 @@
+//! What each field of a plan has to be.
+
+use cut_plan::{Field, Version};
+use serde_json::Value;
+use std::fmt;
+
+/// Every field of either version, in byte order of the names.
+pub(crate) const FIELDS: [Field; 15] = [
+    Field::Copies,
+    Field::Dead,
+    Field::Deaf,
+    Field::F,
+    Field::Faults,
+    Field::H,
+    Field::Implicit,
+    Field::K,
+    Field::L,
+    Field::Liars,
+    Field::Links,
+    Field::Nodes,
+    Field::Repeats,
+    Field::Seed,
+    Field::Version,
+];
+
+/// The version by whose fields a JSON value is read: 2 where its `version` is 2, and else 1.
+pub(crate) fn version_of(value: &Value) -> Version {
+    match value.get(Field::Version.name()).and_then(Value::as_u64) {
+        Some(2) => Version::Two,
+        _ => Version::One,
+    }
+}
+
+/// Whether plans of a version have a field.
+pub(crate) fn is_field_of(version: Version, field: Field) -> bool {
+    match field {
+        Field::Faults => version == Version::One,
+        Field::Deaf => version == Version::Two,
+        _ => true,
+    }
+}
+
+/// The field of this name, of either version.
+pub(crate) fn field_named(name: &str) -> Option<Field> {
+    let fields = FIELDS;
+    fields.iter().copied().find(|field| field.name() == name)
+}
+
+/// What the value of a field has to be.
+#[derive(Clone, Copy)]
+pub enum Rule {
+    /// A whole number of this range.
+    Number {
+        least: u64,
+        most: u64,
+    },
+    /// A strictly rising list of numbers of rings.
+    Rings,
+    /// A strictly rising list of numbers of failed processes, each below the number of processes, where that is known.
+    Failed {
+        nodes: Option<u64>,
+    },
+    /// One of two words.
+    Word {
+        first: &'static str,
+        second: &'static str,
+    },
+    /// A truth value.
+    Truth,
+    /// The digits of a seed.
+    Digits,
+}
+
+impl Rule {
+    /// The rule of a field, in a plan with this number of processes, where it is known.
+    pub fn of_field(field: Field, nodes: Option<u64>) -> Rule {
+        match field {
+            Field::Copies => Rule::Number { least: 1, most: 4 },
+            Field::Dead => Rule::Word {
+                first: "silent",
+                second: "speak",
+            },
+            Field::Faults => Rule::Word {
+                first: "crash",
+                second: "deaf",
+            },
+            Field::Deaf | Field::Liars | Field::Links => Rule::Number {
+                least: 0,
+                most: 2048,
+            },
+            Field::F => Rule::Failed { nodes },
+            Field::H | Field::K | Field::L => Rule::Rings,
+            Field::Implicit => Rule::Truth,
+            Field::Nodes => Rule::Number {
+                least: 2,
+                most: 2048,
+            },
+            Field::Repeats => Rule::Number {
+                least: 1,
+                most: 1_000_000,
+            },
+            Field::Seed => Rule::Digits,
+            Field::Version => Rule::Number { least: 1, most: 2 },
+        }
+    }
+
+    /// Whether it is the rule of a list.
+    pub(crate) fn is_of_list(self) -> bool {
+        matches!(self, Rule::Rings | Rule::Failed { .. })
+    }
+}
+
+impl fmt::Display for Rule {
+    fn fmt<W: fmt::Write>(&self, f: &mut fmt::Formatter<W>) -> fmt::Result {
+        match *self {
+            Rule::Number { least, most } => write!(f, "a whole number from {least} to {most}"),
+            Rule::Rings => f.write_str("a strictly rising list of whole numbers from 1 to 32"),
+            Rule::Failed { nodes: None } => {
+                f.write_str("a strictly rising list of whole numbers below nodes")
+            }
+            Rule::Failed { nodes: Some(nodes) } => write!(
+                f,
+                "a strictly rising list of whole numbers below nodes, {nodes}"
+            ),
+            Rule::Word { first, second } => write!(f, "\"{first}\" or \"{second}\""),
+            Rule::Truth => f.write_str("true or false"),
+            Rule::Digits => f.write_str("a text of 64 hexadecimal digits"),
+        }
+    }
+}

@@ -1,0 +1,104 @@
+ghost use Rattle.std.specs.Prelude.{◌≡◌, ◌+◌, ◌++◌, ◌↔◌, ℕ, All, take};
+ghost use Rattle.cut_plan.specs.Versions.{version_of};
+ghost use Rattle.cut_journal.specs.File.{HoldsAllTotals};
+ghost use Rattle.cut_journal.specs.Journal.{AppendsEach, kept_slips, taken};
+ghost use Rattle.cut_join.specs.Joined.{joined};
+ghost use Rattle.cut_join.specs.Joining.{EndsAppend, EndsAppends, EndsJoin, fault_of, joining_faults};
+
+use crate::JoinFault;
+use crate::joined::joined;
+use cut_disks::Disk;
+use cut_journal::{Journal, JournalFault};
+use cut_ledger::Slip;
+use cut_plan::Plan;
+use std::alloc::Global;
+
+/// Appends the slips of a plan to its journal, joined: one for each greatest run of adjacent trials of a cell that
+/// some slip has, in ascending order, with the sums of the slips in it. It answers how many it wrote, which are all.
+///
+/// It is refused before any write where a slip is one that no ledger begins with, after those before it, and then where
+/// the journal is of another plan. Memory runs out only before the first write. After that a broken journal ends it, or
+/// a disk that fails: the joined slips before the present one are kept then, and the present one may be kept too.
+///
+/// Each slip is one append. So a crash at any moment leaves the slips that were acknowledged by then, and at most one
+/// more.
+pub fn join<D: Disk>(
+    alloc: Global,
+    plan: &Plan,
+    slips: &[Slip],
+    journal: &mut Journal<D>,
+) -> Result<u64, JoinFault>
+    ensures ends { EndsJoin result plan.now slips.now journal.old journal.new }
+    ensures moments { D.is_honest journal.old.disk → (n : ℕ) → journal.new.count ≡ journal.old.count + n →
+        AppendsEach journal.old.plan (kept_slips journal.old.plan journal.old.count (D.state journal.old.disk))
+        journal.new.doubtful (take n (joined plan.now slips.now))
+        (D.state journal.old.disk) (D.state journal.new.disk) }
+    ensures kept { D.is_honest journal.old.disk → (n : ℕ) → journal.new.count ≡ journal.old.count + n →
+        kept_slips journal.new.plan journal.new.count (D.state journal.new.disk)
+        ≡ kept_slips journal.old.plan journal.old.count (D.state journal.old.disk)
+        ++ take n (joined plan.now slips.now) }
+    ensures honest { D.is_honest journal.old.disk ↔ D.is_honest journal.new.disk }
+    ensures faults { D.faults journal.new.disk ≡ joining_faults result (D.faults journal.old.disk) }
+{
+    // For the proof: what always holds of a journal.
+    let _ = journal.disk();
+    let joined = joined(alloc, plan, slips)?;
+    if !journal.plan().same(plan) {
+        return Err(JoinFault::OtherPlan);
+    }
+    append_all(journal, &joined)
+}
+
+/// Appends slips one after another, and answers how many they are.
+fn append_all<D: Disk>(journal: &mut Journal<D>, slips: &[Slip]) -> Result<u64, JoinFault>
+    requires { All (λ s. HoldsAllTotals (version_of journal.old.plan.failing) s.totals) slips.now }
+    ensures ends { EndsAppends result slips.now journal.old journal.new }
+    ensures moments { D.is_honest journal.old.disk → (n : ℕ) → journal.new.count ≡ journal.old.count + n →
+        AppendsEach journal.old.plan (kept_slips journal.old.plan journal.old.count (D.state journal.old.disk))
+        journal.new.doubtful (take n slips.now) (D.state journal.old.disk) (D.state journal.new.disk) }
+    ensures kept { D.is_honest journal.old.disk → (n : ℕ) → journal.new.count ≡ journal.old.count + n →
+        kept_slips journal.new.plan journal.new.count (D.state journal.new.disk)
+        ≡ kept_slips journal.old.plan journal.old.count (D.state journal.old.disk) ++ take n slips.now }
+    ensures honest { D.is_honest journal.old.disk ↔ D.is_honest journal.new.disk }
+    ensures faults { D.faults journal.new.disk ≡ joining_faults result (D.faults journal.old.disk) }
+{
+    // For the proof: what always holds of a journal.
+    let _ = journal.disk();
+    let mut count = 0;
+    for slip in slips {
+        append(journal, *slip)?;
+        count += 1;
+    }
+    Ok(count)
+}
+
+/// Appends a slip.
+fn append<D: Disk>(journal: &mut Journal<D>, slip: Slip) -> Result<(), JoinFault>
+    requires { HoldsAllTotals (version_of journal.old.plan.failing) slip.totals }
+    ensures ends { EndsAppend result slip journal.old journal.new }
+    ensures moments { D.is_honest journal.old.disk →
+        AppendsEach journal.old.plan (kept_slips journal.old.plan journal.old.count (D.state journal.old.disk))
+        journal.new.doubtful (taken result slip) (D.state journal.old.disk) (D.state journal.new.disk) }
+    ensures kept { D.is_honest journal.old.disk →
+        kept_slips journal.new.plan journal.new.count (D.state journal.new.disk)
+        ≡ kept_slips journal.old.plan journal.old.count (D.state journal.old.disk) ++ taken result slip }
+    ensures honest { D.is_honest journal.old.disk ↔ D.is_honest journal.new.disk }
+    ensures faults { D.faults journal.new.disk ≡ joining_faults result (D.faults journal.old.disk) }
+{
+    // For the proof: what always holds of a journal.
+    let _ = journal.disk();
+    match journal.append_slip(slip) {
+        Ok(_) => Ok(()),
+        Err(fault) => Err(fault_of(fault)),
+    }
+}
+
+/// The fault of an append of a slip, as a join answers it.
+fn fault_of(fault: JournalFault) -> JoinFault
+    ensures { result ≡ fault_of fault }
+{
+    match fault {
+        JournalFault::Disk => JoinFault::Disk,
+        _ => JoinFault::Broken,
+    }
+}

@@ -1,0 +1,17 @@
+pub mod Words
+pub mod Counting
+pub mod Verdicts
+pub mod Plans
+pub mod Numbers
+pub mod Whole
+pub mod NewEdges
+pub mod EqualWatermarks
+pub mod Roles
+pub mod OneCrash
+pub mod FewDeliveries
+pub mod HighPlaces
+pub mod Silenced
+pub mod Cells
+pub mod OtherWatermarks
+pub mod CellTrials
+pub mod ByReports

@@ -1,0 +1,154 @@
+-- The roles and the alerts of a trial in which one process crashes and nothing else fails.
+use Rattle.std.proofs.Common.{◌≡◌, ◌⊎◌, ◌≢◌, ℕ, ◌+◌, ◌-◌, ◌%◌, ◌<◌, ◌≤◌, Bool, true, false, not, List, length, map}
+use Rattle.std.proofs.Common.{get_or, inl, inr, refl, sym, ap, ◌∙◌, arith, zero-add}
+use Rattle.cut_laws.proofs.Words.{Assignment, IsPlan, Layout, Source, Values, alert_list, alerts_about, all_edges}
+use Rattle.cut_laws.proofs.Words.{deaf_of, drawn, edges_of, has_crashed, is_alerted, is_edge, is_target, list_any}
+use Rattle.cut_laws.proofs.Words.{observer_of, position_of, positions_on, process_rank, range_with_len, ranked_role}
+use Rattle.cut_laws.proofs.Words.{rings_of, role_at, set_of, ◌&&◌, ◌==◌}
+use Rattle.cut_alerts.specs.declared.role.Role.{Role}
+use Rattle.cut_alerts.specs.declared.role.Role.TheVariants.{Healthy, Crashed}
+use Rattle.cut_plan.specs.Cells.{largest}
+use Rattle.cut_rings.specs.Hashed.{compare_hashed, digest_of, hashed_position}
+use Rattle.std.specs.Cmp.{IsTotalOrder}
+use Rattle.std.specs.List.{position_or_len}
+use Rattle.std.proofs.Math.Bool.{and-true}
+use Rattle.std.proofs.Math.Nat.{mod-eq_of_lt, mod_self}
+use Rattle.std.proofs.lemmas.Bool.{and_from, and_parts, cases_lt, eq-eqb, eqb-true, le-ltb, lt-ltb, or_left}
+use Rattle.std.proofs.lemmas.Cmp.{nat_cmp_total, nat_list_cmp_total, on_total, then_total}
+use Rattle.std.proofs.lemmas.List.{get_or_past}
+use Rattle.std.proofs.lemmas.List.FromFn.{get_or-map-range_with_len, length-map-range_with_len, length-range_with_len}
+use Rattle.std.proofs.lemmas.List.Sums.{passes_at_first}
+use Rattle.std.proofs.lemmas.Map.Views.{any-filter_same}
+use Rattle.cut_lists.proofs.Maps.{list_any-flat_map, list_any-map}
+use Rattle.cut_lists.proofs.Ranges.{Contains-range_with_len, list_any_passing}
+use Rattle.cut_lists.proofs.Ranks.{rank-below}
+
+-- ---- who has crashed
+
+pub crashed_or_healthy : (v : Values) (f : ℕ) (d : Source) (r : Layout) → deaf_of v f ≡ 0 → v.liars ≡ 0 → v.links ≡ 0
+    → (p : ℕ) → (role_at (drawn v f d r) p ≡ Crashed) ⊎ (role_at (drawn v f d r) p ≡ Healthy)
+crashed_or_healthy v f d r no_deaf no_liars no_links p =
+    let rank : ℕ → ℕ = λ q. process_rank d v.nodes q in
+    let role : ℕ → Role = λ q. ranked_role v f r q (rank q) in
+    elim (cases_lt p v.nodes) [
+      | inl below ↦ (
+          let is : role_at (drawn v f d r) p ≡ role p =
+          get_or-map-range_with_len role 0 v.nodes p p Healthy below (zero-add p) in
+          elim (cases_lt (rank p) f) [
+            | inl low ↦ inl (is ∙ rw (lt-ltb (rank p) (f - deaf_of v f) (omega (arith, low, no_deaf))) refl)
+            | inr high ↦ inr (is ∙ rw (
+              le-ltb (rank p) (f - deaf_of v f) (omega (arith, high)),
+              le-ltb (rank p) f high,
+              le-ltb (rank p) (f + v.liars) (omega (arith, high, no_liars)),
+              le-ltb (rank p) (f + v.liars + v.links) (omega (arith, high, no_liars, no_links)),
+            ) refl)
+          ])
+      | inr past ↦ inr (get_or_past (map role (range_with_len 0 v.nodes)) p Healthy
+          (omega (arith, past, length-map-range_with_len role 0 v.nodes)))
+    ]
+
+-- ---- who alerts
+
+-- where each process has crashed or is healthy, alerts are about targets
+pub alerted_is_target : (a : Assignment) → ((p : ℕ) → (role_at a p ≡ Crashed) ⊎ (role_at a p ≡ Healthy)) → (o s : ℕ)
+    → alerts_about a o s ≡ true → is_target a s ≡ true
+alerted_is_target a roles o s alerts = elim (roles s) [
+  | inl crashed ↦ rw crashed
+  | inr well ↦ elim (roles o) [
+    | inl crashed ↦ absurd (let never = rw (well, crashed) at alerts in cc)
+    | inr healthy ↦ absurd (let never = rw (well, healthy) at alerts in cc)
+  ]
+]
+
+-- who has not crashed alerts about each target
+pub target_is_alerted : (a : Assignment) (o s : ℕ) → is_target a s ≡ true → has_crashed a o ≡ false
+    → alerts_about a o s ≡ true
+target_is_alerted a o s target up =
+    or_left _ _ (or_left _ _ (or_left _ _ (and_from _ _ target (or_left _ _ (ap not up)))))
+
+-- ---- the alerted edges
+
+among_all : (k n ring s : ℕ) → ring < k → s < n → set_of (all_edges k n) ring s ≡ true
+among_all k n ring s below process =
+    list_any-flat_map (λ e. is_edge ring s e) (λ q. edges_of k q) (range_with_len 0 n)
+    ∙ list_any_passing (λ q. list_any (λ e. is_edge ring s e) (edges_of k q)) 0 n s
+    (omega arith) (omega (arith, process))
+    (list_any-map (λ e. is_edge ring s e) (λ i. record { ring = i; subject = s }) (range_with_len 0 k)
+    ∙ list_any_passing (λ i. is_edge ring s (record { ring = i; subject = s })) 0 k ring
+    (omega arith) (omega (arith, below))
+    (and_from _ _ (eq-eqb ring ring refl) (eq-eqb s s refl)))
+
+-- an edge is listed where it is one of those rings and processes, and its observer alerts about its subject
+listed : (r : Layout) (a : Assignment) (k ring s : ℕ)
+    → set_of (alert_list r a k) ring s
+    ≡ (alerts_about a (observer_of r ring s) s && set_of (all_edges k r.nodes) ring s)
+listed r a k ring s =
+    any-filter_same (λ e. is_edge ring s e) (λ e. is_alerted r a e) (alerts_about a (observer_of r ring s) s)
+    (λ e is. (let same = and_parts _ _ is in
+    ap (λ x. alerts_about a (observer_of r x e.subject) e.subject) (eqb-true _ _ same.0)
+    ∙ ap (λ y. alerts_about a (observer_of r ring y) y) (eqb-true _ _ same.1)))
+    (all_edges k r.nodes)
+
+pub listed_is_alerted : (r : Layout) (a : Assignment) (k ring s : ℕ) → set_of (alert_list r a k) ring s ≡ true
+    → alerts_about a (observer_of r ring s) s ≡ true
+listed_is_alerted r a k ring s is = (and_parts _ _ (sym (listed r a k ring s) ∙ is)).0
+
+pub alerted_is_listed : (r : Layout) (a : Assignment) (k ring s : ℕ) → ring < k → s < r.nodes
+    → alerts_about a (observer_of r ring s) s ≡ true → set_of (alert_list r a k) ring s ≡ true
+alerted_is_listed r a k ring s below process alerted =
+    listed r a k ring s ∙ and_from _ _ alerted (among_all k r.nodes ring s below process)
+
+-- on a ring of the cell an edge is listed exactly where its observer alerts
+pub listed_on : (r : Layout) (a : Assignment) (k ring s : ℕ) → ring < k → s < r.nodes
+    → set_of (alert_list r a k) ring s ≡ alerts_about a (observer_of r ring s) s
+listed_on r a k ring s below process =
+    listed r a k ring s
+    ∙ ap (λ b. alerts_about a (observer_of r ring s) s && b) (among_all k r.nodes ring s below process)
+    ∙ and-true (alerts_about a (observer_of r ring s) s)
+
+-- ---- observers
+
+hashed_total : (seed : List ℕ) (ring : ℕ) → IsTotalOrder (compare_hashed seed ring)
+hashed_total seed ring = then_total (on_total (λ p. digest_of seed ring p) nat_list_cmp_total) nat_cmp_total
+
+-- a place just after itself there is none
+not_after_itself : (p n : ℕ) → 2 ≤ n → p < n → (p + 1) % n ≡ p → ⊥
+not_after_itself p n two below is = elim (cases_lt (p + 1) n) [
+  | inl within ↦ omega (arith, is, mod-eq_of_lt within)
+  | inr around ↦ (
+      let last : p + 1 ≡ n = omega (arith, below, around) in
+      omega (arith, two, last, is, ap (λ m. m % n) last, mod_self n))
+]
+
+-- no process observes itself
+pub never_itself : (v : Values) → IsPlan v → (ring s : ℕ) → ring < largest v.k → s < v.nodes
+    → observer_of (rings_of v) ring s ≢ s
+never_itself v plan ring s ring_below below itself =
+    let r : Layout = rings_of v in
+    let place : ℕ → ℕ = λ p. hashed_position v.seed v.nodes ring p in
+    let on_ring : positions_on r ring ≡ map place (range_with_len 0 v.nodes) =
+    get_or-map-range_with_len (λ i. map (λ p. hashed_position v.seed v.nodes i p) (range_with_len 0 v.nodes))
+    0 (largest v.k) ring ring _ ring_below (zero-add ring) in
+    let here : position_of r ring s ≡ place s = ap (λ ps. get_or ps s 0) on_ring
+    ∙ get_or-map-range_with_len place 0 v.nodes s s 0 below (zero-add s) in
+    let low : place s < v.nodes = omega (
+      arith,
+      rank-below (hashed_total v.seed ring) (range_with_len 0 v.nodes) s
+          (Contains-range_with_len 0 v.nodes s (omega arith) (omega (arith, below))),
+      length-range_with_len 0 v.nodes,
+    ) in
+    let test : ℕ → Bool = λ p. (p + 1) % v.nodes == position_of r ring s in
+    let found : position_or_len test (positions_on r ring) ≡ s = itself in
+    let inside : position_or_len test (positions_on r ring) < length (positions_on r ring) = omega (
+      arith,
+      found,
+      below,
+      ap (λ ps. length ps) on_ring,
+      length-map-range_with_len place 0 v.nodes,
+    ) in
+    let passes = passes_at_first test (positions_on r ring) 0 inside in
+    let same : (place s + 1) % v.nodes ≡ place s =
+    eqb-true _ _ (ap (λ p. (p + 1) % v.nodes == place s) (sym here)
+    ∙ ap (λ p. (position_of r ring s + 1) % v.nodes == p) (sym here)
+    ∙ ap (λ i. test (get_or (positions_on r ring) i 0)) (sym found) ∙ passes) in
+    not_after_itself (place s) v.nodes plan.some_nodes low same

@@ -1,0 +1,9 @@
+pub mod Trials
+pub mod Columns
+pub mod Ends
+pub mod EqualWatermarks
+pub mod OneCrash
+pub mod OtherWatermarks
+pub mod Reports
+pub mod Crashes
+pub mod Lines

@@ -1,0 +1,70 @@
+//! What the numbers of a line of the table say of each other, in one trial and in sums over trials. That votes and
+//! silent receivers are at most the receivers, and a quorum for each decided trial at most the votes, stands among
+//! the laws of `cut_trial`.
+
+ghost use Rattle.cut_laws.specs.Columns.{
+  TooFewVotersDecideNothing,
+  TooManyFailedLeaveNoneDecided,
+  TrialsAreRightByVerdicts,
+  RightWithoutExtra,
+  TrialsAreWrongByVerdicts,
+  SumsAreWrongByVerdicts,
+  TrialsHaveVotesOfTheRight,
+  SumsHaveVotesOfTheRight,
+  SumsAreRightUnlessLost,
+  NoTargetsLeaveNoConflicts,
+  NoTargetsLeaveNoConflictsInSums,
+};
+
+use cut_detector::laws::proposes_at_least_place;
+use cut_trial::laws::{decided_by_votes, receivers_are_the_rest, right_is_decided};
+
+/// A quorum is all N processes, failed ones included, less a quarter of N - 1, rounded down. So where more than that
+/// quarter fail or are silent, no trial is decided, whatever K, H and L are.
+pub fn too_few_voters_decide_nothing()
+    ensures trials { TooFewVotersDecideNothing }
+    ensures sums { TooManyFailedLeaveNoneDecided }
+{
+    decided_by_votes();
+    right_is_decided();
+}
+
+/// A trial is right where enough receivers are neither silent nor a conflict and propose no other process. Where none
+/// proposes another process, as with crashes alone, it is right exactly where a quorum is neither silent nor a
+/// conflict.
+pub fn right_by_verdicts()
+    ensures verdicts { TrialsAreRightByVerdicts }
+    ensures without_extra { RightWithoutExtra }
+{
+    receivers_are_the_rest();
+}
+
+/// The processes can decide on a wrong set only if a quorum proposes it, and each of these receivers is a conflict or
+/// proposes another process. So there is a quorum of such receivers for each trial that is decided and not right.
+pub fn wrong_decisions_need_a_wrong_quorum()
+    ensures trials { TrialsAreWrongByVerdicts }
+    ensures sums { SumsAreWrongByVerdicts }
+{
+    receivers_are_the_rest();
+}
+
+/// Receivers that are neither silent nor a conflict, and propose no other process, propose the same: the votes are at
+/// least as many. So a trial that isn't right has lost more receivers than it had to spare beyond a quorum, and the
+/// sums over trials say how many are right at least.
+pub fn the_others_are_right()
+    ensures trials { TrialsHaveVotesOfTheRight }
+    ensures sums { SumsHaveVotesOfTheRight }
+    ensures right { SumsAreRightUnlessLost }
+{
+    receivers_are_the_rest();
+    right_is_decided();
+}
+
+/// Where no process fails, no receiver is a conflict, and each that proposes names a healthy process.
+pub fn no_targets_leave_no_conflicts()
+    ensures trials { NoTargetsLeaveNoConflicts }
+    ensures sums { NoTargetsLeaveNoConflictsInSums }
+{
+    proposes_at_least_place();
+    receivers_are_the_rest();
+}

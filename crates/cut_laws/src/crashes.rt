@@ -1,0 +1,39 @@
+//! Processes crash, and nothing else fails.
+
+ghost use Rattle.cut_laws.specs.Crashes.{
+  CrashedObserversRaiseNone,
+  SpeakingObserversRaiseAll,
+  NoneAreRaisedAboutOthers,
+  EnoughAlertsLeaveNoneSilent,
+};
+
+use crate::ends::settled_ends_leave_none_silent;
+use cut_detector::laws::{
+    none_is_marked_unheard, targets_alone, unstable_are_reported_and_not_stable,
+};
+use cut_plan::cells_are_the_combinations;
+use cut_trial::laws::receivers_are_the_rest;
+
+/// With crashes alone a target is reported on the rings whose observer has not crashed, or on all where crashed
+/// observers speak, and no other process is reported.
+pub fn crashed_observers_raise_no_alerts()
+    ensures silent { CrashedObserversRaiseNone }
+    ensures speak { SpeakingObserversRaiseAll }
+    ensures others { NoneAreRaisedAboutOthers }
+{}
+
+/// With crashes alone every receiver proposes where alerts about each target are raised on at least H rings, or on L
+/// with implicit alerts, since observers that have crashed are reported themselves and count then. Where some target
+/// has fewer, every receiver that proposes is a conflict ([`crate::reports::too_few_alerts_are_overlooked`]). So
+/// choose H, or L with implicit alerts, of at most K less the observers of one process that may crash together with
+/// it.
+pub fn enough_alerts_leave_none_silent()
+    ensures { EnoughAlertsLeaveNoneSilent }
+{
+    cells_are_the_combinations();
+    none_is_marked_unheard();
+    receivers_are_the_rest();
+    settled_ends_leave_none_silent();
+    targets_alone();
+    unstable_are_reported_and_not_stable();
+}

@@ -1,0 +1,42 @@
+//! What all alerts of a trial together say of its receivers, in whatever orders they hear them.
+
+ghost use Rattle.cut_laws.specs.Ends.{
+  OnlyWhoEndsStableIsProposed,
+  AMissedTargetMakesAllConflicts,
+  StableTargetsAloneLeaveNoExtra,
+  NoneStableLeavesAllSilent,
+  SettledEndsLeaveNoneSilent,
+};
+
+use cut_detector::laws::{more_edges_only_add, none_is_marked_unheard, proposes_at_least_place};
+use cut_draws::laws::{deliveries_are_copies_of_edges, edges_come_at_their_first_time};
+use cut_plan::cells_are_the_combinations;
+use cut_trial::laws::receivers_are_the_rest;
+
+/// Alerts only add to what is stable. So no receiver proposes a process that isn't stable once all alerts have come,
+/// and where a target isn't, as one whose observers have mostly crashed and are silent, every receiver that proposes
+/// is a conflict.
+pub fn only_who_ends_stable_is_proposed()
+    ensures members { OnlyWhoEndsStableIsProposed }
+    ensures missed { AMissedTargetMakesAllConflicts }
+    ensures others { StableTargetsAloneLeaveNoExtra }
+    ensures none { NoneStableLeavesAllSilent }
+{
+    deliveries_are_copies_of_edges();
+    more_edges_only_add();
+    proposes_at_least_place();
+    receivers_are_the_rest();
+}
+
+/// Where some process is stable once all alerts have come and none is unstable then, every receiver proposes: at the
+/// last delivery if not before.
+pub fn settled_ends_leave_none_silent()
+    ensures { SettledEndsLeaveNoneSilent }
+{
+    cells_are_the_combinations();
+    deliveries_are_copies_of_edges();
+    edges_come_at_their_first_time();
+    none_is_marked_unheard();
+    proposes_at_least_place();
+    receivers_are_the_rest();
+}

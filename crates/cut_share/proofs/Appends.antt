@@ -1,0 +1,352 @@
+-- What appends leave, one after another.
+use Rattle.std.proofs.Common.{◌≡◌, ◌∙◌, ◌≤◌, ◌<◌, ◌+◌, ◌++◌, inl, inr, ℕ, List, [], ◌∷◌, Ok, Err, Option, Some, None}
+use Rattle.std.proofs.Common.{unwrap_or, refl, sym, ap, subst, arith, append-nil, append_assoc, length, length-append}
+use Rattle.std.proofs.Common.{cond, filter, get_or, take, drop, take-append-drop}
+use Rattle.std.specs.Prelude.{IsSome, IsErrOf, IfSome, is_some, OnOk, Result, ◌↔◌, ◌⊎◌}
+use Rattle.std.proofs.lemmas.List.{map-append, take_more}
+use Rattle.std.proofs.lemmas.List.Elements.{filter-append}
+use Rattle.cut_plan.specs.Values.{Values}
+use Rattle.cut_trial.specs.Computed.{Computed}
+use Rattle.cut_trial.specs.declared.piece.Piece.{Piece}
+use Rattle.cut_disks.specs.State.{DiskState, IsImage, Throughout}
+use Rattle.cut_ledger.specs.declared.slip.Slip.{Slip}
+use Rattle.cut_ledger.specs.Machine.{slip_of}
+use Rattle.cut_journal.specs.declared.fault.JournalFault.{JournalFault}
+use Rattle.cut_journal.specs.declared.fault.JournalFault.TheVariants as journal
+use Rattle.cut_journal.specs.Journal.{JournalValue, ReadsAs, IsAppendFault, IsFileOf, LeavesAppend, disk_faults}
+use Rattle.cut_journal.specs.Journal.{kept_slips, slips_after}
+use Rattle.cut_journal.specs.Reading.{reading}
+use Rattle.cut_journal.proofs.Moments.{stays, weaker, and_then}
+use Rattle.cut_share.specs.declared.fault.ShareFault.{ShareFault}
+use Rattle.cut_share.specs.declared.fault.ShareFault.TheVariants.{Memory, OtherPlan, BadSlip, WorkMemory, Broken, Disk}
+use Rattle.cut_share.specs.declared.task.Task.{Task}
+use Rattle.cut_share.specs.Tasks.{IsRun, done_of, has_result, pieces_of}
+use Rattle.cut_share.specs.Appending.{Adds, AppendsEach, NoneFailed, OneFailed}
+use Rattle.cut_share.specs.Running.{EndsAppends, fault_of, running_faults, slip_at, slips_at}
+
+none_of : (o : Option Slip) → (IsSome o → ⊥) → o ≡ None
+none_of None never = refl
+none_of (Some s) never = absurd (never refl)
+
+-- ---- what a crash leaves
+
+reads_on : (v : Values) (kept : List Slip) (e : Option Slip) (bytes : List ℕ) → ReadsAs v kept None bytes
+    → ReadsAs v kept e bytes
+reads_on v kept e bytes (inl reads) = inl reads
+reads_on v kept e bytes (inr other) = absurd (cc (other.1.0))
+
+-- what appends leave to be said of the doubtful slip before them
+abbrev pub LeavesDoubt : Option Slip → Option Slip → List Slip → Type 0
+LeavesDoubt d e ys = (d ≡ None) ⊎ ((ys ≡ []) × (e ≡ d))
+
+-- moments at which only the kept slips are there, before others
+begun_with : (v : Values) (kept ys : List Slip) (d e : Option Slip) (old mid new : DiskState) → LeavesDoubt d e ys
+    → Throughout old mid (ReadsAs v kept d)
+    → AppendsEach v kept e ys mid new → AppendsEach v kept e ys old new
+begun_with v kept [] d e old mid new (inl none) before after =
+    and_then (ReadsAs v kept e) old mid new
+    (weaker (ReadsAs v kept None) (ReadsAs v kept e) (reads_on v kept e) old mid
+    (subst (λ (o : Option Slip). Throughout old mid (ReadsAs v kept o)) none before)) after
+begun_with v kept [] d e old mid new (inr same) before after =
+    and_then (ReadsAs v kept e) old mid new (subst (λ (o : Option Slip). Throughout old mid (ReadsAs v kept o))
+    (sym same.1) before) after
+begun_with v kept (y ∷ ys) d e old mid new (inl none) before after = (
+  after.0,
+  (
+    and_then (ReadsAs v kept (Some y)) old mid after.0
+        (weaker (ReadsAs v kept None) (ReadsAs v kept (Some y)) (reads_on v kept (Some y)) old mid
+        (subst (λ (o : Option Slip). Throughout old mid (ReadsAs v kept o)) none before)) after.1.0,
+    after.1.1,
+  ),
+)
+begun_with v kept (y ∷ ys) d e old mid new (inr same) before after = absurd (cc (same.0))
+
+-- slips that are appended after others
+each_then : (v : Values) (kept now xs ys : List Slip) (d e : Option Slip) (old mid new : DiskState) → now ≡ kept
+    ++ xs → LeavesDoubt d e ys
+    → AppendsEach v kept d xs old mid → AppendsEach v now e ys mid new → AppendsEach v kept e (xs ++ ys) old new
+each_then v kept now [] ys d e old mid new are doubt before after =
+    begun_with v kept ys d e old mid new doubt before
+    (subst (λ (l : List Slip). AppendsEach v l e ys mid new) (are ∙ append-nil kept) after)
+each_then v kept now (x ∷ xs) ys d e old mid new are doubt before after = (
+  before.0,
+  (
+    before.1.0,
+    each_then v (kept ++ x ∷ []) now xs ys d e before.0 mid new (are ∙ sym (append_assoc kept (x ∷ []) xs)) doubt
+        before.1.1 after,
+  ),
+)
+
+-- ---- no append, and one
+
+-- nothing is appended
+pub none_added : {D : Type 0} (is_honest : D → Type 0) (state : D → DiskState) (log : JournalValue D)
+    → (is_honest log.disk → IsFileOf log.plan log.count log.doubtful (state log.disk))
+    → Adds is_honest state [] log log
+none_added is_honest state log sound = record {
+  plan = refl;
+  count = omega arith;
+  taken = λ some. absurd (omega arith);
+  moments = λ honest. stays (ReadsAs log.plan (kept_slips log.plan log.count (state log.disk)) log.doubtful)
+      (state log.disk) (state log.disk) refl (λ image of. (sound honest).images image of);
+  kept = λ honest. sym (append-nil (kept_slips log.plan log.count (state log.disk)));
+}
+
+pub none_failed : {D : Type 0} (added : List Slip) (log : JournalValue D) → NoneFailed added log log
+none_failed added log = record { doubtful = refl; untouched = λ none. refl }
+
+-- what is known of one append, on an honest disk
+pub record IsOneAppend {D : Type 0} (state : D → DiskState) (result : Result ℕ JournalFault) (slip : Slip)
+    (old new : JournalValue D) : Type 0 where
+  pub sound : IsFileOf old.plan old.count old.doubtful (state old.disk)
+  pub moments : Throughout (state old.disk) (state new.disk)
+      (ReadsAs old.plan (kept_slips old.plan old.count (state old.disk)) (Some (unwrap_or old.doubtful slip)))
+  pub acknowledged : OnOk result ((image : List ℕ) → IsImage (state new.disk).stable image → reading old.plan image
+      ≡ Ok (kept_slips new.plan new.count (state new.disk)))
+  pub kept : kept_slips new.plan new.count (state new.disk)
+      ≡ slips_after result slip (kept_slips old.plan old.count (state old.disk))
+
+step_of : {D : Type 0} (state : D → DiskState) (result : Result ℕ JournalFault) (slip : Slip)
+    (old new : JournalValue D) → old.doubtful ≡ None → IsOneAppend state result slip old new
+    → Throughout (state old.disk) (state new.disk)
+    (ReadsAs old.plan (kept_slips old.plan old.count (state old.disk)) (Some slip))
+step_of state result slip old new none one =
+    subst (λ (o : Option Slip). Throughout (state old.disk) (state new.disk)
+    (ReadsAs old.plan (kept_slips old.plan old.count (state old.disk)) (Some (unwrap_or o slip)))) none one.moments
+
+-- the slip is kept
+pub one_added : {D : Type 0} (is_honest : D → Type 0) (state : D → DiskState) (n : ℕ) (slip : Slip)
+    (old new : JournalValue D) → LeavesAppend (Ok n) slip old new → (IsErrOf {T = ℕ} (Ok n) journal.Broken
+    ↔ IsSome old.doubtful)
+    → (is_honest old.disk → IsOneAppend state (Ok n) slip old new)
+    → Adds is_honest state (slip ∷ []) old new × NoneFailed (slip ∷ []) old new
+one_added is_honest state n slip old new left broken honest =
+    let none : old.doubtful ≡ None = none_of old.doubtful (λ some. cc (broken.1 some)) in (
+      record {
+        plan = left.0;
+        count = left.1;
+        taken = λ some. none;
+        moments = λ is. (
+          state new.disk,
+          (
+            step_of state (Ok n) slip old new none (honest is),
+            stays (ReadsAs old.plan (kept_slips old.plan old.count (state old.disk) ++ slip ∷ []) new.doubtful)
+                (state new.disk) (state new.disk) refl
+                (λ image of. inl ((honest is).acknowledged image of ∙ ap (λ (l : List Slip). Ok l) (honest is).kept)),
+          ),
+        );
+        kept = λ is. (honest is).kept;
+      },
+      record { doubtful = left.2 ∙ sym none; untouched = λ none. absurd (omega arith) },
+    )
+
+-- or the disk failed
+one_doubtful : {D : Type 0} (is_honest : D → Type 0) (state : D → DiskState) (slip : Slip) (old new : JournalValue D)
+    → LeavesAppend (Err journal.Disk) slip old new → (IsErrOf {T = ℕ} (Err journal.Disk) journal.Broken
+    ↔ IsSome old.doubtful)
+    → (is_honest old.disk → IsOneAppend state (Err journal.Disk) slip old new)
+    → Adds is_honest state [] old new × OneFailed slip old new
+one_doubtful is_honest state slip old new left broken honest =
+    let none : old.doubtful ≡ None = none_of old.doubtful (λ some. cc (broken.1 some)) in (
+      record {
+        plan = left.0;
+        count = left.1 ∙ omega arith;
+        taken = λ some. none;
+        moments = λ is. subst (λ (o : Option Slip). Throughout (state old.disk) (state new.disk)
+            (ReadsAs old.plan (kept_slips old.plan old.count (state old.disk)) o)) (sym left.2)
+            (step_of state (Err journal.Disk) slip old new none (honest is));
+        kept = λ is. (honest is).kept ∙ sym (append-nil (kept_slips old.plan old.count (state old.disk)));
+      },
+      record { whole = none; doubtful = left.2 },
+    )
+
+-- how the append of a piece's result ends
+pub append_failed : (T : Type 0) {D : Type 0} (is_honest : D → Type 0) (state : D → DiskState) (e : JournalFault)
+    (v : Values) (p : Piece) (old new : JournalValue D) → IsAppendFault e
+    → (IsErrOf {T = ℕ} (Err e) journal.OtherPlan → ⊥)
+    → (IsErrOf {T = ℕ} (Err e) journal.Broken ↔ IsSome old.doubtful)
+    → LeavesAppend (Err e) (slip_at v p) old new
+    → (is_honest old.disk → IsOneAppend state (Err e) (slip_at v p) old new)
+    → EndsAppends {T = T} is_honest state (Err (fault_of e)) v (p ∷ []) old new
+append_failed T is_honest state journal.Memory v p old new may other broken left honest = absurd may
+append_failed T is_honest state journal.Disk v p old new may other broken left honest =
+    (let failed = one_doubtful is_honest state (slip_at v p) old new left broken honest in
+    ([], p, [], (refl, failed.0, failed.1)))
+append_failed T is_honest state journal.Broken v p old new may other broken left honest =
+    (omega arith, broken.0 refl, left)
+append_failed T is_honest state journal.NoStudy v p old new may other broken left honest = absurd may
+append_failed T is_honest state journal.OtherPlan v p old new may other broken left honest = absurd (other refl)
+append_failed T is_honest state (journal.Damaged n) v p old new may other broken left honest = absurd may
+append_failed T is_honest state journal.Held v p old new may other broken left honest = absurd may
+
+pub failed_calls : (T : Type 0) (e : JournalFault) (n : ℕ) → IsAppendFault e → (e ≡ journal.OtherPlan → ⊥)
+    → disk_faults {T = ℕ} (Err e) n ≡ running_faults {T = T} (Err (fault_of e)) n
+failed_calls T journal.Memory n may other = absurd may
+failed_calls T journal.Disk n may other = refl
+failed_calls T journal.Broken n may other = refl
+failed_calls T journal.NoStudy n may other = absurd may
+failed_calls T journal.OtherPlan n may other = absurd (other refl)
+failed_calls T (journal.Damaged k) n may other = absurd may
+failed_calls T journal.Held n may other = absurd may
+
+-- ---- appends after others
+
+doubt_left : {D : Type 0} (ys : List Slip) (mid new : JournalValue D) → (1 ≤ length ys → mid.doubtful ≡ None)
+    → NoneFailed ys mid new → LeavesDoubt mid.doubtful new.doubtful ys
+doubt_left [] mid new taken none = inr (refl, none.doubtful)
+doubt_left (y ∷ ys) mid new taken none = inl (taken (omega arith))
+
+taken_both : (xs ys : List Slip) (old mid : Option Slip) → (1 ≤ length xs → old ≡ None)
+    → (1 ≤ length ys → mid ≡ None) → mid ≡ old → 1 ≤ length (xs ++ ys) → old ≡ None
+taken_both [] ys old mid first second same some = sym same ∙ second some
+taken_both (x ∷ xs) ys old mid first second same some = first (omega arith)
+
+both_added : {D : Type 0} (is_honest : D → Type 0) (state : D → DiskState) (xs ys : List Slip)
+    (old mid new : JournalValue D) → (is_honest old.disk → is_honest mid.disk)
+    → Adds is_honest state xs old mid → mid.doubtful ≡ old.doubtful → Adds is_honest state ys mid new
+    → LeavesDoubt mid.doubtful new.doubtful ys → Adds is_honest state (xs ++ ys) old new
+both_added is_honest state xs ys old mid new honest before same after doubt = record {
+  plan = after.plan ∙ before.plan;
+  count =
+      (let one = before.count in let two = after.count in omega (arith, one, two, length-append xs ys));
+  taken = taken_both xs ys old.doubtful mid.doubtful before.taken after.taken same;
+  moments = λ is. each_then old.plan (kept_slips old.plan old.count (state old.disk))
+      (kept_slips mid.plan mid.count (state mid.disk)) xs ys mid.doubtful new.doubtful
+      (state old.disk) (state mid.disk) (state new.disk) (before.kept is) doubt (before.moments is)
+      (subst (λ (w : Values). AppendsEach w (kept_slips mid.plan mid.count (state mid.disk)) new.doubtful ys
+      (state mid.disk) (state new.disk)) before.plan (after.moments (honest is)));
+  kept = λ is. after.kept (honest is)
+      ∙ ap (λ (l : List Slip). l ++ ys) (before.kept is)
+      ∙ append_assoc (kept_slips old.plan old.count (state old.disk)) xs ys;
+}
+
+pub added_more : {D : Type 0} (is_honest : D → Type 0) (state : D → DiskState) (xs ys : List Slip)
+    (old mid new : JournalValue D) → (is_honest old.disk → is_honest mid.disk)
+    → Adds is_honest state xs old mid → NoneFailed xs old mid → Adds is_honest state ys mid new
+    → NoneFailed ys mid new → Adds is_honest state (xs ++ ys) old new × NoneFailed (xs ++ ys) old new
+added_more is_honest state xs ys old mid new honest before none after more = (
+  both_added is_honest state xs ys old mid new honest before none.doubtful after
+      (doubt_left ys mid new after.taken more),
+  record {
+    doubtful = more.doubtful ∙ none.doubtful;
+    untouched = λ all. (let sum = length-append xs ys in more.untouched (omega (arith, all, sum))
+        ∙ none.untouched (omega (arith, all, sum)));
+  },
+)
+
+pub added_doubtful : {D : Type 0} (is_honest : D → Type 0) (state : D → DiskState) (xs ys : List Slip) (slip : Slip)
+    (old mid new : JournalValue D) → (is_honest old.disk → is_honest mid.disk)
+    → Adds is_honest state xs old mid → NoneFailed xs old mid → Adds is_honest state ys mid new
+    → OneFailed slip mid new → Adds is_honest state (xs ++ ys) old new × OneFailed slip old new
+added_doubtful is_honest state xs ys slip old mid new honest before none after failed = (
+  both_added is_honest state xs ys old mid new honest before none.doubtful after (inl failed.whole),
+  record { whole = sym none.doubtful ∙ failed.whole; doubtful = failed.doubtful },
+)
+
+-- ---- a task's result
+
+pub done_none : (task : Task) → task.result ≡ None → done_of (task ∷ []) ≡ []
+done_none task none = ap (λ (o : Option Computed). pieces_of (cond (is_some o) (task ∷ []) [])) none
+
+pub done_some : (task : Task) (r : Computed) → task.result ≡ Some r → done_of (task ∷ []) ≡ task.piece ∷ []
+done_some task r some = ap (λ (o : Option Computed). pieces_of (cond (is_some o) (task ∷ []) [])) some
+
+pub result_is : (v : Values) (task : Task) (r : Computed) → task.result ≡ Some r → IsRun v task
+    → r ≡ record { plan = v; piece = task.piece }
+result_is v task r some run =
+    subst (λ (o : Option Computed). IfSome o (λ x. x ≡ record { plan = v; piece = task.piece })) some run
+
+slip_is : (v : Values) (task : Task) (r : Computed) → task.result ≡ Some r → IsRun v task
+    → slip_of r ≡ slip_at v task.piece
+slip_is v task r some run = ap (λ (x : Computed). slip_of x) (result_is v task r some run)
+
+pub task_appended : {T D : Type 0} (is_honest : D → Type 0) (state : D → DiskState) (done : T) (n : ℕ) (v : Values)
+    (task : Task) (r : Computed) (old new : JournalValue D) → task.result ≡ Some r → IsRun v task
+    → LeavesAppend (Ok n) (slip_of r) old new → (IsErrOf {T = ℕ} (Ok n) journal.Broken ↔ IsSome old.doubtful)
+    → (is_honest old.disk → IsOneAppend state (Ok n) (slip_of r) old new)
+    → EndsAppends {T = T} is_honest state (Ok done) v (done_of (task ∷ [])) old new
+task_appended {T} is_honest state done n v task r old new some run left broken honest =
+    subst (λ (ps : List Piece). EndsAppends {T = T} is_honest state (Ok done) v ps old new)
+    (sym (done_some task r some))
+    (subst (λ (slip : Slip). Adds is_honest state (slip ∷ []) old new × NoneFailed (slip ∷ []) old new)
+    (slip_is v task r some run)
+    (one_added is_honest state n (slip_of r) old new left broken honest))
+
+pub task_failed : (T : Type 0) {D : Type 0} (is_honest : D → Type 0) (state : D → DiskState) (e : JournalFault)
+    (v : Values) (task : Task) (r : Computed) (old new : JournalValue D) → task.result ≡ Some r → IsRun v task
+    → IsAppendFault e
+    → (IsErrOf {T = ℕ} (Err e) journal.OtherPlan → ⊥)
+    → (IsErrOf {T = ℕ} (Err e) journal.Broken ↔ IsSome old.doubtful)
+    → LeavesAppend (Err e) (slip_of r) old new
+    → (is_honest old.disk → IsOneAppend state (Err e) (slip_of r) old new)
+    → EndsAppends {T = T} is_honest state (Err (fault_of e)) v (done_of (task ∷ [])) old new
+task_failed T is_honest state e v task r old new some run may other broken left honest =
+    let is : slip_of r ≡ slip_at v task.piece = slip_is v task r some run in
+    subst (λ (ps : List Piece). EndsAppends {T = T} is_honest state (Err (fault_of e)) v ps old new)
+    (sym (done_some task r some))
+    (append_failed T is_honest state e v task.piece old new may other broken
+    (subst (λ (slip : Slip). LeavesAppend (Err e) slip old new) is left)
+    (λ honestly. subst (λ (slip : Slip). IsOneAppend state (Err e) slip old new) is (honest honestly)))
+
+-- ---- tasks one after another
+
+pub done_more : (tasks : List Task) (i : ℕ) (task : Task) → i < length tasks → task ≡ get_or tasks i task
+    → done_of (take (i + 1) tasks) ≡ done_of (take i tasks) ++ done_of (task ∷ [])
+done_more tasks i task low is =
+    ap done_of (take_more tasks i task low ∙ ap (λ (x : Task). take i tasks ++ x ∷ []) (sym is))
+    ∙ ap pieces_of (filter-append has_result (take i tasks) (task ∷ []))
+    ∙ map-append (λ (x : Task). x.piece) (filter has_result (take i tasks)) (filter has_result (task ∷ []))
+
+-- those before, this one, and those after it
+pub done_split : (tasks : List Task) (i : ℕ) (task : Task) → i < length tasks → task ≡ get_or tasks i task
+    → done_of tasks ≡ (done_of (take i tasks) ++ done_of (task ∷ [])) ++ done_of (drop (i + 1) tasks)
+done_split tasks i task low is =
+    ap done_of (sym (take-append-drop (i + 1) tasks))
+    ∙ ap pieces_of (filter-append has_result (take (i + 1) tasks) (drop (i + 1) tasks))
+    ∙ map-append (λ (x : Task). x.piece) (filter has_result (take (i + 1) tasks))
+    (filter has_result (drop (i + 1) tasks))
+    ∙ ap (λ (ps : List Piece). ps ++ done_of (drop (i + 1) tasks)) (done_more tasks i task low is)
+
+pub none_before : {D : Type 0} (ps : List Piece) (v : Values) (old mid : JournalValue D)
+    → (1 ≤ length (slips_at v ps) → old.doubtful ≡ None) → IsSome old.doubtful → length (slips_at v ps) ≡ 0
+none_before [] v old mid taken some = refl
+none_before (p ∷ ps) v old mid taken some =
+    absurd (let none : old.doubtful ≡ None = taken (omega arith) in
+    let bad : IsSome {T = Slip} None = subst (λ (o : Option Slip). IsSome o) none some in cc bad)
+
+regroup : (ps before : List Piece) (p : Piece) (after later : List Piece)
+    → (ps ++ (before ++ p ∷ after)) ++ later ≡ (ps ++ before) ++ p ∷ (after ++ later)
+regroup ps before p after later = simp append_assoc
+
+pub appends_stop : (T : Type 0) {D : Type 0} (is_honest : D → Type 0) (state : D → DiskState) (e : ShareFault)
+    (v w : Values) (all ps qs later : List Piece) (old mid new : JournalValue D) → w ≡ v → all ≡ (ps ++ qs) ++ later
+    → (is_honest old.disk → is_honest mid.disk) → Adds is_honest state (slips_at v ps) old mid
+    → NoneFailed (slips_at v ps) old mid
+    → EndsAppends {T = T} is_honest state (Err e) w qs mid new
+    → EndsAppends {T = T} is_honest state (Err e) v all old new
+appends_stop T is_honest state Memory v w all ps qs later old mid new same are honest added none is = absurd is
+appends_stop T is_honest state OtherPlan v w all ps qs later old mid new same are honest added none is = absurd is
+appends_stop T is_honest state (BadSlip n) v w all ps qs later old mid new same are honest added none is = absurd is
+appends_stop T is_honest state WorkMemory v w all ps qs later old mid new same are honest added none is = absurd is
+appends_stop T is_honest state Broken v w all ps qs later old mid new same are honest added none is =
+    let some : IsSome old.doubtful = subst (λ (o : Option Slip). IsSome o) none.doubtful is.1 in
+    let count = is.0 in (
+      omega (arith, count, ap length are, length-append (ps ++ qs) later, length-append ps qs),
+      some,
+      is.2 ∙ none.untouched (none_before ps v old mid added.taken some),
+    )
+appends_stop T is_honest state Disk v w all ps qs later old mid new same are honest added none (before, p, after, is) =
+    let joined : slips_at v (ps ++ before) ≡ slips_at v ps ++ slips_at v before =
+    map-append (slip_at v) ps before in
+    let both = added_doubtful is_honest state (slips_at v ps) (slips_at v before) (slip_at v p) old mid new honest
+    added none (subst (λ (x : Values). Adds is_honest state (slips_at x before) mid new) same is.1)
+    (subst (λ (x : Values). OneFailed (slip_at x p) mid new) same is.2) in (
+      ps ++ before,
+      p,
+      after ++ later,
+      (
+        are ∙ ap (λ (l : List Piece). (ps ++ l) ++ later) is.0 ∙ regroup ps before p after later,
+        subst (λ (l : List Slip). Adds is_honest state l old new) (sym joined) both.0,
+        both.1,
+      ),
+    )

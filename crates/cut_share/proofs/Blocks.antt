@@ -1,0 +1,101 @@
+-- The numbers of blocks.
+use Rattle.std.proofs.Common.{◌≡◌, ℕ, ◌+◌, ◌*◌, ◌/◌, ◌%◌, ◌<◌, ◌≤◌, ◌==◌, inl, inr}
+use Rattle.std.proofs.Common.{sym, ap, ◌∙◌, arith}
+use Rattle.std.proofs.Math.Nat.{mod-eq_of_lt, div-eq_of_lt}
+use Rattle.std.proofs.lemmas.Bool.{cases_lt, eq-eqb, ne_eqb}
+use Rattle.std.proofs.lemmas.Nat.{div-mul-add, mod-mul-add, div-add-mod', mod_below}
+use Rattle.std.specs.Int.{div_ceil}
+use Rattle.cut_plan.specs.Values.{Values}
+use Rattle.cut_trial.specs.Outcome.{one_if}
+use Rattle.cut_share.specs.Blocks.{AreNumbered, begins_block, block_of}
+
+-- ---- quotients of one number and the next
+
+record NextQuotient (o p : ℕ) : Type 0 where
+  quotient : (o + 1) / p ≡ o / p + one_if ((o + 1) % p == 0)
+  ceiling : div_ceil (o + 1) p ≡ o / p + 1
+
+next_quotient : (o p : ℕ) → 1 ≤ p → NextQuotient o p
+next_quotient o p some =
+    let q : ℕ = o / p in
+    let r : ℕ = o % p in
+    let whole : q * p + r ≡ o = div-add-mod' o p in
+    let below : r < p = mod_below o p (omega arith) in
+    elim (cases_lt (r + 1) p) [
+      | inl inside ↦ (
+          let sum : q * p + (r + 1) ≡ o + 1 = omega (arith, whole) in
+          let quotient : (o + 1) / p ≡ q = ap (λ n. n / p) (sym sum) ∙ div-mul-add q p (r + 1) inside in
+          let rest : (o + 1) % p ≡ r + 1 = ap (λ n. n % p) (sym sum) ∙ mod-mul-add q p (r + 1) inside in
+          let more : one_if ((o + 1) % p == 0) ≡ 0 =
+          ap (λ b. one_if b) (ne_eqb ((o + 1) % p) 0 (λ none. omega (arith, none, rest))) in
+          record {
+            quotient = omega (arith, quotient, more);
+            ceiling = omega (arith, quotient, rest);
+          })
+      | inr past ↦ (
+          let sum : (q + 1) * p + 0 ≡ o + 1 = omega (arith, whole, below, past) in
+          let quotient : (o + 1) / p ≡ q + 1 = ap (λ n. n / p) (sym sum) ∙ div-mul-add (q + 1) p 0 (omega arith) in
+          let rest : (o + 1) % p ≡ 0 = ap (λ n. n % p) (sym sum) ∙ mod-mul-add (q + 1) p 0 (omega arith) in
+          let more : one_if ((o + 1) % p == 0) ≡ 1 = ap (λ b. one_if b) (eq-eqb ((o + 1) % p) 0 rest) in
+          record {
+            quotient = omega (arith, quotient, more);
+            ceiling = omega (arith, quotient, rest);
+          })
+    ]
+
+-- ---- the blocks in order
+
+next_block : (size : ℕ) (v : Values) (t : ℕ) → 1 ≤ size → 1 ≤ v.repeats
+    → block_of size v (t + 1) ≡ block_of size v t + one_if (begins_block size v (t + 1))
+next_block size v t some repeats =
+    let r : ℕ = v.repeats in
+    let c : ℕ = t / r in
+    let o : ℕ = t % r in
+    let b : ℕ = div_ceil r size in
+    let whole : c * r + o ≡ t = div-add-mod' t r in
+    let below : o < r = mod_below t r (omega arith) in
+    let next = next_quotient o size some in
+    elim (cases_lt (o + 1) r) [
+      | inl inside ↦ (
+          let sum : c * r + (o + 1) ≡ t + 1 = omega (arith, whole) in
+          let cell : (t + 1) / r ≡ c = ap (λ n. n / r) (sym sum) ∙ div-mul-add c r (o + 1) inside in
+          let at : (t + 1) % r ≡ o + 1 = ap (λ n. n % r) (sym sum) ∙ mod-mul-add c r (o + 1) inside in
+          let quotient : ((t + 1) % r) / size ≡ o / size + one_if (((t + 1) % r) % size == 0) =
+          ap (λ n. n / size) at ∙ next.quotient ∙ ap (λ n. o / size + one_if (n % size == 0)) (sym at) in
+          ap (λ n. n * b + ((t + 1) % r) / size) cell ∙ omega (arith, quotient))
+      | inr past ↦ (
+          let sum : (c + 1) * r + 0 ≡ t + 1 = omega (arith, whole, below, past) in
+          let cell : (t + 1) / r ≡ c + 1 = ap (λ n. n / r) (sym sum) ∙ div-mul-add (c + 1) r 0 (omega arith) in
+          let at : (t + 1) % r ≡ 0 = ap (λ n. n % r) (sym sum) ∙ mod-mul-add (c + 1) r 0 (omega arith) in
+          let none : ((t + 1) % r) / size ≡ 0 =
+          ap (λ n. n / size) at ∙ div-eq_of_lt {n = 0} {m = size} (omega arith) in
+          let begins : one_if (((t + 1) % r) % size == 0) ≡ 1 =
+          ap (λ n. one_if (n == 0)) (ap (λ n. n % size) at ∙ mod-eq_of_lt {n = 0} {m = size} (omega arith)) in
+          let last : r ≡ o + 1 = omega (arith, below, past) in
+          let ceiling : b ≡ o / size + 1 = ap (λ n. div_ceil n size) last ∙ next.ceiling in
+          ap (λ n. n * b + ((t + 1) % r) / size) cell ∙ omega (arith, none, begins, ceiling))
+    ]
+
+pub blocks_numbered : (size : ℕ) (v : Values) → 1 ≤ size → 1 ≤ v.repeats → AreNumbered size v
+blocks_numbered size v some repeats = record {
+  first =
+      (let cell : 0 / v.repeats ≡ 0 = div-eq_of_lt {n = 0} {m = v.repeats} (omega arith) in
+      let at : (0 % v.repeats) / size ≡ 0 =
+      ap (λ n. n / size) (mod-eq_of_lt {n = 0} {m = v.repeats} (omega arith))
+      ∙ div-eq_of_lt {n = 0} {m = size} (omega arith) in
+      ap (λ n. n * div_ceil v.repeats size + (0 % v.repeats) / size) cell ∙ omega (arith, at));
+  next = λ t. next_block size v t some repeats;
+}
+
+-- ---- the trials of one block
+
+-- trial k of block b of cell c
+pub block_at : (size : ℕ) (v : Values) (c b k : ℕ) → k < size → b * size + k < v.repeats
+    → block_of size v (c * v.repeats + (b * size + k)) ≡ c * div_ceil v.repeats size + b
+block_at size v c b k in-block in-cell =
+    let r : ℕ = v.repeats in
+    let o : ℕ = b * size + k in
+    let cell : (c * r + o) / r ≡ c = div-mul-add c r o in-cell in
+    let at : ((c * r + o) % r) / size ≡ b =
+    ap (λ n. n / size) (mod-mul-add c r o in-cell) ∙ div-mul-add b size k in-block in
+    ap (λ n. n * div_ceil r size + ((c * r + o) % r) / size) cell ∙ omega (arith, at)

@@ -1,0 +1,356 @@
+-- How a run of a share ends, by how its batches do.
+use Rattle.std.proofs.Common.{◌≡◌, ◌∙◌, ◌≤◌, ◌<◌, ◌+◌, ◌++◌, ◌==◌, ◌&&◌, ◌||◌, ℕ, zero, suc, Bool, true, false, not}
+use Rattle.std.proofs.Common.{cond, List, [], ◌∷◌, Ok, Err, filter, length, get_or, nat_lt, refl, sym, ap, subst, arith}
+use Rattle.std.specs.Prelude.{IsTrue, All, Result, count_by}
+use Rattle.std.specs.List.{flat_map, range_with_len}
+use Rattle.std.proofs.lemmas.Bool.{and_parts, eqb-true, ltb-true}
+use Rattle.std.proofs.lemmas.Bool.Decides.{nat_tests}
+use Rattle.std.proofs.lemmas.List.{map-append}
+use Rattle.std.proofs.lemmas.List.Elements.{All-append, All-nil, All-head, All-tail}
+use Rattle.std.proofs.lemmas.List.Folds.{list_any-append}
+use Rattle.std.proofs.lemmas.List.FromFn.{get_or-map-range_with_len}
+use Rattle.std.proofs.lemmas.List.Sums.{sum_by-append}
+use Rattle.cut_lists.proofs.Counts.{list_any-count_by}
+use Rattle.cut_lists.proofs.Maps.{count_by-map}
+use Rattle.cut_lists.proofs.Parts.{count_first}
+use Rattle.cut_lists.proofs.Ranges.{All-range_with_len, count_by_agree}
+use Rattle.cut_lists.proofs.Ranks.{count_by_none}
+use Rattle.cut_plan.specs.Cells.{trial_count}
+use Rattle.cut_plan.specs.Values.{Values}
+use Rattle.cut_trial.specs.declared.piece.Piece.{Piece}
+use Rattle.cut_trial.specs.Outcome.{one_if}
+use Rattle.cut_trial.specs.Sum.{trials_in}
+use Rattle.cut_disks.specs.State.{DiskState}
+use Rattle.cut_ledger.specs.declared.slip.Slip.{Slip}
+use Rattle.cut_ledger.specs.Contents.{has, is_in, is_in_base, over_base}
+use Rattle.cut_ledger.specs.Gaps.{gaps_of}
+use Rattle.cut_ledger.specs.Laws.{GapsCover}
+use Rattle.cut_ledger.specs.Slips.{AreGood}
+use Rattle.cut_ledger.specs.World.{pieces_of_slips, times_in}
+use Rattle.cut_journal.specs.Journal.{JournalValue}
+use Rattle.cut_share.specs.declared.fault.ShareFault.{ShareFault}
+use Rattle.cut_share.specs.declared.fault.ShareFault.TheVariants.{Memory, OtherPlan, BadSlip, WorkMemory, Broken, Disk}
+use Rattle.cut_share.specs.declared.share.Share.{Share}
+use Rattle.cut_share.specs.Appending.{Adds}
+use Rattle.cut_share.specs.Batches.{EndsPieces, IsUpTo}
+use Rattle.cut_share.specs.Opening.{IsFaultOfOpening}
+use Rattle.cut_share.specs.Pieces.{IsSharePiece, own_times}
+use Rattle.cut_share.specs.Running.{AreOfShare, CanRun, EndsShare, is_lacking, slip_at, slips_at}
+use Rattle.cut_share.specs.Share.{IsShareSlip, has_block, is_in_share, trials_of_share}
+use Rattle.cut_share.specs.Blocks.{block_of}
+use Rattle.cut_share.proofs.Batches.{lost_time, times_first}
+use Rattle.cut_share.proofs.PieceFacts.{in_trials}
+use Rattle.cut_share.proofs.Turns.{once_in_range}
+
+and_true : (b : Bool) → b && true ≡ b
+and_true true = refl
+and_true false = refl
+
+and_false : (b : Bool) → b && false ≡ false
+and_false true = refl
+and_false false = refl
+
+or_none : (b : Bool) → b || false ≡ b
+or_none true = refl
+or_none false = refl
+
+one_at_most : (b : Bool) → one_if b ≤ 1
+one_at_most true = omega arith
+one_at_most false = omega arith
+
+-- ---- how often a trial is in the gaps
+
+count_filter : (p q : ℕ → Bool) (xs : List ℕ) → count_by q (filter p xs) ≡ count_by (λ x. q x && p x) xs
+count_filter p q [] = refl
+count_filter p q (x ∷ xs) = by (count_filter p q xs) (p x) refl
+  where
+    by : count_by q (filter p xs) ≡ count_by (λ y. q y && p y) xs → (a : Bool) → p x ≡ a
+        → count_by q (filter p (x ∷ xs)) ≡ count_by (λ y. q y && p y) (x ∷ xs)
+    by rest true is =
+        let left : count_by q (filter p (x ∷ xs)) ≡ count_by q (x ∷ filter p xs) =
+        ap (λ c. count_by q (cond c (x ∷ filter p xs) (filter p xs))) is in
+        let both : cond {A = ℕ} (q x && p x) 1 0 ≡ cond {A = ℕ} (q x) 1 0 =
+        ap (λ c. cond {A = ℕ} (q x && c) 1 0) is ∙ ap (λ c. cond {A = ℕ} c 1 0) (and_true (q x)) in
+        omega (arith, left, both, count_first q x (filter p xs), count_first (λ y. q y && p y) x xs, rest)
+    by rest false is =
+        let left : count_by q (filter p (x ∷ xs)) ≡ count_by q (filter p xs) =
+        ap (λ c. count_by q (cond c (x ∷ filter p xs) (filter p xs))) is in
+        let both : cond {A = ℕ} (q x && p x) 1 0 ≡ 0 =
+        ap (λ c. cond {A = ℕ} (q x && c) 1 0) is ∙ ap (λ c. cond {A = ℕ} c 1 0) (and_false (q x)) in
+        omega (arith, left, both, count_first (λ y. q y && p y) x xs, rest)
+
+same_at : (free : ℕ → Bool) (x t : ℕ) → (x == t) && free x ≡ (x == t) && free t
+same_at free x t = by (x == t) refl
+  where
+    by : (b : Bool) → (x == t) ≡ b → (x == t) && free x ≡ (x == t) && free t
+    by true is = ap (λ y. (x == t) && free y) (eqb-true x t is)
+    by false is = ap (λ b. b && free x) is ∙ sym (ap (λ b. b && free t) is)
+
+once_if : (b : Bool) (n t : ℕ) → t < n → count_by (λ x. (x == t) && b) (range_with_len 0 n) ≡ one_if b
+once_if true n t low =
+    count_by_agree (λ x. (x == t) && true) (λ x. x == t) 0 n (record { same = λ x from below. and_true (x == t) })
+    ∙ once_in_range 0 n t ∙ grind (arith, nat_tests)
+once_if false n t low =
+    count_by_none (λ x. (x == t) && false) (range_with_len 0 n)
+    (All-range_with_len (λ x. (x == t) && false ≡ false) 0 n (λ x from below. and_false (x == t)))
+
+count_free : (free : ℕ → Bool) (n t : ℕ) → t < n
+    → count_by (λ x. x == t) (filter free (range_with_len 0 n)) ≡ one_if (free t)
+count_free free n t low =
+    count_filter free (λ x. x == t) (range_with_len 0 n)
+    ∙ count_by_agree (λ x. (x == t) && free x) (λ x. (x == t) && free t) 0 n
+    (record { same = λ x from below. same_at free x t })
+    ∙ once_if (free t) n t low
+
+count_trials : (ps : List Piece) (t : ℕ) → count_by (λ x. x == t) (flat_map trials_in ps) ≡ times_in ps t
+count_trials [] t = refl
+count_trials (p ∷ ps) t =
+    let here : count_by (λ x. x == t) (trials_in p) ≡ one_if (is_in p t) =
+    once_in_range p.first p.count t ∙ grind (arith, nat_tests) in
+    let both : count_by (λ x. x == t) (trials_in p ++ flat_map trials_in ps) ≡ count_by (λ x. x == t) (trials_in p)
+    + count_by (λ x. x == t) (flat_map trials_in ps) =
+    sum_by-append (λ x. cond (x == t) 1 0) (trials_in p) (flat_map trials_in ps) in
+    omega (arith, times_first p ps t, here, both, count_trials ps t)
+
+own_if : (s : Share) (v : Values) (ps : List Piece) (t : ℕ) (b : Bool) → is_in_share s v t ≡ b
+    → own_times s v ps t ≡ (cond b (times_in ps t) 0)
+own_if s v [] t true is = refl
+own_if s v [] t false is = refl
+own_if s v (p ∷ ps) t true is =
+    let here : cond {A = ℕ} (is_in p t && is_in_share s v t) 1 0 ≡ one_if (is_in p t) =
+    ap (λ b. cond {A = ℕ} (is_in p t && b) 1 0) is ∙ ap (λ b. cond {A = ℕ} b 1 0) (and_true (is_in p t)) in
+    omega (
+      arith,
+      here,
+      count_first (λ q. is_in q t && is_in_share s v t) p ps,
+      times_first p ps t,
+      own_if s v ps t true is,
+    )
+own_if s v (p ∷ ps) t false is =
+    let here : cond {A = ℕ} (is_in p t && is_in_share s v t) 1 0 ≡ 0 =
+    ap (λ b. cond {A = ℕ} (is_in p t && b) 1 0) is ∙ ap (λ b. cond {A = ℕ} b 1 0) (and_false (is_in p t)) in
+    omega (arith, here, count_first (λ q. is_in q t && is_in_share s v t) p ps, own_if s v ps t false is)
+
+-- a trial of the share is in one gap where no slip has it, and else in none
+pub gap_times : GapsCover → (s : Share) (v : Values) (ss : List Slip) (t : ℕ)
+    → own_times s v (gaps_of (over_base v ss)) t ≡ one_if (is_lacking s v ss t)
+gap_times cover s v ss t = by (is_in_share s v t) refl
+  where
+    by : (b : Bool) → is_in_share s v t ≡ b
+        → own_times s v (gaps_of (over_base v ss)) t ≡ one_if (is_lacking s v ss t)
+    by true is =
+        let low : t < trial_count v = ltb-true t (trial_count v)
+        (and_parts (nat_lt t (trial_count v)) (has_block s (block_of s.block_size v t)) is).0 in
+        let held : has (over_base v ss) t ≡ is_in_base ss t =
+        get_or-map-range_with_len (is_in_base ss) 0 (trial_count v) t t false low (omega arith) in
+        own_if s v (gaps_of (over_base v ss)) t true is
+        ∙ sym (count_trials (gaps_of (over_base v ss)) t)
+        ∙ ap (λ (ts : List ℕ). count_by (λ x. x == t) ts) (cover (over_base v ss))
+        ∙ count_free (λ i. not (has (over_base v ss) i)) (trial_count v) t low
+        ∙ ap (λ b. one_if (not b)) held
+        ∙ ap (λ b. one_if (b && not (is_in_base ss t))) (sym is)
+    by false is =
+        own_if s v (gaps_of (over_base v ss)) t false is
+        ∙ ap (λ b. one_if (b && not (is_in_base ss t))) (sym is)
+
+-- ---- the slips of pieces
+
+pub pieces_back : (v : Values) (ps : List Piece) → pieces_of_slips (slips_at v ps) ≡ ps
+pieces_back v [] = refl
+pieces_back v (p ∷ ps) = ap (λ (l : List Piece). p ∷ l) (pieces_back v ps)
+
+one_slip : (s : Share) (v : Values) (p : Piece) → IsSharePiece s v p → IsShareSlip s v (slip_at v p)
+one_slip s v p is = record {
+  true = record { piece = is.piece; totals = refl };
+  own = All-range_with_len (λ t. IsTrue (is_in_share s v t)) p.first p.count
+      (λ t from below. is.own t (in_trials p t from below));
+}
+
+one_of : (s : Share) (v : Values) (slip : Slip) → IsShareSlip s v slip → All (IsShareSlip s v) (slip ∷ [])
+one_of s v slip is = λ k d low. at k d low
+  where
+    at : (k : ℕ) (d : Slip) → k < 1 → IsShareSlip s v (get_or (slip ∷ []) k d)
+    at zero d low = is
+    at (suc k) d low = absurd (omega arith)
+
+share_slips : (s : Share) (v : Values) (ps : List Piece) → All (IsSharePiece s v) ps
+    → All (IsShareSlip s v) (slips_at v ps)
+share_slips s v [] own = All-nil (IsShareSlip s v)
+share_slips s v (p ∷ ps) own =
+    All-append (IsShareSlip s v) (slip_at v p ∷ []) (slips_at v ps)
+    (one_of s v (slip_at v p) (one_slip s v p (All-head (IsSharePiece s v) p ps own)))
+    (share_slips s v ps (All-tail (IsSharePiece s v) p ps own))
+
+of_share : (s : Share) (v : Values) (ss : List Slip) (ps : List Piece) → All (IsSharePiece s v) ps
+    → ((t : ℕ) → times_in ps t ≤ one_if (is_lacking s v ss t)) → AreOfShare s v ss (slips_at v ps)
+of_share s v ss ps own once = record {
+  each = share_slips s v ps own;
+  once = λ t. (let few = once t in omega (arith, few, ap (λ (l : List Piece). times_in l t) (pieces_back v ps)));
+}
+
+-- ---- the endings
+
+-- what a run over slips begins with
+pub record IsBegun {D : Type 0} (s : Share) (v : Values) (ss : List Slip) (all : List Piece) (old : JournalValue D)
+    : Type 0 where
+  pub can : CanRun v ss old
+  pub lack : (t : ℕ) → own_times s v all t ≡ one_if (is_lacking s v ss t)
+
+abbrev pub Ends : {D : Type 0} → (D → Type 0) → (D → DiskState) → Result ℕ ShareFault → Share → Values → List Slip
+    → JournalValue D → JournalValue D → Type 0
+Ends is_honest state result s v ss old new =
+    (added : List Slip) × (Adds is_honest state added old new × EndsShare result s v ss added old new)
+
+is_true : (b : Bool) (n : ℕ) → 1 ≤ n → n ≤ one_if b → IsTrue b
+is_true true n some few = refl
+is_true false n some few = absurd (omega arith)
+
+none_in : (ps : List Piece) (t : ℕ) → length ps ≡ 0 → times_in ps t ≡ 0
+none_in [] t none = refl
+none_in (p ∷ ps) t none = absurd (omega (arith, none))
+
+pub ends_whole : {D : Type 0} (is_honest : D → Type 0) (state : D → DiskState) (s : Share) (v : Values)
+    (ss : List Slip) (all : List Piece) (old new : JournalValue D) (n : ℕ) → IsBegun s v ss all old
+    → n ≡ length (trials_of_share s v) → IsUpTo is_honest state true s v all [] old new
+    → Ends is_honest state (Ok n) s v ss old new
+ends_whole is_honest state s v ss all old new n begun count upto = (
+  slips_at v upto.done,
+  (
+    upto.kept.added,
+    (
+      count,
+      begun.can,
+      of_share s v ss upto.done upto.parted.done_own
+          (λ t. (let one = upto.parted.times t in let two = begun.lack t in omega (arith, one, two))),
+      λ t. (let one = upto.parted.times t in let two = begun.lack t in
+          let none = none_in upto.lost t (upto.sufficed.none refl) in
+          omega (arith, one, two, none, ap (λ (l : List Piece). times_in l t) (pieces_back v upto.done))),
+      upto.kept.failed,
+    ),
+  ),
+)
+
+-- a trial that is in none of the added slips, and in none of those before
+still_lacking : (s : Share) (v : Values) (ss : List Slip) (ps : List Piece) (t : ℕ) → times_in ps t ≡ 0
+    → IsTrue (is_lacking s v ss t) → IsTrue (is_lacking s v (ss ++ slips_at v ps) t)
+still_lacking s v ss ps t none lacks =
+    let among : is_in_base (slips_at v ps) t ≡ false =
+    list_any-count_by (λ (slip : Slip). is_in slip.piece t) (slips_at v ps)
+    ∙ ap (nat_lt 0) (sym (count_by-map (λ p. is_in p t) (λ (slip : Slip). slip.piece) (slips_at v ps))
+    ∙ ap (λ (l : List Piece). times_in l t) (pieces_back v ps) ∙ none) in
+    let both : is_in_base (ss ++ slips_at v ps) t ≡ is_in_base ss t =
+    list_any-append (λ (slip : Slip). is_in slip.piece t) ss (slips_at v ps)
+    ∙ ap (λ b. is_in_base ss t || b) among ∙ or_none (is_in_base ss t) in
+    ap (λ b. is_in_share s v t && not b) both ∙ lacks
+
+pub ends_short : {D : Type 0} (is_honest : D → Type 0) (state : D → DiskState) (s : Share) (v : Values)
+    (ss : List Slip) (all : List Piece) (old new : JournalValue D) → IsBegun s v ss all old
+    → IsUpTo is_honest state false s v all [] old new → Ends is_honest state (Err WorkMemory) s v ss old new
+ends_short is_honest state s v ss all old new begun upto =
+    let at = lost_time s v upto.lost upto.parted.lost_own (upto.sufficed.some refl) in
+    let t : ℕ = at.0 in
+    let low : 1 ≤ times_in upto.lost t = at.1 in
+    let one = upto.parted.times t in
+    let two = begun.lack t in
+    let few : one_if (is_lacking s v ss t) ≤ 1 = one_at_most (is_lacking s v ss t) in
+    let none : times_in upto.done t ≡ 0 = omega (arith, low, one, two, few) in
+    let lacks : IsTrue (is_lacking s v ss t) =
+    is_true (is_lacking s v ss t) (times_in upto.lost t) low (omega (arith, one, two)) in (
+      slips_at v upto.done,
+      (
+        upto.kept.added,
+        (
+          begun.can,
+          of_share s v ss upto.done upto.parted.done_own
+              (λ i. (let here = upto.parted.times i in let lack = begun.lack i in omega (arith, here, lack))),
+          (t, still_lacking s v ss upto.done t none lacks),
+          upto.kept.failed,
+        ),
+      ),
+    )
+
+pub ends_fault : {D : Type 0} (is_honest : D → Type 0) (state : D → DiskState) (e : ShareFault) (s : Share)
+    (v : Values) (ss : List Slip) (all : List Piece) (old new : JournalValue D) → IsBegun s v ss all old
+    → Adds is_honest state [] old old → EndsPieces is_honest state (Err e) s v all old new
+    → Ends is_honest state (Err e) s v ss old new
+ends_fault is_honest state Memory s v ss all old new begun none ends = absurd ends
+ends_fault is_honest state OtherPlan s v ss all old new begun none ends = absurd ends
+ends_fault is_honest state (BadSlip n) s v ss all old new begun none ends = absurd ends
+ends_fault is_honest state WorkMemory s v ss all old new begun none ends = absurd ends
+ends_fault {D} is_honest state Broken s v ss all old new begun none ends =
+    let t : ℕ = ends.2.0 in
+    let low : 1 ≤ own_times s v all t = ends.2.1 in (
+      [],
+      (
+        subst (λ (log : JournalValue D). Adds is_honest state [] old log) (sym ends.1) none,
+        (
+          begun.can,
+          (t, is_true (is_lacking s v ss t) (own_times s v all t) low (let two = begun.lack t in omega (arith, two))),
+          ends.0,
+          refl,
+          ends.1,
+        ),
+      ),
+    )
+ends_fault is_honest state Disk s v ss all old new begun none (done, p, ends) = (
+  slips_at v done,
+  (
+    ends.2,
+    (
+      begun.can,
+      (
+        slip_at v p,
+        (
+          subst (λ (l : List Slip). AreOfShare s v ss l) (map-append (slip_at v) done (p ∷ []))
+              (of_share s v ss (done ++ p ∷ []) ends.0
+              (λ t. (let one = ends.1 t in let two = begun.lack t in omega (arith, one, two)))),
+          ends.3,
+        ),
+      ),
+    ),
+  ),
+)
+
+-- the journal is the plan's, and no batch ends as if it were not
+pub not_other : {D : Type 0} (is_honest : D → Type 0) (state : D → DiskState) (e : ShareFault) (s : Share)
+    (v : Values) (all : List Piece) (old new : JournalValue D) → EndsPieces is_honest state (Err e) s v all old new
+    → e ≡ OtherPlan → ⊥
+not_other {D} is_honest state e s v all old new ends is =
+    let bad : EndsPieces is_honest state (Err OtherPlan) s v all old new =
+    subst (λ (x : ShareFault). EndsPieces is_honest state (Err x) s v all old new) is ends in bad
+
+-- ---- as the run has them
+
+-- it does not begin
+pub ends_unbegun : {D : Type 0} (is_honest : D → Type 0) (state : D → DiskState) (e : ShareFault) (s : Share)
+    (v : Values) (ss : List Slip) (log : JournalValue D) → IsFaultOfOpening v ss e → log.plan ≡ v
+    → Adds is_honest state [] log log → Ends is_honest state (Err e) s v ss log log
+ends_unbegun is_honest state Memory s v ss log is plan none = ([], (none, (plan, refl, refl)))
+ends_unbegun is_honest state OtherPlan s v ss log is plan none = absurd is
+ends_unbegun is_honest state (BadSlip n) s v ss log is plan none = ([], (none, (plan, is, refl, refl)))
+ends_unbegun is_honest state WorkMemory s v ss log is plan none = absurd is
+ends_unbegun is_honest state Broken s v ss log is plan none = absurd is
+ends_unbegun is_honest state Disk s v ss log is plan none = absurd is
+
+-- or the journal is of another plan
+pub ends_other : {D : Type 0} (is_honest : D → Type 0) (state : D → DiskState) (s : Share) (v : Values)
+    (ss : List Slip) (log : JournalValue D) → (log.plan ≡ v → ⊥) → Adds is_honest state [] log log
+    → Ends is_honest state (Err OtherPlan) s v ss log log
+ends_other is_honest state s v ss log other none = ([], (none, (other, refl, refl)))
+
+-- the batches, said of the run's share and plan
+pub ends_at : {D : Type 0} (is_honest : D → Type 0) (state : D → DiskState) (result : Result Bool ShareFault)
+    (s now : Share) (v w : Values) (all : List Piece) (old new : JournalValue D) → now ≡ s → w ≡ v
+    → EndsPieces is_honest state result now w all old new → EndsPieces is_honest state result s v all old new
+ends_at is_honest state result s now v w all old new share plan ends =
+    subst (λ (x : Share). EndsPieces is_honest state result x v all old new) share
+    (subst (λ (y : Values). EndsPieces is_honest state result now y all old new) plan ends)
+
+-- what the run begins with
+pub begun_over : {D : Type 0} (s : Share) (v : Values) (ss : List Slip) (all gaps : List Piece) (log : JournalValue D)
+    → GapsCover → AreGood v ss → log.plan ≡ v → gaps ≡ gaps_of (over_base v ss)
+    → ((t : ℕ) → own_times s v all t ≡ own_times s v gaps t) → IsBegun s v ss all log
+begun_over s v ss all gaps log cover good plan are times = record {
+  can = record { good = good; plan = plan };
+  lack = λ t. times t ∙ ap (λ (l : List Piece). own_times s v l t) are ∙ gap_times cover s v ss t;
+}

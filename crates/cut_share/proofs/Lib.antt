@@ -1,0 +1,9 @@
+pub mod Blocks
+pub mod Turns
+pub mod Counting
+pub mod PieceFacts
+pub mod Remaining
+pub mod Dealing
+pub mod Appends
+pub mod Batches
+pub mod Endings

@@ -1,0 +1,81 @@
+use Rattle.std.proofs.Common.{◌≡◌, ◌∙◌, ◌+◌, ◌++◌, ℕ, List, [], ◌∷◌, Result, Ok, Err, take, drop, refl, sym, ap, subst}
+use Rattle.std.specs.Bool.{⊤}
+use Rattle.std.proofs.lemmas.Result.{err_from_is_err_and}
+use Rattle.std.proofs.lemmas.List.{map-append}
+use Rattle.cut_plan.specs.Values.{Values}
+use Rattle.cut_trial.specs.declared.piece.Piece.{Piece}
+use Rattle.cut_ledger.specs.declared.slip.Slip.{Slip}
+use Rattle.cut_share.specs.declared.fault.ShareFault.{ShareFault}
+use Rattle.cut_share.specs.declared.task.Task.{Task}
+use Rattle.cut_share.specs.Appending.{Adds, NoneFailed}
+use Rattle.cut_share.specs.Running.{EndsAppends, slip_at, slips_at}
+use Rattle.cut_share.specs.Tasks.{IsRun, done_of}
+use Rattle.cut_share.proofs.Appends.{added_more, appends_stop, done_more, done_split, none_added, none_failed}
+use Rattle.cut_share.proofs.append.append_all.Goals as goal
+
+pub append-requires : goal.append-requires
+append-requires g c =
+    let task : Task = c.task-item.result in
+    let run : IsRun c.args.journal.now.plan task =
+    subst (λ (x : Task). IsRun c.args.journal.now.plan x) (sym c.task-item.is)
+    (c.requires c.loop-task.task-index task c.loop-task-test.true) in
+    subst (λ (v : Values). IsRun v task) (sym c.loop-task.invariant.added.plan) run
+
+pub loop-task-init : goal.loop-task-init
+loop-task-init g c =
+    let log = c.args.journal.now in
+    record {
+      added = none_added g.D.Disk.is_honest g.D.Disk.state log c.disk.ensures.sound;
+      failed = none_failed [] log;
+      honest = (λ h. h, λ h. h);
+      faults = refl;
+    }
+
+pub returns-in_err-append-clause-ends : goal.returns-in_err-append-clause-ends
+returns-in_err-append-clause-ends g c =
+    let p = err_from_is_err_and c.from_residual.result c.from_residual.ensures.1 in
+    let held = c.loop-task.invariant in
+    let log = c.args.journal.now in
+    let mid = c.loop-task.journal in
+    let new = c.append.new.journal in
+    let task : Task = c.task-item.result in
+    let tasks : List Task = c.args.tasks.now in
+    let i : ℕ = c.loop-task.task-index in
+    let one : EndsAppends {T = ⊤} g.D.Disk.is_honest g.D.Disk.state (Err c.in_err-append.field-0.0) mid.plan
+    (done_of (task ∷ [])) mid new = c.in_err-append.ensures.ends in
+    subst (λ (x : Result ⊤ ShareFault). EndsAppends {T = ⊤} g.D.Disk.is_honest g.D.Disk.state x log.plan
+    (done_of tasks) log new) (sym (p.1 ∙ ap (λ (e : ShareFault). Err e) p.2))
+    (appends_stop ⊤ g.D.Disk.is_honest g.D.Disk.state c.in_err-append.field-0.0 log.plan mid.plan (done_of tasks)
+    (done_of (take i tasks)) (done_of (task ∷ [])) (done_of (drop (i + 1) tasks)) log mid new held.added.plan
+    (done_split tasks i task c.loop-task-test.true c.task-item.is) held.honest.0 held.added held.failed one)
+
+pub loop-task-preserved : goal.loop-task-preserved
+loop-task-preserved g c =
+    let held = c.loop-task.invariant in
+    let log = c.args.journal.now in
+    let mid = c.loop-task.journal in
+    let new = c.append.new.journal in
+    let task : Task = c.task-item.result in
+    let tasks : List Task = c.args.tasks.now in
+    let i : ℕ = c.loop-task.task-index in
+    let one : EndsAppends {T = ⊤} g.D.Disk.is_honest g.D.Disk.state (Ok tt) mid.plan (done_of (task ∷ [])) mid new =
+    c.in_ok-append.ensures.ends in
+    let two : EndsAppends {T = ⊤} g.D.Disk.is_honest g.D.Disk.state (Ok tt) log.plan (done_of (task ∷ [])) mid new =
+    subst (λ (v : Values). EndsAppends {T = ⊤} g.D.Disk.is_honest g.D.Disk.state (Ok tt) v (done_of (task ∷ [])) mid
+    new) held.added.plan one in
+    let both = added_more g.D.Disk.is_honest g.D.Disk.state (slips_at log.plan (done_of (take i tasks)))
+    (slips_at log.plan (done_of (task ∷ []))) log mid new held.honest.0 held.added held.failed two.0 two.1 in
+    let are : slips_at log.plan (done_of (take i tasks)) ++ slips_at log.plan (done_of (task ∷ []))
+    ≡ slips_at log.plan (done_of (take (i + 1) tasks)) =
+    sym (map-append (slip_at log.plan) (done_of (take i tasks)) (done_of (task ∷ [])))
+    ∙ ap (λ (ps : List Piece). slips_at log.plan ps)
+    (sym (done_more tasks i task c.loop-task-test.true c.task-item.is)) in
+    record {
+      added = subst (λ (l : List Slip). Adds g.D.Disk.is_honest g.D.Disk.state l log new) are both.0;
+      failed = subst (λ (l : List Slip). NoneFailed l log new) are both.1;
+      honest = (
+        λ h. c.append.ensures.honest.0 (held.honest.0 h),
+        λ h. held.honest.1 (c.append.ensures.honest.1 h),
+      );
+      faults = c.in_ok-append.ensures.faults ∙ held.faults;
+    }

@@ -1,0 +1,153 @@
+use Rattle.std.proofs.Common.{◌≡◌, ◌∙◌, ◌+◌, ◌<◌, ◌&&◌, Bool, List, ◌∷◌, Result, Ok, Err, take, refl, sym}
+use Rattle.std.proofs.Common.{ap, subst, arith, length}
+use Rattle.std.proofs.lemmas.Result.{err_from_is_err_and}
+use Rattle.cut_plan.specs.Values.{Values}
+use Rattle.cut_trial.specs.declared.piece.Piece.{Piece}
+use Rattle.cut_ledger.specs.World.{times_in}
+use Rattle.cut_share.specs.declared.fault.ShareFault.{ShareFault}
+use Rattle.cut_share.specs.declared.task.Task.{Task}
+use Rattle.cut_share.specs.Batches.{EndsPieces, IsUpTo}
+use Rattle.cut_share.specs.Pieces.{own_times}
+use Rattle.cut_share.specs.Running.{EndsAppends}
+use Rattle.cut_share.specs.Tasks.{done_of, pieces_of}
+use Rattle.cut_share.proofs.Appends.{none_added}
+use Rattle.cut_share.proofs.Batches.{batch_more, batch_stops, deal_of, none_yet, up_to_end}
+use Rattle.cut_share.proofs.batch.run_pieces.Goals as goal
+
+pub loop-pieces-init : goal.loop-pieces-init
+loop-pieces-init g c =
+    let log = c.args.journal.now in
+    record {
+      plan = refl;
+      share = refl;
+      upto = none_yet g.D.Disk.is_honest g.D.Disk.state c.args.pieces.share c.args.pieces.plan.now
+          (c.args.pieces.rest ∷ c.args.pieces.later.now) log
+          (none_added g.D.Disk.is_honest g.D.Disk.state log c.disk.ensures.sound);
+      honest = (λ h. h, λ h. h);
+      faults = refl;
+    }
+
+pub returns-then-count-eq0-clause-ends : goal.returns-then-count-eq0-clause-ends
+returns-then-count-eq0-clause-ends g c =
+    let held = c.loop-pieces.invariant in
+    let start = c.args.pieces in
+    let mid = c.loop-pieces.pieces in
+    let new = c.deal-count.new.pieces in
+    let none : c.deal-count.result ≡ 0 = c.if-count-eq0.true in
+    let low : c.deal-count.result < length c.loop-pieces.tasks =
+    (let some = c.requires.some in let same = c.loop-pieces.auto.tasks in omega (arith, some, same, none)) in
+    up_to_end g.D.Disk.is_honest g.D.Disk.state c.loop-pieces.is_whole start.share mid.share start.plan.now
+    mid.plan.now (start.rest ∷ start.later.now) (mid.rest ∷ mid.later.now) (new.rest ∷ new.later.now)
+    c.args.journal.now c.loop-pieces.journal held.share held.plan held.upto
+    (λ t. sym (omega arith)
+    ∙ ap (λ k. times_in (pieces_of (take k c.deal-count.new.tasks)) t
+    + own_times mid.share mid.plan.now (new.rest ∷ new.later.now) t) (sym none)
+    ∙ c.deal-count.ensures.taken t)
+    (c.deal-count.ensures.none low)
+
+pub returns-in_err-is_done-clause-ends : goal.returns-in_err-is_done-clause-ends
+returns-in_err-is_done-clause-ends g c =
+    let p = err_from_is_err_and c.from_residual.result c.from_residual.ensures.1 in
+    let held = c.loop-pieces.invariant in
+    let start = c.args.pieces in
+    let mid = c.loop-pieces.pieces in
+    let new = c.deal-count.new.pieces in
+    let log = c.args.journal.now in
+    let tasks : List Task = c.run_batch.new.tasks in
+    let dealt : List Piece = pieces_of (take c.deal-count.result c.deal-count.new.tasks) in
+    let are : pieces_of tasks ≡ dealt = c.run_batch.ensures.pieces in
+    let deal = deal_of start.share mid.share start.plan.now mid.plan.now dealt (pieces_of tasks)
+    (mid.rest ∷ mid.later.now) (new.rest ∷ new.later.now) held.share held.plan are c.deal-count.ensures.own
+    c.deal-count.ensures.taken in
+    let e : ShareFault = c.in_err-is_done.field-0.0 in
+    let one : EndsAppends {T = Bool} g.D.Disk.is_honest g.D.Disk.state (Err e) c.loop-pieces.journal.plan
+    (done_of tasks) c.loop-pieces.journal c.run_batch.new.journal = c.in_err-is_done.ensures.ends in
+    let two : EndsAppends {T = Bool} g.D.Disk.is_honest g.D.Disk.state (Err e) start.plan.now (done_of tasks)
+    c.loop-pieces.journal c.run_batch.new.journal =
+    subst (λ (v : Values). EndsAppends {T = Bool} g.D.Disk.is_honest g.D.Disk.state (Err e) v (done_of tasks)
+    c.loop-pieces.journal c.run_batch.new.journal) (held.upto.kept.added.plan ∙ c.requires.own) one in
+    subst (λ (x : Result Bool ShareFault). EndsPieces g.D.Disk.is_honest g.D.Disk.state x start.share start.plan.now
+    (start.rest ∷ start.later.now) log c.run_batch.new.journal)
+    (sym (p.1 ∙ ap (λ (x : ShareFault). Err x) p.2))
+    (batch_stops g.D.Disk.is_honest g.D.Disk.state e c.loop-pieces.is_whole start.share start.plan.now
+    (start.rest ∷ start.later.now) (mid.rest ∷ mid.later.now) (new.rest ∷ new.later.now) tasks log
+    c.loop-pieces.journal c.run_batch.new.journal held.honest.0 held.upto deal.own deal.times two)
+
+pub loop-pieces-preserved-then-is_whole : goal.loop-pieces-preserved-then-is_whole
+loop-pieces-preserved-then-is_whole g c =
+    let held = c.loop-pieces.invariant in
+    let start = c.args.pieces in
+    let mid = c.loop-pieces.pieces in
+    let new = c.deal-count.new.pieces in
+    let log = c.args.journal.now in
+    let tasks : List Task = c.run_batch.new.tasks in
+    let dealt : List Piece = pieces_of (take c.deal-count.result c.deal-count.new.tasks) in
+    let are : pieces_of tasks ≡ dealt = c.run_batch.ensures.pieces in
+    let deal = deal_of start.share mid.share start.plan.now mid.plan.now dealt (pieces_of tasks)
+    (mid.rest ∷ mid.later.now) (new.rest ∷ new.later.now) held.share held.plan are c.deal-count.ensures.own
+    c.deal-count.ensures.taken in
+    let done : Bool = c.in_ok-is_done.is_done in
+    let one : EndsAppends {T = Bool} g.D.Disk.is_honest g.D.Disk.state (Ok done) c.loop-pieces.journal.plan
+    (done_of tasks) c.loop-pieces.journal c.run_batch.new.journal = c.in_ok-is_done.ensures.ends in
+    let two : EndsAppends {T = Bool} g.D.Disk.is_honest g.D.Disk.state (Ok done) start.plan.now (done_of tasks)
+    c.loop-pieces.journal c.run_batch.new.journal =
+    subst (λ (v : Values). EndsAppends {T = Bool} g.D.Disk.is_honest g.D.Disk.state (Ok done) v (done_of tasks)
+    c.loop-pieces.journal c.run_batch.new.journal) (held.upto.kept.added.plan ∙ c.requires.own) one in
+    let more : IsUpTo g.D.Disk.is_honest g.D.Disk.state (c.loop-pieces.is_whole && done) start.share start.plan.now
+    (start.rest ∷ start.later.now) (new.rest ∷ new.later.now) log c.run_batch.new.journal =
+    batch_more g.D.Disk.is_honest g.D.Disk.state c.loop-pieces.is_whole done start.share start.plan.now
+    (start.rest ∷ start.later.now) (mid.rest ∷ mid.later.now) (new.rest ∷ new.later.now) tasks log
+    c.loop-pieces.journal c.run_batch.new.journal held.honest.0 held.upto deal.own deal.times
+    c.in_ok-is_done.ensures.done two in
+    record {
+      plan = c.deal-count.ensures.plan ∙ held.plan;
+      share = c.deal-count.ensures.share ∙ held.share;
+      upto = subst (λ (b : Bool). IsUpTo g.D.Disk.is_honest g.D.Disk.state (b && done) start.share start.plan.now
+          (start.rest ∷ start.later.now) (new.rest ∷ new.later.now) log c.run_batch.new.journal) c.if-is_whole.true
+          more;
+      honest = (
+        λ h. c.run_batch.ensures.honest.0 (held.honest.0 h),
+        λ h. held.honest.1 (c.run_batch.ensures.honest.1 h),
+      );
+      faults = c.in_ok-is_done.ensures.faults ∙ held.faults;
+    }
+
+pub loop-pieces-preserved : goal.loop-pieces-preserved
+loop-pieces-preserved g c =
+    let held = c.loop-pieces.invariant in
+    let start = c.args.pieces in
+    let mid = c.loop-pieces.pieces in
+    let new = c.deal-count.new.pieces in
+    let log = c.args.journal.now in
+    let tasks : List Task = c.run_batch.new.tasks in
+    let dealt : List Piece = pieces_of (take c.deal-count.result c.deal-count.new.tasks) in
+    let are : pieces_of tasks ≡ dealt = c.run_batch.ensures.pieces in
+    let deal = deal_of start.share mid.share start.plan.now mid.plan.now dealt (pieces_of tasks)
+    (mid.rest ∷ mid.later.now) (new.rest ∷ new.later.now) held.share held.plan are c.deal-count.ensures.own
+    c.deal-count.ensures.taken in
+    let done : Bool = c.in_ok-is_done.is_done in
+    let one : EndsAppends {T = Bool} g.D.Disk.is_honest g.D.Disk.state (Ok done) c.loop-pieces.journal.plan
+    (done_of tasks) c.loop-pieces.journal c.run_batch.new.journal = c.in_ok-is_done.ensures.ends in
+    let two : EndsAppends {T = Bool} g.D.Disk.is_honest g.D.Disk.state (Ok done) start.plan.now (done_of tasks)
+    c.loop-pieces.journal c.run_batch.new.journal =
+    subst (λ (v : Values). EndsAppends {T = Bool} g.D.Disk.is_honest g.D.Disk.state (Ok done) v (done_of tasks)
+    c.loop-pieces.journal c.run_batch.new.journal) (held.upto.kept.added.plan ∙ c.requires.own) one in
+    let more : IsUpTo g.D.Disk.is_honest g.D.Disk.state (c.loop-pieces.is_whole && done) start.share start.plan.now
+    (start.rest ∷ start.later.now) (new.rest ∷ new.later.now) log c.run_batch.new.journal =
+    batch_more g.D.Disk.is_honest g.D.Disk.state c.loop-pieces.is_whole done start.share start.plan.now
+    (start.rest ∷ start.later.now) (mid.rest ∷ mid.later.now) (new.rest ∷ new.later.now) tasks log
+    c.loop-pieces.journal c.run_batch.new.journal held.honest.0 held.upto deal.own deal.times
+    c.in_ok-is_done.ensures.done two in
+    let same : (c.loop-pieces.is_whole && done) ≡ c.loop-pieces.is_whole =
+    ap (λ (b : Bool). b && done) c.if-is_whole.false ∙ sym c.if-is_whole.false in
+    record {
+      plan = c.deal-count.ensures.plan ∙ held.plan;
+      share = c.deal-count.ensures.share ∙ held.share;
+      upto = subst (λ (b : Bool). IsUpTo g.D.Disk.is_honest g.D.Disk.state b start.share start.plan.now
+          (start.rest ∷ start.later.now) (new.rest ∷ new.later.now) log c.run_batch.new.journal) same more;
+      honest = (
+        λ h. c.run_batch.ensures.honest.0 (held.honest.0 h),
+        λ h. held.honest.1 (c.run_batch.ensures.honest.1 h),
+      );
+      faults = c.in_ok-is_done.ensures.faults ∙ held.faults;
+    }

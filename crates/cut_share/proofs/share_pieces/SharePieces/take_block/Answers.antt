@@ -1,0 +1,21 @@
+use Rattle.std.proofs.Common.{arith}
+use Rattle.std.specs.Prelude.{IsTrue}
+use Rattle.cut_trial.specs.Sum.{is_piece}
+use Rattle.cut_share.proofs.PieceFacts.{part_is_piece}
+use Rattle.cut_share.proofs.share_pieces.SharePieces.take_block.Goals as goal
+
+pub invariant_of-self-clause-rest_fits : goal.invariant_of-self-clause-rest_fits
+invariant_of-self-clause-rest_fits c = λ some.
+    (let before = c.args.self.now in
+    let piece : IsTrue (is_piece before.plan.now before.rest) = before.rest_fits c.requires in
+    part_is_piece before.plan.now before.rest _ before.accepted piece some (omega arith) (omega arith))
+
+pub returns-clause-piece : goal.returns-clause-piece
+returns-clause-piece c =
+    let before = c.args.self.now in
+    let piece : IsTrue (is_piece before.plan.now before.rest) = before.rest_fits c.requires in
+    let some = c.block_at-piece.ensures.some in
+    let first = c.block_at-piece.ensures.first in
+    let within = c.block_at-piece.ensures.within in
+    part_is_piece before.plan.now before.rest c.block_at-piece.result before.accepted piece some
+    (omega (arith, first)) (omega (arith, first, within))

@@ -1,0 +1,79 @@
+use Rattle.std.proofs.Common.{◌≡◌, ℕ, ◌+◌, ◌<◌, ◌≤◌, ◌∷◌, ◌++◌, [], None, take, length, All, ◌∙◌, subst, arith}
+use Rattle.std.specs.Prelude.{slice_set}
+use Rattle.cut_trial.specs.declared.piece.Piece.{Piece}
+use Rattle.cut_ledger.specs.World.{times_in}
+use Rattle.cut_share.specs.Pieces.{IsSharePiece, own_times, trials_in_all}
+use Rattle.cut_share.specs.Tasks.{pieces_of}
+use Rattle.cut_share.proofs.Dealing.{dealt, none_dealt, none_left, one_dealt, own_dealt}
+use Rattle.cut_share.proofs.task.deal.Goals as goal
+
+pub returns-in_default-clause-taken : goal.returns-in_default-clause-taken
+returns-in_default-clause-taken c = λ t.
+    (let mid = c.loop-count.pieces in
+    let new = c.next.new.self in
+    let old = c.args.pieces.now in
+    let held = c.loop-count.invariant in
+    none_dealt old.share mid.share old.plan.now mid.plan.now (mid.rest ∷ mid.later.now) (new.rest ∷ new.later.now) t
+    (times_in (pieces_of (take c.loop-count.count c.loop-count.tasks)) t)
+    (own_times old.share old.plan.now (old.rest ∷ old.later.now) t)
+    held.share held.plan (c.in_default.ensures.none t) (c.in_default.ensures.empty t) (held.taken t))
+
+pub returns-in_default-clause-none : goal.returns-in_default-clause-none
+returns-in_default-clause-none c = λ low t.
+    (let mid = c.loop-count.pieces in
+    let new = c.next.new.self in
+    let old = c.args.pieces.now in
+    let held = c.loop-count.invariant in
+    none_left old.share mid.share old.plan.now mid.plan.now (new.rest ∷ new.later.now) t
+    held.share held.plan (c.in_default.ensures.empty t))
+
+pub returns-in_default-clause-fewer : goal.returns-in_default-clause-fewer
+returns-in_default-clause-fewer c =
+    let mid = c.loop-count.pieces in
+    let new = c.next.new.self in
+    let old = c.args.pieces.now in
+    let few : trials_in_all (new.rest ∷ new.later.now) ≤ trials_in_all (mid.rest ∷ mid.later.now) =
+    c.in_default.ensures.no_more in
+    let held : trials_in_all (mid.rest ∷ mid.later.now) + c.loop-count.count
+    ≤ trials_in_all (old.rest ∷ old.later.now) = c.loop-count.invariant.fewer in
+    omega (arith, few, held)
+
+pub loop-count-preserved : goal.loop-count-preserved
+loop-count-preserved c =
+    let mid = c.loop-count.pieces in
+    let new = c.next.new.self in
+    let old = c.args.pieces.now in
+    let held = c.loop-count.invariant in
+    let step = c.in-Some.ensures in
+    let p : Piece = c.in-Some.piece in
+    let n : ℕ = c.loop-count.count in
+    let tasks = c.loop-count.tasks in
+    let are : pieces_of (take (n + 1) (slice_set tasks n (record { piece = p; result = None })))
+    ≡ pieces_of (take n tasks) ++ p ∷ [] = dealt tasks n p None
+    (let test = c.loop-count-test.true in let same = c.loop-count.auto.tasks in omega (arith, test, same)) in
+    record {
+      plan = c.next.ensures.plan ∙ held.plan;
+      share = c.next.ensures.share ∙ held.share;
+      own = own_dealt old.share mid.share old.plan.now mid.plan.now (pieces_of (take n tasks))
+          (pieces_of (take (n + 1) (slice_set tasks n (record { piece = p; result = None })))) p held.share held.plan
+          are held.own step.own;
+      taken = λ t. one_dealt old.share mid.share old.plan.now mid.plan.now (pieces_of (take n tasks))
+          (pieces_of (take (n + 1) (slice_set tasks n (record { piece = p; result = None }))))
+          (mid.rest ∷ mid.later.now) (new.rest ∷ new.later.now) p t
+          (own_times old.share old.plan.now (old.rest ∷ old.later.now) t) held.share held.plan are (step.taken t)
+          (held.taken t);
+      fewer =
+          (let few : trials_in_all (new.rest ∷ new.later.now) < trials_in_all (mid.rest ∷ mid.later.now) =
+          step.fewer in
+          let before : trials_in_all (mid.rest ∷ mid.later.now) + n
+          ≤ trials_in_all (old.rest ∷ old.later.now) = held.fewer in
+          omega (arith, few, before));
+    }
+
+pub returns-clause-own : goal.returns-clause-own
+returns-clause-own c =
+    let old = c.args.pieces.now in
+    let tasks = c.loop-count.tasks in
+    let all : c.loop-count.count ≡ length tasks =
+    (let over = c.loop-count-test.false in let end = c.loop-count.auto.count-end in omega (arith, over, end)) in
+    subst (λ n. All (IsSharePiece old.share old.plan.now) (pieces_of (take n tasks))) all c.loop-count.invariant.own

@@ -1,0 +1,23 @@
+use Rattle.std.proofs.Common.{◌≡◌, ◌∙◌, ◌<◌, ℕ, suc, List, [], ◌∷◌, length, get_or, refl, sym, ap, arith}
+use Rattle.cut_trial.specs.declared.piece.Piece.{Piece}
+use Rattle.cut_share.specs.declared.task.Task.{Task}
+use Rattle.cut_share.specs.Tasks.{pieces_of}
+use Rattle.cut_share.proofs.tools.Tools.run_all.Goals as goal
+
+-- tasks whose pieces are the same at each place
+same_pieces : (xs ys : List Task) → length ys ≡ length xs
+    → ((i : ℕ) (d : Task) → i < length xs → (get_or ys i d).piece ≡ (get_or xs i d).piece)
+    → pieces_of ys ≡ pieces_of xs
+same_pieces [] [] long same = refl
+same_pieces [] (y ∷ ys) long same = absurd (omega (arith, long))
+same_pieces (x ∷ xs) [] long same = absurd (omega (arith, long))
+same_pieces (x ∷ xs) (y ∷ ys) long same =
+    ap (λ (p : Piece). p ∷ pieces_of ys) (same 0 x (omega arith))
+    ∙ ap (λ (ps : List Piece). x.piece ∷ ps)
+    (same_pieces xs ys (omega (arith, long)) (λ i d low. same (suc i) d (omega arith)))
+
+pub returns-clause-pieces : goal.returns-clause-pieces
+returns-clause-pieces g c =
+    same_pieces c.args.tasks.now c.for_each_mut.new.s c.for_each_mut.auto.s (λ i d low.
+    (let k = (c.for_each_mut.ensures i d low).1 in
+    ap (λ (x : Task). x.piece) (sym k.left) ∙ k.call.0 ∙ ap (λ (x : Task). x.piece) k.argument_is))

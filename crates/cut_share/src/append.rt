@@ -1,0 +1,69 @@
+ghost use Rattle.std.specs.Prelude.{◌≡◌, ◌↔◌, ◌∷◌, [], All};
+ghost use Rattle.cut_share.specs.Running.{EndsAppends, fault_of, running_faults};
+ghost use Rattle.cut_share.specs.Tasks.{IsRun, done_of};
+
+use crate::ShareFault;
+use crate::task::Task;
+use cut_disks::Disk;
+use cut_hall::Gate;
+use cut_journal::{Journal, JournalFault};
+use std::sync::Wait;
+
+/// Appends the results of tasks to a journal of their plan, in order, up to the first that it doesn't take.
+pub(crate) fn append_all<D: Disk, G: Gate, R: Wait>(
+    rt: &R,
+    gate: &G,
+    journal: &mut Journal<D>,
+    tasks: &[Task],
+) -> Result<(), ShareFault>
+    requires { All (IsRun journal.old.plan) tasks.now }
+    ensures ends { EndsAppends D.is_honest D.state result journal.old.plan (done_of tasks.now)
+        journal.old journal.new }
+    ensures honest { D.is_honest journal.old.disk ↔ D.is_honest journal.new.disk }
+    ensures faults { D.faults journal.new.disk ≡ running_faults result (D.faults journal.old.disk) }
+{
+    // For the proof: what always holds of a journal.
+    let _ = journal.disk();
+    for task in tasks {
+        append(rt, gate, journal, task)?;
+    }
+    Ok(())
+}
+
+/// Appends the result of a task, if it has one.
+fn append<D: Disk, G: Gate, R: Wait>(
+    rt: &R,
+    gate: &G,
+    journal: &mut Journal<D>,
+    task: &Task,
+) -> Result<(), ShareFault>
+    requires { IsRun journal.old.plan task.now }
+    ensures ends { EndsAppends D.is_honest D.state result journal.old.plan (done_of (task.now ∷ []))
+        journal.old journal.new }
+    ensures honest { D.is_honest journal.old.disk ↔ D.is_honest journal.new.disk }
+    ensures faults { D.faults journal.new.disk ≡ running_faults result (D.faults journal.old.disk) }
+{
+    // For the proof: what always holds of a journal.
+    let _ = journal.disk();
+    let Some(result) = &task.result else {
+        return Ok(());
+    };
+    match journal.append(result) {
+        Ok(_) => {
+            gate.taken(rt, task.piece);
+            Ok(())
+        }
+        Err(fault) => Err(fault_of(fault)),
+    }
+}
+
+/// The fault of an append, as a run of a share reports it.
+fn fault_of(fault: JournalFault) -> ShareFault
+    ensures { result ≡ fault_of fault }
+{
+    match fault {
+        JournalFault::Disk => ShareFault::Disk,
+        JournalFault::Broken => ShareFault::Broken,
+        _ => ShareFault::OtherPlan,
+    }
+}

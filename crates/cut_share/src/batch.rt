@@ -1,0 +1,67 @@
+ghost use Rattle.std.specs.Prelude.{◌≡◌, ◌↔◌, ◌≤◌, ◌∷◌, IfOk, length};
+ghost use Rattle.std.specs.List.{list_all};
+ghost use Rattle.cut_share.specs.Running.{EndsAppends, running_faults};
+ghost use Rattle.cut_share.specs.Batches.{EndsPieces};
+ghost use Rattle.cut_share.specs.Tasks.{done_of, has_result, pieces_of};
+
+use crate::ShareFault;
+use crate::append::append_all;
+use crate::share_pieces::SharePieces;
+use crate::task::{Task, are_done, deal};
+use crate::tools::Tools;
+use cut_disks::Disk;
+use cut_hall::Gate;
+use cut_journal::Journal;
+use std::sync::Wait;
+use std::thread::Threads;
+
+/// Runs the pieces of a share in batches, each of as many pieces as there are tasks, and appends the results to the
+/// journal of their plan. Returns whether memory sufficed for all of them.
+pub(crate) fn run_pieces<D: Disk, G: Gate + Sync, R: Threads + Wait + Sync>(
+    rt: &R,
+    tools: &Tools<'_, G>,
+    pieces: SharePieces<'_>,
+    tasks: &mut [Task],
+    journal: &mut Journal<D>,
+) -> Result<bool, ShareFault>
+    requires some { 1 ≤ length tasks.old }
+    requires plan { tools.now.plan.now ≡ pieces.plan.now }
+    requires own { journal.old.plan ≡ pieces.plan.now }
+    ensures ends { EndsPieces D.is_honest D.state result pieces.entry.share pieces.entry.plan.now
+        (pieces.entry.rest ∷ pieces.entry.later.now) journal.old journal.new }
+    ensures honest { D.is_honest journal.old.disk ↔ D.is_honest journal.new.disk }
+    ensures faults { D.faults journal.new.disk ≡ running_faults result (D.faults journal.old.disk) }
+{
+    // For the proof: what always holds of a journal.
+    let _ = journal.disk();
+    let mut pieces = pieces;
+    let mut is_whole = true;
+    loop {
+        let count = deal(&mut pieces, tasks);
+        if count == 0 {
+            return Ok(is_whole);
+        }
+        let is_done = run_batch(rt, tools, &mut tasks[..count], journal)?;
+        is_whole = is_whole && is_done;
+    }
+}
+
+/// Runs the pieces of tasks, and appends the results. Returns whether each has one.
+fn run_batch<D: Disk, G: Gate + Sync, R: Threads + Wait + Sync>(
+    rt: &R,
+    tools: &Tools<'_, G>,
+    tasks: &mut [Task],
+    journal: &mut Journal<D>,
+) -> Result<bool, ShareFault>
+    requires { journal.old.plan ≡ tools.now.plan.now }
+    ensures pieces { pieces_of tasks.new ≡ pieces_of tasks.old }
+    ensures ends { EndsAppends D.is_honest D.state result journal.old.plan (done_of tasks.new)
+        journal.old journal.new }
+    ensures done { IfOk result (λ is_done. is_done ≡ list_all has_result tasks.new) }
+    ensures honest { D.is_honest journal.old.disk ↔ D.is_honest journal.new.disk }
+    ensures faults { D.faults journal.new.disk ≡ running_faults result (D.faults journal.old.disk) }
+{
+    tools.run_all(rt, tasks);
+    append_all(rt, tools.gate, journal, tasks)?;
+    Ok(are_done(tasks))
+}

@@ -1,0 +1,20 @@
+//! The share of one machine in a study.
+//!
+//! Several machines run the study of one plan, each its own [`Share`] of the trials.
+#![tactic(auto)]
+
+mod append;
+mod batch;
+mod fault;
+pub mod laws;
+mod share;
+mod share_pieces;
+mod share_run;
+mod task;
+#[cfg(test)]
+mod tests;
+mod tools;
+
+pub use fault::ShareFault;
+pub use share::Share;
+pub use share_run::ShareRun;

@@ -1,0 +1,64 @@
+ghost use Rattle.std.specs.Prelude.{◌≡◌, ℕ, ◌+◌, ◌<◌, ◌≤◌, ◌∷◌, take, length, All, IfOk, IfSome, vec_len};
+ghost use Rattle.std.specs.List.{list_all};
+ghost use Rattle.cut_ledger.specs.World.{times_in};
+ghost use Rattle.cut_share.specs.Pieces.{IsSharePiece, own_times, trials_in_all};
+ghost use Rattle.cut_share.specs.Tasks.{has_result, pieces_of};
+
+use crate::share_pieces::SharePieces;
+use cut_trial::{Piece, PieceResult};
+use std::alloc::{AllocError, Global};
+
+/// A piece that some thread runs, and its result, once there is one.
+#[derive(Drop)]
+pub(crate) struct Task {
+    pub(crate) piece: Piece,
+    pub(crate) result: Option<PieceResult>,
+}
+
+/// This many tasks without pieces. Fails only where memory runs out.
+pub(crate) fn new_tasks(alloc: Global, count: usize) -> Result<Vec<Task>, AllocError>
+    ensures { IfOk result (λ tasks. vec_len tasks ≡ count) }
+{
+    let mut tasks = Vec::with_capacity(alloc, count)?;
+    for _ in 0..count {
+        tasks.push(Task {
+            piece: Piece { first: 0, count: 0 },
+            result: None,
+        })?;
+    }
+    Ok(tasks)
+}
+
+/// Gives tasks the next pieces of a share, one each, as long as there are pieces. Returns how many tasks have one:
+/// the first ones.
+pub(crate) fn deal(pieces: &mut SharePieces<'_>, tasks: &mut [Task]) -> usize
+    ensures plan { pieces.new.plan.now ≡ pieces.old.plan.now }
+    ensures share { pieces.new.share ≡ pieces.old.share }
+    ensures within { result ≤ length tasks.old }
+    ensures own { All (IsSharePiece pieces.old.share pieces.old.plan.now) (pieces_of (take result tasks.new)) }
+    ensures taken { (t : ℕ) → times_in (pieces_of (take result tasks.new)) t
+        + own_times pieces.old.share pieces.old.plan.now (pieces.new.rest ∷ pieces.new.later.now) t
+        ≡ own_times pieces.old.share pieces.old.plan.now (pieces.old.rest ∷ pieces.old.later.now) t }
+    ensures none { result < length tasks.old → (t : ℕ) →
+        own_times pieces.old.share pieces.old.plan.now (pieces.new.rest ∷ pieces.new.later.now) t ≡ 0 }
+    ensures fewer { trials_in_all (pieces.new.rest ∷ pieces.new.later.now) + result
+        ≤ trials_in_all (pieces.old.rest ∷ pieces.old.later.now) }
+{
+    for count in 0..tasks.len() {
+        let Some(piece) = pieces.next() else {
+            return count;
+        };
+        tasks[count] = Task {
+            piece,
+            result: None,
+        };
+    }
+    tasks.len()
+}
+
+/// Whether each task has a result.
+pub(crate) fn are_done(tasks: &[Task]) -> bool
+    ensures { result ≡ list_all has_result tasks.now }
+{
+    tasks.iter().all(|task| task.result.is_some())
+}
