@@ -4,7 +4,7 @@ _cutlab() {
   local current=${COMP_WORDS[COMP_CWORD]} before=${COMP_WORDS[COMP_CWORD-1]}
   local command=${COMP_WORDS[1]}
   if [ "$COMP_CWORD" -eq 1 ]; then
-    mapfile -t COMPREPLY < <(compgen -W "run check explain canonical status serve ask migrate help" -- "$current")
+    mapfile -t COMPREPLY < <(compgen -W "run check explain canonical status serve ask migrate share join help" -- "$current")
     return
   fi
   case $before in
@@ -16,8 +16,9 @@ _cutlab() {
     run) mapfile -t COMPREPLY < <(compgen -W "--piece --workers --checkpoint --progress --help" -- "$current") ;;
     check | explain | canonical) mapfile -t COMPREPLY < <(compgen -W "--help" -- "$current") ;;
     serve) mapfile -t COMPREPLY < <(compgen -f -W "--workers --sessions --studies --dir --help" -- "$current") ;;
-    status | ask | migrate) mapfile -t COMPREPLY < <(compgen -f -W "--help" -- "$current") ;;
-    help) mapfile -t COMPREPLY < <(compgen -W "run check explain canonical status serve ask migrate" -- "$current") ;;
+    share) mapfile -t COMPREPLY < <(compgen -f -W "--piece --workers --progress --help" -- "$current") ;;
+    status | ask | migrate | join) mapfile -t COMPREPLY < <(compgen -f -W "--help" -- "$current") ;;
+    help) mapfile -t COMPREPLY < <(compgen -W "run check explain canonical status serve ask migrate share join" -- "$current") ;;
   esac
 }
 

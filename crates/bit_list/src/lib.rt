@@ -7,6 +7,3 @@
 mod bit_list;
 
 pub use bit_list::BitList;
-
-#[cfg(test)]
-mod tests;

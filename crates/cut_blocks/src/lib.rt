@@ -14,6 +14,3 @@ mod rounds;
 
 pub use blocks::Blocks;
 pub use images::NEVER;
-
-#[cfg(test)]
-mod tests;

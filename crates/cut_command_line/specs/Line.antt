@@ -1,17 +1,18 @@
 -- The commands of the program, and what its command line asks for.
-use Rattle.std.specs.Prelude.{◌≡◌, ◌⊎◌, ◌≤◌, ℕ, Bool, List, [], ◌∷◌, true, false, codes, pos, Option, Some, None}
-use Rattle.std.specs.Prelude.{option_map, ⊤}
+use Rattle.std.specs.Prelude.{◌≡◌, ◌⊎◌, ◌≤◌, ◌<◌, ◌==◌, ℕ, Bool, List, [], ◌∷◌, true, false, codes, pos}
+use Rattle.std.specs.Prelude.{Option, Some, None, option_map, map, length, ⊤}
+use Rattle.std.specs.List.{position_or_len, before_first, after_first}
 use Rattle.std.specs.Str.Parse.{IsNumeral, digits_value, without_leading_plus}
-use Rattle.clap.specs.Words.{App, IsAmong, first_of, Row, Rule, Text, fault_of, new_app, new_rule, one_of}
+use Rattle.clap.specs.Words.{App, IsAmong, all_of, first_of, Row, Rule, Text, fault_of, new_app, new_rule, one_of}
 use Rattle.clap.specs.Words.{subcommand_of, with_rule, with_subcommand}
 use Rattle.clap.specs.declared.builder.action.ArgAction.TheVariants.{SetTrue}
 use Rattle.clap.specs.declared.builder.value_parser.ValueParser.TheVariants as parsers
 use Rattle.clap.specs.declared.error.kind.ErrorKind.{ErrorKind}
-use Rattle.clap.specs.declared.error.kind.ErrorKind.TheVariants.{DisplayHelp, DisplayVersion, MissingSubcommand}
-use Rattle.clap.specs.declared.error.kind.ErrorKind.TheVariants.{OutOfMemory}
+use Rattle.clap.specs.declared.error.kind.ErrorKind.TheVariants.{DisplayHelp, DisplayVersion, OutOfMemory}
+use Rattle.clap.specs.declared.error.kind.ErrorKind.TheVariants.{ValueValidation}
 use Rattle.cut_command_line.specs.declared.line.Job.{Job}
 use Rattle.cut_command_line.specs.declared.line.Job.TheVariants.{Run, Check, Explain, Canonical, Status, Serve}
-use Rattle.cut_command_line.specs.declared.line.Job.TheVariants.{Ask, Migrate}
+use Rattle.cut_command_line.specs.declared.line.Job.TheVariants.{Ask, Migrate, Share, Join}
 
 -- the option `--piece`: a number from 1 to 1,000,000, which is 16 where it is not given
 abbrev pub piece_rule : Rule
@@ -63,6 +64,18 @@ folder_rule = record (new_rule (codes "dir")) { long = Some (codes "dir"); value
 abbrev pub file_rule : Text → Rule
 file_rule name = record (new_rule name) { value_names = 1; required = true }
 
+-- the word `I/N`: the number of a share, and how many shares there are
+abbrev pub share_rule : Rule
+share_rule = record (new_rule (codes "share")) { value_names = 1; required = true }
+
+-- the words `OLD..`: the files of 1 to 1,000 checkpoints
+abbrev pub files_rule : Rule
+files_rule = record (new_rule (codes "old")) {
+  range = Some (record { start_inclusive = 1; end_inclusive = 1000 });
+  value_names = 1;
+  required = true;
+}
+
 -- the subcommands
 abbrev pub run_app : App
 run_app =
@@ -93,6 +106,14 @@ ask_app = with_rule (new_app (codes "ask")) socket_rule
 abbrev pub migrate_app : App
 migrate_app = with_rule (with_rule (new_app (codes "migrate")) (file_rule (codes "old"))) (file_rule (codes "new"))
 
+abbrev pub share_app : App
+share_app =
+    with_rule (with_rule (with_rule (with_rule (with_rule (new_app (codes "share")) share_rule)
+    (file_rule (codes "file"))) piece_rule) workers_rule) progress_rule
+
+abbrev pub join_app : App
+join_app = with_rule (with_rule (new_app (codes "join")) (file_rule (codes "new"))) files_rule
+
 -- the program as clap sees it: it has a version, needs one of its subcommands, and without a word it shows its help
 unfoldable pub program_app : App
 program_app = let bare : App = new_app (codes "cutlab") in
@@ -100,8 +121,9 @@ program_app = let bare : App = new_app (codes "cutlab") in
       top = record bare.top { has_version = true; subcommand_required = true; arg_required_else_help = true };
     } in
     with_subcommand (with_subcommand (with_subcommand (with_subcommand (with_subcommand (with_subcommand
-    (with_subcommand (with_subcommand asking run_app.top) check_app.top) explain_app.top) canonical_app.top)
-    status_app.top) serve_app.top) ask_app.top) migrate_app.top
+    (with_subcommand (with_subcommand (with_subcommand (with_subcommand asking run_app.top) check_app.top)
+    explain_app.top) canonical_app.top) status_app.top) serve_app.top) ask_app.top) migrate_app.top) share_app.top)
+    join_app.top
 
 -- the number, from 1 to a greatest one, that a subcommand's matches give for an option
 pub record GivesNumber (option : Text) (most : ℕ) (rows : List Row) (n : ℕ) : Type 0 where
@@ -137,6 +159,30 @@ GivesSocket rows path = first_of (codes "socket") rows ≡ Some path
 abbrev pub GivesFile : Text → List Row → Text → Type 0
 GivesFile name rows path = first_of name rows ≡ Some path
 
+-- a text is a number from 1 to a greatest one, in decimal
+pub record IsNumberIn (most : ℕ) (text : Text) (n : ℕ) : Type 0 where
+  pub numeral : IsNumeral 10 (without_leading_plus text)
+  pub value : digits_value 10 (without_leading_plus text) ≡ n
+  pub some : 1 ≤ n
+  pub few : n ≤ most
+
+-- a byte is a slash
+abbrev pub is_slash : ℕ → Bool
+is_slash b = b == 47
+
+-- a text is the number of a share, a slash, and how many shares there are
+pub record IsShareText (text : Text) (index shares : ℕ) : Type 0 where
+  pub slash : position_or_len is_slash text < length text
+  pub index_is : IsNumberIn 100000 (before_first is_slash text) index
+  pub shares_are : IsNumberIn 100000 (after_first is_slash text) shares
+  pub within : index ≤ shares
+
+-- the share that they give
+pub record GivesShare (rows : List Row) (index shares : ℕ) : Type 0 where
+  pub text : Text
+  pub given : first_of (codes "share") rows ≡ Some text
+  pub is : IsShareText text index shares
+
 -- the subcommand of a job
 abbrev pub command_of : Job → Text
 command_of (Run piece workers file progress) = codes "run"
@@ -147,6 +193,8 @@ command_of (Status file) = codes "status"
 command_of (Serve socket workers sessions studies folder) = codes "serve"
 command_of (Ask socket) = codes "ask"
 command_of (Migrate from to) = codes "migrate"
+command_of (Share index shares file piece workers progress) = codes "share"
+command_of (Join to from) = codes "join"
 
 -- the values of a job, by the matches of its subcommand
 abbrev pub GivesValues : List Row → Job → Type 0
@@ -163,6 +211,11 @@ GivesValues rows (Serve socket workers sessions studies folder) =
     × (first_of (codes "dir") rows ≡ option_map (λ s. s.now) folder)
 GivesValues rows (Ask socket) = GivesSocket rows socket.now
 GivesValues rows (Migrate from to) = GivesFile (codes "old") rows from.now × GivesFile (codes "new") rows to.now
+GivesValues rows (Share index shares file piece workers progress) =
+    GivesShare rows index shares × GivesFile (codes "file") rows file.now × GivesPiece rows piece
+    × GivesWorkers rows workers × GivesFlag (codes "progress") rows progress
+GivesValues rows (Join to from) =
+    GivesFile (codes "new") rows to.now × (all_of (codes "old") rows ≡ Some (map (λ s. s.now) from.items))
 
 -- the job of a subcommand, by its name and its matches
 abbrev pub IsJobOf : Option (Text × List Row) → Job → Type 0
@@ -190,11 +243,12 @@ status_of_kind DisplayVersion = 0
 status_of_kind OutOfMemory = 5
 status_of_kind kind = 2
 
--- why a command line gives no job: clap found this in it, memory ran out, or no job is named
+-- why a command line gives no job: clap found this in it, memory ran out, or clap finds nothing in it and a value of it
+-- is none, so that no job is named
 abbrev pub IsAsked : List Text → ErrorKind → Type 0
 IsAsked words kind =
     IsAmong kind (fault_of program_app words) ⊎ (kind ≡ OutOfMemory)
-    ⊎ (NamesNone words × (fault_of program_app words ≡ []) × (kind ≡ MissingSubcommand))
+    ⊎ (NamesNone words × (fault_of program_app words ≡ []) × (kind ≡ ValueValidation))
 
 -- the status of a command line without a job: exactly that of what clap found
 abbrev pub EndsLine : List Text → ℕ → Type 0
@@ -211,3 +265,7 @@ IsSizedJob (Serve socket workers sessions studies folder) =
     (1 ≤ workers) × (workers ≤ 64) × (1 ≤ sessions) × (sessions ≤ 64) × (1 ≤ studies) × (studies ≤ 64)
 IsSizedJob (Ask socket) = ⊤
 IsSizedJob (Migrate from to) = ⊤
+IsSizedJob (Share index shares file piece workers progress) =
+    (1 ≤ index) × (index ≤ shares) × (shares ≤ 100000) × (1 ≤ piece) × (piece ≤ 1000000) × (1 ≤ workers)
+    × (workers ≤ 64)
+IsSizedJob (Join to from) = ⊤

@@ -2,5 +2,6 @@
 #![tactic(auto)]
 
 mod line;
+mod machines;
 
 pub use line::{Job, NoJob, parse_line};

@@ -7,16 +7,17 @@ ghost use Rattle.cut_command_line.specs.Line.{EndsLine, GivesFlag, GivesJob, Giv
 ghost use Rattle.cut_command_line.specs.Line.{NamesJob, status_of_kind};
 ghost use Rattle.cut_command_line.specs.declared.line.Job.{Job};
 
+use crate::machines::{WRONG_SHARE, add_join, add_share, join_job, share_job};
 use clap::error::ErrorKind;
 use clap::{Arg, ArgAction, ArgMatches, Command, Error};
 use std::alloc::{AllocError, Global};
 use std::convert::AsStr;
 
 /// How many trials a piece of a study has at most.
-const PIECE_MOST: u32 = 1_000_000;
+pub(crate) const PIECE_MOST: u32 = 1_000_000;
 
 /// How many workers a study has at most.
-const WORKERS_MOST: u32 = 64;
+pub(crate) const WORKERS_MOST: u32 = 64;
 
 /// What `--version` prints after the program's name: its version, and that of the kit that it is proved with.
 const VERSION: &str = "0.9.0 (proved with rattle-kit-13f)";
@@ -48,7 +49,7 @@ const MIGRATE_EXAMPLE: &str =
 const COUNT_MOST: u32 = 64;
 
 /// A command of the program, with its values.
-#[derive(Clone, Copy, Debug, PartialEq, Eq)]
+#[derive(Debug, Drop, PartialEq, Eq)]
 pub enum Job<'a> {
     /// Read a plan and print its table.
     Run {
@@ -97,6 +98,28 @@ pub enum Job<'a> {
         /// The file that it is moved to, which holds no study.
         new: &'a str,
     },
+    /// Read a plan, run a share of its study, and print how many trials the share has.
+    Share {
+        /// Which share it is, from 1.
+        index: u32,
+        /// How many shares there are, at most 100,000.
+        shares: u32,
+        /// The file that the share is kept in and goes on from.
+        file: &'a str,
+        /// How many trials the blocks have that the cells are cut into, the last of a cell fewer.
+        piece: u32,
+        /// How many threads work on the share.
+        workers: u32,
+        /// Whether lines on standard error say how many trials are done.
+        progress: bool,
+    },
+    /// Read a plan, join the checkpoints of its study in a new one, and print how many slips it has.
+    Join {
+        /// The file of the new checkpoint, which holds no study.
+        new: &'a str,
+        /// The files that are joined, which are only read.
+        old: Vec<&'a str>,
+    },
 }
 
 /// A command line that names no job: the status with which the program ends, and the text that it
@@ -117,36 +140,50 @@ pub fn parse_line<'a, S: AsStr>(alloc: Global, words: &'a [S]) -> Result<Job<'a>
     ensures faultless { IfOk result (λ _. fault_of program_app (map S.text words.now) ≡ []) }
     ensures err { IfErr result (λ e. EndsLine (map S.text words.now) e.status) }
 {
-    let Ok(command) = commands(alloc) else {
+    let Ok(mut command) = commands(alloc) else {
         return Err(line_fault(alloc, ErrorKind::OutOfMemory, None));
     };
-    let matches = match command.try_get_matches_from(words) {
+    let matches = match command.try_get_matches_from_mut(words) {
         Ok(matches) => matches,
         Err(error) => return Err(line_fault(alloc, error.kind(), Some(&error))),
     };
-    match job_of(&matches) {
-        Some(job) => Ok(job),
-        None => Err(line_fault(alloc, ErrorKind::MissingSubcommand, None)),
+    match job_of(alloc, &matches) {
+        Ok(Some(job)) => Ok(job),
+        Ok(None) => Err(wrong_value(alloc, &mut command)),
+        Err(_) => Err(line_fault(alloc, ErrorKind::OutOfMemory, None)),
     }
 }
 
-/// The job that the matches of a command line name.
-fn job_of<'a>(matches: &ArgMatches<'a>) -> Option<Job<'a>>
-    ensures some { IfSome result (λ job. IsJobOf (subcommand_rows_of matches.now) job) }
-    ensures sized { IfSome result (λ job. IsSizedJob job) }
-    ensures none { IfNone result ((job : Job) → IsJobOf (subcommand_rows_of matches.now) job → ⊥) }
+/// The fault of a command line in which clap found nothing, but a value that is none.
+fn wrong_value(alloc: Global, command: &mut Command<'_>) -> NoJob
+    ensures { result.status ≡ status_of_kind ErrorKind.ValueValidation }
 {
-    let (name, given) = matches.subcommand()?;
+    let error = command.error(ErrorKind::ValueValidation, WRONG_SHARE).ok();
+    line_fault(alloc, ErrorKind::ValueValidation, error.as_ref())
+}
+
+/// The job that the matches of a command line name. Fails only where memory runs out.
+fn job_of<'a>(alloc: Global, matches: &ArgMatches<'a>) -> Result<Option<Job<'a>>, AllocError>
+    ensures some { IfOk result (λ found. IfSome found (λ job. IsJobOf (subcommand_rows_of matches.now) job)) }
+    ensures sized { IfOk result (λ found. IfSome found (λ job. IsSizedJob job)) }
+    ensures none { IfOk result (λ found. IfNone found
+        ((job : Job) → IsJobOf (subcommand_rows_of matches.now) job → ⊥)) }
+{
+    let Some((name, given)) = matches.subcommand() else {
+        return Ok(None);
+    };
     match name {
-        "run" => run_job(given),
-        "check" => Some(Job::Check),
-        "explain" => Some(Job::Explain),
-        "canonical" => Some(Job::Canonical),
-        "status" => status_job(given),
-        "serve" => serve_job(given),
-        "ask" => ask_job(given),
-        "migrate" => migrate_job(given),
-        _ => None,
+        "run" => Ok(run_job(given)),
+        "check" => Ok(Some(Job::Check)),
+        "explain" => Ok(Some(Job::Explain)),
+        "canonical" => Ok(Some(Job::Canonical)),
+        "status" => Ok(status_job(given)),
+        "serve" => Ok(serve_job(given)),
+        "ask" => Ok(ask_job(given)),
+        "migrate" => Ok(migrate_job(given)),
+        "share" => Ok(share_job(given)),
+        "join" => join_job(alloc, given),
+        _ => Ok(None),
     }
 }
 
@@ -212,7 +249,7 @@ fn migrate_job<'a>(given: &ArgMatches<'a>) -> Option<Job<'a>>
 }
 
 /// The number, from 1 to a greatest one, that the matches give for an option.
-fn number_given(given: &ArgMatches, option: &str, most: u32) -> Option<u32>
+pub(crate) fn number_given(given: &ArgMatches, option: &str, most: u32) -> Option<u32>
     ensures some { IfSome result (λ n. GivesNumber option.now most (rows_of (found_of given.now)) n) }
     ensures none { IfNone result
         ((n : ℕ) → GivesNumber option.now most (rows_of (found_of given.now)) n → ⊥) }
@@ -225,7 +262,7 @@ fn number_given(given: &ArgMatches, option: &str, most: u32) -> Option<u32>
 }
 
 /// Whether the matches give a flag.
-fn flag_given(given: &ArgMatches, flag: &str) -> bool
+pub(crate) fn flag_given(given: &ArgMatches, flag: &str) -> bool
     ensures { GivesFlag flag.now (rows_of (found_of given.now)) result }
 {
     given.get_flag(flag)
@@ -245,7 +282,8 @@ fn commands<'a>(alloc: Global) -> Result<Command<'a>, AllocError>
     let program = add_check(alloc, add_run(alloc, program)?)?;
     let with_canonical = add_canonical(alloc, add_explain(alloc, program)?)?;
     let with_serve = add_serve(alloc, add_status(alloc, with_canonical)?)?;
-    add_migrate(alloc, add_ask(alloc, with_serve)?)
+    let with_migrate = add_migrate(alloc, add_ask(alloc, with_serve)?)?;
+    add_join(alloc, add_share(alloc, with_migrate)?)
 }
 
 /// Adds the command `run`.
@@ -364,7 +402,12 @@ fn add_migrate<'a>(alloc: Global, program: Command<'a>) -> Result<Command<'a>, A
 }
 
 /// A word that names the file of a checkpoint.
-fn file_word<'a>(alloc: Global, name: &'a str, value_name: &'a str, help: &'a str) -> Arg<'a>
+pub(crate) fn file_word<'a>(
+    alloc: Global,
+    name: &'a str,
+    value_name: &'a str,
+    help: &'a str,
+) -> Arg<'a>
     ensures rule { rule_of result ≡ file_rule name.entry.now }
     ensures local { result.global ≡ false }
 {
@@ -409,7 +452,7 @@ fn socket_word<'a>(alloc: Global) -> Arg<'a>
 }
 
 /// The option that says how many trials are run as one piece.
-fn piece_option<'a>(alloc: Global) -> Arg<'a>
+pub(crate) fn piece_option<'a>(alloc: Global) -> Arg<'a>
     ensures rule { rule_of result ≡ piece_rule }
     ensures local { result.global ≡ false }
 {
@@ -422,7 +465,7 @@ fn piece_option<'a>(alloc: Global) -> Arg<'a>
 }
 
 /// The option that says how many threads work on a study.
-fn workers_option<'a>(alloc: Global) -> Arg<'a>
+pub(crate) fn workers_option<'a>(alloc: Global) -> Arg<'a>
     ensures rule { rule_of result ≡ workers_rule }
     ensures local { result.global ≡ false }
 {
@@ -435,7 +478,7 @@ fn workers_option<'a>(alloc: Global) -> Arg<'a>
 }
 
 /// The flag that asks for lines on standard error.
-fn progress_option<'a>(alloc: Global) -> Arg<'a>
+pub(crate) fn progress_option<'a>(alloc: Global) -> Arg<'a>
     ensures rule { rule_of result ≡ progress_rule }
     ensures local { result.global ≡ false }
 {

@@ -2,6 +2,7 @@
 
 use cut_command_line::{Job, NoJob, parse_line};
 use std::alloc::Global;
+use std::test::Fail;
 
 /// Whether the words after the program's name are read as this job.
 fn is_read_as(alloc: Global, words: &[&str], wanted: Job) -> bool {
@@ -98,6 +99,86 @@ fn other_jobs_are_named(rt: HostRuntime) {
     }
 }
 
+#[test]
+fn jobs_of_many_machines_are_named(rt: HostRuntime) -> Result<(), Fail> {
+    let share = |index, shares, piece, workers, progress| Job::Share {
+        index,
+        shares,
+        file: "a.cut",
+        piece,
+        workers,
+        progress,
+    };
+    let rows: [(&[&str], Job); 4] = [
+        (
+            &["cutlab", "share", "1/1", "a.cut"],
+            share(1, 1, 16, 1, false),
+        ),
+        (
+            &["cutlab", "share", "3/8", "a.cut", "--progress"],
+            share(3, 8, 16, 1, true),
+        ),
+        (
+            &[
+                "cutlab",
+                "share",
+                "--piece",
+                "2",
+                "100000/100000",
+                "--workers=64",
+                "a.cut",
+            ],
+            share(100_000, 100_000, 2, 64, false),
+        ),
+        (
+            &["cutlab", "join", "new.cut", "a.cut", "b.cut"],
+            Job::Join {
+                new: "new.cut",
+                old: Vec::from_slice(rt.alloc(), &["a.cut", "b.cut"])?,
+            },
+        ),
+    ];
+    for (words, wanted) in rows {
+        assert!(rt; is_read_as(rt.alloc(), words, wanted), "{words:?}");
+    }
+    Ok(())
+}
+
+#[test]
+fn words_that_are_no_share_are_named(rt: HostRuntime) {
+    for word in [
+        "3-8", "0/3", "4/3", "1/100001", "1/0", "/3", "1/", "1/2/3", "x/3", "",
+    ] {
+        let words = ["cutlab", "share", word, "a.cut"];
+        let wanted = "the value for '<I/N>' is none";
+        assert!(rt;
+            is_reported(rt.alloc(), &words, 2, &[wanted, "as in 2/8"]),
+            "{word}"
+        );
+    }
+}
+
+/// How many files are joined by these words, none where they name another job or none.
+fn files_joined(alloc: Global, words: &[&str]) -> usize {
+    match parse_line(alloc, words) {
+        Ok(Job::Join { old, .. }) => old.len(),
+        _ => 0,
+    }
+}
+
+// With as many files as are joined at most, and with one more.
+#[test]
+fn joins_have_a_thousand_files(rt: HostRuntime) -> Result<(), Fail> {
+    let mut words: Vec<&str> = Vec::from_slice(rt.alloc(), &["cutlab", "join", "new.cut"])?;
+    for _ in 0..1_000 {
+        words.push("a.cut")?;
+    }
+    assert!(rt; files_joined(rt.alloc(), &words) == 1_000);
+    words.push("last.cut")?;
+    assert!(rt; is_reported(rt.alloc(), &words, 2, &["'last.cut'"]));
+    Ok(())
+}
+
 /// Whether the words name no job and end the program with this status, by a text with these parts.
 fn is_reported(alloc: Global, words: &[&str], wanted: u8, parts: &[&str]) -> bool {
     match parse_line(alloc, words) {
@@ -110,7 +191,7 @@ fn is_reported(alloc: Global, words: &[&str], wanted: u8, parts: &[&str]) -> boo
 
 #[test]
 fn help_has_an_example(rt: HostRuntime) {
-    let rows: [(&[&str], &str); 11] = [
+    let rows: [(&[&str], &str); 13] = [
         (&["cutlab", "--help"], "docs/GUIDE.md"),
         (&["cutlab", "--help"], "Move a checkpoint of version 1"),
         (&["cutlab", "help"], "docs/GUIDE.md"),
@@ -125,6 +206,8 @@ fn help_has_an_example(rt: HostRuntime) {
         (&["cutlab", "serve", "--help"], "Example: cutlab serve"),
         (&["cutlab", "ask", "--help"], "Example: cutlab ask"),
         (&["cutlab", "migrate", "--help"], "Example: cutlab migrate"),
+        (&["cutlab", "share", "--help"], "Example: cutlab share 2/8"),
+        (&["cutlab", "join", "--help"], "Example: cutlab join"),
     ];
     for (words, part) in rows {
         assert!(rt;
@@ -153,8 +236,14 @@ fn version_is_printed(rt: HostRuntime) {
 #[test]
 fn mistakes_are_named(rt: HostRuntime) {
     let missing = "required arguments were not provided";
-    let rows: [(&[&str], &str); 21] = [
+    let rows: [(&[&str], &str); 24] = [
         (&["cutlab", "ask"], missing),
+        (&["cutlab", "share", "1/2"], missing),
+        (&["cutlab", "join", "new.cut"], missing),
+        (
+            &["cutlab", "share", "1/2", "a.cut", "b.cut"],
+            "unexpected argument 'b.cut' found",
+        ),
         (&["cutlab", "status"], missing),
         (&["cutlab", "migrate"], missing),
         (&["cutlab", "migrate", "a.cut"], missing),

@@ -9,8 +9,11 @@ use std::alloc::Global;
 /// How many bytes of its input the program reads at most: one more than a plan may have.
 pub(crate) const LIMIT: usize = 65_537;
 
-/// Reads a plan, whose first fault is the answer where there is one.
-pub(crate) fn read_plan<W: Wire>(alloc: Global, wire: &mut W) -> Result<Plan, CliFault>
+/// Reads a plan from a wire, as each command does that works on one.
+///
+/// At most 65,537 bytes are read, one more than a plan may have. Where the text is refused its first fault is returned,
+/// and where a read fails Read.
+pub fn read_plan<W: Wire>(alloc: Global, wire: &mut W) -> Result<Plan, CliFault>
     ensures { GivesPlan result (W.log wire.old) (W.log wire.new) }
 {
     let text = read_text(alloc, wire, LIMIT)?;

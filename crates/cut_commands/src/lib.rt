@@ -28,6 +28,8 @@ pub use canonical::canonical_io;
 pub use check::check_io;
 pub use explain::explain_io;
 pub use fault::{CliFault, FaultText};
+pub use input::read_plan;
 pub use migrate::{migrate_files, migrate_io};
+pub use output::write_answer;
 pub use run::{Work, run_file, run_io};
 pub use status::{status_file, status_io};

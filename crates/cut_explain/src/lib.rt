@@ -10,8 +10,6 @@
 
 mod estimates;
 mod explanations;
-#[cfg(test)]
-mod tests;
 
 pub use estimates::{Estimate, estimate_study};
 pub use explanations::{Explanation, explain};

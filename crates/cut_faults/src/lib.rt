@@ -10,6 +10,3 @@ pub mod laws;
 
 pub use code::{FaultCode, name_of_number, status_of_number};
 pub use failures::Failures;
-
-#[cfg(test)]
-mod tests;

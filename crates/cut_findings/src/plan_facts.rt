@@ -7,13 +7,14 @@ use std::alloc::{AllocError, Global};
 /// How many trials a piece has where nothing else is asked for.
 const PIECE: u32 = 16;
 
-/// Adds the numbers of a plan's cells and trials, its quorum, the values that stand in no cell, and the greatest
-/// numbers of keys and of bytes in the checkpoint.
+/// Adds the numbers of a plan's cells and trials, its quorum, the values that stand in no cell, in how many cells no
+/// trial can be right, and the greatest numbers of keys and of bytes in the checkpoint.
 pub fn describe_plan(alloc: Global, out: &mut String, plan: &Plan) -> Result<(), AllocError> {
     writeln!(out, "cells {}", plan.cells())?;
     writeln!(out, "trials {}", plan.trials())?;
     writeln!(out, "quorum {}", quorum(plan.nodes()))?;
     list_unused(out, plan)?;
+    count_never_right(out, plan)?;
     writeln!(out, "keys drawn: at most {}", most_keys(plan))?;
     let bytes = most_bytes(alloc, plan)?;
     writeln!(
@@ -58,6 +59,37 @@ fn has_between(numbers: &[u8], least: u8, most: u8) -> bool {
     numbers
         .iter()
         .any(|number| least <= *number && *number <= most)
+}
+
+/// Says in how many cells no trial is right, whatever is drawn: with l = h each proposal has one member, so that none has
+/// all failed ones where two fail or more; and where more fail than a quorum can lack, nothing is decided.
+fn count_never_right(out: &mut String, plan: &Plan) -> Result<(), AllocError> {
+    let cells = plan.cells();
+    let most = plan.nodes().saturating_sub(quorum(plan.nodes()));
+    let mut too_narrow = 0u32;
+    let mut too_few = 0u32;
+    for number in 0..cells {
+        let cell = plan.cell(number);
+        if cell.l == cell.h && cell.f >= 2 {
+            too_narrow = too_narrow.saturating_add(1);
+        }
+        if cell.f > most {
+            too_few = too_few.saturating_add(1);
+        }
+    }
+    if too_narrow > 0 {
+        writeln!(
+            out,
+            "right: 0 in {too_narrow} of {cells} cells, where l = h, so that each proposal has one member, and two fail or more"
+        )?;
+    }
+    if too_few > 0 {
+        writeln!(
+            out,
+            "decided and right: 0 in {too_few} of {cells} cells, where more than {most} fail, so that no quorum is left"
+        )?;
+    }
+    Ok(())
 }
 
 /// How many keys order the processes and the deliveries of all trials, at most.

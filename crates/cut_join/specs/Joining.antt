@@ -1,6 +1,6 @@
 -- What a join leaves: the joined slips in a journal, appended one after another.
 use Rattle.std.specs.Prelude.{◌≡◌, ◌≢◌, ◌≤◌, ◌<◌, ◌+◌, ℕ, List, length, slice_index_or, None, Some, IsSome}
-use Rattle.std.specs.Prelude.{Result, Ok, Err}
+use Rattle.std.specs.Prelude.{Result, Ok, Err, ⊤}
 use Rattle.cut_faults.specs.Failures.{one_more}
 use Rattle.cut_plan.specs.Values.{Values}
 use Rattle.cut_ledger.specs.declared.slip.Slip.{Slip}
@@ -11,6 +11,13 @@ use Rattle.cut_journal.specs.Journal.{JournalValue}
 use Rattle.cut_join.specs.declared.fault.JoinFault.{JoinFault}
 use Rattle.cut_join.specs.declared.fault.JoinFault.TheVariants.{Memory, BadSlip, OtherPlan, Broken, Disk}
 use Rattle.cut_join.specs.Joined.{joined}
+
+-- a ledger can begin with slips, or this is the first with which it can not
+abbrev pub IsJudgedBy : {T : Type 0} → Result T JoinFault → Values → List Slip → Type 0
+IsJudgedBy (Ok done) v ss = AreGood v ss
+IsJudgedBy (Err (BadSlip n)) v ss = IsFirstBad v ss n
+IsJudgedBy (Err Memory) v ss = ⊤
+IsJudgedBy (Err fault) v ss = ⊥
 
 -- slips that a ledger of this plan can begin with, and a journal of the plan
 pub record CanJoin {D : Type 0} (v : Values) (ss : List Slip) (log : JournalValue D) : Type 0 where

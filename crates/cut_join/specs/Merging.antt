@@ -1,21 +1,11 @@
--- How slips are judged, and those that ascend merged one after another. Only the crate's private clauses cite it.
+-- How slips that ascend are merged one after another. Only the crate's private clauses cite it.
 use Rattle.std.specs.Prelude.{ℕ, ◌+◌, ◌*◌, ◌/◌, ◌<◌, ◌≤◌, ◌==◌, ◌&&◌, Bool, List, [], ◌∷◌, length, slice_index_or}
-use Rattle.std.specs.Prelude.{IsTrue, if◌then◌else◌, All, Result, Ok, Err, ⊤}
+use Rattle.std.specs.Prelude.{IsTrue, if◌then◌else◌, All}
 use Rattle.cut_plan.specs.Plan.{IsPlan}
 use Rattle.cut_plan.specs.Values.{Values}
 use Rattle.cut_trial.specs.declared.piece.Piece.{Piece}
 use Rattle.cut_trial.specs.Sum.{is_piece, plus, IsAtMost}
 use Rattle.cut_ledger.specs.declared.slip.Slip.{Slip}
-use Rattle.cut_ledger.specs.Slips.{AreGood, IsFirstBad}
-use Rattle.cut_join.specs.declared.fault.JoinFault.{JoinFault}
-use Rattle.cut_join.specs.declared.fault.JoinFault.TheVariants.{Memory, BadSlip}
-
--- a ledger can begin with slips, or this is the first with which it can not
-abbrev pub IsJudgedBy : {T : Type 0} → Result T JoinFault → Values → List Slip → Type 0
-IsJudgedBy (Ok done) v ss = AreGood v ss
-IsJudgedBy (Err (BadSlip n)) v ss = IsFirstBad v ss n
-IsJudgedBy (Err Memory) v ss = ⊤
-IsJudgedBy (Err fault) v ss = ⊥
 
 -- a slip of a piece of the plan, with few totals
 pub record IsSmall (v : Values) (s : Slip) : Type 0 where

@@ -5,7 +5,8 @@ ghost use Rattle.std.specs.List.Sorted.{IsNonDecreasingBy, IsPermutation};
 ghost use Rattle.cut_trial.specs.Sum.{is_piece};
 ghost use Rattle.cut_ledger.specs.Slips.{AreGood};
 ghost use Rattle.cut_join.specs.Joined.{joined};
-ghost use Rattle.cut_join.specs.Merging.{AreAscending, IsJudgedBy, IsSmall, adjoins, with_next, with_slip};
+ghost use Rattle.cut_join.specs.Joining.{IsJudgedBy};
+ghost use Rattle.cut_join.specs.Merging.{AreAscending, IsSmall, adjoins, with_next, with_slip};
 
 use crate::JoinFault;
 use cut_ledger::{Ledger, Slip, SlipsFault};
@@ -26,8 +27,9 @@ pub(crate) fn joined(alloc: Global, plan: &Plan, slips: &[Slip]) -> Result<Vec<S
     Ok(merged(alloc, plan, &ascending)?)
 }
 
-/// Whether a ledger can begin with these slips.
-fn judge(alloc: Global, plan: &Plan, slips: &[Slip]) -> Result<(), JoinFault>
+/// Judges the slips of a plan as one list, as `join` does before it writes. The first with which no ledger begins,
+/// after those before it, is reported by its number.
+pub fn judge(alloc: Global, plan: &Plan, slips: &[Slip]) -> Result<(), JoinFault>
     ensures { IsJudgedBy result plan.now slips.now }
 {
     match Ledger::from_slips(alloc, plan.try_clone(alloc)?, slips) {

@@ -11,7 +11,5 @@ mod joining;
 pub mod laws;
 
 pub use fault::JoinFault;
+pub use joined::judge;
 pub use joining::join;
-
-#[cfg(test)]
-mod tests;

@@ -13,6 +13,3 @@ mod ranks;
 pub use closing::{Closing, close};
 pub use lanes::ordered;
 pub use ranks::select;
-
-#[cfg(test)]
-mod tests;

@@ -15,6 +15,3 @@ mod slots;
 pub use node::{Cause, Node};
 pub use nodes::Nodes;
 pub use slots::{Slot, Slots};
-
-#[cfg(test)]
-mod tests;

@@ -1,11 +1,23 @@
-//! What no contract of `cut_board` and `cut_wires` says: boards worked out by hand and under many threads, and wires that
-//! move few bytes or fail.
+//! What no contract of the lower crates says: sets, lists and faults read one by one, blocks beside keys, lanes beside
+//! sorted times, nodes beside a recount, boards by hand and under many threads, and wires that move few bytes or fail.
 //!
 //! The tests stand in a crate of their own, as they use these crates as their callers do, and the proofs of the crates
 //! need not be made again for them.
 #![tactic(auto)]
 
 #[cfg(test)]
+mod bits;
+#[cfg(test)]
+mod blocks;
+#[cfg(test)]
 mod boards;
+#[cfg(test)]
+mod faults;
+#[cfg(test)]
+mod lanes;
+#[cfg(test)]
+mod nodes;
+#[cfg(test)]
+mod ranges;
 #[cfg(test)]
 mod wires;

@@ -11,8 +11,6 @@ mod share;
 mod share_pieces;
 mod share_run;
 mod task;
-#[cfg(test)]
-mod tests;
 mod tools;
 
 pub use fault::ShareFault;

@@ -87,16 +87,27 @@ fn check_row(
     Ok(())
 }
 
+// The rows of some roles, and how many they are.
+fn check_rows(
+    rt: &impl Abort,
+    alloc: Global,
+    rings: &Rings,
+    lists: &Written,
+    rows: &str,
+) -> Result<u32, Fail> {
+    let mut count = 0u32;
+    for row in rows.split('\n') {
+        check_row(rt, alloc, rings, lists, row)?;
+        count = count.saturating_add(1);
+    }
+    Ok(count)
+}
+
 // The rows below a line of roles, and how many they are.
 fn check_roles(rt: &impl Abort, alloc: Global, rings: &Rings, text: &str) -> Result<u32, Fail> {
     let (line, rows) = text.split_once('\n').unwrap_or((text, ""));
     let lists = written_roles(alloc, line)?;
-    let mut count = 0u32;
-    for row in rows.split('\n') {
-        check_row(rt, alloc, rings, &lists, row)?;
-        count = count.saturating_add(1);
-    }
-    Ok(count)
+    check_rows(rt, alloc, rings, &lists, rows)
 }
 
 // The roles on some rings, and how many rows stand below them.
@@ -179,26 +190,34 @@ fn roles_that_are_refused(rt: HostRuntime) -> Result<(), Fail> {
     Ok(())
 }
 
-// The alerts of two rings, then of no target, are in a list that had more.
-fn check_filled(rt: &impl Abort, alloc: Global, rings: &Rings) -> Result<(), Fail> {
-    assert!(rt; rings.nodes() == 4 && rings.len() == 3);
-    let roles = Roles::given(alloc, 4, &[1], &[], &[], Faults::Crash, Dead::Silent)?;
-    let none = Roles::given(alloc, 4, &[], &[], &[], Faults::Crash, Dead::Silent)?;
-    assert!(rt; roles.nodes() == 4 && none.nodes() == 4);
+// The alerts of three rings, of two and of no target are in a list that had others.
+fn check_filled(
+    rt: &impl Abort,
+    alloc: Global,
+    rings: &Rings,
+    some: &Roles,
+    none: &Roles,
+) -> Result<(), Fail> {
     let mut edges = Vec::new(alloc);
-    alerts_into(&mut edges, rings, 3, &roles)?;
-    let three = edges.len();
-    alerts_into(&mut edges, rings, 2, &roles)?;
-    let is_two = edges_text(alloc, &edges)?.as_str() == "0.1 1.1";
-    alerts_into(&mut edges, rings, 3, &none)?;
-    assert!(rt; three == 3 && is_two && edges.is_empty());
+    for (k, roles, wanted) in [
+        (3, some, "0.1 1.1 2.1"),
+        (2, some, "0.1 1.1"),
+        (3, none, "none"),
+    ] {
+        assert!(rt; roles.nodes() == rings.nodes() && k <= rings.len());
+        alerts_into(&mut edges, rings, k, roles)?;
+        assert!(rt; edges_text(alloc, &edges)?.as_str() == wanted, "{wanted}");
+    }
     Ok(())
 }
 
 #[test]
 fn a_list_is_filled_again(rt: HostRuntime) -> Result<(), Fail> {
-    let rings = four(&rt, rt.alloc())?;
-    check_filled(&rt, rt.alloc(), &rings)
+    let alloc = rt.alloc();
+    let rings = four(&rt, alloc)?;
+    let some = Roles::given(alloc, 4, &[1], &[], &[], Faults::Crash, Dead::Silent)?;
+    let none = Roles::given(alloc, 4, &[], &[], &[], Faults::Crash, Dead::Silent)?;
+    check_filled(&rt, alloc, &rings, &some, &none)
 }
 
 // Process 1 is a target, and an edge to it alerts.

@@ -1,4 +1,4 @@
-ghost use Rattle.std.specs.Prelude.{◌≡◌, IsTrue};
+ghost use Rattle.std.specs.Prelude.{◌≡◌, All, IfOk, IsTrue, OnOk};
 ghost use Rattle.cut_rings.specs.Edges.{are_edges_of};
 
 use crate::edges::all_within;
@@ -48,6 +48,8 @@ fn check_steps(
 ) -> Result<(), Fail>
     requires within { IsTrue (are_edges_of detector.old.rule.k detector.old.layout.nodes edges.now) }
     requires fresh { detector.old.deliveries ≡ 0 }
+    ensures rule { OnOk result (detector.new.rule ≡ detector.old.rule) }
+    ensures layout { OnOk result (detector.new.layout ≡ detector.old.layout) }
 {
     let mut place = 0u64;
     for edge in edges {
@@ -173,36 +175,42 @@ fn proposes(
     Ok(proposal.at == at && proposal.members.into_vec().as_slice() == members)
 }
 
+// Edges of a ring and a subject each, which are all within three rings of four processes.
+fn three_rings(rt: &impl Abort, alloc: Global, pairs: &[(u8, u16)]) -> Result<Vec<Edge>, Fail>
+    ensures { IfOk result (λ edges. IsTrue (are_edges_of 3 4 edges.items)) }
+{
+    let edges = edges_of(alloc, pairs)?;
+    assert!(rt; all_within(3, 4, &edges));
+    Ok(edges)
+}
+
 // A detector waits for the third ring, then stays as it is whatever comes, and when it is reset has no report.
-fn check_settled(rt: &impl Abort, alloc: Global, rings: &Rings) -> Result<(), Fail> {
-    assert!(rt; rings.len() >= 3 && rings.nodes() == 4);
-    let mut detector = Detector::new(alloc, rings, 3, 3, 1, false)?;
-    let is_fresh = detector.proposal(alloc)?.is_none();
-    let edge = |ring, subject| Edge { ring, subject };
-    let steps = [
-        detector.deliver(edge(0, 1)),
-        detector.deliver(edge(1, 1)),
-        detector.deliver(edge(2, 1)),
-        detector.deliver(edge(0, 2)),
-    ];
-    let is_settled = steps == [Step::Waiting, Step::Waiting, Step::Settled, Step::Settled]
-        && detector.deliveries() == 3
-        && proposes(alloc, &detector, &[1], 3)?;
+fn check_settled(
+    rt: &impl Abort,
+    alloc: Global,
+    detector: &mut Detector<'_>,
+    edges: [&[Edge]; 2],
+) -> Result<(), Fail>
+    requires rings { (detector.old.rule.k ≡ 3) × (detector.old.layout.nodes ≡ 4) }
+    requires within { All (λ e. IsTrue (are_edges_of 3 4 e.now)) edges }
+    requires fresh { detector.old.deliveries ≡ 0 }
+{
+    let [settling, lone] = edges;
+    check_steps(rt, detector, settling, 3, "on three rings")?;
+    assert!(rt; detector.deliveries() == 3 && proposes(alloc, detector, &[1], 3)?);
     detector.reset();
-    let steps = [
-        detector.deliver(edge(0, 1)),
-        detector.deliver(edge(0, 1)),
-        detector.deliver(edge(0, 1)),
-    ];
-    let is_reset = steps == [Step::Waiting; 3]
-        && detector.deliveries() == 3
-        && detector.proposal(alloc)?.is_none();
-    assert!(rt; [is_fresh, is_settled, is_reset] == [true; 3]);
+    check_steps(rt, detector, lone, u64::MAX, "on one ring")?;
+    assert!(rt; detector.deliveries() == 3 && detector.proposal(alloc)?.is_none());
     Ok(())
 }
 
 #[test]
 fn a_settled_detector_stays_until_it_is_reset(rt: HostRuntime) -> Result<(), Fail> {
-    let rings = four(&rt, rt.alloc())?;
-    check_settled(&rt, rt.alloc(), &rings)
+    let alloc = rt.alloc();
+    let rings = four(&rt, alloc)?;
+    assert!(rt; rings.len() >= 3 && rings.nodes() == 4);
+    let settling = three_rings(&rt, alloc, &[(0, 1), (1, 1), (2, 1), (0, 2)])?;
+    let lone = three_rings(&rt, alloc, &[(0, 1); 3])?;
+    let mut detector = Detector::new(alloc, &rings, 3, 3, 1, false)?;
+    check_settled(&rt, alloc, &mut detector, [&settling, &lone])
 }

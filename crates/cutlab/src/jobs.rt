@@ -1,31 +1,19 @@
-ghost use Rattle.std.specs.Prelude.{◌≡◌, ◌≤◌};
 ghost use Rattle.cut_command_line.specs.Line.{IsSizedJob};
-ghost use Rattle.cut_progress.specs.Printed.{HasPrinted};
-ghost use Rattle.cutlab.specs.Jobs.{EndsJob, EndsRun, PrintsOn};
+ghost use Rattle.cutlab.specs.Jobs.{EndsJob, PrintsOn};
 
+use crate::run_job::RunJob;
+use crate::share_job::ShareJob;
 use cut_command_line::Job;
 use cut_commands::{
-    CliFault, Work, ask_at, canonical_io, check_io, explain_io, migrate_files, run_file, run_io,
-    status_file,
+    CliFault, ask_at, canonical_io, check_io, explain_io, migrate_files, status_file,
 };
-use cut_disks::FileDisk;
-use cut_hall::{Gate, OpenGate};
-use cut_progress::{Progress, report_while};
+use cut_machines::join_files;
 use cut_server::{Capacity, serve_at};
+use cut_share::Share;
 use cut_wires::Wire;
 use std::sync::Wait;
 use std::thread::Threads;
 use std::time::Clock;
-
-/// The values of a run: the size of its pieces, the number of its workers, and the file that it is kept in.
-#[derive(Clone, Copy)]
-struct RunValues<'a> {
-    piece: u32,
-    workers: u32,
-    checkpoint: Option<&'a str>,
-    ghost size: { 1 ≤ piece },
-    ghost few: { (1 ≤ workers) × (workers ≤ 64) },
-}
 
 /// Does a job over a wire. The files of checkpoints are opened by `host` before anything is read. Progress is printed
 /// on the errors where it is asked for.
@@ -51,16 +39,36 @@ where
             checkpoint,
             progress,
         } => {
-            let values = RunValues {
+            let run = RunJob {
                 piece,
                 workers,
                 checkpoint,
+                progress,
             };
-            if progress {
-                return run_and_report(host, rt, &values, wire, errors);
-            }
-            run_at(host, rt, &values, wire, &OpenGate)
+            run.run(host, rt, wire, errors)
         }
+        Job::Share {
+            index,
+            shares,
+            file,
+            piece,
+            workers,
+            progress,
+        } => {
+            let share = Share {
+                index,
+                shares,
+                block_size: piece,
+            };
+            let run = ShareJob {
+                share,
+                workers,
+                file,
+                progress,
+            };
+            run.run(host, rt, wire, errors)
+        }
+        Job::Join { new, old } => join_files(host, wire, &old, new),
         Job::Check => check_io(host.alloc(), wire),
         Job::Explain => explain_io(host.alloc(), rt, wire),
         Job::Canonical => canonical_io(host.alloc(), wire),
@@ -85,51 +93,4 @@ where
         Job::Ask { socket } => ask_at(host, wire, socket),
         Job::Migrate { old, new } => migrate_files(host, wire, old, new),
     }
-}
-
-/// Runs a study whose workers call a gate.
-fn run_at<W, G, R>(
-    host: &HostRuntime,
-    rt: &R,
-    values: &RunValues<'_>,
-    wire: &mut W,
-    gate: &G,
-) -> Result<(), CliFault>
-where
-    W: Wire,
-    G: Gate + Sync,
-    R: Threads + Wait + Sync,
-    ensures { EndsRun values.now.checkpoint (W.log wire.old) (W.log wire.new) result }
-{
-    let work = Work {
-        piece_size: values.piece,
-        workers: values.workers,
-        gate,
-    };
-    match values.checkpoint {
-        None => run_io::<W, FileDisk, G, R>(rt, host.alloc(), wire, work, None),
-        Some(path) => run_file(host, rt, wire, work, path),
-    }
-}
-
-/// Runs a study, and prints its progress on the errors.
-fn run_and_report<W, E, R>(
-    host: &HostRuntime,
-    rt: &R,
-    values: &RunValues<'_>,
-    wire: &mut W,
-    errors: &mut E,
-) -> Result<(), CliFault>
-where
-    W: Wire,
-    E: Wire + Send,
-    R: Threads + Wait + Clock + Sync,
-    ensures ends { EndsRun values.now.checkpoint (W.log wire.old) (W.log wire.new) result }
-    ensures prints { HasPrinted (E.log errors.old) (E.log errors.new) }
-{
-    let progress = Progress::new();
-    let mut run = || -> Result<(), CliFault>
-        ensures { EndsRun values.entry.now.checkpoint (W.log wire.entry.now) (W.log wire.exit.now) result }
-    { run_at(host, rt, values, wire, &progress) };
-    report_while(rt, &progress, errors, &mut run)
 }

@@ -4,14 +4,18 @@
 
 mod jobs;
 mod program;
+mod run_job;
+mod share_job;
 #[cfg(test)]
 mod tests;
 
 pub use cut_command_line::{Job, NoJob, parse_line};
 pub use cut_commands::{CliFault, ask_io, check_io, migrate_io, run_io};
+pub use cut_machines::{ShareWork, join_io, share_io};
 pub use cut_server::{
     Capacity, FolderShelf, ListenFault, Listener, Socket, SocketWire, serve_io, serve_sessions,
 };
+pub use cut_share::Share;
 pub use cut_wires::StreamWire;
 pub use program::{end_unread, run_words};
 use std::alloc::Global;

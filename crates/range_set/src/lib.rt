@@ -14,6 +14,3 @@ mod span;
 
 pub use range_set::RangeSet;
 pub use span::Span;
-
-#[cfg(test)]
-mod tests;

@@ -2,7 +2,7 @@ use Rattle.std.proofs.Common.{◌≡◌, ◌∙◌, ap, ap₂, rules, codes}
 use Rattle.std.proofs.lemmas.Result.{IfOk-weaker}
 use Rattle.clap.specs.Words.{App, app_of, new_app, with_rule, with_subcommand}
 use Rattle.clap.specs.Simple.{app_of_fields}
-use Rattle.cut_command_line.specs.Line.{count_rule, folder_rule, serve_app, socket_rule}
+use Rattle.cut_command_line.specs.Line.{serve_app, socket_rule}
 use Rattle.cut_command_line.proofs.line.add_serve.Goals as goal
 
 pub returns : goal.returns

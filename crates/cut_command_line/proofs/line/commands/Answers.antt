@@ -2,8 +2,8 @@ use Rattle.std.proofs.Common.{ap, true, codes, ◌≡◌, ◌∙◌}
 use Rattle.std.proofs.lemmas.Result.{IfOk-weaker}
 use Rattle.clap.specs.Words.{App, Shape, app_of, new_app, with_subcommand}
 use Rattle.clap.specs.Simple.{app_of_fields}
-use Rattle.cut_command_line.specs.Line.{ask_app, canonical_app, check_app, explain_app, migrate_app, run_app, serve_app, status_app}
-use Rattle.cut_command_line.specs.Line.{program_app}
+use Rattle.cut_command_line.specs.Line.{ask_app, canonical_app, check_app, explain_app, join_app, migrate_app, run_app}
+use Rattle.cut_command_line.specs.Line.{program_app, serve_app, share_app, status_app}
 use Rattle.cut_command_line.proofs.line.commands.Goals as goal
 
 -- a command with a version, one that needs a subcommand, and one that shows its help without a word
@@ -43,4 +43,6 @@ returns c =
     let reports = c.in_ok-add_status.ensures ∙ added _ _ prints status_app in
     let serves = c.in_ok-with_serve.ensures ∙ added _ _ reports serve_app in
     let answers = c.in_ok-add_ask.ensures ∙ added _ _ serves ask_app in
-    IfOk-weaker c.add_migrate.result _ _ (λ r h. h ∙ added _ _ answers migrate_app) c.add_migrate.ensures
+    let moves = c.in_ok-with_migrate.ensures ∙ added _ _ answers migrate_app in
+    let shares = c.in_ok-add_share.ensures ∙ added _ _ moves share_app in
+    IfOk-weaker c.add_join.result _ _ (λ r h. h ∙ added _ _ shares join_app) c.add_join.ensures

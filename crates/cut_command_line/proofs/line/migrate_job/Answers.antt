@@ -1,9 +1,9 @@
-use Rattle.std.proofs.Common.{◌∙◌, List, Option, None, refl, sym, subst, codes}
+use Rattle.std.proofs.Common.{◌∙◌, List, Option, refl, sym, subst, codes}
 use Rattle.clap.specs.Words.{Row, found_of, rows_of}
 use Rattle.clap.proofs.WalkLemmas.{first_value-rows}
 use Rattle.cut_command_line.specs.declared.line.Job.{Job}
 use Rattle.cut_command_line.specs.Line.{GivesJob}
-use Rattle.cut_command_line.proofs.LineLemmas.{migrate_values}
+use Rattle.cut_command_line.proofs.Commands.{values}
 use Rattle.cut_command_line.proofs.line.migrate_job.Goals as goal
 
 pub returns-in_err-old-clause-gives : goal.returns-in_err-old-clause-gives
@@ -11,7 +11,7 @@ returns-in_err-old-clause-gives c =
     let rows : List Row = rows_of (found_of c.args.given.now) in
     subst (λ (o : Option Job). GivesJob (codes "migrate") rows o) (sym c.from_residual.ensures)
     (λ job is gives.
-    let found = (migrate_values rows job is gives).0 in
+    let found = (values rows job (codes "migrate") is gives).0 in
     let none = sym (first_value-rows (found_of c.args.given.now) (codes "old")) ∙ sym c.in_err-old.ensures in
     (let bad = sym none ∙ found.1 in cc))
 
@@ -20,7 +20,7 @@ returns-in_err-new-clause-gives c =
     let rows : List Row = rows_of (found_of c.args.given.now) in
     subst (λ (o : Option Job). GivesJob (codes "migrate") rows o) (sym c.from_residual-in_err-new.ensures)
     (λ job is gives.
-    let found = (migrate_values rows job is gives).1 in
+    let found = (values rows job (codes "migrate") is gives).1 in
     let none = sym (first_value-rows (found_of c.args.given.now) (codes "new")) ∙ sym c.in_err-new.ensures in
     (let bad = sym none ∙ found.1 in cc))
 

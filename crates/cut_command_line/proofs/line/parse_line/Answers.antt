@@ -1,9 +1,11 @@
-use Rattle.std.proofs.Common.{[], ◌≡◌, List, Option, map, true, inl, inr, refl, subst, sym, ap, ◌∙◌}
+use Rattle.std.proofs.Common.{[], ◌≡◌, List, Option, Some, None, map, true, inl, inr, refl, subst, sym, ap, ◌∙◌}
+use Rattle.std.specs.Prelude.{IfSome, IfNone}
 use Rattle.clap.specs.Words.{App, HasKind, IsAmong, Row, Text, app_of, fault_of, is_simple, is_simple_and_free, kind_of}
 use Rattle.clap.specs.Words.{subcommand_of, subcommand_rows_of}
 use Rattle.clap.proofs.OnLiterals.{clap_on_literals}
 use Rattle.clap.specs.declared.error.kind.ErrorKind.{ErrorKind}
-use Rattle.clap.specs.declared.error.kind.ErrorKind.TheVariants.{MissingSubcommand, OutOfMemory}
+use Rattle.clap.specs.declared.error.kind.ErrorKind.TheVariants.{ValueValidation, OutOfMemory}
+use Rattle.cut_command_line.specs.declared.line.Job.{Job}
 use Rattle.cut_command_line.specs.Line.{program_app, status_of_kind, IsAsked, IsJobOf, NamesNone}
 use Rattle.cut_command_line.proofs.line.parse_line.Goals as goal
 
@@ -39,34 +41,47 @@ named : (a : App) (words : List Text) (sub : Option (Text × List Row)) → a �
     → (is_simple a ≡ true → sub ≡ subcommand_of a words) → sub ≡ subcommand_of program_app words
 named a words sub is matches = matches (ap is_simple is ∙ is_plain) ∙ ap (λ (x : App). subcommand_of x words) is
 
-pub returns-in-Some-clause-faultless : goal.returns-in-Some-clause-faultless
-returns-in-Some-clause-faultless g c =
+pub returns-in-Ok-Some-clause-faultless : goal.returns-in-Ok-Some-clause-faultless
+returns-in-Ok-Some-clause-faultless g c =
     let app : app_of c.in-Ok.command ≡ program_app = c.in-Ok.ensures in
     faultless (app_of c.in-Ok.command) (map g.S.AsStr.text c.args.words.now) app
-    (c.in-Ok-try_get_matches_from.ensures.kinds (ap is_simple_and_free app ∙ is_free))
+    (c.in-Ok-try_get_matches_from_mut.ensures.kinds (ap is_simple_and_free app ∙ is_free))
 
-pub returns-in-Some-clause-ok : goal.returns-in-Some-clause-ok
-returns-in-Some-clause-ok g c =
+pub returns-in-Ok-Some-clause-ok : goal.returns-in-Ok-Some-clause-ok
+returns-in-Ok-Some-clause-ok g c =
     let words : List Text = map g.S.AsStr.text c.args.words.now in
     let app : app_of c.in-Ok.command ≡ program_app = c.in-Ok.ensures in
-    let same = named (app_of c.in-Ok.command) words (subcommand_rows_of c.in-Ok-try_get_matches_from.matches) app
-    (λ simple. (c.in-Ok-try_get_matches_from.ensures.matches simple).1) in
-    subst (λ (sub : Option (Text × List Row)). IsJobOf sub c.in-Some.job) same c.in-Some.ensures.some
+    let same = named (app_of c.in-Ok.command) words (subcommand_rows_of c.in-Ok-try_get_matches_from_mut.matches) app
+    (λ simple. (c.in-Ok-try_get_matches_from_mut.ensures.ok.2 simple).1) in
+    let some : IfSome (Some c.in-Ok-Some.job)
+    (λ job. IsJobOf (subcommand_rows_of c.in-Ok-try_get_matches_from_mut.matches) job) =
+    subst (λ (o : Option Job). IfSome o
+    (λ job. IsJobOf (subcommand_rows_of c.in-Ok-try_get_matches_from_mut.matches) job)) c.in-Ok-Some.field-0-is
+    c.in-Ok-Some.ensures.some in
+    subst (λ (sub : Option (Text × List Row)). IsJobOf sub c.in-Ok-Some.job) same some
 
-pub returns-clause-err : goal.returns-clause-err
-returns-clause-err g c =
+pub returns-in-Ok-None-clause-err : goal.returns-in-Ok-None-clause-err
+returns-in-Ok-None-clause-err g c =
     let words : List Text = map g.S.AsStr.text c.args.words.now in
     let app : app_of c.in-Ok.command ≡ program_app = c.in-Ok.ensures in
-    let same = named (app_of c.in-Ok.command) words (subcommand_rows_of c.in-Ok-try_get_matches_from.matches) app
-    (λ simple. (c.in-Ok-try_get_matches_from.ensures.matches simple).1) in
-    let none : NamesNone words = λ job is. c.in-None.ensures.none job
+    let same = named (app_of c.in-Ok.command) words (subcommand_rows_of c.in-Ok-try_get_matches_from_mut.matches) app
+    (λ simple. (c.in-Ok-try_get_matches_from_mut.ensures.ok.2 simple).1) in
+    let lacks : IfNone {T = Job} None
+    ((job : Job) → IsJobOf (subcommand_rows_of c.in-Ok-try_get_matches_from_mut.matches) job → ⊥) =
+    subst (λ (o : Option Job). IfNone o
+    ((job : Job) → IsJobOf (subcommand_rows_of c.in-Ok-try_get_matches_from_mut.matches) job → ⊥))
+    c.in-Ok-None.field-0-is c.in-Ok-None.ensures.none in
+    let none : NamesNone words = λ job is. lacks job
     (subst (λ (sub : Option (Text × List Row)). IsJobOf sub job) (sym same) is) in (
-      MissingSubcommand,
+      ValueValidation,
       inr (inr (
         none,
         faultless (app_of c.in-Ok.command) words app
-            (c.in-Ok-try_get_matches_from.ensures.kinds (ap is_simple_and_free app ∙ is_free)),
+            (c.in-Ok-try_get_matches_from_mut.ensures.kinds (ap is_simple_and_free app ∙ is_free)),
         refl,
       )),
-      c.line_fault-in-None.ensures,
+      c.wrong_value.ensures,
     )
+
+pub returns-clause-err : goal.returns-clause-err
+returns-clause-err g c = (OutOfMemory, inr (inl refl), c.line_fault-in-Err-job_of.ensures)

@@ -1,9 +1,9 @@
-use Rattle.std.proofs.Common.{◌∙◌, List, Option, None, refl, sym, subst, codes}
+use Rattle.std.proofs.Common.{◌∙◌, List, Option, refl, sym, subst, codes}
 use Rattle.clap.specs.Words.{Row, found_of, rows_of}
 use Rattle.clap.proofs.WalkLemmas.{first_value-rows}
 use Rattle.cut_command_line.specs.declared.line.Job.{Job}
 use Rattle.cut_command_line.specs.Line.{GivesJob}
-use Rattle.cut_command_line.proofs.LineLemmas.{run_values}
+use Rattle.cut_command_line.proofs.Commands.{values}
 use Rattle.cut_command_line.proofs.line.run_job.Goals as goal
 
 pub returns-in_err-piece-clause-gives : goal.returns-in_err-piece-clause-gives
@@ -11,7 +11,7 @@ returns-in_err-piece-clause-gives c =
     let rows : List Row = rows_of (found_of c.args.given.now) in
     subst (λ (o : Option Job). GivesJob (codes "run") rows o) (sym c.from_residual.ensures)
     (λ job is gives.
-    let found = (run_values rows job is gives).0 in
+    let found = (values rows job (codes "run") is gives).0 in
     c.in_err-piece.ensures.none found.0 found.1)
 
 pub returns-in_err-workers-clause-gives : goal.returns-in_err-workers-clause-gives
@@ -19,7 +19,7 @@ returns-in_err-workers-clause-gives c =
     let rows : List Row = rows_of (found_of c.args.given.now) in
     subst (λ (o : Option Job). GivesJob (codes "run") rows o) (sym c.from_residual-in_err-workers.ensures)
     (λ job is gives.
-    let found = (run_values rows job is gives).1 in
+    let found = (values rows job (codes "run") is gives).1 in
     c.in_err-workers.ensures.none found.0 found.1)
 
 pub returns-clause-gives : goal.returns-clause-gives

@@ -1,9 +1,9 @@
-use Rattle.std.proofs.Common.{◌∙◌, List, Option, None, refl, sym, subst, codes}
+use Rattle.std.proofs.Common.{◌∙◌, List, Option, refl, sym, subst, codes}
 use Rattle.clap.specs.Words.{Row, found_of, rows_of}
 use Rattle.clap.proofs.WalkLemmas.{first_value-rows}
 use Rattle.cut_command_line.specs.declared.line.Job.{Job}
 use Rattle.cut_command_line.specs.Line.{GivesJob}
-use Rattle.cut_command_line.proofs.LineLemmas.{serve_values}
+use Rattle.cut_command_line.proofs.Commands.{values}
 use Rattle.cut_command_line.proofs.line.serve_job.Goals as goal
 
 pub returns-in_err-socket-clause-gives : goal.returns-in_err-socket-clause-gives
@@ -11,7 +11,7 @@ returns-in_err-socket-clause-gives c =
     let rows : List Row = rows_of (found_of c.args.given.now) in
     subst (λ (o : Option Job). GivesJob (codes "serve") rows o) (sym c.from_residual.ensures)
     (λ job is gives.
-    let found = (serve_values rows job is gives).0 in
+    let found = (values rows job (codes "serve") is gives).0 in
     let none = sym (first_value-rows (found_of c.args.given.now) (codes "socket")) ∙ sym c.in_err-socket.ensures in
     (let bad = sym none ∙ found.1 in cc))
 
@@ -20,7 +20,7 @@ returns-in_err-workers-clause-gives c =
     let rows : List Row = rows_of (found_of c.args.given.now) in
     subst (λ (o : Option Job). GivesJob (codes "serve") rows o) (sym c.from_residual-in_err-workers.ensures)
     (λ job is gives.
-    let found = (serve_values rows job is gives).1 in
+    let found = (values rows job (codes "serve") is gives).1 in
     c.in_err-workers.ensures.none found.0 found.1)
 
 pub returns-in_err-sessions-clause-gives : goal.returns-in_err-sessions-clause-gives
@@ -28,7 +28,7 @@ returns-in_err-sessions-clause-gives c =
     let rows : List Row = rows_of (found_of c.args.given.now) in
     subst (λ (o : Option Job). GivesJob (codes "serve") rows o) (sym c.from_residual-in_err-sessions.ensures)
     (λ job is gives.
-    let found = (serve_values rows job is gives).2 in
+    let found = (values rows job (codes "serve") is gives).2 in
     c.in_err-sessions.ensures.none found.0 found.1)
 
 pub returns-in_err-studies-clause-gives : goal.returns-in_err-studies-clause-gives
@@ -36,7 +36,7 @@ returns-in_err-studies-clause-gives c =
     let rows : List Row = rows_of (found_of c.args.given.now) in
     subst (λ (o : Option Job). GivesJob (codes "serve") rows o) (sym c.from_residual-in_err-studies.ensures)
     (λ job is gives.
-    let found = (serve_values rows job is gives).3 in
+    let found = (values rows job (codes "serve") is gives).3 in
     c.in_err-studies.ensures.none found.0 found.1)
 
 pub returns-clause-gives : goal.returns-clause-gives

@@ -1,0 +1,233 @@
+-- What is left of a disk on which joined slips are written one after another.
+use Rattle.std.proofs.Common.{◌≡◌, ◌∙◌, ◌++◌, ◌+◌, ◌-◌, ◌<◌, inl, inr, ℕ, List, [], ◌∷◌, Option, Some, None, Ok, Err}
+use Rattle.std.proofs.Common.{length, take, drop, get_or, refl, sym, ap, subst, arith, append-nil, append_assoc}
+use Rattle.std.specs.Prelude.{IsSome, IfErr, OnOk, Result}
+use Rattle.std.proofs.lemmas.List.{take-append-drop, take_all, take_more}
+use Rattle.cut_plan.specs.Values.{Values}
+use Rattle.cut_trial.specs.Sum.{each_number}
+use Rattle.cut_disks.specs.State.{DiskState, Throughout, synced}
+use Rattle.cut_ledger.specs.declared.slip.Slip.{Slip}
+use Rattle.cut_ledger.specs.Slips.{AreGood, IsFirstBad}
+use Rattle.cut_journal.specs.declared.fault.JournalFault.TheVariants as journal
+use Rattle.cut_journal.specs.Journal.{AppendsEach, IsFileOf, JournalValue, ReadsAs, kept_slips}
+use Rattle.cut_journal.specs.Opening.{IsBegunFile, IsNewStudy}
+use Rattle.cut_journal.specs.Reading.{reading}
+use Rattle.cut_journal.proofs.Moments.{and_then, weaker}
+use Rattle.cut_join.specs.declared.fault.JoinFault.{JoinFault}
+use Rattle.cut_join.specs.declared.fault.JoinFault.TheVariants as join
+use Rattle.cut_join.specs.Joined.{joined}
+use Rattle.cut_join.specs.Joining.{EndsJoin}
+use Rattle.cut_migration.specs.declared.fault.MigrateFault.TheVariants as migration
+use Rattle.cut_commands.specs.declared.fault.CliFault.{CliFault}
+use Rattle.cut_commands.specs.declared.fault.CliFault.TheVariants.{Memory, Migrate}
+use Rattle.cut_machines.specs.JoinSources.{fault_of}
+use Rattle.cut_machines.specs.JoinTarget.{IsBegun, IsNewJournal, IsPartWritten, LeavesDisk, SaysAllOf}
+use Rattle.cut_machines.specs.JoinTarget.{SaysFirstOf, StopsFilling}
+
+-- ---- first slips
+
+abbrev pub AreFirst : List Slip → List Slip → Type 0
+AreFirst all some = (rest : List Slip) × (all ≡ some ++ rest)
+
+-- and after them comes the doubtful one, where there is one
+abbrev pub GoesOn : List Slip → List Slip → Option Slip → Type 0
+GoesOn all some doubtful = (slip : Slip) → doubtful ≡ Some slip → AreFirst all (some ++ slip ∷ [])
+
+shorter : (all xs ys : List Slip) → AreFirst all (xs ++ ys) → AreFirst all xs
+shorter all xs ys first = (ys ++ first.0, first.1 ∙ append_assoc xs ys first.0)
+
+taken_first : (all : List Slip) (n : ℕ) → AreFirst all (take n all)
+taken_first all n = (drop n all, sym (take-append-drop n all))
+
+none_next : (all some : List Slip) (doubtful : Option Slip) → doubtful ≡ None → GoesOn all some doubtful
+none_next all some doubtful none slip is = absurd (let both : None ≡ Some slip = sym none ∙ is in cc)
+
+next_is : (x slip : Slip) → Some x ≡ Some slip → x ≡ slip
+next_is x slip is = cc
+
+one_next : (all : List Slip) (n : ℕ) (doubtful : Option Slip) → n < length all
+    → ((d : Slip) → doubtful ≡ Some (get_or all n d)) → GoesOn all (take n all) doubtful
+one_next all n doubtful within is slip same =
+    subst (λ (s : Slip). AreFirst all (take n all ++ s ∷ []))
+    (next_is (get_or all n slip) slip (sym (is slip) ∙ same))
+    (subst (λ (l : List Slip). AreFirst all l) (take_more all n slip within) (taken_first all (n + 1)))
+
+reads_first : (v : Values) (all kept : List Slip) (doubtful : Option Slip) → AreFirst all kept
+    → GoesOn all kept doubtful → (bytes : List ℕ) → ReadsAs v kept doubtful bytes → SaysFirstOf v all bytes
+reads_first v all kept doubtful first next bytes (inl reads) = inr (kept, (first.0, (first.1, reads)))
+reads_first v all kept doubtful first next bytes (inr (slip, both)) =
+    let more : AreFirst all (kept ++ slip ∷ []) = next slip both.0 in
+    inr (kept ++ slip ∷ [], (more.0, (more.1, both.1)))
+
+-- ---- the moments of some appends
+
+appends_first : (v : Values) (all kept : List Slip) (doubtful : Option Slip) (xs : List Slip) (old new : DiskState)
+    → AreFirst all (kept ++ xs) → GoesOn all (kept ++ xs) doubtful → AppendsEach v kept doubtful xs old new
+    → Throughout old new (SaysFirstOf v all)
+appends_first v all kept doubtful [] old new first next moments =
+    weaker (ReadsAs v kept doubtful) (SaysFirstOf v all)
+    (reads_first v all kept doubtful (subst (λ (l : List Slip). AreFirst all l) (append-nil kept) first)
+    (subst (λ (l : List Slip). GoesOn all l doubtful) (append-nil kept) next)) old new moments
+appends_first v all kept doubtful (x ∷ xs) old new first next moments =
+    let mid : DiskState = moments.0 in
+    let same : (kept ++ x ∷ []) ++ xs ≡ kept ++ x ∷ xs = append_assoc kept (x ∷ []) xs in
+    let first_of : AreFirst all ((kept ++ x ∷ []) ++ xs) = subst (λ (l : List Slip). AreFirst all l) (sym same) first in
+    and_then (SaysFirstOf v all) old mid new
+    (weaker (ReadsAs v kept (Some x)) (SaysFirstOf v all)
+    (reads_first v all kept (Some x) (shorter all kept (x ∷ xs) first)
+    (λ slip is. subst (λ (s : Slip). AreFirst all (kept ++ s ∷ [])) (next_is x slip is)
+    (shorter all (kept ++ x ∷ []) xs first_of))) old mid moments.1.0)
+    (appends_first v all (kept ++ x ∷ []) doubtful xs mid new first_of
+    (subst (λ (l : List Slip). GoesOn all l doubtful) (sym same) next) moments.1.1)
+
+-- ---- a join to a new journal
+
+-- the first n joined slips were appended
+pub record HasTaken {D : Type 0} (v : Values) (ss : List Slip) (n : ℕ) (old new : JournalValue D) : Type 0 where
+  pub plan : new.plan ≡ old.plan
+  pub count : new.count ≡ old.count + n
+  pub next : GoesOn (joined v ss) (take n (joined v ss)) new.doubtful
+
+not_some : IsSome {T = Slip} None → ⊥
+not_some some = cc some
+
+-- what is read of a list where nothing is
+abbrev no_slip : Slip
+no_slip = record { piece = record { first = 0; count = 0 }; totals = each_number (λ n. 0) }
+
+not_bad : (v : Values) (ss : List Slip) (n : ℕ) → AreGood v ss → IsFirstBad v ss n → ⊥
+not_bad v ss n good bad =
+    let within : n - 1 < length ss = omega (arith, bad.numbered, bad.within) in
+    bad.bad no_slip (good (n - 1) no_slip within within)
+
+pub some_taken : {D : Type 0} (result : Result ℕ JoinFault) (v : Values) (ss : List Slip) (old new : JournalValue D)
+    → AreGood v ss → IsNewJournal v old → EndsJoin result v ss old new → (n : ℕ) × HasTaken v ss n old new
+some_taken (Ok n) v ss old new good is ends = (
+  n,
+  record {
+    plan = ends.1.1;
+    count = ends.1.2;
+    next = none_next (joined v ss) (take n (joined v ss)) new.doubtful (ends.1.3 ∙ is.whole);
+  },
+)
+some_taken (Err join.Memory) v ss old new good is ends = (
+  0,
+  record {
+    plan = ap (λ (l : JournalValue _). l.plan) ends;
+    count = (let same : new.count ≡ old.count = ap (λ (l : JournalValue _). l.count) ends in omega (arith, same));
+    next = none_next (joined v ss) (take 0 (joined v ss)) new.doubtful
+        (ap (λ (l : JournalValue _). l.doubtful) ends ∙ is.whole);
+  },
+)
+some_taken (Err (join.BadSlip n)) v ss old new good is ends = absurd (not_bad v ss n good ends.0)
+some_taken (Err join.OtherPlan) v ss old new good is ends = absurd (ends.1 is.plan)
+some_taken (Err join.Broken) v ss old new good is ends =
+    absurd (not_some (subst (λ (o : Option Slip). IsSome o) is.whole ends.1.1))
+some_taken (Err join.Disk) v ss old new good is ends = (
+  ends.1.0,
+  record {
+    plan = ends.1.1.plan;
+    count = ends.1.1.count;
+    next = one_next (joined v ss) ends.1.0 new.doubtful ends.1.1.within ends.1.1.doubtful;
+  },
+)
+
+none_kept : {D : Type 0} (v : Values) (old : JournalValue D) (d : DiskState) → IsNewJournal v old
+    → kept_slips old.plan old.count d ≡ []
+none_kept v old d is = ap (λ (n : ℕ). kept_slips old.plan n d) is.empty
+
+-- what is left of its disk
+pub part_written : {D : Type 0} (v : Values) (ss : List Slip) (n : ℕ) (old new : JournalValue D)
+    (before after : DiskState)
+    → IsNewJournal v old → HasTaken v ss n old new
+    → AppendsEach old.plan (kept_slips old.plan old.count before) new.doubtful (take n (joined v ss)) before after
+    → kept_slips new.plan new.count after ≡ kept_slips old.plan old.count before ++ take n (joined v ss)
+    → IsFileOf new.plan new.count new.doubtful after
+    → IsPartWritten v ss before after
+part_written v ss n old new before after is has moments kept file =
+    let all : List Slip = joined v ss in
+    let some : List Slip = take n all in
+    let none : kept_slips old.plan old.count before ≡ [] = none_kept v old before is in
+    let are : kept_slips new.plan new.count after ≡ some = kept ∙ ap (λ (l : List Slip). l ++ some) none in
+    record {
+      bytes = reads_first v all some new.doubtful (taken_first all n) has.next after.bytes
+          (subst (λ (l : List Slip). ReadsAs v l new.doubtful after.bytes) are
+          (subst (λ (w : Values). ReadsAs w (kept_slips new.plan new.count after) new.doubtful after.bytes)
+          (has.plan ∙ is.plan) file.bytes));
+      moments = appends_first v all [] new.doubtful some before after (taken_first all n) has.next
+          (subst (λ (w : Values). AppendsEach w [] new.doubtful some before after) is.plan
+          (subst (λ (l : List Slip). AppendsEach old.plan l new.doubtful some before after) none moments));
+    }
+
+only_kept : (v : Values) (kept : List Slip) (bytes : List ℕ) → ReadsAs v kept None bytes → reading v bytes ≡ Ok kept
+only_kept v kept bytes (inl reads) = reads
+only_kept v kept bytes (inr (slip, both)) = absurd (let never : None ≡ Some slip = both.0 in cc)
+
+pub all_written : {D : Type 0} (v : Values) (ss : List Slip) (n : ℕ) (old new : JournalValue D)
+    (before after : DiskState) → IsNewJournal v old → EndsJoin (Ok n) v ss old new
+    → kept_slips new.plan new.count after ≡ kept_slips old.plan old.count before ++ take n (joined v ss)
+    → IsFileOf new.plan new.count new.doubtful after
+    → SaysAllOf v (joined v ss) after
+all_written v ss n old new before after is ends kept file =
+    let all : List Slip = joined v ss in
+    let whole : new.doubtful ≡ None = ends.1.3 ∙ is.whole in
+    let same : new.plan ≡ v = ends.1.1 ∙ is.plan in
+    let counted : n ≡ length all = ends.1.0 in
+    let are : kept_slips new.plan new.count after ≡ all =
+    kept ∙ ap (λ (l : List Slip). l ++ take n all) (none_kept v old before is)
+    ∙ take_all n all (omega (arith, counted)) in
+    let says : (bytes : List ℕ) → ReadsAs new.plan (kept_slips new.plan new.count after) new.doubtful bytes
+    → reading v bytes ≡ Ok all =
+    λ bytes reads. only_kept v all bytes
+    (subst (λ (o : Option Slip). ReadsAs v all o bytes) whole
+    (subst (λ (l : List Slip). ReadsAs v l new.doubtful bytes) are
+    (subst (λ (w : Values). ReadsAs w (kept_slips new.plan new.count after) new.doubtful bytes) same reads))) in
+    record {
+      bytes = says after.bytes file.bytes;
+      durable = λ image of. says image (file.images image of);
+    }
+
+-- why not all were
+pub filling_stops : {D : Type 0} (fault : JoinFault) (v : Values) (ss : List Slip) (old new : JournalValue D)
+    → AreGood v ss → IsNewJournal v old → EndsJoin (Err fault) v ss old new → StopsFilling (fault_of fault)
+filling_stops join.Memory v ss old new good is ends = tt
+filling_stops (join.BadSlip n) v ss old new good is ends = absurd (not_bad v ss n good ends.0)
+filling_stops join.OtherPlan v ss old new good is ends = absurd (ends.1 is.plan)
+filling_stops join.Broken v ss old new good is ends =
+    absurd (not_some (subst (λ (o : Option Slip). IsSome o) is.whole ends.1.1))
+filling_stops join.Disk v ss old new good is ends = tt
+
+-- ---- the journal is made, and filled
+
+new_study : (v : Values) (all : List Slip) (bytes : List ℕ) → IsNewStudy v bytes → SaysFirstOf v all bytes
+new_study v all bytes (inl none) = inl none
+new_study v all bytes (inr empty) = inr ([], (all, (refl, empty)))
+
+since_made : (v : Values) (all : List Slip) (old new : DiskState) → reading v old.bytes ≡ Err journal.NoStudy
+    → reading v new.bytes ≡ Ok [] → IsBegunFile v old new → Throughout (synced old) new (SaysFirstOf v all)
+since_made v all old new free empty (inl same) =
+    absurd (let both : Ok [] ≡ Err journal.NoStudy =
+    sym empty ∙ ap (λ (d : DiskState). reading v d.bytes) same ∙ free in cc)
+since_made v all old new free empty (inr moments) =
+    weaker (IsNewStudy v) (SaysFirstOf v all) (new_study v all) (synced old) new moments
+
+begun : (v : Values) (ss : List Slip) (old mid new : DiskState) → reading v old.bytes ≡ Err journal.NoStudy
+    → reading v mid.bytes ≡ Ok [] → IsBegunFile v old mid → IsPartWritten v ss mid new → IsBegun v ss old new
+begun v ss old mid new free empty made part = record {
+  free = free;
+  bytes = part.bytes;
+  moments = and_then (SaysFirstOf v (joined v ss)) (synced old) mid new
+      (since_made v (joined v ss) old mid free empty made) part.moments;
+}
+
+pub left_filled : {T : Type 0} (result : Result T CliFault) (v : Values) (ss : List Slip) (old mid new : DiskState)
+    → reading v old.bytes ≡ Err journal.NoStudy → reading v mid.bytes ≡ Ok [] → IsBegunFile v old mid
+    → IsPartWritten v ss mid new → OnOk result (SaysAllOf v (joined v ss) new) → IfErr result StopsFilling
+    → LeavesDisk result v ss old new
+left_filled (Ok done) v ss old mid new free empty made part all stops =
+    record { begun = begun v ss old mid new free empty made part; all = all }
+left_filled (Err Memory) v ss old mid new free empty made part all stops =
+    inr (begun v ss old mid new free empty made part)
+left_filled (Err (Migrate migration.Disk)) v ss old mid new free empty made part all stops =
+    begun v ss old mid new free empty made part
+left_filled (Err fault) v ss old mid new free empty made part all stops = absurd stops

@@ -1,0 +1,91 @@
+-- What a join of checkpoints writes for a plan, by what their disks hold, and what it leaves on the new one.
+use Rattle.std.specs.Prelude.{◌≡◌, ◌⊎◌, ◌↔◌, ◌++◌, ℕ, List, ◌∷◌, [], length, codes, Result, Ok, Err, ⊤}
+use Rattle.std.specs.Fmt.{decimal}
+use Rattle.cut_plan.specs.Cells.{trial_count}
+use Rattle.cut_plan.specs.Values.{Values}
+use Rattle.cut_disks.specs.State.{DiskState}
+use Rattle.cut_wires.specs.Log.{WireLog}
+use Rattle.cut_ledger.specs.declared.slip.Slip.{Slip}
+use Rattle.cut_ledger.specs.Slips.{AreGood, IsFirstBad}
+use Rattle.cut_journal.specs.declared.fault.JournalFault.TheVariants as journal
+use Rattle.cut_journal.specs.Opening.{IsOpeningFaultOf, MayNotMake}
+use Rattle.cut_status.specs.Status.{held_trials, part_text}
+use Rattle.cut_join.specs.Joined.{joined}
+use Rattle.cut_migration.specs.declared.fault.MigrateFault.TheVariants as migration
+use Rattle.cut_commands.specs.Run.{EndsCommand, GivesPlan}
+use Rattle.cut_commands.specs.Task.{Task}
+use Rattle.cut_commands.specs.declared.fault.CliFault.{CliFault}
+use Rattle.cut_commands.specs.declared.fault.CliFault.TheVariants.{Memory, Plan, Read, Journal, BadSlip, Migrate}
+use Rattle.cut_machines.specs.JoinSources.{HoldAll, StopsReading}
+use Rattle.cut_machines.specs.JoinTarget.{LeavesDisk, StopsWriting, writing_faults}
+
+-- the line that says how many slips were joined to how many, and how many trials of how many these hold
+unfoldable pub joined_text : Values → List Slip → List ℕ
+joined_text v slips =
+    codes "joined " ++ decimal (length slips) ++ codes " into " ++ decimal (length (joined v slips)) ++ codes ", "
+    ++ part_text (held_trials v slips) (trial_count v) ++ 10 ∷ []
+
+-- ---- over disks
+
+module _ {O N : Type 0} (old_honest : O → Type 0) (old_state : O → DiskState) (new_honest : N → Type 0)
+    (new_state : N → DiskState) (new_faults : N → ℕ) where
+  -- the old disks said these slips, with which a ledger of the plan can begin; and what is left on the new disk, by how
+  -- the writing of the joined ones ended
+  pub record HasWritten (result : Result ⊤ CliFault) (olds : List O) (new after : N) (v : Values)
+      (slips : List Slip) : Type 0 where
+    pub held : HoldAll old_honest old_state olds v slips
+    pub good : AreGood v slips
+    pub left : new_honest new → LeavesDisk result v slips (new_state new) (new_state after)
+    pub faults : new_faults after ≡ writing_faults result (new_faults new)
+
+  -- all were written, and these bytes say how many
+  abbrev pub JoinWrites : List O → N → N → Values → List ℕ → Type 0
+  JoinWrites olds new after v whole = (slips : List Slip)
+      × (HasWritten (Ok tt) olds new after v slips × (whole ≡ joined_text v slips))
+
+  -- why they were not: no slips were joined, and the new disk is as before; or not all were written
+  abbrev pub StopsJoin : List O → N → N → Values → CliFault → Type 0
+  StopsJoin olds new after v fault = (StopsReading old_honest old_state olds v fault × (after ≡ new))
+      ⊎ (StopsWriting fault × ((slips : List Slip) × HasWritten (Err fault) olds new after v slips))
+
+  abbrev pub join_task : List O → N → N → Task
+  join_task olds new after =
+      record { answers = JoinWrites olds new after; fails = StopsJoin olds new after }
+
+  -- what is left of the new disk at the other ends: it is as before where no plan was read; and where memory ran out,
+  -- unless a plan was read and its slips were joined
+  abbrev pub LeavesOther : List O → N → N → WireLog → WireLog → Result ⊤ CliFault → Type 0
+  LeavesOther olds new after old_log new_log (Err Read) = after ≡ new
+  LeavesOther olds new after old_log new_log (Err (Plan refusal)) = after ≡ new
+  LeavesOther olds new after old_log new_log (Err Memory) = (after ≡ new)
+      ⊎ ((v : Values) × (GivesPlan (Ok v) old_log new_log × StopsJoin olds new after v Memory))
+  LeavesOther olds new after old_log new_log result = ⊤
+
+  -- how it ends: as a command does, and what is left of the new disk
+  pub record EndsJoinCommand (olds : List O) (new after : N) (old_log new_log : WireLog)
+      (result : Result ⊤ CliFault) : Type 0 where
+    pub command : EndsCommand (join_task olds new after) old_log new_log result
+    pub other : LeavesOther olds new after old_log new_log result
+    pub honest : new_honest new ↔ new_honest after
+
+-- ---- over files, of which nothing is known
+
+-- why not all slips were joined
+abbrev pub StopsJoinOfFiles : Values → CliFault → Type 0
+StopsJoinOfFiles v Memory = ⊤
+StopsJoinOfFiles v (Journal fault) = IsOpeningFaultOf fault ⊎ MayNotMake fault
+StopsJoinOfFiles v (BadSlip number) = (slips : List Slip) × IsFirstBad v slips number
+StopsJoinOfFiles v (Migrate migration.Disk) = (slips : List Slip) × AreGood v slips
+StopsJoinOfFiles v fault = ⊥
+
+-- some slips were joined, with which a ledger of the plan can begin
+abbrev pub WritesJoinOfFiles : Values → List ℕ → Type 0
+WritesJoinOfFiles v whole = (slips : List Slip) × (AreGood v slips × (whole ≡ joined_text v slips))
+
+abbrev pub join_files_task : Task
+join_files_task = record { answers = WritesJoinOfFiles; fails = StopsJoinOfFiles }
+
+-- how it ends: where the new file does not open nothing is read or written
+abbrev pub EndsJoinOfFiles : WireLog → WireLog → Result ⊤ CliFault → Type 0
+EndsJoinOfFiles old new result =
+    ((result ≡ Err (Journal journal.Disk)) × (new ≡ old)) ⊎ EndsCommand join_files_task old new result

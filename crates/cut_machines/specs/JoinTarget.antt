@@ -1,0 +1,85 @@
+-- What a join leaves on the disk of the new checkpoint.
+use Rattle.std.specs.Prelude.{◌≡◌, ◌⊎◌, ◌++◌, ℕ, List, None, Result, Ok, Err, ⊤}
+use Rattle.cut_faults.specs.Failures.{one_more}
+use Rattle.cut_plan.specs.Values.{Values}
+use Rattle.cut_disks.specs.State.{DiskState, IsImage, Throughout, synced}
+use Rattle.cut_ledger.specs.declared.slip.Slip.{Slip}
+use Rattle.cut_journal.specs.declared.fault.JournalFault.TheVariants.{Disk, NoStudy}
+use Rattle.cut_journal.specs.Journal.{JournalValue}
+use Rattle.cut_journal.specs.Opening.{IsNotMade, MayNotMake}
+use Rattle.cut_journal.specs.Reading.{reading}
+use Rattle.cut_join.specs.Joined.{joined}
+use Rattle.cut_migration.specs.declared.fault.MigrateFault.TheVariants as migration
+use Rattle.cut_commands.specs.declared.fault.CliFault.{CliFault}
+use Rattle.cut_commands.specs.declared.fault.CliFault.TheVariants.{Memory, Journal, Migrate}
+
+-- bytes say no study, or some first ones of these slips
+abbrev pub SaysFirstOf : Values → List Slip → List ℕ → Type 0
+SaysFirstOf v slips bytes = (reading v bytes ≡ Err NoStudy)
+    ⊎ ((first : List Slip) × ((rest : List Slip) × ((slips ≡ first ++ rest) × (reading v bytes ≡ Ok first))))
+
+-- bytes say all of these slips, and so does whatever a crash leaves of them
+pub record SaysAllOf (v : Values) (slips : List Slip) (d : DiskState) : Type 0 where
+  pub bytes : reading v d.bytes ≡ Ok slips
+  pub durable : (image : List ℕ) → IsImage d.stable image → reading v image ≡ Ok slips
+
+-- where there was no study one was begun: the bytes, and whatever a crash leaves of them at each moment since the
+-- first sync, say none, or some first ones of the joined slips
+pub record IsBegun (v : Values) (slips : List Slip) (old new : DiskState) : Type 0 where
+  pub free : reading v old.bytes ≡ Err NoStudy
+  pub bytes : SaysFirstOf v (joined v slips) new.bytes
+  pub moments : Throughout (synced old) new (SaysFirstOf v (joined v slips))
+
+-- and all joined slips were written
+pub record IsFilled (v : Values) (slips : List Slip) (old new : DiskState) : Type 0 where
+  pub begun : IsBegun v slips old new
+  pub all : SaysAllOf v (joined v slips) new
+
+-- what is left on an honest disk where not all joined slips were written, by the fault: nothing was done, no journal
+-- was made, or some are there
+abbrev pub LeavesUnfilled : CliFault → Values → List Slip → DiskState → DiskState → Type 0
+LeavesUnfilled Memory v slips old new = (new ≡ old) ⊎ IsBegun v slips old new
+LeavesUnfilled (Journal fault) v slips old new = IsNotMade v fault old new
+LeavesUnfilled (Migrate migration.Disk) v slips old new = IsBegun v slips old new
+LeavesUnfilled fault v slips old new = ⊥
+
+-- and by how the writing ended: all are there, or not
+abbrev pub LeavesDisk : {T : Type 0} → Result T CliFault → Values → List Slip → DiskState → DiskState → Type 0
+LeavesDisk (Ok done) v slips old new = IsFilled v slips old new
+LeavesDisk (Err fault) v slips old new = LeavesUnfilled fault v slips old new
+
+-- why not all were written: memory ran out, no journal was made, or its disk failed
+abbrev pub StopsWriting : CliFault → Type 0
+StopsWriting Memory = ⊤
+StopsWriting (Journal fault) = MayNotMake fault
+StopsWriting (Migrate migration.Disk) = ⊤
+StopsWriting fault = ⊥
+
+-- how many calls of the disk failed after that
+abbrev pub failing_calls : CliFault → ℕ → ℕ
+failing_calls (Journal Disk) n = one_more n
+failing_calls (Migrate migration.Disk) n = one_more n
+failing_calls fault n = n
+
+abbrev pub writing_faults : {T : Type 0} → Result T CliFault → ℕ → ℕ
+writing_faults (Ok done) n = n
+writing_faults (Err fault) n = failing_calls fault n
+
+-- ---- inside
+
+-- a journal of a plan that has no slips yet
+pub record IsNewJournal {D : Type 0} (v : Values) (journal : JournalValue D) : Type 0 where
+  pub plan : journal.plan ≡ v
+  pub empty : journal.count ≡ 0
+  pub whole : journal.doubtful ≡ None
+
+-- what is left of its disk: some first ones of the joined slips were written
+pub record IsPartWritten (v : Values) (slips : List Slip) (old new : DiskState) : Type 0 where
+  pub bytes : SaysFirstOf v (joined v slips) new.bytes
+  pub moments : Throughout old new (SaysFirstOf v (joined v slips))
+
+-- why not all were: memory ran out, or the disk failed
+abbrev pub StopsFilling : CliFault → Type 0
+StopsFilling Memory = ⊤
+StopsFilling (Migrate migration.Disk) = ⊤
+StopsFilling fault = ⊥

@@ -1,0 +1,5 @@
+pub mod JoinSources
+pub mod JoinTarget
+pub mod JoinCommand
+pub mod Share
+pub mod Laws

@@ -1,0 +1,178 @@
+//! The command that joins checkpoints.
+
+ghost use Rattle.std.specs.Prelude.{◌≡◌, ◌↔◌, IfErr, IfOk, length, string_bytes};
+ghost use Rattle.cut_plan.specs.Plan.{IsPlan};
+ghost use Rattle.cut_ledger.specs.Slips.{AreGood};
+ghost use Rattle.cut_status.specs.Status.{held_trials};
+ghost use Rattle.cut_join.specs.Joined.{joined};
+ghost use Rattle.cut_join.specs.Laws.{JoinedAreTrue, JoinedGiveThePlansTable};
+ghost use Rattle.cut_machines.specs.JoinCommand.{EndsJoinCommand, EndsJoinOfFiles, JoinWrites, StopsJoinOfFiles};
+ghost use Rattle.cut_machines.specs.JoinCommand.{WritesJoinOfFiles};
+ghost use Rattle.cut_machines.specs.JoinCommand.{StopsJoin, joined_text};
+ghost use Rattle.cut_machines.specs.JoinTarget.{LeavesDisk, StopsWriting, writing_faults};
+
+use crate::join_sources::{judged_file_slips, judged_slips};
+use crate::join_target::{Written, write_joined};
+use cut_commands::{CliFault, read_plan, write_answer};
+use cut_disks::{Disk, FileDisk};
+use cut_join::laws::joined_slips_give_the_same_table;
+use cut_journal::JournalFault;
+use cut_ledger::Slip;
+use cut_plan::Plan;
+use cut_wires::Wire;
+use std::alloc::Global;
+
+/// The disk of a new checkpoint, and how the command that was to fill it ended.
+#[derive(Drop)]
+pub struct Joined<N> {
+    /// The disk, given back.
+    pub disk: N,
+    /// How the command ended.
+    pub ended: Result<(), CliFault>,
+}
+
+/// A disk, and the text that says what was written to it, or why not all was.
+#[derive(Drop)]
+struct Answered<N> {
+    disk: N,
+    text: Result<String, CliFault>,
+}
+
+/// Reads a plan from a wire, joins the slips of its study that several disks hold in a new checkpoint on another one,
+/// and writes how many slips there were, how many there are now, and how many trials of how many they hold.
+///
+/// The old disks are read in their order, and their slips are judged as one list, each by its number in that list,
+/// before anything is done to the new disk. Then a study is made there, which has to hold none, and gets one slip for
+/// each longest run of adjacent trials of a cell. A fault of an earlier step is reported before one of a later: Journal
+/// by an old disk, BadSlip, Journal by the new disk, and then Migrate, which is a disk that failed while slips were
+/// written. The old disks are only read. What is read from the wire and written to it, and each fault of it, is as in
+/// `run_io`.
+///
+/// The new disk is given back. A crash at any moment leaves no study there, or some first ones of the joined slips; a
+/// write of the answer that fails leaves all of them. Where the slips are true and no trial is in two of them, the
+/// joined ones are so too, and theirs is the table of the plan.
+pub fn join_io<W, O, N>(alloc: Global, wire: &mut W, old: Vec<O>, new: N) -> Joined<N>
+where
+    W: Wire,
+    O: Disk + Drop,
+    N: Disk + Drop,
+    ensures ends { EndsJoinCommand O.is_honest O.state N.is_honest N.state N.faults old.items new result.disk
+        (W.log wire.old) (W.log wire.new) result.ended }
+    ensures slips { JoinedAreTrue }
+    ensures table { JoinedGiveThePlansTable }
+{
+    joined_slips_give_the_same_table();
+    let plan = match read_plan(alloc, wire) {
+        Ok(plan) => plan,
+        Err(fault) => {
+            return Joined {
+                disk: new,
+                ended: Err(fault),
+            };
+        }
+    };
+    let Answered { disk, text } = join_disks(alloc, &plan, old, new);
+    let ended = match text {
+        Ok(text) => write_answer(wire, text.as_bytes()),
+        Err(fault) => Err(fault),
+    };
+    Joined { disk, ended }
+}
+
+/// Joins checkpoints as `join_io` does, those in the files at some paths, in a new one in the file at another.
+///
+/// The new file is opened by `host`, and locked, before anything is read: so an old path that names it too is reported
+/// as a disk that fails. Each old file is opened and locked when its turn comes, and closed after it is read: so there
+/// may be more of them than a process can have open. Of what they hold nothing is known.
+pub fn join_files<W: Wire>(
+    host: &HostRuntime,
+    wire: &mut W,
+    old: &[&str],
+    new: &str,
+) -> Result<(), CliFault>
+    ensures { EndsJoinOfFiles (W.log wire.old) (W.log wire.new) result }
+{
+    let Ok(disk) = FileDisk::open(host, new) else {
+        return Err(CliFault::Journal(JournalFault::Disk));
+    };
+    let plan = read_plan(host.alloc(), wire)?;
+    let text = join_file_slips(host, &plan, old, disk)?;
+    write_answer(wire, text.as_bytes())
+}
+
+/// Joins the slips of a plan's study in some files on a disk, and says how many there are.
+fn join_file_slips(
+    host: &HostRuntime,
+    plan: &Plan,
+    paths: &[&str],
+    disk: FileDisk,
+) -> Result<String, CliFault>
+    ensures text { IfOk result (λ text. WritesJoinOfFiles plan.now (string_bytes text)) }
+    ensures stops { IfErr result (StopsJoinOfFiles plan.now) }
+{
+    let slips = judged_file_slips(host, plan, paths)?;
+    join_slips(host.alloc(), plan, &slips, disk).text
+}
+
+/// Joins the slips of a plan's study on old disks on a new one, and says how many there are.
+fn join_disks<O, N>(alloc: Global, plan: &Plan, old: Vec<O>, new: N) -> Answered<N>
+where
+    O: Disk + Drop,
+    N: Disk + Drop,
+    ensures writes { IfOk result.text (λ text. JoinWrites O.is_honest O.state N.is_honest N.state N.faults
+        old.items new result.disk plan.now (string_bytes text)) }
+    ensures stops { IfErr result.text (StopsJoin O.is_honest O.state N.is_honest N.state N.faults
+        old.items new result.disk plan.now) }
+    ensures honest { N.is_honest new ↔ N.is_honest result.disk }
+{
+    match judged_slips(alloc, plan, old) {
+        Ok(slips) => join_slips(alloc, plan, &slips, new),
+        Err(fault) => Answered {
+            disk: new,
+            text: Err(fault),
+        },
+    }
+}
+
+/// Writes slips of a plan, joined, to a new checkpoint, and says how many there are.
+fn join_slips<N: Disk + Drop>(alloc: Global, plan: &Plan, slips: &[Slip], disk: N) -> Answered<N>
+    requires { AreGood plan.now slips.now }
+    ensures text { IfOk result.text (λ text. string_bytes text ≡ joined_text plan.now slips.now) }
+    ensures stops { IfErr result.text StopsWriting }
+    ensures left { N.is_honest disk →
+        LeavesDisk result.text plan.now slips.now (N.state disk) (N.state result.disk) }
+    ensures honest { N.is_honest disk ↔ N.is_honest result.disk }
+    ensures faults { N.faults result.disk ≡ writing_faults result.text (N.faults disk) }
+{
+    let Written { disk, count } = write_joined(alloc, plan, slips, disk);
+    let text = match count {
+        Ok(count) => joined_text(alloc, plan, slips, count),
+        Err(fault) => Err(fault),
+    };
+    Answered { disk, text }
+}
+
+/// The line that says how many slips were joined to how many, and how many trials of how many they hold.
+fn joined_text(alloc: Global, plan: &Plan, slips: &[Slip], count: u64) -> Result<String, CliFault>
+    requires good { AreGood plan.now slips.now }
+    requires count { count ≡ length (joined plan.now slips.now) }
+    ensures text { IfOk result (λ text. string_bytes text ≡ joined_text plan.now slips.now) }
+    ensures memory { IfErr result (λ e. e ≡ CliFault.Memory) }
+{
+    let trials = plan.trials();
+    let held = trials_held(plan, slips);
+    Ok(format!(in alloc; "joined {} into {count}, {held} of {trials}\n", slips.len())?)
+}
+
+/// How many trials of a plan slips hold, none of which is in two of them.
+fn trials_held(plan: &Plan, slips: &[Slip]) -> u32
+    requires plan { IsPlan plan.now }
+    requires good { AreGood plan.now slips.now }
+    ensures { result ≡ held_trials plan.now slips.now }
+{
+    let mut held = 0;
+    for slip in slips {
+        held += slip.piece.count;
+    }
+    held
+}

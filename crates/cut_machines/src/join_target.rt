@@ -1,0 +1,71 @@
+//! The new checkpoint of a join.
+
+ghost use Rattle.std.specs.Prelude.{◌≡◌, ◌↔◌, IfErr, IfOk, OnOk, length};
+ghost use Rattle.cut_ledger.specs.Slips.{AreGood};
+ghost use Rattle.cut_join.specs.Joined.{joined};
+ghost use Rattle.cut_machines.specs.JoinTarget.{IsNewJournal, IsPartWritten, LeavesDisk, SaysAllOf};
+ghost use Rattle.cut_machines.specs.JoinTarget.{StopsFilling, StopsWriting, writing_faults};
+
+use crate::join_sources::fault_of;
+use cut_commands::CliFault;
+use cut_disks::Disk;
+use cut_join::join;
+use cut_journal::Journal;
+use cut_ledger::Slip;
+use cut_plan::Plan;
+use std::alloc::Global;
+
+/// A disk to which joined slips were to be written, and how many there are, or why not all were written.
+#[derive(Drop)]
+pub(crate) struct Written<N> {
+    pub(crate) disk: N,
+    pub(crate) count: Result<u64, CliFault>,
+}
+
+/// Makes a journal of a plan on a disk that holds no study, and writes slips to it, joined.
+pub(crate) fn write_joined<N: Disk + Drop>(
+    alloc: Global,
+    plan: &Plan,
+    slips: &[Slip],
+    disk: N,
+) -> Written<N>
+    requires { AreGood plan.now slips.now }
+    ensures left { N.is_honest disk →
+        LeavesDisk result.count plan.now slips.now (N.state disk) (N.state result.disk) }
+    ensures count { IfOk result.count (λ n. n ≡ length (joined plan.now slips.now)) }
+    ensures stops { IfErr result.count StopsWriting }
+    ensures honest { N.is_honest disk ↔ N.is_honest result.disk }
+    ensures faults { N.faults result.disk ≡ writing_faults result.count (N.faults disk) }
+{
+    match Journal::create(alloc, disk, plan) {
+        Ok(journal) => fill(alloc, plan, slips, journal),
+        Err((fault, disk)) => Written {
+            disk,
+            count: Err(CliFault::from(fault)),
+        },
+    }
+}
+
+/// Writes slips, joined, to a journal of their plan that has none yet.
+fn fill<N: Disk>(alloc: Global, plan: &Plan, slips: &[Slip], journal: Journal<N>) -> Written<N>
+    requires good { AreGood plan.now slips.now }
+    requires new { IsNewJournal plan.now journal }
+    ensures part { N.is_honest journal.disk →
+        IsPartWritten plan.now slips.now (N.state journal.disk) (N.state result.disk) }
+    ensures all { N.is_honest journal.disk →
+        OnOk result.count (SaysAllOf plan.now (joined plan.now slips.now) (N.state result.disk)) }
+    ensures count { IfOk result.count (λ n. n ≡ length (joined plan.now slips.now)) }
+    ensures stops { IfErr result.count StopsFilling }
+    ensures honest { N.is_honest journal.disk ↔ N.is_honest result.disk }
+    ensures faults { N.faults result.disk ≡ writing_faults result.count (N.faults journal.disk) }
+{
+    let mut journal = journal;
+    let count = match join(alloc, plan, slips, &mut journal) {
+        Ok(count) => Ok(count),
+        Err(fault) => Err(fault_of(fault)),
+    };
+    Written {
+        disk: journal.into_disk(),
+        count,
+    }
+}

@@ -1,0 +1,207 @@
+//! Nodes beside a recount of the same alerts, and slots beside ones that were written by hand.
+
+use cut_detector::Rule;
+use cut_nodes::{Cause, Node, Nodes, Slot, Slots};
+use cut_rings::{Edge, Rings};
+use std::alloc::{AllocError, Global};
+use std::test::Fail;
+
+const PROCESSES: u16 = 6;
+
+const RINGS: u8 = 4;
+
+/// The processes in their order on each ring.
+const ORDERS: [[u16; 6]; 4] = [
+    [0, 1, 2, 3, 4, 5],
+    [3, 0, 5, 1, 4, 2],
+    [2, 4, 0, 1, 5, 3],
+    [5, 3, 1, 4, 2, 0],
+];
+
+macro_rules! alert {
+    ($subject:expr, $ring:expr) => {
+        Edge {
+            ring: $ring,
+            subject: $subject,
+        }
+    };
+}
+
+/// One process with all alerts, one with none, and others in between.
+const ALERTS: [Edge; 12] = [
+    alert!(0, 0),
+    alert!(0, 1),
+    alert!(0, 2),
+    alert!(0, 3),
+    alert!(1, 1),
+    alert!(1, 3),
+    alert!(2, 2),
+    alert!(4, 0),
+    alert!(4, 1),
+    alert!(4, 3),
+    alert!(5, 0),
+    alert!(5, 3),
+];
+
+fn rings(alloc: Global) -> Result<Rings, Fail> {
+    let [first, second, third, fourth] = ORDERS;
+    let lists = [
+        Vec::from_array(alloc, first)?,
+        Vec::from_array(alloc, second)?,
+        Vec::from_array(alloc, third)?,
+        Vec::from_array(alloc, fourth)?,
+    ];
+    Ok(Rings::from_lists(alloc, PROCESSES, &lists)?)
+}
+
+fn is_alerted(subject: u16, ring: u8) -> bool {
+    ALERTS
+        .iter()
+        .any(|edge| edge.subject == subject && edge.ring == ring)
+}
+
+fn is_reported(rule: Rule, subject: u16) -> bool {
+    (0..RINGS).filter(|ring| is_alerted(subject, *ring)).count() >= usize::from(rule.l)
+}
+
+/// The process before a subject in the order of a ring.
+fn observer(ring: u8, subject: u16) -> u16 {
+    let order = &ORDERS[usize::from(ring % RINGS)];
+    let mut before = order[5];
+    for process in order {
+        if *process == subject {
+            return before;
+        }
+        before = *process;
+    }
+    before
+}
+
+/// The observer that a reported process gains a ring by.
+fn gained(rule: Rule, ring: u8, subject: u16) -> Option<u16> {
+    let observer = observer(ring, subject);
+    if rule.implicit && is_reported(rule, observer) {
+        return Some(observer);
+    }
+    None
+}
+
+/// The rings that count for a process.
+fn full_rings(rule: Rule, subject: u16) -> usize {
+    let is_full = |ring: u8| {
+        is_alerted(subject, ring)
+            || (is_reported(rule, subject) && gained(rule, ring, subject).is_some())
+    };
+    (0..RINGS).filter(|ring| is_full(*ring)).count()
+}
+
+/// The number of the key that a slot names.
+fn number(blocks: &[u32], slot: Slot) -> Option<u32> {
+    let block = blocks.get(usize::from(slot.block))?;
+    Some(block.saturating_mul(8).saturating_add(u32::from(slot.key)))
+}
+
+/// Whether a slot is there where its ring is alerted, and is that of the ring's edge.
+fn is_slot(blocks: &[u32], slot: Option<Slot>, subject: u16, ring: u8) -> bool {
+    match slot {
+        Some(slot) => {
+            let wanted = u32::from(subject) * u32::from(RINGS) + u32::from(ring);
+            is_alerted(subject, ring) && number(blocks, slot) == Some(wanted)
+        }
+        None => !is_alerted(subject, ring),
+    }
+}
+
+/// Whether a cause is that of a ring.
+fn is_cause(nodes: &Nodes, cause: &Cause, rule: Rule, subject: u16, ring: u8) -> bool {
+    let observer = match cause.gained {
+        Some(place) => nodes.nodes.get(usize::from(place)).map(|node| node.subject),
+        None => None,
+    };
+    is_slot(nodes.blocks.as_slice(), cause.heard, subject, ring)
+        && observer == gained(rule, ring, subject)
+}
+
+/// Whether the slots and the causes of a node are those of its rings, in their order.
+fn is_node(nodes: &Nodes, node: &Node, rule: Rule) -> bool {
+    let subject = node.subject;
+    let mut heard = node.heard.iter();
+    let mut causes = node.causes.iter();
+    let mut gains = false;
+    for ring in 0..RINGS {
+        let is_gained = gained(rule, ring, subject).is_some();
+        gains = gains || is_gained;
+        if is_alerted(subject, ring) {
+            let slot = heard.next().copied();
+            if slot.is_none() || !is_slot(nodes.blocks.as_slice(), slot, subject, ring) {
+                return false;
+            }
+        }
+        if is_alerted(subject, ring) || is_gained {
+            match causes.next() {
+                Some(cause) if is_cause(nodes, cause, rule, subject, ring) => {}
+                _ => return false,
+            }
+        }
+    }
+    heard.next().is_none() && causes.next().is_none() && node.gains == gains
+}
+
+/// Whether nodes are those of a recount by a rule.
+fn are_recounted(nodes: &Nodes, rule: Rule) -> bool {
+    let mut left = nodes.nodes.iter();
+    for subject in 0..PROCESSES {
+        if !is_reported(rule, subject) {
+            continue;
+        }
+        match left.next() {
+            Some(node) if node.subject == subject && is_node(nodes, node, rule) => {}
+            _ => return false,
+        }
+    }
+    let ends_stable = (0..PROCESSES).any(|subject| full_rings(rule, subject)
+        >= usize::from(rule.h));
+    left.next().is_none() && nodes.ends_stable == ends_stable
+}
+
+#[test]
+fn nodes_are_recounted_by_each_rule(rt: HostRuntime) -> Result<(), Fail> {
+    let alloc = rt.alloc();
+    let rings = rings(alloc)?;
+    assert!(rt; rings.len() == RINGS && rings.nodes() == PROCESSES);
+    for h in 1..RINGS + 1 {
+        for l in 1..h + 1 {
+            for implicit in [false, true] {
+                let rule = Rule {
+                    k: RINGS,
+                    h,
+                    l,
+                    implicit,
+                };
+                let nodes = Nodes::of(alloc, &rings, rule, &ALERTS)?;
+                assert!(rt; are_recounted(&nodes, rule), "{h} {l} {implicit}");
+            }
+        }
+    }
+    Ok(())
+}
+
+#[test]
+fn slots_of_edges_in_any_order(rt: HostRuntime) -> Result<(), Fail> {
+    let edges = [
+        alert!(0, 0),
+        alert!(2, 1),
+        alert!(2, 2),
+        alert!(7, 2),
+        alert!(0, 0),
+    ];
+    let found = Slots::of(rt.alloc(), 3, &edges)?;
+    let wanted = [(0, 0), (0, 7), (1, 0), (2, 7), (3, 0)];
+    assert!(rt;
+        found.blocks.as_slice() == [0, 1, 2, 0].as_slice() && found.slots.len() == wanted.len()
+    );
+    for (slot, (block, key)) in found.slots.iter().zip(wanted) {
+        assert!(rt; slot.block == block && slot.key == key);
+    }
+    Ok(())
+}

@@ -1,0 +1,24 @@
+#!/bin/bash
+# Runs a study in shares by GNU parallel, on this machine or by ssh on others that see the same folder, and prints its table:
+#
+#     examples/many_machines.sh plan.json 8 > table.csv
+#     examples/many_machines.sh plan.json 8 --sshlogin one,two --workdir "$PWD" > table.csv
+#
+# The words after the number of shares are parallel's. Given again after it was stopped, it goes on from what the files hold.
+# What no machine ran is run here.
+set -euo pipefail
+
+plan=$1
+shares=$2
+shift 2
+seq "$shares" | parallel "$@" "cutlab share {}/$shares share{}.cut < $plan" >&2 || true
+files=()
+for number in $(seq "$shares"); do
+  if cutlab status "share$number.cut" > /dev/null 2>&1; then
+    files+=("share$number.cut")
+  fi
+done
+if [ ! -s study.cut ] && [ ${#files[@]} -gt 0 ]; then
+  cutlab join study.cut "${files[@]}" < "$plan" >&2
+fi
+cutlab run --checkpoint study.cut < "$plan"
