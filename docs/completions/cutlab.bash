@@ -17,7 +17,8 @@ _cutlab() {
     check | explain | canonical) mapfile -t COMPREPLY < <(compgen -W "--help" -- "$current") ;;
     serve) mapfile -t COMPREPLY < <(compgen -f -W "--workers --sessions --studies --dir --help" -- "$current") ;;
     share) mapfile -t COMPREPLY < <(compgen -f -W "--piece --workers --progress --help" -- "$current") ;;
-    status | ask | migrate | join) mapfile -t COMPREPLY < <(compgen -f -W "--help" -- "$current") ;;
+    join) mapfile -t COMPREPLY < <(compgen -f -W "--which --help" -- "$current") ;;
+    status | ask | migrate) mapfile -t COMPREPLY < <(compgen -f -W "--help" -- "$current") ;;
     help) mapfile -t COMPREPLY < <(compgen -W "run check explain canonical status serve ask migrate share join" -- "$current") ;;
   esac
 }

@@ -33,7 +33,7 @@ verb_of (Serve socket workers sessions studies folder) = to_serve
 verb_of (Ask socket) = to_ask
 verb_of (Migrate from to) = to_migrate
 verb_of (Share index shares file piece workers progress) = to_share
-verb_of (Join to from) = to_join
+verb_of (Join to from which) = to_join
 
 -- the command of a name
 abbrev pub verb_in : Text → Verb
@@ -59,7 +59,7 @@ named (Serve socket workers sessions studies folder) = refl
 named (Ask socket) = refl
 named (Migrate from to) = refl
 named (Share index shares file piece workers progress) = refl
-named (Join to from) = refl
+named (Join to from which) = refl
 
 -- a job that has the name of a command is of that command
 pub is_of : (job : Job) (name : Text) → command_of job ≡ name → verb_of job ≡ verb_in name
@@ -95,7 +95,7 @@ values_of rows (Ask socket) gives = (socket.now, gives)
 values_of rows (Migrate from to) gives = ((from.now, gives.0), (to.now, gives.1))
 values_of rows (Share index shares file piece workers progress) gives =
     ((index, (shares, gives.0)), (file.now, gives.1), (piece, gives.2), (workers, gives.3))
-values_of rows (Join to from) gives = ((to.now, gives.0), (map (λ s. s.now) from.items, gives.1))
+values_of rows (Join to from which) gives = ((to.now, gives.0), (map (λ s. s.now) from.items, gives.1))
 
 -- a job that has the name of a command has what is given with it
 pub values : (rows : List Row) (job : Job) (name : Text) → command_of job ≡ name → GivesValues rows job

@@ -76,6 +76,10 @@ files_rule = record (new_rule (codes "old")) {
   required = true;
 }
 
+-- the flag `--which`
+abbrev pub which_rule : Rule
+which_rule = record (new_rule (codes "which")) { long = Some (codes "which"); action = Some SetTrue }
+
 -- the subcommands
 abbrev pub run_app : App
 run_app =
@@ -112,7 +116,8 @@ share_app =
     (file_rule (codes "file"))) piece_rule) workers_rule) progress_rule
 
 abbrev pub join_app : App
-join_app = with_rule (with_rule (new_app (codes "join")) (file_rule (codes "new"))) files_rule
+join_app =
+    with_rule (with_rule (with_rule (new_app (codes "join")) (file_rule (codes "new"))) files_rule) which_rule
 
 -- the program as clap sees it: it has a version, needs one of its subcommands, and without a word it shows its help
 unfoldable pub program_app : App
@@ -194,7 +199,7 @@ command_of (Serve socket workers sessions studies folder) = codes "serve"
 command_of (Ask socket) = codes "ask"
 command_of (Migrate from to) = codes "migrate"
 command_of (Share index shares file piece workers progress) = codes "share"
-command_of (Join to from) = codes "join"
+command_of (Join to from which) = codes "join"
 
 -- the values of a job, by the matches of its subcommand
 abbrev pub GivesValues : List Row → Job → Type 0
@@ -214,8 +219,9 @@ GivesValues rows (Migrate from to) = GivesFile (codes "old") rows from.now × Gi
 GivesValues rows (Share index shares file piece workers progress) =
     GivesShare rows index shares × GivesFile (codes "file") rows file.now × GivesPiece rows piece
     × GivesWorkers rows workers × GivesFlag (codes "progress") rows progress
-GivesValues rows (Join to from) =
+GivesValues rows (Join to from which) =
     GivesFile (codes "new") rows to.now × (all_of (codes "old") rows ≡ Some (map (λ s. s.now) from.items))
+    × GivesFlag (codes "which") rows which
 
 -- the job of a subcommand, by its name and its matches
 abbrev pub IsJobOf : Option (Text × List Row) → Job → Type 0
@@ -268,4 +274,4 @@ IsSizedJob (Migrate from to) = ⊤
 IsSizedJob (Share index shares file piece workers progress) =
     (1 ≤ index) × (index ≤ shares) × (shares ≤ 100000) × (1 ≤ piece) × (piece ≤ 1000000) × (1 ≤ workers)
     × (workers ≤ 64)
-IsSizedJob (Join to from) = ⊤
+IsSizedJob (Join to from which) = ⊤

@@ -119,6 +119,8 @@ pub enum Job<'a> {
         new: &'a str,
         /// The files that are joined, which are only read.
         old: Vec<&'a str>,
+        /// Whether a line on standard error says which of them is refused, if one is.
+        which: bool,
     },
 }
 

@@ -2,7 +2,7 @@
 
 ghost use Rattle.std.specs.Prelude.{◌≡◌, ℕ, codes, false, IfOk, IfSome, IfNone};
 ghost use Rattle.clap.specs.Words.{app_of, found_of, rows_of, rule_of, with_subcommand};
-ghost use Rattle.cut_command_line.specs.Line.{files_rule, join_app, share_app, share_rule};
+ghost use Rattle.cut_command_line.specs.Line.{files_rule, join_app, share_app, share_rule, which_rule};
 ghost use Rattle.cut_command_line.specs.Line.{GivesJob, GivesShare, IsNumberIn, IsSizedJob};
 
 use crate::Job;
@@ -10,7 +10,7 @@ use crate::line::{
     PIECE_MOST, WORKERS_MOST, file_word, flag_given, number_given, piece_option, progress_option,
     workers_option,
 };
-use clap::{Arg, ArgMatches, Command};
+use clap::{Arg, ArgAction, ArgMatches, Command};
 use std::alloc::{AllocError, Global};
 
 /// How many shares there are at most.
@@ -70,7 +70,11 @@ pub(crate) fn join_job<'a>(
         return Ok(None);
     };
     let old = Vec::from_slice(alloc, old)?;
-    Ok(Some(Job::Join { new, old }))
+    Ok(Some(Job::Join {
+        new,
+        old,
+        which: flag_given(given, "which"),
+    }))
 }
 
 /// The number of the share that the matches give, and how many there are.
@@ -136,7 +140,8 @@ pub(crate) fn add_join<'a>(alloc: Global, program: Command<'a>) -> Result<Comman
             "NEW",
             "The file of the new checkpoint, which holds no study",
         ))?
-        .arg(files_word(alloc))?;
+        .arg(files_word(alloc))?
+        .arg(which_option(alloc))?;
     program.subcommand(join)
 }
 
@@ -161,4 +166,15 @@ fn files_word<'a>(alloc: Global) -> Arg<'a>
         .value_name("OLD")
         .required(true)
         .help("The checkpoints that are joined, at most 1000, which are only read")
+}
+
+/// The flag that asks for the name of the old file that is refused.
+fn which_option<'a>(alloc: Global) -> Arg<'a>
+    ensures rule { rule_of result ≡ which_rule }
+    ensures local { result.global ≡ false }
+{
+    Arg::new(alloc, "which")
+        .long("which")
+        .action(ArgAction::SetTrue)
+        .help("Say which of the old files is refused, on standard error")
 }

@@ -109,7 +109,7 @@ fn jobs_of_many_machines_are_named(rt: HostRuntime) -> Result<(), Fail> {
         workers,
         progress,
     };
-    let rows: [(&[&str], Job); 4] = [
+    let rows: [(&[&str], Job); 5] = [
         (
             &["cutlab", "share", "1/1", "a.cut"],
             share(1, 1, 16, 1, false),
@@ -135,6 +135,15 @@ fn jobs_of_many_machines_are_named(rt: HostRuntime) -> Result<(), Fail> {
             Job::Join {
                 new: "new.cut",
                 old: Vec::from_slice(rt.alloc(), &["a.cut", "b.cut"])?,
+                which: false,
+            },
+        ),
+        (
+            &["cutlab", "join", "--which", "new.cut", "a.cut"],
+            Job::Join {
+                new: "new.cut",
+                old: Vec::from_slice(rt.alloc(), &["a.cut"])?,
+                which: true,
             },
         ),
     ];

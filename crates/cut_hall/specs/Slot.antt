@@ -125,6 +125,12 @@ AnswersLine (Err line.WorkMemory) o cell (Some b) =
 AnswersLine (Err line.Stopped) o cell (Some b) =
     IsOpenedAs o b × (cell_done b.state.ledger cell ≡ false → SaysWhyUndone line.Stopped b.state)
 
+-- whether a slot can give the line of a cell of an opened study, by its book, as it would then answer
+abbrev pub CanGive : {D : Type 0} → Result Bool LineFault → Opened → ℕ → Option (BookValue D) → Type 0
+CanGive (Ok true) o cell book = AnswersLine {T = ⊤} (Ok (Some tt)) o cell book
+CanGive (Ok false) o cell book = AnswersLine {T = ⊤} (Ok None) o cell book
+CanGive (Err fault) o cell book = AnswersLine {T = ⊤} (Err fault) o cell book
+
 -- how a slot answers who asks once more for a line that was given, by its book: there is none, or another one;
 -- or the cell is done, and there is the line; or it was not given yet; or memory ran out
 abbrev pub AnswersAgain : {T D : Type 0} → Result (Option T) LineFault → Opened → ℕ → Option (BookValue D)

@@ -10,8 +10,10 @@ ghost use Rattle.cut_hall.specs.Trust.{MayBegin, IsSettledBy-prop, begun_props};
 ghost use Rattle.cut_hall.specs.Slot.{calls_in, IsBegunStudy, base_of, kept_of, unkept_of, Matches, TakesResult};
 ghost use Rattle.cut_hall.specs.Slot.{TakesLoss, GivesLine, calls_of, losses_of, lines_of};
 ghost use Rattle.cut_book.specs.Book.{IsFresh};
+ghost use Rattle.cut_ledger.specs.Slips.{AreGood};
+ghost use Rattle.cut_ledger.specs.World.{AreTrue};
 ghost use Rattle.cut_hall.specs.Slot.{IsOpenedAs, SaysWhyUndone, AnswersLine, AnswersAgain, IsNotDone, is_pending};
-ghost use Rattle.cut_hall.specs.Slot.{remembered_after, piece_at, HasDone, HasPlan};
+ghost use Rattle.cut_hall.specs.Slot.{CanGive, remembered_after, piece_at, HasDone, HasPlan};
 
 use crate::accounts::Accounts;
 use crate::{CallLedger, LineFault, SlotReport};
@@ -52,6 +54,14 @@ pub(crate) struct Asked<'a> {
     pub(crate) opened: &'a Opened,
     pub(crate) cell: u32,
     ghost is_cell: { cell < length (cells_of opened.now.plan) },
+}
+
+/// A study that was opened, with its book, and with which of its lines were given.
+#[derive(Drop)]
+struct BegunStudy<D: Disk> {
+    opened: Opened,
+    book: Book<D>,
+    given: Vec<bool>,
 }
 
 /// A place for the book of one study in a hall, with how many calls it had, and which of its lines were given.
@@ -186,23 +196,17 @@ impl<D: Disk + Drop, K: CallLedger> Slot<D, K> {
         ensures made { made.new.amount ≡ made.old.amount + lines_of result }
         ensures parts { made.new.parts ≡ 1 }
     {
+        if !self.can_give(rt, accounts, asked)? {
+            return Ok(None);
+        }
+        let cell = asked.cell;
         let Slot {
             book,
             kept,
-            stopped,
             given,
+            ..
         } = self;
-        let Asked { opened, cell } = asked;
-        let Some(book) = book else {
-            return Err(LineFault::AuditMismatch);
-        };
-        if !is_opened_as(book, opened) {
-            return Err(LineFault::AuditMismatch);
-        }
-        if !book.ledger().cell_done(cell) {
-            may_still_come(book, *stopped || accounts.lock(rt).is_full())?;
-            return Ok(None);
-        }
+        let Some(book) = book else { unreachable!() };
         if accounts.lock(rt).enter(made, kept).is_err() {
             return Err(LineFault::Stopped);
         }
@@ -216,6 +220,30 @@ impl<D: Disk + Drop, K: CallLedger> Slot<D, K> {
                 Err(LineFault::WorkMemory)
             }
         }
+    }
+
+    /// Whether the line that is asked for can be given now; not while it can still come.
+    fn can_give<M: CallLedger, R: Wait>(
+        &self,
+        rt: &R,
+        accounts: &Mutex<Accounts<M, K>>,
+        asked: Asked<'_>,
+    ) -> Result<bool, LineFault>
+        ensures answers { CanGive result asked.entry.opened.now asked.entry.cell self.now.book }
+        ensures waits { IfOk result (λ is_done. is_done ≡ false → self.now.stopped ≡ false) }
+    {
+        let Asked { opened, cell } = asked;
+        let Some(book) = &self.book else {
+            return Err(LineFault::AuditMismatch);
+        };
+        if !is_opened_as(book, opened) {
+            return Err(LineFault::AuditMismatch);
+        }
+        if book.ledger().cell_done(cell) {
+            return Ok(true);
+        }
+        may_still_come(book, self.stopped || accounts.lock(rt).is_full())?;
+        Ok(false)
     }
 
     /// Whether the line of a cell is still to come: the cell is not done, the book is whole, no piece is lost, and
@@ -291,17 +319,15 @@ impl<D: Disk + Drop, K: CallLedger> Slot<D, K> {
         ensures stays { self.new.stopped ≡ self.old.stopped }
         ensures err { OnErr result (self.new ≡ self.old) }
     {
-        let copy = plan.try_clone(alloc)?;
-        let given = vec![in alloc; false; plan.cells() as usize]?;
-        let book = open_book(alloc, plan, shelf, piece_size)?;
-        let base = book.ledger().base().try_clone(alloc)?;
+        let begun = open_study(alloc, study, plan, shelf, piece_size)?;
+        let BegunStudy {
+            opened,
+            book,
+            given,
+        } = begun;
         self.book = Some(book);
         self.given = given;
-        Ok(Opened {
-            study,
-            plan: copy,
-            base,
-        })
+        Ok(opened)
     }
 
     /// What was opened in the slot, which has the book of this plan.
@@ -389,6 +415,39 @@ impl<D: Disk + Drop, K: CallLedger> Slot<D, K> {
             None => None,
         }
     }
+}
+
+/// Opens the book of a plan's study, whose disk comes from the shelf, with what is remembered of its lines: none was
+/// given yet.
+fn open_study<D: Disk + Drop, S: Shelf<D>>(
+    alloc: Global,
+    study: u32,
+    plan: Plan,
+    shelf: &S,
+    piece_size: u32,
+) -> Result<BegunStudy<D>, SubmitFault>
+    requires { 1 ≤ piece_size }
+    ensures opened { IfOk result (λ r. (r.opened.study ≡ study) × (r.opened.plan ≡ plan)) }
+    ensures fresh { IfOk result (λ r. IsFresh plan piece_size r.book) }
+    ensures base { IfOk result (λ r. r.book.state.ledger.base ≡ r.opened.base) }
+    ensures good { IfOk result (λ r. AreGood plan r.opened.base) }
+    ensures trusted { S.is_true shelf.now ≡ true → IfOk result (λ r. AreTrue plan r.opened.base) }
+    ensures none_given { IfOk result (λ r. r.given.items ≡ replicate (length (cells_of plan)) false) }
+{
+    let copy = plan.try_clone(alloc)?;
+    let given = vec![in alloc; false; plan.cells() as usize]?;
+    let book = open_book(alloc, plan, shelf, piece_size)?;
+    let base = book.ledger().base().try_clone(alloc)?;
+    let opened = Opened {
+        study,
+        plan: copy,
+        base,
+    };
+    Ok(BegunStudy {
+        opened,
+        book,
+        given,
+    })
 }
 
 /// Hands a result to a book, which keeps what it began with.

@@ -3,7 +3,6 @@ mod raw_files;
 use cut_disks::{Disk, DiskCall, DiskFault, FaultyDisk, FileDisk, MemoryDisk, Tear};
 use std::alloc::{AllocError, Global};
 use std::fs;
-use std::process::Abort;
 use std::test::Fail;
 
 // A disk in memory of four bytes.
@@ -98,28 +97,29 @@ fn fails_once(disk: &mut FaultyDisk, left: &[u8], last: Result<&[u8], u64>) -> b
 // Which call fails, how it is torn, the bytes that are left, and the last call.
 type Row<'a> = (u64, Tear, &'a [u8], Result<&'a [u8], u64>);
 
-// Asserts that of each row.
-fn check_failures(rt: &impl Abort, alloc: Global, rows: &[Row<'_>]) -> Result<(), Fail> {
-    for (fail_at, tear, left, last) in rows {
-        let mut disk = faulty(alloc, *fail_at, *tear)?;
-        assert!(rt; fails_once(&mut disk, left, *last), "{fail_at} {tear:?}");
-    }
-    Ok(())
+// Disks of which each call fails in turn.
+const FAILURES: [Row<'static>; 8] = [
+    (1, Tear::Nothing, b"abcd", Err(2)),
+    (2, Tear::Nothing, b"XYcd", Ok(b"XY")),
+    (3, Tear::Nothing, b"XYcd", Err(1)),
+    (4, Tear::Nothing, b"ZYcd", Ok(b"Z")),
+    (1, Tear::Everything, b"XYcd", Ok(b"XY")),
+    (2, Tear::Everything, b"XYcd", Ok(b"XY")),
+    (3, Tear::Everything, b"ZYcd", Ok(b"Z")),
+    (4, Tear::Everything, b"ZYcd", Ok(b"Z")),
+];
+
+// Whether a disk fails as a row says.
+fn is_failure(alloc: Global, (fail_at, tear, left, last): Row<'_>) -> Result<bool, AllocError> {
+    Ok(fails_once(&mut faulty(alloc, fail_at, tear)?, left, last))
 }
 
 #[test]
 fn a_disk_fails_once(rt: HostRuntime) -> Result<(), Fail> {
-    let rows: [Row<'_>; 8] = [
-        (1, Tear::Nothing, b"abcd", Err(2)),
-        (2, Tear::Nothing, b"XYcd", Ok(b"XY")),
-        (3, Tear::Nothing, b"XYcd", Err(1)),
-        (4, Tear::Nothing, b"ZYcd", Ok(b"Z")),
-        (1, Tear::Everything, b"XYcd", Ok(b"XY")),
-        (2, Tear::Everything, b"XYcd", Ok(b"XY")),
-        (3, Tear::Everything, b"ZYcd", Ok(b"Z")),
-        (4, Tear::Everything, b"ZYcd", Ok(b"Z")),
-    ];
-    check_failures(&rt, rt.alloc(), &rows)
+    for row in FAILURES {
+        assert!(rt; is_failure(rt.alloc(), row)?);
+    }
+    Ok(())
 }
 
 // Whether the second look at the length fails after a disk is armed, and no other read does.
@@ -141,56 +141,51 @@ const FOLDER: &str = "cut_disks_test";
 
 const FILE: &str = "cut_disks_test/file";
 
-// Writes that stand one over the other, and those that are refused.
-fn check_writes(rt: &impl Abort, disk: &mut FileDisk) -> Result<(), Fail> {
-    assert!(rt; disk.length() == Ok(0));
+// Writes of which the second stands over the end of the first.
+fn write_over(disk: &mut FileDisk) -> Result<(), DiskFault> {
     disk.write_at(0, b"abcd")?;
     disk.write_at(2, b"xyz")?;
-    disk.sync()?;
-    assert!(rt; disk.write_at(u64::MAX, b"abc") == Err(DiskFault));
-    assert!(rt; disk.write_at((1 << 63) - 2, b"ab") == Err(DiskFault));
-    Ok(())
+    disk.sync()
 }
 
-// A read within the file, and one past its end.
-fn check_reads(rt: &impl Abort, disk: &mut FileDisk) -> Result<(), Fail> {
+// Whether writes past the largest file are refused.
+fn are_refused(disk: &mut FileDisk) -> bool {
+    let last = disk.write_at(u64::MAX, b"abc").is_err();
+    last && disk.write_at((1 << 63) - 2, b"ab").is_err()
+}
+
+// Whether a read within the file gives its bytes, and one past its end is refused.
+fn are_read(disk: &mut FileDisk) -> bool {
     let mut found = [0; 3];
-    disk.read(1, &mut found)?;
-    assert!(rt; found == *b"bxy");
-    assert!(rt; disk.read(3, &mut found) == Err(DiskFault));
-    assert!(rt; disk.failures() == 3);
-    assert!(rt; disk.length() == Ok(5));
-    Ok(())
+    let is_read = disk.read(1, &mut found) == Ok(()) && found == *b"bxy";
+    let is_refused = disk.read(3, &mut found).is_err() && disk.failures() == 3;
+    is_read && is_refused && disk.length() == Ok(5)
 }
 
-// A new file, which no other disk may have while this one does.
-fn check_new_file(rt: &impl Abort, host: &HostRuntime, disk: &mut FileDisk) -> Result<(), Fail> {
-    check_writes(rt, disk)?;
-    check_reads(rt, disk)?;
-    assert!(rt; FileDisk::open(host, FILE).is_err());
-    assert!(rt; fs::read(host, FILE)?.as_slice() == b"abxyz".as_slice());
-    Ok(())
-}
-
-fn check_file(rt: &impl Abort, host: &HostRuntime) -> Result<(), Fail> {
-    let _ = fs::remove_dir_all(host, FOLDER);
-    assert!(rt; FileDisk::open(host, FILE).is_err());
-    fs::create_dir(host, FOLDER)?;
-    check_new_file(rt, host, &mut FileDisk::open(host, FILE)?)?;
-    assert!(rt; FileDisk::open(host, FILE)?.length() == Ok(5));
-    // A folder is no file.
-    assert!(rt; FileDisk::open(host, FOLDER).is_err());
-    Ok(fs::remove_dir_all(host, FOLDER)?)
+// Whether a new file has what was written, and no other disk has it while this one does.
+fn is_new_file(host: &HostRuntime, disk: &mut FileDisk) -> Result<bool, Fail> {
+    write_over(disk)?;
+    let is_changed = are_refused(disk) && are_read(disk);
+    let is_held = FileDisk::open(host, FILE).is_err();
+    Ok(is_changed && is_held && fs::read(host, FILE)?.as_slice() == b"abxyz".as_slice())
 }
 
 #[test]
 fn a_file(rt: HostRuntime) -> Result<(), Fail> {
-    check_file(&rt, &rt)
+    let _ = fs::remove_dir_all(&rt, FOLDER);
+    assert!(rt; FileDisk::open(&rt, FILE).is_err());
+    fs::create_dir(&rt, FOLDER)?;
+    assert!(rt; FileDisk::open(&rt, FILE)?.length() == Ok(0));
+    assert!(rt; is_new_file(&rt, &mut FileDisk::open(&rt, FILE)?)?);
+    assert!(rt; FileDisk::open(&rt, FILE)?.length() == Ok(5));
+    // A folder is no file.
+    assert!(rt; FileDisk::open(&rt, FOLDER).is_err());
+    fs::remove_dir_all(&rt, FOLDER)?;
+    Ok(())
 }
 
 #[test]
 fn faults_are_printed(rt: HostRuntime) -> Result<(), Fail> {
-    let text = format!(in rt.alloc(); "{DiskFault}")?;
-    assert!(rt; text.as_str() == "a call of the disk failed");
+    assert!(rt; DiskFault.to_string(rt.alloc())?.as_str() == "a call of the disk failed");
     Ok(())
 }

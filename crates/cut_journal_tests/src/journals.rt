@@ -3,11 +3,10 @@
 use cut_disks::{DiskCall, MemoryDisk};
 use cut_journal::{Journal, JournalFault};
 use cut_ledger::Slip;
-use cut_plan::{Plan, Version};
+use cut_plan::{Plan, PlanFault, Version};
 use cut_rings::Rings;
-use cut_trial::{Piece, PieceResult, run_piece};
+use cut_trial::{Piece, PieceResult, Totals, run_piece};
 use std::alloc::{AllocError, Global};
-use std::process::Abort;
 use std::test::Fail;
 
 mod failing;
@@ -28,12 +27,23 @@ fn under(alloc: Global, block: &str, name: &str) -> Result<String, AllocError> {
     Ok(text)
 }
 
+// The value of a hexadecimal digit.
+fn digit(byte: u8) -> u8 {
+    (byte as char).to_digit(16).unwrap_or(0) as u8
+}
+
+// The byte of two digits.
+fn byte_of(pair: &[u8]) -> u8 {
+    match pair {
+        [high, low] => digit(*high).wrapping_mul(16).wrapping_add(digit(*low)),
+        _ => 0,
+    }
+}
+
 fn from_hex(alloc: Global, digits: &str) -> Result<Vec<u8>, AllocError> {
     let mut bytes = Vec::new(alloc);
     for pair in digits.as_bytes().chunks_exact(2) {
-        let high = (pair[0] as char).to_digit(16).unwrap_or(0) as u8;
-        let low = (pair[1] as char).to_digit(16).unwrap_or(0) as u8;
-        bytes.push(high.wrapping_mul(16).wrapping_add(low))?;
+        bytes.push(byte_of(pair))?;
     }
     Ok(bytes)
 }
@@ -42,18 +52,41 @@ fn number(text: &str) -> u32 {
     text.parse().unwrap_or(0)
 }
 
+// The numbers of a slip.
+fn numbers_of(slip: &Slip) -> [u64; 10] {
+    let Totals {
+        receivers,
+        conflicts,
+        silent,
+        extra,
+        votes,
+        decided,
+        right,
+        settled,
+    } = slip.totals;
+    [
+        u64::from(slip.piece.first),
+        u64::from(slip.piece.count),
+        receivers,
+        conflicts,
+        silent,
+        extra,
+        votes,
+        decided,
+        right,
+        settled,
+    ]
+}
+
 // The numbers of a slip, nine, and in version 2 the tenth too.
 fn slip_text(alloc: Global, version: Version, slip: &Slip) -> Result<String, AllocError> {
-    let Slip {
-        piece: Piece { first, count },
-        totals: t,
-    } = *slip;
-    let mut text = format!(in alloc;
-        "{first},{count},{},{},{},{},{},{},{}",
-        t.receivers, t.conflicts, t.silent, t.extra, t.votes, t.decided, t.right
-    )?;
-    if version == Version::Two {
-        text.push_str(format!(in alloc; ",{}", t.settled)?.as_str())?;
+    let count = if version == Version::Two { 10 } else { 9 };
+    let mut text = String::new(alloc);
+    for number in numbers_of(slip).iter().take(count) {
+        if !text.is_empty() {
+            text.push_str(",")?;
+        }
+        text.push_str(&number.to_string(alloc)?)?;
     }
     Ok(text)
 }
@@ -83,66 +116,74 @@ fn reading_of(alloc: Global, bytes: &[u8], plan: &Plan) -> Result<String, AllocE
 
 // The bytes whose hexadecimal digits a block gives under a name.
 fn bytes_under(alloc: Global, block: &str, name: &str) -> Result<Vec<u8>, AllocError> {
-    let digits = under(alloc, block, name)?;
-    from_hex(alloc, digits.as_str())
+    from_hex(alloc, &under(alloc, block, name)?)
+}
+
+// Puts a byte in place of another, if there is one.
+pub(crate) fn put(bytes: &mut [u8], at: usize, byte: u8) {
+    if let Some(place) = bytes.get_mut(at) {
+        *place = byte;
+    }
 }
 
 // Puts the bytes of a line's digits in place of others, where it is such a line.
-fn put_line(alloc: Global, bytes: &mut [u8], line: &str) -> Result<(), AllocError> {
+fn put_line(bytes: &mut [u8], line: &str) {
     let (word, rest) = line.split_once(' ').unwrap_or((line, ""));
-    if word != "put" {
-        return Ok(());
-    }
     let (at, digits) = rest.split_once(' ').unwrap_or((rest, ""));
-    let put = from_hex(alloc, digits)?;
-    for (place, byte) in bytes.iter_mut().skip(number(at) as usize).zip(&put) {
-        *place = *byte;
+    if word != "put" {
+        return;
     }
-    Ok(())
+    let mut at = number(at) as usize;
+    for pair in digits.as_bytes().chunks_exact(2) {
+        put(bytes, at, byte_of(pair));
+        at = at.saturating_add(1);
+    }
 }
 
-// As many bytes of a file as a block keeps.
-fn kept_bytes(alloc: Global, file: &[u8], block: &str) -> Result<Vec<u8>, AllocError> {
-    let kept = under(alloc, block, "kept")?;
-    let kept = number(kept.as_str()) as usize;
-    Vec::from_slice(alloc, file.get(..kept).unwrap_or(&[]))
+// How many bytes of a file a block keeps, as its first line says.
+fn kept(block: &str) -> usize {
+    let (line, _) = block.split_once('\n').unwrap_or((block, ""));
+    number(line.strip_prefix("kept ").unwrap_or("")) as usize
 }
 
 // A file as a block changes it.
 fn changed_bytes(alloc: Global, file: &[u8], block: &str) -> Result<Vec<u8>, AllocError> {
-    let mut bytes = kept_bytes(alloc, file, block)?;
+    let mut bytes = Vec::from_slice(alloc, file.get(..kept(block)).unwrap_or(&[]))?;
     for line in block.lines() {
-        put_line(alloc, bytes.as_mut_slice(), line)?;
+        put_line(&mut bytes, line);
     }
-    bytes.extend_from_slice(bytes_under(alloc, block, "tail")?.as_slice())?;
+    bytes.extend_from_slice(&bytes_under(alloc, block, "tail")?)?;
     Ok(bytes)
 }
 
 // Whether a file, as a block changes it, is read as the block says.
 fn is_read(alloc: Global, file: &[u8], plan: &Plan, block: &str) -> Result<bool, AllocError> {
-    let bytes = changed_bytes(alloc, file, block)?;
-    let reading = reading_of(alloc, &bytes, plan)?;
+    let reading = reading_of(alloc, &changed_bytes(alloc, file, block)?, plan)?;
     let wanted = under(alloc, block, "reading")?;
     Ok(reading.as_str() == wanted.as_str())
 }
 
-// Asserts that of blocks.
-fn check_blocks(
-    rt: &impl Abort,
-    alloc: Global,
-    file: &[u8],
-    plan: &Plan,
-    text: &str,
-) -> Result<(), Fail> {
+// Whether that holds of each block of a text.
+fn are_read(alloc: Global, file: &[u8], plan: &Plan, text: &str) -> Result<bool, AllocError> {
     for block in text.split("\n\n") {
-        assert!(rt; is_read(alloc, file, plan, block)?, "{block}");
+        if !is_read(alloc, file, plan, block)? {
+            return Ok(false);
+        }
     }
-    Ok(())
+    Ok(true)
 }
 
 fn result_of(alloc: Global, plan: &Plan, first: u32, count: u32) -> Result<PieceResult, Fail> {
     let rings = Rings::hashed(alloc, plan)?;
     Ok(run_piece(alloc, plan, &rings, Piece { first, count })?)
+}
+
+// The piece that a slip begins with.
+fn piece_of(slip: &str) -> Piece {
+    let (first, rest) = slip.split_once(',').unwrap_or((slip, ""));
+    let (count, _) = rest.split_once(',').unwrap_or((rest, ""));
+    let (first, count) = (number(first), number(count));
+    Piece { first, count }
 }
 
 // Appends the results of the pieces that slips begin with.
@@ -153,53 +194,52 @@ fn append_pieces(
     slips: &str,
 ) -> Result<(), Fail> {
     for slip in slips.split_whitespace() {
-        let mut numbers = slip.split(',');
-        let first = number(numbers.next().unwrap_or(""));
-        let size = number(numbers.next().unwrap_or(""));
-        let result = result_of(alloc, plan, first, size)?;
-        journal.append(&result)?;
+        let Piece { first, count } = piece_of(slip);
+        journal.append(&result_of(alloc, plan, first, count)?)?;
     }
     Ok(())
 }
 
-// Makes the journal of a plan, appends the results of pieces, and gives its disk.
-fn written_disk(alloc: Global, plan: &Plan, slips: &str) -> Result<MemoryDisk, Fail> {
-    match Journal::create(alloc, MemoryDisk::of(alloc, Vec::new(alloc))?, plan) {
-        Ok(mut journal) => {
-            append_pieces(alloc, &mut journal, plan, slips)?;
-            Ok(journal.into_disk())
-        }
-        Err((fault, _disk)) => Err(fault)?,
+// The journal of a plan that is made on an empty disk.
+fn created(alloc: Global, plan: &Plan) -> Result<Journal<MemoryDisk>, JournalFault> {
+    let disk = MemoryDisk::of(alloc, Vec::new(alloc))?;
+    match Journal::create(alloc, disk, plan) {
+        Ok(journal) => Ok(journal),
+        Err((fault, _disk)) => Err(fault),
     }
 }
 
-// Whether a file is what is written where a block's slips are appended, and is read as them.
-fn is_file(alloc: Global, file: &[u8], plan: &Plan, block: &str) -> Result<bool, Fail> {
-    let slips = under(alloc, block, "slips")?;
-    let disk = written_disk(alloc, plan, slips.as_str())?;
-    let reading = reading_of(alloc, file, plan)?;
-    Ok(disk.bytes() == file && reading.as_str() == slips.as_str())
+// Makes the journal of a plan, appends the results of pieces, and gives its disk.
+pub(crate) fn written_disk(alloc: Global, plan: &Plan, slips: &str) -> Result<MemoryDisk, Fail> {
+    let mut journal = created(alloc, plan)?;
+    append_pieces(alloc, &mut journal, plan, slips)?;
+    Ok(journal.into_disk())
+}
+
+// Whether a file is what is written where these slips are appended, and is read as them.
+fn is_file(alloc: Global, file: &[u8], plan: &Plan, slips: &str) -> Result<bool, Fail> {
+    let is_written = written_disk(alloc, plan, slips)?.bytes() == file;
+    Ok(is_written && reading_of(alloc, file, plan)?.as_str() == slips)
 }
 
 // The plan that a block gives.
-fn plan_in(alloc: Global, block: &str) -> Result<Plan, Fail> {
-    let text = under(alloc, block, "plan")?;
-    Ok(Plan::from_json(alloc, text.as_bytes())?)
+fn plan_in(alloc: Global, block: &str) -> Result<Plan, PlanFault> {
+    Plan::from_json(alloc, under(alloc, block, "plan")?.as_bytes())
 }
 
-// Asserts that the file of a text's first block is written and read as that one says, and read as the others say.
-fn check_text(rt: &impl Abort, alloc: Global, text: &str) -> Result<(), Fail> {
+// Whether the file of a text's first block is written and read as that one says, and read as the others say.
+fn is_text(alloc: Global, text: &str) -> Result<bool, Fail> {
     let (first, blocks) = text.split_once("\n\n").unwrap_or((text, ""));
     let plan = plan_in(alloc, first)?;
     let file = bytes_under(alloc, first, "file")?;
-    assert!(rt; is_file(alloc, file.as_slice(), &plan, first)?, "{first}");
-    check_blocks(rt, alloc, file.as_slice(), &plan, blocks)
+    let is_file = is_file(alloc, &file, &plan, &under(alloc, first, "slips")?)?;
+    Ok(is_file && are_read(alloc, &file, &plan, blocks)?)
 }
 
 #[test]
 fn files_are_written_and_read(rt: HostRuntime) -> Result<(), Fail> {
     for text in files().split("\n\n\n") {
-        check_text(&rt, rt.alloc(), text)?;
+        assert!(rt; is_text(rt.alloc(), text)?);
     }
     Ok(())
 }
@@ -319,21 +359,17 @@ const ALL_CHANGES: [Changes<'static>; 7] = [
     ),
 ];
 
-fn check_changes(
-    rt: &impl Abort,
-    alloc: Global,
-    (json, slips, length, blocks): Changes<'_>,
-) -> Result<(), Fail> {
+// Whether the slips are written in as many bytes, which are read so where they are changed.
+fn are_changes(alloc: Global, (json, slips, length, blocks): Changes<'_>) -> Result<bool, Fail> {
     let plan = Plan::from_json(alloc, json.as_bytes())?;
     let disk = written_disk(alloc, &plan, slips)?;
-    assert!(rt; disk.bytes().len() == length);
-    check_blocks(rt, alloc, disk.bytes(), &plan, blocks)
+    Ok(disk.bytes().len() == length && are_read(alloc, disk.bytes(), &plan, blocks)?)
 }
 
 #[test]
 fn changed_files_of_small_plans(rt: HostRuntime) -> Result<(), Fail> {
     for changes in ALL_CHANGES {
-        check_changes(&rt, rt.alloc(), changes)?;
+        assert!(rt; are_changes(rt.alloc(), changes)?);
     }
     Ok(())
 }
@@ -353,17 +389,22 @@ fn silent_slips(alloc: Global, count: u32) -> Result<String, AllocError> {
     Ok(text)
 }
 
-// A file of 65 slips, whose last gate stands at 45 + 222 + 65 * 105, and one of 66, of which the last is changed.
+// Whether a file of 65 slips, whose last gate stands at 45 + 222 + 65 * 105, is read as them.
+fn is_many(alloc: Global) -> Result<bool, Fail> {
+    let slips = silent_slips(alloc, 65)?;
+    let slips = slips.trim_end();
+    let whole = format!(in alloc; "kept 7093\nreading {slips}")?;
+    are_changes(alloc, (MANY, slips, 7093, &whole))
+}
+
 #[test]
 fn files_of_many_slips(rt: HostRuntime) -> Result<(), Fail> {
-    let alloc = rt.alloc();
-    let slips = silent_slips(alloc, 65)?;
-    let slips = slips.as_str().trim_end();
-    let whole = format!(in alloc; "kept 7093\nreading {slips}")?;
-    check_changes(&rt, alloc, (MANY, slips, 7093, whole.as_str()))?;
-    let more = silent_slips(alloc, 66)?;
+    assert!(rt; is_many(rt.alloc())?);
+    // Of 66, the last is changed.
+    let slips = silent_slips(rt.alloc(), 66)?;
     let bad = "kept 7198\nput 7100 01\nreading Damaged 66\n\nkept 7093\nreading Damaged 66";
-    check_changes(&rt, alloc, (MANY, more.as_str(), 7198, bad))
+    assert!(rt; are_changes(rt.alloc(), (MANY, &slips, 7198, bad))?);
+    Ok(())
 }
 
 // How a call is written: the place and the number of the bytes of a write, or a sync.
@@ -375,32 +416,29 @@ fn call_text(alloc: Global, call: &DiskCall) -> Result<String, AllocError> {
     }
 }
 
-// What a creation and an append of the slip of two trials do to a disk, in order.
-fn calls_text(alloc: Global, json: &str) -> Result<String, Fail> {
-    let plan = Plan::from_json(alloc, json.as_bytes())?;
-    let disk = written_disk(alloc, &plan, "0,2")?;
+// What calls do to a disk, in order.
+fn calls_text(alloc: Global, calls: &[DiskCall]) -> Result<String, AllocError> {
     let mut text = String::new(alloc);
-    for call in disk.calls() {
-        text.push_str(call_text(alloc, call)?.as_str())?;
+    for call in calls {
+        text.push_str(&call_text(alloc, call)?)?;
     }
     Ok(text)
+}
+
+// Whether that is what a creation and an append of the slip of two trials do.
+fn are_calls(alloc: Global, json: &str, wanted: &str) -> Result<bool, Fail> {
+    let plan = Plan::from_json(alloc, json.as_bytes())?;
+    let disk = written_disk(alloc, &plan, "0,2")?;
+    Ok(calls_text(alloc, disk.calls())?.as_str() == wanted)
 }
 
 // Each gate is opened by a write of its own, after what stands before it is synced.
 #[test]
 fn calls_come_in_order(rt: HostRuntime) -> Result<(), Fail> {
-    for (json, wanted) in [
-        (
-            SMALL,
-            "sync 0+1 sync 1+266 sync 0+1 sync 267+105 sync 266+1 sync ",
-        ),
-        (
-            SMALL_2,
-            "sync 0+1 sync 1+258 sync 0+1 sync 259+113 sync 258+1 sync ",
-        ),
-    ] {
-        assert!(rt; calls_text(rt.alloc(), json)?.as_str() == wanted);
-    }
+    let one = "sync 0+1 sync 1+266 sync 0+1 sync 267+105 sync 266+1 sync ";
+    assert!(rt; are_calls(rt.alloc(), SMALL, one)?);
+    let two = "sync 0+1 sync 1+258 sync 0+1 sync 259+113 sync 258+1 sync ";
+    assert!(rt; are_calls(rt.alloc(), SMALL_2, two)?);
     Ok(())
 }
 
@@ -431,11 +469,12 @@ fn is_held(alloc: Global, file: &[u8], plan: &Plan) -> Result<bool, Fail> {
 }
 
 // Whether an opening of an empty disk makes the file that a creation makes.
-fn is_made(alloc: Global, file: &[u8], plan: &Plan) -> Result<bool, Fail> {
-    match Journal::open(alloc, MemoryDisk::of(alloc, Vec::new(alloc))?, plan) {
-        Ok((journal, slips)) => Ok(slips.is_empty() && journal.disk().bytes() == file),
-        Err((fault, _disk)) => Err(fault)?,
-    }
+fn is_made(alloc: Global, file: &[u8], plan: &Plan) -> Result<bool, AllocError> {
+    let disk = MemoryDisk::of(alloc, Vec::new(alloc))?;
+    Ok(match Journal::open(alloc, disk, plan) {
+        Ok((journal, slips)) => slips.is_empty() && journal.disk().bytes() == file,
+        Err(_refused) => false,
+    })
 }
 
 #[test]

@@ -6,7 +6,6 @@ use cut_ledger::{Base, Division, Ledger, OfferFault, Slip, SlipsFault};
 use cut_plan::Plan;
 use cut_trial::Piece;
 use std::alloc::{AllocError, Global};
-use std::process::Abort;
 use std::test::Fail;
 
 fn are_pieces(pieces: &[Piece], wanted: &[(u32, u32)]) -> bool {
@@ -38,17 +37,29 @@ const A_PIECE_AND_ITS_TRIAL: [Offer; 2] = [
     ((1, 1), Some(FaultCode::Overlap), &[]),
 ];
 
-fn is_answered(alloc: Global, ledger: &mut Ledger, offer: &Offer) -> Result<bool, Fail> {
-    let ((first, count), refused, gaps) = offer;
-    let result = result_of(alloc, ledger.plan(), *first, *count)?;
-    let answer = ledger.offer(&result).err().map(|fault| fault.code());
-    Ok(answer == *refused && has_gaps(alloc, ledger, gaps)?)
+// The fault that the offer of a plan's trials is refused with, if it is.
+fn answer_to(
+    alloc: Global,
+    ledger: &mut Ledger,
+    (first, count): (u32, u32),
+) -> Result<Option<FaultCode>, Fail> {
+    let result = result_of(alloc, ledger.plan(), first, count)?;
+    Ok(ledger.offer(&result).err().map(|fault| fault.code()))
+}
+
+fn is_answered(
+    alloc: Global,
+    ledger: &mut Ledger,
+    (trials, refused, gaps): Offer,
+) -> Result<bool, Fail> {
+    let answer = answer_to(alloc, ledger, trials)?;
+    Ok(answer == refused && has_gaps(alloc, ledger, gaps)?)
 }
 
 // Whether offers to a fresh ledger are answered so, and its one cell is done then, with these sums.
 fn are_answered(alloc: Global, ledger: &mut Ledger, offers: &[Offer]) -> Result<bool, Fail> {
     for offer in offers {
-        if !is_answered(alloc, ledger, offer)? {
+        if !is_answered(alloc, ledger, *offer)? {
             return Ok(false);
         }
     }
@@ -79,18 +90,14 @@ fn is_stranger(alloc: Global, ledger: &mut Ledger) -> Result<bool, Fail> {
     Ok(matches!(ledger.offer(&result), Err(OfferFault::Stranger)))
 }
 
-fn check_trials(rt: &impl Abort, alloc: Global, ledger: &mut Ledger) -> Result<(), Fail> {
-    assert!(rt; has_parts(alloc, ledger, (1, &[(0, 1), (1, 1)]))?);
-    assert!(rt; gains_room(alloc, ledger)?);
-    assert!(rt; is_stranger(alloc, ledger)?);
-    assert!(rt; are_answered(alloc, ledger, &SINGLE_TRIALS)?);
-    Ok(())
-}
-
 #[test]
 fn trials_are_taken_once(rt: HostRuntime) -> Result<(), Fail> {
     let mut ledger = fresh(rt.alloc(), PLAN)?;
-    check_trials(&rt, rt.alloc(), &mut ledger)
+    assert!(rt; has_parts(rt.alloc(), &ledger, (1, &[(0, 1), (1, 1)]))?);
+    assert!(rt; gains_room(rt.alloc(), &mut ledger)?);
+    assert!(rt; is_stranger(rt.alloc(), &mut ledger)?);
+    assert!(rt; are_answered(rt.alloc(), &mut ledger, &SINGLE_TRIALS)?);
+    Ok(())
 }
 
 #[test]
@@ -132,17 +139,13 @@ fn has_parts(
     Ok(are_pieces(&pieces, wanted) && is_divided(&division, &pieces))
 }
 
-fn check_parts(rt: &impl Abort, alloc: Global, ledger: &Ledger) -> Result<(), Fail> {
-    for parts in &PARTS {
-        assert!(rt; has_parts(alloc, ledger, *parts)?, "{parts:?}");
-    }
-    Ok(())
-}
-
 #[test]
 fn parts_of_gaps(rt: HostRuntime) -> Result<(), Fail> {
     let ledger = begun(rt.alloc(), TWO_CELLS, slip(6, 1, [4, 0, 0, 0, 4, 1, 1, 0]))?;
-    check_parts(&rt, rt.alloc(), &ledger)
+    for parts in PARTS {
+        assert!(rt; has_parts(rt.alloc(), &ledger, parts)?);
+    }
+    Ok(())
 }
 
 // A plan, the numbers of a slip of it, and whether it is a possible one.
@@ -184,17 +187,11 @@ fn bad_slip(alloc: Global, json: &str, slips: &[Slip]) -> Result<u64, Fail> {
     }
 }
 
-// Whether a slip is bad exactly where it is no possible one.
-fn is_row(alloc: Global, row: &Possible) -> Result<bool, Fail> {
-    let (json, (first, count), numbers, is_possible) = row;
-    let bad = bad_slip(alloc, json, &[slip(*first, *count, *numbers)])?;
-    Ok((bad == 0) == *is_possible)
-}
-
 #[test]
 fn slips_that_are_possible(rt: HostRuntime) -> Result<(), Fail> {
-    for row in &POSSIBLE {
-        assert!(rt; is_row(rt.alloc(), row)?, "{row:?}");
+    for (json, (first, count), numbers, is_possible) in POSSIBLE {
+        let bad = bad_slip(rt.alloc(), json, &[slip(first, count, numbers)])?;
+        assert!(rt; (bad == 0) == is_possible);
     }
     let right = slip(0, 1, [4, 0, 0, 0, 4, 1, 1, 0]);
     assert!(rt; bad_slip(rt.alloc(), PLAN, &[right, right])? == 2);
@@ -214,26 +211,17 @@ fn is_copied(alloc: Global, ledger: &Ledger) -> Result<bool, AllocError> {
 }
 
 // The slip is the base; what it says is added to what is missing.
-fn check_over(
-    rt: &impl Abort,
-    alloc: Global,
-    ledger: &mut Ledger,
-    (one, other): (Slip, Slip),
-) -> Result<(), Fail> {
-    assert!(rt; began_with(alloc, ledger, &[one])?);
-    assert!(rt; !began_with(alloc, ledger, &[other])?);
-    assert!(rt; is_copied(alloc, ledger)?);
-    assert!(rt; is_answered(alloc, ledger, &((1, 1), None, &[]))?);
-    assert!(rt; is_done(ledger, slip(0, 2, [8, 4, 0, 0, 8, 2, 1, 0])));
-    Ok(())
-}
-
 #[test]
 fn a_ledger_over_a_slip(rt: HostRuntime) -> Result<(), Fail> {
     let one = slip(0, 1, [4, 4, 0, 0, 4, 1, 0, 0]);
     let other = slip(0, 1, [4, 4, 0, 0, 4, 1, 1, 0]);
     let mut ledger = begun(rt.alloc(), PLAN, one)?;
-    check_over(&rt, rt.alloc(), &mut ledger, (one, other))
+    assert!(rt; began_with(rt.alloc(), &ledger, &[one])?);
+    assert!(rt; !began_with(rt.alloc(), &ledger, &[other])?);
+    assert!(rt; is_copied(rt.alloc(), &ledger)?);
+    assert!(rt; is_answered(rt.alloc(), &mut ledger, ((1, 1), None, &[]))?);
+    assert!(rt; is_done(&ledger, slip(0, 2, [8, 4, 0, 0, 8, 2, 1, 0])));
+    Ok(())
 }
 
 #[test]

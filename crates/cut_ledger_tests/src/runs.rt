@@ -8,7 +8,6 @@ use cut_ledger::{Event, Reply, Run};
 use cut_plan::Plan;
 use cut_trial::Piece;
 use std::alloc::{AllocError, Global};
-use std::process::Abort;
 use std::test::Fail;
 
 const HEADER: &str =
@@ -20,7 +19,7 @@ const TABLE: &str =
     "Bytes k,h,l,f,trials,receivers,conflicts,silent,extra,votes,decided,right,ppm\n1,1,1,1,2,8,0,0,0,8,2,2,0\n";
 
 // An event, with the trial in place of its result.
-#[derive(Clone, Copy, Debug)]
+#[derive(Clone, Copy)]
 enum Step {
     Draw,
     HandIn(u32),
@@ -118,45 +117,31 @@ fn event_of(alloc: Global, plan: &Plan, step: Step) -> Result<Event, Fail>
 
 // Whether a run replies so to a step.
 fn is_reply(alloc: Global, plan: &Plan, (step, wanted): Row, run: &mut Run) -> Result<bool, Fail> {
-    let event = event_of(alloc, plan, step)?;
-    let reply = run.apply(alloc, event)?;
-    let text = written(alloc, &reply)?;
-    Ok(text.as_str() == wanted)
+    let reply = run.apply(alloc, event_of(alloc, plan, step)?)?;
+    Ok(written(alloc, &reply)?.as_str() == wanted)
 }
 
-fn check_rows(
-    rt: &impl Abort,
-    alloc: Global,
-    plan: &Plan,
-    rows: &[Row],
-    run: &mut Run,
-) -> Result<(), Fail> {
+// Whether a run replies so to each step.
+fn are_replies(alloc: Global, plan: &Plan, rows: &[Row], run: &mut Run) -> Result<bool, Fail> {
     for row in rows {
-        assert!(rt; is_reply(alloc, plan, *row, run)?, "{row:?}");
+        if !is_reply(alloc, plan, *row, run)? {
+            return Ok(false);
+        }
     }
-    Ok(())
+    Ok(true)
 }
 
-// A run of a plan, in pieces of 1, replies so.
-fn check_run(
-    rt: &impl Abort,
-    alloc: Global,
-    plan: &Plan,
-    (has_journal, rows): (bool, &[Row]),
-) -> Result<(), Fail> {
+// Whether a run of a plan, in pieces of 1, replies so.
+fn is_run(alloc: Global, plan: &Plan, (has_journal, rows): (bool, &[Row])) -> Result<bool, Fail> {
     let mut run = Run::start(alloc, plan.try_clone(alloc)?, 1, has_journal)?;
-    check_rows(rt, alloc, plan, rows, &mut run)
-}
-
-fn check_runs(rt: &impl Abort, alloc: Global, plan: &Plan) -> Result<(), Fail> {
-    for run in &RUNS {
-        check_run(rt, alloc, plan, *run)?;
-    }
-    Ok(())
+    are_replies(alloc, plan, rows, &mut run)
 }
 
 #[test]
 fn worked_runs(rt: HostRuntime) -> Result<(), Fail> {
     let plan = Plan::from_json(rt.alloc(), PLAN.as_bytes())?;
-    check_runs(&rt, rt.alloc(), &plan)
+    for run in RUNS {
+        assert!(rt; is_run(rt.alloc(), &plan, run)?);
+    }
+    Ok(())
 }

@@ -7,7 +7,6 @@ use cut_ledger::Ledger;
 use cut_table::{RowFault, TableFault, emit_table, row};
 use cut_wires::{FaultyWire, MemoryWire, Wire, WriteFault};
 use std::alloc::Global;
-use std::process::Abort;
 use std::test::Fail;
 
 /// The table of the plan.
@@ -55,17 +54,11 @@ fn is_table(alloc: Global, ledger: &Ledger, table: &[u8]) -> Result<bool, Fail> 
     Ok(wire.taken() == table && is_line(alloc, ledger, table)?)
 }
 
-// Whether the ledger of a plan that holds all has this table.
-fn is_table_of(alloc: Global, json: &str, table: &[u8]) -> Result<bool, Fail> {
-    let ledger = complete(alloc, json)?;
-    is_table(alloc, &ledger, table)
-}
-
 #[test]
 fn a_table_is_its_header_and_its_rows(rt: HostRuntime) -> Result<(), Fail> {
     assert!(rt; has_no_line(rt.alloc(), &fresh(rt.alloc(), PLAN)?));
-    assert!(rt; is_table_of(rt.alloc(), PLAN, TABLE)?);
-    assert!(rt; is_table_of(rt.alloc(), SETTLED, SETTLED_TABLE)?);
+    assert!(rt; is_table(rt.alloc(), &complete(rt.alloc(), PLAN)?, TABLE)?);
+    assert!(rt; is_table(rt.alloc(), &complete(rt.alloc(), SETTLED)?, SETTLED_TABLE)?);
     Ok(())
 }
 
@@ -88,20 +81,13 @@ fn ends_with(alloc: Global, ledger: &Ledger, taken: &[u8], fails: bool) -> bool 
     is_end && wire.taken() == taken && wire.failures() == u64::from(fails)
 }
 
-fn check_ends(rt: &impl Abort, alloc: Global, ledger: &Ledger) {
-    for room in 0..TABLE.len() {
-        assert!(rt;
-            ends_with(alloc, ledger, &TABLE[..room], true),
-            "room {room}"
-        );
-    }
-    assert!(rt; ends_with(alloc, ledger, TABLE, false));
-}
-
 #[test]
 fn a_failed_write_leaves_the_first_bytes(rt: HostRuntime) -> Result<(), Fail> {
     let ledger = complete(rt.alloc(), PLAN)?;
-    check_ends(&rt, rt.alloc(), &ledger);
+    for room in 0..TABLE.len() {
+        assert!(rt; ends_with(rt.alloc(), &ledger, &TABLE[..room], true));
+    }
+    assert!(rt; ends_with(rt.alloc(), &ledger, TABLE, false));
     Ok(())
 }
 

@@ -1,10 +1,14 @@
 -- The slips of several disks, one disk after another, and why they are not joined.
-use Rattle.std.proofs.Common.{◌≡◌, ◌∙◌, ◌++◌, List, [], ◌∷◌, refl, sym, ap, subst, append-nil}
-use Rattle.std.proofs.Common.{append_assoc}
+use Rattle.std.proofs.Common.{◌≡◌, ◌∙◌, ◌+◌, ◌++◌, ℕ, List, [], ◌∷◌, length, refl, sym, ap, subst, arith, append-nil}
+use Rattle.std.proofs.Common.{append_assoc, length-append}
+use Rattle.std.specs.Prelude.{Option}
 use Rattle.cut_plan.specs.Values.{Values}
 use Rattle.cut_disks.specs.State.{DiskState}
 use Rattle.cut_ledger.specs.declared.slip.Slip.{Slip}
-use Rattle.cut_machines.specs.JoinSources.{HoldAll, Holds}
+use Rattle.cut_commands.specs.declared.fault.CliFault.{CliFault}
+use Rattle.cut_commands.specs.declared.fault.CliFault.TheVariants.{Memory, Journal}
+use Rattle.cut_machines.specs.JoinSources.{AddsHeld, HoldAll, Holds, IsUnopened, NamesDisk}
+use Rattle.cut_machines.specs.JoinSources.{refused_at}
 
 module _ {O : Type 0} (honest : O → Type 0) (state : O → DiskState) where
   -- one disk more
@@ -25,14 +29,51 @@ module _ {O : Type 0} (honest : O → Type 0) (state : O → DiskState) where
     ),
   )
 
-  pub read_one_more : (all done left rest : List O) (disk : O) (v : Values) (slips found now : List Slip)
-      → all ≡ done ++ left → left ≡ disk ∷ rest → HoldAll honest state done v slips → Holds honest state disk v found
-      → now ≡ slips ++ found → (ds : List O) × ((all ≡ ds ++ rest) × HoldAll honest state ds v now)
-  read_one_more all done left rest disk v slips found now split next held says is = (
+  pub read_one_more : (all done left rest : List O) (disk : O) (v : Values) (slips now : List Slip) (n : ℕ)
+      → all ≡ done ++ left → left ≡ disk ∷ rest → HoldAll honest state done v slips → n ≡ length done
+      → AddsHeld honest state disk v slips now
+      → (ds : List O) × ((all ≡ ds ++ rest) × HoldAll honest state ds v now × (n + 1 ≡ length ds))
+  read_one_more all done left rest disk v slips now n split next held count adds = (
     done ++ disk ∷ [],
     (
       split ∙ ap (λ (xs : List O). done ++ xs) next ∙ sym (append_assoc done (disk ∷ []) rest),
-      subst (λ (xs : List Slip). HoldAll honest state (done ++ disk ∷ []) v xs) (sym is)
-          (hold_one_more done disk v slips found held says),
+      subst (λ (xs : List Slip). HoldAll honest state (done ++ disk ∷ []) v xs) (sym adds.1.1)
+          (hold_one_more done disk v slips adds.0 held adds.1.0),
+      omega (arith, count, length-append done (disk ∷ [])),
     ),
   )
+
+  names : (all done rest : List O) (disk : O) (v : Values) (slips : List Slip) (n : ℕ) (fault : CliFault)
+      (refused : Option ℕ) → all ≡ done ++ disk ∷ rest → HoldAll honest state done v slips → n ≡ length done
+      → IsUnopened honest state disk v fault → refused ≡ refused_at (n + 1) fault
+      → NamesDisk honest state all v fault refused
+  names all done rest disk v slips n Memory refused split held count unopened is = is
+  names all done rest disk v slips n (Journal fault) refused split held count unopened is = (
+    n + 1,
+    (
+      is,
+      (
+        record {
+          before = done;
+          disk = disk;
+          after = rest;
+          all = split;
+          slips = slips;
+          held = held;
+          refused = unopened;
+        },
+        ap (λ (m : ℕ). m + 1) count,
+      ),
+    ),
+  )
+  names all done rest disk v slips n fault refused split held count unopened is = absurd unopened
+
+  -- a disk that is not read after these, where memory did not run out, is the one that is refused
+  pub names_next : (all done left rest : List O) (disk : O) (v : Values) (slips : List Slip) (n : ℕ)
+      (fault now : CliFault) (refused : Option ℕ) → all ≡ done ++ left → left ≡ disk ∷ rest
+      → HoldAll honest state done v slips → n ≡ length done → IsUnopened honest state disk v fault → now ≡ fault
+      → refused ≡ refused_at (n + 1) fault → NamesDisk honest state all v now refused
+  names_next all done left rest disk v slips n fault now refused split next held count unopened same is =
+      subst (λ (f : CliFault). NamesDisk honest state all v f refused) (sym same)
+      (names all done rest disk v slips n fault refused (split ∙ ap (λ (xs : List O). done ++ xs) next) held count
+      unopened is)

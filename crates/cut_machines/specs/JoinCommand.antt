@@ -1,5 +1,6 @@
 -- What a join of checkpoints writes for a plan, by what their disks hold, and what it leaves on the new one.
-use Rattle.std.specs.Prelude.{◌≡◌, ◌⊎◌, ◌↔◌, ◌++◌, ℕ, List, ◌∷◌, [], length, codes, Result, Ok, Err, ⊤}
+use Rattle.std.specs.Prelude.{◌≡◌, ◌⊎◌, ◌↔◌, ◌≤◌, ◌++◌, ℕ, List, ◌∷◌, [], length, codes, Option, Some, None, Result}
+use Rattle.std.specs.Prelude.{Ok, Err, ⊤}
 use Rattle.std.specs.Fmt.{decimal}
 use Rattle.cut_plan.specs.Cells.{trial_count}
 use Rattle.cut_plan.specs.Values.{Values}
@@ -7,6 +8,7 @@ use Rattle.cut_disks.specs.State.{DiskState}
 use Rattle.cut_wires.specs.Log.{WireLog}
 use Rattle.cut_ledger.specs.declared.slip.Slip.{Slip}
 use Rattle.cut_ledger.specs.Slips.{AreGood, IsFirstBad}
+use Rattle.cut_journal.specs.declared.fault.JournalFault.{JournalFault}
 use Rattle.cut_journal.specs.declared.fault.JournalFault.TheVariants as journal
 use Rattle.cut_journal.specs.Opening.{IsOpeningFaultOf, MayNotMake}
 use Rattle.cut_status.specs.Status.{held_trials, part_text}
@@ -16,7 +18,7 @@ use Rattle.cut_commands.specs.Run.{EndsCommand, GivesPlan}
 use Rattle.cut_commands.specs.Task.{Task}
 use Rattle.cut_commands.specs.declared.fault.CliFault.{CliFault}
 use Rattle.cut_commands.specs.declared.fault.CliFault.TheVariants.{Memory, Plan, Read, Journal, BadSlip, Migrate}
-use Rattle.cut_machines.specs.JoinSources.{HoldAll, StopsReading}
+use Rattle.cut_machines.specs.JoinSources.{HoldAll, IsRefusedAt, StopsReading}
 use Rattle.cut_machines.specs.JoinTarget.{LeavesDisk, StopsWriting, writing_faults}
 
 -- the line that says how many slips were joined to how many, and how many trials of how many these hold
@@ -68,6 +70,26 @@ module _ {O N : Type 0} (old_honest : O → Type 0) (old_state : O → DiskState
     pub other : LeavesOther olds new after old_log new_log result
     pub honest : new_honest new ↔ new_honest after
 
+  -- what a fault of a journal is one of, for a plan that was read: of the old disk at a place, from 1, which is the
+  -- first that said no slips, and the new disk is as before; or of the new disk, and all old ones said their slips
+  abbrev pub RefusesOld : List O → N → N → Values → JournalFault → Option ℕ → Type 0
+  RefusesOld olds new after v fault (Some place) = IsRefusedAt old_honest old_state olds v fault place × (after ≡ new)
+  RefusesOld olds new after v fault None =
+      MayNotMake fault × ((slips : List Slip) × HasWritten (Err (Journal fault)) olds new after v slips)
+
+  -- which old disk is refused, if one is: none at another end
+  abbrev pub NamesRefused : List O → N → N → WireLog → WireLog → Result ⊤ CliFault → Option ℕ → Type 0
+  NamesRefused olds new after old_log new_log (Err (Journal fault)) refused =
+      (v : Values) × (GivesPlan (Ok v) old_log new_log × RefusesOld olds new after v fault refused)
+  NamesRefused olds new after old_log new_log result refused = refused ≡ None
+
+  -- ---- inside
+
+  -- the same before the answer is written
+  abbrev pub NamesOld : {T : Type 0} → List O → N → N → Values → Result T CliFault → Option ℕ → Type 0
+  NamesOld olds new after v (Err (Journal fault)) refused = RefusesOld olds new after v fault refused
+  NamesOld olds new after v result refused = refused ≡ None
+
 -- ---- over files, of which nothing is known
 
 -- why not all slips were joined
@@ -89,3 +111,17 @@ join_files_task = record { answers = WritesJoinOfFiles; fails = StopsJoinOfFiles
 abbrev pub EndsJoinOfFiles : WireLog → WireLog → Result ⊤ CliFault → Type 0
 EndsJoinOfFiles old new result =
     ((result ≡ Err (Journal journal.Disk)) × (new ≡ old)) ⊎ EndsCommand join_files_task old new result
+
+-- what a fault of a journal is one of: of the old file at a place, from 1, among `count` ones; or of the new file
+abbrev pub RefusesFile : ℕ → JournalFault → Option ℕ → Type 0
+RefusesFile count fault (Some place) = (1 ≤ place) × (place ≤ count) × IsOpeningFaultOf fault
+RefusesFile count fault None = MayNotMake fault
+
+-- which old file is refused, if one is: none by another fault, and none at Ok
+abbrev pub NamesOldFile : ℕ → CliFault → Option ℕ → Type 0
+NamesOldFile count (Journal fault) refused = RefusesFile count fault refused
+NamesOldFile count fault refused = refused ≡ None
+
+abbrev pub NamesRefusedFile : ℕ → Result ⊤ CliFault → Option ℕ → Type 0
+NamesRefusedFile count (Err fault) refused = NamesOldFile count fault refused
+NamesRefusedFile count (Ok done) refused = refused ≡ None

@@ -1,5 +1,5 @@
 -- What the checkpoints that are joined hold of a plan.
-use Rattle.std.specs.Prelude.{◌≡◌, ◌++◌, ℕ, List, [], ◌∷◌, Ok, ⊤}
+use Rattle.std.specs.Prelude.{◌≡◌, ◌≤◌, ◌+◌, ◌++◌, ℕ, List, [], ◌∷◌, Ok, Option, Some, None, length, ⊤}
 use Rattle.cut_plan.specs.Values.{Values}
 use Rattle.cut_disks.specs.State.{DiskState}
 use Rattle.cut_ledger.specs.declared.slip.Slip.{Slip}
@@ -39,6 +39,11 @@ module _ {O : Type 0} (honest : O → Type 0) (state : O → DiskState) where
     pub held : HoldAll before v slips
     pub refused : IsRefused disk v fault
 
+  -- and which one that is, by its place, from 1
+  abbrev pub IsRefusedAt : List O → Values → JournalFault → ℕ → Type 0
+  IsRefusedAt disks v fault place =
+      (first : IsFirstRefused disks v fault) × (place ≡ length first.before + 1)
+
   -- the first slip, of those of all disks, with which no ledger of the plan begins after those before it
   pub record HoldBadSlip (disks : List O) (v : Values) (number : ℕ) : Type 0 where
     pub slips : List Slip
@@ -65,6 +70,15 @@ module _ {O : Type 0} (honest : O → Type 0) (state : O → DiskState) where
   IsUnread disks v (Journal fault) = IsFirstRefused disks v fault
   IsUnread disks v fault = ⊥
 
+  -- which of several disks is refused, if one is
+  abbrev pub NamesDisk : List O → Values → CliFault → Option ℕ → Type 0
+  NamesDisk disks v (Journal fault) refused = (place : ℕ) × ((refused ≡ Some place) × IsRefusedAt disks v fault place)
+  NamesDisk disks v fault refused = refused ≡ None
+
+  -- a disk's slips were added to others
+  abbrev pub AddsHeld : O → Values → List Slip → List Slip → Type 0
+  AddsHeld disk v old new = (found : List Slip) × (Holds disk v found × (new ≡ old ++ found))
+
 -- why the slips of some files are not joined, of which nothing is known
 abbrev pub StopsReadingFiles : Values → CliFault → Type 0
 StopsReadingFiles v Memory = ⊤
@@ -79,6 +93,16 @@ abbrev pub HaveBadSlip : Values → List Slip → CliFault → Type 0
 HaveBadSlip v slips Memory = ⊤
 HaveBadSlip v slips (BadSlip number) = IsFirstBad v slips number
 HaveBadSlip v slips fault = ⊥
+
+-- which of some files is refused, if one is, by its place from 1
+abbrev pub NamesFile : ℕ → CliFault → Option ℕ → Type 0
+NamesFile count (Journal fault) refused = (place : ℕ) × ((refused ≡ Some place) × (1 ≤ place) × (place ≤ count))
+NamesFile count fault refused = refused ≡ None
+
+-- where a checkpoint at a place is not read it is refused, unless memory ran out
+abbrev pub refused_at : ℕ → CliFault → Option ℕ
+refused_at place (Journal fault) = Some place
+refused_at place fault = None
 
 -- why the slips of some files were not read
 abbrev pub MayNotRead : CliFault → Type 0

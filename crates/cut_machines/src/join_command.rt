@@ -1,6 +1,6 @@
 //! The command that joins checkpoints.
 
-ghost use Rattle.std.specs.Prelude.{◌≡◌, ◌↔◌, IfErr, IfOk, length, string_bytes};
+ghost use Rattle.std.specs.Prelude.{◌≡◌, ◌↔◌, IfErr, IfOk, None, length, string_bytes};
 ghost use Rattle.cut_plan.specs.Plan.{IsPlan};
 ghost use Rattle.cut_ledger.specs.Slips.{AreGood};
 ghost use Rattle.cut_status.specs.Status.{held_trials};
@@ -8,10 +8,11 @@ ghost use Rattle.cut_join.specs.Joined.{joined};
 ghost use Rattle.cut_join.specs.Laws.{JoinedAreTrue, JoinedGiveThePlansTable};
 ghost use Rattle.cut_machines.specs.JoinCommand.{EndsJoinCommand, EndsJoinOfFiles, JoinWrites, StopsJoinOfFiles};
 ghost use Rattle.cut_machines.specs.JoinCommand.{WritesJoinOfFiles};
-ghost use Rattle.cut_machines.specs.JoinCommand.{StopsJoin, joined_text};
+ghost use Rattle.cut_machines.specs.JoinCommand.{NamesOld, NamesOldFile, NamesRefused, NamesRefusedFile, StopsJoin};
+ghost use Rattle.cut_machines.specs.JoinCommand.{joined_text};
 ghost use Rattle.cut_machines.specs.JoinTarget.{LeavesDisk, StopsWriting, writing_faults};
 
-use crate::join_sources::{judged_file_slips, judged_slips};
+use crate::join_sources::{Unjoined, judged_file_slips, judged_slips};
 use crate::join_target::{Written, write_joined};
 use cut_commands::{CliFault, read_plan, write_answer};
 use cut_disks::{Disk, FileDisk};
@@ -27,14 +28,27 @@ use std::alloc::Global;
 pub struct Joined<N> {
     /// The disk, given back.
     pub disk: N,
+    /// Which of the old disks was refused, from 1, if one was.
+    pub refused: Option<usize>,
     /// How the command ended.
     pub ended: Result<(), CliFault>,
 }
 
-/// A disk, and the text that says what was written to it, or why not all was.
+/// How the command ended that was to join files in a new one.
+#[derive(Drop)]
+pub struct JoinedFiles {
+    /// Which of the old files was refused, from 1, if one was.
+    pub refused: Option<usize>,
+    /// How the command ended.
+    pub ended: Result<(), CliFault>,
+}
+
+/// A disk, which old one was refused, if one was, and the text that says what was written to the disk, or why not all
+/// was.
 #[derive(Drop)]
 struct Answered<N> {
     disk: N,
+    refused: Option<usize>,
     text: Result<String, CliFault>,
 }
 
@@ -48,9 +62,12 @@ struct Answered<N> {
 /// written. The old disks are only read. What is read from the wire and written to it, and each fault of it, is as in
 /// `run_io`.
 ///
-/// The new disk is given back. A crash at any moment leaves no study there, or some first ones of the joined slips; a
-/// write of the answer that fails leaves all of them. Where the slips are true and no trial is in two of them, the
-/// joined ones are so too, and theirs is the table of the plan.
+/// Where it is an old disk that is refused, `refused` is its place among them, from 1. The fault is one of a journal
+/// then; where such a fault is that of the new disk, and at every other end, `refused` is `None`.
+///
+/// The new disk is given back. Once its journal is open, and what was there before is sure, a crash at any moment leaves
+/// no study there, or some first ones of the joined slips; a write of the answer that fails leaves all of them. Where
+/// the slips are true and no trial is in two of them, the joined ones are so too, and theirs is the table of the plan.
 pub fn join_io<W, O, N>(alloc: Global, wire: &mut W, old: Vec<O>, new: N) -> Joined<N>
 where
     W: Wire,
@@ -58,6 +75,8 @@ where
     N: Disk + Drop,
     ensures ends { EndsJoinCommand O.is_honest O.state N.is_honest N.state N.faults old.items new result.disk
         (W.log wire.old) (W.log wire.new) result.ended }
+    ensures refused { NamesRefused O.is_honest O.state N.is_honest N.state N.faults old.items new result.disk
+        (W.log wire.old) (W.log wire.new) result.ended result.refused }
     ensures slips { JoinedAreTrue }
     ensures table { JoinedGiveThePlansTable }
 {
@@ -67,37 +86,63 @@ where
         Err(fault) => {
             return Joined {
                 disk: new,
+                refused: None,
                 ended: Err(fault),
             };
         }
     };
-    let Answered { disk, text } = join_disks(alloc, &plan, old, new);
+    let Answered {
+        disk,
+        refused,
+        text,
+    } = join_disks(alloc, &plan, old, new);
     let ended = match text {
         Ok(text) => write_answer(wire, text.as_bytes()),
         Err(fault) => Err(fault),
     };
-    Joined { disk, ended }
+    Joined {
+        disk,
+        refused,
+        ended,
+    }
 }
 
 /// Joins checkpoints as `join_io` does, those in the files at some paths, in a new one in the file at another.
 ///
 /// The new file is opened by `host`, and locked, before anything is read: so an old path that names it too is reported
 /// as a disk that fails. Each old file is opened and locked when its turn comes, and closed after it is read: so there
-/// may be more of them than a process can have open. Of what they hold nothing is known.
-pub fn join_files<W: Wire>(
-    host: &HostRuntime,
-    wire: &mut W,
-    old: &[&str],
-    new: &str,
-) -> Result<(), CliFault>
-    ensures { EndsJoinOfFiles (W.log wire.old) (W.log wire.new) result }
+/// may be more of them than a process can have open. Of what they hold nothing is known: the contract says where the
+/// fault is that of an old file, with the file's place among them, and which faults an old file and the new one may
+/// have.
+pub fn join_files<W: Wire>(host: &HostRuntime, wire: &mut W, old: &[&str], new: &str) -> JoinedFiles
+    ensures ends { EndsJoinOfFiles (W.log wire.old) (W.log wire.new) result.ended }
+    ensures refused { NamesRefusedFile (length old.now) result.ended result.refused }
 {
     let Ok(disk) = FileDisk::open(host, new) else {
-        return Err(CliFault::Journal(JournalFault::Disk));
+        return JoinedFiles {
+            refused: None,
+            ended: Err(CliFault::Journal(JournalFault::Disk)),
+        };
     };
-    let plan = read_plan(host.alloc(), wire)?;
-    let text = join_file_slips(host, &plan, old, disk)?;
-    write_answer(wire, text.as_bytes())
+    let plan = match read_plan(host.alloc(), wire) {
+        Ok(plan) => plan,
+        Err(fault) => {
+            return JoinedFiles {
+                refused: None,
+                ended: Err(fault),
+            };
+        }
+    };
+    match join_file_slips(host, &plan, old, disk) {
+        Ok(text) => JoinedFiles {
+            refused: None,
+            ended: write_answer(wire, text.as_bytes()),
+        },
+        Err(unjoined) => JoinedFiles {
+            refused: unjoined.refused,
+            ended: Err(unjoined.fault),
+        },
+    }
 }
 
 /// Joins the slips of a plan's study in some files on a disk, and says how many there are.
@@ -106,12 +151,20 @@ fn join_file_slips(
     plan: &Plan,
     paths: &[&str],
     disk: FileDisk,
-) -> Result<String, CliFault>
+) -> Result<String, Unjoined>
     ensures text { IfOk result (λ text. WritesJoinOfFiles plan.now (string_bytes text)) }
-    ensures stops { IfErr result (StopsJoinOfFiles plan.now) }
+    ensures stops { IfErr result (λ e. StopsJoinOfFiles plan.now e.fault) }
+    ensures names { IfErr result (λ e. NamesOldFile (length paths.now) e.fault e.refused) }
 {
     let slips = judged_file_slips(host, plan, paths)?;
-    join_slips(host.alloc(), plan, &slips, disk).text
+    let text = join_slips(host.alloc(), plan, &slips, disk).text;
+    match text {
+        Ok(text) => Ok(text),
+        Err(fault) => Err(Unjoined {
+            fault,
+            refused: None,
+        }),
+    }
 }
 
 /// Joins the slips of a plan's study on old disks on a new one, and says how many there are.
@@ -123,13 +176,16 @@ where
         old.items new result.disk plan.now (string_bytes text)) }
     ensures stops { IfErr result.text (StopsJoin O.is_honest O.state N.is_honest N.state N.faults
         old.items new result.disk plan.now) }
+    ensures refused { NamesOld O.is_honest O.state N.is_honest N.state N.faults
+        old.items new result.disk plan.now result.text result.refused }
     ensures honest { N.is_honest new ↔ N.is_honest result.disk }
 {
     match judged_slips(alloc, plan, old) {
         Ok(slips) => join_slips(alloc, plan, &slips, new),
-        Err(fault) => Answered {
+        Err(unjoined) => Answered {
             disk: new,
-            text: Err(fault),
+            refused: unjoined.refused,
+            text: Err(unjoined.fault),
         },
     }
 }
@@ -143,13 +199,18 @@ fn join_slips<N: Disk + Drop>(alloc: Global, plan: &Plan, slips: &[Slip], disk: 
         LeavesDisk result.text plan.now slips.now (N.state disk) (N.state result.disk) }
     ensures honest { N.is_honest disk ↔ N.is_honest result.disk }
     ensures faults { N.faults result.disk ≡ writing_faults result.text (N.faults disk) }
+    ensures none { result.refused ≡ None }
 {
     let Written { disk, count } = write_joined(alloc, plan, slips, disk);
     let text = match count {
         Ok(count) => joined_text(alloc, plan, slips, count),
         Err(fault) => Err(fault),
     };
-    Answered { disk, text }
+    Answered {
+        disk,
+        refused: None,
+        text,
+    }
 }
 
 /// The line that says how many slips were joined to how many, and how many trials of how many they hold.

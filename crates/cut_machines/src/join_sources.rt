@@ -1,9 +1,10 @@
 //! The checkpoints that are joined, and what they hold.
 
-ghost use Rattle.std.specs.Prelude.{◌≡◌, IfErr, IfOk};
+ghost use Rattle.std.specs.Prelude.{◌≡◌, IfErr, IfOk, None, length};
 ghost use Rattle.cut_ledger.specs.Slips.{AreGood};
-ghost use Rattle.cut_machines.specs.JoinSources.{HaveBadSlip, HoldAll, Holds, IsUnopened, IsUnread, MayNotRead};
-ghost use Rattle.cut_machines.specs.JoinSources.{StopsReading, StopsReadingFiles, fault_of};
+ghost use Rattle.cut_machines.specs.JoinSources.{AddsHeld, HaveBadSlip, HoldAll, Holds, IsUnopened, IsUnread};
+ghost use Rattle.cut_machines.specs.JoinSources.{MayNotRead, NamesDisk, NamesFile, StopsReading, StopsReadingFiles};
+ghost use Rattle.cut_machines.specs.JoinSources.{fault_of, refused_at};
 
 use cut_commands::CliFault;
 use cut_disks::{Disk, FileDisk};
@@ -14,15 +15,23 @@ use cut_migration::MigrateFault;
 use cut_plan::Plan;
 use std::alloc::Global;
 
+/// Why checkpoints are not joined: the fault, and which of them is refused, from 1, if one is.
+#[derive(Drop)]
+pub(crate) struct Unjoined {
+    pub(crate) fault: CliFault,
+    pub(crate) refused: Option<usize>,
+}
+
 /// The slips that disks hold for a plan, in the order of the disks, judged as one list.
 pub(crate) fn judged_slips<O: Disk + Drop>(
     alloc: Global,
     plan: &Plan,
     disks: Vec<O>,
-) -> Result<Vec<Slip>, CliFault>
+) -> Result<Vec<Slip>, Unjoined>
     ensures held { IfOk result (λ slips. HoldAll O.is_honest O.state disks.items plan.now slips.items) }
     ensures good { IfOk result (λ slips. AreGood plan.now slips.items) }
-    ensures stops { IfErr result (StopsReading O.is_honest O.state disks.items plan.now) }
+    ensures stops { IfErr result (λ e. StopsReading O.is_honest O.state disks.items plan.now e.fault) }
+    ensures names { IfErr result (λ e. NamesDisk O.is_honest O.state disks.items plan.now e.fault e.refused) }
 {
     judged(alloc, plan, slips_of_all(alloc, plan, disks)?)
 }
@@ -32,22 +41,27 @@ pub(crate) fn judged_file_slips(
     host: &HostRuntime,
     plan: &Plan,
     paths: &[&str],
-) -> Result<Vec<Slip>, CliFault>
+) -> Result<Vec<Slip>, Unjoined>
     ensures good { IfOk result (λ slips. AreGood plan.now slips.items) }
-    ensures stops { IfErr result (StopsReadingFiles plan.now) }
+    ensures stops { IfErr result (λ e. StopsReadingFiles plan.now e.fault) }
+    ensures names { IfErr result (λ e. NamesFile (length paths.now) e.fault e.refused) }
 {
     judged(host.alloc(), plan, slips_of_files(host, plan, paths)?)
 }
 
 /// Slips of a plan, if a ledger can begin with them.
-fn judged(alloc: Global, plan: &Plan, slips: Vec<Slip>) -> Result<Vec<Slip>, CliFault>
+fn judged(alloc: Global, plan: &Plan, slips: Vec<Slip>) -> Result<Vec<Slip>, Unjoined>
     ensures same { IfOk result (λ found. found.items ≡ slips.items) }
     ensures good { IfOk result (λ found. AreGood plan.now found.items) }
-    ensures stops { IfErr result (HaveBadSlip plan.now slips.items) }
+    ensures stops { IfErr result (λ e. HaveBadSlip plan.now slips.items e.fault) }
+    ensures none { IfErr result (λ e. e.refused ≡ None) }
 {
     match judge(alloc, plan, &slips) {
         Ok(()) => Ok(slips),
-        Err(fault) => Err(fault_of(fault)),
+        Err(fault) => Err(Unjoined {
+            fault: fault_of(fault),
+            refused: None,
+        }),
     }
 }
 
@@ -56,32 +70,76 @@ fn slips_of_all<O: Disk + Drop>(
     alloc: Global,
     plan: &Plan,
     disks: Vec<O>,
-) -> Result<Vec<Slip>, CliFault>
+) -> Result<Vec<Slip>, Unjoined>
     ensures held { IfOk result (λ slips. HoldAll O.is_honest O.state disks.items plan.now slips.items) }
-    ensures stops { IfErr result (IsUnread O.is_honest O.state disks.items plan.now) }
+    ensures stops { IfErr result (λ e. IsUnread O.is_honest O.state disks.items plan.now e.fault) }
+    ensures names { IfErr result (λ e. NamesDisk O.is_honest O.state disks.items plan.now e.fault e.refused) }
 {
     let mut slips = Vec::new(alloc);
+    let mut read = 0;
     for disk in disks {
-        let found = slips_on(alloc, plan, disk)?;
-        slips.extend_from_slice(&found)?;
+        if let Err(fault) = add_slips(alloc, plan, disk, &mut slips) {
+            return Err(unread_at(read + 1, fault));
+        }
+        read += 1;
     }
     Ok(slips)
 }
 
 /// The slips that the files at some paths hold for a plan, in the order of the paths. One file is open at a time.
-fn slips_of_files(host: &HostRuntime, plan: &Plan, paths: &[&str]) -> Result<Vec<Slip>, CliFault>
-    ensures { IfErr result MayNotRead }
+fn slips_of_files(host: &HostRuntime, plan: &Plan, paths: &[&str]) -> Result<Vec<Slip>, Unjoined>
+    ensures stops { IfErr result (λ e. MayNotRead e.fault) }
+    ensures names { IfErr result (λ e. NamesFile (length paths.now) e.fault e.refused) }
 {
-    let alloc = host.alloc();
-    let mut slips = Vec::new(alloc);
-    for path in paths {
-        let Ok(disk) = FileDisk::open(host, path) else {
-            return Err(CliFault::Journal(JournalFault::Disk));
-        };
-        let found = slips_on(alloc, plan, disk)?;
-        slips.extend_from_slice(&found)?;
+    let mut slips = Vec::new(host.alloc());
+    for (index, path) in paths.iter().enumerate() {
+        if let Err(fault) = add_file_slips(host, plan, path, &mut slips) {
+            return Err(unread_at(index + 1, fault));
+        }
     }
     Ok(slips)
+}
+
+/// Why the checkpoint at a place, from 1, is not joined.
+fn unread_at(place: usize, fault: CliFault) -> Unjoined
+    ensures same { result.fault ≡ fault }
+    ensures refused { result.refused ≡ refused_at place fault }
+{
+    let refused = match &fault {
+        CliFault::Journal(_) => Some(place),
+        _ => None,
+    };
+    Unjoined { fault, refused }
+}
+
+/// Adds to slips those that a disk holds for a plan.
+fn add_slips<O: Disk + Drop>(
+    alloc: Global,
+    plan: &Plan,
+    disk: O,
+    slips: &mut Vec<Slip>,
+) -> Result<(), CliFault>
+    ensures adds { IfOk result (λ _. AddsHeld O.is_honest O.state disk plan.now slips.old.items slips.new.items) }
+    ensures stops { IfErr result (IsUnopened O.is_honest O.state disk plan.now) }
+{
+    let found = slips_on(alloc, plan, disk)?;
+    slips.extend_from_slice(&found)?;
+    Ok(())
+}
+
+/// Adds to slips those that the file at a path holds for a plan.
+fn add_file_slips(
+    host: &HostRuntime,
+    plan: &Plan,
+    path: &str,
+    slips: &mut Vec<Slip>,
+) -> Result<(), CliFault>
+    ensures { IfErr result MayNotRead }
+{
+    let Ok(disk) = FileDisk::open(host, path) else {
+        return Err(CliFault::Journal(JournalFault::Disk));
+    };
+    add_slips(host.alloc(), plan, disk, slips)
 }
 
 /// The slips that a disk holds for a plan.

@@ -17,5 +17,5 @@ pub mod laws;
 mod share_answer;
 mod share_command;
 
-pub use join_command::{Joined, join_files, join_io};
+pub use join_command::{Joined, JoinedFiles, join_files, join_io};
 pub use share_command::{ShareWork, Shared, share_file, share_io};

@@ -2,10 +2,11 @@
 //! fail at each of their calls.
 
 use super::joins::{OTHER, PLAN, Row, TWO_FILES, slips_of};
+use cut_commands::CliFault;
 use cut_disks::{Disk, FaultyDisk, Tear};
 use cut_join::join;
 use cut_journal::Journal;
-use cut_machines::{join_files, join_io};
+use cut_machines::{Joined, JoinedFiles, join_files, join_io};
 use cut_plan::Plan;
 use cut_wires::MemoryWire;
 use std::alloc::Global;
@@ -71,11 +72,27 @@ fn three_checkpoints_are_joined(rt: HostRuntime) -> Result<(), Fail> {
     }
 }
 
-// Whether old disks are refused by this line, and nothing is written to the new one.
-fn are_refused(alloc: Global, old: Vec<FaultyDisk>, line: &str) -> Result<bool, Fail> {
-    let mut disk = disk_of(alloc, b"")?;
-    let text = printed(alloc, old, &mut disk)?;
-    Ok(text.as_str() == line && disk.memory().bytes().is_empty())
+// Whether old disks are refused by this line, and this one of them is named, and nothing is written to the new one.
+fn are_refused(
+    alloc: Global,
+    old: Vec<FaultyDisk>,
+    line: &str,
+    place: Option<usize>,
+) -> Result<bool, Fail> {
+    let mut wire = MemoryWire::new(alloc, Vec::from_slice(alloc, PLAN.as_bytes())?, 4096);
+    let Joined {
+        disk,
+        refused,
+        ended,
+    } = join_io(alloc, &mut wire, old, disk_of(alloc, b"")?);
+    match ended {
+        Ok(()) => Ok(false),
+        Err(fault) => Ok(
+            fault.to_string(alloc)?.as_str() == line
+                && refused == place
+                && disk.memory().bytes().is_empty(),
+        ),
+    }
 }
 
 // A checkpoint with the slips of the first file, and another one.
@@ -90,11 +107,11 @@ fn first_and(alloc: Global, other: FaultyDisk) -> Result<Vec<FaultyDisk>, Fail> 
 fn old_checkpoints_that_are_refused(rt: HostRuntime) -> Result<(), Fail> {
     let alloc = rt.alloc();
     let same = first_and(alloc, checkpoint_of(alloc, PLAN, &TWO_FILES[..3])?)?;
-    assert!(rt; are_refused(alloc, same, "cutlab: fault 17 BadSlip 4")?);
+    assert!(rt; are_refused(alloc, same, "cutlab: fault 17 BadSlip 4", None)?);
     let other = first_and(alloc, checkpoint_of(alloc, OTHER, &[])?)?;
-    assert!(rt; are_refused(alloc, other, "cutlab: fault 23 OtherPlan")?);
+    assert!(rt; are_refused(alloc, other, "cutlab: fault 23 OtherPlan", Some(2))?);
     let none = first_and(alloc, disk_of(alloc, b"")?)?;
-    assert!(rt; are_refused(alloc, none, "cutlab: fault 22 NoStudy")?);
+    assert!(rt; are_refused(alloc, none, "cutlab: fault 22 NoStudy", Some(2))?);
     Ok(())
 }
 
@@ -149,19 +166,44 @@ fn each_call_of_a_disk_fails(rt: HostRuntime) -> Result<(), Fail> {
     Ok(())
 }
 
+// Three checkpoints are joined three times. Where no allocation is refused, each join is whole; the test also holds where
+// any one allocation of the joins is refused, and is meant to be run so by hand.
+#[test]
+fn a_refused_allocation_stops_one_join(rt: HostRuntime) -> Result<(), Fail> {
+    let alloc = rt.alloc();
+    let mut stopped = 0u32;
+    for _ in 0..3 {
+        let mut wire = MemoryWire::new(alloc, Vec::from_slice(alloc, PLAN.as_bytes())?, 4096);
+        let old = three_checkpoints(alloc)?;
+        let ended = join_io(alloc, &mut wire, old, disk_of(alloc, b"")?).ended;
+        if matches!(ended, Err(CliFault::Memory)) {
+            stopped = stopped.saturating_add(1);
+        } else {
+            assert!(rt;
+                matches!(ended, Ok(())) && wire.taken() == b"joined 6 into 3, 11 of 12\n".as_slice()
+            );
+        }
+    }
+    assert!(rt; stopped <= 1);
+    Ok(())
+}
+
 const FOLDER: &str = "cutlab_join_test";
 
 const FILES: [&str; 2] = ["cutlab_join_test/1.cut", "cutlab_join_test/2.cut"];
 
 const NEW: &str = "cutlab_join_test/new.cut";
 
-// What joining files in another one prints, which is its answer or its fault.
+// What joining files in another one prints, which is its answer or its fault, after the place of a refused one.
 fn printed_of_files(host: &HostRuntime, old: &[&str], new: &str) -> Result<String, Fail> {
     let alloc = host.alloc();
     let mut wire = MemoryWire::new(alloc, Vec::from_slice(alloc, PLAN.as_bytes())?, 4096);
-    match join_files(host, &mut wire, old, new) {
-        Ok(()) => Ok(String::from_utf8_lossy(alloc, wire.taken())?),
-        Err(fault) => Ok(fault.to_string(alloc)?),
+    let JoinedFiles { refused, ended } = join_files(host, &mut wire, old, new);
+    match (refused, ended) {
+        (None, Ok(())) => Ok(String::from_utf8_lossy(alloc, wire.taken())?),
+        (Some(place), Err(fault)) => Ok(format!(in alloc; "{place}, {fault}")?),
+        (None, Err(fault)) => Ok(fault.to_string(alloc)?),
+        (Some(place), Ok(())) => Ok(format!(in alloc; "{place}")?),
     }
 }
 
@@ -179,7 +221,7 @@ fn files_are_joined(rt: HostRuntime) -> Result<(), Fail> {
     let second = printed_of_files(&rt, &FILES, NEW)?;
     assert!(rt; second.as_str() == "cutlab: fault 25 Held");
     let third = printed_of_files(&rt, &[FILES[0], NEW], NEW)?;
-    assert!(rt; third.as_str() == "cutlab: fault 20 Disk");
+    assert!(rt; third.as_str() == "2, cutlab: fault 20 Disk");
     let fourth = printed_of_files(&rt, &[FILES[0], NEW], FILES[1])?;
     assert!(rt; fourth.as_str() == "cutlab: fault 17 BadSlip 4");
     Ok(fs::remove_dir_all(&rt, FOLDER)?)

@@ -179,30 +179,58 @@ fn is_same(members: &Option<Vec<u16>>, proposal: &Option<Proposal>) -> bool {
     }
 }
 
-/// Four receivers of drawn alerts on drawn rings: each lane that is not in doubt proposes what is replayed.
-fn check_alerts(
+/// Drawn rings, and their drawn alerts at four receivers.
+#[derive(Drop)]
+struct Drawn {
+    rule: Rule,
+    rings: Rings,
+    alerts: Vec<Alert>,
+    highs: Vec<u32x4>,
+    closing: Closing,
+}
+
+/// Draws rings and alerts.
+fn drawn_lanes(
     rt: &impl Abort,
     alloc: Global,
     words: &mut ChaCha8Rng,
     rule: Rule,
-    tally: &mut Counts,
-) -> Result<(), Fail> {
+) -> Result<Drawn, Fail> {
     let rings = drawn_rings(alloc, words, PROCESSES, rule.k)?;
     let alerts = drawn_alerts(alloc, words, rule.k)?;
     let (highs, closing) = closing_of(rt, alloc, &alerts, rule)?;
+    Ok(Drawn {
+        rule,
+        rings,
+        alerts,
+        highs,
+        closing,
+    })
+}
+
+/// Whether a lane proposes, if it does what is replayed.
+fn proposes(rt: &impl Abort, alloc: Global, drawn: &Drawn, lane: usize) -> Result<bool, Fail> {
+    let edges = heard(alloc, &drawn.alerts, lane)?;
+    let proposal = replayed(rt, alloc, &drawn.rings, drawn.rule, &edges)?;
+    let members = ended(alloc, &drawn.highs, &drawn.closing, lane)?;
+    assert!(rt; is_same(&members, &proposal));
+    Ok(members.is_some())
+}
+
+/// Four receivers of drawn alerts on drawn rings: each lane that is not in doubt proposes what is replayed.
+fn check_alerts(
+    rt: &impl Abort,
+    alloc: Global,
+    drawn: &Drawn,
+    tally: &mut Counts,
+) -> Result<(), Fail> {
     for lane in 0..4 {
-        if closing.doubt >> lane & 1 == 1 {
+        if drawn.closing.doubt >> lane & 1 == 1 {
             tally.doubts = tally.doubts.saturating_add(1);
-            continue;
-        }
-        let edges = heard(alloc, &alerts, lane)?;
-        let proposal = replayed(rt, alloc, &rings, rule, &edges)?;
-        let members = ended(alloc, &highs, &closing, lane)?;
-        assert!(rt; is_same(&members, &proposal), "lane {lane}");
-        if members.is_none() {
-            tally.silent = tally.silent.saturating_add(1);
-        } else {
+        } else if proposes(rt, alloc, drawn, lane)? {
             tally.proposals = tally.proposals.saturating_add(1);
+        } else {
+            tally.silent = tally.silent.saturating_add(1);
         }
     }
     Ok(())
@@ -220,7 +248,8 @@ fn lanes_of_seven_bits_propose_what_whole_keys_do(rt: HostRuntime) -> Result<(),
             implicit: false,
         };
         for _ in 0..50 {
-            check_alerts(&rt, rt.alloc(), &mut words, rule, &mut tally)?;
+            let drawn = drawn_lanes(&rt, rt.alloc(), &mut words, rule)?;
+            check_alerts(&rt, rt.alloc(), &drawn, &mut tally)?;
         }
     }
     assert!(rt; tally.doubts > 80 && tally.silent > 80 && tally.proposals > 80);

@@ -33,7 +33,7 @@ const ORDERS: [[u16; 6]; 4] = [
 ];
 
 /// What is found of a receiver, and the place at which the detector proposes.
-#[derive(Clone, Copy, Debug, PartialEq, Eq)]
+#[derive(Clone, Copy, PartialEq, Eq)]
 struct Found {
     finding: Finding,
     place: u32,
@@ -88,25 +88,27 @@ fn found_of_receiver(
     }))
 }
 
+/// Trials and receivers, what is found of each, the place that its lane says, and that at which the detector proposes.
+const TIES: [(u32, u16, Finding, u32, Option<u64>); 3] = [
+    (46_712, 1304, Finding::Wanted, 8, Some(7)),
+    (20_030, 1307, Finding::Wanted, 6, Some(6)),
+    (133_101, 1699, Finding::Doubtful, 21, None),
+];
+
 #[test]
 fn equal_images_are_in_doubt(rt: HostRuntime) -> Result<(), Fail> {
     let setting = setting(&rt, rt.alloc())?;
-    let rows = [
-        (46_712, 1304, Finding::Wanted, 8, Some(7)),
-        (20_030, 1307, Finding::Wanted, 6, Some(6)),
-        (133_101, 1699, Finding::Doubtful, 21, None),
-    ];
-    for (number, receiver, finding, place, settled) in rows {
+    for (number, receiver, finding, place, settled) in TIES {
         let blocks = Blocks::new(SEED, number);
         let scene = setting.scene(&blocks, number, COPIES);
-        let found = found_of_receiver(rt.alloc(), scene, receiver)?;
+        let found = found_of_receiver(rt.alloc(), scene, receiver % 2048)?;
         let wanted = Found {
             finding,
             place,
             is_doubtful: true,
             settled,
         };
-        assert_eq!(rt; found, Some(wanted));
+        assert!(rt; found == Some(wanted));
     }
     Ok(())
 }

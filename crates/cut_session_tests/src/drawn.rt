@@ -1,15 +1,16 @@
 //! Sessions whose requests are drawn, with each end after any number of them; a million requests; and studies
 //! that don't come.
-ghost use Rattle.std.specs.Prelude.{true, ◌≡◌};
+ghost use Rattle.std.specs.Prelude.{true, ◌≡◌, ◌<◌};
 
 use crate::halls::{EMPTY, House, serve, wire_over};
 use crate::readings::from_hex;
-use crate::vectors::TWO_CELLS;
+use crate::vectors::two_cells;
 use cut_book::{NoShelf, Shelf, ShelfFault};
 use cut_disks::{FaultyDisk, Tear};
 use cut_plan::Plan;
 use cut_session::{SessionEnd, SessionFault, StreamFault};
-use std::alloc::Global;
+use cut_wires::FaultyWire;
+use std::alloc::{AllocError, Global};
 use std::sync::Wait;
 use std::test::Fail;
 
@@ -59,85 +60,116 @@ const BAD_LENGTH: SessionEnd = SessionEnd::Fault(SessionFault::Stream(StreamFaul
 
 const TRUNCATED: SessionEnd = SessionEnd::Fault(SessionFault::Truncated);
 
-/// A place below a length, which a seed draws.
-fn drawn(seed: usize, length: usize) -> usize {
-    seed.wrapping_mul(2_654_435_769).wrapping_add(40_503) / 65_536 % length.max(1)
+/// A place among the requests, which a seed draws.
+fn drawn(seed: usize) -> usize
+    ensures { result < 7 }
+{
+    seed.wrapping_mul(2_654_435_769).wrapping_add(40_503) / 65_536 % 7
 }
 
-/// Drawn requests, this many, with what ends them, and the replies.
+/// Adds drawn requests, this many; or the replies to them.
+fn push_drawn(
+    bytes: &mut Vec<u8>,
+    seed: usize,
+    count: usize,
+    is_sent: bool,
+) -> Result<(), AllocError> {
+    for turn in 0..count {
+        let (request, reply) = REQUESTS[drawn(seed.wrapping_add(turn))];
+        bytes.extend_from_slice(if is_sent { request } else { reply })?;
+    }
+    Ok(())
+}
+
+/// Drawn requests, this many, with these bytes after them; or the replies to them.
 fn stream(
     alloc: Global,
     seed: usize,
     count: usize,
-    end: (&[u8], &[u8]),
-) -> Result<(Vec<u8>, Vec<u8>), Fail> {
-    let mut sent = Vec::new(alloc);
-    let mut replies = Vec::new(alloc);
-    for turn in 0..count {
-        let place = drawn(seed.wrapping_add(turn), REQUESTS.len());
-        if let Some((request, reply)) = REQUESTS.get(place) {
-            sent.extend_from_slice(request)?;
-            replies.extend_from_slice(reply)?;
-        }
-    }
-    sent.extend_from_slice(end.0)?;
-    replies.extend_from_slice(end.1)?;
-    Ok((sent, replies))
+    is_sent: bool,
+    last: &[u8],
+) -> Result<Vec<u8>, AllocError> {
+    let mut bytes = Vec::new(alloc);
+    push_drawn(&mut bytes, seed, count, is_sent)?;
+    bytes.extend_from_slice(last)?;
+    Ok(bytes)
 }
 
-/// How a session ends in an empty hall of one slot, to which a number of bytes come at once, and what its wire
-/// takes.
+/// How a session ends in an empty hall of one slot, to which a number of bytes come at once, if its wire takes these
+/// replies.
 fn alone<S: Shelf<FaultyDisk>, R: Wait>(
     rt: &R,
     alloc: Global,
     shelf: &S,
-    input: Vec<u8>,
-    per: usize,
-) -> Result<(SessionEnd, Vec<u8>), Fail>
+    mut wire: FaultyWire,
+    replies: &[u8],
+) -> Result<Option<SessionEnd>, Fail>
     requires { S.is_true shelf.now ≡ true }
 {
-    let mut wire = wire_over(alloc, input, per);
     let end = serve(rt, alloc, EMPTY, &[], shelf, &mut wire)?;
-    Ok((end, Vec::from_slice(alloc, wire.taken())?))
+    Ok((wire.taken() == replies).then_some(end))
+}
+
+/// How a session ends for drawn requests, and this end after them.
+fn drawn_end<R: Wait>(
+    rt: &R,
+    alloc: Global,
+    number: usize,
+    count: usize,
+    per: usize,
+) -> Result<Option<SessionEnd>, Fail> {
+    let seed = number
+        .wrapping_mul(1000)
+        .wrapping_add(count.wrapping_mul(31))
+        .wrapping_add(per);
+    let (last, reply, _) = ENDS[number % 15];
+    let sent = stream(alloc, seed, count, true, last)?;
+    let wire = wire_over(alloc, sent, per);
+    let replies = stream(alloc, seed, count, false, reply)?;
+    alone(rt, alloc, &NoShelf, wire, replies.as_slice())
 }
 
 #[test]
 fn each_end_comes_after_any_number_of_requests(rt: HostRuntime) -> Result<(), Fail> {
-    let alloc = rt.alloc();
-    for (number, (last, reply, right)) in ENDS.iter().enumerate() {
+    for (number, (_, _, right)) in ENDS.iter().enumerate() {
         for count in 0..24 {
             for per in [1, 4, 17, 5000] {
-                let seed = number * 1000 + count * 31 + per;
-                let (sent, replies) = stream(alloc, seed, count, (last, reply))?;
-                let (end, taken) = alone(&rt, alloc, &NoShelf, sent, per)?;
-                assert!(rt;
-                    end == *right && taken == replies,
-                    "end {number} later {count}"
-                );
+                let end = drawn_end(&rt, rt.alloc(), number, count, per)?;
+                assert!(rt; end == Some(*right), "end {number} later {count}");
             }
         }
     }
     Ok(())
 }
 
-/// How a session ends for a million questions for a count with a message that quits after them, and what its wire takes
-/// then.
-fn after_a_million<R: Wait>(rt: &R, alloc: Global) -> Result<(SessionEnd, Vec<u8>), Fail> {
-    let mut sent = Vec::with_capacity(alloc, 9_000_005)?;
+/// Adds a million of these parts.
+fn push_million(bytes: &mut Vec<u8>, part: &[u8]) -> Result<(), AllocError> {
     for _ in 0..1_000_000 {
-        sent.extend_from_slice(REQUESTS[0].0)?;
+        bytes.extend_from_slice(part)?;
     }
-    sent.extend_from_slice(b"Q\0\0\0\0")?;
-    alone(rt, alloc, &NoShelf, sent, 5000)
+    Ok(())
+}
+
+/// The bytes of a million of these parts with another one after them.
+fn million(alloc: Global, part: &[u8], last: &[u8]) -> Result<Vec<u8>, AllocError> {
+    let mut bytes = Vec::new(alloc);
+    push_million(&mut bytes, part)?;
+    bytes.extend_from_slice(last)?;
+    Ok(bytes)
+}
+
+/// How a session ends for a million questions for a count with a message that quits after them.
+fn after_a_million<R: Wait>(rt: &R, alloc: Global) -> Result<Option<SessionEnd>, Fail> {
+    let (request, reply) = REQUESTS[0];
+    let replies = million(alloc, reply, b"E\0\0\0\x02\0\x2c")?;
+    let wire = wire_over(alloc, million(alloc, request, b"Q\0\0\0\0")?, 5000);
+    alone(rt, alloc, &NoShelf, wire, replies.as_slice())
 }
 
 #[test]
 fn a_message_that_quits_may_be_one_too_many(rt: HostRuntime) -> Result<(), Fail> {
-    let (end, taken) = after_a_million(&rt, rt.alloc())?;
-    let (replies, last) = taken.split_at(taken.len().min(13_000_000));
-    assert!(rt; end == SessionEnd::Fault(SessionFault::TooManyRequests));
-    assert!(rt; replies.chunks_exact(13).all(|reply| reply == REQUESTS[0].1));
-    assert!(rt; last == b"E\0\0\0\x02\0\x2c".as_slice());
+    let end = after_a_million(&rt, rt.alloc())?;
+    assert!(rt; end == Some(SessionEnd::Fault(SessionFault::TooManyRequests)));
     Ok(())
 }
 
@@ -157,25 +189,12 @@ impl Shelf<FaultyDisk> for ClosedShelf {
     }
 }
 
-/// The request for the study of two cells, and the first bytes of its replies.
-fn two_cells(alloc: Global, bytes: usize) -> Result<(Vec<u8>, Vec<u8>), Fail> {
-    let mut sent = from_hex(alloc, TWO_CELLS.sent.bytes)?;
-    let mut replies = from_hex(alloc, TWO_CELLS.replies.bytes)?;
+/// The request for the study of two cells, with these bytes after it.
+fn two_cells_sent(alloc: Global, last: &[u8]) -> Result<Vec<u8>, Fail> {
+    let mut sent = from_hex(alloc, two_cells().sent.bytes)?;
     sent.truncate(257);
-    replies.truncate(bytes);
-    Ok((sent, replies))
-}
-
-/// How a session ends that asks for the study of two cells and then for its count, where the shelf gives no
-/// disk, and what its wire takes.
-fn without_disk<R: Wait>(
-    rt: &R,
-    alloc: Global,
-    fault: ShelfFault,
-) -> Result<(SessionEnd, Vec<u8>), Fail> {
-    let (mut sent, _) = two_cells(alloc, 0)?;
-    sent.extend_from_slice(REQUESTS[0].0)?;
-    alone(rt, alloc, &ClosedShelf { fault }, sent, 50)
+    sent.extend_from_slice(last)?;
+    Ok(sent)
 }
 
 #[test]
@@ -192,8 +211,9 @@ fn a_study_without_its_disk_is_refused(rt: HostRuntime) -> Result<(), Fail> {
         ),
     ];
     for (fault, replies) in rows {
-        let (end, taken) = without_disk(&rt, alloc, fault)?;
-        assert!(rt; end == SessionEnd::EndOfInput && taken.as_slice() == replies);
+        let wire = wire_over(alloc, two_cells_sent(alloc, REQUESTS[0].0)?, 50);
+        let end = alone(&rt, alloc, &ClosedShelf { fault }, wire, replies)?;
+        assert!(rt; end == Some(SessionEnd::EndOfInput));
     }
     Ok(())
 }
@@ -220,40 +240,46 @@ impl Shelf<FaultyDisk> for FaultyShelf {
     }
 }
 
-/// What the study of two cells is answered, with the count after it, when this many of its two pieces were
-/// worked on, over a disk that fails in the call with this number.
-fn after_pieces<R: Wait>(
-    rt: &R,
-    alloc: Global,
+/// How a session goes that asks for the study of two cells, and then for its count: how many of the study's two pieces
+/// were worked on, the number of the call in which its disk fails, how many bytes of the whole answer come, what says
+/// why no more do, and how many trials are counted.
+#[derive(Clone, Copy)]
+struct Row {
     pieces: u64,
     fail_at: u64,
-) -> Result<Vec<u8>, Fail> {
-    let (request, _) = two_cells(alloc, 0)?;
-    let mut sent = Vec::from_slice(alloc, request.as_slice())?;
-    sent.extend_from_slice(REQUESTS[0].0)?;
+    bytes: usize,
+    frame: &'static [u8],
+    counted: u8,
+}
+
+/// What the session of a row is answered.
+fn broken_off(alloc: Global, row: Row) -> Result<Vec<u8>, Fail> {
+    let mut replies = from_hex(alloc, two_cells().replies.bytes)?;
+    replies.truncate(row.bytes);
+    replies.extend_from_slice(row.frame)?;
+    replies.extend_from_slice(b"S\0\0\0\x08\0\0\0\0\0\0\0")?;
+    replies.push(row.counted)?;
+    Ok(replies)
+}
+
+/// Whether the session of a row goes so.
+fn breaks_off<R: Wait>(rt: &R, alloc: Global, row: Row) -> Result<bool, Fail> {
+    let mut wire = wire_over(alloc, two_cells_sent(alloc, REQUESTS[0].0)?, 60);
     let house = House {
         slots: 1,
         size: 3,
-        pieces,
+        pieces: row.pieces,
     };
-    let shelf = FaultyShelf { fail_at };
-    let mut wire = wire_over(alloc, sent, 60);
-    serve(rt, alloc, house, request.as_slice(), &shelf, &mut wire)?;
-    Ok(Vec::from_slice(alloc, wire.taken())?)
-}
-
-/// The first bytes of the whole answer, this many, what says why no more come, and how many trials are counted.
-fn broken_off(alloc: Global, bytes: usize, frame: &[u8], counted: u8) -> Result<Vec<u8>, Fail> {
-    let (_, mut replies) = two_cells(alloc, bytes)?;
-    replies.extend_from_slice(frame)?;
-    replies.extend_from_slice(b"S\0\0\0\x08\0\0\0\0\0\0\0")?;
-    replies.push(counted)?;
-    Ok(replies)
+    let shelf = FaultyShelf {
+        fail_at: row.fail_at,
+    };
+    let before = two_cells_sent(alloc, b"")?;
+    serve(rt, alloc, house, before.as_slice(), &shelf, &mut wire)?;
+    Ok(wire.taken() == broken_off(alloc, row)?.as_slice())
 }
 
 #[test]
 fn a_study_may_break_off_after_any_line(rt: HostRuntime) -> Result<(), Fail> {
-    let alloc = rt.alloc();
     // Ten calls open the disk, and each append makes four.
     let rows: [(u64, u64, usize, &[u8], u8); 5] = [
         (2, 0, 160, b"", 6),
@@ -263,9 +289,17 @@ fn a_study_may_break_off_after_any_line(rt: HostRuntime) -> Result<(), Fail> {
         (2, 15, 116, b"E\0\0\0\x02\0\x1e", 3),
     ];
     for (pieces, fail_at, bytes, frame, counted) in rows {
-        let replies = broken_off(alloc, bytes, frame, counted)?;
-        let taken = after_pieces(&rt, alloc, pieces, fail_at)?;
-        assert!(rt; taken == replies, "after {pieces} and {fail_at}");
+        let row = Row {
+            pieces,
+            fail_at,
+            bytes,
+            frame,
+            counted,
+        };
+        assert!(rt;
+            breaks_off(&rt, rt.alloc(), row)?,
+            "after {pieces} and {fail_at}"
+        );
     }
     Ok(())
 }

@@ -5,10 +5,10 @@ use cut_book::Shelf;
 use cut_disks::FaultyDisk;
 use cut_hall::{CallLedger, Gate, Hall, Pass};
 use cut_plan::Plan;
-use cut_session::{Kind, Reader, SessionEnd, session};
+use cut_session::{Reader, SessionEnd, session};
 use cut_trial::Piece;
 use cut_wires::FaultyWire;
-use std::alloc::Global;
+use std::alloc::{AllocError, Global};
 use std::marker::Brand;
 use std::sync::Wait;
 use std::sync::atomic::{AtomicU64, Ordering};
@@ -71,7 +71,7 @@ fn work_through<M, K, S, R>(
     hall: &Stormy<M, K>,
     pass: &mut Pass<M>,
     scene: &Scene<'_, S>,
-) -> Result<(), Fail>
+) -> Result<(), AllocError>
 where
     M: CallLedger,
     K: CallLedger,
@@ -80,20 +80,7 @@ where
     requires own { pass.old.hall ≡ hall.now.id }
     requires trusted { S.is_true scene.now.shelf.now ≡ true }
 {
-    let mut reader = Reader::requests(alloc);
-    let fed = reader.feed(alloc, scene.before)?;
-    for message in fed.messages.iter() {
-        if message.kind == Kind::Submit {
-            submit(
-                rt,
-                alloc,
-                hall,
-                pass,
-                scene.shelf,
-                message.payload.as_slice(),
-            )?;
-        }
-    }
+    submit_all(rt, alloc, hall, pass, scene)?;
     if scene.house.pieces > 0 {
         let gate = LastGate {
             hall,
@@ -101,6 +88,38 @@ where
             last: scene.house.pieces - 1,
         };
         hall.work(rt, alloc, pass, &gate);
+    }
+    Ok(())
+}
+
+/// Submits the study of each plan that is asked for before the session.
+fn submit_all<M, K, S, R>(
+    rt: &R,
+    alloc: Global,
+    hall: &Stormy<M, K>,
+    pass: &mut Pass<M>,
+    scene: &Scene<'_, S>,
+) -> Result<(), AllocError>
+where
+    M: CallLedger,
+    K: CallLedger,
+    S: Shelf<FaultyDisk>,
+    R: Wait,
+    requires own { pass.old.hall ≡ hall.now.id }
+    requires trusted { S.is_true scene.now.shelf.now ≡ true }
+    ensures { pass.new.hall ≡ pass.old.hall }
+{
+    let mut reader = Reader::requests(alloc);
+    let fed = reader.feed(alloc, scene.before)?;
+    for message in fed.messages.iter() {
+        submit(
+            rt,
+            alloc,
+            hall,
+            pass,
+            scene.shelf,
+            message.payload.as_slice(),
+        );
     }
     Ok(())
 }
@@ -113,7 +132,7 @@ fn submit<M, K, S, R>(
     pass: &mut Pass<M>,
     shelf: &S,
     text: &[u8],
-) -> Result<(), Fail>
+)
 where
     M: CallLedger,
     K: CallLedger,
@@ -121,12 +140,11 @@ where
     R: Wait,
     requires own { pass.old.hall ≡ hall.now.id }
     requires trusted { S.is_true shelf.now ≡ true }
-    ensures { pass.new ≡ pass.old }
+    ensures { pass.new.hall ≡ pass.old.hall }
 {
     if let Ok(plan) = Plan::from_json(alloc, text) {
-        hall.submit(rt, alloc, pass, plan, shelf)?;
+        let _ = hall.submit(rt, alloc, pass, plan, shelf);
     }
-    Ok(())
 }
 
 /// A session over this wire, in a new hall.

@@ -2,7 +2,7 @@
 
 use crate::vectors::{Stream, sessions};
 use cut_session::{EndFault, Kind, Message, Payload, Reader, Side, StreamFault};
-use std::alloc::Global;
+use std::alloc::{AllocError, Global};
 use std::test::Fail;
 
 /// The bytes of words of hexadecimal digits. A word may say how often its bytes stand: `20*3` is three blanks.
@@ -20,11 +20,14 @@ pub(crate) fn from_hex(alloc: Global, words: &str) -> Result<Vec<u8>, Fail> {
 /// Adds the byte of each two digits.
 fn push_hex(bytes: &mut Vec<u8>, digits: &str) -> Result<(), Fail> {
     for pair in digits.as_bytes().chunks_exact(2) {
-        let high = (pair[0] as char).to_digit(16).unwrap_or(0) as u8;
-        let low = (pair[1] as char).to_digit(16).unwrap_or(0) as u8;
-        bytes.push(high.wrapping_mul(16).wrapping_add(low))?;
+        bytes.push(digit(pair[0]).wrapping_mul(16).wrapping_add(digit(pair[1])))?;
     }
     Ok(())
+}
+
+/// The value of a hexadecimal digit.
+fn digit(letter: u8) -> u8 {
+    (letter as char).to_digit(16).unwrap_or(0) as u8
 }
 
 fn reader_of(alloc: Global, side: Side) -> Reader {
@@ -34,34 +37,45 @@ fn reader_of(alloc: Global, side: Side) -> Reader {
     }
 }
 
-/// Adds the letter and the length of each message that a piece completes.
-fn read(alloc: Global, reader: &mut Reader, piece: &[u8], text: &mut String) -> Result<(), Fail> {
+/// What is left of the letters and lengths of messages after those that a piece completes, if these have them.
+fn after_piece<'a>(
+    alloc: Global,
+    reader: &mut Reader,
+    piece: &[u8],
+    messages: &'a [(u8, usize)],
+) -> Result<Option<&'a [(u8, usize)]>, AllocError> {
     let fed = reader.feed(alloc, piece)?;
+    let mut rest = messages;
     for message in fed.messages.iter() {
-        let letter = message.kind.byte() as char;
-        let length = message.payload.as_slice().len();
-        text.push_str(format!(in alloc; "{letter}:{length} ")?.as_str())?;
+        let found = (message.kind.byte(), message.payload.as_slice().len());
+        match rest.split_first() {
+            Some((wanted, others)) if *wanted == found => rest = others,
+            _ => return Ok(None),
+        }
     }
-    Ok(())
+    Ok(Some(rest))
 }
 
 /// Whether a stream that comes in pieces of these lengths, over and over, is read as it was worked out.
-fn is_read(alloc: Global, stream: Stream, bytes: &[u8], cuts: &[usize]) -> Result<bool, Fail> {
+fn is_read(
+    alloc: Global,
+    stream: Stream,
+    bytes: &[u8],
+    cuts: &[usize],
+) -> Result<bool, AllocError> {
     let mut reader = reader_of(alloc, stream.side);
-    let mut text = String::new(alloc);
+    let mut messages = stream.messages;
     let mut rest = bytes;
     for turn in 0..bytes.len() {
         let cut = cuts.get(turn % cuts.len().max(1)).copied().unwrap_or(1);
         let (piece, others) = rest.split_at(cut.min(rest.len()));
         rest = others;
-        read(alloc, &mut reader, piece, &mut text)?;
+        match after_piece(alloc, &mut reader, piece, messages)? {
+            Some(left) => messages = left,
+            None => return Ok(false),
+        }
     }
-    match reader.finish() {
-        Ok(()) => text.push_str("whole")?,
-        Err(fault) => text.push_str(fault.to_string(alloc)?.as_str())?,
-    }
-    let messages = text.as_str().strip_suffix(stream.end);
-    Ok(messages.map(|words| words.trim_end()) == Some(stream.messages))
+    Ok(messages.is_empty() && reader.finish() == stream.end)
 }
 
 /// The lengths of the pieces in which each stream comes.
@@ -91,52 +105,63 @@ fn streams_are_read_however_they_are_cut(rt: HostRuntime) -> Result<(), Fail> {
     Ok(())
 }
 
+/// After which byte of a stream of requests its fault is reported, and what is reported at its end.
+fn fault_in(
+    alloc: Global,
+    bytes: &[u8],
+) -> Result<(Option<usize>, Result<(), EndFault>), AllocError> {
+    let mut reader = Reader::requests(alloc);
+    let mut place = None;
+    for (i, byte) in bytes.iter().enumerate() {
+        let fed = reader.feed(alloc, &[*byte])?;
+        if fed.fault.is_some() && place.is_none() {
+            place = Some(i);
+        }
+    }
+    Ok((place, reader.finish()))
+}
+
 #[test]
 fn a_fault_is_reported_at_its_first_byte(rt: HostRuntime) -> Result<(), Fail> {
-    let alloc = rt.alloc();
-    let rows: [(&[u8], StreamFault); 3] = [
-        (b"X", StreamFault::BadKind),
-        (b"R\x00\x01\x00\x01", StreamFault::TooLong),
-        (b"S\x00\x00\x00\x03", StreamFault::BadLength),
+    let rows: [(&[u8], Option<usize>, Result<(), EndFault>); 5] = [
+        (b"XQ\0\0\0\0", Some(0), BAD_KIND),
+        (b"R\0\x01\0\x01Q\0\0\0\0", Some(4), TOO_LONG),
+        (b"S\0\0\0\x03", Some(4), BAD_LENGTH),
+        (b"", None, Ok(())),
+        (b"R\0", None, Err(EndFault::Truncated)),
     ];
-    for (bytes, fault) in rows {
-        let mut reader = Reader::requests(alloc);
-        for (i, byte) in bytes.iter().enumerate() {
-            let fed = reader.feed(alloc, &[*byte])?;
-            assert_eq!(rt; fed.fault.is_some(), i + 1 == bytes.len());
-        }
-        assert_eq!(rt; reader.finish(), Err(EndFault::Stream(fault)));
-        let fed = reader.feed(alloc, b"Q\x00\x00\x00\x00")?;
-        assert!(rt; fed.messages.is_empty());
-        assert_eq!(rt; fed.fault, Some(fault));
+    for (bytes, place, end) in rows {
+        assert!(rt; fault_in(rt.alloc(), bytes)? == (place, end));
     }
-    let mut reader = Reader::requests(alloc);
-    assert_eq!(rt; reader.finish(), Ok(()));
-    reader.feed(alloc, b"R\x00")?;
-    assert_eq!(rt; reader.finish(), Err(EndFault::Truncated));
     Ok(())
+}
+
+const BAD_KIND: Result<(), EndFault> = Err(EndFault::Stream(StreamFault::BadKind));
+
+const TOO_LONG: Result<(), EndFault> = Err(EndFault::Stream(StreamFault::TooLong));
+
+const BAD_LENGTH: Result<(), EndFault> = Err(EndFault::Stream(StreamFault::BadLength));
+
+/// Whether the first message of some replies is of this kind, and carries this payload.
+fn is_carried(alloc: Global, bytes: &[u8], kind: Kind, payload: &[u8]) -> Result<bool, AllocError> {
+    let mut reader = Reader::replies(alloc);
+    let fed = reader.feed(alloc, bytes)?;
+    let Some(message) = fed.messages.into_iter().next() else {
+        return Ok(false);
+    };
+    let Message {
+        kind: found,
+        payload: carried,
+    } = message;
+    let carried = Payload::from_vec(carried.into_vec());
+    Ok(found == kind && carried.as_slice() == payload)
 }
 
 #[test]
 fn messages_carry_their_payloads(rt: HostRuntime) -> Result<(), Fail> {
     let alloc = rt.alloc();
-    let mut reader = Reader::replies(alloc);
-    let fed = reader.feed(alloc, b"T\x00\x00\x00\x03a,\nE\x00\x00\x00\x02\x00\x1dZ")?;
-    assert_eq!(rt; fed.messages.len(), 2);
-    assert_eq!(rt; fed.fault, None);
-    for (message, (kind, payload)) in fed
-        .messages
-        .into_iter()
-        .zip([(Kind::Row, "a,\n"), (Kind::Fault, "\0\x1d")])
-    {
-        let Message {
-            kind: found,
-            payload: carried,
-        } = message;
-        assert_eq!(rt; found, kind);
-        let carried = Payload::from_vec(carried.into_vec());
-        assert!(rt; carried.as_slice() == payload.as_bytes());
-    }
+    assert!(rt; is_carried(alloc, b"T\0\0\0\x03a,\nZ", Kind::Row, b"a,\n")?);
+    assert!(rt; is_carried(alloc, b"E\0\0\0\x02\0\x1d", Kind::Fault, b"\0\x1d")?);
     Ok(())
 }
 
@@ -150,13 +175,10 @@ fn faults_are_printed(rt: HostRuntime) -> Result<(), Fail> {
         (EndFault::Stream(StreamFault::BadLength), "45 BadLength"),
     ];
     for (fault, text) in rows {
-        assert_eq!(rt; fault.to_string(alloc)?.as_str(), text);
+        assert!(rt; fault.to_string(alloc)?.as_str() == text);
     }
-    assert_eq!(rt;
-        StreamFault::TooLong.to_string(alloc)?.as_str(),
-        "41 TooLong"
-    );
-    assert_eq!(rt; Side::Replies.kind_at(b'S'), Some(Kind::Count));
-    assert_eq!(rt; Side::Replies.kind_at(b'Q'), None);
+    assert!(rt; StreamFault::TooLong.to_string(alloc)?.as_str() == "41 TooLong");
+    assert!(rt; Side::Replies.kind_at(b'S') == Some(Kind::Count));
+    assert!(rt; Side::Replies.kind_at(b'Q').is_none());
     Ok(())
 }

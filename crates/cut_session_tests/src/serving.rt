@@ -7,7 +7,7 @@ use crate::vectors::{Session, sessions};
 use cut_book::NoShelf;
 use cut_session::{SessionEnd, SessionFault};
 use cut_wires::{FaultyWire, Wire, WriteFault};
-use std::alloc::{AllocError, Global};
+use std::alloc::Global;
 use std::sync::Wait;
 use std::test::Fail;
 
@@ -31,9 +31,9 @@ pub(crate) const HOUSE: House = House {
 
 /// The requests of the whole exchange, 240 bytes, and its replies, 126 bytes.
 #[derive(Drop)]
-struct Exchange {
-    sent: Vec<u8>,
-    replies: Vec<u8>,
+pub(crate) struct Exchange {
+    pub sent: Vec<u8>,
+    pub replies: Vec<u8>,
 }
 
 fn whole_exchange(alloc: Global) -> Result<Exchange, Fail> {
@@ -72,51 +72,70 @@ fn is_right<R: Wait>(rt: &R, alloc: Global, exchange: &Exchange, row: Row) -> Re
     let mut wire = FaultyWire::new(alloc, input, 1, row.room, row.read);
     let before = sent.get(..226).unwrap_or_default();
     let end = serve(rt, alloc, HOUSE, before, &NoShelf, &mut wire)?;
-    let (replies, last) = wire.taken().split_at(row.before.min(wire.taken().len()));
-    Ok(
-        end == row.end
-            && exchange.replies.as_slice().get(..row.before) == Some(replies)
-            && last == row.frame,
-    )
+    Ok(end == row.end && is_taken(wire.taken(), exchange.replies.as_slice(), row))
 }
 
-/// The word for an end, with its number.
-pub(crate) fn end_text(alloc: Global, end: SessionEnd) -> Result<String, AllocError> {
-    match end {
-        SessionEnd::Quit => String::from_str(alloc, "Quit"),
-        SessionEnd::EndOfInput => String::from_str(alloc, "EndOfInput"),
-        SessionEnd::Fault(fault) => format!(in alloc; "Fault {}", fault.code().number()),
-        SessionEnd::Write(fault) => format!(in alloc; "Write {}", fault.sent),
+/// Whether a wire took as many bytes of the replies as a row says, and its frame after them.
+fn is_taken(taken: &[u8], replies: &[u8], row: Row) -> bool {
+    match replies.get(..row.before) {
+        Some(before) => taken.strip_prefix(before) == Some(row.frame),
+        None => false,
     }
 }
 
+/// The requests and the replies of a session that was worked out.
+pub(crate) fn exchange_of(alloc: Global, session: Session) -> Result<Exchange, Fail> {
+    let sent = from_hex(alloc, session.sent.bytes)?;
+    let replies = from_hex(alloc, session.replies.bytes)?;
+    Ok(Exchange { sent, replies })
+}
+
 /// Whether a session to which this many bytes come at once goes as it was worked out.
-fn is_served<R: Wait>(rt: &R, alloc: Global, session: Session, per: usize) -> Result<bool, Fail> {
+fn is_served<R: Wait>(
+    rt: &R,
+    alloc: Global,
+    session: Session,
+    exchange: &Exchange,
+    per: usize,
+) -> Result<bool, Fail> {
     let house = House {
         slots: 2,
         size: 1_000_000,
         pieces: session.cells,
     };
-    let sent = from_hex(alloc, session.sent.bytes)?;
-    let mut wire = wire_over(alloc, from_hex(alloc, session.sent.bytes)?, per);
-    let before = sent.as_slice();
+    let before = exchange.sent.as_slice();
+    let mut wire = wire_over(alloc, Vec::from_slice(alloc, before)?, per);
     let end = serve(rt, alloc, house, before, &NoShelf, &mut wire)?;
-    let replies = from_hex(alloc, session.replies.bytes)?;
-    Ok(end_text(alloc, end)?.as_str() == session.end && wire.taken() == replies.as_slice())
+    Ok(end == session.end && wire.taken() == exchange.replies.as_slice())
+}
+
+/// Whether a session goes so whose bytes come one by one, or some or all at once.
+fn is_served_in_pieces<R: Wait>(rt: &R, alloc: Global, session: Session) -> Result<bool, Fail> {
+    let exchange = exchange_of(alloc, session)?;
+    let mut is_right = true;
+    for per in [1, 3, 10, 100, 5000] {
+        is_right = is_right && is_served(rt, alloc, session, &exchange, per)?;
+    }
+    Ok(is_right)
 }
 
 #[test]
 fn sessions_go_as_they_were_worked_out(rt: HostRuntime) -> Result<(), Fail> {
-    let alloc = rt.alloc();
     for session in sessions() {
-        for per in [1, 3, 10, 100, 5000] {
-            assert!(rt;
-                is_served(&rt, alloc, session, per)?,
-                "{per} of {}",
-                session.sent.messages
-            );
-        }
+        assert!(rt;
+            is_served_in_pieces(&rt, rt.alloc(), session)?,
+            "{}",
+            session.sent.bytes
+        );
     }
+    Ok(())
+}
+
+#[test]
+fn faults_of_sessions_are_printed(rt: HostRuntime) -> Result<(), Fail> {
+    let fault = SessionFault::TooManyRequests;
+    assert!(rt; fault.to_string(rt.alloc())?.as_str() == "44 TooManyRequests");
+    assert!(rt; fault.code().number() == 44);
     Ok(())
 }
 
@@ -169,15 +188,18 @@ fn after_read(read: u64) -> Row {
     }
 }
 
+/// Whether a session ends so whose read fails, and whose wire has room for this many bytes.
+fn is_unread<R: Wait>(rt: &R, alloc: Global, room: usize) -> Result<bool, Fail> {
+    let mut wire = FaultyWire::new(alloc, joined(alloc, &[ASK])?, 1, room, 9);
+    let end = serve(rt, alloc, EMPTY, &[], &NoShelf, &mut wire)?;
+    let failed = SessionEnd::Write(WriteFault { sent: room as u64 });
+    Ok(end == failed && Some(wire.taken()) == UNREAD.get(..room) && wire.failures() == 2)
+}
+
 #[test]
 fn a_failed_write_of_the_last_frame_is_reported(rt: HostRuntime) -> Result<(), Fail> {
-    let alloc = rt.alloc();
     for room in 0..7 {
-        let mut wire = FaultyWire::new(alloc, joined(alloc, &[ASK])?, 1, room, 9);
-        let end = serve(&rt, alloc, EMPTY, &[], &NoShelf, &mut wire)?;
-        let failed = SessionEnd::Write(WriteFault { sent: room as u64 });
-        assert!(rt; end == failed && wire.taken() == &UNREAD[..room]);
-        assert_eq!(rt; wire.failures(), 2);
+        assert!(rt; is_unread(&rt, rt.alloc(), room)?);
     }
     Ok(())
 }

@@ -1,7 +1,7 @@
 //! Sessions, each with the letters and lengths of its messages, and with how it ends. They were worked out
 //! apart from the program.
 
-use cut_session::Side;
+use cut_session::{EndFault, SessionEnd, SessionFault, Side, StreamFault};
 
 /// A stream and what it says.
 #[derive(Clone, Copy)]
@@ -10,11 +10,12 @@ pub(crate) struct Stream {
     /// Its bytes, in hexadecimal; `20*65536` is that many blanks.
     pub bytes: &'static str,
     /// The letter and the length of each message.
-    pub messages: &'static str,
-    /// The fault at its end, or `whole`.
-    pub end: &'static str,
-    /// Why a client stops whose answer it is, and how many bytes of lines it has then.
-    pub asked: &'static str,
+    pub messages: &'static [(u8, usize)],
+    /// The fault at its end, if it is not whole.
+    pub end: Result<(), EndFault>,
+    /// The number of the fault with which a client stops whose answer it is, or 0, and how many bytes of lines it has
+    /// then.
+    pub asked: (u16, usize),
 }
 
 /// A session in a hall of two slots, in which there is nobody else.
@@ -25,7 +26,7 @@ pub(crate) struct Session {
     /// What it is answered.
     pub replies: Stream,
     /// How the session ends.
-    pub end: &'static str,
+    pub end: SessionEnd,
     /// How many cells its studies have.
     pub cells: u64,
     /// How many trials the study of each slot has, 0 where the slot gets none.
@@ -34,7 +35,7 @@ pub(crate) struct Session {
 
 /// One whose study has two cells of three trials each: its request of 257 bytes is followed by a fault. The
 /// header and the first line take 116 bytes of the answer, and the header alone 77.
-pub(crate) const TWO_CELLS: Session = Session {
+const TWO_CELLS: Session = Session {
     sent: Stream {
         side: Side::Requests,
         bytes: "52000000fc7b22636f70696573223a20312c202264656164223a202273696c656e74222c2022696d706c\
@@ -44,9 +45,9 @@ pub(crate) const TWO_CELLS: Session = Session {
             20312c20226661756c7473223a20226372617368222c20226b223a205b315d2c202268223a205b315d2c\
             20226c223a205b315d2c202266223a205b332c20345d2c20226c69617273223a20312c20226c696e6b73\
             223a20327d5200010001",
-        messages: "R:252",
-        end: "41 TooLong",
-        asked: "40 0",
+        messages: &[(b'R', 252)],
+        end: Err(EndFault::Stream(StreamFault::TooLong)),
+        asked: (40, 0),
     },
     replies: Stream {
         side: Side::Replies,
@@ -54,14 +55,19 @@ pub(crate) const TWO_CELLS: Session = Session {
             6c656e742c65787472612c766f7465732c646563696465642c72696768742c70706d0a5400000022312c\
             312c312c332c332c31352c31352c302c342c362c302c302c313030303030300a5400000022312c312c31\
             2c342c332c31322c31322c302c342c392c302c302c313030303030300a5a0000000045000000020029",
-        messages: "T:72 T:34 T:34 Z:0 E:2",
-        end: "whole",
-        asked: "done 140",
+        messages: &[(b'T', 72), (b'T', 34), (b'T', 34), (b'Z', 0), (b'E', 2)],
+        end: Ok(()),
+        asked: (0, 140),
     },
-    end: "Fault 41",
+    end: SessionEnd::Fault(SessionFault::Stream(StreamFault::TooLong)),
     cells: 2,
     trials: [6, 0],
 };
+
+/// The session with the study of two cells, which is the sixteenth.
+pub(crate) fn two_cells() -> Session {
+    sessions()[15]
+}
 
 /// The sessions, each once.
 pub(crate) fn sessions() -> [Session; 20] {
@@ -73,18 +79,18 @@ const SESSIONS: [Session; 20] = [
         sent: Stream {
             side: Side::Requests,
             bytes: "530000000400000002",
-            messages: "S:4",
-            end: "whole",
-            asked: "45 0",
+            messages: &[(b'S', 4)],
+            end: Ok(()),
+            asked: (45, 0),
         },
         replies: Stream {
             side: Side::Replies,
             bytes: "4500000002001a",
-            messages: "E:2",
-            end: "whole",
-            asked: "26 0",
+            messages: &[(b'E', 2)],
+            end: Ok(()),
+            asked: (26, 0),
         },
-        end: "EndOfInput",
+        end: SessionEnd::EndOfInput,
         cells: 0,
         trials: [0, 0],
     },
@@ -92,18 +98,18 @@ const SESSIONS: [Session; 20] = [
         sent: Stream {
             side: Side::Requests,
             bytes: "5100000000",
-            messages: "Q:0",
-            end: "whole",
-            asked: "40 0",
+            messages: &[(b'Q', 0)],
+            end: Ok(()),
+            asked: (40, 0),
         },
         replies: Stream {
             side: Side::Replies,
             bytes: "",
-            messages: "",
-            end: "whole",
-            asked: "42 0",
+            messages: &[],
+            end: Ok(()),
+            asked: (42, 0),
         },
-        end: "Quit",
+        end: SessionEnd::Quit,
         cells: 0,
         trials: [0, 0],
     },
@@ -124,9 +130,9 @@ const SESSIONS: [Session; 20] = [
                 68222c20226b223a205b312c20322c20335d2c202268223a205b312c20322c20345d2c20226c223a205b\
                 325d2c202266223a205b302c20312c20345d2c20226c69617273223a20302c20226c696e6b73223a2032\
                 7d530000000400000002",
-            messages: "R:0 R:266 R:266 S:4",
-            end: "whole",
-            asked: "40 0",
+            messages: &[(b'R', 0), (b'R', 266), (b'R', 266), (b'S', 4)],
+            end: Ok(()),
+            asked: (40, 0),
         },
         replies: Stream {
             side: Side::Replies,
@@ -148,11 +154,33 @@ const SESSIONS: [Session; 20] = [
                 382c302c392c392c392c312c302c300a5400000021332c322c322c312c322c31362c372c302c372c3135\
                 2c322c312c3433373530300a5400000022332c322c322c342c322c31302c31302c302c302c362c302c30\
                 2c313030303030300a5a000000004500000002001a",
-            messages: "E:2 T:72 T:32 T:33 T:33 T:32 T:33 T:33 T:32 T:33 T:33 Z:0 T:72 T:27 T:33 T:34 T:27 T:33 T:34 Z:0 E:2",
-            end: "whole",
-            asked: "1 0",
+            messages: &[
+                (b'E', 2),
+                (b'T', 72),
+                (b'T', 32),
+                (b'T', 33),
+                (b'T', 33),
+                (b'T', 32),
+                (b'T', 33),
+                (b'T', 33),
+                (b'T', 32),
+                (b'T', 33),
+                (b'T', 33),
+                (b'Z', 0),
+                (b'T', 72),
+                (b'T', 27),
+                (b'T', 33),
+                (b'T', 34),
+                (b'T', 27),
+                (b'T', 33),
+                (b'T', 34),
+                (b'Z', 0),
+                (b'E', 2),
+            ],
+            end: Ok(()),
+            asked: (1, 0),
         },
-        end: "EndOfInput",
+        end: SessionEnd::EndOfInput,
         cells: 15,
         trials: [9, 12],
     },
@@ -167,9 +195,9 @@ const SESSIONS: [Session; 20] = [
                 312c20322c20345d2c20226c223a205b312c20345d2c202266223a205b342c20355d2c20226c69617273\
                 223a20322c20226c696e6b73223a20317d53000000040000000253000000040000000051000000005300\
                 00000400000000",
-            messages: "R:264 S:4 S:4 Q:0 S:4",
-            end: "whole",
-            asked: "40 0",
+            messages: &[(b'R', 264), (b'S', 4), (b'S', 4), (b'Q', 0), (b'S', 4)],
+            end: Ok(()),
+            asked: (40, 0),
         },
         replies: Stream {
             side: Side::Replies,
@@ -182,11 +210,22 @@ const SESSIONS: [Session; 20] = [
                 2c342c33362c392c31392c31362c31312c302c302c3235303030300a5400000021322c322c312c352c34\
                 2c33322c382c32342c362c362c302c302c3235303030300a5a000000004500000002001a530000000800\
                 00000000000018",
-            messages: "T:72 T:36 T:36 T:36 T:35 T:35 T:33 Z:0 E:2 S:8",
-            end: "whole",
-            asked: "done 283",
+            messages: &[
+                (b'T', 72),
+                (b'T', 36),
+                (b'T', 36),
+                (b'T', 36),
+                (b'T', 35),
+                (b'T', 35),
+                (b'T', 33),
+                (b'Z', 0),
+                (b'E', 2),
+                (b'S', 8),
+            ],
+            end: Ok(()),
+            asked: (0, 283),
         },
-        end: "Quit",
+        end: SessionEnd::Quit,
         cells: 6,
         trials: [24, 0],
     },
@@ -194,18 +233,18 @@ const SESSIONS: [Session; 20] = [
         sent: Stream {
             side: Side::Requests,
             bytes: "5100000000530000000400000000",
-            messages: "Q:0 S:4",
-            end: "whole",
-            asked: "40 0",
+            messages: &[(b'Q', 0), (b'S', 4)],
+            end: Ok(()),
+            asked: (40, 0),
         },
         replies: Stream {
             side: Side::Replies,
             bytes: "",
-            messages: "",
-            end: "whole",
-            asked: "42 0",
+            messages: &[],
+            end: Ok(()),
+            asked: (42, 0),
         },
-        end: "Quit",
+        end: SessionEnd::Quit,
         cells: 0,
         trials: [0, 0],
     },
@@ -225,9 +264,9 @@ const SESSIONS: [Session; 20] = [
                 73696f6e223a20312c20226661756c7473223a20226372617368222c20226b223a205b315d2c20226822\
                 3a205b315d2c20226c223a205b315d2c202266223a205b302c20312c20345d2c20226c69617273223a20\
                 302c20226c696e6b73223a20327d5300000003",
-            messages: "R:254 R:254",
-            end: "45 BadLength",
-            asked: "40 0",
+            messages: &[(b'R', 254), (b'R', 254)],
+            end: Err(EndFault::Stream(StreamFault::BadLength)),
+            asked: (40, 0),
         },
         replies: Stream {
             side: Side::Replies,
@@ -241,11 +280,23 @@ const SESSIONS: [Session; 20] = [
                 540000001f312c312c312c312c312c352c342c302c342c322c302c302c3830303030300a540000002031\
                 2c312c312c342c312c322c322c302c302c312c302c302c313030303030300a5a00000000450000000200\
                 2d",
-            messages: "T:72 T:26 T:31 T:32 Z:0 T:72 T:26 T:31 T:32 Z:0 E:2",
-            end: "whole",
-            asked: "done 161",
+            messages: &[
+                (b'T', 72),
+                (b'T', 26),
+                (b'T', 31),
+                (b'T', 32),
+                (b'Z', 0),
+                (b'T', 72),
+                (b'T', 26),
+                (b'T', 31),
+                (b'T', 32),
+                (b'Z', 0),
+                (b'E', 2),
+            ],
+            end: Ok(()),
+            asked: (0, 161),
         },
-        end: "Fault 45",
+        end: SessionEnd::Fault(SessionFault::Stream(StreamFault::BadLength)),
         cells: 3,
         trials: [3, 0],
     },
@@ -253,18 +304,18 @@ const SESSIONS: [Session; 20] = [
         sent: Stream {
             side: Side::Requests,
             bytes: "5300000003",
-            messages: "",
-            end: "45 BadLength",
-            asked: "45 0",
+            messages: &[],
+            end: Err(EndFault::Stream(StreamFault::BadLength)),
+            asked: (45, 0),
         },
         replies: Stream {
             side: Side::Replies,
             bytes: "4500000002002d",
-            messages: "E:2",
-            end: "whole",
-            asked: "45 0",
+            messages: &[(b'E', 2)],
+            end: Ok(()),
+            asked: (45, 0),
         },
-        end: "Fault 45",
+        end: SessionEnd::Fault(SessionFault::Stream(StreamFault::BadLength)),
         cells: 0,
         trials: [0, 0],
     },
@@ -279,9 +330,9 @@ const SESSIONS: [Session; 20] = [
                 2268223a205b312c20322c20335d2c20226c223a205b315d2c202266223a205b302c20315d2c20226c69\
                 617273223a20312c20226c696e6b73223a20307d53000000040000000051000000005300000004000000\
                 00",
-            messages: "R:65536 R:257 S:4 Q:0 S:4",
-            end: "whole",
-            asked: "40 0",
+            messages: &[(b'R', 65536), (b'R', 257), (b'S', 4), (b'Q', 0), (b'S', 4)],
+            end: Ok(()),
+            asked: (40, 0),
         },
         replies: Stream {
             side: Side::Replies,
@@ -289,11 +340,18 @@ const SESSIONS: [Session; 20] = [
                 696374732c73696c656e742c65787472612c766f7465732c646563696465642c72696768742c70706d0a\
                 540000001a312c312c312c302c322c342c302c302c342c342c322c302c300a540000001a312c312c312c\
                 312c322c322c302c302c302c322c302c302c300a5a0000000053000000080000000000000004",
-            messages: "E:2 T:72 T:26 T:26 Z:0 S:8",
-            end: "whole",
-            asked: "1 0",
+            messages: &[
+                (b'E', 2),
+                (b'T', 72),
+                (b'T', 26),
+                (b'T', 26),
+                (b'Z', 0),
+                (b'S', 8),
+            ],
+            end: Ok(()),
+            asked: (1, 0),
         },
-        end: "Quit",
+        end: SessionEnd::Quit,
         cells: 2,
         trials: [4, 0],
     },
@@ -307,9 +365,9 @@ const SESSIONS: [Session; 20] = [
                 312c20226661756c7473223a202264656166222c20226b223a205b315d2c202268223a205b315d2c2022\
                 6c223a205b315d2c202266223a205b302c20312c20325d2c20226c69617273223a20302c20226c696e6b\
                 73223a20307d5100000000",
-            messages: "R:253 Q:0",
-            end: "whole",
-            asked: "40 0",
+            messages: &[(b'R', 253), (b'Q', 0)],
+            end: Ok(()),
+            asked: (40, 0),
         },
         replies: Stream {
             side: Side::Replies,
@@ -318,11 +376,11 @@ const SESSIONS: [Session; 20] = [
                 312c312c302c342c31322c302c31322c302c302c302c302c300a540000001f312c312c312c312c342c38\
                 2c342c302c342c362c302c302c3530303030300a5400000020312c312c312c322c342c342c342c302c30\
                 2c342c302c302c313030303030300a5a00000000",
-            messages: "T:72 T:28 T:31 T:32 Z:0",
-            end: "whole",
-            asked: "done 163",
+            messages: &[(b'T', 72), (b'T', 28), (b'T', 31), (b'T', 32), (b'Z', 0)],
+            end: Ok(()),
+            asked: (0, 163),
         },
-        end: "Quit",
+        end: SessionEnd::Quit,
         cells: 3,
         trials: [12, 0],
     },
@@ -336,20 +394,20 @@ const SESSIONS: [Session; 20] = [
                 2c20226661756c7473223a202264656166222c20226b223a205b312c20335d2c202268223a205b312c20\
                 325d2c20226c223a205b325d2c202266223a205b315d2c20226c69617273223a20302c20226c696e6b73\
                 223a20327d",
-            messages: "R:252",
-            end: "whole",
-            asked: "40 0",
+            messages: &[(b'R', 252)],
+            end: Ok(()),
+            asked: (40, 0),
         },
         replies: Stream {
             side: Side::Replies,
             bytes: "54000000486b2c682c6c2c662c747269616c732c7265636569766572732c636f6e666c696374732c7369\
                 6c656e742c65787472612c766f7465732c646563696465642c72696768742c70706d0a5400000021332c\
                 322c322c312c332c31382c342c302c342c31352c322c322c3232323232320a5a00000000",
-            messages: "T:72 T:33 Z:0",
-            end: "whole",
-            asked: "done 105",
+            messages: &[(b'T', 72), (b'T', 33), (b'Z', 0)],
+            end: Ok(()),
+            asked: (0, 105),
         },
-        end: "EndOfInput",
+        end: SessionEnd::EndOfInput,
         cells: 1,
         trials: [3, 0],
     },
@@ -363,9 +421,9 @@ const SESSIONS: [Session; 20] = [
                 20312c20226661756c7473223a20226372617368222c20226b223a205b312c20325d2c202268223a205b\
                 325d2c20226c223a205b312c20325d2c202266223a205b312c20325d2c20226c69617273223a20312c20\
                 226c696e6b73223a20307d",
-            messages: "R:258",
-            end: "whole",
-            asked: "40 0",
+            messages: &[(b'R', 258)],
+            end: Ok(()),
+            asked: (40, 0),
         },
         replies: Stream {
             side: Side::Replies,
@@ -375,11 +433,18 @@ const SESSIONS: [Session; 20] = [
                 2c302c302c312c302c302c313030303030300a540000001a322c322c322c312c312c322c302c302c302c\
                 322c302c302c300a5400000020322c322c322c322c312c312c312c302c302c312c302c302c3130303030\
                 30300a5a00000000",
-            messages: "T:72 T:26 T:32 T:26 T:32 Z:0",
-            end: "whole",
-            asked: "done 188",
+            messages: &[
+                (b'T', 72),
+                (b'T', 26),
+                (b'T', 32),
+                (b'T', 26),
+                (b'T', 32),
+                (b'Z', 0),
+            ],
+            end: Ok(()),
+            asked: (0, 188),
         },
-        end: "EndOfInput",
+        end: SessionEnd::EndOfInput,
         cells: 4,
         trials: [4, 0],
     },
@@ -393,9 +458,9 @@ const SESSIONS: [Session; 20] = [
                 3a20312c20226661756c7473223a202264656166222c20226b223a205b322c20332c20345d2c20226822\
                 3a205b312c20332c20355d2c20226c223a205b312c20332c20345d2c202266223a205b302c20322c2035\
                 5d2c20226c69617273223a20312c20226c696e6b73223a20327d",
-            messages: "R:273",
-            end: "whole",
-            asked: "40 0",
+            messages: &[(b'R', 273)],
+            end: Ok(()),
+            asked: (40, 0),
         },
         replies: Stream {
             side: Side::Replies,
@@ -420,11 +485,35 @@ const SESSIONS: [Session; 20] = [
                 2c302c302c302c302c300a5400000023342c332c332c322c332c33302c33302c302c392c31332c302c30\
                 2c313030303030300a5400000022342c332c332c352c332c32312c32312c302c342c382c302c302c3130\
                 30303030300a5a00000000",
-            messages: "T:72 T:29 T:36 T:34 T:29 T:36 T:35 T:28 T:28 T:28 T:28 T:35 T:34 T:29 T:35 T:35 T:28 T:32 T:28 T:28 T:35 T:34 Z:0",
-            end: "whole",
-            asked: "done 736",
+            messages: &[
+                (b'T', 72),
+                (b'T', 29),
+                (b'T', 36),
+                (b'T', 34),
+                (b'T', 29),
+                (b'T', 36),
+                (b'T', 35),
+                (b'T', 28),
+                (b'T', 28),
+                (b'T', 28),
+                (b'T', 28),
+                (b'T', 35),
+                (b'T', 34),
+                (b'T', 29),
+                (b'T', 35),
+                (b'T', 35),
+                (b'T', 28),
+                (b'T', 32),
+                (b'T', 28),
+                (b'T', 28),
+                (b'T', 35),
+                (b'T', 34),
+                (b'Z', 0),
+            ],
+            end: Ok(()),
+            asked: (0, 736),
         },
-        end: "EndOfInput",
+        end: SessionEnd::EndOfInput,
         cells: 21,
         trials: [63, 0],
     },
@@ -438,9 +527,9 @@ const SESSIONS: [Session; 20] = [
                 3a20312c20226661756c7473223a20226372617368222c20226b223a205b312c20322c20335d2c202268\
                 223a205b312c20325d2c20226c223a205b312c20332c20355d2c202266223a205b312c20392c2031335d\
                 2c20226c69617273223a20312c20226c696e6b73223a20307d",
-            messages: "R:272",
-            end: "whole",
-            asked: "40 0",
+            messages: &[(b'R', 272)],
+            end: Ok(()),
+            asked: (40, 0),
         },
         replies: Stream {
             side: Side::Replies,
@@ -460,11 +549,29 @@ const SESSIONS: [Session; 20] = [
                 2c312c332c33392c302c33332c302c362c302c302c300a540000001c332c322c312c392c332c31352c30\
                 2c31352c302c302c302c302c300a540000001b332c322c312c31332c332c332c302c332c302c302c302c\
                 302c300a5a00000000",
-            messages: "T:72 T:35 T:34 T:33 T:35 T:34 T:33 T:29 T:32 T:32 T:35 T:34 T:33 T:28 T:28 T:27 Z:0",
-            end: "whole",
-            asked: "done 554",
+            messages: &[
+                (b'T', 72),
+                (b'T', 35),
+                (b'T', 34),
+                (b'T', 33),
+                (b'T', 35),
+                (b'T', 34),
+                (b'T', 33),
+                (b'T', 29),
+                (b'T', 32),
+                (b'T', 32),
+                (b'T', 35),
+                (b'T', 34),
+                (b'T', 33),
+                (b'T', 28),
+                (b'T', 28),
+                (b'T', 27),
+                (b'Z', 0),
+            ],
+            end: Ok(()),
+            asked: (0, 554),
         },
-        end: "EndOfInput",
+        end: SessionEnd::EndOfInput,
         cells: 15,
         trials: [45, 0],
     },
@@ -478,20 +585,20 @@ const SESSIONS: [Session; 20] = [
                 2c20226661756c7473223a202264656166222c20226b223a205b315d2c202268223a205b315d2c20226c\
                 223a205b315d2c202266223a205b305d2c20226c69617273223a20302c20226c696e6b73223a20317d53\
                 0000000400000002",
-            messages: "R:246 S:4",
-            end: "whole",
-            asked: "40 0",
+            messages: &[(b'R', 246), (b'S', 4)],
+            end: Ok(()),
+            asked: (40, 0),
         },
         replies: Stream {
             side: Side::Replies,
             bytes: "54000000486b2c682c6c2c662c747269616c732c7265636569766572732c636f6e666c696374732c7369\
                 6c656e742c65787472612c766f7465732c646563696465642c72696768742c70706d0a540000001d312c\
                 312c312c302c342c33362c302c302c33362c33362c342c302c300a5a000000004500000002001a",
-            messages: "T:72 T:29 Z:0 E:2",
-            end: "whole",
-            asked: "done 101",
+            messages: &[(b'T', 72), (b'T', 29), (b'Z', 0), (b'E', 2)],
+            end: Ok(()),
+            asked: (0, 101),
         },
-        end: "EndOfInput",
+        end: SessionEnd::EndOfInput,
         cells: 1,
         trials: [4, 0],
     },
@@ -505,9 +612,9 @@ const SESSIONS: [Session; 20] = [
                 312c20226661756c7473223a20226372617368222c20226b223a205b315d2c202268223a205b315d2c20\
                 226c223a205b315d2c202266223a205b332c20342c20355d2c20226c69617273223a20302c20226c696e\
                 6b73223a20317d",
-            messages: "R:254",
-            end: "whole",
-            asked: "40 0",
+            messages: &[(b'R', 254)],
+            end: Ok(()),
+            asked: (40, 0),
         },
         replies: Stream {
             side: Side::Replies,
@@ -516,11 +623,11 @@ const SESSIONS: [Session; 20] = [
                 312c312c332c342c31322c31322c302c332c382c302c302c313030303030300a5400000020312c312c31\
                 2c342c342c382c382c302c312c352c302c302c313030303030300a5400000020312c312c312c352c342c\
                 342c342c302c302c342c302c302c313030303030300a5a00000000",
-            messages: "T:72 T:34 T:32 T:32 Z:0",
-            end: "whole",
-            asked: "done 170",
+            messages: &[(b'T', 72), (b'T', 34), (b'T', 32), (b'T', 32), (b'Z', 0)],
+            end: Ok(()),
+            asked: (0, 170),
         },
-        end: "EndOfInput",
+        end: SessionEnd::EndOfInput,
         cells: 3,
         trials: [12, 0],
     },
@@ -529,18 +636,18 @@ const SESSIONS: [Session; 20] = [
         sent: Stream {
             side: Side::Requests,
             bytes: "52000000047b2261225200000005616263",
-            messages: "R:4",
-            end: "42 Truncated",
-            asked: "40 0",
+            messages: &[(b'R', 4)],
+            end: Err(EndFault::Truncated),
+            asked: (40, 0),
         },
         replies: Stream {
             side: Side::Replies,
             bytes: "450000000200014500000002002a",
-            messages: "E:2 E:2",
-            end: "whole",
-            asked: "1 0",
+            messages: &[(b'E', 2), (b'E', 2)],
+            end: Ok(()),
+            asked: (1, 0),
         },
-        end: "Fault 42",
+        end: SessionEnd::Fault(SessionFault::Truncated),
         cells: 0,
         trials: [0, 0],
     },
@@ -548,18 +655,18 @@ const SESSIONS: [Session; 20] = [
         sent: Stream {
             side: Side::Requests,
             bytes: "52000000025b5d",
-            messages: "R:2",
-            end: "whole",
-            asked: "40 0",
+            messages: &[(b'R', 2)],
+            end: Ok(()),
+            asked: (40, 0),
         },
         replies: Stream {
             side: Side::Replies,
             bytes: "45000000020002",
-            messages: "E:2",
-            end: "whole",
-            asked: "2 0",
+            messages: &[(b'E', 2)],
+            end: Ok(()),
+            asked: (2, 0),
         },
-        end: "EndOfInput",
+        end: SessionEnd::EndOfInput,
         cells: 0,
         trials: [0, 0],
     },
@@ -567,18 +674,18 @@ const SESSIONS: [Session; 20] = [
         sent: Stream {
             side: Side::Requests,
             bytes: "530000000400000002530000000400000003530000000400000003",
-            messages: "S:4 S:4 S:4",
-            end: "whole",
-            asked: "45 0",
+            messages: &[(b'S', 4), (b'S', 4), (b'S', 4)],
+            end: Ok(()),
+            asked: (45, 0),
         },
         replies: Stream {
             side: Side::Replies,
             bytes: "4500000002001a4500000002001a4500000002001a",
-            messages: "E:2 E:2 E:2",
-            end: "whole",
-            asked: "26 0",
+            messages: &[(b'E', 2), (b'E', 2), (b'E', 2)],
+            end: Ok(()),
+            asked: (26, 0),
         },
-        end: "EndOfInput",
+        end: SessionEnd::EndOfInput,
         cells: 0,
         trials: [0, 0],
     },
@@ -592,9 +699,9 @@ const SESSIONS: [Session; 20] = [
                 20312c20226661756c7473223a20226372617368222c20226b223a205b312c20335d2c202268223a205b\
                 312c20322c20345d2c20226c223a205b325d2c202266223a205b312c2031325d2c20226c69617273223a\
                 20302c20226c696e6b73223a20307d",
-            messages: "R:262",
-            end: "whole",
-            asked: "40 0",
+            messages: &[(b'R', 262)],
+            end: Ok(()),
+            asked: (40, 0),
         },
         replies: Stream {
             side: Side::Replies,
@@ -602,11 +709,11 @@ const SESSIONS: [Session; 20] = [
                 6c656e742c65787472612c766f7465732c646563696465642c72696768742c70706d0a540000001c332c\
                 322c322c312c312c31322c302c302c302c31322c312c312c300a5400000021332c322c322c31322c312c\
                 312c312c302c302c312c302c302c313030303030300a5a00000000",
-            messages: "T:72 T:28 T:33 Z:0",
-            end: "whole",
-            asked: "done 133",
+            messages: &[(b'T', 72), (b'T', 28), (b'T', 33), (b'Z', 0)],
+            end: Ok(()),
+            asked: (0, 133),
         },
-        end: "EndOfInput",
+        end: SessionEnd::EndOfInput,
         cells: 2,
         trials: [2, 0],
     },

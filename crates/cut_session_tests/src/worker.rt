@@ -4,8 +4,7 @@ ghost use Rattle.std.specs.Prelude.{◌≡◌, All};
 ghost use Rattle.atomic_table.specs.Seated.{TableId};
 
 use crate::asking::PLAN;
-use crate::readings::from_hex;
-use crate::serving::{SUBMIT, end_text};
+use crate::serving::{Exchange, SUBMIT, exchange_of};
 use crate::vectors::{Session, sessions};
 use cut_book::NoShelf;
 use cut_disks::MemoryDisk;
@@ -27,6 +26,17 @@ pub(crate) struct Client {
     number: u64,
     wire: FaultyWire,
     end: Option<SessionEnd>,
+}
+
+impl Client {
+    /// One that was not served yet.
+    fn new(number: u64, wire: FaultyWire) -> Client {
+        Client {
+            number,
+            wire,
+            end: None,
+        }
+    }
 }
 
 /// What the threads share beside their hall: how many have begun, and the clients that wait, and that were served.
@@ -163,11 +173,7 @@ pub(crate) fn serve_two<R: Threads + Wait + Sync>(
     first: FaultyWire,
     second: FaultyWire,
 ) -> Result<Served, Fail> {
-    let mut waiting = Vec::with_capacity(alloc, 2)?;
-    for (number, wire) in [(0, first), (1, second)] {
-        let end = None;
-        waiting.push(Client { number, wire, end })?;
-    }
+    let waiting = Vec::from_array(alloc, [Client::new(0, first), Client::new(1, second)])?;
     let shared = Shared {
         begun: AtomicU64::new(0),
         waiting: Mutex::new(waiting),
@@ -207,28 +213,18 @@ fn is_served<R: Threads + Wait + Sync>(
     session: Session,
     per: usize,
 ) -> Result<bool, Fail> {
-    let served = serve_one(rt, alloc, from_hex(alloc, session.sent.bytes)?, per)?;
-    let replies = from_hex(alloc, session.replies.bytes)?;
-    let Some((end, taken)) = served.end_of(0) else {
-        return Ok(false);
-    };
-    Ok(
-        end_text(alloc, end)?.as_str() == session.end
-            && taken == replies.as_slice()
-            && is_whole(&served.report, &session.trials),
-    )
+    let exchange = exchange_of(alloc, session)?;
+    let Exchange { sent, replies } = exchange;
+    let served = serve_one(rt, alloc, sent, per)?;
+    let right = Some((session.end, replies.as_slice()));
+    Ok(served.end_of(0) == right && is_whole(&served.report, &session.trials))
 }
 
 #[test]
 fn a_worker_makes_the_lines_that_a_session_waits_for(rt: HostRuntime) -> Result<(), Fail> {
-    let alloc = rt.alloc();
     for session in sessions() {
         for per in [1, 30, 5000] {
-            assert!(rt;
-                is_served(&rt, alloc, session, per)?,
-                "{per} of {}",
-                session.sent.messages
-            );
+            assert!(rt; is_served(&rt, rt.alloc(), session, per)?, "{per}");
         }
     }
     Ok(())
@@ -252,7 +248,7 @@ fn calls_for<R: Threads + Wait + Sync>(
 #[test]
 fn a_table_that_is_asked_for_again_makes_no_further_calls(rt: HostRuntime) -> Result<(), Fail> {
     for times in 1..4 {
-        assert_eq!(rt; calls_for(&rt, rt.alloc(), times)?, Some(3));
+        assert!(rt; calls_for(&rt, rt.alloc(), times)? == Some(3));
     }
     Ok(())
 }

@@ -3,15 +3,15 @@ ghost use Rattle.std.specs.Prelude.{◌≡◌, Ok, None, length, IfOk};
 ghost use Rattle.cut_journal.specs.Reading.{reading};
 
 use crate::piece::result_of;
-use crate::runs::{CountingGate, Kept, report, workers_from};
+use crate::runs::{CountingGate, Counts, Ended, Kept, counts_of, workers_from};
 use crate::studies::{MANY_TRIALS, Study, TWO_TRIALS, studies};
 use cut_disks::{Disk, FaultyDisk, Tear};
 use cut_journal::Journal;
 use cut_plan::Plan;
-use cut_study::StudyRun;
+use cut_study::{RunFault, StudyRun};
 use cut_trial::Piece;
-use cut_wires::FaultyWire;
-use std::alloc::{AllocError, Global};
+use cut_wires::{FaultyWire, WriteFault};
+use std::alloc::Global;
 use std::sync::Wait;
 use std::test::Fail;
 use std::thread::Threads;
@@ -25,8 +25,11 @@ struct Row {
     is_armed: bool,
     /// For how many bytes the wire has room.
     room: usize,
-    /// The report. A `#` in it stands for how many bytes the wire took, and a `*` for any words.
-    report: &'static str,
+    /// The fault, or else the study is complete.
+    fault: Option<RunFault>,
+    /// How many trials are accepted then, and how many calls are made, where that is compared.
+    accepted: Option<u64>,
+    calls: Option<u64>,
     /// How many bytes of the table the wire takes, where that is certain.
     taken: Option<usize>,
     /// How long the file is then, where that is compared.
@@ -39,10 +42,34 @@ const WHOLE: Row = Row {
     workers: 2,
     is_armed: false,
     room: 1000,
-    report: "sent #, *, complete true",
+    fault: None,
+    accepted: None,
+    calls: None,
     taken: None,
     length: None,
 };
+
+impl Row {
+    /// With a wire that has room for this many bytes.
+    fn cut_off(self, room: usize) -> Row {
+        let sent = room as u64;
+        Row {
+            room,
+            fault: Some(RunFault::Write(WriteFault { sent })),
+            taken: Some(room),
+            ..self
+        }
+    }
+
+    /// With a disk that fails in an append.
+    fn broken(self) -> Row {
+        Row {
+            is_armed: true,
+            fault: Some(RunFault::Checkpoint),
+            ..self
+        }
+    }
+}
 
 /// A new disk, and the runs of a study over it, one after another.
 #[derive(Clone, Copy)]
@@ -66,48 +93,59 @@ fn journal_on<D: Disk + Drop>(alloc: Global, disk: D, plan: &Plan) -> Result<Kep
     }
 }
 
-/// What is reported of a run of a plan over the journal on a disk, which is armed once the journal is open, if it is.
-/// Where the study is complete, its gate has counted each trial.
+/// How a run of a study ends over the journal on a disk, which is armed once the journal is open, if it is; and whether
+/// its gate has counted each trial.
 fn run_over<R: Threads + Wait + Sync>(
     rt: &R,
     alloc: Global,
-    plan: &Plan,
+    study: Study,
     row: Row,
     disk: &mut FaultyDisk,
-    wire: &mut FaultyWire,
-) -> Result<String, Fail> {
-    let kept = journal_on(alloc, disk, plan)?;
+) -> Result<(Ended, bool), Fail> {
+    let plan = study.read_plan(alloc)?;
+    let kept = journal_on(alloc, disk, &plan)?;
     if row.is_armed {
         kept.0.disk().arm();
     }
+    let mut wire = FaultyWire::new(alloc, Vec::new(alloc), 1000, row.room, 0);
     let run = StudyRun {
-        plan,
+        plan: &plan,
         kept: Some(kept),
         piece_size: row.piece_size.max(1),
         workers: workers_from(row.workers),
     };
     let gate = CountingGate::new();
-    let answer = run.run(rt, alloc, wire, &gate);
-    let text = report(alloc, answer)?;
-    if text.ends_with("complete true") && !gate.has_all() {
-        return Err(Fail::from("a trial was not counted at the gate"));
-    }
-    Ok(text)
+    let report = counts_of(run.run(rt, alloc, &mut wire, &gate));
+    let taken = study.prefix_len(wire.taken());
+    Ok((Ended { report, taken }, gate.has_all()))
 }
 
-/// Whether a report is as wanted, where a `#` stands for this many bytes, and a `*` for any words.
-fn is_reported(alloc: Global, text: &str, wanted: &str, taken: usize) -> Result<bool, AllocError> {
-    let taken = format!(in alloc; "{taken}")?;
-    let wanted = String::from_str(alloc, wanted)?.replace(alloc, "#", taken.as_str())?;
-    match wanted.as_str().split_once('*') {
-        Some((first, last)) => Ok(text.starts_with(first) && text.ends_with(last)),
-        None => Ok(text == wanted.as_str()),
+/// Whether a number is the one that is wanted, where one is.
+fn is_wanted(number: u64, wanted: Option<u64>) -> bool {
+    match wanted {
+        Some(wanted) => number == wanted,
+        None => true,
     }
 }
 
-/// Whether a wire took the first bytes of a table: this many, where it is certain how many.
-fn is_prefix(taken: &[u8], table: &[u8], length: Option<usize>) -> bool {
-    table.starts_with(taken) && length.is_none_or(|length| taken.len() == length)
+/// Whether the counts of a run are those of a row, whose wire took this many bytes.
+fn are_right(counts: Counts, row: Row, taken: usize) -> bool {
+    counts.complete
+        && counts.sent == taken as u64
+        && is_wanted(counts.accepted, row.accepted)
+        && is_wanted(counts.calls, row.calls)
+}
+
+/// Whether a run ended as its row says, where its gate has counted each trial of a complete study.
+fn is_right(ended: Ended, row: Row, has_all: bool) -> bool {
+    let Some(taken) = ended.taken else {
+        return false;
+    };
+    let is_reported = match ended.report {
+        Ok(counts) => row.fault.is_none() && has_all && are_right(counts, row, taken),
+        Err(fault) => row.fault == Some(fault),
+    };
+    is_reported && is_wanted(taken as u64, row.taken.map(|taken| taken as u64))
 }
 
 /// Whether a run of a study over a disk goes so.
@@ -118,16 +156,9 @@ fn goes_so<R: Threads + Wait + Sync>(
     row: Row,
     disk: &mut FaultyDisk,
 ) -> Result<bool, Fail> {
-    let plan = study.read_plan(alloc)?;
-    let table = study.table(alloc)?;
-    let mut wire = FaultyWire::new(alloc, Vec::new(alloc), 1000, row.room, 0);
-    let text = run_over(rt, alloc, &plan, row, &mut *disk, &mut wire)?;
+    let (ended, has_all) = run_over(rt, alloc, study, row, disk)?;
     let length = disk.memory().bytes().len();
-    Ok(
-        is_reported(alloc, text.as_str(), row.report, wire.taken().len())?
-            && is_prefix(wire.taken(), table.as_bytes(), row.taken)
-            && row.length.is_none_or(|wanted| length == wanted),
-    )
+    Ok(is_right(ended, row, has_all) && length == row.length.unwrap_or(length))
 }
 
 /// The number of the first run of a story that goes otherwise.
@@ -149,40 +180,31 @@ fn first_wrong<R: Threads + Wait + Sync>(
 
 #[test]
 fn a_study_whose_wire_or_disk_failed_is_resumed(rt: HostRuntime) -> Result<(), Fail> {
-    let is_cut = Row {
-        room: 80,
-        report: "31 Write #",
-        taken: Some(80),
+    let is_whole = Row {
+        taken: Some(98),
         ..WHOLE
     };
     let is_kept = Row {
-        report: "sent 98, accepted 0, calls 1, complete true",
-        taken: Some(98),
-        ..WHOLE
-    };
-    let is_broken = Row {
-        is_armed: true,
-        report: "30 Checkpoint",
-        ..WHOLE
+        accepted: Some(0),
+        calls: Some(1),
+        ..is_whole
     };
     let by_two = Row {
         piece_size: 2,
-        report: "sent 98, *, complete true",
-        taken: Some(98),
-        ..WHOLE
+        ..is_whole
     };
     let is_armed_late = Row {
         is_armed: true,
-        report: "sent 98, accepted 2, calls 3, complete true",
-        taken: Some(98),
-        ..WHOLE
+        accepted: Some(2),
+        calls: Some(3),
+        ..is_whole
     };
     // Each of the two appends makes four calls.
     for fail_at in 0..10u64 {
         let rows = match fail_at {
-            0 => [Some(is_cut), Some(is_kept), None],
+            0 => [Some(WHOLE.cut_off(80)), Some(is_kept), None],
             9 => [Some(is_armed_late), None, None],
-            _ => [Some(is_broken), Some(by_two), None],
+            _ => [Some(WHOLE.broken()), Some(by_two), None],
         };
         let story = Story {
             study: TWO_TRIALS,
@@ -190,7 +212,7 @@ fn a_study_whose_wire_or_disk_failed_is_resumed(rt: HostRuntime) -> Result<(), F
             tear: Tear::Nothing,
             rows,
         };
-        assert_eq!(rt; first_wrong(&rt, rt.alloc(), story)?, None, "{fail_at}");
+        assert!(rt; first_wrong(&rt, rt.alloc(), story)?.is_none(), "{fail_at}");
     }
     Ok(())
 }
@@ -210,7 +232,7 @@ fn a_slip_that_is_kept_twice_is_bad(rt: HostRuntime) -> Result<(), Fail> {
     keep_first(alloc, &mut disk)?;
     keep_first(alloc, &mut disk)?;
     let is_bad = Row {
-        report: "17 BadSlip 2",
+        fault: Some(RunFault::BadSlip(2)),
         taken: Some(0),
         ..WHOLE
     };
@@ -227,29 +249,27 @@ fn file_of(slips: usize) -> Option<usize> {
 }
 
 /// The first run that goes otherwise, where the disk of that study fails after this many of its slips: the study goes
-/// on with the others, as this report says, and is then whole.
+/// on with the others, and is then whole.
 fn wrong_after<R: Threads + Wait + Sync>(
     rt: &R,
     alloc: Global,
     slips: usize,
-    report: &'static str,
 ) -> Result<Option<usize>, Fail> {
     let is_stopped = Row {
-        is_armed: true,
-        report: "30 Checkpoint",
         taken: Some(72),
         length: file_of(slips),
-        ..WHOLE
+        ..WHOLE.broken()
     };
     let goes_on = Row {
-        report,
+        accepted: Some(TRIALS.saturating_sub(slips) as u64),
         taken: Some(108),
         length: file_of(TRIALS),
         ..WHOLE
     };
     let is_whole = Row {
         piece_size: 7,
-        report: "sent 108, accepted 0, calls 1, complete true",
+        accepted: Some(0),
+        calls: Some(1),
         taken: Some(108),
         ..WHOLE
     };
@@ -265,22 +285,14 @@ fn wrong_after<R: Threads + Wait + Sync>(
 
 #[test]
 fn a_study_goes_on_from_more_than_64_slips(rt: HostRuntime) -> Result<(), Fail> {
-    let rows = [
-        (63, "sent 108, accepted 67, *"),
-        (64, "sent 108, accepted 66, *"),
-        (65, "sent 108, accepted 65, *"),
-        (128, "sent 108, accepted 2, *"),
-        (129, "sent 108, accepted 1, *"),
-    ];
-    for (slips, report) in rows {
-        let wrong = wrong_after(&rt, rt.alloc(), slips, report)?;
-        assert_eq!(rt; wrong, None, "{slips}");
+    for slips in [63, 64, 65, 128, 129] {
+        assert!(rt; wrong_after(&rt, rt.alloc(), slips)?.is_none(), "{slips}");
     }
     Ok(())
 }
 
 /// What cuts a study off half-way: its wire, or its disk, which leaves this of a write.
-#[derive(Clone, Copy, Debug)]
+#[derive(Clone, Copy)]
 enum Cut {
     Wire,
     Disk(Tear),
@@ -295,26 +307,18 @@ fn wrong_after_cut<R: Threads + Wait + Sync>(
 ) -> Result<Option<usize>, Fail> {
     // The disk fails half-way through the appends of the trials, of four calls each.
     let fail_at = 2 * u64::from(study.read_plan(alloc)?.trials()) + 1;
-    let length = study.table(alloc)?.len();
+    let length = study.table_len();
     let resumed = Row {
         workers: 3,
         taken: Some(length),
         ..WHOLE
     };
-    let is_cut = Row {
-        room: length / 2,
-        report: "31 Write #",
-        taken: Some(length / 2),
-        ..resumed
-    };
     let is_broken = Row {
-        is_armed: true,
-        report: "30 Checkpoint",
         taken: None,
-        ..resumed
+        ..resumed.broken()
     };
     let (tear, first) = match cut {
-        Cut::Wire => (Tear::Nothing, is_cut),
+        Cut::Wire => (Tear::Nothing, resumed.cut_off(length / 2)),
         Cut::Disk(tear) => (tear, is_broken),
     };
     let story = Story {
@@ -326,21 +330,19 @@ fn wrong_after_cut<R: Threads + Wait + Sync>(
     first_wrong(rt, alloc, story)
 }
 
+/// Whether a study is resumed, whatever cuts it off.
+fn is_resumed<R: Threads + Wait + Sync>(rt: &R, alloc: Global, study: Study) -> Result<bool, Fail> {
+    Ok(
+        wrong_after_cut(rt, alloc, study, Cut::Wire)?.is_none()
+            && wrong_after_cut(rt, alloc, study, Cut::Disk(Tear::Nothing))?.is_none()
+            && wrong_after_cut(rt, alloc, study, Cut::Disk(Tear::Everything))?.is_none(),
+    )
+}
+
 #[test]
 fn tables_that_were_cut_off_half_way_are_resumed(rt: HostRuntime) -> Result<(), Fail> {
     for study in studies() {
-        for cut in [
-            Cut::Wire,
-            Cut::Disk(Tear::Nothing),
-            Cut::Disk(Tear::Everything),
-        ] {
-            assert_eq!(rt;
-                wrong_after_cut(&rt, rt.alloc(), study, cut)?,
-                None,
-                "{cut:?} {}",
-                study.plan
-            );
-        }
+        assert!(rt; is_resumed(&rt, rt.alloc(), study)?, "{}", study.plan);
     }
     Ok(())
 }

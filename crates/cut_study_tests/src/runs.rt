@@ -6,11 +6,11 @@ use cut_disks::MemoryDisk;
 use cut_hall::{Gate, OpenGate};
 use cut_journal::Journal;
 use cut_ledger::Slip;
-use cut_plan::Plan;
+use cut_plan::PlanFault;
 use cut_study::{Done, RunFault, StudyRun};
 use cut_trial::Piece;
-use cut_wires::FaultyWire;
-use std::alloc::{AllocError, Global};
+use cut_wires::{FaultyWire, WriteFault};
+use std::alloc::Global;
 use std::sync::Wait;
 use std::sync::atomic::{AtomicU64, Ordering};
 use std::test::Fail;
@@ -23,13 +23,22 @@ pub(crate) type Kept<D> = (Journal<D>, Vec<Slip>);
 /// A study that is kept nowhere.
 const NOT_KEPT: Option<Kept<MemoryDisk>> = None;
 
-/// What is run: in pieces of how many trials, and by how many workers.
+/// What is run: a study in pieces of how many trials, by how many workers, over a wire with room for how many bytes.
 #[derive(Clone, Copy)]
-pub(crate) struct Order<'a> {
-    pub plan: &'a Plan,
+pub(crate) struct Order {
+    pub study: Study,
     pub piece_size: u32,
     pub workers: u32,
+    pub room: usize,
 }
+
+/// The study of two trials in pieces of one, over a wire with room for its table.
+pub(crate) const BY_TWO: Order = Order {
+    study: TWO_TRIALS,
+    piece_size: 1,
+    workers: 2,
+    room: 1000,
+};
 
 /// The number of workers from 1 to 64 that is nearest to `number`.
 pub(crate) fn workers_from(number: u32) -> u32
@@ -39,114 +48,103 @@ pub(crate) fn workers_from(number: u32) -> u32
     number.clamp(1, 64)
 }
 
-/// The report of a run: the bytes that were sent, the accepted trials, the calls and whether the study is complete, or
-/// the fault.
-pub(crate) fn report(alloc: Global, answer: Result<Done, RunFault>) -> Result<String, AllocError> {
-    let done = match answer {
-        Ok(done) => done,
-        Err(fault) => return format!(in alloc; "{fault}"),
-    };
-    match done.report.slots().first() {
-        Some(slot) => format!(in alloc;
-            "sent {}, accepted {}, calls {}, complete {}",
-            done.sent,
-            slot.accepted(),
-            slot.calls(),
-            slot.complete()
-        ),
-        None => String::from_str(alloc, "no slot"),
+/// What is reported of a run: the bytes that were sent, the accepted trials and the calls of its only slot, and whether
+/// the study is complete.
+#[derive(Clone, Copy, PartialEq, Eq)]
+pub(crate) struct Counts {
+    pub sent: u64,
+    pub accepted: u64,
+    pub calls: u64,
+    pub complete: bool,
+}
+
+impl Counts {
+    /// Those of a run whose study is complete.
+    const fn whole(sent: u64, accepted: u64, calls: u64) -> Counts {
+        Counts {
+            sent,
+            accepted,
+            calls,
+            complete: true,
+        }
     }
 }
 
-/// Runs a study that is kept nowhere.
+/// How a run ended: with these counts, or a fault; and how many bytes its wire took, if they are the first ones of the
+/// table.
+#[derive(Clone, Copy, PartialEq, Eq)]
+pub(crate) struct Ended {
+    pub report: Result<Counts, RunFault>,
+    pub taken: Option<usize>,
+}
+
+/// What is reported of a run. No calls are, if it had no slot.
+pub(crate) fn counts_of(answer: Result<Done, RunFault>) -> Result<Counts, RunFault> {
+    let done = answer?;
+    let (accepted, calls, complete) = match done.report.slots().first() {
+        Some(slot) => (slot.accepted(), slot.calls(), slot.complete()),
+        None => (0, 0, false),
+    };
+    Ok(Counts {
+        sent: done.sent,
+        accepted,
+        calls,
+        complete,
+    })
+}
+
+/// How a run of a study ends that is kept nowhere, over a wire that takes seven bytes at once.
 pub(crate) fn run_alone<G, R>(
     rt: &R,
     alloc: Global,
-    order: Order<'_>,
+    order: Order,
     gate: &G,
-    wire: &mut FaultyWire,
-) -> Result<Done, RunFault>
+) -> Result<Ended, PlanFault>
 where
     G: Gate + Sync,
     R: Threads + Wait + Sync,
 {
+    let plan = order.study.read_plan(alloc)?;
+    let mut wire = FaultyWire::new(alloc, Vec::new(alloc), 7, order.room, 0);
     let run = StudyRun {
-        plan: order.plan,
+        plan: &plan,
         kept: NOT_KEPT,
         piece_size: order.piece_size.max(1),
         workers: workers_from(order.workers),
     };
-    run.run(rt, alloc, wire, gate)
-}
-
-/// What is to be reported of a run, and what its wire is to take.
-#[derive(Clone, Copy)]
-struct Wanted<'a> {
-    report: &'a str,
-    taken: &'a [u8],
-}
-
-/// Whether a run ends so at a gate, over a wire with this room that takes seven bytes at once.
-fn ends_so<G, R>(
-    rt: &R,
-    alloc: Global,
-    order: Order<'_>,
-    gate: &G,
-    room: usize,
-    wanted: Wanted<'_>,
-) -> Result<bool, Fail>
-where
-    G: Gate + Sync,
-    R: Threads + Wait + Sync,
-{
-    let mut wire = FaultyWire::new(alloc, Vec::new(alloc), 7, room, 0);
-    let answer = run_alone(rt, alloc, order, gate, &mut wire);
-    Ok(report(alloc, answer)?.as_str() == wanted.report && wire.taken() == wanted.taken)
-}
-
-/// Whether a run of a study in pieces of this many trials ends so over a wire with this much room: it takes as many
-/// bytes of the table as it has room for.
-fn fills<R: Threads + Wait + Sync>(
-    rt: &R,
-    alloc: Global,
-    study: Study,
-    division: (u32, u32),
-    room: usize,
-    report: &str,
-) -> Result<bool, Fail> {
-    let plan = study.read_plan(alloc)?;
-    let table = study.table(alloc)?;
-    let order = Order {
-        plan: &plan,
-        piece_size: division.0,
-        workers: division.1,
-    };
-    let taken = table.as_bytes();
-    let wanted = Wanted {
+    let report = counts_of(run.run(rt, alloc, &mut wire, gate));
+    Ok(Ended {
         report,
-        taken: taken.get(..room).unwrap_or(taken),
-    };
-    ends_so(rt, alloc, order, &OpenGate, room, wanted)
+        taken: order.study.prefix_len(wire.taken()),
+    })
+}
+
+/// How a run ends that is whole, and whose table has as many bytes as were sent.
+fn whole(counts: Counts) -> Ended {
+    Ended {
+        report: Ok(counts),
+        taken: Some(counts.sent as usize),
+    }
 }
 
 #[test]
 fn any_number_of_workers_writes_the_table(rt: HostRuntime) -> Result<(), Fail> {
-    let two_by_one = "sent 98, accepted 2, calls 3, complete true";
-    let two_by_two = "sent 98, accepted 2, calls 2, complete true";
-    let by_ten = "sent 113, accepted 1000, calls 101, complete true";
-    let by_one = "sent 113, accepted 1000, calls 1001, complete true";
     let rows = [
-        (TWO_TRIALS, 1, 1..5u32, two_by_one),
-        (TWO_TRIALS, 2, 1..5u32, two_by_two),
-        (THOUSAND_TRIALS, 10, 2..3u32, by_ten),
-        (THOUSAND_TRIALS, 1, 2..3u32, by_one),
+        (TWO_TRIALS, 1, 1..5u32, Counts::whole(98, 2, 3)),
+        (TWO_TRIALS, 2, 1..5u32, Counts::whole(98, 2, 2)),
+        (THOUSAND_TRIALS, 10, 2..3u32, Counts::whole(113, 1000, 101)),
+        (THOUSAND_TRIALS, 1, 2..3u32, Counts::whole(113, 1000, 1001)),
     ];
-    for (study, size, crews, report) in rows {
+    for (study, piece_size, crews, counts) in rows {
         for workers in crews {
-            assert!(rt;
-                fills(&rt, rt.alloc(), study, (size, workers), 1000, report)?,
-                "{workers} by {size}"
-            );
+            let order = Order {
+                study,
+                piece_size,
+                workers,
+                ..BY_TWO
+            };
+            let ended = run_alone(&rt, rt.alloc(), order, &OpenGate)?;
+            assert!(rt; ended == whole(counts), "{workers} by {piece_size}");
         }
     }
     Ok(())
@@ -154,16 +152,27 @@ fn any_number_of_workers_writes_the_table(rt: HostRuntime) -> Result<(), Fail> {
 
 #[test]
 fn a_wire_takes_the_bytes_that_are_reported(rt: HostRuntime) -> Result<(), Fail> {
-    let alloc = rt.alloc();
     for room in 0..98usize {
-        let report = format!(in alloc; "31 Write {room}")?;
-        assert!(rt;
-            fills(&rt, alloc, TWO_TRIALS, (1, 2), room, report.as_str())?,
-            "{room}"
-        );
+        let ended = run_alone(&rt, rt.alloc(), Order { room, ..BY_TWO }, &OpenGate)?;
+        let fault = WriteFault { sent: room as u64 };
+        assert!(rt; ended.report == Err(RunFault::Write(fault)));
+        assert!(rt; ended.taken == Some(room));
     }
-    let whole = "sent 98, accepted 2, calls 3, complete true";
-    assert!(rt; fills(&rt, alloc, TWO_TRIALS, (1, 2), 98, whole)?);
+    let ended = run_alone(&rt, rt.alloc(), Order { room: 98, ..BY_TWO }, &OpenGate)?;
+    assert!(rt; ended == whole(Counts::whole(98, 2, 3)));
+    Ok(())
+}
+
+#[test]
+fn faults_of_runs_are_printed(rt: HostRuntime) -> Result<(), Fail> {
+    let rows = [
+        (RunFault::BadSlip(2), "17 BadSlip 2"),
+        (RunFault::Checkpoint, "30 Checkpoint"),
+        (RunFault::Write(WriteFault { sent: 80 }), "31 Write 80"),
+    ];
+    for (fault, text) in rows {
+        assert!(rt; fault.to_string(rt.alloc())?.as_str() == text);
+    }
     Ok(())
 }
 
@@ -224,40 +233,34 @@ impl<C: Clock> Gate for Meeting<'_, C> {
     }
 }
 
-/// Whether this many workers meet at a gate before any of them runs its trial, of a study with one for each, and
-/// whether the run then ends so, with the whole table.
+/// How a run ends whose workers meet at a gate before any of them runs its trial, of a study with one for each; how many
+/// came to the gate, and how many were left alone there.
 fn all_meet<R: Threads + Wait + Clock + Sync>(
     rt: &R,
     alloc: Global,
-    study: Study,
-    workers: u32,
-    report: &str,
-) -> Result<bool, Fail> {
+    order: Order,
+) -> Result<(Ended, u64, u64), PlanFault> {
     let gate = Meeting {
         clock: rt,
-        wanted: u64::from(workers),
+        wanted: u64::from(order.workers),
         begun: AtomicU64::new(0),
         left_alone: AtomicU64::new(0),
     };
-    let plan = study.read_plan(alloc)?;
-    let order = Order {
-        plan: &plan,
-        piece_size: 1,
-        workers,
-    };
-    let table = study.table(alloc)?;
-    let taken = table.as_bytes();
-    let is_right = ends_so(rt, alloc, order, &gate, 1000, Wanted { report, taken })?;
+    let ended = run_alone(rt, alloc, order, &gate)?;
     let begun = gate.begun.load(Ordering::SeqCst);
-    let left_alone = gate.left_alone.load(Ordering::SeqCst);
-    Ok(is_right && (begun, left_alone) == (u64::from(workers), 0))
+    Ok((ended, begun, gate.left_alone.load(Ordering::SeqCst)))
 }
 
 #[test]
 fn all_workers_are_in_work_at_once(rt: HostRuntime) -> Result<(), Fail> {
-    let two = "sent 98, accepted 2, calls 3, complete true";
-    let three = "sent 100, accepted 3, calls 4, complete true";
-    assert!(rt; all_meet(&rt, rt.alloc(), TWO_TRIALS, 2, two)?);
-    assert!(rt; all_meet(&rt, rt.alloc(), THREE_TRIALS, 3, three)?);
+    let by_three = Order {
+        study: THREE_TRIALS,
+        workers: 3,
+        ..BY_TWO
+    };
+    let two = whole(Counts::whole(98, 2, 3));
+    let three = whole(Counts::whole(100, 3, 4));
+    assert!(rt; all_meet(&rt, rt.alloc(), BY_TWO)? == (two, 2, 0));
+    assert!(rt; all_meet(&rt, rt.alloc(), by_three)? == (three, 3, 0));
     Ok(())
 }

@@ -1,9 +1,10 @@
 //! Plans and the lines of their tables: some worked out by hand, the others computed apart from this program by a
 //! script written from the definitions.
 
-use cut_plan::Plan;
-use std::alloc::{AllocError, Global};
-use std::test::Fail;
+use cut_ledger::Slip;
+use cut_plan::{Plan, PlanFault};
+use cut_trial::{Piece, Totals};
+use std::alloc::Global;
 
 const HEADER: &str = "k,h,l,f,trials,receivers,conflicts,silent,extra,votes,decided,right,ppm\n";
 
@@ -18,24 +19,53 @@ pub(crate) struct Study {
 
 impl Study {
     /// The plan that is read from its text.
-    pub(crate) fn read_plan(self, alloc: Global) -> Result<Plan, Fail> {
-        Ok(Plan::from_json(alloc, self.plan.as_bytes())?)
+    pub(crate) fn read_plan(self, alloc: Global) -> Result<Plan, PlanFault> {
+        Plan::from_json(alloc, self.plan.as_bytes())
     }
 
-    /// The whole table.
-    pub(crate) fn table(self, alloc: Global) -> Result<String, AllocError> {
-        let mut table = String::from_str(alloc, HEADER)?;
+    /// How many bytes these are, if they are the first ones of its table.
+    pub(crate) fn prefix_len(self, bytes: &[u8]) -> Option<usize> {
+        let mut rest = after(bytes, HEADER)?;
         for line in self.lines {
-            table.push_str(line)?;
+            rest = after(rest, line)?;
         }
-        Ok(table)
+        rest.is_empty().then_some(bytes.len())
     }
+
+    /// How many bytes its table has.
+    pub(crate) fn table_len(self) -> usize {
+        let mut length = HEADER.len();
+        for line in self.lines {
+            length = length.saturating_add(line.len());
+        }
+        length
+    }
+}
+
+/// What comes after a text in bytes that begin with it, or no bytes if they are its first ones.
+fn after<'a>(bytes: &'a [u8], text: &str) -> Option<&'a [u8]> {
+    if text.as_bytes().starts_with(bytes) {
+        return Some(&[]);
+    }
+    bytes.strip_prefix(text.as_bytes())
 }
 
 /// One cell of two trials: in each one process crashes, and the four others propose it.
 pub(crate) const TWO_TRIALS: Study = Study {
     plan: r#"{"copies":1,"dead":"silent","f":[1],"faults":"crash","h":[1],"implicit":true,"k":[1],"l":[1],"liars":0,"links":0,"nodes":5,"repeats":2,"seed":"0000000000000000000000000000000000000000000000000000000000000000","version":1}"#,
     lines: &["1,1,1,1,2,8,0,0,0,8,2,2,0\n"],
+};
+
+/// The slip of its first trial.
+pub(crate) const FIRST_SLIP: Slip = Slip {
+    piece: Piece { first: 0, count: 1 },
+    totals: Totals {
+        receivers: 4,
+        votes: 4,
+        decided: 1,
+        right: 1,
+        ..Totals::ZERO
+    },
 };
 
 /// The same with three trials.

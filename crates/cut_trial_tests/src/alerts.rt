@@ -1,24 +1,18 @@
-use crate::texts::{edges_of, four, numbers, rings_of_text};
+ghost use Rattle.std.specs.Prelude.{◌≡◌};
+ghost use Rattle.cut_plan.specs.Cells.{IsCellOf};
+
+use crate::texts::{edge_of, four, numbers, rings_of_text};
 use cut_alerts::{Roles, RolesFault, alerts, alerts_into, is_alert};
 use cut_draws::{Draws, ProcessOrder};
-use cut_plan::{Dead, Faults, Plan};
+use cut_plan::{Cell, Dead, Faults, Plan};
 use cut_rings::{Edge, Rings};
 use std::alloc::{AllocError, Global};
-use std::process::Abort;
 use std::test::Fail;
 
 mod vectors;
 
 // Targets, liars and cut links.
 type Lists<'a> = (&'a [u16], &'a [u16], &'a [(u16, u16)]);
-
-// Targets, liars and cut links, as they are written.
-#[derive(Drop)]
-struct Written {
-    targets: Vec<u16>,
-    liars: Vec<u16>,
-    links: Vec<(u16, u16)>,
-}
 
 // The link that is written as its two ends with a point between them.
 fn link_of(word: &str) -> (u16, u16) {
@@ -27,17 +21,11 @@ fn link_of(word: &str) -> (u16, u16) {
     (from, to.parse::<u16>().unwrap_or(u16::MAX))
 }
 
-fn written_roles(alloc: Global, text: &str) -> Result<Written, AllocError> {
-    let (targets, rest) = text.split_once(';').unwrap_or((text, ""));
-    let (liars, links) = rest.split_once(';').unwrap_or((rest, ""));
-    Ok(Written {
-        targets: numbers(alloc, targets)?,
-        liars: numbers(alloc, liars)?,
-        links: links
-            .split_whitespace()
-            .map(|word| link_of(word))
-            .collect(alloc)?,
-    })
+// The links that blanks separate.
+fn links_of(alloc: Global, text: &str) -> Result<Vec<(u16, u16)>, AllocError> {
+    text.split_whitespace()
+        .map(|word| link_of(word))
+        .collect(alloc)
 }
 
 // How targets fail and whether the dead speak, as it is written.
@@ -56,74 +44,79 @@ fn ways_of(text: &str) -> (Faults, Dead) {
     (faults, dead)
 }
 
-// Edges as they are written.
-fn edges_text(alloc: Global, edges: &[Edge]) -> Result<String, AllocError> {
-    if edges.is_empty() {
-        return String::from_str(alloc, "none");
-    }
-    let mut text = String::new(alloc);
-    for edge in edges {
-        let blank = if text.is_empty() { "" } else { " " };
-        text.push_str(format!(in alloc; "{blank}{}.{}", edge.ring, edge.subject)?.as_str())?;
-    }
-    Ok(text)
+// The roles of some processes, of which a line says the targets, liars and cut links.
+fn roles_of(
+    alloc: Global,
+    nodes: u16,
+    line: &str,
+    (faults, dead): (Faults, Dead),
+) -> Result<Roles, RolesFault> {
+    let (targets, rest) = line.split_once(';').unwrap_or((line, ""));
+    let (liars, links) = rest.split_once(';').unwrap_or((rest, ""));
+    let targets = numbers(alloc, targets)?;
+    let liars = numbers(alloc, liars)?;
+    let links = links_of(alloc, links)?;
+    Roles::given(alloc, nodes, &targets, &liars, &links, faults, dead)
 }
 
-// The alerted edges of roles are those that a row has.
-fn check_row(
-    rt: &impl Abort,
-    alloc: Global,
-    rings: &Rings,
-    lists: &Written,
-    row: &str,
-) -> Result<(), Fail> {
-    let (ways, wanted) = row.split_once(": ").unwrap_or((row, ""));
-    let (faults, dead) = ways_of(ways);
-    let (targets, liars, links) = (&lists.targets, &lists.liars, &lists.links);
-    let roles = Roles::given(alloc, rings.nodes(), targets, liars, links, faults, dead)?;
-    assert!(rt; roles.nodes() == rings.nodes());
-    let found = alerts(alloc, rings, rings.len(), &roles)?;
-    assert!(rt; edges_text(alloc, &found)?.as_str() == wanted, "{row}");
-    Ok(())
+// Whether edges are those of a text.
+fn are_written(edges: &[Edge], text: &str) -> bool {
+    for (edge, word) in edges.iter().zip(text.split_whitespace()) {
+        if *edge != edge_of(word) {
+            return false;
+        }
+    }
+    edges.len() == text.split_whitespace().count()
 }
 
-// The rows of some roles, and how many they are.
-fn check_rows(
-    rt: &impl Abort,
+// Whether the edges that roles alert on all rings are those of a text.
+fn are_alerts(
     alloc: Global,
     rings: &Rings,
-    lists: &Written,
-    rows: &str,
-) -> Result<u32, Fail> {
+    roles: &Roles,
+    wanted: &str,
+) -> Result<bool, AllocError> {
+    if roles.nodes() != rings.nodes() {
+        return Ok(false);
+    }
+    let found = alerts(alloc, rings, rings.len(), roles)?;
+    Ok(are_written(&found, wanted))
+}
+
+// Whether the alerted edges of a line's roles are those that a row has.
+fn is_row(alloc: Global, rings: &Rings, line: &str, row: &str) -> Result<bool, RolesFault> {
+    let (ways, wanted) = row.split_once(':').unwrap_or((row, ""));
+    let roles = roles_of(alloc, rings.nodes(), line, ways_of(ways))?;
+    Ok(are_alerts(alloc, rings, &roles, wanted)?)
+}
+
+// How many rows stand below a line of roles, 0 where the alerted edges of one are others.
+fn count_rows(alloc: Global, rings: &Rings, text: &str) -> Result<u32, RolesFault> {
+    let (line, rows) = text.split_once('\n').unwrap_or((text, ""));
     let mut count = 0u32;
     for row in rows.split('\n') {
-        check_row(rt, alloc, rings, lists, row)?;
+        if !is_row(alloc, rings, line, row)? {
+            return Ok(0);
+        }
         count = count.saturating_add(1);
     }
     Ok(count)
 }
 
-// The rows below a line of roles, and how many they are.
-fn check_roles(rt: &impl Abort, alloc: Global, rings: &Rings, text: &str) -> Result<u32, Fail> {
-    let (line, rows) = text.split_once('\n').unwrap_or((text, ""));
-    let lists = written_roles(alloc, line)?;
-    check_rows(rt, alloc, rings, &lists, rows)
-}
-
-// The roles on some rings, and how many rows stand below them.
-fn check_rings(rt: &impl Abort, alloc: Global, text: &str) -> Result<u32, Fail> {
+// How many rows stand below the roles on some rings.
+fn count_rings(alloc: Global, text: &str) -> Result<u32, Fail> {
     let (rings, all) = text.split_once("\nroles ").unwrap_or((text, ""));
-    let rings = rings_of_text(rt, alloc, rings.strip_prefix("rings ").unwrap_or(""))?;
+    let rings = rings_of_text(alloc, rings.strip_prefix("rings ").unwrap_or(""))?;
     let mut count = 0u32;
     for roles in all.split("\nroles ") {
-        count = count.saturating_add(check_roles(rt, alloc, &rings, roles)?);
+        count = count.saturating_add(count_rows(alloc, &rings, roles)?);
     }
     Ok(count)
 }
 
 #[test]
 fn alerts_as_worked_by_hand(rt: HostRuntime) -> Result<(), Fail> {
-    assert!(rt; check_rings(&rt, rt.alloc(), vectors::by_hand())? == 8);
+    assert!(rt; count_rings(rt.alloc(), vectors::by_hand())? == 8);
     Ok(())
 }
 
@@ -131,157 +124,169 @@ fn alerts_as_worked_by_hand(rt: HostRuntime) -> Result<(), Fail> {
 fn alerts_as_computed_elsewhere(rt: HostRuntime) -> Result<(), Fail> {
     let mut count = 0u32;
     for text in vectors::computed().split("\n\n") {
-        count = count.saturating_add(check_rings(&rt, rt.alloc(), text)?);
+        count = count.saturating_add(count_rings(rt.alloc(), text)?);
     }
     assert!(rt; count == 12);
     Ok(())
 }
 
-// The alerts about a crashed and a deaf target.
-fn check_mixed(rt: &impl Abort, alloc: Global, rings: &Rings) -> Result<(), Fail> {
-    let roles = Roles::given_mixed(alloc, 4, &[2], &[1], &[], &[], Dead::Silent)?;
-    assert!(rt; roles.nodes() == 4 && rings.nodes() == 4 && rings.len() == 3);
-    let found = alerts(alloc, rings, 3, &roles)?;
-    assert!(rt; edges_text(alloc, &found)?.as_str() == "2.0 0.1 0.2 1.2 2.2 1.3");
+#[test]
+fn alerts_of_crashed_and_deaf_targets(rt: HostRuntime) -> Result<(), Fail> {
+    let rings = four(rt.alloc())?;
+    let roles = Roles::given_mixed(rt.alloc(), 4, &[2], &[1], &[], &[], Dead::Silent)?;
+    let wanted = "2.0 0.1 0.2 1.2 2.2 1.3";
+    assert!(rt; are_alerts(rt.alloc(), &rings, &roles, wanted)?);
     Ok(())
 }
 
-#[test]
-fn alerts_of_crashed_and_deaf_targets(rt: HostRuntime) -> Result<(), Fail> {
-    let rings = four(&rt, rt.alloc())?;
-    check_mixed(&rt, rt.alloc(), &rings)
-}
-
-// Whether no roles were given, and this is reported.
-fn is_refused(alloc: Global, given: Result<Roles, RolesFault>) -> Result<bool, AllocError> {
-    match given {
-        Ok(_) => Ok(false),
-        Err(fault) => Ok(fault.to_string(alloc)?.as_str() == "13 BadRole"),
-    }
+// Whether no roles are given by these lists of four processes.
+fn is_refused(alloc: Global, (targets, liars, links): Lists) -> bool {
+    let given = Roles::given(alloc, 4, targets, liars, links, Faults::Crash, Dead::Silent);
+    matches!(given, Err(RolesFault::BadRole))
 }
 
 #[test]
 fn a_target_crashed_and_deaf_is_refused(rt: HostRuntime) -> Result<(), Fail> {
-    let alloc = rt.alloc();
-    let given = Roles::given_mixed(alloc, 4, &[1], &[1], &[], &[], Dead::Silent);
-    assert!(rt; is_refused(alloc, given)?);
+    let given = Roles::given_mixed(rt.alloc(), 4, &[1], &[1], &[], &[], Dead::Silent);
+    assert!(rt; matches!(given, Err(RolesFault::BadRole)));
+    assert!(rt; RolesFault::BadRole.to_string(rt.alloc())?.as_str() == "13 BadRole");
     Ok(())
 }
+
+// Targets, liars and links that are no roles of four processes.
+const REFUSED: [Lists<'static>; 7] = [
+    (&[2], &[], &[(2, 1)]),
+    (&[], &[], &[(1, 1)]),
+    (&[4], &[], &[]),
+    (&[1], &[1], &[]),
+    (&[], &[], &[(0, 4)]),
+    (&[], &[], &[(4, 0)]),
+    (&[], &[3, 3], &[]),
+];
 
 #[test]
-fn roles_that_are_refused(rt: HostRuntime) -> Result<(), Fail> {
-    let alloc = rt.alloc();
-    let rows: [Lists; 7] = [
-        (&[2], &[], &[(2, 1)]),
-        (&[], &[], &[(1, 1)]),
-        (&[4], &[], &[]),
-        (&[1], &[1], &[]),
-        (&[], &[], &[(0, 4)]),
-        (&[], &[], &[(4, 0)]),
-        (&[], &[3, 3], &[]),
-    ];
-    for (targets, liars, links) in rows {
-        let given = Roles::given(alloc, 4, targets, liars, links, Faults::Crash, Dead::Silent);
-        assert!(rt;
-            is_refused(alloc, given)?,
-            "of {targets:?} {liars:?} {links:?}"
-        );
+fn roles_that_are_refused(rt: HostRuntime) {
+    for lists in REFUSED {
+        assert!(rt; is_refused(rt.alloc(), lists));
     }
-    Ok(())
 }
 
-// The alerts of three rings, of two and of no target are in a list that had others.
-fn check_filled(
-    rt: &impl Abort,
+// The roles of four processes, where these are the targets.
+fn crashed(alloc: Global, targets: &[u16]) -> Result<Roles, RolesFault> {
+    Roles::given(alloc, 4, targets, &[], &[], Faults::Crash, Dead::Silent)
+}
+
+// Whether a list is filled with the alerts about these targets on the first `k` rings.
+fn is_filled(
     alloc: Global,
+    edges: &mut Vec<Edge>,
     rings: &Rings,
-    some: &Roles,
-    none: &Roles,
-) -> Result<(), Fail> {
-    let mut edges = Vec::new(alloc);
-    for (k, roles, wanted) in [
-        (3, some, "0.1 1.1 2.1"),
-        (2, some, "0.1 1.1"),
-        (3, none, "none"),
-    ] {
-        assert!(rt; roles.nodes() == rings.nodes() && k <= rings.len());
-        alerts_into(&mut edges, rings, k, roles)?;
-        assert!(rt; edges_text(alloc, &edges)?.as_str() == wanted, "{wanted}");
+    (k, targets, wanted): (u8, &[u16], &str),
+) -> Result<bool, RolesFault> {
+    let roles = crashed(alloc, targets)?;
+    if roles.nodes() != rings.nodes() || k > rings.len() {
+        return Ok(false);
     }
-    Ok(())
+    alerts_into(edges, rings, k, &roles)?;
+    Ok(are_written(edges, wanted))
 }
 
+// A list is filled with the alerts of three rings, of two and of no target, where it had others.
 #[test]
 fn a_list_is_filled_again(rt: HostRuntime) -> Result<(), Fail> {
     let alloc = rt.alloc();
-    let rings = four(&rt, alloc)?;
-    let some = Roles::given(alloc, 4, &[1], &[], &[], Faults::Crash, Dead::Silent)?;
-    let none = Roles::given(alloc, 4, &[], &[], &[], Faults::Crash, Dead::Silent)?;
-    check_filled(&rt, alloc, &rings, &some, &none)
+    let rings = four(alloc)?;
+    let mut edges = Vec::new(alloc);
+    assert!(rt; is_filled(alloc, &mut edges, &rings, (3, &[1], "0.1 1.1 2.1"))?);
+    assert!(rt; is_filled(alloc, &mut edges, &rings, (2, &[1], "0.1 1.1"))?);
+    assert!(rt; is_filled(alloc, &mut edges, &rings, (3, &[], ""))?);
+    Ok(())
 }
 
-// Process 1 is a target, and an edge to it alerts.
-fn check_target(rt: &impl Abort, alloc: Global, rings: &Rings) -> Result<(), Fail> {
-    let roles = Roles::given(alloc, 4, &[1], &[], &[], Faults::Crash, Dead::Silent)?;
-    assert!(rt; roles.nodes() == 4 && rings.nodes() == 4 && rings.len() == 3);
-    let edge = |subject| Edge { ring: 0, subject };
-    let targets = [roles.is_target(1), roles.is_target(0)];
-    let edges = [
-        is_alert(rings, &roles, edge(1)),
-        is_alert(rings, &roles, edge(2)),
-    ];
-    assert!(rt; targets == [true, false] && edges == [true, false]);
-    Ok(())
+// Whether process 1 alone of these two is a target, and alone an edge to it alerts.
+fn is_only_target(rings: &Rings, roles: &Roles) -> bool {
+    if roles.nodes() != 4 || rings.nodes() != 4 || rings.len() != 3 {
+        return false;
+    }
+    let one = Edge {
+        ring: 0,
+        subject: 1,
+    };
+    let two = Edge {
+        ring: 0,
+        subject: 2,
+    };
+    let is_alerted = is_alert(rings, roles, one) && !is_alert(rings, roles, two);
+    is_alerted && roles.is_target(1) && !roles.is_target(0)
 }
 
 #[test]
 fn a_target_and_an_edge(rt: HostRuntime) -> Result<(), Fail> {
-    let rings = four(&rt, rt.alloc())?;
-    check_target(&rt, rt.alloc(), &rings)
-}
-
-// The roles of a trial, drawn for it and drawn once more.
-fn drawn_twice(
-    rt: &impl Abort,
-    alloc: Global,
-    plan: &Plan,
-    rings: &Rings,
-    trial: u32,
-) -> Result<Roles, Fail> {
-    assert!(rt; plan.cells() > 0 && rings.nodes() == plan.nodes());
-    let mut draws = Draws::new(plan.seed(), trial);
-    let mut roles = Roles::of_trial(alloc, plan, plan.cell(0), &mut draws, rings)?;
-    let mut order = ProcessOrder::new(alloc);
-    roles.draw(plan, plan.cell(0), &mut draws, &mut order, rings)?;
-    Ok(roles)
-}
-
-// Each process has the same role in both, and the dead do the same.
-fn check_same(rt: &impl Abort, found: &Roles, wanted: &Roles, trial: u32) -> Result<(), Fail> {
-    let nodes = wanted.nodes();
-    assert!(rt;
-        found.nodes() == nodes && found.dead() == wanted.dead(),
-        "{trial}"
-    );
-    for process in 0..nodes {
-        let is_same = found.role(process) == wanted.role(process);
-        assert!(rt; is_same, "role of {process} in {trial}");
-    }
+    let rings = four(rt.alloc())?;
+    let roles = crashed(rt.alloc(), &[1])?;
+    assert!(rt; is_only_target(&rings, &roles));
     Ok(())
 }
 
-// The roles that a trial of a plan draws are those of these lists.
-fn check_drawn(
-    rt: &impl Abort,
+// The roles of a cell, drawn and drawn once more.
+fn drawn_twice(
     alloc: Global,
     plan: &Plan,
-    trial: u32,
-    (targets, liars, links): Lists,
-) -> Result<(), Fail> {
-    let (nodes, dead) = (plan.nodes(), plan.dead());
-    let faults = plan.faults().ok_or("targets that fail in one way")?;
+    cell: Cell,
+    draws: &mut Draws,
+    rings: &Rings,
+) -> Result<Roles, AllocError>
+    requires cell { IsCellOf plan.now cell }
+    requires nodes { rings.now.nodes ≡ plan.now.nodes }
+{
+    let mut order = ProcessOrder::new(alloc);
+    let mut roles = Roles::of_trial(alloc, plan, cell, draws, rings)?;
+    roles.draw(plan, cell, draws, &mut order, rings)?;
+    Ok(roles)
+}
+
+// Whether each process has the same role in both, and the dead do the same.
+fn are_same(found: &Roles, wanted: &Roles) -> bool {
+    let nodes = wanted.nodes();
+    if found.nodes() != nodes {
+        return false;
+    }
+    for process in 0..nodes {
+        if found.role(process) != wanted.role(process) {
+            return false;
+        }
+    }
+    found.dead() == wanted.dead()
+}
+
+// Whether the roles that a trial of a plan's first cell draws are these.
+fn are_drawn(alloc: Global, plan: &Plan, trial: u32, wanted: &Roles) -> Result<bool, AllocError> {
+    if plan.cells() == 0 {
+        return Ok(false);
+    }
+    let mut draws = Draws::new(plan.seed(), trial);
     let rings = Rings::hashed(alloc, plan)?;
-    let found = drawn_twice(rt, alloc, plan, &rings, trial)?;
-    let wanted = Roles::given(alloc, nodes, targets, liars, links, faults, dead)?;
-    check_same(rt, &found, &wanted, trial)
+    let found = drawn_twice(alloc, plan, plan.cell(0), &mut draws, &rings)?;
+    Ok(are_same(&found, wanted))
+}
+
+// The roles that these lists give the processes of a plan.
+fn given(alloc: Global, plan: &Plan, (targets, liars, links): Lists) -> Result<Roles, RolesFault> {
+    let faults = plan.faults().unwrap_or(Faults::Crash);
+    Roles::given(
+        alloc,
+        plan.nodes(),
+        targets,
+        liars,
+        links,
+        faults,
+        plan.dead(),
+    )
+}
+
+// Whether the roles that a trial of a text's plan draws are those of these lists.
+fn is_drawn(alloc: Global, text: &str, trial: u32, lists: Lists) -> Result<bool, Fail> {
+    let plan = Plan::from_json(alloc, text.as_bytes())?;
+    let wanted = given(alloc, &plan, lists)?;
+    Ok(are_drawn(alloc, &plan, trial, &wanted)?)
 }

@@ -1,12 +1,11 @@
-ghost use Rattle.std.specs.Prelude.{◌≡◌, All, IfOk, IsTrue, OnOk};
+ghost use Rattle.std.specs.Prelude.{◌≡◌, IsTrue};
 ghost use Rattle.cut_rings.specs.Edges.{are_edges_of};
 
 use crate::edges::all_within;
 use crate::texts::{edge_of, edges_of, four, rings_of_text};
 use cut_detector::{Detector, Proposal, Step, replay};
-use cut_rings::{Edge, Rings};
+use cut_rings::{Edge, Rings, RingsFault};
 use std::alloc::{AllocError, Global};
-use std::process::Abort;
 use std::test::Fail;
 
 mod vectors;
@@ -20,92 +19,92 @@ fn rule_of(text: &str) -> (u8, u8, bool) {
     (h, l, word == "on")
 }
 
-// What is proposed, as it is written.
-fn proposal_text(alloc: Global, proposal: &Proposal) -> Result<String, AllocError> {
-    let mut text = String::new(alloc);
-    for member in proposal.members.as_slice() {
-        text.push_str(format!(in alloc; "{member} ")?.as_str())?;
+// Whether numbers are those of a text.
+fn are_numbers(numbers: &[u16], text: &str) -> bool {
+    for (number, word) in numbers.iter().zip(text.split_whitespace()) {
+        if word.parse::<u16>().unwrap_or(u16::MAX) != *number {
+            return false;
+        }
     }
-    text.push_str(format!(in alloc; "at {}", proposal.at)?.as_str())?;
-    Ok(text)
+    numbers.len() == text.split_whitespace().count()
 }
 
 // Whether a text says what is proposed.
-fn is_reported(alloc: Global, found: Option<Proposal>, wanted: &str) -> Result<bool, AllocError> {
+fn is_reported(found: &Option<Proposal>, wanted: &str) -> bool {
     match found {
-        Some(proposal) => Ok(proposal_text(alloc, &proposal)?.as_str() == wanted),
-        None => Ok(wanted == "none"),
+        Some(proposal) => {
+            let (members, at) = wanted.split_once(" at ").unwrap_or((wanted, ""));
+            are_numbers(proposal.members.as_slice(), members)
+                && at.parse::<u64>().unwrap_or(0) == proposal.at
+        }
+        None => wanted == "none",
     }
 }
 
-// A detector waits at each delivery before this place, and is settled from there on.
-fn check_steps(
-    rt: &impl Abort,
-    detector: &mut Detector<'_>,
-    edges: &[Edge],
-    at: u64,
-    row: &str,
-) -> Result<(), Fail>
+// Whether a detector waits at each delivery before this place, and is settled from there on.
+fn is_settled_from(at: u64, detector: &mut Detector<'_>, edges: &[Edge]) -> bool
     requires within { IsTrue (are_edges_of detector.old.rule.k detector.old.layout.nodes edges.now) }
     requires fresh { detector.old.deliveries ≡ 0 }
-    ensures rule { OnOk result (detector.new.rule ≡ detector.old.rule) }
-    ensures layout { OnOk result (detector.new.layout ≡ detector.old.layout) }
+    ensures rule { detector.new.rule ≡ detector.old.rule }
+    ensures layout { detector.new.layout ≡ detector.old.layout }
 {
     let mut place = 0u64;
+    let mut is_right = true;
     for edge in edges {
         let step = detector.deliver(*edge);
         place = place.saturating_add(1);
-        assert!(rt; (step == Step::Settled) == (at <= place), "{row}: {place}");
+        is_right &= (step == Step::Settled) == (at <= place);
     }
-    Ok(())
+    is_right
 }
 
-// What a row says is proposed after these deliveries, step by step.
-fn check_row(
-    rt: &impl Abort,
+// Whether a text says what is proposed after these deliveries by a rule, at once and step by step.
+fn is_replayed(
     alloc: Global,
     rings: &Rings,
     edges: &[Edge],
-    row: &str,
-) -> Result<(), Fail> {
-    let (rule, wanted) = row.split_once(": ").unwrap_or((row, ""));
-    let (h, l, implicit) = rule_of(rule);
+    (h, l, implicit): (u8, u8, bool),
+    wanted: &str,
+) -> Result<bool, AllocError> {
     let k = rings.len();
-    assert!(rt; 1 <= l && l <= h && h <= k, "{row}");
-    assert!(rt; all_within(k, rings.nodes(), edges), "{row}");
+    if l < 1 || h < l || k < h || !all_within(k, rings.nodes(), edges) {
+        return Ok(false);
+    }
+    let mut detector = Detector::new(alloc, rings, k, h, l, implicit)?;
     let found = replay(alloc, rings, k, h, l, implicit, edges)?;
     let at = found.as_ref().map_or(u64::MAX, |proposal| proposal.at);
-    assert!(rt; is_reported(alloc, found, wanted)?, "{row}");
-    let mut detector = Detector::new(alloc, rings, k, h, l, implicit)?;
-    check_steps(rt, &mut detector, edges, at, row)
+    Ok(is_settled_from(at, &mut detector, edges) && is_reported(&found, wanted))
 }
 
-// The rows below a list of deliveries, and how many they are.
-fn check_list(rt: &impl Abort, alloc: Global, rings: &Rings, text: &str) -> Result<u32, Fail> {
+// How many rows stand below a list of deliveries, 0 where one is false.
+fn count_rows(alloc: Global, rings: &Rings, text: &str) -> Result<u32, AllocError> {
     let (list, rows) = text.split_once('\n').unwrap_or((text, ""));
     let edges: Vec<Edge> = list.split(' ').map(|word| edge_of(word)).collect(alloc)?;
     let mut count = 0u32;
     for row in rows.split('\n') {
-        check_row(rt, alloc, rings, &edges, row)?;
+        let (rule, wanted) = row.split_once(": ").unwrap_or((row, ""));
+        if !is_replayed(alloc, rings, &edges, rule_of(rule), wanted)? {
+            return Ok(0);
+        }
         count = count.saturating_add(1);
     }
     Ok(count)
 }
 
-// The lists of deliveries on some rings, and how many rows stand below them.
-fn check_rings(rt: &impl Abort, alloc: Global, text: &str) -> Result<u32, Fail> {
+// How many rows stand below the lists of deliveries on some rings.
+fn count_rings(alloc: Global, text: &str) -> Result<u32, RingsFault> {
     let (rings, lists) = text.split_once("\ndeliveries ").unwrap_or((text, ""));
-    let rings = rings_of_text(rt, alloc, rings.strip_prefix("rings ").unwrap_or(""))?;
+    let rings = rings_of_text(alloc, rings.strip_prefix("rings ").unwrap_or(""))?;
     let mut count = 0u32;
     for list in lists.split("\ndeliveries ") {
-        count = count.saturating_add(check_list(rt, alloc, &rings, list)?);
+        count = count.saturating_add(count_rows(alloc, &rings, list)?);
     }
     Ok(count)
 }
 
 #[test]
 fn proposes_as_worked_by_hand(rt: HostRuntime) -> Result<(), Fail> {
-    assert!(rt; check_rings(&rt, rt.alloc(), vectors::by_hand())? == 84);
+    assert!(rt; count_rings(rt.alloc(), vectors::by_hand())? == 84);
     Ok(())
 }
 
@@ -113,7 +112,7 @@ fn proposes_as_worked_by_hand(rt: HostRuntime) -> Result<(), Fail> {
 fn proposes_as_computed_elsewhere(rt: HostRuntime) -> Result<(), Fail> {
     let mut count = 0u32;
     for text in vectors::computed().split("\n\n") {
-        count = count.saturating_add(check_rings(&rt, rt.alloc(), text)?);
+        count = count.saturating_add(count_rings(rt.alloc(), text)?);
     }
     assert!(rt; count == 228);
     Ok(())
@@ -129,88 +128,57 @@ fn ordered(mut pairs: [(u8, u16); 6], number: usize) -> [(u8, u16); 6] {
     pairs
 }
 
-// Process 1 is proposed at a delivery, with implicit alerts and without.
-fn check_both(
-    rt: &impl Abort,
-    alloc: Global,
-    rings: &Rings,
-    edges: &[Edge],
-    at: u64,
-) -> Result<(), Fail> {
-    for word in ["off", "on"] {
-        let row = format!(in alloc; "3 2 {word}: 1 at {at}")?;
-        check_row(rt, alloc, rings, edges, row.as_str())?;
-    }
-    Ok(())
+// Whether process 1 is proposed at a delivery, with implicit alerts and without.
+fn are_both(alloc: Global, rings: &Rings, edges: &[Edge], at: usize) -> Result<bool, AllocError> {
+    let wanted = format!(in alloc; "1 at {at}")?;
+    let without = is_replayed(alloc, rings, edges, (3, 2, false), &wanted)?;
+    Ok(without && is_replayed(alloc, rings, edges, (3, 2, true), &wanted)?)
+}
+
+// Whether the last alert about process 1 in an order is the one that settles it.
+fn is_last(alloc: Global, rings: &Rings, order: [(u8, u16); 6]) -> Result<bool, AllocError> {
+    let last = order.iter().rposition(|&(_, subject)| subject == 1);
+    let edges = edges_of(alloc, &order)?;
+    are_both(alloc, rings, &edges, last.unwrap_or(0).saturating_add(1))
 }
 
 // Of these alerts only those about process 1 come on two rings or more, so in each order it is proposed with the
 // last of its three.
-fn check_orders(rt: &impl Abort, alloc: Global, rings: &Rings) -> Result<(), Fail> {
+#[test]
+fn no_order_matters_above_the_low_watermark(rt: HostRuntime) -> Result<(), Fail> {
+    let rings = four(rt.alloc())?;
     let pairs = [(0, 1), (1, 1), (2, 1), (0, 2), (1, 3), (2, 0)];
     for number in 0..720 {
-        let order = ordered(pairs, number);
-        let last = order.iter().rposition(|&(_, subject)| subject == 1);
-        let at = last.ok_or("no alert about process 1")? as u64 + 1;
-        let edges = edges_of(alloc, &order)?;
-        check_both(rt, alloc, rings, &edges, at)?;
+        assert!(rt; is_last(rt.alloc(), &rings, ordered(pairs, number))?);
     }
     Ok(())
 }
 
-#[test]
-fn no_order_matters_above_the_low_watermark(rt: HostRuntime) -> Result<(), Fail> {
-    let rings = four(&rt, rt.alloc())?;
-    check_orders(&rt, rt.alloc(), &rings)
-}
-
-// Whether a detector proposes these members, and proposed them at this delivery.
-fn proposes(
+// Whether a detector waits for the third ring, then stays as it is whatever comes, and when it is reset has no report.
+fn is_reset(
     alloc: Global,
-    detector: &Detector<'_>,
-    members: &[u16],
-    at: u64,
-) -> Result<bool, Fail> {
-    let proposal = detector.proposal(alloc)?.ok_or("no proposal")?;
-    Ok(proposal.at == at && proposal.members.into_vec().as_slice() == members)
-}
-
-// Edges of a ring and a subject each, which are all within three rings of four processes.
-fn three_rings(rt: &impl Abort, alloc: Global, pairs: &[(u8, u16)]) -> Result<Vec<Edge>, Fail>
-    ensures { IfOk result (λ edges. IsTrue (are_edges_of 3 4 edges.items)) }
-{
-    let edges = edges_of(alloc, pairs)?;
-    assert!(rt; all_within(3, 4, &edges));
-    Ok(edges)
-}
-
-// A detector waits for the third ring, then stays as it is whatever comes, and when it is reset has no report.
-fn check_settled(
-    rt: &impl Abort,
-    alloc: Global,
-    detector: &mut Detector<'_>,
-    edges: [&[Edge]; 2],
-) -> Result<(), Fail>
-    requires rings { (detector.old.rule.k ≡ 3) × (detector.old.layout.nodes ≡ 4) }
-    requires within { All (λ e. IsTrue (are_edges_of 3 4 e.now)) edges }
-    requires fresh { detector.old.deliveries ≡ 0 }
-{
-    let [settling, lone] = edges;
-    check_steps(rt, detector, settling, 3, "on three rings")?;
-    assert!(rt; detector.deliveries() == 3 && proposes(alloc, detector, &[1], 3)?);
+    rings: &Rings,
+    settling: &[Edge],
+    lone: &[Edge],
+) -> Result<bool, AllocError> {
+    let nodes = rings.nodes();
+    if rings.len() < 3 || !all_within(3, nodes, settling) || !all_within(3, nodes, lone) {
+        return Ok(false);
+    }
+    let mut detector = Detector::new(alloc, rings, 3, 3, 1, false)?;
+    let is_settled = is_settled_from(3, &mut detector, settling) && detector.deliveries() == 3;
+    let is_proposed = is_reported(&detector.proposal(alloc)?, "1 at 3");
     detector.reset();
-    check_steps(rt, detector, lone, u64::MAX, "on one ring")?;
-    assert!(rt; detector.deliveries() == 3 && detector.proposal(alloc)?.is_none());
-    Ok(())
+    let is_fresh = is_settled_from(u64::MAX, &mut detector, lone) && detector.deliveries() == 3;
+    let is_silent = detector.proposal(alloc)?.is_none();
+    Ok(is_settled && is_proposed && is_fresh && is_silent)
 }
 
 #[test]
 fn a_settled_detector_stays_until_it_is_reset(rt: HostRuntime) -> Result<(), Fail> {
-    let alloc = rt.alloc();
-    let rings = four(&rt, alloc)?;
-    assert!(rt; rings.len() >= 3 && rings.nodes() == 4);
-    let settling = three_rings(&rt, alloc, &[(0, 1), (1, 1), (2, 1), (0, 2)])?;
-    let lone = three_rings(&rt, alloc, &[(0, 1); 3])?;
-    let mut detector = Detector::new(alloc, &rings, 3, 3, 1, false)?;
-    check_settled(&rt, alloc, &mut detector, [&settling, &lone])
+    let rings = four(rt.alloc())?;
+    let settling = edges_of(rt.alloc(), &[(0, 1), (1, 1), (2, 1), (0, 2)])?;
+    let lone = edges_of(rt.alloc(), &[(0, 1); 3])?;
+    assert!(rt; is_reset(rt.alloc(), &rings, &settling, &lone)?);
+    Ok(())
 }

@@ -2,7 +2,6 @@ use crate::texts::{four, rings_of_lists};
 use cut_plan::Plan;
 use cut_rings::{Edge, Rings, RingsFault};
 use std::alloc::{AllocError, Global};
-use std::process::Abort;
 use std::test::Fail;
 
 // Plans with each of the seeds below, by which a separate script placed the processes.
@@ -48,53 +47,66 @@ fn hashed(alloc: Global, text: &str) -> Result<Rings, Fail> {
     Ok(Rings::hashed(alloc, &plan)?)
 }
 
-// The rings are as many as these orders, and hold them.
-fn check_orders(rt: &impl Abort, rings: &Rings, orders: &[&[u16]]) {
-    assert!(rt; usize::from(rings.len()) == orders.len());
-    for (ring, order) in orders.iter().enumerate() {
-        assert!(rt; ring < 32 && runs(rings, ring as u8, order), "ring {ring}");
+// Whether rings are as many as these orders, and hold them.
+fn hold(rings: &Rings, orders: &[&[u16]]) -> bool {
+    let mut ring = 0u8;
+    for order in orders {
+        if !runs(rings, ring, order) {
+            return false;
+        }
+        ring = ring.saturating_add(1);
     }
+    rings.len() == ring
 }
+
+// Plans, and the orders of each one's rings.
+const ORDERS: [(&str, &[&[u16]]); 4] = [
+    (
+        FIVE,
+        &[&[1, 3, 0, 4, 2], &[3, 1, 0, 2, 4], &[0, 1, 2, 4, 3]],
+    ),
+    (
+        SEVEN,
+        &[
+            &[1, 2, 3, 5, 0, 4, 6],
+            &[4, 0, 6, 5, 2, 3, 1],
+            &[5, 4, 2, 3, 6, 1, 0],
+            &[4, 2, 1, 3, 6, 5, 0],
+        ],
+    ),
+    (TWO, &[&[1, 0], &[1, 0]]),
+    (PAIR, &[&[0, 1]]),
+];
 
 #[test]
 fn hashed_rings_are_those_of_the_plan(rt: HostRuntime) -> Result<(), Fail> {
-    let rows: [(&str, &[&[u16]]); 4] = [
-        (
-            FIVE,
-            &[&[1, 3, 0, 4, 2], &[3, 1, 0, 2, 4], &[0, 1, 2, 4, 3]],
-        ),
-        (
-            SEVEN,
-            &[
-                &[1, 2, 3, 5, 0, 4, 6],
-                &[4, 0, 6, 5, 2, 3, 1],
-                &[5, 4, 2, 3, 6, 1, 0],
-                &[4, 2, 1, 3, 6, 5, 0],
-            ],
-        ),
-        (TWO, &[&[1, 0], &[1, 0]]),
-        (PAIR, &[&[0, 1]]),
-    ];
-    for (text, orders) in rows {
-        let rings = hashed(rt.alloc(), text)?;
-        check_orders(&rt, &rings, orders);
+    for (text, orders) in ORDERS {
+        assert!(rt; hold(&hashed(rt.alloc(), text)?, orders));
     }
     Ok(())
 }
 
 // As many rings of one order.
-fn repeated(rt: &impl Abort, alloc: Global, order: &[u16], count: usize) -> Result<Rings, Fail> {
+fn repeated(alloc: Global, order: &[u16], count: usize) -> Result<Rings, RingsFault> {
+    let lists = copies(alloc, order, count)?;
+    if lists.len() > 32 || order.len() > 2048 {
+        return Err(RingsFault::TooFew);
+    }
+    Rings::from_lists(alloc, order.len() as u16, &lists)
+}
+
+// As many copies of one order.
+fn copies(alloc: Global, order: &[u16], count: usize) -> Result<Vec<Vec<u16>>, AllocError> {
     let mut lists: Vec<Vec<u16>> = Vec::new(alloc);
     for _ in 0..count {
         lists.push(Vec::from_slice(alloc, order)?)?;
     }
-    assert!(rt; lists.len() <= 32 && order.len() <= 2048);
-    Ok(Rings::from_lists(alloc, order.len() as u16, lists.as_slice())?)
+    Ok(lists)
 }
 
 // Whether rings of many processes are as many, and their last holds its order.
-fn are_many(rt: &impl Abort, alloc: Global, order: &[u16]) -> Result<bool, Fail> {
-    let rings = repeated(rt, alloc, order, 31)?;
+fn are_many(alloc: Global, order: &[u16]) -> Result<bool, RingsFault> {
+    let rings = repeated(alloc, order, 31)?;
     Ok((rings.len(), rings.nodes()) == (31, 1999) && runs(&rings, 30, order))
 }
 
@@ -103,35 +115,29 @@ fn many_processes_on_many_rings(rt: HostRuntime) -> Result<(), Fail> {
     let rings = hashed(rt.alloc(), MANY)?;
     assert!(rt; (rings.len(), rings.nodes()) == (31, 1999));
     let order: Vec<u16> = (0..1999).rev().collect(rt.alloc())?;
-    assert!(rt; are_many(&rt, rt.alloc(), order.as_slice())?);
+    assert!(rt; are_many(rt.alloc(), &order)?);
     Ok(())
 }
 
-// The rings of three lists are in their order, and each process is observed by the one before it.
-fn check_listed(rt: &impl Abort, rings: &Rings) {
-    assert!(rt; rings.len() == 3 && rings.nodes() == 4);
-    assert!(rt;
-        [
-            runs(rings, 0, &[0, 1, 2, 3]),
-            runs(rings, 1, &[0, 2, 1, 3]),
-            runs(rings, 2, &[0, 3, 2, 1]),
-        ] == [true; 3]
-    );
-    assert!(rt;
-        [
-            rings.observer(0, 0),
-            rings.observer(1, 1),
-            rings.observer(2, 3),
-            rings.subject(1, 0),
-            rings.subject(2, 1),
-        ] == [3, 2, 0, 2, 0]
-    );
+// Whether each process of three rings is observed by the one before it on each of them.
+fn are_listed(rings: &Rings) -> bool {
+    if rings.len() != 3 || rings.nodes() != 4 {
+        return false;
+    }
+    let observers = [
+        rings.observer(0, 0),
+        rings.observer(1, 1),
+        rings.observer(2, 3),
+    ];
+    let subjects = [rings.subject(1, 0), rings.subject(2, 1)];
+    observers == [3, 2, 0] && subjects == [2, 0]
 }
 
 #[test]
 fn listed_rings_are_the_lists(rt: HostRuntime) -> Result<(), Fail> {
-    let rings = four(&rt, rt.alloc())?;
-    check_listed(&rt, &rings);
+    let rings = four(rt.alloc())?;
+    assert!(rt; hold(&rings, &[&[0, 1, 2, 3], &[0, 2, 1, 3], &[0, 3, 2, 1]]));
+    assert!(rt; are_listed(&rings));
     Ok(())
 }
 
@@ -147,38 +153,39 @@ fn edges_are_numbered_by_subject_and_ring(rt: HostRuntime) {
     for (ring, subject, k, number) in rows {
         let edge = Edge { ring, subject };
         assert!(rt; ring < k && k <= 32 && subject < 2048);
-        assert_eq!(rt; edge.number(k), number, "of {ring} {subject} {k}");
+        assert!(rt; edge.number(k) == number);
     }
 }
 
-// What is reported of these lists, of this many processes; nothing where they are rings.
-fn reported(rt: &impl Abort, alloc: Global, nodes: u16, lists: &str) -> Result<String, Fail> {
-    match rings_of_lists(rt, alloc, nodes, lists)? {
-        Ok(_) => Ok(String::new(alloc)),
-        Err(fault) => Ok(fault.to_string(alloc)?),
+// Whether this is reported of these lists, of this many processes.
+fn is_reported(alloc: Global, nodes: u16, lists: &str, wanted: &str) -> Result<bool, AllocError> {
+    match rings_of_lists(alloc, nodes, lists) {
+        Ok(_) => Ok(false),
+        Err(fault) => Ok(fault.to_string(alloc)?.as_str() == wanted),
     }
 }
 
-// Each row: how many processes, lists, and what is reported of them. Each list that is no ring stands alone, and after
-// one that is.
+// How many processes, lists, and what is reported of them. Each list that is no ring stands alone, and after one that
+// is.
+const REPORTED: [(u16, &str, &str); 12] = [
+    (1, "0", "12 TooFew"),
+    (1, "0 1 2 3, 0", "12 TooFew"),
+    (1, "1 1", "12 TooFew"),
+    (1, "0 1 2 3, 1 1", "12 TooFew"),
+    (4, "0 0 2 3", "11 NotPermutation"),
+    (4, "0 1 2 3, 0 0 2 3", "11 NotPermutation"),
+    (4, "0 1 2", "11 NotPermutation"),
+    (4, "0 1 2 3, 0 1 2", "11 NotPermutation"),
+    (4, "0 1 2 4", "11 NotPermutation"),
+    (4, "0 1 2 3, 0 1 2 4", "11 NotPermutation"),
+    (4, "0 1 2 3 0", "11 NotPermutation"),
+    (4, "0 1 2 3, 0 1 2 3 0", "11 NotPermutation"),
+];
+
 #[test]
 fn lists_that_are_no_rings_are_refused(rt: HostRuntime) -> Result<(), Fail> {
-    for (nodes, lists, wanted) in [
-        (1, "0", "12 TooFew"),
-        (1, "0 1 2 3, 0", "12 TooFew"),
-        (1, "1 1", "12 TooFew"),
-        (1, "0 1 2 3, 1 1", "12 TooFew"),
-        (4, "0 0 2 3", "11 NotPermutation"),
-        (4, "0 1 2 3, 0 0 2 3", "11 NotPermutation"),
-        (4, "0 1 2", "11 NotPermutation"),
-        (4, "0 1 2 3, 0 1 2", "11 NotPermutation"),
-        (4, "0 1 2 4", "11 NotPermutation"),
-        (4, "0 1 2 3, 0 1 2 4", "11 NotPermutation"),
-        (4, "0 1 2 3 0", "11 NotPermutation"),
-        (4, "0 1 2 3, 0 1 2 3 0", "11 NotPermutation"),
-    ] {
-        let found = reported(&rt, rt.alloc(), nodes, lists)?;
-        assert!(rt; found.as_str() == wanted, "{nodes}: {lists}");
+    for (nodes, lists, wanted) in REPORTED {
+        assert!(rt; is_reported(rt.alloc(), nodes, lists, wanted)?);
     }
     let none = Rings::from_lists(rt.alloc(), 4, &[]);
     assert!(rt; matches!(none, Err(RingsFault::TooFew)));

@@ -1,9 +1,19 @@
-//! Rings and edges of the tests, of which many are written in texts of vectors.
+//! Plans, rings and edges of the tests, of which many are written in texts of vectors.
 
 use cut_rings::{Edge, Rings, RingsFault};
 use std::alloc::{AllocError, Global};
-use std::process::Abort;
-use std::test::Fail;
+
+/// Two trials of five processes with one crash, of version 2.
+pub(crate) const MIXED: &str =
+    r#"{"copies":1,"dead":"silent","deaf":0,"f":[1],"h":[1],"implicit":true,"k":[1],"l":[1],"liars":0,"links":0,"nodes":5,"repeats":2,"seed":"0000000000000000000000000000000000000000000000000000000000000000","version":2}"#;
+
+/// The same on three rings, whose alerts are all needed.
+pub(crate) const THREE_RINGS: &str =
+    r#"{"copies":1,"dead":"silent","deaf":0,"f":[1],"h":[3],"implicit":true,"k":[3],"l":[1],"liars":0,"links":0,"nodes":5,"repeats":2,"seed":"0000000000000000000000000000000000000000000000000000000000000000","version":2}"#;
+
+/// The same where no process crashes.
+pub(crate) const NONE_FAIL: &str =
+    r#"{"copies":1,"dead":"silent","deaf":0,"f":[0],"h":[1],"implicit":true,"k":[1],"l":[1],"liars":0,"links":0,"nodes":5,"repeats":2,"seed":"0000000000000000000000000000000000000000000000000000000000000000","version":2}"#;
 
 /// The numbers of a text with blanks between them.
 pub(crate) fn numbers(alloc: Global, text: &str) -> Result<Vec<u16>, AllocError> {
@@ -22,22 +32,19 @@ fn lists_of(alloc: Global, text: &str) -> Result<Vec<Vec<u16>>, AllocError> {
 }
 
 /// The rings of `nodes` processes that these lists give, with commas between them.
-pub(crate) fn rings_of_lists(
-    rt: &impl Abort,
-    alloc: Global,
-    nodes: u16,
-    text: &str,
-) -> Result<Result<Rings, RingsFault>, Fail> {
+pub(crate) fn rings_of_lists(alloc: Global, nodes: u16, text: &str) -> Result<Rings, RingsFault> {
     let lists = lists_of(alloc, text)?;
-    assert!(rt; nodes <= 2048 && lists.len() <= 32);
-    Ok(Rings::from_lists(alloc, nodes, &lists))
+    if nodes > 2048 || lists.len() > 32 {
+        return Err(RingsFault::Memory);
+    }
+    Rings::from_lists(alloc, nodes, &lists)
 }
 
 /// The rings of lists with commas between them, of as many processes as the first has.
-pub(crate) fn rings_of_text(rt: &impl Abort, alloc: Global, text: &str) -> Result<Rings, Fail> {
+pub(crate) fn rings_of_text(alloc: Global, text: &str) -> Result<Rings, RingsFault> {
     let (first, _) = text.split_once(", ").unwrap_or((text, ""));
     let nodes = first.split_whitespace().count().min(2048) as u16;
-    Ok(rings_of_lists(rt, alloc, nodes, text)??)
+    rings_of_lists(alloc, nodes, text)
 }
 
 /// The edge that is written as its ring and its subject with a point between them.
@@ -50,8 +57,8 @@ pub(crate) fn edge_of(word: &str) -> Edge {
 }
 
 /// Four processes on three rings.
-pub(crate) fn four(rt: &impl Abort, alloc: Global) -> Result<Rings, Fail> {
-    rings_of_text(rt, alloc, "0 1 2 3, 0 2 1 3, 0 3 2 1")
+pub(crate) fn four(alloc: Global) -> Result<Rings, RingsFault> {
+    rings_of_text(alloc, "0 1 2 3, 0 2 1 3, 0 3 2 1")
 }
 
 /// The edges of these pairs of ring and subject.
@@ -60,4 +67,14 @@ pub(crate) fn edges_of(alloc: Global, pairs: &[(u8, u16)]) -> Result<Vec<Edge>, 
         .iter()
         .map(|&(ring, subject)| Edge { ring, subject })
         .collect(alloc)
+}
+
+/// Whether edges are these pairs of ring and subject.
+pub(crate) fn are_pairs(edges: &[Edge], pairs: &[(u8, u16)]) -> bool {
+    for (edge, &(ring, subject)) in edges.iter().zip(pairs) {
+        if *edge != (Edge { ring, subject }) {
+            return false;
+        }
+    }
+    edges.len() == pairs.len()
 }

@@ -8,7 +8,8 @@ use Rattle.cut_wires.specs.Log.{WireLog, SendsAll}
 use Rattle.cut_wires.specs.declared.send.WriteFault.{WriteFault}
 use Rattle.cut_commands.specs.Faults.{fault_line}
 use Rattle.cut_commands.specs.declared.fault.CliFault.TheVariants.{Memory}
-use Rattle.cutlab.specs.Program.{IsSent, unread_status, unread_text}
+use Rattle.cutlab.specs.Program.{unread_status, unread_text}
+use Rattle.cutlab.specs.Sent.{IsSent}
 
 -- a text was sent, or a part of it up to a write that failed
 pub sent_is : (text : List ℕ) (result : Result ⊤ WriteFault) (old new : WireLog) → SendsAll result text old new

@@ -1,26 +1,31 @@
 -- What each job leaves on the program's wire and on its errors.
-use Rattle.std.specs.Prelude.{◌≡◌, ℕ, Bool, true, false, Option, Some, None, Result, ⊤}
+use Rattle.std.specs.Prelude.{◌≡◌, ◌+◌, ◌++◌, ℕ, Bool, true, false, List, ◌∷◌, [], length, map, codes, Option, Some, None}
+use Rattle.std.specs.Prelude.{Result, ⊤}
+use Rattle.std.specs.Fmt.{decimal}
 use Rattle.cut_wires.specs.Log.{WireLog}
 use Rattle.cut_progress.specs.Printed.{HasPrinted}
-use Rattle.cut_machines.specs.JoinCommand.{EndsJoinOfFiles}
+use Rattle.cut_machines.specs.JoinCommand.{EndsJoinOfFiles, NamesRefusedFile}
 use Rattle.cut_share.specs.declared.share.Share as share
 use Rattle.cut_machines.specs.Share.{EndsShareFile}
 use Rattle.cut_commands.specs.Ask.{EndsAsk}
 use Rattle.cut_commands.specs.Migrate.{EndsFiles}
 use Rattle.cut_commands.specs.Explain.{EndsExplain}
-use Rattle.cut_commands.specs.Run.{EndsCommand, EndsFile, canonical_task, check_task}
+use Rattle.cut_commands.specs.Run.{EndsCommand, canonical_task, check_task}
 use Rattle.cut_commands.specs.Status.{EndsStatus}
 use Rattle.cut_server.specs.Serve.{EndsServing}
-use Rattle.cut_commands.specs.Study.{plain_task}
 use Rattle.cut_command_line.specs.declared.line.Job.{Job}
 use Rattle.cut_command_line.specs.declared.line.Job.TheVariants.{Run, Check, Explain, Canonical, Status, Serve}
 use Rattle.cut_command_line.specs.declared.line.Job.TheVariants.{Ask, Migrate, Share, Join}
 use Rattle.cut_commands.specs.declared.fault.CliFault.{CliFault}
+use Rattle.cutlab.specs.Runs.{EndsRun}
+use Rattle.cutlab.specs.Sent.{IsSent}
+use Rattle.cutlab.specs.declared.run_job.WorkersJob.{WorkersJob}
+use Rattle.cutlab.specs.declared.run_job.WorkersJob.TheVariants as workers
 
--- how a run ends, by the file that it is kept in, if there is one
-abbrev pub EndsRun : {F : Type 0} → Option F → WireLog → WireLog → Result ⊤ CliFault → Type 0
-EndsRun None old new result = EndsCommand plain_task old new result
-EndsRun (Some file) old new result = EndsFile old new result
+-- how what workers run ends
+abbrev pub EndsWork : WorkersJob → WireLog → WireLog → Result ⊤ CliFault → Type 0
+EndsWork (workers.Study job) old new result = EndsRun job.checkpoint old new result
+EndsWork (workers.Share job) old new result = EndsShareFile job.share old new result
 
 -- how a share ends, by its numbers
 pub record EndsShareOf (index shares block_size : ℕ) (old new : WireLog) (result : Result ⊤ CliFault) : Type 0 where
@@ -42,15 +47,42 @@ EndsJob (Ask socket) old new result = EndsAsk old new result
 EndsJob (Migrate from to) old new result = EndsFiles old new result
 EndsJob (Share index shares file piece workers progress) old new result =
     EndsShareOf index shares piece old new result
-EndsJob (Join to from) old new result = EndsJoinOfFiles old new result
+EndsJob (Join to from which) old new result = EndsJoinOfFiles old new result
 
 -- what is printed on the errors where progress is asked for, and where it is not
 abbrev pub PrintsIf : Bool → WireLog → WireLog → Type 0
 PrintsIf true old new = HasPrinted old new
 PrintsIf false old new = new ≡ old
 
--- what a job prints on the errors while it is done
-abbrev pub PrintsOn : Job → WireLog → WireLog → Type 0
-PrintsOn (Run piece workers file progress) old new = PrintsIf progress old new
-PrintsOn (Share index shares file piece workers progress) old new = PrintsIf progress old new
-PrintsOn job old new = new ≡ old
+-- the line that says which file is refused, by its place and its path
+abbrev pub file_head : ℕ → List ℕ
+file_head place = codes "cutlab: file " ++ decimal place ++ codes ": "
+
+abbrev pub file_line : ℕ → List ℕ → List ℕ
+file_line place path = file_head place ++ path ++ 10 ∷ []
+
+-- a path has a place, from 1, among others
+pub record IsFileAt (paths : List (List ℕ)) (place : ℕ) (path : List ℕ) : Type 0 where
+  pub before : List (List ℕ)
+  pub after : List (List ℕ)
+  pub all : paths ≡ before ++ path ∷ after
+  pub place_is : place ≡ length before + 1
+
+-- what is printed on the errors of the one of these files that is refused, if one is: its line, up to a write that failed
+abbrev pub PrintsRefused : List (List ℕ) → Option ℕ → WireLog → WireLog → Type 0
+PrintsRefused paths None old new = new ≡ old
+PrintsRefused paths (Some place) old new =
+    (path : List ℕ) × (IsFileAt paths place path × IsSent (file_line place path) old new)
+
+-- what is printed there where it is asked which of them is refused, by how the join ended, and where it is not
+abbrev pub PrintsFileIf : Bool → List (List ℕ) → Result ⊤ CliFault → WireLog → WireLog → Type 0
+PrintsFileIf true paths ended old new =
+    (refused : Option ℕ) × (NamesRefusedFile (length paths) ended refused × PrintsRefused paths refused old new)
+PrintsFileIf false paths ended old new = new ≡ old
+
+-- what a job that ends so prints on the errors before that is reported
+abbrev pub PrintsOn : Job → Result ⊤ CliFault → WireLog → WireLog → Type 0
+PrintsOn (Run piece workers file progress) ended old new = PrintsIf progress old new
+PrintsOn (Share index shares file piece workers progress) ended old new = PrintsIf progress old new
+PrintsOn (Join to from which) ended old new = PrintsFileIf which (map (λ s. s.now) from.items) ended old new
+PrintsOn job ended old new = new ≡ old

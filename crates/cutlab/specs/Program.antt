@@ -1,10 +1,10 @@
 -- How the program ends: which job ran, what it left on its wires, and its status.
-use Rattle.std.specs.Prelude.{◌≡◌, ◌≢◌, ◌<◌, ◌⊎◌, ℕ, List, [], length, take, Result, Ok, Err, ⊤, codes, ◌++◌, ◌∷◌}
+use Rattle.std.specs.Prelude.{◌≡◌, ◌≢◌, ◌<◌, ◌⊎◌, ℕ, List, [], length, Result, Ok, Err, ⊤, codes, ◌++◌, ◌∷◌}
 use Rattle.std.specs.declared.io.ErrorKind as io
 use Rattle.std.specs.declared.io.ErrorKind.TheVariants.{InvalidData}
 use Rattle.clap.specs.Words.{fault_of}
 use Rattle.clap.specs.declared.error.kind.ErrorKind.{ErrorKind}
-use Rattle.cut_wires.specs.Log.{WireLog, wrote, write_failed}
+use Rattle.cut_wires.specs.Log.{WireLog, wrote}
 use Rattle.cut_wires.specs.declared.send.WriteFault.{WriteFault}
 use Rattle.cut_command_line.specs.Line.{program_app, NamesJob, status_of_kind, IsAsked}
 use Rattle.cut_command_line.specs.declared.line.Job.{Job}
@@ -12,14 +12,7 @@ use Rattle.cut_commands.specs.Faults.{fault_line, status_of}
 use Rattle.cut_commands.specs.declared.fault.CliFault.{CliFault}
 use Rattle.cut_commands.specs.declared.fault.CliFault.TheVariants.{Memory, Write}
 use Rattle.cutlab.specs.Jobs.{EndsJob, PrintsOn}
-
--- some first bytes of a text were written, and not all, when a write failed
-abbrev pub IsCutShort : List ℕ → ℕ → WireLog → WireLog → Type 0
-IsCutShort text sent old new = (sent < length text) × (new ≡ write_failed (wrote old (take sent text)))
-
--- exactly this text was written, up to a write that failed, if one did
-abbrev pub IsSent : List ℕ → WireLog → WireLog → Type 0
-IsSent text old new = (new ≡ wrote old text) ⊎ ((sent : ℕ) × IsCutShort text sent old new)
+use Rattle.cutlab.specs.Sent.{IsCutShort, IsSent}
 
 -- how the end of a command is reported on the errors and by the status: nothing and 0 where it was done, else
 -- the fault's line and status
@@ -35,7 +28,7 @@ pub record RunsJob (words : List (List ℕ)) (old new errors_old errors_new : Wi
   pub ended : Result ⊤ CliFault
   pub ends : EndsJob job old new ended
   pub errors_then : WireLog
-  pub prints : PrintsOn job errors_old errors_then
+  pub prints : PrintsOn job ended errors_old errors_then
   pub reported : ReportsEnd ended errors_then errors_new status
 
 -- help was written to the output, or a part of it, which is reported as a failed write

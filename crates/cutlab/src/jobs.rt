@@ -1,13 +1,14 @@
 ghost use Rattle.cut_command_line.specs.Line.{IsSizedJob};
 ghost use Rattle.cutlab.specs.Jobs.{EndsJob, PrintsOn};
 
-use crate::run_job::RunJob;
+use crate::join_job::JoinJob;
+use crate::run_job::{RunJob, WorkersJob};
 use crate::share_job::ShareJob;
+use crate::study_job::StudyJob;
 use cut_command_line::Job;
 use cut_commands::{
     CliFault, ask_at, canonical_io, check_io, explain_io, migrate_files, status_file,
 };
-use cut_machines::join_files;
 use cut_server::{Capacity, serve_at};
 use cut_share::Share;
 use cut_wires::Wire;
@@ -15,8 +16,8 @@ use std::sync::Wait;
 use std::thread::Threads;
 use std::time::Clock;
 
-/// Does a job over a wire. The files of checkpoints are opened by `host` before anything is read. Progress is printed
-/// on the errors where it is asked for.
+/// Does a job over a wire. The files of checkpoints are opened by `host` before anything is read. Progress, and which
+/// file is refused, is printed on the errors where it is asked for.
 pub(crate) fn answer<W, E, R>(
     host: &HostRuntime,
     rt: &R,
@@ -30,7 +31,7 @@ where
     R: Threads + Wait + Clock + Sync,
     requires { IsSizedJob job }
     ensures ends { EndsJob job.entry (W.log wire.old) (W.log wire.new) result }
-    ensures prints { PrintsOn job.entry (E.log errors.old) (E.log errors.new) }
+    ensures prints { PrintsOn job.entry result (E.log errors.old) (E.log errors.new) }
 {
     match job {
         Job::Run {
@@ -39,13 +40,12 @@ where
             checkpoint,
             progress,
         } => {
-            let run = RunJob {
+            let work = WorkersJob::Study(StudyJob {
                 piece,
                 workers,
                 checkpoint,
-                progress,
-            };
-            run.run(host, rt, wire, errors)
+            });
+            RunJob { work, progress }.run(host, rt, wire, errors)
         }
         Job::Share {
             index,
@@ -60,15 +60,21 @@ where
                 shares,
                 block_size: piece,
             };
-            let run = ShareJob {
+            let work = WorkersJob::Share(ShareJob {
                 share,
                 workers,
                 file,
-                progress,
-            };
-            run.run(host, rt, wire, errors)
+            });
+            RunJob { work, progress }.run(host, rt, wire, errors)
         }
-        Job::Join { new, old } => join_files(host, wire, &old, new),
+        Job::Join { new, old, which } => {
+            let join = JoinJob {
+                new,
+                old: &old,
+                which,
+            };
+            join.run(host, wire, errors)
+        }
         Job::Check => check_io(host.alloc(), wire),
         Job::Explain => explain_io(host.alloc(), rt, wire),
         Job::Canonical => canonical_io(host.alloc(), wire),

@@ -3,9 +3,11 @@
 #![tactic(auto)]
 
 mod jobs;
+mod join_job;
 mod program;
 mod run_job;
 mod share_job;
+mod study_job;
 #[cfg(test)]
 mod tests;
 

@@ -1,6 +1,7 @@
 //! The program, over its words and wires.
 ghost use Rattle.std.specs.Prelude.{◌≡◌, map, string_bytes, Err};
-ghost use Rattle.cutlab.specs.Program.{EndsProgram, IsSent, ReportsEnd, ReportsLine, unread_status, unread_text};
+ghost use Rattle.cutlab.specs.Program.{EndsProgram, ReportsEnd, ReportsLine, unread_status, unread_text};
+ghost use Rattle.cutlab.specs.Sent.{IsSent};
 
 use crate::jobs::answer;
 use cut_command_line::{NoJob, parse_line};
@@ -19,9 +20,9 @@ const UNREADABLE_LINE: &[u8] = b"error: a word of the command line is not UTF-8\
 /// status with which it ends.
 ///
 /// A command reads its plan from `wire` and writes its answer to it; its fault is one line on `errors`, from
-/// which nothing is read, after the lines of progress where these are asked for. Help goes to `wire`, what is
-/// wrong with the words to `errors`, both as clap writes them. The files of checkpoints are opened by `host`,
-/// and the threads of a study are made by `rt`.
+/// which nothing is read, after the lines of progress, or that of a refused file, where these are asked for. Help
+/// goes to `wire`, what is wrong with the words to `errors`, both as clap writes them. The files of checkpoints
+/// are opened by `host`, and the threads of a study are made by `rt`.
 pub fn run_words<R, S, W, E>(
     host: &HostRuntime,
     rt: &R,
@@ -100,7 +101,7 @@ pub fn end_unread<E: Wire>(kind: ErrorKind, errors: &mut E) -> u8
 }
 
 /// Writes a text as far as the wire takes it.
-fn report<E: Wire>(text: &[u8], errors: &mut E)
+pub(crate) fn report<E: Wire>(text: &[u8], errors: &mut E)
     ensures { IsSent text.now (E.log errors.old) (E.log errors.new) }
 {
     let _ = send_all(errors, text);

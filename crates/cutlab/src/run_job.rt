@@ -1,10 +1,10 @@
-//! A study that is run, with or without its progress on the errors.
-ghost use Rattle.std.specs.Prelude.{◌≤◌};
+//! What workers run, with or without its progress on the errors.
 ghost use Rattle.cut_progress.specs.Printed.{HasPrinted};
-ghost use Rattle.cutlab.specs.Jobs.{EndsRun, PrintsIf};
+ghost use Rattle.cutlab.specs.Jobs.{EndsWork, PrintsIf};
 
-use cut_commands::{CliFault, Work, run_file, run_io};
-use cut_disks::FileDisk;
+use crate::share_job::ShareJob;
+use crate::study_job::StudyJob;
+use cut_commands::CliFault;
 use cut_hall::{Gate, OpenGate};
 use cut_progress::{Progress, report_while};
 use cut_wires::Wire;
@@ -12,64 +12,24 @@ use std::sync::Wait;
 use std::thread::Threads;
 use std::time::Clock;
 
-/// The values of a run: the size of its pieces, the number of its workers, the file that it is kept in, and whether its
-/// progress is printed.
+/// What workers run.
 #[derive(Clone, Copy)]
-pub(crate) struct RunJob<'a> {
-    pub(crate) piece: u32,
-    pub(crate) workers: u32,
-    pub(crate) checkpoint: Option<&'a str>,
-    pub(crate) progress: bool,
-    pub(crate) ghost size: { 1 ≤ piece },
-    pub(crate) ghost few: { (1 ≤ workers) × (workers ≤ 64) },
+pub(crate) enum WorkersJob<'a> {
+    /// A whole study.
+    Study(StudyJob<'a>),
+    /// A share of one.
+    Share(ShareJob<'a>),
 }
 
-impl RunJob<'_> {
-    /// Runs the study, and prints its progress on the errors where it is asked for.
-    pub(crate) fn run<W, E, R>(
-        &self,
-        host: &HostRuntime,
-        rt: &R,
-        wire: &mut W,
-        errors: &mut E,
-    ) -> Result<(), CliFault>
-    where
-        W: Wire,
-        E: Wire + Send,
-        R: Threads + Wait + Clock + Sync,
-        ensures ends { EndsRun self.now.checkpoint (W.log wire.old) (W.log wire.new) result }
-        ensures prints { PrintsIf self.now.progress (E.log errors.old) (E.log errors.new) }
-    {
-        if self.progress {
-            self.run_and_report(host, rt, wire, errors)
-        } else {
-            self.run_with(host, rt, wire, &OpenGate)
-        }
-    }
+/// What workers run, and whether its progress is printed.
+#[derive(Clone, Copy)]
+pub(crate) struct RunJob<'a> {
+    pub(crate) work: WorkersJob<'a>,
+    pub(crate) progress: bool,
+}
 
-    /// Runs the study, and prints its progress on the errors.
-    fn run_and_report<W, E, R>(
-        &self,
-        host: &HostRuntime,
-        rt: &R,
-        wire: &mut W,
-        errors: &mut E,
-    ) -> Result<(), CliFault>
-    where
-        W: Wire,
-        E: Wire + Send,
-        R: Threads + Wait + Clock + Sync,
-        ensures ends { EndsRun self.now.checkpoint (W.log wire.old) (W.log wire.new) result }
-        ensures prints { HasPrinted (E.log errors.old) (E.log errors.new) }
-    {
-        let progress = Progress::new();
-        let mut run = || -> Result<(), CliFault>
-            ensures { EndsRun self.entry.now.checkpoint (W.log wire.entry.now) (W.log wire.exit.now) result }
-        { self.run_with(host, rt, wire, &progress) };
-        report_while(rt, &progress, errors, &mut run)
-    }
-
-    /// Runs the study, whose workers call a gate.
+impl WorkersJob<'_> {
+    /// Runs it, by workers that call a gate.
     fn run_with<W, G, R>(
         &self,
         host: &HostRuntime,
@@ -81,16 +41,57 @@ impl RunJob<'_> {
         W: Wire,
         G: Gate + Sync,
         R: Threads + Wait + Sync,
-        ensures { EndsRun self.now.checkpoint (W.log wire.old) (W.log wire.new) result }
+        ensures { EndsWork self.now (W.log wire.old) (W.log wire.new) result }
     {
-        let work = Work {
-            piece_size: self.piece,
-            workers: self.workers,
-            gate,
-        };
-        match self.checkpoint {
-            None => run_io::<W, FileDisk, G, R>(rt, host.alloc(), wire, work, None),
-            Some(path) => run_file(host, rt, wire, work, path),
+        match self {
+            WorkersJob::Study(job) => job.run_with(host, rt, wire, gate),
+            WorkersJob::Share(job) => job.run_with(host, rt, wire, gate),
         }
+    }
+}
+
+impl RunJob<'_> {
+    /// Runs the job, and prints its progress on the errors where it is asked for.
+    pub(crate) fn run<W, E, R>(
+        &self,
+        host: &HostRuntime,
+        rt: &R,
+        wire: &mut W,
+        errors: &mut E,
+    ) -> Result<(), CliFault>
+    where
+        W: Wire,
+        E: Wire + Send,
+        R: Threads + Wait + Clock + Sync,
+        ensures ends { EndsWork self.now.work (W.log wire.old) (W.log wire.new) result }
+        ensures prints { PrintsIf self.now.progress (E.log errors.old) (E.log errors.new) }
+    {
+        if self.progress {
+            self.run_and_report(host, rt, wire, errors)
+        } else {
+            self.work.run_with(host, rt, wire, &OpenGate)
+        }
+    }
+
+    /// Runs the job, and prints its progress on the errors.
+    fn run_and_report<W, E, R>(
+        &self,
+        host: &HostRuntime,
+        rt: &R,
+        wire: &mut W,
+        errors: &mut E,
+    ) -> Result<(), CliFault>
+    where
+        W: Wire,
+        E: Wire + Send,
+        R: Threads + Wait + Clock + Sync,
+        ensures ends { EndsWork self.now.work (W.log wire.old) (W.log wire.new) result }
+        ensures prints { HasPrinted (E.log errors.old) (E.log errors.new) }
+    {
+        let progress = Progress::new();
+        let mut run = || -> Result<(), CliFault>
+            ensures { EndsWork self.entry.now.work (W.log wire.entry.now) (W.log wire.exit.now) result }
+        { self.work.run_with(host, rt, wire, &progress) };
+        report_while(rt, &progress, errors, &mut run)
     }
 }

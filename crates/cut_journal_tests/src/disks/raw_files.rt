@@ -1,10 +1,9 @@
 use cut_disks::{Disk, DiskFault, FileDisk, RawFile, folder_of};
 use std::io::{self, ErrorKind};
-use std::process::Abort;
 use std::test::Fail;
 
 // A call of the system.
-#[derive(Clone, Copy, Debug, PartialEq, Eq)]
+#[derive(Clone, Copy, PartialEq, Eq)]
 enum Call {
     Kind,
     Lock,
@@ -80,39 +79,35 @@ impl RawFile for Noted<'_> {
     }
 }
 
-// Whether a file is a regular one, which call of it fails, and the calls of its opening.
-type Row<'a> = (bool, Option<Call>, &'a [Call]);
+// Whether a file is a regular one, which call of it fails, and how many calls its opening makes.
+type Row = (bool, Option<Call>, usize);
 
-// Asserts that a file is opened by all three calls, and that one that is no regular one, or fails, is refused.
-fn check_opening(rt: &impl Abort, calls: &mut Vec<Call>, rows: &[Row<'_>]) {
-    for (is_regular, fails, wanted) in rows {
-        calls.clear();
-        let file = Noted {
-            calls: &mut *calls,
-            is_regular: *is_regular,
-            fails: *fails,
-        };
-        let is_open = FileDisk::over(file).is_ok();
-        assert!(rt;
-            is_open == (*is_regular && fails.is_none()),
-            "{is_regular} {fails:?}"
-        );
-        assert!(rt; calls.as_slice() == *wanted, "{is_regular} {fails:?}");
-    }
+const OPENINGS: [Row; 5] = [
+    (true, None, 3),
+    (true, Some(Call::Folder), 3),
+    (true, Some(Call::Lock), 2),
+    (true, Some(Call::Kind), 1),
+    (false, None, 1),
+];
+
+// Whether a file is opened by as many of the three calls, and one that is no regular one, or fails, is refused.
+fn is_opening(calls: &mut Vec<Call>, (is_regular, fails, count): Row) -> bool {
+    calls.clear();
+    let file = Noted {
+        calls: &mut *calls,
+        is_regular,
+        fails,
+    };
+    let is_open = FileDisk::over(file).is_ok();
+    let all = [Call::Kind, Call::Lock, Call::Folder];
+    is_open == (is_regular && fails.is_none()) && Some(calls.as_slice()) == all.get(..count)
 }
 
 #[test]
-fn a_file_is_opened_with_its_folder(rt: HostRuntime) -> Result<(), Fail> {
-    let all = [Call::Kind, Call::Lock, Call::Folder];
-    let rows: [Row<'_>; 5] = [
-        (true, None, &all),
-        (true, Some(Call::Folder), &all),
-        (true, Some(Call::Lock), &all[..2]),
-        (true, Some(Call::Kind), &all[..1]),
-        (false, None, &all[..1]),
-    ];
-    check_opening(&rt, &mut Vec::new(rt.alloc()), &rows);
-    Ok(())
+fn a_file_is_opened_with_its_folder(rt: HostRuntime) {
+    for row in OPENINGS {
+        assert!(rt; is_opening(&mut Vec::new(rt.alloc()), row));
+    }
 }
 
 // Whether a call of each kind succeeds, and a second sync too.
@@ -134,16 +129,17 @@ fn each_call_of_a_file_is_one_of_the_system(rt: HostRuntime) -> Result<(), Fail>
         fails: None,
     };
     assert!(rt; calls_succeed(&mut FileDisk::over(file)?)?);
-    let opening = [Call::Kind, Call::Lock, Call::Folder];
-    let each = [
+    let all = [
+        Call::Kind,
+        Call::Lock,
+        Call::Folder,
         Call::Length,
         Call::Read(1),
         Call::Write(2),
         Call::SyncAll,
         Call::SyncAll,
     ];
-    assert!(rt; calls.as_slice().get(..3) == Some(opening.as_slice()));
-    assert!(rt; calls.as_slice().get(3..) == Some(each.as_slice()));
+    assert!(rt; calls.as_slice() == all.as_slice());
     Ok(())
 }
 
@@ -173,6 +169,6 @@ fn the_folder_of_a_file(rt: HostRuntime) {
         ("./a", "."),
         ("/", "."),
     ] {
-        assert!(rt; folder_of(path).as_str() == folder, "{path}");
+        assert!(rt; folder_of(path).as_str() == folder);
     }
 }

@@ -6,7 +6,6 @@ use cut_journal::{Journal, JournalFault};
 use cut_plan::Plan;
 use cut_trial::PieceResult;
 use std::alloc::{AllocError, Global};
-use std::process::Abort;
 use std::test::Fail;
 
 // What two appends of one result answer, where this call of the disk fails: each of them makes four.
@@ -43,46 +42,33 @@ fn appends_hold(
     Ok(answers == answers_of(fail_at) && found == Ok(slips))
 }
 
-// Asserts that of each row, for the result of two trials.
-fn check_appends(
-    rt: &impl Abort,
-    alloc: Global,
-    plan: &Plan,
-    rows: &[(u64, Tear, usize)],
-) -> Result<(), Fail> {
-    let result = result_of(alloc, plan, 0, 2)?;
-    for row in rows {
-        let (fail_at, tear, _) = *row;
-        assert!(rt;
-            appends_hold(alloc, plan, &result, *row)?,
-            "{fail_at} {tear:?}"
-        );
-    }
-    Ok(())
-}
-
 // Each device call of two appends fails in turn, and then none: the append answers 20, the next one 21, and after
 // a reopening the slip is there or it isn't.
+const APPENDS: [(u64, Tear, usize); 14] = [
+    (1, Tear::Nothing, 0),
+    (2, Tear::Nothing, 0),
+    (3, Tear::Nothing, 0),
+    (4, Tear::Nothing, 1),
+    (1, Tear::Everything, 0),
+    (2, Tear::Everything, 0),
+    (3, Tear::Everything, 1),
+    (4, Tear::Everything, 1),
+    (5, Tear::Everything, 1),
+    (6, Tear::Everything, 1),
+    (7, Tear::Nothing, 1),
+    (7, Tear::Everything, 2),
+    (8, Tear::Nothing, 2),
+    (0, Tear::Nothing, 2),
+];
+
 #[test]
 fn a_failing_append(rt: HostRuntime) -> Result<(), Fail> {
     let plan = Plan::from_json(rt.alloc(), SMALL.as_bytes())?;
-    let rows = [
-        (1, Tear::Nothing, 0),
-        (2, Tear::Nothing, 0),
-        (3, Tear::Nothing, 0),
-        (4, Tear::Nothing, 1),
-        (1, Tear::Everything, 0),
-        (2, Tear::Everything, 0),
-        (3, Tear::Everything, 1),
-        (4, Tear::Everything, 1),
-        (5, Tear::Everything, 1),
-        (6, Tear::Everything, 1),
-        (7, Tear::Nothing, 1),
-        (7, Tear::Everything, 2),
-        (8, Tear::Nothing, 2),
-        (0, Tear::Nothing, 2),
-    ];
-    check_appends(&rt, rt.alloc(), &plan, &rows)
+    let result = result_of(rt.alloc(), &plan, 0, 2)?;
+    for row in APPENDS {
+        assert!(rt; appends_hold(rt.alloc(), &plan, &result, row)?);
+    }
+    Ok(())
 }
 
 // Whether a disk of which one call has failed is opened again, with as many slips.
@@ -102,12 +88,8 @@ fn opening_holds(
     plan: &Plan,
     (fail_at, calls, slips): (u64, u64, usize),
 ) -> Result<bool, AllocError> {
-    let disk = FaultyDisk::of(
-        alloc,
-        Vec::from_slice(alloc, file)?,
-        fail_at,
-        Tear::Everything,
-    )?;
+    let bytes = Vec::from_slice(alloc, file)?;
+    let disk = FaultyDisk::of(alloc, bytes, fail_at, Tear::Everything)?;
     disk.arm();
     Ok(match Journal::open(alloc, disk, plan) {
         Ok((_journal, found)) => fail_at > calls && found.len() == slips,
@@ -118,26 +100,27 @@ fn opening_holds(
     })
 }
 
-// Asserts that of each call of an opening.
-fn check_openings(
-    rt: &impl Abort,
+// Whether that holds of each call of an opening.
+fn openings_hold(
     alloc: Global,
     file: &[u8],
     plan: &Plan,
     (calls, slips): (u64, usize),
-) -> Result<(), Fail> {
+) -> Result<bool, AllocError> {
     for fail_at in 1..calls.saturating_add(2) {
-        let is_held = opening_holds(alloc, file, plan, (fail_at, calls, slips))?;
-        assert!(rt; is_held, "{fail_at}");
+        if !opening_holds(alloc, file, plan, (fail_at, calls, slips))? {
+            return Ok(false);
+        }
     }
-    Ok(())
+    Ok(true)
 }
 
 // Each call of the disk fails in turn, on an empty disk and on one with a slip.
 #[test]
 fn a_failing_opening(rt: HostRuntime) -> Result<(), Fail> {
     let plan = Plan::from_json(rt.alloc(), SMALL.as_bytes())?;
-    check_openings(&rt, rt.alloc(), &[], &plan, (10, 0))?;
+    assert!(rt; openings_hold(rt.alloc(), &[], &plan, (10, 0))?);
     let disk = written_disk(rt.alloc(), &plan, "0,2")?;
-    check_openings(&rt, rt.alloc(), disk.bytes(), &plan, (11, 1))
+    assert!(rt; openings_hold(rt.alloc(), disk.bytes(), &plan, (11, 1))?);
+    Ok(())
 }

@@ -1,7 +1,7 @@
 //! Studies of version 1 that are moved to their plans' upgrades.
 
 use super::failing::slips_found;
-use super::{SMALL, SMALL_2, reading_of};
+use super::{SMALL, SMALL_2, created, reading_of};
 use cut_disks::{FaultyDisk, MemoryDisk, Tear};
 use cut_journal::Journal;
 use cut_ledger::Slip;
@@ -91,34 +91,41 @@ fn answer_of(
     }
 }
 
+/// Whether as many bytes of a journal are left, and read so.
+fn is_left(
+    alloc: Global,
+    bytes: &[u8],
+    plan: &Plan,
+    length: usize,
+    reading: &str,
+) -> Result<bool, AllocError> {
+    Ok(bytes.len() == length && reading_of(alloc, bytes, plan)?.as_str() == reading)
+}
+
 /// Whether the moving of slips to a new journal answers so, and leaves as many bytes, which are read so.
 fn is_moved(
     alloc: Global,
     slips: &[Slip],
     (plan, target): (&Plan, &Plan),
     (answer, length, reading): (&str, usize, &str),
-) -> Result<bool, AllocError> {
-    let disk = MemoryDisk::of(alloc, Vec::new(alloc))?;
-    let Ok(mut journal) = Journal::create(alloc, disk, target) else {
-        return Ok(false);
-    };
+) -> Result<bool, Fail> {
+    let mut journal = created(alloc, target)?;
     let is_answer = answer_of(alloc, slips, plan, &mut journal)?.as_str() == answer;
-    let bytes = journal.disk().bytes();
-    let is_read = reading_of(alloc, bytes, target)?.as_str() == reading;
-    Ok(is_answer && bytes.len() == length && is_read)
+    let disk = journal.into_disk();
+    Ok(is_answer && is_left(alloc, disk.bytes(), target, length, reading)?)
 }
 
 fn is_row(alloc: Global, ([plan, target], trials, wanted): Move) -> Result<bool, Fail> {
     let plan = Plan::from_json(alloc, plan.as_bytes())?;
     let target = Plan::from_json(alloc, target.as_bytes())?;
     let slips = slips_of(alloc, trials)?;
-    Ok(is_moved(alloc, &slips, (&plan, &target), wanted)?)
+    is_moved(alloc, &slips, (&plan, &target), wanted)
 }
 
 #[test]
 fn true_slips_are_moved(rt: HostRuntime) -> Result<(), Fail> {
     for row in MOVES {
-        assert!(rt; is_row(rt.alloc(), row)?, "{row:?}");
+        assert!(rt; is_row(rt.alloc(), row)?);
     }
     Ok(())
 }
@@ -164,10 +171,7 @@ fn a_failing_move(rt: HostRuntime) -> Result<(), Fail> {
     let plan = Plan::from_json(rt.alloc(), SMALL.as_bytes())?;
     let upgrade = plan.upgrade(rt.alloc())?;
     for row in [(1, 0), (3, 0), (4, 1), (5, 1), (7, 1), (8, 2)] {
-        assert!(rt;
-            failing_move_holds(rt.alloc(), (&plan, &upgrade), row)?,
-            "{row:?}"
-        );
+        assert!(rt; failing_move_holds(rt.alloc(), (&plan, &upgrade), row)?);
     }
     Ok(())
 }

@@ -6,7 +6,6 @@ use cut_plan::Plan;
 use cut_table::emit_table;
 use cut_wires::{MemoryWire, Wire};
 use std::alloc::{AllocError, Global};
-use std::process::Abort;
 use std::test::Fail;
 
 /// A study of five h and thirteen l, of one trial each, in which none of five processes fails. So nothing is
@@ -55,16 +54,16 @@ fn has_table(alloc: Global, ledger: &Ledger, table: &[u8]) -> Result<bool, Fail>
     Ok(ledger.plan().cells() == 65 && ledger.complete() && wire.taken() == table)
 }
 
-/// Both ledgers give the table.
-fn check_many(rt: &impl Abort, alloc: Global) -> Result<(), Fail> {
-    let table = table(alloc)?;
-    for ledger in [ledger_of_results(alloc)?, ledger_of_slips(alloc)?] {
-        assert!(rt; has_table(alloc, &ledger, table.as_bytes())?);
-    }
-    Ok(())
-}
-
 #[test]
 fn a_table_of_many_cells(rt: HostRuntime) -> Result<(), Fail> {
-    check_many(&rt, rt.alloc())
+    let table = table(rt.alloc())?;
+    assert!(rt;
+        has_table(
+            rt.alloc(),
+            &ledger_of_results(rt.alloc())?,
+            table.as_bytes()
+        )?
+    );
+    assert!(rt; has_table(rt.alloc(), &ledger_of_slips(rt.alloc())?, table.as_bytes())?);
+    Ok(())
 }

@@ -146,6 +146,42 @@ fn a_checkpoint_is_moved(rt: HostRuntime) -> Result<(), Fail> {
     Ok(fs::remove_dir_all(&rt, MOVE_FOLDER)?)
 }
 
+const JOIN_FOLDER: &str = "cutlab_refused_test";
+
+const SHARE: &str = "cutlab_refused_test/share.cut";
+
+const JOINED: &str = "cutlab_refused_test/joined.cut";
+
+const NONE: &str = "cutlab_refused_test/none.cut";
+
+#[test]
+fn a_refused_file_is_named_where_it_is_asked_for(rt: HostRuntime) -> Result<(), Fail> {
+    let _ = fs::remove_dir_all(&rt, JOIN_FOLDER);
+    fs::create_dir(&rt, JOIN_FOLDER)?;
+    let no_study = "cutlab: fault 22 NoStudy\n";
+    let named = "cutlab: file 2: cutlab_refused_test/none.cut\ncutlab: fault 22 NoStudy\n";
+    let join = ["cutlab", "join", JOINED, SHARE, NONE];
+    let join_which = ["cutlab", "join", "--which", JOINED, SHARE, NONE];
+    let join_one = ["cutlab", "join", JOINED, SHARE, "--which"];
+    let rows: [(&[&str], u8, &str, &str); 5] = [
+        (
+            &["cutlab", "share", "1/1", SHARE],
+            0,
+            "share 1 of 1: 2 of 2\n",
+            "",
+        ),
+        (&join, 4, "", no_study),
+        (&join_which, 4, "", named),
+        (&join_one, 0, "joined 1 into 1, 2 of 2\n", ""),
+        (&join_one, 4, "", "cutlab: fault 25 Held\n"),
+    ];
+    for (words, status, output, errors) in rows {
+        let left = left_by(&rt, &rt, words, PLAN);
+        assert!(rt; left.is(status, output, errors), "{words:?}");
+    }
+    Ok(fs::remove_dir_all(&rt, JOIN_FOLDER)?)
+}
+
 #[test]
 fn help_is_output_and_a_mistake_is_not(rt: HostRuntime) {
     let help = left_by(&rt, &rt, &["cutlab", "run", "--help"], PLAN);

@@ -11,8 +11,9 @@ returns c =
     ap app_of_fields c.after_help.ensures ∙ ap app_of_fields c.about.ensures ∙ c.new.ensures.app in
     let a : app_of c.in_ok-arg.field-0 ≡ with_rule (new_app (codes "join")) (file_rule (codes "new")) =
     c.in_ok-arg.ensures.shape c.file_word.ensures.local ∙ ap₂ with_rule helped c.file_word.ensures.rule in
+    let b = c.in_ok-arg-2.ensures.shape c.files_word.ensures.local ∙ ap₂ with_rule a c.files_word.ensures.rule in
     let made : app_of c.in_ok-join.join ≡ join_app =
-    c.in_ok-join.ensures.shape c.files_word.ensures.local ∙ ap₂ with_rule a c.files_word.ensures.rule in
+    c.in_ok-join.ensures.shape c.which_option.ensures.local ∙ ap₂ with_rule b c.which_option.ensures.rule in
     IfOk-weaker c.subcommand.result _ _
     (λ r h. h.shape (search rules) ∙ ap (λ (x : App). with_subcommand (app_of c.args.program) x.top) made)
     c.subcommand.ensures

@@ -24,5 +24,6 @@ returns-clause-gives c =
         sym (first_value-rows found (codes "new")) ∙ sym c.in-Some.ensures,
         sym (raw_values-rows found (codes "old")) ∙ sym c.in-Some-get_strs.ensures
             ∙ ap (λ (texts : List (Bor Text)). Some (map (λ s. s.now) texts)) (sym c.in_ok-old.ensures.items),
+        c.flag_given.ensures,
       ),
     )

@@ -1,6 +1,6 @@
 use Rattle.std.proofs.Common.{◌≡◌, List, ℕ, [], ◌∷◌, ◌++◌, subst, ap, ◌∙◌}
 use Rattle.cut_commands.specs.Faults.{fault_line}
-use Rattle.cutlab.specs.Program.{IsSent}
+use Rattle.cutlab.specs.Sent.{IsSent}
 use Rattle.cutlab.proofs.program.end_fault.Goals as goal
 
 pub returns : goal.returns

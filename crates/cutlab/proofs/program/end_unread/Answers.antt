@@ -1,6 +1,6 @@
 use Rattle.std.proofs.Common.{List, ℕ, subst, sym, ◌∙◌}
 use Rattle.cut_faults.specs.Codes as codes_of
-use Rattle.cutlab.specs.Program.{IsSent}
+use Rattle.cutlab.specs.Sent.{IsSent}
 use Rattle.cutlab.proofs.ProgramLemmas.{unread_otherwise}
 use Rattle.cutlab.proofs.program.end_unread.Goals as goal
 
