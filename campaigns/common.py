@@ -4,6 +4,7 @@ import argparse
 import json
 import os
 import random
+import socket
 import subprocess
 import sys
 import tempfile
@@ -63,7 +64,8 @@ def drawn_plan(rng, versions=(1, 2), most_work=40_000):
 
 def work_of(plan):
     """About how many steps the reference takes for a plan."""
-    each = [k * (2 * f + plan["liars"] + plan["links"]) * (1 + f + plan["liars"]) for k, _, _, f in reference.cells(plan)]
+    others = plan["liars"] + plan["links"]
+    each = [k * (2 * f + others) * (1 + f + plan["liars"]) for k, _, _, f in reference.cells(plan)]
     return plan["repeats"] * plan["nodes"] * plan["copies"] * sum(each)
 
 
@@ -91,24 +93,46 @@ def ran(program, words, text=b"", limit=120):
     return done.stdout.decode(), done.stderr.decode(), done.returncode
 
 
-def campaign(what, case):
-    """Tries drawn cases until `count` are tried, or `minutes` have passed; ends with 1 at the first difference."""
+def connected(path):
+    """A connection to a server, which may have made its socket and not listen yet."""
+    for _ in range(3000):
+        wire = socket.socket(socket.AF_UNIX)
+        try:
+            wire.connect(path)
+            return wire
+        except (ConnectionRefusedError, FileNotFoundError):
+            wire.close()
+            time.sleep(0.01)
+    raise Differs("no connection to the server")
+
+
+def campaign(what, case, options=None):
+    """Tries drawn cases until `count` are tried, or `minutes` have passed; ends with 1 at the first difference. A
+    campaign may have options of its own, by what a parser of words is given for each; a case is given their values."""
     words = argparse.ArgumentParser(description=sys.modules["__main__"].__doc__)
     words.add_argument("--program", default=PROGRAM, help="the built program")
     words.add_argument("--seed", default="1", help="what the cases are drawn from")
     words.add_argument("--from", dest="first", type=int, default=0, help="the number of the first case")
     words.add_argument("--count", type=int, default=100, help="how many cases are tried")
     words.add_argument("--minutes", type=float, help="for how long cases are tried, in place of a count")
+    for name, its in (options or {}).items():
+        words.add_argument(f"--{name}", **its)
     given = words.parse_args()
+    own = {name: getattr(given, name) for name in options or {}}
     end = time.monotonic() + 60 * given.minutes if given.minutes else None
     tried = 0
     while time.monotonic() < end if end else tried < given.count:
         number = given.first + tried
         with tempfile.TemporaryDirectory() as folder:
             try:
-                case(random.Random(f"{what}/{given.seed}/{number}"), os.path.abspath(given.program), folder)
+                case(random.Random(f"{what}/{given.seed}/{number}"), os.path.abspath(given.program), folder, **own)
             except (Differs, subprocess.TimeoutExpired) as found:
-                again = f"{sys.argv[0]} --seed {given.seed} --from {number} --count 1"
+                again = " ".join([sys.argv[0], f"--seed {given.seed} --from {number} --count 1", *said(own)])
                 sys.exit(f"{what}: case {number} differs after {tried} that did not\n{found}\nagain: {again}")
         tried += 1
     print(f"{what}: {tried} tried, 0 different", flush=True)
+
+
+def said(own):
+    """The words that give a campaign's own options their values."""
+    return [f"--{name}" if value is True else f"--{name} {value}" for name, value in own.items() if value is not False]

@@ -6,7 +6,7 @@ use crate::CliFault;
 use crate::checkpoint::open_checkpoint;
 use crate::input::read_plan;
 use cut_disks::{Disk, FileDisk};
-use cut_hall::Gate;
+use cut_gate::Gate;
 use cut_journal::JournalFault;
 use cut_ledger::laws::true_slips_give_the_table;
 use cut_plan::accepted_texts_give_plans;

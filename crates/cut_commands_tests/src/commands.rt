@@ -1,15 +1,11 @@
-//! What no contract says: tables that were computed apart from this program, the texts of faults, and
-//! devices that fail.
+//! What no contract says: the texts of faults, and devices that fail.
 
 mod asking;
 mod checkpoints;
 mod crews;
 mod devices;
 mod migrating;
-mod mixed_studies;
 mod refusals;
-mod studies;
-mod tables;
 
 use crate::workers::workers_from;
 use cut_commands::{CliFault, Work, check_io, run_io};
@@ -40,20 +36,17 @@ fn plan_with(alloc: Global, edits: &[(&str, &str)]) -> Result<String, AllocError
     Ok(text)
 }
 
-/// A table with these lines below its names.
-fn table_with(alloc: Global, lines: &str) -> Result<String, AllocError> {
-    let mut text = String::from_str(alloc, NAMES)?;
-    text.push_str(lines)?;
-    Ok(text)
+/// Whether these bytes are a table with these lines below its names.
+fn is_table(bytes: &[u8], lines: &str) -> bool {
+    bytes.strip_prefix(NAMES.as_bytes()) == Some(lines.as_bytes())
 }
 
 /// The line of the plan's cell.
 const LINE: &str = "1,1,1,1,2,8,0,0,0,8,2,2,0\n";
 
 /// The whole table of the plan.
-fn plan_table(alloc: Global) -> Result<String, AllocError> {
-    table_with(alloc, LINE)
-}
+const TABLE: &str =
+    "k,h,l,f,trials,receivers,conflicts,silent,extra,votes,decided,right,ppm\n1,1,1,1,2,8,0,0,0,8,2,2,0\n";
 
 /// Work in pieces of about this size by about this many workers, none of whom waits.
 fn work_of(size: u32, workers: u32) -> Work<'static, OpenGate> {

@@ -30,71 +30,57 @@ const LIAR_PLAN: &str =
 const LIAR_TABLE: &str =
     "k,h,l,f,trials,receivers,conflicts,silent,extra,votes,decided,right,ppm\n1,1,1,0,1,5,0,0,5,5,1,0,0\n";
 
-/// What a command left: the line of its fault, if it ended with one, and what it wrote.
-#[derive(Drop)]
-struct Left {
-    fault: String,
-    output: Vec<u8>,
+/// A server of this many sessions, and the line with which it ends: what it writes, or its fault. What it writes is not
+/// compared where there is no line.
+struct Server {
+    socket: &'static str,
+    sessions: u32,
+    folder: Option<&'static str>,
+    line: &'static str,
 }
 
-/// What a command left that wrote to a wire.
-fn left_on(
-    alloc: Global,
-    ended: Result<(), CliFault>,
-    wire: &MemoryWire,
-) -> Result<Left, AllocError> {
-    let fault = match ended {
-        Ok(()) => String::new(alloc),
-        Err(fault) => fault.to_string(alloc)?,
-    };
-    Ok(Left {
-        fault,
-        output: Vec::from_slice(alloc, wire.taken())?,
-    })
-}
-
-/// What a server of this many sessions leaves.
-fn served<T: Threads + Wait + Sync>(
+/// Whether a server ends with its line.
+fn ends_so<T: Threads + Wait + Sync>(
     host: &HostRuntime,
     rt: &T,
-    socket: &str,
-    sessions: u32,
-    folder: Option<&str>,
-) -> Result<Left, AllocError> {
+    server: &Server,
+) -> Result<bool, AllocError> {
     let alloc = host.alloc();
     let capacity = Capacity {
         workers: 2,
-        sessions: sessions.max(1).min(64),
+        sessions: server.sessions.max(1).min(64),
         studies: 2,
     };
     let mut wire = MemoryWire::new(alloc, Vec::new(alloc), 100);
-    let ended = match serve_at(host, rt, socket, capacity, folder, &mut wire) {
-        Ok(_report) => Ok(()),
-        Err(fault) => Err(fault),
-    };
-    left_on(alloc, ended, &wire)
+    match serve_at(host, rt, server.socket, capacity, server.folder, &mut wire) {
+        Ok(_report) => Ok(server.line.is_empty() || wire.taken() == server.line.as_bytes()),
+        Err(fault) => {
+            Ok(wire.taken().is_empty() && fault.to_string(alloc)?.as_str() == server.line)
+        }
+    }
 }
 
-/// What a client leaves that asks once.
-fn asked_once(host: &HostRuntime, socket: &str, plan: &str) -> Result<Left, AllocError> {
-    let alloc = host.alloc();
-    let input = Vec::from_slice(alloc, plan.as_bytes())?;
-    let mut wire = MemoryWire::new(alloc, input, 4096);
-    let ended = ask_at(host, &mut wire, socket);
-    left_on(alloc, ended, &wire)
+/// Whether a client that asks once has its table.
+fn is_asked_once(
+    host: &HostRuntime,
+    socket: &str,
+    plan: &str,
+    table: &str,
+) -> Result<bool, AllocError> {
+    let input = Vec::from_slice(host.alloc(), plan.as_bytes())?;
+    let mut wire = MemoryWire::new(host.alloc(), input, 4096);
+    Ok(ask_at(host, &mut wire, socket).is_ok() && wire.taken() == table.as_bytes())
 }
 
-/// What a client leaves, once there is a server.
-fn asked(host: &HostRuntime, socket: &str, plan: &str) -> Result<Left, AllocError> {
-    let mut left = asked_once(host, socket, plan)?;
+/// Whether a client has its table, once there is a server.
+fn is_asked(host: &HostRuntime, socket: &str, plan: &str, table: &str) -> Result<bool, AllocError> {
     for _ in 0..10_000 {
-        if left.fault.is_empty() {
-            break;
+        if is_asked_once(host, socket, plan, table)? {
+            return Ok(true);
         }
         thread::sleep(host, Duration::from_millis(1));
-        left = asked_once(host, socket, plan)?;
     }
-    Ok(left)
+    Ok(false)
 }
 
 /// A client that sends a plan and leaves without an answer, once there is a server.
@@ -107,11 +93,6 @@ fn vanish(host: &HostRuntime, socket: &str) {
         }
         thread::sleep(host, Duration::from_millis(1));
     }
-}
-
-/// Whether a command ended without a fault and wrote this.
-fn is_done(left: &Left, text: &str) -> bool {
-    left.fault.is_empty() && left.output.as_slice() == text.as_bytes()
 }
 
 /// Whether a socket is there, sooner or later, that its owner alone may connect to.
@@ -171,10 +152,10 @@ fn two_are_served<T: Threads + Wait + Sync>(
 ) -> Result<bool, AllocError> {
     let (first, second) = thread::join(
         rt,
-        || asked(host, socket, PLAN),
-        || asked(host, socket, LIAR_PLAN),
+        || is_asked(host, socket, PLAN, TABLE),
+        || is_asked(host, socket, LIAR_PLAN, LIAR_TABLE),
     );
-    Ok(is_done(&first?, TABLE) && is_done(&second?, LIAR_TABLE))
+    Ok(first? && second?)
 }
 
 /// Whether clients are served as they should be.
@@ -194,49 +175,92 @@ fn are_served<T: Threads + Wait + Sync>(
     }
 }
 
+/// Whether a server goes so to which someone comes, and no socket is left.
+fn goes_so<T: Threads + Wait + Sync>(
+    host: &HostRuntime,
+    rt: &T,
+    server: &Server,
+    visit: Visit,
+) -> Result<bool, AllocError> {
+    let _ = fs::remove_file(host, server.socket);
+    let (ended, served) = thread::join(
+        rt,
+        || ends_so(host, rt, server),
+        || are_served(host, rt, server.socket, visit),
+    );
+    Ok(ended? && served? && fs::metadata(host, server.socket).is_err())
+}
+
+const SERVERS: &[(Server, Visit)] = &[
+    (
+        Server {
+            socket: "cutlab_two_clients.sock",
+            sessions: 2,
+            folder: None,
+            line: "accepted 3\n",
+        },
+        Visit::Two,
+    ),
+    (
+        Server {
+            socket: "cutlab_vanish.sock",
+            sessions: 1,
+            folder: None,
+            line: "",
+        },
+        Visit::Vanished,
+    ),
+    (
+        Server {
+            socket: "cutlab_late.sock",
+            sessions: 1,
+            folder: None,
+            line: "accepted 0\n",
+        },
+        Visit::Late,
+    ),
+];
+
 #[test]
 fn servers_and_their_clients(rt: HostRuntime) -> Result<(), Fail> {
-    let rows = [
-        ("cutlab_two_clients.sock", 2, Visit::Two, "accepted 3\n"),
-        ("cutlab_vanish.sock", 1, Visit::Vanished, ""),
-        ("cutlab_late.sock", 1, Visit::Late, "accepted 0\n"),
-    ];
-    for (socket, sessions, who, wanted) in rows {
-        let _ = fs::remove_file(&rt, socket);
-        let (server, is_right) = thread::join(
-            &rt,
-            || served(&rt, &rt, socket, sessions, None),
-            || are_served(&rt, &rt, socket, who),
-        );
-        let server = server?;
-        assert!(rt; server.fault.is_empty() && is_right?, "{socket}");
-        assert!(rt; wanted.is_empty() || server.output.as_slice() == wanted.as_bytes());
-        assert!(rt; fs::metadata(&rt, socket).is_err(), "{socket}");
+    for (number, (server, visit)) in SERVERS.iter().enumerate() {
+        assert!(rt; goes_so(&rt, &rt, server, *visit)?, "{number}");
     }
     Ok(())
 }
 
+/// A file that is no folder.
+const PLAIN_FILE: &str = "cutlab_plain_file";
+
+/// Servers that can't begin.
+const REFUSED: &[Server] = &[
+    Server {
+        socket: "cutlab_none/a.sock",
+        sessions: 1,
+        folder: None,
+        line: "cutlab: fault 43 Read",
+    },
+    Server {
+        socket: "cutlab_plain.sock",
+        sessions: 1,
+        folder: Some(PLAIN_FILE),
+        line: "cutlab: fault 20 Disk",
+    },
+    Server {
+        socket: "cutlab_begin.sock",
+        sessions: 1,
+        folder: Some("cutlab_none"),
+        line: "cutlab: fault 20 Disk",
+    },
+];
+
 #[test]
 fn a_server_that_cannot_begin_says_so(rt: HostRuntime) -> Result<(), Fail> {
-    let file = "cutlab_plain_file";
-    fs::write(&rt, file, b"no folder")?;
-    let rows = [
-        ("cutlab_none/a.sock", None, "cutlab: fault 43 Read"),
-        ("cutlab_plain.sock", Some(file), "cutlab: fault 20 Disk"),
-        (
-            "cutlab_begin.sock",
-            Some("cutlab_none"),
-            "cutlab: fault 20 Disk",
-        ),
-    ];
-    for (socket, folder, line) in rows {
-        let left = served(&rt, &rt, socket, 1, folder)?;
-        assert!(rt;
-            left.fault.as_str() == line && left.output.is_empty(),
-            "{socket}"
-        );
+    fs::write(&rt, PLAIN_FILE, b"no folder")?;
+    for (number, server) in REFUSED.iter().enumerate() {
+        assert!(rt; ends_so(&rt, &rt, server)?, "{number}");
     }
-    Ok(fs::remove_file(&rt, file)?)
+    Ok(fs::remove_file(&rt, PLAIN_FILE)?)
 }
 
 /// A listener that gives one connection, whose client has left, and fails from then on.

@@ -13,7 +13,6 @@
 mod accounts;
 mod call_ledger;
 mod close;
-mod gate;
 mod hall;
 mod line_fault;
 mod not_closed;
@@ -23,7 +22,7 @@ mod slot;
 mod work;
 
 pub use call_ledger::CallLedger;
-pub use gate::{Gate, OpenGate};
+pub use cut_gate::{Gate, OpenGate};
 pub use hall::Hall;
 pub use line_fault::LineFault;
 pub use not_closed::{Mismatch, NotClosed};

@@ -10,47 +10,18 @@ fn four(alloc: Global) -> Result<MemoryDisk, AllocError> {
     MemoryDisk::of(alloc, Vec::from_slice(alloc, b"abcd")?)
 }
 
-// Whether a call is a write of these bytes at the beginning, or a torn one up to this place.
-fn is_call(call: &DiskCall, wanted: Result<&[u8], u64>) -> bool {
-    match (call, wanted) {
-        (DiskCall::Write { at, put }, Ok(bytes)) => *at == 0 && put.as_slice() == bytes,
-        (DiskCall::Torn { at, stop }, Err(end)) => *at == 0 && *stop == end,
-        _ => false,
-    }
-}
-
-// Four bytes, of which the last two are written over by four others.
-fn written_over(disk: &mut MemoryDisk) -> Result<(), DiskFault> {
-    if disk.bytes().len() == 4 {
-        disk.write_at(2, b"xyzw")?;
-    }
-    disk.sync()
-}
-
-// Whether a disk gives the bytes that stand there at one place.
-fn is_read(disk: &mut MemoryDisk) -> bool {
-    let mut found = [0; 3];
-    disk.bytes().len() >= 4 && disk.read(1, &mut found) == Ok(()) && found == *b"bxy"
-}
-
-// Whether a disk keeps the bytes that it began with, those that it has now, and its two calls.
-fn is_kept(disk: &MemoryDisk) -> bool {
-    let is_kept = match disk.calls() {
-        [DiskCall::Write { at, put }, DiskCall::Sync] => {
-            *at == 2 && put.as_slice() == b"xyzw".as_slice()
+// Whether a call is a write of the bytes at the beginning that are written, or a torn one up to the place.
+fn is_call(call: &DiskCall, wanted: &str) -> bool {
+    let (word, rest) = wanted.split_once(' ').unwrap_or((wanted, ""));
+    match call {
+        DiskCall::Write { at, put } => {
+            *at == 0 && word == "put" && put.as_slice() == rest.as_bytes()
+        }
+        DiskCall::Torn { at, stop } => {
+            *at == 0 && word == "torn" && rest.parse::<u64>() == Ok(*stop)
         }
         _ => false,
-    };
-    let has_bytes = disk.bytes() == b"abxyzw".as_slice() && disk.first() == b"abcd".as_slice();
-    is_kept && has_bytes && disk.failures() == 0
-}
-
-#[test]
-fn a_disk_in_memory_keeps_its_calls(rt: HostRuntime) -> Result<(), Fail> {
-    let mut disk = four(rt.alloc())?;
-    written_over(&mut disk)?;
-    assert!(rt; is_read(&mut disk) && is_kept(&disk));
-    Ok(())
+    }
 }
 
 // Whether a disk that is borrowed answers as one.
@@ -83,9 +54,9 @@ fn faulty(alloc: Global, fail_at: u64, tear: Tear) -> Result<FaultyDisk, AllocEr
 }
 
 // Whether the first two writes fail and leave these bytes, after this last call, and two more are made.
-fn fails_once(disk: &mut FaultyDisk, left: &[u8], last: Result<&[u8], u64>) -> bool {
+fn fails_once(disk: &mut FaultyDisk, left: &str, last: &str) -> bool {
     disk.arm();
-    let has_failed = change(disk).is_err() && disk.memory().bytes() == left;
+    let has_failed = change(disk).is_err() && disk.memory().bytes() == left.as_bytes();
     let is_last = match disk.memory().calls() {
         [.., call] => is_call(call, last),
         [] => false,
@@ -95,29 +66,38 @@ fn fails_once(disk: &mut FaultyDisk, left: &[u8], last: Result<&[u8], u64>) -> b
 }
 
 // Which call fails, how it is torn, the bytes that are left, and the last call.
-type Row<'a> = (u64, Tear, &'a [u8], Result<&'a [u8], u64>);
+const FAILURES: &str = "1 Nothing abcd torn 2
+2 Nothing XYcd put XY
+3 Nothing XYcd torn 1
+4 Nothing ZYcd put Z
+1 Everything XYcd put XY
+2 Everything XYcd put XY
+3 Everything ZYcd put Z
+4 Everything ZYcd put Z";
 
-// Disks of which each call fails in turn.
-const FAILURES: [Row<'static>; 8] = [
-    (1, Tear::Nothing, b"abcd", Err(2)),
-    (2, Tear::Nothing, b"XYcd", Ok(b"XY")),
-    (3, Tear::Nothing, b"XYcd", Err(1)),
-    (4, Tear::Nothing, b"ZYcd", Ok(b"Z")),
-    (1, Tear::Everything, b"XYcd", Ok(b"XY")),
-    (2, Tear::Everything, b"XYcd", Ok(b"XY")),
-    (3, Tear::Everything, b"ZYcd", Ok(b"Z")),
-    (4, Tear::Everything, b"ZYcd", Ok(b"Z")),
-];
+/// How a call that fails is torn, as it is written.
+pub(crate) fn tear_of(word: &str) -> Tear {
+    if word == "Nothing" {
+        Tear::Nothing
+    } else {
+        Tear::Everything
+    }
+}
 
 // Whether a disk fails as a row says.
-fn is_failure(alloc: Global, (fail_at, tear, left, last): Row<'_>) -> Result<bool, AllocError> {
-    Ok(fails_once(&mut faulty(alloc, fail_at, tear)?, left, last))
+fn is_failure(alloc: Global, row: &str) -> Result<bool, AllocError> {
+    let (fail_at, rest) = row.split_once(' ').unwrap_or((row, ""));
+    let (tear, rest) = rest.split_once(' ').unwrap_or((rest, ""));
+    let (left, last) = rest.split_once(' ').unwrap_or((rest, ""));
+    let fail_at = fail_at.parse::<u64>().unwrap_or(0);
+    let mut disk = faulty(alloc, fail_at, tear_of(tear))?;
+    Ok(fails_once(&mut disk, left, last))
 }
 
 #[test]
 fn a_disk_fails_once(rt: HostRuntime) -> Result<(), Fail> {
-    for row in FAILURES {
-        assert!(rt; is_failure(rt.alloc(), row)?);
+    for row in FAILURES.lines() {
+        assert!(rt; is_failure(rt.alloc(), row)?, "{row}");
     }
     Ok(())
 }

@@ -336,40 +336,47 @@ put 8 31
 put 226 e9ec089ff8cfaecd0b0e87d66b9dd8c53b2176aa1c412662347a9b6cfb7f1dcf
 reading Damaged 0";
 
-// A plan, the slips that are appended, how long the file is then, and what it is read as where it is changed.
-type Changes<'a> = (&'a str, &'a str, usize, &'a str);
-
-const ALL_CHANGES: [Changes<'static>; 7] = [
-    (SMALL, "0,2", 372, CHANGES),
-    (SMALL, "", 267, LETTERS),
-    (SMALL_2, "", 259, LETTERS_2),
-    (SMALL_2, "", 259, "kept 259"),
-    (SMALL_2, "0,2", 372, "kept 372\nreading 0,2,8,0,0,0,8,2,2,8"),
+// Plans, of each the slips that are appended, how long the file is then, and what it is read as where it is changed.
+const ALL_CHANGES: [(&str, &str, &str); 7] = [
+    (SMALL, "0,2 372", CHANGES),
+    (SMALL, " 267", LETTERS),
+    (SMALL_2, " 259", LETTERS_2),
+    (SMALL_2, " 259", "kept 259"),
+    (SMALL_2, "0,2 372", "kept 372\nreading 0,2,8,0,0,0,8,2,2,8"),
     (
         NONE_FAIL_2,
-        "0,2",
-        372,
+        "0,2 372",
         "kept 372\nreading 0,2,10,0,10,0,0,0,0,0",
     ),
     (
         THREE_RINGS_2,
-        "0,2",
-        372,
+        "0,2 372",
         "kept 372\nreading 0,2,8,0,0,0,8,2,2,24",
     ),
 ];
 
-// Whether the slips are written in as many bytes, which are read so where they are changed.
-fn are_changes(alloc: Global, (json, slips, length, blocks): Changes<'_>) -> Result<bool, Fail> {
+// Whether slips are written in as many bytes, which are read so where they are changed.
+fn are_changes(
+    alloc: Global,
+    json: &str,
+    slips: &str,
+    length: &str,
+    blocks: &str,
+) -> Result<bool, Fail> {
     let plan = Plan::from_json(alloc, json.as_bytes())?;
     let disk = written_disk(alloc, &plan, slips)?;
-    Ok(disk.bytes().len() == length && are_read(alloc, disk.bytes(), &plan, blocks)?)
+    let is_long = disk.bytes().len() == number(length) as usize;
+    Ok(is_long && are_read(alloc, disk.bytes(), &plan, blocks)?)
 }
 
 #[test]
 fn changed_files_of_small_plans(rt: HostRuntime) -> Result<(), Fail> {
-    for changes in ALL_CHANGES {
-        assert!(rt; are_changes(rt.alloc(), changes)?);
+    for (json, head, blocks) in ALL_CHANGES {
+        let (slips, length) = head.split_once(' ').unwrap_or((head, ""));
+        assert!(rt;
+            are_changes(rt.alloc(), json, slips, length, blocks)?,
+            "{blocks}"
+        );
     }
     Ok(())
 }
@@ -394,7 +401,7 @@ fn is_many(alloc: Global) -> Result<bool, Fail> {
     let slips = silent_slips(alloc, 65)?;
     let slips = slips.trim_end();
     let whole = format!(in alloc; "kept 7093\nreading {slips}")?;
-    are_changes(alloc, (MANY, slips, 7093, &whole))
+    are_changes(alloc, MANY, slips, "7093", &whole)
 }
 
 #[test]
@@ -403,7 +410,7 @@ fn files_of_many_slips(rt: HostRuntime) -> Result<(), Fail> {
     // Of 66, the last is changed.
     let slips = silent_slips(rt.alloc(), 66)?;
     let bad = "kept 7198\nput 7100 01\nreading Damaged 66\n\nkept 7093\nreading Damaged 66";
-    assert!(rt; are_changes(rt.alloc(), (MANY, &slips, 7198, bad))?);
+    assert!(rt; are_changes(rt.alloc(), MANY, &slips, "7198", bad)?);
     Ok(())
 }
 

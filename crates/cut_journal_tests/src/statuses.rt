@@ -28,25 +28,47 @@ fn printed(alloc: Global, bytes: &[u8]) -> Result<Vec<u8>, AllocError> {
     }
 }
 
+// Whether these bytes stand between two line feeds.
+fn is_between_feeds(bytes: &[u8], wanted: &[u8]) -> bool {
+    match bytes {
+        [b'\n', middle @ .., b'\n'] => middle == wanted,
+        _ => false,
+    }
+}
+
 // Whether these lines are printed of the study of a plan with the slips of pieces, and then the plan.
 fn prints(alloc: Global, plan: &Plan, pieces: &str, lines: &str) -> Result<bool, Fail> {
     let found = printed(alloc, written_disk(alloc, plan, pieces)?.bytes())?;
     let rest = found.strip_prefix(lines.as_bytes()).unwrap_or(&[]);
-    Ok(rest.strip_suffix(b"\n") == Some(plan.canonical(alloc)?.as_slice()))
+    Ok(is_between_feeds(rest, &plan.canonical(alloc)?))
 }
 
-// Pieces, and the lines that count what they hold.
-const STATUSES: [(&str, &str); 4] = [
-    ("", "trials 0 of 6\ncells 0 of 2\nslips 0\n"),
-    ("0,3", "trials 3 of 6\ncells 1 of 2\nslips 1\n"),
-    ("1,1 3,3", "trials 4 of 6\ncells 1 of 2\nslips 2\n"),
-    ("0,3 3,2 5,1", "trials 6 of 6\ncells 2 of 2\nslips 3\n"),
-];
+// Pieces, and below them the lines that count what they hold.
+const STATUSES: &str = "
+trials 0 of 6
+cells 0 of 2
+slips 0
+
+0,3
+trials 3 of 6
+cells 1 of 2
+slips 1
+
+1,1 3,3
+trials 4 of 6
+cells 1 of 2
+slips 2
+
+0,3 3,2 5,1
+trials 6 of 6
+cells 2 of 2
+slips 3";
 
 // Whether those are printed of a plan.
 fn are_printed(alloc: Global, json: &str) -> Result<bool, Fail> {
     let plan = Plan::from_json(alloc, json.as_bytes())?;
-    for (pieces, lines) in STATUSES {
+    for row in STATUSES.split("\n\n") {
+        let (pieces, lines) = row.split_once('\n').unwrap_or((row, ""));
         if !prints(alloc, &plan, pieces, lines)? {
             return Ok(false);
         }
@@ -66,13 +88,15 @@ fn is_refused(alloc: Global, bytes: &[u8], fault: &str) -> Result<bool, AllocErr
     Ok(printed(alloc, bytes)?.as_slice() == fault.as_bytes())
 }
 
-// Whether this fault is printed of bytes, one of which is another.
+// Whether this fault is printed of a file in which the byte at this place is another.
 fn is_damaged(
     alloc: Global,
-    bytes: &[u8],
-    (place, byte, fault): (usize, u8, &str),
+    file: &[u8],
+    place: usize,
+    byte: u8,
+    fault: &str,
 ) -> Result<bool, AllocError> {
-    let mut changed = Vec::from_slice(alloc, bytes)?;
+    let mut changed = Vec::from_slice(alloc, file)?;
     put(&mut changed, place, byte);
     is_refused(alloc, &changed, fault)
 }
@@ -82,31 +106,45 @@ fn is_cut(alloc: Global, file: &[u8], count: usize, fault: &str) -> Result<bool,
     is_refused(alloc, file.get(..count).unwrap_or(&[]), fault)
 }
 
+// Changes of a file, a byte that is put at a place or a cut after this many, and the fault that is printed then.
+const DAMAGES: &str = "put 0 0: 22 NoStudy
+put 8 51: 24 Damaged 0
+put 20 33: 24 Damaged 0
+cut 0: 22 NoStudy
+cut 1: 22 NoStudy
+cut 2: 24 Damaged 0
+cut 200: 24 Damaged 0";
+
+// Whether the fault of a row is printed of a file that is changed as the row says.
+fn is_row(alloc: Global, file: &[u8], row: &str) -> Result<bool, AllocError> {
+    let (change, fault) = row.split_once(": ").unwrap_or((row, ""));
+    let (word, rest) = change.split_once(' ').unwrap_or((change, ""));
+    let (place, byte) = rest.split_once(' ').unwrap_or((rest, ""));
+    let place = place.parse::<usize>().unwrap_or(0);
+    match byte.parse::<u8>() {
+        Ok(byte) if word == "put" => is_damaged(alloc, file, place, byte, fault),
+        _ => is_cut(alloc, file, place, fault),
+    }
+}
+
+// Whether that holds of each row, and of the end of a file.
+fn are_damaged(alloc: Global, file: &[u8]) -> Result<bool, AllocError> {
+    for row in DAMAGES.lines() {
+        if !is_row(alloc, file, row)? {
+            return Ok(false);
+        }
+    }
+    let end = file.len();
+    let is_cut = is_cut(alloc, file, end.saturating_sub(1), "24 Damaged 1")?;
+    Ok(is_cut && is_damaged(alloc, file, end.saturating_sub(2), 0, "24 Damaged 1")?)
+}
+
 // The file of a study with one slip, with a byte changed or its end cut off.
 #[test]
 fn changed_files_are_refused(rt: HostRuntime) -> Result<(), Fail> {
-    let alloc = rt.alloc();
-    let plan = Plan::from_json(alloc, PLAN.as_bytes())?;
-    let disk = written_disk(alloc, &plan, "0,3")?;
-    let file = disk.bytes();
-    let end = file.len();
-    for change in [
-        (0, 0, "22 NoStudy"),
-        (8, b'3', "24 Damaged 0"),
-        (20, b'!', "24 Damaged 0"),
-        (end.saturating_sub(2), 0, "24 Damaged 1"),
-    ] {
-        assert!(rt; is_damaged(alloc, file, change)?);
-    }
-    for (count, fault) in [
-        (0, "22 NoStudy"),
-        (1, "22 NoStudy"),
-        (2, "24 Damaged 0"),
-        (200, "24 Damaged 0"),
-        (end.saturating_sub(1), "24 Damaged 1"),
-    ] {
-        assert!(rt; is_cut(alloc, file, count, fault)?);
-    }
+    let plan = Plan::from_json(rt.alloc(), PLAN.as_bytes())?;
+    let disk = written_disk(rt.alloc(), &plan, "0,3")?;
+    assert!(rt; are_damaged(rt.alloc(), disk.bytes())?);
     Ok(())
 }
 

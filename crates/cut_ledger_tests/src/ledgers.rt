@@ -1,69 +1,66 @@
 //! Ledgers that were worked by hand. Of pieces the first trial stands, and how many there are.
 
-use crate::studies::{PLAN, SETTLED, SMALLER, TWO_CELLS, begun, fresh, result_of, slip};
-use cut_faults::FaultCode;
+use crate::studies::{PLAN, SETTLED, SMALLER, TWO_CELLS, begun, fresh, piece_of, result_of, slip};
 use cut_ledger::{Base, Division, Ledger, OfferFault, Slip, SlipsFault};
 use cut_plan::Plan;
 use cut_trial::Piece;
 use std::alloc::{AllocError, Global};
 use std::test::Fail;
 
-fn are_pieces(pieces: &[Piece], wanted: &[(u32, u32)]) -> bool {
-    for (piece, (first, count)) in pieces.iter().zip(wanted) {
-        if piece.first != *first || piece.count != *count {
+// Whether pieces are those that are written, with commas between them.
+fn are_pieces(pieces: &[Piece], wanted: &str) -> bool {
+    for (piece, text) in pieces.iter().zip(wanted.split(", ")) {
+        if *piece != piece_of(text) {
             return false;
         }
     }
-    pieces.len() == wanted.len()
+    let count = if wanted.is_empty() {
+        0
+    } else {
+        wanted.split(", ").count()
+    };
+    pieces.len() == count
 }
 
 // Whether a ledger has these gaps, and is complete exactly where these are none.
-fn has_gaps(alloc: Global, ledger: &Ledger, wanted: &[(u32, u32)]) -> Result<bool, AllocError> {
+fn has_gaps(alloc: Global, ledger: &Ledger, wanted: &str) -> Result<bool, AllocError> {
     let gaps = ledger.gaps(alloc)?;
     Ok(are_pieces(&gaps, wanted) && ledger.complete() == wanted.is_empty())
 }
 
-// Trials that are offered, the fault that they are refused with, and the gaps then.
-type Offer = ((u32, u32), Option<FaultCode>, &'static [(u32, u32)]);
+// Trials that are offered, the number of the fault that they are refused with, 0 for none, and the gaps then.
+const SINGLE_TRIALS: &str = "1 1: 0: 0 1
+0 1: 0:
+1 1: 16:";
 
-const SINGLE_TRIALS: [Offer; 3] = [
-    ((1, 1), None, &[(0, 1)]),
-    ((0, 1), None, &[]),
-    ((1, 1), Some(FaultCode::Overlap), &[]),
-];
+const A_PIECE_AND_ITS_TRIAL: &str = "0 2: 0:
+1 1: 16:";
 
-const A_PIECE_AND_ITS_TRIAL: [Offer; 2] = [
-    ((0, 2), None, &[]),
-    ((1, 1), Some(FaultCode::Overlap), &[]),
-];
-
-// The fault that the offer of a plan's trials is refused with, if it is.
-fn answer_to(
-    alloc: Global,
-    ledger: &mut Ledger,
-    (first, count): (u32, u32),
-) -> Result<Option<FaultCode>, Fail> {
-    let result = result_of(alloc, ledger.plan(), first, count)?;
-    Ok(ledger.offer(&result).err().map(|fault| fault.code()))
+// The number of the fault that the offer of a plan's trials is refused with, 0 where they are taken.
+fn answer_to(alloc: Global, ledger: &mut Ledger, trials: Piece) -> Result<u16, Fail> {
+    let result = result_of(alloc, ledger.plan(), trials)?;
+    match ledger.offer(&result) {
+        Ok(()) => Ok(0),
+        Err(fault) => Ok(fault.code().number()),
+    }
 }
 
-fn is_answered(
-    alloc: Global,
-    ledger: &mut Ledger,
-    (trials, refused, gaps): Offer,
-) -> Result<bool, Fail> {
-    let answer = answer_to(alloc, ledger, trials)?;
-    Ok(answer == refused && has_gaps(alloc, ledger, gaps)?)
+// Whether the offer of a row is answered so, and leaves the gaps that the row has.
+fn is_answered(alloc: Global, ledger: &mut Ledger, row: &str) -> Result<bool, Fail> {
+    let (trials, rest) = row.split_once(": ").unwrap_or((row, ""));
+    let (refused, gaps) = rest.split_once(':').unwrap_or((rest, ""));
+    let answer = answer_to(alloc, ledger, piece_of(trials))?;
+    Ok(refused.parse::<u16>() == Ok(answer) && has_gaps(alloc, ledger, gaps.trim_start())?)
 }
 
 // Whether offers to a fresh ledger are answered so, and its one cell is done then, with these sums.
-fn are_answered(alloc: Global, ledger: &mut Ledger, offers: &[Offer]) -> Result<bool, Fail> {
-    for offer in offers {
-        if !is_answered(alloc, ledger, *offer)? {
+fn are_answered(alloc: Global, ledger: &mut Ledger, offers: &str) -> Result<bool, Fail> {
+    for offer in offers.lines() {
+        if !is_answered(alloc, ledger, offer)? {
             return Ok(false);
         }
     }
-    Ok(is_done(ledger, slip(0, 2, [8, 0, 0, 0, 8, 2, 2, 0])))
+    Ok(is_done(ledger, slip("0 2: 8 0 0 0 8 2 2 0")))
 }
 
 // Whether the first cell is done, with the sums of a slip.
@@ -80,30 +77,30 @@ fn gains_room(alloc: Global, ledger: &mut Ledger) -> Result<bool, Fail> {
         return Ok(false);
     }
     ledger.reserve(0)?;
-    Ok(ledger.has_room(0) && has_gaps(alloc, ledger, &[(0, 2)])?)
+    Ok(ledger.has_room(0) && has_gaps(alloc, ledger, "0 2")?)
 }
 
 // Whether a result of another plan is refused.
 fn is_stranger(alloc: Global, ledger: &mut Ledger) -> Result<bool, Fail> {
     let other = Plan::from_json(alloc, SMALLER.as_bytes())?;
-    let result = result_of(alloc, &other, 0, 1)?;
+    let result = result_of(alloc, &other, piece_of("0 1"))?;
     Ok(matches!(ledger.offer(&result), Err(OfferFault::Stranger)))
 }
 
 #[test]
 fn trials_are_taken_once(rt: HostRuntime) -> Result<(), Fail> {
     let mut ledger = fresh(rt.alloc(), PLAN)?;
-    assert!(rt; has_parts(rt.alloc(), &ledger, (1, &[(0, 1), (1, 1)]))?);
+    assert!(rt; has_parts(rt.alloc(), &ledger, 1, "0 1, 1 1")?);
     assert!(rt; gains_room(rt.alloc(), &mut ledger)?);
     assert!(rt; is_stranger(rt.alloc(), &mut ledger)?);
-    assert!(rt; are_answered(rt.alloc(), &mut ledger, &SINGLE_TRIALS)?);
+    assert!(rt; are_answered(rt.alloc(), &mut ledger, SINGLE_TRIALS)?);
     Ok(())
 }
 
 #[test]
 fn a_piece_is_taken_once(rt: HostRuntime) -> Result<(), Fail> {
     let mut ledger = fresh(rt.alloc(), PLAN)?;
-    assert!(rt; are_answered(rt.alloc(), &mut ledger, &A_PIECE_AND_ITS_TRIAL)?);
+    assert!(rt; are_answered(rt.alloc(), &mut ledger, A_PIECE_AND_ITS_TRIAL)?);
     Ok(())
 }
 
@@ -119,18 +116,12 @@ fn is_divided(division: &Division, pieces: &[Piece]) -> bool {
 
 // Sizes of pieces, and the pieces of what lacks the second trial of the second of two cells: gaps end where cells
 // do, and the last piece of a gap is shorter where less is left.
-const PARTS: [(u32, &[(u32, u32)]); 3] = [
-    (2, &[(0, 2), (2, 2), (4, 1), (5, 1), (7, 2), (9, 1)]),
-    (5, &[(0, 5), (5, 1), (7, 3)]),
-    (u32::MAX, &[(0, 5), (5, 1), (7, 3)]),
-];
+const PARTS: &str = "2: 0 2, 2 2, 4 1, 5 1, 7 2, 9 1
+5: 0 5, 5 1, 7 3
+4294967295: 0 5, 5 1, 7 3";
 
 // Whether a ledger's pieces of some size are these, listed and by their numbers.
-fn has_parts(
-    alloc: Global,
-    ledger: &Ledger,
-    (size, wanted): (u32, &[(u32, u32)]),
-) -> Result<bool, AllocError> {
+fn has_parts(alloc: Global, ledger: &Ledger, size: u32, wanted: &str) -> Result<bool, AllocError> {
     if size == 0 {
         return Ok(false);
     }
@@ -139,43 +130,46 @@ fn has_parts(
     Ok(are_pieces(&pieces, wanted) && is_divided(&division, &pieces))
 }
 
+// Whether a ledger has the pieces of a row.
+fn is_row(alloc: Global, ledger: &Ledger, row: &str) -> Result<bool, AllocError> {
+    let (size, wanted) = row.split_once(": ").unwrap_or((row, ""));
+    has_parts(alloc, ledger, size.parse::<u32>().unwrap_or(0), wanted)
+}
+
 #[test]
 fn parts_of_gaps(rt: HostRuntime) -> Result<(), Fail> {
-    let ledger = begun(rt.alloc(), TWO_CELLS, slip(6, 1, [4, 0, 0, 0, 4, 1, 1, 0]))?;
-    for parts in PARTS {
-        assert!(rt; has_parts(rt.alloc(), &ledger, parts)?);
+    let ledger = begun(rt.alloc(), TWO_CELLS, slip("6 1: 4 0 0 0 4 1 1 0"))?;
+    for row in PARTS.lines() {
+        assert!(rt; is_row(rt.alloc(), &ledger, row)?, "{row}");
     }
     Ok(())
 }
 
-// A plan, the numbers of a slip of it, and whether it is a possible one.
-type Possible = (&'static str, (u32, u32), [u64; 8], bool);
+// Slips of the plan, and whether they are possible ones. False totals that are possible are believed. Only version 2
+// says after how many deliveries receivers propose.
+const POSSIBLE: &str = "0 1: 4 0 0 0 4 1 1 0 is possible
+0 1: 4 4 0 0 4 1 0 0 is possible
+1 1: 4 2 2 2 4 1 1 0 is possible
+0 1: 5 0 0 0 4 1 1 0 is bad
+0 0: 0 0 0 0 0 0 0 0 is bad
+1 2: 8 0 0 0 8 2 2 0 is bad
+0 1: 4 3 2 0 2 0 0 0 is bad
+0 1: 4 0 2 3 2 0 0 0 is bad
+0 1: 4 0 5 0 0 0 0 0 is bad
+0 1: 4 0 0 0 5 1 1 0 is bad
+0 1: 4 0 0 0 4 2 1 0 is bad
+0 1: 4 0 0 0 4 0 1 0 is bad
+0 1: 4 0 0 0 4 1 1 1 is bad
+0 1: 4 0 0 0 4 1 1 4 is bad";
 
-const POSSIBLE: [Possible; 21] = [
-    (PLAN, (0, 1), [4, 0, 0, 0, 4, 1, 1, 0], true),
-    // False totals that are possible ones are believed.
-    (PLAN, (0, 1), [4, 4, 0, 0, 4, 1, 0, 0], true),
-    (PLAN, (1, 1), [4, 2, 2, 2, 4, 1, 1, 0], true),
-    (PLAN, (0, 1), [5, 0, 0, 0, 4, 1, 1, 0], false),
-    (PLAN, (0, 0), [0, 0, 0, 0, 0, 0, 0, 0], false),
-    (PLAN, (1, 2), [8, 0, 0, 0, 8, 2, 2, 0], false),
-    (PLAN, (0, 1), [4, 3, 2, 0, 2, 0, 0, 0], false),
-    (PLAN, (0, 1), [4, 0, 2, 3, 2, 0, 0, 0], false),
-    (PLAN, (0, 1), [4, 0, 5, 0, 0, 0, 0, 0], false),
-    (PLAN, (0, 1), [4, 0, 0, 0, 5, 1, 1, 0], false),
-    (PLAN, (0, 1), [4, 0, 0, 0, 4, 2, 1, 0], false),
-    (PLAN, (0, 1), [4, 0, 0, 0, 4, 0, 1, 0], false),
-    // Only version 2 says after how many deliveries receivers propose: each of them hears of five.
-    (PLAN, (0, 1), [4, 0, 0, 0, 4, 1, 1, 1], false),
-    (PLAN, (0, 1), [4, 0, 0, 0, 4, 1, 1, 4], false),
-    (SETTLED, (0, 1), [4, 0, 0, 0, 4, 1, 1, 3], false),
-    (SETTLED, (0, 1), [4, 0, 0, 0, 4, 1, 1, 4], true),
-    (SETTLED, (0, 1), [4, 0, 0, 0, 4, 1, 1, 20], true),
-    (SETTLED, (0, 1), [4, 0, 0, 0, 4, 1, 1, 21], false),
-    (SETTLED, (0, 1), [4, 0, 1, 0, 4, 1, 1, 15], true),
-    (SETTLED, (0, 1), [4, 0, 1, 0, 4, 1, 1, 16], false),
-    (SETTLED, (0, 1), [4, 0, 4, 0, 4, 1, 1, 1], false),
-];
+// The same of the plan of version 2: each receiver hears of five.
+const POSSIBLE_2: &str = "0 1: 4 0 0 0 4 1 1 3 is bad
+0 1: 4 0 0 0 4 1 1 4 is possible
+0 1: 4 0 0 0 4 1 1 20 is possible
+0 1: 4 0 0 0 4 1 1 21 is bad
+0 1: 4 0 1 0 4 1 1 15 is possible
+0 1: 4 0 1 0 4 1 1 16 is bad
+0 1: 4 0 4 0 4 1 1 1 is bad";
 
 // The number of the slip of a plan that is bad, 0 where none is.
 fn bad_slip(alloc: Global, json: &str, slips: &[Slip]) -> Result<u64, Fail> {
@@ -187,13 +181,22 @@ fn bad_slip(alloc: Global, json: &str, slips: &[Slip]) -> Result<u64, Fail> {
     }
 }
 
+// Whether the slip of a row is a possible one of a plan where the row says so.
+fn is_judged(alloc: Global, json: &str, row: &str) -> Result<bool, Fail> {
+    let (numbers, said) = row.split_once(" is ").unwrap_or((row, ""));
+    let bad = bad_slip(alloc, json, &[slip(numbers)])?;
+    Ok((bad == 0) == (said == "possible"))
+}
+
 #[test]
 fn slips_that_are_possible(rt: HostRuntime) -> Result<(), Fail> {
-    for (json, (first, count), numbers, is_possible) in POSSIBLE {
-        let bad = bad_slip(rt.alloc(), json, &[slip(first, count, numbers)])?;
-        assert!(rt; (bad == 0) == is_possible);
+    for row in POSSIBLE.lines() {
+        assert!(rt; is_judged(rt.alloc(), PLAN, row)?, "{row}");
     }
-    let right = slip(0, 1, [4, 0, 0, 0, 4, 1, 1, 0]);
+    for row in POSSIBLE_2.lines() {
+        assert!(rt; is_judged(rt.alloc(), SETTLED, row)?, "{row}");
+    }
+    let right = slip("0 1: 4 0 0 0 4 1 1 0");
     assert!(rt; bad_slip(rt.alloc(), PLAN, &[right, right])? == 2);
     Ok(())
 }
@@ -213,14 +216,14 @@ fn is_copied(alloc: Global, ledger: &Ledger) -> Result<bool, AllocError> {
 // The slip is the base; what it says is added to what is missing.
 #[test]
 fn a_ledger_over_a_slip(rt: HostRuntime) -> Result<(), Fail> {
-    let one = slip(0, 1, [4, 4, 0, 0, 4, 1, 0, 0]);
-    let other = slip(0, 1, [4, 4, 0, 0, 4, 1, 1, 0]);
+    let one = slip("0 1: 4 4 0 0 4 1 0 0");
+    let other = slip("0 1: 4 4 0 0 4 1 1 0");
     let mut ledger = begun(rt.alloc(), PLAN, one)?;
     assert!(rt; began_with(rt.alloc(), &ledger, &[one])?);
     assert!(rt; !began_with(rt.alloc(), &ledger, &[other])?);
     assert!(rt; is_copied(rt.alloc(), &ledger)?);
-    assert!(rt; is_answered(rt.alloc(), &mut ledger, ((1, 1), None, &[]))?);
-    assert!(rt; is_done(&ledger, slip(0, 2, [8, 4, 0, 0, 8, 2, 1, 0])));
+    assert!(rt; is_answered(rt.alloc(), &mut ledger, "1 1: 0:")?);
+    assert!(rt; is_done(&ledger, slip("0 2: 8 4 0 0 8 2 1 0")));
     Ok(())
 }
 
@@ -234,10 +237,10 @@ fn faults_are_printed(rt: HostRuntime) -> Result<(), Fail> {
 // Whether the offer of a trial is taken, where no growth of memory is refused: then it leaves a smaller gap, and
 // else the one that there was.
 fn is_taken(alloc: Global, ledger: &mut Ledger) -> Result<bool, Fail> {
-    let result = result_of(alloc, ledger.plan(), 1, 1)?;
+    let result = result_of(alloc, ledger.plan(), piece_of("1 1"))?;
     match ledger.offer(&result) {
-        Ok(()) => Ok(has_gaps(alloc, ledger, &[(0, 1)])?),
-        Err(OfferFault::Memory) if !has_gaps(alloc, ledger, &[(0, 2)])? => Ok(false),
+        Ok(()) => Ok(has_gaps(alloc, ledger, "0 1")?),
+        Err(OfferFault::Memory) if !has_gaps(alloc, ledger, "0 2")? => Ok(false),
         Err(fault) => Err(fault)?,
     }
 }

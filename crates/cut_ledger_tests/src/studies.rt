@@ -35,19 +35,35 @@ pub(crate) fn begun(alloc: Global, json: &str, slip: Slip) -> Result<Ledger, Fai
     Ok(Ledger::from_slips(alloc, plan, &[slip])?)
 }
 
-/// The result of a plan's trials from `first` on.
-pub(crate) fn result_of(
-    alloc: Global,
-    plan: &Plan,
-    first: u32,
-    count: u32,
-) -> Result<PieceResult, Fail> {
+/// The result of a piece of a plan's trials.
+pub(crate) fn result_of(alloc: Global, plan: &Plan, piece: Piece) -> Result<PieceResult, Fail> {
     let rings = Rings::hashed(alloc, plan)?;
-    Ok(run_piece(alloc, plan, &rings, Piece { first, count })?)
+    Ok(run_piece(alloc, plan, &rings, piece)?)
 }
 
-/// A slip, by its totals in their order.
-pub(crate) fn slip(first: u32, count: u32, numbers: [u64; 8]) -> Slip {
+/// The piece that is written as its first trial and how many there are.
+pub(crate) fn piece_of(text: &str) -> Piece {
+    let (first, count) = text.split_once(' ').unwrap_or((text, ""));
+    let first = first.parse::<u32>().unwrap_or(u32::MAX);
+    let count = count.parse::<u32>().unwrap_or(0);
+    Piece { first, count }
+}
+
+/// The slip that is written as its piece and its totals in their order.
+pub(crate) fn slip(text: &str) -> Slip {
+    let (piece, rest) = text.split_once(": ").unwrap_or((text, ""));
+    let mut numbers = [0; 8];
+    for (number, word) in numbers.iter_mut().zip(rest.split(' ')) {
+        *number = word.parse::<u64>().unwrap_or(0);
+    }
+    Slip {
+        piece: piece_of(piece),
+        totals: totals_of(numbers),
+    }
+}
+
+/// Totals in their order.
+fn totals_of(numbers: [u64; 8]) -> Totals {
     let [
         receivers,
         conflicts,
@@ -58,17 +74,14 @@ pub(crate) fn slip(first: u32, count: u32, numbers: [u64; 8]) -> Slip {
         right,
         settled,
     ] = numbers;
-    Slip {
-        piece: Piece { first, count },
-        totals: Totals {
-            receivers,
-            conflicts,
-            silent,
-            extra,
-            votes,
-            decided,
-            right,
-            settled,
-        },
+    Totals {
+        receivers,
+        conflicts,
+        silent,
+        extra,
+        votes,
+        decided,
+        right,
+        settled,
     }
 }

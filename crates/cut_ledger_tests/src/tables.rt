@@ -2,7 +2,7 @@
 
 mod many;
 
-use crate::studies::{PLAN, SETTLED, SMALLER, begun, fresh, result_of, slip};
+use crate::studies::{PLAN, SETTLED, SMALLER, begun, fresh, piece_of, result_of, slip};
 use cut_ledger::Ledger;
 use cut_table::{RowFault, TableFault, emit_table, row};
 use cut_wires::{FaultyWire, MemoryWire, Wire, WriteFault};
@@ -23,7 +23,7 @@ const HEADER_LENGTH: usize = 72;
 /// A ledger of a plan that holds both its trials.
 fn complete(alloc: Global, json: &str) -> Result<Ledger, Fail> {
     let mut ledger = fresh(alloc, json)?;
-    let result = result_of(alloc, ledger.plan(), 0, 2)?;
+    let result = result_of(alloc, ledger.plan(), piece_of("0 2"))?;
     ledger.offer(&result)?;
     Ok(ledger)
 }
@@ -65,7 +65,7 @@ fn a_table_is_its_header_and_its_rows(rt: HostRuntime) -> Result<(), Fail> {
 // A slip that is possible and false.
 #[test]
 fn a_row_says_what_slips_say(rt: HostRuntime) -> Result<(), Fail> {
-    let ledger = begun(rt.alloc(), SMALLER, slip(0, 2, [6, 1, 0, 0, 5, 1, 1, 0]))?;
+    let ledger = begun(rt.alloc(), SMALLER, slip("0 2: 6 1 0 0 5 1 1 0"))?;
     assert!(rt; is_line(rt.alloc(), &ledger, b"1,1,1,1,2,6,1,0,0,5,1,1,166666\n")?);
     Ok(())
 }

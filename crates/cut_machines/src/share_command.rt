@@ -6,7 +6,7 @@ ghost use Rattle.cut_machines.specs.Share.{disk_faults_after, fault_of_share};
 use crate::share_answer::share_line;
 use cut_commands::{CliFault, read_plan, write_answer};
 use cut_disks::{Disk, FileDisk};
-use cut_hall::Gate;
+use cut_gate::Gate;
 use cut_journal::{Journal, JournalFault};
 use cut_plan::Plan;
 use cut_share::{Share, ShareFault, ShareRun};

@@ -18,11 +18,3 @@ fn bits_are_set_one_by_one(rt: HostRuntime) -> Result<(), Fail> {
     assert!(rt; bits.get(130) == None);
     Ok(())
 }
-
-#[test]
-fn a_list_without_bits_has_none(rt: HostRuntime) -> Result<(), Fail> {
-    let bits = BitList::new(rt.alloc(), 0)?;
-    assert!(rt; bits.len() == 0);
-    assert!(rt; bits.get(0) == None);
-    Ok(())
-}

@@ -121,20 +121,37 @@ struct Worked {
     low_reads: u64,
 }
 
-/// A thousand draws of study 1, each with a count of 3 and a read.
+/// A draw of study 1, with a count of 3 and a read, and what the read has.
+fn turn(board: &Board, seat: &mut Seat, numbers: &mut Vec<u64>) -> Option<u64>
+    requires { board_of seat.old ≡ board_id board.now }
+    ensures { board_of seat.new ≡ board_of seat.old }
+{
+    let number = board.draw(seat, 1).ok()?;
+    numbers.push(number).ok()?;
+    board.count(seat, 1, 3).ok()?;
+    board.read(seat, 1).ok()
+}
+
+/// A thousand of these turns, and how many of their reads have less than was counted.
+fn low_reads(board: &Board, seat: &mut Seat, numbers: &mut Vec<u64>) -> Option<u64>
+    requires { board_of seat.old ≡ board_id board.now }
+    ensures { board_of seat.new ≡ board_of seat.old }
+{
+    let mut low_reads = 0u64;
+    for number in 1..1001u64 {
+        let seen = turn(board, seat, numbers)?;
+        low_reads = low_reads.saturating_add(u64::from(seen < 3 * number));
+    }
+    Some(low_reads)
+}
+
+/// What a thread does: the turns of its seat.
 fn work(board: &Board, alloc: Global, mut seat: Seat) -> Option<Worked>
     requires { board_of seat ≡ board_id board.now }
     ensures { IfSome result (λ done. board_of done.seat ≡ board_id board.now) }
 {
     let mut numbers = Vec::new(alloc);
-    let mut low_reads = 0u64;
-    for turn in 1..1001u64 {
-        let number = board.draw(&mut seat, 1).ok()?;
-        numbers.push(number).ok()?;
-        board.count(&mut seat, 1, 3).ok()?;
-        let seen = board.read(&mut seat, 1).ok()?;
-        low_reads = low_reads.saturating_add(u64::from(seen < 3 * turn));
-    }
+    let low_reads = low_reads(board, &mut seat, &mut numbers)?;
     Some(Worked {
         seat,
         numbers,

@@ -1,22 +1,41 @@
 use cut_faults::{Failures, FaultCode, name_of_number, status_of_number};
+use std::alloc::{AllocError, Global};
 use std::test::Fail;
+
+/// Faults as they are printed: their numbers and their names.
+const PRINTED: &str = "0 Memory
+7 NotRising
+19 PlanTooLong
+32 Memory
+45 BadLength
+46 Disagrees
+47 NotVersion1";
+
+/// Whether the fault whose number a row begins with is printed as the row.
+fn is_printed(alloc: Global, row: &str) -> Result<bool, AllocError> {
+    let (number, _) = row.split_once(' ').unwrap_or((row, ""));
+    match FaultCode::of_number(number.parse::<u16>().unwrap_or(u16::MAX)) {
+        Some(code) => Ok(code.to_string(alloc)?.as_str() == row),
+        None => Ok(false),
+    }
+}
 
 #[test]
 fn faults_are_printed(rt: HostRuntime) -> Result<(), Fail> {
-    let alloc = rt.alloc();
-    let rows = [
-        (FaultCode::Memory, "0 Memory"),
-        (FaultCode::NotRising, "7 NotRising"),
-        (FaultCode::PlanTooLong, "19 PlanTooLong"),
-        (FaultCode::WorkMemory, "32 Memory"),
-        (FaultCode::BadLength, "45 BadLength"),
-        (FaultCode::Disagrees, "46 Disagrees"),
-        (FaultCode::NotVersion1, "47 NotVersion1"),
-    ];
-    for (code, text) in rows {
-        assert!(rt; code.to_string(alloc)?.as_str() == text, "{text}");
+    for row in PRINTED.lines() {
+        assert!(rt; is_printed(rt.alloc(), row)?, "{row}");
     }
     Ok(())
+}
+
+/// Numbers of faults, and the statuses that a program ends with by them.
+const STATUSES: &str = "0 5, 1 3, 10 3, 11 4, 19 3, 31 4, 32 5, 46 4, 47 3, 99 4";
+
+/// Whether a fault's number has the status that is written after it.
+fn has_status(row: &str) -> bool {
+    let (number, status) = row.split_once(' ').unwrap_or((row, ""));
+    let found = status_of_number(number.parse::<u16>().unwrap_or(0));
+    status.parse::<u8>() == Ok(found)
 }
 
 #[test]
@@ -24,22 +43,9 @@ fn numbers_name_faults(rt: HostRuntime) {
     assert!(rt; FaultCode::of_number(16) == Some(FaultCode::Overlap));
     assert!(rt; FaultCode::of_number(35) == None);
     assert!(rt; name_of_number(29) == "SlotsFull");
-    assert!(rt; name_of_number(48) == "Unknown");
-    assert!(rt; name_of_number(65_535) == "Unknown");
-    let rows = [
-        (0, 5),
-        (1, 3),
-        (10, 3),
-        (11, 4),
-        (19, 3),
-        (31, 4),
-        (32, 5),
-        (46, 4),
-        (47, 3),
-        (99, 4),
-    ];
-    for (number, status) in rows {
-        assert!(rt; status_of_number(number) == status, "of {number}");
+    assert!(rt; name_of_number(48) == "Unknown" && name_of_number(65_535) == "Unknown");
+    for row in STATUSES.split(", ") {
+        assert!(rt; has_status(row), "{row}");
     }
 }
 

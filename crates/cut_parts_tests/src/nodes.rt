@@ -2,7 +2,7 @@
 
 use cut_detector::Rule;
 use cut_nodes::{Cause, Node, Nodes, Slot, Slots};
-use cut_rings::{Edge, Rings};
+use cut_rings::{Edge, Rings, RingsFault};
 use std::alloc::{AllocError, Global};
 use std::test::Fail;
 
@@ -43,15 +43,21 @@ const ALERTS: [Edge; 12] = [
     alert!(5, 3),
 ];
 
-fn rings(alloc: Global) -> Result<Rings, Fail> {
-    let [first, second, third, fourth] = ORDERS;
-    let lists = [
-        Vec::from_array(alloc, first)?,
-        Vec::from_array(alloc, second)?,
-        Vec::from_array(alloc, third)?,
-        Vec::from_array(alloc, fourth)?,
-    ];
-    Ok(Rings::from_lists(alloc, PROCESSES, &lists)?)
+/// The lists of the orders.
+fn lists(alloc: Global) -> Result<Vec<Vec<u16>>, AllocError> {
+    let mut lists: Vec<Vec<u16>> = Vec::new(alloc);
+    for order in &ORDERS {
+        lists.push(Vec::from_slice(alloc, order)?)?;
+    }
+    Ok(lists)
+}
+
+fn rings(alloc: Global) -> Result<Rings, RingsFault> {
+    let lists = lists(alloc)?;
+    if lists.len() > 32 {
+        return Err(RingsFault::TooFew);
+    }
+    Rings::from_lists(alloc, PROCESSES, &lists)
 }
 
 fn is_alerted(subject: u16, ring: u8) -> bool {
@@ -186,6 +192,16 @@ fn nodes_are_recounted_by_each_rule(rt: HostRuntime) -> Result<(), Fail> {
     Ok(())
 }
 
+/// Whether slots are of these blocks and keys.
+fn are_slots(slots: &[Slot], wanted: &[(u16, u8)]) -> bool {
+    for (slot, (block, key)) in slots.iter().zip(wanted) {
+        if slot.block != *block || slot.key != *key {
+            return false;
+        }
+    }
+    slots.len() == wanted.len()
+}
+
 #[test]
 fn slots_of_edges_in_any_order(rt: HostRuntime) -> Result<(), Fail> {
     let edges = [
@@ -195,13 +211,8 @@ fn slots_of_edges_in_any_order(rt: HostRuntime) -> Result<(), Fail> {
         alert!(7, 2),
         alert!(0, 0),
     ];
-    let found = Slots::of(rt.alloc(), 3, &edges)?;
-    let wanted = [(0, 0), (0, 7), (1, 0), (2, 7), (3, 0)];
-    assert!(rt;
-        found.blocks.as_slice() == [0, 1, 2, 0].as_slice() && found.slots.len() == wanted.len()
-    );
-    for (slot, (block, key)) in found.slots.iter().zip(wanted) {
-        assert!(rt; slot.block == block && slot.key == key);
-    }
+    let Slots { blocks, slots } = Slots::of(rt.alloc(), 3, &edges)?;
+    assert!(rt; blocks.as_slice() == [0, 1, 2, 0].as_slice());
+    assert!(rt; are_slots(&slots, &[(0, 0), (0, 7), (1, 0), (2, 7), (3, 0)]));
     Ok(())
 }

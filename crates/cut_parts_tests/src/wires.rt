@@ -1,83 +1,114 @@
 ghost use Rattle.std.specs.Prelude.{◌≡◌, [], ◌∷◌};
 
 use cut_wires::{
-    FaultyWire, Line, MemoryWire, Plain, Rows, RowsFault, StreamWire, Wire, WireFault, WriteFault,
-    send_all, send_rows,
+    FaultyWire, Line, MemoryWire, Plain, Rows, RowsFault, StreamWire, Wire, WriteFault, send_all,
+    send_rows,
 };
 use std::alloc::Global;
 use std::test::Fail;
 
-/// A wire in memory over no input.
-fn empty(alloc: Global, per: usize) -> MemoryWire {
-    MemoryWire::new(alloc, Vec::new(alloc), per)
+/// Whether a read into the buffer gives these bytes, or fails where none are to be given.
+fn gives<W: Wire>(wire: &mut W, buffer: &mut [u8], wanted: Option<&[u8]>) -> bool {
+    if buffer.is_empty() {
+        return false;
+    }
+    match wire.read(buffer) {
+        Ok(count) => buffer.get(..count) == wanted,
+        Err(_) => wanted.is_none(),
+    }
+}
+
+/// Whether a write of these bytes takes this many, or fails where none are to be taken.
+fn takes<W: Wire>(wire: &mut W, bytes: &[u8], wanted: Option<usize>) -> bool {
+    wire.write(bytes).ok() == wanted
+}
+
+/// Whether a wire over three bytes gives two and one, and takes two of three.
+fn moves_two(wire: &mut MemoryWire) -> bool {
+    gives(wire, &mut [0; 4], Some(b"ab"))
+        && gives(wire, &mut [0; 4], Some(b"c"))
+        && gives(wire, &mut [0; 4], Some(b""))
+        && takes(wire, b"xyz", Some(2))
+        && wire.taken() == b"xy".as_slice()
+        && wire.failures() == 0
 }
 
 #[test]
 fn a_wire_in_memory_moves_bytes(rt: HostRuntime) -> Result<(), Fail> {
     let bytes = Vec::from_slice(rt.alloc(), b"abc")?;
-    let mut wire = MemoryWire::new(rt.alloc(), bytes, 2);
-    let mut buffer = [0; 4];
-    assert!(rt; wire.read(&mut buffer) == Ok(2) && buffer == *b"ab\0\0");
-    assert!(rt; wire.read(&mut buffer) == Ok(1) && buffer == *b"cb\0\0");
-    assert!(rt; wire.read(&mut buffer) == Ok(0));
-    assert!(rt; wire.write(b"xyz") == Ok(2) && wire.taken() == b"xy".as_slice());
-    assert!(rt; wire.failures() == 0);
+    assert!(rt; moves_two(&mut MemoryWire::new(rt.alloc(), bytes, 2)));
     Ok(())
 }
 
-#[test]
-fn a_wire_that_moves_nothing_fails(rt: HostRuntime) -> Result<(), Fail> {
-    let bytes = Vec::from_slice(rt.alloc(), b"abc")?;
-    let mut wire = MemoryWire::new(rt.alloc(), bytes, 0);
-    assert!(rt; wire.read(&mut [0; 4]) == Err(WireFault) && wire.failures() == 1);
-    assert!(rt; wire.write(b"abc") == Err(WireFault) && wire.write(b"") == Ok(0));
-    assert!(rt; wire.failures() == 2 && wire.taken().is_empty());
-    Ok(())
+/// Whether a wire has taken these bytes, and this many of its calls have failed.
+fn has_taken(wire: &FaultyWire, bytes: &[u8], failures: u64) -> bool {
+    wire.taken() == bytes && wire.failures() == failures
 }
 
 // After six bytes a write fails, and none after it.
 #[test]
 fn a_write_fails_once(rt: HostRuntime) {
     let mut wire = FaultyWire::new(rt.alloc(), Vec::new(rt.alloc()), 3, 6, 0);
-    assert!(rt; send_all(&mut wire, b"0123456789") == Err(WriteFault { sent: 6 }));
-    assert!(rt; wire.failures() == 1 && wire.taken() == b"012345".as_slice());
-    assert!(rt; send_all(&mut &mut wire, b"ab") == Ok(()));
-    assert!(rt; wire.failures() == 1 && wire.taken() == b"012345ab".as_slice());
+    let first = send_all(&mut wire, b"0123456789");
+    assert!(rt; first == Err(WriteFault { sent: 6 }) && has_taken(&wire, b"012345", 1));
+    let second = send_all(&mut &mut wire, b"ab");
+    assert!(rt; second == Ok(()) && has_taken(&wire, b"012345ab", 1));
 }
 
-// Of five bytes the second read fails, and the others give two, two, one and none.
+/// Whether the second read of five bytes fails, and the others give two, two, one and none.
+fn fails_once(wire: &mut FaultyWire) -> bool {
+    gives(wire, &mut [0; 4], Some(b"ab"))
+        && gives(wire, &mut [0; 4], None)
+        && gives(wire, &mut [0; 4], Some(b"cd"))
+        && gives(wire, &mut [0; 4], Some(b"e"))
+        && gives(wire, &mut [0; 4], Some(b""))
+        && has_taken(wire, b"", 1)
+}
+
 #[test]
 fn a_read_fails_once(rt: HostRuntime) -> Result<(), Fail> {
     let bytes = Vec::from_slice(rt.alloc(), b"abcde")?;
     let mut wire = FaultyWire::new(rt.alloc(), bytes, 2, 0, 2);
-    let mut buffer = [0; 4];
-    assert!(rt; wire.read(&mut buffer) == Ok(2) && buffer[..2] == b"ab"[..]);
-    assert!(rt; wire.read(&mut buffer) == Err(WireFault) && buffer[..2] == b"ab"[..]);
-    assert!(rt; wire.read(&mut buffer) == Ok(2) && buffer[..2] == b"cd"[..]);
-    assert!(rt; wire.read(&mut buffer) == Ok(1) && wire.read(&mut buffer) == Ok(0));
-    assert!(rt; wire.failures() == 1);
+    assert!(rt; fails_once(&mut wire));
     Ok(())
 }
 
-#[test]
-fn a_wire_of_streams_moves_bytes(rt: HostRuntime) -> Result<(), Fail> {
-    let mut wire = StreamWire::new(b"abc".as_slice(), Vec::new(rt.alloc()));
-    let mut buffer = [0; 2];
-    assert!(rt; wire.read(&mut buffer) == Ok(2) && buffer == *b"ab");
-    assert!(rt; wire.write(b"xy") == Ok(2) && wire.failures() == 0);
+/// Whether a wire over three bytes gives two and takes two, and leaves the rest.
+fn moves_over_streams(mut wire: StreamWire<&[u8], Vec<u8>>) -> bool {
+    let is_moved = gives(&mut wire, &mut [0; 2], Some(b"ab")) && takes(&mut wire, b"xy", Some(2));
+    let failures = wire.failures();
     let (rest, output) = wire.into_parts();
-    assert!(rt; rest == b"c".as_slice() && output.as_slice() == b"xy".as_slice());
-    Ok(())
+    is_moved && failures == 0 && rest == b"c".as_slice() && output.as_slice() == b"xy".as_slice()
+}
+
+#[test]
+fn a_wire_of_streams_moves_bytes(rt: HostRuntime) {
+    let wire = StreamWire::new(b"abc".as_slice(), Vec::new(rt.alloc()));
+    assert!(rt; moves_over_streams(wire));
+}
+
+/// Whether a line sends these bytes, or fails after some where a fault is to come, and has sent this many then.
+fn sends<W: Wire>(
+    line: &mut Line<'_, W>,
+    bytes: &[u8],
+    end: Result<(), WriteFault>,
+    sent: u64,
+) -> bool {
+    line.send(bytes) == end && line.sent() == sent
+}
+
+/// Whether a line over a wire counts three bytes, and two more before a write fails.
+fn counts(wire: &mut FaultyWire) -> bool {
+    let mut line = Line::new(wire);
+    sends(&mut line, b"abc", Ok(()), 3) && sends(&mut line, b"def", Err(WriteFault { sent: 5 }), 5)
 }
 
 #[test]
 fn a_line_counts_what_it_sends(rt: HostRuntime) {
     let mut wire = FaultyWire::new(rt.alloc(), Vec::new(rt.alloc()), 2, 5, 0);
-    let mut line = Line::new(&mut wire);
-    assert!(rt; line.sent() == 0 && line.send(b"abc") == Ok(()) && line.sent() == 3);
-    assert!(rt; line.send(b"def") == Err(WriteFault { sent: 5 }) && line.sent() == 5);
+    assert!(rt; counts(&mut wire));
     let mut line = Line::after(&mut wire, u64::MAX - 1);
-    assert!(rt; line.send(b"xyz") == Ok(()) && line.sent() == u64::MAX);
+    assert!(rt; sends(&mut line, b"xyz", Ok(()), u64::MAX));
     assert!(rt; wire.taken() == b"abcdexyz".as_slice());
 }
 
@@ -124,26 +155,29 @@ impl Rows for Letters {
     ghost fits = { λ _. Prim.omega arith };
 }
 
-/// What is written of the table of letters over a wire with this room, and how that ends.
-fn sent_letters(
+/// Writes the table of letters over a wire.
+fn send_letters(alloc: Global, is_whole: bool, wire: &mut FaultyWire) -> Result<(), RowsFault<()>> {
+    let mut line = Line::new(wire);
+    let mut rows = Letters { alloc, is_whole };
+    send_rows::<Plain, Letters, FaultyWire>(&mut rows, &mut line)
+}
+
+/// Whether these bytes of the table are written over a wire with this room, and how that ends.
+fn is_sent(
     alloc: Global,
     is_whole: bool,
     room: usize,
-) -> (Result<(), RowsFault<()>>, FaultyWire) {
+    bytes: &[u8],
+    end: Result<(), RowsFault<()>>,
+) -> bool {
     let mut wire = FaultyWire::new(alloc, Vec::new(alloc), 9, room, 0);
-    let mut line = Line::new(&mut wire);
-    let mut rows = Letters { alloc, is_whole };
-    let result = send_rows::<Plain, Letters, FaultyWire>(&mut rows, &mut line);
-    (result, wire)
+    send_letters(alloc, is_whole, &mut wire) == end && wire.taken() == bytes
 }
 
 #[test]
 fn a_table_is_sent_row_by_row(rt: HostRuntime) {
-    let (result, wire) = sent_letters(rt.alloc(), true, 9);
-    assert!(rt; result == Ok(()) && wire.taken() == b"hrr".as_slice());
-    let (result, wire) = sent_letters(rt.alloc(), true, 2);
-    assert!(rt; result == Err(RowsFault::Write(WriteFault { sent: 2 })));
-    assert!(rt; wire.taken() == b"hr".as_slice());
-    let (result, wire) = sent_letters(rt.alloc(), false, 9);
-    assert!(rt; result == Err(RowsFault::Row(())) && wire.taken() == b"hr".as_slice());
+    let refused = RowsFault::Write(WriteFault { sent: 2 });
+    assert!(rt; is_sent(rt.alloc(), true, 9, b"hrr", Ok(())));
+    assert!(rt; is_sent(rt.alloc(), true, 2, b"hr", Err(refused)));
+    assert!(rt; is_sent(rt.alloc(), false, 9, b"hr", Err(RowsFault::Row(()))));
 }

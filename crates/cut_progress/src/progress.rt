@@ -1,5 +1,5 @@
 use crate::ProgressLine;
-use cut_hall::Gate;
+use cut_gate::Gate;
 use cut_trial::Piece;
 use std::sync::{Condvar, Mutex, Wait};
 use std::time::{Clock, Duration};

@@ -1,5 +1,5 @@
 //! Receivers of drawn trials, four at once, beside the detector to which the deliveries of each are replayed.
-ghost use Rattle.std.specs.Prelude.{◌<◌, All};
+ghost use Rattle.std.specs.Prelude.{◌<◌, length, All};
 
 use crate::replays::replayed;
 use crate::setting::{SEED, Scene, Setting};
@@ -82,22 +82,23 @@ impl Wanted {
     }
 }
 
-/// What is said of a receiver.
+/// What is said of a receiver in a lane.
 #[derive(Clone, Copy)]
-struct Lane<'a> {
+struct Said {
+    lane: usize,
+    receiver: u16,
     finding: Finding,
-    members: &'a [u16],
     place: Option<u32>,
 }
 
-impl Lane<'_> {
-    /// Whether that is what was replayed.
-    fn is_replayed(self, proposal: &Option<Proposal>, wanted: &[u16]) -> bool {
+impl Said {
+    /// Whether that is what was replayed, with these members.
+    fn is_replayed(self, members: &[u16], proposal: &Option<Proposal>, wanted: &[u16]) -> bool {
         match (self.finding, proposal) {
             (Finding::Doubtful, _) | (Finding::Silent, None) => true,
             (Finding::Wanted | Finding::Other, Some(proposal)) => {
-                let is_wanted = self.members == wanted;
-                self.members == proposal.members.as_slice()
+                let is_wanted = members == wanted;
+                members == proposal.members.as_slice()
                     && is_wanted == (self.finding == Finding::Wanted)
                     && self
                         .place
@@ -109,7 +110,7 @@ impl Lane<'_> {
 }
 
 /// The place in a lane, where no equal images leave it open.
-fn place_in(places: Places, lane: usize) -> Option<u32>
+fn place_in(places: &Places, lane: usize) -> Option<u32>
     requires { lane < 4 }
 {
     if places.is_doubtful(lane) {
@@ -117,6 +118,40 @@ fn place_in(places: Places, lane: usize) -> Option<u32>
     } else {
         Some(places.at(lane))
     }
+}
+
+/// Hears four receivers, and returns the places at which they propose.
+pub(crate) fn places_of(
+    heard: &mut Receivers,
+    scene: Scene<'_>,
+    receivers: [u16; 4],
+) -> Result<Places, AllocError>
+    requires receivers { All (λ j. j < 2048) receivers }
+    requires some { 0 < length scene.trial.nodes.now.nodes.items }
+{
+    heard.hear(scene.trial, receivers)?;
+    heard.places(scene.trial, receivers, scene.slots)
+}
+
+/// Whether what is said of a lane is what is replayed to its receiver.
+fn is_right(
+    alloc: Global,
+    heard: &Receivers,
+    scene: Scene<'_>,
+    said: Said,
+    wanted: &Wanted,
+) -> Result<bool, AllocError>
+    requires { said.receiver < 2048 }
+{
+    let nodes = scene.trial.nodes;
+    if said.lane >= 4 || nodes.nodes.len() != heard.highs.len() {
+        return Ok(false);
+    }
+    let mut draws = Draws::new(SEED, scene.number);
+    let mut members = Vec::new(alloc);
+    heard.members(nodes, said.lane, &mut members)?;
+    let proposal = replayed(alloc, scene, &mut draws, said.receiver)?;
+    Ok(said.is_replayed(&members, &proposal, &wanted.members))
 }
 
 /// What is found of four receivers, if each lane says what was replayed.
@@ -129,28 +164,22 @@ pub(crate) fn found_as_replayed(
 ) -> Result<Option<Findings>, AllocError>
     requires { All (λ j. j < 2048) receivers }
 {
-    let trial = scene.trial;
-    let many = trial.nodes.nodes.len();
-    if many == 0 {
+    if scene.trial.nodes.nodes.is_empty() {
         return Ok(None);
     }
-    heard.hear(trial, receivers)?;
-    let places = heard.places(trial, receivers, scene.slots)?;
-    if heard.highs.len() != wanted.flags.len() || heard.highs.len() != many {
+    let places = places_of(heard, scene, receivers)?;
+    if heard.highs.len() != wanted.flags.len() {
         return Ok(None);
     }
     let findings = heard.judge(&wanted.flags);
-    let mut draws = Draws::new(SEED, scene.number);
-    let mut members = Vec::new(alloc);
     for lane in 0..4 {
-        heard.members(trial.nodes, lane, &mut members)?;
-        let proposal = replayed(alloc, scene, &mut draws, receivers[lane])?;
-        let said = Lane {
+        let said = Said {
+            lane,
+            receiver: receivers[lane],
             finding: findings.at(lane),
-            members: &members,
-            place: place_in(places, lane),
+            place: place_in(&places, lane),
         };
-        if !said.is_replayed(&proposal, &wanted.members) {
+        if !is_right(alloc, heard, scene, said, wanted)? {
             return Ok(None);
         }
     }
@@ -230,19 +259,33 @@ fn check_trial(
     Ok(tally)
 }
 
+/// Drawn trials by a rule, without implicit alerts and with them in turn.
+fn check_rule(
+    rt: &impl Abort,
+    alloc: Global,
+    heard: &mut Receivers,
+    (k, h, l): (u8, u8, u8),
+    first: u32,
+) -> Result<Counts, Fail> {
+    let mut tally = Counts::default();
+    for trial in 0..12u32 {
+        let implicit = trial % 2 == 1;
+        assert!(rt; 1 <= l && l <= h && h <= k && k <= 32);
+        let rule = Rule { k, h, l, implicit };
+        let number = first.saturating_add(trial);
+        tally = tally.plus(check_trial(rt, alloc, heard, rule, number)?);
+    }
+    Ok(tally)
+}
+
 #[test]
 fn lanes_propose_what_the_detector_does(rt: HostRuntime) -> Result<(), Fail> {
     let mut heard = Receivers::new(rt.alloc());
     let mut tally = Counts::default();
-    let mut number = 0;
-    for (k, h, l) in RULES {
-        assert!(rt; 1 <= l && l <= h && h <= k && k <= 32);
-        for trial in 0..12u32 {
-            let implicit = trial % 2 == 1;
-            let rule = Rule { k, h, l, implicit };
-            tally = tally.plus(check_trial(&rt, rt.alloc(), &mut heard, rule, number)?);
-            number = number.saturating_add(1);
-        }
+    let mut first = 0u32;
+    for rule in RULES {
+        tally = tally.plus(check_rule(&rt, rt.alloc(), &mut heard, rule, first)?);
+        first = first.saturating_add(12);
     }
     assert!(rt; tally.silent > 0 && tally.wanted > 0 && tally.others > 0);
     Ok(())

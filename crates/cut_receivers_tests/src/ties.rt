@@ -2,6 +2,7 @@
 //! apart from this project, with the alerts that the roles below give.
 ghost use Rattle.std.specs.Prelude.{◌<◌};
 
+use crate::lanes::places_of;
 use crate::replays::replayed;
 use crate::setting::{SEED, Scene, Setting};
 use cut_alerts::Roles;
@@ -67,13 +68,11 @@ fn found_of_receiver(
 ) -> Result<Option<Found>, AllocError>
     requires { receiver < 2048 }
 {
-    let trial = scene.trial;
-    if trial.nodes.nodes.len() != 2 {
+    if scene.trial.nodes.nodes.len() != 2 {
         return Ok(None);
     }
     let mut heard = Receivers::new(alloc);
-    heard.hear(trial, [0, receiver, 1, 2])?;
-    let places = heard.places(trial, [0, receiver, 1, 2], scene.slots)?;
+    let places = places_of(&mut heard, scene, [0, receiver, 1, 2])?;
     if heard.highs.len() != 2 {
         return Ok(None);
     }

@@ -1,10 +1,10 @@
 //! A client over answers that were worked out by hand, and with each call of its wires failing.
 
-use crate::readings::from_hex;
-use crate::vectors::{Stream, sessions};
+use crate::readings::bytes_of;
+use crate::vectors::{Session, number_in, session_of, sessions};
 use cut_session::{AskFault, StreamFault, ask};
 use cut_wires::{FaultyWire, MemoryWire};
-use std::alloc::Global;
+use std::alloc::{AllocError, Global};
 use std::test::Fail;
 
 /// A study of one cell: two trials of five processes, of which one crashes.
@@ -70,7 +70,7 @@ fn after<'a>(bytes: &'a [u8], part: &[u8]) -> Option<&'a [u8]> {
 type Asked = (Result<(), AskFault>, Option<usize>, Option<usize>);
 
 /// How an asking ends to which these parts are the answer.
-fn asked_in(alloc: Global, row: Row, answer: &[&[u8]]) -> Result<Asked, Fail> {
+fn asked_in(alloc: Global, row: &Row, answer: &[&[u8]]) -> Result<Asked, Fail> {
     let input = joined(alloc, answer)?;
     let mut wire = FaultyWire::new(alloc, input, row.per, row.room, row.read);
     let mut output = FaultyWire::new(alloc, Vec::new(alloc), row.per, row.output, 0);
@@ -82,16 +82,24 @@ fn asked_in(alloc: Global, row: Row, answer: &[&[u8]]) -> Result<Asked, Fail> {
     ))
 }
 
+/// Whether an asking ends so.
+fn ends_so(alloc: Global, row: &Row, answer: &[&[u8]], wanted: &Asked) -> Result<bool, Fail> {
+    Ok(asked_in(alloc, row, answer)? == *wanted)
+}
+
+/// Answers with the whole table.
+const ANSWERS: &[&[&[u8]]] = &[
+    &[FIRST, SECOND],
+    &[COUNT, FIRST, SECOND],
+    &[FIRST, SECOND, b"Xx"],
+];
+
 #[test]
 fn a_table_is_written_as_it_comes(rt: HostRuntime) -> Result<(), Fail> {
-    for parts in [
-        [FIRST, b"", SECOND],
-        [COUNT, FIRST, SECOND],
-        [FIRST, SECOND, b"Xx"],
-    ] {
+    for answer in ANSWERS {
         for per in [1, 7, 5000] {
-            let asked = asked_in(rt.alloc(), Row { per, ..WHOLE }, &parts)?;
-            assert!(rt; asked == (Ok(()), Some(231), Some(98)));
+            let row = Row { per, ..WHOLE };
+            assert!(rt; ends_so(rt.alloc(), &row, answer, &(Ok(()), Some(231), Some(98)))?);
         }
     }
     Ok(())
@@ -121,8 +129,8 @@ fn written(bytes: usize) -> usize {
 #[test]
 fn each_read_that_fails_is_reported(rt: HostRuntime) -> Result<(), Fail> {
     for bytes in 0..113usize {
-        let asked = asked_in(rt.alloc(), unread(bytes), ANSWER)?;
-        assert!(rt; asked == (Err(AskFault::Read), Some(231), Some(written(bytes))));
+        let wanted = (Err(AskFault::Read), Some(231), Some(written(bytes)));
+        assert!(rt; ends_so(rt.alloc(), &unread(bytes), ANSWER, &wanted)?);
     }
     Ok(())
 }
@@ -130,56 +138,75 @@ fn each_read_that_fails_is_reported(rt: HostRuntime) -> Result<(), Fail> {
 #[test]
 fn each_write_that_fails_is_reported(rt: HostRuntime) -> Result<(), Fail> {
     for room in 0..231usize {
-        let asked = asked_in(rt.alloc(), Row { room, ..WHOLE }, ANSWER)?;
-        assert!(rt; asked == (Err(AskFault::Request), Some(room), Some(0)));
+        let wanted = (Err(AskFault::Request), Some(room), Some(0));
+        assert!(rt; ends_so(rt.alloc(), &Row { room, ..WHOLE }, ANSWER, &wanted)?);
     }
     for output in 0..98usize {
-        let asked = asked_in(rt.alloc(), Row { output, ..WHOLE }, ANSWER)?;
-        assert!(rt; asked == (Err(AskFault::Output), Some(231), Some(output)));
+        let wanted = (Err(AskFault::Output), Some(231), Some(output));
+        assert!(rt; ends_so(rt.alloc(), &Row { output, ..WHOLE }, ANSWER, &wanted)?);
     }
     Ok(())
 }
 
-/// The number of the fault with which a client stops whose answer is this stream, or 0, and how many bytes of lines it
-/// has then.
-fn asked(alloc: Global, stream: Stream) -> Result<(u16, usize), Fail> {
-    let mut wire = MemoryWire::new(alloc, from_hex(alloc, stream.bytes)?, 50);
-    let mut output = MemoryWire::new(alloc, Vec::new(alloc), 50);
-    let number = match ask(alloc, PLAN, &mut wire, &mut output) {
+/// The number of the fault with which an asking ended, or 0.
+fn number_of(ended: Result<(), AskFault>) -> u16 {
+    match ended {
         Ok(()) => 0,
         Err(fault) => fault.number(),
-    };
-    Ok((number, output.taken().len()))
+    }
+}
+
+/// Whether a client whose answer is this stream stops as was worked out.
+fn is_asked(alloc: Global, block: &str) -> Result<bool, Fail> {
+    let mut wire = MemoryWire::new(alloc, bytes_of(alloc, block)?, 50);
+    let mut output = MemoryWire::new(alloc, Vec::new(alloc), 50);
+    let number = number_of(ask(alloc, PLAN, &mut wire, &mut output));
+    Ok(
+        u64::from(number) == number_in(block, "asked ", 0)
+            && output.taken().len() as u64 == number_in(block, "asked ", 1),
+    )
+}
+
+/// Whether that holds of what either side of a session sends.
+fn are_asked(alloc: Global, session: Session<'_>) -> Result<bool, Fail> {
+    Ok(is_asked(alloc, session.sent)? && is_asked(alloc, session.replies)?)
 }
 
 #[test]
 fn answers_end_where_the_first_last_reply_stands(rt: HostRuntime) -> Result<(), Fail> {
-    for session in sessions() {
-        for stream in [session.sent, session.replies] {
-            assert!(rt; asked(rt.alloc(), stream)? == stream.asked);
-        }
+    for (number, text) in sessions().split("\n\n").enumerate() {
+        assert!(rt; are_asked(rt.alloc(), session_of(text))?, "{number}");
     }
     Ok(())
 }
 
+/// Faults, each with its text.
+const TEXTS: &[(AskFault, &str)] = &[
+    (AskFault::Memory, "32 Memory"),
+    (AskFault::PlanTooLong, "19 PlanTooLong"),
+    (AskFault::Request, "31 Write"),
+    (AskFault::Output, "31 Write"),
+    (AskFault::Read, "43 Read"),
+    (AskFault::Endless, "43 Read"),
+    (AskFault::Truncated, "42 Truncated"),
+    (AskFault::Stream(StreamFault::BadLength), "45 BadLength"),
+    (AskFault::Reported(29), "29 SlotsFull"),
+    (AskFault::Reported(46), "46 Disagrees"),
+    (AskFault::Reported(48), "48 Unknown"),
+];
+
+/// Whether each fault is printed as its text.
+fn are_printed(alloc: Global) -> Result<bool, AllocError> {
+    for (fault, text) in TEXTS {
+        if fault.to_string(alloc)?.as_str() != *text {
+            return Ok(false);
+        }
+    }
+    Ok(true)
+}
+
 #[test]
 fn faults_of_askings_are_printed(rt: HostRuntime) -> Result<(), Fail> {
-    let alloc = rt.alloc();
-    let rows = [
-        (AskFault::Memory, "32 Memory"),
-        (AskFault::PlanTooLong, "19 PlanTooLong"),
-        (AskFault::Request, "31 Write"),
-        (AskFault::Output, "31 Write"),
-        (AskFault::Read, "43 Read"),
-        (AskFault::Endless, "43 Read"),
-        (AskFault::Truncated, "42 Truncated"),
-        (AskFault::Stream(StreamFault::BadLength), "45 BadLength"),
-        (AskFault::Reported(29), "29 SlotsFull"),
-        (AskFault::Reported(46), "46 Disagrees"),
-        (AskFault::Reported(48), "48 Unknown"),
-    ];
-    for (fault, text) in rows {
-        assert!(rt; fault.to_string(alloc)?.as_str() == text);
-    }
+    assert!(rt; are_printed(rt.alloc())?);
     Ok(())
 }

@@ -1,9 +1,8 @@
-//! Sessions whose requests are drawn, with each end after any number of them; a million requests; and studies
-//! that don't come.
-ghost use Rattle.std.specs.Prelude.{true, ◌≡◌, ◌<◌};
+//! Sessions whose requests are drawn, with each end after any number of them; and studies that don't come.
+ghost use Rattle.std.specs.Prelude.{true, ◌≡◌};
 
 use crate::halls::{EMPTY, House, serve, wire_over};
-use crate::readings::from_hex;
+use crate::readings::bytes_of;
 use crate::vectors::two_cells;
 use cut_book::{NoShelf, Shelf, ShelfFault};
 use cut_disks::{FaultyDisk, Tear};
@@ -14,9 +13,12 @@ use std::alloc::{AllocError, Global};
 use std::sync::Wait;
 use std::test::Fail;
 
+/// The question for the count of slot 0.
+const COUNT_REQUEST: &[u8] = b"S\0\0\0\x04\0\0\0\0";
+
 /// Requests that need no study, in an empty hall of one slot, each with its reply.
-const REQUESTS: [(&[u8], &[u8]); 7] = [
-    (b"S\0\0\0\x04\0\0\0\0", b"S\0\0\0\x08\0\0\0\0\0\0\0\0"),
+const REQUESTS: &[(&[u8], &[u8])] = &[
+    (COUNT_REQUEST, b"S\0\0\0\x08\0\0\0\0\0\0\0\0"),
     (b"S\0\0\0\x04\0\0\0\x01", b"E\0\0\0\x02\0\x1a"),
     (b"S\0\0\0\x04\x01\0\0\0", b"E\0\0\0\x02\0\x1a"),
     (b"R\0\0\0\0", b"E\0\0\0\x02\0\x01"),
@@ -26,7 +28,13 @@ const REQUESTS: [(&[u8], &[u8]); 7] = [
 ];
 
 /// What may follow requests, what it is answered, and how the session ends then.
-const ENDS: [(&[u8], &[u8], SessionEnd); 15] = [
+type Ending = (&'static [u8], &'static [u8], SessionEnd);
+
+fn endings() -> &'static [Ending] {
+    ENDS
+}
+
+const ENDS: &[Ending] = &[
     (b"", b"", SessionEnd::EndOfInput),
     (b"Q\0\0\0\0", b"", SessionEnd::Quit),
     (b"Q\0\0\0\0S\0\0\0\x04\0\0\0\0", b"", SessionEnd::Quit),
@@ -60,10 +68,13 @@ const BAD_LENGTH: SessionEnd = SessionEnd::Fault(SessionFault::Stream(StreamFaul
 
 const TRUNCATED: SessionEnd = SessionEnd::Fault(SessionFault::Truncated);
 
+/// The request at a place, and its reply.
+fn exchange_at(place: usize) -> (&'static [u8], &'static [u8]) {
+    REQUESTS.get(place).copied().unwrap_or((b"", b""))
+}
+
 /// A place among the requests, which a seed draws.
-fn drawn(seed: usize) -> usize
-    ensures { result < 7 }
-{
+fn drawn(seed: usize) -> usize {
     seed.wrapping_mul(2_654_435_769).wrapping_add(40_503) / 65_536 % 7
 }
 
@@ -75,7 +86,7 @@ fn push_drawn(
     is_sent: bool,
 ) -> Result<(), AllocError> {
     for turn in 0..count {
-        let (request, reply) = REQUESTS[drawn(seed.wrapping_add(turn))];
+        let (request, reply) = exchange_at(drawn(seed.wrapping_add(turn)));
         bytes.extend_from_slice(if is_sent { request } else { reply })?;
     }
     Ok(())
@@ -110,66 +121,41 @@ fn alone<S: Shelf<FaultyDisk>, R: Wait>(
     Ok((wire.taken() == replies).then_some(end))
 }
 
-/// How a session ends for drawn requests, and this end after them.
-fn drawn_end<R: Wait>(
+/// Whether a session ends so for drawn requests, this many, after which this end comes, `per` bytes at once.
+fn ends_so<R: Wait>(
     rt: &R,
     alloc: Global,
-    number: usize,
+    ending: &Ending,
     count: usize,
     per: usize,
-) -> Result<Option<SessionEnd>, Fail> {
-    let seed = number
+) -> Result<bool, Fail> {
+    let (last, reply, right) = ending;
+    let seed = last
+        .len()
         .wrapping_mul(1000)
-        .wrapping_add(count.wrapping_mul(31))
-        .wrapping_add(per);
-    let (last, reply, _) = ENDS[number % 15];
-    let sent = stream(alloc, seed, count, true, last)?;
-    let wire = wire_over(alloc, sent, per);
+        .wrapping_add(count.wrapping_mul(31));
     let replies = stream(alloc, seed, count, false, reply)?;
-    alone(rt, alloc, &NoShelf, wire, replies.as_slice())
+    let wire = wire_over(alloc, stream(alloc, seed, count, true, last)?, per);
+    Ok(alone(rt, alloc, &NoShelf, wire, replies.as_slice())? == Some(*right))
+}
+
+/// Whether that holds after fewer than 24 requests, however many bytes come at once.
+fn ends_so_later<R: Wait>(rt: &R, alloc: Global, ending: &Ending) -> Result<bool, Fail> {
+    for count in 0..24 {
+        for per in [1, 4, 17, 5000] {
+            if !ends_so(rt, alloc, ending, count, per)? {
+                return Ok(false);
+            }
+        }
+    }
+    Ok(true)
 }
 
 #[test]
 fn each_end_comes_after_any_number_of_requests(rt: HostRuntime) -> Result<(), Fail> {
-    for (number, (_, _, right)) in ENDS.iter().enumerate() {
-        for count in 0..24 {
-            for per in [1, 4, 17, 5000] {
-                let end = drawn_end(&rt, rt.alloc(), number, count, per)?;
-                assert!(rt; end == Some(*right), "end {number} later {count}");
-            }
-        }
+    for (number, ending) in endings().iter().enumerate() {
+        assert!(rt; ends_so_later(&rt, rt.alloc(), ending)?, "end {number}");
     }
-    Ok(())
-}
-
-/// Adds a million of these parts.
-fn push_million(bytes: &mut Vec<u8>, part: &[u8]) -> Result<(), AllocError> {
-    for _ in 0..1_000_000 {
-        bytes.extend_from_slice(part)?;
-    }
-    Ok(())
-}
-
-/// The bytes of a million of these parts with another one after them.
-fn million(alloc: Global, part: &[u8], last: &[u8]) -> Result<Vec<u8>, AllocError> {
-    let mut bytes = Vec::new(alloc);
-    push_million(&mut bytes, part)?;
-    bytes.extend_from_slice(last)?;
-    Ok(bytes)
-}
-
-/// How a session ends for a million questions for a count with a message that quits after them.
-fn after_a_million<R: Wait>(rt: &R, alloc: Global) -> Result<Option<SessionEnd>, Fail> {
-    let (request, reply) = REQUESTS[0];
-    let replies = million(alloc, reply, b"E\0\0\0\x02\0\x2c")?;
-    let wire = wire_over(alloc, million(alloc, request, b"Q\0\0\0\0")?, 5000);
-    alone(rt, alloc, &NoShelf, wire, replies.as_slice())
-}
-
-#[test]
-fn a_message_that_quits_may_be_one_too_many(rt: HostRuntime) -> Result<(), Fail> {
-    let end = after_a_million(&rt, rt.alloc())?;
-    assert!(rt; end == Some(SessionEnd::Fault(SessionFault::TooManyRequests)));
     Ok(())
 }
 
@@ -191,28 +177,40 @@ impl Shelf<FaultyDisk> for ClosedShelf {
 
 /// The request for the study of two cells, with these bytes after it.
 fn two_cells_sent(alloc: Global, last: &[u8]) -> Result<Vec<u8>, Fail> {
-    let mut sent = from_hex(alloc, two_cells().sent.bytes)?;
+    let mut sent = bytes_of(alloc, two_cells().sent)?;
     sent.truncate(257);
     sent.extend_from_slice(last)?;
     Ok(sent)
 }
 
+/// Why a shelf gives no disk, and the replies then.
+const CLOSED: &[(ShelfFault, &[u8])] = &[
+    (
+        ShelfFault::Open,
+        b"E\0\0\0\x02\0\x1eS\0\0\0\x08\0\0\0\0\0\0\0\0",
+    ),
+    (
+        ShelfFault::Memory,
+        b"E\0\0\0\x02\0\x20S\0\0\0\x08\0\0\0\0\0\0\0\0",
+    ),
+];
+
+/// How a session ends that asks for the study of two cells, where a shelf gives no disk, if its wire takes these
+/// replies.
+fn closed_end<R: Wait>(
+    rt: &R,
+    alloc: Global,
+    fault: ShelfFault,
+    replies: &[u8],
+) -> Result<Option<SessionEnd>, Fail> {
+    let wire = wire_over(alloc, two_cells_sent(alloc, COUNT_REQUEST)?, 50);
+    alone(rt, alloc, &ClosedShelf { fault }, wire, replies)
+}
+
 #[test]
 fn a_study_without_its_disk_is_refused(rt: HostRuntime) -> Result<(), Fail> {
-    let alloc = rt.alloc();
-    let rows: [(ShelfFault, &[u8]); 2] = [
-        (
-            ShelfFault::Open,
-            b"E\0\0\0\x02\0\x1eS\0\0\0\x08\0\0\0\0\0\0\0\0",
-        ),
-        (
-            ShelfFault::Memory,
-            b"E\0\0\0\x02\0\x20S\0\0\0\x08\0\0\0\0\0\0\0\0",
-        ),
-    ];
-    for (fault, replies) in rows {
-        let wire = wire_over(alloc, two_cells_sent(alloc, REQUESTS[0].0)?, 50);
-        let end = alone(&rt, alloc, &ClosedShelf { fault }, wire, replies)?;
+    for (fault, replies) in CLOSED {
+        let end = closed_end(&rt, rt.alloc(), *fault, replies)?;
         assert!(rt; end == Some(SessionEnd::EndOfInput));
     }
     Ok(())
@@ -253,8 +251,8 @@ struct Row {
 }
 
 /// What the session of a row is answered.
-fn broken_off(alloc: Global, row: Row) -> Result<Vec<u8>, Fail> {
-    let mut replies = from_hex(alloc, two_cells().replies.bytes)?;
+fn broken_off(alloc: Global, row: &Row) -> Result<Vec<u8>, Fail> {
+    let mut replies = bytes_of(alloc, two_cells().replies)?;
     replies.truncate(row.bytes);
     replies.extend_from_slice(row.frame)?;
     replies.extend_from_slice(b"S\0\0\0\x08\0\0\0\0\0\0\0")?;
@@ -263,8 +261,22 @@ fn broken_off(alloc: Global, row: Row) -> Result<Vec<u8>, Fail> {
 }
 
 /// Whether the session of a row goes so.
-fn breaks_off<R: Wait>(rt: &R, alloc: Global, row: Row) -> Result<bool, Fail> {
-    let mut wire = wire_over(alloc, two_cells_sent(alloc, REQUESTS[0].0)?, 60);
+fn breaks_off<R: Wait>(rt: &R, alloc: Global, row: &Row) -> Result<bool, Fail> {
+    let before = two_cells_sent(alloc, b"")?;
+    let replies = broken_off(alloc, row)?;
+    let wire = wire_over(alloc, two_cells_sent(alloc, COUNT_REQUEST)?, 60);
+    is_answered(rt, alloc, row, &before, wire, &replies)
+}
+
+/// Whether the wire of a session of a row takes these replies, where these requests come before it.
+fn is_answered<R: Wait>(
+    rt: &R,
+    alloc: Global,
+    row: &Row,
+    before: &[u8],
+    mut wire: FaultyWire,
+    replies: &[u8],
+) -> Result<bool, Fail> {
     let house = House {
         slots: 1,
         size: 3,
@@ -273,33 +285,53 @@ fn breaks_off<R: Wait>(rt: &R, alloc: Global, row: Row) -> Result<bool, Fail> {
     let shelf = FaultyShelf {
         fail_at: row.fail_at,
     };
-    let before = two_cells_sent(alloc, b"")?;
-    serve(rt, alloc, house, before.as_slice(), &shelf, &mut wire)?;
-    Ok(wire.taken() == broken_off(alloc, row)?.as_slice())
+    serve(rt, alloc, house, before, &shelf, &mut wire)?;
+    Ok(wire.taken() == replies)
 }
+
+/// Ten calls open the disk, and each append makes four.
+const BROKEN_OFF: &[Row] = &[
+    Row {
+        pieces: 2,
+        fail_at: 0,
+        bytes: 160,
+        frame: b"",
+        counted: 6,
+    },
+    Row {
+        pieces: 1,
+        fail_at: 0,
+        bytes: 116,
+        frame: b"E\0\0\0\x02\0\x22",
+        counted: 3,
+    },
+    Row {
+        pieces: 1,
+        fail_at: 11,
+        bytes: 77,
+        frame: b"E\0\0\0\x02\0\x1e",
+        counted: 0,
+    },
+    Row {
+        pieces: 1,
+        fail_at: 14,
+        bytes: 77,
+        frame: b"E\0\0\0\x02\0\x1e",
+        counted: 0,
+    },
+    Row {
+        pieces: 2,
+        fail_at: 15,
+        bytes: 116,
+        frame: b"E\0\0\0\x02\0\x1e",
+        counted: 3,
+    },
+];
 
 #[test]
 fn a_study_may_break_off_after_any_line(rt: HostRuntime) -> Result<(), Fail> {
-    // Ten calls open the disk, and each append makes four.
-    let rows: [(u64, u64, usize, &[u8], u8); 5] = [
-        (2, 0, 160, b"", 6),
-        (1, 0, 116, b"E\0\0\0\x02\0\x22", 3),
-        (1, 11, 77, b"E\0\0\0\x02\0\x1e", 0),
-        (1, 14, 77, b"E\0\0\0\x02\0\x1e", 0),
-        (2, 15, 116, b"E\0\0\0\x02\0\x1e", 3),
-    ];
-    for (pieces, fail_at, bytes, frame, counted) in rows {
-        let row = Row {
-            pieces,
-            fail_at,
-            bytes,
-            frame,
-            counted,
-        };
-        assert!(rt;
-            breaks_off(&rt, rt.alloc(), row)?,
-            "after {pieces} and {fail_at}"
-        );
+    for (number, row) in BROKEN_OFF.iter().enumerate() {
+        assert!(rt; breaks_off(&rt, rt.alloc(), row)?, "{number}");
     }
     Ok(())
 }

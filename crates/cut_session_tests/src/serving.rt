@@ -2,12 +2,12 @@
 
 use crate::asking::{COUNT, FIRST, PLAN, SECOND, joined};
 use crate::halls::{EMPTY, House, serve, wire_over};
-use crate::readings::from_hex;
-use crate::vectors::{Session, sessions};
+use crate::readings::bytes_of;
+use crate::vectors::{Session, number_in, said, session_of, sessions};
 use cut_book::NoShelf;
 use cut_session::{SessionEnd, SessionFault};
 use cut_wires::{FaultyWire, Wire, WriteFault};
-use std::alloc::Global;
+use std::alloc::{AllocError, Global};
 use std::sync::Wait;
 use std::test::Fail;
 
@@ -66,7 +66,7 @@ const WHOLE: Row = Row {
 };
 
 /// Whether the session of a row goes so.
-fn is_right<R: Wait>(rt: &R, alloc: Global, exchange: &Exchange, row: Row) -> Result<bool, Fail> {
+fn is_right<R: Wait>(rt: &R, alloc: Global, exchange: &Exchange, row: &Row) -> Result<bool, Fail> {
     let sent = exchange.sent.as_slice();
     let input = Vec::from_slice(alloc, sent.get(..row.cut).unwrap_or_default())?;
     let mut wire = FaultyWire::new(alloc, input, 1, row.room, row.read);
@@ -76,7 +76,7 @@ fn is_right<R: Wait>(rt: &R, alloc: Global, exchange: &Exchange, row: Row) -> Re
 }
 
 /// Whether a wire took as many bytes of the replies as a row says, and its frame after them.
-fn is_taken(taken: &[u8], replies: &[u8], row: Row) -> bool {
+fn is_taken(taken: &[u8], replies: &[u8], row: &Row) -> bool {
     match replies.get(..row.before) {
         Some(before) => taken.strip_prefix(before) == Some(row.frame),
         None => false,
@@ -84,49 +84,67 @@ fn is_taken(taken: &[u8], replies: &[u8], row: Row) -> bool {
 }
 
 /// The requests and the replies of a session that was worked out.
-pub(crate) fn exchange_of(alloc: Global, session: Session) -> Result<Exchange, Fail> {
-    let sent = from_hex(alloc, session.sent.bytes)?;
-    let replies = from_hex(alloc, session.replies.bytes)?;
+pub(crate) fn exchange_of(alloc: Global, session: Session<'_>) -> Result<Exchange, AllocError> {
+    let sent = bytes_of(alloc, session.sent)?;
+    let replies = bytes_of(alloc, session.replies)?;
     Ok(Exchange { sent, replies })
+}
+
+/// Whether a session ended as its block says: by a message that quits, at the end of its input, or with a fault.
+pub(crate) fn is_end(end: SessionEnd, block: &str) -> bool {
+    let word = said(block, "end ");
+    match end {
+        SessionEnd::Quit => word == "quit",
+        SessionEnd::EndOfInput => word == "end",
+        SessionEnd::Fault(fault) => word.parse().unwrap_or(0u16) == fault.code().number(),
+        SessionEnd::Write(_) => false,
+    }
 }
 
 /// Whether a session to which this many bytes come at once goes as it was worked out.
 fn is_served<R: Wait>(
     rt: &R,
     alloc: Global,
-    session: Session,
+    block: &str,
     exchange: &Exchange,
     per: usize,
 ) -> Result<bool, Fail> {
     let house = House {
         slots: 2,
         size: 1_000_000,
-        pieces: session.cells,
+        pieces: number_in(block, "cells ", 0),
     };
     let before = exchange.sent.as_slice();
     let mut wire = wire_over(alloc, Vec::from_slice(alloc, before)?, per);
     let end = serve(rt, alloc, house, before, &NoShelf, &mut wire)?;
-    Ok(end == session.end && wire.taken() == exchange.replies.as_slice())
+    Ok(is_end(end, block) && wire.taken() == exchange.replies.as_slice())
 }
 
 /// Whether a session goes so whose bytes come one by one, or some or all at once.
-fn is_served_in_pieces<R: Wait>(rt: &R, alloc: Global, session: Session) -> Result<bool, Fail> {
-    let exchange = exchange_of(alloc, session)?;
-    let mut is_right = true;
+fn is_served_in_pieces<R: Wait>(
+    rt: &R,
+    alloc: Global,
+    block: &str,
+    exchange: &Exchange,
+) -> Result<bool, Fail> {
     for per in [1, 3, 10, 100, 5000] {
-        is_right = is_right && is_served(rt, alloc, session, &exchange, per)?;
+        if !is_served(rt, alloc, block, exchange, per)? {
+            return Ok(false);
+        }
     }
-    Ok(is_right)
+    Ok(true)
+}
+
+/// Whether a session goes as it was worked out.
+fn goes_so<R: Wait>(rt: &R, alloc: Global, session: Session<'_>) -> Result<bool, Fail> {
+    let exchange = exchange_of(alloc, session)?;
+    is_served_in_pieces(rt, alloc, session.end, &exchange)
 }
 
 #[test]
 fn sessions_go_as_they_were_worked_out(rt: HostRuntime) -> Result<(), Fail> {
-    for session in sessions() {
-        assert!(rt;
-            is_served_in_pieces(&rt, rt.alloc(), session)?,
-            "{}",
-            session.sent.bytes
-        );
+    for (number, text) in sessions().split("\n\n").enumerate() {
+        assert!(rt; goes_so(&rt, rt.alloc(), session_of(text))?, "{number}");
     }
     Ok(())
 }
@@ -153,7 +171,7 @@ fn the_slots_are_full_for_another_plan(rt: HostRuntime) -> Result<(), Fail> {
         end: SessionEnd::EndOfInput,
         ..WHOLE
     };
-    assert!(rt; is_right(&rt, alloc, &exchange, row)?);
+    assert!(rt; is_right(&rt, alloc, &exchange, &row)?);
     Ok(())
 }
 
@@ -246,7 +264,7 @@ fn each_failure_of_a_wire_is_reported(rt: HostRuntime) -> Result<(), Fail> {
     let exchange = whole_exchange(alloc)?;
     for number in 0..607 {
         let row = exchange_row(number);
-        assert!(rt; is_right(&rt, alloc, &exchange, row)?, "row {number}");
+        assert!(rt; is_right(&rt, alloc, &exchange, &row)?, "row {number}");
     }
     Ok(())
 }

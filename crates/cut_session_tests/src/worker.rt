@@ -4,8 +4,8 @@ ghost use Rattle.std.specs.Prelude.{◌≡◌, All};
 ghost use Rattle.atomic_table.specs.Seated.{TableId};
 
 use crate::asking::PLAN;
-use crate::serving::{Exchange, SUBMIT, exchange_of};
-use crate::vectors::{Session, sessions};
+use crate::serving::{Exchange, SUBMIT, exchange_of, is_end};
+use crate::vectors::{Session, number_in, session_of, sessions};
 use cut_book::NoShelf;
 use cut_disks::MemoryDisk;
 use cut_hall::{CallLedger, Hall, OpenGate, Pass, Report};
@@ -210,21 +210,36 @@ fn is_whole(report: &Report, trials: &[u64]) -> bool {
 fn is_served<R: Threads + Wait + Sync>(
     rt: &R,
     alloc: Global,
-    session: Session,
+    session: Session<'_>,
     per: usize,
 ) -> Result<bool, Fail> {
-    let exchange = exchange_of(alloc, session)?;
-    let Exchange { sent, replies } = exchange;
+    let Exchange { sent, replies } = exchange_of(alloc, session)?;
     let served = serve_one(rt, alloc, sent, per)?;
-    let right = Some((session.end, replies.as_slice()));
-    Ok(served.end_of(0) == right && is_whole(&served.report, &session.trials))
+    Ok(goes_so(&served, session.end, &replies))
+}
+
+/// Whether a session ended as its block says, with these replies, and the hall reported it so.
+fn goes_so(served: &Served, block: &str, replies: &[u8]) -> bool {
+    let trials = [
+        number_in(block, "trials ", 0),
+        number_in(block, "trials ", 1),
+    ];
+    match served.end_of(0) {
+        Some((end, taken)) => {
+            is_end(end, block) && taken == replies && is_whole(&served.report, &trials)
+        }
+        None => false,
+    }
 }
 
 #[test]
 fn a_worker_makes_the_lines_that_a_session_waits_for(rt: HostRuntime) -> Result<(), Fail> {
-    for session in sessions() {
+    for (number, text) in sessions().split("\n\n").enumerate() {
         for per in [1, 30, 5000] {
-            assert!(rt; is_served(&rt, rt.alloc(), session, per)?, "{per}");
+            assert!(rt;
+                is_served(&rt, rt.alloc(), session_of(text), per)?,
+                "{number}"
+            );
         }
     }
     Ok(())

@@ -5,7 +5,7 @@ ghost use Rattle.cut_share.specs.Tasks.{IsRun, done_of};
 use crate::ShareFault;
 use crate::task::Task;
 use cut_disks::Disk;
-use cut_hall::Gate;
+use cut_gate::Gate;
 use cut_journal::{Journal, JournalFault};
 use std::sync::Wait;
 

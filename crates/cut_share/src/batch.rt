@@ -10,7 +10,7 @@ use crate::share_pieces::SharePieces;
 use crate::task::{Task, are_done, deal};
 use crate::tools::Tools;
 use cut_disks::Disk;
-use cut_hall::Gate;
+use cut_gate::Gate;
 use cut_journal::Journal;
 use std::sync::Wait;
 use std::thread::Threads;

@@ -11,7 +11,7 @@ use crate::task::new_tasks;
 use crate::tools::Tools;
 use crate::{Share, ShareFault};
 use cut_disks::Disk;
-use cut_hall::Gate;
+use cut_gate::Gate;
 use cut_journal::Journal;
 use cut_ledger::laws::gaps_are_what_is_not_held;
 use cut_ledger::{Ledger, Slip, SlipsFault};

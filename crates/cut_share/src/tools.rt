@@ -2,7 +2,7 @@ ghost use Rattle.std.specs.Prelude.{◌≡◌, ◌≤◌};
 ghost use Rattle.cut_trial.specs.Outcome.{rings_of};
 
 use crate::task::Task;
-use cut_hall::Gate;
+use cut_gate::Gate;
 use cut_plan::Plan;
 use cut_rings::Rings;
 use cut_trial::{Piece, PieceResult, run_piece};

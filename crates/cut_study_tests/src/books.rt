@@ -41,14 +41,22 @@ fn row(alloc: Global, book: &mut KeptBook) -> Option<u16> {
     }
 }
 
-/// What a book answers to the results of both trials, beside others.
-fn hand_in_all(alloc: Global, book: &mut KeptBook) -> Result<[u16; 4], Fail> {
-    Ok([
-        hand_in(alloc, book, TWO_TRIALS, 1)?,
-        hand_in(alloc, book, ONE_LIAR, 0)?,
-        hand_in(alloc, book, TWO_TRIALS, 0)?,
-        hand_in(alloc, book, TWO_TRIALS, 0)?,
-    ])
+/// The results that a book is handed in, each of one trial of a study: those of both trials, beside others.
+const RESULTS: &[(Study, u32)] = &[
+    (TWO_TRIALS, 1),
+    (ONE_LIAR, 0),
+    (TWO_TRIALS, 0),
+    (TWO_TRIALS, 0),
+];
+
+/// Whether a book answers so to the results.
+fn are_answered(alloc: Global, book: &mut KeptBook, answers: &[u16]) -> Result<bool, Fail> {
+    for ((study, first), answer) in RESULTS.iter().zip(answers) {
+        if hand_in(alloc, book, *study, *first)? != *answer {
+            return Ok(false);
+        }
+    }
+    Ok(true)
 }
 
 /// What a book answers that loses a piece, and again, and one that there is none of.
@@ -58,12 +66,6 @@ fn lose_all(book: &mut KeptBook) -> [u16; 3] {
         number_of(book.lose(0)),
         number_of(book.lose(2)),
     ]
-}
-
-/// A book of the study without a journal, with pieces of one trial.
-fn book_alone(alloc: Global) -> Result<KeptBook, Fail> {
-    let plan = TWO_TRIALS.read_plan(alloc)?;
-    Ok(Book::new(alloc, plan, None, &[], 1)?)
 }
 
 /// How many calls a history has that took a result.
@@ -95,26 +97,65 @@ fn state_of(book: &KeptBook) -> (bool, bool, u64, u64) {
     )
 }
 
-#[test]
-fn a_book_without_a_journal(rt: HostRuntime) -> Result<(), Fail> {
-    let alloc = rt.alloc();
-    let mut book = book_alone(alloc)?;
-    assert!(rt; row(alloc, &mut book) == Some(18));
-    assert!(rt; hand_in_all(alloc, &mut book)? == [0, 15, 0, 16]);
-    assert!(rt; row(alloc, &mut book) == Some(0));
-    assert!(rt; state_of(&book) == (true, false, 6, 2));
-    assert!(rt; lose_all(&mut book) == [0, 14, 14]);
-    assert!(rt; state_of(&book) == (true, true, 7, 2));
-    assert!(rt; taken(alloc, book.history())? == 2);
-    Ok(())
+/// Whether a book without a journal has its line once it has both results.
+fn gives_its_line(alloc: Global, book: &mut KeptBook) -> Result<bool, Fail> {
+    let before = row(alloc, &mut *book);
+    let are_answered = are_answered(alloc, &mut *book, &[0, 15, 0, 16])?;
+    Ok(before == Some(18) && are_answered && row(alloc, book) == Some(0))
 }
 
-/// What a book answers over a new disk that fails in the call of this number, and whether an append failed.
-fn kept(alloc: Global, fail_at: u64) -> Result<([u16; 4], bool), Fail> {
-    let mut book = book_over(alloc, fail_at)?;
-    let answers = hand_in_all(alloc, &mut book)?;
-    let has_journal = book.journal().is_some();
-    Ok((answers, has_journal && book.is_broken()))
+/// Whether its history has the calls so far, and those that lose pieces.
+fn notes_its_calls(alloc: Global, book: &mut KeptBook) -> Result<bool, AllocError> {
+    let is_noted = state_of(book) == (true, false, 6, 2);
+    let are_lost = lose_all(&mut *book) == [0, 14, 14] && state_of(book) == (true, true, 7, 2);
+    Ok(is_noted && are_lost && taken(alloc, book.history())? == 2)
+}
+
+/// Whether a book answers so over a new disk that fails in the call of this number, where an append fails then or not.
+fn is_kept(
+    alloc: Global,
+    book: &mut KeptBook,
+    answers: &[u16],
+    has_failed: bool,
+) -> Result<bool, Fail> {
+    let is_right = are_answered(alloc, &mut *book, answers)?;
+    Ok(is_right && book.journal().is_some() && book.is_broken() == has_failed)
+}
+
+/// What is done with a book of the study.
+#[derive(Clone, Copy)]
+enum Trial {
+    /// It has no journal, and does all that a book does.
+    Alone,
+    /// Its disk never fails.
+    Kept,
+    /// Its disk fails in the first append.
+    Failing,
+}
+
+/// Whether a book goes so.
+fn goes_so(alloc: Global, book: &mut KeptBook, trial: Trial) -> Result<bool, Fail> {
+    match trial {
+        Trial::Alone => { Ok(gives_its_line(alloc, &mut *book)? && notes_its_calls(alloc, book)?) }
+        Trial::Kept => is_kept(alloc, book, &[0, 15, 0, 16], false),
+        Trial::Failing => is_kept(alloc, book, &[30, 30, 30, 30], true),
+    }
+}
+
+/// A book of the study, of two pieces of one trial.
+fn new_book(alloc: Global, trial: Trial) -> Result<KeptBook, Fail> {
+    match trial {
+        Trial::Alone => Ok(Book::new(alloc, TWO_TRIALS.read_plan(alloc)?, None, &[], 1)?),
+        Trial::Kept => book_over(alloc, 0),
+        // Ten calls open the journal, and each append makes four.
+        Trial::Failing => book_over(alloc, 12),
+    }
+}
+
+/// Whether a new book goes so.
+fn is_right(alloc: Global, trial: Trial) -> Result<bool, Fail> {
+    let mut book = new_book(alloc, trial)?;
+    goes_so(alloc, &mut book, trial)
 }
 
 /// A book of the study over a new disk that fails in the call of this number, or never where that is 0.
@@ -129,26 +170,35 @@ fn book_over(alloc: Global, fail_at: u64) -> Result<KeptBook, Fail> {
 }
 
 #[test]
-fn a_journal_keeps_what_is_accepted(rt: HostRuntime) -> Result<(), Fail> {
-    assert!(rt; kept(rt.alloc(), 0)? == ([0, 15, 0, 16], false));
-    // Ten calls open the journal, and each append makes four.
-    assert!(rt; kept(rt.alloc(), 12)? == ([30; 4], true));
+fn books_answer_and_keep_what_is_accepted(rt: HostRuntime) -> Result<(), Fail> {
+    for trial in [Trial::Alone, Trial::Kept, Trial::Failing] {
+        assert!(rt; is_right(rt.alloc(), trial)?);
+    }
     Ok(())
 }
 
-/// Whether a fault is printed so.
-fn is_printed(alloc: Global, fault: BookFault, text: &str) -> Result<bool, AllocError> {
-    Ok(fault.to_string(alloc)?.as_str() == text)
+/// Faults, each with its text.
+const TEXTS: &[(BookFault, &str)] = &[
+    (BookFault::BadPiece, "14 BadPiece"),
+    (BookFault::Stranger, "15 Stranger"),
+    (BookFault::Overlap, "16 Overlap"),
+    (BookFault::BadSlip(2), "17 BadSlip 2"),
+    (BookFault::NotDone(0), "18 NotDone 0"),
+    (BookFault::Checkpoint, "30 Checkpoint"),
+];
+
+/// Whether each fault is printed as its text.
+fn are_printed(alloc: Global) -> Result<bool, AllocError> {
+    for (fault, text) in TEXTS {
+        if fault.to_string(alloc)?.as_str() != *text {
+            return Ok(false);
+        }
+    }
+    Ok(true)
 }
 
 #[test]
 fn faults_of_books_are_printed(rt: HostRuntime) -> Result<(), Fail> {
-    let alloc = rt.alloc();
-    assert!(rt; is_printed(alloc, BookFault::BadPiece, "14 BadPiece")?);
-    assert!(rt; is_printed(alloc, BookFault::Stranger, "15 Stranger")?);
-    assert!(rt; is_printed(alloc, BookFault::Overlap, "16 Overlap")?);
-    assert!(rt; is_printed(alloc, BookFault::BadSlip(2), "17 BadSlip 2")?);
-    assert!(rt; is_printed(alloc, BookFault::NotDone(0), "18 NotDone 0")?);
-    assert!(rt; is_printed(alloc, BookFault::Checkpoint, "30 Checkpoint")?);
+    assert!(rt; are_printed(rt.alloc())?);
     Ok(())
 }

@@ -14,7 +14,7 @@ use std::test::Fail;
 pub(crate) type Stormy<M, K> = Hall<FaultyDisk, M, K>;
 
 /// A shelf whose disks each fail at the call of this number, or never where that is 0.
-#[derive(Clone, Copy, Debug)]
+#[derive(Clone, Copy)]
 pub(crate) struct Brittle {
     pub fail_at: u64,
 }
@@ -99,8 +99,8 @@ fn end_of_fault(fault: LineFault) -> End {
 
 /// The end of who is given a line, if it is that of the cell.
 fn end_of_line(study: Study, cell: u32, line: &[u8]) -> End {
-    match study.lines.get(cell as usize) {
-        Some(right) if right.as_bytes() == line => End::Line,
+    match study.lines.lines().nth(cell as usize) {
+        Some(right) if line.strip_suffix(b"\n") == Some(right.as_bytes()) => End::Line,
         _ => End::Wrong,
     }
 }

@@ -9,76 +9,48 @@ use cut_disks::{Disk, FaultyDisk, Tear};
 use cut_journal::Journal;
 use cut_plan::Plan;
 use cut_study::{RunFault, StudyRun};
-use cut_trial::Piece;
+use cut_trial::{Piece, PieceResult};
 use cut_wires::{FaultyWire, WriteFault};
 use std::alloc::Global;
 use std::sync::Wait;
 use std::test::Fail;
 use std::thread::Threads;
 
-/// A run over a disk, and how it is to go.
+/// A run of a study over a disk, by two workers in pieces of one trial where nothing else is said, and how it ends.
 #[derive(Clone, Copy)]
 struct Row {
+    study: Study,
     piece_size: u32,
     workers: u32,
     /// Whether the disk is armed, once its journal is open.
     is_armed: bool,
     /// For how many bytes the wire has room.
     room: usize,
-    /// The fault, or else the study is complete.
-    fault: Option<RunFault>,
-    /// How many trials are accepted then, and how many calls are made, where that is compared.
-    accepted: Option<u64>,
-    calls: Option<u64>,
-    /// How many bytes of the table the wire takes, where that is certain.
-    taken: Option<usize>,
-    /// How long the file is then, where that is compared.
-    length: Option<usize>,
+    wanted: Wanted,
 }
 
-/// By two workers in pieces of one trial, with nothing that fails.
+/// How a run ends.
+#[derive(Clone, Copy)]
+enum Wanted {
+    /// With the whole table, which has this many bytes.
+    Table(usize),
+    /// With the whole table and these counts.
+    Counted(Counts),
+    /// With this fault, where the wire takes this many bytes of the table.
+    Fault(RunFault, usize),
+    /// As an append to the disk failed.
+    Broken,
+}
+
+/// One with nothing that fails, of the study of two trials.
 const WHOLE: Row = Row {
+    study: TWO_TRIALS,
     piece_size: 1,
     workers: 2,
     is_armed: false,
     room: 1000,
-    fault: None,
-    accepted: None,
-    calls: None,
-    taken: None,
-    length: None,
+    wanted: Wanted::Table(98),
 };
-
-impl Row {
-    /// With a wire that has room for this many bytes.
-    fn cut_off(self, room: usize) -> Row {
-        let sent = room as u64;
-        Row {
-            room,
-            fault: Some(RunFault::Write(WriteFault { sent })),
-            taken: Some(room),
-            ..self
-        }
-    }
-
-    /// With a disk that fails in an append.
-    fn broken(self) -> Row {
-        Row {
-            is_armed: true,
-            fault: Some(RunFault::Checkpoint),
-            ..self
-        }
-    }
-}
-
-/// A new disk, and the runs of a study over it, one after another.
-#[derive(Clone, Copy)]
-struct Story {
-    study: Study,
-    fail_at: u64,
-    tear: Tear,
-    rows: [Option<Row>; 3],
-}
 
 /// The journal on a disk, with the slips that are kept in it.
 fn journal_on<D: Disk + Drop>(alloc: Global, disk: D, plan: &Plan) -> Result<Kept<D>, Fail>
@@ -93,16 +65,15 @@ fn journal_on<D: Disk + Drop>(alloc: Global, disk: D, plan: &Plan) -> Result<Kep
     }
 }
 
-/// How a run of a study ends over the journal on a disk, which is armed once the journal is open, if it is; and whether
-/// its gate has counted each trial.
+/// How a run ends over the journal on a disk, which is armed once the journal is open, if it is; and whether its gate
+/// has counted each trial.
 fn run_over<R: Threads + Wait + Sync>(
     rt: &R,
     alloc: Global,
-    study: Study,
-    row: Row,
+    row: &Row,
     disk: &mut FaultyDisk,
 ) -> Result<(Ended, bool), Fail> {
-    let plan = study.read_plan(alloc)?;
+    let plan = row.study.read_plan(alloc)?;
     let kept = journal_on(alloc, disk, &plan)?;
     if row.is_armed {
         kept.0.disk().arm();
@@ -116,233 +87,286 @@ fn run_over<R: Threads + Wait + Sync>(
     };
     let gate = CountingGate::new();
     let report = counts_of(run.run(rt, alloc, &mut wire, &gate));
-    let taken = study.prefix_len(wire.taken());
+    let taken = row.study.prefix_len(wire.taken());
     Ok((Ended { report, taken }, gate.has_all()))
 }
 
-/// Whether a number is the one that is wanted, where one is.
-fn is_wanted(number: u64, wanted: Option<u64>) -> bool {
-    match wanted {
-        Some(wanted) => number == wanted,
-        None => true,
+/// Whether a run ended with the whole table, which has this many bytes.
+fn is_table(ended: &Ended, length: usize) -> bool {
+    match ended.report {
+        Ok(counts) => {
+            counts.complete && counts.sent == length as u64 && ended.taken == Some(length)
+        }
+        Err(_) => false,
     }
 }
 
-/// Whether the counts of a run are those of a row, whose wire took this many bytes.
-fn are_right(counts: Counts, row: Row, taken: usize) -> bool {
-    counts.complete
-        && counts.sent == taken as u64
-        && is_wanted(counts.accepted, row.accepted)
-        && is_wanted(counts.calls, row.calls)
+/// Whether a run ended so, where its gate has counted each trial of a complete study.
+fn is_right(ended: &Ended, has_all: bool, wanted: &Wanted) -> bool {
+    match *wanted {
+        Wanted::Table(length) => has_all && is_table(ended, length),
+        Wanted::Counted(counts) => {
+            has_all && ended.report == Ok(counts) && is_table(ended, counts.sent as usize)
+        }
+        Wanted::Fault(fault, taken) => ended.report == Err(fault) && ended.taken == Some(taken),
+        Wanted::Broken => ended.report == Err(RunFault::Checkpoint) && ended.taken.is_some(),
+    }
 }
 
-/// Whether a run ended as its row says, where its gate has counted each trial of a complete study.
-fn is_right(ended: Ended, row: Row, has_all: bool) -> bool {
-    let Some(taken) = ended.taken else {
-        return false;
-    };
-    let is_reported = match ended.report {
-        Ok(counts) => row.fault.is_none() && has_all && are_right(counts, row, taken),
-        Err(fault) => row.fault == Some(fault),
-    };
-    is_reported && is_wanted(taken as u64, row.taken.map(|taken| taken as u64))
-}
-
-/// Whether a run of a study over a disk goes so.
+/// Whether a run over a disk goes so.
 fn goes_so<R: Threads + Wait + Sync>(
     rt: &R,
     alloc: Global,
-    study: Study,
-    row: Row,
+    row: &Row,
     disk: &mut FaultyDisk,
 ) -> Result<bool, Fail> {
-    let (ended, has_all) = run_over(rt, alloc, study, row, disk)?;
-    let length = disk.memory().bytes().len();
-    Ok(is_right(ended, row, has_all) && length == row.length.unwrap_or(length))
+    let (ended, has_all) = run_over(rt, alloc, row, disk)?;
+    Ok(is_right(&ended, has_all, &row.wanted))
 }
 
-/// The number of the first run of a story that goes otherwise.
-fn first_wrong<R: Threads + Wait + Sync>(
+/// Whether the runs over a new disk go so, one after another. A call of the disk fails, which leaves this of a write.
+fn all_go_so<R: Threads + Wait + Sync>(
     rt: &R,
     alloc: Global,
-    story: Story,
-) -> Result<Option<usize>, Fail> {
-    let mut disk = FaultyDisk::of(alloc, Vec::new(alloc), story.fail_at, story.tear)?;
-    for (number, row) in story.rows.iter().enumerate() {
-        if let Some(row) = row {
-            if !goes_so(rt, alloc, story.study, *row, &mut disk)? {
-                return Ok(Some(number));
-            }
+    (fail_at, tear): (u64, Tear),
+    rows: &[Row],
+) -> Result<bool, Fail> {
+    let mut disk = FaultyDisk::of(alloc, Vec::new(alloc), fail_at, tear)?;
+    go_so(rt, alloc, rows, &mut disk)
+}
+
+/// Whether the runs over a disk go so.
+fn go_so<R: Threads + Wait + Sync>(
+    rt: &R,
+    alloc: Global,
+    rows: &[Row],
+    disk: &mut FaultyDisk,
+) -> Result<bool, Fail> {
+    for row in rows {
+        if !goes_so(rt, alloc, row, &mut *disk)? {
+            return Ok(false);
         }
     }
-    Ok(None)
+    Ok(true)
 }
+
+/// A wire has room for 80 bytes, and both trials are kept.
+const CUT_OFF: &[Row] = &[
+    Row {
+        room: 80,
+        wanted: Wanted::Fault(RunFault::Write(WriteFault { sent: 80 }), 80),
+        ..WHOLE
+    },
+    Row {
+        wanted: Wanted::Counted(Counts {
+            sent: 98,
+            accepted: 0,
+            calls: 1,
+            complete: true,
+        }),
+        ..WHOLE
+    },
+];
+
+/// An append fails, and the study goes on in pieces of two.
+const BROKEN: &[Row] = &[
+    Row {
+        is_armed: true,
+        wanted: Wanted::Broken,
+        ..WHOLE
+    },
+    Row {
+        piece_size: 2,
+        ..WHOLE
+    },
+];
+
+/// The disk would fail after the last append.
+const UNHARMED: &[Row] = &[Row {
+    is_armed: true,
+    wanted: Wanted::Counted(Counts {
+        sent: 98,
+        accepted: 2,
+        calls: 3,
+        complete: true,
+    }),
+    ..WHOLE
+}];
 
 #[test]
 fn a_study_whose_wire_or_disk_failed_is_resumed(rt: HostRuntime) -> Result<(), Fail> {
-    let is_whole = Row {
-        taken: Some(98),
-        ..WHOLE
-    };
-    let is_kept = Row {
-        accepted: Some(0),
-        calls: Some(1),
-        ..is_whole
-    };
-    let by_two = Row {
-        piece_size: 2,
-        ..is_whole
-    };
-    let is_armed_late = Row {
-        is_armed: true,
-        accepted: Some(2),
-        calls: Some(3),
-        ..is_whole
-    };
     // Each of the two appends makes four calls.
     for fail_at in 0..10u64 {
         let rows = match fail_at {
-            0 => [Some(WHOLE.cut_off(80)), Some(is_kept), None],
-            9 => [Some(is_armed_late), None, None],
-            _ => [Some(WHOLE.broken()), Some(by_two), None],
+            0 => CUT_OFF,
+            9 => UNHARMED,
+            _ => BROKEN,
         };
-        let story = Story {
-            study: TWO_TRIALS,
-            fail_at,
-            tear: Tear::Nothing,
-            rows,
-        };
-        assert!(rt; first_wrong(&rt, rt.alloc(), story)?.is_none(), "{fail_at}");
+        assert!(rt;
+            all_go_so(&rt, rt.alloc(), (fail_at, Tear::Nothing), rows)?,
+            "{fail_at}"
+        );
     }
     Ok(())
 }
 
-/// Keeps the slip of the first trial in the journal on a disk.
-fn keep_first(alloc: Global, disk: &mut FaultyDisk) -> Result<(), Fail> {
-    let plan = TWO_TRIALS.read_plan(alloc)?;
-    let (mut journal, _) = journal_on(alloc, disk, &plan)?;
-    journal.append(&result_of(alloc, &plan, Piece { first: 0, count: 1 })?)?;
+/// Keeps a result in the journal on a disk.
+fn keep(alloc: Global, plan: &Plan, slip: &PieceResult, disk: &mut FaultyDisk) -> Result<(), Fail> {
+    let (mut journal, _) = journal_on(alloc, disk, plan)?;
+    journal.append(slip)?;
     Ok(())
+}
+
+/// Keeps the slip of the first trial in the journal on a disk, twice.
+fn keep_twice(alloc: Global, disk: &mut FaultyDisk) -> Result<(), Fail> {
+    let plan = TWO_TRIALS.read_plan(alloc)?;
+    let result = result_of(alloc, &plan, Piece { first: 0, count: 1 })?;
+    keep(alloc, &plan, &result, &mut *disk)?;
+    keep(alloc, &plan, &result, disk)
+}
+
+/// One whose second slip is refused.
+const BAD_SLIP: Row = Row {
+    wanted: Wanted::Fault(RunFault::BadSlip(2), 0),
+    ..WHOLE
+};
+
+/// Whether a run ends so over a disk.
+fn is_bad<R: Threads + Wait + Sync>(
+    rt: &R,
+    alloc: Global,
+    disk: &mut FaultyDisk,
+) -> Result<bool, Fail> {
+    keep_twice(alloc, &mut *disk)?;
+    goes_so(rt, alloc, &BAD_SLIP, disk)
 }
 
 #[test]
 fn a_slip_that_is_kept_twice_is_bad(rt: HostRuntime) -> Result<(), Fail> {
-    let alloc = rt.alloc();
-    let mut disk = FaultyDisk::of(alloc, Vec::new(alloc), 0, Tear::Nothing)?;
-    keep_first(alloc, &mut disk)?;
-    keep_first(alloc, &mut disk)?;
-    let is_bad = Row {
-        fault: Some(RunFault::BadSlip(2)),
-        taken: Some(0),
-        ..WHOLE
-    };
-    assert!(rt; goes_so(&rt, alloc, TWO_TRIALS, is_bad, &mut disk)?);
+    let mut disk = FaultyDisk::of(rt.alloc(), Vec::new(rt.alloc()), 0, Tear::Nothing)?;
+    assert!(rt; is_bad(&rt, rt.alloc(), &mut disk)?);
     Ok(())
 }
 
-/// How many trials the study has that has more slips than a word has bits.
-const TRIALS: usize = 130;
-
-/// How long its file with this many slips is: the plan has 223 bytes, 46 more stand beside it, and each slip has 105.
-fn file_of(slips: usize) -> Option<usize> {
-    Some(223 + 46 + 105 * slips.min(TRIALS))
+/// How long the file of the study of 130 trials with this many slips is: the plan has 223 bytes, 46 more stand beside
+/// it, and each slip has 105.
+fn file_of(slips: u32) -> usize {
+    223 + 46 + 105 * slips.min(130) as usize
 }
 
-/// The first run that goes otherwise, where the disk of that study fails after this many of its slips: the study goes
-/// on with the others, and is then whole.
-fn wrong_after<R: Threads + Wait + Sync>(
+/// Whether its run over a disk goes so, and leaves a file with this many slips.
+fn leaves<R: Threads + Wait + Sync>(
     rt: &R,
     alloc: Global,
-    slips: usize,
-) -> Result<Option<usize>, Fail> {
-    let is_stopped = Row {
-        taken: Some(72),
-        length: file_of(slips),
-        ..WHOLE.broken()
-    };
-    let goes_on = Row {
-        accepted: Some(TRIALS.saturating_sub(slips) as u64),
-        taken: Some(108),
-        length: file_of(TRIALS),
-        ..WHOLE
-    };
-    let is_whole = Row {
-        piece_size: 7,
-        accepted: Some(0),
-        calls: Some(1),
-        taken: Some(108),
-        ..WHOLE
-    };
-    let story = Story {
+    (wanted, slips): (Wanted, u32),
+    disk: &mut FaultyDisk,
+) -> Result<bool, Fail> {
+    let row = Row {
         study: MANY_TRIALS,
-        // Each append makes four calls: the first one of the next fails.
-        fail_at: 4 * slips.min(TRIALS) as u64 + 1,
-        tear: Tear::Nothing,
-        rows: [Some(is_stopped), Some(goes_on), Some(is_whole)],
+        is_armed: slips < 130,
+        wanted,
+        ..WHOLE
     };
-    first_wrong(rt, alloc, story)
+    let is_right = goes_so(rt, alloc, &row, &mut *disk)?;
+    Ok(is_right && disk.memory().bytes().len() == file_of(slips))
+}
+
+/// What is reported of its run where this many trials are lacking.
+fn counts_for(lacking: u32) -> Counts {
+    let accepted = u64::from(lacking);
+    Counts {
+        sent: 108,
+        accepted,
+        calls: accepted.saturating_add(1),
+        complete: true,
+    }
+}
+
+/// Whether it goes on over a disk that fails after this many of its slips, and is then whole.
+fn goes_on<R: Threads + Wait + Sync>(
+    rt: &R,
+    alloc: Global,
+    slips: u32,
+    disk: &mut FaultyDisk,
+) -> Result<bool, Fail> {
+    let failed = (Wanted::Fault(RunFault::Checkpoint, 72), slips);
+    let others = Wanted::Counted(counts_for(130u32.saturating_sub(slips)));
+    let none = Wanted::Counted(counts_for(0));
+    Ok(
+        leaves(rt, alloc, failed, &mut *disk)?
+            && leaves(rt, alloc, (others, 130), &mut *disk)?
+            && leaves(rt, alloc, (none, 130), disk)?,
+    )
+}
+
+/// Whether it does so over a new disk.
+fn goes_on_after<R: Threads + Wait + Sync>(
+    rt: &R,
+    alloc: Global,
+    slips: u32,
+) -> Result<bool, Fail> {
+    // Each append makes four calls: the first one of the next fails.
+    let fail_at = u64::from(slips).saturating_mul(4).saturating_add(1);
+    let mut disk = FaultyDisk::of(alloc, Vec::new(alloc), fail_at, Tear::Nothing)?;
+    goes_on(rt, alloc, slips, &mut disk)
 }
 
 #[test]
 fn a_study_goes_on_from_more_than_64_slips(rt: HostRuntime) -> Result<(), Fail> {
     for slips in [63, 64, 65, 128, 129] {
-        assert!(rt; wrong_after(&rt, rt.alloc(), slips)?.is_none(), "{slips}");
+        assert!(rt; goes_on_after(&rt, rt.alloc(), slips)?, "{slips}");
     }
     Ok(())
 }
 
-/// What cuts a study off half-way: its wire, or its disk, which leaves this of a write.
-#[derive(Clone, Copy)]
-enum Cut {
-    Wire,
-    Disk(Tear),
-}
-
-/// The first run that goes otherwise, where a study is cut off half-way and resumed by three workers.
-fn wrong_after_cut<R: Threads + Wait + Sync>(
+/// Whether a study is resumed by three workers that was cut off half-way, by its wire or by a disk that leaves this of
+/// a write.
+fn is_resumed<R: Threads + Wait + Sync>(
     rt: &R,
     alloc: Global,
     study: Study,
-    cut: Cut,
-) -> Result<Option<usize>, Fail> {
+    tear: Option<Tear>,
+) -> Result<bool, Fail> {
     // The disk fails half-way through the appends of the trials, of four calls each.
     let fail_at = 2 * u64::from(study.read_plan(alloc)?.trials()) + 1;
-    let length = study.table_len();
-    let resumed = Row {
-        workers: 3,
-        taken: Some(length),
-        ..WHOLE
-    };
-    let is_broken = Row {
-        taken: None,
-        ..resumed.broken()
-    };
-    let (tear, first) = match cut {
-        Cut::Wire => (Tear::Nothing, resumed.cut_off(length / 2)),
-        Cut::Disk(tear) => (tear, is_broken),
-    };
-    let story = Story {
-        study,
-        fail_at,
-        tear,
-        rows: [Some(first), Some(resumed), None],
-    };
-    first_wrong(rt, alloc, story)
+    let rows = [cut_half_way(study, tear.is_some()), whole_by_three(study)];
+    all_go_so(rt, alloc, (fail_at, tear.unwrap_or(Tear::Nothing)), &rows)
 }
 
-/// Whether a study is resumed, whatever cuts it off.
-fn is_resumed<R: Threads + Wait + Sync>(rt: &R, alloc: Global, study: Study) -> Result<bool, Fail> {
-    Ok(
-        wrong_after_cut(rt, alloc, study, Cut::Wire)?.is_none()
-            && wrong_after_cut(rt, alloc, study, Cut::Disk(Tear::Nothing))?.is_none()
-            && wrong_after_cut(rt, alloc, study, Cut::Disk(Tear::Everything))?.is_none(),
-    )
+/// A run of a study by three workers, with nothing that fails.
+fn whole_by_three(study: Study) -> Row {
+    Row {
+        study,
+        workers: 3,
+        wanted: Wanted::Table(study.table_len()),
+        ..WHOLE
+    }
+}
+
+/// One that is cut off half-way, by its disk or by its wire.
+fn cut_half_way(study: Study, is_armed: bool) -> Row {
+    let half = study.table_len() / 2;
+    if is_armed {
+        return Row {
+            is_armed,
+            wanted: Wanted::Broken,
+            ..whole_by_three(study)
+        };
+    }
+    let sent = half as u64;
+    Row {
+        room: half,
+        wanted: Wanted::Fault(RunFault::Write(WriteFault { sent }), half),
+        ..whole_by_three(study)
+    }
 }
 
 #[test]
 fn tables_that_were_cut_off_half_way_are_resumed(rt: HostRuntime) -> Result<(), Fail> {
-    for study in studies() {
-        assert!(rt; is_resumed(&rt, rt.alloc(), study)?, "{}", study.plan);
+    for (number, study) in studies().iter().enumerate() {
+        for tear in [None, Some(Tear::Nothing), Some(Tear::Everything)] {
+            assert!(rt; is_resumed(&rt, rt.alloc(), *study, tear)?, "{number}");
+        }
     }
     Ok(())
 }

@@ -10,7 +10,7 @@ use cut_plan::PlanFault;
 use cut_study::{Done, RunFault, StudyRun};
 use cut_trial::Piece;
 use cut_wires::{FaultyWire, WriteFault};
-use std::alloc::Global;
+use std::alloc::{AllocError, Global};
 use std::sync::Wait;
 use std::sync::atomic::{AtomicU64, Ordering};
 use std::test::Fail;
@@ -56,18 +56,6 @@ pub(crate) struct Counts {
     pub accepted: u64,
     pub calls: u64,
     pub complete: bool,
-}
-
-impl Counts {
-    /// Those of a run whose study is complete.
-    const fn whole(sent: u64, accepted: u64, calls: u64) -> Counts {
-        Counts {
-            sent,
-            accepted,
-            calls,
-            complete: true,
-        }
-    }
 }
 
 /// How a run ended: with these counts, or a fault; and how many bytes its wire took, if they are the first ones of the
@@ -119,33 +107,54 @@ where
     })
 }
 
-/// How a run ends that is whole, and whose table has as many bytes as were sent.
-fn whole(counts: Counts) -> Ended {
+/// How a run ends whose study is complete, and whose table has as many bytes as were sent.
+fn whole(sent: u64, accepted: u64, calls: u64) -> Ended {
     Ended {
-        report: Ok(counts),
-        taken: Some(counts.sent as usize),
+        report: Ok(Counts {
+            sent,
+            accepted,
+            calls,
+            complete: true,
+        }),
+        taken: Some(sent as usize),
     }
+}
+
+/// A study, how many trials a piece has, by how many workers it is run at least and at most, and how many bytes, trials
+/// and calls are reported.
+type Crew = (Study, u32, u32, u32, [u64; 3]);
+
+const CREWS: &[Crew] = &[
+    (TWO_TRIALS, 1, 1, 4, [98, 2, 3]),
+    (TWO_TRIALS, 2, 1, 4, [98, 2, 2]),
+    (THOUSAND_TRIALS, 10, 2, 2, [113, 1000, 101]),
+    (THOUSAND_TRIALS, 1, 2, 2, [113, 1000, 1001]),
+];
+
+/// Whether a study is run so by each number of workers.
+fn all_write_the_table<R>(rt: &R, alloc: Global, crew: &Crew) -> Result<bool, PlanFault>
+where
+    R: Threads + Wait + Sync,
+{
+    let (study, piece_size, least, most, [sent, accepted, calls]) = *crew;
+    for workers in least..=most {
+        let order = Order {
+            study,
+            piece_size,
+            workers,
+            room: 1000,
+        };
+        if run_alone(rt, alloc, order, &OpenGate)? != whole(sent, accepted, calls) {
+            return Ok(false);
+        }
+    }
+    Ok(true)
 }
 
 #[test]
 fn any_number_of_workers_writes_the_table(rt: HostRuntime) -> Result<(), Fail> {
-    let rows = [
-        (TWO_TRIALS, 1, 1..5u32, Counts::whole(98, 2, 3)),
-        (TWO_TRIALS, 2, 1..5u32, Counts::whole(98, 2, 2)),
-        (THOUSAND_TRIALS, 10, 2..3u32, Counts::whole(113, 1000, 101)),
-        (THOUSAND_TRIALS, 1, 2..3u32, Counts::whole(113, 1000, 1001)),
-    ];
-    for (study, piece_size, crews, counts) in rows {
-        for workers in crews {
-            let order = Order {
-                study,
-                piece_size,
-                workers,
-                ..BY_TWO
-            };
-            let ended = run_alone(&rt, rt.alloc(), order, &OpenGate)?;
-            assert!(rt; ended == whole(counts), "{workers} by {piece_size}");
-        }
+    for crew in CREWS {
+        assert!(rt; all_write_the_table(&rt, rt.alloc(), crew)?, "{}", crew.1);
     }
     Ok(())
 }
@@ -155,24 +164,33 @@ fn a_wire_takes_the_bytes_that_are_reported(rt: HostRuntime) -> Result<(), Fail>
     for room in 0..98usize {
         let ended = run_alone(&rt, rt.alloc(), Order { room, ..BY_TWO }, &OpenGate)?;
         let fault = WriteFault { sent: room as u64 };
-        assert!(rt; ended.report == Err(RunFault::Write(fault)));
-        assert!(rt; ended.taken == Some(room));
+        assert!(rt; ended.report == Err(RunFault::Write(fault)) && ended.taken == Some(room));
     }
     let ended = run_alone(&rt, rt.alloc(), Order { room: 98, ..BY_TWO }, &OpenGate)?;
-    assert!(rt; ended == whole(Counts::whole(98, 2, 3)));
+    assert!(rt; ended == whole(98, 2, 3));
     Ok(())
+}
+
+/// Faults, each with its text.
+const TEXTS: &[(RunFault, &str)] = &[
+    (RunFault::BadSlip(2), "17 BadSlip 2"),
+    (RunFault::Checkpoint, "30 Checkpoint"),
+    (RunFault::Write(WriteFault { sent: 80 }), "31 Write 80"),
+];
+
+/// Whether each fault is printed as its text.
+fn are_printed(alloc: Global) -> Result<bool, AllocError> {
+    for (fault, text) in TEXTS {
+        if fault.to_string(alloc)?.as_str() != *text {
+            return Ok(false);
+        }
+    }
+    Ok(true)
 }
 
 #[test]
 fn faults_of_runs_are_printed(rt: HostRuntime) -> Result<(), Fail> {
-    let rows = [
-        (RunFault::BadSlip(2), "17 BadSlip 2"),
-        (RunFault::Checkpoint, "30 Checkpoint"),
-        (RunFault::Write(WriteFault { sent: 80 }), "31 Write 80"),
-    ];
-    for (fault, text) in rows {
-        assert!(rt; fault.to_string(rt.alloc())?.as_str() == text);
-    }
+    assert!(rt; are_printed(rt.alloc())?);
     Ok(())
 }
 
@@ -258,9 +276,7 @@ fn all_workers_are_in_work_at_once(rt: HostRuntime) -> Result<(), Fail> {
         workers: 3,
         ..BY_TWO
     };
-    let two = whole(Counts::whole(98, 2, 3));
-    let three = whole(Counts::whole(100, 3, 4));
-    assert!(rt; all_meet(&rt, rt.alloc(), BY_TWO)? == (two, 2, 0));
-    assert!(rt; all_meet(&rt, rt.alloc(), by_three)? == (three, 3, 0));
+    assert!(rt; all_meet(&rt, rt.alloc(), BY_TWO)? == (whole(98, 2, 3), 2, 0));
+    assert!(rt; all_meet(&rt, rt.alloc(), by_three)? == (whole(100, 3, 4), 3, 0));
     Ok(())
 }

@@ -3,8 +3,9 @@ ghost use Rattle.std.specs.Prelude.{◌≡◌, ◌<◌, ◌≤◌, All};
 ghost use Rattle.atomic_table.specs.Seated.{TableId};
 
 use crate::deeds::{Brittle, Deed, End, Guest, Stormy, closed, put_back};
-use crate::studies::{Study, long_studies};
+use crate::studies::{Study, long_study};
 use cut_hall::{CallLedger, Hall, OpenGate, Pass, Report};
+use cut_plan::PlanFault;
 use rand_chacha::ChaCha8Rng;
 use rand_core::SeedableRng;
 use rand_core::utils::NextWord;
@@ -61,7 +62,7 @@ fn drawn_storm(number: u32) -> Storm
 
 /// A deed that is drawn, for one of the long studies that is drawn.
 fn drawn_deed(words: &mut ChaCha8Rng, storm: Storm) -> (Study, Deed) {
-    let study = long_studies()[(words.next_word() % 4) as usize];
+    let study = long_study(words.next_word());
     let cell = words.next_word() % 3;
     let deed = match words.next_word() % 20 {
         0..=5 if storm.has_worker => Deed::Wait(cell),
@@ -83,8 +84,8 @@ fn work_off_all<M: CallLedger, K: CallLedger, R: Wait>(
     requires { pass.old.hall ≡ guest.now.hall.now.id }
     ensures { pass.new.hall ≡ pass.old.hall }
 {
-    for study in long_studies() {
-        guest.act(pass, &shelf, study, Deed::WorkOff);
+    for number in 0..4 {
+        guest.act(pass, &shelf, long_study(number), Deed::WorkOff);
     }
 }
 
@@ -235,6 +236,26 @@ where
     join_mut(rt, &mut play, keep);
 }
 
+impl<M: CallLedger, K: CallLedger, R: Wait> Guest<'_, M, K, R> {
+    /// The slot that has a study, and the trials of the study, if it has one.
+    fn slot_of(
+        &self,
+        pass: &mut Pass<M>,
+        shelf: Brittle,
+        study: Study,
+    ) -> Result<Option<(u32, u64)>, PlanFault>
+        requires { pass.old.hall ≡ self.now.hall.now.id }
+        ensures { pass.new.hall ≡ pass.old.hall }
+    {
+        let plan = study.read_plan(self.alloc)?;
+        let trials = u64::from(plan.trials());
+        match self.hall.submit(self.rt, self.alloc, pass, plan, &shelf) {
+            Ok(opened) => Ok(Some((opened.study, trials))),
+            Err(_) => Ok(None),
+        }
+    }
+}
+
 /// The slots that have the four studies, each with the trials of its study.
 fn slots_of<M: CallLedger, K: CallLedger, R: Wait>(
     rt: &R,
@@ -246,12 +267,11 @@ fn slots_of<M: CallLedger, K: CallLedger, R: Wait>(
     requires { pass.old.hall ≡ hall.now.id }
     ensures { pass.new.hall ≡ pass.old.hall }
 {
+    let guest = Guest { rt, alloc, hall };
     let mut slots = Vec::new(alloc);
-    for study in long_studies() {
-        let plan = study.read_plan(alloc)?;
-        let trials = u64::from(plan.trials());
-        if let Ok(opened) = hall.submit(rt, alloc, pass, plan, &shelf) {
-            slots.push((opened.study, trials))?;
+    for number in 0..4 {
+        if let Some(slot) = guest.slot_of(pass, shelf, long_study(number))? {
+            slots.push(slot)?;
         }
     }
     Ok(slots)

@@ -16,7 +16,7 @@ use std::thread::{Threads, join_mut};
 use std::time::{Clock, Duration};
 
 /// Why the second line can't come.
-#[derive(Clone, Copy, Debug)]
+#[derive(Clone, Copy)]
 enum Cause {
     /// Its only piece is given up.
     Loss,
@@ -28,7 +28,7 @@ enum Cause {
 
 /// What keeps the second line from coming, after a pause of this many milliseconds; and where the study's disk comes
 /// from.
-#[derive(Clone, Copy, Debug)]
+#[derive(Clone, Copy)]
 struct Hindrance {
     cause: Cause,
     pause: u64,
@@ -189,15 +189,35 @@ fn first_line<M: CallLedger, K: CallLedger, R: Wait>(
     guest.act(pass, &shelf, TWO_CELLS, Deed::Row(0))
 }
 
-/// How it ends to wait for the second line in a new hall of one slot, and to keep it from coming. The first line comes
-/// before and after.
+/// How it ends to wait for the second line, and to keep it from coming, if the first line comes before and after.
+fn woken_between<M, K, R>(
+    guest: &Guest<'_, M, K, R>,
+    waiter: &mut Pass<M>,
+    other: &mut Pass<M>,
+    hindrance: Hindrance,
+) -> Option<(End, End)>
+where
+    M: CallLedger + Send + Sync,
+    K: CallLedger + Send + Sync,
+    R: Threads + Wait + Abort + Clock + Sync,
+    requires waiter { waiter.old.hall ≡ guest.now.hall.now.id }
+    requires other { other.old.hall ≡ guest.now.hall.now.id }
+{
+    let (rt, alloc, hall) = (guest.rt, guest.alloc, guest.hall);
+    let before = first_line(rt, alloc, hall, other, hindrance.shelf);
+    let ends = woken(rt, alloc, hall, waiter, other, hindrance);
+    let after = first_line(rt, alloc, hall, other, hindrance.shelf);
+    (before == End::Line && after == End::Line).then_some(ends)
+}
+
+/// The same in a new hall of one slot.
 fn woken_in<M, K, R>(
     rt: &R,
     alloc: Global,
     hindrance: Hindrance,
     made: Blank,
     kept: Blank,
-) -> Result<(End, End), Fail>
+) -> Result<Option<(End, End)>, Fail>
 where
     M: CallLedger + Send + Sync,
     K: CallLedger + Send + Sync,
@@ -212,11 +232,12 @@ where
     let Some(mut other) = passes.pop() else {
         unreachable!()
     };
-    let before = first_line(rt, alloc, &hall, &mut other, hindrance.shelf);
-    let ends = woken(rt, alloc, &hall, &mut waiter, &mut other, hindrance);
-    let after = first_line(rt, alloc, &hall, &mut other, hindrance.shelf);
-    assert!(rt; before == End::Line && after == End::Line);
-    Ok(ends)
+    let guest = Guest {
+        rt,
+        alloc,
+        hall: &hall,
+    };
+    Ok(woken_between(&guest, &mut waiter, &mut other, hindrance))
 }
 
 #[test]
@@ -238,7 +259,7 @@ fn who_waits_for_a_line_learns_why_it_does_not_come(rt: HostRuntime) -> Result<(
             };
             let (made, kept) = (Blank::new(2), Blank::new(1));
             let ends = woken_in::<Brand, Brand, _>(&rt, alloc, hindrance, made, kept)?;
-            assert!(rt; ends == wanted, "{hindrance:?}");
+            assert!(rt; ends == Some(wanted), "{fail_at} {pause}");
         }
     }
     Ok(())

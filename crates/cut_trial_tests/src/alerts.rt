@@ -1,8 +1,8 @@
 ghost use Rattle.std.specs.Prelude.{◌≡◌};
 ghost use Rattle.cut_plan.specs.Cells.{IsCellOf};
 
-use crate::texts::{edge_of, four, numbers, rings_of_text};
-use cut_alerts::{Roles, RolesFault, alerts, alerts_into, is_alert};
+use crate::texts::{are_written, four, numbers, rings_of_text};
+use cut_alerts::{Roles, RolesFault, alerts};
 use cut_draws::{Draws, ProcessOrder};
 use cut_plan::{Cell, Dead, Faults, Plan};
 use cut_rings::{Edge, Rings};
@@ -10,9 +10,6 @@ use std::alloc::{AllocError, Global};
 use std::test::Fail;
 
 mod vectors;
-
-// Targets, liars and cut links.
-type Lists<'a> = (&'a [u16], &'a [u16], &'a [(u16, u16)]);
 
 // The link that is written as its two ends with a point between them.
 fn link_of(word: &str) -> (u16, u16) {
@@ -57,16 +54,6 @@ fn roles_of(
     let liars = numbers(alloc, liars)?;
     let links = links_of(alloc, links)?;
     Roles::given(alloc, nodes, &targets, &liars, &links, faults, dead)
-}
-
-// Whether edges are those of a text.
-fn are_written(edges: &[Edge], text: &str) -> bool {
-    for (edge, word) in edges.iter().zip(text.split_whitespace()) {
-        if *edge != edge_of(word) {
-            return false;
-        }
-    }
-    edges.len() == text.split_whitespace().count()
 }
 
 // Whether the edges that roles alert on all rings are those of a text.
@@ -139,12 +126,6 @@ fn alerts_of_crashed_and_deaf_targets(rt: HostRuntime) -> Result<(), Fail> {
     Ok(())
 }
 
-// Whether no roles are given by these lists of four processes.
-fn is_refused(alloc: Global, (targets, liars, links): Lists) -> bool {
-    let given = Roles::given(alloc, 4, targets, liars, links, Faults::Crash, Dead::Silent);
-    matches!(given, Err(RolesFault::BadRole))
-}
-
 #[test]
 fn a_target_crashed_and_deaf_is_refused(rt: HostRuntime) -> Result<(), Fail> {
     let given = Roles::given_mixed(rt.alloc(), 4, &[1], &[1], &[], &[], Dead::Silent);
@@ -154,78 +135,25 @@ fn a_target_crashed_and_deaf_is_refused(rt: HostRuntime) -> Result<(), Fail> {
 }
 
 // Targets, liars and links that are no roles of four processes.
-const REFUSED: [Lists<'static>; 7] = [
-    (&[2], &[], &[(2, 1)]),
-    (&[], &[], &[(1, 1)]),
-    (&[4], &[], &[]),
-    (&[1], &[1], &[]),
-    (&[], &[], &[(0, 4)]),
-    (&[], &[], &[(4, 0)]),
-    (&[], &[3, 3], &[]),
-];
+const REFUSED: &str = "2; ; 2.1
+; ; 1.1
+4; ;
+1; 1;
+; ; 0.4
+; ; 4.0
+; 3 3;";
+
+// Whether no roles of four processes are given by the lists of a line.
+fn is_refused(alloc: Global, line: &str) -> bool {
+    let given = roles_of(alloc, 4, line, (Faults::Crash, Dead::Silent));
+    matches!(given, Err(RolesFault::BadRole))
+}
 
 #[test]
 fn roles_that_are_refused(rt: HostRuntime) {
-    for lists in REFUSED {
-        assert!(rt; is_refused(rt.alloc(), lists));
+    for line in REFUSED.lines() {
+        assert!(rt; is_refused(rt.alloc(), line), "{line}");
     }
-}
-
-// The roles of four processes, where these are the targets.
-fn crashed(alloc: Global, targets: &[u16]) -> Result<Roles, RolesFault> {
-    Roles::given(alloc, 4, targets, &[], &[], Faults::Crash, Dead::Silent)
-}
-
-// Whether a list is filled with the alerts about these targets on the first `k` rings.
-fn is_filled(
-    alloc: Global,
-    edges: &mut Vec<Edge>,
-    rings: &Rings,
-    (k, targets, wanted): (u8, &[u16], &str),
-) -> Result<bool, RolesFault> {
-    let roles = crashed(alloc, targets)?;
-    if roles.nodes() != rings.nodes() || k > rings.len() {
-        return Ok(false);
-    }
-    alerts_into(edges, rings, k, &roles)?;
-    Ok(are_written(edges, wanted))
-}
-
-// A list is filled with the alerts of three rings, of two and of no target, where it had others.
-#[test]
-fn a_list_is_filled_again(rt: HostRuntime) -> Result<(), Fail> {
-    let alloc = rt.alloc();
-    let rings = four(alloc)?;
-    let mut edges = Vec::new(alloc);
-    assert!(rt; is_filled(alloc, &mut edges, &rings, (3, &[1], "0.1 1.1 2.1"))?);
-    assert!(rt; is_filled(alloc, &mut edges, &rings, (2, &[1], "0.1 1.1"))?);
-    assert!(rt; is_filled(alloc, &mut edges, &rings, (3, &[], ""))?);
-    Ok(())
-}
-
-// Whether process 1 alone of these two is a target, and alone an edge to it alerts.
-fn is_only_target(rings: &Rings, roles: &Roles) -> bool {
-    if roles.nodes() != 4 || rings.nodes() != 4 || rings.len() != 3 {
-        return false;
-    }
-    let one = Edge {
-        ring: 0,
-        subject: 1,
-    };
-    let two = Edge {
-        ring: 0,
-        subject: 2,
-    };
-    let is_alerted = is_alert(rings, roles, one) && !is_alert(rings, roles, two);
-    is_alerted && roles.is_target(1) && !roles.is_target(0)
-}
-
-#[test]
-fn a_target_and_an_edge(rt: HostRuntime) -> Result<(), Fail> {
-    let rings = four(rt.alloc())?;
-    let roles = crashed(rt.alloc(), &[1])?;
-    assert!(rt; is_only_target(&rings, &roles));
-    Ok(())
 }
 
 // The roles of a cell, drawn and drawn once more.
@@ -270,23 +198,17 @@ fn are_drawn(alloc: Global, plan: &Plan, trial: u32, wanted: &Roles) -> Result<b
     Ok(are_same(&found, wanted))
 }
 
-// The roles that these lists give the processes of a plan.
-fn given(alloc: Global, plan: &Plan, (targets, liars, links): Lists) -> Result<Roles, RolesFault> {
+// The roles that the lists of a line give the processes of a plan.
+fn given(alloc: Global, plan: &Plan, line: &str) -> Result<Roles, RolesFault> {
     let faults = plan.faults().unwrap_or(Faults::Crash);
-    Roles::given(
-        alloc,
-        plan.nodes(),
-        targets,
-        liars,
-        links,
-        faults,
-        plan.dead(),
-    )
+    roles_of(alloc, plan.nodes(), line, (faults, plan.dead()))
 }
 
-// Whether the roles that a trial of a text's plan draws are those of these lists.
-fn is_drawn(alloc: Global, text: &str, trial: u32, lists: Lists) -> Result<bool, Fail> {
+// Whether the roles that a trial of a text's plan draws are those of the lists after the trial's number.
+fn is_drawn(alloc: Global, text: &str, row: &str) -> Result<bool, Fail> {
+    let (trial, line) = row.split_once(": ").unwrap_or((row, ""));
     let plan = Plan::from_json(alloc, text.as_bytes())?;
-    let wanted = given(alloc, &plan, lists)?;
+    let wanted = given(alloc, &plan, line)?;
+    let trial = trial.parse::<u32>().unwrap_or(0);
     Ok(are_drawn(alloc, &plan, trial, &wanted)?)
 }

@@ -2,7 +2,7 @@ ghost use Rattle.std.specs.Prelude.{◌≡◌, IsTrue};
 ghost use Rattle.cut_rings.specs.Edges.{are_edges_of};
 
 use crate::edges::all_within;
-use crate::texts::{edge_of, edges_of, four, rings_of_text};
+use crate::texts::{edges_of, four, rings_of_text};
 use cut_detector::{Detector, Proposal, Step, replay};
 use cut_rings::{Edge, Rings, RingsFault};
 use std::alloc::{AllocError, Global};
@@ -79,7 +79,7 @@ fn is_replayed(
 // How many rows stand below a list of deliveries, 0 where one is false.
 fn count_rows(alloc: Global, rings: &Rings, text: &str) -> Result<u32, AllocError> {
     let (list, rows) = text.split_once('\n').unwrap_or((text, ""));
-    let edges: Vec<Edge> = list.split(' ').map(|word| edge_of(word)).collect(alloc)?;
+    let edges = edges_of(alloc, list)?;
     let mut count = 0u32;
     for row in rows.split('\n') {
         let (rule, wanted) = row.split_once(": ").unwrap_or((row, ""));
@@ -118,14 +118,16 @@ fn proposes_as_computed_elsewhere(rt: HostRuntime) -> Result<(), Fail> {
     Ok(())
 }
 
-// The order of six alerts that has this number, of 720: for each place, which of those left stands there.
-fn ordered(mut pairs: [(u8, u16); 6], number: usize) -> [(u8, u16); 6] {
+// Puts six alerts into the order that has this number, of 720: for each place, which of those left stands there.
+fn reorder(edges: &mut [Edge], number: usize) {
     let mut rest = number;
     for place in 0..6 {
-        pairs.swap(place, place + rest % (6 - place));
+        let other = place + rest % (6 - place);
+        if other < edges.len() {
+            edges.swap(place, other);
+        }
         rest /= 6 - place;
     }
-    pairs
 }
 
 // Whether process 1 is proposed at a delivery, with implicit alerts and without.
@@ -135,10 +137,11 @@ fn are_both(alloc: Global, rings: &Rings, edges: &[Edge], at: usize) -> Result<b
     Ok(without && is_replayed(alloc, rings, edges, (3, 2, true), &wanted)?)
 }
 
-// Whether the last alert about process 1 in an order is the one that settles it.
-fn is_last(alloc: Global, rings: &Rings, order: [(u8, u16); 6]) -> Result<bool, AllocError> {
-    let last = order.iter().rposition(|&(_, subject)| subject == 1);
-    let edges = edges_of(alloc, &order)?;
+// Whether the last alert about process 1 in an order of these is the one that settles it.
+fn is_last(alloc: Global, rings: &Rings, text: &str, number: usize) -> Result<bool, AllocError> {
+    let mut edges = edges_of(alloc, text)?;
+    reorder(&mut edges, number);
+    let last = edges.iter().rposition(|edge| edge.subject == 1);
     are_both(alloc, rings, &edges, last.unwrap_or(0).saturating_add(1))
 }
 
@@ -147,38 +150,8 @@ fn is_last(alloc: Global, rings: &Rings, order: [(u8, u16); 6]) -> Result<bool, 
 #[test]
 fn no_order_matters_above_the_low_watermark(rt: HostRuntime) -> Result<(), Fail> {
     let rings = four(rt.alloc())?;
-    let pairs = [(0, 1), (1, 1), (2, 1), (0, 2), (1, 3), (2, 0)];
     for number in 0..720 {
-        assert!(rt; is_last(rt.alloc(), &rings, ordered(pairs, number))?);
+        assert!(rt; is_last(rt.alloc(), &rings, "0.1 1.1 2.1 0.2 1.3 2.0", number)?);
     }
-    Ok(())
-}
-
-// Whether a detector waits for the third ring, then stays as it is whatever comes, and when it is reset has no report.
-fn is_reset(
-    alloc: Global,
-    rings: &Rings,
-    settling: &[Edge],
-    lone: &[Edge],
-) -> Result<bool, AllocError> {
-    let nodes = rings.nodes();
-    if rings.len() < 3 || !all_within(3, nodes, settling) || !all_within(3, nodes, lone) {
-        return Ok(false);
-    }
-    let mut detector = Detector::new(alloc, rings, 3, 3, 1, false)?;
-    let is_settled = is_settled_from(3, &mut detector, settling) && detector.deliveries() == 3;
-    let is_proposed = is_reported(&detector.proposal(alloc)?, "1 at 3");
-    detector.reset();
-    let is_fresh = is_settled_from(u64::MAX, &mut detector, lone) && detector.deliveries() == 3;
-    let is_silent = detector.proposal(alloc)?.is_none();
-    Ok(is_settled && is_proposed && is_fresh && is_silent)
-}
-
-#[test]
-fn a_settled_detector_stays_until_it_is_reset(rt: HostRuntime) -> Result<(), Fail> {
-    let rings = four(rt.alloc())?;
-    let settling = edges_of(rt.alloc(), &[(0, 1), (1, 1), (2, 1), (0, 2)])?;
-    let lone = edges_of(rt.alloc(), &[(0, 1); 3])?;
-    assert!(rt; is_reset(rt.alloc(), &rings, &settling, &lone)?);
     Ok(())
 }

@@ -19,6 +19,8 @@ mod plans;
 #[cfg(test)]
 mod rings;
 #[cfg(test)]
+mod rows;
+#[cfg(test)]
 mod texts;
 #[cfg(test)]
 mod trials;

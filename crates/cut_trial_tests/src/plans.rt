@@ -8,13 +8,6 @@ use std::test::Fail;
 const PLAN: &str =
     r#"{"copies":1,"dead":"silent","f":[1],"faults":"crash","h":[1],"implicit":true,"k":[1],"l":[1],"liars":0,"links":0,"nodes":5,"repeats":2,"seed":"0000000000000000000000000000000000000000000000000000000000000000","version":1}"#;
 
-// One plan, in an order of its own, with spaces and a seed in letters of both cases, and its one text.
-const SHUFFLED: &str =
-    r#"{ "version": 1, "seed": "ABCDEFabcdef00000000000000000000000000000000000000000000000000ff", "repeats": 2, "nodes": 5, "links": 0, "liars": 0, "l": [1], "k": [ 1 ], "implicit": true, "h": [1], "faults": "crash", "f": [1], "dead": "silent", "copies": 1 }"#;
-
-const STRAIGHT: &str =
-    r#"{"copies":1,"dead":"silent","f":[1],"faults":"crash","h":[1],"implicit":true,"k":[1],"l":[1],"liars":0,"links":0,"nodes":5,"repeats":2,"seed":"abcdefabcdef00000000000000000000000000000000000000000000000000ff","version":1}"#;
-
 const LARGE: &str =
     r#"{"copies":3,"dead":"speak","f":[2,4,8,16],"faults":"deaf","h":[6,7,8,9],"implicit":false,"k":[10],"l":[1,2,3,4],"liars":7,"links":9,"nodes":1999,"repeats":777777,"seed":"00112233445566778899aabbccddeeff00112233445566778899aabbccddeeff","version":1}"#;
 
@@ -22,26 +15,43 @@ const LARGE: &str =
 const MIXED: &str =
     r#"{"copies":1,"dead":"silent","deaf":0,"f":[1],"h":[1],"implicit":true,"k":[1],"l":[1],"liars":0,"links":0,"nodes":5,"repeats":2,"seed":"0000000000000000000000000000000000000000000000000000000000000000","version":2}"#;
 
-// Two plans of the second version, each with its one text, that were written apart from this program.
+// Two plans of the second version that were written apart from this program.
 const SOME_DEAF: &str =
     r#"{"copies": 2, "dead": "silent", "implicit": true, "nodes": 10, "repeats": 1, "seed": "0Eb29Dacc23C9cfA69cfD97DcfcBaAEb3f0a2300e39B2f93cEB2a277b87AF294", "version": 2, "deaf": 1, "k": [3], "h": [1, 2, 3], "l": [1, 2, 3], "f": [3, 7], "liars": 1, "links": 1}"#;
-
-const SOME_DEAF_STRAIGHT: &str =
-    r#"{"copies":2,"dead":"silent","deaf":1,"f":[3,7],"h":[1,2,3],"implicit":true,"k":[3],"l":[1,2,3],"liars":1,"links":1,"nodes":10,"repeats":1,"seed":"0eb29dacc23c9cfa69cfd97dcfcbaaeb3f0a2300e39b2f93ceb2a277b87af294","version":2}"#;
 
 const MANY_DEAF: &str =
     r#"{"copies": 4, "dead": "silent", "implicit": true, "nodes": 12, "repeats": 1, "seed": "D2E440c4A09DFbabACF4DEB2852bF9ea39D1383ab0b9FcB47Ca9FAB25afC4627", "version": 2, "deaf": 2048, "k": [1], "h": [1], "l": [1], "f": [1, 7], "liars": 1, "links": 0}"#;
 
-const MANY_DEAF_STRAIGHT: &str =
-    r#"{"copies":4,"dead":"silent","deaf":2048,"f":[1,7],"h":[1],"implicit":true,"k":[1],"l":[1],"liars":1,"links":0,"nodes":12,"repeats":1,"seed":"d2e440c4a09dfbabacf4deb2852bf9ea39d1383ab0b9fcb47ca9fab25afc4627","version":2}"#;
+// As many cells as a plan has at most, for 16 numbers each of h, l and failed processes.
+const MOST: &str =
+    r#"{"copies":1,"dead":"silent","f":[0,1,2,3,4,5,6,7,8,9,10,11,12,13,14,15],"faults":"crash","h":[17,18,19,20,21,22,23,24,25,26,27,28,29,30,31,32],"implicit":true,"k":[32],"l":[1,2,3,4,5,6,7,8,9,10,11,12,13,14,15,16],"liars":0,"links":0,"nodes":2048,"repeats":2,"seed":"0000000000000000000000000000000000000000000000000000000000000000","version":1}"#;
 
-// The plan in letters of both cases in the second version: no target is deaf.
-const STRAIGHT_UPGRADED: &str =
-    r#"{"copies":1,"dead":"silent","deaf":0,"f":[1],"h":[1],"implicit":true,"k":[1],"l":[1],"liars":0,"links":0,"nodes":5,"repeats":2,"seed":"abcdefabcdef00000000000000000000000000000000000000000000000000ff","version":2}"#;
+// Plans in some order of their fields, with spaces and seeds in letters of both cases, and below each its one text, and
+// that in the second version: the number of deaf targets is 0 where they crash, and else the largest f.
+const TEXTS: &str =
+    r#"{"copies":1,"dead":"silent","f":[1],"faults":"crash","h":[1],"implicit":true,"k":[1],"l":[1],"liars":0,"links":0,"nodes":5,"repeats":2,"seed":"0000000000000000000000000000000000000000000000000000000000000000","version":1}
+{"copies":1,"dead":"silent","f":[1],"faults":"crash","h":[1],"implicit":true,"k":[1],"l":[1],"liars":0,"links":0,"nodes":5,"repeats":2,"seed":"0000000000000000000000000000000000000000000000000000000000000000","version":1}
+{"copies":1,"dead":"silent","deaf":0,"f":[1],"h":[1],"implicit":true,"k":[1],"l":[1],"liars":0,"links":0,"nodes":5,"repeats":2,"seed":"0000000000000000000000000000000000000000000000000000000000000000","version":2}
 
-// The large plan in the second version: its deaf targets are as many as the largest f.
-const LARGE_UPGRADED: &str =
-    r#"{"copies":3,"dead":"speak","deaf":16,"f":[2,4,8,16],"h":[6,7,8,9],"implicit":false,"k":[10],"l":[1,2,3,4],"liars":7,"links":9,"nodes":1999,"repeats":777777,"seed":"00112233445566778899aabbccddeeff00112233445566778899aabbccddeeff","version":2}"#;
+{ "version": 1, "seed": "ABCDEFabcdef00000000000000000000000000000000000000000000000000ff", "repeats": 2, "nodes": 5, "links": 0, "liars": 0, "l": [1], "k": [ 1 ], "implicit": true, "h": [1], "faults": "crash", "f": [1], "dead": "silent", "copies": 1 }
+{"copies":1,"dead":"silent","f":[1],"faults":"crash","h":[1],"implicit":true,"k":[1],"l":[1],"liars":0,"links":0,"nodes":5,"repeats":2,"seed":"abcdefabcdef00000000000000000000000000000000000000000000000000ff","version":1}
+{"copies":1,"dead":"silent","deaf":0,"f":[1],"h":[1],"implicit":true,"k":[1],"l":[1],"liars":0,"links":0,"nodes":5,"repeats":2,"seed":"abcdefabcdef00000000000000000000000000000000000000000000000000ff","version":2}
+
+{"copies":3,"dead":"speak","f":[2,4,8,16],"faults":"deaf","h":[6,7,8,9],"implicit":false,"k":[10],"l":[1,2,3,4],"liars":7,"links":9,"nodes":1999,"repeats":777777,"seed":"00112233445566778899aabbccddeeff00112233445566778899aabbccddeeff","version":1}
+{"copies":3,"dead":"speak","f":[2,4,8,16],"faults":"deaf","h":[6,7,8,9],"implicit":false,"k":[10],"l":[1,2,3,4],"liars":7,"links":9,"nodes":1999,"repeats":777777,"seed":"00112233445566778899aabbccddeeff00112233445566778899aabbccddeeff","version":1}
+{"copies":3,"dead":"speak","deaf":16,"f":[2,4,8,16],"h":[6,7,8,9],"implicit":false,"k":[10],"l":[1,2,3,4],"liars":7,"links":9,"nodes":1999,"repeats":777777,"seed":"00112233445566778899aabbccddeeff00112233445566778899aabbccddeeff","version":2}
+
+{"copies":1,"dead":"silent","deaf":0,"f":[1],"h":[1],"implicit":true,"k":[1],"l":[1],"liars":0,"links":0,"nodes":5,"repeats":2,"seed":"0000000000000000000000000000000000000000000000000000000000000000","version":2}
+{"copies":1,"dead":"silent","deaf":0,"f":[1],"h":[1],"implicit":true,"k":[1],"l":[1],"liars":0,"links":0,"nodes":5,"repeats":2,"seed":"0000000000000000000000000000000000000000000000000000000000000000","version":2}
+{"copies":1,"dead":"silent","deaf":0,"f":[1],"h":[1],"implicit":true,"k":[1],"l":[1],"liars":0,"links":0,"nodes":5,"repeats":2,"seed":"0000000000000000000000000000000000000000000000000000000000000000","version":2}
+
+{"copies": 2, "dead": "silent", "implicit": true, "nodes": 10, "repeats": 1, "seed": "0Eb29Dacc23C9cfA69cfD97DcfcBaAEb3f0a2300e39B2f93cEB2a277b87AF294", "version": 2, "deaf": 1, "k": [3], "h": [1, 2, 3], "l": [1, 2, 3], "f": [3, 7], "liars": 1, "links": 1}
+{"copies":2,"dead":"silent","deaf":1,"f":[3,7],"h":[1,2,3],"implicit":true,"k":[3],"l":[1,2,3],"liars":1,"links":1,"nodes":10,"repeats":1,"seed":"0eb29dacc23c9cfa69cfd97dcfcbaaeb3f0a2300e39b2f93ceb2a277b87af294","version":2}
+{"copies":2,"dead":"silent","deaf":1,"f":[3,7],"h":[1,2,3],"implicit":true,"k":[3],"l":[1,2,3],"liars":1,"links":1,"nodes":10,"repeats":1,"seed":"0eb29dacc23c9cfa69cfd97dcfcbaaeb3f0a2300e39b2f93ceb2a277b87af294","version":2}
+
+{"copies": 4, "dead": "silent", "implicit": true, "nodes": 12, "repeats": 1, "seed": "D2E440c4A09DFbabACF4DEB2852bF9ea39D1383ab0b9FcB47Ca9FAB25afC4627", "version": 2, "deaf": 2048, "k": [1], "h": [1], "l": [1], "f": [1, 7], "liars": 1, "links": 0}
+{"copies":4,"dead":"silent","deaf":2048,"f":[1,7],"h":[1],"implicit":true,"k":[1],"l":[1],"liars":1,"links":0,"nodes":12,"repeats":1,"seed":"d2e440c4a09dfbabacf4deb2852bf9ea39d1383ab0b9fcb47ca9fab25afc4627","version":2}
+{"copies":4,"dead":"silent","deaf":2048,"f":[1,7],"h":[1],"implicit":true,"k":[1],"l":[1],"liars":1,"links":0,"nodes":12,"repeats":1,"seed":"d2e440c4a09dfbabacf4deb2852bf9ea39d1383ab0b9fcb47ca9fab25afc4627","version":2}"#;
 
 // Edits of the first plan: the fault of the edited text, what is taken out, and what comes there.
 const EDITS: &str = r#"3 UnknownField|"version":1|"version":1,"x":0
@@ -67,6 +77,11 @@ const MIXED_EDITS: &str = r#"accepted|"x"|
 4 MissingField deaf|"deaf":0,|
 accepted|"deaf":0|"deaf":2048
 6 OutOfRange deaf|"deaf":0|"deaf":2049"#;
+
+// Edits of the plan of most cells: too many faults are reported before too many trials.
+const MOST_EDITS: &str = r#"accepted|x|
+10 TooManyTrials|16]|16,17]
+9 TooManyFaults|16],"liars":0|16,17],"liars":2048"#;
 
 // The fault of a text, as it is printed.
 fn fault_text(alloc: Global, text: &[u8]) -> Result<String, AllocError> {
@@ -94,8 +109,16 @@ fn count_judged(alloc: Global, texts: &str) -> Result<u32, AllocError> {
     Ok(rows)
 }
 
+// Texts that are no objects, each below its fault.
+const NO_OBJECTS: &str = "1 NotJson
+
+---
+2 NotObject
+[]";
+
 #[test]
 fn refuses_texts_that_were_judged_elsewhere(rt: HostRuntime) -> Result<(), Fail> {
+    assert!(rt; count_judged(rt.alloc(), NO_OBJECTS)? == 2);
     assert!(rt; count_judged(rt.alloc(), fields::texts())? == 62);
     assert!(rt; count_judged(rt.alloc(), values::texts())? == 70);
     Ok(())
@@ -126,74 +149,13 @@ fn count_edits(alloc: Global, text: &str, rows: &str) -> Result<u32, AllocError>
 fn refuses_by_the_first_fault(rt: HostRuntime) -> Result<(), Fail> {
     assert!(rt; count_edits(rt.alloc(), PLAN, EDITS)? == 16);
     assert!(rt; count_edits(rt.alloc(), MIXED, MIXED_EDITS)? == 4);
+    assert!(rt; count_edits(rt.alloc(), MOST, MOST_EDITS)? == 3);
     Ok(())
 }
 
-#[test]
-fn refuses_what_is_no_object(rt: HostRuntime) -> Result<(), Fail> {
-    assert!(rt; is_reported(rt.alloc(), b"", "1 NotJson")?);
-    assert!(rt; is_reported(rt.alloc(), b"\xff\xfe", "1 NotJson")?);
-    assert!(rt; is_reported(rt.alloc(), b"[]", "2 NotObject")?);
-    assert!(rt; is_reported(rt.alloc(), PLAN.as_bytes(), "accepted")?);
-    Ok(())
-}
-
-// Every f that a plan of 2048 processes may have.
-fn every_f(alloc: Global) -> Result<String, AllocError> {
-    let mut every = String::from_str(alloc, r#""f":[0"#)?;
-    for f in 1..2048u16 {
-        every.push_str(format!(in alloc; ",{f}")?.as_str())?;
-    }
-    every.push_str("]")?;
-    Ok(every)
-}
-
-// A plan of 2048 processes with every f, and these k, h and liars.
-fn wide(alloc: Global, k: &str, h: &str, liars: &str) -> Result<String, AllocError> {
-    let every = every_f(alloc)?;
-    format!(in alloc;
-        r#"{{"copies":1,"dead":"silent",{every},"faults":"crash","h":{h},"implicit":true,"k":{k},"l":[1],"liars":{liars},"links":0,"nodes":2048,"repeats":2,"seed":"0000000000000000000000000000000000000000000000000000000000000000","version":1}}"#
-    )
-}
-
-// Whether a plan of too many trials with this number of liars has this fault.
-fn is_too_wide(alloc: Global, liars: &str, fault: &str) -> Result<bool, AllocError> {
-    let text = wide(alloc, "[3]", "[1,2,3]", liars)?;
-    is_reported(alloc, text.as_bytes(), fault)
-}
-
-// Too many faults are reported before too many trials.
-#[test]
-fn checks_limits_in_order(rt: HostRuntime) -> Result<(), Fail> {
-    assert!(rt; is_too_wide(rt.alloc(), "0", "10 TooManyTrials")?);
-    assert!(rt; is_too_wide(rt.alloc(), "2048", "9 TooManyFaults")?);
-    Ok(())
-}
-
-// Whether as many blanks have this fault.
-fn are_refused(alloc: Global, blanks: usize, fault: &str) -> Result<bool, AllocError> {
-    is_reported(alloc, &vec![in alloc; b' '; blanks]?, fault)
-}
-
-#[test]
-fn refuses_a_long_text(rt: HostRuntime) -> Result<(), Fail> {
-    assert!(rt; are_refused(rt.alloc(), 65_536, "1 NotJson")?);
-    assert!(rt; are_refused(rt.alloc(), 65_537, "19 PlanTooLong")?);
-    Ok(())
-}
-
-// How many cells and trials the plan of a text has.
-fn sizes(alloc: Global, text: &str) -> Result<(u32, u32), PlanFault> {
-    let plan = Plan::from_json(alloc, text.as_bytes())?;
-    Ok((plan.cells(), plan.trials()))
-}
-
-#[test]
-fn counts_cells(rt: HostRuntime) -> Result<(), Fail> {
-    assert!(rt; sizes(rt.alloc(), LARGE)? == (64, 49_777_728));
-    let most = wide(rt.alloc(), "[2]", "[1,2]", "0")?;
-    assert!(rt; sizes(rt.alloc(), &most)? == (4096, 8192));
-    Ok(())
+// How many cells and trials a plan has.
+fn sizes(plan: &Plan) -> (u32, u32) {
+    (plan.cells(), plan.trials())
 }
 
 // Copies, liars, links, processes, repeats, two bytes of the seed, and the number of the version.
@@ -232,72 +194,14 @@ fn has_many_deaf(plan: &Plan) -> bool {
     has_numbers && has_words && has_lists && plan.implicit() && plan.deaf() == Some(2048)
 }
 
-#[test]
-fn says_what_it_read(rt: HostRuntime) -> Result<(), Fail> {
-    assert!(rt; is_large(&Plan::from_json(rt.alloc(), LARGE.as_bytes())?));
-    assert!(rt; has_many_deaf(&Plan::from_json(rt.alloc(), MANY_DEAF.as_bytes())?));
-    Ok(())
-}
-
 // How many of no, one and seven targets of a plan are deaf, and of sixteen.
-fn deaf_counts(alloc: Global, text: &str) -> Result<[u16; 4], PlanFault> {
-    let plan = Plan::from_json(alloc, text.as_bytes())?;
-    Ok([
+fn deaf_counts(plan: &Plan) -> [u16; 4] {
+    [
         plan.deaf_of(0),
         plan.deaf_of(1),
         plan.deaf_of(7),
         plan.deaf_of(16),
-    ])
-}
-
-#[test]
-fn counts_deaf_targets(rt: HostRuntime) -> Result<(), Fail> {
-    for (text, wanted) in [
-        (PLAN, [0, 0, 0, 0]),
-        (LARGE, [0, 1, 7, 16]),
-        (MIXED, [0, 0, 0, 0]),
-        (SOME_DEAF, [0, 1, 1, 1]),
-        (MANY_DEAF, [0, 1, 7, 16]),
-    ] {
-        assert!(rt; deaf_counts(rt.alloc(), text)? == wanted);
-    }
-    Ok(())
-}
-
-// Whether a plan is written as this text.
-fn is_written(alloc: Global, plan: &Plan, text: &str) -> Result<bool, AllocError> {
-    Ok(plan.canonical(alloc)?.as_slice() == text.as_bytes())
-}
-
-// Whether a plan's upgrade is written as this text.
-fn is_upgraded(alloc: Global, plan: &Plan, text: &str) -> Result<bool, AllocError> {
-    is_written(alloc, &plan.upgrade(alloc)?, text)
-}
-
-// Whether the plan of a text is written as the second, and as the third in the second version.
-fn are_written(alloc: Global, [text, one, two]: [&str; 3]) -> Result<bool, PlanFault> {
-    let plan = Plan::from_json(alloc, text.as_bytes())?;
-    let is_written = is_written(alloc, &plan, one)?;
-    Ok(is_written && is_upgraded(alloc, &plan, two)?)
-}
-
-// Texts of plans, and what each is written as, and in the second version.
-const TEXTS: [[&str; 3]; 6] = [
-    [PLAN, PLAN, MIXED],
-    [SHUFFLED, STRAIGHT, STRAIGHT_UPGRADED],
-    [LARGE, LARGE, LARGE_UPGRADED],
-    [MIXED, MIXED, MIXED],
-    [SOME_DEAF, SOME_DEAF_STRAIGHT, SOME_DEAF_STRAIGHT],
-    [MANY_DEAF, MANY_DEAF_STRAIGHT, MANY_DEAF_STRAIGHT],
-];
-
-#[test]
-fn writes_one_text_for_each_version(rt: HostRuntime) -> Result<(), Fail> {
-    assert!(rt; (PLAN.len(), MIXED.len()) == (221, 213));
-    for texts in TEXTS {
-        assert!(rt; are_written(rt.alloc(), texts)?);
-    }
-    Ok(())
+    ]
 }
 
 // The k, h, l and f of the cell of a number, where a plan has one.
@@ -346,29 +250,58 @@ fn has_cells(plan: &Plan) -> bool {
 }
 
 #[test]
-fn lists_cells_in_order(rt: HostRuntime) -> Result<(), Fail> {
-    assert!(rt; has_cells(&Plan::from_json(rt.alloc(), LARGE.as_bytes())?));
+fn says_what_it_read(rt: HostRuntime) -> Result<(), Fail> {
+    let plan = Plan::from_json(rt.alloc(), LARGE.as_bytes())?;
+    assert!(rt; is_large(&plan) && has_cells(&plan) && sizes(&plan) == (64, 49_777_728));
+    assert!(rt; deaf_counts(&plan) == [0, 1, 7, 16]);
     Ok(())
 }
 
-// Whether the plans of two texts are the same.
-fn are_same(alloc: Global, one: &str, other: &str) -> Result<bool, PlanFault> {
-    let plan = Plan::from_json(alloc, one.as_bytes())?;
-    Ok(plan.same(&Plan::from_json(alloc, other.as_bytes())?))
-}
-
-// Whether the copy of a text's plan is the same as the plan.
-fn is_copied(alloc: Global, text: &str) -> Result<bool, PlanFault> {
-    let plan = Plan::from_json(alloc, text.as_bytes())?;
-    Ok(plan.try_clone(alloc)?.same(&plan))
+#[test]
+fn says_how_many_are_deaf(rt: HostRuntime) -> Result<(), Fail> {
+    let plan = Plan::from_json(rt.alloc(), MANY_DEAF.as_bytes())?;
+    assert!(rt; has_many_deaf(&plan) && deaf_counts(&plan) == [0, 1, 7, 16]);
+    let plan = Plan::from_json(rt.alloc(), SOME_DEAF.as_bytes())?;
+    assert!(rt; deaf_counts(&plan) == [0, 1, 1, 1]);
+    Ok(())
 }
 
 #[test]
-fn compares_and_copies(rt: HostRuntime) -> Result<(), Fail> {
-    assert!(rt; are_same(rt.alloc(), SHUFFLED, STRAIGHT)?);
-    assert!(rt; !are_same(rt.alloc(), PLAN, STRAIGHT)?);
-    assert!(rt; !are_same(rt.alloc(), MIXED, PLAN)?);
-    assert!(rt; is_copied(rt.alloc(), PLAN)? && is_copied(rt.alloc(), MIXED)?);
+fn has_as_many_cells_as_there_may_be(rt: HostRuntime) -> Result<(), Fail> {
+    let plan = Plan::from_json(rt.alloc(), MOST.as_bytes())?;
+    assert!(rt; sizes(&plan) == (4096, 8192));
+    Ok(())
+}
+
+// Whether a plan is written as this text.
+fn is_written(alloc: Global, plan: &Plan, text: &str) -> Result<bool, AllocError> {
+    Ok(plan.canonical(alloc)?.as_slice() == text.as_bytes())
+}
+
+// Whether a plan's upgrade is written as this text, and is the same where the plan is written so too.
+fn is_upgraded(alloc: Global, plan: &Plan, one: &str, two: &str) -> Result<bool, AllocError> {
+    let upgraded = plan.upgrade(alloc)?;
+    Ok(is_written(alloc, &upgraded, two)? && upgraded.same(plan) == (one == two))
+}
+
+// Whether a plan is written as the first of two texts, and as the second in the second version.
+fn are_written(alloc: Global, plan: &Plan, texts: &str) -> Result<bool, AllocError> {
+    let (one, two) = texts.split_once('\n').unwrap_or((texts, ""));
+    Ok(is_written(alloc, plan, one)? && is_upgraded(alloc, plan, one, two)?)
+}
+
+// Whether the copy of the plan that a row begins with is written as the row's other texts.
+fn is_row(alloc: Global, row: &str) -> Result<bool, PlanFault> {
+    let (text, texts) = row.split_once('\n').unwrap_or((row, ""));
+    let plan = Plan::from_json(alloc, text.as_bytes())?.try_clone(alloc)?;
+    Ok(are_written(alloc, &plan, texts)?)
+}
+
+#[test]
+fn writes_one_text_for_each_version(rt: HostRuntime) -> Result<(), Fail> {
+    for row in TEXTS.split("\n\n") {
+        assert!(rt; is_row(rt.alloc(), row)?, "{row}");
+    }
     Ok(())
 }
 

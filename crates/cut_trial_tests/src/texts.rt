@@ -61,20 +61,19 @@ pub(crate) fn four(alloc: Global) -> Result<Rings, RingsFault> {
     rings_of_text(alloc, "0 1 2 3, 0 2 1 3, 0 3 2 1")
 }
 
-/// The edges of these pairs of ring and subject.
-pub(crate) fn edges_of(alloc: Global, pairs: &[(u8, u16)]) -> Result<Vec<Edge>, AllocError> {
-    pairs
-        .iter()
-        .map(|&(ring, subject)| Edge { ring, subject })
+/// The edges that are written with blanks between them.
+pub(crate) fn edges_of(alloc: Global, text: &str) -> Result<Vec<Edge>, AllocError> {
+    text.split_whitespace()
+        .map(|word| edge_of(word))
         .collect(alloc)
 }
 
-/// Whether edges are these pairs of ring and subject.
-pub(crate) fn are_pairs(edges: &[Edge], pairs: &[(u8, u16)]) -> bool {
-    for (edge, &(ring, subject)) in edges.iter().zip(pairs) {
-        if *edge != (Edge { ring, subject }) {
+/// Whether edges are those that are written with blanks between them.
+pub(crate) fn are_written(edges: &[Edge], text: &str) -> bool {
+    for (edge, word) in edges.iter().zip(text.split_whitespace()) {
+        if *edge != edge_of(word) {
             return false;
         }
     }
-    edges.len() == pairs.len()
+    edges.len() == text.split_whitespace().count()
 }

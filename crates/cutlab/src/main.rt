@@ -8,8 +8,6 @@ mod program;
 mod run_job;
 mod share_job;
 mod study_job;
-#[cfg(test)]
-mod tests;
 
 pub use cut_command_line::{Job, NoJob, parse_line};
 pub use cut_commands::{CliFault, ask_io, check_io, migrate_io, run_io};

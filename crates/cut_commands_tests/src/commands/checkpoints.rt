@@ -1,6 +1,6 @@
 //! Studies that are kept on a disk: resumed, stopped at each call of the disk, and refused.
 
-use super::{LINE, NAMES, PLAN, plan_with, work_of};
+use super::{LINE, PLAN, is_table, plan_with, work_of};
 use cut_commands::{CliFault, run_io};
 use cut_disks::{Disk, FaultyDisk, FileDisk, Tear};
 use cut_journal::JournalFault;
@@ -49,12 +49,7 @@ fn leaves<T: Threads + Wait + Sync>(
     length: usize,
 ) -> Result<bool, Fail> {
     let output = written(rt, alloc, PLAN, size, &mut *disk)?;
-    Ok(is_table(output.as_slice()) && disk.memory().bytes().len() == length)
-}
-
-/// Whether these bytes are the whole table of the plan.
-fn is_table(bytes: &[u8]) -> bool {
-    bytes.strip_prefix(NAMES.as_bytes()) == Some(LINE.as_bytes())
+    Ok(is_table(&output, LINE) && disk.memory().bytes().len() == length)
 }
 
 #[test]
@@ -94,7 +89,7 @@ fn runs_twice<T: Threads + Wait + Sync>(
         return Ok((false, !is_right));
     }
     let second = written(rt, alloc, PLAN, 2, disk)?;
-    Ok((true, is_right && is_table(second.as_slice())))
+    Ok((true, is_right && is_table(&second, LINE)))
 }
 
 /// The same on a new disk.
@@ -115,7 +110,7 @@ fn each_call_of_the_disk_fails(rt: HostRuntime) -> Result<(), Fail> {
         // Those of the opening, and four for each of two pieces.
         for fail_at in 1..=20 {
             let (failed, right) = resumes(&rt, rt.alloc(), fail_at, tear)?;
-            assert!(rt; right && (failed || fail_at > 18), "{fail_at} {tear:?}");
+            assert!(rt; right && (failed || fail_at > 18), "{fail_at}");
         }
     }
     Ok(())
@@ -262,7 +257,7 @@ const FILE: &str = "cutlab_checkpoint_test/study.cut";
 /// Whether the plan's study, kept in the file, writes its table and leaves the file as long as its slip needs.
 fn is_kept<T: Threads + Wait + Sync>(host: &HostRuntime, rt: &T) -> Result<bool, Fail> {
     let output = written(rt, host.alloc(), PLAN, 2, FileDisk::open(host, FILE)?)?;
-    Ok(is_table(output.as_slice()) && fs::read(host, FILE)?.len() == 372)
+    Ok(is_table(&output, LINE) && fs::read(host, FILE)?.len() == 372)
 }
 
 #[test]

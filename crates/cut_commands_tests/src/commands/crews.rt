@@ -1,7 +1,7 @@
 //! Runs whose wire holds up the thread that writes: what other workers do meanwhile shows on the disk.
 
-use super::{LINE, NAMES, PLAN, work_of};
-use cut_commands::{CliFault, run_io};
+use super::{LINE, PLAN, is_table, work_of};
+use cut_commands::run_io;
 use cut_disks::{Disk, DiskFault, MemoryDisk};
 use cut_wires::{MemoryWire, Wire, WireFault};
 use std::alloc::Global;
@@ -92,23 +92,23 @@ impl<W: Wire, C: Clock> Wire for Held<'_, W, C> {
     }
 }
 
-/// What is asked of a run, and how many gates are waited for, and how long.
-#[derive(Clone, Copy)]
+/// What is asked of a run, how many gates are waited for, and how long; and how many have been moved then.
 struct Order {
     size: u32,
     workers: u32,
     wanted: u64,
     turns: u32,
+    seen: u64,
 }
 
-/// How a run of the plan ends whose first write waits, how many gates had been moved when it was made, and what was
-/// written.
-fn held_up<T: Threads + Wait + Sync, C: Clock>(
+/// Whether a run of the plan writes its table whose first write waits, and as many gates as it says have been moved
+/// when it is made.
+fn is_held_up<T: Threads + Wait + Sync, C: Clock>(
     rt: &T,
     alloc: Global,
     clock: &C,
-    order: Order,
-) -> Result<(Result<(), CliFault>, Option<u64>, Vec<u8>), Fail> {
+    order: &Order,
+) -> Result<bool, Fail> {
     let gates = AtomicU64::new(0);
     let disk = Gated {
         disk: MemoryDisk::of(alloc, Vec::new(alloc))?,
@@ -124,38 +124,54 @@ fn held_up<T: Threads + Wait + Sync, C: Clock>(
     };
     let work = work_of(order.size, order.workers);
     let ended = run_io(rt, alloc, &mut wire, work, Some(disk));
-    let taken = Vec::from_slice(alloc, wire.wire.taken())?;
-    Ok((ended, wire.seen, taken))
+    let is_written = ended.is_ok() && is_table(wire.wire.taken(), LINE);
+    Ok(is_written && wire.seen == Some(order.seen))
 }
 
-/// Whether these bytes are the whole table of the plan.
-fn is_table(bytes: &[u8]) -> bool {
-    bytes.strip_prefix(NAMES.as_bytes()) == Some(LINE.as_bytes())
-}
+/// One worker writes first and works then; two trials have two slips by pieces of one, and one by pieces of two.
+const ORDERS: &[Order] = &[
+    Order {
+        size: 1,
+        workers: 1,
+        wanted: 4,
+        turns: 50,
+        seen: 2,
+    },
+    Order {
+        size: 1,
+        workers: 2,
+        wanted: 4,
+        turns: 10_000,
+        seen: 4,
+    },
+    Order {
+        size: 1,
+        workers: 64,
+        wanted: 4,
+        turns: 10_000,
+        seen: 4,
+    },
+    Order {
+        size: 2,
+        workers: 2,
+        wanted: 3,
+        turns: 10_000,
+        seen: 3,
+    },
+    Order {
+        size: 2,
+        workers: 1,
+        wanted: 3,
+        turns: 50,
+        seen: 2,
+    },
+];
 
 /// Two gates are moved where a study is made, the first one closed and then opened, and one for each slip.
 #[test]
 fn other_workers_work_while_a_write_waits(rt: HostRuntime) -> Result<(), Fail> {
-    // One worker writes first and works then; two trials have two slips by pieces of one, and one by pieces of two.
-    let rows = [
-        (1, 1, 4, 50, 2),
-        (1, 2, 4, 10_000, 4),
-        (1, 64, 4, 10_000, 4),
-        (2, 2, 3, 10_000, 3),
-        (2, 1, 3, 50, 2),
-    ];
-    for (size, workers, wanted, turns, seen) in rows {
-        let order = Order {
-            size,
-            workers,
-            wanted,
-            turns,
-        };
-        let (ended, moved, taken) = held_up(&rt, rt.alloc(), &rt, order)?;
-        assert!(rt;
-            ended.is_ok() && moved == Some(seen) && is_table(taken.as_slice()),
-            "{workers} by {size}"
-        );
+    for (number, order) in ORDERS.iter().enumerate() {
+        assert!(rt; is_held_up(&rt, rt.alloc(), &rt, order)?, "{number}");
     }
     Ok(())
 }

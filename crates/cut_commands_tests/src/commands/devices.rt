@@ -1,6 +1,6 @@
 //! Readers and writers that do little at a time, and that fail at each of their calls in turn.
 
-use super::{PLAN, check, plan_table, run};
+use super::{PLAN, TABLE, check, run};
 use cut_commands::CliFault;
 use cut_wires::{StreamWire, Wire, WireFault};
 use std::alloc::{AllocError, Global};
@@ -109,7 +109,6 @@ fn taken_by(step: usize, writes: usize) -> usize {
 fn stops_at_write<T: Threads + Wait + Sync>(
     rt: &T,
     alloc: Global,
-    table: &str,
     step: usize,
     at: usize,
     act: Act,
@@ -119,7 +118,7 @@ fn stops_at_write<T: Threads + Wait + Sync>(
     match run(rt, alloc, PLAN.as_bytes(), &mut output) {
         Err(CliFault::Write(fault)) => {
             fault.sent == taken as u64
-                && Some(output.output.as_slice()) == table.as_bytes().get(..taken)
+                && Some(output.output.as_slice()) == TABLE.as_bytes().get(..taken)
                 && output.calls == at.saturating_add(1)
         }
         _ => false,
@@ -127,61 +126,60 @@ fn stops_at_write<T: Threads + Wait + Sync>(
 }
 
 #[test]
-fn each_read_fails(rt: HostRuntime) -> Result<(), Fail> {
+fn each_read_fails(rt: HostRuntime) {
     // A call for each byte, and one that finds the end.
     for at in 0..PLAN.len() + 1 {
-        assert!(rt;
-            stops_at_read(&rt, rt.alloc(), at, ErrorKind::Other),
-            "read {at}"
-        );
-        assert!(rt;
-            stops_at_read(&rt, rt.alloc(), at, ErrorKind::Interrupted),
-            "read {at}"
-        );
+        for kind in [ErrorKind::Other, ErrorKind::Interrupted] {
+            assert!(rt; stops_at_read(&rt, rt.alloc(), at, kind), "read {at}");
+        }
     }
-    Ok(())
 }
 
 #[test]
-fn each_write_fails(rt: HostRuntime) -> Result<(), Fail> {
-    let alloc = rt.alloc();
-    let table = plan_table(alloc)?;
+fn each_write_fails(rt: HostRuntime) {
     let acts = [
         Act::Fail(ErrorKind::Other),
         Act::Fail(ErrorKind::Interrupted),
         Act::Nothing,
     ];
     for act in acts {
-        for at in 0..table.len() {
-            assert!(rt;
-                stops_at_write(&rt, alloc, table.as_str(), 1, at, act),
-                "write {at}"
-            );
-        }
-        for at in 0..15 {
-            assert!(rt;
-                stops_at_write(&rt, alloc, table.as_str(), 7, at, act),
-                "write {at}"
-            );
+        // The table has 98 bytes.
+        for (step, calls) in [(1, 98), (7, 15)] {
+            for at in 0..calls {
+                assert!(rt;
+                    stops_at_write(&rt, rt.alloc(), step, at, act),
+                    "write {at}"
+                );
+            }
         }
     }
+}
+
+/// A device that gives the plan, or takes what is written, byte for byte, and never fails.
+fn slow_device(alloc: Global) -> Device<'static> {
+    Device::new(alloc, PLAN.as_bytes(), 1, usize::MAX, Act::Nothing)
+}
+
+/// Whether a device took these bytes, one in a call.
+fn has_taken(device: &Device<'_>, bytes: &[u8]) -> bool {
+    device.output.as_slice() == bytes && device.calls == bytes.len()
+}
+
+#[test]
+fn a_table_is_written_byte_for_byte(rt: HostRuntime) -> Result<(), Fail> {
+    let mut input = slow_device(rt.alloc());
+    let mut output = slow_device(rt.alloc());
+    run(&rt, rt.alloc(), &mut input, &mut output)?;
+    assert!(rt; has_taken(&output, TABLE.as_bytes()) && input.calls == PLAN.len() + 1);
     Ok(())
 }
 
 #[test]
-fn one_byte_at_a_time(rt: HostRuntime) -> Result<(), Fail> {
-    let alloc = rt.alloc();
-    let table = plan_table(alloc)?;
-    let mut input = Device::new(alloc, PLAN.as_bytes(), 1, usize::MAX, Act::Nothing);
-    let mut output = Device::new(alloc, b"", 1, usize::MAX, Act::Nothing);
-    run(&rt, alloc, &mut input, &mut output)?;
-    assert!(rt; output.output.as_slice() == table.as_bytes());
-    assert_eq!(rt; output.calls, table.len());
-    assert_eq!(rt; input.calls, PLAN.len() + 1);
-    let mut input = Device::new(alloc, PLAN.as_bytes(), 1, usize::MAX, Act::Nothing);
-    let mut output = Device::new(alloc, b"", 1, usize::MAX, Act::Nothing);
-    check(alloc, &mut input, &mut output)?;
-    assert!(rt; output.output.as_slice() == b"cells 1\ntrials 2\nquorum 4\n".as_slice());
+fn a_plan_is_checked_byte_for_byte(rt: HostRuntime) -> Result<(), Fail> {
+    let mut input = slow_device(rt.alloc());
+    let mut output = slow_device(rt.alloc());
+    check(rt.alloc(), &mut input, &mut output)?;
+    assert!(rt; has_taken(&output, b"cells 1\ntrials 2\nquorum 4\n"));
     Ok(())
 }
 
@@ -198,7 +196,7 @@ fn reads_no_further_than_the_limit(rt: HostRuntime) -> Result<(), Fail> {
 }
 
 /// Every kind of failure that a device can report.
-const KINDS: [ErrorKind; 41] = [
+const KINDS: &[ErrorKind] = &[
     ErrorKind::NotFound,
     ErrorKind::PermissionDenied,
     ErrorKind::ConnectionRefused,
@@ -290,8 +288,8 @@ fn calls_that_fail_are_counted(rt: HostRuntime) -> Result<(), Fail> {
     let alloc = rt.alloc();
     for kind in KINDS {
         for size in [1, 4_096, 65_537] {
-            assert!(rt; counts_a_read(alloc, kind, size)?, "read {kind:?}");
-            assert!(rt; counts_a_write(alloc, kind, size)?, "write {kind:?}");
+            assert!(rt; counts_a_read(alloc, *kind, size)?, "read {kind:?}");
+            assert!(rt; counts_a_write(alloc, *kind, size)?, "write {kind:?}");
         }
     }
     Ok(())

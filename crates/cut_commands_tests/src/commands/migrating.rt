@@ -83,7 +83,7 @@ const MOVES_ONE: Move = Move {
 /// Whether a migration ends with this status and this text.
 fn ends_so(
     alloc: Global,
-    wanted: Move,
+    wanted: &Move,
     old: &mut FaultyDisk,
     new: &mut FaultyDisk,
 ) -> Result<bool, Fail> {
@@ -100,7 +100,7 @@ fn ends_so(
 /// Whether a migration goes so, and leaves the old disk as it is.
 fn goes_so(
     alloc: Global,
-    wanted: Move,
+    wanted: &Move,
     old: &mut FaultyDisk,
     new: &mut FaultyDisk,
 ) -> Result<bool, Fail> {
@@ -139,7 +139,7 @@ fn is_held(alloc: Global, old: &mut FaultyDisk, new: &mut FaultyDisk) -> Result<
         length: after.len(),
         ..MOVES_ONE
     };
-    let is_right = goes_so(alloc, held, old, &mut *new)?;
+    let is_right = goes_so(alloc, &held, old, &mut *new)?;
     Ok(is_right && new.memory().bytes() == after.as_slice())
 }
 
@@ -148,7 +148,7 @@ fn a_true_slip_is_moved(rt: HostRuntime) -> Result<(), Fail> {
     let alloc = rt.alloc();
     let mut old = old_disk(&rt, alloc, Old::Slips(&[FIRST]))?;
     let mut new = empty_disk(alloc)?;
-    assert!(rt; goes_so(alloc, MOVES_ONE, &mut old, &mut new)?);
+    assert!(rt; goes_so(alloc, &MOVES_ONE, &mut old, &mut new)?);
     assert!(rt; has_first(alloc, &new)?);
     assert!(rt; writes_upgrade(&rt, alloc, &mut new)?);
     assert!(rt; is_held(alloc, &mut old, &mut new)?);
@@ -160,71 +160,92 @@ fn moves<T: Threads + Wait + Sync>(
     rt: &T,
     alloc: Global,
     old: Old,
-    wanted: Move,
+    wanted: &Move,
 ) -> Result<bool, Fail> {
     let mut old = old_disk(rt, alloc, old)?;
     let mut new = empty_disk(alloc)?;
     goes_so(alloc, wanted, &mut old, &mut new)
 }
 
-/// One whose text is not the plan's, or whose study has no true slip: it ends so, and leaves this many bytes.
-fn ends(text: &'static str, end: (u8, &'static str), length: usize) -> Move {
-    Move {
+/// How a migration ends whose text is not the plan's, or whose study has no true slip.
+type End = (Old, &'static str, u8, &'static str, usize);
+
+const ENDS: &[End] = &[
+    (Old::Slips(&[]), PLAN, 0, "migrated 0\n", NO_SLIP),
+    (
+        Old::Slips(&[FIRST_FALSE]),
+        PLAN,
+        4,
+        "cutlab: fault 46 Disagrees 1",
+        NO_SLIP,
+    ),
+    (
+        Old::Slips(&[FIRST, SECOND_FALSE]),
+        PLAN,
+        4,
+        "cutlab: fault 46 Disagrees 2",
+        ONE_SLIP,
+    ),
+    (
+        Old::Slips(&[FIRST]),
+        UPGRADE,
+        4,
+        "cutlab: fault 23 OtherPlan",
+        0,
+    ),
+    (Old::Nothing, PLAN, 4, "cutlab: fault 22 NoStudy", 0),
+    (Old::Nothing, UPGRADE, 4, "cutlab: fault 22 NoStudy", 0),
+    (
+        Old::Upgrade,
+        UPGRADE,
+        3,
+        "cutlab: fault 47 NotVersion1",
+        NO_SLIP,
+    ),
+];
+
+/// Whether a migration ends so.
+fn ends<T: Threads + Wait + Sync>(rt: &T, alloc: Global, end: &End) -> Result<bool, Fail> {
+    let (old, text, status, line, length) = *end;
+    let wanted = Move {
         text,
         room: 1000,
-        status: end.0,
-        line: end.1,
+        status,
+        line,
         length,
-    }
+    };
+    moves(rt, alloc, old, &wanted)
 }
 
 #[test]
 fn migrations_that_move_no_slip_or_end_early(rt: HostRuntime) -> Result<(), Fail> {
-    let first = Old::Slips(&[FIRST]);
-    let rows: [(Old, Move); 7] = [
-        (Old::Slips(&[]), ends(PLAN, (0, "migrated 0\n"), NO_SLIP)),
-        (
-            Old::Slips(&[FIRST_FALSE]),
-            ends(PLAN, (4, "cutlab: fault 46 Disagrees 1"), NO_SLIP),
-        ),
-        (
-            Old::Slips(&[FIRST, SECOND_FALSE]),
-            ends(PLAN, (4, "cutlab: fault 46 Disagrees 2"), ONE_SLIP),
-        ),
-        (first, ends(UPGRADE, (4, "cutlab: fault 23 OtherPlan"), 0)),
-        (Old::Nothing, ends(PLAN, (4, "cutlab: fault 22 NoStudy"), 0)),
-        (
-            Old::Nothing,
-            ends(UPGRADE, (4, "cutlab: fault 22 NoStudy"), 0),
-        ),
-        (
-            Old::Upgrade,
-            ends(UPGRADE, (3, "cutlab: fault 47 NotVersion1"), NO_SLIP),
-        ),
-    ];
-    for (old, wanted) in rows {
-        assert!(rt; moves(&rt, rt.alloc(), old, wanted)?, "{}", wanted.line);
+    for (number, end) in ENDS.iter().enumerate() {
+        assert!(rt; ends(&rt, rt.alloc(), end)?, "{number}");
     }
     Ok(())
 }
 
+/// Whether a migration of one slip is reported so whose wire has room for this many bytes of the answer.
+fn is_cut_off<T: Threads + Wait + Sync>(
+    rt: &T,
+    alloc: Global,
+    room: usize,
+    line: &'static str,
+) -> Result<bool, Fail> {
+    let wanted = Move {
+        room,
+        status: 4,
+        line,
+        ..MOVES_ONE
+    };
+    moves(rt, alloc, Old::Slips(&[FIRST]), &wanted)
+}
+
 #[test]
 fn an_answer_that_fails(rt: HostRuntime) -> Result<(), Fail> {
-    let rows = [
-        (0, "cutlab: fault 31 Write 0"),
-        (4, "cutlab: fault 31 Write 4"),
-        (10, "cutlab: fault 31 Write 10"),
-    ];
-    for (room, line) in rows {
-        let wanted = Move {
-            room,
-            status: 4,
-            line,
-            ..MOVES_ONE
-        };
-        let old = Old::Slips(&[FIRST]);
-        assert!(rt; moves(&rt, rt.alloc(), old, wanted)?, "{room}");
-    }
+    assert!(rt; is_cut_off(&rt, rt.alloc(), 0, "cutlab: fault 31 Write 0")?);
+    assert!(rt; is_cut_off(&rt, rt.alloc(), 4, "cutlab: fault 31 Write 4")?);
+    assert!(rt; is_cut_off(&rt, rt.alloc(), 10, "cutlab: fault 31 Write 10")?);
     Ok(())
 }
 
@@ -244,11 +265,15 @@ fn goes_on<T: Threads + Wait + Sync>(
     let mut new = FaultyDisk::of(alloc, Vec::new(alloc), fail_at, tear)?;
     new.arm();
     if fail_at > MOVING_CALLS {
-        let is_moved = ends_so(alloc, MOVES_ONE, &mut old, &mut new)?;
+        let is_moved = ends_so(alloc, &MOVES_ONE, &mut old, &mut new)?;
         return Ok(is_moved && new.failures() == 0);
     }
-    let failed = ends(PLAN, (4, "cutlab: fault 20 Disk"), 0);
-    let is_reported = ends_so(alloc, failed, &mut old, &mut new)?;
+    let failed = Move {
+        status: 4,
+        line: "cutlab: fault 20 Disk",
+        ..MOVES_ONE
+    };
+    let is_reported = ends_so(alloc, &failed, &mut old, &mut new)?;
     Ok(is_reported && new.failures() == 1 && writes_upgrade(rt, alloc, &mut new)?)
 }
 
@@ -257,7 +282,7 @@ fn each_call_of_the_new_disk_fails(rt: HostRuntime) -> Result<(), Fail> {
     let alloc = rt.alloc();
     for tear in [Tear::Nothing, Tear::Everything] {
         for fail_at in 1..=14 {
-            assert!(rt; goes_on(&rt, alloc, fail_at, tear)?, "{fail_at} {tear:?}");
+            assert!(rt; goes_on(&rt, alloc, fail_at, tear)?, "{fail_at}");
         }
     }
     Ok(())

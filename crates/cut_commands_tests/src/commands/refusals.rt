@@ -3,7 +3,9 @@
 use super::{check_for, table_for};
 use cut_commands::CliFault;
 use std::alloc::{AllocError, Global};
+use std::sync::Wait;
 use std::test::Fail;
+use std::thread::Threads;
 
 /// Whether a command was refused its plan by this line, and wrote nothing.
 fn is_refused(
@@ -17,24 +19,25 @@ fn is_refused(
     }
 }
 
+/// Whether both commands are refused this many blanks by this line.
+fn are_refused<T: Threads + Wait + Sync>(
+    rt: &T,
+    alloc: Global,
+    size: usize,
+    line: &str,
+) -> Result<bool, AllocError> {
+    let blanks = vec![in alloc; b' '; size]?;
+    Ok(
+        is_refused(alloc, table_for(rt, alloc, &blanks), line)?
+            && is_refused(alloc, check_for(alloc, &blanks), line)?,
+    )
+}
+
 #[test]
 fn a_long_text_is_refused(rt: HostRuntime) -> Result<(), Fail> {
     let alloc = rt.alloc();
-    let rows = [
-        (65_536, "cutlab: fault 1 NotJson"),
-        (65_537, "cutlab: fault 19 PlanTooLong"),
-        (70_000, "cutlab: fault 19 PlanTooLong"),
-    ];
-    for (size, line) in rows {
-        let blanks = vec![in alloc; b' '; size]?;
-        assert!(rt;
-            is_refused(alloc, table_for(&rt, alloc, &blanks), line)?,
-            "{size}"
-        );
-        assert!(rt;
-            is_refused(alloc, check_for(alloc, &blanks), line)?,
-            "{size}"
-        );
-    }
+    assert!(rt; are_refused(&rt, alloc, 65_536, "cutlab: fault 1 NotJson")?);
+    assert!(rt; are_refused(&rt, alloc, 65_537, "cutlab: fault 19 PlanTooLong")?);
+    assert!(rt; are_refused(&rt, alloc, 70_000, "cutlab: fault 19 PlanTooLong")?);
     Ok(())
 }

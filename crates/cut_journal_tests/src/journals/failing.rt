@@ -1,6 +1,7 @@
 //! Disks of which one call fails.
 
 use super::{SMALL, result_of, written_disk};
+use crate::disks::tear_of;
 use cut_disks::{Disk, FaultyDisk, Tear};
 use cut_journal::{Journal, JournalFault};
 use cut_plan::Plan;
@@ -8,12 +9,16 @@ use cut_trial::PieceResult;
 use std::alloc::{AllocError, Global};
 use std::test::Fail;
 
-// What two appends of one result answer, where this call of the disk fails: each of them makes four.
-fn answers_of(fail_at: u64) -> [Result<u64, JournalFault>; 2] {
+// Whether that is what two appends of one result answer, where this call of the disk fails: each of them makes four.
+fn are_answers(
+    first: Result<u64, JournalFault>,
+    second: Result<u64, JournalFault>,
+    fail_at: u64,
+) -> bool {
     match fail_at {
-        1..=4 => [Err(JournalFault::Disk), Err(JournalFault::Broken)],
-        5..=8 => [Ok(1), Err(JournalFault::Disk)],
-        _ => [Ok(1), Ok(2)],
+        1..=4 => first == Err(JournalFault::Disk) && second == Err(JournalFault::Broken),
+        5..=8 => first == Ok(1) && second == Err(JournalFault::Disk),
+        _ => first == Ok(1) && second == Ok(2),
     }
 }
 
@@ -25,48 +30,60 @@ pub(super) fn slips_found(alloc: Global, disk: FaultyDisk, plan: &Plan) -> Resul
     }
 }
 
-// Whether two appends of which this call of the disk fails answer so, and a reopening finds as many slips.
+// What an append answers.
+fn appended(journal: &mut Journal<FaultyDisk>, offered: &PieceResult) -> Result<u64, JournalFault> {
+    journal.append(offered)
+}
+
+// Whether two appends to a journal answer so where this call of its disk fails.
+fn are_answered(journal: &mut Journal<FaultyDisk>, offered: &PieceResult, fail_at: u64) -> bool {
+    journal.disk().arm();
+    let first = appended(journal, offered);
+    are_answers(first, appended(journal, offered), fail_at)
+}
+
+// Whether two appends of which a call of the disk fails answer so, and a reopening finds as many slips.
 fn appends_hold(
     alloc: Global,
     plan: &Plan,
     offered: &PieceResult,
-    (fail_at, tear, slips): (u64, Tear, usize),
+    row: &str,
 ) -> Result<bool, AllocError> {
-    let disk = FaultyDisk::of(alloc, Vec::new(alloc), fail_at, tear)?;
+    let (fail_at, rest) = row.split_once(' ').unwrap_or((row, ""));
+    let (tear, slips) = rest.split_once(' ').unwrap_or((rest, ""));
+    let fail_at = fail_at.parse::<u64>().unwrap_or(0);
+    let disk = FaultyDisk::of(alloc, Vec::new(alloc), fail_at, tear_of(tear))?;
     let Ok(mut journal) = Journal::create(alloc, disk, plan) else {
         return Ok(false);
     };
-    journal.disk().arm();
-    let answers = [journal.append(offered), journal.append(offered)];
+    let is_answered = are_answered(&mut journal, offered, fail_at);
     let found = slips_found(alloc, journal.into_disk(), plan);
-    Ok(answers == answers_of(fail_at) && found == Ok(slips))
+    Ok(is_answered && found.ok() == slips.parse::<usize>().ok())
 }
 
 // Each device call of two appends fails in turn, and then none: the append answers 20, the next one 21, and after
 // a reopening the slip is there or it isn't.
-const APPENDS: [(u64, Tear, usize); 14] = [
-    (1, Tear::Nothing, 0),
-    (2, Tear::Nothing, 0),
-    (3, Tear::Nothing, 0),
-    (4, Tear::Nothing, 1),
-    (1, Tear::Everything, 0),
-    (2, Tear::Everything, 0),
-    (3, Tear::Everything, 1),
-    (4, Tear::Everything, 1),
-    (5, Tear::Everything, 1),
-    (6, Tear::Everything, 1),
-    (7, Tear::Nothing, 1),
-    (7, Tear::Everything, 2),
-    (8, Tear::Nothing, 2),
-    (0, Tear::Nothing, 2),
-];
+const APPENDS: &str = "1 Nothing 0
+2 Nothing 0
+3 Nothing 0
+4 Nothing 1
+1 Everything 0
+2 Everything 0
+3 Everything 1
+4 Everything 1
+5 Everything 1
+6 Everything 1
+7 Nothing 1
+7 Everything 2
+8 Nothing 2
+0 Nothing 2";
 
 #[test]
 fn a_failing_append(rt: HostRuntime) -> Result<(), Fail> {
     let plan = Plan::from_json(rt.alloc(), SMALL.as_bytes())?;
     let result = result_of(rt.alloc(), &plan, 0, 2)?;
-    for row in APPENDS {
-        assert!(rt; appends_hold(rt.alloc(), &plan, &result, row)?);
+    for row in APPENDS.lines() {
+        assert!(rt; appends_hold(rt.alloc(), &plan, &result, row)?, "{row}");
     }
     Ok(())
 }

@@ -1,12 +1,12 @@
 //! Studies of version 1 that are moved to their plans' upgrades.
 
 use super::failing::slips_found;
-use super::{SMALL, SMALL_2, created, reading_of};
+use super::{SMALL, SMALL_2, created, number, reading_of};
 use cut_disks::{FaultyDisk, MemoryDisk, Tear};
 use cut_journal::Journal;
 use cut_ledger::Slip;
 use cut_migration::{MigrateFault, migrate};
-use cut_plan::Plan;
+use cut_plan::{Plan, PlanFault};
 use cut_trial::{Piece, Totals};
 use std::alloc::{AllocError, Global};
 use std::test::Fail;
@@ -27,56 +27,28 @@ fn slip(first: u32, is_true: bool) -> Slip {
     }
 }
 
-fn slips_of(alloc: Global, trials: &[(u32, bool)]) -> Result<Vec<Slip>, AllocError> {
+/// Slips of trials that are written with commas between them, each after whether it is true.
+fn slips_of(alloc: Global, trials: &str) -> Result<Vec<Slip>, AllocError> {
     let mut slips = Vec::new(alloc);
-    for (first, is_true) in trials {
-        slips.push(slip(*first, *is_true))?;
+    for trial in trials.split(", ") {
+        if let Some((word, first)) = trial.split_once(' ') {
+            slips.push(slip(number(first), word == "true"))?;
+        }
     }
     Ok(slips)
 }
 
-/// What the slip of a true first trial is read as once it is moved.
-const MOVED: &str = "0,1,4,0,0,0,4,1,1,4";
-
-/// A plan and that of the journal, slips by their trials and whether they are true, what their moving answers, how
-/// many bytes are on the disk then, and what they are read as.
-type Move = (
-    [&'static str; 2],
-    &'static [(u32, bool)],
-    (&'static str, usize, &'static str),
-);
-
-/// What is of version 2 is reported first, then a bad slip, a journal of another plan, and a false slip.
-const MOVES: [Move; 8] = [
-    ([SMALL, SMALL_2], &[(0, true)], ("1", 372, MOVED)),
-    ([SMALL, SMALL_2], &[], ("0", 259, "")),
-    (
-        [SMALL, SMALL_2],
-        &[(0, false), (1, true)],
-        ("46 Disagrees 1", 259, ""),
-    ),
-    (
-        [SMALL, SMALL_2],
-        &[(0, true), (1, false)],
-        ("46 Disagrees 2", 372, MOVED),
-    ),
-    (
-        [SMALL, SMALL_2],
-        &[(0, false), (0, true)],
-        ("17 BadSlip 2", 259, ""),
-    ),
-    (
-        [SMALL_2, SMALL],
-        &[(0, true), (0, true)],
-        ("47 NotVersion1", 267, ""),
-    ),
-    (
-        [SMALL, SMALL],
-        &[(0, true), (0, true)],
-        ("17 BadSlip 2", 267, ""),
-    ),
-    ([SMALL, SMALL], &[(0, false)], ("23 OtherPlan", 267, "")),
-];
+/// The versions of a plan and of the journal's, slips by whether they are true and their trials, what their moving
+/// answers, how many bytes are on the disk then, and what they are read as. What is of version 2 is reported first,
+/// then a bad slip, a journal of another plan, and a false slip.
+const MOVES: &str = "1; 2; true 0; 1; 372; 0,1,4,0,0,0,4,1,1,4
+1; 2; ; 0; 259;
+1; 2; false 0, true 1; 46 Disagrees 1; 259;
+1; 2; true 0, false 1; 46 Disagrees 2; 372; 0,1,4,0,0,0,4,1,1,4
+1; 2; false 0, true 0; 17 BadSlip 2; 259;
+2; 1; true 0, true 0; 47 NotVersion1; 267;
+1; 1; true 0, true 0; 17 BadSlip 2; 267;
+1; 1; false 0; 23 OtherPlan; 267;";
 
 /// What the moving of slips to a journal answers, as it is printed.
 fn answer_of(
@@ -91,43 +63,61 @@ fn answer_of(
     }
 }
 
-/// Whether as many bytes of a journal are left, and read so.
-fn is_left(
-    alloc: Global,
-    bytes: &[u8],
-    plan: &Plan,
-    length: usize,
-    reading: &str,
-) -> Result<bool, AllocError> {
-    Ok(bytes.len() == length && reading_of(alloc, bytes, plan)?.as_str() == reading)
+/// Whether as many bytes of a journal are left as a row ends with, and are read so.
+fn is_left(alloc: Global, bytes: &[u8], plan: &Plan, row: &str) -> Result<bool, AllocError> {
+    let (length, reading) = row.split_once(';').unwrap_or((row, ""));
+    let is_long = number(length) as usize == bytes.len();
+    Ok(is_long && reading_of(alloc, bytes, plan)?.as_str() == reading.trim_start())
 }
 
-/// Whether the moving of slips to a new journal answers so, and leaves as many bytes, which are read so.
+/// Whether the moving of slips to a new journal answers as the rest of a row says, and leaves its bytes.
 fn is_moved(
     alloc: Global,
     slips: &[Slip],
-    (plan, target): (&Plan, &Plan),
-    (answer, length, reading): (&str, usize, &str),
+    plan: &Plan,
+    target: &Plan,
+    rest: &str,
 ) -> Result<bool, Fail> {
+    let (answer, rest) = rest.split_once("; ").unwrap_or((rest, ""));
     let mut journal = created(alloc, target)?;
     let is_answer = answer_of(alloc, slips, plan, &mut journal)?.as_str() == answer;
     let disk = journal.into_disk();
-    Ok(is_answer && is_left(alloc, disk.bytes(), target, length, reading)?)
+    Ok(is_answer && is_left(alloc, disk.bytes(), target, rest)?)
 }
 
-fn is_row(alloc: Global, ([plan, target], trials, wanted): Move) -> Result<bool, Fail> {
-    let plan = Plan::from_json(alloc, plan.as_bytes())?;
-    let target = Plan::from_json(alloc, target.as_bytes())?;
+/// The small plan of a version.
+fn small(alloc: Global, version: &str) -> Result<Plan, PlanFault> {
+    let text = if version == "2" { SMALL_2 } else { SMALL };
+    Plan::from_json(alloc, text.as_bytes())
+}
+
+/// Whether the slips of a row are moved as it says.
+fn is_row(alloc: Global, row: &str) -> Result<bool, Fail> {
+    let (version, rest) = row.split_once("; ").unwrap_or((row, ""));
+    let (target, rest) = rest.split_once("; ").unwrap_or((rest, ""));
+    let (trials, rest) = rest.split_once("; ").unwrap_or((rest, ""));
     let slips = slips_of(alloc, trials)?;
-    is_moved(alloc, &slips, (&plan, &target), wanted)
+    let plan = small(alloc, version)?;
+    is_moved(alloc, &slips, &plan, &small(alloc, target)?, rest)
 }
 
 #[test]
 fn true_slips_are_moved(rt: HostRuntime) -> Result<(), Fail> {
-    for row in MOVES {
-        assert!(rt; is_row(rt.alloc(), row)?);
+    for row in MOVES.lines() {
+        assert!(rt; is_row(rt.alloc(), row)?, "{row}");
     }
     Ok(())
+}
+
+/// Whether the moving of slips fails with this fault.
+fn is_refused(
+    alloc: Global,
+    slips: &[Slip],
+    plan: &Plan,
+    journal: &mut Journal<FaultyDisk>,
+    fault: MigrateFault,
+) -> bool {
+    migrate(alloc, slips, plan, journal) == Err(fault)
 }
 
 /// Whether the moving answers 20 as the disk fails, and then 21.
@@ -138,14 +128,8 @@ fn is_refused_twice(
     journal: &mut Journal<FaultyDisk>,
 ) -> bool {
     journal.disk().arm();
-    let answers = [
-        migrate(alloc, slips, plan, journal),
-        migrate(alloc, slips, plan, journal),
-    ];
-    matches!(
-        &answers,
-        [Err(MigrateFault::Disk), Err(MigrateFault::Broken)]
-    )
+    is_refused(alloc, slips, plan, journal, MigrateFault::Disk)
+        && is_refused(alloc, slips, plan, journal, MigrateFault::Broken)
 }
 
 /// Whether the moving of two slips is refused so where this call of the disk fails, and as many are found then.

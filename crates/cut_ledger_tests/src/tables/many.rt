@@ -4,6 +4,7 @@ use crate::studies::{fresh, result_of, slip};
 use cut_ledger::Ledger;
 use cut_plan::Plan;
 use cut_table::emit_table;
+use cut_trial::Piece;
 use cut_wires::{MemoryWire, Wire};
 use std::alloc::{AllocError, Global};
 use std::test::Fail;
@@ -30,8 +31,8 @@ fn table(alloc: Global) -> Result<String, AllocError> {
 /// The ledger of its results, of which the last comes first.
 fn ledger_of_results(alloc: Global) -> Result<Ledger, Fail> {
     let mut ledger = fresh(alloc, PLAN)?;
-    for trial in (0..65u32).rev() {
-        let result = result_of(alloc, ledger.plan(), trial, 1)?;
+    for first in (0..65u32).rev() {
+        let result = result_of(alloc, ledger.plan(), Piece { first, count: 1 })?;
         ledger.offer(&result)?;
     }
     Ok(ledger)
@@ -40,8 +41,10 @@ fn ledger_of_results(alloc: Global) -> Result<Ledger, Fail> {
 /// The ledger that begins with a slip of each trial.
 fn ledger_of_slips(alloc: Global) -> Result<Ledger, Fail> {
     let mut slips = Vec::new(alloc);
+    let mut one = slip("0 1: 5 0 5 0 0 0 0 0");
     for trial in 0..65u32 {
-        slips.push(slip(trial, 1, [5, 0, 5, 0, 0, 0, 0, 0]))?;
+        one.piece.first = trial;
+        slips.push(one)?;
     }
     let plan = Plan::from_json(alloc, PLAN.as_bytes())?;
     Ok(Ledger::from_slips(alloc, plan, slips.as_slice())?)

@@ -1,6 +1,6 @@
 // Roles and alerted edges that a script apart from this crate computed, from sets and counts.
 
-use crate::alerts::{Lists, is_drawn};
+use crate::alerts::is_drawn;
 use std::test::Fail;
 
 // Five processes, with targets that crash.
@@ -76,23 +76,23 @@ pub(super) fn by_hand() -> &'static str {
     BY_HAND
 }
 
-// Plans, the trial of each, and its targets, liars and cut links.
-const ROLES: [(&str, u32, Lists<'static>); 9] = [
-    (FIVE_CRASH, 0, (&[0], &[4], &[(3, 0)])),
-    (FIVE_DEAF, 1, (&[4], &[1], &[(0, 4)])),
-    (FIVE_CRASH, 4095999999, (&[2], &[0], &[(3, 0)])),
-    (SEVEN_CRASH, 0, (&[2], &[6], &[(0, 4)])),
-    (SEVEN_DEAF, 1, (&[5], &[1], &[(2, 3)])),
-    (SEVEN_CRASH, 4095999999, (&[0], &[1], &[(3, 5)])),
-    (TWO_CRASH, 0, (&[0], &[], &[])),
-    (TWO_DEAF, 1, (&[1], &[], &[])),
-    (TWO_CRASH, 4095999999, (&[1], &[], &[])),
+// Plans, and of each the number of a trial, and its targets, liars and cut links.
+const ROLES: [(&str, &str); 9] = [
+    (FIVE_CRASH, "0: 0; 4; 3.0"),
+    (FIVE_DEAF, "1: 4; 1; 0.4"),
+    (FIVE_CRASH, "4095999999: 2; 0; 3.0"),
+    (SEVEN_CRASH, "0: 2; 6; 0.4"),
+    (SEVEN_DEAF, "1: 5; 1; 2.3"),
+    (SEVEN_CRASH, "4095999999: 0; 1; 3.5"),
+    (TWO_CRASH, "0: 0; ;"),
+    (TWO_DEAF, "1: 1; ;"),
+    (TWO_CRASH, "4095999999: 1; ;"),
 ];
 
 #[test]
 fn roles_of_trials(rt: HostRuntime) -> Result<(), Fail> {
-    for (text, trial, lists) in ROLES {
-        assert!(rt; is_drawn(rt.alloc(), text, trial, lists)?);
+    for (text, row) in ROLES {
+        assert!(rt; is_drawn(rt.alloc(), text, row)?, "{row}");
     }
     Ok(())
 }

@@ -1,0 +1,92 @@
+//! Single calls, as they were worked out by hand.
+
+use cut_alerts::{Roles, RolesFault};
+use cut_detector::{Members, Proposal};
+use cut_draws::{Delivery, Draws};
+use cut_plan::{Dead, Faults, Plan};
+use cut_rings::{Edge, Rings};
+use cut_trial::{Ballot, Piece, TrialFault, Verdict, quorum, run_piece, verdict};
+use std::alloc::{AllocError, Global};
+use std::test::Fail;
+
+const PLAN: &str =
+    r#"{"copies":1,"dead":"silent","f":[1],"faults":"crash","h":[1],"implicit":true,"k":[1],"l":[1],"liars":0,"links":0,"nodes":5,"repeats":2,"seed":"0000000000000000000000000000000000000000000000000000000000000000","version":1}"#;
+
+#[test]
+fn quorums(rt: HostRuntime) {
+    let few = [quorum(2), quorum(4), quorum(5), quorum(9)];
+    assert!(rt; few == [2, 4, 4, 7] && quorum(1000) == 751 && quorum(2048) == 1537);
+}
+
+// A proposal of these members after the first delivery.
+fn proposal(alloc: Global, members: &[u16]) -> Result<Proposal, AllocError> {
+    Ok(Proposal {
+        members: Members::from_vec(Vec::from_slice(alloc, members)?),
+        at: 1,
+    })
+}
+
+// What a proposal is beside the targets 1 and 2 of four processes.
+fn judged(alloc: Global, members: &[u16]) -> Result<Verdict, RolesFault> {
+    let roles = Roles::given(alloc, 4, &[1, 2], &[], &[], Faults::Crash, Dead::Silent)?;
+    Ok(verdict(Some(&proposal(alloc, members)?), &roles))
+}
+
+// Members, whether a target is missing among them, and whether another process is one of them.
+const JUDGED: [(&[u16], bool, bool); 4] = [
+    (&[1], true, false),
+    (&[1, 2], false, false),
+    (&[1, 2, 3], false, true),
+    (&[1, 3], true, true),
+];
+
+#[test]
+fn proposals_are_judged(rt: HostRuntime) -> Result<(), Fail> {
+    for (members, conflict, extra) in JUDGED {
+        let wanted = Verdict {
+            silent: false,
+            conflict,
+            extra,
+        };
+        assert!(rt; judged(rt.alloc(), members)? == wanted);
+    }
+    Ok(())
+}
+
+#[test]
+fn a_ballot_counts_equal_proposals(rt: HostRuntime) -> Result<(), Fail> {
+    let mut ballot = Ballot::new(rt.alloc());
+    for member in [1, 1, 2] {
+        ballot.add(&proposal(rt.alloc(), &[member])?)?;
+    }
+    assert!(rt; [ballot.largest(), ballot.votes_for(&[2])] == [2, 1]);
+    Ok(())
+}
+
+// Whether a piece of the plan's trials is refused as none.
+fn is_refused(alloc: Global, first: u32, count: u32) -> Result<bool, Fail> {
+    let plan = Plan::from_json(alloc, PLAN.as_bytes())?;
+    let rings = Rings::hashed(alloc, &plan)?;
+    let found = run_piece(alloc, &plan, &rings, Piece { first, count });
+    Ok(matches!(found, Err(TrialFault::BadPiece)))
+}
+
+#[test]
+fn pieces_of_other_trials_are_refused(rt: HostRuntime) -> Result<(), Fail> {
+    assert!(rt; is_refused(rt.alloc(), 0, 0)?);
+    assert!(rt; is_refused(rt.alloc(), 1, 2)?);
+    Ok(())
+}
+
+#[test]
+fn few_edges_have_few_deliveries(rt: HostRuntime) -> Result<(), Fail> {
+    let mut draws = Draws::new([0; 32], 0);
+    assert!(rt; draws.deliveries(rt.alloc(), 1, 1, &[], 4)?.is_empty());
+    let edge = Edge {
+        ring: 0,
+        subject: 1,
+    };
+    let order = draws.deliveries(rt.alloc(), 1, 1, &[edge], 1)?;
+    assert!(rt; order.len() == 1 && order[0] == (Delivery { edge, copy: 0 }));
+    Ok(())
+}
