@@ -5,8 +5,8 @@ use Rattle.cut_faults.specs.Failures.{one_more}
 use Rattle.cut_faults.specs.declared.code.FaultCode.{FaultCode}
 use Rattle.cut_faults.specs.declared.code.FaultCode.TheVariants as code
 use Rattle.cut_plan.specs.Values.{Values}
-use Rattle.cut_trial.specs.Computed.{Computed}
-use Rattle.cut_trial.specs.declared.piece.Piece.{Piece}
+use Rattle.cut_outcome.specs.Computed.{Computed}
+use Rattle.cut_outcome.specs.declared.piece.Piece.{Piece}
 use Rattle.cut_disks.specs.State.{DiskState}
 use Rattle.cut_ledger.specs.declared.slip.Slip.{Slip}
 use Rattle.cut_ledger.specs.declared.event.Event.TheVariants as event

@@ -3,8 +3,8 @@ use Rattle.std.proofs.Common.{◌≡◌, ◌∙◌, ◌++◌, ◌≤◌, ℕ, Bo
 use Rattle.std.proofs.Common.{Option, Some, None, IfSome, is_some, count_by, refl, sym, ap, subst, arith, append_assoc}
 use Rattle.std.proofs.Common.{append-nil}
 use Rattle.std.proofs.lemmas.Grind.{flat_map-append}
-use Rattle.cut_trial.specs.declared.piece.Piece.{Piece}
-use Rattle.cut_trial.specs.Sum.{is_piece}
+use Rattle.cut_outcome.specs.declared.piece.Piece.{Piece}
+use Rattle.cut_outcome.specs.Sum.{is_piece}
 use Rattle.cut_plan.specs.Values.{Values}
 use Rattle.cut_disks.specs.State.{DiskState}
 use Rattle.cut_ledger.specs.declared.slip.Slip.{Slip}

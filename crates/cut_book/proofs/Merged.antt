@@ -3,7 +3,7 @@ use Rattle.std.proofs.Common.{false, ◌≡◌, ◌∙◌, ℕ, ◌+◌, ◌-◌
 use Rattle.std.proofs.Common.{get_or, refl, sym, ap, subst, arith, append_assoc, append-nil, length-append}
 use Rattle.std.proofs.lemmas.List.{map-append, take_all, drop_all, drop_more, drop-append-le, take-append-le}
 use Rattle.std.proofs.lemmas.List.{length-drop, length-take-le, length-map}
-use Rattle.cut_trial.specs.declared.totals.Totals.{Totals}
+use Rattle.cut_outcome.specs.declared.totals.Totals.{Totals}
 use Rattle.cut_ledger.specs.declared.slip.Slip.{Slip}
 use Rattle.cut_book.specs.declared.call.Answer.TheVariants.{Accepted}
 use Rattle.cut_book.specs.declared.call.Call.{Call}

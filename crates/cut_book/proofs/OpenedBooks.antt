@@ -2,7 +2,7 @@
 use Rattle.std.proofs.Common.{◌≡◌, ◌∙◌, ◌++◌, ℕ, Bool, true, false, cond, List, [], length, map, Ok, Option, Some, None}
 use Rattle.std.proofs.Common.{IfSome, is_some, refl, sym, ap, subst, append-nil}
 use Rattle.cut_plan.specs.Values.{Values}
-use Rattle.cut_trial.specs.declared.piece.Piece.{Piece}
+use Rattle.cut_outcome.specs.declared.piece.Piece.{Piece}
 use Rattle.cut_disks.specs.State.{DiskState}
 use Rattle.cut_ledger.specs.declared.slip.Slip.{Slip}
 use Rattle.cut_ledger.specs.Contents.{Contents, over_base}

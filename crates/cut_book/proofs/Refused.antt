@@ -4,7 +4,7 @@ use Rattle.std.proofs.Common.{IfErr, IsErrOf, refl, sym, ap, subst}
 use Rattle.std.specs.Prelude.{option_map, ⊤}
 use Rattle.cut_faults.specs.declared.code.FaultCode.{FaultCode}
 use Rattle.cut_faults.specs.declared.code.FaultCode.TheVariants as code
-use Rattle.cut_trial.specs.Computed.{Computed}
+use Rattle.cut_outcome.specs.Computed.{Computed}
 use Rattle.cut_ledger.specs.declared.offer_fault.OfferFault.TheVariants as ledger
 use Rattle.cut_ledger.specs.Contents.{Contents, overlaps}
 use Rattle.cut_ledger.specs.FaultCode.{code_of}
@@ -18,7 +18,7 @@ use Rattle.cut_book.specs.declared.fault.BookFault.TheVariants as fault
 use Rattle.cut_book.specs.History.{Opening, HistoryValue, IsAnswer, IsStep, accepted_slip, event_of}
 use Rattle.cut_book.specs.declared.call.Call.{Call}
 use Rattle.cut_book.specs.declared.fault.BookFault.{BookFault}
-use Rattle.cut_trial.specs.declared.piece.Piece.{Piece}
+use Rattle.cut_outcome.specs.declared.piece.Piece.{Piece}
 use Rattle.cut_book.proofs.Legal.{Noted, state_same}
 use Rattle.cut_book.specs.Book.{GivesAnswer, HandsIn, state_in, book_value_in, answer_to, answer_of, refusal_in}
 use Rattle.cut_book.specs.Book.{returned, hand_in_of, JournalAfter, IsHandInFault, faults_after}

@@ -4,7 +4,7 @@ use Rattle.std.proofs.Common.{unwrap_or, refl, sym, ap, subst}
 use Rattle.std.specs.Prelude.{option_map}
 use Rattle.cut_faults.specs.declared.code.FaultCode.TheVariants as code
 use Rattle.cut_plan.specs.Values.{Values}
-use Rattle.cut_trial.specs.Computed.{Computed}
+use Rattle.cut_outcome.specs.Computed.{Computed}
 use Rattle.cut_disks.specs.State.{DiskState, IsImage, Throughout}
 use Rattle.cut_ledger.specs.declared.slip.Slip.{Slip}
 use Rattle.cut_ledger.specs.declared.offer_fault.OfferFault.{OfferFault}

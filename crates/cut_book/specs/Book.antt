@@ -4,9 +4,9 @@ use Rattle.std.specs.Prelude.{Option, Some, None, IsTrue, IfSome, All, is_some, 
 use Rattle.std.specs.Prelude.{Err}
 use Rattle.cut_faults.specs.Failures.{one_more}
 use Rattle.cut_plan.specs.Values.{Values}
-use Rattle.cut_trial.specs.Computed.{Computed}
-use Rattle.cut_trial.specs.declared.piece.Piece.{Piece}
-use Rattle.cut_trial.specs.Sum.{is_piece}
+use Rattle.cut_outcome.specs.Computed.{Computed}
+use Rattle.cut_outcome.specs.declared.piece.Piece.{Piece}
+use Rattle.cut_outcome.specs.Sum.{is_piece}
 use Rattle.cut_ledger.specs.declared.slip.Slip.{Slip}
 use Rattle.cut_ledger.specs.declared.offer_fault.OfferFault.{OfferFault}
 use Rattle.cut_ledger.specs.declared.offer_fault.OfferFault.TheVariants as ledger

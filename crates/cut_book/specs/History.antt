@@ -4,7 +4,7 @@ use Rattle.std.specs.List.{flat_map, sum_by}
 use Rattle.cut_faults.specs.declared.code.FaultCode.TheVariants as code
 use Rattle.cut_plan.specs.Values.{Values}
 use Rattle.cut_plan.specs.Cells.{cells_of}
-use Rattle.cut_trial.specs.Computed.{Computed}
+use Rattle.cut_outcome.specs.Computed.{Computed}
 use Rattle.cut_ledger.specs.declared.slip.Slip.{Slip}
 use Rattle.cut_ledger.specs.declared.event.Event.{Event}
 use Rattle.cut_ledger.specs.declared.event.Event.TheVariants as event

@@ -9,7 +9,7 @@ ghost use Rattle.cut_book.specs.History.{event_of};
 use cut_disks::{Disk, DiskFault};
 use cut_journal::Journal;
 use cut_journal::laws::{appends_follow_the_run, crashes_are_resumptions};
-use cut_trial::PieceResult;
+use cut_outcome::PieceResult;
 
 /// Appends the slip of a result to a journal, if there is one. Fails where the disk does.
 pub(crate) fn append<D: Disk>(

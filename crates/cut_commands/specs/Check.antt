@@ -4,7 +4,7 @@ use Rattle.std.specs.Fmt.{decimal}
 use Rattle.cut_plan.specs.Values.{Values}
 use Rattle.cut_plan.specs.Canonical.{canonical_text}
 use Rattle.cut_plan.specs.Cells.{cells_of, trial_count}
-use Rattle.cut_trial.specs.FastRound.{quorum_of}
+use Rattle.cut_outcome.specs.FastRound.{quorum_of}
 
 -- a word, a blank, a number in decimal and a line feed
 abbrev pub number_line : List ℕ → ℕ → List ℕ

@@ -5,8 +5,8 @@ ghost use Rattle.cut_commands.specs.Run.{EndsCommand, check_task};
 use crate::CliFault;
 use crate::input::read_plan;
 use crate::output::{push_line, write_answer};
+use cut_outcome::quorum;
 use cut_plan::Plan;
-use cut_trial::quorum;
 use cut_wires::Wire;
 use std::alloc::{AllocError, Global};
 

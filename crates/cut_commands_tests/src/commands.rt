@@ -10,7 +10,7 @@ mod refusals;
 use crate::workers::workers_from;
 use cut_commands::{CliFault, Work, check_io, run_io};
 use cut_disks::MemoryDisk;
-use cut_hall::OpenGate;
+use cut_gate::OpenGate;
 use cut_wires::StreamWire;
 use std::alloc::{AllocError, Global};
 use std::io::{Read, Write};

@@ -1,6 +1,6 @@
 //! How long a study takes, by a few of its trials.
 ghost use Rattle.std.specs.Prelude.{◌≡◌};
-ghost use Rattle.cut_trial.specs.Outcome.{rings_of};
+ghost use Rattle.cut_outcome.specs.Outcome.{rings_of};
 
 use cut_plan::Plan;
 use cut_rings::Rings;

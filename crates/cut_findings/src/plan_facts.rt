@@ -1,7 +1,7 @@
 //! What there is to say of an accepted plan.
 
+use cut_outcome::quorum;
 use cut_plan::{Plan, Version};
-use cut_trial::quorum;
 use std::alloc::{AllocError, Global};
 
 /// How many trials a piece has where nothing else is asked for.

@@ -1,4 +1,4 @@
-use cut_trial::Piece;
+use cut_outcome::Piece;
 use std::sync::Wait;
 
 /// What the workers of a study call at each stage of their work. Nothing is claimed of what it does, and a gate that

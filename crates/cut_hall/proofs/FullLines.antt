@@ -2,7 +2,7 @@
 use Rattle.std.proofs.Common.{◌≡◌, ℕ, ◌*◌, ◌&&◌, true, not, ap}
 use Rattle.cut_lists.proofs.Intervals.{passes_at}
 use Rattle.cut_lists.proofs.Ranges.{filter_agree_on}
-use Rattle.cut_trial.specs.Sum.{plus, sum_of}
+use Rattle.cut_outcome.specs.Sum.{plus, sum_of}
 use Rattle.cut_lines.specs.Lines.{line_with}
 use Rattle.cut_ledger.specs.Contents.{Contents, has, is_in_base, cell_done, cell_sum, further_trials, slip_sum}
 use Rattle.cut_ledger.specs.Contents.{slips_of_cell}

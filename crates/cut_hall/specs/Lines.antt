@@ -1,7 +1,7 @@
 -- The line of a cell once every trial of it is held, over the slips that a study began with.
 use Rattle.std.specs.Prelude.{ℕ, true, List}
 use Rattle.cut_plan.specs.Values.{Values}
-use Rattle.cut_trial.specs.declared.totals.Totals.{Totals}
+use Rattle.cut_outcome.specs.declared.totals.Totals.{Totals}
 use Rattle.cut_lines.specs.Lines.{line_with}
 use Rattle.cut_ledger.specs.declared.slip.Slip.{Slip}
 use Rattle.cut_ledger.specs.Contents.{sum_where}

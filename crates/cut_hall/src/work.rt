@@ -1,15 +1,16 @@
 ghost use Rattle.std.specs.Prelude.{◌≡◌, ◌+◌, ◌<◌, ◌≤◌, IfOk, IfSome, if◌then◌else◌};
 ghost use Rattle.cut_hall.specs.Slot.{losses_of};
-ghost use Rattle.cut_trial.specs.Outcome.{rings_of};
+ghost use Rattle.cut_outcome.specs.Outcome.{rings_of};
 
 use crate::hall::LockedSlot;
 use crate::slot::CallFault;
 use crate::{CallLedger, Gate, Hall, Pass};
 use cut_book::BookFault;
 use cut_disks::Disk;
+use cut_outcome::{Piece, PieceResult};
 use cut_plan::Plan;
 use cut_rings::Rings;
-use cut_trial::{Piece, PieceResult, run_piece};
+use cut_trial::run_piece;
 use std::alloc::Global;
 use std::sync::{Mutex, OnceLock, Wait};
 

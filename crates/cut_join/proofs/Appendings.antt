@@ -9,8 +9,8 @@ use Rattle.cut_plan.specs.declared.version.Version.{Version}
 use Rattle.cut_plan.specs.declared.version.Version.TheVariants.{One, Two}
 use Rattle.cut_plan.specs.Values.{Values}
 use Rattle.cut_plan.specs.Versions.{version_of}
-use Rattle.cut_trial.specs.declared.totals.Totals.{Totals}
-use Rattle.cut_trial.specs.Possible.{IsSettledBy}
+use Rattle.cut_outcome.specs.declared.totals.Totals.{Totals}
+use Rattle.cut_outcome.specs.Possible.{IsSettledBy}
 use Rattle.cut_disks.specs.State.{DiskState}
 use Rattle.cut_ledger.specs.declared.slip.Slip.{Slip}
 use Rattle.cut_ledger.specs.Slips.{AreGood}

@@ -15,8 +15,8 @@ use Rattle.cut_lists.proofs.Parts.{count_first}
 use Rattle.range_set.specs.declared.span.Span.{Span}
 use Rattle.range_set.specs.Spans.{span_between, spans}
 use Rattle.range_set.proofs.SpanLemmas.{Gives, spans_cut, spans_last}
-use Rattle.cut_trial.specs.Outcome.{one_if}
-use Rattle.cut_trial.specs.declared.piece.Piece.{Piece}
+use Rattle.cut_outcome.specs.Outcome.{one_if}
+use Rattle.cut_outcome.specs.declared.piece.Piece.{Piece}
 use Rattle.cut_ledger.specs.Contents.{is_in}
 use Rattle.cut_ledger.specs.Gaps.{piece_at}
 use Rattle.cut_ledger.specs.World.{times_in}

@@ -16,11 +16,11 @@ use Rattle.cut_plan.specs.Cells.{IsCellOf, cells_of, trial_count}
 use Rattle.cut_plan.specs.Plan.{IsPlan}
 use Rattle.cut_plan.specs.Values.{Values}
 use Rattle.cut_plan.proofs.CellFacts.{every-cells}
-use Rattle.cut_trial.specs.declared.piece.Piece.{Piece}
-use Rattle.cut_trial.specs.Outcome.{cell_at, no_cell, one_if}
-use Rattle.cut_trial.specs.Possible.{ArePossible}
-use Rattle.cut_trial.specs.Sum.{is_piece}
-use Rattle.cut_trial.proofs.Sum.{few_in}
+use Rattle.cut_outcome.specs.declared.piece.Piece.{Piece}
+use Rattle.cut_outcome.specs.Outcome.{cell_at, no_cell, one_if}
+use Rattle.cut_outcome.specs.Possible.{ArePossible}
+use Rattle.cut_outcome.specs.Sum.{is_piece}
+use Rattle.cut_outcome.proofs.Sum.{few_in}
 use Rattle.cut_ledger.specs.declared.slip.Slip.{Slip}
 use Rattle.cut_ledger.specs.Contents.{has, is_in, is_in_base, over_base}
 use Rattle.cut_ledger.specs.Slips.{AreGood, IsGood}

@@ -15,10 +15,10 @@ use Rattle.cut_plan.specs.Cells.{cells_of, trial_count}
 use Rattle.cut_plan.specs.Plan.{IsPlan}
 use Rattle.cut_plan.specs.Values.{Values}
 use Rattle.cut_plan.specs.Versions.{version_of}
-use Rattle.cut_trial.specs.declared.piece.Piece.{Piece}
-use Rattle.cut_trial.specs.declared.totals.Totals.{Totals}
-use Rattle.cut_trial.specs.Outcome.{one_if}
-use Rattle.cut_trial.specs.Sum.{each_number, is_piece, plus, sum_of, trials_of_cell}
+use Rattle.cut_outcome.specs.declared.piece.Piece.{Piece}
+use Rattle.cut_outcome.specs.declared.totals.Totals.{Totals}
+use Rattle.cut_outcome.specs.Outcome.{one_if}
+use Rattle.cut_outcome.specs.Sum.{each_number, is_piece, plus, sum_of, trials_of_cell}
 use Rattle.cut_lines.specs.Lines.{header, line_with, table}
 use Rattle.cut_ledger.specs.declared.slip.Slip.{Slip}
 use Rattle.cut_ledger.specs.Contents.{cell_sum, filled, has, is_in, is_in_base, slip_sum, slips_of_cell}

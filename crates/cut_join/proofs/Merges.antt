@@ -11,9 +11,9 @@ use Rattle.cut_lists.proofs.Counts.{filter-none}
 use Rattle.cut_lists.proofs.Intervals.{within_is, within_below, within_above}
 use Rattle.range_set.proofs.SpanLemmas.{Gives}
 use Rattle.cut_plan.specs.Values.{Values}
-use Rattle.cut_trial.specs.declared.piece.Piece.{Piece}
-use Rattle.cut_trial.specs.declared.totals.Totals.{Totals}
-use Rattle.cut_trial.specs.Sum.{each_number, plus}
+use Rattle.cut_outcome.specs.declared.piece.Piece.{Piece}
+use Rattle.cut_outcome.specs.declared.totals.Totals.{Totals}
+use Rattle.cut_outcome.specs.Sum.{each_number, plus}
 use Rattle.cut_ledger.specs.declared.slip.Slip.{Slip}
 use Rattle.cut_ledger.specs.Contents.{is_in, is_in_base, slip_sum}
 use Rattle.cut_ledger.proofs.AddLemmas.{in_base_more}

@@ -16,12 +16,12 @@ use Rattle.cut_plan.specs.Cells.{cells_of}
 use Rattle.cut_plan.specs.Plan.{IsPlan}
 use Rattle.cut_plan.specs.Values.{Values}
 use Rattle.cut_plan.specs.Versions.{version_of}
-use Rattle.cut_trial.specs.declared.piece.Piece.{Piece}
-use Rattle.cut_trial.specs.declared.totals.Totals.{Totals}
-use Rattle.cut_trial.specs.Outcome.{cell_at, no_cell, outcome}
-use Rattle.cut_trial.specs.Possible.{ArePossible}
-use Rattle.cut_trial.specs.Sum.{each_number, plus, sum_of, trials_in}
-use Rattle.cut_trial.proofs.Places.{none_settled, settled_more}
+use Rattle.cut_outcome.specs.declared.piece.Piece.{Piece}
+use Rattle.cut_outcome.specs.declared.totals.Totals.{Totals}
+use Rattle.cut_outcome.specs.Outcome.{cell_at, no_cell, outcome}
+use Rattle.cut_outcome.specs.Possible.{ArePossible}
+use Rattle.cut_outcome.specs.Sum.{each_number, plus, sum_of, trials_in}
+use Rattle.cut_outcome.proofs.Places.{none_settled, settled_more}
 use Rattle.cut_ledger.specs.declared.slip.Slip.{Slip}
 use Rattle.cut_ledger.specs.Contents.{is_in, is_in_base, slip_sum}
 use Rattle.cut_ledger.specs.World.{IsTrueSlip, pieces_of_slips, times_in}

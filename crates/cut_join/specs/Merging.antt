@@ -3,8 +3,8 @@ use Rattle.std.specs.Prelude.{ℕ, ◌+◌, ◌*◌, ◌/◌, ◌<◌, ◌≤◌
 use Rattle.std.specs.Prelude.{IsTrue, if◌then◌else◌, All}
 use Rattle.cut_plan.specs.Plan.{IsPlan}
 use Rattle.cut_plan.specs.Values.{Values}
-use Rattle.cut_trial.specs.declared.piece.Piece.{Piece}
-use Rattle.cut_trial.specs.Sum.{is_piece, plus, IsAtMost}
+use Rattle.cut_outcome.specs.declared.piece.Piece.{Piece}
+use Rattle.cut_outcome.specs.Sum.{is_piece, plus, IsAtMost}
 use Rattle.cut_ledger.specs.declared.slip.Slip.{Slip}
 
 -- a slip of a piece of the plan, with few totals

@@ -2,7 +2,7 @@
 
 ghost use Rattle.std.specs.Prelude.{◌≡◌, All, IfOk, OnOk, IsTrue};
 ghost use Rattle.std.specs.List.Sorted.{IsNonDecreasingBy, IsPermutation};
-ghost use Rattle.cut_trial.specs.Sum.{is_piece};
+ghost use Rattle.cut_outcome.specs.Sum.{is_piece};
 ghost use Rattle.cut_ledger.specs.Slips.{AreGood};
 ghost use Rattle.cut_join.specs.Joined.{joined};
 ghost use Rattle.cut_join.specs.Joining.{IsJudgedBy};
@@ -10,8 +10,8 @@ ghost use Rattle.cut_join.specs.Merging.{AreAscending, IsSmall, adjoins, with_ne
 
 use crate::JoinFault;
 use cut_ledger::{Ledger, Slip, SlipsFault};
+use cut_outcome::Piece;
 use cut_plan::Plan;
-use cut_trial::Piece;
 use std::alloc::{AllocError, Global};
 
 /// The slips of a plan, joined, if a ledger can begin with them.

@@ -9,7 +9,7 @@ use Rattle.cut_plan.specs.declared.version.Version.TheVariants.{One, Two}
 use Rattle.cut_plan.specs.Versions.{version_of}
 use Rattle.cut_plan.specs.Values.{Values}
 use Rattle.cut_plan.specs.Canonical.{canonical_text}
-use Rattle.cut_trial.specs.declared.totals.Totals.{Totals}
+use Rattle.cut_outcome.specs.declared.totals.Totals.{Totals}
 use Rattle.cut_ledger.specs.declared.slip.Slip.{Slip}
 
 -- a gate is a byte that says whether what follows it counts: it is open where it is this byte, and closed

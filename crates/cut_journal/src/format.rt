@@ -13,8 +13,8 @@ ghost use Rattle.cut_journal.specs.Places.{gate_place};
 
 use crate::layout::{magic_of, numbers_length, slip_length};
 use cut_ledger::Slip;
+use cut_outcome::{Piece, Totals};
 use cut_plan::{Plan, Version, canonical_text_reads_back};
-use cut_trial::{Piece, Totals};
 use sha2::{Digest, Sha256};
 use std::alloc::{AllocError, Global};
 use std::marker::Model;

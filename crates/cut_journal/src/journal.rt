@@ -20,8 +20,8 @@ use crate::slip_append::keep;
 use crate::slips::Slips;
 use cut_disks::Disk;
 use cut_ledger::Slip;
+use cut_outcome::PieceResult;
 use cut_plan::Plan;
-use cut_trial::PieceResult;
 use std::alloc::Global;
 use std::marker::Model;
 

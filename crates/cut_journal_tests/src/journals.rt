@@ -3,9 +3,10 @@
 use cut_disks::{DiskCall, MemoryDisk};
 use cut_journal::{Journal, JournalFault};
 use cut_ledger::Slip;
+use cut_outcome::{Piece, PieceResult, Totals};
 use cut_plan::{Plan, PlanFault, Version};
 use cut_rings::Rings;
-use cut_trial::{Piece, PieceResult, Totals, run_piece};
+use cut_trial::run_piece;
 use std::alloc::{AllocError, Global};
 use std::test::Fail;
 

@@ -1,7 +1,7 @@
 -- The trials of a line of the table are trials of its cell.
 use Rattle.std.proofs.Common.{◌≡◌, ℕ, ◌+◌, ◌*◌, ◌<◌, length, get_or, subst, sym, ap, arith}
 use Rattle.cut_laws.proofs.Words.{All, Cell, Values, cell_at, cells_of, no_cell, trial_count}
-use Rattle.cut_trial.specs.Sum.{trials_of_cell}
+use Rattle.cut_outcome.specs.Sum.{trials_of_cell}
 use Rattle.cut_laws.specs.Lines.{IsLine, TrialsAreOfTheirLine, cell_of_line}
 use Rattle.std.proofs.Math.Nat.{add-mul, div-eq_of_lt-le}
 use Rattle.std.proofs.lemmas.Nat.{mul-le}

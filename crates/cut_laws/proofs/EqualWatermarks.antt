@@ -10,7 +10,7 @@ use Rattle.cut_laws.proofs.Words.{receivers_of, rings_of, roles_at, rule_at, rul
 use Rattle.cut_laws.proofs.Words.{sum_of, totals_of, ◌==◌}
 use Rattle.cut_laws.specs.Ends.{NoneStableLeavesAllSilent, SettledEndsLeaveNoneSilent}
 use Rattle.cut_detector.specs.Laws.{ImplicitAlertsChangeNothing}
-use Rattle.cut_trial.specs.Sum.{each_number}
+use Rattle.cut_outcome.specs.Sum.{each_number}
 use Rattle.cut_laws.specs.EqualWatermarks.{HasNoGap, ProposesOneProcess, with_implicit}
 use Rattle.std.proofs.lemmas.List.Elements.{All-head, All-tail}
 use Rattle.std.proofs.lemmas.List.Sums.{sum_by-cons}

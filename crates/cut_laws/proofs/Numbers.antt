@@ -6,7 +6,7 @@ use Rattle.cut_laws.proofs.Words.{All, Assignment, Contains, IfSome, IsAllConfli
 use Rattle.cut_laws.proofs.Words.{ReceiversAreTheRest, Totals, Values, cast_of, cell_at, count_by, has_process}
 use Rattle.cut_laws.proofs.Words.{is_missed, is_target, most_votes, one_if, outcome, processes_of, proposed_at}
 use Rattle.cut_laws.proofs.Words.{quorum_of, roles_at, same_members, sum_of, targets_of, votes_of}
-use Rattle.cut_trial.specs.Laws.{AreByVotes, DecidedOnce, MostVotesAreMost, RightIsDecided, TrialsAreByVotes}
+use Rattle.cut_outcome.specs.Laws.{AreByVotes, DecidedOnce, MostVotesAreMost, RightIsDecided, TrialsAreByVotes}
 use Rattle.cut_laws.specs.Columns.{HasNoTargets, HasVotesOfTheRight, IsRightByVerdicts, IsRightUnlessLost}
 use Rattle.cut_laws.specs.Columns.{IsWrongByVerdicts, NoneIsDecided, to_spare}
 use Rattle.std.proofs.lemmas.Bool.{and_parts, both_ways, cases_Bool, cases_lt, false_from_ne_true, le-leb, lt-leb}

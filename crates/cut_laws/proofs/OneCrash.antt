@@ -9,7 +9,7 @@ use Rattle.cut_laws.proofs.Words.{range_with_len, rings_of, role_at, roles_at, r
 use Rattle.cut_laws.proofs.Words.{targets_of, trial_count}
 use Rattle.cut_alerts.specs.declared.role.Role.TheVariants.{Healthy, Crashed}
 use Rattle.cut_detector.specs.Laws.{ReportsTargetsAlone, StableAreTargets, TargetsAloneLeaveNoneUnstable}
-use Rattle.cut_trial.specs.Laws.{MostVotesAreMost, TrialsAreByVotes}
+use Rattle.cut_outcome.specs.Laws.{MostVotesAreMost, TrialsAreByVotes}
 use Rattle.cut_laws.specs.Ends.{OnlyWhoEndsStableIsProposed, SettledEndsLeaveNoneSilent}
 use Rattle.cut_laws.specs.Ends.{StableTargetsAloneLeaveNoExtra}
 use Rattle.cut_laws.specs.OneCrash.{AreOneCrash}

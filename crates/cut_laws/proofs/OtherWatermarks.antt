@@ -11,7 +11,7 @@ use Rattle.cut_detector.specs.Laws.{AGapWiderAtBothEndsProposesLater, AWiderGapP
 use Rattle.cut_plan.specs.declared.version.Version.{Version}
 use Rattle.cut_plan.specs.declared.version.Version.TheVariants.{One, Two}
 use Rattle.cut_plan.specs.Versions.{version_of}
-use Rattle.cut_trial.specs.Laws.{AWiderGapHasFewerConflicts, HigherHHasFewerConflicts}
+use Rattle.cut_outcome.specs.Laws.{AWiderGapHasFewerConflicts, HigherHHasFewerConflicts}
 use Rattle.cut_laws.specs.OtherWatermarks.{MayLowerL, MayRaiseH, WaitsLonger, waited, with_h, with_l}
 use Rattle.std.proofs.lemmas.List.Sums.{sum_by-cons}
 use Rattle.std.proofs.lemmas.Nat.{mul-le}

@@ -30,13 +30,13 @@ pub use Rattle.cut_detector.specs.Laws.{IsOfLeastPlace, IsPartOf, IsSettled, IsU
 pub use Rattle.cut_detector.specs.Laws.{NoneIsStableUnheard, NoneIsUnstable, ProposesAtFirstStable}
 pub use Rattle.cut_detector.specs.Laws.{ProposesAtLeastPlace, ProposesBefore, StableByReportsAlone}
 pub use Rattle.cut_detector.specs.declared.proposal.Proposal.{Proposal}
-pub use Rattle.cut_trial.specs.declared.totals.Totals.{Totals}
-pub use Rattle.cut_trial.specs.FastRound.{cast_of, members_of, most_votes, quorum_of, same_members, votes_of}
-pub use Rattle.cut_trial.specs.Verdicts.{has_other, has_process, is_missed, judged, lacks_target, processes_of}
-pub use Rattle.cut_trial.specs.Verdicts.{receivers_of, targets_of}
-pub use Rattle.cut_trial.specs.Outcome.{cell_at, cell_outcome, deliveries_at, no_cell, one_if, place_of}
-pub use Rattle.cut_trial.specs.Outcome.{receiver_proposal, rings_of, settled_of, totals_of}
-unfoldable pub use Rattle.cut_trial.specs.Outcome.{outcome}
-pub use Rattle.cut_trial.specs.Sum.{sum_of}
-pub use Rattle.cut_trial.specs.Laws.{AreMoreCautious, OnlyCrashes, ReceiversAreTheRest, with_marks}
+pub use Rattle.cut_outcome.specs.declared.totals.Totals.{Totals}
+pub use Rattle.cut_outcome.specs.FastRound.{cast_of, members_of, most_votes, quorum_of, same_members, votes_of}
+pub use Rattle.cut_outcome.specs.Verdicts.{has_other, has_process, is_missed, judged, lacks_target, processes_of}
+pub use Rattle.cut_outcome.specs.Verdicts.{receivers_of, targets_of}
+pub use Rattle.cut_outcome.specs.Outcome.{cell_at, cell_outcome, deliveries_at, no_cell, one_if, place_of}
+pub use Rattle.cut_outcome.specs.Outcome.{receiver_proposal, rings_of, settled_of, totals_of}
+unfoldable pub use Rattle.cut_outcome.specs.Outcome.{outcome}
+pub use Rattle.cut_outcome.specs.Sum.{sum_of}
+pub use Rattle.cut_outcome.specs.Laws.{AreMoreCautious, OnlyCrashes, ReceiversAreTheRest, with_marks}
 pub use Rattle.cut_laws.specs.Trials.{IsAllConflicts, alerts_at, ends_stable, proposed_at, roles_at, rule_at}

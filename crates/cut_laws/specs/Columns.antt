@@ -1,10 +1,10 @@
 -- Laws between the numbers of a line of the table: of one trial, and of the sums over trials.
 use Rattle.std.specs.Prelude.{◌≡◌, ℕ, ◌+◌, ◌-◌, ◌*◌, ◌/◌, ◌<◌, ◌≤◌, nat_le, List, length, All}
 use Rattle.cut_plan.specs.Values.{Values}
-use Rattle.cut_trial.specs.declared.totals.Totals.{Totals}
-use Rattle.cut_trial.specs.FastRound.{quorum_of}
-use Rattle.cut_trial.specs.Outcome.{cell_at, one_if, outcome}
-use Rattle.cut_trial.specs.Sum.{sum_of}
+use Rattle.cut_outcome.specs.declared.totals.Totals.{Totals}
+use Rattle.cut_outcome.specs.FastRound.{quorum_of}
+use Rattle.cut_outcome.specs.Outcome.{cell_at, one_if, outcome}
+use Rattle.cut_outcome.specs.Sum.{sum_of}
 
 -- ---- who can decide
 

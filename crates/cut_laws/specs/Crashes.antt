@@ -8,8 +8,8 @@ use Rattle.cut_plan.specs.Values.{Values}
 use Rattle.cut_rings.specs.Layout.{observer_of}
 use Rattle.cut_alerts.specs.Assignment.{has_crashed, is_target}
 use Rattle.cut_detector.specs.Counts.{ring_count}
-use Rattle.cut_trial.specs.Laws.{OnlyCrashes}
-use Rattle.cut_trial.specs.Outcome.{cell_at, outcome, rings_of}
+use Rattle.cut_outcome.specs.Laws.{OnlyCrashes}
+use Rattle.cut_outcome.specs.Outcome.{cell_at, outcome, rings_of}
 use Rattle.cut_laws.specs.Reports.{least_reports, raised_about}
 use Rattle.cut_laws.specs.Trials.{roles_at}
 

@@ -7,7 +7,7 @@ use Rattle.cut_plan.specs.Values.{Values}
 use Rattle.cut_rings.specs.Edges.{set_of}
 use Rattle.cut_alerts.specs.Assignment.{is_target}
 use Rattle.cut_detector.specs.Laws.{IsSettled}
-use Rattle.cut_trial.specs.Outcome.{outcome, rings_of}
+use Rattle.cut_outcome.specs.Outcome.{outcome, rings_of}
 use Rattle.cut_laws.specs.Trials.{IsAllConflicts, alerts_at, ends_stable, proposed_at, roles_at, rule_at}
 
 -- a receiver proposes only processes that are stable in the end

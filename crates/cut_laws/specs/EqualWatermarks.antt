@@ -10,8 +10,8 @@ use Rattle.cut_rings.specs.Edges.{set_of}
 use Rattle.cut_rings.specs.Layout.{Layout}
 use Rattle.cut_draws.specs.Source.{Source}
 use Rattle.cut_detector.specs.Counts.{is_some_stable}
-use Rattle.cut_trial.specs.Outcome.{cell_at, outcome, receiver_proposal, rings_of}
-use Rattle.cut_trial.specs.Sum.{sum_of}
+use Rattle.cut_outcome.specs.Outcome.{cell_at, outcome, receiver_proposal, rings_of}
+use Rattle.cut_outcome.specs.Sum.{sum_of}
 use Rattle.cut_laws.specs.Trials.{IsAllConflicts, alerts_at, rule_at}
 
 -- every proposal has exactly one member, whatever edges are alerted

@@ -6,10 +6,10 @@ use Rattle.cut_plan.specs.Plan.{IsPlan}
 use Rattle.cut_plan.specs.Values.{Values}
 use Rattle.cut_plan.specs.declared.version.Version.TheVariants.{Two}
 use Rattle.cut_plan.specs.Versions.{version_of}
-use Rattle.cut_trial.specs.declared.totals.Totals.{Totals}
-use Rattle.cut_trial.specs.Laws.{AreMoreCautious, OnlyCrashes}
-use Rattle.cut_trial.specs.Outcome.{cell_at, no_cell}
-use Rattle.cut_trial.specs.Sum.{sum_of, trials_of_cell}
+use Rattle.cut_outcome.specs.declared.totals.Totals.{Totals}
+use Rattle.cut_outcome.specs.Laws.{AreMoreCautious, OnlyCrashes}
+use Rattle.cut_outcome.specs.Outcome.{cell_at, no_cell}
+use Rattle.cut_outcome.specs.Sum.{sum_of, trials_of_cell}
 use Rattle.cut_laws.specs.Columns.{HasNoTargets, HasVotesOfTheRight, IsRightUnlessLost, IsWrongByVerdicts}
 use Rattle.cut_laws.specs.Columns.{NoneIsDecided}
 use Rattle.cut_laws.specs.EqualWatermarks.{with_implicit}

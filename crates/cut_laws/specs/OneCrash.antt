@@ -5,10 +5,10 @@ use Rattle.cut_plan.specs.Plan.{IsPlan}
 use Rattle.cut_plan.specs.Values.{Values}
 use Rattle.cut_plan.specs.declared.version.Version.TheVariants.{Two}
 use Rattle.cut_plan.specs.Versions.{version_of}
-use Rattle.cut_trial.specs.declared.totals.Totals.{Totals}
-use Rattle.cut_trial.specs.Laws.{OnlyCrashes}
-use Rattle.cut_trial.specs.Outcome.{cell_at, one_if, outcome}
-use Rattle.cut_trial.specs.Sum.{sum_of}
+use Rattle.cut_outcome.specs.declared.totals.Totals.{Totals}
+use Rattle.cut_outcome.specs.Laws.{OnlyCrashes}
+use Rattle.cut_outcome.specs.Outcome.{cell_at, one_if, outcome}
+use Rattle.cut_outcome.specs.Sum.{sum_of}
 use Rattle.cut_laws.specs.Trials.{proposed_at}
 
 -- in each of some trials of n processes, all n - 1 receivers propose exactly the one that has crashed; they are a

@@ -3,10 +3,10 @@
 use Rattle.std.specs.Prelude.{◌≡◌, ℕ, ◌+◌, ◌*◌, ◌≤◌, false, List, [], ◌∷◌, All}
 use Rattle.cut_plan.specs.Values.{Values}
 use Rattle.cut_detector.specs.Laws.{ProposesBefore}
-use Rattle.cut_trial.specs.declared.totals.Totals.{Totals}
-use Rattle.cut_trial.specs.Laws.{AreMoreCautious}
-use Rattle.cut_trial.specs.Outcome.{deliveries_at, outcome}
-use Rattle.cut_trial.specs.Sum.{sum_of}
+use Rattle.cut_outcome.specs.declared.totals.Totals.{Totals}
+use Rattle.cut_outcome.specs.Laws.{AreMoreCautious}
+use Rattle.cut_outcome.specs.Outcome.{deliveries_at, outcome}
+use Rattle.cut_outcome.specs.Sum.{sum_of}
 use Rattle.cut_laws.specs.Trials.{proposed_at}
 
 -- the plan with this one H

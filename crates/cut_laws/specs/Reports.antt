@@ -7,7 +7,7 @@ use Rattle.cut_draws.specs.DeliveryOrder.{early}
 use Rattle.cut_draws.specs.Source.{source_of}
 use Rattle.cut_alerts.specs.Assignment.{is_target}
 use Rattle.cut_detector.specs.Counts.{reports_of}
-use Rattle.cut_trial.specs.Outcome.{cell_at, outcome}
+use Rattle.cut_outcome.specs.Outcome.{cell_at, outcome}
 use Rattle.cut_laws.specs.Trials.{IsAllConflicts, alerts_at, proposed_at, roles_at, rule_at}
 
 -- what receiver j of trial t has heard of after n deliveries

@@ -11,8 +11,8 @@ use Rattle.cut_alerts.specs.Alerted.{alert_list}
 use Rattle.cut_detector.specs.Rule.{Rule, rule_of}
 use Rattle.cut_detector.specs.Counts.{is_stable}
 use Rattle.cut_detector.specs.declared.proposal.Proposal.{Proposal}
-use Rattle.cut_trial.specs.declared.totals.Totals.{Totals}
-use Rattle.cut_trial.specs.Outcome.{cell_at, receiver_proposal, rings_of}
+use Rattle.cut_outcome.specs.declared.totals.Totals.{Totals}
+use Rattle.cut_outcome.specs.Outcome.{cell_at, receiver_proposal, rings_of}
 
 -- the rule by which the receivers of trial t propose
 abbrev pub rule_at : Values → ℕ → Rule

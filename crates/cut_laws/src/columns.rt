@@ -1,6 +1,6 @@
 //! What the numbers of a line of the table say of each other, in one trial and in sums over trials. That votes and
 //! silent receivers are at most the receivers, and a quorum for each decided trial at most the votes, stands among
-//! the laws of `cut_trial`.
+//! the laws of `cut_outcome`.
 
 ghost use Rattle.cut_laws.specs.Columns.{
   TooFewVotersDecideNothing,
@@ -17,7 +17,7 @@ ghost use Rattle.cut_laws.specs.Columns.{
 };
 
 use cut_detector::laws::proposes_at_least_place;
-use cut_trial::laws::{decided_by_votes, receivers_are_the_rest, right_is_decided};
+use cut_outcome::laws::{decided_by_votes, receivers_are_the_rest, right_is_decided};
 
 /// A quorum is all N processes, failed ones included, less a quarter of N - 1, rounded down. So where more than that
 /// quarter fail or are silent, no trial is decided, whatever K, H and L are.

@@ -11,8 +11,8 @@ use crate::ends::settled_ends_leave_none_silent;
 use cut_detector::laws::{
     none_is_marked_unheard, targets_alone, unstable_are_reported_and_not_stable,
 };
+use cut_outcome::laws::receivers_are_the_rest;
 use cut_plan::cells_are_the_combinations;
-use cut_trial::laws::receivers_are_the_rest;
 
 /// With crashes alone a target is reported on the rings whose observer has not crashed, or on all where crashed
 /// observers speak, and no other process is reported.

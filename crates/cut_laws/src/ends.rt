@@ -10,8 +10,8 @@ ghost use Rattle.cut_laws.specs.Ends.{
 
 use cut_detector::laws::{more_edges_only_add, none_is_marked_unheard, proposes_at_least_place};
 use cut_draws::laws::{deliveries_are_copies_of_edges, edges_come_at_their_first_time};
+use cut_outcome::laws::receivers_are_the_rest;
 use cut_plan::cells_are_the_combinations;
-use cut_trial::laws::receivers_are_the_rest;
 
 /// Alerts only add to what is stable. So no receiver proposes a process that isn't stable once all alerts have come,
 /// and where a target isn't, as one whose observers have mostly crashed and are silent, every receiver that proposes

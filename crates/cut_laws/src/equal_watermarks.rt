@@ -12,9 +12,9 @@ ghost use Rattle.cut_laws.specs.EqualWatermarks.{
 use crate::ends::{only_who_ends_stable_is_proposed, settled_ends_leave_none_silent};
 use cut_detector::laws::{equal_watermarks, none_is_marked_unheard, proposes_at_least_place};
 use cut_draws::laws::edges_come_at_their_first_time;
+use cut_outcome::laws::receivers_are_the_rest;
 use cut_plan::cells_are_the_combinations;
 use cut_rings::laws::edge_numbers_name_edges;
-use cut_trial::laws::receivers_are_the_rest;
 
 /// With L = H nothing holds a receiver back: it proposes at the first delivery after which some process is stable,
 /// and a delivery makes one process stable at most. So every proposal has exactly one member.

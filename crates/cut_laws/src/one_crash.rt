@@ -15,9 +15,9 @@ use cut_detector::laws::{
 use cut_draws::laws::{
     deliveries_are_copies_of_edges, distinct_edges_have_an_order, edges_come_at_their_first_time,
 };
+use cut_outcome::laws::{decided_by_votes, receivers_are_the_rest, right_is_decided};
 use cut_plan::cells_are_the_combinations;
 use cut_rings::laws::edge_numbers_name_edges;
-use cut_trial::laws::{decided_by_votes, receivers_are_the_rest, right_is_decided};
 
 /// One crash is found by every receiver, whatever K, H and L are: no process observes itself, so all K observers of
 /// the crashed process report it, and nobody reports any other.

@@ -4,7 +4,7 @@ ghost use Rattle.cut_laws.specs.OtherWatermarks.{AHigherHWaitsLonger, ALowerLWai
 
 use cut_detector::laws::{a_wider_gap_proposes_later, proposes_at_least_place};
 use cut_draws::laws::edges_come_at_their_first_time;
-use cut_trial::laws::{higher_h, wider_gap};
+use cut_outcome::laws::{higher_h, wider_gap};
 
 /// Two plans that differ in their one H alone have the same trials. With the higher H each receiver waits longer: no
 /// fewer are silent, no more are a conflict, and who proposes does so no sooner, of no fewer processes. So in each

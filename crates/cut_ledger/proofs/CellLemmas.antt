@@ -17,7 +17,7 @@ use Rattle.cut_lists.proofs.Ranges.{range_with_len_more}
 use Rattle.cut_lists.proofs.Additions.{PassesPart}
 use Rattle.cut_lists.proofs.Counts.{filter-none}
 use Rattle.cut_lists.proofs.Intervals.{within_is, within_above}
-use Rattle.cut_trial.specs.Outcome.{outcome}
+use Rattle.cut_outcome.specs.Outcome.{outcome}
 use Rattle.range_set.specs.Held as held
 use Rattle.cut_ledger.specs.Kept.{AreSumsOf, span_of, sum_at}
 

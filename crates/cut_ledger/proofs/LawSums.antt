@@ -7,7 +7,7 @@ use Rattle.std.proofs.lemmas.List.Sums.{sum_by-cons}
 use Rattle.cut_lists.proofs.Additions.{PassesPart, sum_of_more}
 use Rattle.cut_lists.proofs.Counts.{filter-none}
 use Rattle.cut_lists.proofs.Intervals.{passes_at, within_is}
-use Rattle.cut_trial.specs.Outcome.{outcome}
+use Rattle.cut_outcome.specs.Outcome.{outcome}
 use Rattle.cut_lists.proofs.Ranges.{filter_agree_on}
 use Rattle.cut_lists.proofs.Parts.{count_first}
 use Rattle.cut_ledger.proofs.Words.{AllByRecursion, Contents, IsTrueSlip, Piece, Slip, Totals, Values}

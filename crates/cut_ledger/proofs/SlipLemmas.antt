@@ -5,7 +5,7 @@ use Rattle.std.proofs.lemmas.Bool.{cases_lt}
 use Rattle.std.proofs.lemmas.List.{ext_get_or, get_or_default}
 use Rattle.std.proofs.lemmas.List.FromFn.{length-map-range_with_len}
 use Rattle.cut_lists.proofs.Ranges.{list_any_agree}
-use Rattle.cut_trial.specs.Outcome.{cell_at}
+use Rattle.cut_outcome.specs.Outcome.{cell_at}
 use Rattle.range_set.specs.Held as held
 use Rattle.cut_ledger.proofs.Words.{AreGoodUpTo, AreOver, ArePossible, IsAdded, IsAtMost, IsGood, IsTrue}
 use Rattle.cut_ledger.proofs.Words.{Piece, Slip, Totals, Values, contents_in, has, is_in, is_in_base, is_piece}

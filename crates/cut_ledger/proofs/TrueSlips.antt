@@ -7,7 +7,7 @@ use Rattle.std.proofs.lemmas.List.Elements.{All-from_recursion}
 use Rattle.cut_lists.proofs.Parts.{count_first}
 use Rattle.cut_lists.proofs.Intervals.{within_is}
 use Rattle.cut_lists.proofs.Ranges.{list_any_none_passing}
-use Rattle.cut_trial.specs.Outcome.{cell_at}
+use Rattle.cut_outcome.specs.Outcome.{cell_at}
 use Rattle.cut_ledger.proofs.Words.{AllByRecursion, AreGood, ArePossible, IsGood, IsTrueSlip}
 use Rattle.cut_ledger.proofs.Words.{PiecesHavePossibleTotals, Slip, Totals, Values, has, is_in, is_in_base}
 use Rattle.cut_ledger.proofs.Words.{one_if, over_base, pieces_of_slips, times_in}

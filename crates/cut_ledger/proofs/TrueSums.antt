@@ -1,7 +1,7 @@
 -- The sums of a cell over true slips: those of its trials, each once.
 use Rattle.std.proofs.Common.{◌≡◌, ℕ, ◌+◌, ◌<◌, ◌≤◌, not, true, List, filter, refl, ap, ◌∙◌}
 use Rattle.std.proofs.lemmas.List.Filters.{sum_by-filter_both}
-use Rattle.cut_trial.specs.Outcome.{outcome}
+use Rattle.cut_outcome.specs.Outcome.{outcome}
 use Rattle.cut_ledger.proofs.LawSums.{base_sums}
 use Rattle.cut_ledger.proofs.Words.{AllByRecursion, IsTrueSlip, Slip, Totals, Values, each_number, further_trials}
 use Rattle.cut_ledger.proofs.Words.{is_in_base}

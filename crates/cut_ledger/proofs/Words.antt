@@ -22,13 +22,13 @@ pub use Rattle.cut_plan.specs.Cells.{cells_of, trial_count}
 pub use Rattle.cut_plan.specs.Plan.{IsPlan}
 pub use Rattle.cut_plan.specs.Values.{Values}
 pub use Rattle.cut_plan.specs.declared.refusal.Refusal.{Refusal}
-pub use Rattle.cut_trial.specs.Computed.{Computed}
-pub use Rattle.cut_trial.specs.Laws.{PiecesHavePossibleTotals}
-pub use Rattle.cut_trial.specs.Outcome.{one_if}
-pub use Rattle.cut_trial.specs.Possible.{ArePossible}
-pub use Rattle.cut_trial.specs.Sum.{IsAtMost, each_number, is_piece, plus, sum_of, trials_in, trials_of_cell}
-pub use Rattle.cut_trial.specs.declared.piece.Piece.{Piece}
-pub use Rattle.cut_trial.specs.declared.totals.Totals.{Totals}
+pub use Rattle.cut_outcome.specs.Computed.{Computed}
+pub use Rattle.cut_outcome.specs.Laws.{PiecesHavePossibleTotals}
+pub use Rattle.cut_outcome.specs.Outcome.{one_if}
+pub use Rattle.cut_outcome.specs.Possible.{ArePossible}
+pub use Rattle.cut_outcome.specs.Sum.{IsAtMost, each_number, is_piece, plus, sum_of, trials_in, trials_of_cell}
+pub use Rattle.cut_outcome.specs.declared.piece.Piece.{Piece}
+pub use Rattle.cut_outcome.specs.declared.totals.Totals.{Totals}
 pub use Rattle.std.specs.Cmp.Lexicographic.{same_text}
 pub use Rattle.std.specs.Int.{div_ceil}
 pub use Rattle.std.specs.List.{AllByRecursion, AllWithin, count_by, flat_map, list_all, list_any, prefix_len}

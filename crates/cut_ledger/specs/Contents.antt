@@ -4,9 +4,9 @@ use Rattle.std.specs.Prelude.{slice_index_or, nat_lt, nat_le}
 use Rattle.std.specs.List.{range_with_len, list_any, list_all, sum_by}
 use Rattle.cut_plan.specs.Values.{Values}
 use Rattle.cut_plan.specs.Cells.{trial_count}
-use Rattle.cut_trial.specs.declared.piece.Piece.{Piece}
-use Rattle.cut_trial.specs.declared.totals.Totals.{Totals}
-use Rattle.cut_trial.specs.Sum.{each_number, plus, sum_of, trials_in, trials_of_cell}
+use Rattle.cut_outcome.specs.declared.piece.Piece.{Piece}
+use Rattle.cut_outcome.specs.declared.totals.Totals.{Totals}
+use Rattle.cut_outcome.specs.Sum.{each_number, plus, sum_of, trials_in, trials_of_cell}
 use Rattle.cut_ledger.specs.declared.slip.Slip.{Slip}
 
 -- the plan; the base, which are the slips that it began with; and of each trial whether it is held

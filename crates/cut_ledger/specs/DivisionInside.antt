@@ -2,7 +2,7 @@
 use Rattle.std.specs.Prelude.{◌≡◌, ℕ, ◌+◌, ◌-◌, ◌≤◌, ◌<◌, ◌^◌, List, All, map, take, length, slice_index_or}
 use Rattle.std.specs.Int.{div_ceil}
 use Rattle.std.specs.List.{flat_map}
-use Rattle.cut_trial.specs.declared.piece.Piece.{Piece}
+use Rattle.cut_outcome.specs.declared.piece.Piece.{Piece}
 use Rattle.cut_ledger.specs.Gaps.{part_of, parts_of}
 use Rattle.cut_ledger.specs.declared.division.Stretch.{Stretch}
 use Rattle.cut_ledger.specs.declared.division.Division.TheInside.{Inside}

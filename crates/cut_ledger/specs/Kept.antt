@@ -4,9 +4,9 @@ use Rattle.std.specs.Prelude.{◌≡◌, ℕ, ◌*◌, ◌<◌, Bool, true, List
 use Rattle.cut_plan.specs.Values.{Values}
 use Rattle.cut_plan.specs.Cells.{cells_of, trial_count}
 use Rattle.cut_plan.specs.Plan.{IsPlan}
-use Rattle.cut_trial.specs.declared.piece.Piece.{Piece}
-use Rattle.cut_trial.specs.declared.totals.Totals.{Totals}
-use Rattle.cut_trial.specs.Sum.{each_number, plus, trials_of_cell, IsAtMost}
+use Rattle.cut_outcome.specs.declared.piece.Piece.{Piece}
+use Rattle.cut_outcome.specs.declared.totals.Totals.{Totals}
+use Rattle.cut_outcome.specs.Sum.{each_number, plus, trials_of_cell, IsAtMost}
 use Rattle.range_set.specs.declared.span.Span.{Span}
 use Rattle.range_set.specs.Held.{Held, has, with_span, KeepsOtherRoom}
 use Rattle.cut_ledger.specs.declared.slip.Slip.{Slip}

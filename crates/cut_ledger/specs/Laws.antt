@@ -5,8 +5,8 @@ use Rattle.std.specs.List.{flat_map}
 use Rattle.cut_plan.specs.Cells.{cells_of}
 use Rattle.cut_plan.specs.Plan.{IsPlan}
 use Rattle.cut_plan.specs.Values.{Values}
-use Rattle.cut_trial.specs.declared.piece.Piece.{Piece}
-use Rattle.cut_trial.specs.Sum.{sum_of, trials_in, trials_of_cell}
+use Rattle.cut_outcome.specs.declared.piece.Piece.{Piece}
+use Rattle.cut_outcome.specs.Sum.{sum_of, trials_in, trials_of_cell}
 use Rattle.cut_lines.specs.Lines.{table}
 use Rattle.cut_ledger.specs.declared.slip.Slip.{Slip}
 use Rattle.cut_ledger.specs.Contents.{Contents, has, all_trials, over_base, with_piece, overlaps, cell_done}

@@ -9,9 +9,9 @@ use Rattle.cut_faults.specs.declared.code.FaultCode.TheVariants as code
 use Rattle.cut_plan.specs.Values.{Values}
 use Rattle.cut_plan.specs.Cells.{cells_of}
 use Rattle.cut_plan.specs.Versions.{version_of}
-use Rattle.cut_trial.specs.Computed.{Computed}
-use Rattle.cut_trial.specs.declared.piece.Piece as pieces
-use Rattle.cut_trial.specs.Sum.{sum_of, trials_in}
+use Rattle.cut_outcome.specs.Computed.{Computed}
+use Rattle.cut_outcome.specs.declared.piece.Piece as pieces
+use Rattle.cut_outcome.specs.Sum.{sum_of, trials_in}
 use Rattle.cut_lines.specs.Lines.{header, line_with}
 use Rattle.cut_ledger.specs.declared.slip.Slip.{Slip}
 use Rattle.cut_ledger.specs.declared.event.Event.{Event}

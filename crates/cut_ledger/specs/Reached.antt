@@ -3,7 +3,7 @@ use Rattle.std.specs.Prelude.{◌≡◌, ◌<◌, ◌≤◌, ℕ, true, false, l
 use Rattle.std.specs.List.{AllByRecursion}
 use Rattle.cut_plan.specs.Values.{Values}
 use Rattle.cut_plan.specs.Cells.{trial_count}
-use Rattle.cut_trial.specs.Outcome.{one_if}
+use Rattle.cut_outcome.specs.Outcome.{one_if}
 use Rattle.cut_ledger.specs.declared.slip.Slip.{Slip}
 use Rattle.cut_ledger.specs.Contents.{Contents, has, is_in}
 use Rattle.cut_ledger.specs.Machine.{StudyState, available}

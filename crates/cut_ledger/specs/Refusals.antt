@@ -3,7 +3,7 @@ use Rattle.std.specs.Prelude.{◌≡◌, ◌==◌, Bool, false, if◌then◌else
 use Rattle.std.specs.Cmp.Lexicographic.{pointwise}
 use Rattle.cut_plan.specs.Values.{Values}
 use Rattle.cut_plan.specs.Canonical.{canonical_text}
-use Rattle.cut_trial.specs.Computed.{Computed}
+use Rattle.cut_outcome.specs.Computed.{Computed}
 use Rattle.cut_ledger.specs.declared.offer_fault.OfferFault.{OfferFault}
 use Rattle.cut_ledger.specs.declared.offer_fault.OfferFault.TheVariants.{Memory, Stranger, Overlap}
 use Rattle.cut_ledger.specs.Contents.{Contents, overlaps}

@@ -1,9 +1,9 @@
 -- Which slips a ledger can begin with.
 use Rattle.std.specs.Prelude.{◌≡◌, ℕ, ◌-◌, ◌≤◌, ◌<◌, false, List, length, take, slice_index_or, IsTrue, ⊤}
 use Rattle.cut_plan.specs.Values.{Values}
-use Rattle.cut_trial.specs.Outcome.{cell_at}
-use Rattle.cut_trial.specs.Possible.{ArePossible}
-use Rattle.cut_trial.specs.Sum.{is_piece}
+use Rattle.cut_outcome.specs.Outcome.{cell_at}
+use Rattle.cut_outcome.specs.Possible.{ArePossible}
+use Rattle.cut_outcome.specs.Sum.{is_piece}
 use Rattle.cut_ledger.specs.declared.slip.Slip.{Slip}
 use Rattle.cut_ledger.specs.declared.slips_fault.SlipsFault.{SlipsFault}
 use Rattle.cut_ledger.specs.declared.slips_fault.SlipsFault.TheVariants.{Memory, BadSlip}

@@ -5,7 +5,7 @@ ghost use Rattle.std.specs.List.Sorted.{IsNonDecreasingBy, IsPartitionPoint};
 ghost use Rattle.cut_ledger.specs.Gaps.{parts_of};
 ghost use Rattle.cut_ledger.specs.DivisionInside.{HasNumber, piece_of};
 
-use cut_trial::Piece;
+use cut_outcome::Piece;
 use std::alloc::{AllocError, Global};
 use std::marker::Model;
 
@@ -28,7 +28,7 @@ pub struct Division {
 
 impl Model for Division {
     ghost use Rattle.std.specs.Prelude.{List};
-    ghost use Rattle.cut_trial.specs.declared.piece.Piece.{Piece};
+    ghost use Rattle.cut_outcome.specs.declared.piece.Piece.{Piece};
     ghost use Rattle.cut_ledger.specs.DivisionInside.{pieces_in, IsDivision};
 
     ghost Value = { List Piece };

@@ -1,6 +1,6 @@
 use crate::Bytes;
 use cut_faults::FaultCode;
-use cut_trial::{Piece, PieceResult};
+use cut_outcome::{Piece, PieceResult};
 
 /// What happens to a run of a study.
 #[derive(Debug, Drop)]

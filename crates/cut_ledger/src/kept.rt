@@ -2,7 +2,7 @@ ghost use Rattle.std.specs.Prelude.{◌≡◌, ◌+◌, ◌*◌, ◌/◌, ◌≤
 ghost use Rattle.std.specs.Prelude.{IsTrue};
 ghost use Rattle.std.specs.List.{list_any};
 ghost use Rattle.cut_plan.specs.Cells.{trial_count};
-ghost use Rattle.cut_trial.specs.Sum.{is_piece, trials_in, IsAtMost};
+ghost use Rattle.cut_outcome.specs.Sum.{is_piece, trials_in, IsAtMost};
 ghost use Rattle.cut_ledger.specs.declared.slip.Slip as slips;
 ghost use Rattle.cut_ledger.specs.Kept.{AreKept, AreOver, IsAdded};
 ghost use Rattle.cut_ledger.specs.Slips.{IsGood};
@@ -11,8 +11,8 @@ ghost use Rattle.range_set.specs.Held.{has, has_room};
 use crate::Slip;
 use crate::possible::is_possible;
 use crate::spans::span_of;
+use cut_outcome::{Piece, Totals, is_piece};
 use cut_plan::Plan;
-use cut_trial::{Piece, Totals, is_piece};
 use range_set::RangeSet;
 use std::alloc::{AllocError, Global};
 

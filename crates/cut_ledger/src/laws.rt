@@ -12,8 +12,8 @@ ghost use Rattle.cut_ledger.specs.declared.event.Event.{Event};
 ghost use Rattle.cut_ledger.specs.Machine.{start};
 ghost use Rattle.cut_ledger.specs.World.{begun, run, HasTrueResult, IsRight, SayAlike};
 
+use cut_outcome::laws::pieces_have_possible_totals;
 use cut_plan::canonical_text_reads_back;
-use cut_trial::laws::pieces_have_possible_totals;
 use range_set::laws::spans_are_what_passes;
 
 /// The gaps, and the pieces of any size that they are cut into, have exactly the trials that are not held,

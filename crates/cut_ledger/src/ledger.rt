@@ -2,7 +2,7 @@ ghost use Rattle.std.specs.Prelude.{◌≡◌, ℕ, ◌+◌, ◌/◌, ◌<◌, �
 ghost use Rattle.std.specs.Prelude.{Some, None, IsTrue, IfOk, OnOk, OnErr, IfErr, IsOk, IfNone, All};
 ghost use Rattle.cut_plan.specs.Cells.{cells_of, trial_count};
 ghost use Rattle.cut_plan.specs.Plan.{IsPlan};
-ghost use Rattle.cut_trial.specs.Sum.{is_piece};
+ghost use Rattle.cut_outcome.specs.Sum.{is_piece};
 ghost use Rattle.cut_ledger.specs.Account.{has_room, KeepsRoomOfOthers};
 ghost use Rattle.cut_ledger.specs.Contents.{has, over_base, with_piece, cell_of_piece, cell_done, cell_sum};
 ghost use Rattle.cut_ledger.specs.Contents.{is_complete};
@@ -14,8 +14,8 @@ ghost use Rattle.cut_ledger.specs.Slips.{AreGood, IsFaultOfSlips};
 use crate::kept::Kept;
 use crate::spans::{pieces_at, span_of_cell};
 use crate::{Base, Division, OfferFault, Slip, SlipsFault};
+use cut_outcome::{Piece, PieceResult, Totals};
 use cut_plan::Plan;
-use cut_trial::{Piece, PieceResult, Totals};
 use range_set::Span;
 use range_set::laws::spans_are_what_passes;
 use std::alloc::{AllocError, Global};

@@ -1,13 +1,13 @@
 ghost use Rattle.std.specs.Prelude.{◌≡◌, ◌+◌, ◌-◌, ◌*◌, ◌≤◌, ◌^◌, ◌↔◌, IsTrue};
 ghost use Rattle.cut_plan.specs.Cells.{IsCellOf};
 ghost use Rattle.cut_plan.specs.Versions.{version_of};
-ghost use Rattle.cut_trial.specs.Outcome.{cell_at};
-ghost use Rattle.cut_trial.specs.Possible.{AreCounted, ArePossible, IsSettledBy};
-ghost use Rattle.cut_trial.specs.Sum.{is_piece, IsAtMost};
+ghost use Rattle.cut_outcome.specs.Outcome.{cell_at};
+ghost use Rattle.cut_outcome.specs.Possible.{AreCounted, ArePossible, IsSettledBy};
+ghost use Rattle.cut_outcome.specs.Sum.{is_piece, IsAtMost};
 
 use crate::Slip;
+use cut_outcome::Totals;
 use cut_plan::{Cell, Plan, Version};
-use cut_trial::Totals;
 
 /// Whether a slip's totals are possible ones of its piece.
 pub(crate) fn is_possible(plan: &Plan, slip: &Slip) -> bool

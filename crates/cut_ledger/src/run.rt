@@ -2,7 +2,7 @@ ghost use Rattle.std.specs.Prelude.{◌≡◌, ℕ, ◌<◌, ◌≤◌, ◌||◌
 ghost use Rattle.std.specs.Prelude.{IsSome, IfNone, IfOk, OnOk, OnErr};
 ghost use Rattle.std.specs.List.{AllByRecursion, list_any};
 ghost use Rattle.cut_ledger.specs.declared.event.Event.TheVariants as event;
-ghost use Rattle.cut_trial.specs.Sum.{is_piece};
+ghost use Rattle.cut_outcome.specs.Sum.{is_piece};
 ghost use Rattle.cut_ledger.specs.Contents.{over_base};
 ghost use Rattle.cut_ledger.specs.Refusals.{CanTake};
 ghost use Rattle.cut_ledger.specs.Machine.{start, opened, available, slips_found, next_bytes, is_finished};
@@ -13,9 +13,9 @@ ghost use Rattle.cut_ledger.specs.World.{IsTrueSlip, times_in, pieces_of_slips};
 use crate::available::available;
 use crate::{Bytes, Event, Ledger, Reply, Slip, SlipsFault};
 use cut_faults::FaultCode;
+use cut_outcome::laws::pieces_have_possible_totals;
+use cut_outcome::{Piece, PieceResult};
 use cut_plan::Plan;
-use cut_trial::laws::pieces_have_possible_totals;
-use cut_trial::{Piece, PieceResult};
 use std::alloc::{AllocError, Global};
 use std::marker::Model;
 

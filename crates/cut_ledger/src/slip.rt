@@ -1,4 +1,4 @@
-use cut_trial::{Piece, Totals};
+use cut_outcome::{Piece, Totals};
 
 /// What a checkpoint says of a piece: that its trials have these sums.
 #[derive(Clone, Copy, Debug, PartialEq, Eq)]

@@ -5,8 +5,8 @@ ghost use Rattle.cut_plan.specs.Cells.{cells_of, trial_count};
 ghost use Rattle.cut_ledger.specs.Gaps.{piece_at};
 ghost use Rattle.cut_ledger.specs.Kept.{span_of};
 
+use cut_outcome::Piece;
 use cut_plan::Plan;
-use cut_trial::Piece;
 use range_set::Span;
 use std::alloc::{AllocError, Global};
 

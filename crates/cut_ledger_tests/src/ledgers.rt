@@ -2,8 +2,8 @@
 
 use crate::studies::{PLAN, SETTLED, SMALLER, TWO_CELLS, begun, fresh, piece_of, result_of, slip};
 use cut_ledger::{Base, Division, Ledger, OfferFault, Slip, SlipsFault};
+use cut_outcome::Piece;
 use cut_plan::Plan;
-use cut_trial::Piece;
 use std::alloc::{AllocError, Global};
 use std::test::Fail;
 

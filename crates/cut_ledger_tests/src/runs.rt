@@ -5,8 +5,8 @@ ghost use Rattle.cut_ledger.specs.Machine.{IsSizedEvent};
 
 use crate::studies::{PLAN, result_of};
 use cut_ledger::{Event, Reply, Run};
+use cut_outcome::Piece;
 use cut_plan::Plan;
-use cut_trial::Piece;
 use std::alloc::{AllocError, Global};
 use std::test::Fail;
 

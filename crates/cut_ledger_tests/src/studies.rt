@@ -1,9 +1,10 @@
 //! Plans, their ledgers, and what is offered to these.
 
 use cut_ledger::{Ledger, Slip};
+use cut_outcome::{Piece, PieceResult, Totals};
 use cut_plan::Plan;
 use cut_rings::Rings;
-use cut_trial::{Piece, PieceResult, Totals, run_piece};
+use cut_trial::run_piece;
 use std::alloc::Global;
 use std::test::Fail;
 

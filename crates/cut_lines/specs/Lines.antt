@@ -9,9 +9,9 @@ use Rattle.cut_plan.specs.declared.version.Version.TheVariants.{One, Two}
 use Rattle.cut_plan.specs.Values.{Values}
 use Rattle.cut_plan.specs.Versions.{version_of}
 use Rattle.cut_plan.specs.Cells.{cells_of}
-use Rattle.cut_trial.specs.declared.totals.Totals.{Totals}
-use Rattle.cut_trial.specs.Outcome.{no_cell}
-use Rattle.cut_trial.specs.Sum.{sum_of, trials_of_cell}
+use Rattle.cut_outcome.specs.declared.totals.Totals.{Totals}
+use Rattle.cut_outcome.specs.Outcome.{no_cell}
+use Rattle.cut_outcome.specs.Sum.{sum_of, trials_of_cell}
 
 -- numbers in decimal, with commas between them, and a line feed
 abbrev pub comma_line : List ℕ → List ℕ

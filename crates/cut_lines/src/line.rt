@@ -4,8 +4,8 @@ ghost use Rattle.cut_plan.specs.Versions.{version_of};
 ghost use Rattle.cut_lines.specs.Lines.{header, line_with, ppm_of, settled_column};
 
 use crate::row::row;
+use cut_outcome::Totals;
 use cut_plan::{Plan, Version};
-use cut_trial::Totals;
 use std::alloc::{AllocError, Global};
 
 /// The first line of a plan's table: the names of its columns, with a line feed. A table of version 2 has

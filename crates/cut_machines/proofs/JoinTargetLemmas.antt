@@ -4,7 +4,7 @@ use Rattle.std.proofs.Common.{length, take, drop, get_or, refl, sym, ap, subst, 
 use Rattle.std.specs.Prelude.{IsSome, IfErr, OnOk, Result}
 use Rattle.std.proofs.lemmas.List.{take-append-drop, take_all, take_more}
 use Rattle.cut_plan.specs.Values.{Values}
-use Rattle.cut_trial.specs.Sum.{each_number}
+use Rattle.cut_outcome.specs.Sum.{each_number}
 use Rattle.cut_disks.specs.State.{DiskState, Throughout, synced}
 use Rattle.cut_ledger.specs.declared.slip.Slip.{Slip}
 use Rattle.cut_ledger.specs.Slips.{AreGood, IsFirstBad}

@@ -4,7 +4,7 @@
 use crate::shares::{PLAN, PLAN_2, are_of};
 use cut_commands::CliFault;
 use cut_disks::{Disk, FaultyDisk, Tear};
-use cut_hall::OpenGate;
+use cut_gate::OpenGate;
 use cut_journal::{Journal, JournalFault};
 use cut_machines::{ShareWork, share_io};
 use cut_plan::Plan;

@@ -2,13 +2,14 @@
 //! from this program by a script written from the definitions.
 
 use cut_disks::{Disk, FaultyDisk, MemoryDisk, Tear};
-use cut_hall::OpenGate;
+use cut_gate::OpenGate;
 use cut_journal::Journal;
 use cut_ledger::Slip;
+use cut_outcome::Piece;
 use cut_plan::Plan;
 use cut_rings::Rings;
 use cut_share::{Share, ShareFault, ShareRun};
-use cut_trial::{Piece, run_piece};
+use cut_trial::run_piece;
 use std::alloc::Global;
 use std::process::Abort;
 use std::sync::Wait;

@@ -8,7 +8,7 @@ use Rattle.std.proofs.lemmas.List.{map_more}
 use Rattle.std.proofs.lemmas.Option.{get_or_from_slice_get, slice_get_within}
 use Rattle.cut_plan.specs.Targets.{upgraded}
 use Rattle.cut_plan.specs.Values.{Values}
-use Rattle.cut_trial.specs.Computed.{Computed}
+use Rattle.cut_outcome.specs.Computed.{Computed}
 use Rattle.cut_disks.specs.State.{DiskState}
 use Rattle.cut_ledger.specs.declared.slip.Slip.{Slip}
 use Rattle.cut_ledger.specs.Machine.{slip_of}

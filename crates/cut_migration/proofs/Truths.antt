@@ -7,10 +7,10 @@ use Rattle.cut_plan.specs.Targets.{upgraded}
 use Rattle.cut_plan.specs.Values.{Values}
 use Rattle.cut_plan.specs.Versions.{version_of}
 use Rattle.cut_plan.specs.Plan.{IsPlan}
-use Rattle.cut_trial.specs.declared.totals.Totals.{Totals}
-use Rattle.cut_trial.specs.Laws.{PiecesHavePossibleTotals, UpgradesKeepSums}
-use Rattle.cut_trial.specs.Possible.{IsSettledBy}
-use Rattle.cut_trial.specs.Sum.{is_piece, sum_of, trials_in, without_settled}
+use Rattle.cut_outcome.specs.declared.totals.Totals.{Totals}
+use Rattle.cut_outcome.specs.Laws.{PiecesHavePossibleTotals, UpgradesKeepSums}
+use Rattle.cut_outcome.specs.Possible.{IsSettledBy}
+use Rattle.cut_outcome.specs.Sum.{is_piece, sum_of, trials_in, without_settled}
 use Rattle.cut_ledger.specs.declared.slip.Slip.{Slip}
 use Rattle.cut_ledger.specs.World.{IsTrueSlip}
 

@@ -6,7 +6,7 @@ use Rattle.cut_plan.specs.declared.version.Version.TheVariants.{One, Two}
 use Rattle.cut_plan.specs.Targets.{upgraded}
 use Rattle.cut_plan.specs.Values.{Values}
 use Rattle.cut_plan.specs.Versions.{version_of}
-use Rattle.cut_trial.specs.Sum.{sum_of, trials_in}
+use Rattle.cut_outcome.specs.Sum.{sum_of, trials_in}
 use Rattle.cut_ledger.specs.declared.slip.Slip.{Slip}
 use Rattle.cut_ledger.specs.Slips.{AreGood, IsFirstBad}
 use Rattle.cut_ledger.specs.World.{IsTrueSlip}

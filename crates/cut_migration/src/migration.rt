@@ -3,8 +3,8 @@ ghost use Rattle.cut_plan.specs.declared.version.Version.TheVariants.{One, Two};
 ghost use Rattle.cut_plan.specs.Plan.{IsPlan};
 ghost use Rattle.cut_plan.specs.Targets.{upgraded};
 ghost use Rattle.cut_plan.specs.Versions.{version_of};
-ghost use Rattle.cut_trial.specs.Outcome.{rings_of};
-ghost use Rattle.cut_trial.specs.Sum.{is_piece, sum_of, trials_in, without_settled};
+ghost use Rattle.cut_outcome.specs.Outcome.{rings_of};
+ghost use Rattle.cut_outcome.specs.Sum.{is_piece, sum_of, trials_in, without_settled};
 ghost use Rattle.cut_ledger.specs.Slips.{AreGood};
 ghost use Rattle.cut_ledger.specs.World.{IsTrueSlip};
 ghost use Rattle.cut_journal.specs.Journal.{AppendsEach, kept_slips, taken};
@@ -15,10 +15,11 @@ use crate::MigrateFault;
 use cut_disks::Disk;
 use cut_journal::{Journal, JournalFault};
 use cut_ledger::{Ledger, Slip, SlipsFault};
+use cut_outcome::laws::{pieces_have_possible_totals, upgrades_keep_outcomes};
+use cut_outcome::{PieceResult, Totals};
 use cut_plan::{Plan, Version};
 use cut_rings::Rings;
-use cut_trial::laws::{pieces_have_possible_totals, upgrades_keep_outcomes};
-use cut_trial::{PieceResult, Totals, TrialFault, run_piece};
+use cut_trial::{TrialFault, run_piece};
 use std::alloc::Global;
 
 /// Moves the slips of a study of version 1 to the journal of its plan's upgrade: runs the trials of each slip

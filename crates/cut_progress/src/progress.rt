@@ -1,6 +1,6 @@
 use crate::ProgressLine;
 use cut_gate::Gate;
-use cut_trial::Piece;
+use cut_outcome::Piece;
 use std::sync::{Condvar, Mutex, Wait};
 use std::time::{Clock, Duration};
 

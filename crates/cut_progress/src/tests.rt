@@ -3,7 +3,7 @@
 use crate::report::print_lines;
 use crate::{Progress, ProgressLine, report_while};
 use cut_gate::Gate;
-use cut_trial::Piece;
+use cut_outcome::Piece;
 use cut_wires::{FaultyWire, MemoryWire};
 use std::alloc::Global;
 use std::io;

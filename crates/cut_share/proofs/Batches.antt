@@ -9,8 +9,8 @@ use Rattle.std.proofs.lemmas.List.{map-append}
 use Rattle.std.proofs.lemmas.List.Elements.{All-append, All-nil, All-head, All-tail}
 use Rattle.cut_lists.proofs.Parts.{count_first}
 use Rattle.cut_plan.specs.Values.{Values}
-use Rattle.cut_trial.specs.declared.piece.Piece.{Piece}
-use Rattle.cut_trial.specs.Outcome.{one_if}
+use Rattle.cut_outcome.specs.declared.piece.Piece.{Piece}
+use Rattle.cut_outcome.specs.Outcome.{one_if}
 use Rattle.cut_disks.specs.State.{DiskState}
 use Rattle.cut_ledger.specs.declared.slip.Slip.{Slip}
 use Rattle.cut_ledger.specs.Contents.{is_in}

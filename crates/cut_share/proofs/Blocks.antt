@@ -6,7 +6,7 @@ use Rattle.std.proofs.lemmas.Bool.{cases_lt, eq-eqb, ne_eqb}
 use Rattle.std.proofs.lemmas.Nat.{div-mul-add, mod-mul-add, div-add-mod', mod_below}
 use Rattle.std.specs.Int.{div_ceil}
 use Rattle.cut_plan.specs.Values.{Values}
-use Rattle.cut_trial.specs.Outcome.{one_if}
+use Rattle.cut_outcome.specs.Outcome.{one_if}
 use Rattle.cut_share.specs.Blocks.{AreNumbered, begins_block, block_of}
 
 -- ---- quotients of one number and the next

@@ -17,9 +17,9 @@ use Rattle.cut_lists.proofs.Ranges.{All-range_with_len, count_by_agree}
 use Rattle.cut_lists.proofs.Ranks.{count_by_none}
 use Rattle.cut_plan.specs.Cells.{trial_count}
 use Rattle.cut_plan.specs.Values.{Values}
-use Rattle.cut_trial.specs.declared.piece.Piece.{Piece}
-use Rattle.cut_trial.specs.Outcome.{one_if}
-use Rattle.cut_trial.specs.Sum.{trials_in}
+use Rattle.cut_outcome.specs.declared.piece.Piece.{Piece}
+use Rattle.cut_outcome.specs.Outcome.{one_if}
+use Rattle.cut_outcome.specs.Sum.{trials_in}
 use Rattle.cut_disks.specs.State.{DiskState}
 use Rattle.cut_ledger.specs.declared.slip.Slip.{Slip}
 use Rattle.cut_ledger.specs.Contents.{has, is_in, is_in_base, over_base}

@@ -2,7 +2,7 @@
 use Rattle.std.specs.Prelude.{◌≡◌, ℕ, ◌+◌, ◌*◌, ◌/◌, ◌%◌, ◌==◌, Bool}
 use Rattle.std.specs.Int.{div_ceil}
 use Rattle.cut_plan.specs.Values.{Values}
-use Rattle.cut_trial.specs.Outcome.{one_if}
+use Rattle.cut_outcome.specs.Outcome.{one_if}
 
 -- the number of a trial's block, from 0. Each cell is cut from its first trial into blocks of a size, the last one
 -- shorter where less is left, and the blocks of all cells are numbered in order

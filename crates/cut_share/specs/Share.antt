@@ -2,7 +2,7 @@
 use Rattle.std.specs.Prelude.{ℕ, ◌-◌, ◌%◌, ◌==◌, ◌&&◌, Bool, List, All, filter, nat_lt, IsTrue}
 use Rattle.cut_plan.specs.Cells.{trial_count}
 use Rattle.cut_plan.specs.Values.{Values}
-use Rattle.cut_trial.specs.Sum.{trials_in}
+use Rattle.cut_outcome.specs.Sum.{trials_in}
 use Rattle.cut_ledger.specs.declared.slip.Slip.{Slip}
 use Rattle.cut_ledger.specs.Contents.{all_trials}
 use Rattle.cut_ledger.specs.World.{IsTrueSlip}

@@ -1,7 +1,7 @@
 -- Pieces that threads run.
 use Rattle.std.specs.Prelude.{◌≡◌, Bool, not, List, map, filter, IfSome, is_some}
 use Rattle.cut_plan.specs.Values.{Values}
-use Rattle.cut_trial.specs.declared.piece.Piece.{Piece}
+use Rattle.cut_outcome.specs.declared.piece.Piece.{Piece}
 use Rattle.cut_share.specs.declared.task.Task.{Task}
 
 -- the result of a task is that of its piece, if it has one

@@ -1,11 +1,11 @@
 ghost use Rattle.std.specs.Prelude.{◌≡◌, ◌+◌, ◌<◌, ◌≤◌, ◌↔◌, IfSome, IsSome, IsTrue, ℕ, length, count_by};
 ghost use Rattle.cut_plan.specs.Cells.{cells_of, trial_count};
-ghost use Rattle.cut_trial.specs.Sum.{is_piece, trials_of_cell};
+ghost use Rattle.cut_outcome.specs.Sum.{is_piece, trials_of_cell};
 ghost use Rattle.cut_share.specs.Bounds.{IsShare};
 ghost use Rattle.cut_share.specs.Blocks.{block_of};
 
+use cut_outcome::Piece;
 use cut_plan::Plan;
-use cut_trial::Piece;
 
 /// What one of several machines runs of a plan: a share of its trials.
 ///

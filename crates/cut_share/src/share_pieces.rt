@@ -1,11 +1,11 @@
 ghost use Rattle.std.specs.Prelude.{All, IsTrue};
 ghost use Rattle.cut_plan.specs.Plan.{IsPlan};
-ghost use Rattle.cut_trial.specs.Sum.{is_piece};
+ghost use Rattle.cut_outcome.specs.Sum.{is_piece};
 ghost use Rattle.cut_share.specs.PieceParts.{IsRest};
 
 use crate::Share;
+use cut_outcome::Piece;
 use cut_plan::Plan;
-use cut_trial::Piece;
 
 /// The pieces of a share that are left in some pieces of its plan: what is left of one, and those after it.
 #[derive(Clone, Copy)]
@@ -21,7 +21,7 @@ pub(crate) struct SharePieces<'a> {
 
 impl<'a> SharePieces<'a> {
     ghost use Rattle.std.specs.Prelude.{◌≡◌, ℕ, ◌+◌, ◌<◌, ◌≤◌, [], ◌∷◌, true, IfSome, IfNone};
-    ghost use Rattle.cut_trial.specs.Outcome.{one_if};
+    ghost use Rattle.cut_outcome.specs.Outcome.{one_if};
     ghost use Rattle.cut_ledger.specs.Contents.{is_in};
     ghost use Rattle.cut_share.specs.Pieces.{IsSharePiece, own_times, trials_in_all};
     ghost use Rattle.cut_share.specs.Share.{is_in_share};

@@ -1,5 +1,5 @@
 ghost use Rattle.std.specs.Prelude.{◌≡◌, ◌≤◌, All, IfErr, IfOk, IsTrue, OnOk};
-ghost use Rattle.cut_trial.specs.Sum.{is_piece};
+ghost use Rattle.cut_outcome.specs.Sum.{is_piece};
 ghost use Rattle.cut_ledger.specs.Contents.{over_base};
 ghost use Rattle.cut_ledger.specs.Gaps.{gaps_of};
 ghost use Rattle.cut_ledger.specs.Slips.{AreGood};
@@ -15,9 +15,9 @@ use cut_gate::Gate;
 use cut_journal::Journal;
 use cut_ledger::laws::gaps_are_what_is_not_held;
 use cut_ledger::{Ledger, Slip, SlipsFault};
+use cut_outcome::Piece;
 use cut_plan::Plan;
 use cut_rings::Rings;
-use cut_trial::Piece;
 use std::alloc::Global;
 use std::sync::Wait;
 use std::thread::Threads;

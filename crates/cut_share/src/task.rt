@@ -5,7 +5,7 @@ ghost use Rattle.cut_share.specs.Pieces.{IsSharePiece, own_times, trials_in_all}
 ghost use Rattle.cut_share.specs.Tasks.{has_result, pieces_of};
 
 use crate::share_pieces::SharePieces;
-use cut_trial::{Piece, PieceResult};
+use cut_outcome::{Piece, PieceResult};
 use std::alloc::{AllocError, Global};
 
 /// A piece that some thread runs, and its result, once there is one.

@@ -1,11 +1,12 @@
 ghost use Rattle.std.specs.Prelude.{◌≡◌, ◌≤◌};
-ghost use Rattle.cut_trial.specs.Outcome.{rings_of};
+ghost use Rattle.cut_outcome.specs.Outcome.{rings_of};
 
 use crate::task::Task;
 use cut_gate::Gate;
+use cut_outcome::{Piece, PieceResult};
 use cut_plan::Plan;
 use cut_rings::Rings;
-use cut_trial::{Piece, PieceResult, run_piece};
+use cut_trial::run_piece;
 use std::alloc::Global;
 use std::sync::Wait;
 use std::thread;

@@ -16,8 +16,8 @@ use Rattle.cut_lists.proofs.Ranges.{none_passing, range_with_len_more}
 use Rattle.cut_plan.specs.Cells.{cells_of, trial_count}
 use Rattle.cut_plan.specs.Plan.{IsPlan}
 use Rattle.cut_plan.specs.Values.{Values}
-use Rattle.cut_trial.specs.declared.piece.Piece.{Piece}
-use Rattle.cut_trial.specs.Sum.{is_piece}
+use Rattle.cut_outcome.specs.declared.piece.Piece.{Piece}
+use Rattle.cut_outcome.specs.Sum.{is_piece}
 use Rattle.cut_ledger.specs.declared.slip.Slip.{Slip}
 use Rattle.cut_ledger.specs.Contents.{Contents, all_trials, cell_done, has, is_in, is_in_base, over_base}
 use Rattle.cut_ledger.specs.Slips.{AreGood, IsGood}

@@ -5,7 +5,7 @@ use crate::studies::{ONE_LIAR, Study, TWO_TRIALS};
 use cut_book::{Book, BookFault, Call, History};
 use cut_disks::{FaultyDisk, Tear};
 use cut_journal::Journal;
-use cut_trial::Piece;
+use cut_outcome::Piece;
 use std::alloc::{AllocError, Global};
 use std::test::Fail;
 

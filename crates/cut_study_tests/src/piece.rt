@@ -1,9 +1,10 @@
 ghost use Rattle.std.specs.Prelude.{◌≡◌, false, IfOk, IsErrOf};
-ghost use Rattle.cut_trial.specs.Sum.{is_piece};
+ghost use Rattle.cut_outcome.specs.Sum.{is_piece};
 
+use cut_outcome::{Piece, PieceResult};
 use cut_plan::Plan;
 use cut_rings::Rings;
-use cut_trial::{Piece, PieceResult, TrialFault, run_piece};
+use cut_trial::{TrialFault, run_piece};
 use std::alloc::Global;
 
 /// The result of a piece of a plan's trials, over the rings of the plan. A piece that is none of the plan's is refused.

@@ -2,8 +2,8 @@
 //! script written from the definitions.
 
 use cut_ledger::Slip;
+use cut_outcome::{Piece, Totals};
 use cut_plan::{Plan, PlanFault};
-use cut_trial::{Piece, Totals};
 use std::alloc::Global;
 
 const HEADER: &str = "k,h,l,f,trials,receivers,conflicts,silent,extra,votes,decided,right,ppm\n";

@@ -1,9 +1,9 @@
 -- Ascending members and the targets among them, by counts.
 use Rattle.std.proofs.Common.{◌≡◌, ℕ, ◌+◌, false, not, refl, List, Option, Some, None, option_map, length, nat_lt, sym}
 use Rattle.std.proofs.Common.{ap, ◌∙◌, arith}
-use Rattle.cut_trial.proofs.Words.{find, IfSome, count_by, range_with_len, EdgeSet, Layout, is_settled, is_stable}
-use Rattle.cut_trial.proofs.Words.{stable_members, Rule, proposal_of, Proposal, Assignment, is_target, has_process}
-use Rattle.cut_trial.proofs.Words.{processes_of, targets_of, lacks_target, has_other, is_missed, judged, AreAscending}
+use Rattle.cut_outcome.proofs.Words.{find, IfSome, count_by, range_with_len, EdgeSet, Layout, is_settled, is_stable}
+use Rattle.cut_outcome.proofs.Words.{stable_members, Rule, proposal_of, Proposal, Assignment, is_target, has_process}
+use Rattle.cut_outcome.proofs.Words.{processes_of, targets_of, lacks_target, has_other, is_missed, judged, AreAscending}
 use Rattle.std.specs.Borrow.{Bor}
 use Rattle.std.proofs.lemmas.Bool.{le-ltb}
 use Rattle.std.proofs.lemmas.List.Elements.{filter_passes}

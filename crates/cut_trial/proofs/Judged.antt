@@ -18,9 +18,9 @@ use Rattle.cut_receivers.specs.declared.finding.Finding.TheVariants.{Doubtful, O
 use Rattle.cut_receivers.specs.Findings.{flagged, Finds}
 use Rattle.cut_trial.specs.declared.alerts.Alerts.{Alerts}
 use Rattle.cut_trial.specs.Judging.{proposed_by, proposals_to}
-use Rattle.cut_trial.proofs.Words.{Assignment, Cell, Edge, EdgeSet, IsTrue, Layout, Rule, Source, Values}
-use Rattle.cut_trial.proofs.Words.{all_deliveries, count_by, early, is_target, list_any, proposal_of, range_with_len}
-use Rattle.cut_trial.proofs.Words.{receiver_proposal, receivers_of, rule_of}
+use Rattle.cut_outcome.proofs.Words.{Assignment, Cell, Edge, EdgeSet, IsTrue, Layout, Rule, Source, Values}
+use Rattle.cut_outcome.proofs.Words.{all_deliveries, count_by, early, is_target, list_any, proposal_of, range_with_len}
+use Rattle.cut_outcome.proofs.Words.{receiver_proposal, receivers_of, rule_of}
 
 -- ---- flags
 

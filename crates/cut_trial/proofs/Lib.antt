@@ -1,17 +1,5 @@
-pub mod Words
-pub mod FastRound
-pub mod Ascending
-pub mod Settled
-pub mod Placed
-pub mod Places
-pub mod Outcomes
-pub mod Earliest
-pub mod Sum
-pub mod Roles
-pub mod Pieces
-pub mod Heard
-pub mod Grouped
-pub mod Judged
-pub mod Crashes
-pub mod Cautious
-pub mod Upgrades
+mod Ascending
+mod Settled
+mod Placed
+mod Grouped
+mod Judged

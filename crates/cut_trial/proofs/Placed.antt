@@ -11,8 +11,8 @@ use Rattle.cut_receivers.specs.declared.finding.Findings.{Findings}
 use Rattle.cut_receivers.specs.declared.places.Places.{Places}
 use Rattle.std.proofs.lemmas.Bool.{both_ways}
 use Rattle.cut_receivers.specs.Findings.{finding_in, has_bit, is_proposal, members_at, Finds}
-use Rattle.cut_trial.proofs.Words.{Proposal, IsPlaced}
-use Rattle.cut_trial.proofs.Outcomes.{none_proposed, placed_at}
+use Rattle.cut_outcome.proofs.Words.{Proposal, IsPlaced}
+use Rattle.cut_outcome.proofs.Outcomes.{none_proposed, placed_at}
 
 -- a receiver that doesn't propose where places are asked for has none
 silent_placed : (version : Version) (p : Option Proposal) → (version ≡ Two → p ≡ None)

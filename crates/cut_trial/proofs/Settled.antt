@@ -1,7 +1,7 @@
 -- Once a process has proposed, what is delivered later changes nothing.
 use Rattle.std.proofs.Common.{◌≡◌, ℕ, ◌+◌, List, ◌++◌, length, length-append, sym, ap, ◌∙◌, arith}
-use Rattle.cut_trial.proofs.Words.{IsSome, find, range_with_len, Edge, EdgeSet, first_of, set_of, Layout, is_settled}
-use Rattle.cut_trial.proofs.Words.{stable_members, Rule, proposal_after, Proposal}
+use Rattle.cut_outcome.proofs.Words.{IsSome, find, range_with_len, Edge, EdgeSet, first_of, set_of, Layout, is_settled}
+use Rattle.cut_outcome.proofs.Words.{stable_members, Rule, proposal_after, Proposal}
 use Rattle.std.proofs.lemmas.List.{take-append-le}
 use Rattle.cut_lists.proofs.Finds.{find-longer, IsSome-from_option_map}
 use Rattle.cut_lists.proofs.Ranges.{ranges-join, All-range_with_len}

@@ -14,7 +14,7 @@ use Rattle.cut_trial.specs.declared.input.TrialInput.{TrialInput}
 use Rattle.cut_trial.specs.declared.alerts.Alerts.{Alerts}
 use Rattle.cut_trial.specs.declared.replays.Replay.{Replay}
 use Rattle.cut_trial.specs.declared.judges.Judges.{Judges}
-use Rattle.cut_trial.specs.Outcome.{receiver_proposal, IsPlaced}
+use Rattle.cut_outcome.specs.Outcome.{receiver_proposal, IsPlaced}
 
 -- what receiver j proposes where these alerts are raised
 abbrev pub proposed_by : Alerts → Source → ℕ → Option Proposal

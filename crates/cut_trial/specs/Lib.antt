@@ -1,11 +1,4 @@
 pub mod FaultCode
-pub mod Verdicts
-pub mod FastRound
 pub mod BallotInside
-pub mod Outcome
+pub mod Counted
 pub mod Judging
-pub mod Sum
-pub mod Computed
-pub mod PieceInside
-pub mod Possible
-pub mod Laws

@@ -1,5 +1,5 @@
 ghost use Rattle.std.specs.Prelude.{◌≡◌, length, OnOk};
-ghost use Rattle.cut_trial.specs.Verdicts.{targets_of, receivers_of};
+ghost use Rattle.cut_outcome.specs.Verdicts.{targets_of, receivers_of};
 
 use crate::alerts::Alerts;
 use cut_alerts::Roles;

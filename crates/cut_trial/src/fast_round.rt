@@ -1,21 +1,11 @@
-ghost use Rattle.std.specs.Prelude.{◌≡◌, ◌≤◌, ◌+◌, ◌^◌, ◌-◌, ◌<◌, [], ◌∷◌, ◌++◌, List, ℕ, length, replicate, OnOk};
+ghost use Rattle.std.specs.Prelude.{◌≡◌, ◌+◌, ◌^◌, ◌-◌, ◌<◌, [], ◌∷◌, ◌++◌, List, ℕ, length, replicate, OnOk};
 ghost use Rattle.std.specs.Prelude.{OnErr};
-ghost use Rattle.cut_trial.specs.FastRound.{quorum_of, votes_of, most_votes, HasCounted};
+ghost use Rattle.cut_outcome.specs.FastRound.{votes_of, most_votes, HasCounted};
 
 use cut_detector::Proposal;
 use std::alloc::{AllocError, Global};
 use std::collections::HashMap;
 use std::marker::Model;
-
-/// How many equal proposals decide among `n` processes: all but a quarter of the others, rounded down.
-/// (The fast round is the Rapid paper's; that failed processes count among the `n` is this project's
-/// profile.)
-pub fn quorum(n: u16) -> u16
-    requires { 1 ≤ n }
-    ensures { result ≡ quorum_of n }
-{
-    n - (n - 1) / 4
-}
 
 /// The votes of a trial's fast round (the Rapid paper's leaderless agreement, which counts identical
 /// proposals). Contracts see, for each list of members that was proposed, how many proposals have it.

@@ -2,7 +2,7 @@ ghost use Rattle.std.specs.Prelude.{◌≡◌, ◌≤◌, length};
 ghost use Rattle.cut_plan.specs.Cells.{largest};
 ghost use Rattle.cut_plan.specs.Plan.{IsPlan};
 ghost use Rattle.cut_rings.specs.Layout.{IsLayout};
-ghost use Rattle.cut_trial.specs.Outcome.{rings_of};
+ghost use Rattle.cut_outcome.specs.Outcome.{rings_of};
 
 use cut_plan::Plan;
 use cut_rings::Rings;

@@ -13,15 +13,15 @@ ghost use Rattle.cut_nodes.specs.Slots.{AreSlots};
 ghost use Rattle.cut_nodes.specs.Nodes.{subjects_of};
 ghost use Rattle.cut_receivers.specs.Heard.{hearing_of, HasHeard};
 ghost use Rattle.cut_receivers.specs.Findings.{finding_in, flagged, has_bit, is_proposal};
-ghost use Rattle.cut_trial.specs.Verdicts.{targets_of};
-ghost use Rattle.cut_trial.specs.Outcome.{HasJudged, IsJudging};
+ghost use Rattle.cut_outcome.specs.Verdicts.{targets_of};
+ghost use Rattle.cut_trial.specs.Counted.{HasJudged, IsJudging};
 ghost use Rattle.cut_trial.specs.Judging.{AreFor, IsFound, proposed_by, proposals_to};
 
 use crate::alerts::Alerts;
 use crate::cast::Cast;
 use crate::input::{TrialInput, rings_are_a_layout};
-use crate::outcome::VerdictCounts;
 use crate::replays::Replay;
+use crate::verdict_counts::VerdictCounts;
 use cut_alerts::Roles;
 use cut_arrivals::laws::none_proposes_where_none_ends_stable;
 use cut_blocks::Blocks;

@@ -2,7 +2,7 @@
 //!
 //! A trial draws its roles, alerts every receiver in an order of its own, and judges what each
 //! receiver proposes: against the processes that really failed, and against the others' proposals, as
-//! the leaderless fast round of the Rapid paper counts them.
+//! the leaderless fast round of the Rapid paper counts them. `cut_outcome` says what the numbers are.
 #![tactic(auto)]
 
 mod alerts;
@@ -12,18 +12,14 @@ mod fault;
 mod hearing;
 mod input;
 mod judges;
-pub mod laws;
-mod outcome;
 mod piece;
 mod replays;
-mod totals;
 mod trial;
+mod verdict_counts;
 mod verdicts;
 
-pub use fast_round::{Ballot, quorum};
+pub use fast_round::Ballot;
 pub use fault::TrialFault;
-pub use outcome::Verdict;
-pub use piece::{Piece, PieceResult, is_piece, run_piece};
-pub use totals::Totals;
+pub use piece::run_piece;
 pub use trial::run_trial;
 pub use verdicts::verdict;

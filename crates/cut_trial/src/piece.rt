@@ -1,73 +1,14 @@
-ghost use Rattle.std.specs.Prelude.{◌≡◌, ◌+◌, ◌*◌, ◌^◌, ◌<◌, ◌↔◌, false, IfOk, IsErrOf, IsTrue};
-ghost use Rattle.cut_plan.specs.Plan.{IsPlan};
-ghost use Rattle.cut_trial.specs.Outcome.{rings_of, cell_at};
-ghost use Rattle.cut_trial.specs.Possible.{ArePossible};
-ghost use Rattle.cut_trial.specs.Sum.{is_piece, sum_of, trials_in, IsAtMost};
+ghost use Rattle.std.specs.Prelude.{◌≡◌, ◌+◌, ◌*◌, ◌<◌, ◌↔◌, false, IfOk, IsErrOf, IsTrue};
+ghost use Rattle.cut_outcome.specs.Outcome.{rings_of};
+ghost use Rattle.cut_outcome.specs.Sum.{is_piece, sum_of, trials_in, IsAtMost};
 
+use crate::TrialFault;
 use crate::input::TrialInput;
 use crate::trial::Trials;
-use crate::{Totals, TrialFault};
+use cut_outcome::{Piece, PieceResult, Totals, is_piece};
 use cut_plan::Plan;
 use cut_rings::Rings;
 use std::alloc::{AllocError, Global};
-use std::marker::Model;
-
-/// Some trials of a study, one after another.
-#[derive(Clone, Copy, Debug, PartialEq, Eq)]
-pub struct Piece {
-    /// The number of the first trial.
-    pub first: u32,
-    /// How many trials there are.
-    pub count: u32,
-}
-
-/// The totals of a piece of a plan's trials. Contracts see the plan and the piece: the totals are
-/// always the sum of the outcomes of the piece's trials, by this type, and only `run_piece` makes it.
-#[derive(Debug, Drop)]
-pub struct PieceResult {
-    plan: Plan,
-    piece: Piece,
-    totals: Totals,
-}
-
-impl Model for PieceResult {
-    ghost use Rattle.cut_trial.specs.Computed.{Computed};
-
-    ghost Value = { Computed };
-
-    ghost use Rattle.cut_trial.specs.PieceInside.{computed_of, IsSummed};
-
-    ghost view = { computed_of };
-
-    ghost invariant = { IsSummed };
-}
-
-impl PieceResult {
-    /// The plan whose trials these are.
-    pub fn plan(&self) -> &Plan
-        ensures { result.now ≡ self.now.plan }
-    {
-        &self.plan
-    }
-
-    /// Which trials these are: a piece of the plan.
-    pub fn piece(&self) -> Piece
-        ensures value { result ≡ self.now.piece }
-        ensures piece { IsTrue (is_piece self.now.plan self.now.piece) }
-    {
-        self.piece
-    }
-
-    /// The sums over the piece's trials.
-    pub fn totals(&self) -> Totals
-        ensures value { result ≡ sum_of self.now.plan (trials_in self.now.piece) }
-        ensures few { IsAtMost (2048 * self.now.piece.count) result }
-        ensures possible { ArePossible self.now.plan (cell_at self.now.plan self.now.piece.first)
-            self.now.piece.count result }
-    {
-        self.totals
-    }
-}
 
 /// Runs a piece of a plan's trials, whose rings these are. A piece that is empty, goes past the last
 /// trial or lies in two cells is refused before anything is allocated.
@@ -86,22 +27,7 @@ pub fn run_piece(
     }
     let totals = sum_piece(alloc, TrialInput::new(plan, rings), piece)?;
     let plan = plan.try_clone(alloc)?;
-    Ok(PieceResult {
-        plan,
-        piece,
-        totals,
-    })
-}
-
-/// Whether a piece is one of a plan: not empty, up to the last trial at most, and in one cell.
-pub fn is_piece(plan: &Plan, piece: Piece) -> bool
-    ensures value { result ≡ is_piece plan.now piece }
-    ensures plan { IsPlan plan.now }
-{
-    let repeats = u64::from(plan.repeats());
-    let first = u64::from(piece.first);
-    let end = first + u64::from(piece.count);
-    first < end && end <= u64::from(plan.trials()) && first / repeats == (end - 1) / repeats
+    Ok(PieceResult::new(plan, piece, totals))
 }
 
 /// The sums over a piece's trials.

@@ -1,15 +1,15 @@
 ghost use Rattle.std.specs.Prelude.{◌≡◌, ◌<◌, IfOk};
 ghost use Rattle.cut_plan.specs.Cells.{IsCellOf, trial_count};
-ghost use Rattle.cut_trial.specs.Outcome.{rings_of, cell_at, outcome};
+ghost use Rattle.cut_outcome.specs.Outcome.{rings_of, cell_at, outcome};
 ghost use Rattle.cut_trial.specs.Judging.{AreFor};
 
-use crate::Totals;
 use crate::alerts::Alerts;
 use crate::cast::{Cast, list_receivers, list_targets};
 use crate::input::TrialInput;
 use crate::judges::Judges;
 use cut_alerts::Roles;
 use cut_draws::{Draws, ProcessOrder};
+use cut_outcome::Totals;
 use cut_plan::{Cell, Plan};
 use cut_rings::Rings;
 use std::alloc::{AllocError, Global};

@@ -1,12 +1,26 @@
 ghost use Rattle.std.specs.Prelude.{◌≡◌, ◌<◌, length, count_by};
 ghost use Rattle.std.specs.Option.{option_copied};
 ghost use Rattle.cut_alerts.specs.Assignment.{is_target};
-ghost use Rattle.cut_trial.specs.Verdicts.{targets_of, judged, is_missed, lacks_target, has_other, AreAscending};
+ghost use Rattle.cut_outcome.specs.Verdicts.{targets_of, judged, is_missed, lacks_target, has_other, AreAscending};
 ghost use Rattle.cut_detector.specs.declared.proposal.Proposal as proposals;
 
-use crate::Verdict;
 use cut_alerts::Roles;
 use cut_detector::Proposal;
+use cut_outcome::Verdict;
+
+/// The verdict on a receiver that announced nothing.
+pub(crate) const SILENT: Verdict = Verdict {
+    silent: true,
+    conflict: false,
+    extra: false,
+};
+
+/// The verdict on a receiver that announced exactly the targets.
+pub(crate) const EXACT: Verdict = Verdict {
+    silent: false,
+    conflict: false,
+    extra: false,
+};
 
 /// Judges a receiver's proposal, if it made one, by the trial's roles: a conflict lacks a target (the
 /// Rapid paper's sensitivity study), and an extra one has a process that is no target (this project's
@@ -15,7 +29,7 @@ pub fn verdict(proposal: Option<&Proposal>, roles: &Roles) -> Verdict
     ensures { result ≡ judged roles.now (option_copied proposal.entry) }
 {
     match proposal {
-        None => Verdict::SILENT,
+        None => SILENT,
         Some(found) => Verdict {
             silent: false,
             conflict: lacks_target(found.members.as_slice(), roles),

@@ -2,8 +2,8 @@
 
 use crate::texts::{MIXED, NONE_FAIL, THREE_RINGS};
 use cut_lines::{cell_line, header};
+use cut_outcome::Totals;
 use cut_plan::{Plan, PlanFault};
-use cut_trial::Totals;
 use std::alloc::{AllocError, Global};
 use std::test::Fail;
 

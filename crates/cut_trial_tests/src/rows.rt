@@ -3,9 +3,10 @@
 use cut_alerts::{Roles, RolesFault};
 use cut_detector::{Members, Proposal};
 use cut_draws::{Delivery, Draws};
+use cut_outcome::{Piece, Verdict, quorum};
 use cut_plan::{Dead, Faults, Plan};
 use cut_rings::{Edge, Rings};
-use cut_trial::{Ballot, Piece, TrialFault, Verdict, quorum, run_piece, verdict};
+use cut_trial::{Ballot, TrialFault, run_piece, verdict};
 use std::alloc::{AllocError, Global};
 use std::test::Fail;
 

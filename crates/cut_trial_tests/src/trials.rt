@@ -1,14 +1,15 @@
 ghost use Rattle.std.specs.Prelude.{◌≡◌, ◌<◌};
 ghost use Rattle.cut_plan.specs.Cells.{IsCellOf, trial_count};
-ghost use Rattle.cut_trial.specs.Outcome.{rings_of};
+ghost use Rattle.cut_outcome.specs.Outcome.{rings_of};
 
 use crate::texts::{MIXED, NONE_FAIL, THREE_RINGS, are_written};
 use crate::trials::tables::STUDIES;
 use cut_alerts::{Roles, alerts};
 use cut_draws::Draws;
+use cut_outcome::{Piece, PieceResult, Totals};
 use cut_plan::{Cell, Plan, PlanFault};
 use cut_rings::{Edge, Rings};
-use cut_trial::{Piece, PieceResult, Totals, TrialFault, run_piece, run_trial};
+use cut_trial::{TrialFault, run_piece, run_trial};
 use std::alloc::{AllocError, Global};
 use std::test::Fail;
 

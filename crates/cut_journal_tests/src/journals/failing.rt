@@ -4,8 +4,8 @@ use super::{SMALL, result_of, written_disk};
 use crate::disks::tear_of;
 use cut_disks::{Disk, FaultyDisk, Tear};
 use cut_journal::{Journal, JournalFault};
+use cut_outcome::PieceResult;
 use cut_plan::Plan;
-use cut_trial::PieceResult;
 use std::alloc::{AllocError, Global};
 use std::test::Fail;
 

@@ -6,8 +6,8 @@ use cut_disks::{FaultyDisk, MemoryDisk, Tear};
 use cut_journal::Journal;
 use cut_ledger::Slip;
 use cut_migration::{MigrateFault, migrate};
+use cut_outcome::{Piece, Totals};
 use cut_plan::{Plan, PlanFault};
-use cut_trial::{Piece, Totals};
 use std::alloc::{AllocError, Global};
 use std::test::Fail;
 

@@ -2,9 +2,9 @@
 
 use crate::studies::{fresh, result_of, slip};
 use cut_ledger::Ledger;
+use cut_outcome::Piece;
 use cut_plan::Plan;
 use cut_table::emit_table;
-use cut_trial::Piece;
 use cut_wires::{MemoryWire, Wire};
 use std::alloc::{AllocError, Global};
 use std::test::Fail;

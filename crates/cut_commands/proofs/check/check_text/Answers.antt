@@ -1,6 +1,6 @@
 use Rattle.std.proofs.Common.{◌≡◌, ◌++◌, ℕ, List, length, codes, ap, ◌∙◌}
 use Rattle.cut_plan.specs.Cells.{cells_of, trial_count}
-use Rattle.cut_trial.specs.FastRound.{quorum_of}
+use Rattle.cut_outcome.specs.FastRound.{quorum_of}
 use Rattle.cut_commands.specs.Check.{check_text, number_line}
 use Rattle.cut_commands.proofs.check.check_text.Goals as goal
 

@@ -1,5 +1,5 @@
 use Rattle.std.proofs.Common.{List, ◌≡◌, get_or, subst, sym, arith, All, take, ◌+◌}
-use Rattle.cut_trial.specs.Sum.{each_number}
+use Rattle.cut_outcome.specs.Sum.{each_number}
 use Rattle.cut_ledger.specs.declared.slip.Slip.{Slip}
 use Rattle.cut_join.specs.Merging.{IsSmall, with_slip}
 use Rattle.cut_join.proofs.Ends.{all_small, ascending_joined, merged_more}

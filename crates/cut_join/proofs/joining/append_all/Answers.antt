@@ -2,7 +2,7 @@ use Rattle.std.proofs.Common.{rules, ℕ, ◌+◌, ◌∙◌, List, Ok, Err, tak
 use Rattle.std.proofs.Common.{append-nil}
 use Rattle.std.specs.Bool.{⊤}
 use Rattle.std.proofs.lemmas.List.{take_more}
-use Rattle.cut_trial.specs.Sum.{each_number}
+use Rattle.cut_outcome.specs.Sum.{each_number}
 use Rattle.cut_ledger.specs.declared.slip.Slip.{Slip}
 use Rattle.cut_journal.specs.Journal.{AppendsEach, kept_slips}
 use Rattle.cut_journal.proofs.Series.{nothing_appended}

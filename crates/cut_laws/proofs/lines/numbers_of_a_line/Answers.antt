@@ -1,6 +1,6 @@
 use Rattle.std.proofs.Common.{◌≡◌, ◌*◌, ◌-◌, ◌/◌, ◌<◌, ◌≤◌, arith, refl, subst}
 use Rattle.std.proofs.lemmas.List.FromFn.{length-range_with_len}
-use Rattle.cut_trial.specs.Sum.{trials_of_cell}
+use Rattle.cut_outcome.specs.Sum.{trials_of_cell}
 use Rattle.cut_laws.specs.Columns.{IsRightUnlessLost}
 use Rattle.cut_laws.specs.Lines.{cell_of_line, line_at}
 use Rattle.cut_laws.specs.OneCrash.{AreOneCrash}

@@ -1,5 +1,5 @@
 use Rattle.std.proofs.Common.{◌≡◌}
-use Rattle.cut_trial.specs.Sum.{trials_of_cell}
+use Rattle.cut_outcome.specs.Sum.{trials_of_cell}
 use Rattle.cut_laws.proofs.CellTrials.{each_of_line}
 use Rattle.cut_laws.proofs.lines.same_line_of_two_tables.Goals as goal
 

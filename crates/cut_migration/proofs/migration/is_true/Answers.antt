@@ -1,6 +1,6 @@
 use Rattle.std.proofs.Common.{ap, ◌∙◌}
-use Rattle.cut_trial.specs.Computed.{Computed}
-use Rattle.cut_trial.specs.Sum.{sum_of, trials_in}
+use Rattle.cut_outcome.specs.Computed.{Computed}
+use Rattle.cut_outcome.specs.Sum.{sum_of, trials_in}
 use Rattle.cut_migration.proofs.Truths.{is_true_by_numbers}
 use Rattle.cut_migration.proofs.migration.is_true.Goals as goal
 

@@ -1,6 +1,6 @@
 use Rattle.std.proofs.Common.{◌∙◌, ◌+◌, List, ℕ, take, get_or, sym, ap, arith}
 use Rattle.cut_plan.specs.Values.{Values}
-use Rattle.cut_trial.specs.Sum.{each_number}
+use Rattle.cut_outcome.specs.Sum.{each_number}
 use Rattle.cut_ledger.specs.declared.slip.Slip.{Slip}
 use Rattle.cut_status.proofs.Counting.{held_none, held_more, held_few}
 use Rattle.cut_status.proofs.counts.trials_held.Goals as goal

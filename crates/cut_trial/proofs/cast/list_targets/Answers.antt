@@ -1,5 +1,5 @@
 use Rattle.std.proofs.Common.{◌++◌, ◌∷◌, [], sym, ap, ◌∙◌}
-use Rattle.cut_trial.proofs.Words.{is_target}
+use Rattle.cut_outcome.proofs.Words.{is_target}
 use Rattle.cut_lists.proofs.Ranges.{filter_more_kept, filter_more_skipped}
 use Rattle.cut_trial.proofs.cast.list_targets.Goals as goal
 

@@ -1,5 +1,5 @@
 use Rattle.std.proofs.Common.{◌≡◌, filter}
-use Rattle.cut_trial.proofs.Words.{range_with_len, is_target}
+use Rattle.cut_outcome.proofs.Words.{range_with_len, is_target}
 use Rattle.cut_trial.proofs.cast.list_targets.Given as goal
 
 abbrev pub invariant-loop-process : goal.invariant-loop-process

@@ -1,6 +1,6 @@
 use Rattle.std.proofs.Common.{◌≡◌, ◌+◌, ◌++◌, ◌∷◌, [], ℕ, Bool, true, List, Some, map, take, drop, get_or, slice_get}
 use Rattle.std.proofs.Common.{◌∙◌, arith}
-use Rattle.cut_trial.proofs.Words.{Edge, is_edge_of, Delivery, DetectorState, HasDelivered}
+use Rattle.cut_outcome.proofs.Words.{Edge, is_edge_of, Delivery, DetectorState, HasDelivered}
 use Rattle.std.proofs.lemmas.List.{get_or-map, length-map, map_more, map-append, take-append-drop}
 use Rattle.std.proofs.lemmas.List.Sums.{AllPass-from_list_all}
 use Rattle.std.proofs.lemmas.Option.{get_or_from_slice_get, slice_get_within}

@@ -1,5 +1,5 @@
 use Rattle.std.proofs.Common.{◌≡◌, ◌≤◌, map, take}
-use Rattle.cut_trial.proofs.Words.{Delivery, HasDelivered}
+use Rattle.cut_outcome.proofs.Words.{Delivery, HasDelivered}
 use Rattle.cut_trial.proofs.hearing.hear_all.Given as goal
 
 abbrev pub invariant-loop-i : goal.invariant-loop-i

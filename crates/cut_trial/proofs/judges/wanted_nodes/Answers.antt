@@ -2,7 +2,7 @@ use Rattle.std.proofs.Common.{ℕ, ◌<◌, List, length, map, slice_index_or, a
 use Rattle.std.proofs.lemmas.List.{length-map, get_or-map}
 use Rattle.cut_lists.proofs.Maps.{map-map}
 use Rattle.cut_nodes.specs.declared.node.Node.{Node}
-use Rattle.cut_trial.proofs.Words.{is_target}
+use Rattle.cut_outcome.proofs.Words.{is_target}
 use Rattle.cut_trial.proofs.Judged.{taken_all}
 use Rattle.cut_trial.proofs.judges.wanted_nodes.Goals as goal
 

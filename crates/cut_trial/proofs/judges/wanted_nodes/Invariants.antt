@@ -1,5 +1,5 @@
 use Rattle.std.proofs.Common.{◌≡◌, map, take}
-use Rattle.cut_trial.proofs.Words.{is_target}
+use Rattle.cut_outcome.proofs.Words.{is_target}
 use Rattle.cut_trial.proofs.judges.wanted_nodes.Given as goal
 
 abbrev pub invariant-loop-node : goal.invariant-loop-node

@@ -1,5 +1,5 @@
 use Rattle.std.proofs.Common.{sym, ap, ◌∙◌}
-use Rattle.cut_trial.proofs.Words.{Values, is_piece}
+use Rattle.cut_outcome.proofs.Words.{Values, is_piece}
 use Rattle.cut_trial.proofs.piece.run_piece.Goals as goal
 
 pub invariant_of-result : goal.invariant_of-result

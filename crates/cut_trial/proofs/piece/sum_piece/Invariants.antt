@@ -1,5 +1,5 @@
 use Rattle.std.proofs.Common.{◌≡◌, ◌-◌}
-use Rattle.cut_trial.proofs.Words.{range_with_len, cell_at, sum_of}
+use Rattle.cut_outcome.proofs.Words.{range_with_len, cell_at, sum_of}
 use Rattle.cut_trial.proofs.piece.sum_piece.Given as goal
 
 abbrev pub invariant-loop-trial : goal.invariant-loop-trial

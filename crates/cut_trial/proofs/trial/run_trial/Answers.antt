@@ -1,6 +1,6 @@
 use Rattle.std.proofs.Common.{sym, ap, ◌∙◌}
-use Rattle.cut_trial.proofs.Words.{Values, cell_at}
-use Rattle.cut_trial.proofs.Outcomes.{cell_read}
+use Rattle.cut_outcome.proofs.Words.{Values, cell_at}
+use Rattle.cut_outcome.proofs.Outcomes.{cell_read}
 use Rattle.cut_trial.proofs.trial.run_trial.Goals as goal
 
 pub run-requires : goal.run-requires

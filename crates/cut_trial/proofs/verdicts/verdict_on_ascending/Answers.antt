@@ -1,5 +1,5 @@
 use Rattle.std.proofs.Common.{◌≡◌, length, nat_lt}
-use Rattle.cut_trial.proofs.Words.{lacks_target, has_other}
+use Rattle.cut_outcome.proofs.Words.{lacks_target, has_other}
 use Rattle.cut_trial.proofs.Ascending.{lacks_target-count, has_other-count}
 use Rattle.cut_trial.proofs.verdicts.verdict_on_ascending.Goals as goal
 

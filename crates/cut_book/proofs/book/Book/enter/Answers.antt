@@ -1,6 +1,6 @@
 use Rattle.std.proofs.Common.{◌≡◌, ◌∙◌, ◌/◌, ℕ, Result, Ok, Err, IsOk, OnOk, IsTrue, sym, ap, subst, arith}
 use Rattle.cut_plan.specs.Values.{Values}
-use Rattle.cut_trial.specs.declared.piece.Piece.{Piece}
+use Rattle.cut_outcome.specs.declared.piece.Piece.{Piece}
 use Rattle.cut_ledger.specs.Account.{Account, has_room}
 use Rattle.cut_ledger.specs.Contents.{Contents, cell_of_piece, with_piece}
 use Rattle.cut_ledger.specs.Machine.{StudyState, after, slip_of}

@@ -1,6 +1,6 @@
 use Rattle.std.proofs.Common.{arith}
 use Rattle.std.specs.Prelude.{IsTrue}
-use Rattle.cut_trial.specs.Sum.{is_piece}
+use Rattle.cut_outcome.specs.Sum.{is_piece}
 use Rattle.cut_share.proofs.PieceFacts.{part_is_piece}
 use Rattle.cut_share.proofs.share_pieces.SharePieces.take_block.Goals as goal
 

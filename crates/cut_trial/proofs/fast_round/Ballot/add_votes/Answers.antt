@@ -1,10 +1,10 @@
 use Rattle.std.proofs.Common.{ℕ, List, Some, unwrap_or, sym, ap, ◌∙◌, subst, arith, rules}
-use Rattle.cut_trial.proofs.Words.{same_members}
+use Rattle.cut_outcome.proofs.Words.{same_members}
 use Rattle.std.specs.HashMap.{HashMap, UpdatesBy}
 use Rattle.std.specs.Global.{Vec}
 use Rattle.std.specs.Option.{option_copied_mut}
 use Rattle.std.proofs.lemmas.List.Sums.{count_by-le-length}
-use Rattle.cut_trial.proofs.FastRound.{has, same_key, counted_more, votes-shown}
+use Rattle.cut_outcome.proofs.FastRound.{has, same_key, counted_more, votes-shown}
 use Rattle.cut_trial.proofs.fast_round.Ballot.add_votes.Goals as goal
 
 pub returns-in-Some-clause-counted : goal.returns-in-Some-clause-counted

@@ -1,5 +1,5 @@
 use Rattle.std.proofs.Common.{unwrap_or, ap, ◌∙◌}
-use Rattle.cut_trial.proofs.FastRound.{votes-shown}
+use Rattle.cut_outcome.proofs.FastRound.{votes-shown}
 use Rattle.cut_trial.proofs.fast_round.Ballot.votes_for.Goals as goal
 
 pub returns : goal.returns

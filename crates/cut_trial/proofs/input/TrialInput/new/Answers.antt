@@ -1,6 +1,6 @@
 use Rattle.std.proofs.Common.{ap, arith}
-use Rattle.cut_trial.proofs.Words.{Layout}
-use Rattle.cut_trial.proofs.Outcomes.{rings_length}
+use Rattle.cut_outcome.proofs.Words.{Layout}
+use Rattle.cut_outcome.proofs.Outcomes.{rings_length}
 use Rattle.cut_trial.proofs.input.TrialInput.new.Goals as goal
 
 pub invariant_of-result : goal.invariant_of-result

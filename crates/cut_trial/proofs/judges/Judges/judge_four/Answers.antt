@@ -8,7 +8,7 @@ use Rattle.cut_nodes.specs.Nodes.{subjects_of}
 use Rattle.cut_receivers.specs.declared.receivers.Receivers.{Receivers}
 use Rattle.cut_receivers.specs.Findings.{flagged, has_bit, members_at, Finds}
 use Rattle.cut_receivers.specs.Heard.{hearing_of, HasHeard}
-use Rattle.cut_trial.proofs.Words.{is_target}
+use Rattle.cut_outcome.proofs.Words.{is_target}
 use Rattle.cut_trial.proofs.Placed.{found_placed}
 use Rattle.cut_trial.specs.declared.judges.Found.{Found}
 use Rattle.cut_trial.specs.Judging.{IsFound}

@@ -6,11 +6,11 @@ use Rattle.cut_receivers.specs.Heard.{hearing_of}
 use Rattle.cut_plan.specs.Versions.{version_of}
 use Rattle.cut_trial.specs.Judging.{proposed_by, proposals_to}
 use Rattle.cut_trial.proofs.Placed.{placed_for}
-use Rattle.cut_trial.proofs.Words.{IfSome, Proposal, IsPlaced, all_deliveries, early, rule_of}
+use Rattle.cut_outcome.proofs.Words.{IfSome, Proposal, IsPlaced, all_deliveries, early, rule_of}
 use Rattle.cut_trial.proofs.Judged.{few_judged, found_other, not_doubtful, wanted_is_certain, other_is_certain}
 use Rattle.cut_trial.proofs.Judged.{found_silent, found_wanted, on_ok, one_more_judged, receiver_within}
 use Rattle.cut_trial.proofs.Ascending.{proposed_ascend}
-use Rattle.cut_trial.proofs.Outcomes.{none_proposed, some_proposed}
+use Rattle.cut_outcome.proofs.Outcomes.{none_proposed, some_proposed}
 use Rattle.cut_trial.proofs.judges.Judges.judge_one.Goals as goal
 
 pub replay-requires-clause-receiver : goal.replay-requires-clause-receiver

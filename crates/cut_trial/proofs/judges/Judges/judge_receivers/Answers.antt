@@ -7,7 +7,7 @@ use Rattle.cut_detector.specs.Counts.{is_reported, is_some_stable}
 use Rattle.cut_nodes.specs.declared.node.Node.{Node}
 use Rattle.cut_nodes.specs.declared.slots.Slots.{Slots}
 use Rattle.cut_nodes.specs.Nodes.{subjects_of}
-use Rattle.cut_trial.proofs.Words.{Edge, Rule, is_target, range_with_len, rule_of, set_of, targets_of}
+use Rattle.cut_outcome.proofs.Words.{Edge, Rule, is_target, range_with_len, rule_of, set_of, targets_of}
 use Rattle.cut_trial.proofs.Judged.{complete_from, heard_as, none_stable, some_node, subjects_within}
 use Rattle.cut_trial.proofs.Placed.{held_by}
 use Rattle.cut_trial.proofs.judges.Judges.judge_receivers.Goals as goal

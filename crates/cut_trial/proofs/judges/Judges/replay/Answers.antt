@@ -1,9 +1,9 @@
 use Rattle.std.proofs.Common.{◌≡◌, Option, option_map, length, ap, sym, subst, ◌∙◌}
 use Rattle.cut_trial.specs.Judging.{proposed_by}
-use Rattle.cut_trial.proofs.Words.{IfSome, Proposal, all_deliveries, early, rule_of}
+use Rattle.cut_outcome.proofs.Words.{IfSome, Proposal, all_deliveries, early, rule_of}
 use Rattle.cut_trial.proofs.Ascending.{proposed_ascend}
 use Rattle.cut_trial.proofs.Judged.{on_ok}
-use Rattle.cut_trial.proofs.Outcomes.{placed_at}
+use Rattle.cut_outcome.proofs.Outcomes.{placed_at}
 use Rattle.cut_trial.proofs.judges.Judges.replay.Goals as goal
 
 pub add-requires-clause-ascending : goal.add-requires-clause-ascending

@@ -1,6 +1,6 @@
 use Rattle.std.proofs.Common.{◌≡◌, ℕ, List, length, map, ap, ◌∙◌}
-use Rattle.cut_trial.proofs.Words.{Cell, Values, Edge, EdgeSet, first_of, Layout, Delivery, Source, IsDeliveryOrder}
-use Rattle.cut_trial.proofs.Words.{all_deliveries, rule_of, proposal_of, receiver_proposal}
+use Rattle.cut_outcome.proofs.Words.{Cell, Values, Edge, EdgeSet, first_of, Layout, Delivery, Source, IsDeliveryOrder}
+use Rattle.cut_outcome.proofs.Words.{all_deliveries, rule_of, proposal_of, receiver_proposal}
 use Rattle.std.proofs.lemmas.List.Sorted.{length_permutation}
 use Rattle.cut_trial.proofs.replays.Replay.hear.Goals as goal
 

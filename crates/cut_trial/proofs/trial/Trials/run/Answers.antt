@@ -1,7 +1,7 @@
 use Rattle.std.proofs.Common.{ap, ◌∙◌}
-use Rattle.cut_trial.proofs.Words.{source_of}
-use Rattle.cut_trial.proofs.Outcomes.{outcome_from}
-use Rattle.cut_trial.proofs.Roles.{roles_length}
+use Rattle.cut_outcome.proofs.Words.{source_of}
+use Rattle.cut_outcome.proofs.Outcomes.{outcome_from}
+use Rattle.cut_outcome.proofs.Roles.{roles_length}
 use Rattle.cut_trial.proofs.trial.Trials.run.Goals as goal
 
 pub alert-requires : goal.alert-requires

@@ -1,0 +1,12 @@
+pub mod Words
+pub mod FastRound
+pub mod Places
+pub mod Outcomes
+pub mod Earliest
+pub mod Sum
+pub mod Roles
+pub mod Pieces
+pub mod Heard
+pub mod Crashes
+pub mod Cautious
+pub mod Upgrades

@@ -1,0 +1,8 @@
+pub mod Verdicts
+pub mod FastRound
+pub mod Outcome
+pub mod Sum
+pub mod Computed
+pub mod PieceInside
+pub mod Possible
+pub mod Laws

@@ -1,5 +1,0 @@
-use Rattle.cut_trial.proofs.Roles as lemmas
-use Rattle.cut_trial.proofs.laws.receivers_are_the_rest.Goals as goal
-
-pub returns : goal.returns
-returns c = lemmas.receivers_are_the_rest
