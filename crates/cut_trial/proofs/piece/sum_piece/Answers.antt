@@ -1,7 +1,8 @@
 use Rattle.std.proofs.Common.{◌≡◌, ◌+◌, ◌-◌, ◌*◌, ◌^◌, ◌<◌, ◌≤◌, ℕ, sym, ap, ◌∙◌, arith}
-use Rattle.cut_outcome.proofs.Words.{Cell, IsTrue, range_with_len, IsPlan, Values, Piece, cell_at, sum_of, is_piece}
+use Rattle.cut_outcome.proofs.Words.{Cell, IsTrue, range_with_len, IsPlan, Values, cell_at, sum_of, is_piece}
 use Rattle.cut_outcome.proofs.Words.{IsAtMost}
 use Rattle.cut_plan.specs.Cells.{IsCellOf}
+use Rattle.cut_outcome.specs.declared.piece.Piece.{Piece}
 use Rattle.cut_outcome.proofs.Outcomes.{cell_read, possible_outcome}
 use Rattle.cut_outcome.proofs.Pieces.{piece_facts, few_trials}
 use Rattle.cut_outcome.proofs.Sum.{sum_more, first_possible, few_in}

@@ -1,5 +1,6 @@
 use Rattle.std.proofs.Common.{◌+◌, min, ap, ◌∙◌}
-use Rattle.cut_outcome.proofs.Words.{Verdict, judged}
+use Rattle.cut_outcome.proofs.Words.{judged}
+use Rattle.cut_outcome.specs.declared.verdict.Verdict.{Verdict}
 use Rattle.cut_outcome.proofs.Outcomes.{count_more, settled_more}
 use Rattle.cut_trial.proofs.verdict_counts.VerdictCounts.count.Goals as goal
 
