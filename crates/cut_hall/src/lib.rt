@@ -22,7 +22,7 @@ mod slot;
 mod work;
 
 pub use call_ledger::CallLedger;
-pub use cut_gate::{Gate, OpenGate};
+pub use cut_hooks::{Hooks, NoHooks};
 pub use hall::Hall;
 pub use line_fault::LineFault;
 pub use not_closed::{Mismatch, NotClosed};

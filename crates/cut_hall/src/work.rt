@@ -4,7 +4,7 @@ ghost use Rattle.cut_outcome.specs.Outcome.{rings_of};
 
 use crate::hall::LockedSlot;
 use crate::slot::CallFault;
-use crate::{CallLedger, Gate, Hall, Pass};
+use crate::{CallLedger, Hall, Hooks, Pass};
 use cut_book::BookFault;
 use cut_disks::Disk;
 use cut_outcome::{Piece, PieceResult};
@@ -86,18 +86,18 @@ impl SharedInput {
 
 impl<D: Disk + Drop, M: CallLedger, K: CallLedger> Hall<D, M, K> {
     /// Works on the studies in the order of their slots, on each as long as pieces of it can be drawn, and then
-    /// waits for the next. Each piece is drawn, runs once the gate lets it pass, and is handed in; an accepted
+    /// waits for the next. Each piece is drawn, runs once the hooks have returned, and is handed in; an accepted
     /// one is counted on the board. A piece for which memory runs out twice, or for the result of which it does, is
     /// lost, and a study whose disk has failed is left.
     ///
     /// It returns after `stop`, and where nothing more can be drawn by this pass, or counted by the hall.
-    pub fn work<R: Wait, G: Gate>(&self, rt: &R, alloc: Global, pass: &mut Pass<M>, gate: &G)
+    pub fn work<R: Wait, G: Hooks>(&self, rt: &R, alloc: Global, pass: &mut Pass<M>, hooks: &G)
         requires { pass.old.hall ≡ self.now.id }
         ensures own { pass.new.hall ≡ pass.old.hall }
         ensures made { pass.old.made ≤ pass.new.made }
     {
         for study in 0..self.places.len() as u32 {
-            if self.wait_for_study(rt, study) || !self.work_off(rt, alloc, pass, gate, study) {
+            if self.wait_for_study(rt, study) || !self.work_off(rt, alloc, pass, hooks, study) {
                 return;
             }
         }
@@ -108,12 +108,12 @@ impl<D: Disk + Drop, M: CallLedger, K: CallLedger> Hall<D, M, K> {
     /// gives its thread for as long. In a slot without a study it does nothing. Returns whether it may go on with
     /// another study: not after `stop`, nor where
     /// nothing more can be drawn by this pass, or counted by the hall.
-    pub fn work_off<R: Wait, G: Gate>(
+    pub fn work_off<R: Wait, G: Hooks>(
         &self,
         rt: &R,
         alloc: Global,
         pass: &mut Pass<M>,
-        gate: &G,
+        hooks: &G,
         study: u32,
     ) -> bool
         requires own { pass.old.hall ≡ self.now.id }
@@ -122,7 +122,7 @@ impl<D: Disk + Drop, M: CallLedger, K: CallLedger> Hall<D, M, K> {
         ensures made { pass.old.made ≤ pass.new.made }
     {
         for _ in rt.forever() {
-            match self.turn(rt, alloc, pass, gate, study) {
+            match self.turn(rt, alloc, pass, hooks, study) {
                 Next::Piece => {}
                 Next::Study => return true,
                 Next::Nothing => return false,
@@ -133,12 +133,12 @@ impl<D: Disk + Drop, M: CallLedger, K: CallLedger> Hall<D, M, K> {
 
     /// Works on the pieces of a study until a cell of it is done, or none are left to be drawn, so that who then
     /// asks for the cell's line waits for no piece that nobody has begun.
-    pub fn work_on_cell<R: Wait, G: Gate>(
+    pub fn work_on_cell<R: Wait, G: Hooks>(
         &self,
         rt: &R,
         alloc: Global,
         pass: &mut Pass<M>,
-        gate: &G,
+        hooks: &G,
         wanted: StudyCell,
     )
         requires own { pass.old.hall ≡ self.now.id }
@@ -152,7 +152,7 @@ impl<D: Disk + Drop, M: CallLedger, K: CallLedger> Hall<D, M, K> {
             if place.slot.lock(rt).is_done(cell) {
                 return;
             }
-            match self.turn(rt, alloc, pass, gate, study) {
+            match self.turn(rt, alloc, pass, hooks, study) {
                 Next::Piece => {}
                 Next::Study | Next::Nothing => return,
             }
@@ -160,12 +160,12 @@ impl<D: Disk + Drop, M: CallLedger, K: CallLedger> Hall<D, M, K> {
     }
 
     /// Draws a piece of a study, runs it and hands it in.
-    fn turn<R: Wait, G: Gate>(
+    fn turn<R: Wait, G: Hooks>(
         &self,
         rt: &R,
         alloc: Global,
         pass: &mut Pass<M>,
-        gate: &G,
+        hooks: &G,
         study: u32,
     ) -> Next
         requires own { pass.old.hall ≡ self.now.id }
@@ -177,11 +177,11 @@ impl<D: Disk + Drop, M: CallLedger, K: CallLedger> Hall<D, M, K> {
             Ok(drawn) => drawn,
             Err(next) => return next,
         };
-        gate.pass(rt, drawn.piece);
+        hooks.drawn(rt, drawn.piece);
         match self.compute(rt, alloc, drawn) {
             Some(result) => match self.hand_in(rt, pass, drawn, &result) {
                 Ok(()) => {
-                    gate.taken(rt, drawn.piece);
+                    hooks.accepted(rt, drawn.piece);
                     Next::Piece
                 }
                 Err(next) => next,

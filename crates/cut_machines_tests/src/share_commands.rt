@@ -4,7 +4,7 @@
 use crate::shares::{PLAN, PLAN_2, are_of};
 use cut_commands::CliFault;
 use cut_disks::{Disk, FaultyDisk, Tear};
-use cut_gate::OpenGate;
+use cut_hooks::NoHooks;
 use cut_journal::{Journal, JournalFault};
 use cut_machines::{ShareWork, share_io};
 use cut_plan::Plan;
@@ -56,7 +56,7 @@ fn run_share<R: Threads + Wait + Sync>(
     let work = ShareWork {
         share,
         workers: 2,
-        gate: &OpenGate,
+        hooks: &NoHooks,
     };
     share_io(rt, alloc, wire, work, disk).ended
 }

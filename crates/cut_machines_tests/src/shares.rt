@@ -2,7 +2,7 @@
 //! from this program by a script written from the definitions.
 
 use cut_disks::{Disk, FaultyDisk, MemoryDisk, Tear};
-use cut_gate::OpenGate;
+use cut_hooks::NoHooks;
 use cut_journal::Journal;
 use cut_ledger::Slip;
 use cut_outcome::Piece;
@@ -118,7 +118,7 @@ fn run_share<D: Disk, R: Threads + Wait + Sync>(
         slips: kept.1.as_slice(),
         share,
         workers: 2,
-        gate: &OpenGate,
+        hooks: &NoHooks,
     };
     run.run(rt, alloc, &mut kept.0)
 }

@@ -1,10 +1,10 @@
 use crate::ProgressLine;
-use cut_gate::Gate;
+use cut_hooks::Hooks;
 use cut_outcome::Piece;
 use std::sync::{Condvar, Mutex, Wait};
 use std::time::{Clock, Duration};
 
-/// The progress of a study, as the gate of its workers. One thread prints it.
+/// The progress of a study, as the hooks of its workers. One thread prints it.
 #[derive(Drop)]
 pub struct Progress {
     counts: Mutex<Counts>,
@@ -64,13 +64,13 @@ impl Progress {
     }
 }
 
-impl Gate for Progress {
-    fn begin<R: Wait>(&self, rt: &R, held: u64, all: u64) {
+impl Hooks for Progress {
+    fn opened<R: Wait>(&self, rt: &R, held: u64, all: u64) {
         self.counts.lock(rt).begin(held, all);
         self.changed.notify_all();
     }
 
-    fn taken<R: Wait>(&self, rt: &R, piece: Piece) {
+    fn accepted<R: Wait>(&self, rt: &R, piece: Piece) {
         self.counts.lock(rt).add(piece.count);
     }
 }

@@ -2,7 +2,7 @@
 
 use crate::report::print_lines;
 use crate::{Progress, ProgressLine, report_while};
-use cut_gate::Gate;
+use cut_hooks::Hooks;
 use cut_outcome::Piece;
 use cut_wires::{FaultyWire, MemoryWire};
 use std::alloc::Global;
@@ -49,8 +49,8 @@ fn printed<R: Wait>(rt: &R, alloc: Global, room: usize, most: u64) -> FaultyWire
         most,
     };
     let progress = Progress::new();
-    progress.begin(rt, 2, 10);
-    progress.taken(rt, piece(2));
+    progress.opened(rt, 2, 10);
+    progress.accepted(rt, piece(2));
     let mut wire = FaultyWire::new(alloc, Vec::new(alloc), 100, room, 0);
     print_lines(&hurried, &progress, &mut wire);
     wire
@@ -102,9 +102,9 @@ fn the_last_line_comes_at_the_end(rt: HostRuntime) {
         &progress,
         &mut wire,
         &mut || {
-            progress.begin(&rt, 0, 3);
-            progress.taken(&rt, piece(1));
-            progress.taken(&rt, piece(2));
+            progress.opened(&rt, 0, 3);
+            progress.accepted(&rt, piece(1));
+            progress.accepted(&rt, piece(2));
             7
         },
     );

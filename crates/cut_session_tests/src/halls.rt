@@ -3,7 +3,7 @@ ghost use Rattle.std.specs.Prelude.{true, ◌≡◌, ◌<◌, ◌≤◌};
 
 use cut_book::Shelf;
 use cut_disks::FaultyDisk;
-use cut_hall::{CallLedger, Gate, Hall, Pass};
+use cut_hall::{CallLedger, Hall, Hooks, Pass};
 use cut_outcome::Piece;
 use cut_plan::Plan;
 use cut_session::{Reader, SessionEnd, session};
@@ -47,16 +47,16 @@ struct Scene<'a, S> {
     shelf: &'a S,
 }
 
-/// A gate that ends the work in its hall once the last worker has passed.
+/// Hooks that end the work in its hall once the last worker has passed.
 #[derive(Drop)]
-struct LastGate<'h, M: CallLedger, K: CallLedger> {
+struct LastHooks<'h, M: CallLedger, K: CallLedger> {
     hall: &'h Stormy<M, K>,
     passed: AtomicU64,
     last: u64,
 }
 
-impl<M: CallLedger, K: CallLedger> Gate for LastGate<'_, M, K> {
-    fn pass<R: Wait>(&self, rt: &R, _piece: Piece) {
+impl<M: CallLedger, K: CallLedger> Hooks for LastHooks<'_, M, K> {
+    fn drawn<R: Wait>(&self, rt: &R, _piece: Piece) {
         if self.passed.fetch_add(1, Ordering::SeqCst) >= self.last {
             self.hall.stop(rt);
         }
@@ -82,12 +82,12 @@ where
 {
     submit_all(rt, alloc, hall, pass, scene)?;
     if scene.house.pieces > 0 {
-        let gate = LastGate {
+        let hooks = LastHooks {
             hall,
             passed: AtomicU64::new(0),
             last: scene.house.pieces - 1,
         };
-        hall.work(rt, alloc, pass, &gate);
+        hall.work(rt, alloc, pass, &hooks);
     }
     Ok(())
 }

@@ -8,7 +8,7 @@ use crate::serving::{Exchange, SUBMIT, exchange_of, is_end};
 use crate::vectors::{Session, number_in, session_of, sessions};
 use cut_book::NoShelf;
 use cut_disks::MemoryDisk;
-use cut_hall::{CallLedger, Hall, OpenGate, Pass, Report};
+use cut_hall::{CallLedger, Hall, NoHooks, Pass, Report};
 use cut_session::{SessionEnd, session};
 use cut_wires::FaultyWire;
 use std::alloc::Global;
@@ -67,7 +67,7 @@ impl<M: CallLedger, K: CallLedger> SessionHall<M> for OpenHall<M, K> {
 
     fn take_part<R: Wait>(&self, rt: &R, alloc: Global, shared: &Shared, pass: &mut Pass<M>) {
         if shared.begun.fetch_add(1, Ordering::SeqCst) == 0 {
-            return self.work(rt, alloc, pass, &OpenGate);
+            return self.work(rt, alloc, pass, &NoHooks);
         }
         serve_next(rt, alloc, self, shared, pass);
         if shared.served.lock(rt).len() == 2 {

@@ -5,14 +5,14 @@ ghost use Rattle.cut_share.specs.Tasks.{IsRun, done_of};
 use crate::ShareFault;
 use crate::task::Task;
 use cut_disks::Disk;
-use cut_gate::Gate;
+use cut_hooks::Hooks;
 use cut_journal::{Journal, JournalFault};
 use std::sync::Wait;
 
 /// Appends the results of tasks to a journal of their plan, in order, up to the first that it doesn't take.
-pub(crate) fn append_all<D: Disk, G: Gate, R: Wait>(
+pub(crate) fn append_all<D: Disk, G: Hooks, R: Wait>(
     rt: &R,
-    gate: &G,
+    hooks: &G,
     journal: &mut Journal<D>,
     tasks: &[Task],
 ) -> Result<(), ShareFault>
@@ -25,15 +25,15 @@ pub(crate) fn append_all<D: Disk, G: Gate, R: Wait>(
     // For the proof: what always holds of a journal.
     let _ = journal.disk();
     for task in tasks {
-        append(rt, gate, journal, task)?;
+        append(rt, hooks, journal, task)?;
     }
     Ok(())
 }
 
 /// Appends the result of a task, if it has one.
-fn append<D: Disk, G: Gate, R: Wait>(
+fn append<D: Disk, G: Hooks, R: Wait>(
     rt: &R,
-    gate: &G,
+    hooks: &G,
     journal: &mut Journal<D>,
     task: &Task,
 ) -> Result<(), ShareFault>
@@ -50,7 +50,7 @@ fn append<D: Disk, G: Gate, R: Wait>(
     };
     match journal.append(result) {
         Ok(_) => {
-            gate.taken(rt, task.piece);
+            hooks.accepted(rt, task.piece);
             Ok(())
         }
         Err(fault) => Err(fault_of(fault)),

@@ -11,7 +11,7 @@ use crate::task::new_tasks;
 use crate::tools::Tools;
 use crate::{Share, ShareFault};
 use cut_disks::Disk;
-use cut_gate::Gate;
+use cut_hooks::Hooks;
 use cut_journal::Journal;
 use cut_ledger::laws::gaps_are_what_is_not_held;
 use cut_ledger::{Ledger, Slip, SlipsFault};
@@ -37,11 +37,11 @@ pub struct ShareRun<'a, G> {
     /// How many threads there may be, 1 to 64.
     pub workers: u32,
     /// What is called before each piece is run, and after its result is kept.
-    pub gate: &'a G,
+    pub hooks: &'a G,
     pub ghost few: { (1 ≤ workers) × (workers ≤ 64) },
 }
 
-impl<G: Gate + Sync> ShareRun<'_, G> {
+impl<G: Hooks + Sync> ShareRun<'_, G> {
     ghost use Rattle.std.specs.Prelude.{◌↔◌, ◌≢◌, List, IsErrOf};
     ghost use Rattle.cut_ledger.specs.declared.slip.Slip.{Slip};
     ghost use Rattle.cut_share.specs.Appending.{Adds};
@@ -78,14 +78,14 @@ impl<G: Gate + Sync> ShareRun<'_, G> {
         let pieces = SharePieces::of(self.plan, self.share, &gaps);
         let all = self.share.trials(self.plan);
         let left = pieces.trials_left();
-        self.gate
+        self.hooks
             .begin(rt, u64::from(all).saturating_sub(left), u64::from(all));
         let tools = Tools {
             alloc,
             plan: self.plan,
             rings: &rings,
             workers: self.workers,
-            gate: self.gate,
+            hooks: self.hooks,
         };
         if run_pieces(rt, &tools, pieces, tasks.as_mut_slice(), journal)? {
             Ok(all)

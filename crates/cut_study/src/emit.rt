@@ -5,7 +5,7 @@ ghost use Rattle.cut_study.specs.Emission.{EmitsStudy, emitted};
 
 use cut_book::Opened;
 use cut_disks::Disk;
-use cut_hall::{CallLedger, Gate, Hall, LineFault, Pass, StudyCell};
+use cut_hall::{CallLedger, Hall, Hooks, LineFault, Pass, StudyCell};
 use cut_lines::header;
 use cut_wires::{Line, Plain, Rows, RowsFault, Wire, send_rows};
 use std::alloc::Global;
@@ -23,7 +23,7 @@ pub(crate) struct StudyRows<'a, D: Disk, M: CallLedger, K: CallLedger, G, R> {
     pub(crate) hall: &'a Hall<D, M, K>,
     pub(crate) opened: &'a Opened,
     pub(crate) pass: &'a mut Pass<M>,
-    pub(crate) gate: &'a G,
+    pub(crate) hooks: &'a G,
     ghost own: { pass.now.hall ≡ hall.now.id },
     ghost slot: { opened.now.study < hall.now.slots },
 }
@@ -33,7 +33,7 @@ where
     D: Disk + Drop,
     M: CallLedger,
     K: CallLedger,
-    G: Gate,
+    G: Hooks,
     R: Wait,
 {
     ghost use Rattle.std.proofs.Common.{arith};
@@ -63,7 +63,7 @@ where
             study: opened.study,
             cell: place,
         };
-        hall.work_on_cell(self.rt, self.alloc, self.pass, self.gate, wanted);
+        hall.work_on_cell(self.rt, self.alloc, self.pass, self.hooks, wanted);
         hall.next_row(self.rt, self.alloc, self.pass, opened, place)
     }
 
@@ -83,7 +83,7 @@ where
     M: CallLedger,
     K: CallLedger,
     W: Wire,
-    G: Gate,
+    G: Hooks,
     R: Wait,
     ensures emits { EmitsStudy (table_over rows.old.opened.now.plan rows.old.opened.now.base) result
         (W.log wire.old) (W.log wire.new) }

@@ -15,7 +15,7 @@ use crate::RunFault;
 use crate::emit::{EmitFault, StudyRows, emit};
 use cut_book::{Book, Opened};
 use cut_disks::Disk;
-use cut_hall::{CallLedger, Gate, Hall, NotClosed, Pass, Report};
+use cut_hall::{CallLedger, Hall, Hooks, NotClosed, Pass, Report};
 use cut_wires::Wire;
 use std::alloc::{AllocError, Global};
 use std::sync::Wait;
@@ -40,7 +40,7 @@ pub(crate) struct Begun<D: Disk> {
 struct Tools<'a, R, G> {
     rt: &'a R,
     alloc: Global,
-    gate: &'a G,
+    hooks: &'a G,
 }
 
 /// The blanks of the two ledgers of calls: of those that the passes make, and of those that the slots keep.
@@ -109,14 +109,14 @@ impl<D: Disk + Drop, M: CallLedger, K: CallLedger> PrivateHall<D, M, K> {
         rt: &'a R,
         alloc: Global,
         wire: &mut W,
-        gate: &'a G,
+        hooks: &'a G,
     ) -> (Result<u64, EmitFault>, Result<Report, RunFault>)
     where
         D: Send,
         M: Send + Sync,
         K: Send + Sync,
         W: Wire,
-        G: Gate + Sync,
+        G: Hooks + Sync,
         R: Threads + Wait + Sync,
         requires ledgers { (M.all ≡ M.parts) × (K.all ≡ K.parts) }
         ensures emits { EmitsStudy (table_over self.opened.plan self.opened.base) result.0
@@ -132,7 +132,7 @@ impl<D: Disk + Drop, M: CallLedger, K: CallLedger> PrivateHall<D, M, K> {
             mut others,
             mut writer,
         } = self;
-        let tools = Tools { rt, alloc, gate };
+        let tools = Tools { rt, alloc, hooks };
         let sent = stream(tools, &hall, &opened, &mut others, &mut writer, wire);
         (sent, closed(alloc, hall, others, writer))
     }
@@ -153,7 +153,7 @@ where
     M: CallLedger + Send + Sync,
     K: CallLedger + Send + Sync,
     W: Wire,
-    G: Gate + Sync,
+    G: Hooks + Sync,
     R: Threads + Wait + Sync,
     requires slot { opened.now.study < hall.now.slots }
     requires others { All (λ p. p.hall ≡ hall.now.id) others.old.items }
@@ -164,7 +164,7 @@ where
     ensures writer { writer.new.hall ≡ hall.now.id }
     ensures made { OnOk result (length (cells_of opened.now.plan) ≤ writer.new.made) }
 {
-    let Tools { rt, alloc, gate } = tools;
+    let Tools { rt, alloc, hooks } = tools;
     let mut write = || -> Result<u64, EmitFault>
         requires own { writer.now.hall ≡ hall.now.id }
         requires slot { opened.now.study < hall.now.slots }
@@ -179,13 +179,13 @@ where
             hall,
             opened,
             pass: writer,
-            gate,
+            hooks,
         };
         let sent = emit(&mut rows, wire);
         hall.stop(rt);
         sent
     };
-    work_beside(rt, alloc, hall, gate, others, &mut write)
+    work_beside(rt, alloc, hall, hooks, others, &mut write)
 }
 
 /// A hall as the threads of workers share it.
@@ -197,7 +197,13 @@ trait Workplace<M: CallLedger> {
     ghost has_slot: { Self → Type 0 };
 
     /// Works on the pieces of the first study until none are left to be drawn.
-    fn work_off_first<G: Gate, R: Wait>(&self, rt: &R, alloc: Global, pass: &mut Pass<M>, gate: &G)
+    fn work_off_first<G: Hooks, R: Wait>(
+        &self,
+        rt: &R,
+        alloc: Global,
+        pass: &mut Pass<M>,
+        hooks: &G,
+    )
         requires own { pass.old.hall ≡ id_of self.now }
         requires slot { has_slot self.now }
         ensures { pass.new.hall ≡ pass.old.hall };
@@ -208,14 +214,14 @@ impl<D: Disk + Drop, M: CallLedger, K: CallLedger> Workplace<M> for Hall<D, M, K
 
     ghost has_slot = { λ h. 0 < h.slots };
 
-    fn work_off_first<G: Gate, R: Wait>(
+    fn work_off_first<G: Hooks, R: Wait>(
         &self,
         rt: &R,
         alloc: Global,
         pass: &mut Pass<M>,
-        gate: &G,
+        hooks: &G,
     ) {
-        self.work_off(rt, alloc, pass, gate, 0);
+        self.work_off(rt, alloc, pass, hooks, 0);
     }
 }
 
@@ -225,14 +231,14 @@ fn work_beside<S, M, G, R, F>(
     rt: &R,
     alloc: Global,
     hall: &S,
-    gate: &G,
+    hooks: &G,
     passes: &mut Vec<Pass<M>>,
     write: &mut F,
 ) -> Result<u64, EmitFault>
 where
     S: Workplace<M> + Sync,
     M: CallLedger + Send + Sync,
-    G: Gate + Sync,
+    G: Hooks + Sync,
     R: Threads + Wait + Sync,
     F: FnMut() -> Result<u64, EmitFault>,
     requires slot { S.has_slot hall.now }
@@ -244,18 +250,18 @@ where
     let mut work = ||
         requires { S.has_slot hall.now × All (λ p. p.hall ≡ S.id_of hall.now) passes.now.items }
         ensures { All (λ p. p.hall ≡ S.id_of hall.entry.now) passes.exit.now.items }
-    { work_off_all(rt, alloc, hall, gate, passes) };
+    { work_off_all(rt, alloc, hall, hooks, passes) };
     let (_, written) = join_mut(rt, &mut work, write);
     written
 }
 
 /// Lets each pass work on the pieces of the first study, in a thread of its own where one can be made, until none
 /// are left to be drawn. Where memory is refused the passes are gone, and the thread that writes does their work.
-fn work_off_all<S, M, G, R>(rt: &R, alloc: Global, hall: &S, gate: &G, passes: &mut Vec<Pass<M>>)
+fn work_off_all<S, M, G, R>(rt: &R, alloc: Global, hall: &S, hooks: &G, passes: &mut Vec<Pass<M>>)
 where
     S: Workplace<M> + Sync,
     M: CallLedger + Send + Sync,
-    G: Gate + Sync,
+    G: Hooks + Sync,
     R: Threads + Wait + Sync,
     requires slot { S.has_slot hall.now }
     requires own { All (λ p. p.hall ≡ S.id_of hall.now) passes.old.items }
@@ -269,7 +275,7 @@ where
             requires { S.has_slot hall.now × (pass.hall ≡ S.id_of hall.now) }
             ensures { result.hall ≡ S.id_of hall.entry.now }
         {
-            hall.work_off_first(rt, alloc, &mut pass, gate);
+            hall.work_off_first(rt, alloc, &mut pass, hooks);
             pass
         },
     );

@@ -12,7 +12,7 @@ use crate::emit::EmitFault;
 use crate::private_hall::{Begun, Blanks, PrivateHall};
 use cut_book::Book;
 use cut_disks::Disk;
-use cut_hall::{CallLedger, Gate, LineFault, Report};
+use cut_hall::{CallLedger, Hooks, LineFault, Report};
 use cut_journal::Journal;
 use cut_ledger::Slip;
 use cut_plan::Plan;
@@ -59,17 +59,17 @@ impl<D: Disk + Drop + Send> StudyRun<'_, D> {
     ///
     /// With a journal the study goes on from the slips that it was opened with, and each piece is kept in it. The
     /// table is that over the slips, which is the plan's where they are true. A bad slip is reported before any byte is
-    /// written. The gate's `begin` is called once the book is open.
+    /// written. The hooks' `opened` is called once the book is open.
     pub fn run<'a, W, G, R>(
         self,
         rt: &'a R,
         alloc: Global,
         wire: &mut W,
-        gate: &'a G,
+        hooks: &'a G,
     ) -> Result<Done, RunFault>
     where
         W: Wire,
-        G: Gate + Sync,
+        G: Hooks + Sync,
         R: Threads + Wait + Sync,
         ensures ended { HasEnded self.entry.plan.now (slips_of self.entry.kept) (is_some self.entry.kept) result }
         ensures takes { Takes self.entry.plan.now (slips_of self.entry.kept) result (W.log wire.old) (W.log wire.new) }
@@ -82,7 +82,7 @@ impl<D: Disk + Drop + Send> StudyRun<'_, D> {
         } = self;
         let book = open_kept(alloc, plan, kept, piece_size)?;
         let held = trials_of(book.ledger().base().as_slice());
-        gate.begin(rt, held, u64::from(plan.trials()));
+        hooks.opened(rt, held, u64::from(plan.trials()));
         let begun = Begun {
             book,
             piece_size,
@@ -92,7 +92,7 @@ impl<D: Disk + Drop + Send> StudyRun<'_, D> {
             made: Blank::new(u64::from(workers)),
             kept: Blank::new(1),
         };
-        run_begun::<D, Brand, Brand, W, G, R>(rt, alloc, begun, blanks, wire, gate)
+        run_begun::<D, Brand, Brand, W, G, R>(rt, alloc, begun, blanks, wire, hooks)
     }
 }
 
@@ -137,14 +137,14 @@ fn run_begun<'a, D, M, K, W, G, R>(
     begun: Begun<D>,
     blanks: Blanks,
     wire: &mut W,
-    gate: &'a G,
+    hooks: &'a G,
 ) -> Result<Done, RunFault>
 where
     D: Disk + Drop + Send,
     M: CallLedger + Send + Sync,
     K: CallLedger + Send + Sync,
     W: Wire,
-    G: Gate + Sync,
+    G: Hooks + Sync,
     R: Threads + Wait + Sync,
     requires untrusted { K.trusts ≡ false }
     requires made { (blanks.made.name ≡ M.name) × (blanks.made.parts ≡ M.parts)
@@ -158,7 +158,7 @@ where
 {
     let has_journal = begun.book.journal().is_some();
     let hall = PrivateHall::<D, M, K>::open(alloc, begun, blanks)?;
-    let (sent, closed) = hall.run(rt, alloc, wire, gate);
+    let (sent, closed) = hall.run(rt, alloc, wire, hooks);
     concluded(sent, closed, has_journal)
 }
 

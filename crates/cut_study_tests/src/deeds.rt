@@ -4,7 +4,7 @@ ghost use Rattle.std.specs.Prelude.{true, ◌≡◌, ◌<◌, All, IfOk};
 use crate::studies::Study;
 use cut_book::{Opened, Shelf, ShelfFault, SubmitFault};
 use cut_disks::{FaultyDisk, Tear};
-use cut_hall::{CallLedger, Hall, LineFault, OpenGate, Pass, Report, StudyCell};
+use cut_hall::{CallLedger, Hall, LineFault, NoHooks, Pass, Report, StudyCell};
 use cut_plan::Plan;
 use std::alloc::Global;
 use std::sync::Wait;
@@ -154,7 +154,7 @@ impl<M: CallLedger, K: CallLedger, R: Wait> Guest<'_, M, K, R> {
             cell,
         };
         self.hall
-            .work_on_cell(self.rt, self.alloc, pass, &OpenGate, wanted);
+            .work_on_cell(self.rt, self.alloc, pass, &NoHooks, wanted);
         match self.wait_for_row(pass, opened, study, cell) {
             End::Line => self.ask_again(opened, study, cell),
             end => end,
@@ -191,7 +191,7 @@ impl<M: CallLedger, K: CallLedger, R: Wait> Guest<'_, M, K, R> {
     {
         let may_go_on = self
             .hall
-            .work_off(self.rt, self.alloc, pass, &OpenGate, study);
+            .work_off(self.rt, self.alloc, pass, &NoHooks, study);
         End::Worked(may_go_on)
     }
 

@@ -6,7 +6,7 @@ ghost use Rattle.cut_hall.specs.declared.not_closed.NotClosed.TheVariants.{SeatM
 use crate::deeds::{Deed, End, Guest, Stormy, closed};
 use crate::studies::{FIRST_SLIP, ONE_LIAR, Study, TWO_TRIALS};
 use cut_book::{NoShelf, Opened};
-use cut_hall::{CallLedger, Hall, NotClosed, OpenGate, Pass, Report, StudyCell};
+use cut_hall::{CallLedger, Hall, NoHooks, NotClosed, Pass, Report, StudyCell};
 use cut_ledger::Base;
 use std::alloc::Global;
 use std::marker::Brand;
@@ -64,7 +64,7 @@ impl<M: CallLedger, K: CallLedger, R: Wait> Guest<'_, M, K, R> {
             Step::Work => {
                 let first = StudyCell { study: 0, cell: 0 };
                 self.hall
-                    .work_on_cell(self.rt, self.alloc, pass, &OpenGate, first);
+                    .work_on_cell(self.rt, self.alloc, pass, &NoHooks, first);
                 self.work_off(pass, 0)
             }
             Step::Stop => {

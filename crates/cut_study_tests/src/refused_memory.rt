@@ -2,7 +2,7 @@
 //! one allocation of its runs is refused, and is meant to be run so by hand.
 
 use crate::runs::{BY_TWO, Counts, Ended, Order, run_alone};
-use cut_hall::OpenGate;
+use cut_hall::NoHooks;
 use cut_study::RunFault;
 use std::alloc::Global;
 use std::sync::Wait;
@@ -41,7 +41,7 @@ fn is_whole(counts: Counts) -> bool {
 
 /// How a run by this many workers ends, in pieces of one trial. Its plan may be refused memory too.
 fn run_by<R: Threads + Wait + Sync>(rt: &R, alloc: Global, workers: u32) -> End {
-    match run_alone(rt, alloc, Order { workers, ..BY_TWO }, &OpenGate) {
+    match run_alone(rt, alloc, Order { workers, ..BY_TWO }, &NoHooks) {
         Ok(ended) => end_of(ended),
         Err(_) => End::Refused,
     }

@@ -3,7 +3,7 @@ ghost use Rattle.std.specs.Prelude.{◌≡◌, Ok, None, length, IfOk};
 ghost use Rattle.cut_journal.specs.Reading.{reading};
 
 use crate::piece::result_of;
-use crate::runs::{CountingGate, Counts, Ended, Kept, counts_of, workers_from};
+use crate::runs::{CountingHooks, Counts, Ended, Kept, counts_of, workers_from};
 use crate::studies::{MANY_TRIALS, Study, TWO_TRIALS, studies};
 use cut_disks::{Disk, FaultyDisk, Tear};
 use cut_journal::Journal;
@@ -65,7 +65,7 @@ fn journal_on<D: Disk + Drop>(alloc: Global, disk: D, plan: &Plan) -> Result<Kep
     }
 }
 
-/// How a run ends over the journal on a disk, which is armed once the journal is open, if it is; and whether its gate
+/// How a run ends over the journal on a disk, which is armed once the journal is open, if it is; and whether its hooks
 /// has counted each trial.
 fn run_over<R: Threads + Wait + Sync>(
     rt: &R,
@@ -85,10 +85,10 @@ fn run_over<R: Threads + Wait + Sync>(
         piece_size: row.piece_size.max(1),
         workers: workers_from(row.workers),
     };
-    let gate = CountingGate::new();
-    let report = counts_of(run.run(rt, alloc, &mut wire, &gate));
+    let hooks = CountingHooks::new();
+    let report = counts_of(run.run(rt, alloc, &mut wire, &hooks));
     let taken = row.study.prefix_len(wire.taken());
-    Ok((Ended { report, taken }, gate.has_all()))
+    Ok((Ended { report, taken }, hooks.has_all()))
 }
 
 /// Whether a run ended with the whole table, which has this many bytes.
@@ -101,7 +101,7 @@ fn is_table(ended: &Ended, length: usize) -> bool {
     }
 }
 
-/// Whether a run ended so, where its gate has counted each trial of a complete study.
+/// Whether a run ended so, where its hooks have counted each trial of a complete study.
 fn is_right(ended: &Ended, has_all: bool, wanted: &Wanted) -> bool {
     match *wanted {
         Wanted::Table(length) => has_all && is_table(ended, length),

@@ -3,7 +3,7 @@ ghost use Rattle.std.specs.Prelude.{◌≤◌};
 
 use crate::studies::{Study, THOUSAND_TRIALS, THREE_TRIALS, TWO_TRIALS};
 use cut_disks::MemoryDisk;
-use cut_hall::{Gate, OpenGate};
+use cut_hall::{Hooks, NoHooks};
 use cut_journal::Journal;
 use cut_ledger::Slip;
 use cut_outcome::Piece;
@@ -86,10 +86,10 @@ pub(crate) fn run_alone<G, R>(
     rt: &R,
     alloc: Global,
     order: Order,
-    gate: &G,
+    hooks: &G,
 ) -> Result<Ended, PlanFault>
 where
-    G: Gate + Sync,
+    G: Hooks + Sync,
     R: Threads + Wait + Sync,
 {
     let plan = order.study.read_plan(alloc)?;
@@ -100,7 +100,7 @@ where
         piece_size: order.piece_size.max(1),
         workers: workers_from(order.workers),
     };
-    let report = counts_of(run.run(rt, alloc, &mut wire, gate));
+    let report = counts_of(run.run(rt, alloc, &mut wire, hooks));
     Ok(Ended {
         report,
         taken: order.study.prefix_len(wire.taken()),
@@ -144,7 +144,7 @@ where
             workers,
             room: 1000,
         };
-        if run_alone(rt, alloc, order, &OpenGate)? != whole(sent, accepted, calls) {
+        if run_alone(rt, alloc, order, &NoHooks)? != whole(sent, accepted, calls) {
             return Ok(false);
         }
     }
@@ -162,11 +162,11 @@ fn any_number_of_workers_writes_the_table(rt: HostRuntime) -> Result<(), Fail> {
 #[test]
 fn a_wire_takes_the_bytes_that_are_reported(rt: HostRuntime) -> Result<(), Fail> {
     for room in 0..98usize {
-        let ended = run_alone(&rt, rt.alloc(), Order { room, ..BY_TWO }, &OpenGate)?;
+        let ended = run_alone(&rt, rt.alloc(), Order { room, ..BY_TWO }, &NoHooks)?;
         let fault = WriteFault { sent: room as u64 };
         assert!(rt; ended.report == Err(RunFault::Write(fault)) && ended.taken == Some(room));
     }
-    let ended = run_alone(&rt, rt.alloc(), Order { room: 98, ..BY_TWO }, &OpenGate)?;
+    let ended = run_alone(&rt, rt.alloc(), Order { room: 98, ..BY_TWO }, &NoHooks)?;
     assert!(rt; ended == whole(98, 2, 3));
     Ok(())
 }
@@ -194,17 +194,17 @@ fn faults_of_runs_are_printed(rt: HostRuntime) -> Result<(), Fail> {
     Ok(())
 }
 
-/// A gate that counts the trials that are held.
+/// Hooks that count the trials that are held.
 #[derive(Drop)]
-pub(crate) struct CountingGate {
+pub(crate) struct CountingHooks {
     held: AtomicU64,
     all: AtomicU64,
 }
 
-impl CountingGate {
-    /// A gate of a study that is not opened.
-    pub(crate) fn new() -> CountingGate {
-        CountingGate {
+impl CountingHooks {
+    /// Those of a study that is not opened.
+    pub(crate) fn new() -> CountingHooks {
+        CountingHooks {
             held: AtomicU64::new(0),
             all: AtomicU64::new(0),
         }
@@ -217,19 +217,19 @@ impl CountingGate {
     }
 }
 
-impl Gate for CountingGate {
-    fn begin<R: Wait>(&self, _rt: &R, held: u64, all: u64) {
+impl Hooks for CountingHooks {
+    fn opened<R: Wait>(&self, _rt: &R, held: u64, all: u64) {
         self.held.store(held, Ordering::SeqCst);
         self.all.store(all, Ordering::SeqCst);
     }
 
-    fn taken<R: Wait>(&self, _rt: &R, piece: Piece) {
+    fn accepted<R: Wait>(&self, _rt: &R, piece: Piece) {
         let trials = u64::from(piece.count);
         self.held.fetch_add(trials, Ordering::SeqCst);
     }
 }
 
-/// A gate at which a call waits until this many have begun, for 10,000 turns of a millisecond at most.
+/// Hooks in which a call waits until this many have begun, for 10,000 turns of a millisecond at most.
 #[derive(Drop)]
 struct Meeting<'a, C> {
     clock: &'a C,
@@ -238,8 +238,8 @@ struct Meeting<'a, C> {
     left_alone: AtomicU64,
 }
 
-impl<C: Clock> Gate for Meeting<'_, C> {
-    fn pass<R: Wait>(&self, _rt: &R, _piece: Piece) {
+impl<C: Clock> Hooks for Meeting<'_, C> {
+    fn drawn<R: Wait>(&self, _rt: &R, _piece: Piece) {
         self.begun.fetch_add(1, Ordering::SeqCst);
         for _ in 0..10_000 {
             if self.begun.load(Ordering::SeqCst) >= self.wanted {
@@ -251,22 +251,22 @@ impl<C: Clock> Gate for Meeting<'_, C> {
     }
 }
 
-/// How a run ends whose workers meet at a gate before any of them runs its trial, of a study with one for each; how many
-/// came to the gate, and how many were left alone there.
+/// How a run ends whose workers meet in a hook before any of them runs its trial, of a study with one for each; how many
+/// came to it, and how many were left alone there.
 fn all_meet<R: Threads + Wait + Clock + Sync>(
     rt: &R,
     alloc: Global,
     order: Order,
 ) -> Result<(Ended, u64, u64), PlanFault> {
-    let gate = Meeting {
+    let hooks = Meeting {
         clock: rt,
         wanted: u64::from(order.workers),
         begun: AtomicU64::new(0),
         left_alone: AtomicU64::new(0),
     };
-    let ended = run_alone(rt, alloc, order, &gate)?;
-    let begun = gate.begun.load(Ordering::SeqCst);
-    Ok((ended, begun, gate.left_alone.load(Ordering::SeqCst)))
+    let ended = run_alone(rt, alloc, order, &hooks)?;
+    let begun = hooks.begun.load(Ordering::SeqCst);
+    Ok((ended, begun, hooks.left_alone.load(Ordering::SeqCst)))
 }
 
 #[test]

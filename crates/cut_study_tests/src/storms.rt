@@ -4,7 +4,7 @@ ghost use Rattle.atomic_table.specs.Seated.{TableId};
 
 use crate::deeds::{Brittle, Deed, End, Guest, Stormy, closed, put_back};
 use crate::studies::{Study, long_study};
-use cut_hall::{CallLedger, Hall, OpenGate, Pass, Report};
+use cut_hall::{CallLedger, Hall, NoHooks, Pass, Report};
 use cut_plan::PlanFault;
 use rand_chacha::ChaCha8Rng;
 use rand_core::SeedableRng;
@@ -102,7 +102,7 @@ fn play<M: CallLedger, K: CallLedger, R: Wait>(
 {
     let storm = shared.storm;
     if storm.has_worker && number == 2 {
-        return guest.hall.work(guest.rt, guest.alloc, pass, &OpenGate);
+        return guest.hall.work(guest.rt, guest.alloc, pass, &NoHooks);
     }
     let mut words = ChaCha8Rng::from_seed([0; 32]);
     words.set_stream(storm.stream.wrapping_add(number));

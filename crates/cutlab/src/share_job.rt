@@ -3,7 +3,7 @@ ghost use Rattle.std.specs.Prelude.{◌≤◌};
 ghost use Rattle.cut_machines.specs.Share.{EndsShareFile};
 
 use cut_commands::CliFault;
-use cut_hall::Gate;
+use cut_hall::Hooks;
 use cut_machines::{ShareWork, share_file};
 use cut_share::Share;
 use cut_wires::Wire;
@@ -20,24 +20,24 @@ pub(crate) struct ShareJob<'a> {
 }
 
 impl ShareJob<'_> {
-    /// Runs it, by workers that call a gate.
+    /// Runs it, by workers that call hooks.
     pub(crate) fn run_with<W, G, R>(
         &self,
         host: &HostRuntime,
         rt: &R,
         wire: &mut W,
-        gate: &G,
+        hooks: &G,
     ) -> Result<(), CliFault>
     where
         W: Wire,
-        G: Gate + Sync,
+        G: Hooks + Sync,
         R: Threads + Wait + Sync,
         ensures { EndsShareFile self.now.share (W.log wire.old) (W.log wire.new) result }
     {
         let work = ShareWork {
             share: self.share,
             workers: self.workers,
-            gate,
+            hooks,
         };
         share_file(host, rt, wire, work, self.file)
     }
