@@ -48,7 +48,7 @@ pub fn migrate_files<W: Wire>(
 ) -> Result<(), CliFault>
     ensures { EndsFiles (W.log wire.old) (W.log wire.new) result }
 {
-    let Ok(old) = FileDisk::open(host, old) else {
+    let Ok(old) = FileDisk::open_existing(host, old) else {
         return Err(CliFault::Journal(JournalFault::Disk));
     };
     let Ok(new) = FileDisk::open(host, new) else {

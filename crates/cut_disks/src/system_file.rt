@@ -29,6 +29,17 @@ impl SystemFile {
             .create(true)
             .truncate(false)
             .open(rt, path)?;
+        SystemFile::in_folder(rt, file, path)
+    }
+
+    /// Opens a file that is there, for reads alone, and its folder.
+    pub fn open_existing(rt: &HostRuntime, path: &str) -> io::Result<SystemFile> {
+        let file = fs::open(rt, path)?;
+        SystemFile::in_folder(rt, file, path)
+    }
+
+    /// A file that was opened at a path, and its folder, which is opened.
+    fn in_folder(rt: &HostRuntime, file: File, path: &str) -> io::Result<SystemFile> {
         let folder = fs::open(rt, folder_of(path))?;
         Ok(SystemFile { file, folder })
     }
@@ -48,6 +59,15 @@ impl FileDisk {
     /// `over`, so that no disk is made here but by that call, whose clause `ready` holds for each file.
     pub fn open(rt: &HostRuntime, path: &str) -> Result<FileDisk, DiskFault> {
         match SystemFile::open(rt, path) {
+            Ok(file) => FileDisk::over(file),
+            Err(_) => Err(DiskFault),
+        }
+    }
+
+    /// Opens the regular file at a path, which is there, for reads alone, and holds the lock on it, as `open` does. No
+    /// file is made, and none has to be one that may be written: each write of the disk fails.
+    pub fn open_existing(rt: &HostRuntime, path: &str) -> Result<FileDisk, DiskFault> {
+        match SystemFile::open_existing(rt, path) {
             Ok(file) => FileDisk::over(file),
             Err(_) => Err(DiskFault),
         }

@@ -155,9 +155,12 @@ fn a_file(rt: HostRuntime) -> Result<(), Fail> {
     let _ = fs::remove_dir_all(&rt, FOLDER);
     assert!(rt; FileDisk::open(&rt, FILE).is_err());
     fs::create_dir(&rt, FOLDER)?;
+    assert!(rt; FileDisk::open_existing(&rt, FILE).is_err());
     assert!(rt; FileDisk::open(&rt, FILE)?.length() == Ok(0));
     assert!(rt; is_new_file(&rt, &mut FileDisk::open(&rt, FILE)?)?);
     assert!(rt; FileDisk::open(&rt, FILE)?.length() == Ok(5));
+    let mut old = FileDisk::open_existing(&rt, FILE)?;
+    assert!(rt; old.length() == Ok(5) && old.write_at(0, b"c").is_err());
     // A folder is no file.
     assert!(rt; FileDisk::open(&rt, FOLDER).is_err());
     fs::remove_dir_all(&rt, FOLDER)?;

@@ -136,7 +136,7 @@ fn add_file_slips(
 ) -> Result<(), CliFault>
     ensures { IfErr result MayNotRead }
 {
-    let Ok(disk) = FileDisk::open(host, path) else {
+    let Ok(disk) = FileDisk::open_existing(host, path) else {
         return Err(CliFault::Journal(JournalFault::Disk));
     };
     add_slips(host.alloc(), plan, disk, slips)
