@@ -319,8 +319,7 @@ impl<D: Disk> Book<D> {
     {
         crashes_are_resumptions();
         if let Some(journal) = &self.journal {
-            // For the proof: what always holds of a journal.
-            let _ = journal.disk();
+            journal.stays_readable();
         }
     }
 
@@ -332,8 +331,7 @@ impl<D: Disk> Book<D> {
     {
         crashes_are_resumptions();
         if let Some(journal) = &self.journal {
-            // For the proof: what always holds of a journal.
-            let _ = journal.disk();
+            journal.stays_readable();
         }
     }
 

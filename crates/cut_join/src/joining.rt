@@ -40,8 +40,7 @@ pub fn join<D: Disk>(
     ensures honest { D.is_honest journal.old.disk ↔ D.is_honest journal.new.disk }
     ensures faults { D.faults journal.new.disk ≡ joining_faults result (D.faults journal.old.disk) }
 {
-    // For the proof: what always holds of a journal.
-    let _ = journal.disk();
+    journal.stays_readable();
     let joined = joined(alloc, plan, slips)?;
     if !journal.plan().same(plan) {
         return Err(JoinFault::OtherPlan);
@@ -62,8 +61,7 @@ fn append_all<D: Disk>(journal: &mut Journal<D>, slips: &[Slip]) -> Result<u64, 
     ensures honest { D.is_honest journal.old.disk ↔ D.is_honest journal.new.disk }
     ensures faults { D.faults journal.new.disk ≡ joining_faults result (D.faults journal.old.disk) }
 {
-    // For the proof: what always holds of a journal.
-    let _ = journal.disk();
+    journal.stays_readable();
     let mut count = 0;
     for slip in slips {
         append(journal, *slip)?;
@@ -85,8 +83,7 @@ fn append<D: Disk>(journal: &mut Journal<D>, slip: Slip) -> Result<(), JoinFault
     ensures honest { D.is_honest journal.old.disk ↔ D.is_honest journal.new.disk }
     ensures faults { D.faults journal.new.disk ≡ joining_faults result (D.faults journal.old.disk) }
 {
-    // For the proof: what always holds of a journal.
-    let _ = journal.disk();
+    journal.stays_readable();
     match journal.append_slip(slip) {
         Ok(_) => Ok(()),
         Err(fault) => Err(fault_of(fault)),

@@ -228,6 +228,14 @@ impl<D: Disk> Journal<D> {
         self.study.plan()
     }
 
+    /// A law of every journal, and nothing that is seen: between calls, whatever a crash may leave of an honest disk
+    /// is read as the slips that are kept, or as these and the doubtful one.
+    pub fn stays_readable(&self)
+        ensures sound { D.is_honest self.now.disk →
+            IsFileOf self.now.plan self.now.count self.now.doubtful (D.state self.now.disk) }
+    {
+    }
+
     /// The disk. Between calls, whatever a crash may leave of an honest one is read as the slips that are
     /// kept, or as these and the doubtful one.
     pub fn disk(&self) -> &D

@@ -53,8 +53,7 @@ pub fn migrate<D: Disk>(
     ensures honest { D.is_honest journal.old.disk ↔ D.is_honest journal.new.disk }
     ensures faults { D.faults journal.new.disk ≡ moving_faults result (D.faults journal.old.disk) }
 {
-    // For the proof: what always holds of a journal.
-    let _ = journal.disk();
+    journal.stays_readable();
     if plan.version() != Version::One {
         return Err(MigrateFault::NotVersion1);
     }
@@ -117,8 +116,7 @@ fn move_slips<D: Disk>(
     ensures honest { D.is_honest journal.old.disk ↔ D.is_honest journal.new.disk }
     ensures faults { D.faults journal.new.disk ≡ moving_faults result (D.faults journal.old.disk) }
 {
-    // For the proof: what always holds of a journal.
-    let _ = journal.disk();
+    journal.stays_readable();
     let mut count = 0;
     for slip in slips {
         move_slip(alloc, slip, count + 1, target, journal)?;
@@ -149,8 +147,7 @@ fn move_slip<D: Disk>(
     ensures honest { D.is_honest journal.old.disk ↔ D.is_honest journal.new.disk }
     ensures faults { D.faults journal.new.disk ≡ moving_faults result (D.faults journal.old.disk) }
 {
-    // For the proof: what always holds of a journal.
-    let _ = journal.disk();
+    journal.stays_readable();
     let result = match run_piece(alloc, target.upgrade, target.rings, slip.piece) {
         Ok(result) => result,
         Err(TrialFault::Memory) => return Err(MigrateFault::Memory),

@@ -22,8 +22,7 @@ pub(crate) fn append_all<D: Disk, G: Hooks, R: Wait>(
     ensures honest { D.is_honest journal.old.disk ↔ D.is_honest journal.new.disk }
     ensures faults { D.faults journal.new.disk ≡ running_faults result (D.faults journal.old.disk) }
 {
-    // For the proof: what always holds of a journal.
-    let _ = journal.disk();
+    journal.stays_readable();
     for task in tasks {
         append(rt, hooks, journal, task)?;
     }
@@ -43,8 +42,7 @@ fn append<D: Disk, G: Hooks, R: Wait>(
     ensures honest { D.is_honest journal.old.disk ↔ D.is_honest journal.new.disk }
     ensures faults { D.faults journal.new.disk ≡ running_faults result (D.faults journal.old.disk) }
 {
-    // For the proof: what always holds of a journal.
-    let _ = journal.disk();
+    journal.stays_readable();
     let Some(result) = &task.result else {
         return Ok(());
     };

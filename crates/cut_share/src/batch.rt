@@ -32,8 +32,7 @@ pub(crate) fn run_pieces<D: Disk, G: Hooks + Sync, R: Threads + Wait + Sync>(
     ensures honest { D.is_honest journal.old.disk ↔ D.is_honest journal.new.disk }
     ensures faults { D.faults journal.new.disk ≡ running_faults result (D.faults journal.old.disk) }
 {
-    // For the proof: what always holds of a journal.
-    let _ = journal.disk();
+    journal.stays_readable();
     let mut pieces = pieces;
     let mut is_whole = true;
     loop {

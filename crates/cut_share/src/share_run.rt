@@ -66,8 +66,7 @@ impl<G: Hooks + Sync> ShareRun<'_, G> {
         ensures honest { D.is_honest journal.old.disk ↔ D.is_honest journal.new.disk }
         ensures faults { D.faults journal.new.disk ≡ running_faults result (D.faults journal.old.disk) }
     {
-        // For the proof: what always holds of a journal.
-        let _ = journal.disk();
+        journal.stays_readable();
         if !journal.plan().same(self.plan) {
             return Err(ShareFault::OtherPlan);
         }
@@ -79,7 +78,7 @@ impl<G: Hooks + Sync> ShareRun<'_, G> {
         let all = self.share.trials(self.plan);
         let left = pieces.trials_left();
         self.hooks
-            .begin(rt, u64::from(all).saturating_sub(left), u64::from(all));
+            .opened(rt, u64::from(all).saturating_sub(left), u64::from(all));
         let tools = Tools {
             alloc,
             plan: self.plan,

@@ -1,6 +1,6 @@
 -- How a `Ballot` is kept: as a map from members to votes.
 use Rattle.std.specs.Prelude.{ℕ, List, map}
-use Rattle.cut_trial.specs.declared.fast_round.Ballot.TheInside.{Inside}
+use Rattle.cut_trial.specs.declared.ballot.Ballot.TheInside.{Inside}
 
 -- the entries of the map
 abbrev pub entries_of : Inside → List (List ℕ × ℕ)

@@ -6,8 +6,8 @@
 #![tactic(auto)]
 
 mod alerts;
+mod ballot;
 mod cast;
-mod fast_round;
 mod fault;
 mod hearing;
 mod input;
@@ -18,7 +18,7 @@ mod trial;
 mod verdict_counts;
 mod verdicts;
 
-pub use fast_round::Ballot;
+pub use ballot::Ballot;
 pub use fault::TrialFault;
 pub use piece::run_piece;
 pub use trial::run_trial;

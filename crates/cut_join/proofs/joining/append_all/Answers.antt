@@ -22,7 +22,7 @@ loop-slip-init g c =
       appended = none_yet log;
       kept = λ honest. sym (append-nil (kept_slips log.plan log.count (g.D.Disk.state log.disk)));
       moments = λ honest. nothing_appended log.plan log.count log.doubtful (g.D.Disk.state log.disk)
-          (c.disk.ensures.sound honest);
+          (c.stays_readable.ensures.sound honest);
       honest = (λ h. h, λ h. h);
       faults = refl;
     }

@@ -15,12 +15,12 @@ use Rattle.cut_migration.proofs.migration.move_slip.Goals as goal
 pub returns-in-Err-Memory-clause-moments : goal.returns-in-Err-Memory-clause-moments
 returns-in-Err-Memory-clause-moments g c =
     let log = c.args.journal.now in
-    λ honest. nothing_appended log.plan log.count log.doubtful (g.D.Disk.state log.disk) (c.disk.ensures.sound honest)
+    λ honest. nothing_appended log.plan log.count log.doubtful (g.D.Disk.state log.disk) (c.stays_readable.ensures.sound honest)
 
 pub returns-then-not-is_true-clause-moments : goal.returns-then-not-is_true-clause-moments
 returns-then-not-is_true-clause-moments g c =
     let log = c.args.journal.now in
-    λ honest. nothing_appended log.plan log.count log.doubtful (g.D.Disk.state log.disk) (c.disk.ensures.sound honest)
+    λ honest. nothing_appended log.plan log.count log.doubtful (g.D.Disk.state log.disk) (c.stays_readable.ensures.sound honest)
 
 pub returns-in-Ok-append-clause-moments : goal.returns-in-Ok-append-clause-moments
 returns-in-Ok-append-clause-moments g c =
@@ -31,7 +31,7 @@ returns-in-Ok-append-clause-moments g c =
     c.append.new.self.doubtful (x ∷ [])
     (g.D.Disk.state log.disk) (g.D.Disk.state c.append.new.self.disk)) is
     (append_moments (Ok c.in-Ok-append.field-0) (slip_of c.in-Ok.result) (λ d. g.D.Disk.state d) log c.append.new.self
-    c.in-Ok-append.ensures.left c.in-Ok-append.ensures.broken (c.disk.ensures.sound honest)
+    c.in-Ok-append.ensures.left c.in-Ok-append.ensures.broken (c.stays_readable.ensures.sound honest)
     (c.append.ensures.moments honest)
     (c.in-Ok-append.ensures.acknowledged honest) (c.in-Ok-append.ensures.kept honest))
 

@@ -17,7 +17,7 @@ returns-in_default-clause-ends g c =
     let log = c.args.journal.now in
     subst (λ (ps : List Piece). EndsAppends {T = ⊤} g.D.Disk.is_honest g.D.Disk.state (Ok tt) log.plan ps log log)
     (sym (done_none c.args.task.now c.in_default.is))
-    (none_added g.D.Disk.is_honest g.D.Disk.state log c.disk.ensures.sound, none_failed [] log)
+    (none_added g.D.Disk.is_honest g.D.Disk.state log c.stays_readable.ensures.sound, none_failed [] log)
 
 pub returns-in-Ok-clause-ends : goal.returns-in-Ok-clause-ends
 returns-in-Ok-clause-ends g c =
@@ -26,7 +26,7 @@ returns-in-Ok-clause-ends g c =
     task_appended {T = ⊤} g.D.Disk.is_honest g.D.Disk.state tt c.in-Ok.field-0 log.plan c.args.task.now
     c.in-Some.result log new c.in-Some.is c.requires c.in-Ok.ensures.left c.in-Ok.ensures.broken
     (λ honest. record {
-      sound = c.disk.ensures.sound honest;
+      sound = c.stays_readable.ensures.sound honest;
       moments = c.append.ensures.moments honest;
       acknowledged = c.in-Ok.ensures.acknowledged honest;
       kept = c.in-Ok.ensures.kept honest;
@@ -48,7 +48,7 @@ returns-in-Err-clause-ends g c =
     (task_failed ⊤ g.D.Disk.is_honest g.D.Disk.state c.in-Err.fault log.plan c.args.task.now c.in-Some.result
     log new c.in-Some.is c.requires others other broken left
     (λ honest. record {
-      sound = c.disk.ensures.sound honest;
+      sound = c.stays_readable.ensures.sound honest;
       moments = c.append.ensures.moments honest;
       acknowledged = c.in-Err.ensures.acknowledged honest;
       kept = c.in-Err.ensures.kept honest;

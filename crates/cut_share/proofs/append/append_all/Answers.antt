@@ -25,7 +25,7 @@ pub loop-task-init : goal.loop-task-init
 loop-task-init g c =
     let log = c.args.journal.now in
     record {
-      added = none_added g.D.Disk.is_honest g.D.Disk.state log c.disk.ensures.sound;
+      added = none_added g.D.Disk.is_honest g.D.Disk.state log c.stays_readable.ensures.sound;
       failed = none_failed [] log;
       honest = (λ h. h, λ h. h);
       faults = refl;

@@ -22,7 +22,7 @@ loop-pieces-init g c =
       share = refl;
       upto = none_yet g.D.Disk.is_honest g.D.Disk.state c.args.pieces.share c.args.pieces.plan.now
           (c.args.pieces.rest ∷ c.args.pieces.later.now) log
-          (none_added g.D.Disk.is_honest g.D.Disk.state log c.disk.ensures.sound);
+          (none_added g.D.Disk.is_honest g.D.Disk.state log c.stays_readable.ensures.sound);
       honest = (λ h. h, λ h. h);
       faults = refl;
     }

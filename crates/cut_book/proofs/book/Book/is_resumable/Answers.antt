@@ -11,4 +11,4 @@ returns-in-Some g c =
     (after p.state (HandInDiskFails c.args.offered.now))) c.self.view_is
     (resumable g.D.Disk.is_honest g.D.Disk.state c.self.inside.journal c.in-Some.journal _ c.args.offered.now
     c.crashes_are_resumptions.ensures.between
-    c.crashes_are_resumptions.ensures.within c.in-Some.is c.disk.ensures.sound c.self.invariant.followed)
+    c.crashes_are_resumptions.ensures.within c.in-Some.is c.stays_readable.ensures.sound c.self.invariant.followed)

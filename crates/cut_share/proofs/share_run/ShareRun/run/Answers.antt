@@ -14,7 +14,7 @@ returns-then-not-same-clause-ends g c =
     let log = c.args.journal.now in
     ends_other g.D.Disk.is_honest g.D.Disk.state c.args.self.share c.args.self.plan.now c.args.self.slips.now log
     (λ same. let bad : false ≡ true = c.if-not-same.ensures.values.1 (c.plan.ensures ∙ same) in cc)
-    (none_added g.D.Disk.is_honest g.D.Disk.state log c.disk.ensures.sound)
+    (none_added g.D.Disk.is_honest g.D.Disk.state log c.stays_readable.ensures.sound)
 
 pub returns-in_err-gaps-clause-ends : goal.returns-in_err-gaps-clause-ends
 returns-in_err-gaps-clause-ends g c =
@@ -25,7 +25,7 @@ returns-in_err-gaps-clause-ends g c =
     c.args.self.plan.now c.args.self.slips.now log log) (sym (p.1 ∙ ap (λ (x : ShareFault). Err x) p.2))
     (ends_unbegun g.D.Disk.is_honest g.D.Disk.state c.in_err-gaps.field-0.0 c.args.self.share c.args.self.plan.now
     c.args.self.slips.now log c.in_err-gaps.ensures.err same
-    (none_added g.D.Disk.is_honest g.D.Disk.state log c.disk.ensures.sound))
+    (none_added g.D.Disk.is_honest g.D.Disk.state log c.stays_readable.ensures.sound))
 
 pub returns-in_err-rings-clause-ends : goal.returns-in_err-rings-clause-ends
 returns-in_err-rings-clause-ends g c =
@@ -36,7 +36,7 @@ returns-in_err-rings-clause-ends g c =
     c.args.self.plan.now c.args.self.slips.now log log) (sym (p.1 ∙ ap (λ (x : ShareFault). Err x) p.2))
     (ends_unbegun g.D.Disk.is_honest g.D.Disk.state Memory c.args.self.share c.args.self.plan.now
     c.args.self.slips.now log tt same
-    (none_added g.D.Disk.is_honest g.D.Disk.state log c.disk.ensures.sound))
+    (none_added g.D.Disk.is_honest g.D.Disk.state log c.stays_readable.ensures.sound))
 
 pub returns-in_err-tasks-clause-ends : goal.returns-in_err-tasks-clause-ends
 returns-in_err-tasks-clause-ends g c =
@@ -47,7 +47,7 @@ returns-in_err-tasks-clause-ends g c =
     c.args.self.plan.now c.args.self.slips.now log log) (sym (p.1 ∙ ap (λ (x : ShareFault). Err x) p.2))
     (ends_unbegun g.D.Disk.is_honest g.D.Disk.state Memory c.args.self.share c.args.self.plan.now
     c.args.self.slips.now log tt same
-    (none_added g.D.Disk.is_honest g.D.Disk.state log c.disk.ensures.sound))
+    (none_added g.D.Disk.is_honest g.D.Disk.state log c.stays_readable.ensures.sound))
 
 pub returns-in_err-run_pieces-clause-ends : goal.returns-in_err-run_pieces-clause-ends
 returns-in_err-run_pieces-clause-ends g c =
@@ -68,7 +68,7 @@ returns-in_err-run_pieces-clause-ends g c =
     subst (λ (x : Result ℕ ShareFault). Ends g.D.Disk.is_honest g.D.Disk.state x run.share run.plan.now run.slips.now
     log new) (sym (p.1 ∙ ap (λ (x : ShareFault). Err x) p.2))
     (ends_fault g.D.Disk.is_honest g.D.Disk.state e run.share run.plan.now run.slips.now all log new begun
-    (none_added g.D.Disk.is_honest g.D.Disk.state log c.disk.ensures.sound)
+    (none_added g.D.Disk.is_honest g.D.Disk.state log c.stays_readable.ensures.sound)
     (ends_at g.D.Disk.is_honest g.D.Disk.state (Err e) run.share of.result.share run.plan.now of.result.plan.now all
     log new of.ensures.share of.ensures.plan ends))
 

@@ -2,7 +2,7 @@ use Rattle.std.proofs.Common.{max, fold, sym, ap, ◌∙◌}
 use Rattle.std.specs.Map.Iter.{deref}
 use Rattle.std.proofs.lemmas.Map.Iter.{rest_all}
 use Rattle.cut_outcome.proofs.FastRound.{most_counted}
-use Rattle.cut_trial.proofs.fast_round.Ballot.largest.Goals as goal
+use Rattle.cut_trial.proofs.ballot.Ballot.largest.Goals as goal
 
 pub returns : goal.returns
 returns c = λ cast h.

@@ -5,7 +5,7 @@ use Rattle.std.specs.Global.{Vec}
 use Rattle.std.specs.Option.{option_copied_mut}
 use Rattle.std.proofs.lemmas.List.Sums.{count_by-le-length}
 use Rattle.cut_outcome.proofs.FastRound.{has, same_key, counted_more, votes-shown}
-use Rattle.cut_trial.proofs.fast_round.Ballot.add_votes.Goals as goal
+use Rattle.cut_trial.proofs.ballot.Ballot.add_votes.Goals as goal
 
 pub returns-in-Some-clause-counted : goal.returns-in-Some-clause-counted
 returns-in-Some-clause-counted c = λ cast few h.

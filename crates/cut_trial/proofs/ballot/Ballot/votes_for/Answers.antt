@@ -1,6 +1,6 @@
 use Rattle.std.proofs.Common.{unwrap_or, ap, ◌∙◌}
 use Rattle.cut_outcome.proofs.FastRound.{votes-shown}
-use Rattle.cut_trial.proofs.fast_round.Ballot.votes_for.Goals as goal
+use Rattle.cut_trial.proofs.ballot.Ballot.votes_for.Goals as goal
 
 pub returns : goal.returns
 returns c = λ cast h.
