@@ -14,6 +14,18 @@ use Rattle.cut_command_line.specs.declared.line.Job.{Job}
 use Rattle.cut_command_line.specs.declared.line.Job.TheVariants.{Run, Check, Explain, Canonical, Status, Serve}
 use Rattle.cut_command_line.specs.declared.line.Job.TheVariants.{Ask, Migrate, Share, Join}
 
+-- a word that has to be given
+abbrev pub word_rule : Text → Rule
+word_rule name = record (new_rule name) { value_names = 1; required = true }
+
+-- an option with a value
+abbrev pub option_rule : Text → Rule
+option_rule name = record (new_rule name) { long = Some name; value_names = 1 }
+
+-- a flag
+abbrev pub flag_rule : Text → Rule
+flag_rule name = record (new_rule name) { long = Some name; action = Some SetTrue }
+
 -- the option `--piece`: a number from 1 to 1,000,000, which is 16 where it is not given
 abbrev pub piece_rule : Rule
 piece_rule = record (new_rule (codes "piece")) {
@@ -32,21 +44,6 @@ workers_rule = record (new_rule (codes "workers")) {
   parser = Some (parsers.Signed (pos 1) (pos 64));
 }
 
--- the option `--checkpoint`: the file that a study is kept in, if it is given
-abbrev pub checkpoint_rule : Rule
-checkpoint_rule = record (new_rule (codes "checkpoint")) {
-  long = Some (codes "checkpoint");
-  value_names = 1;
-}
-
--- the flag `--progress`
-abbrev pub progress_rule : Rule
-progress_rule = record (new_rule (codes "progress")) { long = Some (codes "progress"); action = Some SetTrue }
-
--- the word `SOCKET`: the path of a server's socket
-abbrev pub socket_rule : Rule
-socket_rule = record (new_rule (codes "socket")) { value_names = 1; required = true }
-
 -- an option of a server: how many of something it has, a number from 1 to 64, which has to be given
 abbrev pub count_rule : Text → Rule
 count_rule name = record (new_rule name) {
@@ -56,18 +53,6 @@ count_rule name = record (new_rule name) {
   required = true;
 }
 
--- the option `--dir`: the folder that its studies are kept in, if it is given
-abbrev pub folder_rule : Rule
-folder_rule = record (new_rule (codes "dir")) { long = Some (codes "dir"); value_names = 1 }
-
--- a word that names the file of a checkpoint
-abbrev pub file_rule : Text → Rule
-file_rule name = record (new_rule name) { value_names = 1; required = true }
-
--- the word `I/N`: the number of a share, and how many shares there are
-abbrev pub share_rule : Rule
-share_rule = record (new_rule (codes "share")) { value_names = 1; required = true }
-
 -- the words `OLD..`: the files of 1 to 1,000 checkpoints
 abbrev pub files_rule : Rule
 files_rule = record (new_rule (codes "old")) {
@@ -76,15 +61,11 @@ files_rule = record (new_rule (codes "old")) {
   required = true;
 }
 
--- the flag `--which`
-abbrev pub which_rule : Rule
-which_rule = record (new_rule (codes "which")) { long = Some (codes "which"); action = Some SetTrue }
-
--- the subcommands
+-- the subcommands: each has its words in their order, its options and its flags
 abbrev pub run_app : App
 run_app =
-    with_rule (with_rule (with_rule (with_rule (new_app (codes "run")) piece_rule) workers_rule) checkpoint_rule)
-    progress_rule
+    with_rule (with_rule (with_rule (with_rule (new_app (codes "run")) piece_rule) workers_rule)
+    (option_rule (codes "checkpoint"))) (flag_rule (codes "progress"))
 
 abbrev pub check_app : App
 check_app = new_app (codes "check")
@@ -96,28 +77,29 @@ abbrev pub canonical_app : App
 canonical_app = new_app (codes "canonical")
 
 abbrev pub status_app : App
-status_app = with_rule (new_app (codes "status")) (file_rule (codes "file"))
+status_app = with_rule (new_app (codes "status")) (word_rule (codes "file"))
 
 abbrev pub serve_app : App
 serve_app =
-    with_rule (with_rule (with_rule (with_rule (with_rule (new_app (codes "serve")) socket_rule)
+    with_rule (with_rule (with_rule (with_rule (with_rule (new_app (codes "serve")) (word_rule (codes "socket")))
     (count_rule (codes "workers")))
-    (count_rule (codes "sessions"))) (count_rule (codes "studies"))) folder_rule
+    (count_rule (codes "sessions"))) (count_rule (codes "studies"))) (option_rule (codes "dir"))
 
 abbrev pub ask_app : App
-ask_app = with_rule (new_app (codes "ask")) socket_rule
+ask_app = with_rule (new_app (codes "ask")) (word_rule (codes "socket"))
 
 abbrev pub migrate_app : App
-migrate_app = with_rule (with_rule (new_app (codes "migrate")) (file_rule (codes "old"))) (file_rule (codes "new"))
+migrate_app = with_rule (with_rule (new_app (codes "migrate")) (word_rule (codes "old"))) (word_rule (codes "new"))
 
 abbrev pub share_app : App
 share_app =
-    with_rule (with_rule (with_rule (with_rule (with_rule (new_app (codes "share")) share_rule)
-    (file_rule (codes "file"))) piece_rule) workers_rule) progress_rule
+    with_rule (with_rule (with_rule (with_rule (with_rule (new_app (codes "share")) (word_rule (codes "share")))
+    (word_rule (codes "file"))) piece_rule) workers_rule) (flag_rule (codes "progress"))
 
 abbrev pub join_app : App
 join_app =
-    with_rule (with_rule (with_rule (new_app (codes "join")) (file_rule (codes "new"))) files_rule) which_rule
+    with_rule (with_rule (with_rule (new_app (codes "join")) (word_rule (codes "new"))) files_rule)
+    (flag_rule (codes "which"))
 
 -- the program as clap sees it: it has a version, needs one of its subcommands, and without a word it shows its help
 unfoldable pub program_app : App

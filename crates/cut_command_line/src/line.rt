@@ -1,8 +1,8 @@
 ghost use Rattle.std.specs.Prelude.{◌≡◌, ◌≤◌, ℕ, [], codes, false, map, IfOk, IfErr, IfSome, IfNone};
 ghost use Rattle.clap.specs.Words.{app_of, fault_of, found_of, rows_of, rule_of, subcommand_rows_of, with_subcommand};
-ghost use Rattle.cut_command_line.specs.Line.{checkpoint_rule, file_rule, piece_rule, socket_rule, workers_rule};
-ghost use Rattle.cut_command_line.specs.Line.{ask_app, canonical_app, check_app, count_rule, explain_app, folder_rule};
-ghost use Rattle.cut_command_line.specs.Line.{migrate_app, program_app, progress_rule, run_app, serve_app, status_app};
+ghost use Rattle.cut_command_line.specs.Line.{count_rule, flag_rule, option_rule, piece_rule, word_rule, workers_rule};
+ghost use Rattle.cut_command_line.specs.Line.{ask_app, canonical_app, check_app, explain_app};
+ghost use Rattle.cut_command_line.specs.Line.{migrate_app, program_app, run_app, serve_app, status_app};
 ghost use Rattle.cut_command_line.specs.Line.{EndsLine, GivesFlag, GivesJob, GivesNumber, IsJobOf, IsSizedJob};
 ghost use Rattle.cut_command_line.specs.Line.{NamesJob, status_of_kind};
 ghost use Rattle.cut_command_line.specs.declared.line.Job.{Job};
@@ -44,6 +44,13 @@ const ASK_EXAMPLE: &str = "Example: cutlab ask cutlab.sock < plan.json\nSee docs
 
 const MIGRATE_EXAMPLE: &str =
     "Example: cutlab migrate study.cut study2.cut < plan.json\nSee docs/GUIDE.md.";
+
+/// What the help says of the flag `--progress`.
+pub(crate) const PROGRESS_HELP: &str =
+    "Say on standard error, at most once a second, how many trials are done";
+
+/// What the help says of the word `SOCKET`.
+const SOCKET_HELP: &str = "The path of the server's socket";
 
 /// How many workers, sessions and studies a server has at most, of each.
 const COUNT_MOST: u32 = 64;
@@ -297,8 +304,13 @@ fn add_run<'a>(alloc: Global, program: Command<'a>) -> Result<Command<'a>, Alloc
         .after_help(RUN_EXAMPLE)
         .arg(piece_option(alloc))?
         .arg(workers_option(alloc))?
-        .arg(checkpoint_option(alloc))?
-        .arg(progress_option(alloc))?;
+        .arg(value_option(
+            alloc,
+            "checkpoint",
+            "FILE",
+            "Keep the study in this file, and go on from what it holds; overwrites a file that holds no study",
+        ))?
+        .arg(flag(alloc, "progress", PROGRESS_HELP))?;
     program.subcommand(run)
 }
 
@@ -339,7 +351,7 @@ fn add_status<'a>(alloc: Global, program: Command<'a>) -> Result<Command<'a>, Al
     let status = Command::new(alloc, "status")
         .about("Print what a checkpoint holds, also while a study writes it")
         .after_help(STATUS_EXAMPLE)
-        .arg(file_word(alloc, "file", "FILE", "The checkpoint, which is only read"))?;
+        .arg(needed_word(alloc, "file", "FILE", "The checkpoint, which is only read"))?;
     program.subcommand(status)
 }
 
@@ -350,7 +362,7 @@ fn add_serve<'a>(alloc: Global, program: Command<'a>) -> Result<Command<'a>, All
     let serve = Command::new(alloc, "serve")
         .about("Serve clients at a socket, and print how many trials were accepted")
         .after_help(SERVE_EXAMPLE)
-        .arg(socket_word(alloc))?
+        .arg(needed_word(alloc, "socket", "SOCKET", SOCKET_HELP))?
         .arg(count_option(
             alloc,
             "workers",
@@ -366,7 +378,12 @@ fn add_serve<'a>(alloc: Global, program: Command<'a>) -> Result<Command<'a>, All
             "studies",
             "For how many studies there is room, from 1 to 64",
         ))?
-        .arg(folder_option(alloc))?;
+        .arg(value_option(
+            alloc,
+            "dir",
+            "DIR",
+            "Keep each study in a file of this folder, and go on from what it holds",
+        ))?;
     program.subcommand(serve)
 }
 
@@ -377,7 +394,7 @@ fn add_ask<'a>(alloc: Global, program: Command<'a>) -> Result<Command<'a>, Alloc
     let ask = Command::new(alloc, "ask")
         .about("Read a plan, ask a server for its table and print it")
         .after_help(ASK_EXAMPLE)
-        .arg(socket_word(alloc))?;
+        .arg(needed_word(alloc, "socket", "SOCKET", SOCKET_HELP))?;
     program.subcommand(ask)
 }
 
@@ -388,13 +405,13 @@ fn add_migrate<'a>(alloc: Global, program: Command<'a>) -> Result<Command<'a>, A
     let migrate = Command::new(alloc, "migrate")
         .about("Move a checkpoint of version 1 to a new one of version 2")
         .after_help(MIGRATE_EXAMPLE)
-        .arg(file_word(
+        .arg(needed_word(
             alloc,
             "old",
             "OLD",
             "The checkpoint of version 1, which stays as it is",
         ))?
-        .arg(file_word(
+        .arg(needed_word(
             alloc,
             "new",
             "NEW",
@@ -403,19 +420,46 @@ fn add_migrate<'a>(alloc: Global, program: Command<'a>) -> Result<Command<'a>, A
     program.subcommand(migrate)
 }
 
-/// A word that names the file of a checkpoint.
-pub(crate) fn file_word<'a>(
+/// A word that has to be given.
+pub(crate) fn needed_word<'a>(
     alloc: Global,
     name: &'a str,
     value_name: &'a str,
     help: &'a str,
 ) -> Arg<'a>
-    ensures rule { rule_of result ≡ file_rule name.entry.now }
+    ensures rule { rule_of result ≡ word_rule name.entry.now }
     ensures local { result.global ≡ false }
 {
     Arg::new(alloc, name)
         .value_name(value_name)
         .required(true)
+        .help(help)
+}
+
+/// An option with a value.
+fn value_option<'a>(
+    alloc: Global,
+    name: &'a str,
+    value_name: &'a str,
+    help: &'a str,
+) -> Arg<'a>
+    ensures rule { rule_of result ≡ option_rule name.entry.now }
+    ensures local { result.global ≡ false }
+{
+    Arg::new(alloc, name)
+        .long(name)
+        .value_name(value_name)
+        .help(help)
+}
+
+/// A flag.
+pub(crate) fn flag<'a>(alloc: Global, name: &'a str, help: &'a str) -> Arg<'a>
+    ensures rule { rule_of result ≡ flag_rule name.entry.now }
+    ensures local { result.global ≡ false }
+{
+    Arg::new(alloc, name)
+        .long(name)
+        .action(ArgAction::SetTrue)
         .help(help)
 }
 
@@ -430,27 +474,6 @@ fn count_option<'a>(alloc: Global, name: &'a str, help: &'a str) -> Arg<'a>
         .value_parser(clap::value_parser!(u32).range(1..=64))
         .required(true)
         .help(help)
-}
-
-/// The option that names the folder of a server's checkpoints.
-fn folder_option<'a>(alloc: Global) -> Arg<'a>
-    ensures rule { rule_of result ≡ folder_rule }
-    ensures local { result.global ≡ false }
-{
-    Arg::new(alloc, "dir").long("dir").value_name("DIR").help(
-        "Keep each study in a file of this folder, and go on from what it holds",
-    )
-}
-
-/// The word that names a socket.
-fn socket_word<'a>(alloc: Global) -> Arg<'a>
-    ensures rule { rule_of result ≡ socket_rule }
-    ensures local { result.global ≡ false }
-{
-    Arg::new(alloc, "socket")
-        .value_name("SOCKET")
-        .required(true)
-        .help("The path of the server's socket")
 }
 
 /// The option that says how many trials are run as one piece.
@@ -477,30 +500,6 @@ pub(crate) fn workers_option<'a>(alloc: Global) -> Arg<'a>
         .value_parser(clap::value_parser!(u32).range(1..=64))
         .default_value("1")
         .help("How many threads work on the study, from 1 to 64")
-}
-
-/// The flag that asks for lines on standard error.
-pub(crate) fn progress_option<'a>(alloc: Global) -> Arg<'a>
-    ensures rule { rule_of result ≡ progress_rule }
-    ensures local { result.global ≡ false }
-{
-    Arg::new(alloc, "progress")
-        .long("progress")
-        .action(ArgAction::SetTrue)
-        .help("Say on standard error, at most once a second, how many trials are done")
-}
-
-/// The option that names the file of a checkpoint.
-fn checkpoint_option<'a>(alloc: Global) -> Arg<'a>
-    ensures rule { rule_of result ≡ checkpoint_rule }
-    ensures local { result.global ≡ false }
-{
-    Arg::new(alloc, "checkpoint")
-        .long("checkpoint")
-        .value_name("FILE")
-        .help(
-            "Keep the study in this file, and go on from what it holds; overwrites a file that holds no study",
-        )
 }
 
 /// The fault of a command line in which clap found this, with clap's text where it has one.

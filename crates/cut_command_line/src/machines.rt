@@ -2,15 +2,15 @@
 
 ghost use Rattle.std.specs.Prelude.{◌≡◌, ℕ, codes, false, IfOk, IfSome, IfNone};
 ghost use Rattle.clap.specs.Words.{app_of, found_of, rows_of, rule_of, with_subcommand};
-ghost use Rattle.cut_command_line.specs.Line.{files_rule, join_app, share_app, share_rule, which_rule};
+ghost use Rattle.cut_command_line.specs.Line.{files_rule, join_app, share_app};
 ghost use Rattle.cut_command_line.specs.Line.{GivesJob, GivesShare, IsNumberIn, IsSizedJob};
 
 use crate::Job;
 use crate::line::{
-    PIECE_MOST, WORKERS_MOST, file_word, flag_given, number_given, piece_option, progress_option,
-    workers_option,
+    PIECE_MOST, PROGRESS_HELP, WORKERS_MOST, flag, flag_given, needed_word, number_given,
+    piece_option, workers_option,
 };
-use clap::{Arg, ArgAction, ArgMatches, Command};
+use clap::{Arg, ArgMatches, Command};
 use std::alloc::{AllocError, Global};
 
 /// How many shares there are at most.
@@ -112,8 +112,13 @@ pub(crate) fn add_share<'a>(alloc: Global, program: Command<'a>) -> Result<Comma
     let share = Command::new(alloc, "share")
         .about("Run a share of a plan's study, and print how many trials it has")
         .after_help(SHARE_EXAMPLE)
-        .arg(share_word(alloc))?
-        .arg(file_word(
+        .arg(needed_word(
+            alloc,
+            "share",
+            "I/N",
+            "Which share, from 1, and how many there are, at most 100000",
+        ))?
+        .arg(needed_word(
             alloc,
             "file",
             "FILE",
@@ -121,7 +126,7 @@ pub(crate) fn add_share<'a>(alloc: Global, program: Command<'a>) -> Result<Comma
         ))?
         .arg(piece_option(alloc))?
         .arg(workers_option(alloc))?
-        .arg(progress_option(alloc))?;
+        .arg(flag(alloc, "progress", PROGRESS_HELP))?;
     program.subcommand(share)
 }
 
@@ -134,26 +139,19 @@ pub(crate) fn add_join<'a>(alloc: Global, program: Command<'a>) -> Result<Comman
             "Join the checkpoints of a plan's study in a new one, and print how many slips it has",
         )
         .after_help(JOIN_EXAMPLE)
-        .arg(file_word(
+        .arg(needed_word(
             alloc,
             "new",
             "NEW",
             "The file of the new checkpoint, which holds no study",
         ))?
         .arg(files_word(alloc))?
-        .arg(which_option(alloc))?;
+        .arg(flag(
+            alloc,
+            "which",
+            "Say which of the old files is refused, on standard error",
+        ))?;
     program.subcommand(join)
-}
-
-/// The word that names a share.
-fn share_word<'a>(alloc: Global) -> Arg<'a>
-    ensures rule { rule_of result ≡ share_rule }
-    ensures local { result.global ≡ false }
-{
-    Arg::new(alloc, "share")
-        .value_name("I/N")
-        .required(true)
-        .help("Which share, from 1, and how many there are, at most 100000")
 }
 
 /// The words that name the files of checkpoints.
@@ -166,15 +164,4 @@ fn files_word<'a>(alloc: Global) -> Arg<'a>
         .value_name("OLD")
         .required(true)
         .help("The checkpoints that are joined, at most 1000, which are only read")
-}
-
-/// The flag that asks for the name of the old file that is refused.
-fn which_option<'a>(alloc: Global) -> Arg<'a>
-    ensures rule { rule_of result ≡ which_rule }
-    ensures local { result.global ≡ false }
-{
-    Arg::new(alloc, "which")
-        .long("which")
-        .action(ArgAction::SetTrue)
-        .help("Say which of the old files is refused, on standard error")
 }

@@ -10,7 +10,7 @@ returns c =
     let helped : app_of c.after_help.result ≡ new_app (codes "ask") =
     ap app_of_fields c.after_help.ensures ∙ ap app_of_fields c.about.ensures ∙ c.new.ensures.app in
     let made : app_of c.in_ok-ask.ask ≡ ask_app =
-    c.in_ok-ask.ensures.shape c.socket_word.ensures.local ∙ ap₂ with_rule helped c.socket_word.ensures.rule in
+    c.in_ok-ask.ensures.shape c.needed_word.ensures.local ∙ ap₂ with_rule helped c.needed_word.ensures.rule in
     IfOk-weaker c.subcommand.result _ _
     (λ r h. h.shape (search rules) ∙ ap (λ (a : App). with_subcommand (app_of c.args.program) a.top) made)
     c.subcommand.ensures

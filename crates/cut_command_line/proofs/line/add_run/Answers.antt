@@ -2,7 +2,7 @@ use Rattle.std.proofs.Common.{◌≡◌, ◌∙◌, ap, ap₂, rules, codes}
 use Rattle.std.proofs.lemmas.Result.{IfOk-weaker}
 use Rattle.clap.specs.Words.{App, app_of, new_app, with_rule, with_subcommand}
 use Rattle.clap.specs.Simple.{app_of_fields}
-use Rattle.cut_command_line.specs.Line.{checkpoint_rule, piece_rule, workers_rule, run_app}
+use Rattle.cut_command_line.specs.Line.{option_rule, piece_rule, workers_rule, run_app}
 use Rattle.cut_command_line.proofs.line.add_run.Goals as goal
 
 pub returns : goal.returns
@@ -16,12 +16,13 @@ returns c =
     c.in_ok-arg-2.ensures.shape c.workers_option.ensures.local ∙ ap₂ with_rule pieces_is c.workers_option.ensures.rule
     in
     let files_is : app_of c.in_ok-arg-3.field-0
-    ≡ with_rule (with_rule (with_rule (new_app (codes "run")) piece_rule) workers_rule) checkpoint_rule =
-    c.in_ok-arg-3.ensures.shape c.checkpoint_option.ensures.local
-    ∙ ap₂ with_rule workers_is c.checkpoint_option.ensures.rule in
+    ≡ with_rule (with_rule (with_rule (new_app (codes "run")) piece_rule) workers_rule)
+    (option_rule (codes "checkpoint")) =
+    c.in_ok-arg-3.ensures.shape c.value_option.ensures.local
+    ∙ ap₂ with_rule workers_is c.value_option.ensures.rule in
     let made : app_of c.in_ok-run.run' ≡ run_app =
-    c.in_ok-run.ensures.shape c.progress_option.ensures.local
-    ∙ ap₂ with_rule files_is c.progress_option.ensures.rule in
+    c.in_ok-run.ensures.shape c.flag.ensures.local
+    ∙ ap₂ with_rule files_is c.flag.ensures.rule in
     IfOk-weaker c.subcommand.result _ _
     (λ r h. h.shape (search rules) ∙ ap (λ (a : App). with_subcommand (app_of c.args.program) a.top) made)
     c.subcommand.ensures

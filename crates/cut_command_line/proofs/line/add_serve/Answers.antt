@@ -2,20 +2,22 @@ use Rattle.std.proofs.Common.{◌≡◌, ◌∙◌, ap, ap₂, rules, codes}
 use Rattle.std.proofs.lemmas.Result.{IfOk-weaker}
 use Rattle.clap.specs.Words.{App, app_of, new_app, with_rule, with_subcommand}
 use Rattle.clap.specs.Simple.{app_of_fields}
-use Rattle.cut_command_line.specs.Line.{serve_app, socket_rule}
+use Rattle.cut_command_line.specs.Line.{serve_app, word_rule}
 use Rattle.cut_command_line.proofs.line.add_serve.Goals as goal
 
 pub returns : goal.returns
 returns c =
     let helped : app_of c.after_help.result ≡ new_app (codes "serve") =
     ap app_of_fields c.after_help.ensures ∙ ap app_of_fields c.about.ensures ∙ c.new.ensures.app in
-    let a : app_of c.in_ok-arg.field-0 ≡ with_rule (new_app (codes "serve")) socket_rule =
-    c.in_ok-arg.ensures.shape c.socket_word.ensures.local ∙ ap₂ with_rule helped c.socket_word.ensures.rule in
+    let a : app_of c.in_ok-arg.field-0 ≡ with_rule (new_app (codes "serve")) (word_rule (codes "socket")) =
+    c.in_ok-arg.ensures.shape c.needed_word.ensures.local ∙ ap₂ with_rule helped c.needed_word.ensures.rule in
     let b = c.in_ok-arg-2.ensures.shape c.count_option.ensures.local ∙ ap₂ with_rule a c.count_option.ensures.rule in
-    let d = c.in_ok-arg-3.ensures.shape c.count_option-2.ensures.local ∙ ap₂ with_rule b c.count_option-2.ensures.rule in
-    let e = c.in_ok-arg-4.ensures.shape c.count_option-3.ensures.local ∙ ap₂ with_rule d c.count_option-3.ensures.rule in
+    let d = c.in_ok-arg-3.ensures.shape c.count_option-2.ensures.local ∙ ap₂ with_rule b c.count_option-2.ensures.rule
+    in
+    let e = c.in_ok-arg-4.ensures.shape c.count_option-3.ensures.local ∙ ap₂ with_rule d c.count_option-3.ensures.rule
+    in
     let made : app_of c.in_ok-serve.serve ≡ serve_app =
-    c.in_ok-serve.ensures.shape c.folder_option.ensures.local ∙ ap₂ with_rule e c.folder_option.ensures.rule in
+    c.in_ok-serve.ensures.shape c.value_option.ensures.local ∙ ap₂ with_rule e c.value_option.ensures.rule in
     IfOk-weaker c.subcommand.result _ _
     (λ r h. h.shape (search rules) ∙ ap (λ (x : App). with_subcommand (app_of c.args.program) x.top) made)
     c.subcommand.ensures

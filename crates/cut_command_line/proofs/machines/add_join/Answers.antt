@@ -2,18 +2,18 @@ use Rattle.std.proofs.Common.{◌≡◌, ◌∙◌, ap, ap₂, rules, codes}
 use Rattle.std.proofs.lemmas.Result.{IfOk-weaker}
 use Rattle.clap.specs.Words.{App, app_of, new_app, with_rule, with_subcommand}
 use Rattle.clap.specs.Simple.{app_of_fields}
-use Rattle.cut_command_line.specs.Line.{file_rule, join_app}
+use Rattle.cut_command_line.specs.Line.{join_app, word_rule}
 use Rattle.cut_command_line.proofs.machines.add_join.Goals as goal
 
 pub returns : goal.returns
 returns c =
     let helped : app_of c.after_help.result ≡ new_app (codes "join") =
     ap app_of_fields c.after_help.ensures ∙ ap app_of_fields c.about.ensures ∙ c.new.ensures.app in
-    let a : app_of c.in_ok-arg.field-0 ≡ with_rule (new_app (codes "join")) (file_rule (codes "new")) =
-    c.in_ok-arg.ensures.shape c.file_word.ensures.local ∙ ap₂ with_rule helped c.file_word.ensures.rule in
+    let a : app_of c.in_ok-arg.field-0 ≡ with_rule (new_app (codes "join")) (word_rule (codes "new")) =
+    c.in_ok-arg.ensures.shape c.needed_word.ensures.local ∙ ap₂ with_rule helped c.needed_word.ensures.rule in
     let b = c.in_ok-arg-2.ensures.shape c.files_word.ensures.local ∙ ap₂ with_rule a c.files_word.ensures.rule in
     let made : app_of c.in_ok-join.join ≡ join_app =
-    c.in_ok-join.ensures.shape c.which_option.ensures.local ∙ ap₂ with_rule b c.which_option.ensures.rule in
+    c.in_ok-join.ensures.shape c.flag.ensures.local ∙ ap₂ with_rule b c.flag.ensures.rule in
     IfOk-weaker c.subcommand.result _ _
     (λ r h. h.shape (search rules) ∙ ap (λ (x : App). with_subcommand (app_of c.args.program) x.top) made)
     c.subcommand.ensures
