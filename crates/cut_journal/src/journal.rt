@@ -234,6 +234,7 @@ impl<D: Disk> Journal<D> {
         ensures sound { D.is_honest self.now.disk →
             IsFileOf self.now.plan self.now.count self.now.doubtful (D.state self.now.disk) }
     {
+        let _ = self.disk();
     }
 
     /// The disk. Between calls, whatever a crash may leave of an honest one is read as the slips that are
