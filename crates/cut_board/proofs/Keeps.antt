@@ -1,235 +1,261 @@
--- Each step keeps the rule of the board.
-use Rattle.std.proofs.Common.{◌≡◌, ◌≢◌, ℕ, ◌+◌, ◌*◌, ◌<◌, ◌≤◌, List, [], ◌∷◌, length, set, sum_by, refl, sym, ap, ◌∙◌}
-use Rattle.std.proofs.Common.{subst, ⊎_elim, arith, length-append, length-set}
+-- A board begins by its rule, and each step keeps it.
+use Rattle.std.proofs.Common.{◌≡◌, ℕ, ◌+◌, ◌*◌, ◌<◌, ◌≤◌, List, [], ◌∷◌, ◌++◌, All, length, get_or, set}
+use Rattle.std.proofs.Common.{replicate, slice_index, sum_by, refl, sym, ap, ◌∙◌, subst, arith}
+use Rattle.std.proofs.Common.{length-set, append-nil}
 use Rattle.std.specs.List.{range_with_len}
 use mathlib.Core.Option.{some}
-use native.Mathlib.Decide.{ℕ_discrete}
 use lib.ListN.{get_elem?}
-use Rattle.std.proofs.lemmas.List.{get_or-set_other}
+use Rattle.std.proofs.lemmas.Bool.Decides.{nat_tests}
+use Rattle.std.proofs.lemmas.List.{get_or-set_other, length-replicate}
 use Rattle.std.proofs.lemmas.Grind.{get_or-set_at}
 use Rattle.std.proofs.lemmas.List.Concat.{length-flat_map}
+use Rattle.std.proofs.lemmas.List.Elements.{All-nil, All-cons, All-append, All-set}
 use Rattle.std.proofs.lemmas.List.FromFn.{length-range_with_len}
-use Rattle.std.proofs.lemmas.List.Sorted.{sum_by-IsPermutation, length_permutation}
-use Rattle.atomic_table.proofs.Lists.{at_set}
+use Rattle.std.proofs.lemmas.List.Sorted.{sum_by-IsPermutation, length_permutation, IsPermutation-refl}
+use Rattle.std.proofs.lemmas.List.Sums.{sum_by-append, sum_by_push}
+use Rattle.atomic_table.proofs.Lists.{set_else}
+use Rattle.cut_lists.proofs.BitSets.{get_or-zeros}
+use Rattle.cut_lists.proofs.Ranges.{range_with_len_more}
+use Rattle.cut_board.specs.declared.view.Entry.{Entry}
+use Rattle.cut_board.specs.declared.view.Entry.TheVariants as entry
 use Rattle.cut_board.specs.declared.view.View.{View}
-use Rattle.cut_board.specs.Rule.{seat_limit, IsPossibleView, Kept}
-use Rattle.cut_board.specs.Views.{entry, amount, drawn_in, counted_in, seen_in, drawn_by, drew, counted, read}
+use Rattle.cut_board.specs.Rule.{seat_limit, IsEachBelow, IsPossibleView, AreWordsOf, Kept}
+use Rattle.cut_board.specs.Views.{drawn_of, counted_of, read_of, draws_of, amount_of, drawn_in}
+use Rattle.cut_board.specs.Views.{draws_in, amount_in, drawn_by, counted_by, idle, entered, part_given, joined}
 use Rattle.cut_board.specs.Words.{word_count, draw_word, count_word, draws_at, count_at}
-use Rattle.cut_board.proofs.Logs.{of_study-short, of_study-amount, amount-append, amount-one, log_weight}
-use Rattle.cut_board.proofs.Logs.{log_weight_other, log_greatest, log_greatest_other}
-use Rattle.cut_board.proofs.Sums.{sum_by_put, sum_by_bounded, sum_by_flat_map}
-use Rattle.cut_board.proofs.Weights.{from_weights, weight_more}
+use Rattle.cut_board.proofs.Lists.{sum_by_put, All-at, is_one, times, permutation_from_times}
+use Rattle.cut_board.proofs.Logs.{greatest-append, total, times_of, times_drawn, length_is_part, count_is_part}
+use Rattle.cut_board.proofs.Logs.{total_is_bounded}
 
--- what the numbers weigh that a view has of a study
-abbrev pub weight : (ℕ → ℕ) → ℕ → View → ℕ
-weight h study v = sum_by h (drawn_in study v)
+-- ---- the words and the views
 
--- what the numbers below a draw word weigh
-abbrev pub below : (ℕ → ℕ) → List ℕ → ℕ → ℕ
-below h words study = sum_by h (range_with_len 0 (draws_at words study))
+-- the numbers below a draw word
+abbrev pub numbers_below : List ℕ → ℕ → List ℕ
+numbers_below words k = range_with_len 0 (draws_at words k)
 
-pub kept_weight : (studies seats : ℕ) (words : List ℕ) (views : List View)
-    → Kept studies seats words views → (study : ℕ) → study < studies → (h : ℕ → ℕ) → sum_by
-    (weight h study) views ≡ below h words study
-kept_weight studies seats words views kept study within h =
-    sym (sum_by_flat_map h (drawn_in study) views) ∙ sum_by-IsPermutation h _ _ (kept.drawn study within)
-
--- a step of one seat, whose view v becomes w
-pub record IsStep (studies : ℕ) (words after : List ℕ) (v w : View) : Type 0 where
-  pub wide : length after ≡ length words
-  pub parts : w.parts ≡ v.parts
-  pub drawn : (study : ℕ) → study < studies → (h : ℕ → ℕ)
-      → below h after study + weight h study v ≡ below h words study + weight h study w
-  pub counted : (study : ℕ) → study < studies
-      → count_at after study + counted_in study v ≡ count_at words study + counted_in study w
-  pub rises : (study : ℕ) → study < studies → count_at words study ≤ count_at after study
-  pub sound : IsPossibleView studies after w
-
-pub step_keeps : (studies seats : ℕ) (words after : List ℕ) (views : List View) (id : ℕ) (v w : View)
-    → Kept studies seats words views → get_elem? views id ≡ some v → IsStep studies words after v w
-    → Kept studies seats after (set views id w)
-step_keeps studies seats words after views id v w kept at step = record {
-  few = kept.few;
-  wide = step.wide ∙ kept.wide;
-  parts = (let put = sum_by_put (λ (u : View). u.parts) views id v w at in
-      omega (arith, kept.parts, step.parts));
-  drawn = λ study within. from_weights _ _ (λ h.
-      let put = sum_by_put (weight h study) views id v w at in
-      omega (
-        arith,
-        step.drawn study within h,
-        kept_weight studies seats words views kept study within h,
-        sum_by_flat_map h (drawn_in study) (set views id w),
-      ));
-  counted = λ study within.
-      (let put = sum_by_put (counted_in study) views id v w at in
-      omega (arith, step.counted study within, kept.counted study within));
-  sound = λ seat u there. ⊎_elim
-      (λ (t : (seat ≡ id) × (w ≡ u)). subst (IsPossibleView studies after) t.1 step.sound)
-      (λ (t : (seat ≢ id) × (get_elem? views seat ≡ some u)).
-      let was : IsPossibleView studies words u = kept.sound seat u t.1 in
-      record {
-        seen =
-            λ study within. omega (arith, was.seen study within, step.rises study within);
-        draws =
-            was.draws;
-        counts = was.counts;
-      })
-      (at_set views id seat w u there);
+-- words and views to which the same is added
+pub words_of_more : (words after : List ℕ) (views later : List View) → AreWordsOf words views
+    → ((k x : ℕ) → total (times_of k x) later + times x (numbers_below words k)
+    ≡ total (times_of k x) views + times x (numbers_below after k))
+    → ((k : ℕ) → counted_by k later + count_at words k ≡ counted_by k views + count_at after k)
+    → AreWordsOf after later
+words_of_more words after views later are draws counts = record {
+  drawn = λ k. permutation_from_times _ _ (λ x. omega (
+    arith,
+    times_drawn k x later,
+    times_drawn k x views,
+    draws k x,
+    sum_by-IsPermutation (is_one x) _ _ (are.drawn k),
+  ));
+  counted = λ k. omega (arith, counts k, are.counted k);
 }
+
+-- ---- the first seat
+
+pub idle_is_possible : (words : List ℕ) (parts : ℕ) → IsPossibleView words (idle parts)
+idle_is_possible words parts = record {
+  read = λ k. omega arith;
+  draws = omega arith;
+  counts = omega arith;
+}
+
+pub begins : (studies seats : ℕ) → seats ≤ 129 → Kept studies seats (replicate (word_count studies) 0) (idle seats ∷ [])
+begins studies seats few =
+    let zeros : List ℕ = replicate (word_count studies) 0 in
+    record {
+      few = few;
+      wide = length-replicate (word_count studies) 0;
+      parts = omega arith;
+      done = record {
+        drawn = λ k. subst (λ n. IsEachBelow n []) (sym (get_or-zeros (word_count studies) (draw_word k)))
+            (IsPermutation-refl []);
+        counted = λ k. get_or-zeros (word_count studies) (count_word k);
+      };
+      sound = All-cons (IsPossibleView zeros) (idle seats) [] (idle_is_possible zeros seats)
+          (All-nil (IsPossibleView zeros));
+    }
+
+-- ---- one thing more is done
+
+-- what is done to the words where an entry is added to a log
+pub record Adds (words after : List ℕ) (e : Entry) : Type 0 where
+  pub wide : length after ≡ length words
+  pub drawn : (k : ℕ) → numbers_below after k ≡ numbers_below words k ++ drawn_of k e
+  pub counted : (k : ℕ) → count_at after k ≡ count_at words k + counted_of k e
+  pub read : (k : ℕ) → read_of k e ≤ count_at after k
+
+-- a seat may do it
+pub record HasRoom (v : View) (e : Entry) : Type 0 where
+  pub one : v.parts ≡ 1
+  pub draws : draws_in v + draws_of e ≤ seat_limit
+  pub counts : amount_in v + amount_of e ≤ seat_limit
+
+pub entered_keeps : (studies seats : ℕ) (words after : List ℕ) (views : List View) (id : ℕ) (v : View) (e : Entry)
+    → Kept studies seats words views → get_elem? views id ≡ some v → Adds words after e → HasRoom v e
+    → Kept studies seats after (set views id (entered v e))
+entered_keeps studies seats words after views id v e kept at adds room =
+    let was = All-at (IsPossibleView words) views id v at kept.sound in
+    let more : (g : Entry → ℕ) → total g (set views id (entered v e)) ≡ total g views + g e =
+    λ g. omega (
+      arith,
+      sum_by_put (λ (u : View). sum_by g u.log) views id v (entered v e) at,
+      sum_by_push g v.log e,
+    ) in
+    record {
+      few = kept.few;
+      wide = adds.wide ∙ kept.wide;
+      parts = omega (arith, kept.parts, sum_by_put (λ (u : View). u.parts) views id v (entered v e) at);
+      done = words_of_more words after views (set views id (entered v e)) kept.done
+          (λ k x. omega (
+            arith,
+            more (times_of k x),
+            ap (times x) (adds.drawn k),
+            sum_by-append (is_one x) (numbers_below words k) (drawn_of k e),
+          ))
+          (λ k. omega (arith, more (counted_of k), adds.counted k));
+      sound = All-set (IsPossibleView after) views id (entered v e)
+          record {
+            read = λ k. omega (
+              arith,
+              greatest-append (read_of k) v.log (e ∷ []),
+              was.read k,
+              adds.counted k,
+              adds.read k,
+            );
+            draws = omega (arith, sum_by_push draws_of v.log e, room.one, room.draws);
+            counts = omega (arith, sum_by_push amount_of v.log e, room.one, room.counts);
+          }
+          (λ i d within.
+          let old : IsPossibleView words (get_or views i d) = kept.sound i d within in
+          record {
+            read = λ k. omega (arith, old.read k, adds.counted k);
+            draws = old.draws;
+            counts = old.counts;
+          });
+    }
+
+-- ---- a seat is split, and two are joined
+
+moved_keeps : (studies seats : ℕ) (words : List ℕ) (views later : List View) → Kept studies seats words views
+    → sum_by (λ v. v.parts) later ≡ sum_by (λ v. v.parts) views
+    → ((g : Entry → ℕ) → total g later ≡ total g views) → All (IsPossibleView words) later
+    → Kept studies seats words later
+moved_keeps studies seats words views later kept parts same sound = record {
+  few = kept.few;
+  wide = kept.wide;
+  parts = parts ∙ kept.parts;
+  done = words_of_more words words views later kept.done (λ k x. omega (arith, same (times_of k x)))
+      (λ k. omega (arith, same (counted_of k)));
+  sound = sound;
+}
+
+pub split_keeps : (studies seats : ℕ) (words : List ℕ) (views : List View) (id : ℕ) (v : View)
+    → Kept studies seats words views → get_elem? views id ≡ some v → v.log ≡ [] → 0 < v.parts
+    → Kept studies seats words (set views id (part_given v) ++ idle 1 ∷ [])
+split_keeps studies seats words views id v kept at none some_parts =
+    let left : View = part_given v in
+    let put : (f : View → ℕ) → sum_by f (set views id left ++ idle 1 ∷ []) + f v ≡ sum_by f views + f left + f (idle 1)
+    = λ f. omega (arith, sum_by_put f views id v left at, sum_by_push f (set views id left) (idle 1)) in
+    let was = All-at (IsPossibleView words) views id v at kept.sound in
+    moved_keeps studies seats words views (set views id left ++ idle 1 ∷ []) kept
+    (omega (arith, put (λ (u : View). u.parts)))
+    (λ g. omega (arith, put (λ (u : View). sum_by g u.log)))
+    (All-append (IsPossibleView words) (set views id left) (idle 1 ∷ [])
+    (All-set (IsPossibleView words) views id left record {
+      read = was.read;
+      draws = omega (arith, ap (sum_by draws_of) none);
+      counts = omega (arith, ap (sum_by amount_of) none);
+    } kept.sound)
+    (All-cons (IsPossibleView words) (idle 1) [] (idle_is_possible words 1) (All-nil (IsPossibleView words))))
+
+pub join_keeps : (studies seats : ℕ) (words : List ℕ) (views : List View) (id other : ℕ) (v w : View)
+    → Kept studies seats words views → get_elem? views id ≡ some v → ¬ (other ≡ id)
+    → get_elem? (set views id (joined v w)) other ≡ some w
+    → Kept studies seats words (set (set views id (joined v w)) other (idle 0))
+join_keeps studies seats words views id other v w kept at apart there =
+    let both : View = joined v w in
+    let last : List View = set (set views id both) other (idle 0) in
+    let put : (f : View → ℕ) → sum_by f last + f v + f w ≡ sum_by f views + f both + f (idle 0) =
+    λ f. omega (arith, sum_by_put f views id v both at, sum_by_put f (set views id both) other w (idle 0) there) in
+    let mine = All-at (IsPossibleView words) views id v at kept.sound in
+    let there_before = sym (set_else views id other both apart) ∙ there in
+    let theirs = All-at (IsPossibleView words) views other w there_before kept.sound in
+    moved_keeps studies seats words views last kept
+    (omega (arith, put (λ (u : View). u.parts)))
+    (λ g. omega (arith, put (λ (u : View). sum_by g u.log), sum_by-append g w.log v.log))
+    (All-set (IsPossibleView words) (set views id both) other (idle 0) (idle_is_possible words 0)
+    (All-set (IsPossibleView words) views id both record {
+      read = λ k. omega (arith, greatest-append (read_of k) w.log v.log, mine.read k, theirs.read k);
+      draws = omega (arith, sum_by-append draws_of w.log v.log, mine.draws, theirs.draws);
+      counts = omega (arith, sum_by-append amount_of w.log v.log, mine.counts, theirs.counts);
+    } kept.sound))
 
 -- ---- no word wraps
 
-pub few_drawn : (studies seats : ℕ) (words : List ℕ) (views : List View) → Kept studies seats words views
-    → (study : ℕ) → study < studies → draws_at words study ≤ seats * seat_limit
-few_drawn studies seats words views kept study within =
-    let long : length (drawn_by study views) ≡ length (range_with_len 0 (draws_at words study)) =
-    length_permutation _ _ (kept.drawn study within) in
-    let all : sum_by (λ u. length (drawn_in study u)) views ≤ sum_by
-    (λ (u : View). u.parts) views * seat_limit =
-    sum_by_bounded (λ u. length (drawn_in study u)) (λ (u : View). u.parts) seat_limit views
-    (λ seat u there. let sound = kept.sound seat u there in
-    omega (arith, sound.draws, of_study-short study u.drawn)) in
+pub few_drawn : (studies seats : ℕ) (words : List ℕ) (views : List View) → Kept studies seats words views → (k : ℕ)
+    → draws_at words k ≤ seats * seat_limit
+few_drawn studies seats words views kept k =
+    let long : length (drawn_by k views) ≡ total (λ e. length (drawn_of k e)) views =
+    length-flat_map (drawn_in k) views ∙ (λ i. sum_by (λ (v : View). length-flat_map (drawn_of k) v.log i) views) in
     omega (
       arith,
-      length-range_with_len 0 (draws_at words study),
-      length-flat_map (drawn_in study) views,
+      length_permutation _ _ (kept.done.drawn k),
+      length-range_with_len 0 (draws_at words k),
+      total_is_bounded (λ e. length (drawn_of k e)) draws_of views (length_is_part k)
+          (λ i d within. (kept.sound i d within).draws),
       kept.parts,
     )
 
-pub few_counted : (studies seats : ℕ) (words : List ℕ) (views : List View)
-    → Kept studies seats words views → (study : ℕ) → study < studies
-    → count_at words study ≤ seats * seat_limit
-few_counted studies seats words views kept study within =
-    let all : sum_by (counted_in study) views ≤ sum_by (λ (u : View). u.parts) views * seat_limit =
-    sum_by_bounded (counted_in study) (λ (u : View). u.parts) seat_limit views
-    (λ seat u there. let sound = kept.sound seat u there in
-    omega (arith, sound.counts, of_study-amount study u.counted)) in
-    omega (arith, kept.counted study within, kept.parts)
+pub few_counted : (studies seats : ℕ) (words : List ℕ) (views : List View) → Kept studies seats words views → (k : ℕ)
+    → count_at words k ≤ seats * seat_limit
+few_counted studies seats words views kept k = omega (
+  arith,
+  kept.done.counted k,
+  total_is_bounded (counted_of k) amount_of views (count_is_part k) (λ i d within. (kept.sound i d within).counts),
+  kept.parts,
+)
 
--- ---- draws
+-- ---- what each kind of step does to the words
 
--- the board after a draw
-abbrev pub drawn_words : List ℕ → ℕ → List ℕ
-drawn_words words study = set words (draw_word study) (draws_at words study + 1)
+-- one is added to a draw word
+pub draw_adds : (words : List ℕ) (place study n m : ℕ) → place ≡ draw_word study → place < length words
+    → n ≡ slice_index words place → m ≡ n + 1 → Adds words (set words place m) (entry.Drew study n)
+draw_adds words place study n m is room here more = record {
+  wide = length-set words place m;
+  drawn = λ k. grind (
+    arith,
+    nat_tests,
+    get_or-set_at words place (draw_word k) m 0,
+    get_or-set_other words place (draw_word k) m 0,
+    range_with_len_more 0 n n (omega arith),
+    append-nil (numbers_below words k),
+  );
+  counted = λ k. omega (arith, get_or-set_other words place (count_word k) m 0 (λ e. absurd (omega arith)));
+  read = λ k. omega arith;
+}
 
-draw_weighs : (words : List ℕ) (study : ℕ) (v : View) → draw_word study < length words → (k : ℕ) → Dec
-    (study ≡ k) → (h : ℕ → ℕ) → below h
-    (drawn_words words study) k + weight h k v ≡ below h words k + weight h k
-    (drew v study (draws_at words study))
-draw_weighs words study v room k (yes same) h =
-    let n : ℕ = draws_at words study in
-    let now : draws_at (drawn_words words study) k ≡ n + 1 =
-    get_or-set_at words (draw_word study) (draw_word k) (n + 1) 0 (omega arith) room in
-    let was : draws_at words k ≡ n = ap (draws_at words) (sym same) in
-    let more : below h (drawn_words words study) k ≡ sum_by h (range_with_len 0 n) + h n =
-    ap (λ m. sum_by h (range_with_len 0 m)) now ∙ weight_more h n in
-    let less : below h words k ≡ sum_by h (range_with_len 0 n) =
-    ap (λ m. sum_by h (range_with_len 0 m)) was in
-    omega (arith, log_weight h k study n v.drawn same)
-draw_weighs words study v room k (no other) h =
-    let n : ℕ = draws_at words study in
-    let now : draws_at (drawn_words words study) k ≡ draws_at words k =
-    get_or-set_other words (draw_word study) (draw_word k) (n + 1) 0 (λ e. other (omega arith)) in
-    let same : below h (drawn_words words study) k ≡ below h words k =
-    ap (λ m. sum_by h (range_with_len 0 m)) now in
-    omega (arith, log_weight_other h k study n v.drawn other)
+-- n is added to a count word
+pub count_adds : (words : List ℕ) (place study n m : ℕ) → place ≡ count_word study → place < length words
+    → m ≡ slice_index words place + n → Adds words (set words place m) (entry.Counted study n)
+count_adds words place study n m is room more = record {
+  wide = length-set words place m;
+  drawn = λ k. ap (range_with_len 0) (get_or-set_other words place (draw_word k) m 0 (λ e. absurd (omega arith)))
+      ∙ sym (append-nil (numbers_below words k));
+  counted = λ k. grind (
+    arith,
+    nat_tests,
+    get_or-set_at words place (count_word k) m 0,
+    get_or-set_other words place (count_word k) m 0,
+  );
+  read = λ k. omega arith;
+}
 
-pub draw_is_step : (studies : ℕ) (words : List ℕ) (study : ℕ) (v : View)
-    → length words ≡ word_count studies → study < studies → v.parts ≡ 1 → length v.drawn < seat_limit
-    → IsPossibleView studies words v → IsStep studies words (drawn_words words study) v
-    (drew v study (draws_at words study))
-draw_is_step studies words study v wide within one room sound =
-    let n : ℕ = draws_at words study in
-    let count : (k : ℕ) → count_at (drawn_words words study) k ≡ count_at words k =
-    λ k. get_or-set_other words (draw_word study) (count_word k) (n + 1) 0
-    (λ e. absurd (omega arith)) in
-    record {
-      wide = length-set words (draw_word study) (n + 1);
-      parts = refl;
-      drawn = λ k _. draw_weighs words study v (omega arith) k (ℕ_discrete study k);
-      counted = λ k _. omega (arith, count k);
-      rises = λ k _. omega (arith, count k);
-      sound = record {
-        seen = λ k below. omega (arith, count k, sound.seen k below);
-        draws = omega (arith, length-append v.drawn (entry study n ∷ []));
-        counts = sound.counts;
-      };
-    }
-
--- ---- counts
-
-abbrev pub counted_words : List ℕ → ℕ → ℕ → List ℕ
-counted_words words study n = set words (count_word study) (count_at words study + n)
-
-count_adds : (words : List ℕ) (study n : ℕ) (v : View) → count_word study < length words → (k : ℕ) → Dec
-    (study ≡ k) →
-    (count_at (counted_words words study n) k + counted_in k v ≡ count_at words k + counted_in k
-    (counted v study n)) × (count_at words k ≤ count_at (counted_words words study n) k)
-count_adds words study n v room k (yes same) =
-    let now : count_at (counted_words words study n) k ≡ count_at words study + n =
-    get_or-set_at words (count_word study) (count_word k) (count_at words study + n) 0
-    (omega arith) room in
-    let was : count_at words k ≡ count_at words study = ap (count_at words) (sym same) in
-    let more : counted_in k (counted v study n) ≡ counted_in k v + n =
-    log_weight (λ m. m) k study n v.counted same in
-    (omega arith, omega arith)
-count_adds words study n v room k (no other) =
-    let now : count_at (counted_words words study n) k ≡ count_at words k =
-    get_or-set_other words (count_word study) (count_word k) (count_at words study + n) 0
-    (λ e. other (omega arith)) in
-    let same : counted_in k (counted v study n) ≡ counted_in k v =
-    log_weight_other (λ m. m) k study n v.counted other in
-    (omega arith, omega arith)
-
-pub count_is_step : (studies : ℕ) (words : List ℕ) (study n : ℕ) (v : View)
-    → length words ≡ word_count studies → study < studies → v.parts ≡ 1
-    → amount v.counted + n ≤ seat_limit → IsPossibleView studies words v →
-    ((k : ℕ) → k < studies → counted_in k v ≤ count_at words k) → IsStep studies words
-    (counted_words words study n) v (counted v study n)
-count_is_step studies words study n v wide within one room sound own =
-    let adds : (k : ℕ) →
-    (count_at (counted_words words study n) k + counted_in k v ≡ count_at words k + counted_in k
-    (counted v study n)) × (count_at words k ≤ count_at (counted_words words study n) k) =
-    λ k. count_adds words study n v (omega arith) k (ℕ_discrete study k) in
-    let draws : (k : ℕ) → draws_at (counted_words words study n) k ≡ draws_at words k =
-    λ k. get_or-set_other words (count_word study) (draw_word k) (count_at words study + n) 0
-    (λ e. absurd (omega arith)) in
-    record {
-      wide = length-set words (count_word study) (count_at words study + n);
-      parts = refl;
-      drawn = λ k _ h. let same : below h (counted_words words study n) k ≡ below h words k =
-          ap (λ m. sum_by h (range_with_len 0 m)) (draws k) in omega arith;
-      counted = λ k _. (adds k).0;
-      rises = λ k _. (adds k).1;
-      sound = record {
-        seen = λ k below. omega (arith, adds k, sound.seen k below, own k below);
-        draws = sound.draws;
-        counts = omega (arith, amount-append v.counted (entry study n ∷ []), amount-one study n);
-      };
-    }
-
--- ---- reads
-
-read_sees : (words : List ℕ) (study : ℕ) (v : View) (k : ℕ) → Dec (study ≡ k)
-    → seen_in k v ≤ count_at words k → seen_in k (read v study (count_at words study)) ≤ count_at words k
-read_sees words study v k (yes same) past =
-    let was : count_at words k ≡ count_at words study = ap (count_at words) (sym same) in
-    omega (arith, log_greatest k study (count_at words study) v.read same)
-read_sees words study v k (no other) past =
-    omega (arith, log_greatest_other k study (count_at words study) v.read other)
-
-pub read_is_step : (studies : ℕ) (words : List ℕ) (study : ℕ) (v : View) → IsPossibleView studies words v
-    → IsStep studies words words v (read v study (count_at words study))
-read_is_step studies words study v sound = record {
+-- a count word is read
+pub read_adds : (words : List ℕ) (place study : ℕ) → place ≡ count_word study
+    → Adds words words (entry.Read study (slice_index words place))
+read_adds words place study is = record {
   wide = refl;
-  parts = refl;
-  drawn = λ k _ h. refl;
-  counted = λ k _. refl;
-  rises = λ k _. omega arith;
-  sound = record {
-    seen = λ k below. read_sees words study v k (ℕ_discrete study k) (sound.seen k below);
-    draws = sound.draws;
-    counts = sound.counts;
-  };
+  drawn = λ k. sym (append-nil (numbers_below words k));
+  counted = λ k. omega arith;
+  read = λ k. grind (arith, nat_tests);
 }

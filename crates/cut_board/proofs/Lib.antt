@@ -2,8 +2,5 @@ pub mod Additions
 pub mod Allowed
 pub mod Ends
 pub mod Keeps
+pub mod Lists
 pub mod Logs
-pub mod Parts
-pub mod Seats
-pub mod Sums
-pub mod Weights

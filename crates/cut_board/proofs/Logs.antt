@@ -1,138 +1,72 @@
--- Logs: what they have of a study, and how much.
-use Rattle.std.proofs.Common.{◌≡◌, ◌≢◌, ℕ, ◌+◌, ◌≤◌, ◌==◌, Bool, true, false, cond, List, [], ◌∷◌, ◌++◌, map, filter}
-use Rattle.std.proofs.Common.{fold, max, length, sum, sum_by, refl, sym, ap, ◌∙◌, arith, subst, append-nil, eq-eqb}
-use Rattle.std.proofs.Common.{ne_eqb}
-use Rattle.std.proofs.lemmas.List.{map-append, length-map}
-use Rattle.std.proofs.lemmas.List.Elements.{filter-append}
-use Rattle.std.proofs.lemmas.List.Sums.{sum_by-cons, sum_by-append, sum_by_push, sum-map, length-filter}
-use Rattle.std.proofs.lemmas.List.Sums.{count_by-le-length}
+-- What the entries of logs have, added up.
+use Rattle.std.proofs.Common.{◌≡◌, ℕ, ◌*◌, ◌≤◌, List, [], ◌∷◌, ◌++◌}
+use Rattle.std.proofs.Common.{All, length, max, get_or, set, sum_by, ◌∙◌, arith}
+use mathlib.Core.Option.{some}
+use lib.ListN.{get_elem?}
+use Rattle.std.proofs.lemmas.Bool.Decides.{nat_tests}
+use Rattle.std.proofs.lemmas.List.Elements.{All-set}
+use Rattle.std.proofs.lemmas.List.Sums.{sum_by-le, sum_by-le-sum_by}
 use Rattle.cut_board.specs.declared.view.Entry.{Entry}
-use Rattle.cut_board.specs.Views.{entry, of_study, greatest, amount}
+use Rattle.cut_board.specs.declared.view.Entry.TheVariants as entry
+use Rattle.cut_board.specs.declared.view.View.{View}
+use Rattle.cut_board.specs.Rule.{seat_limit}
+use Rattle.cut_board.specs.Views.{drawn_of, counted_of, draws_of, amount_of, greatest, drawn_in, drawn_by, idle}
+use Rattle.cut_board.proofs.Lists.{sum_by_put, sum_by_bounded, sum_by_flat_map, is_one, times}
 
--- ---- of one study
+pub greatest-append : (f : Entry → ℕ) (xs ys : List Entry) → greatest f (xs ++ ys) ≡ max (greatest f xs) (greatest f ys)
+greatest-append f [] ys = omega arith
+greatest-append f (x ∷ xs) ys = omega (arith, greatest-append f xs ys)
 
-pub of_study-append : (study : ℕ) (xs ys : List Entry) → of_study study
-    (xs ++ ys) ≡ of_study study xs ++ of_study study ys
-unfolding of_study
-of_study-append study xs ys =
-    ap (map (λ (e : Entry). e.number)) (filter-append (λ (e : Entry). e.study == study) xs ys)
-    ∙ map-append (λ (e : Entry). e.number) (filter (λ e. e.study == study) xs)
-    (filter (λ e. e.study == study) ys)
+-- what the entries of all views have
+abbrev pub total : (Entry → ℕ) → List View → ℕ
+total g views = sum_by (λ v. sum_by g v.log) views
 
-pub of_study-none : (study : ℕ) → of_study study [] ≡ []
-unfolding of_study
-of_study-none study = refl
+-- how often an entry drew a number of a study
+abbrev pub times_of : ℕ → ℕ → Entry → ℕ
+times_of k x e = times x (drawn_of k e)
 
-pub of_study-same : (study n : ℕ) → of_study study (entry study n ∷ []) ≡ n ∷ []
-unfolding of_study
-of_study-same study n =
-    ap (λ b. map (λ (e : Entry). e.number) (cond b (entry study n ∷ []) [])) (eq-eqb study study refl)
+pub times_drawn : (k x : ℕ) (views : List View) → times x (drawn_by k views) ≡ total (times_of k x) views
+times_drawn k x views =
+    sum_by_flat_map (is_one x) (drawn_in k) views
+    ∙ (λ i. sum_by (λ (v : View). sum_by_flat_map (is_one x) (drawn_of k) v.log i) views)
 
-pub of_study-other : (study k n : ℕ) → k ≢ study → of_study study (entry k n ∷ []) ≡ []
-unfolding of_study
-of_study-other study k n other =
-    ap (λ b. map (λ (e : Entry). e.number) (cond b (entry k n ∷ []) [])) (ne_eqb k study other)
+-- ---- what entries have of one study is part of what they have of all
 
-pub of_study-short : (study : ℕ) (log : List Entry) → length (of_study study log) ≤ length log
-unfolding of_study
-of_study-short study log =
+pub length_is_part : (k : ℕ) (e : Entry) → length (drawn_of k e) ≤ draws_of e
+length_is_part k (entry.Drew j n) = grind (arith, nat_tests)
+length_is_part k (entry.Counted j n) = omega arith
+length_is_part k (entry.Read j n) = omega arith
+
+pub times_are_part : (k x : ℕ) (e : Entry) → times_of k x e ≤ draws_of e
+times_are_part k x e =
+    let few = sum_by-le (is_one x) 1 (drawn_of k e)
+    (λ i d _. grind (arith, nat_tests)) in
+    omega (arith, few, length_is_part k e)
+
+pub count_is_part : (k : ℕ) (e : Entry) → counted_of k e ≤ amount_of e
+count_is_part k (entry.Drew j n) = omega arith
+count_is_part k (entry.Counted j n) = grind (arith, nat_tests)
+count_is_part k (entry.Read j n) = omega arith
+
+-- each view has no more than its parts may
+abbrev pub AreWithin : (Entry → ℕ) → List View → Type 0
+AreWithin f views = All (λ v. sum_by f v.log ≤ v.parts * seat_limit) views
+
+pub total_is_bounded : (g f : Entry → ℕ) (views : List View) → ((e : Entry) → g e ≤ f e) → AreWithin f views
+    → total g views ≤ sum_by (λ v. v.parts) views * seat_limit
+total_is_bounded g f views part all =
+    sum_by_bounded (λ (v : View). sum_by g v.log) (λ (v : View). v.parts) seat_limit views
+    (λ i d within. omega (arith, all i d within, sum_by-le-sum_by g f (get_or views i d).log part))
+
+-- where one view has all parts, the others have nothing
+pub total_is_its_own : (g f : Entry → ℕ) (views : List View) (id : ℕ) (v : View) → get_elem? views id ≡ some v
+    → ((e : Entry) → g e ≤ f e) → AreWithin f views → sum_by (λ v. v.parts) views ≤ v.parts
+    → total g views ≡ sum_by g v.log
+total_is_its_own g f views id v at part all most =
+    let others = All-set (λ (u : View). sum_by f u.log ≤ u.parts * seat_limit) views id (idle 0) (omega arith) all in
     omega (
       arith,
-      length-map (filter (λ e. e.study == study) log) (λ (e : Entry). e.number),
-      length-filter
-          (λ (e : Entry). e.study == study) log,
-      count_by-le-length (λ (e : Entry). e.study == study) log,
+      sum_by_put (λ (u : View). sum_by g u.log) views id v (idle 0) at,
+      sum_by_put (λ (u : View). u.parts) views id v (idle 0) at,
+      total_is_bounded g f (set views id (idle 0)) part others,
     )
-
-sum_by_filter : (p : Entry → Bool) (log : List Entry) → sum_by (λ e. e.number) (filter p log) ≤ sum_by
-    (λ e. e.number) log
-sum_by_filter p [] = omega arith
-sum_by_filter p (x ∷ xs) = by (p x) (sum_by_filter p xs)
-  where
-    by : (b : Bool) → sum_by (λ e. e.number) (filter p xs) ≤ sum_by (λ e. e.number) xs → sum_by
-        (λ e. e.number) (cond b (x ∷ filter p xs) (filter p xs)) ≤ sum_by (λ e. e.number) (x ∷ xs)
-    by true rest =
-        omega (
-          arith,
-          sum_by-cons (λ (e : Entry). e.number) x xs,
-          sum_by-cons (λ (e : Entry). e.number) x
-              (filter p xs),
-        )
-    by false rest = omega (arith, sum_by-cons (λ (e : Entry). e.number) x xs)
-
-pub of_study-amount : (study : ℕ) (log : List Entry) → sum (of_study study log) ≤ amount log
-unfolding of_study amount
-of_study-amount study log =
-    omega (
-      arith,
-      sum-map (λ (e : Entry). e.number) (filter (λ e. e.study == study) log),
-      sum_by_filter
-          (λ e. e.study == study) log,
-    )
-
--- ---- of all studies
-
-pub amount-none : amount [] ≡ 0
-unfolding amount
-amount-none = refl
-
-pub amount-append : (xs ys : List Entry) → amount (xs ++ ys) ≡ amount xs + amount ys
-unfolding amount
-amount-append xs ys = sum_by-append (λ (e : Entry). e.number) xs ys
-
-pub amount-one : (k n : ℕ) → amount (entry k n ∷ []) ≡ n
-unfolding amount
-amount-one k n = omega arith
-
--- ---- the greatest
-
-fold_max : (a : ℕ) (ns : List ℕ) → fold max a ns ≡ max a (fold max 0 ns)
-fold_max a [] = omega arith
-fold_max a (n ∷ ns) = omega (arith, fold_max (max a n) ns, fold_max (max 0 n) ns)
-
-pub greatest-none : greatest [] ≡ 0
-unfolding greatest
-greatest-none = refl
-
-pub greatest-append : (xs ys : List ℕ) → greatest (xs ++ ys) ≡ max (greatest xs) (greatest ys)
-unfolding greatest
-greatest-append [] ys = omega arith
-greatest-append (x ∷ xs) ys =
-    omega (arith, fold_max (max 0 x) (xs ++ ys), fold_max (max 0 x) xs, greatest-append xs ys)
-
-pub greatest-one : (n : ℕ) → greatest (n ∷ []) ≡ n
-unfolding greatest
-greatest-one n = omega arith
-
--- ---- one entry more
-
-pub log_weight : (h : ℕ → ℕ) (study k n : ℕ) (log : List Entry) → k ≡ study → sum_by h
-    (of_study study (log ++ entry k n ∷ [])) ≡ sum_by h (of_study study log) + h n
-log_weight h study k n log same =
-    let one : of_study study (entry k n ∷ []) ≡ n ∷ [] =
-    subst (λ j. of_study study (entry j n ∷ []) ≡ n ∷ []) (sym same) (of_study-same study n) in
-    ap (sum_by h) (of_study-append study log (entry k n ∷ []) ∙ ap (λ ns. of_study study log ++ ns) one)
-    ∙ sum_by_push h (of_study study log) n
-
-pub log_weight_other : (h : ℕ → ℕ) (study k n : ℕ) (log : List Entry) → k ≢ study → sum_by h
-    (of_study study (log ++ entry k n ∷ [])) ≡ sum_by h (of_study study log)
-log_weight_other h study k n log other =
-    ap (sum_by h)
-    (of_study-append study log (entry k n ∷ []) ∙ ap (λ ns. of_study study log ++ ns)
-    (of_study-other study k n other) ∙ append-nil (of_study study log))
-
-pub log_greatest : (study k n : ℕ) (log : List Entry) → k ≡ study → greatest
-    (of_study study (log ++ entry k n ∷ [])) ≡ max (greatest (of_study study log)) n
-log_greatest study k n log same =
-    let one : of_study study (entry k n ∷ []) ≡ n ∷ [] =
-    subst (λ j. of_study study (entry j n ∷ []) ≡ n ∷ []) (sym same) (of_study-same study n) in
-    ap greatest (of_study-append study log (entry k n ∷ []) ∙ ap (λ ns. of_study study log ++ ns) one)
-    ∙ greatest-append (of_study study log) (n ∷ []) ∙ ap (max (greatest (of_study study log)))
-    (greatest-one n)
-
-pub log_greatest_other : (study k n : ℕ) (log : List Entry) → k ≢ study → greatest
-    (of_study study (log ++ entry k n ∷ [])) ≡ greatest (of_study study log)
-log_greatest_other study k n log other =
-    ap greatest
-    (of_study-append study log (entry k n ∷ []) ∙ ap (λ ns. of_study study log ++ ns)
-    (of_study-other study k n other) ∙ append-nil (of_study study log))

@@ -1,5 +1,5 @@
+pub mod Closed
 pub mod FaultCode
-pub mod Gathered
 pub mod Laws
 pub mod Names
 pub mod Refusals

@@ -3,8 +3,8 @@ ghost use Rattle.std.specs.Prelude.{◌≡◌, ℕ, ◌-◌, ◌^◌, ◌<◌, �
 ghost use Rattle.std.specs.Prelude.{MatchResult, map, vec_capacity};
 ghost use Rattle.std.specs.List.{range_with_len};
 ghost use Rattle.std.specs.Mem.Slots.{slots_items, slots_len, IsFull};
-ghost use Rattle.cut_board.specs.Gathered.{IsGathered, words_of_study};
-ghost use Rattle.cut_board.specs.Views.{idle, drew, counted, read, drawn_in, seen_in};
+ghost use Rattle.cut_board.specs.Closed.{words_of_study};
+ghost use Rattle.cut_board.specs.Views.{idle, drew, counted, read, drawn_in, seen_in, gathered};
 ghost use Rattle.cut_board.specs.Words.{word_count, draw_word, count_word};
 
 use crate::rule::{BoardRule, Count, Draw, OnePart, Read, Size, TakeIn};
@@ -196,7 +196,7 @@ impl Board {
         requires own { All (λ s. board_of s ≡ board_id self.now) seats.items }
         requires some { 0 < length seats.items }
         ensures own { result.table_id ≡ board_id self.now }
-        ensures gathered { IsGathered (views_of seats.items) result.me.0 }
+        ensures gathered { result.me.0 ≡ gathered (views_of seats.items) }
     {
         let Some(first) = seats.pop() else {
             unreachable!()
@@ -211,7 +211,19 @@ impl Board {
     }
 }
 
-/// What the words of a closed board say of each study.
+/// What the words of a closed board say of a study.
+fn study_totals(closed: &Closed<(), Global>, study: u32) -> StudyTotals
+    requires study { study < 64 }
+    requires words { IsFull closed.now.words × (count_word study < slots_len closed.now.words) }
+    ensures { result ≡ words_of_study (slots_items closed.now.words) study }
+{
+    StudyTotals {
+        draws: closed.word(draw_place(study)),
+        count: closed.word(count_place(study)),
+    }
+}
+
+/// What they say of each study.
 fn read_totals(
     closed: &Closed<(), Global>,
     mut totals: Vec<StudyTotals>,
@@ -223,10 +235,7 @@ fn read_totals(
     ensures { result.items ≡ map (words_of_study (slots_items closed.now.words)) (range_with_len 0 studies) }
 {
     for study in 0..studies {
-        totals.push_reserved(StudyTotals {
-            draws: closed.word(draw_place(study)),
-            count: closed.word(count_place(study)),
-        });
+        totals.push_reserved(study_totals(closed, study));
     }
     totals
 }

@@ -19,11 +19,13 @@ pub fn reads_are_seen()
 {}
 
 /// A seat has seen what it counted itself.
+#[tactic(auto, unfolding(crate::specs::Views::seen_in))]
 pub fn own_counts_are_seen()
     ensures { OwnCountsAreSeen }
 {}
 
 /// A seat that has done nothing has no numbers, has counted 0 and has seen 0, of every study.
+#[tactic(auto, unfolding(crate::specs::Views::seen_in))]
 pub fn idle_has_nothing()
     ensures { IdleHasNothing }
 {}

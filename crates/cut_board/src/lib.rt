@@ -19,7 +19,7 @@
 //!
 //! - Of each study, the numbers in all views are those below its draw word, each once.
 //! - Its count word is the sum of what all views counted.
-//! - No view has seen a greater count than that, nor a lesser one than it counted itself.
+//! - No view has read a greater count than that.
 //! - Each seat has one part. The parts of all views are as many as the seats that were made, and a view
 //!   draws and counts at most 2^48 for each of its parts. So no word wraps, the seat that took in all
 //!   others has every part, and a view of no parts has drawn and counted nothing.

@@ -1,7 +1,7 @@
 //! A seat at a board.
-ghost use Rattle.std.specs.Prelude.{◌≡◌, ◌≤◌, [], length};
+ghost use Rattle.std.specs.Prelude.{◌≡◌, ◌≤◌, []};
 ghost use Rattle.cut_board.specs.Rule.{seat_limit};
-ghost use Rattle.cut_board.specs.Views.{amount};
+ghost use Rattle.cut_board.specs.Views.{draws_in, amount_in};
 
 use crate::View;
 use std::fmt;
@@ -17,8 +17,8 @@ pub struct Seat {
     pub(crate) counted: u64,
     ghost one_part: { token.me.0.parts ≡ 1 },
     ghost no_slot: { token.me.1 ≡ [] },
-    ghost drawn_is: { drawn ≡ length token.me.0.drawn },
-    ghost counted_is: { counted ≡ amount token.me.0.counted },
+    ghost drawn_is: { drawn ≡ draws_in token.me.0 },
+    ghost counted_is: { counted ≡ amount_in token.me.0 },
     ghost within: { (drawn ≤ seat_limit) × (counted ≤ seat_limit) },
 }
 

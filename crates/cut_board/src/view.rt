@@ -2,20 +2,20 @@
 
 use std::collections::LinkedList;
 
-/// A line of a log: a number that a seat drew, counted or read, and the study that it is of.
-pub struct Entry {
-    pub study: u32,
-    pub number: u64,
+/// One thing that a seat did, with its study and its number.
+pub enum Entry {
+    /// It drew the number.
+    Drew(u32, u64),
+    /// It counted the number.
+    Counted(u32, u64),
+    /// It read the number as what was counted so far.
+    Read(u32, u64),
 }
 
 /// What a seat has done.
 pub struct View {
     /// How many of the board's seats it stands for: 1 for each seat that a caller holds.
     pub parts: u64,
-    /// The numbers that it drew, in order.
-    pub drawn: LinkedList<Entry>,
-    /// What it counted, in order.
-    pub counted: LinkedList<Entry>,
-    /// The counts that it read, in order.
-    pub read: LinkedList<Entry>,
+    /// What it drew, counted and read, in order.
+    pub log: LinkedList<Entry>,
 }

@@ -1,8 +1,5 @@
-use Rattle.cut_board.proofs.Additions.{counts_add, counts_are_seen}
+use Rattle.cut_board.proofs.Additions.{counts_are_seen}
 use Rattle.cut_board.proofs.laws.counts_add.Goals as goal
-
-pub returns-clause-sum : goal.returns-clause-sum
-returns-clause-sum c = counts_add
 
 pub returns-clause-seen : goal.returns-clause-seen
 returns-clause-seen c = counts_are_seen

@@ -1,11 +1,37 @@
 use Rattle.std.proofs.Common.{◌≡◌, ◌+◌, ◌∙◌, List, [], ◌∷◌, ◌++◌, All, Some, sym, ap, subst, append_assoc}
-use Rattle.std.proofs.lemmas.List.Elements.{All-pop, All-push}
+use Rattle.std.proofs.lemmas.List.Elements.{All-nil, All-pop, All-push}
 use Rattle.cut_board.specs.declared.seat.Seat.{Seat}
 use Rattle.cut_board.specs.Names.{board_id, board_of}
 use Rattle.cut_hall.specs.Closing.{IsTakenApart}
 use Rattle.cut_hall.specs.Pass.{Holding}
-use Rattle.cut_hall.proofs.Apart.{one_more_apart}
+use Rattle.cut_hall.proofs.Apart.{one_apart, one_more_apart}
 use Rattle.cut_hall.proofs.close.take_apart.Goals as goal
+
+pub loop-pass-init : goal.loop-pass-init
+loop-pass-init g c =
+    let first : Holding = c.in-Some.first in
+    let seat : Seat = c.first.inside.seat in
+    let own = All-pop (λ (p : Holding). p.hall ≡ board_id c.args.board.now) c.args.passes.items c.pop.new.self.items
+    (Some first) c.in-Some.ensures.items c.requires.own in
+    let mine : board_of seat ≡ board_id c.args.board.now = ap (λ (p : Holding). p.hall) c.first.view_is ∙ own.1 in
+    let items : c.push.new.self.items ≡ seat ∷ [] =
+    c.in_ok-push.ensures.items ∙ ap (λ (l : List Seat). l ++ seat ∷ []) c.new-seats.ensures.items in
+    record {
+      own = subst (All (λ (s : Seat). board_of s ≡ board_id c.args.board.now)) (sym items)
+          (All-push (λ (s : Seat). board_of s ≡ board_id c.args.board.now) [] seat
+          (All-nil (λ (s : Seat). board_of s ≡ board_id c.args.board.now)) mine);
+      left_own = own.0;
+      taken = (
+        first ∷ [],
+        c.in-Some.ensures.items,
+        subst (λ (seats : List Seat). IsTakenApart (first ∷ []) seats c.first.inside.made.parts
+            c.first.inside.made.amount)
+            (sym items)
+            (one_apart first seat c.first.inside.made.parts c.first.inside.made.amount
+            (ap (λ (p : Holding). p.view) c.first.view_is) c.first.invariant
+            (ap (λ (p : Holding). p.made) c.first.view_is)),
+      );
+    }
 
 pub loop-pass-preserved : goal.loop-pass-preserved
 loop-pass-preserved g c =

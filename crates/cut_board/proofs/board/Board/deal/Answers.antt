@@ -9,7 +9,6 @@ split_seat-part-requires c =
     let left = c.loop.invariant.left in (
       c.loop.invariant.own,
       omega arith,
-      split_allowed key.studies key.seats c.loop.token.id c.loop.token.me.0
-          (ap (λ (v : View). v.drawn) left) (ap (λ (v : View). v.counted) left)
+      split_allowed key.studies key.seats c.loop.token.id c.loop.token.me.0 (ap (λ (v : View). v.log) left)
           (let parts = ap (λ (v : View). v.parts) left in omega arith),
     )

@@ -1,17 +1,16 @@
-use Rattle.std.proofs.Common.{◌≡◌, ◌++◌, List, [], vec_len, All}
+use Rattle.std.proofs.Common.{◌≡◌, ◌++◌, List, vec_len, All}
 use Rattle.cut_board.specs.declared.seat.Seat.{Seat}
-use Rattle.cut_board.specs.Gathered.{IsGathered}
 use Rattle.cut_board.specs.Names.{board_id, board_of, views_of}
+use Rattle.cut_board.specs.Views.{gathered}
 use Rattle.cut_board.proofs.board.Board.gather.Given as goal
 
 -- the seats that were taken, of which the one has done all
 abbrev pub invariant-loop-seat : goal.invariant-loop-seat
 invariant-loop-seat l = record {
   own : l.whole.table_id ≡ board_id l.self;
-  no_slot : l.whole.me.1 ≡ [];
   each_own : All (λ s. board_of s ≡ board_id l.self) l.seats.items;
-  gathered : (taken : List Seat) × (l.fn.seats.items ≡ l.seats.items ++ taken) × IsGathered
-      (views_of taken) l.whole.me.0;
+  done : (taken : List Seat) × (l.fn.seats.items ≡ l.seats.items ++ taken) ×
+      (l.whole.me.0 ≡ gathered (views_of taken));
 }
 
 abbrev pub decreases-loop-seat : goal.decreases-loop-seat

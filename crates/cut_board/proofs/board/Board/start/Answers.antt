@@ -1,7 +1,7 @@
 use Rattle.std.proofs.Common.{[], ◌∷◌, sym, ◌∙◌, subst, arith}
 use Rattle.cut_board.specs.Rule.{Kept}
 use Rattle.cut_board.specs.Views.{idle}
-use Rattle.cut_board.proofs.Seats.{begins}
+use Rattle.cut_board.proofs.Keeps.{begins}
 use Rattle.cut_board.proofs.board.Board.start.Goals as goal
 
 pub of_words-requires : goal.of_words-requires
