@@ -46,8 +46,7 @@ pub record Appended {D : Type 0} (doubtful : Option Slip) (v : Values) (old new 
 
 pub accepted_journal : {D : Type 0} (slip : Slip) (v : Values) (old new : Option (JournalValue D))
     → JournalAfter Accepted slip old new → IfSome old (λ log. log.plan ≡ v) → Appended None v old new
-accepted_journal {D} slip v None new is plan = subst (λ (j : Option (JournalValue D)). Appended None v None j) (sym is)
-    (record { doubt = refl; some = refl; plan = tt })
+accepted_journal slip v None new is plan = rw is (record { doubt = refl; some = refl; plan = tt })
 accepted_journal slip v (Some old) None is plan = absurd is
 accepted_journal slip v (Some old) (Some new) is plan = record { doubt = is.2; some = refl; plan = is.0 ∙ plan }
 
@@ -68,19 +67,14 @@ entered_step s r a real is = record {
   slip_is = refl;
   own_is = refl;
   answered = is;
-  next
-      = refl;
+  next = refl;
 }
 
 pub accepted_answer : (s : StudyState) (r : Computed) → IsFree s r → IsAnswer s r Accepted
-accepted_answer s r is = record { reply = ap (λ (o : Option FaultCode). accepted_unless o) is.code; disk = tt }
+accepted_answer s r is = record { reply = rw is.code; disk = tt }
 
 pub failed_answer : (s : StudyState) (r : Computed) → IsFree s r → s.has_journal ≡ true → IsAnswer s r DiskFails
-failed_answer s r is has = record {
-  reply = ap (λ (o : Option FaultCode). (let x : replies.Reply = reply.Refused (unwrap_or o code.Checkpoint) in x))
-      is.code;
-  disk = (has, is.unbroken);
-}
+failed_answer s r is has = record { reply = rw is.code; disk = (has, is.unbroken) }
 
 -- ---- states and books
 
@@ -91,26 +85,14 @@ module _ {D : Type 0} (journal now : Option (JournalValue D)) (l : Contents) (di
       → state_in l now division lost new true ≡ after (state_in l journal division lost old broken)
       (event.HandInDiskFails r)
   failed_state appended none =
-      let s : StudyState = state_in l journal division lost old broken in
-      state_same l now division lost true call old new is none
-      ∙ ap (λ (d : Option Slip). state_by l d division lost old.opening.has_journal (kept_in old) true) appended.doubt
-      ∙ sym (ap (λ (o : Option FaultCode). unless_refused o s (failed s r)) free.code)
+      state_same l now division lost true call old new is none ∙ rw (free.code, appended.doubt)
 
   pub accepted_state : (held : Contents) → Appended None l.plan journal now → held ≡ with_piece l r.piece
       → accepted_slip call ≡ slip_of r ∷ [] → doubtful_in journal ≡ None
       → state_in held now division lost new broken
       ≡ after (state_in l journal division lost old broken) (event.HandIn r)
   accepted_state held appended holds one none =
-      let s : StudyState = state_in l journal division lost old broken in
-      let has : Bool = old.opening.has_journal in
-      let ks : List Slip = kept_in old in
-      state_next held now division lost broken call old new is
-      ∙ ap (λ (d : Option Slip). state_by held d division lost has (cond has (ks ++ accepted_slip call) ks) broken)
-      (appended.doubt ∙ sym none)
-      ∙ ap (λ (m : List Slip). state_by held (doubtful_in journal) division lost has (cond has (ks ++ m) ks) broken) one
-      ∙ ap (λ (x : Contents). state_by x (doubtful_in journal) division lost has (cond has (ks ++ slip_of r ∷ []) ks)
-      broken) holds
-      ∙ sym (ap (λ (o : Option FaultCode). unless_refused o s (taken s r)) free.code)
+      state_next held now division lost broken call old new is ∙ rw (free.code, holds, one, appended.doubt, none)
 
 module _ {D : Type 0} (honest : D → Type 0) (on : D → DiskState) (faults : D → ℕ)
     (journal now : Option (JournalValue D)) (l : Contents) (division : List Piece) (lost : List Bool) (broken : Bool)
@@ -132,16 +114,12 @@ module _ {D : Type 0} (honest : D → Type 0) (on : D → DiskState) (faults : D
       let both = failed_journal (slip_of r) l.plan journal now left book.of_plan in
       let next : t ≡ after s (event.HandInDiskFails r) = failed_state journal now l division lost broken r call old new
       is free both.0 (ap accepted_slip called) in
-      let step : IsStep s call t = subst (λ (k : Call). IsStep s k t) (sym called)
-      (subst (λ (x : StudyState). IsStep s (hand_in_of s r DiskFails) x) (sym next)
-      (entered_step s r DiskFails real (failed_answer s r free (book.has_journal ∙ both.1)))) in
-      subst (λ (x : Contents). IsBook honest on faults now (state_in x now division lost new true) new places count)
-      (sym holds)
-      (stepped honest on faults journal now s t call old new places places count book is step refl refl refl refl
-      book.losable room (ap (λ (o : Opening). o.has_journal) is.opening) both.0.some both.0.plan
-      (ap is_some (sym both.0.doubt)) (subst (λ (x : StudyState). FollowsState honest on now x) (sym next)
-      (follows s free.fine book.followed))
-      (counted ∙ ap one_more (book.failures ∙ ap (λ (b : Bool). failed_since b count) free.unbroken)))
+      let step : IsStep s call t = rw (called, next)
+      (entered_step s r DiskFails real (failed_answer s r free (book.has_journal ∙ both.1))) in
+      rw holds (stepped honest on faults journal now s t call old new places places count book is step refl refl refl
+      refl book.losable room (ap (λ (o : Opening). o.has_journal) is.opening) both.0.some both.0.plan
+      (ap is_some (sym both.0.doubt)) (rw next (follows s free.fine book.followed))
+      (rw (counted, book.failures, free.unbroken)))
 
   -- the result was entered
   pub accepted_next : (held : Contents) → held ≡ with_piece l r.piece → call
@@ -167,14 +145,12 @@ module _ {D : Type 0} (honest : D → Type 0) (on : D → DiskState) (faults : D
       let appended : Appended None l.plan journal now = accepted_journal (slip_of r) l.plan journal now left
       book.of_plan in
       let next : t ≡ after s (event.HandIn r) = accepted_next held holds called left in
-      let step : IsStep s call t = subst (λ (k : Call). IsStep s k t) (sym called)
-      (subst (λ (x : StudyState). IsStep s (hand_in_of s r Accepted) x) (sym next)
-      (entered_step s r Accepted real (accepted_answer s r free))) in
+      let step : IsStep s call t = rw (called, next) (entered_step s r Accepted real (accepted_answer s r free)) in
       stepped honest on faults journal now s t call old new places places count book is step
       (ap (λ (x : Contents). x.plan) holds) (ap (λ (x : Contents). x.base) holds) refl refl book.losable room
       (ap (λ (o : Opening). o.has_journal) is.opening) appended.some appended.plan
       (free.unbroken ∙ ap is_some (sym appended.doubt))
-      (subst (λ (x : StudyState). FollowsState honest on now x) (sym next) (follows s free.fine book.followed))
+      (rw next (follows s free.fine book.followed))
       (counted ∙ book.failures)
 
   pub accepted_hands : (held : Contents) → held ≡ with_piece l r.piece → call

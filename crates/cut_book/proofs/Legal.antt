@@ -19,7 +19,7 @@ use Rattle.cut_book.specs.Book.{kept_in, doubtful_in, state_in, failures_of, fai
 
 pub leads_on : (s t u : StudyState) (calls : List Call) (call : Call) → LeadsTo s calls t → IsStep t call u
     → LeadsTo s (calls ++ call ∷ []) u
-leads_on s t u [] call from step = (u, (subst (λ (x : StudyState). IsStep x call u) (sym from) step, refl))
+leads_on s t u [] call from step = (u, (rw from step, refl))
 leads_on s t u (first ∷ rest) call from step = (from.0, (from.1.0, leads_on from.0 t u rest call from.1.1 step))
 
 -- a history after a call: its opening is the same, and the call is its last
@@ -32,7 +32,7 @@ pub noted : (call : Call) (old mid new : HistoryValue) → mid.opening ≡ old.o
     ≡ mid.opening → new.calls ≡ mid.calls ++ call ∷ [] → Noted call old new
 noted call old mid new opening calls opens adds = record {
   opening = opens ∙ opening;
-  calls = adds ∙ ap (λ (l : List Call). l ++ call ∷ []) calls;
+  calls = rw calls at adds;
 }
 
 -- it is legal where the call is a step from where it led
@@ -40,42 +40,30 @@ pub legal_on : (call : Call) (old mid : HistoryValue) (s t : StudyState) → mid
     ≡ old.calls → LeadsTo (opened_by old.opening) old.calls s → IsStep s call t
     → IsLegalHistory mid.opening (mid.calls ++ call ∷ [])
 legal_on call old mid s t opening calls from step =
-    subst (λ (o : Opening). IsLegalHistory o (mid.calls ++ call ∷ [])) (sym opening)
-    (subst (λ (l : List Call). IsLegalHistory old.opening (l ++ call ∷ [])) (sym calls)
-    (t, leads_on (opened_by old.opening) s t old.calls call from step))
+    rw (opening, calls) (t, leads_on (opened_by old.opening) s t old.calls call from step)
 
 -- ---- the slips that are kept
 
 slips_next : (calls : List Call) (call : Call) → accepted_slips (calls ++ call ∷ []) ≡ accepted_slips calls
     ++ accepted_slip call
-slips_next calls call =
-    flat_map-append accepted_slip calls (call ∷ [])
-    ∙ ap (λ (l : List Slip). accepted_slips calls ++ l) (append-nil (accepted_slip call))
+slips_next calls call = rw (← append-nil (accepted_slip call)) (flat_map-append accepted_slip calls (call ∷ []))
 
 kept_by : (has : Bool) (base xs ys : List Slip) → cond has (base ++ (xs ++ ys)) base
     ≡ cond has (cond has (base ++ xs) base ++ ys) (cond has (base ++ xs) base)
-kept_by true base xs ys = sym (append_assoc base xs ys)
-kept_by false base xs ys = refl
+kept_by has base xs ys = grind (arith, append_assoc)
 
 pub kept_next : (call : Call) (old new : HistoryValue) → Noted call old new → kept_in new
     ≡ cond old.opening.has_journal (kept_in old ++ accepted_slip call) (kept_in old)
 kept_next call old new is =
-    ap (λ (o : Opening). cond o.has_journal (o.base ++ accepted_slips new.calls) o.base) is.opening
-    ∙ ap (λ (l : List Call). cond old.opening.has_journal (old.opening.base ++ accepted_slips l) old.opening.base)
-    is.calls
-    ∙ ap (λ (l : List Slip). cond old.opening.has_journal (old.opening.base ++ l) old.opening.base)
-    (slips_next old.calls call)
-    ∙ kept_by old.opening.has_journal old.opening.base (accepted_slips old.calls) (accepted_slip call)
+    rw (is.opening, is.calls, slips_next old.calls call)
+    (kept_by old.opening.has_journal old.opening.base (accepted_slips old.calls) (accepted_slip call))
 
-none_kept : (has : Bool) (ks : List Slip) → cond has (ks ++ []) ks ≡ ks
-none_kept true ks = append-nil ks
-none_kept false ks = refl
+pub none_kept : (has : Bool) (ks : List Slip) → cond has (ks ++ []) ks ≡ ks
+none_kept has ks = grind (arith, append-nil)
 
 pub kept_same : (call : Call) (old new : HistoryValue) → Noted call old new → accepted_slip call ≡ [] → kept_in new
     ≡ kept_in old
-kept_same call old new is none =
-    kept_next call old new is ∙ ap (λ (l : List Slip). cond old.opening.has_journal (kept_in old ++ l) (kept_in old))
-    none ∙ none_kept old.opening.has_journal (kept_in old)
+kept_same call old new is none = kept_next call old new is ∙ rw none (none_kept old.opening.has_journal (kept_in old))
 
 -- ---- states
 
@@ -98,19 +86,14 @@ pub state_next : {D : Type 0} (l : Contents) (journal : Option (JournalValue D))
     (lost : List Bool) (broken : Bool) (call : Call) (old new : HistoryValue) → Noted call old new
     → state_in l journal division lost new broken ≡ state_by l (doubtful_in journal) division lost
     old.opening.has_journal (cond old.opening.has_journal (kept_in old ++ accepted_slip call) (kept_in old)) broken
-state_next l journal division lost broken call old new is =
-    ap (λ (o : Opening). state_by l (doubtful_in journal) division lost o.has_journal (kept_in new) broken) is.opening
-    ∙ ap (λ (ks : List Slip). state_by l (doubtful_in journal) division lost old.opening.has_journal ks broken)
-    (kept_next call old new is)
+state_next l journal division lost broken call old new is = grind (arith, is.opening, kept_next call old new is)
 
 pub state_same : {D : Type 0} (l : Contents) (journal : Option (JournalValue D)) (division : List Piece)
     (lost : List Bool) (broken : Bool) (call : Call) (old new : HistoryValue) → Noted call old new → accepted_slip call
     ≡ []
     → state_in l journal division lost new broken ≡ state_in l journal division lost old broken
 state_same l journal division lost broken call old new is none =
-    ap (λ (o : Opening). state_by l (doubtful_in journal) division lost o.has_journal (kept_in new) broken) is.opening
-    ∙ ap (λ (ks : List Slip). state_by l (doubtful_in journal) division lost old.opening.has_journal ks broken)
-    (kept_same call old new is none)
+    grind (arith, is.opening, kept_same call old new is none)
 
 -- ---- books
 
@@ -141,18 +124,15 @@ module _ {D : Type 0} (honest : D → Type 0) (on : D → DiskState) (faults : D
       → IsBook honest on faults now t new left failed
   stepped journal now s t call old new places left failed book is step plan base division lost count room has some
       of_plan broken followed failures = record {
-        legal = subst (λ (o : Opening). LeadsTo (opened_by o) new.calls t) (sym is.opening)
-            (subst (λ (l : List Call). LeadsTo (opened_by old.opening) l t) (sym is.calls)
-            (leads_on (opened_by old.opening) s t old.calls call book.legal step));
+        legal = rw (is.opening, is.calls) (leads_on (opened_by old.opening) s t old.calls call book.legal step);
         plan = plan ∙ book.plan ∙ ap (λ (o : Opening). o.plan) (sym is.opening);
         base = base ∙ book.base ∙ ap (λ (o : Opening). o.base) (sym is.opening);
         pieces = lost ∙ book.pieces ∙ ap (λ (l : List Piece). length l) (sym division);
-        divided = subst (λ (l : List Piece). All (λ p. IsTrue (is_piece t.ledger.plan p)) l) (sym division)
-            (subst (λ (v : Values). All (λ p. IsTrue (is_piece v p)) s.division) (sym plan) book.divided);
+        divided = rw (division, plan) book.divided;
         losable = count;
         room = room;
         has_journal = has ∙ book.has_journal ∙ sym some;
-        of_plan = subst (λ (v : Values). IfSome now (λ log. log.plan ≡ v)) (sym plan) of_plan;
+        of_plan = rw plan of_plan;
         broken = broken;
         followed = followed;
         failures = failures;
@@ -163,9 +143,8 @@ module _ {D : Type 0} (honest : D → Type 0) (on : D → DiskState) (faults : D
       (places failed : ℕ) → IsBook honest on faults journal s old places failed → Noted call old new → IsStep s call s
       → t ≡ s → places ≤ new.room → IsBook honest on faults journal t new places failed
   stepped_same journal s t call old new places failed book is step same room =
-      subst (λ (x : StudyState). IsBook honest on faults journal x new places failed) (sym same)
-      (stepped journal journal s s call old new places places failed book is step refl refl refl refl book.losable room
-      refl refl book.of_plan book.broken book.followed book.failures)
+      rw same (stepped journal journal s s call old new places places failed book is step refl refl refl refl
+      book.losable room refl refl book.of_plan book.broken book.followed book.failures)
 
   -- a book after a call that leaves the state, for which room was made
   pub said : (journal : Option (JournalValue D)) (l : Contents) (division : List Piece) (lost : List Bool)

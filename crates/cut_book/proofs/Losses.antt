@@ -11,10 +11,7 @@ use Rattle.std.proofs.lemmas.List.{get_or_past}
 -- one more is lost
 pub one_lost : (xs : List Bool) (i : ℕ) → i < length xs → get_or xs i true ≡ false → count_by not (set xs i true) + 1
     ≡ count_by not xs
-one_lost xs i low e =
-    let sums = sum_by-set (λ (b : Bool). cond (not b) 1 0) xs i true true low in
-    let one : cond (not (get_or xs i true)) 1 0 ≡ 1 = ap (λ (b : Bool). (let n : ℕ = cond (not b) 1 0 in n)) e in
-    omega (arith, sums, one)
+one_lost xs i low e = grind (arith, sum_by-set (λ (b : Bool). cond (not b) 1 0) xs i true true low)
 
 next_lt : (a b : ℕ) → nat_lt (1 + a) (1 + b) ≡ nat_lt a b
 next_lt a b = grind (arith, nat_tests)
@@ -37,7 +34,4 @@ none_lost (x ∷ xs) = let rest = none_lost xs in let one = sum_by-cons (λ (b :
 
 -- one is not, where it is found so
 pub held_within : (xs : List Bool) (i : ℕ) → get_or xs i true ≡ false → i < length xs
-held_within xs i e = elim (cases_lt i (length xs)) [
-  | inl low ↦ low
-  | inr high ↦ absurd (let no : true ≡ false = sym (get_or_past xs i true high) ∙ e in let n : ⊥ = cc in n)
-]
+held_within xs i e = grind (arith, get_or_past)

@@ -2,8 +2,8 @@
 use Rattle.std.proofs.Common.{false, ◌≡◌, ◌∙◌, ℕ, ◌+◌, ◌-◌, ◌≤◌, ◌<◌, List, [], ◌∷◌, ◌++◌, map, take, drop, length}
 use Rattle.std.proofs.Common.{get_or, refl, sym, ap, subst, arith, append_assoc, append-nil, length-append}
 use Rattle.std.proofs.lemmas.List.{map-append, take_all, drop_all, drop_more, drop-append-le, take-append-le}
-use Rattle.std.proofs.lemmas.List.{length-drop, length-take-le, length-map}
-use Rattle.cut_outcome.specs.declared.totals.Totals.{Totals}
+use Rattle.std.proofs.lemmas.List.{length-drop, length-take, length-map}
+use Rattle.cut_outcome.specs.Sum.{each_number}
 use Rattle.cut_ledger.specs.declared.slip.Slip.{Slip}
 use Rattle.cut_book.specs.declared.call.Answer.TheVariants.{Accepted}
 use Rattle.cut_book.specs.declared.call.Call.{Call}
@@ -27,18 +27,17 @@ order_of_one_loss_more n all (e ∷ es) order = (order.0, order_of_one_loss_more
 pub one_loss_more : (n : ℕ) (es : List Entry) (losses : List ℕ) (piece : ℕ) → AreInOrder n es (length losses)
     → calls_from n es (losses ++ piece ∷ []) ≡ calls_from n es losses ++ lost_call piece ∷ []
 one_loss_more n [] losses piece order =
-    ap (map lost_call) (drop-append-le n losses (piece ∷ []) order) ∙ map-append lost_call (drop n losses) (piece ∷ [])
+    rw (drop-append-le n losses (piece ∷ []) order) (map-append lost_call (drop n losses) (piece ∷ []))
 one_loss_more n (e ∷ es) losses piece order =
     let most = within e.losses (length losses) es order.1 in
     let from = order.0 in
-    ap (λ ls. map lost_call (take (e.losses - n) ls) ++ e.call ∷ calls_from e.losses es (losses ++ piece ∷ []))
-    (drop-append-le n losses (piece ∷ []) (omega (arith, most, from)))
-    ∙ ap (λ ls. map lost_call ls ++ e.call ∷ calls_from e.losses es (losses ++ piece ∷ []))
-    (take-append-le (e.losses - n) (drop n losses) (piece ∷ []) (omega (arith, most, from, length-drop n losses)))
-    ∙ ap (λ cs. map lost_call (take (e.losses - n) (drop n losses)) ++ e.call ∷ cs)
-    (one_loss_more e.losses es losses piece order.1)
-    ∙ sym (append_assoc (map lost_call (take (e.losses - n) (drop n losses))) (e.call ∷ calls_from e.losses es losses)
-    (lost_call piece ∷ []))
+    rw (
+      drop-append-le n losses (piece ∷ []) (omega (arith, most, from)),
+      take-append-le (e.losses - n) (drop n losses) (piece ∷ []) (omega (arith, most, from, length-drop n losses)),
+      one_loss_more e.losses es losses piece order.1,
+    )
+    (sym (append_assoc (map lost_call (take (e.losses - n) (drop n losses))) (e.call ∷ calls_from e.losses es losses)
+    (lost_call piece ∷ [])))
 
 -- ---- one entry more
 
@@ -51,15 +50,14 @@ pub one_entry_more : (n : ℕ) (es : List Entry) (losses : List ℕ) (call : Cal
     → calls_from n (es ++ record { call = call; losses = length losses } ∷ []) losses ≡ calls_from n es losses ++ call
     ∷ []
 one_entry_more n [] losses call order =
-    ap (λ ls. map lost_call ls ++ call ∷ map lost_call (drop (length losses) losses))
-    (take_all (length losses - n) (drop n losses) (omega (arith, length-drop n losses)))
-    ∙ ap (λ ls. map lost_call (drop n losses) ++ call ∷ map lost_call ls)
-    (drop_all (length losses) losses (omega arith))
+    rw (
+      take_all (length losses - n) (drop n losses) (omega (arith, length-drop n losses)),
+      drop_all (length losses) losses (omega arith),
+    )
 one_entry_more n (e ∷ es) losses call order =
-    ap (λ cs. map lost_call (take (e.losses - n) (drop n losses)) ++ e.call ∷ cs)
-    (one_entry_more e.losses es losses call order.1)
-    ∙ sym (append_assoc (map lost_call (take (e.losses - n) (drop n losses))) (e.call ∷ calls_from e.losses es losses)
-    (call ∷ []))
+    rw (one_entry_more e.losses es losses call order.1)
+    (sym (append_assoc (map lost_call (take (e.losses - n) (drop n losses))) (e.call ∷ calls_from e.losses es losses)
+    (call ∷ [])))
 
 -- ---- how many
 
@@ -70,11 +68,16 @@ long n (e ∷ es) losses order =
     let most = within e.losses (length losses) es order.1 in
     let from = order.0 in
     let first : List Call = map lost_call (take (e.losses - n) (drop n losses)) in
-    let rest = long e.losses es losses order.1 in
-    let some : length first ≡ e.losses - n =
-    length-map (take (e.losses - n) (drop n losses)) lost_call
-    ∙ length-take-le (e.losses - n) (drop n losses) (omega (arith, most, from, length-drop n losses)) in
-    omega (arith, length-append first (e.call ∷ calls_from e.losses es losses), some, rest, most, from)
+    omega (
+      arith,
+      length-append first (e.call ∷ calls_from e.losses es losses),
+      long e.losses es losses order.1,
+      length-map (take (e.losses - n) (drop n losses)) lost_call,
+      length-take (e.losses - n) (drop n losses),
+      length-drop n losses,
+      most,
+      from,
+    )
 
 -- ---- what is accepted
 
@@ -84,31 +87,22 @@ none_accepted (piece ∷ losses) calls = none_accepted losses calls
 
 pub others_accept : (n : ℕ) (es : List Entry) (losses : List ℕ) → accepted_in (calls_from n es losses)
     ≡ accepted_in (map (λ (e : Entry). e.call) es)
-others_accept n [] losses = ap accepted_in (sym (append-nil (map lost_call (drop n losses))))
-    ∙ none_accepted (drop n losses) []
+others_accept n [] losses = rw (← append-nil (map lost_call (drop n losses))) (none_accepted (drop n losses) [])
 others_accept n (e ∷ es) losses =
     none_accepted (take (e.losses - n) (drop n losses)) (e.call ∷ calls_from e.losses es losses)
-    ∙ first_in e.call (calls_from e.losses es losses)
-    ∙ ap (λ m. count_in e.call + m) (others_accept e.losses es losses)
-    ∙ sym (first_in e.call (map (λ (x : Entry). x.call) es))
+    ∙ omega (
+      arith,
+      first_in e.call (calls_from e.losses es losses),
+      others_accept e.losses es losses,
+      first_in e.call (map (λ (x : Entry). x.call) es),
+    )
 
 -- ---- one entry after another
 
 -- what a look-up past the end would give
 abbrev pub no_entry : Entry
 no_entry =
-    let totals : Totals = record {
-      receivers = 0;
-      conflicts = 0;
-      silent = 0;
-      extra = 0;
-      votes = 0;
-      decided = 0;
-      right =
-          0;
-      settled = 0;
-    } in
-    let slip : Slip = record { piece = record { first = 0; count = 0 }; totals = totals } in
+    let slip : Slip = record { piece = record { first = 0; count = 0 }; totals = each_number (λ n. 0) } in
     record { call = HandIn slip false Accepted; losses = 0 }
 
 -- where the losses before an entry are
@@ -134,17 +128,13 @@ next_calls n es i d losses olds mids news all low so-far first second =
     let e : Entry = get_or es i d in
     let lost : List Call = map lost_call (take (e.losses - n) (drop n losses)) in
     let rest : List Call = calls_from e.losses (drop (i + 1) es) losses in
-    ap (λ cs. cs ++ rest) (second ∙ ap (λ cs. cs ++ e.call ∷ []) first)
-    ∙ append_assoc (olds ++ lost) (e.call ∷ []) rest
-    ∙ append_assoc olds lost (e.call ∷ rest)
-    ∙ ap (λ xs. olds ++ calls_from n xs losses) (sym (drop_more es i d low))
-    ∙ so-far
+    rw (second, first, append_assoc (olds ++ lost) (e.call ∷ []) rest, append_assoc olds lost (e.call ∷ rest))
+    (rw (drop_more es i d low) at so-far)
 
 -- ---- none yet
 
 pub none_yet : (es : List Entry) (losses : List ℕ) → es ≡ [] → losses ≡ [] → calls_from 0 es losses ≡ []
-none_yet es losses no-entry no-loss = ap (λ xs. calls_from 0 xs losses) no-entry
-    ∙ ap (λ ls. map lost_call (drop 0 ls)) no-loss
+none_yet es losses no-entry no-loss = rw (no-entry, no-loss)
 
 pub none_in_order : (es : List Entry) (all : ℕ) → es ≡ [] → AreInOrder 0 es all
-none_in_order es all no-entry = subst (λ (xs : List Entry). AreInOrder 0 xs all) (sym no-entry) (omega arith)
+none_in_order es all no-entry = rw no-entry (omega arith)

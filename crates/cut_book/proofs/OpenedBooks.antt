@@ -14,11 +14,7 @@ use Rattle.cut_journal.specs.Laws.{IsJournalOf, OpeningsFollow}
 use Rattle.cut_book.specs.declared.call.Call.{Call}
 use Rattle.cut_book.specs.History.{Opening, HistoryValue, accepted_slips}
 use Rattle.cut_book.specs.Book.{FollowsState, doubtful_in, kept_in, state_in}
-use Rattle.cut_book.proofs.Legal.{state_by}
-
-nothing_kept : (has : Bool) (ks : List Slip) → cond has (ks ++ []) ks ≡ ks
-nothing_kept true ks = append-nil ks
-nothing_kept false ks = refl
+use Rattle.cut_book.proofs.Legal.{none_kept, state_by}
 
 -- a journal as it was made or opened again: of that plan, with these slips, none doubtful
 abbrev pub IsFresh : {D : Type 0} → Values → List Slip → Option (JournalValue D) → Type 0
@@ -40,9 +36,7 @@ pub fresh_followed : {D : Type 0} (honest : D → Type 0) (on : D → DiskState)
     → FollowsState honest on journal (opened v (is_some journal) slips size)
 fresh_followed honest on v slips size None follow is reads = tt
 fresh_followed honest on v slips size (Some log) follow is reads = λ good.
-    subst (λ (u : Values). IsJournalOf u log.count log.doubtful (on log.disk) (opened v true slips size)) (sym is.0)
-    (subst (λ (d : Option Slip). IsJournalOf v log.count d (on log.disk) (opened v true slips size)) (sym is.2)
-    (follow v log.count slips (on log.disk) size (reads good) is.1))
+    rw (is.0, is.2) (follow v log.count slips (on log.disk) size (reads good) is.1)
 
 pub opened_state : {D : Type 0} (v : Values) (slips : List Slip) (size : ℕ) (journal : Option (JournalValue D))
     (l : Contents) (division : List Piece) (lost : List Bool) (history : HistoryValue)
@@ -51,15 +45,6 @@ pub opened_state : {D : Type 0} (v : Values) (slips : List Slip) (size : ℕ) (j
     → division ≡ pieces_of l size → lost ≡ map (λ p. false) division → doubtful_in journal ≡ None
     → state_in l journal division lost history false ≡ opened v (is_some journal) slips size
 opened_state v slips size journal l division lost history holds opening none pieces unlost doubt =
-    let has : Bool = is_some journal in
-    let kept : kept_in history ≡ slips =
-    ap (λ (o : Opening). cond o.has_journal (o.base ++ accepted_slips history.calls) o.base) opening
-    ∙ ap (λ (cs : List Call). cond has (l.base ++ accepted_slips cs) l.base) none
-    ∙ nothing_kept has l.base ∙ ap (λ (x : Contents). x.base) holds in
-    ap (λ (o : Opening). state_by l (doubtful_in journal) division lost o.has_journal (kept_in history) false) opening
-    ∙ ap (λ (d : Option Slip). state_by l d division lost has (kept_in history) false) doubt
-    ∙ ap (λ (ks : List Slip). state_by l None division lost has ks false) kept
-    ∙ ap (λ (ls : List Bool). state_by l None division ls has slips false) unlost
-    ∙ ap (λ (ds : List Piece). state_by l None ds (map (λ p. false) ds) has slips false) pieces
-    ∙ ap (λ (x : Contents). state_by x None (pieces_of x size) (map (λ p. false) (pieces_of x size)) has slips false)
-    holds
+    let kept : kept_in history ≡ slips = rw (opening, none) (none_kept (is_some journal) l.base
+    ∙ ap (λ (x : Contents). x.base) holds) in
+    cc (opening, kept, doubt, unlost, pieces, holds)

@@ -1,6 +1,6 @@
 -- Results that are refused before their append.
 use Rattle.std.proofs.Common.{◌≡◌, ◌∙◌, ◌++◌, ◌∷◌, ℕ, Bool, true, false, cond, List, [], Result, Option, Some, None}
-use Rattle.std.proofs.Common.{IfErr, IsErrOf, refl, sym, ap, subst}
+use Rattle.std.proofs.Common.{IfErr, IsErrOf, refl, sym, ap, subst, arith}
 use Rattle.std.specs.Prelude.{option_map, ⊤}
 use Rattle.cut_faults.specs.declared.code.FaultCode.{FaultCode}
 use Rattle.cut_faults.specs.declared.code.FaultCode.TheVariants as code
@@ -43,16 +43,7 @@ codes : (broken same over : Bool) (a : Answer) → cond broken (Some Broken)
     (option_map answer_to (cond same (cond over (Some ledger.Overlap) None) (Some ledger.Stranger))) ≡ Some a
     → (cond broken (Some code.Checkpoint) (option_map code_of
     (cond same (cond over (Some ledger.Overlap) None) (Some ledger.Stranger))) ≡ code_for a) × Refuses a broken
-codes true same over a e =
-    let is : Broken ≡ a = cc in subst (λ (x : Answer). (Some code.Checkpoint ≡ code_for x) × Refuses x true) is
-    (refl, refl)
-codes false true true a e =
-    let is : Overlap ≡ a = cc in subst (λ (x : Answer). (Some code.Overlap ≡ code_for x) × Refuses x false) is
-    (refl, tt)
-codes false true false a e = absurd (let no : ⊥ = cc in no)
-codes false false over a e =
-    let is : Stranger ≡ a = cc in subst (λ (x : Answer). (Some code.Stranger ≡ code_for x) × Refuses x false) is
-    (refl, tt)
+codes broken same over a e = grind (arith, e)
 
 -- what a refused result is: a step that changes nothing
 pub record IsRefused (s : StudyState) (r : Computed) (a : Answer) : Type 0 where
@@ -67,30 +58,9 @@ by_code : (s : StudyState) (r : Computed) (a : Answer) → refused_code s r ≡ 
     → IsRefused s r a
 by_code s r Accepted e refuses = absurd refuses
 by_code s r DiskFails e refuses = absurd refuses
-by_code s r Stranger e refuses = record {
-  broken = λ is. absurd (let no : ⊥ = cc in no);
-  same_faults = λ n. refl;
-  answered = record { reply = ap (λ (o : Option FaultCode). accepted_unless o) e; disk = tt };
-  state = ap (λ (o : Option FaultCode). unless_refused o s (taken s r)) e;
-  reported = refl;
-  slips = refl;
-}
-by_code s r Overlap e refuses = record {
-  broken = λ is. absurd (let no : ⊥ = cc in no);
-  same_faults = λ n. refl;
-  answered = record { reply = ap (λ (o : Option FaultCode). accepted_unless o) e; disk = tt };
-  state = ap (λ (o : Option FaultCode). unless_refused o s (taken s r)) e;
-  reported = refl;
-  slips = refl;
-}
-by_code s r Broken e refuses = record {
-  broken = λ is. refuses;
-  same_faults = λ n. refl;
-  answered = record { reply = ap (λ (o : Option FaultCode). accepted_unless o) e; disk = tt };
-  state = ap (λ (o : Option FaultCode). unless_refused o s (taken s r)) e;
-  reported = ap (λ (b : Bool). (let o : Option Answer = Some (cond b Broken DiskFails) in o)) refuses;
-  slips = refl;
-}
+by_code s r Stranger e refuses = grind (arith, e)
+by_code s r Overlap e refuses = grind (arith, e)
+by_code s r Broken e refuses = grind (arith, e, refuses)
 
 pub refused : (s : StudyState) (r : Computed) (a : Answer) → refusal_in s r ≡ Some a → IsRefused s r a
 refused s r a e = let both = codes s.broken (is_same_plan s.ledger.plan r.plan) (overlaps s.ledger r.piece) a e
@@ -134,10 +104,7 @@ may_refuse Broken = tt
 not_in : (broken same over : Bool) → cond broken (Some Broken)
     (option_map answer_to (cond same (cond over (Some ledger.Overlap) None) (Some ledger.Stranger))) ≡ None
     → (broken ≡ false) × (cond same (cond over (Some ledger.Overlap) None) (Some ledger.Stranger) ≡ None)
-not_in true same over e = absurd (let no : ⊥ = cc in no)
-not_in false true true e = absurd (let no : ⊥ = cc in no)
-not_in false true false e = (refl, refl)
-not_in false false over e = absurd (let no : ⊥ = cc in no)
+not_in broken same over e = grind (arith, e)
 
 -- no append has failed, and the ledger takes it
 pub record IsFree (s : StudyState) (r : Computed) : Type 0 where
@@ -148,12 +115,7 @@ pub record IsFree (s : StudyState) (r : Computed) : Type 0 where
 pub free : (s : StudyState) (r : Computed) → refusal_in s r ≡ None → IsFree s r
 free s r e =
     let both = not_in s.broken (is_same_plan s.ledger.plan r.plan) (overlaps s.ledger r.piece) e in
-    record {
-      unbroken = both.0;
-      fine = both.1;
-      code = ap (λ (b : Bool). (let o : Option FaultCode = cond b (Some code.Checkpoint)
-          (option_map code_of (refusal_of s.ledger r)) in o)) both.0 ∙ ap (option_map code_of) both.1;
-    }
+    record { unbroken = both.0; fine = both.1; code = rw (both.0, both.1) }
 
 -- ---- what is answered to them
 

@@ -1,6 +1,6 @@
 -- What a crash leaves of a disk of which nothing is asked.
 use Rattle.std.proofs.Common.{◌≡◌, ◌∙◌, inl, inr, ℕ, Bool, true, false, cond, List, [], Option, Some, None, IfSome}
-use Rattle.std.proofs.Common.{unwrap_or, refl, sym, ap, subst}
+use Rattle.std.proofs.Common.{unwrap_or, refl, sym, ap, subst, arith}
 use Rattle.std.specs.Prelude.{option_map}
 use Rattle.cut_faults.specs.declared.code.FaultCode.TheVariants as code
 use Rattle.cut_plan.specs.Values.{Values}
@@ -31,8 +31,7 @@ more_doubt v ks (Some old) slip bytes (inr (other, both)) = inr (other, both)
 -- a result that the ledger refuses changes nothing
 stays : (broken : Bool) (fault : OfferFault) (s t : StudyState)
     → unless_refused (cond broken (Some code.Checkpoint) (option_map code_of (Some fault))) s t ≡ s
-stays true fault s t = refl
-stays false fault s t = refl
+stays broken fault s t = grind arith
 
 resumable_by : (v : Values) (count : ℕ) (doubtful : Option Slip) (d : DiskState) (s : StudyState) (r : Computed)
     (o : Option OfferFault) → refusal_of s.ledger r ≡ o → CrashesBetweenCalls → CrashesInAppends
@@ -46,8 +45,7 @@ resumable_by v count doubtful d s r (Some fault) refused between within sound of
     let same : after s (HandInDiskFails r) ≡ s =
     ap (λ (o : Option OfferFault). unless_refused (cond s.broken (Some code.Checkpoint) (option_map code_of o)) s
     (failed s r)) refused ∙ stays s.broken fault s (failed s r) in
-    subst (λ (t : StudyState). Throughout d d (IsResumed v t)) (sym same)
-    (at_rest d (IsResumed v s) (between v count doubtful d s sound of))
+    rw same (at_rest d (IsResumed v s) (between v count doubtful d s sound of))
 
 -- a journal that is as it was leaves a run that is resumed, also after a result's append failed
 pub resumable : {D : Type 0} (honest : D → Type 0) (on : D → DiskState) (journal : Option (JournalValue D))
@@ -55,9 +53,7 @@ pub resumable : {D : Type 0} (honest : D → Type 0) (on : D → DiskState) (jou
     → journal ≡ Some log → (honest log.disk → IsFileOf log.plan log.count log.doubtful (on log.disk))
     → FollowsState honest on journal s
     → LeavesResumed honest on journal journal (after s (HandInDiskFails r))
-resumable {D} honest on journal log s r between within is sound =
-    subst (λ (j : Option (JournalValue D)). FollowsState honest on j s
-    → LeavesResumed honest on j j (after s (HandInDiskFails r))) (sym is)
+resumable honest on journal log s r between within is sound = rw is
     (λ of good. resumable_by log.plan log.count log.doubtful (on log.disk) s r (refusal_of s.ledger r) refl between
     within (sound good) (of good))
 
@@ -68,10 +64,7 @@ pub resumed_now : {D : Type 0} (honest : D → Type 0) (on : D → DiskState) (j
     → FollowsState honest on journal s
     → IfSome journal (λ l. honest l.disk → (image : List ℕ) → IsImage (on l.disk).stable image
     → IsResumed l.plan s image)
-resumed_now {D} honest on journal log s between is sound =
-    subst (λ (j : Option (JournalValue D)). FollowsState honest on j s
-    → IfSome j (λ l. honest l.disk → (image : List ℕ) → IsImage (on l.disk).stable image → IsResumed l.plan s image))
-    (sym is)
+resumed_now honest on journal log s between is sound = rw is
     (λ of good. between log.plan log.count log.doubtful (on log.disk) s (sound good) (of good))
 
 -- in an append of a result that the ledger takes
@@ -81,7 +74,5 @@ pub resumed_append : {D : Type 0} (honest : D → Type 0) (on : D → DiskState)
     (ReadsAs old.plan (kept_slips old.plan old.count (on old.disk)) (Some (unwrap_or old.doubtful (slip_of r)))))
     → refusal_of s.ledger r ≡ None → FollowsState honest on journal s
     → LeavesResumed honest on journal (Some new) (after s (HandInDiskFails r))
-resumed_append {D} honest on journal old new s r within is moments fine =
-    subst (λ (j : Option (JournalValue D)). FollowsState honest on j s
-    → LeavesResumed honest on j (Some new) (after s (HandInDiskFails r))) (sym is)
+resumed_append honest on journal old new s r within is moments fine = rw is
     (λ of good. within old.plan old.count old.doubtful (on old.disk) (on new.disk) s r (of good) fine (moments good))

@@ -49,15 +49,8 @@ grown l p free fits =
     ∙ count_of_more (has l) new 0 n p.first p.count (record {
       starts = omega arith;
       ends = omega arith;
-      inside = λ t a b. (
-        none_passing (has l) p.first p.count t free a b,
-        or_right (has l t) (is_in p t)
-            (let here : is_in p t ≡ true = grind (arith, nat_tests) in here),
-      );
-      outside = λ t out.
-          ap (λ b. has l t || b) (false_from_ne_true (is_in p t)
-          (λ e. (let parts = and_parts _ _ e in out (leb-true p.first t parts.0)
-          (ltb-true t (p.first + p.count) parts.1)))) ∙ or-false (has l t);
+      inside = λ t a b. (let out = none_passing (has l) p.first p.count t free a b in grind (arith, nat_tests));
+      outside = λ t out. grind (arith, nat_tests, out);
     })
 
 -- ---- steps
@@ -68,11 +61,7 @@ Grows n s t = (t.ledger.plan ≡ s.ledger.plan) × (n + held_count s.ledger.plan
     ≤ held_count s.ledger.plan t.ledger)
 
 same_ledger : (s t : StudyState) → t.ledger ≡ s.ledger → Grows 0 s t
-same_ledger s t same = (
-  ap (λ (l : Contents). l.plan) same,
-  (let e : held_count s.ledger.plan t.ledger ≡ held_count s.ledger.plan s.ledger = ap
-      (λ (l : Contents). held_count s.ledger.plan l) same in omega (arith, e)),
-)
+same_ledger s t same = rw same (refl, omega arith)
 
 no_code : (o : Option FaultCode) → accepted_unless o ≡ reply.Accepted → o ≡ None
 no_code None e = refl
@@ -91,10 +80,7 @@ failed_ledger (Some c) s r = refl
 not_refused : (broken same over : Bool) → cond broken (Some code.Checkpoint)
     (option_map code_of (cond same (cond over (Some ledger.Overlap) None) (Some ledger.Stranger))) ≡ None
     → (same ≡ true) × (over ≡ false)
-not_refused true same over e = absurd (let no : ⊥ = cc in no)
-not_refused false true true e = absurd (let no : ⊥ = cc in no)
-not_refused false true false e = (refl, refl)
-not_refused false false over e = absurd (let no : ⊥ = cc in no)
+not_refused broken same over e = grind (arith, e)
 
 accepted_grows : SamePlansAreEqual → (s t : StudyState) (slip : Slip) (own : Bool) → IsPlan s.ledger.plan
     → IsHandedIn s slip own Accepted t → Grows slip.piece.count s t
@@ -103,17 +89,12 @@ accepted_grows equal s t slip own plan is =
     let none : refused_code s r ≡ None = no_code (refused_code s r) is.answered.reply in
     let known = not_refused s.broken (is_same_plan s.ledger.plan r.plan) (overlaps s.ledger r.piece) none in
     let own_plan : s.ledger.plan ≡ r.plan = (equal s.ledger.plan r.plan plan is.true_result.0).0 known.0 in
-    let piece : IsTrue (is_piece s.ledger.plan r.piece) = subst (λ (v : Values). IsTrue (is_piece v r.piece))
-    (sym own_plan) is.true_result.1 in
-    let inner = and_parts _ _ piece in
-    let fits : r.piece.first + r.piece.count ≤ trial_count s.ledger.plan = leb-true (r.piece.first + r.piece.count)
-    (trial_count s.ledger.plan) (and_parts _ _ inner.0).1 in
+    let piece : IsTrue (is_piece s.ledger.plan r.piece) = rw own_plan is.true_result.1 in
+    let fits : r.piece.first + r.piece.count ≤ trial_count s.ledger.plan = grind (arith, nat_tests) in
     let next : t ≡ taken s r = is.next ∙ ap (λ (o : Option FaultCode). unless_refused o s (taken s r)) none in
     let more = grown s.ledger r.piece known.1 fits in
-    let held : held_count s.ledger.plan t.ledger ≡ held_count s.ledger.plan (with_piece s.ledger r.piece) = ap
-    (λ (x : StudyState). held_count s.ledger.plan x.ledger) next in
     let size : slip.piece.count ≡ r.piece.count = ap (λ (x : Slip). x.piece.count) is.slip_is in
-    (ap (λ (x : StudyState). x.ledger.plan) next, omega (arith, more, held, size))
+    rw next (refl, omega (arith, more, size))
 
 abbrev pub count_in : Call → ℕ
 count_in call = sum_by (λ slip. slip.piece.count) (accepted_slip call)
@@ -143,9 +124,8 @@ leads_grow equal s t [] plan from = same_ledger s t (ap (λ (x : StudyState). x.
 leads_grow equal s t (call ∷ calls) plan from =
     let u : StudyState = from.0 in
     let first = step_grows equal s u call plan from.1.0 in
-    let rest = leads_grow equal u t calls (subst (λ (v : Values). IsPlan v) (sym first.0) plan) from.1.1 in
-    let moved : accepted_in calls + held_count s.ledger.plan u.ledger ≤ held_count s.ledger.plan t.ledger =
-    subst (λ (v : Values). accepted_in calls + held_count v u.ledger ≤ held_count v t.ledger) first.0 rest.1 in
+    let rest = leads_grow equal u t calls (rw first.0 plan) from.1.1 in
+    let moved = rw first.0 at rest.1 in
     (rest.0 ∙ first.0, omega (arith, first.1, moved, first_in call calls))
 
 -- so they have 64 bits
@@ -163,13 +143,8 @@ pub next_fits : (calls : List Call) (i : ℕ) (d : Call) → i < length calls �
     + accepted_in (get_or calls i d ∷ []) ≤ accepted_in calls
 next_fits [] i d low = absurd (omega arith)
 next_fits (call ∷ calls) zero d low = omega (arith, first_in call calls, first_in call [])
-next_fits (call ∷ calls) (suc i) d low = omega (
-  arith,
-  next_fits calls i d (omega arith),
-  first_in call calls,
-  first_in
-      call (take i calls),
-)
+next_fits (call ∷ calls) (suc i) d low =
+    omega (arith, next_fits calls i d (omega arith), first_in call calls, first_in call (take i calls))
 
 -- and with the next they are those of one call more
 pub next_adds : (calls : List Call) (i : ℕ) (d : Call) → i < length calls → accepted_in (take (i + 1) calls)

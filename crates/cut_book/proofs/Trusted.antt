@@ -12,12 +12,11 @@ use Rattle.cut_journal.specs.Trust.{IsTrueStore}
 found_true : (v : Values) (bytes : List ℕ) (slips : List Slip) → NoSlipsAreTrue
     → ((ss : List Slip) → reading v bytes ≡ Ok ss → AreTrue v ss) → IsFoundOn v bytes slips → AreTrue v slips
 found_true v bytes slips none so (inl reads) = so slips reads
-found_true v bytes slips none so (inr empty) = subst (AreTrue v) (sym empty.1) (none v)
+found_true v bytes slips none so (inr empty) = rw empty.1 (none v)
 
 -- they are true
 pub true_store : {D : Type 0} (honest : D → Type 0) (on : D → DiskState) (v : Values) (store : Option D) (disk : D)
     (slips : List Slip) → NoSlipsAreTrue → IsTrueStore honest on v store → store ≡ Some disk
     → (honest disk → IsFoundOn v (on disk).bytes slips) → AreTrue v slips
-true_store {D} honest on v store disk slips none is there found =
-    let own : IsTrueStore honest on v (Some disk) = subst (λ (s : Option D). IsTrueStore honest on v s) there is in
-    found_true v (on disk).bytes slips none own.1 (found own.0)
+true_store honest on v store disk slips none is there found =
+    let own = rw there at is in found_true v (on disk).bytes slips none own.1 (found own.0)

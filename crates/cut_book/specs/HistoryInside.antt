@@ -24,9 +24,9 @@ AreInOrder n (e ∷ es) all = (n ≤ e.losses) × AreInOrder e.losses es all
 abbrev pub course_of : Inside → HistoryValue
 course_of h = record {
   opening = record {
-    plan = h.ledger.value.contents.plan;
+    plan = h.plan.value;
     has_journal = h.has_journal.value;
-    base = h.ledger.value.contents.base;
+    base = h.base.value;
     size = h.size.value;
   };
   calls = calls_from 0 h.entries.items h.losses.items;

@@ -4,8 +4,9 @@ ghost use Rattle.cut_book.specs.HistoryInside.{lost_call};
 ghost use Rattle.cut_book.specs.declared.call.Call.TheVariants as call;
 
 use crate::{Answer, Call};
-use cut_ledger::Ledger;
 use cut_ledger::laws::same_plans_are_equal;
+use cut_ledger::{Base, Ledger};
+use cut_plan::Plan;
 use std::alloc::{AllocError, Global};
 use std::marker::Model;
 use std::snapshot::Snapshot;
@@ -25,8 +26,9 @@ struct Entry {
 /// piece that is lost takes four bytes of it, which are there from the beginning.
 #[derive(Drop)]
 pub struct History {
-    ledger: Snapshot<Ledger>,
+    plan: Snapshot<Plan>,
     has_journal: Snapshot<bool>,
+    base: Snapshot<Base>,
     size: Snapshot<u32>,
     entries: Vec<Entry>,
     losses: Vec<u32>,
@@ -62,11 +64,10 @@ impl History {
         ensures calls { IfOk result (λ h. h.calls ≡ []) }
         ensures room { IfOk result (λ h. losses ≤ h.room) }
     {
-        // For the proof: what always holds of a ledger.
-        let _ = ledger.plan();
         Ok(History {
-            ledger: Snapshot::of(ledger),
+            plan: Snapshot::of(ledger.plan()),
             has_journal: Snapshot::of(&has_journal),
+            base: Snapshot::of(ledger.base()),
             size: Snapshot::of(&size),
             entries: Vec::new(alloc),
             losses: Vec::with_capacity(alloc, losses as usize)?,

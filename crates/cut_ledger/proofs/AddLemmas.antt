@@ -1,9 +1,7 @@
 -- A piece with its sums added to what a ledger holds: what is held and summed then.
 use Rattle.std.proofs.Common.{◌≡◌, ℕ, ◌+◌, ◌*◌, ◌/◌, ◌<◌, ◌≤◌, inl, inr, Bool, true, false, ◌==◌, ◌&&◌, ◌||◌, not, cond}
-use Rattle.std.proofs.Common.{List, [], ◌∷◌, ◌++◌, map, length, set, refl, sym, ap, ◌∙◌, subst, arith, append-nil}
-use Rattle.std.proofs.Math.Bool.{or-false}
-use Rattle.std.proofs.lemmas.Bool.{cases_eq, eq-eqb, ne_eqb, false_from_ne_true, or_cases, or_left, or_right, and_left}
-use Rattle.std.proofs.lemmas.Bool.{not_from_false}
+use Rattle.std.proofs.Common.{List, [], ◌∷◌, ◌++◌, map, length, set, refl, sym, ap, ◌∙◌, arith, append-nil}
+use Rattle.std.proofs.lemmas.Bool.{cases_eq, eq-eqb, ne_eqb}
 use Rattle.std.proofs.lemmas.List.{get_or-set_same, get_or-set_other, length-set}
 use Rattle.std.proofs.lemmas.List.Elements.{filter-append, filter_agree}
 use Rattle.std.proofs.lemmas.List.Folds.{list_any-append}
@@ -42,17 +40,15 @@ pub added_is : (v : Values) (base : List Slip) (old new : held.Held) (olds news 
     → Adding v base old new olds news p x → Added v old new olds p
 added_is v base old new olds news p x adding =
     let facts = piece_facts v p adding.kept.plan adding.piece in
-    let within : p.first / v.repeats < length olds = omega (arith, facts.cell, adding.kept.long) in
     let apart : (t : ℕ) → is_in p t ≡ true → held.has old t ≡ false = λ t e.
     (let at = in_piece p t e in none_passing (held.has old) p.first p.count t adding.apart at.0 at.1) in
     let more = more_is old new p (omega (arith, facts.end, adding.kept.all)) adding.added.held in
     record {
       facts = facts;
-      within = within;
+      within = omega (arith, facts.cell, adding.kept.long);
       apart = apart;
       more = more;
-      part = more_part (held.has old) (held.has new)
-          v p (p.first / v.repeats) facts more apart;
+      part = more_part (held.has old) (held.has new) v p (p.first / v.repeats) facts more apart;
     }
 
 -- ---- sums
@@ -63,68 +59,42 @@ taken_sums : (v : Values) (base : List Slip) (test new : ℕ → Bool) (p : Piec
     → ((t : ℕ) → is_in_base base t ≡ true → test t ≡ true) → sum_where v base new c
     ≡ plus (sum_where v base test c) (sum_of v (trials_in p))
 taken_sums v base test new p c facts part based =
-    let part-2 : PassesPart (λ t. test t && not (is_in_base base t)) (λ t. new t && not (is_in_base base t))
+    let further : PassesPart (λ t. test t && not (is_in_base base t)) (λ t. new t && not (is_in_base base t))
     (c * v.repeats) v.repeats p.first p.count = record {
       starts = part.starts;
       ends = part.ends;
-      inside = λ t a b.
-          (let at = part.inside t a b in
-          let free : is_in_base base t ≡ false = false_from_ne_true (is_in_base base t)
-          (λ e. let w : test t ≡ true = based t e in cc) in (
-            and_left (test t) (not (is_in_base base t)) at.0,
-            ap (λ x. x && not (is_in_base base t)) at.1
-                ∙ not_from_false (is_in_base base t) free,
-          ));
-      outside = λ t out. ap (λ x. x && not (is_in_base base t)) (part.outside t out);
+      inside = λ t a b. grind (arith, part.inside t a b, based t);
+      outside = λ t out. grind (arith, part.outside t out);
     } in
     let each : (n : Totals → ℕ) → sum_by (λ s. n s.totals) (slips_of_cell v base c)
     + sum_by (λ t. n (outcome v t)) (further_trials v base new c) ≡ sum_by (λ s. n s.totals) (slips_of_cell v base c)
     + sum_by (λ t. n (outcome v t)) (further_trials v base test c)
     + sum_by (λ t. n (outcome v t)) (trials_in p) = λ n.
-    (let more = sum_of_more (λ t. n (outcome v t)) (λ t. test t && not (is_in_base base t))
-    (λ t. new t && not (is_in_base base t)) (c * v.repeats) v.repeats p.first p.count part-2 in
-    omega (arith, more)) in
+    omega (
+      arith,
+      sum_of_more (λ t. n (outcome v t)) (λ t. test t && not (is_in_base base t))
+          (λ t. new t && not (is_in_base base t)) (c * v.repeats) v.repeats p.first p.count further,
+    ) in
     ap (λ (g : (Totals → ℕ) → ℕ). each_number g) (λ i n. each n i)
 
 same_sums : (v : Values) (base : List Slip) (test new : ℕ → Bool) (d : ℕ)
     → ((t : ℕ) → d * v.repeats ≤ t → t < d * v.repeats + v.repeats → new t ≡ test t) → sum_where v base new d
     ≡ sum_where v base test d
 same_sums v base test new d same =
-    let trials : further_trials v base new d ≡ further_trials v base test d =
-    filter_agree_on (λ t. new t && not (is_in_base base t)) (λ t. test t && not (is_in_base base t)) (d * v.repeats)
-    v.repeats (record { same = λ t a b. ap (λ x. x && not (is_in_base base t)) (same t a b) }) in
-    ap (λ ts. each_number (λ n. sum_by (λ s. n s.totals) (slips_of_cell v base d) + sum_by (λ t. n (outcome v t)) ts))
-    trials
+    rw (filter_agree_on (λ t. new t && not (is_in_base base t)) (λ t. test t && not (is_in_base base t)) (d * v.repeats)
+    v.repeats (record { same = λ t a b. ap (λ x. x && not (is_in_base base t)) (same t a b) }))
 
 -- of a base with one slip more, whose trials are those that pass too
 pub in_base_more : (base : List Slip) (s : Slip) (t : ℕ) → is_in_base (base ++ s ∷ []) t
     ≡ (is_in_base base t || is_in s.piece t)
-in_base_more base s t =
-    list_any-append (λ (y : Slip). is_in y.piece t) base (s ∷ [])
-    ∙ ap (λ b. is_in_base base t || b) (or-false (is_in s.piece t))
-
-apart_tests : (test base own : Bool) → (own ≡ true → test ≡ false) → (test || own) && not (base || own) ≡ test
-    && not base
-apart_tests true base true apart = let w : true ≡ false = apart refl in cc
-apart_tests true true false apart = refl
-apart_tests true false false apart = refl
-apart_tests false base true apart = by base
-  where
-    by : (b : Bool) → not (b || true) ≡ false
-    by true = refl
-    by false = refl
-apart_tests false base false apart = refl
+in_base_more base s t = grind (arith, list_any-append)
 
 slip_trials : (v : Values) (base : List Slip) (s : Slip) (test new : ℕ → Bool) (d : ℕ) → IsMore test new s.piece
     → ((t : ℕ) → is_in s.piece t ≡ true → test t ≡ false) → further_trials v (base ++ s ∷ []) new d
     ≡ further_trials v base test d
 slip_trials v base s test new d more apart =
     filter_agree (λ t. new t && not (is_in_base (base ++ s ∷ []) t)) (λ t. test t && not (is_in_base base t))
-    (λ t.
-    ap (λ b. b && not (is_in_base (base ++ s ∷ []) t)) (more.same t)
-    ∙ ap (λ b. (test t || is_in s.piece t) && not b) (in_base_more base s t)
-    ∙ apart_tests (test t) (is_in_base base t) (is_in s.piece t) (apart t))
-    (trials_of_cell v d)
+    (λ t. grind (arith, more.same t, in_base_more base s t, apart t)) (trials_of_cell v d)
 
 slip_in_cell : (v : Values) (base : List Slip) (s : Slip) (d : ℕ) (b : Bool) → (s.piece.first / v.repeats == d) ≡ b
     → slips_of_cell v (base ++ s ∷ []) d ≡ slips_of_cell v base d ++ cond b (s ∷ []) []
@@ -137,44 +107,28 @@ slip_sums : (v : Values) (base : List Slip) (s : Slip) (test new : ℕ → Bool)
     ≡ plus (sum_where v base test (s.piece.first / v.repeats)) s.totals
 slip_sums v base s test new more apart =
     let c : ℕ = s.piece.first / v.repeats in
-    let slips : slips_of_cell v (base ++ s ∷ []) c ≡ slips_of_cell v base c ++ s
-    ∷ [] = slip_in_cell v base s c true (eq-eqb c c refl) in
-    let trials = slip_trials v base s test new c more apart in
-    let each : (n : Totals → ℕ) → sum_by (λ y. n y.totals) (slips_of_cell v (base ++ s ∷ []) c)
-    + sum_by (λ t. n (outcome v t)) (further_trials v (base ++ s ∷ []) new c)
-    ≡ sum_by (λ y. n y.totals) (slips_of_cell v base c)
+    let slips = slip_in_cell v base s c true (eq-eqb c c refl) in
+    let each : (n : Totals → ℕ) → sum_by (λ y. n y.totals) (slips_of_cell v base c ++ s ∷ [])
+    + sum_by (λ t. n (outcome v t)) (further_trials v base test c) ≡ sum_by (λ y. n y.totals) (slips_of_cell v base c)
     + sum_by (λ t. n (outcome v t)) (further_trials v base test c) + n s.totals = λ n.
-    (let one = ap (sum_by (λ (y : Slip). n y.totals)) slips
-    ∙ sum_by_push (λ (y : Slip). n y.totals) (slips_of_cell v base c) s in
-    let same = ap (sum_by (λ t. n (outcome v t))) trials in
-    omega (arith, one, same)) in
-    ap (λ (g : (Totals → ℕ) → ℕ). each_number g) (λ i n. each n i)
+    omega (arith, sum_by_push (λ (y : Slip). n y.totals) (slips_of_cell v base c) s) in
+    rw (slips, slip_trials v base s test new c more apart)
+    (ap (λ (g : (Totals → ℕ) → ℕ). each_number g) (λ i n. each n i))
 
 slip_elsewhere : (v : Values) (base : List Slip) (s : Slip) (test new : ℕ → Bool) (d : ℕ) → IsMore test new s.piece
     → ((t : ℕ) → is_in s.piece t ≡ true → test t ≡ false) → (d ≡ s.piece.first / v.repeats → ⊥)
     → sum_where v (base ++ s ∷ []) new d ≡ sum_where v base test d
 slip_elsewhere v base s test new d more apart other =
-    let slips : slips_of_cell v (base ++ s ∷ []) d ≡ slips_of_cell v base d =
-    slip_in_cell v base s d false (ne_eqb (s.piece.first / v.repeats) d (λ e. other (sym e)))
-    ∙ append-nil (slips_of_cell v base d) in
-    ap (λ ss. each_number (λ n. sum_by (λ y. n y.totals) ss
-    + sum_by (λ t. n (outcome v t)) (further_trials v (base ++ s ∷ []) new d))) slips
-    ∙ ap (λ ts. each_number (λ n. sum_by (λ (y : Slip). n y.totals) (slips_of_cell v base d)
-    + sum_by (λ t. n (outcome v t)) ts)) (slip_trials v base s test new d more apart)
+    rw (
+      slip_in_cell v base s d false (ne_eqb (s.piece.first / v.repeats) d (λ e. other (sym e))),
+      append-nil (slips_of_cell v base d),
+      slip_trials v base s test new d more apart,
+    )
 
 -- ---- bounds
 
 at_most_more : (m n : ℕ) (a b : Totals) → IsAtMost m a → IsAtMost n b → IsAtMost (m + n) (plus a b)
-at_most_more m n a b few more = record {
-  receivers = omega (arith, few.receivers, more.receivers);
-  conflicts = omega (arith, few.conflicts, more.conflicts);
-  silent = omega (arith, few.silent, more.silent);
-  extra = omega (arith, few.extra, more.extra);
-  votes = omega (arith, few.votes, more.votes);
-  decided = omega (arith, few.decided, more.decided);
-  right = omega (arith, few.right, more.right);
-  settled = omega (arith, few.settled, more.settled);
-}
+at_most_more m n a b few more = grind arith
 
 -- ---- what is held then
 
@@ -188,13 +142,10 @@ kept_then : (v : Values) (base bases : List Slip) (old new : held.Held) (olds ne
 kept_then v base bases old new olds news p x adding own others based = record {
   plan = adding.kept.plan;
   section_len = adding.added.section_len ∙ adding.kept.section_len;
-  all = ap length adding.added.held ∙ length-map-range_with_len (λ t. held.has old t || is_in p t) 0 (length old.held)
-      ∙ adding.kept.all;
-  cells = ap length adding.added.others ∙ length-set old.room (p.first / v.repeats)
-      (held.has_room new (p.first / v.repeats)) ∙ adding.kept.cells;
+  all = grind (arith, adding.added.held, adding.kept.all, length-map-range_with_len);
+  cells = grind (arith, adding.added.others, adding.kept.cells, length-set);
   long = many ∙ adding.kept.long;
-  each = λ d in'. subst (AreSumsOf v bases (held.has new) d) (sym (ap (λ xs. sum_at xs d) adding.added.sums))
-      (by d (omega (arith, many)));
+  each = λ d in'. rw adding.added.sums (by d (omega (arith, many)));
   based = based;
 }
   where
@@ -202,8 +153,7 @@ kept_then v base bases old new olds news p x adding own others based = record {
     c = p.first / v.repeats
 
     many : length news ≡ length olds
-    many = ap length adding.added.sums ∙ length-set olds (p.first / v.repeats)
-        (plus (sum_at olds (p.first / v.repeats)) x)
+    many = grind (arith, adding.added.sums, length-set)
 
     known : Added v old new olds p
     known = added_is v base old new olds news p x adding
@@ -215,32 +165,21 @@ kept_then v base bases old new olds news p x adding own others based = record {
         let bound : 2048 * count_by (held.has old) (trials_of_cell v c) + 2048 * p.count
         ≡ 2048 * count_by (held.has new) (trials_of_cell v c) = omega (arith, more) in
         record {
-          sums = ap (λ y. plus y x) before.sums ∙ sym own;
-          few = subst (λ n. IsAtMost n (plus (sum_at olds c) x)) bound
-              (at_most_more _ (2048 * p.count) (sum_at olds c) x before.few adding.few);
+          sums = rw before.sums (sym own);
+          few = rw (← bound) (at_most_more _ (2048 * p.count) (sum_at olds c) x before.few adding.few);
         }
 
     by : (d : ℕ) → d < length olds → AreSumsOf v bases (held.has new) d
         (sum_at (set olds (p.first / v.repeats) (plus (sum_at olds (p.first / v.repeats)) x)) d)
     by d in' = elim (cases_eq d (p.first / v.repeats)) [
-      | inl here ↦
-          subst (λ i. AreSumsOf v bases (held.has new) i (sum_at (set olds c (plus (sum_at olds c) x)) i)) (sym here)
-          (subst (AreSumsOf v bases (held.has new) c)
-          (sym (get_or-set_same olds c (plus (sum_at olds c) x) (each_number (λ n. 0)) known.within)) mine)
+      | inl here ↦ rw (here, get_or-set_same olds c (plus (sum_at olds c) x) (each_number (λ n. 0)) known.within) mine
       | inr other ↦
           (let before : AreSumsOf v base (held.has old) d (sum_at olds d) = adding.kept.each d in' in
-          let count : count_by (held.has new) (trials_of_cell v d) ≡ count_by (held.has old) (trials_of_cell v d) =
-          count_by_agree (held.has new) (held.has old) (d * v.repeats) v.repeats
-          (record {
-            same = λ t a b. more_elsewhere (held.has old) (held.has new) v p c d t known.facts known.more
-                other a b;
+          let count = count_by_agree (held.has new) (held.has old) (d * v.repeats) v.repeats (record {
+            same = λ t a b. more_elsewhere (held.has old) (held.has new) v p c d t known.facts known.more other a b;
           }) in
-          let same : AreSumsOf v bases (held.has new) d (sum_at olds d) = record {
-            sums = before.sums ∙ sym (others d other);
-            few = subst (λ n. IsAtMost (2048 * n) (sum_at olds d)) (sym count) before.few;
-          } in
-          subst (AreSumsOf v bases (held.has new) d)
-          (sym (get_or-set_other olds c d (plus (sum_at olds c) x) (each_number (λ n. 0)) other)) same)
+          rw (get_or-set_other olds c d (plus (sum_at olds c) x) (each_number (λ n. 0)) other)
+          (record { sums = before.sums ∙ sym (others d other); few = rw count before.few }))
     ]
 
 -- the result of a piece, whose sums are those of its trials
@@ -253,7 +192,7 @@ taken_kept v base old new olds news p adding =
     (taken_sums v base (held.has old) (held.has new) p c known.facts known.part adding.kept.based)
     (λ d other. same_sums v base (held.has old) (held.has new) d
     (λ t a b. more_elsewhere (held.has old) (held.has new) v p c d t known.facts known.more other a b))
-    (λ t e. known.more.same t ∙ or_left (held.has old t) (is_in p t) (adding.kept.based t e))
+    (λ t e. grind (arith, known.more.same t, adding.kept.based t e))
 
 -- and its contents
 pub taken_contents : (v : Values) (base : List Slip) (old new : held.Held) (olds : List Totals) (p : Piece)
@@ -271,9 +210,4 @@ slip_kept v base old new olds news s adding =
     kept_then v base (base ++ s ∷ []) old new olds news s.piece s.totals adding
     (slip_sums v base s (held.has old) (held.has new) known.more known.apart)
     (λ d other. slip_elsewhere v base s (held.has old) (held.has new) d known.more known.apart other)
-    (λ t e.
-    known.more.same t
-    ∙ elim (or_cases (is_in_base base t) (is_in s.piece t) (sym (in_base_more base s t) ∙ e)) [
-      | inl old-base ↦ or_left (held.has old t) (is_in s.piece t) (adding.kept.based t old-base)
-      | inr own ↦ or_right (held.has old t) (is_in s.piece t) own
-    ])
+    (λ t e. grind (arith, known.more.same t, in_base_more base s t, adding.kept.based t))

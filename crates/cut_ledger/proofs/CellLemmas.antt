@@ -1,32 +1,29 @@
 -- The trials of cells: a piece that is added, the sums over a cell, and a ledger that holds none.
-use Rattle.std.proofs.Common.{◌≡◌, ℕ, ◌+◌, ◌-◌, ◌*◌, ◌/◌, ◌<◌, ◌≤◌, ◌^◌, inl, inr, Bool, true, false, ◌==◌, ◌&&◌, ◌||◌}
-use Rattle.std.proofs.Common.{not, List, [], ◌++◌, length, get_or, replicate, nat_lt, nat_le, sym, ap, ◌∙◌, subst}
+use Rattle.std.proofs.Common.{◌≡◌, ℕ, ◌+◌, ◌-◌, ◌*◌, ◌/◌, ◌<◌, ◌≤◌, ◌^◌, Bool, true, false, ◌&&◌, ◌||◌}
+use Rattle.std.proofs.Common.{not, List, [], ◌++◌, length, get_or, replicate, nat_lt, sym, ap, ◌∙◌}
 use Rattle.std.proofs.Common.{arith, zero-add}
 use Rattle.std.proofs.Math.Nat.{div-mul-le_self, lt-div-mul-add}
-use Rattle.std.proofs.Math.Bool.{or-false}
-use Rattle.std.proofs.lemmas.Bool.{cases_lt, false_from_ne_true, and_parts, eqb-true, ltb-true, leb-true, or_right}
-use Rattle.std.proofs.lemmas.Bool.{and_left}
 use Rattle.std.proofs.lemmas.List.{get_or-replicate, get_or_past, flat_map_more, length-replicate}
 use Rattle.std.proofs.lemmas.List.Sums.{count_by-le-length}
 use Rattle.std.proofs.lemmas.List.FromFn.{length-range_with_len, get_or-map-range_with_len, length-map-range_with_len}
 use Rattle.std.proofs.lemmas.Nat.{div-mul-add, div_below}
+use Rattle.std.proofs.lemmas.Bool.Decides.{nat_tests}
 use Rattle.cut_ledger.proofs.Words.{AreKept, AreOver, IsAtMost, IsPlan, IsTrue, Piece, Slip, Totals, Values}
 use Rattle.cut_ledger.proofs.Words.{cells_of, each_number, flat_map, further_trials, has, held_where, is_in}
-use Rattle.cut_ledger.proofs.Words.{is_in_base, is_piece, range_with_len, sum_by, trial_count, trials_of_cell}
+use Rattle.cut_ledger.proofs.Words.{is_in_base, is_piece, range_with_len}
+use Rattle.cut_ledger.proofs.Words.{slice_index_or, sum_by, trial_count, trials_of_cell}
 use Rattle.cut_lists.proofs.Ranges.{range_with_len_more}
 use Rattle.cut_lists.proofs.Additions.{PassesPart}
 use Rattle.cut_lists.proofs.Counts.{filter-none}
-use Rattle.cut_lists.proofs.Intervals.{within_is, within_above}
+use Rattle.cut_lists.proofs.Intervals.{within_is}
 use Rattle.cut_outcome.specs.Outcome.{outcome}
 use Rattle.range_set.specs.Held as held
-use Rattle.cut_ledger.specs.Kept.{AreSumsOf, span_of, sum_at}
+use Rattle.cut_ledger.specs.Kept.{span_of, sum_at}
 
 -- ---- trials and their cells
 
 pub cell_is : (r c t : ℕ) → c * r ≤ t → t < c * r + r → t / r ≡ c
-cell_is r c t low high =
-    let rest : c * r + (t - c * r) ≡ t = omega arith in
-    ap (λ n. n / r) (sym rest) ∙ div-mul-add c r (t - c * r) (omega arith)
+cell_is r c t low high = grind (arith, div-mul-add c r (t - c * r))
 
 pub record InCell (r t : ℕ) : Type 0 where
   pub low : t / r * r ≤ t
@@ -46,45 +43,30 @@ pub record PieceFacts (v : Values) (p : Piece) (c : ℕ) : Type 0 where
 pub piece_in_cell : (v : Values) (p : Piece) → 0 < v.repeats → IsTrue (is_piece v p)
     → PieceFacts v p (p.first / v.repeats)
 piece_in_cell v p repeats piece =
-    let r : ℕ = v.repeats in
-    let last : ℕ = p.first + p.count - 1 in
-    let parts = and_parts (nat_lt 0 p.count && nat_le (p.first + p.count) (trial_count v)) (p.first / r == last / r)
-    piece in
-    let ends = and_parts (nat_lt 0 p.count) (nat_le (p.first + p.count) (trial_count v)) parts.0 in
-    let some : 0 < p.count = ltb-true 0 p.count ends.0 in
-    let end : p.first + p.count ≤ trial_count v = leb-true (p.first + p.count) (trial_count v) ends.1 in
-    let one : p.first / r ≡ last / r = eqb-true (p.first / r) (last / r) parts.1 in
-    let first-in = in_cell r p.first repeats in
-    let last-in = in_cell r last repeats in
-    let same : p.first / r * r ≡ last / r * r = ap (λ c. c * r) one in
-    record {
-      some = some;
-      end = end;
-      cell = div_below p.first r (length (cells_of v)) repeats (omega arith);
-      starts = first-in.low;
-      ends = (let w = last-in.high in omega arith);
-    }
+    let first-in = in_cell v.repeats p.first repeats in
+    let last-in = in_cell v.repeats (p.first + p.count - 1) repeats in
+    grind (arith, nat_tests, div_below)
 
 pub piece_facts : (v : Values) (p : Piece) → IsPlan v → IsTrue (is_piece v p) → PieceFacts v p (p.first / v.repeats)
 piece_facts v p plan piece = piece_in_cell v p plan.some_repeats piece
 
 pub in_piece : (p : Piece) (t : ℕ) → is_in p t ≡ true → (p.first ≤ t) × (t < p.first + p.count)
-in_piece p t e =
-    let parts = and_parts (nat_le p.first t) (nat_lt t (p.first + p.count)) e in
-    (leb-true p.first t parts.0, ltb-true t (p.first + p.count) parts.1)
+in_piece p t e = grind (arith, nat_tests)
 
 pub piece_cell : (v : Values) (p : Piece) (c t : ℕ) → PieceFacts v p c → p.first ≤ t → t < p.first + p.count
     → t / v.repeats ≡ c
-piece_cell v p c t facts from to =
-    let starts = facts.starts in
-    let ends = facts.ends in
-    cell_is v.repeats c t (omega arith) (omega arith)
+piece_cell v p c t facts from to = grind (arith, cell_is)
 
 -- ---- what is held
 
+-- a trial is held where it is one of the plan's and passes the test
+pub held_at : (v : Values) (test : ℕ → Bool) (t : ℕ) → slice_index_or (held_where v test) t false
+    ≡ nat_lt t (trial_count v) && test t
+held_at v test t = grind (arith, nat_tests, get_or-map-range_with_len, get_or_past, length-map-range_with_len)
+
 pub has_where : (v : Values) (base : List Slip) (test : ℕ → Bool) (t : ℕ) → t < trial_count v
     → has (record { plan = v; base = base; held = held_where v test }) t ≡ test t
-has_where v base test t low = get_or-map-range_with_len test 0 (trial_count v) t t false low (omega arith)
+has_where v base test t low = grind (arith, nat_tests, held_at v test t)
 
 -- ---- a piece added to its cell
 
@@ -96,15 +78,9 @@ pub record IsMore (test new : ℕ → Bool) (p : Piece) : Type 0 where
 pub more_is : (old new : held.Held) (p : Piece) → p.first + p.count ≤ length old.held → new.held
     ≡ held.with_span old (span_of p) → IsMore (held.has old) (held.has new) p
 more_is old new p ends put = record {
-  same = λ t. ap (λ (bs : List Bool). get_or bs t false) put ∙ elim (cases_lt t (length old.held)) [
-    | inl low ↦ get_or-map-range_with_len (λ x. held.has old x || is_in p x) 0 (length old.held) t t false low
-        (omega arith)
-    | inr past ↦
-        (let long = length-map-range_with_len (λ x. held.has old x || is_in p x) 0 (length old.held) in
-        get_or_past (held.with_span old (span_of p)) t false (omega arith)
-        ∙ sym (ap (λ b. b || is_in p t) (get_or_past old.held t false past)
-        ∙ within_above p.first (p.first + p.count) t (omega arith)))
-  ];
+  same = λ t. (let past = get_or_past old.held t false in
+      ap (λ (bs : List Bool). get_or bs t false) put
+      ∙ grind (arith, nat_tests, get_or-map-range_with_len, get_or_past, length-map-range_with_len));
 }
 
 -- what passes among a cell's trials, where none of the piece's passed
@@ -113,47 +89,29 @@ pub more_part : (test new : ℕ → Bool) (v : Values) (p : Piece) (c : ℕ) →
 more_part test new v p c facts more apart = record {
   starts = facts.starts;
   ends = facts.ends;
-  inside = λ t a b. (
-    apart t (within_is p.first (p.first + p.count) t a b),
-    more.same t
-        ∙ or_right (test t) (is_in p t) (within_is p.first (p.first + p.count) t a b),
-  );
-  outside = λ t out. more.same t ∙ ap (λ b. test t || b)
-      (false_from_ne_true (is_in p t) (λ e. (let at = in_piece p t e in out at.0 at.1))) ∙ or-false (test t);
+  inside = λ t a b. (let here = within_is p.first (p.first + p.count) t a b in grind (arith, apart t, more.same t));
+  outside = λ t out. grind (arith, nat_tests, more.same t, out);
 }
 
 -- and outside its cell nothing changes
 pub more_elsewhere : (test new : ℕ → Bool) (v : Values) (p : Piece) (c d t : ℕ) → PieceFacts v p c → IsMore test new p
     → (d ≡ c → ⊥) → d * v.repeats ≤ t → t < d * v.repeats + v.repeats → new t ≡ test t
 more_elsewhere test new v p c d t facts more other low high =
-    more.same t
-    ∙ ap (λ b. test t || b) (false_from_ne_true (is_in p t)
-    (λ e. (let at = in_piece p t e in other (sym (cell_is v.repeats d t low high)
-    ∙ piece_cell v p c t facts at.0 at.1))))
-    ∙ or-false (test t)
+    let same = cell_is v.repeats d t low high in
+    let there = piece_cell v p c t facts in
+    grind (arith, nat_tests, more.same t, other)
 
 -- ---- sums
 
 -- the sums of a cell leave room for those of a piece
-at_most_above : (m n : ℕ) (x : Totals) → m ≤ n → IsAtMost m x → IsAtMost n x
-at_most_above m n x le few = record {
-  receivers = omega (arith, few.receivers);
-  conflicts = omega (arith, few.conflicts);
-  silent = omega (arith, few.silent);
-  extra = omega (arith, few.extra);
-  votes = omega (arith, few.votes);
-  decided = omega (arith, few.decided);
-  right = omega (arith, few.right);
-  settled = omega (arith, few.settled);
-}
-
 pub sums_fit : (v : Values) (base : List Slip) (trials : held.Held) (sums : List Totals) (c : ℕ)
     → AreKept v base trials sums → c < length sums → IsAtMost (2 ^ 43) (sum_at sums c)
 sums_fit v base trials sums c kept in' =
     let few = kept.plan.few_repeats in
     let count = count_by-le-length (held.has trials) (trials_of_cell v c) in
     let long = length-range_with_len (c * v.repeats) v.repeats in
-    at_most_above _ (2 ^ 43) (sum_at sums c) (omega arith) (kept.each c in').few
+    let each = (kept.each c in').few in
+    grind arith
 
 -- ---- nothing is held
 
@@ -164,21 +122,12 @@ none_over v trials sums plan section_len held-is room sums-are = record {
   kept = record {
     plan = plan;
     section_len = section_len;
-    all = ap length held-is ∙ length-replicate {A = Bool} (trial_count v) false;
+    all = grind (arith, held-is, length-replicate);
     cells = room;
     long = many;
     each = λ c in'. record {
       sums = zero_at c in' ∙ sym (ap (λ ts. each_number (λ n. 0 + sum_by (λ t. n (outcome v t)) ts)) (none_of c));
-      few = subst (IsAtMost _) (sym (zero_at c in')) (record {
-        receivers = omega arith;
-        conflicts = omega arith;
-        silent = omega arith;
-        extra = omega arith;
-        votes = omega arith;
-        decided = omega arith;
-        right = omega arith;
-        settled = omega arith;
-      });
+      few = rw (zero_at c in') (grind arith);
     };
     based = λ t e. cc;
   };
@@ -186,24 +135,17 @@ none_over v trials sums plan section_len held-is room sums-are = record {
 }
   where
     many : length sums ≡ length (cells_of v)
-    many = ap length sums-are ∙ length-replicate {A = Totals} (length (cells_of v)) (each_number (λ n. 0))
+    many = grind (arith, sums-are, length-replicate)
 
     zero_at : (c : ℕ) → c < length sums → sum_at sums c ≡ each_number (λ n. 0)
-    zero_at c in' =
-        ap (λ xs. sum_at xs c) sums-are ∙ get_or-replicate {A = Totals} (length (cells_of v)) c (each_number (λ n. 0))
-        (each_number (λ n. 0)) (omega (arith, many))
+    zero_at c in' = grind (arith, sums-are, many, get_or-replicate)
 
     none : (t : ℕ) → held.has trials t ≡ false
-    none t = ap (λ (bs : List Bool). get_or bs t false) held-is ∙ elim (cases_lt t (trial_count v)) [
-      | inl low ↦ get_or-replicate {A = Bool} (trial_count v) t false false low
-      | inr past ↦ get_or_past (replicate {A = Bool} (trial_count v) false) t false
-          (omega (arith, length-replicate {A = Bool} (trial_count v) false))
-    ]
+    none t = grind (arith, held-is, get_or-replicate, get_or_past, length-replicate)
 
     none_of : (c : ℕ) → further_trials v [] (held.has trials) c ≡ []
     none_of c = filter-none (λ t. held.has trials t && not (is_in_base [] t)) (trials_of_cell v c)
-        (λ k d low. and_left (held.has trials (get_or (trials_of_cell v c) k d))
-        (not (is_in_base [] (get_or (trials_of_cell v c) k d))) (none (get_or (trials_of_cell v c) k d)))
+        (λ k d low. grind (arith, none (get_or (trials_of_cell v c) k d)))
 
 -- ---- gaps, cell by cell
 
@@ -223,7 +165,6 @@ kept_alike v base old new sums kept section_len same room = record {
   all = ap length same ∙ kept.all;
   cells = room ∙ kept.cells;
   long = kept.long;
-  each = λ c in'. subst (λ (bs : List Bool). AreSumsOf v base (λ t. get_or bs t false) c (sum_at sums c)) (sym same)
-      (kept.each c in');
-  based = λ t e. ap (λ (bs : List Bool). get_or bs t false) same ∙ kept.based t e;
+  each = λ c in'. rw same (kept.each c in');
+  based = λ t e. rw same (kept.based t e);
 }

@@ -1,5 +1,5 @@
 -- Gaps, and the pieces that they are cut into, cover what is not held, each trial once.
-use Rattle.std.proofs.Common.{◌≡◌, ℕ, zero, suc, ◌+◌, ◌-◌, ◌*◌, ◌<◌, ◌≤◌, Bool, not, min, List, [], ◌∷◌, ◌++◌, map}
+use Rattle.std.proofs.Common.{◌≡◌, ℕ, zero, suc, ◌+◌, ◌-◌, ◌*◌, ◌<◌, ◌≤◌, Bool, not, min, List, [], ◌∷◌, map}
 use Rattle.std.proofs.Common.{filter, length, get_or, sym, ap, ◌∙◌, arith, append-nil, zero-add}
 use Rattle.std.proofs.Math.Nat.{zero-mul}
 use Rattle.std.proofs.lemmas.Grind.{flat_map-append, div_ceil_times}
@@ -24,11 +24,8 @@ by_cells test r a zero = ap (λ k. filter test (range_with_len (a * r) k)) (sym 
 by_cells test r a (suc m) =
     let next : (a + 1) * r ≡ a * r + r = omega arith in
     let count : suc m * r ≡ r + m * r = omega arith in
-    ap (λ xs. filter test (range_with_len (a * r) r) ++ xs) (by_cells test r (a + 1) m)
-    ∙ ap (λ k. filter test (range_with_len (a * r) r) ++ filter test (range_with_len k (m * r))) next
-    ∙ sym (filter-append test (range_with_len (a * r) r) (range_with_len (a * r + r) (m * r)))
-    ∙ ap (filter test) (ranges-join (a * r) r (m * r))
-    ∙ ap (λ k. filter test (range_with_len (a * r) k)) (sym count)
+    rw (by_cells test r (a + 1) m, next, count, ← ranges-join (a * r) r (m * r))
+    (sym (filter-append test (range_with_len (a * r) r) (range_with_len (a * r + r) (m * r))))
 
 pub gaps_cover : SpansCover → (l : Contents) → flat_map trials_in (gaps_of l)
     ≡ filter (λ t. not (has l t)) (all_trials l.plan)
@@ -56,21 +53,22 @@ parts_cover_to size p (suc n) some le =
     let last : ℕ = min size (p.count - n * size) in
     let more : suc n ≡ n + 1 = omega arith in
     let before : min (n * size) p.count ≡ n * size = omega arith in
-    let after : n * size + last ≡ min (suc n * size) p.count = omega arith in
+    let after : min (suc n * size) p.count ≡ n * size + last = omega arith in
     ap (λ k. flat_map trials_in (map part (range_with_len 0 k))) more
-    ∙ ap (flat_map trials_in) (map-range_with_len_more part 0 n n (zero-add n))
-    ∙ flat_map-append trials_in (map part (range_with_len 0 n)) (part n ∷ [])
-    ∙ ap (λ xs. flat_map trials_in (map part (range_with_len 0 n)) ++ xs) (append-nil (trials_in (part n)))
-    ∙ ap (λ xs. xs ++ trials_in (part n)) (parts_cover_to size p n some (omega arith))
-    ∙ ap (λ k. range_with_len p.first k ++ trials_in (part n)) before
-    ∙ ranges-join p.first (n * size) last
-    ∙ ap (range_with_len p.first) after
+    ∙ rw (
+      after,
+      map-range_with_len_more part 0 n n (zero-add n),
+      flat_map-append trials_in (map part (range_with_len 0 n)) (part n ∷ []),
+      append-nil (trials_in (part n)),
+      parts_cover_to size p n some (omega arith),
+      before,
+    ) (ranges-join p.first (n * size) last)
 
 pub parts_cover : (size : ℕ) (p : Piece) → 1 ≤ size → flat_map trials_in (parts_of size p) ≡ trials_in p
 parts_cover size p some =
     let bound = div_ceil_times p.count size (omega arith) in
     let all : min (div_ceil p.count size * size) p.count ≡ p.count = omega (arith, bound.0) in
-    parts_cover_to size p (div_ceil p.count size) some (omega arith) ∙ ap (range_with_len p.first) all
+    rw (parts_cover_to size p (div_ceil p.count size) some (omega arith), all)
 
 pub pieces_cover : SpansCover → (l : Contents) (size : ℕ) → 1 ≤ size → flat_map trials_in (pieces_of l size)
     ≡ filter (λ t. not (has l t)) (all_trials l.plan)

@@ -32,41 +32,36 @@ pub one_gap : (size : ℕ) (gaps : List Piece) (i : ℕ) (d : Piece) → i < len
     → length (flat_map (parts_of size) (take (i + 1) gaps)) ≡ length (flat_map (parts_of size) (take i gaps))
     + div_ceil (get_or gaps i d).count size
 one_gap size gaps i d low =
-    let parts : Piece → List Piece = parts_of size in
     let last : Piece = get_or gaps i d in
-    ap (λ ps. length (flat_map parts ps)) (take_at_read gaps i d low).1
-    ∙ ap length (flat_map-append parts (take i gaps) (last ∷ []))
-    ∙ length-append (flat_map parts (take i gaps)) (flat_map parts (last ∷ []))
-    ∙ ap (λ ps. length (flat_map parts (take i gaps)) + length ps) (append-nil (parts last))
-    ∙ ap (λ n. length (flat_map parts (take i gaps)) + n) (parts_long size last)
+    rw (
+      (take_at_read gaps i d low).1,
+      flat_map-append (parts_of size) (take i gaps) (last ∷ []),
+      append-nil (parts_of size last),
+    )
+    (omega (arith, length-append (flat_map (parts_of size) (take i gaps)) (parts_of size last), parts_long size last))
 
 pub few_before : (size : ℕ) (gaps : List Piece) (i : ℕ) (d : Piece) → i < length gaps
     → length (flat_map (parts_of size) (take i gaps)) + div_ceil (get_or gaps i d).count size
     ≤ length (flat_map (parts_of size) gaps)
-few_before size gaps i d low = omega (
-  arith,
-  length-flat_map-take (parts_of size) gaps i d low,
-  parts_long size
-      (get_or gaps i d),
-)
+few_before size gaps i d low =
+    omega (arith, length-flat_map-take (parts_of size) gaps i d low, parts_long size (get_or gaps i d))
 
 -- what stands before a stretch that is added is as it was
 before_it : (size : ℕ) (ss : List Stretch) (s : Stretch) (n : ℕ) → n ≤ length ss → pieces_up_to size (ss ++ s ∷ []) n
     ≡ pieces_up_to size ss n
 before_it size ss s n low =
-    ap (λ ps. flat_map (parts_of size) (take n ps)) (map-append (λ (t : Stretch). t.gap) ss (s ∷ []))
-    ∙ ap (flat_map (parts_of size)) (take-append-le n (gaps_in ss) (s.gap ∷ [])
-    (omega (arith, length-map ss (λ (t : Stretch). t.gap))))
+    rw (
+      map-append (λ (t : Stretch). t.gap) ss (s ∷ []),
+      take-append-le n (gaps_in ss) (s.gap ∷ []) (omega (arith, length-map ss (λ (t : Stretch). t.gap))),
+    )
 
 pub counted_push : (size : ℕ) (ss : List Stretch) (s : Stretch) → ArePiecesCounted size ss → s.end
     ≡ length (pieces_up_to size (ss ++ s ∷ []) (length ss + 1)) → ArePiecesCounted size (ss ++ s ∷ [])
 counted_push size ss s are end i d low = elim (cases_lt i (length ss)) [
-  | inl before ↦ ap (λ (t : Stretch). t.end) (get_or_append_left ss (s ∷ []) d i before) ∙ are i d before
-      ∙ ap length (sym (before_it size ss s (i + 1) (omega arith)))
-  | inr from ↦
-      let last : i ≡ length ss = omega (arith, length-append ss (s ∷ []), low, from) in
-      ap (λ (t : Stretch). t.end) (get_or_push ss s d i (sym last)) ∙ end
-      ∙ ap (λ n. length (pieces_up_to size (ss ++ s ∷ []) (n + 1))) (sym last)
+  | inl before ↦ rw (get_or_append_left ss (s ∷ []) d i before, before_it size ss s (i + 1) (omega arith))
+      (are i d before)
+  | inr from ↦ let last : i ≡ length ss = omega (arith, length-append ss (s ∷ []), low, from)
+      in rw (get_or_push ss s d i (sym last), last) end
 ]
 
 -- ---- the gap of a number
@@ -88,9 +83,7 @@ module _ (size : ℕ) (ss : List Stretch) (are : ArePiecesCounted size ss) where
 
   rises_by_parts : (i : ℕ) (d : Stretch) → i < length ss → (get_or ss i d).end ≡ length (pieces_up_to size ss i)
       + div_ceil (get_or ss i d).gap.count size
-  rises_by_parts i d low =
-      are i d low ∙ one_gap size (gaps_in ss) i no_piece (omega (arith, gaps_long))
-      ∙ ap (λ (p : Piece). length (pieces_up_to size ss i) + div_ceil p.count size) (gap_at i d low)
+  rises_by_parts i d low = grind (arith, gaps_long, are i d low, gap_at i d low, one_gap size (gaps_in ss) i no_piece)
 
   rises_to : (i j k : ℕ) (d : Stretch) → j ≡ i + k → j < length ss → (get_or ss i d).end ≤ (get_or ss j d).end
   rises_to i j zero d e low = subst (λ (n : ℕ). (get_or ss i d).end ≤ (get_or ss n d).end)
@@ -98,10 +91,8 @@ module _ (size : ℕ) (ss : List Stretch) (are : ArePiecesCounted size ss) where
   rises_to i j (suc k) d e low =
       let m : ℕ = j - 1 in
       let back : m + 1 ≡ j = omega arith in
-      let first : (get_or ss i d).end ≤ (get_or ss m d).end = rises_to i m k d (omega arith) (omega arith) in
-      let upto = are m d (omega arith) in
-      let more = rises_by_parts (m + 1) d (omega arith) in
-      subst (λ (n : ℕ). (get_or ss i d).end ≤ (get_or ss n d).end) back (omega (arith, first, upto, more))
+      let first = rises_to i m k d (omega arith) (omega arith) in
+      rw (← back) (omega (arith, first, are m d (omega arith), rises_by_parts (m + 1) d (omega arith)))
 
   pub ends_rise : IsNonDecreasingBy (λ (s : Stretch). s.end) ss
   ends_rise i j d le low = rises_to i j (j - i) d (omega arith) low
@@ -116,15 +107,13 @@ module _ (size : ℕ) (ss : List Stretch) (are : ArePiecesCounted size ss) where
   passed : (number at : ℕ) → IsSplit ss number at → at ≤ length ss → length (pieces_up_to size ss at) ≤ number
   passed number zero split low = omega arith
   passed number (suc at) split low =
+      let before = split.0 at no_stretch (omega arith) (omega arith) in
       let same : suc at ≡ at + 1 = omega arith in
-      let before : (get_or ss at no_stretch).end ≤ number = split.0 at no_stretch (omega arith) (omega arith) in
-      let upto = are at no_stretch (omega arith) in
-      subst (λ n. length (pieces_up_to size ss n) ≤ number) (sym same) (omega (arith, before, upto))
+      rw same (omega (arith, before, are at no_stretch (omega arith)))
 
   pub none_past : (number at : ℕ) → IsSplit ss number at → at ≡ length ss → slice_get (all_pieces size ss) number ≡ None
   none_past number at split e =
-      let all : length (pieces_up_to size ss (length ss))
-      ≤ number = subst (λ n. length (pieces_up_to size ss n) ≤ number) e (passed number at split (omega arith)) in
+      let all = rw e at (passed number at split (omega arith)) in
       slice_get_past (all_pieces size ss) number (omega (arith, all, ap length all_of_them))
 
   found_at : (number at : ℕ) (d : Stretch) → at < length ss → HasNumber size (get_or ss at d) number
@@ -134,33 +123,35 @@ module _ (size : ℕ) (ss : List Stretch) (are : ArePiecesCounted size ss) where
       let before : ℕ = length (pieces_up_to size ss at) in
       let i : ℕ = number - before in
       let rises = rises_by_parts at d low in
-      let number-in : s.end - div_ceil s.gap.count size ≡ before = omega (arith, rises) in
       let parts = has.parts in
       let from = has.from in
       let below = has.below in
+      let number-in : s.end - div_ceil s.gap.count size ≡ before = omega (arith, rises) in
       let place : before + i ≡ number = omega (arith, rises, from) in
       let few : i < div_ceil s.gap.count size = omega (arith, rises, from, below) in
-      let gap : get_or (gaps_in ss) at no_piece ≡ s.gap = gap_at at d low in
+      let gap = gap_at at d low in
       let total = few_before size (gaps_in ss) at no_piece (omega (arith, gaps_long)) in
-      let count : div_ceil (get_or (gaps_in ss) at no_piece).count size
-      ≡ div_ceil s.gap.count size = ap (λ (p : Piece). div_ceil p.count size) gap in
+      let count = ap (λ (p : Piece). div_ceil p.count size) gap in
       slice_get-get_or (all_pieces size ss) number no_piece (omega (arith, total, count, rises, below))
       ∙ ap (λ n. Some (get_or (all_pieces size ss) n no_piece)) (sym place)
-      ∙ ap Some (get_or-flat_map (parts_of size) (gaps_in ss) at i no_piece no_piece (omega (arith, gaps_long))
-      (omega (arith, few, count, parts_long size (get_or (gaps_in ss) at no_piece))))
-      ∙ ap (λ (p : Piece). Some (get_or (parts_of size p) i no_piece)) gap
-      ∙ ap Some (get_or-map-range_with_len (part_of size s.gap) 0 (div_ceil s.gap.count size) i i no_piece few
-      (omega arith))
-      ∙ ap (λ n. Some (part_of size s.gap (number - n))) (sym number-in)
+      ∙ rw (
+        get_or-flat_map (parts_of size) (gaps_in ss) at i no_piece no_piece (omega (arith, gaps_long))
+            (omega (arith, few, count, parts_long size (get_or (gaps_in ss) at no_piece))),
+        gap,
+        get_or-map-range_with_len (part_of size s.gap) 0 (div_ceil s.gap.count size) i i no_piece few (omega arith),
+        number-in,
+      )
 
   pub found_here : (number at : ℕ) (d : Stretch) → IsSplit ss number at → at < length ss
       → IsFound size ss number (get_or ss at d)
   found_here number at d split low =
       let rises = rises_by_parts at d low in
       let before = passed number at split (omega arith) in
-      let below : number < (get_or ss at d).end = split.1 at d (omega arith) low in
-      let has : HasNumber size (get_or ss at d) number = record
-      { parts = omega (arith, rises); from = omega (arith, rises, before); below = below } in
+      let has : HasNumber size (get_or ss at d) number = record {
+        parts = omega (arith, rises);
+        from = omega (arith, rises, before);
+        below = split.1 at d (omega arith) low;
+      } in
       record { has = has; is = found_at number at d low has }
 
 -- by two readings of the stretches, as the search and the look-up have them
@@ -168,8 +159,4 @@ pub found_by : (size : ℕ) (ss xs ys : List Stretch) (number at : ℕ) (s : Str
     → ys ≡ ss → IsSplit xs number at → at < length ys → ((d : Stretch) → s ≡ get_or ys at d)
     → IsFound size ss number s
 found_by size ss xs ys number at s are first second split low is =
-    let there : at < length ss = subst (λ (zs : List Stretch). at < length zs) second low in
-    let same : get_or ss at no_stretch ≡ s = ap (λ (zs : List Stretch). get_or zs at no_stretch) (sym second)
-    ∙ sym (is no_stretch) in
-    subst (IsFound size ss number) same (found_here size ss are number at no_stretch
-    (subst (λ (zs : List Stretch). IsSplit zs number at) first split) there)
+    rw (is no_stretch, second) (found_here size ss are number at no_stretch (rw first at split) (rw second at low))

@@ -1,8 +1,8 @@
 -- Gaps and their parts are pieces of the plan.
-use Rattle.std.proofs.Common.{◌≡◌, ℕ, ◌+◌, ◌-◌, ◌*◌, ◌/◌, ◌<◌, ◌≤◌, Bool, not, ◌==◌, ◌&&◌, All, map, length, get_or}
-use Rattle.std.proofs.Common.{nat_lt, nat_le, sym, ◌∙◌, arith}
+use Rattle.std.proofs.Common.{ℕ, ◌+◌, ◌-◌, ◌*◌, ◌/◌, ◌<◌, ◌≤◌, Bool, not, All, map, length, get_or}
+use Rattle.std.proofs.Common.{arith}
 use Rattle.std.proofs.Math.Nat.{mul-le-mul_right}
-use Rattle.std.proofs.lemmas.Bool.{and_from, eq-eqb, lt-ltb, le-leb}
+use Rattle.std.proofs.lemmas.Bool.Decides.{nat_tests}
 use Rattle.std.proofs.lemmas.Grind.{div_ceil_times}
 use Rattle.std.proofs.lemmas.List.Elements.{All-map}
 use Rattle.cut_lists.proofs.FlatMaps.{All-flat_map}
@@ -11,7 +11,6 @@ use Rattle.range_set.specs.Laws.{SpansWithin}
 use Rattle.range_set.specs.Spans.{spans}
 use Rattle.cut_ledger.proofs.Words.{Contents, IsPlan, IsTrue, Piece, Values, cells_of, div_ceil}
 use Rattle.cut_ledger.proofs.Words.{gaps_of, has, is_piece, part_of, parts_of, piece_at, pieces_of, range_with_len}
-use Rattle.cut_ledger.proofs.Words.{trial_count}
 use Rattle.cut_ledger.proofs.CellLemmas.{piece_facts, cell_is}
 
 -- ---- pieces
@@ -20,15 +19,10 @@ use Rattle.cut_ledger.proofs.CellLemmas.{piece_facts, cell_is}
 pub piece_within : (v : Values) (p : Piece) (c : ℕ) → 0 < p.count → c < length (cells_of v) → c * v.repeats ≤ p.first
     → p.first + p.count ≤ c * v.repeats + v.repeats → IsTrue (is_piece v p)
 piece_within v p c some cell starts ends =
-    let last : ℕ = p.first + p.count - 1 in
     let row = mul-le-mul_right {m = c + 1} {n = length (cells_of v)} v.repeats (omega arith) in
-    let end : p.first + p.count ≤ trial_count v = omega (arith, row) in
-    let first-in : p.first / v.repeats ≡ c = cell_is v.repeats c p.first starts (omega arith) in
-    let last-in : last / v.repeats ≡ c = cell_is v.repeats c last (omega arith) (omega arith) in
-    and_from (nat_lt 0 p.count && nat_le (p.first + p.count) (trial_count v)) (p.first / v.repeats == last / v.repeats)
-    (and_from (nat_lt 0 p.count) (nat_le (p.first + p.count) (trial_count v)) (lt-ltb 0 p.count some)
-    (le-leb (p.first + p.count) (trial_count v) end))
-    (eq-eqb (p.first / v.repeats) (last / v.repeats) (first-in ∙ sym last-in))
+    let first-in = cell_is v.repeats c p.first starts (omega arith) in
+    let last-in = cell_is v.repeats c (p.first + p.count - 1) (omega arith) (omega arith) in
+    grind (arith, nat_tests)
 
 -- ---- gaps
 
@@ -50,9 +44,8 @@ gaps_are_pieces within l =
 -- a part begins within what it is a part of
 pub part_within : (size i count : ℕ) → 1 ≤ size → i < div_ceil count size → i * size < count
 part_within size i count some low =
-    let bound = div_ceil_times count size (omega arith) in
     let row = mul-le-mul_right {m = i + 1} {n = div_ceil count size} size (omega arith) in
-    omega (arith, bound.1, row)
+    omega (arith, (div_ceil_times count size (omega arith)).1, row)
 
 pub parts_are_pieces : (v : Values) (size : ℕ) (p : Piece) → IsPlan v → 1 ≤ size → IsTrue (is_piece v p)
     → All (λ q. IsTrue (is_piece v q)) (parts_of size p)

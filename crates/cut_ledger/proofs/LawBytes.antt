@@ -1,9 +1,9 @@
 -- What can be written of a table, and what has been: a prefix of it.
 use Rattle.std.proofs.Common.{◌≡◌, ℕ, ◌+◌, ◌*◌, ◌<◌, ◌≤◌, true, List, ◌++◌, length, take, drop, sym, ap, ◌∙◌, arith}
-use Rattle.std.proofs.Common.{append_assoc, length-append, length-take-le, take-append-drop}
+use Rattle.std.proofs.Common.{append_assoc, length-append, length-drop, length-take, take-append-drop}
 use Rattle.std.proofs.Math.Nat.{mul-le-mul_right, add-mul}
-use Rattle.std.proofs.Math.Seq.{take-append_seam}
-use Rattle.std.proofs.lemmas.List.{take-append-le}
+use Rattle.std.proofs.Math.Seq.{take-add}
+use Rattle.std.proofs.lemmas.List.{drop-append-le, take-append-le, take_min}
 use Rattle.std.proofs.lemmas.List.Concat.{flat_map-append}
 use Rattle.cut_lists.proofs.Prefixes.{flat_map_prefix, longer_prefix, whole_prefix}
 use Rattle.cut_lists.proofs.Intervals.{list_all_passing, passes_at}
@@ -19,8 +19,8 @@ use Rattle.cut_ledger.proofs.LawSums.{done_sums}
 
 -- a trial of a cell of the plan is one of the plan
 pub in_plan : (c n r t : ℕ) → c < n → t < c * r + r → t < n * r
-in_plan c n r t low at = let le : (c + 1) * r ≤ n * r = mul-le-mul_right r (omega (arith, low))
-    in omega (arith, le, add-mul c 1 r, at)
+in_plan c n r t low at =
+    let le = mul-le-mul_right {m = c + 1} {n = n} r (omega (arith, low)) in omega (arith, le, add-mul c 1 r, at)
 
 -- the lines of the first cells that are done, as the table has them
 abbrev pub lines_done : Values → Contents → List ℕ
@@ -35,7 +35,7 @@ available_is v l sound =
     (flat_map_prefix (λ c. line_with v c (cell_sum l c)) (λ c. line_of v c) (cell_done l)
     (range_with_len 0 (length (cells_of v)))
     (λ c done. ap (λ (x : Totals). line_with v c x)
-    (done_sums v l c sound.plan sound.some sound.base sound.apart done)))
+    (done_sums v l c sound.plan sound.some sound.base done)))
 
 -- it is a prefix of the table
 pub available_prefix : (v : Values) (l : Contents) → IsFounded v l → (rest : List ℕ) × (table v ≡ available l ++ rest)
@@ -71,13 +71,12 @@ available_grows v k l fewer more grows =
 pub available_whole : (v : Values) (l : Contents) → IsFounded v l → is_complete l ≡ true → available l ≡ table v
 unfolding table
 available_whole v l sound complete =
-    let held : (t : ℕ) → t < trial_count v → has l t ≡ true = λ t low.
-    passes_at (has l) 0 (trial_count v) (ap (λ w. list_all (has l) (all_trials w)) (sym sound.plan) ∙ complete) t
-    (omega arith) (omega (arith, low)) in
+    let every = ap (λ w. list_all (has l) (all_trials w)) (sym sound.plan) ∙ complete in
     let done : (c : ℕ) → 0 ≤ c → c < 0 + length (cells_of v) → cell_done l c ≡ true = λ c low high.
     ap (λ w. list_all (has l) (trials_of_cell w c)) sound.plan
-    ∙ list_all_passing (has l) (c * v.repeats) v.repeats
-    (λ t from to. held t (in_plan c (length (cells_of v)) v.repeats t (omega (arith, high)) to)) in
+    ∙ list_all_passing (has l) (c * v.repeats) v.repeats (λ t from to.
+    (let within = in_plan c (length (cells_of v)) v.repeats t (omega (arith, high)) to in
+    passes_at (has l) 0 (trial_count v) every t (omega arith) (omega (arith, within)))) in
     available_is v l sound
     ∙ ap (λ cs. header (version_of v.failing) ++ flat_map (λ c. line_of v c) cs)
     (whole_prefix (cell_done l) (range_with_len 0 (length (cells_of v)))
@@ -94,22 +93,17 @@ pub written_more : (text prefix rest bytes : List ℕ) (sent n : ℕ) → text �
     → Written text sent bytes prefix
     → Written text (sent + length (take n (drop sent prefix))) (bytes ++ take n (drop sent prefix)) prefix
 written_more text prefix rest bytes sent n whole before =
-    let more : List ℕ = take n (drop sent prefix) in
-    let last : List ℕ = drop n (drop sent prefix) in
-    let first : List ℕ = take sent prefix in
-    let split : prefix ≡ (first ++ more) ++ last = sym (take-append-drop sent prefix)
-    ∙ ap (λ xs. first ++ xs) (sym (take-append-drop n (drop sent prefix))) ∙ sym (append_assoc first more last) in
-    let long : length first ≡ sent = length-take-le sent prefix before.within in
-    let size : length (first ++ more) ≡ sent + length more = length-append first more ∙ ap (λ k. k + length more) long
-    in
-    let text_is : text ≡ (first ++ more) ++ (last ++ rest) = whole ∙ ap (λ xs. xs ++ rest) split
-    ∙ append_assoc (first ++ more) last rest in
-    let start : take sent text ≡ first = ap (λ xs. take sent xs) whole ∙ take-append-le sent prefix rest before.within
-    in
+    let left : List ℕ = drop sent prefix in
+    let few : length (take n left) ≤ length left = omega (arith, length-take n left) in
     record {
-      within = omega (arith, size, length-append (first ++ more) last, ap (λ xs. length xs) split);
-      first = ap (λ xs. xs ++ more) (before.first ∙ start)
-          ∙ sym (ap (λ xs. take (sent + length more) xs) text_is
-          ∙ ap (λ k. take k ((first ++ more) ++ (last ++ rest))) (sym size)
-          ∙ take-append_seam (first ++ more) (last ++ rest));
+      within = omega (arith, before.within, few, length-drop sent prefix);
+      first = rw (
+        take-add sent (length (take n left)) text,
+        before.first,
+        whole,
+        drop-append-le sent prefix rest before.within,
+        take-append-le (length (take n left)) left rest few,
+        length-take n left,
+        take_min n left,
+      );
     }

@@ -49,5 +49,4 @@ pub gaps_within : SpansWithin → (l : Contents) → IsPlan l.plan
     → All (λ (p : Piece). p.first + p.count < 2 ^ 32) (gaps_of l)
 gaps_within within l plan k d low =
     let facts = piece_facts l.plan (get_or (gaps_of l) k d) plan (gaps_are_pieces within l k d low) in
-    let end = facts.end in
-    omega (arith, end, few_trials l.plan plan)
+    omega (arith, facts.end, few_trials l.plan plan)

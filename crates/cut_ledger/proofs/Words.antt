@@ -13,7 +13,7 @@ pub use Rattle.cut_ledger.specs.Reached.{IsDoubtful, IsFounded, IsReached}
 pub use Rattle.cut_ledger.specs.Refusals.{CanTake, refusal_of}
 pub use Rattle.cut_ledger.specs.RunInside.{state_of}
 pub use Rattle.cut_ledger.specs.Slips.{AreGood, AreGoodUpTo, IsFirstBad, IsGood, IsFaultOfSlips}
-pub use Rattle.cut_ledger.specs.World.{HasTrueResult, IsRight, IsTrueSlip, SayAlike, World, accepted_after}
+pub use Rattle.cut_ledger.specs.World.{AreTrue, HasTrueResult, IsRight, IsTrueSlip, SayAlike, World, accepted_after}
 pub use Rattle.cut_ledger.specs.World.{begun, bytes_after, pieces_of_slips, run, step, times_in}
 pub use Rattle.cut_ledger.specs.declared.event.Event.{Event}
 pub use Rattle.cut_ledger.specs.declared.slip.Slip.{Slip}

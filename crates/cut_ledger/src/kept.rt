@@ -1,19 +1,19 @@
-ghost use Rattle.std.specs.Prelude.{◌≡◌, ◌+◌, ◌*◌, ◌/◌, ◌≤◌, ◌↔◌, false, List, [], length, IfOk, OnOk, OnErr, IsOk};
-ghost use Rattle.std.specs.Prelude.{IsTrue};
+ghost use Rattle.std.specs.Prelude.{◌≡◌, ◌+◌, ◌*◌, ◌/◌, ◌<◌, ◌≤◌, ◌↔◌, false, List, [], length, map, IfOk, OnOk, OnErr};
+ghost use Rattle.std.specs.Prelude.{IsOk, IsTrue};
 ghost use Rattle.std.specs.List.{list_any};
-ghost use Rattle.cut_plan.specs.Cells.{trial_count};
+ghost use Rattle.cut_plan.specs.Cells.{cells_of, trial_count};
 ghost use Rattle.cut_outcome.specs.Sum.{is_piece, trials_in, IsAtMost};
 ghost use Rattle.cut_ledger.specs.declared.slip.Slip as slips;
-ghost use Rattle.cut_ledger.specs.Kept.{AreKept, AreOver, IsAdded};
+ghost use Rattle.cut_ledger.specs.Gaps.{piece_at};
+ghost use Rattle.cut_ledger.specs.Kept.{AreKept, AreOver, IsAdded, span_of};
 ghost use Rattle.cut_ledger.specs.Slips.{IsGood};
 ghost use Rattle.range_set.specs.Held.{has, has_room};
 
 use crate::Slip;
 use crate::possible::is_possible;
-use crate::spans::span_of;
 use cut_outcome::{Piece, Totals, is_piece};
 use cut_plan::Plan;
-use range_set::RangeSet;
+use range_set::{RangeSet, Span};
 use std::alloc::{AllocError, Global};
 
 /// Which trials of a plan are held, a section for each cell, and the sums over those of each cell.
@@ -67,4 +67,41 @@ impl Kept {
     {
         is_piece(plan, slip.piece) && !self.overlaps(slip.piece) && is_possible(plan, slip)
     }
+}
+
+/// The numbers of a piece's trials.
+pub(crate) fn span_of(piece: Piece) -> Span
+    ensures { result ≡ span_of piece }
+{
+    Span {
+        first: piece.first,
+        count: piece.count,
+    }
+}
+
+/// The numbers of a cell's trials.
+pub(crate) fn span_of_cell(plan: &Plan, cell: u32) -> Span
+    requires { cell < length (cells_of plan.now) }
+    ensures first { result.first ≡ cell * plan.now.repeats }
+    ensures count { result.count ≡ plan.now.repeats }
+    ensures within { result.first + result.count ≤ trial_count plan.now }
+{
+    Span {
+        first: cell * plan.repeats(),
+        count: plan.repeats(),
+    }
+}
+
+/// The pieces whose trials have these numbers.
+pub(crate) fn pieces_at(alloc: Global, spans: &[Span]) -> Result<Vec<Piece>, AllocError>
+    ensures { IfOk result (λ pieces. pieces.items ≡ map piece_at spans.now) }
+{
+    let mut pieces = Vec::with_capacity(alloc, spans.len())?;
+    for span in spans {
+        pieces.push(Piece {
+            first: span.first,
+            count: span.count,
+        })?;
+    }
+    Ok(pieces)
 }

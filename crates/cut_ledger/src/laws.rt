@@ -64,7 +64,7 @@ pub fn every_run_is_right()
     ensures { (journal : Bool) (v : Values) (size : ℕ) (events : List Event) → IsPlan v
         → AllByRecursion HasTrueResult events → IsRight v (run (begun (start v size journal)) events) }
 {
-    canonical_text_reads_back();
+    same_plans_are_equal();
 }
 
 /// One plan, one table: two runs of a plan that hold every trial, or that are done, give the same table,
@@ -76,5 +76,5 @@ pub fn one_plan_has_one_table()
         → SayAlike (run (begun (start v size journal)) events)
         (run (begun (start v other_size other_journal)) others) }
 {
-    canonical_text_reads_back();
+    same_plans_are_equal();
 }

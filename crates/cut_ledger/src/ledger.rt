@@ -11,8 +11,7 @@ ghost use Rattle.cut_ledger.specs.Kept.{AreOver};
 ghost use Rattle.cut_ledger.specs.Refusals.{CanTake, refusal_of, fault_of_offer};
 ghost use Rattle.cut_ledger.specs.Slips.{AreGood, IsFaultOfSlips};
 
-use crate::kept::Kept;
-use crate::spans::{pieces_at, span_of_cell};
+use crate::kept::{Kept, pieces_at, span_of_cell};
 use crate::{Base, Division, OfferFault, Slip, SlipsFault};
 use cut_outcome::{Piece, PieceResult, Totals};
 use cut_plan::Plan;

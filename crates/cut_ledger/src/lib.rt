@@ -18,7 +18,6 @@ mod possible;
 mod run;
 mod slip;
 mod slips_fault;
-mod spans;
 
 pub use base::Base;
 pub use bytes::Bytes;

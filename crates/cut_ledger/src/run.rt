@@ -1,14 +1,13 @@
-ghost use Rattle.std.specs.Prelude.{◌≡◌, ℕ, ◌<◌, ◌≤◌, ◌||◌, ◌+◌, ◌^◌, false, true, length, IsTrue, IsOk};
+ghost use Rattle.std.specs.Prelude.{◌≡◌, ◌<◌, ◌||◌, ◌+◌, ◌^◌, false, true, length, IsTrue, IsOk};
 ghost use Rattle.std.specs.Prelude.{IsSome, IfNone, IfOk, OnOk, OnErr};
-ghost use Rattle.std.specs.List.{AllByRecursion, list_any};
+ghost use Rattle.std.specs.List.{list_any};
 ghost use Rattle.cut_ledger.specs.declared.event.Event.TheVariants as event;
 ghost use Rattle.cut_outcome.specs.Sum.{is_piece};
-ghost use Rattle.cut_ledger.specs.Contents.{over_base};
+ghost use Rattle.cut_ledger.specs.Reached.{IsOver};
 ghost use Rattle.cut_ledger.specs.Refusals.{CanTake};
 ghost use Rattle.cut_ledger.specs.Machine.{start, opened, available, slips_found, next_bytes, is_finished};
 ghost use Rattle.cut_ledger.specs.Machine.{refused_code, slip_of, reply_to, after, is_all_held, IsSizedEvent};
 ghost use Rattle.cut_ledger.specs.Machine.{TakesNone};
-ghost use Rattle.cut_ledger.specs.World.{IsTrueSlip, times_in, pieces_of_slips};
 
 use crate::available::available;
 use crate::{Bytes, Event, Ledger, Reply, Slip, SlipsFault};
@@ -68,10 +67,7 @@ impl Run {
         size: u32,
     ) -> Result<Run, AllocError>
         requires size { 0 < size }
-        requires some { 0 < ledger.contents.plan.repeats }
-        requires ledger { ledger.contents ≡ over_base ledger.contents.plan kept.items }
-        requires kept { AllByRecursion (IsTrueSlip ledger.contents.plan) kept.items }
-        requires apart { (t : ℕ) → times_in (pieces_of_slips kept.items) t ≤ 1 }
+        requires ledger { IsOver ledger.contents kept.items }
         ensures { IfOk result (λ run. run ≡ opened ledger.contents.plan has_journal kept.items size) }
     {
         let division = ledger.pieces(alloc, size)?;

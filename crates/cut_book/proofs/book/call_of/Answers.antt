@@ -17,17 +17,8 @@ same_plan a b r reported =
     same_from_decides _ r (slice_eq-Decides Decides-eqb (canonical_text a) (canonical_text b) (is_same_plan a b) refl)
     reported
 
--- a slip by its two parts
-abbrev slip_by : Piece → Totals → Slip
-slip_by p t = record { piece = p; totals = t }
-
 pub returns-clause-call : goal.returns-clause-call
 returns-clause-call c =
-    let slip : slip_by c.piece.result c.totals.result ≡ slip_of c.args.offered.now =
-    ap (λ (p : Piece). slip_by p c.totals.result) c.piece.ensures.value
-    ∙ ap (λ (t : Totals). slip_by c.args.offered.now.piece t) c.totals.ensures.value in
-    let own : c.same.result ≡ is_same_plan c.args.plan.now c.args.offered.now.plan =
-    sym (same_plan c.args.plan.now c.plan.result.now c.same.result c.same.ensures.texts)
-    ∙ ap (λ (v : Values). is_same_plan c.args.plan.now v) c.plan.ensures in
-    ap (λ (s : Slip). HandIn s c.same.result c.args.answer) slip
-    ∙ ap (λ (b : Bool). HandIn (slip_of c.args.offered.now) b c.args.answer) own
+    let same = same_plan c.args.plan.now c.plan.result.now c.same.result c.same.ensures.texts in
+    rw (c.piece.ensures.value, c.totals.ensures.value) (ap (λ (b : Bool). HandIn (slip_of c.args.offered.now) b
+    c.args.answer) (rw c.plan.ensures at (sym same)))

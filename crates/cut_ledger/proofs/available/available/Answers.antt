@@ -1,4 +1,4 @@
-use Rattle.std.proofs.Common.{◌≡◌, ◌∙◌, ◌≤◌, ◌+◌, ◌++◌, ◌∷◌, [], ℕ, List, length, take, ap, sym, zero-add, arith}
+use Rattle.std.proofs.Common.{◌≡◌, ◌∙◌, ◌≤◌, ◌+◌, ◌++◌, ◌∷◌, [], ℕ, List, length, take, ap, zero-add, arith}
 use Rattle.std.proofs.Common.{append_assoc, append-nil}
 use Rattle.std.proofs.lemmas.List.Concat.{flat_map-append}
 use Rattle.std.proofs.lemmas.List.FromFn.{length-range_with_len}
@@ -23,19 +23,17 @@ in_prefix l k is = omega (
 pub cell_sum-requires : goal.cell_sum-requires
 cell_sum-requires c = omega (
   arith,
-  in_prefix c.args.ledger.now.contents c.cells_done-cell-end.result
-      c.cells_done-cell-end.ensures,
   c.loop-cell-test.true,
+  in_prefix c.args.ledger.now.contents c.cells_done-cell-end.result c.cells_done-cell-end.ensures,
 )
 
 pub cell_line-requires-clause-number : goal.cell_line-requires-clause-number
-cell_line-requires-clause-number c =
-    omega (
-      arith,
-      in_prefix c.args.ledger.now.contents c.cells_done-cell-end.result c.cells_done-cell-end.ensures,
-      c.loop-cell-test.true,
-      ap (λ (v : Values). length (cells_of v)) c.plan-in-loop-cell.ensures.value,
-    )
+cell_line-requires-clause-number c = omega (
+  arith,
+  c.loop-cell-test.true,
+  in_prefix c.args.ledger.now.contents c.cells_done-cell-end.result c.cells_done-cell-end.ensures,
+  ap (λ (v : Values). length (cells_of v)) c.plan-in-loop-cell.ensures.value,
+)
 
 pub loop-cell-preserved : goal.loop-cell-preserved
 loop-cell-preserved c =
@@ -43,27 +41,21 @@ loop-cell-preserved c =
     let f : ℕ → List ℕ = λ i. line_with l.plan i (cell_sum l i) in
     let n : ℕ = c.loop-cell.cell in
     let more : flat_map f (range_with_len 0 (n + 1)) ≡ flat_map f (range_with_len 0 n) ++ f n =
-    ap (λ xs. flat_map f xs) (range_with_len_more 0 n n (zero-add n)) ∙ flat_map-append f (range_with_len 0 n) (n ∷ [])
-    ∙ ap (λ ys. flat_map f (range_with_len 0 n) ++ ys) (append-nil (f n)) in
-    let line : c.as_slice.result.now ≡ f n =
-    c.as_slice.ensures.value ∙ c.in_ok-line.ensures.line
+    rw (range_with_len_more 0 n n (zero-add n), flat_map-append f (range_with_len 0 n) (n ∷ []), append-nil (f n)) in
+    let line : c.as_slice.result.now ≡ f n = c.as_slice.ensures.value ∙ c.in_ok-line.ensures.line
     ∙ ap (λ (v : Values). line_with v n c.cell_sum.result) c.plan-in-loop-cell.ensures.value
     ∙ ap (λ (x : Totals). line_with l.plan n x) c.cell_sum.ensures.value in
     c.in_ok-extend_from_slice.ensures.items
-    ∙ ap (λ xs. xs ++ c.as_slice.result.now) c.loop-cell.invariant
-    ∙ ap (λ ys. (header (version_of l.plan.failing) ++ flat_map f (range_with_len 0 n)) ++ ys) line
-    ∙ append_assoc (header (version_of l.plan.failing)) (flat_map f (range_with_len 0 n)) (f n)
-    ∙ ap (λ ys. header (version_of l.plan.failing) ++ ys) (sym more)
+    ∙ rw (c.loop-cell.invariant, line, more)
+    (append_assoc (header (version_of l.plan.failing)) (flat_map f (range_with_len 0 n)) (f n))
 
 pub returns : goal.returns
 returns c =
     let l : Contents = c.args.ledger.now.contents in
     let n : ℕ = length (cells_of l.plan) in
-    let f : ℕ → List ℕ = λ i. line_with l.plan i (cell_sum l i) in
     let k : ℕ = c.cells_done-cell-end.result in
     let all : c.loop-cell.cell ≡ k = omega (arith, c.loop-cell-test.false, c.loop-cell.auto.cell-end) in
     let prefix : range_with_len 0 c.loop-cell.cell
     ≡ take (prefix_len (cell_done l) (range_with_len 0 n)) (range_with_len 0 n) =
-    ap (λ i. range_with_len 0 i) all ∙ sym (take_range 0 n k (in_prefix l k c.cells_done-cell-end.ensures))
-    ∙ ap (λ i. take i (range_with_len 0 n)) c.cells_done-cell-end.ensures in
-    c.loop-cell.invariant ∙ ap (λ xs. header (version_of l.plan.failing) ++ flat_map f xs) prefix
+    rw (all, ← take_range 0 n k (in_prefix l k c.cells_done-cell-end.ensures), c.cells_done-cell-end.ensures) in
+    c.loop-cell.invariant ∙ rw prefix

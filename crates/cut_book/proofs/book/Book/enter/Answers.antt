@@ -24,15 +24,12 @@ pub push-requires-clause-legal : goal.push-requires-clause-legal
 push-requires-clause-legal g c =
     let s : StudyState = state_in c.self.inside.ledger.contents c.self.inside.journal c.self.inside.division
     c.self.inside.lost c.self.inside.history c.self.inside.broken in
-    let fit : IsFree s c.args.offered.now = free s c.args.offered.now
-    (ap (λ (p : BookValue _). refusal_in p.state c.args.offered.now) c.self.view_is ∙ c.requires.free) in
-    let called : c.call_of-call.result ≡ hand_in_of s c.args.offered.now Accepted =
-    c.call_of-call.ensures.call ∙ ap (λ (v : Values). HandIn (slip_of c.args.offered.now)
-    (is_same_plan v c.args.offered.now.plan) Accepted)
-    (c.plan-in-Ok.ensures.value ∙ ap (λ (a : Account). a.contents.plan) c.in_ok-reserve-2.ensures.ok) in
-    legal_on c.call_of-call.result c.self.inside.history c.reserve.new.self s _ c.reserve.ensures.opening
+    let fit = free s c.args.offered.now (rw (← c.self.view_is) at c.requires.free) in
+    let called = rw (c.plan-in-Ok.ensures.value, c.in_ok-reserve-2.ensures.ok) at c.call_of-call.ensures.call in
+    legal_on c.call_of-call.result c.self.inside.history c.reserve.new.self s (after s (event_of Accepted
+    c.args.offered.now)) c.reserve.ensures.opening
     c.reserve.ensures.calls c.self.invariant.legal
-    (subst (λ (k : Call). IsStep s k (after s (event_of Accepted c.args.offered.now))) (sym called)
+    (rw called
     (entered_step s c.args.offered.now Accepted (c.call_of-call.ensures.plan, c.call_of-call.ensures.piece)
     (accepted_answer s c.args.offered.now fit)))
 
@@ -40,17 +37,15 @@ pub push-requires-in-Err-clause-legal : goal.push-requires-in-Err-clause-legal
 push-requires-in-Err-clause-legal g c =
     let s : StudyState = state_in c.self.inside.ledger.contents c.self.inside.journal c.self.inside.division
     c.self.inside.lost c.self.inside.history c.self.inside.broken in
-    let fit : IsFree s c.args.offered.now = free s c.args.offered.now
-    (ap (λ (p : BookValue _). refusal_in p.state c.args.offered.now) c.self.view_is ∙ c.requires.free) in
-    let called : c.call_of-call-in-Err.result ≡ hand_in_of s c.args.offered.now DiskFails =
-    c.call_of-call-in-Err.ensures.call ∙ ap (λ (v : Values). HandIn (slip_of c.args.offered.now)
-    (is_same_plan v c.args.offered.now.plan) DiskFails)
-    (c.plan-in-Err.ensures.value ∙ ap (λ (a : Account). a.contents.plan) c.in_ok-reserve-2.ensures.ok) in
+    let fit = free s c.args.offered.now (rw (← c.self.view_is) at c.requires.free) in
+    let called = rw (c.plan-in-Err.ensures.value, c.in_ok-reserve-2.ensures.ok) at c.call_of-call-in-Err.ensures.call
+    in
     let both = failed_journal (slip_of c.args.offered.now) s.ledger.plan c.self.inside.journal c.append.new.journal
     c.in-Err.ensures.journal c.self.invariant.of_plan in
-    legal_on c.call_of-call-in-Err.result c.self.inside.history c.reserve.new.self s _ c.reserve.ensures.opening
+    legal_on c.call_of-call-in-Err.result c.self.inside.history c.reserve.new.self s (after s (event_of DiskFails
+    c.args.offered.now)) c.reserve.ensures.opening
     c.reserve.ensures.calls c.self.invariant.legal
-    (subst (λ (k : Call). IsStep s k (after s (event_of DiskFails c.args.offered.now))) (sym called)
+    (rw called
     (entered_step s c.args.offered.now DiskFails (
       c.call_of-call-in-Err.ensures.plan,
       c.call_of-call-in-Err.ensures.piece,
@@ -61,14 +56,10 @@ pub invariant_of-self-in-Err : goal.invariant_of-self-in-Err
 invariant_of-self-in-Err g c =
     let s : StudyState = state_in c.self.inside.ledger.contents c.self.inside.journal c.self.inside.division
     c.self.inside.lost c.self.inside.history c.self.inside.broken in
-    let fit : IsFree s c.args.offered.now = free s c.args.offered.now
-    (ap (λ (p : BookValue _). refusal_in p.state c.args.offered.now) c.self.view_is ∙ c.requires.free) in
-    let called : c.call_of-call-in-Err.result ≡ hand_in_of s c.args.offered.now DiskFails =
-    c.call_of-call-in-Err.ensures.call ∙ ap (λ (v : Values). HandIn (slip_of c.args.offered.now)
-    (is_same_plan v c.args.offered.now.plan) DiskFails)
-    (c.plan-in-Err.ensures.value ∙ ap (λ (a : Account). a.contents.plan) c.in_ok-reserve-2.ensures.ok) in
-    let is : Noted c.call_of-call-in-Err.result c.self.inside.history c.push-in-Err.new.self =
-    noted c.call_of-call-in-Err.result c.self.inside.history c.reserve.new.self c.push-in-Err.new.self
+    let fit = free s c.args.offered.now (rw (← c.self.view_is) at c.requires.free) in
+    let called = rw (c.plan-in-Err.ensures.value, c.in_ok-reserve-2.ensures.ok) at c.call_of-call-in-Err.ensures.call
+    in
+    let is = noted c.call_of-call-in-Err.result c.self.inside.history c.reserve.new.self c.push-in-Err.new.self
     c.reserve.ensures.opening c.reserve.ensures.calls c.push-in-Err.ensures.opening c.push-in-Err.ensures.calls in
     failed_book g.D.Disk.is_honest g.D.Disk.state g.D.Disk.faults c.self.inside.journal c.append.new.journal
     c.self.inside.ledger.contents _ _ c.self.inside.broken c.args.offered.now c.call_of-call-in-Err.result
@@ -96,14 +87,10 @@ pub invariant_of-self-in-Ok : goal.invariant_of-self-in-Ok
 invariant_of-self-in-Ok g c =
     let s : StudyState = state_in c.self.inside.ledger.contents c.self.inside.journal c.self.inside.division
     c.self.inside.lost c.self.inside.history c.self.inside.broken in
-    let fit : IsFree s c.args.offered.now = free s c.args.offered.now
-    (ap (λ (p : BookValue _). refusal_in p.state c.args.offered.now) c.self.view_is ∙ c.requires.free) in
-    let called : c.call_of-call.result ≡ hand_in_of s c.args.offered.now Accepted =
-    c.call_of-call.ensures.call ∙ ap (λ (v : Values). HandIn (slip_of c.args.offered.now)
-    (is_same_plan v c.args.offered.now.plan) Accepted)
-    (c.plan-in-Ok.ensures.value ∙ ap (λ (a : Account). a.contents.plan) c.in_ok-reserve-2.ensures.ok) in
-    let is : Noted c.call_of-call.result c.self.inside.history c.push.new.self =
-    noted c.call_of-call.result c.self.inside.history c.reserve.new.self c.push.new.self c.reserve.ensures.opening
+    let fit = free s c.args.offered.now (rw (← c.self.view_is) at c.requires.free) in
+    let called = rw (c.plan-in-Ok.ensures.value, c.in_ok-reserve-2.ensures.ok) at c.call_of-call.ensures.call in
+    let is = noted c.call_of-call.result c.self.inside.history c.reserve.new.self c.push.new.self
+    c.reserve.ensures.opening
     c.reserve.ensures.calls c.push.ensures.opening c.push.ensures.calls in
     accepted_book g.D.Disk.is_honest g.D.Disk.state g.D.Disk.faults c.self.inside.journal c.append.new.journal
     c.self.inside.ledger.contents _ _ c.self.inside.broken c.args.offered.now c.call_of-call.result
@@ -116,18 +103,12 @@ pub returns-in-Ok-clause-answer : goal.returns-in-Ok-clause-answer
 returns-in-Ok-clause-answer g c =
     let s : StudyState = state_in c.self.inside.ledger.contents c.self.inside.journal c.self.inside.division
     c.self.inside.lost c.self.inside.history c.self.inside.broken in
-    let fit : IsFree s c.args.offered.now = free s c.args.offered.now
-    (ap (λ (p : BookValue _). refusal_in p.state c.args.offered.now) c.self.view_is ∙ c.requires.free) in
-    let called : c.call_of-call.result ≡ hand_in_of s c.args.offered.now Accepted =
-    c.call_of-call.ensures.call ∙ ap (λ (v : Values). HandIn (slip_of c.args.offered.now)
-    (is_same_plan v c.args.offered.now.plan) Accepted)
-    (c.plan-in-Ok.ensures.value ∙ ap (λ (a : Account). a.contents.plan) c.in_ok-reserve-2.ensures.ok) in
-    let is : Noted c.call_of-call.result c.self.inside.history c.push.new.self =
-    noted c.call_of-call.result c.self.inside.history c.reserve.new.self c.push.new.self c.reserve.ensures.opening
+    let fit = free s c.args.offered.now (rw (← c.self.view_is) at c.requires.free) in
+    let called = rw (c.plan-in-Ok.ensures.value, c.in_ok-reserve-2.ensures.ok) at c.call_of-call.ensures.call in
+    let is = noted c.call_of-call.result c.self.inside.history c.reserve.new.self c.push.new.self
+    c.reserve.ensures.opening
     c.reserve.ensures.calls c.push.ensures.opening c.push.ensures.calls in
-    subst (λ (p : BookValue _). GivesAnswer Accepted c.args.offered.now p
-    (book_value_in c.append.new.journal (state_in c.take.new.self.contents c.append.new.journal c.self.inside.division
-    c.self.inside.lost c.push.new.self c.self.inside.broken) c.push.new.self c.self.inside.failed)) c.self.view_is
+    rw (← c.self.view_is)
     (accepted_hands g.D.Disk.is_honest g.D.Disk.state g.D.Disk.faults c.self.inside.journal c.append.new.journal
     c.self.inside.ledger.contents _ _ c.self.inside.broken c.args.offered.now c.call_of-call.result
     c.self.inside.history c.push.new.self _ _ c.self.invariant is

@@ -7,8 +7,7 @@ use Rattle.cut_book.proofs.book.Book.is_resumable.Goals as goal
 
 pub returns-in-Some : goal.returns-in-Some
 returns-in-Some g c =
-    subst (λ (p : BookValue _). LeavesResumed g.D.Disk.is_honest g.D.Disk.state p.journal p.journal
-    (after p.state (HandInDiskFails c.args.offered.now))) c.self.view_is
+    rw (← c.self.view_is)
     (resumable g.D.Disk.is_honest g.D.Disk.state c.self.inside.journal c.in-Some.journal _ c.args.offered.now
     c.crashes_are_resumptions.ensures.between
     c.crashes_are_resumptions.ensures.within c.in-Some.is c.stays_readable.ensures.sound c.self.invariant.followed)

@@ -7,7 +7,6 @@ use Rattle.cut_book.proofs.book.Book.leaves_resumed.Goals as goal
 
 pub returns-in-Some : goal.returns-in-Some
 returns-in-Some g c =
-    subst (λ (p : BookValue _). IfSome p.journal (λ log. g.D.Disk.is_honest log.disk → (image : List ℕ)
-    → IsImage (g.D.Disk.state log.disk).stable image → IsResumed log.plan p.state image)) c.self.view_is
+    rw (← c.self.view_is)
     (resumed_now g.D.Disk.is_honest g.D.Disk.state c.self.inside.journal c.in-Some.journal _
     c.crashes_are_resumptions.ensures.between c.in-Some.is c.stays_readable.ensures.sound c.self.invariant.followed)

@@ -14,8 +14,7 @@ use Rattle.cut_book.proofs.Losses.{held_within, one_lost}
 use Rattle.cut_book.proofs.book.Book.lose.Goals as goal
 
 noted_reply : (lost : Bool) → lost ≡ false → cond lost (reply.Refused code.BadPiece) reply.Noted ≡ reply.Noted
-noted_reply lost e = ap (λ (b : Bool). (let r : replies.Reply = cond b (reply.Refused code.BadPiece) reply.Noted in r))
-    e
+noted_reply lost e = rw e
 
 pub lose-requires-clause-legal : goal.lose-requires-clause-legal
 lose-requires-clause-legal g c =
@@ -34,19 +33,14 @@ invariant_of-self g c =
     c.set.new.self c.lose.new.self c.self.inside.broken in
     let held : get_or c.self.inside.lost c.args.piece true ≡ false =
     ap (λ (p : BookValue _). get_or p.state.lost c.args.piece true) c.self.view_is ∙ sym c.if-is_lost.ensures.value in
-    let there : c.args.piece < length c.self.inside.lost = held_within c.self.inside.lost c.args.piece held in
+    let there = held_within c.self.inside.lost c.args.piece held in
     let is : Noted (Lose c.args.piece) c.self.inside.history c.lose.new.self = record
     { opening = c.lose.ensures.opening; calls = c.lose.ensures.calls } in
-    let now : t ≡ state_in c.self.inside.ledger.contents c.self.inside.journal c.self.inside.division
-    (set c.self.inside.lost c.args.piece true) c.lose.new.self c.self.inside.broken =
-    ap (λ (lost : List Bool). state_in c.self.inside.ledger.contents c.self.inside.journal c.self.inside.division lost
-    c.lose.new.self c.self.inside.broken) c.set.ensures in
-    let next : t ≡ after s (event.Lose c.args.piece) = now
-    ∙ state_same _ c.self.inside.journal _ _ _ (Lose c.args.piece) c.self.inside.history c.lose.new.self is refl in
+    let next : t ≡ after s (event.Lose c.args.piece) = rw c.set.ensures
+    (state_same _ c.self.inside.journal _ _ _ (Lose c.args.piece) c.self.inside.history c.lose.new.self is refl) in
     let has : t.has_journal ≡ s.has_journal = ap (λ (o : Opening). o.has_journal) c.lose.ensures.opening in
-    let one = one_lost c.self.inside.lost c.args.piece there held in
-    let left : count_by not c.set.new.self + 1 ≡ count_by not c.self.inside.lost = ap
-    (λ (lost : List Bool). count_by not lost + 1) c.set.ensures ∙ one in
+    let left : count_by not c.set.new.self + 1 ≡ count_by not c.self.inside.lost = rw c.set.ensures
+    (one_lost c.self.inside.lost c.args.piece there held) in
     stepped g.D.Disk.is_honest g.D.Disk.state g.D.Disk.faults c.self.inside.journal c.self.inside.journal s t
     (Lose c.args.piece) c.self.inside.history c.lose.new.self _ _ _ c.self.invariant is
     (noted_reply _ held, next) refl refl refl (ap length c.set.ensures

@@ -21,49 +21,36 @@ pub push-requires-clause-legal : goal.push-requires-clause-legal
 push-requires-clause-legal g c =
     let s : StudyState = state_in c.self.inside.ledger.contents c.self.inside.journal c.self.inside.division
     c.self.inside.lost c.self.inside.history c.self.inside.broken in
-    let asked : refusal_in s c.args.offered.now ≡ Some c.args.answer = ap
-    (λ (p : BookValue _). refusal_in p.state c.args.offered.now) c.self.view_is ∙ c.requires in
-    let called : c.call_of-call.result ≡ hand_in_of s c.args.offered.now c.args.answer =
-    c.call_of-call.ensures.call ∙ ap (λ (v : Values). HandIn (slip_of c.args.offered.now)
-    (is_same_plan v c.args.offered.now.plan) c.args.answer) c.plan.ensures.value in
+    let asked = rw (← c.self.view_is) at c.requires in
+    let called = rw c.plan.ensures.value at c.call_of-call.ensures.call in
     legal_on c.call_of-call.result c.self.inside.history c.reserve.new.self s s c.reserve.ensures.opening
     c.reserve.ensures.calls c.self.invariant.legal
-    (subst (λ (k : Call). IsStep s k s) (sym called)
-    (refused_step s c.args.offered.now c.args.answer (c.call_of-call.ensures.plan, c.call_of-call.ensures.piece)
-    (refused s c.args.offered.now c.args.answer asked)))
+    (rw called (refused_step s c.args.offered.now c.args.answer
+    (c.call_of-call.ensures.plan, c.call_of-call.ensures.piece) (refused s c.args.offered.now c.args.answer asked)))
 
 pub invariant_of-self-2 : goal.invariant_of-self-2
 invariant_of-self-2 g c =
     let s : StudyState = state_in c.self.inside.ledger.contents c.self.inside.journal c.self.inside.division
     c.self.inside.lost c.self.inside.history c.self.inside.broken in
-    let asked : refusal_in s c.args.offered.now ≡ Some c.args.answer = ap
-    (λ (p : BookValue _). refusal_in p.state c.args.offered.now) c.self.view_is ∙ c.requires in
-    let called : c.call_of-call.result ≡ hand_in_of s c.args.offered.now c.args.answer =
-    c.call_of-call.ensures.call ∙ ap (λ (v : Values). HandIn (slip_of c.args.offered.now)
-    (is_same_plan v c.args.offered.now.plan) c.args.answer) c.plan.ensures.value in
+    let asked = rw (← c.self.view_is) at c.requires in
+    let called = rw c.plan.ensures.value at c.call_of-call.ensures.call in
     let is = refused s c.args.offered.now c.args.answer asked in
     said g.D.Disk.is_honest g.D.Disk.state g.D.Disk.faults _ _ _ _ _ c.call_of-call.result c.self.inside.history
     c.reserve.new.self c.push.new.self _ _ c.self.invariant
     c.reserve.ensures.opening c.reserve.ensures.calls c.push.ensures.opening c.push.ensures.calls c.reserve.ensures.room
     c.push.ensures.room
-    (subst (λ (k : Call). IsStep s k s) (sym called)
-    (refused_step s c.args.offered.now c.args.answer (c.call_of-call.ensures.plan, c.call_of-call.ensures.piece) is))
+    (rw called (refused_step s c.args.offered.now c.args.answer
+    (c.call_of-call.ensures.plan, c.call_of-call.ensures.piece) is))
     (ap accepted_slip called ∙ is.slips)
 
 pub returns-clause-answer : goal.returns-clause-answer
 returns-clause-answer g c =
     let s : StudyState = state_in c.self.inside.ledger.contents c.self.inside.journal c.self.inside.division
     c.self.inside.lost c.self.inside.history c.self.inside.broken in
-    let asked : refusal_in s c.args.offered.now ≡ Some c.args.answer = ap
-    (λ (p : BookValue _). refusal_in p.state c.args.offered.now) c.self.view_is ∙ c.requires in
-    let called : c.call_of-call.result ≡ hand_in_of s c.args.offered.now c.args.answer =
-    c.call_of-call.ensures.call ∙ ap (λ (v : Values). HandIn (slip_of c.args.offered.now)
-    (is_same_plan v c.args.offered.now.plan) c.args.answer) c.plan.ensures.value in
-    subst (λ (p : BookValue _). HandsIn (answer_of c.into_result.result p.state) c.args.offered.now p
-    (book_value_in c.self.inside.journal (state_in c.self.inside.ledger.contents c.self.inside.journal
-    c.self.inside.division c.self.inside.lost c.push.new.self c.self.inside.broken) c.push.new.self
-    c.self.inside.failed)) c.self.view_is
-    (refused_hands c.self.inside.journal _ _ _ _ _ c.args.offered.now c.args.answer c.call_of-call.result
+    let asked = rw (← c.self.view_is) at c.requires in
+    let called = rw c.plan.ensures.value at c.call_of-call.ensures.call in
+    rw (← c.self.view_is) (refused_hands c.self.inside.journal _ _ _ _ _ c.args.offered.now c.args.answer
+    c.call_of-call.result
     c.self.inside.history c.push.new.self
     (noted c.call_of-call.result c.self.inside.history c.reserve.new.self c.push.new.self c.reserve.ensures.opening
     c.reserve.ensures.calls c.push.ensures.opening c.push.ensures.calls)
@@ -73,34 +60,23 @@ pub returns-clause-broken : goal.returns-clause-broken
 returns-clause-broken g c = λ reported.
     (let s : StudyState = state_in c.self.inside.ledger.contents c.self.inside.journal c.self.inside.division
     c.self.inside.lost c.self.inside.history c.self.inside.broken in
-    let asked : refusal_in s c.args.offered.now ≡ Some c.args.answer = ap
-    (λ (p : BookValue _). refusal_in p.state c.args.offered.now) c.self.view_is ∙ c.requires in
+    let asked = rw (← c.self.view_is) at c.requires in
     let is = refused s c.args.offered.now c.args.answer asked in
-    subst (λ (p : BookValue _). IsSome p.journal) c.self.view_is
-    (broken_has c.self.inside.journal (sym c.self.invariant.broken
-    ∙ is.broken (subst (λ (x : Result ⊤ BookFault). IsErrOf x Checkpoint) c.into_result.ensures reported))))
+    rw (← c.self.view_is) (broken_has c.self.inside.journal (sym c.self.invariant.broken
+    ∙ is.broken (rw c.into_result.ensures at reported))))
 
 pub returns-clause-risen : goal.returns-clause-risen
 returns-clause-risen g c = λ reported.
     (let s : StudyState = state_in c.self.inside.ledger.contents c.self.inside.journal c.self.inside.division
     c.self.inside.lost c.self.inside.history c.self.inside.broken in
-    let asked : refusal_in s c.args.offered.now ≡ Some c.args.answer = ap
-    (λ (p : BookValue _). refusal_in p.state c.args.offered.now) c.self.view_is ∙ c.requires in
+    let asked = rw (← c.self.view_is) at c.requires in
     let is = refused s c.args.offered.now c.args.answer asked in
-    c.self.invariant.failures ∙ ap (λ (b : Bool). failed_since b c.self.inside.failed)
-    (is.broken (subst (λ (x : Result ⊤ BookFault). IsErrOf x Checkpoint) c.into_result.ensures reported))
-    ∙ ap (λ (p : BookValue _). one_more p.failed) c.self.view_is)
+    rw (← c.self.view_is) (rw (c.self.invariant.failures, is.broken (rw c.into_result.ensures at reported))))
 
 pub returns-clause-faults : goal.returns-clause-faults
 returns-clause-faults g c =
     let s : StudyState = state_in c.self.inside.ledger.contents c.self.inside.journal c.self.inside.division
     c.self.inside.lost c.self.inside.history c.self.inside.broken in
-    let asked : refusal_in s c.args.offered.now ≡ Some c.args.answer = ap
-    (λ (p : BookValue _). refusal_in p.state c.args.offered.now) c.self.view_is ∙ c.requires in
+    let asked = rw (← c.self.view_is) at c.requires in
     let is = refused s c.args.offered.now c.args.answer asked in
-    subst (λ (p : BookValue _). failures_of g.D.Disk.faults c.self.inside.journal
-    ≡ faults_after (answer_of c.into_result.result p.state) (failures_of g.D.Disk.faults p.journal)) c.self.view_is
-    (sym (ap (λ (x : Result ⊤ BookFault). faults_after (answer_of x s)
-    (failures_of g.D.Disk.faults c.self.inside.journal)) c.into_result.ensures
-    ∙ ap (λ (o : Option Answer). faults_after o (failures_of g.D.Disk.faults c.self.inside.journal)) is.reported
-    ∙ is.same_faults _))
+    rw (← c.self.view_is, c.into_result.ensures, is.reported) (sym (is.same_faults _))

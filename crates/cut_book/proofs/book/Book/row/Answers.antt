@@ -8,16 +8,14 @@ use Rattle.cut_book.proofs.book.Book.row.Goals as goal
 
 pub push-requires-clause-legal : goal.push-requires-clause-legal
 push-requires-clause-legal g c =
-    let within : c.args.cell < length (cells_of c.self.inside.ledger.contents.plan) = subst
-    (λ (p : BookValue _). c.args.cell < length (cells_of p.state.ledger.plan)) (sym c.self.view_is) c.requires in
+    let within = rw (← c.self.view_is) at c.requires in
     legal_on (Row c.args.cell true) c.self.inside.history c.reserve.new.self _ _ c.reserve.ensures.opening
     c.reserve.ensures.calls c.self.invariant.legal
     (within, sym c.in-Ok.ensures.done, refl)
 
 pub invariant_of-self-in-Ok : goal.invariant_of-self-in-Ok
 invariant_of-self-in-Ok g c =
-    let within : c.args.cell < length (cells_of c.self.inside.ledger.contents.plan) = subst
-    (λ (p : BookValue _). c.args.cell < length (cells_of p.state.ledger.plan)) (sym c.self.view_is) c.requires in
+    let within = rw (← c.self.view_is) at c.requires in
     said g.D.Disk.is_honest g.D.Disk.state g.D.Disk.faults _ _ _ _ _ (Row c.args.cell true) c.self.inside.history
     c.reserve.new.self c.push.new.self _ _ c.self.invariant
     c.reserve.ensures.opening c.reserve.ensures.calls c.push.ensures.opening c.push.ensures.calls c.reserve.ensures.room
@@ -26,8 +24,7 @@ invariant_of-self-in-Ok g c =
 
 pub push-requires-in-Err-NotDone-clause-legal : goal.push-requires-in-Err-NotDone-clause-legal
 push-requires-in-Err-NotDone-clause-legal g c =
-    let within : c.args.cell < length (cells_of c.self.inside.ledger.contents.plan) = subst
-    (λ (p : BookValue _). c.args.cell < length (cells_of p.state.ledger.plan)) (sym c.self.view_is) c.requires in
+    let within = rw (← c.self.view_is) at c.requires in
     let reported = rw c.in-Err-NotDone.field-0-is at c.in-Err-NotDone.ensures.err in
     legal_on (Row c.args.cell false) c.self.inside.history c.reserve.new.self _ _ c.reserve.ensures.opening
     c.reserve.ensures.calls c.self.invariant.legal
@@ -35,8 +32,7 @@ push-requires-in-Err-NotDone-clause-legal g c =
 
 pub invariant_of-self-in-Err-NotDone : goal.invariant_of-self-in-Err-NotDone
 invariant_of-self-in-Err-NotDone g c =
-    let within : c.args.cell < length (cells_of c.self.inside.ledger.contents.plan) = subst
-    (λ (p : BookValue _). c.args.cell < length (cells_of p.state.ledger.plan)) (sym c.self.view_is) c.requires in
+    let within = rw (← c.self.view_is) at c.requires in
     let reported = rw c.in-Err-NotDone.field-0-is at c.in-Err-NotDone.ensures.err in
     said g.D.Disk.is_honest g.D.Disk.state g.D.Disk.faults _ _ _ _ _ (Row c.args.cell false) c.self.inside.history
     c.reserve.new.self c.push-in-Err-NotDone.new.self _ _ c.self.invariant

@@ -18,18 +18,15 @@ overflow_add-sum c =
     let es : List Entry = c.deref-entry-items.result.now in
     let i : ℕ = c.loop-entry.entry-index in
     let low : i < length (calls_of es) = omega (arith, c.loop-entry-test.true, length-map es (λ (e : Entry). e.call)) in
-    let most : accepted_in (course_of c.self.inside).calls ≤ 4096 * 1000000 =
-    few_accepted c.same_plans_are_equal.ensures (course_of c.self.inside).opening (course_of c.self.inside).calls
-    c.self.invariant.plan c.self.invariant.legal in
+    let most = few_accepted c.same_plans_are_equal.ensures (course_of c.self.inside).opening
+    (course_of c.self.inside).calls c.self.invariant.plan c.self.invariant.legal in
     let others = others_accept 0 c.self.inside.entries.items c.self.inside.losses.items in
-    let all : accepted_in (calls_of es) ≡ accepted_in (calls_of c.self.inside.entries.items) = ap
-    (λ (xs : List Entry). accepted_in (calls_of xs)) c.deref-entry-items.ensures.value in
+    let all = ap (λ (xs : List Entry). accepted_in (calls_of xs)) c.deref-entry-items.ensures.value in
     let next = next_fits (calls_of es) i (Lose 0) low in
     let here : c.accepted_count-sum.result ≡ accepted_in (get_or (calls_of es) i (Lose 0) ∷ []) =
     c.accepted_count-sum.ensures ∙ ap (λ (k : Call). accepted_in (k ∷ []))
     (sym (get_or-map (λ (e : Entry). e.call) es i _ (Lose 0) c.loop-entry-test.true)) in
-    let so-far : c.loop-entry.sum ≡ accepted_in (take i (calls_of es)) = c.loop-entry.invariant in
-    omega (arith, most, others, all, next, here, so-far)
+    omega (arith, most, others, all, next, here, c.loop-entry.invariant)
 
 pub loop-entry-preserved : goal.loop-entry-preserved
 loop-entry-preserved c =
@@ -39,19 +36,18 @@ loop-entry-preserved c =
     let here : c.accepted_count-sum.result ≡ accepted_in (get_or (calls_of es) i (Lose 0) ∷ []) =
     c.accepted_count-sum.ensures ∙ ap (λ (k : Call). accepted_in (k ∷ []))
     (sym (get_or-map (λ (e : Entry). e.call) es i _ (Lose 0) c.loop-entry-test.true)) in
-    let so-far : c.loop-entry.sum ≡ accepted_in (take i (calls_of es)) = c.loop-entry.invariant in
-    let next : c.loop-entry.sum + c.accepted_count-sum.result
-    ≡ accepted_in (take (i + 1) (calls_of es)) = omega (arith, so-far, here, next_adds (calls_of es) i (Lose 0) low)
-    in
-    next
+    omega (arith, c.loop-entry.invariant, here, next_adds (calls_of es) i (Lose 0) low)
 
 pub returns : goal.returns
 returns c =
     let es : List Entry = c.deref-entry-items.result.now in
     let i : ℕ = c.loop-entry.entry-index in
-    let so-far : c.loop-entry.sum ≡ accepted_in (take i (calls_of es)) = c.loop-entry.invariant in
-    so-far ∙ ap accepted_in (take_all i (calls_of es)
-    (omega (arith, c.loop-entry-test.false, length-map es (λ (e : Entry). e.call))))
-    ∙ ap (λ (xs : List Entry). accepted_in (calls_of xs)) c.deref-entry-items.ensures.value
-    ∙ sym (others_accept 0 c.self.inside.entries.items c.self.inside.losses.items)
-    ∙ ap (λ (h : HistoryValue). accepted_in h.calls) c.self.view_is
+    rw (← c.self.view_is) (c.loop-entry.invariant ∙ rw (
+      take_all i (calls_of es) (omega (
+        arith,
+        c.loop-entry-test.false,
+        length-map es (λ (e : Entry). e.call),
+      )),
+      c.deref-entry-items.ensures.value,
+    )
+    (sym (others_accept 0 c.self.inside.entries.items c.self.inside.losses.items)))

@@ -21,12 +21,8 @@ slice_bounds-push_losses-end c =
 
 pub loop-entry-init : goal.loop-entry-init
 loop-entry-init c = record {
-  all = ap (λ (cs : List Call). cs ++ calls_from 0 c.deref-entry-items.result.now c.as_slice-losses.result.now)
-      c.new-calls.ensures.items;
-  order = subst (λ (es : List Entry). AreInOrder 0 es (length c.as_slice-losses.result.now))
-      (sym c.deref-entry-items.ensures.value)
-      (subst (λ (ls : List ℕ). AreInOrder 0 c.self.inside.entries.items (length ls))
-      (sym c.as_slice-losses.ensures.value) c.self.invariant.order);
+  all = rw c.new-calls.ensures.items;
+  order = rw (c.deref-entry-items.ensures.value, c.as_slice-losses.ensures.value) c.self.invariant.order;
 }
 
 pub loop-entry-preserved : goal.loop-entry-preserved
@@ -46,13 +42,7 @@ returns-clause-calls c =
     let es : List Entry = c.deref-entry-items.result.now in
     let ls : List ℕ = c.as_slice-losses.result.now in
     let listed : ℕ = c.loop-entry.listed in
-    let olds : List Call = c.loop-entry.calls.items in
-    let left : drop c.loop-entry.entry-index es ≡ [] = drop_all c.loop-entry.entry-index es c.loop-entry-test.false in
-    c.in_ok-push_losses-2.ensures
-    ∙ ap (λ (xs : List ℕ). olds ++ map lost_call xs)
-    (take_all (length ls - listed) (drop listed ls) (omega (arith, length-drop listed ls)))
-    ∙ ap (λ (xs : List Entry). olds ++ calls_from listed xs ls) (sym left)
-    ∙ c.loop-entry.invariant.all
-    ∙ ap (λ (xs : List Entry). calls_from 0 xs ls) c.deref-entry-items.ensures.value
-    ∙ ap (λ (xs : List ℕ). calls_from 0 c.self.inside.entries.items xs) c.as_slice-losses.ensures.value
-    ∙ ap (λ (h : HistoryValue). h.calls) c.self.view_is
+    let all = rw (drop_all c.loop-entry.entry-index es c.loop-entry-test.false) at c.loop-entry.invariant.all in
+    rw (← c.self.view_is) (c.in_ok-push_losses-2.ensures
+    ∙ rw (take_all (length ls - listed) (drop listed ls) (omega (arith, length-drop listed ls)))
+    (all ∙ rw (c.deref-entry-items.ensures.value, c.as_slice-losses.ensures.value)))

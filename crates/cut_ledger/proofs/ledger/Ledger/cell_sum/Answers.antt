@@ -23,7 +23,11 @@ returns-clause-few c =
     let within : c.args.cell < length l.kept.sums.items = omega (arith, c.self.invariant.long) in
     let own = get_or_read l.kept.sums.items c.args.cell c.index.result.now within c.index.ensures (each_number (λ n. 0))
     in
-    let few = (c.self.invariant.each c.args.cell within).few.conflicts in
-    let count = count_by-le-length (has l.kept.trials) (trials_of_cell l.plan c.args.cell) in
-    let long = length-range_with_len (c.args.cell * l.plan.repeats) l.plan.repeats in
-    omega (arith, few, count, long, c.self.invariant.plan.few_repeats, ap (λ (x : Totals). x.conflicts) own)
+    omega (
+      arith,
+      (c.self.invariant.each c.args.cell within).few.conflicts,
+      ap (λ (x : Totals). x.conflicts) own,
+      count_by-le-length (has l.kept.trials) (trials_of_cell l.plan c.args.cell),
+      length-range_with_len (c.args.cell * l.plan.repeats) l.plan.repeats,
+      c.self.invariant.plan.few_repeats,
+    )

@@ -3,7 +3,6 @@ use Rattle.std.proofs.Common.{◌≡◌, ◌∙◌, ℕ, ◌*◌, ◌∷◌, [],
 use Rattle.std.proofs.lemmas.List.{map-append}
 use Rattle.std.proofs.lemmas.Result.{IfOk-weaker}
 use Rattle.range_set.specs.declared.span.Span.{Span}
-use Rattle.range_set.specs.Held as held
 use Rattle.range_set.specs.Spans as all
 use Rattle.cut_ledger.proofs.Words.{All, Contents, IsTrue, Piece, cells_of, flat_map, gaps_of, has, is_piece, piece_at}
 use Rattle.cut_ledger.proofs.Words.{range_with_len}
@@ -17,17 +16,11 @@ spans_in l c = all.spans (λ t. not (has l t)) (c * l.plan.repeats) l.plan.repea
 pub loop-cell-preserved : goal.loop-cell-preserved
 loop-cell-preserved c =
     let i : ℕ = c.loop-cell.cell in
-    let l : Contents = c.args.self.now.contents in
     let added : List Span → List Span = λ xs. c.loop-cell.gaps.items ++ xs in
-    let repeats = ap (λ a. a.contents.plan.repeats) c.self.view_is in
     c.in_ok-gaps_into.ensures
-    ∙ ap (λ (n : ℕ). added (all.spans (λ t. not (held.has c.self.inside.kept.trials t)) n
-    c.span_of_cell-span.result.count)) c.span_of_cell-span.ensures.first
-    ∙ ap (λ (n : ℕ). added (all.spans (λ t. not (held.has c.self.inside.kept.trials t)) (i * c.self.inside.plan.repeats)
-    n)) c.span_of_cell-span.ensures.count
-    ∙ ap (λ a. added (spans_in a.contents i)) c.self.view_is
-    ∙ ap (λ xs. xs ++ spans_in l i) c.loop-cell.invariant
-    ∙ one_cell_more (spans_in l) i
+    ∙ rw (c.span_of_cell-span.ensures.first, c.span_of_cell-span.ensures.count)
+    (ap (λ a. added (spans_in a.contents i)) c.self.view_is
+    ∙ rw c.loop-cell.invariant (one_cell_more (spans_in c.args.self.now.contents) i))
 
 pieces_are : (f : ℕ → List Span) (cs : List ℕ) → map piece_at (flat_map f cs) ≡ flat_map (λ c. map piece_at (f c)) cs
 pieces_are f [] = refl

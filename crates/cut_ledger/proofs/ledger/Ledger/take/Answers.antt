@@ -1,5 +1,5 @@
 -- The piece is put in, with the sums of its trials.
-use Rattle.std.proofs.Common.{◌≡◌, ◌∙◌, ◌*◌, ◌/◌, false, Result, Ok, Err, List, ap, sym, subst}
+use Rattle.std.proofs.Common.{◌≡◌, ◌*◌, ◌/◌, false, Result, Ok, Err, List, sym, subst}
 use Rattle.range_set.specs.Held.{Held, has}
 use Rattle.cut_ledger.specs.declared.kept.Kept.{Kept}
 use Rattle.cut_ledger.proofs.Words.{AreKept, IsAdded, IsAtMost, IsTrue, OnErr, OnOk, Piece, Slip, Totals, Values}
@@ -13,14 +13,12 @@ taken : (v w : Values) (base : List Slip) (old new : Held) (olds news : List Tot
     → list_any (has old) (trials_in p) ≡ false → IsAtMost (2048 * p.count) x
     → IsAdded old new olds news (q.first / v.repeats) q x → AreKept v base new news
 taken v w base old new olds news p q x kept same-piece same-plan sums piece apart few added =
-    let total : x ≡ sum_of v (trials_in p) = sums ∙ ap (λ (y : Values). sum_of y (trials_in p)) same-plan in
     taken_kept v base old new olds news p (record {
       kept = kept;
-      piece = subst (λ (y : Values). IsTrue (is_piece y p)) same-plan piece;
+      piece = rw same-plan at piece;
       apart = apart;
-      few = subst (IsAtMost (2048 * p.count)) total few;
-      added = subst (IsAdded old new olds news (p.first / v.repeats) p) total
-          (subst (λ (y : Piece). IsAdded old new olds news (y.first / v.repeats) y x) same-piece added);
+      few = rw (sums, same-plan) at few;
+      added = rw (sums, same-plan, same-piece) at added;
     })
 
 either : {E P Q : Type 0} (r : Result (Unit {0}) E) (S : Type 0) → OnOk r P → OnErr r Q → (P → S) → (Q → S) → S

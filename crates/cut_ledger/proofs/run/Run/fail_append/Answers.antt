@@ -1,17 +1,13 @@
-use Rattle.std.proofs.Common.{◌≡◌, ◌∙◌, Some, false, sym, ap, refl, subst}
-use Rattle.cut_ledger.proofs.Words.{CanTake, Computed, Slip, StudyState, Values, failed, state_of}
-use Rattle.cut_ledger.proofs.Events.{Accepts, can_take, failed_reached, sent_reached}
+use Rattle.std.proofs.Common.{Some, ap, refl}
+use Rattle.cut_ledger.proofs.Words.{Slip, StudyState, Values, failed, state_of}
+use Rattle.cut_ledger.proofs.Events.{can_take, failed_reached, sent_reached}
 use Rattle.cut_ledger.proofs.run.Run.fail_append.Goals as goal
 
 pub invariant_of-self : goal.invariant_of-self
 invariant_of-self c =
     let v : Values = c.self.inside.ledger.contents.plan in
     let s : StudyState = state_of c.self.inside in
-    let r : Computed = c.args.offered.now in
-    let unbroken : s.broken ≡ false = ap (λ (x : StudyState). x.broken) c.self.view_is ∙ c.in_default.ensures.unbroken
-    in
-    let free : CanTake s.ledger r = subst (λ (x : StudyState). CanTake x.ledger r) (sym c.self.view_is)
-    c.in_default.ensures.none in
-    let accepted : Accepts v s r = can_take v s r c.self.invariant unbroken free c.slip_of-slip.ensures.piece in
-    sent_reached v (failed s r) _ (failed_reached v s r c.self.invariant accepted) refl refl
+    sent_reached v (failed s c.args.offered.now) _ (failed_reached v s c.args.offered.now c.self.invariant
+    (can_take v s c.args.offered.now c.self.invariant (rw (← c.self.view_is) at c.in_default.ensures.unbroken)
+    (rw (← c.self.view_is) at c.in_default.ensures.none) c.slip_of-slip.ensures.piece)) refl refl
     (ap (λ (slip : Slip). Some slip) c.slip_of-slip.ensures.slip) refl c.self.invariant.sent

@@ -11,42 +11,32 @@ returns-clause-bytes c =
     let s : StudyState = c.args.self.now in
     let text : List ℕ = c.deref.result.now in
     let sent : ℕ = c.self.inside.sent in
-    let rest : take (length text - sent) (drop sent text) ≡ drop sent text = take_rest text sent in
     let all : text ≡ available s.ledger = c.deref.ensures.value ∙ c.in_ok-text.ensures
     ∙ ap (λ (x : StudyState). available x.ledger) c.self.view_is in
-    let same : sent ≡ s.sent = ap (λ (x : StudyState). x.sent) c.self.view_is in
+    let swap : min (length (drop sent text)) c.args.limit ≡ min c.args.limit (length (drop sent text)) = omega arith in
     let part : take c.min-count.result (take (length text - sent) (drop sent text)) ≡ next_bytes s c.args.limit =
-    ap (λ xs. take c.min-count.result xs) rest
-    ∙ ap (λ n. take n (drop sent text)) (c.min-count.ensures ∙ ap (λ xs. min (length xs) c.args.limit) rest
-    ∙ (let swap : min (length (drop sent text)) c.args.limit
-    ≡ min c.args.limit (length (drop sent text)) = omega arith in swap))
-    ∙ take_min c.args.limit (drop sent text) ∙ ap (λ n. take c.args.limit (drop n text)) same
+    rw (c.min-count.ensures, take_rest text sent, swap, take_min c.args.limit (drop sent text))
+    (ap (λ n. take c.args.limit (drop n text)) (ap (λ (x : StudyState). x.sent) c.self.view_is)
     ∙ ap (λ xs. take c.args.limit (drop s.sent xs)) all
-    ∙ sym (cond-false s.wire_lost [] (take c.args.limit (drop s.sent (available s.ledger))) c.requires) in
+    ∙ sym (cond-false s.wire_lost [] (take c.args.limit (drop s.sent (available s.ledger))) c.requires)) in
     IfOk-weaker c.from_slice.result _ _ (λ v is. is ∙ part) c.from_slice.ensures.items
 
 pub returns-clause-small : goal.returns-clause-small
 returns-clause-small c =
-    let s : StudyState = c.args.self.now in
     let text : List ℕ = c.deref.result.now in
     let sent : ℕ = c.self.inside.sent in
-    let count : ℕ = c.min-count.result in
-    let rest : List ℕ = take (length text - sent) (drop sent text) in
-    let same : sent ≡ s.sent = ap (λ (x : StudyState). x.sent) c.self.view_is in
-    let held : length text ≡ length (available c.self.inside.ledger.contents) = ap (λ xs. length xs)
-    (c.deref.ensures.value ∙ c.in_ok-text.ensures) in
-    IfOk-weaker c.from_slice.result _ _
-    (λ v is. omega (
+    let same = ap (λ (x : StudyState). x.sent) c.self.view_is in
+    let held = ap (λ xs. length xs) (c.deref.ensures.value ∙ c.in_ok-text.ensures) in
+    IfOk-weaker c.from_slice.result _ _ (λ v is. omega (
       arith,
       same,
       held,
       c.self.invariant.sent,
       ap (λ xs. length xs) is,
-      length-take count rest,
+      length-take c.min-count.result (take (length text - sent) (drop sent text)),
       length-take (length text - sent) (drop sent text),
       length-drop sent text,
       c.deref.ensures.len,
       c.in_ok-text.text.ok,
       c.in_ok-text.text.small,
-    ))
-    c.from_slice.ensures.items
+    )) c.from_slice.ensures.items

@@ -1,6 +1,6 @@
 use Rattle.std.proofs.Common.{◌≡◌, map, take}
 use Rattle.cut_ledger.specs.Gaps.{piece_at}
-use Rattle.cut_ledger.proofs.spans.pieces_at.Given as goal
+use Rattle.cut_ledger.proofs.kept.pieces_at.Given as goal
 
 -- the pieces of the spans so far
 abbrev pub invariant-loop-span : goal.invariant-loop-span
