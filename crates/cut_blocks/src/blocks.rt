@@ -1,5 +1,5 @@
 ghost use Rattle.std.specs.Prelude.{◌≡◌, ℕ, ◌+◌, ◌*◌, ◌/◌, ◌%◌, ◌^◌, ◌<◌, ◌≤◌, List, [], map, slice_index, All, OnOk};
-ghost use Rattle.std.specs.Prelude.{OnErr};
+ghost use Rattle.std.specs.Prelude.{OnErr, length};
 ghost use Rattle.cut_draws.specs.Source.{source_of, word_of};
 ghost use Rattle.cut_blocks.specs.States.{AreFirstStates};
 ghost use Rattle.cut_blocks.specs.Images.{eight, image_at, place_in, least_image};
@@ -13,6 +13,16 @@ use std::simd::u32x4;
 
 /// How many blocks one copy's keys are after those of the copy before.
 const COPY: u32 = 1 << 24;
+
+/// The rows of four receivers: where the keys of the first copy begin in each, and how many copies there are.
+#[derive(Clone, Copy)]
+struct Rows {
+    first: u32x4,
+    copies: u32,
+    ghost few: { copies ≤ 4 },
+    ghost four: { length first ≡ 4 },
+    ghost within: { All (λ row. row < 2 ^ 27) first },
+}
 
 /// The blocks of one trial's keys. Contracts see the key and the stream of the cipher, as those of
 /// [`Draws`](cut_draws::Draws) do.
@@ -72,24 +82,26 @@ impl Blocks {
         images.clear();
         images.reserve(blocks.len())?;
         let states = self.first_states();
+        let all = Rows {
+            first: rows,
+            copies,
+        };
         for block in blocks {
-            images.push_reserved(self.least(states, copies, rows, *block));
+            images.push_reserved(self.least(states, all, *block));
         }
         Ok(())
     }
 
     /// The least images of one block.
     #[inline(always)]
-    fn least(&self, states: States, copies: u32, rows: u32x4, block: u32) -> Eight
+    fn least(&self, states: States, rows: Rows, block: u32) -> Eight
         requires states { AreFirstStates self.now states }
-        requires copies { copies ≤ 4 }
-        requires rows { All (λ row. row < 2 ^ 27) rows }
         requires block { block < 2 ^ 13 }
-        ensures { result ≡ eight (least_image self.now copies block) rows }
+        ensures { result ≡ eight (least_image self.now rows.copies block) rows.first }
     {
         let mut least = [u32x4::splat(NEVER); 8];
-        for copy in 0..copies {
-            let images = self.images(states, moved(rows, block + copy * COPY));
+        for copy in 0..rows.copies {
+            let images = self.images(states, moved(rows.first, block + copy * COPY));
             let both = lesser_of(least, images);
             least = both;
         }

@@ -1,8 +1,9 @@
 -- What implicit alerts add where a process enters the reported ones.
-use Rattle.std.specs.Prelude.{◌≡◌, ℕ, ◌<◌, ◌==◌, ◌||◌, ◌&&◌, Bool, List}
+use Rattle.std.specs.Prelude.{◌≡◌, ℕ, ◌<◌, ◌==◌, ◌||◌, ◌&&◌, Bool, List, vec_len}
 use Rattle.cut_rings.specs.Layout.{Layout, observer_of}
 use Rattle.cut_rings.specs.Edges.{EdgeSet}
 use Rattle.cut_detector.specs.declared.gains.Gains.{Gains}
+use Rattle.cut_detector.specs.declared.tally.Tally.{Tally}
 use Rattle.cut_detector.specs.Rule.{Rule, rule_in}
 use Rattle.cut_detector.specs.Counts.{is_gained, is_full}
 use Rattle.cut_detector.specs.Masks.{edges_in}
@@ -17,6 +18,11 @@ reported_in g = edges_in g.reported.now.masks.items
 -- whether process p or its observer on a ring is s
 abbrev pub is_near : Layout → ℕ → ℕ → ℕ → Bool
 is_near r s ring p = (p == s) || (observer_of r ring p == s)
+
+-- a tally by the rule of these gains, of the processes of their rings
+pub record IsTallyFor (g : Gains) (t : Tally) : Type 0 where
+  pub rule : t.rule ≡ g.rule
+  pub long : vec_len t.full.masks ≡ g.rings.now.nodes
 
 -- to the rings that count are added those which s gains, and those which its subjects gain from it
 pub record AddsGains (g : Gains) (s : ℕ) (old new : List ℕ) : Type 0 where

@@ -22,7 +22,7 @@ pub struct Gains<'a> {
 impl<'a> Gains<'a> {
     ghost use Rattle.cut_detector.specs.Counts.{is_reported};
     ghost use Rattle.cut_detector.specs.Masks.{edges_in, with_edge};
-    ghost use Rattle.cut_detector.specs.Gains.{rule_of_gains, reported_in, AddsGains};
+    ghost use Rattle.cut_detector.specs.Gains.{rule_of_gains, reported_in, IsTallyFor, AddsGains};
 
     /// Whether a process is reported on at least L rings.
     #[tactic(auto, unfolding(crate::specs::Counts::is_reported))]
@@ -35,11 +35,9 @@ impl<'a> Gains<'a> {
 
     /// Lets an edge's ring count for its subject, where a process is reported.
     fn gain(&self, tally: &mut Tally, edge: Edge, process: u16)
-        requires ring { edge.ring < self.now.rule.k }
-        requires subject { edge.subject < self.now.rings.now.nodes }
+        requires edge { (edge.ring < self.now.rule.k) × (edge.subject < self.now.rings.now.nodes) }
         requires process { process < self.now.rings.now.nodes }
-        requires rule { tally.old.rule ≡ self.now.rule }
-        requires long { vec_len tally.old.full.masks ≡ self.now.rings.now.nodes }
+        requires tally { IsTallyFor self.now tally.old }
         ensures rule { tally.new.rule ≡ tally.old.rule }
         ensures full { tally.new.full.masks.items ≡
             cond (is_reported (rule_of_gains self.now) (reported_in self.now) process)
@@ -54,8 +52,7 @@ impl<'a> Gains<'a> {
     pub fn enter(&self, tally: &mut Tally, process: u16)
         requires process { process < self.now.rings.now.nodes }
         requires reported { IsTrue (is_reported (rule_of_gains self.now) (reported_in self.now) process) }
-        requires rule { tally.old.rule ≡ self.now.rule }
-        requires long { vec_len tally.old.full.masks ≡ self.now.rings.now.nodes }
+        requires tally { IsTallyFor self.now tally.old }
         ensures rule { tally.new.rule ≡ tally.old.rule }
         ensures long { vec_len tally.new.full.masks ≡ vec_len tally.old.full.masks }
         ensures full { AddsGains self.now process tally.old.full.masks.items tally.new.full.masks.items }

@@ -312,8 +312,7 @@ fn deal<M: CallLedger>(
 ) -> Result<Vec<Pass<M>>, AllocError>
     requires own { All (λ s. board_of s ≡ board_id board.now) seats.items }
     requires idle { All (λ s. view_of s ≡ idle 1) seats.items }
-    requires parts { rest.parts ≡ length seats.items }
-    requires none { rest.amount ≡ 0 }
+    requires rest { (rest.parts ≡ length seats.items) × (rest.amount ≡ 0) }
     ensures many { IfOk result (λ passes. length passes.items ≡ length seats.items) }
     ensures own { IfOk result (λ passes. All (λ p. p.hall ≡ board_id board.now) passes.items) }
     ensures idle { IfOk result (λ passes. All (λ p. (p.view ≡ idle 1) × (p.made ≡ 0)) passes.items) }

@@ -16,7 +16,7 @@ use crate::JournalFault;
 use crate::format::{FileHeader, Gate};
 use crate::kept_study::find;
 use crate::new_study::make;
-use crate::slip_append::keep;
+use crate::slip_append::{NextSlip, keep};
 use crate::slips::Slips;
 use cut_disks::Disk;
 use cut_ledger::Slip;
@@ -206,7 +206,12 @@ impl<D: Disk> Journal<D> {
         if self.doubtful.is_some() {
             return Err(JournalFault::Broken);
         }
-        match keep(&mut self.disk, &self.study, self.gate, slip) {
+        let next = NextSlip {
+            study: &self.study,
+            gate: self.gate,
+            slip,
+        };
+        match keep(&mut self.disk, next) {
             Ok(()) => {
                 self.gate = Gate {
                     number: self.gate.number + 1,

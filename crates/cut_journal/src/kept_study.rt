@@ -13,7 +13,7 @@ use crate::JournalFault;
 use crate::first_look::look_first;
 use crate::format::{FileHeader, digest_of};
 use crate::layout::is_magic;
-use crate::slips::{Slips, read_slips};
+use crate::slips::{BegunFile, Slips, read_slips};
 use cut_disks::{Disk, DiskFault};
 use std::alloc::Global;
 
@@ -51,7 +51,13 @@ pub(crate) fn find<D: Disk>(
         Err(fault) => return Err(fault),
     }
     match check_prefix(alloc, disk, study, shown.length) {
-        Ok(()) => read_slips(alloc, disk, study, shown.length),
+        Ok(()) => {
+            let file = BegunFile {
+                study,
+                size: shown.length,
+            };
+            read_slips(alloc, disk, file)
+        }
         Err(fault) => Err(fault),
     }
 }

@@ -47,35 +47,43 @@ pub(crate) fn make<D: Disk>(
     if shown.is_study {
         return Err(JournalFault::Held);
     }
-    match write_new(disk, study, rest.as_slice(), shown.length) {
+    let file = NewFile {
+        study,
+        rest: rest.as_slice(),
+    };
+    match write_new(disk, file, shown.length) {
         Ok(()) => Ok(()),
         Err(_) => Err(JournalFault::Disk),
     }
 }
 
+/// The file of a study without slips: what it begins with, and the bytes after its first one.
+#[derive(Clone, Copy)]
+struct NewFile<'a> {
+    study: &'a FileHeader,
+    rest: &'a [u8],
+    ghost whole: { rest.now ≡ rest_of study.now },
+}
+
 /// Writes a study without slips to a disk that holds none, gate by gate.
-fn write_new<D: Disk>(
-    disk: &mut D,
-    study: &FileHeader,
-    rest: &[u8],
-    size: u64,
-) -> Result<(), DiskFault>
-    requires rest { rest.now ≡ rest_of study.now }
+fn write_new<D: Disk>(disk: &mut D, file: NewFile<'_>, size: u64) -> Result<(), DiskFault>
     requires size { D.is_honest disk.old → size ≡ length (D.state disk.old).bytes }
     requires none { D.is_honest disk.old → is_study (D.state disk.old).bytes ≡ false }
     requires durable { D.is_honest disk.old → (D.state disk.old).stable ≡ settled (D.state disk.old).bytes }
     ensures moments { D.is_honest disk.old →
-        Throughout (D.state disk.old) (D.state disk.new) (IsNewStudy study.now) }
+        Throughout (D.state disk.old) (D.state disk.new) (IsNewStudy file.entry.study.now) }
     ensures durable { D.is_honest disk.old →
         OnOk result ((D.state disk.new).stable ≡ settled (D.state disk.new).bytes) }
-    ensures made { D.is_honest disk.old → OnOk result (reading study.now (D.state disk.new).bytes ≡ Ok []) }
-    ensures file { D.is_honest disk.old → OnOk result (StartsWith (D.state disk.new).bytes (file_of study.now [])) }
+    ensures made { D.is_honest disk.old →
+        OnOk result (reading file.entry.study.now (D.state disk.new).bytes ≡ Ok []) }
+    ensures file { D.is_honest disk.old →
+        OnOk result (StartsWith (D.state disk.new).bytes (file_of file.entry.study.now [])) }
     ensures honest { D.is_honest disk.old ↔ D.is_honest disk.new }
     ensures faults { D.faults disk.new ≡ counted result (D.faults disk.old) }
 {
     close(disk, size)?;
-    write_rest(disk, study, rest)?;
-    open(disk, study)
+    write_rest(disk, file)?;
+    open(disk, file.study)
 }
 
 /// Makes the gate of the study a closed one, where there is no byte for it, or it is all that there is.
@@ -103,8 +111,7 @@ fn close<D: Disk>(disk: &mut D, size: u64) -> Result<(), DiskFault>
 }
 
 /// Writes what follows the gate of the study, up to the gate of its first slip.
-fn write_rest<D: Disk>(disk: &mut D, study: &FileHeader, rest: &[u8]) -> Result<(), DiskFault>
-    requires rest { rest.now ≡ rest_of study.now }
+fn write_rest<D: Disk>(disk: &mut D, file: NewFile<'_>) -> Result<(), DiskFault>
     requires closed { D.is_honest disk.old → (slice_index (D.state disk.old).bytes 0 == open_gate) ≡ false }
     requires some { D.is_honest disk.old → 0 < length (D.state disk.old).bytes }
     requires durable { D.is_honest disk.old → (D.state disk.old).stable ≡ settled (D.state disk.old).bytes }
@@ -112,12 +119,12 @@ fn write_rest<D: Disk>(disk: &mut D, study: &FileHeader, rest: &[u8]) -> Result<
         Throughout (D.state disk.old) (D.state disk.new) (λ bytes. is_study bytes ≡ false) }
     ensures durable { D.is_honest disk.old →
         OnOk result ((D.state disk.new).stable ≡ settled (D.state disk.new).bytes) }
-    ensures begins { D.is_honest disk.old → OnOk result (BeginsAs study.now (D.state disk.new).bytes) }
+    ensures begins { D.is_honest disk.old → OnOk result (BeginsAs file.entry.study.now (D.state disk.new).bytes) }
     ensures honest { D.is_honest disk.old ↔ D.is_honest disk.new }
     ensures faults { D.faults disk.new ≡ counted result (D.faults disk.old) }
 {
     writes_stay_in_their_span();
-    write_through(disk, 1, rest)
+    write_through(disk, 1, file.rest)
 }
 
 /// Opens the gate of a study without slips, by a write of its own.

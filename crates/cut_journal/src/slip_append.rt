@@ -14,33 +14,44 @@ use cut_disks::laws::writes_stay_in_their_span;
 use cut_disks::{Disk, DiskFault};
 use cut_ledger::Slip;
 
+/// A slip that is to be kept, and the gate of the study that it is written after.
+#[derive(Clone, Copy)]
+pub(crate) struct NextSlip<'a> {
+    /// The study.
+    pub study: &'a FileHeader,
+    /// The gate, which stands after all slips that are kept.
+    pub gate: Gate,
+    /// The slip.
+    pub slip: Slip,
+    ghost place: { gate.place ≡ gate_place study.now gate.number },
+    ghost bound: { gate.place < 2 ^ 63 },
+}
+
 /// Keeps a slip: writes it after its gate, which is closed, and then opens the gate.
-pub(crate) fn keep<D: Disk>(
-    disk: &mut D,
-    study: &FileHeader,
-    gate: Gate,
-    slip: Slip,
-) -> Result<(), DiskFault>
-    requires place { gate.place ≡ gate_place study.now gate.number }
-    requires bound { gate.place < 2 ^ 63 }
-    requires sound { D.is_honest disk.old → IsFileOf study.now gate.number None (D.state disk.old) }
-    requires reports { HoldsAllTotals (version_of study.now.failing) slip.totals }
+pub(crate) fn keep<D: Disk>(disk: &mut D, next: NextSlip<'_>) -> Result<(), DiskFault>
+    requires reports { HoldsAllTotals (version_of next.study.now.failing) next.slip.totals }
+    requires sound { D.is_honest disk.old → IsFileOf next.study.now next.gate.number None (D.state disk.old) }
     ensures moments { D.is_honest disk.old → Throughout (D.state disk.old) (D.state disk.new)
-        (ReadsAs study.now (kept_slips study.now gate.number (D.state disk.old)) (Some slip)) }
+        (ReadsAs next.entry.study.now
+        (kept_slips next.entry.study.now next.entry.gate.number (D.state disk.old)) (Some next.entry.slip)) }
     ensures left { D.is_honest disk.old →
-        Leave (ReadsAs study.now (kept_slips study.now gate.number (D.state disk.old)) (Some slip))
+        Leave (ReadsAs next.entry.study.now
+        (kept_slips next.entry.study.now next.entry.gate.number (D.state disk.old)) (Some next.entry.slip))
         (D.state disk.new) }
-    ensures kept { D.is_honest disk.old → OnOk result (reading study.now (D.state disk.new).bytes
-        ≡ Ok (kept_slips study.now gate.number (D.state disk.old) ++ slip ∷ [])) }
+    ensures kept { D.is_honest disk.old → OnOk result (reading next.entry.study.now (D.state disk.new).bytes
+        ≡ Ok (kept_slips next.entry.study.now next.entry.gate.number (D.state disk.old) ++ next.entry.slip ∷ [])) }
     ensures file { D.is_honest disk.old → OnOk result
-        (ExtendsFile study.now gate.number slip (D.state disk.old).bytes (D.state disk.new).bytes) }
+        (ExtendsFile next.entry.study.now next.entry.gate.number next.entry.slip
+        (D.state disk.old).bytes (D.state disk.new).bytes) }
     ensures durable { D.is_honest disk.old →
         OnOk result ((D.state disk.new).stable ≡ settled (D.state disk.new).bytes) }
-    ensures bound { OnOk result (gate.place + slip_length (version_of study.now.failing) < 2 ^ 63) }
+    ensures bound { OnOk result
+        (next.entry.gate.place + slip_length (version_of next.entry.study.now.failing) < 2 ^ 63) }
     ensures honest { D.is_honest disk.old ↔ D.is_honest disk.new }
     ensures faults { D.faults disk.new ≡ counted result (D.faults disk.old) }
 {
     writes_stay_in_their_span();
+    let NextSlip { study, gate, slip } = next;
     let bytes = study.slip_bytes(slip);
     let put = &bytes[..study.slip_length() as usize];
     write_through(disk, gate.place + 1, put)?;

@@ -22,33 +22,42 @@ pub(crate) struct Slips {
     pub gate: Gate,
 }
 
-/// Reads the slips of a study, whose file has this length, up to the first closed gate.
+/// A file that begins as that of a study does, by the study and its length.
+#[derive(Clone, Copy)]
+pub(crate) struct BegunFile<'a> {
+    /// The study.
+    pub study: &'a FileHeader,
+    /// The length of the file in bytes.
+    pub size: u64,
+    ghost within: { gate_place study.now 0 < size },
+    ghost bound: { size < 2 ^ 63 },
+}
+
+/// Reads the slips of a study from its file, up to the first closed gate.
 pub(crate) fn read_slips<D: Disk>(
     alloc: Global,
     disk: &mut D,
-    study: &FileHeader,
-    size: u64,
+    file: BegunFile<'_>,
 ) -> Result<Slips, JournalFault>
-    requires within { gate_place study.now 0 < size }
-    requires bound { size < 2 ^ 63 }
-    requires size { D.is_honest disk.old → size ≡ length (D.state disk.old).bytes }
-    requires prefix { D.is_honest disk.old → IsOfPlan study.now (D.state disk.old).bytes }
+    requires size { D.is_honest disk.old → file.size ≡ length (D.state disk.old).bytes }
+    requires prefix { D.is_honest disk.old → IsOfPlan file.study.now (D.state disk.old).bytes }
     ensures reported { D.is_honest disk.old →
-        IfOk result (λ found. slips_reading study.now (D.state disk.old).bytes ≡ Ok found.slips.items) }
+        IfOk result (λ found. slips_reading file.entry.study.now (D.state disk.old).bytes ≡ Ok found.slips.items) }
     ensures refused { D.is_honest disk.old →
         IfErr result (λ e. (number : ℕ) → e ≡ JournalFault.Damaged number
-        → slips_reading study.now (D.state disk.old).bytes ≡ Err e) }
+        → slips_reading file.entry.study.now (D.state disk.old).bytes ≡ Err e) }
     ensures only_faults { IfErr result IsSlipFault }
     ensures number { IfOk result (λ found. found.gate.number ≡ length found.slips.items) }
-    ensures place { IfOk result (λ found. found.gate.place ≡ gate_place study.now found.gate.number) }
+    ensures place { IfOk result (λ found. found.gate.place ≡ gate_place file.entry.study.now found.gate.number) }
     ensures bound { IfOk result (λ found. found.gate.place < 2 ^ 63) }
     ensures same { D.is_honest disk.old → D.state disk.new ≡ D.state disk.old }
     ensures honest { D.is_honest disk.old ↔ D.is_honest disk.new }
     ensures faults { D.faults disk.new ≡ disk_faults result (D.faults disk.old) }
 {
+    let study = file.study;
     let mut slips = Vec::new(alloc);
     let mut gate = study.first_gate();
-    while let Some(slip) = next_slip(disk, study, gate, size)? {
+    while let Some(slip) = next_slip(disk, file, gate)? {
         match slips.push(slip) {
             Ok(()) => {}
             Err(_) => return Err(JournalFault::Memory),
@@ -64,22 +73,21 @@ pub(crate) fn read_slips<D: Disk>(
 /// Reads the slip after a gate, if that is open.
 fn next_slip<D: Disk>(
     disk: &mut D,
-    study: &FileHeader,
+    file: BegunFile<'_>,
     gate: Gate,
-    size: u64,
 ) -> Result<Option<Slip>, JournalFault>
-    requires place { gate.place ≡ gate_place study.now gate.number }
-    requires within { gate.place < size }
-    requires bound { size < 2 ^ 63 }
-    requires size { D.is_honest disk.old → size ≡ length (D.state disk.old).bytes }
-    ensures reported { D.is_honest disk.old → IsNext result study.now (D.state disk.old).bytes gate.number }
+    requires place { gate.place ≡ gate_place file.study.now gate.number }
+    requires within { gate.place < file.size }
+    requires size { D.is_honest disk.old → file.size ≡ length (D.state disk.old).bytes }
+    ensures reported { D.is_honest disk.old → IsNext result file.entry.study.now (D.state disk.old).bytes gate.number }
     ensures only_faults { IfErr result IsSlipFault }
     ensures reach { IfOk result (λ slip. IfSome slip
-        (λ s. gate.place + slip_length (version_of study.now.failing) < size)) }
+        (λ s. gate.place + slip_length (version_of file.entry.study.now.failing) < file.entry.size)) }
     ensures same { D.is_honest disk.old → D.state disk.new ≡ D.state disk.old }
     ensures honest { D.is_honest disk.old ↔ D.is_honest disk.new }
     ensures faults { D.faults disk.new ≡ disk_faults result (D.faults disk.old) }
 {
+    let BegunFile { study, size } = file;
     match read_gate(disk, gate.place) {
         Ok(true) => {}
         Ok(false) => return Ok(None),

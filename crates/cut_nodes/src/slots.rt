@@ -17,8 +17,11 @@ pub struct Slot {
 /// The slots of some edges, and the blocks that these stand in.
 #[derive(Debug, Drop)]
 pub struct Slots {
+    /// The numbers of the blocks, which are below 8,192.
     pub blocks: Vec<u32>,
+    /// The slots, in order of the edges.
     pub slots: Vec<Slot>,
+    ghost within: { All (λ block. block < 2 ^ 13) blocks.items },
 }
 
 impl Slots {
@@ -28,7 +31,6 @@ impl Slots {
         requires edges { IsTrue (are_edges_of k 2048 edges.now) }
         requires few { length edges.now ≤ 2 ^ 16 }
         ensures slots { IfOk result (λ x. AreSlots k x.blocks.items edges.now x.slots.items) }
-        ensures blocks { IfOk result (λ x. All (λ block. block < 2 ^ 13) x.blocks.items) }
     {
         let mut blocks = Vec::new(alloc);
         let slots = slots_among(alloc, &mut blocks, k, edges)?;

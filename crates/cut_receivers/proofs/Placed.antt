@@ -83,10 +83,10 @@ some_element (x ∷ xs) u low = x
 
 -- the highs of all nodes, lane by lane
 pub highs_are : (images : Images) (n : ℕ) (highs : List (List ℕ)) (i : ℕ)
-    → length highs ≡ length images.trial.nodes.now.nodes.items
     → length images.trial.nodes.now.nodes.items ≤ n → i < 4 → AreHighsTo images n highs
     → lane i highs ≡ map (λ s. highs_at (hearing_in images i) never s) (subjects_in images)
-highs_are images n highs i many all low are =
+highs_are images n highs i all low are =
+    let many = are.many in
     let nodes : List Node = images.trial.nodes.now.nodes.items in
     let f : ℕ → ℕ = λ s. highs_at (hearing_in images i) never s in
     let long = length_lane i highs in
@@ -97,7 +97,7 @@ highs_are images n highs i many all low are =
     let known : u < length nodes = omega (arith, inside, many) in
     let d : Node = some_element nodes u known in
     sym (value_lane i u highs inside)
-    ∙ are u d inside (inl (omega (arith, known, all))) i low
+    ∙ are.known u d inside (inl (omega (arith, known, all))) i low
     ∙ sym (get_or-map f (subjects_in images) u 0 0 (omega (arith, known, many_subjects images))
     ∙ ap f (subject_at nodes u d known)))
 

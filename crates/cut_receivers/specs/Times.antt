@@ -49,6 +49,11 @@ abbrev pub AreLows : Images → List (List ℕ) → Type 0
 AreLows images lows = (i : ℕ) → i < 4
     → lane i lows ≡ map (λ s. lows_at (hearing_in images i) never s) (subjects_in images)
 
+-- lows of all nodes, and those of one subject
+pub record AreLowsAnd (images : Images) (s : ℕ) (low : List ℕ) (lows : List (List ℕ)) : Type 0 where
+  pub all : AreLows images lows
+  pub own : (i : ℕ) → i < 4 → slice_index low i ≡ lows_at (hearing_in images i) never s
+
 -- highs of all nodes
 abbrev pub AreHighs : Images → List (List ℕ) → Type 0
 AreHighs images highs = (i : ℕ) → i < 4
@@ -58,9 +63,9 @@ AreHighs images highs = (i : ℕ) → i < 4
 abbrev pub IsHigh : Images → ℕ → List ℕ → Type 0
 IsHigh images s high = (i : ℕ) → i < 4 → slice_index high i ≡ highs_at (hearing_in images i) never s
 
--- the highs of the first n nodes, and of those that gain no ring
-abbrev pub AreHighsTo : Images → ℕ → List (List ℕ) → Type 0
-AreHighsTo images n highs =
-    (u : ℕ) (d : Node) → u < length highs
-    → (u < n) ⊎ ((slice_index_or images.trial.nodes.now.nodes.items u d).gains ≡ false)
-    → IsHigh images (slice_index_or images.trial.nodes.now.nodes.items u d).subject (slice_index_or highs u [])
+-- times of all nodes, which are the highs of the first n, and of those that gain no ring
+pub record AreHighsTo (images : Images) (n : ℕ) (highs : List (List ℕ)) : Type 0 where
+  pub many : length highs ≡ length images.trial.nodes.now.nodes.items
+  pub known : (u : ℕ) (d : Node) → u < length highs
+      → (u < n) ⊎ ((slice_index_or images.trial.nodes.now.nodes.items u d).gains ≡ false)
+      → IsHigh images (slice_index_or images.trial.nodes.now.nodes.items u d).subject (slice_index_or highs u [])

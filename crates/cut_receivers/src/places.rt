@@ -57,7 +57,6 @@ impl Receivers {
     ) -> Result<Places, AllocError>
         requires receivers { All (λ j. j < 2048) receivers }
         requires slots { AreSlots trial.rule.k slots.now.blocks.items trial.edges.now slots.now.slots.items }
-        requires blocks { All (λ block. block < 2 ^ 13) slots.now.blocks.items }
         requires few { length trial.edges.now ≤ 2 ^ 16 }
         ensures places { IfOk result (λ p. (i : ℕ) (subjects : List ℕ) → i < 4
             → HasHeard (hearing_of trial.entry (slice_index receivers i)) subjects i self.old
@@ -89,7 +88,6 @@ fn count_deliveries(
 ) -> Result<Places, AllocError>
     requires receivers { All (λ j. j < 2048) receivers }
     requires slots { AreSlots trial.now.rule.k slots.now.blocks.items trial.now.edges.now slots.now.slots.items }
-    requires blocks { All (λ block. block < 2 ^ 13) slots.now.blocks.items }
     requires few { length trial.now.edges.now ≤ 2 ^ 16 }
     ensures counted { IfOk result (λ p. (i : ℕ) → i < 4 → slice_index time i ≤ never
         → HasCountedPlaces (hearing_of trial.now (slice_index receivers i)) (slice_index time i) i p) }

@@ -100,7 +100,6 @@ fn rank(images: &Images<'_>, values: &mut Vec<u32x4>, lows: &mut Vec<u32x4>, hig
     ensures values { vec_capacity values.new ≡ vec_capacity values.old }
     ensures lows { AreLows images.now lows.new.items }
     ensures highs { AreHighsTo images.now 0 highs.new.items }
-    ensures many { length highs.new.items ≡ length images.now.trial.nodes.now.nodes.items }
 {
     lows.clear();
     highs.clear();
@@ -116,7 +115,6 @@ fn gain(images: &Images<'_>, values: &mut Vec<u32x4>, lows: &[u32x4], highs: &mu
     requires values { 32 ≤ vec_capacity values.old }
     requires lows { AreLows images.now lows.now }
     requires highs { AreHighsTo images.now 0 highs.old }
-    requires many { length highs.old ≡ length images.now.trial.nodes.now.nodes.items }
     ensures { AreHighs images.now highs.new }
 {
     for (place, node) in images.trial.nodes.nodes.iter().enumerate() {

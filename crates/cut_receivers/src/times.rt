@@ -5,7 +5,8 @@ ghost use Rattle.cut_ranks.specs.Ranks.{IsRank};
 ghost use Rattle.cut_lanes.specs.Lanes.{lane};
 ghost use Rattle.cut_arrivals.specs.Hearing.{lows_at, highs_at};
 ghost use Rattle.cut_nodes.specs.Nodes.{AreNodesWithin, cause_in};
-ghost use Rattle.cut_receivers.specs.Times.{hearing_in, subjects_in, IsNodeOf, AreLows, IsHigh, time_of_cause};
+ghost use Rattle.cut_receivers.specs.Times.{hearing_in, subjects_in, IsNodeOf, AreLows, AreLowsAnd, IsHigh};
+ghost use Rattle.cut_receivers.specs.Times.{time_of_cause};
 
 use crate::images::Images;
 use crate::lanes::earlier;
@@ -43,9 +44,7 @@ impl Images<'_> {
         node: &Node,
     ) -> u32x4
         requires node { IsNodeOf self.now.trial node.now }
-        requires lows { AreLows self.now lows.now }
-        requires low { (i : ℕ) → i < 4
-            → slice_index low i ≡ lows_at (hearing_in self.now i) never node.now.subject }
+        requires lows { AreLowsAnd self.now node.now.subject low lows.now }
         requires room { 32 ≤ vec_capacity values.old }
         ensures high { IsHigh self.now node.now.subject result }
         ensures capacity { vec_capacity values.new ≡ vec_capacity values.old }
@@ -61,9 +60,7 @@ impl Images<'_> {
     #[inline(always)]
     fn gather_counted(&self, values: &mut Vec<u32x4>, lows: &[u32x4], low: u32x4, node: &Node)
         requires node { IsNodeOf self.now.trial node.now }
-        requires lows { AreLows self.now lows.now }
-        requires low { (i : ℕ) → i < 4
-            → slice_index low i ≡ lows_at (hearing_in self.now i) never node.now.subject }
+        requires lows { AreLowsAnd self.now node.now.subject low lows.now }
         requires room { 32 ≤ vec_capacity values.old }
         ensures times { (i : ℕ) → i < 4 → lane i values.new.items
             ≡ map (λ c. time_of_cause (hearing_in self.now i) node.now.subject

@@ -1,20 +1,12 @@
 -- What serving studies leaves, and how it may end.
-use Rattle.std.specs.Prelude.{◌≡◌, ◌≤◌, ◌<◌, ◌++◌, ◌∷◌, ℕ, zero, suc, List, [], All, length, take, sum_by, codes}
+use Rattle.std.specs.Prelude.{◌≡◌, ◌<◌, ◌++◌, ◌∷◌, ℕ, zero, suc, List, [], All, length, take, sum_by, codes}
 use Rattle.std.specs.Prelude.{Result, Ok, Err, ⊤}
 use Rattle.std.specs.Fmt.{decimal}
 use Rattle.cut_faults.specs.Failures.{one_more}
 use Rattle.cut_wires.specs.Log.{WireLog, wrote, write_failed}
 use Rattle.cut_hall.specs.Report.{SlotEnd, IsEndOf, accepted_recorded}
-use Rattle.cut_server.specs.declared.capacity.Capacity.{Capacity}
 use Rattle.cut_commands.specs.declared.fault.CliFault.{CliFault}
 use Rattle.cut_commands.specs.declared.fault.CliFault.TheVariants.{Socket, Write, Folder, WorkMemory, AuditMismatch}
-
--- there are 1 to 64 of each
-abbrev pub IsStaffed : Capacity → Type 0
-IsStaffed capacity =
-    (1 ≤ capacity.workers) × (capacity.workers ≤ 64)
-    × (1 ≤ capacity.sessions) × (capacity.sessions ≤ 64)
-    × (1 ≤ capacity.studies) × (capacity.studies ≤ 64)
 
 -- why the threads of a server did not come to their end: a connection did not come, or memory or a thread was
 -- refused

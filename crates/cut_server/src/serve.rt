@@ -1,7 +1,7 @@
 //! A server of studies: workers and sessions in threads of one hall.
 ghost use Rattle.std.specs.Prelude.{◌≡◌, ◌≤◌, ◌+◌, length, All, IfOk, IfErr};
 ghost use Rattle.cut_server.specs.Serve.{Listens, WritesReport, accepted_in_all};
-ghost use Rattle.cut_server.specs.Serve.{IsOfClosing, IsOfServing, IsOfWriting, IsStaffed};
+ghost use Rattle.cut_server.specs.Serve.{IsOfClosing, IsOfServing, IsOfWriting};
 ghost use Rattle.cut_hall.specs.Report.{IsEndOf};
 
 use crate::Capacity;
@@ -43,7 +43,6 @@ where
     L: Listener<W> + Drop,
     W: Wire + Send + Drop,
     R: Threads + Wait + Sync,
-    requires { IsStaffed capacity }
     ensures slots { IfOk result.1 (λ report. length report ≡ capacity.studies) }
     ensures why { IfErr result.1 IsOfServing }
     ensures listens { Listens capacity.sessions result.1 (L.calls listener) (L.calls result.0) }
@@ -78,7 +77,6 @@ where
     L: Listener<W> + Drop,
     W: Wire + Send + Drop,
     R: Threads + Wait + Sync,
-    requires capacity { IsStaffed capacity }
     requires made { (blanks.made.name ≡ M.name) × (blanks.made.parts ≡ M.parts)
         × (M.all ≡ M.parts) × (M.all ≡ capacity.workers + capacity.sessions) }
     requires kept { (blanks.kept.name ≡ K.name) × (blanks.kept.parts ≡ K.parts)
@@ -148,7 +146,6 @@ where
     C: Wire + Send + Drop,
     W: Wire,
     R: Threads + Wait + Sync,
-    requires { IsStaffed capacity }
     ensures writes { WritesReport capacity.studies result.1 (W.log wire.old) (W.log wire.new) }
     ensures listens { Listens capacity.sessions result.1 (L.calls listener) (L.calls result.0) }
 {
@@ -206,7 +203,6 @@ pub fn serve_at<W, R>(
 where
     W: Wire,
     R: Threads + Wait + Sync,
-    requires { IsStaffed capacity }
     ensures writes { WritesReport capacity.studies result (W.log wire.old) (W.log wire.new) }
 {
     if !is_folder(host, folder) {

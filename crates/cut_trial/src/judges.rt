@@ -15,7 +15,7 @@ ghost use Rattle.cut_receivers.specs.Heard.{hearing_of, HasHeard};
 ghost use Rattle.cut_receivers.specs.Findings.{finding_in, flagged, has_bit, is_proposal};
 ghost use Rattle.cut_outcome.specs.Verdicts.{targets_of};
 ghost use Rattle.cut_trial.specs.Counted.{HasJudged, IsJudging};
-ghost use Rattle.cut_trial.specs.Judging.{AreFor, IsFound, proposed_by, proposals_to};
+ghost use Rattle.cut_trial.specs.Judging.{AreFor, AreReady, IsNext, IsFoundIn, proposed_by, proposals_to};
 
 use crate::alerts::Alerts;
 use crate::cast::Cast;
@@ -59,7 +59,6 @@ struct Round<'a> {
     ghost nodes: { trial.rings.now.nodes ≡ length cast.roles.now.roles },
     ghost slots_are: { IfSome slots
         (λ s. AreSlots trial.rule.k s.now.blocks.items trial.edges.now s.now.slots.items) } by { Prim.hlevel props },
-    ghost blocks: { IfSome slots (λ s. All (λ block. block < 2 ^ 13) s.now.blocks.items) } by { Prim.hlevel props },
     ghost few: { length trial.edges.now ≤ 2 ^ 16 },
     ghost unasked: { slots ≡ None → version_of cast.alerts.now.study.plan.now.failing ≡ One },
 }
@@ -170,11 +169,11 @@ impl<'a> Judges<'a> {
 
     /// Judges all receivers, four at a time.
     fn judge_all(&mut self, draws: &mut Draws, round: Round<'_>) -> Result<(), AllocError>
-        requires fit { AreFor round.cast.alerts.now.study round.cast.alerts.now.cell self.old }
-        requires draws { draws.old ≡ round.trial.blocks.now }
+        requires ready { AreReady round.cast.alerts.now round.trial.blocks.now self.old draws.old }
         requires none { IsJudging round.cast.roles.now self.old.outcome [] }
         ensures judged { OnOk result (IsJudging round.entry.cast.roles.now self.new.outcome
-            (proposals_to round.entry.cast.alerts.now draws.old round.entry.cast.receivers.now (length round.entry.cast.receivers.now))) }
+            (proposals_to round.entry.cast.alerts.now draws.old round.entry.cast.receivers.now
+            (length round.entry.cast.receivers.now))) }
         ensures fit { AreFor round.entry.cast.alerts.now.study round.entry.cast.alerts.now.cell self.new }
     {
         for four in 0..round.cast.receivers.len().div_ceil(4) {
@@ -190,11 +189,9 @@ impl<'a> Judges<'a> {
         round: Round<'_>,
         first: usize,
     ) -> Result<(), AllocError>
-        requires fit { AreFor round.cast.alerts.now.study round.cast.alerts.now.cell self.old }
-        requires draws { draws.old ≡ round.trial.blocks.now }
-        requires some { first < length round.cast.receivers.now }
-        requires before { IsJudging round.cast.roles.now self.old.outcome
-            (proposals_to round.cast.alerts.now draws.old round.cast.receivers.now first) }
+        requires ready { AreReady round.cast.alerts.now round.trial.blocks.now self.old draws.old }
+        requires next { IsNext round.cast.alerts.now round.cast.roles.now draws.old round.cast.receivers.now first
+            self.old }
         ensures judged { OnOk result (IsJudging round.entry.cast.roles.now self.new.outcome
             (proposals_to round.entry.cast.alerts.now draws.old round.entry.cast.receivers.now (first + 4))) }
         ensures fit { AreFor round.entry.cast.alerts.now.study round.entry.cast.alerts.now.cell self.new }
@@ -255,18 +252,12 @@ impl<'a> Judges<'a> {
         lane: usize,
         found: Found,
     ) -> Result<(), AllocError>
-        requires fit { AreFor round.cast.alerts.now.study round.cast.alerts.now.cell self.old }
-        requires draws { draws.old ≡ round.trial.blocks.now }
-        requires some { index < length round.cast.receivers.now }
-        requires lane { lane < 4 }
-        requires heard { HasHeard (hearing_of round.trial (slice_index round.cast.receivers.now index))
-            (subjects_of round.trial.nodes.now.nodes.items) lane self.old.times }
-        requires found { IsFound (hearing_of round.trial (slice_index round.cast.receivers.now index))
+        requires ready { AreReady round.cast.alerts.now round.trial.blocks.now self.old draws.old }
+        requires next { IsNext round.cast.alerts.now round.cast.roles.now draws.old round.cast.receivers.now index
+            self.old }
+        requires found { IsFoundIn (hearing_of round.trial (slice_index round.cast.receivers.now index))
             (version_of round.cast.alerts.now.study.plan.now.failing)
-            (flagged (subjects_of round.trial.nodes.now.nodes.items) round.wanted.now)
-            (has_bit self.old.times.closing.doubt lane) found }
-        requires before { IsJudging round.cast.roles.now self.old.outcome
-            (proposals_to round.cast.alerts.now draws.old round.cast.receivers.now index) }
+            (subjects_of round.trial.nodes.now.nodes.items) round.wanted.now self.old.times lane found }
         ensures judged { OnOk result (IsJudging round.entry.cast.roles.now self.new.outcome
             (proposals_to round.entry.cast.alerts.now draws.old round.entry.cast.receivers.now (index + 1))) }
         ensures fit { AreFor round.entry.cast.alerts.now.study round.entry.cast.alerts.now.cell self.new }
@@ -361,7 +352,6 @@ fn receiver_at(receivers: &[u16], place: usize) -> u16
 fn all_slots(alloc: Global, alerts: &Alerts<'_>) -> Result<Option<Slots>, AllocError>
     ensures slots { IfOk result (λ found. IfSome found
         (λ s. AreSlots alerts.now.cell.k s.blocks.items alerts.now.edges.items s.slots.items)) }
-    ensures within { IfOk result (λ found. IfSome found (λ s. All (λ block. block < 2 ^ 13) s.blocks.items)) }
     ensures unasked { IfOk result (λ found. found ≡ None → version_of alerts.now.study.plan.now.failing ≡ One) }
 {
     match alerts.study.plan.version() {

@@ -5,12 +5,12 @@ use Rattle.cut_journal.proofs.new_study.write_new.Goals as goal
 
 pub returns-in_err-close-clause-moments : goal.returns-in_err-close-clause-moments
 returns-in_err-close-clause-moments g c = λ honest.
-    weaker IsNone (IsNewStudy c.args.study.now) (none_new c.args.study.now) (g.D.Disk.state c.args.disk.now)
+    weaker IsNone (IsNewStudy c.args.file.study.now) (none_new c.args.file.study.now) (g.D.Disk.state c.args.disk.now)
     (g.D.Disk.state c.close.new.disk) (c.close.ensures.moments honest)
 
 pub returns-in_err-write_rest-clause-moments : goal.returns-in_err-write_rest-clause-moments
 returns-in_err-write_rest-clause-moments g c = λ honest.
-    weaker IsNone (IsNewStudy c.args.study.now) (none_new c.args.study.now) (g.D.Disk.state c.args.disk.now)
+    weaker IsNone (IsNewStudy c.args.file.study.now) (none_new c.args.file.study.now) (g.D.Disk.state c.args.disk.now)
     (g.D.Disk.state c.write_rest.new.disk)
     (and_then IsNone (g.D.Disk.state c.args.disk.now) (g.D.Disk.state c.close.new.disk)
     (g.D.Disk.state c.write_rest.new.disk)
@@ -18,9 +18,9 @@ returns-in_err-write_rest-clause-moments g c = λ honest.
 
 pub returns-clause-moments : goal.returns-clause-moments
 returns-clause-moments g c = λ honest.
-    and_then (IsNewStudy c.args.study.now) (g.D.Disk.state c.args.disk.now) (g.D.Disk.state c.write_rest.new.disk)
+    and_then (IsNewStudy c.args.file.study.now) (g.D.Disk.state c.args.disk.now) (g.D.Disk.state c.write_rest.new.disk)
     (g.D.Disk.state c.open.new.disk)
-    (weaker IsNone (IsNewStudy c.args.study.now) (none_new c.args.study.now) (g.D.Disk.state c.args.disk.now)
+    (weaker IsNone (IsNewStudy c.args.file.study.now) (none_new c.args.file.study.now) (g.D.Disk.state c.args.disk.now)
     (g.D.Disk.state c.write_rest.new.disk)
     (and_then IsNone (g.D.Disk.state c.args.disk.now) (g.D.Disk.state c.close.new.disk)
     (g.D.Disk.state c.write_rest.new.disk)

@@ -10,46 +10,51 @@ use Rattle.cut_journal.proofs.slip_append.keep.Goals as goal
 use Rattle.cut_journal.proofs.slip_append.keep.Given as given
 
 pub write_through-requires : goal.write_through-requires
-write_through-requires g c = λ honest. gate_before c.args.study.now c.args.gate.number c.args.gate.place
-    (g.D.Disk.state c.args.disk.now) c.requires.place (c.requires.sound honest)
+write_through-requires g c = λ honest. gate_before c.args.next.study.now c.args.next.gate.number c.args.next.gate.place
+    (g.D.Disk.state c.args.disk.now) c.args.next.place (c.requires.sound honest)
 
 pub returns-in_err-write_through-clause-moments : goal.returns-in_err-write_through-clause-moments
 returns-in_err-write_through-clause-moments g c = λ honest.
-    (first_at c.write_through.result c.args.study.now c.args.gate.number c.args.gate.place c.args.slip
+    (first_at c.write_through.result c.args.next.study.now c.args.next.gate.number c.args.next.gate.place
+    c.args.next.slip
     (take c.slip_length.result c.slip_bytes-bytes.result) (g.D.Disk.state c.args.disk.now)
     (g.D.Disk.state c.write_through.new.disk)
-    c.requires.place c.writes_stay_in_their_span.ensures (c.requires.sound honest)
+    c.args.next.place c.writes_stay_in_their_span.ensures (c.requires.sound honest)
     (c.write_through.ensures.state honest)).moments
 
 pub returns-in_err-write_through-clause-left : goal.returns-in_err-write_through-clause-left
 returns-in_err-write_through-clause-left g c = λ honest.
-    (first_at c.write_through.result c.args.study.now c.args.gate.number c.args.gate.place c.args.slip
+    (first_at c.write_through.result c.args.next.study.now c.args.next.gate.number c.args.next.gate.place
+    c.args.next.slip
     (take c.slip_length.result c.slip_bytes-bytes.result) (g.D.Disk.state c.args.disk.now)
     (g.D.Disk.state c.write_through.new.disk)
-    c.requires.place c.writes_stay_in_their_span.ensures (c.requires.sound honest)
+    c.args.next.place c.writes_stay_in_their_span.ensures (c.requires.sound honest)
     (c.write_through.ensures.state honest)).left
 
 pub write_through-requires-2 : goal.write_through-requires-2
 write_through-requires-2 g c = λ honest.
     let before = c.in_ok-write_through.ensures.honest.1 honest in
     let old : DiskState = g.D.Disk.state c.args.disk.now in
-    let there = gate_before c.args.study.now c.args.gate.number c.args.gate.place old c.requires.place
+    let there = gate_before c.args.next.study.now c.args.next.gate.number c.args.next.gate.place old c.args.next.place
     (c.requires.sound before) in
-    let long = over_long old.bytes (take c.slip_length.result c.slip_bytes-bytes.result) (c.args.gate.place + 1) there
+    let long = over_long old.bytes (take c.slip_length.result c.slip_bytes-bytes.result) (c.args.next.gate.place + 1)
+    there
     in
     let same = ap (λ (d : DiskState). length d.bytes) (c.in_ok-write_through.ensures.state before) in
     omega (arith, there, long, same)
 
 abbrev pub second : (g : given.Over) (c : goal.After-write_through-2 g) → g.D.Disk.is_honest c.args.disk.now
-    → Second {E = DiskFault} c.write_through-2.result c.args.study.now
-    (kept_slips c.args.study.now c.args.gate.number (g.D.Disk.state c.args.disk.now)) c.args.slip c.args.gate.place
+    → Second {E = DiskFault} c.write_through-2.result c.args.next.study.now
+    (kept_slips c.args.next.study.now c.args.next.gate.number (g.D.Disk.state c.args.disk.now)) c.args.next.slip
+    c.args.next.gate.place
     (g.D.Disk.state c.write_through.new.disk) (g.D.Disk.state c.write_through-2.new.disk)
 second g c honest =
-    second_at {E = DiskFault} {F = DiskFault} c.write_through.result c.write_through-2.result c.args.study.now
-    c.args.gate.number c.args.gate.place c.args.slip (take c.slip_length.result c.slip_bytes-bytes.result)
+    second_at {E = DiskFault} {F = DiskFault} c.write_through.result c.write_through-2.result c.args.next.study.now
+    c.args.next.gate.number c.args.next.gate.place c.args.next.slip
+    (take c.slip_length.result c.slip_bytes-bytes.result)
     (g.D.Disk.state c.args.disk.now) (g.D.Disk.state c.write_through.new.disk)
     (g.D.Disk.state c.write_through-2.new.disk)
-    c.requires.place c.writes_stay_in_their_span.ensures (c.requires.sound honest) c.slip_bytes-bytes.ensures.numbers
+    c.args.next.place c.writes_stay_in_their_span.ensures (c.requires.sound honest) c.slip_bytes-bytes.ensures.numbers
     c.requires.reports (ap (λ (k : ℕ). take k c.slip_bytes-bytes.result) c.slip_length.ensures.value
     ∙ c.slip_bytes-bytes.ensures.bytes)
     (ap is_ok c.in_ok-write_through.was) (c.write_through.ensures.state honest)
@@ -57,14 +62,16 @@ second g c honest =
 
 pub returns-clause-moments : goal.returns-clause-moments
 returns-clause-moments g c = λ honest.
-    and_then (ReadsAs c.args.study.now (kept_slips c.args.study.now c.args.gate.number (g.D.Disk.state c.args.disk.now))
-    (Some c.args.slip))
+    and_then (ReadsAs c.args.next.study.now (kept_slips c.args.next.study.now c.args.next.gate.number
+    (g.D.Disk.state c.args.disk.now))
+    (Some c.args.next.slip))
     (g.D.Disk.state c.args.disk.now) (g.D.Disk.state c.write_through.new.disk)
     (g.D.Disk.state c.write_through-2.new.disk)
-    (first_at c.write_through.result c.args.study.now c.args.gate.number c.args.gate.place c.args.slip
+    (first_at c.write_through.result c.args.next.study.now c.args.next.gate.number c.args.next.gate.place
+    c.args.next.slip
     (take c.slip_length.result c.slip_bytes-bytes.result) (g.D.Disk.state c.args.disk.now)
     (g.D.Disk.state c.write_through.new.disk)
-    c.requires.place c.writes_stay_in_their_span.ensures (c.requires.sound honest)
+    c.args.next.place c.writes_stay_in_their_span.ensures (c.requires.sound honest)
     (c.write_through.ensures.state honest)).moments
     (second g c honest).through.moments
 
@@ -76,13 +83,15 @@ returns-clause-kept g c = λ honest. on_ok c.write_through-2.result _ (second g 
 
 pub returns-clause-file : goal.returns-clause-file
 returns-clause-file g c = λ honest. on_ok c.write_through-2.result _ (λ ok.
-    extended_at c.args.study.now c.args.gate.number c.args.gate.place c.args.slip (g.D.Disk.state c.args.disk.now).bytes
-    (g.D.Disk.state c.write_through.new.disk).bytes (g.D.Disk.state c.write_through-2.new.disk).bytes c.requires.place
-    ((first_at c.write_through.result c.args.study.now c.args.gate.number c.args.gate.place c.args.slip
+    extended_at c.args.next.study.now c.args.next.gate.number c.args.next.gate.place c.args.next.slip
+    (g.D.Disk.state c.args.disk.now).bytes
+    (g.D.Disk.state c.write_through.new.disk).bytes (g.D.Disk.state c.write_through-2.new.disk).bytes c.args.next.place
+    ((first_at c.write_through.result c.args.next.study.now c.args.next.gate.number c.args.next.gate.place
+    c.args.next.slip
     (take c.slip_length.result c.slip_bytes-bytes.result) (g.D.Disk.state c.args.disk.now)
     (g.D.Disk.state c.write_through.new.disk)
-    c.requires.place c.writes_stay_in_their_span.ensures (c.requires.sound honest)
+    c.args.next.place c.writes_stay_in_their_span.ensures (c.requires.sound honest)
     (c.write_through.ensures.state honest)).bytes (ap is_ok c.in_ok-write_through.was)
-    ∙ ap (λ (l : List ℕ). overwritten (g.D.Disk.state c.args.disk.now).bytes (c.args.gate.place + 1) l)
+    ∙ ap (λ (l : List ℕ). overwritten (g.D.Disk.state c.args.disk.now).bytes (c.args.next.gate.place + 1) l)
     (ap (λ (k : ℕ). take k c.slip_bytes-bytes.result) c.slip_length.ensures.value ∙ c.slip_bytes-bytes.ensures.bytes))
     ((second g c honest).through.bytes ok))

@@ -20,13 +20,13 @@ use Rattle.cut_journal.specs.Places.{body_at, first_slips, is_open}
 pub returns-clause-reported : goal.returns-clause-reported
 returns-clause-reported g c = λ honest.
     let bytes : List ℕ = (g.D.Disk.state c.args.disk.now).bytes in
-    let found = subst (λ (o : Option Slip). IsNext (Ok o) c.args.study.now (g.D.Disk.state c.loop-slips.disk).bytes
+    let found = subst (λ (o : Option Slip). IsNext (Ok o) c.args.file.study.now (g.D.Disk.state c.loop-slips.disk).bytes
     c.loop-slips.gate.number) c.in_default.is
     (c.in_ok-slip.ensures.reported (c.loop-slips.invariant.honest.0 honest)) in
-    let shut : is_open c.args.study.now bytes c.loop-slips.gate.number ≡ false =
-    subst (λ (d : DiskState). is_open c.args.study.now d.bytes c.loop-slips.gate.number ≡ false)
+    let shut : is_open c.args.file.study.now bytes c.loop-slips.gate.number ≡ false =
+    subst (λ (d : DiskState). is_open c.args.file.study.now d.bytes c.loop-slips.gate.number ≡ false)
     (c.loop-slips.invariant.same honest) found in
-    slips_read c.args.study.now bytes c.loop-slips.gate.number
+    slips_read c.args.file.study.now bytes c.loop-slips.gate.number
     (record { prefix = c.requires.prefix honest; whole = c.loop-slips.invariant.whole honest; closed = shut })
     ∙ ap (λ (l : List Slip). Ok l) (sym (c.loop-slips.invariant.slips honest))
 
@@ -41,39 +41,50 @@ pub returns-in_err-slip-clause-refused : goal.returns-in_err-slip-clause-refused
 returns-in_err-slip-clause-refused g c = λ honest.
     let p = err_from_is_err_and c.from_residual.result c.from_residual.ensures.1 in
     let bytes : List ℕ = (g.D.Disk.state c.args.disk.now).bytes in
-    let next : IsNext (Err c.in_err-slip.field-0.0) c.args.study.now bytes c.loop-slips.gate.number =
-    subst (λ (d : DiskState). IsNext (Err c.in_err-slip.field-0.0) c.args.study.now d.bytes c.loop-slips.gate.number)
+    let next : IsNext (Err c.in_err-slip.field-0.0) c.args.file.study.now bytes c.loop-slips.gate.number =
+    subst (λ (d : DiskState). IsNext (Err c.in_err-slip.field-0.0) c.args.file.study.now d.bytes
+    c.loop-slips.gate.number)
     (c.loop-slips.invariant.same honest)
     (c.in_err-slip.ensures.reported (c.loop-slips.invariant.honest.0 honest)) in
     subst (λ (x : Result Slips JournalFault). IfErr x
-    (λ e. (number : ℕ) → e ≡ Damaged number → slips_reading c.args.study.now bytes ≡ Err e)) (sym p.1)
-    (rw p.2 (damage c.args.study.now c.loop-slips.gate.number c.in_err-slip.field-0.0 bytes (c.requires.prefix honest)
+    (λ e. (number : ℕ) → e ≡ Damaged number → slips_reading c.args.file.study.now bytes ≡ Err e)) (sym p.1)
+    (rw p.2 (damage c.args.file.study.now c.loop-slips.gate.number c.in_err-slip.field-0.0 bytes
+    (c.requires.prefix honest)
     (c.loop-slips.invariant.whole honest) next))
 
 pub overflow_add-gate : goal.overflow_add-gate
 overflow_add-gate g c = omega (
   arith,
-  gate_far c.args.study.now c.loop-slips.gate.number,
+  gate_far c.args.file.study.now c.loop-slips.gate.number,
   c.loop-slips.invariant.place,
   c.loop-slips.invariant.within,
-  c.requires.bound,
+  c.args.file.bound,
 )
 
 pub loop-slips-preserved : goal.loop-slips-preserved
 loop-slips-preserved g c =
     let n : ℕ = c.loop-slips.gate.number in
     let reach = subst (λ (o : Option Slip). IfSome o
-    (λ s. c.loop-slips.gate.place + slip_length (version_of c.args.study.now.failing) < c.args.size)) c.in-Some.is
+    (λ s. c.loop-slips.gate.place + slip_length (version_of c.args.file.study.now.failing) < c.args.file.size))
+    c.in-Some.is
     c.in_ok-slip.ensures.reach in
     let found = λ (h : g.D.Disk.is_honest c.args.disk.now). subst
-    (λ (d : DiskState). IsNext (Ok (Some c.in-Some.slip)) c.args.study.now d.bytes n) (c.loop-slips.invariant.same h)
-    (subst (λ (o : Option Slip). IsNext (Ok o) c.args.study.now (g.D.Disk.state c.loop-slips.disk).bytes n) c.in-Some.is
+    (λ (d : DiskState). IsNext (Ok (Some c.in-Some.slip)) c.args.file.study.now d.bytes n)
+    (c.loop-slips.invariant.same h)
+    (subst (λ (o : Option Slip). IsNext (Ok o) c.args.file.study.now (g.D.Disk.state c.loop-slips.disk).bytes n)
+    c.in-Some.is
     (c.in_ok-slip.ensures.reported (c.loop-slips.invariant.honest.0 h))) in
     record {
       number = (let a = length-append c.loop-slips.slips.items (c.in-Some.slip ∷ [])
           in let b = ap (λ (l : List Slip). length l) c.in-Ok.ensures.items
           in omega (arith, a, b, c.loop-slips.invariant.number));
-      place = omega (arith, c.loop-slips.invariant.place, c.slip_length.ensures.value, gate_next c.args.study.now n);
+      place = omega (
+        arith,
+        c.loop-slips.invariant.place,
+        c.slip_length.ensures.value,
+        gate_next c.args.file.study.now
+            n,
+      );
       within = omega (arith, reach, c.slip_length.ensures.value);
       honest = (
         λ h. c.next_slip.ensures.honest.0 (c.loop-slips.invariant.honest.0 h),
@@ -81,13 +92,13 @@ loop-slips-preserved g c =
             c.loop-slips.invariant.honest.1 (c.next_slip.ensures.honest.1 h),
       );
       same = λ h. c.next_slip.ensures.same (c.loop-slips.invariant.honest.0 h) ∙ c.loop-slips.invariant.same h;
-      whole = λ h. one_more_whole c.args.study.now (g.D.Disk.state c.args.disk.now).bytes n
+      whole = λ h. one_more_whole c.args.file.study.now (g.D.Disk.state c.args.disk.now).bytes n
           (c.loop-slips.invariant.whole h) (found h).0 (found h).1;
       slips = λ h. c.in-Ok.ensures.items ∙ ap (λ (l : List Slip). l ++ c.in-Some.slip ∷ [])
           (c.loop-slips.invariant.slips h)
-          ∙ ap (λ (s : Slip). first_slips c.args.study.now (g.D.Disk.state c.args.disk.now).bytes n ++ s ∷ [])
+          ∙ ap (λ (s : Slip). first_slips c.args.file.study.now (g.D.Disk.state c.args.disk.now).bytes n ++ s ∷ [])
           (found h).2
-          ∙ sym (map-range_with_len_more (λ i. slip_in (version_of c.args.study.now.failing)
-          (body_at c.args.study.now (g.D.Disk.state c.args.disk.now).bytes i)) 0 n n (zero-add n));
+          ∙ sym (map-range_with_len_more (λ i. slip_in (version_of c.args.file.study.now.failing)
+          (body_at c.args.file.study.now (g.D.Disk.state c.args.disk.now).bytes i)) 0 n n (zero-add n));
       faults = c.in_ok-slip.ensures.faults ∙ c.loop-slips.invariant.faults;
     }

@@ -8,15 +8,15 @@ use Rattle.cut_journal.specs.Places.{first_slips, gate_place}
 abbrev pub invariant-loop-slips : goal.invariant-loop-slips
 invariant-loop-slips g l = record {
   number : l.gate.number ≡ length l.slips.items;
-  place : l.gate.place ≡ gate_place l.study l.gate.number;
-  within : l.gate.place < l.size;
+  place : l.gate.place ≡ gate_place l.file.study.now l.gate.number;
+  within : l.gate.place < l.file.size;
   honest : g.D.Disk.is_honest l.fn.disk ↔ g.D.Disk.is_honest l.disk;
   same : g.D.Disk.is_honest l.fn.disk → g.D.Disk.state l.disk ≡ g.D.Disk.state l.fn.disk;
-  whole : g.D.Disk.is_honest l.fn.disk → AreWhole l.study (g.D.Disk.state l.fn.disk).bytes l.gate.number;
+  whole : g.D.Disk.is_honest l.fn.disk → AreWhole l.file.study.now (g.D.Disk.state l.fn.disk).bytes l.gate.number;
   slips : g.D.Disk.is_honest l.fn.disk → l.slips.items
-      ≡ first_slips l.study (g.D.Disk.state l.fn.disk).bytes l.gate.number;
+      ≡ first_slips l.file.study.now (g.D.Disk.state l.fn.disk).bytes l.gate.number;
   faults : g.D.Disk.faults l.disk ≡ g.D.Disk.faults l.fn.disk;
 }
 
 abbrev pub decreases-loop-slips : goal.decreases-loop-slips
-decreases-loop-slips g l = l.size - l.gate.place
+decreases-loop-slips g l = l.file.size - l.gate.place

@@ -26,7 +26,7 @@ bounds-highs-place c =
       c.loop-place-test.true,
       ap (λ
           (ns : List Node). length ns) c.deref-node-items.ensures.value,
-      c.loop-place.invariant.many,
+      c.loop-place.invariant.highs.many,
     )
 
 pub stable_from-requires-clause-node : goal.stable_from-requires-clause-node
@@ -34,8 +34,8 @@ stable_from-requires-clause-node c =
     node_read c.args.images.now.trial c.deref-node-items.result.now c.loop-place.place c.node-item.result
     c.deref-node-items.ensures.value c.loop-place-test.true c.node-item.is
 
-pub stable_from-requires-clause-low : goal.stable_from-requires-clause-low
-stable_from-requires-clause-low c i low =
+pub stable_from-requires-clause-lows : goal.stable_from-requires-clause-lows
+stable_from-requires-clause-lows c =
     let images = c.args.images.now in
     let place : ℕ = c.loop-place.place in
     let nodes : List Node = images.trial.nodes.now.nodes.items in
@@ -44,9 +44,13 @@ stable_from-requires-clause-low c i low =
     let is : c.node-item.result ≡ slice_index_or nodes place c.node-item.result =
     c.node-item.is ∙ ap (λ
     (ns : List Node). slice_index_or ns place c.node-item.result) c.deref-node-items.ensures.value in
-    low_at images c.args.lows.now i place c.requires.lows low (omega (arith, inside, many_subjects images))
-    ∙ ap (λ s. lows_at (hearing_in images i) never s) (subject_at nodes place c.node-item.result inside
-    ∙ sym (ap (λ (d : Node). d.subject) is))
+    record {
+      all = c.requires.lows;
+      own = λ i low.
+          low_at images c.args.lows.now i place c.requires.lows low (omega (arith, inside, many_subjects images))
+          ∙ ap (λ s. lows_at (hearing_in images i) never s) (subject_at nodes place c.node-item.result inside
+          ∙ sym (ap (λ (d : Node). d.subject) is));
+    }
 
 pub loop-place-preserved : goal.loop-place-preserved
 loop-place-preserved c =
@@ -58,24 +62,29 @@ loop-place-preserved c =
     subst (λ (ns : List Node). place < length ns) c.deref-node-items.ensures.value c.loop-place-test.true in
     let is : node ≡ slice_index_or nodes place node =
     c.node-item.is ∙ ap (λ (ns : List Node). slice_index_or ns place node) c.deref-node-items.ensures.value in
-    let same : length c.if-node.highs ≡ length nodes = c.if-node.auto.highs ∙ c.loop-place.invariant.many in
     record {
       highs = elim c.if-node.branch [
         | then-node w ↦ (
             subst (λ (hs : List (List ℕ)). AreHighsTo images (place + 1) hs) (sym w.highs-is)
-            (λ u d few kind. pairs_set (λ (d : Node) (v : List ℕ). IsHigh images d.subject v) (λ
-            (d : Node). d.gains ≡ false) nodes c.loop-place.highs place node
-            w.stable_from.result [] (omega
-            (arith, inside, c.loop-place.invariant.many)) inside is w.stable_from.ensures.high
-            c.loop-place.invariant.highs u d (omega
-            (arith, few, length-set c.loop-place.highs place w.stable_from.result)) kind))
+            (record {
+              many = length-set c.loop-place.highs place w.stable_from.result ∙
+                  c.loop-place.invariant.highs.many;
+              known = λ u d few kind. pairs_set (λ (d : Node) (v : List ℕ). IsHigh images d.subject v) (λ
+                  (d : Node). d.gains ≡ false) nodes c.loop-place.highs place node
+                  w.stable_from.result [] (omega
+                  (arith, inside, c.loop-place.invariant.highs.many)) inside is w.stable_from.ensures.high
+                  c.loop-place.invariant.highs.known u d (omega
+                  (arith, few, length-set c.loop-place.highs place w.stable_from.result)) kind;
+            }))
         | else-node w ↦ (
             subst (λ (hs : List (List ℕ)). AreHighsTo images (place + 1) hs) (sym w.highs-is)
-            (pairs_kept (λ (d : Node) (v : List ℕ). IsHigh images d.subject v) (λ
-            (d : Node). d.gains ≡ false) nodes c.loop-place.highs place node []
-            inside is w.if-node.false c.loop-place.invariant.highs))
+            (record {
+              many = c.loop-place.invariant.highs.many;
+              known = pairs_kept (λ (d : Node) (v : List ℕ). IsHigh images d.subject v) (λ
+                  (d : Node). d.gains ≡ false) nodes c.loop-place.highs place node []
+                  inside is w.if-node.false c.loop-place.invariant.highs.known;
+            }))
       ];
-      many = same;
       values = elim c.if-node.branch [
         | then-node w ↦ ap (λ values. vec_capacity values) w.values-is ∙ w.stable_from.ensures.capacity
             ∙ c.loop-place.invariant.values
@@ -85,7 +94,7 @@ loop-place-preserved c =
 
 pub returns : goal.returns
 returns c i low =
-    highs_are c.args.images.now c.loop-place.place c.loop-place.highs i c.loop-place.invariant.many
+    highs_are c.args.images.now c.loop-place.place c.loop-place.highs i
     (subst (λ
     (ns : List Node). length ns ≤ c.loop-place.place) c.deref-node-items.ensures.value c.loop-place-test.false) low
     c.loop-place.invariant.highs

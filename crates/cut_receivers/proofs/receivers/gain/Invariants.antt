@@ -1,4 +1,4 @@
-use Rattle.std.proofs.Common.{◌≡◌, length, vec_capacity}
+use Rattle.std.proofs.Common.{◌≡◌, vec_capacity}
 use Rattle.cut_receivers.specs.Times.{AreHighsTo}
 use Rattle.cut_receivers.proofs.receivers.gain.Given as goal
 
@@ -6,6 +6,5 @@ use Rattle.cut_receivers.proofs.receivers.gain.Given as goal
 abbrev pub invariant-loop-place : goal.invariant-loop-place
 invariant-loop-place l = record {
   highs : AreHighsTo l.images l.place l.highs;
-  many : length l.highs ≡ length l.images.trial.nodes.now.nodes.items;
   values : vec_capacity l.values ≡ vec_capacity l.initial.values;
 }

@@ -71,21 +71,19 @@ returns-clause-lows c i low =
     ∙ sym (map-map (λ (d : Node). d.subject) f nodes)
 
 pub returns-clause-highs : goal.returns-clause-highs
-returns-clause-highs c u d few kind =
+returns-clause-highs c =
     let many : length c.loop-node.highs.items ≡ c.loop-node.node-index = search rules in
-    elim kind [
-      | inl none ↦ absurd (omega (arith, none))
-      | inr none ↦ c.loop-node.invariant.highs u d (omega (arith, few, many)) none
-    ]
-
-pub returns-clause-many : goal.returns-clause-many
-returns-clause-many c =
-    let many : length c.loop-node.highs.items ≡ c.loop-node.node-index = search rules in
-    omega (
-      arith,
-      many,
-      c.loop-node-test.false,
-      c.loop-node.auto.node-index-end,
-      ap (λ
-          (ns : List Node). length ns) c.deref-node-items.ensures.value,
-    )
+    record {
+      many = omega (
+        arith,
+        many,
+        c.loop-node-test.false,
+        c.loop-node.auto.node-index-end,
+        ap (λ (ns : List Node). length ns) c.deref-node-items.ensures.value,
+      );
+      known = λ u d few kind.
+          elim kind [
+            | inl none ↦ absurd (omega (arith, none))
+            | inr none ↦ c.loop-node.invariant.highs u d (omega (arith, few, many)) none
+          ];
+    }

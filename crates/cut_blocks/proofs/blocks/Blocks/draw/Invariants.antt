@@ -5,7 +5,7 @@ use Rattle.cut_blocks.proofs.blocks.Blocks.draw.Given as goal
 -- the blocks so far are drawn, and there is room for all
 abbrev pub invariant-loop-block : goal.invariant-loop-block
 invariant-loop-block l = record {
-  drawn : l.images.items ≡ map (λ b. eight (least_image l.self l.copies b) l.rows) (take l.block-index l.blocks);
+  drawn : l.images.items ≡ map (λ b. eight (least_image l.self l.fn.copies b) l.fn.rows) (take l.block-index l.blocks);
   many : vec_len l.images ≡ l.block-index;
   room : length l.blocks ≤ vec_capacity l.images;
 }

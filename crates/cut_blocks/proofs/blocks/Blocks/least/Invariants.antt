@@ -4,4 +4,4 @@ use Rattle.cut_blocks.proofs.blocks.Blocks.least.Given as goal
 
 -- the least images over the copies so far
 abbrev pub invariant-loop-copy : goal.invariant-loop-copy
-invariant-loop-copy l = l.least ≡ eight (least_image l.self l.copy l.block) l.rows
+invariant-loop-copy l = l.least ≡ eight (least_image l.self l.copy l.block) l.rows.first

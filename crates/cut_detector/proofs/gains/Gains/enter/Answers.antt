@@ -32,7 +32,7 @@ loop-ring-preserved c =
       arith,
       c.loop-ring.tally.full.masks.ok.0,
       c.loop-ring.invariant.long,
-      c.requires.long,
+      c.requires.tally.long,
     ) in
     let same : length after ≡ length before = ap length c.gain-in-loop-ring.ensures.full ∙ length-added _ _ _
     ∙ ap length c.gain.ensures.full ∙ length-added _ _ _ in

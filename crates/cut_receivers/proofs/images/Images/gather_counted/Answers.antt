@@ -31,7 +31,8 @@ loop-cause-preserved c = record {
       ap (λ (vs : List (List ℕ)). lane i vs) c.push_reserved.ensures.items
       ∙ lane_more i f c.args.node.now.causes.items index none c.loop-cause.values.items c.counted_from.result
       (subst (λ (causes : List Cause). index < length causes) c.deref-cause-items.ensures.value c.loop-cause-test.true)
-      (c.loop-cause.invariant.times i low) (c.counted_from.ensures i c.args.node.now.subject low (c.requires.low i low)
+      (c.loop-cause.invariant.times i low) (c.counted_from.ensures i c.args.node.now.subject low
+      (c.requires.lows.own i low)
       ∙ ap (λ (causes : List Cause). f (slice_index_or causes index none)) c.deref-cause-items.ensures.value);
   many = omega (arith, c.push_reserved.ensures.len, c.loop-cause.invariant.many);
   room = omega (arith, c.push_reserved.ensures.capacity, c.loop-cause.invariant.room);

@@ -7,11 +7,11 @@ use Rattle.cut_blocks.specs.Images.{never}
 use Rattle.cut_nodes.specs.Nodes.{subjects_of}
 use Rattle.cut_receivers.specs.declared.receivers.Receivers.{Receivers}
 use Rattle.cut_receivers.specs.Findings.{flagged, has_bit, members_at, Finds}
-use Rattle.cut_receivers.specs.Heard.{hearing_of, HasHeard}
+use Rattle.cut_receivers.specs.Heard.{hearing_of}
 use Rattle.cut_outcome.proofs.Words.{is_target}
 use Rattle.cut_trial.proofs.Placed.{found_placed}
 use Rattle.cut_trial.specs.declared.judges.Found.{Found}
-use Rattle.cut_trial.specs.Judging.{IsFound}
+use Rattle.cut_trial.specs.Judging.{IsFound, IsFoundIn}
 use Rattle.cut_plan.specs.Versions.{version_of}
 use Rattle.cut_arrivals.specs.Hearing.{Hearing}
 use Rattle.cut_trial.proofs.Judged.{receiver_within, same_judged}
@@ -41,21 +41,6 @@ judge-findings-requires c =
           (λ s. highs_at (hearing_of round.trial (slice_index c.four_from-four.result 0)) never s),
     )
 
-pub judge_one-requires-clause-heard : goal.judge_one-requires-clause-heard
-judge_one-requires-clause-heard c =
-    let round = c.args.round in
-    let subjects : List ℕ = subjects_of round.trial.nodes.now.nodes.items in
-    let lane : ℕ = c.loop-lane.lane in
-    let end : c.min-lane-end.result ≡ min 4 (length round.cast.receivers.now - c.args.first) = search rules in
-    let low : lane < 4 = omega (arith, end, c.loop-lane-test.true) in
-    let inside : c.args.first + lane < length round.cast.receivers.now = omega (arith, end, c.loop-lane-test.true) in
-    subst (λ (t : Receivers). HasHeard (hearing_of round.trial
-    (slice_index round.cast.receivers.now (c.args.first + lane))) subjects lane t)
-    (sym c.loop-lane.invariant.times)
-    (subst (λ j. HasHeard (hearing_of round.trial j) subjects lane c.places.new.self.times)
-    (c.four_from-four.ensures.each lane inside low)
-    (c.in_ok-places.ensures.same _ subjects lane (c.in_ok-hear.ensures lane low)))
-
 pub judge_one-requires-clause-found : goal.judge_one-requires-clause-found
 judge_one-requires-clause-found c =
     let round = c.args.round in
@@ -67,17 +52,16 @@ judge_one-requires-clause-found c =
     let low : lane < 4 = omega (arith, end, c.loop-lane-test.true) in
     let inside : c.args.first + lane < length round.cast.receivers.now = omega (arith, end, c.loop-lane-test.true) in
     let x : Hearing = hearing_of round.trial (slice_index c.four_from-four.result lane) in
-    let doubt : Bool = has_bit c.hear.new.self.closing.doubt lane in
+    let times : Receivers = c.places.new.self.times in
     let heard = c.in_ok-hear.ensures lane low in
     let finds = c.judge-findings.ensures.finds x subjects lane low heard in
-    let same : c.loop-lane.self.times.closing.doubt ≡ c.hear.new.self.closing.doubt =
-    ap (λ (t : Receivers). t.closing.doubt) c.loop-lane.invariant.times ∙ c.in_ok-places.ensures.doubt in
     let f : Found = record { finding = c.at.result; place = c.place_in.result } in
-    let found : IsFound x version wanted doubt f = record {
+    let found : IsFound x version wanted (has_bit c.hear.new.self.closing.doubt lane) f = record {
       finds = subst (λ f. Finds wanted (members_at x) f) (sym c.at.ensures.finding) finds;
       certain = λ set. c.at.ensures.doubtful.1 (subst (λ n. IsTrue (has_bit n lane))
           (sym c.judge-findings.ensures.doubtful) set);
-      placed = found_placed x version wanted lane doubt c.judge-findings.result c.in_ok-places.places c.place_in.result
+      placed = found_placed x version wanted lane (has_bit c.hear.new.self.closing.doubt lane)
+          c.judge-findings.result c.in_ok-places.places c.place_in.result
           low
           c.place_in.ensures.unasked c.place_in.ensures.place c.in_ok-places.ensures.unasked
           (IfSome_then c.in_ok-places.places c.in_ok-places.ensures.places
@@ -87,10 +71,16 @@ judge_one-requires-clause-found c =
           (c.at.ensures.finding ∙ is)));
       few = c.place_in.ensures.few;
     } in
-    subst (λ (j : ℕ). IsFound (hearing_of round.trial j) version wanted
-    (has_bit c.loop-lane.self.times.closing.doubt lane) f)
-    (c.four_from-four.ensures.each lane inside low)
-    (subst (λ n. IsFound x version wanted (has_bit n lane) f) (sym same) found)
+    let all : IsFoundIn x version subjects round.wanted.now times lane f = record {
+      few = low;
+      heard = c.in_ok-places.ensures.same _ subjects lane heard;
+      found = subst (λ n. IsFound x version wanted (has_bit n lane) f) (sym c.in_ok-places.ensures.doubt) found;
+    } in
+    subst (λ (t : Receivers). IsFoundIn (hearing_of round.trial
+    (slice_index round.cast.receivers.now (c.args.first + lane))) version subjects round.wanted.now t lane f)
+    (sym c.loop-lane.invariant.times)
+    (subst (λ (j : ℕ). IsFoundIn (hearing_of round.trial j) version subjects round.wanted.now times lane f)
+    (c.four_from-four.ensures.each lane inside low) all)
 
 pub returns-clause-judged : goal.returns-clause-judged
 returns-clause-judged c =
@@ -99,7 +89,7 @@ returns-clause-judged c =
     let end : c.min-lane-end.result ≡ min 4 (length rs - c.args.first) = search rules in
     let at : c.loop-lane.lane ≡ c.min-lane-end.result = omega (arith, c.loop-lane-test.false) in
     rw (← same_judged cast.alerts.now c.args.draws.now rs (c.args.first + c.loop-lane.lane) (c.args.first + 4)
-    (omega (arith, at, end, c.requires.some))) c.loop-lane.invariant.judged
+    (omega (arith, at, end, c.requires.next.some))) c.loop-lane.invariant.judged
 
 pub places-requires : goal.places-requires
 places-requires c = record {

@@ -1,11 +1,9 @@
 use Rattle.std.proofs.Common.{rules, ◌≡◌, ℕ, ◌<◌, ◌^◌, Bool, true, false, List, filter, length, refl, ap, sym, ◌∙◌}
 use Rattle.std.proofs.Common.{arith}
-use Rattle.std.specs.Prelude.{All}
 use Rattle.std.proofs.lemmas.Bool.{eqb-true}
 use Rattle.cut_detector.specs.Rule.{rule_in}
 use Rattle.cut_detector.specs.Counts.{is_reported, is_some_stable}
 use Rattle.cut_nodes.specs.declared.node.Node.{Node}
-use Rattle.cut_nodes.specs.declared.slots.Slots.{Slots}
 use Rattle.cut_nodes.specs.Nodes.{subjects_of}
 use Rattle.cut_outcome.proofs.Words.{Edge, Rule, is_target, range_with_len, rule_of, set_of, targets_of}
 use Rattle.cut_trial.proofs.Judged.{complete_from, heard_as, none_stable, some_node, subjects_within}
@@ -77,8 +75,3 @@ invariant_of-round-clause-complete c = λ is.
     (c.in_ok-nodes.ensures.subjects ∙ ap (λ n. filter reported (range_with_len 0 n)) nodes) refl
     (c.as_slice-wanted.ensures.value ∙ c.in_ok-wanted.ensures)
     (sym c.count_set.ensures ∙ many ∙ ap (λ (xs : List ℕ). length xs) cast.targets_are)
-
-pub invariant_of-round-clause-blocks : goal.invariant_of-round-clause-blocks
-invariant_of-round-clause-blocks c =
-    held_by (λ (s : Slots). All (λ block. block < 2 ^ 13) s.blocks.items) c.as_ref.result c.in_ok-slots.slots
-    c.as_ref.ensures.value c.in_ok-slots.ensures.within
