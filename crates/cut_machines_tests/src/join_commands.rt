@@ -1,151 +1,108 @@
-//! The command that joins checkpoints, over disks in memory: what it prints and leaves, what it refuses, and disks that
-//! fail at each of their calls.
+//! The command that joins checkpoints, over disks in memory: disks that fail at each of their calls, and refused memory.
 
-use super::joins::{OTHER, PLAN, Row, TWO_FILES, slips_of};
 use cut_commands::CliFault;
-use cut_disks::{Disk, FaultyDisk, Tear};
+use cut_disks::{FaultyDisk, Tear};
 use cut_join::join;
 use cut_journal::Journal;
-use cut_machines::{Joined, JoinedFiles, join_files, join_io};
+use cut_ledger::Slip;
+use cut_machines::join_io;
+use cut_outcome::{Piece, Totals};
 use cut_plan::Plan;
 use cut_wires::MemoryWire;
-use std::alloc::Global;
-use std::fs;
-use std::process::Abort;
+use std::alloc::{AllocError, Global};
 use std::test::Fail;
 
-// A disk of these bytes on which no call fails.
-fn disk_of(alloc: Global, bytes: &[u8]) -> Result<FaultyDisk, Fail> {
-    Ok(FaultyDisk::of(alloc, Vec::from_slice(alloc, bytes)?, 0, Tear::Nothing)?)
-}
+// Two cells of six trials each.
+const PLAN: &str =
+    r#"{"copies":1,"dead":"silent","deaf":0,"f":[0,1],"h":[1],"implicit":true,"k":[1],"l":[1],"liars":0,
+"links":0,"nodes":5,"repeats":6,
+"seed":"0000000000000000000000000000000000000000000000000000000000000000","version":2}"#;
 
-// The checkpoint of a plan with these slips, no two of which are adjacent.
-fn checkpoint_of(alloc: Global, text: &str, rows: &[Row]) -> Result<FaultyDisk, Fail> {
-    let plan = Plan::from_json(alloc, text.as_bytes())?;
-    match Journal::create(alloc, disk_of(alloc, b"")?, &plan) {
-        Ok(mut journal) => {
-            join(alloc, &plan, &slips_of(alloc, rows)?, &mut journal)?;
-            Ok(journal.into_disk())
+// The pieces of three checkpoints, and what they print that are joined.
+const PIECES: [&[(u32, u32)]; 3] = [&[(0, 2), (4, 2)], &[(9, 3), (2, 2), (6, 1)], &[(8, 1)]];
+
+const LINE: &str = "joined 6 into 3, 11 of 12\n";
+
+// The slip of a piece: nobody is reported in the first cell, and in the second each receiver proposes who crashed.
+fn slip_of((first, count): (u32, u32)) -> Slip {
+    let trials = u64::from(count.min(6));
+    let totals = if first < 6 {
+        Totals {
+            receivers: 5 * trials,
+            silent: 5 * trials,
+            ..Totals::ZERO
         }
-        Err((fault, _disk)) => Err(fault)?,
-    }
-}
-
-// Three checkpoints of the plan, with the slips of two files.
-fn three_checkpoints(alloc: Global) -> Result<Vec<FaultyDisk>, Fail> {
-    let mut disks = Vec::new(alloc);
-    disks.push(checkpoint_of(alloc, PLAN, &TWO_FILES[..2])?)?;
-    disks.push(checkpoint_of(alloc, PLAN, &TWO_FILES[2..5])?)?;
-    disks.push(checkpoint_of(alloc, PLAN, &TWO_FILES[5..])?)?;
-    Ok(disks)
-}
-
-// What joining disks on another one prints, which is its answer or its fault.
-fn printed<O, N>(alloc: Global, old: Vec<O>, new: N) -> Result<String, Fail>
-where
-    O: Disk + Drop,
-    N: Disk + Drop,
-{
-    let mut wire = MemoryWire::new(alloc, Vec::from_slice(alloc, PLAN.as_bytes())?, 4096);
-    match join_io(alloc, &mut wire, old, new).ended {
-        Ok(()) => Ok(String::from_utf8_lossy(alloc, wire.taken())?),
-        Err(fault) => Ok(fault.to_string(alloc)?),
-    }
-}
-
-#[test]
-fn three_checkpoints_are_joined(rt: HostRuntime) -> Result<(), Fail> {
-    let alloc = rt.alloc();
-    let plan = Plan::from_json(alloc, PLAN.as_bytes())?;
-    let mut disk = disk_of(alloc, b"")?;
-    let text = printed(alloc, three_checkpoints(alloc)?, &mut disk)?;
-    assert!(rt; text.as_str() == "joined 6 into 3, 11 of 12\n");
-    match Journal::reopen(alloc, disk, &plan) {
-        Ok((_journal, slips)) => {
-            let pieces = slips
-                .iter()
-                .map(|slip| (slip.piece.first, slip.piece.count));
-            assert!(rt; pieces.eq([(0, 6), (6, 1), (8, 4)]));
-            Ok(())
+    } else {
+        Totals {
+            receivers: 4 * trials,
+            votes: 4 * trials,
+            decided: trials,
+            right: trials,
+            settled: 4 * trials,
+            ..Totals::ZERO
         }
-        Err((fault, _disk)) => Err(fault)?,
+    };
+    Slip {
+        piece: Piece { first, count },
+        totals,
     }
 }
 
-// Whether old disks are refused by this line, and this one of them is named, and nothing is written to the new one.
-fn are_refused(
-    alloc: Global,
-    old: Vec<FaultyDisk>,
-    line: &str,
-    place: Option<usize>,
-) -> Result<bool, Fail> {
-    let mut wire = MemoryWire::new(alloc, Vec::from_slice(alloc, PLAN.as_bytes())?, 4096);
-    let Joined {
-        disk,
-        refused,
-        ended,
-    } = join_io(alloc, &mut wire, old, disk_of(alloc, b"")?);
-    match ended {
-        Ok(()) => Ok(false),
-        Err(fault) => Ok(
-            fault.to_string(alloc)?.as_str() == line
-                && refused == place
-                && disk.memory().bytes().is_empty(),
-        ),
-    }
-}
-
-// A checkpoint with the slips of the first file, and another one.
-fn first_and(alloc: Global, other: FaultyDisk) -> Result<Vec<FaultyDisk>, Fail> {
-    let mut disks = Vec::new(alloc);
-    disks.push(checkpoint_of(alloc, PLAN, &TWO_FILES[..3])?)?;
-    disks.push(other)?;
-    Ok(disks)
-}
-
-#[test]
-fn old_checkpoints_that_are_refused(rt: HostRuntime) -> Result<(), Fail> {
-    let alloc = rt.alloc();
-    let same = first_and(alloc, checkpoint_of(alloc, PLAN, &TWO_FILES[..3])?)?;
-    assert!(rt; are_refused(alloc, same, "cutlab: fault 17 BadSlip 4", None)?);
-    let other = first_and(alloc, checkpoint_of(alloc, OTHER, &[])?)?;
-    assert!(rt; are_refused(alloc, other, "cutlab: fault 23 OtherPlan", Some(2))?);
-    let none = first_and(alloc, disk_of(alloc, b"")?)?;
-    assert!(rt; are_refused(alloc, none, "cutlab: fault 22 NoStudy", Some(2))?);
-    Ok(())
-}
-
-// A new checkpoint that holds a study is refused after a slip, and is left as it is.
-#[test]
-fn a_new_checkpoint_that_holds_a_study(rt: HostRuntime) -> Result<(), Fail> {
-    let alloc = rt.alloc();
-    let mut held = checkpoint_of(alloc, PLAN, &TWO_FILES[..1])?;
-    let before = Vec::from_slice(alloc, held.memory().bytes())?;
-    let text = printed(alloc, three_checkpoints(alloc)?, &mut held)?;
-    assert!(rt; text.as_str() == "cutlab: fault 25 Held");
-    let same = first_and(alloc, checkpoint_of(alloc, PLAN, &TWO_FILES[..3])?)?;
-    let text = printed(alloc, same, &mut held)?;
-    assert!(rt; text.as_str() == "cutlab: fault 17 BadSlip 4");
-    assert!(rt; held.memory().bytes() == before.as_slice());
-    Ok(())
-}
-
-// A disk of these bytes that fails at a call.
-fn failing_disk(alloc: Global, bytes: &[u8], fail_at: u64) -> Result<FaultyDisk, Fail> {
+// A disk of these bytes that fails at a call from now on, or at none where that is 0.
+fn failing_disk(alloc: Global, bytes: &[u8], fail_at: u64) -> Result<FaultyDisk, AllocError> {
     let bytes = Vec::from_slice(alloc, bytes)?;
     let disk = FaultyDisk::of(alloc, bytes, fail_at, Tear::Nothing)?;
     disk.arm();
     Ok(disk)
 }
 
-// What joining three checkpoints prints, the second of which fails at one call and the new one at another, or at none.
-fn printed_of_failing(alloc: Global, old_at: u64, new_at: u64) -> Result<String, Fail> {
-    let second = checkpoint_of(alloc, PLAN, &TWO_FILES[2..5])?;
+// The checkpoint of the plan with the slips of pieces, no two of which are adjacent.
+fn checkpoint_of(alloc: Global, pieces: &[(u32, u32)]) -> Result<FaultyDisk, Fail> {
+    let plan = Plan::from_json(alloc, PLAN.as_bytes())?;
+    let slips = pieces
+        .iter()
+        .map(|piece| slip_of(*piece))
+        .collect::<Vec<Slip>>(alloc)?;
+    match Journal::create(alloc, failing_disk(alloc, b"", 0)?, &plan) {
+        Ok(mut journal) => {
+            join(alloc, &plan, &slips, &mut journal)?;
+            Ok(journal.into_disk())
+        }
+        Err((fault, _disk)) => Err(fault)?,
+    }
+}
+
+// The three checkpoints, the second of which fails at a call.
+fn checkpoints(alloc: Global, fail_at: u64) -> Result<Vec<FaultyDisk>, Fail> {
     let mut disks = Vec::new(alloc);
-    disks.push(checkpoint_of(alloc, PLAN, &TWO_FILES[..2])?)?;
-    disks.push(failing_disk(alloc, second.memory().bytes(), old_at)?)?;
-    disks.push(checkpoint_of(alloc, PLAN, &TWO_FILES[5..])?)?;
-    printed(alloc, disks, failing_disk(alloc, b"", new_at)?)
+    for (place, pieces) in PIECES.iter().enumerate() {
+        let disk = checkpoint_of(alloc, *pieces)?;
+        let fail_at = if place == 1 { fail_at } else { 0 };
+        disks.push(failing_disk(alloc, disk.memory().bytes(), fail_at)?)?;
+    }
+    Ok(disks)
+}
+
+// How a join ended.
+#[derive(Clone, Copy, PartialEq, Eq)]
+enum End {
+    Joined,
+    Memory,
+    Disk,
+    Other,
+}
+
+// How joining the three checkpoints on a new disk ends, where the second of them fails at a call, and the new one.
+fn end_of(alloc: Global, old_at: u64, new_at: u64) -> Result<End, Fail> {
+    let mut wire = MemoryWire::new(alloc, Vec::from_slice(alloc, PLAN.as_bytes())?, 4096);
+    let old = checkpoints(alloc, old_at)?;
+    let new = failing_disk(alloc, b"", new_at)?;
+    Ok(match join_io(alloc, &mut wire, old, new).ended {
+        Ok(()) if wire.taken() == LINE.as_bytes() => End::Joined,
+        Err(CliFault::Memory) => End::Memory,
+        Err(fault) if fault.number() == 20 => End::Disk,
+        _ => End::Other,
+    })
 }
 
 #[test]
@@ -153,16 +110,13 @@ fn each_call_of_a_disk_fails(rt: HostRuntime) -> Result<(), Fail> {
     let alloc = rt.alloc();
     // An old disk of three slips is read in 15 calls.
     for fail_at in 1..=15 {
-        let text = printed_of_failing(alloc, fail_at, 0)?;
-        assert!(rt; text.as_str() == "cutlab: fault 20 Disk", "{fail_at}");
+        assert!(rt; end_of(alloc, fail_at, 0)? == End::Disk, "{fail_at}");
     }
     // A new one is looked at and a study made in eight, and each slip takes four.
     for fail_at in 1..=20 {
-        let text = printed_of_failing(alloc, 0, fail_at)?;
-        assert!(rt; text.as_str() == "cutlab: fault 20 Disk", "{fail_at}");
+        assert!(rt; end_of(alloc, 0, fail_at)? == End::Disk, "{fail_at}");
     }
-    let text = printed_of_failing(alloc, 16, 21)?;
-    assert!(rt; text.as_str() == "joined 6 into 3, 11 of 12\n");
+    assert!(rt; end_of(alloc, 16, 21)? == End::Joined);
     Ok(())
 }
 
@@ -170,59 +124,15 @@ fn each_call_of_a_disk_fails(rt: HostRuntime) -> Result<(), Fail> {
 // any one allocation of the joins is refused, and is meant to be run so by hand.
 #[test]
 fn a_refused_allocation_stops_one_join(rt: HostRuntime) -> Result<(), Fail> {
-    let alloc = rt.alloc();
     let mut stopped = 0u32;
     for _ in 0..3 {
-        let mut wire = MemoryWire::new(alloc, Vec::from_slice(alloc, PLAN.as_bytes())?, 4096);
-        let old = three_checkpoints(alloc)?;
-        let ended = join_io(alloc, &mut wire, old, disk_of(alloc, b"")?).ended;
-        if matches!(ended, Err(CliFault::Memory)) {
+        let end = end_of(rt.alloc(), 0, 0)?;
+        if end == End::Memory {
             stopped = stopped.saturating_add(1);
         } else {
-            assert!(rt;
-                matches!(ended, Ok(())) && wire.taken() == b"joined 6 into 3, 11 of 12\n".as_slice()
-            );
+            assert!(rt; end == End::Joined);
         }
     }
     assert!(rt; stopped <= 1);
     Ok(())
-}
-
-const FOLDER: &str = "cutlab_join_test";
-
-const FILES: [&str; 2] = ["cutlab_join_test/1.cut", "cutlab_join_test/2.cut"];
-
-const NEW: &str = "cutlab_join_test/new.cut";
-
-// What joining files in another one prints, which is its answer or its fault, after the place of a refused one.
-fn printed_of_files(host: &HostRuntime, old: &[&str], new: &str) -> Result<String, Fail> {
-    let alloc = host.alloc();
-    let mut wire = MemoryWire::new(alloc, Vec::from_slice(alloc, PLAN.as_bytes())?, 4096);
-    let JoinedFiles { refused, ended } = join_files(host, &mut wire, old, new);
-    match (refused, ended) {
-        (None, Ok(())) => Ok(String::from_utf8_lossy(alloc, wire.taken())?),
-        (Some(place), Err(fault)) => Ok(format!(in alloc; "{place}, {fault}")?),
-        (None, Err(fault)) => Ok(fault.to_string(alloc)?),
-        (Some(place), Ok(())) => Ok(format!(in alloc; "{place}")?),
-    }
-}
-
-// Files are joined in a new one, which is refused as the new one or as an old one of a second join.
-#[test]
-fn files_are_joined(rt: HostRuntime) -> Result<(), Fail> {
-    let _ = fs::remove_dir_all(&rt, FOLDER);
-    fs::create_dir(&rt, FOLDER)?;
-    for (path, rows) in [(FILES[0], &TWO_FILES[..3]), (FILES[1], &TWO_FILES[3..])] {
-        let disk = checkpoint_of(rt.alloc(), PLAN, rows)?;
-        fs::write(&rt, path, disk.memory().bytes())?;
-    }
-    let first = printed_of_files(&rt, &FILES, NEW)?;
-    assert!(rt; first.as_str() == "joined 6 into 3, 11 of 12\n");
-    let second = printed_of_files(&rt, &FILES, NEW)?;
-    assert!(rt; second.as_str() == "cutlab: fault 25 Held");
-    let third = printed_of_files(&rt, &[FILES[0], NEW], NEW)?;
-    assert!(rt; third.as_str() == "2, cutlab: fault 20 Disk");
-    let fourth = printed_of_files(&rt, &[FILES[0], NEW], FILES[1])?;
-    assert!(rt; fourth.as_str() == "cutlab: fault 17 BadSlip 4");
-    Ok(fs::remove_dir_all(&rt, FOLDER)?)
 }

@@ -1,5 +1,5 @@
-//! What no contract of `cut_share`, `cut_join` and `cut_machines` says: which machine has which trial of small plans,
-//! and disks and wires that fail.
+//! What no contract of `cut_share`, `cut_join` and `cut_machines` says: that their commands succeed, and how they end
+//! where disks, wires and allocations fail.
 //!
 //! The tests stand in a crate of their own, as they use these crates as their callers do, and the proofs of the crates
 //! need not be made again for them.
@@ -8,8 +8,4 @@
 #[cfg(test)]
 mod join_commands;
 #[cfg(test)]
-mod joins;
-#[cfg(test)]
 mod share_commands;
-#[cfg(test)]
-mod shares;

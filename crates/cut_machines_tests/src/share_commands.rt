@@ -1,56 +1,39 @@
-//! The command `share` over wires and disks in memory: shares of three, resumed, and stopped by a disk, a wire or
-//! refused memory. Which trials each has was computed apart from this program, as in `shares`.
+//! The command `share` over wires and disks in memory: a share of three, stopped by a disk, a wire or refused memory, and
+//! resumed.
 
-use crate::shares::{PLAN, PLAN_2, are_of};
 use cut_commands::CliFault;
 use cut_disks::{Disk, FaultyDisk, Tear};
 use cut_hooks::NoHooks;
 use cut_journal::{Journal, JournalFault};
+use cut_ledger::Slip;
 use cut_machines::{ShareWork, share_io};
 use cut_plan::Plan;
 use cut_share::Share;
 use cut_wires::{FaultyWire, WriteFault};
-use std::alloc::Global;
-use std::process::Abort;
+use std::alloc::{AllocError, Global};
 use std::sync::Wait;
 use std::test::Fail;
 use std::thread::Threads;
 
-/// A share of three, by blocks of two trials: the line that is written, and the pieces that are kept.
-#[derive(Clone, Copy)]
-struct Row {
-    index: u32,
-    line: &'static str,
-    pieces: &'static [(u32, u32)],
-}
+/// Two cells of five trials each.
+const PLAN: &str =
+    r#"{"copies":1,"dead":"silent","f":[0,1],"faults":"crash","h":[1],"implicit":true,"k":[1],"l":[1],
+"liars":0,"links":0,"nodes":5,"repeats":5,
+"seed":"0000000000000000000000000000000000000000000000000000000000000000","version":1}"#;
 
-const ROWS: [Row; 3] = [
-    Row {
-        index: 1,
-        line: "share 1 of 3: 4 of 4\n",
-        pieces: &[(0, 2), (5, 2)],
-    },
-    Row {
-        index: 2,
-        line: "share 2 of 3: 4 of 4\n",
-        pieces: &[(2, 2), (7, 2)],
-    },
-    Row {
-        index: 3,
-        line: "share 3 of 3: 2 of 2\n",
-        pieces: &[(4, 1), (9, 1)],
-    },
-];
+/// The line that the second share of three writes, by blocks of two trials, and the pieces that are kept.
+const LINE: &[u8] = b"share 2 of 3: 4 of 4\n";
 
-/// Runs a share by two workers over a wire, and returns how that ended.
+const PIECES: [(u32, u32); 2] = [(2, 2), (7, 2)];
+
+/// Runs the share by two workers over a wire, and returns how that ended.
 fn run_share<R: Threads + Wait + Sync>(
     rt: &R,
     alloc: Global,
-    index: u32,
     wire: &mut FaultyWire,
     disk: &mut FaultyDisk,
 ) -> Result<(), CliFault> {
-    let Some(share) = Share::new(index, 3, 2) else {
+    let Some(share) = Share::new(2, 3, 2) else {
         return Err(CliFault::Socket);
     };
     let work = ShareWork {
@@ -61,61 +44,40 @@ fn run_share<R: Threads + Wait + Sync>(
     share_io(rt, alloc, wire, work, disk).ended
 }
 
-/// A wire that gives a text, and has room for this many bytes.
-fn wire_of(alloc: Global, text: &str, room: usize) -> Result<FaultyWire, Fail> {
-    let input = Vec::from_slice(alloc, text.as_bytes())?;
+/// A wire that gives the plan, and has room for this many bytes.
+fn wire_of(alloc: Global, room: usize) -> Result<FaultyWire, AllocError> {
+    let input = Vec::from_slice(alloc, PLAN.as_bytes())?;
     Ok(FaultyWire::new(alloc, input, 4096, room, 0))
 }
 
-/// Whether a share of the plan of a text is run over a disk, writes its line, and leaves its pieces there.
-fn is_run<R: Threads + Wait + Sync>(
-    rt: &R,
-    alloc: Global,
-    text: &str,
-    row: Row,
-    disk: &mut FaultyDisk,
-) -> Result<bool, Fail> {
-    let mut wire = wire_of(alloc, text, 100)?;
-    let ended = run_share(rt, alloc, row.index, &mut wire, disk);
-    Ok(
-        matches!(ended, Ok(()))
-            && wire.taken() == row.line.as_bytes()
-            && are_kept(alloc, text, row.pieces, disk)?,
-    )
+/// Whether slips are those of the share's pieces, in order.
+fn are_pieces(slips: &[Slip]) -> bool {
+    for (slip, (first, count)) in slips.iter().zip(PIECES.iter()) {
+        if slip.piece.first != *first || slip.piece.count != *count {
+            return false;
+        }
+    }
+    slips.len() == PIECES.len()
 }
 
-/// Whether a disk has slips of these pieces, and no others.
-fn are_kept(
-    alloc: Global,
-    text: &str,
-    pieces: &[(u32, u32)],
-    disk: &mut FaultyDisk,
-) -> Result<bool, Fail> {
-    let plan = Plan::from_json(alloc, text.as_bytes())?;
+/// Whether a disk has slips of the share's pieces, and no others.
+fn is_kept(alloc: Global, disk: &mut FaultyDisk) -> Result<bool, Fail> {
+    let plan = Plan::from_json(alloc, PLAN.as_bytes())?;
     match Journal::reopen(alloc, disk, &plan) {
-        Ok((_, slips)) => Ok(are_of(&slips, pieces)),
+        Ok((_journal, slips)) => Ok(are_pieces(slips.as_slice())),
         Err((fault, _)) => Err(fault)?,
     }
 }
 
-/// A disk without bytes on which the call of this number fails, once it is armed.
-fn empty_disk(alloc: Global, fail_at: u64, tear: Tear) -> Result<FaultyDisk, Fail> {
-    Ok(FaultyDisk::of(alloc, Vec::new(alloc), fail_at, tear)?)
-}
-
-// Each share is run, and once more, when nothing is lacking.
-#[test]
-fn shares_are_run_once(rt: HostRuntime) -> Result<(), Fail> {
-    let alloc = rt.alloc();
-    for text in [PLAN, PLAN_2] {
-        for row in ROWS {
-            let mut disk = empty_disk(alloc, 0, Tear::Nothing)?;
-            for _ in 0..2 {
-                assert!(rt; is_run(&rt, alloc, text, row, &mut disk)?, "{}", row.index);
-            }
-        }
-    }
-    Ok(())
+/// Whether the share is run over a disk and writes its line.
+fn is_run<R: Threads + Wait + Sync>(
+    rt: &R,
+    alloc: Global,
+    disk: &mut FaultyDisk,
+) -> Result<bool, AllocError> {
+    let mut wire = wire_of(alloc, 100)?;
+    let ended = run_share(rt, alloc, &mut wire, disk);
+    Ok(matches!(ended, Ok(())) && wire.taken() == LINE)
 }
 
 /// How many calls of a disk without a study its opening takes.
@@ -130,33 +92,30 @@ fn is_reported(ended: Result<(), CliFault>, fail_at: u64) -> bool {
     }
 }
 
-/// Runs the second share on a disk that fails at a call, and then again. Whether the first run reports the failure,
-/// where there was one, and writes nothing, and the second one keeps all.
-fn is_resumed<R: Threads + Wait + Sync>(
+/// Runs the share on a disk that fails at a call. Whether the run reports the failure, where there was one, and writes
+/// nothing.
+fn is_stopped<R: Threads + Wait + Sync>(
     rt: &R,
     alloc: Global,
     fail_at: u64,
     disk: &mut FaultyDisk,
-) -> Result<bool, Fail> {
-    let mut wire = wire_of(alloc, PLAN, 100)?;
-    let ended = run_share(rt, alloc, 2, &mut wire, &mut *disk);
-    let is_right = is_reported(ended, fail_at) && wire.taken().is_empty();
-    Ok(is_right && disk.failures() == 1 && is_run(rt, alloc, PLAN, ROWS[1], disk)?)
+) -> Result<bool, AllocError> {
+    let mut wire = wire_of(alloc, 100)?;
+    let ended = run_share(rt, alloc, &mut wire, &mut *disk);
+    Ok(is_reported(ended, fail_at) && wire.taken().is_empty() && disk.failures() == 1)
 }
 
-// The calls of the opening, and four for each of two slips.
+// The calls of the opening, and four for each of two slips; the next run keeps all.
 #[test]
 fn each_call_of_the_disk_fails(rt: HostRuntime) -> Result<(), Fail> {
-    let alloc = rt.alloc();
-    for tear in [Tear::Nothing, Tear::Everything] {
-        for fail_at in 1..19 {
-            let mut disk = empty_disk(alloc, fail_at, tear)?;
-            disk.arm();
-            assert!(rt;
-                is_resumed(&rt, alloc, fail_at, &mut disk)?,
-                "{fail_at} {tear:?}"
-            );
-        }
+    for fail_at in 1..19 {
+        let mut disk = FaultyDisk::of(rt.alloc(), Vec::new(rt.alloc()), fail_at, Tear::Nothing)?;
+        disk.arm();
+        assert!(rt;
+            is_stopped(&rt, rt.alloc(), fail_at, &mut disk)?,
+            "{fail_at}"
+        );
+        assert!(rt; is_run(&rt, rt.alloc(), &mut disk)? && is_kept(rt.alloc(), &mut disk)?);
     }
     Ok(())
 }
@@ -164,32 +123,25 @@ fn each_call_of_the_disk_fails(rt: HostRuntime) -> Result<(), Fail> {
 // A wire has room for 12 bytes of the answer. All of the share is kept, and nothing is lacking in the next run.
 #[test]
 fn a_share_outlives_its_wire(rt: HostRuntime) -> Result<(), Fail> {
-    let alloc = rt.alloc();
-    let mut disk = empty_disk(alloc, 0, Tear::Nothing)?;
-    let mut wire = wire_of(alloc, PLAN, 12)?;
-    let ended = run_share(&rt, alloc, 1, &mut wire, &mut disk);
+    let mut disk = FaultyDisk::of(rt.alloc(), Vec::new(rt.alloc()), 0, Tear::Nothing)?;
+    let mut wire = wire_of(rt.alloc(), 12)?;
+    let ended = run_share(&rt, rt.alloc(), &mut wire, &mut disk);
     assert!(rt; matches!(ended, Err(CliFault::Write(WriteFault { sent: 12 }))));
-    assert!(rt; wire.taken() == b"share 1 of 3".as_slice());
-    assert!(rt; are_kept(alloc, PLAN, ROWS[0].pieces, &mut disk)?);
-    assert!(rt; is_run(&rt, alloc, PLAN, ROWS[0], &mut disk)?);
+    assert!(rt; is_kept(rt.alloc(), &mut disk)? && is_run(&rt, rt.alloc(), &mut disk)?);
     Ok(())
 }
 
-// A share is run three times over one disk. Where no allocation is refused, each run is whole; the test also holds
+// The share is run three times over one disk. Where no allocation is refused, each run is whole; the test also holds
 // where any one allocation of the runs is refused, and is meant to be run so by hand.
 #[test]
 fn a_refused_allocation_stops_one_run(rt: HostRuntime) -> Result<(), Fail> {
-    let alloc = rt.alloc();
-    let mut disk = empty_disk(alloc, 0, Tear::Nothing)?;
+    let mut disk = FaultyDisk::of(rt.alloc(), Vec::new(rt.alloc()), 0, Tear::Nothing)?;
     let mut stopped = 0u32;
     for _ in 0..3 {
-        let mut wire = wire_of(alloc, PLAN, 100)?;
-        let ended = run_share(&rt, alloc, 2, &mut wire, &mut disk);
-        if !(matches!(ended, Ok(())) && wire.taken() == ROWS[1].line.as_bytes()) {
+        if !is_run(&rt, rt.alloc(), &mut disk)? {
             stopped = stopped.saturating_add(1);
         }
     }
-    assert!(rt; stopped <= 1);
-    assert!(rt; are_kept(alloc, PLAN, ROWS[1].pieces, &mut disk)?);
+    assert!(rt; stopped <= 1 && is_kept(rt.alloc(), &mut disk)?);
     Ok(())
 }
