@@ -20,7 +20,7 @@ pub(crate) const PIECE_MOST: u32 = 1_000_000;
 pub(crate) const WORKERS_MOST: u32 = 64;
 
 /// What `--version` prints after the program's name: its version, and that of the kit that it is proved with.
-const VERSION: &str = "0.9.0 (proved with rattle-kit-13b)";
+const VERSION: &str = "0.9.0 (proved with rattle-kit-13f)";
 
 /// What follows the help of each command: an example, and where to read more.
 const GUIDE: &str = "A plan is read from standard input. See docs/GUIDE.md.";
