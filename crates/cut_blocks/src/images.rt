@@ -1,6 +1,6 @@
 //! Eight vectors of images, a receiver in each lane.
-ghost use Rattle.std.specs.Prelude.{◌≡◌, ℕ, ◌/◌, ◌^◌, ◌-◌, List, map, min};
-ghost use Rattle.cut_blocks.specs.Images.{eight, never};
+ghost use Rattle.std.specs.Prelude.{◌≡◌, ℕ, ◌/◌, ◌-◌, List, map, min};
+ghost use Rattle.cut_blocks.specs.Images.{eight};
 
 use std::simd::u32x4;
 

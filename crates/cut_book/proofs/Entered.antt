@@ -1,8 +1,7 @@
 -- Results whose slip is appended.
-use Rattle.std.proofs.Common.{◌≡◌, ◌∙◌, ◌++◌, ◌∷◌, ◌≤◌, ℕ, Bool, true, false, cond, List, [], Option, Some, None}
-use Rattle.std.proofs.Common.{IfSome, IsSome, is_some, unwrap_or, refl, sym, ap, subst}
+use Rattle.std.proofs.Common.{◌≡◌, ◌∙◌, ◌++◌, ◌∷◌, ◌≤◌, ℕ, Bool, true, false, List, [], Option, Some, None}
+use Rattle.std.proofs.Common.{IfSome, IsSome, is_some, refl, sym, ap}
 use Rattle.cut_faults.specs.Failures.{one_more}
-use Rattle.cut_faults.specs.declared.code.FaultCode.{FaultCode}
 use Rattle.cut_faults.specs.declared.code.FaultCode.TheVariants as code
 use Rattle.cut_plan.specs.Values.{Values}
 use Rattle.cut_outcome.specs.Computed.{Computed}
@@ -13,7 +12,7 @@ use Rattle.cut_ledger.specs.declared.event.Event.TheVariants as event
 use Rattle.cut_ledger.specs.declared.event.Reply as replies
 use Rattle.cut_ledger.specs.declared.event.Reply.TheVariants as reply
 use Rattle.cut_ledger.specs.Contents.{Contents, with_piece}
-use Rattle.cut_ledger.specs.Machine.{StudyState, after, slip_of, accepted_unless, unless_refused, taken, failed}
+use Rattle.cut_ledger.specs.Machine.{StudyState, after, slip_of, failed}
 use Rattle.cut_ledger.specs.Refusals.{refusal_of}
 use Rattle.cut_ledger.specs.World.{HasTrueResult}
 use Rattle.cut_journal.specs.Journal.{JournalValue}
@@ -21,9 +20,9 @@ use Rattle.cut_book.specs.declared.call.Answer.{Answer}
 use Rattle.cut_book.specs.declared.call.Answer.TheVariants.{Accepted, DiskFails}
 use Rattle.cut_book.specs.declared.call.Call.{Call}
 use Rattle.cut_book.specs.History.{Opening, HistoryValue, IsAnswer, IsStep, accepted_slip, event_of}
-use Rattle.cut_book.specs.Book.{GivesAnswer, IsBook, FollowsState, JournalAfter, doubtful_in, failed_since, failures_of}
-use Rattle.cut_book.specs.Book.{hand_in_of, kept_in, book_value_in, state_in}
-use Rattle.cut_book.proofs.Legal.{Noted, state_by, state_next, state_same, stepped}
+use Rattle.cut_book.specs.Book.{GivesAnswer, IsBook, FollowsState, JournalAfter, doubtful_in, failures_of}
+use Rattle.cut_book.specs.Book.{hand_in_of, book_value_in, state_in}
+use Rattle.cut_book.proofs.Legal.{Noted, state_next, state_same, stepped}
 use Rattle.cut_book.proofs.Refused.{IsFree}
 
 -- ---- journals

@@ -1,6 +1,6 @@
 -- Calls and losses that are kept apart, in the order in which they came.
 use Rattle.std.proofs.Common.{false, ◌≡◌, ◌∙◌, ℕ, ◌+◌, ◌-◌, ◌≤◌, ◌<◌, List, [], ◌∷◌, ◌++◌, map, take, drop, length}
-use Rattle.std.proofs.Common.{get_or, refl, sym, ap, subst, arith, append_assoc, append-nil, length-append}
+use Rattle.std.proofs.Common.{get_or, refl, sym, subst, arith, append_assoc, append-nil, length-append}
 use Rattle.std.proofs.lemmas.List.{map-append, take_all, drop_all, drop_more, drop-append-le, take-append-le}
 use Rattle.std.proofs.lemmas.List.{length-drop, length-take, length-map}
 use Rattle.cut_outcome.specs.Sum.{each_number}
@@ -11,7 +11,7 @@ use Rattle.cut_book.specs.declared.call.Call.TheVariants.{HandIn}
 use Rattle.cut_book.specs.declared.history.Entry.{Entry}
 use Rattle.cut_book.specs.History.{accepted_in}
 use Rattle.cut_book.specs.HistoryInside.{AreInOrder, calls_from, lost_call}
-use Rattle.cut_book.proofs.Sums.{count_in, first_in}
+use Rattle.cut_book.proofs.Sums.{first_in}
 
 pub within : (n all : ℕ) (es : List Entry) → AreInOrder n es all → n ≤ all
 within n all [] order = order

@@ -1,6 +1,6 @@
 -- Books of which nothing was asked yet.
-use Rattle.std.proofs.Common.{◌≡◌, ◌∙◌, ◌++◌, ℕ, Bool, true, false, cond, List, [], length, map, Ok, Option, Some, None}
-use Rattle.std.proofs.Common.{IfSome, is_some, refl, sym, ap, subst, append-nil}
+use Rattle.std.proofs.Common.{◌≡◌, ◌∙◌, ℕ, Bool, false, List, [], length, map, Ok, Option, Some, None}
+use Rattle.std.proofs.Common.{IfSome, is_some, refl, ap}
 use Rattle.cut_plan.specs.Values.{Values}
 use Rattle.cut_outcome.specs.declared.piece.Piece.{Piece}
 use Rattle.cut_disks.specs.State.{DiskState}
@@ -10,11 +10,10 @@ use Rattle.cut_ledger.specs.Gaps.{pieces_of}
 use Rattle.cut_ledger.specs.Machine.{opened}
 use Rattle.cut_journal.specs.Journal.{JournalValue}
 use Rattle.cut_journal.specs.Reading.{reading}
-use Rattle.cut_journal.specs.Laws.{IsJournalOf, OpeningsFollow}
-use Rattle.cut_book.specs.declared.call.Call.{Call}
-use Rattle.cut_book.specs.History.{Opening, HistoryValue, accepted_slips}
+use Rattle.cut_journal.specs.Laws.{OpeningsFollow}
+use Rattle.cut_book.specs.History.{HistoryValue}
 use Rattle.cut_book.specs.Book.{FollowsState, doubtful_in, kept_in, state_in}
-use Rattle.cut_book.proofs.Legal.{none_kept, state_by}
+use Rattle.cut_book.proofs.Legal.{none_kept}
 
 -- a journal as it was made or opened again: of that plan, with these slips, none doubtful
 abbrev pub IsFresh : {D : Type 0} → Values → List Slip → Option (JournalValue D) → Type 0

@@ -8,7 +8,7 @@ use Rattle.cut_outcome.specs.Computed.{Computed}
 use Rattle.cut_ledger.specs.declared.offer_fault.OfferFault.TheVariants as ledger
 use Rattle.cut_ledger.specs.Contents.{Contents, overlaps}
 use Rattle.cut_ledger.specs.FaultCode.{code_of}
-use Rattle.cut_ledger.specs.Machine.{StudyState, after, refused_code, unless_refused, accepted_unless, taken}
+use Rattle.cut_ledger.specs.Machine.{StudyState, after, refused_code}
 use Rattle.cut_ledger.specs.Refusals.{is_same_plan, refusal_of}
 use Rattle.cut_ledger.specs.World.{HasTrueResult}
 use Rattle.cut_ledger.specs.declared.event.Event.TheVariants as event

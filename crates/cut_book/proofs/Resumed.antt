@@ -1,6 +1,6 @@
 -- What a crash leaves of a disk of which nothing is asked.
-use Rattle.std.proofs.Common.{◌≡◌, ◌∙◌, inl, inr, ℕ, Bool, true, false, cond, List, [], Option, Some, None, IfSome}
-use Rattle.std.proofs.Common.{unwrap_or, refl, sym, ap, subst, arith}
+use Rattle.std.proofs.Common.{◌≡◌, ◌∙◌, inl, inr, ℕ, Bool, cond, List, [], Option, Some, None, IfSome}
+use Rattle.std.proofs.Common.{unwrap_or, refl, ap, arith}
 use Rattle.std.specs.Prelude.{option_map}
 use Rattle.cut_faults.specs.declared.code.FaultCode.TheVariants as code
 use Rattle.cut_plan.specs.Values.{Values}

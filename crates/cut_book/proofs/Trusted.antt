@@ -1,5 +1,5 @@
 -- Slips that are found on a disk whose slips are true.
-use Rattle.std.proofs.Common.{◌≡◌, ℕ, true, inl, inr, List, Option, Some, Ok, sym, subst}
+use Rattle.std.proofs.Common.{◌≡◌, ℕ, inl, inr, List, Option, Some, Ok}
 use Rattle.cut_plan.specs.Values.{Values}
 use Rattle.cut_disks.specs.State.{DiskState}
 use Rattle.cut_ledger.specs.declared.slip.Slip.{Slip}

@@ -1,6 +1,6 @@
-ghost use Rattle.std.specs.Prelude.{◌≡◌, ◌+◌, ◌^◌, ◌<◌, ◌≤◌, ◌↔◌, ◌++◌, [], ◌∷◌, ℕ, List, None, Some, Ok, true, false};
+ghost use Rattle.std.specs.Prelude.{◌≡◌, ◌+◌, ◌^◌, ◌<◌, ◌≤◌, ◌++◌, [], ◌∷◌, ℕ, List, None, Some, Ok, true, false};
 ghost use Rattle.std.specs.Prelude.{length, is_some, slice_get, slice_index_or, if◌then◌else◌};
-ghost use Rattle.std.specs.Prelude.{IsTrue, IfSome, IfNone, IfOk, IfErr, OnOk, OnErr, IsErr, IsErrOf, IsSome};
+ghost use Rattle.std.specs.Prelude.{IsTrue, IfSome, IfNone, IfOk, IfErr, OnOk, IsErr, IsErrOf, IsSome};
 ghost use Rattle.std.specs.Prelude.{option_copied};
 ghost use Rattle.std.specs.List.{list_any};
 ghost use Rattle.cut_faults.specs.Failures.{one_more};
@@ -29,7 +29,7 @@ use bit_list::BitList;
 use cut_disks::Disk;
 use cut_journal::Journal;
 use cut_journal::laws::{crashes_are_resumptions, journals_begin_with_their_runs};
-use cut_ledger::{Division, Ledger, OfferFault, Slip};
+use cut_ledger::{Division, Ledger, OfferFault, Slip, slip_of};
 use cut_outcome::{Piece, PieceResult};
 use cut_plan::Plan;
 use cut_table::{RowFault, row};
@@ -388,21 +388,9 @@ fn call_of(plan: &Plan, offered: &PieceResult, answer: Answer) -> Call
     ensures plan { IsPlan offered.now.plan }
     ensures piece { IsTrue (is_piece offered.now.plan offered.now.piece) }
 {
-    is_of_a_plan(offered);
     Call::HandIn {
-        slip: Slip {
-            piece: offered.piece(),
-            totals: offered.totals(),
-        },
+        slip: slip_of(offered),
         is_own: plan.same(offered.plan()),
         answer,
     }
-}
-
-/// A result is one of an accepted plan.
-fn is_of_a_plan(offered: &PieceResult)
-    ensures { IsPlan offered.now.plan }
-{
-    // For the proof: what always holds of a result, and of its plan.
-    let _ = offered.plan().version();
 }

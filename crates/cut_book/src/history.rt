@@ -1,5 +1,5 @@
-ghost use Rattle.std.specs.Prelude.{◌≡◌, ◌+◌, ◌-◌, ◌<◌, ◌≤◌, ◌++◌, [], ◌∷◌, true, length, map, OnOk, OnErr, IfOk};
-ghost use Rattle.cut_book.specs.History.{Opening, IsLegalHistory, accepted_in};
+ghost use Rattle.std.specs.Prelude.{◌≡◌, ◌+◌, ◌-◌, ◌<◌, ◌≤◌, ◌++◌, [], ◌∷◌, true, length, map, OnOk, IfOk};
+ghost use Rattle.cut_book.specs.History.{IsLegalHistory, accepted_in};
 ghost use Rattle.cut_book.specs.HistoryInside.{lost_call};
 ghost use Rattle.cut_book.specs.declared.call.Call.TheVariants as call;
 
@@ -35,7 +35,7 @@ pub struct History {
 }
 
 impl Model for History {
-    ghost use Rattle.cut_book.specs.History.{Opening, HistoryValue, IsLegalHistory};
+    ghost use Rattle.cut_book.specs.History.{HistoryValue, IsLegalHistory};
 
     ghost Value = { HistoryValue };
 

@@ -1,6 +1,5 @@
 -- How `explain` ends, by its parts.
-use Rattle.std.proofs.Common.{◌≡◌, ◌∙◌, ℕ, false, List, [], Result, Ok, Err, length, take, refl, sym, ap, nat_lt, inl, inr}
-use Rattle.std.specs.Bool.{⊤}
+use Rattle.std.proofs.Common.{◌≡◌, ◌∙◌, ℕ, false, List, [], Ok, Err, length, take, refl, sym, ap, nat_lt, inl, inr}
 use Rattle.cut_plan.specs.Accepted.{plan_of}
 use Rattle.cut_plan.specs.Values.{Values}
 use Rattle.cut_plan.specs.declared.refusal.Refusal.{Refusal}

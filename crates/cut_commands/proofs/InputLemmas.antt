@@ -1,6 +1,6 @@
 -- A buffer after several reads into it, and the plan that is read so.
 use Rattle.std.proofs.Common.{◌≡◌, ℕ, ◌+◌, ◌≤◌, ◌<◌, Bool, true, false, cond, nat_lt, List, [], ◌++◌, Some, None, Ok}
-use Rattle.std.proofs.Common.{Err, length, take, refl, sym, ap, subst, ◌∙◌, arith, length-append, inl, inr}
+use Rattle.std.proofs.Common.{Err, length, take, refl, sym, ap, ◌∙◌, arith, length-append, inl, inr}
 use Rattle.std.specs.Prelude.{IsErrOf}
 use Rattle.std.specs.Str.{is_utf8}
 use Rattle.std.proofs.lemmas.Bool.Decides.{nat_tests}
@@ -10,7 +10,6 @@ use Rattle.std.proofs.Math.Seq.{take-append-add}
 use borrow.Rule.Slice.PartMut.{put_mid, post_of}
 use Rattle.cut_plan.specs.Accepted.{plan_of}
 use Rattle.cut_plan.specs.Refusals.{IsFaultOfText}
-use Rattle.cut_plan.specs.Values.{Values}
 use Rattle.cut_plan.specs.declared.refusal.PlanFault.{PlanFault}
 use Rattle.cut_plan.specs.declared.refusal.PlanFault.TheVariants as plan
 use Rattle.cut_plan.specs.declared.refusal.Refusal.TheVariants.{NotJson, PlanTooLong}

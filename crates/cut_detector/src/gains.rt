@@ -1,6 +1,6 @@
-ghost use Rattle.std.specs.Prelude.{◌≡◌, ◌<◌, ◌≤◌, ◌||◌, ◌&&◌, ◌==◌, length, vec_len, cond, IsTrue};
+ghost use Rattle.std.specs.Prelude.{◌≡◌, ◌<◌, ◌≤◌, length, vec_len, cond, IsTrue};
 ghost use Rattle.cut_rings.specs.declared.edge.Edge.{Edge};
-ghost use Rattle.cut_rings.specs.Layout.{IsLayout, observer_of};
+ghost use Rattle.cut_rings.specs.Layout.{IsLayout};
 
 use crate::masks::Masks;
 use crate::rule::Rule;
@@ -21,7 +21,7 @@ pub struct Gains<'a> {
 
 impl<'a> Gains<'a> {
     ghost use Rattle.cut_detector.specs.Counts.{is_reported};
-    ghost use Rattle.cut_detector.specs.Masks.{edges_in, with_edge};
+    ghost use Rattle.cut_detector.specs.Masks.{with_edge};
     ghost use Rattle.cut_detector.specs.Gains.{rule_of_gains, reported_in, IsTallyFor, AddsGains};
 
     /// Whether a process is reported on at least L rings.

@@ -1,6 +1,6 @@
-ghost use Rattle.std.specs.Prelude.{◌≡◌, ◌+◌, ◌-◌, ◌≤◌, ◌<◌, ◌^◌, [], false, length, slice_range, IfOk, OnOk, OnErr};
+ghost use Rattle.std.specs.Prelude.{◌≡◌, ◌+◌, ◌-◌, ◌≤◌, ◌<◌, ◌^◌, [], false, length, slice_range, IfOk, OnOk};
 ghost use Rattle.cut_disks.specs.State.{IsImage, WritesDisk, Syncs};
-ghost use Rattle.cut_disks.specs.Memory.{state_of, with_call, with_failure};
+ghost use Rattle.cut_disks.specs.Memory.{state_of};
 ghost use Rattle.cut_disks.specs.Faulty.{Counts, was_due, torn_call, Looks, FailsWith, FaultyWrites, FaultySyncs};
 ghost use Rattle.cut_disks.specs.declared.call.DiskCall.TheVariants.{Sync};
 

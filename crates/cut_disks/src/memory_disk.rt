@@ -1,4 +1,4 @@
-ghost use Rattle.std.specs.Prelude.{◌≡◌, ◌+◌, ◌≤◌, ◌<◌, ◌^◌, [], length, slice_range, IsOk, IsErr, IfOk, OnOk, OnErr};
+ghost use Rattle.std.specs.Prelude.{◌≡◌, ◌+◌, ◌≤◌, ◌<◌, ◌^◌, [], length, slice_range, IsOk, IfOk, OnOk, OnErr};
 ghost use Rattle.cut_disks.specs.State.{IsImage, WritesDisk, Syncs, overwritten};
 ghost use Rattle.cut_disks.specs.Memory.{state_of, with_call, with_failure, Logs};
 ghost use Rattle.cut_disks.specs.declared.call.DiskCall.TheVariants.{Write, Torn, Sync};

@@ -2,7 +2,7 @@
 
 use crate::tables::{MISTAKES, PLAN, PLAN_2, PLANS, WRONG_PLANS};
 use cut_explain::{Estimate, estimate_study, explain};
-use cut_findings::Rule;
+use cut_findings::FieldRule;
 use cut_plan::{Field, Plan, PlanFault, Refusal};
 use std::alloc::{AllocError, Global};
 use std::cell::Cell;
@@ -101,8 +101,8 @@ const FIELDS: [Field; 10] = [
 
 /// The ends of the range of a field's numbers, and what stands around one of them.
 fn range_of(field: Field) -> (u64, u64, &'static str) {
-    match Rule::of_field(field, None) {
-        Rule::Number { least, most } => (least, most, "}"),
+    match FieldRule::of_field(field, None) {
+        FieldRule::Number { least, most } => (least, most, "}"),
         _ => (1, 32, "]}"),
     }
 }

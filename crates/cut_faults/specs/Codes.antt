@@ -13,144 +13,70 @@ use Rattle.cut_faults.specs.declared.code.FaultCode.TheVariants.{Checkpoint, Wri
 use Rattle.cut_faults.specs.declared.code.FaultCode.TheVariants.{BadKind, TooLong, Truncated, Read, TooManyRequests}
 use Rattle.cut_faults.specs.declared.code.FaultCode.TheVariants.{BadLength, Disagrees, NotVersion1}
 
--- the number of a fault
+-- what stands of a fault: its number, its name, and the status of a command that it ended
+pub record FaultRow : Type 0 where
+  pub number : ℕ
+  pub name : List ℕ
+  pub status : ℕ
+
+abbrev pub row : ℕ → List ℕ → ℕ → FaultRow
+row number name status = record { number = number; name = name; status = status }
+
+-- the list. A command ends with 3 where a plan was refused, with 5 where memory ran out, and with 4 at any other fault.
+-- Two faults, of a call and of a running study, both say that memory ran out
+abbrev pub row_of : FaultCode → FaultRow
+row_of Memory = row 0 (codes "Memory") 5
+row_of NotJson = row 1 (codes "NotJson") 3
+row_of NotObject = row 2 (codes "NotObject") 3
+row_of UnknownField = row 3 (codes "UnknownField") 3
+row_of MissingField = row 4 (codes "MissingField") 3
+row_of WrongKind = row 5 (codes "WrongKind") 3
+row_of OutOfRange = row 6 (codes "OutOfRange") 3
+row_of NotRising = row 7 (codes "NotRising") 3
+row_of NoCell = row 8 (codes "NoCell") 3
+row_of TooManyFaults = row 9 (codes "TooManyFaults") 3
+row_of TooManyTrials = row 10 (codes "TooManyTrials") 3
+row_of NotPermutation = row 11 (codes "NotPermutation") 4
+row_of TooFew = row 12 (codes "TooFew") 4
+row_of BadRole = row 13 (codes "BadRole") 4
+row_of BadPiece = row 14 (codes "BadPiece") 4
+row_of Stranger = row 15 (codes "Stranger") 4
+row_of Overlap = row 16 (codes "Overlap") 4
+row_of BadSlip = row 17 (codes "BadSlip") 4
+row_of NotDone = row 18 (codes "NotDone") 4
+row_of PlanTooLong = row 19 (codes "PlanTooLong") 3
+row_of Disk = row 20 (codes "Disk") 4
+row_of Broken = row 21 (codes "Broken") 4
+row_of NoStudy = row 22 (codes "NoStudy") 4
+row_of OtherPlan = row 23 (codes "OtherPlan") 4
+row_of Damaged = row 24 (codes "Damaged") 4
+row_of Held = row 25 (codes "Held") 4
+row_of NoSlot = row 26 (codes "NoSlot") 4
+row_of SeatFull = row 27 (codes "SeatFull") 4
+row_of SeatMissing = row 28 (codes "SeatMissing") 4
+row_of SlotsFull = row 29 (codes "SlotsFull") 4
+row_of Checkpoint = row 30 (codes "Checkpoint") 4
+row_of Write = row 31 (codes "Write") 4
+row_of WorkMemory = row 32 (codes "Memory") 5
+row_of AuditMismatch = row 33 (codes "AuditMismatch") 4
+row_of Stopped = row 34 (codes "Stopped") 4
+row_of BadKind = row 40 (codes "BadKind") 4
+row_of TooLong = row 41 (codes "TooLong") 4
+row_of Truncated = row 42 (codes "Truncated") 4
+row_of Read = row 43 (codes "Read") 4
+row_of TooManyRequests = row 44 (codes "TooManyRequests") 4
+row_of BadLength = row 45 (codes "BadLength") 4
+row_of Disagrees = row 46 (codes "Disagrees") 4
+row_of NotVersion1 = row 47 (codes "NotVersion1") 3
+
 abbrev pub number_of : FaultCode → ℕ
-number_of Memory = 0
-number_of NotJson = 1
-number_of NotObject = 2
-number_of UnknownField = 3
-number_of MissingField = 4
-number_of WrongKind = 5
-number_of OutOfRange = 6
-number_of NotRising = 7
-number_of NoCell = 8
-number_of TooManyFaults = 9
-number_of TooManyTrials = 10
-number_of NotPermutation = 11
-number_of TooFew = 12
-number_of BadRole = 13
-number_of BadPiece = 14
-number_of Stranger = 15
-number_of Overlap = 16
-number_of BadSlip = 17
-number_of NotDone = 18
-number_of PlanTooLong = 19
-number_of Disk = 20
-number_of Broken = 21
-number_of NoStudy = 22
-number_of OtherPlan = 23
-number_of Damaged = 24
-number_of Held = 25
-number_of NoSlot = 26
-number_of SeatFull = 27
-number_of SeatMissing = 28
-number_of SlotsFull = 29
-number_of Checkpoint = 30
-number_of Write = 31
-number_of WorkMemory = 32
-number_of AuditMismatch = 33
-number_of Stopped = 34
-number_of BadKind = 40
-number_of TooLong = 41
-number_of Truncated = 42
-number_of Read = 43
-number_of TooManyRequests = 44
-number_of BadLength = 45
-number_of Disagrees = 46
-number_of NotVersion1 = 47
+number_of code = (row_of code).number
 
--- its name; two faults, of a call and of a running study, both say that memory ran out
 abbrev pub name_of : FaultCode → List ℕ
-name_of Memory = codes "Memory"
-name_of NotJson = codes "NotJson"
-name_of NotObject = codes "NotObject"
-name_of UnknownField = codes "UnknownField"
-name_of MissingField = codes "MissingField"
-name_of WrongKind = codes "WrongKind"
-name_of OutOfRange = codes "OutOfRange"
-name_of NotRising = codes "NotRising"
-name_of NoCell = codes "NoCell"
-name_of TooManyFaults = codes "TooManyFaults"
-name_of TooManyTrials = codes "TooManyTrials"
-name_of NotPermutation = codes "NotPermutation"
-name_of TooFew = codes "TooFew"
-name_of BadRole = codes "BadRole"
-name_of BadPiece = codes "BadPiece"
-name_of Stranger = codes "Stranger"
-name_of Overlap = codes "Overlap"
-name_of BadSlip = codes "BadSlip"
-name_of NotDone = codes "NotDone"
-name_of PlanTooLong = codes "PlanTooLong"
-name_of Disk = codes "Disk"
-name_of Broken = codes "Broken"
-name_of NoStudy = codes "NoStudy"
-name_of OtherPlan = codes "OtherPlan"
-name_of Damaged = codes "Damaged"
-name_of Held = codes "Held"
-name_of NoSlot = codes "NoSlot"
-name_of SeatFull = codes "SeatFull"
-name_of SeatMissing = codes "SeatMissing"
-name_of SlotsFull = codes "SlotsFull"
-name_of Checkpoint = codes "Checkpoint"
-name_of Write = codes "Write"
-name_of WorkMemory = codes "Memory"
-name_of AuditMismatch = codes "AuditMismatch"
-name_of Stopped = codes "Stopped"
-name_of BadKind = codes "BadKind"
-name_of TooLong = codes "TooLong"
-name_of Truncated = codes "Truncated"
-name_of Read = codes "Read"
-name_of TooManyRequests = codes "TooManyRequests"
-name_of BadLength = codes "BadLength"
-name_of Disagrees = codes "Disagrees"
-name_of NotVersion1 = codes "NotVersion1"
+name_of code = (row_of code).name
 
--- the status with which a command ends that it ended: 3 where a plan was refused, 5 where memory was
--- out, and 4 at any other
 abbrev pub status_of : FaultCode → ℕ
-status_of Memory = 5
-status_of NotJson = 3
-status_of NotObject = 3
-status_of UnknownField = 3
-status_of MissingField = 3
-status_of WrongKind = 3
-status_of OutOfRange = 3
-status_of NotRising = 3
-status_of NoCell = 3
-status_of TooManyFaults = 3
-status_of TooManyTrials = 3
-status_of NotPermutation = 4
-status_of TooFew = 4
-status_of BadRole = 4
-status_of BadPiece = 4
-status_of Stranger = 4
-status_of Overlap = 4
-status_of BadSlip = 4
-status_of NotDone = 4
-status_of PlanTooLong = 3
-status_of Disk = 4
-status_of Broken = 4
-status_of NoStudy = 4
-status_of OtherPlan = 4
-status_of Damaged = 4
-status_of Held = 4
-status_of NoSlot = 4
-status_of SeatFull = 4
-status_of SeatMissing = 4
-status_of SlotsFull = 4
-status_of Checkpoint = 4
-status_of Write = 4
-status_of WorkMemory = 5
-status_of AuditMismatch = 4
-status_of Stopped = 4
-status_of BadKind = 4
-status_of TooLong = 4
-status_of Truncated = 4
-status_of Read = 4
-status_of TooManyRequests = 4
-status_of BadLength = 4
-status_of Disagrees = 4
-status_of NotVersion1 = 3
+status_of code = (row_of code).status
 
 -- every fault, by number
 unfoldable pub all_codes : List FaultCode

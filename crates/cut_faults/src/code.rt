@@ -97,56 +97,89 @@ pub enum FaultCode {
     NotVersion1,
 }
 
+/// What stands of a fault: its number, its name, and the status of a command that it ended.
+#[derive(Clone, Copy)]
+struct FaultRow {
+    number: u16,
+    name: &'static str,
+    status: u8,
+}
+
+impl FaultRow {
+    fn new(number: u16, name: &'static str, status: u8) -> FaultRow
+        ensures number { result.number ≡ number }
+        ensures name { result.name.now ≡ name.now }
+        ensures status { result.status ≡ status }
+    {
+        FaultRow {
+            number,
+            name,
+            status,
+        }
+    }
+}
+
 impl FaultCode {
+    /// The fault's row of the list. A command ends with 3 where a plan was refused, with 5 where memory ran out, and with 4
+    /// at any other fault.
+    fn row(self) -> FaultRow
+        ensures number { result.number ≡ number_of self }
+        ensures name { result.name.now ≡ name_of self }
+        ensures short { length result.name.now ≤ 16 }
+        ensures status { result.status ≡ status_of self }
+    {
+        match self {
+            FaultCode::Memory => FaultRow::new(0, "Memory", 5),
+            FaultCode::NotJson => FaultRow::new(1, "NotJson", 3),
+            FaultCode::NotObject => FaultRow::new(2, "NotObject", 3),
+            FaultCode::UnknownField => FaultRow::new(3, "UnknownField", 3),
+            FaultCode::MissingField => FaultRow::new(4, "MissingField", 3),
+            FaultCode::WrongKind => FaultRow::new(5, "WrongKind", 3),
+            FaultCode::OutOfRange => FaultRow::new(6, "OutOfRange", 3),
+            FaultCode::NotRising => FaultRow::new(7, "NotRising", 3),
+            FaultCode::NoCell => FaultRow::new(8, "NoCell", 3),
+            FaultCode::TooManyFaults => FaultRow::new(9, "TooManyFaults", 3),
+            FaultCode::TooManyTrials => FaultRow::new(10, "TooManyTrials", 3),
+            FaultCode::NotPermutation => FaultRow::new(11, "NotPermutation", 4),
+            FaultCode::TooFew => FaultRow::new(12, "TooFew", 4),
+            FaultCode::BadRole => FaultRow::new(13, "BadRole", 4),
+            FaultCode::BadPiece => FaultRow::new(14, "BadPiece", 4),
+            FaultCode::Stranger => FaultRow::new(15, "Stranger", 4),
+            FaultCode::Overlap => FaultRow::new(16, "Overlap", 4),
+            FaultCode::BadSlip => FaultRow::new(17, "BadSlip", 4),
+            FaultCode::NotDone => FaultRow::new(18, "NotDone", 4),
+            FaultCode::PlanTooLong => FaultRow::new(19, "PlanTooLong", 3),
+            FaultCode::Disk => FaultRow::new(20, "Disk", 4),
+            FaultCode::Broken => FaultRow::new(21, "Broken", 4),
+            FaultCode::NoStudy => FaultRow::new(22, "NoStudy", 4),
+            FaultCode::OtherPlan => FaultRow::new(23, "OtherPlan", 4),
+            FaultCode::Damaged => FaultRow::new(24, "Damaged", 4),
+            FaultCode::Held => FaultRow::new(25, "Held", 4),
+            FaultCode::NoSlot => FaultRow::new(26, "NoSlot", 4),
+            FaultCode::SeatFull => FaultRow::new(27, "SeatFull", 4),
+            FaultCode::SeatMissing => FaultRow::new(28, "SeatMissing", 4),
+            FaultCode::SlotsFull => FaultRow::new(29, "SlotsFull", 4),
+            FaultCode::Checkpoint => FaultRow::new(30, "Checkpoint", 4),
+            FaultCode::Write => FaultRow::new(31, "Write", 4),
+            FaultCode::WorkMemory => FaultRow::new(32, "Memory", 5),
+            FaultCode::AuditMismatch => FaultRow::new(33, "AuditMismatch", 4),
+            FaultCode::Stopped => FaultRow::new(34, "Stopped", 4),
+            FaultCode::BadKind => FaultRow::new(40, "BadKind", 4),
+            FaultCode::TooLong => FaultRow::new(41, "TooLong", 4),
+            FaultCode::Truncated => FaultRow::new(42, "Truncated", 4),
+            FaultCode::Read => FaultRow::new(43, "Read", 4),
+            FaultCode::TooManyRequests => FaultRow::new(44, "TooManyRequests", 4),
+            FaultCode::BadLength => FaultRow::new(45, "BadLength", 4),
+            FaultCode::Disagrees => FaultRow::new(46, "Disagrees", 4),
+            FaultCode::NotVersion1 => FaultRow::new(47, "NotVersion1", 3),
+        }
+    }
+
     /// The fault's number.
     pub fn number(self) -> u16
         ensures { result ≡ number_of self }
     {
-        match self {
-            FaultCode::Memory => 0,
-            FaultCode::NotJson => 1,
-            FaultCode::NotObject => 2,
-            FaultCode::UnknownField => 3,
-            FaultCode::MissingField => 4,
-            FaultCode::WrongKind => 5,
-            FaultCode::OutOfRange => 6,
-            FaultCode::NotRising => 7,
-            FaultCode::NoCell => 8,
-            FaultCode::TooManyFaults => 9,
-            FaultCode::TooManyTrials => 10,
-            FaultCode::NotPermutation => 11,
-            FaultCode::TooFew => 12,
-            FaultCode::BadRole => 13,
-            FaultCode::BadPiece => 14,
-            FaultCode::Stranger => 15,
-            FaultCode::Overlap => 16,
-            FaultCode::BadSlip => 17,
-            FaultCode::NotDone => 18,
-            FaultCode::PlanTooLong => 19,
-            FaultCode::Disk => 20,
-            FaultCode::Broken => 21,
-            FaultCode::NoStudy => 22,
-            FaultCode::OtherPlan => 23,
-            FaultCode::Damaged => 24,
-            FaultCode::Held => 25,
-            FaultCode::NoSlot => 26,
-            FaultCode::SeatFull => 27,
-            FaultCode::SeatMissing => 28,
-            FaultCode::SlotsFull => 29,
-            FaultCode::Checkpoint => 30,
-            FaultCode::Write => 31,
-            FaultCode::WorkMemory => 32,
-            FaultCode::AuditMismatch => 33,
-            FaultCode::Stopped => 34,
-            FaultCode::BadKind => 40,
-            FaultCode::TooLong => 41,
-            FaultCode::Truncated => 42,
-            FaultCode::Read => 43,
-            FaultCode::TooManyRequests => 44,
-            FaultCode::BadLength => 45,
-            FaultCode::Disagrees => 46,
-            FaultCode::NotVersion1 => 47,
-        }
+        self.row().number
     }
 
     /// The fault's name, as it is printed: at most 16 bytes.
@@ -154,73 +187,14 @@ impl FaultCode {
         ensures name { result.now ≡ name_of self }
         ensures short { length result.now ≤ 16 }
     {
-        match self {
-            FaultCode::Memory | FaultCode::WorkMemory => "Memory",
-            FaultCode::NotJson => "NotJson",
-            FaultCode::NotObject => "NotObject",
-            FaultCode::UnknownField => "UnknownField",
-            FaultCode::MissingField => "MissingField",
-            FaultCode::WrongKind => "WrongKind",
-            FaultCode::OutOfRange => "OutOfRange",
-            FaultCode::NotRising => "NotRising",
-            FaultCode::NoCell => "NoCell",
-            FaultCode::TooManyFaults => "TooManyFaults",
-            FaultCode::TooManyTrials => "TooManyTrials",
-            FaultCode::NotPermutation => "NotPermutation",
-            FaultCode::TooFew => "TooFew",
-            FaultCode::BadRole => "BadRole",
-            FaultCode::BadPiece => "BadPiece",
-            FaultCode::Stranger => "Stranger",
-            FaultCode::Overlap => "Overlap",
-            FaultCode::BadSlip => "BadSlip",
-            FaultCode::NotDone => "NotDone",
-            FaultCode::PlanTooLong => "PlanTooLong",
-            FaultCode::Disk => "Disk",
-            FaultCode::Broken => "Broken",
-            FaultCode::NoStudy => "NoStudy",
-            FaultCode::OtherPlan => "OtherPlan",
-            FaultCode::Damaged => "Damaged",
-            FaultCode::Held => "Held",
-            FaultCode::NoSlot => "NoSlot",
-            FaultCode::SeatFull => "SeatFull",
-            FaultCode::SeatMissing => "SeatMissing",
-            FaultCode::SlotsFull => "SlotsFull",
-            FaultCode::Checkpoint => "Checkpoint",
-            FaultCode::Write => "Write",
-            FaultCode::AuditMismatch => "AuditMismatch",
-            FaultCode::Stopped => "Stopped",
-            FaultCode::BadKind => "BadKind",
-            FaultCode::TooLong => "TooLong",
-            FaultCode::Truncated => "Truncated",
-            FaultCode::Read => "Read",
-            FaultCode::TooManyRequests => "TooManyRequests",
-            FaultCode::BadLength => "BadLength",
-            FaultCode::Disagrees => "Disagrees",
-            FaultCode::NotVersion1 => "NotVersion1",
-        }
+        self.row().name
     }
 
-    /// The status with which a command ends that this fault ended: 3 where a plan was refused, 5 where
-    /// memory ran out, and 4 at any other.
+    /// The status with which a command ends that this fault ended.
     pub fn status(self) -> u8
         ensures { result ≡ status_of self }
     {
-        match self {
-            FaultCode::NotJson
-            | FaultCode::NotObject
-            | FaultCode::UnknownField
-            | FaultCode::MissingField
-            | FaultCode::WrongKind
-            | FaultCode::OutOfRange
-            | FaultCode::NotRising
-            | FaultCode::NoCell
-            | FaultCode::TooManyFaults
-            | FaultCode::TooManyTrials
-            | FaultCode::PlanTooLong
-            | FaultCode::NotVersion1 => 3,
-            FaultCode::Memory | FaultCode::WorkMemory => 5,
-            _ => 4,
-        }
+        self.row().status
     }
 
     /// The fault of this number, if there is one.

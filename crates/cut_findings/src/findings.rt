@@ -1,6 +1,6 @@
 //! What is wrong with the fields of a plan, each taken alone.
 
-use crate::rules::{FIELDS, Rule, is_field_of};
+use crate::rules::{FIELDS, FieldRule, is_field_of};
 use crate::shown::Shown;
 use cut_plan::{Field, Version};
 use serde_json::Value;
@@ -101,7 +101,7 @@ fn list_field(out: &mut String, value: &Value, field: Field) -> Result<(), Alloc
 fn push_finding(
     out: &mut String,
     field: Field,
-    rule: Rule,
+    rule: FieldRule,
     finding: Finding<'_>,
 ) -> Result<(), AllocError> {
     writeln!(out, "{field}: {finding}; expected {rule}")
@@ -118,24 +118,26 @@ pub(crate) fn sound_value(value: &Value, field: Field) -> Option<&Value> {
 }
 
 /// The rule of a field of this object.
-fn rule_in(value: &Value, field: Field) -> Rule {
-    Rule::of_field(
+fn rule_in(value: &Value, field: Field) -> FieldRule {
+    FieldRule::of_field(
         field,
         value.get(Field::Nodes.name()).and_then(Value::as_u64),
     )
 }
 
 /// What is wrong with a value by a rule, but for the order of a list.
-fn finding_in<'a>(rule: Rule, value: &'a Value) -> Option<Finding<'a>> {
+fn finding_in<'a>(rule: FieldRule, value: &'a Value) -> Option<Finding<'a>> {
     let is_right = match rule {
-        Rule::Number { least, most } => value.as_u64().is_some_and(|n| least <= n && n <= most),
-        Rule::Word { first, second } => value
+        FieldRule::Number { least, most } => value
+            .as_u64()
+            .is_some_and(|n| least <= n && n <= most),
+        FieldRule::Word { first, second } => value
             .as_str()
             .is_some_and(|word| word == first || word == second),
-        Rule::Truth => value.is_boolean(),
-        Rule::Digits => return finding_in_seed(value),
-        Rule::Rings => return finding_in_list(value, 1, 33),
-        Rule::Failed { nodes } => return finding_in_list(value, 0, nodes.unwrap_or(u64::MAX)),
+        FieldRule::Truth => value.is_boolean(),
+        FieldRule::Digits => return finding_in_seed(value),
+        FieldRule::Rings => return finding_in_list(value, 1, 33),
+        FieldRule::Failed { nodes } => return finding_in_list(value, 0, nodes.unwrap_or(u64::MAX)),
     };
     if is_right {
         None
@@ -189,7 +191,7 @@ fn finding_in_seed(value: &Value) -> Option<Finding<'_>> {
 }
 
 /// Where a list does not rise, if the rule asks for one.
-fn fall_in<'a>(rule: Rule, value: &'a Value) -> Option<Finding<'a>> {
+fn fall_in<'a>(rule: FieldRule, value: &'a Value) -> Option<Finding<'a>> {
     let items = value.as_array()?.as_slice();
     if !rule.is_of_list() {
         return None;

@@ -16,5 +16,5 @@ mod text_findings;
 mod unknown_fields;
 
 pub use plan_facts::describe_plan;
-pub use rules::Rule;
+pub use rules::FieldRule;
 pub use text_findings::list_findings;

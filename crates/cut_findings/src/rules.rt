@@ -48,7 +48,7 @@ pub(crate) fn field_named(name: &str) -> Option<Field> {
 
 /// What the value of a field has to be.
 #[derive(Clone, Copy)]
-pub enum Rule {
+pub enum FieldRule {
     /// A whole number of this range.
     Number {
         least: u64,
@@ -71,60 +71,60 @@ pub enum Rule {
     Digits,
 }
 
-impl Rule {
+impl FieldRule {
     /// The rule of a field, in a plan with this number of processes, where it is known.
-    pub fn of_field(field: Field, nodes: Option<u64>) -> Rule {
+    pub fn of_field(field: Field, nodes: Option<u64>) -> FieldRule {
         match field {
-            Field::Copies => Rule::Number { least: 1, most: 4 },
-            Field::Dead => Rule::Word {
+            Field::Copies => FieldRule::Number { least: 1, most: 4 },
+            Field::Dead => FieldRule::Word {
                 first: "silent",
                 second: "speak",
             },
-            Field::Faults => Rule::Word {
+            Field::Faults => FieldRule::Word {
                 first: "crash",
                 second: "deaf",
             },
-            Field::Deaf | Field::Liars | Field::Links => Rule::Number {
+            Field::Deaf | Field::Liars | Field::Links => FieldRule::Number {
                 least: 0,
                 most: 2048,
             },
-            Field::F => Rule::Failed { nodes },
-            Field::H | Field::K | Field::L => Rule::Rings,
-            Field::Implicit => Rule::Truth,
-            Field::Nodes => Rule::Number {
+            Field::F => FieldRule::Failed { nodes },
+            Field::H | Field::K | Field::L => FieldRule::Rings,
+            Field::Implicit => FieldRule::Truth,
+            Field::Nodes => FieldRule::Number {
                 least: 2,
                 most: 2048,
             },
-            Field::Repeats => Rule::Number {
+            Field::Repeats => FieldRule::Number {
                 least: 1,
                 most: 1_000_000,
             },
-            Field::Seed => Rule::Digits,
-            Field::Version => Rule::Number { least: 1, most: 2 },
+            Field::Seed => FieldRule::Digits,
+            Field::Version => FieldRule::Number { least: 1, most: 2 },
         }
     }
 
     /// Whether it is the rule of a list.
     pub(crate) fn is_of_list(self) -> bool {
-        matches!(self, Rule::Rings | Rule::Failed { .. })
+        matches!(self, FieldRule::Rings | FieldRule::Failed { .. })
     }
 }
 
-impl fmt::Display for Rule {
+impl fmt::Display for FieldRule {
     fn fmt<W: fmt::Write>(&self, f: &mut fmt::Formatter<W>) -> fmt::Result {
         match *self {
-            Rule::Number { least, most } => write!(f, "a whole number from {least} to {most}"),
-            Rule::Rings => f.write_str("a strictly rising list of whole numbers from 1 to 32"),
-            Rule::Failed { nodes: None } => {
+            FieldRule::Number { least, most } => write!(f, "a whole number from {least} to {most}"),
+            FieldRule::Rings => f.write_str("a strictly rising list of whole numbers from 1 to 32"),
+            FieldRule::Failed { nodes: None } => {
                 f.write_str("a strictly rising list of whole numbers below nodes")
             }
-            Rule::Failed { nodes: Some(nodes) } => write!(
+            FieldRule::Failed { nodes: Some(nodes) } => write!(
                 f,
                 "a strictly rising list of whole numbers below nodes, {nodes}"
             ),
-            Rule::Word { first, second } => write!(f, "\"{first}\" or \"{second}\""),
-            Rule::Truth => f.write_str("true or false"),
-            Rule::Digits => f.write_str("a text of 64 hexadecimal digits"),
+            FieldRule::Word { first, second } => write!(f, "\"{first}\" or \"{second}\""),
+            FieldRule::Truth => f.write_str("true or false"),
+            FieldRule::Digits => f.write_str("a text of 64 hexadecimal digits"),
         }
     }
 }

@@ -1,5 +1,5 @@
 -- A slot of a hall, and what one call of its book does to it.
-use Rattle.std.specs.Prelude.{◌≡◌, ◌++◌, ◌<◌, ℕ, true, false, List, [], ◌∷◌, length, slice_get, is_some}
+use Rattle.std.specs.Prelude.{◌≡◌, ◌++◌, ◌<◌, ℕ, true, false, List, [], ◌∷◌, length, slice_get}
 use Rattle.std.specs.Prelude.{Option, Some, None, Bool, ◌&&◌, not, nat_lt, if◌then◌else◌, Result, Ok, Err, ⊤, slice_set}
 use Rattle.std.specs.List.{list_any}
 use Rattle.cut_faults.specs.declared.code.FaultCode.TheVariants as code

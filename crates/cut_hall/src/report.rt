@@ -35,7 +35,8 @@ impl SlotReport {
 
     /// How many trials it accepted.
     pub fn accepted(&self) -> u64
-        ensures { result ≡ accepted_recorded self.now.history }
+        ensures value { result ≡ accepted_recorded self.now.history }
+        ensures end { IsEndOf self.now.history self.now.complete }
     {
         match &self.history {
             Some(history) => history.accepted(),

@@ -1,6 +1,6 @@
 ghost use Rattle.std.specs.Prelude.{◌≡◌, ◌+◌, ◌<◌, ◌≤◌, ◌&&◌, ◌↔◌, true, false, not, [], length, take};
 ghost use Rattle.std.specs.Prelude.{Some, None, is_some, IsTrue, IfOk, IfSome, IfNone, OnOk, OnErr, IfErr, IsErrOf};
-ghost use Rattle.std.specs.Prelude.{Bool, replicate, slice_index_or, slice_set};
+ghost use Rattle.std.specs.Prelude.{replicate, slice_index_or, slice_set};
 ghost use Rattle.std.specs.List.{list_any};
 ghost use Rattle.cut_plan.specs.Cells.{cells_of};
 ghost use Rattle.cut_hall.specs.Lines.{full_line};

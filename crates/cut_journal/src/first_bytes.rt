@@ -22,11 +22,19 @@ pub fn header_text(bytes: &[u8]) -> Option<&[u8]>
     if bytes.len() < 13 {
         return None;
     }
-    let mut digits = [0; 4];
-    digits.copy_from_slice(&bytes[9..13]);
-    let length = u32::from_be_bytes(digits) as usize;
+    let length = length_in_header(bytes);
     if length > bytes.len() - 13 {
         return None;
     }
     Some(&bytes[13..length + 13])
+}
+
+/// The length that a header gives of the text of its plan.
+pub(crate) fn length_in_header(header: &[u8]) -> usize
+    requires { 13 ≤ length header.now }
+    ensures { result ≡ text_length header.now }
+{
+    let mut digits = [0; 4];
+    digits.copy_from_slice(&header[9..13]);
+    u32::from_be_bytes(digits) as usize
 }

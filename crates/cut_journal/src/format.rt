@@ -5,12 +5,13 @@ ghost use Rattle.sha2.specs.Sha256.{sha256};
 ghost use Rattle.cut_plan.specs.Canonical.{canonical_text};
 ghost use Rattle.cut_plan.specs.Versions.{version_of};
 ghost use Rattle.cut_plan.specs.declared.version.Version.TheVariants.{Two};
-ghost use Rattle.cut_journal.specs.File.{closed_gate, header_of, header_digest, prefix_of, rest_of, numbers_length};
+ghost use Rattle.cut_journal.specs.File.{closed_gate, header_digest, prefix_of, rest_of, numbers_length};
 ghost use Rattle.cut_journal.specs.File.{slip_length, number_bytes, body_of};
 ghost use Rattle.cut_journal.specs.Reading.{says_plan, has_magic, number_at, settled_at, slip_in, is_slip};
 ghost use Rattle.cut_journal.specs.Steps.{HasNumbers};
 ghost use Rattle.cut_journal.specs.Places.{gate_place};
 
+use crate::first_bytes::length_in_header;
 use crate::layout::{magic_of, numbers_length, slip_length};
 use cut_ledger::Slip;
 use cut_outcome::{Piece, Totals};
@@ -158,9 +159,7 @@ impl FileHeader {
         ensures { result ≡ says_plan self.now prefix.now }
     {
         let text = self.text();
-        let mut digits = [0; 4];
-        digits.copy_from_slice(&prefix[9..13]);
-        let is_long = u32::from_be_bytes(digits) as usize == text.len();
+        let is_long = length_in_header(prefix) == text.len();
         if !is_long {
             return false;
         }
@@ -251,8 +250,9 @@ fn text_length(plan: &Plan, text: &[u8]) -> u32
     text.len() as u32
 }
 
-/// The digest of some bytes.
-pub(crate) fn digest_of(bytes: &[u8]) -> [u8; 32]
+/// The SHA-256 digest of some bytes (FIPS 180-4), by which a file says that its header is whole, and a server names the
+/// files of its studies.
+pub fn digest_of(bytes: &[u8]) -> [u8; 32]
     ensures { result ≡ sha256 bytes.now }
 {
     let mut hasher = Sha256::new();

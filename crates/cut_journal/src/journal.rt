@@ -1,6 +1,5 @@
-ghost use Rattle.std.specs.Prelude.{ℕ, List, ◌≡◌, ◌≢◌, ◌⊎◌, ◌+◌, ◌<◌, ◌≤◌, ◌^◌, ◌↔◌, ◌++◌, [], ◌∷◌, None, Some, Ok};
+ghost use Rattle.std.specs.Prelude.{ℕ, List, ◌≡◌, ◌≢◌, ◌+◌, ◌<◌, ◌^◌, ◌↔◌, [], None, Some, Ok};
 ghost use Rattle.std.specs.Prelude.{Err, length, unwrap_or, IfOk, IfErr, OnOk, IsErrOf, IsSome};
-ghost use Rattle.cut_plan.specs.Values.{Values};
 ghost use Rattle.cut_disks.specs.State.{IsImage, settled, synced, Throughout};
 ghost use Rattle.cut_ledger.specs.Machine.{slip_of};
 ghost use Rattle.std.specs.Io.{StartsWith};
@@ -19,7 +18,7 @@ use crate::new_study::make;
 use crate::slip_append::{NextSlip, keep};
 use crate::slips::Slips;
 use cut_disks::Disk;
-use cut_ledger::Slip;
+use cut_ledger::{Slip, slip_of};
 use cut_outcome::PieceResult;
 use cut_plan::Plan;
 use std::alloc::Global;
@@ -170,10 +169,7 @@ impl<D: Disk> Journal<D> {
         if !self.study.plan().same(offered.plan()) {
             return Err(JournalFault::OtherPlan);
         }
-        self.append_slip(Slip {
-            piece: offered.piece(),
-            totals: offered.totals(),
-        })
+        self.append_slip(slip_of(offered))
     }
 
     /// Keeps a slip that is known already, as one of another file of this plan, and answers its number, from 1.

@@ -1,4 +1,4 @@
-ghost use Rattle.std.specs.Prelude.{ℕ, Err, ◌≡◌, ◌⊎◌, ◌+◌, ◌<◌, ◌≤◌, ◌^◌, ◌↔◌, Ok, Some, None, if◌then◌else◌, bytes_eq};
+ghost use Rattle.std.specs.Prelude.{Err, ◌≡◌, ◌+◌, ◌<◌, ◌≤◌, ◌^◌, ◌↔◌, Ok, Some, None, if◌then◌else◌, bytes_eq};
 ghost use Rattle.std.specs.Prelude.{slice_range, true, length, IfOk, IfErr, IfSome, OnOk};
 ghost use Rattle.cut_faults.specs.Failures.{counted};
 ghost use Rattle.sha2.specs.Sha256.{sha256};

@@ -22,4 +22,5 @@ mod slips;
 pub use cut_disks::{Disk, FaultyDisk, FileDisk, MemoryDisk, Tear};
 pub use fault::JournalFault;
 pub use first_bytes::{header_text, is_study};
+pub use format::digest_of;
 pub use journal::Journal;

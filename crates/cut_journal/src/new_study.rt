@@ -1,8 +1,8 @@
-ghost use Rattle.std.specs.Prelude.{◌≡◌, ◌≢◌, ◌<◌, ◌≤◌, ◌==◌, ◌^◌, ◌↔◌, ◌++◌, [], ◌∷◌, false, Ok, Err, length, drop};
-ghost use Rattle.std.specs.Prelude.{slice_index, IfOk, IfErr, OnOk};
+ghost use Rattle.std.specs.Prelude.{◌≡◌, ◌<◌, ◌==◌, ◌↔◌, [], false, Ok, Err, length};
+ghost use Rattle.std.specs.Prelude.{slice_index, IfErr, OnOk};
 ghost use Rattle.std.specs.Io.{StartsWith};
 ghost use Rattle.cut_faults.specs.Failures.{counted};
-ghost use Rattle.cut_disks.specs.State.{settled, synced, Throughout};
+ghost use Rattle.cut_disks.specs.State.{settled, Throughout};
 ghost use Rattle.cut_journal.specs.File.{open_gate, rest_of, file_of};
 ghost use Rattle.cut_journal.specs.Reading.{is_study, reading};
 ghost use Rattle.cut_journal.specs.Journal.{disk_faults};

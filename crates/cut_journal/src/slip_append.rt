@@ -1,4 +1,4 @@
-ghost use Rattle.std.specs.Prelude.{◌≡◌, ◌+◌, ◌<◌, ◌≤◌, ◌^◌, ◌↔◌, ◌++◌, [], ◌∷◌, None, Some, Ok, length, OnOk};
+ghost use Rattle.std.specs.Prelude.{◌≡◌, ◌+◌, ◌<◌, ◌^◌, ◌↔◌, ◌++◌, [], ◌∷◌, None, Some, Ok, OnOk};
 ghost use Rattle.cut_faults.specs.Failures.{counted};
 ghost use Rattle.cut_disks.specs.State.{settled, Throughout};
 ghost use Rattle.cut_journal.specs.File.{HoldsAllTotals, slip_length};

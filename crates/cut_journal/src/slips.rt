@@ -1,9 +1,9 @@
-ghost use Rattle.std.specs.Prelude.{ℕ, ◌≡◌, ◌+◌, ◌*◌, ◌<◌, ◌≤◌, ◌^◌, ◌↔◌, false, length, IfOk, IfErr, IfSome, IsTrue};
+ghost use Rattle.std.specs.Prelude.{ℕ, ◌≡◌, ◌+◌, ◌<◌, ◌^◌, ◌↔◌, false, length, IfOk, IfErr, IfSome};
 ghost use Rattle.cut_plan.specs.Versions.{version_of};
 ghost use Rattle.cut_journal.specs.File.{slip_length};
 ghost use Rattle.cut_journal.specs.Reading.{slips_reading};
 ghost use Rattle.cut_journal.specs.Journal.{disk_faults};
-ghost use Rattle.cut_journal.specs.Steps.{IsOfPlan, IsNext, IsSlipFault, AreWhole};
+ghost use Rattle.cut_journal.specs.Steps.{IsOfPlan, IsNext, IsSlipFault};
 ghost use Rattle.cut_journal.specs.Places.{gate_place};
 
 use crate::JournalFault;

@@ -1,7 +1,7 @@
 //! Files of journals, to the byte: how they are written, and what they are read as.
 
 use cut_disks::{DiskCall, MemoryDisk};
-use cut_journal::{Journal, JournalFault};
+use cut_journal::{Journal, JournalFault, digest_of, header_text, is_study};
 use cut_ledger::Slip;
 use cut_outcome::{Piece, PieceResult, Totals};
 use cut_plan::{Plan, PlanFault, Version};
@@ -242,6 +242,32 @@ fn files_are_written_and_read(rt: HostRuntime) -> Result<(), Fail> {
     for text in files().split("\n\n\n") {
         assert!(rt; is_text(rt.alloc(), text)?);
     }
+    Ok(())
+}
+
+// Whether a file begins as one of a plan does, with the plan's text in its header.
+fn begins_with(alloc: Global, file: &[u8], plan: &Plan) -> Result<bool, AllocError> {
+    let text = plan.canonical(alloc)?;
+    Ok(is_study(file) && header_text(file) == Some(text.as_slice()))
+}
+
+#[test]
+fn headers_have_the_text_of_their_plan(rt: HostRuntime) -> Result<(), Fail> {
+    for text in files().split("\n\n\n") {
+        let (first, _) = text.split_once("\n\n").unwrap_or((text, ""));
+        let file = bytes_under(rt.alloc(), first, "file")?;
+        assert!(rt; begins_with(rt.alloc(), &file, &plan_in(rt.alloc(), first)?)?);
+    }
+    Ok(())
+}
+
+// The digest of `abc` that FIPS 180-4's examples give.
+const DIGEST: &str = "ba7816bf8f01cfea414140de5dae2223b00361a396177a9cb410ff61f20015ad";
+
+#[test]
+fn digests_are_those_of_sha_256(rt: HostRuntime) -> Result<(), Fail> {
+    let digest = from_hex(rt.alloc(), DIGEST)?;
+    assert!(rt; digest_of(b"abc").as_slice() == digest.as_slice());
     Ok(())
 }
 

@@ -1,4 +1,4 @@
-ghost use Rattle.std.specs.Prelude.{◌≡◌, ℕ, ◌+◌, ◌/◌, ◌%◌, ◌^◌, ◌<◌, ◌≤◌, ◌==◌, cond, List, length, slice_index, All};
+ghost use Rattle.std.specs.Prelude.{◌≡◌, ℕ, ◌+◌, ◌/◌, ◌%◌, ◌^◌, ◌<◌, ◌≤◌, ◌==◌, cond, length, slice_index, All};
 ghost use Rattle.std.specs.List.{list_any};
 ghost use Rattle.cut_blocks.specs.Images.{never};
 ghost use Rattle.cut_ranks.specs.Ranks.{IsRank};

@@ -1,12 +1,14 @@
 -- How a ledger keeps what it holds: a set of numbers, a section for each cell, and the sums of each cell. Only the
 -- crate's private clauses cite it.
-use Rattle.std.specs.Prelude.{◌≡◌, ℕ, ◌*◌, ◌<◌, Bool, true, List, length, slice_index_or, slice_set, count_by}
+use Rattle.std.specs.Prelude.{◌≡◌, ℕ, ◌*◌, ◌<◌, Bool, true, false, IsTrue, List, length, slice_index_or, slice_set}
+use Rattle.std.specs.Prelude.{count_by}
+use Rattle.std.specs.List.{list_any}
 use Rattle.cut_plan.specs.Values.{Values}
 use Rattle.cut_plan.specs.Cells.{cells_of, trial_count}
 use Rattle.cut_plan.specs.Plan.{IsPlan}
 use Rattle.cut_outcome.specs.declared.piece.Piece.{Piece}
 use Rattle.cut_outcome.specs.declared.totals.Totals.{Totals}
-use Rattle.cut_outcome.specs.Sum.{each_number, plus, trials_of_cell, IsAtMost}
+use Rattle.cut_outcome.specs.Sum.{each_number, is_piece, plus, trials_in, trials_of_cell, IsAtMost}
 use Rattle.range_set.specs.declared.span.Span.{Span}
 use Rattle.range_set.specs.Held.{Held, has, with_span, KeepsOtherRoom}
 use Rattle.cut_ledger.specs.declared.slip.Slip.{Slip}
@@ -34,6 +36,12 @@ pub record AreKept (v : Values) (base : List Slip) (trials : Held) (sums : List 
   pub long : length sums ≡ length (cells_of v)
   pub each : (c : ℕ) → c < length sums → AreSumsOf v base (has trials) c (sum_at sums c)
   pub based : (t : ℕ) → is_in_base base t ≡ true → has trials t ≡ true
+
+-- a piece that can be added with its sums: none of its trials is held, and the sums are few
+pub record CanBeAdded (v : Values) (trials : Held) (p : Piece) (x : Totals) : Type 0 where
+  pub piece : IsTrue (is_piece v p)
+  pub apart : list_any (has trials) (trials_in p) ≡ false
+  pub few : IsAtMost (2048 * p.count) x
 
 -- a piece of cell number c was added, with its sums
 pub record IsAdded (old new : Held) (olds news : List Totals) (c : ℕ) (p : Piece) (x : Totals) : Type 0 where

@@ -1,11 +1,11 @@
-ghost use Rattle.std.specs.Prelude.{◌≡◌, ◌+◌, ◌*◌, ◌/◌, ◌<◌, ◌≤◌, ◌↔◌, false, List, [], length, map, IfOk, OnOk, OnErr};
+ghost use Rattle.std.specs.Prelude.{◌≡◌, ◌+◌, ◌*◌, ◌/◌, ◌<◌, ◌≤◌, ◌↔◌, List, [], length, map, IfOk, OnOk, OnErr};
 ghost use Rattle.std.specs.Prelude.{IsOk, IsTrue};
 ghost use Rattle.std.specs.List.{list_any};
 ghost use Rattle.cut_plan.specs.Cells.{cells_of, trial_count};
-ghost use Rattle.cut_outcome.specs.Sum.{is_piece, trials_in, IsAtMost};
+ghost use Rattle.cut_outcome.specs.Sum.{trials_in, IsAtMost};
 ghost use Rattle.cut_ledger.specs.declared.slip.Slip as slips;
 ghost use Rattle.cut_ledger.specs.Gaps.{piece_at};
-ghost use Rattle.cut_ledger.specs.Kept.{AreKept, AreOver, IsAdded, span_of};
+ghost use Rattle.cut_ledger.specs.Kept.{AreKept, AreOver, CanBeAdded, IsAdded, span_of};
 ghost use Rattle.cut_ledger.specs.Slips.{IsGood};
 ghost use Rattle.range_set.specs.Held.{has, has_room};
 
@@ -44,9 +44,7 @@ impl Kept {
     /// Adds a piece, none of whose trials is held, with its sums.
     pub fn add(&mut self, plan: &Plan, piece: Piece, totals: Totals) -> Result<(), AllocError>
         requires kept { (base : List slips.Slip) × AreKept plan.now base self.old.trials self.old.sums.items }
-        requires piece { IsTrue (is_piece plan.now piece) }
-        requires apart { list_any (has self.old.trials) (trials_in piece) ≡ false }
-        requires few { IsAtMost (2048 * piece.count) totals }
+        requires fits { CanBeAdded plan.now self.old.trials piece totals }
         ensures ok { OnOk result (IsAdded self.old.trials self.new.trials self.old.sums.items self.new.sums.items
             (piece.first / plan.now.repeats) piece totals) }
         ensures room { IsTrue (has_room self.old.trials (piece.first / plan.now.repeats)) → IsOk result }

@@ -1,4 +1,4 @@
-ghost use Rattle.std.specs.Prelude.{◌≡◌, ℕ, ◌+◌, ◌/◌, ◌<◌, ◌≤◌, ◌^◌, ◌↔◌, ◌++◌, [], true, length, slice_set};
+ghost use Rattle.std.specs.Prelude.{◌≡◌, ◌+◌, ◌<◌, ◌≤◌, ◌^◌, ◌↔◌, ◌++◌, [], true, length, slice_set};
 ghost use Rattle.std.specs.Prelude.{Some, None, IsTrue, IfOk, OnOk, OnErr, IfErr, IsOk, IfNone, All};
 ghost use Rattle.cut_plan.specs.Cells.{cells_of, trial_count};
 ghost use Rattle.cut_plan.specs.Plan.{IsPlan};

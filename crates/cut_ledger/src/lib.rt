@@ -26,5 +26,5 @@ pub use event::{Event, Reply};
 pub use ledger::Ledger;
 pub use offer_fault::OfferFault;
 pub use run::Run;
-pub use slip::Slip;
+pub use slip::{Slip, slip_of};
 pub use slips_fault::SlipsFault;

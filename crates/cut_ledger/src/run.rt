@@ -1,8 +1,7 @@
-ghost use Rattle.std.specs.Prelude.{◌≡◌, ◌<◌, ◌||◌, ◌+◌, ◌^◌, false, true, length, IsTrue, IsOk};
+ghost use Rattle.std.specs.Prelude.{◌≡◌, ◌<◌, ◌||◌, ◌+◌, ◌^◌, false, true, length, IsOk};
 ghost use Rattle.std.specs.Prelude.{IsSome, IfNone, IfOk, OnOk, OnErr};
 ghost use Rattle.std.specs.List.{list_any};
 ghost use Rattle.cut_ledger.specs.declared.event.Event.TheVariants as event;
-ghost use Rattle.cut_outcome.specs.Sum.{is_piece};
 ghost use Rattle.cut_ledger.specs.Reached.{IsOver};
 ghost use Rattle.cut_ledger.specs.Refusals.{CanTake};
 ghost use Rattle.cut_ledger.specs.Machine.{start, opened, available, slips_found, next_bytes, is_finished};
@@ -10,7 +9,7 @@ ghost use Rattle.cut_ledger.specs.Machine.{refused_code, slip_of, reply_to, afte
 ghost use Rattle.cut_ledger.specs.Machine.{TakesNone};
 
 use crate::available::available;
-use crate::{Bytes, Event, Ledger, Reply, Slip, SlipsFault};
+use crate::{Bytes, Event, Ledger, Reply, Slip, SlipsFault, slip_of};
 use cut_faults::FaultCode;
 use cut_outcome::laws::pieces_have_possible_totals;
 use cut_outcome::{Piece, PieceResult};
@@ -291,16 +290,5 @@ impl Run {
         }
         let text = available(alloc, &self.ledger)?;
         Ok(self.sent == text.len())
-    }
-}
-
-/// What a result says of its piece.
-fn slip_of(offered: &PieceResult) -> Slip
-    ensures slip { result ≡ slip_of offered.now }
-    ensures piece { IsTrue (is_piece offered.now.plan offered.now.piece) }
-{
-    Slip {
-        piece: offered.piece(),
-        totals: offered.totals(),
     }
 }

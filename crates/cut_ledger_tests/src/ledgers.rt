@@ -1,7 +1,7 @@
 //! Ledgers that were worked by hand. Of pieces the first trial stands, and how many there are.
 
 use crate::studies::{PLAN, SETTLED, SMALLER, TWO_CELLS, begun, fresh, piece_of, result_of, slip};
-use cut_ledger::{Base, Division, Ledger, OfferFault, Slip, SlipsFault};
+use cut_ledger::{Base, Division, Ledger, OfferFault, Slip, SlipsFault, slip_of};
 use cut_outcome::Piece;
 use cut_plan::Plan;
 use std::alloc::{AllocError, Global};
@@ -101,6 +101,14 @@ fn trials_are_taken_once(rt: HostRuntime) -> Result<(), Fail> {
 fn a_piece_is_taken_once(rt: HostRuntime) -> Result<(), Fail> {
     let mut ledger = fresh(rt.alloc(), PLAN)?;
     assert!(rt; are_answered(rt.alloc(), &mut ledger, A_PIECE_AND_ITS_TRIAL)?);
+    Ok(())
+}
+
+#[test]
+fn a_slip_says_what_its_result_says(rt: HostRuntime) -> Result<(), Fail> {
+    let ledger = fresh(rt.alloc(), PLAN)?;
+    let result = result_of(rt.alloc(), ledger.plan(), piece_of("0 2"))?;
+    assert!(rt; slip_of(&result) == slip("0 2: 8 0 0 0 8 2 2 0"));
     Ok(())
 }
 

@@ -5,11 +5,12 @@ use cut_disks::{FaultyDisk, Tear};
 use cut_join::join;
 use cut_journal::Journal;
 use cut_ledger::Slip;
-use cut_machines::join_io;
+use cut_machines::{JoinedFiles, join_files, join_io};
 use cut_outcome::{Piece, Totals};
 use cut_plan::Plan;
 use cut_wires::MemoryWire;
 use std::alloc::{AllocError, Global};
+use std::fs;
 use std::test::Fail;
 
 // Two cells of six trials each.
@@ -135,4 +136,32 @@ fn a_refused_allocation_stops_one_join(rt: HostRuntime) -> Result<(), Fail> {
     }
     assert!(rt; stopped <= 1);
     Ok(())
+}
+
+const FOLDER: &str = "cutlab_join_test";
+
+const FILES: [&str; 3] = [
+    "cutlab_join_test/1.cut",
+    "cutlab_join_test/2.cut",
+    "cutlab_join_test/3.cut",
+];
+
+#[test]
+fn files_are_joined(rt: HostRuntime) -> Result<(), Fail> {
+    let _ = fs::remove_dir_all(&rt, FOLDER);
+    fs::create_dir(&rt, FOLDER)?;
+    for (path, pieces) in FILES.iter().zip(PIECES.iter()) {
+        let disk = checkpoint_of(rt.alloc(), *pieces)?;
+        fs::write(&rt, *path, disk.memory().bytes())?;
+    }
+    let plan = Vec::from_slice(rt.alloc(), PLAN.as_bytes())?;
+    let mut wire = MemoryWire::new(rt.alloc(), plan, 4096);
+    let JoinedFiles { refused, ended } = join_files(
+        &rt,
+        &mut wire,
+        &FILES,
+        "cutlab_join_test/new.cut",
+    );
+    assert!(rt; refused == None && matches!(ended, Ok(())) && wire.taken() == LINE.as_bytes());
+    Ok(fs::remove_dir_all(&rt, FOLDER)?)
 }

@@ -1,5 +1,5 @@
-//! What no contract of `cut_share`, `cut_join` and `cut_machines` says: that their commands succeed, and how they end
-//! where disks, wires and allocations fail.
+//! What no contract of `cut_share`, `cut_join` and `cut_machines` says: which machine has which trial of a small plan,
+//! that the commands succeed, and how they end where disks, wires and allocations fail.
 //!
 //! The tests stand in a crate of their own, as they use these crates as their callers do, and the proofs of the crates
 //! need not be made again for them.
@@ -9,3 +9,5 @@
 mod join_commands;
 #[cfg(test)]
 mod share_commands;
+#[cfg(test)]
+mod shares;

@@ -1,11 +1,11 @@
 //! The command `share` over wires and disks in memory: a share of three, stopped by a disk, a wire or refused memory, and
 //! resumed.
 
+use crate::shares::{PLAN, are_of};
 use cut_commands::CliFault;
 use cut_disks::{Disk, FaultyDisk, Tear};
 use cut_hooks::NoHooks;
 use cut_journal::{Journal, JournalFault};
-use cut_ledger::Slip;
 use cut_machines::{ShareWork, share_io};
 use cut_plan::Plan;
 use cut_share::Share;
@@ -14,12 +14,6 @@ use std::alloc::{AllocError, Global};
 use std::sync::Wait;
 use std::test::Fail;
 use std::thread::Threads;
-
-/// Two cells of five trials each.
-const PLAN: &str =
-    r#"{"copies":1,"dead":"silent","f":[0,1],"faults":"crash","h":[1],"implicit":true,"k":[1],"l":[1],
-"liars":0,"links":0,"nodes":5,"repeats":5,
-"seed":"0000000000000000000000000000000000000000000000000000000000000000","version":1}"#;
 
 /// The line that the second share of three writes, by blocks of two trials, and the pieces that are kept.
 const LINE: &[u8] = b"share 2 of 3: 4 of 4\n";
@@ -50,21 +44,11 @@ fn wire_of(alloc: Global, room: usize) -> Result<FaultyWire, AllocError> {
     Ok(FaultyWire::new(alloc, input, 4096, room, 0))
 }
 
-/// Whether slips are those of the share's pieces, in order.
-fn are_pieces(slips: &[Slip]) -> bool {
-    for (slip, (first, count)) in slips.iter().zip(PIECES.iter()) {
-        if slip.piece.first != *first || slip.piece.count != *count {
-            return false;
-        }
-    }
-    slips.len() == PIECES.len()
-}
-
 /// Whether a disk has slips of the share's pieces, and no others.
 fn is_kept(alloc: Global, disk: &mut FaultyDisk) -> Result<bool, Fail> {
     let plan = Plan::from_json(alloc, PLAN.as_bytes())?;
     match Journal::reopen(alloc, disk, &plan) {
-        Ok((_journal, slips)) => Ok(are_pieces(slips.as_slice())),
+        Ok((_journal, slips)) => Ok(are_of(&slips, &PIECES)),
         Err((fault, _)) => Err(fault)?,
     }
 }

@@ -1,10 +1,10 @@
-ghost use Rattle.std.specs.Prelude.{◌≡◌, ◌+◌, ◌<◌, ◌^◌, ◌↔◌, ◌++◌, ℕ, length, IfOk, OnOk, IfErr, IsErrOf, IsTrue};
+ghost use Rattle.std.specs.Prelude.{◌≡◌, ◌+◌, ◌<◌, ◌↔◌, ◌++◌, ℕ, IsErrOf, IsTrue};
 ghost use Rattle.cut_plan.specs.declared.version.Version.TheVariants.{One, Two};
 ghost use Rattle.cut_plan.specs.Plan.{IsPlan};
 ghost use Rattle.cut_plan.specs.Targets.{upgraded};
 ghost use Rattle.cut_plan.specs.Versions.{version_of};
 ghost use Rattle.cut_outcome.specs.Outcome.{rings_of};
-ghost use Rattle.cut_outcome.specs.Sum.{is_piece, sum_of, trials_in, without_settled};
+ghost use Rattle.cut_outcome.specs.Sum.{is_piece};
 ghost use Rattle.cut_ledger.specs.Slips.{AreGood};
 ghost use Rattle.cut_ledger.specs.World.{IsTrueSlip};
 ghost use Rattle.cut_journal.specs.Journal.{AppendsEach, kept_slips, taken};

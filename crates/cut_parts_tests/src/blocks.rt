@@ -1,5 +1,5 @@
 //! Images beside the keys that a trial's draws give one by one.
-ghost use Rattle.std.specs.Prelude.{◌≡◌, ◌<◌, ◌≤◌, ◌^◌, All};
+ghost use Rattle.std.specs.Prelude.{◌<◌};
 
 use cut_blocks::{Blocks, NEVER};
 use cut_draws::Draws;

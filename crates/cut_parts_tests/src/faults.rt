@@ -28,25 +28,67 @@ fn faults_are_printed(rt: HostRuntime) -> Result<(), Fail> {
     Ok(())
 }
 
-/// Numbers of faults, and the statuses that a program ends with by them.
-const STATUSES: &str = "0 5, 1 3, 10 3, 11 4, 19 3, 31 4, 32 5, 46 4, 47 3, 99 4";
+/// The faults: their numbers, their names, and the statuses that a program ends with by them.
+const FAULTS: &str = "0 Memory 5
+1 NotJson 3
+2 NotObject 3
+3 UnknownField 3
+4 MissingField 3
+5 WrongKind 3
+6 OutOfRange 3
+7 NotRising 3
+8 NoCell 3
+9 TooManyFaults 3
+10 TooManyTrials 3
+11 NotPermutation 4
+12 TooFew 4
+13 BadRole 4
+14 BadPiece 4
+15 Stranger 4
+16 Overlap 4
+17 BadSlip 4
+18 NotDone 4
+19 PlanTooLong 3
+20 Disk 4
+21 Broken 4
+22 NoStudy 4
+23 OtherPlan 4
+24 Damaged 4
+25 Held 4
+26 NoSlot 4
+27 SeatFull 4
+28 SeatMissing 4
+29 SlotsFull 4
+30 Checkpoint 4
+31 Write 4
+32 Memory 5
+33 AuditMismatch 4
+34 Stopped 4
+40 BadKind 4
+41 TooLong 4
+42 Truncated 4
+43 Read 4
+44 TooManyRequests 4
+45 BadLength 4
+46 Disagrees 4
+47 NotVersion1 3";
 
-/// Whether a fault's number has the status that is written after it.
-fn has_status(row: &str) -> bool {
-    let (number, status) = row.split_once(' ').unwrap_or((row, ""));
-    let found = status_of_number(number.parse::<u16>().unwrap_or(0));
-    status.parse::<u8>() == Ok(found)
+/// Whether the fault of a row has the name and the status that the row gives.
+fn is_listed(row: &str) -> bool {
+    let (number, rest) = row.split_once(' ').unwrap_or((row, ""));
+    let (name, status) = rest.split_once(' ').unwrap_or((rest, ""));
+    let number = number.parse::<u16>().unwrap_or(u16::MAX);
+    name_of_number(number) == name && status.parse::<u8>() == Ok(status_of_number(number))
 }
 
 #[test]
 fn numbers_name_faults(rt: HostRuntime) {
+    for row in FAULTS.lines() {
+        assert!(rt; is_listed(row), "{row}");
+    }
     assert!(rt; FaultCode::of_number(16) == Some(FaultCode::Overlap));
     assert!(rt; FaultCode::of_number(35) == None);
-    assert!(rt; name_of_number(29) == "SlotsFull");
-    assert!(rt; name_of_number(48) == "Unknown" && name_of_number(65_535) == "Unknown");
-    for row in STATUSES.split(", ") {
-        assert!(rt; has_status(row), "{row}");
-    }
+    assert!(rt; is_listed("48 Unknown 4") && is_listed("65535 Unknown 4"));
 }
 
 #[test]

@@ -1,4 +1,4 @@
-ghost use Rattle.std.specs.Prelude.{◌≡◌, [], ◌∷◌};
+ghost use Rattle.std.specs.Prelude.{[], ◌∷◌};
 
 use cut_wires::{
     FaultyWire, Line, MemoryWire, Plain, Rows, RowsFault, StreamWire, Wire, WriteFault, send_all,

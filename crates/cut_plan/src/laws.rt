@@ -1,12 +1,15 @@
 //! Laws of plans, their cells and their texts.
-ghost use Rattle.std.specs.Prelude.{◌≡◌, ℕ, List, Ok};
+ghost use Rattle.std.specs.Prelude.{◌≡◌, ◌<◌, ◌^◌, ℕ, List, Ok};
 ghost use Rattle.std.specs.List.{Contains};
 ghost use Rattle.cut_plan.specs.Values.{Values};
 ghost use Rattle.cut_plan.specs.Plan.{IsPlan};
 ghost use Rattle.cut_plan.specs.Accepted.{plan_of};
 ghost use Rattle.cut_plan.specs.Canonical.{canonical_text};
+ghost use Rattle.cut_plan.specs.Cells.{trial_count};
 ghost use Rattle.cut_plan.specs.Combinations.{AreCombinations};
 ghost use Rattle.cut_plan.specs.Targets.{deaf_of, upgraded};
+
+use crate::Plan;
 
 /// What any accepted text says is a plan: each value in its range, each list rising, some cell, and
 /// no more of anything than allowed.
@@ -32,3 +35,11 @@ pub fn upgrades_fail_alike()
     ensures plan { (v : Values) → IsPlan v → IsPlan (upgraded v) }
     ensures deaf { (v : Values) (f : ℕ) → Contains v.f f → deaf_of (upgraded v) f ≡ deaf_of v f }
 {}
+
+/// Each value of the type is an accepted plan, and the numbers of its trials are below 2^32. It does nothing.
+pub fn plans_are_accepted(plan: &Plan)
+    ensures accepted { IsPlan plan.now }
+    ensures few { trial_count plan.now < 2 ^ 32 }
+{
+    let _ = plan.trials();
+}

@@ -28,7 +28,7 @@ pub use faults::Faults;
 pub use field::Field;
 pub use laws::{
     accepted_texts_give_plans, canonical_text_reads_back, cells_are_the_combinations,
-    upgrades_fail_alike,
+    plans_are_accepted, upgrades_fail_alike,
 };
 pub use plan::Plan;
 pub use refusal::{PlanFault, Refusal};

@@ -1,6 +1,7 @@
-//! Lists of numbers, as JSON.
+//! Lists of numbers: as JSON, and the largest of one.
 ghost use Rattle.std.specs.Prelude.{◌≡◌, IfOk};
 ghost use Rattle.serde_json.specs.View.{view};
+ghost use Rattle.cut_plan.specs.Cells.{largest};
 ghost use Rattle.cut_plan.specs.Datum.{numbers_data};
 
 use serde_json::Value;
@@ -26,4 +27,11 @@ pub(crate) fn shorts_value(alloc: Global, numbers: &[u16]) -> Result<Value, Allo
         items.push(Value::from(*number))?;
     }
     Ok(Value::Array(items))
+}
+
+/// The largest number of a list, 0 where it is empty.
+pub(crate) fn largest(numbers: &[u16]) -> u16
+    ensures { result ≡ largest numbers.now }
+{
+    numbers.iter().fold(0, |most, number| most.max(*number))
 }

@@ -16,7 +16,7 @@ use crate::combinations::combine;
 use crate::field::fields_of;
 use crate::field_checks::{dead_at, failing_at, seed_at};
 use crate::json_object::{number_at, truth_at};
-use crate::number_lists::{bytes_value, shorts_value};
+use crate::number_lists::{bytes_value, largest, shorts_value};
 use crate::plan_lists::{Lists, check_together, read_lists};
 use crate::plan_text::read_text;
 use crate::{Cell, Dead, Failing, Faults, Field, PlanFault, Refusal, Version};
@@ -334,7 +334,7 @@ impl Plan {
         ensures value { result ≡ largest self.now.f }
         ensures most { result ≤ 2048 }
     {
-        self.f.iter().fold(0, |most, f| most.max(*f))
+        largest(self.f.as_slice())
     }
 
     /// Whether two plans say the same, that is, whether their canonical texts are equal.

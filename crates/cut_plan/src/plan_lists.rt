@@ -1,14 +1,15 @@
 //! Making a plan of a JSON object whose fields were checked.
-ghost use Rattle.std.specs.Prelude.{◌≡◌, ◌<◌, ◌≤◌, ◌^◌, length, IfOk, Ok};
+ghost use Rattle.std.specs.Prelude.{◌≡◌, ◌<◌, ◌^◌, length, IfOk, Ok};
 ghost use Rattle.serde_json.specs.View.{view};
 ghost use Rattle.cut_plan.specs.declared.field.Field.TheVariants as field;
-ghost use Rattle.cut_plan.specs.Fields.{number_at, numbers_at};
+ghost use Rattle.cut_plan.specs.Fields.{number_at};
 ghost use Rattle.cut_plan.specs.Accepted.{IsChecked, limit_check, limits, values_in};
 ghost use Rattle.cut_plan.specs.Cells.{cells_of_lists};
 ghost use Rattle.cut_plan.specs.Look.{item_numbers, AreBelow, AreListsOf, AreShort};
 
 use crate::combinations::count_triples;
 use crate::json_object::{items_at, number_at, number_in};
+use crate::number_lists::largest;
 use crate::{Field, Refusal};
 use serde_json::Value;
 use std::alloc::{AllocError, Global};
@@ -69,7 +70,7 @@ pub(crate) fn check_together(lists: &Lists, value: &Value) -> Result<(), Refusal
     let cells = count_cells(lists);
     let liars = number_at(value, Field::Liars);
     let links = number_at(value, Field::Links);
-    let most_failed = lists.f.iter().fold(0, |most, f| most.max(*f));
+    let most_failed = largest(lists.f.as_slice());
     let faults = u64::from(most_failed) + liars + links;
     check_limits(cells, faults, number_at(value, Field::Nodes))
 }

@@ -1,5 +1,5 @@
 //! What is done in each lane of vectors alike.
-ghost use Rattle.std.specs.Prelude.{◌≡◌, ℕ, ◌<◌, ◌/◌, ◌%◌, ◌^◌, ◌==◌, cond, ◌+◌, ◌≤◌, not, nat_lt, nat_le, min, max};
+ghost use Rattle.std.specs.Prelude.{◌≡◌, ℕ, ◌<◌, ◌/◌, ◌%◌, ◌^◌, ◌==◌, cond, ◌+◌, ◌≤◌, nat_lt, nat_le, min, max};
 ghost use Rattle.std.specs.Prelude.{map, length, slice_index, All};
 ghost use Rattle.cut_blocks.specs.Images.{never, row_of};
 ghost use Rattle.cut_lanes.specs.Lanes.{lane};

@@ -3,7 +3,7 @@ ghost use Rattle.std.specs.Prelude.{◌≡◌, ℕ, ◌<◌, ◌≤◌, false, A
 ghost use Rattle.cut_blocks.specs.Images.{never};
 ghost use Rattle.cut_ranks.specs.Ranks.{IsRank};
 ghost use Rattle.cut_lanes.specs.Lanes.{lane};
-ghost use Rattle.cut_arrivals.specs.Hearing.{lows_at, highs_at};
+ghost use Rattle.cut_arrivals.specs.Hearing.{lows_at};
 ghost use Rattle.cut_nodes.specs.Nodes.{AreNodesWithin, cause_in};
 ghost use Rattle.cut_receivers.specs.Times.{hearing_in, subjects_in, IsNodeOf, AreLows, AreLowsAnd, IsHigh};
 ghost use Rattle.cut_receivers.specs.Times.{time_of_cause};

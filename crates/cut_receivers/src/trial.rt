@@ -1,4 +1,4 @@
-ghost use Rattle.std.specs.Prelude.{◌≡◌, ◌≤◌, length};
+ghost use Rattle.std.specs.Prelude.{◌≤◌, length};
 ghost use Rattle.std.proofs.Props.{props};
 ghost use Rattle.cut_rings.specs.Layout.{IsLayout};
 ghost use Rattle.cut_detector.specs.Rule.{rule_in};

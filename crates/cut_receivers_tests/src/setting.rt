@@ -1,5 +1,5 @@
 //! Trials as their receivers hear them.
-ghost use Rattle.std.specs.Prelude.{◌≡◌, ℕ, ◌^◌, ◌<◌, ◌≤◌, length, All, IsTrue};
+ghost use Rattle.std.specs.Prelude.{ℕ, ◌^◌, ◌<◌, ◌≤◌, length, All, IsTrue};
 ghost use Rattle.std.proofs.Props.{props};
 ghost use Rattle.cut_rings.specs.Layout.{IsLayout};
 ghost use Rattle.cut_rings.specs.Edges.{are_edges_of};

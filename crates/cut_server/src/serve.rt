@@ -183,8 +183,6 @@ fn accepted(report: &Report) -> u128
     let slots = report.slots();
     let mut total = 0;
     for study in 0..slots.len() {
-        // For the proof: what always holds of a slot's end.
-        let _ = slots[study].complete();
         total += u128::from(slots[study].accepted());
     }
     total

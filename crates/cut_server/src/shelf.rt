@@ -1,13 +1,12 @@
 ghost use Rattle.std.specs.Prelude.{◌≡◌, true, not, is_some, [], string_bytes, IfOk};
-ghost use Rattle.sha2.specs.Sha256.{sha256};
 ghost use Rattle.cut_disks.specs.State.{fresh};
 ghost use Rattle.cut_journal.specs.Trust.{IsTrueStore};
 ghost use Rattle.cut_server.specs.Shelf.{file_path};
 
 use cut_book::{Shelf, ShelfFault};
 use cut_disks::FileDisk;
+use cut_journal::digest_of;
 use cut_plan::Plan;
-use sha2::{Digest, Sha256};
 use std::alloc::{AllocError, Global};
 
 /// Where a server keeps its studies: each in a file of a folder, if there is one.
@@ -54,13 +53,4 @@ pub(crate) fn path_of(alloc: Global, folder: &str, plan: &Plan) -> Result<String
     path.push_str(digits.as_str())?;
     path.push_str(".cut")?;
     Ok(path)
-}
-
-/// The digest of a text.
-fn digest_of(text: &[u8]) -> [u8; 32]
-    ensures { result ≡ sha256 text.now }
-{
-    let mut hasher = Sha256::new();
-    hasher.update(text);
-    hasher.finalize()
 }

@@ -1,4 +1,4 @@
-ghost use Rattle.std.specs.Prelude.{true, ◌≡◌, length, slice_index};
+ghost use Rattle.std.specs.Prelude.{true, ◌≡◌, slice_index};
 ghost use Rattle.std.specs.Int.{w32, from_be_bytes};
 ghost use Rattle.cut_wires.specs.Sending.{sending};
 ghost use Rattle.cut_session.specs.Answering.{AnswersCount, AnswersText, Rises};

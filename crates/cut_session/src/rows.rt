@@ -13,6 +13,7 @@ use cut_disks::Disk;
 use cut_hall::{CallLedger, Hall, LineFault, Pass};
 use cut_lines::header;
 use cut_messages::{Kind, RowMessages, send_message};
+use cut_plan::plans_are_accepted;
 use cut_wires::{Line, Rows, RowsFault, Wire, WriteFault, send_rows};
 use std::alloc::Global;
 use std::sync::Wait;
@@ -110,8 +111,7 @@ where
         × (rows.new.pass.now.hall ≡ rows.old.pass.now.hall)
         × (rows.new.pass.now.view ≡ rows.old.pass.now.view) }
 {
-    // A plan has at most 4,096 cells.
-    let _cells = rows.opened.plan.cells();
+    plans_are_accepted(&rows.opened.plan);
     let sent = send_rows::<RowMessages, OpenedRows<'_, D, M, K, R>, W>(rows, line);
     end_table(line, sent)
 }

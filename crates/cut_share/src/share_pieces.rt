@@ -5,7 +5,7 @@ ghost use Rattle.cut_share.specs.PieceParts.{IsRest};
 
 use crate::Share;
 use cut_outcome::Piece;
-use cut_plan::Plan;
+use cut_plan::{Plan, plans_are_accepted};
 
 /// The pieces of a share that are left in some pieces of its plan: what is left of one, and those after it.
 #[derive(Clone, Copy)]
@@ -34,8 +34,7 @@ impl<'a> SharePieces<'a> {
         ensures times { (t : ℕ) → own_times share plan.now (result.rest ∷ result.later.now) t
             ≡ own_times share plan.now pieces.now t }
     {
-        // For the proof: what is known of every plan.
-        let _ = plan.repeats();
+        plans_are_accepted(plan);
         let rest = Piece { first: 0, count: 0 };
         SharePieces {
             plan,

@@ -24,7 +24,7 @@ use Rattle.cut_wires.specs.declared.rows.RowsFault.{RowsFault}
 use Rattle.cut_wires.specs.declared.rows.RowsFault.TheVariants.{Row, Write}
 use Rattle.cut_wires.specs.Log.{WireLog, wrote, write_failed}
 use Rattle.cut_wires.specs.Rows.{SendsRows, rows_to}
-use Rattle.cut_wires.specs.Sending.{Sending, sent_on, cut_off}
+use Rattle.cut_wires.specs.Sending.{Sending}
 use Rattle.cut_wires.proofs.RowLemmas.{rows_more}
 use Rattle.cut_table.specs.declared.fault.RowFault.{RowFault}
 use Rattle.cut_table.specs.declared.fault.RowFault.TheVariants as row

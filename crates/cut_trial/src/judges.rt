@@ -1,5 +1,5 @@
 ghost use Rattle.std.specs.Prelude.{◌≡◌, ◌+◌, ◌^◌, ◌<◌, ◌≤◌, ◌++◌, ◌∷◌, [], ℕ, true, List, Option, Some, None, IfSome};
-ghost use Rattle.std.specs.Prelude.{IfNone, false, length, map, count_by, slice_index, IfOk, IsTrue, OnOk, All};
+ghost use Rattle.std.specs.Prelude.{IfNone, false, length, map, count_by, slice_index, IfOk, OnOk, All};
 ghost use Rattle.std.specs.Prelude.{Contains};
 ghost use Rattle.cut_plan.specs.Cells.{IsCellOf};
 ghost use Rattle.cut_draws.specs.Source.{source_of};

@@ -1,5 +1,5 @@
 -- Logs of wires, call by call.
-use Rattle.std.proofs.Common.{◌≡◌, ◌∙◌, ◌++◌, List, [], ℕ, Option, Some, None, option_map, refl, sym, ap, append_assoc}
+use Rattle.std.proofs.Common.{◌≡◌, ◌∙◌, ◌++◌, List, [], ℕ, Option, Some, None, refl, ap, append_assoc}
 use Rattle.std.proofs.Common.{append-nil}
 use Rattle.cut_wires.specs.Log.{Traffic, Failed, WireLog, passing, with_taken, wrote}
 

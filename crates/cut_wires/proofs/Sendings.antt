@@ -1,6 +1,6 @@
 -- What was sent over a line, text by text.
-use Rattle.std.proofs.Common.{Result, Ok, Err, ◌≡◌, ◌∙◌, ◌<◌, ◌≤◌, ◌+◌, ◌-◌, ◌^◌, ◌++◌, min, List, ℕ, length, take}
-use Rattle.std.proofs.Common.{refl, sym, ap, subst, arith, append_assoc, append-nil, length-append, length-take-le}
+use Rattle.std.proofs.Common.{Result, Ok, Err, ◌≡◌, ◌∙◌, ◌<◌, ◌+◌, ◌-◌, ◌^◌, ◌++◌, min, List, ℕ, length, take}
+use Rattle.std.proofs.Common.{refl, sym, ap, arith, length-append}
 use Rattle.std.proofs.Math.Seq.{take-append-add}
 use Rattle.std.proofs.lemmas.List.{take-append-le}
 use Rattle.std.specs.Bool.{⊤}
@@ -8,7 +8,7 @@ use Rattle.std.specs.Borrow.{GName}
 use Rattle.cut_wires.specs.Log.{WireLog, wrote}
 use Rattle.cut_wires.specs.declared.send.WriteFault.{WriteFault}
 use Rattle.cut_wires.specs.Sending.{Sending, sent_on, cut_off, IsCut, Sends}
-use Rattle.cut_wires.proofs.Logs.{wrote_twice, wrote_none}
+use Rattle.cut_wires.proofs.Logs.{wrote_twice}
 
 -- a line of which the wire is known
 abbrev on : GName → WireLog → ℕ → Sending

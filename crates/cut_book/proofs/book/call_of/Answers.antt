@@ -1,11 +1,8 @@
-use Rattle.std.proofs.Common.{◌≡◌, ◌∙◌, Bool, IsTrue, ◌↔◌, refl, sym, ap}
+use Rattle.std.proofs.Common.{◌≡◌, Bool, IsTrue, ◌↔◌, refl, sym, ap}
 use Rattle.std.proofs.lemmas.Bool.Decides.{Decides-eqb, same_from_decides}
 use Rattle.std.proofs.lemmas.Slice.Eq.{slice_eq-Decides}
 use Rattle.cut_plan.specs.Values.{Values}
 use Rattle.cut_plan.specs.Canonical.{canonical_text}
-use Rattle.cut_outcome.specs.declared.piece.Piece.{Piece}
-use Rattle.cut_outcome.specs.declared.totals.Totals.{Totals}
-use Rattle.cut_ledger.specs.declared.slip.Slip.{Slip}
 use Rattle.cut_ledger.specs.Machine.{slip_of}
 use Rattle.cut_ledger.specs.Refusals.{is_same_plan}
 use Rattle.cut_book.specs.declared.call.Call.TheVariants.{HandIn}
@@ -20,5 +17,5 @@ same_plan a b r reported =
 pub returns-clause-call : goal.returns-clause-call
 returns-clause-call c =
     let same = same_plan c.args.plan.now c.plan.result.now c.same.result c.same.ensures.texts in
-    rw (c.piece.ensures.value, c.totals.ensures.value) (ap (λ (b : Bool). HandIn (slip_of c.args.offered.now) b
+    rw (c.slip_of.ensures.slip) (ap (λ (b : Bool). HandIn (slip_of c.args.offered.now) b
     c.args.answer) (rw c.plan.ensures at (sym same)))

@@ -1,8 +1,3 @@
-use Rattle.std.proofs.Common.{◌≡◌, ◌∙◌, List, sym, ap, subst}
-use Rattle.cut_ledger.specs.declared.slip.Slip.{Slip}
-use Rattle.cut_ledger.specs.Machine.{StudyState}
-use Rattle.cut_ledger.specs.Slips.{AreGood}
-use Rattle.cut_ledger.specs.World.{AreTrue}
 use Rattle.cut_book.proofs.Trusted.{true_store}
 use Rattle.cut_book.proofs.book_opening.open_book.Goals as goal
 

@@ -1,4 +1,4 @@
-use Rattle.std.proofs.Common.{◌∙◌, List, ℕ, Result, Ok, Err, refl, sym, subst}
+use Rattle.std.proofs.Common.{◌∙◌, Result, Ok, Err, refl, sym, subst}
 use Rattle.std.specs.Bool.{⊤}
 use Rattle.std.proofs.lemmas.Result.{err_from_is_err_and}
 use Rattle.cut_plan.specs.Values.{Values}

@@ -1,7 +1,6 @@
-use Rattle.std.proofs.Common.{◌≡◌, ◌∙◌, List, ℕ, ap, arith, w32}
-use Rattle.std.specs.Int.{from_be_bytes}
+use Rattle.std.proofs.Common.{List, ℕ, arith}
 use Rattle.std.proofs.lemmas.Bool.{false_from_ne_true}
-use Rattle.cut_journal.specs.Reading.{has_header, text_length}
+use Rattle.cut_journal.specs.Reading.{has_header}
 use Rattle.cut_journal.proofs.Headers.{has_can, header_room}
 use Rattle.cut_journal.proofs.first_bytes.header_text.Goals as goal
 
@@ -14,7 +13,5 @@ returns-then-bytes-lt13-clause-none c =
 pub returns-then-length-bytes-clause-none : goal.returns-then-length-bytes-clause-none
 returns-then-length-bytes-clause-none c =
     let bytes : List ℕ = c.args.bytes.now in
-    let text : c.from_be_bytes-length.result ≡ text_length bytes = c.from_be_bytes-length.ensures
-    ∙ ap (from_be_bytes w32) c.copy_from_slice.ensures.after in
     false_from_ne_true (has_header bytes)
-    (λ has. (let room = header_room bytes (has_can bytes has) in omega (arith, room, text, c.if-length-bytes.true)))
+    (λ has. (let room = header_room bytes (has_can bytes has) in omega (arith, room, c.length_in_header-length.ensures, c.if-length-bytes.true)))

@@ -25,19 +25,18 @@ returns-then-not-is_good-clause-err c =
           let no = bad.1 (rw same at here) in cc);
     }
 
-pub add-requires-clause-piece : goal.add-requires-clause-piece
-add-requires-clause-piece c =
-    let good = (c.if-not-is_good.ensures.good (take c.loop-i.i c.args.slips.now) c.loop-i.invariant.over).0 refl in
-    good.piece
-
-pub add-requires-clause-apart : goal.add-requires-clause-apart
-add-requires-clause-apart c =
+pub add-requires-clause-fits : goal.add-requires-clause-fits
+add-requires-clause-fits c =
     let v = c.args.plan.now in
     let over = c.loop-i.invariant.over in
     let good = (c.if-not-is_good.ensures.good (take c.loop-i.i c.args.slips.now) over).0 refl in
     let s : Slip = get_or c.args.slips.now c.loop-i.i no_slip in
-    sym (overlaps_is v (take c.loop-i.i c.args.slips.now) c.loop-i.kept.trials c.loop-i.kept.sums.items s.piece _ over
-    (piece_facts v s.piece over.kept.plan good.piece)) ∙ good.apart
+    record {
+      piece = good.piece;
+      apart = sym (overlaps_is v (take c.loop-i.i c.args.slips.now) c.loop-i.kept.trials c.loop-i.kept.sums.items s.piece
+          _ over (piece_facts v s.piece over.kept.plan good.piece)) ∙ good.apart;
+      few = c.if-not-is_good.ensures.few refl;
+    }
 
 pub loop-i-preserved : goal.loop-i-preserved
 loop-i-preserved c =

@@ -1,5 +1,5 @@
 use Rattle.std.proofs.Common.{◌≡◌}
-use Rattle.cut_board.specs.Names.{board_id, board_of}
+use Rattle.cut_board.specs.Names.{board_of}
 use Rattle.cut_parts_tests.proofs.boards.low_reads.Given as goal
 
 abbrev pub invariant-loop-number : goal.invariant-loop-number

@@ -1,4 +1,4 @@
-use Rattle.std.proofs.Common.{rules, ◌≡◌, length, arith, refl, ◌∙◌}
+use Rattle.std.proofs.Common.{◌≡◌, length, arith, refl, ap, ◌∙◌}
 use Rattle.serde_json.specs.View.{view}
 use Rattle.cut_plan.specs.declared.field.Field.TheVariants as field
 use Rattle.cut_plan.specs.Cells.{cells_of, largest}
@@ -37,7 +37,8 @@ returns c =
     let cells : c.count_cells-cells.result ≡ length (cells_of (values_in d)) = rw
     (← c.requires.lists.f, ← c.requires.lists.h, ← c.requires.lists.k, ← c.requires.lists.l)
     c.count_cells-cells.ensures in
-    let most : c.fold-most_failed.result ≡ largest (numbers_at d field.F) = rw (← c.requires.lists.f) (search rules) in
+    let most : c.largest-most_failed.result ≡ largest (numbers_at d field.F) = c.largest-most_failed.ensures
+    ∙ ap largest (c.as_slice.ensures.value ∙ c.requires.lists.f) in
     c.check_limits.ensures ∙ rw (
       cells,
       c.from.ensures,

@@ -11,21 +11,20 @@ loop-study-preserved c =
     let slots : List SlotEnd = c.slots-slots.result.now in
     let n : ℕ = c.loop-study.study in
     let reported : SlotEnd → ℕ = λ s. accepted_recorded s.history in
-    let first : SlotEnd = c.index-slots-study.result in
-    let second : SlotEnd = c.index-slots-study-in-loop-study.result in
+    let second : SlotEnd = c.index-slots-study.result in
     let low : n < length slots = omega (arith, c.loop-study-test.true) in
-    let last : reported second ≡ reported (get_or slots n second) = ap reported c.index-slots-study-in-loop-study.is in
+    let last : reported second ≡ reported (get_or slots n second) = ap reported c.index-slots-study.is in
     let sums : sum_by reported (take (n + 1) slots) ≡ sum_by reported (take n slots)
     + reported (get_or slots n second) =
     ap (sum_by reported) (take_at_read slots n second low).1
     ∙ sum_by_push reported (take n slots) (get_or slots n second) in
-    let ends : IsEndOf (get_or slots n first).history (get_or slots n first).complete =
-    subst (λ (s : SlotEnd). IsEndOf s.history s.complete) c.index-slots-study.is c.complete.ensures.end in
+    let ends : IsEndOf (get_or slots n second).history (get_or slots n second).complete =
+    subst (λ (s : SlotEnd). IsEndOf s.history s.complete) c.index-slots-study.is c.accepted.ensures.end in
     record {
-      sum = omega (arith, c.loop-study.invariant.sum, c.from-total.ensures, c.accepted.ensures, last, sums);
+      sum = omega (arith, c.loop-study.invariant.sum, c.from-total.ensures, c.accepted.ensures.value, last, sums);
       small = omega (arith, c.loop-study.invariant.small, c.from-total.ensures, c.accepted.type_inv);
-      legal = subst (All (λ (s : SlotEnd). IsEndOf s.history s.complete)) (sym (take_at_read slots n first low).1)
-          (All-push (λ (s : SlotEnd). IsEndOf s.history s.complete) (take n slots) (get_or slots n first)
+      legal = subst (All (λ (s : SlotEnd). IsEndOf s.history s.complete)) (sym (take_at_read slots n second low).1)
+          (All-push (λ (s : SlotEnd). IsEndOf s.history s.complete) (take n slots) (get_or slots n second)
           c.loop-study.invariant.legal ends);
     }
 

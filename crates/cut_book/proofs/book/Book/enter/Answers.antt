@@ -4,14 +4,11 @@ use Rattle.cut_outcome.specs.declared.piece.Piece.{Piece}
 use Rattle.cut_ledger.specs.Account.{Account, has_room}
 use Rattle.cut_ledger.specs.Contents.{Contents, cell_of_piece, with_piece}
 use Rattle.cut_ledger.specs.Machine.{StudyState, after, slip_of}
-use Rattle.cut_ledger.specs.Refusals.{is_same_plan}
 use Rattle.cut_book.specs.declared.call.Answer.TheVariants.{Accepted, DiskFails}
-use Rattle.cut_book.specs.declared.call.Call.{Call}
-use Rattle.cut_book.specs.declared.call.Call.TheVariants.{HandIn}
-use Rattle.cut_book.specs.History.{IsStep, event_of}
-use Rattle.cut_book.specs.Book.{GivesAnswer, BookValue, hand_in_of, book_value_in, refusal_in, state_in}
-use Rattle.cut_book.proofs.Legal.{Noted, legal_on, noted}
-use Rattle.cut_book.proofs.Refused.{IsFree, free}
+use Rattle.cut_book.specs.History.{event_of}
+use Rattle.cut_book.specs.Book.{state_in}
+use Rattle.cut_book.proofs.Legal.{legal_on, noted}
+use Rattle.cut_book.proofs.Refused.{free}
 use Rattle.cut_book.proofs.Entered.{accepted_answer, accepted_book, accepted_hands, entered_step, failed_answer}
 use Rattle.cut_book.proofs.Entered.{failed_book, failed_journal}
 use Rattle.cut_book.proofs.book.Book.enter.Goals as goal

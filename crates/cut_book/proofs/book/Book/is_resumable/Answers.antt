@@ -1,7 +1,3 @@
-use Rattle.std.proofs.Common.{subst}
-use Rattle.cut_ledger.specs.declared.event.Event.TheVariants.{HandInDiskFails}
-use Rattle.cut_ledger.specs.Machine.{after}
-use Rattle.cut_book.specs.Book.{BookValue, LeavesResumed}
 use Rattle.cut_book.proofs.Resumed.{resumable}
 use Rattle.cut_book.proofs.book.Book.is_resumable.Goals as goal
 

@@ -1,7 +1,3 @@
-use Rattle.std.proofs.Common.{ℕ, List, IfSome, subst}
-use Rattle.cut_disks.specs.State.{IsImage}
-use Rattle.cut_journal.specs.Laws.{IsResumed}
-use Rattle.cut_book.specs.Book.{BookValue}
 use Rattle.cut_book.proofs.Resumed.{resumed_now}
 use Rattle.cut_book.proofs.book.Book.leaves_resumed.Goals as goal
 

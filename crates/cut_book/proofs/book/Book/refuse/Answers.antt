@@ -1,17 +1,7 @@
-use Rattle.std.proofs.Common.{◌≡◌, ◌∙◌, Bool, Result, Option, Some, IsErrOf, IsSome, sym, ap, subst}
-use Rattle.std.specs.Prelude.{⊤}
-use Rattle.cut_faults.specs.Failures.{one_more}
-use Rattle.cut_plan.specs.Values.{Values}
-use Rattle.cut_ledger.specs.Machine.{StudyState, slip_of}
-use Rattle.cut_ledger.specs.Refusals.{is_same_plan}
-use Rattle.cut_book.specs.declared.call.Answer.{Answer}
-use Rattle.cut_book.specs.declared.fault.BookFault.{BookFault}
-use Rattle.cut_book.specs.declared.fault.BookFault.TheVariants.{Checkpoint}
-use Rattle.cut_book.specs.declared.call.Call.{Call}
-use Rattle.cut_book.specs.declared.call.Call.TheVariants.{HandIn}
-use Rattle.cut_book.specs.History.{IsStep, accepted_slip}
-use Rattle.cut_book.specs.Book.{BookValue, HandsIn, answer_of, hand_in_of, refusal_in, state_in, book_value_in}
-use Rattle.cut_book.specs.Book.{failed_since, failures_of, faults_after}
+use Rattle.std.proofs.Common.{◌∙◌, sym, ap}
+use Rattle.cut_ledger.specs.Machine.{StudyState}
+use Rattle.cut_book.specs.History.{accepted_slip}
+use Rattle.cut_book.specs.Book.{state_in}
 use Rattle.cut_book.proofs.Legal.{legal_on, noted, said}
 use Rattle.cut_book.proofs.Entered.{broken_has}
 use Rattle.cut_book.proofs.Refused.{refused, refused_step, refused_hands}

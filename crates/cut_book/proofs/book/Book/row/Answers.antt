@@ -1,5 +1,4 @@
-use Rattle.std.proofs.Common.{◌∙◌, ◌<◌, true, false, length, refl, sym, ap, subst}
-use Rattle.cut_plan.specs.Cells.{cells_of}
+use Rattle.std.proofs.Common.{◌∙◌, true, false, refl, sym, ap}
 use Rattle.cut_table.specs.Table.{row_of}
 use Rattle.cut_book.specs.declared.call.Call.TheVariants.{Row}
 use Rattle.cut_book.specs.Book.{BookValue}

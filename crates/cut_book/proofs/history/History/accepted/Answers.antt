@@ -1,10 +1,10 @@
-use Rattle.std.proofs.Common.{◌≡◌, ◌∙◌, ◌<◌, ◌≤◌, ◌+◌, ◌*◌, ◌∷◌, [], ℕ, List, get_or, length, map, take, sym, ap, arith}
+use Rattle.std.proofs.Common.{◌≡◌, ◌∙◌, ◌<◌, ◌∷◌, [], ℕ, List, get_or, length, map, sym, ap, arith}
 use Rattle.std.proofs.lemmas.List.{get_or-map, length-map, take_all}
 use Rattle.cut_book.specs.declared.call.Call.{Call}
 use Rattle.cut_book.specs.declared.call.Call.TheVariants.{Lose}
 use Rattle.cut_book.specs.declared.history.Entry.{Entry}
 use Rattle.cut_book.specs.HistoryInside.{course_of}
-use Rattle.cut_book.specs.History.{HistoryValue, accepted_in}
+use Rattle.cut_book.specs.History.{accepted_in}
 use Rattle.cut_book.proofs.Merged.{others_accept}
 use Rattle.cut_book.proofs.Sums.{few_accepted, next_adds, next_fits}
 use Rattle.cut_book.proofs.history.History.accepted.Goals as goal

@@ -1,8 +1,4 @@
-use Rattle.std.proofs.Common.{List, refl, sym, subst}
-use Rattle.cut_plan.specs.Plan.{IsPlan}
-use Rattle.cut_ledger.specs.Account.{Account}
-use Rattle.cut_book.specs.declared.call.Call.{Call}
-use Rattle.cut_book.specs.History.{Opening, IsLegalHistory, opened_by}
+use Rattle.std.proofs.Common.{refl}
 use Rattle.cut_book.proofs.Merged.{none_in_order, none_yet}
 use Rattle.cut_book.proofs.history.History.begin.Goals as goal
 

@@ -1,9 +1,6 @@
-use Rattle.std.proofs.Common.{◌≡◌, ◌∙◌, ◌-◌, ◌++◌, [], List, ℕ, length, map, drop, sym, ap, subst, arith}
+use Rattle.std.proofs.Common.{◌∙◌, ◌-◌, List, ℕ, length, drop, arith}
 use Rattle.std.proofs.lemmas.List.{drop_all, length-drop, take_all}
-use Rattle.cut_book.specs.declared.call.Call.{Call}
 use Rattle.cut_book.specs.declared.history.Entry.{Entry}
-use Rattle.cut_book.specs.History.{HistoryValue}
-use Rattle.cut_book.specs.HistoryInside.{AreInOrder, calls_from, lost_call}
 use Rattle.cut_book.proofs.Merged.{bounds_at, next_calls, no_entry, within}
 use Rattle.cut_book.proofs.history.History.calls.Goals as goal
 

@@ -1,8 +1,5 @@
-use Rattle.std.proofs.Common.{◌≡◌, ◌∙◌, ◌++◌, ◌∷◌, [], List, ℕ, length, sym, ap, subst}
-use Rattle.cut_book.specs.declared.call.Call.{Call}
+use Rattle.std.proofs.Common.{List, ℕ, length}
 use Rattle.cut_book.specs.declared.history.Entry.{Entry}
-use Rattle.cut_book.specs.History.{HistoryValue, IsLegalHistory}
-use Rattle.cut_book.specs.HistoryInside.{AreInOrder, calls_from, course_of}
 use Rattle.cut_book.proofs.Merged.{one_entry_more, order_of_one_entry_more}
 use Rattle.cut_book.proofs.history.History.push.Goals as goal
 

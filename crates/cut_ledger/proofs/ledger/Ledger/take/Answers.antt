@@ -25,6 +25,15 @@ either : {E P Q : Type 0} (r : Result (Unit {0}) E) (S : Type 0) → OnOk r P �
 either (Ok u) S ok err f g = f ok
 either (Err e) S ok err f g = g err
 
+pub add-requires-clause-fits : goal.add-requires-clause-fits
+add-requires-clause-fits c =
+    let plan = rw (← c.self.view_is) at c.requires.plan in
+    record {
+      piece = rw (c.piece.ensures.value, ← plan) c.piece.ensures.piece;
+      apart = rw (c.piece.ensures.value) (rw (← c.self.view_is) at c.requires.apart);
+      few = rw (c.piece.ensures.value) c.totals.ensures.few;
+    }
+
 pub invariant_of-self : goal.invariant_of-self
 invariant_of-self c =
     let l = c.self.inside in

@@ -1,4 +1,4 @@
-use Rattle.std.proofs.Common.{rules, ◌≡◌, ℕ, ◌<◌, ◌^◌, Bool, true, false, List, filter, length, refl, ap, sym, ◌∙◌}
+use Rattle.std.proofs.Common.{rules, ◌≡◌, ℕ, Bool, true, false, List, filter, length, refl, ap, sym, ◌∙◌}
 use Rattle.std.proofs.Common.{arith}
 use Rattle.std.proofs.lemmas.Bool.{eqb-true}
 use Rattle.cut_detector.specs.Rule.{rule_in}
@@ -7,7 +7,6 @@ use Rattle.cut_nodes.specs.declared.node.Node.{Node}
 use Rattle.cut_nodes.specs.Nodes.{subjects_of}
 use Rattle.cut_outcome.proofs.Words.{Edge, Rule, is_target, range_with_len, rule_of, set_of, targets_of}
 use Rattle.cut_trial.proofs.Judged.{complete_from, heard_as, none_stable, some_node, subjects_within}
-use Rattle.cut_trial.proofs.Placed.{held_by}
 use Rattle.cut_trial.proofs.judges.Judges.judge_receivers.Goals as goal
 
 pub wanted_nodes-requires : goal.wanted_nodes-requires
