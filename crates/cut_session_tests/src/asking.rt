@@ -1,9 +1,7 @@
-//! A client over answers that were worked out by hand, and with each call of its wires failing.
+//! A client over an answer that was worked out by hand, with each call of its wires failing.
 
-use crate::readings::bytes_of;
-use crate::vectors::{Session, number_in, session_of, sessions};
 use cut_session::{AskFault, StreamFault, ask};
-use cut_wires::{FaultyWire, MemoryWire};
+use cut_wires::FaultyWire;
 use std::alloc::{AllocError, Global};
 use std::test::Fail;
 
@@ -69,10 +67,15 @@ fn after<'a>(bytes: &'a [u8], part: &[u8]) -> Option<&'a [u8]> {
 /// How an asking ends, and how many bytes of the request were sent, and of the table written.
 type Asked = (Result<(), AskFault>, Option<usize>, Option<usize>);
 
-/// How an asking ends to which these parts are the answer.
-fn asked_in(alloc: Global, row: &Row, answer: &[&[u8]]) -> Result<Asked, Fail> {
-    let input = joined(alloc, answer)?;
-    let mut wire = FaultyWire::new(alloc, input, row.per, row.room, row.read);
+/// How an asking ends.
+fn asked(alloc: Global, row: &Row) -> Result<Asked, Fail> {
+    let mut wire = FaultyWire::new(
+        alloc,
+        joined(alloc, &[FIRST, SECOND])?,
+        row.per,
+        row.room,
+        row.read,
+    );
     let mut output = FaultyWire::new(alloc, Vec::new(alloc), row.per, row.output, 0);
     let end = ask(alloc, PLAN, &mut wire, &mut output);
     Ok((
@@ -81,32 +84,6 @@ fn asked_in(alloc: Global, row: &Row, answer: &[&[u8]]) -> Result<Asked, Fail> {
         prefix_len(output.taken(), &[TABLE]),
     ))
 }
-
-/// Whether an asking ends so.
-fn ends_so(alloc: Global, row: &Row, answer: &[&[u8]], wanted: &Asked) -> Result<bool, Fail> {
-    Ok(asked_in(alloc, row, answer)? == *wanted)
-}
-
-/// Answers with the whole table.
-const ANSWERS: &[&[&[u8]]] = &[
-    &[FIRST, SECOND],
-    &[COUNT, FIRST, SECOND],
-    &[FIRST, SECOND, b"Xx"],
-];
-
-#[test]
-fn a_table_is_written_as_it_comes(rt: HostRuntime) -> Result<(), Fail> {
-    for answer in ANSWERS {
-        for per in [1, 7, 5000] {
-            let row = Row { per, ..WHOLE };
-            assert!(rt; ends_so(rt.alloc(), &row, answer, &(Ok(()), Some(231), Some(98)))?);
-        }
-    }
-    Ok(())
-}
-
-/// The answer of the study.
-const ANSWER: &[&[u8]] = &[FIRST, SECOND];
 
 /// One whose reads come byte for byte, and the next one after this many of them fails.
 fn unread(bytes: usize) -> Row {
@@ -130,7 +107,7 @@ fn written(bytes: usize) -> usize {
 fn each_read_that_fails_is_reported(rt: HostRuntime) -> Result<(), Fail> {
     for bytes in 0..113usize {
         let wanted = (Err(AskFault::Read), Some(231), Some(written(bytes)));
-        assert!(rt; ends_so(rt.alloc(), &unread(bytes), ANSWER, &wanted)?);
+        assert!(rt; asked(rt.alloc(), &unread(bytes))? == wanted);
     }
     Ok(())
 }
@@ -139,44 +116,13 @@ fn each_read_that_fails_is_reported(rt: HostRuntime) -> Result<(), Fail> {
 fn each_write_that_fails_is_reported(rt: HostRuntime) -> Result<(), Fail> {
     for room in 0..231usize {
         let wanted = (Err(AskFault::Request), Some(room), Some(0));
-        assert!(rt; ends_so(rt.alloc(), &Row { room, ..WHOLE }, ANSWER, &wanted)?);
+        assert!(rt; asked(rt.alloc(), &Row { room, ..WHOLE })? == wanted);
     }
     for output in 0..98usize {
         let wanted = (Err(AskFault::Output), Some(231), Some(output));
-        assert!(rt; ends_so(rt.alloc(), &Row { output, ..WHOLE }, ANSWER, &wanted)?);
+        assert!(rt; asked(rt.alloc(), &Row { output, ..WHOLE })? == wanted);
     }
-    Ok(())
-}
-
-/// The number of the fault with which an asking ended, or 0.
-fn number_of(ended: Result<(), AskFault>) -> u16 {
-    match ended {
-        Ok(()) => 0,
-        Err(fault) => fault.number(),
-    }
-}
-
-/// Whether a client whose answer is this stream stops as was worked out.
-fn is_asked(alloc: Global, block: &str) -> Result<bool, Fail> {
-    let mut wire = MemoryWire::new(alloc, bytes_of(alloc, block)?, 50);
-    let mut output = MemoryWire::new(alloc, Vec::new(alloc), 50);
-    let number = number_of(ask(alloc, PLAN, &mut wire, &mut output));
-    Ok(
-        u64::from(number) == number_in(block, "asked ", 0)
-            && output.taken().len() as u64 == number_in(block, "asked ", 1),
-    )
-}
-
-/// Whether that holds of what either side of a session sends.
-fn are_asked(alloc: Global, session: Session<'_>) -> Result<bool, Fail> {
-    Ok(is_asked(alloc, session.sent)? && is_asked(alloc, session.replies)?)
-}
-
-#[test]
-fn answers_end_where_the_first_last_reply_stands(rt: HostRuntime) -> Result<(), Fail> {
-    for (number, text) in sessions().split("\n\n").enumerate() {
-        assert!(rt; are_asked(rt.alloc(), session_of(text))?, "{number}");
-    }
+    assert!(rt; asked(rt.alloc(), &WHOLE)? == (Ok(()), Some(231), Some(98)));
     Ok(())
 }
 

@@ -6,9 +6,9 @@ use cut_disks::FaultyDisk;
 use cut_hall::{CallLedger, Hall, Hooks, Pass};
 use cut_outcome::Piece;
 use cut_plan::Plan;
-use cut_session::{Reader, SessionEnd, session};
+use cut_session::{SessionEnd, session};
 use cut_wires::FaultyWire;
-use std::alloc::{AllocError, Global};
+use std::alloc::Global;
 use std::marker::Brand;
 use std::sync::Wait;
 use std::sync::atomic::{AtomicU64, Ordering};
@@ -32,14 +32,7 @@ pub(crate) struct House {
     pub pieces: u64,
 }
 
-/// A hall of one slot, in which nothing was done.
-pub(crate) const EMPTY: House = House {
-    slots: 1,
-    size: 1,
-    pieces: 0,
-};
-
-/// A hall for a session, the requests whose studies are submitted to it before, and where their disks come from.
+/// A hall for a session, the text of the plan whose study is submitted to it before, and where its disk comes from.
 #[derive(Drop)]
 struct Scene<'a, S> {
     house: House,
@@ -63,15 +56,14 @@ impl<M: CallLedger, K: CallLedger> Hooks for LastHooks<'_, M, K> {
     }
 }
 
-/// Submits the studies that come before the session, and works on some pieces of them, if any. Then the hall is
-/// stopped.
+/// Submits the study that comes before the session, and works on some pieces of it, if any. Then the hall is stopped.
 fn work_through<M, K, S, R>(
     rt: &R,
     alloc: Global,
     hall: &Stormy<M, K>,
     pass: &mut Pass<M>,
     scene: &Scene<'_, S>,
-) -> Result<(), AllocError>
+)
 where
     M: CallLedger,
     K: CallLedger,
@@ -80,7 +72,7 @@ where
     requires own { pass.old.hall ≡ hall.now.id }
     requires trusted { S.is_true scene.now.shelf.now ≡ true }
 {
-    submit_all(rt, alloc, hall, pass, scene)?;
+    submit(rt, alloc, hall, pass, scene.shelf, scene.before);
     if scene.house.pieces > 0 {
         let hooks = LastHooks {
             hall,
@@ -89,39 +81,6 @@ where
         };
         hall.work(rt, alloc, pass, &hooks);
     }
-    Ok(())
-}
-
-/// Submits the study of each plan that is asked for before the session.
-fn submit_all<M, K, S, R>(
-    rt: &R,
-    alloc: Global,
-    hall: &Stormy<M, K>,
-    pass: &mut Pass<M>,
-    scene: &Scene<'_, S>,
-) -> Result<(), AllocError>
-where
-    M: CallLedger,
-    K: CallLedger,
-    S: Shelf<FaultyDisk>,
-    R: Wait,
-    requires own { pass.old.hall ≡ hall.now.id }
-    requires trusted { S.is_true scene.now.shelf.now ≡ true }
-    ensures { pass.new.hall ≡ pass.old.hall }
-{
-    let mut reader = Reader::requests(alloc);
-    let fed = reader.feed(alloc, scene.before)?;
-    for message in fed.messages.iter() {
-        submit(
-            rt,
-            alloc,
-            hall,
-            pass,
-            scene.shelf,
-            message.payload.as_slice(),
-        );
-    }
-    Ok(())
 }
 
 /// Submits the study of a plan's text, if it is one.
@@ -177,11 +136,11 @@ where
     let Some(mut second) = passes.pop() else {
         unreachable!()
     };
-    work_through(rt, alloc, &hall, &mut first, scene)?;
+    work_through(rt, alloc, &hall, &mut first, scene);
     Ok(session(rt, alloc, &hall, &mut second, scene.shelf, wire))
 }
 
-/// How a session ends over this wire, in a hall to which the studies of some requests were submitted before.
+/// How a session ends over this wire, in a hall to which the study of a plan's text was submitted before, if it is one.
 pub(crate) fn serve<S, R>(
     rt: &R,
     alloc: Global,

@@ -1,5 +1,5 @@
-//! What no contract of `cut_session` says: every session that was computed elsewhere, cut in many ways and beside
-//! a real worker, streams read by a second reader, and shelves, disks and wires that fail.
+//! What no contract of `cut_messages` and `cut_session` says: sessions beside a real worker and beside each other, shelves,
+//! disks, wires and allocations that fail, and what is printed.
 //!
 //! The tests stand in a crate of their own, as they use sessions as their callers do, and the proofs of the
 //! sessions need not be made again for them.
@@ -7,9 +7,6 @@
 
 #[cfg(test)]
 mod asking;
-#[cfg(test)]
-mod drawn;
-pub mod frame;
 #[cfg(test)]
 mod halls;
 #[cfg(test)]
@@ -19,10 +16,8 @@ mod refused_memory;
 #[cfg(test)]
 mod serving;
 #[cfg(test)]
-mod settled;
+mod shelves;
 #[cfg(test)]
 mod two_sessions;
-#[cfg(test)]
-mod vectors;
 #[cfg(test)]
 mod worker;

@@ -50,8 +50,7 @@ fn end_of(end: SessionEnd, taken: &[u8], replies: &[u8]) -> End {
 /// How a session over these requests ends, all of which come at once.
 fn exchanged<R: Wait>(rt: &R, alloc: Global, sent: &[u8], replies: &[u8]) -> Result<End, Fail> {
     let mut wire = wire_over(alloc, Vec::from_slice(alloc, sent)?, 5000);
-    let before = sent.get(..226).unwrap_or_default();
-    let end = serve(rt, alloc, HOUSE, before, &NoShelf, &mut wire)?;
+    let end = serve(rt, alloc, HOUSE, PLAN, &NoShelf, &mut wire)?;
     Ok(end_of(end, wire.taken(), replies))
 }
 

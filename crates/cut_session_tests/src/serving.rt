@@ -1,13 +1,11 @@
 //! Sessions over wires in memory, in halls whose studies are done.
 
 use crate::asking::{COUNT, FIRST, PLAN, SECOND, joined};
-use crate::halls::{EMPTY, House, serve, wire_over};
-use crate::readings::bytes_of;
-use crate::vectors::{Session, number_in, said, session_of, sessions};
+use crate::halls::{House, serve};
 use cut_book::NoShelf;
 use cut_session::{SessionEnd, SessionFault};
 use cut_wires::{FaultyWire, Wire, WriteFault};
-use std::alloc::{AllocError, Global};
+use std::alloc::Global;
 use std::sync::Wait;
 use std::test::Fail;
 
@@ -31,9 +29,9 @@ pub(crate) const HOUSE: House = House {
 
 /// The requests of the whole exchange, 240 bytes, and its replies, 126 bytes.
 #[derive(Drop)]
-pub(crate) struct Exchange {
-    pub sent: Vec<u8>,
-    pub replies: Vec<u8>,
+struct Exchange {
+    sent: Vec<u8>,
+    replies: Vec<u8>,
 }
 
 fn whole_exchange(alloc: Global) -> Result<Exchange, Fail> {
@@ -70,8 +68,7 @@ fn is_right<R: Wait>(rt: &R, alloc: Global, exchange: &Exchange, row: &Row) -> R
     let sent = exchange.sent.as_slice();
     let input = Vec::from_slice(alloc, sent.get(..row.cut).unwrap_or_default())?;
     let mut wire = FaultyWire::new(alloc, input, 1, row.room, row.read);
-    let before = sent.get(..226).unwrap_or_default();
-    let end = serve(rt, alloc, HOUSE, before, &NoShelf, &mut wire)?;
+    let end = serve(rt, alloc, HOUSE, PLAN, &NoShelf, &mut wire)?;
     Ok(end == row.end && is_taken(wire.taken(), exchange.replies.as_slice(), row))
 }
 
@@ -81,80 +78,6 @@ fn is_taken(taken: &[u8], replies: &[u8], row: &Row) -> bool {
         Some(before) => taken.strip_prefix(before) == Some(row.frame),
         None => false,
     }
-}
-
-/// The requests and the replies of a session that was worked out.
-pub(crate) fn exchange_of(alloc: Global, session: Session<'_>) -> Result<Exchange, AllocError> {
-    let sent = bytes_of(alloc, session.sent)?;
-    let replies = bytes_of(alloc, session.replies)?;
-    Ok(Exchange { sent, replies })
-}
-
-/// Whether a session ended as its block says: by a message that quits, at the end of its input, or with a fault.
-pub(crate) fn is_end(end: SessionEnd, block: &str) -> bool {
-    let word = said(block, "end ");
-    match end {
-        SessionEnd::Quit => word == "quit",
-        SessionEnd::EndOfInput => word == "end",
-        SessionEnd::Fault(fault) => word.parse().unwrap_or(0u16) == fault.code().number(),
-        SessionEnd::Write(_) => false,
-    }
-}
-
-/// Whether a session to which this many bytes come at once goes as it was worked out.
-fn is_served<R: Wait>(
-    rt: &R,
-    alloc: Global,
-    block: &str,
-    exchange: &Exchange,
-    per: usize,
-) -> Result<bool, Fail> {
-    let house = House {
-        slots: 2,
-        size: 1_000_000,
-        pieces: number_in(block, "cells ", 0),
-    };
-    let before = exchange.sent.as_slice();
-    let mut wire = wire_over(alloc, Vec::from_slice(alloc, before)?, per);
-    let end = serve(rt, alloc, house, before, &NoShelf, &mut wire)?;
-    Ok(is_end(end, block) && wire.taken() == exchange.replies.as_slice())
-}
-
-/// Whether a session goes so whose bytes come one by one, or some or all at once.
-fn is_served_in_pieces<R: Wait>(
-    rt: &R,
-    alloc: Global,
-    block: &str,
-    exchange: &Exchange,
-) -> Result<bool, Fail> {
-    for per in [1, 3, 10, 100, 5000] {
-        if !is_served(rt, alloc, block, exchange, per)? {
-            return Ok(false);
-        }
-    }
-    Ok(true)
-}
-
-/// Whether a session goes as it was worked out.
-fn goes_so<R: Wait>(rt: &R, alloc: Global, session: Session<'_>) -> Result<bool, Fail> {
-    let exchange = exchange_of(alloc, session)?;
-    is_served_in_pieces(rt, alloc, session.end, &exchange)
-}
-
-#[test]
-fn sessions_go_as_they_were_worked_out(rt: HostRuntime) -> Result<(), Fail> {
-    for (number, text) in sessions().split("\n\n").enumerate() {
-        assert!(rt; goes_so(&rt, rt.alloc(), session_of(text))?, "{number}");
-    }
-    Ok(())
-}
-
-#[test]
-fn faults_of_sessions_are_printed(rt: HostRuntime) -> Result<(), Fail> {
-    let fault = SessionFault::TooManyRequests;
-    assert!(rt; fault.to_string(rt.alloc())?.as_str() == "44 TooManyRequests");
-    assert!(rt; fault.code().number() == 44);
-    Ok(())
 }
 
 #[test]
@@ -209,7 +132,8 @@ fn after_read(read: u64) -> Row {
 /// Whether a session ends so whose read fails, and whose wire has room for this many bytes.
 fn is_unread<R: Wait>(rt: &R, alloc: Global, room: usize) -> Result<bool, Fail> {
     let mut wire = FaultyWire::new(alloc, joined(alloc, &[ASK])?, 1, room, 9);
-    let end = serve(rt, alloc, EMPTY, &[], &NoShelf, &mut wire)?;
+    let house = House { pieces: 0, ..HOUSE };
+    let end = serve(rt, alloc, house, b"", &NoShelf, &mut wire)?;
     let failed = SessionEnd::Write(WriteFault { sent: room as u64 });
     Ok(end == failed && Some(wire.taken()) == UNREAD.get(..room) && wire.failures() == 2)
 }

@@ -4,8 +4,7 @@ ghost use Rattle.std.specs.Prelude.{◌≡◌, All};
 ghost use Rattle.atomic_table.specs.Seated.{TableId};
 
 use crate::asking::PLAN;
-use crate::serving::{Exchange, SUBMIT, exchange_of, is_end};
-use crate::vectors::{Session, number_in, session_of, sessions};
+use crate::serving::SUBMIT;
 use cut_book::NoShelf;
 use cut_disks::MemoryDisk;
 use cut_hall::{CallLedger, Hall, NoHooks, Pass, Report};
@@ -155,7 +154,7 @@ where
 #[derive(Drop)]
 pub(crate) struct Served {
     clients: Vec<Client>,
-    pub report: Report,
+    report: Report,
 }
 
 impl Served {
@@ -185,66 +184,6 @@ pub(crate) fn serve_two<R: Threads + Wait + Sync>(
     Ok(Served { clients, report })
 }
 
-/// Serves a client whose requests are these, `per` bytes at once, and one that leaves at once.
-fn serve_one<R: Threads + Wait + Sync>(
-    rt: &R,
-    alloc: Global,
-    sent: Vec<u8>,
-    per: usize,
-) -> Result<Served, Fail> {
-    let wire = FaultyWire::new(alloc, sent, per, 5000, 0);
-    let none = FaultyWire::new(alloc, Vec::new(alloc), 1, 5000, 0);
-    serve_two(rt, alloc, wire, none)
-}
-
-/// Whether of each slot all trials of its study were accepted, and the study is complete, where it has one.
-fn is_whole(report: &Report, trials: &[u64]) -> bool {
-    let mut pairs = report.slots().iter().zip(trials);
-    report.slots().len() == trials.len()
-        && pairs.all(|(slot, trials)| {
-            slot.accepted() == *trials && slot.complete() == (*trials > 0)
-        })
-}
-
-/// Whether a session goes beside a worker as it was worked out, where this many bytes come at once.
-fn is_served<R: Threads + Wait + Sync>(
-    rt: &R,
-    alloc: Global,
-    session: Session<'_>,
-    per: usize,
-) -> Result<bool, Fail> {
-    let Exchange { sent, replies } = exchange_of(alloc, session)?;
-    let served = serve_one(rt, alloc, sent, per)?;
-    Ok(goes_so(&served, session.end, &replies))
-}
-
-/// Whether a session ended as its block says, with these replies, and the hall reported it so.
-fn goes_so(served: &Served, block: &str, replies: &[u8]) -> bool {
-    let trials = [
-        number_in(block, "trials ", 0),
-        number_in(block, "trials ", 1),
-    ];
-    match served.end_of(0) {
-        Some((end, taken)) => {
-            is_end(end, block) && taken == replies && is_whole(&served.report, &trials)
-        }
-        None => false,
-    }
-}
-
-#[test]
-fn a_worker_makes_the_lines_that_a_session_waits_for(rt: HostRuntime) -> Result<(), Fail> {
-    for (number, text) in sessions().split("\n\n").enumerate() {
-        for per in [1, 30, 5000] {
-            assert!(rt;
-                is_served(&rt, rt.alloc(), session_of(text), per)?,
-                "{number}"
-            );
-        }
-    }
-    Ok(())
-}
-
 /// How many calls the history of a study of two trials has, whose table is asked for this many times.
 fn calls_for<R: Threads + Wait + Sync>(
     rt: &R,
@@ -256,7 +195,9 @@ fn calls_for<R: Threads + Wait + Sync>(
         sent.extend_from_slice(SUBMIT)?;
         sent.extend_from_slice(PLAN)?;
     }
-    let served = serve_one(rt, alloc, sent, 5000)?;
+    let wire = FaultyWire::new(alloc, sent, 5000, 5000, 0);
+    let none = FaultyWire::new(alloc, Vec::new(alloc), 1, 5000, 0);
+    let served = serve_two(rt, alloc, wire, none)?;
     Ok(served.report.slots().first().map(|slot| slot.calls()))
 }
 

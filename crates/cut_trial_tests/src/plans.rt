@@ -2,15 +2,8 @@ use cut_plan::{Cell, Dead, Faults, Plan, PlanFault, Refusal};
 use std::alloc::{AllocError, Global};
 use std::test::Fail;
 
-const PLAN: &str =
-    r#"{"copies":1,"dead":"silent","f":[1],"faults":"crash","h":[1],"implicit":true,"k":[1],"l":[1],"liars":0,"links":0,"nodes":5,"repeats":2,"seed":"0000000000000000000000000000000000000000000000000000000000000000","version":1}"#;
-
 const LARGE: &str =
     r#"{"copies":3,"dead":"speak","f":[2,4,8,16],"faults":"deaf","h":[6,7,8,9],"implicit":false,"k":[10],"l":[1,2,3,4],"liars":7,"links":9,"nodes":1999,"repeats":777777,"seed":"00112233445566778899aabbccddeeff00112233445566778899aabbccddeeff","version":1}"#;
-
-// The first plan in the second version: no target is deaf.
-const MIXED: &str =
-    r#"{"copies":1,"dead":"silent","deaf":0,"f":[1],"h":[1],"implicit":true,"k":[1],"l":[1],"liars":0,"links":0,"nodes":5,"repeats":2,"seed":"0000000000000000000000000000000000000000000000000000000000000000","version":2}"#;
 
 // Two plans of the second version that were written apart from this program.
 const SOME_DEAF: &str =
@@ -49,104 +42,6 @@ const TEXTS: &str =
 {"copies": 4, "dead": "silent", "implicit": true, "nodes": 12, "repeats": 1, "seed": "D2E440c4A09DFbabACF4DEB2852bF9ea39D1383ab0b9FcB47Ca9FAB25afC4627", "version": 2, "deaf": 2048, "k": [1], "h": [1], "l": [1], "f": [1, 7], "liars": 1, "links": 0}
 {"copies":4,"dead":"silent","deaf":2048,"f":[1,7],"h":[1],"implicit":true,"k":[1],"l":[1],"liars":1,"links":0,"nodes":12,"repeats":1,"seed":"d2e440c4a09dfbabacf4deb2852bf9ea39d1383ab0b9fcb47ca9fab25afc4627","version":2}
 {"copies":4,"dead":"silent","deaf":2048,"f":[1,7],"h":[1],"implicit":true,"k":[1],"l":[1],"liars":1,"links":0,"nodes":12,"repeats":1,"seed":"d2e440c4a09dfbabacf4deb2852bf9ea39d1383ab0b9fcb47ca9fab25afc4627","version":2}"#;
-
-// Edits of the first plan: the fault of the edited text, what is taken out, and what comes there.
-const EDITS: &str = r#"3 UnknownField|"version":1|"version":1,"x":0
-4 MissingField seed|"seed":"0000000000000000000000000000000000000000000000000000000000000000",|
-5 WrongKind repeats|"repeats":2|"repeats":1.0
-5 WrongKind repeats|"repeats":2|"repeats":1e0
-6 OutOfRange f|"nodes":5|"nodes":1
-6 OutOfRange version|"version":1|"version":3
-3 UnknownField|"version":1|"version":2
-3 UnknownField|"f":[1]|"deaf":0,"f":[1]
-7 NotRising k|"k":[1]|"k":[1,1]
-8 NoCell|"h":[1]|"h":[3]
-8 NoCell|"h":[1],"implicit":true,"k":[1]|"h":[3],"implicit":true,"k":[2]
-9 TooManyFaults|"liars":0|"liars":5
-9 TooManyFaults|"f":[1],"faults":"crash","h":[1],"implicit":true,"k":[1],"l":[1],"liars":0,"links":0,"nodes":5|"f":[3],"faults":"crash","h":[1],"implicit":true,"k":[1],"l":[1],"liars":2,"links":0,"nodes":4
-accepted|"liars":0|"liars":4
-accepted|"x"|
-8 NoCell|"h":[1],"implicit":true,"k":[1],"l":[1],"liars":0|"h":[3],"implicit":true,"k":[1],"l":[1],"liars":2048"#;
-
-// Edits of the first plan in the second version, which has a number of deaf targets in place of the
-// word for how they fail.
-const MIXED_EDITS: &str = r#"accepted|"x"|
-4 MissingField deaf|"deaf":0,|
-accepted|"deaf":0|"deaf":2048
-6 OutOfRange deaf|"deaf":0|"deaf":2049"#;
-
-// Edits of the plan of most cells: too many faults are reported before too many trials.
-const MOST_EDITS: &str = r#"accepted|x|
-10 TooManyTrials|16]|16,17]
-9 TooManyFaults|16],"liars":0|16,17],"liars":2048"#;
-
-// The fault of a text, as it is printed.
-fn fault_text(alloc: Global, text: &[u8]) -> Result<String, AllocError> {
-    match Plan::from_json(alloc, text) {
-        Ok(_) => String::from_str(alloc, "accepted"),
-        Err(fault) => format!(in alloc; "{fault}"),
-    }
-}
-
-// Whether this is the fault of a text.
-fn is_reported(alloc: Global, text: &[u8], fault: &str) -> Result<bool, AllocError> {
-    Ok(fault_text(alloc, text)?.as_str() == fault)
-}
-
-// How many texts there are, each of which has the fault that the line above it names; 0 where one has another.
-fn count_judged(alloc: Global, texts: &str) -> Result<u32, AllocError> {
-    let mut rows = 0u32;
-    for row in texts.split("\n---\n") {
-        let (fault, text) = row.split_once('\n').unwrap_or((row, ""));
-        if !is_reported(alloc, text.as_bytes(), fault)? {
-            return Ok(0);
-        }
-        rows = rows.saturating_add(1);
-    }
-    Ok(rows)
-}
-
-// Texts that are no objects, each below its fault.
-const NO_OBJECTS: &str = "1 NotJson
-
----
-2 NotObject
-[]";
-
-#[test]
-fn refuses_texts_that_are_no_objects(rt: HostRuntime) -> Result<(), Fail> {
-    assert!(rt; count_judged(rt.alloc(), NO_OBJECTS)? == 2);
-    Ok(())
-}
-
-// Whether a text after an edit has the fault that the row of the edit names.
-fn is_edit_answered(alloc: Global, text: &str, row: &str) -> Result<bool, AllocError> {
-    let (fault, edit) = row.split_once('|').unwrap_or((row, ""));
-    let (own, other) = edit.split_once('|').unwrap_or((edit, ""));
-    let edited = text.replace(alloc, own, other)?;
-    is_reported(alloc, edited.as_bytes(), fault)
-}
-
-// How many edits of this text there are, each of which leads to the fault that its row names; 0 where one does not.
-fn count_edits(alloc: Global, text: &str, rows: &str) -> Result<u32, AllocError> {
-    let mut count = 0u32;
-    for row in rows.split('\n') {
-        if !is_edit_answered(alloc, text, row)? {
-            return Ok(0);
-        }
-        count = count.saturating_add(1);
-    }
-    Ok(count)
-}
-
-// Where several limits are passed at once: no cell before too many faults.
-#[test]
-fn refuses_by_the_first_fault(rt: HostRuntime) -> Result<(), Fail> {
-    assert!(rt; count_edits(rt.alloc(), PLAN, EDITS)? == 16);
-    assert!(rt; count_edits(rt.alloc(), MIXED, MIXED_EDITS)? == 4);
-    assert!(rt; count_edits(rt.alloc(), MOST, MOST_EDITS)? == 3);
-    Ok(())
-}
 
 // How many cells and trials a plan has.
 fn sizes(plan: &Plan) -> (u32, u32) {

@@ -3,7 +3,6 @@ ghost use Rattle.cut_plan.specs.Cells.{IsCellOf, trial_count};
 ghost use Rattle.cut_outcome.specs.Outcome.{rings_of};
 
 use crate::texts::{MIXED, NONE_FAIL, THREE_RINGS, are_written};
-use crate::trials::tables::STUDIES;
 use cut_alerts::{Roles, alerts};
 use cut_draws::Draws;
 use cut_outcome::{Piece, PieceResult, Totals};
@@ -12,8 +11,6 @@ use cut_rings::{Edge, Rings};
 use cut_trial::{TrialFault, run_piece, run_trial};
 use std::alloc::{AllocError, Global};
 use std::test::Fail;
-
-mod tables;
 
 // Two trials of five processes with one crashed one that speaks.
 const SPEAKS: &str =
@@ -110,58 +107,6 @@ fn trials_and_pieces(rt: HostRuntime) -> Result<(), Fail> {
     Ok(())
 }
 
-// The sums over the trials of a cell, of which `first` is the first, in pieces of this size.
-fn sums(alloc: Global, plan: &Plan, first: u32, size: u32) -> Result<[u64; 8], TrialFault> {
-    let end = first.saturating_add(plan.repeats());
-    let mut all = [0; 8];
-    let mut next = first;
-    while next < end && size > 0 {
-        let count = size.min(end - next);
-        let found = result_of(alloc, plan, Piece { first: next, count })?;
-        add(&mut all, &numbers(found.totals()));
-        next += count;
-    }
-    Ok(all)
-}
-
-fn add(all: &mut [u64], more: &[u64]) {
-    for (number, part) in all.iter_mut().zip(more) {
-        *number = number.saturating_add(*part);
-    }
-}
-
-// Whether each cell's sums are those of its row, in pieces of this size.
-fn has_sums(alloc: Global, plan: &Plan, rows: &str, size: u32) -> Result<bool, TrialFault> {
-    let mut first: u32 = 0;
-    for row in rows.lines() {
-        if !are_numbers(&sums(alloc, plan, first, size)?, row) {
-            return Ok(false);
-        }
-        first = first.saturating_add(plan.repeats());
-    }
-    Ok(plan.cells() as usize == rows.lines().count())
-}
-
-// Whether each cell's sums of a text's plan are those of its row, in pieces of any size.
-fn is_study(alloc: Global, text: &str, rows: &str) -> Result<bool, Fail> {
-    let plan = Plan::from_json(alloc, text.as_bytes())?;
-    for size in [1, 2, 7] {
-        if !has_sums(alloc, &plan, rows, size)? {
-            return Ok(false);
-        }
-    }
-    Ok(true)
-}
-
-#[test]
-fn studies(rt: HostRuntime) -> Result<(), Fail> {
-    for study in STUDIES.split("\n\n") {
-        let (text, rows) = study.split_once('\n').unwrap_or((study, ""));
-        assert!(rt; is_study(rt.alloc(), text, rows)?, "{text}");
-    }
-    Ok(())
-}
-
 // Two trials of five processes, one of which crashes or is deaf, as each version says it.
 const CRASHED: &str =
     r#"{"copies":1,"dead":"silent","f":[1],"faults":"crash","h":[1],"implicit":true,"k":[1],"l":[1],"liars":0,"links":0,"nodes":5,"repeats":2,"seed":"0000000000000000000000000000000000000000000000000000000000000000","version":1}"#;
@@ -244,10 +189,17 @@ const PLACES: [(&str, &str); 3] = [
     (THREE_RINGS, "8 0 0 0 8 2 2 24"),
 ];
 
+// Whether both trials of a text's plan have the sums of a row.
+fn are_sums(alloc: Global, text: &str, row: &str) -> Result<bool, Fail> {
+    let plan = Plan::from_json(alloc, text.as_bytes())?;
+    let found = result_of(alloc, &plan, Piece { first: 0, count: 2 })?;
+    Ok(has_numbers(found.totals(), row))
+}
+
 #[test]
 fn places_add_up_in_version_2(rt: HostRuntime) -> Result<(), Fail> {
     for (text, row) in PLACES {
-        assert!(rt; is_study(rt.alloc(), text, row)?, "{row}");
+        assert!(rt; are_sums(rt.alloc(), text, row)?, "{row}");
     }
     Ok(())
 }

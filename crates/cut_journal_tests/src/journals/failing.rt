@@ -1,7 +1,6 @@
 //! Disks of which one call fails.
 
-use super::{SMALL, result_of, written_disk};
-use crate::disks::tear_of;
+use super::{SMALL, both, written};
 use cut_disks::{Disk, FaultyDisk, Tear};
 use cut_journal::{Journal, JournalFault};
 use cut_outcome::PieceResult;
@@ -30,16 +29,11 @@ pub(super) fn slips_found(alloc: Global, disk: FaultyDisk, plan: &Plan) -> Resul
     }
 }
 
-// What an append answers.
-fn appended(journal: &mut Journal<FaultyDisk>, offered: &PieceResult) -> Result<u64, JournalFault> {
-    journal.append(offered)
-}
-
 // Whether two appends to a journal answer so where this call of its disk fails.
 fn are_answered(journal: &mut Journal<FaultyDisk>, offered: &PieceResult, fail_at: u64) -> bool {
     journal.disk().arm();
-    let first = appended(journal, offered);
-    are_answers(first, appended(journal, offered), fail_at)
+    let first = journal.append(offered);
+    are_answers(first, journal.append(offered), fail_at)
 }
 
 // Whether two appends of which a call of the disk fails answer so, and a reopening finds as many slips.
@@ -47,43 +41,41 @@ fn appends_hold(
     alloc: Global,
     plan: &Plan,
     offered: &PieceResult,
-    row: &str,
+    (fail_at, tear, slips): (u64, Tear, usize),
 ) -> Result<bool, AllocError> {
-    let (fail_at, rest) = row.split_once(' ').unwrap_or((row, ""));
-    let (tear, slips) = rest.split_once(' ').unwrap_or((rest, ""));
-    let fail_at = fail_at.parse::<u64>().unwrap_or(0);
-    let disk = FaultyDisk::of(alloc, Vec::new(alloc), fail_at, tear_of(tear))?;
+    let disk = FaultyDisk::of(alloc, Vec::new(alloc), fail_at, tear)?;
     let Ok(mut journal) = Journal::create(alloc, disk, plan) else {
         return Ok(false);
     };
     let is_answered = are_answered(&mut journal, offered, fail_at);
-    let found = slips_found(alloc, journal.into_disk(), plan);
-    Ok(is_answered && found.ok() == slips.parse::<usize>().ok())
+    Ok(is_answered && slips_found(alloc, journal.into_disk(), plan) == Ok(slips))
 }
 
 // Each device call of two appends fails in turn, and then none: the append answers 20, the next one 21, and after
 // a reopening the slip is there or it isn't.
-const APPENDS: &str = "1 Nothing 0
-2 Nothing 0
-3 Nothing 0
-4 Nothing 1
-1 Everything 0
-2 Everything 0
-3 Everything 1
-4 Everything 1
-5 Everything 1
-6 Everything 1
-7 Nothing 1
-7 Everything 2
-8 Nothing 2
-0 Nothing 2";
+const APPENDS: [(u64, Tear, usize); 14] = [
+    (1, Tear::Nothing, 0),
+    (2, Tear::Nothing, 0),
+    (3, Tear::Nothing, 0),
+    (4, Tear::Nothing, 1),
+    (1, Tear::Everything, 0),
+    (2, Tear::Everything, 0),
+    (3, Tear::Everything, 1),
+    (4, Tear::Everything, 1),
+    (5, Tear::Everything, 1),
+    (6, Tear::Everything, 1),
+    (7, Tear::Nothing, 1),
+    (7, Tear::Everything, 2),
+    (8, Tear::Nothing, 2),
+    (0, Tear::Nothing, 2),
+];
 
 #[test]
 fn a_failing_append(rt: HostRuntime) -> Result<(), Fail> {
     let plan = Plan::from_json(rt.alloc(), SMALL.as_bytes())?;
-    let result = result_of(rt.alloc(), &plan, 0, 2)?;
-    for row in APPENDS.lines() {
-        assert!(rt; appends_hold(rt.alloc(), &plan, &result, row)?, "{row}");
+    let result = both(rt.alloc(), &plan)?;
+    for row in APPENDS {
+        assert!(rt; appends_hold(rt.alloc(), &plan, &result, row)?);
     }
     Ok(())
 }
@@ -117,27 +109,22 @@ fn opening_holds(
     })
 }
 
-// Whether that holds of each call of an opening.
-fn openings_hold(
-    alloc: Global,
-    file: &[u8],
-    plan: &Plan,
-    (calls, slips): (u64, usize),
-) -> Result<bool, AllocError> {
-    for fail_at in 1..calls.saturating_add(2) {
-        if !opening_holds(alloc, file, plan, (fail_at, calls, slips))? {
-            return Ok(false);
-        }
-    }
-    Ok(true)
-}
-
 // Each call of the disk fails in turn, on an empty disk and on one with a slip.
 #[test]
 fn a_failing_opening(rt: HostRuntime) -> Result<(), Fail> {
     let plan = Plan::from_json(rt.alloc(), SMALL.as_bytes())?;
-    assert!(rt; openings_hold(rt.alloc(), &[], &plan, (10, 0))?);
-    let disk = written_disk(rt.alloc(), &plan, "0,2")?;
-    assert!(rt; openings_hold(rt.alloc(), disk.bytes(), &plan, (11, 1))?);
+    for fail_at in 1..12 {
+        assert!(rt;
+            opening_holds(rt.alloc(), &[], &plan, (fail_at, 10, 0))?,
+            "{fail_at}"
+        );
+    }
+    let disk = written(rt.alloc(), &plan)?;
+    for fail_at in 1..13 {
+        assert!(rt;
+            opening_holds(rt.alloc(), disk.bytes(), &plan, (fail_at, 11, 1))?,
+            "{fail_at}"
+        );
+    }
     Ok(())
 }
