@@ -8,7 +8,7 @@ use Rattle.std.proofs.lemmas.List.FromFn.{get_or-map-range_with_len, length-map-
 use Rattle.std.proofs.lemmas.Nat.Bits.{bit_at-zero, bit_at_set_same, bit_at_set_other}
 use Rattle.std.proofs.lemmas.Option.{slice_get-get_or, slice_get_past}
 use Rattle.std.specs.Int.{bit_at}
-use Rattle.bit_list.specs.Bits.{is_set, bits_of}
+use Rattle.bit_list.specs.inside.Bits.{is_set, bits_of}
 
 pub long : (words : List ℕ) (len : ℕ) → length (bits_of words len) ≡ len
 long words len = length-map-range_with_len (is_set words) 0 len

@@ -15,7 +15,7 @@ pub struct BitList {
 
 impl Model for BitList {
     ghost use Rattle.std.specs.Prelude.{List, Bool, vec_len};
-    ghost use Rattle.bit_list.specs.Bits.{bits_of, IsBitList};
+    ghost use Rattle.bit_list.specs.inside.Bits.{bits_of, IsBitList};
 
     ghost Value = { List Bool };
 

@@ -10,7 +10,8 @@ use Rattle.std.proofs.lemmas.List.Sums.{sum_by-append, AllPass-from_list_all, li
 use Rattle.std.proofs.lemmas.List.Folds.{list_all-append, list_all-map}
 use Rattle.std.proofs.lemmas.List.FromFn.{length-range_with_len, get_or-range_with_len}
 use Rattle.cut_lists.proofs.Maps.{count_by-map}
-use Rattle.cut_alerts.specs.Given.{all_named, times_named, are_below, are_sources, are_named_once, are_links, is_legal}
+use Rattle.cut_alerts.specs.Given.{all_named, times_named}
+use Rattle.cut_alerts.specs.inside.Given.{are_below, are_sources, are_named_once, are_links, is_legal}
 use Rattle.cut_alerts.specs.Given.{AreLegalLists}
 
 -- how often a process is named: how often in each list

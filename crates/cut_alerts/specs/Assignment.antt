@@ -6,11 +6,6 @@ use Rattle.cut_alerts.specs.declared.role.Role.TheVariants.{Healthy, Crashed, De
 
 -- ---- a test for each role
 
--- it works, and so do its links
-abbrev pub is_healthy_role : Role → Bool
-is_healthy_role Healthy = true
-is_healthy_role _ = false
-
 -- it has crashed
 abbrev pub is_crashed_role : Role → Bool
 is_crashed_role Crashed = true

@@ -1,7 +1,7 @@
 -- The roles that lists of targets, liars and cut links give (this project's profile).
-use Rattle.std.specs.Prelude.{◌≢◌, ℕ, ◌<◌, ◌≤◌, ◌==◌, ◌&&◌, ◌++◌, Bool, not, List, [], map, count_by, nat_lt, nat_le}
+use Rattle.std.specs.Prelude.{◌≢◌, ℕ, ◌<◌, ◌≤◌, ◌==◌, ◌++◌, List, [], map, count_by}
 use Rattle.std.specs.Prelude.{unwrap_or, option_map, if◌then◌else◌}
-use Rattle.std.specs.List.{All, list_any, list_all, find, range_with_len}
+use Rattle.std.specs.List.{All, list_any, find, range_with_len}
 use Rattle.cut_plan.specs.declared.dead.Dead.{Dead}
 use Rattle.cut_plan.specs.declared.faults.Faults.{Faults}
 use Rattle.cut_plan.specs.declared.faults.Faults.TheVariants as fault
@@ -28,25 +28,6 @@ pub record AreLegalLists (n : ℕ) (targets liars : List ℕ) (links : List (ℕ
   -- none of them is named twice
   pub once : (p : ℕ) → p < n → times_named targets liars links p ≤ 1
   pub linked : AreLinks n links
-
--- ---- the same, as tests
-
-abbrev pub are_below : ℕ → List ℕ → Bool
-are_below n processes = list_all (λ p. nat_lt p n) processes
-
-abbrev pub are_sources : ℕ → List (ℕ × ℕ) → Bool
-are_sources n links = list_all (λ l. nat_lt l.0 n) links
-
-abbrev pub are_links : ℕ → List (ℕ × ℕ) → Bool
-are_links n links = list_all (λ l. nat_lt l.1 n && not (l.0 == l.1)) links
-
-abbrev pub are_named_once : ℕ → List ℕ → List ℕ → List (ℕ × ℕ) → Bool
-are_named_once n targets liars links = list_all (λ p. nat_le (times_named targets liars links p) 1) (range_with_len 0 n)
-
-abbrev pub is_legal : ℕ → List ℕ → List ℕ → List (ℕ × ℕ) → Bool
-is_legal n targets liars links =
-    are_below n targets && are_below n liars && are_sources n links
-    && are_named_once n targets liars links && are_links n links
 
 -- ---- the roles
 

@@ -4,3 +4,4 @@ pub mod Drawn
 pub mod Alerted
 pub mod Given
 pub mod Laws
+pub mod inside

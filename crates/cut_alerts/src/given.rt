@@ -1,6 +1,7 @@
 ghost use Rattle.std.specs.Prelude.{◌≡◌, ◌==◌, ◌++◌, nat_le, map, count_by, IfOk};
 ghost use Rattle.std.specs.List.{find, range_with_len};
-ghost use Rattle.cut_alerts.specs.Given.{is_legal, are_below, are_sources, are_links, are_named_once, times_named};
+ghost use Rattle.cut_alerts.specs.Given.{times_named};
+ghost use Rattle.cut_alerts.specs.inside.Given.{is_legal, are_below, are_sources, are_links, are_named_once};
 ghost use Rattle.cut_alerts.specs.Given.{given_role};
 
 use crate::Role;

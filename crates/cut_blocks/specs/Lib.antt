@@ -1,2 +1,2 @@
 pub mod Images
-mod States
+pub mod inside

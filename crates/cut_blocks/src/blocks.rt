@@ -1,7 +1,7 @@
 ghost use Rattle.std.specs.Prelude.{◌≡◌, ◌+◌, ◌*◌, ◌/◌, ◌%◌, ◌^◌, ◌<◌, ◌≤◌, [], map, All, OnOk};
 ghost use Rattle.std.specs.Prelude.{OnErr, length};
 ghost use Rattle.cut_draws.specs.Source.{source_of, word_of};
-ghost use Rattle.cut_blocks.specs.States.{AreFirstStates};
+ghost use Rattle.cut_blocks.specs.inside.States.{AreFirstStates};
 ghost use Rattle.cut_blocks.specs.Images.{eight, image_at, place_in, least_image};
 
 use crate::images::{Eight, NEVER, images_of, lesser_of};

@@ -10,11 +10,13 @@ use Rattle.cut_lists.proofs.Orders.{range_is_below}
 use Rattle.cut_board.specs.declared.view.Entry.{Entry}
 use Rattle.cut_board.specs.declared.view.Entry.TheVariants as entry
 use Rattle.cut_board.specs.declared.view.View.{View}
-use Rattle.cut_board.specs.Rule.{seat_limit, IsPossibleView, Kept}
-use Rattle.cut_board.specs.Steps.{HasDoneMore, Drawing, Counting, Reading}
+use Rattle.cut_board.specs.Rule.{seat_limit}
+use Rattle.cut_board.specs.inside.Rule.{IsPossibleView, Kept}
+use Rattle.cut_board.specs.inside.Steps.{HasDoneMore, Drawing, Counting, Reading}
 use Rattle.cut_board.specs.Views.{draws_of, amount_of, drawn_in, draws_in, amount_in, counted_in, seen_in, idle}
-use Rattle.cut_board.specs.Views.{entered, drew, counted, read, part_given, joined}
-use Rattle.cut_board.specs.Words.{draw_word, count_word, draws_at, count_at}
+use Rattle.cut_board.specs.Views.{entered, drew, counted, read}
+use Rattle.cut_board.specs.inside.Views.{part_given, joined}
+use Rattle.cut_board.specs.inside.Words.{draw_word, count_word, draws_at, count_at}
 use Rattle.cut_board.proofs.Additions.{reads_new}
 use Rattle.cut_board.proofs.Lists.{at_place, All-at, All-piece}
 use Rattle.cut_board.proofs.Keeps.{entered_keeps, split_keeps, join_keeps, few_drawn, few_counted, draw_adds}

@@ -11,12 +11,14 @@ use Rattle.atomic_table.specs.Table.{Final, Seen}
 use Rattle.cut_lists.proofs.Intervals.{map_agree}
 use Rattle.cut_board.specs.declared.view.Entry.{Entry}
 use Rattle.cut_board.specs.declared.view.View.{View}
-use Rattle.cut_board.specs.Closed.{words_of_study}
-use Rattle.cut_board.specs.Rule.{IsPossibleView, AreWordsOf, Kept, IsEachBelow}
+use Rattle.cut_board.specs.inside.Closed.{words_of_study}
+use Rattle.cut_board.specs.Rule.{IsEachBelow}
+use Rattle.cut_board.specs.inside.Rule.{IsPossibleView, AreWordsOf, Kept}
 use Rattle.cut_board.specs.Totals.{total_of, totals_of, IsDrawnOnce, HasSeenNoMore}
 use Rattle.cut_board.specs.Views.{counted_of, read_of, draws_of, amount_of, greatest, counted_in, drawn_by}
-use Rattle.cut_board.specs.Views.{seen_in, gathered, joined}
-use Rattle.cut_board.specs.Words.{draws_at}
+use Rattle.cut_board.specs.Views.{seen_in}
+use Rattle.cut_board.specs.inside.Views.{gathered, joined}
+use Rattle.cut_board.specs.inside.Words.{draws_at}
 use Rattle.cut_board.proofs.Lists.{at_place, All-at, sum_by_flat_map}
 use Rattle.cut_board.proofs.Logs.{greatest-append, total, times_of, times_are_part, count_is_part, AreWithin}
 use Rattle.cut_board.proofs.Logs.{total_is_its_own}

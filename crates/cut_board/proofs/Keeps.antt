@@ -19,10 +19,13 @@ use Rattle.cut_lists.proofs.Ranges.{range_with_len_more}
 use Rattle.cut_board.specs.declared.view.Entry.{Entry}
 use Rattle.cut_board.specs.declared.view.Entry.TheVariants as entry
 use Rattle.cut_board.specs.declared.view.View.{View}
-use Rattle.cut_board.specs.Rule.{seat_limit, IsEachBelow, IsPossibleView, AreWordsOf, Kept}
+use Rattle.cut_board.specs.Rule.{seat_limit, IsEachBelow}
+use Rattle.cut_board.specs.inside.Rule.{IsPossibleView, AreWordsOf, Kept}
 use Rattle.cut_board.specs.Views.{drawn_of, counted_of, read_of, draws_of, amount_of, drawn_in}
-use Rattle.cut_board.specs.Views.{draws_in, amount_in, drawn_by, counted_by, idle, entered, part_given, joined}
-use Rattle.cut_board.specs.Words.{word_count, draw_word, count_word, draws_at, count_at}
+use Rattle.cut_board.specs.Views.{draws_in, amount_in, drawn_by, counted_by, idle, entered}
+use Rattle.cut_board.specs.inside.Views.{part_given, joined}
+use Rattle.cut_board.specs.Words.{word_count}
+use Rattle.cut_board.specs.inside.Words.{draw_word, count_word, draws_at, count_at}
 use Rattle.cut_board.proofs.Lists.{sum_by_put, All-at, is_one, times, permutation_from_times}
 use Rattle.cut_board.proofs.Logs.{greatest-append, total, times_of, times_drawn, length_is_part, count_is_part}
 use Rattle.cut_board.proofs.Logs.{total_is_bounded}

@@ -1,10 +1,9 @@
-pub mod Closed
 pub mod FaultCode
 pub mod Laws
 pub mod Names
 pub mod Refusals
 pub mod Rule
-pub mod Steps
 pub mod Totals
 pub mod Views
 pub mod Words
+pub mod inside

@@ -1,5 +1,5 @@
 -- What a seat has done: the numbers that it drew, what it counted, and the counts that it read.
-use Rattle.std.specs.Prelude.{ℕ, ◌+◌, ◌-◌, ◌==◌, List, [], ◌∷◌, ◌++◌, length, flat_map, max, sum_by, if◌then◌else◌}
+use Rattle.std.specs.Prelude.{ℕ, ◌+◌, ◌==◌, List, [], ◌∷◌, ◌++◌, flat_map, max, sum_by, if◌then◌else◌}
 use Rattle.cut_board.specs.declared.view.Entry.{Entry}
 use Rattle.cut_board.specs.declared.view.Entry.TheVariants as entry
 use Rattle.cut_board.specs.declared.view.View.{View}
@@ -93,15 +93,3 @@ counted v study n = entered v (entry.Counted study n)
 -- it read a count
 abbrev pub read : View → ℕ → ℕ → View
 read v study n = entered v (entry.Read study n)
-
--- one part of it was given to a new seat
-abbrev pub part_given : View → View
-part_given v = record v { parts = v.parts - 1 }
-
--- it took in what another seat has done
-abbrev pub joined : View → View → View
-joined v w = record { parts = v.parts + w.parts; log = w.log ++ v.log }
-
--- a seat that took in these, each of one part
-abbrev pub gathered : List View → View
-gathered views = record { parts = length views; log = flat_map (λ v. v.log) views }

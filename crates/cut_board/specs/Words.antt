@@ -1,20 +1,6 @@
 -- Where a board's words stand: two for each study, each 64 bytes from the next.
-use Rattle.std.specs.Prelude.{ℕ, ◌+◌, ◌*◌, List, slice_index}
+use Rattle.std.specs.Prelude.{ℕ, ◌*◌}
 
 -- how many words there are for that many studies
 abbrev pub word_count : ℕ → ℕ
 word_count studies = 16 * studies
-
--- the word of how many numbers of a study were drawn
-abbrev pub draw_word : ℕ → ℕ
-draw_word study = 16 * study
-
--- the word of what was counted of it
-abbrev pub count_word : ℕ → ℕ
-count_word study = 16 * study + 8
-
-abbrev pub draws_at : List ℕ → ℕ → ℕ
-draws_at words study = slice_index words (draw_word study)
-
-abbrev pub count_at : List ℕ → ℕ → ℕ
-count_at words study = slice_index words (count_word study)

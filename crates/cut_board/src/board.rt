@@ -3,9 +3,11 @@ ghost use Rattle.std.specs.Prelude.{◌≡◌, ℕ, ◌-◌, ◌<◌, ◌≤◌,
 ghost use Rattle.std.specs.Prelude.{MatchResult, map, vec_capacity};
 ghost use Rattle.std.specs.List.{range_with_len};
 ghost use Rattle.std.specs.Mem.Slots.{slots_items, slots_len, IsFull};
-ghost use Rattle.cut_board.specs.Closed.{words_of_study};
-ghost use Rattle.cut_board.specs.Views.{idle, drew, counted, read, drawn_in, seen_in, gathered};
-ghost use Rattle.cut_board.specs.Words.{word_count, draw_word, count_word};
+ghost use Rattle.cut_board.specs.inside.Closed.{words_of_study};
+ghost use Rattle.cut_board.specs.Views.{idle, drew, counted, read, drawn_in, seen_in};
+ghost use Rattle.cut_board.specs.inside.Views.{gathered};
+ghost use Rattle.cut_board.specs.Words.{word_count};
+ghost use Rattle.cut_board.specs.inside.Words.{draw_word, count_word};
 
 use crate::rule::{BoardRule, Count, Draw, OnePart, Read, Size, TakeIn};
 use crate::{BoardTotals, Seat, SeatFault, StudyTotals, Unfinished, View};

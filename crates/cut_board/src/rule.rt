@@ -14,7 +14,7 @@ pub struct Size {
 pub struct BoardRule;
 
 impl TableRule<(), View, Size> for BoardRule {
-    ghost use Rattle.cut_board.specs.Rule.{Kept};
+    ghost use Rattle.cut_board.specs.inside.Rule.{Kept};
     ghost use Rattle.cut_board.specs.Views.{idle};
 
     ghost holds = { λ size state. Kept size.studies size.seats state.words state.views };
@@ -26,7 +26,7 @@ impl TableRule<(), View, Size> for BoardRule {
 pub(crate) struct Draw;
 
 impl Play<(), View> for Draw {
-    ghost use Rattle.cut_board.specs.Steps.{Drawing};
+    ghost use Rattle.cut_board.specs.inside.Steps.{Drawing};
 
     ghost then = { Drawing };
 }
@@ -35,7 +35,7 @@ impl Play<(), View> for Draw {
 pub(crate) struct Count;
 
 impl Play<(), View> for Count {
-    ghost use Rattle.cut_board.specs.Steps.{Counting};
+    ghost use Rattle.cut_board.specs.inside.Steps.{Counting};
 
     ghost then = { Counting };
 }
@@ -44,7 +44,7 @@ impl Play<(), View> for Count {
 pub(crate) struct Read;
 
 impl Play<(), View> for Read {
-    ghost use Rattle.cut_board.specs.Steps.{Reading};
+    ghost use Rattle.cut_board.specs.inside.Steps.{Reading};
 
     ghost then = { Reading };
 }
@@ -53,7 +53,8 @@ impl Play<(), View> for Read {
 pub(crate) struct OnePart;
 
 impl Split<View> for OnePart {
-    ghost use Rattle.cut_board.specs.Views.{idle, part_given};
+    ghost use Rattle.cut_board.specs.Views.{idle};
+    ghost use Rattle.cut_board.specs.inside.Views.{part_given};
 
     ghost left = { part_given };
 
@@ -64,7 +65,8 @@ impl Split<View> for OnePart {
 pub(crate) struct TakeIn;
 
 impl Join<View> for TakeIn {
-    ghost use Rattle.cut_board.specs.Views.{idle, joined};
+    ghost use Rattle.cut_board.specs.Views.{idle};
+    ghost use Rattle.cut_board.specs.inside.Views.{joined};
 
     ghost both = { joined };
 

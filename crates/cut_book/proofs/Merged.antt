@@ -10,7 +10,7 @@ use Rattle.cut_book.specs.declared.call.Call.{Call}
 use Rattle.cut_book.specs.declared.call.Call.TheVariants.{HandIn}
 use Rattle.cut_book.specs.declared.history.Entry.{Entry}
 use Rattle.cut_book.specs.History.{accepted_in}
-use Rattle.cut_book.specs.HistoryInside.{AreInOrder, calls_from, lost_call}
+use Rattle.cut_book.specs.inside.HistoryInside.{AreInOrder, calls_from, lost_call}
 use Rattle.cut_book.proofs.Sums.{first_in}
 
 pub within : (n all : ℕ) (es : List Entry) → AreInOrder n es all → n ≤ all

@@ -12,7 +12,8 @@ use Rattle.cut_journal.specs.Journal.{JournalValue}
 use Rattle.cut_journal.specs.Reading.{reading}
 use Rattle.cut_journal.specs.Laws.{OpeningsFollow}
 use Rattle.cut_book.specs.History.{HistoryValue}
-use Rattle.cut_book.specs.Book.{FollowsState, doubtful_in, kept_in, state_in}
+use Rattle.cut_book.specs.Book.{FollowsState}
+use Rattle.cut_book.specs.inside.Book.{doubtful_in, kept_in, state_in}
 use Rattle.cut_book.proofs.Legal.{none_kept}
 
 -- a journal as it was made or opened again: of that plan, with these slips, none doubtful

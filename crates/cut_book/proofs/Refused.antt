@@ -20,7 +20,8 @@ use Rattle.cut_book.specs.declared.call.Call.{Call}
 use Rattle.cut_book.specs.declared.fault.BookFault.{BookFault}
 use Rattle.cut_outcome.specs.declared.piece.Piece.{Piece}
 use Rattle.cut_book.proofs.Legal.{Noted, state_same}
-use Rattle.cut_book.specs.Book.{GivesAnswer, HandsIn, state_in, book_value_in, answer_to, answer_of, refusal_in}
+use Rattle.cut_book.specs.Book.{GivesAnswer, HandsIn, answer_of}
+use Rattle.cut_book.specs.inside.Book.{state_in, book_value_in, answer_to, refusal_in}
 use Rattle.cut_book.specs.Book.{returned, hand_in_of, JournalAfter, IsHandInFault, faults_after}
 use Rattle.cut_journal.specs.Journal.{JournalValue}
 use Rattle.cut_ledger.specs.Machine.{slip_of}

@@ -1,4 +1,4 @@
 pub mod Faults
 pub mod History
-pub mod HistoryInside
 pub mod Book
+pub mod inside

@@ -2,7 +2,8 @@ ghost use Rattle.std.specs.Prelude.{◌≡◌, None, Some, IfSome};
 ghost use Rattle.cut_ledger.specs.Machine.{StudyState, after, slip_of};
 ghost use Rattle.cut_ledger.specs.Refusals.{refusal_of};
 ghost use Rattle.cut_ledger.specs.declared.event.Event.TheVariants as event;
-ghost use Rattle.cut_book.specs.Book.{append_answer, JournalAfter, faults_after, failures_of, FollowsState};
+ghost use Rattle.cut_book.specs.Book.{JournalAfter, faults_after, failures_of, FollowsState};
+ghost use Rattle.cut_book.specs.inside.Book.{append_answer};
 ghost use Rattle.cut_book.specs.Book.{LeavesResumed, IsAsHonest};
 ghost use Rattle.cut_book.specs.History.{event_of};
 

@@ -20,7 +20,8 @@ ghost use Rattle.cut_table.specs.Table.{row_of};
 ghost use Rattle.cut_book.specs.declared.call.Call.TheVariants as call;
 ghost use Rattle.cut_book.specs.History.{opened_by, LeadsTo};
 ghost use Rattle.cut_book.specs.Book.{BookValue, opening_of, failures_of, answer_of, HandsIn, IsHandInFault, AsksRow};
-ghost use Rattle.cut_book.specs.Book.{IsOpeningFault, faults_after, refusal_in, FollowsState, LeavesResumed};
+ghost use Rattle.cut_book.specs.Book.{IsOpeningFault, faults_after, FollowsState, LeavesResumed};
+ghost use Rattle.cut_book.specs.inside.Book.{refusal_in};
 ghost use Rattle.cut_book.specs.Book.{IsAsHonest};
 
 use crate::append::append;
@@ -55,7 +56,8 @@ pub struct Book<D: Disk> {
 }
 
 impl<D: Disk> Model for Book<D> {
-    ghost use Rattle.cut_book.specs.Book.{BookValue, state_in, book_value_in, IsBook};
+    ghost use Rattle.cut_book.specs.Book.{BookValue};
+    ghost use Rattle.cut_book.specs.inside.Book.{state_in, book_value_in, IsBook};
 
     ghost Value = { BookValue D };
 

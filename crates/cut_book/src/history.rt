@@ -1,6 +1,6 @@
 ghost use Rattle.std.specs.Prelude.{◌≡◌, ◌+◌, ◌-◌, ◌<◌, ◌≤◌, ◌++◌, [], ◌∷◌, true, length, map, OnOk, IfOk};
 ghost use Rattle.cut_book.specs.History.{IsLegalHistory, accepted_in};
-ghost use Rattle.cut_book.specs.HistoryInside.{lost_call};
+ghost use Rattle.cut_book.specs.inside.HistoryInside.{lost_call};
 ghost use Rattle.cut_book.specs.declared.call.Call.TheVariants as call;
 
 use crate::{Answer, Call};
@@ -39,7 +39,7 @@ impl Model for History {
 
     ghost Value = { HistoryValue };
 
-    ghost use Rattle.cut_book.specs.HistoryInside.{course_of, IsHistory};
+    ghost use Rattle.cut_book.specs.inside.HistoryInside.{course_of, IsHistory};
 
     ghost view = { course_of };
 

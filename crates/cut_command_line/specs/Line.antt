@@ -210,11 +210,6 @@ abbrev pub IsJobOf : Option (Text × List Row) → Job → Type 0
 IsJobOf None job = ⊥
 IsJobOf (Some sub) job = (sub.0 ≡ command_of job) × GivesValues sub.1 job
 
--- the matches of a subcommand give a job of it, or none
-abbrev pub GivesJob : Text → List Row → Option Job → Type 0
-GivesJob name rows (Some job) = (command_of job ≡ name) × GivesValues rows job
-GivesJob name rows None = (job : Job) → command_of job ≡ name → GivesValues rows job → ⊥
-
 -- the job that a command line names
 abbrev pub NamesJob : List Text → Job → Type 0
 NamesJob words job = IsJobOf (subcommand_of program_app words) job

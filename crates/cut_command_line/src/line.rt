@@ -3,7 +3,8 @@ ghost use Rattle.clap.specs.Words.{app_of, fault_of, found_of, rows_of, rule_of,
 ghost use Rattle.cut_command_line.specs.Line.{count_rule, flag_rule, option_rule, piece_rule, word_rule, workers_rule};
 ghost use Rattle.cut_command_line.specs.Line.{ask_app, canonical_app, check_app, explain_app};
 ghost use Rattle.cut_command_line.specs.Line.{migrate_app, program_app, run_app, serve_app, status_app};
-ghost use Rattle.cut_command_line.specs.Line.{EndsLine, GivesFlag, GivesJob, GivesNumber, IsJobOf, IsSizedJob};
+ghost use Rattle.cut_command_line.specs.Line.{EndsLine, GivesFlag, GivesNumber, IsJobOf, IsSizedJob};
+ghost use Rattle.cut_command_line.specs.inside.Line.{GivesJob};
 ghost use Rattle.cut_command_line.specs.Line.{NamesJob, status_of_kind};
 ghost use Rattle.cut_command_line.specs.declared.line.Job.{Job};
 

@@ -15,7 +15,8 @@ use Rattle.cut_plan.specs.declared.refusal.PlanFault.TheVariants as plan
 use Rattle.cut_plan.specs.declared.refusal.Refusal.TheVariants.{NotJson, PlanTooLong}
 use Rattle.cut_wires.specs.Log.{WireLog}
 use Rattle.cut_commands.specs.Faults.{fault_of_plan}
-use Rattle.cut_commands.specs.Run.{FillsFrom, GivesPlan, GivesText, refused_at_sight}
+use Rattle.cut_commands.specs.Run.{GivesPlan, GivesText, refused_at_sight}
+use Rattle.cut_commands.specs.inside.Run.{FillsFrom}
 use Rattle.cut_commands.specs.declared.fault.CliFault.{CliFault}
 use Rattle.cut_commands.specs.declared.fault.CliFault.TheVariants.{Memory, Read}
 use Rattle.cut_commands.proofs.Logs.{read_none}

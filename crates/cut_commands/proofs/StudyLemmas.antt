@@ -19,7 +19,8 @@ use Rattle.cut_commands.specs.declared.fault.CliFault.{CliFault}
 use Rattle.cut_commands.specs.declared.fault.CliFault.TheVariants.{Memory, Journal, BadSlip, Checkpoint, WorkMemory}
 use Rattle.cut_commands.specs.declared.fault.CliFault.TheVariants.{AuditMismatch}
 use Rattle.cut_commands.specs.Faults.{fault_of_study}
-use Rattle.cut_commands.specs.Run.{IsNotOpened, IsPrefix, LeavesStudy}
+use Rattle.cut_commands.specs.Run.{IsPrefix, LeavesStudy}
+use Rattle.cut_commands.specs.inside.Run.{IsNotOpened}
 use Rattle.cut_commands.specs.Study.{BeginsWith, IsTrueStore, StudyWrites, StudyFails, StoreFails, study_task}
 use Rattle.cut_commands.specs.Study.{table_task, file_task}
 use Rattle.cut_commands.proofs.Logs.{wrote_none}

@@ -1,5 +1,5 @@
 -- The program's faults: their places in the list of faults, their lines, and how the program ends.
-use Rattle.std.specs.Prelude.{ℕ, ◌++◌, List, [], ◌∷◌, codes, Option, Some, None, Result, Ok, Err, ⊤}
+use Rattle.std.specs.Prelude.{ℕ, ◌++◌, List, [], ◌∷◌, codes, Option, Some, None}
 use Rattle.std.specs.Fmt.{decimal}
 use Rattle.cut_faults.specs.declared.code.FaultCode.{FaultCode}
 use Rattle.cut_faults.specs.declared.code.FaultCode.TheVariants as code
@@ -52,11 +52,6 @@ name_of fault = codes_of.name_numbered (number_of fault)
 -- the status with which the program ends
 abbrev pub status_of : CliFault → ℕ
 status_of fault = codes_of.status_numbered (number_of fault)
-
--- the status with which a command ends
-abbrev pub status_of_end : Result ⊤ CliFault → ℕ
-status_of_end (Ok done) = 0
-status_of_end (Err fault) = status_of fault
 
 -- a blank and a field's name, where there is a field
 abbrev pub field_words : Option Field → List ℕ

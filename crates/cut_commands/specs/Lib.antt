@@ -7,3 +7,4 @@ pub mod Ask
 pub mod Migrate
 pub mod Status
 pub mod Explain
+pub mod inside

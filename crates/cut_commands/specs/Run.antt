@@ -1,6 +1,6 @@
 -- What a command of the program leaves on its wire.
 use Rattle.std.specs.Prelude.{◌≡◌, ◌<◌, ◌≤◌, ◌⊎◌, ◌++◌, ℕ, Bool, false, List, [], length, take, nat_lt, Option, Some}
-use Rattle.std.specs.Prelude.{None, Result, Ok, Err, Vec, ⊤, if◌then◌else◌}
+use Rattle.std.specs.Prelude.{None, Result, Ok, Err, ⊤, if◌then◌else◌}
 use Rattle.std.specs.Str.{is_utf8}
 use Rattle.cut_faults.specs.Failures.{one_more}
 use Rattle.cut_plan.specs.declared.refusal.Refusal.{Refusal}
@@ -114,8 +114,6 @@ canonical_task = record { answers = λ v whole. whole ≡ canonical_line v; fail
 abbrev pub EndsFile : WireLog → WireLog → Result ⊤ CliFault → Type 0
 EndsFile old new result = ((result ≡ Err (Journal Disk)) × (new ≡ old)) ⊎ EndsCommand file_task old new result
 
--- ---- inside
-
 -- what reading up to a limit gives: the text, or a fault before it was read
 abbrev pub GivesText : ℕ → Result (List ℕ) CliFault → WireLog → WireLog → Type 0
 GivesText limit (Ok text) old new =
@@ -140,11 +138,6 @@ pub record GivesPlan (result : Result Values CliFault) (old new : WireLog) : Typ
   pub log : new ≡ failed_by result (read_on text ended old)
   pub is : IsReadAs text ended result
 
--- a text in place of the vector that holds it
-abbrev pub text_of : {A : Type 0} → Result (Vec ℕ A) CliFault → Result (List ℕ) CliFault
-text_of (Ok text) = Ok text.items
-text_of (Err fault) = Err fault
-
 -- an answer was written, or as many of its first bytes as are reported, when a write failed
 abbrev pub IsWritten : List ℕ → Result ⊤ CliFault → WireLog → WireLog → Type 0
 IsWritten whole (Ok done) old new = new ≡ wrote old whole
@@ -157,16 +150,3 @@ pub record LeavesStudy (task : Task) (v : Values) (result : Result ⊤ CliFault)
   pub written : List ℕ
   pub log : new ≡ failed_by result (wrote old written)
   pub answers : AnswersPlan task v result written
-
--- why a journal is not opened: memory ran out, or the task may fail so
-abbrev pub IsNotOpened : Task → Values → CliFault → Type 0
-IsNotOpened task v Memory = ⊤
-IsNotOpened task v (Journal fault) = task.fails v (Journal fault)
-IsNotOpened task v fault = ⊥
-
--- what filling a buffer of this length leaves: its first bytes were read
-abbrev pub FillsFrom : ℕ → Result ℕ CliFault → List ℕ → WireLog → WireLog → Type 0
-FillsFrom room (Ok n) buffer old new = (n ≤ length buffer) × (new ≡ read_on (take n buffer) (nat_lt n room) old)
-FillsFrom room (Err Read) buffer old new =
-    (bytes : List ℕ) × (length bytes < room) × (new ≡ read_failed (read_on bytes false old))
-FillsFrom room (Err fault) buffer old new = ⊥

@@ -10,7 +10,6 @@ use Rattle.cut_ledger.specs.Slips.{AreGood, IsFirstBad}
 use Rattle.cut_ledger.specs.World.{AreTrue}
 use Rattle.cut_journal.specs.declared.fault.JournalFault.{JournalFault}
 use Rattle.cut_journal.specs.declared.fault.JournalFault.TheVariants.{Disk, OtherPlan, Damaged, Held}
-use Rattle.cut_journal.specs.Journal.{JournalValue}
 use Rattle.cut_journal.specs.Opening.{IsFoundOn, IsOpenFault}
 use Rattle.cut_journal.specs.Reading.{reading}
 use Rattle.cut_commands.specs.Task.{Task}
@@ -82,10 +81,6 @@ module _ {D : Type 0} (is_honest : D → Type 0) (state : D → DiskState) where
   -- what a study over such a disk writes: the table of the plan
   abbrev pub table_task : Option D → Task
   table_task disk = record { answers = λ v whole. whole ≡ table v; fails = StoreFails disk }
-
--- a journal that takes slips of the plan
-abbrev pub IsReady : {D : Type 0} → Values → JournalValue D → Type 0
-IsReady v log = (log.plan ≡ v) × (log.doubtful ≡ None)
 
 -- ---- over a file, of which nothing is known
 

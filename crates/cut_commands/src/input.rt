@@ -1,4 +1,5 @@
-ghost use Rattle.cut_commands.specs.Run.{FillsFrom, GivesPlan, GivesText, text_of};
+ghost use Rattle.cut_commands.specs.Run.{GivesPlan, GivesText};
+ghost use Rattle.cut_commands.specs.inside.Run.{FillsFrom, text_of};
 ghost use Rattle.std.specs.Prelude.{length};
 
 use crate::CliFault;

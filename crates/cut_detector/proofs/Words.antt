@@ -39,10 +39,12 @@ unfoldable pub use Rattle.cut_detector.specs.Counts.{
   stable_members,
 }
 pub use Rattle.cut_detector.specs.Proposal.{proposal_of, settled_proposal}
-pub use Rattle.cut_detector.specs.Masks.{AddsEdge, edges_in, with_edge}
-pub use Rattle.cut_detector.specs.Tally.{IsTouched, marked_in, processes_with, rings_full, stable_in, unstable_in}
-pub use Rattle.cut_detector.specs.Gains.{HoldsFull, is_near, reported_in, rule_of_gains}
+pub use Rattle.cut_detector.specs.Masks.{edges_in}
+pub use Rattle.cut_detector.specs.inside.Masks.{AddsEdge, with_edge}
+pub use Rattle.cut_detector.specs.inside.Tally.{IsTouched, marked_in, processes_with, rings_full, stable_in}
+pub use Rattle.cut_detector.specs.inside.Tally.{unstable_in}
+pub use Rattle.cut_detector.specs.inside.Gains.{HoldsFull, is_near, reported_in, rule_of_gains}
 pub use Rattle.cut_detector.specs.State.{HasDelivered, HoldsFirst, DetectorState, TakesEdge, fresh}
 pub use Rattle.cut_detector.specs.Laws.{Grows, IsMarked, IsOfLeastPlace, IsSettled, ProposesBefore, ReportsTargetsAlone}
 pub use Rattle.cut_detector.specs.Laws.{delayed, members_after, proposal_after}
-pub use Rattle.cut_detector.specs.Inside.{IsDetector, layout_of, reported_of, rule_of_inside, state_of}
+pub use Rattle.cut_detector.specs.inside.Inside.{IsDetector, layout_of, reported_of, rule_of_inside, state_of}

@@ -2,8 +2,6 @@ pub mod Rule
 pub mod Counts
 pub mod Proposal
 pub mod Masks
-pub mod Tally
-pub mod Gains
 pub mod State
 pub mod Laws
-pub mod Inside
+pub mod inside

@@ -27,7 +27,7 @@ impl<'a> Model for Detector<'a> {
 
     ghost Value = { DetectorState };
 
-    ghost use Rattle.cut_detector.specs.Inside.{state_of, IsDetector};
+    ghost use Rattle.cut_detector.specs.inside.Inside.{state_of, IsDetector};
 
     ghost view = { state_of };
 

@@ -21,8 +21,8 @@ pub struct Gains<'a> {
 
 impl<'a> Gains<'a> {
     ghost use Rattle.cut_detector.specs.Counts.{is_reported};
-    ghost use Rattle.cut_detector.specs.Masks.{with_edge};
-    ghost use Rattle.cut_detector.specs.Gains.{rule_of_gains, reported_in, IsTallyFor, AddsGains};
+    ghost use Rattle.cut_detector.specs.inside.Masks.{with_edge};
+    ghost use Rattle.cut_detector.specs.inside.Gains.{rule_of_gains, reported_in, IsTallyFor, AddsGains};
 
     /// Whether a process is reported on at least L rings.
     #[tactic(auto, unfolding(crate::specs::Counts::is_reported))]

@@ -22,7 +22,8 @@ pub struct Change {
 
 impl Masks {
     ghost use Rattle.cut_detector.specs.Counts.{ring_count};
-    ghost use Rattle.cut_detector.specs.Masks.{edges_in, AddsEdge};
+    ghost use Rattle.cut_detector.specs.Masks.{edges_in};
+    ghost use Rattle.cut_detector.specs.inside.Masks.{AddsEdge};
 
     /// The set of no edge, with room for edges to `nodes` processes.
     #[tactic(auto, using(crate::proofs::Bits::below_replicate))]

@@ -2,8 +2,9 @@ ghost use Rattle.std.specs.Prelude.{◌≡◌, ◌<◌, ◌≤◌, IfOk, length,
 ghost use Rattle.cut_rings.specs.Layout.{IsLayout};
 ghost use Rattle.cut_detector.specs.Rule.{rule_in};
 ghost use Rattle.cut_detector.specs.Counts.{is_settled, stable_members};
-ghost use Rattle.cut_detector.specs.Gains.{HoldsFull};
-ghost use Rattle.cut_detector.specs.Masks.{edges_in, with_edge};
+ghost use Rattle.cut_detector.specs.inside.Gains.{HoldsFull};
+ghost use Rattle.cut_detector.specs.Masks.{edges_in};
+ghost use Rattle.cut_detector.specs.inside.Masks.{with_edge};
 
 use crate::gains::Gains;
 use crate::masks::Masks;

@@ -2,8 +2,9 @@ ghost use Rattle.std.specs.Prelude.{◌≡◌, ◌==◌, ◌<◌, ◌≤◌, ◌
 ghost use Rattle.std.specs.Prelude.{IsTrue, filter, replicate, vec_len, vec_capacity};
 ghost use Rattle.std.specs.List.{range_with_len, list_any, IsDistinct};
 ghost use Rattle.std.proofs.Props.{props};
-ghost use Rattle.cut_detector.specs.Masks.{with_edge};
-ghost use Rattle.cut_detector.specs.Tally.{IsTouched, stable_in, unstable_in, marked_in, stable_count, marked_count};
+ghost use Rattle.cut_detector.specs.inside.Masks.{with_edge};
+ghost use Rattle.cut_detector.specs.inside.Tally.{IsTouched, stable_in, unstable_in, marked_in, stable_count};
+ghost use Rattle.cut_detector.specs.inside.Tally.{marked_count};
 
 use crate::masks::{Change, Masks};
 use crate::rule::Rule;

@@ -10,8 +10,9 @@ use Rattle.cut_disks.specs.declared.call.DiskCall.{DiskCall}
 use Rattle.cut_disks.specs.declared.call.DiskCall.TheVariants.{Write, Torn, Sync}
 use Rattle.cut_disks.specs.declared.faulty_disk.Tear.{Tear}
 use Rattle.cut_disks.specs.declared.faulty_disk.Tear.TheVariants.{Nothing, Everything}
-use Rattle.cut_disks.specs.Faulty.{torn_call, FailsWith}
-use Rattle.cut_disks.specs.Memory.{MemoryDiskValue, state_of, after_call, with_call}
+use Rattle.cut_disks.specs.inside.Faulty.{torn_call, FailsWith}
+use Rattle.cut_disks.specs.Memory.{MemoryDiskValue, state_of, after_call}
+use Rattle.cut_disks.specs.inside.Memory.{with_call}
 use Rattle.cut_disks.specs.State.{Stable, DiskState, IsImage, IsTorn, WritesDisk, covers, fresh, settled, overwritten}
 
 -- bytes that are wholly durable are the image

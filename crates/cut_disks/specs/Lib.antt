@@ -4,3 +4,4 @@ pub mod Faulty
 pub mod OnFile
 pub mod Laws
 pub mod Folders
+pub mod inside

@@ -1,6 +1,5 @@
 -- A disk in memory, as contracts see it.
-use Rattle.std.specs.Prelude.{◌≡◌, ℕ, ◌++◌, List, [], ◌∷◌, fold, Result, Ok, Err, ⊤}
-use Rattle.cut_faults.specs.Failures.{one_more}
+use Rattle.std.specs.Prelude.{ℕ, List, fold}
 use Rattle.cut_disks.specs.declared.call.DiskCall.{DiskCall}
 use Rattle.cut_disks.specs.declared.call.DiskCall.TheVariants.{Write, Torn, Sync}
 use Rattle.cut_disks.specs.State.{DiskState, fresh, written, begun, synced}
@@ -20,15 +19,3 @@ after_call d Sync = synced d
 -- what is on the disk: what its calls made of the bytes that it began with
 abbrev pub state_of : MemoryDiskValue → DiskState
 state_of m = fold after_call (fresh m.first) m.calls
-
--- the same with a call more, and with a failure more
-abbrev pub with_call : MemoryDiskValue → DiskCall → MemoryDiskValue
-with_call m call = record m { calls = m.calls ++ call ∷ [] }
-
-abbrev pub with_failure : MemoryDiskValue → MemoryDiskValue
-with_failure m = record m { failures = one_more m.failures }
-
--- a call was made, or it failed as memory ran out and did nothing
-abbrev pub Logs : {E : Type 0} → Result ⊤ E → DiskCall → MemoryDiskValue → MemoryDiskValue → Type 0
-Logs (Ok done) call old new = new ≡ with_call old call
-Logs (Err fault) call old new = new ≡ with_failure old

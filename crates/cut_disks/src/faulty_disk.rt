@@ -1,7 +1,8 @@
 ghost use Rattle.std.specs.Prelude.{◌≡◌, ◌+◌, ◌-◌, ◌≤◌, ◌<◌, ◌^◌, [], false, length, slice_range, IfOk, OnOk};
 ghost use Rattle.cut_disks.specs.State.{IsImage, WritesDisk, Syncs};
 ghost use Rattle.cut_disks.specs.Memory.{state_of};
-ghost use Rattle.cut_disks.specs.Faulty.{Counts, was_due, torn_call, Looks, FailsWith, FaultyWrites, FaultySyncs};
+ghost use Rattle.cut_disks.specs.inside.Faulty.{Counts, was_due, torn_call, Looks, FailsWith, FaultyWrites};
+ghost use Rattle.cut_disks.specs.inside.Faulty.{FaultySyncs};
 ghost use Rattle.cut_disks.specs.declared.call.DiskCall.TheVariants.{Sync};
 
 use crate::{Disk, DiskFault, MemoryDisk};

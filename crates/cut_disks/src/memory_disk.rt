@@ -1,6 +1,7 @@
 ghost use Rattle.std.specs.Prelude.{◌≡◌, ◌+◌, ◌≤◌, ◌<◌, ◌^◌, [], length, slice_range, IsOk, IfOk, OnOk, OnErr};
 ghost use Rattle.cut_disks.specs.State.{IsImage, WritesDisk, Syncs, overwritten};
-ghost use Rattle.cut_disks.specs.Memory.{state_of, with_call, with_failure, Logs};
+ghost use Rattle.cut_disks.specs.Memory.{state_of};
+ghost use Rattle.cut_disks.specs.inside.Memory.{with_call, with_failure, Logs};
 ghost use Rattle.cut_disks.specs.declared.call.DiskCall.TheVariants.{Write, Torn, Sync};
 
 use crate::{Disk, DiskCall, DiskFault, Written};

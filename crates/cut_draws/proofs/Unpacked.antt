@@ -19,7 +19,7 @@ use Rattle.cut_rings.specs.Edges.{edge_number, is_edge_of, are_edges_of}
 use Rattle.cut_draws.specs.declared.delivery.Delivery.{Delivery}
 use Rattle.cut_draws.specs.declared.packed.Keyed.{Keyed}
 use Rattle.cut_draws.specs.DeliveryOrder.{all_deliveries}
-use Rattle.cut_draws.specs.Packed.{packed_of, delivery_in, compare_keyed, ArePackedRising}
+use Rattle.cut_draws.specs.inside.Packed.{packed_of, delivery_in, compare_keyed, ArePackedRising}
 use Rattle.cut_draws.proofs.Apart.{compare_by}
 use Rattle.cut_draws.proofs.Copies.{all_of_copies}
 

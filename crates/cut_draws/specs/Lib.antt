@@ -2,4 +2,4 @@ pub mod Source
 pub mod ProcessOrder
 pub mod DeliveryOrder
 pub mod Laws
-pub mod Packed
+pub mod inside

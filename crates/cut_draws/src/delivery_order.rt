@@ -3,7 +3,7 @@ ghost use Rattle.std.specs.Prelude.{Some, All};
 ghost use Rattle.cut_rings.specs.Edges.{is_edge_of, are_edges_of};
 ghost use Rattle.cut_draws.specs.DeliveryOrder.{all_deliveries, copies_of, are_distinct, delivery_place};
 ghost use Rattle.cut_draws.specs.DeliveryOrder.{IsDeliveryOrder};
-ghost use Rattle.cut_draws.specs.Packed.{delivery_in, packed_at, keyed_at};
+ghost use Rattle.cut_draws.specs.inside.Packed.{delivery_in, packed_at, keyed_at};
 
 use crate::packed::{Keyed, deliveries_in, delivery_in, keys_rise, packed, repack, sort_keyed};
 use crate::{Delivery, Draws};
@@ -30,7 +30,7 @@ pub struct DeliveryOrder {
 impl Model for DeliveryOrder {
     ghost use Rattle.std.specs.Prelude.{List, map};
     ghost use Rattle.cut_draws.specs.declared.delivery.Delivery.{Delivery};
-    ghost use Rattle.cut_draws.specs.Packed.{delivery_in};
+    ghost use Rattle.cut_draws.specs.inside.Packed.{delivery_in};
 
     ghost Value = { List Delivery };
 

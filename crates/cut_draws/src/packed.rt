@@ -1,6 +1,6 @@
 ghost use Rattle.std.specs.Prelude.{◌≡◌, ◌<◌, map, IfOk, OnOk, IsTrue};
 ghost use Rattle.std.specs.List.Sorted.{IsPermutation, IsSorted};
-ghost use Rattle.cut_draws.specs.Packed.{packed_of, delivery_in, compare_keyed, ArePackedRising};
+ghost use Rattle.cut_draws.specs.inside.Packed.{packed_of, delivery_in, compare_keyed, ArePackedRising};
 
 use crate::Delivery;
 use cut_rings::Edge;

@@ -4,7 +4,7 @@ use Rattle.std.proofs.lemmas.List.Sums.{sum_by-cons, sum_by_push}
 use Rattle.cut_board.specs.declared.seat.Seat.{Seat}
 use Rattle.cut_board.specs.Names.{view_of, views_of}
 use Rattle.cut_board.specs.Views.{counted_in, counted_by}
-use Rattle.cut_hall.specs.Closing.{IsTakenApart}
+use Rattle.cut_hall.specs.inside.Closing.{IsTakenApart}
 use Rattle.cut_hall.specs.Pass.{Holding}
 
 map_push : (seats : List Seat) (s : Seat) → views_of (seats ++ s ∷ []) ≡ views_of seats ++ view_of s ∷ []

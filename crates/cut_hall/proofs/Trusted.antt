@@ -9,7 +9,7 @@ use Rattle.cut_ledger.specs.Slips.{AreGood}
 use Rattle.cut_ledger.specs.World.{AreTrue}
 use Rattle.cut_ledger.specs.Machine.{StudyState}
 use Rattle.cut_book.specs.Book.{BookValue, IsFresh}
-use Rattle.cut_hall.specs.Slot.{calls_in, base_of, kept_of, unkept_of}
+use Rattle.cut_hall.specs.inside.Slot.{calls_in, base_of, kept_of, unkept_of}
 use Rattle.cut_hall.specs.Trust.{MayBegin}
 
 pub may_begin : (trusts : Bool) (v u : Values) (base : List Slip) → u ≡ v → AreGood v base

@@ -1,8 +1,5 @@
 -- How a hall is closed.
 use Rattle.std.specs.Prelude.{◌≡◌, ◌<◌, ◌≤◌, ℕ, List, length}
-use Rattle.cut_board.specs.declared.seat.Seat.{Seat}
-use Rattle.cut_board.specs.Names.{views_of}
-use Rattle.cut_board.specs.Views.{counted_by}
 use Rattle.cut_hall.specs.declared.not_closed.NotClosed.{NotClosed}
 use Rattle.cut_hall.specs.declared.not_closed.NotClosed.TheVariants.{Memory, AuditMismatch, SeatMissing}
 use Rattle.cut_hall.specs.Pass.{Holding}
@@ -18,12 +15,3 @@ IsNotClosed comes_back slots all passes (AuditMismatch m) =
     × (m.counted ≡ counted_in_all m.study passes) × AcceptedOther m.report m.study m.counted
     × (calls_in_all m.report ≡ made_in_all passes)
 IsNotClosed comes_back slots all passes (SeatMissing brought) = (length passes < all) × comes_back brought
-
--- ---- inside
-
--- the seats of passes, in any order, and the calls and the parts of them all
-pub record IsTakenApart (passes : List Holding) (seats : List Seat) (parts amount : ℕ) : Type 0 where
-  pub many : length seats ≡ length passes
-  pub counted : (study : ℕ) → counted_by study (views_of seats) ≡ counted_in_all study passes
-  pub parts_are : parts ≡ length passes
-  pub amount_is : amount ≡ made_in_all passes

@@ -6,3 +6,4 @@ pub mod Report
 pub mod Closing
 pub mod Hall
 pub mod Trust
+pub mod inside

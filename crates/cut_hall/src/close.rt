@@ -4,7 +4,8 @@ ghost use Rattle.cut_board.specs.Names.{board_id, board_of};
 ghost use Rattle.cut_board.specs.declared.totals.StudyTotals.{StudyTotals};
 ghost use Rattle.cut_hall.specs.Report.{SlotEnd, calls_recorded, calls_in_all, made_in_all, accepted_recorded};
 ghost use Rattle.cut_hall.specs.Report.{IsAudited};
-ghost use Rattle.cut_hall.specs.Closing.{IsNotClosed, IsTakenApart};
+ghost use Rattle.cut_hall.specs.Closing.{IsNotClosed};
+ghost use Rattle.cut_hall.specs.inside.Closing.{IsTakenApart};
 
 use crate::hall::LockedSlot;
 use crate::{CallLedger, Hall, Mismatch, NotClosed, Pass, Report, SlotReport};

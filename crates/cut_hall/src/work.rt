@@ -1,5 +1,5 @@
 ghost use Rattle.std.specs.Prelude.{◌≡◌, ◌+◌, ◌<◌, ◌≤◌, IfOk, IfSome, if◌then◌else◌};
-ghost use Rattle.cut_hall.specs.Slot.{losses_of};
+ghost use Rattle.cut_hall.specs.inside.Slot.{losses_of};
 ghost use Rattle.cut_outcome.specs.Outcome.{rings_of};
 
 use crate::hall::LockedSlot;

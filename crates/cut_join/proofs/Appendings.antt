@@ -23,7 +23,8 @@ use Rattle.cut_journal.proofs.Series.{LeavesDoubt, each_then, none_of, nothing_a
 use Rattle.cut_join.specs.declared.fault.JoinFault.{JoinFault}
 use Rattle.cut_join.specs.declared.fault.JoinFault.TheVariants.{Memory, BadSlip, OtherPlan, Broken, Disk}
 use Rattle.cut_join.specs.Joined.{joined}
-use Rattle.cut_join.specs.Joining.{CanJoin, EndsAppend, EndsAppends, EndsJoin, IsJudgedBy, fault_of, joining_faults}
+use Rattle.cut_join.specs.Joining.{CanJoin, EndsAppends, EndsJoin, IsJudgedBy, joining_faults}
+use Rattle.cut_join.specs.inside.Joining.{EndsAppend, fault_of}
 
 -- ---- one slip
 

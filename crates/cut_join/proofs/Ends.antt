@@ -24,7 +24,7 @@ use Rattle.cut_ledger.specs.Gaps.{piece_at}
 use Rattle.cut_ledger.proofs.CellLemmas.{piece_facts}
 use Rattle.cut_ledger.proofs.GapPieces.{piece_within}
 use Rattle.cut_join.specs.Joined.{joined, runs_of, slip_of_run}
-use Rattle.cut_join.specs.Merging.{AreAscending, IsSmall, adjoins, with_next, with_slip}
+use Rattle.cut_join.specs.inside.Merging.{AreAscending, IsSmall, adjoins, with_next, with_slip}
 use Rattle.cut_join.proofs.Chains.{one_chain, runs_chain}
 use Rattle.cut_join.proofs.Goods.{comes_next, small_within}
 use Rattle.cut_join.proofs.Merges.{AreMerged, merge_step, merged_are, merged_chain}

@@ -27,7 +27,7 @@ use Rattle.cut_ledger.specs.Slips.{AreGood, IsGood}
 use Rattle.cut_ledger.specs.World.{pieces_of_slips, times_in}
 use Rattle.cut_ledger.proofs.CellLemmas.{in_piece, piece_facts}
 use Rattle.cut_ledger.proofs.Law.{held_within, piece_within, times-append, times_once, times_push}
-use Rattle.cut_join.specs.Merging.{AreAscending, IsSmall}
+use Rattle.cut_join.specs.inside.Merging.{AreAscending, IsSmall}
 use Rattle.cut_join.proofs.Merges.{ComesAfter}
 use Rattle.cut_join.proofs.Chains.{not_both}
 

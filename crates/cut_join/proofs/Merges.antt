@@ -19,7 +19,7 @@ use Rattle.cut_ledger.specs.Contents.{is_in, is_in_base, slip_sum}
 use Rattle.cut_ledger.proofs.AddLemmas.{in_base_more}
 use Rattle.cut_ledger.proofs.CellLemmas.{cell_is}
 use Rattle.cut_join.specs.Joined.{slip_of_run, slips_of_run}
-use Rattle.cut_join.specs.Merging.{adjoins, with_next, with_slip}
+use Rattle.cut_join.specs.inside.Merging.{adjoins, with_next, with_slip}
 use Rattle.cut_join.proofs.Chains.{IsChain, IsRun, not_both, same_cell}
 
 -- ---- merged slips

@@ -5,7 +5,6 @@ use Rattle.cut_faults.specs.Failures.{one_more}
 use Rattle.cut_plan.specs.Values.{Values}
 use Rattle.cut_ledger.specs.declared.slip.Slip.{Slip}
 use Rattle.cut_ledger.specs.Slips.{AreGood, IsFirstBad}
-use Rattle.cut_journal.specs.declared.fault.JournalFault.{JournalFault}
 use Rattle.cut_journal.specs.declared.fault.JournalFault.TheVariants as journal
 use Rattle.cut_journal.specs.Journal.{JournalValue}
 use Rattle.cut_join.specs.declared.fault.JoinFault.{JoinFault}
@@ -54,19 +53,3 @@ EndsJoin result v ss old new = CanJoin v ss old × EndsAppends result (joined v 
 abbrev pub joining_faults : {T : Type 0} → Result T JoinFault → ℕ → ℕ
 joining_faults (Err Disk) n = one_more n
 joining_faults result n = n
-
--- ---- the append of one slip
-
--- the fault of an append of a slip, as a join reports it; such an append has no other faults than these two
-abbrev pub fault_of : JournalFault → JoinFault
-fault_of journal.Disk = Disk
-fault_of fault = Broken
-
--- how it ends: the slip was taken; or why it was not
-abbrev pub EndsAppend : {T D : Type 0} → Result T JoinFault → Slip → JournalValue D → JournalValue D → Type 0
-EndsAppend (Ok done) slip old new =
-    (new.plan ≡ old.plan) × (new.count ≡ old.count + 1) × (old.doubtful ≡ None) × (new.doubtful ≡ None)
-EndsAppend (Err Broken) slip old new = IsSome old.doubtful × (new ≡ old)
-EndsAppend (Err Disk) slip old new =
-    (new.plan ≡ old.plan) × (new.count ≡ old.count) × (old.doubtful ≡ None) × (new.doubtful ≡ Some slip)
-EndsAppend (Err fault) slip old new = ⊥

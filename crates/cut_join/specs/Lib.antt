@@ -1,5 +1,5 @@
 pub mod Joined
 pub mod Joining
-pub mod Merging
 pub mod FaultCode
 pub mod Laws
+pub mod inside

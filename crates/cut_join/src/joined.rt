@@ -6,7 +6,7 @@ ghost use Rattle.cut_outcome.specs.Sum.{is_piece};
 ghost use Rattle.cut_ledger.specs.Slips.{AreGood};
 ghost use Rattle.cut_join.specs.Joined.{joined};
 ghost use Rattle.cut_join.specs.Joining.{IsJudgedBy};
-ghost use Rattle.cut_join.specs.Merging.{AreAscending, IsSmall, adjoins, with_next, with_slip};
+ghost use Rattle.cut_join.specs.inside.Merging.{AreAscending, IsSmall, adjoins, with_next, with_slip};
 
 use crate::JoinFault;
 use cut_ledger::{Ledger, Slip, SlipsFault};

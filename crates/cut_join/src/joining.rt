@@ -3,7 +3,8 @@ ghost use Rattle.cut_plan.specs.Versions.{version_of};
 ghost use Rattle.cut_journal.specs.File.{HoldsAllTotals};
 ghost use Rattle.cut_journal.specs.Journal.{AppendsEach, kept_slips, taken};
 ghost use Rattle.cut_join.specs.Joined.{joined};
-ghost use Rattle.cut_join.specs.Joining.{EndsAppend, EndsAppends, EndsJoin, fault_of, joining_faults};
+ghost use Rattle.cut_join.specs.Joining.{EndsAppends, EndsJoin, joining_faults};
+ghost use Rattle.cut_join.specs.inside.Joining.{EndsAppend, fault_of};
 
 use crate::JoinFault;
 use crate::joined::joined;

@@ -20,13 +20,13 @@ use Rattle.cut_journal.specs.File.{number_bytes}
 use Rattle.cut_journal.specs.File.{header_digest}
 use Rattle.cut_journal.specs.Reading.{is_slip, slip_in, reading}
 use Rattle.cut_journal.specs.Journal.{kept_slips, slips_of, ReadsAs, IsFileOf}
-use Rattle.cut_journal.specs.Steps.{HasNumbers, WritesThrough, Leave}
+use Rattle.cut_journal.specs.inside.Steps.{HasNumbers, WritesThrough, Leave}
 use Rattle.cut_journal.proofs.Counts.{alike_at, alike_prefix}
 use Rattle.cut_journal.proofs.Gates.{gate_next}
 use Rattle.cut_journal.proofs.Moments.{Through, through_is, settled_images, stays}
 use Rattle.cut_journal.proofs.Readings.{Holds, gate_there, reads_holds, cases_bool, closed_read, opened_read}
 use Rattle.cut_journal.proofs.SlipBytes.{long_bytes, slip_back, slip_whole}
-use Rattle.cut_journal.specs.Places.{body_at, first_slips, gate_place, is_open}
+use Rattle.cut_journal.specs.inside.Places.{body_at, first_slips, gate_place, is_open}
 
 -- ---- torn bytes, place by place
 

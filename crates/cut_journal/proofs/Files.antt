@@ -10,12 +10,12 @@ use Rattle.cut_disks.specs.State.{overwritten}
 use Rattle.cut_ledger.specs.declared.slip.Slip.{Slip}
 use Rattle.cut_journal.specs.File.{open_gate, closed_gate, prefix_of, file_of, body_of}
 use Rattle.cut_journal.specs.Journal.{ExtendsFile}
-use Rattle.cut_journal.specs.Steps.{BeginsAs}
+use Rattle.cut_journal.specs.inside.Steps.{BeginsAs}
 use Rattle.cut_journal.proofs.Appends.{put_of, long_body}
 use Rattle.cut_journal.proofs.Prefixes.{long_prefix}
 use Rattle.cut_journal.proofs.Gates.{gate_first, gate_next}
 use Rattle.cut_journal.proofs.Makings.{whole_prefix}
-use Rattle.cut_journal.specs.Places.{gate_place}
+use Rattle.cut_journal.specs.inside.Places.{gate_place}
 
 begins : (bytes prefix rest : List ℕ) → bytes ≡ prefix ++ rest → StartsWith bytes prefix
 begins bytes prefix rest is = ap (take (length prefix)) is ∙ take_at prefix rest (length prefix) refl

@@ -6,7 +6,7 @@ use Rattle.cut_plan.specs.Versions.{version_of}
 use Rattle.cut_plan.specs.Values.{Values}
 use Rattle.cut_plan.specs.Canonical.{canonical_text}
 use Rattle.cut_journal.specs.File.{numbers_length, slip_length}
-use Rattle.cut_journal.specs.Places.{gate_place}
+use Rattle.cut_journal.specs.inside.Places.{gate_place}
 
 -- a slip has nine numbers at least
 pub nine_numbers : (version : Version) → 72 ≤ numbers_length version

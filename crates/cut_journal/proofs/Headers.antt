@@ -19,7 +19,7 @@ use Rattle.cut_journal.specs.Reading.{text_length, is_magic, can_have_header, ha
 use Rattle.cut_journal.proofs.Counts.{alike_part}
 use Rattle.cut_journal.proofs.Prefixes.{long_header, long_prefix}
 use Rattle.cut_journal.proofs.Gates.{gate_first}
-use Rattle.cut_journal.specs.Places.{gate_place}
+use Rattle.cut_journal.specs.inside.Places.{gate_place}
 
 letters_at : (version : Version) (size text digest : List ℕ)
     → slice_range (open_gate ∷ ((magic_of version ++ size) ++ text) ++ digest) 1 9 ≡ magic_of version

@@ -10,16 +10,17 @@ use Rattle.cut_plan.specs.Canonical.{canonical_text}
 use Rattle.cut_disks.specs.State.{DiskState, Throughout, settled, synced, overwritten, covers}
 use Rattle.cut_disks.specs.Laws.{WritesStayInSpan}
 use Rattle.cut_journal.specs.declared.fault.JournalFault.TheVariants.{Disk}
-use Rattle.cut_journal.specs.File.{open_gate, closed_gate, prefix_of, rest_of, header_of, header_digest}
+use Rattle.cut_journal.specs.File.{open_gate, closed_gate, prefix_of, header_of, header_digest}
+use Rattle.cut_journal.specs.inside.File.{rest_of}
 use Rattle.cut_journal.specs.Reading.{is_study, reading}
 use Rattle.cut_journal.specs.Opening.{IsNewStudy, IsNotMade}
-use Rattle.cut_journal.specs.Steps.{BeginsAs, WritesThrough}
+use Rattle.cut_journal.specs.inside.Steps.{BeginsAs, WritesThrough}
 use Rattle.cut_journal.proofs.Moments.{Through, through_is, stays, settled_images}
 use Rattle.cut_journal.proofs.Appends.{torn_rest}
 use Rattle.cut_journal.proofs.Prefixes.{long_prefix}
 use Rattle.cut_journal.proofs.Gates.{gate_first}
 use Rattle.cut_journal.proofs.Readings.{cases_bool, both_not, of_plan_from, holds_reads, none_read}
-use Rattle.cut_journal.specs.Places.{gate_place}
+use Rattle.cut_journal.specs.inside.Places.{gate_place}
 
 -- no study
 abbrev pub IsNone : List ℕ → Type 0

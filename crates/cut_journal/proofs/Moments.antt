@@ -8,7 +8,7 @@ use Rattle.std.proofs.lemmas.List.{take_all}
 use Rattle.cut_disks.specs.State.{Stable, DiskState, IsImage, IsTorn, Throughout, Syncs, covers, settled, written}
 use Rattle.cut_disks.specs.State.{begun, synced, overwritten}
 use Rattle.cut_disks.specs.Laws.{WritesStayInSpan}
-use Rattle.cut_journal.specs.Steps.{WritesThrough, Leave}
+use Rattle.cut_journal.specs.inside.Steps.{WritesThrough, Leave}
 use Rattle.cut_journal.proofs.Counts.{alike_at}
 
 -- a sync after a write

@@ -13,7 +13,7 @@ use Rattle.cut_journal.specs.declared.fault.JournalFault.{JournalFault}
 use Rattle.cut_journal.specs.declared.fault.JournalFault.TheVariants.{NoStudy, Damaged}
 use Rattle.cut_journal.specs.File.{open_gate, slip_length}
 use Rattle.cut_journal.specs.Reading.{body_in, is_slip, slip_in, then_slips, slips_in}
-use Rattle.cut_journal.specs.Places.{gate_place, is_open, body_at, is_whole}
+use Rattle.cut_journal.specs.inside.Places.{gate_place, is_open, body_at, is_whole}
 use Rattle.cut_journal.proofs.Gates.{gate_next}
 
 pub ok_same : (xs ys : List Slip) → (let r : Result (List Slip) JournalFault = Ok xs in r) ≡ Ok ys → xs ≡ ys

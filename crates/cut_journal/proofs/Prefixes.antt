@@ -16,7 +16,8 @@ use Rattle.cut_plan.specs.Accepted.{plan_of}
 use Rattle.cut_plan.specs.declared.refusal.Refusal.TheVariants.{PlanTooLong}
 use Rattle.cut_plan.specs.Canonical.{canonical_text}
 use Rattle.cut_plan.specs.declared.refusal.Refusal.{Refusal}
-use Rattle.cut_journal.specs.File.{open_gate, closed_gate, magic_of, header_of, header_digest, prefix_of, rest_of}
+use Rattle.cut_journal.specs.File.{open_gate, closed_gate, magic_of, header_of, header_digest, prefix_of}
+use Rattle.cut_journal.specs.inside.File.{rest_of}
 
 pub header_made : (v : Values) (a b c d e : List ℕ) → a ≡ [] → b ≡ a ++ open_gate ∷ [] → c ≡ b
     ++ magic_of (version_of v.failing) → d ≡ c ++ to_be_bytes w32 (length (canonical_text v)) → e ≡ d

@@ -21,7 +21,7 @@ use Rattle.cut_journal.specs.File.{open_gate, prefix_of, slip_length}
 use Rattle.cut_journal.specs.Reading.{is_study, says_plan, has_magic, is_magic, text_length, can_have_header}
 use Rattle.cut_journal.specs.Reading.{has_header, is_slip, slip_in, slips_in, slips_reading, reading}
 use Rattle.cut_journal.specs.Opening.{IsReopenFault}
-use Rattle.cut_journal.specs.Steps.{IsOfPlan, AreWhole, IsSlipFault}
+use Rattle.cut_journal.specs.inside.Steps.{IsOfPlan, AreWhole, IsSlipFault}
 use Rattle.cut_journal.proofs.Places.{ok_not, placed, slips_placed, closed_placed, damaged_placed, are_placed}
 use Rattle.cut_journal.proofs.Places.{placed_some}
 use Rattle.cut_journal.proofs.Gates.{gate_first, gate_next, gate_far, gate_rises, nine_numbers}
@@ -29,7 +29,7 @@ use Rattle.cut_journal.proofs.Headers.{both, together, prefix_begins, begin_alik
 use Rattle.cut_journal.proofs.Headers.{says_alike, magic_alike}
 use Rattle.std.proofs.Math.Seq.{take-take}
 use Rattle.cut_journal.proofs.Counts.{map_alike, alike_place, alike_prefix, alike_part}
-use Rattle.cut_journal.specs.Places.{body_at, first_slips, gate_place, is_open, is_whole}
+use Rattle.cut_journal.specs.inside.Places.{body_at, first_slips, gate_place, is_open, is_whole}
 
 pub cases_bool : (b : Bool) → (b ≡ true) ⊎ (b ≡ false)
 cases_bool true = inl refl

@@ -20,7 +20,7 @@ use Rattle.cut_journal.specs.File.{HoldsAllTotals, closed_gate, numbers_length, 
 use Rattle.cut_journal.specs.File.{body_of}
 use Rattle.cut_journal.specs.File.{header_digest}
 use Rattle.cut_journal.specs.Reading.{number_at, settled_at, slip_in, is_slip}
-use Rattle.cut_journal.specs.Steps.{HasNumbers}
+use Rattle.cut_journal.specs.inside.Steps.{HasNumbers}
 use borrow.Rule.Slice.PartMut.{put_mid}
 use Rattle.cut_journal.proofs.Prefixes.{layered}
 use Rattle.cut_journal.proofs.Headers.{together}

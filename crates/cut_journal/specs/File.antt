@@ -78,8 +78,3 @@ body_of v s =
 -- the file of a study with these slips: they stand after open gates, and the next gate is closed
 abbrev pub file_of : Values → List Slip → List ℕ
 file_of v slips = prefix_of v ++ flat_map (λ s. open_gate ∷ body_of v s) slips ++ closed_gate ∷ []
-
--- what stands in a new study's file after its gate: the header, its digest, and the closed gate of the first
--- slip
-unfoldable pub rest_of : Values → List ℕ
-rest_of v = header_of v ++ header_digest v ++ closed_gate ∷ []

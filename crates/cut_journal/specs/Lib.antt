@@ -1,9 +1,8 @@
 pub mod File
 pub mod Reading
-pub mod Places
 pub mod Journal
 pub mod Opening
 pub mod FaultCode
 pub mod Laws
-pub mod Steps
 pub mod Trust
+pub mod inside

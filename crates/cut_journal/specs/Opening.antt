@@ -28,12 +28,6 @@ IsOpeningFaultOf OtherPlan = ⊤
 IsOpeningFaultOf (Damaged number) = ⊤
 IsOpeningFaultOf fault = ⊥
 
--- the faults of a step that only reads
-abbrev pub IsReadFault : JournalFault → Type 0
-IsReadFault Memory = ⊤
-IsReadFault Disk = ⊤
-IsReadFault fault = ⊥
-
 -- what is on the disk: as before, but for a first sync that made all durable; nothing else where it was read to
 -- its end
 abbrev pub IsRead : JournalFault → DiskState → DiskState → Type 0

@@ -1,6 +1,6 @@
 ghost use Rattle.std.specs.Prelude.{◌≡◌, ◌+◌, ◌<◌, ◌≤◌, ◌^◌, ◌↔◌, length, OnOk};
 ghost use Rattle.cut_faults.specs.Failures.{counted};
-ghost use Rattle.cut_journal.specs.Steps.{WritesThrough};
+ghost use Rattle.cut_journal.specs.inside.Steps.{WritesThrough};
 
 use cut_disks::laws::writes_stay_in_their_span;
 use cut_disks::{Disk, DiskFault};

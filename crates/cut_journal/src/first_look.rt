@@ -2,7 +2,7 @@ ghost use Rattle.std.specs.Prelude.{◌≡◌, ◌==◌, ◌<◌, ◌^◌, ◌�
 ghost use Rattle.cut_faults.specs.Failures.{counted};
 ghost use Rattle.cut_journal.specs.File.{open_gate};
 ghost use Rattle.cut_journal.specs.Reading.{is_study};
-ghost use Rattle.cut_journal.specs.Steps.{Settles};
+ghost use Rattle.cut_journal.specs.inside.Steps.{Settles};
 
 use crate::format::OPEN_GATE;
 use cut_disks::{Disk, DiskFault};

@@ -5,11 +5,12 @@ ghost use Rattle.sha2.specs.Sha256.{sha256};
 ghost use Rattle.cut_plan.specs.Canonical.{canonical_text};
 ghost use Rattle.cut_plan.specs.Versions.{version_of};
 ghost use Rattle.cut_plan.specs.declared.version.Version.TheVariants.{Two};
-ghost use Rattle.cut_journal.specs.File.{closed_gate, header_digest, prefix_of, rest_of, numbers_length};
+ghost use Rattle.cut_journal.specs.File.{closed_gate, header_digest, prefix_of, numbers_length};
+ghost use Rattle.cut_journal.specs.inside.File.{rest_of};
 ghost use Rattle.cut_journal.specs.File.{slip_length, number_bytes, body_of};
 ghost use Rattle.cut_journal.specs.Reading.{says_plan, has_magic, number_at, settled_at, slip_in, is_slip};
-ghost use Rattle.cut_journal.specs.Steps.{HasNumbers};
-ghost use Rattle.cut_journal.specs.Places.{gate_place};
+ghost use Rattle.cut_journal.specs.inside.Steps.{HasNumbers};
+ghost use Rattle.cut_journal.specs.inside.Places.{gate_place};
 
 use crate::first_bytes::length_in_header;
 use crate::layout::{magic_of, numbers_length, slip_length};

@@ -39,7 +39,7 @@ pub struct Journal<D: Disk> {
 impl<D: Disk> Model for Journal<D> {
     ghost use Rattle.std.specs.Prelude.{◌≡◌, ◌<◌, ◌^◌};
     ghost use Rattle.cut_journal.specs.Journal.{JournalValue, IsFileOf};
-    ghost use Rattle.cut_journal.specs.Places.{gate_place};
+    ghost use Rattle.cut_journal.specs.inside.Places.{gate_place};
 
     ghost Value = { JournalValue D };
 

@@ -5,9 +5,10 @@ ghost use Rattle.sha2.specs.Sha256.{sha256};
 ghost use Rattle.cut_disks.specs.State.{synced};
 ghost use Rattle.cut_journal.specs.Reading.{is_study, can_have_header, has_header, text_length, reading};
 ghost use Rattle.cut_journal.specs.Journal.{disk_faults};
-ghost use Rattle.cut_journal.specs.Opening.{IsReopenFault, IsReadFault, IsOpeningFaultOf, IsRead};
-ghost use Rattle.cut_journal.specs.Steps.{IsOfPlan};
-ghost use Rattle.cut_journal.specs.Places.{gate_place};
+ghost use Rattle.cut_journal.specs.Opening.{IsReopenFault, IsOpeningFaultOf, IsRead};
+ghost use Rattle.cut_journal.specs.inside.Opening.{IsReadFault};
+ghost use Rattle.cut_journal.specs.inside.Steps.{IsOfPlan};
+ghost use Rattle.cut_journal.specs.inside.Places.{gate_place};
 
 use crate::JournalFault;
 use crate::first_look::look_first;

@@ -3,11 +3,12 @@ ghost use Rattle.std.specs.Prelude.{slice_index, IfErr, OnOk};
 ghost use Rattle.std.specs.Io.{StartsWith};
 ghost use Rattle.cut_faults.specs.Failures.{counted};
 ghost use Rattle.cut_disks.specs.State.{settled, Throughout};
-ghost use Rattle.cut_journal.specs.File.{open_gate, rest_of, file_of};
+ghost use Rattle.cut_journal.specs.File.{open_gate, file_of};
+ghost use Rattle.cut_journal.specs.inside.File.{rest_of};
 ghost use Rattle.cut_journal.specs.Reading.{is_study, reading};
 ghost use Rattle.cut_journal.specs.Journal.{disk_faults};
 ghost use Rattle.cut_journal.specs.Opening.{IsNewStudy, IsBegunFile, IsNotMade, MayNotMake};
-ghost use Rattle.cut_journal.specs.Steps.{BeginsAs};
+ghost use Rattle.cut_journal.specs.inside.Steps.{BeginsAs};
 
 use crate::JournalFault;
 use crate::durable_write::write_through;

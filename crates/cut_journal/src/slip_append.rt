@@ -5,8 +5,8 @@ ghost use Rattle.cut_journal.specs.File.{HoldsAllTotals, slip_length};
 ghost use Rattle.cut_journal.specs.Reading.{reading};
 ghost use Rattle.cut_journal.specs.Journal.{kept_slips, ReadsAs, IsFileOf, ExtendsFile};
 ghost use Rattle.cut_plan.specs.Versions.{version_of};
-ghost use Rattle.cut_journal.specs.Steps.{Leave};
-ghost use Rattle.cut_journal.specs.Places.{gate_place};
+ghost use Rattle.cut_journal.specs.inside.Steps.{Leave};
+ghost use Rattle.cut_journal.specs.inside.Places.{gate_place};
 
 use crate::durable_write::write_through;
 use crate::format::{FileHeader, Gate, OPEN_GATE};

@@ -3,8 +3,8 @@ ghost use Rattle.cut_plan.specs.Versions.{version_of};
 ghost use Rattle.cut_journal.specs.File.{slip_length};
 ghost use Rattle.cut_journal.specs.Reading.{slips_reading};
 ghost use Rattle.cut_journal.specs.Journal.{disk_faults};
-ghost use Rattle.cut_journal.specs.Steps.{IsOfPlan, IsNext, IsSlipFault};
-ghost use Rattle.cut_journal.specs.Places.{gate_place};
+ghost use Rattle.cut_journal.specs.inside.Steps.{IsOfPlan, IsNext, IsSlipFault};
+ghost use Rattle.cut_journal.specs.inside.Places.{gate_place};
 
 use crate::JournalFault;
 use crate::first_look::read_gate;

@@ -18,7 +18,7 @@ use Rattle.cut_lists.proofs.Counts.{filter-none}
 use Rattle.cut_lists.proofs.Intervals.{within_is}
 use Rattle.cut_outcome.specs.Outcome.{outcome}
 use Rattle.range_set.specs.Held as held
-use Rattle.cut_ledger.specs.Kept.{span_of, sum_at}
+use Rattle.cut_ledger.specs.inside.Kept.{span_of, sum_at}
 
 -- ---- trials and their cells
 

@@ -10,7 +10,7 @@ use Rattle.std.proofs.lemmas.List.Folds.{length-flat_map-take}
 use Rattle.std.proofs.lemmas.List.FromFn.{get_or-map-range_with_len, length-map-range_with_len}
 use Rattle.std.proofs.lemmas.Option.{slice_get-get_or, slice_get_past}
 use Rattle.cut_ledger.specs.declared.division.Stretch.{Stretch}
-use Rattle.cut_ledger.specs.DivisionInside.{ArePiecesCounted, HasNumber, gaps_in, piece_of, pieces_up_to}
+use Rattle.cut_ledger.specs.inside.DivisionInside.{ArePiecesCounted, HasNumber, gaps_in, piece_of, pieces_up_to}
 use Rattle.cut_ledger.proofs.Words.{IsNonDecreasingBy, IsPartitionPoint, Piece, div_ceil, flat_map, part_of, parts_of}
 
 abbrev pub no_piece : Piece

@@ -24,7 +24,7 @@ use Rattle.cut_ledger.specs.Contents.{overlaps, cell_done, is_complete}
 use Rattle.cut_ledger.specs.Gaps.{pieces_of}
 use Rattle.cut_ledger.specs.Laws.{with_pieces, AreFilling}
 use Rattle.cut_ledger.specs.Machine.{available, table_over}
-use Rattle.cut_ledger.specs.Reached.{IsFounded}
+use Rattle.cut_ledger.specs.inside.Reached.{IsFounded}
 use Rattle.cut_ledger.specs.World.{AreTrue, times_in}
 use Rattle.range_set.specs.Laws.{SpansCover}
 use Rattle.cut_ledger.proofs.CoverLemmas.{pieces_cover}

@@ -5,13 +5,13 @@ pub use Rattle.cut_ledger.specs.Contents.{held_where, is_complete, is_in, is_in_
 pub use Rattle.cut_ledger.specs.Contents.{slip_sum, slips_of_cell, sum_where, with_piece}
 pub use Rattle.cut_ledger.specs.FaultCode.{code_of}
 pub use Rattle.cut_ledger.specs.Gaps.{gaps_of, part_of, parts_of, piece_at, pieces_of}
-pub use Rattle.cut_ledger.specs.Kept.{AreKept, AreOver, IsAdded, account_in, contents_in}
+pub use Rattle.cut_ledger.specs.inside.Kept.{AreKept, AreOver, IsAdded, account_in, contents_in}
 pub use Rattle.cut_ledger.specs.Machine.{StudyState, accepted_unless, after, available, drawn_piece, failed}
 pub use Rattle.cut_ledger.specs.Machine.{is_finished, opened, refused_code, reply_to, slip_of, slips_found}
 pub use Rattle.cut_ledger.specs.Machine.{some_slip, start, taken, unless_refused}
-pub use Rattle.cut_ledger.specs.Reached.{IsDoubtful, IsFounded, IsReached}
+pub use Rattle.cut_ledger.specs.inside.Reached.{IsDoubtful, IsFounded, IsReached}
 pub use Rattle.cut_ledger.specs.Refusals.{CanTake, refusal_of}
-pub use Rattle.cut_ledger.specs.RunInside.{state_of}
+pub use Rattle.cut_ledger.specs.inside.RunInside.{state_of}
 pub use Rattle.cut_ledger.specs.Slips.{AreGood, AreGoodUpTo, IsFirstBad, IsGood, IsFaultOfSlips}
 pub use Rattle.cut_ledger.specs.World.{AreTrue, HasTrueResult, IsRight, IsTrueSlip, SayAlike, World, accepted_after}
 pub use Rattle.cut_ledger.specs.World.{begun, bytes_after, pieces_of_slips, run, step, times_in}

@@ -6,9 +6,5 @@ pub mod FaultCode
 pub mod Account
 pub mod Machine
 pub mod World
-pub mod Kept
-pub mod LedgerInside
-pub mod DivisionInside
-pub mod Reached
-pub mod RunInside
 pub mod Laws
+pub mod inside

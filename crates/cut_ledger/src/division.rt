@@ -3,7 +3,7 @@ ghost use Rattle.std.specs.Int.{div_ceil};
 ghost use Rattle.std.specs.List.{flat_map};
 ghost use Rattle.std.specs.List.Sorted.{IsNonDecreasingBy, IsPartitionPoint};
 ghost use Rattle.cut_ledger.specs.Gaps.{parts_of};
-ghost use Rattle.cut_ledger.specs.DivisionInside.{HasNumber, piece_of};
+ghost use Rattle.cut_ledger.specs.inside.DivisionInside.{HasNumber, piece_of};
 
 use cut_outcome::Piece;
 use std::alloc::{AllocError, Global};
@@ -29,7 +29,7 @@ pub struct Division {
 impl Model for Division {
     ghost use Rattle.std.specs.Prelude.{List};
     ghost use Rattle.cut_outcome.specs.declared.piece.Piece.{Piece};
-    ghost use Rattle.cut_ledger.specs.DivisionInside.{pieces_in, IsDivision};
+    ghost use Rattle.cut_ledger.specs.inside.DivisionInside.{pieces_in, IsDivision};
 
     ghost Value = { List Piece };
 

@@ -5,7 +5,7 @@ ghost use Rattle.cut_plan.specs.Cells.{cells_of, trial_count};
 ghost use Rattle.cut_outcome.specs.Sum.{trials_in, IsAtMost};
 ghost use Rattle.cut_ledger.specs.declared.slip.Slip as slips;
 ghost use Rattle.cut_ledger.specs.Gaps.{piece_at};
-ghost use Rattle.cut_ledger.specs.Kept.{AreKept, AreOver, CanBeAdded, IsAdded, span_of};
+ghost use Rattle.cut_ledger.specs.inside.Kept.{AreKept, AreOver, CanBeAdded, IsAdded, span_of};
 ghost use Rattle.cut_ledger.specs.Slips.{IsGood};
 ghost use Rattle.range_set.specs.Held.{has, has_room};
 

@@ -7,7 +7,7 @@ ghost use Rattle.cut_ledger.specs.Account.{has_room, KeepsRoomOfOthers};
 ghost use Rattle.cut_ledger.specs.Contents.{has, over_base, with_piece, cell_of_piece, cell_done, cell_sum};
 ghost use Rattle.cut_ledger.specs.Contents.{is_complete};
 ghost use Rattle.cut_ledger.specs.Gaps.{gaps_of, parts_of, pieces_of};
-ghost use Rattle.cut_ledger.specs.Kept.{AreOver};
+ghost use Rattle.cut_ledger.specs.inside.Kept.{AreOver};
 ghost use Rattle.cut_ledger.specs.Refusals.{CanTake, refusal_of, fault_of_offer};
 ghost use Rattle.cut_ledger.specs.Slips.{AreGood, IsFaultOfSlips};
 
@@ -34,7 +34,7 @@ impl Model for Ledger {
 
     ghost Value = { Account };
 
-    ghost use Rattle.cut_ledger.specs.LedgerInside.{account_of, IsKeeping};
+    ghost use Rattle.cut_ledger.specs.inside.LedgerInside.{account_of, IsKeeping};
 
     ghost view = { account_of };
 

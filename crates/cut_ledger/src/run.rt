@@ -2,7 +2,7 @@ ghost use Rattle.std.specs.Prelude.{◌≡◌, ◌<◌, ◌||◌, ◌+◌, ◌^�
 ghost use Rattle.std.specs.Prelude.{IsSome, IfNone, IfOk, OnOk, OnErr};
 ghost use Rattle.std.specs.List.{list_any};
 ghost use Rattle.cut_ledger.specs.declared.event.Event.TheVariants as event;
-ghost use Rattle.cut_ledger.specs.Reached.{IsOver};
+ghost use Rattle.cut_ledger.specs.inside.Reached.{IsOver};
 ghost use Rattle.cut_ledger.specs.Refusals.{CanTake};
 ghost use Rattle.cut_ledger.specs.Machine.{start, opened, available, slips_found, next_bytes, is_finished};
 ghost use Rattle.cut_ledger.specs.Machine.{refused_code, slip_of, reply_to, after, is_all_held, IsSizedEvent};
@@ -39,7 +39,7 @@ impl Model for Run {
 
     ghost Value = { StudyState };
 
-    ghost use Rattle.cut_ledger.specs.RunInside.{state_of, IsStudyRun};
+    ghost use Rattle.cut_ledger.specs.inside.RunInside.{state_of, IsStudyRun};
 
     ghost view = { state_of };
 

@@ -21,8 +21,10 @@ use Rattle.cut_migration.specs.declared.fault.MigrateFault.TheVariants as migrat
 use Rattle.cut_commands.specs.declared.fault.CliFault.{CliFault}
 use Rattle.cut_commands.specs.declared.fault.CliFault.TheVariants.{Memory, Migrate}
 use Rattle.cut_machines.specs.JoinSources.{fault_of}
-use Rattle.cut_machines.specs.JoinTarget.{IsBegun, IsNewJournal, IsPartWritten, LeavesDisk, SaysAllOf}
-use Rattle.cut_machines.specs.JoinTarget.{SaysFirstOf, StopsFilling}
+use Rattle.cut_machines.specs.JoinTarget.{IsBegun, LeavesDisk, SaysAllOf}
+use Rattle.cut_machines.specs.inside.JoinTarget.{IsNewJournal, IsPartWritten}
+use Rattle.cut_machines.specs.JoinTarget.{SaysFirstOf}
+use Rattle.cut_machines.specs.inside.JoinTarget.{StopsFilling}
 
 -- ---- first slips
 

@@ -1,11 +1,10 @@
 -- What a join leaves on the disk of the new checkpoint.
-use Rattle.std.specs.Prelude.{◌≡◌, ◌⊎◌, ◌++◌, ℕ, List, None, Result, Ok, Err, ⊤}
+use Rattle.std.specs.Prelude.{◌≡◌, ◌⊎◌, ◌++◌, ℕ, List, Result, Ok, Err, ⊤}
 use Rattle.cut_faults.specs.Failures.{one_more}
 use Rattle.cut_plan.specs.Values.{Values}
 use Rattle.cut_disks.specs.State.{DiskState, IsImage, Throughout, synced}
 use Rattle.cut_ledger.specs.declared.slip.Slip.{Slip}
 use Rattle.cut_journal.specs.declared.fault.JournalFault.TheVariants.{Disk, NoStudy}
-use Rattle.cut_journal.specs.Journal.{JournalValue}
 use Rattle.cut_journal.specs.Opening.{IsNotMade, MayNotMake}
 use Rattle.cut_journal.specs.Reading.{reading}
 use Rattle.cut_join.specs.Joined.{joined}
@@ -64,22 +63,3 @@ failing_calls fault n = n
 abbrev pub writing_faults : {T : Type 0} → Result T CliFault → ℕ → ℕ
 writing_faults (Ok done) n = n
 writing_faults (Err fault) n = failing_calls fault n
-
--- ---- inside
-
--- a journal of a plan that has no slips yet
-pub record IsNewJournal {D : Type 0} (v : Values) (journal : JournalValue D) : Type 0 where
-  pub plan : journal.plan ≡ v
-  pub empty : journal.count ≡ 0
-  pub whole : journal.doubtful ≡ None
-
--- what is left of its disk: some first ones of the joined slips were written
-pub record IsPartWritten (v : Values) (slips : List Slip) (old new : DiskState) : Type 0 where
-  pub bytes : SaysFirstOf v (joined v slips) new.bytes
-  pub moments : Throughout old new (SaysFirstOf v (joined v slips))
-
--- why not all were: memory ran out, or the disk failed
-abbrev pub StopsFilling : CliFault → Type 0
-StopsFilling Memory = ⊤
-StopsFilling (Migrate migration.Disk) = ⊤
-StopsFilling fault = ⊥

@@ -3,3 +3,4 @@ pub mod JoinTarget
 pub mod JoinCommand
 pub mod Share
 pub mod Laws
+pub mod inside

@@ -3,8 +3,10 @@
 ghost use Rattle.std.specs.Prelude.{◌≡◌, ◌↔◌, IfErr, IfOk, OnOk, length};
 ghost use Rattle.cut_ledger.specs.Slips.{AreGood};
 ghost use Rattle.cut_join.specs.Joined.{joined};
-ghost use Rattle.cut_machines.specs.JoinTarget.{IsNewJournal, IsPartWritten, LeavesDisk, SaysAllOf};
-ghost use Rattle.cut_machines.specs.JoinTarget.{StopsFilling, StopsWriting, writing_faults};
+ghost use Rattle.cut_machines.specs.JoinTarget.{LeavesDisk, SaysAllOf};
+ghost use Rattle.cut_machines.specs.inside.JoinTarget.{IsNewJournal, IsPartWritten};
+ghost use Rattle.cut_machines.specs.JoinTarget.{StopsWriting, writing_faults};
+ghost use Rattle.cut_machines.specs.inside.JoinTarget.{StopsFilling};
 
 use crate::join_sources::fault_of;
 use cut_commands::CliFault;

@@ -15,7 +15,7 @@ use Rattle.cut_messages.specs.declared.replies.AnswerState.{AnswerState}
 use Rattle.cut_messages.specs.declared.replies.AnswerState.TheVariants.{More, Done}
 use Rattle.cut_messages.specs.Asking.{GoesOn, line_of, lines_of, Stop, IsCutOff, Passes}
 use Rattle.cut_messages.specs.Reading.{Reading, HasReadFrames}
-use Rattle.cut_messages.specs.Listening.{Steps}
+use Rattle.cut_messages.specs.inside.Listening.{Steps}
 
 -- a reply alone
 abbrev pub alone : (m : Message) → Stop (m ∷ [])

@@ -16,7 +16,7 @@ use Rattle.cut_messages.specs.Frames.{fault_at}
 use Rattle.cut_messages.specs.Reading.{Reading, HasReadFrames}
 use Rattle.cut_messages.specs.Asking.{request, asked, heard, ended, left_by, Passes, ConcludesAnswer, IsUnread, Hears}
 use Rattle.cut_messages.specs.Asking.{Asks}
-use Rattle.cut_messages.specs.Listening.{Step, Steps}
+use Rattle.cut_messages.specs.inside.Listening.{Step, Steps}
 use Rattle.cut_messages.proofs.Answered.{passes_then}
 
 -- a client that listens: the request was sent, and the answer so far has no last reply and no fault

@@ -15,7 +15,7 @@ use Rattle.cut_messages.specs.declared.side.Side.{Side}
 use Rattle.cut_messages.specs.declared.side.Side.TheVariants.{Requests, Replies}
 use Rattle.cut_messages.specs.Kinds.{byte_of, kind_at, length_of, fits}
 use Rattle.cut_messages.specs.Frames.{length_fault}
-use Rattle.cut_messages.specs.Prefixes.{IsWhole}
+use Rattle.cut_messages.specs.inside.Prefixes.{IsWhole}
 
 -- a kind's letter is the byte that it was found by
 kind_byte : (side : Side) (byte : ℕ) (kind : Kind) → kind_at side byte ≡ Some kind → byte_of kind ≡ byte

@@ -12,7 +12,7 @@ use Rattle.cut_messages.specs.declared.message.Message.{Message}
 use Rattle.cut_messages.specs.Kinds.{byte_of, kind_at}
 use Rattle.cut_messages.specs.Frames.{frame_of, IsMessage}
 use Rattle.cut_messages.specs.Reading.{HasNoMessage}
-use Rattle.cut_messages.specs.Prefixes.{message_in, IsWhole}
+use Rattle.cut_messages.specs.inside.Prefixes.{message_in, IsWhole}
 use Rattle.cut_messages.specs.Laws.{ReadingsAgree, MessagesTakeRoom}
 use Rattle.cut_messages.proofs.Frames.{long_frame, after_four, length_given}
 

@@ -25,11 +25,6 @@ request plan = frame kind.Submit plan ++ frame kind.Quit []
 abbrev pub IsCutOff : List ℕ → WireLog → WireLog → Type 0
 IsCutOff bytes old new = (n : ℕ) × (n < length bytes) × (new ≡ write_failed (wrote old (take n bytes)))
 
--- the request was sent, or a write of it failed
-abbrev pub Requests : {E : Type 0} → Result ⊤ E → List ℕ → WireLog → WireLog → Type 0
-Requests (Ok done) plan old new = new ≡ wrote old (request plan)
-Requests (Err fault) plan old new = IsCutOff (request plan) old new
-
 -- whether a reply is the last one: the table is whole, or the request failed
 abbrev pub is_last : Kind → Bool
 is_last kind.Done = true

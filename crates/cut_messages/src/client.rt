@@ -1,6 +1,7 @@
 ghost use Rattle.std.specs.Prelude.{◌≡◌, ◌<◌, ◌≤◌, length};
 ghost use Rattle.cut_wires.specs.Sending.{Sends, sending};
-ghost use Rattle.cut_messages.specs.Asking.{request, Requests, Asks};
+ghost use Rattle.cut_messages.specs.Asking.{request, Asks};
+ghost use Rattle.cut_messages.specs.inside.Asking.{Requests};
 
 use crate::frame::send_message;
 use crate::replies::{AnswerState, take_piece};

@@ -1,6 +1,6 @@
 ghost use Rattle.std.specs.Prelude.{◌≡◌, ◌≤◌, length, take, drop};
 ghost use Rattle.std.specs.Int.{w32, from_be_bytes};
-ghost use Rattle.cut_messages.specs.Prefixes.{IsPrefixOfFrame};
+ghost use Rattle.cut_messages.specs.inside.Prefixes.{IsPrefixOfFrame};
 
 use crate::{Kind, Side, StreamFault};
 

@@ -3,7 +3,7 @@ ghost use Rattle.std.specs.Int.{w16, from_be_bytes};
 ghost use Rattle.cut_messages.specs.declared.message.Message.{Message};
 ghost use Rattle.cut_messages.specs.Reading.{HasReadFrames};
 ghost use Rattle.cut_messages.specs.Asking.{Passes};
-ghost use Rattle.cut_messages.specs.Listening.{Steps};
+ghost use Rattle.cut_messages.specs.inside.Listening.{Steps};
 
 use crate::{AskFault, Kind, Message, Reader};
 use cut_wires::{Wire, send_all};

@@ -20,8 +20,10 @@ use Rattle.cut_migration.specs.declared.fault.MigrateFault.TheVariants.{Memory, 
 use Rattle.cut_migration.specs.declared.fault.MigrateFault.TheVariants.{Disagrees, Broken, Disk}
 use Rattle.cut_journal.specs.Journal.{JournalValue, AppendsEach, IsAppendFault, IsFileOf, LeavesAppend, disk_faults}
 use Rattle.cut_journal.specs.Journal.{kept_slips, taken}
-use Rattle.cut_migration.specs.Migration.{moved, first_moved, fault_of, moving_faults, AreTrueUpTo}
-use Rattle.cut_migration.specs.Migration.{CanMove, EndsMigration, HasMoved, MovesOne}
+use Rattle.cut_migration.specs.Migration.{moved, first_moved, moving_faults, AreTrueUpTo}
+use Rattle.cut_migration.specs.inside.Migration.{fault_of}
+use Rattle.cut_migration.specs.Migration.{CanMove, EndsMigration, HasMoved}
+use Rattle.cut_migration.specs.inside.Migration.{MovesOne}
 use Rattle.cut_journal.proofs.Series.{LeavesDoubt, each_then, none_of, nothing_appended}
 
 -- ---- one slip

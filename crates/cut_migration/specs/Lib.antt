@@ -1,2 +1,3 @@
 pub mod Migration
 pub mod FaultCode
+pub mod inside

@@ -8,8 +8,10 @@ ghost use Rattle.cut_outcome.specs.Sum.{is_piece};
 ghost use Rattle.cut_ledger.specs.Slips.{AreGood};
 ghost use Rattle.cut_ledger.specs.World.{IsTrueSlip};
 ghost use Rattle.cut_journal.specs.Journal.{AppendsEach, kept_slips, taken};
-ghost use Rattle.cut_migration.specs.Migration.{EndsMigration, IsJudgedBy, MovesOne, fault_of, first_moved};
-ghost use Rattle.cut_migration.specs.Migration.{kept_after, moved, moving_faults};
+ghost use Rattle.cut_migration.specs.Migration.{EndsMigration, first_moved};
+ghost use Rattle.cut_migration.specs.inside.Migration.{IsJudgedBy, MovesOne, fault_of};
+ghost use Rattle.cut_migration.specs.Migration.{moved, moving_faults};
+ghost use Rattle.cut_migration.specs.inside.Migration.{kept_after};
 
 use crate::MigrateFault;
 use cut_disks::Disk;

@@ -16,9 +16,10 @@ unfoldable use Rattle.cut_detector.specs.Counts.{is_full}
 use Rattle.cut_nodes.specs.declared.slots.Slot.{Slot}
 use Rattle.cut_nodes.specs.declared.node.Cause.{Cause}
 use Rattle.cut_nodes.specs.declared.reported.Reported.{Reported}
-use Rattle.cut_nodes.specs.Slots.{key_of, key_in, Extends}
+use Rattle.cut_nodes.specs.Slots.{key_of, key_in}
+use Rattle.cut_nodes.specs.inside.Slots.{Extends}
 use Rattle.cut_nodes.specs.Nodes.{cause_of, cause_in, AreNodesWithin}
-use Rattle.cut_nodes.specs.Reported.{alerts_of, rule_of_reported, IsGain, AreCauses}
+use Rattle.cut_nodes.specs.inside.Reported.{alerts_of, rule_of_reported, IsGain, AreCauses}
 use Rattle.cut_nodes.proofs.ListLemmas.{maps_agree, list_any-filter}
 use Rattle.cut_nodes.proofs.SlotLemmas.{key_kept}
 use Rattle.cut_nodes.proofs.HeardLemmas.{IsHeard}

@@ -12,7 +12,7 @@ use Rattle.cut_rings.specs.Edges.{EdgeSet}
 use Rattle.cut_rings.specs.Layout.{Layout, observer_of}
 use Rattle.cut_detector.specs.Rule.{Rule}
 use Rattle.cut_detector.specs.Counts.{is_reported, is_gained}
-use Rattle.cut_nodes.specs.Reported.{IsGain}
+use Rattle.cut_nodes.specs.inside.Reported.{IsGain}
 
 no_gain : (r : Layout) (rule : Rule) (E : EdgeSet) (subjects : List ℕ) (ring s : ℕ)
     → is_gained r rule E ring s ≡ false → IsGain r rule E subjects ring s None

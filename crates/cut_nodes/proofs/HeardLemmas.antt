@@ -10,7 +10,7 @@ use Rattle.cut_rings.specs.declared.edge.Edge.{Edge}
 use Rattle.cut_rings.specs.Edges.{edge_to}
 use Rattle.cut_nodes.specs.declared.slots.Slot.{Slot}
 use Rattle.cut_nodes.specs.Slots.{key_of, key_in, AreSlots}
-use Rattle.cut_nodes.specs.Runs.{first_on}
+use Rattle.cut_nodes.specs.inside.Runs.{first_on}
 
 -- the edges to s on the rings that pass a test, from one ring on
 abbrev pub edges_from : (ℕ → Bool) → ℕ → ℕ → ℕ → List Edge

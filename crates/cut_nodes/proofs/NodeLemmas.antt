@@ -17,9 +17,9 @@ unfoldable use Rattle.cut_detector.specs.Counts.{is_full, is_reported, is_stable
 use Rattle.cut_nodes.specs.declared.node.Node.{Node}
 use Rattle.cut_nodes.specs.declared.nodes.Nodes.{Nodes}
 use Rattle.cut_nodes.specs.declared.reported.Reported.{Reported}
-use Rattle.cut_nodes.specs.Slots.{Extends}
+use Rattle.cut_nodes.specs.inside.Slots.{Extends}
 use Rattle.cut_nodes.specs.Nodes.{AreNodesOf, IsNode, cause_of, cause_in, subjects_of}
-use Rattle.cut_nodes.specs.Reported.{alerts_of, rule_of_reported, HasListed}
+use Rattle.cut_nodes.specs.inside.Reported.{alerts_of, rule_of_reported, HasListed}
 use Rattle.cut_nodes.proofs.ListLemmas.{tests_agree, list_any-filter}
 use Rattle.cut_nodes.proofs.SlotLemmas.{slots_kept}
 use Rattle.cut_nodes.proofs.CauseLemmas.{causes_in_kept, within_kept}

@@ -15,7 +15,7 @@ use Rattle.cut_rings.specs.Edges.{EdgeSet, edge_to, rings_to, is_edge_of, are_ed
 use Rattle.cut_detector.specs.Rule.{Rule}
 use Rattle.cut_detector.specs.Counts.{ring_count}
 unfoldable use Rattle.cut_detector.specs.Counts.{is_reported}
-use Rattle.cut_nodes.specs.Runs.{run_of, runs_from}
+use Rattle.cut_nodes.specs.inside.Runs.{run_of, runs_from}
 use Rattle.cut_nodes.proofs.ListLemmas.{prefix_of, take_joined, drop_joined}
 
 to_subject : (k : ℕ) (E : EdgeSet) (s : ℕ) (P : Edge → Type 0) → ((ring : ℕ) → P (edge_to s ring))

@@ -5,7 +5,8 @@ use Rattle.std.proofs.lemmas.List.Elements.{All-push, All-nil, All-weaker}
 use Rattle.cut_rings.specs.declared.edge.Edge.{Edge}
 use Rattle.cut_rings.specs.Edges.{edge_number}
 use Rattle.cut_nodes.specs.declared.slots.Slot.{Slot}
-use Rattle.cut_nodes.specs.Slots.{key_of, key_in, AreSlots, IsSlot, Extends}
+use Rattle.cut_nodes.specs.Slots.{key_of, key_in, AreSlots}
+use Rattle.cut_nodes.specs.inside.Slots.{IsSlot, Extends}
 use Rattle.cut_nodes.proofs.ListLemmas.{maps_agree}
 
 pub extends_none : (xs : List ℕ) → Extends xs 0 xs

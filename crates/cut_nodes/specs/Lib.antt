@@ -1,4 +1,3 @@
 pub mod Slots
 pub mod Nodes
-pub mod Runs
-pub mod Reported
+pub mod inside

@@ -5,8 +5,9 @@ ghost use Rattle.cut_rings.specs.Edges.{set_of, rings_to, edges_in};
 ghost use Rattle.cut_rings.specs.Layout.{IsLayout};
 ghost use Rattle.cut_detector.specs.Rule.{rule_in};
 ghost use Rattle.cut_detector.specs.Counts.{is_reported, is_full};
-ghost use Rattle.cut_nodes.specs.Slots.{AreSlots, Extends};
-ghost use Rattle.cut_nodes.specs.Runs.{first_on};
+ghost use Rattle.cut_nodes.specs.Slots.{AreSlots};
+ghost use Rattle.cut_nodes.specs.inside.Slots.{Extends};
+ghost use Rattle.cut_nodes.specs.inside.Runs.{first_on};
 
 use crate::runs::run_len;
 use crate::slots::slots_among;
@@ -31,7 +32,8 @@ pub(crate) struct Reported<'a> {
 
 impl<'a> Reported<'a> {
     ghost use Rattle.cut_nodes.specs.Nodes.{IsNode, AreNodesOf};
-    ghost use Rattle.cut_nodes.specs.Reported.{alerts_of, rule_of_reported, IsRunOfNodes, IsGain, AreCauses, HasListed};
+    ghost use Rattle.cut_nodes.specs.inside.Reported.{alerts_of, rule_of_reported, IsRunOfNodes, IsGain, AreCauses};
+    ghost use Rattle.cut_nodes.specs.inside.Reported.{HasListed};
 
     /// The nodes.
     pub fn nodes(&self, alloc: Global) -> Result<Nodes, AllocError>

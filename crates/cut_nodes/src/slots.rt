@@ -1,6 +1,7 @@
 ghost use Rattle.std.specs.Prelude.{◌+◌, ◌^◌, ◌<◌, ◌≤◌, length, IfOk, OnOk, All, IsTrue};
 ghost use Rattle.cut_rings.specs.Edges.{are_edges_of};
-ghost use Rattle.cut_nodes.specs.Slots.{AreSlots, IsSlot, Extends, IsLast};
+ghost use Rattle.cut_nodes.specs.Slots.{AreSlots};
+ghost use Rattle.cut_nodes.specs.inside.Slots.{IsSlot, Extends, IsLast};
 
 use cut_rings::Edge;
 use std::alloc::{AllocError, Global};

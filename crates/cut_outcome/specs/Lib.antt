@@ -3,6 +3,6 @@ pub mod FastRound
 pub mod Outcome
 pub mod Sum
 pub mod Computed
-pub mod PieceInside
 pub mod Possible
 pub mod Laws
+pub mod inside

@@ -31,7 +31,7 @@ impl Model for PieceResult {
 
     ghost Value = { Computed };
 
-    ghost use Rattle.cut_outcome.specs.PieceInside.{computed_of, IsSummed};
+    ghost use Rattle.cut_outcome.specs.inside.PieceInside.{computed_of, IsSummed};
 
     ghost view = { computed_of };
 

@@ -12,7 +12,7 @@ use Rattle.cut_plan.specs.Fields.{fields_of, number_at, numbers_at}
 use Rattle.cut_plan.specs.Accepted.{is_present, is_of_kind, is_in_range, is_in_scale, has_some, rises_at, wanted}
 use Rattle.cut_plan.specs.Accepted.{fault_at, each, version_in, checks_by, field_check}
 use Rattle.cut_plan.specs.Plan.{all_within}
-use Rattle.cut_plan.specs.Look.{AreBelow}
+use Rattle.cut_plan.specs.inside.Look.{AreBelow}
 use Rattle.cut_plan.proofs.Versions.{has, every_field}
 
 pub wanted_ok : {A : Type 0} (b : Bool) (fault : Refusal) (later : Result A Refusal) (x : A) → wanted b fault later

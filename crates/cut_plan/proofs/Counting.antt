@@ -6,7 +6,7 @@ use Rattle.std.proofs.lemmas.List.Sums.{sum_by-cons}
 use Rattle.std.specs.List.{AllByRecursion, sum_by, count_by}
 use Rattle.cut_plan.specs.declared.cell.Cell.{Cell}
 use Rattle.cut_plan.specs.Cells.{cells_at, cells_under_h, cells_under_k, cells_of_lists}
-use Rattle.cut_plan.specs.Triples.{lows_under, pairs_under, triples}
+use Rattle.cut_plan.specs.inside.Triples.{lows_under, pairs_under, triples}
 use Rattle.cut_plan.specs.Plan.{is_rising}
 
 length_mapped : {X Y : Type 0} (f : X → Y) (xs : List X) → length (map f xs) ≡ length xs

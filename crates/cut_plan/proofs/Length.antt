@@ -19,7 +19,8 @@ use Rattle.cut_plan.specs.declared.kind.Kind.TheVariants.{Number, Numbers, Text,
 use Rattle.cut_plan.specs.Values.{Values}
 use Rattle.cut_plan.specs.Plan.{IsPlan}
 use Rattle.cut_plan.specs.Fields.{name_of, kind_of, fields_of}
-use Rattle.cut_plan.specs.Datum.{Datum, one, many, word, truth, kind_in, json_of, number_data}
+use Rattle.cut_plan.specs.Datum.{Datum, one, many, word, truth, json_of, number_data}
+use Rattle.cut_plan.specs.inside.Datum.{kind_in}
 use Rattle.cut_plan.specs.Canonical.{datum, field_data, members_with, data_of, canonical_text}
 use Rattle.cut_plan.proofs.Members.{kind_at}
 use Rattle.cut_plan.proofs.Tame.{IsPlain, plain_more, plain_both, are_ascii, tested, one_byte, AreSmall, IsTame, tame}

@@ -8,7 +8,7 @@ use Rattle.serde_json.specs.View.{view, items_view, members_view}
 use Rattle.serde_json.specs.declared.value.Value.{Value}
 use Rattle.cut_plan.specs.declared.version.Version.{Version}
 use Rattle.cut_plan.specs.Fields.{list_of_items, keys_of_members, elements, keys, number_or_zero, is_named}
-use Rattle.cut_plan.specs.Look.{item_numbers}
+use Rattle.cut_plan.specs.inside.Look.{item_numbers}
 
 pub list_of_items-items_view : (vs : List Value) → list_of_items (items_view vs) ≡ map view vs
 list_of_items-items_view [] = refl

@@ -26,7 +26,8 @@ use Rattle.cut_plan.specs.Words.{dead_of, faults_of, dead_word, faults_word}
 use Rattle.cut_plan.specs.Fields.{name_of, kind_of, fields_of, is_of, elements, member_at, number_or_zero, numbers_at}
 use Rattle.cut_plan.specs.Fields.{list_of_items, whole_number}
 use Rattle.cut_plan.specs.Accepted.{datum_at, version_in, failing_by, values_at, values_in}
-use Rattle.cut_plan.specs.Datum.{Datum, one, many, word, truth, kind_in, datum_in, number_of, numbers_of, json_of}
+use Rattle.cut_plan.specs.Datum.{Datum, one, many, word, truth, datum_in, number_of, numbers_of, json_of}
+use Rattle.cut_plan.specs.inside.Datum.{kind_in}
 use Rattle.cut_plan.specs.Datum.{number_data}
 use Rattle.cut_plan.specs.Canonical.{datum, field_data, members_with, data_of}
 use Rattle.cut_plan.proofs.Versions.{has, every_field, version_shown}

@@ -14,7 +14,8 @@ use Rattle.cut_plan.specs.declared.field.Field.TheVariants.{Seed}
 use Rattle.cut_plan.specs.declared.version.Version.{Version}
 use Rattle.cut_plan.specs.declared.version.Version.TheVariants.{One, Two}
 use Rattle.cut_plan.specs.Versions.{deaf_in}
-use Rattle.cut_plan.specs.Fields.{number_at, numbers_at, text_at}
+use Rattle.cut_plan.specs.Fields.{number_at, numbers_at}
+use Rattle.cut_plan.specs.inside.Fields.{text_at}
 use Rattle.cut_plan.specs.Accepted.{is_in_scale, has_some, datum_at, version_in, failing_by, field_check, limit_check}
 use Rattle.cut_plan.specs.Accepted.{limits, values_in}
 use Rattle.cut_plan.specs.Cells.{cells_of, largest}

@@ -9,7 +9,7 @@ use Rattle.serde_json.specs.declared.value.Value.{Value}
 use Rattle.cut_plan.specs.Fields.{number_or_zero}
 use Rattle.cut_plan.specs.Accepted.{has_some}
 use Rattle.cut_plan.specs.Plan.{is_rising}
-use Rattle.cut_plan.specs.Look.{item_numbers}
+use Rattle.cut_plan.specs.inside.Look.{item_numbers}
 
 both_tests : (b r s : Bool) → b ≡ true → r ≡ s → r ≡ (b && s)
 both_tests true r s h e = e

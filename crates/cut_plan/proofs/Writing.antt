@@ -12,7 +12,7 @@ use Rattle.cut_plan.specs.Values.{Values}
 use Rattle.cut_plan.specs.Fields.{fields_of}
 use Rattle.cut_plan.specs.Datum.{Datum, one, many, word, truth, json_of, number_data}
 use Rattle.cut_plan.specs.Canonical.{datum, members_with, data_of}
-use Rattle.cut_plan.specs.Look.{with_fields}
+use Rattle.cut_plan.specs.inside.Look.{with_fields}
 
 with_fields_by : (version : Version) (v : Values) → with_fields v (fields_of version)
     ≡ members_with v (fields_of version)

@@ -1,6 +1,6 @@
 -- Which texts are accepted plans, and the first fault of any other (this project's profile). The checks run in
 -- the order below, each over all fields before the next begins.
-use Rattle.std.specs.Prelude.{◌≡◌, ℕ, ◌+◌, ◌&&◌, List, [], length, Bool, true, not, nat_le, nat_lt, if◌then◌else◌}
+use Rattle.std.specs.Prelude.{ℕ, ◌+◌, ◌&&◌, List, [], length, Bool, true, not, nat_le, nat_lt, if◌then◌else◌}
 use Rattle.std.specs.Prelude.{Option, Some, None, is_some, unwrap_or, Result, Ok, Err, ⊤}
 use Rattle.std.specs.Bool.{⊤}
 use Rattle.std.specs.List.{list_all, find}
@@ -116,10 +116,6 @@ checks_by version d =
 -- the checks on the object's fields, which take no memory
 unfoldable pub field_check : Data → Result ⊤ Refusal
 field_check d = wanted (is_some (as_object d)) NotObject (checks_by (version_in d) d)
-
--- an object whose fields passed the checks
-abbrev pub IsChecked : Data → Type 0
-IsChecked d = field_check d ≡ Ok tt
 
 -- what fields of a version say of how targets fail
 abbrev pub failing_by : Version → (Field → Datum) → Failing

@@ -45,13 +45,6 @@ truth_of (many xs) = false
 truth_of (word bytes) = false
 truth_of (truth b) = b
 
--- the kind of what a field says
-abbrev pub kind_in : Datum → Kind
-kind_in (one n) = Number
-kind_in (many xs) = Numbers
-kind_in (word bytes) = Text
-kind_in (truth b) = Truth
-
 -- a number, as JSON
 abbrev pub number_data : ℕ → Data
 number_data n = number (unsigned n)

@@ -122,7 +122,3 @@ number_at d field = number_or_zero (member_at d field)
 -- the numbers in a field
 abbrev pub numbers_at : Data → Field → List ℕ
 numbers_at d field = map number_or_zero (elements (member_at d field))
-
--- the text in a field
-abbrev pub text_at : Data → Field → List ℕ
-text_at d field = unwrap_or (as_str (member_at d field)) []

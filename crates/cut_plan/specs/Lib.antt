@@ -4,12 +4,10 @@ pub mod Values
 pub mod Cells
 pub mod Targets
 pub mod Plan
-pub mod Inside
 pub mod Fields
 pub mod Datum
 pub mod Accepted
 pub mod Canonical
-pub mod Look
 pub mod Refusals
-pub mod Triples
 pub mod Combinations
+pub mod inside

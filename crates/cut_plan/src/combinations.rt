@@ -1,7 +1,7 @@
 //! The combinations of a plan's lists.
 ghost use Rattle.std.specs.Prelude.{◌≡◌, ◌≤◌, ◌++◌, length, OnOk, IfOk};
 ghost use Rattle.cut_plan.specs.Cells.{cells_at, cells_under_h, cells_under_k, cells_of_lists};
-ghost use Rattle.cut_plan.specs.Triples.{lows_under, pairs_under, triples};
+ghost use Rattle.cut_plan.specs.inside.Triples.{lows_under, pairs_under, triples};
 
 use crate::Cell;
 use std::alloc::{AllocError, Global};
@@ -22,7 +22,7 @@ pub(crate) fn count_triples(k: &[u8], h: &[u8], l: &[u8]) -> u32
 }
 
 /// How many pairs of h and l there are under one k.
-#[tactic(auto, unfolding(crate::specs::Triples::pairs_under))]
+#[tactic(auto, unfolding(crate::specs::inside::Triples::pairs_under))]
 fn count_pairs(k: u8, h: &[u8], l: &[u8]) -> u32
     requires few_h { length h.now ≤ 32 }
     requires few_l { length l.now ≤ 32 }

@@ -2,8 +2,10 @@
 ghost use Rattle.std.specs.Prelude.{◌≡◌, ◌&&◌, not, true, nat_lt, unwrap_or, Ok};
 ghost use Rattle.std.specs.List.{list_all, find};
 ghost use Rattle.serde_json.specs.View.{view};
-ghost use Rattle.cut_plan.specs.Fields.{fields_of, number_or_zero, text_at};
-ghost use Rattle.cut_plan.specs.Accepted.{IsChecked, datum_at, is_present, is_of_kind, is_within, has_some};
+ghost use Rattle.cut_plan.specs.Fields.{fields_of, number_or_zero};
+ghost use Rattle.cut_plan.specs.inside.Fields.{text_at};
+ghost use Rattle.cut_plan.specs.Accepted.{datum_at, is_present, is_of_kind, is_within, has_some};
+ghost use Rattle.cut_plan.specs.inside.Accepted.{IsChecked};
 ghost use Rattle.cut_plan.specs.Accepted.{is_in_scale, is_in_range, rises_at, version_in, failing_by, checks_by};
 ghost use Rattle.cut_plan.specs.Accepted.{field_check};
 ghost use Rattle.cut_plan.specs.Words.{dead_of, faults_of};
@@ -12,7 +14,7 @@ ghost use Rattle.cut_plan.specs.declared.field.Field.TheVariants as field;
 ghost use Rattle.cut_plan.specs.declared.dead.Dead.TheVariants.{Silent};
 ghost use Rattle.cut_plan.specs.declared.faults.Faults.TheVariants.{Crash};
 ghost use Rattle.cut_plan.specs.Plan.{is_rising};
-ghost use Rattle.cut_plan.specs.Look.{item_numbers};
+ghost use Rattle.cut_plan.specs.inside.Look.{item_numbers};
 
 use crate::field::fields_of;
 use crate::json_object::{

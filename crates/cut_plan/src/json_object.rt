@@ -4,10 +4,11 @@ ghost use Rattle.serde_json.specs.Find.{as_bool};
 ghost use Rattle.std.specs.List.{list_all};
 ghost use Rattle.std.specs.BTreeMap.{keys as keys_of};
 ghost use Rattle.serde_json.specs.View.{view};
-ghost use Rattle.cut_plan.specs.Fields.{whole_number, elements, is_of, number_or_zero, number_at, numbers_at, text_at};
+ghost use Rattle.cut_plan.specs.Fields.{whole_number, elements, is_of, number_or_zero, number_at, numbers_at};
+ghost use Rattle.cut_plan.specs.inside.Fields.{text_at};
 ghost use Rattle.cut_plan.specs.Fields.{member_at, keys, is_named};
 ghost use Rattle.cut_plan.specs.Accepted.{is_present, is_of_kind, version_in};
-ghost use Rattle.cut_plan.specs.Look.{item_numbers};
+ghost use Rattle.cut_plan.specs.inside.Look.{item_numbers};
 
 use crate::field::fields_of;
 use crate::kind::Kind;

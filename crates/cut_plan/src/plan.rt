@@ -2,7 +2,8 @@ ghost use Rattle.std.specs.Prelude.{◌≡◌, ◌<◌, ◌≤◌, ◌/◌, ◌�
 ghost use Rattle.std.specs.Prelude.{IsTrue, Ok, false};
 ghost use Rattle.std.specs.Str.{is_utf8};
 ghost use Rattle.serde_json.specs.View.{view};
-ghost use Rattle.cut_plan.specs.Accepted.{IsChecked, limit_check, plan_of, values_in};
+ghost use Rattle.cut_plan.specs.Accepted.{limit_check, plan_of, values_in};
+ghost use Rattle.cut_plan.specs.inside.Accepted.{IsChecked};
 ghost use Rattle.cut_plan.specs.Canonical.{canonical_text, data_of, field_data};
 ghost use Rattle.cut_plan.specs.Refusals.{IsFaultOfText};
 ghost use Rattle.cut_plan.specs.declared.refusal.PlanFault.TheVariants.{Refused};
@@ -49,7 +50,7 @@ impl Model for Plan {
 
     ghost Value = { Values };
 
-    ghost use Rattle.cut_plan.specs.Inside.{values_of, IsPlanInside};
+    ghost use Rattle.cut_plan.specs.inside.Inside.{values_of, IsPlanInside};
 
     ghost view = { values_of };
 

@@ -3,9 +3,10 @@ ghost use Rattle.std.specs.Prelude.{◌≡◌, ◌<◌, ◌^◌, length, IfOk, O
 ghost use Rattle.serde_json.specs.View.{view};
 ghost use Rattle.cut_plan.specs.declared.field.Field.TheVariants as field;
 ghost use Rattle.cut_plan.specs.Fields.{number_at};
-ghost use Rattle.cut_plan.specs.Accepted.{IsChecked, limit_check, limits, values_in};
+ghost use Rattle.cut_plan.specs.Accepted.{limit_check, limits, values_in};
+ghost use Rattle.cut_plan.specs.inside.Accepted.{IsChecked};
 ghost use Rattle.cut_plan.specs.Cells.{cells_of_lists};
-ghost use Rattle.cut_plan.specs.Look.{item_numbers, AreBelow, AreListsOf, AreShort};
+ghost use Rattle.cut_plan.specs.inside.Look.{item_numbers, AreBelow, AreListsOf, AreShort};
 
 use crate::combinations::count_triples;
 use crate::json_object::{items_at, number_at, number_in};

@@ -21,7 +21,7 @@ use Rattle.cut_rings.specs.Edges.{rings_to, edge_to}
 use Rattle.cut_nodes.specs.Slots.{key_in, key_of}
 use Rattle.cut_receivers.specs.declared.trial.Trial.{Trial}
 use Rattle.cut_receivers.specs.Heard.{hearing_of}
-use Rattle.cut_receivers.specs.Times.{IsNodeOf}
+use Rattle.cut_receivers.specs.inside.Times.{IsNodeOf}
 
 pub map_agree : {X Y : Type 0} (f g : X → Y) (xs : List X) → All (λ x. f x ≡ g x) xs → map f xs ≡ map g xs
 map_agree f g [] all = refl

@@ -23,7 +23,7 @@ use Rattle.cut_rings.specs.Edges.{rings_to, edge_to}
 use Rattle.cut_nodes.specs.Slots.{key_of}
 use Rattle.cut_receivers.specs.declared.trial.Trial.{Trial}
 use Rattle.cut_receivers.specs.Heard.{hearing_of}
-use Rattle.cut_receivers.specs.Times.{IsNodeOf, image_if, time_if, time_of_cause}
+use Rattle.cut_receivers.specs.inside.Times.{IsNodeOf, image_if, time_if, time_of_cause}
 use Rattle.cut_receivers.proofs.Bounds.{map_agree, full_within, hears}
 
 -- what is known of images and full times

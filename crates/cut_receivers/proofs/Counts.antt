@@ -20,7 +20,7 @@ use Rattle.cut_blocks.specs.Images.{ImagesAreBelowNever}
 use Rattle.cut_arrivals.specs.Hearing.{Hearing, deliveries_of, image_of}
 use Rattle.cut_nodes.specs.declared.slots.Slot.{Slot}
 use Rattle.cut_nodes.specs.Slots.{AreSlots, key_in, key_of}
-use Rattle.cut_receivers.specs.Places.{image_in}
+use Rattle.cut_receivers.specs.inside.Places.{image_in}
 use Rattle.cut_receivers.proofs.Bounds.{map_agree}
 use Rattle.cut_receivers.proofs.Drawn.{image_drawn}
 

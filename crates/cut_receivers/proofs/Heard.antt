@@ -21,7 +21,7 @@ use Rattle.cut_rings.specs.Edges.{rings_to, edge_to}
 use Rattle.cut_nodes.specs.Slots.{key_in, key_of}
 use Rattle.cut_receivers.specs.declared.trial.Trial.{Trial}
 use Rattle.cut_receivers.specs.Heard.{hearing_of}
-use Rattle.cut_receivers.specs.Times.{IsNodeOf, image_of_key}
+use Rattle.cut_receivers.specs.inside.Times.{IsNodeOf, image_of_key}
 use Rattle.cut_receivers.proofs.Bounds.{map_agree, image_within, hears}
 
 -- the values that are gathered in the lane of receiver j

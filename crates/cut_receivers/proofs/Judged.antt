@@ -21,7 +21,8 @@ use Rattle.cut_arrivals.specs.Hearing.{Hearing, lows_at, highs_at}
 use Rattle.cut_receivers.specs.declared.receivers.Receivers as declared
 use Rattle.cut_receivers.specs.declared.finding.Finding.{Finding}
 use Rattle.cut_receivers.specs.Heard.{HasHeard}
-use Rattle.cut_receivers.specs.Findings.{flagged, has_bit, is_other, members_at, Finds}
+use Rattle.cut_receivers.specs.Findings.{flagged, has_bit, members_at, Finds}
+use Rattle.cut_receivers.specs.inside.Findings.{is_other}
 use Rattle.cut_receivers.proofs.Flags.{flagged_same, flags_same}
 
 -- ---- bits

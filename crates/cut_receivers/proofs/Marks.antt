@@ -4,7 +4,7 @@ use Rattle.std.proofs.Common.{slice_index_or, refl, ap, sym, arith}
 use Rattle.std.specs.List.{list_any, range_with_len}
 use Rattle.std.proofs.lemmas.List.Folds.{list_any-append}
 use Rattle.cut_lists.proofs.Ranges.{range_with_len_more}
-use Rattle.cut_receivers.specs.Findings.{is_other}
+use Rattle.cut_receivers.specs.inside.Findings.{is_other}
 
 other_more : (time : ℕ) (highs : List ℕ) (flags : List Bool) (n : ℕ) (flag : Bool) → slice_index_or flags n false ≡ flag
     → is_other time highs flags (n + 1)

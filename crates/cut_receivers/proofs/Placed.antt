@@ -17,7 +17,7 @@ use Rattle.cut_nodes.specs.Nodes.{subjects_of}
 use Rattle.cut_receivers.specs.declared.trial.Trial.{Trial}
 use Rattle.cut_receivers.specs.declared.images.Images.{Images}
 use Rattle.cut_receivers.specs.Heard.{hearing_of}
-use Rattle.cut_receivers.specs.Times.{IsNodeOf, AreLows, AreHighsTo, hearing_in, subjects_in}
+use Rattle.cut_receivers.specs.inside.Times.{IsNodeOf, AreLows, AreHighsTo, hearing_in, subjects_in}
 use Rattle.cut_receivers.proofs.Bounds.{hears}
 use Rattle.cut_receivers.proofs.Choices.{value_lane, length_lane}
 

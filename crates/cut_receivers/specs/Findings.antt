@@ -1,6 +1,6 @@
 -- What lanes are found to propose.
-use Rattle.std.specs.Prelude.{◌≡◌, ◌≢◌, ℕ, ◌/◌, ◌%◌, ◌^◌, ◌==◌, Bool, true, false, cond, not, nat_lt, if◌then◌else◌}
-use Rattle.std.specs.Prelude.{List, [], ◌∷◌, slice_index, slice_index_or, Option, Some, None, option_map, ⊤}
+use Rattle.std.specs.Prelude.{◌≡◌, ◌≢◌, ℕ, ◌/◌, ◌%◌, ◌^◌, ◌==◌, Bool, true, false, cond, if◌then◌else◌}
+use Rattle.std.specs.Prelude.{List, [], ◌∷◌, Option, Some, None, option_map, ⊤}
 use Rattle.std.specs.List.{range_with_len, list_any}
 use Rattle.cut_arrivals.specs.Hearing.{Hearing, proposal_at}
 use Rattle.cut_detector.specs.declared.proposal.Proposal.{Proposal}
@@ -44,10 +44,3 @@ Finds wanted proposed Finding.Doubtful = ⊤
 Finds wanted proposed Finding.Silent = proposed ≡ None
 Finds wanted proposed Finding.Wanted = proposed ≡ Some wanted
 Finds wanted proposed Finding.Other = (members : List ℕ) × (proposed ≡ Some members) × (members ≢ wanted)
-
--- whether some node has ended by a time and has no flag, or has a flag and has not ended
-abbrev pub is_other : ℕ → List ℕ → List Bool → ℕ → Bool
-is_other time highs flags n =
-    list_any (λ u. cond (slice_index_or flags u false) (nat_lt time (slice_index highs u)) (not (nat_lt time
-    (slice_index highs u))))
-    (range_with_len 0 n)

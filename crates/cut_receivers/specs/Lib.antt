@@ -1,4 +1,4 @@
 pub mod Heard
-pub mod Times
 pub mod Findings
 pub mod Places
+pub mod inside

@@ -2,7 +2,7 @@
 ghost use Rattle.std.specs.Prelude.{◌≡◌, ℕ, ◌<◌, ◌≤◌, All, map, length, slice_index, vec_capacity};
 ghost use Rattle.cut_lanes.specs.Lanes.{lane};
 ghost use Rattle.cut_nodes.specs.Slots.{key_in};
-ghost use Rattle.cut_receivers.specs.Times.{hearing_in, image_of_key};
+ghost use Rattle.cut_receivers.specs.inside.Times.{hearing_in, image_of_key};
 
 use crate::images::Images;
 use cut_nodes::Slot;

@@ -3,7 +3,7 @@ ghost use Rattle.std.specs.Prelude.{◌≡◌, ℕ, ◌<◌, ◌/◌, ◌%◌, �
 ghost use Rattle.std.specs.Prelude.{map, length, slice_index, All};
 ghost use Rattle.cut_blocks.specs.Images.{never, row_of};
 ghost use Rattle.cut_lanes.specs.Lanes.{lane};
-ghost use Rattle.cut_receivers.specs.Findings.{is_other};
+ghost use Rattle.cut_receivers.specs.inside.Findings.{is_other};
 
 use cut_blocks::NEVER;
 use std::simd::prelude::*;

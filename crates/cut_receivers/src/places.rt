@@ -5,7 +5,8 @@ ghost use Rattle.cut_arrivals.specs.Hearing.{Hearing, proposal_at};
 ghost use Rattle.cut_nodes.specs.Slots.{AreSlots};
 ghost use Rattle.cut_receivers.specs.Heard.{hearing_of, HasHeard};
 ghost use Rattle.cut_receivers.specs.Findings.{has_bit};
-ghost use Rattle.cut_receivers.specs.Places.{image_in, HasCountedPlaces};
+ghost use Rattle.cut_receivers.specs.Places.{HasCountedPlaces};
+ghost use Rattle.cut_receivers.specs.inside.Places.{image_in};
 
 use crate::finding::has_bit;
 use crate::lanes::{bits_of, counted, next_of, not_next, rows_of};

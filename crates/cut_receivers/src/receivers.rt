@@ -1,7 +1,7 @@
 ghost use Rattle.std.specs.Prelude.{◌≡◌, ℕ, ◌<◌, ◌≤◌, [], length, slice_index, All, OnOk, vec_capacity};
 ghost use Rattle.cut_nodes.specs.Nodes.{subjects_of};
 ghost use Rattle.cut_receivers.specs.Heard.{hearing_of, HasHeard};
-ghost use Rattle.cut_receivers.specs.Times.{AreLows, AreHighs, AreHighsTo};
+ghost use Rattle.cut_receivers.specs.inside.Times.{AreLows, AreHighs, AreHighsTo};
 
 use crate::Trial;
 use crate::images::Images;

@@ -5,8 +5,8 @@ ghost use Rattle.cut_ranks.specs.Ranks.{IsRank};
 ghost use Rattle.cut_lanes.specs.Lanes.{lane};
 ghost use Rattle.cut_arrivals.specs.Hearing.{lows_at};
 ghost use Rattle.cut_nodes.specs.Nodes.{AreNodesWithin, cause_in};
-ghost use Rattle.cut_receivers.specs.Times.{hearing_in, subjects_in, IsNodeOf, AreLows, AreLowsAnd, IsHigh};
-ghost use Rattle.cut_receivers.specs.Times.{time_of_cause};
+ghost use Rattle.cut_receivers.specs.inside.Times.{hearing_in, subjects_in, IsNodeOf, AreLows, AreLowsAnd, IsHigh};
+ghost use Rattle.cut_receivers.specs.inside.Times.{time_of_cause};
 
 use crate::images::Images;
 use crate::lanes::earlier;

@@ -12,8 +12,8 @@ use Rattle.std.proofs.lemmas.List.Sums.{position_or_len_is}
 use Rattle.cut_rings.specs.declared.ring.Ring.{Ring}
 use Rattle.cut_rings.specs.declared.rings.Rings.TheInside.{Inside}
 use Rattle.cut_rings.specs.Layout.{Layout, IsLayout, positions_on, position_of, Observes, observer_of, subject_of}
-use Rattle.cut_rings.specs.Inverse.{IsInverse}
-use Rattle.cut_rings.specs.Inside.{layout_of, AreRings}
+use Rattle.cut_rings.specs.inside.Inverse.{IsInverse}
+use Rattle.cut_rings.specs.inside.Inside.{layout_of, AreRings}
 
 -- the first place at which a test passes that it alone passes
 found_at : (test : ℕ → Bool) (xs : List ℕ) (i : ℕ) → i < length xs → test (get_or xs i 0) ≡ true

@@ -14,8 +14,8 @@ use Rattle.std.proofs.lemmas.List.{get_or_default}
 use Rattle.std.proofs.lemmas.List.FromFn.{length-range_with_len, get_or-range_with_len, fill_by_all}
 use Rattle.cut_lists.specs.Ranked.{IsOrder, IsRanked}
 use Rattle.cut_lists.proofs.Orders.{length-order, order_is_below, order_differs, order_has, Differ, moved}
-use Rattle.cut_rings.specs.Listed.{is_order}
-use Rattle.cut_rings.specs.Inverse.{IsInverse}
+use Rattle.cut_rings.specs.inside.Listed.{is_order}
+use Rattle.cut_rings.specs.inside.Inverse.{IsInverse}
 
 -- where a process stands, by a table in which each place is right
 place_of : (n : ℕ) (order positions : List ℕ) → IsOrder n order

@@ -5,8 +5,8 @@ use Rattle.std.proofs.lemmas.List.{length-map, get_or-map, map-append}
 use Rattle.cut_rings.specs.declared.ring.Ring.{Ring}
 use Rattle.cut_rings.specs.declared.rings.Rings.TheInside.{Inside}
 use Rattle.cut_rings.specs.Layout.{positions_on}
-use Rattle.cut_rings.specs.Inverse.{IsInverse}
-use Rattle.cut_rings.specs.Inside.{layout_of, AreRings}
+use Rattle.cut_rings.specs.inside.Inverse.{IsInverse}
+use Rattle.cut_rings.specs.inside.Inside.{layout_of, AreRings}
 
 -- every ring's table is the inverse of its order
 abbrev pub AreInverse : Inside → Type 0

@@ -4,7 +4,7 @@ ghost use Rattle.cut_plan.specs.Cells.{largest};
 ghost use Rattle.cut_plan.specs.Plan.{IsPlan};
 ghost use Rattle.cut_rings.specs.Hashed.{compare_hashed, digest_of, hashed_position};
 ghost use Rattle.cut_lists.specs.Ranked.{IsRanked};
-ghost use Rattle.cut_rings.specs.Inverse.{IsInverse};
+ghost use Rattle.cut_rings.specs.inside.Inverse.{IsInverse};
 
 use crate::ring::Ring;
 use cut_plan::Plan;

@@ -1,8 +1,9 @@
 ghost use Rattle.std.specs.Prelude.{◌≡◌, ◌≤◌, map, All, IfOk};
 ghost use Rattle.std.specs.List.{list_all, range_with_len};
 ghost use Rattle.cut_lists.specs.Ranked.{IsOrder};
-ghost use Rattle.cut_rings.specs.Inverse.{IsInverse};
-ghost use Rattle.cut_rings.specs.Listed.{is_order, has_all, listed_position};
+ghost use Rattle.cut_rings.specs.inside.Inverse.{IsInverse};
+ghost use Rattle.cut_rings.specs.Listed.{listed_position};
+ghost use Rattle.cut_rings.specs.inside.Listed.{is_order, has_all};
 
 use crate::ring::Ring;
 use std::alloc::{AllocError, Global};

@@ -1,6 +1,6 @@
 ghost use Rattle.std.specs.Prelude.{◌≡◌, ◌≤◌, IfOk};
 ghost use Rattle.cut_lists.specs.Ranked.{IsOrder};
-ghost use Rattle.cut_rings.specs.Inverse.{IsInverse};
+ghost use Rattle.cut_rings.specs.inside.Inverse.{IsInverse};
 
 use std::alloc::{AllocError, Global};
 

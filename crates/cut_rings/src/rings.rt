@@ -26,7 +26,7 @@ impl Model for Rings {
 
     ghost Value = { Layout };
 
-    ghost use Rattle.cut_rings.specs.Inside.{layout_of, AreRings};
+    ghost use Rattle.cut_rings.specs.inside.Inside.{layout_of, AreRings};
 
     ghost view = { layout_of };
 

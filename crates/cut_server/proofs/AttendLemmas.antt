@@ -4,7 +4,8 @@ use Rattle.std.specs.Prelude.{IfErr}
 use Rattle.cut_commands.specs.declared.fault.CliFault.{CliFault}
 use Rattle.cut_commands.specs.declared.fault.CliFault.TheVariants.{WorkMemory}
 use Rattle.cut_faults.specs.Failures.{one_more}
-use Rattle.cut_server.specs.Serve.{Calls, IsOfThreads, Listens, more_given}
+use Rattle.cut_server.specs.Serve.{Calls, Listens, more_given}
+use Rattle.cut_server.specs.inside.Serve.{IsOfThreads}
 
 -- where memory ran out no call of a listener failed; else it gave all
 pub unheard : {T U : Type 0} (n : ℕ) (x : T) (r : Result U CliFault) (old new : Calls)

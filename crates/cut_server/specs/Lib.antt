@@ -1,2 +1,2 @@
 pub mod Serve
-pub mod Shelf
+pub mod inside

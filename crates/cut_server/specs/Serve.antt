@@ -8,30 +8,12 @@ use Rattle.cut_hall.specs.Report.{SlotEnd, IsEndOf, accepted_recorded}
 use Rattle.cut_commands.specs.declared.fault.CliFault.{CliFault}
 use Rattle.cut_commands.specs.declared.fault.CliFault.TheVariants.{Socket, Write, Folder, WorkMemory, AuditMismatch}
 
--- why the threads of a server did not come to their end: a connection did not come, or memory or a thread was
--- refused
-abbrev pub IsOfThreads : CliFault → Type 0
-IsOfThreads Socket = ⊤
-IsOfThreads WorkMemory = ⊤
-IsOfThreads fault = ⊥
-
--- why a hall with all its passes was not closed
-abbrev pub IsOfClosing : CliFault → Type 0
-IsOfClosing WorkMemory = ⊤
-IsOfClosing AuditMismatch = ⊤
-IsOfClosing fault = ⊥
-
 -- why there is no report
 abbrev pub IsOfServing : CliFault → Type 0
 IsOfServing Socket = ⊤
 IsOfServing WorkMemory = ⊤
 IsOfServing AuditMismatch = ⊤
 IsOfServing fault = ⊥
-
--- why a report was not written whole
-abbrev pub IsOfWriting : CliFault → Type 0
-IsOfWriting (Write fault) = ⊤
-IsOfWriting fault = ⊥
 
 -- ---- a listener
 

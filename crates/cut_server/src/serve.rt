@@ -1,7 +1,8 @@
 //! A server of studies: workers and sessions in threads of one hall.
 ghost use Rattle.std.specs.Prelude.{◌≡◌, ◌≤◌, ◌+◌, length, All, IfOk, IfErr};
 ghost use Rattle.cut_server.specs.Serve.{Listens, WritesReport, accepted_in_all};
-ghost use Rattle.cut_server.specs.Serve.{IsOfClosing, IsOfServing, IsOfWriting};
+ghost use Rattle.cut_server.specs.Serve.{IsOfServing};
+ghost use Rattle.cut_server.specs.inside.Serve.{IsOfClosing, IsOfWriting};
 ghost use Rattle.cut_hall.specs.Report.{IsEndOf};
 
 use crate::Capacity;

@@ -1,7 +1,7 @@
 ghost use Rattle.std.specs.Prelude.{◌≡◌, true, not, is_some, [], string_bytes, IfOk};
 ghost use Rattle.cut_disks.specs.State.{fresh};
 ghost use Rattle.cut_journal.specs.Trust.{IsTrueStore};
-ghost use Rattle.cut_server.specs.Shelf.{file_path};
+ghost use Rattle.cut_server.specs.inside.Shelf.{file_path};
 
 use cut_book::{Shelf, ShelfFault};
 use cut_disks::FileDisk;

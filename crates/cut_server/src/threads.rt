@@ -1,7 +1,8 @@
 //! The threads of a server: each worker and each session has one, and a pass of the hall.
 ghost use Rattle.std.specs.Prelude.{◌≡◌, ◌≤◌, ◌+◌, ◌-◌, Bool, true, length, All, IfOk, IfErr};
 ghost use Rattle.atomic_table.specs.Seated.{TableId};
-ghost use Rattle.cut_server.specs.Serve.{Calls, IsOfThreads, Listens, called};
+ghost use Rattle.cut_server.specs.Serve.{Calls, Listens, called};
+ghost use Rattle.cut_server.specs.inside.Serve.{IsOfThreads};
 
 use cut_book::Shelf;
 use cut_commands::CliFault;

@@ -23,7 +23,7 @@ use Rattle.cut_messages.specs.Reading.{Reading, HasReadFrames, end_of}
 use Rattle.cut_session.specs.Answering.{Rises, error_frame}
 use Rattle.cut_session.specs.Session.{request_limit, Course, IsCourse, IsDue, passed, with_end, ended, read_by}
 use Rattle.cut_session.specs.Session.{EndsSessionAs, EndsSession}
-use Rattle.cut_session.specs.Serving.{LeavesSending, IsServing, ConcludesTable, conveyed, served, longest_reply}
+use Rattle.cut_session.specs.inside.Serving.{LeavesSending, IsServing, ConcludesTable, conveyed, served, longest_reply}
 
 -- ---- the wire of a session
 

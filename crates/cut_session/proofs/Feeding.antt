@@ -21,8 +21,8 @@ use Rattle.cut_session.specs.declared.session_end.SessionFault.TheVariants as se
 use Rattle.cut_session.specs.Answering.{AnswersAll}
 use Rattle.cut_session.specs.Session.{request_limit, Course, IsCourse, LastReply, QuitsAtOnce, IsDue, passed, read_by}
 use Rattle.cut_session.specs.Session.{CutsReply, EndsSessionAs}
-use Rattle.cut_session.specs.Serving.{Replies, ServesFirst, LeavesSending, ConcludesTable, IsServing, served}
-use Rattle.cut_session.specs.Serving.{longest_reply}
+use Rattle.cut_session.specs.inside.Serving.{Replies, ServesFirst, LeavesSending, ConcludesTable, IsServing, served}
+use Rattle.cut_session.specs.inside.Serving.{longest_reply}
 use Rattle.cut_session.proofs.Courses.{Stands, leaves, served_more}
 use Rattle.cut_session.proofs.Turns.{all_then}
 

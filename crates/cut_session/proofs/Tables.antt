@@ -25,8 +25,8 @@ use Rattle.cut_hall.specs.Trust.{MayBegin}
 use Rattle.cut_messages.specs.declared.kind.Kind.TheVariants as kind
 use Rattle.cut_messages.specs.Frames.{frame}
 use Rattle.cut_session.specs.Answering.{error_frame, end_frame, rows_to, IsSubmissionAnswered, AnswersText}
-use Rattle.cut_session.specs.Rows.{IsKept, lines_of, EndsTable}
-use Rattle.cut_session.specs.Serving.{Replies, longest_reply}
+use Rattle.cut_session.specs.inside.Rows.{IsKept, lines_of, EndsTable}
+use Rattle.cut_session.specs.inside.Serving.{Replies, longest_reply}
 
 -- what was sent of the frames of a study's lines, by a pass as it was at first and is now
 abbrev pub SendsFrames : Values → List Slip → GName → Holding → GName → Holding → Result ⊤ (RowsFault LineFault)

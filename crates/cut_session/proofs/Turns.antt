@@ -16,7 +16,7 @@ use Rattle.cut_messages.specs.declared.message.Message.{Message}
 use Rattle.cut_hall.specs.Hall.{HallValue}
 use Rattle.cut_session.specs.Answering.{Rises, AnswersKind, IsAnswered, AnswersAll}
 use Rattle.cut_session.specs.declared.answer.Continuation.TheVariants.{On, Over}
-use Rattle.cut_session.specs.Serving.{Replies, Serves, ServesAll, longest_reply}
+use Rattle.cut_session.specs.inside.Serving.{Replies, Serves, ServesAll, longest_reply}
 use Rattle.cut_messages.proofs.Answered.{take_next}
 
 pub rises_none : (v : View) → Rises v v

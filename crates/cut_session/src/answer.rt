@@ -2,7 +2,7 @@ ghost use Rattle.std.specs.Prelude.{true, ◌≡◌, slice_index};
 ghost use Rattle.std.specs.Int.{w32, from_be_bytes};
 ghost use Rattle.cut_wires.specs.Sending.{sending};
 ghost use Rattle.cut_session.specs.Answering.{AnswersCount, AnswersText, Rises};
-ghost use Rattle.cut_session.specs.Serving.{Replies, Serves, ServesAll, longest_reply};
+ghost use Rattle.cut_session.specs.inside.Serving.{Replies, Serves, ServesAll, longest_reply};
 
 use crate::fault_reply::send_fault;
 use crate::rows::{OpenedRows, send_table};

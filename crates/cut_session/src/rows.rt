@@ -4,8 +4,8 @@ ghost use Rattle.cut_hall.specs.Lines.{full_line};
 ghost use Rattle.cut_hall.specs.Trust.{MayBegin};
 ghost use Rattle.cut_wires.specs.Sending.{sending};
 ghost use Rattle.cut_session.specs.Answering.{IsSubmissionAnswered};
-ghost use Rattle.cut_session.specs.Rows.{EndsTable};
-ghost use Rattle.cut_session.specs.Serving.{Replies, longest_reply};
+ghost use Rattle.cut_session.specs.inside.Rows.{EndsTable};
+ghost use Rattle.cut_session.specs.inside.Serving.{Replies, longest_reply};
 
 use crate::fault_reply::send_fault;
 use cut_book::Opened;
@@ -64,7 +64,7 @@ where
     R: Wait,
 {
     ghost use Rattle.std.proofs.Common.{arith};
-    ghost use Rattle.cut_session.specs.Rows.{IsKept, is_kept, lines_of};
+    ghost use Rattle.cut_session.specs.inside.Rows.{IsKept, is_kept, lines_of};
 
     type Fault = LineFault;
 

@@ -2,7 +2,7 @@ ghost use Rattle.std.specs.Prelude.{true, ◌≡◌, ◌<◌, ◌≤◌, length,
 ghost use Rattle.cut_board.specs.declared.view.View.{View};
 ghost use Rattle.cut_wires.specs.Sending.{Sending, sending};
 ghost use Rattle.cut_session.specs.Session.{EndsSession};
-ghost use Rattle.cut_session.specs.Serving.{IsServing, Goes, LeavesSending, ConcludesTable};
+ghost use Rattle.cut_session.specs.inside.Serving.{IsServing, Goes, LeavesSending, ConcludesTable};
 
 use crate::answer::{Continuation, Session};
 use crate::fault_reply::send_fault;

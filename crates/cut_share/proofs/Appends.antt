@@ -20,9 +20,10 @@ use Rattle.cut_journal.proofs.Moments.{stays, weaker, and_then}
 use Rattle.cut_share.specs.declared.fault.ShareFault.{ShareFault}
 use Rattle.cut_share.specs.declared.fault.ShareFault.TheVariants.{Memory, OtherPlan, BadSlip, WorkMemory, Broken, Disk}
 use Rattle.cut_share.specs.declared.task.Task.{Task}
-use Rattle.cut_share.specs.Tasks.{IsRun, done_of, has_result, pieces_of}
+use Rattle.cut_share.specs.inside.Tasks.{IsRun, done_of, has_result, pieces_of}
 use Rattle.cut_share.specs.Appending.{Adds, AppendsEach, NoneFailed, OneFailed}
-use Rattle.cut_share.specs.Running.{EndsAppends, fault_of, running_faults, slip_at, slips_at}
+use Rattle.cut_share.specs.Running.{running_faults}
+use Rattle.cut_share.specs.inside.Running.{EndsAppends, fault_of, slip_at, slips_at}
 
 none_of : (o : Option Slip) → (IsSome o → ⊥) → o ≡ None
 none_of None never = refl

@@ -21,10 +21,10 @@ use Rattle.cut_share.specs.declared.fault.ShareFault.TheVariants.{Memory, OtherP
 use Rattle.cut_share.specs.declared.share.Share.{Share}
 use Rattle.cut_share.specs.declared.task.Task.{Task}
 use Rattle.cut_share.specs.Appending.{Adds, NoneFailed}
-use Rattle.cut_share.specs.Batches.{EndsPieces, IsUpTo, IsWhole}
-use Rattle.cut_share.specs.Pieces.{IsSharePiece, own_times}
-use Rattle.cut_share.specs.Running.{EndsAppends, slip_at, slips_at}
-use Rattle.cut_share.specs.Tasks.{done_of, has_result, lost_of, pieces_of}
+use Rattle.cut_share.specs.inside.Batches.{EndsPieces, IsUpTo, IsWhole}
+use Rattle.cut_share.specs.inside.Pieces.{IsSharePiece, own_times}
+use Rattle.cut_share.specs.inside.Running.{EndsAppends, slip_at, slips_at}
+use Rattle.cut_share.specs.inside.Tasks.{done_of, has_result, lost_of, pieces_of}
 use Rattle.cut_share.proofs.Appends.{added_more, added_doubtful, none_failed, none_before}
 use Rattle.cut_share.proofs.Dealing.{own_at, times_both, times_one}
 use Rattle.cut_share.proofs.PieceFacts.{piece_has_first}

@@ -14,8 +14,8 @@ use Rattle.cut_ledger.specs.Contents.{is_in}
 use Rattle.cut_ledger.specs.World.{times_in}
 use Rattle.cut_share.specs.declared.share.Share.{Share}
 use Rattle.cut_share.specs.declared.task.Task.{Task}
-use Rattle.cut_share.specs.Pieces.{IsSharePiece, own_times}
-use Rattle.cut_share.specs.Tasks.{pieces_of}
+use Rattle.cut_share.specs.inside.Pieces.{IsSharePiece, own_times}
+use Rattle.cut_share.specs.inside.Tasks.{pieces_of}
 
 -- how often a trial is in pieces, part by part
 pub times_both : (xs ys : List Piece) (t : ℕ) → times_in (xs ++ ys) t ≡ times_in xs t + times_in ys t

@@ -32,10 +32,11 @@ use Rattle.cut_share.specs.declared.fault.ShareFault.{ShareFault}
 use Rattle.cut_share.specs.declared.fault.ShareFault.TheVariants.{Memory, OtherPlan, BadSlip, WorkMemory, Broken, Disk}
 use Rattle.cut_share.specs.declared.share.Share.{Share}
 use Rattle.cut_share.specs.Appending.{Adds}
-use Rattle.cut_share.specs.Batches.{EndsPieces, IsUpTo}
-use Rattle.cut_share.specs.Opening.{IsFaultOfOpening}
-use Rattle.cut_share.specs.Pieces.{IsSharePiece, own_times}
-use Rattle.cut_share.specs.Running.{AreOfShare, CanRun, EndsShare, is_lacking, slip_at, slips_at}
+use Rattle.cut_share.specs.inside.Batches.{EndsPieces, IsUpTo}
+use Rattle.cut_share.specs.inside.Opening.{IsFaultOfOpening}
+use Rattle.cut_share.specs.inside.Pieces.{IsSharePiece, own_times}
+use Rattle.cut_share.specs.Running.{AreOfShare, CanRun, EndsShare, is_lacking}
+use Rattle.cut_share.specs.inside.Running.{slip_at, slips_at}
 use Rattle.cut_share.specs.Share.{IsShareSlip, has_block, is_in_share, trials_of_share}
 use Rattle.cut_share.specs.Blocks.{block_of}
 use Rattle.cut_share.proofs.Batches.{lost_time, times_first}

@@ -8,7 +8,7 @@ use Rattle.cut_outcome.specs.Outcome.{one_if}
 use Rattle.cut_ledger.specs.Contents.{is_in}
 use Rattle.cut_share.specs.declared.share.Share.{Share}
 use Rattle.cut_share.specs.Share.{is_in_share}
-use Rattle.cut_share.specs.Pieces.{own_times, trials_in_all}
+use Rattle.cut_share.specs.inside.Pieces.{own_times, trials_in_all}
 use Rattle.cut_share.proofs.PieceFacts.{not_in}
 
 pub own_first : (s : Share) (v : Values) (p : Piece) (ps : List Piece) (t : ℕ) → own_times s v (p ∷ ps) t

@@ -2,11 +2,7 @@ pub mod Bounds
 pub mod Blocks
 pub mod Share
 pub mod Laws
-pub mod Pieces
-pub mod PieceParts
 pub mod FaultCode
 pub mod Appending
 pub mod Running
-pub mod Tasks
-pub mod Batches
-pub mod Opening
+pub mod inside

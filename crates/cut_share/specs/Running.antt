@@ -1,24 +1,20 @@
 -- What a run of a share leaves in the journal, by how it ends.
-use Rattle.std.specs.Prelude.{◌≡◌, ◌≢◌, ◌≤◌, ◌++◌, ◌&&◌, ℕ, Bool, not, List, [], ◌∷◌, map, length, All, IsTrue}
+use Rattle.std.specs.Prelude.{◌≡◌, ◌≢◌, ◌≤◌, ◌++◌, ◌&&◌, ℕ, Bool, not, List, [], ◌∷◌, length, All, IsTrue}
 use Rattle.std.specs.Prelude.{IsSome, Result, Ok, Err}
 use Rattle.cut_faults.specs.Failures.{one_more}
 use Rattle.cut_plan.specs.Values.{Values}
-use Rattle.cut_outcome.specs.declared.piece.Piece.{Piece}
 use Rattle.cut_outcome.specs.Outcome.{one_if}
-use Rattle.cut_outcome.specs.Sum.{sum_of, trials_in}
-use Rattle.cut_disks.specs.State.{DiskState}
 use Rattle.cut_ledger.specs.declared.slip.Slip.{Slip}
 use Rattle.cut_ledger.specs.Contents.{is_in_base}
 use Rattle.cut_ledger.specs.Slips.{AreGood, IsFirstBad}
 use Rattle.cut_ledger.specs.World.{times_in, pieces_of_slips}
-use Rattle.cut_journal.specs.declared.fault.JournalFault.{JournalFault}
 use Rattle.cut_journal.specs.declared.fault.JournalFault.TheVariants as journal
 use Rattle.cut_journal.specs.Journal.{JournalValue}
 use Rattle.cut_share.specs.declared.fault.ShareFault.{ShareFault}
 use Rattle.cut_share.specs.declared.fault.ShareFault.TheVariants.{Memory, OtherPlan, BadSlip, WorkMemory, Broken, Disk}
 use Rattle.cut_share.specs.declared.share.Share.{Share}
 use Rattle.cut_share.specs.Share.{IsShareSlip, is_in_share, trials_of_share}
-use Rattle.cut_share.specs.Appending.{Adds, NoneFailed, OneFailed}
+use Rattle.cut_share.specs.Appending.{NoneFailed, OneFailed}
 
 -- whether a trial is of the share, and in none of these slips
 abbrev pub is_lacking : Share → Values → List Slip → ℕ → Bool
@@ -66,32 +62,3 @@ EndsShare (Err Disk) s v ss added old new =
 abbrev pub running_faults : {T : Type 0} → Result T ShareFault → ℕ → ℕ
 running_faults (Err Disk) n = one_more n
 running_faults result n = n
-
--- ---- batches
-
--- what is kept of a piece that was run
-abbrev pub slip_at : Values → Piece → Slip
-slip_at v p = record { piece = p; totals = sum_of v (trials_in p) }
-
-abbrev pub slips_at : Values → List Piece → List Slip
-slips_at v ps = map (slip_at v) ps
-
--- the fault of an append, as a run of a share reports it; an append has no other faults than these
-abbrev pub fault_of : JournalFault → ShareFault
-fault_of journal.Disk = Disk
-fault_of journal.Broken = Broken
-fault_of fault = OtherPlan
-
--- how the appends of the results of pieces end: all are kept; or the journal is broken and takes none; or the disk
--- failed at one of them
-abbrev pub EndsAppends : {T D : Type 0} → (D → Type 0) → (D → DiskState) → Result T ShareFault → Values → List Piece
-    → JournalValue D → JournalValue D → Type 0
-EndsAppends is_honest state (Ok done) v ps old new =
-    Adds is_honest state (slips_at v ps) old new × NoneFailed (slips_at v ps) old new
-EndsAppends is_honest state (Err Broken) v ps old new =
-    (1 ≤ length ps) × IsSome old.doubtful × (new ≡ old)
-EndsAppends is_honest state (Err Disk) v ps old new =
-    (before : List Piece) × (p : Piece) × (after : List Piece)
-    × ((ps ≡ before ++ p ∷ after) × Adds is_honest state (slips_at v before) old new
-    × OneFailed (slip_at v p) old new)
-EndsAppends is_honest state (Err fault) v ps old new = ⊥

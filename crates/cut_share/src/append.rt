@@ -1,6 +1,7 @@
 ghost use Rattle.std.specs.Prelude.{◌≡◌, ◌↔◌, ◌∷◌, [], All};
-ghost use Rattle.cut_share.specs.Running.{EndsAppends, fault_of, running_faults};
-ghost use Rattle.cut_share.specs.Tasks.{IsRun, done_of};
+ghost use Rattle.cut_share.specs.Running.{running_faults};
+ghost use Rattle.cut_share.specs.inside.Running.{EndsAppends, fault_of};
+ghost use Rattle.cut_share.specs.inside.Tasks.{IsRun, done_of};
 
 use crate::ShareFault;
 use crate::task::Task;

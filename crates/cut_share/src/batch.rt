@@ -1,8 +1,9 @@
 ghost use Rattle.std.specs.Prelude.{◌≡◌, ◌↔◌, ◌≤◌, ◌∷◌, IfOk, length};
 ghost use Rattle.std.specs.List.{list_all};
-ghost use Rattle.cut_share.specs.Running.{EndsAppends, running_faults};
-ghost use Rattle.cut_share.specs.Batches.{EndsPieces};
-ghost use Rattle.cut_share.specs.Tasks.{done_of, has_result, pieces_of};
+ghost use Rattle.cut_share.specs.Running.{running_faults};
+ghost use Rattle.cut_share.specs.inside.Running.{EndsAppends};
+ghost use Rattle.cut_share.specs.inside.Batches.{EndsPieces};
+ghost use Rattle.cut_share.specs.inside.Tasks.{done_of, has_result, pieces_of};
 
 use crate::ShareFault;
 use crate::append::append_all;

@@ -1,7 +1,7 @@
 ghost use Rattle.std.specs.Prelude.{All, IsTrue};
 ghost use Rattle.cut_plan.specs.Plan.{IsPlan};
 ghost use Rattle.cut_outcome.specs.Sum.{is_piece};
-ghost use Rattle.cut_share.specs.PieceParts.{IsRest};
+ghost use Rattle.cut_share.specs.inside.PieceParts.{IsRest};
 
 use crate::Share;
 use cut_outcome::Piece;
@@ -23,7 +23,7 @@ impl<'a> SharePieces<'a> {
     ghost use Rattle.std.specs.Prelude.{◌≡◌, ℕ, ◌+◌, ◌<◌, ◌≤◌, [], ◌∷◌, true, IfSome, IfNone};
     ghost use Rattle.cut_outcome.specs.Outcome.{one_if};
     ghost use Rattle.cut_ledger.specs.Contents.{is_in};
-    ghost use Rattle.cut_share.specs.Pieces.{IsSharePiece, own_times, trials_in_all};
+    ghost use Rattle.cut_share.specs.inside.Pieces.{IsSharePiece, own_times, trials_in_all};
     ghost use Rattle.cut_share.specs.Share.{is_in_share};
 
     /// The pieces of a share in pieces of the plan.

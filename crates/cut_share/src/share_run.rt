@@ -3,7 +3,7 @@ ghost use Rattle.cut_outcome.specs.Sum.{is_piece};
 ghost use Rattle.cut_ledger.specs.Contents.{over_base};
 ghost use Rattle.cut_ledger.specs.Gaps.{gaps_of};
 ghost use Rattle.cut_ledger.specs.Slips.{AreGood};
-ghost use Rattle.cut_share.specs.Opening.{IsFaultOfOpening};
+ghost use Rattle.cut_share.specs.inside.Opening.{IsFaultOfOpening};
 
 use crate::batch::run_pieces;
 use crate::share_pieces::SharePieces;

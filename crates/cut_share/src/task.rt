@@ -1,8 +1,8 @@
 ghost use Rattle.std.specs.Prelude.{◌≡◌, ℕ, ◌+◌, ◌<◌, ◌≤◌, ◌∷◌, take, length, All, IfOk, vec_len};
 ghost use Rattle.std.specs.List.{list_all};
 ghost use Rattle.cut_ledger.specs.World.{times_in};
-ghost use Rattle.cut_share.specs.Pieces.{IsSharePiece, own_times, trials_in_all};
-ghost use Rattle.cut_share.specs.Tasks.{has_result, pieces_of};
+ghost use Rattle.cut_share.specs.inside.Pieces.{IsSharePiece, own_times, trials_in_all};
+ghost use Rattle.cut_share.specs.inside.Tasks.{has_result, pieces_of};
 
 use crate::share_pieces::SharePieces;
 use cut_outcome::{Piece, PieceResult};

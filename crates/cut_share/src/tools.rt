@@ -26,7 +26,7 @@ pub(crate) struct Tools<'a, G> {
 
 impl<G: Hooks> Tools<'_, G> {
     ghost use Rattle.std.specs.Prelude.{All, IfSome};
-    ghost use Rattle.cut_share.specs.Tasks.{IsRun, pieces_of};
+    ghost use Rattle.cut_share.specs.inside.Tasks.{IsRun, pieces_of};
 
     /// Runs the piece of each task, in as many threads as there may be and can be made. Where memory runs out twice
     /// for a piece, its task has no result.

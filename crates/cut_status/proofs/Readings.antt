@@ -21,8 +21,9 @@ use Rattle.cut_journal.specs.Reading.{then_slips, slips_in, slips_reading, readi
 use Rattle.cut_status.specs.declared.fault.StatusFault.{StatusFault}
 use Rattle.cut_status.specs.declared.fault.StatusFault.TheVariants.{Memory, Disk, NoStudy, Damaged, BadSlip}
 use Rattle.cut_status.specs.Status.{StatusValue, status_over}
-use Rattle.cut_status.specs.Study.{IsStudyOf, IsStatusOf, IsOfNone, IsDamaged, IsStatusFault, IsOfNoPlan}
-use Rattle.cut_status.specs.Study.{IsFaultOver, fault_of}
+use Rattle.cut_status.specs.Study.{IsStudyOf, IsStatusOf, IsOfNone, IsDamaged, IsStatusFault}
+use Rattle.cut_status.specs.inside.Study.{IsOfNoPlan}
+use Rattle.cut_status.specs.inside.Study.{IsFaultOver, fault_of}
 use Rattle.cut_status.proofs.Headers.{ReadsBack, says_text, same_plan}
 
 -- ---- the slips after a header

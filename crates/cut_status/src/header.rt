@@ -4,7 +4,8 @@ ghost use Rattle.std.specs.Prelude.{◌≡◌, true, IfOk, IfErr};
 ghost use Rattle.cut_plan.specs.Canonical.{canonical_text};
 ghost use Rattle.cut_plan.specs.Plan.{IsPlan};
 ghost use Rattle.cut_journal.specs.Reading.{is_study, says_plan};
-ghost use Rattle.cut_status.specs.Study.{IsStatusFault, IsOfNoPlan};
+ghost use Rattle.cut_status.specs.Study.{IsStatusFault};
+ghost use Rattle.cut_status.specs.inside.Study.{IsOfNoPlan};
 
 use crate::StatusFault;
 use cut_journal::header_text;

@@ -1,7 +1,8 @@
 ghost use Rattle.std.specs.Prelude.{◌≡◌, Ok, true, IfOk, IfErr};
 ghost use Rattle.cut_plan.specs.Plan.{IsPlan};
 ghost use Rattle.cut_journal.specs.Reading.{is_study, reading, says_plan};
-ghost use Rattle.cut_status.specs.Study.{IsStatusOf, IsStatusFault, fault_of};
+ghost use Rattle.cut_status.specs.Study.{IsStatusOf, IsStatusFault};
+ghost use Rattle.cut_status.specs.inside.Study.{fault_of};
 
 use crate::header::header_plan;
 use crate::{Status, StatusFault};

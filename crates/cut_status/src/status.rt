@@ -1,7 +1,7 @@
 ghost use Rattle.std.specs.Prelude.{◌≡◌, IfOk, IfErr, OnOk};
 ghost use Rattle.cut_ledger.specs.Slips.{AreGood};
 ghost use Rattle.cut_status.specs.Status.{status_over, status_text};
-ghost use Rattle.cut_status.specs.Study.{IsFaultOver};
+ghost use Rattle.cut_status.specs.inside.Study.{IsFaultOver};
 
 use crate::StatusFault;
 use crate::counts::{cells_done, trials_held};

@@ -16,8 +16,9 @@ use Rattle.cut_study.specs.declared.run_fault.RunFault.{RunFault}
 use Rattle.cut_study.specs.declared.run_fault.RunFault.TheVariants.{BadSlip, Checkpoint, Write, WorkMemory}
 use Rattle.cut_study.specs.declared.run_fault.RunFault.TheVariants.{AuditMismatch}
 use Rattle.cut_study.specs.declared.study_run.Done.{Done}
-use Rattle.cut_study.specs.Conclusion.{NoWriteFailed, Concludes}
-use Rattle.cut_study.specs.Emission.{EmitsStudy, WrotePrefix}
+use Rattle.cut_study.specs.inside.Conclusion.{NoWriteFailed, Concludes}
+use Rattle.cut_study.specs.Emission.{WrotePrefix}
+use Rattle.cut_study.specs.inside.Emission.{EmitsStudy}
 use Rattle.cut_hall.specs.Pass.{Holding}
 use Rattle.cut_hall.specs.Report.{SlotEnd, calls_in_all, made_in_all}
 use Rattle.cut_study.specs.Running.{HasEnded, Takes}

@@ -27,7 +27,7 @@ use Rattle.cut_wires.specs.Log.{WireLog, wrote, write_failed}
 use Rattle.cut_wires.specs.Rows.{SendsRows, rows_to}
 use Rattle.cut_wires.specs.Sending.{Sending}
 use Rattle.cut_hall.specs.declared.line_fault.LineFault.{LineFault}
-use Rattle.cut_study.specs.Emission.{EmitsStudy, Worked, emitted, lines_of}
+use Rattle.cut_study.specs.inside.Emission.{EmitsStudy, Worked, emitted, lines_of}
 use Rattle.cut_hall.specs.Lines.{full_line}
 use Rattle.cut_hall.specs.Pass.{Holding}
 use Rattle.cut_hall.proofs.FullLines.{done_line}

@@ -1,4 +1,4 @@
 pub mod Faults
 pub mod Running
 pub mod Emission
-pub mod Conclusion
+pub mod inside

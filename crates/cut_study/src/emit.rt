@@ -1,7 +1,7 @@
 ghost use Rattle.std.specs.Prelude.{◌≡◌, ◌+◌, ◌<◌, ◌≤◌, length, OnOk};
 ghost use Rattle.cut_plan.specs.Cells.{cells_of};
 ghost use Rattle.cut_ledger.specs.Machine.{table_over};
-ghost use Rattle.cut_study.specs.Emission.{EmitsStudy, emitted};
+ghost use Rattle.cut_study.specs.inside.Emission.{EmitsStudy, emitted};
 
 use cut_book::Opened;
 use cut_disks::Disk;
@@ -37,7 +37,7 @@ where
     R: Wait,
 {
     ghost use Rattle.std.proofs.Common.{arith};
-    ghost use Rattle.cut_study.specs.Emission.{Worked, begun, lines_of};
+    ghost use Rattle.cut_study.specs.inside.Emission.{Worked, begun, lines_of};
 
     type Fault = LineFault;
 

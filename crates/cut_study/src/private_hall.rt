@@ -4,10 +4,10 @@ ghost use Rattle.atomic_table.specs.Seated.{TableId};
 ghost use Rattle.cut_plan.specs.Cells.{cells_of};
 ghost use Rattle.cut_ledger.specs.Machine.{table_over};
 ghost use Rattle.cut_ledger.specs.Slips.{AreGood};
-ghost use Rattle.cut_study.specs.Conclusion.{IsNotEnded};
-ghost use Rattle.cut_study.specs.Emission.{EmitsStudy};
+ghost use Rattle.cut_study.specs.inside.Conclusion.{IsNotEnded};
+ghost use Rattle.cut_study.specs.inside.Emission.{EmitsStudy};
 ghost use Rattle.cut_hall.specs.Report.{calls_in_all};
-ghost use Rattle.cut_study.specs.Faults.{of_closing};
+ghost use Rattle.cut_study.specs.inside.Faults.{of_closing};
 ghost use Rattle.cut_book.specs.Book.{IsFresh};
 ghost use Rattle.cut_hall.specs.Trust.{begun_props};
 

@@ -2,8 +2,8 @@ ghost use Rattle.std.proofs.Props.{props};
 ghost use Rattle.std.specs.Prelude.{false, ◌≡◌, ◌+◌, ◌≤◌, Ok, None, length, is_some, IfOk, IfErr, IfSome, OnOk};
 ghost use Rattle.cut_journal.specs.Reading.{reading};
 ghost use Rattle.cut_ledger.specs.Slips.{AreGood};
-ghost use Rattle.cut_study.specs.Conclusion.{IsNotBegun, IsNotEnded, CanLose, Concludes};
-ghost use Rattle.cut_study.specs.Faults.{of_line};
+ghost use Rattle.cut_study.specs.inside.Conclusion.{IsNotBegun, IsNotEnded, CanLose, Concludes};
+ghost use Rattle.cut_study.specs.inside.Faults.{of_line};
 ghost use Rattle.cut_study.specs.Running.{slips_of, HasEnded, Takes};
 ghost use Rattle.cut_book.specs.Book.{IsFresh};
 

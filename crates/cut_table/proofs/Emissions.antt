@@ -28,7 +28,8 @@ use Rattle.cut_wires.specs.Sending.{Sending}
 use Rattle.cut_wires.proofs.RowLemmas.{rows_more}
 use Rattle.cut_table.specs.declared.fault.RowFault.{RowFault}
 use Rattle.cut_table.specs.declared.fault.RowFault.TheVariants as row
-use Rattle.cut_table.specs.Table.{row_of, table_of, AreGiven, IsWithheld, Emits, emitted}
+use Rattle.cut_table.specs.Table.{row_of, Emits}
+use Rattle.cut_table.specs.inside.Table.{table_of, AreGiven, IsWithheld, emitted}
 
 -- the header and the lines of the first n cells
 abbrev pub lines_to : Contents → ℕ → List ℕ

@@ -1,2 +1,3 @@
 pub mod FaultCode
 pub mod Table
+pub mod inside

@@ -1,7 +1,8 @@
 ghost use Rattle.std.specs.Prelude.{◌≡◌, ◌<◌, ◌≤◌, true, length, IfOk, IfErr, OnOk};
 ghost use Rattle.cut_plan.specs.Cells.{cells_of};
 ghost use Rattle.cut_ledger.specs.Contents.{cell_done};
-ghost use Rattle.cut_table.specs.Table.{row_of, Emits, IsRowFault, emitted};
+ghost use Rattle.cut_table.specs.Table.{row_of, Emits, IsRowFault};
+ghost use Rattle.cut_table.specs.inside.Table.{emitted};
 
 use crate::{RowFault, TableFault};
 use cut_ledger::Ledger;
@@ -34,7 +35,7 @@ struct LedgerRows<'a> {
 
 impl Rows for LedgerRows<'_> {
     ghost use Rattle.std.proofs.Common.{arith};
-    ghost use Rattle.cut_table.specs.Table.{AreGiven, IsWithheld, none_given, table_of};
+    ghost use Rattle.cut_table.specs.inside.Table.{AreGiven, IsWithheld, none_given, table_of};
 
     type Fault = RowFault;
 

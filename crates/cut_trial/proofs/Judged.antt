@@ -17,7 +17,7 @@ use Rattle.cut_receivers.specs.declared.finding.Finding.{Finding}
 use Rattle.cut_receivers.specs.declared.finding.Finding.TheVariants.{Doubtful, Other, Silent, Wanted}
 use Rattle.cut_receivers.specs.Findings.{flagged, Finds}
 use Rattle.cut_trial.specs.declared.alerts.Alerts.{Alerts}
-use Rattle.cut_trial.specs.Judging.{proposed_by, proposals_to}
+use Rattle.cut_trial.specs.inside.Judging.{proposed_by, proposals_to}
 use Rattle.cut_outcome.proofs.Words.{Assignment, Cell, Edge, EdgeSet, IsTrue, Layout, Rule, Source, Values}
 use Rattle.cut_outcome.proofs.Words.{all_deliveries, count_by, early, is_target, list_any, proposal_of, range_with_len}
 use Rattle.cut_outcome.proofs.Words.{receiver_proposal, receivers_of, rule_of}

@@ -1,4 +1,2 @@
 pub mod FaultCode
-pub mod BallotInside
-pub mod Counted
-pub mod Judging
+pub mod inside

@@ -20,7 +20,7 @@ impl Model for Ballot {
 
     ghost Value = { List (List ℕ × ℕ) };
 
-    ghost use Rattle.cut_trial.specs.BallotInside.{entries_of};
+    ghost use Rattle.cut_trial.specs.inside.BallotInside.{entries_of};
 
     ghost view = { entries_of };
 }

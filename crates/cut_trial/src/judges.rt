@@ -14,8 +14,8 @@ ghost use Rattle.cut_nodes.specs.Nodes.{subjects_of};
 ghost use Rattle.cut_receivers.specs.Heard.{hearing_of, HasHeard};
 ghost use Rattle.cut_receivers.specs.Findings.{finding_in, flagged, has_bit, is_proposal};
 ghost use Rattle.cut_outcome.specs.Verdicts.{targets_of};
-ghost use Rattle.cut_trial.specs.Counted.{HasJudged, IsJudging};
-ghost use Rattle.cut_trial.specs.Judging.{AreFor, AreReady, IsNext, IsFoundIn, proposed_by, proposals_to};
+ghost use Rattle.cut_trial.specs.inside.Counted.{HasJudged, IsJudging};
+ghost use Rattle.cut_trial.specs.inside.Judging.{AreFor, AreReady, IsNext, IsFoundIn, proposed_by, proposals_to};
 
 use crate::alerts::Alerts;
 use crate::cast::Cast;

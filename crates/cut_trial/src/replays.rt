@@ -1,6 +1,6 @@
 ghost use Rattle.std.specs.Prelude.{◌≡◌, ◌^◌, ◌<◌, ◌≤◌, OnOk, IfOk};
 ghost use Rattle.cut_plan.specs.Cells.{IsCellOf};
-ghost use Rattle.cut_trial.specs.Judging.{BelongsTo, proposed_by};
+ghost use Rattle.cut_trial.specs.inside.Judging.{BelongsTo, proposed_by};
 
 use crate::alerts::Alerts;
 use crate::hearing::hear_all;

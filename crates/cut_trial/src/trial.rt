@@ -1,7 +1,7 @@
 ghost use Rattle.std.specs.Prelude.{◌≡◌, ◌<◌, IfOk};
 ghost use Rattle.cut_plan.specs.Cells.{IsCellOf, trial_count};
 ghost use Rattle.cut_outcome.specs.Outcome.{rings_of, cell_at, outcome};
-ghost use Rattle.cut_trial.specs.Judging.{AreFor};
+ghost use Rattle.cut_trial.specs.inside.Judging.{AreFor};
 
 use crate::alerts::Alerts;
 use crate::cast::{Cast, list_receivers, list_targets};

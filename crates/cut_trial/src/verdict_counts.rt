@@ -29,7 +29,7 @@ pub(crate) struct VerdictCounts {
 
 impl VerdictCounts {
     ghost use Rattle.cut_outcome.specs.Outcome.{IsPlaced, totals_of};
-    ghost use Rattle.cut_trial.specs.Counted.{HasVerdicts, HasJudged, IsJudging};
+    ghost use Rattle.cut_trial.specs.inside.Counted.{HasVerdicts, HasJudged, IsJudging};
 
     /// No receiver of a plan of this version has been judged.
     pub(crate) fn new(alloc: Global, version: Version) -> VerdictCounts

@@ -1,8 +1,6 @@
 -- A wire in memory that fails where its maker said, as contracts see it, and what its calls do.
-use Rattle.std.specs.Prelude.{◌≡◌, ◌<◌, ◌-◌, ℕ, List, length, take, Option, Some, None}
-use Rattle.std.specs.Prelude.{Result, Ok, Err, IsErr}
-use Rattle.cut_wires.specs.declared.wire.WireFault.{WireFault}
-use Rattle.cut_wires.specs.Memory.{MemoryWireValue, HasFailedRead, HasFailedWrite, HasRead, HasWritten}
+use Rattle.std.specs.Prelude.{ℕ, Option}
+use Rattle.cut_wires.specs.Memory.{MemoryWireValue}
 
 -- the wire in memory, how many bytes its writes may still take before one fails (none where one has failed
 -- already), and how many reads from now the one that fails is (0 where none will)
@@ -10,28 +8,3 @@ pub record FaultyWireValue : Type 0 where
   pub memory : MemoryWireValue
   pub room : Option ℕ
   pub fail_in : ℕ
-
--- a read: the one whose turn it is fails and leaves the buffer, and any other is one of the wire in memory
-pub record HasReadInTurn (old : FaultyWireValue) (result : Result ℕ WireFault) (was is : List ℕ) (new : FaultyWireValue)
-    : Type 0 where
-  pub due : old.fail_in ≡ 1 → IsErr result × (is ≡ was) × HasFailedRead old.memory new.memory
-  pub other : (old.fail_in ≡ 1 → ⊥) → HasRead old.memory result was is new.memory
-  pub counted : new.fail_in ≡ old.fail_in - 1
-  pub room : new.room ≡ old.room
-
--- the room that a write leaves: less by what it took
-abbrev pub room_after : ℕ → Result ℕ WireFault → ℕ
-room_after room (Ok n) = room - n
-room_after room (Err e) = room
-
--- a write of bytes: with no room for any of some it fails, and no later one is held back. Else it is a write
--- to the wire in memory, of the first bytes for which there is room, or of all where none is held back.
-pub record HasWrittenInRoom (old : FaultyWireValue) (result : Result ℕ WireFault) (bytes : List ℕ)
-    (new : FaultyWireValue)
-    : Type 0 where
-  pub full : old.room ≡ Some 0 → 0 < length bytes →
-      IsErr result × HasFailedWrite old.memory new.memory × (new.room ≡ None)
-  pub part : (room : ℕ) → old.room ≡ Some room → (0 < length bytes → 0 < room) →
-      HasWritten old.memory result (take room bytes) new.memory × (new.room ≡ Some (room_after room result))
-  pub free : old.room ≡ None → HasWritten old.memory result bytes new.memory × (new.room ≡ None)
-  pub turn : new.fail_in ≡ old.fail_in

@@ -4,3 +4,4 @@ pub mod Faulty
 pub mod Streams
 pub mod Sending
 pub mod Rows
+pub mod inside

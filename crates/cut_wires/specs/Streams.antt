@@ -1,7 +1,6 @@
 -- A wire that is made of a reader and a writer, as contracts see it.
-use Rattle.std.specs.Prelude.{ℕ, ◌-◌, ◌<◌, List, [], length, take, drop, Option, Some, None, unwrap_or, IfSome, refl}
+use Rattle.std.specs.Prelude.{ℕ, ◌-◌, List, [], length, take, drop, Option, Some, None, unwrap_or, refl}
 use Rattle.std.specs.Coded.{Coded, code_by, coded×, coded_ℕ}
-use Rattle.std.specs.Io.KnownBytes.{Appends, Consumes, IsAtEnd}
 use Rattle.cut_wires.specs.Log.{Traffic, WireLog}
 
 -- the reader and the writer; both as they were when the wire was made of them; how many reads gave the end of
@@ -55,13 +54,6 @@ given_of had has = take (length (known had) - length (known has)) (known had)
 -- what a writer took, by the bytes that it held and those that it holds
 abbrev pub taken_of : Option (List ℕ) → Option (List ℕ) → List ℕ
 taken_of held holds = drop (length (known held)) (known holds)
-
--- what passed is what the reader gave and the writer took, where that is known; and an end that was given is the
--- reader's
-pub record IsFollowed (had has held holds : Option (List ℕ)) (ends : ℕ) : Type 0 where
-  pub read : Consumes had has (given_of had has)
-  pub written : Appends held holds (taken_of held holds)
-  pub ended : 0 < ends → IfSome had (λ _. IsAtEnd has)
 
 -- something, where the bytes of a reader and those of a writer are known
 abbrev pub if_both : {X : Type 0} → Option (List ℕ) → Option (List ℕ) → X → Option X

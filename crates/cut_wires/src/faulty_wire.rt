@@ -52,7 +52,7 @@ impl FaultyWire {
 impl Wire for FaultyWire {
     ghost use Rattle.std.specs.Prelude.{◌<◌, ◌≤◌, length, IfOk};
     ghost use Rattle.cut_wires.specs.Log.{WritesWire};
-    ghost use Rattle.cut_wires.specs.Faulty.{HasReadInTurn, HasWrittenInRoom};
+    ghost use Rattle.cut_wires.specs.inside.Faulty.{HasReadInTurn, HasWrittenInRoom};
 
     ghost log = { λ w. record { traffic = Some w.memory.traffic; failed = w.memory.failed } };
 

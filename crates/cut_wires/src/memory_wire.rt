@@ -82,7 +82,7 @@ impl MemoryWire {
 
 impl Wire for MemoryWire {
     ghost use Rattle.std.specs.Prelude.{◌<◌, length, Some};
-    ghost use Rattle.cut_wires.specs.Memory.{HasRead, HasWritten};
+    ghost use Rattle.cut_wires.specs.inside.Memory.{HasRead, HasWritten};
 
     ghost log = { λ w. record { traffic = Some w.traffic; failed = w.failed } };
 

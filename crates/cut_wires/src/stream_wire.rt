@@ -25,7 +25,8 @@ pub struct StreamWire<R: Read, W: Write> {
 }
 
 impl<R: Read, W: Write> Model for StreamWire<R, W> {
-    ghost use Rattle.cut_wires.specs.Streams.{Streams, streams_code, IsFollowed};
+    ghost use Rattle.cut_wires.specs.Streams.{Streams, streams_code};
+    ghost use Rattle.cut_wires.specs.inside.Streams.{IsFollowed};
 
     ghost Value = { Streams R W };
 

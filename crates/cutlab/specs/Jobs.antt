@@ -1,5 +1,6 @@
 -- What each job leaves on the program's wire and on its errors.
-use Rattle.std.specs.Prelude.{◌≡◌, ◌+◌, ◌++◌, ℕ, Bool, true, false, List, ◌∷◌, [], length, map, codes, Option, Some, None}
+use Rattle.std.specs.Prelude.{◌≡◌, ◌+◌, ◌++◌, ℕ, Bool, true, false, List, ◌∷◌, [], length, map, codes, Option, Some}
+use Rattle.std.specs.Prelude.{None}
 use Rattle.std.specs.Prelude.{Result, ⊤}
 use Rattle.std.specs.Fmt.{decimal}
 use Rattle.cut_wires.specs.Log.{WireLog}
@@ -19,13 +20,7 @@ use Rattle.cut_command_line.specs.declared.line.Job.TheVariants.{Ask, Migrate, S
 use Rattle.cut_commands.specs.declared.fault.CliFault.{CliFault}
 use Rattle.cutlab.specs.Runs.{EndsRun}
 use Rattle.cutlab.specs.Sent.{IsSent}
-use Rattle.cutlab.specs.declared.run_job.WorkersJob.{WorkersJob}
 use Rattle.cutlab.specs.declared.run_job.WorkersJob.TheVariants as workers
-
--- how what workers run ends
-abbrev pub EndsWork : WorkersJob → WireLog → WireLog → Result ⊤ CliFault → Type 0
-EndsWork (workers.Study job) old new result = EndsRun job.checkpoint old new result
-EndsWork (workers.Share job) old new result = EndsShareFile job.share old new result
 
 -- how a share ends, by its numbers
 pub record EndsShareOf (index shares block_size : ℕ) (old new : WireLog) (result : Result ⊤ CliFault) : Type 0 where

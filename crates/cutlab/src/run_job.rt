@@ -1,6 +1,7 @@
 //! What workers run, with or without its progress on the errors.
 ghost use Rattle.cut_progress.specs.Printed.{HasPrinted};
-ghost use Rattle.cutlab.specs.Jobs.{EndsWork, PrintsIf};
+ghost use Rattle.cutlab.specs.Jobs.{PrintsIf};
+ghost use Rattle.cutlab.specs.inside.Jobs.{EndsWork};
 
 use crate::share_job::ShareJob;
 use crate::study_job::StudyJob;

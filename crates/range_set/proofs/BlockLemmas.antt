@@ -12,8 +12,8 @@ use Rattle.std.proofs.lemmas.List.Sums.{list_all-from_AllPass}
 use Rattle.std.proofs.lemmas.List.{get_or-map, get_or-set_same, get_or-set_other, length-map, length-set}
 use Rattle.cut_lists.proofs.Intervals.{within_is, within_below, within_above}
 use Rattle.range_set.specs.declared.run.Run.{Run}
-use Rattle.range_set.specs.Edges.{IsRun, Row, is_within, is_between, flipped}
-use Rattle.range_set.specs.Blocks.{Blocks, is_at}
+use Rattle.range_set.specs.inside.Edges.{IsRun, Row, is_within, is_between, flipped}
+use Rattle.range_set.specs.inside.Blocks.{Blocks, is_at}
 
 -- what contracts see of a section's rows
 abbrev pub blocks_in : List Row → Blocks

@@ -6,7 +6,7 @@ use Rattle.std.specs.List.Sorted.{IsNonDecreasing, IsPartitionPoint}
 use Rattle.std.proofs.lemmas.Bool.{cases_lt, le-leb, lt-leb, lt-ltb, le-ltb}
 use Rattle.std.proofs.lemmas.List.Quantifiers.{all_pairs_remove}
 use Rattle.std.proofs.lemmas.List.Sums.{sum_by-cons}
-use Rattle.range_set.specs.Edges.{IsRun, is_within, is_between, flipped}
+use Rattle.range_set.specs.inside.Edges.{IsRun, is_within, is_between, flipped}
 
 -- as many edges are at most a number as stand before the first that is above it
 pub counted : (xs : List ℕ) (n i : ℕ) → i ≤ length xs → IsPartitionPoint (λ e. e ≤ n) (λ e. n < e) xs i

@@ -15,10 +15,10 @@ use Rattle.cut_lists.proofs.Intervals.{map_agree, within_is, within_below, withi
 use Rattle.cut_lists.proofs.Ranges.{none_passing}
 use Rattle.range_set.specs.declared.run.Run.{Run}
 use Rattle.range_set.specs.declared.span.Span.{Span}
-use Rattle.range_set.specs.Blocks.{Blocks, is_at}
-use Rattle.range_set.specs.Edges.{IsRun, is_within, is_between, flipped}
+use Rattle.range_set.specs.inside.Blocks.{Blocks, is_at}
+use Rattle.range_set.specs.inside.Edges.{IsRun, is_within, is_between, flipped}
 use Rattle.range_set.specs.Held.{IsOfSection, has, overlaps, with_span}
-use Rattle.range_set.specs.SetInside.{no_blocks, section_at, is_held, held_in}
+use Rattle.range_set.specs.inside.SetInside.{no_blocks, section_at, is_held, held_in}
 use Rattle.range_set.specs.Spans.{is_in}
 
 -- ---- numbers of a section

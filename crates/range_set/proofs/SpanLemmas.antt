@@ -12,7 +12,7 @@ use Rattle.cut_lists.proofs.Ranges.{filter_agree_on, All-range_with_len, ranges-
 use Rattle.cut_lists.proofs.Counts.{filter-none}
 use Rattle.cut_lists.proofs.Intervals.{first_failing}
 use Rattle.range_set.specs.declared.span.Span.{Span}
-use Rattle.range_set.specs.Edges.{flipped}
+use Rattle.range_set.specs.inside.Edges.{flipped}
 use Rattle.range_set.specs.Spans.{begins, span_at, spans, span_between}
 
 -- each number from one up to another passes a test, or fails it

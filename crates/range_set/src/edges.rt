@@ -2,7 +2,7 @@ ghost use Rattle.std.specs.Prelude.{◌≡◌, ℕ, ◌+◌, ◌-◌, ◌<◌, �
 ghost use Rattle.std.specs.Prelude.{slice_index_or};
 ghost use Rattle.std.specs.Prelude.{vec_len, vec_capacity, OnOk, OnErr, IsOk, IsTrue};
 ghost use Rattle.std.specs.List.Sorted.{IsNonDecreasing, IsPartitionPoint};
-ghost use Rattle.range_set.specs.Edges.{is_within, is_between, flipped, IsRun};
+ghost use Rattle.range_set.specs.inside.Edges.{is_within, is_between, flipped, IsRun};
 
 use crate::run::Run;
 use std::alloc::{AllocError, Global};
@@ -16,11 +16,11 @@ pub(crate) struct Edges {
 }
 
 impl Model for Edges {
-    ghost use Rattle.range_set.specs.Edges.{Row};
+    ghost use Rattle.range_set.specs.inside.Edges.{Row};
 
     ghost Value = { Row };
 
-    ghost use Rattle.range_set.specs.EdgesInside.{row_of, IsRow};
+    ghost use Rattle.range_set.specs.inside.EdgesInside.{row_of, IsRow};
 
     ghost view = { row_of };
 

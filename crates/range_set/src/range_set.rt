@@ -1,7 +1,7 @@
 ghost use Rattle.std.specs.Prelude.{◌≡◌, ◌+◌, ◌*◌, ◌/◌, ◌<◌, ◌≤◌, ◌^◌, ◌↔◌, ◌++◌, false, true, not, length};
 ghost use Rattle.std.specs.Prelude.{replicate, slice_set, IfOk, OnOk, OnErr, IsOk, IsTrue};
 ghost use Rattle.std.specs.List.{list_all};
-ghost use Rattle.range_set.specs.Edges.{flipped, IsRun};
+ghost use Rattle.range_set.specs.inside.Edges.{flipped, IsRun};
 ghost use Rattle.range_set.specs.Held.{has, overlaps, covers, with_span, has_room, IsOfSection, KeepsOtherRoom};
 ghost use Rattle.range_set.specs.Spans.{numbers_in, spans, span_between};
 
@@ -21,7 +21,7 @@ pub struct RangeSet {
 
 impl Model for RangeSet {
     ghost use Rattle.range_set.specs.Held.{Held};
-    ghost use Rattle.range_set.specs.SetInside.{held_of, IsSet};
+    ghost use Rattle.range_set.specs.inside.SetInside.{held_of, IsSet};
 
     ghost Value = { Held };
 

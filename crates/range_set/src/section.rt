@@ -2,8 +2,8 @@ ghost use Rattle.std.specs.Prelude.{◌≡◌, ℕ, ◌-◌, ◌/◌, ◌<◌, �
 ghost use Rattle.std.specs.Prelude.{IfOk, OnOk, OnErr, IsOk, IsTrue};
 ghost use Rattle.std.specs.Int.{div_ceil};
 ghost use Rattle.std.specs.List.{list_all};
-ghost use Rattle.range_set.specs.Blocks.{is_at};
-ghost use Rattle.range_set.specs.Edges.{is_between, flipped, IsRun};
+ghost use Rattle.range_set.specs.inside.Blocks.{is_at};
+ghost use Rattle.range_set.specs.inside.Edges.{is_between, flipped, IsRun};
 
 use crate::edges::Edges;
 use crate::run::Run;
@@ -20,8 +20,8 @@ pub(crate) struct Section {
 }
 
 impl Model for Section {
-    ghost use Rattle.range_set.specs.Blocks.{Blocks};
-    ghost use Rattle.range_set.specs.SectionInside.{blocks_of};
+    ghost use Rattle.range_set.specs.inside.Blocks.{Blocks};
+    ghost use Rattle.range_set.specs.inside.SectionInside.{blocks_of};
 
     ghost Value = { Blocks };
 

@@ -2,7 +2,7 @@ use Rattle.std.proofs.Common.{◌++◌, [], ◌∷◌, map, sym, ap, ◌∙◌, 
 use Rattle.std.specs.List.{range_with_len}
 use Rattle.std.specs.Mem.Slots.{slots_items}
 use Rattle.std.proofs.lemmas.List.FromFn.{map-range_with_len_more}
-use Rattle.cut_board.specs.Closed.{words_of_study}
+use Rattle.cut_board.specs.inside.Closed.{words_of_study}
 use Rattle.cut_board.proofs.board.read_totals.Goals as goal
 
 pub loop-study-preserved : goal.loop-study-preserved

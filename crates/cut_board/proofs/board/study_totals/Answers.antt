@@ -1,6 +1,6 @@
 use Rattle.std.proofs.Common.{◌≡◌, sym}
 use Rattle.std.specs.Mem.Slots.{slots_items}
-use Rattle.cut_board.specs.Words.{draw_word, count_word, draws_at, count_at}
+use Rattle.cut_board.specs.inside.Words.{draw_word, count_word, draws_at, count_at}
 use Rattle.cut_board.proofs.Lists.{at_place}
 use Rattle.cut_board.proofs.board.study_totals.Goals as goal
 

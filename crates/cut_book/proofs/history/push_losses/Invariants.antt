@@ -1,5 +1,5 @@
 use Rattle.std.proofs.Common.{◌≡◌, ◌++◌, map, take}
-use Rattle.cut_book.specs.HistoryInside.{lost_call}
+use Rattle.cut_book.specs.inside.HistoryInside.{lost_call}
 use Rattle.cut_book.proofs.history.push_losses.Given as goal
 
 abbrev pub invariant-loop-piece : goal.invariant-loop-piece

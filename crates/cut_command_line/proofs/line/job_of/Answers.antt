@@ -4,7 +4,8 @@ use Rattle.std.proofs.lemmas.Result.{IfOk-weaker}
 use Rattle.clap.specs.Words.{Row, Text, found_of, rows_of, subcommand_name_of, subcommand_rows_of}
 use Rattle.clap.specs.declared.parser.matches.ArgMatches.{ArgMatches}
 use Rattle.cut_command_line.specs.declared.line.Job.{Job}
-use Rattle.cut_command_line.specs.Line.{GivesValues, GivesJob, IsJobOf}
+use Rattle.cut_command_line.specs.Line.{GivesValues, IsJobOf}
+use Rattle.cut_command_line.specs.inside.Line.{GivesJob}
 use Rattle.cut_command_line.proofs.line.job_of.Goals as goal
 
 names_agree : (m : ArgMatches) → option_map (λ p. p.0) (subcommand_rows_of m) ≡ subcommand_name_of m

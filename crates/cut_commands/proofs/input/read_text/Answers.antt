@@ -1,7 +1,8 @@
 use Rattle.std.proofs.Common.{length, sym, subst, ◌∙◌}
 use Rattle.std.proofs.lemmas.Result.{err_from_is_err_and}
 use Rattle.cut_wires.specs.Log.{WireLog}
-use Rattle.cut_commands.specs.Run.{GivesText, text_of}
+use Rattle.cut_commands.specs.Run.{GivesText}
+use Rattle.cut_commands.specs.inside.Run.{text_of}
 use Rattle.cut_commands.proofs.InputLemmas.{gives_unfilled}
 use Rattle.cut_commands.proofs.input.read_text.Goals as goal
 

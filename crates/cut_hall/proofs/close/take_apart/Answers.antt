@@ -2,7 +2,7 @@ use Rattle.std.proofs.Common.{◌≡◌, ◌+◌, ◌∙◌, List, [], ◌∷◌
 use Rattle.std.proofs.lemmas.List.Elements.{All-nil, All-pop, All-push}
 use Rattle.cut_board.specs.declared.seat.Seat.{Seat}
 use Rattle.cut_board.specs.Names.{board_id, board_of}
-use Rattle.cut_hall.specs.Closing.{IsTakenApart}
+use Rattle.cut_hall.specs.inside.Closing.{IsTakenApart}
 use Rattle.cut_hall.specs.Pass.{Holding}
 use Rattle.cut_hall.proofs.Apart.{one_apart, one_more_apart}
 use Rattle.cut_hall.proofs.close.take_apart.Goals as goal

@@ -1,6 +1,6 @@
 use Rattle.std.proofs.Common.{◌≡◌, ◌++◌, List, vec_len, All}
 use Rattle.cut_board.specs.Names.{board_id, board_of}
-use Rattle.cut_hall.specs.Closing.{IsTakenApart}
+use Rattle.cut_hall.specs.inside.Closing.{IsTakenApart}
 use Rattle.cut_hall.specs.Pass.{Holding}
 use Rattle.cut_hall.proofs.close.take_apart.Given as goal
 

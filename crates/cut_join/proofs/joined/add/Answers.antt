@@ -1,7 +1,7 @@
 use Rattle.std.proofs.Common.{rules, ◌≡◌, ◌-◌, ℕ, List, true, set, sym, ap, ◌∙◌}
 use Rattle.std.proofs.lemmas.List.{get_or_default}
 use Rattle.cut_ledger.specs.declared.slip.Slip.{Slip}
-use Rattle.cut_join.specs.Merging.{adjoins}
+use Rattle.cut_join.specs.inside.Merging.{adjoins}
 use Rattle.cut_join.proofs.Ends.{first_left, last_left, last_set}
 use Rattle.cut_join.proofs.joined.add.Goals.{else-before-gt0-via-then-before-gt0+else-adjoins}
 use Rattle.cut_join.proofs.joined.add.Goals.{else-before-gt0-via-else-before-gt0}

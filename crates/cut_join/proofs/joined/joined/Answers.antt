@@ -2,7 +2,7 @@ use Rattle.std.proofs.Common.{rules, ◌≡◌, ◌∙◌, List, sym, ap, subst}
 use Rattle.cut_ledger.specs.declared.slip.Slip.{Slip}
 use Rattle.cut_ledger.specs.Slips.{AreGood}
 use Rattle.cut_join.specs.Joined.{joined}
-use Rattle.cut_join.specs.Merging.{AreAscending}
+use Rattle.cut_join.specs.inside.Merging.{AreAscending}
 use Rattle.cut_join.proofs.Ends.{joined_moved}
 use Rattle.cut_join.proofs.Goods.{good_sound, sound_ascend, sound_good, sound_moved}
 use Rattle.cut_join.proofs.LawsOfJoins.{joined_good}

@@ -1,7 +1,7 @@
 use Rattle.std.proofs.Common.{List, ◌≡◌, get_or, subst, sym, arith, All, take, ◌+◌}
 use Rattle.cut_outcome.specs.Sum.{each_number}
 use Rattle.cut_ledger.specs.declared.slip.Slip.{Slip}
-use Rattle.cut_join.specs.Merging.{IsSmall, with_slip}
+use Rattle.cut_join.specs.inside.Merging.{IsSmall, with_slip}
 use Rattle.cut_join.proofs.Ends.{all_small, ascending_joined, merged_more}
 use Rattle.cut_join.proofs.Merges.{AreMerged}
 use Rattle.cut_join.proofs.joined.merged.Goals as goal

@@ -1,5 +1,5 @@
 use Rattle.std.proofs.Common.{All, take}
-use Rattle.cut_join.specs.Merging.{IsSmall}
+use Rattle.cut_join.specs.inside.Merging.{IsSmall}
 use Rattle.cut_join.proofs.Merges.{AreMerged}
 use Rattle.cut_join.proofs.joined.merged.Given as goal
 

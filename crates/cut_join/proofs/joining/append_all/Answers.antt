@@ -6,7 +6,7 @@ use Rattle.cut_outcome.specs.Sum.{each_number}
 use Rattle.cut_ledger.specs.declared.slip.Slip.{Slip}
 use Rattle.cut_journal.specs.Journal.{AppendsEach, kept_slips}
 use Rattle.cut_journal.proofs.Series.{nothing_appended}
-use Rattle.cut_join.specs.Joining.{EndsAppend}
+use Rattle.cut_join.specs.inside.Joining.{EndsAppend}
 use Rattle.cut_join.proofs.Appendings.{appended_more, as_many, kept_more, moments_more, none_yet}
 use Rattle.cut_join.proofs.joining.append_all.Goals as goal
 

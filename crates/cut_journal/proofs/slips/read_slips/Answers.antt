@@ -11,11 +11,11 @@ use Rattle.cut_journal.specs.declared.slips.Slips.{Slips}
 use Rattle.cut_ledger.specs.declared.slip.Slip.{Slip}
 use Rattle.cut_journal.specs.File.{slip_length}
 use Rattle.cut_journal.specs.Reading.{slip_in, slips_reading}
-use Rattle.cut_journal.specs.Steps.{IsOfPlan, IsNext, AreWhole}
+use Rattle.cut_journal.specs.inside.Steps.{IsOfPlan, IsNext, AreWhole}
 use Rattle.cut_journal.proofs.Gates.{gate_next, gate_far}
 use Rattle.cut_journal.proofs.Readings.{slips_read, damage_read, one_more_whole}
 use Rattle.cut_journal.proofs.slips.read_slips.Goals as goal
-use Rattle.cut_journal.specs.Places.{body_at, first_slips, is_open}
+use Rattle.cut_journal.specs.inside.Places.{body_at, first_slips, is_open}
 
 pub returns-clause-reported : goal.returns-clause-reported
 returns-clause-reported g c = λ honest.

@@ -1,8 +1,8 @@
 use Rattle.std.proofs.Common.{◌≡◌, ◌<◌, ◌-◌, length}
 use Rattle.std.specs.Prelude.{◌↔◌}
-use Rattle.cut_journal.specs.Steps.{AreWhole}
+use Rattle.cut_journal.specs.inside.Steps.{AreWhole}
 use Rattle.cut_journal.proofs.slips.read_slips.Given as goal
-use Rattle.cut_journal.specs.Places.{first_slips, gate_place}
+use Rattle.cut_journal.specs.inside.Places.{first_slips, gate_place}
 
 -- the slips so far are whole, and the disk is as before
 abbrev pub invariant-loop-slips : goal.invariant-loop-slips

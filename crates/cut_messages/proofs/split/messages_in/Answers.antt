@@ -6,7 +6,7 @@ use Rattle.std.proofs.Math.Seq.{drop-drop}
 use Rattle.std.specs.List.{AllByRecursion}
 use Rattle.cut_messages.specs.declared.message.Message.{Message}
 use Rattle.cut_messages.specs.Frames.{IsMessage, fault_at}
-use Rattle.cut_messages.specs.Prefixes.{message_in, IsWhole, IsShort}
+use Rattle.cut_messages.specs.inside.Prefixes.{message_in, IsWhole, IsShort}
 use Rattle.cut_messages.proofs.Frames.{no_message}
 use Rattle.cut_messages.proofs.Streams.{one_more}
 use Rattle.cut_messages.proofs.split.messages_in.Goals as goal

@@ -7,7 +7,7 @@ use Rattle.cut_ledger.specs.Machine.{slip_of}
 use Rattle.cut_journal.specs.declared.fault.JournalFault.TheVariants as journal
 use Rattle.cut_migration.specs.declared.fault.MigrateFault.{MigrateFault}
 use Rattle.cut_journal.specs.Journal.{AppendsEach, IsAppendFault, LeavesAppend, kept_slips}
-use Rattle.cut_migration.specs.Migration.{MovesOne}
+use Rattle.cut_migration.specs.inside.Migration.{MovesOne}
 use Rattle.cut_journal.proofs.Series.{append_moments, nothing_appended}
 use Rattle.cut_migration.proofs.Migrations.{moved_is, append_failed}
 use Rattle.cut_migration.proofs.migration.move_slip.Goals as goal

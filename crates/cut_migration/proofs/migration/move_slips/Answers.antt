@@ -8,7 +8,8 @@ use Rattle.cut_outcome.specs.Sum.{each_number}
 use Rattle.cut_ledger.specs.declared.slip.Slip.{Slip}
 use Rattle.cut_migration.specs.declared.fault.MigrateFault.{MigrateFault}
 use Rattle.cut_journal.specs.Journal.{AppendsEach, kept_slips}
-use Rattle.cut_migration.specs.Migration.{EndsMigration, MovesOne, first_moved, moved}
+use Rattle.cut_migration.specs.Migration.{EndsMigration, first_moved, moved}
+use Rattle.cut_migration.specs.inside.Migration.{MovesOne}
 use Rattle.cut_journal.proofs.Series.{nothing_appended}
 use Rattle.cut_migration.proofs.Migrations.{none_moved, moved_more, first_more, stopped, moments_more, moments_stop}
 use Rattle.cut_migration.proofs.migration.move_slips.Goals as goal

@@ -3,7 +3,7 @@ use Rattle.std.specs.List.{range_with_len}
 use Rattle.cut_rings.specs.Edges.{set_of}
 use Rattle.cut_detector.specs.Rule.{rule_in}
 use Rattle.cut_detector.specs.Counts.{is_reported}
-use Rattle.cut_nodes.specs.Runs.{runs_from}
+use Rattle.cut_nodes.specs.inside.Runs.{runs_from}
 use Rattle.cut_nodes.proofs.runs.reported_subjects.Given as goal
 
 abbrev pub invariant-loop-subject : goal.invariant-loop-subject

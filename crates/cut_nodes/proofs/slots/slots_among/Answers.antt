@@ -2,7 +2,8 @@ use Rattle.std.proofs.Common.{◌∷◌, ◌++◌, [], take, sym, subst}
 use Rattle.std.specs.Prelude.{slice_index_or}
 use Rattle.std.proofs.lemmas.List.{take_more}
 use Rattle.cut_rings.specs.declared.edge.Edge.{Edge}
-use Rattle.cut_nodes.specs.Slots.{AreSlots, IsSlot}
+use Rattle.cut_nodes.specs.Slots.{AreSlots}
+use Rattle.cut_nodes.specs.inside.Slots.{IsSlot}
 use Rattle.cut_nodes.proofs.SlotLemmas.{slots_more, extends_more}
 use Rattle.cut_nodes.proofs.slots.slots_among.Goals as goal
 

@@ -1,5 +1,6 @@
 use Rattle.std.proofs.Common.{take}
-use Rattle.cut_nodes.specs.Slots.{AreSlots, Extends}
+use Rattle.cut_nodes.specs.Slots.{AreSlots}
+use Rattle.cut_nodes.specs.inside.Slots.{Extends}
 use Rattle.cut_nodes.proofs.slots.slots_among.Given as goal
 
 abbrev pub invariant-loop-edge : goal.invariant-loop-edge

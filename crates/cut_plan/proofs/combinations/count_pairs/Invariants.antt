@@ -1,6 +1,6 @@
 use Rattle.std.proofs.Common.{◌≡◌, ◌*◌, ◌≤◌, take}
 use Rattle.std.specs.List.{sum_by}
-use Rattle.cut_plan.specs.Triples.{lows_under}
+use Rattle.cut_plan.specs.inside.Triples.{lows_under}
 use Rattle.cut_plan.proofs.combinations.count_pairs.Given as goal
 
 abbrev pub invariant-loop-high : goal.invariant-loop-high

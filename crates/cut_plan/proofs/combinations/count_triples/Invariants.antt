@@ -1,6 +1,6 @@
 use Rattle.std.proofs.Common.{◌≡◌, ◌*◌, ◌≤◌, take}
 use Rattle.std.specs.List.{sum_by}
-use Rattle.cut_plan.specs.Triples.{pairs_under}
+use Rattle.cut_plan.specs.inside.Triples.{pairs_under}
 use Rattle.cut_plan.proofs.combinations.count_triples.Given as goal
 
 abbrev pub invariant-loop-rings : goal.invariant-loop-rings

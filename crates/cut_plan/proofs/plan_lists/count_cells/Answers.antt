@@ -1,5 +1,5 @@
 use Rattle.std.proofs.Common.{◌≡◌, length, rules, refl}
-use Rattle.cut_plan.specs.Triples.{triples}
+use Rattle.cut_plan.specs.inside.Triples.{triples}
 use Rattle.cut_plan.proofs.Counting.{length_cells_of_lists}
 use Rattle.cut_plan.proofs.plan_lists.count_cells.Goals as goal
 

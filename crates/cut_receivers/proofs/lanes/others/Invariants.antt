@@ -1,6 +1,6 @@
 use Rattle.std.proofs.Common.{◌≡◌, ℕ, ◌<◌, cond, slice_index}
 use Rattle.cut_lanes.specs.Lanes.{lane}
-use Rattle.cut_receivers.specs.Findings.{is_other}
+use Rattle.cut_receivers.specs.inside.Findings.{is_other}
 use Rattle.cut_receivers.proofs.lanes.others.Given as goal
 
 -- whether some node so far differs from its flag

@@ -2,7 +2,7 @@ use Rattle.std.proofs.Common.{◌∙◌, ℕ, ◌+◌, nat_lt, cond, Bool, List,
 use Rattle.std.proofs.lemmas.List.{length-take}
 use Rattle.std.proofs.lemmas.List.Sums.{count_by-le-length}
 use Rattle.cut_nodes.specs.declared.slots.Slot.{Slot}
-use Rattle.cut_receivers.specs.Places.{image_in}
+use Rattle.cut_receivers.specs.inside.Places.{image_in}
 use Rattle.cut_receivers.proofs.Counts.{count_more}
 use Rattle.cut_receivers.proofs.places.count.Goals as goal
 

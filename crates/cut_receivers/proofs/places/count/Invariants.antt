@@ -1,6 +1,6 @@
 use Rattle.std.proofs.Common.{◌≡◌, ℕ, ◌+◌, ◌<◌, nat_lt, take, slice_index}
 use Rattle.std.specs.List.{count_by}
-use Rattle.cut_receivers.specs.Places.{image_in}
+use Rattle.cut_receivers.specs.inside.Places.{image_in}
 use Rattle.cut_receivers.proofs.places.count.Given as goal
 
 -- the slots so far are counted

@@ -4,7 +4,7 @@ use Rattle.std.proofs.lemmas.List.{length-set}
 use Rattle.cut_blocks.specs.Images.{never}
 use Rattle.cut_arrivals.specs.Hearing.{lows_at}
 use Rattle.cut_nodes.specs.declared.node.Node.{Node}
-use Rattle.cut_receivers.specs.Times.{hearing_in, AreHighsTo, IsHigh}
+use Rattle.cut_receivers.specs.inside.Times.{hearing_in, AreHighsTo, IsHigh}
 use Rattle.cut_receivers.proofs.Pairs.{pairs_set, pairs_kept}
 use Rattle.cut_receivers.proofs.Placed.{node_read, many_lows, low_at, many_subjects, subject_at, highs_are}
 use Rattle.cut_receivers.proofs.receivers.gain.Goals.{then-node, else-node}

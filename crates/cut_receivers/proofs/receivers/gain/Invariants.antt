@@ -1,5 +1,5 @@
 use Rattle.std.proofs.Common.{◌≡◌, vec_capacity}
-use Rattle.cut_receivers.specs.Times.{AreHighsTo}
+use Rattle.cut_receivers.specs.inside.Times.{AreHighsTo}
 use Rattle.cut_receivers.proofs.receivers.gain.Given as goal
 
 -- the highs of the nodes so far, and of those that gain no ring

@@ -5,7 +5,7 @@ use Rattle.cut_lanes.specs.Lanes.{lane}
 use Rattle.cut_lists.proofs.Maps.{map-map}
 use Rattle.cut_arrivals.specs.Hearing.{lows_at}
 use Rattle.cut_nodes.specs.declared.node.Node.{Node}
-use Rattle.cut_receivers.specs.Times.{hearing_in, IsHigh}
+use Rattle.cut_receivers.specs.inside.Times.{hearing_in, IsHigh}
 use Rattle.cut_receivers.proofs.Choices.{lane_more, lane_all}
 use Rattle.cut_receivers.proofs.Pairs.{pairs_more}
 use Rattle.cut_receivers.proofs.Placed.{node_read}

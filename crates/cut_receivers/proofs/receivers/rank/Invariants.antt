@@ -3,7 +3,7 @@ use Rattle.cut_blocks.specs.Images.{never}
 use Rattle.cut_lanes.specs.Lanes.{lane}
 use Rattle.cut_arrivals.specs.Hearing.{lows_at}
 use Rattle.cut_nodes.specs.declared.node.Node.{Node}
-use Rattle.cut_receivers.specs.Times.{hearing_in, IsHigh}
+use Rattle.cut_receivers.specs.inside.Times.{hearing_in, IsHigh}
 use Rattle.cut_receivers.proofs.receivers.rank.Given as goal
 
 -- the times of the nodes so far

@@ -4,7 +4,7 @@ use Rattle.std.proofs.lemmas.List.{map_more}
 use Rattle.std.proofs.lemmas.List.Elements.{All-same, All-push}
 use Rattle.cut_rings.specs.declared.ring.Ring.{Ring}
 use Rattle.cut_rings.specs.Listed.{listed_position}
-use Rattle.cut_rings.specs.Inverse.{IsInverse}
+use Rattle.cut_rings.specs.inside.Inverse.{IsInverse}
 use Rattle.cut_rings.proofs.Sound.{positions_pushed}
 use Rattle.cut_rings.proofs.listed.listed_rings.Goals as goal
 

@@ -1,6 +1,6 @@
 use Rattle.std.proofs.Common.{◌≡◌, map, take}
 use Rattle.std.specs.List.{All, range_with_len}
-use Rattle.cut_rings.specs.Inverse.{IsInverse}
+use Rattle.cut_rings.specs.inside.Inverse.{IsInverse}
 use Rattle.cut_rings.specs.Listed.{listed_position}
 use Rattle.cut_rings.proofs.listed.listed_rings.Given as goal
 

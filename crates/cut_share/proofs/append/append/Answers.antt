@@ -7,8 +7,8 @@ use Rattle.cut_ledger.specs.Machine.{slip_of}
 use Rattle.cut_journal.specs.declared.fault.JournalFault.TheVariants as journal
 use Rattle.cut_journal.specs.Journal.{IsAppendFault, LeavesAppend}
 use Rattle.cut_share.specs.declared.fault.ShareFault.{ShareFault}
-use Rattle.cut_share.specs.Running.{EndsAppends}
-use Rattle.cut_share.specs.Tasks.{done_of}
+use Rattle.cut_share.specs.inside.Running.{EndsAppends}
+use Rattle.cut_share.specs.inside.Tasks.{done_of}
 use Rattle.cut_share.proofs.Appends.{done_none, none_added, none_failed, result_is, task_appended, task_failed}
 use Rattle.cut_share.proofs.append.append.Goals as goal
 

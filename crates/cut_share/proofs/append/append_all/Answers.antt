@@ -8,8 +8,8 @@ use Rattle.cut_ledger.specs.declared.slip.Slip.{Slip}
 use Rattle.cut_share.specs.declared.fault.ShareFault.{ShareFault}
 use Rattle.cut_share.specs.declared.task.Task.{Task}
 use Rattle.cut_share.specs.Appending.{Adds, NoneFailed}
-use Rattle.cut_share.specs.Running.{EndsAppends, slip_at, slips_at}
-use Rattle.cut_share.specs.Tasks.{IsRun, done_of}
+use Rattle.cut_share.specs.inside.Running.{EndsAppends, slip_at, slips_at}
+use Rattle.cut_share.specs.inside.Tasks.{IsRun, done_of}
 use Rattle.cut_share.proofs.Appends.{added_more, appends_stop, done_more, done_split, none_added, none_failed}
 use Rattle.cut_share.proofs.append.append_all.Goals as goal
 

@@ -1,8 +1,8 @@
 use Rattle.std.proofs.Common.{◌≡◌, take}
 use Rattle.std.specs.Prelude.{◌↔◌}
 use Rattle.cut_share.specs.Appending.{Adds, NoneFailed}
-use Rattle.cut_share.specs.Running.{slips_at}
-use Rattle.cut_share.specs.Tasks.{done_of}
+use Rattle.cut_share.specs.inside.Running.{slips_at}
+use Rattle.cut_share.specs.inside.Tasks.{done_of}
 use Rattle.cut_share.proofs.append.append_all.Given as goal
 
 -- the results of the tasks so far are kept

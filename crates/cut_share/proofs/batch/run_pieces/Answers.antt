@@ -6,10 +6,10 @@ use Rattle.cut_outcome.specs.declared.piece.Piece.{Piece}
 use Rattle.cut_ledger.specs.World.{times_in}
 use Rattle.cut_share.specs.declared.fault.ShareFault.{ShareFault}
 use Rattle.cut_share.specs.declared.task.Task.{Task}
-use Rattle.cut_share.specs.Batches.{EndsPieces, IsUpTo}
-use Rattle.cut_share.specs.Pieces.{own_times}
-use Rattle.cut_share.specs.Running.{EndsAppends}
-use Rattle.cut_share.specs.Tasks.{done_of, pieces_of}
+use Rattle.cut_share.specs.inside.Batches.{EndsPieces, IsUpTo}
+use Rattle.cut_share.specs.inside.Pieces.{own_times}
+use Rattle.cut_share.specs.inside.Running.{EndsAppends}
+use Rattle.cut_share.specs.inside.Tasks.{done_of, pieces_of}
 use Rattle.cut_share.proofs.Appends.{none_added}
 use Rattle.cut_share.proofs.Batches.{batch_more, batch_stops, deal_of, none_yet, up_to_end}
 use Rattle.cut_share.proofs.batch.run_pieces.Goals as goal

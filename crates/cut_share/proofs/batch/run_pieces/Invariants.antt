@@ -1,7 +1,7 @@
 use Rattle.std.proofs.Common.{◌≡◌, ◌∷◌}
 use Rattle.std.specs.Prelude.{◌↔◌}
-use Rattle.cut_share.specs.Batches.{IsUpTo}
-use Rattle.cut_share.specs.Pieces.{trials_in_all}
+use Rattle.cut_share.specs.inside.Batches.{IsUpTo}
+use Rattle.cut_share.specs.inside.Pieces.{trials_in_all}
 use Rattle.cut_share.proofs.batch.run_pieces.Given as goal
 
 -- the batches so far are worked off

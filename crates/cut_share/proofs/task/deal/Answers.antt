@@ -2,8 +2,8 @@ use Rattle.std.proofs.Common.{◌≡◌, ℕ, ◌+◌, ◌<◌, ◌≤◌, ◌�
 use Rattle.std.specs.Prelude.{slice_set}
 use Rattle.cut_outcome.specs.declared.piece.Piece.{Piece}
 use Rattle.cut_ledger.specs.World.{times_in}
-use Rattle.cut_share.specs.Pieces.{IsSharePiece, own_times, trials_in_all}
-use Rattle.cut_share.specs.Tasks.{pieces_of}
+use Rattle.cut_share.specs.inside.Pieces.{IsSharePiece, own_times, trials_in_all}
+use Rattle.cut_share.specs.inside.Tasks.{pieces_of}
 use Rattle.cut_share.proofs.Dealing.{dealt, none_dealt, none_left, one_dealt, own_dealt}
 use Rattle.cut_share.proofs.task.deal.Goals as goal
 

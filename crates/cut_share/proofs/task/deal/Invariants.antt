@@ -1,7 +1,7 @@
 use Rattle.std.proofs.Common.{◌≡◌, ℕ, ◌+◌, ◌≤◌, ◌∷◌, take, All}
 use Rattle.cut_ledger.specs.World.{times_in}
-use Rattle.cut_share.specs.Pieces.{IsSharePiece, own_times, trials_in_all}
-use Rattle.cut_share.specs.Tasks.{pieces_of}
+use Rattle.cut_share.specs.inside.Pieces.{IsSharePiece, own_times, trials_in_all}
+use Rattle.cut_share.specs.inside.Tasks.{pieces_of}
 use Rattle.cut_share.proofs.task.deal.Given as goal
 
 -- the tasks so far have the first pieces

@@ -3,7 +3,8 @@ use Rattle.std.proofs.lemmas.Result.{IfOk-weaker, IfErr-weaker}
 use Rattle.cut_plan.specs.Canonical.{canonical_text}
 use Rattle.cut_plan.specs.Values.{Values}
 use Rattle.cut_journal.specs.Reading.{says_plan}
-use Rattle.cut_status.specs.Study.{IsOfNoPlan, IsStatusFault}
+use Rattle.cut_status.specs.Study.{IsStatusFault}
+use Rattle.cut_status.specs.inside.Study.{IsOfNoPlan}
 use Rattle.cut_status.proofs.Headers.{text_says}
 use Rattle.cut_status.proofs.Readings.{no_header, no_plan}
 use Rattle.cut_status.proofs.header.header_plan.Goals as goal

@@ -5,8 +5,8 @@ use Rattle.cut_plan.specs.Values.{Values}
 use Rattle.cut_plan.specs.Cells.{cells_of}
 use Rattle.cut_ledger.specs.declared.slip.Slip.{Slip}
 use Rattle.cut_ledger.specs.Machine.{table_over}
-use Rattle.cut_study.specs.Conclusion.{Concludes}
-use Rattle.cut_study.specs.Emission.{EmitsStudy}
+use Rattle.cut_study.specs.inside.Conclusion.{Concludes}
+use Rattle.cut_study.specs.inside.Emission.{EmitsStudy}
 use Rattle.cut_hall.specs.Report.{SlotEnd, calls_in_all}
 use Rattle.cut_study.proofs.Conclusions.{ended, takes}
 use Rattle.cut_study.proofs.study_run.run_begun.Goals as goal

@@ -1,5 +1,5 @@
 use Rattle.std.proofs.Common.{◌∙◌, ℕ, List, ap}
-use Rattle.bit_list.specs.Bits.{bits_of}
+use Rattle.bit_list.specs.inside.Bits.{bits_of}
 use Rattle.bit_list.proofs.Places.{none_set}
 use Rattle.bit_list.proofs.bit_list.BitList.new.Goals as goal
 

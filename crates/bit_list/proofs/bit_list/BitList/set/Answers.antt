@@ -1,6 +1,6 @@
 use Rattle.std.proofs.Common.{◌∙◌, ◌<◌, ◌≤◌, ◌*◌, ◌/◌, ◌%◌, ◌^◌, ℕ, Bool, true, List, length, set, bit_or, ap, arith}
 use Rattle.std.proofs.lemmas.Grind.{get_or_default_zero}
-use Rattle.bit_list.specs.Bits.{bits_of}
+use Rattle.bit_list.specs.inside.Bits.{bits_of}
 use Rattle.bit_list.proofs.Places.{long, one_more_set}
 use Rattle.bit_list.proofs.bit_list.BitList.set.Goals as goal
 

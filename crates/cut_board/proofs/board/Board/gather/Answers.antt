@@ -2,7 +2,7 @@ use Rattle.std.proofs.Common.{◌≡◌, List, [], ◌∷◌, ◌++◌, Some, sy
 use Rattle.std.proofs.lemmas.List.Elements.{All-pop}
 use Rattle.cut_board.specs.declared.seat.Seat.{Seat}
 use Rattle.cut_board.specs.Names.{board_id, board_of, view_of, views_of}
-use Rattle.cut_board.specs.Views.{joined}
+use Rattle.cut_board.specs.inside.Views.{joined}
 use Rattle.cut_board.proofs.Allowed.{join_allowed}
 use Rattle.cut_board.proofs.Ends.{gathered_more}
 use Rattle.cut_board.proofs.board.Board.gather.Goals as goal

@@ -1,7 +1,7 @@
 use Rattle.std.proofs.Common.{◌≡◌, ◌++◌, List, vec_len, All}
 use Rattle.cut_board.specs.declared.seat.Seat.{Seat}
 use Rattle.cut_board.specs.Names.{board_id, board_of, views_of}
-use Rattle.cut_board.specs.Views.{gathered}
+use Rattle.cut_board.specs.inside.Views.{gathered}
 use Rattle.cut_board.proofs.board.Board.gather.Given as goal
 
 -- the seats that were taken, of which the one has done all

@@ -1,5 +1,5 @@
 use Rattle.std.proofs.Common.{[], ◌∷◌, sym, ◌∙◌, subst, arith}
-use Rattle.cut_board.specs.Rule.{Kept}
+use Rattle.cut_board.specs.inside.Rule.{Kept}
 use Rattle.cut_board.specs.Views.{idle}
 use Rattle.cut_board.proofs.Keeps.{begins}
 use Rattle.cut_board.proofs.board.Board.start.Goals as goal

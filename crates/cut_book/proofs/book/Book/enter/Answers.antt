@@ -6,7 +6,7 @@ use Rattle.cut_ledger.specs.Contents.{Contents, cell_of_piece, with_piece}
 use Rattle.cut_ledger.specs.Machine.{StudyState, after, slip_of}
 use Rattle.cut_book.specs.declared.call.Answer.TheVariants.{Accepted, DiskFails}
 use Rattle.cut_book.specs.History.{event_of}
-use Rattle.cut_book.specs.Book.{state_in}
+use Rattle.cut_book.specs.inside.Book.{state_in}
 use Rattle.cut_book.proofs.Legal.{legal_on, noted}
 use Rattle.cut_book.proofs.Refused.{free}
 use Rattle.cut_book.proofs.Entered.{accepted_answer, accepted_book, accepted_hands, entered_step, failed_answer}

@@ -8,7 +8,8 @@ use Rattle.cut_ledger.specs.declared.event.Reply.TheVariants as reply
 use Rattle.cut_ledger.specs.Machine.{StudyState, after}
 use Rattle.cut_book.specs.declared.call.Call.TheVariants.{Lose}
 use Rattle.cut_book.specs.History.{Opening}
-use Rattle.cut_book.specs.Book.{BookValue, state_in}
+use Rattle.cut_book.specs.Book.{BookValue}
+use Rattle.cut_book.specs.inside.Book.{state_in}
 use Rattle.cut_book.proofs.Legal.{Noted, legal_on, kept_same, state_same, followed_same, stepped}
 use Rattle.cut_book.proofs.Losses.{held_within, one_lost}
 use Rattle.cut_book.proofs.book.Book.lose.Goals as goal

@@ -5,7 +5,8 @@ use Rattle.cut_ledger.specs.Contents.{Contents, over_base}
 use Rattle.cut_ledger.specs.Machine.{StudyState, opened}
 use Rattle.cut_book.specs.declared.call.Call.{Call}
 use Rattle.cut_book.specs.History.{Opening, LeadsTo, opened_by}
-use Rattle.cut_book.specs.Book.{FollowsState, state_in}
+use Rattle.cut_book.specs.Book.{FollowsState}
+use Rattle.cut_book.specs.inside.Book.{state_in}
 use Rattle.cut_book.proofs.Losses.{none_lost}
 use Rattle.cut_book.proofs.OpenedBooks.{fresh_doubt, fresh_plan, fresh_followed, opened_state}
 use Rattle.cut_book.proofs.book.Book.new.Goals as goal

@@ -1,7 +1,7 @@
 use Rattle.std.proofs.Common.{◌∙◌, sym, ap}
 use Rattle.cut_ledger.specs.Machine.{StudyState}
 use Rattle.cut_book.specs.History.{accepted_slip}
-use Rattle.cut_book.specs.Book.{state_in}
+use Rattle.cut_book.specs.inside.Book.{state_in}
 use Rattle.cut_book.proofs.Legal.{legal_on, noted, said}
 use Rattle.cut_book.proofs.Entered.{broken_has}
 use Rattle.cut_book.proofs.Refused.{refused, refused_step, refused_hands}

@@ -3,7 +3,7 @@ use Rattle.std.proofs.lemmas.List.{get_or-map, length-map, take_all}
 use Rattle.cut_book.specs.declared.call.Call.{Call}
 use Rattle.cut_book.specs.declared.call.Call.TheVariants.{Lose}
 use Rattle.cut_book.specs.declared.history.Entry.{Entry}
-use Rattle.cut_book.specs.HistoryInside.{course_of}
+use Rattle.cut_book.specs.inside.HistoryInside.{course_of}
 use Rattle.cut_book.specs.History.{accepted_in}
 use Rattle.cut_book.proofs.Merged.{others_accept}
 use Rattle.cut_book.proofs.Sums.{few_accepted, next_adds, next_fits}

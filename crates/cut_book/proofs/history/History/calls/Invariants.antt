@@ -1,5 +1,5 @@
 use Rattle.std.proofs.Common.{◌≡◌, ◌++◌, drop, length}
-use Rattle.cut_book.specs.HistoryInside.{AreInOrder, calls_from}
+use Rattle.cut_book.specs.inside.HistoryInside.{AreInOrder, calls_from}
 use Rattle.cut_book.proofs.history.History.calls.Given as goal
 
 -- with what comes after them, the calls so far are all

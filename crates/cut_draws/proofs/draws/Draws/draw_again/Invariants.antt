@@ -1,5 +1,5 @@
 use Rattle.std.proofs.Common.{◌≡◌, map, take}
-use Rattle.cut_draws.specs.Packed.{keyed_at}
+use Rattle.cut_draws.specs.inside.Packed.{keyed_at}
 use Rattle.cut_draws.proofs.draws.Draws.draw_again.Given as goal
 
 abbrev pub invariant-loop-word : goal.invariant-loop-word

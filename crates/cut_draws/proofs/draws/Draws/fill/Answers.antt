@@ -6,7 +6,7 @@ use Rattle.cut_draws.specs.declared.delivery_order.Arrivals.{Arrivals}
 use Rattle.cut_draws.specs.Source.{Source, key_at}
 use Rattle.cut_rings.specs.Edges.{is_edge_of}
 use Rattle.cut_draws.specs.DeliveryOrder.{delivery_place, all_deliveries, IsDeliveryOrder}
-use Rattle.cut_draws.specs.Packed.{delivery_in, packed_at, keyed_at, ArePackedRising}
+use Rattle.cut_draws.specs.inside.Packed.{delivery_in, packed_at, keyed_at, ArePackedRising}
 use Rattle.cut_draws.proofs.Apart.{compare_by}
 use Rattle.cut_draws.proofs.Unpacked.{IsPacked, packed_edges, packed_moved, rising_sorted, keyed_by, keyed_sorted}
 use Rattle.cut_draws.proofs.Unpacked.{keyed_packed}

@@ -1,7 +1,7 @@
 use Rattle.std.proofs.Common.{◌∙◌, ◌++◌, map, ap, sym}
 use Rattle.std.proofs.lemmas.List.{map-append}
 use Rattle.cut_draws.specs.DeliveryOrder.{all_deliveries, copies_of}
-use Rattle.cut_draws.specs.Packed.{packed_at}
+use Rattle.cut_draws.specs.inside.Packed.{packed_at}
 use Rattle.cut_draws.proofs.Copies.{one_more_copy}
 use Rattle.cut_draws.proofs.draws.Draws.pack.Goals as goal
 

@@ -1,5 +1,5 @@
 use Rattle.std.proofs.Common.{◌≡◌, map}
-use Rattle.cut_draws.specs.Packed.{packed_at}
+use Rattle.cut_draws.specs.inside.Packed.{packed_at}
 use Rattle.cut_draws.specs.DeliveryOrder.{all_deliveries}
 use Rattle.cut_draws.proofs.draws.Draws.pack.Given as goal
 

@@ -1,5 +1,5 @@
 use Rattle.std.proofs.Common.{◌≡◌, ◌++◌, map, take}
-use Rattle.cut_draws.specs.Packed.{packed_at}
+use Rattle.cut_draws.specs.inside.Packed.{packed_at}
 use Rattle.cut_draws.specs.DeliveryOrder.{copies_of}
 use Rattle.cut_draws.proofs.draws.Draws.pack_copy.Given as goal
 

@@ -6,7 +6,7 @@ use Rattle.cut_ledger.specs.Slips.{AreGood}
 use Rattle.cut_ledger.specs.World.{AreTrue}
 use Rattle.cut_ledger.specs.declared.slip.Slip.{Slip}
 use Rattle.cut_hall.proofs.Trusted.{may_begin, fresh_first, fresh_unkept}
-use Rattle.cut_hall.specs.Slot.{calls_in}
+use Rattle.cut_hall.specs.inside.Slot.{calls_in}
 use Rattle.cut_hall.proofs.slot.Slot.begin.Goals as goal
 
 pub invariant_of-self-clause-one_part : goal.invariant_of-self-clause-one_part

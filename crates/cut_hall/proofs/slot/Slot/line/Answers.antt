@@ -1,6 +1,6 @@
 use Rattle.std.proofs.Common.{◌≡◌, ◌∙◌, Bool, true, Ok, Some, ap, subst}
 use Rattle.cut_hall.specs.Lines.{full_line}
-use Rattle.cut_hall.specs.Slot.{CanGive}
+use Rattle.cut_hall.specs.inside.Slot.{CanGive}
 use Rattle.cut_hall.proofs.FullLines.{done_line}
 use Rattle.cut_hall.proofs.slot.Slot.line.Goals as goal
 

@@ -1,7 +1,7 @@
 use Rattle.std.proofs.Common.{◌∙◌, [], ℕ, sym, ap, arith}
 use Rattle.cut_journal.proofs.Appends.{opened_sound}
 use Rattle.cut_journal.proofs.journal.Journal.create.Goals as goal
-use Rattle.cut_journal.specs.Places.{gate_place}
+use Rattle.cut_journal.specs.inside.Places.{gate_place}
 
 pub invariant_of-result : goal.invariant_of-result
 invariant_of-result g c = (

@@ -3,7 +3,7 @@ use Rattle.std.proofs.lemmas.Grind.{take_at_read}
 use Rattle.std.proofs.lemmas.List.{length-map, length-take-le, map-append, take_all}
 use Rattle.std.proofs.lemmas.List.Elements.{All-push}
 use Rattle.cut_ledger.specs.declared.division.Stretch.{Stretch}
-use Rattle.cut_ledger.specs.DivisionInside.{gaps_in}
+use Rattle.cut_ledger.specs.inside.DivisionInside.{gaps_in}
 use Rattle.cut_ledger.proofs.DivisionLemmas.{counted_push, few_before, no_piece, one_gap}
 use Rattle.cut_ledger.proofs.Words.{Piece, flat_map, parts_of}
 use Rattle.cut_ledger.proofs.division.Division.of_gaps.Goals as goal

@@ -1,5 +1,5 @@
 use Rattle.std.proofs.Common.{◌≡◌, take, length}
-use Rattle.cut_ledger.specs.DivisionInside.{ArePiecesCounted, AreWithin, gaps_in}
+use Rattle.cut_ledger.specs.inside.DivisionInside.{ArePiecesCounted, AreWithin, gaps_in}
 use Rattle.cut_ledger.proofs.Words.{flat_map, parts_of}
 use Rattle.cut_ledger.proofs.division.Division.of_gaps.Given as goal
 

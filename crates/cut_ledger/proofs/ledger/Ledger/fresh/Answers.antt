@@ -1,6 +1,6 @@
 -- Over no slips nothing is held.
 use Rattle.std.proofs.Common.{◌∙◌, [], ap}
-use Rattle.cut_ledger.specs.Kept.{contents_in}
+use Rattle.cut_ledger.specs.inside.Kept.{contents_in}
 use Rattle.cut_ledger.proofs.SlipLemmas.{over_contents}
 use Rattle.cut_ledger.proofs.ledger.Ledger.fresh.Goals as goal
 

@@ -1,6 +1,6 @@
 -- What is held is what the slips say.
 use Rattle.std.proofs.Common.{ap, ◌∙◌}
-use Rattle.cut_ledger.specs.Kept.{contents_in}
+use Rattle.cut_ledger.specs.inside.Kept.{contents_in}
 use Rattle.cut_ledger.proofs.SlipLemmas.{over_contents}
 use Rattle.cut_ledger.proofs.ledger.Ledger.from_slips.Goals as goal
 

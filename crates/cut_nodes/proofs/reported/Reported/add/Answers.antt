@@ -1,5 +1,5 @@
 use Rattle.std.proofs.Common.{◌∙◌, sym}
-use Rattle.cut_nodes.specs.Reported.{alerts_of, rule_of_reported}
+use Rattle.cut_nodes.specs.inside.Reported.{alerts_of, rule_of_reported}
 use Rattle.cut_nodes.proofs.RunLemmas.{reported_by}
 use Rattle.cut_nodes.proofs.NodeLemmas.{listed_push, listed_skip}
 use Rattle.cut_nodes.proofs.reported.Reported.add.Goals as goal

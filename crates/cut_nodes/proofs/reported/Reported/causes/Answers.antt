@@ -1,7 +1,7 @@
 use Rattle.std.proofs.Common.{rules, ◌≡◌, ℕ, ◌∙◌, true, false, cond, sym}
 use Rattle.std.specs.Prelude.{is_some}
 use Rattle.cut_detector.specs.Counts.{is_full}
-use Rattle.cut_nodes.specs.Reported.{alerts_of, rule_of_reported}
+use Rattle.cut_nodes.specs.inside.Reported.{alerts_of, rule_of_reported}
 use Rattle.cut_nodes.proofs.HeardLemmas.{hears_next}
 use Rattle.cut_nodes.proofs.CauseLemmas.{full_is, gain_is, causes_push, causes_skip}
 use Rattle.cut_nodes.proofs.reported.Reported.causes.Goals as goal

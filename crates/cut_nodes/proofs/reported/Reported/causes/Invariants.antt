@@ -2,7 +2,7 @@ use Rattle.std.proofs.Common.{◌≡◌, ℕ, ◌-◌, List, length}
 use Rattle.cut_rings.specs.Edges.{rings_to}
 use Rattle.cut_detector.specs.Counts.{is_full}
 use Rattle.cut_nodes.specs.Slots.{AreSlots}
-use Rattle.cut_nodes.specs.Reported.{alerts_of, rule_of_reported, AreCauses}
+use Rattle.cut_nodes.specs.inside.Reported.{alerts_of, rule_of_reported, AreCauses}
 use Rattle.cut_nodes.proofs.HeardLemmas.{edges_from}
 use Rattle.cut_nodes.proofs.reported.Reported.causes.Given as goal
 

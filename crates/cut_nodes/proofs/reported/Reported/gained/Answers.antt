@@ -1,7 +1,7 @@
 use Rattle.std.proofs.Common.{Ok, Err, inl, inr, arith}
 use Rattle.std.proofs.lemmas.Bool.{cases_lt}
 use Rattle.std.proofs.lemmas.List.Sorted.{searched}
-use Rattle.cut_nodes.specs.Reported.{alerts_of, rule_of_reported}
+use Rattle.cut_nodes.specs.inside.Reported.{alerts_of, rule_of_reported}
 use Rattle.cut_nodes.proofs.GainLemmas.{gains_found, gains_missed, reported_rise, few_reported}
 use Rattle.cut_nodes.proofs.reported.Reported.gained.Goals as goal
 

@@ -4,7 +4,7 @@ use Rattle.std.specs.Prelude.{is_some}
 use Rattle.std.specs.List.{list_any}
 use Rattle.cut_nodes.specs.declared.node.Cause.{Cause}
 use Rattle.cut_nodes.specs.Slots.{AreSlots}
-use Rattle.cut_nodes.specs.Reported.{alerts_of}
+use Rattle.cut_nodes.specs.inside.Reported.{alerts_of}
 use Rattle.cut_nodes.proofs.RunLemmas.{edges_of_run}
 use Rattle.cut_nodes.proofs.CauseLemmas.{some_gain}
 use Rattle.cut_nodes.proofs.reported.Reported.node.Goals as goal

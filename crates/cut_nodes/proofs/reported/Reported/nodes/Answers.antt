@@ -1,7 +1,7 @@
 use Rattle.std.proofs.Common.{◌∙◌, ap, length, nat_le, arith}
 use Rattle.std.specs.List.{list_any}
 use Rattle.cut_nodes.specs.declared.node.Node.{Node}
-use Rattle.cut_nodes.specs.Reported.{alerts_of}
+use Rattle.cut_nodes.specs.inside.Reported.{alerts_of}
 use Rattle.cut_nodes.proofs.RunLemmas.{next_run, few_edges}
 use Rattle.cut_nodes.proofs.NodeLemmas.{are_all}
 use Rattle.cut_nodes.proofs.reported.Reported.nodes.Goals as goal

@@ -1,6 +1,6 @@
 use Rattle.std.proofs.Common.{◌≡◌, ◌≤◌, ◌+◌, ◌-◌, length}
-use Rattle.cut_nodes.specs.Runs.{runs_from}
-use Rattle.cut_nodes.specs.Reported.{alerts_of, HasListed}
+use Rattle.cut_nodes.specs.inside.Runs.{runs_from}
+use Rattle.cut_nodes.specs.inside.Reported.{alerts_of, HasListed}
 use Rattle.cut_nodes.proofs.reported.Reported.nodes.Given as goal
 
 abbrev pub invariant-loop-subject : goal.invariant-loop-subject

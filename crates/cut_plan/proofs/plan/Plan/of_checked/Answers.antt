@@ -5,7 +5,7 @@ use Rattle.hex.specs.Hex.{decode_sized}
 use Rattle.serde_json.specs.View.{view}
 use Rattle.cut_plan.specs.declared.field.Field.TheVariants as field
 use Rattle.cut_plan.specs.Plan.{IsPlan}
-use Rattle.cut_plan.specs.Fields.{text_at}
+use Rattle.cut_plan.specs.inside.Fields.{text_at}
 use Rattle.cut_plan.proofs.Checked.{checked_facts}
 use Rattle.cut_plan.proofs.PlanFacts.{few_copies, few_liars, few_links, few_processes, few_repeats, plan_facts}
 use Rattle.cut_plan.proofs.plan.Plan.of_checked.Goals as goal

@@ -5,7 +5,7 @@ use Rattle.cut_blocks.specs.Images.{never}
 use Rattle.cut_arrivals.specs.Hearing.{lows_at}
 use Rattle.cut_nodes.specs.declared.slots.Slot.{Slot}
 use Rattle.cut_nodes.specs.Slots.{key_in}
-use Rattle.cut_receivers.specs.Times.{hearing_in, subjects_in, image_if, time_if}
+use Rattle.cut_receivers.specs.inside.Times.{hearing_in, subjects_in, image_if, time_if}
 use Rattle.cut_receivers.proofs.Placed.{low_at}
 use Rattle.cut_receivers.proofs.images.Images.counted_from.Goals.{in-Some, in-None, in-Some-gained, in-None-gained}
 use Rattle.cut_receivers.proofs.images.Images.counted_from.Goals as goal

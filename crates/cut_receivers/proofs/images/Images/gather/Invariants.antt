@@ -1,7 +1,7 @@
 use Rattle.std.proofs.Common.{◌≡◌, ℕ, ◌<◌, ◌≤◌, length, map, take, vec_len, vec_capacity}
 use Rattle.cut_lanes.specs.Lanes.{lane}
 use Rattle.cut_nodes.specs.Slots.{key_in}
-use Rattle.cut_receivers.specs.Times.{hearing_in, image_of_key}
+use Rattle.cut_receivers.specs.inside.Times.{hearing_in, image_of_key}
 use Rattle.cut_receivers.proofs.images.Images.gather.Given as goal
 
 -- the images of the slots so far

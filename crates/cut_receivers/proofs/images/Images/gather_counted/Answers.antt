@@ -2,7 +2,7 @@ use Rattle.std.proofs.Common.{◌∙◌, ℕ, ◌<◌, List, length, None, refl,
 use Rattle.cut_lanes.specs.Lanes.{lane}
 use Rattle.cut_nodes.specs.declared.node.Cause.{Cause}
 use Rattle.cut_nodes.specs.Nodes.{cause_in}
-use Rattle.cut_receivers.specs.Times.{hearing_in, subjects_in, time_of_cause}
+use Rattle.cut_receivers.specs.inside.Times.{hearing_in, subjects_in, time_of_cause}
 use Rattle.cut_receivers.proofs.Bounds.{few_causes}
 use Rattle.cut_receivers.proofs.Choices.{lane_more}
 use Rattle.cut_receivers.proofs.images.Images.gather_counted.Goals as goal

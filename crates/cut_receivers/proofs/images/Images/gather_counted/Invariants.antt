@@ -1,7 +1,7 @@
 use Rattle.std.proofs.Common.{◌≡◌, ℕ, ◌<◌, ◌≤◌, length, map, take, vec_len, vec_capacity}
 use Rattle.cut_lanes.specs.Lanes.{lane}
 use Rattle.cut_nodes.specs.Nodes.{cause_in}
-use Rattle.cut_receivers.specs.Times.{hearing_in, subjects_in, time_of_cause}
+use Rattle.cut_receivers.specs.inside.Times.{hearing_in, subjects_in, time_of_cause}
 use Rattle.cut_receivers.proofs.images.Images.gather_counted.Given as goal
 
 -- the times of the causes so far

@@ -5,7 +5,7 @@ use Rattle.cut_ranks.specs.Ranks.{IsRank}
 use Rattle.cut_lanes.specs.Lanes.{lane}
 use Rattle.cut_nodes.specs.declared.slots.Slot.{Slot}
 use Rattle.cut_nodes.specs.Slots.{key_in}
-use Rattle.cut_receivers.specs.Times.{hearing_in, image_of_key}
+use Rattle.cut_receivers.specs.inside.Times.{hearing_in, image_of_key}
 use Rattle.cut_receivers.proofs.Bounds.{few_heard}
 use Rattle.cut_receivers.proofs.Heard.{gathered, gathered_within, low_is, high_is}
 use Rattle.cut_receivers.proofs.images.Images.times.Goals as goal

@@ -2,7 +2,8 @@ use Rattle.std.proofs.Common.{◌≡◌, ◌∙◌, ℕ, Bool, not, nat_lt, cond
 use Rattle.cut_blocks.specs.Images.{never}
 use Rattle.cut_lanes.specs.Lanes.{lane}
 use Rattle.cut_ranks.specs.Closing.{is_doubtful}
-use Rattle.cut_receivers.specs.Findings.{flagged, has_bit, is_other, members_at}
+use Rattle.cut_receivers.specs.Findings.{flagged, has_bit, members_at}
+use Rattle.cut_receivers.specs.inside.Findings.{is_other}
 use Rattle.cut_receivers.proofs.Judged.{has_ended, members_are, wanted_members, other_members, bit_is, silent_bit}
 use Rattle.cut_receivers.proofs.Judged.{found}
 use Rattle.cut_receivers.proofs.Placed.{lane_long}

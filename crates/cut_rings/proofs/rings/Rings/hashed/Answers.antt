@@ -7,7 +7,7 @@ use Rattle.cut_rings.specs.Hashed.{hashed_position, hashed_layout}
 use Rattle.cut_rings.specs.Layout.{Layout}
 use Rattle.cut_plan.specs.Cells.{largest}
 use Rattle.cut_plan.specs.Plan.{IsPlan}
-use Rattle.cut_rings.specs.Inverse.{IsInverse}
+use Rattle.cut_rings.specs.inside.Inverse.{IsInverse}
 use Rattle.cut_rings.proofs.Sound.{positions_pushed, many_rings, sound}
 use Rattle.cut_rings.proofs.rings.Rings.hashed.Goals as goal
 

@@ -1,7 +1,7 @@
 use Rattle.std.proofs.Common.{◌≡◌, map}
 use Rattle.std.specs.List.{All, range_with_len}
 use Rattle.cut_rings.specs.Hashed.{hashed_position}
-use Rattle.cut_rings.specs.Inverse.{IsInverse}
+use Rattle.cut_rings.specs.inside.Inverse.{IsInverse}
 use Rattle.cut_rings.proofs.rings.Rings.hashed.Given as goal
 
 -- the rings made so far are the first ones

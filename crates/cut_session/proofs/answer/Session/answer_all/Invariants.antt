@@ -1,7 +1,7 @@
 use Rattle.std.proofs.Common.{◌≡◌, ◌*◌, Ok, length, take}
 use Rattle.cut_wires.specs.Sending.{sending}
 use Rattle.cut_session.specs.Answering.{AnswersAll}
-use Rattle.cut_session.specs.Serving.{Replies, longest_reply}
+use Rattle.cut_session.specs.inside.Serving.{Replies, longest_reply}
 use Rattle.cut_session.proofs.answer.Session.answer_all.Given as goal
 
 -- the requests so far are answered

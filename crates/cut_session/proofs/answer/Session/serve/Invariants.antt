@@ -1,6 +1,6 @@
 use Rattle.std.proofs.Common.{◌≡◌, ◌≤◌, []}
 use Rattle.cut_wires.specs.Sending.{sending}
-use Rattle.cut_session.specs.Serving.{IsServing}
+use Rattle.cut_session.specs.inside.Serving.{IsServing}
 use Rattle.cut_session.proofs.answer.Session.serve.Given as goal
 
 -- all messages so far are answered

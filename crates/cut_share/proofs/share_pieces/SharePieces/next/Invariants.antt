@@ -1,5 +1,5 @@
 use Rattle.std.proofs.Common.{◌≡◌, ℕ, ◌≤◌, ◌∷◌, length}
-use Rattle.cut_share.specs.Pieces.{own_times, trials_in_all}
+use Rattle.cut_share.specs.inside.Pieces.{own_times, trials_in_all}
 use Rattle.cut_share.proofs.share_pieces.SharePieces.next.Given as goal
 
 -- nothing of the share was taken off

@@ -1,5 +1,5 @@
 use Rattle.std.proofs.Common.{◌≡◌, ℕ, ◌≤◌, [], ◌∷◌}
-use Rattle.cut_share.specs.Pieces.{own_times}
+use Rattle.cut_share.specs.inside.Pieces.{own_times}
 use Rattle.cut_share.proofs.share_pieces.SharePieces.next_of_rest.Given as goal
 
 -- nothing of the share was taken off

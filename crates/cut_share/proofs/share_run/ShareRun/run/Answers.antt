@@ -3,7 +3,7 @@ use Rattle.std.proofs.lemmas.Result.{err_from_is_err_and}
 use Rattle.cut_outcome.specs.declared.piece.Piece.{Piece}
 use Rattle.cut_share.specs.declared.fault.ShareFault.{ShareFault}
 use Rattle.cut_share.specs.declared.fault.ShareFault.TheVariants.{Memory}
-use Rattle.cut_share.specs.Batches.{EndsPieces}
+use Rattle.cut_share.specs.inside.Batches.{EndsPieces}
 use Rattle.cut_share.proofs.Appends.{none_added}
 use Rattle.cut_share.proofs.Endings.{Ends, begun_over, ends_at, ends_fault, ends_other, ends_short, ends_unbegun}
 use Rattle.cut_share.proofs.Endings.{ends_whole}

@@ -1,7 +1,7 @@
 use Rattle.std.proofs.Common.{◌≡◌, ◌∙◌, ◌<◌, ℕ, suc, List, [], ◌∷◌, length, get_or, refl, sym, ap, arith}
 use Rattle.cut_outcome.specs.declared.piece.Piece.{Piece}
 use Rattle.cut_share.specs.declared.task.Task.{Task}
-use Rattle.cut_share.specs.Tasks.{pieces_of}
+use Rattle.cut_share.specs.inside.Tasks.{pieces_of}
 use Rattle.cut_share.proofs.tools.Tools.run_all.Goals as goal
 
 -- tasks whose pieces are the same at each place

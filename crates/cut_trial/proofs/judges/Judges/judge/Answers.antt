@@ -1,5 +1,5 @@
 use Rattle.std.proofs.Common.{length, subst, arith}
-use Rattle.cut_trial.specs.Counted.{HasJudged}
+use Rattle.cut_trial.specs.inside.Counted.{HasJudged}
 use Rattle.cut_trial.proofs.Judged.{all_judged, few_judged}
 use Rattle.cut_trial.proofs.judges.Judges.judge.Goals as goal
 

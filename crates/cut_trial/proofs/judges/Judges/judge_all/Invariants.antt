@@ -1,6 +1,6 @@
 use Rattle.std.proofs.Common.{◌≡◌, ◌*◌}
-use Rattle.cut_trial.specs.Judging.{AreFor, proposals_to}
-use Rattle.cut_trial.specs.Counted.{IsJudging}
+use Rattle.cut_trial.specs.inside.Judging.{AreFor, proposals_to}
+use Rattle.cut_trial.specs.inside.Counted.{IsJudging}
 use Rattle.cut_trial.proofs.judges.Judges.judge_all.Given as goal
 
 abbrev pub invariant-loop-four : goal.invariant-loop-four

@@ -1,6 +1,6 @@
 use Rattle.std.proofs.Common.{◌≡◌, ◌+◌}
-use Rattle.cut_trial.specs.Judging.{AreFor, proposals_to}
-use Rattle.cut_trial.specs.Counted.{IsJudging}
+use Rattle.cut_trial.specs.inside.Judging.{AreFor, proposals_to}
+use Rattle.cut_trial.specs.inside.Counted.{IsJudging}
 use Rattle.cut_trial.proofs.judges.Judges.judge_four.Given as goal
 
 -- the receivers so far have been judged, by the times that were computed for all four

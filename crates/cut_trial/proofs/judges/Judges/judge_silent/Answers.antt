@@ -1,5 +1,5 @@
 use Rattle.std.proofs.Common.{◌≡◌, ℕ, Option, Some, None, option_map, get_or, ap, sym, subst, ◌∙◌}
-use Rattle.cut_trial.specs.Judging.{proposed_by, proposals_to}
+use Rattle.cut_trial.specs.inside.Judging.{proposed_by, proposals_to}
 use Rattle.cut_outcome.proofs.Words.{IfSome, IsPlaced, Proposal}
 use Rattle.cut_trial.proofs.Judged.{few_judged, one_more_judged}
 use Rattle.cut_trial.proofs.judges.Judges.judge_silent.Goals as goal

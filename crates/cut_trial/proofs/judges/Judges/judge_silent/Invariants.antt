@@ -1,5 +1,5 @@
-use Rattle.cut_trial.specs.Judging.{AreFor, proposals_to}
-use Rattle.cut_trial.specs.Counted.{IsJudging}
+use Rattle.cut_trial.specs.inside.Judging.{AreFor, proposals_to}
+use Rattle.cut_trial.specs.inside.Counted.{IsJudging}
 use Rattle.cut_trial.proofs.judges.Judges.judge_silent.Given as goal
 
 abbrev pub invariant-loop : goal.invariant-loop

@@ -1,5 +1,5 @@
 use Rattle.std.proofs.Common.{◌≡◌, Option, option_map, length, ap, sym, subst, ◌∙◌}
-use Rattle.cut_trial.specs.Judging.{proposed_by}
+use Rattle.cut_trial.specs.inside.Judging.{proposed_by}
 use Rattle.cut_outcome.proofs.Words.{IfSome, Proposal, all_deliveries, early, rule_of}
 use Rattle.cut_trial.proofs.Ascending.{proposed_ascend}
 use Rattle.cut_trial.proofs.Judged.{on_ok}

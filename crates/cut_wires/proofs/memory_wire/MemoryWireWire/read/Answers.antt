@@ -3,7 +3,8 @@ use Rattle.std.proofs.Common.{length-take-le}
 use Rattle.std.specs.Prelude.{Ok}
 use Rattle.std.proofs.lemmas.List.{take_rest}
 use Rattle.std.proofs.Math.Seq.{take-add, take-append_seam}
-use Rattle.cut_wires.specs.Memory.{MemoryWireValue, HasRead, read_moves, rest_of}
+use Rattle.cut_wires.specs.Memory.{MemoryWireValue}
+use Rattle.cut_wires.specs.inside.Memory.{HasRead, read_moves, rest_of}
 use Rattle.cut_wires.specs.Log.{Traffic, with_given}
 use Rattle.cut_wires.proofs.memory_wire.MemoryWireWire.read.Goals as goal
 

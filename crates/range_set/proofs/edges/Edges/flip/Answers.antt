@@ -1,5 +1,5 @@
 use Rattle.std.proofs.Common.{◌∙◌, nat_le, ap}
-use Rattle.range_set.specs.Edges.{flipped}
+use Rattle.range_set.specs.inside.Edges.{flipped}
 use Rattle.range_set.proofs.EdgeLemmas.{flipped_twice}
 use Rattle.range_set.proofs.edges.Edges.flip.Goals as goal
 

@@ -2,9 +2,9 @@ use Rattle.std.proofs.Common.{◌∙◌, ◌<◌, ◌+◌, ◌-◌, ◌/◌, ◌
 use Rattle.std.proofs.lemmas.List.{get_or_read}
 use Rattle.std.proofs.lemmas.Result.{on_ok_weaker}
 use Rattle.range_set.specs.declared.span.Span.{Span}
-use Rattle.range_set.specs.Blocks.{Blocks, is_at}
-use Rattle.range_set.specs.Edges.{flipped, is_between}
-use Rattle.range_set.specs.SetInside.{no_blocks}
+use Rattle.range_set.specs.inside.Blocks.{Blocks, is_at}
+use Rattle.range_set.specs.inside.Edges.{flipped, is_between}
+use Rattle.range_set.specs.inside.SetInside.{no_blocks}
 use Rattle.range_set.proofs.SetLemmas.{are_in, block_of, others_stay, span_put}
 use Rattle.range_set.proofs.range_set.RangeSet.insert.Goals as goal
 

@@ -2,7 +2,7 @@ use Rattle.std.proofs.Common.{◌≡◌, ◌∙◌, Bool, true, false, not, refl
 use Rattle.std.proofs.Math.Bool.{beq}
 use Rattle.std.proofs.lemmas.Bool.{cases_lt}
 use Rattle.cut_lists.proofs.Intervals.{list_all_passing, list_all_failing}
-use Rattle.range_set.specs.Edges.{flipped}
+use Rattle.range_set.specs.inside.Edges.{flipped}
 use Rattle.range_set.specs.Held.{has}
 use Rattle.range_set.proofs.range_set.RangeSet.is_all.Goals as goal
 

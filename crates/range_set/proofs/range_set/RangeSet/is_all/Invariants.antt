@@ -1,5 +1,5 @@
 use Rattle.std.proofs.Common.{◌-◌, ◌≡◌, ◌<◌, ◌≤◌, ℕ, true, not}
-use Rattle.range_set.specs.Edges.{flipped}
+use Rattle.range_set.specs.inside.Edges.{flipped}
 use Rattle.range_set.specs.Held.{has}
 use Rattle.range_set.proofs.range_set.RangeSet.is_all.Given as goal
 

@@ -1,8 +1,8 @@
 use Rattle.std.proofs.Common.{◌≡◌, ◌∙◌, ◌*◌, ◌<◌, ◌^◌, ℕ, List, [], length, ap, sym, subst, arith}
 use Rattle.std.specs.Int.{div_ceil}
 use Rattle.std.proofs.lemmas.List.{length-map, length-replicate}
-use Rattle.range_set.specs.Blocks.{Blocks}
-use Rattle.range_set.specs.SetInside.{no_blocks}
+use Rattle.range_set.specs.inside.Blocks.{Blocks}
+use Rattle.range_set.specs.inside.SetInside.{no_blocks}
 use Rattle.range_set.proofs.SetLemmas.{none_held}
 use Rattle.range_set.proofs.range_set.RangeSet.new.Goals as goal
 

@@ -1,9 +1,9 @@
 use Rattle.std.proofs.Common.{◌∙◌, ◌<◌, true, List, length, ap, arith}
 use Rattle.std.proofs.lemmas.List.{get_or_read, length-map}
 use Rattle.std.proofs.lemmas.Result.{on_ok_weaker}
-use Rattle.range_set.specs.Blocks.{Blocks}
+use Rattle.range_set.specs.inside.Blocks.{Blocks}
 use Rattle.range_set.specs.Held.{Held}
-use Rattle.range_set.specs.SetInside.{no_blocks}
+use Rattle.range_set.specs.inside.SetInside.{no_blocks}
 use Rattle.range_set.proofs.SetLemmas.{reserved_is}
 use Rattle.range_set.proofs.range_set.RangeSet.reserve.Goals as goal
 

@@ -1,9 +1,9 @@
 use Rattle.std.proofs.Common.{◌≡◌, ◌<◌, ◌+◌, ◌-◌, ◌*◌, ◌/◌, ◌%◌, ℕ, List, length, sym, ap, subst, arith}
 use Rattle.std.proofs.lemmas.List.{get_or_read}
-use Rattle.range_set.specs.Blocks.{Blocks}
-use Rattle.range_set.specs.Edges.{IsRun}
+use Rattle.range_set.specs.inside.Blocks.{Blocks}
+use Rattle.range_set.specs.inside.Edges.{IsRun}
 use Rattle.range_set.specs.Held.{Held, has}
-use Rattle.range_set.specs.SetInside.{held_in, no_blocks}
+use Rattle.range_set.specs.inside.SetInside.{held_in, no_blocks}
 use Rattle.range_set.proofs.SetLemmas.{IsNumber, block_of, length_is, number, run_in}
 use Rattle.range_set.proofs.range_set.RangeSet.run_at.Goals as goal
 

@@ -1,7 +1,7 @@
 use Rattle.std.proofs.Common.{◌≡◌, ◌∙◌, ◌<◌, ◌+◌, ◌-◌, ◌*◌, ◌/◌, ℕ, List, map, length, min, max, ap, sym, subst, arith}
 use Rattle.std.proofs.lemmas.List.{get_or_read, get_or-set_other, length-map, length-set, map-set}
-use Rattle.range_set.specs.Blocks.{Blocks}
-use Rattle.range_set.specs.Edges.{Row, flipped, is_between, is_within}
+use Rattle.range_set.specs.inside.Blocks.{Blocks}
+use Rattle.range_set.specs.inside.Edges.{Row, flipped, is_between, is_within}
 use Rattle.range_set.proofs.BlockLemmas.{AreFlipped, blocks_in, edges_at, flipped_more, no_row, there}
 use Rattle.range_set.proofs.section.Section.flip.Goals as goal
 

@@ -2,8 +2,8 @@ use Rattle.std.proofs.Common.{◌≡◌, ◌∙◌, ◌<◌, List, true, false, 
 use Rattle.std.specs.List.{list_all}
 use Rattle.std.proofs.lemmas.Bool.{false_from_ne_true}
 use Rattle.std.proofs.lemmas.List.{get_or_read}
-use Rattle.range_set.specs.Blocks.{Blocks}
-use Rattle.range_set.specs.Edges.{Row}
+use Rattle.range_set.specs.inside.Blocks.{Blocks}
+use Rattle.range_set.specs.inside.Edges.{Row}
 use Rattle.range_set.proofs.BlockLemmas.{AreReserved, no_row, all_reserved, had_none, on_err, refused, reserved_more}
 use Rattle.range_set.proofs.section.Section.reserve.Goals as goal
 

@@ -1,7 +1,7 @@
 use Rattle.std.proofs.Common.{◌/◌, List, map, ap, sym, subst, min, ◌∙◌}
 use Rattle.std.proofs.lemmas.List.{get_or_read}
-use Rattle.range_set.specs.Blocks.{is_at}
-use Rattle.range_set.specs.Edges.{IsRun, Row}
+use Rattle.range_set.specs.inside.Blocks.{is_at}
+use Rattle.range_set.specs.inside.Edges.{IsRun, Row}
 use Rattle.range_set.proofs.BlockLemmas.{no_row, run_within, there}
 use Rattle.range_set.proofs.section.Section.run_at.Goals as goal
 

@@ -1,0 +1,3 @@
+-- How cut_book keeps its values, and what its private functions promise: no contract of a public function cites it.
+pub mod Book
+pub mod HistoryInside

@@ -1,0 +1,96 @@
+-- What only the crate's own clauses and proofs cite, beside specs/Book.antt.
+use Rattle.std.specs.Prelude.{◌≡◌, ◌++◌, ◌+◌, ◌≤◌, ℕ, Bool, false, not, List, length, count_by}
+use Rattle.std.specs.Prelude.{Option, Some, None, IsTrue, IfSome, All, is_some, option_map, if◌then◌else◌, Result, Ok}
+use Rattle.std.specs.Prelude.{Err}
+use Rattle.cut_faults.specs.Failures.{one_more}
+use Rattle.cut_outcome.specs.Computed.{Computed}
+use Rattle.cut_outcome.specs.declared.piece.Piece.{Piece}
+use Rattle.cut_outcome.specs.Sum.{is_piece}
+use Rattle.cut_ledger.specs.declared.slip.Slip.{Slip}
+use Rattle.cut_ledger.specs.declared.offer_fault.OfferFault.{OfferFault}
+use Rattle.cut_ledger.specs.declared.offer_fault.OfferFault.TheVariants as ledger
+use Rattle.cut_ledger.specs.Contents.{Contents}
+use Rattle.cut_ledger.specs.Machine.{StudyState}
+use Rattle.cut_ledger.specs.Refusals.{refusal_of}
+use Rattle.cut_disks.specs.State.{DiskState}
+use Rattle.cut_journal.specs.Journal.{JournalValue}
+use Rattle.cut_book.specs.declared.call.Answer.{Answer}
+use Rattle.cut_book.specs.declared.call.Answer.TheVariants.{Accepted, Stranger, Overlap, DiskFails, Broken}
+use Rattle.cut_book.specs.declared.fault.BookFault.TheVariants as fault
+use Rattle.cut_book.specs.History.{HistoryValue, opened_by, LeadsTo, accepted_slips}
+use Rattle.cut_book.specs.Book.{BookValue, failures_of, FollowsState}
+
+-- the answer that a refusal of the ledger is
+abbrev pub answer_to : OfferFault → Answer
+answer_to ledger.Stranger = Stranger
+answer_to fault = Overlap
+
+-- the answer to a result that is refused before its append, if it is
+abbrev pub refusal_in : StudyState → Computed → Option Answer
+refusal_in s r = if s.broken then Some Broken else option_map answer_to (refusal_of s.ledger r)
+
+-- the answer to a result whose slip was appended, or was not
+abbrev pub append_answer : {T E : Type 0} → Result T E → Answer
+append_answer (Ok done) = Accepted
+append_answer (Err failed) = DiskFails
+
+-- the slips that are kept: with a journal those of the base, and those that were accepted since
+abbrev pub kept_in : HistoryValue → List Slip
+kept_in h =
+    if h.opening.has_journal then h.opening.base ++ accepted_slips h.calls else h.opening.base
+
+-- the slip of an append that failed
+abbrev pub doubtful_in : {D : Type 0} → Option (JournalValue D) → Option Slip
+doubtful_in None = None
+doubtful_in (Some log) = log.doubtful
+
+-- the state of a study, by what its book has
+abbrev pub state_in : {D : Type 0} → Contents → Option (JournalValue D) → List Piece → List Bool → HistoryValue → Bool
+    → StudyState
+state_in l journal division lost history broken = record {
+  ledger = l;
+  has_journal = history.opening.has_journal;
+  division = division;
+  drawn = 0;
+  lost = lost;
+  kept = kept_in history;
+  doubtful = doubtful_in journal;
+  broken = broken;
+  sent = 0;
+  wire_lost = false;
+}
+
+abbrev pub book_value_in : {D : Type 0} → Option (JournalValue D) → StudyState → HistoryValue → ℕ → BookValue D
+book_value_in journal s history failed = record {
+  journal = journal;
+  state = s;
+  size = history.opening.size;
+  calls = history.calls;
+  failed = failed;
+}
+
+-- how many calls of the disk have failed since the book was opened
+abbrev pub failed_since : Bool → ℕ → ℕ
+failed_since broken failed = if broken then one_more failed else failed
+
+-- what is true of every book: of a disk, by which ones are honest, what is on one, and how many of its calls
+-- have failed
+pub record IsBook {D : Type 0} (honest : D → Type 0) (on : D → DiskState) (faults : D → ℕ)
+    (journal : Option (JournalValue D)) (s : StudyState) (history : HistoryValue) (places : ℕ) (failed : ℕ) : Type 0
+  where
+    -- the history leads to the state
+    pub legal : LeadsTo (opened_by history.opening) history.calls s
+    -- it is of the plan and the base that it was opened with
+    pub plan : s.ledger.plan ≡ history.opening.plan
+    pub base : s.ledger.base ≡ history.opening.base
+    -- of each piece it is noted whether it is lost, and for each that is not there is a place in the history
+    pub pieces : length s.lost ≡ length s.division
+    pub divided : All (λ p. IsTrue (is_piece s.ledger.plan p)) s.division
+    pub losable : places ≡ count_by not s.lost
+    pub room : places ≤ history.room
+    -- the journal is that of the state, and an append has failed exactly where there is a doubtful slip
+    pub has_journal : s.has_journal ≡ is_some journal
+    pub of_plan : IfSome journal (λ log. log.plan ≡ s.ledger.plan)
+    pub broken : s.broken ≡ is_some s.doubtful
+    pub followed : FollowsState honest on journal s
+    pub failures : failures_of faults journal ≡ failed_since s.broken failed

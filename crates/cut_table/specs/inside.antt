@@ -1,0 +1,2 @@
+-- How cut_table keeps its values, and what its private functions promise: no contract of a public function cites it.
+pub mod Table
