@@ -126,15 +126,20 @@ leads_grow equal s t (call ∷ calls) plan from =
     let moved = rw first.0 at rest.1 in
     (rest.0 ∙ first.0, omega (arith, first.1, moved, first_in call calls))
 
+pub accepted_within : SamePlansAreEqual → (o : Opening) (calls : List Call) → IsPlan o.plan → IsLegalHistory o calls
+    → accepted_in calls ≤ trial_count o.plan
+accepted_within equal o calls plan legal =
+    let grew = leads_grow equal (opened_by o) legal.0 calls plan legal.1 in
+    let most = count_by-le-length (has legal.0.ledger) (range_with_len 0 (trial_count o.plan)) in
+    let long = length-range_with_len 0 (trial_count o.plan) in
+    omega (arith, grew.1, most, long)
+
 -- so they have 64 bits
 pub few_accepted : SamePlansAreEqual → (o : Opening) (calls : List Call) → IsPlan o.plan → IsLegalHistory o calls
     → accepted_in calls ≤ 4096 * 1000000
 few_accepted equal o calls plan legal =
-    let grew = leads_grow equal (opened_by o) legal.0 calls plan legal.1 in
-    let most = count_by-le-length (has legal.0.ledger) (range_with_len 0 (trial_count o.plan)) in
-    let long = length-range_with_len 0 (trial_count o.plan) in
     let few : trial_count o.plan ≤ 4096 * 1000000 = mul-le-mul plan.few_cells plan.few_repeats in
-    omega (arith, grew.1, most, long, few)
+    omega (arith, accepted_within equal o calls plan legal, few)
 
 -- those of the first calls, with those of the next, are no more than all
 pub next_fits : (calls : List Call) (i : ℕ) (d : Call) → i < length calls → accepted_in (take i calls)

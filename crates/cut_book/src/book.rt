@@ -3,6 +3,7 @@ ghost use Rattle.std.specs.Prelude.{length, is_some, slice_get, slice_index_or, 
 ghost use Rattle.std.specs.Prelude.{IsTrue, IfSome, IfNone, IfOk, IfErr, OnOk, IsErr, IsErrOf, IsSome};
 ghost use Rattle.std.specs.Prelude.{option_copied};
 ghost use Rattle.std.specs.List.{list_any};
+ghost use Rattle.cut_lines.specs.declared.line.TheConstants.{LONGEST_LINE};
 ghost use Rattle.cut_faults.specs.Failures.{one_more};
 ghost use Rattle.cut_plan.specs.Cells.{cells_of};
 ghost use Rattle.cut_plan.specs.Plan.{IsPlan};
@@ -178,7 +179,7 @@ impl<D: Disk> Book<D> {
     pub fn row(&mut self, alloc: Global, cell: u32) -> Result<Vec<u8>, BookFault>
         requires { cell < length (cells_of self.old.state.ledger.plan) }
         ensures line { IfOk result (λ line. line.items ≡ row_of self.old.state.ledger cell) }
-        ensures short { IfOk result (λ line. length line.items ≤ 294) }
+        ensures short { IfOk result (λ line. length line.items ≤ LONGEST_LINE) }
         ensures asked { AsksRow result cell self.old self.new }
     {
         self.history.reserve()?;

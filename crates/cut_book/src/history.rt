@@ -1,4 +1,6 @@
 ghost use Rattle.std.specs.Prelude.{◌≡◌, ◌+◌, ◌-◌, ◌<◌, ◌≤◌, ◌++◌, [], ◌∷◌, true, length, map, OnOk, IfOk};
+ghost use Rattle.cut_plan.specs.Cells.{trial_count};
+ghost use Rattle.cut_plan.specs.Plan.{IsPlan};
 ghost use Rattle.cut_book.specs.History.{IsLegalHistory, accepted_in};
 ghost use Rattle.cut_book.specs.inside.HistoryInside.{lost_call};
 ghost use Rattle.cut_book.specs.declared.call.Call.TheVariants as call;
@@ -98,9 +100,11 @@ impl History {
         Ok(calls)
     }
 
-    /// How many trials the accepted results have together.
+    /// How many trials the accepted results have together: no more than the study's plan has.
     pub fn accepted(&self) -> u64
-        ensures { result ≡ accepted_in self.now.calls }
+        ensures value { result ≡ accepted_in self.now.calls }
+        ensures plan { IsPlan self.now.opening.plan }
+        ensures few { result ≤ trial_count self.now.opening.plan }
     {
         same_plans_are_equal();
         let mut sum = 0;

@@ -2,12 +2,11 @@
 use Rattle.std.proofs.Common.{◌≡◌, ℕ, List, Some, map, refl, sym, ap, subst, ◌∙◌, codes}
 use Rattle.std.specs.Prelude.{⊤, if◌then◌else◌}
 use Rattle.std.specs.Str.{bytes_eq}
-use Rattle.clap.specs.Words.{Row, Text, all_of}
+use Rattle.clap.specs.Words.{Row, Text, all_of, first_of}
 use Rattle.cut_command_line.specs.declared.line.Job.{Job}
 use Rattle.cut_command_line.specs.declared.line.Job.TheVariants.{Run, Check, Explain, Canonical, Status, Serve}
 use Rattle.cut_command_line.specs.declared.line.Job.TheVariants.{Ask, Migrate, Share, Join}
-use Rattle.cut_command_line.specs.Line.{GivesFile, GivesNumber, GivesPiece, GivesShare, GivesSocket, GivesValues}
-use Rattle.cut_command_line.specs.Line.{GivesWorkers, command_of}
+use Rattle.cut_command_line.specs.Line.{GivesNumber, GivesShare, GivesValues, command_of}
 
 -- the commands
 pub data Verb : Type 0 where
@@ -67,21 +66,26 @@ is_of job name is = sym (named job) ∙ ap verb_in is
 
 -- what is given with a command
 abbrev pub Values : Verb → List Row → Type 0
-Values to_run rows = ((n : ℕ) × GivesPiece rows n) × ((n : ℕ) × GivesWorkers rows n)
+Values to_run rows =
+    ((n : ℕ) × GivesNumber (codes "piece") 1000000 rows n) × ((n : ℕ) × GivesNumber (codes "workers") 64 rows n)
 Values to_check rows = ⊤
 Values to_explain rows = ⊤
 Values to_canonical rows = ⊤
-Values to_status rows = (path : Text) × GivesFile (codes "file") rows path
-Values to_serve rows = ((path : Text) × GivesSocket rows path) × ((n : ℕ) × GivesNumber (codes "workers") 64 rows n)
+Values to_status rows = (path : Text) × (first_of (codes "file") rows ≡ Some path)
+Values to_serve rows =
+    ((path : Text) × (first_of (codes "socket") rows ≡ Some path))
+    × ((n : ℕ) × GivesNumber (codes "workers") 64 rows n)
     × ((n : ℕ) × GivesNumber (codes "sessions") 64 rows n) × ((n : ℕ) × GivesNumber (codes "studies") 64 rows n)
-Values to_ask rows = (path : Text) × GivesSocket rows path
+Values to_ask rows = (path : Text) × (first_of (codes "socket") rows ≡ Some path)
 Values to_migrate rows =
-    ((path : Text) × GivesFile (codes "old") rows path) × ((path : Text) × GivesFile (codes "new") rows path)
+    ((path : Text) × (first_of (codes "old") rows ≡ Some path))
+    × ((path : Text) × (first_of (codes "new") rows ≡ Some path))
 Values to_share rows =
-    ((n : ℕ) × ((m : ℕ) × GivesShare rows n m)) × ((path : Text) × GivesFile (codes "file") rows path)
-    × ((n : ℕ) × GivesPiece rows n) × ((n : ℕ) × GivesWorkers rows n)
+    ((n : ℕ) × ((m : ℕ) × GivesShare rows n m)) × ((path : Text) × (first_of (codes "file") rows ≡ Some path))
+    × ((n : ℕ) × GivesNumber (codes "piece") 1000000 rows n) × ((n : ℕ) × GivesNumber (codes "workers") 64 rows n)
 Values to_join rows =
-    ((path : Text) × GivesFile (codes "new") rows path) × ((paths : List Text) × (all_of (codes "old") rows ≡ Some paths))
+    ((path : Text) × (first_of (codes "new") rows ≡ Some path))
+    × ((paths : List Text) × (all_of (codes "old") rows ≡ Some paths))
 
 values_of : (rows : List Row) (job : Job) → GivesValues rows job → Values (verb_of job) rows
 values_of rows (Run piece workers file progress) gives = ((piece, gives.0), (workers, gives.1))

@@ -17,13 +17,13 @@ pub none_given : (option : Text) (most : ℕ) (rows : List Row) → most < 2 ^ 3
     → (n : ℕ) → GivesNumber option most rows n → ⊥
 none_given option most rows small reads n given =
     let read = reads given.text given.given in
-    read.1.0 (given.numeral, omega (arith, given.value, given.few, small))
+    read.1.0 (given.is.numeral, omega (arith, given.is.value, given.is.few, small))
 
 -- where a number was read, no other is given
 pub same_given : (option : Text) (most : ℕ) (rows : List Row) (m : ℕ)
     → ((t : Text) → one_of option rows ≡ Some t → ReadsOne ReadsNumber t (Some m))
     → (n : ℕ) → GivesNumber option most rows n → n ≡ m
-same_given option most rows m reads n given = sym given.value ∙ sym (reads given.text given.given).0.1
+same_given option most rows m reads n given = sym given.is.value ∙ sym (reads given.text given.given).0.1
 
 -- and that one is, where it is in its range
 pub is_given : (option : Text) (most : ℕ) (rows : List Row) (m : ℕ) → (one_of option rows ≡ None → ⊥)
@@ -35,4 +35,8 @@ is_given option most rows m some reads low high = by (one_of option rows) refl
     by None none = absurd (some none)
     by (Some t) found =
         let read = reads t found in
-        record { text = t; given = found; numeral = read.0.0.0; value = sym read.0.1; some = low; few = high }
+        record {
+          text = t;
+          given = found;
+          is = record { numeral = read.0.0.0; value = sym read.0.1; some = low; few = high };
+        }

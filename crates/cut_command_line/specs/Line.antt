@@ -1,8 +1,10 @@
 -- The commands of the program, and what its command line asks for.
 use Rattle.std.specs.Prelude.{◌≡◌, ◌⊎◌, ◌≤◌, ◌<◌, ◌==◌, ℕ, Bool, List, [], ◌∷◌, true, false, codes, pos}
-use Rattle.std.specs.Prelude.{Option, Some, None, option_map, map, length, ⊤}
+use Rattle.std.specs.Prelude.{Option, Some, None, option_map, map, length, fold, ⊤}
 use Rattle.std.specs.List.{position_or_len, before_first, after_first}
 use Rattle.std.specs.Str.Parse.{IsNumeral, digits_value, without_leading_plus}
+use Rattle.cut_command_line.specs.declared.machines.TheConstants.{SHARES_MOST}
+use Rattle.cut_command_line.specs.declared.line.TheConstants.{PIECE_MOST}
 use Rattle.clap.specs.Words.{App, IsAmong, all_of, first_of, Row, Rule, Text, fault_of, new_app, new_rule, one_of}
 use Rattle.clap.specs.Words.{subcommand_of, with_rule, with_subcommand}
 use Rattle.clap.specs.declared.builder.action.ArgAction.TheVariants.{SetTrue}
@@ -26,80 +28,47 @@ option_rule name = record (new_rule name) { long = Some name; value_names = 1 }
 abbrev pub flag_rule : Text → Rule
 flag_rule name = record (new_rule name) { long = Some name; action = Some SetTrue }
 
--- the option `--piece`: a number from 1 to 1,000,000, which is 16 where it is not given
-abbrev pub piece_rule : Rule
-piece_rule = record (new_rule (codes "piece")) {
-  long = Some (codes "piece");
-  value_names = 1;
-  defaults = codes "16" ∷ [];
-  parser = Some (parsers.Signed (pos 1) (pos 1000000));
-}
+-- an option with a number, from 1 to a greatest one
+abbrev pub number_rule : Text → ℕ → Rule
+number_rule name most = record (option_rule name) { parser = Some (parsers.Signed (pos 1) (pos most)) }
 
--- the option `--workers`: a number from 1 to 64, which is 1 where it is not given
+-- the options `--piece`, 1 to 1,000,000, and `--workers`, 1 to 64, with their values where they are not given
+abbrev pub piece_rule : Rule
+piece_rule = record (number_rule (codes "piece") PIECE_MOST) { defaults = codes "16" ∷ [] }
+
 abbrev pub workers_rule : Rule
-workers_rule = record (new_rule (codes "workers")) {
-  long = Some (codes "workers");
-  value_names = 1;
-  defaults = codes "1" ∷ [];
-  parser = Some (parsers.Signed (pos 1) (pos 64));
-}
+workers_rule = record (number_rule (codes "workers") 64) { defaults = codes "1" ∷ [] }
 
 -- an option of a server: how many of something it has, a number from 1 to 64, which has to be given
 abbrev pub count_rule : Text → Rule
-count_rule name = record (new_rule name) {
-  long = Some name;
-  value_names = 1;
-  parser = Some (parsers.Signed (pos 1) (pos 64));
-  required = true;
-}
+count_rule name = record (number_rule name 64) { required = true }
 
 -- the words `OLD..`: the files of 1 to 1,000 checkpoints
 abbrev pub files_rule : Rule
-files_rule = record (new_rule (codes "old")) {
-  range = Some (record { start_inclusive = 1; end_inclusive = 1000 });
-  value_names = 1;
-  required = true;
-}
+files_rule = record (word_rule (codes "old")) { range = Some (record { start_inclusive = 1; end_inclusive = 1000 }) }
 
--- the subcommands: each has its words in their order, its options and its flags
-abbrev pub run_app : App
-run_app =
-    with_rule (with_rule (with_rule (with_rule (new_app (codes "run")) piece_rule) workers_rule)
-    (option_rule (codes "checkpoint"))) (flag_rule (codes "progress"))
+-- a command with its words in their order, its options and its flags
+abbrev pub command_with : Text → List Rule → App
+command_with name rules = fold with_rule (new_app name) rules
 
-abbrev pub check_app : App
-check_app = new_app (codes "check")
-
-abbrev pub explain_app : App
-explain_app = new_app (codes "explain")
-
-abbrev pub canonical_app : App
-canonical_app = new_app (codes "canonical")
-
-abbrev pub status_app : App
-status_app = with_rule (new_app (codes "status")) (word_rule (codes "file"))
-
-abbrev pub serve_app : App
-serve_app =
-    with_rule (with_rule (with_rule (with_rule (with_rule (new_app (codes "serve")) (word_rule (codes "socket")))
-    (count_rule (codes "workers")))
-    (count_rule (codes "sessions"))) (count_rule (codes "studies"))) (option_rule (codes "dir"))
-
-abbrev pub ask_app : App
-ask_app = with_rule (new_app (codes "ask")) (word_rule (codes "socket"))
-
-abbrev pub migrate_app : App
-migrate_app = with_rule (with_rule (new_app (codes "migrate")) (word_rule (codes "old"))) (word_rule (codes "new"))
-
-abbrev pub share_app : App
-share_app =
-    with_rule (with_rule (with_rule (with_rule (with_rule (new_app (codes "share")) (word_rule (codes "share")))
-    (word_rule (codes "file"))) piece_rule) workers_rule) (flag_rule (codes "progress"))
-
-abbrev pub join_app : App
-join_app =
-    with_rule (with_rule (with_rule (new_app (codes "join")) (word_rule (codes "new"))) files_rule)
-    (flag_rule (codes "which"))
+-- the subcommands
+abbrev pub subcommands : List App
+subcommands =
+    command_with (codes "run")
+    (piece_rule ∷ workers_rule ∷ option_rule (codes "checkpoint") ∷ flag_rule (codes "progress") ∷ [])
+    ∷ command_with (codes "check") []
+    ∷ command_with (codes "explain") []
+    ∷ command_with (codes "canonical") []
+    ∷ command_with (codes "status") (word_rule (codes "file") ∷ [])
+    ∷ command_with (codes "serve")
+    (word_rule (codes "socket") ∷ count_rule (codes "workers") ∷ count_rule (codes "sessions")
+    ∷ count_rule (codes "studies") ∷ option_rule (codes "dir") ∷ [])
+    ∷ command_with (codes "ask") (word_rule (codes "socket") ∷ [])
+    ∷ command_with (codes "migrate") (word_rule (codes "old") ∷ word_rule (codes "new") ∷ [])
+    ∷ command_with (codes "share")
+    (word_rule (codes "share") ∷ word_rule (codes "file") ∷ piece_rule ∷ workers_rule ∷ flag_rule (codes "progress") ∷ [])
+    ∷ command_with (codes "join") (word_rule (codes "new") ∷ files_rule ∷ flag_rule (codes "which") ∷ [])
+    ∷ []
 
 -- the program as clap sees it: it has a version, needs one of its subcommands, and without a word it shows its help
 unfoldable pub program_app : App
@@ -107,44 +76,7 @@ program_app = let bare : App = new_app (codes "cutlab") in
     let asking : App = record bare {
       top = record bare.top { has_version = true; subcommand_required = true; arg_required_else_help = true };
     } in
-    with_subcommand (with_subcommand (with_subcommand (with_subcommand (with_subcommand (with_subcommand
-    (with_subcommand (with_subcommand (with_subcommand (with_subcommand asking run_app.top) check_app.top)
-    explain_app.top) canonical_app.top) status_app.top) serve_app.top) ask_app.top) migrate_app.top) share_app.top)
-    join_app.top
-
--- the number, from 1 to a greatest one, that a subcommand's matches give for an option
-pub record GivesNumber (option : Text) (most : ℕ) (rows : List Row) (n : ℕ) : Type 0 where
-  pub text : Text
-  pub given : one_of option rows ≡ Some text
-  pub numeral : IsNumeral 10 (without_leading_plus text)
-  pub value : digits_value 10 (without_leading_plus text) ≡ n
-  pub some : 1 ≤ n
-  pub few : n ≤ most
-
--- whether they give a flag, which is a text that says so
-pub record GivesFlag (flag : Text) (rows : List Row) (is_given : Bool) : Type 0 where
-  pub none : one_of flag rows ≡ None → is_given ≡ false
-  pub yes : one_of flag rows ≡ Some (codes "true") → is_given ≡ true
-  pub no : one_of flag rows ≡ Some (codes "false") → is_given ≡ false
-
--- the size of a piece, and the number of workers
-abbrev pub GivesPiece : List Row → ℕ → Type 0
-GivesPiece rows n = GivesNumber (codes "piece") 1000000 rows n
-
-abbrev pub GivesWorkers : List Row → ℕ → Type 0
-GivesWorkers rows n = GivesNumber (codes "workers") 64 rows n
-
--- the checkpoint that they give, or none
-abbrev pub GivesCheckpoint : List Row → Option Text → Type 0
-GivesCheckpoint rows file = first_of (codes "checkpoint") rows ≡ file
-
--- the socket that they give
-abbrev pub GivesSocket : List Row → Text → Type 0
-GivesSocket rows path = first_of (codes "socket") rows ≡ Some path
-
--- the file of a checkpoint that they give for a word
-abbrev pub GivesFile : Text → List Row → Text → Type 0
-GivesFile name rows path = first_of name rows ≡ Some path
+    fold (λ app sub. with_subcommand app sub.top) asking subcommands
 
 -- a text is a number from 1 to a greatest one, in decimal
 pub record IsNumberIn (most : ℕ) (text : Text) (n : ℕ) : Type 0 where
@@ -153,6 +85,18 @@ pub record IsNumberIn (most : ℕ) (text : Text) (n : ℕ) : Type 0 where
   pub some : 1 ≤ n
   pub few : n ≤ most
 
+-- the number, from 1 to a greatest one, that a subcommand's matches give for an option
+pub record GivesNumber (option : Text) (most : ℕ) (rows : List Row) (n : ℕ) : Type 0 where
+  pub text : Text
+  pub given : one_of option rows ≡ Some text
+  pub is : IsNumberIn most text n
+
+-- whether they give a flag, which is a text that says so
+pub record GivesFlag (flag : Text) (rows : List Row) (is_given : Bool) : Type 0 where
+  pub none : one_of flag rows ≡ None → is_given ≡ false
+  pub yes : one_of flag rows ≡ Some (codes "true") → is_given ≡ true
+  pub no : one_of flag rows ≡ Some (codes "false") → is_given ≡ false
+
 -- a byte is a slash
 abbrev pub is_slash : ℕ → Bool
 is_slash b = b == 47
@@ -160,8 +104,8 @@ is_slash b = b == 47
 -- a text is the number of a share, a slash, and how many shares there are
 pub record IsShareText (text : Text) (index shares : ℕ) : Type 0 where
   pub slash : position_or_len is_slash text < length text
-  pub index_is : IsNumberIn 100000 (before_first is_slash text) index
-  pub shares_are : IsNumberIn 100000 (after_first is_slash text) shares
+  pub index_is : IsNumberIn SHARES_MOST (before_first is_slash text) index
+  pub shares_are : IsNumberIn SHARES_MOST (after_first is_slash text) shares
   pub within : index ≤ shares
 
 -- the share that they give
@@ -186,23 +130,25 @@ command_of (Join to from which) = codes "join"
 -- the values of a job, by the matches of its subcommand
 abbrev pub GivesValues : List Row → Job → Type 0
 GivesValues rows (Run piece workers file progress) =
-    GivesPiece rows piece × GivesWorkers rows workers × GivesCheckpoint rows (option_map (λ s. s.now) file)
-    × GivesFlag (codes "progress") rows progress
+    GivesNumber (codes "piece") PIECE_MOST rows piece × GivesNumber (codes "workers") 64 rows workers
+    × (first_of (codes "checkpoint") rows ≡ option_map (λ s. s.now) file) × GivesFlag (codes "progress") rows progress
 GivesValues rows Check = ⊤
 GivesValues rows Explain = ⊤
 GivesValues rows Canonical = ⊤
-GivesValues rows (Status file) = GivesFile (codes "file") rows file.now
+GivesValues rows (Status file) = first_of (codes "file") rows ≡ Some file.now
 GivesValues rows (Serve socket workers sessions studies folder) =
-    GivesSocket rows socket.now × GivesNumber (codes "workers") 64 rows workers
+    (first_of (codes "socket") rows ≡ Some socket.now) × GivesNumber (codes "workers") 64 rows workers
     × GivesNumber (codes "sessions") 64 rows sessions × GivesNumber (codes "studies") 64 rows studies
     × (first_of (codes "dir") rows ≡ option_map (λ s. s.now) folder)
-GivesValues rows (Ask socket) = GivesSocket rows socket.now
-GivesValues rows (Migrate from to) = GivesFile (codes "old") rows from.now × GivesFile (codes "new") rows to.now
+GivesValues rows (Ask socket) = first_of (codes "socket") rows ≡ Some socket.now
+GivesValues rows (Migrate from to) =
+    (first_of (codes "old") rows ≡ Some from.now) × (first_of (codes "new") rows ≡ Some to.now)
 GivesValues rows (Share index shares file piece workers progress) =
-    GivesShare rows index shares × GivesFile (codes "file") rows file.now × GivesPiece rows piece
-    × GivesWorkers rows workers × GivesFlag (codes "progress") rows progress
+    GivesShare rows index shares × (first_of (codes "file") rows ≡ Some file.now)
+    × GivesNumber (codes "piece") PIECE_MOST rows piece × GivesNumber (codes "workers") 64 rows workers
+    × GivesFlag (codes "progress") rows progress
 GivesValues rows (Join to from which) =
-    GivesFile (codes "new") rows to.now × (all_of (codes "old") rows ≡ Some (map (λ s. s.now) from.items))
+    (first_of (codes "new") rows ≡ Some to.now) × (all_of (codes "old") rows ≡ Some (map (λ s. s.now) from.items))
     × GivesFlag (codes "which") rows which
 
 -- the job of a subcommand, by its name and its matches
@@ -239,7 +185,7 @@ EndsLine words status = (kind : ErrorKind) × IsAsked words kind × (status ≡ 
 
 -- the pieces of a job have some trials, and it has some of each that it is to have, and no more than the options allow
 abbrev pub IsSizedJob : Job → Type 0
-IsSizedJob (Run piece workers file progress) = (1 ≤ piece) × (piece ≤ 1000000) × (1 ≤ workers) × (workers ≤ 64)
+IsSizedJob (Run piece workers file progress) = (1 ≤ piece) × (piece ≤ PIECE_MOST) × (1 ≤ workers) × (workers ≤ 64)
 IsSizedJob Check = ⊤
 IsSizedJob Explain = ⊤
 IsSizedJob Canonical = ⊤
@@ -249,6 +195,6 @@ IsSizedJob (Serve socket workers sessions studies folder) =
 IsSizedJob (Ask socket) = ⊤
 IsSizedJob (Migrate from to) = ⊤
 IsSizedJob (Share index shares file piece workers progress) =
-    (1 ≤ index) × (index ≤ shares) × (shares ≤ 100000) × (1 ≤ piece) × (piece ≤ 1000000) × (1 ≤ workers)
+    (1 ≤ index) × (index ≤ shares) × (shares ≤ SHARES_MOST) × (1 ≤ piece) × (piece ≤ PIECE_MOST) × (1 ≤ workers)
     × (workers ≤ 64)
 IsSizedJob (Join to from which) = ⊤

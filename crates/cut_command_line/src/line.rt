@@ -1,8 +1,9 @@
 ghost use Rattle.std.specs.Prelude.{◌≡◌, ℕ, [], codes, false, map, IfOk, IfErr, IfSome, IfNone};
 ghost use Rattle.clap.specs.Words.{app_of, fault_of, found_of, rows_of, rule_of, subcommand_rows_of, with_subcommand};
 ghost use Rattle.cut_command_line.specs.Line.{count_rule, flag_rule, option_rule, piece_rule, word_rule, workers_rule};
-ghost use Rattle.cut_command_line.specs.Line.{ask_app, canonical_app, check_app, explain_app};
-ghost use Rattle.cut_command_line.specs.Line.{migrate_app, program_app, run_app, serve_app, status_app};
+ghost use Rattle.cut_command_line.specs.inside.Line.{ask_app, canonical_app, check_app, explain_app};
+ghost use Rattle.cut_command_line.specs.Line.{program_app};
+ghost use Rattle.cut_command_line.specs.inside.Line.{migrate_app, run_app, serve_app, status_app};
 ghost use Rattle.cut_command_line.specs.Line.{EndsLine, GivesFlag, GivesNumber, IsJobOf, IsSizedJob};
 ghost use Rattle.cut_command_line.specs.inside.Line.{GivesJob};
 ghost use Rattle.cut_command_line.specs.Line.{NamesJob, status_of_kind};

@@ -2,7 +2,8 @@
 
 ghost use Rattle.std.specs.Prelude.{◌≡◌, ℕ, codes, false, IfOk, IfSome, IfNone};
 ghost use Rattle.clap.specs.Words.{app_of, found_of, rows_of, rule_of, with_subcommand};
-ghost use Rattle.cut_command_line.specs.Line.{files_rule, join_app, share_app};
+ghost use Rattle.cut_command_line.specs.Line.{files_rule};
+ghost use Rattle.cut_command_line.specs.inside.Line.{join_app, share_app};
 ghost use Rattle.cut_command_line.specs.Line.{GivesShare, IsNumberIn, IsSizedJob};
 ghost use Rattle.cut_command_line.specs.inside.Line.{GivesJob};
 

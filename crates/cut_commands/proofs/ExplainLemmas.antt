@@ -4,28 +4,28 @@ use Rattle.cut_plan.specs.Accepted.{plan_of}
 use Rattle.cut_plan.specs.Values.{Values}
 use Rattle.cut_plan.specs.declared.refusal.Refusal.{Refusal}
 use Rattle.cut_wires.specs.Log.{WireLog, wrote, read_failed, write_failed}
-use Rattle.cut_commands.specs.Explain.{EndsExplain, IsExplanation}
-use Rattle.cut_commands.specs.Run.{GivesText, IsWritten, read_on}
+use Rattle.cut_commands.specs.Explain.{Explains, IsExplanation}
+use Rattle.cut_commands.specs.Run.{EndsWith, GivesText, IsWritten, read_on}
 use Rattle.cut_commands.specs.declared.fault.CliFault.{CliFault}
 use Rattle.cut_commands.specs.declared.fault.CliFault.TheVariants.{Memory, Plan, Read, Write}
 use Rattle.cut_commands.proofs.Logs.{read_none, wrote_none}
 
 -- no text was read
 pub ends_unread_text : (fault : CliFault) (old new : WireLog) → GivesText 65537 (Err fault) old new
-    → EndsExplain old new (Err fault)
+    → EndsWith Explains old new (Err fault)
 ends_unread_text Memory old new is = record {
   text = [];
   ended = false;
   written = [];
   log = is ∙ read_none old ∙ sym (wrote_none (read_on [] false old));
-  explains = (inl (refl, refl), refl);
+  answers = (inl (refl, refl), refl);
 }
 ends_unread_text Read old new is = record {
   text = is.0;
   ended = false;
   written = [];
   log = is.2 ∙ ap (λ (l : WireLog). read_failed l) (sym (wrote_none (read_on is.0 false old)));
-  explains = ((is.1, refl), refl);
+  answers = ((is.1, refl), refl);
 }
 ends_unread_text fault old new is = absurd is
 
@@ -33,44 +33,43 @@ ends_unread_text fault old new is = absurd is
 
 module _ (text : List ℕ) (old mid : WireLog) (given : GivesText 65537 (Ok text) old mid) where
   -- and memory ran out
-  pub ends_without_memory : EndsExplain old mid (Err Memory)
+  pub ends_without_memory : EndsWith Explains old mid (Err Memory)
   ends_without_memory = record {
     text = text;
     ended = nat_lt (length text) 65537;
     written = [];
     log = given.1 ∙ sym (wrote_none (read_on text (nat_lt (length text) 65537) old));
-    explains = (inr (given.0, refl), refl);
+    answers = (inr (given.0, refl), refl);
   }
 
   module _ (whole : List ℕ) (explains : IsExplanation text whole) (new : WireLog) where
     -- or a write failed
-    pub ends_unwritten : (fault : CliFault) → IsWritten whole (Err fault) mid new → EndsExplain old new (Err fault)
+    pub ends_unwritten : (fault : CliFault) → IsWritten whole (Err fault) mid new → EndsWith Explains old new (Err fault)
     ends_unwritten (Write fault) is = record {
       text = text;
       ended = nat_lt (length text) 65537;
       written = take fault.sent whole;
       log = is.1 ∙ ap (λ (l : WireLog). write_failed (wrote l (take fault.sent whole))) given.1;
-      explains =
-          ((given.0, refl), record { whole = whole; explains = explains; prefix = refl; short = is.0 });
+      answers = ((given.0, refl), (whole, explains, refl, is.0));
     }
     ends_unwritten fault is = absurd is
 
     -- or all was written
-    pub ends_accepted : (v : Values) → plan_of text ≡ Ok v → IsWritten whole (Ok tt) mid new → EndsExplain old new (Ok tt)
+    pub ends_accepted : (v : Values) → plan_of text ≡ Ok v → IsWritten whole (Ok tt) mid new → EndsWith Explains old new (Ok tt)
     ends_accepted v accepts is = record {
       text = text;
       ended = nat_lt (length text) 65537;
       written = whole;
       log = is ∙ ap (λ (l : WireLog). wrote l whole) given.1;
-      explains = ((given.0, refl), (v, accepts), explains);
+      answers = ((given.0, refl), (v, accepts), explains);
     }
 
     pub ends_refused : (refusal : Refusal) → plan_of text ≡ Err refusal → IsWritten whole (Ok tt) mid new
-        → EndsExplain old new (Err (Plan refusal))
+        → EndsWith Explains old new (Err (Plan refusal))
     ends_refused refusal refuses is = record {
       text = text;
       ended = nat_lt (length text) 65537;
       written = whole;
       log = is ∙ ap (λ (l : WireLog). wrote l whole) given.1;
-      explains = ((given.0, refl), refuses, explains);
+      answers = ((given.0, refl), refuses, explains);
     }

@@ -5,3 +5,7 @@ pub mod StudyLemmas
 pub mod MigrateLemmas
 pub mod ExplainLemmas
 pub mod StatusLemmas
+pub mod SlipFiles
+pub mod StatusBytes
+pub mod AskLemmas
+pub mod Replied

@@ -68,13 +68,9 @@ carried_by (Migrate (migration.BadSlip number)) = 32 ∷ decimal number
 carried_by (Migrate (migration.Disagrees number)) = 32 ∷ decimal number
 carried_by fault = []
 
--- what a fault says of itself: number, name, and what it carries
-abbrev pub words_of : CliFault → List ℕ
-words_of fault = codes_of.text_with (number_of fault) (name_of fault) ++ carried_by fault
-
 -- the fault as it is printed
 abbrev pub fault_text : CliFault → List ℕ
-fault_text fault = codes "cutlab: fault " ++ words_of fault
+fault_text fault = codes "cutlab: fault " ++ (codes_of.text_with (number_of fault) (name_of fault) ++ carried_by fault)
 
 -- its line
 abbrev pub fault_line : CliFault → List ℕ

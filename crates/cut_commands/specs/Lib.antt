@@ -7,4 +7,5 @@ pub mod Ask
 pub mod Migrate
 pub mod Status
 pub mod Explain
+pub mod Laws
 pub mod inside

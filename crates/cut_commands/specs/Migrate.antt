@@ -16,8 +16,6 @@ use Rattle.cut_journal.specs.Opening.{IsReopenFault, IsOpeningFaultOf, MayNotMak
 use Rattle.cut_journal.specs.Reading.{reading}
 use Rattle.cut_commands.specs.Check.{number_line}
 use Rattle.cut_commands.specs.Task.{Task}
-use Rattle.cut_commands.specs.Run.{EndsCommand}
-use Rattle.cut_wires.specs.Log.{WireLog}
 use Rattle.cut_commands.specs.declared.fault.CliFault.{CliFault}
 use Rattle.cut_commands.specs.declared.fault.CliFault.TheVariants.{Memory, Journal, Migrate}
 
@@ -116,8 +114,3 @@ files_task = record {
       × (whole ≡ moved_text (length slips)));
   fails = FilesFail;
 }
-
--- how it ends: where a file does not open nothing is read or written
-abbrev pub EndsFiles : WireLog → WireLog → Result ⊤ CliFault → Type 0
-EndsFiles old new result =
-    ((result ≡ Err (Journal journal.Disk)) × (new ≡ old)) ⊎ EndsCommand files_task old new result

@@ -2,15 +2,16 @@
 use Rattle.std.specs.Prelude.{◌≡◌, ◌<◌, ◌≤◌, ◌⊎◌, ◌++◌, ℕ, Bool, false, List, [], length, take, nat_lt, Option, Some}
 use Rattle.std.specs.Prelude.{None, Result, Ok, Err, ⊤, if◌then◌else◌}
 use Rattle.std.specs.Str.{is_utf8}
+use Rattle.cut_commands.specs.declared.input.TheConstants.{TEXT_LIMIT}
+use Rattle.cut_plan.specs.declared.limits.TheConstants.{LONGEST_TEXT}
 use Rattle.cut_faults.specs.Failures.{one_more}
 use Rattle.cut_plan.specs.declared.refusal.Refusal.{Refusal}
 use Rattle.cut_plan.specs.declared.refusal.Refusal.TheVariants.{NotJson, PlanTooLong}
 use Rattle.cut_plan.specs.Values.{Values}
 use Rattle.cut_plan.specs.Accepted.{plan_of}
-use Rattle.cut_wires.specs.Log.{Traffic, WireLog, passing, wrote, read_failed, write_failed}
+use Rattle.cut_wires.specs.Log.{WireLog, passing, wrote, read_failed, write_failed}
 use Rattle.cut_journal.specs.declared.fault.JournalFault.TheVariants.{Disk}
 use Rattle.cut_commands.specs.Check.{canonical_line, check_text}
-use Rattle.cut_commands.specs.Study.{file_task}
 use Rattle.cut_commands.specs.Task.{Task}
 use Rattle.cut_commands.specs.declared.fault.CliFault.{CliFault}
 use Rattle.cut_commands.specs.declared.fault.CliFault.TheVariants.{Memory, Plan, Read, Write, Journal, BadSlip, Migrate}
@@ -19,15 +20,9 @@ use Rattle.cut_commands.specs.declared.fault.CliFault.TheVariants.{Checkpoint, W
 -- ---- reading
 
 -- a wire gave these bytes, and after them the end of its input or not
-abbrev pub with_input : List ℕ → Bool → Traffic → Traffic
-with_input bytes ended t = record {
-  taken = t.taken;
-  given = t.given ++ bytes;
-  ends = if ended then one_more t.ends else t.ends;
-}
-
 abbrev pub read_on : List ℕ → Bool → WireLog → WireLog
-read_on bytes ended l = passing (with_input bytes ended) l
+read_on bytes ended l =
+    passing (λ t. record t { given = t.given ++ bytes; ends = if ended then one_more t.ends else t.ends }) l
 
 -- they are the input up to its end, or as many as are read at most
 abbrev pub IsReadThrough : ℕ → List ℕ → Bool → Type 0
@@ -39,13 +34,13 @@ IsReadPartly limit bytes ended = (length bytes < limit) × (ended ≡ false)
 
 -- the refusal of a text that shows as soon as it is read: it is too long, or no UTF-8
 abbrev pub refused_at_sight : List ℕ → Option Refusal
-refused_at_sight text = if nat_lt 65536 (length text) then Some PlanTooLong else
+refused_at_sight text = if nat_lt LONGEST_TEXT (length text) then Some PlanTooLong else
     (if is_utf8 text then None else Some NotJson)
 
 -- memory ran out when nothing was read yet, or after a text that is not refused at sight
 abbrev pub IsReadUnrefused : List ℕ → Bool → Type 0
 IsReadUnrefused text ended =
-    ((text ≡ []) × (ended ≡ false)) ⊎ (IsReadThrough 65537 text ended × (refused_at_sight text ≡ None))
+    ((text ≡ []) × (ended ≡ false)) ⊎ (IsReadThrough TEXT_LIMIT text ended × (refused_at_sight text ≡ None))
 
 -- ---- answering
 
@@ -77,12 +72,12 @@ AnswersPlan task v (Err fault) written = ⊥
 -- what it wrote, having read a text: nothing where a read failed, the text or its plan is refused, or memory ran out
 -- before the plan was there; else what it writes to the plan
 abbrev pub CommandAnswers : Task → List ℕ → Bool → Result ⊤ CliFault → List ℕ → Type 0
-CommandAnswers task text ended (Err Read) written = IsReadPartly 65537 text ended × (written ≡ [])
+CommandAnswers task text ended (Err Read) written = IsReadPartly TEXT_LIMIT text ended × (written ≡ [])
 CommandAnswers task text ended (Err (Plan refusal)) written =
-    IsReadThrough 65537 text ended × (plan_of text ≡ Err refusal) × (written ≡ [])
+    IsReadThrough TEXT_LIMIT text ended × (plan_of text ≡ Err refusal) × (written ≡ [])
 CommandAnswers task text ended (Err Memory) written = IsReadUnrefused text ended × (written ≡ [])
 CommandAnswers task text ended result written =
-    IsReadThrough 65537 text ended × ((v : Values) × (plan_of text ≡ Ok v) × AnswersPlan task v result written)
+    IsReadThrough TEXT_LIMIT text ended × ((v : Values) × (plan_of text ≡ Ok v) × AnswersPlan task v result written)
 
 -- a call of the wire failed exactly where a command ends with such a fault
 abbrev pub failing : CliFault → WireLog → WireLog
@@ -94,13 +89,18 @@ abbrev pub failed_by : {T : Type 0} → Result T CliFault → WireLog → WireLo
 failed_by (Ok done) l = l
 failed_by (Err fault) l = failing fault l
 
--- how a command ends: what it read and what it wrote, which is its answer to that, and the call that failed
-pub record EndsCommand (task : Task) (old new : WireLog) (result : Result ⊤ CliFault) : Type 0 where
+-- how a command ends: what it read and what it wrote, which answers that, and the call that failed
+pub record EndsWith (answering : List ℕ → Bool → Result ⊤ CliFault → List ℕ → Type 0) (old new : WireLog)
+    (result : Result ⊤ CliFault) : Type 0 where
   pub text : List ℕ
   pub ended : Bool
   pub written : List ℕ
   pub log : new ≡ failed_by result (wrote (read_on text ended old) written)
-  pub answers : CommandAnswers task text ended result written
+  pub answers : answering text ended result written
+
+-- one that works on a plan
+abbrev pub EndsCommand : Task → WireLog → WireLog → Result ⊤ CliFault → Type 0
+EndsCommand task old new result = EndsWith (CommandAnswers task) old new result
 
 -- the answer of `check`
 abbrev pub check_task : Task
@@ -110,9 +110,9 @@ check_task = record { answers = λ v whole. whole ≡ check_text v; fails = λ v
 abbrev pub canonical_task : Task
 canonical_task = record { answers = λ v whole. whole ≡ canonical_line v; fails = λ v fault. ⊥ }
 
--- how a study ends that is kept in a file: one whose file does not open reads and writes nothing
-abbrev pub EndsFile : WireLog → WireLog → Result ⊤ CliFault → Type 0
-EndsFile old new result = ((result ≡ Err (Journal Disk)) × (new ≡ old)) ⊎ EndsCommand file_task old new result
+-- how a command ends that opens a file first: where that does not open, nothing is read or written
+abbrev pub EndsWithFile : Task → WireLog → WireLog → Result ⊤ CliFault → Type 0
+EndsWithFile task old new result = ((result ≡ Err (Journal Disk)) × (new ≡ old)) ⊎ EndsCommand task old new result
 
 -- what reading up to a limit gives: the text, or a fault before it was read
 abbrev pub GivesText : ℕ → Result (List ℕ) CliFault → WireLog → WireLog → Type 0
@@ -125,10 +125,10 @@ GivesText limit (Err fault) old new = ⊥
 
 -- the plan that a text is, or why there is none
 abbrev pub IsReadAs : List ℕ → Bool → Result Values CliFault → Type 0
-IsReadAs text ended (Ok v) = IsReadThrough 65537 text ended × (plan_of text ≡ Ok v)
+IsReadAs text ended (Ok v) = IsReadThrough TEXT_LIMIT text ended × (plan_of text ≡ Ok v)
 IsReadAs text ended (Err Memory) = IsReadUnrefused text ended
-IsReadAs text ended (Err (Plan refusal)) = IsReadThrough 65537 text ended × (plan_of text ≡ Err refusal)
-IsReadAs text ended (Err Read) = IsReadPartly 65537 text ended
+IsReadAs text ended (Err (Plan refusal)) = IsReadThrough TEXT_LIMIT text ended × (plan_of text ≡ Err refusal)
+IsReadAs text ended (Err Read) = IsReadPartly TEXT_LIMIT text ended
 IsReadAs text ended (Err fault) = ⊥
 
 -- what reading a plan gives

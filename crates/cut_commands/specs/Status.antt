@@ -1,14 +1,17 @@
 -- What `status` writes of a checkpoint.
-use Rattle.std.specs.Prelude.{◌≡◌, ◌⊎◌, List, ℕ, Result, Err, ⊤}
-use Rattle.cut_journal.specs.declared.fault.JournalFault.TheVariants as journal
+use Rattle.std.specs.Prelude.{◌≡◌, ◌⊎◌, List, ℕ, Result, Ok, Err, ⊤}
+use Rattle.cut_plan.specs.Accepted.{plan_of}
+use Rattle.cut_plan.specs.Values.{Values}
+use Rattle.cut_ledger.specs.declared.slip.Slip.{Slip}
+use Rattle.cut_ledger.specs.Slips.{AreGood, IsFirstBad}
 use Rattle.cut_status.specs.declared.fault.StatusFault.{StatusFault}
-use Rattle.cut_status.specs.Status.{StatusValue, status_text}
+use Rattle.cut_status.specs.declared.fault.StatusFault.TheVariants.{BadSlip}
+use Rattle.cut_status.specs.Status.{StatusValue, status_over, status_text}
 use Rattle.cut_status.specs.Study.{IsStatusOf, IsStatusFault}
 use Rattle.cut_wires.specs.Log.{WireLog}
 use Rattle.cut_commands.specs.Faults.{fault_of_status}
 use Rattle.cut_commands.specs.Run.{IsWritten}
 use Rattle.cut_commands.specs.declared.fault.CliFault.{CliFault}
-use Rattle.cut_commands.specs.declared.fault.CliFault.TheVariants.{Journal}
 
 -- the answer to bytes: the lines of their status
 abbrev pub IsStatusText : List ℕ → List ℕ → Type 0
@@ -21,7 +24,18 @@ EndsOver bytes old new result =
     ((whole : List ℕ) × (IsStatusText bytes whole × IsWritten whole result old new))
     ⊎ ((fault : StatusFault) × (IsStatusFault bytes fault × (result ≡ Err (fault_of_status fault)) × (new ≡ old)))
 
--- how it ends over a file, of whose bytes nothing is known: where it is not read nothing is written
+-- ---- over a file, of whose bytes nothing is known
+
+-- why it has no status: where that is a bad slip, it is the first one of slips of the plan of some text
+abbrev pub MayHaveNone : StatusFault → Type 0
+MayHaveNone (BadSlip number) =
+    (text : List ℕ) × (v : Values) × (slips : List Slip) × (plan_of text ≡ Ok v) × IsFirstBad v slips number
+MayHaveNone fault = ⊤
+
+-- how it ends: the status of good slips of the plan of some text was written, or as many of its first bytes as are reported when a
+-- write failed; or the file has none, and nothing was written
 abbrev pub EndsStatus : WireLog → WireLog → Result ⊤ CliFault → Type 0
 EndsStatus old new result =
-    ((result ≡ Err (Journal journal.Disk)) × (new ≡ old)) ⊎ ((bytes : List ℕ) × EndsOver bytes old new result)
+    ((text : List ℕ) × (v : Values) × (slips : List Slip) × (plan_of text ≡ Ok v) × AreGood v slips
+    × IsWritten (status_text (status_over v slips)) result old new)
+    ⊎ ((fault : StatusFault) × MayHaveNone fault × (result ≡ Err (fault_of_status fault)) × (new ≡ old))

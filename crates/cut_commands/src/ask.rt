@@ -1,7 +1,7 @@
 ghost use Rattle.cut_commands.specs.Ask.{AsksFor, EndsAsk};
 
 use crate::CliFault;
-use crate::input::{LIMIT, read_text};
+use crate::input::{TEXT_LIMIT, read_text};
 use cut_messages::ask;
 use cut_wires::{StreamWire, Wire};
 use std::alloc::Global;
@@ -15,7 +15,7 @@ use std::os::unix::net::UnixStream;
 pub fn ask_io<W: Wire, S: Wire>(alloc: Global, wire: &mut W, server: &mut S) -> Result<(), CliFault>
     ensures { AsksFor result (W.log wire.old) (W.log wire.new) (S.log server.old) (S.log server.new) }
 {
-    let text = read_text(alloc, wire, LIMIT)?;
+    let text = read_text(alloc, wire, TEXT_LIMIT)?;
     match ask(alloc, text.as_slice(), server, wire) {
         Ok(()) => Ok(()),
         Err(fault) => Err(CliFault::Asked(fault)),

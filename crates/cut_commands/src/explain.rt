@@ -2,10 +2,11 @@ ghost use Rattle.std.specs.Prelude.{◌≡◌, string_bytes, IfOk};
 ghost use Rattle.std.specs.Io.{StartsWith};
 ghost use Rattle.cut_plan.specs.Accepted.{plan_of};
 ghost use Rattle.cut_explain.specs.FirstLine.{first_line};
-ghost use Rattle.cut_commands.specs.Explain.{EndsExplain};
+ghost use Rattle.cut_commands.specs.Explain.{Explains};
+ghost use Rattle.cut_commands.specs.Run.{EndsWith};
 
 use crate::CliFault;
-use crate::input::{LIMIT, read_text};
+use crate::input::{TEXT_LIMIT, read_text};
 use crate::output::write_answer;
 use cut_explain::{Explanation, estimate_study, explain};
 use cut_wires::Wire;
@@ -18,9 +19,9 @@ use std::time::Clock;
 /// The first line says whether it is accepted, or its first fault, with which the command ends then. At most 65,537 bytes
 /// are read, and each fault of the wire is as in `run_io`.
 pub fn explain_io<W: Wire, C: Clock>(alloc: Global, clock: &C, wire: &mut W) -> Result<(), CliFault>
-    ensures { EndsExplain (W.log wire.old) (W.log wire.new) result }
+    ensures { EndsWith Explains (W.log wire.old) (W.log wire.new) result }
 {
-    let text = read_text(alloc, wire, LIMIT)?;
+    let text = read_text(alloc, wire, TEXT_LIMIT)?;
     let Explanation { plan, text: lines } = explanation_of(alloc, clock, text.as_slice())?;
     write_answer(wire, lines.as_bytes())?;
     match plan {

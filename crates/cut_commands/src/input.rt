@@ -3,12 +3,12 @@ ghost use Rattle.cut_commands.specs.inside.Run.{FillsFrom, text_of};
 ghost use Rattle.std.specs.Prelude.{length};
 
 use crate::CliFault;
-use cut_plan::Plan;
+use cut_plan::{LONGEST_TEXT, Plan};
 use cut_wires::Wire;
 use std::alloc::Global;
 
 /// How many bytes of its input the program reads at most: one more than a plan may have.
-pub(crate) const LIMIT: usize = 65_537;
+pub(crate) const TEXT_LIMIT: usize = LONGEST_TEXT + 1;
 
 /// Reads a plan from a wire, as each command does that works on one.
 ///
@@ -17,7 +17,7 @@ pub(crate) const LIMIT: usize = 65_537;
 pub fn read_plan<W: Wire>(alloc: Global, wire: &mut W) -> Result<Plan, CliFault>
     ensures { GivesPlan result (W.log wire.old) (W.log wire.new) }
 {
-    let text = read_text(alloc, wire, LIMIT)?;
+    let text = read_text(alloc, wire, TEXT_LIMIT)?;
     Ok(Plan::from_json(alloc, text.as_slice())?)
 }
 

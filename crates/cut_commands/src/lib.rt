@@ -18,6 +18,7 @@ mod checkpoint;
 mod explain;
 mod fault;
 mod input;
+pub mod laws;
 mod migrate;
 mod output;
 mod run;

@@ -1,8 +1,8 @@
 ghost use Rattle.std.specs.Prelude.{◌≡◌, None, string_bytes, Ok, Err, IfOk, IfErr};
 ghost use Rattle.cut_journal.specs.Opening.{IsReopenFault, IsOpeningFaultOf, MayNotMake};
 ghost use Rattle.cut_journal.specs.Reading.{reading};
-ghost use Rattle.cut_commands.specs.Migrate.{EndsFiles, EndsMove, IsHeld, migrate_task, moved_text};
-ghost use Rattle.cut_commands.specs.Run.{EndsCommand};
+ghost use Rattle.cut_commands.specs.Migrate.{EndsMove, IsHeld, files_task, migrate_task, moved_text};
+ghost use Rattle.cut_commands.specs.Run.{EndsCommand, EndsWithFile};
 
 use crate::CliFault;
 use crate::input::read_plan;
@@ -46,7 +46,7 @@ pub fn migrate_files<W: Wire>(
     old: &str,
     new: &str,
 ) -> Result<(), CliFault>
-    ensures { EndsFiles (W.log wire.old) (W.log wire.new) result }
+    ensures { EndsWithFile files_task (W.log wire.old) (W.log wire.new) result }
 {
     let Ok(old) = FileDisk::open_existing(host, old) else {
         return Err(CliFault::Journal(JournalFault::Disk));

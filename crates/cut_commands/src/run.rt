@@ -1,6 +1,6 @@
 ghost use Rattle.std.specs.Prelude.{◌≤◌};
-ghost use Rattle.cut_commands.specs.Run.{EndsCommand, EndsFile};
-ghost use Rattle.cut_commands.specs.Study.{IsTrueStore, study_task, table_task};
+ghost use Rattle.cut_commands.specs.Run.{EndsCommand, EndsWithFile};
+ghost use Rattle.cut_commands.specs.Study.{IsTrueStore, file_task, study_task, table_task};
 
 use crate::CliFault;
 use crate::checkpoint::open_checkpoint;
@@ -110,7 +110,7 @@ where
     W: Wire,
     G: Hooks + Sync,
     R: Threads + Wait + Sync,
-    ensures { EndsFile (W.log wire.old) (W.log wire.new) result }
+    ensures { EndsWithFile file_task (W.log wire.old) (W.log wire.new) result }
 {
     match FileDisk::open(host, path) {
         Ok(disk) => run_io(rt, host.alloc(), wire, work, Some(disk)),

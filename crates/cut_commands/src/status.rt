@@ -10,8 +10,8 @@ use std::alloc::Global;
 /// how many slips, and the plan.
 ///
 /// The file is opened by `host` for reading alone, and its lock is not taken. Of what it holds nothing is known: what
-/// is written is the status of some bytes. Nothing is read from the wire, and nothing is written at a fault but that
-/// of a write.
+/// is written is the status of some good slips of some plan. Nothing is read from the wire, and nothing is written at a
+/// fault but that of a write.
 pub fn status_file<W: Wire>(host: &HostRuntime, wire: &mut W, path: &str) -> Result<(), CliFault>
     ensures { EndsStatus (W.log wire.old) (W.log wire.new) result }
 {

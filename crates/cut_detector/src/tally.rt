@@ -2,6 +2,7 @@ ghost use Rattle.std.specs.Prelude.{◌≡◌, ◌==◌, ◌<◌, ◌≤◌, ◌
 ghost use Rattle.std.specs.Prelude.{IsTrue, filter, replicate, vec_len, vec_capacity};
 ghost use Rattle.std.specs.List.{range_with_len, list_any, IsDistinct};
 ghost use Rattle.std.proofs.Props.{props};
+ghost use Rattle.cut_plan.specs.declared.limits.TheConstants.{MOST_NODES};
 ghost use Rattle.cut_detector.specs.inside.Masks.{with_edge};
 ghost use Rattle.cut_detector.specs.inside.Tally.{IsTouched, stable_in, unstable_in, marked_in, stable_count};
 ghost use Rattle.cut_detector.specs.inside.Tally.{marked_count};
@@ -21,7 +22,7 @@ pub struct Tally {
     pub touched: Vec<u16>,
     marked: u32,
     ghost rings: { full.k ≡ rule.k },
-    ghost few: { vec_len full.masks ≤ 2048 },
+    ghost few: { vec_len full.masks ≤ MOST_NODES },
     ghost stable_counted: { stable ≡ stable_count rule full },
     ghost marked_counted: { marked ≡ marked_count rule full },
     ghost room: { vec_len full.masks ≤ vec_capacity touched },
@@ -32,7 +33,7 @@ pub struct Tally {
 impl Tally {
     /// A tally in which no ring counts.
     pub fn new(alloc: Global, nodes: u16, rule: Rule) -> Result<Tally, AllocError>
-        requires { nodes ≤ 2048 }
+        requires { nodes ≤ MOST_NODES }
         ensures rule { IfOk result (λ t. t.rule ≡ rule) }
         ensures full { IfOk result (λ t. t.full.masks.items ≡ replicate nodes 0) }
     {
@@ -105,7 +106,7 @@ impl Tally {
 
 // How many there are once one of them is in place of another, if at all.
 fn moved(count: u32, before: bool, after: bool) -> u32
-    requires few { count ≤ 2048 }
+    requires few { count ≤ MOST_NODES }
     requires counted { cond before 1 0 ≤ count + cond after 1 0 }
     ensures { result + cond before 1 0 ≡ count + cond after 1 0 }
 {

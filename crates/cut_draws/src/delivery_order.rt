@@ -1,5 +1,6 @@
 ghost use Rattle.std.specs.Prelude.{◌≡◌, [], ◌++◌, ◌<◌, ◌≤◌, ◌^◌, length, map, slice_get, IfOk, OnOk, OnErr, IsTrue};
 ghost use Rattle.std.specs.Prelude.{Some, All};
+ghost use Rattle.cut_plan.specs.declared.limits.TheConstants.{MOST_NODES};
 ghost use Rattle.cut_rings.specs.Edges.{is_edge_of, are_edges_of};
 ghost use Rattle.cut_draws.specs.DeliveryOrder.{all_deliveries, copies_of, are_distinct, delivery_place};
 ghost use Rattle.cut_draws.specs.DeliveryOrder.{IsDeliveryOrder};
@@ -7,6 +8,7 @@ ghost use Rattle.cut_draws.specs.inside.Packed.{delivery_in, packed_at, keyed_at
 
 use crate::packed::{Keyed, deliveries_in, delivery_in, keys_rise, packed, repack, sort_keyed};
 use crate::{Delivery, Draws};
+use cut_plan::MOST_NODES;
 use cut_rings::Edge;
 use std::alloc::{AllocError, Global};
 use std::marker::Model;
@@ -14,7 +16,7 @@ use std::marker::Model;
 /// The place of the first delivery's key.
 const FIRST_DELIVERY: u64 = 1_048_576;
 /// How many receivers have places for each copy.
-const RECEIVERS: u64 = 2048;
+const RECEIVERS: u64 = MOST_NODES;
 /// How many edge numbers have places for each receiver.
 const EDGES: u64 = 65_536;
 
@@ -79,10 +81,10 @@ struct Arrivals<'a> {
     k: u8,
     edges: &'a [Edge],
     copies: u8,
-    ghost has_places: { receiver < 2048 },
+    ghost has_places: { receiver < MOST_NODES },
     ghost few_rings: { k ≤ 32 },
     ghost few_copies: { copies ≤ 4 },
-    ghost in_range: { IsTrue (are_edges_of k 2048 edges.now) },
+    ghost in_range: { IsTrue (are_edges_of k MOST_NODES edges.now) },
     ghost distinct: { IsTrue (are_distinct k edges.now) },
 }
 
@@ -90,7 +92,7 @@ impl Arrivals<'_> {
     /// The place of a delivery's key.
     #[inline]
     fn place(self, delivery: Delivery) -> u64
-        requires edge { IsTrue (is_edge_of self.k 2048 delivery.edge) }
+        requires edge { IsTrue (is_edge_of self.k MOST_NODES delivery.edge) }
         requires copy { delivery.copy < 4 }
         ensures value { result ≡ delivery_place self.entry.receiver self.entry.k delivery }
         ensures in_range { result < 2 ^ 32 }
@@ -113,10 +115,10 @@ impl Draws {
         edges: &[Edge],
         copies: u8,
     ) -> Result<Vec<Delivery>, AllocError>
-        requires receiver { receiver < 2048 }
+        requires receiver { receiver < MOST_NODES }
         requires rings { k ≤ 32 }
         requires copies { copies ≤ 4 }
-        requires within { IsTrue (are_edges_of k 2048 edges.now) }
+        requires within { IsTrue (are_edges_of k MOST_NODES edges.now) }
         requires distinct { IsTrue (are_distinct k edges.now) }
         ensures order { IfOk result
             (λ order. IsDeliveryOrder self.old receiver k edges.now copies order.items) }
@@ -138,10 +140,10 @@ impl Draws {
         edges: &[Edge],
         copies: u8,
     ) -> Result<(), AllocError>
-        requires receiver { receiver < 2048 }
+        requires receiver { receiver < MOST_NODES }
         requires rings { k ≤ 32 }
         requires copies { copies ≤ 4 }
-        requires within { IsTrue (are_edges_of k 2048 edges.now) }
+        requires within { IsTrue (are_edges_of k MOST_NODES edges.now) }
         requires distinct { IsTrue (are_distinct k edges.now) }
         ensures order { OnOk result (IsDeliveryOrder self.old receiver k edges.now copies order.new) }
         ensures err { OnErr result (order.new ≡ []) }
@@ -221,7 +223,7 @@ impl Draws {
         words: &[u64],
         arrivals: Arrivals,
     ) -> Result<(), AllocError>
-        requires { All (λ w. IsTrue (is_edge_of arrivals.k 2048 (delivery_in w).edge)) words.now }
+        requires { All (λ w. IsTrue (is_edge_of arrivals.k MOST_NODES (delivery_in w).edge)) words.now }
         ensures keys { OnOk result
             (keyed.new.items ≡ map (λ w. keyed_at self.old arrivals.entry.receiver arrivals.entry.k w) words.now) }
         ensures same { self.new ≡ self.old }

@@ -1,8 +1,10 @@
 ghost use Rattle.std.specs.Prelude.{◌≡◌, ◌<◌, map, IfOk, OnOk, IsTrue};
 ghost use Rattle.std.specs.List.Sorted.{IsPermutation, IsSorted};
+ghost use Rattle.cut_plan.specs.declared.limits.TheConstants.{MOST_NODES};
 ghost use Rattle.cut_draws.specs.inside.Packed.{packed_of, delivery_in, compare_keyed, ArePackedRising};
 
 use crate::Delivery;
+use cut_plan::{MOST_COPIES, MOST_NODES, MOST_RINGS};
 use cut_rings::Edge;
 use std::alloc::{AllocError, Global};
 
@@ -11,18 +13,18 @@ const DELIVERIES: u64 = 262_144;
 /// How many numbers the bits below those of a copy distinguish.
 const EDGES: u64 = 65_536;
 /// How many processes an edge may have as its subject.
-const SUBJECTS: u64 = 2048;
+const SUBJECTS: u64 = MOST_NODES;
 /// How many rings an edge may be on.
-const RINGS: u64 = 32;
+const RINGS: u64 = MOST_RINGS;
 /// How many copies there may be.
-const COPIES: u64 = 4;
+const COPIES: u64 = MOST_COPIES;
 
 /// A delivery in the low 18 bits of a number, under the high 46 bits of its key. Numbers of 8 bytes
 /// are sorted fastest, and nothing has to be looked up for their deliveries.
 #[inline(always)]
 pub(crate) fn packed(key: u64, delivery: Delivery) -> u64
     requires ring { delivery.edge.ring < 32 }
-    requires subject { delivery.edge.subject < 2048 }
+    requires subject { delivery.edge.subject < MOST_NODES }
     requires copy { delivery.copy < 4 }
     ensures { result ≡ packed_of key delivery }
 {

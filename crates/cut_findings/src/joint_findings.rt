@@ -1,12 +1,9 @@
 //! What is wrong with the fields of a plan, taken together.
 
 use crate::findings::sound_value;
-use cut_plan::Field;
+use cut_plan::{Field, MOST_CELLS};
 use serde_json::Value;
 use std::alloc::AllocError;
-
-/// The most cells that a plan has.
-const MOST_CELLS: usize = 4096;
 
 /// Lists the limits that a plan's fields break together. A limit is passed over where a field that it is on is wrong
 /// alone.
@@ -24,7 +21,7 @@ pub(crate) fn list_joint(out: &mut String, value: &Value) -> Result<(), AllocErr
     push_faults(out, value)?;
     let failed = sound_items(value, Field::F).len();
     let cells = combinations.saturating_mul(failed);
-    if cells > MOST_CELLS {
+    if cells as u64 > MOST_CELLS {
         write!(
             out,
             "{combinations} combinations of k, h and l, each with {failed} f, are {cells} cells"

@@ -1,6 +1,6 @@
 //! What each field of a plan has to be.
 
-use cut_plan::{Field, Version};
+use cut_plan::{Field, MOST_COPIES, MOST_NODES, MOST_REPEATS, Version};
 use serde_json::Value;
 use std::fmt;
 
@@ -75,7 +75,10 @@ impl FieldRule {
     /// The rule of a field, in a plan with this number of processes, where it is known.
     pub fn of_field(field: Field, nodes: Option<u64>) -> FieldRule {
         match field {
-            Field::Copies => FieldRule::Number { least: 1, most: 4 },
+            Field::Copies => FieldRule::Number {
+                least: 1,
+                most: MOST_COPIES,
+            },
             Field::Dead => FieldRule::Word {
                 first: "silent",
                 second: "speak",
@@ -86,18 +89,18 @@ impl FieldRule {
             },
             Field::Deaf | Field::Liars | Field::Links => FieldRule::Number {
                 least: 0,
-                most: 2048,
+                most: MOST_NODES,
             },
             Field::F => FieldRule::Failed { nodes },
             Field::H | Field::K | Field::L => FieldRule::Rings,
             Field::Implicit => FieldRule::Truth,
             Field::Nodes => FieldRule::Number {
                 least: 2,
-                most: 2048,
+                most: MOST_NODES,
             },
             Field::Repeats => FieldRule::Number {
                 least: 1,
-                most: 1_000_000,
+                most: MOST_REPEATS,
             },
             Field::Seed => FieldRule::Digits,
             Field::Version => FieldRule::Number { least: 1, most: 2 },

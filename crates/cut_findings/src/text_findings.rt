@@ -7,21 +7,19 @@ use crate::rules::version_of;
 use crate::shown::Shown;
 use crate::syntax::{explain_bytes, explain_syntax};
 use crate::unknown_fields::list_unknown;
+use cut_plan::LONGEST_TEXT;
 use serde_json::Value;
 use std::alloc::{AllocError, Global};
 use std::str;
 
-/// The longest text that is read as a plan, in bytes.
-const LONGEST: usize = 65_536;
-
 /// Lists what is wrong with a text as a plan, and the keys that stand in it more than once, a line for each. Of a text
 /// that is too long, no UTF-8 or no JSON that alone is said. Fails only where memory runs out.
 pub fn list_findings(alloc: Global, out: &mut String, text: &[u8]) -> Result<(), AllocError> {
-    if text.len() > LONGEST {
+    if text.len() > LONGEST_TEXT {
         let length = text.len();
         return writeln!(
             out,
-            "the text has {length} bytes; expected at most {LONGEST}"
+            "the text has {length} bytes; expected at most {LONGEST_TEXT}"
         );
     }
     match str::from_utf8(text) {

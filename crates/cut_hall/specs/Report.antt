@@ -1,6 +1,10 @@
 -- What a hall reports at its end.
-use Rattle.std.specs.Prelude.{◌≡◌, ◌≢◌, ℕ, Bool, false, List, length, map, sum_by, Option, Some, None, slice_get}
+use Rattle.std.specs.Prelude.{◌≡◌, ◌≢◌, ◌≤◌, ◌⊎◌, ℕ, Bool, false, List, length, map, sum_by, Option, Some, None}
+use Rattle.std.specs.Prelude.{slice_get, Ok}
 use Rattle.cut_board.specs.Views.{counted_by}
+use Rattle.cut_plan.specs.Cells.{trial_count}
+use Rattle.cut_plan.specs.Accepted.{plan_of}
+use Rattle.cut_plan.specs.Values.{Values}
 use Rattle.cut_ledger.specs.Contents.{is_complete}
 use Rattle.cut_ledger.specs.Machine.{StudyState}
 use Rattle.cut_book.specs.History.{HistoryValue, opened_by, LeadsTo, accepted_in}
@@ -28,6 +32,11 @@ calls_recorded (Some h) = length h.calls
 abbrev pub accepted_recorded : Option HistoryValue → ℕ
 accepted_recorded None = 0
 accepted_recorded (Some h) = accepted_in h.calls
+
+-- a slot may have accepted this many trials: none where it had no study, and else no more than the plan of a text has
+abbrev pub IsAcceptedCount : ℕ → Type 0
+IsAcceptedCount n =
+    (n ≡ 0) ⊎ ((text : List ℕ) × (v : Values) × (plan_of text ≡ Ok v) × (n ≤ trial_count v))
 
 -- ---- all slots
 

@@ -1,5 +1,6 @@
 ghost use Rattle.std.specs.Prelude.{true, false, ◌≡◌, ◌+◌, ◌<◌, ◌≤◌, length, vec_len, All, IfOk, IfSome, OnErr};
 ghost use Rattle.std.specs.Prelude.{IfErr};
+ghost use Rattle.cut_lines.specs.declared.line.TheConstants.{LONGEST_LINE};
 ghost use Rattle.cut_plan.specs.Cells.{cells_of};
 ghost use Rattle.cut_board.specs.Names.{board_id, board_of, view_of};
 ghost use Rattle.cut_board.specs.Views.{idle, read, seen_in};
@@ -212,7 +213,7 @@ impl<D: Disk + Drop, M: CallLedger, K: CallLedger> Hall<D, M, K> {
         requires slot { opened.now.study < self.now.slots }
         requires cell { cell < length (cells_of opened.now.plan) }
         ensures line { IfOk result (λ line. line.items ≡ full_line opened.now.plan opened.now.base cell) }
-        ensures short { IfOk result (λ line. length line.items ≤ 294) }
+        ensures short { IfOk result (λ line. length line.items ≤ LONGEST_LINE) }
         ensures pass { pass.new ≡ made_more pass.old (rows_of result) }
     {
         self.wait_for_line(rt, alloc, &mut pass.made, Asked { opened, cell })
@@ -232,7 +233,7 @@ impl<D: Disk + Drop, M: CallLedger, K: CallLedger> Hall<D, M, K> {
         requires cell { cell < length (cells_of opened.now.plan) }
         ensures line { IfOk result (λ found.
             IfSome found (λ line. line.items ≡ full_line opened.now.plan opened.now.base cell)) }
-        ensures short { IfOk result (λ found. IfSome found (λ line. length line.items ≤ 294)) }
+        ensures short { IfOk result (λ found. IfSome found (λ line. length line.items ≤ LONGEST_LINE)) }
         ensures why { IfErr result CanNotGiveAgain }
     {
         let slot = self.places[opened.study as usize].slot.lock(rt);
@@ -251,7 +252,7 @@ impl<D: Disk + Drop, M: CallLedger, K: CallLedger> Hall<D, M, K> {
         requires slot { asked.opened.now.study < self.now.slots }
         ensures line { IfOk result (λ line. line.items
             ≡ full_line asked.entry.opened.now.plan asked.entry.opened.now.base asked.entry.cell) }
-        ensures short { IfOk result (λ line. length line.items ≤ 294) }
+        ensures short { IfOk result (λ line. length line.items ≤ LONGEST_LINE) }
         ensures part { made.new.parts ≡ 1 }
         ensures made { made.new.amount ≡ made.old.amount + rows_of result }
     {

@@ -23,7 +23,7 @@ impl Model for SlotReport {
 }
 
 impl SlotReport {
-    ghost use Rattle.cut_hall.specs.Report.{IsEndOf};
+    ghost use Rattle.cut_hall.specs.Report.{IsAcceptedCount, IsEndOf};
 
     /// The report of a slot whose study has this history, and of one that had none.
     pub(crate) fn new(history: Option<History>, complete: bool) -> SlotReport
@@ -33,9 +33,10 @@ impl SlotReport {
         SlotReport { history, complete }
     }
 
-    /// How many trials it accepted.
+    /// How many trials it accepted: no more than its study's plan has.
     pub fn accepted(&self) -> u64
         ensures value { result ≡ accepted_recorded self.now.history }
+        ensures few { IsAcceptedCount result }
         ensures end { IsEndOf self.now.history self.now.complete }
     {
         match &self.history {

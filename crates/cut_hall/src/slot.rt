@@ -2,6 +2,7 @@ ghost use Rattle.std.specs.Prelude.{◌≡◌, ◌+◌, ◌<◌, ◌≤◌, ◌&
 ghost use Rattle.std.specs.Prelude.{Some, None, is_some, IsTrue, IfOk, IfSome, IfNone, OnOk, OnErr, IfErr, IsErrOf};
 ghost use Rattle.std.specs.Prelude.{replicate, slice_index_or, slice_set};
 ghost use Rattle.std.specs.List.{list_any};
+ghost use Rattle.cut_lines.specs.declared.line.TheConstants.{LONGEST_LINE};
 ghost use Rattle.cut_plan.specs.Cells.{cells_of};
 ghost use Rattle.cut_hall.specs.Lines.{full_line};
 ghost use Rattle.cut_hall.specs.Report.{calls_recorded};
@@ -187,7 +188,7 @@ impl<D: Disk + Drop, K: CallLedger> Slot<D, K> {
         ensures line { IfOk result (λ found.
             IfSome found (λ line. line.items
             ≡ full_line asked.entry.opened.now.plan asked.entry.opened.now.base asked.entry.cell)) }
-        ensures short { IfOk result (λ found. IfSome found (λ line. length line.items ≤ 294)) }
+        ensures short { IfOk result (λ found. IfSome found (λ line. length line.items ≤ LONGEST_LINE)) }
         ensures given { GivesLine result asked.entry.cell self.old.book self.new.book }
         ensures answers { AnswersLine result asked.entry.opened.now asked.entry.cell self.old.book }
         ensures waits { IfOk result (λ found. IfNone found (self.old.stopped ≡ false)) }
@@ -274,7 +275,7 @@ impl<D: Disk + Drop, K: CallLedger> Slot<D, K> {
         ensures line { IfOk result (λ found.
             IfSome found (λ line. line.items
             ≡ full_line asked.entry.opened.now.plan asked.entry.opened.now.base asked.entry.cell)) }
-        ensures short { IfOk result (λ found. IfSome found (λ line. length line.items ≤ 294)) }
+        ensures short { IfOk result (λ found. IfSome found (λ line. length line.items ≤ LONGEST_LINE)) }
         ensures answers { AnswersAgain result asked.entry.opened.now asked.entry.cell self.now.book }
         ensures given { IfOk result (λ found.
             IfSome found (λ line. slice_index_or self.now.given.items asked.entry.cell false ≡ true)) }

@@ -4,6 +4,7 @@ use Rattle.std.specs.Prelude.{ℕ, zero, suc, ◌+◌, ◌*◌, ◌^◌, ◌==�
 use Rattle.std.specs.Prelude.{take, drop, slice_index, slice_range, nat_lt, nat_le, bytes_eq, if◌then◌else◌, Result, Ok}
 use Rattle.std.specs.Prelude.{Err}
 use Rattle.std.specs.Int.{w32, w64, from_be_bytes}
+use Rattle.cut_plan.specs.declared.limits.TheConstants.{LONGEST_TEXT}
 use Rattle.sha2.specs.Sha256.{sha256}
 use Rattle.cut_plan.specs.declared.version.Version.{Version}
 use Rattle.cut_plan.specs.declared.version.Version.TheVariants.{One, Two}
@@ -33,7 +34,7 @@ is_magic letters = bytes_eq letters (magic_of One) || bytes_eq letters (magic_of
 unfoldable pub can_have_header : List ℕ → Bool
 can_have_header bytes =
     nat_le 13 (length bytes) && is_magic (slice_range bytes 1 9)
-    && nat_le (text_length bytes) 65536 && nat_le (text_length bytes + 46) (length bytes)
+    && nat_le (text_length bytes) LONGEST_TEXT && nat_le (text_length bytes + 46) (length bytes)
 
 -- whether there is a whole header, of whichever plan, and the gate of a first slip
 unfoldable pub has_header : List ℕ → Bool

@@ -1,6 +1,7 @@
 ghost use Rattle.std.specs.Prelude.{◌≡◌, ◌+◌, ◌*◌, ◌++◌, ◌≤◌, [], ◌∷◌, length, take, if◌then◌else◌, ◌<◌, ◌^◌, Some};
 ghost use Rattle.std.specs.Prelude.{None, IfOk, IsTrue};
 ghost use Rattle.std.specs.List.{flat_map};
+ghost use Rattle.cut_plan.specs.declared.limits.TheConstants.{LONGEST_TEXT};
 ghost use Rattle.sha2.specs.Sha256.{sha256};
 ghost use Rattle.cut_plan.specs.Canonical.{canonical_text};
 ghost use Rattle.cut_plan.specs.Versions.{version_of};
@@ -51,6 +52,7 @@ impl Model for FileHeader {
     ghost Value = { Values };
 
     ghost use Rattle.cut_plan.specs.Canonical.{canonical_text};
+    ghost use Rattle.cut_plan.specs.declared.limits.TheConstants.{LONGEST_TEXT};
     ghost use Rattle.cut_journal.specs.File.{header_digest, prefix_of};
 
     ghost view = { λ s. s.plan };
@@ -59,7 +61,7 @@ impl Model for FileHeader {
         (s.prefix.items ≡ prefix_of s.plan)
         × (s.digest ≡ header_digest s.plan)
         × (length s.prefix.items ≡ length (canonical_text s.plan) + 45)
-        × (length (canonical_text s.plan) ≤ 65536) };
+        × (length (canonical_text s.plan) ≤ LONGEST_TEXT) };
 }
 
 impl FileHeader {
@@ -108,7 +110,7 @@ impl FileHeader {
 
     /// Its plan's text is no longer than a header can say.
     pub fn is_short(&self)
-        ensures { length (canonical_text self.now) ≤ 65536 }
+        ensures { length (canonical_text self.now) ≤ LONGEST_TEXT }
     {
         // For the proof: what always holds of a plan.
         let _ = &self.plan;
@@ -244,7 +246,7 @@ impl FileHeader {
 fn text_length(plan: &Plan, text: &[u8]) -> u32
     requires { text.now ≡ canonical_text plan.now }
     ensures value { result ≡ length (canonical_text plan.now) }
-    ensures short { result ≤ 65536 }
+    ensures short { result ≤ LONGEST_TEXT }
 {
     canonical_text_reads_back();
     plan.cells();

@@ -1,5 +1,6 @@
 ghost use Rattle.std.specs.Prelude.{Err, ◌≡◌, ◌+◌, ◌<◌, ◌≤◌, ◌^◌, ◌↔◌, Ok, Some, None, if◌then◌else◌, bytes_eq};
 ghost use Rattle.std.specs.Prelude.{slice_range, true, length, IfOk, IfErr, IfSome, OnOk};
+ghost use Rattle.cut_plan.specs.declared.limits.TheConstants.{LONGEST_TEXT};
 ghost use Rattle.cut_faults.specs.Failures.{counted};
 ghost use Rattle.sha2.specs.Sha256.{sha256};
 ghost use Rattle.cut_disks.specs.State.{synced};
@@ -16,6 +17,7 @@ use crate::format::{FileHeader, digest_of};
 use crate::layout::is_magic;
 use crate::slips::{BegunFile, Slips, read_slips};
 use cut_disks::{Disk, DiskFault};
+use cut_plan::LONGEST_TEXT;
 use std::alloc::Global;
 
 /// The slips of a study that a disk holds, and why there are none.
@@ -149,7 +151,7 @@ fn text_length<D: Disk>(disk: &mut D, size: u64) -> Result<Option<u32>, DiskFaul
     ensures reported { D.is_honest disk.old → IfOk result (λ found. found
         ≡ (if can_have_header (D.state disk.old).bytes then Some (text_length (D.state disk.old).bytes)
         else None)) }
-    ensures short { IfOk result (λ found. IfSome found (λ text. text ≤ 65536)) }
+    ensures short { IfOk result (λ found. IfSome found (λ text. text ≤ LONGEST_TEXT)) }
     ensures same { D.is_honest disk.old → D.state disk.new ≡ D.state disk.old }
     ensures honest { D.is_honest disk.old ↔ D.is_honest disk.new }
     ensures faults { D.faults disk.new ≡ counted result (D.faults disk.old) }
@@ -166,7 +168,7 @@ fn text_length<D: Disk>(disk: &mut D, size: u64) -> Result<Option<u32>, DiskFaul
     if !is_ours {
         return Ok(None);
     }
-    if text > 65_536 {
+    if text as usize > LONGEST_TEXT {
         return Ok(None);
     }
     if size < u64::from(text) + 46 {

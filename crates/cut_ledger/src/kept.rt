@@ -1,6 +1,7 @@
 ghost use Rattle.std.specs.Prelude.{◌≡◌, ◌+◌, ◌*◌, ◌/◌, ◌<◌, ◌≤◌, ◌↔◌, List, [], length, map, IfOk, OnOk, OnErr};
 ghost use Rattle.std.specs.Prelude.{IsOk, IsTrue};
 ghost use Rattle.std.specs.List.{list_any};
+ghost use Rattle.cut_plan.specs.declared.limits.TheConstants.{MOST_NODES};
 ghost use Rattle.cut_plan.specs.Cells.{cells_of, trial_count};
 ghost use Rattle.cut_outcome.specs.Sum.{trials_in, IsAtMost};
 ghost use Rattle.cut_ledger.specs.declared.slip.Slip as slips;
@@ -61,7 +62,7 @@ impl Kept {
         requires { length self.now.trials.held ≡ trial_count plan.now }
         ensures good { (earlier : List slips.Slip) → AreOver plan.now earlier self.now.trials self.now.sums.items
             → (IsTrue result ↔ IsGood plan.now earlier slip.now) }
-        ensures few { IsTrue result → IsAtMost (2048 * slip.now.piece.count) slip.now.totals }
+        ensures few { IsTrue result → IsAtMost (MOST_NODES * slip.now.piece.count) slip.now.totals }
     {
         is_piece(plan, slip.piece) && !self.overlaps(slip.piece) && is_possible(plan, slip)
     }

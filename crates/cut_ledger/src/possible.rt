@@ -1,4 +1,5 @@
 ghost use Rattle.std.specs.Prelude.{◌≡◌, ◌+◌, ◌-◌, ◌*◌, ◌≤◌, ◌^◌, ◌↔◌, IsTrue};
+ghost use Rattle.cut_plan.specs.declared.limits.TheConstants.{MOST_NODES};
 ghost use Rattle.cut_plan.specs.Cells.{IsCellOf};
 ghost use Rattle.cut_plan.specs.Versions.{version_of};
 ghost use Rattle.cut_outcome.specs.Outcome.{cell_at};
@@ -14,7 +15,7 @@ pub(crate) fn is_possible(plan: &Plan, slip: &Slip) -> bool
     requires { IsTrue (is_piece plan.now slip.now.piece) }
     ensures possible { IsTrue result ↔ ArePossible plan.now (cell_at plan.now slip.now.piece.first)
         slip.now.piece.count slip.now.totals }
-    ensures few { IsTrue result → IsAtMost (2048 * slip.now.piece.count) slip.now.totals }
+    ensures few { IsTrue result → IsAtMost (MOST_NODES * slip.now.piece.count) slip.now.totals }
 {
     let Slip { piece, totals } = *slip;
     let cell = plan.cell(plan.cell_of(piece.first));
@@ -25,7 +26,7 @@ pub(crate) fn is_possible(plan: &Plan, slip: &Slip) -> bool
 fn are_counted(plan: &Plan, cell: Cell, trials: u32, totals: Totals) -> bool
     requires { IsCellOf plan.now cell }
     ensures counted { IsTrue result ↔ AreCounted plan.now cell trials totals }
-    ensures few { IsTrue result → totals.receivers ≤ 2048 * trials }
+    ensures few { IsTrue result → totals.receivers ≤ MOST_NODES * trials }
 {
     let each = u64::from(plan.nodes() - cell.f);
     totals.receivers == u64::from(trials) * each

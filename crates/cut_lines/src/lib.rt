@@ -7,4 +7,4 @@
 mod line;
 mod row;
 
-pub use line::{cell_line, header};
+pub use line::{LONGEST_LINE, cell_line, header};

@@ -8,6 +8,9 @@ use cut_outcome::Totals;
 use cut_plan::{Plan, Version};
 use std::alloc::{AllocError, Global};
 
+/// The most bytes of a line: 14 columns, each of at most 20 digits with the comma or the line feed after it.
+pub const LONGEST_LINE: usize = 294;
+
 /// The first line of a plan's table: the names of its columns, with a line feed. A table of version 2 has
 /// the column `settled`, before `ppm`. It has at most 80 bytes.
 pub fn header(plan: &Plan) -> &'static [u8]
@@ -35,7 +38,7 @@ pub fn cell_line(
     requires number { number < length (cells_of plan.now) }
     requires few { totals.conflicts < 2 ^ 32 }
     ensures line { IfOk result (λ line. line.items ≡ line_with plan.now number totals) }
-    ensures short { IfOk result (λ line. length line.items ≤ 294) }
+    ensures short { IfOk result (λ line. length line.items ≤ LONGEST_LINE) }
 {
     let cell = plan.cell(number);
     let first = [

@@ -107,11 +107,6 @@ WritesJoinOfFiles v whole = (slips : List Slip) × (AreGood v slips × (whole �
 abbrev pub join_files_task : Task
 join_files_task = record { answers = WritesJoinOfFiles; fails = StopsJoinOfFiles }
 
--- how it ends: where the new file does not open nothing is read or written
-abbrev pub EndsJoinOfFiles : WireLog → WireLog → Result ⊤ CliFault → Type 0
-EndsJoinOfFiles old new result =
-    ((result ≡ Err (Journal journal.Disk)) × (new ≡ old)) ⊎ EndsCommand join_files_task old new result
-
 -- what a fault of a journal is one of: of the old file at a place, from 1, among `count` ones; or of the new file
 abbrev pub RefusesFile : ℕ → JournalFault → Option ℕ → Type 0
 RefusesFile count fault (Some place) = (1 ≤ place) × (place ≤ count) × IsOpeningFaultOf fault

@@ -17,7 +17,7 @@ use Rattle.cut_share.specs.Appending.{AppendsEach}
 use Rattle.cut_share.specs.Running.{AreOfShare, AreWhole, IsNotDone}
 use Rattle.cut_share.specs.Share.{trials_of_share}
 use Rattle.cut_wires.specs.Log.{WireLog}
-use Rattle.cut_commands.specs.Run.{EndsCommand, GivesPlan}
+use Rattle.cut_commands.specs.Run.{GivesPlan}
 use Rattle.cut_commands.specs.Study.{MayStop}
 use Rattle.cut_commands.specs.Task.{Task}
 use Rattle.cut_commands.specs.declared.fault.CliFault.{CliFault}
@@ -144,8 +144,3 @@ ShareFails v fault = ⊤
 
 abbrev pub share_file_task : Result ⊤ CliFault → Share → Task
 share_file_task ended s = record { answers = λ v whole. whole ≡ answer_at ended s v; fails = ShareFails }
-
--- how it ends: where a file does not open nothing is read or written
-abbrev pub EndsShareFile : Share → WireLog → WireLog → Result ⊤ CliFault → Type 0
-EndsShareFile s old new result =
-    ((result ≡ Err (Journal journal.Disk)) × (new ≡ old)) ⊎ EndsCommand (share_file_task result s) old new result

@@ -6,8 +6,9 @@ ghost use Rattle.cut_ledger.specs.Slips.{AreGood};
 ghost use Rattle.cut_status.specs.Status.{held_trials};
 ghost use Rattle.cut_join.specs.Joined.{joined};
 ghost use Rattle.cut_join.specs.Laws.{JoinedAreTrue, JoinedGiveThePlansTable};
-ghost use Rattle.cut_machines.specs.JoinCommand.{EndsJoinCommand, EndsJoinOfFiles, JoinWrites, StopsJoinOfFiles};
-ghost use Rattle.cut_machines.specs.JoinCommand.{WritesJoinOfFiles};
+ghost use Rattle.cut_commands.specs.Run.{EndsWithFile};
+ghost use Rattle.cut_machines.specs.JoinCommand.{EndsJoinCommand, JoinWrites, StopsJoinOfFiles, WritesJoinOfFiles};
+ghost use Rattle.cut_machines.specs.JoinCommand.{join_files_task};
 ghost use Rattle.cut_machines.specs.JoinCommand.{NamesOld, NamesOldFile, NamesRefused, NamesRefusedFile, StopsJoin};
 ghost use Rattle.cut_machines.specs.JoinCommand.{joined_text};
 ghost use Rattle.cut_machines.specs.JoinTarget.{LeavesDisk, StopsWriting, writing_faults};
@@ -115,7 +116,7 @@ where
 /// fault is that of an old file, with the file's place among them, and which faults an old file and the new one may
 /// have.
 pub fn join_files<W: Wire>(host: &HostRuntime, wire: &mut W, old: &[&str], new: &str) -> JoinedFiles
-    ensures ends { EndsJoinOfFiles (W.log wire.old) (W.log wire.new) result.ended }
+    ensures ends { EndsWithFile join_files_task (W.log wire.old) (W.log wire.new) result.ended }
     ensures refused { NamesRefusedFile (length old.now) result.ended result.refused }
 {
     let Ok(disk) = FileDisk::open(host, new) else {

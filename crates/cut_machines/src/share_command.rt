@@ -1,6 +1,6 @@
 ghost use Rattle.std.specs.Prelude.{◌≡◌, ◌≤◌, ◌↔◌, IfErr};
-ghost use Rattle.cut_commands.specs.Run.{EndsCommand};
-ghost use Rattle.cut_machines.specs.Share.{EndsShareFile, EndsKeeping, LeavesUnread, share_task};
+ghost use Rattle.cut_commands.specs.Run.{EndsCommand, EndsWithFile};
+ghost use Rattle.cut_machines.specs.Share.{EndsKeeping, LeavesUnread, share_file_task, share_task};
 ghost use Rattle.cut_machines.specs.Share.{disk_faults_after, fault_of_share};
 
 use crate::share_answer::share_line;
@@ -155,7 +155,7 @@ where
     W: Wire,
     G: Hooks + Sync,
     R: Threads + Wait + Sync,
-    ensures { EndsShareFile work.entry.share (W.log wire.old) (W.log wire.new) result }
+    ensures { EndsWithFile (share_file_task result work.entry.share) (W.log wire.old) (W.log wire.new) result }
 {
     match FileDisk::open(host, path) {
         Ok(disk) => share_io(rt, host.alloc(), wire, work, disk).ended,

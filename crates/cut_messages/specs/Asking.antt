@@ -4,6 +4,8 @@ use Rattle.std.specs.Prelude.{length, take}
 use Rattle.std.specs.Prelude.{Some, None, Result, Ok, Err, ⊤}
 use Rattle.std.specs.List.{AllByRecursion, flat_map}
 use Rattle.std.specs.Int.{w16, from_be_bytes}
+use Rattle.cut_messages.specs.declared.client.TheConstants.{READ_SIZE}
+use Rattle.cut_messages.specs.declared.side.TheConstants.{LONGEST_PAYLOAD}
 use Rattle.cut_faults.specs.Failures.{one_more}
 use Rattle.cut_wires.specs.Log.{Traffic, WireLog, passing, wrote, read_failed, write_failed}
 use Rattle.cut_messages.specs.declared.side.Side.TheVariants.{Replies}
@@ -90,7 +92,7 @@ ConcludesAnswer (Err ask.Request) stream messages rest old new = ⊥
 
 -- what the last read gave and no reader took: nothing, but where memory ran out
 abbrev pub IsUnread : Result ⊤ AskFault → List ℕ → Type 0
-IsUnread (Err ask.Memory) last = length last ≤ 4096
+IsUnread (Err ask.Memory) last = length last ≤ READ_SIZE
 IsUnread result last = last ≡ []
 
 -- a wire that took the request, and gave these bytes
@@ -128,8 +130,8 @@ pub record Hears (plan : List ℕ) (result : Result ⊤ AskFault) (old new out_o
 -- is some answer of which the output took the lines.
 abbrev pub Asks : List ℕ → Result ⊤ AskFault → WireLog → WireLog → WireLog → WireLog → Type 0
 Asks plan (Err ask.PlanTooLong) old new out_old out_new =
-    (65536 < length plan) × (new ≡ old) × (out_new ≡ out_old)
+    (LONGEST_PAYLOAD < length plan) × (new ≡ old) × (out_new ≡ out_old)
 Asks plan (Err ask.Request) old new out_old out_new =
-    (length plan ≤ 65536) × IsCutOff (request plan) old new × (out_new ≡ out_old)
+    (length plan ≤ LONGEST_PAYLOAD) × IsCutOff (request plan) old new × (out_new ≡ out_old)
 Asks plan result old new out_old out_new =
-    (length plan ≤ 65536) × Hears plan result old new out_old out_new
+    (length plan ≤ LONGEST_PAYLOAD) × Hears plan result old new out_old out_new

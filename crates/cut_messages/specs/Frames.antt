@@ -4,6 +4,7 @@ use Rattle.std.specs.Prelude.{◌≡◌, ◌≤◌, ◌++◌, ℕ, List, [], ◌
 use Rattle.std.specs.Prelude.{Option, Some, None}
 use Rattle.std.specs.Prelude.{if◌then◌else◌, IsTrue}
 use Rattle.std.specs.Int.{w32, to_be_bytes, from_be_bytes}
+use Rattle.cut_messages.specs.declared.side.TheConstants.{LONGEST_PAYLOAD}
 use Rattle.cut_messages.specs.declared.kind.Kind.{Kind}
 use Rattle.cut_messages.specs.declared.side.Side.{Side}
 use Rattle.cut_messages.specs.declared.message.Message.{Message}
@@ -22,14 +23,14 @@ frame_of m = frame m.kind m.payload
 -- long, and as long as one of its kind has to be
 pub record IsMessage (side : Side) (m : Message) : Type 0 where
   pub kind : kind_at side (byte_of m.kind) ≡ Some m.kind
-  pub short : length m.payload ≤ 65536
+  pub short : length m.payload ≤ LONGEST_PAYLOAD
   pub fits : IsTrue (fits (length_of side m.kind) (length m.payload))
 
 -- what is wrong with a payload's length, where payloads of its kind have these lengths: first that
 -- it is too long for any, then that it is wrong for the kind
 abbrev pub length_fault : Option ℕ → ℕ → Option StreamFault
 length_fault right n =
-    if nat_lt 65536 n then Some TooLong else (if fits right n then None else Some BadLength)
+    if nat_lt LONGEST_PAYLOAD n then Some TooLong else (if fits right n then None else Some BadLength)
 
 -- what is wrong with a message after its first byte, which stands for this kind, if for any: first
 -- that it is no kind; then, once the four bytes of the length are there, the length

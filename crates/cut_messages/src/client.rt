@@ -1,11 +1,12 @@
 ghost use Rattle.std.specs.Prelude.{◌≡◌, ◌<◌, ◌≤◌, length};
+ghost use Rattle.cut_messages.specs.declared.side.TheConstants.{LONGEST_PAYLOAD};
 ghost use Rattle.cut_wires.specs.Sending.{Sends, sending};
 ghost use Rattle.cut_messages.specs.Asking.{request, Asks};
 ghost use Rattle.cut_messages.specs.inside.Asking.{Requests};
 
 use crate::frame::send_message;
 use crate::replies::{AnswerState, take_piece};
-use crate::side::LONGEST;
+use crate::side::LONGEST_PAYLOAD;
 use crate::{AskFault, Kind, Reader};
 use cut_wires::{Line, Wire, WriteFault};
 use std::alloc::Global;
@@ -29,10 +30,10 @@ pub fn ask<W: Wire, O: Wire>(
 ) -> Result<(), AskFault>
     ensures asks { Asks plan_text.now result
         (W.log wire.old) (W.log wire.new) (O.log output.old) (O.log output.new) }
-    ensures unsent { 65536 < length plan_text.now →
+    ensures unsent { LONGEST_PAYLOAD < length plan_text.now →
         (wire.new ≡ wire.old) × (output.new ≡ output.old) }
 {
-    if plan_text.len() > LONGEST as usize {
+    if plan_text.len() > LONGEST_PAYLOAD as usize {
         return Err(AskFault::PlanTooLong);
     }
     match send_request(wire, plan_text) {
@@ -60,7 +61,7 @@ pub fn ask<W: Wire, O: Wire>(
 
 /// Sends a plan, and that no further request comes.
 fn send_request<W: Wire>(wire: &mut W, plan_text: &[u8]) -> Result<(), WriteFault>
-    requires { length plan_text.now ≤ 65536 }
+    requires { length plan_text.now ≤ LONGEST_PAYLOAD }
     ensures { Requests result plan_text.now (W.log wire.old) (W.log wire.new) }
 {
     send_both(&mut Line::new(wire), plan_text)
@@ -68,7 +69,7 @@ fn send_request<W: Wire>(wire: &mut W, plan_text: &[u8]) -> Result<(), WriteFaul
 
 /// Sends the same over a line.
 fn send_both<W: Wire>(line: &mut Line<'_, W>, plan_text: &[u8]) -> Result<(), WriteFault>
-    requires { length plan_text.now ≤ 65536 }
+    requires { length plan_text.now ≤ LONGEST_PAYLOAD }
     ensures { Sends result (request plan_text.now) (sending W.log line.old) (sending W.log line.new) }
 {
     match send_message(line, Kind::Submit, plan_text) {

@@ -1,5 +1,6 @@
 ghost use Rattle.std.specs.Prelude.{◌≡◌, ◌+◌, ◌≤◌, ◌∷◌, length, take};
 ghost use Rattle.std.specs.Int.{w32, to_be_bytes};
+ghost use Rattle.cut_messages.specs.declared.side.TheConstants.{LONGEST_PAYLOAD};
 ghost use Rattle.cut_wires.specs.Sending.{Sends, sending};
 ghost use Rattle.cut_messages.specs.Kinds.{byte_of};
 ghost use Rattle.cut_messages.specs.Frames.{frame};
@@ -17,7 +18,7 @@ pub fn send_message<W: Wire>(
     kind: Kind,
     payload: &[u8],
 ) -> Result<(), WriteFault>
-    requires { length payload.now ≤ 65536 }
+    requires { length payload.now ≤ LONGEST_PAYLOAD }
     ensures { Sends result (frame kind payload.now) (sending W.log line.old) (sending W.log line.new) }
 {
     if payload.len() > BUFFER - HEAD {
@@ -30,7 +31,7 @@ pub fn send_message<W: Wire>(
 
 /// Sends the same by a write for what comes before the payload, and others for that.
 fn send_parts<W: Wire>(line: &mut Line<'_, W>, kind: Kind, payload: &[u8]) -> Result<(), WriteFault>
-    requires { length payload.now ≤ 65536 }
+    requires { length payload.now ≤ LONGEST_PAYLOAD }
     ensures { Sends result (frame kind payload.now) (sending W.log line.old) (sending W.log line.new) }
 {
     let head = head_of(kind, payload.len() as u32);
@@ -43,7 +44,7 @@ fn send_parts<W: Wire>(line: &mut Line<'_, W>, kind: Kind, payload: &[u8]) -> Re
 /// Puts a message into the first places of a buffer.
 fn put_message(buffer: &mut [u8], kind: Kind, payload: &[u8])
     requires room { 5 + length payload.now ≤ length buffer.old }
-    requires short { length payload.now ≤ 65536 }
+    requires short { length payload.now ≤ LONGEST_PAYLOAD }
     ensures { take (5 + length payload.now) buffer.new ≡ frame kind payload.now }
 {
     let head = head_of(kind, payload.len() as u32);

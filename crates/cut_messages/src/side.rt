@@ -6,7 +6,7 @@ ghost use Rattle.cut_messages.specs.Frames.{length_fault};
 use crate::{Kind, StreamFault};
 
 /// The most bytes that a payload has.
-pub(crate) const LONGEST: u32 = 65_536;
+pub(crate) const LONGEST_PAYLOAD: u32 = 65_536;
 
 /// Which way messages go.
 #[derive(Clone, Copy, Debug, PartialEq, Eq)]
@@ -47,7 +47,7 @@ impl Side {
     pub(crate) fn length_fault(self, kind: Kind, length: u32) -> Option<StreamFault>
         ensures { result ≡ length_fault (length_of self kind) length }
     {
-        if length > LONGEST {
+        if length > LONGEST_PAYLOAD {
             return Some(StreamFault::TooLong);
         }
         match self.length_of(kind) {

@@ -1,4 +1,5 @@
 ghost use Rattle.std.specs.Prelude.{◌+◌, ◌^◌, ◌<◌, ◌≤◌, length, IfOk, OnOk, All, IsTrue};
+ghost use Rattle.cut_plan.specs.declared.limits.TheConstants.{MOST_NODES};
 ghost use Rattle.cut_rings.specs.Edges.{are_edges_of};
 ghost use Rattle.cut_nodes.specs.Slots.{AreSlots};
 ghost use Rattle.cut_nodes.specs.inside.Slots.{IsSlot, Extends, IsLast};
@@ -29,7 +30,7 @@ impl Slots {
     /// The slots of edges of the first `k` rings, in order of the edges. Fails only where memory runs out.
     pub fn of(alloc: Global, k: u8, edges: &[Edge]) -> Result<Slots, AllocError>
         requires rings { k ≤ 32 }
-        requires edges { IsTrue (are_edges_of k 2048 edges.now) }
+        requires edges { IsTrue (are_edges_of k MOST_NODES edges.now) }
         requires few { length edges.now ≤ 2 ^ 16 }
         ensures slots { IfOk result (λ x. AreSlots k x.blocks.items edges.now x.slots.items) }
     {
@@ -47,7 +48,7 @@ pub(crate) fn slots_among(
     edges: &[Edge],
 ) -> Result<Vec<Slot>, AllocError>
     requires rings { k ≤ 32 }
-    requires edges { IsTrue (are_edges_of k 2048 edges.now) }
+    requires edges { IsTrue (are_edges_of k MOST_NODES edges.now) }
     requires room { length blocks.old.items + length edges.now ≤ 2 ^ 16 }
     ensures slots { IfOk result (λ slots. AreSlots k blocks.new.items edges.now slots.items) }
     ensures blocks { OnOk result (Extends blocks.old.items (length edges.now) blocks.new.items) }

@@ -1,4 +1,5 @@
 ghost use Rattle.std.specs.Prelude.{◌≡◌, ◌*◌, IsTrue};
+ghost use Rattle.cut_plan.specs.declared.limits.TheConstants.{MOST_NODES};
 ghost use Rattle.cut_plan.specs.Plan.{IsPlan};
 ghost use Rattle.cut_outcome.specs.Outcome.{cell_at};
 ghost use Rattle.cut_outcome.specs.Possible.{ArePossible};
@@ -42,7 +43,7 @@ impl PieceResult {
     /// The result of a piece of a plan, by the sums over its trials.
     pub fn new(plan: Plan, piece: Piece, totals: Totals) -> PieceResult
         requires piece { IsTrue (is_piece plan piece) }
-        requires few { IsAtMost (2048 * piece.count) totals }
+        requires few { IsAtMost (MOST_NODES * piece.count) totals }
         requires totals { totals ≡ sum_of plan (trials_in piece) }
         ensures { result ≡ record { plan = plan; piece = piece } }
     {
@@ -71,7 +72,7 @@ impl PieceResult {
     /// The sums over the piece's trials.
     pub fn totals(&self) -> Totals
         ensures value { result ≡ sum_of self.now.plan (trials_in self.now.piece) }
-        ensures few { IsAtMost (2048 * self.now.piece.count) result }
+        ensures few { IsAtMost (MOST_NODES * self.now.piece.count) result }
         ensures possible { ArePossible self.now.plan (cell_at self.now.plan self.now.piece.first)
             self.now.piece.count result }
     {

@@ -8,9 +8,10 @@ use Rattle.cut_plan.specs.declared.refusal.Refusal.{Refusal}
 use Rattle.cut_plan.specs.declared.field.Field.{Field}
 use Rattle.cut_plan.specs.declared.field.Field.TheVariants.{F, H, K, L, Nodes}
 use Rattle.cut_plan.specs.declared.version.Version.{Version}
-use Rattle.cut_plan.specs.Fields.{fields_of, number_at, numbers_at}
-use Rattle.cut_plan.specs.Accepted.{is_present, is_of_kind, is_in_range, is_in_scale, has_some, rises_at, wanted}
-use Rattle.cut_plan.specs.Accepted.{fault_at, each, version_in, checks_by, field_check}
+use Rattle.cut_plan.specs.Fields.{fields_of}
+use Rattle.cut_plan.specs.inside.Fields.{number_at, numbers_at}
+use Rattle.cut_plan.specs.Accepted.{is_in_scale, wanted, fault_at, each, checks_by, field_check}
+use Rattle.cut_plan.specs.inside.Accepted.{is_present, is_of_kind, is_in_range, has_some, rises_at, version_in}
 use Rattle.cut_plan.specs.Plan.{all_within}
 use Rattle.cut_plan.specs.inside.Look.{AreBelow}
 use Rattle.cut_plan.proofs.Versions.{has, every_field}

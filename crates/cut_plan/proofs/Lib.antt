@@ -9,10 +9,11 @@ pub mod PlanFacts
 pub mod TextsOfPlans
 pub mod Writing
 pub mod Members
+pub mod Plain
 pub mod Tame
 pub mod CanonicalAccepted
 pub mod CanonicalReads
-pub mod Length
+pub mod CanonicalLength
 pub mod RoundTrip
 pub mod Among
 pub mod CellOrder

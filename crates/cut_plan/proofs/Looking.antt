@@ -7,7 +7,8 @@ use Rattle.serde_json.specs.Find.{as_array, as_object}
 use Rattle.serde_json.specs.View.{view, items_view, members_view}
 use Rattle.serde_json.specs.declared.value.Value.{Value}
 use Rattle.cut_plan.specs.declared.version.Version.{Version}
-use Rattle.cut_plan.specs.Fields.{list_of_items, keys_of_members, elements, keys, number_or_zero, is_named}
+use Rattle.cut_plan.specs.Fields.{list_of_items, keys_of_members, elements, keys, number_in}
+use Rattle.cut_plan.specs.inside.Fields.{is_named}
 use Rattle.cut_plan.specs.inside.Look.{item_numbers}
 
 pub list_of_items-items_view : (vs : List Value) → list_of_items (items_view vs) ≡ map view vs
@@ -21,8 +22,8 @@ pub map_twice : {A B C : Type 0} (f : B → C) (g : A → B) (xs : List A) → m
 map_twice f g [] = refl
 map_twice f g (x ∷ xs) = ap (λ ys. f (g x) ∷ ys) (map_twice f g xs)
 
-pub numbers_found : (ds : List Data) (vs : List Value) → map view vs ≡ ds → item_numbers vs ≡ map number_or_zero ds
-numbers_found ds vs e = rw (← e) (sym (map_twice number_or_zero view vs))
+pub numbers_found : (ds : List Data) (vs : List Value) → map view vs ≡ ds → item_numbers vs ≡ map number_in ds
+numbers_found ds vs e = rw (← e) (sym (map_twice number_in view vs))
 
 named_members : (version : Version) (es : List (String Global × Value))
     → list_all (λ key. is_named version (string_bytes key)) (keys_of es)

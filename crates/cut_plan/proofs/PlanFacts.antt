@@ -14,10 +14,10 @@ use Rattle.cut_plan.specs.declared.field.Field.TheVariants.{Seed}
 use Rattle.cut_plan.specs.declared.version.Version.{Version}
 use Rattle.cut_plan.specs.declared.version.Version.TheVariants.{One, Two}
 use Rattle.cut_plan.specs.Versions.{deaf_in}
-use Rattle.cut_plan.specs.Fields.{number_at, numbers_at}
-use Rattle.cut_plan.specs.inside.Fields.{text_at}
-use Rattle.cut_plan.specs.Accepted.{is_in_scale, has_some, datum_at, version_in, failing_by, field_check, limit_check}
-use Rattle.cut_plan.specs.Accepted.{limits, values_in}
+use Rattle.cut_plan.specs.Fields.{member_at}
+use Rattle.cut_plan.specs.inside.Fields.{number_at, numbers_at, text_at}
+use Rattle.cut_plan.specs.Accepted.{is_in_scale, failing_by, field_check, limit_check, values_in}
+use Rattle.cut_plan.specs.inside.Accepted.{has_some, limits, version_in}
 use Rattle.cut_plan.specs.Cells.{cells_of, largest}
 use Rattle.cut_plan.specs.Values.{Values}
 use Rattle.cut_plan.specs.Plan.{all_within, is_rising, IsScale, IsPlan}
@@ -64,7 +64,7 @@ few_f d h =
     omega (arith, short, bounds.1)
 
 pub few_deaf : (version : Version) (d : Data) → IsChecked version d
-    → unwrap_or (deaf_in (failing_by version (datum_at d))) 0 ≤ 2048
+    → unwrap_or (deaf_in (failing_by version (member_at d))) 0 ≤ 2048
 few_deaf One d known = omega arith
 few_deaf Two d known = (within_bounds 0 2048 (number_at d Deaf) (known.ranges Deaf refl)).1
 

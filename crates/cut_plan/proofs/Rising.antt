@@ -6,8 +6,8 @@ use Rattle.std.proofs.lemmas.List.Folds.{list_all-map}
 use Rattle.std.specs.List.{list_all}
 use Rattle.serde_json.specs.View.{view}
 use Rattle.serde_json.specs.declared.value.Value.{Value}
-use Rattle.cut_plan.specs.Fields.{number_or_zero}
-use Rattle.cut_plan.specs.Accepted.{has_some}
+use Rattle.cut_plan.specs.Fields.{number_in}
+use Rattle.cut_plan.specs.inside.Accepted.{has_some}
 use Rattle.cut_plan.specs.Plan.{is_rising}
 use Rattle.cut_plan.specs.inside.Look.{item_numbers}
 
@@ -30,14 +30,14 @@ some_numbers xs h =
 
 -- a test of each number, after the test that there is one
 pub numbers_pass : (p : ℕ → Bool) (xs : List Value) (r e : Bool) → e ≡ (length xs == 0) → e ≡ false → r
-    ≡ list_all (λ v. p (number_or_zero (view v))) xs
+    ≡ list_all (λ v. p (number_in (view v))) xs
     → r ≡ (has_some (item_numbers xs) && list_all p (item_numbers xs))
 numbers_pass p xs r e is some all =
     both_tests (has_some (item_numbers xs)) r (list_all p (item_numbers xs)) (some_numbers xs (sym is ∙ some))
-    (all ∙ sym (list_all-map p (λ v. number_or_zero (view v)) xs))
+    (all ∙ sym (list_all-map p (λ v. number_in (view v)) xs))
 
 pub number_at_place : (xs : List Value) (i : ℕ) (d : Value) → i < length xs → get_or (item_numbers xs) i 0
-    ≡ number_or_zero (view (get_or xs i d))
+    ≡ number_in (view (get_or xs i d))
 number_at_place [] i d h = absurd (omega arith)
 number_at_place (x ∷ xs) zero d h = refl
 number_at_place (x ∷ xs) (suc i) d h = number_at_place xs i d (omega arith)

@@ -11,7 +11,7 @@ use Rattle.cut_plan.proofs.Members.{values_back}
 use Rattle.cut_plan.proofs.CanonicalAccepted.{plan_in_back}
 use Rattle.cut_plan.proofs.CanonicalReads.{canonical_reads}
 use Rattle.cut_plan.proofs.TextsOfPlans.{plan_of-text}
-use Rattle.cut_plan.proofs.Length.{canonical_plain}
+use Rattle.cut_plan.proofs.CanonicalLength.{canonical_plain}
 
 -- plans with equal texts are equal
 pub texts_differ : (v w : Values) → IsPlan v → IsPlan w → canonical_text v ≡ canonical_text w → v ≡ w

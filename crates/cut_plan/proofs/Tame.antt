@@ -1,14 +1,17 @@
--- What every plan says in each field: small numbers, short lists that rise, short texts, each in the field's range.
-use Rattle.std.proofs.Common.{◌≡◌, ℕ, ◌+◌, ◌≤◌, ◌<◌, List, [], ◌∷◌, ◌++◌, length, length-append, Bool, true, nat_le}
-use Rattle.std.proofs.Common.{nat_lt, ◌&&◌, is_some, unwrap_or, refl, arith}
+-- What every plan says in each field of its version: a value that reads back from a short text, and is in range.
+use Rattle.std.proofs.Common.{◌≡◌, ℕ, ◌^◌, ◌≤◌, ◌<◌, List, [], ◌∷◌, length, Bool, true, false, nat_le, nat_lt, ◌&&◌}
+use Rattle.std.proofs.Common.{Some, is_some, option_map, unwrap_or, refl, ap, arith}
 use Rattle.std.proofs.lemmas.Bool.{and_from, ltb-true, lt-ltb, le-leb}
-use Rattle.std.proofs.lemmas.Str.{IsUtf8-append, IsUtf8-from_ascii}
-use Rattle.std.proofs.lemmas.Str.Ascii.{IsAscii-nil, IsAscii-cons}
-use Rattle.std.specs.Bool.{⊤}
 use Rattle.std.specs.List.{AllByRecursion, list_all}
-use Rattle.std.specs.Str.{IsUtf8, IsAscii}
-use Rattle.hex.specs.Hex.{encode_lower, lower_digits}
-use Rattle.hex.proofs.HexLemmas.{length-encode_with, IsAscii-encode_with}
+use Rattle.json.specs.Tree.{HasNumbers, ItemsHaveNumbers, depth, items_depth}
+use Rattle.json.proofs.Printed.Decimals.{IsNumber-decimal}
+use Rattle.serde_json.specs.Data.{Data, boolean, number, string, array, unsigned}
+use Rattle.serde_json.specs.Read.{of_json, of_items}
+use Rattle.serde_json.specs.Written.{outline, items_outline, compact_text, has_float, items_have_float}
+use Rattle.serde_json.proofs.Numbers.{number_of-decimal}
+use Rattle.hex.specs.Hex.{encode_lower}
+use Rattle.cut_plan.specs.declared.kind.Kind.{Kind}
+use Rattle.cut_plan.specs.declared.kind.Kind.TheVariants.{Number, Numbers, Text, Truth}
 use Rattle.cut_plan.specs.declared.field.Field.{Field}
 use Rattle.cut_plan.specs.declared.field.Field.TheVariants as field
 use Rattle.cut_plan.specs.declared.dead.Dead.{Dead}
@@ -18,93 +21,54 @@ use Rattle.cut_plan.specs.declared.failing.Failing.{Failing}
 use Rattle.cut_plan.specs.declared.failing.Failing.TheVariants.{Alike, Mixed}
 use Rattle.cut_plan.specs.declared.version.Version.{Version}
 use Rattle.cut_plan.specs.declared.version.Version.TheVariants.{One, Two}
-use Rattle.cut_plan.specs.Versions.{version_number, version_of, deaf_in, faults_text}
+use Rattle.cut_plan.specs.Versions.{version_number, version_of, deaf_in}
 use Rattle.cut_plan.specs.Values.{Values}
 use Rattle.cut_plan.specs.Plan.{IsPlan, IsScale, all_within, is_rising}
 use Rattle.cut_plan.specs.Words.{dead_word, faults_word, faults_of}
-use Rattle.cut_plan.specs.Datum.{Datum, one, many, word, truth}
-use Rattle.cut_plan.specs.Accepted.{in_range, is_in_scale, has_some, is_within}
-use Rattle.cut_plan.specs.Canonical.{datum}
+use Rattle.cut_plan.specs.Fields.{list_of_items, whole_number, fields_of, kind_of, is_of, number_in, numbers_in}
+use Rattle.cut_plan.specs.Fields.{text_in}
+use Rattle.cut_plan.specs.Accepted.{in_range, is_in_scale, is_within}
+use Rattle.cut_plan.specs.inside.Accepted.{has_some}
+use Rattle.cut_plan.specs.Canonical.{numbers_data, faults_data, deaf_data, said}
 use Rattle.cut_plan.proofs.Every.{every-list_all}
-use Rattle.cut_plan.proofs.Versions.{has}
+use Rattle.cut_plan.proofs.Versions.{has, all_own}
 use Rattle.cut_plan.proofs.Checked.{within_bounds}
 use Rattle.cut_plan.proofs.PlanFacts.{scale_length, failed_length}
-use Rattle.cut_plan.proofs.Members.{dead_back, faults_back, seed_back}
+use Rattle.cut_plan.proofs.Members.{numbers_back, dead_back, seed_back}
+use Rattle.cut_plan.proofs.Plain.{IsPlain, plain_more, plain_tested, plain_digits, plain_decimal, plain_quoted}
+use Rattle.cut_plan.proofs.Plain.{AreSmall, items_data, plain_list}
 
--- ---- short texts in UTF-8
+-- ---- lists of numbers
 
--- a text in UTF-8 of at most this many bytes
-pub record IsPlain (most : ℕ) (text : List ℕ) : Type 0 where
-  pub utf8 : IsUtf8 text
-  pub short : length text ≤ most
+items_whole : (xs : List ℕ) → list_all (λ d. is_some (whole_number d)) (list_of_items (items_data xs)) ≡ true
+items_whole [] = refl
+items_whole (x ∷ xs) = items_whole xs
 
-pub plain_more : (m n : ℕ) (text : List ℕ) → m ≤ n → IsPlain m text → IsPlain n text
-plain_more m n text below plain = let short = plain.short in record { utf8 = plain.utf8; short = omega arith }
+items_numbers : (xs : List ℕ) → AreSmall xs → ItemsHaveNumbers (items_outline (items_data xs))
+items_numbers [] small = tt
+items_numbers (x ∷ xs) small = let first : x < 10000 = small.0
+    in (IsNumber-decimal x (omega arith), items_numbers xs small.1)
 
-pub plain_both : (m n : ℕ) (xs ys : List ℕ) → IsPlain m xs → IsPlain n ys → IsPlain (m + n) (xs ++ ys)
-plain_both m n xs ys first second =
-    let a = first.short in
-    let b = second.short in
-    record { utf8 = IsUtf8-append xs ys first.utf8 second.utf8; short = omega (arith, a, b, length-append xs ys) }
+items_shallow : (xs : List ℕ) → items_depth (items_outline (items_data xs)) ≡ 0
+items_shallow [] = refl
+items_shallow (x ∷ xs) = rw (items_shallow xs) refl
 
--- a text whose bytes are tested
-abbrev pub are_ascii : List ℕ → Bool
-are_ascii xs = list_all (λ x. nat_lt x 128) xs
+items_read : (xs : List ℕ) → AreSmall xs → of_items (items_outline (items_data xs)) ≡ Some (items_data xs)
+items_read [] small = refl
+items_read (x ∷ xs) small =
+    let first : x < 10000 = small.0 in
+    let fits : x < 2 ^ 64 = omega arith in
+    rw (number_of-decimal x fits, items_read xs small.1) refl
 
-ascii_bytes : (xs : List ℕ) → AllByRecursion (λ x. x < 128) xs → IsAscii xs
-ascii_bytes [] h = IsAscii-nil
-ascii_bytes (x ∷ xs) h = IsAscii-cons x xs h.0 (ascii_bytes xs h.1)
-
-small_bytes : (xs : List ℕ) → are_ascii xs ≡ true → AllByRecursion (λ x. x < 128) xs
-small_bytes xs h = every-list_all (λ x. nat_lt x 128) (λ x. x < 128) (λ x e. ltb-true x 128 e) xs h
-
-pub tested : (xs : List ℕ) → are_ascii xs ≡ true → IsUtf8 xs
-tested xs h = IsUtf8-from_ascii xs (ascii_bytes xs (small_bytes xs h))
-
-pub one_byte : (x : ℕ) → nat_lt x 128 ≡ true → IsPlain 1 (x ∷ [])
-one_byte x h = record {
-  utf8 = IsUtf8-from_ascii (x ∷ []) (IsAscii-cons x [] (ltb-true x 128 h) IsAscii-nil);
-  short =
-      omega arith;
-}
-
-plain_dead : (dead : Dead) → IsPlain 64 (dead_word dead)
-plain_dead Silent = record { utf8 = tested (dead_word Silent) refl; short = omega arith }
-plain_dead Speak = record { utf8 = tested (dead_word Speak) refl; short = omega arith }
-
-plain_faults : (failing : Failing) → IsPlain 64 (faults_text failing)
-plain_faults (Alike Crash) = record { utf8 = tested (faults_word Crash) refl; short = omega arith }
-plain_faults (Alike Deaf) = record { utf8 = tested (faults_word Deaf) refl; short = omega arith }
-plain_faults (Mixed deaf) = record { utf8 = tested [] refl; short = omega arith }
-
-plain_seed : (v : Values) → IsPlan v → IsPlain 64 (encode_lower v.seed)
-plain_seed v plan =
-    let digits = ascii_bytes lower_digits (small_bytes lower_digits refl) in
-    let len = length-encode_with lower_digits v.seed in
-    let bytes = plan.seed_length in
-    record {
-      utf8 = IsUtf8-from_ascii (encode_lower v.seed) (IsAscii-encode_with lower_digits v.seed digits);
-      short =
-          omega (arith, len, bytes);
-    }
-
--- ---- small numbers
-
-abbrev pub AreSmall : List ℕ → Type 0
-AreSmall xs = AllByRecursion (λ x. x < 10000) xs
+no_item_floats : (xs : List ℕ) → items_have_float (items_data xs) ≡ false
+no_item_floats [] = refl
+no_item_floats (x ∷ xs) = no_item_floats xs
 
 -- a short list of small numbers that rise
-pub record IsShort (xs : List ℕ) : Type 0 where
+record IsShort (xs : List ℕ) : Type 0 where
   pub small : AreSmall xs
   pub few : length xs ≤ 2048
   pub rising : is_rising xs ≡ true
-
--- what a field says is small and short
-abbrev pub IsTame : Datum → Type 0
-IsTame (one n) = n < 10000000
-IsTame (many xs) = IsShort xs
-IsTame (word bytes) = IsPlain 64 bytes
-IsTame (truth b) = ⊤
 
 scale_back : (xs : List ℕ) → IsScale xs → is_in_scale xs ≡ true
 scale_back xs scale = and_from (has_some xs) (all_within 1 32 xs) (lt-ltb 0 (length xs) scale.some) scale.range
@@ -130,44 +94,143 @@ failed_short v plan =
       rising = plan.fs_rising;
     }
 
+-- ---- each of the four kinds
+
+-- the most bytes of the text of a value
+abbrev pub most_in : Kind → ℕ
+most_in Number = 400
+most_in Numbers = 10300
+most_in Text = 400
+most_in Truth = 400
+
+-- a value of a kind that reads back from its text, which is short, and whose numbers rise
+pub record IsTame (kind : Kind) (d : Data) : Type 0 where
+  pub of_kind : is_of kind d ≡ true
+  pub rising : is_rising (numbers_in d) ≡ true
+  pub has_numbers : HasNumbers (outline d)
+  pub shallow : depth (outline d) ≤ 1
+  pub reads : of_json (outline d) ≡ Some d
+  pub no_float : has_float d ≡ false
+  pub plain : IsPlain (most_in kind) (compact_text d)
+
+tame_number : (n : ℕ) → n < 10000000 → IsTame Number (number (unsigned n))
+tame_number n small =
+    let fits : n < 2 ^ 64 = omega arith in
+    record {
+      of_kind = refl;
+      rising = refl;
+      has_numbers = IsNumber-decimal n fits;
+      shallow = omega arith;
+      reads = ap (option_map number) (number_of-decimal n fits);
+      no_float = refl;
+      plain = plain_more 7 400 _ (omega arith) (plain_decimal 7 n (omega arith) small fits);
+    }
+
+tame_numbers : (xs : List ℕ) → IsShort xs → IsTame Numbers (numbers_data xs)
+tame_numbers xs short = record {
+  of_kind = items_whole xs;
+  rising = rw (numbers_back xs) short.rising;
+  has_numbers = items_numbers xs short.small;
+  shallow = omega (arith, items_shallow xs);
+  reads = ap (option_map array) (items_read xs short.small);
+  no_float = no_item_floats xs;
+  plain = plain_more _ _ _ (omega arith) (plain_list 2048 xs short.small short.few);
+}
+
+tame_text : (bytes : List ℕ) → IsPlain 64 bytes → IsTame Text (string bytes)
+tame_text bytes plain = record {
+  of_kind = refl;
+  rising = refl;
+  has_numbers = tt;
+  shallow = omega arith;
+  reads = refl;
+  no_float = refl;
+  plain = plain_more _ _ _ (omega arith) (plain_quoted 64 bytes plain);
+}
+
+plain_truth : (b : Bool) → IsPlain 400 (compact_text (boolean b))
+plain_truth true = plain_tested 400 _ refl
+plain_truth false = plain_tested 400 _ refl
+
+tame_truth : (b : Bool) → IsTame Truth (boolean b)
+tame_truth b = record {
+  of_kind = refl;
+  rising = refl;
+  has_numbers = tt;
+  shallow = omega arith;
+  reads = refl;
+  no_float = refl;
+  plain = plain_truth b;
+}
+
 -- ---- field by field
 
 within : (low high n : ℕ) → low ≤ n → n ≤ high → is_within low high n ≡ true
 within low high n above below = and_from (nat_le low n) (nat_le n high) (le-leb low n above) (le-leb n high below)
 
-some_failed : (v : Values) → IsPlan v → (has_some v.f && list_all (λ f. nat_lt f v.nodes) v.f) ≡ true
-some_failed v plan = and_from (has_some v.f) (list_all (λ f. nat_lt f v.nodes) v.f) (lt-ltb 0 (length v.f) plan.some_f)
-    plan.fs
+-- a number in range is tame
+tame_within : (low high n : ℕ) → low ≤ n → n ≤ high → high < 10000000 → IsTame Number (number (unsigned n))
+    × (is_within low high n ≡ true)
+tame_within low high n above below small = (tame_number n (omega arith), within low high n above below)
 
-faults_known : (failing : Failing) → has field.Faults (version_of failing) ≡ true
-    → is_some (faults_of (faults_text failing)) ≡ true
-faults_known (Alike faults) own = rw (faults_back faults) refl
-faults_known (Mixed deaf) own = cc own
+tame_scale : (xs : List ℕ) → IsScale xs → IsTame Numbers (numbers_data xs)
+    × (is_in_scale (numbers_in (numbers_data xs)) ≡ true)
+tame_scale xs scale = (tame_numbers xs (scale_short xs scale), rw (numbers_back xs) (scale_back xs scale))
 
-version_within : (version : Version) → (1 ≤ version_number version) × (version_number version ≤ 2)
-version_within One = (omega arith, omega arith)
-version_within Two = (omega arith, omega arith)
+tame_failed : (v : Values) → IsPlan v → IsTame Numbers (numbers_data v.f)
+    × ((has_some (numbers_in (numbers_data v.f)) && list_all (λ f. nat_lt f v.nodes) (numbers_in (numbers_data v.f)))
+    ≡ true)
+tame_failed v plan = (
+  tame_numbers v.f (failed_short v plan),
+  rw (numbers_back v.f) (and_from (has_some v.f) _ (lt-ltb 0 (length v.f) plan.some_f) plan.fs),
+)
 
--- what a plan says in each field is small and short, and, of a field of its version, in range
-pub tame : (v : Values) → IsPlan v → (field : Field) → IsTame (datum v field)
-    × (has field (version_of v.failing) ≡ true → in_range (datum v) field ≡ true)
-tame v plan field.Copies = let top = plan.few_copies in (omega arith, λ own. within 1 4 v.copies plan.some_copies top)
-tame v plan field.Dead = (plain_dead v.dead, λ own. rw (dead_back v.dead) refl)
-tame v plan field.Deaf =
-    let top = plan.deaf in
-    (omega (arith, top), λ own. within 0 2048 (unwrap_or (deaf_in v.failing) 0) (omega arith) top)
-tame v plan field.F = (failed_short v plan, λ own. some_failed v plan)
-tame v plan field.Faults = (plain_faults v.failing, λ own. faults_known v.failing own)
-tame v plan field.H = (scale_short v.h plan.hs, λ own. scale_back v.h plan.hs)
-tame v plan field.Implicit = (tt, λ own. refl)
-tame v plan field.K = (scale_short v.k plan.ks, λ own. scale_back v.k plan.ks)
-tame v plan field.L = (scale_short v.l plan.ls, λ own. scale_back v.l plan.ls)
-tame v plan field.Liars = let top = plan.liars in (omega arith, λ own. within 0 2048 v.liars (omega arith) top)
-tame v plan field.Links = let top = plan.links in (omega arith, λ own. within 0 2048 v.links (omega arith) top)
-tame v plan field.Nodes = let top = plan.few_nodes in (omega arith, λ own. within 2 2048 v.nodes plan.some_nodes top)
-tame v plan field.Repeats = let top = plan.few_repeats
-    in (omega arith, λ own. within 1 1000000 v.repeats plan.some_repeats top)
-tame v plan field.Seed = (plain_seed v plan, λ own. rw (seed_back v plan) refl)
-tame v plan field.Version =
-    let bounds = version_within (version_of v.failing) in
-    (omega (arith, bounds.1), λ own. within 1 2 (version_number (version_of v.failing)) bounds.0 bounds.1)
+tame_dead : (dead : Dead) → IsTame Text (string (dead_word dead))
+tame_dead Silent = tame_text (dead_word Silent) (plain_tested 64 (dead_word Silent) refl)
+tame_dead Speak = tame_text (dead_word Speak) (plain_tested 64 (dead_word Speak) refl)
+
+tame_faults : (failing : Failing) → has field.Faults (version_of failing) ≡ true → IsTame Text (faults_data failing)
+    × (is_some (faults_of (text_in (faults_data failing))) ≡ true)
+tame_faults (Alike Crash) own = (tame_text (faults_word Crash) (plain_tested 64 (faults_word Crash) refl), refl)
+tame_faults (Alike Deaf) own = (tame_text (faults_word Deaf) (plain_tested 64 (faults_word Deaf) refl), refl)
+tame_faults (Mixed deaf) own = cc own
+
+tame_deaf : (failing : Failing) → unwrap_or (deaf_in failing) 0 ≤ 2048 → has field.Deaf (version_of failing) ≡ true
+    → IsTame Number (deaf_data failing) × (is_within 0 2048 (number_in (deaf_data failing)) ≡ true)
+tame_deaf (Alike faults) few own = cc own
+tame_deaf (Mixed deaf) few own = tame_within 0 2048 deaf (omega arith) few (omega arith)
+
+tame_version : (version : Version) → IsTame Number (number (unsigned (version_number version)))
+    × (is_within 1 2 (version_number version) ≡ true)
+tame_version One = tame_within 1 2 1 (omega arith) (omega arith) (omega arith)
+tame_version Two = tame_within 1 2 2 (omega arith) (omega arith) (omega arith)
+
+-- what a plan says in each field of its version is tame, and in range
+pub tame : (v : Values) → IsPlan v → (field : Field) → has field (version_of v.failing) ≡ true
+    → IsTame (kind_of field) (said v field) × (in_range (said v) field ≡ true)
+tame v plan field.Copies own = tame_within 1 4 v.copies plan.some_copies plan.few_copies (omega arith)
+tame v plan field.Dead own = (tame_dead v.dead, rw (dead_back v.dead) refl)
+tame v plan field.Deaf own = tame_deaf v.failing plan.deaf own
+tame v plan field.F own = tame_failed v plan
+tame v plan field.Faults own = tame_faults v.failing own
+tame v plan field.H own = tame_scale v.h plan.hs
+tame v plan field.Implicit own = (tame_truth v.implicit, refl)
+tame v plan field.K own = tame_scale v.k plan.ks
+tame v plan field.L own = tame_scale v.l plan.ls
+tame v plan field.Liars own = tame_within 0 2048 v.liars (omega arith) plan.liars (omega arith)
+tame v plan field.Links own = tame_within 0 2048 v.links (omega arith) plan.links (omega arith)
+tame v plan field.Nodes own = tame_within 2 2048 v.nodes plan.some_nodes plan.few_nodes (omega arith)
+tame v plan field.Repeats own = tame_within 1 1000000 v.repeats plan.some_repeats plan.few_repeats (omega arith)
+tame v plan field.Seed own = (
+  tame_text (encode_lower v.seed) (plain_digits v.seed plan.seed_length),
+  rw (seed_back v plan) refl,
+)
+tame v plan field.Version own = tame_version (version_of v.failing)
+
+-- what values say in each of some fields is tame
+abbrev pub AreTame : Values → List Field → Type 0
+AreTame v fields = AllByRecursion (λ field. IsTame (kind_of field) (said v field)) fields
+
+pub all_tame : (v : Values) → IsPlan v → AreTame v (fields_of (version_of v.failing))
+all_tame v plan = all_own (version_of v.failing) (λ field. IsTame (kind_of field) (said v field))
+    (λ field own. (tame v plan field own).0)

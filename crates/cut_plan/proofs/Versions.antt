@@ -1,32 +1,21 @@
 -- Which fields a version has, and what holds of each of them.
 use Rattle.std.proofs.Common.{◌≡◌, Bool, true, false, refl}
-use Rattle.std.specs.List.{AllByRecursion}
+use Rattle.std.specs.List.{AllByRecursion, list_all}
 use Rattle.cut_plan.specs.declared.field.Field.{Field}
 use Rattle.cut_plan.specs.declared.field.Field.TheVariants as field
 use Rattle.cut_plan.specs.declared.version.Version.{Version}
 use Rattle.cut_plan.specs.declared.version.Version.TheVariants.{One, Two}
 use Rattle.cut_plan.specs.Versions.{version_number, version_by}
 use Rattle.cut_plan.specs.Fields.{fields_of}
+use Rattle.cut_plan.proofs.Every.{every-list_all}
 
 -- whether a version has a field
 abbrev pub has : Field → Version → Bool
-has field.Copies version = true
-has field.Dead version = true
 has field.Deaf One = false
 has field.Deaf Two = true
-has field.F version = true
 has field.Faults One = true
 has field.Faults Two = false
-has field.H version = true
-has field.Implicit version = true
-has field.K version = true
-has field.L version = true
-has field.Liars version = true
-has field.Links version = true
-has field.Nodes version = true
-has field.Repeats version = true
-has field.Seed version = true
-has field.Version version = true
+has field version = true
 
 -- what holds of each field of a version's list holds of each that the version has
 pub every_field : (version : Version) (P : Field → Type 0) → AllByRecursion P (fields_of version) → (field : Field)
@@ -52,77 +41,14 @@ every_field version P h field.Seed own = h.1.1.1.1.1.1.1.1.1.1.1.1.0
 every_field version P h field.Version own = h.1.1.1.1.1.1.1.1.1.1.1.1.1.0
 
 -- and what holds of each that the version has holds of each of its list
+all_had : (version : Version) → list_all (λ field. has field version) (fields_of version) ≡ true
+unfolding fields_of
+all_had One = refl
+all_had Two = refl
+
 pub all_own : (version : Version) (P : Field → Type 0) → ((field : Field) → has field version ≡ true → P field)
     → AllByRecursion P (fields_of version)
-unfolding fields_of
-all_own One P h = (
-  h field.Copies refl,
-  (
-    h field.Dead refl,
-    (
-      h field.F refl,
-      (
-        h field.Faults refl,
-        (
-          h field.H refl,
-          (
-            h field.Implicit refl,
-            (
-              h field.K refl,
-              (
-                h field.L refl,
-                (
-                  h field.Liars refl,
-                  (
-                    h field.Links refl,
-                    (
-                      h field.Nodes refl,
-                      (h field.Repeats refl, (h field.Seed refl, (h field.Version refl, tt))),
-                    ),
-                  ),
-                ),
-              ),
-            ),
-          ),
-        ),
-      ),
-    ),
-  ),
-)
-all_own Two P h = (
-  h field.Copies refl,
-  (
-    h field.Dead refl,
-    (
-      h field.Deaf refl,
-      (
-        h field.F refl,
-        (
-          h field.H refl,
-          (
-            h field.Implicit refl,
-            (
-              h field.K refl,
-              (
-                h field.L refl,
-                (
-                  h field.Liars refl,
-                  (
-                    h field.Links refl,
-                    (
-                      h field.Nodes refl,
-                      (h field.Repeats refl, (h field.Seed refl, (h field.Version refl, tt))),
-                    ),
-                  ),
-                ),
-              ),
-            ),
-          ),
-        ),
-      ),
-    ),
-  ),
-)
+all_own version P h = every-list_all (λ field. has field version) P h (fields_of version) (all_had version)
 
 pub version_shown : (version : Version) → version_by (version_number version) ≡ version
 version_shown One = refl

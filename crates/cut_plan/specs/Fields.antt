@@ -1,8 +1,7 @@
 -- The fields of a plan's JSON object: their names, their kinds, and what stands in them.
-use Rattle.std.specs.Prelude.{ℕ, List, [], ◌∷◌, map, Bool, ◌&&◌, codes, Option, Some, None, is_some, unwrap_or}
-use Rattle.std.specs.Prelude.{option_and_then}
-use Rattle.std.specs.List.{list_all, list_any}
-use Rattle.std.specs.Str.{bytes_eq}
+use Rattle.std.specs.Prelude.{ℕ, List, [], ◌∷◌, map, Bool, false, ◌&&◌, codes, Option, Some, None, is_some}
+use Rattle.std.specs.Prelude.{option_and_then, unwrap_or}
+use Rattle.std.specs.List.{list_all}
 use Rattle.serde_json.specs.Data.{Data, null, Items, no_items, item, Members, no_members, member}
 use Rattle.serde_json.specs.Find.{get, as_bool, as_number, as_str, as_array, as_object, as_u64}
 use Rattle.cut_plan.specs.declared.field.Field.{Field}
@@ -45,10 +44,6 @@ fourth Two = F
 unfoldable pub fields_of : format.Version → List Field
 fields_of version = Copies ∷ Dead ∷ third version ∷ fourth version ∷ H ∷ Implicit ∷ K ∷ L ∷ Liars ∷ Links ∷ Nodes
     ∷ Repeats ∷ Seed ∷ Version ∷ []
-
--- whether a text is the name of a field of a version
-abbrev pub is_named : format.Version → List ℕ → Bool
-is_named version name = list_any (λ field. bytes_eq (name_of field) name) (fields_of version)
 
 -- the kind of a field's value
 abbrev pub kind_of : Field → Kind
@@ -112,13 +107,17 @@ abbrev pub member_at : Data → Field → Data
 member_at d field = unwrap_or (get (name_of field) d) null
 
 -- the number in a value, 0 where it is of another kind
-abbrev pub number_or_zero : Data → ℕ
-number_or_zero d = unwrap_or (whole_number d) 0
+abbrev pub number_in : Data → ℕ
+number_in d = unwrap_or (whole_number d) 0
 
--- the number in a field
-abbrev pub number_at : Data → Field → ℕ
-number_at d field = number_or_zero (member_at d field)
+-- the numbers in a value, none where it is of another kind
+abbrev pub numbers_in : Data → List ℕ
+numbers_in d = map number_in (elements d)
 
--- the numbers in a field
-abbrev pub numbers_at : Data → Field → List ℕ
-numbers_at d field = map number_or_zero (elements (member_at d field))
+-- the text in a value, the empty one where it is of another kind
+abbrev pub text_in : Data → List ℕ
+text_in d = unwrap_or (as_str d) []
+
+-- the truth value in a value, false where it is of another kind
+abbrev pub truth_in : Data → Bool
+truth_in d = unwrap_or (as_bool d) false

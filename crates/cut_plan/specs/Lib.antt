@@ -5,7 +5,6 @@ pub mod Cells
 pub mod Targets
 pub mod Plan
 pub mod Fields
-pub mod Datum
 pub mod Accepted
 pub mod Canonical
 pub mod Refusals

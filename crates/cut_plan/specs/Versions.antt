@@ -1,11 +1,10 @@
 -- The two versions of a plan's format, and what a plan of each says of how its targets fail. (This project's profile.)
-use Rattle.std.specs.Prelude.{ℕ, List, [], Option, Some, None, nat_eq, if◌then◌else◌}
+use Rattle.std.specs.Prelude.{ℕ, Option, Some, None, nat_eq, if◌then◌else◌}
 use Rattle.cut_plan.specs.declared.faults.Faults.{Faults}
 use Rattle.cut_plan.specs.declared.failing.Failing.{Failing}
 use Rattle.cut_plan.specs.declared.failing.Failing.TheVariants.{Alike, Mixed}
 use Rattle.cut_plan.specs.declared.version.Version.{Version}
 use Rattle.cut_plan.specs.declared.version.Version.TheVariants.{One, Two}
-use Rattle.cut_plan.specs.Words.{faults_word}
 
 -- the number that stands for a version in a plan
 abbrev pub version_number : Version → ℕ
@@ -30,8 +29,3 @@ faults_in (Mixed deaf) = None
 abbrev pub deaf_in : Failing → Option ℕ
 deaf_in (Alike faults) = None
 deaf_in (Mixed deaf) = Some deaf
-
--- the word that names the one way, and the empty one where there is none
-abbrev pub faults_text : Failing → List ℕ
-faults_text (Alike faults) = faults_word faults
-faults_text (Mixed deaf) = []

@@ -1,7 +1,11 @@
-ghost use Rattle.std.specs.Prelude.{◌≡◌};
-ghost use Rattle.cut_plan.specs.Versions.{version_of, faults_in, deaf_in, faults_text};
+ghost use Rattle.std.specs.Prelude.{◌≡◌, IfOk};
+ghost use Rattle.serde_json.specs.View.{view};
+ghost use Rattle.cut_plan.specs.Versions.{version_of, faults_in, deaf_in};
+ghost use Rattle.cut_plan.specs.Canonical.{faults_data, deaf_data};
 
 use crate::{Faults, Version};
+use serde_json::Value;
+use std::alloc::{AllocError, Global};
 
 /// What a plan says of how its targets fail.
 #[derive(Clone, Copy, Debug, PartialEq, Eq)]
@@ -43,13 +47,23 @@ impl Failing {
         }
     }
 
-    /// The word that names the one way in a plan, and the empty one where there is none.
-    pub(crate) fn word(self) -> &'static str
-        ensures { result.now ≡ faults_text self }
+    /// The word that names the one way, as JSON, and null where there is none.
+    pub(crate) fn faults_value(self, alloc: Global) -> Result<Value, AllocError>
+        ensures { IfOk result (λ value. view value ≡ faults_data self) }
     {
         match self {
-            Failing::Alike(faults) => faults.word(),
-            Failing::Mixed(_) => "",
+            Failing::Alike(faults) => Value::try_from_str(alloc, faults.word()),
+            Failing::Mixed(_) => Ok(Value::Null),
+        }
+    }
+
+    /// How many are deaf, as JSON, and null where it is not said.
+    pub(crate) fn deaf_value(self) -> Value
+        ensures { view result ≡ deaf_data self }
+    {
+        match self {
+            Failing::Alike(_) => Value::Null,
+            Failing::Mixed(deaf) => Value::from(deaf),
         }
     }
 }

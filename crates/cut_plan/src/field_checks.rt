@@ -1,13 +1,13 @@
 //! The checks on the fields of a plan's JSON object.
 ghost use Rattle.std.specs.Prelude.{◌≡◌, ◌&&◌, not, true, nat_lt, unwrap_or, Ok};
 ghost use Rattle.std.specs.List.{list_all, find};
+ghost use Rattle.cut_plan.specs.declared.limits.TheConstants.{MOST_RINGS};
 ghost use Rattle.serde_json.specs.View.{view};
-ghost use Rattle.cut_plan.specs.Fields.{fields_of, number_or_zero};
+ghost use Rattle.cut_plan.specs.Fields.{fields_of, member_at, number_in};
 ghost use Rattle.cut_plan.specs.inside.Fields.{text_at};
-ghost use Rattle.cut_plan.specs.Accepted.{datum_at, is_present, is_of_kind, is_within, has_some};
-ghost use Rattle.cut_plan.specs.inside.Accepted.{IsChecked};
-ghost use Rattle.cut_plan.specs.Accepted.{is_in_scale, is_in_range, rises_at, version_in, failing_by, checks_by};
-ghost use Rattle.cut_plan.specs.Accepted.{field_check};
+ghost use Rattle.cut_plan.specs.Accepted.{is_within, is_in_scale, failing_by, checks_by, field_check};
+ghost use Rattle.cut_plan.specs.inside.Accepted.{is_present, is_of_kind, has_some, is_in_range, rises_at};
+ghost use Rattle.cut_plan.specs.inside.Accepted.{version_in, IsChecked};
 ghost use Rattle.cut_plan.specs.Words.{dead_of, faults_of};
 ghost use Rattle.hex.specs.Hex.{decode_sized};
 ghost use Rattle.cut_plan.specs.declared.field.Field.TheVariants as field;
@@ -21,6 +21,7 @@ use crate::json_object::{
     has_only_fields, is_of_kind, is_present, items_at, number_at, number_in, number_or_zero,
     text_at, version_in,
 };
+use crate::limits::{MOST_COPIES, MOST_NODES, MOST_REPEATS, MOST_RINGS};
 use crate::{Dead, Failing, Faults, Field, Refusal, Version};
 use hex::FromHex;
 use serde_json::Value;
@@ -109,16 +110,16 @@ fn is_in_range(value: &Value, field: Field) -> bool
     ensures { result ≡ is_in_range (view value.now) field }
 {
     match field {
-        Field::Copies => is_within(1, 4, number_at(value, field)),
+        Field::Copies => is_within(1, MOST_COPIES, number_at(value, field)),
         Field::Dead => Dead::of_word(text_at(value, field)).is_some(),
-        Field::Deaf => is_within(0, 2048, number_at(value, field)),
+        Field::Deaf => is_within(0, MOST_NODES, number_at(value, field)),
         Field::F => are_below(items_at(value, field), number_at(value, Field::Nodes)),
         Field::Faults => Faults::of_word(text_at(value, field)).is_some(),
         Field::H | Field::K | Field::L => are_in_scale(items_at(value, field)),
         Field::Implicit => true,
-        Field::Liars | Field::Links => is_within(0, 2048, number_at(value, field)),
-        Field::Nodes => is_within(2, 2048, number_at(value, field)),
-        Field::Repeats => is_within(1, 1_000_000, number_at(value, field)),
+        Field::Liars | Field::Links => is_within(0, MOST_NODES, number_at(value, field)),
+        Field::Nodes => is_within(2, MOST_NODES, number_at(value, field)),
+        Field::Repeats => is_within(1, MOST_REPEATS, number_at(value, field)),
         Field::Seed => <[u8; 32] as FromHex>::from_hex(text_at(value, field)).is_ok(),
         Field::Version => is_within(1, 2, number_at(value, field)),
     }
@@ -147,7 +148,7 @@ fn are_below(items: &[Value], bound: u64) -> bool
 
 /// Whether each number is below `bound`.
 fn all_below(items: &[Value], bound: u64) -> bool
-    ensures { result ≡ list_all (λ v. nat_lt (number_or_zero (view v)) bound) items.now }
+    ensures { result ≡ list_all (λ v. nat_lt (number_in (view v)) bound) items.now }
 {
     items.iter().all(|item| number_or_zero(item) < bound)
 }
@@ -161,11 +162,11 @@ fn are_in_scale(items: &[Value]) -> bool
 
 /// Whether each number is 1 to 32.
 fn all_in_scale(items: &[Value]) -> bool
-    ensures { result ≡ list_all (λ v. is_within 1 32 (number_or_zero (view v))) items.now }
+    ensures { result ≡ list_all (λ v. is_within 1 MOST_RINGS (number_in (view v))) items.now }
 {
     items
         .iter()
-        .all(|item| is_within(1, 32, number_or_zero(item)))
+        .all(|item| is_within(1, MOST_RINGS, number_or_zero(item)))
 }
 
 /// Whether each number is below the next.
@@ -190,7 +191,7 @@ pub(crate) fn dead_at(value: &Value) -> Dead
 /// What an object whose fields were checked says of how targets fail.
 pub(crate) fn failing_at(value: &Value) -> Failing
     requires { IsChecked (view value.now) }
-    ensures { result ≡ failing_by (version_in (view value.now)) (datum_at (view value.now)) }
+    ensures { result ≡ failing_by (version_in (view value.now)) (member_at (view value.now)) }
 {
     match version_in(value) {
         Version::One => Failing::Alike(faults_at(value)),

@@ -1,13 +1,11 @@
 //! Looking into the JSON value of a plan.
-ghost use Rattle.std.specs.Prelude.{◌≡◌, ◌<◌, length, slice_index, map, is_some, string_bytes, unwrap_or, false};
-ghost use Rattle.serde_json.specs.Find.{as_bool};
+ghost use Rattle.std.specs.Prelude.{◌≡◌, ◌<◌, length, slice_index, map, is_some, string_bytes};
 ghost use Rattle.std.specs.List.{list_all};
 ghost use Rattle.std.specs.BTreeMap.{keys as keys_of};
 ghost use Rattle.serde_json.specs.View.{view};
-ghost use Rattle.cut_plan.specs.Fields.{whole_number, elements, is_of, number_or_zero, number_at, numbers_at};
-ghost use Rattle.cut_plan.specs.inside.Fields.{text_at};
-ghost use Rattle.cut_plan.specs.Fields.{member_at, keys, is_named};
-ghost use Rattle.cut_plan.specs.Accepted.{is_present, is_of_kind, version_in};
+ghost use Rattle.cut_plan.specs.Fields.{whole_number, elements, keys, is_of, member_at, number_in, truth_in};
+ghost use Rattle.cut_plan.specs.inside.Fields.{number_at, numbers_at, text_at, is_named};
+ghost use Rattle.cut_plan.specs.inside.Accepted.{is_present, is_of_kind, version_in};
 ghost use Rattle.cut_plan.specs.inside.Look.{item_numbers};
 
 use crate::field::fields_of;
@@ -63,7 +61,7 @@ fn elements(value: &Value) -> &[Value]
 
 /// The number in a value, 0 where it is of another kind.
 pub(crate) fn number_or_zero(value: &Value) -> u64
-    ensures { result ≡ number_or_zero (view value.now) }
+    ensures { result ≡ number_in (view value.now) }
 {
     value.as_u64().unwrap_or(0)
 }
@@ -98,7 +96,7 @@ pub(crate) fn number_in(items: &[Value], i: usize) -> u64
 
 /// The truth value in a field, false where it is of another kind.
 pub(crate) fn truth_at(value: &Value, field: Field) -> bool
-    ensures { result ≡ unwrap_or (as_bool (member_at (view value.now) field)) false }
+    ensures { result ≡ truth_in (member_at (view value.now) field) }
 {
     value
         .get(field.name())

@@ -14,6 +14,7 @@ mod field_checks;
 mod json_object;
 mod kind;
 mod laws;
+mod limits;
 mod number_lists;
 mod plan;
 mod plan_lists;
@@ -30,6 +31,7 @@ pub use laws::{
     accepted_texts_give_plans, canonical_text_reads_back, cells_are_the_combinations,
     plans_are_accepted, upgrades_fail_alike,
 };
+pub use limits::{LONGEST_TEXT, MOST_CELLS, MOST_COPIES, MOST_NODES, MOST_REPEATS, MOST_RINGS};
 pub use plan::Plan;
 pub use refusal::{PlanFault, Refusal};
 pub use version::Version;

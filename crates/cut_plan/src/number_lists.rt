@@ -2,7 +2,7 @@
 ghost use Rattle.std.specs.Prelude.{◌≡◌, IfOk};
 ghost use Rattle.serde_json.specs.View.{view};
 ghost use Rattle.cut_plan.specs.Cells.{largest};
-ghost use Rattle.cut_plan.specs.Datum.{numbers_data};
+ghost use Rattle.cut_plan.specs.Canonical.{numbers_data};
 
 use serde_json::Value;
 use std::alloc::{AllocError, Global};

@@ -1,10 +1,11 @@
 ghost use Rattle.std.specs.Prelude.{◌≡◌, ◌<◌, ◌≤◌, ◌/◌, ◌↔◌, length, slice_get, Some, IfOk, IfErr, OnOk, IsErrOf};
 ghost use Rattle.std.specs.Prelude.{IsTrue, Ok, false};
 ghost use Rattle.std.specs.Str.{is_utf8};
+ghost use Rattle.cut_plan.specs.declared.limits.TheConstants.{LONGEST_TEXT, MOST_NODES};
 ghost use Rattle.serde_json.specs.View.{view};
 ghost use Rattle.cut_plan.specs.Accepted.{limit_check, plan_of, values_in};
 ghost use Rattle.cut_plan.specs.inside.Accepted.{IsChecked};
-ghost use Rattle.cut_plan.specs.Canonical.{canonical_text, data_of, field_data};
+ghost use Rattle.cut_plan.specs.Canonical.{canonical_text, data_of, said};
 ghost use Rattle.cut_plan.specs.Refusals.{IsFaultOfText};
 ghost use Rattle.cut_plan.specs.declared.refusal.PlanFault.TheVariants.{Refused};
 ghost use Rattle.cut_plan.specs.declared.refusal.Refusal.TheVariants.{NotJson, PlanTooLong};
@@ -17,6 +18,7 @@ use crate::combinations::combine;
 use crate::field::fields_of;
 use crate::field_checks::{dead_at, failing_at, seed_at};
 use crate::json_object::{number_at, truth_at};
+use crate::limits::LONGEST_TEXT;
 use crate::number_lists::{bytes_value, largest, shorts_value};
 use crate::plan_lists::{Lists, check_together, read_lists};
 use crate::plan_text::read_text;
@@ -65,10 +67,10 @@ impl Plan {
     pub fn from_json(alloc: Global, text: &[u8]) -> Result<Plan, PlanFault>
         ensures ok { IfOk result (λ p. plan_of text.now ≡ Ok p) }
         ensures err { IfErr result (λ e. IsFaultOfText (plan_of text.now) e) }
-        ensures too_long { 65536 < length text.now → IsErrOf result (Refused PlanTooLong) }
-        ensures no_text { length text.now ≤ 65536 → is_utf8 text.now ≡ false → IsErrOf result (Refused NotJson) }
+        ensures too_long { LONGEST_TEXT < length text.now → IsErrOf result (Refused PlanTooLong) }
+        ensures no_text { length text.now ≤ LONGEST_TEXT → is_utf8 text.now ≡ false → IsErrOf result (Refused NotJson) }
     {
-        if text.len() > 65_536 {
+        if text.len() > LONGEST_TEXT {
             return Err(PlanFault::Refused(Refusal::PlanTooLong));
         }
         match str::from_utf8(text) {
@@ -322,7 +324,7 @@ impl Plan {
     /// of version 1, how many are deaf where most processes fail.
     fn most_deaf(&self) -> u16
         ensures value { result ≡ most_deaf self.now.failing self.now.f }
-        ensures most { result ≤ 2048 }
+        ensures most { result ≤ MOST_NODES }
     {
         match self.failing {
             Failing::Alike(_) => self.deaf_of(self.most_failed()),
@@ -333,7 +335,7 @@ impl Plan {
     /// The greatest number of failed processes.
     fn most_failed(&self) -> u16
         ensures value { result ≡ largest self.now.f }
-        ensures most { result ≤ 2048 }
+        ensures most { result ≤ MOST_NODES }
     {
         largest(self.f.as_slice())
     }
@@ -377,7 +379,8 @@ impl Plan {
 
     /// The plan as a JSON object.
     fn to_value(&self, alloc: Global) -> Result<Value, AllocError>
-        ensures { IfOk result (λ value. view value ≡ data_of self.now) }
+        ensures value { IfOk result (λ value. view value ≡ data_of self.now) }
+        ensures plan { IsPlan self.now }
     {
         let fields = fields_of(self.version());
         let mut members = Map::new(alloc);
@@ -390,14 +393,14 @@ impl Plan {
 
     /// The JSON value of a field.
     fn field_value(&self, alloc: Global, field: Field) -> Result<Value, AllocError>
-        ensures { IfOk result (λ value. view value ≡ field_data self.now field) }
+        ensures { IfOk result (λ value. view value ≡ said self.now field) }
     {
         match field {
             Field::Copies => Ok(Value::from(self.copies())),
             Field::Dead => Value::try_from_str(alloc, self.dead().word()),
-            Field::Deaf => Ok(Value::from(self.deaf().unwrap_or(0))),
+            Field::Deaf => Ok(self.failing.deaf_value()),
             Field::F => shorts_value(alloc, self.f()),
-            Field::Faults => Value::try_from_str(alloc, self.failing.word()),
+            Field::Faults => self.failing.faults_value(alloc),
             Field::H => bytes_value(alloc, self.h()),
             Field::Implicit => Ok(Value::from(self.implicit())),
             Field::K => bytes_value(alloc, self.k()),

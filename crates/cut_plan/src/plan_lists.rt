@@ -1,15 +1,14 @@
 //! Making a plan of a JSON object whose fields were checked.
 ghost use Rattle.std.specs.Prelude.{◌≡◌, ◌<◌, ◌^◌, length, IfOk, Ok};
 ghost use Rattle.serde_json.specs.View.{view};
-ghost use Rattle.cut_plan.specs.declared.field.Field.TheVariants as field;
-ghost use Rattle.cut_plan.specs.Fields.{number_at};
-ghost use Rattle.cut_plan.specs.Accepted.{limit_check, limits, values_in};
-ghost use Rattle.cut_plan.specs.inside.Accepted.{IsChecked};
+ghost use Rattle.cut_plan.specs.Accepted.{limit_check, values_in};
+ghost use Rattle.cut_plan.specs.inside.Accepted.{limits, IsChecked};
 ghost use Rattle.cut_plan.specs.Cells.{cells_of_lists};
 ghost use Rattle.cut_plan.specs.inside.Look.{item_numbers, AreBelow, AreListsOf, AreShort};
 
 use crate::combinations::count_triples;
 use crate::json_object::{items_at, number_at, number_in};
+use crate::limits::MOST_CELLS;
 use crate::number_lists::largest;
 use crate::{Field, Refusal};
 use serde_json::Value;
@@ -95,7 +94,7 @@ fn check_limits(cells: u64, faults: u64, nodes: u64) -> Result<(), Refusal>
     if faults > nodes {
         return Err(Refusal::TooManyFaults);
     }
-    if cells > 4096 {
+    if cells > MOST_CELLS {
         return Err(Refusal::TooManyTrials);
     }
     Ok(())

@@ -1,6 +1,7 @@
 //! What is done in each lane of vectors alike.
 ghost use Rattle.std.specs.Prelude.{◌≡◌, ℕ, ◌<◌, ◌/◌, ◌%◌, ◌^◌, ◌==◌, cond, ◌+◌, ◌≤◌, nat_lt, nat_le, min, max};
 ghost use Rattle.std.specs.Prelude.{map, length, slice_index, All};
+ghost use Rattle.cut_plan.specs.declared.limits.TheConstants.{MOST_NODES};
 ghost use Rattle.cut_blocks.specs.Images.{never, row_of};
 ghost use Rattle.cut_lanes.specs.Lanes.{lane};
 ghost use Rattle.cut_receivers.specs.inside.Findings.{is_other};
@@ -11,7 +12,7 @@ use std::simd::prelude::*;
 /// Where the rows of receivers begin, in which the keys of a copy stand.
 #[inline(always)]
 pub(crate) fn rows_of(receivers: [u16; 4], copy: u8) -> u32x4
-    requires receivers { All (λ j. j < 2048) receivers }
+    requires receivers { All (λ j. j < MOST_NODES) receivers }
     requires copy { copy < 4 }
     ensures rows { result ≡ map (λ j. row_of copy j) receivers }
     ensures few { All (λ row. row < 2 ^ 27) result }
@@ -28,7 +29,7 @@ pub(crate) fn rows_of(receivers: [u16; 4], copy: u8) -> u32x4
 /// Where the row of a receiver begins.
 #[inline(always)]
 fn row_of(copy: u8, receiver: u16) -> u32
-    requires receiver { receiver < 2048 }
+    requires receiver { receiver < MOST_NODES }
     requires copy { copy < 4 }
     ensures row { result ≡ row_of copy receiver }
     ensures few { result < 2 ^ 27 }

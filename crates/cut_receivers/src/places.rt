@@ -1,5 +1,6 @@
 ghost use Rattle.std.specs.Prelude.{◌≡◌, ℕ, ◌+◌, ◌^◌, ◌<◌, ◌≤◌, false, nat_lt, List, length, slice_index, count_by};
 ghost use Rattle.std.specs.Prelude.{All, IfOk, IfSome};
+ghost use Rattle.cut_plan.specs.declared.limits.TheConstants.{MOST_NODES};
 ghost use Rattle.cut_blocks.specs.Images.{never};
 ghost use Rattle.cut_arrivals.specs.Hearing.{Hearing, proposal_at};
 ghost use Rattle.cut_nodes.specs.Slots.{AreSlots};
@@ -56,7 +57,7 @@ impl Receivers {
         receivers: [u16; 4],
         slots: &Slots,
     ) -> Result<Places, AllocError>
-        requires receivers { All (λ j. j < 2048) receivers }
+        requires receivers { All (λ j. j < MOST_NODES) receivers }
         requires slots { AreSlots trial.rule.k slots.now.blocks.items trial.edges.now slots.now.slots.items }
         requires few { length trial.edges.now ≤ 2 ^ 16 }
         ensures places { IfOk result (λ p. (i : ℕ) (subjects : List ℕ) → i < 4
@@ -87,7 +88,7 @@ fn count_deliveries(
     time: u32x4,
     images: &mut Vec<[u32x4; 8]>,
 ) -> Result<Places, AllocError>
-    requires receivers { All (λ j. j < 2048) receivers }
+    requires receivers { All (λ j. j < MOST_NODES) receivers }
     requires slots { AreSlots trial.now.rule.k slots.now.blocks.items trial.now.edges.now slots.now.slots.items }
     requires few { length trial.now.edges.now ≤ 2 ^ 16 }
     ensures counted { IfOk result (λ p. (i : ℕ) → i < 4 → slice_index time i ≤ never

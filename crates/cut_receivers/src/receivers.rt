@@ -1,4 +1,5 @@
 ghost use Rattle.std.specs.Prelude.{◌≡◌, ℕ, ◌<◌, ◌≤◌, [], length, slice_index, All, OnOk, vec_capacity};
+ghost use Rattle.cut_plan.specs.declared.limits.TheConstants.{MOST_NODES};
 ghost use Rattle.cut_nodes.specs.Nodes.{subjects_of};
 ghost use Rattle.cut_receivers.specs.Heard.{hearing_of, HasHeard};
 ghost use Rattle.cut_receivers.specs.inside.Times.{AreLows, AreHighs, AreHighsTo};
@@ -49,7 +50,7 @@ impl Receivers {
 
     /// Computes the times of four receivers, which may be the same. Fails only where memory runs out.
     pub fn hear(&mut self, trial: Trial<'_>, receivers: [u16; 4]) -> Result<(), AllocError>
-        requires receivers { All (λ j. j < 2048) receivers }
+        requires receivers { All (λ j. j < MOST_NODES) receivers }
         requires some { 0 < length trial.nodes.now.nodes.items }
         ensures { OnOk result ((i : ℕ) → i < 4 → HasHeard (hearing_of trial.entry (slice_index receivers i))
             (subjects_of trial.entry.nodes.now.nodes.items) i self.new) }

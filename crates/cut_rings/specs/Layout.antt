@@ -2,6 +2,7 @@
 -- the monitoring overlay: on each ring a process observes the one that follows it.)
 use Rattle.std.specs.Prelude.{◌≡◌, ℕ, ◌+◌, ◌%◌, ◌==◌, ◌<◌, ◌≤◌, List, [], length, slice_index, slice_index_or}
 use Rattle.std.specs.List.{position_or_len}
+use Rattle.cut_plan.specs.declared.limits.TheConstants.{MOST_NODES}
 
 -- how many processes there are, and for each ring the position of each process
 pub record Layout : Type 0 where
@@ -33,7 +34,7 @@ subject_of r ring o =
 -- rings as they always are: each holds each process once
 pub record IsLayout (r : Layout) : Type 0 where
   pub some_nodes : 2 ≤ r.nodes
-  pub few_nodes : r.nodes ≤ 2048
+  pub few_nodes : r.nodes ≤ MOST_NODES
   pub some_ring : 0 < length r.positions
   pub few_rings : length r.positions ≤ 32
   -- each process has a position on each ring

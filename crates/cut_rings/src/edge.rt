@@ -1,4 +1,5 @@
 ghost use Rattle.std.specs.Prelude.{◌≡◌, ◌<◌, ◌≤◌};
+ghost use Rattle.cut_plan.specs.declared.limits.TheConstants.{MOST_NODES};
 ghost use Rattle.cut_rings.specs.Edges.{edge_number};
 
 /// An edge of the monitoring overlay: a subject, seen by its observer on one ring.
@@ -17,7 +18,7 @@ impl Edge {
     pub fn number(self, k: u8) -> u16
         requires ring { self.ring < k }
         requires rings { k ≤ 32 }
-        requires subject { self.subject < 2048 }
+        requires subject { self.subject < MOST_NODES }
         ensures { result ≡ edge_number k self }
     {
         self.subject * u16::from(k) + u16::from(self.ring)

@@ -1,5 +1,6 @@
 ghost use Rattle.std.specs.Prelude.{◌≡◌, ◌≤◌, map, IfOk};
 ghost use Rattle.std.specs.List.{range_with_len};
+ghost use Rattle.cut_plan.specs.declared.limits.TheConstants.{MOST_NODES};
 ghost use Rattle.cut_plan.specs.Cells.{largest};
 ghost use Rattle.cut_plan.specs.Plan.{IsPlan};
 ghost use Rattle.cut_rings.specs.Hashed.{compare_hashed, digest_of, hashed_position};
@@ -26,7 +27,7 @@ pub(crate) fn hashed_ring(
     ring: u8,
     nodes: u16,
 ) -> Result<Ring, AllocError>
-    requires { nodes ≤ 2048 }
+    requires { nodes ≤ MOST_NODES }
     ensures inverse { IfOk result (λ r. IsInverse nodes r.order.items r.positions.items) }
     ensures positions { IfOk result
         (λ r. r.positions.items ≡ map (λ p. hashed_position seed.now nodes ring p) (range_with_len 0 nodes)) }

@@ -1,5 +1,6 @@
 ghost use Rattle.std.specs.Prelude.{◌≡◌, ◌≤◌, map, All, IfOk};
 ghost use Rattle.std.specs.List.{list_all, range_with_len};
+ghost use Rattle.cut_plan.specs.declared.limits.TheConstants.{MOST_NODES};
 ghost use Rattle.cut_lists.specs.Ranked.{IsOrder};
 ghost use Rattle.cut_rings.specs.inside.Inverse.{IsInverse};
 ghost use Rattle.cut_rings.specs.Listed.{listed_position};
@@ -14,7 +15,7 @@ pub(crate) fn listed_rings(
     nodes: u16,
     lists: &[Vec<u16>],
 ) -> Result<Vec<Ring>, AllocError>
-    requires few_nodes { nodes ≤ 2048 }
+    requires few_nodes { nodes ≤ MOST_NODES }
     requires each_once { All (λ list. IsOrder nodes list.items) lists.now }
     ensures inverse { IfOk result
         (λ rings. All (λ r. IsInverse nodes r.order.items r.positions.items) rings.items) }
@@ -30,7 +31,7 @@ pub(crate) fn listed_rings(
 
 /// The ring that a list of the first processes is.
 fn listed_ring(alloc: Global, nodes: u16, list: &[u16]) -> Result<Ring, AllocError>
-    requires few { nodes ≤ 2048 }
+    requires few { nodes ≤ MOST_NODES }
     requires each_once { IsOrder nodes list.now }
     ensures inverse { IfOk result (λ r. IsInverse nodes r.order.items r.positions.items) }
     ensures positions { IfOk result

@@ -1,4 +1,5 @@
 ghost use Rattle.std.specs.Prelude.{◌≡◌, ◌≤◌, IfOk};
+ghost use Rattle.cut_plan.specs.declared.limits.TheConstants.{MOST_NODES};
 ghost use Rattle.cut_lists.specs.Ranked.{IsOrder};
 ghost use Rattle.cut_rings.specs.inside.Inverse.{IsInverse};
 
@@ -14,7 +15,7 @@ pub(crate) struct Ring {
 impl Ring {
     /// The ring of an order of the first processes.
     pub(crate) fn of_order(alloc: Global, nodes: u16, order: Vec<u16>) -> Result<Ring, AllocError>
-        requires few { nodes ≤ 2048 }
+        requires few { nodes ≤ MOST_NODES }
         requires each_once { IsOrder nodes order.items }
         ensures order { IfOk result (λ r. r.order.items ≡ order.items) }
         ensures inverse { IfOk result (λ r. IsInverse nodes r.order.items r.positions.items) }
@@ -26,7 +27,7 @@ impl Ring {
 
 /// The place of each process in an order.
 fn places(alloc: Global, nodes: u16, order: &[u16]) -> Result<Vec<u16>, AllocError>
-    requires few { nodes ≤ 2048 }
+    requires few { nodes ≤ MOST_NODES }
     requires each_once { IsOrder nodes order.now }
     ensures { IfOk result (λ v. IsInverse nodes order.now v.items) }
 {

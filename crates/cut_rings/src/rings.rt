@@ -1,4 +1,5 @@
 ghost use Rattle.std.specs.Prelude.{◌≡◌, ◌<◌, ◌≤◌, ◌⊎◌, ◌↔◌, [], map, length, IfOk, OnOk, IsErrOf, All, Any};
+ghost use Rattle.cut_plan.specs.declared.limits.TheConstants.{MOST_NODES};
 ghost use Rattle.cut_plan.specs.Cells.{largest};
 ghost use Rattle.cut_rings.specs.Layout.{IsLayout, Observes, observer_of, subject_of};
 ghost use Rattle.cut_rings.specs.Listed.{listed_layout};
@@ -55,7 +56,7 @@ impl Rings {
     /// index in that ring's list (this project's profile). Too few processes or lists are reported before a
     /// list that does not hold each process once, and both before memory is asked for.
     pub fn from_lists(alloc: Global, n: u16, lists: &[Vec<u16>]) -> Result<Rings, RingsFault>
-        requires few_nodes { n ≤ 2048 }
+        requires few_nodes { n ≤ MOST_NODES }
         requires few_lists { length lists.now ≤ 32 }
         ensures layout { IfOk result (λ r. r ≡ listed_layout n (map (λ list. list.items) lists.now)) }
         ensures each_once { OnOk result (All (λ list. IsOrder n list.items) lists.now) }

@@ -1,1 +1,3 @@
 pub mod AttendLemmas
+pub mod Histories
+pub mod ReportLemmas

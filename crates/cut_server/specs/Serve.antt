@@ -1,10 +1,12 @@
 -- What serving studies leaves, and how it may end.
 use Rattle.std.specs.Prelude.{◌≡◌, ◌<◌, ◌++◌, ◌∷◌, ℕ, zero, suc, List, [], All, length, take, sum_by, codes}
 use Rattle.std.specs.Prelude.{Result, Ok, Err, ⊤}
+use Rattle.std.specs.List.{sum}
 use Rattle.std.specs.Fmt.{decimal}
 use Rattle.cut_faults.specs.Failures.{one_more}
 use Rattle.cut_wires.specs.Log.{WireLog, wrote, write_failed}
-use Rattle.cut_hall.specs.Report.{SlotEnd, IsEndOf, accepted_recorded}
+use Rattle.cut_hall.specs.Report.{SlotEnd, IsAcceptedCount, IsEndOf, accepted_recorded}
+use Rattle.cut_commands.specs.Run.{IsWritten}
 use Rattle.cut_commands.specs.declared.fault.CliFault.{CliFault}
 use Rattle.cut_commands.specs.declared.fault.CliFault.TheVariants.{Socket, Write, Folder, WorkMemory, AuditMismatch}
 
@@ -48,14 +50,15 @@ Listens connections result old new = new ≡ all_given connections old
 abbrev pub accepted_in_all : List SlotEnd → ℕ
 accepted_in_all slots = sum_by (λ s. accepted_recorded s.history) slots
 
--- the line that says so
+-- the line that says how many trials were accepted
 abbrev pub accepted_line : ℕ → List ℕ
 accepted_line total = codes "accepted " ++ (decimal total ++ 10 ∷ [])
 
--- a report of this many studies: each slot's end is that of a legal history
+-- a report of this many studies: each slot's end is that of a legal history, which accepted no more than its plan has
 pub record IsReport (studies : ℕ) (report : List SlotEnd) : Type 0 where
   pub slots : length report ≡ studies
   pub legal : All (λ s. IsEndOf s.history s.complete) report
+  pub few : All (λ s. IsAcceptedCount (accepted_recorded s.history)) report
 
 -- the line of a report was written, or its first bytes before a write failed
 abbrev pub IsWrittenWhole : List SlotEnd → WireLog → WireLog → Type 0
@@ -78,8 +81,19 @@ WritesReport studies (Err WorkMemory) old new = new ≡ old
 WritesReport studies (Err AuditMismatch) old new = new ≡ old
 WritesReport studies (Err fault) old new = ⊥
 
--- the same where the report is not returned
+-- ---- where the report is not returned
+
+-- how many trials the studies of a server accepted, slot by slot
+pub record AreAccepted (studies : ℕ) (counts : List ℕ) : Type 0 where
+  pub slots : length counts ≡ studies
+  pub each : All IsAcceptedCount counts
+
+-- nothing is written where no report is; else the line that says how many trials all studies accepted, or as many of
+-- its first bytes as are reported when a write failed
 abbrev pub EndsServing : ℕ → Result ⊤ CliFault → WireLog → WireLog → Type 0
-EndsServing studies (Ok done) old new =
-    (report : List SlotEnd) × (IsReport studies report × IsWrittenWhole report old new)
-EndsServing studies (Err fault) old new = WritesReport studies (Err fault) old new
+EndsServing studies (Err Folder) old new = new ≡ old
+EndsServing studies (Err Socket) old new = new ≡ old
+EndsServing studies (Err WorkMemory) old new = new ≡ old
+EndsServing studies (Err AuditMismatch) old new = new ≡ old
+EndsServing studies result old new =
+    (counts : List ℕ) × (AreAccepted studies counts × IsWritten (accepted_line (sum counts)) result old new)

@@ -3,7 +3,7 @@ ghost use Rattle.std.specs.Prelude.{◌≡◌, ◌≤◌, ◌+◌, length, All, 
 ghost use Rattle.cut_server.specs.Serve.{Listens, WritesReport, accepted_in_all};
 ghost use Rattle.cut_server.specs.Serve.{IsOfServing};
 ghost use Rattle.cut_server.specs.inside.Serve.{IsOfClosing, IsOfWriting};
-ghost use Rattle.cut_hall.specs.Report.{IsEndOf};
+ghost use Rattle.cut_hall.specs.Report.{IsAcceptedCount, IsEndOf, accepted_recorded};
 
 use crate::Capacity;
 use crate::shelf::FolderShelf;
@@ -180,6 +180,7 @@ fn accepted(report: &Report) -> u128
     requires { length report.now ≤ 64 }
     ensures value { result ≡ accepted_in_all report.now }
     ensures legal { All (λ s. IsEndOf s.history s.complete) report.now }
+    ensures few { All (λ s. IsAcceptedCount (accepted_recorded s.history)) report.now }
 {
     let slots = report.slots();
     let mut total = 0;

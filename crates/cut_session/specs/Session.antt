@@ -1,5 +1,6 @@
 -- How a session goes and how it ends.
 use Rattle.std.specs.Prelude.{◌≡◌, ◌<◌, ◌≤◌, ◌⊎◌, ◌++◌, ℕ, List, [], ◌∷◌, length, take, Some, None}
+use Rattle.cut_session.specs.declared.serve.TheConstants.{MOST_REQUESTS, READ_SIZE}
 use Rattle.cut_faults.specs.Failures.{one_more}
 use Rattle.cut_board.specs.declared.view.View.{View}
 use Rattle.cut_wires.specs.Log.{Traffic, WireLog, passing, read_failed, write_failed}
@@ -18,7 +19,7 @@ use Rattle.cut_session.specs.Answering.{AnswersAll, error_frame}
 
 -- how many requests a session answers
 abbrev pub request_limit : ℕ
-request_limit = 1000000
+request_limit = MOST_REQUESTS
 
 -- what a session has read and replied: a stream, its messages, of which the first ones are answered, and the
 -- bytes after them; what the last read gave and no reader took; and the replies
@@ -50,7 +51,7 @@ QuitsAtOnce (m ∷ ms) = m.kind ≡ kind.Quit
 -- goes on no further, after the messages that are answered; or there are more messages than may be answered
 abbrev pub IsDue : SessionFault → Course → Type 0
 IsDue session.Memory c =
-    (c.unanswered ≡ []) × (0 < length c.last) × (length c.last ≤ 4096) × (fault_at Requests c.rest ≡ None)
+    (c.unanswered ≡ []) × (0 < length c.last) × (length c.last ≤ READ_SIZE) × (fault_at Requests c.rest ≡ None)
 IsDue session.Read c = IsAnswered c × (fault_at Requests c.rest ≡ None)
 IsDue session.Truncated c = IsAnswered c × (fault_at Requests c.rest ≡ None) × (c.rest ≡ [] → ⊥)
 IsDue session.TooManyRequests c =

@@ -1,4 +1,5 @@
 ghost use Rattle.std.specs.Prelude.{◌≡◌, ◌<◌, ◌≤◌, length, IfOk};
+ghost use Rattle.cut_lines.specs.declared.line.TheConstants.{LONGEST_LINE};
 ghost use Rattle.cut_plan.specs.Cells.{cells_of};
 ghost use Rattle.cut_hall.specs.Lines.{full_line};
 ghost use Rattle.cut_hall.specs.Trust.{MayBegin};
@@ -42,7 +43,7 @@ where
         requires { cell < length (cells_of self.old.opened.now.plan) }
         ensures line { IfOk result
             (λ line. line.items ≡ full_line self.old.opened.now.plan self.old.opened.now.base cell) }
-        ensures short { IfOk result (λ line. length line.items ≤ 294) }
+        ensures short { IfOk result (λ line. length line.items ≤ LONGEST_LINE) }
         ensures stays { (self.new.pass.ghost_name ≡ self.old.pass.ghost_name)
             × (self.new.pass.now.hall ≡ self.old.pass.now.hall)
             × (self.new.pass.now.view ≡ self.old.pass.now.view) }

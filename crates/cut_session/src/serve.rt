@@ -115,13 +115,13 @@ where
         piece: &[u8],
         requests: u32,
     ) -> Result<u32, SessionEnd>
-        requires few { requests ≤ 1000000 }
-        requires piece { (0 < length piece.now) × (length piece.now ≤ 4096) }
+        requires few { requests ≤ MOST_REQUESTS }
+        requires piece { (0 < length piece.now) × (length piece.now ≤ READ_SIZE) }
         ensures goes { (low : View) (first : Sending) → first.sent ≡ 0 →
             IsServing self.old.hall.now low self.old.pass.now.view reader.old requests piece.now
             first (sending W.log line.old) →
             Goes self.old.hall.now low self.new.pass.now.view result reader.new first (sending W.log line.new) }
-        ensures few { IfOk result (λ more. more ≤ 1000000) }
+        ensures few { IfOk result (λ more. more ≤ MOST_REQUESTS) }
         ensures stays { (self.new.hall.now ≡ self.old.hall.now)
             × (self.new.pass.ghost_name ≡ self.old.pass.ghost_name) }
     {

@@ -1,10 +1,11 @@
 -- Which numbers are a share.
 use Rattle.std.specs.Prelude.{ℕ, ◌≤◌}
+use Rattle.cut_share.specs.declared.share.TheConstants.{LARGEST_BLOCK, MOST_SHARES}
 
 -- a share: its number among the shares, from 1, how many shares there are, and how many trials a block has at most
 pub record IsShare (index shares block_size : ℕ) : Type 0 where
   pub numbered : 1 ≤ index
   pub within : index ≤ shares
-  pub few : shares ≤ 100000
+  pub few : shares ≤ MOST_SHARES
   pub some : 1 ≤ block_size
-  pub small : block_size ≤ 1000000
+  pub small : block_size ≤ LARGEST_BLOCK

@@ -7,6 +7,12 @@ ghost use Rattle.cut_share.specs.Blocks.{block_of};
 use cut_outcome::Piece;
 use cut_plan::Plan;
 
+/// The most shares of a study.
+const MOST_SHARES: u32 = 100_000;
+
+/// The most trials of a block, which is the most that a cell has.
+const LARGEST_BLOCK: u32 = 1_000_000;
+
 /// What one of several machines runs of a plan: a share of its trials.
 ///
 /// The trials of each cell are cut into blocks, which are numbered through all cells. Of N shares, share I has the
@@ -31,8 +37,8 @@ impl Share {
         ensures value { IfSome result (λ s.
             (s.index ≡ index) × (s.shares ≡ shares) × (s.block_size ≡ block_size)) }
     {
-        let is_numbered = 1 <= index && index <= shares && shares <= 100_000;
-        if is_numbered && 1 <= block_size && block_size <= 1_000_000 {
+        let is_numbered = 1 <= index && index <= shares && shares <= MOST_SHARES;
+        if is_numbered && 1 <= block_size && block_size <= LARGEST_BLOCK {
             Some(Share {
                 index,
                 shares,

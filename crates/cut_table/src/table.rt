@@ -1,4 +1,5 @@
 ghost use Rattle.std.specs.Prelude.{◌≡◌, ◌<◌, ◌≤◌, true, length, IfOk, IfErr, OnOk};
+ghost use Rattle.cut_lines.specs.declared.line.TheConstants.{LONGEST_LINE};
 ghost use Rattle.cut_plan.specs.Cells.{cells_of};
 ghost use Rattle.cut_ledger.specs.Contents.{cell_done};
 ghost use Rattle.cut_table.specs.Table.{row_of, Emits, IsRowFault};
@@ -16,7 +17,7 @@ pub fn row(alloc: Global, ledger: &Ledger, cell: u32) -> Result<Vec<u8>, RowFaul
     requires { cell < length (cells_of ledger.now.contents.plan) }
     ensures ok { IfOk result (λ line. line.items ≡ row_of ledger.now.contents cell) }
     ensures done { OnOk result (cell_done ledger.now.contents cell ≡ true) }
-    ensures short { IfOk result (λ line. length line.items ≤ 294) }
+    ensures short { IfOk result (λ line. length line.items ≤ LONGEST_LINE) }
     ensures err { IfErr result (λ e. IsRowFault ledger.now.contents cell e) }
 {
     if !ledger.cell_done(cell) {

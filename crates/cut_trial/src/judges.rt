@@ -9,6 +9,7 @@ ghost use Rattle.cut_arrivals.specs.Hearing.{Hearing, proposal_at};
 ghost use Rattle.cut_plan.specs.declared.version.Version.TheVariants.{One, Two};
 ghost use Rattle.cut_plan.specs.Versions.{version_of};
 ghost use Rattle.std.proofs.Props.{props};
+ghost use Rattle.cut_plan.specs.declared.limits.TheConstants.{MOST_NODES};
 ghost use Rattle.cut_nodes.specs.Slots.{AreSlots};
 ghost use Rattle.cut_nodes.specs.Nodes.{subjects_of};
 ghost use Rattle.cut_receivers.specs.Heard.{hearing_of, HasHeard};
@@ -220,7 +221,7 @@ impl<'a> Judges<'a> {
         receivers: [u16; 4],
         findings: Findings,
     ) -> Result<Option<Places>, AllocError>
-        requires receivers { All (λ j. j < 2048) receivers }
+        requires receivers { All (λ j. j < MOST_NODES) receivers }
         ensures places { IfOk result (λ found. IfSome found (λ p. (i : ℕ) (subjects : List ℕ) → i < 4
             → HasHeard (hearing_of round.entry.trial (slice_index receivers i)) subjects i self.old.times
             → has_bit self.old.times.closing.doubt i ≡ false → has_bit p.doubt i ≡ false

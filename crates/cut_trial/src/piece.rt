@@ -1,4 +1,5 @@
 ghost use Rattle.std.specs.Prelude.{◌≡◌, ◌+◌, ◌*◌, ◌<◌, ◌↔◌, false, IfOk, IsErrOf, IsTrue};
+ghost use Rattle.cut_plan.specs.declared.limits.TheConstants.{MOST_NODES};
 ghost use Rattle.cut_outcome.specs.Outcome.{rings_of};
 ghost use Rattle.cut_outcome.specs.Sum.{is_piece, sum_of, trials_in, IsAtMost};
 
@@ -34,7 +35,7 @@ pub fn run_piece(
 fn sum_piece(alloc: Global, study: TrialInput<'_>, piece: Piece) -> Result<Totals, AllocError>
     requires { IsTrue (is_piece study.plan.now piece) }
     ensures value { IfOk result (λ totals. totals ≡ sum_of study.entry.plan.now (trials_in piece)) }
-    ensures few { IfOk result (λ totals. IsAtMost (2048 * piece.count) totals) }
+    ensures few { IfOk result (λ totals. IsAtMost (MOST_NODES * piece.count) totals) }
 {
     let plan = study.plan;
     let cell = plan.cell(plan.cell_of(piece.first));

@@ -5,13 +5,13 @@ use Rattle.std.specs.Prelude.{Result, ⊤}
 use Rattle.std.specs.Fmt.{decimal}
 use Rattle.cut_wires.specs.Log.{WireLog}
 use Rattle.cut_progress.specs.Printed.{HasPrinted}
-use Rattle.cut_machines.specs.JoinCommand.{EndsJoinOfFiles, NamesRefusedFile}
+use Rattle.cut_machines.specs.JoinCommand.{NamesRefusedFile, join_files_task}
 use Rattle.cut_share.specs.declared.share.Share as share
-use Rattle.cut_machines.specs.Share.{EndsShareFile}
+use Rattle.cut_machines.specs.Share.{share_file_task}
 use Rattle.cut_commands.specs.Ask.{EndsAsk}
-use Rattle.cut_commands.specs.Migrate.{EndsFiles}
-use Rattle.cut_commands.specs.Explain.{EndsExplain}
-use Rattle.cut_commands.specs.Run.{EndsCommand, canonical_task, check_task}
+use Rattle.cut_commands.specs.Migrate.{files_task}
+use Rattle.cut_commands.specs.Explain.{Explains}
+use Rattle.cut_commands.specs.Run.{EndsCommand, EndsWith, EndsWithFile, canonical_task, check_task}
 use Rattle.cut_commands.specs.Status.{EndsStatus}
 use Rattle.cut_server.specs.Serve.{EndsServing}
 use Rattle.cut_command_line.specs.declared.line.Job.{Job}
@@ -22,27 +22,20 @@ use Rattle.cutlab.specs.Runs.{EndsRun}
 use Rattle.cutlab.specs.Sent.{IsSent}
 use Rattle.cutlab.specs.declared.run_job.WorkersJob.TheVariants as workers
 
--- how a share ends, by its numbers
-pub record EndsShareOf (index shares block_size : ℕ) (old new : WireLog) (result : Result ⊤ CliFault) : Type 0 where
-  pub share : share.Share
-  pub index_is : share.index ≡ index
-  pub shares_are : share.shares ≡ shares
-  pub size_is : share.block_size ≡ block_size
-  pub ends : EndsShareFile share old new result
-
 -- how a job ends
 abbrev pub EndsJob : Job → WireLog → WireLog → Result ⊤ CliFault → Type 0
 EndsJob (Run piece workers file progress) old new result = EndsRun file old new result
 EndsJob Check old new result = EndsCommand check_task old new result
-EndsJob Explain old new result = EndsExplain old new result
+EndsJob Explain old new result = EndsWith Explains old new result
 EndsJob Canonical old new result = EndsCommand canonical_task old new result
 EndsJob (Status file) old new result = EndsStatus old new result
 EndsJob (Serve socket workers sessions studies folder) old new result = EndsServing studies result old new
 EndsJob (Ask socket) old new result = EndsAsk old new result
-EndsJob (Migrate from to) old new result = EndsFiles old new result
+EndsJob (Migrate from to) old new result = EndsWithFile files_task old new result
 EndsJob (Share index shares file piece workers progress) old new result =
-    EndsShareOf index shares piece old new result
-EndsJob (Join to from which) old new result = EndsJoinOfFiles old new result
+    (s : share.Share) × (s.index ≡ index) × (s.shares ≡ shares) × (s.block_size ≡ piece)
+    × EndsWithFile (share_file_task result s) old new result
+EndsJob (Join to from which) old new result = EndsWithFile join_files_task old new result
 
 -- what is printed on the errors where progress is asked for, and where it is not
 abbrev pub PrintsIf : Bool → WireLog → WireLog → Type 0

@@ -1,6 +1,7 @@
 //! A join of checkpoints, with or without the name of a refused one on the errors.
 ghost use Rattle.std.specs.Prelude.{◌≡◌, ◌≤◌, ◌∷◌, ◌++◌, [], Some, length, map};
-ghost use Rattle.cut_machines.specs.JoinCommand.{EndsJoinOfFiles};
+ghost use Rattle.cut_commands.specs.Run.{EndsWithFile};
+ghost use Rattle.cut_machines.specs.JoinCommand.{join_files_task};
 ghost use Rattle.cutlab.specs.Jobs.{PrintsFileIf, PrintsRefused, file_head, file_line};
 ghost use Rattle.cutlab.specs.Sent.{IsSent};
 
@@ -31,7 +32,7 @@ impl JoinJob<'_> {
     where
         W: Wire,
         E: Wire,
-        ensures ends { EndsJoinOfFiles (W.log wire.old) (W.log wire.new) result }
+        ensures ends { EndsWithFile join_files_task (W.log wire.old) (W.log wire.new) result }
         ensures prints { PrintsFileIf self.now.which (map (λ s. s.now) self.now.old.now) result
             (E.log errors.old) (E.log errors.new) }
     {

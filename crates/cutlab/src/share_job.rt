@@ -1,6 +1,7 @@
 //! A share of a study that is run.
 ghost use Rattle.std.specs.Prelude.{◌≤◌};
-ghost use Rattle.cut_machines.specs.Share.{EndsShareFile};
+ghost use Rattle.cut_commands.specs.Run.{EndsWithFile};
+ghost use Rattle.cut_machines.specs.Share.{share_file_task};
 
 use cut_commands::CliFault;
 use cut_hall::Hooks;
@@ -32,7 +33,7 @@ impl ShareJob<'_> {
         W: Wire,
         G: Hooks + Sync,
         R: Threads + Wait + Sync,
-        ensures { EndsShareFile self.now.share (W.log wire.old) (W.log wire.new) result }
+        ensures { EndsWithFile (share_file_task result self.now.share) (W.log wire.old) (W.log wire.new) result }
     {
         let work = ShareWork {
             share: self.share,

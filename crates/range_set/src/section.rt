@@ -31,7 +31,7 @@ impl Model for Section {
 impl Section {
     /// None of the numbers below a length.
     pub fn new(alloc: Global, len: u32) -> Result<Section, AllocError>
-        ensures { IfOk result (λ s. s.blocks ≡ replicate (div_ceil len 65536) []) }
+        ensures { IfOk result (λ s. s.blocks ≡ replicate (div_ceil len BLOCK) []) }
     {
         let count = len.div_ceil(BLOCK);
         let mut blocks = Vec::with_capacity(alloc, count as usize)?;
@@ -44,7 +44,7 @@ impl Section {
     /// Whether a number is in the set, and up to where the same is true of those that follow it.
     pub fn run_at(&self, place: u32) -> Run
         requires below { place < 2 ^ 32 - 1 }
-        requires within { place / 65536 < length self.now.blocks }
+        requires within { place / BLOCK < length self.now.blocks }
         ensures { IsRun (is_at self.now.blocks) place result }
     {
         let run = self.blocks[(place / BLOCK) as usize].run_at(place);
@@ -76,7 +76,7 @@ impl Section {
     /// Puts the numbers from one up to another in, none of which is in the set.
     pub fn insert(&mut self, from: u32, end: u32) -> Result<(), AllocError>
         requires some { from < end }
-        requires within { (end - 1) / 65536 < length self.old.blocks }
+        requires within { (end - 1) / BLOCK < length self.old.blocks }
         ensures flipped { OnOk result ((t : ℕ) → is_at self.new.blocks t
             ≡ flipped (is_between from end t) (is_at self.old.blocks t)) }
         ensures len { length self.new.blocks ≡ length self.old.blocks }
@@ -91,7 +91,7 @@ impl Section {
     /// Turns the numbers from one up to another round.
     fn flip(&mut self, from: u32, end: u32)
         requires some { from < end }
-        requires within { (end - 1) / 65536 < length self.old.blocks }
+        requires within { (end - 1) / BLOCK < length self.old.blocks }
         requires room { IsTrue self.old.room }
         ensures flipped { (t : ℕ) → is_at self.new.blocks t
             ≡ flipped (is_between from end t) (is_at self.old.blocks t) }

@@ -1,6 +1,7 @@
 -- How slips that ascend are merged one after another. Only the crate's private clauses cite it.
 use Rattle.std.specs.Prelude.{ℕ, ◌+◌, ◌*◌, ◌/◌, ◌<◌, ◌≤◌, ◌==◌, ◌&&◌, Bool, List, [], ◌∷◌, length, slice_index_or}
 use Rattle.std.specs.Prelude.{IsTrue, if◌then◌else◌, All}
+use Rattle.cut_plan.specs.declared.limits.TheConstants.{MOST_NODES}
 use Rattle.cut_plan.specs.Plan.{IsPlan}
 use Rattle.cut_plan.specs.Values.{Values}
 use Rattle.cut_outcome.specs.declared.piece.Piece.{Piece}
@@ -10,7 +11,7 @@ use Rattle.cut_ledger.specs.declared.slip.Slip.{Slip}
 -- a slip of a piece of the plan, with few totals
 pub record IsSmall (v : Values) (s : Slip) : Type 0 where
   pub piece : IsTrue (is_piece v s.piece)
-  pub few : IsAtMost (2048 * s.piece.count) s.totals
+  pub few : IsAtMost (MOST_NODES * s.piece.count) s.totals
 
 -- slips each of which begins where those before it have ended, or after that
 pub record AreAscending (v : Values) (ss : List Slip) : Type 0 where

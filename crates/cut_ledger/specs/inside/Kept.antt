@@ -3,6 +3,7 @@
 use Rattle.std.specs.Prelude.{◌≡◌, ℕ, ◌*◌, ◌<◌, Bool, true, false, IsTrue, List, length, slice_index_or, slice_set}
 use Rattle.std.specs.Prelude.{count_by}
 use Rattle.std.specs.List.{list_any}
+use Rattle.cut_plan.specs.declared.limits.TheConstants.{MOST_NODES}
 use Rattle.cut_plan.specs.Values.{Values}
 use Rattle.cut_plan.specs.Cells.{cells_of, trial_count}
 use Rattle.cut_plan.specs.Plan.{IsPlan}
@@ -25,7 +26,7 @@ sum_at sums c = slice_index_or sums c (each_number (λ n. 0))
 -- the sums of a cell in which the trials are held that pass a test
 pub record AreSumsOf (v : Values) (base : List Slip) (test : ℕ → Bool) (c : ℕ) (x : Totals) : Type 0 where
   pub sums : x ≡ sum_where v base test c
-  pub few : IsAtMost (2048 * count_by test (trials_of_cell v c)) x
+  pub few : IsAtMost (MOST_NODES * count_by test (trials_of_cell v c)) x
 
 -- what is held of a plan's trials, over a base: among it is all of the base
 pub record AreKept (v : Values) (base : List Slip) (trials : Held) (sums : List Totals) : Type 0 where
@@ -41,7 +42,7 @@ pub record AreKept (v : Values) (base : List Slip) (trials : Held) (sums : List 
 pub record CanBeAdded (v : Values) (trials : Held) (p : Piece) (x : Totals) : Type 0 where
   pub piece : IsTrue (is_piece v p)
   pub apart : list_any (has trials) (trials_in p) ≡ false
-  pub few : IsAtMost (2048 * p.count) x
+  pub few : IsAtMost (MOST_NODES * p.count) x
 
 -- a piece of cell number c was added, with its sums
 pub record IsAdded (old new : Held) (olds news : List Totals) (c : ℕ) (p : Piece) (x : Totals) : Type 0 where

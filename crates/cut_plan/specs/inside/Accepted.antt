@@ -1,10 +1,52 @@
 -- What only the crate's own clauses and proofs cite, beside specs/Accepted.antt.
-use Rattle.std.specs.Prelude.{◌≡◌}
-use Rattle.std.specs.Prelude.{Ok}
+use Rattle.std.specs.Prelude.{◌≡◌, ℕ, List, length, Bool, nat_le, nat_lt, is_some, Result, Ok, ⊤}
+use Rattle.std.specs.Bool.{⊤}
 use Rattle.serde_json.specs.Data.{Data}
+use Rattle.serde_json.specs.Find.{get}
+use Rattle.cut_plan.specs.declared.limits.TheConstants.{MOST_CELLS}
+use Rattle.cut_plan.specs.declared.refusal.Refusal.{Refusal}
+use Rattle.cut_plan.specs.declared.refusal.Refusal.TheVariants.{NoCell, TooManyFaults, TooManyTrials}
+use Rattle.cut_plan.specs.declared.field.Field.{Field}
 use Rattle.cut_plan.specs.declared.field.Field.TheVariants as field
-use Rattle.cut_plan.specs.Accepted.{field_check}
+use Rattle.cut_plan.specs.declared.version.Version.{Version}
+use Rattle.cut_plan.specs.Versions.{version_by}
+use Rattle.cut_plan.specs.Plan.{is_rising}
+use Rattle.cut_plan.specs.Fields.{name_of, kind_of, is_of, member_at}
+use Rattle.cut_plan.specs.inside.Fields.{number_at, numbers_at}
+use Rattle.cut_plan.specs.Accepted.{in_range, wanted, field_check}
 
 -- an object whose fields passed the checks
 abbrev pub IsChecked : Data → Type 0
 IsChecked d = field_check d ≡ Ok tt
+
+-- whether the object has the field
+abbrev pub is_present : Data → Field → Bool
+is_present d field = is_some (get (name_of field) d)
+
+-- whether the field's value is of the field's kind
+abbrev pub is_of_kind : Data → Field → Bool
+is_of_kind d field = is_of (kind_of field) (member_at d field)
+
+-- a list that is not empty
+abbrev pub has_some : List ℕ → Bool
+has_some xs = nat_lt 0 (length xs)
+
+-- whether the field's value, which is of the field's kind, is in the field's range
+abbrev pub is_in_range : Data → Field → Bool
+is_in_range d field = in_range (member_at d) field
+
+-- whether the field's numbers rise strictly; a field of another kind has none
+abbrev pub rises_at : Data → Field → Bool
+rises_at d field = is_rising (numbers_at d field)
+
+-- the version by whose fields an object is checked: 2 where its version is the whole number 2, and else 1
+abbrev pub version_in : Data → Version
+version_in d = version_by (number_at d field.Version)
+
+-- the limits on the number of cells, on the faults, and on the cells again
+abbrev pub limits : ℕ → ℕ → ℕ → Result ⊤ Refusal
+limits cells faults nodes =
+    wanted (nat_lt 0 cells) NoCell
+    (wanted (nat_le faults nodes) TooManyFaults
+    (wanted (nat_le cells MOST_CELLS) TooManyTrials
+    (Ok tt)))

@@ -1,19 +1,21 @@
 -- The values of JSON that the crate holds, as the definitions see them. Only its private clauses cite it.
 use Rattle.std.specs.Prelude.{◌≡◌, ℕ, ◌≤◌, List, map, length, nat_lt, IsTrue}
 use Rattle.std.specs.List.{list_all, fold}
+use Rattle.cut_plan.specs.declared.limits.TheConstants.{MOST_NODES, MOST_RINGS}
 use Rattle.serde_json.specs.Data.{Data, Members, no_members, put}
 use Rattle.serde_json.specs.View.{view}
 use Rattle.serde_json.specs.declared.value.Value.{Value}
-use Rattle.cut_plan.specs.Fields.{name_of, number_or_zero, numbers_at}
+use Rattle.cut_plan.specs.Fields.{name_of, number_in}
+use Rattle.cut_plan.specs.inside.Fields.{numbers_at}
 use Rattle.cut_plan.specs.Values.{Values}
-use Rattle.cut_plan.specs.Canonical.{field_data}
+use Rattle.cut_plan.specs.Canonical.{said}
 use Rattle.cut_plan.specs.declared.field.Field.{Field}
 use Rattle.cut_plan.specs.declared.field.Field.TheVariants as field
 use Rattle.cut_plan.specs.declared.plan_lists.Lists.{Lists}
 
 -- the numbers that values hold, 0 for a value of another kind
 abbrev pub item_numbers : List Value → List ℕ
-item_numbers vs = map (λ v. number_or_zero (view v)) vs
+item_numbers vs = map (λ v. number_in (view v)) vs
 
 -- each number is below a bound
 abbrev pub AreBelow : ℕ → List ℕ → Type 0
@@ -21,7 +23,7 @@ AreBelow bound xs = IsTrue (list_all (λ x. nat_lt x bound) xs)
 
 -- members, with those of some fields put in one after another
 abbrev pub with_fields : Values → List Field → Members
-with_fields v fields = fold (λ ms field. put (name_of field) (field_data v field) ms) no_members fields
+with_fields v fields = fold (λ ms field. put (name_of field) (said v field) ms) no_members fields
 
 -- the lists that were read of an object's fields
 pub record AreListsOf (d : Data) (lists : Lists) : Type 0 where
@@ -32,7 +34,7 @@ pub record AreListsOf (d : Data) (lists : Lists) : Type 0 where
 
 -- lists that are no longer than a plan's can be
 pub record AreShort (lists : Lists) : Type 0 where
-  pub f : length lists.f.items ≤ 2048
-  pub h : length lists.h.items ≤ 32
-  pub k : length lists.k.items ≤ 32
-  pub l : length lists.l.items ≤ 32
+  pub f : length lists.f.items ≤ MOST_NODES
+  pub h : length lists.h.items ≤ MOST_RINGS
+  pub k : length lists.k.items ≤ MOST_RINGS
+  pub l : length lists.l.items ≤ MOST_RINGS

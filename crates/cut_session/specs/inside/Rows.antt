@@ -1,6 +1,7 @@
 -- The lines of an opened study, as a session sends them. Only the crate's private clauses cite it.
 use Rattle.std.specs.Prelude.{◌≡◌, List, length, refl, Result, Ok, Err, ⊤}
 use Rattle.std.specs.Borrow.{GName}
+use Rattle.cut_lines.specs.declared.line.TheConstants.{LONGEST_LINE}
 use Rattle.cut_plan.specs.Cells.{cells_of}
 use Rattle.cut_plan.specs.Values.{Values}
 use Rattle.cut_plan.specs.Versions.{version_of}
@@ -23,7 +24,7 @@ lines_of plan base = record {
   header = header (version_of plan.failing);
   row = full_line plan base;
   rows = length (cells_of plan);
-  longest = 294;
+  longest = LONGEST_LINE;
 }
 
 -- the same pass has seen no more

@@ -2,6 +2,7 @@
 use Rattle.std.specs.Prelude.{◌≡◌, ◌+◌, ◌<◌, ◌≤◌, ℕ, List, length, take, Result, Ok, Err, ⊤}
 use Rattle.std.specs.Borrow.{GName}
 use Rattle.std.proofs.Common.{refl, arith}
+use Rattle.cut_lines.specs.declared.line.TheConstants.{LONGEST_LINE}
 use Rattle.cut_plan.specs.Cells.{cells_of}
 use Rattle.cut_plan.specs.Values.{Values}
 use Rattle.cut_plan.specs.Versions.{version_of}
@@ -35,7 +36,7 @@ lines_of v base = record {
   header = header (version_of v.failing);
   row = full_line v base;
   rows = length (cells_of v);
-  longest = 294;
+  longest = LONGEST_LINE;
 }
 
 -- the same pass has made at least this many calls more

@@ -1,6 +1,7 @@
 -- What only the crate's own clauses and proofs cite, beside specs/Table.antt.
 use Rattle.std.specs.Prelude.{◌≡◌, ◌<◌, ℕ, true, length, Result, Ok, Err, ⊤}
 use Rattle.std.proofs.Common.{refl, arith}
+use Rattle.cut_lines.specs.declared.line.TheConstants.{LONGEST_LINE}
 use Rattle.cut_plan.specs.Cells.{cells_of}
 use Rattle.cut_plan.specs.Versions.{version_of}
 use Rattle.cut_lines.specs.Lines.{header}
@@ -20,7 +21,7 @@ table_of l = record {
   header = header (version_of l.plan.failing);
   row = row_of l;
   rows = length (cells_of l.plan);
-  longest = 294;
+  longest = LONGEST_LINE;
 }
 
 -- the lines of the first n cells of a ledger were given, which are done

@@ -2,8 +2,9 @@
 use Rattle.std.specs.Prelude.{Result, ⊤}
 use Rattle.cut_wires.specs.Log.{WireLog}
 use Rattle.cut_share.specs.declared.share.Share as share
-use Rattle.cut_machines.specs.Share.{EndsShareFile}
+use Rattle.cut_machines.specs.Share.{share_file_task}
 use Rattle.cut_command_line.specs.declared.line.Job.TheVariants.{Share}
+use Rattle.cut_commands.specs.Run.{EndsWithFile}
 use Rattle.cut_commands.specs.declared.fault.CliFault.{CliFault}
 use Rattle.cutlab.specs.Runs.{EndsRun}
 use Rattle.cutlab.specs.declared.run_job.WorkersJob.{WorkersJob}
@@ -12,4 +13,4 @@ use Rattle.cutlab.specs.declared.run_job.WorkersJob.TheVariants as workers
 -- how what workers run ends
 abbrev pub EndsWork : WorkersJob → WireLog → WireLog → Result ⊤ CliFault → Type 0
 EndsWork (workers.Study job) old new result = EndsRun job.checkpoint old new result
-EndsWork (workers.Share job) old new result = EndsShareFile job.share old new result
+EndsWork (workers.Share job) old new result = EndsWithFile (share_file_task result job.share) old new result

@@ -2,6 +2,7 @@
 use Rattle.std.specs.Prelude.{◌≡◌, ℕ, ◌*◌, ◌/◌, ◌%◌, ◌<◌, ◌^◌, Bool, false, List, [], All, map, length, slice_index_or}
 use Rattle.std.specs.Int.{div_ceil}
 use Rattle.std.specs.List.{range_with_len}
+use Rattle.range_set.specs.declared.section.TheConstants.{BLOCK}
 use Rattle.range_set.specs.declared.range_set.RangeSet.TheInside.{Inside}
 use Rattle.range_set.specs.inside.Blocks.{Blocks, is_at}
 use Rattle.range_set.specs.Held.{Held}
@@ -31,4 +32,4 @@ held_of s = held_in s.section_len s.sections.items
 pub record IsSet (s : Inside) : Type 0 where
   pub some : 0 < s.section_len
   pub few : length s.sections.items * s.section_len < 2 ^ 32
-  pub long : All (λ b. length b.blocks ≡ div_ceil s.section_len 65536) s.sections.items
+  pub long : All (λ b. length b.blocks ≡ div_ceil s.section_len BLOCK) s.sections.items

@@ -2,7 +2,7 @@ use Rattle.std.proofs.Common.{◌≡◌, ◌∙◌, ap, rules}
 use Rattle.std.proofs.lemmas.Result.{IfOk-weaker}
 use Rattle.clap.specs.Words.{App, app_of, with_subcommand}
 use Rattle.clap.specs.Simple.{app_of_fields}
-use Rattle.cut_command_line.specs.Line.{canonical_app}
+use Rattle.cut_command_line.specs.inside.Line.{canonical_app}
 use Rattle.cut_command_line.proofs.line.add_canonical.Goals as goal
 
 pub returns : goal.returns

@@ -2,8 +2,9 @@ use Rattle.std.proofs.Common.{ap, true, codes, ◌≡◌, ◌∙◌}
 use Rattle.std.proofs.lemmas.Result.{IfOk-weaker}
 use Rattle.clap.specs.Words.{App, Shape, app_of, new_app, with_subcommand}
 use Rattle.clap.specs.Simple.{app_of_fields}
-use Rattle.cut_command_line.specs.Line.{ask_app, canonical_app, check_app, explain_app, join_app, migrate_app, run_app}
-use Rattle.cut_command_line.specs.Line.{program_app, serve_app, share_app, status_app}
+use Rattle.cut_command_line.specs.inside.Line.{ask_app, canonical_app, check_app, explain_app, join_app, migrate_app, run_app}
+use Rattle.cut_command_line.specs.Line.{program_app}
+use Rattle.cut_command_line.specs.inside.Line.{serve_app, share_app, status_app}
 use Rattle.cut_command_line.proofs.line.commands.Goals as goal
 
 -- a command with a version, one that needs a subcommand, and one that shows its help without a word

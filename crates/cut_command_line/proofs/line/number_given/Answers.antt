@@ -26,8 +26,8 @@ returns-then-number-lt1-clause-none c =
     λ n given.
     let same : n ≡ c.in_ok-number.number = same_given option c.args.most rows c.in_ok-number.number reads n given in
     elim c.then-number-lt1.either [
-      | inl low ↦ absurd (omega (arith, low, same, given.some))
-      | inr high ↦ absurd (omega (arith, high.1, same, given.few))
+      | inl low ↦ absurd (omega (arith, low, same, given.is.some))
+      | inr high ↦ absurd (omega (arith, high.1, same, given.is.few))
     ]
 
 pub returns-clause-some : goal.returns-clause-some

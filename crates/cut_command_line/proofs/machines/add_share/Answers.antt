@@ -2,7 +2,8 @@ use Rattle.std.proofs.Common.{◌≡◌, ◌∙◌, ap, ap₂, rules, codes}
 use Rattle.std.proofs.lemmas.Result.{IfOk-weaker}
 use Rattle.clap.specs.Words.{App, app_of, new_app, with_rule, with_subcommand}
 use Rattle.clap.specs.Simple.{app_of_fields}
-use Rattle.cut_command_line.specs.Line.{share_app, word_rule}
+use Rattle.cut_command_line.specs.Line.{word_rule}
+use Rattle.cut_command_line.specs.inside.Line.{share_app}
 use Rattle.cut_command_line.proofs.machines.add_share.Goals as goal
 
 pub returns : goal.returns

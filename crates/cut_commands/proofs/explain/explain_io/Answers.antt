@@ -5,8 +5,8 @@ use Rattle.std.proofs.lemmas.Result.{err_from_is_err_and}
 use Rattle.cut_plan.specs.Accepted.{plan_of}
 use Rattle.cut_explain.specs.FirstLine.{first_line}
 use Rattle.cut_wires.specs.Log.{WireLog}
-use Rattle.cut_commands.specs.Explain.{EndsExplain, IsExplanation}
-use Rattle.cut_commands.specs.Run.{GivesText}
+use Rattle.cut_commands.specs.Explain.{Explains, IsExplanation}
+use Rattle.cut_commands.specs.Run.{EndsWith, GivesText}
 use Rattle.cut_commands.specs.declared.fault.CliFault.{CliFault}
 use Rattle.cut_commands.proofs.ExplainLemmas.{ends_unread_text, ends_unwritten}
 use Rattle.cut_commands.proofs.explain.explain_io.Goals as goal
@@ -16,7 +16,7 @@ returns-in_err-text g c =
     let old : WireLog = g.W.Wire.log c.args.wire.now in
     let new : WireLog = g.W.Wire.log c.read_text.new.wire in
     let p = err_from_is_err_and c.from_residual.result c.from_residual.ensures.1 in
-    subst (λ (x : Result ⊤ CliFault). EndsExplain old new x) (sym p.1)
+    subst (λ (x : Result ⊤ CliFault). EndsWith Explains old new x) (sym p.1)
     (rw p.2 (ends_unread_text c.in_err-text.field-0.0 old new c.in_err-text.ensures))
 
 pub returns-in_err-write_answer : goal.returns-in_err-write_answer
@@ -33,6 +33,6 @@ returns-in_err-write_answer g c =
     c.in_ok-plan.ensures.first_line in
     let p = err_from_is_err_and c.from_residual-in_err-write_answer.result
     c.from_residual-in_err-write_answer.ensures.1 in
-    subst (λ (x : Result ⊤ CliFault). EndsExplain old new x) (sym p.1)
+    subst (λ (x : Result ⊤ CliFault). EndsWith Explains old new x) (sym p.1)
     (rw p.2 (ends_unwritten text old mid given whole explains new c.in_err-write_answer.field-0.0
     c.in_err-write_answer.ensures))

@@ -25,8 +25,8 @@ returns-then-not-is_ours-clause-reported g c = λ honest.
     text_shown bytes true false (nat_le (text_length bytes) 65536) (nat_le (text_length bytes + 46) (length bytes)) None
     (sym size) (sym (search rules) ∙ letters) refl refl refl
 
-pub returns-then-text-gt65536-clause-reported : goal.returns-then-text-gt65536-clause-reported
-returns-then-text-gt65536-clause-reported g c = λ honest.
+pub returns-then-text-gt-LONGEST_TEXT-clause-reported : goal.returns-then-text-gt-LONGEST_TEXT-clause-reported
+returns-then-text-gt-LONGEST_TEXT-clause-reported g c = λ honest.
     let old : DiskState = g.D.Disk.state c.args.disk.now in
     let bytes : List ℕ = old.bytes in
     let size : nat_le 13 (length bytes) ≡ true = grind (arith, nat_tests, c.requires.size honest, c.if-size-lt13.false)
@@ -36,7 +36,7 @@ returns-then-text-gt65536-clause-reported g c = λ honest.
     let text : c.from_be_bytes-text.result ≡ text_length bytes = text_read old (g.D.Disk.state c.read.new.self)
     c.read-2.new.into c.from_be_bytes-text.result c.from_be_bytes-text.ensures
     (c.in_ok-read-2.ensures.reported (c.in_ok-read.ensures.honest.0 honest)) (c.in_ok-read.ensures.same honest) in
-    let large : nat_le (text_length bytes) 65536 ≡ false = grind (arith, nat_tests, text, c.if-text-gt65536.true) in
+    let large : nat_le (text_length bytes) 65536 ≡ false = grind (arith, nat_tests, text, c.if-text-gt-LONGEST_TEXT.true) in
     text_shown bytes true true false (nat_le (text_length bytes + 46) (length bytes)) None (sym size)
     (sym c.if-not-is_ours.false ∙ letters) (sym large) refl refl
 
@@ -51,7 +51,7 @@ returns-then-size-from-clause-reported g c = λ honest.
     let text : c.from_be_bytes-text.result ≡ text_length bytes = text_read old (g.D.Disk.state c.read.new.self)
     c.read-2.new.into c.from_be_bytes-text.result c.from_be_bytes-text.ensures
     (c.in_ok-read-2.ensures.reported (c.in_ok-read.ensures.honest.0 honest)) (c.in_ok-read.ensures.same honest) in
-    let fits : nat_le (text_length bytes) 65536 ≡ true = grind (arith, nat_tests, text, c.if-text-gt65536.false) in
+    let fits : nat_le (text_length bytes) 65536 ≡ true = grind (arith, nat_tests, text, c.if-text-gt-LONGEST_TEXT.false) in
     let short : nat_le (text_length bytes + 46) (length bytes)
     ≡ false = grind (arith, nat_tests, text, c.from.ensures, c.requires.size honest, c.if-size-from.true) in
     text_shown bytes true true true false None (sym size) (sym c.if-not-is_ours.false ∙ letters) (sym fits) (sym short)
@@ -68,7 +68,7 @@ returns-clause-reported g c = λ honest.
     let text : c.from_be_bytes-text.result ≡ text_length bytes = text_read old (g.D.Disk.state c.read.new.self)
     c.read-2.new.into c.from_be_bytes-text.result c.from_be_bytes-text.ensures
     (c.in_ok-read-2.ensures.reported (c.in_ok-read.ensures.honest.0 honest)) (c.in_ok-read.ensures.same honest) in
-    let fits : nat_le (text_length bytes) 65536 ≡ true = grind (arith, nat_tests, text, c.if-text-gt65536.false) in
+    let fits : nat_le (text_length bytes) 65536 ≡ true = grind (arith, nat_tests, text, c.if-text-gt-LONGEST_TEXT.false) in
     let long : nat_le (text_length bytes + 46) (length bytes)
     ≡ true = grind (arith, nat_tests, text, c.from.ensures, c.requires.size honest, c.if-size-from.false) in
     text_shown bytes true true true true (Some c.from_be_bytes-text.result) (sym size)

@@ -1,7 +1,13 @@
-use Rattle.std.proofs.Common.{rules, ℕ, ◌++◌, ◌∷◌, [], Ok, Err, sym, ap, ◌∙◌, subst}
+use Rattle.std.proofs.Common.{◌≡◌, rules, ℕ, ◌++◌, ◌∷◌, [], true, false, IsTrue, Result, Ok, Err, sym, ap, ◌∙◌, subst}
 use Rattle.std.specs.Bool.{⊤}
 use Rattle.std.specs.Prelude.{IsErrOf, IsSome, ◌↔◌}
+use Rattle.cut_plan.specs.Targets.{upgraded}
+use Rattle.cut_plan.specs.Values.{Values}
+use Rattle.cut_outcome.specs.declared.piece.Piece.{Piece}
 use Rattle.cut_outcome.specs.Computed.{Computed}
+use Rattle.cut_outcome.specs.Sum.{is_piece}
+use Rattle.cut_trial.specs.declared.fault.TrialFault.{TrialFault}
+use Rattle.cut_trial.specs.declared.fault.TrialFault.TheVariants.{BadPiece}
 use Rattle.cut_ledger.specs.declared.slip.Slip.{Slip}
 use Rattle.cut_ledger.specs.Machine.{slip_of}
 use Rattle.cut_journal.specs.declared.fault.JournalFault.TheVariants as journal
@@ -11,6 +17,26 @@ use Rattle.cut_migration.specs.inside.Migration.{MovesOne}
 use Rattle.cut_journal.proofs.Series.{append_moments, nothing_appended}
 use Rattle.cut_migration.proofs.Migrations.{moved_is, append_failed}
 use Rattle.cut_migration.proofs.migration.move_slip.Goals as goal
+
+-- a piece of a plan is one of its upgrade, so that its run is not refused
+never : {T : Type 0} (v w : Values) (p : Piece) (r : Result T TrialFault) (fault : TrialFault) → w ≡ upgraded v
+    → IsTrue (is_piece v p) → r ≡ Err fault → fault ≡ BadPiece → IsErrOf r BadPiece ↔ (is_piece w p ≡ false) → ⊥
+never v w p r fault is piece failed bad refused =
+    let same : is_piece w p ≡ true = ap (λ (u : Values). is_piece u p) is ∙ piece in
+    let none = refused.0 (failed ∙ ap Err bad) in
+    cc
+
+pub returns-in-Err-BadPiece-clause-ends : goal.returns-in-Err-BadPiece-clause-ends
+returns-in-Err-BadPiece-clause-ends g c =
+    never c.args.target.plan.now c.args.target.upgrade.now c.args.slip.now.piece c.run_piece.result
+    c.in-Err-BadPiece.field-0 c.args.target.upgrade_of c.requires.piece c.in-Err-BadPiece.is
+    c.in-Err-BadPiece.field-0-is c.run_piece.ensures.bad
+
+pub returns-in-Err-BadPiece-clause-moments : goal.returns-in-Err-BadPiece-clause-moments
+returns-in-Err-BadPiece-clause-moments g c =
+    absurd (never c.args.target.plan.now c.args.target.upgrade.now c.args.slip.now.piece c.run_piece.result
+    c.in-Err-BadPiece.field-0 c.args.target.upgrade_of c.requires.piece c.in-Err-BadPiece.is
+    c.in-Err-BadPiece.field-0-is c.run_piece.ensures.bad)
 
 pub returns-in-Err-Memory-clause-moments : goal.returns-in-Err-Memory-clause-moments
 returns-in-Err-Memory-clause-moments g c =

@@ -1,7 +1,7 @@
 use Rattle.std.proofs.Common.{◌≡◌, map, take}
+use Rattle.serde_json.specs.Data.{number, unsigned}
 use Rattle.serde_json.specs.View.{view}
-use Rattle.cut_plan.specs.Datum.{number_data}
 use Rattle.cut_plan.proofs.number_lists.bytes_value.Given as goal
 
 abbrev pub invariant-loop-number : goal.invariant-loop-number
-invariant-loop-number l = map view l.items.items ≡ map number_data (take l.number-index l.numbers)
+invariant-loop-number l = map view l.items.items ≡ map (λ x. number (unsigned x)) (take l.number-index l.numbers)

@@ -3,7 +3,7 @@ use Rattle.std.proofs.lemmas.Grind.{take_at_read}
 use Rattle.std.proofs.lemmas.List.{take_all}
 use Rattle.std.proofs.lemmas.List.Elements.{All-push}
 use Rattle.std.proofs.lemmas.List.Sums.{sum_by_push}
-use Rattle.cut_hall.specs.Report.{IsEndOf, SlotEnd, accepted_recorded}
+use Rattle.cut_hall.specs.Report.{IsAcceptedCount, IsEndOf, SlotEnd, accepted_recorded}
 use Rattle.cut_server.proofs.serve.accepted.Goals as goal
 
 pub loop-study-preserved : goal.loop-study-preserved
@@ -18,6 +18,8 @@ loop-study-preserved c =
     + reported (get_or slots n second) =
     ap (sum_by reported) (take_at_read slots n second low).1
     ∙ sum_by_push reported (take n slots) (get_or slots n second) in
+    let few : IsAcceptedCount (reported (get_or slots n second)) =
+    subst IsAcceptedCount (c.accepted.ensures.value ∙ last) c.accepted.ensures.few in
     let ends : IsEndOf (get_or slots n second).history (get_or slots n second).complete =
     subst (λ (s : SlotEnd). IsEndOf s.history s.complete) c.index-slots-study.is c.accepted.ensures.end in
     record {
@@ -26,6 +28,9 @@ loop-study-preserved c =
       legal = subst (All (λ (s : SlotEnd). IsEndOf s.history s.complete)) (sym (take_at_read slots n second low).1)
           (All-push (λ (s : SlotEnd). IsEndOf s.history s.complete) (take n slots) (get_or slots n second)
           c.loop-study.invariant.legal ends);
+      few = subst (All (λ (s : SlotEnd). IsAcceptedCount (reported s))) (sym (take_at_read slots n second low).1)
+          (All-push (λ (s : SlotEnd). IsAcceptedCount (reported s)) (take n slots) (get_or slots n second)
+          c.loop-study.invariant.few few);
     }
 
 pub returns-clause-legal : goal.returns-clause-legal
@@ -33,3 +38,9 @@ returns-clause-legal c =
     subst (All (λ (s : SlotEnd). IsEndOf s.history s.complete))
     (take_all c.loop-study.study c.slots-slots.result.now c.loop-study-test.false ∙ c.slots-slots.ensures)
     c.loop-study.invariant.legal
+
+pub returns-clause-few : goal.returns-clause-few
+returns-clause-few c =
+    subst (All (λ (s : SlotEnd). IsAcceptedCount (accepted_recorded s.history)))
+    (take_all c.loop-study.study c.slots-slots.result.now c.loop-study-test.false ∙ c.slots-slots.ensures)
+    c.loop-study.invariant.few

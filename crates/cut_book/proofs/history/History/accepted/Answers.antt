@@ -6,7 +6,7 @@ use Rattle.cut_book.specs.declared.history.Entry.{Entry}
 use Rattle.cut_book.specs.inside.HistoryInside.{course_of}
 use Rattle.cut_book.specs.History.{accepted_in}
 use Rattle.cut_book.proofs.Merged.{others_accept}
-use Rattle.cut_book.proofs.Sums.{few_accepted, next_adds, next_fits}
+use Rattle.cut_book.proofs.Sums.{accepted_within, few_accepted, next_adds, next_fits}
 use Rattle.cut_book.proofs.history.History.accepted.Goals as goal
 
 -- the calls of entries, without losses
@@ -38,8 +38,8 @@ loop-entry-preserved c =
     (sym (get_or-map (λ (e : Entry). e.call) es i _ (Lose 0) c.loop-entry-test.true)) in
     omega (arith, c.loop-entry.invariant, here, next_adds (calls_of es) i (Lose 0) low)
 
-pub returns : goal.returns
-returns c =
+pub returns-clause-value : goal.returns-clause-value
+returns-clause-value c =
     let es : List Entry = c.deref-entry-items.result.now in
     let i : ℕ = c.loop-entry.entry-index in
     rw (← c.self.view_is) (c.loop-entry.invariant ∙ rw (
@@ -51,3 +51,22 @@ returns c =
       c.deref-entry-items.ensures.value,
     )
     (sym (others_accept 0 c.self.inside.entries.items c.self.inside.losses.items)))
+
+pub returns-clause-plan : goal.returns-clause-plan
+returns-clause-plan c = rw (← c.self.view_is) c.self.invariant.plan
+
+pub returns-clause-few : goal.returns-clause-few
+returns-clause-few c =
+    let es : List Entry = c.deref-entry-items.result.now in
+    let i : ℕ = c.loop-entry.entry-index in
+    let most = accepted_within c.same_plans_are_equal.ensures (course_of c.self.inside).opening
+    (course_of c.self.inside).calls c.self.invariant.plan c.self.invariant.legal in
+    let others = others_accept 0 c.self.inside.entries.items c.self.inside.losses.items in
+    let all = ap (λ (xs : List Entry). accepted_in (calls_of xs)) c.deref-entry-items.ensures.value in
+    let taken = take_all i (calls_of es) (omega (
+      arith,
+      c.loop-entry-test.false,
+      length-map es (λ (e : Entry). e.call),
+    )) in
+    let sum : c.loop-entry.sum ≡ accepted_in (calls_of es) = c.loop-entry.invariant ∙ ap accepted_in taken in
+    rw (← c.self.view_is) (omega (arith, most, others, all, sum))

@@ -9,6 +9,7 @@ use Rattle.cut_plan.proofs.plan.Plan.canonical.Goals as goal
 pub returns : goal.returns
 unfolding canonical_text
 returns c =
-    let same = c.in_ok-to_value.ensures in
-    let none : has_float (view c.in_ok-to_value.field-0) ≡ false = ap has_float same ∙ no_floats c.args.self.now in
+    let same = c.in_ok-to_value.ensures.value in
+    let none : has_float (view c.in_ok-to_value.field-0) ≡ false = ap has_float same
+    ∙ no_floats c.args.self.now c.in_ok-to_value.ensures.plan in
     record { text = IfOk-weaker c.to_vec.result _ _ (λ t e. e none ∙ ap compact_text same) c.to_vec.ensures.text }
