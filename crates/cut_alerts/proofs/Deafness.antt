@@ -20,7 +20,7 @@ use Rattle.cut_draws.specs.Source.{Source, key_at}
 use Rattle.cut_draws.specs.ProcessOrder.{process_place, process_rank, compare_processes}
 use Rattle.cut_alerts.specs.declared.role.Role.{Role}
 use Rattle.cut_alerts.specs.declared.role.Role.TheVariants.{Healthy, Crashed, Deaf, Liar, LinkSource}
-use Rattle.cut_alerts.specs.Assignment.{Assignment, role_at, has_crashed, is_crashed_role}
+use Rattle.cut_alerts.specs.Assignment.{Assignment, role_at, has_crashed, same_role}
 use Rattle.cut_alerts.specs.Drawn.{drawn, ranked_role}
 use Rattle.cut_alerts.specs.Alerted.{alert_list}
 use Rattle.cut_alerts.specs.Laws.{with_failing, drawn_with, DrawAlike, HasTurned, TurnsOne}
@@ -48,7 +48,7 @@ draw_alike v how other f d r same =
 
 -- ---- one deaf target more
 
-crashed_by_rank : (a b c e : Bool) (to : ℕ) → is_crashed_role
+crashed_by_rank : (a b c e : Bool) (to : ℕ) → same_role Crashed
     (if a then Crashed else (if b then Deaf
     else (if c then Liar else (if e then LinkSource to else Healthy)))) ≡ a
 crashed_by_rank true b c e to = refl
@@ -78,7 +78,7 @@ module _ (v : Values) (f : ℕ) (d : Source) (r : Layout) where
     | inl below ↦ ltb-true (rank q) (f - min deaf f)
         (sym (crashed_by_rank (nat_lt (rank q) (f - min deaf f)) (nat_lt (rank q) f) (nat_lt (rank q) (f + v.liars))
         (nat_lt (rank q) (f + v.liars + v.links)) (subject_of r 0 q))
-        ∙ sym (ap is_crashed_role (role_is deaf q below)) ∙ crashed)
+        ∙ sym (ap (same_role Crashed) (role_is deaf q below)) ∙ crashed)
     | inr past ↦ absurd (let no = rw (role_past deaf q past) at crashed in cc)
   ]
 

@@ -4,7 +4,7 @@
 use Rattle.std.specs.Prelude.{ℕ, ◌+◌, ◌-◌, map, nat_lt, if◌then◌else◌}
 use Rattle.std.specs.List.{range_with_len}
 use Rattle.cut_plan.specs.Values.{Values}
-use Rattle.cut_plan.specs.Targets.{deaf_of}
+use Rattle.cut_plan.specs.Targets.{deaf_among}
 use Rattle.cut_rings.specs.Layout.{Layout, subject_of}
 use Rattle.cut_draws.specs.Source.{Source}
 use Rattle.cut_draws.specs.ProcessOrder.{process_rank}
@@ -12,10 +12,10 @@ use Rattle.cut_alerts.specs.declared.role.Role.{Role}
 use Rattle.cut_alerts.specs.declared.role.Role.TheVariants.{Healthy, Crashed, Deaf, Liar, LinkSource}
 use Rattle.cut_alerts.specs.Assignment.{Assignment}
 
--- the role of process p, where it has this rank, and the last deaf_of v f of the f targets are deaf
+-- the role of process p, where it has this rank: of the f targets, which come first, the last ones are deaf
 abbrev pub ranked_role : Values → ℕ → Layout → ℕ → ℕ → Role
 ranked_role v f r p rank =
-    if nat_lt rank (f - deaf_of v f) then Crashed
+    if nat_lt rank (f - deaf_among v.failing f) then Crashed
     else (if nat_lt rank f then Deaf
     else (if nat_lt rank (f + v.liars) then Liar
     else (if nat_lt rank (f + v.liars + v.links) then LinkSource (subject_of r 0 p) else Healthy)))

@@ -1,12 +1,13 @@
 -- The values that a job of a command has.
-use Rattle.std.proofs.Common.{◌≡◌, ℕ, List, Some, map, refl, sym, ap, subst, ◌∙◌, codes}
+use Rattle.std.proofs.Common.{◌≡◌, ℕ, List, Some, map, sym, ap, subst, codes}
 use Rattle.std.specs.Prelude.{⊤, if◌then◌else◌}
 use Rattle.std.specs.Str.{bytes_eq}
 use Rattle.clap.specs.Words.{Row, Text, all_of, first_of}
+use Rattle.cut_command_line.specs.declared.line.TheConstants.{LARGEST_PIECE, MOST_OF_EACH, MOST_WORKERS}
 use Rattle.cut_command_line.specs.declared.line.Job.{Job}
 use Rattle.cut_command_line.specs.declared.line.Job.TheVariants.{Run, Check, Explain, Canonical, Status, Serve}
 use Rattle.cut_command_line.specs.declared.line.Job.TheVariants.{Ask, Migrate, Share, Join}
-use Rattle.cut_command_line.specs.Line.{GivesNumber, GivesShare, GivesValues, command_of}
+use Rattle.cut_command_line.specs.Line.{AsksFor, GivesNumber, GivesShare}
 
 -- the commands
 pub data Verb : Type 0 where
@@ -48,60 +49,60 @@ verb_in name =
     if bytes_eq name (codes "share") then to_share else
     to_join
 
-named : (job : Job) → verb_in (command_of job) ≡ verb_of job
-named (Run piece workers file progress) = refl
-named Check = refl
-named Explain = refl
-named Canonical = refl
-named (Status file) = refl
-named (Serve socket workers sessions studies folder) = refl
-named (Ask socket) = refl
-named (Migrate from to) = refl
-named (Share index shares file piece workers progress) = refl
-named (Join to from which) = refl
-
--- a job that has the name of a command is of that command
-pub is_of : (job : Job) (name : Text) → command_of job ≡ name → verb_of job ≡ verb_in name
-is_of job name is = sym (named job) ∙ ap verb_in is
+-- a job that the command of a name asks for is of that command
+pub is_of : (name : Text) (rows : List Row) (job : Job) → AsksFor name rows job → verb_of job ≡ verb_in name
+is_of name rows (Run piece workers file progress) asks = sym (ap verb_in asks.0)
+is_of name rows Check asks = sym (ap verb_in asks)
+is_of name rows Explain asks = sym (ap verb_in asks)
+is_of name rows Canonical asks = sym (ap verb_in asks)
+is_of name rows (Status file) asks = sym (ap verb_in asks.0)
+is_of name rows (Serve socket workers sessions studies folder) asks = sym (ap verb_in asks.0)
+is_of name rows (Ask socket) asks = sym (ap verb_in asks.0)
+is_of name rows (Migrate from to) asks = sym (ap verb_in asks.0)
+is_of name rows (Share index shares file piece workers progress) asks = sym (ap verb_in asks.0)
+is_of name rows (Join to from which) asks = sym (ap verb_in asks.0)
 
 -- what is given with a command
 abbrev pub Values : Verb → List Row → Type 0
 Values to_run rows =
-    ((n : ℕ) × GivesNumber (codes "piece") 1000000 rows n) × ((n : ℕ) × GivesNumber (codes "workers") 64 rows n)
+    ((n : ℕ) × GivesNumber (codes "piece") LARGEST_PIECE rows n)
+    × ((n : ℕ) × GivesNumber (codes "workers") MOST_WORKERS rows n)
 Values to_check rows = ⊤
 Values to_explain rows = ⊤
 Values to_canonical rows = ⊤
 Values to_status rows = (path : Text) × (first_of (codes "file") rows ≡ Some path)
 Values to_serve rows =
     ((path : Text) × (first_of (codes "socket") rows ≡ Some path))
-    × ((n : ℕ) × GivesNumber (codes "workers") 64 rows n)
-    × ((n : ℕ) × GivesNumber (codes "sessions") 64 rows n) × ((n : ℕ) × GivesNumber (codes "studies") 64 rows n)
+    × ((n : ℕ) × GivesNumber (codes "workers") MOST_OF_EACH rows n)
+    × ((n : ℕ) × GivesNumber (codes "sessions") MOST_OF_EACH rows n)
+    × ((n : ℕ) × GivesNumber (codes "studies") MOST_OF_EACH rows n)
 Values to_ask rows = (path : Text) × (first_of (codes "socket") rows ≡ Some path)
 Values to_migrate rows =
     ((path : Text) × (first_of (codes "old") rows ≡ Some path))
     × ((path : Text) × (first_of (codes "new") rows ≡ Some path))
 Values to_share rows =
     ((n : ℕ) × ((m : ℕ) × GivesShare rows n m)) × ((path : Text) × (first_of (codes "file") rows ≡ Some path))
-    × ((n : ℕ) × GivesNumber (codes "piece") 1000000 rows n) × ((n : ℕ) × GivesNumber (codes "workers") 64 rows n)
+    × ((n : ℕ) × GivesNumber (codes "piece") LARGEST_PIECE rows n)
+    × ((n : ℕ) × GivesNumber (codes "workers") MOST_WORKERS rows n)
 Values to_join rows =
     ((path : Text) × (first_of (codes "new") rows ≡ Some path))
     × ((paths : List Text) × (all_of (codes "old") rows ≡ Some paths))
 
-values_of : (rows : List Row) (job : Job) → GivesValues rows job → Values (verb_of job) rows
-values_of rows (Run piece workers file progress) gives = ((piece, gives.0), (workers, gives.1))
-values_of rows Check gives = tt
-values_of rows Explain gives = tt
-values_of rows Canonical gives = tt
-values_of rows (Status file) gives = (file.now, gives)
-values_of rows (Serve socket workers sessions studies folder) gives =
-    ((socket.now, gives.0), (workers, gives.1), (sessions, gives.2), (studies, gives.3))
-values_of rows (Ask socket) gives = (socket.now, gives)
-values_of rows (Migrate from to) gives = ((from.now, gives.0), (to.now, gives.1))
-values_of rows (Share index shares file piece workers progress) gives =
-    ((index, (shares, gives.0)), (file.now, gives.1), (piece, gives.2), (workers, gives.3))
-values_of rows (Join to from which) gives = ((to.now, gives.0), (map (λ s. s.now) from.items, gives.1))
+values_of : (name : Text) (rows : List Row) (job : Job) → AsksFor name rows job → Values (verb_of job) rows
+values_of name rows (Run piece workers file progress) asks = ((piece, asks.1), (workers, asks.2))
+values_of name rows Check asks = tt
+values_of name rows Explain asks = tt
+values_of name rows Canonical asks = tt
+values_of name rows (Status file) asks = (file.now, asks.1)
+values_of name rows (Serve socket workers sessions studies folder) asks =
+    ((socket.now, asks.1), (workers, asks.2), (sessions, asks.3), (studies, asks.4))
+values_of name rows (Ask socket) asks = (socket.now, asks.1)
+values_of name rows (Migrate from to) asks = ((from.now, asks.1), (to.now, asks.2))
+values_of name rows (Share index shares file piece workers progress) asks =
+    ((index, (shares, asks.1)), (file.now, asks.2), (piece, asks.3), (workers, asks.4))
+values_of name rows (Join to from which) asks = ((to.now, asks.1), (map (λ s. s.now) from.items, asks.2))
 
--- a job that has the name of a command has what is given with it
-pub values : (rows : List Row) (job : Job) (name : Text) → command_of job ≡ name → GivesValues rows job
-    → Values (verb_in name) rows
-values rows job name is gives = subst (λ (verb : Verb). Values verb rows) (is_of job name is) (values_of rows job gives)
+-- a job that a command asks for has what is given with it
+pub values : (name : Text) (rows : List Row) (job : Job) → AsksFor name rows job → Values (verb_in name) rows
+values name rows job asks =
+    subst (λ (verb : Verb). Values verb rows) (is_of name rows job asks) (values_of name rows job asks)

@@ -1,2 +1,3 @@
 pub mod Commands
 pub mod LineLemmas
+pub mod ShareLemmas

@@ -1,14 +1,13 @@
 -- The commands of the program, and what its command line asks for.
-use Rattle.std.specs.Prelude.{◌≡◌, ◌⊎◌, ◌≤◌, ◌<◌, ◌==◌, ℕ, Bool, List, [], ◌∷◌, true, false, codes, pos}
-use Rattle.std.specs.Prelude.{Option, Some, None, option_map, map, length, fold, ⊤}
-use Rattle.std.specs.List.{position_or_len, before_first, after_first}
+use Rattle.std.specs.Prelude.{◌≡◌, ◌⊎◌, ◌≤◌, ◌++◌, ℕ, Bool, List, [], ◌∷◌, true, false, codes, pos}
+use Rattle.std.specs.Prelude.{Some, None, option_map, map, fold, ⊤}
 use Rattle.std.specs.Str.Parse.{IsNumeral, digits_value, without_leading_plus}
-use Rattle.cut_command_line.specs.declared.machines.TheConstants.{SHARES_MOST}
-use Rattle.cut_command_line.specs.declared.line.TheConstants.{PIECE_MOST}
+use Rattle.cut_command_line.specs.declared.machines.TheConstants.{MOST_CHECKPOINTS, MOST_SHARES}
+use Rattle.cut_command_line.specs.declared.line.TheConstants.{LARGEST_PIECE, MOST_OF_EACH, MOST_WORKERS}
 use Rattle.clap.specs.Words.{App, IsAmong, all_of, first_of, Row, Rule, Text, fault_of, new_app, new_rule, one_of}
 use Rattle.clap.specs.Words.{subcommand_of, with_rule, with_subcommand}
 use Rattle.clap.specs.declared.builder.action.ArgAction.TheVariants.{SetTrue}
-use Rattle.clap.specs.declared.builder.value_parser.ValueParser.TheVariants as parsers
+use Rattle.clap.specs.declared.builder.value_parser.ValueParser.TheVariants.{Signed}
 use Rattle.clap.specs.declared.error.kind.ErrorKind.{ErrorKind}
 use Rattle.clap.specs.declared.error.kind.ErrorKind.TheVariants.{DisplayHelp, DisplayVersion, OutOfMemory}
 use Rattle.clap.specs.declared.error.kind.ErrorKind.TheVariants.{ValueValidation}
@@ -28,47 +27,38 @@ option_rule name = record (new_rule name) { long = Some name; value_names = 1 }
 abbrev pub flag_rule : Text → Rule
 flag_rule name = record (new_rule name) { long = Some name; action = Some SetTrue }
 
--- an option with a number, from 1 to a greatest one
-abbrev pub number_rule : Text → ℕ → Rule
-number_rule name most = record (option_rule name) { parser = Some (parsers.Signed (pos 1) (pos most)) }
+-- an option with a number, from 1 to a greatest one, and with its value where it is not given, if it has one
+abbrev pub number_rule : Text → ℕ → List Text → Rule
+number_rule name most value = record (option_rule name) { parser = Some (Signed (pos 1) (pos most)); defaults = value }
 
 -- the options `--piece`, 1 to 1,000,000, and `--workers`, 1 to 64, with their values where they are not given
-abbrev pub piece_rule : Rule
-piece_rule = record (number_rule (codes "piece") PIECE_MOST) { defaults = codes "16" ∷ [] }
+abbrev pub sizes : List Rule
+sizes =
+    number_rule (codes "piece") LARGEST_PIECE (codes "16" ∷ [])
+    ∷ number_rule (codes "workers") MOST_WORKERS (codes "1" ∷ []) ∷ []
 
-abbrev pub workers_rule : Rule
-workers_rule = record (number_rule (codes "workers") 64) { defaults = codes "1" ∷ [] }
-
--- an option of a server: how many of something it has, a number from 1 to 64, which has to be given
-abbrev pub count_rule : Text → Rule
-count_rule name = record (number_rule name 64) { required = true }
+-- the options of a server: how many of something it has, each a number from 1 to 64, which has to be given
+abbrev pub counts : List Rule
+counts =
+    map (λ (name : Text). record (number_rule name MOST_OF_EACH []) { required = true })
+    (codes "workers" ∷ codes "sessions" ∷ codes "studies" ∷ [])
 
 -- the words `OLD..`: the files of 1 to 1,000 checkpoints
 abbrev pub files_rule : Rule
-files_rule = record (word_rule (codes "old")) { range = Some (record { start_inclusive = 1; end_inclusive = 1000 }) }
+files_rule =
+    record (word_rule (codes "old")) { range = Some (record { start_inclusive = 1; end_inclusive = MOST_CHECKPOINTS }) }
 
--- a command with its words in their order, its options and its flags
-abbrev pub command_with : Text → List Rule → App
-command_with name rules = fold with_rule (new_app name) rules
-
--- the subcommands
-abbrev pub subcommands : List App
+-- the subcommands: the name of each, and its words in their order, its options and its flags
+abbrev pub subcommands : List (Text × List Rule)
 subcommands =
-    command_with (codes "run")
-    (piece_rule ∷ workers_rule ∷ option_rule (codes "checkpoint") ∷ flag_rule (codes "progress") ∷ [])
-    ∷ command_with (codes "check") []
-    ∷ command_with (codes "explain") []
-    ∷ command_with (codes "canonical") []
-    ∷ command_with (codes "status") (word_rule (codes "file") ∷ [])
-    ∷ command_with (codes "serve")
-    (word_rule (codes "socket") ∷ count_rule (codes "workers") ∷ count_rule (codes "sessions")
-    ∷ count_rule (codes "studies") ∷ option_rule (codes "dir") ∷ [])
-    ∷ command_with (codes "ask") (word_rule (codes "socket") ∷ [])
-    ∷ command_with (codes "migrate") (word_rule (codes "old") ∷ word_rule (codes "new") ∷ [])
-    ∷ command_with (codes "share")
-    (word_rule (codes "share") ∷ word_rule (codes "file") ∷ piece_rule ∷ workers_rule ∷ flag_rule (codes "progress") ∷ [])
-    ∷ command_with (codes "join") (word_rule (codes "new") ∷ files_rule ∷ flag_rule (codes "which") ∷ [])
-    ∷ []
+    (codes "run", sizes ++ option_rule (codes "checkpoint") ∷ flag_rule (codes "progress") ∷ [])
+    ∷ (codes "check", []) ∷ (codes "explain", []) ∷ (codes "canonical", [])
+    ∷ (codes "status", word_rule (codes "file") ∷ [])
+    ∷ (codes "serve", word_rule (codes "socket") ∷ counts ++ option_rule (codes "dir") ∷ [])
+    ∷ (codes "ask", word_rule (codes "socket") ∷ [])
+    ∷ (codes "migrate", word_rule (codes "old") ∷ word_rule (codes "new") ∷ [])
+    ∷ (codes "share", word_rule (codes "share") ∷ word_rule (codes "file") ∷ sizes ++ flag_rule (codes "progress") ∷ [])
+    ∷ (codes "join", word_rule (codes "new") ∷ files_rule ∷ flag_rule (codes "which") ∷ []) ∷ []
 
 -- the program as clap sees it: it has a version, needs one of its subcommands, and without a word it shows its help
 unfoldable pub program_app : App
@@ -76,7 +66,7 @@ program_app = let bare : App = new_app (codes "cutlab") in
     let asking : App = record bare {
       top = record bare.top { has_version = true; subcommand_required = true; arg_required_else_help = true };
     } in
-    fold (λ app sub. with_subcommand app sub.top) asking subcommands
+    fold (λ app sub. with_subcommand app (fold with_rule (new_app sub.0) sub.1).top) asking subcommands
 
 -- a text is a number from 1 to a greatest one, in decimal
 pub record IsNumberIn (most : ℕ) (text : Text) (n : ℕ) : Type 0 where
@@ -97,72 +87,46 @@ pub record GivesFlag (flag : Text) (rows : List Row) (is_given : Bool) : Type 0 
   pub yes : one_of flag rows ≡ Some (codes "true") → is_given ≡ true
   pub no : one_of flag rows ≡ Some (codes "false") → is_given ≡ false
 
--- a byte is a slash
-abbrev pub is_slash : ℕ → Bool
-is_slash b = b == 47
-
--- a text is the number of a share, a slash, and how many shares there are
-pub record IsShareText (text : Text) (index shares : ℕ) : Type 0 where
-  pub slash : position_or_len is_slash text < length text
-  pub index_is : IsNumberIn SHARES_MOST (before_first is_slash text) index
-  pub shares_are : IsNumberIn SHARES_MOST (after_first is_slash text) shares
+-- the share that they give: its number, a slash, and how many shares there are
+pub record GivesShare (rows : List Row) (index shares : ℕ) : Type 0 where
+  pub first : Text
+  pub second : Text
+  pub given : first_of (codes "share") rows ≡ Some (first ++ codes "/" ++ second)
+  pub index_is : IsNumberIn MOST_SHARES first index
+  pub shares_are : IsNumberIn MOST_SHARES second shares
   pub within : index ≤ shares
 
--- the share that they give
-pub record GivesShare (rows : List Row) (index shares : ℕ) : Type 0 where
-  pub text : Text
-  pub given : first_of (codes "share") rows ≡ Some text
-  pub is : IsShareText text index shares
-
--- the subcommand of a job
-abbrev pub command_of : Job → Text
-command_of (Run piece workers file progress) = codes "run"
-command_of Check = codes "check"
-command_of Explain = codes "explain"
-command_of Canonical = codes "canonical"
-command_of (Status file) = codes "status"
-command_of (Serve socket workers sessions studies folder) = codes "serve"
-command_of (Ask socket) = codes "ask"
-command_of (Migrate from to) = codes "migrate"
-command_of (Share index shares file piece workers progress) = codes "share"
-command_of (Join to from which) = codes "join"
-
--- the values of a job, by the matches of its subcommand
-abbrev pub GivesValues : List Row → Job → Type 0
-GivesValues rows (Run piece workers file progress) =
-    GivesNumber (codes "piece") PIECE_MOST rows piece × GivesNumber (codes "workers") 64 rows workers
+-- a subcommand, by its name and its matches, asks for a job
+abbrev pub AsksFor : Text → List Row → Job → Type 0
+AsksFor name rows (Run piece workers file progress) =
+    (name ≡ codes "run") × GivesNumber (codes "piece") LARGEST_PIECE rows piece
+    × GivesNumber (codes "workers") MOST_WORKERS rows workers
     × (first_of (codes "checkpoint") rows ≡ option_map (λ s. s.now) file) × GivesFlag (codes "progress") rows progress
-GivesValues rows Check = ⊤
-GivesValues rows Explain = ⊤
-GivesValues rows Canonical = ⊤
-GivesValues rows (Status file) = first_of (codes "file") rows ≡ Some file.now
-GivesValues rows (Serve socket workers sessions studies folder) =
-    (first_of (codes "socket") rows ≡ Some socket.now) × GivesNumber (codes "workers") 64 rows workers
-    × GivesNumber (codes "sessions") 64 rows sessions × GivesNumber (codes "studies") 64 rows studies
+AsksFor name rows Check = name ≡ codes "check"
+AsksFor name rows Explain = name ≡ codes "explain"
+AsksFor name rows Canonical = name ≡ codes "canonical"
+AsksFor name rows (Status file) = (name ≡ codes "status") × (first_of (codes "file") rows ≡ Some file.now)
+AsksFor name rows (Serve socket workers sessions studies folder) =
+    (name ≡ codes "serve") × (first_of (codes "socket") rows ≡ Some socket.now)
+    × GivesNumber (codes "workers") MOST_OF_EACH rows workers
+    × GivesNumber (codes "sessions") MOST_OF_EACH rows sessions
+    × GivesNumber (codes "studies") MOST_OF_EACH rows studies
     × (first_of (codes "dir") rows ≡ option_map (λ s. s.now) folder)
-GivesValues rows (Ask socket) = first_of (codes "socket") rows ≡ Some socket.now
-GivesValues rows (Migrate from to) =
-    (first_of (codes "old") rows ≡ Some from.now) × (first_of (codes "new") rows ≡ Some to.now)
-GivesValues rows (Share index shares file piece workers progress) =
-    GivesShare rows index shares × (first_of (codes "file") rows ≡ Some file.now)
-    × GivesNumber (codes "piece") PIECE_MOST rows piece × GivesNumber (codes "workers") 64 rows workers
+AsksFor name rows (Ask socket) = (name ≡ codes "ask") × (first_of (codes "socket") rows ≡ Some socket.now)
+AsksFor name rows (Migrate from to) =
+    (name ≡ codes "migrate") × (first_of (codes "old") rows ≡ Some from.now)
+    × (first_of (codes "new") rows ≡ Some to.now)
+AsksFor name rows (Share index shares file piece workers progress) =
+    (name ≡ codes "share") × GivesShare rows index shares × (first_of (codes "file") rows ≡ Some file.now)
+    × GivesNumber (codes "piece") LARGEST_PIECE rows piece × GivesNumber (codes "workers") MOST_WORKERS rows workers
     × GivesFlag (codes "progress") rows progress
-GivesValues rows (Join to from which) =
-    (first_of (codes "new") rows ≡ Some to.now) × (all_of (codes "old") rows ≡ Some (map (λ s. s.now) from.items))
-    × GivesFlag (codes "which") rows which
-
--- the job of a subcommand, by its name and its matches
-abbrev pub IsJobOf : Option (Text × List Row) → Job → Type 0
-IsJobOf None job = ⊥
-IsJobOf (Some sub) job = (sub.0 ≡ command_of job) × GivesValues sub.1 job
+AsksFor name rows (Join to from which) =
+    (name ≡ codes "join") × (first_of (codes "new") rows ≡ Some to.now)
+    × (all_of (codes "old") rows ≡ Some (map (λ s. s.now) from.items)) × GivesFlag (codes "which") rows which
 
 -- the job that a command line names
 abbrev pub NamesJob : List Text → Job → Type 0
-NamesJob words job = IsJobOf (subcommand_of program_app words) job
-
--- it names none
-abbrev pub NamesNone : List Text → Type 0
-NamesNone words = (job : Job) → NamesJob words job → ⊥
+NamesJob words job = (sub : Text × List Row) × (subcommand_of program_app words ≡ Some sub) × AsksFor sub.0 sub.1 job
 
 -- the status with which the program ends where clap gives no matches: 0 where help was asked for, 5 where
 -- memory ran out, and 2 at a mistake
@@ -177,7 +141,7 @@ status_of_kind kind = 2
 abbrev pub IsAsked : List Text → ErrorKind → Type 0
 IsAsked words kind =
     IsAmong kind (fault_of program_app words) ⊎ (kind ≡ OutOfMemory)
-    ⊎ (NamesNone words × (fault_of program_app words ≡ []) × (kind ≡ ValueValidation))
+    ⊎ (((job : Job) → NamesJob words job → ⊥) × (fault_of program_app words ≡ []) × (kind ≡ ValueValidation))
 
 -- the status of a command line without a job: exactly that of what clap found
 abbrev pub EndsLine : List Text → ℕ → Type 0
@@ -185,16 +149,18 @@ EndsLine words status = (kind : ErrorKind) × IsAsked words kind × (status ≡ 
 
 -- the pieces of a job have some trials, and it has some of each that it is to have, and no more than the options allow
 abbrev pub IsSizedJob : Job → Type 0
-IsSizedJob (Run piece workers file progress) = (1 ≤ piece) × (piece ≤ PIECE_MOST) × (1 ≤ workers) × (workers ≤ 64)
+IsSizedJob (Run piece workers file progress) =
+    (1 ≤ piece) × (piece ≤ LARGEST_PIECE) × (1 ≤ workers) × (workers ≤ MOST_WORKERS)
 IsSizedJob Check = ⊤
 IsSizedJob Explain = ⊤
 IsSizedJob Canonical = ⊤
 IsSizedJob (Status file) = ⊤
 IsSizedJob (Serve socket workers sessions studies folder) =
-    (1 ≤ workers) × (workers ≤ 64) × (1 ≤ sessions) × (sessions ≤ 64) × (1 ≤ studies) × (studies ≤ 64)
+    (1 ≤ workers) × (workers ≤ MOST_OF_EACH) × (1 ≤ sessions) × (sessions ≤ MOST_OF_EACH) × (1 ≤ studies)
+    × (studies ≤ MOST_OF_EACH)
 IsSizedJob (Ask socket) = ⊤
 IsSizedJob (Migrate from to) = ⊤
 IsSizedJob (Share index shares file piece workers progress) =
-    (1 ≤ index) × (index ≤ shares) × (shares ≤ SHARES_MOST) × (1 ≤ piece) × (piece ≤ PIECE_MOST) × (1 ≤ workers)
-    × (workers ≤ 64)
+    (1 ≤ index) × (index ≤ shares) × (shares ≤ MOST_SHARES) × (1 ≤ piece) × (piece ≤ LARGEST_PIECE) × (1 ≤ workers)
+    × (workers ≤ MOST_WORKERS)
 IsSizedJob (Join to from which) = ⊤

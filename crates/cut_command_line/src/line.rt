@@ -1,11 +1,12 @@
 ghost use Rattle.std.specs.Prelude.{◌≡◌, ℕ, [], codes, false, map, IfOk, IfErr, IfSome, IfNone};
 ghost use Rattle.clap.specs.Words.{app_of, fault_of, found_of, rows_of, rule_of, subcommand_rows_of, with_subcommand};
-ghost use Rattle.cut_command_line.specs.Line.{count_rule, flag_rule, option_rule, piece_rule, word_rule, workers_rule};
+ghost use Rattle.cut_command_line.specs.Line.{flag_rule, option_rule, word_rule};
+ghost use Rattle.cut_command_line.specs.inside.Line.{count_rule, piece_rule, workers_rule};
 ghost use Rattle.cut_command_line.specs.inside.Line.{ask_app, canonical_app, check_app, explain_app};
 ghost use Rattle.cut_command_line.specs.Line.{program_app};
 ghost use Rattle.cut_command_line.specs.inside.Line.{migrate_app, run_app, serve_app, status_app};
-ghost use Rattle.cut_command_line.specs.Line.{EndsLine, GivesFlag, GivesNumber, IsJobOf, IsSizedJob};
-ghost use Rattle.cut_command_line.specs.inside.Line.{GivesJob};
+ghost use Rattle.cut_command_line.specs.Line.{EndsLine, GivesFlag, GivesNumber, IsSizedJob};
+ghost use Rattle.cut_command_line.specs.inside.Line.{GivesJob, IsJobOf};
 ghost use Rattle.cut_command_line.specs.Line.{NamesJob, status_of_kind};
 ghost use Rattle.cut_command_line.specs.declared.line.Job.{Job};
 
@@ -16,10 +17,10 @@ use std::alloc::{AllocError, Global};
 use std::convert::AsStr;
 
 /// How many trials a piece of a study has at most.
-pub(crate) const PIECE_MOST: u32 = 1_000_000;
+pub(crate) const LARGEST_PIECE: u32 = 1_000_000;
 
 /// How many workers a study has at most.
-pub(crate) const WORKERS_MOST: u32 = 64;
+pub(crate) const MOST_WORKERS: u32 = 64;
 
 /// What `--version` prints after the program's name: its version, and that of the kit that it is proved with.
 const VERSION: &str = "0.9.0 (proved with rattle-kit-13f)";
@@ -55,7 +56,7 @@ pub(crate) const PROGRESS_HELP: &str =
 const SOCKET_HELP: &str = "The path of the server's socket";
 
 /// How many workers, sessions and studies a server has at most, of each.
-const COUNT_MOST: u32 = 64;
+const MOST_OF_EACH: u32 = 64;
 
 /// A command of the program, with its values.
 #[derive(Debug, Drop, PartialEq, Eq)]
@@ -203,8 +204,8 @@ fn run_job<'a>(given: &ArgMatches<'a>) -> Option<Job<'a>>
     ensures gives { GivesJob (codes "run") (rows_of (found_of given.now)) result }
     ensures sized { IfSome result (λ job. IsSizedJob job) }
 {
-    let piece = number_given(given, "piece", PIECE_MOST)?;
-    let workers = number_given(given, "workers", WORKERS_MOST)?;
+    let piece = number_given(given, "piece", LARGEST_PIECE)?;
+    let workers = number_given(given, "workers", MOST_WORKERS)?;
     Some(Job::Run {
         piece,
         workers,
@@ -228,9 +229,9 @@ fn serve_job<'a>(given: &ArgMatches<'a>) -> Option<Job<'a>>
     ensures sized { IfSome result (λ job. IsSizedJob job) }
 {
     let socket = given.get_str("socket")?;
-    let workers = number_given(given, "workers", COUNT_MOST)?;
-    let sessions = number_given(given, "sessions", COUNT_MOST)?;
-    let studies = number_given(given, "studies", COUNT_MOST)?;
+    let workers = number_given(given, "workers", MOST_OF_EACH)?;
+    let sessions = number_given(given, "sessions", MOST_OF_EACH)?;
+    let studies = number_given(given, "studies", MOST_OF_EACH)?;
     Some(Job::Serve {
         socket,
         workers,

@@ -9,17 +9,17 @@ ghost use Rattle.cut_command_line.specs.inside.Line.{GivesJob};
 
 use crate::Job;
 use crate::line::{
-    PIECE_MOST, PROGRESS_HELP, WORKERS_MOST, flag, flag_given, needed_word, number_given,
+    LARGEST_PIECE, MOST_WORKERS, PROGRESS_HELP, flag, flag_given, needed_word, number_given,
     piece_option, workers_option,
 };
 use clap::{Arg, ArgMatches, Command};
 use std::alloc::{AllocError, Global};
 
 /// How many shares there are at most.
-const SHARES_MOST: u32 = 100_000;
+const MOST_SHARES: u32 = 100_000;
 
 /// How many checkpoints are joined at most.
-const CHECKPOINTS_MOST: usize = 1_000;
+const MOST_CHECKPOINTS: usize = 1_000;
 
 /// What is wrong with a word that is no share.
 pub(crate) const WRONG_SHARE: &str =
@@ -45,8 +45,8 @@ pub(crate) fn share_job<'a>(given: &ArgMatches<'a>) -> Option<Job<'a>>
 {
     let share = share_given(given)?;
     let file = given.get_str("file")?;
-    let piece = number_given(given, "piece", PIECE_MOST)?;
-    let workers = number_given(given, "workers", WORKERS_MOST)?;
+    let piece = number_given(given, "piece", LARGEST_PIECE)?;
+    let workers = number_given(given, "workers", MOST_WORKERS)?;
     Some(Job::Share {
         index: share.index,
         shares: share.shares,
@@ -87,8 +87,8 @@ fn share_given(given: &ArgMatches) -> Option<ShareNumber>
 {
     let text = given.get_str("share")?;
     let (first, second) = text.split_once('/')?;
-    let index = number_in(first, SHARES_MOST)?;
-    let shares = number_in(second, SHARES_MOST)?;
+    let index = number_in(first, MOST_SHARES)?;
+    let shares = number_in(second, MOST_SHARES)?;
     if index > shares {
         return None;
     }
@@ -162,7 +162,7 @@ fn files_word<'a>(alloc: Global) -> Arg<'a>
     ensures local { result.global ≡ false }
 {
     Arg::new(alloc, "old")
-        .num_args(1..=CHECKPOINTS_MOST)
+        .num_args(1..=MOST_CHECKPOINTS)
         .value_name("OLD")
         .required(true)
         .help("The checkpoints that are joined, at most 1000, which are only read")

@@ -6,8 +6,8 @@ use Rattle.std.specs.Bool.{⊤}
 use Rattle.std.proofs.lemmas.Bool.Decides.{nat_tests}
 use Rattle.cut_wires.specs.Log.{WireLog, wrote, write_failed}
 use Rattle.cut_wires.proofs.Logs.{wrote_twice}
-use Rattle.cut_messages.specs.declared.ask_fault.AskFault.{AskFault}
-use Rattle.cut_messages.specs.declared.ask_fault.AskFault.TheVariants as ask
+use Rattle.cut_messages.specs.declared.fault.AskFault.{AskFault}
+use Rattle.cut_messages.specs.declared.fault.AskFault.TheVariants as ask
 use Rattle.cut_messages.specs.Asking.{Asks, lines_of}
 use Rattle.cut_commands.specs.Ask.{AsksFor, ConveysPartly, EndsAsk, HasConveyed}
 use Rattle.cut_commands.specs.Run.{GivesText, read_on}

@@ -8,7 +8,8 @@ use Rattle.cut_commands.specs.Explain.{Explains, IsExplanation}
 use Rattle.cut_commands.specs.Run.{EndsWith, GivesText, IsWritten, read_on}
 use Rattle.cut_commands.specs.declared.fault.CliFault.{CliFault}
 use Rattle.cut_commands.specs.declared.fault.CliFault.TheVariants.{Memory, Plan, Read, Write}
-use Rattle.cut_commands.proofs.Logs.{read_none, wrote_none}
+use Rattle.cut_commands.proofs.Logs.{read_none}
+use Rattle.cut_wires.proofs.Logs.{wrote_none}
 
 -- no text was read
 pub ends_unread_text : (fault : CliFault) (old new : WireLog) → GivesText 65537 (Err fault) old new

@@ -5,7 +5,4 @@ pub mod StudyLemmas
 pub mod MigrateLemmas
 pub mod ExplainLemmas
 pub mod StatusLemmas
-pub mod SlipFiles
-pub mod StatusBytes
 pub mod AskLemmas
-pub mod Replied

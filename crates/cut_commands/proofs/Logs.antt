@@ -3,7 +3,7 @@ use Rattle.std.proofs.Common.{◌≡◌, ◌∙◌, ◌++◌, ℕ, Bool, true, f
 use Rattle.std.proofs.Common.{sym, ap, append_assoc, append-nil}
 use Rattle.std.specs.Prelude.{if◌then◌else◌}
 use Rattle.cut_faults.specs.Failures.{one_more}
-use Rattle.cut_wires.specs.Log.{Traffic, Failed, WireLog, wrote, gave}
+use Rattle.cut_wires.specs.Log.{Traffic, Failed, WireLog, gave}
 use Rattle.cut_commands.specs.Run.{read_on}
 
 abbrev logged : Option Traffic → Failed → WireLog
@@ -11,13 +11,6 @@ logged traffic failed = record { traffic = traffic; failed = failed }
 
 abbrev passed : List ℕ → List ℕ → ℕ → Traffic
 passed taken given ends = record { taken = taken; given = given; ends = ends }
-
-pub wrote_none : (l : WireLog) → wrote l [] ≡ l
-wrote_none l = by l.traffic
-  where
-    by : (o : Option Traffic) → wrote (logged o l.failed) [] ≡ logged o l.failed
-    by None = refl
-    by (Some t) = ap (λ (taken : List ℕ). logged (Some (passed taken t.given t.ends)) l.failed) (append-nil t.taken)
 
 -- nothing was read yet
 pub read_none : (l : WireLog) → l ≡ read_on [] false l

@@ -13,7 +13,7 @@ use Rattle.cut_commands.specs.Task.{Task}
 use Rattle.cut_commands.specs.declared.fault.CliFault.{CliFault}
 use Rattle.cut_commands.specs.declared.fault.CliFault.TheVariants.{Memory, Plan, Read, Write, Journal, BadSlip, Migrate}
 use Rattle.cut_commands.specs.declared.fault.CliFault.TheVariants.{Checkpoint, WorkMemory, AuditMismatch}
-use Rattle.cut_commands.proofs.Logs.{wrote_none}
+use Rattle.cut_wires.proofs.Logs.{wrote_none}
 
 -- ---- working on a plan
 

@@ -7,6 +7,7 @@ use Rattle.cut_status.specs.declared.fault.StatusFault.{StatusFault}
 use Rattle.cut_status.specs.declared.fault.StatusFault.TheVariants as status
 use Rattle.cut_status.specs.Status.{status_text}
 use Rattle.cut_status.specs.Study.{IsFileFault, IsStatusFault}
+use Rattle.cut_status.proofs.Printing.{printed_over}
 use Rattle.cut_wires.specs.Log.{WireLog}
 use Rattle.cut_commands.specs.Faults.{fault_of_status}
 use Rattle.cut_commands.specs.Run.{IsWritten}
@@ -47,7 +48,8 @@ ends_over bytes old new result is = elim is [
         its.slips,
         reads_back its.plan its.study.plan,
         its.good,
-        subst (λ (whole : List ℕ). IsWritten whole result old new) (text.1.1 ∙ ap status_text its.is) some.1.1,
+        subst (λ (whole : List ℕ). IsWritten whole result old new) (text.1.1 ∙ ap status_text its.is
+            ∙ printed_over its.plan its.slips) some.1.1,
       ))
   | inr none ↦ inr (none.0, none_of bytes none.0 none.1.0, none.1.1, none.1.2)
 ]

@@ -1,5 +1,5 @@
 -- What a study leaves, by what is known of its disk.
-use Rattle.std.proofs.Common.{◌≡◌, ◌∙◌, ◌-◌, ℕ, List, [], ◌∷◌, Option, Some, None, Ok, Err, true, false, is_some}
+use Rattle.std.proofs.Common.{◌≡◌, ◌∙◌, ℕ, List, [], Option, Some, None, Ok, Err, true, false, is_some}
 use Rattle.std.proofs.Common.{length, take, refl, ap, sym, subst, arith, inl, inr}
 use Rattle.cut_plan.specs.Accepted.{plan_of}
 use Rattle.cut_plan.specs.Plan.{IsPlan}
@@ -7,9 +7,10 @@ use Rattle.cut_plan.specs.Values.{Values}
 use Rattle.cut_disks.specs.State.{DiskState}
 use Rattle.cut_ledger.specs.declared.slip.Slip.{Slip}
 use Rattle.cut_ledger.specs.Laws.{TrueSlipsAreGood, TrueSlipsGiveTheTable, NoSlipsAreTrue}
-use Rattle.cut_ledger.specs.Machine.{table_over}
-use Rattle.cut_ledger.specs.Slips.{AreGood, IsFirstBad}
+use Rattle.cut_ledger.specs.Table.{table_over}
+use Rattle.cut_ledger.specs.Slips.{AreGood}
 use Rattle.cut_ledger.specs.World.{AreTrue}
+use Rattle.cut_ledger.proofs.SlipLemmas.{none_bad}
 use Rattle.cut_wires.specs.Log.{WireLog}
 use Rattle.cut_study.specs.Running.{HasEnded, Takes}
 use Rattle.cut_study.specs.declared.run_fault.RunFault.{RunFault}
@@ -23,16 +24,10 @@ use Rattle.cut_commands.specs.Run.{IsPrefix, LeavesStudy}
 use Rattle.cut_commands.specs.inside.Run.{IsNotOpened}
 use Rattle.cut_commands.specs.Study.{BeginsWith, IsTrueStore, StudyWrites, StudyFails, StoreFails, study_task}
 use Rattle.cut_commands.specs.Study.{table_task, file_task}
-use Rattle.cut_commands.proofs.Logs.{wrote_none}
+use Rattle.cut_wires.proofs.Logs.{wrote_none}
 use Rattle.cut_commands.proofs.RunLemmas.{Weakens, leaves_nothing}
 
 -- slips that are good have no bad one
-none_bad : (v : Values) (slips : List Slip) (n : ℕ) → AreGood v slips → IsFirstBad v slips n → ⊥
-none_bad v [] n good first = omega (arith, first.numbered, first.within)
-none_bad v (s ∷ ss) n good first =
-    first.bad s (good (n - 1) s (omega (arith, first.numbered, first.within))
-    (omega (arith, first.numbered, first.within)))
-
 module _ {D : Type 0} (is_honest : D → Type 0) (state : D → DiskState) where
   -- ---- what a study leaves
 

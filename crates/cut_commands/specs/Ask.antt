@@ -4,8 +4,8 @@ use Rattle.cut_commands.specs.declared.input.TheConstants.{TEXT_LIMIT}
 use Rattle.cut_plan.specs.declared.limits.TheConstants.{LONGEST_TEXT}
 use Rattle.cut_wires.specs.Log.{WireLog, wrote, write_failed}
 use Rattle.cut_messages.specs.Asking.{Asks}
-use Rattle.cut_messages.specs.declared.ask_fault.AskFault.{AskFault}
-use Rattle.cut_messages.specs.declared.ask_fault.AskFault.TheVariants as ask
+use Rattle.cut_messages.specs.declared.fault.AskFault.{AskFault}
+use Rattle.cut_messages.specs.declared.fault.AskFault.TheVariants as ask
 use Rattle.cut_commands.specs.Run.{GivesText, read_on}
 use Rattle.cut_commands.specs.declared.fault.CliFault.{CliFault}
 use Rattle.cut_commands.specs.declared.fault.CliFault.TheVariants.{Socket, Asked}

@@ -7,5 +7,4 @@ pub mod Ask
 pub mod Migrate
 pub mod Status
 pub mod Explain
-pub mod Laws
 pub mod inside

@@ -6,7 +6,7 @@ use Rattle.cut_ledger.specs.declared.slip.Slip.{Slip}
 use Rattle.cut_ledger.specs.Slips.{AreGood, IsFirstBad}
 use Rattle.cut_status.specs.declared.fault.StatusFault.{StatusFault}
 use Rattle.cut_status.specs.declared.fault.StatusFault.TheVariants.{BadSlip}
-use Rattle.cut_status.specs.Status.{StatusValue, status_over, status_text}
+use Rattle.cut_status.specs.Status.{StatusValue, lines_over, status_text}
 use Rattle.cut_status.specs.Study.{IsStatusOf, IsStatusFault}
 use Rattle.cut_wires.specs.Log.{WireLog}
 use Rattle.cut_commands.specs.Faults.{fault_of_status}
@@ -32,10 +32,10 @@ MayHaveNone (BadSlip number) =
     (text : List ℕ) × (v : Values) × (slips : List Slip) × (plan_of text ≡ Ok v) × IsFirstBad v slips number
 MayHaveNone fault = ⊤
 
--- how it ends: the status of good slips of the plan of some text was written, or as many of its first bytes as are reported when a
--- write failed; or the file has none, and nothing was written
+-- how it ends: the status of good slips of the plan of some text was written, or as many of its first bytes as are
+-- reported when a write failed; or the file has none, and nothing was written
 abbrev pub EndsStatus : WireLog → WireLog → Result ⊤ CliFault → Type 0
 EndsStatus old new result =
     ((text : List ℕ) × (v : Values) × (slips : List Slip) × (plan_of text ≡ Ok v) × AreGood v slips
-    × IsWritten (status_text (status_over v slips)) result old new)
+    × IsWritten (lines_over v slips) result old new)
     ⊎ ((fault : StatusFault) × MayHaveNone fault × (result ≡ Err (fault_of_status fault)) × (new ≡ old))

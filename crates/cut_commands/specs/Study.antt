@@ -5,7 +5,7 @@ use Rattle.cut_plan.specs.Plan.{IsPlan}
 use Rattle.cut_lines.specs.Lines.{table}
 use Rattle.cut_disks.specs.State.{DiskState}
 use Rattle.cut_ledger.specs.declared.slip.Slip.{Slip}
-use Rattle.cut_ledger.specs.Machine.{table_over}
+use Rattle.cut_ledger.specs.Table.{table_over}
 use Rattle.cut_ledger.specs.Slips.{AreGood, IsFirstBad}
 use Rattle.cut_ledger.specs.World.{AreTrue}
 use Rattle.cut_journal.specs.declared.fault.JournalFault.{JournalFault}

@@ -1,4 +1,3 @@
 -- How cut_commands keeps its values, and what its private functions promise: no contract of a public function cites it.
-pub mod Faults
 pub mod Run
 pub mod Study

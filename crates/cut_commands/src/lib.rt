@@ -18,7 +18,6 @@ mod checkpoint;
 mod explain;
 mod fault;
 mod input;
-pub mod laws;
 mod migrate;
 mod output;
 mod run;

@@ -17,7 +17,7 @@ reports_of rule E s = ring_count rule.k E s
 
 -- whether s is reported on at least L rings
 unfoldable pub is_reported : Rule → EdgeSet → ℕ → Bool
-is_reported rule E s = nat_le rule.l (reports_of rule E s)
+is_reported rule E s = nat_le rule.l (ring_count rule.k E s)
 
 -- whether s gains a ring: implicit alerts are on, and s and its observer on that ring are both
 -- reported on at least L rings
@@ -50,7 +50,9 @@ is_some_unstable r rule E = list_any (λ s. is_unstable r rule E s) (range_with_
 
 -- settled: some process is stable and none is unstable
 unfoldable pub is_settled : Layout → Rule → EdgeSet → Bool
-is_settled r rule E = is_some_stable r rule E && not (is_some_unstable r rule E)
+is_settled r rule E =
+    list_any (is_stable r rule E) (range_with_len 0 r.nodes)
+    && not (list_any (is_unstable r rule E) (range_with_len 0 r.nodes))
 
 -- the stable processes, ascending
 unfoldable pub stable_members : Layout → Rule → EdgeSet → List ℕ

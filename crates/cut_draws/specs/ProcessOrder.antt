@@ -13,7 +13,7 @@ process_place p = 2 * p
 -- how q and p compare: by their keys, and by their numbers where these tie
 abbrev pub compare_processes : Source → ℕ → ℕ → Ordering
 compare_processes d q p =
-    ordering_then (nat_cmp (key_at d (process_place q)) (key_at d (process_place p))) (nat_cmp q p)
+    ordering_then (nat_cmp (key_at d (2 * q)) (key_at d (2 * p))) (nat_cmp q p)
 
 -- the rank of p among the first n processes: how many of them compare as less
 abbrev pub process_rank : Source → ℕ → ℕ → ℕ

@@ -1,6 +1,7 @@
 -- The program's one list of faults: number, name and exit status (this project's profile).
-use Rattle.std.specs.Prelude.{ℕ, ◌==◌, ◌++◌, List, [], ◌∷◌, codes, Option, Some, None}
+use Rattle.std.specs.Prelude.{ℕ, ◌==◌, ◌++◌, List, [], ◌∷◌, codes, Option}
 use Rattle.std.specs.List.{find}
+use Rattle.std.specs.Option.{option_map_or}
 use Rattle.std.specs.Fmt.{decimal}
 use Rattle.cut_faults.specs.declared.code.FaultCode.{FaultCode}
 use Rattle.cut_faults.specs.declared.code.FaultCode.TheVariants.{Memory, NotJson, NotObject, UnknownField, MissingField}
@@ -90,23 +91,13 @@ all_codes = Memory ∷ NotJson ∷ NotObject ∷ UnknownField ∷ MissingField �
 abbrev pub code_numbered : ℕ → Option FaultCode
 code_numbered n = find (λ code. number_of code == n) all_codes
 
--- the name of a fault that was found, `Unknown` for none
-abbrev pub found_name : Option FaultCode → List ℕ
-found_name None = codes "Unknown"
-found_name (Some code) = name_of code
-
--- the name of the fault with a number
+-- the name of the fault with a number, `Unknown` where there is none
 abbrev pub name_numbered : ℕ → List ℕ
-name_numbered n = found_name (code_numbered n)
+name_numbered n = option_map_or name_of (code_numbered n) (codes "Unknown")
 
--- the status of a fault that was found, 4 for none
-abbrev pub found_status : Option FaultCode → ℕ
-found_status None = 4
-found_status (Some code) = status_of code
-
--- the status of the fault with a number
+-- the status of the fault with a number, 4 where there is none
 abbrev pub status_numbered : ℕ → ℕ
-status_numbered n = found_status (code_numbered n)
+status_numbered n = option_map_or status_of (code_numbered n) 4
 
 -- a number and a name as they are printed: the number in decimal, a blank, the name
 abbrev pub text_with : ℕ → List ℕ → List ℕ

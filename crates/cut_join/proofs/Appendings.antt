@@ -5,12 +5,8 @@ use Rattle.std.specs.Bool.{⊤}
 use Rattle.std.specs.Prelude.{IsSome, IsErrOf, Result, ◌↔◌}
 use Rattle.std.proofs.Math.Nat.{eq-zero-or-pos}
 use Rattle.std.proofs.lemmas.List.{get_or_default, take_more}
-use Rattle.cut_plan.specs.declared.version.Version.{Version}
-use Rattle.cut_plan.specs.declared.version.Version.TheVariants.{One, Two}
 use Rattle.cut_plan.specs.Values.{Values}
 use Rattle.cut_plan.specs.Versions.{version_of}
-use Rattle.cut_outcome.specs.declared.totals.Totals.{Totals}
-use Rattle.cut_outcome.specs.Possible.{IsSettledBy}
 use Rattle.cut_disks.specs.State.{DiskState}
 use Rattle.cut_ledger.specs.declared.slip.Slip.{Slip}
 use Rattle.cut_ledger.specs.Slips.{AreGood}
@@ -20,6 +16,7 @@ use Rattle.cut_journal.specs.File.{HoldsAllTotals}
 use Rattle.cut_journal.specs.Journal.{JournalValue, AppendsEach, IsFileOf, IsSlipAppendFault, LeavesAppend}
 use Rattle.cut_journal.specs.Journal.{disk_faults, kept_slips, taken}
 use Rattle.cut_journal.proofs.Series.{LeavesDoubt, each_then, none_of, nothing_appended}
+use Rattle.cut_journal.proofs.SlipBytes.{settled_holds}
 use Rattle.cut_join.specs.declared.fault.JoinFault.{JoinFault}
 use Rattle.cut_join.specs.declared.fault.JoinFault.TheVariants.{Memory, BadSlip, OtherPlan, Broken, Disk}
 use Rattle.cut_join.specs.Joined.{joined}
@@ -174,12 +171,6 @@ nothing_kept slips kept count n is =
     sym (append-nil kept) ∙ ap (λ k. kept ++ take k slips) (let none : 0 ≡ n = omega (arith, is) in none)
 
 -- ---- the join
-
--- slips of the plan hold all their totals in a file of it
-settled_holds : (version : Version) (n m : ℕ) (x : Totals) → IsSettledBy version n m x.settled
-    → HoldsAllTotals version x
-settled_holds One n m x is = is
-settled_holds Two n m x is = tt
 
 pub good_hold : (v w : Values) (slips : List Slip) → w ≡ v → AreGood v slips
     → All (λ (s : Slip). HoldsAllTotals (version_of w.failing) s.totals) slips

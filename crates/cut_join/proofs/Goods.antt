@@ -5,28 +5,27 @@ use Rattle.std.proofs.Common.{subst, arith, take-append-drop}
 use Rattle.std.proofs.Math.Seq.{drop-cons, take-suc}
 use Rattle.std.specs.List.Sorted.{IsNonDecreasingBy, IsPermutation}
 use Rattle.std.proofs.lemmas.Bool.{cases_Bool, cases_lt, or_cases}
-use Rattle.std.proofs.lemmas.List.{map-append, get_or-take, get_or_default, length-take, take_all}
-use Rattle.std.proofs.lemmas.List.Elements.{All-from_recursion, All-tail, All-take}
+use Rattle.std.proofs.lemmas.List.{get_or-take, get_or_default, length-take, take_all}
+use Rattle.std.proofs.lemmas.List.Elements.{All-tail}
 use Rattle.std.proofs.lemmas.List.Folds.{list_any_at, list_any_none}
 use Rattle.std.proofs.lemmas.List.Sorted.{All-permutation, IsPermutation-map, sum_by-IsPermutation}
 use Rattle.cut_lists.proofs.Intervals.{within_is, within_above}
-use Rattle.cut_lists.proofs.Parts.{count_first}
-use Rattle.cut_lists.proofs.Ranges.{list_any_none_passing, none_passing}
-use Rattle.cut_plan.specs.Cells.{IsCellOf, cells_of, trial_count}
+use Rattle.cut_lists.proofs.Ranges.{none_passing}
+use Rattle.cut_plan.specs.Cells.{trial_count}
 use Rattle.cut_plan.specs.Plan.{IsPlan}
 use Rattle.cut_plan.specs.Values.{Values}
-use Rattle.cut_plan.proofs.CellFacts.{every-cells}
 use Rattle.cut_outcome.specs.declared.piece.Piece.{Piece}
-use Rattle.cut_outcome.specs.Outcome.{cell_at, no_cell, one_if}
+use Rattle.cut_outcome.specs.Outcome.{cell_at, one_if}
 use Rattle.cut_outcome.specs.Possible.{ArePossible}
 use Rattle.cut_outcome.specs.Sum.{is_piece}
 use Rattle.cut_outcome.proofs.Sum.{few_in}
 use Rattle.cut_ledger.specs.declared.slip.Slip.{Slip}
-use Rattle.cut_ledger.specs.Contents.{has, is_in, is_in_base, over_base}
+use Rattle.cut_ledger.specs.Contents.{is_in, is_in_base}
 use Rattle.cut_ledger.specs.Slips.{AreGood, IsGood}
 use Rattle.cut_ledger.specs.World.{pieces_of_slips, times_in}
-use Rattle.cut_ledger.proofs.CellLemmas.{in_piece, piece_facts}
-use Rattle.cut_ledger.proofs.Law.{held_within, piece_within, times-append, times_once, times_push}
+use Rattle.cut_ledger.proofs.CellLemmas.{few_rings, in_piece, piece_facts}
+use Rattle.cut_ledger.proofs.Law.{piece_within, times_more, times_once}
+use Rattle.cut_ledger.proofs.TrueSlips.{apart_good}
 use Rattle.cut_join.specs.inside.Merging.{AreAscending, IsSmall}
 use Rattle.cut_join.proofs.Merges.{ComesAfter}
 use Rattle.cut_join.proofs.Chains.{not_both}
@@ -51,20 +50,12 @@ base_within v (s ∷ ss) t each here = elim (or_cases (is_in s.piece t) (is_in_b
   | inr later ↦ base_within v ss t (All-tail (IsSound v) s ss each) later
 ]
 
--- what one slip more does to how often a trial is in them
-times_more : (ss : List Slip) (x : Slip) (t : ℕ) → times_in (pieces_of_slips (ss ++ x ∷ [])) t
-    ≡ times_in (pieces_of_slips ss) t + one_if (is_in x.piece t)
-times_more ss x t =
-    ap (λ ps. times_in ps t) (map-append (λ (s : Slip). s.piece) ss (x ∷ []))
-    ∙ times_push (pieces_of_slips ss) x.piece t
-
 -- a good slip has no trial of those before it
-good_apart : (v : Values) (ss : List Slip) (x : Slip) (t : ℕ) → All (IsSound v) ss → IsGood v ss x
-    → is_in x.piece t ≡ true → is_in_base ss t ≡ false
-good_apart v ss x t each good here =
+good_apart : (v : Values) (ss : List Slip) (x : Slip) (t : ℕ) → IsGood v ss x → is_in x.piece t ≡ true
+    → is_in_base ss t ≡ false
+good_apart v ss x t good here =
     let at = in_piece x.piece t here in
-    sym (held_within v (is_in_base ss) t (base_within v ss t each))
-    ∙ none_passing (has (over_base v ss)) x.piece.first x.piece.count t good.apart at.0 at.1
+    none_passing (is_in_base ss) x.piece.first x.piece.count t good.apart at.0 at.1
 
 good_each : (v : Values) (ss : List Slip) → AreGood v ss → All (IsSound v) ss
 good_each v ss good k d low =
@@ -81,12 +72,11 @@ first_apart v (s ∷ ss) (suc n) t good le =
     let more : times_in (pieces_of_slips (take (suc n) (s ∷ ss))) t
     ≡ times_in (pieces_of_slips pre) t + one_if (is_in x.piece t) =
     ap (λ xs. times_in (pieces_of_slips xs) t) (take-suc (s ∷ ss) n s (omega (arith, le))) ∙ times_more pre x t in
-    let sound = All-take (IsSound v) n (s ∷ ss) (good_each v (s ∷ ss) good) in
     elim (cases_Bool (is_in x.piece t)) [
       | inl here ↦
           (let one : one_if (is_in x.piece t) ≡ 1 = ap one_if here in
           let none : times_in (pieces_of_slips pre) t ≡ 0 = times_once pre t before
-          ∙ ap one_if (good_apart v pre x t sound (good n s (omega (arith, le)) (omega (arith, le))) here) in
+          ∙ ap one_if (good_apart v pre x t (good n s (omega (arith, le)) (omega (arith, le))) here) in
           omega (arith, more, one, none))
       | inr out ↦ (let none : one_if (is_in x.piece t) ≡ 0 = ap one_if out in omega (arith, more, none, before))
     ]
@@ -98,33 +88,12 @@ good_sound v ss good = record {
       (first_apart v ss (length ss) t good (omega arith));
 }
 
-good_after : (v : Values) (pre post : List Slip) (s : Slip) → IsSound v s → All (IsSound v) pre
-    → ((t : ℕ) → times_in (pieces_of_slips (pre ++ s ∷ post)) t ≤ 1) → IsGood v pre s
-good_after v pre post s is each apart =
-    let split : (t : ℕ) → times_in (pieces_of_slips (pre ++ s ∷ post)) t ≡ times_in (pieces_of_slips pre) t
-    + (cond (is_in s.piece t) 1 0 + times_in (pieces_of_slips post) t) = λ t.
-    ap (λ ps. times_in ps t) (map-append (λ (q : Slip). q.piece) pre (s ∷ post))
-    ∙ times-append (pieces_of_slips pre) (pieces_of_slips (s ∷ post)) t
-    ∙ ap (λ n. times_in (pieces_of_slips pre) t + n) (count_first (λ p. is_in p t) s.piece (pieces_of_slips post)) in
-    record {
-      piece = is.piece;
-      apart = list_any_none_passing (has (over_base v pre)) s.piece.first s.piece.count (λ t low high held.
-          (let here : cond {A = ℕ} (is_in s.piece t) 1 0
-          ≡ 1 = ap (λ b. cond {A = ℕ} b 1 0) (within_is s.piece.first (s.piece.first + s.piece.count) t low high) in
-          let before : is_in_base pre t ≡ true = sym (held_within v (is_in_base pre) t (base_within v pre t each))
-          ∙ held in
-          let once : times_in (pieces_of_slips pre) t ≡ 1 = times_once pre t (omega (arith, split t, apart t))
-          ∙ ap (λ b. one_if b) before in
-          omega (arith, split t, apart t, here, once)));
-      possible = is.possible;
-    }
-
 pub sound_good : (v : Values) (ss : List Slip) → AreSound v ss → AreGood v ss
 sound_good v ss sound = λ i d low within.
     (let whole : take i ss ++ get_or ss i d ∷ drop (suc i) ss
     ≡ ss = ap (λ xs. take i ss ++ xs) (sym (drop-cons ss i d within)) ∙ take-append-drop i ss in
-    good_after v (take i ss) (drop (suc i) ss) (get_or ss i d) (sound.each i d within)
-    (All-take (IsSound v) i ss sound.each)
+    let is = sound.each i d within in
+    apart_good v (take i ss) (drop (suc i) ss) (get_or ss i d) is.piece is.possible
     (λ t. subst (λ (xs : List Slip). times_in (pieces_of_slips xs) t ≤ 1) (sym whole) (sound.apart t)))
 
 -- ---- the same slips in another order
@@ -139,15 +108,6 @@ sound_moved v ss xs moved sound = record {
 }
 
 -- ---- slips that ascend
-
-few_rings : (v : Values) (s : Slip) → IsPlan v → IsTrue (is_piece v s.piece) → (cell_at v s.piece.first).k ≤ 32
-few_rings v s plan piece =
-    let facts = piece_facts v s.piece plan piece in
-    let cell = All-from_recursion (IsCellOf v) (cells_of v) (every-cells v plan) (s.piece.first / v.repeats)
-    no_cell facts.cell in
-    let most = cell.most_rings in
-    let rings = plan.most_rings in
-    omega (arith, most, rings)
 
 pub sound_small : (v : Values) (s : Slip) → IsPlan v → IsSound v s → IsSmall v s
 sound_small v s plan sound = record {
@@ -177,7 +137,7 @@ sound_ascend v ss plan good sorted = record {
             x.piece.first first meet in
             absurd (not_both (list_any_at (λ (s : Slip). is_in s.piece x.piece.first) pre i d
             (omega (arith, less, length-take j ss, within)) here)
-            (good_apart v pre x x.piece.first (All-take (IsSound v) j ss sound) (good j d within within) own)))
+            (good_apart v pre x x.piece.first (good j d within within) own)))
         | inr apart ↦ apart
       ];
 }

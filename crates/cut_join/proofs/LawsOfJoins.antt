@@ -1,9 +1,9 @@
 -- Joined slips have the same trials and the same sums of each cell, are good or true as the slips are, and are apart.
-use Rattle.std.proofs.Common.{◌≡◌, ◌∙◌, ℕ, zero, suc, ◌+◌, ◌/◌, ◌<◌, ◌≤◌, ◌==◌, ◌&&◌, inl, inr, Bool, true, false}
+use Rattle.std.proofs.Common.{◌≡◌, ◌∙◌, ℕ, zero, suc, ◌+◌, ◌/◌, ◌<◌, ◌≤◌, ◌==◌, inl, inr, Bool, true, false}
 use Rattle.std.proofs.Common.{not, IsTrue, List, [], ◌∷◌, ◌++◌, All, map, filter, length, cond, get_or, refl, sym, ap}
 use Rattle.std.proofs.Common.{subst}
 use Rattle.std.proofs.Common.{arith, zero-add}
-use Rattle.std.specs.List.{AllByRecursion, flat_map, sum_by}
+use Rattle.std.specs.List.{AllByRecursion, flat_map, range_with_len, sum_by}
 use Rattle.std.proofs.lemmas.Bool.{cases_Bool}
 use Rattle.std.proofs.lemmas.Nat.{div_below}
 use Rattle.std.proofs.lemmas.List.Elements.{All-from_recursion, All-head, All-map, All-tail}
@@ -21,9 +21,9 @@ use Rattle.cut_outcome.specs.Outcome.{one_if}
 use Rattle.cut_outcome.specs.Sum.{each_number, is_piece, plus, sum_of, trials_of_cell}
 use Rattle.cut_lines.specs.Lines.{header, line_with, table}
 use Rattle.cut_ledger.specs.declared.slip.Slip.{Slip}
-use Rattle.cut_ledger.specs.Contents.{cell_sum, filled, has, is_in, is_in_base, slip_sum, slips_of_cell}
+use Rattle.cut_ledger.specs.Contents.{is_in, is_in_base, slip_sum, slips_of_cell}
 use Rattle.cut_ledger.specs.Laws.{TrueSlipsAreGood, TrueSlipsGiveTheTable}
-use Rattle.cut_ledger.specs.Machine.{cells_done, table_over}
+use Rattle.cut_ledger.specs.Table.{full_sum, table_over}
 use Rattle.cut_ledger.specs.Slips.{AreGood}
 use Rattle.cut_ledger.specs.World.{AreTrue, IsTrueSlip, pieces_of_slips, times_in}
 use Rattle.cut_ledger.proofs.CellLemmas.{cell_is, in_piece, piece_facts}
@@ -318,17 +318,15 @@ cell_slips v ss c plan sound =
     ∙ ap (λ (g : (Totals → ℕ) → ℕ). each_number g) (λ i n. mapped n i)
     ∙ ap (λ (g : (Totals → ℕ) → ℕ). each_number g) (λ i n. runs n i)
 
--- and so do the sums of each cell, whatever else is held
+-- and so do the sums of each cell
 cell_sums : (v : Values) (ss : List Slip) (c : ℕ) → IsPlan v → AreSound v ss
-    → cell_sum (filled v (joined v ss)) c ≡ cell_sum (filled v ss) c
+    → full_sum v (joined v ss) c ≡ full_sum v ss c
 cell_sums v ss c plan sound =
-    let held : ℕ → Bool = has (filled v ss) in
     let trials : (t : ℕ) → is_in_base (joined v ss) t ≡ is_in_base ss t = same_trials v ss sound in
-    ap (λ (x : Totals). plus x
-    (sum_of v (filter (λ t. held t && not (is_in_base (joined v ss) t)) (trials_of_cell v c))))
+    ap (λ (x : Totals). plus x (sum_of v (filter (λ t. not (is_in_base (joined v ss) t)) (trials_of_cell v c))))
     (cell_slips v ss c plan sound)
     ∙ ap (λ (test : ℕ → Bool). plus (slip_sum (slips_of_cell v ss c))
-    (sum_of v (filter (λ t. held t && not (test t)) (trials_of_cell v c)))) (λ i t. trials t i)
+    (sum_of v (filter (λ t. not (test t)) (trials_of_cell v c)))) (λ i t. trials t i)
 
 -- ---- the table
 
@@ -337,7 +335,8 @@ pub joined_table : (v : Values) (ss : List Slip) → IsPlan v → AreGood v ss
 joined_table v ss plan good =
     let sound = good_sound v ss good in
     ap (λ (sums : ℕ → Totals). header (version_of v.failing)
-    ++ flat_map (λ c. line_with v c (sums c)) (cells_done (filled v ss))) (λ i c. cell_sums v ss c plan sound i)
+    ++ flat_map (λ c. line_with v c (sums c)) (range_with_len 0 (length (cells_of v))))
+    (λ i c. cell_sums v ss c plan sound i)
 
 pub joined_whole_table : TrueSlipsAreGood → TrueSlipsGiveTheTable → (v : Values) (ss : List Slip) → IsPlan v
     → AreTrue v ss → table_over v (joined v ss) ≡ table v

@@ -5,7 +5,7 @@ use Rattle.cut_plan.specs.Values.{Values}
 use Rattle.cut_lines.specs.Lines.{table}
 use Rattle.cut_ledger.specs.declared.slip.Slip.{Slip}
 use Rattle.cut_ledger.specs.Contents.{is_in_base}
-use Rattle.cut_ledger.specs.Machine.{table_over}
+use Rattle.cut_ledger.specs.Table.{table_over}
 use Rattle.cut_ledger.specs.Slips.{AreGood}
 use Rattle.cut_ledger.specs.World.{AreTrue}
 use Rattle.cut_join.specs.Joined.{joined}

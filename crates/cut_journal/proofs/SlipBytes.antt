@@ -15,6 +15,8 @@ use Rattle.cut_plan.specs.declared.version.Version.{Version}
 use Rattle.cut_plan.specs.declared.version.Version.TheVariants.{One, Two}
 use Rattle.cut_plan.specs.Versions.{version_of}
 use Rattle.cut_plan.specs.Values.{Values}
+use Rattle.cut_outcome.specs.declared.totals.Totals.{Totals}
+use Rattle.cut_outcome.specs.Possible.{IsSettledBy}
 use Rattle.cut_ledger.specs.declared.slip.Slip.{Slip}
 use Rattle.cut_journal.specs.File.{HoldsAllTotals, closed_gate, numbers_length, slip_length, numbers_of, number_bytes}
 use Rattle.cut_journal.specs.File.{body_of}
@@ -63,6 +65,12 @@ number_is version s tail i n low is fits =
     (flat_map (to_be_bytes w64) (numbers_of version s) ++ tail)))) size
     ∙ ap (from_be_bytes w64) (at_number (numbers_of version s) tail i low ∙ ap (to_be_bytes w64) is)
     ∙ from_be_bytes-to_be_bytes_8 n fits
+
+-- possible totals are all kept in a slip of the plan's version
+pub settled_holds : (version : Version) (n m : ℕ) (x : Totals) → IsSettledBy version n m x.settled
+    → HoldsAllTotals version x
+settled_holds One n m x is = is
+settled_holds Two n m x is = tt
 
 settled_is : (version : Version) (s : Slip) (tail : List ℕ) → HasNumbers s → HoldsAllTotals version s.totals
     → settled_at version (number_bytes version s ++ tail) ≡ s.totals.settled

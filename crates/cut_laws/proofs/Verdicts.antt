@@ -9,8 +9,8 @@ use Rattle.cut_laws.proofs.Words.{is_target, judged, lacks_target, one_if, outco
 use Rattle.cut_laws.proofs.Words.{proposed_at, quorum_of, range_with_len, receivers_of, rings_of, roles_at, rule_at}
 use Rattle.cut_laws.proofs.Words.{same_members, source_of, stable_members, targets_of, votes_of, ◌==◌, ◌||◌}
 use Rattle.std.specs.Cmp.Lexicographic.{same_text}
-use Rattle.cut_alerts.specs.Assignment.{is_crashed_role, is_deaf_role}
-use Rattle.cut_alerts.specs.declared.role.Role.TheVariants.{Healthy}
+use Rattle.cut_alerts.specs.Assignment.{same_role}
+use Rattle.cut_alerts.specs.declared.role.Role.TheVariants.{Crashed, Deaf, Healthy}
 use Rattle.std.proofs.lemmas.Bool.{and_from, and_parts, both_ways, cases_Bool, cases_lt, eqb-true, eq-eqb}
 use Rattle.std.proofs.lemmas.Bool.{false_from_ne_true, lt-leb}
 use Rattle.std.proofs.lemmas.Cmp.{nat_list_eq_equiv}
@@ -125,7 +125,7 @@ module _ (a : Assignment) where
 pub target_below : (a : Assignment) (s : ℕ) → is_target a s ≡ true → s < length a.roles
 target_below a s target = elim (cases_lt s (length a.roles)) [
   | inl below ↦ below
-  | inr past ↦ absurd (both_ways _ (ap (λ role. is_crashed_role role || is_deaf_role role)
+  | inr past ↦ absurd (both_ways _ (ap (λ role. same_role Crashed role || same_role Deaf role)
       (get_or_past a.roles s Healthy past)) target)
 ]
 

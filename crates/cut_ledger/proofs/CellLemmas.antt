@@ -16,7 +16,10 @@ use Rattle.cut_lists.proofs.Ranges.{range_with_len_more}
 use Rattle.cut_lists.proofs.Additions.{PassesPart}
 use Rattle.cut_lists.proofs.Counts.{filter-none}
 use Rattle.cut_lists.proofs.Intervals.{within_is}
-use Rattle.cut_outcome.specs.Outcome.{outcome}
+use Rattle.std.proofs.lemmas.List.Elements.{All-from_recursion}
+use Rattle.cut_plan.specs.Cells.{IsCellOf}
+use Rattle.cut_plan.proofs.CellFacts.{every-cells}
+use Rattle.cut_outcome.specs.Outcome.{cell_at, no_cell, outcome}
 use Rattle.range_set.specs.Held as held
 use Rattle.cut_ledger.specs.inside.Kept.{span_of, sum_at}
 
@@ -49,6 +52,16 @@ piece_in_cell v p repeats piece =
 
 pub piece_facts : (v : Values) (p : Piece) → IsPlan v → IsTrue (is_piece v p) → PieceFacts v p (p.first / v.repeats)
 piece_facts v p plan piece = piece_in_cell v p plan.some_repeats piece
+
+-- its cell has 32 rings at most
+pub few_rings : (v : Values) (s : Slip) → IsPlan v → IsTrue (is_piece v s.piece) → (cell_at v s.piece.first).k ≤ 32
+few_rings v s plan piece =
+    let facts = piece_facts v s.piece plan piece in
+    let cell = All-from_recursion (IsCellOf v) (cells_of v) (every-cells v plan) (s.piece.first / v.repeats)
+    no_cell facts.cell in
+    let most = cell.most_rings in
+    let rings = plan.most_rings in
+    omega (arith, most, rings)
 
 pub in_piece : (p : Piece) (t : ℕ) → is_in p t ≡ true → (p.first ≤ t) × (t < p.first + p.count)
 in_piece p t e = grind (arith, nat_tests)

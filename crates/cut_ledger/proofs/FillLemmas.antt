@@ -17,18 +17,22 @@ use Rattle.cut_lists.proofs.Counts.{list_any-count_by}
 use Rattle.cut_lists.proofs.Intervals.{list_all_passing, map_agree, passes_at, within_is}
 use Rattle.cut_lists.proofs.Parts.{count_first}
 use Rattle.cut_lists.proofs.Ranges.{list_any_none_passing}
-use Rattle.cut_lines.specs.Lines.{table}
+use Rattle.cut_lists.proofs.Prefixes.{flat_map_prefix, whole_prefix}
+use Rattle.cut_plan.specs.Versions.{version_of}
+use Rattle.cut_lines.specs.Lines.{header, line_with, table}
 use Rattle.cut_ledger.specs.declared.slip.Slip.{Slip}
-use Rattle.cut_ledger.specs.Contents.{Contents, has, held_where, is_in, is_in_base, over_base, filled, with_piece}
-use Rattle.cut_ledger.specs.Contents.{overlaps, cell_done, is_complete}
+use Rattle.cut_ledger.specs.Contents.{Contents, has, held_where, is_in, is_in_base, over_base, with_piece}
+use Rattle.cut_ledger.specs.Contents.{overlaps, cell_done, cell_sum, is_complete}
 use Rattle.cut_ledger.specs.Gaps.{pieces_of}
 use Rattle.cut_ledger.specs.Laws.{with_pieces, AreFilling}
-use Rattle.cut_ledger.specs.Machine.{available, table_over}
+use Rattle.cut_ledger.specs.Machine.{available}
+use Rattle.cut_ledger.specs.Table.{full_sum, table_over}
 use Rattle.cut_ledger.specs.inside.Reached.{IsFounded}
 use Rattle.cut_ledger.specs.World.{AreTrue, times_in}
 use Rattle.range_set.specs.Laws.{SpansCover}
 use Rattle.cut_ledger.proofs.CoverLemmas.{pieces_cover}
 use Rattle.cut_ledger.proofs.CellLemmas.{held_at}
+use Rattle.cut_ledger.proofs.FullSums.{done_sum}
 use Rattle.cut_ledger.proofs.Law.{times-append}
 use Rattle.cut_ledger.proofs.LawBytes.{available_whole, in_plan}
 
@@ -43,7 +47,7 @@ count_passing free a (suc n) t =
     grind (arith, nat_tests, count_passing free (a + 1) n t)
 
 -- a trial is in the trials of pieces as often as it is in the pieces
-count_trials : (ps : List Piece) (t : ℕ) → count_by (λ x. x == t) (flat_map trials_in ps) ≡ times_in ps t
+pub count_trials : (ps : List Piece) (t : ℕ) → count_by (λ x. x == t) (flat_map trials_in ps) ≡ times_in ps t
 count_trials [] t = refl
 count_trials (p ∷ ps) t =
     let first = count_first (λ q. is_in q t) p ps in
@@ -139,13 +143,40 @@ filled_is v ss g all = map_agree g (λ t. true) 0 (trial_count v) (λ t from to.
     (let held = passes_at (has (record { plan = v; base = ss; held = held_where v g })) 0 (trial_count v) all t from to
     in grind (arith, nat_tests, held_at v g t)))
 
+-- where every trial is held every cell is done
+pub complete_is_done : (l : Contents) → is_complete l ≡ true → (c : ℕ) → c < length (cells_of l.plan) → cell_done l c
+    ≡ true
+complete_is_done l all c low = list_all_passing (has l) (c * l.plan.repeats) l.plan.repeats (λ t from to.
+    (let within = in_plan c (length (cells_of l.plan)) l.plan.repeats t low to in
+    passes_at (has l) 0 (trial_count l.plan) all t (omega arith) (omega (arith, within))))
+
+-- the ledger that holds every trial of a plan, over these slips
+abbrev filled : Values → List Slip → Contents
+filled v ss = record { plan = v; base = ss; held = held_where v (λ t. true) }
+
+all_held : (v : Values) (ss : List Slip) → is_complete (filled v ss) ≡ true
+all_held v ss = list_all_passing (has (filled v ss)) 0 (trial_count v)
+    (λ t from to. grind (arith, nat_tests, held_at v (λ k. true) t))
+
+-- of which the table over the slips can be written
+filled_table : (v : Values) (ss : List Slip) → available (filled v ss) ≡ table_over v ss
+filled_table v ss =
+    let l : Contents = filled v ss in
+    let n : ℕ = length (cells_of v) in
+    ap (λ ys. header (version_of v.failing) ++ ys)
+    (flat_map_prefix (λ c. line_with v c (cell_sum l c)) (λ c. line_with v c (full_sum v ss c)) (cell_done l)
+    (range_with_len 0 n) (λ c done. ap (λ x. line_with v c x) (done_sum l c done)))
+    ∙ ap (λ cs. header (version_of v.failing) ++ flat_map (λ c. line_with v c (full_sum v ss c)) cs)
+    (whole_prefix (cell_done l) (range_with_len 0 n)
+    (list_all_passing (cell_done l) 0 n (λ c from to. complete_is_done l (all_held v ss) c (omega (arith, to)))))
+
 pub filled_give : SpansCover → (v : Values) (ss : List Slip) (size : ℕ) → 1 ≤ size
     → available (with_pieces (over_base v ss) (pieces_of (over_base v ss) size)) ≡ table_over v ss
 filled_give cover v ss size some =
     let found = holds_some v ss (is_in_base ss) (pieces_of (over_base v ss) size) in
     let all = rw found.1 at (complete cover (over_base v ss) size some) in
     ap available found.1 ∙ ap (λ (held : List Bool). available (record { plan = v; base = ss; held = held }))
-    (filled_is v ss found.0 all)
+    (filled_is v ss found.0 all) ∙ filled_table v ss
 
 -- over true slips it is the table of the plan
 pub true_give : (v : Values) (ss : List Slip) → IsPlan v → AreTrue v ss → table_over v ss ≡ table v
@@ -158,12 +189,4 @@ true_give v ss plan are =
       within = λ t here. grind (arith, nat_tests, held t);
       base = are;
     } in
-    available_whole v l founded (list_all_passing (has l) 0 (trial_count v)
-    (λ t from to. grind (arith, nat_tests, held t)))
-
--- where every trial is held every cell is done
-pub complete_is_done : (l : Contents) → is_complete l ≡ true → (c : ℕ) → c < length (cells_of l.plan) → cell_done l c
-    ≡ true
-complete_is_done l all c low = list_all_passing (has l) (c * l.plan.repeats) l.plan.repeats (λ t from to.
-    (let within = in_plan c (length (cells_of l.plan)) l.plan.repeats t low to in
-    passes_at (has l) 0 (trial_count l.plan) all t (omega arith) (omega (arith, within))))
+    sym (filled_table v ss) ∙ available_whole v l founded (all_held v ss)

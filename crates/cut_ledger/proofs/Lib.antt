@@ -14,3 +14,4 @@ pub mod DivisionLemmas
 pub mod CoverLemmas
 pub mod PieceCounts
 pub mod FillLemmas
+pub mod FullSums

@@ -26,7 +26,7 @@ no_more_than_trials (p ∷ ps) some =
           p.count,
     )
 
-few_trials : (v : Values) → IsPlan v → trial_count v ≤ 4096 * 1000000
+pub few_trials : (v : Values) → IsPlan v → trial_count v ≤ 4096 * 1000000
 few_trials v plan = mul-le (length (cells_of v)) v.repeats 4096 1000000 plan.few_cells plan.few_repeats
 
 pub few_pieces : SpansCover → SpansWithin → (l : Contents) (size : _) → IsPlan l.plan → 1 ≤ size

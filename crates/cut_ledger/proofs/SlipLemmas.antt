@@ -1,52 +1,55 @@
 -- Good slips, and what is held where slips are.
-use Rattle.std.proofs.Common.{◌≡◌, ℕ, ◌+◌, ◌*◌, ◌/◌, ◌<◌, inl, inr, Bool, true, false, ◌||◌, List, [], ◌∷◌, ◌++◌}
+use Rattle.std.proofs.Common.{◌≡◌, ℕ, ◌+◌, ◌-◌, ◌*◌, ◌/◌, ◌<◌, inl, inr, Bool, true, false, ◌||◌, List, [], ◌∷◌, ◌++◌}
 use Rattle.std.proofs.Common.{length, take, get_or, sym, ap, ◌∙◌, subst, arith}
 use Rattle.std.proofs.lemmas.Bool.{cases_lt}
 use Rattle.std.proofs.lemmas.List.{ext_get_or, get_or_default}
 use Rattle.std.proofs.lemmas.List.FromFn.{length-map-range_with_len}
+use Rattle.cut_lists.proofs.Intervals.{within_is}
 use Rattle.cut_lists.proofs.Ranges.{list_any_agree}
 use Rattle.cut_outcome.specs.Outcome.{cell_at}
 use Rattle.range_set.specs.Held as held
-use Rattle.cut_ledger.proofs.Words.{AreGoodUpTo, AreOver, ArePossible, IsAdded, IsAtMost, IsGood, IsTrue}
-use Rattle.cut_ledger.proofs.Words.{Piece, Slip, Totals, Values, contents_in, has, is_in, is_in_base, is_piece}
+use Rattle.cut_ledger.proofs.Words.{AreGood, AreGoodUpTo, AreOver, ArePossible, IsAdded, IsAtMost, IsFirstBad}
+use Rattle.cut_ledger.proofs.Words.{IsGood, IsTrue, Piece, Slip, Totals, Values, contents_in, has, is_in, is_in_base, is_piece}
 use Rattle.cut_ledger.proofs.Words.{list_any, over_base, overlaps, trial_count, trials_in, ◌↔◌}
-use Rattle.cut_ledger.proofs.CellLemmas.{PieceFacts, piece_facts, has_where}
+use Rattle.cut_ledger.proofs.CellLemmas.{has_where}
+use Rattle.cut_ledger.proofs.Law.{piece_within}
 use Rattle.cut_ledger.proofs.AddLemmas.{Adding, added_is, slip_kept, in_base_more}
 
 -- ---- one slip
 
-pub overlaps_is : (v : Values) (earlier : List Slip) (trials : held.Held) (sums : List Totals) (p : Piece) (c : ℕ)
-    → AreOver v earlier trials sums → PieceFacts v p c → overlaps (over_base v earlier) p
+pub apart_is : (v : Values) (earlier : List Slip) (trials : held.Held) (sums : List Totals) (p : Piece)
+    → AreOver v earlier trials sums → list_any (is_in_base earlier) (trials_in p)
     ≡ list_any (held.has trials) (trials_in p)
-overlaps_is v earlier trials sums p c over facts =
-    list_any_agree (has (over_base v earlier)) (held.has trials) p.first p.count (record {
-      same = λ t a b.
-          (let end = facts.end in
-          has_where v earlier (is_in_base earlier) t (omega arith) ∙ sym (over.exactly t));
-    })
+apart_is v earlier trials sums p over =
+    list_any_agree (is_in_base earlier) (held.has trials) p.first p.count
+    (record { same = λ t a b. sym (over.exactly t) })
 
 pub good_is : (v : Values) (earlier : List Slip) (trials : held.Held) (sums : List Totals) (s : Slip) (possible : Bool)
     → AreOver v earlier trials sums → IsTrue (is_piece v s.piece) → list_any (held.has trials) (trials_in s.piece)
     ≡ false → (IsTrue possible ↔ ArePossible v (cell_at v s.piece.first) s.piece.count s.totals) → IsTrue possible
     ↔ IsGood v earlier s
-good_is v earlier trials sums s possible over piece apart reported =
-    let facts = piece_facts v s.piece over.kept.plan piece in (
-      λ e. record {
-        piece = piece;
-        apart = overlaps_is v earlier trials sums s.piece _ over facts
-            ∙ apart;
-        possible = reported.0 e;
-      },
-      λ good. reported.1 good.possible,
-    )
+good_is v earlier trials sums s possible over piece apart reported = (
+  λ e. record {
+    piece = piece;
+    apart = apart_is v earlier trials sums s.piece over ∙ apart;
+    possible = reported.0 e;
+  },
+  λ good. reported.1 good.possible,
+)
 
 pub not_good : (v : Values) (earlier : List Slip) (trials : held.Held) (sums : List Totals) (s : Slip)
     → AreOver v earlier trials sums → list_any (held.has trials) (trials_in s.piece) ≡ true → IsGood v earlier s → ⊥
 not_good v earlier trials sums s over meets good =
-    let facts = piece_facts v s.piece over.kept.plan good.piece in
-    let same = overlaps_is v earlier trials sums s.piece _ over facts in
+    let same = apart_is v earlier trials sums s.piece over in
     let apart = good.apart in
     cc
+
+-- of good slips none is the first that is not
+pub none_bad : (v : Values) (ss : List Slip) (n : ℕ) → AreGood v ss → IsFirstBad v ss n → ⊥
+none_bad v [] n good first = omega (arith, first.numbered, first.within)
+none_bad v (s ∷ ss) n good first =
+    let within : n - 1 < length (s ∷ ss) = omega (arith, first.numbered, first.within) in
+    first.bad s (good (n - 1) s within within)
 
 -- ---- one slip more
 
@@ -54,11 +57,10 @@ pub over_more : (v : Values) (slips : List Slip) (old new : held.Held) (olds new
     → AreOver v slips old olds → IsGood v slips s → IsAtMost (2048 * s.piece.count) s.totals
     → IsAdded old new olds news (s.piece.first / v.repeats) s.piece s.totals → AreOver v (slips ++ s ∷ []) new news
 over_more v slips old new olds news s over good few to =
-    let facts = piece_facts v s.piece over.kept.plan good.piece in
     let adding : Adding v slips old new olds news s.piece s.totals = record {
       kept = over.kept;
       piece = good.piece;
-      apart = sym (overlaps_is v slips old olds s.piece _ over facts) ∙ good.apart;
+      apart = sym (apart_is v slips old olds s.piece over) ∙ good.apart;
       few = few;
       added = to;
     } in
@@ -87,3 +89,11 @@ over_contents v slips trials sums over =
     ap (λ (held : List Bool). record { plan = v; base = slips; held = held })
     (ext_get_or false trials.held (over_base v slips).held long
     (λ t low. over.exactly t ∙ sym (has_where v slips (is_in_base slips) t (omega (arith, over.kept.all)))))
+
+-- what it holds of a piece of the plan is what the slips have of it
+pub meet_in_ledger : (v : Values) (ss : List Slip) (p : Piece) → IsTrue (is_piece v p)
+    → list_any (is_in_base ss) (trials_in p) ≡ overlaps (over_base v ss) p
+meet_in_ledger v ss p piece = list_any_agree (is_in_base ss) (has (over_base v ss)) p.first p.count (record {
+  same = λ t a b. sym (has_where v ss (is_in_base ss) t
+      (piece_within v p t piece (within_is p.first (p.first + p.count) t a b)));
+})

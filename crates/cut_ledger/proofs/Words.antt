@@ -1,4 +1,4 @@
--- The words of definitions that the proofs here cite, passed on from one place. Declares nothing.
+-- The words of definitions that the proofs here cite, passed on from one place, and the line of a whole cell.
 pub use Rattle.cut_faults.specs.declared.code.FaultCode.{FaultCode}
 pub use Rattle.cut_ledger.specs.Contents.{Contents, all_trials, cell_done, cell_sum, further_trials, has}
 pub use Rattle.cut_ledger.specs.Contents.{held_where, is_complete, is_in, is_in_base, over_base, overlaps}
@@ -17,7 +17,7 @@ pub use Rattle.cut_ledger.specs.World.{AreTrue, HasTrueResult, IsRight, IsTrueSl
 pub use Rattle.cut_ledger.specs.World.{begun, bytes_after, pieces_of_slips, run, step, times_in}
 pub use Rattle.cut_ledger.specs.declared.event.Event.{Event}
 pub use Rattle.cut_ledger.specs.declared.slip.Slip.{Slip}
-pub use Rattle.cut_lines.specs.Lines.{header, line_of, line_with}
+pub use Rattle.cut_lines.specs.Lines.{header, line_with}
 pub use Rattle.cut_plan.specs.Cells.{cells_of, trial_count}
 pub use Rattle.cut_plan.specs.Plan.{IsPlan}
 pub use Rattle.cut_plan.specs.Values.{Values}
@@ -34,5 +34,10 @@ pub use Rattle.std.specs.Int.{div_ceil}
 pub use Rattle.std.specs.List.{AllByRecursion, AllWithin, count_by, flat_map, list_all, list_any, prefix_len}
 pub use Rattle.std.specs.List.{range_with_len, sum_by, take_while}
 pub use Rattle.std.specs.List.Sorted.{IsNonDecreasingBy, IsPartitionPoint}
+use Rattle.std.specs.Prelude.{ℕ, List}
 pub use Rattle.std.specs.Prelude.{All, IsTrue, Ok, Result, option_map, refl, slice_index_or, ◌↔◌}
 pub use Rattle.std.specs.Result.{OnErr, OnOk}
+
+-- the line of a cell with the sums over all of its trials, as the table of a plan has it
+abbrev pub line_of : Values → ℕ → List ℕ
+line_of v i = line_with v i (sum_of v (trials_of_cell v i))

@@ -1,5 +1,5 @@
 -- What a ledger holds: a plan, its base, and a set of trials.
-use Rattle.std.specs.Prelude.{ℕ, ◌+◌, ◌/◌, ◌==◌, ◌&&◌, ◌||◌, Bool, true, false, not, List, map, filter}
+use Rattle.std.specs.Prelude.{ℕ, ◌+◌, ◌/◌, ◌==◌, ◌&&◌, ◌||◌, Bool, false, not, List, map, filter}
 use Rattle.std.specs.Prelude.{slice_index_or, nat_lt, nat_le}
 use Rattle.std.specs.List.{range_with_len, list_any, list_all, sum_by}
 use Rattle.cut_plan.specs.Values.{Values}
@@ -42,10 +42,6 @@ has l t = slice_index_or l.held t false
 -- the ledger that holds the trials of these slips, and no other
 abbrev pub over_base : Values → List Slip → Contents
 over_base v ss = record { plan = v; base = ss; held = held_where v (is_in_base ss) }
-
--- the ledger that holds every trial of a plan, over these slips
-abbrev pub filled : Values → List Slip → Contents
-filled v ss = record { plan = v; base = ss; held = held_where v (λ t. true) }
 
 -- a ledger with the trials of a piece added
 abbrev pub with_piece : Contents → Piece → Contents

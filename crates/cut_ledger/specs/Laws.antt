@@ -1,18 +1,19 @@
 -- Laws of gaps, of the pieces that they are cut into, and of plans that are the same.
 use Rattle.std.specs.Prelude.{◌≡◌, ℕ, ◌<◌, ◌≤◌, ◌↔◌, not, filter, List, [], Some, fold, length, take, slice_get, true}
 use Rattle.std.specs.Prelude.{false, IsTrue}
-use Rattle.std.specs.List.{flat_map}
+use Rattle.std.specs.List.{flat_map, list_any}
 use Rattle.cut_plan.specs.Cells.{cells_of}
 use Rattle.cut_plan.specs.Plan.{IsPlan}
 use Rattle.cut_plan.specs.Values.{Values}
 use Rattle.cut_outcome.specs.declared.piece.Piece.{Piece}
-use Rattle.cut_outcome.specs.Sum.{sum_of, trials_in, trials_of_cell}
+use Rattle.cut_outcome.specs.Sum.{is_piece, sum_of, trials_in, trials_of_cell}
 use Rattle.cut_lines.specs.Lines.{table}
 use Rattle.cut_ledger.specs.declared.slip.Slip.{Slip}
 use Rattle.cut_ledger.specs.Contents.{Contents, has, all_trials, over_base, with_piece, overlaps, cell_done}
-use Rattle.cut_ledger.specs.Contents.{is_complete, sum_where}
+use Rattle.cut_ledger.specs.Contents.{is_complete, is_in_base}
 use Rattle.cut_ledger.specs.Gaps.{gaps_of, pieces_of}
-use Rattle.cut_ledger.specs.Machine.{available, table_over}
+use Rattle.cut_ledger.specs.Machine.{available}
+use Rattle.cut_ledger.specs.Table.{full_sum, table_over}
 use Rattle.cut_ledger.specs.Refusals.{is_same_plan}
 use Rattle.cut_ledger.specs.Slips.{AreGood}
 use Rattle.cut_ledger.specs.World.{AreTrue}
@@ -52,6 +53,12 @@ FilledGiveTheirTable =
     (v : Values) (ss : List Slip) (size : ℕ) → 1 ≤ size
     → available (with_pieces (over_base v ss) (pieces_of (over_base v ss) size)) ≡ table_over v ss
 
+-- a piece of a plan has a trial that is in slips where the ledger that begins with them holds one of its trials
+abbrev pub SlipsMeetInTheirLedger : Type 0
+SlipsMeetInTheirLedger =
+    (v : Values) (ss : List Slip) (p : Piece) → IsTrue (is_piece v p)
+    → list_any (is_in_base ss) (trials_in p) ≡ overlaps (over_base v ss) p
+
 -- slips that are true and apart are good ones to begin a ledger with
 abbrev pub TrueSlipsAreGood : Type 0
 TrueSlipsAreGood = (v : Values) (ss : List Slip) → AreTrue v ss → AreGood v ss
@@ -64,7 +71,7 @@ TrueSlipsGiveTheTable = (v : Values) (ss : List Slip) → IsPlan v → AreTrue v
 abbrev pub TrueSlipsSumAll : Type 0
 TrueSlipsSumAll =
     (v : Values) (ss : List Slip) → IsPlan v → AreTrue v ss → (c : ℕ) → c < length (cells_of v)
-    → sum_where v ss (λ t. true) c ≡ sum_of v (trials_of_cell v c)
+    → full_sum v ss c ≡ sum_of v (trials_of_cell v c)
 
 -- no slips are true ones
 abbrev pub NoSlipsAreTrue : Type 0

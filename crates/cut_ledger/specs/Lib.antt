@@ -5,6 +5,7 @@ pub mod Refusals
 pub mod FaultCode
 pub mod Account
 pub mod Machine
+pub mod Table
 pub mod World
 pub mod Laws
 pub mod inside

@@ -19,7 +19,7 @@ use Rattle.cut_ledger.specs.declared.event.Event.TheVariants.{Draw, HandIn, Hand
 use Rattle.cut_ledger.specs.declared.event.Event.TheVariants.{CrashReopen, Emit, WireFails, NewWire, Finish}
 use Rattle.cut_ledger.specs.declared.event.Reply as replies
 use Rattle.cut_ledger.specs.declared.event.Reply.TheVariants as reply
-use Rattle.cut_ledger.specs.Contents.{Contents, over_base, filled, with_piece, cell_done, cell_sum, is_complete}
+use Rattle.cut_ledger.specs.Contents.{Contents, over_base, with_piece, cell_done, cell_sum, is_complete}
 use Rattle.cut_ledger.specs.Gaps.{pieces_of}
 use Rattle.cut_ledger.specs.FaultCode.{code_of}
 use Rattle.cut_ledger.specs.Refusals.{refusal_of}
@@ -51,11 +51,6 @@ cells_done l = take_while (cell_done l) (range_with_len 0 (length (cells_of l.pl
 -- the part of the table that can be written: the header, and the lines of these cells
 abbrev pub available : Contents → List ℕ
 available l = header (version_of l.plan.failing) ++ flat_map (λ c. line_with l.plan c (cell_sum l c)) (cells_done l)
-
--- the whole table of a study over slips: of each cell the totals of its slips and the outcomes of its other
--- trials
-abbrev pub table_over : Values → List Slip → List ℕ
-table_over v ss = available (filled v ss)
 
 -- what the wire takes next, at most n bytes
 abbrev pub next_bytes : StudyState → ℕ → List ℕ

@@ -1,18 +1,19 @@
 -- Which slips a ledger can begin with.
 use Rattle.std.specs.Prelude.{◌≡◌, ℕ, ◌-◌, ◌≤◌, ◌<◌, false, List, length, take, slice_index_or, IsTrue, ⊤}
+use Rattle.std.specs.List.{list_any}
 use Rattle.cut_plan.specs.Values.{Values}
 use Rattle.cut_outcome.specs.Outcome.{cell_at}
 use Rattle.cut_outcome.specs.Possible.{ArePossible}
-use Rattle.cut_outcome.specs.Sum.{is_piece}
+use Rattle.cut_outcome.specs.Sum.{is_piece, trials_in}
 use Rattle.cut_ledger.specs.declared.slip.Slip.{Slip}
 use Rattle.cut_ledger.specs.declared.slips_fault.SlipsFault.{SlipsFault}
 use Rattle.cut_ledger.specs.declared.slips_fault.SlipsFault.TheVariants.{Memory, BadSlip}
-use Rattle.cut_ledger.specs.Contents.{over_base, overlaps}
+use Rattle.cut_ledger.specs.Contents.{is_in_base}
 
 -- a good slip, after others: of a piece, none of whose trials they have, with totals that are possible
 pub record IsGood (v : Values) (earlier : List Slip) (s : Slip) : Type 0 where
   pub piece : IsTrue (is_piece v s.piece)
-  pub apart : overlaps (over_base v earlier) s.piece ≡ false
+  pub apart : list_any (is_in_base earlier) (trials_in s.piece) ≡ false
   pub possible : ArePossible v (cell_at v s.piece.first) s.piece.count s.totals
 
 -- the first n slips are good, each after those before it

@@ -6,7 +6,7 @@ ghost use Rattle.std.specs.List.{AllByRecursion};
 ghost use Rattle.cut_plan.specs.Values.{Values};
 ghost use Rattle.cut_plan.specs.Plan.{IsPlan};
 ghost use Rattle.cut_ledger.specs.Laws.{GapsCover, PiecesCover, SamePlansAreEqual};
-ghost use Rattle.cut_ledger.specs.Laws.{PiecesFill, CompleteIsDone, FilledGiveTheirTable};
+ghost use Rattle.cut_ledger.specs.Laws.{PiecesFill, CompleteIsDone, FilledGiveTheirTable, SlipsMeetInTheirLedger};
 ghost use Rattle.cut_ledger.specs.Laws.{TrueSlipsAreGood, TrueSlipsGiveTheTable, TrueSlipsSumAll, NoSlipsAreTrue};
 ghost use Rattle.cut_ledger.specs.declared.event.Event.{Event};
 ghost use Rattle.cut_ledger.specs.Machine.{start};
@@ -35,6 +35,11 @@ pub fn pieces_fill_a_ledger()
 {
     spans_are_what_passes();
 }
+
+/// Slips are apart from a piece of their plan exactly where the ledger that begins with them holds no trial of it.
+pub fn slips_meet_in_their_ledger()
+    ensures { SlipsMeetInTheirLedger }
+{}
 
 /// Slips that are true, no trial of which is in two, are good ones to begin a ledger with, and the table over
 /// them is the table of the plan: so a study that is resumed from such slips, or from none, gives what a study

@@ -17,14 +17,10 @@ use Rattle.cut_outcome.specs.Sum.{sum_of, trials_of_cell}
 abbrev pub comma_line : List ℕ → List ℕ
 comma_line numbers = join_with_byte 44 (map decimal numbers) ++ 10 ∷ []
 
--- the names of the columns of a version's tables: those of version 2 have `settled`
-abbrev pub names_of : Version → List ℕ
-names_of One = codes "k,h,l,f,trials,receivers,conflicts,silent,extra,votes,decided,right,ppm"
-names_of Two = codes "k,h,l,f,trials,receivers,conflicts,silent,extra,votes,decided,right,settled,ppm"
-
--- these names, with a line feed
+-- the names of the columns of a version's tables, with a line feed: those of version 2 have `settled`
 abbrev pub header : Version → List ℕ
-header version = names_of version ++ 10 ∷ []
+header One = codes "k,h,l,f,trials,receivers,conflicts,silent,extra,votes,decided,right,ppm" ++ 10 ∷ []
+header Two = codes "k,h,l,f,trials,receivers,conflicts,silent,extra,votes,decided,right,settled,ppm" ++ 10 ∷ []
 
 -- the column of `settled`, which the tables of version 1 do not have
 abbrev pub settled_column : Version → Totals → List ℕ
@@ -49,10 +45,7 @@ cell_numbered v i = slice_index_or (cells_of v) i no_cell
 abbrev pub line_with : Values → ℕ → Totals → List ℕ
 line_with v i x = comma_line (columns v (cell_numbered v i) x)
 
--- the line of a cell
-abbrev pub line_of : Values → ℕ → List ℕ
-line_of v i = line_with v i (sum_of v (trials_of_cell v i))
-
--- the header, and the lines of the cells in order
+-- the header, and the lines of the cells in order, each with the sums over all trials of its cell
 unfoldable pub table : Values → List ℕ
-table v = header (version_of v.failing) ++ flat_map (λ i. line_of v i) (range_with_len 0 (length (cells_of v)))
+table v = header (version_of v.failing)
+    ++ flat_map (λ i. line_with v i (sum_of v (trials_of_cell v i))) (range_with_len 0 (length (cells_of v)))

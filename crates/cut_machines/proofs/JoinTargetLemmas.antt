@@ -4,10 +4,10 @@ use Rattle.std.proofs.Common.{length, take, drop, get_or, refl, sym, ap, subst, 
 use Rattle.std.specs.Prelude.{IsSome, IfErr, OnOk, Result}
 use Rattle.std.proofs.lemmas.List.{take-append-drop, take_all, take_more}
 use Rattle.cut_plan.specs.Values.{Values}
-use Rattle.cut_outcome.specs.Sum.{each_number}
 use Rattle.cut_disks.specs.State.{DiskState, Throughout, synced}
 use Rattle.cut_ledger.specs.declared.slip.Slip.{Slip}
-use Rattle.cut_ledger.specs.Slips.{AreGood, IsFirstBad}
+use Rattle.cut_ledger.specs.Slips.{AreGood}
+use Rattle.cut_ledger.proofs.SlipLemmas.{none_bad}
 use Rattle.cut_journal.specs.declared.fault.JournalFault.TheVariants as journal
 use Rattle.cut_journal.specs.Journal.{AppendsEach, IsFileOf, JournalValue, ReadsAs, kept_slips}
 use Rattle.cut_journal.specs.Opening.{IsBegunFile, IsNewStudy}
@@ -93,15 +93,6 @@ pub record HasTaken {D : Type 0} (v : Values) (ss : List Slip) (n : ℕ) (old ne
 not_some : IsSome {T = Slip} None → ⊥
 not_some some = cc some
 
--- what is read of a list where nothing is
-abbrev no_slip : Slip
-no_slip = record { piece = record { first = 0; count = 0 }; totals = each_number (λ n. 0) }
-
-not_bad : (v : Values) (ss : List Slip) (n : ℕ) → AreGood v ss → IsFirstBad v ss n → ⊥
-not_bad v ss n good bad =
-    let within : n - 1 < length ss = omega (arith, bad.numbered, bad.within) in
-    bad.bad no_slip (good (n - 1) no_slip within within)
-
 pub some_taken : {D : Type 0} (result : Result ℕ JoinFault) (v : Values) (ss : List Slip) (old new : JournalValue D)
     → AreGood v ss → IsNewJournal v old → EndsJoin result v ss old new → (n : ℕ) × HasTaken v ss n old new
 some_taken (Ok n) v ss old new good is ends = (
@@ -121,7 +112,7 @@ some_taken (Err join.Memory) v ss old new good is ends = (
         (ap (λ (l : JournalValue _). l.doubtful) ends ∙ is.whole);
   },
 )
-some_taken (Err (join.BadSlip n)) v ss old new good is ends = absurd (not_bad v ss n good ends.0)
+some_taken (Err (join.BadSlip n)) v ss old new good is ends = absurd (none_bad v ss n good ends.0)
 some_taken (Err join.OtherPlan) v ss old new good is ends = absurd (ends.1 is.plan)
 some_taken (Err join.Broken) v ss old new good is ends =
     absurd (not_some (subst (λ (o : Option Slip). IsSome o) is.whole ends.1.1))
@@ -193,7 +184,7 @@ all_written v ss n old new before after is ends kept file =
 pub filling_stops : {D : Type 0} (fault : JoinFault) (v : Values) (ss : List Slip) (old new : JournalValue D)
     → AreGood v ss → IsNewJournal v old → EndsJoin (Err fault) v ss old new → StopsFilling (fault_of fault)
 filling_stops join.Memory v ss old new good is ends = tt
-filling_stops (join.BadSlip n) v ss old new good is ends = absurd (not_bad v ss n good ends.0)
+filling_stops (join.BadSlip n) v ss old new good is ends = absurd (none_bad v ss n good ends.0)
 filling_stops join.OtherPlan v ss old new good is ends = absurd (ends.1 is.plan)
 filling_stops join.Broken v ss old new good is ends =
     absurd (not_some (subst (λ (o : Option Slip). IsSome o) is.whole ends.1.1))

@@ -9,13 +9,13 @@ use Rattle.cut_plan.specs.Values.{Values}
 use Rattle.cut_disks.specs.State.{DiskState}
 use Rattle.cut_ledger.specs.declared.slip.Slip.{Slip}
 use Rattle.cut_journal.specs.declared.fault.JournalFault.{JournalFault}
-use Rattle.cut_journal.specs.Journal.{JournalValue, IsFileOf, ReadsAs, kept_slips, slips_of}
+use Rattle.cut_journal.specs.Journal.{AppendsEach, JournalValue, IsFileOf, ReadsAs, kept_slips, slips_of}
 use Rattle.cut_journal.specs.Opening.{IsFoundOn, IsOpening}
 use Rattle.cut_journal.specs.Reading.{reading}
 use Rattle.cut_share.specs.declared.fault.ShareFault.{ShareFault}
 use Rattle.cut_share.specs.declared.fault.ShareFault.TheVariants as share
 use Rattle.cut_share.specs.declared.share.Share.{Share}
-use Rattle.cut_share.specs.Appending.{Adds, AppendsEach}
+use Rattle.cut_share.specs.Appending.{Adds}
 use Rattle.cut_share.specs.Running.{AreOfShare, EndsShare}
 use Rattle.cut_share.specs.Share.{IsShareSlip}
 use Rattle.cut_wires.specs.Log.{WireLog}

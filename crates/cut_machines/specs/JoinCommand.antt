@@ -107,16 +107,9 @@ WritesJoinOfFiles v whole = (slips : List Slip) × (AreGood v slips × (whole �
 abbrev pub join_files_task : Task
 join_files_task = record { answers = WritesJoinOfFiles; fails = StopsJoinOfFiles }
 
--- what a fault of a journal is one of: of the old file at a place, from 1, among `count` ones; or of the new file
-abbrev pub RefusesFile : ℕ → JournalFault → Option ℕ → Type 0
-RefusesFile count fault (Some place) = (1 ≤ place) × (place ≤ count) × IsOpeningFaultOf fault
-RefusesFile count fault None = MayNotMake fault
-
--- which old file is refused, if one is: none by another fault, and none at Ok
-abbrev pub NamesOldFile : ℕ → CliFault → Option ℕ → Type 0
-NamesOldFile count (Journal fault) refused = RefusesFile count fault refused
-NamesOldFile count fault refused = refused ≡ None
-
+-- which old file is refused, if one is: a fault of a journal is that of the old file at a place, from 1, among `count`
+-- ones, or of the new file, and no old one is refused at another end
 abbrev pub NamesRefusedFile : ℕ → Result ⊤ CliFault → Option ℕ → Type 0
-NamesRefusedFile count (Err fault) refused = NamesOldFile count fault refused
-NamesRefusedFile count (Ok done) refused = refused ≡ None
+NamesRefusedFile count (Err (Journal fault)) (Some place) = (1 ≤ place) × (place ≤ count) × IsOpeningFaultOf fault
+NamesRefusedFile count (Err (Journal fault)) None = MayNotMake fault
+NamesRefusedFile count result refused = refused ≡ None

@@ -6,7 +6,7 @@ use Rattle.cut_plan.specs.Plan.{IsPlan}
 use Rattle.cut_plan.specs.Values.{Values}
 use Rattle.cut_lines.specs.Lines.{table}
 use Rattle.cut_ledger.specs.declared.slip.Slip.{Slip}
-use Rattle.cut_ledger.specs.Machine.{table_over}
+use Rattle.cut_ledger.specs.Table.{table_over}
 use Rattle.cut_ledger.specs.Slips.{AreGood}
 use Rattle.cut_ledger.specs.World.{AreTrue, pieces_of_slips, times_in}
 use Rattle.cut_share.specs.declared.share.Share.{Share}

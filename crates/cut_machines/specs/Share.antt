@@ -8,12 +8,12 @@ use Rattle.cut_disks.specs.State.{DiskState}
 use Rattle.cut_ledger.specs.declared.slip.Slip.{Slip}
 use Rattle.cut_ledger.specs.Slips.{AreGood, IsFirstBad}
 use Rattle.cut_journal.specs.declared.fault.JournalFault.TheVariants as journal
+use Rattle.cut_journal.specs.Journal.{AppendsEach}
 use Rattle.cut_journal.specs.Opening.{IsFoundOn, IsOpenFault, IsOpening}
 use Rattle.cut_journal.specs.Reading.{reading}
 use Rattle.cut_share.specs.declared.fault.ShareFault.{ShareFault}
 use Rattle.cut_share.specs.declared.fault.ShareFault.TheVariants as share
 use Rattle.cut_share.specs.declared.share.Share.{Share}
-use Rattle.cut_share.specs.Appending.{AppendsEach}
 use Rattle.cut_share.specs.Running.{AreOfShare, AreWhole, IsNotDone}
 use Rattle.cut_share.specs.Share.{trials_of_share}
 use Rattle.cut_wires.specs.Log.{WireLog}

@@ -1,6 +1,6 @@
 //! The command that joins checkpoints.
 
-ghost use Rattle.std.specs.Prelude.{◌≡◌, ◌↔◌, IfErr, IfOk, None, length, string_bytes};
+ghost use Rattle.std.specs.Prelude.{◌≡◌, ◌↔◌, Err, IfErr, IfOk, None, length, string_bytes};
 ghost use Rattle.cut_plan.specs.Plan.{IsPlan};
 ghost use Rattle.cut_ledger.specs.Slips.{AreGood};
 ghost use Rattle.cut_status.specs.Status.{held_trials};
@@ -9,7 +9,7 @@ ghost use Rattle.cut_join.specs.Laws.{JoinedAreTrue, JoinedGiveThePlansTable};
 ghost use Rattle.cut_commands.specs.Run.{EndsWithFile};
 ghost use Rattle.cut_machines.specs.JoinCommand.{EndsJoinCommand, JoinWrites, StopsJoinOfFiles, WritesJoinOfFiles};
 ghost use Rattle.cut_machines.specs.JoinCommand.{join_files_task};
-ghost use Rattle.cut_machines.specs.JoinCommand.{NamesOld, NamesOldFile, NamesRefused, NamesRefusedFile, StopsJoin};
+ghost use Rattle.cut_machines.specs.JoinCommand.{NamesOld, NamesRefused, NamesRefusedFile, StopsJoin};
 ghost use Rattle.cut_machines.specs.JoinCommand.{joined_text};
 ghost use Rattle.cut_machines.specs.JoinTarget.{LeavesDisk, StopsWriting, writing_faults};
 
@@ -155,7 +155,7 @@ fn join_file_slips(
 ) -> Result<String, Unjoined>
     ensures text { IfOk result (λ text. WritesJoinOfFiles plan.now (string_bytes text)) }
     ensures stops { IfErr result (λ e. StopsJoinOfFiles plan.now e.fault) }
-    ensures names { IfErr result (λ e. NamesOldFile (length paths.now) e.fault e.refused) }
+    ensures names { IfErr result (λ e. NamesRefusedFile (length paths.now) (Err e.fault) e.refused) }
 {
     let slips = judged_file_slips(host, plan, paths)?;
     let text = join_slips(host.alloc(), plan, &slips, disk).text;

@@ -9,8 +9,8 @@ use Rattle.std.proofs.lemmas.List.Concat.{flat_map-append}
 use Rattle.cut_wires.specs.Log.{WireLog, wrote, write_failed}
 use Rattle.cut_wires.proofs.Logs.{wrote_none, wrote_more}
 use Rattle.cut_messages.specs.declared.message.Message.{Message}
-use Rattle.cut_messages.specs.declared.ask_fault.AskFault.{AskFault}
-use Rattle.cut_messages.specs.declared.ask_fault.AskFault.TheVariants as ask
+use Rattle.cut_messages.specs.declared.fault.AskFault.{AskFault}
+use Rattle.cut_messages.specs.declared.fault.AskFault.TheVariants as ask
 use Rattle.cut_messages.specs.declared.replies.AnswerState.{AnswerState}
 use Rattle.cut_messages.specs.declared.replies.AnswerState.TheVariants.{More, Done}
 use Rattle.cut_messages.specs.Asking.{GoesOn, line_of, lines_of, Stop, IsCutOff, Passes}

@@ -12,8 +12,8 @@ use Rattle.cut_messages.specs.declared.side.Side.TheVariants.{Replies}
 use Rattle.cut_messages.specs.declared.kind.Kind.{Kind}
 use Rattle.cut_messages.specs.declared.kind.Kind.TheVariants as kind
 use Rattle.cut_messages.specs.declared.message.Message.{Message}
-use Rattle.cut_messages.specs.declared.ask_fault.AskFault.{AskFault}
-use Rattle.cut_messages.specs.declared.ask_fault.AskFault.TheVariants as ask
+use Rattle.cut_messages.specs.declared.fault.AskFault.{AskFault}
+use Rattle.cut_messages.specs.declared.fault.AskFault.TheVariants as ask
 use Rattle.cut_messages.specs.declared.replies.AnswerState.{AnswerState}
 use Rattle.cut_messages.specs.declared.replies.AnswerState.TheVariants.{More, Done}
 use Rattle.cut_messages.specs.Frames.{frame, fault_at}

@@ -7,8 +7,8 @@ use Rattle.cut_messages.specs.declared.fault.StreamFault.{StreamFault}
 use Rattle.cut_messages.specs.declared.fault.StreamFault.TheVariants as stream
 use Rattle.cut_messages.specs.declared.fault.EndFault.{EndFault}
 use Rattle.cut_messages.specs.declared.fault.EndFault.TheVariants as end
-use Rattle.cut_messages.specs.declared.ask_fault.AskFault.{AskFault}
-use Rattle.cut_messages.specs.declared.ask_fault.AskFault.TheVariants as ask
+use Rattle.cut_messages.specs.declared.fault.AskFault.{AskFault}
+use Rattle.cut_messages.specs.declared.fault.AskFault.TheVariants as ask
 
 abbrev pub code_of_stream : StreamFault → FaultCode
 code_of_stream stream.BadKind = code.BadKind

@@ -12,7 +12,6 @@
 //! that a failed read or write is reported only where one failed holds over every wire.
 #![tactic(auto)]
 
-mod ask_fault;
 mod client;
 mod fault;
 mod fed;
@@ -27,9 +26,8 @@ mod replies;
 mod side;
 mod split;
 
-pub use ask_fault::AskFault;
 pub use client::ask;
-pub use fault::{EndFault, StreamFault};
+pub use fault::{AskFault, EndFault, StreamFault};
 pub use fed::Fed;
 pub use frame::{RowMessages, send_message};
 pub use kind::Kind;

@@ -4,8 +4,8 @@ use Rattle.std.proofs.Common.{◌≡◌, ◌⊎◌, ℕ, ◌+◌, ◌-◌, ◌<�
 use Rattle.std.proofs.Common.{refl, sym, ap, ◌∙◌, arith, zero-add}
 use Rattle.cut_outcome.proofs.Words.{count_by, if◌then◌else◌, range_with_len, Values, deaf_of, Layout, subject_of}
 use Rattle.cut_outcome.proofs.Words.{Source}
-use Rattle.cut_outcome.proofs.Words.{key_at, process_place, process_rank, compare_processes, is_crashed_role}
-use Rattle.cut_outcome.proofs.Words.{is_deaf_role, is_target, role_at, drawn, ranked_role, receivers_of}
+use Rattle.cut_outcome.proofs.Words.{key_at, process_place, process_rank, compare_processes, is_target}
+use Rattle.cut_outcome.proofs.Words.{role_at, same_role, drawn, ranked_role, receivers_of}
 use Rattle.std.specs.Ordering.{nat_cmp}
 use Rattle.std.proofs.lemmas.Bool.{cases_lt, lt-ltb, ltb-true, le-ltb}
 use Rattle.std.proofs.lemmas.Cmp.{nat_cmp_total, then_total, on_total}
@@ -19,7 +19,7 @@ use Rattle.cut_alerts.specs.declared.role.Role.{Role}
 use Rattle.cut_alerts.specs.declared.role.Role.TheVariants.{Healthy, Crashed, Deaf, Liar, LinkSource}
 
 abbrev is_target_role : Role → Bool
-is_target_role role = is_crashed_role role || is_deaf_role role
+is_target_role role = same_role Crashed role || same_role Deaf role
 
 target_by_rank : (first a b c : Bool) (to : ℕ) → (first ≡ true → a ≡ true) → is_target_role
     (if first then Crashed else (if a then Deaf

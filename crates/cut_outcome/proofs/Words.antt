@@ -15,7 +15,7 @@ pub use Rattle.cut_draws.specs.Source.{Source, key_at, source_of}
 pub use Rattle.cut_draws.specs.ProcessOrder.{compare_processes, process_place, process_rank}
 pub use Rattle.cut_draws.specs.DeliveryOrder.{IsDeliveryOrder, all_deliveries, compare_deliveries, copies_of}
 pub use Rattle.cut_draws.specs.DeliveryOrder.{delivery_place, delivery_rank, early}
-pub use Rattle.cut_alerts.specs.Assignment.{Assignment, has_crashed, is_crashed_role, is_deaf_role, is_target, role_at}
+pub use Rattle.cut_alerts.specs.Assignment.{Assignment, has_crashed, is_target, role_at, same_role}
 pub use Rattle.cut_alerts.specs.Alerted.{alert_list, alerts_about, all_edges, edges_of, is_alerted, speaks}
 pub use Rattle.cut_alerts.specs.Drawn.{drawn, ranked_role}
 pub use Rattle.cut_detector.specs.Rule.{Rule, rule_of}

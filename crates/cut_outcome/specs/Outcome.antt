@@ -16,7 +16,6 @@ use Rattle.cut_draws.specs.DeliveryOrder.{all_deliveries, early}
 use Rattle.cut_alerts.specs.Assignment.{Assignment}
 use Rattle.cut_alerts.specs.Drawn.{drawn}
 use Rattle.cut_alerts.specs.Alerted.{alert_list}
-use Rattle.cut_detector.specs.Rule.{rule_of}
 use Rattle.cut_detector.specs.Proposal.{proposal_of}
 use Rattle.cut_detector.specs.declared.proposal.Proposal.{Proposal}
 use Rattle.cut_outcome.specs.declared.totals.Totals.{Totals}
@@ -30,8 +29,8 @@ rings_of v = hashed_layout v.seed v.nodes (largest v.k)
 -- what receiver j proposes, in a cell, by the draws d, where these edges are alerted
 abbrev pub receiver_proposal : Values → Cell → Layout → Source → List Edge → ℕ → Option Proposal
 receiver_proposal v c r d edges j =
-    proposal_of r (rule_of c.k c.h c.l v.implicit) (λ n. early d j c.k edges v.copies n)
-    (length (all_deliveries edges v.copies))
+    proposal_of r (record { k = c.k; h = c.h; l = c.l; implicit = v.implicit })
+    (λ n. early d j c.k edges v.copies n) (length (all_deliveries edges v.copies))
 
 -- what each receiver proposes, in the order of the receivers
 abbrev pub proposals_of : Values → Cell → Layout → Source → Assignment → List (Option Proposal)

@@ -28,7 +28,7 @@ is_missed a members p = is_target a p && not (has_process members p)
 
 -- some target is not among the members: the targets are not a subset of them
 abbrev pub lacks_target : Assignment → List ℕ → Bool
-lacks_target a members = list_any (λ p. is_missed a members p) (processes_of a)
+lacks_target a members = list_any (λ p. is_target a p && not (has_process members p)) (processes_of a)
 
 -- some member is no target: the members are not a subset of the targets
 abbrev pub has_other : Assignment → List ℕ → Bool

@@ -17,11 +17,12 @@ use Rattle.cut_plan.specs.Versions.{version_of}
 use Rattle.cut_plan.specs.Values.{Values}
 use Rattle.cut_plan.specs.Cells.{cells_of, largest}
 use Rattle.cut_plan.specs.Plan.{IsPlan, is_rising}
-use Rattle.cut_plan.specs.Fields.{name_of, kind_of, fields_of, keys, is_of, numbers_in}
-use Rattle.cut_plan.specs.inside.Fields.{is_named}
-use Rattle.cut_plan.specs.Accepted.{in_range, each, checks_by, field_check, limit_check, plan_in}
-use Rattle.cut_plan.specs.inside.Accepted.{is_present, is_of_kind, is_in_range, rises_at}
-use Rattle.cut_plan.specs.Canonical.{members_with, data_of}
+use Rattle.cut_plan.specs.Fields.{name_of, kind_of, fields_of, is_of, numbers_in}
+use Rattle.cut_plan.specs.inside.Fields.{keys, is_named}
+use Rattle.cut_plan.specs.Accepted.{in_range, each, field_check, limit_check, plan_in}
+use Rattle.cut_plan.specs.inside.Accepted.{is_present, is_of_kind, is_in_range, rises_at, checks_by}
+use Rattle.cut_plan.specs.Canonical.{members_with}
+use Rattle.cut_plan.specs.inside.Look.{data_of}
 use Rattle.cut_plan.proofs.Versions.{has, all_own}
 use Rattle.cut_plan.proofs.Checked.{IsChecked}
 use Rattle.cut_plan.proofs.Members.{shown, version_back, values_back}
@@ -84,7 +85,7 @@ unfolding data_of
 an_object v = refl
 
 checked_back : (v : Values) → IsPlan v → field_check (data_of v) ≡ Ok tt
-unfolding field_check
+unfolding field_check checks_by
 checked_back v plan = rw (an_object v, version_back v)
     (own_checks_pass (version_of v.failing) (data_of v) (names_back v) (passes_back v plan))
 

@@ -10,7 +10,7 @@ use Rattle.cut_plan.specs.Versions.{version_of}
 use Rattle.cut_plan.specs.Values.{Values}
 use Rattle.cut_plan.specs.Plan.{IsPlan}
 use Rattle.cut_plan.specs.Fields.{name_of, kind_of, fields_of}
-use Rattle.cut_plan.specs.Canonical.{said, members_with, data_of, canonical_text}
+use Rattle.cut_plan.specs.Canonical.{said, members_with, canonical_text}
 use Rattle.cut_plan.proofs.Plain.{IsPlain, plain_more, plain_both, is_plain, plain_tested, plain_comma, plain_quoted}
 use Rattle.cut_plan.proofs.Tame.{most_in, AreTame, all_tame}
 
@@ -46,7 +46,7 @@ few_with One = omega arith
 few_with Two = omega arith
 
 pub canonical_plain : (v : Values) → IsPlan v → IsPlain 65536 (canonical_text v)
-unfolding canonical_text data_of
+unfolding canonical_text
 canonical_plain v plan =
     let fields = fields_of (version_of v.failing) in
     plain_more (1 + most_with fields) 65536 (123 ∷ members_text false (members_with v fields))

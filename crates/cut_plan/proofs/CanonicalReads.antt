@@ -16,7 +16,8 @@ use Rattle.cut_plan.specs.Versions.{version_of}
 use Rattle.cut_plan.specs.Values.{Values}
 use Rattle.cut_plan.specs.Plan.{IsPlan}
 use Rattle.cut_plan.specs.Fields.{name_of, fields_of}
-use Rattle.cut_plan.specs.Canonical.{said, members_with, data_of, canonical_text}
+use Rattle.cut_plan.specs.Canonical.{said, members_with, canonical_text}
+use Rattle.cut_plan.specs.inside.Look.{data_of}
 use Rattle.cut_plan.proofs.Tame.{AreTame, all_tame}
 use Rattle.cut_plan.proofs.Writing.{with_own_fields}
 
@@ -71,7 +72,7 @@ data_reads v plan =
     ∙ ap Some (with_own_fields v)
 
 pub canonical_reads : (v : Values) → IsPlan v → read (canonical_text v) ≡ Some (data_of v)
-unfolding canonical_text
+unfolding canonical_text data_of
 canonical_reads v plan =
     ap read (sym (print-outline (data_of v))) ∙ printed_reads (outline (data_of v)) (data_of v) (data_numbers v plan)
     (data_shallow v plan) (data_reads v plan)

@@ -1,8 +1,9 @@
 -- What the checks on an object's fields show.
 use Rattle.std.proofs.Common.{◌≡◌, ℕ, zero, suc, ◌≤◌, ◌<◌, ◌&&◌, List, [], ◌∷◌, Bool, true, false, not, nat_lt, nat_le}
-use Rattle.std.proofs.Common.{Option, None, Some, Result, Ok, if◌then◌else◌, get_or, refl, arith}
+use Rattle.std.proofs.Common.{Option, None, Some, Result, Ok, Err, if◌then◌else◌, get_or, refl, arith}
 use Rattle.std.proofs.lemmas.Bool.{and_parts, ltb-true, leb-true, lt-ltb}
 use Rattle.std.specs.List.{AllByRecursion, list_all, find}
+use Rattle.std.specs.Option.{option_map_or}
 use Rattle.serde_json.specs.Data.{Data}
 use Rattle.cut_plan.specs.declared.refusal.Refusal.{Refusal}
 use Rattle.cut_plan.specs.declared.field.Field.{Field}
@@ -10,9 +11,10 @@ use Rattle.cut_plan.specs.declared.field.Field.TheVariants.{F, H, K, L, Nodes}
 use Rattle.cut_plan.specs.declared.version.Version.{Version}
 use Rattle.cut_plan.specs.Fields.{fields_of}
 use Rattle.cut_plan.specs.inside.Fields.{number_at, numbers_at}
-use Rattle.cut_plan.specs.Accepted.{is_in_scale, wanted, fault_at, each, checks_by, field_check}
+use Rattle.cut_plan.specs.Accepted.{is_in_scale, wanted, each, field_check}
 use Rattle.cut_plan.specs.inside.Accepted.{is_present, is_of_kind, is_in_range, has_some, rises_at, version_in}
-use Rattle.cut_plan.specs.Plan.{all_within}
+use Rattle.cut_plan.specs.inside.Accepted.{checks_by}
+use Rattle.cut_plan.specs.Plan.{is_within}
 use Rattle.cut_plan.specs.inside.Look.{AreBelow}
 use Rattle.cut_plan.proofs.Versions.{has, every_field}
 
@@ -21,10 +23,10 @@ pub wanted_ok : {A : Type 0} (b : Bool) (fault : Refusal) (later : Result A Refu
 wanted_ok true fault later x h = (refl, h)
 wanted_ok false fault later x h = cc h
 
-fault_at_ok : {A : Type 0} (o : Option Field) (fault : Field → Refusal) (later : Result A Refusal) (x : A)
-    → fault_at o fault later ≡ Ok x → (o ≡ None) × (later ≡ Ok x)
-fault_at_ok None fault later x h = (refl, h)
-fault_at_ok (Some field) fault later x h = cc h
+no_fault_at : {A : Type 0} (o : Option Field) (fault : Field → Refusal) (later : Result A Refusal) (x : A)
+    → option_map_or (λ field. Err (fault field)) o later ≡ Ok x → (o ≡ None) × (later ≡ Ok x)
+no_fault_at None fault later x h = (refl, h)
+no_fault_at (Some field) fault later x h = cc h
 
 find_cons : (holds : Field → Bool) (b : Bool) (field : Field) (rest : Option Field)
     → (if not b then Some field else rest) ≡ None → (b ≡ true) × (rest ≡ None)
@@ -42,7 +44,7 @@ each_ok : {A : Type 0} (version : Version) (holds : Field → Bool) (fault : Fie
     (x : A) → each version holds fault later ≡ Ok x
     → ((field : Field) → has field version ≡ true → holds field ≡ true) × (later ≡ Ok x)
 each_ok version holds fault later x h =
-    let parts = fault_at_ok (find (λ field. not (holds field)) (fields_of version)) fault later x h in
+    let parts = no_fault_at (find (λ field. not (holds field)) (fields_of version)) fault later x h in
     (every_field version (λ field. holds field ≡ true) (find_none holds (fields_of version) parts.0), parts.1)
 
 -- an object whose fields passed the checks by those of a version
@@ -63,7 +65,7 @@ facts_by version d h =
     record { present = present.0; kinds = kinds.0; ranges = ranges.0; rises = rises.0 }
 
 pub checked_facts : (d : Data) → field_check d ≡ Ok tt → IsChecked (version_in d) d
-unfolding field_check
+unfolding field_check checks_by
 checked_facts d h = facts_by (version_in d) d (wanted_ok _ _ _ tt h).1
 
 -- a number within bounds
@@ -83,7 +85,7 @@ widened p bound small (x ∷ xs) h =
 pub scale_bytes : (xs : List ℕ) → is_in_scale xs ≡ true → AreBelow 256 xs
 scale_bytes xs h =
     widened (λ x. nat_le 1 x && nat_le x 32) 256 (λ x e. let b = within_bounds 1 32 x e in let top : x ≤ 32 = b.1
-    in omega arith) xs (and_parts (has_some xs) (all_within 1 32 xs) h).1
+    in omega arith) xs (and_parts (has_some xs) (list_all (is_within 1 32) xs) h).1
 
 pub failed_shorts : (bound : ℕ) (xs : List ℕ) → bound ≤ 2048 → (has_some xs && list_all (λ f. nat_lt f bound) xs) ≡ true
     → AreBelow 65536 xs

@@ -7,8 +7,8 @@ use Rattle.serde_json.specs.Find.{as_array, as_object}
 use Rattle.serde_json.specs.View.{view, items_view, members_view}
 use Rattle.serde_json.specs.declared.value.Value.{Value}
 use Rattle.cut_plan.specs.declared.version.Version.{Version}
-use Rattle.cut_plan.specs.Fields.{list_of_items, keys_of_members, elements, keys, number_in}
-use Rattle.cut_plan.specs.inside.Fields.{is_named}
+use Rattle.cut_plan.specs.Fields.{list_of_items, keys_of_members, elements, number_in}
+use Rattle.cut_plan.specs.inside.Fields.{keys, is_named}
 use Rattle.cut_plan.specs.inside.Look.{item_numbers}
 
 pub list_of_items-items_view : (vs : List Value) → list_of_items (items_view vs) ≡ map view vs

@@ -12,14 +12,15 @@ use Rattle.cut_plan.specs.declared.faults.Faults.{Faults}
 use Rattle.cut_plan.specs.declared.faults.Faults.TheVariants.{Crash, Deaf}
 use Rattle.cut_plan.specs.declared.failing.Failing.{Failing}
 use Rattle.cut_plan.specs.declared.failing.Failing.TheVariants.{Alike, Mixed}
-use Rattle.cut_plan.specs.Versions.{version_number, version_by, version_of}
+use Rattle.cut_plan.specs.Versions.{version_by, version_of}
 use Rattle.cut_plan.specs.Values.{Values}
 use Rattle.cut_plan.specs.Plan.{IsPlan}
 use Rattle.cut_plan.specs.Words.{dead_of, faults_of, dead_word, faults_word}
 use Rattle.cut_plan.specs.Fields.{fields_of, member_at, number_in, numbers_in}
-use Rattle.cut_plan.specs.Accepted.{failing_by, values_at, values_in}
-use Rattle.cut_plan.specs.inside.Accepted.{version_in}
-use Rattle.cut_plan.specs.Canonical.{numbers_data, said, data_of}
+use Rattle.cut_plan.specs.Accepted.{values_at}
+use Rattle.cut_plan.specs.inside.Accepted.{version_in, values_in}
+use Rattle.cut_plan.specs.Canonical.{numbers_data, said}
+use Rattle.cut_plan.specs.inside.Look.{data_of}
 use Rattle.cut_plan.proofs.Versions.{version_shown}
 
 -- the same plan, but for how its targets fail
@@ -65,13 +66,12 @@ seed_back v plan = decode_sized-encode_lower v.seed 32 plan.seed_length (are_byt
 pub version_back : (v : Values) → version_in (data_of v) ≡ version_of v.failing
 version_back v = ap (λ at. version_by (number_in (at field.Version))) (shown v) ∙ version_shown (version_of v.failing)
 
-failing_shown : (failing : Failing) (v : Values) → failing_by (version_of failing) (said (with_failing v failing))
-    ≡ failing
+failing_shown : (failing : Failing) (v : Values) → (values_at (said (with_failing v failing))).failing ≡ failing
 failing_shown (Alike faults) v = rw (faults_back faults) refl
 failing_shown (Mixed deaf) v = refl
 
-failing_back : (v : Values) → failing_by (version_by (version_number (version_of v.failing))) (said v) ≡ v.failing
-failing_back v = rw (version_shown (version_of v.failing)) (failing_shown v.failing v)
+failing_back : (v : Values) → (values_at (said v)).failing ≡ v.failing
+failing_back v = failing_shown v.failing v
 
 values_shown : (v : Values) → IsPlan v → values_at (said v) ≡ v
 values_shown v plan =

@@ -1,6 +1,6 @@
 -- What is known of a plan whose checks were passed.
-use Rattle.std.proofs.Common.{◌≡◌, ℕ, suc, ◌+◌, ◌≤◌, ◌<◌, ◌&&◌, List, [], ◌∷◌, length, max, true, nat_lt, nat_le}
-use Rattle.std.proofs.Common.{Result, Ok, Err, refl, sym, subst, ◌∙◌, arith}
+use Rattle.std.proofs.Common.{◌≡◌, ℕ, suc, ◌+◌, ◌≤◌, ◌<◌, ◌&&◌, List, [], ◌∷◌, length, max, Bool, true, false, nat_lt}
+use Rattle.std.proofs.Common.{nat_le, nat_eq, if◌then◌else◌, Result, Ok, Err, refl, sym, subst, ◌∙◌, arith}
 use Rattle.std.proofs.lemmas.Bool.{and_parts, ltb-true, leb-true, lt-ltb}
 use Rattle.std.specs.List.{AllByRecursion, list_all, fold}
 use Rattle.std.specs.Option.{unwrap_or}
@@ -9,18 +9,22 @@ use Rattle.hex.specs.Hex.{decode_sized, IsBytes}
 use Rattle.hex.specs.declared.error.FromHexError.{FromHexError}
 use Rattle.hex.proofs.HexLemmas.{decode_sized-ok, decode_sized-twice, decode_of-ok}
 use Rattle.serde_json.specs.Data.{Data}
-use Rattle.cut_plan.specs.declared.field.Field.TheVariants.{Copies, Deaf, F, H, K, L, Liars, Links, Nodes, Repeats}
-use Rattle.cut_plan.specs.declared.field.Field.TheVariants.{Seed}
-use Rattle.cut_plan.specs.declared.version.Version.{Version}
+use Rattle.cut_plan.specs.declared.field.Field.{Field}
+use Rattle.cut_plan.specs.declared.field.Field.TheVariants.{Copies, Deaf, F, Faults, H, K, L, Liars, Links, Nodes}
+use Rattle.cut_plan.specs.declared.field.Field.TheVariants.{Repeats, Seed, Version}
+use Rattle.cut_plan.specs.declared.faults.Faults.TheVariants.{Crash}
+use Rattle.cut_plan.specs.declared.failing.Failing.TheVariants.{Alike, Mixed}
+use Rattle.cut_plan.specs.declared.version.Version as format
 use Rattle.cut_plan.specs.declared.version.Version.TheVariants.{One, Two}
 use Rattle.cut_plan.specs.Versions.{deaf_in}
-use Rattle.cut_plan.specs.Fields.{member_at}
+use Rattle.cut_plan.specs.Words.{faults_of}
+use Rattle.cut_plan.specs.Fields.{member_at, number_in, text_in}
 use Rattle.cut_plan.specs.inside.Fields.{number_at, numbers_at, text_at}
-use Rattle.cut_plan.specs.Accepted.{is_in_scale, failing_by, field_check, limit_check, values_in}
-use Rattle.cut_plan.specs.inside.Accepted.{has_some, limits, version_in}
+use Rattle.cut_plan.specs.Accepted.{is_in_scale, field_check, limit_check}
+use Rattle.cut_plan.specs.inside.Accepted.{has_some, limits, failing_by, values_in, version_in}
 use Rattle.cut_plan.specs.Cells.{cells_of, largest}
 use Rattle.cut_plan.specs.Values.{Values}
-use Rattle.cut_plan.specs.Plan.{all_within, is_rising, IsScale, IsPlan}
+use Rattle.cut_plan.specs.Plan.{is_within, is_rising, IsScale, IsPlan}
 use Rattle.cut_plan.proofs.Every.{every-list_all, every_below_fold}
 use Rattle.cut_plan.proofs.Checked.{IsChecked, checked_facts, wanted_ok, within_bounds}
 use Rattle.cut_plan.proofs.Counting.{rising_length}
@@ -28,7 +32,7 @@ use Rattle.cut_plan.proofs.Counting.{rising_length}
 -- a list of ring numbers or watermarks has at most 32
 pub scale_length : (xs : List ℕ) → is_in_scale xs ≡ true → is_rising xs ≡ true → length xs ≤ 32
 scale_length xs range rises =
-    let all = (and_parts (has_some xs) (all_within 1 32 xs) range).1 in
+    let all = (and_parts (has_some xs) (list_all (is_within 1 32) xs) range).1 in
     let below = every-list_all (λ x. nat_le 1 x && nat_le x 32) (λ x. x < 33)
     (λ x e. let b = within_bounds 1 32 x e in let top : x ≤ 32 = b.1 in omega arith) xs all in
     let above = every-list_all (λ x. nat_le 1 x && nat_le x 32) (λ x. 1 ≤ x) (λ x e. (within_bounds 1 32 x e).0) xs all
@@ -63,7 +67,13 @@ few_f d h =
     let short = failed_length (number_at d Nodes) (numbers_at d F) all (known.rises F refl) in
     omega (arith, short, bounds.1)
 
-pub few_deaf : (version : Version) (d : Data) → IsChecked version d
+-- how targets fail, by the version
+pub failing_by_version : (second : Bool) (at : Field → Data) → failing_by (if second then Two else One) at
+    ≡ (if second then Mixed (number_in (at Deaf)) else Alike (unwrap_or (faults_of (text_in (at Faults))) Crash))
+failing_by_version true at = refl
+failing_by_version false at = refl
+
+few_deaf : (version : format.Version) (d : Data) → IsChecked version d
     → unwrap_or (deaf_in (failing_by version (member_at d))) 0 ≤ 2048
 few_deaf One d known = omega arith
 few_deaf Two d known = (within_bounds 0 2048 (number_at d Deaf) (known.ranges Deaf refl)).1
@@ -97,12 +107,12 @@ largest_reached low (x ∷ xs) some h =
 
 scale_facts : (xs : List ℕ) → is_in_scale xs ≡ true → is_rising xs ≡ true → IsScale xs
 scale_facts xs range rises =
-    let parts = and_parts (has_some xs) (all_within 1 32 xs) range in
+    let parts = and_parts (has_some xs) (list_all (is_within 1 32) xs) range in
     record { some = ltb-true 0 (length xs) parts.0; range = parts.1; rising = rises }
 
 scale_top : (xs : List ℕ) → is_in_scale xs ≡ true → (largest xs ≤ 32) × (1 ≤ largest xs)
 scale_top xs range =
-    let parts = and_parts (has_some xs) (all_within 1 32 xs) range in
+    let parts = and_parts (has_some xs) (list_all (is_within 1 32) xs) range in
     let below = every-list_all (λ x. nat_le 1 x && nat_le x 32) (λ x. x ≤ 32) (λ x e. (within_bounds 1 32 x e).1) xs
     parts.1 in
     let above = every-list_all (λ x. nat_le 1 x && nat_le x 32) (λ x. 1 ≤ x) (λ x e. (within_bounds 1 32 x e).0) xs
@@ -154,7 +164,7 @@ plan_facts d ok together =
     record {
       some_copies = copies.0;
       few_copies = copies.1;
-      deaf = few_deaf (version_in d) d known;
+      deaf = rw (← failing_by_version (nat_eq (number_at d Version) 2) (member_at d)) (few_deaf (version_in d) d known);
       ks = scale_facts (numbers_at d K) (known.ranges K refl) (known.rises K refl);
       hs = scale_facts (numbers_at d H) (known.ranges H refl) (known.rises H refl);
       ls = scale_facts (numbers_at d L) (known.ranges L refl) (known.rises L refl);

@@ -2,15 +2,17 @@
 use Rattle.std.proofs.Common.{◌≡◌, ℕ, List, length, Bool, true, false, nat_lt, cond, Option, Some, None, Result, Ok}
 use Rattle.std.proofs.Common.{Err, refl, subst}
 use Rattle.std.specs.Bool.{⊤}
+use Rattle.std.specs.Result.{result_and}
 use Rattle.serde_json.specs.Data.{Data}
 use Rattle.cut_plan.specs.declared.refusal.Refusal.{Refusal}
 use Rattle.cut_plan.specs.Values.{Values}
 use Rattle.cut_plan.specs.Plan.{IsPlan}
-use Rattle.cut_plan.specs.Accepted.{field_check, limit_check, values_in, after, plan_in, found_in, plan_of}
+use Rattle.cut_plan.specs.Accepted.{field_check, limit_check, plan_in, plan_of}
+use Rattle.cut_plan.specs.inside.Accepted.{values_in, found_in}
 use Rattle.cut_plan.proofs.PlanFacts.{plan_facts}
 
-after_ok : {B : Type 0} (r : Result ⊤ Refusal) (later : Result B Refusal) (x : B) → after r later ≡ Ok x → (r ≡ Ok tt)
-    × (later ≡ Ok x)
+after_ok : {B : Type 0} (r : Result ⊤ Refusal) (later : Result B Refusal) (x : B) → result_and r later ≡ Ok x
+    → (r ≡ Ok tt) × (later ≡ Ok x)
 after_ok (Ok y) later x h = (refl, h)
 after_ok (Err e) later x h = cc h
 

@@ -5,7 +5,8 @@ use Rattle.serde_json.specs.Data.{null}
 use Rattle.serde_json.specs.Read.{read}
 use Rattle.cut_plan.specs.Values.{Values}
 use Rattle.cut_plan.specs.Plan.{IsPlan}
-use Rattle.cut_plan.specs.Accepted.{values_in, found_in, plan_of}
+use Rattle.cut_plan.specs.Accepted.{plan_of}
+use Rattle.cut_plan.specs.inside.Accepted.{values_in, found_in}
 use Rattle.cut_plan.specs.Canonical.{canonical_text}
 use Rattle.cut_plan.proofs.Members.{values_back}
 use Rattle.cut_plan.proofs.CanonicalAccepted.{plan_in_back}

@@ -23,13 +23,13 @@ use Rattle.cut_plan.specs.declared.version.Version.{Version}
 use Rattle.cut_plan.specs.declared.version.Version.TheVariants.{One, Two}
 use Rattle.cut_plan.specs.Versions.{version_number, version_of, deaf_in}
 use Rattle.cut_plan.specs.Values.{Values}
-use Rattle.cut_plan.specs.Plan.{IsPlan, IsScale, all_within, is_rising}
+use Rattle.cut_plan.specs.Plan.{IsPlan, IsScale, is_within, is_rising}
 use Rattle.cut_plan.specs.Words.{dead_word, faults_word, faults_of}
 use Rattle.cut_plan.specs.Fields.{list_of_items, whole_number, fields_of, kind_of, is_of, number_in, numbers_in}
 use Rattle.cut_plan.specs.Fields.{text_in}
-use Rattle.cut_plan.specs.Accepted.{in_range, is_in_scale, is_within}
+use Rattle.cut_plan.specs.Accepted.{in_range, is_in_scale}
 use Rattle.cut_plan.specs.inside.Accepted.{has_some}
-use Rattle.cut_plan.specs.Canonical.{numbers_data, faults_data, deaf_data, said}
+use Rattle.cut_plan.specs.Canonical.{numbers_data, failing_data, said}
 use Rattle.cut_plan.proofs.Every.{every-list_all}
 use Rattle.cut_plan.proofs.Versions.{has, all_own}
 use Rattle.cut_plan.proofs.Checked.{within_bounds}
@@ -71,7 +71,8 @@ record IsShort (xs : List ℕ) : Type 0 where
   pub rising : is_rising xs ≡ true
 
 scale_back : (xs : List ℕ) → IsScale xs → is_in_scale xs ≡ true
-scale_back xs scale = and_from (has_some xs) (all_within 1 32 xs) (lt-ltb 0 (length xs) scale.some) scale.range
+scale_back xs scale =
+    and_from (has_some xs) (list_all (is_within 1 32) xs) (lt-ltb 0 (length xs) scale.some) scale.range
 
 scale_short : (xs : List ℕ) → IsScale xs → IsShort xs
 scale_short xs scale =
@@ -189,14 +190,14 @@ tame_dead : (dead : Dead) → IsTame Text (string (dead_word dead))
 tame_dead Silent = tame_text (dead_word Silent) (plain_tested 64 (dead_word Silent) refl)
 tame_dead Speak = tame_text (dead_word Speak) (plain_tested 64 (dead_word Speak) refl)
 
-tame_faults : (failing : Failing) → has field.Faults (version_of failing) ≡ true → IsTame Text (faults_data failing)
-    × (is_some (faults_of (text_in (faults_data failing))) ≡ true)
+tame_faults : (failing : Failing) → has field.Faults (version_of failing) ≡ true
+    → IsTame Text (failing_data One failing) × (is_some (faults_of (text_in (failing_data One failing))) ≡ true)
 tame_faults (Alike Crash) own = (tame_text (faults_word Crash) (plain_tested 64 (faults_word Crash) refl), refl)
 tame_faults (Alike Deaf) own = (tame_text (faults_word Deaf) (plain_tested 64 (faults_word Deaf) refl), refl)
 tame_faults (Mixed deaf) own = cc own
 
 tame_deaf : (failing : Failing) → unwrap_or (deaf_in failing) 0 ≤ 2048 → has field.Deaf (version_of failing) ≡ true
-    → IsTame Number (deaf_data failing) × (is_within 0 2048 (number_in (deaf_data failing)) ≡ true)
+    → IsTame Number (failing_data Two failing) × (is_within 0 2048 (number_in (failing_data Two failing)) ≡ true)
 tame_deaf (Alike faults) few own = cc own
 tame_deaf (Mixed deaf) few own = tame_within 0 2048 deaf (omega arith) few (omega arith)
 

@@ -5,7 +5,8 @@ use Rattle.std.proofs.lemmas.Str.{is_utf8-from_IsUtf8, IsUtf8-from_is_utf8}
 use Rattle.std.specs.Str.{is_utf8, IsUtf8}
 use Rattle.serde_json.specs.Read.{read}
 use Rattle.cut_plan.specs.declared.refusal.Refusal.TheVariants.{NotJson}
-use Rattle.cut_plan.specs.Accepted.{plan_of, found_in}
+use Rattle.cut_plan.specs.Accepted.{plan_of}
+use Rattle.cut_plan.specs.inside.Accepted.{found_in}
 
 pub plan_of-text : (text : List ℕ) → length text ≤ 65536 → IsUtf8 text → plan_of text ≡ found_in (read text)
 unfolding plan_of

@@ -10,8 +10,8 @@ use Rattle.cut_plan.specs.Versions.{version_of}
 use Rattle.cut_plan.specs.Values.{Values}
 use Rattle.cut_plan.specs.Plan.{IsPlan}
 use Rattle.cut_plan.specs.Fields.{fields_of}
-use Rattle.cut_plan.specs.Canonical.{members_with, data_of}
-use Rattle.cut_plan.specs.inside.Look.{with_fields}
+use Rattle.cut_plan.specs.Canonical.{members_with}
+use Rattle.cut_plan.specs.inside.Look.{data_of, with_fields}
 use Rattle.cut_plan.proofs.Tame.{AreTame, all_tame}
 
 with_fields_by : (version : Version) (v : Values) → with_fields v (fields_of version)
@@ -33,9 +33,13 @@ pub no_floats : (v : Values) → IsPlan v → has_float (data_of v) ≡ false
 unfolding data_of
 no_floats v plan = no_member_floats v (fields_of (version_of v.failing)) (all_tame v plan)
 
+fourteen : (version : Version) → length (fields_of version) ≡ 14
+unfolding fields_of
+fourteen One = refl
+fourteen Two = refl
+
 pub take_fields : (version : Version) (fields : List Field) (i : ℕ) → fields ≡ fields_of version → 14 ≤ i
     → take i fields ≡ fields_of version
-unfolding fields_of
 take_fields version fields i same past =
-    let long : length fields ≤ i = rw same past in
+    let long : length fields ≤ i = rw (same, fourteen version) past in
     take_all i fields long ∙ same

@@ -7,6 +7,8 @@ use Rattle.serde_json.specs.View.{items_of}
 use Rattle.serde_json.specs.Written.{compact_text}
 use Rattle.cut_plan.specs.declared.failing.Failing.{Failing}
 use Rattle.cut_plan.specs.declared.failing.Failing.TheVariants.{Alike, Mixed}
+use Rattle.cut_plan.specs.declared.version.Version.{Version}
+use Rattle.cut_plan.specs.declared.version.Version.TheVariants.{One, Two}
 use Rattle.cut_plan.specs.declared.field.Field.{Field}
 use Rattle.cut_plan.specs.declared.field.Field.TheVariants as field
 use Rattle.cut_plan.specs.Values.{Values}
@@ -18,23 +20,19 @@ use Rattle.cut_plan.specs.Fields.{name_of, fields_of}
 abbrev pub numbers_data : List ℕ → Data
 numbers_data xs = array (items_of (map (λ x. number (unsigned x)) xs))
 
--- the word that names the one way in which targets fail, as JSON, and null where there is none
-abbrev pub faults_data : Failing → Data
-faults_data (Alike faults) = string (faults_word faults)
-faults_data (Mixed deaf) = null
-
--- how many targets are deaf, as JSON, and null where it is not said
-abbrev pub deaf_data : Failing → Data
-deaf_data (Alike faults) = null
-deaf_data (Mixed deaf) = number (unsigned deaf)
+-- how targets fail, as JSON, in the field by which a version says it: null where the plan is of the other version
+abbrev pub failing_data : Version → Failing → Data
+failing_data One (Alike faults) = string (faults_word faults)
+failing_data Two (Mixed deaf) = number (unsigned deaf)
+failing_data version failing = null
 
 -- what a plan's values say in each field, as JSON; a field that plans of their version lack says null
 abbrev pub said : Values → Field → Data
 said v field.Copies = number (unsigned v.copies)
 said v field.Dead = string (dead_word v.dead)
-said v field.Deaf = deaf_data v.failing
+said v field.Deaf = failing_data Two v.failing
 said v field.F = numbers_data v.f
-said v field.Faults = faults_data v.failing
+said v field.Faults = failing_data One v.failing
 said v field.H = numbers_data v.h
 said v field.Implicit = boolean v.implicit
 said v field.K = numbers_data v.k
@@ -51,10 +49,6 @@ abbrev pub members_with : Values → List Field → Members
 members_with v [] = no_members
 members_with v (field ∷ fields) = member (name_of field) (said v field) (members_with v fields)
 
--- a plan's values as JSON: every field of their version, in byte order of the names
-unfoldable pub data_of : Values → Data
-data_of v = object (members_with v (fields_of (version_of v.failing)))
-
--- the canonical text of a plan's values
+-- the canonical text of a plan's values: every field of their version, in byte order of the names
 unfoldable pub canonical_text : Values → List ℕ
-canonical_text v = compact_text (data_of v)
+canonical_text v = compact_text (object (members_with v (fields_of (version_of v.failing))))

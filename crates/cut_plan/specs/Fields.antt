@@ -1,9 +1,9 @@
 -- The fields of a plan's JSON object: their names, their kinds, and what stands in them.
-use Rattle.std.specs.Prelude.{ℕ, List, [], ◌∷◌, map, Bool, false, ◌&&◌, codes, Option, Some, None, is_some}
+use Rattle.std.specs.Prelude.{ℕ, List, [], ◌∷◌, map, Bool, ◌&&◌, codes, Option, is_some}
 use Rattle.std.specs.Prelude.{option_and_then, unwrap_or}
 use Rattle.std.specs.List.{list_all}
 use Rattle.serde_json.specs.Data.{Data, null, Items, no_items, item, Members, no_members, member}
-use Rattle.serde_json.specs.Find.{get, as_bool, as_number, as_str, as_array, as_object, as_u64}
+use Rattle.serde_json.specs.Find.{get, as_bool, as_number, as_str, as_array, as_u64}
 use Rattle.cut_plan.specs.declared.field.Field.{Field}
 use Rattle.cut_plan.specs.declared.field.Field.TheVariants.{Copies, Dead, Deaf, F, Faults, H, Implicit, K, L, Liars}
 use Rattle.cut_plan.specs.declared.field.Field.TheVariants.{Links, Nodes, Repeats, Seed, Version}
@@ -30,70 +30,41 @@ name_of Repeats = codes "repeats"
 name_of Seed = codes "seed"
 name_of Version = codes "version"
 
--- the third field of a version
-abbrev pub third : format.Version → Field
-third One = F
-third Two = Deaf
-
--- the fourth field of a version
-abbrev pub fourth : format.Version → Field
-fourth One = Faults
-fourth Two = F
-
 -- every field of a version, in byte order of the names: version 1 has faults, version 2 has deaf in its place
 unfoldable pub fields_of : format.Version → List Field
-fields_of version = Copies ∷ Dead ∷ third version ∷ fourth version ∷ H ∷ Implicit ∷ K ∷ L ∷ Liars ∷ Links ∷ Nodes
-    ∷ Repeats ∷ Seed ∷ Version ∷ []
+fields_of One = Copies ∷ Dead ∷ F ∷ Faults ∷ H ∷ Implicit ∷ K ∷ L ∷ Liars ∷ Links ∷ Nodes ∷ Repeats ∷ Seed ∷ Version
+    ∷ []
+fields_of Two = Copies ∷ Dead ∷ Deaf ∷ F ∷ H ∷ Implicit ∷ K ∷ L ∷ Liars ∷ Links ∷ Nodes ∷ Repeats ∷ Seed ∷ Version ∷ []
 
--- the kind of a field's value
+-- the kind of a field's value, which is a number in all fields but these
 abbrev pub kind_of : Field → Kind
-kind_of Copies = Number
 kind_of Dead = Text
-kind_of Deaf = Number
 kind_of F = Numbers
 kind_of Faults = Text
 kind_of H = Numbers
 kind_of Implicit = Truth
 kind_of K = Numbers
 kind_of L = Numbers
-kind_of Liars = Number
-kind_of Links = Number
-kind_of Nodes = Number
-kind_of Repeats = Number
 kind_of Seed = Text
-kind_of Version = Number
+kind_of field = Number
 
 -- the whole number that a value is: an unsigned integer of 64 bits, with no point and no exponent
 abbrev pub whole_number : Data → Option ℕ
 whole_number d = option_and_then as_u64 (as_number d)
 
--- the items, as a list
+-- items, as a list
 abbrev pub list_of_items : Items → List Data
 list_of_items no_items = []
 list_of_items (item d ds) = d ∷ list_of_items ds
 
--- the items that were found
-abbrev pub found_items : Option Items → List Data
-found_items None = []
-found_items (Some ds) = list_of_items ds
-
 -- the items of an array, and none of anything else
 abbrev pub elements : Data → List Data
-elements d = found_items (as_array d)
+elements d = list_of_items (unwrap_or (as_array d) no_items)
 
 -- the keys of members, in their order
 abbrev pub keys_of_members : Members → List (List ℕ)
 keys_of_members no_members = []
 keys_of_members (member k d ms) = k ∷ keys_of_members ms
-
--- the keys of the members that were found
-abbrev pub found_keys : Option Members → List (List ℕ)
-found_keys None = []
-found_keys (Some ms) = keys_of_members ms
-
--- the keys of an object, and none of anything else
-abbrev pub keys : Data → List (List ℕ)
-keys d = found_keys (as_object d)
 
 -- whether a value is of a kind
 abbrev pub is_of : Kind → Data → Bool
@@ -117,7 +88,3 @@ numbers_in d = map number_in (elements d)
 -- the text in a value, the empty one where it is of another kind
 abbrev pub text_in : Data → List ℕ
 text_in d = unwrap_or (as_str d) []
-
--- the truth value in a value, false where it is of another kind
-abbrev pub truth_in : Data → Bool
-truth_in d = unwrap_or (as_bool d) false

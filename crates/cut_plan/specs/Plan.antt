@@ -7,9 +7,9 @@ use Rattle.cut_plan.specs.Versions.{deaf_in}
 use Rattle.cut_plan.specs.Values.{Values}
 use Rattle.cut_plan.specs.Cells.{cells_of, largest}
 
--- each number is at least low and at most high
-abbrev pub all_within : ℕ → ℕ → List ℕ → Bool
-all_within low high xs = list_all (λ x. nat_le low x && nat_le x high) xs
+-- a number that is at least low and at most high
+abbrev pub is_within : ℕ → ℕ → ℕ → Bool
+is_within low high n = nat_le low n && nat_le n high
 
 -- each number is below the next
 abbrev pub is_rising : List ℕ → Bool
@@ -20,7 +20,7 @@ is_rising (x ∷ y ∷ rest) = nat_lt x y && is_rising (y ∷ rest)
 -- a list of ring numbers or watermarks: not empty, strictly rising, each 1 to 32
 pub record IsScale (xs : List ℕ) : Type 0 where
   pub some : 0 < length xs
-  pub range : IsTrue (all_within 1 MOST_RINGS xs)
+  pub range : IsTrue (list_all (is_within 1 MOST_RINGS) xs)
   pub rising : IsTrue (is_rising xs)
 
 -- an accepted plan: every value in its range, at least one cell, and no more of anything than allowed

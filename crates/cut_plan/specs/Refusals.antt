@@ -1,5 +1,6 @@
 -- What is reported of a text that is no accepted plan.
 use Rattle.std.specs.Prelude.{◌≡◌, ℕ, List, Option, Some, None, Result, Err, ⊤}
+use Rattle.std.specs.Option.{option_map_or}
 use Rattle.cut_faults.specs.declared.code.FaultCode.{FaultCode}
 use Rattle.cut_faults.specs.declared.code.FaultCode.TheVariants as code
 use Rattle.cut_faults.specs.Codes.{code_text, text_carrying}
@@ -36,11 +37,8 @@ field_of_refusal refusal = None
 
 -- a refusal as it is printed: number, name, and the field that it carries
 abbrev pub refusal_text : Refusal → List ℕ
-refusal_text (MissingField field) = text_carrying code.MissingField (name_of field)
-refusal_text (WrongKind field) = text_carrying code.WrongKind (name_of field)
-refusal_text (OutOfRange field) = text_carrying code.OutOfRange (name_of field)
-refusal_text (NotRising field) = text_carrying code.NotRising (name_of field)
-refusal_text refusal = code_text (code_of_refusal refusal)
+refusal_text refusal = option_map_or (λ field. text_carrying (code_of_refusal refusal) (name_of field))
+    (field_of_refusal refusal) (code_text (code_of_refusal refusal))
 
 -- a fault in the program's list
 abbrev pub code_of : PlanFault → FaultCode

@@ -1,5 +1,6 @@
 -- The words by which a plan names how processes fail.
-use Rattle.std.specs.Prelude.{ℕ, List, codes, Option, Some, None, if◌then◌else◌}
+use Rattle.std.specs.Prelude.{ℕ, List, [], ◌∷◌, codes, Option}
+use Rattle.std.specs.List.{find}
 use Rattle.std.specs.Str.{bytes_eq}
 use Rattle.cut_plan.specs.declared.dead.Dead.{Dead}
 use Rattle.cut_plan.specs.declared.dead.Dead.TheVariants.{Silent, Speak}
@@ -13,8 +14,7 @@ dead_word Speak = codes "speak"
 
 -- what a word says of crashed observers
 abbrev pub dead_of : List ℕ → Option Dead
-dead_of word = if bytes_eq word (codes "silent") then Some Silent else if bytes_eq word (codes "speak") then Some Speak
-    else None
+dead_of word = find (λ dead. bytes_eq word (dead_word dead)) (Silent ∷ Speak ∷ [])
 
 -- the word that names how targets fail
 abbrev pub faults_word : Faults → List ℕ
@@ -23,5 +23,4 @@ faults_word Deaf = codes "deaf"
 
 -- how targets fail by a word
 abbrev pub faults_of : List ℕ → Option Faults
-faults_of word = if bytes_eq word (codes "crash") then Some Crash else if bytes_eq word (codes "deaf") then Some Deaf
-    else None
+faults_of word = find (λ faults. bytes_eq word (faults_word faults)) (Crash ∷ Deaf ∷ [])

@@ -1,7 +1,8 @@
 ghost use Rattle.std.specs.Prelude.{◌≡◌, IfOk};
 ghost use Rattle.serde_json.specs.View.{view};
 ghost use Rattle.cut_plan.specs.Versions.{version_of, faults_in, deaf_in};
-ghost use Rattle.cut_plan.specs.Canonical.{faults_data, deaf_data};
+ghost use Rattle.cut_plan.specs.Canonical.{failing_data};
+ghost use Rattle.cut_plan.specs.declared.version.Version.TheVariants.{One, Two};
 
 use crate::{Faults, Version};
 use serde_json::Value;
@@ -49,7 +50,7 @@ impl Failing {
 
     /// The word that names the one way, as JSON, and null where there is none.
     pub(crate) fn faults_value(self, alloc: Global) -> Result<Value, AllocError>
-        ensures { IfOk result (λ value. view value ≡ faults_data self) }
+        ensures { IfOk result (λ value. view value ≡ failing_data One self) }
     {
         match self {
             Failing::Alike(faults) => Value::try_from_str(alloc, faults.word()),
@@ -59,7 +60,7 @@ impl Failing {
 
     /// How many are deaf, as JSON, and null where it is not said.
     pub(crate) fn deaf_value(self) -> Value
-        ensures { view result ≡ deaf_data self }
+        ensures { view result ≡ failing_data Two self }
     {
         match self {
             Failing::Alike(_) => Value::Null,

@@ -1,5 +1,5 @@
 ghost use Rattle.std.specs.Prelude.{◌≡◌, ◌≤◌, Some, length};
-ghost use Rattle.cut_plan.specs.Fields.{name_of, kind_of, third, fourth, fields_of};
+ghost use Rattle.cut_plan.specs.Fields.{name_of, kind_of, fields_of};
 
 use crate::Version;
 use crate::kind::Kind;
@@ -78,45 +78,43 @@ impl fmt::Display for Field {
     }
 }
 
-/// The third field of a version.
-fn third(version: Version) -> Field
-    ensures { result ≡ third version }
-{
-    match version {
-        Version::One => Field::F,
-        Version::Two => Field::Deaf,
-    }
-}
-
-/// The fourth field of a version.
-fn fourth(version: Version) -> Field
-    ensures { result ≡ fourth version }
-{
-    match version {
-        Version::One => Field::Faults,
-        Version::Two => Field::F,
-    }
-}
-
 /// Every field of a version, in byte order of the names.
 #[tactic(auto, unfolding(crate::specs::Fields::fields_of))]
 pub(crate) fn fields_of(version: Version) -> [Field; 14]
     ensures { result ≡ fields_of version }
 {
-    [
-        Field::Copies,
-        Field::Dead,
-        third(version),
-        fourth(version),
-        Field::H,
-        Field::Implicit,
-        Field::K,
-        Field::L,
-        Field::Liars,
-        Field::Links,
-        Field::Nodes,
-        Field::Repeats,
-        Field::Seed,
-        Field::Version,
-    ]
+    match version {
+        Version::One => [
+            Field::Copies,
+            Field::Dead,
+            Field::F,
+            Field::Faults,
+            Field::H,
+            Field::Implicit,
+            Field::K,
+            Field::L,
+            Field::Liars,
+            Field::Links,
+            Field::Nodes,
+            Field::Repeats,
+            Field::Seed,
+            Field::Version,
+        ],
+        Version::Two => [
+            Field::Copies,
+            Field::Dead,
+            Field::Deaf,
+            Field::F,
+            Field::H,
+            Field::Implicit,
+            Field::K,
+            Field::L,
+            Field::Liars,
+            Field::Links,
+            Field::Nodes,
+            Field::Repeats,
+            Field::Seed,
+            Field::Version,
+        ],
+    }
 }

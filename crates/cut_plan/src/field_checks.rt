@@ -5,15 +5,15 @@ ghost use Rattle.cut_plan.specs.declared.limits.TheConstants.{MOST_RINGS};
 ghost use Rattle.serde_json.specs.View.{view};
 ghost use Rattle.cut_plan.specs.Fields.{fields_of, member_at, number_in};
 ghost use Rattle.cut_plan.specs.inside.Fields.{text_at};
-ghost use Rattle.cut_plan.specs.Accepted.{is_within, is_in_scale, failing_by, checks_by, field_check};
+ghost use Rattle.cut_plan.specs.Accepted.{is_in_scale, field_check};
 ghost use Rattle.cut_plan.specs.inside.Accepted.{is_present, is_of_kind, has_some, is_in_range, rises_at};
-ghost use Rattle.cut_plan.specs.inside.Accepted.{version_in, IsChecked};
+ghost use Rattle.cut_plan.specs.inside.Accepted.{version_in, checks_by, failing_by, IsChecked};
 ghost use Rattle.cut_plan.specs.Words.{dead_of, faults_of};
 ghost use Rattle.hex.specs.Hex.{decode_sized};
 ghost use Rattle.cut_plan.specs.declared.field.Field.TheVariants as field;
 ghost use Rattle.cut_plan.specs.declared.dead.Dead.TheVariants.{Silent};
 ghost use Rattle.cut_plan.specs.declared.faults.Faults.TheVariants.{Crash};
-ghost use Rattle.cut_plan.specs.Plan.{is_rising};
+ghost use Rattle.cut_plan.specs.Plan.{is_within, is_rising};
 ghost use Rattle.cut_plan.specs.inside.Look.{item_numbers};
 
 use crate::field::fields_of;
@@ -27,7 +27,7 @@ use hex::FromHex;
 use serde_json::Value;
 
 /// Checks that the value is an object, and then its fields by those of its version. It takes no memory.
-#[tactic(auto, unfolding(crate::specs::Accepted::field_check))]
+#[tactic(auto, unfolding(crate::specs::Accepted::field_check, crate::specs::inside::Accepted::checks_by))]
 pub(crate) fn check(value: &Value) -> Result<(), Refusal>
     ensures { result ≡ field_check (view value.now) }
 {
@@ -39,7 +39,7 @@ pub(crate) fn check(value: &Value) -> Result<(), Refusal>
 
 /// Checks each field of a version in turn: that the object has exactly these, and then the kind of
 /// each, the range of each, and that each list rises.
-#[tactic(auto, unfolding(crate::specs::Accepted::checks_by))]
+#[tactic(auto, unfolding(crate::specs::inside::Accepted::checks_by))]
 fn check_by(version: Version, value: &Value) -> Result<(), Refusal>
     ensures { result ≡ checks_by version (view value.now) }
 {

@@ -3,8 +3,8 @@ ghost use Rattle.std.specs.Prelude.{◌≡◌, ◌<◌, length, slice_index, map
 ghost use Rattle.std.specs.List.{list_all};
 ghost use Rattle.std.specs.BTreeMap.{keys as keys_of};
 ghost use Rattle.serde_json.specs.View.{view};
-ghost use Rattle.cut_plan.specs.Fields.{whole_number, elements, keys, is_of, member_at, number_in, truth_in};
-ghost use Rattle.cut_plan.specs.inside.Fields.{number_at, numbers_at, text_at, is_named};
+ghost use Rattle.cut_plan.specs.Fields.{whole_number, elements, is_of, member_at, number_in};
+ghost use Rattle.cut_plan.specs.inside.Fields.{keys, truth_in, number_at, numbers_at, text_at, is_named};
 ghost use Rattle.cut_plan.specs.inside.Accepted.{is_present, is_of_kind, version_in};
 ghost use Rattle.cut_plan.specs.inside.Look.{item_numbers};
 

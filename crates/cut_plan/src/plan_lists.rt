@@ -1,8 +1,8 @@
 //! Making a plan of a JSON object whose fields were checked.
 ghost use Rattle.std.specs.Prelude.{◌≡◌, ◌<◌, ◌^◌, length, IfOk, Ok};
 ghost use Rattle.serde_json.specs.View.{view};
-ghost use Rattle.cut_plan.specs.Accepted.{limit_check, values_in};
-ghost use Rattle.cut_plan.specs.inside.Accepted.{limits, IsChecked};
+ghost use Rattle.cut_plan.specs.Accepted.{limit_check};
+ghost use Rattle.cut_plan.specs.inside.Accepted.{limits, values_in, IsChecked};
 ghost use Rattle.cut_plan.specs.Cells.{cells_of_lists};
 ghost use Rattle.cut_plan.specs.inside.Look.{item_numbers, AreBelow, AreListsOf, AreShort};
 

@@ -2,7 +2,8 @@
 ghost use Rattle.std.specs.Prelude.{◌≡◌, IfOk, IfErr, Ok};
 ghost use Rattle.serde_json.specs.Read.{read};
 ghost use Rattle.serde_json.specs.View.{view};
-ghost use Rattle.cut_plan.specs.Accepted.{plan_in, found_in};
+ghost use Rattle.cut_plan.specs.Accepted.{plan_in};
+ghost use Rattle.cut_plan.specs.inside.Accepted.{found_in};
 ghost use Rattle.cut_plan.specs.Refusals.{IsFaultOfText};
 
 use crate::field_checks::check;

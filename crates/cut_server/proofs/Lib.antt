@@ -1,3 +1,2 @@
 pub mod AttendLemmas
-pub mod Histories
 pub mod ReportLemmas

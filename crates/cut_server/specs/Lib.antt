@@ -1,3 +1,2 @@
 pub mod Serve
-pub mod Laws
 pub mod inside

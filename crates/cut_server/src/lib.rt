@@ -8,7 +8,6 @@
 #![tactic(auto)]
 
 mod capacity;
-pub mod laws;
 mod serve;
 mod shelf;
 mod socket;

@@ -9,7 +9,8 @@ use Rattle.cut_plan.specs.Values.{Values}
 use Rattle.cut_plan.specs.declared.refusal.Refusal.{Refusal}
 use Rattle.cut_plan.specs.Versions.{version_of}
 use Rattle.cut_faults.specs.declared.code.FaultCode.TheVariants as code
-use Rattle.cut_lines.specs.Lines.{header, line_of, line_with}
+use Rattle.cut_lines.specs.Lines.{header, line_with}
+use Rattle.cut_outcome.specs.Sum.{sum_of, trials_of_cell}
 use Rattle.cut_ledger.specs.declared.slip.Slip.{Slip}
 use Rattle.cut_ledger.specs.Laws.{TrueSlipsSumAll}
 use Rattle.cut_ledger.specs.World.{AreTrue}
@@ -23,7 +24,7 @@ use Rattle.cut_session.specs.Answering.{rows_to, end_frame, error_frame}
 use Rattle.cut_session.specs.Own.{own_frame, own_rows_to, IsOwnTable, IsOwnPrefix, IsOwnReply}
 
 own_line : (v : Values) (base : List Slip) (c : ℕ) → TrueSlipsSumAll → IsPlan v → AreTrue v base → c
-    < length (cells_of v) → full_line v base c ≡ line_of v c
+    < length (cells_of v) → full_line v base c ≡ line_with v c (sum_of v (trials_of_cell v c))
 unfolding full_line
 own_line v base c sums plan are low = ap (λ t. line_with v c t) (sums v base plan are c low)
 

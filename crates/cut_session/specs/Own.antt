@@ -6,14 +6,15 @@ use Rattle.cut_plan.specs.Accepted.{plan_of}
 use Rattle.cut_plan.specs.Cells.{cells_of}
 use Rattle.cut_plan.specs.Values.{Values}
 use Rattle.cut_plan.specs.Versions.{version_of}
-use Rattle.cut_lines.specs.Lines.{header, line_of}
+use Rattle.cut_lines.specs.Lines.{header, line_with}
+use Rattle.cut_outcome.specs.Sum.{sum_of, trials_of_cell}
 use Rattle.cut_messages.specs.declared.kind.Kind.TheVariants as kind
 use Rattle.cut_messages.specs.Frames.{frame}
 use Rattle.cut_session.specs.Answering.{AnswersText, end_frame, error_frame}
 
 -- the frame of a cell's line, as the definitions give it trial by trial
 abbrev pub own_frame : Values → ℕ → List ℕ
-own_frame plan cell = frame kind.Row (line_of plan cell)
+own_frame plan cell = frame kind.Row (line_with plan cell (sum_of plan (trials_of_cell plan cell)))
 
 -- the frames of the header and of the lines of the first n cells
 unfoldable pub own_rows_to : Values → ℕ → List ℕ

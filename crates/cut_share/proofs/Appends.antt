@@ -2,7 +2,7 @@
 use Rattle.std.proofs.Common.{◌≡◌, ◌∙◌, ◌≤◌, ◌<◌, ◌+◌, ◌++◌, inl, inr, ℕ, List, [], ◌∷◌, Ok, Err, Option, Some, None}
 use Rattle.std.proofs.Common.{unwrap_or, refl, sym, ap, subst, arith, append-nil, append_assoc, length, length-append}
 use Rattle.std.proofs.Common.{cond, filter, get_or, take, drop, take-append-drop}
-use Rattle.std.specs.Prelude.{IsSome, IsErrOf, IfSome, is_some, OnOk, Result, ◌↔◌, ◌⊎◌}
+use Rattle.std.specs.Prelude.{IsSome, IsErrOf, IfSome, is_some, OnOk, Result, ◌↔◌}
 use Rattle.std.proofs.lemmas.List.{map-append, take_more}
 use Rattle.std.proofs.lemmas.List.Elements.{filter-append}
 use Rattle.cut_plan.specs.Values.{Values}
@@ -14,69 +14,17 @@ use Rattle.cut_ledger.specs.Machine.{slip_of}
 use Rattle.cut_journal.specs.declared.fault.JournalFault.{JournalFault}
 use Rattle.cut_journal.specs.declared.fault.JournalFault.TheVariants as journal
 use Rattle.cut_journal.specs.Journal.{JournalValue, ReadsAs, IsAppendFault, IsFileOf, LeavesAppend, disk_faults}
-use Rattle.cut_journal.specs.Journal.{kept_slips, slips_after}
+use Rattle.cut_journal.specs.Journal.{AppendsEach, kept_slips, slips_after}
 use Rattle.cut_journal.specs.Reading.{reading}
-use Rattle.cut_journal.proofs.Moments.{stays, weaker, and_then}
+use Rattle.cut_journal.proofs.Moments.{stays}
+use Rattle.cut_journal.proofs.Series.{LeavesDoubt, each_then, none_of}
 use Rattle.cut_share.specs.declared.fault.ShareFault.{ShareFault}
 use Rattle.cut_share.specs.declared.fault.ShareFault.TheVariants.{Memory, OtherPlan, BadSlip, WorkMemory, Broken, Disk}
 use Rattle.cut_share.specs.declared.task.Task.{Task}
 use Rattle.cut_share.specs.inside.Tasks.{IsRun, done_of, has_result, pieces_of}
-use Rattle.cut_share.specs.Appending.{Adds, AppendsEach, NoneFailed, OneFailed}
+use Rattle.cut_share.specs.Appending.{Adds, NoneFailed, OneFailed}
 use Rattle.cut_share.specs.Running.{running_faults}
 use Rattle.cut_share.specs.inside.Running.{EndsAppends, fault_of, slip_at, slips_at}
-
-none_of : (o : Option Slip) → (IsSome o → ⊥) → o ≡ None
-none_of None never = refl
-none_of (Some s) never = absurd (never refl)
-
--- ---- what a crash leaves
-
-reads_on : (v : Values) (kept : List Slip) (e : Option Slip) (bytes : List ℕ) → ReadsAs v kept None bytes
-    → ReadsAs v kept e bytes
-reads_on v kept e bytes (inl reads) = inl reads
-reads_on v kept e bytes (inr other) = absurd (cc (other.1.0))
-
--- what appends leave to be said of the doubtful slip before them
-abbrev pub LeavesDoubt : Option Slip → Option Slip → List Slip → Type 0
-LeavesDoubt d e ys = (d ≡ None) ⊎ ((ys ≡ []) × (e ≡ d))
-
--- moments at which only the kept slips are there, before others
-begun_with : (v : Values) (kept ys : List Slip) (d e : Option Slip) (old mid new : DiskState) → LeavesDoubt d e ys
-    → Throughout old mid (ReadsAs v kept d)
-    → AppendsEach v kept e ys mid new → AppendsEach v kept e ys old new
-begun_with v kept [] d e old mid new (inl none) before after =
-    and_then (ReadsAs v kept e) old mid new
-    (weaker (ReadsAs v kept None) (ReadsAs v kept e) (reads_on v kept e) old mid
-    (subst (λ (o : Option Slip). Throughout old mid (ReadsAs v kept o)) none before)) after
-begun_with v kept [] d e old mid new (inr same) before after =
-    and_then (ReadsAs v kept e) old mid new (subst (λ (o : Option Slip). Throughout old mid (ReadsAs v kept o))
-    (sym same.1) before) after
-begun_with v kept (y ∷ ys) d e old mid new (inl none) before after = (
-  after.0,
-  (
-    and_then (ReadsAs v kept (Some y)) old mid after.0
-        (weaker (ReadsAs v kept None) (ReadsAs v kept (Some y)) (reads_on v kept (Some y)) old mid
-        (subst (λ (o : Option Slip). Throughout old mid (ReadsAs v kept o)) none before)) after.1.0,
-    after.1.1,
-  ),
-)
-begun_with v kept (y ∷ ys) d e old mid new (inr same) before after = absurd (cc (same.0))
-
--- slips that are appended after others
-each_then : (v : Values) (kept now xs ys : List Slip) (d e : Option Slip) (old mid new : DiskState) → now ≡ kept
-    ++ xs → LeavesDoubt d e ys
-    → AppendsEach v kept d xs old mid → AppendsEach v now e ys mid new → AppendsEach v kept e (xs ++ ys) old new
-each_then v kept now [] ys d e old mid new are doubt before after =
-    begun_with v kept ys d e old mid new doubt before
-    (subst (λ (l : List Slip). AppendsEach v l e ys mid new) (are ∙ append-nil kept) after)
-each_then v kept now (x ∷ xs) ys d e old mid new are doubt before after = (
-  before.0,
-  (
-    before.1.0,
-    each_then v (kept ++ x ∷ []) now xs ys d e before.0 mid new (are ∙ sym (append_assoc kept (x ∷ []) xs)) doubt
-        before.1.1 after,
-  ),
-)
 
 -- ---- no append, and one
 

@@ -25,8 +25,9 @@ use Rattle.cut_share.specs.inside.Batches.{EndsPieces, IsUpTo, IsWhole}
 use Rattle.cut_share.specs.inside.Pieces.{IsSharePiece, own_times}
 use Rattle.cut_share.specs.inside.Running.{EndsAppends, slip_at, slips_at}
 use Rattle.cut_share.specs.inside.Tasks.{done_of, has_result, lost_of, pieces_of}
+use Rattle.cut_ledger.proofs.Law.{times-append}
 use Rattle.cut_share.proofs.Appends.{added_more, added_doubtful, none_failed, none_before}
-use Rattle.cut_share.proofs.Dealing.{own_at, times_both, times_one}
+use Rattle.cut_share.proofs.Dealing.{own_at, times_one}
 use Rattle.cut_share.proofs.PieceFacts.{piece_has_first}
 
 one_own : (s : Share) (v : Values) (p : Piece) → IsSharePiece s v p → All (IsSharePiece s v) (p ∷ [])
@@ -192,8 +193,8 @@ batch_more is_honest state whole done s v all left next tasks old mid new honest
               one,
               two,
               times_parted tasks t,
-              times_both before.done (done_of tasks) t,
-              times_both before.lost (lost_of tasks) t,
+              times-append before.done (done_of tasks) t,
+              times-append before.lost (lost_of tasks) t,
             ));
       };
       sufficed = whole_more whole done before.lost tasks before.sufficed is;
@@ -271,10 +272,10 @@ batch_stops is_honest state Disk whole s v all left next tasks old mid new hones
               two,
               times_parted tasks t,
               ap (λ (l : List Piece). times_in l t) ends.0,
-              times_both first (p ∷ after) t,
+              times-append first (p ∷ after) t,
               times_first p after t,
-              times_both (before.done ++ first) (p ∷ []) t,
-              times_both before.done first t,
+              times-append (before.done ++ first) (p ∷ []) t,
+              times-append before.done first t,
               times_one p t,
             )),
         subst (λ (l : List Slip). Adds is_honest state l old new) (sym joined) both.0,

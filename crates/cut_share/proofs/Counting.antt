@@ -7,13 +7,11 @@ use Rattle.std.specs.List.{range_with_len}
 use Rattle.std.specs.Int.{div_ceil}
 use Rattle.std.proofs.lemmas.Bool.{lt-ltb}
 use Rattle.std.proofs.lemmas.Grind.{div_ceil_times}
-use Rattle.std.proofs.lemmas.Nat.{mul-le}
 use Rattle.std.proofs.lemmas.List.FromFn.{length-range_with_len}
 use Rattle.std.proofs.lemmas.List.Sums.{sum_by-append, length-filter, count_by-le-length}
 use Rattle.cut_lists.proofs.Ranges.{All-range_with_len, ranges-join}
 use Rattle.cut_lists.proofs.Ranks.{count_by_all, count_by_none}
 use Rattle.cut_plan.specs.Cells.{cells_of, trial_count}
-use Rattle.cut_plan.specs.Plan.{IsPlan}
 use Rattle.cut_plan.specs.Values.{Values}
 use Rattle.cut_ledger.specs.Contents.{all_trials}
 use Rattle.cut_share.specs.declared.share.Share.{Share}
@@ -43,10 +41,6 @@ count_alike p false a n same =
 pub cell_ends : (v : Values) (c : ℕ) → c < length (cells_of v) → c * v.repeats + v.repeats ≤ trial_count v
 cell_ends v c low =
     let more : suc c * v.repeats ≤ trial_count v = mul-le-mul_right v.repeats low in omega (arith, more)
-
--- trials have numbers of 32 bits
-pub few_trials : (v : Values) → IsPlan v → trial_count v ≤ 4096 * 1000000
-few_trials v plan = mul-le (length (cells_of v)) v.repeats 4096 1000000 plan.few_cells plan.few_repeats
 
 -- a trial of a block is of a share where the block is
 pub in_block : (s : Share) (v : Values) (c b t : ℕ) → c < length (cells_of v) → c * v.repeats + b * s.block_size ≤ t

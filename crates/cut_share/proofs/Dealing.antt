@@ -4,7 +4,6 @@ use Rattle.std.proofs.Common.{◌∙◌, subst, arith, get_or}
 use Rattle.std.specs.Prelude.{slice_set, Option}
 use Rattle.std.proofs.lemmas.List.{map-append}
 use Rattle.std.proofs.lemmas.List.Elements.{All-append}
-use Rattle.std.proofs.lemmas.List.Sums.{sum_by-append}
 use Rattle.cut_lists.proofs.Parts.{count_first}
 use Rattle.cut_plan.specs.Values.{Values}
 use Rattle.cut_outcome.specs.Computed.{Computed}
@@ -12,15 +11,13 @@ use Rattle.cut_outcome.specs.declared.piece.Piece.{Piece}
 use Rattle.cut_outcome.specs.Outcome.{one_if}
 use Rattle.cut_ledger.specs.Contents.{is_in}
 use Rattle.cut_ledger.specs.World.{times_in}
+use Rattle.cut_ledger.proofs.Law.{times-append}
 use Rattle.cut_share.specs.declared.share.Share.{Share}
 use Rattle.cut_share.specs.declared.task.Task.{Task}
 use Rattle.cut_share.specs.inside.Pieces.{IsSharePiece, own_times}
 use Rattle.cut_share.specs.inside.Tasks.{pieces_of}
 
--- how often a trial is in pieces, part by part
-pub times_both : (xs ys : List Piece) (t : ℕ) → times_in (xs ++ ys) t ≡ times_in xs t + times_in ys t
-times_both xs ys t = sum_by-append (λ p. one_if (is_in p t)) xs ys
-
+-- how often a trial is in one piece
 pub times_one : (p : Piece) (t : ℕ) → times_in (p ∷ []) t ≡ one_if (is_in p t)
 times_one p t = omega (arith, count_first (λ q. is_in q t) p [])
 
@@ -54,7 +51,7 @@ own_more s v ps qs p are own is =
 pub times_more : (ps qs : List Piece) (p : Piece) (t left more all : ℕ) → qs ≡ ps ++ p ∷ []
     → times_in ps t + left ≡ all → one_if (is_in p t) + more ≡ left → times_in qs t + more ≡ all
 times_more ps qs p t left more all are before one =
-    omega (arith, ap (λ (l : List Piece). times_in l t) are, times_both ps (p ∷ []) t, times_one p t, before, one)
+    omega (arith, ap (λ (l : List Piece). times_in l t) are, times-append ps (p ∷ []) t, times_one p t, before, one)
 
 pub own_at : (s now : Share) (v w : Values) (ps : List Piece) (t : ℕ) → now ≡ s → w ≡ v
     → own_times now w ps t ≡ own_times s v ps t

@@ -2,14 +2,13 @@
 use Rattle.std.proofs.Common.{◌≡◌, ◌∙◌, ◌≤◌, ◌<◌, ◌+◌, ◌++◌, ◌==◌, ◌&&◌, ◌||◌, ℕ, zero, suc, Bool, true, false, not}
 use Rattle.std.proofs.Common.{cond, List, [], ◌∷◌, Ok, Err, filter, length, get_or, nat_lt, refl, sym, ap, subst, arith}
 use Rattle.std.specs.Prelude.{IsTrue, All, Result, count_by}
-use Rattle.std.specs.List.{flat_map, range_with_len}
+use Rattle.std.specs.List.{range_with_len}
 use Rattle.std.proofs.lemmas.Bool.{and_parts, eqb-true, ltb-true}
 use Rattle.std.proofs.lemmas.Bool.Decides.{nat_tests}
 use Rattle.std.proofs.lemmas.List.{map-append}
 use Rattle.std.proofs.lemmas.List.Elements.{All-append, All-nil, All-head, All-tail}
 use Rattle.std.proofs.lemmas.List.Folds.{list_any-append}
 use Rattle.std.proofs.lemmas.List.FromFn.{get_or-map-range_with_len}
-use Rattle.std.proofs.lemmas.List.Sums.{sum_by-append}
 use Rattle.cut_lists.proofs.Counts.{list_any-count_by}
 use Rattle.cut_lists.proofs.Maps.{count_by-map}
 use Rattle.cut_lists.proofs.Parts.{count_first}
@@ -19,7 +18,6 @@ use Rattle.cut_plan.specs.Cells.{trial_count}
 use Rattle.cut_plan.specs.Values.{Values}
 use Rattle.cut_outcome.specs.declared.piece.Piece.{Piece}
 use Rattle.cut_outcome.specs.Outcome.{one_if}
-use Rattle.cut_outcome.specs.Sum.{trials_in}
 use Rattle.cut_disks.specs.State.{DiskState}
 use Rattle.cut_ledger.specs.declared.slip.Slip.{Slip}
 use Rattle.cut_ledger.specs.Contents.{has, is_in, is_in_base, over_base}
@@ -27,6 +25,8 @@ use Rattle.cut_ledger.specs.Gaps.{gaps_of}
 use Rattle.cut_ledger.specs.Laws.{GapsCover}
 use Rattle.cut_ledger.specs.Slips.{AreGood}
 use Rattle.cut_ledger.specs.World.{pieces_of_slips, times_in}
+use Rattle.cut_ledger.proofs.FillLemmas.{count_trials}
+use Rattle.cut_ledger.proofs.Law.{one_if-le}
 use Rattle.cut_journal.specs.Journal.{JournalValue}
 use Rattle.cut_share.specs.declared.fault.ShareFault.{ShareFault}
 use Rattle.cut_share.specs.declared.fault.ShareFault.TheVariants.{Memory, OtherPlan, BadSlip, WorkMemory, Broken, Disk}
@@ -54,10 +54,6 @@ and_false false = refl
 or_none : (b : Bool) → b || false ≡ b
 or_none true = refl
 or_none false = refl
-
-one_at_most : (b : Bool) → one_if b ≤ 1
-one_at_most true = omega arith
-one_at_most false = omega arith
 
 -- ---- how often a trial is in the gaps
 
@@ -102,16 +98,6 @@ count_free free n t low =
     ∙ count_by_agree (λ x. (x == t) && free x) (λ x. (x == t) && free t) 0 n
     (record { same = λ x from below. same_at free x t })
     ∙ once_if (free t) n t low
-
-count_trials : (ps : List Piece) (t : ℕ) → count_by (λ x. x == t) (flat_map trials_in ps) ≡ times_in ps t
-count_trials [] t = refl
-count_trials (p ∷ ps) t =
-    let here : count_by (λ x. x == t) (trials_in p) ≡ one_if (is_in p t) =
-    once_in_range p.first p.count t ∙ grind (arith, nat_tests) in
-    let both : count_by (λ x. x == t) (trials_in p ++ flat_map trials_in ps) ≡ count_by (λ x. x == t) (trials_in p)
-    + count_by (λ x. x == t) (flat_map trials_in ps) =
-    sum_by-append (λ x. cond (x == t) 1 0) (trials_in p) (flat_map trials_in ps) in
-    omega (arith, times_first p ps t, here, both, count_trials ps t)
 
 own_if : (s : Share) (v : Values) (ps : List Piece) (t : ℕ) (b : Bool) → is_in_share s v t ≡ b
     → own_times s v ps t ≡ (cond b (times_in ps t) 0)
@@ -253,7 +239,7 @@ ends_short is_honest state s v ss all old new begun upto =
     let low : 1 ≤ times_in upto.lost t = at.1 in
     let one = upto.parted.times t in
     let two = begun.lack t in
-    let few : one_if (is_lacking s v ss t) ≤ 1 = one_at_most (is_lacking s v ss t) in
+    let few : one_if (is_lacking s v ss t) ≤ 1 = one_if-le (is_lacking s v ss t) in
     let none : times_in upto.done t ≡ 0 = omega (arith, low, one, two, few) in
     let lacks : IsTrue (is_lacking s v ss t) =
     is_true (is_lacking s v ss t) (times_in upto.lost t) low (omega (arith, one, two)) in (

@@ -1,55 +1,21 @@
 -- Pieces of a plan, and the parts that they are cut into.
 use Rattle.std.proofs.Common.{◌≡◌, ℕ, ◌+◌, ◌-◌, ◌*◌, ◌/◌, ◌%◌, ◌<◌, ◌≤◌, ◌==◌, ◌&&◌, true, false}
-use Rattle.std.proofs.Common.{nat_lt, nat_le, length, sym, ap, ◌∙◌, arith}
+use Rattle.std.proofs.Common.{nat_lt, nat_le, sym, ap, ◌∙◌, arith}
 use Rattle.std.specs.Prelude.{IsTrue}
-use Rattle.std.proofs.Math.Nat.{div-mul-le_self, lt-div-mul-add}
-use Rattle.std.proofs.lemmas.Bool.{and_parts, eqb-true, ltb-true, leb-true, lt-ltb, le-leb, eq-eqb}
+use Rattle.std.proofs.lemmas.Bool.{and_parts, ltb-true, lt-ltb, le-leb, eq-eqb}
 use Rattle.std.proofs.lemmas.Bool.Decides.{nat_tests}
-use Rattle.std.proofs.lemmas.Nat.{div-mul-add, div_below, div-add-mod', mod_below}
-use Rattle.cut_plan.specs.Cells.{cells_of, trial_count}
+use Rattle.std.proofs.lemmas.Nat.{div-add-mod', mod_below}
+use Rattle.cut_plan.specs.Cells.{trial_count}
 use Rattle.cut_plan.specs.Plan.{IsPlan}
 use Rattle.cut_plan.specs.Values.{Values}
 use Rattle.cut_outcome.specs.declared.piece.Piece.{Piece}
 use Rattle.cut_outcome.specs.Outcome.{one_if}
 use Rattle.cut_outcome.specs.Sum.{is_piece}
 use Rattle.cut_ledger.specs.Contents.{is_in}
+use Rattle.cut_ledger.proofs.CellLemmas.{cell_is, piece_facts}
 use Rattle.cut_share.specs.declared.share.Share.{Share}
 use Rattle.cut_share.specs.Share.{is_in_share}
 use Rattle.cut_share.proofs.Counting.{in_block}
-
--- what is known of a piece, of cell c
-pub record PieceFacts (v : Values) (p : Piece) (c : ℕ) : Type 0 where
-  pub some : 0 < p.count
-  pub end : p.first + p.count ≤ trial_count v
-  pub cell : c < length (cells_of v)
-  pub starts : c * v.repeats ≤ p.first
-  pub ends : p.first + p.count ≤ c * v.repeats + v.repeats
-
-pub piece_facts : (v : Values) (p : Piece) → IsPlan v → IsTrue (is_piece v p) → PieceFacts v p (p.first / v.repeats)
-piece_facts v p plan piece =
-    let r : ℕ = v.repeats in
-    let repeats = plan.some_repeats in
-    let last : ℕ = p.first + p.count - 1 in
-    let parts = and_parts (nat_lt 0 p.count && nat_le (p.first + p.count) (trial_count v)) (p.first / r == last / r)
-    piece in
-    let ends = and_parts (nat_lt 0 p.count) (nat_le (p.first + p.count) (trial_count v)) parts.0 in
-    let some : 0 < p.count = ltb-true 0 p.count ends.0 in
-    let end : p.first + p.count ≤ trial_count v = leb-true (p.first + p.count) (trial_count v) ends.1 in
-    let one : p.first / r ≡ last / r = eqb-true (p.first / r) (last / r) parts.1 in
-    let same : p.first / r * r ≡ last / r * r = ap (λ c. c * r) one in
-    let high : last < last / r * r + r = lt-div-mul-add {a = last} {b = r} repeats in
-    record {
-      some = some;
-      end = end;
-      cell = div_below p.first r (length (cells_of v)) repeats (omega arith);
-      starts = div-mul-le_self p.first r;
-      ends = omega (arith, high, same, some);
-    }
-
-cell_is : (r c t : ℕ) → c * r ≤ t → t < c * r + r → t / r ≡ c
-cell_is r c t low high =
-    let rest : c * r + (t - c * r) ≡ t = omega arith in
-    ap (λ n. n / r) (sym rest) ∙ div-mul-add c r (t - c * r) (omega arith)
 
 -- a part of a piece is one
 pub part_is_piece : (v : Values) (p q : Piece) → IsPlan v → IsTrue (is_piece v p) → 1 ≤ q.count → p.first ≤ q.first

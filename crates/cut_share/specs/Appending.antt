@@ -1,18 +1,8 @@
 -- Slips that are appended to a journal one after another.
-use Rattle.std.specs.Prelude.{◌≡◌, ◌≤◌, ◌+◌, ◌++◌, List, [], ◌∷◌, length, Option, Some, None}
-use Rattle.cut_plan.specs.Values.{Values}
-use Rattle.cut_disks.specs.State.{DiskState, Throughout}
+use Rattle.std.specs.Prelude.{◌≡◌, ◌≤◌, ◌+◌, ◌++◌, List, length, Some, None}
+use Rattle.cut_disks.specs.State.{DiskState}
 use Rattle.cut_ledger.specs.declared.slip.Slip.{Slip}
-use Rattle.cut_journal.specs.Journal.{JournalValue, ReadsAs, kept_slips}
-
--- slips are appended one after another to those that are kept: while one is appended, each crash at each moment
--- leaves those before it, or those and it; once it is acknowledged, it is one of those that each later crash leaves.
--- After the last of them the doubtful one, where there is one, may be there too
-abbrev pub AppendsEach : Values → List Slip → Option Slip → List Slip → DiskState → DiskState → Type 0
-AppendsEach v kept doubtful [] old new = Throughout old new (ReadsAs v kept doubtful)
-AppendsEach v kept doubtful (slip ∷ slips) old new =
-    (mid : DiskState) × (Throughout old mid (ReadsAs v kept (Some slip))
-    × AppendsEach v (kept ++ slip ∷ []) doubtful slips mid new)
+use Rattle.cut_journal.specs.Journal.{AppendsEach, JournalValue, kept_slips}
 
 -- these slips were added to a journal, in this order, and no others; only a journal that is not broken takes one. Of
 -- an honest disk it is known which bytes say them, and what each crash leaves

@@ -1,6 +1,7 @@
 -- Which numbers are a share.
 use Rattle.std.specs.Prelude.{ℕ, ◌≤◌}
-use Rattle.cut_share.specs.declared.share.TheConstants.{LARGEST_BLOCK, MOST_SHARES}
+use Rattle.cut_plan.specs.declared.limits.TheConstants.{MOST_REPEATS}
+use Rattle.cut_share.specs.declared.share.TheConstants.{MOST_SHARES}
 
 -- a share: its number among the shares, from 1, how many shares there are, and how many trials a block has at most
 pub record IsShare (index shares block_size : ℕ) : Type 0 where
@@ -8,4 +9,4 @@ pub record IsShare (index shares block_size : ℕ) : Type 0 where
   pub within : index ≤ shares
   pub few : shares ≤ MOST_SHARES
   pub some : 1 ≤ block_size
-  pub small : block_size ≤ LARGEST_BLOCK
+  pub small : block_size ≤ MOST_REPEATS

@@ -5,13 +5,10 @@ ghost use Rattle.cut_share.specs.Bounds.{IsShare};
 ghost use Rattle.cut_share.specs.Blocks.{block_of};
 
 use cut_outcome::Piece;
-use cut_plan::Plan;
+use cut_plan::{MOST_REPEATS, Plan};
 
 /// The most shares of a study.
 const MOST_SHARES: u32 = 100_000;
-
-/// The most trials of a block, which is the most that a cell has.
-const LARGEST_BLOCK: u32 = 1_000_000;
 
 /// What one of several machines runs of a plan: a share of its trials.
 ///
@@ -23,7 +20,7 @@ pub struct Share {
     pub index: u32,
     /// How many shares there are, at most 100,000.
     pub shares: u32,
-    /// How many trials a block has, 1 to 1,000,000; the last of a cell has what is left.
+    /// How many trials a block has, 1 to 1,000,000, the most that a cell has; the last of a cell has what is left.
     pub block_size: u32,
     pub ghost bounds: { IsShare index shares block_size },
 }
@@ -38,7 +35,7 @@ impl Share {
             (s.index ≡ index) × (s.shares ≡ shares) × (s.block_size ≡ block_size)) }
     {
         let is_numbered = 1 <= index && index <= shares && shares <= MOST_SHARES;
-        if is_numbered && 1 <= block_size && block_size <= LARGEST_BLOCK {
+        if is_numbered && 1 <= block_size && u64::from(block_size) <= MOST_REPEATS {
             Some(Share {
                 index,
                 shares,

@@ -1,8 +1,8 @@
 -- How many trials slips hold, and how many cells of a ledger are done.
-use Rattle.std.proofs.Common.{◌≡◌, ◌∙◌, ◌+◌, ◌-◌, ◌/◌, ◌<◌, ◌≤◌, ◌^◌, ◌==◌, ◌&&◌, ◌||◌, ℕ, false, true, cond}
+use Rattle.std.proofs.Common.{◌≡◌, ◌∙◌, ◌+◌, ◌-◌, ◌*◌, ◌/◌, ◌<◌, ◌≤◌, ◌^◌, ◌==◌, ◌&&◌, ◌||◌, ℕ, false, true, cond}
 use Rattle.std.proofs.Common.{List, [], ◌∷◌, length, take, get_or, nat_lt, nat_le, refl, sym, ap, arith, zero-add}
 use Rattle.std.specs.Prelude.{IsTrue}
-use Rattle.std.specs.List.{range_with_len, count_by}
+use Rattle.std.specs.List.{range_with_len, count_by, list_all}
 use Rattle.std.proofs.Math.Bool.{or-false}
 use Rattle.std.proofs.lemmas.Bool.{and_parts, leb-true, ltb-true, or_right, false_from_ne_true}
 use Rattle.std.proofs.lemmas.List.{take_more}
@@ -11,17 +11,19 @@ use Rattle.std.proofs.lemmas.List.FromFn.{length-range_with_len, get_or-map-rang
 use Rattle.std.proofs.lemmas.List.Sums.{count_by-le-length, sum_by-cons, sum_by_push}
 use Rattle.std.proofs.lemmas.Nat.{mul-le}
 use Rattle.cut_lists.proofs.Additions.{PassesPart, count_of_more}
-use Rattle.cut_lists.proofs.Intervals.{within_is}
-use Rattle.cut_lists.proofs.Ranges.{none_passing, range_with_len_more}
+use Rattle.cut_lists.proofs.Intervals.{list_all_agree, within_is}
+use Rattle.cut_lists.proofs.Ranges.{count_by_agree, none_passing, range_with_len_more}
 use Rattle.cut_plan.specs.Cells.{cells_of, trial_count}
 use Rattle.cut_plan.specs.Plan.{IsPlan}
 use Rattle.cut_plan.specs.Values.{Values}
 use Rattle.cut_outcome.specs.declared.piece.Piece.{Piece}
-use Rattle.cut_outcome.specs.Sum.{is_piece}
+use Rattle.cut_outcome.specs.Sum.{is_piece, trials_of_cell}
 use Rattle.cut_ledger.specs.declared.slip.Slip.{Slip}
 use Rattle.cut_ledger.specs.Contents.{Contents, all_trials, cell_done, has, is_in, is_in_base, over_base}
 use Rattle.cut_ledger.specs.Slips.{AreGood, IsGood}
-use Rattle.cut_status.specs.Status.{done_among, held_trials}
+use Rattle.cut_ledger.proofs.LawBytes.{in_plan}
+use Rattle.cut_status.specs.Status.{done_cells, held_trials}
+use Rattle.cut_status.specs.inside.Counts.{done_among}
 
 -- ---- no slip
 
@@ -68,7 +70,7 @@ part_more v ss i d within good =
       starts = omega arith;
       ends = omega arith;
       inside = λ t a b. (
-        sym (has_in v old t (omega arith)) ∙ none_passing (has (over_base v old)) p.first p.count t good.apart a b,
+        none_passing (is_in_base old) p.first p.count t good.apart a b,
         in_more ss i d t within
             ∙ or_right (is_in_base old t) (is_in p t) (within_is p.first (p.first + p.count) t a b),
       );
@@ -104,3 +106,12 @@ done_more l n =
 
 pub done_few : (l : Contents) (n : ℕ) → done_among l n ≤ n
 done_few l n = omega (arith, count_by-le-length (cell_done l) (range_with_len 0 n), length-range_with_len 0 n)
+
+-- a cell of the ledger over slips is done where each of its trials is in some slip's piece
+pub done_over : (v : Values) (ss : List Slip) → done_among (over_base v ss) (length (cells_of v)) ≡ done_cells v ss
+done_over v ss =
+    let n : ℕ = length (cells_of v) in
+    count_by_agree (cell_done (over_base v ss)) (λ c. list_all (is_in_base ss) (trials_of_cell v c)) 0 n (record {
+      same = λ c low high. list_all_agree (has (over_base v ss)) (is_in_base ss) (c * v.repeats) v.repeats
+          (λ t from to. has_in v ss t (in_plan c n v.repeats t (omega (arith, high)) to));
+    })

@@ -1,10 +1,10 @@
 -- Bytes are a study of one plan at most.
-use Rattle.std.proofs.Common.{◌≡◌, ◌∙◌, ◌-◌, inl, inr, ℕ, zero, suc, Bool, true, false, List, Result, Ok, Err}
+use Rattle.std.proofs.Common.{◌≡◌, ◌∙◌, inl, inr, ℕ, zero, suc, Bool, true, false, List, Result, Ok, Err}
 use Rattle.std.proofs.Common.{refl, sym, ap, subst, arith}
 use Rattle.cut_plan.specs.Values.{Values}
-use Rattle.cut_outcome.specs.Sum.{each_number}
 use Rattle.cut_ledger.specs.declared.slip.Slip.{Slip}
-use Rattle.cut_ledger.specs.Slips.{AreGood, IsFirstBad}
+use Rattle.cut_ledger.specs.Slips.{AreGood}
+use Rattle.cut_ledger.proofs.SlipLemmas.{none_bad}
 use Rattle.cut_journal.specs.declared.fault.JournalFault.{JournalFault}
 use Rattle.cut_journal.specs.declared.fault.JournalFault.TheVariants as journal
 use Rattle.cut_journal.specs.Reading.{is_study, has_header, says_plan, has_magic, slips_reading, reading}
@@ -62,15 +62,6 @@ one_status back bytes s t one two =
     ∙ ap (λ (ss : List Slip). status_over two.plan ss) same.1 ∙ sym two.is
 
 -- ---- and no fault
-
-no_slip : Slip
-no_slip = record { piece = record { first = 0; count = 0 }; totals = each_number (λ n. 0) }
-
-none_bad : (v : Values) (ss : List Slip) (n : ℕ) → AreGood v ss → IsFirstBad v ss n → ⊥
-none_bad v ss n good bad =
-    let numbered = bad.numbered in
-    let within = bad.within in
-    bad.bad no_slip (good (n - 1) no_slip (omega arith) (omega arith))
 
 ok_not_err : (r : Result (List Slip) JournalFault) (slips : List Slip) (e : JournalFault) → r ≡ Ok slips → r ≡ Err e → ⊥
 ok_not_err r slips e one two = let both : Ok slips ≡ Err e = sym one ∙ two in cc (both)

@@ -2,7 +2,8 @@ ghost use Rattle.std.specs.Prelude.{◌≡◌, length};
 ghost use Rattle.cut_plan.specs.Cells.{cells_of};
 ghost use Rattle.cut_plan.specs.Plan.{IsPlan};
 ghost use Rattle.cut_ledger.specs.Slips.{AreGood};
-ghost use Rattle.cut_status.specs.Status.{done_among, held_trials};
+ghost use Rattle.cut_status.specs.Status.{held_trials};
+ghost use Rattle.cut_status.specs.inside.Counts.{done_among};
 
 use cut_ledger::{Ledger, Slip};
 use cut_plan::Plan;

@@ -6,7 +6,7 @@ use Rattle.std.proofs.lemmas.List.Sums.{sum_by-append}
 use Rattle.cut_plan.specs.Values.{Values}
 use Rattle.cut_plan.specs.Cells.{cells_of}
 use Rattle.cut_ledger.specs.declared.slip.Slip.{Slip}
-use Rattle.cut_ledger.specs.Machine.{table_over}
+use Rattle.cut_ledger.specs.Table.{table_over}
 use Rattle.cut_ledger.specs.Slips.{AreGood}
 use Rattle.cut_wires.specs.Log.{WireLog, wrote}
 use Rattle.cut_wires.specs.declared.rows.RowsFault.{RowsFault}

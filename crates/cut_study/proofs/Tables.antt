@@ -1,26 +1,21 @@
 -- The table over slips, as it is written line by line.
-use Rattle.std.proofs.Common.{◌≡◌, ◌∙◌, ◌<◌, ◌≤◌, ◌+◌, ◌-◌, ◌*◌, ◌^◌, ◌++◌, min, ℕ, true, Result, Ok, Err}
-use Rattle.std.proofs.Common.{List, length, take, ap, sym, subst, zero-add, arith, append_assoc, length-append}
+use Rattle.std.proofs.Common.{◌≡◌, ◌∙◌, ◌<◌, ◌≤◌, ◌+◌, ◌-◌, ◌*◌, ◌^◌, ◌++◌, min, ℕ, Result, Ok, Err}
+use Rattle.std.proofs.Common.{List, length, take, ap, refl, sym, subst, zero-add, arith, append_assoc, length-append}
 use Rattle.std.proofs.Common.{length-take-le}
 use Rattle.std.specs.Bool.{⊤}
 use Rattle.std.specs.Prelude.{OnOk}
 use Rattle.std.specs.Borrow.{GName}
 use Rattle.std.specs.List.{range_with_len, flat_map}
-use Rattle.std.proofs.Math.Nat.{mul-le-mul_right, add-mul}
 use Rattle.std.proofs.Math.Seq.{take-append_seam}
 use Rattle.std.proofs.lemmas.List.{take-append-le, take_all}
 use Rattle.std.proofs.lemmas.List.Concat.{flat_map-append}
-use Rattle.std.proofs.lemmas.List.FromFn.{get_or-map-range_with_len}
-use Rattle.cut_lists.proofs.Prefixes.{whole_prefix, flat_map_prefix}
-use Rattle.cut_lists.proofs.Intervals.{list_all_passing}
 use Rattle.cut_lists.proofs.Ranges.{ranges-join}
 use Rattle.cut_plan.specs.Values.{Values}
-use Rattle.cut_plan.specs.Cells.{cells_of, trial_count}
+use Rattle.cut_plan.specs.Cells.{cells_of}
 use Rattle.cut_plan.specs.Versions.{version_of}
-use Rattle.cut_lines.specs.Lines.{header, line_with}
+use Rattle.cut_lines.specs.Lines.{header}
 use Rattle.cut_ledger.specs.declared.slip.Slip.{Slip}
-use Rattle.cut_ledger.specs.Contents.{Contents, has, filled, cell_done, cell_sum}
-use Rattle.cut_ledger.specs.Machine.{table_over}
+use Rattle.cut_ledger.specs.Table.{table_over}
 use Rattle.cut_wires.specs.declared.rows.RowsFault.{RowsFault}
 use Rattle.cut_wires.specs.declared.rows.RowsFault.TheVariants.{Row, Write}
 use Rattle.cut_wires.specs.Log.{WireLog, wrote, write_failed}
@@ -30,7 +25,6 @@ use Rattle.cut_hall.specs.declared.line_fault.LineFault.{LineFault}
 use Rattle.cut_study.specs.inside.Emission.{EmitsStudy, Worked, emitted, lines_of}
 use Rattle.cut_hall.specs.Lines.{full_line}
 use Rattle.cut_hall.specs.Pass.{Holding}
-use Rattle.cut_hall.proofs.FullLines.{done_line}
 
 -- the header and the lines of the first n cells
 abbrev pub lines_to : Values → List Slip → ℕ → List ℕ
@@ -42,29 +36,9 @@ lines_after v base n = flat_map (full_line v base) (range_with_len n (length (ce
 
 -- ---- it is the table over the slips
 
-all_held : (v : Values) (base : List Slip) (t : ℕ) → t < trial_count v → has (filled v base) t ≡ true
-all_held v base t low = get_or-map-range_with_len (λ k. true) 0 (trial_count v) t t _ low (zero-add t)
-
-in_plan : (c n r t : ℕ) → c < n → t < c * r + r → t < n * r
-in_plan c n r t low at =
-    let le : (c + 1) * r ≤ n * r = mul-le-mul_right r (omega (arith, low)) in
-    omega (arith, le, add-mul c 1 r, at)
-
-all_done : (v : Values) (base : List Slip) (c : ℕ) → c < length (cells_of v) → cell_done (filled v base) c ≡ true
-all_done v base c low =
-    list_all_passing (has (filled v base)) (c * v.repeats) v.repeats
-    (λ t from to. all_held v base t (in_plan c (length (cells_of v)) v.repeats t low to))
-
 pub table_ends : (v : Values) (base : List Slip) → table_over v base ≡ lines_to v base (length (cells_of v))
-table_ends v base =
-    let l : Contents = filled v base in
-    let n : ℕ = length (cells_of v) in
-    ap (λ ys. header (version_of v.failing) ++ ys)
-    (flat_map_prefix (λ c. line_with v c (cell_sum l c)) (full_line v base)
-    (cell_done l) (range_with_len 0 n) (λ c done. done_line l c done))
-    ∙ ap (λ cs. header (version_of v.failing) ++ flat_map (full_line v base) cs)
-    (whole_prefix (cell_done l) (range_with_len 0 n)
-    (list_all_passing (cell_done l) 0 n (λ c from to. all_done v base c (omega (arith, to)))))
+unfolding full_line
+table_ends v base = refl
 
 table_splits : (v : Values) (base : List Slip) (n : ℕ) → n ≤ length (cells_of v)
     → table_over v base ≡ lines_to v base n ++ lines_after v base n

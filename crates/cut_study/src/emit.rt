@@ -1,6 +1,6 @@
 ghost use Rattle.std.specs.Prelude.{◌≡◌, ◌+◌, ◌<◌, ◌≤◌, length, OnOk};
 ghost use Rattle.cut_plan.specs.Cells.{cells_of};
-ghost use Rattle.cut_ledger.specs.Machine.{table_over};
+ghost use Rattle.cut_ledger.specs.Table.{table_over};
 ghost use Rattle.cut_study.specs.inside.Emission.{EmitsStudy, emitted};
 
 use cut_book::Opened;

@@ -2,7 +2,7 @@ ghost use Rattle.std.proofs.Props.{props};
 ghost use Rattle.std.specs.Prelude.{false, ◌≡◌, ◌+◌, ◌<◌, ◌≤◌, length, All, IfOk, IfErr, OnOk};
 ghost use Rattle.atomic_table.specs.Seated.{TableId};
 ghost use Rattle.cut_plan.specs.Cells.{cells_of};
-ghost use Rattle.cut_ledger.specs.Machine.{table_over};
+ghost use Rattle.cut_ledger.specs.Table.{table_over};
 ghost use Rattle.cut_ledger.specs.Slips.{AreGood};
 ghost use Rattle.cut_study.specs.inside.Conclusion.{IsNotEnded};
 ghost use Rattle.cut_study.specs.inside.Emission.{EmitsStudy};

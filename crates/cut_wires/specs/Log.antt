@@ -63,7 +63,7 @@ passing f l = record { traffic = option_map f l.traffic; failed = l.failed }
 
 -- writes took these bytes
 abbrev pub wrote : WireLog → List ℕ → WireLog
-wrote l bytes = passing (λ t. with_taken t bytes) l
+wrote l bytes = passing (λ t. record t { taken = t.taken ++ bytes }) l
 
 -- a read gave the first n bytes of its buffer
 abbrev pub gave : WireLog → List ℕ → ℕ → WireLog
@@ -71,10 +71,10 @@ gave l buffer n = passing (λ t. with_given t buffer n) l
 
 -- one more read failed, and one more write
 abbrev pub read_failed : WireLog → WireLog
-read_failed l = record { traffic = l.traffic; failed = with_read l.failed }
+read_failed l = record l { failed = record l.failed { reads = one_more l.failed.reads } }
 
 abbrev pub write_failed : WireLog → WireLog
-write_failed l = record { traffic = l.traffic; failed = with_write l.failed }
+write_failed l = record l { failed = record l.failed { writes = one_more l.failed.writes } }
 
 -- ---- calls
 

@@ -17,7 +17,7 @@ mod wire;
 pub use faulty_wire::FaultyWire;
 pub use line::Line;
 pub use memory_wire::MemoryWire;
-pub use rows::{Framing, Plain, Rows, RowsFault, send_rows};
+pub use rows::{Framing, LONGEST_ROW, Plain, Rows, RowsFault, send_rows};
 pub use send::{WriteFault, send_all};
 pub use stream_wire::StreamWire;
 pub use wire::{Wire, WireFault};

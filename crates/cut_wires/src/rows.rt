@@ -1,17 +1,21 @@
 ghost use Rattle.std.specs.Prelude.{◌≡◌, ◌+◌, ◌<◌, ◌≤◌, ℕ, List, length};
+ghost use Rattle.cut_wires.specs.declared.rows.TheConstants.{LONGEST_ROW};
 ghost use Rattle.cut_wires.specs.Rows.{Table, Gives, SendsRows};
 ghost use Rattle.cut_wires.specs.Sending.{Sends, sending};
 
 use crate::{Line, Wire, WriteFault};
+
+/// The most bytes of a header or a row of a table: what a framing is given, which may put it into one message.
+pub const LONGEST_ROW: usize = 65_536;
 
 /// How a text is put on a line: as it is, or as the payload of a message.
 pub trait Framing {
     /// The bytes that are sent for a text.
     ghost framed: { List ℕ → List ℕ };
 
-    /// Sends a text of at most 65,536 bytes.
+    /// Sends a text, which is at most as long as a row.
     fn send<W: Wire>(line: &mut Line<'_, W>, text: &[u8]) -> Result<(), WriteFault>
-        requires { length text.now ≤ 65536 }
+        requires { length text.now ≤ LONGEST_ROW }
         ensures { Sends result (framed text.now) (sending W.log line.old) (sending W.log line.new) };
 
     /// Framing adds at most 5 bytes.
@@ -66,8 +70,8 @@ pub trait Rows {
     /// At first none was given.
     ghost begins: { (rows : Self) → HasGiven rows 0 rows };
 
-    /// The header and the rows have at most 65,536 bytes.
-    ghost fits: { (rows : Self) → (table rows).longest ≤ 65536 };
+    /// The header and the rows are not too long for a framing.
+    ghost fits: { (rows : Self) → (table rows).longest ≤ LONGEST_ROW };
 }
 
 /// Why the rows of a table were not all sent.

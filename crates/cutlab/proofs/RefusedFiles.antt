@@ -10,7 +10,8 @@ use Rattle.cut_commands.specs.declared.fault.CliFault.TheVariants.{Journal}
 use Rattle.cut_machines.specs.JoinCommand.{NamesRefusedFile}
 use Rattle.cut_wires.specs.Log.{WireLog, wrote, write_failed}
 use Rattle.cut_wires.proofs.Logs.{wrote_more}
-use Rattle.cutlab.specs.Jobs.{IsFileAt, file_head, file_line}
+use Rattle.cutlab.specs.Jobs.{PrintsRefused, file_line}
+use Rattle.cutlab.specs.inside.Printing.{IsFileAt, file_head}
 use Rattle.cutlab.specs.Sent.{IsSent}
 
 within : (count place : ℕ) (ended : Result ⊤ CliFault) → NamesRefusedFile count ended (Some place)
@@ -41,12 +42,20 @@ file_at (file ∷ files) (suc i) other low =
     }
 
 -- and so has the file at a place
-pub file_of_place : (files : List (Bor (List ℕ))) (place : ℕ) (other : Bor (List ℕ)) → 1 ≤ place → place ≤ length files
+file_of_place : (files : List (Bor (List ℕ))) (place : ℕ) (other : Bor (List ℕ)) → 1 ≤ place → place ≤ length files
     → IsFileAt (map (λ s. s.now) files) place (get_or files (place - 1) other).now
 file_of_place files place other some few =
     subst (λ (n : ℕ). IsFileAt (map (λ s. s.now) files) n (get_or files (place - 1) other).now)
     (let same : place - 1 + 1 ≡ place = omega (arith, some) in same)
     (file_at files (place - 1) other (omega (arith, some, few)))
+
+-- the line of the file at a place was sent, up to a write that failed
+pub prints_at : (files : List (Bor (List ℕ))) (place : ℕ) (other : Bor (List ℕ)) → 1 ≤ place → place ≤ length files
+    → (old new : WireLog) → IsSent (file_line place (get_or files (place - 1) other).now) old new
+    → PrintsRefused (map (λ s. s.now) files) (Some place) old new
+prints_at files place other some few old new sent =
+    let at = file_of_place files place other some few in
+    (at.before, (get_or files (place - 1) other).now, at.after, at.all, at.place_is, sent)
 
 -- a text is sent in two parts, or only some of the first
 pub sent_after : (a b : List ℕ) (old mid new : WireLog) → mid ≡ wrote old a → IsSent b mid new → IsSent (a ++ b) old new

@@ -1,6 +1,5 @@
 -- What each job leaves on the program's wire and on its errors.
-use Rattle.std.specs.Prelude.{◌≡◌, ◌+◌, ◌++◌, ℕ, Bool, true, false, List, ◌∷◌, [], length, map, codes, Option, Some}
-use Rattle.std.specs.Prelude.{None}
+use Rattle.std.specs.Prelude.{◌≡◌, ◌+◌, ◌++◌, ℕ, true, List, ◌∷◌, [], length, map, codes, Option, Some, None}
 use Rattle.std.specs.Prelude.{Result, ⊤}
 use Rattle.std.specs.Fmt.{decimal}
 use Rattle.cut_wires.specs.Log.{WireLog}
@@ -13,18 +12,18 @@ use Rattle.cut_commands.specs.Migrate.{files_task}
 use Rattle.cut_commands.specs.Explain.{Explains}
 use Rattle.cut_commands.specs.Run.{EndsCommand, EndsWith, EndsWithFile, canonical_task, check_task}
 use Rattle.cut_commands.specs.Status.{EndsStatus}
+use Rattle.cut_commands.specs.Study.{file_task, plain_task}
 use Rattle.cut_server.specs.Serve.{EndsServing}
 use Rattle.cut_command_line.specs.declared.line.Job.{Job}
 use Rattle.cut_command_line.specs.declared.line.Job.TheVariants.{Run, Check, Explain, Canonical, Status, Serve}
 use Rattle.cut_command_line.specs.declared.line.Job.TheVariants.{Ask, Migrate, Share, Join}
 use Rattle.cut_commands.specs.declared.fault.CliFault.{CliFault}
-use Rattle.cutlab.specs.Runs.{EndsRun}
 use Rattle.cutlab.specs.Sent.{IsSent}
-use Rattle.cutlab.specs.declared.run_job.WorkersJob.TheVariants as workers
 
 -- how a job ends
 abbrev pub EndsJob : Job → WireLog → WireLog → Result ⊤ CliFault → Type 0
-EndsJob (Run piece workers file progress) old new result = EndsRun file old new result
+EndsJob (Run piece workers None progress) old new result = EndsCommand plain_task old new result
+EndsJob (Run piece workers (Some file) progress) old new result = EndsWithFile file_task old new result
 EndsJob Check old new result = EndsCommand check_task old new result
 EndsJob Explain old new result = EndsWith Explains old new result
 EndsJob Canonical old new result = EndsCommand canonical_task old new result
@@ -37,40 +36,24 @@ EndsJob (Share index shares file piece workers progress) old new result =
     × EndsWithFile (share_file_task result s) old new result
 EndsJob (Join to from which) old new result = EndsWithFile join_files_task old new result
 
--- what is printed on the errors where progress is asked for, and where it is not
-abbrev pub PrintsIf : Bool → WireLog → WireLog → Type 0
-PrintsIf true old new = HasPrinted old new
-PrintsIf false old new = new ≡ old
-
 -- the line that says which file is refused, by its place and its path
-abbrev pub file_head : ℕ → List ℕ
-file_head place = codes "cutlab: file " ++ decimal place ++ codes ": "
-
 abbrev pub file_line : ℕ → List ℕ → List ℕ
-file_line place path = file_head place ++ path ++ 10 ∷ []
+file_line place path = codes "cutlab: file " ++ decimal place ++ codes ": " ++ path ++ 10 ∷ []
 
--- a path has a place, from 1, among others
-pub record IsFileAt (paths : List (List ℕ)) (place : ℕ) (path : List ℕ) : Type 0 where
-  pub before : List (List ℕ)
-  pub after : List (List ℕ)
-  pub all : paths ≡ before ++ path ∷ after
-  pub place_is : place ≡ length before + 1
-
--- what is printed on the errors of the one of these files that is refused, if one is: its line, up to a write that failed
+-- what is printed on the errors of the one of these files that is refused, if one is: the line of its place, from 1,
+-- and its path, up to a write that failed
 abbrev pub PrintsRefused : List (List ℕ) → Option ℕ → WireLog → WireLog → Type 0
 PrintsRefused paths None old new = new ≡ old
 PrintsRefused paths (Some place) old new =
-    (path : List ℕ) × (IsFileAt paths place path × IsSent (file_line place path) old new)
+    (before : List (List ℕ)) × (path : List ℕ) × (after : List (List ℕ)) × (paths ≡ before ++ path ∷ after)
+    × (place ≡ length before + 1) × IsSent (file_line place path) old new
 
--- what is printed there where it is asked which of them is refused, by how the join ended, and where it is not
-abbrev pub PrintsFileIf : Bool → List (List ℕ) → Result ⊤ CliFault → WireLog → WireLog → Type 0
-PrintsFileIf true paths ended old new =
-    (refused : Option ℕ) × (NamesRefusedFile (length paths) ended refused × PrintsRefused paths refused old new)
-PrintsFileIf false paths ended old new = new ≡ old
-
--- what a job that ends so prints on the errors before that is reported
+-- what a job that ends so prints on the errors before that is reported: progress, or which file is refused, where that
+-- is asked for
 abbrev pub PrintsOn : Job → Result ⊤ CliFault → WireLog → WireLog → Type 0
-PrintsOn (Run piece workers file progress) ended old new = PrintsIf progress old new
-PrintsOn (Share index shares file piece workers progress) ended old new = PrintsIf progress old new
-PrintsOn (Join to from which) ended old new = PrintsFileIf which (map (λ s. s.now) from.items) ended old new
+PrintsOn (Run piece workers file true) ended old new = HasPrinted old new
+PrintsOn (Share index shares file piece workers true) ended old new = HasPrinted old new
+PrintsOn (Join to from true) ended old new =
+    (refused : Option ℕ) × (NamesRefusedFile (length from.items) ended refused
+    × PrintsRefused (map (λ s. s.now) from.items) refused old new)
 PrintsOn job ended old new = new ≡ old

@@ -1,5 +1,4 @@
 pub mod Sent
-pub mod Runs
 pub mod Jobs
 pub mod Program
 pub mod inside

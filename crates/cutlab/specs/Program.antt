@@ -31,42 +31,30 @@ pub record RunsJob (words : List (List ℕ)) (old new errors_old errors_new : Wi
   pub prints : PrintsOn job ended errors_old errors_then
   pub reported : ReportsEnd ended errors_then errors_new status
 
--- help was written to the output, or a part of it, which is reported as a failed write
-abbrev pub ShowsHelp : List ℕ → WireLog → WireLog → WireLog → WireLog → ℕ → Type 0
-ShowsHelp text old new errors_old errors_new status =
-    ((new ≡ wrote old text) × (errors_new ≡ errors_old) × (status ≡ 0))
-    ⊎ ((fault : WriteFault) × IsCutShort text fault.sent old new
-    × ReportsEnd (Err (Write fault)) errors_old errors_new status)
-
 -- how a command line without a job is reported, by the status and the text that clap gives it
 pub record ReportsLine (line_status : ℕ) (text : List ℕ) (old new errors_old errors_new : WireLog) (status : ℕ)
     : Type 0 where
   -- no memory was left for the text
   pub no_text : text ≡ [] → (new ≡ old) × ReportsEnd (Err Memory) errors_old errors_new status
-  -- help goes to the output
-  pub help : 0 < length text → line_status ≡ 0 → ShowsHelp text old new errors_old errors_new status
+  -- help goes to the output, or a part of it, which is reported as a failed write
+  pub help : 0 < length text → line_status ≡ 0
+      → ((new ≡ wrote old text) × (errors_new ≡ errors_old) × (status ≡ 0))
+      ⊎ ((fault : WriteFault) × IsCutShort text fault.sent old new
+      × ReportsEnd (Err (Write fault)) errors_old errors_new status)
   -- a mistake goes to the errors
   pub mistake : 0 < length text → line_status ≢ 0
       → (new ≡ old) × IsSent text errors_old errors_new × (status ≡ line_status)
 
--- the words name no job: nothing was read, and what clap says of them is reported
-pub record RunsNone (words : List (List ℕ)) (old new errors_old errors_new : WireLog) (status : ℕ) : Type 0 where
-  pub kind : ErrorKind
-  pub asked : IsAsked words kind
-  pub text : List ℕ
-  pub reported : ReportsLine (status_of_kind kind) text old new errors_old errors_new status
-
--- how the program ends
+-- how the program ends: the words name a job, or they name none, and then what clap says of them is reported
 abbrev pub EndsProgram : List (List ℕ) → WireLog → WireLog → WireLog → WireLog → ℕ → Type 0
 EndsProgram words old new errors_old errors_new status =
-    RunsJob words old new errors_old errors_new status ⊎ RunsNone words old new errors_old errors_new status
+    RunsJob words old new errors_old errors_new status
+    ⊎ ((kind : ErrorKind) × (text : List ℕ) × IsAsked words kind
+    × ReportsLine (status_of_kind kind) text old new errors_old errors_new status)
 
--- where the words themselves can't be read: one that is not UTF-8 is a mistake in them, else memory ran out
-abbrev pub unread_status : io.ErrorKind → ℕ
-unread_status InvalidData = 2
-unread_status kind = 5
-
--- and what is reported of it
-abbrev pub unread_text : io.ErrorKind → List ℕ
-unread_text InvalidData = codes "error: a word of the command line is not UTF-8" ++ 10 ∷ []
-unread_text kind = fault_line Memory
+-- how it is reported where the words themselves can't be read: one that is not UTF-8 is a mistake in them, else memory
+-- ran out
+abbrev pub ReportsUnread : io.ErrorKind → WireLog → WireLog → ℕ → Type 0
+ReportsUnread InvalidData old new status =
+    IsSent (codes "error: a word of the command line is not UTF-8" ++ 10 ∷ []) old new × (status ≡ 2)
+ReportsUnread kind old new status = ReportsEnd (Err Memory) old new status

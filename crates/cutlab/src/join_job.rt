@@ -2,7 +2,8 @@
 ghost use Rattle.std.specs.Prelude.{◌≡◌, ◌≤◌, ◌∷◌, ◌++◌, [], Some, length, map};
 ghost use Rattle.cut_commands.specs.Run.{EndsWithFile};
 ghost use Rattle.cut_machines.specs.JoinCommand.{join_files_task};
-ghost use Rattle.cutlab.specs.Jobs.{PrintsFileIf, PrintsRefused, file_head, file_line};
+ghost use Rattle.cutlab.specs.Jobs.{PrintsRefused, file_line};
+ghost use Rattle.cutlab.specs.inside.Printing.{PrintsFileIf, file_head};
 ghost use Rattle.cutlab.specs.Sent.{IsSent};
 
 use crate::program::report;
@@ -33,7 +34,7 @@ impl JoinJob<'_> {
         W: Wire,
         E: Wire,
         ensures ends { EndsWithFile join_files_task (W.log wire.old) (W.log wire.new) result }
-        ensures prints { PrintsFileIf self.now.which (map (λ s. s.now) self.now.old.now) result
+        ensures prints { PrintsFileIf self.now.which self.now.old.now result
             (E.log errors.old) (E.log errors.new) }
     {
         let JoinedFiles { refused, ended } = join_files(host, wire, self.old, self.new);

@@ -1,6 +1,6 @@
 //! The program, over its words and wires.
-ghost use Rattle.std.specs.Prelude.{◌≡◌, map, string_bytes, Err};
-ghost use Rattle.cutlab.specs.Program.{EndsProgram, ReportsEnd, ReportsLine, unread_status, unread_text};
+ghost use Rattle.std.specs.Prelude.{map, string_bytes, Err};
+ghost use Rattle.cutlab.specs.Program.{EndsProgram, ReportsEnd, ReportsLine, ReportsUnread};
 ghost use Rattle.cutlab.specs.Sent.{IsSent};
 
 use crate::jobs::answer;
@@ -88,8 +88,7 @@ fn end_line<W: Wire, E: Wire>(fault: &NoJob, wire: &mut W, errors: &mut E) -> u8
 
 /// Ends where the words can't be read: one of them is not UTF-8, or memory for them was refused.
 pub fn end_unread<E: Wire>(kind: ErrorKind, errors: &mut E) -> u8
-    ensures status { result ≡ unread_status kind }
-    ensures text { IsSent (unread_text kind) (E.log errors.old) (E.log errors.new) }
+    ensures { ReportsUnread kind (E.log errors.old) (E.log errors.new) result }
 {
     match kind {
         ErrorKind::InvalidData => {

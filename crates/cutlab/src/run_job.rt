@@ -1,7 +1,7 @@
 //! What workers run, with or without its progress on the errors.
 ghost use Rattle.cut_progress.specs.Printed.{HasPrinted};
-ghost use Rattle.cutlab.specs.Jobs.{PrintsIf};
 ghost use Rattle.cutlab.specs.inside.Jobs.{EndsWork};
+ghost use Rattle.cutlab.specs.inside.Printing.{PrintsIf};
 
 use crate::share_job::ShareJob;
 use crate::study_job::StudyJob;

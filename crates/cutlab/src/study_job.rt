@@ -1,6 +1,6 @@
 //! A study that is run.
 ghost use Rattle.std.specs.Prelude.{◌≤◌};
-ghost use Rattle.cutlab.specs.Runs.{EndsRun};
+ghost use Rattle.cutlab.specs.inside.Runs.{EndsRun};
 
 use cut_commands::{CliFault, Work, run_file, run_io};
 use cut_disks::FileDisk;

@@ -1,17 +1,31 @@
 -- What only the crate's own clauses and proofs cite, beside specs/Line.antt.
-use Rattle.std.specs.Prelude.{◌≡◌, List, codes}
+use Rattle.std.specs.Prelude.{List, [], ◌∷◌, codes, true}
 use Rattle.std.specs.Prelude.{Option, Some, None}
-use Rattle.clap.specs.Words.{App, Row, Text, new_app, with_rule}
-use Rattle.clap.specs.declared.builder.value_parser.ValueParser.TheVariants as parsers
+use Rattle.clap.specs.Words.{App, Row, Rule, Text, new_app, with_rule}
+use Rattle.cut_command_line.specs.declared.line.TheConstants.{LARGEST_PIECE, MOST_OF_EACH, MOST_WORKERS}
 use Rattle.cut_command_line.specs.declared.line.Job.{Job}
-use Rattle.cut_command_line.specs.Line.{command_of, GivesValues}
-use Rattle.cut_command_line.specs.Line.{count_rule, files_rule, flag_rule, option_rule, piece_rule, word_rule}
-use Rattle.cut_command_line.specs.Line.{workers_rule}
+use Rattle.cut_command_line.specs.Line.{AsksFor, files_rule, flag_rule, number_rule, option_rule, word_rule}
 
 -- the matches of a subcommand give a job of it, or none
 abbrev pub GivesJob : Text → List Row → Option Job → Type 0
-GivesJob name rows (Some job) = (command_of job ≡ name) × GivesValues rows job
-GivesJob name rows None = (job : Job) → command_of job ≡ name → GivesValues rows job → ⊥
+GivesJob name rows (Some job) = AsksFor name rows job
+GivesJob name rows None = (job : Job) → AsksFor name rows job → ⊥
+
+-- the job of a subcommand, if there is one
+abbrev pub IsJobOf : Option (Text × List Row) → Job → Type 0
+IsJobOf None job = ⊥
+IsJobOf (Some sub) job = AsksFor sub.0 sub.1 job
+
+-- the options `--piece` and `--workers`
+abbrev pub piece_rule : Rule
+piece_rule = number_rule (codes "piece") LARGEST_PIECE (codes "16" ∷ [])
+
+abbrev pub workers_rule : Rule
+workers_rule = number_rule (codes "workers") MOST_WORKERS (codes "1" ∷ [])
+
+-- an option of a server: how many of something it has
+abbrev pub count_rule : Text → Rule
+count_rule name = record (number_rule name MOST_OF_EACH []) { required = true }
 
 -- the subcommands, one by one
 abbrev pub run_app : App

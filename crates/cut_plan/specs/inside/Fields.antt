@@ -1,11 +1,20 @@
 -- What only the crate's own clauses and proofs cite, beside specs/Fields.antt.
-use Rattle.std.specs.Prelude.{ℕ, List, Bool}
+use Rattle.std.specs.Prelude.{ℕ, List, Bool, false, unwrap_or}
 use Rattle.std.specs.List.{list_any}
 use Rattle.std.specs.Str.{bytes_eq}
-use Rattle.serde_json.specs.Data.{Data}
+use Rattle.serde_json.specs.Data.{Data, no_members}
+use Rattle.serde_json.specs.Find.{as_bool, as_object}
 use Rattle.cut_plan.specs.declared.field.Field.{Field}
 use Rattle.cut_plan.specs.declared.version.Version as format
-use Rattle.cut_plan.specs.Fields.{name_of, fields_of, member_at, number_in, numbers_in, text_in}
+use Rattle.cut_plan.specs.Fields.{name_of, fields_of, keys_of_members, member_at, number_in, numbers_in, text_in}
+
+-- the keys of an object, and none of anything else
+abbrev pub keys : Data → List (List ℕ)
+keys d = keys_of_members (unwrap_or (as_object d) no_members)
+
+-- the truth value in a value, false where it is of another kind
+abbrev pub truth_in : Data → Bool
+truth_in d = unwrap_or (as_bool d) false
 
 -- the number in a field
 abbrev pub number_at : Data → Field → ℕ

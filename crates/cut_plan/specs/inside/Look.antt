@@ -2,13 +2,14 @@
 use Rattle.std.specs.Prelude.{◌≡◌, ℕ, ◌≤◌, List, map, length, nat_lt, IsTrue}
 use Rattle.std.specs.List.{list_all, fold}
 use Rattle.cut_plan.specs.declared.limits.TheConstants.{MOST_NODES, MOST_RINGS}
-use Rattle.serde_json.specs.Data.{Data, Members, no_members, put}
+use Rattle.serde_json.specs.Data.{Data, object, Members, no_members, put}
 use Rattle.serde_json.specs.View.{view}
 use Rattle.serde_json.specs.declared.value.Value.{Value}
-use Rattle.cut_plan.specs.Fields.{name_of, number_in}
+use Rattle.cut_plan.specs.Fields.{name_of, fields_of, number_in}
 use Rattle.cut_plan.specs.inside.Fields.{numbers_at}
 use Rattle.cut_plan.specs.Values.{Values}
-use Rattle.cut_plan.specs.Canonical.{said}
+use Rattle.cut_plan.specs.Versions.{version_of}
+use Rattle.cut_plan.specs.Canonical.{said, members_with}
 use Rattle.cut_plan.specs.declared.field.Field.{Field}
 use Rattle.cut_plan.specs.declared.field.Field.TheVariants as field
 use Rattle.cut_plan.specs.declared.plan_lists.Lists.{Lists}
@@ -20,6 +21,10 @@ item_numbers vs = map (λ v. number_in (view v)) vs
 -- each number is below a bound
 abbrev pub AreBelow : ℕ → List ℕ → Type 0
 AreBelow bound xs = IsTrue (list_all (λ x. nat_lt x bound) xs)
+
+-- a plan's values as JSON
+unfoldable pub data_of : Values → Data
+data_of v = object (members_with v (fields_of (version_of v.failing)))
 
 -- members, with those of some fields put in one after another
 abbrev pub with_fields : Values → List Field → Members

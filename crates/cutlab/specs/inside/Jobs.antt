@@ -1,14 +1,12 @@
 -- What only the crate's own clauses and proofs cite, beside specs/Jobs.antt.
 use Rattle.std.specs.Prelude.{Result, ⊤}
 use Rattle.cut_wires.specs.Log.{WireLog}
-use Rattle.cut_share.specs.declared.share.Share as share
 use Rattle.cut_machines.specs.Share.{share_file_task}
-use Rattle.cut_command_line.specs.declared.line.Job.TheVariants.{Share}
 use Rattle.cut_commands.specs.Run.{EndsWithFile}
 use Rattle.cut_commands.specs.declared.fault.CliFault.{CliFault}
-use Rattle.cutlab.specs.Runs.{EndsRun}
 use Rattle.cutlab.specs.declared.run_job.WorkersJob.{WorkersJob}
 use Rattle.cutlab.specs.declared.run_job.WorkersJob.TheVariants as workers
+use Rattle.cutlab.specs.inside.Runs.{EndsRun}
 
 -- how what workers run ends
 abbrev pub EndsWork : WorkersJob → WireLog → WireLog → Result ⊤ CliFault → Type 0

@@ -10,8 +10,8 @@ pub returns-in_err-socket-clause-gives : goal.returns-in_err-socket-clause-gives
 returns-in_err-socket-clause-gives c =
     let rows : List Row = rows_of (found_of c.args.given.now) in
     subst (λ (o : Option Job). GivesJob (codes "ask") rows o) (sym c.from_residual.ensures)
-    (λ job is gives.
-    let found = (values rows job (codes "ask") is gives) in
+    (λ job gives.
+    let found = (values (codes "ask") rows job gives) in
     let none = sym (first_value-rows (found_of c.args.given.now) (codes "socket")) ∙ sym c.in_err-socket.ensures in
     (let bad = sym none ∙ found.1 in cc))
 

@@ -4,12 +4,18 @@ use Rattle.std.proofs.lemmas.Result.{IfOk-weaker}
 use Rattle.clap.specs.Words.{Row, Text, found_of, rows_of, subcommand_name_of, subcommand_rows_of}
 use Rattle.clap.specs.declared.parser.matches.ArgMatches.{ArgMatches}
 use Rattle.cut_command_line.specs.declared.line.Job.{Job}
-use Rattle.cut_command_line.specs.Line.{GivesValues, IsJobOf}
-use Rattle.cut_command_line.specs.inside.Line.{GivesJob}
+use Rattle.cut_command_line.specs.Line.{AsksFor}
+use Rattle.cut_command_line.specs.inside.Line.{GivesJob, IsJobOf}
 use Rattle.cut_command_line.proofs.line.job_of.Goals as goal
 
 names_agree : (m : ArgMatches) → option_map (λ p. p.0) (subcommand_rows_of m) ≡ subcommand_name_of m
 names_agree m = search rules
+
+-- the same name and matches ask for the same job
+asks_same : (job : Job) {a b : Text} {rs qs : List Row} → a ≡ b → rs ≡ qs → AsksFor a rs job → AsksFor b qs job
+asks_same job {b = b} {rs = rs} same_name same_rows asks =
+    subst (λ (qs : List Row). AsksFor b qs job) same_rows
+    (subst (λ (name : Text). AsksFor name rs job) same_name asks)
 
 -- a subcommand of some name and matches gives the job that they give, or none
 is_job : (sub : Option (Text × List Row)) (name word : Text) (rows : List Row) (found : Option Job)
@@ -21,7 +27,7 @@ is_job (Some p) name word rows None has_name has_rows is gives = tt
 is_job (Some p) name word rows (Some job) has_name has_rows is gives =
     let same : p.1 ≡ rows = cc in
     let named : p.0 ≡ word = (let at : p.0 ≡ name = cc in at ∙ is) in
-    (named ∙ sym gives.0, subst (λ (rs : List Row). GivesValues rs job) (sym same) gives.1)
+    asks_same job (sym named) (sym same) gives
 
 no_job : (sub : Option (Text × List Row)) (name word : Text) (rows : List Row) (found : Option Job)
     → option_map (λ p. p.0) sub ≡ Some name
@@ -32,7 +38,7 @@ no_job (Some p) name word rows (Some job) has_name has_rows is gives = tt
 no_job (Some p) name word rows None has_name has_rows is gives = λ job names.
     let same : p.1 ≡ rows = cc in
     let named : p.0 ≡ word = (let at : p.0 ≡ name = cc in at ∙ is) in
-    gives job (sym names.0 ∙ named) (subst (λ (rs : List Row). GivesValues rs job) same names.1)
+    gives job (asks_same job named same names)
 
 pub returns-in-run-clause-some : goal.returns-in-run-clause-some
 returns-in-run-clause-some c =

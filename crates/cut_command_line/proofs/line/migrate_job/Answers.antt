@@ -10,8 +10,8 @@ pub returns-in_err-old-clause-gives : goal.returns-in_err-old-clause-gives
 returns-in_err-old-clause-gives c =
     let rows : List Row = rows_of (found_of c.args.given.now) in
     subst (λ (o : Option Job). GivesJob (codes "migrate") rows o) (sym c.from_residual.ensures)
-    (λ job is gives.
-    let found = (values rows job (codes "migrate") is gives).0 in
+    (λ job gives.
+    let found = (values (codes "migrate") rows job gives).0 in
     let none = sym (first_value-rows (found_of c.args.given.now) (codes "old")) ∙ sym c.in_err-old.ensures in
     (let bad = sym none ∙ found.1 in cc))
 
@@ -19,8 +19,8 @@ pub returns-in_err-new-clause-gives : goal.returns-in_err-new-clause-gives
 returns-in_err-new-clause-gives c =
     let rows : List Row = rows_of (found_of c.args.given.now) in
     subst (λ (o : Option Job). GivesJob (codes "migrate") rows o) (sym c.from_residual-in_err-new.ensures)
-    (λ job is gives.
-    let found = (values rows job (codes "migrate") is gives).1 in
+    (λ job gives.
+    let found = (values (codes "migrate") rows job gives).1 in
     let none = sym (first_value-rows (found_of c.args.given.now) (codes "new")) ∙ sym c.in_err-new.ensures in
     (let bad = sym none ∙ found.1 in cc))
 
@@ -28,8 +28,6 @@ pub returns-clause-gives : goal.returns-clause-gives
 returns-clause-gives c =
     let found = found_of c.args.given.now in (
       refl,
-      (
-        sym (first_value-rows found (codes "old")) ∙ sym c.in_ok-old.ensures,
-        sym (first_value-rows found (codes "new")) ∙ sym c.in_ok-new.ensures,
-      ),
+      sym (first_value-rows found (codes "old")) ∙ sym c.in_ok-old.ensures,
+      sym (first_value-rows found (codes "new")) ∙ sym c.in_ok-new.ensures,
     )

@@ -6,7 +6,8 @@ use Rattle.clap.proofs.OnLiterals.{clap_on_literals}
 use Rattle.clap.specs.declared.error.kind.ErrorKind.{ErrorKind}
 use Rattle.clap.specs.declared.error.kind.ErrorKind.TheVariants.{ValueValidation, OutOfMemory}
 use Rattle.cut_command_line.specs.declared.line.Job.{Job}
-use Rattle.cut_command_line.specs.Line.{program_app, status_of_kind, IsAsked, IsJobOf, NamesNone}
+use Rattle.cut_command_line.specs.Line.{program_app, status_of_kind, IsAsked, NamesJob}
+use Rattle.cut_command_line.specs.inside.Line.{IsJobOf}
 use Rattle.cut_command_line.proofs.line.parse_line.Goals as goal
 
 is_free : is_simple_and_free program_app ≡ true
@@ -41,6 +42,17 @@ named : (a : App) (words : List Text) (sub : Option (Text × List Row)) → a �
     → (is_simple a ≡ true → sub ≡ subcommand_of a words) → sub ≡ subcommand_of program_app words
 named a words sub is matches = matches (ap is_simple is ∙ is_plain) ∙ ap (λ (x : App). subcommand_of x words) is
 
+-- the job of the subcommand that the words name is the one that they name
+is_named : (words : List Text) (job : Job) (sub : Option (Text × List Row)) → sub ≡ subcommand_of program_app words
+    → IsJobOf sub job → NamesJob words job
+is_named words job None is of = absurd of
+is_named words job (Some sub) is of = (sub, sym is, of)
+
+is_of_named : (words : List Text) (job : Job) (sub : Option (Text × List Row)) → sub ≡ subcommand_of program_app words
+    → NamesJob words job → IsJobOf sub job
+is_of_named words job sub is names =
+    subst (λ (o : Option (Text × List Row)). IsJobOf o job) (sym (is ∙ names.1)) names.2
+
 pub returns-in-Ok-Some-clause-faultless : goal.returns-in-Ok-Some-clause-faultless
 returns-in-Ok-Some-clause-faultless g c =
     let app : app_of c.in-Ok.command ≡ program_app = c.in-Ok.ensures in
@@ -58,7 +70,7 @@ returns-in-Ok-Some-clause-ok g c =
     subst (λ (o : Option Job). IfSome o
     (λ job. IsJobOf (subcommand_rows_of c.in-Ok-try_get_matches_from_mut.matches) job)) c.in-Ok-Some.field-0-is
     c.in-Ok-Some.ensures.some in
-    subst (λ (sub : Option (Text × List Row)). IsJobOf sub c.in-Ok-Some.job) same some
+    is_named words c.in-Ok-Some.job (subcommand_rows_of c.in-Ok-try_get_matches_from_mut.matches) same some
 
 pub returns-in-Ok-None-clause-err : goal.returns-in-Ok-None-clause-err
 returns-in-Ok-None-clause-err g c =
@@ -71,8 +83,8 @@ returns-in-Ok-None-clause-err g c =
     subst (λ (o : Option Job). IfNone o
     ((job : Job) → IsJobOf (subcommand_rows_of c.in-Ok-try_get_matches_from_mut.matches) job → ⊥))
     c.in-Ok-None.field-0-is c.in-Ok-None.ensures.none in
-    let none : NamesNone words = λ job is. lacks job
-    (subst (λ (sub : Option (Text × List Row)). IsJobOf sub job) (sym same) is) in (
+    let none : (job : Job) → NamesJob words job → ⊥ = λ job names. lacks job
+    (is_of_named words job (subcommand_rows_of c.in-Ok-try_get_matches_from_mut.matches) same names) in (
       ValueValidation,
       inr (inr (
         none,

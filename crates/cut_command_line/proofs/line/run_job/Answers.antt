@@ -10,26 +10,24 @@ pub returns-in_err-piece-clause-gives : goal.returns-in_err-piece-clause-gives
 returns-in_err-piece-clause-gives c =
     let rows : List Row = rows_of (found_of c.args.given.now) in
     subst (λ (o : Option Job). GivesJob (codes "run") rows o) (sym c.from_residual.ensures)
-    (λ job is gives.
-    let found = (values rows job (codes "run") is gives).0 in
+    (λ job gives.
+    let found = (values (codes "run") rows job gives).0 in
     c.in_err-piece.ensures.none found.0 found.1)
 
 pub returns-in_err-workers-clause-gives : goal.returns-in_err-workers-clause-gives
 returns-in_err-workers-clause-gives c =
     let rows : List Row = rows_of (found_of c.args.given.now) in
     subst (λ (o : Option Job). GivesJob (codes "run") rows o) (sym c.from_residual-in_err-workers.ensures)
-    (λ job is gives.
-    let found = (values rows job (codes "run") is gives).1 in
+    (λ job gives.
+    let found = (values (codes "run") rows job gives).1 in
     c.in_err-workers.ensures.none found.0 found.1)
 
 pub returns-clause-gives : goal.returns-clause-gives
 returns-clause-gives c =
     let found = found_of c.args.given.now in (
       refl,
-      (
-        c.in_ok-piece.ensures.some,
-        c.in_ok-workers.ensures.some,
-        sym (first_value-rows found (codes "checkpoint")) ∙ sym c.get_str.ensures,
-        c.flag_given.ensures,
-      ),
+      c.in_ok-piece.ensures.some,
+      c.in_ok-workers.ensures.some,
+      sym (first_value-rows found (codes "checkpoint")) ∙ sym c.get_str.ensures,
+      c.flag_given.ensures,
     )

@@ -10,8 +10,8 @@ pub returns-in_err-socket-clause-gives : goal.returns-in_err-socket-clause-gives
 returns-in_err-socket-clause-gives c =
     let rows : List Row = rows_of (found_of c.args.given.now) in
     subst (λ (o : Option Job). GivesJob (codes "serve") rows o) (sym c.from_residual.ensures)
-    (λ job is gives.
-    let found = (values rows job (codes "serve") is gives).0 in
+    (λ job gives.
+    let found = (values (codes "serve") rows job gives).0 in
     let none = sym (first_value-rows (found_of c.args.given.now) (codes "socket")) ∙ sym c.in_err-socket.ensures in
     (let bad = sym none ∙ found.1 in cc))
 
@@ -19,35 +19,33 @@ pub returns-in_err-workers-clause-gives : goal.returns-in_err-workers-clause-giv
 returns-in_err-workers-clause-gives c =
     let rows : List Row = rows_of (found_of c.args.given.now) in
     subst (λ (o : Option Job). GivesJob (codes "serve") rows o) (sym c.from_residual-in_err-workers.ensures)
-    (λ job is gives.
-    let found = (values rows job (codes "serve") is gives).1 in
+    (λ job gives.
+    let found = (values (codes "serve") rows job gives).1 in
     c.in_err-workers.ensures.none found.0 found.1)
 
 pub returns-in_err-sessions-clause-gives : goal.returns-in_err-sessions-clause-gives
 returns-in_err-sessions-clause-gives c =
     let rows : List Row = rows_of (found_of c.args.given.now) in
     subst (λ (o : Option Job). GivesJob (codes "serve") rows o) (sym c.from_residual-in_err-sessions.ensures)
-    (λ job is gives.
-    let found = (values rows job (codes "serve") is gives).2 in
+    (λ job gives.
+    let found = (values (codes "serve") rows job gives).2 in
     c.in_err-sessions.ensures.none found.0 found.1)
 
 pub returns-in_err-studies-clause-gives : goal.returns-in_err-studies-clause-gives
 returns-in_err-studies-clause-gives c =
     let rows : List Row = rows_of (found_of c.args.given.now) in
     subst (λ (o : Option Job). GivesJob (codes "serve") rows o) (sym c.from_residual-in_err-studies.ensures)
-    (λ job is gives.
-    let found = (values rows job (codes "serve") is gives).3 in
+    (λ job gives.
+    let found = (values (codes "serve") rows job gives).3 in
     c.in_err-studies.ensures.none found.0 found.1)
 
 pub returns-clause-gives : goal.returns-clause-gives
 returns-clause-gives c =
     let found = found_of c.args.given.now in (
       refl,
-      (
-        sym (first_value-rows found (codes "socket")) ∙ sym c.in_ok-socket.ensures,
-        c.in_ok-workers.ensures.some,
-        c.in_ok-sessions.ensures.some,
-        c.in_ok-studies.ensures.some,
-        sym (first_value-rows found (codes "dir")) ∙ sym c.get_str-2.ensures,
-      ),
+      sym (first_value-rows found (codes "socket")) ∙ sym c.in_ok-socket.ensures,
+      c.in_ok-workers.ensures.some,
+      c.in_ok-sessions.ensures.some,
+      c.in_ok-studies.ensures.some,
+      sym (first_value-rows found (codes "dir")) ∙ sym c.get_str-2.ensures,
     )

@@ -10,8 +10,8 @@ pub returns-in_err-file-clause-gives : goal.returns-in_err-file-clause-gives
 returns-in_err-file-clause-gives c =
     let rows : List Row = rows_of (found_of c.args.given.now) in
     subst (λ (o : Option Job). GivesJob (codes "status") rows o) (sym c.from_residual.ensures)
-    (λ job is gives.
-    let found = (values rows job (codes "status") is gives) in
+    (λ job gives.
+    let found = (values (codes "status") rows job gives) in
     let none = sym (first_value-rows (found_of c.args.given.now) (codes "file")) ∙ sym c.in_err-file.ensures in
     (let bad = sym none ∙ found.1 in cc))
 

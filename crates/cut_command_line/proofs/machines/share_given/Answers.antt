@@ -1,10 +1,11 @@
-use Rattle.std.proofs.Common.{◌≡◌, ◌∙◌, ℕ, List, Option, Some, None, length, sym, subst, arith, codes}
+use Rattle.std.proofs.Common.{◌≡◌, ◌∙◌, ◌++◌, ℕ, List, Option, Some, None, length, sym, subst, ap, arith, codes}
 use Rattle.std.specs.Prelude.{IfNone}
 use Rattle.std.specs.List.{position_or_len}
 use Rattle.clap.specs.Words.{Row, Text, found_of, first_of, rows_of}
 use Rattle.clap.proofs.WalkLemmas.{first_value-rows}
 use Rattle.cut_command_line.specs.declared.machines.ShareNumber.{ShareNumber}
-use Rattle.cut_command_line.specs.Line.{GivesShare, IsNumberIn, IsShareText, is_slash}
+use Rattle.cut_command_line.specs.Line.{GivesShare, IsNumberIn}
+use Rattle.cut_command_line.proofs.ShareLemmas.{IsShareText, around_slash, is_slash, share_text}
 use Rattle.cut_command_line.proofs.machines.share_given.Goals as goal
 
 -- the matches give no share
@@ -14,12 +15,12 @@ GivesNone rows = (index shares : ℕ) → GivesShare rows index shares → ⊥
 none : (rows : List Row) (o : Option ShareNumber) → o ≡ None → GivesNone rows → IfNone o (GivesNone rows)
 none rows o is gives = subst (λ (found : Option ShareNumber). IfNone found (GivesNone rows)) (sym is) gives
 
--- the text that they give for the share is the only one
-text_given : (rows : List Row) (text : Text) → first_of (codes "share") rows ≡ Some text → (index shares : ℕ)
+-- the text that they give for the share, where it is this one, is what stands before its first slash and after it
+split : (rows : List Row) (text : Text) → first_of (codes "share") rows ≡ Some text → (index shares : ℕ)
     → GivesShare rows index shares → IsShareText text index shares
-text_given rows text has index shares gives =
-    let same : gives.text ≡ text = (let one = sym gives.given ∙ has in cc) in
-    subst (λ (t : Text). IsShareText t index shares) same gives.is
+split rows text has index shares gives = share_text text index shares gives.first gives.second
+    (let one = sym gives.given ∙ has in let same : gives.first ++ codes "/" ++ gives.second ≡ text = cc in same)
+    gives.index_is gives.shares_are gives.within
 
 pub returns-in_err-text-clause-none : goal.returns-in_err-text-clause-none
 returns-in_err-text-clause-none c =
@@ -35,28 +36,28 @@ returns-in_err-first-clause-none c =
     let lacks : position_or_len is_slash c.in_ok-text.text.now ≡ length c.in_ok-text.text.now =
     c.in_err-first.ensures.byte (omega arith) (λ w o found. found) in
     none rows c.from_residual-in_err-first.result c.from_residual-in_err-first.ensures (λ index shares gives.
-    let is = text_given rows c.in_ok-text.text.now has index shares gives in
+    let is = split rows c.in_ok-text.text.now has index shares gives in
     omega (arith, lacks, is.slash))
 
 pub returns-in_err-index-clause-none : goal.returns-in_err-index-clause-none
 returns-in_err-index-clause-none c =
     let rows : List Row = rows_of (found_of c.args.given.now) in
     let has = sym (first_value-rows (found_of c.args.given.now) (codes "share")) ∙ sym c.in_ok-text.ensures in
-    let split = c.in_ok-first.ensures.byte (omega arith) (λ w o found. found) in
+    let cut = c.in_ok-first.ensures.byte (omega arith) (λ w o found. found) in
     none rows c.from_residual-in_err-index.result c.from_residual-in_err-index.ensures (λ index shares gives.
-    let is = text_given rows c.in_ok-text.text.now has index shares gives in
+    let is = split rows c.in_ok-text.text.now has index shares gives in
     c.in_err-index.ensures.none index
-    (subst (λ (t : Text). IsNumberIn 100000 t index) (sym split.0) is.index_is))
+    (subst (λ (t : Text). IsNumberIn 100000 t index) (sym cut.0) is.index_is))
 
 pub returns-in_err-shares-clause-none : goal.returns-in_err-shares-clause-none
 returns-in_err-shares-clause-none c =
     let rows : List Row = rows_of (found_of c.args.given.now) in
     let has = sym (first_value-rows (found_of c.args.given.now) (codes "share")) ∙ sym c.in_ok-text.ensures in
-    let split = c.in_ok-first.ensures.byte (omega arith) (λ w o found. found) in
+    let cut = c.in_ok-first.ensures.byte (omega arith) (λ w o found. found) in
     none rows c.from_residual-in_err-shares.result c.from_residual-in_err-shares.ensures (λ index shares gives.
-    let is = text_given rows c.in_ok-text.text.now has index shares gives in
+    let is = split rows c.in_ok-text.text.now has index shares gives in
     c.in_err-shares.ensures.none shares
-    (subst (λ (t : Text). IsNumberIn 100000 t shares) (sym split.1) is.shares_are))
+    (subst (λ (t : Text). IsNumberIn 100000 t shares) (sym cut.1) is.shares_are))
 
 -- two numbers that one text is are the same
 same : (text : Text) (n m : ℕ) → IsNumberIn 100000 text n → IsNumberIn 100000 text m → n ≡ m
@@ -66,25 +67,23 @@ pub returns-then-index-shares-clause-none : goal.returns-then-index-shares-claus
 returns-then-index-shares-clause-none c = λ index shares gives.
     let rows : List Row = rows_of (found_of c.args.given.now) in
     let has = sym (first_value-rows (found_of c.args.given.now) (codes "share")) ∙ sym c.in_ok-text.ensures in
-    let split = c.in_ok-first.ensures.byte (omega arith) (λ w o found. found) in
-    let is = text_given rows c.in_ok-text.text.now has index shares gives in
-    let first = same _ _ _ (subst (λ (t : Text). IsNumberIn 100000 t index) (sym split.0) is.index_is)
+    let cut = c.in_ok-first.ensures.byte (omega arith) (λ w o found. found) in
+    let is = split rows c.in_ok-text.text.now has index shares gives in
+    let first = same _ _ _ (subst (λ (t : Text). IsNumberIn 100000 t index) (sym cut.0) is.index_is)
     c.in_ok-index.ensures.some in
-    let second = same _ _ _ (subst (λ (t : Text). IsNumberIn 100000 t shares) (sym split.1) is.shares_are)
+    let second = same _ _ _ (subst (λ (t : Text). IsNumberIn 100000 t shares) (sym cut.1) is.shares_are)
     c.in_ok-shares.ensures.some in
     omega (arith, first, second, is.within, c.if-index-shares.true)
 
 pub returns-clause-some : goal.returns-clause-some
 returns-clause-some c =
     let has = sym (first_value-rows (found_of c.args.given.now) (codes "share")) ∙ sym c.in_ok-text.ensures in
-    let split = c.in_ok-first.ensures.byte (omega arith) (λ w o found. found) in
+    let cut = c.in_ok-first.ensures.byte (omega arith) (λ w o found. found) in
     record {
-      text = c.in_ok-text.text.now;
-      given = has;
-      is = record {
-        slash = split.2;
-        index_is = subst (λ (t : Text). IsNumberIn 100000 t c.in_ok-index.index) split.0 c.in_ok-index.ensures.some;
-        shares_are = subst (λ (t : Text). IsNumberIn 100000 t c.in_ok-shares.shares) split.1 c.in_ok-shares.ensures.some;
-        within = omega (arith, c.if-index-shares.false);
-      };
+      first = c.in_ok-first.first.now;
+      second = c.in_ok-first.second.now;
+      given = has ∙ ap (λ (text : Text). Some text) (around_slash c.in_ok-text.text.now _ _ cut.2 cut.0 cut.1);
+      index_is = c.in_ok-index.ensures.some;
+      shares_are = c.in_ok-shares.ensures.some;
+      within = omega (arith, c.if-index-shares.false);
     }

@@ -2,8 +2,7 @@
 use Rattle.std.proofs.Common.{◌≡◌, ℕ, ◌+◌, ◌-◌, ◌<◌, List, length, take, get_or, refl, sym, subst, ◌∙◌, arith}
 use Rattle.std.proofs.lemmas.List.{get_or_default, take_more}
 use Rattle.cut_ledger.proofs.Words.{IsGood, Slip, each_number}
-use Rattle.cut_ledger.proofs.CellLemmas.{piece_facts}
-use Rattle.cut_ledger.proofs.SlipLemmas.{good_more, over_more, overlaps_is}
+use Rattle.cut_ledger.proofs.SlipLemmas.{apart_is, good_more, over_more}
 use Rattle.cut_ledger.proofs.ledger.add_slips.Goals as goal
 
 abbrev no_slip : Slip
@@ -27,14 +26,13 @@ returns-then-not-is_good-clause-err c =
 
 pub add-requires-clause-fits : goal.add-requires-clause-fits
 add-requires-clause-fits c =
-    let v = c.args.plan.now in
     let over = c.loop-i.invariant.over in
     let good = (c.if-not-is_good.ensures.good (take c.loop-i.i c.args.slips.now) over).0 refl in
     let s : Slip = get_or c.args.slips.now c.loop-i.i no_slip in
     record {
       piece = good.piece;
-      apart = sym (overlaps_is v (take c.loop-i.i c.args.slips.now) c.loop-i.kept.trials c.loop-i.kept.sums.items s.piece
-          _ over (piece_facts v s.piece over.kept.plan good.piece)) ∙ good.apart;
+      apart = sym (apart_is c.args.plan.now (take c.loop-i.i c.args.slips.now) c.loop-i.kept.trials
+          c.loop-i.kept.sums.items s.piece over) ∙ good.apart;
       few = c.if-not-is_good.ensures.few refl;
     }
 

@@ -1,4 +1,4 @@
-use Rattle.cut_plan.specs.Accepted.{is_within}
+use Rattle.cut_plan.specs.Plan.{is_within}
 use Rattle.cut_plan.proofs.Rising.{numbers_pass}
 use Rattle.cut_plan.proofs.field_checks.are_in_scale.Goals as goal
 

@@ -1,5 +1,5 @@
 use Rattle.std.proofs.Common.{◌≡◌}
-use Rattle.cut_status.specs.Status.{done_among}
+use Rattle.cut_status.specs.inside.Counts.{done_among}
 use Rattle.cut_status.proofs.counts.cells_done.Given as goal
 
 -- those of the cells so far

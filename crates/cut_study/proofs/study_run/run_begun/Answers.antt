@@ -4,7 +4,7 @@ use Rattle.std.specs.Prelude.{IfOk, OnOk, is_some, option_copied}
 use Rattle.cut_plan.specs.Values.{Values}
 use Rattle.cut_plan.specs.Cells.{cells_of}
 use Rattle.cut_ledger.specs.declared.slip.Slip.{Slip}
-use Rattle.cut_ledger.specs.Machine.{table_over}
+use Rattle.cut_ledger.specs.Table.{table_over}
 use Rattle.cut_study.specs.inside.Conclusion.{Concludes}
 use Rattle.cut_study.specs.inside.Emission.{EmitsStudy}
 use Rattle.cut_hall.specs.Report.{SlotEnd, calls_in_all}

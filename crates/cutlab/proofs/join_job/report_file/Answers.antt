@@ -1,5 +1,5 @@
 use Rattle.std.proofs.Common.{List, ℕ, ◌∷◌, [], ◌++◌, ◌∙◌, subst}
-use Rattle.cutlab.specs.Jobs.{file_head}
+use Rattle.cutlab.specs.inside.Printing.{file_head}
 use Rattle.cutlab.specs.Sent.{IsSent}
 use Rattle.cutlab.proofs.RefusedFiles.{line_is, sent_after, sent_before}
 use Rattle.cutlab.proofs.join_job.report_file.Goals as goal

@@ -1,4 +1,4 @@
-use Rattle.std.proofs.Common.{◌≡◌, [], arith, refl, sym, subst}
+use Rattle.std.proofs.Common.{◌≡◌, ◌∙◌, [], arith, refl, sym, subst}
 use Rattle.std.specs.Option.{unwrap_or}
 use Rattle.std.specs.Result.{result_ok}
 use Rattle.hex.specs.Hex.{decode_sized}
@@ -8,6 +8,7 @@ use Rattle.cut_plan.specs.Plan.{IsPlan}
 use Rattle.cut_plan.specs.inside.Fields.{text_at}
 use Rattle.cut_plan.proofs.Checked.{checked_facts}
 use Rattle.cut_plan.proofs.PlanFacts.{few_copies, few_liars, few_links, few_processes, few_repeats, plan_facts}
+use Rattle.cut_plan.proofs.PlanFacts.{failing_by_version}
 use Rattle.cut_plan.proofs.plan.Plan.of_checked.Goals as goal
 
 pub overflow_cast-result : goal.overflow_cast-result
@@ -37,7 +38,7 @@ returns-clause-ok c =
       c.number_at.ensures,
       c.dead_at.ensures,
       c.in_ok-lists.ensures.f,
-      c.failing_at.ensures,
+      c.failing_at.ensures ∙ failing_by_version _ _,
       c.in_ok-lists.ensures.h,
       c.truth_at.ensures,
       c.in_ok-lists.ensures.k,

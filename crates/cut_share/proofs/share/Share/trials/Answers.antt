@@ -6,7 +6,8 @@ use Rattle.cut_plan.specs.Cells.{cells_of}
 use Rattle.cut_plan.specs.Values.{Values}
 use Rattle.cut_share.specs.Share.{is_in_share}
 use Rattle.cut_share.specs.declared.share.Share.{Share}
-use Rattle.cut_share.proofs.Counting.{cell_ends, count_all, count_at_most, count_cell, few_trials}
+use Rattle.cut_share.proofs.Counting.{cell_ends, count_all, count_at_most, count_cell}
+use Rattle.cut_ledger.proofs.PieceCounts.{few_trials}
 use Rattle.cut_share.proofs.share.Share.trials.Goals as goal
 
 pub overflow_add-count : goal.overflow_add-count

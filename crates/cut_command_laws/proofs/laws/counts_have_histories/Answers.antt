@@ -3,10 +3,10 @@ use Rattle.cut_wires.specs.Log.{wrote, write_failed}
 use Rattle.cut_commands.specs.declared.fault.CliFault.TheVariants.{Memory, Plan, Read, Socket, Asked, Write, Journal}
 use Rattle.cut_commands.specs.declared.fault.CliFault.TheVariants.{Folder, BadSlip, Migrate, Checkpoint, WorkMemory}
 use Rattle.cut_commands.specs.declared.fault.CliFault.TheVariants.{AuditMismatch}
-use Rattle.cut_server.specs.Laws.{CountsHaveHistories}
+use Rattle.cut_command_laws.specs.Histories.{CountsHaveHistories}
 use Rattle.cut_server.specs.Serve.{AreAccepted, IsReport, accepted_line}
-use Rattle.cut_server.proofs.Histories.{HaveEnds, ends_with}
-use Rattle.cut_server.proofs.laws.counts_have_histories.Goals as goal
+use Rattle.cut_command_laws.proofs.Histories.{HaveEnds, ends_with}
+use Rattle.cut_command_laws.proofs.laws.counts_have_histories.Goals as goal
 
 report_of : (studies : ℕ) (counts : List ℕ) → AreAccepted studies counts → (ends : HaveEnds counts)
     → IsReport studies ends.report

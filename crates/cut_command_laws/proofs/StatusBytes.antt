@@ -22,15 +22,16 @@ use Rattle.cut_journal.specs.Reading.{can_have_header, has_header, reading}
 use Rattle.cut_journal.proofs.Readings.{damaged_read}
 use Rattle.cut_status.specs.declared.fault.StatusFault.{StatusFault}
 use Rattle.cut_status.specs.declared.fault.StatusFault.TheVariants as status
-use Rattle.cut_status.specs.Status.{status_over, status_text}
+use Rattle.cut_status.specs.Status.{lines_over, status_over}
+use Rattle.cut_status.proofs.Printing.{printed_over}
 use Rattle.cut_status.specs.Study.{HasBadSlip, IsDamaged, IsStatusOf}
 use Rattle.cut_wires.specs.Log.{WireLog}
 use Rattle.cut_commands.specs.Faults.{fault_of_status}
-use Rattle.cut_commands.specs.Laws.{EndsOverSomeBytes, StatusesHaveBytes}
+use Rattle.cut_command_laws.specs.Statuses.{EndsOverSomeBytes, StatusesHaveBytes}
 use Rattle.cut_commands.specs.Status.{MayHaveNone}
 use Rattle.cut_commands.specs.declared.fault.CliFault.{CliFault}
-use Rattle.cut_commands.proofs.SlipFiles.{Fits, cut_file, cut_read, good_fit, good_fits, no_slip, no_slip_fits}
-use Rattle.cut_commands.proofs.SlipFiles.{whole_file, whole_read}
+use Rattle.cut_command_laws.proofs.SlipFiles.{Fits, cut_file, cut_read, good_fit, good_fits, no_slip, no_slip_fits}
+use Rattle.cut_command_laws.proofs.SlipFiles.{whole_file, whole_read}
 
 -- ---- good slips
 
@@ -212,8 +213,14 @@ over_some_bytes result old new is = elim is [
       inr (
         whole_file v slips,
         inl (
-          status_text (status_over v slips),
-          ((status_over v slips, (has_status v slips (accepted_is_plan some.0 v some.3) some.4, refl)), some.5),
+          lines_over v slips,
+          (
+            (
+              status_over v slips,
+              (has_status v slips (accepted_is_plan some.0 v some.3) some.4, sym (printed_over v slips)),
+            ),
+            some.5,
+          ),
         ),
       ))
   | inr none ↦ fault_over none.0 result old new none.1 none.2 none.3

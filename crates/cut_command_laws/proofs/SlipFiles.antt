@@ -1,28 +1,25 @@
 -- A file of a study with given slips is read as these, or by the number of a last one that is cut off.
-use Rattle.std.proofs.Common.{◌≡◌, ◌∙◌, ◌+◌, ◌-◌, ◌*◌, ◌/◌, ◌^◌, ◌<◌, ◌≤◌, ◌++◌, ◌&&◌, ◌∷◌, [], ℕ, zero, suc, Bool}
-use Rattle.std.proofs.Common.{true, false, not, cond, List, Result, Ok, Err, All, IsTrue, length, take, drop, get_or}
+use Rattle.std.proofs.Common.{◌≡◌, ◌∙◌, ◌+◌, ◌-◌, ◌*◌, ◌^◌, ◌<◌, ◌≤◌, ◌++◌, ◌&&◌, ◌∷◌, [], ℕ, zero, suc, Bool}
+use Rattle.std.proofs.Common.{true, false, not, cond, List, Result, Ok, Err, All, length, take, drop, get_or}
 use Rattle.std.proofs.Common.{nat_lt, refl, ap, arith, length-append}
 use Rattle.std.proofs.lemmas.Bool.Decides.{Decides-ltb}
 use Rattle.std.proofs.lemmas.List.{take_at, drop_at}
-use Rattle.std.proofs.lemmas.List.Elements.{All-from_recursion, All-head, All-tail}
+use Rattle.std.proofs.lemmas.List.Elements.{All-head, All-tail}
 use Rattle.cut_plan.specs.declared.version.Version.{Version}
 use Rattle.cut_plan.specs.declared.version.Version.TheVariants.{One, Two}
 use Rattle.cut_plan.specs.Canonical.{canonical_text}
-use Rattle.cut_plan.specs.Cells.{IsCellOf, cells_of}
 use Rattle.cut_plan.specs.Plan.{IsPlan}
 use Rattle.cut_plan.specs.Values.{Values}
 use Rattle.cut_plan.specs.Versions.{version_of}
-use Rattle.cut_plan.proofs.CellFacts.{every-cells}
 use Rattle.cut_plan.proofs.CanonicalLength.{canonical_plain}
-use Rattle.cut_outcome.specs.declared.totals.Totals.{Totals}
-use Rattle.cut_outcome.specs.Outcome.{cell_at, no_cell}
-use Rattle.cut_outcome.specs.Possible.{IsSettledBy}
-use Rattle.cut_outcome.specs.Sum.{each_number, is_piece, IsAtMost}
+use Rattle.cut_outcome.specs.Outcome.{cell_at}
+use Rattle.cut_outcome.specs.Sum.{each_number, IsAtMost}
 use Rattle.cut_outcome.proofs.Pieces.{few_trials}
 use Rattle.cut_outcome.proofs.Sum.{few_in}
 use Rattle.cut_ledger.specs.declared.slip.Slip.{Slip}
 use Rattle.cut_ledger.specs.Slips.{AreGood, IsGood}
 use Rattle.cut_ledger.proofs.CellLemmas.{piece_facts}
+use Rattle.cut_ledger.proofs.CellLemmas.{few_rings}
 use Rattle.cut_journal.specs.declared.fault.JournalFault.{JournalFault}
 use Rattle.cut_journal.specs.declared.fault.JournalFault.TheVariants.{Damaged}
 use Rattle.cut_journal.specs.File.{HoldsAllTotals, body_of, closed_gate, open_gate, prefix_of, slip_length}
@@ -33,6 +30,7 @@ use Rattle.cut_journal.proofs.Headers.{together}
 use Rattle.cut_journal.proofs.Prefixes.{long_prefix}
 use Rattle.cut_journal.proofs.Readings.{of_plan_from, plan_read}
 use Rattle.cut_journal.proofs.SlipBytes.{slip_back, slip_whole}
+use Rattle.cut_journal.proofs.SlipBytes.{settled_holds}
 
 -- ---- slips that a file can hold
 
@@ -61,22 +59,6 @@ small_fits v s first count few totals = by_numbers v s (slip_whole v s) (λ numb
       right = omega (arith, few.right);
       settled = omega (arith, few.settled);
     })
-
--- a piece's cell has 32 rings at most
-few_rings : (v : Values) (s : Slip) → IsPlan v → IsTrue (is_piece v s.piece) → (cell_at v s.piece.first).k ≤ 32
-few_rings v s plan piece =
-    let facts = piece_facts v s.piece plan piece in
-    let cell = All-from_recursion (IsCellOf v) (cells_of v) (every-cells v plan) (s.piece.first / v.repeats)
-    no_cell facts.cell in
-    let most = cell.most_rings in
-    let rings = plan.most_rings in
-    omega (arith, most, rings)
-
--- possible totals are all kept in a slip of the plan's version
-settled_holds : (version : Version) (n m : ℕ) (x : Totals) → IsSettledBy version n m x.settled
-    → HoldsAllTotals version x
-settled_holds One n m x is = is
-settled_holds Two n m x is = tt
 
 -- each good slip
 pub good_fits : (v : Values) (earlier : List Slip) (s : Slip) → IsPlan v → IsGood v earlier s → Fits v s

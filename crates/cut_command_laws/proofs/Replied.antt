@@ -12,20 +12,20 @@ use Rattle.cut_messages.specs.declared.kind.Kind.TheVariants as kind
 use Rattle.cut_messages.specs.declared.message.Message.{Message}
 use Rattle.cut_messages.specs.declared.fault.StreamFault.{StreamFault}
 use Rattle.cut_messages.specs.declared.fault.StreamFault.TheVariants.{BadKind, TooLong, BadLength}
-use Rattle.cut_messages.specs.declared.ask_fault.AskFault.{AskFault}
-use Rattle.cut_messages.specs.declared.ask_fault.AskFault.TheVariants as ask
+use Rattle.cut_messages.specs.declared.fault.AskFault.{AskFault}
+use Rattle.cut_messages.specs.declared.fault.AskFault.TheVariants as ask
 use Rattle.cut_messages.specs.Asking.{Asks, ConcludesAnswer, GoesOn, Hears, heard, left_by, lines_of, request}
 use Rattle.cut_messages.specs.Frames.{IsMessage, fault_at, frame_of}
 use Rattle.cut_messages.specs.Reading.{HasNoMessage, Splits}
 use Rattle.cut_messages.proofs.Frames.{no_message}
 use Rattle.cut_messages.proofs.Streams.{room}
 use Rattle.cut_commands.specs.Ask.{AsksText, ConveysPartly}
-use Rattle.cut_commands.specs.Laws.{BytesAreLinesOfAnAnswer}
+use Rattle.cut_command_laws.specs.Answers.{BytesAreLinesOfAnAnswer}
 use Rattle.cut_commands.specs.Run.{GivesText, read_on}
 use Rattle.cut_commands.specs.declared.fault.CliFault.TheVariants.{Memory, Plan, Read, Socket, Asked, Write, Journal}
 use Rattle.cut_commands.specs.declared.fault.CliFault.TheVariants.{Folder, BadSlip, Migrate, Checkpoint, WorkMemory}
 use Rattle.cut_commands.specs.declared.fault.CliFault.TheVariants.{AuditMismatch}
-use Rattle.cut_commands.proofs.Logs.{wrote_none}
+use Rattle.cut_wires.proofs.Logs.{wrote_none}
 
 -- ---- messages
 

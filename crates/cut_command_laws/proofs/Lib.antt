@@ -1,0 +1,4 @@
+pub mod Replied
+pub mod SlipFiles
+pub mod StatusBytes
+pub mod Histories
