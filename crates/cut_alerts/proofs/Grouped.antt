@@ -12,7 +12,7 @@ use Rattle.cut_rings.specs.Edges.{EdgeSet, is_edge, set_of, edge_to, rings_to, e
 use Rattle.cut_alerts.specs.Alerted.{edges_of, all_edges}
 use Rattle.cut_alerts.proofs.EdgeLemmas.{edge, member_all}
 
-filter-flat_map : {X Y : Type 0} (p : Y → Bool) (f : X → List Y) (xs : List X)
+pub filter-flat_map : {X Y : Type 0} (p : Y → Bool) (f : X → List Y) (xs : List X)
     → filter p (flat_map f xs) ≡ flat_map (λ x. filter p (f x)) xs
 filter-flat_map p f [] = refl
 filter-flat_map p f (x ∷ xs) =

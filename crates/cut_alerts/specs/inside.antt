@@ -1,3 +1,2 @@
 -- How cut_alerts keeps its values, and what its private functions promise: no contract of a public function cites it.
-pub mod Assignment
 pub mod Given

@@ -13,7 +13,9 @@ use Rattle.cut_ranks.specs.Closing.{IsEnough, is_doubtful}
 use Rattle.cut_arrivals.specs.Times.{members_by, is_settled_by}
 use Rattle.cut_arrivals.specs.Rising.{IsRising}
 use Rattle.cut_arrivals.specs.Nodes.{AreTimes, AreNodes, IsClosed}
-use Rattle.cut_arrivals.proofs.Tests.{IsKept, IsTrueFrom, fails_before, same_le, turns, two_pass}
+use Rattle.cut_arrivals.proofs.Tests.{IsKept, IsTrueFrom, fails_before, turns, two_pass}
+use Rattle.cut_ranks.proofs.Ranks.{same_test}
+use Rattle.cut_detector.proofs.Places.{not_true}
 
 -- ---- settled times
 
@@ -21,9 +23,6 @@ use Rattle.cut_arrivals.proofs.Tests.{IsKept, IsTrueFrom, fails_before, same_le,
 pub record IsSettledBy (n : ℕ) (low high : ℕ → ℕ) (t : ℕ) : Type 0 where
   pub some : (s : ℕ) × (s < n) × (high s ≤ t)
   pub others : (s : ℕ) → s < n → low s ≤ t → high s ≤ t
-
-not_true : (b : Bool) → not b ≡ true → b ≡ false
-not_true b e = grind arith
 
 pub settled-is : (n : ℕ) (low high : ℕ → ℕ) (t : ℕ) → is_settled_by n low high t ≡ true → IsSettledBy n low high t
 settled-is n low high t e =
@@ -307,7 +306,7 @@ module _ (n count last : ℕ) (low high tau : ℕ → ℕ) (lows highs : List �
       → members_by n high t ≡ members_by n (λ s. tau (high s)) time
   members_same ends t low_t settled stands_for =
       filter_agree_on (λ s. nat_le (high s) t) (λ s. nat_le (tau (high s)) time) 0 n (record {
-        same = λ s _ below. same_le (high s) t (tau (high s)) time
+        same = λ s _ below. same_test (high s) t (tau (high s)) time
             (λ come. let up : tau (high s) ≤ tau t = rising.rises (high s) t come in omega (arith, up, stands_for))
             (λ ended. tied_come ends t low_t settled stands_for s (omega (arith, below)) ended);
       })

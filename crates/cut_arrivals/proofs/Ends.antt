@@ -22,10 +22,10 @@ use Rattle.cut_arrivals.specs.Hearing.{highs_at}
 use Rattle.cut_arrivals.proofs.Modes.{reported_from_low, counts_from_full, stable_from_high}
 use Rattle.cut_arrivals.proofs.Found.{proposed, proposes_by_times}
 use Rattle.cut_arrivals.proofs.FirstTimes.{first_come}
-use Rattle.cut_arrivals.proofs.Observers.{observer_is_process}
 use Rattle.cut_arrivals.proofs.Closes.{settled-is}
 use Rattle.cut_arrivals.proofs.Heard.{end_of, heard_by, high_places, low_places, place_of, places_at, places_before}
 use Rattle.cut_arrivals.proofs.Heard.{places_come}
+use Rattle.cut_rings.proofs.Observers.{observer_below}
 
 -- a test that each element passes makes no difference
 any_passed : {X : Type 0} (p q : X → Bool) (xs : List X) → All (λ x. q x ≡ true) xs → list_any (λ x. p x && q x) xs
@@ -63,7 +63,7 @@ module _ (x : Hearing) (is : IsHearing x) (some : 1 ≤ x.copies) (end : ℕ) (t
   comes : ComesAt x.layout x.rule end come at
   comes = record {
     comes = λ _ _ _ _ _ _. refl;
-    observers = λ ring s below process. observer_is_process x.layout is.layout ring s (omega (arith, below, is.rings))
+    observers = λ ring s below process. observer_below x.layout is.layout ring s (omega (arith, below, is.rings))
         process;
   }
 

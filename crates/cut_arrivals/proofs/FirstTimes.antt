@@ -2,15 +2,15 @@
 use Rattle.std.proofs.Common.{◌≡◌, ℕ, ◌+◌, ◌<◌, Bool, true, false, cond, ◌&&◌, nat_le, List, [], ◌∷◌, map, filter, refl}
 use Rattle.std.proofs.Common.{ap, sym, ◌∙◌, arith}
 use Rattle.std.specs.List.{All, count_by, list_any}
-use Rattle.std.proofs.lemmas.List.Elements.{All-filter, All-head, All-tail}
+use Rattle.std.proofs.lemmas.List.Elements.{All-filter}
 use Rattle.std.proofs.lemmas.List.Sums.{sum_by-cons}
 use Rattle.cut_lists.proofs.Counts.{list_any-count_by}
-use Rattle.cut_lists.proofs.Maps.{count_by-map, map-map}
+use Rattle.cut_lists.proofs.Maps.{count_by-map, map-map, maps_agree}
 use Rattle.cut_ranks.specs.Ranks.{rank_at}
 use Rattle.cut_arrivals.specs.Rising.{IsRising}
-use Rattle.cut_arrivals.proofs.Tests.{lt_is_le}
 use Rattle.cut_arrivals.proofs.RankLemmas.{rank_is}
 use Rattle.cut_arrivals.proofs.Rises.{ranks_rise}
+use Rattle.cut_draws.proofs.FirstTimes.{next_le}
 
 pub count_filter : {X : Type 0} (t p : X → Bool) (xs : List X) → count_by t (filter p xs)
     ≡ count_by (λ x. p x && t x) xs
@@ -24,18 +24,12 @@ count_filter {X} t p (x ∷ xs) =
     by false rest = (let same : count_by t (filter p xs) ≡ 0 + count_by (λ y. p y && t y) xs = omega (arith, rest)
         in same)
 
-map_agree : {X Y : Type 0} (f g : X → Y) (xs : List X) → All (λ x. f x ≡ g x) xs → map f xs ≡ map g xs
-map_agree f g [] all = refl
-map_agree f g (x ∷ xs) all =
-    ap (λ y. y ∷ map f xs) (All-head (λ x. f x ≡ g x) x xs all)
-    ∙ ap (λ ys. g x ∷ ys) (map_agree f g xs (All-tail (λ x. f x ≡ g x) x xs all))
-
 -- the first has come exactly where some has
 pub first_come : {X : Type 0} (end : ℕ) (time : X → ℕ) (p : X → Bool) (xs : List X) (t : ℕ) → t < end
     → list_any (λ x. p x && nat_le (time x) t) xs ≡ nat_le (rank_at end 1 (map time (filter p xs))) t
 first_come end time p xs t low =
     list_any-count_by (λ x. p x && nat_le (time x) t) xs
-    ∙ lt_is_le 0 (count_by (λ x. p x && nat_le (time x) t) xs)
+    ∙ next_le 0 (count_by (λ x. p x && nat_le (time x) t) xs)
     ∙ ap (nat_le 1) (sym (count_filter (λ x. nat_le (time x) t) p xs)
     ∙ sym (count_by-map (λ y. nat_le y t) time (filter p xs)))
     ∙ (rank_is end 1 (map time (filter p xs))).comes t low
@@ -46,7 +40,7 @@ pub first_moves : {X : Type 0} (end last : ℕ) (tau : ℕ → ℕ) → IsRising
     → All (λ x. other x ≡ tau (time x)) xs
     → rank_at last 1 (map other (filter p xs)) ≡ tau (rank_at end 1 (map time (filter p xs)))
 first_moves end last tau rising time other p xs same =
-    ap (rank_at last 1) (map_agree other (λ x. tau (time x)) (filter p xs)
+    ap (rank_at last 1) (maps_agree other (λ x. tau (time x)) (filter p xs)
     (All-filter p (λ x. other x ≡ tau (time x)) xs same)
     ∙ sym (map-map time tau (filter p xs)))
     ∙ ranks_rise end last 1 (map time (filter p xs)) tau rising (omega arith)

@@ -1,12 +1,12 @@
 -- What a receiver proposes, by the images of its deliveries.
-use Rattle.std.proofs.Common.{◌≡◌, inl, inr, ℕ, ◌+◌, ◌-◌, ◌^◌, ◌<◌, ◌≤◌, ◌==◌, ◌&&◌, Bool, cond, nat_lt, List, map}
+use Rattle.std.proofs.Common.{◌≡◌, inl, inr, ℕ, ◌+◌, ◌-◌, ◌^◌, ◌<◌, ◌≤◌, ◌&&◌, Bool, cond, nat_lt, List, map}
 use Rattle.std.proofs.Common.{filter, length, get_or, Option, Some, None, option_map, subst, refl, ap, sym, ◌∙◌, arith}
 use Rattle.std.specs.List.{All, Contains, find, list_any, range_with_len}
 use Rattle.std.specs.declared.cmp.Ordering.{Ordering}
-use Rattle.std.specs.declared.cmp.Ordering.TheVariants.{Less, Equal, Greater}
+use Rattle.std.specs.declared.cmp.Ordering.TheVariants.{Less}
 use Rattle.std.specs.Ordering.{nat_cmp, ordering_then}
 use Rattle.std.specs.Cmp.{IsTotalOrder}
-use Rattle.std.proofs.lemmas.Bool.{cases_lt, lt-ltb}
+use Rattle.std.proofs.lemmas.Bool.{cases_lt}
 use Rattle.std.proofs.lemmas.Cmp.{nat_cmp_total, on_total, then_total}
 use Rattle.std.proofs.lemmas.List.Elements.{All-map, Contains-get_or}
 use Rattle.cut_lists.proofs.Ranks.{rank-below, rank-less}
@@ -21,7 +21,6 @@ use Rattle.cut_arrivals.specs.Rising.{IsRising, moved}
 use Rattle.cut_arrivals.specs.Nodes.{AreTimes, IsClosed}
 use Rattle.cut_arrivals.specs.Hearing.{Hearing, IsHearing, deliveries_of, proposal_at, image_of, first_times, images_at}
 use Rattle.cut_arrivals.specs.Hearing.{lows_at, highs_at}
-use Rattle.cut_arrivals.proofs.Tests.{lt_is_le}
 use Rattle.cut_arrivals.proofs.RankLemmas.{rank_no_less}
 use Rattle.cut_arrivals.proofs.Modes.{high_within, low_before_high, low_no_less}
 use Rattle.cut_arrivals.proofs.Found.{proposed, proposes_by_times}
@@ -29,12 +28,11 @@ use Rattle.cut_arrivals.proofs.Rises.{lows_rise, highs_rise}
 use Rattle.cut_arrivals.proofs.Closes.{closes_as_settled}
 use Rattle.cut_arrivals.proofs.Changes.{LieAlike, change, change_is, change_rises}
 use Rattle.cut_arrivals.proofs.FirstTimes.{first_come, first_moves}
-use Rattle.cut_arrivals.proofs.Observers.{observer_is_process}
+use Rattle.cut_rings.proofs.Observers.{observer_below}
+use Rattle.cut_draws.proofs.FirstTimes.{next_le}
+use Rattle.cut_lists.proofs.Keyed.{less}
 
 -- ---- the order of deliveries
-
-less : (a b : ℕ) → a < b → nat_cmp a b ≡ Less
-less a b before = ap (λ t. cond t Less (cond (a == b) Equal Greater)) (lt-ltb a b before)
 
 -- how two deliveries compare
 abbrev pub compare_at : Hearing → Delivery → Delivery → Ordering
@@ -113,9 +111,9 @@ pub places_come : (x : Hearing) → IsHearing x → ComesAt x.layout x.rule (end
 places_come x is = record {
   comes = λ t ring s low _ _.
       ap (λ (p : Delivery → Bool). list_any p (deliveries_of x))
-      (λ i y. is_edge ring s y.edge && lt_is_le (delivery_rank x.source x.receiver x.rule.k x.edges x.copies y) t i)
+      (λ i y. is_edge ring s y.edge && next_le (delivery_rank x.source x.receiver x.rule.k x.edges x.copies y) t i)
       ∙ first_come (end_of x) (place_of x) (λ y. is_edge ring s y.edge) (deliveries_of x) t low;
-  observers = λ ring s below process. observer_is_process x.layout is.layout ring s (omega (arith, below, is.rings))
+  observers = λ ring s below process. observer_below x.layout is.layout ring s (omega (arith, below, is.rings))
       process;
 }
 

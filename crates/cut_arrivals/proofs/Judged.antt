@@ -15,6 +15,7 @@ use Rattle.cut_arrivals.specs.Hearing.{Hearing, IsHearing, lows_at, highs_at}
 use Rattle.cut_arrivals.proofs.Tests.{both_imply, lt_is_not_le}
 use Rattle.cut_arrivals.proofs.Heard.{high_places, highs_same, low_places, lows_same, places_are_times, to_image}
 use Rattle.cut_arrivals.proofs.Heard.{to_image_rises}
+use Rattle.cut_detector.proofs.Places.{not_true}
 
 -- ---- elements of lists
 
@@ -49,9 +50,6 @@ member n time high p process =
     (λ e. (Contains-filter_of (λ s. nat_le (high s) time) 0 n p (contains (members_by n high time) p e)).passes)
     (λ e. has (members_by n high time) p (Contains_filter (λ s. nat_le (high s) time) 0 n p
     (record { from = omega arith; below = omega (arith, process); passes = e })))
-
-not_true : (b : Bool) → not b ≡ true → b ≡ false
-not_true b e = grind arith
 
 module _ (n last time : ℕ) (low high : ℕ → ℕ) (nodes lows highs : List ℕ) (is_target : ℕ → Bool)
     (are : AreNodes n last low high nodes lows highs) (ordered : (s : ℕ) → s < n → low s ≤ high s) (ends : time < last)

@@ -4,7 +4,6 @@ use Rattle.std.proofs.Common.{◌∷◌, map, filter, min, fold, refl, ap, sym, 
 use Rattle.std.specs.List.{list_any, range_with_len}
 use Rattle.std.proofs.Math.Bool.{or-false}
 use Rattle.std.proofs.lemmas.Bool.{and_parts, eqb-true, le-leb, leb-true, lt-leb}
-use Rattle.std.proofs.lemmas.Bool.Decides.{nat_tests}
 use Rattle.cut_lists.proofs.Maps.{list_any-flat_map, list_any-map}
 use Rattle.cut_rings.specs.declared.edge.Edge.{Edge}
 use Rattle.cut_rings.specs.Edges.{is_edge, set_of, edge_number}
@@ -14,18 +13,16 @@ use Rattle.cut_blocks.specs.Images.{DeliveriesStandInBlocks, CopiesAreApart, ima
 unfoldable use Rattle.cut_blocks.specs.Images.{least_image}
 use Rattle.cut_ranks.specs.Ranks.{rank_at}
 use Rattle.cut_arrivals.specs.Hearing.{Hearing, deliveries_of, image_of, images_at}
-use Rattle.cut_arrivals.proofs.RankLemmas.{rank_is, rank_unique}
+use Rattle.cut_arrivals.proofs.RankLemmas.{rank_is}
 use Rattle.cut_arrivals.proofs.FirstTimes.{first_come}
-
-least_test : (a b t : ℕ) (rest : Bool) → nat_le (min a b) t || rest ≡ nat_le a t || (nat_le b t || rest)
-least_test a b t true = grind (arith, nat_tests)
-least_test a b t false = grind (arith, nat_tests)
+use Rattle.cut_ranks.proofs.Ranks.{one_rank}
+use Rattle.cut_draws.proofs.FirstTimes.{least_more}
 
 -- the least has come exactly where some has
 fold_least : (f : ℕ → ℕ) (a t : ℕ) (cs : List ℕ) → nat_le (fold (λ m c. min m (f c)) a cs) t ≡ nat_le a t
     || list_any (λ c. nat_le (f c) t) cs
 fold_least f a t [] = sym (or-false (nat_le a t))
-fold_least f a t (c ∷ cs) = fold_least f (min a (f c)) t cs ∙ least_test a (f c) t (list_any (λ c. nat_le (f c) t) cs)
+fold_least f a t (c ∷ cs) = fold_least f (min a (f c)) t cs ∙ least_more a (f c) t (list_any (λ c. nat_le (f c) t) cs)
 
 with_rest : (p q b rest : Bool) (any : Bool) → (p ≡ true → q ≡ b) → rest ≡ any && b → (p && q) || rest ≡ (p || any) && b
 with_rest true q b rest any same is = grind arith
@@ -84,7 +81,7 @@ module _ (x : Hearing) (blocks : DeliveriesStandInBlocks) (rows : CopiesAreApart
 
   image_is_least : set_of x.edges ring s ≡ true → rank_at never 1 images ≡ least
   image_is_least alerted =
-      rank_unique never 1 images (rank_at never 1 images) least (rank_is never 1 images) (record {
+      one_rank never 1 images (rank_at never 1 images) least (rank_is never 1 images) (record {
         within = leb-true _ _ (fold_least of_copy never never (range_with_len 0 x.copies)
             ∙ ap (λ b. b || list_any (λ c. nat_le (of_copy c) never) (range_with_len 0 x.copies))
             (le-leb never never (omega arith)));

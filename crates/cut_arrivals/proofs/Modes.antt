@@ -1,9 +1,9 @@
 -- Modes of processes by the times of edges.
 use Rattle.std.proofs.Common.{◌≡◌, inl, inr, ℕ, ◌<◌, ◌≤◌, Bool, true, false, cond, ◌&&◌, ◌||◌, not, nat_le, nat_lt, min}
-use Rattle.std.proofs.Common.{max, refl, ap, sym, ◌∙◌, arith}
+use Rattle.std.proofs.Common.{max, ap, sym, ◌∙◌, arith}
 use Rattle.std.specs.List.{count_by, range_with_len}
 use Rattle.std.proofs.Math.Bool.{or-false}
-use Rattle.std.proofs.lemmas.Bool.{cases_Bool, cases_lt, le-leb, leb-true, or_left}
+use Rattle.std.proofs.lemmas.Bool.{cases_lt, le-leb, leb-true}
 use Rattle.std.proofs.lemmas.Bool.Decides.{nat_tests}
 use Rattle.std.proofs.lemmas.List.Elements.{All-map}
 use Rattle.cut_lists.proofs.Ranges.{count_by_agree}
@@ -11,13 +11,13 @@ use Rattle.cut_lists.proofs.Maps.{count_by-map}
 use Rattle.cut_rings.specs.Layout.{Layout, observer_of}
 use Rattle.cut_rings.specs.Edges.{EdgeSet}
 use Rattle.cut_detector.specs.Rule.{Rule}
-use Rattle.cut_detector.specs.Counts.{ring_count, full_count, reports_of, is_gained}
+use Rattle.cut_detector.specs.Counts.{ring_count, full_count, is_gained}
 unfoldable use Rattle.cut_detector.specs.Counts.{is_reported, is_full, is_stable, is_unstable}
-use Rattle.cut_lists.proofs.Parts.{count_le}
 use Rattle.cut_arrivals.specs.Times.{EdgeTimes, ComesAt, IsRule, times_to}
 unfoldable use Rattle.cut_arrivals.specs.Times.{low_of, full_time, high_of}
 use Rattle.cut_arrivals.proofs.Tests.{lt_is_not_le}
 use Rattle.cut_arrivals.proofs.RankLemmas.{rank_is, rank_no_less}
+use Rattle.cut_detector.proofs.Modes.{marked-is}
 
 -- edges of a set, counted by their times
 count_come : (k : ℕ) (at : EdgeTimes) (F : EdgeSet) (t s : ℕ)
@@ -68,40 +68,13 @@ pub stable_from_high : (r : Layout) (rule : Rule) (end : ℕ) (E : ℕ → EdgeS
 unfolding is_stable
 stable_from_high r rule end E at come t s low process = full_from_high r rule end E at come t s low process
 
-no_gain : (e i x y : Bool) → x ≡ false → e || (i && x && y) ≡ e
-no_gain e i x y none = grind arith
-
-reports_test : (rule : Rule) (F : EdgeSet) (s : ℕ) → nat_le rule.l (reports_of rule F s) ≡ is_reported rule F s
-unfolding is_reported
-reports_test rule F s = refl
-
-reports_enough : (rule : Rule) (F : EdgeSet) (s : ℕ) → is_reported rule F s ≡ true → rule.l ≤ reports_of rule F s
-reports_enough rule F s is = leb-true _ _ (reports_test rule F s ∙ is)
-
--- at least L rings count for a process exactly where it is reported on L
-marked : (r : Layout) (rule : Rule) (F : EdgeSet) (s : ℕ) → nat_le rule.l (full_count r rule F s) ≡ is_reported rule F s
-unfolding is_full
-marked r rule F s = elim (cases_Bool (is_reported rule F s)) [
-  | inl is ↦ (let many : rule.l ≤ reports_of rule F s = reports_enough rule F s is in
-      let more : reports_of rule F s ≤ full_count r rule F s = count_le (λ ring. F ring s)
-      (λ ring. is_full r rule F ring s) (range_with_len 0 rule.k)
-      (λ ring e. or_left (F ring s) _ e) in
-      le-leb _ _ (omega (arith, many, more)) ∙ sym is)
-  | inr fails ↦ ap (nat_le rule.l) (count_by_agree (λ ring. is_full r rule F ring s) (λ ring. F ring s) 0 rule.k
-      (record {
-        same = λ ring _ _. no_gain (F ring s) rule.implicit (is_reported rule F s)
-            (is_reported rule F (observer_of r ring s)) fails;
-      }))
-      ∙ reports_test rule F s
-]
-
 pub unstable_between : (r : Layout) (rule : Rule) (end : ℕ) (E : ℕ → EdgeSet) (at : EdgeTimes) → ComesAt r rule end E at
     → (t s : ℕ) → t < end → s < r.nodes
     → is_unstable r rule (E t) s ≡ (nat_le (low_of end rule at s) t && nat_lt t (high_of end r rule at s))
 unfolding is_unstable
 unstable_between r rule end E at come t s low process =
     let full : ℕ = full_count r rule (E t) s in
-    ap (λ b. b && nat_lt full rule.h) (marked r rule (E t) s ∙ reported_from_low r rule end E at come t s low process)
+    ap (λ b. b && nat_lt full rule.h) (marked-is r rule (E t) s ∙ reported_from_low r rule end E at come t s low process)
     ∙ ap (λ b. nat_le (low_of end rule at s) t && b) (lt_is_not_le full rule.h
     ∙ ap not (full_from_high r rule end E at come t s low process)
     ∙ sym (lt_is_not_le t (high_of end r rule at s)))
@@ -133,7 +106,7 @@ low_before_high r rule end E at come is s process = elim (cases_lt (high_of end 
       let many : rule.h ≤ full_count r rule (E t) s =
       leb-true _ _ (full_from_high r rule end E at come t s low process ∙ le-leb t t (omega arith)) in
       let come_by : low_of end rule at s ≤ t =
-      leb-true _ _ (sym (reported_from_low r rule end E at come t s low process) ∙ sym (marked r rule (E t) s)
+      leb-true _ _ (sym (reported_from_low r rule end E at come t s low process) ∙ sym (marked-is r rule (E t) s)
       ∙ le-leb _ _ (omega (arith, many, is.gap))) in
       omega (arith, less, come_by))
 ]

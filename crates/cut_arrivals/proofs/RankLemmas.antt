@@ -12,6 +12,7 @@ use Rattle.cut_lists.proofs.Parts.{count_le}
 unfoldable use Rattle.cut_ranks.specs.Ranks.{rank_at}
 use Rattle.cut_ranks.specs.Ranks.{has_rank, IsRank}
 use Rattle.cut_arrivals.proofs.Tests.{IsKept, IsTrueFrom, turns}
+use Rattle.cut_ranks.proofs.Ranks.{one_rank}
 
 -- what has come by a time has come by a later one
 pub count_by_time-le : (xs : List ℕ) (a b : ℕ) → a ≤ b → count_by (λ x. nat_le x a) xs ≤ count_by (λ x. nat_le x b) xs
@@ -37,16 +38,6 @@ not_less : (end r : ℕ) (xs : List ℕ) (x y : ℕ) → IsRank end r xs x → I
 not_less end r xs x y one other less =
     let low : x < end = omega (arith, less, other.within) in
     both_ways (has_rank r xs x) (other.comes x low ∙ lt-leb y x less) (one.comes x low ∙ le-leb x x (omega arith))
-
--- there is but one
-pub rank_unique : (end r : ℕ) (xs : List ℕ) (x y : ℕ) → IsRank end r xs x → IsRank end r xs y → x ≡ y
-rank_unique end r xs x y one other = elim (cases_lt x y) [
-  | inl less ↦ absurd (not_less end r xs x y one other less)
-  | inr not_below ↦ elim (cases_lt y x) [
-    | inl less ↦ absurd (not_less end r xs y x other one less)
-    | inr not_above ↦ omega (arith, not_below, not_above)
-  ]
-]
 
 -- a rank is no less than what none of the times is less than
 pub rank_no_less : (end r : ℕ) (xs : List ℕ) (a : ℕ) → 1 ≤ r → a ≤ end → All (λ x. a ≤ x) xs → a ≤ rank_at end r xs
@@ -120,6 +111,6 @@ pub rank_of_alike : (end r : ℕ) (values xs : List ℕ) (v : ℕ)
     → ((t : ℕ) → t < end → count_by (λ x. nat_le x t) values ≡ count_by (λ x. nat_le x t) xs) → IsRank end r values v
     → v ≡ rank_at end r xs
 rank_of_alike end r values xs v alike is =
-    rank_unique end r xs v (rank_at end r xs)
+    one_rank end r xs v (rank_at end r xs)
     (record { within = is.within; comes = λ t low. ap (nat_le r) (sym (alike t low)) ∙ is.comes t low })
     (rank_is end r xs)

@@ -13,7 +13,8 @@ use Rattle.cut_arrivals.specs.Times.{EdgeTimes, times_to, IsRule}
 unfoldable use Rattle.cut_arrivals.specs.Times.{low_of, full_time, high_of}
 use Rattle.cut_arrivals.specs.Rising.{IsRising, moved}
 use Rattle.cut_arrivals.proofs.Tests.{both_imply}
-use Rattle.cut_arrivals.proofs.RankLemmas.{rank_is, rank_unique}
+use Rattle.cut_arrivals.proofs.RankLemmas.{rank_is}
+use Rattle.cut_ranks.proofs.Ranks.{one_rank}
 
 -- what is changed to no later than u comes before what is changed to after u
 comes_before : (end last : ℕ) (tau : ℕ → ℕ) → IsRising end last tau → (x y u : ℕ) → u < tau x → tau y ≤ u → y < x
@@ -84,7 +85,7 @@ rank_moves end last r xs tau rising some x is = record {
 pub ranks_rise : (end last r : ℕ) (xs : List ℕ) (tau : ℕ → ℕ) → IsRising end last tau → 1 ≤ r
     → rank_at last r (map tau xs) ≡ tau (rank_at end r xs)
 ranks_rise end last r xs tau rising some =
-    rank_unique last r (map tau xs) _ _ (rank_is last r (map tau xs))
+    one_rank last r (map tau xs) _ _ (rank_is last r (map tau xs))
     (rank_moves end last r xs tau rising some (rank_at end r xs) (rank_is end r xs))
 
 -- times of edges that are changed

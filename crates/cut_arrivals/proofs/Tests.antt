@@ -2,7 +2,7 @@
 use Rattle.std.proofs.Common.{◌≡◌, inl, inr, ℕ, zero, suc, ◌+◌, ◌<◌, ◌≤◌, Bool, true, false, cond, List, [], ◌∷◌, not}
 use Rattle.std.proofs.Common.{nat_lt, nat_le, get_or, length, subst, refl, ap, sym, ◌∙◌, arith}
 use Rattle.std.specs.List.{count_by, range_with_len}
-use Rattle.std.proofs.lemmas.Bool.{both_ways, cases_Bool, cases_lt, le-leb, leb-true, lt-leb, ltb-true}
+use Rattle.std.proofs.lemmas.Bool.{both_ways, cases_Bool, cases_lt, le-leb, lt-leb, ltb-true}
 use Rattle.std.proofs.lemmas.Bool.{false_from_ne_true}
 use Rattle.std.proofs.lemmas.Bool.Decides.{nat_tests}
 use Rattle.std.proofs.lemmas.List.Sums.{sum_by_push, sum_by-cons}
@@ -16,16 +16,8 @@ both_imply true y there back = sym (there refl)
 both_imply false true there back = back refl
 both_imply false false there back = refl
 
--- orders that imply each other
-pub same_le : (a b c d : ℕ) → (a ≤ b → c ≤ d) → (c ≤ d → a ≤ b) → nat_le a b ≡ nat_le c d
-same_le a b c d there back =
-    both_imply _ _ (λ e. le-leb c d (there (leb-true a b e))) (λ e. le-leb a b (back (leb-true c d e)))
-
 pub lt_is_not_le : (a b : ℕ) → nat_lt a b ≡ not (nat_le b a)
 lt_is_not_le a b = grind (arith, nat_tests)
-
-pub lt_is_le : (a b : ℕ) → nat_lt a b ≡ nat_le (a + 1) b
-lt_is_le a b = grind (arith, nat_tests)
 
 -- a test that stays true once it is
 pub record IsKept (p : ℕ → Bool) : Type 0 where

@@ -20,8 +20,8 @@ use Rattle.cut_arrivals.specs.Hearing.{Hearing, IsHearing, deliveries_of, image_
 use Rattle.cut_arrivals.specs.Values.{ArePresent, AreFullTimes}
 use Rattle.cut_arrivals.proofs.RankLemmas.{rank_is, rank_of_alike}
 use Rattle.cut_arrivals.proofs.FirstTimes.{count_filter}
-use Rattle.cut_arrivals.proofs.Observers.{observer_is_process}
 use Rattle.cut_arrivals.proofs.Ends.{ends_come, ends_full, ends_reported_alike, images_before}
+use Rattle.cut_rings.proofs.Observers.{observer_below}
 
 not_before : (a b : ℕ) → nat_lt a b ≡ false → b ≤ a
 not_before a b e = grind (arith, nat_tests)
@@ -86,7 +86,7 @@ pub ungained_by_image : ImagesAreBelowNever → (x : Hearing) (last ring s : ℕ
 unfolding full_time
 ungained_by_image below x last ring s is some wide in_rule process none =
     let o : ℕ = observer_of x.layout ring s in
-    let observer : o < x.layout.nodes = observer_is_process x.layout is.layout ring s (omega (arith, in_rule, is.rings))
+    let observer : o < x.layout.nodes = observer_below x.layout is.layout ring s (omega (arith, in_rule, is.rings))
     process in
     ungained x.rule.implicit (is_reported x.rule (set_of x.edges) s) (is_reported x.rule (set_of x.edges) o)
     (images_at x last ring s) (lows_at x last s) (lows_at x last o) last (images_within x last ring s)

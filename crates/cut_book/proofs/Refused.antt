@@ -1,6 +1,6 @@
 -- Results that are refused before their append.
 use Rattle.std.proofs.Common.{◌≡◌, ◌∙◌, ◌++◌, ◌∷◌, ℕ, Bool, true, false, cond, List, [], Result, Option, Some, None}
-use Rattle.std.proofs.Common.{IfErr, IsErrOf, refl, sym, ap, subst, arith}
+use Rattle.std.proofs.Common.{IsErrOf, refl, sym, ap, subst, arith}
 use Rattle.std.specs.Prelude.{option_map, ⊤}
 use Rattle.cut_faults.specs.declared.code.FaultCode.{FaultCode}
 use Rattle.cut_faults.specs.declared.code.FaultCode.TheVariants as code
@@ -22,7 +22,7 @@ use Rattle.cut_outcome.specs.declared.piece.Piece.{Piece}
 use Rattle.cut_book.proofs.Legal.{Noted, state_same}
 use Rattle.cut_book.specs.Book.{GivesAnswer, HandsIn, answer_of}
 use Rattle.cut_book.specs.inside.Book.{state_in, book_value_in, answer_to, refusal_in}
-use Rattle.cut_book.specs.Book.{returned, hand_in_of, JournalAfter, IsHandInFault, faults_after}
+use Rattle.cut_book.specs.Book.{returned, hand_in_of, JournalAfter, faults_after}
 use Rattle.cut_journal.specs.Journal.{JournalValue}
 use Rattle.cut_ledger.specs.Machine.{slip_of}
 
@@ -92,13 +92,6 @@ refused_journal s r a journal e = same a journal (codes s.broken (is_same_plan s
     same Broken journal refuses = refl
     same Accepted journal refuses = absurd refuses
     same DiskFails journal refuses = absurd refuses
-
-pub may_refuse : (a : Answer) → IfErr (returned a) IsHandInFault
-may_refuse Accepted = tt
-may_refuse Stranger = tt
-may_refuse Overlap = tt
-may_refuse DiskFails = tt
-may_refuse Broken = tt
 
 -- ---- results that are not refused
 

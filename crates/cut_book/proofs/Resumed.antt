@@ -1,5 +1,5 @@
 -- What a crash leaves of a disk of which nothing is asked.
-use Rattle.std.proofs.Common.{◌≡◌, ◌∙◌, inl, inr, ℕ, Bool, cond, List, [], Option, Some, None, IfSome}
+use Rattle.std.proofs.Common.{◌≡◌, ◌∙◌, ℕ, Bool, cond, List, [], Option, Some, None, IfSome}
 use Rattle.std.proofs.Common.{unwrap_or, refl, ap, arith}
 use Rattle.std.specs.Prelude.{option_map}
 use Rattle.cut_faults.specs.declared.code.FaultCode.TheVariants as code
@@ -15,18 +15,12 @@ use Rattle.cut_ledger.specs.Refusals.{refusal_of}
 use Rattle.cut_journal.specs.Journal.{JournalValue, kept_slips, ReadsAs, IsFileOf}
 use Rattle.cut_journal.specs.Laws.{IsJournalOf, IsResumed, CrashesBetweenCalls, CrashesInAppends}
 use Rattle.cut_book.specs.Book.{FollowsState, LeavesResumed}
+use Rattle.cut_journal.proofs.Appends.{reads_more}
 
 -- between two calls the moment is one
 at_rest : (d : DiskState) (P : List ℕ → Type 0) → ((image : List ℕ) → IsImage d.stable image → P image)
     → Throughout d d P
 at_rest d P images = record { since = []; goes_on = refl; each = (images, tt) }
-
--- what may be doubtful may be so with another slip at hand
-more_doubt : (v : Values) (ks : List Slip) (doubtful : Option Slip) (slip : Slip) (bytes : List ℕ)
-    → ReadsAs v ks doubtful bytes → ReadsAs v ks (Some (unwrap_or doubtful slip)) bytes
-more_doubt v ks doubtful slip bytes (inl reads) = inl reads
-more_doubt v ks None slip bytes (inr (other, both)) = absurd (cc (both.0))
-more_doubt v ks (Some old) slip bytes (inr (other, both)) = inr (other, both)
 
 -- a result that the ledger refuses changes nothing
 stays : (broken : Bool) (fault : OfferFault) (s t : StudyState)
@@ -40,7 +34,7 @@ resumable_by : (v : Values) (count : ℕ) (doubtful : Option Slip) (d : DiskStat
 resumable_by v count doubtful d s r None fine between within sound of =
     within v count doubtful d d s r of fine
     (at_rest d (ReadsAs v (kept_slips v count d) (Some (unwrap_or doubtful (slip_of r))))
-    (λ image is. more_doubt v (kept_slips v count d) doubtful (slip_of r) image (sound.images image is)))
+    (λ image is. reads_more v (kept_slips v count d) doubtful (slip_of r) image (sound.images image is)))
 resumable_by v count doubtful d s r (Some fault) refused between within sound of =
     let same : after s (HandInDiskFails r) ≡ s =
     ap (λ (o : Option OfferFault). unless_refused (cond s.broken (Some code.Checkpoint) (option_map code_of o)) s

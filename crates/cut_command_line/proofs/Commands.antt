@@ -7,7 +7,7 @@ use Rattle.cut_command_line.specs.declared.line.TheConstants.{LARGEST_PIECE, MOS
 use Rattle.cut_command_line.specs.declared.line.Job.{Job}
 use Rattle.cut_command_line.specs.declared.line.Job.TheVariants.{Run, Check, Explain, Canonical, Status, Serve}
 use Rattle.cut_command_line.specs.declared.line.Job.TheVariants.{Ask, Migrate, Share, Join}
-use Rattle.cut_command_line.specs.Line.{AsksFor, GivesNumber, GivesShare}
+use Rattle.cut_command_line.specs.Line.{AsksForJob, GivesNumber, GivesShare}
 
 -- the commands
 pub data Verb : Type 0 where
@@ -50,7 +50,7 @@ verb_in name =
     to_join
 
 -- a job that the command of a name asks for is of that command
-pub is_of : (name : Text) (rows : List Row) (job : Job) → AsksFor name rows job → verb_of job ≡ verb_in name
+pub is_of : (name : Text) (rows : List Row) (job : Job) → AsksForJob name rows job → verb_of job ≡ verb_in name
 is_of name rows (Run piece workers file progress) asks = sym (ap verb_in asks.0)
 is_of name rows Check asks = sym (ap verb_in asks)
 is_of name rows Explain asks = sym (ap verb_in asks)
@@ -88,7 +88,7 @@ Values to_join rows =
     ((path : Text) × (first_of (codes "new") rows ≡ Some path))
     × ((paths : List Text) × (all_of (codes "old") rows ≡ Some paths))
 
-values_of : (name : Text) (rows : List Row) (job : Job) → AsksFor name rows job → Values (verb_of job) rows
+values_of : (name : Text) (rows : List Row) (job : Job) → AsksForJob name rows job → Values (verb_of job) rows
 values_of name rows (Run piece workers file progress) asks = ((piece, asks.1), (workers, asks.2))
 values_of name rows Check asks = tt
 values_of name rows Explain asks = tt
@@ -103,6 +103,6 @@ values_of name rows (Share index shares file piece workers progress) asks =
 values_of name rows (Join to from which) asks = ((to.now, asks.1), (map (λ s. s.now) from.items, asks.2))
 
 -- a job that a command asks for has what is given with it
-pub values : (name : Text) (rows : List Row) (job : Job) → AsksFor name rows job → Values (verb_in name) rows
+pub values : (name : Text) (rows : List Row) (job : Job) → AsksForJob name rows job → Values (verb_in name) rows
 values name rows job asks =
     subst (λ (verb : Verb). Values verb rows) (is_of name rows job asks) (values_of name rows job asks)

@@ -97,36 +97,36 @@ pub record GivesShare (rows : List Row) (index shares : ℕ) : Type 0 where
   pub within : index ≤ shares
 
 -- a subcommand, by its name and its matches, asks for a job
-abbrev pub AsksFor : Text → List Row → Job → Type 0
-AsksFor name rows (Run piece workers file progress) =
+abbrev pub AsksForJob : Text → List Row → Job → Type 0
+AsksForJob name rows (Run piece workers file progress) =
     (name ≡ codes "run") × GivesNumber (codes "piece") LARGEST_PIECE rows piece
     × GivesNumber (codes "workers") MOST_WORKERS rows workers
     × (first_of (codes "checkpoint") rows ≡ option_map (λ s. s.now) file) × GivesFlag (codes "progress") rows progress
-AsksFor name rows Check = name ≡ codes "check"
-AsksFor name rows Explain = name ≡ codes "explain"
-AsksFor name rows Canonical = name ≡ codes "canonical"
-AsksFor name rows (Status file) = (name ≡ codes "status") × (first_of (codes "file") rows ≡ Some file.now)
-AsksFor name rows (Serve socket workers sessions studies folder) =
+AsksForJob name rows Check = name ≡ codes "check"
+AsksForJob name rows Explain = name ≡ codes "explain"
+AsksForJob name rows Canonical = name ≡ codes "canonical"
+AsksForJob name rows (Status file) = (name ≡ codes "status") × (first_of (codes "file") rows ≡ Some file.now)
+AsksForJob name rows (Serve socket workers sessions studies folder) =
     (name ≡ codes "serve") × (first_of (codes "socket") rows ≡ Some socket.now)
     × GivesNumber (codes "workers") MOST_OF_EACH rows workers
     × GivesNumber (codes "sessions") MOST_OF_EACH rows sessions
     × GivesNumber (codes "studies") MOST_OF_EACH rows studies
     × (first_of (codes "dir") rows ≡ option_map (λ s. s.now) folder)
-AsksFor name rows (Ask socket) = (name ≡ codes "ask") × (first_of (codes "socket") rows ≡ Some socket.now)
-AsksFor name rows (Migrate from to) =
+AsksForJob name rows (Ask socket) = (name ≡ codes "ask") × (first_of (codes "socket") rows ≡ Some socket.now)
+AsksForJob name rows (Migrate from to) =
     (name ≡ codes "migrate") × (first_of (codes "old") rows ≡ Some from.now)
     × (first_of (codes "new") rows ≡ Some to.now)
-AsksFor name rows (Share index shares file piece workers progress) =
+AsksForJob name rows (Share index shares file piece workers progress) =
     (name ≡ codes "share") × GivesShare rows index shares × (first_of (codes "file") rows ≡ Some file.now)
     × GivesNumber (codes "piece") LARGEST_PIECE rows piece × GivesNumber (codes "workers") MOST_WORKERS rows workers
     × GivesFlag (codes "progress") rows progress
-AsksFor name rows (Join to from which) =
+AsksForJob name rows (Join to from which) =
     (name ≡ codes "join") × (first_of (codes "new") rows ≡ Some to.now)
     × (all_of (codes "old") rows ≡ Some (map (λ s. s.now) from.items)) × GivesFlag (codes "which") rows which
 
 -- the job that a command line names
 abbrev pub NamesJob : List Text → Job → Type 0
-NamesJob words job = (sub : Text × List Row) × (subcommand_of program_app words ≡ Some sub) × AsksFor sub.0 sub.1 job
+NamesJob words job = (sub : Text × List Row) × (subcommand_of program_app words ≡ Some sub) × AsksForJob sub.0 sub.1 job
 
 -- the status with which the program ends where clap gives no matches: 0 where help was asked for, 5 where
 -- memory ran out, and 2 at a mistake

@@ -1,5 +1,5 @@
 -- The log of a wire that is read, or to which nothing is written.
-use Rattle.std.proofs.Common.{◌≡◌, ◌∙◌, ◌++◌, ℕ, Bool, true, false, List, [], Option, Some, None, take, nat_eq, refl}
+use Rattle.std.proofs.Common.{◌≡◌, ◌∙◌, ◌++◌, ℕ, Bool, false, List, [], Option, Some, None, take, nat_eq, refl}
 use Rattle.std.proofs.Common.{sym, ap, append_assoc, append-nil}
 use Rattle.std.specs.Prelude.{if◌then◌else◌}
 use Rattle.cut_faults.specs.Failures.{one_more}
@@ -34,13 +34,3 @@ read_more l xs got n some = by l.traffic
         (if b then one_more t.ends else t.ends))) l.failed) some
         ∙ ap (λ (given : List ℕ). logged (Some (passed t.taken given t.ends)) l.failed)
         (append_assoc t.given xs (take n got))
-
--- or the end
-pub read_end : (l : WireLog) (xs got : List ℕ) → gave (read_on xs false l) got 0 ≡ read_on xs true l
-read_end l xs got = by l.traffic
-  where
-    by : (o : Option Traffic) → gave (read_on xs false (logged o l.failed)) got 0
-        ≡ read_on xs true (logged o l.failed)
-    by None = refl
-    by (Some t) = ap (λ (given : List ℕ). logged (Some (passed t.taken given (one_more t.ends))) l.failed)
-        (append-nil (t.given ++ xs))

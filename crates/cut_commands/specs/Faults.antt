@@ -6,8 +6,8 @@ use Rattle.cut_faults.specs.declared.code.FaultCode.TheVariants as code
 use Rattle.cut_faults.specs.Codes as codes_of
 use Rattle.cut_plan.specs.declared.refusal.PlanFault.{PlanFault}
 use Rattle.cut_plan.specs.declared.refusal.PlanFault.TheVariants as plan
-use Rattle.cut_plan.specs.declared.field.Field.{Field}
-use Rattle.cut_plan.specs.Fields.{name_of as field_name}
+use Rattle.cut_fields.specs.declared.field.Field.{Field}
+use Rattle.cut_fields.specs.Fields.{name_of as field_name}
 use Rattle.cut_plan.specs.Refusals.{code_of_refusal, field_of_refusal}
 use Rattle.cut_journal.specs.declared.fault.JournalFault.{JournalFault}
 use Rattle.cut_journal.specs.declared.fault.JournalFault.TheVariants as journal

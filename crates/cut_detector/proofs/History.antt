@@ -12,9 +12,9 @@ use Rattle.std.specs.Option.{IfSome, option_or}
 use Rattle.cut_lists.proofs.BitSets.{has_bit-zeros}
 use Rattle.cut_lists.proofs.Firsts.{IsFirst, NonePasses, found, found_first, found-same, found-more}
 use Rattle.cut_detector.proofs.Agreement.{SameEdges, HasObservers, settled_proposal-same}
-use Rattle.cut_detector.proofs.Neighbours.{observer_of-lt}
 use Rattle.cut_detector.proofs.Bits.{edges_in-with_edge}
 use Rattle.cut_detector.proofs.Settling.{is_settled-empty}
+use Rattle.cut_rings.proofs.Observers.{observer_below}
 
 -- what is made of a set of edges at place m
 abbrev pub made : Layout → Rule → EdgeSet → ℕ → Proposal
@@ -167,7 +167,7 @@ history d e old edge edges delivers none delivered =
     observers : HasObservers old.layout old.rule.k
     observers = subst (λ x. HasObservers x.layout x.rule.k) delivers.seen (record {
       in_range = λ ring p low.
-          observer_of-lt (layout_of d) d.reports.layout ring p (omega (arith, d.reports.rings_enough));
+          observer_below (layout_of d) d.reports.layout ring p (omega (arith, d.reports.rings_enough));
     })
 
     same : SameEdges old.rule.k old.layout.nodes (reported_of e) (set_of (edges ++ edge ∷ []))

@@ -1,11 +1,12 @@
 -- What reports alone say of a process's mode.
-use Rattle.std.proofs.Common.{◌≡◌, inr, inl, ℕ, ◌<◌, ◌≤◌, Bool, true, false, cond, ◌&&◌, ◌||◌, nat_le, IsTrue, refl, ap}
+use Rattle.std.proofs.Common.{◌≡◌, inr, inl, ℕ, ◌<◌, ◌≤◌, Bool, true, false, ◌&&◌, ◌||◌, nat_le, IsTrue, refl, ap}
 use Rattle.std.proofs.Common.{sym, ◌∙◌, arith}
 use Rattle.cut_detector.proofs.Words.{ring_count, EdgeSet, Layout, ReportsTargetsAlone, Rule, and_from, and_parts}
 use Rattle.cut_detector.proofs.Words.{count_by_agree, count_by_none, false_from_ne_true, full_count, is_full}
 use Rattle.cut_detector.proofs.Words.{is_reported, is_stable, is_unstable, le-leb, leb-true, lt-ltb, ltb-true}
 use Rattle.cut_detector.proofs.Words.{nat_tests, observer_of, or-false, range_with_len, reports_of, sum_by-le-sum_by}
 use Rattle.std.proofs.lemmas.Bool.{or_left, cases_Bool}
+use Rattle.cut_lists.proofs.Parts.{bit_le}
 
 -- stable and unstable, as bounds on how many rings count
 pub stable-is : (r : Layout) (rule : Rule) (E : EdgeSet) (s : ℕ) → IsTrue (is_stable r rule E s) → rule.h
@@ -30,16 +31,13 @@ pub is_unstable-from : (r : Layout) (rule : Rule) (E : EdgeSet) (s : ℕ) → ru
 unfolding is_unstable
 is_unstable-from r rule E s low high = and_from _ _ (le-leb _ _ low) (lt-ltb _ _ high)
 
-cond-le : (x y : Bool) → (x ≡ true → y ≡ true) → cond x 1 0 ≤ cond y 1 0
-cond-le x y keeps = grind (arith, nat_tests)
-
 -- each edge of E is one of F
 pub record IsWithin (E F : EdgeSet) : Type 0 where
   pub all : (ring s : ℕ) → E ring s ≡ true → F ring s ≡ true
 
 pub ring_count-le : (k : ℕ) (E F : EdgeSet) (s : ℕ) → IsWithin E F → ring_count k E s ≤ ring_count k F s
 ring_count-le k E F s within = sum_by-le-sum_by _ _ (range_with_len 0 k)
-    (λ ring. cond-le (E ring s) (F ring s) (within.all ring s))
+    (λ ring. bit_le (E ring s) (F ring s) (within.all ring s))
 
 pub is_reported-more : (rule : Rule) (E F : EdgeSet) (s : ℕ) → IsWithin E F → is_reported rule E s ≡ true
     → is_reported rule F s ≡ true

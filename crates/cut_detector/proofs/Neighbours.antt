@@ -2,36 +2,19 @@
 use Rattle.std.proofs.Common.{◌≡◌, inl, inr, ℕ, ◌+◌, ◌%◌, ◌<◌, Bool, true, false, cond, ◌==◌, ◌&&◌, ◌||◌, List, length}
 use Rattle.std.proofs.Common.{nat_lt, refl, ap, sym, ◌∙◌, arith}
 use Rattle.cut_detector.proofs.Words.{Edge, EdgeSet, IsLayout, Layout, Observes, and-true, and_right, cases_eq}
-use Rattle.cut_detector.proofs.Words.{cases_lt, edges_in, eq-eqb, eqb-true, is_edge, is_near, length-set, nat_tests}
+use Rattle.cut_detector.proofs.Words.{edges_in, eq-eqb, eqb-true, is_edge, is_near, length-set, nat_tests}
 use Rattle.cut_detector.proofs.Words.{ne_eqb, observer_of, or-false, position_of, positions_on, with_edge}
-use Rattle.std.proofs.lemmas.List.Sums.{passes_at_first, fails_before_first}
+use Rattle.std.proofs.lemmas.List.Sums.{passes_at_first}
 use Rattle.cut_lists.proofs.Rounds.{next_one, before}
-use Rattle.cut_lists.proofs.Pigeonhole.{none_missed}
 use Rattle.cut_detector.proofs.Bits.{edges_in-with_edge}
-
--- the observer is a process
-pub observer_of-lt : (r : Layout) → IsLayout r → (k s : ℕ) → k < length r.positions → s < r.nodes → observer_of r k s
-    < r.nodes
-observer_of-lt r layout k s ring process =
-    let test : ℕ → Bool = λ place. (place + 1) % r.nodes == position_of r k s in
-    let place = before r.nodes (position_of r k s) (layout.in_range k s ring process) in
-    elim (cases_lt (observer_of r k s) r.nodes) [
-      | inl below ↦ below
-      | inr beyond ↦ absurd (none_missed r.nodes place.0 (λ p. position_of r k p) place.1.below
-          (λ p low. layout.in_range k p ring low)
-          (λ p q low high e. layout.distinct k p q ring low high e)
-          (λ p low e.
-          let fails : test (position_of r k p) ≡ false = fails_before_first test (positions_on r k) p 0 (omega arith) in
-          let passes : test (position_of r k p) ≡ true = ap test e ∙ eq-eqb _ _ place.1.next in
-          cc))
-    ]
+use Rattle.cut_rings.proofs.Observers.{observer_below}
 
 -- the observer observes
 observes : (r : Layout) → IsLayout r → (k p : ℕ) → k < length r.positions → p < r.nodes
     → Observes r k (observer_of r k p) p
 observes r layout k p ring process =
     let inside : observer_of r k p < length (positions_on r k) = omega
-    (arith, observer_of-lt r layout k p ring process, layout.long k ring) in
+    (arith, observer_below r layout k p ring process, layout.long k ring) in
     eqb-true _ _ (passes_at_first (λ place. (place + 1) % r.nodes == position_of r k p) (positions_on r k) 0 inside)
 
 -- s observes u alone
@@ -40,7 +23,7 @@ pub observer_of-is : (r : Layout) → IsLayout r → (k s u p : ℕ) → k < len
 observer_of-is r layout k s u p ring observer subject process sees = elim (cases_eq p u) [
   | inl same ↦ (
       let o : ℕ = observer_of r k p in
-      let below : o < r.nodes = observer_of-lt r layout k p ring process in
+      let below : o < r.nodes = observer_below r layout k p ring process in
       let places : position_of r k o ≡ position_of r k s = next_one r.nodes _ _ (layout.in_range k o ring below)
       (layout.in_range k s ring observer)
       (observes r layout k p ring process ∙ ap (position_of r k) same ∙ sym sees) in

@@ -15,7 +15,7 @@ use Rattle.cut_lists.proofs.Ranges.{passing, none_passing, Contains-filter_of, C
 use Rattle.cut_lists.proofs.Firsts.{NonePasses, IsFirst, found_first, found-repeat}
 use Rattle.cut_detector.proofs.History.{made}
 
-not_true : (b : Bool) → not b ≡ true → b ≡ false
+pub not_true : (b : Bool) → not b ≡ true → b ≡ false
 not_true b e = grind arith
 
 pub IsSettled-from : (r : Layout) (rule : Rule) (E : EdgeSet) → is_settled r rule E ≡ true → IsSettled r rule E

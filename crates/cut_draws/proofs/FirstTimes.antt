@@ -35,7 +35,7 @@ pub count_by_copies : (test : Delivery → Bool) (edges : List Edge) (copies : �
 count_by_copies test edges copies = count_of_list test edges (range_with_len 0 copies)
 
 -- a least number is at most n where one of the numbers is
-least_more : (a b n : ℕ) (rest : Bool) → nat_le (min a b) n || rest ≡ nat_le a n || (nat_le b n || rest)
+pub least_more : (a b n : ℕ) (rest : Bool) → nat_le (min a b) n || rest ≡ nat_le a n || (nat_le b n || rest)
 least_more a b n rest = grind (arith, nat_tests)
 
 or_none : (b : Bool) → b ≡ b || false

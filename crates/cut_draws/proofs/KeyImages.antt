@@ -1,9 +1,9 @@
 -- What the high bits of keys say of the order of deliveries.
-use Rattle.std.proofs.Common.{◌≡◌, ◌∙◌, ℕ, ◌<◌, ◌≤◌, ◌==◌, inl, inr, Bool, true, false, cond, List, nat_lt, nat_le, ap}
+use Rattle.std.proofs.Common.{◌≡◌, ◌∙◌, ℕ, ◌<◌, ◌≤◌, inl, inr, Bool, true, false, List, nat_lt, nat_le, ap}
 use Rattle.std.proofs.Common.{sym, arith}
 use Rattle.std.specs.declared.cmp.Ordering.{Ordering}
-use Rattle.std.specs.declared.cmp.Ordering.TheVariants.{Less, Equal, Greater}
-use Rattle.std.specs.Ordering.{nat_cmp, ordering_then, is_lt}
+use Rattle.std.specs.declared.cmp.Ordering.TheVariants.{Less}
+use Rattle.std.specs.Ordering.{ordering_then, is_lt}
 use Rattle.std.specs.List.{Contains}
 use Rattle.std.proofs.lemmas.Bool.{cases_lt, lt-ltb, le-ltb, lt-leb, le-leb, leb-true}
 use Rattle.std.proofs.lemmas.Cmp.{tied_itself}
@@ -16,9 +16,7 @@ use Rattle.cut_draws.specs.DeliveryOrder.{all_deliveries, compare_deliveries, de
 use Rattle.cut_draws.specs.Laws.{image_of, come_by_image}
 use Rattle.cut_draws.proofs.Apart.{compare_by, compare_by_total}
 use Rattle.cut_draws.proofs.Unpacked.{nat_cmp-greater}
-
-nat_cmp-less : (a b : ℕ) → a < b → nat_cmp a b ≡ Less
-nat_cmp-less a b low = ap (λ (t : Bool). cond t Less (cond (a == b) Equal Greater)) (lt-ltb a b low)
+use Rattle.cut_lists.proofs.Keyed.{less}
 
 abbrev key : Source → ℕ → ℕ → Delivery → ℕ
 key d receiver k x = key_at d (delivery_place receiver k x)
@@ -28,7 +26,7 @@ lesser : (d : Source) (receiver k : ℕ) (x y : Delivery) → image_of d receive
     → compare_deliveries d receiver k x y ≡ Less
 lesser d receiver k x y low =
     ap (λ (r : Ordering). ordering_then r (compare_by (λ _. 0) k x y))
-    (nat_cmp-less (key d receiver k x) (key d receiver k y) (omega arith))
+    (less (key d receiver k x) (key d receiver k y) (omega arith))
 
 -- what comes before is of no greater image
 no_greater : (d : Source) (receiver k : ℕ) (x y : Delivery) → is_lt (compare_deliveries d receiver k x y) ≡ true

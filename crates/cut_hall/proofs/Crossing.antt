@@ -51,9 +51,6 @@ shared_sync = search (sendable, crosses, once_crosses.the_sync, input_send, inpu
 pub ledger_send : IsSend ledger.the_row
 ledger_send = search (sendable, crosses, plan_send) depth 100
 
-pub board_sync : IsSync board.the_row
-board_sync = search (sendable, crosses, board_crosses.the_sync) depth 100
-
 pub history_send : IsSend history.the_row
 history_send = search (sendable, crosses, ledger_send) depth 100
 

@@ -1,51 +1,26 @@
 -- Slips that are appended one after another, and how a join ends.
 use Rattle.std.proofs.Common.{◌≡◌, ◌∙◌, ◌≤◌, ◌<◌, ◌+◌, ◌++◌, inl, inr, ℕ, List, [], ◌∷◌, All, Ok, Err, Option}
-use Rattle.std.proofs.Common.{Some, None, length, take, get_or, refl, sym, ap, subst, arith, append-nil, append_assoc}
+use Rattle.std.proofs.Common.{None, length, take, get_or, refl, sym, ap, subst, arith, append_assoc}
 use Rattle.std.specs.Bool.{⊤}
-use Rattle.std.specs.Prelude.{IsSome, IsErrOf, Result, ◌↔◌}
-use Rattle.std.proofs.Math.Nat.{eq-zero-or-pos}
-use Rattle.std.proofs.lemmas.List.{get_or_default, take_more}
+use Rattle.std.specs.Prelude.{Result}
+use Rattle.std.proofs.lemmas.List.{take_more}
 use Rattle.cut_plan.specs.Values.{Values}
-use Rattle.cut_plan.specs.Versions.{version_of}
+use Rattle.cut_plan.specs.Failing.{version_of}
 use Rattle.cut_disks.specs.State.{DiskState}
 use Rattle.cut_ledger.specs.declared.slip.Slip.{Slip}
 use Rattle.cut_ledger.specs.Slips.{AreGood}
-use Rattle.cut_journal.specs.declared.fault.JournalFault.{JournalFault}
 use Rattle.cut_journal.specs.declared.fault.JournalFault.TheVariants as journal
 use Rattle.cut_journal.specs.File.{HoldsAllTotals}
-use Rattle.cut_journal.specs.Journal.{JournalValue, AppendsEach, IsFileOf, IsSlipAppendFault, LeavesAppend}
-use Rattle.cut_journal.specs.Journal.{disk_faults, kept_slips, taken}
-use Rattle.cut_journal.proofs.Series.{LeavesDoubt, each_then, none_of, nothing_appended}
+use Rattle.cut_journal.specs.Journal.{JournalValue, AppendsEach, IsFileOf}
+use Rattle.cut_journal.specs.Journal.{kept_slips, taken}
+use Rattle.cut_journal.proofs.Series.{LeavesDoubt, each_then, nothing_appended}
 use Rattle.cut_journal.proofs.SlipBytes.{settled_holds}
 use Rattle.cut_join.specs.declared.fault.JoinFault.{JoinFault}
 use Rattle.cut_join.specs.declared.fault.JoinFault.TheVariants.{Memory, BadSlip, OtherPlan, Broken, Disk}
-use Rattle.cut_join.specs.Joined.{joined}
-use Rattle.cut_join.specs.Joining.{CanJoin, EndsAppends, EndsJoin, IsJudgedBy, joining_faults}
-use Rattle.cut_join.specs.inside.Joining.{EndsAppend, fault_of}
+use Rattle.cut_join.specs.Joining.{EndsJoin, IsJudgedBy}
+use Rattle.cut_join.specs.inside.Joining.{EndsAppend}
 
 -- ---- one slip
-
-pub append_ends : {D : Type 0} (e : JournalFault) (slip : Slip) (old new : JournalValue D) → IsSlipAppendFault e
-    → (IsErrOf {T = ℕ} (Err e) journal.Broken ↔ IsSome old.doubtful) → LeavesAppend (Err e) slip old new
-    → EndsAppend {T = ⊤} (Err (fault_of e)) slip old new
-append_ends journal.Memory slip old new may broken left = absurd may
-append_ends journal.Disk slip old new may broken left =
-    (left.0, left.1, none_of old.doubtful (λ some. cc (broken.1 some)), left.2)
-append_ends journal.Broken slip old new may broken left = (broken.0 refl, left)
-append_ends journal.NoStudy slip old new may broken left = absurd may
-append_ends journal.OtherPlan slip old new may broken left = absurd may
-append_ends (journal.Damaged n) slip old new may broken left = absurd may
-append_ends journal.Held slip old new may broken left = absurd may
-
-pub failed_calls : (e : JournalFault) (n : ℕ) → IsSlipAppendFault e
-    → disk_faults {T = ℕ} (Err e) n ≡ joining_faults {T = ⊤} (Err (fault_of e)) n
-failed_calls journal.Memory n may = absurd may
-failed_calls journal.Disk n may = refl
-failed_calls journal.Broken n may = refl
-failed_calls journal.NoStudy n may = absurd may
-failed_calls journal.OtherPlan n may = absurd may
-failed_calls (journal.Damaged k) n may = absurd may
-failed_calls journal.Held n may = absurd may
 
 -- ---- one slip after another
 
@@ -75,46 +50,6 @@ appended_more n slip old mid new before one = record {
   taken = λ some. sym before.doubtful ∙ one.2;
   untouched = λ none. absurd (omega (arith, none));
 }
-
--- how it ends where all were appended
-pub all_appended : {D : Type 0} (n : ℕ) (slips : List Slip) (old new : JournalValue D) → n ≡ length slips
-    → HasAppended n old new → EndsAppends (Ok n) slips old new
-all_appended n slips old new all has = (all, has.plan, has.count, has.doubtful, has.taken, has.untouched)
-
-not_some : IsSome {T = Slip} None → ⊥
-not_some some = cc some
-
-none_before : {D : Type 0} (n : ℕ) (old mid : JournalValue D) → HasAppended n old mid → IsSome mid.doubtful → n ≡ 0
-none_before n old mid before some = elim (eq-zero-or-pos n) [
-  | inl none ↦ none
-  | inr more ↦
-      (let whole : mid.doubtful ≡ None = before.doubtful ∙ before.taken (omega (arith, more)) in
-      absurd (not_some (subst (λ (o : Option Slip). IsSome o) whole some)))
-]
-
--- and where one was not
-pub stopped : {D : Type 0} (e : JoinFault) (n : ℕ) (slips : List Slip) (d : Slip) (old mid new : JournalValue D)
-    → n < length slips → HasAppended n old mid → EndsAppend {T = ⊤} (Err e) (get_or slips n d) mid new
-    → EndsAppends (Err e) slips old new
-stopped Memory n slips d old mid new low before one = absurd one
-stopped (BadSlip k) n slips d old mid new low before one = absurd one
-stopped OtherPlan n slips d old mid new low before one = absurd one
-stopped Broken n slips d old mid new low before one =
-    let none = none_before n old mid before one.0 in (
-      omega (arith, low),
-      subst (λ (o : Option Slip). IsSome o) before.doubtful one.0,
-      one.1 ∙ before.untouched none,
-    )
-stopped Disk n slips d old mid new low before one = (
-  n,
-  record {
-    within = low;
-    plan = one.0 ∙ before.plan;
-    count = one.1 ∙ before.count;
-    whole = sym before.doubtful ∙ one.2;
-    doubtful = λ e. one.3 ∙ ap (λ (s : Slip). Some s) (get_or_default slips n d e low);
-  },
-)
 
 same_count : {D : Type 0} (e : JoinFault) (slip : Slip) (old new : JournalValue D)
     → EndsAppend {T = ⊤} (Err e) slip old new → new.count ≡ old.count
@@ -166,10 +101,6 @@ nothing_taken slips plan count doubtful d sound n is =
     subst (λ k. AppendsEach plan (kept_slips plan count d) doubtful (take k slips) d d)
     (let none : 0 ≡ n = omega (arith, is) in none) (nothing_appended plan count doubtful d sound)
 
-pub nothing_kept : (slips kept : List Slip) (count n : ℕ) → count ≡ count + n → kept ≡ kept ++ take n slips
-nothing_kept slips kept count n is =
-    sym (append-nil kept) ∙ ap (λ k. kept ++ take k slips) (let none : 0 ≡ n = omega (arith, is) in none)
-
 -- ---- the join
 
 pub good_hold : (v w : Values) (slips : List Slip) → w ≡ v → AreGood v slips
@@ -178,15 +109,6 @@ good_hold v w slips same good k d low =
     let s : Slip = get_or slips k d in
     subst (λ (u : Values). HoldsAllTotals (version_of u.failing) s.totals) (sym same)
     (settled_holds (version_of v.failing) _ _ s.totals (good k d low low).possible.settled)
-
-pub join_ends : {D : Type 0} (result : Result ℕ JoinFault) (v : Values) (ss : List Slip) (old new : JournalValue D)
-    → CanJoin v ss old → EndsAppends result (joined v ss) old new → EndsJoin result v ss old new
-join_ends (Ok n) v ss old new can ends = (can, ends)
-join_ends (Err Memory) v ss old new can ends = absurd ends
-join_ends (Err (BadSlip n)) v ss old new can ends = absurd ends
-join_ends (Err OtherPlan) v ss old new can ends = absurd ends
-join_ends (Err Broken) v ss old new can ends = (can, ends)
-join_ends (Err Disk) v ss old new can ends = (can, ends)
 
 -- slips that were refused before
 pub refused : {D : Type 0} (T : Type 0) (e : JoinFault) (v : Values) (ss : List Slip) (log : JournalValue D)

@@ -1,5 +1,5 @@
 ghost use Rattle.std.specs.Prelude.{◌≡◌, ◌+◌, ◌++◌, ◌↔◌, ℕ, All, take};
-ghost use Rattle.cut_plan.specs.Versions.{version_of};
+ghost use Rattle.cut_plan.specs.Failing.{version_of};
 ghost use Rattle.cut_journal.specs.File.{HoldsAllTotals};
 ghost use Rattle.cut_journal.specs.Journal.{AppendsEach, kept_slips, taken};
 ghost use Rattle.cut_join.specs.Joined.{joined};

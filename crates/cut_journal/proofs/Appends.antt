@@ -8,8 +8,8 @@ use Rattle.std.proofs.lemmas.Bool.Decides.{nat_tests, Decides-eqb}
 use Rattle.std.proofs.lemmas.List.{take_at, drop_at, take_all, length-take, get_or-append_right, get_or-drop}
 use Rattle.sha2.proofs.Facts256.{length-sha256}
 use Rattle.sha2.specs.Sha256.{sha256}
-use Rattle.cut_plan.specs.declared.version.Version.{Version}
-use Rattle.cut_plan.specs.Versions.{version_of}
+use Rattle.cut_fields.specs.declared.version.Version.{Version}
+use Rattle.cut_plan.specs.Failing.{version_of}
 use Rattle.cut_plan.specs.Values.{Values}
 use Rattle.cut_disks.specs.State.{DiskState, IsImage, IsTorn, Throughout, covers, settled, overwritten}
 use Rattle.cut_disks.specs.Laws.{WritesStayInSpan}

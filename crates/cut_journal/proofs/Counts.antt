@@ -1,28 +1,16 @@
 -- Lists by their places: how far a test passes, and lists with the same beginning.
-use Rattle.std.proofs.Common.{◌≡◌, ◌∙◌, ◌≤◌, ◌<◌, ◌+◌, ℕ, zero, suc, List, [], ◌∷◌, length, take, drop, map, get_or}
+use Rattle.std.proofs.Common.{◌≡◌, ◌∙◌, ◌≤◌, ◌<◌, ℕ, zero, suc, List, [], ◌∷◌, length, take, drop, map, get_or}
 use Rattle.std.proofs.Common.{slice_range, refl, sym, ap, arith}
 use Rattle.std.specs.List.{range_with_len}
-use Rattle.std.proofs.lemmas.List.{get_or-take, length-take}
+use Rattle.std.proofs.lemmas.List.{get_or-take}
 use Rattle.std.proofs.lemmas.Slice.{between_is}
 use Rattle.std.proofs.Math.Seq.{take-take}
-
-map_from : {X : Type 0} (f g : ℕ → X) (a n : ℕ) → ((i : ℕ) → a ≤ i → i < a + n → f i ≡ g i) → map f (range_with_len a n)
-    ≡ map g (range_with_len a n)
-map_from f g a zero alike = refl
-map_from {X} f g a (suc n) alike =
-    ap (λ (x : X). x ∷ map f (range_with_len (a + 1) n)) (alike a (omega arith) (omega arith))
-    ∙ ap (λ (xs : List X). g a ∷ xs) (map_from f g (a + 1) n (λ i low high. alike i (omega arith) (omega arith)))
+use Rattle.cut_lists.proofs.Intervals.{map_agree}
 
 -- functions that give the same up to a number
 pub map_alike : {X : Type 0} (f g : ℕ → X) (n : ℕ) → ((i : ℕ) → i < n → f i ≡ g i) → map f (range_with_len 0 n)
     ≡ map g (range_with_len 0 n)
-map_alike f g n alike = map_from f g 0 n (λ i low high. alike i (omega arith))
-
--- nothing stands after the end
-pub get_or_past : (xs : List ℕ) (i : ℕ) → length xs ≤ i → get_or xs i 0 ≡ 0
-get_or_past [] i past = refl
-get_or_past (x ∷ xs) zero past = absurd (omega arith)
-get_or_past (x ∷ xs) (suc i) past = get_or_past xs i (omega arith)
+map_alike f g n alike = map_agree f g 0 n (λ i low high. alike i (omega arith))
 
 -- ---- lists that begin alike
 
@@ -36,9 +24,6 @@ alike_prefix m k xs ys alike low = sym (take-take k m xs low) ∙ ap (take k) al
 pub alike_part : (m a b : ℕ) (xs ys : List ℕ) → take m xs ≡ take m ys → b ≤ m → slice_range xs a b ≡ slice_range ys a b
 alike_part m a b xs ys alike low = between_is xs a b ∙ ap (drop a) (alike_prefix m b xs ys alike low)
     ∙ sym (between_is ys a b)
-
-pub alike_long : (m : ℕ) (xs ys : List ℕ) → take m xs ≡ take m ys → m ≤ length ys → m ≤ length xs
-alike_long m xs ys alike long = omega (arith, length-take m xs, length-take m ys, ap (λ l. length l) alike)
 
 -- lists that are equal at each place
 pub alike_at : (m : ℕ) (xs ys : List ℕ) → m ≤ length xs → m ≤ length ys

@@ -1,7 +1,7 @@
 -- What a crash leaves is what the machine of runs says.
 use Rattle.std.proofs.Common.{◌≡◌, ◌∙◌, ◌++◌, inl, inr, ℕ, Bool, true, false, cond, List, [], ◌∷◌, Ok, Err, Option}
 use Rattle.std.proofs.Common.{Some, None, is_some, unwrap_or, refl, sym, ap, subst, append-nil}
-use Rattle.std.specs.Prelude.{IsSome, option_map}
+use Rattle.std.specs.Prelude.{option_map}
 use Rattle.cut_faults.specs.declared.code.FaultCode.{FaultCode}
 use Rattle.cut_faults.specs.declared.code.FaultCode.TheVariants as code
 use Rattle.cut_plan.specs.Values.{Values}
@@ -21,6 +21,7 @@ use Rattle.cut_journal.specs.Laws.{IsJournalOf, IsResumed, CrashesBetweenCalls, 
 use Rattle.cut_journal.specs.Laws.{OpeningsFollow, OtherEventsFollow}
 use Rattle.cut_journal.proofs.Appends.{kept_are}
 use Rattle.cut_journal.proofs.Moments.{weaker}
+use Rattle.cut_journal.proofs.Series.{none_of}
 
 -- a study that is opened over what a run finds
 reopened : (v : Values) (s : StudyState) (keep : Bool) (slips : List Slip) → s.ledger.plan ≡ v → s.has_journal ≡ true
@@ -93,10 +94,6 @@ in_appends v count doubtful old new s r of fine moments =
 
 -- ---- the journal of a run stays so
 
-no_doubt : (doubtful : Option Slip) → (IsSome doubtful → ⊥) → doubtful ≡ None
-no_doubt None none = refl
-no_doubt (Some slip) none = absurd (none refl)
-
 unchanged : {D : Type 0} (old new : JournalValue D) (before now : DiskState) (s : StudyState)
     → IsJournalOf old.plan old.count old.doubtful before s → new ≡ old
     → kept_slips new.plan new.count now ≡ kept_slips old.plan old.count before
@@ -111,7 +108,7 @@ unchanged {D} old new before now s of same kept = record {
 
 pub follows : {D : Type 0} → AppendsFollow D
 follows (Ok number) r old new before now s of fine broken left kept =
-    let none : old.doubtful ≡ None = no_doubt old.doubtful (λ some. absurd (cc (broken.1 some))) in
+    let none : old.doubtful ≡ None = none_of old.doubtful (λ some. absurd (cc (broken.1 some))) in
     let sound : s.broken ≡ false = of.broken ∙ ap is_some none in
     let goes : IsJournalOf new.plan new.count new.doubtful now (taken s r) = record {
       plan = of.plan ∙ sym left.0;
@@ -124,7 +121,7 @@ follows (Ok number) r old new before now s of fine broken left kept =
     subst (λ (x : StudyState). IsJournalOf new.plan new.count new.doubtful now x) (sym (after_taking s r sound fine))
     goes
 follows (Err Disk) r old new before now s of fine broken left kept =
-    let none : old.doubtful ≡ None = no_doubt old.doubtful (λ some. absurd (cc (broken.1 some))) in
+    let none : old.doubtful ≡ None = none_of old.doubtful (λ some. absurd (cc (broken.1 some))) in
     let goes : IsJournalOf new.plan new.count new.doubtful now (failed s r) = record {
       plan = of.plan ∙ sym left.0;
       journal = of.journal;

@@ -19,8 +19,9 @@ use Rattle.cut_journal.proofs.Moments.{Through, through_is, stays, settled_image
 use Rattle.cut_journal.proofs.Appends.{torn_rest}
 use Rattle.cut_journal.proofs.Prefixes.{long_prefix}
 use Rattle.cut_journal.proofs.Gates.{gate_first}
-use Rattle.cut_journal.proofs.Readings.{cases_bool, both_not, of_plan_from, holds_reads, none_read}
+use Rattle.cut_journal.proofs.Readings.{cases_bool, of_plan_from, holds_reads, none_read}
 use Rattle.cut_journal.specs.inside.Places.{gate_place}
+use Rattle.cut_plan.proofs.Counting.{over_and}
 
 -- no study
 abbrev pub IsNone : List ℕ → Type 0
@@ -34,7 +35,7 @@ short_none bytes short = left_false (nat_lt 1 (length bytes)) (slice_index bytes
     (let e : nat_lt 1 (length bytes) ≡ false = grind (arith, nat_tests) in e)
 
 closed_none : (bytes : List ℕ) → (slice_index bytes 0 == open_gate) ≡ false → IsNone bytes
-closed_none bytes closed = both_not (nat_lt 1 (length bytes)) (slice_index bytes 0 == open_gate) closed
+closed_none bytes closed = over_and (nat_lt 1 (length bytes)) (slice_index bytes 0 == open_gate) closed
 
 pub close_step : {E : Type 0} (result : Result ⊤ E) (old new : DiskState) → WritesStayInSpan → old.stable
     ≡ settled old.bytes → length old.bytes ≤ 1
@@ -42,10 +43,6 @@ pub close_step : {E : Type 0} (result : Result ⊤ E) (old new : DiskState) → 
 close_step result old new stay durable short is =
     through_is IsNone result 0 (closed_gate ∷ []) old new stay durable (short_none old.bytes short)
     (λ image torn. short_none image (omega (arith, torn.no_longer, short))) is
-
-pub close_closes : (bytes : List ℕ) → ((slice_index (overwritten bytes 0 (closed_gate ∷ [])) 0 == open_gate) ≡ false)
-    × (0 < length (overwritten bytes 0 (closed_gate ∷ [])))
-close_closes bytes = (refl, omega arith)
 
 pub rest_step : {E : Type 0} (result : Result ⊤ E) (put : List ℕ) (old new : DiskState) → WritesStayInSpan → old.stable
     ≡ settled old.bytes → 0 < length old.bytes → (slice_index old.bytes 0 == open_gate) ≡ false
@@ -55,11 +52,6 @@ rest_step result put old new stay durable some closed is =
     (λ image torn. closed_none image (ap (λ (b : ℕ). b == open_gate)
     (torn.same 0 some (let outside : covers 0 (record { start = 1; stop = 1 + length put })
     ≡ false = grind (arith, nat_tests) in outside)) ∙ closed)) is
-
-pub rest_begins : (v : Values) (bytes : List ℕ) → 0 < length bytes → (slice_index bytes 0 == open_gate) ≡ false
-    → BeginsAs v (overwritten bytes 1 (rest_of v))
-rest_begins v [] some closed = absurd (omega arith)
-rest_begins v (b ∷ bytes) some closed = (b, (drop (1 + length (rest_of v)) (b ∷ bytes), (refl, closed)))
 
 -- ---- the gate of the study is opened
 

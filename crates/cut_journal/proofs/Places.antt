@@ -6,7 +6,7 @@ use Rattle.std.specs.List.{range_with_len}
 use Rattle.std.proofs.lemmas.Bool.{cases_lt}
 use Rattle.std.proofs.lemmas.Bool.Decides.{nat_tests, Decides-ltb}
 use Rattle.std.proofs.lemmas.List.{get_or-drop, drop-drop, length-drop}
-use Rattle.cut_plan.specs.Versions.{version_of}
+use Rattle.cut_plan.specs.Failing.{version_of}
 use Rattle.cut_plan.specs.Values.{Values}
 use Rattle.cut_ledger.specs.declared.slip.Slip.{Slip}
 use Rattle.cut_journal.specs.declared.fault.JournalFault.{JournalFault}

@@ -9,7 +9,7 @@ use Rattle.std.proofs.lemmas.Bool.Decides.{nat_tests, Decides-ltb, Decides-eqb}
 use Rattle.std.proofs.lemmas.List.{get_or-take, length-take}
 use Rattle.std.proofs.lemmas.List.FromFn.{map-range_with_len_more}
 use Rattle.sha2.specs.Sha256.{sha256}
-use Rattle.cut_plan.specs.Versions.{version_of}
+use Rattle.cut_plan.specs.Failing.{version_of}
 use Rattle.cut_plan.specs.Values.{Values}
 use Rattle.cut_plan.specs.Canonical.{canonical_text}
 use Rattle.cut_disks.specs.State.{DiskState}
@@ -30,6 +30,7 @@ use Rattle.cut_journal.proofs.Headers.{says_alike, magic_alike}
 use Rattle.std.proofs.Math.Seq.{take-take}
 use Rattle.cut_journal.proofs.Counts.{map_alike, alike_place, alike_prefix, alike_part}
 use Rattle.cut_journal.specs.inside.Places.{body_at, first_slips, gate_place, is_open, is_whole}
+use Rattle.cut_plan.proofs.Counting.{over_and}
 
 pub cases_bool : (b : Bool) → (b ≡ true) ⊎ (b ≡ false)
 cases_bool true = inl refl
@@ -93,10 +94,6 @@ of_plan_alike v bytes others alike long is =
     }
 
 -- ---- the slips
-
-pub both_not : (a b : Bool) → b ≡ false → (a && b) ≡ false
-both_not true b none = none
-both_not false b none = refl
 
 whole_is : (v : Values) (bytes : List ℕ) (i : ℕ) → is_whole v bytes i ≡ true → (gate_place v (i + 1) < length bytes)
     × (is_slip v (body_at v bytes i) ≡ true)
@@ -165,7 +162,7 @@ pub next_broken : (v : Values) (bytes body : List ℕ) (i : ℕ) (found : Option
 next_broken v bytes body i found reported read none =
     let wrong = found_none (is_slip v body) (slip_in (version_of v.failing) body) (sym reported ∙ none) in
     let later : is_slip v (body_at v bytes i) ≡ false = ap (is_slip v) (sym read) ∙ wrong in
-    both_not (nat_lt (gate_place v (i + 1)) (length bytes)) (is_slip v (body_at v bytes i)) later
+    over_and (nat_lt (gate_place v (i + 1)) (length bytes)) (is_slip v (body_at v bytes i)) later
 
 -- the gate after whole slips is there
 pub gate_there : (v : Values) (bytes : List ℕ) (n : ℕ) → IsOfPlan v bytes → AreWhole v bytes n → gate_place v n

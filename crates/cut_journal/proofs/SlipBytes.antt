@@ -1,7 +1,6 @@
 -- The bytes of a slip say the slip.
-use Rattle.std.proofs.Common.{◌≡◌, ◌∙◌, ◌<◌, ◌+◌, ◌-◌, ◌*◌, ◌^◌, ◌++◌, ◌&&◌, ℕ, zero, suc, Bool, true, List, [], ◌∷◌}
+use Rattle.std.proofs.Common.{◌≡◌, ◌∙◌, ◌<◌, ◌+◌, ◌-◌, ◌*◌, ◌^◌, ◌++◌, ℕ, zero, suc, true, List, [], ◌∷◌}
 use Rattle.std.proofs.Common.{length, take, drop, get_or, nat_lt, refl, sym, ap, arith, append_assoc, length-append}
-use Rattle.std.specs.Prelude.{bytes_eq}
 use Rattle.std.specs.List.{flat_map}
 use Rattle.std.specs.Int.{w64, to_be_bytes, from_be_bytes}
 use Rattle.std.proofs.lemmas.Bool.Decides.{Decides-ltb}
@@ -11,9 +10,9 @@ use Rattle.std.proofs.lemmas.List.{take_at, drop_at}
 use Rattle.std.proofs.Math.Seq.{drop-drop}
 use Rattle.sha2.proofs.Facts256.{length-sha256}
 use Rattle.sha2.specs.Sha256.{sha256}
-use Rattle.cut_plan.specs.declared.version.Version.{Version}
-use Rattle.cut_plan.specs.declared.version.Version.TheVariants.{One, Two}
-use Rattle.cut_plan.specs.Versions.{version_of}
+use Rattle.cut_fields.specs.declared.version.Version.{Version}
+use Rattle.cut_fields.specs.declared.version.Version.TheVariants.{One, Two}
+use Rattle.cut_plan.specs.Failing.{version_of}
 use Rattle.cut_plan.specs.Values.{Values}
 use Rattle.cut_outcome.specs.declared.totals.Totals.{Totals}
 use Rattle.cut_outcome.specs.Possible.{IsSettledBy}
@@ -26,9 +25,6 @@ use Rattle.cut_journal.specs.inside.Steps.{HasNumbers}
 use borrow.Rule.Slice.PartMut.{put_mid}
 use Rattle.cut_journal.proofs.Prefixes.{layered}
 use Rattle.cut_journal.proofs.Headers.{together}
-
-eight : (x : ℕ) → length (to_be_bytes w64 x) ≡ 8
-eight x = refl
 
 at_number : (xs tail : List ℕ) (i : ℕ) → i < length xs → take 8 (drop (8 * i) (flat_map (to_be_bytes w64) xs ++ tail))
     ≡ to_be_bytes w64 (get_or xs i 0)
@@ -169,13 +165,3 @@ slip_made v s n sum_length numbers digest zeros size short is right rest =
     ∙ take_more (numbers ++ digest) (drop 32 zeros) (n + 32) 1 both
     ∙ ap (λ (l : List ℕ). (numbers ++ digest) ++ l) rest ∙ ap (λ (l : List ℕ). (l ++ digest) ++ closed_gate ∷ []) is
     ∙ ap (λ (l : List ℕ). (number_bytes (version_of v.failing) s ++ l) ++ closed_gate ∷ []) right
-
-pub slip_test : (v : Values) (body : List ℕ) (n : ℕ) (a b c : Bool) → n ≡ numbers_length (version_of v.failing) → a
-    ≡ bytes_eq (sha256 (header_digest v ++ take n body)) (drop n body)
-    → b ≡ nat_lt (number_at body 0) (2 ^ 32) → c ≡ nat_lt (number_at body 1) (2 ^ 32) → ((a && b) && c) ≡ is_slip v body
-unfolding is_slip
-slip_test v body n a b c size p q r =
-    let same : a ≡ bytes_eq (sha256 (header_digest v ++ take (numbers_length (version_of v.failing)) body))
-    (drop (numbers_length (version_of v.failing)) body) =
-    p ∙ ap (λ (k : ℕ). bytes_eq (sha256 (header_digest v ++ take k body)) (drop k body)) size in
-    rw (same, q, r) refl

@@ -4,10 +4,10 @@ ghost use Rattle.std.specs.List.{flat_map};
 ghost use Rattle.cut_plan.specs.declared.limits.TheConstants.{LONGEST_TEXT};
 ghost use Rattle.sha2.specs.Sha256.{sha256};
 ghost use Rattle.cut_plan.specs.Canonical.{canonical_text};
-ghost use Rattle.cut_plan.specs.Versions.{version_of};
-ghost use Rattle.cut_plan.specs.declared.version.Version.TheVariants.{Two};
+ghost use Rattle.cut_plan.specs.Failing.{version_of};
+ghost use Rattle.cut_fields.specs.declared.version.Version.TheVariants.{Two};
 ghost use Rattle.cut_journal.specs.File.{closed_gate, header_digest, prefix_of, numbers_length};
-ghost use Rattle.cut_journal.specs.inside.File.{rest_of};
+ghost use Rattle.cut_journal.specs.inside.File.{has_digest, rest_of};
 ghost use Rattle.cut_journal.specs.File.{slip_length, number_bytes, body_of};
 ghost use Rattle.cut_journal.specs.Reading.{says_plan, has_magic, number_at, settled_at, slip_in, is_slip};
 ghost use Rattle.cut_journal.specs.inside.Steps.{HasNumbers};
@@ -213,22 +213,24 @@ impl FileHeader {
     }
 
     /// Whether the bytes after a gate were written as a slip's.
+    #[tactic(auto, unfolding(crate::specs::Reading::is_slip))]
     fn is_slip(&self, body: &[u8]) -> bool
         requires numbers { numbers_length (version_of self.now.failing) ≤ length body.now }
         requires nine { 72 ≤ length body.now }
         ensures value { result ≡ is_slip self.now body.now }
         ensures small { IsTrue result → (number_at body.now 0 < 2 ^ 32) × (number_at body.now 1 < 2 ^ 32) }
     {
+        self.has_digest(body) && number_at(body, 0) < 1 << 32 && number_at(body, 1) < 1 << 32
+    }
+
+    /// Whether the digest after a slip's numbers is theirs.
+    fn has_digest(&self, body: &[u8]) -> bool
+        requires { numbers_length (version_of self.now.failing) ≤ length body.now }
+        ensures { result ≡ has_digest self.now body.now }
+    {
         let length = numbers_length(self.version());
         let digest = self.slip_digest(&body[..length]);
-        let is_right = digest.as_slice() == &body[length..];
-        if !is_right {
-            return false;
-        }
-        if number_at(body, 0) >= 1 << 32 {
-            return false;
-        }
-        number_at(body, 1) < 1 << 32
+        digest.as_slice() == &body[length..]
     }
 
     /// The digest of a slip's numbers, as they are written.

@@ -3,7 +3,7 @@ ghost use Rattle.std.specs.Prelude.{Err, length, unwrap_or, IfOk, IfErr, OnOk, I
 ghost use Rattle.cut_disks.specs.State.{IsImage, settled, synced, Throughout};
 ghost use Rattle.cut_ledger.specs.Machine.{slip_of};
 ghost use Rattle.std.specs.Io.{StartsWith};
-ghost use Rattle.cut_plan.specs.Versions.{version_of};
+ghost use Rattle.cut_plan.specs.Failing.{version_of};
 ghost use Rattle.cut_journal.specs.File.{file_of, HoldsAllTotals};
 ghost use Rattle.cut_journal.specs.Reading.{reading};
 ghost use Rattle.cut_journal.specs.Journal.{JournalValue, kept_slips, ReadsAs, IsFileOf, IsAppendFault, LeavesAppend};

@@ -4,7 +4,7 @@ ghost use Rattle.cut_disks.specs.State.{settled, Throughout};
 ghost use Rattle.cut_journal.specs.File.{HoldsAllTotals, slip_length};
 ghost use Rattle.cut_journal.specs.Reading.{reading};
 ghost use Rattle.cut_journal.specs.Journal.{kept_slips, ReadsAs, IsFileOf, ExtendsFile};
-ghost use Rattle.cut_plan.specs.Versions.{version_of};
+ghost use Rattle.cut_plan.specs.Failing.{version_of};
 ghost use Rattle.cut_journal.specs.inside.Steps.{Leave};
 ghost use Rattle.cut_journal.specs.inside.Places.{gate_place};
 

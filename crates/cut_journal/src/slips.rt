@@ -1,5 +1,5 @@
 ghost use Rattle.std.specs.Prelude.{ℕ, ◌≡◌, ◌+◌, ◌<◌, ◌^◌, ◌↔◌, false, length, IfOk, IfErr, IfSome};
-ghost use Rattle.cut_plan.specs.Versions.{version_of};
+ghost use Rattle.cut_plan.specs.Failing.{version_of};
 ghost use Rattle.cut_journal.specs.File.{slip_length};
 ghost use Rattle.cut_journal.specs.Reading.{slips_reading};
 ghost use Rattle.cut_journal.specs.Journal.{disk_faults};

@@ -9,15 +9,7 @@ use Rattle.std.proofs.lemmas.Bool.{cases_lt, cases_eq, lt-ltb}
 use Rattle.std.proofs.lemmas.List.{get_or-map, get_or-replicate}
 use Rattle.std.proofs.lemmas.Simd.{Each1-get_or, tops_compared, get_or-zip2, bitmask_splat, bit_mask_l, mask_l-mod}
 use Rattle.cut_ranks.proofs.Choices.{tops, compared_four}
-
--- what holds of every list of four numbers
-of_four : (P : List ℕ → Type 0) → ((a b c d : ℕ) → P (a ∷ b ∷ c ∷ d ∷ [])) → (xs : List ℕ) → length xs ≡ 4 → P xs
-of_four P holds (a ∷ b ∷ c ∷ d ∷ []) is = holds a b c d
-of_four P holds [] is = absurd (omega (arith, is))
-of_four P holds (a ∷ []) is = absurd (omega (arith, is))
-of_four P holds (a ∷ b ∷ []) is = absurd (omega (arith, is))
-of_four P holds (a ∷ b ∷ c ∷ []) is = absurd (omega (arith, is))
-of_four P holds (a ∷ b ∷ c ∷ d ∷ e ∷ xs) is = absurd (omega (arith, is))
+use Rattle.cut_blocks.proofs.Lanes.{of_four}
 
 -- ---- bits
 

@@ -12,14 +12,13 @@ use Rattle.cut_laws.specs.Ends.{NoneStableLeavesAllSilent, SettledEndsLeaveNoneS
 use Rattle.cut_detector.specs.Laws.{ImplicitAlertsChangeNothing}
 use Rattle.cut_outcome.specs.Sum.{each_number}
 use Rattle.cut_laws.specs.EqualWatermarks.{HasNoGap, ProposesOneProcess, with_implicit}
-use Rattle.std.proofs.lemmas.List.Elements.{All-head, All-tail}
-use Rattle.std.proofs.lemmas.List.Sums.{sum_by-cons}
 use Rattle.std.proofs.lemmas.Bool.{and_parts, both_ways, eq-eqb, not-true}
 use Rattle.cut_lists.proofs.Ranges.{list_any_passing, passing}
 use Rattle.cut_laws.proofs.Counting.{another}
 use Rattle.cut_laws.proofs.Numbers.{sums_all_conflicts, targets_many}
 use Rattle.cut_laws.proofs.Plans.{IsCell}
 use Rattle.cut_laws.proofs.Verdicts.{all_conflicts, lacks_one}
+use Rattle.cut_outcome.proofs.Upgrades.{same_sums}
 
 -- ---- silence
 
@@ -106,22 +105,11 @@ implicit_changes_no_trial same v b t equal =
         ≡ proposal_of (rings_of v) (rule_of c.k c.h l v.implicit) heard count) (sym equal)
         (either_rule same (rings_of v) c.k c.h heard count b v.implicit)
 
--- numbers that agree at each of some trials have the same sum
-sums_agree : (f g : ℕ → ℕ) (ts : List ℕ) → All (λ t. f t ≡ g t) ts → sum_by f ts ≡ sum_by g ts
-sums_agree f g [] all = refl
-sums_agree f g (t ∷ ts) all = omega (
-  arith,
-  All-head (λ u. f u ≡ g u) t ts all,
-  sums_agree f g ts (All-tail (λ u. f u ≡ g u) t ts all),
-  sum_by-cons f t ts,
-  sum_by-cons g t ts,
-)
-
 pub implicit_changes_no_sums : ImplicitAlertsChangeNothing → (v : Values) (b : Bool) (ts : List ℕ)
     → All (λ t. (cell_at v t).l ≡ (cell_at v t).h) ts → sum_of (with_implicit v b) ts ≡ sum_of v ts
 implicit_changes_no_sums same v b ts equal =
     ap (λ (h : (Totals → ℕ) → ℕ). each_number h) (λ i n. agree n i)
   where
     agree : (n : Totals → ℕ) → sum_by (λ t. n (outcome (with_implicit v b) t)) ts ≡ sum_by (λ t. n (outcome v t)) ts
-    agree n = sums_agree _ _ ts (λ i d below.
+    agree n = same_sums _ _ ts (λ i d below.
         ap n (implicit_changes_no_trial same v b (get_or ts i d) (equal i d below)))

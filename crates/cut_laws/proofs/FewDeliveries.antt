@@ -1,6 +1,6 @@
 -- How many deliveries bring alerts about one process: as many as there are copies of the rings heard of, at most.
 use Rattle.std.proofs.Common.{◌≡◌, ◌≢◌, ℕ, zero, suc, ◌+◌, ◌-◌, ◌*◌, ◌<◌, ◌≤◌, min, Bool, true, not, List, [], ◌∷◌}
-use Rattle.std.proofs.Common.{◌++◌, length, filter, map, get_or, nat_lt, inl, inr, refl, ap, ◌∙◌, arith, append-nil}
+use Rattle.std.proofs.Common.{◌++◌, length, map, get_or, nat_lt, inl, inr, refl, ap, ◌∙◌, arith, append-nil}
 use Rattle.cut_laws.proofs.Words.{DeliveriesAreCopiesOfEdges, DeliveriesAreOfGivenEdges, Delivery, Edge}
 use Rattle.cut_laws.proofs.Words.{EdgeNumbersNameEdges, EdgeSet, NoneIsHeardOfAtFirst, Source, all_deliveries}
 use Rattle.cut_laws.proofs.Words.{count_by, delivery_rank, early, edge_number, edges_of, flat_map, is_edge}
@@ -10,7 +10,6 @@ use Rattle.cut_draws.specs.DeliveryOrder.{are_distinct}
 use Rattle.cut_draws.specs.Laws.{DeliveriesAreCountedByCopies, DistinctEdgesHaveAnOrder}
 use Rattle.std.proofs.lemmas.Bool.{and_from, and_parts, cases_lt, eq-eqb, eqb-true, le-ltb, lt-ltb, both_ways}
 use Rattle.std.proofs.lemmas.Bool.{not-true}
-use Rattle.std.proofs.lemmas.List.Elements.{filter-append}
 use Rattle.std.proofs.lemmas.List.Folds.{list_any_at}
 use Rattle.std.proofs.lemmas.List.FromFn.{length-range_with_len}
 use Rattle.std.proofs.lemmas.List.Sorted.{sum_by-IsPermutation}
@@ -21,13 +20,6 @@ use Rattle.cut_laws.proofs.Counting.{bit, gained, none_counted, one_more}
 use Rattle.cut_laws.proofs.NewEdges.{brought, one_ring}
 
 -- ---- lists
-
--- what passes in parts passes in the whole
-pub filter-flat_map : {X Y : Type 0} (p : Y → Bool) (f : X → List Y) (xs : List X)
-    → filter p (flat_map f xs) ≡ flat_map (λ x. filter p (f x)) xs
-filter-flat_map p f [] = refl
-filter-flat_map p f (x ∷ xs) =
-    filter-append p (f x) (flat_map f xs) ∙ ap (λ ys. filter p (f x) ++ ys) (filter-flat_map p f xs)
 
 none_there : {X : Type 0} (g : ℕ → List X) (a n : ℕ) → ((q : ℕ) → a ≤ q → q < a + n → g q ≡ [])
     → flat_map g (range_with_len a n) ≡ []

@@ -15,8 +15,8 @@ use Rattle.cut_detector.specs.Laws.{UnstableAreReportedAndNotStable}
 use Rattle.cut_draws.specs.Laws.{DeliveriesAreCountedByCopies, DistinctEdgesHaveAnOrder}
 use Rattle.std.proofs.lemmas.Bool.{and_parts, both_ways, cases_Bool, cases_lt, eq-eqb, eqb-true, false_from_ne_true}
 use Rattle.std.proofs.lemmas.Bool.{le-leb, leb-true, lt-leb}
-use Rattle.cut_plan.specs.declared.version.Version.TheVariants.{Two}
-use Rattle.cut_plan.specs.Versions.{version_of}
+use Rattle.cut_fields.specs.declared.version.Version.TheVariants.{Two}
+use Rattle.cut_plan.specs.Failing.{version_of}
 use Rattle.cut_laws.specs.OneCrash.{HasOneTarget, IsSettledByH, OneCrashIsFound, OneCrashIsFoundByH}
 use Rattle.std.proofs.Math.Nat.{add-mul}
 use Rattle.std.proofs.lemmas.List.{length-map}
@@ -27,12 +27,14 @@ use Rattle.cut_lists.proofs.Additions.{filter-all}
 use Rattle.cut_lists.proofs.Counts.{filter-none}
 use Rattle.cut_lists.proofs.Ranges.{All-range_with_len, count_by_agree}
 use Rattle.cut_laws.proofs.Counting.{bit, none_counted}
-use Rattle.cut_laws.proofs.FewDeliveries.{few_deliveries, few_rings, filter-flat_map, one_part}
+use Rattle.cut_laws.proofs.FewDeliveries.{few_deliveries, few_rings, one_part}
 use Rattle.cut_laws.proofs.OneCrash.{Known, observer_is_up, only_one, roles, stable_is_target}
 use Rattle.cut_laws.proofs.Plans.{IsCell}
-use Rattle.cut_laws.proofs.Roles.{alerted_is_target, listed_is_alerted, never_itself, target_is_alerted}
+use Rattle.cut_laws.proofs.Roles.{alerted_is_target, never_itself, target_is_alerted}
 use Rattle.cut_laws.proofs.Verdicts.{many, proposals, roles_length, target_below}
 use Rattle.cut_laws.proofs.Whole.{heard_is_given}
+use Rattle.cut_outcome.proofs.Heard.{listed_is_raised}
+use Rattle.cut_alerts.proofs.Grouped.{filter-flat_map}
 
 -- the laws on deliveries that this follows from
 pub record KnownOfDeliveries : Type 0 where
@@ -109,7 +111,7 @@ module _ (known : Known) (v : Values) (t : ℕ) (plan : IsPlan v) (inside : t < 
     unreported n q differ =
         let none = none_counted (λ ring. E n ring q) (range_with_len 0 k) (λ ring. false_from_ne_true _ (λ is.
         differ (alone q (alerted_is_target a (roles known v t plan inside only cell one) (observer_of r ring q) q
-        (listed_is_alerted r a k ring q
+        (listed_is_raised r a k ring q
         (heard_is_given laws.given (source_of v.seed t) j k (alerts_at v t) v.copies n ring q is)))))) in
         lt-leb rule.l (reports_of rule (E n) q) (omega (arith, none, cell.low))
 

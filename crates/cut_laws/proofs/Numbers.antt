@@ -21,8 +21,9 @@ use Rattle.cut_lists.proofs.Parts.{count_rest}
 use Rattle.cut_lists.proofs.Ranges.{list_any_none_passing, list_any_passing}
 use Rattle.cut_laws.proofs.Counting.{bit, four_cover, into_two, none_counted, three_apart, two_split}
 use Rattle.cut_laws.proofs.Verdicts.{all_verdicts, counted, is_conflict, is_extra, is_right, is_same, is_silent, many}
-use Rattle.cut_laws.proofs.Verdicts.{proposals, receivers, roles_length, same_is, target_below, votes_are, votes_for}
+use Rattle.cut_laws.proofs.Verdicts.{proposals, receivers, roles_length, target_below, votes_are, votes_for}
 use Rattle.cut_laws.proofs.Whole.{some_member}
+use Rattle.cut_outcome.proofs.FastRound.{same_is}
 
 -- ---- quorums
 

@@ -25,10 +25,11 @@ use Rattle.cut_laws.proofs.Counting.{none_counted, two_pass}
 use Rattle.cut_laws.proofs.Numbers.{number, of_receivers, one_of_four, right_are, right_or_conflict, right_votes}
 use Rattle.cut_laws.proofs.Numbers.{targets_many}
 use Rattle.cut_laws.proofs.Plans.{IsCell}
-use Rattle.cut_laws.proofs.Roles.{alerted_is_listed, alerted_is_target, crashed_or_healthy, listed_is_alerted}
+use Rattle.cut_laws.proofs.Roles.{alerted_is_target, crashed_or_healthy}
 use Rattle.cut_laws.proofs.Roles.{never_itself, target_is_alerted}
 use Rattle.cut_laws.proofs.Verdicts.{has_from, is_conflict, proposals, receivers, roles_length, target_below}
 use Rattle.cut_laws.proofs.Whole.{some_member}
+use Rattle.cut_outcome.proofs.Heard.{raised_is_listed, listed_is_raised}
 
 -- the laws that this follows from
 pub record Known : Type 0 where
@@ -96,10 +97,10 @@ module _ (known : Known) (v : Values) (t : ℕ) (plan : IsPlan v) (inside : t < 
   reports : ReportsTargetsAlone r rule (set_of (alerts_at v t)) (λ p. is_target a p)
   reports = record {
     alone = λ ring s _ _ is. alerted_is_target a roles (observer_of r ring s) s
-        (listed_is_alerted r a (cell_at v t).k ring s is);
+        (listed_is_raised r a (cell_at v t).k ring s is);
     each = λ s process is.
         let all = All-range_with_len (λ ring. set_of (alerts_at v t) ring s ≡ true) 0 (cell_at v t).k
-        (λ ring _ below. alerted_is_listed r a (cell_at v t).k ring s (omega (arith, below)) process
+        (λ ring _ below. raised_is_listed r a (cell_at v t).k ring s (omega (arith, below)) process
         (target_is_alerted a (observer_of r ring s) s is (observer_is_up ring s (omega (arith, below)) is))) in
         let full = count_by_all (λ ring. set_of (alerts_at v t) ring s) (range_with_len 0 (cell_at v t).k) all in
         omega (arith, full, length-range_with_len 0 (cell_at v t).k, cell.rings);

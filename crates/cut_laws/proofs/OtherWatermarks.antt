@@ -8,9 +8,9 @@ use Rattle.cut_laws.proofs.Words.{drawn, early, judged, outcome, place_of, propo
 use Rattle.cut_laws.proofs.Words.{receiver_proposal, receivers_of, rings_of, rule_of, settled_of, source_of, sum_by}
 use Rattle.cut_laws.proofs.Words.{sum_of, with_marks}
 use Rattle.cut_detector.specs.Laws.{AGapWiderAtBothEndsProposesLater, AWiderGapProposesLater}
-use Rattle.cut_plan.specs.declared.version.Version.{Version}
-use Rattle.cut_plan.specs.declared.version.Version.TheVariants.{One, Two}
-use Rattle.cut_plan.specs.Versions.{version_of}
+use Rattle.cut_fields.specs.declared.version.Version.{Version}
+use Rattle.cut_fields.specs.declared.version.Version.TheVariants.{One, Two}
+use Rattle.cut_plan.specs.Failing.{version_of}
 use Rattle.cut_outcome.specs.Laws.{AWiderGapHasFewerConflicts, HigherHHasFewerConflicts}
 use Rattle.cut_laws.specs.OtherWatermarks.{MayLowerL, MayRaiseH, WaitsLonger, waited, with_h, with_l}
 use Rattle.std.proofs.lemmas.List.Sums.{sum_by-cons}

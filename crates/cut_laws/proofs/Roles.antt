@@ -1,8 +1,8 @@
 -- The roles and the alerts of a trial in which one process crashes and nothing else fails.
 use Rattle.std.proofs.Common.{◌≡◌, ◌⊎◌, ◌≢◌, ℕ, ◌+◌, ◌-◌, ◌%◌, ◌<◌, ◌≤◌, Bool, true, false, not, List, length, map}
 use Rattle.std.proofs.Common.{get_or, inl, inr, refl, sym, ap, ◌∙◌, arith, zero-add}
-use Rattle.cut_laws.proofs.Words.{Assignment, IsPlan, Layout, Source, Values, alert_list, alerts_about, all_edges}
-use Rattle.cut_laws.proofs.Words.{deaf_of, drawn, edges_of, has_crashed, is_alerted, is_edge, is_target, list_any}
+use Rattle.cut_laws.proofs.Words.{Assignment, IsPlan, Layout, Source, Values, alert_list, alerts_about}
+use Rattle.cut_laws.proofs.Words.{deaf_of, drawn, has_crashed, is_target}
 use Rattle.cut_laws.proofs.Words.{observer_of, position_of, positions_on, process_rank, range_with_len, ranked_role}
 use Rattle.cut_laws.proofs.Words.{rings_of, role_at, set_of, ◌&&◌, ◌==◌}
 use Rattle.cut_alerts.specs.declared.role.Role.{Role}
@@ -13,15 +13,14 @@ use Rattle.std.specs.Cmp.{IsTotalOrder}
 use Rattle.std.specs.List.{position_or_len}
 use Rattle.std.proofs.Math.Bool.{and-true}
 use Rattle.std.proofs.Math.Nat.{mod-eq_of_lt, mod_self}
-use Rattle.std.proofs.lemmas.Bool.{and_from, and_parts, cases_lt, eq-eqb, eqb-true, le-ltb, lt-ltb, or_left}
+use Rattle.std.proofs.lemmas.Bool.{and_from, cases_lt, eqb-true, le-ltb, lt-ltb, or_left}
 use Rattle.std.proofs.lemmas.Cmp.{nat_cmp_total, nat_list_cmp_total, on_total, then_total}
 use Rattle.std.proofs.lemmas.List.{get_or_past}
 use Rattle.std.proofs.lemmas.List.FromFn.{get_or-map-range_with_len, length-map-range_with_len, length-range_with_len}
 use Rattle.std.proofs.lemmas.List.Sums.{passes_at_first}
-use Rattle.std.proofs.lemmas.Map.Views.{any-filter_same}
-use Rattle.cut_lists.proofs.Maps.{list_any-flat_map, list_any-map}
-use Rattle.cut_lists.proofs.Ranges.{Contains-range_with_len, list_any_passing}
+use Rattle.cut_lists.proofs.Ranges.{Contains-range_with_len}
 use Rattle.cut_lists.proofs.Ranks.{rank-below}
+use Rattle.cut_outcome.proofs.Heard.{among_all, listed}
 
 -- ---- who has crashed
 
@@ -67,36 +66,6 @@ target_is_alerted a o s target up =
     or_left _ _ (or_left _ _ (or_left _ _ (and_from _ _ target (or_left _ _ (ap not up)))))
 
 -- ---- the alerted edges
-
-among_all : (k n ring s : ℕ) → ring < k → s < n → set_of (all_edges k n) ring s ≡ true
-among_all k n ring s below process =
-    list_any-flat_map (λ e. is_edge ring s e) (λ q. edges_of k q) (range_with_len 0 n)
-    ∙ list_any_passing (λ q. list_any (λ e. is_edge ring s e) (edges_of k q)) 0 n s
-    (omega arith) (omega (arith, process))
-    (list_any-map (λ e. is_edge ring s e) (λ i. record { ring = i; subject = s }) (range_with_len 0 k)
-    ∙ list_any_passing (λ i. is_edge ring s (record { ring = i; subject = s })) 0 k ring
-    (omega arith) (omega (arith, below))
-    (and_from _ _ (eq-eqb ring ring refl) (eq-eqb s s refl)))
-
--- an edge is listed where it is one of those rings and processes, and its observer alerts about its subject
-listed : (r : Layout) (a : Assignment) (k ring s : ℕ)
-    → set_of (alert_list r a k) ring s
-    ≡ (alerts_about a (observer_of r ring s) s && set_of (all_edges k r.nodes) ring s)
-listed r a k ring s =
-    any-filter_same (λ e. is_edge ring s e) (λ e. is_alerted r a e) (alerts_about a (observer_of r ring s) s)
-    (λ e is. (let same = and_parts _ _ is in
-    ap (λ x. alerts_about a (observer_of r x e.subject) e.subject) (eqb-true _ _ same.0)
-    ∙ ap (λ y. alerts_about a (observer_of r ring y) y) (eqb-true _ _ same.1)))
-    (all_edges k r.nodes)
-
-pub listed_is_alerted : (r : Layout) (a : Assignment) (k ring s : ℕ) → set_of (alert_list r a k) ring s ≡ true
-    → alerts_about a (observer_of r ring s) s ≡ true
-listed_is_alerted r a k ring s is = (and_parts _ _ (sym (listed r a k ring s) ∙ is)).0
-
-pub alerted_is_listed : (r : Layout) (a : Assignment) (k ring s : ℕ) → ring < k → s < r.nodes
-    → alerts_about a (observer_of r ring s) s ≡ true → set_of (alert_list r a k) ring s ≡ true
-alerted_is_listed r a k ring s below process alerted =
-    listed r a k ring s ∙ and_from _ _ alerted (among_all k r.nodes ring s below process)
 
 -- on a ring of the cell an edge is listed exactly where its observer alerts
 pub listed_on : (r : Layout) (a : Assignment) (k ring s : ℕ) → ring < k → s < r.nodes

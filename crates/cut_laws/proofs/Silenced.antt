@@ -24,8 +24,9 @@ use Rattle.cut_lists.proofs.Ranks.{count_by_all}
 use Rattle.cut_laws.proofs.Counting.{none_counted}
 use Rattle.cut_laws.proofs.Numbers.{targets_many}
 use Rattle.cut_laws.proofs.Plans.{IsCell}
-use Rattle.cut_laws.proofs.Roles.{alerted_is_target, crashed_or_healthy, listed_is_alerted, listed_on}
+use Rattle.cut_laws.proofs.Roles.{alerted_is_target, crashed_or_healthy, listed_on}
 use Rattle.cut_laws.proofs.Verdicts.{roles_length, target_below}
+use Rattle.cut_outcome.proofs.Heard.{listed_is_raised}
 
 -- ---- who alerts about a target
 
@@ -99,7 +100,7 @@ module _ (v : Values) (t : ℕ) (only : OnlyCrashes v) where
   -- no alert is about another process
   none_about : (ring s : ℕ) → (IsTrue (is_target a s) → ⊥) → all_alerts ring s ≡ false
   none_about ring s other = false_from_ne_true _ (λ is. other (alerted_is_target a roles (observer_of r ring s) s
-      (listed_is_alerted r a k ring s is)))
+      (listed_is_raised r a k ring s is)))
 
   pub none_raised : (s : ℕ) → (IsTrue (is_target a s) → ⊥) → raised_about v t s ≡ 0
   none_raised s other = none_counted (λ ring. all_alerts ring s) (range_with_len 0 k) (λ ring. none_about ring s other)
@@ -130,7 +131,7 @@ module _ (known : Known) (v : Values) (t : ℕ) (plan : IsPlan v) (inside : t < 
   stable_explicit explicit s target =
       known.stable (rings_of v) rule E targeted cell.low cell.gap (record {
         alone = λ ring q _ _ is. alerted_is_target (roles_at v t) (roles v t only) (observer_of (rings_of v) ring q) q
-            (listed_is_alerted (rings_of v) (roles_at v t) (cell_at v t).k ring q is);
+            (listed_is_raised (rings_of v) (roles_at v t) (cell_at v t).k ring q is);
         each = λ q _ is. rw explicit at (enough q is);
       }) s (target_process v t only s target) ∙ target
 

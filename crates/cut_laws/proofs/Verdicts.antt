@@ -8,7 +8,6 @@ use Rattle.cut_laws.proofs.Words.{count_by, early, find, has_other, has_process,
 use Rattle.cut_laws.proofs.Words.{is_target, judged, lacks_target, one_if, outcome, processes_of, proposal_of}
 use Rattle.cut_laws.proofs.Words.{proposed_at, quorum_of, range_with_len, receivers_of, rings_of, roles_at, rule_at}
 use Rattle.cut_laws.proofs.Words.{same_members, source_of, stable_members, targets_of, votes_of, ◌==◌, ◌||◌}
-use Rattle.std.specs.Cmp.Lexicographic.{same_text}
 use Rattle.cut_alerts.specs.Assignment.{same_role}
 use Rattle.cut_alerts.specs.declared.role.Role.TheVariants.{Crashed, Deaf, Healthy}
 use Rattle.std.proofs.lemmas.Bool.{and_from, and_parts, both_ways, cases_Bool, cases_lt, eqb-true, eq-eqb}
@@ -23,6 +22,7 @@ use Rattle.cut_lists.proofs.Maps.{count_by-map}
 use Rattle.cut_lists.proofs.Ranges.{filter_agree_on, list_any_none_passing, list_any_passing, Contains_filter}
 use Rattle.cut_lists.proofs.Ranges.{Contains-filter_of}
 use Rattle.cut_laws.proofs.Counting.{bit, none_counted, two_split}
+use Rattle.cut_outcome.proofs.FastRound.{same_is}
 
 -- ---- votes
 
@@ -39,9 +39,6 @@ votes_are m ((Some p) ∷ ps) =
     sum_by-cons (λ c. bit (same_members c m)) p.members (cast_of ps)
     ∙ ap (λ n. bit (same_members p.members m) + n) (votes_are m ps)
     ∙ sym (sum_by-cons (λ o. bit (votes_for m o)) (Some p) ps)
-
-pub same_is : (xs ys : List ℕ) → same_members xs ys ≡ true → xs ≡ ys
-same_is xs ys h = same_text xs ys (sym h)
 
 pub is_same : (xs : List ℕ) → same_members xs xs ≡ true
 is_same xs = nat_list_eq_equiv.refl xs

@@ -1,7 +1,7 @@
 -- The words of definitions that most proofs here cite, passed on from one place. Declares nothing.
 pub use Rattle.std.specs.Prelude.{All, Contains, IfSome, IsTrue, MatchOption, count_by, find, if◌then◌else◌, ◌&&◌}
 pub use Rattle.std.specs.Prelude.{◌==◌, ◌||◌, ◌↔◌}
-pub use Rattle.std.specs.List.{filter_map, flat_map, list_any, range_with_len, sum_by}
+pub use Rattle.std.specs.List.{flat_map, list_any, range_with_len, sum_by}
 pub use Rattle.std.specs.List.Sorted.{IsStrictlyIncreasing}
 pub use Rattle.cut_plan.specs.declared.cell.Cell.{Cell}
 pub use Rattle.cut_plan.specs.Values.{Values}
@@ -26,15 +26,15 @@ pub use Rattle.cut_detector.specs.Rule.{Rule, rule_of}
 pub use Rattle.cut_detector.specs.Counts.{reports_of}
 unfoldable pub use Rattle.cut_detector.specs.Counts.{is_settled, is_some_stable, is_stable, is_unstable, stable_members}
 pub use Rattle.cut_detector.specs.Proposal.{proposal_of}
-pub use Rattle.cut_detector.specs.Laws.{IsOfLeastPlace, IsPartOf, IsSettled, IsUnheardOf, MoreEdgesKeepStable}
+pub use Rattle.cut_detector.specs.Laws.{IsOfLeastPlace, IsSettled, MoreEdgesKeepStable}
 pub use Rattle.cut_detector.specs.Laws.{NoneIsStableUnheard, NoneIsUnstable, ProposesAtFirstStable}
 pub use Rattle.cut_detector.specs.Laws.{ProposesAtLeastPlace, ProposesBefore, StableByReportsAlone}
 pub use Rattle.cut_detector.specs.declared.proposal.Proposal.{Proposal}
 pub use Rattle.cut_outcome.specs.declared.totals.Totals.{Totals}
-pub use Rattle.cut_outcome.specs.FastRound.{cast_of, members_of, most_votes, quorum_of, same_members, votes_of}
+pub use Rattle.cut_outcome.specs.FastRound.{cast_of, most_votes, quorum_of, same_members, votes_of}
 pub use Rattle.cut_outcome.specs.Verdicts.{has_other, has_process, is_missed, judged, lacks_target, processes_of}
 pub use Rattle.cut_outcome.specs.Verdicts.{receivers_of, targets_of}
-pub use Rattle.cut_outcome.specs.Outcome.{cell_at, cell_outcome, deliveries_at, no_cell, one_if, place_of}
+pub use Rattle.cut_outcome.specs.Outcome.{cell_at, cell_outcome, no_cell, one_if, place_of}
 pub use Rattle.cut_outcome.specs.Outcome.{receiver_proposal, rings_of, settled_of, totals_of}
 unfoldable pub use Rattle.cut_outcome.specs.Outcome.{outcome}
 pub use Rattle.cut_outcome.specs.Sum.{sum_of}

@@ -3,8 +3,8 @@ use Rattle.std.specs.Prelude.{◌≡◌, ℕ, ◌-◌, ◌+◌, ◌*◌, ◌<◌
 use Rattle.cut_plan.specs.Cells.{trial_count}
 use Rattle.cut_plan.specs.Plan.{IsPlan}
 use Rattle.cut_plan.specs.Values.{Values}
-use Rattle.cut_plan.specs.declared.version.Version.TheVariants.{Two}
-use Rattle.cut_plan.specs.Versions.{version_of}
+use Rattle.cut_fields.specs.declared.version.Version.TheVariants.{Two}
+use Rattle.cut_plan.specs.Failing.{version_of}
 use Rattle.cut_outcome.specs.declared.totals.Totals.{Totals}
 use Rattle.cut_outcome.specs.Laws.{OnlyCrashes}
 use Rattle.cut_outcome.specs.Outcome.{cell_at, one_if, outcome}

@@ -1,6 +1,6 @@
 -- A piece with its sums added to what a ledger holds: what is held and summed then.
 use Rattle.std.proofs.Common.{◌≡◌, ℕ, ◌+◌, ◌*◌, ◌/◌, ◌<◌, ◌≤◌, inl, inr, Bool, true, false, ◌==◌, ◌&&◌, ◌||◌, not, cond}
-use Rattle.std.proofs.Common.{List, [], ◌∷◌, ◌++◌, map, length, set, refl, sym, ap, ◌∙◌, arith, append-nil}
+use Rattle.std.proofs.Common.{List, [], ◌∷◌, ◌++◌, length, set, refl, sym, ap, ◌∙◌, arith, append-nil}
 use Rattle.std.proofs.lemmas.Bool.{cases_eq, eq-eqb, ne_eqb}
 use Rattle.std.proofs.lemmas.List.{get_or-set_same, get_or-set_other, length-set}
 use Rattle.std.proofs.lemmas.List.Elements.{filter-append, filter_agree}
@@ -11,11 +11,11 @@ use Rattle.cut_lists.proofs.Ranges.{filter_agree_on, count_by_agree, none_passin
 use Rattle.cut_lists.proofs.Additions.{PassesPart, count_of_more, sum_of_more}
 use Rattle.cut_outcome.specs.Outcome.{outcome}
 use Rattle.range_set.specs.Held as held
-use Rattle.cut_ledger.specs.inside.Kept.{AreSumsOf, span_of, sum_at}
+use Rattle.cut_ledger.specs.inside.Kept.{AreSumsOf, sum_at}
 use Rattle.cut_ledger.proofs.Words.{AreKept, IsAdded, IsAtMost, IsTrue, Piece, Slip, Totals, Values}
-use Rattle.cut_ledger.proofs.Words.{contents_in, count_by, each_number, further_trials, is_in, is_in_base}
-use Rattle.cut_ledger.proofs.Words.{is_piece, list_any, plus, range_with_len, slips_of_cell, sum_by, sum_of, sum_where}
-use Rattle.cut_ledger.proofs.Words.{trials_in, trials_of_cell, with_piece}
+use Rattle.cut_ledger.proofs.Words.{count_by, each_number, further_trials, is_in, is_in_base}
+use Rattle.cut_ledger.proofs.Words.{is_piece, list_any, plus, slips_of_cell, sum_by, sum_of, sum_where}
+use Rattle.cut_ledger.proofs.Words.{trials_in, trials_of_cell}
 use Rattle.cut_ledger.proofs.CellLemmas.{PieceFacts, piece_facts, in_piece, IsMore, more_is, more_part, more_elsewhere}
 
 -- ---- what is known of the call
@@ -193,14 +193,6 @@ taken_kept v base old new olds news p adding =
     (λ d other. same_sums v base (held.has old) (held.has new) d
     (λ t a b. more_elsewhere (held.has old) (held.has new) v p c d t known.facts known.more other a b))
     (λ t e. grind (arith, known.more.same t, adding.kept.based t e))
-
--- and its contents
-pub taken_contents : (v : Values) (base : List Slip) (old new : held.Held) (olds : List Totals) (p : Piece)
-    → AreKept v base old olds → new.held ≡ held.with_span old (span_of p) → contents_in v base new
-    ≡ with_piece (contents_in v base old) p
-taken_contents v base old new olds p kept put =
-    ap (λ bs. record { plan = v; base = base; held = bs })
-    (put ∙ ap (λ n. map (λ t. held.has old t || is_in p t) (range_with_len 0 n)) kept.all)
 
 -- and a slip, which is one of the base from then on
 pub slip_kept : (v : Values) (base : List Slip) (old new : held.Held) (olds news : List Totals) (s : Slip)

@@ -28,8 +28,9 @@ use Rattle.cut_ledger.proofs.Words.{slice_index_or, slip_of, slips_found, some_s
 use Rattle.cut_ledger.proofs.Words.{taken, times_in, trial_count, trials_in, unless_refused, with_piece}
 use Rattle.cut_ledger.proofs.CellLemmas.{in_piece}
 use Rattle.cut_ledger.proofs.LawBytes.{Written, available_prefix, available_grows, available_whole, written_more}
-use Rattle.cut_ledger.proofs.Law.{Holds, held_within, piece_within, times_more, times_push, all-append, one_if-le}
+use Rattle.cut_ledger.proofs.Law.{Holds, held_within, piece_within, times_more, times_push, one_if-le}
 use Rattle.cut_ledger.proofs.Law.{opened_holds, start_holds}
+use Rattle.cut_plan.proofs.Every.{every-append}
 
 -- ---- results that are taken
 
@@ -103,7 +104,7 @@ taken_reached v s r h a =
     record {
       ledger = now.ledger;
       kept = cond_both s.has_journal (s.kept ++ slip_of r ∷ []) s.kept (λ slips. AllByRecursion (IsTrueSlip v) slips)
-          (λ _. all-append (IsTrueSlip v) s.kept (slip_of r ∷ []) h.kept (true_slip v s r a, tt)) (λ _. h.kept);
+          (λ _. every-append (IsTrueSlip v) s.kept (slip_of r ∷ []) h.kept (true_slip v s r a, tt)) (λ _. h.kept);
       apart = λ t. grind (arith, times_more s.kept (slip_of r) t, now.ones t, h.apart t);
       doubtful = rw (h.frozen a.unbroken) tt;
       frozen = h.frozen;
@@ -137,7 +138,7 @@ found v l false kept d keep each apart doubt = record { each = tt; apart = λ t.
 found v l true kept d false each apart doubt = kept_alone v l kept each apart
 found v l true kept None true each apart doubt = kept_alone v l kept each apart
 found v l true kept (Some s) true each apart doubt = record {
-  each = all-append (IsTrueSlip v) kept (s ∷ []) each (doubt.is_true, tt);
+  each = every-append (IsTrueSlip v) kept (s ∷ []) each (doubt.is_true, tt);
   apart = λ t. grind (arith, times_more kept s t, apart t, doubt.free t);
 }
 

@@ -18,7 +18,7 @@ use Rattle.cut_lists.proofs.Intervals.{list_all_passing, map_agree, passes_at, w
 use Rattle.cut_lists.proofs.Parts.{count_first}
 use Rattle.cut_lists.proofs.Ranges.{list_any_none_passing}
 use Rattle.cut_lists.proofs.Prefixes.{flat_map_prefix, whole_prefix}
-use Rattle.cut_plan.specs.Versions.{version_of}
+use Rattle.cut_plan.specs.Failing.{version_of}
 use Rattle.cut_lines.specs.Lines.{header, line_with, table}
 use Rattle.cut_ledger.specs.declared.slip.Slip.{Slip}
 use Rattle.cut_ledger.specs.Contents.{Contents, has, held_where, is_in, is_in_base, over_base, with_piece}

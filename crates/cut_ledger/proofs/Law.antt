@@ -49,11 +49,6 @@ base_within v [] t each here = absurd (let no : ⊥ = cc in no)
 base_within v (s ∷ ss) t each here =
     let first = piece_within v s.piece t each.0.piece in grind (arith, base_within v ss t each.1)
 
-pub all-append : {X : Type 0} (P : X → Type 0) (xs ys : List X) → AllByRecursion P xs → AllByRecursion P ys
-    → AllByRecursion P (xs ++ ys)
-all-append P [] ys prefix back = back
-all-append P (x ∷ xs) ys prefix back = (prefix.0, all-append P xs ys prefix.1 back)
-
 pub one_if-le : (b : Bool) → one_if b ≤ 1
 one_if-le b = grind arith
 

@@ -8,7 +8,7 @@ use Rattle.std.proofs.lemmas.List.Concat.{flat_map-append}
 use Rattle.cut_lists.proofs.Prefixes.{flat_map_prefix, longer_prefix, whole_prefix}
 use Rattle.cut_lists.proofs.Intervals.{list_all_passing, passes_at}
 use Rattle.cut_lines.specs.Lines.{table}
-use Rattle.cut_plan.specs.Versions.{version_of}
+use Rattle.cut_plan.specs.Failing.{version_of}
 use Rattle.cut_ledger.proofs.Words.{Contents, IsFounded, Totals, Values, all_trials, available, cell_done}
 use Rattle.cut_ledger.proofs.Words.{cell_sum, cells_of, flat_map, has, header, is_complete, line_of}
 use Rattle.cut_ledger.proofs.Words.{line_with, list_all, prefix_len, range_with_len, take_while, trial_count}

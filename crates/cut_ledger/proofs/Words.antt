@@ -5,14 +5,14 @@ pub use Rattle.cut_ledger.specs.Contents.{held_where, is_complete, is_in, is_in_
 pub use Rattle.cut_ledger.specs.Contents.{slip_sum, slips_of_cell, sum_where, with_piece}
 pub use Rattle.cut_ledger.specs.FaultCode.{code_of}
 pub use Rattle.cut_ledger.specs.Gaps.{gaps_of, part_of, parts_of, piece_at, pieces_of}
-pub use Rattle.cut_ledger.specs.inside.Kept.{AreKept, AreOver, IsAdded, account_in, contents_in}
+pub use Rattle.cut_ledger.specs.inside.Kept.{AreKept, AreOver, IsAdded, contents_in}
 pub use Rattle.cut_ledger.specs.Machine.{StudyState, accepted_unless, after, available, drawn_piece, failed}
-pub use Rattle.cut_ledger.specs.Machine.{is_finished, opened, refused_code, reply_to, slip_of, slips_found}
+pub use Rattle.cut_ledger.specs.Machine.{is_finished, opened, refused_code, slip_of, slips_found}
 pub use Rattle.cut_ledger.specs.Machine.{some_slip, start, taken, unless_refused}
 pub use Rattle.cut_ledger.specs.inside.Reached.{IsDoubtful, IsFounded, IsReached}
-pub use Rattle.cut_ledger.specs.Refusals.{CanTake, refusal_of}
+pub use Rattle.cut_ledger.specs.Refusals.{CanTake}
 pub use Rattle.cut_ledger.specs.inside.RunInside.{state_of}
-pub use Rattle.cut_ledger.specs.Slips.{AreGood, AreGoodUpTo, IsFirstBad, IsGood, IsFaultOfSlips}
+pub use Rattle.cut_ledger.specs.Slips.{AreGood, AreGoodUpTo, IsFirstBad, IsGood}
 pub use Rattle.cut_ledger.specs.World.{AreTrue, HasTrueResult, IsRight, IsTrueSlip, SayAlike, World, accepted_after}
 pub use Rattle.cut_ledger.specs.World.{begun, bytes_after, pieces_of_slips, run, step, times_in}
 pub use Rattle.cut_ledger.specs.declared.event.Event.{Event}
@@ -21,7 +21,6 @@ pub use Rattle.cut_lines.specs.Lines.{header, line_with}
 pub use Rattle.cut_plan.specs.Cells.{cells_of, trial_count}
 pub use Rattle.cut_plan.specs.Plan.{IsPlan}
 pub use Rattle.cut_plan.specs.Values.{Values}
-pub use Rattle.cut_plan.specs.declared.refusal.Refusal.{Refusal}
 pub use Rattle.cut_outcome.specs.Computed.{Computed}
 pub use Rattle.cut_outcome.specs.Laws.{PiecesHavePossibleTotals}
 pub use Rattle.cut_outcome.specs.Outcome.{one_if}
@@ -29,13 +28,12 @@ pub use Rattle.cut_outcome.specs.Possible.{ArePossible}
 pub use Rattle.cut_outcome.specs.Sum.{IsAtMost, each_number, is_piece, plus, sum_of, trials_in, trials_of_cell}
 pub use Rattle.cut_outcome.specs.declared.piece.Piece.{Piece}
 pub use Rattle.cut_outcome.specs.declared.totals.Totals.{Totals}
-pub use Rattle.std.specs.Cmp.Lexicographic.{same_text}
 pub use Rattle.std.specs.Int.{div_ceil}
-pub use Rattle.std.specs.List.{AllByRecursion, AllWithin, count_by, flat_map, list_all, list_any, prefix_len}
+pub use Rattle.std.specs.List.{AllByRecursion, count_by, flat_map, list_all, list_any, prefix_len}
 pub use Rattle.std.specs.List.{range_with_len, sum_by, take_while}
 pub use Rattle.std.specs.List.Sorted.{IsNonDecreasingBy, IsPartitionPoint}
 use Rattle.std.specs.Prelude.{ℕ, List}
-pub use Rattle.std.specs.Prelude.{All, IsTrue, Ok, Result, option_map, refl, slice_index_or, ◌↔◌}
+pub use Rattle.std.specs.Prelude.{All, IsTrue, option_map, refl, slice_index_or, ◌↔◌}
 pub use Rattle.std.specs.Result.{OnErr, OnOk}
 
 -- the line of a cell with the sums over all of its trials, as the table of a plan has it

@@ -8,7 +8,7 @@ use Rattle.cut_faults.specs.declared.code.FaultCode.{FaultCode}
 use Rattle.cut_faults.specs.declared.code.FaultCode.TheVariants as code
 use Rattle.cut_plan.specs.Values.{Values}
 use Rattle.cut_plan.specs.Cells.{cells_of}
-use Rattle.cut_plan.specs.Versions.{version_of}
+use Rattle.cut_plan.specs.Failing.{version_of}
 use Rattle.cut_outcome.specs.Computed.{Computed}
 use Rattle.cut_outcome.specs.declared.piece.Piece as pieces
 use Rattle.cut_outcome.specs.Sum.{sum_of, trials_in}

@@ -3,7 +3,7 @@ use Rattle.std.specs.Prelude.{ℕ, ◌++◌, not, List, filter, length}
 use Rattle.std.specs.List.{range_with_len, flat_map}
 use Rattle.cut_plan.specs.Values.{Values}
 use Rattle.cut_plan.specs.Cells.{cells_of}
-use Rattle.cut_plan.specs.Versions.{version_of}
+use Rattle.cut_plan.specs.Failing.{version_of}
 use Rattle.cut_outcome.specs.declared.totals.Totals.{Totals}
 use Rattle.cut_outcome.specs.Sum.{plus, sum_of, trials_of_cell}
 use Rattle.cut_lines.specs.Lines.{header, line_with}

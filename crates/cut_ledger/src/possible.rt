@@ -1,7 +1,7 @@
 ghost use Rattle.std.specs.Prelude.{◌≡◌, ◌+◌, ◌-◌, ◌*◌, ◌≤◌, ◌^◌, ◌↔◌, IsTrue};
 ghost use Rattle.cut_plan.specs.declared.limits.TheConstants.{MOST_NODES};
 ghost use Rattle.cut_plan.specs.Cells.{IsCellOf};
-ghost use Rattle.cut_plan.specs.Versions.{version_of};
+ghost use Rattle.cut_plan.specs.Failing.{version_of};
 ghost use Rattle.cut_outcome.specs.Outcome.{cell_at};
 ghost use Rattle.cut_outcome.specs.Possible.{AreCounted, ArePossible, IsSettledBy};
 ghost use Rattle.cut_outcome.specs.Sum.{is_piece, IsAtMost};

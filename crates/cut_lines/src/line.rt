@@ -1,6 +1,6 @@
 ghost use Rattle.std.specs.Prelude.{◌≡◌, ◌^◌, ◌<◌, ◌≤◌, ◌++◌, length, IfOk, OnOk};
 ghost use Rattle.cut_plan.specs.Cells.{cells_of};
-ghost use Rattle.cut_plan.specs.Versions.{version_of};
+ghost use Rattle.cut_plan.specs.Failing.{version_of};
 ghost use Rattle.cut_lines.specs.Lines.{header, line_with, ppm_of, settled_column};
 
 use crate::row::row;

@@ -1,5 +1,5 @@
 -- Numbers from one up to another, and tests that all of them pass.
-use Rattle.std.proofs.Common.{◌≡◌, ℕ, zero, suc, ◌+◌, ◌-◌, ◌<◌, ◌≤◌, inl, inr, Bool, true, false, ◌&&◌, ◌||◌}
+use Rattle.std.proofs.Common.{◌≡◌, ℕ, zero, suc, ◌+◌, ◌-◌, ◌<◌, ◌≤◌, inl, inr, Bool, true, false, ◌&&◌}
 use Rattle.std.proofs.Common.{◌∷◌, map, length, take, drop, get_or, nat_lt, nat_le, refl, sym, ap, ◌∙◌}
 use Rattle.std.proofs.Common.{arith, add-zero}
 use Rattle.std.specs.List.{range_with_len, list_all, prefix_len}
@@ -25,29 +25,6 @@ pub within_above : (a b t : ℕ) → b ≤ t → within a b t ≡ false
 within_above a b t high = elim (cases_lt t a) [
   | inl low ↦ within_below a b t low
   | inr low ↦ ap (λ x. x && nat_lt t b) (le-leb a t low) ∙ le-ltb t b high
-]
-
--- none is between one and itself
-pub within_none : (a t : ℕ) → within a a t ≡ false
-within_none a t = elim (cases_lt t a) [
-  | inl low ↦ within_below a a t low
-  | inr high ↦ within_above a a t high
-]
-
-pub within_joined : (a b c t : ℕ) → a ≤ b → b ≤ c → within a c t ≡ within a b t || within b c t
-within_joined a b c t ab bc = elim (cases_lt t b) [
-  | inl low ↦ elim (cases_lt t a) [
-    | inl out ↦ within_below a c t out
-        ∙ sym (ap (λ x. x || within b c t) (within_below a b t out) ∙ within_below b c t low)
-    | inr in' ↦ within_is a c t in' (omega arith)
-        ∙ sym (ap (λ x. x || within b c t) (within_is a b t in' low))
-  ]
-  | inr high ↦ elim (cases_lt t c) [
-    | inl in' ↦ within_is a c t (omega arith) in'
-        ∙ sym (ap (λ x. x || within b c t) (within_above a b t high) ∙ within_is b c t high in')
-    | inr out ↦ within_above a c t out
-        ∙ sym (ap (λ x. x || within b c t) (within_above a b t high) ∙ within_above b c t out)
-  ]
 ]
 
 -- ---- a test that all numbers of a range pass

@@ -30,7 +30,7 @@ keyed key n = map (λ p. (key p, p)) (range_with_len 0 n)
 abbrev pub compare_by : {K : Type 0} → (K → K → Ordering) → (ℕ → K) → ℕ → ℕ → Ordering
 compare_by C key q p = ordering_then (C (key q) (key p)) (nat_cmp q p)
 
-less : (i j : ℕ) → i < j → nat_cmp i j ≡ Less
+pub less : (i j : ℕ) → i < j → nat_cmp i j ≡ Less
 less i j before = ap (λ b. cond b Less (cond (i == j) Equal Greater)) (lt-ltb i j before)
 
 untied : (r s : Ordering) → s ≡ Less → is_eq (ordering_then r s) ≡ false

@@ -1,6 +1,7 @@
 -- Maps under other maps, counts and tests.
 use Rattle.std.proofs.Common.{◌≡◌, ◌+◌, ◌||◌, Bool, List, [], ◌∷◌, map, cond, refl, ap, sym, ◌∙◌}
-use Rattle.std.specs.List.{count_by, list_any, flat_map}
+use Rattle.std.specs.List.{All, count_by, list_any, flat_map}
+use Rattle.std.proofs.lemmas.List.Elements.{All-head, All-tail}
 use Rattle.std.proofs.lemmas.List.Folds.{list_any-append}
 use Rattle.std.proofs.lemmas.List.Sums.{sum_by-cons}
 
@@ -24,3 +25,10 @@ pub list_any-flat_map : {X Y : Type 0} (p : Y → Bool) (f : X → List Y) (xs :
 list_any-flat_map p f [] = refl
 list_any-flat_map p f (x ∷ xs) = list_any-append p (f x) (flat_map f xs)
     ∙ ap (λ b. list_any p (f x) || b) (list_any-flat_map p f xs)
+
+-- functions that agree at each element
+pub maps_agree : {X Y : Type 0} (f g : X → Y) (xs : List X) → All (λ x. f x ≡ g x) xs → map f xs ≡ map g xs
+maps_agree f g [] all = refl
+maps_agree f g (x ∷ xs) all =
+    ap (λ y. y ∷ map f xs) (All-head (λ x. f x ≡ g x) x xs all)
+    ∙ ap (λ ys. g x ∷ ys) (maps_agree f g xs (All-tail (λ x. f x ≡ g x) x xs all))

@@ -46,7 +46,7 @@ count_rest p (x ∷ xs) = by (count_rest p xs) (p x) refl
           ap (λ d. cond {A = ℕ} (not d) 1 0) is,
         )
 
-bit_le : (a b : Bool) → (a ≡ true → b ≡ true) → cond a 1 0 ≤ cond b 1 0
+pub bit_le : (a b : Bool) → (a ≡ true → b ≡ true) → cond a 1 0 ≤ cond b 1 0
 bit_le true true implies = omega arith
 bit_le true false implies = absurd (let bad : false ≡ true = implies refl in cc)
 bit_le false true implies = omega arith

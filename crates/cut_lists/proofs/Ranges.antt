@@ -183,10 +183,6 @@ pub map_filter_kept : {X : Type 0} (f : ℕ → X) (p : ℕ → Bool) (n : ℕ) 
 map_filter_kept f p n passes = ap (λ xs. map f xs) (filter_more_kept p n passes)
     ∙ map-append f (filter p (range_with_len 0 n)) (n ∷ [])
 
-pub map_filter_skipped : {X : Type 0} (f : ℕ → X) (p : ℕ → Bool) (n : ℕ) → p n ≡ false
-    → map f (filter p (range_with_len 0 (n + 1))) ≡ map f (filter p (range_with_len 0 n))
-map_filter_skipped f p n fails = ap (λ xs. map f xs) (filter_more_skipped p n fails)
-
 -- a list of n and one of the numbers after them
 pub ranges-join : (a m n : ℕ) → range_with_len a m ++ range_with_len (a + m) n ≡ range_with_len a (m + n)
 ranges-join a zero n = ap (λ b. range_with_len b n) (add-zero a)

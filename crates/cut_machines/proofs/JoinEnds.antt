@@ -14,7 +14,6 @@ use Rattle.cut_commands.specs.declared.fault.CliFault.{CliFault}
 use Rattle.cut_commands.specs.declared.fault.CliFault.TheVariants.{Memory, Plan, Read, Write, Journal, BadSlip, Migrate}
 use Rattle.cut_commands.proofs.RunLemmas.{ends_left, ends_unread, leaves_answer, leaves_nothing}
 use Rattle.cut_machines.specs.JoinCommand.{EndsJoinCommand, JoinWrites, LeavesOther, StopsJoinOfFiles}
-use Rattle.cut_machines.specs.JoinCommand.{WritesJoinOfFiles}
 use Rattle.cut_machines.specs.JoinCommand.{StopsJoin, join_files_task, join_task, joined_text}
 use Rattle.cut_machines.specs.JoinSources.{HoldAll}
 use Rattle.cut_machines.specs.JoinTarget.{LeavesDisk, writing_faults}
@@ -122,11 +121,6 @@ module _ {O N : Type 0} (old_honest : O → Type 0) (old_state : O → DiskState
   }
 
 -- ---- over files
-
-pub file_text : (v : Values) (ss : List Slip) (text : Result (String Global) CliFault) → AreGood v ss
-    → IfOk text (λ t. string_bytes t ≡ joined_text v ss) → IfOk text (λ t. WritesJoinOfFiles v (string_bytes t))
-file_text v ss (Ok text) good is = (ss, (good, is))
-file_text v ss (Err fault) good is = tt
 
 -- what is left on the wire where not all were joined: nothing
 pub files_leave : (v : Values) (fault : CliFault) (l : WireLog) → StopsJoinOfFiles v fault

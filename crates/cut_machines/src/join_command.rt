@@ -1,9 +1,7 @@
 //! The command that joins checkpoints.
 
 ghost use Rattle.std.specs.Prelude.{◌≡◌, ◌↔◌, Err, IfErr, IfOk, None, length, string_bytes};
-ghost use Rattle.cut_plan.specs.Plan.{IsPlan};
 ghost use Rattle.cut_ledger.specs.Slips.{AreGood};
-ghost use Rattle.cut_status.specs.Status.{held_trials};
 ghost use Rattle.cut_join.specs.Joined.{joined};
 ghost use Rattle.cut_join.specs.Laws.{JoinedAreTrue, JoinedGiveThePlansTable};
 ghost use Rattle.cut_commands.specs.Run.{EndsWithFile};
@@ -21,6 +19,7 @@ use cut_join::laws::joined_slips_give_the_same_table;
 use cut_journal::JournalFault;
 use cut_ledger::Slip;
 use cut_plan::Plan;
+use cut_status::trials_held;
 use cut_wires::Wire;
 use std::alloc::Global;
 
@@ -224,17 +223,4 @@ fn joined_text(alloc: Global, plan: &Plan, slips: &[Slip], count: u64) -> Result
     let trials = plan.trials();
     let held = trials_held(plan, slips);
     Ok(format!(in alloc; "joined {} into {count}, {held} of {trials}\n", slips.len())?)
-}
-
-/// How many trials of a plan slips hold, none of which is in two of them.
-fn trials_held(plan: &Plan, slips: &[Slip]) -> u32
-    requires plan { IsPlan plan.now }
-    requires good { AreGood plan.now slips.now }
-    ensures { result ≡ held_trials plan.now slips.now }
-{
-    let mut held = 0;
-    for slip in slips {
-        held += slip.piece.count;
-    }
-    held
 }

@@ -4,7 +4,7 @@ use Rattle.std.proofs.Common.{Result, Ok, Err, refl, sym, ap, subst, arith, appe
 use Rattle.std.proofs.Common.{length-take-le}
 use Rattle.std.specs.Bool.{⊤}
 use Rattle.std.proofs.lemmas.Bool.Decides.{nat_tests}
-use Rattle.cut_wires.specs.Log.{WireLog, passing, with_taken, with_given, wrote, gave, read_failed}
+use Rattle.cut_wires.specs.Log.{WireLog, passing, with_given, gave, read_failed}
 use Rattle.cut_wires.proofs.Logs.{passing_twice, passing_same}
 use Rattle.cut_messages.specs.declared.side.Side.TheVariants.{Replies}
 use Rattle.cut_messages.specs.declared.message.Message.{Message}
@@ -14,7 +14,7 @@ use Rattle.cut_messages.specs.declared.replies.AnswerState.{AnswerState}
 use Rattle.cut_messages.specs.declared.replies.AnswerState.TheVariants.{More, Done}
 use Rattle.cut_messages.specs.Frames.{fault_at}
 use Rattle.cut_messages.specs.Reading.{Reading, HasReadFrames}
-use Rattle.cut_messages.specs.Asking.{request, asked, heard, ended, left_by, Passes, ConcludesAnswer, IsUnread, Hears}
+use Rattle.cut_messages.specs.Asking.{asked, heard, ended, left_by, Passes, ConcludesAnswer, IsUnread, Hears}
 use Rattle.cut_messages.specs.Asking.{Asks}
 use Rattle.cut_messages.specs.inside.Listening.{Step, Steps}
 use Rattle.cut_messages.proofs.Answered.{passes_then}
@@ -53,11 +53,6 @@ wire_ends : (plan stream buffer : List ℕ) (n : ℕ) (old mid new : WireLog) �
     → new ≡ gave mid buffer n → n ≡ 0 → new ≡ passing ended (heard plan (stream ++ []) old)
 wire_ends plan stream buffer n old mid new before is none =
     cc (passing_same (λ t. with_given t buffer 0) ended mid (λ t. cc (append-nil t.given)), append-nil stream)
-
--- a client that has sent its request
-pub begins : (plan : List ℕ) (old now : WireLog) → now ≡ wrote old (request plan) → now ≡ heard plan [] old
-begins plan old now is =
-    is ∙ passing_same (λ t. with_taken t (request plan)) (asked plan []) old (λ t. cc (append-nil t.given))
 
 -- ---- what was read
 

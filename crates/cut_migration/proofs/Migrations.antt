@@ -18,9 +18,9 @@ use Rattle.cut_journal.specs.declared.fault.JournalFault.TheVariants as journal
 use Rattle.cut_migration.specs.declared.fault.MigrateFault.{MigrateFault}
 use Rattle.cut_migration.specs.declared.fault.MigrateFault.TheVariants.{Memory, NotVersion1, BadSlip, OtherPlan}
 use Rattle.cut_migration.specs.declared.fault.MigrateFault.TheVariants.{Disagrees, Broken, Disk}
-use Rattle.cut_journal.specs.Journal.{JournalValue, AppendsEach, IsAppendFault, IsFileOf, LeavesAppend, disk_faults}
+use Rattle.cut_journal.specs.Journal.{JournalValue, AppendsEach, IsAppendFault, IsFileOf, LeavesAppend}
 use Rattle.cut_journal.specs.Journal.{kept_slips, taken}
-use Rattle.cut_migration.specs.Migration.{moved, first_moved, moving_faults, AreTrueUpTo}
+use Rattle.cut_migration.specs.Migration.{moved, first_moved, AreTrueUpTo}
 use Rattle.cut_migration.specs.inside.Migration.{fault_of}
 use Rattle.cut_migration.specs.Migration.{CanMove, EndsMigration, HasMoved}
 use Rattle.cut_migration.specs.inside.Migration.{MovesOne}
@@ -49,17 +49,6 @@ append_failed journal.NoStudy v number s slip old new may other broken left is h
 append_failed journal.OtherPlan v number s slip old new may other broken left is holds = absurd (other refl)
 append_failed (journal.Damaged n) v number s slip old new may other broken left is holds = absurd may
 append_failed journal.Held v number s slip old new may other broken left is holds = absurd may
-
--- and it is a call of the disk that failed exactly where that is reported
-pub failed_calls : (e : JournalFault) (n : ℕ) → IsAppendFault e → (e ≡ journal.OtherPlan → ⊥)
-    → disk_faults {T = ℕ} (Err e) n ≡ moving_faults {T = ⊤} (Err (fault_of e)) n
-failed_calls journal.Memory n may other = absurd may
-failed_calls journal.Disk n may other = refl
-failed_calls journal.Broken n may other = refl
-failed_calls journal.NoStudy n may other = absurd may
-failed_calls journal.OtherPlan n may other = absurd (other refl)
-failed_calls (journal.Damaged k) n may other = absurd may
-failed_calls journal.Held n may other = absurd may
 
 -- ---- one slip after another
 
@@ -111,9 +100,6 @@ moved_more v ss n number s old mid new at before doubt one = record {
 none_by : (n : ℕ) → (n ≡ 0) ⊎ (0 < n) → (1 ≤ n → ⊥) → n ≡ 0
 none_by n (inl none) never = none
 none_by n (inr some) never = absurd (never (omega (arith, some)))
-
-not_taken : {d : Slip} (n : ℕ) → (1 ≤ n → Some d ≡ None) → n ≡ 0
-not_taken n taken = none_by n (eq-zero-or-pos n) (λ m. cc (taken m))
 
 not_some : IsSome {T = Slip} None → ⊥
 not_some some = cc some
@@ -185,13 +171,6 @@ stopped Disk v ss n number s old mid new is_number can at before doubt is = (
     },
   ),
 )
-
--- and the slips that are kept then are those of the first n
-pub kept_of : {D : Type 0} (v : Values) (ss : List Slip) (n m : ℕ) (old new : JournalValue D) (before now : List Slip)
-    → new.count ≡ old.count + n → now ≡ before ++ first_moved v ss n → new.count ≡ old.count + m
-    → now ≡ before ++ first_moved v ss m
-kept_of v ss n m old new before now is kept other =
-    kept ∙ ap (λ k. before ++ first_moved v ss k) (let same : n ≡ m = omega (arith, is, other) in same)
 
 -- ---- what a crash leaves
 

@@ -1,11 +1,11 @@
 -- A slip of version 1 is true where the upgrade gives its trials the same numbers, but for `settled`.
 use Rattle.std.proofs.Common.{◌≡◌, ◌∙◌, ℕ, Bool, sym, ap}
 use Rattle.std.specs.Prelude.{IsTrue, ◌↔◌}
-use Rattle.cut_plan.specs.declared.version.Version.{Version}
-use Rattle.cut_plan.specs.declared.version.Version.TheVariants.{One, Two}
+use Rattle.cut_fields.specs.declared.version.Version.{Version}
+use Rattle.cut_fields.specs.declared.version.Version.TheVariants.{One, Two}
 use Rattle.cut_plan.specs.Targets.{upgraded}
 use Rattle.cut_plan.specs.Values.{Values}
-use Rattle.cut_plan.specs.Versions.{version_of}
+use Rattle.cut_plan.specs.Failing.{version_of}
 use Rattle.cut_plan.specs.Plan.{IsPlan}
 use Rattle.cut_outcome.specs.declared.totals.Totals.{Totals}
 use Rattle.cut_outcome.specs.Laws.{PiecesHavePossibleTotals, UpgradesKeepSums}

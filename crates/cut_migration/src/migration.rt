@@ -1,8 +1,8 @@
 ghost use Rattle.std.specs.Prelude.{◌≡◌, ◌+◌, ◌<◌, ◌↔◌, ◌++◌, ℕ, IsErrOf, IsTrue};
-ghost use Rattle.cut_plan.specs.declared.version.Version.TheVariants.{One, Two};
+ghost use Rattle.cut_fields.specs.declared.version.Version.TheVariants.{One, Two};
 ghost use Rattle.cut_plan.specs.Plan.{IsPlan};
 ghost use Rattle.cut_plan.specs.Targets.{upgraded};
-ghost use Rattle.cut_plan.specs.Versions.{version_of};
+ghost use Rattle.cut_plan.specs.Failing.{version_of};
 ghost use Rattle.cut_outcome.specs.Outcome.{rings_of};
 ghost use Rattle.cut_outcome.specs.Sum.{is_piece};
 ghost use Rattle.cut_ledger.specs.Slips.{AreGood};

@@ -6,7 +6,7 @@ use Rattle.std.specs.Prelude.{is_some, IfSome, slice_index}
 use Rattle.std.proofs.lemmas.Bool.{or_right}
 use Rattle.std.specs.List.{All, list_any, range_with_len}
 use Rattle.std.proofs.lemmas.List.Elements.{All-push, All-weaker}
-use Rattle.cut_lists.proofs.Maps.{list_any-map}
+use Rattle.cut_lists.proofs.Maps.{list_any-map, maps_agree}
 use Rattle.cut_lists.proofs.Ranges.{map_filter_kept, filter_more_skipped}
 use Rattle.cut_rings.specs.Edges.{EdgeSet, edge_to, rings_to}
 use Rattle.cut_rings.specs.Layout.{Layout, observer_of}
@@ -20,7 +20,7 @@ use Rattle.cut_nodes.specs.Slots.{key_of, key_in}
 use Rattle.cut_nodes.specs.inside.Slots.{Extends}
 use Rattle.cut_nodes.specs.Nodes.{cause_of, cause_in, AreNodesWithin}
 use Rattle.cut_nodes.specs.inside.Reported.{alerts_of, rule_of_reported, IsGain, AreCauses}
-use Rattle.cut_nodes.proofs.ListLemmas.{maps_agree, list_any-filter}
+use Rattle.cut_nodes.proofs.ListLemmas.{list_any-filter}
 use Rattle.cut_nodes.proofs.SlotLemmas.{key_kept}
 use Rattle.cut_nodes.proofs.HeardLemmas.{IsHeard}
 

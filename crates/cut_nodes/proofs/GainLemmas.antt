@@ -21,13 +21,6 @@ no_gain r rule E subjects ring s none = record {
   within = tt;
 }
 
--- without implicit alerts nothing is
-pub gains_off : (r : Layout) (rule : Rule) (E : EdgeSet) (subjects : List ℕ) (ring s : ℕ)
-    → rule.implicit ≡ false → IsGain r rule E subjects ring s None
-gains_off r rule E subjects ring s off =
-    no_gain r rule E subjects ring s
-    (ap (λ b. b && is_reported rule E s && is_reported rule E (observer_of r ring s)) off)
-
 both : (a b c : Bool) → a ≡ true → b ≡ true → a && b && c ≡ c
 both a b c p q = grind arith
 

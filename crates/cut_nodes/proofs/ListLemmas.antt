@@ -1,14 +1,8 @@
 -- Lists of which each element is known.
-use Rattle.std.proofs.Common.{◌≡◌, suc, ◌+◌, Bool, true, false, cond, ◌||◌, List, [], ◌∷◌, ◌++◌, map, filter}
+use Rattle.std.proofs.Common.{◌≡◌, suc, ◌+◌, Bool, true, false, cond, ◌||◌, List, [], ◌∷◌, ◌++◌, filter}
 use Rattle.std.proofs.Common.{length, take, drop, refl, ap, ◌∙◌, arith}
 use Rattle.std.specs.List.{All, list_any, prefix_len}
 use Rattle.std.proofs.lemmas.List.Elements.{All-head, All-tail}
-
-pub maps_agree : {X Y : Type 0} (f g : X → Y) (xs : List X) → All (λ x. f x ≡ g x) xs → map f xs ≡ map g xs
-maps_agree f g [] all = refl
-maps_agree f g (x ∷ xs) all =
-    ap (λ y. y ∷ map f xs) (All-head (λ x. f x ≡ g x) x xs all)
-    ∙ ap (λ ys. g x ∷ ys) (maps_agree f g xs (All-tail (λ x. f x ≡ g x) x xs all))
 
 pub tests_agree : {X : Type 0} (p q : X → Bool) (xs : List X) → All (λ x. p x ≡ q x) xs → list_any p xs ≡ list_any q xs
 tests_agree p q [] all = refl

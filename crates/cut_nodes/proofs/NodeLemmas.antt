@@ -1,16 +1,15 @@
 -- Nodes stay right where blocks are added, and which of them end stable.
-use Rattle.std.proofs.Common.{◌≡◌, inl, inr, ℕ, ◌+◌, ◌≤◌, ◌||◌, ◌&&◌, Bool, true, false, List, [], ◌∷◌, ◌++◌, map}
+use Rattle.std.proofs.Common.{◌≡◌, inl, inr, ℕ, ◌+◌, ◌≤◌, Bool, true, false, List, [], ◌∷◌, ◌++◌, map}
 use Rattle.std.proofs.Common.{filter, length, nat_le, ap, sym, subst, ◌∙◌, arith}
 use Rattle.std.proofs.lemmas.List.{map-append, length-map}
 use Rattle.std.specs.List.{All, list_any, range_with_len}
 use Rattle.std.proofs.lemmas.Bool.{cases_Bool, leb-true, le-leb}
 use Rattle.std.proofs.lemmas.List.Elements.{All-push, All-weaker}
 use Rattle.std.proofs.lemmas.List.Sums.{length-filter}
-use Rattle.std.proofs.Math.Bool.{or-false}
 use Rattle.cut_lists.proofs.Maps.{list_any-map}
 use Rattle.cut_lists.proofs.Ranges.{filter_more_kept, filter_more_skipped, count_by_agree}
 use Rattle.cut_rings.specs.Edges.{EdgeSet, edge_to, rings_to}
-use Rattle.cut_rings.specs.Layout.{Layout, observer_of}
+use Rattle.cut_rings.specs.Layout.{Layout}
 use Rattle.cut_detector.specs.Rule.{Rule}
 use Rattle.cut_detector.specs.Counts.{full_count, reports_of}
 unfoldable use Rattle.cut_detector.specs.Counts.{is_full, is_reported, is_stable, is_some_stable}
@@ -23,6 +22,7 @@ use Rattle.cut_nodes.specs.inside.Reported.{alerts_of, rule_of_reported, HasList
 use Rattle.cut_nodes.proofs.ListLemmas.{tests_agree, list_any-filter}
 use Rattle.cut_nodes.proofs.SlotLemmas.{slots_kept}
 use Rattle.cut_nodes.proofs.CauseLemmas.{causes_in_kept, within_kept}
+use Rattle.cut_detector.proofs.Modes.{is_full-unreported}
 
 node_kept : (r : Layout) (rule : Rule) (E : EdgeSet) (old new subjects : List ℕ) (m : ℕ) (d : Node)
     → Extends old m new → IsNode r rule E old subjects d → IsNode r rule E new subjects d
@@ -64,19 +64,8 @@ listed_skip t s blocks nodes none listed = record {
 
 -- ---- which end stable
 
-full_unreported : (r : Layout) (rule : Rule) (E : EdgeSet) (ring s : ℕ) → is_reported rule E s ≡ false
-    → is_full r rule E ring s ≡ E ring s
-unfolding is_full
-full_unreported r rule E ring s none =
-    ap (λ b. E ring s || b) (no_gain rule.implicit (is_reported rule E s)
-    (is_reported rule E (observer_of r ring s)) none)
-    ∙ or-false (E ring s)
-  where
-    no_gain : (i x y : Bool) → x ≡ false → i && x && y ≡ false
-    no_gain i x y e = grind arith
-
 -- a process is stable only where it is reported
-stable_reported : (r : Layout) (rule : Rule) (E : EdgeSet) (s : ℕ) → rule.l ≤ rule.h → is_stable r rule E s ≡ true
+pub stable_reported : (r : Layout) (rule : Rule) (E : EdgeSet) (s : ℕ) → rule.l ≤ rule.h → is_stable r rule E s ≡ true
     → is_reported rule E s ≡ true
 unfolding is_stable is_reported
 stable_reported r rule E s order is = elim (cases_Bool (is_reported rule E s)) [
@@ -84,7 +73,7 @@ stable_reported r rule E s order is = elim (cases_Bool (is_reported rule E s)) [
   | inr none ↦ (
       let same : full_count r rule E s ≡ reports_of rule E s =
       count_by_agree (λ ring. is_full r rule E ring s) (λ ring. E ring s) 0 rule.k
-      (record { same = λ ring _ _. full_unreported r rule E ring s none }) in
+      (record { same = λ ring _ _. is_full-unreported r rule E ring s none }) in
       let many : rule.h ≤ full_count r rule E s = leb-true rule.h (full_count r rule E s) is in
       le-leb rule.l (reports_of rule E s) (omega arith))
 ]

@@ -1,16 +1,13 @@
 -- Slots stay right where blocks are added.
-use Rattle.std.proofs.Common.{◌≡◌, ℕ, ◌+◌, ◌<◌, List, [], ◌∷◌, ◌++◌, map, length, refl, ap, sym, ◌∙◌, arith}
+use Rattle.std.proofs.Common.{◌≡◌, ℕ, ◌+◌, ◌<◌, List, [], ◌∷◌, ◌++◌, map, length, ap, sym, ◌∙◌, arith}
 use Rattle.std.proofs.lemmas.List.{map-append}
-use Rattle.std.proofs.lemmas.List.Elements.{All-push, All-nil, All-weaker}
+use Rattle.std.proofs.lemmas.List.Elements.{All-push, All-weaker}
 use Rattle.cut_rings.specs.declared.edge.Edge.{Edge}
 use Rattle.cut_rings.specs.Edges.{edge_number}
 use Rattle.cut_nodes.specs.declared.slots.Slot.{Slot}
 use Rattle.cut_nodes.specs.Slots.{key_of, key_in, AreSlots}
 use Rattle.cut_nodes.specs.inside.Slots.{IsSlot, Extends}
-use Rattle.cut_nodes.proofs.ListLemmas.{maps_agree}
-
-pub extends_none : (xs : List ℕ) → Extends xs 0 xs
-extends_none xs = record { long = omega arith; kept = λ i low. refl; few = omega arith; small = λ all. all }
+use Rattle.cut_lists.proofs.Maps.{maps_agree}
 
 pub extends_more : (xs ys zs : List ℕ) (m n : ℕ) → Extends xs m ys → Extends ys n zs → Extends xs (m + n) zs
 extends_more xs ys zs m n first second = record {
@@ -34,14 +31,6 @@ slots_kept k old new m edges slots extends are = record {
   within = All-weaker (λ slot. slot.block < length old) (λ slot. slot.block < length new)
       (λ slot low. omega (arith, extends.long)) slots are.within;
   eight = are.eight;
-}
-
--- no slots of no edges
-pub no_slots : (k : ℕ) (blocks : List ℕ) → AreSlots k blocks [] []
-no_slots k blocks = record {
-  keys = refl;
-  within = All-nil (λ slot. slot.block < length blocks);
-  eight = All-nil (λ slot. slot.key < 8);
 }
 
 -- one more slot

@@ -25,8 +25,8 @@ use Rattle.std.proofs.Math.Bool.{or-false}
 use Rattle.cut_lists.proofs.Pigeonhole.{pigeonhole}
 use Rattle.cut_lists.proofs.Ranges.{Contains-filter_of, count_by_agree, range-rises}
 use Rattle.cut_lists.proofs.Ranks.{rank-less}
-use Rattle.cut_plan.specs.declared.version.Version.TheVariants.{Two}
-use Rattle.cut_plan.specs.Versions.{version_of}
+use Rattle.cut_fields.specs.declared.version.Version.TheVariants.{Two}
+use Rattle.cut_plan.specs.Failing.{version_of}
 use Rattle.cut_outcome.proofs.Outcomes.{edges_in, proposed_in, settled_from}
 
 -- ---- as many rings as deliveries

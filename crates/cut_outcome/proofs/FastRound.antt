@@ -22,7 +22,7 @@ use Rattle.cut_lists.proofs.Greatest.{fold_max-le, le-fold_max, get_or-le-fold_m
 
 -- ---- votes
 
-same_is : (xs ys : List ℕ) → same_members xs ys ≡ true → xs ≡ ys
+pub same_is : (xs ys : List ℕ) → same_members xs ys ≡ true → xs ≡ ys
 same_is xs ys h = same_text xs ys (sym h)
 
 pub quorums_agree : (n : ℕ) (cast : List (List ℕ)) (a b : List ℕ) → 1 ≤ n → length cast ≤ n

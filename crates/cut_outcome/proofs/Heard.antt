@@ -16,7 +16,7 @@ use Rattle.cut_lists.proofs.Ranks.{rank-below}
 
 -- ---- the alerted edges
 
-among_all : (k n ring s : ℕ) → ring < k → s < n → set_of (all_edges k n) ring s ≡ true
+pub among_all : (k n ring s : ℕ) → ring < k → s < n → set_of (all_edges k n) ring s ≡ true
 among_all k n ring s below process =
     list_any-flat_map (λ e. is_edge ring s e) (λ q. edges_of k q) (range_with_len 0 n)
     ∙ list_any_passing (λ q. list_any (λ e. is_edge ring s e) (edges_of k q)) 0 n s
@@ -27,7 +27,7 @@ among_all k n ring s below process =
     (and_from _ _ (eq-eqb ring ring refl) (eq-eqb s s refl)))
 
 -- an edge is listed where it is one of those rings and processes, and its observer raises the alert
-listed : (r : Layout) (a : Assignment) (k ring s : ℕ)
+pub listed : (r : Layout) (a : Assignment) (k ring s : ℕ)
     → set_of (alert_list r a k) ring s
     ≡ (alerts_about a (observer_of r ring s) s && set_of (all_edges k r.nodes) ring s)
 listed r a k ring s =

@@ -20,9 +20,9 @@ use Rattle.cut_outcome.proofs.FastRound.{byte_of, cast_or_silent, few_cast, few_
 use Rattle.cut_outcome.proofs.FastRound.{one_if-le, quorum_of_votes}
 use Rattle.cut_outcome.proofs.Places.{IsPlacedBy, few_deliveries, placed, places_from, places_within, settled_by}
 use Rattle.cut_outcome.proofs.Roles.{receivers_are_the_rest}
-use Rattle.cut_plan.specs.declared.version.Version.{Version}
-use Rattle.cut_plan.specs.declared.version.Version.TheVariants.{One, Two}
-use Rattle.cut_plan.specs.Versions.{version_of}
+use Rattle.cut_fields.specs.declared.version.Version.{Version}
+use Rattle.cut_fields.specs.declared.version.Version.TheVariants.{One, Two}
+use Rattle.cut_plan.specs.Failing.{version_of}
 
 -- ---- the parts of a trial
 

@@ -13,8 +13,8 @@ use Rattle.std.proofs.lemmas.List.FromFn.{length-range_with_len, length-map-rang
 use Rattle.std.proofs.lemmas.List.Sums.{count_by-le-length, length-filter, sum_by-cons, sum_by-le}
 use Rattle.std.proofs.lemmas.Nat.{mul-le}
 use Rattle.cut_lists.proofs.Ranges.{All-range_with_len}
-use Rattle.cut_plan.specs.declared.version.Version.{Version}
-use Rattle.cut_plan.specs.declared.version.Version.TheVariants.{One, Two}
+use Rattle.cut_fields.specs.declared.version.Version.{Version}
+use Rattle.cut_fields.specs.declared.version.Version.TheVariants.{One, Two}
 
 -- ---- how many deliveries there are
 

@@ -11,7 +11,7 @@ use Rattle.cut_lists.proofs.Ranges.{range_with_len_more, ranges-join, All-range_
 use Rattle.cut_outcome.proofs.Outcomes.{by_votes, possible_outcome}
 use Rattle.cut_outcome.proofs.Pieces.{piece_facts}
 use Rattle.cut_outcome.proofs.Places.{none_settled, settled_few, settled_more}
-use Rattle.cut_plan.specs.Versions.{version_of}
+use Rattle.cut_plan.specs.Failing.{version_of}
 
 same_numbers : (f g : (Totals → ℕ) → ℕ) → ((x : Totals → ℕ) → f x ≡ g x) → each_number f ≡ each_number g
 same_numbers f g same = ap (λ (h : (Totals → ℕ) → ℕ). each_number h) (λ i x. same x i)

@@ -29,7 +29,7 @@ keep_outcomes combinations as_many alike v t plan inside =
     ap (λ a. without_settled (totals_of v c a (proposals_of v c r d a))) roles
 
 -- what is the same of each element adds up to the same
-same_sums : (f g : ℕ → ℕ) (ts : List ℕ) → All (λ t. f t ≡ g t) ts → sum_by f ts ≡ sum_by g ts
+pub same_sums : (f g : ℕ → ℕ) (ts : List ℕ) → All (λ t. f t ≡ g t) ts → sum_by f ts ≡ sum_by g ts
 same_sums f g [] same = refl
 same_sums f g (t ∷ ts) same =
     omega (

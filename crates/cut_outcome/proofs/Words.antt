@@ -41,4 +41,3 @@ unfoldable pub use Rattle.cut_outcome.specs.Outcome.{outcome}
 pub use Rattle.cut_outcome.specs.Sum.{IsAtMost, each_number, is_piece, plus, sum_of, trials_in, without_settled}
 pub use Rattle.cut_outcome.specs.Possible.{ArePossible, IsSettledBy}
 pub use Rattle.cut_outcome.specs.Laws.{AreByVotes, AreMoreCautious, IsMoreCautious, LiesWithin, OnlyCrashes, with_marks}
-pub use Rattle.cut_outcome.specs.Computed.{Computed}

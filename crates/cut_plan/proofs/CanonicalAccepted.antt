@@ -6,21 +6,22 @@ use Rattle.std.specs.Bool.{⊤}
 use Rattle.std.specs.List.{AllByRecursion, list_all, find}
 use Rattle.serde_json.specs.Data.{Data, null, object}
 use Rattle.serde_json.specs.Find.{get, as_object}
-use Rattle.cut_plan.specs.declared.kind.Kind.{Kind}
-use Rattle.cut_plan.specs.declared.kind.Kind.TheVariants.{Number}
+use Rattle.cut_fields.specs.declared.kind.Kind.{Kind}
+use Rattle.cut_fields.specs.declared.kind.Kind.TheVariants.{Number}
 use Rattle.cut_plan.specs.declared.refusal.Refusal.{Refusal}
 use Rattle.cut_plan.specs.declared.refusal.Refusal.TheVariants.{MissingField, WrongKind, OutOfRange, NotRising}
-use Rattle.cut_plan.specs.declared.field.Field.{Field}
-use Rattle.cut_plan.specs.declared.version.Version.{Version}
-use Rattle.cut_plan.specs.declared.version.Version.TheVariants.{One, Two}
-use Rattle.cut_plan.specs.Versions.{version_of}
+use Rattle.cut_fields.specs.declared.field.Field.{Field}
+use Rattle.cut_fields.specs.declared.version.Version.{Version}
+use Rattle.cut_fields.specs.declared.version.Version.TheVariants.{One, Two}
+use Rattle.cut_plan.specs.Failing.{version_of}
 use Rattle.cut_plan.specs.Values.{Values}
 use Rattle.cut_plan.specs.Cells.{cells_of, largest}
 use Rattle.cut_plan.specs.Plan.{IsPlan, is_rising}
-use Rattle.cut_plan.specs.Fields.{name_of, kind_of, fields_of, is_of, numbers_in}
-use Rattle.cut_plan.specs.inside.Fields.{keys, is_named}
+use Rattle.cut_fields.specs.Fields.{name_of, kind_of, fields_of, is_of, numbers_in}
+use Rattle.cut_fields.specs.Members.{keys, is_named}
 use Rattle.cut_plan.specs.Accepted.{in_range, each, field_check, limit_check, plan_in}
-use Rattle.cut_plan.specs.inside.Accepted.{is_present, is_of_kind, is_in_range, rises_at, checks_by}
+use Rattle.cut_fields.specs.Members.{is_present, is_of_kind}
+use Rattle.cut_plan.specs.inside.Accepted.{is_in_range, rises_at, checks_by}
 use Rattle.cut_plan.specs.Canonical.{members_with}
 use Rattle.cut_plan.specs.inside.Look.{data_of}
 use Rattle.cut_plan.proofs.Versions.{has, all_own}

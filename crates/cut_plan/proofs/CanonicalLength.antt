@@ -2,14 +2,14 @@
 use Rattle.std.proofs.Common.{◌≡◌, ℕ, ◌+◌, ◌*◌, ◌≤◌, List, [], ◌∷◌, ◌++◌, Bool, true, false, refl, arith}
 use Rattle.json.specs.Print.{quoted}
 use Rattle.serde_json.specs.Written.{compact_text, members_text, comma_if}
-use Rattle.cut_plan.specs.declared.field.Field.{Field}
-use Rattle.cut_plan.specs.declared.field.Field.TheVariants as field
-use Rattle.cut_plan.specs.declared.version.Version.{Version}
-use Rattle.cut_plan.specs.declared.version.Version.TheVariants.{One, Two}
-use Rattle.cut_plan.specs.Versions.{version_of}
+use Rattle.cut_fields.specs.declared.field.Field.{Field}
+use Rattle.cut_fields.specs.declared.field.Field.TheVariants as field
+use Rattle.cut_fields.specs.declared.version.Version.{Version}
+use Rattle.cut_fields.specs.declared.version.Version.TheVariants.{One, Two}
+use Rattle.cut_plan.specs.Failing.{version_of}
 use Rattle.cut_plan.specs.Values.{Values}
 use Rattle.cut_plan.specs.Plan.{IsPlan}
-use Rattle.cut_plan.specs.Fields.{name_of, kind_of, fields_of}
+use Rattle.cut_fields.specs.Fields.{name_of, kind_of, fields_of}
 use Rattle.cut_plan.specs.Canonical.{said, members_with, canonical_text}
 use Rattle.cut_plan.proofs.Plain.{IsPlain, plain_more, plain_both, is_plain, plain_tested, plain_comma, plain_quoted}
 use Rattle.cut_plan.proofs.Tame.{most_in, AreTame, all_tame}

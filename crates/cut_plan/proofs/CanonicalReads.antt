@@ -11,11 +11,11 @@ use Rattle.serde_json.specs.Data.{Data, Members, no_members, object, put}
 use Rattle.serde_json.specs.Read.{of_json, of_members, read}
 use Rattle.serde_json.specs.Written.{outline, members_outline}
 use Rattle.serde_json.proofs.Texts.{print-outline}
-use Rattle.cut_plan.specs.declared.field.Field.{Field}
-use Rattle.cut_plan.specs.Versions.{version_of}
+use Rattle.cut_fields.specs.declared.field.Field.{Field}
+use Rattle.cut_plan.specs.Failing.{version_of}
 use Rattle.cut_plan.specs.Values.{Values}
 use Rattle.cut_plan.specs.Plan.{IsPlan}
-use Rattle.cut_plan.specs.Fields.{name_of, fields_of}
+use Rattle.cut_fields.specs.Fields.{name_of, fields_of}
 use Rattle.cut_plan.specs.Canonical.{said, members_with, canonical_text}
 use Rattle.cut_plan.specs.inside.Look.{data_of}
 use Rattle.cut_plan.proofs.Tame.{AreTame, all_tame}

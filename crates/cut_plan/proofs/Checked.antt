@@ -1,18 +1,19 @@
 -- What the checks on an object's fields show.
-use Rattle.std.proofs.Common.{◌≡◌, ℕ, zero, suc, ◌≤◌, ◌<◌, ◌&&◌, List, [], ◌∷◌, Bool, true, false, not, nat_lt, nat_le}
-use Rattle.std.proofs.Common.{Option, None, Some, Result, Ok, Err, if◌then◌else◌, get_or, refl, arith}
+use Rattle.std.proofs.Common.{◌≡◌, ℕ, ◌≤◌, ◌<◌, ◌&&◌, List, [], ◌∷◌, Bool, true, false, not, nat_lt, nat_le}
+use Rattle.std.proofs.Common.{Option, None, Some, Result, Ok, Err, if◌then◌else◌, refl, arith}
 use Rattle.std.proofs.lemmas.Bool.{and_parts, ltb-true, leb-true, lt-ltb}
 use Rattle.std.specs.List.{AllByRecursion, list_all, find}
 use Rattle.std.specs.Option.{option_map_or}
 use Rattle.serde_json.specs.Data.{Data}
 use Rattle.cut_plan.specs.declared.refusal.Refusal.{Refusal}
-use Rattle.cut_plan.specs.declared.field.Field.{Field}
-use Rattle.cut_plan.specs.declared.field.Field.TheVariants.{F, H, K, L, Nodes}
-use Rattle.cut_plan.specs.declared.version.Version.{Version}
-use Rattle.cut_plan.specs.Fields.{fields_of}
-use Rattle.cut_plan.specs.inside.Fields.{number_at, numbers_at}
+use Rattle.cut_fields.specs.declared.field.Field.{Field}
+use Rattle.cut_fields.specs.declared.field.Field.TheVariants.{F, H, K, L, Nodes}
+use Rattle.cut_fields.specs.declared.version.Version.{Version}
+use Rattle.cut_fields.specs.Fields.{fields_of}
+use Rattle.cut_fields.specs.Members.{number_at, numbers_at}
 use Rattle.cut_plan.specs.Accepted.{is_in_scale, wanted, each, field_check}
-use Rattle.cut_plan.specs.inside.Accepted.{is_present, is_of_kind, is_in_range, has_some, rises_at, version_in}
+use Rattle.cut_fields.specs.Members.{is_present, is_of_kind, version_in}
+use Rattle.cut_plan.specs.inside.Accepted.{is_in_range, has_some, rises_at}
 use Rattle.cut_plan.specs.inside.Accepted.{checks_by}
 use Rattle.cut_plan.specs.Plan.{is_within}
 use Rattle.cut_plan.specs.inside.Look.{AreBelow}
@@ -92,11 +93,6 @@ pub failed_shorts : (bound : ℕ) (xs : List ℕ) → bound ≤ 2048 → (has_so
 failed_shorts bound xs few h =
     widened (λ f. nat_lt f bound) 65536 (λ x e. let lt = ltb-true x bound e in omega arith) xs
     (and_parts (has_some xs) (list_all (λ f. nat_lt f bound) xs) h).1
-
-pub below_at : (bound : ℕ) (xs : List ℕ) (i : ℕ) → 0 < bound → AreBelow bound xs → get_or xs i 0 < bound
-below_at bound [] i some h = some
-below_at bound (x ∷ xs) zero some h = ltb-true x bound (and_parts (nat_lt x bound) _ h).0
-below_at bound (x ∷ xs) (suc i) some h = below_at bound xs i some (and_parts (nat_lt x bound) _ h).1
 
 pub few_nodes : (d : Data) → field_check d ≡ Ok tt → (2 ≤ number_at d Nodes) × (number_at d Nodes ≤ 2048)
 few_nodes d h = within_bounds 2 2048 (number_at d Nodes) ((checked_facts d h).ranges Nodes refl)

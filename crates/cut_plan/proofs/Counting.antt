@@ -32,7 +32,7 @@ under_and : (a b : Bool) → b ≡ true → (a && b) ≡ a
 under_and true b e = e
 under_and false b e = refl
 
-over_and : (a b : Bool) → b ≡ false → (a && b) ≡ false
+pub over_and : (a b : Bool) → b ≡ false → (a && b) ≡ false
 over_and true b e = e
 over_and false b e = refl
 

@@ -1,7 +1,6 @@
 pub mod Every
 pub mod CellFacts
 pub mod Versions
-pub mod Looking
 pub mod Rising
 pub mod Checked
 pub mod Counting

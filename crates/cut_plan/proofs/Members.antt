@@ -4,22 +4,25 @@ use Rattle.std.proofs.lemmas.Bool.{and_parts, ltb-true}
 use Rattle.std.specs.List.{list_all}
 use Rattle.hex.specs.Hex.{decode_sized, encode_lower, IsBytes}
 use Rattle.hex.proofs.HexLemmas.{decode_sized-encode_lower}
-use Rattle.cut_plan.specs.declared.field.Field.{Field}
-use Rattle.cut_plan.specs.declared.field.Field.TheVariants as field
+use Rattle.cut_fields.specs.declared.field.Field.{Field}
+use Rattle.cut_fields.specs.declared.field.Field.TheVariants as field
 use Rattle.cut_plan.specs.declared.dead.Dead.{Dead}
 use Rattle.cut_plan.specs.declared.dead.Dead.TheVariants.{Silent, Speak}
 use Rattle.cut_plan.specs.declared.faults.Faults.{Faults}
 use Rattle.cut_plan.specs.declared.faults.Faults.TheVariants.{Crash, Deaf}
 use Rattle.cut_plan.specs.declared.failing.Failing.{Failing}
 use Rattle.cut_plan.specs.declared.failing.Failing.TheVariants.{Alike, Mixed}
-use Rattle.cut_plan.specs.Versions.{version_by, version_of}
+use Rattle.cut_fields.specs.Versions.{version_by}
+use Rattle.cut_plan.specs.Failing.{version_of}
 use Rattle.cut_plan.specs.Values.{Values}
 use Rattle.cut_plan.specs.Plan.{IsPlan}
 use Rattle.cut_plan.specs.Words.{dead_of, faults_of, dead_word, faults_word}
-use Rattle.cut_plan.specs.Fields.{fields_of, member_at, number_in, numbers_in}
+use Rattle.cut_fields.specs.Fields.{fields_of, member_at, number_in, numbers_in}
 use Rattle.cut_plan.specs.Accepted.{values_at}
-use Rattle.cut_plan.specs.inside.Accepted.{version_in, values_in}
-use Rattle.cut_plan.specs.Canonical.{numbers_data, said}
+use Rattle.cut_fields.specs.Members.{version_in}
+use Rattle.cut_plan.specs.inside.Accepted.{values_in}
+use Rattle.cut_fields.specs.Fields.{numbers_data}
+use Rattle.cut_plan.specs.Canonical.{said}
 use Rattle.cut_plan.specs.inside.Look.{data_of}
 use Rattle.cut_plan.proofs.Versions.{version_shown}
 

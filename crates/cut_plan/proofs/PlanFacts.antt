@@ -9,19 +9,20 @@ use Rattle.hex.specs.Hex.{decode_sized, IsBytes}
 use Rattle.hex.specs.declared.error.FromHexError.{FromHexError}
 use Rattle.hex.proofs.HexLemmas.{decode_sized-ok, decode_sized-twice, decode_of-ok}
 use Rattle.serde_json.specs.Data.{Data}
-use Rattle.cut_plan.specs.declared.field.Field.{Field}
-use Rattle.cut_plan.specs.declared.field.Field.TheVariants.{Copies, Deaf, F, Faults, H, K, L, Liars, Links, Nodes}
-use Rattle.cut_plan.specs.declared.field.Field.TheVariants.{Repeats, Seed, Version}
+use Rattle.cut_fields.specs.declared.field.Field.{Field}
+use Rattle.cut_fields.specs.declared.field.Field.TheVariants.{Copies, Deaf, F, Faults, H, K, L, Liars, Links, Nodes}
+use Rattle.cut_fields.specs.declared.field.Field.TheVariants.{Repeats, Seed, Version}
 use Rattle.cut_plan.specs.declared.faults.Faults.TheVariants.{Crash}
 use Rattle.cut_plan.specs.declared.failing.Failing.TheVariants.{Alike, Mixed}
-use Rattle.cut_plan.specs.declared.version.Version as format
-use Rattle.cut_plan.specs.declared.version.Version.TheVariants.{One, Two}
-use Rattle.cut_plan.specs.Versions.{deaf_in}
+use Rattle.cut_fields.specs.declared.version.Version as format
+use Rattle.cut_fields.specs.declared.version.Version.TheVariants.{One, Two}
+use Rattle.cut_plan.specs.Failing.{deaf_in}
 use Rattle.cut_plan.specs.Words.{faults_of}
-use Rattle.cut_plan.specs.Fields.{member_at, number_in, text_in}
-use Rattle.cut_plan.specs.inside.Fields.{number_at, numbers_at, text_at}
+use Rattle.cut_fields.specs.Fields.{member_at, number_in, text_in}
+use Rattle.cut_fields.specs.Members.{number_at, numbers_at, text_at}
 use Rattle.cut_plan.specs.Accepted.{is_in_scale, field_check, limit_check}
-use Rattle.cut_plan.specs.inside.Accepted.{has_some, limits, failing_by, values_in, version_in}
+use Rattle.cut_plan.specs.inside.Accepted.{has_some, limits, failing_by, values_in}
+use Rattle.cut_fields.specs.Members.{version_in}
 use Rattle.cut_plan.specs.Cells.{cells_of, largest}
 use Rattle.cut_plan.specs.Values.{Values}
 use Rattle.cut_plan.specs.Plan.{is_within, is_rising, IsScale, IsPlan}

@@ -1,15 +1,15 @@
 -- Tests on lists of numbers, place by place.
-use Rattle.std.proofs.Common.{◌≡◌, ℕ, zero, suc, ◌≤◌, ◌<◌, ◌==◌, ◌&&◌, List, [], ◌∷◌, length, drop, get_or, Bool, true}
-use Rattle.std.proofs.Common.{false, nat_lt, refl, sym, ap, ◌∙◌, arith}
+use Rattle.std.proofs.Common.{◌≡◌, ℕ, zero, suc, ◌≤◌, ◌<◌, ◌==◌, ◌&&◌, List, [], ◌∷◌, length, drop, Bool, true}
+use Rattle.std.proofs.Common.{false, refl, sym, ap, ◌∙◌, arith}
 use Rattle.std.proofs.lemmas.Bool.{lt-ltb, true≢false}
 use Rattle.std.proofs.lemmas.List.Folds.{list_all-map}
 use Rattle.std.specs.List.{list_all}
 use Rattle.serde_json.specs.View.{view}
 use Rattle.serde_json.specs.declared.value.Value.{Value}
-use Rattle.cut_plan.specs.Fields.{number_in}
+use Rattle.cut_fields.specs.Fields.{number_in}
 use Rattle.cut_plan.specs.inside.Accepted.{has_some}
 use Rattle.cut_plan.specs.Plan.{is_rising}
-use Rattle.cut_plan.specs.inside.Look.{item_numbers}
+use Rattle.cut_fields.specs.Members.{item_numbers}
 
 both_tests : (b r s : Bool) → b ≡ true → r ≡ s → r ≡ (b && s)
 both_tests true r s h e = e
@@ -35,20 +35,6 @@ pub numbers_pass : (p : ℕ → Bool) (xs : List Value) (r e : Bool) → e ≡ (
 numbers_pass p xs r e is some all =
     both_tests (has_some (item_numbers xs)) r (list_all p (item_numbers xs)) (some_numbers xs (sym is ∙ some))
     (all ∙ sym (list_all-map p (λ v. number_in (view v)) xs))
-
-pub number_at_place : (xs : List Value) (i : ℕ) (d : Value) → i < length xs → get_or (item_numbers xs) i 0
-    ≡ number_in (view (get_or xs i d))
-number_at_place [] i d h = absurd (omega arith)
-number_at_place (x ∷ xs) zero d h = refl
-number_at_place (x ∷ xs) (suc i) d h = number_at_place xs i d (omega arith)
-
--- whether a list rises from a place on is whether it does at that place, and from the next on
-pub rising_step : (xs : List ℕ) (j : ℕ) → suc j < length xs → is_rising (drop j xs)
-    ≡ (nat_lt (get_or xs j 0) (get_or xs (suc j) 0) && is_rising (drop (suc j) xs))
-rising_step [] j h = absurd (omega arith)
-rising_step (x ∷ []) j h = absurd (omega arith)
-rising_step (x ∷ y ∷ rest) zero h = refl
-rising_step (x ∷ y ∷ rest) (suc j) h = rising_step (y ∷ rest) j (omega arith)
 
 -- a list rises from its last place on
 pub rising_end : (xs : List ℕ) (j : ℕ) → length xs ≤ suc j → is_rising (drop j xs) ≡ true

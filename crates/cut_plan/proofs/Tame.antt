@@ -10,26 +10,28 @@ use Rattle.serde_json.specs.Read.{of_json, of_items}
 use Rattle.serde_json.specs.Written.{outline, items_outline, compact_text, has_float, items_have_float}
 use Rattle.serde_json.proofs.Numbers.{number_of-decimal}
 use Rattle.hex.specs.Hex.{encode_lower}
-use Rattle.cut_plan.specs.declared.kind.Kind.{Kind}
-use Rattle.cut_plan.specs.declared.kind.Kind.TheVariants.{Number, Numbers, Text, Truth}
-use Rattle.cut_plan.specs.declared.field.Field.{Field}
-use Rattle.cut_plan.specs.declared.field.Field.TheVariants as field
+use Rattle.cut_fields.specs.declared.kind.Kind.{Kind}
+use Rattle.cut_fields.specs.declared.kind.Kind.TheVariants.{Number, Numbers, Text, Truth}
+use Rattle.cut_fields.specs.declared.field.Field.{Field}
+use Rattle.cut_fields.specs.declared.field.Field.TheVariants as field
 use Rattle.cut_plan.specs.declared.dead.Dead.{Dead}
 use Rattle.cut_plan.specs.declared.dead.Dead.TheVariants.{Silent, Speak}
 use Rattle.cut_plan.specs.declared.faults.Faults.TheVariants.{Crash, Deaf}
 use Rattle.cut_plan.specs.declared.failing.Failing.{Failing}
 use Rattle.cut_plan.specs.declared.failing.Failing.TheVariants.{Alike, Mixed}
-use Rattle.cut_plan.specs.declared.version.Version.{Version}
-use Rattle.cut_plan.specs.declared.version.Version.TheVariants.{One, Two}
-use Rattle.cut_plan.specs.Versions.{version_number, version_of, deaf_in}
+use Rattle.cut_fields.specs.declared.version.Version.{Version}
+use Rattle.cut_fields.specs.declared.version.Version.TheVariants.{One, Two}
+use Rattle.cut_fields.specs.Versions.{version_number}
+use Rattle.cut_plan.specs.Failing.{version_of, deaf_in}
 use Rattle.cut_plan.specs.Values.{Values}
 use Rattle.cut_plan.specs.Plan.{IsPlan, IsScale, is_within, is_rising}
 use Rattle.cut_plan.specs.Words.{dead_word, faults_word, faults_of}
-use Rattle.cut_plan.specs.Fields.{list_of_items, whole_number, fields_of, kind_of, is_of, number_in, numbers_in}
-use Rattle.cut_plan.specs.Fields.{text_in}
+use Rattle.cut_fields.specs.Fields.{list_of_items, whole_number, fields_of, kind_of, is_of, number_in, numbers_in}
+use Rattle.cut_fields.specs.Fields.{text_in}
 use Rattle.cut_plan.specs.Accepted.{in_range, is_in_scale}
 use Rattle.cut_plan.specs.inside.Accepted.{has_some}
-use Rattle.cut_plan.specs.Canonical.{numbers_data, failing_data, said}
+use Rattle.cut_fields.specs.Fields.{numbers_data}
+use Rattle.cut_plan.specs.Canonical.{failing_data, said}
 use Rattle.cut_plan.proofs.Every.{every-list_all}
 use Rattle.cut_plan.proofs.Versions.{has, all_own}
 use Rattle.cut_plan.proofs.Checked.{within_bounds}

@@ -7,7 +7,7 @@ use Rattle.cut_plan.specs.declared.failing.Failing.TheVariants.{Alike, Mixed}
 use Rattle.cut_plan.specs.declared.faults.Faults.TheVariants.{Crash, Deaf}
 use Rattle.cut_plan.specs.Values.{Values}
 use Rattle.cut_plan.specs.Cells.{largest}
-use Rattle.cut_plan.specs.Versions.{deaf_in}
+use Rattle.cut_plan.specs.Failing.{deaf_in}
 use Rattle.cut_plan.specs.Targets.{deaf_among, deaf_of, most_deaf, upgraded}
 use Rattle.cut_plan.specs.Plan.{IsPlan}
 use Rattle.cut_plan.proofs.Every.{every-get_or, every_below_fold}

@@ -17,19 +17,19 @@ use Rattle.cut_plan.specs.declared.refusal.Refusal.{Refusal}
 use Rattle.cut_plan.specs.declared.refusal.Refusal.TheVariants.{NotJson, NotObject, UnknownField, MissingField}
 use Rattle.cut_plan.specs.declared.refusal.Refusal.TheVariants.{WrongKind, OutOfRange, NotRising, NoCell, TooManyFaults}
 use Rattle.cut_plan.specs.declared.refusal.Refusal.TheVariants.{TooManyTrials, PlanTooLong}
-use Rattle.cut_plan.specs.declared.field.Field.{Field}
-use Rattle.cut_plan.specs.declared.field.Field.TheVariants as field
+use Rattle.cut_fields.specs.declared.field.Field.{Field}
+use Rattle.cut_fields.specs.declared.field.Field.TheVariants as field
 use Rattle.cut_plan.specs.declared.dead.Dead.TheVariants.{Silent}
 use Rattle.cut_plan.specs.declared.faults.Faults.TheVariants.{Crash}
 use Rattle.cut_plan.specs.Words.{dead_of, faults_of}
 use Rattle.cut_plan.specs.declared.failing.Failing.TheVariants.{Alike, Mixed}
-use Rattle.cut_plan.specs.declared.version.Version.{Version}
-use Rattle.cut_plan.specs.Versions.{version_by}
+use Rattle.cut_fields.specs.declared.version.Version.{Version}
+use Rattle.cut_fields.specs.Versions.{version_by}
 use Rattle.cut_plan.specs.Values.{Values}
 use Rattle.cut_plan.specs.Cells.{cells_of, largest}
 use Rattle.cut_plan.specs.Plan.{is_within, is_rising}
-use Rattle.cut_plan.specs.Fields.{name_of, fields_of, kind_of, keys_of_members, is_of, member_at, number_in, numbers_in}
-use Rattle.cut_plan.specs.Fields.{text_in}
+use Rattle.cut_fields.specs.Fields.{name_of, fields_of, kind_of, keys_of_members, is_of, member_at, number_in, numbers_in}
+use Rattle.cut_fields.specs.Fields.{text_in}
 
 -- ---- what is asked of each field
 

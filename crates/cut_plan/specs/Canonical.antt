@@ -1,24 +1,20 @@
 -- The one text of a plan: compact JSON, its keys in byte order, the seed in lower-case hexadecimal digits.
-use Rattle.std.specs.Prelude.{ℕ, List, [], ◌∷◌, map}
+use Rattle.std.specs.Prelude.{ℕ, List, [], ◌∷◌}
 use Rattle.hex.specs.Hex.{encode_lower}
-use Rattle.serde_json.specs.Data.{Data, null, boolean, number, string, array, object, unsigned}
+use Rattle.serde_json.specs.Data.{Data, null, boolean, number, string, object, unsigned}
 use Rattle.serde_json.specs.Data.{Members, no_members, member}
-use Rattle.serde_json.specs.View.{items_of}
 use Rattle.serde_json.specs.Written.{compact_text}
 use Rattle.cut_plan.specs.declared.failing.Failing.{Failing}
 use Rattle.cut_plan.specs.declared.failing.Failing.TheVariants.{Alike, Mixed}
-use Rattle.cut_plan.specs.declared.version.Version.{Version}
-use Rattle.cut_plan.specs.declared.version.Version.TheVariants.{One, Two}
-use Rattle.cut_plan.specs.declared.field.Field.{Field}
-use Rattle.cut_plan.specs.declared.field.Field.TheVariants as field
+use Rattle.cut_fields.specs.declared.version.Version.{Version}
+use Rattle.cut_fields.specs.declared.version.Version.TheVariants.{One, Two}
+use Rattle.cut_fields.specs.declared.field.Field.{Field}
+use Rattle.cut_fields.specs.declared.field.Field.TheVariants as field
 use Rattle.cut_plan.specs.Values.{Values}
 use Rattle.cut_plan.specs.Words.{dead_word, faults_word}
-use Rattle.cut_plan.specs.Versions.{version_number, version_of}
-use Rattle.cut_plan.specs.Fields.{name_of, fields_of}
-
--- numbers, as JSON
-abbrev pub numbers_data : List ℕ → Data
-numbers_data xs = array (items_of (map (λ x. number (unsigned x)) xs))
+use Rattle.cut_fields.specs.Versions.{version_number}
+use Rattle.cut_plan.specs.Failing.{version_of}
+use Rattle.cut_fields.specs.Fields.{name_of, fields_of, numbers_data}
 
 -- how targets fail, as JSON, in the field by which a version says it: null where the plan is of the other version
 abbrev pub failing_data : Version → Failing → Data

@@ -1,10 +1,9 @@
 pub mod Words
-pub mod Versions
+pub mod Failing
 pub mod Values
 pub mod Cells
 pub mod Targets
 pub mod Plan
-pub mod Fields
 pub mod Accepted
 pub mod Canonical
 pub mod Refusals

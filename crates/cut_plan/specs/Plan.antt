@@ -3,7 +3,7 @@ use Rattle.std.specs.Prelude.{◌≡◌, ℕ, ◌+◌, ◌≤◌, ◌<◌, ◌&&
 use Rattle.std.specs.Prelude.{unwrap_or}
 use Rattle.std.specs.List.{list_all}
 use Rattle.cut_plan.specs.declared.limits.TheConstants.{MOST_CELLS, MOST_COPIES, MOST_NODES, MOST_REPEATS, MOST_RINGS}
-use Rattle.cut_plan.specs.Versions.{deaf_in}
+use Rattle.cut_plan.specs.Failing.{deaf_in}
 use Rattle.cut_plan.specs.Values.{Values}
 use Rattle.cut_plan.specs.Cells.{cells_of, largest}
 

@@ -10,8 +10,8 @@ use Rattle.cut_plan.specs.declared.refusal.Refusal.TheVariants.{WrongKind, OutOf
 use Rattle.cut_plan.specs.declared.refusal.Refusal.TheVariants.{TooManyTrials, PlanTooLong}
 use Rattle.cut_plan.specs.declared.refusal.PlanFault.{PlanFault}
 use Rattle.cut_plan.specs.declared.refusal.PlanFault.TheVariants.{Memory, Refused}
-use Rattle.cut_plan.specs.declared.field.Field.{Field}
-use Rattle.cut_plan.specs.Fields.{name_of}
+use Rattle.cut_fields.specs.declared.field.Field.{Field}
+use Rattle.cut_fields.specs.Fields.{name_of}
 
 -- a refusal in the program's list of faults
 abbrev pub code_of_refusal : Refusal → FaultCode

@@ -1,8 +1,8 @@
 ghost use Rattle.std.specs.Prelude.{◌≡◌, IfOk};
 ghost use Rattle.serde_json.specs.View.{view};
-ghost use Rattle.cut_plan.specs.Versions.{version_of, faults_in, deaf_in};
+ghost use Rattle.cut_plan.specs.Failing.{version_of, faults_in, deaf_in};
 ghost use Rattle.cut_plan.specs.Canonical.{failing_data};
-ghost use Rattle.cut_plan.specs.declared.version.Version.TheVariants.{One, Two};
+ghost use Rattle.cut_fields.specs.declared.version.Version.TheVariants.{One, Two};
 
 use crate::{Faults, Version};
 use serde_json::Value;

@@ -3,26 +3,27 @@ ghost use Rattle.std.specs.Prelude.{◌≡◌, ◌&&◌, not, true, nat_lt, unwr
 ghost use Rattle.std.specs.List.{list_all, find};
 ghost use Rattle.cut_plan.specs.declared.limits.TheConstants.{MOST_RINGS};
 ghost use Rattle.serde_json.specs.View.{view};
-ghost use Rattle.cut_plan.specs.Fields.{fields_of, member_at, number_in};
-ghost use Rattle.cut_plan.specs.inside.Fields.{text_at};
+ghost use Rattle.cut_fields.specs.Fields.{fields_of, member_at, number_in};
+ghost use Rattle.cut_fields.specs.Members.{text_at};
 ghost use Rattle.cut_plan.specs.Accepted.{is_in_scale, field_check};
-ghost use Rattle.cut_plan.specs.inside.Accepted.{is_present, is_of_kind, has_some, is_in_range, rises_at};
-ghost use Rattle.cut_plan.specs.inside.Accepted.{version_in, checks_by, failing_by, IsChecked};
+ghost use Rattle.cut_fields.specs.Members.{is_present, is_of_kind};
+ghost use Rattle.cut_plan.specs.inside.Accepted.{has_some, is_in_range, rises_at};
+ghost use Rattle.cut_fields.specs.Members.{version_in};
+ghost use Rattle.cut_plan.specs.inside.Accepted.{checks_by, failing_by, IsChecked};
 ghost use Rattle.cut_plan.specs.Words.{dead_of, faults_of};
 ghost use Rattle.hex.specs.Hex.{decode_sized};
-ghost use Rattle.cut_plan.specs.declared.field.Field.TheVariants as field;
+ghost use Rattle.cut_fields.specs.declared.field.Field.TheVariants as field;
 ghost use Rattle.cut_plan.specs.declared.dead.Dead.TheVariants.{Silent};
 ghost use Rattle.cut_plan.specs.declared.faults.Faults.TheVariants.{Crash};
 ghost use Rattle.cut_plan.specs.Plan.{is_within, is_rising};
-ghost use Rattle.cut_plan.specs.inside.Look.{item_numbers};
+ghost use Rattle.cut_fields.specs.Members.{item_numbers};
 
-use crate::field::fields_of;
-use crate::json_object::{
-    has_only_fields, is_of_kind, is_present, items_at, number_at, number_in, number_or_zero,
-    text_at, version_in,
-};
 use crate::limits::{MOST_COPIES, MOST_NODES, MOST_REPEATS, MOST_RINGS};
 use crate::{Dead, Failing, Faults, Field, Refusal, Version};
+use cut_fields::{
+    fields_of, has_only_fields, is_of_kind, is_present, item_number, items_at, number_at,
+    number_in, text_at, version_in,
+};
 use hex::FromHex;
 use serde_json::Value;
 
@@ -150,7 +151,7 @@ fn are_below(items: &[Value], bound: u64) -> bool
 fn all_below(items: &[Value], bound: u64) -> bool
     ensures { result ≡ list_all (λ v. nat_lt (number_in (view v)) bound) items.now }
 {
-    items.iter().all(|item| number_or_zero(item) < bound)
+    items.iter().all(|item| number_in(item) < bound)
 }
 
 /// Whether there is some number, and each is 1 to 32.
@@ -166,7 +167,7 @@ fn all_in_scale(items: &[Value]) -> bool
 {
     items
         .iter()
-        .all(|item| is_within(1, MOST_RINGS, number_or_zero(item)))
+        .all(|item| is_within(1, MOST_RINGS, number_in(item)))
 }
 
 /// Whether each number is below the next.
@@ -174,7 +175,7 @@ fn are_rising(items: &[Value]) -> bool
     ensures { result ≡ is_rising (item_numbers items.now) }
 {
     for i in 1..items.len() {
-        if number_in(items, i - 1) >= number_in(items, i) {
+        if item_number(items, i - 1) >= item_number(items, i) {
             return false;
         }
     }

@@ -9,24 +9,19 @@ mod combinations;
 mod dead;
 mod failing;
 mod faults;
-mod field;
 mod field_checks;
-mod json_object;
-mod kind;
 mod laws;
 mod limits;
-mod number_lists;
 mod plan;
 mod plan_lists;
 mod plan_text;
 mod refusal;
-mod version;
 
 pub use cell::Cell;
+pub use cut_fields::{Field, Version};
 pub use dead::Dead;
 pub use failing::Failing;
 pub use faults::Faults;
-pub use field::Field;
 pub use laws::{
     accepted_texts_give_plans, canonical_text_reads_back, cells_are_the_combinations,
     plans_are_accepted, upgrades_fail_alike,
@@ -34,4 +29,3 @@ pub use laws::{
 pub use limits::{LONGEST_TEXT, MOST_CELLS, MOST_COPIES, MOST_NODES, MOST_REPEATS, MOST_RINGS};
 pub use plan::Plan;
 pub use refusal::{PlanFault, Refusal};
-pub use version::Version;

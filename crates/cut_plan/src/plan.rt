@@ -13,17 +13,15 @@ ghost use Rattle.cut_plan.specs.declared.refusal.Refusal.TheVariants.{NotJson, P
 ghost use Rattle.cut_plan.specs.Cells.{cells_of, largest, trial_count, IsCellOf};
 ghost use Rattle.cut_plan.specs.Plan.{IsPlan};
 ghost use Rattle.cut_plan.specs.Targets.{deaf_of, most_deaf, upgraded};
-ghost use Rattle.cut_plan.specs.Versions.{version_of, faults_in, deaf_in};
+ghost use Rattle.cut_plan.specs.Failing.{version_of, faults_in, deaf_in};
 
 use crate::combinations::combine;
-use crate::field::fields_of;
 use crate::field_checks::{dead_at, failing_at, seed_at};
-use crate::json_object::{number_at, truth_at};
 use crate::limits::LONGEST_TEXT;
-use crate::number_lists::{bytes_value, largest, shorts_value};
-use crate::plan_lists::{Lists, check_together, read_lists};
+use crate::plan_lists::{Lists, check_together, largest, read_lists};
 use crate::plan_text::read_text;
 use crate::{Cell, Dead, Failing, Faults, Field, PlanFault, Refusal, Version};
+use cut_fields::{bytes_value, fields_of, number_at, shorts_value, truth_at};
 use serde_json::{Map, Value};
 use std::alloc::{AllocError, Global};
 use std::marker::Model;

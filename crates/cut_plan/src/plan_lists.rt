@@ -3,14 +3,14 @@ ghost use Rattle.std.specs.Prelude.{◌≡◌, ◌<◌, ◌^◌, length, IfOk, O
 ghost use Rattle.serde_json.specs.View.{view};
 ghost use Rattle.cut_plan.specs.Accepted.{limit_check};
 ghost use Rattle.cut_plan.specs.inside.Accepted.{limits, values_in, IsChecked};
-ghost use Rattle.cut_plan.specs.Cells.{cells_of_lists};
-ghost use Rattle.cut_plan.specs.inside.Look.{item_numbers, AreBelow, AreListsOf, AreShort};
+ghost use Rattle.cut_plan.specs.Cells.{cells_of_lists, largest};
+ghost use Rattle.cut_fields.specs.Members.{item_numbers};
+ghost use Rattle.cut_plan.specs.inside.Look.{AreBelow, AreListsOf, AreShort};
 
 use crate::combinations::count_triples;
-use crate::json_object::{items_at, number_at, number_in};
 use crate::limits::MOST_CELLS;
-use crate::number_lists::largest;
 use crate::{Field, Refusal};
+use cut_fields::{item_number, items_at, number_at};
 use serde_json::Value;
 use std::alloc::{AllocError, Global};
 
@@ -43,7 +43,7 @@ fn bytes(alloc: Global, items: &[Value]) -> Result<Vec<u8>, AllocError>
 {
     let mut numbers = Vec::with_capacity(alloc, items.len())?;
     for i in 0..items.len() {
-        numbers.push(number_in(items, i) as u8)?;
+        numbers.push(item_number(items, i) as u8)?;
     }
     Ok(numbers)
 }
@@ -55,7 +55,7 @@ fn shorts(alloc: Global, items: &[Value]) -> Result<Vec<u16>, AllocError>
 {
     let mut numbers = Vec::with_capacity(alloc, items.len())?;
     for i in 0..items.len() {
-        numbers.push(number_in(items, i) as u16)?;
+        numbers.push(item_number(items, i) as u16)?;
     }
     Ok(numbers)
 }
@@ -98,4 +98,11 @@ fn check_limits(cells: u64, faults: u64, nodes: u64) -> Result<(), Refusal>
         return Err(Refusal::TooManyTrials);
     }
     Ok(())
+}
+
+/// The largest number of a list, 0 where it is empty.
+pub(crate) fn largest(numbers: &[u16]) -> u16
+    ensures { result ≡ largest numbers.now }
+{
+    numbers.iter().fold(0, |most, number| most.max(*number))
 }

@@ -1,25 +1,13 @@
 -- Lines that are printed one after the other.
-use Rattle.std.proofs.Common.{◌≡◌, ◌∙◌, ◌++◌, List, [], ◌∷◌, ℕ, Option, Some, None, refl, sym, ap, inl}
-use Rattle.std.proofs.Common.{append_assoc, append-nil}
+use Rattle.std.proofs.Common.{◌≡◌, ◌∙◌, ◌++◌, List, [], ◌∷◌, ℕ, sym, ap, inl}
+use Rattle.std.proofs.Common.{append-nil}
 use Rattle.std.specs.List.{flat_map}
 use Rattle.std.proofs.lemmas.List.Concat.{flat_map-append}
-use Rattle.cut_wires.specs.Log.{Traffic, Failed, WireLog, wrote}
+use Rattle.cut_wires.specs.Log.{WireLog, wrote}
 use Rattle.cut_progress.specs.declared.progress_line.ProgressLine.{ProgressLine}
 use Rattle.cut_progress.specs.Lines.{line_text}
 use Rattle.cut_progress.specs.Printed.{HasPrinted, with_lines}
-
-abbrev logged : Option Traffic → Failed → WireLog
-logged traffic failed = record { traffic = traffic; failed = failed }
-
-abbrev passed : List ℕ → Traffic → Traffic
-passed taken t = record { taken = taken; given = t.given; ends = t.ends }
-
-wrote_twice : (l : WireLog) (xs ys : List ℕ) → wrote (wrote l xs) ys ≡ wrote l (xs ++ ys)
-wrote_twice l xs ys = by l.traffic
-  where
-    by : (o : Option Traffic) → wrote (wrote (logged o l.failed) xs) ys ≡ wrote (logged o l.failed) (xs ++ ys)
-    by None = refl
-    by (Some t) = ap (λ (taken : List ℕ). logged (Some (passed taken t)) l.failed) (append_assoc t.taken xs ys)
+use Rattle.cut_wires.proofs.Logs.{wrote_twice}
 
 -- every line was written whole
 abbrev pub AreWhole : WireLog → WireLog → Type 0

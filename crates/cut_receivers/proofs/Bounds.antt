@@ -1,6 +1,6 @@
 -- Bounds of times, of nodes' values, and what agrees on all elements.
-use Rattle.std.proofs.Common.{◌≡◌, ◌∙◌, ℕ, suc, ◌≤◌, not, List, [], ◌∷◌, length, map, refl, ap, sym, inl, inr, arith}
-use Rattle.std.specs.List.{All, range_with_len}
+use Rattle.std.proofs.Common.{◌≡◌, ◌∙◌, ℕ, ◌≤◌, not, List, length, map, ap, sym, inl, inr, arith}
+use Rattle.std.specs.List.{range_with_len}
 use Rattle.std.proofs.lemmas.Bool.{cases_Bool}
 use Rattle.std.proofs.lemmas.List.{length-map}
 use Rattle.std.proofs.lemmas.List.FromFn.{length-range_with_len}
@@ -22,12 +22,6 @@ use Rattle.cut_nodes.specs.Slots.{key_in, key_of}
 use Rattle.cut_receivers.specs.declared.trial.Trial.{Trial}
 use Rattle.cut_receivers.specs.Heard.{hearing_of}
 use Rattle.cut_receivers.specs.inside.Times.{IsNodeOf}
-
-pub map_agree : {X Y : Type 0} (f g : X → Y) (xs : List X) → All (λ x. f x ≡ g x) xs → map f xs ≡ map g xs
-map_agree f g [] all = refl
-map_agree f g (x ∷ xs) all =
-    ap (λ y. y ∷ map f xs) (all 0 x (omega arith))
-    ∙ ap (λ ys. g x ∷ ys) (map_agree f g xs (λ k d low. all (suc k) d (omega arith)))
 
 -- ---- no time is after `never`
 

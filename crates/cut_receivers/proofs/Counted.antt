@@ -5,7 +5,7 @@ use Rattle.std.specs.List.{All, range_with_len}
 use Rattle.std.proofs.lemmas.Bool.{cases_Bool}
 use Rattle.std.proofs.lemmas.List.Elements.{All-filter, All-map}
 use Rattle.std.proofs.lemmas.List.Sorted.{IsPermutation-refl}
-use Rattle.cut_lists.proofs.Maps.{map-map}
+use Rattle.cut_lists.proofs.Maps.{map-map, maps_agree}
 use Rattle.cut_lists.proofs.Ranges.{All-range_with_len}
 use Rattle.cut_rings.specs.Edges.{set_of}
 use Rattle.cut_rings.specs.Layout.{observer_of}
@@ -24,7 +24,7 @@ use Rattle.cut_nodes.specs.Slots.{key_of}
 use Rattle.cut_receivers.specs.declared.trial.Trial.{Trial}
 use Rattle.cut_receivers.specs.Heard.{hearing_of}
 use Rattle.cut_receivers.specs.inside.Times.{IsNodeOf, image_if, time_if, time_of_cause}
-use Rattle.cut_receivers.proofs.Bounds.{map_agree, full_within, hears}
+use Rattle.cut_receivers.proofs.Bounds.{full_within, hears}
 
 -- what is known of images and full times
 pub record AreKnown : Type 0 where
@@ -86,7 +86,7 @@ counted_are known t d j is =
     sym (map-map (λ c. cause_in t.nodes.now.blocks.items (subjects_of t.nodes.now.nodes.items) c) time d.causes.items)
     ∙ ap (λ (cs : List (Option (ℕ × ℕ) × Option ℕ)). map time cs) is.node.causes
     ∙ map-map (λ ring. cause_of t.rings.now rule (set_of t.edges.now) s ring) time rings
-    ∙ map_agree of full rings
+    ∙ maps_agree of full rings
     (All-filter (λ ring. is_full t.rings.now rule (set_of t.edges.now) ring s) (λ ring. of ring ≡ full ring)
     (range_with_len 0 k)
     (All-range_with_len (λ ring. of ring ≡ full ring) 0 k (λ ring _ low. time_is known t j ring s (omega

@@ -8,7 +8,7 @@ use Rattle.std.proofs.lemmas.Bool.Decides.{nat_tests}
 use Rattle.std.proofs.lemmas.Grind.{flat_map-append}
 use Rattle.std.proofs.lemmas.List.{append-nil, length-map}
 use Rattle.std.proofs.lemmas.List.Sums.{count_by-le-length, count_by_more_no, count_by_more_yes, sum_by-cons}
-use Rattle.cut_lists.proofs.Maps.{count_by-map}
+use Rattle.cut_lists.proofs.Maps.{count_by-map, maps_agree}
 use Rattle.cut_lists.proofs.Ranges.{range_with_len_more}
 use Rattle.cut_rings.specs.declared.edge.Edge.{Edge}
 use Rattle.cut_draws.specs.declared.delivery.Delivery.{Delivery}
@@ -21,7 +21,6 @@ use Rattle.cut_arrivals.specs.Hearing.{Hearing, deliveries_of, image_of}
 use Rattle.cut_nodes.specs.declared.slots.Slot.{Slot}
 use Rattle.cut_nodes.specs.Slots.{AreSlots, key_in, key_of}
 use Rattle.cut_receivers.specs.inside.Places.{image_in}
-use Rattle.cut_receivers.proofs.Bounds.{map_agree}
 use Rattle.cut_receivers.proofs.Drawn.{image_drawn}
 
 -- of the first copies of all edges how many have an image below a bound
@@ -49,7 +48,7 @@ count_append p (x ∷ xs) ys =
 -- tests that agree on all elements
 count_agree : {X : Type 0} (p q : X → Bool) (xs : List X) → All (λ x. p x ≡ q x) xs → count_by p xs ≡ count_by q xs
 count_agree p q xs same =
-    sym (count_by-map (λ b. b) p xs) ∙ ap (λ (bs : List Bool). count_by (λ b. b) bs) (map_agree p q xs same)
+    sym (count_by-map (λ b. b) p xs) ∙ ap (λ (bs : List Bool). count_by (λ b. b) bs) (maps_agree p q xs same)
     ∙ count_by-map (λ b. b) q xs
 
 -- the image of a key of one copy

@@ -5,7 +5,7 @@ use Rattle.std.specs.List.{All, range_with_len}
 use Rattle.std.proofs.lemmas.List.Elements.{filter_passes, All-filter, All-map}
 use Rattle.std.specs.List.Sorted.{IsPermutation}
 use Rattle.std.proofs.lemmas.List.Sorted.{IsPermutation-refl}
-use Rattle.cut_lists.proofs.Maps.{map-map}
+use Rattle.cut_lists.proofs.Maps.{map-map, maps_agree}
 use Rattle.cut_lists.proofs.Ranges.{All-range_with_len, filter_agree_on, none_passing}
 use Rattle.cut_rings.specs.Edges.{set_of}
 use Rattle.cut_detector.specs.Rule.{rule_in}
@@ -22,7 +22,7 @@ use Rattle.cut_nodes.specs.Slots.{key_in, key_of}
 use Rattle.cut_receivers.specs.declared.trial.Trial.{Trial}
 use Rattle.cut_receivers.specs.Heard.{hearing_of}
 use Rattle.cut_receivers.specs.inside.Times.{IsNodeOf, image_of_key}
-use Rattle.cut_receivers.proofs.Bounds.{map_agree, image_within, hears}
+use Rattle.cut_receivers.proofs.Bounds.{image_within, hears}
 
 -- the values that are gathered in the lane of receiver j
 abbrev pub gathered : Trial → Node → ℕ → List ℕ
@@ -40,7 +40,7 @@ gathered_are least t d j is =
     ∙ ap (λ (ks : List (ℕ × ℕ)). map (λ key. image_of_key x key) ks) is.node.heard.keys
     ∙ map-map (λ e. key_of t.rule.k e) (λ key. image_of_key x key) (map (λ ring. edge_to d.subject ring) rings)
     ∙ map-map (λ ring. edge_to d.subject ring) (λ e. image_of_key x (key_of t.rule.k e)) rings
-    ∙ map_agree (λ ring. image_of_key x (key_of t.rule.k (edge_to d.subject ring)))
+    ∙ maps_agree (λ ring. image_of_key x (key_of t.rule.k (edge_to d.subject ring)))
     (λ ring. images_at x never ring d.subject) rings
     (λ k e low. sym (least x _ d.subject (filter_passes (λ ring. set_of t.edges.now ring d.subject)
     (range_with_len 0 t.rule.k) k e low)))
@@ -91,7 +91,7 @@ high_is least law ungained t d j v is none rank =
       moved = subst (λ (rings : List ℕ). IsPermutation rings (heard_rings t d)) (sym same) (IsPermutation-refl
           (heard_rings t d));
       values_are = gathered_are least t d j is
-          ∙ sym (map_agree (λ ring. full_time never t.rings.now rule (images_at x never) ring s)
+          ∙ sym (maps_agree (λ ring. full_time never t.rings.now rule (images_at x never) ring s)
           (λ ring. images_at x never ring s) (heard_rings t d)
           (All-filter heard (λ ring. full_time never t.rings.now rule
           (images_at x never) ring s ≡ images_at x never ring s) (range_with_len 0 k)

@@ -19,7 +19,7 @@ use Rattle.cut_receivers.specs.declared.images.Images.{Images}
 use Rattle.cut_receivers.specs.Heard.{hearing_of}
 use Rattle.cut_receivers.specs.inside.Times.{IsNodeOf, AreLows, AreHighsTo, hearing_in, subjects_in}
 use Rattle.cut_receivers.proofs.Bounds.{hears}
-use Rattle.cut_receivers.proofs.Choices.{value_lane, length_lane}
+use Rattle.cut_lanes.proofs.Insertions.{value_lane, length_lane}
 
 pub subject_at : (nodes : List Node) (u : ℕ) (d : Node) → u < length nodes
     → slice_index (subjects_of nodes) u ≡ (slice_index_or nodes u d).subject

@@ -16,9 +16,9 @@ use Rattle.cut_receivers.specs.Heard.{HasHeard}
 use Rattle.cut_receivers.specs.Findings.{has_bit}
 use Rattle.cut_receivers.specs.Places.{HasCountedPlaces}
 use Rattle.cut_receivers.proofs.Bounds.{high_within}
-use Rattle.cut_receivers.proofs.Choices.{length_lane}
 use Rattle.cut_receivers.proofs.Placed.{lane_long}
 use Rattle.cut_receivers.proofs.Judged.{closed, certain_of, high_at}
+use Rattle.cut_lanes.proofs.Insertions.{length_lane}
 
 -- no closing time is after `never`
 pub time_within : (x : Hearing) (subjects : List ℕ) (i : ℕ) (f : declared.Receivers) → HasHeard x subjects i f

@@ -1,7 +1,7 @@
 -- Who stands beside whom on a ring that is kept as an order and its inverse.
-use Rattle.std.proofs.Common.{suc, ◌≡◌, ℕ, ◌+◌, ◌%◌, ◌<◌, ◌≢◌, ◌⊎◌, ◌==◌, Bool, true, List, [], map, length, get_or}
+use Rattle.std.proofs.Common.{◌≡◌, ℕ, ◌+◌, ◌%◌, ◌<◌, ◌≢◌, ◌⊎◌, ◌==◌, Bool, true, List, [], map, length, get_or}
 use Rattle.std.proofs.Common.{slice_index_or, ap, sym, subst, ◌∙◌, inl, inr, arith}
-use Rattle.std.proofs.Math.Nat.{mod-eq_of_lt, mod_self, eq-or-lt_of_le}
+use Rattle.std.proofs.Math.Nat.{mod-eq_of_lt, mod_self}
 use Rattle.std.specs.List.{position_or_len, range_with_len}
 use Rattle.std.proofs.lemmas.List.FromFn.{fill_by_all}
 use Rattle.cut_rings.specs.Listed.{listed_position}
@@ -14,6 +14,7 @@ use Rattle.cut_rings.specs.declared.rings.Rings.TheInside.{Inside}
 use Rattle.cut_rings.specs.Layout.{Layout, IsLayout, positions_on, position_of, Observes, observer_of, subject_of}
 use Rattle.cut_rings.specs.inside.Inverse.{IsInverse}
 use Rattle.cut_rings.specs.inside.Inside.{layout_of, AreRings}
+use Rattle.cut_lists.proofs.Rounds.{next_one}
 
 -- the first place at which a test passes that it alone passes
 found_at : (test : ℕ → Bool) (xs : List ℕ) (i : ℕ) → i < length xs → test (get_or xs i 0) ≡ true
@@ -41,23 +42,6 @@ pub next_place : (n a b : ℕ) → a < n → IsNext n a b → (a + 1) % n ≡ b
 next_place n a b low (inl e) = rw e.0 (mod_self n ∙ sym e.1)
 next_place n a b low (inr e) = mod-eq_of_lt (omega arith) ∙ sym e.1
 
-next_of : (n a : ℕ) → a < n → IsNext n a ((a + 1) % n)
-next_of n a low = by (eq-or-lt_of_le low)
-  where
-    by : (suc a ≡ n) ⊎ (suc a < n) → IsNext n a ((a + 1) % n)
-    by (inl end) = let e : a + 1 ≡ n = omega arith in inl (e, rw e (mod_self n))
-    by (inr more) = inr (omega arith, mod-eq_of_lt (omega arith))
-
--- one place alone comes just before another
-one_before : (n a b : ℕ) → a < n → b < n → (a + 1) % n ≡ (b + 1) % n → a ≡ b
-one_before n a b a_in b_in same = by (next_of n a a_in) (next_of n b b_in)
-  where
-    by : IsNext n a ((a + 1) % n) → IsNext n b ((b + 1) % n) → a ≡ b
-    by (inl x) (inl y) = omega arith
-    by (inl x) (inr y) = absurd (omega arith)
-    by (inr x) (inl y) = absurd (omega arith)
-    by (inr x) (inr y) = omega arith
-
 -- o observes s, so each is the one that the look-up of the other gives
 pub record AreNeighbours (l : Layout) (ring o s : ℕ) : Type 0 where
   pub observer : o ≡ observer_of l ring s
@@ -77,7 +61,7 @@ neighbours l is ring o s ring_in o_in s_in observes =
           (λ p low t.
           let p_in : p < l.nodes = omega arith in
           is.distinct ring p o ring_in p_in o_in
-          (one_before l.nodes (place p) (place o) (is.in_range ring p ring_in p_in) (is.in_range ring o ring_in o_in)
+          (next_one l.nodes (place p) (place o) (is.in_range ring p ring_in p_in) (is.in_range ring o ring_in o_in)
           (eqb-true _ _ t ∙ sym observes))));
       subject =
           sym (found_at (λ q. (place o + 1) % l.nodes == q) (positions_on l ring) s (omega arith) (eq-eqb _ _ observes)

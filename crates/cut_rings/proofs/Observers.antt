@@ -10,7 +10,7 @@ use Rattle.cut_rings.specs.Layout.{Layout, IsLayout, Observes, observer_of, posi
 abbrev is_before : Layout → ℕ → ℕ → ℕ → Bool
 is_before r ring s place = (place + 1) % r.nodes == position_of r ring s
 
-observer_below : (r : Layout) → IsLayout r → (ring s : ℕ) → ring < length r.positions → s < r.nodes
+pub observer_below : (r : Layout) → IsLayout r → (ring s : ℕ) → ring < length r.positions → s < r.nodes
     → observer_of r ring s < r.nodes
 observer_below r layout ring s ring_in process = elim (cases_lt (observer_of r ring s) r.nodes) [
   | inl below ↦ below

@@ -7,7 +7,7 @@ use Rattle.cut_plan.specs.Cells.{cells_of}
 use Rattle.cut_plan.specs.Plan.{IsPlan}
 use Rattle.cut_plan.specs.Values.{Values}
 use Rattle.cut_plan.specs.declared.refusal.Refusal.{Refusal}
-use Rattle.cut_plan.specs.Versions.{version_of}
+use Rattle.cut_plan.specs.Failing.{version_of}
 use Rattle.cut_faults.specs.declared.code.FaultCode.TheVariants as code
 use Rattle.cut_lines.specs.Lines.{header, line_with}
 use Rattle.cut_outcome.specs.Sum.{sum_of, trials_of_cell}

@@ -10,7 +10,7 @@ use Rattle.cut_plan.specs.Accepted.{plan_of}
 use Rattle.cut_plan.specs.Cells.{cells_of}
 use Rattle.cut_plan.specs.Refusals.{code_of_refusal}
 use Rattle.cut_plan.specs.Values.{Values}
-use Rattle.cut_plan.specs.Versions.{version_of}
+use Rattle.cut_plan.specs.Failing.{version_of}
 use Rattle.cut_board.specs.declared.view.View.{View}
 use Rattle.cut_board.specs.Views.{seen_in}
 use Rattle.cut_lines.specs.Lines.{header}

@@ -13,7 +13,7 @@ use Rattle.cut_ledger.specs.declared.slip.Slip.{Slip}
 use Rattle.cut_ledger.specs.Machine.{slip_of}
 use Rattle.cut_journal.specs.declared.fault.JournalFault.{JournalFault}
 use Rattle.cut_journal.specs.declared.fault.JournalFault.TheVariants as journal
-use Rattle.cut_journal.specs.Journal.{JournalValue, ReadsAs, IsAppendFault, IsFileOf, LeavesAppend, disk_faults}
+use Rattle.cut_journal.specs.Journal.{JournalValue, ReadsAs, IsAppendFault, IsFileOf, LeavesAppend}
 use Rattle.cut_journal.specs.Journal.{AppendsEach, kept_slips, slips_after}
 use Rattle.cut_journal.specs.Reading.{reading}
 use Rattle.cut_journal.proofs.Moments.{stays}
@@ -23,7 +23,6 @@ use Rattle.cut_share.specs.declared.fault.ShareFault.TheVariants.{Memory, OtherP
 use Rattle.cut_share.specs.declared.task.Task.{Task}
 use Rattle.cut_share.specs.inside.Tasks.{IsRun, done_of, has_result, pieces_of}
 use Rattle.cut_share.specs.Appending.{Adds, NoneFailed, OneFailed}
-use Rattle.cut_share.specs.Running.{running_faults}
 use Rattle.cut_share.specs.inside.Running.{EndsAppends, fault_of, slip_at, slips_at}
 
 -- ---- no append, and one
@@ -127,16 +126,6 @@ append_failed T is_honest state journal.NoStudy v p old new may other broken lef
 append_failed T is_honest state journal.OtherPlan v p old new may other broken left honest = absurd (other refl)
 append_failed T is_honest state (journal.Damaged n) v p old new may other broken left honest = absurd may
 append_failed T is_honest state journal.Held v p old new may other broken left honest = absurd may
-
-pub failed_calls : (T : Type 0) (e : JournalFault) (n : ℕ) → IsAppendFault e → (e ≡ journal.OtherPlan → ⊥)
-    → disk_faults {T = ℕ} (Err e) n ≡ running_faults {T = T} (Err (fault_of e)) n
-failed_calls T journal.Memory n may other = absurd may
-failed_calls T journal.Disk n may other = refl
-failed_calls T journal.Broken n may other = refl
-failed_calls T journal.NoStudy n may other = absurd may
-failed_calls T journal.OtherPlan n may other = absurd (other refl)
-failed_calls T (journal.Damaged k) n may other = absurd may
-failed_calls T journal.Held n may other = absurd may
 
 -- ---- appends after others
 

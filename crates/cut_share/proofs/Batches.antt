@@ -50,43 +50,33 @@ own_front s v (p ∷ ps) qs own =
 pub times_first : (p : Piece) (ps : List Piece) (t : ℕ) → times_in (p ∷ ps) t ≡ one_if (is_in p t) + times_in ps t
 times_first p ps t = count_first (λ q. is_in q t) p ps
 
+-- how often a trial is in the pieces of tasks that pass
+times_passing : (p : Task → Bool) (task : Task) (tasks : List Task) (t : ℕ)
+    → times_in (pieces_of (filter p (task ∷ tasks))) t
+    ≡ cond (p task) (one_if (is_in task.piece t)) 0 + times_in (pieces_of (filter p tasks)) t
+times_passing p task tasks t = by (p task)
+  where
+    by : (b : Bool) → times_in (pieces_of (cond b (task ∷ filter p tasks) (filter p tasks))) t
+        ≡ cond b (one_if (is_in task.piece t)) 0 + times_in (pieces_of (filter p tasks)) t
+    by true = times_first task.piece (pieces_of (filter p tasks)) t
+    by false = omega arith
+
 pub times_parted : (tasks : List Task) (t : ℕ)
     → times_in (done_of tasks) t + times_in (lost_of tasks) t ≡ times_in (pieces_of tasks) t
 times_parted [] t = refl
-times_parted (task ∷ tasks) t = by (times_parted tasks t) (has_result task) refl
+times_parted (task ∷ tasks) t =
+    omega (
+      arith,
+      times_parted tasks t,
+      times_passing has_result task tasks t,
+      times_passing (λ x. not (has_result x)) task tasks t,
+      times_first task.piece (pieces_of tasks) t,
+      once (has_result task) (one_if (is_in task.piece t)),
+    )
   where
-    by : times_in (done_of tasks) t + times_in (lost_of tasks) t ≡ times_in (pieces_of tasks) t → (b : Bool)
-        → has_result task ≡ b
-        → times_in (done_of (task ∷ tasks)) t + times_in (lost_of (task ∷ tasks)) t
-        ≡ times_in (pieces_of (task ∷ tasks)) t
-    by before true is =
-        let done : times_in (done_of (task ∷ tasks)) t ≡ times_in (task.piece ∷ done_of tasks) t =
-        ap (λ b. times_in (pieces_of (cond b (task ∷ filter has_result tasks) (filter has_result tasks))) t) is in
-        let lost : times_in (lost_of (task ∷ tasks)) t ≡ times_in (lost_of tasks) t =
-        ap (λ b. times_in (pieces_of (cond (not b) (task ∷ filter (λ x. not (has_result x)) tasks)
-        (filter (λ x. not (has_result x)) tasks))) t) is in
-        omega (
-          arith,
-          done,
-          lost,
-          times_first task.piece (done_of tasks) t,
-          times_first task.piece (pieces_of tasks) t,
-          before,
-        )
-    by before false is =
-        let done : times_in (done_of (task ∷ tasks)) t ≡ times_in (done_of tasks) t =
-        ap (λ b. times_in (pieces_of (cond b (task ∷ filter has_result tasks) (filter has_result tasks))) t) is in
-        let lost : times_in (lost_of (task ∷ tasks)) t ≡ times_in (task.piece ∷ lost_of tasks) t =
-        ap (λ b. times_in (pieces_of (cond (not b) (task ∷ filter (λ x. not (has_result x)) tasks)
-        (filter (λ x. not (has_result x)) tasks))) t) is in
-        omega (
-          arith,
-          done,
-          lost,
-          times_first task.piece (lost_of tasks) t,
-          times_first task.piece (pieces_of tasks) t,
-          before,
-        )
+    once : (b : Bool) (n : ℕ) → cond b n 0 + cond (not b) n 0 ≡ n
+    once true n = omega arith
+    once false n = omega arith
 
 pub own_filtered : (s : Share) (v : Values) (p : Task → Bool) (tasks : List Task)
     → All (IsSharePiece s v) (pieces_of tasks) → All (IsSharePiece s v) (pieces_of (filter p tasks))
@@ -208,7 +198,7 @@ batch_more is_honest state whole done s v all left next tasks old mid new honest
 first_in : (s : Share) (v : Values) (p : Piece) → IsSharePiece s v p → is_in p p.first ≡ true
 first_in s v p is = piece_has_first v p is.piece
 
-some_time : (s : Share) (v : Values) (ps : List Piece) → All (IsSharePiece s v) ps → 1 ≤ length ps
+pub some_time : (s : Share) (v : Values) (ps : List Piece) → All (IsSharePiece s v) ps → 1 ≤ length ps
     → (t : ℕ) × (1 ≤ times_in ps t)
 some_time s v [] own some = absurd (omega arith)
 some_time s v (p ∷ ps) own some = (
@@ -217,11 +207,6 @@ some_time s v (p ∷ ps) own some = (
       ap (λ b. one_if b) (first_in s v p (All-head (IsSharePiece s v) p ps own)) in
       omega (arith, times_first p ps p.first, first)),
 )
-
--- some trial of the share is in pieces for which memory ran out
-pub lost_time : (s : Share) (v : Values) (ps : List Piece) → All (IsSharePiece s v) ps → 1 ≤ length ps
-    → (t : ℕ) × (1 ≤ times_in ps t)
-lost_time s v ps own some = some_time s v ps own some
 
 -- a batch ends the run
 pub batch_stops : {D : Type 0} (is_honest : D → Type 0) (state : D → DiskState) (e : ShareFault) (whole : Bool)

@@ -83,12 +83,6 @@ count_block s v c b cell low =
     ∙ count_alike (is_in_share s v) (has_block s (c * div_ceil r size + b)) (first + b * size) own
     (λ t from below. in_block s v c b t cell from (omega arith) (omega arith)))
 
--- all blocks of a cell are the cell
-pub whole_cell : (s : Share) (v : Values) → min (div_ceil v.repeats s.block_size * s.block_size) v.repeats ≡ v.repeats
-whole_cell s v =
-    let some = s.bounds.some in
-    let ceiling = div_ceil_times v.repeats s.block_size (omega arith) in omega (arith, ceiling.0)
-
 -- one cell more
 pub count_cell : (s : Share) (v : Values) (c : ℕ)
     → count_by (is_in_share s v) (range_with_len 0 ((c + 1) * v.repeats))

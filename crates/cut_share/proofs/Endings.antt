@@ -39,7 +39,7 @@ use Rattle.cut_share.specs.Running.{AreOfShare, CanRun, EndsShare, is_lacking}
 use Rattle.cut_share.specs.inside.Running.{slip_at, slips_at}
 use Rattle.cut_share.specs.Share.{IsShareSlip, has_block, is_in_share, trials_of_share}
 use Rattle.cut_share.specs.Blocks.{block_of}
-use Rattle.cut_share.proofs.Batches.{lost_time, times_first}
+use Rattle.cut_share.proofs.Batches.{some_time, times_first}
 use Rattle.cut_share.proofs.PieceFacts.{in_trials}
 use Rattle.cut_share.proofs.Turns.{once_in_range}
 
@@ -234,7 +234,7 @@ pub ends_short : {D : Type 0} (is_honest : D → Type 0) (state : D → DiskStat
     (ss : List Slip) (all : List Piece) (old new : JournalValue D) → IsBegun s v ss all old
     → IsUpTo is_honest state false s v all [] old new → Ends is_honest state (Err WorkMemory) s v ss old new
 ends_short is_honest state s v ss all old new begun upto =
-    let at = lost_time s v upto.lost upto.parted.lost_own (upto.sufficed.some refl) in
+    let at = some_time s v upto.lost upto.parted.lost_own (upto.sufficed.some refl) in
     let t : ℕ = at.0 in
     let low : 1 ≤ times_in upto.lost t = at.1 in
     let one = upto.parted.times t in
@@ -297,14 +297,6 @@ ends_fault is_honest state Disk s v ss all old new begun none (done, p, ends) = 
     ),
   ),
 )
-
--- the journal is the plan's, and no batch ends as if it were not
-pub not_other : {D : Type 0} (is_honest : D → Type 0) (state : D → DiskState) (e : ShareFault) (s : Share)
-    (v : Values) (all : List Piece) (old new : JournalValue D) → EndsPieces is_honest state (Err e) s v all old new
-    → e ≡ OtherPlan → ⊥
-not_other {D} is_honest state e s v all old new ends is =
-    let bad : EndsPieces is_honest state (Err OtherPlan) s v all old new =
-    subst (λ (x : ShareFault). EndsPieces is_honest state (Err x) s v all old new) is ends in bad
 
 -- ---- as the run has them
 

@@ -1,15 +1,13 @@
 -- Pieces of a plan, and the parts that they are cut into.
-use Rattle.std.proofs.Common.{◌≡◌, ℕ, ◌+◌, ◌-◌, ◌*◌, ◌/◌, ◌%◌, ◌<◌, ◌≤◌, ◌==◌, ◌&&◌, true, false}
+use Rattle.std.proofs.Common.{◌≡◌, ℕ, ◌+◌, ◌-◌, ◌*◌, ◌/◌, ◌%◌, ◌<◌, ◌≤◌, ◌==◌, ◌&&◌, true}
 use Rattle.std.proofs.Common.{nat_lt, nat_le, sym, ap, ◌∙◌, arith}
 use Rattle.std.specs.Prelude.{IsTrue}
 use Rattle.std.proofs.lemmas.Bool.{and_parts, ltb-true, lt-ltb, le-leb, eq-eqb}
-use Rattle.std.proofs.lemmas.Bool.Decides.{nat_tests}
 use Rattle.std.proofs.lemmas.Nat.{div-add-mod', mod_below}
 use Rattle.cut_plan.specs.Cells.{trial_count}
 use Rattle.cut_plan.specs.Plan.{IsPlan}
 use Rattle.cut_plan.specs.Values.{Values}
 use Rattle.cut_outcome.specs.declared.piece.Piece.{Piece}
-use Rattle.cut_outcome.specs.Outcome.{one_if}
 use Rattle.cut_outcome.specs.Sum.{is_piece}
 use Rattle.cut_ledger.specs.Contents.{is_in}
 use Rattle.cut_ledger.proofs.CellLemmas.{cell_is, piece_facts}
@@ -54,15 +52,6 @@ alike_in_block s v p n t plan piece few near from below =
     in_block s v c b t cell (omega (arith, whole, inside)) (omega (arith, whole, inside)) (omega arith)
     ∙ sym (in_block s v c b p.first cell (omega (arith, whole, inside)) (omega (arith, whole, inside, bound))
     (omega arith))
-
--- a number is in a piece, or in what of it is left after its first n
-pub in_parts : (p q rest : Piece) (t : ℕ) → q.first ≡ p.first → q.count ≤ p.count → rest.first ≡ p.first + q.count
-    → rest.count ≡ p.count - q.count → one_if (is_in q t) + one_if (is_in rest t) ≡ one_if (is_in p t)
-in_parts p q rest t first few next left = grind (arith, nat_tests)
-
--- no number is in an empty one
-pub not_in : (p : Piece) (t : ℕ) → p.count ≡ 0 → is_in p t ≡ false
-not_in p t none = grind (arith, nat_tests)
 
 -- a piece has its first trial
 pub piece_has_first : (v : Values) (p : Piece) → IsTrue (is_piece v p) → is_in p p.first ≡ true

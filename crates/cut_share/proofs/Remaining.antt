@@ -1,6 +1,5 @@
 -- What is left of the pieces of a share.
-use Rattle.std.proofs.Common.{◌≡◌, ℕ, ◌+◌, ◌&&◌, Bool, true, false, List, [], ◌∷◌, refl, ap, ◌∙◌, arith, subst}
-use Rattle.std.proofs.lemmas.List.Sums.{sum_by-cons}
+use Rattle.std.proofs.Common.{◌≡◌, ℕ, ◌+◌, ◌&&◌, Bool, true, false, [], ◌∷◌, refl, ◌∙◌, arith, subst}
 use Rattle.cut_lists.proofs.Parts.{count_first}
 use Rattle.cut_plan.specs.Values.{Values}
 use Rattle.cut_outcome.specs.declared.piece.Piece.{Piece}
@@ -8,18 +7,7 @@ use Rattle.cut_outcome.specs.Outcome.{one_if}
 use Rattle.cut_ledger.specs.Contents.{is_in}
 use Rattle.cut_share.specs.declared.share.Share.{Share}
 use Rattle.cut_share.specs.Share.{is_in_share}
-use Rattle.cut_share.specs.inside.Pieces.{own_times, trials_in_all}
-use Rattle.cut_share.proofs.PieceFacts.{not_in}
-
-pub own_first : (s : Share) (v : Values) (p : Piece) (ps : List Piece) (t : ℕ) → own_times s v (p ∷ ps) t
-    ≡ own_times s v (p ∷ []) t + own_times s v ps t
-own_first s v p ps t =
-    let one = count_first (λ q. is_in q t && is_in_share s v t) p [] in
-    let all = count_first (λ q. is_in q t && is_in_share s v t) p ps in
-    omega (arith, one, all)
-
-pub all_first : (p : Piece) (ps : List Piece) → trials_in_all (p ∷ ps) ≡ p.count + trials_in_all ps
-all_first p ps = sum_by-cons (λ q. q.count) p ps
+use Rattle.cut_share.specs.inside.Pieces.{own_times}
 
 own_one : (s : Share) (v : Values) (p : Piece) (t : ℕ) → own_times s v (p ∷ []) t
     ≡ one_if (is_in p t && is_in_share s v t)
@@ -70,11 +58,6 @@ pub own_skipped : (s : Share) (v : Values) (p q rest : Piece) (t : ℕ)
 own_skipped s v p q rest t other parts =
     let both = bits_skipped (is_in q t) (is_in rest t) (is_in p t) (is_in_share s v t) other parts in
     omega (arith, both, own_one s v rest t, own_one s v p t)
-
--- nothing is left of an empty piece
-pub own_none : (s : Share) (v : Values) (p : Piece) (t : ℕ) → p.count ≡ 0 → own_times s v (p ∷ []) t ≡ 0
-own_none s v p t none =
-    own_one s v p t ∙ ap (λ b. one_if (b && is_in_share s v t)) (not_in p t none)
 
 -- a block of the share that is taken off, or one of another
 pub block_taken : (s now : Share) (v w : Values) (p q rest : Piece) (t : ℕ) → now ≡ s → w ≡ v

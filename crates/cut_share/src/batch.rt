@@ -42,7 +42,7 @@ pub(crate) fn run_pieces<D: Disk, G: Hooks + Sync, R: Threads + Wait + Sync>(
             return Ok(is_whole);
         }
         let is_done = run_batch(rt, tools, &mut tasks[..count], journal)?;
-        is_whole = is_whole && is_done;
+        is_whole &= is_done;
     }
 }
 

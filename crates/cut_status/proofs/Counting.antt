@@ -1,10 +1,10 @@
 -- How many trials slips hold, and how many cells of a ledger are done.
-use Rattle.std.proofs.Common.{◌≡◌, ◌∙◌, ◌+◌, ◌-◌, ◌*◌, ◌/◌, ◌<◌, ◌≤◌, ◌^◌, ◌==◌, ◌&&◌, ◌||◌, ℕ, false, true, cond}
+use Rattle.std.proofs.Common.{◌≡◌, ◌∙◌, ◌+◌, ◌-◌, ◌*◌, ◌/◌, ◌<◌, ◌≤◌, ◌^◌, ◌==◌, ◌&&◌, ◌||◌, ℕ, false, cond}
 use Rattle.std.proofs.Common.{List, [], ◌∷◌, length, take, get_or, nat_lt, nat_le, refl, sym, ap, arith, zero-add}
 use Rattle.std.specs.Prelude.{IsTrue}
 use Rattle.std.specs.List.{range_with_len, count_by, list_all}
 use Rattle.std.proofs.Math.Bool.{or-false}
-use Rattle.std.proofs.lemmas.Bool.{and_parts, leb-true, ltb-true, or_right, false_from_ne_true}
+use Rattle.std.proofs.lemmas.Bool.{and_parts, leb-true, or_right, false_from_ne_true}
 use Rattle.std.proofs.lemmas.List.{take_more}
 use Rattle.std.proofs.lemmas.List.Folds.{list_any-append}
 use Rattle.std.proofs.lemmas.List.FromFn.{length-range_with_len, get_or-map-range_with_len}
@@ -24,6 +24,7 @@ use Rattle.cut_ledger.specs.Slips.{AreGood, IsGood}
 use Rattle.cut_ledger.proofs.LawBytes.{in_plan}
 use Rattle.cut_status.specs.Status.{done_cells, held_trials}
 use Rattle.cut_status.specs.inside.Counts.{done_among}
+use Rattle.cut_ledger.proofs.CellLemmas.{in_piece}
 
 -- ---- no slip
 
@@ -42,11 +43,6 @@ in_more ss i d t within =
     ap (λ (xs : List Slip). is_in_base xs t) (take_more ss i d within)
     ∙ list_any-append (λ (s : Slip). is_in s.piece t) (take i ss) (get_or ss i d ∷ [])
     ∙ ap (λ b. is_in_base (take i ss) t || b) (or-false (is_in (get_or ss i d).piece t))
-
-in_piece : (p : Piece) (t : ℕ) → is_in p t ≡ true → (p.first ≤ t) × (t < p.first + p.count)
-in_piece p t is =
-    let parts = and_parts (nat_le p.first t) (nat_lt t (p.first + p.count)) is in
-    (leb-true p.first t parts.0, ltb-true t (p.first + p.count) parts.1)
 
 piece_ends : (v : Values) (p : Piece) → IsTrue (is_piece v p) → p.first + p.count ≤ trial_count v
 piece_ends v p piece =

@@ -1,5 +1,5 @@
 -- The text that a header says, and the plan whose text it is.
-use Rattle.std.proofs.Common.{◌≡◌, ◌≢◌, ◌∙◌, ◌≤◌, ◌+◌, ◌-◌, ◌==◌, ℕ, true, List, Result, Ok, Err, length}
+use Rattle.std.proofs.Common.{◌≡◌, ◌∙◌, ◌≤◌, ◌+◌, ◌-◌, ◌==◌, ℕ, true, List, Result, Ok, length}
 use Rattle.std.proofs.Common.{drop, slice_range, sym, ap, arith, length-drop}
 use Rattle.std.specs.Prelude.{bytes_eq}
 use Rattle.std.proofs.lemmas.Bool.{and_parts, and_from}
@@ -52,19 +52,3 @@ same_plan back v w bytes plan other says too =
     cc (both)
 
 -- ---- a text that is no plan's
-
-pub refused_text : ReadsBack → (text : List ℕ) (refusal : Refusal) → plan_of text ≡ Err refusal → (v : Values)
-    → IsPlan v → text ≢ canonical_text v
-refused_text back text refusal refused v plan is =
-    let read : plan_of text ≡ Ok v = ap plan_of is ∙ back v plan in
-    let both : Err refusal ≡ Ok v = sym refused ∙ read in
-    cc (both)
-
--- nor is a text another plan's that is not its own plan's
-pub other_text : ReadsBack → (text : List ℕ) (v : Values) → plan_of text ≡ Ok v → (text ≡ canonical_text v → ⊥)
-    → (w : Values) → IsPlan w → text ≢ canonical_text w
-other_text back text v read other w plan is =
-    let again : plan_of text ≡ Ok w = ap plan_of is ∙ back w plan in
-    let both : Ok v ≡ Ok w = sym read ∙ again in
-    let same : v ≡ w = cc (both) in
-    other (is ∙ ap canonical_text (sym same))

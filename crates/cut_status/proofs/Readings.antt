@@ -3,12 +3,12 @@ use Rattle.std.proofs.Common.{◌≡◌, ◌∙◌, ◌+◌, ◌==◌, ◌&&◌,
 use Rattle.std.proofs.Common.{List, [], Result, Ok, Err, length, drop, slice_range, slice_index, nat_lt, refl}
 use Rattle.std.proofs.Common.{sym, ap, subst}
 use Rattle.std.specs.Bool.{⊤}
-use Rattle.std.specs.Prelude.{IfOk, IfErr, OnOk}
+use Rattle.std.specs.Prelude.{IfOk, OnOk}
 use Rattle.std.proofs.lemmas.Bool.{cases_Bool}
 use Rattle.cut_plan.specs.Canonical.{canonical_text}
 use Rattle.cut_plan.specs.Plan.{IsPlan}
 use Rattle.cut_plan.specs.Values.{Values}
-use Rattle.cut_plan.specs.Versions.{version_of}
+use Rattle.cut_plan.specs.Failing.{version_of}
 use Rattle.cut_ledger.specs.declared.slip.Slip.{Slip}
 use Rattle.cut_ledger.specs.Slips.{AreGood}
 use Rattle.cut_journal.specs.declared.fault.JournalFault.{JournalFault}
@@ -23,7 +23,7 @@ use Rattle.cut_status.specs.declared.fault.StatusFault.TheVariants.{Memory, Disk
 use Rattle.cut_status.specs.Status.{StatusValue, status_over}
 use Rattle.cut_status.specs.Study.{IsStudyOf, IsStatusOf, IsOfNone, IsDamaged, IsStatusFault}
 use Rattle.cut_status.specs.inside.Study.{IsOfNoPlan}
-use Rattle.cut_status.specs.inside.Study.{IsFaultOver, fault_of}
+use Rattle.cut_status.specs.inside.Study.{fault_of}
 use Rattle.cut_status.proofs.Headers.{ReadsBack, says_text, same_plan}
 
 -- ---- the slips after a header
@@ -161,12 +161,3 @@ over_study (Ok s) bytes v slips study is good = record {
   is = is;
 }
 over_study (Err e) bytes v slips study is good = tt
-
-pub fault_over : (r : Result StatusValue StatusFault) (bytes : List ℕ) (v : Values) (slips : List Slip)
-    → IsStudyOf bytes v slips → IfErr r (IsFaultOver v slips) → IfErr r (IsStatusFault bytes)
-fault_over (Ok s) bytes v slips study is = tt
-fault_over (Err Memory) bytes v slips study is = tt
-fault_over (Err (BadSlip n)) bytes v slips study is = record { plan = v; slips = slips; study = study; bad = is }
-fault_over (Err Disk) bytes v slips study is = is
-fault_over (Err NoStudy) bytes v slips study is = absurd is
-fault_over (Err (Damaged n)) bytes v slips study is = absurd is

@@ -9,7 +9,7 @@ use cut_ledger::{Ledger, Slip};
 use cut_plan::Plan;
 
 /// How many trials of a plan slips hold, none of which is in two of them.
-pub(crate) fn trials_held(plan: &Plan, slips: &[Slip]) -> u32
+pub fn trials_held(plan: &Plan, slips: &[Slip]) -> u32
     requires plan { IsPlan plan.now }
     requires good { AreGood plan.now slips.now }
     ensures { result ≡ held_trials plan.now slips.now }

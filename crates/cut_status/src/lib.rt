@@ -12,6 +12,7 @@ pub mod laws;
 mod reading;
 mod status;
 
+pub use counts::trials_held;
 pub use fault::StatusFault;
 pub use file::read_file;
 pub use reading::status_of;

@@ -1,8 +1,7 @@
 -- How a run of a study ends, by how the writing of its table ended and how its hall was closed.
-use Rattle.std.proofs.Common.{◌≡◌, ◌∙◌, ◌≤◌, ◌++◌, ◌∷◌, [], ℕ, Bool, List, Result, Ok, Err, length}
+use Rattle.std.proofs.Common.{◌≡◌, ◌∙◌, ◌≤◌, ℕ, Bool, List, Result, Ok, Err, length}
 use Rattle.std.proofs.Common.{inr, sym, ap, subst, arith, take_all}
 use Rattle.std.specs.Prelude.{IfOk, OnOk}
-use Rattle.std.proofs.lemmas.List.Sums.{sum_by-append}
 use Rattle.cut_plan.specs.Values.{Values}
 use Rattle.cut_plan.specs.Cells.{cells_of}
 use Rattle.cut_ledger.specs.declared.slip.Slip.{Slip}
@@ -19,13 +18,8 @@ use Rattle.cut_study.specs.declared.study_run.Done.{Done}
 use Rattle.cut_study.specs.inside.Conclusion.{NoWriteFailed, Concludes}
 use Rattle.cut_study.specs.Emission.{WrotePrefix}
 use Rattle.cut_study.specs.inside.Emission.{EmitsStudy}
-use Rattle.cut_hall.specs.Pass.{Holding}
-use Rattle.cut_hall.specs.Report.{SlotEnd, calls_in_all, made_in_all}
+use Rattle.cut_hall.specs.Report.{SlotEnd, calls_in_all}
 use Rattle.cut_study.specs.Running.{HasEnded, Takes}
-
--- the calls of the last pass are among those of all
-pub last_of_all : (passes : List Holding) (last : Holding) → last.made ≤ made_in_all (passes ++ last ∷ [])
-last_of_all passes last = omega (arith, sum_by-append (λ (p : Holding). p.made) passes (last ∷ []))
 
 -- where no write failed, some first bytes were written
 prefix_by : (whole : List ℕ) (sent : Result ℕ (RowsFault LineFault)) (old new : WireLog) → NoWriteFailed sent

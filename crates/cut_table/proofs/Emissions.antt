@@ -16,7 +16,7 @@ use Rattle.std.proofs.Math.Seq.{take-append_seam}
 use Rattle.cut_lists.proofs.Prefixes.{take_while-prefix}
 use Rattle.cut_lists.proofs.Intervals.{take_range, drop_range}
 use Rattle.cut_plan.specs.Cells.{cells_of}
-use Rattle.cut_plan.specs.Versions.{version_of}
+use Rattle.cut_plan.specs.Failing.{version_of}
 use Rattle.cut_lines.specs.Lines.{header, columns, cell_numbered}
 use Rattle.cut_ledger.specs.Contents.{Contents, cell_done, cell_sum}
 use Rattle.cut_ledger.specs.Machine.{available}

@@ -1,17 +1,16 @@
 -- How receivers are judged by what is found in lanes.
-use Rattle.std.proofs.Common.{◌≡◌, ℕ, ◌+◌, ◌<◌, ◌≤◌, ◌||◌, ◌&&◌, Bool, true, false, not, min, List, [], ◌∷◌, ◌++◌}
+use Rattle.std.proofs.Common.{◌≡◌, ℕ, ◌+◌, ◌<◌, ◌≤◌, Bool, true, false, not, min, List, [], ◌∷◌, ◌++◌}
 use Rattle.std.proofs.Common.{Option, Some, None, map, filter, take, get_or, length, inl, inr, refl, sym, ap, ◌∙◌}
 use Rattle.std.proofs.Common.{subst, arith}
 use Rattle.std.specs.Prelude.{All, IfSome, Result, Ok, Err, OnOk, ◌^◌}
-use Rattle.std.proofs.lemmas.Bool.{both_ways, cases_Bool, cases_lt, le-leb, leb-true, ltb-true}
+use Rattle.std.proofs.lemmas.Bool.{both_ways, cases_Bool, cases_lt, ltb-true}
 use Rattle.std.proofs.lemmas.List.{length-map, length-take, map_more, take_all}
 use Rattle.std.proofs.lemmas.List.Elements.{All-filter}
 use Rattle.std.proofs.lemmas.List.Sums.{length-filter}
 use Rattle.cut_lists.proofs.Counts.{list_any-count_by}
 use Rattle.cut_lists.proofs.Maps.{count_by-map}
-use Rattle.cut_lists.proofs.Ranges.{All-range_with_len, few_filtered, count_by_agree, none_passing, passing}
+use Rattle.cut_lists.proofs.Ranges.{All-range_with_len, few_filtered, none_passing, passing}
 use Rattle.cut_lists.proofs.Ranges.{list_any_passing}
-use Rattle.cut_detector.specs.Counts.{full_count, reports_of}
 unfoldable use Rattle.cut_detector.specs.Counts.{is_full, is_reported, is_some_stable, is_stable}
 use Rattle.cut_receivers.specs.declared.finding.Finding.{Finding}
 use Rattle.cut_receivers.specs.declared.finding.Finding.TheVariants.{Doubtful, Other, Silent, Wanted}
@@ -21,6 +20,7 @@ use Rattle.cut_trial.specs.inside.Judging.{proposed_by, proposals_to}
 use Rattle.cut_outcome.proofs.Words.{Assignment, Cell, Edge, EdgeSet, IsTrue, Layout, Rule, Source, Values}
 use Rattle.cut_outcome.proofs.Words.{all_deliveries, count_by, early, is_target, list_any, proposal_of, range_with_len}
 use Rattle.cut_outcome.proofs.Words.{receiver_proposal, receivers_of, rule_of}
+use Rattle.cut_nodes.proofs.NodeLemmas.{stable_reported}
 
 -- ---- flags
 
@@ -76,31 +76,13 @@ complete_from f q n subjects targets flags subjects_are targets_are flags_are sa
 
 -- ---- who is stable in the end
 
-pub stable_is_reported : (r : Layout) (rule : Rule) (E : EdgeSet) (s : ℕ) → rule.l ≤ rule.h
-    → is_stable r rule E s ≡ true → is_reported rule E s ≡ true
-unfolding is_stable is_full is_reported
-stable_is_reported r rule E s gap stable = elim (cases_Bool (is_reported rule E s)) [
-  | inl reported ↦ reported
-  | inr unreported ↦ (
-      let same : full_count r rule E s ≡ reports_of rule E s =
-      count_by_agree (λ ring. is_full r rule E ring s) (λ ring. E ring s) 0 rule.k (record {
-        same = λ ring _ _. ungained (E ring s) rule.implicit (is_reported rule E s) _ unreported;
-      }) in
-      le-leb rule.l (reports_of rule E s) (omega (arith, gap, same, leb-true rule.h (full_count r rule E s) stable)))
-]
-  where
-    ungained : (e i reported other : Bool) → reported ≡ false → (e || (i && reported && other)) ≡ e
-    ungained true i reported other none = refl
-    ungained false true reported other none = rw none refl
-    ungained false false reported other none = refl
-
 pub some_reported : (r : Layout) (rule : Rule) (E : EdgeSet) → rule.l ≤ rule.h → is_some_stable r rule E ≡ true
     → list_any (λ s. is_reported rule E s) (range_with_len 0 r.nodes) ≡ true
 unfolding is_some_stable
 some_reported r rule E gap some =
     let found = passing (λ s. is_stable r rule E s) 0 r.nodes some in
     list_any_passing (λ s. is_reported rule E s) 0 r.nodes found.0 found.1.from found.1.below
-    (stable_is_reported r rule E found.0 gap found.1.passes)
+    (stable_reported r rule E found.0 gap found.1.passes)
 
 -- so where some process is stable in the end there is a node
 pub some_node : {X : Type 0} (r : Layout) (rule : Rule) (E : EdgeSet) (subject : X → ℕ) (nodes : List X) → rule.l

@@ -1,9 +1,8 @@
 -- At which place a receiver proposes, by what was counted in its lane.
-use Rattle.std.proofs.Common.{◌≡◌, ℕ, ◌<◌, Bool, false, List, Option, Some, None, refl, sym, subst, Bor}
+use Rattle.std.proofs.Common.{◌≡◌, ℕ, ◌<◌, Bool, false, List, Option, Some, None, refl, sym, subst}
 use Rattle.std.specs.Prelude.{IfSome, IfNone, IsTrue, slice_index}
-use Rattle.std.specs.Option.{option_copied}
-use Rattle.cut_plan.specs.declared.version.Version.{Version}
-use Rattle.cut_plan.specs.declared.version.Version.TheVariants.{One, Two}
+use Rattle.cut_fields.specs.declared.version.Version.{Version}
+use Rattle.cut_fields.specs.declared.version.Version.TheVariants.{One, Two}
 use Rattle.cut_arrivals.specs.Hearing.{Hearing, proposal_at}
 use Rattle.cut_receivers.specs.declared.finding.Finding.{Finding}
 use Rattle.cut_receivers.specs.declared.finding.Finding.TheVariants.{Doubtful, Other, Silent, Wanted}
@@ -59,9 +58,3 @@ placed_for x version v place n doubt p is certain same version_is found =
     → IfSome (proposal_at x) (λ q. IsPlaced version m (Some q)))) is found in
     subst (λ o. IfSome o (λ q. IsPlaced v n (Some q))) same
     (subst (λ w. IfSome (proposal_at x) (λ q. IsPlaced w n (Some q))) (sym version_is) (known certain))
-
--- what holds of a value holds of the reference to it
-pub held_by : {X : Type 0} (P : X → Type 0) (o : Option (Bor X)) (s : Option X) → option_copied o ≡ s → IfSome s P
-    → IfSome o (λ b. P b.now)
-held_by P None s is known = tt
-held_by P (Some b) s is known = subst (λ r. IfSome r P) (sym is) known

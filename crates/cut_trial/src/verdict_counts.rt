@@ -1,7 +1,7 @@
 ghost use Rattle.std.specs.Prelude.{◌≡◌, ◌^◌, ◌<◌, [], ◌∷◌, ◌++◌, List, Option, Some, length, OnOk, option_map};
 ghost use Rattle.std.specs.Prelude.{IfSome};
 ghost use Rattle.cut_plan.specs.Cells.{IsCellOf};
-ghost use Rattle.cut_plan.specs.Versions.{version_of};
+ghost use Rattle.cut_plan.specs.Failing.{version_of};
 ghost use Rattle.cut_detector.specs.declared.proposal.Proposal as proposals;
 ghost use Rattle.cut_alerts.specs.Assignment.{Assignment};
 ghost use Rattle.cut_outcome.specs.Verdicts.{targets_of, judged, AreAscending};

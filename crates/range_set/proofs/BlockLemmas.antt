@@ -98,18 +98,6 @@ pub record AreFlipped (olds news : List (List ℕ)) (from end n : ℕ) : Type 0 
   pub len : length news ≡ length olds
   pub each : (t : ℕ) → is_at news t ≡ flipped (is_between from end t && nat_lt (t / 65536) n) (is_at olds t)
 
-pub none_flipped : (blocks : List (List ℕ)) (from end : ℕ) → AreFlipped blocks blocks from end (from / 65536)
-none_flipped blocks from end = record {
-  len = refl;
-  each = λ t. elim (cases_lt t from) [
-    | inl low ↦ sym (ap (λ b. flipped (b && nat_lt (t / 65536) (from / 65536)) (is_at blocks t))
-        (within_below from end t low))
-    | inr high ↦ sym (ap (λ b. flipped (is_between from end t && b) (is_at blocks t))
-        (le-ltb (t / 65536) (from / 65536) (omega arith))
-        ∙ ap (λ b. flipped b (is_at blocks t)) (and-false (is_between from end t)))
-  ];
-}
-
 pub flipped_more : (olds news : List (List ℕ)) (from end n : ℕ) (xs : List ℕ) → end ≤ 4294967295 → n < length news
     → AreFlipped olds news from end n → ((t : ℕ) → is_within xs t
     ≡ flipped (is_between (max from (n * 65536)) (min end (min (n * 65536 + 65536) 4294967295)) t)
@@ -141,17 +129,6 @@ flipped_more olds news from end n xs small in' are turned = record {
       | inl low ↦ lt-ltb k n low ∙ sym (lt-ltb k (n + 1) (omega arith))
       | inr high ↦ le-ltb k n high ∙ sym (le-ltb k (n + 1) (omega arith))
     ]
-
-pub all_flipped : (olds news : List (List ℕ)) (from end t : ℕ) → from < end
-    → AreFlipped olds news from end ((end - 1) / 65536 + 1) → is_at news t
-    ≡ flipped (is_between from end t) (is_at olds t)
-all_flipped olds news from end t some are = are.each t ∙ elim (cases_lt t end) [
-  | inl low ↦ ap (λ b. flipped (is_between from end t && b) (is_at olds t)) (lt-ltb (t / 65536) _ (omega arith))
-      ∙ ap (λ b. flipped b (is_at olds t)) (and-true (is_between from end t))
-  | inr past ↦ (let out = within_above from end t past
-      in ap (λ b. flipped (b && nat_lt (t / 65536) ((end - 1) / 65536 + 1)) (is_at olds t)) out
-      ∙ sym (ap (λ b. flipped b (is_at olds t)) out))
-]
 
 -- ---- the edges of a block
 

@@ -4,17 +4,17 @@ use Rattle.std.specs.Prelude.{Option, Some, None}
 use Rattle.clap.specs.Words.{App, Row, Rule, Text, new_app, with_rule}
 use Rattle.cut_command_line.specs.declared.line.TheConstants.{LARGEST_PIECE, MOST_OF_EACH, MOST_WORKERS}
 use Rattle.cut_command_line.specs.declared.line.Job.{Job}
-use Rattle.cut_command_line.specs.Line.{AsksFor, files_rule, flag_rule, number_rule, option_rule, word_rule}
+use Rattle.cut_command_line.specs.Line.{AsksForJob, files_rule, flag_rule, number_rule, option_rule, word_rule}
 
 -- the matches of a subcommand give a job of it, or none
 abbrev pub GivesJob : Text → List Row → Option Job → Type 0
-GivesJob name rows (Some job) = AsksFor name rows job
-GivesJob name rows None = (job : Job) → AsksFor name rows job → ⊥
+GivesJob name rows (Some job) = AsksForJob name rows job
+GivesJob name rows None = (job : Job) → AsksForJob name rows job → ⊥
 
 -- the job of a subcommand, if there is one
 abbrev pub IsJobOf : Option (Text × List Row) → Job → Type 0
 IsJobOf None job = ⊥
-IsJobOf (Some sub) job = AsksFor sub.0 sub.1 job
+IsJobOf (Some sub) job = AsksForJob sub.0 sub.1 job
 
 -- the options `--piece` and `--workers`
 abbrev pub piece_rule : Rule

@@ -1,7 +1,7 @@
 -- Where the slips of a file stand. Only the crate's private clauses cite it.
 use Rattle.std.specs.Prelude.{ℕ, ◌+◌, ◌*◌, ◌==◌, ◌&&◌, Bool, List, length, map, slice_index, slice_range, nat_lt}
 use Rattle.std.specs.List.{range_with_len}
-use Rattle.cut_plan.specs.Versions.{version_of}
+use Rattle.cut_plan.specs.Failing.{version_of}
 use Rattle.cut_plan.specs.Canonical.{canonical_text}
 use Rattle.cut_plan.specs.Values.{Values}
 use Rattle.cut_ledger.specs.declared.slip.Slip.{Slip}

@@ -1,7 +1,7 @@
 -- What the private steps of a journal do to an honest disk.
 use Rattle.std.specs.Prelude.{◌≡◌, ◌⊎◌, ◌∷◌, ◌++◌, ◌+◌, ◌^◌, ◌<◌, ◌==◌, ℕ, true, false, List, length, Option, Some}
 use Rattle.std.specs.Prelude.{None, Result, Ok, Err, ⊤}
-use Rattle.cut_plan.specs.Versions.{version_of}
+use Rattle.cut_plan.specs.Failing.{version_of}
 use Rattle.cut_plan.specs.Values.{Values}
 use Rattle.cut_disks.specs.State.{DiskState, IsImage, IsTorn, written, begun, synced}
 use Rattle.cut_ledger.specs.declared.slip.Slip.{Slip}

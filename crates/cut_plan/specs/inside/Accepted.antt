@@ -1,11 +1,10 @@
 -- What only the crate's own clauses and proofs cite, beside specs/Accepted.antt.
-use Rattle.std.specs.Prelude.{◌≡◌, ℕ, List, length, Bool, nat_le, nat_lt, Option, is_some, unwrap_or, Result, Ok, Err}
+use Rattle.std.specs.Prelude.{◌≡◌, ℕ, List, length, Bool, nat_le, nat_lt, Option, unwrap_or, Result, Ok, Err}
 use Rattle.std.specs.Prelude.{⊤}
 use Rattle.std.specs.Bool.{⊤}
 use Rattle.std.specs.List.{list_all}
 use Rattle.std.specs.Option.{option_map_or}
 use Rattle.serde_json.specs.Data.{Data}
-use Rattle.serde_json.specs.Find.{get}
 use Rattle.cut_plan.specs.declared.limits.TheConstants.{MOST_CELLS}
 use Rattle.cut_plan.specs.declared.refusal.Refusal.{Refusal}
 use Rattle.cut_plan.specs.declared.refusal.Refusal.TheVariants.{NotJson, UnknownField, MissingField, WrongKind}
@@ -14,29 +13,20 @@ use Rattle.cut_plan.specs.declared.refusal.Refusal.TheVariants.{TooManyTrials}
 use Rattle.cut_plan.specs.declared.faults.Faults.TheVariants.{Crash}
 use Rattle.cut_plan.specs.declared.failing.Failing.{Failing}
 use Rattle.cut_plan.specs.declared.failing.Failing.TheVariants.{Alike, Mixed}
-use Rattle.cut_plan.specs.declared.field.Field.{Field}
-use Rattle.cut_plan.specs.declared.field.Field.TheVariants as field
-use Rattle.cut_plan.specs.declared.version.Version.{Version}
-use Rattle.cut_plan.specs.declared.version.Version.TheVariants.{One, Two}
-use Rattle.cut_plan.specs.Versions.{version_by}
+use Rattle.cut_fields.specs.declared.field.Field.{Field}
+use Rattle.cut_fields.specs.declared.field.Field.TheVariants as field
+use Rattle.cut_fields.specs.declared.version.Version.{Version}
+use Rattle.cut_fields.specs.declared.version.Version.TheVariants.{One, Two}
 use Rattle.cut_plan.specs.Values.{Values}
 use Rattle.cut_plan.specs.Plan.{is_rising}
 use Rattle.cut_plan.specs.Words.{faults_of}
-use Rattle.cut_plan.specs.Fields.{name_of, kind_of, is_of, member_at, number_in, text_in}
-use Rattle.cut_plan.specs.inside.Fields.{keys, is_named, number_at, numbers_at}
+use Rattle.cut_fields.specs.Fields.{member_at, number_in, text_in}
+use Rattle.cut_fields.specs.Members.{keys, is_named, numbers_at, is_present, is_of_kind}
 use Rattle.cut_plan.specs.Accepted.{in_range, wanted, each, field_check, values_at, plan_in}
 
 -- an object whose fields passed the checks
 abbrev pub IsChecked : Data → Type 0
 IsChecked d = field_check d ≡ Ok tt
-
--- whether the object has the field
-abbrev pub is_present : Data → Field → Bool
-is_present d field = is_some (get (name_of field) d)
-
--- whether the field's value is of the field's kind
-abbrev pub is_of_kind : Data → Field → Bool
-is_of_kind d field = is_of (kind_of field) (member_at d field)
 
 -- a list that is not empty
 abbrev pub has_some : List ℕ → Bool
@@ -49,10 +39,6 @@ is_in_range d field = in_range (member_at d) field
 -- whether the field's numbers rise strictly; a field of another kind has none
 abbrev pub rises_at : Data → Field → Bool
 rises_at d field = is_rising (numbers_at d field)
-
--- the version by whose fields an object is checked: 2 where its version is the whole number 2, and else 1
-abbrev pub version_in : Data → Version
-version_in d = version_by (number_at d field.Version)
 
 -- the checks on an object's fields by those of a version
 unfoldable pub checks_by : Version → Data → Result ⊤ Refusal

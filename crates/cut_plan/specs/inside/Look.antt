@@ -1,22 +1,16 @@
 -- The values of JSON that the crate holds, as the definitions see them. Only its private clauses cite it.
-use Rattle.std.specs.Prelude.{◌≡◌, ℕ, ◌≤◌, List, map, length, nat_lt, IsTrue}
+use Rattle.std.specs.Prelude.{◌≡◌, ℕ, ◌≤◌, List, length, nat_lt, IsTrue}
 use Rattle.std.specs.List.{list_all, fold}
 use Rattle.cut_plan.specs.declared.limits.TheConstants.{MOST_NODES, MOST_RINGS}
 use Rattle.serde_json.specs.Data.{Data, object, Members, no_members, put}
-use Rattle.serde_json.specs.View.{view}
-use Rattle.serde_json.specs.declared.value.Value.{Value}
-use Rattle.cut_plan.specs.Fields.{name_of, fields_of, number_in}
-use Rattle.cut_plan.specs.inside.Fields.{numbers_at}
+use Rattle.cut_fields.specs.Fields.{name_of, fields_of}
+use Rattle.cut_fields.specs.Members.{numbers_at}
 use Rattle.cut_plan.specs.Values.{Values}
-use Rattle.cut_plan.specs.Versions.{version_of}
+use Rattle.cut_plan.specs.Failing.{version_of}
 use Rattle.cut_plan.specs.Canonical.{said, members_with}
-use Rattle.cut_plan.specs.declared.field.Field.{Field}
-use Rattle.cut_plan.specs.declared.field.Field.TheVariants as field
+use Rattle.cut_fields.specs.declared.field.Field.{Field}
+use Rattle.cut_fields.specs.declared.field.Field.TheVariants as field
 use Rattle.cut_plan.specs.declared.plan_lists.Lists.{Lists}
-
--- the numbers that values hold, 0 for a value of another kind
-abbrev pub item_numbers : List Value → List ℕ
-item_numbers vs = map (λ v. number_in (view v)) vs
 
 -- each number is below a bound
 abbrev pub AreBelow : ℕ → List ℕ → Type 0

@@ -3,7 +3,7 @@ use Rattle.std.specs.Prelude.{◌≡◌, ◌<◌, ℕ, true, length, Result, Ok,
 use Rattle.std.proofs.Common.{refl, arith}
 use Rattle.cut_lines.specs.declared.line.TheConstants.{LONGEST_LINE}
 use Rattle.cut_plan.specs.Cells.{cells_of}
-use Rattle.cut_plan.specs.Versions.{version_of}
+use Rattle.cut_plan.specs.Failing.{version_of}
 use Rattle.cut_lines.specs.Lines.{header}
 use Rattle.cut_ledger.specs.Contents.{Contents, cell_done}
 use Rattle.cut_wires.specs.declared.rows.RowsFault.{RowsFault}

@@ -2,11 +2,11 @@
 use Rattle.std.specs.Prelude.{◌≡◌, ℕ, ◌<◌, ◌^◌, Bool, false, List, map, take, length, Option, Some, IfSome, IsTrue}
 use Rattle.cut_alerts.specs.Assignment.{Assignment}
 use Rattle.cut_plan.specs.declared.cell.Cell.{Cell}
-use Rattle.cut_plan.specs.Versions.{version_of}
+use Rattle.cut_plan.specs.Failing.{version_of}
 use Rattle.cut_draws.specs.Source.{Source}
 use Rattle.cut_detector.specs.Rule.{rule_of}
 use Rattle.cut_detector.specs.declared.proposal.Proposal.{Proposal}
-use Rattle.cut_plan.specs.declared.version.Version.{Version}
+use Rattle.cut_fields.specs.declared.version.Version.{Version}
 use Rattle.cut_arrivals.specs.Hearing.{Hearing, proposal_at}
 use Rattle.cut_receivers.specs.declared.finding.Finding.{Finding}
 use Rattle.cut_receivers.specs.declared.receivers.Receivers.{Receivers}

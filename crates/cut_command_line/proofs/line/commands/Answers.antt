@@ -1,6 +1,6 @@
 use Rattle.std.proofs.Common.{ap, true, codes, ◌≡◌, ◌∙◌}
 use Rattle.std.proofs.lemmas.Result.{IfOk-weaker}
-use Rattle.clap.specs.Words.{App, Shape, app_of, new_app, with_subcommand}
+use Rattle.clap.specs.Words.{App, app_of, new_app, with_subcommand}
 use Rattle.clap.specs.Simple.{app_of_fields}
 use Rattle.cut_command_line.specs.inside.Line.{ask_app, canonical_app, check_app, explain_app, join_app, migrate_app, run_app}
 use Rattle.cut_command_line.specs.Line.{program_app}
@@ -16,9 +16,6 @@ requires_one a = record a { top = record a.top { subcommand_required = true } }
 
 abbrev helps : App → App
 helps a = record a { top = record a.top { arg_required_else_help = true } }
-
-abbrev top_of : App → Shape
-top_of a = a.top
 
 pub returns : goal.returns
 unfolding program_app

@@ -4,7 +4,7 @@ use Rattle.std.proofs.lemmas.Result.{IfOk-weaker}
 use Rattle.clap.specs.Words.{Row, Text, found_of, rows_of, subcommand_name_of, subcommand_rows_of}
 use Rattle.clap.specs.declared.parser.matches.ArgMatches.{ArgMatches}
 use Rattle.cut_command_line.specs.declared.line.Job.{Job}
-use Rattle.cut_command_line.specs.Line.{AsksFor}
+use Rattle.cut_command_line.specs.Line.{AsksForJob}
 use Rattle.cut_command_line.specs.inside.Line.{GivesJob, IsJobOf}
 use Rattle.cut_command_line.proofs.line.job_of.Goals as goal
 
@@ -12,10 +12,10 @@ names_agree : (m : ArgMatches) → option_map (λ p. p.0) (subcommand_rows_of m)
 names_agree m = search rules
 
 -- the same name and matches ask for the same job
-asks_same : (job : Job) {a b : Text} {rs qs : List Row} → a ≡ b → rs ≡ qs → AsksFor a rs job → AsksFor b qs job
+asks_same : (job : Job) {a b : Text} {rs qs : List Row} → a ≡ b → rs ≡ qs → AsksForJob a rs job → AsksForJob b qs job
 asks_same job {b = b} {rs = rs} same_name same_rows asks =
-    subst (λ (qs : List Row). AsksFor b qs job) same_rows
-    (subst (λ (name : Text). AsksFor name rs job) same_name asks)
+    subst (λ (qs : List Row). AsksForJob b qs job) same_rows
+    (subst (λ (name : Text). AsksForJob name rs job) same_name asks)
 
 -- a subcommand of some name and matches gives the job that they give, or none
 is_job : (sub : Option (Text × List Row)) (name word : Text) (rows : List Row) (found : Option Job)

@@ -1,6 +1,6 @@
 use Rattle.std.proofs.Common.{◌≡◌, ◌∙◌, ◌||◌, ℕ, Bool, true, false, List, sym, ap}
 use Rattle.std.specs.Prelude.{bytes_eq}
-use Rattle.cut_plan.specs.declared.version.Version.TheVariants.{One, Two}
+use Rattle.cut_fields.specs.declared.version.Version.TheVariants.{One, Two}
 use Rattle.cut_journal.specs.File.{magic_of}
 use Rattle.cut_journal.specs.Reading.{is_magic}
 use Rattle.cut_journal.proofs.layout.is_magic.Goals as goal

@@ -2,7 +2,7 @@ use Rattle.std.proofs.Common.{Option, false, IfSome, ◌≡◌, ◌∙◌, ◌<�
 use Rattle.std.proofs.Common.{length, sym, ap, subst, arith, IfErr, zero-add, length-append}
 use Rattle.std.proofs.lemmas.Result.{err_from_is_err_and}
 use Rattle.std.proofs.lemmas.List.FromFn.{map-range_with_len_more}
-use Rattle.cut_plan.specs.Versions.{version_of}
+use Rattle.cut_plan.specs.Failing.{version_of}
 use Rattle.cut_plan.specs.Values.{Values}
 use Rattle.cut_disks.specs.State.{DiskState}
 use Rattle.cut_journal.specs.declared.fault.JournalFault.{JournalFault}

@@ -7,7 +7,7 @@ use Rattle.cut_lists.proofs.Intervals.{take_range}
 use Rattle.cut_lists.proofs.Ranges.{range_with_len_more}
 use Rattle.cut_ledger.proofs.Words.{Contents, Totals, Values, cell_done, cell_sum, cells_of, flat_map, header}
 use Rattle.cut_ledger.proofs.Words.{line_with, prefix_len, range_with_len}
-use Rattle.cut_plan.specs.Versions.{version_of}
+use Rattle.cut_plan.specs.Failing.{version_of}
 use Rattle.cut_ledger.proofs.available.available.Goals as goal
 
 -- how many of the first cells are done

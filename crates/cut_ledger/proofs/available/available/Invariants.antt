@@ -1,6 +1,6 @@
 use Rattle.std.proofs.Common.{◌≡◌, ◌++◌}
 use Rattle.cut_ledger.proofs.Words.{cell_sum, flat_map, header, line_with, range_with_len}
-use Rattle.cut_plan.specs.Versions.{version_of}
+use Rattle.cut_plan.specs.Failing.{version_of}
 use Rattle.cut_ledger.proofs.available.available.Given as goal
 
 -- the header and the lines so far

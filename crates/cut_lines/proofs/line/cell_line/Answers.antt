@@ -2,7 +2,7 @@ use Rattle.std.proofs.Common.{◌≡◌, ℕ, List, [], ◌∷◌, ◌++◌, IfO
 use Rattle.std.proofs.lemmas.Option.{get_or_from_slice_get}
 use Rattle.cut_plan.specs.declared.cell.Cell.{Cell}
 use Rattle.cut_plan.specs.Cells.{cells_of}
-use Rattle.cut_plan.specs.Versions.{version_of}
+use Rattle.cut_plan.specs.Failing.{version_of}
 use Rattle.cut_outcome.specs.declared.totals.Totals.{Totals}
 use Rattle.cut_outcome.specs.Outcome.{no_cell}
 use Rattle.cut_lines.specs.Lines.{comma_line, columns, cell_numbered, line_with, settled_column}

@@ -1,6 +1,6 @@
 use Rattle.std.proofs.Common.{◌≡◌, ℕ, suc, drop}
 use Rattle.cut_plan.specs.Plan.{is_rising}
-use Rattle.cut_plan.specs.inside.Look.{item_numbers}
+use Rattle.cut_fields.specs.Members.{item_numbers}
 use Rattle.cut_plan.proofs.field_checks.are_rising.Given as goal
 
 abbrev pub invariant-loop-i : goal.invariant-loop-i

@@ -1,7 +1,7 @@
 use Rattle.std.proofs.Common.{◌≡◌, arith, ◌∙◌, sym}
 use Rattle.serde_json.specs.View.{view}
-use Rattle.cut_plan.specs.declared.version.Version.TheVariants.{Two}
-use Rattle.cut_plan.specs.inside.Accepted.{version_in}
+use Rattle.cut_fields.specs.declared.version.Version.TheVariants.{Two}
+use Rattle.cut_fields.specs.Members.{version_in}
 use Rattle.cut_plan.proofs.PlanFacts.{deaf_below}
 use Rattle.cut_plan.proofs.field_checks.failing_at.Goals as goal
 

@@ -1,8 +1,8 @@
 use Rattle.std.proofs.Common.{◌≡◌, length, arith, refl, ap, ◌∙◌}
 use Rattle.serde_json.specs.View.{view}
-use Rattle.cut_plan.specs.declared.field.Field.TheVariants as field
+use Rattle.cut_fields.specs.declared.field.Field.TheVariants as field
 use Rattle.cut_plan.specs.Cells.{cells_of, largest}
-use Rattle.cut_plan.specs.inside.Fields.{numbers_at}
+use Rattle.cut_fields.specs.Members.{numbers_at}
 use Rattle.cut_plan.specs.Accepted.{limit_check}
 use Rattle.cut_plan.specs.inside.Accepted.{values_in}
 use Rattle.cut_plan.proofs.PlanFacts.{few_f, few_h, few_k, few_l, few_liars, few_links}

@@ -1,5 +1,5 @@
 use Rattle.std.proofs.Common.{◌≡◌, take}
-use Rattle.cut_plan.specs.inside.Look.{item_numbers}
+use Rattle.cut_fields.specs.Members.{item_numbers}
 use Rattle.cut_plan.proofs.plan_lists.shorts.Given as goal
 
 abbrev pub invariant-loop-i : goal.invariant-loop-i

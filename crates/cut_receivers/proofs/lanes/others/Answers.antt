@@ -1,9 +1,9 @@
 use Rattle.std.proofs.Common.{◌≡◌, ◌∙◌, ℕ, Bool, nat_lt, cond, List, [], slice_index, slice_index_or, ap}
 use Rattle.cut_lanes.specs.Lanes.{lane}
-use Rattle.cut_receivers.proofs.Choices.{value_lane}
 use Rattle.cut_receivers.proofs.Marks.{mark_late, mark_ended}
 use Rattle.cut_receivers.proofs.lanes.others.Goals.{then-wanted-place, else-wanted-place}
 use Rattle.cut_receivers.proofs.lanes.others.Goals as goal
+use Rattle.cut_lanes.proofs.Insertions.{value_lane}
 
 pub loop-place-preserved : goal.loop-place-preserved
 loop-place-preserved c i low =

@@ -73,45 +73,6 @@ returns-in_err-is_done-clause-ends g c =
     (start.rest ∷ start.later.now) (mid.rest ∷ mid.later.now) (new.rest ∷ new.later.now) tasks log
     c.loop-pieces.journal c.run_batch.new.journal held.honest.0 held.upto deal.own deal.times two)
 
-pub loop-pieces-preserved-then-is_whole : goal.loop-pieces-preserved-then-is_whole
-loop-pieces-preserved-then-is_whole g c =
-    let held = c.loop-pieces.invariant in
-    let start = c.args.pieces in
-    let mid = c.loop-pieces.pieces in
-    let new = c.deal-count.new.pieces in
-    let log = c.args.journal.now in
-    let tasks : List Task = c.run_batch.new.tasks in
-    let dealt : List Piece = pieces_of (take c.deal-count.result c.deal-count.new.tasks) in
-    let are : pieces_of tasks ≡ dealt = c.run_batch.ensures.pieces in
-    let deal = deal_of start.share mid.share start.plan.now mid.plan.now dealt (pieces_of tasks)
-    (mid.rest ∷ mid.later.now) (new.rest ∷ new.later.now) held.share held.plan are c.deal-count.ensures.own
-    c.deal-count.ensures.taken in
-    let done : Bool = c.in_ok-is_done.is_done in
-    let one : EndsAppends {T = Bool} g.D.Disk.is_honest g.D.Disk.state (Ok done) c.loop-pieces.journal.plan
-    (done_of tasks) c.loop-pieces.journal c.run_batch.new.journal = c.in_ok-is_done.ensures.ends in
-    let two : EndsAppends {T = Bool} g.D.Disk.is_honest g.D.Disk.state (Ok done) start.plan.now (done_of tasks)
-    c.loop-pieces.journal c.run_batch.new.journal =
-    subst (λ (v : Values). EndsAppends {T = Bool} g.D.Disk.is_honest g.D.Disk.state (Ok done) v (done_of tasks)
-    c.loop-pieces.journal c.run_batch.new.journal) (held.upto.kept.added.plan ∙ c.requires.own) one in
-    let more : IsUpTo g.D.Disk.is_honest g.D.Disk.state (c.loop-pieces.is_whole && done) start.share start.plan.now
-    (start.rest ∷ start.later.now) (new.rest ∷ new.later.now) log c.run_batch.new.journal =
-    batch_more g.D.Disk.is_honest g.D.Disk.state c.loop-pieces.is_whole done start.share start.plan.now
-    (start.rest ∷ start.later.now) (mid.rest ∷ mid.later.now) (new.rest ∷ new.later.now) tasks log
-    c.loop-pieces.journal c.run_batch.new.journal held.honest.0 held.upto deal.own deal.times
-    c.in_ok-is_done.ensures.done two in
-    record {
-      plan = c.deal-count.ensures.plan ∙ held.plan;
-      share = c.deal-count.ensures.share ∙ held.share;
-      upto = subst (λ (b : Bool). IsUpTo g.D.Disk.is_honest g.D.Disk.state (b && done) start.share start.plan.now
-          (start.rest ∷ start.later.now) (new.rest ∷ new.later.now) log c.run_batch.new.journal) c.if-is_whole.true
-          more;
-      honest = (
-        λ h. c.run_batch.ensures.honest.0 (held.honest.0 h),
-        λ h. held.honest.1 (c.run_batch.ensures.honest.1 h),
-      );
-      faults = c.in_ok-is_done.ensures.faults ∙ held.faults;
-    }
-
 pub loop-pieces-preserved : goal.loop-pieces-preserved
 loop-pieces-preserved g c =
     let held = c.loop-pieces.invariant in
@@ -138,13 +99,10 @@ loop-pieces-preserved g c =
     (start.rest ∷ start.later.now) (mid.rest ∷ mid.later.now) (new.rest ∷ new.later.now) tasks log
     c.loop-pieces.journal c.run_batch.new.journal held.honest.0 held.upto deal.own deal.times
     c.in_ok-is_done.ensures.done two in
-    let same : (c.loop-pieces.is_whole && done) ≡ c.loop-pieces.is_whole =
-    ap (λ (b : Bool). b && done) c.if-is_whole.false ∙ sym c.if-is_whole.false in
     record {
       plan = c.deal-count.ensures.plan ∙ held.plan;
       share = c.deal-count.ensures.share ∙ held.share;
-      upto = subst (λ (b : Bool). IsUpTo g.D.Disk.is_honest g.D.Disk.state b start.share start.plan.now
-          (start.rest ∷ start.later.now) (new.rest ∷ new.later.now) log c.run_batch.new.journal) same more;
+      upto = more;
       honest = (
         λ h. c.run_batch.ensures.honest.0 (held.honest.0 h),
         λ h. held.honest.1 (c.run_batch.ensures.honest.1 h),

@@ -1,7 +1,7 @@
 use Rattle.std.proofs.Common.{◌≡◌, ◌∙◌, ◌++◌, ◌+◌, ◌-◌, List, ℕ, take, refl, ap, arith}
 use Rattle.sha2.specs.Sha256.{sha256}
-use Rattle.cut_plan.specs.declared.version.Version.TheVariants.{Two}
-use Rattle.cut_plan.specs.Versions.{version_of}
+use Rattle.cut_fields.specs.declared.version.Version.TheVariants.{Two}
+use Rattle.cut_plan.specs.Failing.{version_of}
 use Rattle.cut_journal.specs.File.{numbers_length, number_bytes, header_digest}
 use Rattle.cut_journal.proofs.SlipBytes.{slip_made, numbers_shown, gate_left}
 use Rattle.cut_journal.proofs.format.FileHeader.slip_bytes.Goals as goal

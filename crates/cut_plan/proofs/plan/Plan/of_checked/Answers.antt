@@ -3,9 +3,9 @@ use Rattle.std.specs.Option.{unwrap_or}
 use Rattle.std.specs.Result.{result_ok}
 use Rattle.hex.specs.Hex.{decode_sized}
 use Rattle.serde_json.specs.View.{view}
-use Rattle.cut_plan.specs.declared.field.Field.TheVariants as field
+use Rattle.cut_fields.specs.declared.field.Field.TheVariants as field
 use Rattle.cut_plan.specs.Plan.{IsPlan}
-use Rattle.cut_plan.specs.inside.Fields.{text_at}
+use Rattle.cut_fields.specs.Members.{text_at}
 use Rattle.cut_plan.proofs.Checked.{checked_facts}
 use Rattle.cut_plan.proofs.PlanFacts.{few_copies, few_liars, few_links, few_processes, few_repeats, plan_facts}
 use Rattle.cut_plan.proofs.PlanFacts.{failing_by_version}

@@ -1,8 +1,8 @@
 use Rattle.std.proofs.Common.{◌∙◌, ap}
 use Rattle.serde_json.specs.Data.{object}
 use Rattle.serde_json.proofs.Views.{view-Object}
-use Rattle.cut_plan.specs.Versions.{version_of}
-use Rattle.cut_plan.specs.Fields.{fields_of}
+use Rattle.cut_plan.specs.Failing.{version_of}
+use Rattle.cut_fields.specs.Fields.{fields_of}
 use Rattle.cut_plan.specs.inside.Look.{with_fields}
 use Rattle.cut_plan.proofs.Writing.{with_own_fields, take_fields}
 use Rattle.cut_plan.proofs.plan.Plan.to_value.Goals as goal

@@ -7,12 +7,12 @@ use Rattle.cut_nodes.specs.declared.node.Node.{Node}
 use Rattle.cut_nodes.specs.Nodes.{subjects_of}
 use Rattle.cut_receivers.specs.Heard.{HasHeard}
 use Rattle.cut_receivers.specs.Findings.{members_at}
-use Rattle.cut_receivers.proofs.Choices.{value_lane}
 use Rattle.cut_receivers.proofs.Placed.{subject_at, count_subjects}
 use Rattle.cut_receivers.proofs.Judged.{high_at, members_are, if_some, certain_of}
 use Rattle.cut_receivers.proofs.Kept.{filter_kept_next, filter_left_next}
 use Rattle.cut_receivers.proofs.receivers.Receivers.members.Goals.{then-has_ended, else-has_ended}
 use Rattle.cut_receivers.proofs.receivers.Receivers.members.Goals as goal
+use Rattle.cut_lanes.proofs.Insertions.{value_lane}
 
 pub loop-place-preserved : goal.loop-place-preserved
 loop-place-preserved c =

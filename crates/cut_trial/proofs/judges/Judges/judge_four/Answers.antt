@@ -12,7 +12,7 @@ use Rattle.cut_outcome.proofs.Words.{is_target}
 use Rattle.cut_trial.proofs.Placed.{found_placed}
 use Rattle.cut_trial.specs.declared.judges.Found.{Found}
 use Rattle.cut_trial.specs.inside.Judging.{IsFound, IsFoundIn}
-use Rattle.cut_plan.specs.Versions.{version_of}
+use Rattle.cut_plan.specs.Failing.{version_of}
 use Rattle.cut_arrivals.specs.Hearing.{Hearing}
 use Rattle.cut_trial.proofs.Judged.{receiver_within, same_judged}
 use Rattle.cut_trial.proofs.judges.Judges.judge_four.Goals as goal

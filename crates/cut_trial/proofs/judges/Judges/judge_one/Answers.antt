@@ -3,7 +3,7 @@ use Rattle.cut_arrivals.specs.Hearing.{proposal_at}
 use Rattle.cut_nodes.specs.Nodes.{subjects_of}
 use Rattle.cut_receivers.specs.Findings.{flagged, members_at}
 use Rattle.cut_receivers.specs.Heard.{hearing_of}
-use Rattle.cut_plan.specs.Versions.{version_of}
+use Rattle.cut_plan.specs.Failing.{version_of}
 use Rattle.cut_trial.specs.inside.Judging.{proposed_by, proposals_to}
 use Rattle.cut_trial.proofs.Placed.{placed_for}
 use Rattle.cut_outcome.proofs.Words.{IfSome, Proposal, IsPlaced, all_deliveries, early, rule_of}
