@@ -1,62 +1,17 @@
-ghost use Rattle.std.specs.Prelude.{◌≡◌, ℕ, [], codes, false, map, IfOk, IfErr, IfSome, IfNone};
-ghost use Rattle.clap.specs.Words.{app_of, fault_of, found_of, rows_of, rule_of, subcommand_rows_of, with_subcommand};
-ghost use Rattle.cut_command_line.specs.Line.{flag_rule, option_rule, word_rule};
-ghost use Rattle.cut_command_line.specs.inside.Line.{count_rule, piece_rule, workers_rule};
-ghost use Rattle.cut_command_line.specs.inside.Line.{ask_app, canonical_app, check_app, explain_app};
-ghost use Rattle.cut_command_line.specs.Line.{program_app};
-ghost use Rattle.cut_command_line.specs.inside.Line.{migrate_app, run_app, serve_app, status_app};
+ghost use Rattle.std.specs.Prelude.{◌≡◌, ℕ, [], codes, map, IfOk, IfErr, IfSome, IfNone};
+ghost use Rattle.clap.specs.Words.{fault_of, found_of, rows_of, subcommand_rows_of};
+ghost use Rattle.cut_options.specs.Options.{program_app};
 ghost use Rattle.cut_command_line.specs.Line.{EndsLine, GivesFlag, GivesNumber, IsSizedJob};
 ghost use Rattle.cut_command_line.specs.inside.Line.{GivesJob, IsJobOf};
 ghost use Rattle.cut_command_line.specs.Line.{NamesJob, status_of_kind};
 ghost use Rattle.cut_command_line.specs.declared.line.Job.{Job};
 
-use crate::machines::{WRONG_SHARE, add_join, add_share, join_job, share_job};
+use crate::machines::{WRONG_SHARE, join_job, share_job};
 use clap::error::ErrorKind;
-use clap::{Arg, ArgAction, ArgMatches, Command, Error};
+use clap::{ArgMatches, Command, Error};
+use cut_options::{LARGEST_PIECE, MOST_OF_EACH, MOST_WORKERS, program_commands};
 use std::alloc::{AllocError, Global};
 use std::convert::AsStr;
-
-/// How many trials a piece of a study has at most.
-pub(crate) const LARGEST_PIECE: u32 = 1_000_000;
-
-/// How many workers a study has at most.
-pub(crate) const MOST_WORKERS: u32 = 64;
-
-/// What `--version` prints after the program's name: its version, and that of the kit that it is proved with.
-const VERSION: &str = "0.9.0 (proved with rattle-kit-13f)";
-
-/// What follows the help of each command: an example, and where to read more.
-const GUIDE: &str = "A plan is read from standard input. See docs/GUIDE.md.";
-
-const RUN_EXAMPLE: &str =
-    "Example: cutlab run --workers 4 --checkpoint study.cut < plan.json\nThe plan is awaited on standard input, also where that is a terminal: Ctrl-D ends it.\nSee docs/GUIDE.md.";
-
-const CHECK_EXAMPLE: &str = "Example: cutlab check < plan.json\nSee docs/GUIDE.md.";
-
-const EXPLAIN_EXAMPLE: &str = "Example: cutlab explain < plan.json\nSee docs/GUIDE.md.";
-
-const CANONICAL_EXAMPLE: &str =
-    "Example: cutlab canonical < plan.json > canonical.json\nSee docs/GUIDE.md.";
-
-const STATUS_EXAMPLE: &str = "Example: cutlab status study.cut\nSee docs/GUIDE.md.";
-
-const SERVE_EXAMPLE: &str =
-    "Example: cutlab serve cutlab.sock --workers 4 --sessions 2 --studies 2 --dir studies\nSee docs/GUIDE.md.";
-
-const ASK_EXAMPLE: &str = "Example: cutlab ask cutlab.sock < plan.json\nSee docs/GUIDE.md.";
-
-const MIGRATE_EXAMPLE: &str =
-    "Example: cutlab migrate study.cut study2.cut < plan.json\nSee docs/GUIDE.md.";
-
-/// What the help says of the flag `--progress`.
-pub(crate) const PROGRESS_HELP: &str =
-    "Say on standard error, at most once a second, how many trials are done";
-
-/// What the help says of the word `SOCKET`.
-const SOCKET_HELP: &str = "The path of the server's socket";
-
-/// How many workers, sessions and studies a server has at most, of each.
-const MOST_OF_EACH: u32 = 64;
 
 /// A command of the program, with its values.
 #[derive(Debug, Drop, PartialEq, Eq)]
@@ -152,7 +107,7 @@ pub fn parse_line<'a, S: AsStr>(alloc: Global, words: &'a [S]) -> Result<Job<'a>
     ensures faultless { IfOk result (λ _. fault_of program_app (map S.text words.now) ≡ []) }
     ensures err { IfErr result (λ e. EndsLine (map S.text words.now) e.status) }
 {
-    let Ok(mut command) = commands(alloc) else {
+    let Ok(mut command) = program_commands(alloc) else {
         return Err(line_fault(alloc, ErrorKind::OutOfMemory, None));
     };
     let matches = match command.try_get_matches_from_mut(words) {
@@ -278,226 +233,6 @@ pub(crate) fn flag_given(given: &ArgMatches, flag: &str) -> bool
     ensures { GivesFlag flag.now (rows_of (found_of given.now)) result }
 {
     given.get_flag(flag)
-}
-
-/// The program's commands.
-fn commands<'a>(alloc: Global) -> Result<Command<'a>, AllocError>
-    ensures { IfOk result (λ command. app_of command ≡ program_app) }
-{
-    let program = Command::new(alloc, "cutlab")
-        .bin_name("cutlab")?
-        .about("How often processes propose a cut that misses failed ones, for each K, H, L and F")
-        .version(VERSION)
-        .after_help(GUIDE)
-        .subcommand_required(true)
-        .arg_required_else_help(true);
-    let program = add_check(alloc, add_run(alloc, program)?)?;
-    let with_canonical = add_canonical(alloc, add_explain(alloc, program)?)?;
-    let with_serve = add_serve(alloc, add_status(alloc, with_canonical)?)?;
-    let with_migrate = add_migrate(alloc, add_ask(alloc, with_serve)?)?;
-    add_join(alloc, add_share(alloc, with_migrate)?)
-}
-
-/// Adds the command `run`.
-fn add_run<'a>(alloc: Global, program: Command<'a>) -> Result<Command<'a>, AllocError>
-    ensures { IfOk result (λ r. app_of r ≡ with_subcommand (app_of program.entry) run_app.top) }
-{
-    let run = Command::new(alloc, "run")
-        .about("Read a plan and print its table")
-        .after_help(RUN_EXAMPLE)
-        .arg(piece_option(alloc))?
-        .arg(workers_option(alloc))?
-        .arg(value_option(
-            alloc,
-            "checkpoint",
-            "FILE",
-            "Keep the study in this file, and go on from what it holds; overwrites a file that holds no study",
-        ))?
-        .arg(flag(alloc, "progress", PROGRESS_HELP))?;
-    program.subcommand(run)
-}
-
-/// Adds the command `check`.
-fn add_check<'a>(alloc: Global, program: Command<'a>) -> Result<Command<'a>, AllocError>
-    ensures { IfOk result (λ r. app_of r ≡ with_subcommand (app_of program.entry) check_app.top) }
-{
-    let check = Command::new(alloc, "check")
-        .about("Read a plan and print its cells, its trials and the quorum")
-        .after_help(CHECK_EXAMPLE);
-    program.subcommand(check)
-}
-
-/// Adds the command `explain`.
-fn add_explain<'a>(alloc: Global, program: Command<'a>) -> Result<Command<'a>, AllocError>
-    ensures { IfOk result (λ r. app_of r ≡ with_subcommand (app_of program.entry) explain_app.top) }
-{
-    let explain = Command::new(alloc, "explain")
-        .about("Read a plan and say in words what is right or wrong with it")
-        .after_help(EXPLAIN_EXAMPLE);
-    program.subcommand(explain)
-}
-
-/// Adds the command `canonical`.
-fn add_canonical<'a>(alloc: Global, program: Command<'a>) -> Result<Command<'a>, AllocError>
-    ensures { IfOk result (λ r. app_of r ≡ with_subcommand (app_of program.entry) canonical_app.top) }
-{
-    let canonical = Command::new(alloc, "canonical")
-        .about("Read a plan and print its canonical text")
-        .after_help(CANONICAL_EXAMPLE);
-    program.subcommand(canonical)
-}
-
-/// Adds the command `status`.
-fn add_status<'a>(alloc: Global, program: Command<'a>) -> Result<Command<'a>, AllocError>
-    ensures { IfOk result (λ r. app_of r ≡ with_subcommand (app_of program.entry) status_app.top) }
-{
-    let status = Command::new(alloc, "status")
-        .about("Print what a checkpoint holds, also while a study writes it")
-        .after_help(STATUS_EXAMPLE)
-        .arg(needed_word(alloc, "file", "FILE", "The checkpoint, which is only read"))?;
-    program.subcommand(status)
-}
-
-/// Adds the command `serve`.
-fn add_serve<'a>(alloc: Global, program: Command<'a>) -> Result<Command<'a>, AllocError>
-    ensures { IfOk result (λ r. app_of r ≡ with_subcommand (app_of program.entry) serve_app.top) }
-{
-    let serve = Command::new(alloc, "serve")
-        .about("Serve clients at a socket, and print how many trials were accepted")
-        .after_help(SERVE_EXAMPLE)
-        .arg(needed_word(alloc, "socket", "SOCKET", SOCKET_HELP))?
-        .arg(count_option(
-            alloc,
-            "workers",
-            "How many threads work on the studies, from 1 to 64",
-        ))?
-        .arg(count_option(
-            alloc,
-            "sessions",
-            "How many connections are taken, from 1 to 64",
-        ))?
-        .arg(count_option(
-            alloc,
-            "studies",
-            "For how many studies there is room, from 1 to 64",
-        ))?
-        .arg(value_option(
-            alloc,
-            "dir",
-            "DIR",
-            "Keep each study in a file of this folder, and go on from what it holds",
-        ))?;
-    program.subcommand(serve)
-}
-
-/// Adds the command `ask`.
-fn add_ask<'a>(alloc: Global, program: Command<'a>) -> Result<Command<'a>, AllocError>
-    ensures { IfOk result (λ r. app_of r ≡ with_subcommand (app_of program.entry) ask_app.top) }
-{
-    let ask = Command::new(alloc, "ask")
-        .about("Read a plan, ask a server for its table and print it")
-        .after_help(ASK_EXAMPLE)
-        .arg(needed_word(alloc, "socket", "SOCKET", SOCKET_HELP))?;
-    program.subcommand(ask)
-}
-
-/// Adds the command `migrate`.
-fn add_migrate<'a>(alloc: Global, program: Command<'a>) -> Result<Command<'a>, AllocError>
-    ensures { IfOk result (λ r. app_of r ≡ with_subcommand (app_of program.entry) migrate_app.top) }
-{
-    let migrate = Command::new(alloc, "migrate")
-        .about("Move a checkpoint of version 1 to a new one of version 2")
-        .after_help(MIGRATE_EXAMPLE)
-        .arg(needed_word(
-            alloc,
-            "old",
-            "OLD",
-            "The checkpoint of version 1, which stays as it is",
-        ))?
-        .arg(needed_word(
-            alloc,
-            "new",
-            "NEW",
-            "The file of the new checkpoint, which holds no study",
-        ))?;
-    program.subcommand(migrate)
-}
-
-/// A word that has to be given.
-pub(crate) fn needed_word<'a>(
-    alloc: Global,
-    name: &'a str,
-    value_name: &'a str,
-    help: &'a str,
-) -> Arg<'a>
-    ensures rule { rule_of result ≡ word_rule name.entry.now }
-    ensures local { result.global ≡ false }
-{
-    Arg::new(alloc, name)
-        .value_name(value_name)
-        .required(true)
-        .help(help)
-}
-
-/// An option with a value.
-fn value_option<'a>(alloc: Global, name: &'a str, value_name: &'a str, help: &'a str) -> Arg<'a>
-    ensures rule { rule_of result ≡ option_rule name.entry.now }
-    ensures local { result.global ≡ false }
-{
-    Arg::new(alloc, name)
-        .long(name)
-        .value_name(value_name)
-        .help(help)
-}
-
-/// A flag.
-pub(crate) fn flag<'a>(alloc: Global, name: &'a str, help: &'a str) -> Arg<'a>
-    ensures rule { rule_of result ≡ flag_rule name.entry.now }
-    ensures local { result.global ≡ false }
-{
-    Arg::new(alloc, name)
-        .long(name)
-        .action(ArgAction::SetTrue)
-        .help(help)
-}
-
-/// An option that says how many of something a server has.
-fn count_option<'a>(alloc: Global, name: &'a str, help: &'a str) -> Arg<'a>
-    ensures rule { rule_of result ≡ count_rule name.entry.now }
-    ensures local { result.global ≡ false }
-{
-    Arg::new(alloc, name)
-        .long(name)
-        .value_name("COUNT")
-        .value_parser(clap::value_parser!(u32).range(1..=64))
-        .required(true)
-        .help(help)
-}
-
-/// The option that says how many trials are run as one piece.
-pub(crate) fn piece_option<'a>(alloc: Global) -> Arg<'a>
-    ensures rule { rule_of result ≡ piece_rule }
-    ensures local { result.global ≡ false }
-{
-    Arg::new(alloc, "piece")
-        .long("piece")
-        .value_name("TRIALS")
-        .value_parser(clap::value_parser!(u32).range(1..=1_000_000))
-        .default_value("16")
-        .help("How many trials are run as one piece, from 1 to 1000000")
-}
-
-/// The option that says how many threads work on a study.
-pub(crate) fn workers_option<'a>(alloc: Global) -> Arg<'a>
-    ensures rule { rule_of result ≡ workers_rule }
-    ensures local { result.global ≡ false }
-{
-    Arg::new(alloc, "workers")
-        .long("workers")
-        .value_name("COUNT")
-        .value_parser(clap::value_parser!(u32).range(1..=64))
-        .default_value("1")
-        .help("How many threads work on the study, from 1 to 64")
 }
 
 /// The fault of a command line in which clap found this, with clap's text where it has one.

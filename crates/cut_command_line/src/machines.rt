@@ -1,35 +1,19 @@
 //! The commands of studies on many machines.
 
-ghost use Rattle.std.specs.Prelude.{◌≡◌, ℕ, codes, false, IfOk, IfSome, IfNone};
-ghost use Rattle.clap.specs.Words.{app_of, found_of, rows_of, rule_of, with_subcommand};
-ghost use Rattle.cut_command_line.specs.Line.{files_rule};
-ghost use Rattle.cut_command_line.specs.inside.Line.{join_app, share_app};
+ghost use Rattle.std.specs.Prelude.{◌≡◌, ℕ, codes, IfOk, IfSome, IfNone};
+ghost use Rattle.clap.specs.Words.{found_of, rows_of};
 ghost use Rattle.cut_command_line.specs.Line.{GivesShare, IsNumberIn, IsSizedJob};
 ghost use Rattle.cut_command_line.specs.inside.Line.{GivesJob};
 
 use crate::Job;
-use crate::line::{
-    LARGEST_PIECE, MOST_WORKERS, PROGRESS_HELP, flag, flag_given, needed_word, number_given,
-    piece_option, workers_option,
-};
-use clap::{Arg, ArgMatches, Command};
+use crate::line::{flag_given, number_given};
+use clap::ArgMatches;
+use cut_options::{LARGEST_PIECE, MOST_SHARES, MOST_WORKERS};
 use std::alloc::{AllocError, Global};
-
-/// How many shares there are at most.
-const MOST_SHARES: u32 = 100_000;
-
-/// How many checkpoints are joined at most.
-const MOST_CHECKPOINTS: usize = 1_000;
 
 /// What is wrong with a word that is no share.
 pub(crate) const WRONG_SHARE: &str =
     "the value for '<I/N>' is none: expected the number of a share, from 1, a slash, and how many shares there are, at most 100000, as in 2/8";
-
-const SHARE_EXAMPLE: &str =
-    "Example: cutlab share 2/8 --workers 4 share2.cut < plan.json\nSee docs/GUIDE.md.";
-
-const JOIN_EXAMPLE: &str =
-    "Example: cutlab join study.cut share1.cut share2.cut < plan.json\nSee docs/GUIDE.md.";
 
 /// Which share, and of how many.
 #[derive(Clone, Copy)]
@@ -105,65 +89,4 @@ fn number_in(text: &str, most: u32) -> Option<u32>
         return None;
     }
     Some(number)
-}
-
-/// Adds the command `share`.
-pub(crate) fn add_share<'a>(alloc: Global, program: Command<'a>) -> Result<Command<'a>, AllocError>
-    ensures { IfOk result (λ r. app_of r ≡ with_subcommand (app_of program.entry) share_app.top) }
-{
-    let share = Command::new(alloc, "share")
-        .about("Run a share of a plan's study, and print how many trials it has")
-        .after_help(SHARE_EXAMPLE)
-        .arg(needed_word(
-            alloc,
-            "share",
-            "I/N",
-            "Which share, from 1, and how many there are, at most 100000",
-        ))?
-        .arg(needed_word(
-            alloc,
-            "file",
-            "FILE",
-            "Keep the share in this file, and go on from what it holds",
-        ))?
-        .arg(piece_option(alloc))?
-        .arg(workers_option(alloc))?
-        .arg(flag(alloc, "progress", PROGRESS_HELP))?;
-    program.subcommand(share)
-}
-
-/// Adds the command `join`.
-pub(crate) fn add_join<'a>(alloc: Global, program: Command<'a>) -> Result<Command<'a>, AllocError>
-    ensures { IfOk result (λ r. app_of r ≡ with_subcommand (app_of program.entry) join_app.top) }
-{
-    let join = Command::new(alloc, "join")
-        .about(
-            "Join the checkpoints of a plan's study in a new one, and print how many slips it has",
-        )
-        .after_help(JOIN_EXAMPLE)
-        .arg(needed_word(
-            alloc,
-            "new",
-            "NEW",
-            "The file of the new checkpoint, which holds no study",
-        ))?
-        .arg(files_word(alloc))?
-        .arg(flag(
-            alloc,
-            "which",
-            "Say which of the old files is refused, on standard error",
-        ))?;
-    program.subcommand(join)
-}
-
-/// The words that name the files of checkpoints.
-fn files_word<'a>(alloc: Global) -> Arg<'a>
-    ensures rule { rule_of result ≡ files_rule }
-    ensures local { result.global ≡ false }
-{
-    Arg::new(alloc, "old")
-        .num_args(1..=MOST_CHECKPOINTS)
-        .value_name("OLD")
-        .required(true)
-        .help("The checkpoints that are joined, at most 1000, which are only read")
 }

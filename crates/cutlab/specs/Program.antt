@@ -6,7 +6,8 @@ use Rattle.clap.specs.Words.{fault_of}
 use Rattle.clap.specs.declared.error.kind.ErrorKind.{ErrorKind}
 use Rattle.cut_wires.specs.Log.{WireLog, wrote}
 use Rattle.cut_wires.specs.declared.send.WriteFault.{WriteFault}
-use Rattle.cut_command_line.specs.Line.{program_app, NamesJob, status_of_kind, IsAsked}
+use Rattle.cut_options.specs.Options.{program_app}
+use Rattle.cut_command_line.specs.Line.{NamesJob, status_of_kind, IsAsked}
 use Rattle.cut_command_line.specs.declared.line.Job.{Job}
 use Rattle.cut_commands.specs.Faults.{fault_line, status_of}
 use Rattle.cut_commands.specs.declared.fault.CliFault.{CliFault}

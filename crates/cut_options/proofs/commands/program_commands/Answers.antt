@@ -2,10 +2,10 @@ use Rattle.std.proofs.Common.{ap, true, codes, ◌≡◌, ◌∙◌}
 use Rattle.std.proofs.lemmas.Result.{IfOk-weaker}
 use Rattle.clap.specs.Words.{App, app_of, new_app, with_subcommand}
 use Rattle.clap.specs.Simple.{app_of_fields}
-use Rattle.cut_command_line.specs.inside.Line.{ask_app, canonical_app, check_app, explain_app, join_app, migrate_app, run_app}
-use Rattle.cut_command_line.specs.Line.{program_app}
-use Rattle.cut_command_line.specs.inside.Line.{serve_app, share_app, status_app}
-use Rattle.cut_command_line.proofs.line.commands.Goals as goal
+use Rattle.cut_options.specs.Options.{program_app}
+use Rattle.cut_options.specs.inside.Options.{ask_app, canonical_app, check_app, explain_app, join_app, migrate_app}
+use Rattle.cut_options.specs.inside.Options.{run_app, serve_app, share_app, status_app}
+use Rattle.cut_options.proofs.commands.program_commands.Goals as goal
 
 -- a command with a version, one that needs a subcommand, and one that shows its help without a word
 abbrev versioned : App → App

@@ -2,9 +2,9 @@ use Rattle.std.proofs.Common.{◌≡◌, ◌∙◌, ap, ap₂, rules, codes}
 use Rattle.std.proofs.lemmas.Result.{IfOk-weaker}
 use Rattle.clap.specs.Words.{App, app_of, new_app, with_rule, with_subcommand}
 use Rattle.clap.specs.Simple.{app_of_fields}
-use Rattle.cut_command_line.specs.Line.{word_rule}
-use Rattle.cut_command_line.specs.inside.Line.{join_app}
-use Rattle.cut_command_line.proofs.machines.add_join.Goals as goal
+use Rattle.cut_options.specs.Options.{word_rule}
+use Rattle.cut_options.specs.inside.Options.{join_app}
+use Rattle.cut_options.proofs.commands.add_join.Goals as goal
 
 pub returns : goal.returns
 returns c =

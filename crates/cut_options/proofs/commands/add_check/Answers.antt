@@ -2,8 +2,8 @@ use Rattle.std.proofs.Common.{◌≡◌, ◌∙◌, ap, rules}
 use Rattle.std.proofs.lemmas.Result.{IfOk-weaker}
 use Rattle.clap.specs.Words.{App, app_of, with_subcommand}
 use Rattle.clap.specs.Simple.{app_of_fields}
-use Rattle.cut_command_line.specs.inside.Line.{check_app}
-use Rattle.cut_command_line.proofs.line.add_check.Goals as goal
+use Rattle.cut_options.specs.inside.Options.{check_app}
+use Rattle.cut_options.proofs.commands.add_check.Goals as goal
 
 pub returns : goal.returns
 returns c =

@@ -2,8 +2,8 @@ use Rattle.std.proofs.Common.{◌≡◌, ◌∙◌, ap, ap₂, rules, codes}
 use Rattle.std.proofs.lemmas.Result.{IfOk-weaker}
 use Rattle.clap.specs.Words.{App, app_of, new_app, with_rule, with_subcommand}
 use Rattle.clap.specs.Simple.{app_of_fields}
-use Rattle.cut_command_line.specs.inside.Line.{status_app}
-use Rattle.cut_command_line.proofs.line.add_status.Goals as goal
+use Rattle.cut_options.specs.inside.Options.{status_app}
+use Rattle.cut_options.proofs.commands.add_status.Goals as goal
 
 pub returns : goal.returns
 returns c =

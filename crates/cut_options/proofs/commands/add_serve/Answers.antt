@@ -4,9 +4,9 @@ use Rattle.clap.specs.Words.{App, app_of, new_app, with_rule, with_subcommand}
 use Rattle.clap.specs.Simple.{app_of_fields}
 use Rattle.clap.specs.declared.builder.command.Command.{Command}
 use Rattle.clap.specs.declared.builder.command.Command.TheOpen.{Command-F}
-use Rattle.cut_command_line.specs.Line.{word_rule}
-use Rattle.cut_command_line.specs.inside.Line.{serve_app}
-use Rattle.cut_command_line.proofs.line.add_serve.Goals as goal
+use Rattle.cut_options.specs.Options.{word_rule}
+use Rattle.cut_options.specs.inside.Options.{serve_app}
+use Rattle.cut_options.proofs.commands.add_serve.Goals as goal
 
 -- whether a command has an argument for all its subcommands
 abbrev has_globals : Command-F Command → Bool

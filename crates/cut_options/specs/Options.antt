@@ -1,0 +1,59 @@
+-- The commands of the program, with their words, options and flags.
+use Rattle.std.specs.Prelude.{◌++◌, ℕ, List, [], ◌∷◌, true, codes, pos, Some, map, fold}
+use Rattle.cut_options.specs.declared.limits.TheConstants.{LARGEST_PIECE, MOST_CHECKPOINTS, MOST_OF_EACH, MOST_WORKERS}
+use Rattle.clap.specs.Words.{App, Rule, Text, new_app, new_rule, with_rule, with_subcommand}
+use Rattle.clap.specs.declared.builder.action.ArgAction.TheVariants.{SetTrue}
+use Rattle.clap.specs.declared.builder.value_parser.ValueParser.TheVariants.{Signed}
+
+-- a word that has to be given
+abbrev pub word_rule : Text → Rule
+word_rule name = record (new_rule name) { value_names = 1; required = true }
+
+-- an option with a value
+abbrev pub option_rule : Text → Rule
+option_rule name = record (new_rule name) { long = Some name; value_names = 1 }
+
+-- a flag
+abbrev pub flag_rule : Text → Rule
+flag_rule name = record (new_rule name) { long = Some name; action = Some SetTrue }
+
+-- an option with a number, from 1 to a greatest one, and with its value where it is not given, if it has one
+abbrev pub number_rule : Text → ℕ → List Text → Rule
+number_rule name most value = record (option_rule name) { parser = Some (Signed (pos 1) (pos most)); defaults = value }
+
+-- the options `--piece`, 1 to 1,000,000, and `--workers`, 1 to 64, with their values where they are not given
+abbrev pub sizes : List Rule
+sizes =
+    number_rule (codes "piece") LARGEST_PIECE (codes "16" ∷ [])
+    ∷ number_rule (codes "workers") MOST_WORKERS (codes "1" ∷ []) ∷ []
+
+-- the options of a server: how many of something it has, each a number from 1 to 64, which has to be given
+abbrev pub counts : List Rule
+counts =
+    map (λ (name : Text). record (number_rule name MOST_OF_EACH []) { required = true })
+    (codes "workers" ∷ codes "sessions" ∷ codes "studies" ∷ [])
+
+-- the words `OLD..`: the files of 1 to 1,000 checkpoints
+abbrev pub files_rule : Rule
+files_rule =
+    record (word_rule (codes "old")) { range = Some (record { start_inclusive = 1; end_inclusive = MOST_CHECKPOINTS }) }
+
+-- the subcommands: the name of each, and its words in their order, its options and its flags
+abbrev pub subcommands : List (Text × List Rule)
+subcommands =
+    (codes "run", sizes ++ option_rule (codes "checkpoint") ∷ flag_rule (codes "progress") ∷ [])
+    ∷ (codes "check", []) ∷ (codes "explain", []) ∷ (codes "canonical", [])
+    ∷ (codes "status", word_rule (codes "file") ∷ [])
+    ∷ (codes "serve", word_rule (codes "socket") ∷ counts ++ option_rule (codes "dir") ∷ [])
+    ∷ (codes "ask", word_rule (codes "socket") ∷ [])
+    ∷ (codes "migrate", word_rule (codes "old") ∷ word_rule (codes "new") ∷ [])
+    ∷ (codes "share", word_rule (codes "share") ∷ word_rule (codes "file") ∷ sizes ++ flag_rule (codes "progress") ∷ [])
+    ∷ (codes "join", word_rule (codes "new") ∷ files_rule ∷ flag_rule (codes "which") ∷ []) ∷ []
+
+-- the program as clap sees it: it has a version, needs one of its subcommands, and without a word it shows its help
+unfoldable pub program_app : App
+program_app = let bare : App = new_app (codes "cutlab") in
+    let asking : App = record bare {
+      top = record bare.top { has_version = true; subcommand_required = true; arg_required_else_help = true };
+    } in
+    fold (λ app sub. with_subcommand app (fold with_rule (new_app sub.0) sub.1).top) asking subcommands

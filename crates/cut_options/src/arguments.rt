@@ -1,0 +1,104 @@
+//! The words, options and flags of commands.
+
+ghost use Rattle.std.specs.Prelude.{◌≡◌, false};
+ghost use Rattle.clap.specs.Words.{rule_of};
+ghost use Rattle.cut_options.specs.Options.{files_rule, flag_rule, option_rule, word_rule};
+ghost use Rattle.cut_options.specs.inside.Options.{count_rule, piece_rule, workers_rule};
+
+use crate::limits::MOST_CHECKPOINTS;
+use clap::{Arg, ArgAction};
+use std::alloc::Global;
+
+/// A word that has to be given.
+pub(crate) fn needed_word<'a>(
+    alloc: Global,
+    name: &'a str,
+    value_name: &'a str,
+    help: &'a str,
+) -> Arg<'a>
+    ensures rule { rule_of result ≡ word_rule name.entry.now }
+    ensures local { result.global ≡ false }
+{
+    Arg::new(alloc, name)
+        .value_name(value_name)
+        .required(true)
+        .help(help)
+}
+
+/// An option with a value.
+pub(crate) fn value_option<'a>(
+    alloc: Global,
+    name: &'a str,
+    value_name: &'a str,
+    help: &'a str,
+) -> Arg<'a>
+    ensures rule { rule_of result ≡ option_rule name.entry.now }
+    ensures local { result.global ≡ false }
+{
+    Arg::new(alloc, name)
+        .long(name)
+        .value_name(value_name)
+        .help(help)
+}
+
+/// A flag.
+pub(crate) fn flag<'a>(alloc: Global, name: &'a str, help: &'a str) -> Arg<'a>
+    ensures rule { rule_of result ≡ flag_rule name.entry.now }
+    ensures local { result.global ≡ false }
+{
+    Arg::new(alloc, name)
+        .long(name)
+        .action(ArgAction::SetTrue)
+        .help(help)
+}
+
+/// An option that says how many of something a server has.
+pub(crate) fn count_option<'a>(alloc: Global, name: &'a str, help: &'a str) -> Arg<'a>
+    ensures rule { rule_of result ≡ count_rule name.entry.now }
+    ensures local { result.global ≡ false }
+{
+    Arg::new(alloc, name)
+        .long(name)
+        .value_name("COUNT")
+        .value_parser(clap::value_parser!(u32).range(1..=64))
+        .required(true)
+        .help(help)
+}
+
+/// The option that says how many trials are run as one piece.
+pub(crate) fn piece_option<'a>(alloc: Global) -> Arg<'a>
+    ensures rule { rule_of result ≡ piece_rule }
+    ensures local { result.global ≡ false }
+{
+    Arg::new(alloc, "piece")
+        .long("piece")
+        .value_name("TRIALS")
+        .value_parser(clap::value_parser!(u32).range(1..=1_000_000))
+        .default_value("16")
+        .help("How many trials are run as one piece, from 1 to 1000000")
+}
+
+/// The option that says how many threads work on a study.
+pub(crate) fn workers_option<'a>(alloc: Global) -> Arg<'a>
+    ensures rule { rule_of result ≡ workers_rule }
+    ensures local { result.global ≡ false }
+{
+    Arg::new(alloc, "workers")
+        .long("workers")
+        .value_name("COUNT")
+        .value_parser(clap::value_parser!(u32).range(1..=64))
+        .default_value("1")
+        .help("How many threads work on the study, from 1 to 64")
+}
+
+/// The words that name the files of checkpoints.
+pub(crate) fn files_word<'a>(alloc: Global) -> Arg<'a>
+    ensures rule { rule_of result ≡ files_rule }
+    ensures local { result.global ≡ false }
+{
+    Arg::new(alloc, "old")
+        .num_args(1..=MOST_CHECKPOINTS)
+        .value_name("OLD")
+        .required(true)
+        .help("The checkpoints that are joined, at most 1000, which are only read")
+}

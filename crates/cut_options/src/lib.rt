@@ -1,0 +1,9 @@
+//! The commands of the program with their words, options and flags, as clap is given them, and the limits of what they take.
+#![tactic(auto)]
+
+mod arguments;
+mod commands;
+mod limits;
+
+pub use commands::program_commands;
+pub use limits::{LARGEST_PIECE, MOST_CHECKPOINTS, MOST_OF_EACH, MOST_SHARES, MOST_WORKERS};
