@@ -1,5 +1,5 @@
 //! What no contract of the lower crates says: sets, lists and faults read one by one, blocks beside keys, lanes beside
-//! sorted times, nodes beside a recount, boards by hand and under many threads, and wires that move few bytes or fail.
+//! sorted times, boards by hand and under many threads, and wires that move few bytes or fail.
 //!
 //! The tests stand in a crate of their own, as they use these crates as their callers do, and the proofs of the crates
 //! need not be made again for them.
@@ -15,8 +15,6 @@ mod boards;
 mod faults;
 #[cfg(test)]
 mod lanes;
-#[cfg(test)]
-mod nodes;
 #[cfg(test)]
 mod ranges;
 #[cfg(test)]

@@ -1,9 +1,9 @@
-//! What no contract of `cut_receivers` says: receivers of drawn trials beside detectors to which their deliveries are
-//! replayed one by one, receivers whose images tie, images of so few bits that many tie, and receivers for whose times
-//! memory runs out.
+//! What no contract of `cut_nodes` and `cut_receivers` says: nodes beside a recount, receivers of drawn trials beside
+//! detectors to which their deliveries are replayed one by one, receivers whose images tie, images of so few bits that
+//! many tie, and receivers for whose times memory runs out.
 //!
-//! The tests stand in a crate of their own, as they use the crate as its callers do, and its proof need not be made
-//! again for them.
+//! The tests stand in a crate of their own, as they use these crates as their callers do, and the proofs of the crates
+//! need not be made again for them.
 #![tactic(auto)]
 
 #[cfg(test)]
@@ -11,6 +11,8 @@ mod drawn;
 pub mod edges;
 #[cfg(test)]
 mod lanes;
+#[cfg(test)]
+mod nodes;
 #[cfg(test)]
 mod refused_memory;
 #[cfg(test)]
