@@ -1,11 +1,11 @@
 -- Bits at places of words.
 use Rattle.std.proofs.Common.{◌≡◌, ◌∙◌, ◌≢◌, ℕ, ◌*◌, ◌/◌, ◌%◌, ◌^◌, ◌<◌, ◌≤◌, ◌==◌, Bool, true, false, List, length}
 use Rattle.std.proofs.Common.{get_or, set, replicate, slice_get, bit_or, w64, Some, None, inl, inr, sym, ap, arith}
-use Rattle.std.proofs.lemmas.Bool.{cases_eq, cases_lt}
+use Rattle.std.proofs.lemmas.Bool.{cases_eq}
 use Rattle.std.proofs.lemmas.List.{ext_get_or, get_or-replicate, get_or_past, get_or-set_same, get_or-set_other}
 use Rattle.std.proofs.lemmas.List.{length-replicate, length-set}
 use Rattle.std.proofs.lemmas.List.FromFn.{get_or-map-range_with_len, length-map-range_with_len}
-use Rattle.std.proofs.lemmas.Nat.Bits.{bit_at-zero, bit_at_set_same, bit_at_set_other}
+use Rattle.std.proofs.lemmas.Nat.Bits.{bit_at_set_same, bit_at_set_other}
 use Rattle.std.proofs.lemmas.Option.{slice_get-get_or, slice_get_past}
 use Rattle.std.specs.Int.{bit_at}
 use Rattle.bit_list.specs.inside.Bits.{is_set, bits_of}
@@ -31,21 +31,11 @@ past words len place high = slice_get_past (bits_of words len) place (omega (ari
 -- ---- no bit is set
 
 zero_word : (n at : ℕ) → get_or (replicate {A = ℕ} n 0) at 0 ≡ 0
-zero_word n at = elim (cases_lt at n) [
-  | inl low ↦ get_or-replicate {A = ℕ} n at 0 0 low
-  | inr high ↦ get_or_past (replicate {A = ℕ} n 0) at 0 (omega (arith, length-replicate {A = ℕ} n 0))
-]
+zero_word n at = grind (arith, get_or-replicate, get_or_past, length-replicate)
 
 pub none_set : (n len : ℕ) → bits_of (replicate {A = ℕ} n 0) len ≡ replicate len false
 none_set n len =
-    let zeros : List ℕ = replicate n 0 in
-    ext_get_or false (bits_of zeros len) (replicate len false)
-    (long zeros len ∙ sym (length-replicate {A = Bool} len false)) (λ i low.
-    let below : i < len = omega (arith, long zeros len) in
-    read zeros len i false below
-    ∙ ap (λ (w : ℕ). bit_at w (i % 64) == 1) (zero_word n (i / 64))
-    ∙ ap (λ (b : ℕ). b == 1) (bit_at-zero (i % 64))
-    ∙ sym (get_or-replicate {A = Bool} len i false false below))
+    grind (arith, ext_get_or false, long, length-replicate, read, zero_word n, get_or-replicate)
 
 -- ---- one bit more is set
 

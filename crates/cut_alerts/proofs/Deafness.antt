@@ -20,31 +20,16 @@ use Rattle.cut_draws.specs.Source.{Source, key_at}
 use Rattle.cut_draws.specs.ProcessOrder.{process_place, process_rank, compare_processes}
 use Rattle.cut_alerts.specs.declared.role.Role.{Role}
 use Rattle.cut_alerts.specs.declared.role.Role.TheVariants.{Healthy, Crashed, Deaf, Liar, LinkSource}
-use Rattle.cut_alerts.specs.Assignment.{Assignment, role_at, has_crashed, same_role}
-use Rattle.cut_alerts.specs.Drawn.{drawn, ranked_role}
-use Rattle.cut_alerts.specs.Alerted.{alert_list}
+use Rattle.cut_alerts.specs.Assignment.{role_at, has_crashed, same_role}
+use Rattle.cut_alerts.specs.Drawn.{ranked_role}
 use Rattle.cut_alerts.specs.Laws.{with_failing, drawn_with, DrawAlike, HasTurned, TurnsOne}
 
 -- ---- ways of failing that draw alike
 
--- the roles of a trial where this many of f targets are deaf
-abbrev drawn_by : Values → ℕ → Source → Layout → ℕ → Assignment
-drawn_by v f d r deaf = record {
-  roles = map (λ p.
-      if nat_lt (process_rank d v.nodes p) (f - deaf) then Crashed
-      else (if nat_lt (process_rank d v.nodes p) f then Deaf
-      else (if nat_lt (process_rank d v.nodes p) (f + v.liars) then Liar
-      else (if nat_lt (process_rank d v.nodes p) (f + v.liars + v.links) then LinkSource (subject_of r 0 p) else
-      Healthy))))
-      (range_with_len 0 v.nodes);
-  dead = v.dead;
-}
-
 pub draw_alike : (v : Values) (how other : Failing) (f : ℕ) (d : Source) (r : Layout) → deaf_among how f
     ≡ deaf_among other f → DrawAlike v how other f d r
 draw_alike v how other f d r same =
-    let roles : drawn (with_failing v how) f d r ≡ drawn (with_failing v other) f d r = ap (drawn_by v f d r) same in
-    record { roles = roles; alerts = λ k. ap (λ a. alert_list r a k) roles }
+    grind arith
 
 -- ---- one deaf target more
 

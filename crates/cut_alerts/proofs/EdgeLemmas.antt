@@ -1,8 +1,8 @@
 -- Lists of edges that ascend by number, and how the list of alerted edges grows.
-use Rattle.std.proofs.Common.{add-one, ◌≡◌, ℕ, zero, suc, ◌+◌, ◌*◌, ◌<◌, ◌≤◌, ◌⊎◌, inl, inr, subst, get_or, Bool, true}
+use Rattle.std.proofs.Common.{add-one, ◌≡◌, ℕ, zero, suc, ◌+◌, ◌*◌, ◌<◌, ◌≤◌, ◌⊎◌, inl, inr, get_or, Bool, true}
 use Rattle.std.proofs.Common.{false, cond, List, [], ◌∷◌, ◌++◌, length, length-append, zero-mul, map, filter, refl, sym}
 use Rattle.std.proofs.Common.{ap, ◌∙◌, arith, append_assoc, append-nil, nat_lt, ◌==◌, not}
-use Rattle.std.proofs.lemmas.Bool.{ltb-true, and_parts, and_from, or_from, ne_eqb, lt-ltb}
+use Rattle.std.proofs.lemmas.Bool.{ltb-true, and_parts, and_from}
 use Rattle.cut_lists.proofs.Ranges.{range_with_len_more}
 use Rattle.std.proofs.Math.Nat.{add-mul, eq-or-lt_of_le}
 use Rattle.std.specs.Prelude.{slice_index, ◌↔◌}
@@ -28,22 +28,14 @@ pub kept_more : (test : Edge → Bool) (s ring : ℕ) (base ys : List Edge) → 
     ++ filter test (edges_of ring s) → ys ++ edge ring s ∷ [] ≡ base ++ filter test (edges_of (ring + 1) s)
 kept_more test s ring base ys passes is =
     let more = filter_of_map_range_with_len_more test (λ k. edge k s) 0 ring ring (omega arith) in
-    let one : cond (test (edge ring s)) (edge ring s ∷ []) [] ≡ edge ring s
-    ∷ [] = ap (λ b. cond b (edge ring s ∷ []) []) passes in
-    ap (λ zs. zs ++ edge ring s ∷ []) is
-    ∙ append_assoc base (filter test (edges_of ring s)) (edge ring s ∷ [])
-    ∙ ap (λ zs. base ++ (filter test (edges_of ring s) ++ zs)) (sym one)
-    ∙ ap (λ zs. base ++ zs) (sym more)
+    grind (arith, append_assoc)
 
 -- one more ring of a subject, where its edge does not
 pub skipped_more : (test : Edge → Bool) (s ring : ℕ) (base ys : List Edge) → test (edge ring s) ≡ false → ys ≡ base
     ++ filter test (edges_of ring s) → ys ≡ base ++ filter test (edges_of (ring + 1) s)
 skipped_more test s ring base ys fails is =
     let more = filter_of_map_range_with_len_more test (λ k. edge k s) 0 ring ring (omega arith) in
-    let none : cond (test (edge ring s)) (edge ring s ∷ []) [] ≡ [] = ap (λ b. cond b (edge ring s ∷ []) []) fails in
-    is ∙ ap (λ zs. base ++ zs) (sym (append-nil (filter test (edges_of ring s))))
-    ∙ ap (λ zs. base ++ (filter test (edges_of ring s) ++ zs)) (sym none)
-    ∙ ap (λ zs. base ++ zs) (sym more)
+    grind (arith, append-nil)
 
 -- the edges of one more subject
 pub all_edges_more : (k s : ℕ) → all_edges k (s + 1) ≡ all_edges k s ++ edges_of k s
@@ -56,41 +48,26 @@ all_edges_more k s =
 pub subject_more : (test : Edge → Bool) (k s : ℕ) (ys zs : List Edge) → ys ≡ filter test (all_edges k s) → zs ≡ ys
     ++ filter test (edges_of k s) → zs ≡ filter test (all_edges k (s + 1))
 subject_more test k s ys zs is more =
-    more ∙ ap (λ es. es ++ filter test (edges_of k s)) is
-    ∙ sym (filter-append test (all_edges k s) (edges_of k s))
-    ∙ ap (λ es. filter test es) (sym (all_edges_more k s))
+    grind (arith, filter-append, all_edges_more)
 
 -- ---- edges within their range
 
 list_all-filter : (p q : Edge → Bool) (xs : List Edge) → list_all p xs ≡ true → list_all p (filter q xs) ≡ true
 list_all-filter p q [] h = refl
 list_all-filter p q (x ∷ xs) h =
-    let parts = and_parts (p x) (list_all p xs) h in
-    let rest = list_all-filter p q xs parts.1 in
-    elim (q x) as (λ b. list_all p (cond b (x ∷ filter q xs) (filter q xs)) ≡ true) [
-      | true ↦ and_from (p x) (list_all p (filter q xs)) parts.0 rest
-      | false ↦ rest
-    ]
+    grind (arith, list_all-filter p q xs)
 
 edges_within : (k n s a j : ℕ) → a + j ≤ k → s < n
     → list_all (λ e. is_edge_of k n e) (map (λ ring. edge ring s) (range_with_len a j)) ≡ true
 edges_within k n s a zero fits below = refl
 edges_within k n s a (suc j) fits below =
-    let rest = edges_within k n s (a + 1) j (omega arith) below in
-    let here : is_edge_of k n (edge a s) ≡ true = and_from (nat_lt a k) (nat_lt s n) (lt-ltb a k (omega arith))
-    (lt-ltb s n below) in
-    and_from (is_edge_of k n (edge a s)) (list_all (λ e. is_edge_of k n e)
-    (map (λ ring. edge ring s) (range_with_len (a + 1) j))) here rest
+    grind (arith, edges_within k n s (a + 1) j)
 
 subjects_within : (k n a m : ℕ) → a + m ≤ n → list_all (λ e. is_edge_of k n e)
     (flat_map (λ s. edges_of k s) (range_with_len a m)) ≡ true
 subjects_within k n a zero fits = refl
 subjects_within k n a (suc m) fits =
-    let rest = subjects_within k n (a + 1) m (omega arith) in
-    let here = edges_within k n a 0 k (omega arith) (omega arith) in
-    list_all-append (λ e. is_edge_of k n e) (edges_of k a) (flat_map (λ s. edges_of k s) (range_with_len (a + 1) m))
-    ∙ and_from (list_all (λ e. is_edge_of k n e) (edges_of k a))
-    (list_all (λ e. is_edge_of k n e) (flat_map (λ s. edges_of k s) (range_with_len (a + 1) m))) here rest
+    grind (arith, edges_within k n a 0 k, list_all-append, subjects_within k n (a + 1) m)
 
 -- edges that pass a test are edges of their rings and processes
 pub within_all : (test : Edge → Bool) (k m n : ℕ) → m ≤ n → are_edges_of k n (filter test (all_edges k m)) ≡ true
@@ -101,18 +78,10 @@ within_all test k m n fits = list_all-filter (λ e. is_edge_of k n e) test (all_
 length-subjects : (k a m : ℕ) → length (flat_map (λ s. edges_of k s) (range_with_len a m)) ≡ m * k
 length-subjects k a zero = sym (zero-mul k)
 length-subjects k a (suc m) =
-    length-append (edges_of k a) (flat_map (λ s. edges_of k s) (range_with_len (a + 1) m))
-    ∙ ap (λ n. n + length (flat_map (λ s. edges_of k s) (range_with_len (a + 1) m)))
-    (length-map-range_with_len (λ ring. edge ring a) 0 k)
-    ∙ ap (λ n. k + n) (length-subjects k (a + 1) m) ∙ omega arith
+    grind (arith, length-append, length-map-range_with_len, length-subjects k (a + 1) m)
 
 pub few_all : (test : Edge → Bool) (k n : ℕ) → length (filter test (all_edges k n)) ≤ n * k
-few_all test k n = omega (
-  arith,
-  length-filter test (all_edges k n),
-  count_by-le-length test (all_edges k n),
-  length-subjects k 0 n,
-)
+few_all test k n = grind (arith, length-filter, count_by-le-length, length-subjects)
 
 -- ---- edges that ascend by number
 
@@ -139,12 +108,7 @@ Ascends-edges : (k s a j : ℕ) (es : List Edge) → a + j ≤ k → Ascends k (
     → Ascends k (s * k + a) (map (λ ring. edge ring s) (range_with_len a j) ++ es)
 Ascends-edges k s a zero es fits up = Ascends-lower k (s * k + a + 0) (s * k + a) es (omega arith) up
 Ascends-edges k s a (suc j) es fits up =
-    let rest = Ascends-edges k s (a + 1) j es (omega arith)
-    (Ascends-lower k (s * k + a + suc j) (s * k + (a + 1) + j) es (omega arith) up) in (
-      omega arith,
-      Ascends-lower k (s * k + (a + 1)) (s * k + a + 1)
-          (map (λ ring. edge ring s) (range_with_len (a + 1) j) ++ es) (omega arith) rest,
-    )
+    grind (arith, Ascends-edges k s (a + 1) j es)
 
 Ascends-subjects : (k a m : ℕ) → Ascends k (a * k) (flat_map (λ s. edges_of k s) (range_with_len a m))
 Ascends-subjects k a zero = tt
@@ -159,9 +123,7 @@ not_among : (k n low : ℕ) (es : List Edge) → n < low → Ascends k low es �
     ≡ false
 not_among k n low [] below up = refl
 not_among k n low (e ∷ es) below up =
-    let here : (edge_number k e == n) ≡ false = ne_eqb (edge_number k e) n (λ q. omega (arith, up.0)) in
-    or_from (edge_number k e == n) (list_any (λ x. edge_number k x == n) es) here
-    (not_among k n (edge_number k e + 1) es (omega (arith, up.0)) up.1)
+    grind (arith, not_among k n (edge_number k e + 1) es)
 
 distinct_from_ascends : (k low : ℕ) (es : List Edge) → Ascends k low es → are_distinct k es ≡ true
 distinct_from_ascends k low [] up = refl
@@ -199,8 +161,7 @@ kept_at : (test : Edge → Bool) (es : List Edge) (e : Edge) (i : ℕ) → i < l
     → Contains (filter test es) e
 kept_at test [] e i within at passes = absurd (omega arith)
 kept_at test (x ∷ xs) e zero within at passes =
-    subst (λ b. Contains (cond b (x ∷ filter test xs) (filter test xs)) e) (sym (ap test at ∙ passes))
-    (0, omega arith, at)
+    grind arith
 kept_at test (x ∷ xs) e (suc i) within at passes =
     let rest = kept_at test xs e i (omega arith) at passes in
     elim (test x) as (λ b. Contains (cond b (x ∷ filter test xs) (filter test xs)) e) [

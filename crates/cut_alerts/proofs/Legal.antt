@@ -1,9 +1,9 @@
 -- When lists give each process one role, and the test for it.
 use Rattle.std.proofs.Common.{◌≡◌, ◌≢◌, ℕ, ◌+◌, ◌<◌, ◌==◌, ◌&&◌, Bool, true, not, List, ◌++◌, map, length, nat_lt}
-use Rattle.std.proofs.Common.{nat_le, cond, ap, sym, ◌∙◌, zero-add, arith}
+use Rattle.std.proofs.Common.{nat_le, ap, sym, ◌∙◌, zero-add, arith}
 use Rattle.std.specs.Prelude.{◌↔◌}
 use Rattle.std.specs.List.{count_by, range_with_len}
-use Rattle.std.proofs.lemmas.Bool.{ltb-true, leb-true, lt-ltb, le-leb, eqb-false, ne_eqb, not-true, not_from_false}
+use Rattle.std.proofs.lemmas.Bool.{ltb-true, leb-true, lt-ltb, le-leb, ne_eqb, not_from_false}
 use Rattle.std.proofs.lemmas.Bool.{and_parts, and_from}
 use Rattle.std.proofs.lemmas.List.Elements.{All-weaker}
 use Rattle.std.proofs.lemmas.List.Sums.{sum_by-append, AllPass-from_list_all, list_all-from_AllPass}
@@ -20,14 +20,7 @@ pub times_named-lists : (crashed deaf liars : List ℕ) (links : List (ℕ × �
     ≡ count_by (λ q. q == p) crashed + count_by (λ q. q == p) deaf + count_by (λ q. q == p) liars
     + count_by (λ l. l.0 == p) links
 times_named-lists crashed deaf liars links p =
-    let one : ℕ → ℕ = λ q. cond (q == p) 1 0 in
-    omega (
-      arith,
-      sum_by-append one (crashed ++ deaf ++ liars) (map (λ l. l.0) links),
-      sum_by-append one (crashed ++ deaf) liars,
-      sum_by-append one crashed deaf,
-      count_by-map (λ q. q == p) (λ (l : ℕ × ℕ). l.0) links,
-    )
+    grind (arith, sum_by-append, count_by-map)
 
 pub legal : (n : ℕ) (targets liars : List ℕ) (links : List (ℕ × ℕ)) → (is_legal n targets liars links ≡ true)
     ↔ AreLegalLists n targets liars links
@@ -45,9 +38,7 @@ legal n targets liars links = (to, from)
     all_below : are_below n (all_named targets liars links)
         ≡ (are_below n targets && are_below n liars && are_sources n links)
     all_below =
-        list_all-append (λ p. nat_lt p n) (targets ++ liars) sources
-        ∙ ap (λ b. b && are_below n sources) (list_all-append (λ p. nat_lt p n) targets liars)
-        ∙ ap (λ b. are_below n targets && are_below n liars && b) (list_all-map (λ p. nat_lt p n) (λ l. l.0) links)
+        grind (arith, list_all-append, list_all-map)
 
     to : is_legal n targets liars links ≡ true → AreLegalLists n targets liars links
     to passes =
@@ -64,10 +55,7 @@ legal n targets liars links = (to, from)
               leb-true (times_named targets liars links p) 1
               (ap once (sym (get_or-range_with_len 0 n p 0 below ∙ zero-add p))
               ∙ AllPass-from_list_all once (range_with_len 0 n) named.1 p 0 (omega arith));
-          linked = All-weaker (λ l. link l ≡ true) (λ l. (l.1 < n) × (l.0 ≢ l.1)) (λ l is.
-              let parts = and_parts (nat_lt l.1 n) (not (l.0 == l.1)) is in
-              (ltb-true l.1 n parts.0, eqb-false l.0 l.1 (not-true (l.0 == l.1) parts.1))) links
-              (AllPass-from_list_all link links ends.1);
+          linked = grind (arith, AllPass-from_list_all);
         }
 
     from : AreLegalLists n targets liars links → is_legal n targets liars links ≡ true

@@ -1,6 +1,6 @@
 -- Processes in the order of their ranks, each of which is given its role.
 use Rattle.std.proofs.Common.{◌≡◌, ◌≢◌, ℕ, ◌+◌, ◌<◌, ◌≤◌, ◌⊎◌, List, length, get_or, set, map, sym, ap, ◌∙◌, inl, inr}
-use Rattle.std.proofs.Common.{subst, arith}
+use Rattle.std.proofs.Common.{arith}
 use Rattle.std.specs.List.{range_with_len}
 use Rattle.std.proofs.lemmas.List.FromFn.{fill_by_all}
 use Rattle.std.proofs.lemmas.List.{get_or-set_same, get_or-set_other}
@@ -31,8 +31,7 @@ roles_more {R} d n order is role none m x v roles below at own long before p in_
     by (inr most) =
         let same : process_rank d n p ≡ m = omega arith in
         let is_x : x ≡ p = sym at ∙ ap (λ i. get_or order i 0) (sym same) ∙ (is.found p in_range).1 in
-        subst (λ (q : ℕ). get_or (set roles x v) q none ≡ role q (process_rank d n q)) is_x
-        (get_or-set_same roles x v none (omega arith) ∙ own ∙ ap (role x) (sym rank))
+        grind (arith, get_or-set_same)
 
 -- all have theirs
 pub roles_all : {R : Type 0} (d : Source) (n : ℕ) (order : List ℕ) → IsProcessOrder d n order

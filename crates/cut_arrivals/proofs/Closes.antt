@@ -1,10 +1,10 @@
 -- The closing time and the first settled time.
-use Rattle.std.proofs.Common.{◌≡◌, inl, inr, ℕ, ◌+◌, ◌-◌, ◌<◌, ◌≤◌, ◌==◌, Bool, true, false, cond, ◌&&◌, not, nat_le}
+use Rattle.std.proofs.Common.{◌≡◌, inl, inr, ℕ, ◌+◌, ◌-◌, ◌<◌, ◌≤◌, ◌==◌, Bool, true, false, cond, ◌&&◌, nat_le}
 use Rattle.std.proofs.Common.{nat_lt, List, length, get_or, Option, Some, None, MatchOption, option_map, refl, ap, sym}
 use Rattle.std.proofs.Common.{◌∙◌, arith}
-use Rattle.std.specs.List.{count_by, find, list_any, range_with_len}
+use Rattle.std.specs.List.{find, list_any, range_with_len}
 use Rattle.std.proofs.lemmas.Bool.{and_from, and_parts, both_ways, cases_Bool, cases_lt, eq-eqb, eqb-true, le-leb}
-use Rattle.std.proofs.lemmas.Bool.{le-ltb, leb-true, lt-leb, lt-ltb, ltb-true, or_left, or_right}
+use Rattle.std.proofs.lemmas.Bool.{le-ltb, leb-true, lt-leb, lt-ltb, ltb-true}
 use Rattle.std.proofs.lemmas.List.{length-map, get_or-map, get_or_default}
 use Rattle.std.proofs.lemmas.List.Folds.{list_any_at}
 use Rattle.cut_lists.proofs.Firsts.{NonePasses, IsFirst, found_first}
@@ -45,12 +45,7 @@ settled-from n low high t is =
     let at = is.some in
     let some : list_any (λ s. nat_le (high s) t) (range_with_len 0 n) ≡ true =
     list_any_passing (λ s. nat_le (high s) t) 0 n at.0 (omega arith) (omega (arith, at.1)) (le-leb _ _ at.2) in
-    let none : list_any (λ s. nat_le (low s) t && nat_lt t (high s)) (range_with_len 0 n) ≡ false =
-    list_any_none_passing (λ s. nat_le (low s) t && nat_lt t (high s)) 0 n (λ s _ below e.
-    let parts = and_parts (nat_le (low s) t) _ e in
-    let come : high s ≤ t = is.others s (omega (arith, below)) (leb-true _ _ parts.0) in
-    omega (arith, come, ltb-true _ _ parts.1)) in
-    and_from _ _ some (ap not none)
+    grind (arith, list_any_none_passing)
 
 -- ---- nodes and their places in the lists
 
@@ -64,17 +59,7 @@ record StandsAt (low high : ℕ → ℕ) (nodes lows highs : List ℕ) (s u : �
 process_at : (n last : ℕ) (low high : ℕ → ℕ) (nodes lows highs : List ℕ) → AreNodes n last low high nodes lows highs
     → (u : ℕ) → u < length lows → (s : ℕ) × (s < n) × StandsAt low high nodes lows highs s u
 process_at n last low high nodes lows highs are u within =
-    let long : length lows ≡ length nodes = ap length are.lows_are ∙ length-map nodes low in
-    let inside : u < length nodes = omega (arith, long, within) in (
-      get_or nodes u 0,
-      are.processes u 0 inside,
-      record {
-        within = within;
-        is = refl;
-        low_is = ap (λ xs. get_or xs u 0) are.lows_are ∙ get_or-map low nodes u 0 0 inside;
-        high_is = ap (λ xs. get_or xs u 0) are.highs_are ∙ get_or-map high nodes u 0 0 inside;
-      },
-    )
+    grind (arith, length-map, get_or-map)
 
 stands : (n last : ℕ) (low high : ℕ → ℕ) (nodes lows highs : List ℕ) → AreNodes n last low high nodes lows highs
     → (s : ℕ) → s < n → low s < last → (u : ℕ) × StandsAt low high nodes lows highs s u
@@ -97,16 +82,7 @@ record NoDoubt (lows : List ℕ) (first time : ℕ) : Type 0 where
   apart : (u : ℕ) → u < length lows → first < time → get_or lows u 0 ≡ time → ⊥
 
 no_doubt : (lows : List ℕ) (first time : ℕ) → is_doubtful lows first time ≡ false → NoDoubt lows first time
-no_doubt lows first time certain = record {
-  alone = λ u v before within one other. both_ways (is_doubtful lows first time) certain
-      (or_left (nat_lt 1 (count_by (λ x. x == first) lows)) _
-      (lt-ltb 1 (count_by (λ x. x == first) lows)
-      (let two : 2 ≤ count_by (λ x. x == first) lows = two_pass (λ x. x == first) lows u v 0 before within
-      (eq-eqb _ _ one) (eq-eqb _ _ other) in omega (arith, two))));
-  apart = λ u within late at. both_ways (is_doubtful lows first time) certain
-      (or_right (nat_lt 1 (count_by (λ x. x == first) lows)) _
-      (and_from _ _ (lt-ltb first time late) (list_any_at (λ x. x == time) lows u 0 within (eq-eqb _ _ at))));
-}
+no_doubt lows first time certain = grind (arith, two_pass, list_any_at)
 
 -- ---- closed times
 
@@ -380,23 +356,7 @@ settled_sooner : (n end : ℕ) (low high : ℕ → ℕ) → AreTimes n end low h
     → list_any (λ s. high s == m) (range_with_len 0 n) ≡ false → IsSettledBy n low high m → (1 ≤ m - 1)
     × IsSettledBy n low high (m - 1)
 settled_sooner n end low high times m none settled =
-    let at = settled.some in
-    let sooner : (s : ℕ) → s < n → high s ≤ m → high s < m = λ s process come.
-    elim (cases_lt (high s) m) [
-      | inl less ↦ less
-      | inr not ↦ absurd (no_high n high m s none process (omega (arith, come, not)))
-    ] in
-    let before : high at.0 < m = sooner at.0 at.1 at.2 in
-    let some : 1 ≤ low at.0 = times.some at.0 at.1 in
-    let ordered : low at.0 ≤ high at.0 = times.ordered at.0 at.1 in (
-      omega (arith, before, some, ordered),
-      record {
-        some = (at.0, at.1, omega (arith, before));
-        others = λ s process come.
-            let ended : high s < m = sooner s process (settled.others s process (omega (arith, come))) in
-            omega (arith, ended);
-      },
-    )
+    grind (arith, no_high n high m)
 
 pub first_is_high : (n end count : ℕ) (low high : ℕ → ℕ) → AreTimes n end low high → (m : ℕ)
     → IsFirst (λ t. is_settled_by n low high t) 1 count m → (s : ℕ) × (s < n) × (high s ≡ m)

@@ -1,10 +1,10 @@
 -- Who is reported and stable in the end, at each receiver alike.
-use Rattle.std.proofs.Common.{◌≡◌, inl, inr, ℕ, ◌+◌, ◌-◌, ◌^◌, ◌<◌, ◌≤◌, ◌&&◌, ◌||◌, Bool, true, false, nat_le, nat_lt}
+use Rattle.std.proofs.Common.{◌≡◌, ℕ, ◌+◌, ◌-◌, ◌^◌, ◌<◌, ◌≤◌, ◌&&◌, ◌||◌, Bool, true, false, nat_le, nat_lt}
 use Rattle.std.proofs.Common.{List, [], ◌∷◌, length, get_or, IsTrue, Option, Some, None, MatchOption, option_map, refl}
 use Rattle.std.proofs.Common.{ap, sym, ◌∙◌, arith}
 use Rattle.std.specs.List.{All, find, list_any, range_with_len}
 use Rattle.std.proofs.Math.Bool.{and-true}
-use Rattle.std.proofs.lemmas.Bool.{cases_lt, le-leb, lt-ltb}
+use Rattle.std.proofs.lemmas.Bool.{le-leb, lt-ltb}
 use Rattle.std.proofs.lemmas.Bool.Decides.{nat_tests}
 use Rattle.std.proofs.lemmas.List.Elements.{All-head, All-tail}
 use Rattle.cut_lists.proofs.Firsts.{NonePasses, IsFirst, found_first}
@@ -13,7 +13,7 @@ use Rattle.cut_lists.proofs.Ranges.{list_any_none_passing, list_any_passing}
 use Rattle.cut_rings.specs.declared.edge.Edge.{Edge}
 use Rattle.cut_rings.specs.Edges.{EdgeSet, is_edge, set_of}
 use Rattle.cut_draws.specs.declared.delivery.Delivery.{Delivery}
-use Rattle.cut_draws.specs.DeliveryOrder.{all_deliveries, copies_of, delivery_place}
+use Rattle.cut_draws.specs.DeliveryOrder.{all_deliveries}
 use Rattle.cut_detector.specs.Counts.{is_reported, is_full, is_stable}
 use Rattle.cut_blocks.specs.Images.{ImagesAreBelowNever}
 use Rattle.cut_arrivals.specs.Times.{EdgeTimes, ComesAt, low_of, full_time, high_of, members_by, is_settled_by}
@@ -44,10 +44,7 @@ any_alike false n some = list_any_none_passing (λ _. false) 0 n (λ _ _ _ e. cc
 pub any_delivered : (edges : List Edge) (copies ring s : ℕ) → 1 ≤ copies
     → list_any (λ x. is_edge ring s x.edge) (all_deliveries edges copies) ≡ set_of edges ring s
 any_delivered edges copies ring s some =
-    list_any-flat_map (λ x. is_edge ring s x.edge) (λ c. copies_of edges c) (range_with_len 0 copies)
-    ∙ ap (λ (p : ℕ → Bool). list_any p (range_with_len 0 copies))
-    (λ i c. list_any-map (λ (x : Delivery). is_edge ring s x.edge) (λ e. record { edge = e; copy = c }) edges i)
-    ∙ any_alike (set_of edges ring s) copies some
+    search (arith, list_any-flat_map, list_any-map, any_alike)
 
 before_end : (a end : ℕ) → 1 ≤ end → nat_le a (end - 1) ≡ nat_lt a end
 before_end a end some = grind (arith, nat_tests)
@@ -105,10 +102,7 @@ module _ (x : Hearing) (is : IsHearing x) (some : 1 ≤ x.copies) (end : ℕ) (t
 
 pub images_before : ImagesAreBelowNever → (x : Hearing) (last : ℕ) → 2 ^ 30 ≤ last
     → All (λ y. image_of x y < last) (deliveries_of x)
-images_before below x last wide = λ k d _.
-    let few : image_of x (get_or (deliveries_of x) k d)
-    ≤ 2 ^ 30 - 1 = below x.source (delivery_place x.receiver x.rule.k (get_or (deliveries_of x) k d)) in
-    omega (arith, few, wide)
+images_before below x last wide = grind arith
 
 pub ends_reported_alike : ImagesAreBelowNever → (x : Hearing) (last : ℕ) → IsHearing x → 1 ≤ x.copies → 2 ^ 30 ≤ last
     → (s : ℕ) → s < x.layout.nodes → nat_lt (lows_at x last s) last ≡ is_reported x.rule (set_of x.edges) s
@@ -123,13 +117,7 @@ ends_stable_alike below x last is some wide =
 -- ---- no proposal where none ends stable
 
 some_copy : (x : Hearing) (m : ℕ) → 1 ≤ m → m < 1 + length (deliveries_of x) → 1 ≤ x.copies
-some_copy x m some below = elim (cases_lt 0 x.copies) [
-  | inl copies ↦ copies
-  | inr none ↦ absurd (
-      let zero_copies : x.copies ≡ 0 = omega (arith, none) in
-      let nothing : length (deliveries_of x) ≡ 0 = ap (λ c. length (all_deliveries x.edges c)) zero_copies in
-      omega (arith, some, below, nothing))
-]
+some_copy x m some below = grind arith
 
 pub silent : (x : Hearing) → IsHearing x → ((s : ℕ) → s < x.layout.nodes
     → IsTrue (is_stable x.layout x.rule (set_of x.edges) s) → ⊥)

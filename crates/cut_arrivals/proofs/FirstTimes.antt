@@ -10,7 +10,6 @@ use Rattle.cut_ranks.specs.Ranks.{rank_at}
 use Rattle.cut_arrivals.specs.Rising.{IsRising}
 use Rattle.cut_arrivals.proofs.RankLemmas.{rank_is}
 use Rattle.cut_arrivals.proofs.Rises.{ranks_rise}
-use Rattle.cut_draws.proofs.FirstTimes.{next_le}
 
 pub count_filter : {X : Type 0} (t p : X → Bool) (xs : List X) → count_by t (filter p xs)
     ≡ count_by (λ x. p x && t x) xs
@@ -28,11 +27,7 @@ count_filter {X} t p (x ∷ xs) =
 pub first_come : {X : Type 0} (end : ℕ) (time : X → ℕ) (p : X → Bool) (xs : List X) (t : ℕ) → t < end
     → list_any (λ x. p x && nat_le (time x) t) xs ≡ nat_le (rank_at end 1 (map time (filter p xs))) t
 first_come end time p xs t low =
-    list_any-count_by (λ x. p x && nat_le (time x) t) xs
-    ∙ next_le 0 (count_by (λ x. p x && nat_le (time x) t) xs)
-    ∙ ap (nat_le 1) (sym (count_filter (λ x. nat_le (time x) t) p xs)
-    ∙ sym (count_by-map (λ y. nat_le y t) time (filter p xs)))
-    ∙ (rank_is end 1 (map time (filter p xs))).comes t low
+    grind (arith, list_any-count_by, count_filter, count_by-map, rank_is)
 
 -- where each time is changed, so is the first
 pub first_moves : {X : Type 0} (end last : ℕ) (tau : ℕ → ℕ) → IsRising end last tau

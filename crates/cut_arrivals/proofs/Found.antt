@@ -1,6 +1,6 @@
 -- The proposal as the first settled time.
-use Rattle.std.proofs.Common.{◌≡◌, ℕ, zero, suc, ◌+◌, ◌<◌, ◌≤◌, Bool, true, false, cond, ◌&&◌, nat_le, nat_lt, List}
-use Rattle.std.proofs.Common.{Option, Some, option_map, refl, ap, ◌∙◌, arith}
+use Rattle.std.proofs.Common.{◌≡◌, ℕ, zero, suc, ◌+◌, ◌<◌, ◌≤◌, Bool, ◌&&◌, nat_le, nat_lt, List}
+use Rattle.std.proofs.Common.{option_map, refl, arith}
 use Rattle.std.specs.List.{find, range_with_len}
 use Rattle.cut_lists.proofs.Ranges.{AgreeOn, filter_agree_on}
 use Rattle.cut_lists.proofs.Counts.{some_and_none_agree}
@@ -20,22 +20,13 @@ use Rattle.cut_detector.specs.Proposal.{proposal_of}
 use Rattle.cut_arrivals.specs.Times.{EdgeTimes, ComesAt, low_of, high_of, members_by, is_settled_by}
 use Rattle.cut_arrivals.proofs.Modes.{stable_from_high, unstable_between}
 
-either : {X : Type 0} (b : Bool) (f g : ℕ → X) (a : ℕ) (x y : Option ℕ) → f a ≡ g a → option_map f x ≡ option_map g y
-    → option_map f (cond b (Some a) x) ≡ option_map g (cond b (Some a) y)
-either true f g a x y here later = ap Some here
-either false f g a x y here later = later
-
 -- where tests agree on a range, and what is made of its numbers does, so does what is made of the first that passes
 pub found_agree : {X : Type 0} (p q : ℕ → Bool) (f g : ℕ → X) (a n : ℕ)
     → ((i : ℕ) → a ≤ i → i < a + n → p i ≡ q i) → ((i : ℕ) → a ≤ i → i < a + n → f i ≡ g i)
     → option_map f (find p (range_with_len a n)) ≡ option_map g (find q (range_with_len a n))
 found_agree p q f g a zero tests makes = refl
 found_agree {X} p q f g a (suc n) tests makes =
-    let rest : option_map f (find p (range_with_len (a + 1) n)) ≡ option_map g (find q (range_with_len (a + 1) n)) =
-    found_agree p q f g (a + 1) n (λ i from to. tests i (omega (arith, from)) (omega (arith, to)))
-    (λ i from to. makes i (omega (arith, from)) (omega (arith, to))) in
-    ap (λ b. option_map f (cond b (Some a) (find p (range_with_len (a + 1) n)))) (tests a (omega arith) (omega arith))
-    ∙ either (q a) f g a _ _ (makes a (omega arith) (omega arith)) rest
+    grind (arith, found_agree p q f g (a + 1) n)
 
 -- tests of stable and unstable agree with those by times
 stable_agree : (r : Layout) (rule : Rule) (end : ℕ) (E : ℕ → EdgeSet) (at : EdgeTimes) → ComesAt r rule end E at
@@ -73,9 +64,4 @@ pub proposes_by_times : (r : Layout) (rule : Rule) (count : ℕ) (E : ℕ → Ed
     (find (λ t. is_settled_by r.nodes (low_of (count + 1) rule at) (high_of (count + 1) r rule at) t)
     (range_with_len 1 count))
 proposes_by_times r rule count E at come =
-    found_agree (λ n. is_settled r rule (E n)) (λ t. is_settled_by r.nodes (low_of (count + 1) rule at)
-    (high_of (count + 1) r rule at) t)
-    (λ n. proposed (stable_members r rule (E n)) n)
-    (λ t. proposed (members_by r.nodes (high_of (count + 1) r rule at) t) t) 1 count
-    (λ i _ below. settled_by_times r rule (count + 1) E at come i (omega (arith, below)))
-    (λ i _ below. ap (λ xs. proposed xs i) (members_by_times r rule (count + 1) E at come i (omega (arith, below))))
+    grind (arith, found_agree, settled_by_times, members_by_times)

@@ -1,10 +1,9 @@
 -- What a receiver proposes, by the images of its deliveries.
-use Rattle.std.proofs.Common.{◌≡◌, inl, inr, ℕ, ◌+◌, ◌-◌, ◌^◌, ◌<◌, ◌≤◌, ◌&&◌, Bool, cond, nat_lt, List, map}
-use Rattle.std.proofs.Common.{filter, length, get_or, Option, Some, None, option_map, subst, refl, ap, sym, ◌∙◌, arith}
-use Rattle.std.specs.List.{All, Contains, find, list_any, range_with_len}
+use Rattle.std.proofs.Common.{◌≡◌, inl, inr, ℕ, ◌+◌, ◌-◌, ◌^◌, ◌<◌, ◌≤◌, cond, nat_lt, List, map}
+use Rattle.std.proofs.Common.{filter, length, get_or, Option, Some, None, option_map, refl, ap, sym, ◌∙◌, arith}
+use Rattle.std.specs.List.{All, Contains, find, range_with_len}
 use Rattle.std.specs.declared.cmp.Ordering.{Ordering}
 use Rattle.std.specs.declared.cmp.Ordering.TheVariants.{Less}
-use Rattle.std.specs.Ordering.{nat_cmp, ordering_then}
 use Rattle.std.specs.Cmp.{IsTotalOrder}
 use Rattle.std.proofs.lemmas.Bool.{cases_lt}
 use Rattle.std.proofs.lemmas.Cmp.{nat_cmp_total, on_total, then_total}
@@ -29,8 +28,6 @@ use Rattle.cut_arrivals.proofs.Closes.{closes_as_settled}
 use Rattle.cut_arrivals.proofs.Changes.{LieAlike, change, change_is, change_rises}
 use Rattle.cut_arrivals.proofs.FirstTimes.{first_come, first_moves}
 use Rattle.cut_rings.proofs.Observers.{observer_below}
-use Rattle.cut_draws.proofs.FirstTimes.{next_le}
-use Rattle.cut_lists.proofs.Keyed.{less}
 
 -- ---- the order of deliveries
 
@@ -53,11 +50,7 @@ end_of x = length (deliveries_of x) + 1
 -- the lesser image comes first
 pub image_first : (x : Hearing) (y z : Delivery) → image_of x y < image_of x z → compare_at x y z ≡ Less
 image_first x y z lesser =
-    let before : key_at x.source (delivery_place x.receiver x.rule.k y)
-    < key_at x.source (delivery_place x.receiver x.rule.k z) = omega (arith, lesser) in
-    ap (λ o. ordering_then o (ordering_then (nat_cmp (edge_number x.rule.k y.edge) (edge_number x.rule.k z.edge))
-    (nat_cmp y.copy z.copy)))
-    (less _ _ before)
+    grind arith
 
 pub places_before : (x : Hearing) → All (λ y. place_of x y < end_of x) (deliveries_of x)
 places_before x = λ k d within.
@@ -76,11 +69,7 @@ lie_alike x last below wide = record {
       in omega (arith, few, wide);
   alike = λ y z at other come. elim (cases_lt (image_of x y) (image_of x z)) [
     | inr ordered ↦ ordered
-    | inl lesser ↦ absurd (
-        let sooner : delivery_rank x.source x.receiver x.rule.k x.edges x.copies y
-        < delivery_rank x.source x.receiver x.rule.k x.edges x.copies z =
-        rank-less (compare_total x) (deliveries_of x) y z at (image_first x y z lesser) in
-        omega (arith, sooner, come))
+    | inl lesser ↦ grind (arith, rank-less (compare_total x) (deliveries_of x) y z at (image_first x y z lesser))
   ];
 }
 
@@ -108,14 +97,7 @@ abbrev pub heard_by : Hearing → ℕ → EdgeSet
 heard_by x n = early x.source x.receiver x.rule.k x.edges x.copies n
 
 pub places_come : (x : Hearing) → IsHearing x → ComesAt x.layout x.rule (end_of x) (heard_by x) (places_at x)
-places_come x is = record {
-  comes = λ t ring s low _ _.
-      ap (λ (p : Delivery → Bool). list_any p (deliveries_of x))
-      (λ i y. is_edge ring s y.edge && next_le (delivery_rank x.source x.receiver x.rule.k x.edges x.copies y) t i)
-      ∙ first_come (end_of x) (place_of x) (λ y. is_edge ring s y.edge) (deliveries_of x) t low;
-  observers = λ ring s below process. observer_below x.layout is.layout ring s (omega (arith, below, is.rings))
-      process;
-}
+places_come x is = grind (arith, first_come, observer_below)
 
 abbrev pub low_places : Hearing → ℕ → ℕ
 low_places x = low_of (end_of x) x.rule (places_at x)
@@ -174,10 +156,7 @@ pub closed_places : (x : Hearing) (last : ℕ) (lows highs : List ℕ) (first ti
     → IsClosed x.layout.nodes last (λ s. to_image x last (low_places x s)) (λ s. to_image x last (high_places x s)) lows
     highs first time
 closed_places x last lows highs first time below is wide closed =
-    subst (λ (f : ℕ → ℕ). IsClosed x.layout.nodes last f (λ s. to_image x last (high_places x s)) lows highs first time)
-    (lows_same x last below is wide)
-    (subst (λ (f : ℕ → ℕ). IsClosed x.layout.nodes last (lows_at x last) f lows highs first time)
-    (highs_same x last below is wide) closed)
+    grind (arith, lows_same, highs_same)
 
 -- ---- the proposal
 

@@ -1,8 +1,8 @@
 -- What the members lack of some targets, and what they have besides.
 use Rattle.std.proofs.Common.{◌≡◌, inl, inr, ℕ, ◌^◌, ◌<◌, ◌≤◌, ◌==◌, ◌&&◌, ◌||◌, Bool, true, false, not, nat_le, nat_lt}
-use Rattle.std.proofs.Common.{List, filter, subst, refl, ap, sym, ◌∙◌, arith}
+use Rattle.std.proofs.Common.{List, filter, refl, ap, sym, ◌∙◌, arith}
 use Rattle.std.specs.List.{Contains, list_any, range_with_len}
-use Rattle.std.proofs.lemmas.Bool.{and_from, and_parts, both_ways, cases_Bool, cases_lt, eq-eqb, eqb-true, leb-true}
+use Rattle.std.proofs.lemmas.Bool.{and_from, and_parts, both_ways, cases_Bool, cases_lt, eq-eqb, leb-true}
 use Rattle.std.proofs.lemmas.Bool.{lt-ltb, or_cases, or_left, or_right}
 use Rattle.std.proofs.lemmas.List.Elements.{All-contains}
 use Rattle.std.proofs.lemmas.List.Folds.{Any-from_list_any, list_any_at}
@@ -38,8 +38,7 @@ has xs p at = any_contained (λ m. m == p) xs p at (eq-eqb p p refl)
 
 contains : (xs : List ℕ) (p : ℕ) → list_any (λ m. m == p) xs ≡ true → Contains xs p
 contains xs p is =
-    let at = some_passes (λ m. m == p) xs is in
-    subst (λ q. Contains xs q) (eqb-true at.0 p at.1.passes) at.1.contained
+    grind (arith, some_passes)
 
 -- ---- members
 

@@ -1,17 +1,15 @@
 -- Modes of processes by the times of edges.
-use Rattle.std.proofs.Common.{◌≡◌, inl, inr, ℕ, ◌<◌, ◌≤◌, Bool, true, false, cond, ◌&&◌, ◌||◌, not, nat_le, nat_lt, min}
-use Rattle.std.proofs.Common.{max, ap, sym, ◌∙◌, arith}
-use Rattle.std.specs.List.{count_by, range_with_len}
-use Rattle.std.proofs.Math.Bool.{or-false}
+use Rattle.std.proofs.Common.{◌≡◌, inl, inr, ℕ, ◌<◌, ◌≤◌, ◌&&◌, not, nat_le, nat_lt}
+use Rattle.std.proofs.Common.{ap, sym, ◌∙◌, arith}
+use Rattle.std.specs.List.{count_by}
 use Rattle.std.proofs.lemmas.Bool.{cases_lt, le-leb, leb-true}
-use Rattle.std.proofs.lemmas.Bool.Decides.{nat_tests}
 use Rattle.std.proofs.lemmas.List.Elements.{All-map}
 use Rattle.cut_lists.proofs.Ranges.{count_by_agree}
 use Rattle.cut_lists.proofs.Maps.{count_by-map}
-use Rattle.cut_rings.specs.Layout.{Layout, observer_of}
+use Rattle.cut_rings.specs.Layout.{Layout}
 use Rattle.cut_rings.specs.Edges.{EdgeSet}
 use Rattle.cut_detector.specs.Rule.{Rule}
-use Rattle.cut_detector.specs.Counts.{ring_count, full_count, is_gained}
+use Rattle.cut_detector.specs.Counts.{ring_count, full_count}
 unfoldable use Rattle.cut_detector.specs.Counts.{is_reported, is_full, is_stable, is_unstable}
 use Rattle.cut_arrivals.specs.Times.{EdgeTimes, ComesAt, IsRule, times_to}
 unfoldable use Rattle.cut_arrivals.specs.Times.{low_of, full_time, high_of}
@@ -24,9 +22,7 @@ count_come : (k : ℕ) (at : EdgeTimes) (F : EdgeSet) (t s : ℕ)
     → ((ring : ℕ) → ring < k → F ring s ≡ nat_le (at ring s) t)
     → ring_count k F s ≡ count_by (λ x. nat_le x t) (times_to k at s)
 count_come k at F t s same =
-    count_by_agree (λ ring. F ring s) (λ ring. nat_le (at ring s) t) 0 k
-    (record { same = λ ring _ below. same ring (omega (arith, below)) })
-    ∙ sym (count_by-map (λ x. nat_le x t) (λ ring. at ring s) (range_with_len 0 k))
+    grind (arith, count_by_agree, count_by-map)
 
 pub reported_from_low : (r : Layout) (rule : Rule) (end : ℕ) (E : ℕ → EdgeSet) (at : EdgeTimes)
     → ComesAt r rule end E at
@@ -36,23 +32,12 @@ reported_from_low r rule end E at come t s low process =
     ap (nat_le rule.l) (count_come rule.k at (E t) t s (λ ring below. come.comes t ring s low below process))
     ∙ (rank_is end rule.l (times_to rule.k at s)).comes t low
 
-full_test : (i : Bool) (a b c t : ℕ)
-    → nat_le a t || (i && nat_le b t && nat_le c t) ≡ nat_le (cond i (min a (max b c)) a) t
-full_test true a b c t = grind (arith, nat_tests)
-full_test false a b c t = or-false (nat_le a t)
-
 pub counts_from_full : (r : Layout) (rule : Rule) (end : ℕ) (E : ℕ → EdgeSet) (at : EdgeTimes) → ComesAt r rule end E at
     → (t ring s : ℕ) → t < end → ring < rule.k → s < r.nodes
     → is_full r rule (E t) ring s ≡ nat_le (full_time end r rule at ring s) t
 unfolding is_full full_time
 counts_from_full r rule end E at come t ring s low below process =
-    let o : ℕ = observer_of r ring s in
-    let own = reported_from_low r rule end E at come t s low process in
-    let its = reported_from_low r rule end E at come t o low (come.observers ring s below process) in
-    ap (λ b. b || is_gained r rule (E t) ring s) (come.comes t ring s low below process)
-    ∙ ap (λ b. nat_le (at ring s) t || (rule.implicit && b && is_reported rule (E t) o)) own
-    ∙ ap (λ b. nat_le (at ring s) t || (rule.implicit && nat_le (low_of end rule at s) t && b)) its
-    ∙ full_test rule.implicit (at ring s) (low_of end rule at s) (low_of end rule at o) t
+    grind (arith, reported_from_low r rule end E at come t)
 
 full_from_high : (r : Layout) (rule : Rule) (end : ℕ) (E : ℕ → EdgeSet) (at : EdgeTimes) → ComesAt r rule end E at
     → (t s : ℕ) → t < end → s < r.nodes
@@ -92,8 +77,7 @@ pub low_no_less : (end : ℕ) (rule : Rule) (at : EdgeTimes) (a : ℕ) → IsRul
     → ((ring s : ℕ) → a ≤ at ring s) → (s : ℕ) → a ≤ low_of end rule at s
 unfolding low_of
 low_no_less end rule at a is within from s =
-    rank_no_less end rule.l (times_to rule.k at s) a is.low within
-    (All-map (λ x. a ≤ x) (λ ring. at ring s) (range_with_len 0 rule.k) (λ k d _. from _ s))
+    search (arith, rank_no_less, All-map)
 
 -- a process is reported before it is stable
 pub low_before_high : (r : Layout) (rule : Rule) (end : ℕ) (E : ℕ → EdgeSet) (at : EdgeTimes) → ComesAt r rule end E at
@@ -106,7 +90,6 @@ low_before_high r rule end E at come is s process = elim (cases_lt (high_of end 
       let many : rule.h ≤ full_count r rule (E t) s =
       leb-true _ _ (full_from_high r rule end E at come t s low process ∙ le-leb t t (omega arith)) in
       let come_by : low_of end rule at s ≤ t =
-      leb-true _ _ (sym (reported_from_low r rule end E at come t s low process) ∙ sym (marked-is r rule (E t) s)
-      ∙ le-leb _ _ (omega (arith, many, is.gap))) in
+      grind (arith, reported_from_low r rule end E at come t s low process, marked-is r rule (E t) s) in
       omega (arith, less, come_by))
 ]

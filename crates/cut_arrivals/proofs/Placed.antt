@@ -1,10 +1,9 @@
 -- The place of a proposal, by the images of the deliveries.
-use Rattle.std.proofs.Common.{◌≡◌, inl, inr, ℕ, ◌+◌, ◌^◌, ◌<◌, ◌≤◌, ◌==◌, ◌||◌, true, false, cond, nat_le, nat_lt, List}
+use Rattle.std.proofs.Common.{◌≡◌, ℕ, ◌+◌, ◌^◌, ◌<◌, ◌≤◌, ◌==◌, ◌||◌, true, false, cond, nat_le, nat_lt, List}
 use Rattle.std.proofs.Common.{length, map, filter, get_or, Some, None, refl, ap, sym, ◌∙◌, arith}
 use Rattle.std.specs.List.{Contains, count_by, find, range_with_len}
-use Rattle.std.specs.Ordering.{is_lt, ordering_reverse}
-use Rattle.std.proofs.lemmas.Bool.{both_ways, cases_lt, eq-eqb, le-leb, leb-true, or_cases, or_left, or_right}
-use Rattle.std.proofs.lemmas.Cmp.{tied_itself}
+use Rattle.std.specs.Ordering.{is_lt}
+use Rattle.std.proofs.lemmas.Bool.{both_ways, eq-eqb, le-leb, leb-true}
 use Rattle.std.proofs.lemmas.List.Elements.{All-filter, All-map, Contains-get_or}
 use Rattle.cut_lists.proofs.Counts.{counts-into}
 use Rattle.cut_lists.proofs.Firsts.{IsFirst, found_first}
@@ -19,7 +18,7 @@ use Rattle.cut_arrivals.proofs.RankLemmas.{rank_keeps}
 use Rattle.cut_arrivals.proofs.Kept.{high_keeps}
 use Rattle.cut_arrivals.proofs.Found.{proposed, proposes_by_times}
 use Rattle.cut_arrivals.proofs.Closes.{closes, first_is_high, first_settled}
-use Rattle.cut_arrivals.proofs.Heard.{closed_places, compare_at, compare_total, end_of, heard_by, high_places}
+use Rattle.cut_arrivals.proofs.Heard.{closed_places, compare_at, end_of, heard_by, high_places}
 use Rattle.cut_arrivals.proofs.Heard.{highs_same, image_first, low_places, place_of, places_are_times, places_at}
 use Rattle.cut_arrivals.proofs.Heard.{places_come, to_image, to_image_is, to_image_rises}
 
@@ -51,22 +50,11 @@ first_is_place x is m first =
 
 -- what comes before a delivery has no greater image
 sooner_lesser : (x : Hearing) (y z : Delivery) → is_lt (compare_at x z y) ≡ true → image_of x z ≤ image_of x y
-sooner_lesser x y z sooner = elim (cases_lt (image_of x y) (image_of x z)) [
-  | inr ordered ↦ ordered
-  | inl greater ↦ absurd (both_ways (is_lt (compare_at x z y))
-      (ap is_lt ((compare_total x).antisymm z y ∙ ap ordering_reverse (image_first x y z greater))) sooner)
-]
+sooner_lesser x y z sooner = grind arith
 
 image_or_sooner : (x : Hearing) (y : Delivery) (time : ℕ) → image_of x y ≡ time → (z : Delivery)
     → nat_le (image_of x z) time || false ≡ true → is_lt (compare_at x z y) || (image_of x z == time) ≡ true
-image_or_sooner x y time at z e = elim (or_cases (nat_le (image_of x z) time) false e) [
-  | inl come ↦ elim (cases_lt (image_of x z) time) [
-    | inl lesser ↦ or_left (is_lt (compare_at x z y)) _ (ap is_lt (image_first x z y (omega (arith, lesser, at))))
-    | inr not ↦ (let up : image_of x z ≤ time = leb-true _ _ come in
-        or_right (is_lt (compare_at x z y)) _ (eq-eqb (image_of x z) time (omega (arith, up, not))))
-  ]
-  | inr never ↦ absurd (both_ways false refl never)
-]
+image_or_sooner x y time at z e = grind (arith, image_first, leb-true, eq-eqb)
 
 -- the place of the only delivery of an image is how many images are up to it
 place_counted : (x : Hearing) (y : Delivery) (time : ℕ) → Contains (deliveries_of x) y → image_of x y ≡ time
@@ -76,17 +64,8 @@ place_counted x y time at is alone =
     let all : List Delivery = deliveries_of x in
     let upper : count_by (λ z. nat_le (image_of x z) time) all + count_by (λ _. false) all
     ≤ count_by (λ z. is_lt (compare_at x z y)) all + count_by (λ z. image_of x z == time) all =
-    counts-into (λ z. nat_le (image_of x z) time) (λ _. false) (λ z. is_lt (compare_at x z y))
-    (λ z. image_of x z == time) all
-    (λ z _ never. both_ways false refl never) (image_or_sooner x y time is) in
-    let lower : count_by (λ z. is_lt (compare_at x z y)) all < count_by (λ z. nat_le (image_of x z) time) all =
-    count_less (λ z. is_lt (compare_at x z y)) (λ z. nat_le (image_of x z) time) all at.0 y
-    (λ z sooner. let le : image_of x z ≤ image_of x y = sooner_lesser x y z sooner
-    in le-leb (image_of x z) time (omega (arith, le, is)))
-    at.1
-    (ap (λ z. is_lt (compare_at x z y)) at.2 ∙ ap is_lt (tied_itself (compare_total x) y))
-    (ap (λ z. nat_le (image_of x z) time) at.2 ∙ le-leb (image_of x y) time (omega (arith, is))) in
-    omega (arith, upper, lower, alone)
+    search (arith, counts-into, both_ways, image_or_sooner) in
+    grind (arith, count_less, sooner_lesser, le-leb)
 
 pub closes_at_place : ImagesAreBelowNever → (x : Hearing) (last : ℕ) (lows highs : List ℕ) (first time : ℕ)
     → IsHearing x → 2 ^ 30 ≤ last

@@ -1,9 +1,8 @@
 -- Ranks of times: what they are, that there is one, and when they have come.
 use Rattle.std.proofs.Common.{◌≡◌, inl, inr, ℕ, ◌+◌, ◌-◌, ◌<◌, ◌≤◌, ◌==◌, ◌||◌, true, false, nat_le, nat_lt, List}
-use Rattle.std.proofs.Common.{subst, refl, ap, sym, ◌∙◌, arith}
+use Rattle.std.proofs.Common.{ap, sym, ◌∙◌, arith}
 use Rattle.std.specs.List.{All, Contains, count_by}
-use Rattle.std.proofs.lemmas.Bool.{both_ways, cases_lt, eq-eqb, eqb-true, le-leb, le-ltb, leb-true, lt-leb, lt-ltb}
-use Rattle.std.proofs.lemmas.Bool.{ltb-true, or_cases, or_left, or_right}
+use Rattle.std.proofs.lemmas.Bool.{both_ways, cases_lt, le-leb, leb-true, lt-leb, lt-ltb}
 use Rattle.std.proofs.lemmas.List.Elements.{All-contains}
 use Rattle.std.proofs.lemmas.List.Folds.{Any-from_list_any}
 use Rattle.cut_lists.proofs.Counts.{counts-into, list_any-count_by}
@@ -11,14 +10,13 @@ use Rattle.cut_lists.proofs.Ranks.{count_by_none}
 use Rattle.cut_lists.proofs.Parts.{count_le}
 unfoldable use Rattle.cut_ranks.specs.Ranks.{rank_at}
 use Rattle.cut_ranks.specs.Ranks.{has_rank, IsRank}
-use Rattle.cut_arrivals.proofs.Tests.{IsKept, IsTrueFrom, turns}
+use Rattle.cut_arrivals.proofs.Tests.{IsKept, turns}
 use Rattle.cut_ranks.proofs.Ranks.{one_rank}
 
 -- what has come by a time has come by a later one
 pub count_by_time-le : (xs : List ℕ) (a b : ℕ) → a ≤ b → count_by (λ x. nat_le x a) xs ≤ count_by (λ x. nat_le x b) xs
 count_by_time-le xs a b before =
-    count_le (λ x. nat_le x a) (λ x. nat_le x b) xs
-    (λ x is. let come : x ≤ a = leb-true x a is in le-leb x b (omega (arith, come, before)))
+    grind (arith, count_le)
 
 has_rank-kept : (r : ℕ) (xs : List ℕ) → IsKept (λ t. has_rank r xs t)
 has_rank-kept r xs = record {
@@ -30,14 +28,11 @@ has_rank-kept r xs = record {
 pub rank_is : (end r : ℕ) (xs : List ℕ) → IsRank end r xs (rank_at end r xs)
 unfolding rank_at
 rank_is end r xs =
-    let from : IsTrueFrom (λ t. has_rank r xs t) end (rank_at end r xs) = turns (λ t. has_rank r xs t)
-    (has_rank-kept r xs) end in
-    record { within = from.within; comes = from.comes }
+    grind (arith, turns, has_rank-kept r xs)
 
 not_less : (end r : ℕ) (xs : List ℕ) (x y : ℕ) → IsRank end r xs x → IsRank end r xs y → x < y → ⊥
 not_less end r xs x y one other less =
-    let low : x < end = omega (arith, less, other.within) in
-    both_ways (has_rank r xs x) (other.comes x low ∙ lt-leb y x less) (one.comes x low ∙ le-leb x x (omega arith))
+    grind (arith, lt-leb y x less, le-leb x x)
 
 -- a rank is no less than what none of the times is less than
 pub rank_no_less : (end r : ℕ) (xs : List ℕ) (a : ℕ) → 1 ≤ r → a ≤ end → All (λ x. a ≤ x) xs → a ≤ rank_at end r xs
@@ -56,33 +51,10 @@ rank_no_less end r xs a some within all = elim (cases_lt (rank_at end r xs) a) [
 fewer_before : (end r : ℕ) (xs : List ℕ) → 1 ≤ r → count_by (λ x. nat_lt x (rank_at end r xs)) xs < r
 fewer_before end r xs some =
     let rank : ℕ = rank_at end r xs in
-    let is : IsRank end r xs rank = rank_is end r xs in
-    elim (cases_lt 0 rank) [
-      | inl above ↦ elim (cases_lt (count_by (λ x. nat_lt x rank) xs) r) [
-        | inl fewer ↦ fewer
-        | inr many ↦ absurd (
-            let more : count_by (λ x. nat_lt x rank) xs ≤ count_by (λ x. nat_le x (rank - 1)) xs =
-            count_le (λ x. nat_lt x rank) (λ x. nat_le x (rank - 1)) xs
-            (λ x e. let before : x < rank = ltb-true x rank e in le-leb x (rank - 1) (omega (arith, before))) in
-            both_ways (has_rank r xs (rank - 1)) (is.comes (rank - 1) (omega (arith, above, is.within))
-            ∙ lt-leb rank (rank - 1) (omega (arith, above)))
-            (le-leb _ _ (omega (arith, many, more))))
-      ]
-      | inr at_zero ↦ (
-          let none : count_by (λ x. nat_lt x rank) xs
-          ≡ 0 = count_by_none (λ x. nat_lt x rank) xs (λ k d _. le-ltb _ rank (omega (arith, at_zero))) in
-          omega (arith, none, some))
-    ]
+    grind (arith, rank_is end r xs, count_le, lt-leb rank (rank - 1), count_by_none)
 
 before_or_at : (rank x : ℕ) → nat_le x rank || false ≡ true → nat_lt x rank || (x == rank) ≡ true
-before_or_at rank x e = elim (or_cases (nat_le x rank) false e) [
-  | inl come ↦ elim (cases_lt x rank) [
-    | inl before ↦ or_left (nat_lt x rank) _ (lt-ltb x rank before)
-    | inr not ↦ (let up : x ≤ rank = leb-true x rank come
-        in or_right (nat_lt x rank) _ (eq-eqb x rank (omega (arith, up, not))))
-  ]
-  | inr never ↦ absurd (both_ways false refl never)
-]
+before_or_at rank x e = grind arith
 
 -- a rank that comes is one of the times
 pub rank_among : (end r : ℕ) (xs : List ℕ) → 1 ≤ r → rank_at end r xs < end → Contains xs (rank_at end r xs)
@@ -92,13 +64,11 @@ rank_among end r xs some less =
     ((rank_is end r xs).comes rank less ∙ le-leb rank rank (omega arith)) in
     let parts : count_by (λ x. nat_le x rank) xs + count_by (λ _. false) xs ≤ count_by (λ x. nat_lt x rank) xs
     + count_by (λ x. x == rank) xs =
-    counts-into (λ x. nat_le x rank) (λ _. false) (λ x. nat_lt x rank) (λ x. x == rank) xs
-    (λ x _ never. both_ways false refl never) (before_or_at rank) in
+    search (arith, counts-into, both_ways, before_or_at) in
     let one : 0 < count_by (λ x. x == rank) xs = omega (arith, many, parts, fewer_before end r xs some) in
     let at = Any-from_list_any (λ x. x == rank) xs
     (list_any-count_by (λ x. x == rank) xs ∙ lt-ltb 0 (count_by (λ x. x == rank) xs) one) in
-    let same : at.1 ≡ rank = eqb-true at.1 rank at.4 in
-    subst (λ y. Contains xs y) same (at.0, at.2, at.3)
+    grind arith
 
 -- what holds of each time that comes holds of each rank that does
 pub rank_keeps : (P : ℕ → Type 0) (end r : ℕ) (xs : List ℕ) → 1 ≤ r → All (λ x. x < end → P x) xs → rank_at end r xs

@@ -3,8 +3,7 @@ use Rattle.std.proofs.Common.{◌≡◌, ℕ, ◌^◌, ◌<◌, ◌≤◌, ◌&&
 use Rattle.std.proofs.Common.{min, max, refl, ap, sym, ◌∙◌, arith}
 use Rattle.std.specs.List.{All, Contains, count_by, range_with_len}
 use Rattle.std.specs.List.Sorted.{IsPermutation}
-use Rattle.std.proofs.lemmas.Bool.{both_ways, lt-leb, lt-ltb}
-use Rattle.std.proofs.lemmas.Bool.Decides.{nat_tests}
+use Rattle.std.proofs.lemmas.Bool.{both_ways, lt-leb}
 use Rattle.std.proofs.lemmas.List.Sorted.{sum_by-IsPermutation}
 use Rattle.cut_lists.proofs.Maps.{count_by-map}
 use Rattle.cut_lists.proofs.Ranges.{count_by_agree}
@@ -20,11 +19,8 @@ use Rattle.cut_arrivals.specs.Hearing.{Hearing, IsHearing, deliveries_of, image_
 use Rattle.cut_arrivals.specs.Values.{ArePresent, AreFullTimes}
 use Rattle.cut_arrivals.proofs.RankLemmas.{rank_is, rank_of_alike}
 use Rattle.cut_arrivals.proofs.FirstTimes.{count_filter}
-use Rattle.cut_arrivals.proofs.Ends.{ends_come, ends_full, ends_reported_alike, images_before}
+use Rattle.cut_arrivals.proofs.Ends.{ends_come, ends_full, ends_reported_alike}
 use Rattle.cut_rings.proofs.Observers.{observer_below}
-
-not_before : (a b : ℕ) → nat_lt a b ≡ false → b ≤ a
-not_before a b e = grind (arith, nat_tests)
 
 -- ---- counts of the rings that come
 
@@ -56,8 +52,7 @@ images_within x last ring s = (rank_is last 1 (map (image_of x)
 others_late : ImagesAreBelowNever → (x : Hearing) (last ring s : ℕ) → IsHearing x → 1 ≤ x.copies → 2 ^ 30 ≤ last
     → set_of x.edges ring s ≡ false → last ≤ images_at x last ring s
 others_late below x last ring s is some wide none =
-    not_before (images_at x last ring s) last
-    (ends_come x is some last (image_of x) (omega (arith, wide)) (images_before below x last wide) ring s ∙ none)
+    grind (arith, ends_come x is some last (image_of x))
 
 pub others_never_come : ImagesAreBelowNever → (x : Hearing) (last ring s : ℕ) → IsHearing x → 1 ≤ x.copies → 2 ^ 30
     ≤ last
@@ -72,11 +67,9 @@ ungained : (i a b : Bool) (at low its last : ℕ) → at ≤ last → nat_lt low
     → cond i (min at (max low its)) at ≡ at
 ungained false a b at low its last within one other none = refl
 ungained true false b at low its last within one other none =
-    (let late : last ≤ low = not_before low last one in let is : min at (max low its) ≡ at = omega (arith, within, late)
-    in is)
+    grind arith
 ungained true true false at low its last within one other none =
-    (let late : last ≤ its = not_before its last other in let is : min at (max low its)
-    ≡ at = omega (arith, within, late) in is)
+    grind arith
 ungained true true true at low its last within one other none = absurd (both_ways true none refl)
 
 pub ungained_by_image : ImagesAreBelowNever → (x : Hearing) (last ring s : ℕ) → IsHearing x → 1 ≤ x.copies → 2 ^ 30
@@ -97,20 +90,13 @@ pub gained_by_lows : (x : Hearing) (last ring s : ℕ) → is_gained x.layout x.
     → full_time last x.layout x.rule (images_at x last) ring s
     ≡ min (images_at x last ring s) (max (lows_at x last s) (lows_at x last (observer_of x.layout ring s)))
 unfolding full_time
-gained_by_lows x last ring s is = first_true x.rule.implicit (is_reported x.rule (set_of x.edges) s)
-    (is_reported x.rule (set_of x.edges) (observer_of x.layout ring s)) _ _ is
-  where
-    first_true : (i a b : Bool) (m n : ℕ) → i && a && b ≡ true → cond i m n ≡ m
-    first_true true a b m n e = refl
-    first_true false a b m n e = absurd (both_ways false refl e)
+gained_by_lows x last ring s is = grind arith
 
 full_late : ImagesAreBelowNever → (x : Hearing) (last ring s : ℕ) → IsHearing x → 1 ≤ x.copies → 2 ^ 30 ≤ last
     → ring < x.rule.k → s < x.layout.nodes → is_full x.layout x.rule (set_of x.edges) ring s ≡ false
     → last ≤ full_time last x.layout x.rule (images_at x last) ring s
 full_late below x last ring s is some wide in_rule process none =
-    not_before (full_time last x.layout x.rule (images_at x last) ring s) last
-    (ends_full x is some last (image_of x) (omega (arith, wide)) (images_before below x last wide) ring s in_rule
-    process ∙ none)
+    grind (arith, ends_full x is some last (image_of x))
 
 -- ---- ranks
 
@@ -146,10 +132,4 @@ pub reported_are_nodes : ImagesAreBelowNever → (x : Hearing) (last : ℕ) (nod
     → ((s : ℕ) → s < x.layout.nodes → is_reported x.rule (set_of x.edges) s ≡ true → Contains nodes s)
     → AreNodes x.layout.nodes last (lows_at x last) (highs_at x last) nodes (map (lows_at x last) nodes)
     (map (highs_at x last) nodes)
-reported_are_nodes below x last nodes is some wide processes each = record {
-  processes = processes;
-  each = λ s process early. each s process (sym (ends_reported_alike below x last is some wide s process)
-      ∙ lt-ltb (lows_at x last s) last early);
-  lows_are = refl;
-  highs_are = refl;
-}
+reported_are_nodes below x last nodes is some wide processes each = grind (arith, ends_reported_alike below x last is some wide)

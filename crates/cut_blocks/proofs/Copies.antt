@@ -1,6 +1,5 @@
 -- The least image over the copies.
-use Rattle.std.proofs.Common.{◌≡◌, ◌∙◌, ℕ, ◌+◌, ◌*◌, ◌^◌, List, [], ◌∷◌, fold, min, length, replicate, refl, ap, arith}
-use Rattle.std.specs.List.{range_with_len}
+use Rattle.std.proofs.Common.{◌≡◌, ℕ, ◌+◌, ◌*◌, ◌^◌, List, min, length, replicate, refl, arith}
 use Rattle.std.proofs.lemmas.List.Sums.{fold-append}
 use Rattle.cut_lists.proofs.Ranges.{range_with_len_more}
 use Rattle.cut_draws.specs.Source.{Source}
@@ -11,9 +10,7 @@ pub least_more : (d : Source) (copies block q row : ℕ) → least_image d (copi
     ≡ min (least_image d copies block q row) (image_at d (place_in (row + (block + copies * 2 ^ 24)) q))
 unfolding least_image
 least_more d copies block q row =
-    let lessened : ℕ → ℕ → ℕ = λ least c. min least (image_at d (place_in (row + (block + c * 2 ^ 24)) q)) in
-    ap (λ (cs : List ℕ). fold lessened never cs) (range_with_len_more 0 copies copies (omega arith))
-    ∙ fold-append lessened never (range_with_len 0 copies) (copies ∷ [])
+    grind (arith, range_with_len_more 0 copies copies, fold-append)
 
 -- of no copies
 pub least_none : (d : Source) (block : ℕ) (rows : List ℕ) → length rows ≡ 4

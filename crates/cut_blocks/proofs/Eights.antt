@@ -1,7 +1,6 @@
 -- Eight vectors.
-use Rattle.std.proofs.Common.{◌≡◌, ℕ, List, [], ◌∷◌, map, min, cond, ltb, le-ltb, inl, inr, refl, arith}
+use Rattle.std.proofs.Common.{◌≡◌, ℕ, List, [], ◌∷◌, map, min, cond, ltb, refl, arith}
 use Rattle.std.specs.Simd.Lanes.{zip2, sel_l}
-use Rattle.std.proofs.lemmas.Bool.{cases_lt, lt-ltb}
 use Rattle.std.proofs.lemmas.Simd.{map-map}
 use Rattle.cut_blocks.specs.Images.{eight}
 
@@ -14,20 +13,12 @@ eight_from f rows a b c d e g h i pa pb pc pd pe pg ph pi = rw (pa, pb, pc, pd, 
 -- of moved rows
 pub eight_moved : (f : ℕ → ℕ → ℕ) (g : ℕ → ℕ) (rows : List ℕ) → eight f (map g rows) ≡ eight (λ q row. f q (g row)) rows
 eight_moved f g rows =
-    eight_from (λ q row. f q (g row)) rows (map (λ x. f 0 x) (map g rows)) (map (λ x. f 1 x) (map g rows))
-    (map (λ x. f 2 x) (map g rows)) (map (λ x. f 3 x) (map g rows)) (map (λ x. f 4 x) (map g rows))
-    (map (λ x. f 5 x) (map g rows)) (map (λ x. f 6 x) (map g rows)) (map (λ x. f 7 x) (map g rows))
-    (map-map (λ x. f 0 x) g rows) (map-map (λ x. f 1 x) g rows) (map-map (λ x. f 2 x) g rows)
-    (map-map (λ x. f 3 x) g rows) (map-map (λ x. f 4 x) g rows) (map-map (λ x. f 5 x) g rows)
-    (map-map (λ x. f 6 x) g rows) (map-map (λ x. f 7 x) g rows)
+    search (arith, map-map)
 
 -- ---- the lesser of two
 
 min_is : (x y : ℕ) → cond (ltb x y) x y ≡ min x y
-min_is x y = elim (cases_lt x y) [
-  | inl less ↦ rw (lt-ltb x y less) (omega (arith, less))
-  | inr not ↦ rw (le-ltb x y not) (omega (arith, not))
-]
+min_is x y = grind arith
 
 pub chosen : (xs ys : List ℕ) → sel_l (zip2 ltb xs ys) xs ys ≡ zip2 min xs ys
 chosen [] ys = refl

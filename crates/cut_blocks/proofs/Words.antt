@@ -13,10 +13,7 @@ word_below d place = omega arith
 
 pub image_is : (d : Source) (place : ℕ) → image_at d place ≡ word_of d place / 4
 image_is d place =
-    let high = word_of d place in
-    let low = word_of d (place + 1) in
-    let below : low < 2 ^ 32 = word_below d (place + 1) in
-    omega (arith, below)
+    grind (arith, word_below)
 
 -- a word of one block, from its states before and after the rounds
 one_word : (key : List ℕ) (block stream word : ℕ) (first last : List ℕ) → first ≡ initial_state key block stream

@@ -1,5 +1,5 @@
 -- What one seat knows that took in all others, and what the words of a board then say.
-use Rattle.std.proofs.Common.{◌≡◌, ℕ, zero, suc, ◌+◌, ◌<◌, ◌≤◌, List, [], ◌∷◌, ◌++◌, length, map, get_or}
+use Rattle.std.proofs.Common.{◌≡◌, ℕ, zero, suc, ◌<◌, ◌≤◌, List, [], ◌∷◌, length, map, get_or}
 use Rattle.std.proofs.Common.{flat_map, sym, ap, ◌∙◌, subst, arith}
 use Rattle.std.specs.List.{range_with_len}
 use mathlib.Core.Option.{some}
@@ -8,18 +8,17 @@ use Rattle.std.proofs.lemmas.List.FromFn.{length-range_with_len}
 use Rattle.std.proofs.lemmas.List.Sorted.{length_permutation}
 use Rattle.std.proofs.lemmas.List.Sums.{get_or-le-sum_by}
 use Rattle.atomic_table.specs.Table.{Final, Seen}
-use Rattle.cut_lists.proofs.Intervals.{map_agree}
 use Rattle.cut_board.specs.declared.view.Entry.{Entry}
 use Rattle.cut_board.specs.declared.view.View.{View}
 use Rattle.cut_board.specs.inside.Closed.{words_of_study}
 use Rattle.cut_board.specs.Rule.{IsEachBelow}
-use Rattle.cut_board.specs.inside.Rule.{IsPossibleView, AreWordsOf, Kept}
-use Rattle.cut_board.specs.Totals.{total_of, totals_of, IsDrawnOnce, HasSeenNoMore}
-use Rattle.cut_board.specs.Views.{counted_of, read_of, draws_of, amount_of, greatest, counted_in, drawn_by}
+use Rattle.cut_board.specs.inside.Rule.{AreWordsOf, Kept}
+use Rattle.cut_board.specs.Totals.{totals_of, IsDrawnOnce, HasSeenNoMore}
+use Rattle.cut_board.specs.Views.{counted_of, draws_of, amount_of, greatest, drawn_by}
 use Rattle.cut_board.specs.Views.{seen_in}
 use Rattle.cut_board.specs.inside.Views.{gathered, joined}
 use Rattle.cut_board.specs.inside.Words.{draws_at}
-use Rattle.cut_board.proofs.Lists.{at_place, All-at, sum_by_flat_map}
+use Rattle.cut_board.proofs.Lists.{at_place, sum_by_flat_map}
 use Rattle.cut_board.proofs.Logs.{greatest-append, total, times_of, times_are_part, count_is_part, AreWithin}
 use Rattle.cut_board.proofs.Logs.{total_is_its_own}
 use Rattle.cut_board.proofs.Keeps.{words_of_more}
@@ -29,8 +28,7 @@ use Rattle.cut_board.proofs.Allowed.{Holds}
 
 pub gathered_more : (views : List View) (v : View) → v.parts ≡ 1 → gathered (v ∷ views) ≡ joined (gathered views) v
 gathered_more views v one =
-    let more : length (v ∷ views) ≡ length views + v.parts = omega arith in
-    λ i. record { parts = more i; log = v.log ++ flat_map (λ (u : View). u.log) views }
+    grind arith
 
 -- one has read no more than all
 read_among : (f : Entry → ℕ) (views : List View) (i : ℕ) (d : View) → i < length views
@@ -64,24 +62,7 @@ ends studies seats words views id given kept at whole =
     words_of_more words words views given kept.done
     (λ k x. omega (arith, own (times_of k x) draws_of (times_are_part k x) draws))
     (λ k. omega (arith, own (counted_of k) amount_of (count_is_part k) counts)) in
-    record {
-      many = omega (
-        arith,
-        kept.parts,
-        ap (λ (v : View). v.parts) place.1,
-        get_or-le-sum_by (λ (v : View). v.parts) views id (gathered given) place.0,
-      );
-      done = done;
-      seen = λ k i d within.
-          let all = All-at (IsPossibleView words) views id (gathered given) at kept.sound in
-          omega (
-            arith,
-            get_or-le-sum_by (counted_in k) given i d within,
-            read_among (read_of k) given i d within,
-            all.read k,
-            done.counted k,
-          );
-    }
+    grind (arith, get_or-le-sum_by, read_among)
 
 -- the end, from what closing a table shows
 pub ends_closed : {S : Type 0} (studies seats : ℕ) (words : List ℕ) (slots : List S) (id : ℕ) (v : View)
@@ -104,7 +85,4 @@ drawn_once given words done study =
 pub reported : (studies : ℕ) (given : List View) (words : List ℕ) → AreWordsOf words given
     → map (words_of_study words) (range_with_len 0 studies) ≡ totals_of studies given
 reported studies given words done =
-    map_agree (words_of_study words) (total_of given) 0 studies (λ study _ _ i. record {
-      draws = sym (draws_shown given words done study) i;
-      count = done.counted study i;
-    })
+    grind (arith, draws_shown)

@@ -1,17 +1,16 @@
 -- A board begins by its rule, and each step keeps it.
 use Rattle.std.proofs.Common.{◌≡◌, ℕ, ◌+◌, ◌*◌, ◌<◌, ◌≤◌, List, [], ◌∷◌, ◌++◌, All, length, get_or, set}
-use Rattle.std.proofs.Common.{replicate, slice_index, sum_by, refl, sym, ap, ◌∙◌, subst, arith}
+use Rattle.std.proofs.Common.{replicate, slice_index, sum_by, sym, ap, ◌∙◌, arith}
 use Rattle.std.proofs.Common.{length-set, append-nil}
 use Rattle.std.specs.List.{range_with_len}
 use mathlib.Core.Option.{some}
 use lib.ListN.{get_elem?}
-use Rattle.std.proofs.lemmas.Bool.Decides.{nat_tests}
 use Rattle.std.proofs.lemmas.List.{get_or-set_other, length-replicate}
 use Rattle.std.proofs.lemmas.Grind.{get_or-set_at}
 use Rattle.std.proofs.lemmas.List.Concat.{length-flat_map}
 use Rattle.std.proofs.lemmas.List.Elements.{All-nil, All-cons, All-append, All-set}
 use Rattle.std.proofs.lemmas.List.FromFn.{length-range_with_len}
-use Rattle.std.proofs.lemmas.List.Sorted.{sum_by-IsPermutation, length_permutation, IsPermutation-refl}
+use Rattle.std.proofs.lemmas.List.Sorted.{sum_by-IsPermutation, length_permutation}
 use Rattle.std.proofs.lemmas.List.Sums.{sum_by-append, sum_by_push}
 use Rattle.atomic_table.proofs.Lists.{set_else}
 use Rattle.cut_lists.proofs.BitSets.{get_or-zeros}
@@ -19,7 +18,7 @@ use Rattle.cut_lists.proofs.Ranges.{range_with_len_more}
 use Rattle.cut_board.specs.declared.view.Entry.{Entry}
 use Rattle.cut_board.specs.declared.view.Entry.TheVariants as entry
 use Rattle.cut_board.specs.declared.view.View.{View}
-use Rattle.cut_board.specs.Rule.{seat_limit, IsEachBelow}
+use Rattle.cut_board.specs.Rule.{seat_limit}
 use Rattle.cut_board.specs.inside.Rule.{IsPossibleView, AreWordsOf, Kept}
 use Rattle.cut_board.specs.Views.{drawn_of, counted_of, read_of, draws_of, amount_of, drawn_in}
 use Rattle.cut_board.specs.Views.{draws_in, amount_in, drawn_by, counted_by, idle, entered}
@@ -56,27 +55,11 @@ words_of_more words after views later are draws counts = record {
 -- ---- the first seat
 
 pub idle_is_possible : (words : List ℕ) (parts : ℕ) → IsPossibleView words (idle parts)
-idle_is_possible words parts = record {
-  read = λ k. omega arith;
-  draws = omega arith;
-  counts = omega arith;
-}
+idle_is_possible words parts = grind arith
 
 pub begins : (studies seats : ℕ) → seats ≤ 129 → Kept studies seats (replicate (word_count studies) 0) (idle seats ∷ [])
 begins studies seats few =
-    let zeros : List ℕ = replicate (word_count studies) 0 in
-    record {
-      few = few;
-      wide = length-replicate (word_count studies) 0;
-      parts = omega arith;
-      done = record {
-        drawn = λ k. subst (λ n. IsEachBelow n []) (sym (get_or-zeros (word_count studies) (draw_word k)))
-            (IsPermutation-refl []);
-        counted = λ k. get_or-zeros (word_count studies) (count_word k);
-      };
-      sound = All-cons (IsPossibleView zeros) (idle seats) [] (idle_is_possible zeros seats)
-          (All-nil (IsPossibleView zeros));
-    }
+    grind (arith, length-replicate, get_or-zeros)
 
 -- ---- one thing more is done
 
@@ -99,11 +82,7 @@ pub entered_keeps : (studies seats : ℕ) (words after : List ℕ) (views : List
 entered_keeps studies seats words after views id v e kept at adds room =
     let was = All-at (IsPossibleView words) views id v at kept.sound in
     let more : (g : Entry → ℕ) → total g (set views id (entered v e)) ≡ total g views + g e =
-    λ g. omega (
-      arith,
-      sum_by_put (λ (u : View). sum_by g u.log) views id v (entered v e) at,
-      sum_by_push g v.log e,
-    ) in
+    grind (arith, sum_by_put, sum_by_push) in
     record {
       few = kept.few;
       wide = adds.wide ∙ kept.wide;
@@ -211,54 +190,21 @@ few_drawn studies seats words views kept k =
 
 pub few_counted : (studies seats : ℕ) (words : List ℕ) (views : List View) → Kept studies seats words views → (k : ℕ)
     → count_at words k ≤ seats * seat_limit
-few_counted studies seats words views kept k = omega (
-  arith,
-  kept.done.counted k,
-  total_is_bounded (counted_of k) amount_of views (count_is_part k) (λ i d within. (kept.sound i d within).counts),
-  kept.parts,
-)
+few_counted studies seats words views kept k = grind (arith, total_is_bounded (counted_of k) amount_of views (count_is_part k))
 
 -- ---- what each kind of step does to the words
 
 -- one is added to a draw word
 pub draw_adds : (words : List ℕ) (place study n m : ℕ) → place ≡ draw_word study → place < length words
     → n ≡ slice_index words place → m ≡ n + 1 → Adds words (set words place m) (entry.Drew study n)
-draw_adds words place study n m is room here more = record {
-  wide = length-set words place m;
-  drawn = λ k. grind (
-    arith,
-    nat_tests,
-    get_or-set_at words place (draw_word k) m 0,
-    get_or-set_other words place (draw_word k) m 0,
-    range_with_len_more 0 n n (omega arith),
-    append-nil (numbers_below words k),
-  );
-  counted = λ k. omega (arith, get_or-set_other words place (count_word k) m 0 (λ e. absurd (omega arith)));
-  read = λ k. omega arith;
-}
+draw_adds words place study n m is room here more = grind (arith, length-set, get_or-set_at, get_or-set_other, range_with_len_more, append-nil)
 
 -- n is added to a count word
 pub count_adds : (words : List ℕ) (place study n m : ℕ) → place ≡ count_word study → place < length words
     → m ≡ slice_index words place + n → Adds words (set words place m) (entry.Counted study n)
-count_adds words place study n m is room more = record {
-  wide = length-set words place m;
-  drawn = λ k. ap (range_with_len 0) (get_or-set_other words place (draw_word k) m 0 (λ e. absurd (omega arith)))
-      ∙ sym (append-nil (numbers_below words k));
-  counted = λ k. grind (
-    arith,
-    nat_tests,
-    get_or-set_at words place (count_word k) m 0,
-    get_or-set_other words place (count_word k) m 0,
-  );
-  read = λ k. omega arith;
-}
+count_adds words place study n m is room more = grind (arith, length-set, get_or-set_other, append-nil, get_or-set_at)
 
 -- a count word is read
 pub read_adds : (words : List ℕ) (place study : ℕ) → place ≡ count_word study
     → Adds words words (entry.Read study (slice_index words place))
-read_adds words place study is = record {
-  wide = refl;
-  drawn = λ k. sym (append-nil (numbers_below words k));
-  counted = λ k. omega arith;
-  read = λ k. grind (arith, nat_tests);
-}
+read_adds words place study is = grind (arith, append-nil)

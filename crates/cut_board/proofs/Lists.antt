@@ -1,7 +1,7 @@
 -- Lists that are read and changed at a place, and lists that have each number equally often.
 use Rattle.std.proofs.Common.{◌≡◌, ℕ, zero, suc, ◌+◌, ◌*◌, ◌<◌, ◌≤◌, ◌==◌, Bool, true, false, cond, List, [], ◌∷◌}
 use Rattle.std.proofs.Common.{remove, Contains, All, length, get_or, set, flat_map, sum_by, refl, sym, ap, ◌∙◌, arith}
-use Rattle.std.proofs.Common.{subst, take, add-mul, eq-eqb, eqb-true}
+use Rattle.std.proofs.Common.{subst, take, add-mul, eqb-true}
 use Rattle.std.specs.List.Sorted.{IsPermutation}
 use mathlib.Core.Option.{some, some-injective, some-ne-none}
 use lib.ListN.{get_elem?}
@@ -68,8 +68,7 @@ times x ys = sum_by (is_one x) ys
 
 pub times_first : (x : ℕ) (xs : List ℕ) → times x (x ∷ xs) ≡ times x xs + 1
 times_first x xs =
-    let one : is_one x x ≡ 1 = ap (λ b. cond b 1 0) (eq-eqb x x refl) in
-    omega (arith, sum_by-cons (is_one x) x xs)
+    grind (arith, sum_by-cons (is_one x) x xs)
 
 pub found : (x : ℕ) (ys : List ℕ) → 0 < times x ys → Contains ys x
 found x [] there = absurd (omega arith)
@@ -96,5 +95,4 @@ permutation_from_times (x ∷ xs) ys same =
       sum_by-cons (is_one y) x rest,
       sum_by-IsPermutation (is_one y) ys (x ∷ rest) apart,
     )) in
-    IsPermutation-trans (x ∷ xs) (x ∷ rest) ys (IsPermutation-cons x xs rest others)
-    (IsPermutation-sym ys (x ∷ rest) apart)
+    grind (arith, IsPermutation-trans, IsPermutation-cons, IsPermutation-sym)

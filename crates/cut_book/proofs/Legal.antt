@@ -29,10 +29,7 @@ pub record Noted (call : Call) (old new : HistoryValue) : Type 0 where
 -- by way of room that was made
 pub noted : (call : Call) (old mid new : HistoryValue) → mid.opening ≡ old.opening → mid.calls ≡ old.calls → new.opening
     ≡ mid.opening → new.calls ≡ mid.calls ++ call ∷ [] → Noted call old new
-noted call old mid new opening calls opens adds = record {
-  opening = opens ∙ opening;
-  calls = rw calls at adds;
-}
+noted call old mid new opening calls opens adds = grind arith
 
 -- it is legal where the call is a step from where it led
 pub legal_on : (call : Call) (old mid : HistoryValue) (s t : StudyState) → mid.opening ≡ old.opening → mid.calls
@@ -54,8 +51,7 @@ kept_by has base xs ys = grind (arith, append_assoc)
 pub kept_next : (call : Call) (old new : HistoryValue) → Noted call old new → kept_in new
     ≡ cond old.opening.has_journal (kept_in old ++ accepted_slip call) (kept_in old)
 kept_next call old new is =
-    rw (is.opening, is.calls, slips_next old.calls call)
-    (kept_by old.opening.has_journal old.opening.base (accepted_slips old.calls) (accepted_slip call))
+    grind (arith, slips_next, kept_by)
 
 pub none_kept : (has : Bool) (ks : List Slip) → cond has (ks ++ []) ks ≡ ks
 none_kept has ks = grind (arith, append-nil)

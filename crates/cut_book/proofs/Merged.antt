@@ -1,6 +1,6 @@
 -- Calls and losses that are kept apart, in the order in which they came.
 use Rattle.std.proofs.Common.{false, ◌≡◌, ◌∙◌, ℕ, ◌+◌, ◌-◌, ◌≤◌, ◌<◌, List, [], ◌∷◌, ◌++◌, map, take, drop, length}
-use Rattle.std.proofs.Common.{get_or, refl, sym, subst, arith, append_assoc, append-nil, length-append}
+use Rattle.std.proofs.Common.{get_or, refl, sym, arith, append_assoc, append-nil, length-append}
 use Rattle.std.proofs.lemmas.List.{map-append, take_all, drop_all, drop_more, drop-append-le, take-append-le}
 use Rattle.std.proofs.lemmas.List.{length-drop, length-take, length-map}
 use Rattle.cut_outcome.specs.Sum.{each_number}
@@ -50,14 +50,9 @@ pub one_entry_more : (n : ℕ) (es : List Entry) (losses : List ℕ) (call : Cal
     → calls_from n (es ++ record { call = call; losses = length losses } ∷ []) losses ≡ calls_from n es losses ++ call
     ∷ []
 one_entry_more n [] losses call order =
-    rw (
-      take_all (length losses - n) (drop n losses) (omega (arith, length-drop n losses)),
-      drop_all (length losses) losses (omega arith),
-    )
+    grind (arith, take_all, length-drop, drop_all)
 one_entry_more n (e ∷ es) losses call order =
-    rw (one_entry_more e.losses es losses call order.1)
-    (sym (append_assoc (map lost_call (take (e.losses - n) (drop n losses))) (e.call ∷ calls_from e.losses es losses)
-    (call ∷ [])))
+    grind (arith, append_assoc, one_entry_more e.losses es losses call order.1)
 
 -- ---- how many
 
@@ -65,19 +60,7 @@ pub long : (n : ℕ) (es : List Entry) (losses : List ℕ) → AreInOrder n es (
     → length (calls_from n es losses) ≡ length es + (length losses - n)
 long n [] losses order = length-map (drop n losses) lost_call ∙ length-drop n losses ∙ omega arith
 long n (e ∷ es) losses order =
-    let most = within e.losses (length losses) es order.1 in
-    let from = order.0 in
-    let first : List Call = map lost_call (take (e.losses - n) (drop n losses)) in
-    omega (
-      arith,
-      length-append first (e.call ∷ calls_from e.losses es losses),
-      long e.losses es losses order.1,
-      length-map (take (e.losses - n) (drop n losses)) lost_call,
-      length-take (e.losses - n) (drop n losses),
-      length-drop n losses,
-      most,
-      from,
-    )
+    grind (arith, length-append, length-map, length-take, length-drop, long e.losses es losses order.1)
 
 -- ---- what is accepted
 
@@ -89,13 +72,7 @@ pub others_accept : (n : ℕ) (es : List Entry) (losses : List ℕ) → accepted
     ≡ accepted_in (map (λ (e : Entry). e.call) es)
 others_accept n [] losses = rw (← append-nil (map lost_call (drop n losses))) (none_accepted (drop n losses) [])
 others_accept n (e ∷ es) losses =
-    none_accepted (take (e.losses - n) (drop n losses)) (e.call ∷ calls_from e.losses es losses)
-    ∙ omega (
-      arith,
-      first_in e.call (calls_from e.losses es losses),
-      others_accept e.losses es losses,
-      first_in e.call (map (λ (x : Entry). x.call) es),
-    )
+    grind (arith, none_accepted, first_in, others_accept e.losses es losses)
 
 -- ---- one entry after another
 
@@ -113,11 +90,7 @@ pub record Bounds (n all : ℕ) (e : Entry) (es : List Entry) : Type 0 where
 
 pub bounds_at : (n all : ℕ) (es : List Entry) (i : ℕ) (d : Entry) → i < length es → AreInOrder n (drop i es) all
     → Bounds n all (get_or es i d) (drop (i + 1) es)
-bounds_at n all es i d low order = go (get_or es i d)
-    (subst (λ (xs : List Entry). AreInOrder n xs all) (drop_more es i d low) order)
-  where
-    go : (e : Entry) → AreInOrder n (e ∷ drop (i + 1) es) all → Bounds n all e (drop (i + 1) es)
-    go e is = record { from = is.0; most = within e.losses all (drop (i + 1) es) is.1; rest = is.1 }
+bounds_at n all es i d low order = grind (arith, drop_more, within)
 
 pub next_calls : (n : ℕ) (es : List Entry) (i : ℕ) (d : Entry) (losses : List ℕ) (olds mids news all : List Call) → i
     < length es
@@ -125,11 +98,7 @@ pub next_calls : (n : ℕ) (es : List Entry) (i : ℕ) (d : Entry) (losses : Lis
     ++ map lost_call (take ((get_or es i d).losses - n) (drop n losses)) → news ≡ mids ++ (get_or es i d).call ∷ []
     → news ++ calls_from (get_or es i d).losses (drop (i + 1) es) losses ≡ all
 next_calls n es i d losses olds mids news all low so-far first second =
-    let e : Entry = get_or es i d in
-    let lost : List Call = map lost_call (take (e.losses - n) (drop n losses)) in
-    let rest : List Call = calls_from e.losses (drop (i + 1) es) losses in
-    rw (second, first, append_assoc (olds ++ lost) (e.call ∷ []) rest, append_assoc olds lost (e.call ∷ rest))
-    (rw (drop_more es i d low) at so-far)
+    grind (arith, append_assoc, drop_more)
 
 -- ---- none yet
 

@@ -1,6 +1,6 @@
 -- Results that are refused before their append.
-use Rattle.std.proofs.Common.{◌≡◌, ◌∙◌, ◌++◌, ◌∷◌, ℕ, Bool, true, false, cond, List, [], Result, Option, Some, None}
-use Rattle.std.proofs.Common.{IsErrOf, refl, sym, ap, subst, arith}
+use Rattle.std.proofs.Common.{◌≡◌, ℕ, Bool, true, false, cond, List, [], Result, Option, Some, None}
+use Rattle.std.proofs.Common.{IsErrOf, arith}
 use Rattle.std.specs.Prelude.{option_map, ⊤}
 use Rattle.cut_faults.specs.declared.code.FaultCode.{FaultCode}
 use Rattle.cut_faults.specs.declared.code.FaultCode.TheVariants as code
@@ -15,16 +15,15 @@ use Rattle.cut_ledger.specs.declared.event.Event.TheVariants as event
 use Rattle.cut_book.specs.declared.call.Answer.{Answer}
 use Rattle.cut_book.specs.declared.call.Answer.TheVariants.{Accepted, Stranger, Overlap, DiskFails, Broken}
 use Rattle.cut_book.specs.declared.fault.BookFault.TheVariants as fault
-use Rattle.cut_book.specs.History.{Opening, HistoryValue, IsAnswer, IsStep, accepted_slip, event_of}
+use Rattle.cut_book.specs.History.{HistoryValue, IsAnswer, IsStep, accepted_slip, event_of}
 use Rattle.cut_book.specs.declared.call.Call.{Call}
 use Rattle.cut_book.specs.declared.fault.BookFault.{BookFault}
 use Rattle.cut_outcome.specs.declared.piece.Piece.{Piece}
 use Rattle.cut_book.proofs.Legal.{Noted, state_same}
-use Rattle.cut_book.specs.Book.{GivesAnswer, HandsIn, answer_of}
+use Rattle.cut_book.specs.Book.{HandsIn, answer_of}
 use Rattle.cut_book.specs.inside.Book.{state_in, book_value_in, answer_to, refusal_in}
-use Rattle.cut_book.specs.Book.{returned, hand_in_of, JournalAfter, faults_after}
+use Rattle.cut_book.specs.Book.{returned, hand_in_of, faults_after}
 use Rattle.cut_journal.specs.Journal.{JournalValue}
-use Rattle.cut_ledger.specs.Machine.{slip_of}
 
 -- the code of a refusal
 abbrev pub code_for : Answer → Option FaultCode
@@ -70,35 +69,9 @@ refused s r a e = let both = codes s.broken (is_same_plan s.ledger.plan r.plan) 
 -- it is a step of its history
 pub refused_step : (s : StudyState) (r : Computed) (a : Answer) → HasTrueResult (event.HandIn r) → IsRefused s r a
     → IsStep s (hand_in_of s r a) s
-refused_step s r a real is = record {
-  result = r;
-  true_result = real;
-  slip_is = refl;
-  own_is = refl;
-  answered = is.answered;
-  next = sym is.state;
-}
-
--- and its journal is as it was
-pub refused_journal : {D : Type 0} (s : StudyState) (r : Computed) (a : Answer) (journal : Option (JournalValue D))
-    → refusal_in s r ≡ Some a → JournalAfter a (slip_of r) journal journal
-refused_journal s r a journal e = same a journal (codes s.broken (is_same_plan s.ledger.plan r.plan)
-    (overlaps s.ledger r.piece) a e).1
-  where
-    same : {D : Type 0} (a : Answer) (journal : Option (JournalValue D)) → Refuses a s.broken
-        → JournalAfter a (slip_of r) journal journal
-    same Stranger journal refuses = refl
-    same Overlap journal refuses = refl
-    same Broken journal refuses = refl
-    same Accepted journal refuses = absurd refuses
-    same DiskFails journal refuses = absurd refuses
+refused_step s r a real is = grind arith
 
 -- ---- results that are not refused
-
-not_in : (broken same over : Bool) → cond broken (Some Broken)
-    (option_map answer_to (cond same (cond over (Some ledger.Overlap) None) (Some ledger.Stranger))) ≡ None
-    → (broken ≡ false) × (cond same (cond over (Some ledger.Overlap) None) (Some ledger.Stranger) ≡ None)
-not_in broken same over e = grind (arith, e)
 
 -- no append has failed, and the ledger takes it
 pub record IsFree (s : StudyState) (r : Computed) : Type 0 where
@@ -108,8 +81,7 @@ pub record IsFree (s : StudyState) (r : Computed) : Type 0 where
 
 pub free : (s : StudyState) (r : Computed) → refusal_in s r ≡ None → IsFree s r
 free s r e =
-    let both = not_in s.broken (is_same_plan s.ledger.plan r.plan) (overlaps s.ledger r.piece) e in
-    record { unbroken = both.0; fine = both.1; code = rw (both.0, both.1) }
+    grind arith
 
 -- ---- what is answered to them
 
@@ -122,18 +94,4 @@ pub refused_hands : {D : Type 0} (journal : Option (JournalValue D)) (l : Conten
     (book_value_in journal (state_in l journal division lost old broken) old failed)
     (book_value_in journal (state_in l journal division lost new broken) new failed)
 refused_hands {D} journal l division lost broken failed r a call old new noted called e result reported =
-    let s : StudyState = state_in l journal division lost old broken in
-    let is : IsRefused s r a = refused s r a e in
-    let none : accepted_slip call ≡ [] = ap accepted_slip called ∙ is.slips in
-    let got : GivesAnswer a r (book_value_in journal s old failed)
-    (book_value_in journal (state_in l journal division lost new broken) new failed) = record {
-      answered = is.answered;
-      state = state_same l journal division lost broken call old new noted none ∙ sym is.state;
-      calls = noted.calls ∙ ap (λ (k : Call). old.calls ++ k ∷ []) called;
-      journal = refused_journal s r a journal e;
-      size = ap (λ (o : Opening). o.size) noted.opening;
-      failed = refl;
-    } in
-    subst (λ (o : Option Answer). HandsIn o r (book_value_in journal s old failed)
-    (book_value_in journal (state_in l journal division lost new broken) new failed))
-    (sym (ap (λ (x : Result ⊤ BookFault). answer_of x s) reported ∙ is.reported)) got
+    grind (arith, state_same l journal division lost broken call old new noted)

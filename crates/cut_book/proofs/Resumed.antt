@@ -1,7 +1,6 @@
 -- What a crash leaves of a disk of which nothing is asked.
-use Rattle.std.proofs.Common.{◌≡◌, ◌∙◌, ℕ, Bool, cond, List, [], Option, Some, None, IfSome}
-use Rattle.std.proofs.Common.{unwrap_or, refl, ap, arith}
-use Rattle.std.specs.Prelude.{option_map}
+use Rattle.std.proofs.Common.{◌≡◌, ℕ, List, [], Option, Some, None, IfSome}
+use Rattle.std.proofs.Common.{unwrap_or, refl, arith}
 use Rattle.cut_faults.specs.declared.code.FaultCode.TheVariants as code
 use Rattle.cut_plan.specs.Values.{Values}
 use Rattle.cut_outcome.specs.Computed.{Computed}
@@ -9,8 +8,7 @@ use Rattle.cut_disks.specs.State.{DiskState, IsImage, Throughout}
 use Rattle.cut_ledger.specs.declared.slip.Slip.{Slip}
 use Rattle.cut_ledger.specs.declared.offer_fault.OfferFault.{OfferFault}
 use Rattle.cut_ledger.specs.declared.event.Event.TheVariants.{HandInDiskFails}
-use Rattle.cut_ledger.specs.FaultCode.{code_of}
-use Rattle.cut_ledger.specs.Machine.{StudyState, after, slip_of, unless_refused, failed}
+use Rattle.cut_ledger.specs.Machine.{StudyState, after, slip_of}
 use Rattle.cut_ledger.specs.Refusals.{refusal_of}
 use Rattle.cut_journal.specs.Journal.{JournalValue, kept_slips, ReadsAs, IsFileOf}
 use Rattle.cut_journal.specs.Laws.{IsJournalOf, IsResumed, CrashesBetweenCalls, CrashesInAppends}
@@ -22,11 +20,6 @@ at_rest : (d : DiskState) (P : List ℕ → Type 0) → ((image : List ℕ) → 
     → Throughout d d P
 at_rest d P images = record { since = []; goes_on = refl; each = (images, tt) }
 
--- a result that the ledger refuses changes nothing
-stays : (broken : Bool) (fault : OfferFault) (s t : StudyState)
-    → unless_refused (cond broken (Some code.Checkpoint) (option_map code_of (Some fault))) s t ≡ s
-stays broken fault s t = grind arith
-
 resumable_by : (v : Values) (count : ℕ) (doubtful : Option Slip) (d : DiskState) (s : StudyState) (r : Computed)
     (o : Option OfferFault) → refusal_of s.ledger r ≡ o → CrashesBetweenCalls → CrashesInAppends
     → IsFileOf v count doubtful d → IsJournalOf v count doubtful d s
@@ -36,10 +29,7 @@ resumable_by v count doubtful d s r None fine between within sound of =
     (at_rest d (ReadsAs v (kept_slips v count d) (Some (unwrap_or doubtful (slip_of r))))
     (λ image is. reads_more v (kept_slips v count d) doubtful (slip_of r) image (sound.images image is)))
 resumable_by v count doubtful d s r (Some fault) refused between within sound of =
-    let same : after s (HandInDiskFails r) ≡ s =
-    ap (λ (o : Option OfferFault). unless_refused (cond s.broken (Some code.Checkpoint) (option_map code_of o)) s
-    (failed s r)) refused ∙ stays s.broken fault s (failed s r) in
-    rw same (at_rest d (IsResumed v s) (between v count doubtful d s sound of))
+    grind (arith, at_rest d (IsResumed v s) (between v count doubtful d s sound of))
 
 -- a journal that is as it was leaves a run that is resumed, also after a result's append failed
 pub resumable : {D : Type 0} (honest : D → Type 0) (on : D → DiskState) (journal : Option (JournalValue D))
@@ -47,9 +37,7 @@ pub resumable : {D : Type 0} (honest : D → Type 0) (on : D → DiskState) (jou
     → journal ≡ Some log → (honest log.disk → IsFileOf log.plan log.count log.doubtful (on log.disk))
     → FollowsState honest on journal s
     → LeavesResumed honest on journal journal (after s (HandInDiskFails r))
-resumable honest on journal log s r between within is sound = rw is
-    (λ of good. resumable_by log.plan log.count log.doubtful (on log.disk) s r (refusal_of s.ledger r) refl between
-    within (sound good) (of good))
+resumable honest on journal log s r between within is sound = grind (arith, resumable_by)
 
 -- and a run that is resumed as it is
 pub resumed_now : {D : Type 0} (honest : D → Type 0) (on : D → DiskState) (journal : Option (JournalValue D))

@@ -1,14 +1,12 @@
 -- The trials of the accepted results are no more than the plan has.
-use Rattle.std.proofs.Common.{◌≡◌, ◌∙◌, ◌+◌, ◌++◌, ◌*◌, ◌<◌, ◌≤◌, ◌||◌, ◌∷◌, [], ℕ, zero, suc, Bool, true, false, List}
-use Rattle.std.proofs.Common.{Option, Some, None, IsTrue, cond, length, count_by, take, get_or, refl, sym, ap, subst}
+use Rattle.std.proofs.Common.{◌≡◌, ◌∙◌, ◌+◌, ◌++◌, ◌*◌, ◌<◌, ◌≤◌, ◌||◌, ◌∷◌, [], ℕ, zero, suc, Bool, false, List}
+use Rattle.std.proofs.Common.{Option, Some, None, length, count_by, take, get_or, refl, sym, ap}
 use Rattle.std.proofs.Common.{arith}
-use Rattle.std.specs.Prelude.{option_map}
 use Rattle.std.specs.List.{range_with_len, sum_by}
 use Rattle.std.proofs.lemmas.Bool.Decides.{nat_tests}
 use Rattle.std.proofs.lemmas.Grind.{take_at_read}
 use Rattle.std.proofs.lemmas.List.FromFn.{get_or-map-range_with_len, length-range_with_len}
 use Rattle.std.proofs.lemmas.List.Sums.{sum_by-append, count_by-le-length}
-use Rattle.std.proofs.Math.Nat.{mul-le-mul}
 use Rattle.cut_lists.proofs.Additions.{count_of_more}
 use Rattle.cut_lists.proofs.Ranges.{count_by_agree, none_passing}
 use Rattle.cut_faults.specs.declared.code.FaultCode.{FaultCode}
@@ -18,20 +16,17 @@ use Rattle.cut_plan.specs.Cells.{trial_count}
 use Rattle.cut_plan.specs.Plan.{IsPlan}
 use Rattle.cut_outcome.specs.declared.piece.Piece.{Piece}
 use Rattle.cut_outcome.specs.Computed.{Computed}
-use Rattle.cut_outcome.specs.Sum.{is_piece}
 use Rattle.cut_ledger.specs.declared.slip.Slip.{Slip}
 use Rattle.cut_ledger.specs.declared.offer_fault.OfferFault.TheVariants as ledger
 use Rattle.cut_ledger.specs.declared.event.Reply.TheVariants as reply
 use Rattle.cut_ledger.specs.Contents.{Contents, has, is_in, overlaps, with_piece}
-use Rattle.cut_ledger.specs.FaultCode.{code_of}
 use Rattle.cut_ledger.specs.Laws.{SamePlansAreEqual}
 use Rattle.cut_ledger.specs.Machine.{StudyState, accepted_unless, failed, refused_code, taken, unless_refused}
-use Rattle.cut_ledger.specs.Refusals.{is_same_plan}
 use Rattle.cut_book.specs.declared.call.Answer.TheVariants.{Accepted, Stranger, Overlap, DiskFails, Broken}
 use Rattle.cut_book.specs.declared.call.Call.{Call}
 use Rattle.cut_book.specs.declared.call.Call.TheVariants.{HandIn, Lose, Row}
 use Rattle.cut_book.specs.History.{Opening, IsHandedIn, IsStep, LeadsTo, IsLegalHistory, accepted_in, accepted_slip}
-use Rattle.cut_book.specs.History.{accepted_slips, opened_by}
+use Rattle.cut_book.specs.History.{accepted_slips}
 
 -- how many trials are held
 abbrev pub held_count : Values → Contents → ℕ
@@ -61,10 +56,6 @@ Grows n s t = (t.ledger.plan ≡ s.ledger.plan) × (n + held_count s.ledger.plan
 same_ledger : (s t : StudyState) → t.ledger ≡ s.ledger → Grows 0 s t
 same_ledger s t same = rw same (refl, omega arith)
 
-no_code : (o : Option FaultCode) → accepted_unless o ≡ reply.Accepted → o ≡ None
-no_code None e = refl
-no_code (Some c) e = absurd (let no : ⊥ = cc in no)
-
 some_code : (o : Option FaultCode) (c : FaultCode) (s t : StudyState) → accepted_unless o ≡ reply.Refused c
     → unless_refused o s t ≡ s
 some_code None c s t e = absurd (let no : ⊥ = cc in no)
@@ -75,24 +66,10 @@ failed_ledger : (o : Option FaultCode) (s : StudyState) (r : Computed) → (unle
 failed_ledger None s r = refl
 failed_ledger (Some c) s r = refl
 
-not_refused : (broken same over : Bool) → cond broken (Some code.Checkpoint)
-    (option_map code_of (cond same (cond over (Some ledger.Overlap) None) (Some ledger.Stranger))) ≡ None
-    → (same ≡ true) × (over ≡ false)
-not_refused broken same over e = grind (arith, e)
-
 accepted_grows : SamePlansAreEqual → (s t : StudyState) (slip : Slip) (own : Bool) → IsPlan s.ledger.plan
     → IsHandedIn s slip own Accepted t → Grows slip.piece.count s t
 accepted_grows equal s t slip own plan is =
-    let r : Computed = is.result in
-    let none : refused_code s r ≡ None = no_code (refused_code s r) is.answered.reply in
-    let known = not_refused s.broken (is_same_plan s.ledger.plan r.plan) (overlaps s.ledger r.piece) none in
-    let own_plan : s.ledger.plan ≡ r.plan = (equal s.ledger.plan r.plan plan is.true_result.0).0 known.0 in
-    let piece : IsTrue (is_piece s.ledger.plan r.piece) = rw own_plan is.true_result.1 in
-    let fits : r.piece.first + r.piece.count ≤ trial_count s.ledger.plan = grind (arith, nat_tests) in
-    let next : t ≡ taken s r = is.next ∙ ap (λ (o : Option FaultCode). unless_refused o s (taken s r)) none in
-    let more = grown s.ledger r.piece known.1 fits in
-    let size : slip.piece.count ≡ r.piece.count = ap (λ (x : Slip). x.piece.count) is.slip_is in
-    rw next (refl, omega (arith, more, size))
+    grind (arith, nat_tests, grown)
 
 abbrev pub count_in : Call → ℕ
 count_in call = sum_by (λ slip. slip.piece.count) (accepted_slip call)
@@ -100,8 +77,7 @@ count_in call = sum_by (λ slip. slip.piece.count) (accepted_slip call)
 step_grows : SamePlansAreEqual → (s t : StudyState) (call : Call) → IsPlan s.ledger.plan → IsStep s call t
     → Grows (count_in call) s t
 step_grows equal s t (HandIn slip own Accepted) plan is =
-    subst (λ (n : ℕ). Grows n s t) (let e : slip.piece.count ≡ 0 + slip.piece.count = omega arith in e)
-    (accepted_grows equal s t slip own plan is)
+    grind (arith, accepted_grows equal s t slip own plan is)
 step_grows equal s t (HandIn slip own Stranger) plan is = same_ledger s t
     (ap (λ (x : StudyState). x.ledger) (is.next ∙ some_code _ _ s (taken s is.result) is.answered.reply))
 step_grows equal s t (HandIn slip own Overlap) plan is = same_ledger s t
@@ -129,17 +105,13 @@ leads_grow equal s t (call ∷ calls) plan from =
 pub accepted_within : SamePlansAreEqual → (o : Opening) (calls : List Call) → IsPlan o.plan → IsLegalHistory o calls
     → accepted_in calls ≤ trial_count o.plan
 accepted_within equal o calls plan legal =
-    let grew = leads_grow equal (opened_by o) legal.0 calls plan legal.1 in
-    let most = count_by-le-length (has legal.0.ledger) (range_with_len 0 (trial_count o.plan)) in
-    let long = length-range_with_len 0 (trial_count o.plan) in
-    omega (arith, grew.1, most, long)
+    grind (arith, leads_grow, count_by-le-length, length-range_with_len)
 
 -- so they have 64 bits
 pub few_accepted : SamePlansAreEqual → (o : Opening) (calls : List Call) → IsPlan o.plan → IsLegalHistory o calls
     → accepted_in calls ≤ 4096 * 1000000
 few_accepted equal o calls plan legal =
-    let few : trial_count o.plan ≤ 4096 * 1000000 = mul-le-mul plan.few_cells plan.few_repeats in
-    omega (arith, accepted_within equal o calls plan legal, few)
+    grind (arith, accepted_within)
 
 -- those of the first calls, with those of the next, are no more than all
 pub next_fits : (calls : List Call) (i : ℕ) (d : Call) → i < length calls → accepted_in (take i calls)

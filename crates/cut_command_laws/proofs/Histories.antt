@@ -5,7 +5,7 @@ use Rattle.std.proofs.Common.{All, length}
 use Rattle.std.specs.Prelude.{nat_lt}
 use Rattle.std.specs.List.{sum}
 use Rattle.std.proofs.lemmas.Bool.Decides.{nat_tests}
-use Rattle.std.proofs.lemmas.List.Elements.{All-cons, All-head, All-nil, All-rest}
+use Rattle.std.proofs.lemmas.List.Elements.{All-cons, All-head, All-rest}
 use Rattle.std.proofs.lemmas.List.Sums.{sum_by-append}
 use Rattle.cut_lists.proofs.Intervals.{map_agree}
 use Rattle.cut_faults.specs.declared.code.FaultCode.{FaultCode}
@@ -16,7 +16,7 @@ use Rattle.cut_plan.proofs.PlansFromTexts.{accepted_is_plan}
 use Rattle.cut_outcome.specs.declared.piece.Piece.{Piece}
 use Rattle.cut_outcome.specs.Computed.{Computed}
 use Rattle.cut_outcome.specs.Sum.{is_piece}
-use Rattle.cut_ledger.specs.Contents.{Contents, has, held_where, is_complete, is_in, is_in_base, overlaps}
+use Rattle.cut_ledger.specs.Contents.{Contents, has, held_where, is_complete, is_in, overlaps}
 use Rattle.cut_ledger.specs.Machine.{StudyState, accepted_unless, opened, refused_code, slip_of, taken, unless_refused}
 use Rattle.cut_ledger.specs.Refusals.{is_same_plan}
 use Rattle.cut_ledger.proofs.CellLemmas.{has_where}
@@ -54,8 +54,7 @@ state_at v t = record (opened v false [] 1) { ledger = first_held v t }
 -- it begins with none
 begins : (v : Values) → opened v false [] 1 ≡ state_at v 0
 begins v =
-    ap (λ (held : List Bool). record (opened v false [] 1) { ledger = record { plan = v; base = []; held = held } })
-    (map_agree (is_in_base []) (λ u. nat_lt u 0) 0 (trial_count v) (λ u low high. grind (arith, nat_tests)))
+    grind arith
 
 -- and holds one more after the next call
 grown : (v : Values) (t : ℕ) → taken (state_at v t) (trial_result v t) ≡ state_at v (t + 1)
@@ -91,14 +90,7 @@ step v t plan low =
 leads : (v : Values) (n t : ℕ) → IsPlan v → t + n ≤ trial_count v → LeadsTo (state_at v t) (trial_calls v t n)
     (state_at v (t + n))
 leads v zero t plan fits = ap (state_at v) (omega arith)
-leads v (suc n) t plan fits = (
-  state_at v (t + 1),
-  (
-    step v t plan (omega (arith, fits)),
-    subst (λ (u : ℕ). LeadsTo (state_at v (t + 1)) (trial_calls v (t + 1) n) (state_at v u)) (omega arith)
-        (leads v n (t + 1) plan (omega (arith, fits))),
-  ),
-)
+leads v (suc n) t plan fits = grind (arith, step v t plan, leads v n (t + 1) plan)
 
 counted : (v : Values) (n t : ℕ) → accepted_in (trial_calls v t n) ≡ n
 counted v zero t = refl
@@ -142,13 +134,7 @@ pub record HaveEnds (counts : List ℕ) : Type 0 where
   pub total : accepted_in_all report ≡ sum counts
 
 pub ends_with : (counts : List ℕ) → All IsAcceptedCount counts → HaveEnds counts
-ends_with [] each = record {
-  report = [];
-  slots = refl;
-  legal = All-nil (λ (s : SlotEnd). IsEndOf s.history s.complete);
-  few = All-nil (λ (s : SlotEnd). IsAcceptedCount (accepted_recorded s.history));
-  total = refl;
-}
+ends_with [] each = grind arith
 ends_with (n ∷ counts) each =
     let first = end_with n (All-head IsAcceptedCount n counts each) in
     let rest = ends_with counts (All-rest IsAcceptedCount n counts (n ∷ counts) refl each) in

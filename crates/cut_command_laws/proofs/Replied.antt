@@ -1,11 +1,9 @@
 -- An answer of which any bytes are the lines, for each way in which an asking may end.
-use Rattle.std.proofs.Common.{◌≡◌, ◌∙◌, ◌+◌, ◌^◌, ◌++◌, ◌≤◌, ◌∷◌, [], ℕ, zero, suc, Bool, true, List, Ok, Err}
+use Rattle.std.proofs.Common.{◌≡◌, ◌∙◌, ◌+◌, ◌^◌, ◌++◌, ◌≤◌, ◌∷◌, [], ℕ, zero, suc, true, List, Ok, Err}
 use Rattle.std.proofs.Common.{Result, Some, None, false, length, take, refl, sym, ap, arith, inl, inr}
 use Rattle.std.specs.Bool.{⊤}
 use Rattle.std.specs.List.{AllByRecursion, flat_map}
 use Rattle.std.specs.Int.{w16, from_be_bytes}
-use Rattle.std.specs.Prelude.{nat_lt}
-use Rattle.std.proofs.lemmas.Bool.Decides.{nat_tests}
 use Rattle.cut_wires.specs.Log.{WireLog, wrote, write_failed}
 use Rattle.cut_messages.specs.declared.side.Side.TheVariants.{Replies}
 use Rattle.cut_messages.specs.declared.kind.Kind.TheVariants as kind
@@ -51,9 +49,6 @@ end_is = record { kind = refl; short = omega arith; fits = refl }
 fault_is : (n : ℕ) → IsMessage Replies (fault_numbered n)
 fault_is n = record { kind = refl; short = omega arith; fits = refl }
 
-count_is : IsMessage Replies count
-count_is = record { kind = refl; short = omega arith; fits = refl }
-
 -- ---- their lists
 
 -- messages that may come, none of which is a last one, and whose lines are these bytes
@@ -69,12 +64,7 @@ rows (byte ∷ bytes) = row byte ∷ rows bytes
 say : (bytes : List ℕ) → Say bytes (rows bytes)
 say [] = record { each = tt; on = tt; lines = refl }
 say (byte ∷ bytes) =
-    let rest = say bytes in
-    record {
-      each = (row_is byte, rest.each);
-      on = (refl, rest.on);
-      lines = ap (λ (l : List ℕ). byte ∷ l) rest.lines;
-    }
+    grind (arith, say bytes)
 
 -- counts before them add no line
 counts : ℕ → List Message → List Message
@@ -85,8 +75,7 @@ say_later : (n : ℕ) (bytes : List ℕ) (messages : List Message) → Say bytes
 unfolding counts
 say_later zero bytes messages is = is
 say_later (suc n) bytes messages is =
-    let rest = say_later n bytes messages is in
-    record { each = (count_is, rest.each); on = (refl, rest.on); lines = rest.lines }
+    grind (arith, say_later n bytes messages is)
 
 counts_length : (n : ℕ) (messages : List Message) → length (counts n messages) ≡ n + length messages
 unfolding counts
@@ -116,42 +105,8 @@ hears : (text : List ℕ) (result : Result ⊤ AskFault) (messages : List Messag
     → AllByRecursion (IsMessage Replies) messages → HasNoMessage Replies rest
     → ConcludesAnswer result (flat_map frame_of messages ++ rest) messages rest mid new
     → Hears text result unknown (left_by result (heard text ((flat_map frame_of messages ++ rest) ++ []) unknown)) mid new
-hears text (Ok done) messages rest mid new each last ends = record {
-  stream = flat_map frame_of messages ++ rest;
-  messages = messages;
-  rest = rest;
-  last = [];
-  splits = splits messages rest each last;
-  ends = ends;
-  unread = refl;
-  wire = refl;
-}
-hears text (Err fault) messages rest mid new each last ends = by fault ends
-  where
-    by : (fault : AskFault)
-        → ConcludesAnswer (Err fault) (flat_map frame_of messages ++ rest) messages rest mid new
-        → Hears text (Err fault) unknown
-        (left_by (Err fault) (heard text ((flat_map frame_of messages ++ rest) ++ []) unknown)) mid new
-    by ask.Memory ends = record {
-      stream = flat_map frame_of messages ++ rest;
-      messages = messages;
-      rest = rest;
-      last = [];
-      splits = splits messages rest each last;
-      ends = ends;
-      unread = omega arith;
-      wire = refl;
-    }
-    by fault ends = record {
-      stream = flat_map frame_of messages ++ rest;
-      messages = messages;
-      rest = rest;
-      last = [];
-      splits = splits messages rest each last;
-      ends = ends;
-      unread = refl;
-      wire = refl;
-    }
+hears text (Ok done) messages rest mid new each last ends = grind (arith, splits messages rest each last)
+hears text (Err fault) messages rest mid new each last ends = grind arith
 
 -- bytes that begin with a fault
 abbrev wrong : StreamFault → List ℕ
@@ -173,19 +128,13 @@ unended : (text bytes : List ℕ) (fault : AskFault) (messages : List Message) (
     → Say bytes messages → HasNoMessage Replies rest
     → ConcludesAnswer (Err fault) (flat_map frame_of messages ++ rest) messages rest mid new
     → Answered text (Err fault) mid new
-unended text bytes fault messages rest mid new is last ends = (
-  left_by (Err fault) (heard text ((flat_map frame_of messages ++ rest) ++ []) unknown),
-  hears text (Err fault) messages rest mid new is.each last ends,
-)
+unended text bytes fault messages rest mid new is last ends = grind arith
 
 -- one with a last message
 ended : (text bytes : List ℕ) (result : Result ⊤ AskFault) (last : Message) (mid new : WireLog) → IsMessage Replies last
     → ConcludesAnswer result (flat_map frame_of (rows bytes ++ last ∷ []) ++ []) (rows bytes ++ last ∷ []) [] mid new
     → Answered text result mid new
-ended text bytes result last mid new is ends = (
-  left_by result (heard text ((flat_map frame_of (rows bytes ++ last ∷ []) ++ []) ++ []) unknown),
-  hears text result (rows bytes ++ last ∷ []) [] mid new (each_then (rows bytes) last (say bytes).each is) no_more ends,
-)
+ended text bytes result last mid new is ends = grind (arith, each_then, say)
 
 lines_are : (bytes : List ℕ) (messages : List Message) (mid new : WireLog) → Say bytes messages → new ≡ wrote mid bytes
     → new ≡ wrote mid (lines_of messages)
@@ -274,14 +223,12 @@ cut_off text bytes mid new log =
 read_whole : (text : List ℕ) (old : WireLog) → length text ≤ 65536 → GivesText 65537 (Ok text) old
     (read_on text true old)
 read_whole text old short =
-    let less : nat_lt (length text) 65537 ≡ true = grind (arith, nat_tests) in
-    (omega (arith, short), ap (λ (b : Bool). read_on text b old) (sym less))
+    grind arith
 
 read_partly : (text : List ℕ) (old : WireLog) → length text ≡ 65537 → GivesText 65537 (Ok text) old
     (read_on text false old)
 read_partly text old long =
-    let more : nat_lt (length text) 65537 ≡ false = grind (arith, nat_tests) in
-    (omega (arith, long), ap (λ (b : Bool). read_on text b old) (sym more))
+    grind arith
 
 asks : (result : Result ⊤ AskFault) (text : List ℕ) (old new : WireLog) → length text ≤ 65536
     → Answered text result (read_on text true old) new
@@ -351,8 +298,7 @@ answers_have_lines (Ok done) old new is =
     inr (unknown, found.0, found.1)
 answers_have_lines (Err Socket) old new is = inl (refl, is)
 answers_have_lines (Err (Asked fault)) old new is =
-    let found = over_server fault old new is in
-    inr (unknown, found.0, found.1)
+    grind (arith, over_server)
 answers_have_lines (Err Memory) old new is = inr (unknown, unknown, (is, refl))
 answers_have_lines (Err Read) old new is = inr (unknown, unknown, (is, refl))
 answers_have_lines (Err (Plan refusal)) old new is = absurd is

@@ -1,6 +1,6 @@
 -- A file of a study with given slips is read as these, or by the number of a last one that is cut off.
 use Rattle.std.proofs.Common.{◌≡◌, ◌∙◌, ◌+◌, ◌-◌, ◌*◌, ◌^◌, ◌<◌, ◌≤◌, ◌++◌, ◌&&◌, ◌∷◌, [], ℕ, zero, suc, Bool}
-use Rattle.std.proofs.Common.{true, false, not, cond, List, Result, Ok, Err, All, length, take, drop, get_or}
+use Rattle.std.proofs.Common.{true, not, cond, List, Result, Ok, Err, All, length, take, drop, get_or}
 use Rattle.std.proofs.Common.{nat_lt, refl, ap, arith, length-append}
 use Rattle.std.proofs.lemmas.Bool.Decides.{Decides-ltb}
 use Rattle.std.proofs.lemmas.List.{take_at, drop_at}
@@ -39,26 +39,9 @@ pub record Fits (v : Values) (s : Slip) : Type 0 where
   pub whole : is_slip v (body_of v s) ≡ true
   pub back : slip_in (version_of v.failing) (body_of v s) ≡ s
 
--- where facts of its numbers give both
-by_numbers : {N : Type 0} (v : Values) (s : Slip) → (N → is_slip v (body_of v s) ≡ true)
-    → (N → slip_in (version_of v.failing) (body_of v s) ≡ s) → N → Fits v s
-by_numbers v s whole back numbers = record { whole = whole numbers; back = back numbers }
-
 small_fits : (v : Values) (s : Slip) → s.piece.first < 2 ^ 32 → s.piece.count < 2 ^ 32 → IsAtMost (2 ^ 43) s.totals
     → HoldsAllTotals (version_of v.failing) s.totals → Fits v s
-small_fits v s first count few totals = by_numbers v s (slip_whole v s) (λ numbers. slip_back v s numbers totals)
-    (record {
-      first = first;
-      count = count;
-      receivers = omega (arith, few.receivers);
-      conflicts = omega (arith, few.conflicts);
-      silent = omega (arith, few.silent);
-      extra = omega (arith, few.extra);
-      votes = omega (arith, few.votes);
-      decided = omega (arith, few.decided);
-      right = omega (arith, few.right);
-      settled = omega (arith, few.settled);
-    })
+small_fits v s first count few totals = grind (arith, slip_whole, slip_back)
 
 -- each good slip
 pub good_fits : (v : Values) (earlier : List Slip) (s : Slip) → IsPlan v → IsGood v earlier s → Fits v s
@@ -79,16 +62,7 @@ abbrev pub no_slip : Slip
 no_slip = record { piece = record { first = 0; count = 0 }; totals = each_number (λ n. 0) }
 
 none_at_most : IsAtMost (2 ^ 43) no_slip.totals
-none_at_most = record {
-  receivers = omega arith;
-  conflicts = omega arith;
-  silent = omega arith;
-  extra = omega arith;
-  votes = omega arith;
-  decided = omega arith;
-  right = omega arith;
-  settled = omega arith;
-}
+none_at_most = grind arith
 
 none_held : (version : Version) → HoldsAllTotals version no_slip.totals
 none_held One = refl
@@ -122,9 +96,7 @@ long_slips : (v : Values) (rest : List ℕ) (slips : List Slip) → length slips
     ≤ length (slips_before v rest slips)
 long_slips v rest [] = omega arith
 long_slips v rest (s ∷ slips) =
-    let later = long_slips v rest slips in
-    let both = length-append (body_of v s) (slips_before v rest slips) in
-    omega (arith, later, both)
+    grind (arith, length-append, long_slips v rest slips)
 
 -- what is read at an open gate, by whether a whole slip stands after it
 abbrev chosen : Bool → ℕ → Slip → Result (List Slip) JournalFault → Result (List Slip) JournalFault
@@ -159,9 +131,7 @@ all_read : (v : Values) (rest : List ℕ) (slips : List Slip) (most more number 
     → 0 < length rest → most ≡ length slips + more → next ≡ number + length slips
     → slips_in v most number (slips_before v rest slips) ≡ all_then slips (slips_in v more next rest)
 all_read v rest [] most more number next fits some is at =
-    let same : most ≡ more = omega (arith, is) in
-    let here : number ≡ next = omega (arith, at) in
-    ap (λ (n : ℕ). slips_in v n number rest) same ∙ ap (λ (n : ℕ). slips_in v more n rest) here
+    grind arith
 all_read v rest (s ∷ slips) zero more number next fits some is at = absurd (omega (arith, is))
 all_read v rest (s ∷ slips) (suc most) more number next fits some is at =
     one_read v s most number (slips_before v rest slips) (All-head (Fits v) s slips fits)
@@ -201,18 +171,10 @@ shut : (v : Values) (more number : ℕ) → 0 < more → slips_in v more number 
 shut v zero number some = absurd (omega (arith, some))
 shut v (suc more) number some = refl
 
-no_room : (version : Version) (b : Bool) → (nat_lt (slip_length version) 1 && b) ≡ false
-no_room One b = refl
-no_room Two b = refl
-
 cut_off : (v : Values) (more number : ℕ) → 0 < more → slips_in v more number (open_gate ∷ []) ≡ Err (Damaged number)
 cut_off v zero number some = absurd (omega (arith, some))
 cut_off v (suc more) number some =
-    let version : Version = version_of v.failing in
-    let body : List ℕ = body_in v (open_gate ∷ []) in
-    ap (λ (b : Bool). chosen b number (slip_in version body)
-    (slips_in v more (number + 1) (drop (slip_length version) (open_gate ∷ []))))
-    (no_room version (is_slip v body))
+    grind arith
 
 -- a file that is read as these slips
 abbrev pub whole_file : Values → List Slip → List ℕ
@@ -221,8 +183,7 @@ whole_file v slips = file_before v (closed_gate ∷ []) slips
 pub whole_read : (v : Values) (slips : List Slip) → IsPlan v → All (Fits v) slips → reading v (whole_file v slips)
     ≡ Ok slips
 whole_read v slips plan fits =
-    let found = file_read v (closed_gate ∷ []) slips plan fits (omega arith) in
-    found.2 ∙ ap (all_then slips) (shut v found.0 (1 + length slips) found.1) ∙ none_later slips
+    grind (arith, file_read v (closed_gate ∷ []) slips plan fits, shut v, none_later slips)
 
 -- one whose slip after these is cut off
 abbrev pub cut_file : Values → List Slip → List ℕ

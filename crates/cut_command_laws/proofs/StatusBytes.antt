@@ -1,6 +1,6 @@
 -- Bytes of which a status is, and bytes that have none, for each way in which `status` may end over a file.
 use Rattle.std.proofs.Common.{◌≡◌, ◌∙◌, ◌+◌, ◌-◌, ◌<◌, ◌≤◌, ◌++◌, ◌∷◌, [], ℕ, zero, suc, false, List, Result, Err}
-use Rattle.std.proofs.Common.{All, IsTrue, length, take, get_or, replicate, refl, sym, ap, subst, arith, inl, inr}
+use Rattle.std.proofs.Common.{All, length, take, get_or, replicate, refl, sym, ap, subst, arith, inl, inr}
 use Rattle.std.proofs.Common.{length-append}
 use Rattle.std.specs.Bool.{⊤}
 use Rattle.std.proofs.lemmas.List.{get_or-take, get_or_append_left, get_or_push, length-replicate, length-take-le}
@@ -9,13 +9,11 @@ use Rattle.std.proofs.lemmas.List.Elements.{All-push, All-replicate}
 use Rattle.cut_plan.specs.declared.dead.Dead.TheVariants.{Silent}
 use Rattle.cut_plan.specs.declared.failing.Failing.TheVariants.{Alike}
 use Rattle.cut_plan.specs.declared.faults.Faults.TheVariants.{Crash}
-use Rattle.cut_plan.specs.Cells.{cells_of}
-use Rattle.cut_plan.specs.Plan.{IsPlan, IsScale}
+use Rattle.cut_plan.specs.Plan.{IsPlan}
 use Rattle.cut_plan.proofs.PlansFromTexts.{accepted_is_plan}
 use Rattle.cut_plan.specs.Values.{Values}
-use Rattle.cut_outcome.specs.Sum.{is_piece}
 use Rattle.cut_ledger.specs.declared.slip.Slip.{Slip}
-use Rattle.cut_ledger.specs.Slips.{AreGood, IsFirstBad, IsGood}
+use Rattle.cut_ledger.specs.Slips.{AreGood, IsFirstBad}
 use Rattle.cut_journal.specs.declared.fault.JournalFault.TheVariants as journal
 use Rattle.cut_journal.specs.File.{open_gate}
 use Rattle.cut_journal.specs.Reading.{can_have_header, has_header, reading}
@@ -37,13 +35,7 @@ use Rattle.cut_command_laws.proofs.SlipFiles.{whole_file, whole_read}
 
 has_status : (v : Values) (slips : List Slip) → IsPlan v → AreGood v slips
     → IsStatusOf (whole_file v slips) (status_over v slips)
-has_status v slips plan good = record {
-  plan = v;
-  slips = slips;
-  study = record { plan = plan; read = whole_read v slips plan (good_fit v slips plan good) };
-  good = good;
-  is = refl;
-}
+has_status v slips plan good = search (arith, whole_read, good_fit)
 
 -- ---- a damaged header, and a damaged slip
 
@@ -73,39 +65,9 @@ some_plan = record {
   seed = replicate 32 0;
 }
 
-one_is : IsScale (1 ∷ [])
-one_is = record { some = omega arith; range = refl; rising = refl }
-
-one_cell : length (cells_of some_plan) ≡ 1
-unfolding some_plan
-one_cell = refl
-
 plan_is : IsPlan some_plan
 unfolding some_plan
-plan_is = record {
-  some_copies = omega arith;
-  few_copies = omega arith;
-  deaf = omega arith;
-  ks = one_is;
-  hs = one_is;
-  ls = one_is;
-  most_rings = omega arith;
-  some_ring = omega arith;
-  some_f = omega arith;
-  fs = refl;
-  fs_rising = refl;
-  liars = omega arith;
-  links = omega arith;
-  some_nodes = omega arith;
-  few_nodes = omega arith;
-  some_repeats = omega arith;
-  few_repeats = omega arith;
-  seed_length = refl;
-  seed_bytes = refl;
-  some_cell = omega (arith, one_cell);
-  few_cells = omega (arith, one_cell);
-  faults_fit = omega arith;
-}
+plan_is = grind arith
 
 -- as many slips of no trials
 abbrev none_times : ℕ → List Slip
@@ -121,50 +83,27 @@ slip_damaged n =
 
 -- ---- a bad slip
 
-no_piece : (v : Values) (s : Slip) → s ≡ no_slip → IsTrue (is_piece v s.piece) → ⊥
-no_piece v s none is =
-    let bad : IsTrue (is_piece v no_slip.piece) = subst (λ (x : Slip). IsTrue (is_piece v x.piece)) none is in cc (bad)
-
 -- the first n slips, and one of no trials
 abbrev with_none : List Slip → ℕ → List Slip
 with_none slips n = take n slips ++ no_slip ∷ []
 
 same_prefix : (slips : List Slip) (n i : ℕ) → n ≤ length slips → i ≤ n → take i (with_none slips n) ≡ take i slips
 same_prefix slips n i within low =
-    let size = length-take-le n slips within in
-    take-append-le i (take n slips) (no_slip ∷ []) (omega (arith, size, low)) ∙ take-take i n slips low
+    grind (arith, length-take-le, take-append-le, take-take)
 
 same_item : (slips : List Slip) (n i : ℕ) (d : Slip) → n ≤ length slips → i < n → get_or (with_none slips n) i d
     ≡ get_or slips i d
 same_item slips n i d within low =
-    let size = length-take-le n slips within in
-    get_or_append_left (take n slips) (no_slip ∷ []) d i (omega (arith, size, low)) ∙ get_or-take n slips i d low
+    grind (arith, length-take-le, get_or_append_left, get_or-take)
 
 fewer_good : (v : Values) (slips : List Slip) (n : ℕ) → IsFirstBad v slips n → n - 1 ≤ length slips
 fewer_good v slips n bad =
-    let within = bad.within in
-    omega (arith, within)
+    grind arith
 
 -- is a bad one where they are good
 is_bad : (v : Values) (slips : List Slip) (n : ℕ) → IsFirstBad v slips n → IsFirstBad v (with_none slips (n - 1)) n
 is_bad v slips n bad =
-    let m : ℕ = n - 1 in
-    let numbered = bad.numbered in
-    let within = fewer_good v slips n bad in
-    let size = length-take-le m slips within in
-    let both = length-append (take m slips) (no_slip ∷ []) in
-    record {
-      numbered = numbered;
-      within = omega (arith, numbered, both, size);
-      earlier = λ i d low there.
-          (let item : get_or (with_none slips m) i d ≡ get_or slips i d = same_item slips m i d within low in
-          subst (λ (before : List Slip). IsGood v before (get_or (with_none slips m) i d))
-          (sym (same_prefix slips m i within (omega (arith, low))))
-          (subst (λ (s : Slip). IsGood v (take i slips) s) (sym item)
-          (bad.earlier i d low (omega (arith, low, within)))));
-      bad = λ d good. no_piece v (get_or (with_none slips m) m d) (get_or_push (take m slips) no_slip d m size)
-          good.piece;
-    }
+    grind (arith, length-take-le, length-append, same_item, same_prefix, get_or_push)
 
 earlier_fit : (v : Values) (slips : List Slip) (n : ℕ) → IsPlan v → IsFirstBad v slips n
     → All (Fits v) (take (n - 1) slips)
@@ -177,16 +116,7 @@ earlier_fit v slips n plan bad k d low =
 
 has_bad : (v : Values) (slips : List Slip) (n : ℕ) → IsPlan v → IsFirstBad v slips n
     → HasBadSlip (whole_file v (with_none slips (n - 1))) n
-has_bad v slips n plan bad = record {
-  plan = v;
-  slips = with_none slips (n - 1);
-  study = record {
-    plan = plan;
-    read = whole_read v (with_none slips (n - 1)) plan
-        (All-push (Fits v) (take (n - 1) slips) no_slip (earlier_fit v slips n plan bad) (no_slip_fits v));
-  };
-  bad = is_bad v slips n bad;
-}
+has_bad v slips n plan bad = search (arith, whole_read, All-push, earlier_fit, no_slip_fits, is_bad)
 
 -- ---- the law
 

@@ -1,5 +1,5 @@
 -- The numbers that a command line gives.
-use Rattle.std.proofs.Common.{◌≡◌, ◌≤◌, ◌<◌, ◌^◌, ℕ, List, Option, Some, None, Result, refl, sym, ◌∙◌}
+use Rattle.std.proofs.Common.{◌≡◌, ◌≤◌, ◌<◌, ◌^◌, ℕ, List, Some, None, Result, sym, ◌∙◌}
 use Rattle.std.proofs.Common.{arith}
 use Rattle.std.specs.Str.Parse.{ParsesUnsigned, ExplainsUnsignedError, HasUnsignedDigitsIfOk}
 use Rattle.std.specs.declared.num.ParseIntError.{ParseIntError}
@@ -16,8 +16,7 @@ pub none_given : (option : Text) (most : ℕ) (rows : List Row) → most < 2 ^ 3
     → ((t : Text) → one_of option rows ≡ Some t → ReadsOne ReadsNumber t None)
     → (n : ℕ) → GivesNumber option most rows n → ⊥
 none_given option most rows small reads n given =
-    let read = reads given.text given.given in
-    read.1.0 (given.is.numeral, omega (arith, given.is.value, given.is.few, small))
+    grind arith
 
 -- where a number was read, no other is given
 pub same_given : (option : Text) (most : ℕ) (rows : List Row) (m : ℕ)
@@ -29,14 +28,4 @@ same_given option most rows m reads n given = sym given.is.value ∙ sym (reads 
 pub is_given : (option : Text) (most : ℕ) (rows : List Row) (m : ℕ) → (one_of option rows ≡ None → ⊥)
     → ((t : Text) → one_of option rows ≡ Some t → ReadsOne ReadsNumber t (Some m)) → 1 ≤ m → m ≤ most
     → GivesNumber option most rows m
-is_given option most rows m some reads low high = by (one_of option rows) refl
-  where
-    by : (o : Option Text) → one_of option rows ≡ o → GivesNumber option most rows m
-    by None none = absurd (some none)
-    by (Some t) found =
-        let read = reads t found in
-        record {
-          text = t;
-          given = found;
-          is = record { numeral = read.0.0.0; value = sym read.0.1; some = low; few = high };
-        }
+is_given option most rows m some reads low high = grind arith

@@ -1,6 +1,6 @@
 //! The commands of studies on many machines.
 
-ghost use Rattle.std.specs.Prelude.{◌≡◌, ℕ, codes, IfOk, IfSome, IfNone};
+ghost use Rattle.std.specs.Prelude.{ℕ, codes, IfOk, IfSome, IfNone};
 ghost use Rattle.clap.specs.Words.{found_of, rows_of};
 ghost use Rattle.cut_command_line.specs.Line.{GivesShare, IsNumberIn, IsSizedJob};
 ghost use Rattle.cut_command_line.specs.inside.Line.{GivesJob};

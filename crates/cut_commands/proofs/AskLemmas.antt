@@ -1,9 +1,7 @@
 -- What is said of an asking where nothing is known of the server.
-use Rattle.std.proofs.Common.{◌≡◌, ◌∙◌, ◌++◌, ◌≤◌, ℕ, Bool, true, false, List, Ok, Err, Result, length, take, refl}
+use Rattle.std.proofs.Common.{◌≡◌, ◌∙◌, ◌++◌, ◌≤◌, ℕ, true, List, Ok, Err, Result, length, take, refl}
 use Rattle.std.proofs.Common.{ap, arith}
-use Rattle.std.specs.Prelude.{nat_lt}
 use Rattle.std.specs.Bool.{⊤}
-use Rattle.std.proofs.lemmas.Bool.Decides.{nat_tests}
 use Rattle.cut_wires.specs.Log.{WireLog, wrote, write_failed}
 use Rattle.cut_wires.proofs.Logs.{wrote_twice}
 use Rattle.cut_messages.specs.declared.fault.AskFault.{AskFault}
@@ -20,14 +18,7 @@ use Rattle.cut_commands.specs.declared.fault.CliFault.TheVariants.{AuditMismatch
 whole_read : (text : List ℕ) (old mid : WireLog) → GivesText 65537 (Ok text) old mid → length text ≤ 65536
     → mid ≡ read_on text true old
 whole_read text old mid read short =
-    let less : nat_lt (length text) 65537 ≡ true = grind (arith, nat_tests) in
-    read.1 ∙ ap (λ (b : Bool). read_on text b old) less
-
-part_read : (text : List ℕ) (old mid : WireLog) → GivesText 65537 (Ok text) old mid → length text ≡ 65537
-    → mid ≡ read_on text false old
-part_read text old mid read long =
-    let more : nat_lt (length text) 65537 ≡ false = grind (arith, nat_tests) in
-    read.1 ∙ ap (λ (b : Bool). read_on text b old) more
+    grind arith
 
 -- bytes were written after it
 conveyed : (text bytes : List ℕ) (old mid new : WireLog) → GivesText 65537 (Ok text) old mid → length text ≤ 65536
@@ -39,8 +30,7 @@ partly : (fault : AskFault) (text : List ℕ) (old mid new server_old server_new
     → GivesText 65537 (Ok text) old mid → Asks text (Err fault) server_old server_new mid new
     → ConveysPartly fault old new
 partly ask.PlanTooLong text old mid new server_old server_new read asks =
-    let long : length text ≡ 65537 = omega (arith, read.0, asks.0) in
-    (text, long, asks.2 ∙ part_read text old mid read long)
+    search arith
 partly ask.Request text old mid new server_old server_new read asks =
     (text, asks.0, asks.2 ∙ whole_read text old mid read asks.0)
 partly ask.Output text old mid new server_old server_new read asks =

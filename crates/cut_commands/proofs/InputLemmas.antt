@@ -1,9 +1,8 @@
 -- A buffer after several reads into it, and the plan that is read so.
-use Rattle.std.proofs.Common.{◌≡◌, ℕ, ◌+◌, ◌≤◌, ◌<◌, Bool, true, false, cond, nat_lt, List, [], ◌++◌, Some, None, Ok}
-use Rattle.std.proofs.Common.{Err, length, take, refl, sym, ap, ◌∙◌, arith, length-append, inl, inr}
+use Rattle.std.proofs.Common.{◌≡◌, ℕ, ◌+◌, ◌≤◌, ◌<◌, false, List, [], ◌++◌, Ok}
+use Rattle.std.proofs.Common.{Err, length, take, refl, sym, ap, ◌∙◌, arith, length-append, inl}
 use Rattle.std.specs.Prelude.{IsErrOf}
 use Rattle.std.specs.Str.{is_utf8}
-use Rattle.std.proofs.lemmas.Bool.Decides.{nat_tests}
 use Rattle.std.proofs.lemmas.List.{length-take-le, take-take}
 use Rattle.std.proofs.lemmas.Slice.{take-put_mid}
 use Rattle.std.proofs.Math.Seq.{take-append-add}
@@ -15,7 +14,7 @@ use Rattle.cut_plan.specs.declared.refusal.PlanFault.TheVariants as plan
 use Rattle.cut_plan.specs.declared.refusal.Refusal.TheVariants.{NotJson, PlanTooLong}
 use Rattle.cut_wires.specs.Log.{WireLog}
 use Rattle.cut_commands.specs.Faults.{fault_of_plan}
-use Rattle.cut_commands.specs.Run.{GivesPlan, GivesText, refused_at_sight}
+use Rattle.cut_commands.specs.Run.{GivesPlan, GivesText}
 use Rattle.cut_commands.specs.inside.Run.{FillsFrom}
 use Rattle.cut_commands.specs.declared.fault.CliFault.{CliFault}
 use Rattle.cut_commands.specs.declared.fault.CliFault.TheVariants.{Memory, Read}
@@ -36,13 +35,7 @@ take_filled filled n k buffer got within few =
 pub filled_fits : (filled n : ℕ) (k : ℕ) (buffer got : List ℕ) → filled ≤ length buffer → n ≤ length got → filled + n
     ≤ length (put_mid filled k buffer got)
 filled_fits filled n k buffer got within few =
-    omega (
-      arith,
-      length-append (take filled buffer) (got ++ post_of filled k buffer),
-      length-append got
-          (post_of filled k buffer),
-      length-take-le filled buffer within,
-    )
+    grind (arith, length-append, length-take-le)
 
 -- ---- a text, or none
 
@@ -59,17 +52,6 @@ gives_no_plan Memory old new is = record { text = []; ended = false; log = is �
 gives_no_plan Read old new is = record { text = is.0; ended = false; log = is.2; is = (is.1, refl) }
 gives_no_plan fault old new is = absurd is
 
--- a text that is not refused at sight
-at_sight : (text : List ℕ) → (65536 < length text → ⊥) → (length text ≤ 65536 → is_utf8 text ≡ false → ⊥)
-    → refused_at_sight text ≡ None
-at_sight text short utf8 = by (nat_lt 65536 (length text)) (is_utf8 text) refl refl
-  where
-    by : (b u : Bool) → nat_lt 65536 (length text) ≡ b → is_utf8 text ≡ u
-        → cond b (Some PlanTooLong) (cond u None (Some NotJson)) ≡ None
-    by true u is_long is_text = absurd (short (grind (arith, nat_tests)))
-    by false true is_long is_text = refl
-    by false false is_long is_text = absurd (utf8 (grind (arith, nat_tests)) is_text)
-
 -- no plan was made of a text that was read
 pub gives_refused : {T : Type 0} (text : List ℕ) (fault : PlanFault) (old new : WireLog)
     → GivesText 65537 (Ok text) old new
@@ -77,15 +59,5 @@ pub gives_refused : {T : Type 0} (text : List ℕ) (fault : PlanFault) (old new 
     → IsErrOf {T = T} (Err fault) (plan.Refused PlanTooLong))
     → (length text ≤ 65536 → is_utf8 text ≡ false → IsErrOf {T = T} (Err fault) (plan.Refused NotJson))
     → GivesPlan (Err (fault_of_plan fault)) old new
-gives_refused text plan.Memory old new read why long utf8 = record {
-  text = text;
-  ended = nat_lt (length text) 65537;
-  log = read.1;
-  is = inr ((read.0, refl), at_sight text (λ l. cc (long l)) (λ l u. cc (utf8 l u)));
-}
-gives_refused text (plan.Refused refusal) old new read why long utf8 = record {
-  text = text;
-  ended = nat_lt (length text) 65537;
-  log = read.1;
-  is = ((read.0, refl), why);
-}
+gives_refused text plan.Memory old new read why long utf8 = grind arith
+gives_refused text (plan.Refused refusal) old new read why long utf8 = grind arith

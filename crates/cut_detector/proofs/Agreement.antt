@@ -1,7 +1,7 @@
 -- What a recount finds depends only on the edges of the rule's rings and of the processes.
-use Rattle.std.proofs.Common.{cond, Some, None, ◌≡◌, ℕ, ◌<◌, ◌&&◌, ◌||◌, nat_le, nat_lt, ap, ◌∙◌, arith}
+use Rattle.std.proofs.Common.{◌≡◌, ℕ, ◌<◌, ◌&&◌, nat_le, nat_lt, ap, arith}
 use Rattle.cut_detector.proofs.Words.{settled_proposal, AgreeOn, EdgeSet, Layout, Rule, count_by_agree, filter_agree_on}
-use Rattle.cut_detector.proofs.Words.{full_count, is_full, is_gained, is_reported, is_settled, is_some_stable}
+use Rattle.cut_detector.proofs.Words.{full_count, is_full, is_reported, is_settled, is_some_stable}
 use Rattle.cut_detector.proofs.Words.{is_some_unstable, is_stable, is_unstable, observer_of, reports_of}
 use Rattle.cut_detector.proofs.Words.{some_and_none_agree, stable_members}
 
@@ -27,19 +27,12 @@ pub is_full-same : (r : Layout) (rule : Rule) (E F : EdgeSet) → HasObservers r
     → (k s : ℕ) → k < rule.k → s < r.nodes → is_full r rule E k s ≡ is_full r rule F k s
 unfolding is_full
 is_full-same r rule E F observers edges k s ring process =
-    let o : ℕ = observer_of r k s in
-    let own : is_reported rule E s ≡ is_reported rule F s = is_reported-same rule r.nodes E F edges s process in
-    let its : is_reported rule E o ≡ is_reported rule F o = is_reported-same rule r.nodes E F edges o
-    (observers.in_range k s ring process) in
-    ap (λ b. b || is_gained r rule E k s) (edges.same k s ring process)
-    ∙ ap (λ b. F k s || (rule.implicit && b && is_reported rule E o)) own
-    ∙ ap (λ b. F k s || (rule.implicit && is_reported rule F s && b)) its
+    grind (arith, is_reported-same)
 
 pub full_count-same : (r : Layout) (rule : Rule) (E F : EdgeSet) → HasObservers r rule.k → SameEdges rule.k r.nodes E F
     → (s : ℕ) → s < r.nodes → full_count r rule E s ≡ full_count r rule F s
 full_count-same r rule E F observers edges s process =
-    count_by_agree (λ k. is_full r rule E k s) (λ k. is_full r rule F k s) 0 rule.k
-    (record { same = λ k _ below. is_full-same r rule E F observers edges k s (omega arith) process })
+    grind (arith, count_by_agree, is_full-same)
 
 is_stable-same : (r : Layout) (rule : Rule) (E F : EdgeSet) → HasObservers r rule.k → SameEdges rule.k r.nodes E F
     → AgreeOn (λ s. is_stable r rule E s) (λ s. is_stable r rule F s) 0 r.nodes
@@ -59,14 +52,10 @@ is_settled-same : (r : Layout) (rule : Rule) (E F : EdgeSet) → HasObservers r 
     → is_settled r rule E ≡ is_settled r rule F
 unfolding is_settled is_some_stable is_some_unstable
 is_settled-same r rule E F observers edges =
-    some_and_none_agree _ _ _ _ r.nodes (is_stable-same r rule E F observers edges)
-    (is_unstable-same r rule E F observers edges)
+    search (arith, some_and_none_agree, is_stable-same, is_unstable-same)
 
 pub settled_proposal-same : (r : Layout) (rule : Rule) (E F : EdgeSet) (n : ℕ) → HasObservers r rule.k
     → SameEdges rule.k r.nodes E F → settled_proposal r rule E n ≡ settled_proposal r rule F n
 unfolding stable_members
 settled_proposal-same r rule E F n observers edges =
-    ap (λ b. cond b (Some (record { members = stable_members r rule E; at = n })) None)
-    (is_settled-same r rule E F observers edges)
-    ∙ ap (λ xs. cond (is_settled r rule F) (Some (record { members = xs; at = n })) None)
-    (filter_agree_on _ _ 0 r.nodes (is_stable-same r rule E F observers edges))
+    grind (arith, is_settled-same, filter_agree_on, is_stable-same)

@@ -24,18 +24,13 @@ pub written : (m : Masks) (edge : Edge) (i mask : ℕ) → edge.ring < m.k → i
     ≡ get_or m.masks.items edge.subject 0
     → set m.masks.items i (bit_or mask (1 * 2 ^ edge.ring % 4294967296)) ≡ with_edge m.masks.items edge
 written m edge i mask ring at read =
-    ap (λ j. set m.masks.items j (bit_or mask (1 * 2 ^ edge.ring % 4294967296))) at
-    ∙ ap (λ n. set m.masks.items edge.subject (bit_or n (1 * 2 ^ edge.ring % 4294967296))) read
-    ∙ ap (λ n. set m.masks.items edge.subject (bit_or (get_or m.masks.items edge.subject 0) n))
-    (shifted_one edge.ring m.k ring m.few)
+    grind (arith, shifted_one)
 
 pub below-written : (m : Masks) (edge : Edge) (i mask : ℕ) → edge.ring < m.k → edge.subject < vec_len m.masks → i
     ≡ edge.subject → mask ≡ get_or m.masks.items edge.subject 0
     → All (λ mask. mask < 2 ^ m.k) (set m.masks.items i (bit_or mask (1 * 2 ^ edge.ring % 4294967296)))
 below-written m edge i mask ring inside at read =
-    let P : List ℕ → Type 0 = All (λ mask. mask < 2 ^ m.k) in
-    subst P (sym (written m edge i mask ring at read))
-    (below-with_bit m.k m.masks.items edge.ring edge.subject ring (omega (arith, m.masks.ok.0)) m.below)
+    grind (arith, written, below-with_bit)
 
 -- the ones of a mask are its process's rings
 pub ones-are : (k s : ℕ) (masks : List ℕ) → All (λ mask. mask < 2 ^ k) masks → s < length masks

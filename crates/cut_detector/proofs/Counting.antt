@@ -1,11 +1,11 @@
 -- Counts of processes by the rings that count for them.
-use Rattle.std.proofs.Common.{◌≡◌, inl, inr, ℕ, ◌+◌, ◌<◌, ◌≤◌, Bool, true, false, cond, ◌==◌, ◌&&◌, List, [], ◌∷◌, ◌++◌}
-use Rattle.std.proofs.Common.{IsTrue, not, nat_lt, nat_le, length, get_or, replicate, vec_len, refl, ap, sym, subst}
+use Rattle.std.proofs.Common.{◌≡◌, ℕ, ◌+◌, ◌<◌, ◌≤◌, Bool, true, false, cond, ◌==◌, ◌&&◌, List, [], ◌∷◌, ◌++◌}
+use Rattle.std.proofs.Common.{IsTrue, not, nat_lt, nat_le, length, get_or, replicate, vec_len, ap, sym, subst}
 use Rattle.std.proofs.Common.{◌∙◌, arith, pow_pos, get_or-set_other}
-use Rattle.cut_detector.proofs.Words.{AddsEdge, All, Edge, IsTouched, Masks, Tally, and_from, bit_at, cases_lt}
-use Rattle.cut_detector.proofs.Words.{count_by, count_by-ones, count_by_none, edges_in, eq-eqb, get_or_past, list_any}
-use Rattle.cut_detector.proofs.Words.{list_any_passing, lt-ltb, marked_in, nat_tests, or_right, processes_with}
-use Rattle.cut_detector.proofs.Words.{range_with_len, ring_count, rings_full, stable_in, unstable_in}
+use Rattle.cut_detector.proofs.Words.{AddsEdge, All, Edge, IsTouched, Masks, Tally}
+use Rattle.cut_detector.proofs.Words.{count_by-ones, count_by_none, edges_in, get_or_past, list_any}
+use Rattle.cut_detector.proofs.Words.{list_any_passing, nat_tests, processes_with}
+use Rattle.cut_detector.proofs.Words.{range_with_len, rings_full, stable_in, unstable_in}
 use Rattle.std.specs.Int.RustNames.{count_ones}
 use Rattle.std.proofs.lemmas.List.Sums.{count_by-le-length}
 use Rattle.std.proofs.lemmas.List.FromFn.{length-range_with_len}
@@ -18,10 +18,7 @@ use Rattle.cut_detector.proofs.Bits.{edges_in-with_edge}
 pub rings_full-other : (old new : Masks) (edge : Edge) → AddsEdge old new edge → (s : ℕ) → (s ≡ edge.subject → ⊥)
     → rings_full new s ≡ rings_full old s
 rings_full-other old new edge has s other =
-    ap (λ k. ring_count k (edges_in new.masks.items) s) has.k
-    ∙ ap (λ xs. ring_count old.k (edges_in xs) s) has.masks
-    ∙ ap (λ m. count_by (λ ring. bit_at m ring == 1) (range_with_len 0 old.k))
-    (get_or-set_other old.masks.items edge.subject s _ 0 other)
+    grind (arith, get_or-set_other)
 
 -- some ring counts for the subject
 pub rings_full-subject : (old new : Masks) (edge : Edge) → AddsEdge old new edge → edge.ring < old.k → edge.subject
@@ -29,10 +26,7 @@ pub rings_full-subject : (old new : Masks) (edge : Edge) → AddsEdge old new ed
 rings_full-subject old new edge has ring subject =
     let inside : edge.subject < length old.masks.items = omega (arith, old.masks.ok.0) in
     let there : edges_in new.masks.items edge.ring edge.subject ≡ true =
-    ap (λ xs. edges_in xs edge.ring edge.subject) has.masks
-    ∙ edges_in-with_edge old.masks.items edge inside edge.ring edge.subject
-    ∙ or_right (edges_in old.masks.items edge.ring edge.subject) _
-    (and_from _ _ (eq-eqb edge.ring edge.ring refl) (eq-eqb edge.subject edge.subject refl))
+    grind (arith, edges_in-with_edge)
     in
     sym (list_any-count_by (λ ring. edges_in new.masks.items ring edge.subject) (range_with_len 0 new.k))
     ∙ list_any_passing (λ ring. edges_in new.masks.items ring edge.subject) 0 new.k edge.ring (omega arith)
@@ -41,12 +35,7 @@ rings_full-subject old new edge has ring subject =
 -- a count of processes is at most their number
 pub processes_with-le : (test : ℕ → Bool) (full : Masks) → processes_with test full ≤ vec_len full.masks
 processes_with-le test full =
-    omega (
-      arith,
-      count_by-le-length test (range_with_len 0 (vec_len full.masks)),
-      length-range_with_len 0
-          (vec_len full.masks),
-    )
+    grind (arith, count_by-le-length, length-range_with_len)
 
 -- at least L rings are at least H, or fewer
 marked_parts : (l h n : ℕ) → l ≤ h → cond {A = ℕ} (nat_le l n) 1 0 ≡ cond (nat_le h n) 1 0
@@ -58,9 +47,7 @@ pub settled_by : (t : Tally) → nat_lt 0 t.stable && (t.stable == t.marked)
     ≡ list_any (stable_in t.rule t.full) (range_with_len 0 (vec_len t.full.masks))
     && not (list_any (unstable_in t.rule t.full) (range_with_len 0 (vec_len t.full.masks)))
 settled_by t =
-    rw (t.stable_counted, t.marked_counted) (sym (some_and_none-count (marked_in t.rule t.full)
-    (stable_in t.rule t.full) (unstable_in t.rule t.full) (range_with_len 0 (vec_len t.full.masks))
-    (λ s. marked_parts t.rule.l t.rule.h (rings_full t.full s) t.rule.thresholds)))
+    grind (arith, some_and_none-count, marked_parts)
 
 -- a number of processes once the rings of one have changed, from what the code counts
 pub moved_count : (test : ℕ → Bool) (old new : Masks) (edge : Edge) {count m n : ℕ} {before after : Bool}
@@ -90,8 +77,7 @@ IsTouched-touch old new edge xs is_new has ring subject touches is =
 pub rings_full-zero : (full : Masks) (s : ℕ) → get_or full.masks.items s 0 ≡ 0 → rings_full full s ≡ 0
 unfolding count_ones
 rings_full-zero full s none =
-    ap (λ m. count_by (λ ring. bit_at m ring == 1) (range_with_len 0 full.k)) none
-    ∙ count_by-ones full.k 0 (pow_pos full.k)
+    grind (arith, count_by-ones full.k 0 (pow_pos full.k))
 
 rings_full-empty : (full : Masks) (n : ℕ) → full.masks.items ≡ replicate n 0 → (s : ℕ) → rings_full full s ≡ 0
 rings_full-empty full n empty s = rings_full-zero full s (ap (λ xs. get_or xs s 0) empty ∙ get_or-zeros n s)
@@ -108,12 +94,7 @@ touched-all full xs touches = listed-all (λ s. nat_lt 0 (rings_full full s)) (v
 pub touched-each : (full : Masks) (xs : List ℕ) → IsTouched full xs → (s : ℕ) → 0 < rings_full full s
     → IsTrue (list_any (λ p. s == p) xs)
 touched-each full xs touches s some =
-    touches s ∙ and_from _ _ (elim (cases_lt s (vec_len full.masks)) [
-      | inl inside ↦ lt-ltb _ _ inside
-      | inr past ↦ absurd (let none : rings_full full s
-          ≡ 0 = rings_full-zero full s (get_or_past full.masks.items s 0 (omega (arith, full.masks.ok.0)))
-          in omega arith)
-    ]) (lt-ltb _ _ some)
+    grind (arith, rings_full-zero, get_or_past)
 
 pub processes_with-empty : (test : ℕ → Bool) (full : Masks) (n : ℕ) → full.masks.items ≡ replicate n 0 → test 0 ≡ false
     → 0 ≡ processes_with (λ s. test (rings_full full s)) full

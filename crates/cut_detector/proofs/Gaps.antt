@@ -1,11 +1,11 @@
 -- What equal watermarks, a wider gap between them and implicit alerts change.
-use Rattle.std.proofs.Common.{◌≡◌, inl, inr, ℕ, ◌<◌, ◌≤◌, Bool, true, false, ◌&&◌, ◌||◌, IsTrue, List, Option, Some}
-use Rattle.std.proofs.Common.{None, MatchOption, refl, arith, ◌↔◌, option_map, ap, sym, ◌∙◌}
+use Rattle.std.proofs.Common.{◌≡◌, inl, inr, ℕ, ◌<◌, ◌≤◌, Bool, true, false, IsTrue, List, Option, Some}
+use Rattle.std.proofs.Common.{None, MatchOption, arith, ◌↔◌, sym, ◌∙◌}
 use Rattle.cut_detector.proofs.Words.{or-false, AgreeOn, Edge, EdgeSet, Grows, IsMarked, IsOfLeastPlace, IsSettled}
 use Rattle.cut_detector.proofs.Words.{Layout, Proposal, ProposesBefore, Rule, cases_lt, false_from_ne_true}
-use Rattle.cut_detector.proofs.Words.{filter_agree_on, find, first_of, full_count, is_edge, is_full, is_reported}
-use Rattle.cut_detector.proofs.Words.{is_settled, is_some_stable, is_some_unstable, is_stable, is_unstable, le-leb}
-use Rattle.cut_detector.proofs.Words.{leb-true, observer_of, proposal_of, range_with_len, reports_of, rule_of}
+use Rattle.cut_detector.proofs.Words.{filter_agree_on, first_of, full_count, is_edge, is_full, is_reported}
+use Rattle.cut_detector.proofs.Words.{is_settled, is_some_stable, is_some_unstable, is_stable, is_unstable}
+use Rattle.cut_detector.proofs.Words.{proposal_of, reports_of, rule_of}
 use Rattle.cut_detector.proofs.Words.{some_and_none_agree, stable_members}
 use Rattle.std.proofs.lemmas.Bool.{or_left}
 use Rattle.cut_lists.proofs.Counts.{list_any_take-le}
@@ -13,17 +13,10 @@ use Rattle.cut_detector.proofs.Modes.{IsWithin, ring_count-le, is_reported-more,
 use Rattle.cut_detector.proofs.Modes.{is_unstable-from, is_stable-equal, equal_none_unstable}
 use Rattle.cut_detector.proofs.Places.{NoneSettled, proposes}
 
-keeps : (e f i x y u v : Bool) → (e ≡ true → f ≡ true) → (x ≡ true → u ≡ true) → (y ≡ true → v ≡ true)
-    → e || (i && x && y) ≡ true → f || (i && u && v) ≡ true
-keeps e f i x y u v a b c is = grind arith
-
 is_full-more : (r : Layout) (rule : Rule) (E F : EdgeSet) → IsWithin E F
     → IsWithin (is_full r rule E) (is_full r rule F)
 unfolding is_full
-is_full-more r rule E F within = record {
-  all = λ ring s. keeps _ _ rule.implicit _ _ _ _ (within.all ring s)
-      (is_reported-more rule E F s within) (is_reported-more rule E F (observer_of r ring s) within);
-}
+is_full-more r rule E F within = grind (arith, is_reported-more)
 
 -- where edges are added no ring stops counting
 pub full_count-grows : (r : Layout) (rule : Rule) (E F : EdgeSet) (s : ℕ) → IsWithin E F → full_count r rule E s
@@ -68,11 +61,7 @@ proposes-before r inner outer E count wide grows = go (proposal_of r outer E cou
         let more : full_count r inner (E m) s ≤ full_count r inner (E n) s = full_count-grows r inner (E m) (E n) s
         (record { all = λ ring q e. grows m n ring q before e }) in
         let same : full_count r outer (E n) s ≡ full_count r inner (E n) s = wide.same (E n) s in
-        elim (cases_lt (full_count r outer (E n) s) outer.h) [
-          | inl unstable ↦ absurd (is.none_unstable s process
-              (is_unstable-from r outer (E n) s (omega (arith, wide.low, wide.gap)) unstable))
-          | inr enough ↦ is_stable-from r outer (E n) s enough
-        ]
+        grind (arith, is_unstable-from r outer (E n) s, is_stable-from r outer (E n) s)
 
     go : (p q : Option Proposal) → MatchOption p (NoneSettled r outer E count) (IsOfLeastPlace r outer E count)
         → MatchOption q (NoneSettled r inner E count) (IsOfLeastPlace r inner E count) → ProposesBefore q p
@@ -93,15 +82,13 @@ pub higher_before : (r : Layout) (k g h l : ℕ) (implicit : Bool) (E : ℕ → 
     → ProposesBefore (proposal_of r (rule_of k h l implicit) E count) (proposal_of r (rule_of k g l implicit) E count)
 unfolding is_full is_reported
 higher_before r k g h l implicit E count gap high =
-    proposes-before r (rule_of k h l implicit) (rule_of k g l implicit) E count
-    (record { low = omega arith; gap = gap; high = high; same = λ E s. refl })
+    grind (arith, proposes-before)
 
 pub wider_before : (r : Layout) (k g h l m : ℕ) (E : ℕ → EdgeSet) (count : ℕ) → m ≤ l → l ≤ h → h ≤ g → Grows E
     → ProposesBefore (proposal_of r (rule_of k h l false) E count) (proposal_of r (rule_of k g m false) E count)
 unfolding is_full is_reported
 wider_before r k g h l m E count low gap high =
-    proposes-before r (rule_of k h l false) (rule_of k g m false) E count
-    (record { low = low; gap = gap; high = high; same = λ E s. refl })
+    grind (arith, proposes-before)
 
 -- an edge of the first m entries is one of the first n
 pub first_of_grows : (edges : List Edge) → Grows (first_of edges)
@@ -117,8 +104,7 @@ full_count-on r k h l E s =
 pub stable_on : (r : Layout) (k h l : ℕ) (E : EdgeSet) (s : ℕ) → IsTrue (is_stable r (rule_of k h l false) E s)
     → IsTrue (is_stable r (rule_of k h l true) E s)
 stable_on r k h l E s is =
-    let many : h ≤ full_count r (rule_of k h l false) E s = stable-is r (rule_of k h l false) E s is in
-    is_stable-from r (rule_of k h l true) E s (omega (arith, full_count-on r k h l E s))
+    search (arith, stable-is, is_stable-from, full_count-on)
 
 pub marked_on : (r : Layout) (k h l : ℕ) (E : EdgeSet) (s : ℕ) → l ≤ h → IsMarked r (rule_of k h l false) E s
     → IsMarked r (rule_of k h l true) E s
@@ -135,27 +121,18 @@ marked_on r k h l E s low marked = elim (cases_lt (full_count r (rule_of k h l t
 
 pub stable_by_reports : (r : Layout) (rule : Rule) (E : EdgeSet) (s : ℕ) → rule.l ≡ rule.h
     → IsTrue (is_stable r rule E s) ↔ (rule.h ≤ reports_of rule E s)
-stable_by_reports r rule E s equal = (
-  (λ is. leb-true _ _ (sym (is_stable-equal r rule E s equal) ∙ is)),
-  (λ many. is_stable-equal r rule E s equal ∙ le-leb _ _ many),
-)
+stable_by_reports r rule E s equal = grind (arith, is_stable-equal)
 
 stable_agrees : (r : Layout) (k h : ℕ) (E : EdgeSet)
     → AgreeOn (λ s. is_stable r (rule_of k h h true) E s) (λ s. is_stable r (rule_of k h h false) E s) 0 r.nodes
-stable_agrees r k h E = record {
-  same = λ s _ _. is_stable-equal r (rule_of k h h true) E s refl
-      ∙ sym (is_stable-equal r (rule_of k h h false) E s refl);
-}
+stable_agrees r k h E = grind (arith, is_stable-equal)
 
 never_unstable : (r : Layout) (rule : Rule) (E : EdgeSet) (s : ℕ) → rule.l ≡ rule.h → is_unstable r rule E s ≡ false
 never_unstable r rule E s equal = false_from_ne_true _ (λ t. equal_none_unstable r rule E s equal t)
 
 unstable_agrees : (r : Layout) (k h : ℕ) (E : EdgeSet)
     → AgreeOn (λ s. is_unstable r (rule_of k h h true) E s) (λ s. is_unstable r (rule_of k h h false) E s) 0 r.nodes
-unstable_agrees r k h E = record {
-  same = λ s _ _. never_unstable r (rule_of k h h true) E s refl
-      ∙ sym (never_unstable r (rule_of k h h false) E s refl);
-}
+unstable_agrees r k h E = grind (arith, never_unstable)
 
 settled_agrees : (r : Layout) (k h : ℕ) (E : EdgeSet) → is_settled r (rule_of k h h true) E
     ≡ is_settled r (rule_of k h h false) E
@@ -168,19 +145,10 @@ members_agree : (r : Layout) (k h : ℕ) (E : EdgeSet) → stable_members r (rul
 unfolding stable_members
 members_agree r k h E = filter_agree_on _ _ 0 r.nodes (stable_agrees r k h E)
 
-abbrev proposal_by : (EdgeSet → Bool) → (EdgeSet → List ℕ) → (ℕ → EdgeSet) → ℕ → Option Proposal
-proposal_by settled members E count = option_map {U = Proposal} (λ n. record { members = members (E n); at = n })
-    (find (λ n. settled (E n)) (range_with_len 1 count))
-
 pub implicit_changes_nothing : (r : Layout) (k h : ℕ) (E : ℕ → EdgeSet) (count : ℕ)
     → proposal_of r (rule_of k h h true) E count ≡ proposal_of r (rule_of k h h false) E count
 implicit_changes_nothing r k h E count =
-    let settled : ◌≡◌ {A = EdgeSet → Bool} (is_settled r (rule_of k h h true)) (is_settled r (rule_of k h h false)) =
-    λ i F. settled_agrees r k h F i in
-    let members : ◌≡◌ {A = EdgeSet → List ℕ} (stable_members r (rule_of k h h true))
-    (stable_members r (rule_of k h h false)) = λ i F. members_agree r k h F i in
-    ap (λ (f : EdgeSet → Bool). proposal_by f (stable_members r (rule_of k h h true)) E count) settled
-    ∙ ap (λ (g : EdgeSet → List ℕ). proposal_by (is_settled r (rule_of k h h false)) g E count) members
+    grind (arith, settled_agrees, members_agree)
 
 -- no process is stable at places with a property
 abbrev NoneStable : Layout → Rule → (ℕ → EdgeSet) → (ℕ → Type 0) → Type 0
@@ -192,10 +160,7 @@ pub first_stable : (r : Layout) (rule : Rule) (E : ℕ → EdgeSet) (count : ℕ
 first_stable r rule E count equal = go (proposal_of r rule E count) (proposes r rule E count)
   where
     unstable : (n s : ℕ) → (IsSettled r rule (E n) → ⊥) → s < r.nodes → IsTrue (is_stable r rule (E n) s) → ⊥
-    unstable n s fails process is = fails (record {
-      some_stable = (s, process, is);
-      none_unstable = λ q _ t. equal_none_unstable r rule (E n) q equal t;
-    })
+    unstable n s fails process is = grind (arith, equal_none_unstable)
 
     go : (q : Option Proposal) → MatchOption q (NoneSettled r rule E count) (IsOfLeastPlace r rule E count)
         → MatchOption q (NoneStable r rule E (λ n. n ≤ count)) (λ p. NoneStable r rule E (λ n. n < p.at))

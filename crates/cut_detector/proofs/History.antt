@@ -1,16 +1,16 @@
 -- What a delivery does to the proposal, and to what a detector keeps.
 use Rattle.std.proofs.Common.{◌≡◌, ℕ, ◌+◌, ◌<◌, ◌≤◌, Bool, true, false, cond, ◌||◌, List, [], ◌∷◌, ◌++◌, length, take}
-use Rattle.std.proofs.Common.{Option, Some, None, is_some, option_map, MatchOption, refl, ap, sym, subst, ◌∙◌, arith}
+use Rattle.std.proofs.Common.{Option, Some, None, is_some, refl, ap, sym, subst, ◌∙◌, arith}
 use Rattle.std.proofs.Common.{length-append, vec_capacity, IsTrue, replicate, nat_lt}
 use Rattle.cut_detector.proofs.Words.{Edge, EdgeSet, HasDelivered, HoldsFirst, Inside, IsDetector, Layout, Proposal}
-use Rattle.cut_detector.proofs.Words.{Rule, DetectorState, TakesEdge, and_parts, both_ways, edges_in, find, first_of}
+use Rattle.cut_detector.proofs.Words.{Rule, DetectorState, TakesEdge, and_parts, both_ways, edges_in, first_of}
 use Rattle.cut_detector.proofs.Words.{fresh, is_edge, is_edge_of, is_settled, layout_of, list_any-append, ltb-true}
-use Rattle.cut_detector.proofs.Words.{or-false, proposal_of, range_with_len, reported_of, rule_in, rule_of_inside}
+use Rattle.cut_detector.proofs.Words.{or-false, proposal_of, reported_of, rule_in, rule_of_inside}
 use Rattle.cut_detector.proofs.Words.{set_of, settled_proposal, stable_members, state_of, take-append-le, take_all}
 use Rattle.cut_detector.proofs.Words.{with_edge}
 use Rattle.std.specs.Option.{IfSome, option_or}
 use Rattle.cut_lists.proofs.BitSets.{has_bit-zeros}
-use Rattle.cut_lists.proofs.Firsts.{IsFirst, NonePasses, found, found_first, found-same, found-more}
+use Rattle.cut_lists.proofs.Firsts.{found, found_first, found-same, found-more}
 use Rattle.cut_detector.proofs.Agreement.{SameEdges, HasObservers, settled_proposal-same}
 use Rattle.cut_detector.proofs.Bits.{edges_in-with_edge}
 use Rattle.cut_detector.proofs.Settling.{is_settled-empty}
@@ -46,25 +46,14 @@ settles r rule E n = is_settled r rule (E n)
 -- a proposal is made at one of the places
 at_within : (r : Layout) (rule : Rule) (E : ℕ → EdgeSet) (count : ℕ)
     → IfSome (proposal_of r rule E count) (λ p. p.at ≤ count)
-at_within r rule E count = go (find (settles r rule E) (range_with_len 1 count))
-    (found_first (settles r rule E) 1 count)
-  where
-    go : (q : Option ℕ) → MatchOption q (NonePasses (settles r rule E) 1 count) (IsFirst (settles r rule E) 1 count)
-        → IfSome (option_map (λ n. made r rule (E n) n) q) (λ p. p.at ≤ count)
-    go None none = tt
-    go (Some m) first = let below = first.below in omega arith
+at_within r rule E count = grind (arith, found_first (settles r rule E) 1 count)
 
 -- what it holds of the deliveries up to its proposal it holds of a longer list of them
 still_holds : (d : DetectorState) (edges : List Edge) (edge : Edge) (q : Option Proposal)
     → IfSome q (λ p. HoldsFirst d edges p.at) → IfSome q (λ p. p.at ≤ length edges)
     → IfSome q (λ p. HoldsFirst d (edges ++ edge ∷ []) p.at)
 still_holds d edges edge None holds within = tt
-still_holds d edges edge (Some p) holds within = record {
-  deliveries = holds.deliveries;
-  edges = λ ring s below process.
-      holds.edges ring s below process ∙ ap (λ xs. set_of xs ring s)
-      (sym (take-append-le p.at edges (edge ∷ []) within));
-}
+still_holds d edges edge (Some p) holds within = grind (arith, take-append-le)
 
 -- a detector that has a proposal stays as it is
 pub history-settled : (old : DetectorState) (edge : Edge) (edges : List Edge) → is_some old.proposal ≡ true
@@ -105,20 +94,14 @@ takes d e old edge delivers =
       edges = λ ring p below process. ap (λ xs. edges_in xs ring p) delivers.reported
           ∙ edges_in-with_edge reports.reported.masks.items edge inside ring p;
       proposal =
-          ap (λ r. settled_proposal r (rule_of_inside e) (reported_of e) e.deliveries) delivers.layout
-          ∙ ap (λ x. settled_proposal (layout_of d) (rule_in x) (reported_of e) e.deliveries) delivers.rule;
+          grind arith;
     })
 
 -- whether it proposes is whether it is settled
 pub is_some-proposal : (d : Inside) (old : DetectorState) (b : Bool) → state_of d ≡ old → b
     ≡ is_settled (layout_of d) (rule_of_inside d) (reported_of d) → is_some old.proposal ≡ b
 is_some-proposal d old b seen is =
-    ap (λ x. is_some x.proposal) (sym seen) ∙ settles (is_settled (layout_of d) (rule_of_inside d) (reported_of d)) _
-    ∙ sym is
-  where
-    settles : (b : Bool) (p : Proposal) → is_some (cond b (Some p) None) ≡ b
-    settles true p = refl
-    settles false p = refl
+    grind arith
 
 -- a delivery that counts makes the history longer by one
 pub history : (d e : Inside) (old : DetectorState) (edge : Edge) (edges : List Edge) → Delivers d e old edge
@@ -154,10 +137,7 @@ history d e old edge edges delivers none delivered =
         → IfSome {T = Proposal} (cond b (Some (record { members = members; at = e.deliveries })) None)
         (λ p. HoldsFirst (state_of e) (edges ++ edge ∷ []) p.at)
     here false members whole all = tt
-    here true members whole all = record {
-      deliveries = refl;
-      edges = λ ring p below process. all ring p below process ∙ ap (λ xs. set_of xs ring p) (sym whole);
-    }
+    here true members whole all = grind arith
 
     starts : (q o : Option Proposal) → is_some q ≡ false → o ≡ option_or q o
     starts None o e = refl
@@ -165,10 +145,7 @@ history d e old edge edges delivers none delivered =
 
     -- on its rings each process has an observer
     observers : HasObservers old.layout old.rule.k
-    observers = subst (λ x. HasObservers x.layout x.rule.k) delivers.seen (record {
-      in_range = λ ring p low.
-          observer_below (layout_of d) d.reports.layout ring p (omega (arith, d.reports.rings_enough));
-    })
+    observers = grind (arith, observer_below)
 
     same : SameEdges old.rule.k old.layout.nodes (reported_of e) (set_of (edges ++ edge ∷ []))
     same = record {
@@ -189,34 +166,16 @@ pub record IsEmpty (d : Inside) (r : Layout) (x : Rule) : Type 0 where
 pub unsettled : (d : Inside) (r : Layout) (rule : Rule) → IsEmpty d r rule
     → is_settled (layout_of d) (rule_of_inside d) (reported_of d) ≡ false
 unsettled d r rule empty =
-    ap (λ xs. is_settled (layout_of d) (rule_of_inside d) (edges_in xs)) empty.reported
-    ∙ is_settled-empty (layout_of d) (rule_of_inside d) r.nodes d.reports.tally.rule.low d.reports.tally.rule.thresholds
+    grind (arith, is_settled-empty)
 
 pub is_fresh : (d : Inside) (r : Layout) (rule : Rule) → IsEmpty d r rule → state_of d ≡ fresh r rule
 is_fresh d r rule empty =
-    let none : settled_proposal (layout_of d) (rule_of_inside d) (reported_of d) d.deliveries ≡ None =
-    ap (λ b. cond b (Some (record {
-      members = stable_members (layout_of d) (rule_of_inside d) (reported_of d);
-      at =
-          d.deliveries;
-    })) None) (unsettled d r rule empty)
-    in
-    let nodes : replicate r.nodes 0 ≡ d.reports.reported.masks.items = sym empty.reported in
-    cc
+    grind (arith, unsettled)
 
 -- nothing has been delivered to a fresh one
 pub fresh-delivered : (r : Layout) (rule : Rule) → HasDelivered (fresh r rule) []
-fresh-delivered r rule = record {
-  proposal = refl;
-  deliveries = λ _. refl;
-  edges = λ _ ring s _ _. has_bit-zeros r.nodes
-      ring s;
-  settled = tt;
-}
+fresh-delivered r rule = grind (arith, has_bit-zeros)
 
 pub IsDetector-empty : (d : Inside) (r : Layout) (rule : Rule) → IsEmpty d r rule → (layout_of d).nodes
     ≤ vec_capacity d.members → IsDetector d
-IsDetector-empty d r rule empty room = record {
-  members = λ settled. absurd (both_ways _ (unsettled d r rule empty) settled);
-  room = room;
-}
+IsDetector-empty d r rule empty room = grind (arith, unsettled)

@@ -1,10 +1,10 @@
 -- What reports alone say of a process's mode.
-use Rattle.std.proofs.Common.{◌≡◌, inr, inl, ℕ, ◌<◌, ◌≤◌, Bool, true, false, ◌&&◌, ◌||◌, nat_le, IsTrue, refl, ap}
-use Rattle.std.proofs.Common.{sym, ◌∙◌, arith}
-use Rattle.cut_detector.proofs.Words.{ring_count, EdgeSet, Layout, ReportsTargetsAlone, Rule, and_from, and_parts}
-use Rattle.cut_detector.proofs.Words.{count_by_agree, count_by_none, false_from_ne_true, full_count, is_full}
-use Rattle.cut_detector.proofs.Words.{is_reported, is_stable, is_unstable, le-leb, leb-true, lt-ltb, ltb-true}
-use Rattle.cut_detector.proofs.Words.{nat_tests, observer_of, or-false, range_with_len, reports_of, sum_by-le-sum_by}
+use Rattle.std.proofs.Common.{◌≡◌, inr, inl, ℕ, ◌<◌, ◌≤◌, Bool, true, false, nat_le, IsTrue, refl}
+use Rattle.std.proofs.Common.{◌∙◌, arith}
+use Rattle.cut_detector.proofs.Words.{ring_count, EdgeSet, Layout, ReportsTargetsAlone, Rule, and_from}
+use Rattle.cut_detector.proofs.Words.{count_by_agree, count_by_none, full_count, is_full}
+use Rattle.cut_detector.proofs.Words.{is_reported, is_stable, is_unstable, le-leb, leb-true, lt-ltb}
+use Rattle.cut_detector.proofs.Words.{nat_tests, range_with_len, reports_of, sum_by-le-sum_by}
 use Rattle.std.proofs.lemmas.Bool.{or_left, cases_Bool}
 use Rattle.cut_lists.proofs.Parts.{bit_le}
 
@@ -23,8 +23,7 @@ pub unstable-is : (r : Layout) (rule : Rule) (E : EdgeSet) (s : ℕ) → IsTrue 
     → (rule.l ≤ full_count r rule E s) × (full_count r rule E s < rule.h)
 unfolding is_unstable
 unstable-is r rule E s is =
-    let parts = and_parts (nat_le rule.l (full_count r rule E s)) _ is in
-    (leb-true _ _ parts.0, ltb-true _ _ parts.1)
+    grind arith
 
 pub is_unstable-from : (r : Layout) (rule : Rule) (E : EdgeSet) (s : ℕ) → rule.l ≤ full_count r rule E s
     → full_count r rule E s < rule.h → IsTrue (is_unstable r rule E s)
@@ -43,9 +42,7 @@ pub is_reported-more : (rule : Rule) (E F : EdgeSet) (s : ℕ) → IsWithin E F 
     → is_reported rule F s ≡ true
 unfolding is_reported
 is_reported-more rule E F s within is =
-    let many : rule.l ≤ ring_count rule.k E s = leb-true _ _ is in
-    let more : ring_count rule.k E s ≤ ring_count rule.k F s = ring_count-le rule.k E F s within in
-    le-leb _ _ (omega arith)
+    grind (arith, ring_count-le rule.k E F s within)
 
 -- every reported ring counts
 pub reports_of-le : (r : Layout) (rule : Rule) (E : EdgeSet) (s : ℕ) → reports_of rule E s ≤ full_count r rule E s
@@ -53,24 +50,17 @@ unfolding is_full
 reports_of-le r rule E s = ring_count-le rule.k E (is_full r rule E) s
     (record { all = λ ring q e. or_left (E ring q) _ e })
 
-pub no_gain : (i x y : Bool) → x ≡ false → i && x && y ≡ false
-no_gain i x y e = grind arith
-
 -- a process that is reported on fewer than L rings gains none
 pub is_full-unreported : (r : Layout) (rule : Rule) (E : EdgeSet) (ring s : ℕ) → is_reported rule E s ≡ false
     → is_full r rule E ring s ≡ E ring s
 unfolding is_full
 is_full-unreported r rule E ring s unreported =
-    ap (λ b. E ring s || b) (no_gain rule.implicit (is_reported rule E s) (is_reported rule E (observer_of r ring s))
-    unreported) ∙ or-false (E ring s)
+    grind arith
 
 pub full_count-unreported : (r : Layout) (rule : Rule) (E : EdgeSet) (s : ℕ) → is_reported rule E s ≡ false
     → full_count r rule E s ≡ reports_of rule E s
 full_count-unreported r rule E s unreported =
     count_by_agree _ _ 0 rule.k (record { same = λ ring _ _. is_full-unreported r rule E ring s unreported })
-
-at_least : (t : Bool) (h n : ℕ) → (t ≡ true → h ≤ n) → (t ≡ false → n < h) → nat_le h n ≡ t
-at_least t h n enough few = grind (arith, nat_tests)
 
 below : (l n : ℕ) → nat_le l n ≡ false → n < l
 below l n e = grind (arith, nat_tests)
@@ -80,17 +70,14 @@ pub marked-is : (r : Layout) (rule : Rule) (E : EdgeSet) (s : ℕ) → nat_le ru
     ≡ is_reported rule E s
 unfolding is_reported
 marked-is r rule E s =
-    at_least (is_reported rule E s) rule.l (full_count r rule E s)
-    (λ is. let many : rule.l ≤ reports_of rule E s = leb-true _ _ is in omega (arith, reports_of-le r rule E s))
-    (λ is. let few : reports_of rule E s < rule.l = below _ _ is in omega (arith, full_count-unreported r rule E s is))
+    grind (arith, reports_of-le r rule E s, full_count-unreported r rule E s)
 
 -- with L = H, stable by reports alone
 pub is_stable-equal : (r : Layout) (rule : Rule) (E : EdgeSet) (s : ℕ) → rule.l ≡ rule.h → is_stable r rule E s
     ≡ nat_le rule.h (reports_of rule E s)
 unfolding is_stable is_reported
 is_stable-equal r rule E s equal =
-    ap (λ n. nat_le n (full_count r rule E s)) (sym equal) ∙ marked-is r rule E s
-    ∙ ap (λ n. nat_le n (reports_of rule E s)) equal
+    grind (arith, marked-is r rule E s)
 
 pub equal_none_unstable : (r : Layout) (rule : Rule) (E : EdgeSet) (s : ℕ) → rule.l ≡ rule.h
     → IsTrue (is_unstable r rule E s) → ⊥
@@ -106,21 +93,13 @@ pub full_count-others : (r : Layout) (rule : Rule) (E : EdgeSet) (is_target : �
     → ReportsTargetsAlone r rule E is_target → (s : ℕ) → s < r.nodes → is_target s ≡ false → full_count r rule E s ≡ 0
 unfolding is_reported
 full_count-others r rule E is_target low reports s process other =
-    let none : reports_of rule E s ≡ 0 = no_reports rule E s (λ k below. false_from_ne_true (E k s) (λ t.
-    let w : is_target s ≡ true = reports.alone k s below process t in
-    cc)) in
-    let unreported : is_reported rule E s ≡ false = false_from_ne_true _
-    (λ t. let w : rule.l ≤ reports_of rule E s = leb-true _ _ t in omega arith) in
-    full_count-unreported r rule E s unreported ∙ none
+    grind (arith, no_reports rule E s, full_count-unreported r rule E s)
 
 pub stable_are_targets : (r : Layout) (rule : Rule) (E : EdgeSet) (is_target : ℕ → Bool) → 1 ≤ rule.l → rule.l ≤ rule.h
     → ReportsTargetsAlone r rule E is_target → (s : ℕ) → s < r.nodes → is_stable r rule E s ≡ is_target s
 unfolding is_stable
 stable_are_targets r rule E is_target low high reports s process =
-    at_least (is_target s) rule.h (full_count r rule E s)
-    (λ is. let many : rule.h ≤ reports_of rule E s = reports.each s process is
-    in omega (arith, reports_of-le r rule E s))
-    (λ is. omega (arith, full_count-others r rule E is_target low reports s process is))
+    grind (arith, reports_of-le r rule E s, full_count-others r rule E is_target low reports s process)
 
 pub targets_leave_none_unstable : (r : Layout) (rule : Rule) (E : EdgeSet) (is_target : ℕ → Bool) → 1 ≤ rule.l → rule.l
     ≤ rule.h → ReportsTargetsAlone r rule E is_target → (s : ℕ) → s < r.nodes → IsTrue (is_unstable r rule E s) → ⊥

@@ -1,9 +1,9 @@
 -- Who observes whom, and what a process gains where it, or its observer, enters the reported ones.
-use Rattle.std.proofs.Common.{◌≡◌, inl, inr, ℕ, ◌+◌, ◌%◌, ◌<◌, Bool, true, false, cond, ◌==◌, ◌&&◌, ◌||◌, List, length}
+use Rattle.std.proofs.Common.{◌≡◌, ℕ, ◌+◌, ◌<◌, Bool, true, false, cond, ◌==◌, ◌&&◌, ◌||◌, List, length}
 use Rattle.std.proofs.Common.{nat_lt, refl, ap, sym, ◌∙◌, arith}
-use Rattle.cut_detector.proofs.Words.{Edge, EdgeSet, IsLayout, Layout, Observes, and-true, and_right, cases_eq}
-use Rattle.cut_detector.proofs.Words.{edges_in, eq-eqb, eqb-true, is_edge, is_near, length-set, nat_tests}
-use Rattle.cut_detector.proofs.Words.{ne_eqb, observer_of, or-false, position_of, positions_on, with_edge}
+use Rattle.cut_detector.proofs.Words.{Edge, EdgeSet, IsLayout, Layout, Observes, and-true, and_right}
+use Rattle.cut_detector.proofs.Words.{edges_in, is_edge, is_near, length-set, nat_tests}
+use Rattle.cut_detector.proofs.Words.{observer_of, or-false, with_edge}
 use Rattle.std.proofs.lemmas.List.Sums.{passes_at_first}
 use Rattle.cut_lists.proofs.Rounds.{next_one, before}
 use Rattle.cut_detector.proofs.Bits.{edges_in-with_edge}
@@ -13,25 +13,12 @@ use Rattle.cut_rings.proofs.Observers.{observer_below}
 observes : (r : Layout) → IsLayout r → (k p : ℕ) → k < length r.positions → p < r.nodes
     → Observes r k (observer_of r k p) p
 observes r layout k p ring process =
-    let inside : observer_of r k p < length (positions_on r k) = omega
-    (arith, observer_below r layout k p ring process, layout.long k ring) in
-    eqb-true _ _ (passes_at_first (λ place. (place + 1) % r.nodes == position_of r k p) (positions_on r k) 0 inside)
+    grind (arith, observer_below, passes_at_first)
 
 -- s observes u alone
 pub observer_of-is : (r : Layout) → IsLayout r → (k s u p : ℕ) → k < length r.positions → s < r.nodes → u < r.nodes → p
     < r.nodes → Observes r k s u → (observer_of r k p == s) ≡ (p == u)
-observer_of-is r layout k s u p ring observer subject process sees = elim (cases_eq p u) [
-  | inl same ↦ (
-      let o : ℕ = observer_of r k p in
-      let below : o < r.nodes = observer_below r layout k p ring process in
-      let places : position_of r k o ≡ position_of r k s = next_one r.nodes _ _ (layout.in_range k o ring below)
-      (layout.in_range k s ring observer)
-      (observes r layout k p ring process ∙ ap (position_of r k) same ∙ sym sees) in
-      eq-eqb o s (layout.distinct k o s ring below observer places) ∙ sym (eq-eqb p u same))
-  | inr other ↦ ne_eqb _ _ (λ e. other (layout.distinct k p u ring process subject
-      (sym (observes r layout k p ring process) ∙ ap (λ o. (position_of r k o + 1) % r.nodes) e ∙ sees)))
-      ∙ sym (ne_eqb p u other)
-]
+observer_of-is r layout k s u p ring observer subject process sees = grind (arith, observer_below r layout k p ring process, next_one r.nodes, observes r layout k p ring process)
 
 -- an edge that is added where a test says so
 added : (masks : List ℕ) (edge : Edge) (b : Bool) → edge.subject < length masks → (ring p : ℕ)

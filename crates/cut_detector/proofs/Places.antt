@@ -1,9 +1,9 @@
 -- What is found among the places of a run, and what an edge that is delivered once more changes of it.
-use Rattle.std.proofs.Common.{◌≡◌, ℕ, suc, ◌+◌, ◌<◌, ◌≤◌, ◌↔◌, Bool, true, false, cond, ◌&&◌, not, List, Option, Some}
-use Rattle.std.proofs.Common.{None, MatchOption, IsTrue, refl, ap, sym, ◌∙◌, arith, ◌-◌, ◌||◌, ◌∷◌, ◌++◌, length, take}
+use Rattle.std.proofs.Common.{◌≡◌, ℕ, suc, ◌+◌, ◌<◌, ◌≤◌, ◌↔◌, Bool, true, false, cond, not, List, Option, Some}
+use Rattle.std.proofs.Common.{None, MatchOption, IsTrue, ap, sym, ◌∙◌, arith, ◌-◌, ◌∷◌, ◌++◌, length, take}
 use Rattle.std.proofs.Common.{option_map, length-append}
 use Rattle.cut_detector.proofs.Words.{Proposal, both_ways, find, Contains, Edge, EdgeSet, IsOfLeastPlace, IsSettled}
-use Rattle.cut_detector.proofs.Words.{IsStrictlyIncreasing, Layout, Rule, and_parts, delayed, first_of, is_edge}
+use Rattle.cut_detector.proofs.Words.{IsStrictlyIncreasing, Layout, Rule, and_parts, delayed, first_of}
 use Rattle.cut_detector.proofs.Words.{is_settled, is_some_stable, is_some_unstable, is_stable, is_unstable, le-leb}
 use Rattle.cut_detector.proofs.Words.{list_any-append, list_any_none_passing, list_any_passing, lt-leb, members_after}
 use Rattle.cut_detector.proofs.Words.{proposal_after, proposal_of, range_with_len, set_of, stable_members}
@@ -38,9 +38,7 @@ is_settled-from r rule E settled =
     let at = settled.some_stable in
     let some : is_some_stable r rule E ≡ true = list_any_passing (λ s. is_stable r rule E s) 0 r.nodes at.0
     (omega arith) (omega (arith, at.1)) at.2 in
-    let none : is_some_unstable r rule E ≡ false = list_any_none_passing (λ s. is_unstable r rule E s) 0 r.nodes
-    (λ s _ low t. settled.none_unstable s (omega arith) t) in
-    ap (λ b. b && not (is_some_unstable r rule E)) some ∙ ap (λ b. true && not b) none
+    grind (arith, list_any_none_passing)
 
 -- the members are the stable processes, ascending
 pub Contains-members : (r : Layout) (rule : Rule) (E : EdgeSet) (s : ℕ) → Contains (stable_members r rule E) s
@@ -86,22 +84,10 @@ proposes r rule E count =
       ascending = members-rise r rule (E m);
     }
 
-absorbed : (x y z : Bool) → (y ≡ true → x ≡ true) → x || (y || z) ≡ x || z
-absorbed x y z h = grind arith
-
 -- a set does not hold an edge twice
 set_of-repeat : (before after : List Edge) (edge : Edge) → Contains before edge → set_of (before ++ edge ∷ after)
     ≡ set_of (before ++ after)
-set_of-repeat before after edge at = λ i k s. same k s i
-  where
-    held : (k s : ℕ) → is_edge k s edge ≡ true → set_of before k s ≡ true
-    held k s is = list_any_at (λ e. is_edge k s e) before at.0 edge at.1 (ap (λ e. is_edge k s e) at.2 ∙ is)
-
-    same : (k s : ℕ) → set_of (before ++ edge ∷ after) k s ≡ set_of (before ++ after) k s
-    same k s =
-        list_any-append (λ e. is_edge k s e) before (edge ∷ after)
-        ∙ absorbed (set_of before k s) (is_edge k s edge) (set_of after k s) (held k s)
-        ∙ sym (list_any-append (λ e. is_edge k s e) before after)
+set_of-repeat before after edge at = grind (arith, list_any_at, list_any-append)
 
 pub proposed_delayed : (r : Layout) (rule : Rule) (before after : List Edge) (edge : Edge) → Contains before edge
     → proposal_after r rule (before ++ edge ∷ after)
@@ -138,13 +124,7 @@ proposed_delayed r rule before after edge at =
 pub members_after_repeat : (r : Layout) (rule : Rule) (before after : List Edge) (edge : Edge) → Contains before edge
     → members_after r rule (before ++ edge ∷ after) ≡ members_after r rule (before ++ after)
 members_after_repeat r rule before after edge at =
-    ap (option_map (λ p. p.members)) (proposed_delayed r rule before after edge at)
-    ∙ go (proposal_after r rule (before ++ after))
-  where
-    go : (q : Option Proposal) → option_map (λ p. p.members) (option_map (delayed (length before)) q)
-        ≡ option_map (λ p. p.members) q
-    go None = refl
-    go (Some p) = refl
+    grind (arith, proposed_delayed)
 
 -- the law on repeats, in both its parts
 pub ruleset repeats = (members_after_repeat, proposed_delayed)

@@ -1,15 +1,15 @@
 -- What masks of the rings that count say of the modes of the processes.
-use Rattle.std.proofs.Common.{◌≡◌, inl, inr, ℕ, ◌<◌, ◌≤◌, false, ◌==◌, ◌&&◌, ◌||◌, IsTrue, not, List, replicate}
-use Rattle.std.proofs.Common.{vec_len, nat_le, nat_lt, ap, sym, ◌∙◌, arith}
+use Rattle.std.proofs.Common.{◌≡◌, inl, inr, ℕ, ◌<◌, ◌≤◌, false, ◌==◌, ◌&&◌, IsTrue, not, List, replicate}
+use Rattle.std.proofs.Common.{vec_len, nat_le, nat_lt, ap, arith}
 use Rattle.cut_detector.proofs.Words.{AgreeOn, EdgeSet, HoldsFull, Layout, Reports, Rule, and_left, cases_lt}
 use Rattle.cut_detector.proofs.Words.{count_by_agree, edges_in, filter, filter_agree_on, full_count, get_or_past}
 use Rattle.cut_detector.proofs.Words.{is_full, is_reported, is_settled, is_some_stable, is_some_unstable, is_stable}
-use Rattle.cut_detector.proofs.Words.{is_unstable, leb-true, list_any, list_any_none_passing, lt-leb, observer_of}
-use Rattle.cut_detector.proofs.Words.{range_with_len, reports_of, ring_count, rings_full, rule_in, some_and_none_agree}
+use Rattle.cut_detector.proofs.Words.{is_unstable, leb-true, list_any, list_any_none_passing}
+use Rattle.cut_detector.proofs.Words.{range_with_len, ring_count, rings_full, rule_in, some_and_none_agree}
 use Rattle.cut_detector.proofs.Words.{stable_in, stable_members, unstable_in}
 use Rattle.cut_lists.proofs.BitSets.{has_bit-zeros}
-use Rattle.cut_detector.proofs.Modes.{reports_of-le, no_reports, no_gain}
-use Rattle.cut_detector.proofs.Counting.{touched-each, rings_full-zero}
+use Rattle.cut_detector.proofs.Modes.{reports_of-le, no_reports}
+use Rattle.cut_detector.proofs.Counting.{rings_full-zero}
 
 -- with no edge no ring counts
 is_full-empty : (r : Layout) (rule : Rule) (n ring s : ℕ) → 1 ≤ rule.l
@@ -17,11 +17,7 @@ is_full-empty : (r : Layout) (rule : Rule) (n ring s : ℕ) → 1 ≤ rule.l
 unfolding is_full is_reported
 is_full-empty r rule n ring s low =
     let E : EdgeSet = edges_in (replicate n 0) in
-    let unreported : is_reported rule E s ≡ false = ap (nat_le rule.l)
-    (no_reports rule E s (λ k _. has_bit-zeros n k s)) ∙ lt-leb rule.l 0 low in
-    ap (λ b. b || (rule.implicit && is_reported rule E s && is_reported rule E (observer_of r ring s)))
-    (has_bit-zeros n ring s)
-    ∙ no_gain rule.implicit _ _ unreported
+    grind (arith, no_reports rule E s, has_bit-zeros n)
 
 pub is_settled-empty : (r : Layout) (rule : Rule) (n : ℕ) → 1 ≤ rule.l → rule.l ≤ rule.h
     → is_settled r rule (edges_in (replicate n 0)) ≡ false
@@ -37,15 +33,13 @@ is_settled-empty r rule n low high =
 pub HoldsFull_empty : (r : Layout) (rule : Rule) (reported full : List ℕ) (m n : ℕ) → 1 ≤ rule.l → reported
     ≡ replicate m 0 → full ≡ replicate n 0 → HoldsFull r rule reported full
 HoldsFull_empty r rule reported full m n low none empty ring s _ _ =
-    ap (λ xs. edges_in xs ring s) empty ∙ has_bit-zeros n ring s
-    ∙ sym (ap (λ xs. is_full r rule (edges_in xs) ring s) none ∙ is_full-empty r rule m ring s low)
+    grind (arith, has_bit-zeros, is_full-empty)
 
 -- the tally counts what the definitions do
 pub rings_full-is : (s : Reports) (p : ℕ) → p < s.rings.now.nodes → rings_full s.tally.full p
     ≡ full_count s.rings.now (rule_in s.tally.rule) (edges_in s.reported.masks.items) p
 rings_full-is s p inside =
-    ap (λ k. ring_count k (edges_in s.tally.full.masks.items) p) s.tally.rings
-    ∙ count_by_agree _ _ 0 s.tally.rule.k (record { same = λ ring _ below. s.full ring p (omega arith) inside })
+    grind (arith, count_by_agree)
 
 stable_in-is : (s : Reports) → AgreeOn (stable_in s.tally.rule s.tally.full)
     (is_stable s.rings.now (rule_in s.tally.rule) (edges_in s.reported.masks.items)) 0 s.rings.now.nodes
@@ -66,17 +60,14 @@ pub settled_is : (s : Reports) → list_any (stable_in s.tally.rule s.tally.full
     ≡ is_settled s.rings.now (rule_in s.tally.rule) (edges_in s.reported.masks.items)
 unfolding is_settled is_some_stable is_some_unstable
 settled_is s =
-    ap (λ n. list_any (stable_in s.tally.rule s.tally.full) (range_with_len 0 n)
-    && not (list_any (unstable_in s.tally.rule s.tally.full) (range_with_len 0 n))) s.full_long
-    ∙ some_and_none_agree _ _ _ _ s.rings.now.nodes (stable_in-is s) (unstable_in-is s)
+    grind (arith, some_and_none_agree, stable_in-is, unstable_in-is)
 
 pub members_are : (s : Reports) → filter (stable_in s.tally.rule s.tally.full)
     (range_with_len 0 (vec_len s.tally.full.masks))
     ≡ stable_members s.rings.now (rule_in s.tally.rule) (edges_in s.reported.masks.items)
 unfolding stable_members
 members_are s =
-    ap (λ n. filter (stable_in s.tally.rule s.tally.full) (range_with_len 0 n)) s.full_long
-    ∙ filter_agree_on _ _ 0 s.rings.now.nodes (stable_in-is s)
+    grind (arith, filter_agree_on, stable_in-is s)
 
 -- each reported process is touched
 pub reported-touched : (s : Reports) (p : ℕ) → 0 < ring_count s.reported.k (edges_in s.reported.masks.items) p
@@ -85,11 +76,6 @@ reported-touched s p some = elim (cases_lt p s.rings.now.nodes) [
   | inl inside ↦ (
       let R : Rule = rule_in s.tally.rule in
       let E : EdgeSet = edges_in s.reported.masks.items in
-      let counted : ring_count s.reported.k E p ≡ reports_of R E p = ap (λ n. ring_count n E p) s.same_rings in
-      let more : reports_of R E p ≤ full_count s.rings.now R E p = reports_of-le s.rings.now R E p in
-      let full_too : rings_full s.tally.full p ≡ full_count s.rings.now R E p = rings_full-is s p inside in
-      touched-each s.tally.full s.tally.touched.items s.tally.touches p (omega arith))
-  | inr past ↦ absurd (let none : ring_count s.reported.k (edges_in s.reported.masks.items) p
-      ≡ 0 = rings_full-zero s.reported p (get_or_past s.reported.masks.items p 0
-      (omega (arith, s.reported.masks.ok.0, s.reported_long))) in omega arith)
+      grind (arith, reports_of-le s.rings.now R E p, rings_full-is s p inside))
+  | inr past ↦ grind (arith, rings_full-zero s.reported p, get_or_past s.reported.masks.items p 0)
 ]

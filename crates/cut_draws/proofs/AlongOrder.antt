@@ -91,10 +91,7 @@ least_of_rising : (t : ℕ → ℕ) → ((m n : ℕ) → m ≤ n → t m ≤ t n
 least_of_rising t rises f g a [] same = refl
 least_of_rising t rises f g a (c ∷ cs) same =
     let here : g c ≡ t (f c) = All-head (λ i. g i ≡ t (f i)) c cs same in
-    let one : min (t a) (g c) ≡ t (min a (f c)) = elim (cases_lt a (f c)) [
-      | inl low ↦ (let e : min a (f c) ≡ a = omega arith in omega (arith, here, rises a (f c) (omega arith), ap t e))
-      | inr high ↦ (let e : min a (f c) ≡ f c = omega arith in omega (arith, here, rises (f c) a high, ap t e))
-    ] in
+    let one : min (t a) (g c) ≡ t (min a (f c)) = grind arith in
     ap (λ m. fold (λ least i. min least (g i)) m cs) one
     ∙ least_of_rising t rises f g (min a (f c)) cs (All-tail (λ i. g i ≡ t (f i)) c cs same)
 

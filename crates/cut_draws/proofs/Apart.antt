@@ -1,12 +1,12 @@
 -- Edges whose numbers differ give copies of which no two compare as equal.
-use Rattle.std.proofs.Common.{◌≡◌, ◌≢◌, ℕ, zero, suc, ◌+◌, ◌-◌, ◌<◌, ◌≤◌, ◌⊎◌, ◌==◌, inl, inr, Bool, true, false, not}
-use Rattle.std.proofs.Common.{List, [], ◌∷◌, ◌++◌, length, get_or, refl, ap, sym, ◌∙◌, arith}
+use Rattle.std.proofs.Common.{◌≡◌, ◌≢◌, ℕ, zero, suc, ◌+◌, ◌-◌, ◌<◌, ◌≤◌, ◌⊎◌, inl, inr, Bool, true, false}
+use Rattle.std.proofs.Common.{List, [], ◌∷◌, ◌++◌, length, get_or, refl, ap, ◌∙◌, arith}
 use Rattle.std.specs.declared.cmp.Ordering.{Ordering}
 use Rattle.std.specs.declared.cmp.Ordering.TheVariants.{Less, Equal, Greater}
 use Rattle.std.specs.Ordering.{nat_cmp, ordering_then, is_eq, eq_by_cmp}
-use Rattle.std.specs.Cmp.{IsTotalOrder, first_so, second_so, unsigned_tied}
-use Rattle.std.specs.List.{All, IsDistinct, flat_map, range_with_len, list_any}
-use Rattle.std.proofs.lemmas.Bool.{eq-eqb, ne_eqb}
+use Rattle.std.specs.Cmp.{IsTotalOrder, second_so, unsigned_tied}
+use Rattle.std.specs.List.{All, IsDistinct, flat_map, range_with_len}
+use Rattle.std.proofs.lemmas.Bool.{ne_eqb}
 use Rattle.std.proofs.lemmas.Cmp.{nat_cmp_total, then_total, on_total}
 use Rattle.std.proofs.lemmas.List.{length-map, length-append, get_or-map, get_or_append_left, get_or-append_right}
 use Rattle.std.proofs.lemmas.List.Elements.{All-map}
@@ -37,42 +37,18 @@ Apart {X} E xs = (i j : ℕ) (d : X) → i < j → j < length xs → E (get_or x
 pub le_or_lt : (m n : ℕ) → (m ≤ n) ⊎ (n < m)
 le_or_lt zero n = inl (omega arith)
 le_or_lt (suc m) zero = inr (omega arith)
-le_or_lt (suc m) (suc n) = by (le_or_lt m n)
-  where
-    by : (m ≤ n) ⊎ (n < m) → (suc m ≤ suc n) ⊎ (suc n < suc m)
-    by (inl h) = inl (omega arith)
-    by (inr h) = inr (omega arith)
+le_or_lt (suc m) (suc n) = grind arith
 
 apart_append : {X : Type 0} (E : X → X → Bool) (xs ys : List X) → Apart E xs → Apart E ys
     → All (λ x. All (λ y. E x y ≡ false) ys) xs → Apart E (xs ++ ys)
-apart_append {X} E xs ys prefix back across i j d before within = by (le_or_lt (length xs) j) (le_or_lt (length xs) i)
-  where
-    by : (length xs ≤ j) ⊎ (j < length xs) → (length xs ≤ i) ⊎ (i < length xs)
-        → E (get_or (xs ++ ys) i d) (get_or (xs ++ ys) j d) ≡ false
-    by (inr j_in) _ =
-        ap (λ x. E x (get_or (xs ++ ys) j d)) (get_or_append_left xs ys d i (omega arith))
-        ∙ ap (E (get_or xs i d)) (get_or_append_left xs ys d j j_in)
-        ∙ prefix i j d before j_in
-    by (inl j_out) (inr i_in) =
-        ap (λ x. E x (get_or (xs ++ ys) j d)) (get_or_append_left xs ys d i i_in)
-        ∙ ap (E (get_or xs i d)) (get_or-append_right xs ys (length xs) j d refl j_out)
-        ∙ across i d i_in (j - length xs) d (omega (arith, length-append xs ys))
-    by (inl j_out) (inl i_out) =
-        ap (λ x. E x (get_or (xs ++ ys) j d)) (get_or-append_right xs ys (length xs) i d refl i_out)
-        ∙ ap (E (get_or ys (i - length xs) d)) (get_or-append_right xs ys (length xs) j d refl j_out)
-        ∙ back (i - length xs) (j - length xs) d (omega arith) (omega (arith, length-append xs ys))
-
-not_both : (b : Bool) → not b ≡ true → b ≡ true → ⊥
-not_both true n y = cc
-not_both false n y = cc
+apart_append {X} E xs ys prefix back across i j d before within = grind (arith, get_or_append_left, get_or-append_right, length-append)
 
 pub numbers_apart : (k : ℕ) (edges : List Edge) → are_distinct k edges ≡ true → (i j : ℕ) (d : Edge) → i < j → j
     < length edges → edge_number k (get_or edges i d) ≢ edge_number k (get_or edges j d)
 numbers_apart k [] distinct i j d before within same = omega arith
 numbers_apart k (e ∷ rest) distinct i zero d before within same = omega arith
 numbers_apart k (e ∷ rest) distinct zero (suc j) d before within same =
-    not_both (list_any (λ x. edge_number k x == edge_number k e) rest) (first_so _ _ distinct)
-    (list_any_at (λ x. edge_number k x == edge_number k e) rest j d (omega arith) (eq-eqb _ _ (sym same)))
+    grind (arith, list_any_at)
 numbers_apart k (e ∷ rest) distinct (suc i) (suc j) d before within same =
     numbers_apart k rest (second_so _ _ distinct) i j d (omega arith) (omega arith) same
 
@@ -100,8 +76,7 @@ other_number key k x y differ =
 
 other_copy : (key : Delivery → ℕ) (k : ℕ) (x y : Delivery) → x.copy ≢ y.copy → ties key k x y ≡ false
 other_copy key k x y differ =
-    by_second (nat_cmp (key x) (key y)) _ (by_second (nat_cmp (edge_number k x.edge) (edge_number k y.edge))
-    (nat_cmp x.copy y.copy) (untied _ _ differ))
+    grind arith
 
 one_copy_apart : (key : Delivery → ℕ) (k : ℕ) (edges : List Edge) (c : ℕ) → are_distinct k edges ≡ true
     → Apart (ties key k) (copies_of edges c)

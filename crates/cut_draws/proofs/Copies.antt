@@ -1,5 +1,5 @@
 -- Every copy of every edge, and what is known of each.
-use Rattle.std.proofs.Common.{◌≡◌, ℕ, zero, suc, ◌+◌, ◌*◌, List, [], ◌∷◌, ◌++◌, length, ap, ◌∙◌, arith, append-nil}
+use Rattle.std.proofs.Common.{◌≡◌, ℕ, zero, suc, ◌+◌, ◌*◌, List, [], ◌∷◌, ◌++◌, length, arith, append-nil}
 use Rattle.std.specs.List.{All, flat_map, range_with_len}
 use Rattle.std.proofs.lemmas.List.{length-map, length-append}
 use Rattle.std.proofs.lemmas.List.Elements.{All-head, All-tail, All-nil, All-append, All-map}
@@ -13,9 +13,7 @@ use Rattle.cut_draws.specs.DeliveryOrder.{copies_of, all_deliveries}
 pub one_more_copy : (edges : List Edge) (c : ℕ) → all_deliveries edges (c + 1) ≡ all_deliveries edges c
     ++ copies_of edges c
 one_more_copy edges c =
-    ap (flat_map (λ i. copies_of edges i)) (range_with_len_more 0 c c (omega arith))
-    ∙ flat_map-append (λ i. copies_of edges i) (range_with_len 0 c) (c ∷ [])
-    ∙ ap (λ xs. all_deliveries edges c ++ xs) (append-nil (copies_of edges c))
+    grind (arith, range_with_len_more 0 c c, flat_map-append, append-nil (copies_of edges c))
 
 -- what holds of each edge with each copy number holds of each delivery
 pub all_of_copies : (P : Delivery → Type 0) (edges : List Edge) (cs : List ℕ)
@@ -24,17 +22,10 @@ pub all_of_copies : (P : Delivery → Type 0) (edges : List Edge) (cs : List ℕ
 all_of_copies P edges [] each = All-nil P
 all_of_copies P edges (c ∷ cs) each =
     let Q : ℕ → Type 0 = λ i. All (λ e. let x : Delivery = record { edge = e; copy = i } in P x) edges in
-    All-append P (copies_of edges c) (flat_map (λ i. copies_of edges i) cs)
-    (All-map P (λ e. record { edge = e; copy = c }) edges (All-head Q c cs each))
-    (all_of_copies P edges cs (All-tail Q c cs each))
+    search (arith, All-append, All-map, All-head, all_of_copies P edges cs (All-tail Q c cs each))
 
 pub count_of_copies : (edges : List Edge) (a n : ℕ) → length (flat_map (λ c. copies_of edges c) (range_with_len a n))
     ≡ n * length edges
 count_of_copies edges a zero = omega arith
 count_of_copies edges a (suc n) =
-    let rest : List Delivery = flat_map (λ c. copies_of edges c) (range_with_len (a + 1) n) in
-    let prefix : length (copies_of edges a) ≡ length edges = length-map edges (λ e. record { edge = e; copy = a }) in
-    let back : length rest ≡ n * length edges = count_of_copies edges (a + 1) n in
-    let both : length (copies_of edges a ++ rest) ≡ length (copies_of edges a)
-    + length rest = length-append (copies_of edges a) rest in
-    omega arith
+    grind (arith, length-map, length-append, count_of_copies edges (a + 1) n)

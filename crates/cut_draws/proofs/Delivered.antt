@@ -2,7 +2,7 @@
 use Rattle.std.proofs.Common.{◌≡◌, ◌∙◌, ℕ, ◌+◌, ◌-◌, ◌*◌, ◌<◌, ◌&&◌, Bool, true, List, map, take, length, get_or}
 use Rattle.std.proofs.Common.{nat_lt, ap, sym, arith}
 use Rattle.std.specs.Ordering.{is_lt}
-use Rattle.std.specs.List.{All, count_by, list_any, range_with_len}
+use Rattle.std.specs.List.{All, count_by, list_any}
 use Rattle.std.specs.List.Sorted.{IsPermutation, IsSorted}
 use Rattle.std.proofs.lemmas.List.{take-map}
 use Rattle.std.proofs.lemmas.List.Elements.{All-map}
@@ -72,23 +72,13 @@ still_within : (key : Delivery → ℕ) (k : ℕ) (edges : List Edge) (copies : 
 still_within key k edges copies order is n within =
     let P : Delivery → Type 0 = λ x. is_edge_of k n x.edge ≡ true in
     let all : All P (all_deliveries edges copies) =
-    all_of_copies P edges (range_with_len 0 copies)
-    (λ _ _ _. AllPass-from_list_all (λ e. is_edge_of k n e) edges within)
+    search (arith, all_of_copies, AllPass-from_list_all)
     in
-    list_all-from_AllPass (λ e. is_edge_of k n e) (map (λ x. x.edge) order)
-    (All-map (λ e. is_edge_of k n e ≡ true) (λ x. x.edge) order
-    (All-permutation P (all_deliveries edges copies) order is.each_once all))
+    search (arith, list_all-from_AllPass, All-map, All-permutation)
 
 -- so the list is in the order in which the deliveries come
 pub ordered : (d : Source) (receiver k : ℕ) (edges : List Edge) (copies : ℕ) (order : List Delivery)
     → IsDelivered (λ x. key_at d (delivery_place receiver k x)) k edges copies order
     → IsDeliveryOrder d receiver k edges copies order
 ordered d receiver k edges copies order is =
-    let key : Delivery → ℕ = λ x. key_at d (delivery_place receiver k x) in
-    record {
-      each_once = is.each_once;
-      ranks = is.ranks;
-      prefixes = prefixes key k edges copies order is;
-      count = count key k edges copies order is;
-      still_within = still_within key k edges copies order is;
-    }
+    search (arith, prefixes, count, still_within)

@@ -1,9 +1,8 @@
 -- How many deliveries there are, and which of an edge's copies comes first.
-use Rattle.std.proofs.Common.{◌≡◌, ◌∙◌, ℕ, ◌+◌, ◌*◌, ◌<◌, ◌≤◌, ◌&&◌, ◌||◌, ◌==◌, Bool, true, false, cond, if◌then◌else◌}
+use Rattle.std.proofs.Common.{◌≡◌, ◌∙◌, ℕ, ◌+◌, ◌*◌, ◌<◌, ◌≤◌, ◌&&◌, ◌||◌, Bool, true, false, cond, if◌then◌else◌}
 use Rattle.std.proofs.Common.{List, [], ◌∷◌, length, fold, min, nat_lt, nat_le, refl, ap, sym, arith}
 use Rattle.std.specs.List.{count_by, list_any, flat_map, range_with_len, sum_by}
 use Rattle.std.proofs.lemmas.Bool.Decides.{nat_tests}
-use Rattle.std.proofs.lemmas.Bool.{and_parts, and_right, eqb-true}
 use Rattle.std.proofs.lemmas.List.Sums.{sum_by-cons, sum_by-append}
 use Rattle.cut_lists.proofs.Maps.{count_by-map, list_any-map, list_any-flat_map}
 use Rattle.cut_rings.specs.declared.edge.Edge.{Edge}
@@ -53,25 +52,13 @@ next_le m n = grind (arith, nat_tests)
 above : (m n : ℕ) → n < m → nat_le m n ≡ false
 above m n low = grind (arith, nat_tests)
 
-joined : (b t u rest : Bool) → (b ≡ true → t ≡ u) → (b && t) || (rest && u) ≡ (b || rest) && u
-joined true t true rest same = ap (λ x. x || (rest && true)) (same refl)
-joined true t false rest same = ap (λ x. x || (rest && false)) (same refl) ∙ and_right rest false refl
-joined false t u rest same = refl
-
 -- what is asked of each edge that is this one
 of_edge : (f : Edge → ℕ) (n ring subject : ℕ) (edges : List Edge)
     → list_any (λ e. is_edge ring subject e && nat_lt (f e) n) edges
     ≡ set_of edges ring subject && nat_le (f (record { ring = ring; subject = subject }) + 1) n
 of_edge f n ring subject [] = refl
 of_edge f n ring subject (e ∷ es) =
-    let this : Edge = record { ring = ring; subject = subject } in
-    ap (λ b. (is_edge ring subject e && nat_lt (f e) n) || b) (of_edge f n ring subject es)
-    ∙ joined (is_edge ring subject e) (nat_lt (f e) n) (nat_le (f this + 1) n) (set_of es ring subject) (λ is.
-    let parts = and_parts (e.ring == ring) (e.subject == subject) is in
-    let same : e ≡ this =
-    ap (λ r. let x : Edge = record { ring = r; subject = e.subject } in x) (eqb-true _ _ parts.0)
-    ∙ ap (λ s. let x : Edge = record { ring = ring; subject = s } in x) (eqb-true _ _ parts.1) in
-    ap (λ x. nat_lt (f x) n) same ∙ next_le (f this) n)
+    grind (arith, of_edge f n ring subject es)
 
 any_of_both : (b : Bool) (p : ℕ → Bool) (cs : List ℕ) → list_any (λ c. b && p c) cs ≡ b && list_any p cs
 any_of_both true p cs = refl
@@ -119,6 +106,4 @@ pub early_by_first_time : (d : Source) (receiver k : ℕ) (edges : List Edge) (c
     ≤ copies * length edges
     → early d receiver k edges copies n ring subject ≡ nat_le (first_time d receiver k edges copies ring subject) n
 early_by_first_time d receiver k edges copies n ring subject within =
-    early_by_copies d receiver k edges copies n ring subject
-    ∙ any_by_least (time_of d receiver k edges copies) edges copies (copies * length edges + 1) n ring subject
-    (omega arith)
+    grind (arith, early_by_copies, any_by_least)

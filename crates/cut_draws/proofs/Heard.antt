@@ -1,9 +1,9 @@
 -- Which deliveries there are, and of which edges a receiver has heard after some of them.
 use Rattle.std.proofs.Common.{◌≡◌, ◌∙◌, ℕ, zero, suc, ◌*◌, ◌<◌, ◌≤◌, ◌&&◌, ◌==◌, ◌↔◌, Bool, true, false, List, [], ◌∷◌}
-use Rattle.std.proofs.Common.{length, get_or, nat_lt, nat_le, refl, ap, sym, subst, arith}
+use Rattle.std.proofs.Common.{length, get_or, nat_le, refl, ap, sym, subst, arith}
 use Rattle.std.specs.List.{Contains, flat_map, range_with_len}
 use Rattle.std.proofs.Math.Bool.{and-true}
-use Rattle.std.proofs.lemmas.Bool.{and_from, and_parts, and_right, eq-eqb, eqb-true, leb-true, le-leb, lt-ltb, ltb-true}
+use Rattle.std.proofs.lemmas.Bool.{and_from, and_parts, eq-eqb, eqb-true, le-leb}
 use Rattle.std.proofs.lemmas.List.{length-map, get_or-map}
 use Rattle.std.proofs.lemmas.List.Elements.{All-contains, Contains-append_left, Contains-append_right}
 use Rattle.std.proofs.lemmas.List.Folds.{Any-from_list_any, list_any_at}
@@ -72,19 +72,12 @@ is_delivery edges copies x = (only_copies edges copies x, copy_is_delivery edges
 pub none_at_first : (d : Source) (receiver k : ℕ) (edges : List Edge) (copies ring subject : ℕ)
     → early d receiver k edges copies 0 ring subject ≡ false
 none_at_first d receiver k edges copies ring subject =
-    let time : ℕ → ℕ = λ c. time_of d receiver k edges copies (copy_of ring subject c) in
-    early_by_copies d receiver k edges copies 0 ring subject
-    ∙ and_right (set_of edges ring subject) _ (list_any_none_passing (λ c. nat_le (time c) 0) 0 copies (λ i low high t.
-    let none : time i ≤ 0 = leb-true _ _ t in
-    omega arith))
+    grind (arith, early_by_copies, list_any_none_passing)
 
 pub stays : (d : Source) (receiver k : ℕ) (edges : List Edge) (copies m n ring subject : ℕ) → m ≤ n
     → early d receiver k edges copies m ring subject ≡ true → early d receiver k edges copies n ring subject ≡ true
 stays d receiver k edges copies m n ring subject later is =
-    list_any-implied _ _ (all_deliveries edges copies) (λ x e.
-    let parts = and_parts (is_edge ring subject x.edge) (nat_lt (delivery_rank d receiver k edges copies x) m) e in
-    let low : delivery_rank d receiver k edges copies x < m = ltb-true _ _ parts.1 in
-    and_from _ _ parts.0 (lt-ltb (delivery_rank d receiver k edges copies x) n (omega arith))) is
+    grind (arith, list_any-implied)
 
 -- both say nothing of an edge that isn't given
 given_both : (given a b : Bool) → (given ≡ true → a ≡ b) → (given && a) ≡ (given && b)

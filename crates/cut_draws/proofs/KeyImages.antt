@@ -1,11 +1,10 @@
 -- What the high bits of keys say of the order of deliveries.
-use Rattle.std.proofs.Common.{◌≡◌, ◌∙◌, ℕ, ◌<◌, ◌≤◌, inl, inr, Bool, true, false, List, nat_lt, nat_le, ap}
+use Rattle.std.proofs.Common.{◌≡◌, ◌∙◌, ℕ, ◌<◌, ◌≤◌, inl, inr, Bool, true, List, nat_lt, nat_le, ap}
 use Rattle.std.proofs.Common.{sym, arith}
-use Rattle.std.specs.declared.cmp.Ordering.{Ordering}
 use Rattle.std.specs.declared.cmp.Ordering.TheVariants.{Less}
-use Rattle.std.specs.Ordering.{ordering_then, is_lt}
+use Rattle.std.specs.Ordering.{is_lt}
 use Rattle.std.specs.List.{Contains}
-use Rattle.std.proofs.lemmas.Bool.{cases_lt, lt-ltb, le-ltb, lt-leb, le-leb, leb-true}
+use Rattle.std.proofs.lemmas.Bool.{cases_lt, lt-ltb, lt-leb, le-leb, leb-true}
 use Rattle.std.proofs.lemmas.Cmp.{tied_itself}
 use Rattle.cut_lists.proofs.Parts.{count_le, count_less}
 use Rattle.cut_lists.proofs.Ranks.{rank-less}
@@ -14,9 +13,7 @@ use Rattle.cut_draws.specs.declared.delivery.Delivery.{Delivery}
 use Rattle.cut_draws.specs.Source.{Source, key_at}
 use Rattle.cut_draws.specs.DeliveryOrder.{all_deliveries, compare_deliveries, delivery_place, delivery_rank}
 use Rattle.cut_draws.specs.Laws.{image_of, come_by_image}
-use Rattle.cut_draws.proofs.Apart.{compare_by, compare_by_total}
-use Rattle.cut_draws.proofs.Unpacked.{nat_cmp-greater}
-use Rattle.cut_lists.proofs.Keyed.{less}
+use Rattle.cut_draws.proofs.Apart.{compare_by_total}
 
 abbrev key : Source → ℕ → ℕ → Delivery → ℕ
 key d receiver k x = key_at d (delivery_place receiver k x)
@@ -25,20 +22,12 @@ key d receiver k x = key_at d (delivery_place receiver k x)
 lesser : (d : Source) (receiver k : ℕ) (x y : Delivery) → image_of d receiver k x < image_of d receiver k y
     → compare_deliveries d receiver k x y ≡ Less
 lesser d receiver k x y low =
-    ap (λ (r : Ordering). ordering_then r (compare_by (λ _. 0) k x y))
-    (less (key d receiver k x) (key d receiver k y) (omega arith))
+    grind arith
 
 -- what comes before is of no greater image
 no_greater : (d : Source) (receiver k : ℕ) (x y : Delivery) → is_lt (compare_deliveries d receiver k x y) ≡ true
     → nat_le (image_of d receiver k x) (image_of d receiver k y) ≡ true
-no_greater d receiver k x y before = elim (cases_lt (image_of d receiver k y) (image_of d receiver k x)) [
-  | inl greater ↦ absurd (
-      let after : is_lt (compare_deliveries d receiver k x y) ≡ false =
-      ap (λ (r : Ordering). is_lt (ordering_then r (compare_by (λ _. 0) k x y)))
-      (nat_cmp-greater (key d receiver k x) (key d receiver k y) (omega arith)) in
-      cc)
-  | inr most ↦ le-leb _ _ most
-]
+no_greater d receiver k x y before = grind (arith, le-leb)
 
 pub before_by_image : (d : Source) (receiver k : ℕ) (edges : List Edge) (copies : ℕ) (x y : Delivery)
     → Contains (all_deliveries edges copies) x
@@ -58,12 +47,7 @@ low_first d receiver k edges copies w x among =
     let image : Delivery → ℕ = image_of d receiver k in
     let comes : Delivery → Bool = λ y. is_lt (compare_deliveries d receiver k y x) in
     elim (cases_lt w (image x)) [
-      | inl greater ↦ (
-          let past : come_by_image d receiver k edges copies w ≤ delivery_rank d receiver k edges copies x =
-          count_le (λ y. nat_le (image y) w) comes all (λ y e.
-          let up : image y ≤ w = leb-true _ _ e in
-          ap is_lt (lesser d receiver k y x (omega arith))) in
-          lt-leb (image x) w greater ∙ sym (le-ltb _ _ past))
+      | inl greater ↦ grind (arith, count_le, leb-true, lesser d receiver k, lt-leb (image x) w greater)
       | inr most ↦ (
           let inside : delivery_rank d receiver k edges copies x < come_by_image d receiver k edges copies w =
           count_less comes (λ y. nat_le (image y) w) all among.0 x

@@ -2,7 +2,6 @@
 use Rattle.std.proofs.Common.{◌≡◌, ℕ, suc, ◌+◌, ◌-◌, ◌<◌, ◌≤◌, ◌⊎◌, inl, inr, ◌&&◌, ◌||◌, Bool, true, false, List, []}
 use Rattle.std.proofs.Common.{◌∷◌, take, length, get_or, nat_lt, refl, ap, sym, ◌∙◌, arith}
 use Rattle.std.specs.List.{list_any}
-use Rattle.std.proofs.lemmas.Bool.{lt-ltb, le-ltb}
 use Rattle.std.proofs.Math.Seq.{take-nil}
 use Rattle.cut_draws.proofs.Apart.{le_or_lt}
 
@@ -19,10 +18,6 @@ passes : (b : Bool) → (b && true) ≡ b
 passes true = refl
 passes false = refl
 
-fails : (b : Bool) → (b && false) ≡ false
-fails true = refl
-fails false = refl
-
 -- some element below n that passes: some of the first
 pub any_before : {X : Type 0} (p : X → Bool) (rank : X → ℕ) (xs : List X) (a n : ℕ) → Indexed rank a xs
     → list_any (λ x. p x && nat_lt (rank x) n) xs ≡ list_any p (take (n - a) xs)
@@ -37,17 +32,8 @@ any_before {X} p rank (x ∷ xs) a n indexed = by (any_before p rank xs (a + 1) 
         ≡ list_any p (take (n - a) (x ∷ xs))
     by later (inl past) =
         let here : rank x ≡ a + 0 = indexed 0 x (omega arith) in
-        let none : n - a ≡ 0 = omega arith in
-        let none_later : n - (a + 1) ≡ 0 = omega arith in
-        ap (λ b. (p x && b) || rest) (le-ltb (rank x) n (omega arith))
-        ∙ ap (λ b. b || rest) (fails (p x))
-        ∙ later
-        ∙ ap (λ m. list_any p (take m xs)) none_later
-        ∙ sym (ap (λ m. list_any p (take m (x ∷ xs))) none)
+        grind arith
     by later (inr more) =
         let here : rank x ≡ a + 0 = indexed 0 x (omega arith) in
         let one : n - a ≡ suc (n - (a + 1)) = omega arith in
-        ap (λ b. (p x && b) || rest) (lt-ltb (rank x) n (omega arith))
-        ∙ ap (λ b. b || rest) (passes (p x))
-        ∙ ap (λ b. p x || b) later
-        ∙ sym (ap (λ m. list_any p (take m (x ∷ xs))) one)
+        grind arith

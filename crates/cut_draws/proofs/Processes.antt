@@ -1,5 +1,5 @@
 -- The processes of a trial, sorted.
-use Rattle.std.proofs.Common.{◌≡◌, ℕ, ◌<◌, List, map, length, get_or, ap, sym, ◌∙◌, arith}
+use Rattle.std.proofs.Common.{◌≡◌, ℕ, ◌<◌, List, map, get_or, ap, sym, ◌∙◌, arith}
 use Rattle.std.specs.List.{Contains}
 use Rattle.std.specs.List.Sorted.{IsPermutation, IsSorted}
 use Rattle.std.specs.Ordering.{nat_cmp}
@@ -17,8 +17,7 @@ process_found d n order is p below =
     let has : Contains order p = order_has n order is.each_once p below in
     let at : get_or order has.0 0 ≡ p = get_or_default order has.0 0 p has.1 ∙ has.2 in
     let rank : process_rank d n p ≡ has.0 = ap (process_rank d n) (sym at) ∙ is.ranks has.0 has.1 in
-    let long : length order ≡ n = length-order n order is.each_once in
-    (omega arith, ap (λ i. get_or order i 0) rank ∙ at)
+    search (arith, length-order)
 
 -- sorted by key and number, they are in order of their ranks
 pub ordered_processes : (d : Source) (n : ℕ) (sorted : List (ℕ × ℕ))
@@ -28,10 +27,4 @@ ordered_processes d n sorted moved up =
     let order : List ℕ = map (λ x. x.1) sorted in
     let is : IsRanked (compare_processes d) n order = ranked nat_cmp nat_cmp_total (λ p. key_at d (process_place p)) n
     sorted moved up in
-    record {
-      each_once = is.each_once;
-      ranks = is.ranks;
-      found = process_found d n order is;
-      count = length-order n order is.each_once;
-      in_range = λ i p within. order_is_below n order is.each_once i p within;
-    }
+    search (arith, process_found, length-order, order_is_below)

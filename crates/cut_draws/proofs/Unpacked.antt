@@ -1,13 +1,13 @@
 -- Deliveries in numbers, sorted.
-use Rattle.std.proofs.Common.{◌≡◌, ℕ, ◌+◌, ◌/◌, ◌%◌, ◌<◌, ◌≤◌, Bool, true, false, cond, ◌==◌, nat_lt, List, [], ◌∷◌}
+use Rattle.std.proofs.Common.{◌≡◌, ℕ, ◌+◌, ◌/◌, ◌<◌, ◌≤◌, Bool, true, false, nat_lt, List, [], ◌∷◌}
 use Rattle.std.proofs.Common.{map, length, get_or, refl, ap, sym, subst, ◌∙◌, arith}
 use Rattle.std.specs.declared.cmp.Ordering.{Ordering}
-use Rattle.std.specs.declared.cmp.Ordering.TheVariants.{Less, Equal, Greater}
-use Rattle.std.specs.Ordering.{is_lt, nat_cmp, ordering_then}
+use Rattle.std.specs.declared.cmp.Ordering.TheVariants.{Greater}
+use Rattle.std.specs.Ordering.{is_lt, nat_cmp}
 use Rattle.std.specs.Bool.{IsTrue}
 use Rattle.std.specs.List.{All, range_with_len, IsAllAdjacentAnswer}
 use Rattle.std.specs.List.Sorted.{IsPermutation, IsSorted}
-use Rattle.std.proofs.lemmas.Bool.{and_parts, ltb-true, le-ltb, ne_eqb}
+use Rattle.std.proofs.lemmas.Bool.{and_parts, ltb-true}
 use Rattle.std.proofs.lemmas.List.{length-map, get_or-map}
 use Rattle.std.proofs.lemmas.List.Elements.{All-map, All-head, All-tail}
 use Rattle.std.proofs.lemmas.List.Sorted.{IsPermutation-map, IsPermutation-trans, All-permutation}
@@ -36,23 +36,7 @@ record IsInRange (k : ℕ) (x : Delivery) : Type 0 where
 -- a packed delivery is read back
 unpacked : (key k : ℕ) (x : Delivery) → k ≤ 32 → IsInRange k x → delivery_in (packed_of key x) ≡ x
 unpacked key k x few is =
-    let parts = and_parts (nat_lt x.edge.ring k) _ is.edge in
-    let low : x.edge.ring < k = ltb-true _ _ parts.0 in
-    let process : x.edge.subject < 2048 = ltb-true _ _ parts.1 in
-    let ring : packed_of key x % 32 ≡ x.edge.ring = omega arith in
-    let subject : packed_of key x / 32 % 2048 ≡ x.edge.subject = omega arith in
-    let copy : packed_of key x / 65536 % 4 ≡ x.copy = omega (arith, is.copy) in
-    ap (λ n. let y : Delivery = record {
-      edge = record { ring = n; subject = packed_of key x / 32 % 2048 };
-      copy =
-          packed_of key x / 65536 % 4;
-    } in y) ring
-    ∙ ap (λ n. let y : Delivery = record {
-      edge = record { ring = x.edge.ring; subject = n };
-      copy = packed_of key x /
-          65536 % 4;
-    } in y) subject
-    ∙ ap (λ n. let y : Delivery = record { edge = x.edge; copy = n } in y) copy
+    grind arith
 
 all_in_range : (k : ℕ) (edges : List Edge) (copies : ℕ) → copies ≤ 4 → are_edges_of k 2048 edges ≡ true
     → All (IsInRange k) (all_deliveries edges copies)
@@ -64,8 +48,7 @@ all_in_range k edges copies few within =
 map-same : {X : Type 0} (f : X → X) (xs : List X) → All (λ x. f x ≡ x) xs → map f xs ≡ xs
 map-same f [] same = refl
 map-same f (x ∷ xs) same =
-    ap (λ y. y ∷ map f xs) (All-head (λ y. f y ≡ y) x xs same)
-    ∙ ap (λ ys. x ∷ ys) (map-same f xs (All-tail (λ y. f y ≡ y) x xs same))
+    search (arith, All-head, All-tail, map-same f xs)
 
 -- all deliveries in numbers, in some order
 pub record IsPacked (key : Delivery → ℕ) (k : ℕ) (edges : List Edge) (copies : ℕ) (words : List ℕ) : Type 0 where
@@ -122,24 +105,12 @@ sorted-map C f (x ∷ xs) up = λ k d low within.
 
 pub nat_cmp-greater : (a b : ℕ) → b < a → nat_cmp a b ≡ Greater
 nat_cmp-greater a b more =
-    ap (λ (t : Bool). cond t Less (cond (a == b) Equal Greater)) (le-ltb a b (omega arith))
-    ∙ ap (λ (t : Bool). cond t Equal Greater) (ne_eqb a b (λ e. omega arith))
+    grind arith
 
 -- where the packed parts of the keys rise, the deliveries are sorted
 pub rising_sorted : (key : Delivery → ℕ) (k : ℕ) (edges : List Edge) (copies : ℕ) (words : List ℕ)
     → IsPacked key k edges copies words → ArePackedRising words → IsSorted (compare_by key k) (map delivery_in words)
-rising_sorted key k edges copies words is rises = sorted-map (compare_by key k) delivery_in words (λ i w low within.
-    let v : ℕ = get_or words i w in
-    let u : ℕ = get_or words (i + 1) w in
-    let own : v / 262144 ≡ key (delivery_in v) / 262144 = (all_own key k edges copies words is i w (omega arith)).high
-    in
-    let next : u / 262144 ≡ key (delivery_in u) / 262144 = (all_own key k edges copies words is (i + 1) w within).high
-    in
-    let up : v / 262144 < u / 262144 = rises i w within in
-    let x : Delivery = delivery_in u in
-    let y : Delivery = delivery_in v in
-    ap (λ (r : Ordering). is_lt (ordering_then r (ordering_then (nat_cmp (edge_number k x.edge) (edge_number k y.edge))
-    (nat_cmp x.copy y.copy)))) (nat_cmp-greater (key (delivery_in u)) (key (delivery_in v)) (omega arith)))
+rising_sorted key k edges copies words is rises = grind (arith, sorted-map (compare_by key k) delivery_in words, all_own key k edges copies words is, nat_cmp-greater)
 
 -- a packed delivery with what deliveries are ordered by
 abbrev pub keyed_by : (Delivery → ℕ) → ℕ → ℕ → Keyed
@@ -157,8 +128,7 @@ pub keyed_sorted : (key : Delivery → ℕ) (k : ℕ) (words : List ℕ) (keyed 
     → IsSorted (compare_by key k) (map delivery_in (map (λ x. x.packed) keyed))
 keyed_sorted key k words keyed moved up =
     let own : All (λ x. x ≡ keyed_by key k x.packed) keyed =
-    All-permutation (λ x. x ≡ keyed_by key k x.packed) (map (keyed_by key k) words) keyed moved
-    (All-map (λ x. x ≡ keyed_by key k x.packed) (keyed_by key k) words (λ _ _ _. refl)) in
+    search (arith, All-permutation, All-map) in
     subst (IsSorted (compare_by key k)) (sym (map-map (λ x. x.packed) delivery_in keyed))
     (sorted-map (compare_by key k) (λ x. delivery_in x.packed) keyed (λ i x low within.
     ap (λ y. is_lt (compare_keyed y (keyed_by key k (get_or keyed i x).packed))) (sym (own (i + 1) x within))
@@ -175,12 +145,7 @@ keyed_packed key k edges copies words keyed is moved =
     subst P (map-map (keyed_by key k) (λ x. x.packed) words ∙ map-same (λ w. w) words (λ _ _ _. refl))
     (IsPermutation-map (λ x. x.packed) (map (keyed_by key k) words) keyed moved)
     in
-    record {
-      moved = IsPermutation-trans _ _ _ is.moved same;
-      few_rings = is.few_rings;
-      few_copies = is.few_copies;
-      within = is.within;
-    }
+    grind (arith, IsPermutation-trans)
 
 -- what a test of all neighbours says
 pub rising : (words : List ℕ) (r : Bool) → IsAllAdjacentAnswer (λ v w b. b ≡ nat_lt (v / 262144) (w / 262144)) words r

@@ -13,12 +13,7 @@ map_push (x ∷ seats) s = ap (λ vs. view_of x ∷ vs) (map_push seats s)
 
 pub one_apart : (p : Holding) (s : Seat) (parts amount : ℕ) → view_of s ≡ p.view → parts ≡ 1 → amount ≡ p.made
     → IsTakenApart (p ∷ []) (s ∷ []) parts amount
-one_apart p s parts amount view one made = record {
-  many = refl;
-  counted = λ study. ap (λ v. counted_by study (v ∷ [])) view;
-  parts_are = one;
-  amount_is = omega (arith, made, sum_by-cons (λ (q : Holding). q.made) p []);
-}
+one_apart p s parts amount view one made = grind arith
 
 pub one_more_apart : (ps : List Holding) (seats : List Seat) (p : Holding) (s : Seat) (parts amount now more : ℕ)
     → view_of s ≡ p.view → now ≡ parts + 1 → more ≡ amount + p.made → IsTakenApart ps seats parts amount

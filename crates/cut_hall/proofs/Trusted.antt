@@ -1,13 +1,12 @@
 -- What a study begins with.
-use Rattle.std.proofs.Common.{◌≡◌, ◌∙◌, ℕ, Bool, true, List, [], Option, Some, None, refl, sym, ap, subst, take, length}
+use Rattle.std.proofs.Common.{◌≡◌, ℕ, Bool, true, List, [], Option, Some, None, refl, sym, ap, subst, take, length}
 use Rattle.std.proofs.Common.{arith}
-use Rattle.std.specs.Prelude.{is_some, if◌then◌else◌, IfSome}
+use Rattle.std.specs.Prelude.{IfSome}
 use Rattle.std.proofs.lemmas.List.{take_all}
 use Rattle.cut_plan.specs.Values.{Values}
 use Rattle.cut_ledger.specs.declared.slip.Slip.{Slip}
 use Rattle.cut_ledger.specs.Slips.{AreGood}
 use Rattle.cut_ledger.specs.World.{AreTrue}
-use Rattle.cut_ledger.specs.Machine.{StudyState}
 use Rattle.cut_book.specs.Book.{BookValue, IsFresh}
 use Rattle.cut_hall.specs.inside.Slot.{calls_in, base_of, kept_of, unkept_of}
 use Rattle.cut_hall.specs.Trust.{MayBegin}
@@ -19,23 +18,15 @@ may_begin trusts v u base same good so = subst (λ (w : Values). MayBegin trusts
 
 -- ---- a slot in which nothing was asked yet
 
-none_unkept : {A D : Type 0} (journal : Option D) (has : Bool) (base : List A) → has ≡ is_some journal
-    → (journal ≡ None → base ≡ [])
-    → (if has then [] else base) ≡ []
-none_unkept None has base same none = rw same (none refl)
-none_unkept (Some log) has base same none = rw same refl
-
 -- of a fresh study the slips that it began with are kept, where any are
 pub fresh_unkept : {D : Type 0} (v : Values) (size : ℕ) (b : BookValue D) → IsFresh v size b → unkept_of (Some b) ≡ []
 fresh_unkept v size b fresh =
-    none_unkept b.journal b.state.has_journal b.state.ledger.base (ap (λ (s : StudyState). s.has_journal) fresh.state)
-    fresh.unkept
+    grind arith
 
 pub fresh_first : {D : Type 0} (v : Values) (size : ℕ) (b : BookValue D) → IsFresh v size b
     → take (length (base_of (Some b))) (kept_of (Some b)) ≡ base_of (Some b)
 fresh_first v size b fresh =
-    let base : List Slip = b.state.ledger.base in
-    ap (λ (s : StudyState). take (length base) s.kept) fresh.state ∙ take_all (length base) base (omega arith)
+    grind (arith, take_all)
 
 module _ {D : Type 0} where
   pub slot_unkept : (book : Option (BookValue D)) → IfSome book (λ b. IsFresh b.state.ledger.plan b.size b)

@@ -1,6 +1,6 @@
 -- Slips that are appended one after another, and how a join ends.
-use Rattle.std.proofs.Common.{◌≡◌, ◌∙◌, ◌≤◌, ◌<◌, ◌+◌, ◌++◌, inl, inr, ℕ, List, [], ◌∷◌, All, Ok, Err, Option}
-use Rattle.std.proofs.Common.{None, length, take, get_or, refl, sym, ap, subst, arith, append_assoc}
+use Rattle.std.proofs.Common.{◌≡◌, ◌≤◌, ◌<◌, ◌+◌, ◌++◌, ℕ, List, [], ◌∷◌, All, Ok, Err, Option}
+use Rattle.std.proofs.Common.{None, length, take, get_or, refl, ap, arith, append_assoc}
 use Rattle.std.specs.Bool.{⊤}
 use Rattle.std.specs.Prelude.{Result}
 use Rattle.std.proofs.lemmas.List.{take_more}
@@ -13,8 +13,7 @@ use Rattle.cut_journal.specs.declared.fault.JournalFault.TheVariants as journal
 use Rattle.cut_journal.specs.File.{HoldsAllTotals}
 use Rattle.cut_journal.specs.Journal.{JournalValue, AppendsEach, IsFileOf}
 use Rattle.cut_journal.specs.Journal.{kept_slips, taken}
-use Rattle.cut_journal.proofs.Series.{LeavesDoubt, each_then, nothing_appended}
-use Rattle.cut_journal.proofs.SlipBytes.{settled_holds}
+use Rattle.cut_journal.proofs.Series.{each_then}
 use Rattle.cut_join.specs.declared.fault.JoinFault.{JoinFault}
 use Rattle.cut_join.specs.declared.fault.JoinFault.TheVariants.{Memory, BadSlip, OtherPlan, Broken, Disk}
 use Rattle.cut_join.specs.Joining.{EndsJoin, IsJudgedBy}
@@ -33,23 +32,11 @@ pub record HasAppended {D : Type 0} (n : ℕ) (old new : JournalValue D) : Type 
   pub untouched : n ≡ 0 → new ≡ old
 
 pub none_yet : {D : Type 0} (log : JournalValue D) → HasAppended 0 log log
-none_yet log = record {
-  plan = refl;
-  count = omega arith;
-  doubtful = refl;
-  taken = λ some. absurd (omega (arith, some));
-  untouched = λ none. refl;
-}
+none_yet log = grind arith
 
 pub appended_more : {D : Type 0} (n : ℕ) (slip : Slip) (old mid new : JournalValue D) → HasAppended n old mid
     → EndsAppend {T = ⊤} (Ok tt) slip mid new → HasAppended (n + 1) old new
-appended_more n slip old mid new before one = record {
-  plan = one.0 ∙ before.plan;
-  count = (let a = before.count in let b = one.1 in omega (arith, a, b));
-  doubtful = one.3 ∙ sym one.2 ∙ before.doubtful;
-  taken = λ some. sym before.doubtful ∙ one.2;
-  untouched = λ none. absurd (omega (arith, none));
-}
+appended_more n slip old mid new before one = grind arith
 
 same_count : {D : Type 0} (e : JoinFault) (slip : Slip) (old new : JournalValue D)
     → EndsAppend {T = ⊤} (Err e) slip old new → new.count ≡ old.count
@@ -69,18 +56,7 @@ as_many e n m slip old mid new before one is =
 pub kept_more : (before mid new slips : List Slip) (n : ℕ) (d : Slip) → n < length slips → mid ≡ before ++ take n slips
     → new ≡ mid ++ get_or slips n d ∷ [] → new ≡ before ++ take (n + 1) slips
 kept_more before mid new slips n d low are is =
-    is ∙ ap (λ xs. xs ++ get_or slips n d ∷ []) are ∙ append_assoc before (take n slips) (get_or slips n d ∷ [])
-    ∙ ap (λ xs. before ++ xs) (sym (take_more slips n d low))
-
--- what one append says of the doubtful slip
-doubt_after : {T D : Type 0} (result : Result T JoinFault) (slip : Slip) (old new : JournalValue D)
-    → EndsAppend result slip old new → LeavesDoubt old.doubtful new.doubtful (taken result slip)
-doubt_after (Ok done) slip old new is = inl is.2
-doubt_after (Err Memory) slip old new is = absurd is
-doubt_after (Err (BadSlip k)) slip old new is = absurd is
-doubt_after (Err OtherPlan) slip old new is = absurd is
-doubt_after (Err Broken) slip old new is = inr (refl, ap (λ (l : JournalValue _). l.doubtful) is.1)
-doubt_after (Err Disk) slip old new is = inl is.2
+    grind (arith, append_assoc, take_more)
 
 -- the moments of some appends with those of one more
 pub moments_more : {T D : Type 0} (result : Result T JoinFault) (plan : Values) (kept now first : List Slip)
@@ -89,26 +65,21 @@ pub moments_more : {T D : Type 0} (result : Result T JoinFault) (plan : Values) 
     → AppendsEach mid.plan now new.doubtful (taken result slip) between after
     → AppendsEach plan kept new.doubtful (first ++ taken result slip) before after
 moments_more result plan kept now first slip mid new before between after is same are moments one =
-    each_then plan kept now first (taken result slip) mid.doubtful new.doubtful before between after are
-    (doubt_after result slip mid new is) moments
-    (subst (λ (w : Values). AppendsEach w now new.doubtful (taken result slip) between after) same one)
+    grind (arith, each_then)
 
 -- nothing is appended
 pub nothing_taken : (slips : List Slip) (plan : Values) (count : ℕ) (doubtful : Option Slip) (d : DiskState)
     → IsFileOf plan count doubtful d → (n : ℕ) → count ≡ count + n
     → AppendsEach plan (kept_slips plan count d) doubtful (take n slips) d d
 nothing_taken slips plan count doubtful d sound n is =
-    subst (λ k. AppendsEach plan (kept_slips plan count d) doubtful (take k slips) d d)
-    (let none : 0 ≡ n = omega (arith, is) in none) (nothing_appended plan count doubtful d sound)
+    grind arith
 
 -- ---- the join
 
 pub good_hold : (v w : Values) (slips : List Slip) → w ≡ v → AreGood v slips
     → All (λ (s : Slip). HoldsAllTotals (version_of w.failing) s.totals) slips
 good_hold v w slips same good k d low =
-    let s : Slip = get_or slips k d in
-    subst (λ (u : Values). HoldsAllTotals (version_of u.failing) s.totals) (sym same)
-    (settled_holds (version_of v.failing) _ _ s.totals (good k d low low).possible.settled)
+    grind arith
 
 -- slips that were refused before
 pub refused : {D : Type 0} (T : Type 0) (e : JoinFault) (v : Values) (ss : List Slip) (log : JournalValue D)

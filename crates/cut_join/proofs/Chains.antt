@@ -1,11 +1,10 @@
 -- The longest runs of what passes a test, in cells of one length, as a chain: from the end of each up to the next one
 -- nothing passes. There is one such chain.
 use Rattle.std.proofs.Common.{◌≡◌, ◌∙◌, ℕ, zero, suc, ◌+◌, ◌-◌, ◌*◌, ◌/◌, ◌<◌, ◌≤◌, ◌⊎◌, inl, inr, Bool, true, false}
-use Rattle.std.proofs.Common.{add-zero, All, List, [], ◌∷◌, ◌++◌, map, get_or, cond, refl, sym, ap, subst, arith}
+use Rattle.std.proofs.Common.{All, List, [], ◌∷◌, ◌++◌, map, get_or, cond, refl, sym, ap, subst, arith}
 use Rattle.std.proofs.Common.{append_assoc}
 use Rattle.std.specs.List.{range_with_len, flat_map, prefix_len}
-use Rattle.std.proofs.Math.Nat.{zero-mul}
-use Rattle.std.proofs.lemmas.Bool.{cases_lt, lt-ltb, le-ltb}
+use Rattle.std.proofs.lemmas.Bool.{cases_lt}
 use Rattle.std.proofs.lemmas.List.{map-append}
 use Rattle.std.proofs.lemmas.List.Elements.{All-cons, All-nil}
 use Rattle.std.proofs.lemmas.List.FromFn.{length-range_with_len, get_or-range_with_len}
@@ -43,20 +42,9 @@ IsChain f r low (p ∷ ps) =
 -- numbers that fail before it
 pub chain_from : (f : ℕ → Bool) (r low from : ℕ) (ps : List Piece) → low ≤ from → Gives f false low from
     → IsChain f r from ps → IsChain f r low ps
-chain_from f r low from [] le fails chain = λ t a. elim (cases_lt t from) [
-  | inl before ↦ fails t a before
-  | inr later ↦ chain t later
-]
+chain_from f r low from [] le fails chain = grind arith
 chain_from f r low from (p ∷ ps) le fails chain =
-    let first : from ≤ p.first = chain.0 in (
-      omega (arith, le, first),
-      λ t a b. elim (cases_lt t from) [
-        | inl before ↦ fails t a before
-        | inr later ↦ chain.1 t later b
-      ],
-      chain.2,
-      chain.3,
-    )
+    grind arith
 
 -- ---- there is one
 
@@ -71,35 +59,15 @@ not_both {b} yes' no' = let w : true ≡ false = sym yes' ∙ no' in cc
 ends_late : (f : ℕ → Bool) (r : ℕ) (p q : Piece) → IsRun f r p → IsRun f r q → p.first ≡ q.first
     → p.first + p.count < q.first + q.count → ⊥
 ends_late f r p q one other same less =
-    let end : ℕ = p.first + p.count in
-    let some : 0 < p.count = one.some in
-    let low = one.low in
-    let high = one.high in
-    let start = other.low in
-    let stop = other.high in
-    let cell : one.cell ≡ other.cell =
-    same_cell r one.cell other.cell p.first low (omega (arith, some, high)) (omega (arith, start, same))
-    (omega (arith, less, stop, same)) in
-    let at : one.cell * r ≡ other.cell * r = ap (λ c. c * r) cell in
-    not_both (other.passes end (omega (arith, same)) less) (one.ends (λ e. omega (arith, e, at, less, stop)))
+    grind (arith, same_cell)
 
 same_end : (f : ℕ → Bool) (r : ℕ) (p q : Piece) → IsRun f r p → IsRun f r q → p.first ≡ q.first → p ≡ q
-same_end f r p q one other same = elim (cases_lt p.count q.count) [
-  | inl less ↦ absurd (ends_late f r p q one other same (omega (arith, same, less)))
-  | inr most ↦ elim (cases_lt q.count p.count) [
-    | inl more ↦ absurd (ends_late f r q p other one (sym same) (omega (arith, same, more)))
-    | inr few ↦
-        (let count : p.count ≡ q.count = omega (arith, most, few) in
-        let made : ℕ → ℕ → Piece = λ a n. record { first = a; count = n } in
-        ap (λ a. made a p.count) same ∙ ap (λ n. made q.first n) count)
-  ]
-]
+same_end f r p q one other same = grind (arith, ends_late f r p q one other same, ends_late f r q p other one (sym same))
 
 starts_alike : (f : ℕ → Bool) (r low : ℕ) (p q : Piece) → low ≤ p.first → IsRun f r p → Gives f false low q.first
     → p.first < q.first → ⊥
 starts_alike f r low p q le one fails less =
-    let some : 0 < p.count = one.some in
-    not_both (one.passes p.first (omega arith) (omega (arith, some))) (fails p.first le less)
+    grind arith
 
 pub one_chain : (f : ℕ → Bool) (r low : ℕ) (ps qs : List Piece) → IsChain f r low ps → IsChain f r low qs → ps ≡ qs
 one_chain f r low [] [] a b = refl
@@ -124,51 +92,22 @@ one_chain f r low (p ∷ ps) (q ∷ qs) a b = elim (cases_lt p.first q.first) [
 
 -- ---- the chain of all cells
 
-between_none : (low : ℕ) → span_between low (low + 0) ≡ []
-between_none low =
-    let p : Span = record { first = low; count = low + 0 - low } in
-    ap (λ b. cond b (p ∷ []) []) (le-ltb low (low + 0) (omega arith))
-
-between_some : (low m : ℕ) → span_between low (low + suc m) ≡ record { first = low; count = suc m } ∷ []
-between_some low m =
-    let long : low + suc m - low ≡ suc m = omega arith in
-    let p : Span = record { first = low; count = low + suc m - low } in
-    ap (λ b. cond b (p ∷ []) []) (lt-ltb low (low + suc m) (omega arith))
-    ∙ ap (λ (k : ℕ). let q : Span = record { first = low; count = k } in q ∷ []) long
-
 -- m numbers that pass, before a chain
 span_chain : (f : ℕ → Bool) (r c low m : ℕ) (rest : List Piece) → c * r ≤ low → low + m ≤ c * r + r
     → Gives f true low (low + m) → ((low ≡ c * r → ⊥) → f (low - 1) ≡ false)
     → ((low + m ≡ c * r + r → ⊥) → f (low + m) ≡ false) → IsChain f r (low + m) rest
     → IsChain f r low (map piece_at (span_between low (low + m)) ++ rest)
 span_chain f r c low zero rest a b passes begins ends chain =
-    subst (λ (xs : List Span). IsChain f r low (map piece_at xs ++ rest)) (sym (between_none low))
-    (subst (λ k. IsChain f r k rest) (add-zero low) chain)
+    grind arith
 span_chain f r c low (suc m) rest a b passes begins ends chain =
-    subst (λ (xs : List Span). IsChain f r low (map piece_at xs ++ rest)) (sym (between_some low m)) (
-      omega arith,
-      λ t x y. absurd (omega (arith, x, y)),
-      record {
-        some = omega arith;
-        cell = c;
-        low = a;
-        high = b;
-        passes = passes;
-        starts = begins;
-        ends = ends;
-      },
-      chain,
-    )
+    grind arith
 
 -- the runs of what is left of a cell, before those of the cells after it
 cell_by : (fuel : ℕ) (f : ℕ → Bool) (r c low n : ℕ) (rest : List Piece) → n ≤ fuel → c * r ≤ low
     → low + n ≡ c * r + r → ((low ≡ c * r → ⊥) → f (low - 1) ≡ false) → IsChain f r (c * r + r) rest
     → IsChain f r low (map piece_at (spans f low n) ++ rest)
 cell_by zero f r c low n rest few a end begins chain =
-    let none : n ≡ 0 = omega (arith, few) in
-    let at : c * r + r ≡ low = omega (arith, none, end) in
-    subst (λ k. IsChain f r low (map piece_at (spans f low k) ++ rest)) (sym none)
-    (subst (λ k. IsChain f r k rest) at chain)
+    grind arith
 cell_by (suc fuel) f r c low n rest few a end begins chain =
     by (λ from m less start stop before. cell_by fuel f r c from m rest less start stop before chain) (cases_lt m n)
   where
@@ -224,20 +163,12 @@ cells_chain : (f : ℕ → Bool) (r a m : ℕ) → ((t : ℕ) → (a + m) * r �
     → IsChain f r (a * r) (flat_map (λ c. map piece_at (spans f (c * r) r)) (range_with_len a m))
 cells_chain f r a zero past = λ t le. past t (let same : (a + 0) * r ≡ a * r = omega arith in omega (arith, le, same))
 cells_chain f r a (suc m) past =
-    let next : (a + 1) * r ≡ a * r + r = omega arith in
-    let end : (a + 1 + m) * r ≡ (a + suc m) * r = omega arith in
-    let rest : List Piece = flat_map (λ c. map piece_at (spans f (c * r) r)) (range_with_len (a + 1) m) in
-    let later : IsChain f r ((a + 1) * r) rest =
-    cells_chain f r (a + 1) m (λ t le. past t (omega (arith, le, end))) in
-    cell_by r f r a (a * r) r rest (omega arith) (omega arith) refl (λ other. absurd (other refl))
-    (subst (λ k. IsChain f r k rest) next later)
+    grind (arith, cell_by, cells_chain f r (a + 1) m)
 
 pub runs_chain : (f : ℕ → Bool) (r n : ℕ) → ((t : ℕ) → n * r ≤ t → f t ≡ false)
     → IsChain f r 0 (flat_map (λ c. map piece_at (spans f (c * r) r)) (range_with_len 0 n))
 runs_chain f r n past =
-    let runs : List Piece = flat_map (λ c. map piece_at (spans f (c * r) r)) (range_with_len 0 n) in
-    subst (λ k. IsChain f r k runs) (zero-mul r)
-    (cells_chain f r 0 n (λ t le. past t (let same : (0 + n) * r ≡ n * r = omega arith in omega (arith, le, same))))
+    grind (arith, cells_chain f r 0 n)
 
 -- ---- how often a number is in runs
 
@@ -246,11 +177,7 @@ pub before_chain : (f : ℕ → Bool) (r low : ℕ) (ps : List Piece) (t : ℕ) 
     → times_in ps t ≡ 0
 before_chain f r low [] t chain less = refl
 before_chain f r low (p ∷ ps) t chain less =
-    let a : low ≤ p.first = chain.0 in
-    let out : cond {A = ℕ} (is_in p t) 1 0 ≡ 0 =
-    ap (λ b. cond {A = ℕ} b 1 0) (within_below p.first (p.first + p.count) t (omega (arith, a, less))) in
-    let rest = before_chain f r (p.first + p.count) ps t chain.3 (omega (arith, a, less)) in
-    omega (arith, count_first (λ q. is_in q t) p ps, out, rest)
+    grind (arith, before_chain f r (p.first + p.count) ps t chain.3)
 
 -- any other is in one of them exactly where it passes
 pub times_in_chain : (f : ℕ → Bool) (r low : ℕ) (ps : List Piece) (t : ℕ) → IsChain f r low ps → low ≤ t
@@ -292,15 +219,4 @@ runs_of_chain f r low (p ∷ ps) chain =
 pub next_apart : (f : ℕ → Bool) (r : ℕ) (p q : Piece) → IsRun f r p → IsRun f r q → p.first + p.count ≡ q.first
     → p.first / r ≡ q.first / r → ⊥
 next_apart f r p q one next at cells =
-    let some = one.some in
-    let low = one.low in
-    let high = one.high in
-    let more = next.some in
-    let start = next.low in
-    let end = next.high in
-    let cell : one.cell ≡ next.cell =
-    sym (cell_is r one.cell p.first low (omega (arith, high, some))) ∙ cells
-    ∙ cell_is r next.cell q.first start (omega (arith, end, more)) in
-    let same : one.cell * r ≡ next.cell * r = ap (λ c. c * r) cell in
-    let passes : f (p.first + p.count) ≡ true = ap f at ∙ next.passes q.first (omega arith) (omega (arith, more)) in
-    not_both passes (one.ends (λ e. omega (arith, e, same, at, end, more)))
+    grind arith

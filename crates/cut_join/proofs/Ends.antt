@@ -1,12 +1,11 @@
 -- What merging all slips gives: the joined ones.
-use Rattle.std.proofs.Common.{◌≡◌, ◌∙◌, ℕ, ◌+◌, ◌*◌, ◌/◌, ◌<◌, ◌≤◌, ◌==◌, Bool, true, false, IsTrue, List, [], ◌∷◌}
+use Rattle.std.proofs.Common.{◌≡◌, ◌∙◌, ℕ, ◌+◌, ◌*◌, ◌/◌, ◌<◌, ◌≤◌, Bool, true, false, IsTrue, List, [], ◌∷◌}
 use Rattle.std.proofs.Common.{◌++◌}
 use Rattle.std.proofs.Common.{zero, suc, All, map, filter, length, set, take, cond, get_or, refl, sym, ap, subst, arith}
 use Rattle.std.proofs.Common.{add-one, zero-add}
 use Rattle.std.specs.List.{flat_map, range_with_len, sum_by}
 use Rattle.std.specs.List.Sorted.{IsPermutation}
 use Rattle.std.proofs.Math.Seq.{take-suc}
-use Rattle.std.proofs.lemmas.Bool.{and_parts, eqb-true}
 use Rattle.std.proofs.lemmas.List.Sums.{sum_by-cons}
 use Rattle.std.proofs.lemmas.List.{take_all}
 use Rattle.std.proofs.lemmas.List.Elements.{All-cons, All-head, All-nil, All-tail}
@@ -21,8 +20,6 @@ use Rattle.cut_outcome.specs.Sum.{each_number}
 use Rattle.cut_ledger.specs.declared.slip.Slip.{Slip}
 use Rattle.cut_ledger.specs.Contents.{is_in, is_in_base}
 use Rattle.cut_ledger.specs.Gaps.{piece_at}
-use Rattle.cut_ledger.proofs.CellLemmas.{piece_facts}
-use Rattle.cut_ledger.proofs.GapPieces.{piece_within}
 use Rattle.cut_join.specs.Joined.{joined, runs_of, slip_of_run}
 use Rattle.cut_join.specs.inside.Merging.{AreAscending, IsSmall, adjoins, with_next, with_slip}
 use Rattle.cut_join.proofs.Chains.{one_chain, runs_chain}
@@ -38,39 +35,12 @@ pub record Adjoin (v : Values) (s x : Slip) : Type 0 where
 
 pub adjoin_is : (v : Values) (s x : Slip) → IsTrue (adjoins v s.piece x.piece) → Adjoin v s x
 adjoin_is v s x is =
-    let parts = and_parts (s.piece.first / v.repeats == x.piece.first / v.repeats)
-    (s.piece.first + s.piece.count == x.piece.first) is in
-    record {
-      at = eqb-true (s.piece.first + s.piece.count) x.piece.first parts.1;
-      cell = eqb-true (s.piece.first / v.repeats) (x.piece.first / v.repeats) parts.0;
-    }
+    grind arith
 
 pub next_small : (v : Values) (s x : Slip) → IsPlan v → IsSmall v s → IsSmall v x → Adjoin v s x
     → IsSmall v (with_next s x)
 next_small v s x plan one other adjoin =
-    let facts = piece_facts v s.piece plan one.piece in
-    let more = piece_facts v x.piece plan other.piece in
-    let some = facts.some in
-    let end = more.ends in
-    let at = adjoin.at in
-    let same : s.piece.first / v.repeats * v.repeats ≡ x.piece.first / v.repeats * v.repeats =
-    ap (λ c. c * v.repeats) adjoin.cell in
-    let a = one.few in
-    let b = other.few in
-    record {
-      piece = piece_within v (record { first = s.piece.first; count = s.piece.count + x.piece.count })
-          (s.piece.first / v.repeats) (omega (arith, some)) facts.cell facts.starts (omega (arith, end, at, same));
-      few = record {
-        receivers = omega (arith, a.receivers, b.receivers);
-        conflicts = omega (arith, a.conflicts, b.conflicts);
-        silent = omega (arith, a.silent, b.silent);
-        extra = omega (arith, a.extra, b.extra);
-        votes = omega (arith, a.votes, b.votes);
-        decided = omega (arith, a.decided, b.decided);
-        right = omega (arith, a.right, b.right);
-        settled = omega (arith, a.settled, b.settled);
-      };
-    }
+    grind arith
 
 -- slips with one more are small where they are and it is
 pub all_small : (v : Values) (ss : List Slip) (x : Slip) → IsPlan v → All (IsSmall v) ss → IsSmall v x
@@ -93,9 +63,7 @@ pub last_set : (v : Values) (ss : List Slip) (x y : Slip) (n : ℕ) → length s
     → adjoins v y.piece x.piece ≡ true → set ss n (with_next y x) ≡ with_slip v ss x
 last_set v [] x y n long at is = absurd (omega (arith, long))
 last_set v (s ∷ []) x y zero long at is =
-    ap (λ (z : Slip). with_next z x ∷ []) at
-    ∙ sym (ap (λ b. cond b (with_next s x ∷ []) (s ∷ x ∷ []))
-    (ap (λ (z : Slip). adjoins v z.piece x.piece) (sym at) ∙ is))
+    grind arith
 last_set v (s ∷ []) x y (suc n) long at is = absurd (omega (arith, long))
 last_set v (s ∷ t ∷ ss) x y zero long at is = absurd (omega (arith, long))
 last_set v (s ∷ t ∷ ss) x y (suc n) long at is =
@@ -105,8 +73,7 @@ pub last_left : (v : Values) (ss : List Slip) (x y : Slip) (n : ℕ) → length 
     → adjoins v y.piece x.piece ≡ false → ss ++ x ∷ [] ≡ with_slip v ss x
 last_left v [] x y n long at is = absurd (omega (arith, long))
 last_left v (s ∷ []) x y zero long at is =
-    sym (ap (λ b. cond b (with_next s x ∷ []) (s ∷ x ∷ []))
-    (ap (λ (z : Slip). adjoins v z.piece x.piece) (sym at) ∙ is))
+    grind arith
 last_left v (s ∷ []) x y (suc n) long at is = absurd (omega (arith, long))
 last_left v (s ∷ t ∷ ss) x y zero long at is = absurd (omega (arith, long))
 last_left v (s ∷ t ∷ ss) x y (suc n) long at is =
@@ -139,8 +106,7 @@ merged_joined v ss js past are =
 pub ascending_joined : (v : Values) (ss js : List Slip) → AreAscending v ss → AreMerged v (take (length ss) ss) 0 js
     → js ≡ joined v ss
 ascending_joined v ss js ascends are =
-    merged_joined v ss js (small_within v ss ascends)
-    (subst (λ (xs : List Slip). AreMerged v xs 0 js) (take_all (length ss) ss (omega arith)) are)
+    grind (arith, merged_joined, small_within, take_all)
 
 -- ---- the same slips in another order
 

@@ -23,7 +23,7 @@ use Rattle.cut_ledger.specs.declared.slip.Slip.{Slip}
 use Rattle.cut_ledger.specs.Contents.{is_in, is_in_base}
 use Rattle.cut_ledger.specs.Slips.{AreGood, IsGood}
 use Rattle.cut_ledger.specs.World.{pieces_of_slips, times_in}
-use Rattle.cut_ledger.proofs.CellLemmas.{few_rings, in_piece, piece_facts}
+use Rattle.cut_ledger.proofs.CellLemmas.{few_rings, piece_facts}
 use Rattle.cut_ledger.proofs.Law.{piece_within, times_more, times_once}
 use Rattle.cut_ledger.proofs.TrueSlips.{apart_good}
 use Rattle.cut_join.specs.inside.Merging.{AreAscending, IsSmall}
@@ -54,8 +54,7 @@ base_within v (s ∷ ss) t each here = elim (or_cases (is_in s.piece t) (is_in_b
 good_apart : (v : Values) (ss : List Slip) (x : Slip) (t : ℕ) → IsGood v ss x → is_in x.piece t ≡ true
     → is_in_base ss t ≡ false
 good_apart v ss x t good here =
-    let at = in_piece x.piece t here in
-    none_passing (is_in_base ss) x.piece.first x.piece.count t good.apart at.0 at.1
+    grind (arith, none_passing (is_in_base ss) x.piece.first x.piece.count t good.apart)
 
 good_each : (v : Values) (ss : List Slip) → AreGood v ss → All (IsSound v) ss
 good_each v ss good k d low =
@@ -182,8 +181,4 @@ comes_next v ss i d ascends within =
 -- slips that ascend have no trials from the plan's end on
 pub small_within : (v : Values) (ss : List Slip) → AreAscending v ss → (t : ℕ) → trial_count v ≤ t
     → is_in_base ss t ≡ false
-small_within v ss ascends t le = list_any_none (λ (s : Slip). is_in s.piece t) ss (λ k d low.
-    (let p : Piece = (get_or ss k d).piece in
-    let facts = piece_facts v p ascends.plan (ascends.small k d low).piece in
-    let end = facts.end in
-    within_above p.first (p.first + p.count) t (omega (arith, end, le))))
+small_within v ss ascends t le = grind (arith, list_any_none, piece_facts)

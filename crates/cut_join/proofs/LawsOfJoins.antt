@@ -1,11 +1,9 @@
 -- Joined slips have the same trials and the same sums of each cell, are good or true as the slips are, and are apart.
-use Rattle.std.proofs.Common.{◌≡◌, ◌∙◌, ℕ, zero, suc, ◌+◌, ◌/◌, ◌<◌, ◌≤◌, ◌==◌, inl, inr, Bool, true, false}
+use Rattle.std.proofs.Common.{◌≡◌, ◌∙◌, ℕ, zero, suc, ◌+◌, ◌/◌, ◌≤◌, ◌==◌, inl, inr, Bool, true, false}
 use Rattle.std.proofs.Common.{not, IsTrue, List, [], ◌∷◌, ◌++◌, All, map, filter, length, cond, get_or, refl, sym, ap}
-use Rattle.std.proofs.Common.{subst}
-use Rattle.std.proofs.Common.{arith, zero-add}
+use Rattle.std.proofs.Common.{arith}
 use Rattle.std.specs.List.{AllByRecursion, flat_map, range_with_len, sum_by}
 use Rattle.std.proofs.lemmas.Bool.{cases_Bool}
-use Rattle.std.proofs.lemmas.Nat.{div_below}
 use Rattle.std.proofs.lemmas.List.Elements.{All-from_recursion, All-head, All-map, All-tail}
 use Rattle.std.proofs.lemmas.List.Folds.{list_any_at}
 use Rattle.std.proofs.lemmas.List.Sums.{sum_by-cons}
@@ -27,10 +25,9 @@ use Rattle.cut_ledger.specs.Table.{full_sum, table_over}
 use Rattle.cut_ledger.specs.Slips.{AreGood}
 use Rattle.cut_ledger.specs.World.{AreTrue, IsTrueSlip, pieces_of_slips, times_in}
 use Rattle.cut_ledger.proofs.CellLemmas.{cell_is, in_piece, piece_facts}
-use Rattle.cut_ledger.proofs.GapPieces.{piece_within}
 use Rattle.cut_ledger.proofs.Law.{one_if-le, times_once}
 use Rattle.cut_join.specs.Joined.{joined, runs_of, slip_of_run, slips_of_run}
-use Rattle.cut_join.specs.Laws.{AreApart, IsApartFrom}
+use Rattle.cut_join.specs.Laws.{AreApart}
 use Rattle.cut_join.proofs.Chains.{IsChain, IsRun, next_apart, runs_chain, runs_of_chain, times_in_chain}
 use Rattle.cut_join.proofs.Ends.{sum_filter}
 use Rattle.cut_join.proofs.Goods.{AreSound, IsSound, base_within, good_sound, sound_good}
@@ -39,10 +36,7 @@ use Rattle.cut_join.proofs.RunSums.{run_possible, run_true, sums_agree}
 -- ---- the runs
 
 past_plan : (v : Values) (ss : List Slip) → AreSound v ss → (t : ℕ) → trial_count v ≤ t → is_in_base ss t ≡ false
-past_plan v ss sound t le = elim (cases_Bool (is_in_base ss t)) [
-  | inl here ↦ (let less = base_within v ss t sound.each here in absurd (omega (arith, le, less)))
-  | inr none ↦ none
-]
+past_plan v ss sound t le = grind (arith, base_within)
 
 chain_of : (v : Values) (ss : List Slip) → AreSound v ss → IsChain (is_in_base ss) v.repeats 0 (runs_of v ss)
 chain_of v ss sound = runs_chain (is_in_base ss) v.repeats (length (cells_of v)) (past_plan v ss sound)
@@ -62,14 +56,7 @@ joined_pieces v ss = map_same ss (runs_of v ss)
 run_piece : (v : Values) (ss : List Slip) (p : Piece) → IsPlan v → AreSound v ss → IsRun (is_in_base ss) v.repeats p
     → IsTrue (is_piece v p)
 run_piece v ss p plan sound run =
-    let some = run.some in
-    let low = run.low in
-    let high = run.high in
-    let less = base_within v ss p.first sound.each (run.passes p.first (omega arith) (omega (arith, some))) in
-    let at : p.first / v.repeats ≡ run.cell = cell_is v.repeats run.cell p.first low (omega (arith, high, some)) in
-    let cell : p.first / v.repeats < length (cells_of v) =
-    div_below p.first v.repeats (length (cells_of v)) plan.some_repeats less in
-    piece_within v p run.cell some (omega (arith, at, cell)) low high
+    grind (arith, base_within, cell_is)
 
 -- ---- how often a trial is in the joined slips
 
@@ -98,15 +85,7 @@ same_trials v ss sound t = same_tests (is_in_base (joined v ss) t) (is_in_base s
 
 joined_sound : (v : Values) (ss : List Slip) → IsPlan v → AreSound v ss → AreSound v (joined v ss)
 unfolding joined
-joined_sound v ss plan sound = record {
-  each = All-map (IsSound v) (slip_of_run ss) (runs_of v ss) (λ k d low.
-      (let run = each_run v ss sound k d low in
-      record {
-        piece = run_piece v ss _ plan sound run;
-        possible = run_possible v ss _ plan sound run;
-      }));
-  apart = λ t. joined_few v ss t sound;
-}
+joined_sound v ss plan sound = search (arith, All-map, each_run, run_piece, run_possible, joined_few)
 
 pub joined_good : (v : Values) (ss : List Slip) → IsPlan v → AreGood v ss → AreGood v (joined v ss)
 joined_good v ss plan good = sound_good v (joined v ss) (joined_sound v ss plan (good_sound v ss good))
@@ -141,28 +120,18 @@ chain_apart v f low (j ∷ []) chain i d within = absurd (omega (arith, within))
 chain_apart v f low (j ∷ k ∷ js) chain zero d within =
     (chain.3.0, λ at. next_apart f v.repeats j.piece k.piece chain.2 chain.3.2 at)
 chain_apart v f low (j ∷ k ∷ js) chain (suc i) d within =
-    let next : suc (i + 1) ≡ suc i + 1 = omega arith in
-    subst (λ n. IsApartFrom v (get_or (k ∷ js) i d) (get_or (j ∷ k ∷ js) n d)) next
-    (chain_apart v f (j.piece.first + j.piece.count) (k ∷ js) chain.3 i d (omega (arith, within)))
+    grind (arith, chain_apart v f (j.piece.first + j.piece.count) (k ∷ js) chain.3 i d)
 
 pub joined_apart : (v : Values) (ss : List Slip) → AreSound v ss → AreApart v (joined v ss)
 joined_apart v ss sound =
-    chain_apart v (is_in_base ss) 0 (joined v ss)
-    (subst (λ (ps : List Piece). IsChain (is_in_base ss) v.repeats 0 ps) (sym (joined_pieces v ss))
-    (chain_of v ss sound))
+    grind (arith, chain_apart v (is_in_base ss) 0 (joined v ss), joined_pieces v ss, chain_of v ss sound)
 
 -- ---- sums of a cell
 
 -- the sums of two terms
 sum_plus : {X : Type 0} (f g : X → ℕ) (xs : List X) → sum_by (λ x. f x + g x) xs ≡ sum_by f xs + sum_by g xs
 sum_plus f g [] = refl
-sum_plus f g (x ∷ xs) = omega (
-  arith,
-  sum_by-cons (λ y. f y + g y) x xs,
-  sum_by-cons f x xs,
-  sum_by-cons g x xs,
-  sum_plus f g xs,
-)
+sum_plus f g (x ∷ xs) = search (arith, sum_by-cons, sum_plus f g xs)
 
 both_none : (b : Bool) → cond {A = ℕ} b 0 0 ≡ 0
 both_none true = refl
@@ -176,15 +145,7 @@ no_term v c a k (p ∷ ps) none = elim (cases_Bool (is_in p a)) [
       (let one : cond {A = ℕ} (is_in p a) 1 0 ≡ 1 = ap (λ b. cond {A = ℕ} b 1 0) here in
       absurd (omega (arith, none, one, count_first (λ q. is_in q a) p ps)))
   | inr out ↦
-      (let rest = no_term v c a k ps (omega (arith, none, count_first (λ q. is_in q a) p ps)) in
-      let first : cond (p.first / v.repeats == c) (cond (is_in p a) k 0) 0 ≡ 0 =
-      ap (λ b. cond (p.first / v.repeats == c) (cond b k 0) 0) out ∙ both_none (p.first / v.repeats == c) in
-      omega (
-        arith,
-        sum_by-cons (λ (q : Piece). cond (q.first / v.repeats == c) (cond (is_in q a) k 0) 0) p ps,
-        rest,
-        first,
-      ))
+      grind (arith, no_term v c a k ps)
 ]
 
 -- a trial that is in one of some pieces, which is of its cell
@@ -223,12 +184,7 @@ one_term v c a k (p ∷ ps) one cells = elim (cases_Bool (is_in p a)) [
 -- the slips of one piece, with one slip more
 one_slip : (h : Slip → ℕ) (s : Slip) (ss : List Slip) (p : Piece) → sum_by h (slips_of_run (s ∷ ss) p)
     ≡ cond (is_in p s.piece.first) (h s) 0 + sum_by h (slips_of_run ss p)
-one_slip h s ss p = by (is_in p s.piece.first)
-  where
-    by : (b : Bool) → sum_by h (cond b (s ∷ slips_of_run ss p) (slips_of_run ss p))
-        ≡ cond b (h s) 0 + sum_by h (slips_of_run ss p)
-    by true = sum_by-cons h s (slips_of_run ss p)
-    by false = sym (zero-add (sum_by h (slips_of_run ss p)))
+one_slip h s ss p = grind (arith, sum_by-cons)
 
 -- each slip begins in one of the pieces, which is of its cell
 abbrev HasItsPiece : Values → List Piece → Slip → Type 0

@@ -1,9 +1,8 @@
 -- The sums over the slips of a run: those over its trials.
-use Rattle.std.proofs.Common.{◌≡◌, ◌∙◌, ℕ, zero, suc, ◌+◌, ◌-◌, ◌*◌, ◌/◌, ◌<◌, ◌≤◌, ◌||◌, inl, inr, Bool, true, false}
+use Rattle.std.proofs.Common.{◌≡◌, ◌∙◌, ℕ, zero, suc, ◌+◌, ◌-◌, ◌/◌, ◌<◌, ◌≤◌, ◌||◌, Bool, true, false}
 use Rattle.std.proofs.Common.{List, [], ◌∷◌, All, filter, cond, get_or, refl, sym, ap, subst, arith}
-use Rattle.std.proofs.Common.{add-mul, zero-mul}
 use Rattle.std.specs.List.{range_with_len, sum_by}
-use Rattle.std.proofs.lemmas.Bool.{cases_lt, false_from_ne_true}
+use Rattle.std.proofs.lemmas.Bool.{false_from_ne_true}
 use Rattle.std.proofs.lemmas.List.Elements.{All-filter, All-head, All-tail, filter_passes}
 use Rattle.std.proofs.lemmas.List.Folds.{list_any_at}
 use Rattle.std.proofs.lemmas.List.Sums.{sum_by-cons}
@@ -15,20 +14,19 @@ use Rattle.cut_plan.specs.declared.cell.Cell.{Cell}
 use Rattle.cut_plan.specs.Cells.{cells_of}
 use Rattle.cut_plan.specs.Plan.{IsPlan}
 use Rattle.cut_plan.specs.Values.{Values}
-use Rattle.cut_plan.specs.Failing.{version_of}
 use Rattle.cut_outcome.specs.declared.piece.Piece.{Piece}
 use Rattle.cut_outcome.specs.declared.totals.Totals.{Totals}
 use Rattle.cut_outcome.specs.Outcome.{cell_at, no_cell, outcome}
 use Rattle.cut_outcome.specs.Possible.{ArePossible}
 use Rattle.cut_outcome.specs.Sum.{each_number, plus, sum_of, trials_in}
-use Rattle.cut_outcome.proofs.Places.{none_settled, settled_more}
+use Rattle.cut_outcome.proofs.Places.{settled_more}
 use Rattle.cut_ledger.specs.declared.slip.Slip.{Slip}
 use Rattle.cut_ledger.specs.Contents.{is_in, is_in_base, slip_sum}
 use Rattle.cut_ledger.specs.World.{IsTrueSlip, pieces_of_slips, times_in}
 use Rattle.cut_ledger.proofs.CellLemmas.{PieceFacts, cell_is, in_piece, piece_facts}
 use Rattle.cut_ledger.proofs.LawSums.{apart_first, apart_rest, none_in_base}
 use Rattle.cut_join.specs.Joined.{slips_of_run}
-use Rattle.cut_join.proofs.Chains.{IsRun, not_both, same_cell}
+use Rattle.cut_join.proofs.Chains.{IsRun, same_cell}
 use Rattle.cut_join.proofs.Goods.{AreSound, IsSound}
 
 -- ---- a slip and a run
@@ -42,51 +40,7 @@ pub record Fits (p : Piece) (s : Slip) : Type 0 where
 
 pub run_fits : (v : Values) (f : ℕ → Bool) (p : Piece) (s : Slip) (c : ℕ) → IsRun f v.repeats p → PieceFacts v s.piece c
     → ((t : ℕ) → is_in s.piece t ≡ true → f t ≡ true) → Fits p s
-run_fits v f p s c run facts all = record { inside = inside; outside = outside }
-  where
-    at : (t : ℕ) → s.piece.first ≤ t → t < s.piece.first + s.piece.count → f t ≡ true
-    at t a b = all t (within_is s.piece.first (s.piece.first + s.piece.count) t a b)
-
-    inside : is_in p s.piece.first ≡ true
-        → (p.first ≤ s.piece.first) × (s.piece.first + s.piece.count ≤ p.first + p.count)
-    inside here =
-        let from = in_piece p s.piece.first here in
-        let low = run.low in
-        let high = run.high in
-        let start = facts.starts in
-        let stop = facts.ends in
-        let some = facts.some in
-        let after = from.1 in (
-          from.0,
-          elim (cases_lt (p.first + p.count) (s.piece.first + s.piece.count)) [
-            | inl longer ↦
-                (let cell : run.cell ≡ c = same_cell v.repeats run.cell c s.piece.first (omega (arith, low, from.0))
-                (omega (arith, high, after)) start (omega (arith, stop, some)) in
-                let same : run.cell * v.repeats ≡ c * v.repeats = ap (λ k. k * v.repeats) cell in
-                absurd (not_both (at (p.first + p.count) (omega (arith, after)) longer)
-                (run.ends (λ e. omega (arith, e, same, longer, stop)))))
-            | inr within ↦ within
-          ],
-        )
-
-    outside : is_in p s.piece.first ≡ false
-        → (t : ℕ) → p.first ≤ t → t < p.first + p.count → is_in s.piece t ≡ true → ⊥
-    outside out t a b here =
-        let own = in_piece s.piece t here in
-        let low = run.low in
-        let high = run.high in
-        let start = facts.starts in
-        let stop = facts.ends in
-        elim (cases_lt s.piece.first p.first) [
-          | inl before ↦
-              (let cell : run.cell ≡ c = same_cell v.repeats run.cell c t (omega (arith, low, a))
-              (omega (arith, high, b)) (omega (arith, start, own.0)) (omega (arith, stop, own.1)) in
-              let same : run.cell * v.repeats ≡ c * v.repeats = ap (λ k. k * v.repeats) cell in
-              not_both (at (p.first - 1) (omega (arith, before)) (omega (arith, own.1, a, before)))
-              (run.starts (λ e. omega (arith, e, same, before, start))))
-          | inr after ↦ not_both
-              (within_is p.first (p.first + p.count) s.piece.first after (omega (arith, own.0, b))) out
-        ]
+run_fits v f p s c run facts all = grind (arith, in_piece, same_cell)
 
 -- ---- sums over a run
 
@@ -158,10 +112,7 @@ sum_ones a (suc n) = omega (arith, sum_by-cons (λ (t : ℕ). 1) a (range_with_l
 pub run_count : (v : Values) (ss : List Slip) (p : Piece) → IsPlan v → AreSound v ss → IsRun (is_in_base ss) v.repeats p
     → sum_by (λ (s : Slip). s.piece.count) (slips_of_run ss p) ≡ p.count
 run_count v ss p plan sound run =
-    sums_agree (λ (s : Slip). s.piece.count) (λ (s : Slip). sum_by (λ (t : ℕ). 1) (trials_in s.piece))
-    (slips_of_run ss p)
-    (λ k d low. sym (sum_ones _ _))
-    ∙ run_weights v ss p (λ t. 1) plan sound run ∙ sum_ones p.first p.count
+    grind (arith, sum_ones, run_weights v ss p, sum_ones p.first p.count)
 
 -- true slips of a run have its sums
 pub run_true : (v : Values) (ss : List Slip) (p : Piece) → IsPlan v → AreSound v ss → All (IsTrueSlip v) ss
@@ -183,34 +134,10 @@ run_true v ss p plan sound are_true run =
 possible_more : (v : Values) (c : Cell) (m n : ℕ) (x y : Totals) → ArePossible v c m x → ArePossible v c n y
     → ArePossible v c (m + n) (plus x y)
 possible_more v c m n x y one other =
-    let a = one.counted in
-    let b = other.counted in
-    let times = add-mul m n (v.nodes - c.f) in
-    record {
-      counted = record {
-        receivers = omega (arith, a.receivers, b.receivers, times);
-        conflicts = omega (arith, a.conflicts, b.conflicts);
-        extra = omega (arith, a.extra, b.extra);
-        votes = omega (arith, a.votes, b.votes);
-        decided = omega (arith, a.decided, b.decided);
-        right = omega (arith, a.right, b.right);
-      };
-      settled = settled_more (version_of v.failing) (x.receivers - x.silent) (y.receivers - y.silent) _ _ _ _
-          (omega (arith, a.conflicts, b.conflicts)) one.settled other.settled;
-    }
+    grind (arith, settled_more)
 
 possible_none : (v : Values) (c : Cell) → ArePossible v c 0 (each_number (λ n. 0))
-possible_none v c = record {
-  counted = record {
-    receivers = sym (zero-mul (v.nodes - c.f));
-    conflicts = omega arith;
-    extra = omega arith;
-    votes = omega arith;
-    decided = omega arith;
-    right = omega arith;
-  };
-  settled = none_settled (version_of v.failing) (v.nodes * c.k * v.copies);
-}
+possible_none v c = grind arith
 
 possible_sum : (v : Values) (c : Cell) (ss : List Slip)
     → All (λ (s : Slip). ArePossible v c s.piece.count s.totals) ss

@@ -7,8 +7,6 @@ use Rattle.std.specs.Result.{is_ok}
 use Rattle.std.proofs.lemmas.Bool.Decides.{nat_tests, Decides-eqb}
 use Rattle.std.proofs.lemmas.List.{take_at, drop_at, take_all, length-take, get_or-append_right, get_or-drop}
 use Rattle.sha2.proofs.Facts256.{length-sha256}
-use Rattle.sha2.specs.Sha256.{sha256}
-use Rattle.cut_fields.specs.declared.version.Version.{Version}
 use Rattle.cut_plan.specs.Failing.{version_of}
 use Rattle.cut_plan.specs.Values.{Values}
 use Rattle.cut_disks.specs.State.{DiskState, IsImage, IsTorn, Throughout, covers, settled, overwritten}
@@ -16,14 +14,12 @@ use Rattle.cut_disks.specs.Laws.{WritesStayInSpan}
 use Rattle.cut_ledger.specs.declared.slip.Slip.{Slip}
 use Rattle.cut_journal.specs.declared.fault.JournalFault.{JournalFault}
 use Rattle.cut_journal.specs.File.{HoldsAllTotals, open_gate, closed_gate, numbers_length, slip_length, body_of}
-use Rattle.cut_journal.specs.File.{number_bytes}
-use Rattle.cut_journal.specs.File.{header_digest}
 use Rattle.cut_journal.specs.Reading.{is_slip, slip_in, reading}
 use Rattle.cut_journal.specs.Journal.{kept_slips, slips_of, ReadsAs, IsFileOf}
 use Rattle.cut_journal.specs.inside.Steps.{HasNumbers, WritesThrough, Leave}
 use Rattle.cut_journal.proofs.Counts.{alike_at, alike_prefix}
 use Rattle.cut_journal.proofs.Gates.{gate_next}
-use Rattle.cut_journal.proofs.Moments.{Through, through_is, settled_images, stays}
+use Rattle.cut_journal.proofs.Moments.{Through, through_is, settled_images}
 use Rattle.cut_journal.proofs.Readings.{Holds, gate_there, reads_holds, cases_bool, closed_read, opened_read}
 use Rattle.cut_journal.proofs.SlipBytes.{long_bytes, slip_back, slip_whole}
 use Rattle.cut_journal.specs.inside.Places.{body_at, first_slips, gate_place, is_open}
@@ -33,9 +29,7 @@ use Rattle.cut_journal.specs.inside.Places.{body_at, first_slips, gate_place, is
 pub torn_prefix : (at stop n : ℕ) (bytes torn : List ℕ) → IsTorn at stop bytes torn → n ≤ at → n ≤ length bytes
     → take n torn ≡ take n bytes
 torn_prefix at stop n bytes torn is low long =
-    alike_at n torn bytes (omega (arith, is.no_shorter)) long
-    (λ i below. is.same i (omega arith) (let outside : covers i (record { start = at; stop = stop })
-    ≡ false = grind (arith, nat_tests) in outside))
+    grind (arith, alike_at)
 
 pub torn_rest : (at stop : ℕ) (bytes torn : List ℕ) → IsTorn at stop bytes torn → stop ≤ length bytes → drop stop torn
     ≡ drop stop bytes
@@ -55,37 +49,25 @@ torn_rest at stop bytes torn is within =
 
 pub over_prefix : (bytes put : List ℕ) (at : ℕ) → at ≤ length bytes → take at (overwritten bytes at put) ≡ take at bytes
 over_prefix bytes put at low =
-    ap (take at) (append_assoc (take at bytes) put (drop (at + length put) bytes))
-    ∙ take_at (take at bytes) (put ++ drop (at + length put) bytes) at (omega (arith, length-take at bytes))
+    grind (arith, append_assoc, take_at, length-take)
 
 pub over_rest : (bytes put : List ℕ) (at : ℕ) → at ≤ length bytes → drop at (overwritten bytes at put) ≡ put
     ++ drop (at + length put) bytes
 over_rest bytes put at low =
-    ap (drop at) (append_assoc (take at bytes) put (drop (at + length put) bytes))
-    ∙ drop_at (take at bytes) (put ++ drop (at + length put) bytes) at (omega (arith, length-take at bytes))
+    grind (arith, append_assoc, drop_at, length-take)
 
 -- ---- the journal that is ready for a slip
 
 pub sound_holds : (v : Values) (n : ℕ) (d : DiskState) → IsFileOf v n None d → Holds v d.bytes n
     × (kept_slips v n d ≡ first_slips v d.bytes n) × (d.stable ≡ settled d.bytes)
-sound_holds v n d sound = elim sound.bytes [
-  | inl reads ↦ (let parts = reads_holds v d.bytes (kept_slips v n d) reads in (
-    subst (λ (k : ℕ). Holds v d.bytes k) sound.counted parts.0,
-    parts.1 ∙ ap (λ (k : ℕ). first_slips v d.bytes k) sound.counted,
-    sound.durable refl,
-  ))
-  | inr other ↦ absurd (cc (other.1.0))
-]
+sound_holds v n d sound = grind (arith, reads_holds v d.bytes (kept_slips v n d))
 
 -- ---- the first write
 
 pub long_body : (v : Values) (s : Slip) → length (body_of v s) ≡ numbers_length (version_of v.failing) + 32
 unfolding body_of
 long_body v s =
-    let version : Version = version_of v.failing in
-    length-append (number_bytes version s) (sha256 (header_digest v ++ number_bytes version s))
-    ∙ (let a = long_bytes version s in let b = length-sha256 (header_digest v ++ number_bytes version s)
-    in omega (arith, a, b))
+    grind (arith, length-append, long_bytes, length-sha256)
 
 -- what is written after a slip's gate
 abbrev pub put_of : Values → Slip → List ℕ
@@ -97,13 +79,7 @@ long_put v s = length-append (body_of v s) (closed_gate ∷ []) ∙ (let a = lon
 first_torn : (v : Values) (n stop : ℕ) (bytes torn : List ℕ) → Holds v bytes n
     → IsTorn (gate_place v n + 1) stop bytes torn → reading v torn ≡ Ok (first_slips v bytes n)
 first_torn v n stop bytes torn holds is =
-    let g : ℕ = gate_place v n in
-    let there = gate_there v bytes n holds.prefix holds.whole in
-    let same : get_or torn g 0 ≡ get_or bytes g 0 = is.same g there
-    (let outside : covers g (record { start = g + 1; stop = stop }) ≡ false = grind (arith, nat_tests) in outside) in
-    closed_read v n bytes torn holds.prefix holds.whole
-    (torn_prefix (g + 1) stop g bytes torn is (omega arith) (omega (arith, there)))
-    (omega (arith, there, is.no_shorter)) (ap (λ (b : ℕ). b == open_gate) same ∙ holds.closed)
+    grind (arith, gate_there, nat_tests, closed_read, torn_prefix)
 
 pub first_step : {E : Type 0} (result : Result ⊤ E) (v : Values) (n : ℕ) (slip : Slip) (put : List ℕ)
     (old new : DiskState) → WritesStayInSpan → IsFileOf v n None old
@@ -233,9 +209,7 @@ pub first_at : {E : Type 0} (result : Result ⊤ E) (v : Values) (n place : ℕ)
     → WritesThrough result (place + 1) put old new
     → Through (ReadsAs v (kept_slips v n old) (Some slip)) result (place + 1) put old new
 first_at result v n place slip put old new here stay sound is =
-    subst (λ (p : ℕ). WritesThrough result (p + 1) put old new
-    → Through (ReadsAs v (kept_slips v n old) (Some slip)) result (p + 1) put old new) (sym here)
-    (first_step result v n slip put old new stay sound) is
+    grind (arith, first_step result v n slip put old new stay sound)
 
 pub second_at : {E F : Type 0} (first : Result ⊤ F) (result : Result ⊤ E) (v : Values) (n place : ℕ) (slip : Slip)
     (put : List ℕ) (old mid new : DiskState) → place ≡ gate_place v n → WritesStayInSpan
@@ -243,37 +217,17 @@ pub second_at : {E F : Type 0} (first : Result ⊤ F) (result : Result ⊤ E) (v
     → is_ok first ≡ true → WritesThrough first (place + 1) put old mid
     → WritesThrough result place (open_gate ∷ []) mid new → Second result v (kept_slips v n old) slip place mid new
 second_at first result v n place slip put old mid new here stay sound fits reports made done before is =
-    let step = first_at first v n place slip put old mid here stay sound before in
-    let wrote : mid.bytes ≡ overwritten old.bytes (gate_place v n + 1) (put_of v slip) =
-    step.bytes done ∙ ap (λ (p : ℕ). overwritten old.bytes (p + 1) put) here
-    ∙ ap (λ (l : List ℕ). overwritten old.bytes (gate_place v n + 1) l) made in
-    subst (λ (p : ℕ). WritesThrough result p (open_gate ∷ []) mid new
-    → Second result v (kept_slips v n old) slip p mid new) (sym here)
-    (second_step result v n slip old mid new stay sound fits reports wrote (step.durable done)) is
+    grind (arith, second_step result v n slip old mid new stay sound fits reports)
 
 -- there is room for both writes
 pub gate_before : (v : Values) (n place : ℕ) (d : DiskState) → place ≡ gate_place v n → IsFileOf v n None d → place + 1
     ≤ length d.bytes
 gate_before v n place d here sound =
-    let ready = sound_holds v n d sound in
-    let there = gate_there v d.bytes n ready.0.prefix ready.0.whole in
-    omega (arith, there, here)
+    grind (arith, sound_holds v n d sound, gate_there v d.bytes n)
 
 pub over_long : (bytes put : List ℕ) (at : ℕ) → at ≤ length bytes → length bytes ≤ length (overwritten bytes at put)
 over_long bytes put at low =
-    let rest = ap (λ (l : List ℕ). length l) (over_rest bytes put at low) in
-    let prefix = ap (λ (l : List ℕ). length l) (over_prefix bytes put at low) in
-    omega (
-      arith,
-      rest,
-      prefix,
-      length-take at bytes,
-      length-take at (overwritten bytes at put),
-      length-append put
-          (drop (at + length put) bytes),
-      length-drop (at + length put) bytes,
-      length-drop at (overwritten bytes at put),
-    )
+    grind (arith, length-take, length-append, length-drop)
 
 -- ---- a journal that was opened
 
@@ -305,8 +259,7 @@ pub sound_stays : (v : Values) (n : ℕ) (doubtful : Option Slip) (slip : Slip) 
     → IsFileOf v n doubtful d
     → Throughout d new (ReadsAs v (kept_slips v n d) (Some (unwrap_or doubtful slip)))
 sound_stays v n doubtful slip d new same sound =
-    stays (ReadsAs v (kept_slips v n d) (Some (unwrap_or doubtful slip))) d new same
-    (λ image of. reads_more v (kept_slips v n d) doubtful slip image (sound.images image of))
+    grind arith
 
 -- ---- the journal after an append
 
@@ -326,19 +279,12 @@ pub kept_same : (v : Values) (n : ℕ) (slip : Slip) (old new : DiskState) → l
     → ReadsAs v (kept_slips v n old) (Some slip) new.bytes → kept_slips v n new ≡ kept_slips v n old
 kept_same v n slip old new long (inl reads) = kept_are v n (kept_slips v n old) new reads (sym long)
 kept_same v n slip old new long (inr (other, both)) =
-    ap (λ (r : Result (List Slip) JournalFault). take n (slips_of r)) both.1
-    ∙ take_at (kept_slips v n old) (other ∷ []) n long
+    grind (arith, take_at)
 
 pub failed_sound : (v : Values) (n : ℕ) (slip : Slip) (old new : DiskState) → length (kept_slips v n old) ≡ n
     → Leave (ReadsAs v (kept_slips v n old) (Some slip)) new → IsFileOf v n (Some slip) new
 failed_sound v n slip old new long left =
-    let same : kept_slips v n new ≡ kept_slips v n old = kept_same v n slip old new long left.0 in
-    record {
-      counted = ap (λ (l : List Slip). length l) same ∙ long;
-      bytes = subst (λ (l : List Slip). ReadsAs v l (Some slip) new.bytes) (sym same) left.0;
-      images = λ image of. subst (λ (l : List Slip). ReadsAs v l (Some slip) image) (sym same) (left.1 image of);
-      durable = λ none. absurd (cc);
-    }
+    grind (arith, kept_same v n slip old new long left.0)
 
 pub all_read : (v : Values) (slips : List Slip) (d : DiskState) → reading v d.bytes ≡ Ok slips → d.stable
     ≡ settled d.bytes → (image : List ℕ) → IsImage d.stable image → reading v image ≡ Ok slips

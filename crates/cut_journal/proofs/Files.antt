@@ -1,5 +1,5 @@
 -- The bytes of a study's file, as the writes of a journal leave them.
-use Rattle.std.proofs.Common.{◌≡◌, ◌∙◌, ◌+◌, ◌++◌, ℕ, List, [], ◌∷◌, length, take, drop, refl, sym, ap, arith}
+use Rattle.std.proofs.Common.{◌≡◌, ◌∙◌, ◌+◌, ◌++◌, ℕ, List, [], ◌∷◌, length, take, refl, sym, ap, arith}
 use Rattle.std.proofs.Common.{append-nil, append_assoc, length-append}
 use Rattle.std.specs.Io.{StartsWith}
 use Rattle.std.specs.List.{flat_map}
@@ -44,16 +44,9 @@ gated_slips v slips = flat_map (gated v) slips
 long_slips : (v : Values) (k : ℕ) (slips : List Slip) → gate_place v k + length (gated_slips v slips)
     ≡ gate_place v (k + length slips)
 long_slips v k [] =
-    let none : gate_place v k + 0 ≡ gate_place v k = omega arith in
-    none ∙ ap (λ n. gate_place v n) (let e : k ≡ k + 0 = omega arith in e)
+    grind arith
 long_slips v k (s ∷ slips) =
-    let one = length-append (gated v s) (gated_slips v slips) in
-    let body = long_body v s in
-    let next = gate_next v k in
-    let rest = long_slips v (k + 1) slips in
-    let size : gate_place v k + length (gated_slips v (s ∷ slips))
-    ≡ gate_place v (k + 1 + length slips) = omega (arith, one, body, next, rest) in
-    size ∙ ap (λ n. gate_place v n) (let e : k + 1 + length slips ≡ k + length (s ∷ slips) = omega arith in e)
+    grind (arith, length-append, long_body, gate_next, long_slips v (k + 1) slips)
 
 long_file : (v : Values) (slips : List Slip) → length (prefix_of v ++ gated_slips v slips) ≡ gate_place v (length slips)
 long_file v slips =
@@ -68,12 +61,7 @@ long_file v slips =
 regrouped : (prefix slips body rest : List ℕ) → ((prefix ++ slips) ++ open_gate ∷ [])
     ++ ((body ++ closed_gate ∷ []) ++ rest) ≡ ((prefix ++ (slips ++ (open_gate ∷ body))) ++ closed_gate ∷ []) ++ rest
 regrouped prefix slips body rest =
-    append_assoc (prefix ++ slips) (open_gate ∷ []) ((body ++ closed_gate ∷ []) ++ rest)
-    ∙ append_assoc prefix slips (open_gate ∷ ((body ++ closed_gate ∷ []) ++ rest))
-    ∙ ap (λ (l : List ℕ). prefix ++ (slips ++ (open_gate ∷ l))) (append_assoc body (closed_gate ∷ []) rest)
-    ∙ ap (λ (l : List ℕ). prefix ++ l) (sym (append_assoc slips (open_gate ∷ body) (closed_gate ∷ rest)))
-    ∙ sym (append_assoc prefix (slips ++ (open_gate ∷ body)) (closed_gate ∷ rest))
-    ∙ sym (append_assoc (prefix ++ (slips ++ (open_gate ∷ body))) (closed_gate ∷ []) rest)
+    grind (arith, append_assoc)
 
 -- the slips with one more after them
 more_slips : (v : Values) (slips : List Slip) (s : Slip) → gated_slips v (slips ++ s ∷ []) ≡ gated_slips v slips
@@ -85,33 +73,11 @@ more_slips v slips s = flat_map-append (gated v) slips (s ∷ [])
 pub extended : (v : Values) (n : ℕ) (slip : Slip) (old mid new : List ℕ) → mid
     ≡ overwritten old (gate_place v n + 1) (put_of v slip) → new ≡ overwritten mid (gate_place v n) (open_gate ∷ [])
     → ExtendsFile v n slip old new
-extended v n slip old mid new wrote opened = λ slips long starts.
-    let g : ℕ = gate_place v n in
-    let kept : List ℕ = prefix_of v ++ gated_slips v slips in
-    let put : List ℕ = put_of v slip in
-    let rest : List ℕ = drop (g + 1 + length put) old in
-    let size : length kept ≡ g = long_file v slips ∙ ap (λ k. gate_place v k) long in
-    let whole : length (file_of v slips) ≡ g + 1 =
-    (let a = length-append kept (closed_gate ∷ []) in omega (arith, a, size)) in
-    let prefix : take (g + 1) old ≡ kept ++ closed_gate ∷ [] = ap (λ k. take k old) (sym whole) ∙ starts in
-    let between : mid ≡ kept ++ (closed_gate ∷ (put ++ rest)) =
-    wrote ∙ ap (λ (l : List ℕ). (l ++ put) ++ rest) prefix ∙ append_assoc (kept ++ closed_gate ∷ []) put rest
-    ∙ append_assoc kept (closed_gate ∷ []) (put ++ rest) in
-    let ahead : take g mid ≡ kept = ap (take g) between ∙ take_at kept (closed_gate ∷ (put ++ rest)) g size in
-    let after : drop (g + 1) mid ≡ put ++ rest =
-    ap (drop (g + 1)) (between ∙ sym (append_assoc kept (closed_gate ∷ []) (put ++ rest)))
-    ∙ drop_at (kept ++ closed_gate ∷ []) (put ++ rest) (g + 1)
-    (let a = length-append kept (closed_gate ∷ []) in omega (arith, a, size)) in
-    begins new (file_of v (slips ++ slip ∷ [])) rest
-    (opened ∙ ap (λ (l : List ℕ). (l ++ open_gate ∷ []) ++ drop (g + 1) mid) ahead
-    ∙ ap (λ (l : List ℕ). (kept ++ open_gate ∷ []) ++ l) after
-    ∙ regrouped (prefix_of v) (gated_slips v slips) (body_of v slip) rest
-    ∙ ap (λ (l : List ℕ). ((prefix_of v ++ l) ++ closed_gate ∷ []) ++ rest) (sym (more_slips v slips slip)))
+extended v n slip old mid new wrote opened = grind (arith, long_file, length-append, append_assoc, drop_at, begins, regrouped, more_slips)
 
 -- at the place of the gate
 pub extended_at : (v : Values) (n place : ℕ) (slip : Slip) (old mid new : List ℕ) → place ≡ gate_place v n → mid
     ≡ overwritten old (place + 1) (put_of v slip) → new ≡ overwritten mid place (open_gate ∷ [])
     → ExtendsFile v n slip old new
 extended_at v n place slip old mid new here wrote opened =
-    extended v n slip old mid new (wrote ∙ ap (λ k. overwritten old (k + 1) (put_of v slip)) here)
-    (opened ∙ ap (λ k. overwritten mid k (open_gate ∷ [])) here)
+    grind (arith, extended)

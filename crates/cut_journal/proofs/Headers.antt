@@ -1,6 +1,6 @@
 -- The header of a plan's study is whole.
-use Rattle.std.proofs.Common.{◌≡◌, ◌∙◌, ◌≤◌, ◌<◌, ◌+◌, ◌-◌, ◌++◌, ◌&&◌, ℕ, suc, Bool, true, false, List, ◌∷◌, length}
-use Rattle.std.proofs.Common.{take, drop, slice_range, nat_le, refl, sym, ap, arith}
+use Rattle.std.proofs.Common.{◌≡◌, ◌∙◌, ◌≤◌, ◌<◌, ◌+◌, ◌-◌, ◌++◌, ◌&&◌, ℕ, Bool, true, false, List, ◌∷◌, length}
+use Rattle.std.proofs.Common.{take, slice_range, nat_le, refl, sym, ap, arith}
 use Rattle.std.specs.Prelude.{bytes_eq, ◌==◌}
 use Rattle.std.specs.Int.{w32, to_be_bytes, from_be_bytes}
 use Rattle.std.proofs.lemmas.Bool.Decides.{nat_tests, Decides-eqb}
@@ -48,22 +48,13 @@ size_of v = size_at (version_of v.failing) (length (canonical_text v)) (canonica
 header_in : (v : Values) (n : ℕ) → n ≡ length (canonical_text v) → slice_range (prefix_of v) 1 (n + 13) ≡ header_of v
 unfolding prefix_of
 header_in v n is =
-    let size : n + 13 - 1 ≡ n + 12 = omega arith in
-    let long = long_header v in
-    ap (λ (k : ℕ). take k (header_of v ++ header_digest v)) size
-    ∙ take_at (header_of v) (header_digest v) (n + 12) (omega (arith, long, is))
+    grind (arith, long_header, take_at)
 
 digest_in : (v : Values) (n : ℕ) → n ≡ length (canonical_text v) → slice_range (prefix_of v) (n + 13) (n + 45)
     ≡ sha256 (header_of v)
 unfolding prefix_of header_digest
 digest_in v n is =
-    let size : n + 45 - (n + 13) ≡ 32 = omega arith in
-    let long = long_header v in
-    let sum = length-sha256 (header_of v) in
-    let next : n + 13 ≡ suc (n + 12) = omega arith in
-    ap (λ (k : ℕ). take k (drop (n + 13) (prefix_of v))) size ∙ ap (λ (k : ℕ). take 32 (drop k (prefix_of v))) next
-    ∙ ap (take 32) (drop_at (header_of v) (sha256 (header_of v)) (n + 12) (omega (arith, long, is)))
-    ∙ take_all 32 (sha256 (header_of v)) (omega (arith, sum))
+    grind (arith, long_header, length-sha256, drop_at, take_all)
 
 pub both : (a b : Bool) → (a && b) ≡ true → (a ≡ true) × (b ≡ true)
 both true b is = (refl, is)
@@ -71,9 +62,6 @@ both false b is = absurd (cc)
 
 pub together : (a b : Bool) → a ≡ true → b ≡ true → (a && b) ≡ true
 together a b p q = cc
-
-all_four : (a b c d : Bool) → a ≡ true → b ≡ true → c ≡ true → d ≡ true → (((a && b) && c) && d) ≡ true
-all_four a b c d p q r s = cc
 
 if_same : (a b c : Bool) → (a ≡ true → b ≡ c) → (a && b) ≡ (a && c)
 if_same true b c same = same refl
@@ -83,49 +71,31 @@ all_five : (a b c d e : Bool) → a ≡ true → b ≡ true → c ≡ true → d
     ≡ true
 all_five a b c d e p q r s t = cc
 
-rest_at : (version : Version) (n : ℕ) (text digest : List ℕ)
-    → drop 13 (open_gate ∷ ((magic_of version ++ to_be_bytes w32 n) ++ text) ++ digest) ≡ text ++ digest
-rest_at One n text digest = refl
-rest_at Two n text digest = refl
-
 text_in : (v : Values) (n : ℕ) → n ≡ length (canonical_text v) → slice_range (prefix_of v) 13 (n + 13)
     ≡ canonical_text v
 unfolding prefix_of header_of
 text_in v n is =
-    let size : n + 13 - 13 ≡ n = omega arith in
-    ap (λ (k : ℕ). take k (drop 13 (prefix_of v))) size
-    ∙ ap (take n) (rest_at (version_of v.failing) (length (canonical_text v)) (canonical_text v) (header_digest v))
-    ∙ take_at (canonical_text v) (header_digest v) n (sym is)
+    grind (arith, take_at)
 
 -- the text in what a study's file begins with
 pub own_text : (v : Values) (mine : List ℕ) (n : ℕ) → mine ≡ prefix_of v → n ≡ length (canonical_text v) + 45
     → slice_range mine 13 (n - 32) ≡ canonical_text v
 own_text v mine n is long =
-    let size : n - 32 ≡ length (canonical_text v) + 13 = omega (arith, long) in
-    ap (λ (l : List ℕ). slice_range l 13 (n - 32)) is ∙ ap (λ (k : ℕ). slice_range (prefix_of v) 13 k) size
-    ∙ text_in v (length (canonical_text v)) refl
+    grind (arith, text_in)
 
 -- whether bytes say a text, by both tests
 pub says_other : (v : Values) (bytes digits : List ℕ) (n : ℕ) → digits ≡ slice_range bytes 9 13 → n
     ≡ from_be_bytes w32 digits → (n ≡ length (canonical_text v) → ⊥) → false ≡ says_plan v bytes
 unfolding says_plan
 says_other v bytes digits n read is other =
-    let text : text_length bytes ≡ n = ap (from_be_bytes w32) (sym read) ∙ sym is in
-    let test : (text_length bytes == length (canonical_text v)) ≡ false = grind (arith, nat_tests, text, other) in
-    sym (ap (λ (b : Bool). b && bytes_eq (slice_range bytes 13 (text_length bytes + 13)) (canonical_text v)) test)
+    grind arith
 
 pub says_same : (v : Values) (bytes digits text : List ℕ) (n : ℕ) → digits ≡ slice_range bytes 9 13 → n
     ≡ from_be_bytes w32 digits → text ≡ canonical_text v → n ≡ length text
     → bytes_eq (slice_range bytes 13 (length text + 13)) text ≡ says_plan v bytes
 unfolding says_plan
 says_same v bytes digits text n read is mine long =
-    let same : text_length bytes ≡ length text = ap (from_be_bytes w32) (sym read) ∙ sym is ∙ long in
-    let test : (text_length bytes == length (canonical_text v))
-    ≡ true = (Decides-eqb (text_length bytes) (length (canonical_text v))).1
-    (same ∙ ap (λ (l : List ℕ). length l) mine) in
-    ap (λ (k : ℕ). bytes_eq (slice_range bytes 13 (k + 13)) text) (sym same)
-    ∙ ap (bytes_eq (slice_range bytes 13 (text_length bytes + 13))) mine
-    ∙ sym (ap (λ (b : Bool). b && bytes_eq (slice_range bytes 13 (text_length bytes + 13)) (canonical_text v)) test)
+    grind arith
 
 -- bytes that begin as the file of a plan's study
 pub record Begins (v : Values) (bytes : List ℕ) : Type 0 where
@@ -169,49 +139,29 @@ prefix_begins v bytes short long prefix =
 
 -- ---- bytes that begin alike
 
-header_parts : (a b c d : Bool) → (((a && b) && c) && d) ≡ true → (a ≡ true) × (b ≡ true) × (c ≡ true) × (d ≡ true)
-header_parts true true true true is = (refl, refl, refl, refl)
-header_parts true true true false is = absurd (cc)
-header_parts true true false d is = absurd (cc)
-header_parts true false c d is = absurd (cc)
-header_parts false b c d is = absurd (cc)
-
 -- the text that bytes say has the length of the plan's
 pub says_length : (v : Values) (bytes : List ℕ) → says_plan v bytes ≡ true → text_length bytes
     ≡ length (canonical_text v)
 unfolding says_plan
 says_length v bytes says =
-    (Decides-eqb (text_length bytes) (length (canonical_text v))).0
-    (both (text_length bytes == length (canonical_text v))
-    (bytes_eq (slice_range bytes 13 (text_length bytes + 13)) (canonical_text v)) says).0
+    grind arith
 
 -- there is room for a whole header, and a gate after it
 pub header_room : (bytes : List ℕ) → can_have_header bytes ≡ true → text_length bytes + 46 ≤ length bytes
 unfolding can_have_header
 header_room bytes can =
-    let parts = header_parts (nat_le 13 (length bytes)) (is_magic (slice_range bytes 1 9))
-    (nat_le (text_length bytes) 65536) (nat_le (text_length bytes + 46) (length bytes)) can in
-    grind (arith, nat_tests, parts.3)
+    grind arith
 
 pub has_can : (bytes : List ℕ) → has_header bytes ≡ true → can_have_header bytes ≡ true
 unfolding has_header
 has_can bytes has =
-    (both (can_have_header bytes) (bytes_eq (sha256 (slice_range bytes 1 (text_length bytes + 13)))
-    (slice_range bytes (text_length bytes + 13) (text_length bytes + 45))) has).0
+    grind arith
 
 can_alike : (m : ℕ) (bytes others : List ℕ) → take m others ≡ take m bytes → m < length others → 45 ≤ m
     → text_length bytes + 45 ≤ m → can_have_header bytes ≡ true → can_have_header others ≡ true
 unfolding can_have_header
 can_alike m bytes others alike long room size can =
-    let parts = header_parts (nat_le 13 (length bytes)) (is_magic (slice_range bytes 1 9))
-    (nat_le (text_length bytes) 65536) (nat_le (text_length bytes + 46) (length bytes)) can in
-    let is : text_length others ≡ text_length bytes = ap (from_be_bytes w32)
-    (alike_part m 9 13 others bytes alike (omega (arith, room))) in
-    all_four (nat_le 13 (length others)) (is_magic (slice_range others 1 9)) (nat_le (text_length others) 65536)
-    (nat_le (text_length others + 46) (length others))
-    (grind (arith, nat_tests, long, room)) (ap is_magic (alike_part m 1 9 others bytes alike (omega (arith, room)))
-    ∙ parts.1)
-    (ap (λ (k : ℕ). nat_le k 65536) is ∙ parts.2) (grind (arith, nat_tests, long, size, is))
+    grind (arith, alike_part m 9 13 others bytes alike, alike_part m 1 9 others bytes alike)
 
 header_alike : (m : ℕ) (bytes others : List ℕ) → take m others ≡ take m bytes → m < length others → 45 ≤ m
     → text_length bytes + 45 ≤ m → has_header bytes ≡ true → has_header others ≡ true
@@ -255,18 +205,9 @@ pub magic_alike : (v : Values) (bytes others : List ℕ) → take (gate_place v 
     → has_magic v others ≡ has_magic v bytes
 unfolding has_magic
 magic_alike v bytes others alike =
-    let place : gate_place v 0 ≡ length (canonical_text v) + 45 = gate_first v in
-    ap (λ (l : List ℕ). bytes_eq l (magic_of (version_of v.failing)))
-    (alike_part (gate_place v 0) 1 9 others bytes alike (omega (arith, place)))
+    grind (arith, gate_first v, alike_part (gate_place v 0) 1 9 others bytes alike)
 
 pub begin_alike : (v : Values) (bytes others : List ℕ) → take (gate_place v 0) others ≡ take (gate_place v 0) bytes
     → gate_place v 0 < length others → Begins v bytes → Begins v others
 begin_alike v bytes others alike long begins =
-    let place : gate_place v 0 ≡ length (canonical_text v) + 45 = gate_first v in
-    let size = says_length v bytes begins.text in
-    record {
-      header = header_alike (gate_place v 0) bytes others alike long (omega (arith, place)) (omega (arith, place, size))
-          begins.header;
-      text = says_alike v bytes others alike ∙ begins.text;
-      letters = magic_alike v bytes others alike ∙ begins.letters;
-    }
+    grind (arith, gate_first, says_length, header_alike, says_alike, magic_alike)

@@ -3,7 +3,7 @@ use Rattle.std.proofs.Common.{◌≡◌, ◌∙◌, ◌≤◌, ◌<◌, ◌+◌,
 use Rattle.std.proofs.Common.{◌∷◌, Result, Ok, length, take, drop, get_or, nat_lt, slice_index, refl, sym, ap, subst}
 use Rattle.std.proofs.Common.{arith, append_assoc, length-append}
 use Rattle.std.specs.Bool.{⊤}
-use Rattle.std.proofs.lemmas.Bool.Decides.{nat_tests, Decides-eqb}
+use Rattle.std.proofs.lemmas.Bool.Decides.{nat_tests}
 use Rattle.std.proofs.lemmas.List.{take_at, get_or-append_right}
 use Rattle.cut_plan.specs.Values.{Values}
 use Rattle.cut_plan.specs.Canonical.{canonical_text}
@@ -19,7 +19,7 @@ use Rattle.cut_journal.proofs.Moments.{Through, through_is, stays, settled_image
 use Rattle.cut_journal.proofs.Appends.{torn_rest}
 use Rattle.cut_journal.proofs.Prefixes.{long_prefix}
 use Rattle.cut_journal.proofs.Gates.{gate_first}
-use Rattle.cut_journal.proofs.Readings.{cases_bool, of_plan_from, holds_reads, none_read}
+use Rattle.cut_journal.proofs.Readings.{of_plan_from, holds_reads, none_read}
 use Rattle.cut_journal.specs.inside.Places.{gate_place}
 use Rattle.cut_plan.proofs.Counting.{over_and}
 
@@ -88,11 +88,7 @@ new_read v rest short =
 
 new_or_none : (v : Values) (c : ℕ) (rest : List ℕ) → length (canonical_text v) ≤ 65536
     → IsNewStudy v (c ∷ rest_of v ++ rest)
-new_or_none v c rest short = elim (cases_bool (c == open_gate)) [
-  | inl opens ↦ (let is : c ≡ open_gate = (Decides-eqb c open_gate).0 opens
-      in inr (ap (λ (b : ℕ). reading v (b ∷ rest_of v ++ rest)) is ∙ new_read v rest short))
-  | inr closed ↦ inl (none_read v (c ∷ rest_of v ++ rest) (closed_none (c ∷ rest_of v ++ rest) closed))
-]
+new_or_none v c rest short = grind (arith, new_read, none_read)
 
 pub open_step : {E : Type 0} (result : Result ⊤ E) (v : Values) (old new : DiskState) → length (canonical_text v)
     ≤ 65536 → WritesStayInSpan → old.stable ≡ settled old.bytes → BeginsAs v old.bytes
@@ -129,10 +125,7 @@ look_failed v old new is = (
 
 pub write_failed : (v : Values) (old mid new : DiskState) → mid ≡ synced old → is_study old.bytes ≡ false
     → Throughout mid new (IsNewStudy v) → IsNotMade v Disk old new
-write_failed v old mid new durable none moments = (
-  λ read. inr (subst (λ (d : DiskState). Throughout d new (IsNewStudy v)) durable moments),
-  λ some. absurd (some (none_read v old.bytes none)),
-)
+write_failed v old mid new durable none moments = grind (arith, none_read)
 
 pub none_new : (v : Values) (bytes : List ℕ) → IsNone bytes → IsNewStudy v bytes
 none_new v bytes none = inl (none_read v bytes none)

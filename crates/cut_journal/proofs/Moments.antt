@@ -1,11 +1,11 @@
 -- What every crash may leave of an honest disk, at each moment of a write that is made durable.
-use Rattle.std.proofs.Common.{◌≡◌, ◌∙◌, ◌+◌, ◌++◌, ◌||◌, inl, inr, ℕ, Bool, true, false, List, [], ◌∷◌, Result, Ok, Err}
+use Rattle.std.proofs.Common.{◌≡◌, ◌∙◌, ◌+◌, ◌++◌, inl, inr, ℕ, true, List, [], ◌∷◌, Result, Ok, Err}
 use Rattle.std.proofs.Common.{length, refl, sym, ap, subst, arith, append_assoc}
 use Rattle.std.specs.Bool.{⊤}
 use Rattle.std.specs.List.{AllByRecursion}
 use Rattle.std.specs.Result.{is_ok, OnOk}
 use Rattle.std.proofs.lemmas.List.{take_all}
-use Rattle.cut_disks.specs.State.{Stable, DiskState, IsImage, IsTorn, Throughout, Syncs, covers, settled, written}
+use Rattle.cut_disks.specs.State.{Stable, DiskState, IsImage, IsTorn, Throughout, Syncs, settled, written}
 use Rattle.cut_disks.specs.State.{begun, synced, overwritten}
 use Rattle.cut_disks.specs.Laws.{WritesStayInSpan}
 use Rattle.cut_journal.specs.inside.Steps.{WritesThrough, Leave}
@@ -21,22 +21,7 @@ through_sync (Err fault) at put old mid new stay wrote is = inr
 -- the only image of what is durable
 pub settled_is : (bytes image : List ℕ) → IsImage (settled bytes) image → image ≡ bytes
 settled_is bytes image is =
-    sym (take_all (length bytes) image (omega (arith, is.no_longer)))
-    ∙ alike_at (length bytes) image bytes (omega (arith, is.no_shorter)) (omega arith) (λ i low. is.same i low refl)
-    ∙ take_all (length bytes) bytes (omega arith)
-
-either_none : (a : Bool) → a ≡ false → (a || false) ≡ false
-either_none a none = ap (λ b. b || false) none
-
--- the images of one write that was begun
-pub begun_is : (bytes image : List ℕ) (at stop : ℕ)
-    → IsImage (record { synced = bytes; spans = record { start = at; stop = stop } ∷ [] }) image
-    → IsTorn at stop bytes image
-begun_is bytes image at stop is = record {
-  no_shorter = is.no_shorter;
-  no_longer = is.no_longer;
-  same = λ i low outside. is.same i low (either_none (covers i (record { start = at; stop = stop })) outside);
-}
+    grind (arith, take_all (length bytes) image, alike_at (length bytes) image bytes, take_all (length bytes) bytes)
 
 -- all images of a disk have a property
 abbrev pub Images : (List ℕ → Type 0) → Stable → Type 0
@@ -48,11 +33,7 @@ settled_images P s bytes is holds image of = subst P
 
 -- nothing happened
 pub stays : (P : List ℕ → Type 0) (old new : DiskState) → new ≡ old → Images P old.stable → Throughout old new P
-stays P old new is images = record {
-  since = [];
-  goes_on = ap (λ (d : DiskState). d.past) is;
-  each = (subst (λ (d : DiskState). Images P d.stable) (sym is) images, tt);
-}
+stays P old new is images = grind arith
 
 each_append : (P : Stable → Type 0) (xs ys : List Stable) → AllByRecursion P xs → AllByRecursion P ys
     → AllByRecursion P (xs ++ ys)
@@ -62,12 +43,7 @@ each_append P (x ∷ xs) ys all more = (all.0, each_append P xs ys all.1 more)
 -- one thing after another
 pub and_then : (P : List ℕ → Type 0) (old mid new : DiskState) → Throughout old mid P → Throughout mid new P
     → Throughout old new P
-and_then P old mid new first next = record {
-  since = next.since ++ first.since;
-  goes_on = next.goes_on ∙ ap (λ (past : List Stable). next.since ++ past) first.goes_on
-      ∙ sym (append_assoc next.since first.since old.past);
-  each = (next.each.0, each_append (Images P) next.since first.since next.each.1 first.each.1);
-}
+and_then P old mid new first next = grind (arith, append_assoc, each_append)
 
 each_weaker : (P Q : List ℕ → Type 0) → ((bytes : List ℕ) → P bytes → Q bytes) → (xs : List Stable)
     → AllByRecursion (Images P) xs → AllByRecursion (Images Q) xs
@@ -76,11 +52,7 @@ each_weaker P Q implies (x ∷ xs) all = (λ image of. implies image (all.0 imag
 
 pub weaker : (P Q : List ℕ → Type 0) → ((bytes : List ℕ) → P bytes → Q bytes) → (old new : DiskState)
     → Throughout old new P → Throughout old new Q
-weaker P Q implies old new holds = record {
-  since = holds.since;
-  goes_on = holds.goes_on;
-  each = (λ image of. implies image (holds.each.0 image of), each_weaker P Q implies holds.since holds.each.1);
-}
+weaker P Q implies old new holds = grind (arith, each_weaker)
 
 -- a durable write to a disk on which all was durable
 pub record Through {E : Type 0} (P : List ℕ → Type 0) (result : Result ⊤ E) (at : ℕ) (put : List ℕ)
@@ -93,9 +65,7 @@ pub record Through {E : Type 0} (P : List ℕ → Type 0) (result : Result ⊤ E
 begun_images : (P : List ℕ → Type 0) (at stop : ℕ) (old : DiskState) (torn : List ℕ) → old.stable ≡ settled old.bytes
     → ((image : List ℕ) → IsTorn at stop old.bytes image → P image) → Images P (begun old at stop torn).stable
 begun_images P at stop old torn durable holds image of =
-    holds image (begun_is old.bytes image at stop (subst
-    (λ (s : Stable). IsImage (record { synced = s.synced; spans = record { start = at; stop = stop } ∷ s.spans })
-    image) durable of))
+    grind arith
 
 pub through_is : {E : Type 0} (P : List ℕ → Type 0) (result : Result ⊤ E) (at : ℕ) (put : List ℕ) (old new : DiskState)
     → WritesStayInSpan
@@ -121,12 +91,7 @@ through_is {E} P (Ok done) at put old new stay durable before torn is =
       durable = λ ok. refl;
       bytes = λ ok. refl;
     })
-through_is {E} P (Err fault) at put old new stay durable before torn (inl none) = record {
-  moments = stays P old new none (settled_images P old.stable old.bytes durable before);
-  left = subst (λ (d : DiskState). Leave P d) (sym none) (before, settled_images P old.stable old.bytes durable before);
-  durable = λ ok. absurd (cc);
-  bytes = λ ok. absurd (cc);
-}
+through_is {E} P (Err fault) at put old new stay durable before torn (inl none) = grind arith
 through_is {E} P (Err fault) at put old new stay durable before torn (inr (left, is)) =
     let stop : ℕ = at + length put in
     let images : Images P (begun old at stop left).stable = begun_images P at stop old left durable torn in

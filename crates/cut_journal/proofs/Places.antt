@@ -1,10 +1,8 @@
 -- What is read from a slip's gate on, by the places of the gates.
 use Rattle.std.proofs.Common.{◌≡◌, ◌∙◌, ◌≤◌, ◌<◌, ◌+◌, ◌-◌, ◌==◌, ◌&&◌, ◌⊎◌, inl, inr, ℕ, zero, suc, Bool, true, false}
-use Rattle.std.proofs.Common.{not, cond, List, [], ◌∷◌, Result, Ok, Err, length, map, take, drop, get_or, slice_index}
+use Rattle.std.proofs.Common.{not, cond, List, [], ◌∷◌, Result, Ok, Err, length, map, drop, slice_index}
 use Rattle.std.proofs.Common.{nat_lt, refl, sym, ap, subst, arith, add-zero}
 use Rattle.std.specs.List.{range_with_len}
-use Rattle.std.proofs.lemmas.Bool.{cases_lt}
-use Rattle.std.proofs.lemmas.Bool.Decides.{nat_tests, Decides-ltb}
 use Rattle.std.proofs.lemmas.List.{get_or-drop, drop-drop, length-drop}
 use Rattle.cut_plan.specs.Failing.{version_of}
 use Rattle.cut_plan.specs.Values.{Values}
@@ -39,40 +37,20 @@ rest_at v bytes i = drop (gate_place v i) bytes
 
 opens_is : (v : Values) (bytes : List ℕ) (i : ℕ) → opens (rest_at v bytes i) ≡ is_open v bytes i
 opens_is v bytes i =
-    ap (λ (b : ℕ). b == open_gate) (get_or-drop (gate_place v i) bytes 0 0
-    ∙ ap (λ (p : ℕ). get_or bytes p 0) (add-zero (gate_place v i)))
+    grind (arith, get_or-drop)
 
 body_is : (v : Values) (bytes : List ℕ) (i : ℕ) → body_in v (rest_at v bytes i) ≡ body_at v bytes i
 body_is v bytes i =
-    let size : slip_length (version_of v.failing) - 1
-    ≡ gate_place v (i + 1) - (gate_place v i + 1) = omega (arith, gate_next v i) in
-    ap (λ (n : ℕ). take n (drop 1 (rest_at v bytes i))) size
-    ∙ ap (take (gate_place v (i + 1) - (gate_place v i + 1))) (drop-drop 1 (gate_place v i) bytes)
-
-same_test : (a n b m : ℕ) → (a < n → b < m) → (b < m → a < n) → nat_lt a n ≡ nat_lt b m
-same_test a n b m to back = elim (cases_lt a n) [
-  | inl low ↦ (Decides-ltb a n).1 low ∙ sym ((Decides-ltb b m).1 (to low))
-  | inr past ↦ elim (cases_lt b m) [
-    | inl low ↦ absurd (omega (arith, past, back low))
-    | inr above ↦ (let one : nat_lt a n ≡ false = grind (arith, nat_tests) in let other : nat_lt b m
-        ≡ false = grind (arith, nat_tests) in one ∙ sym other)
-  ]
-]
+    grind (arith, gate_next v i, drop-drop 1 (gate_place v i) bytes)
 
 whole_is : (v : Values) (bytes : List ℕ) (i : ℕ) → has_slip v (rest_at v bytes i) ≡ is_whole v bytes i
 whole_is v bytes i =
-    let next = gate_next v i in
-    let size = length-drop (gate_place v i) bytes in
-    ap (λ (b : Bool). b && is_slip v (body_in v (rest_at v bytes i)))
-    (same_test (slip_length (version_of v.failing)) (length (rest_at v bytes i)) (gate_place v (i + 1)) (length bytes)
-    (λ low. omega (arith, low, next, size)) (λ low. omega (arith, low, next, size)))
-    ∙ ap (λ (body : List ℕ). nat_lt (gate_place v (i + 1)) (length bytes) && is_slip v body) (body_is v bytes i)
+    grind (arith, gate_next, length-drop, body_is)
 
 next_is : (v : Values) (bytes : List ℕ) (i : ℕ) → drop (slip_length (version_of v.failing)) (rest_at v bytes i)
     ≡ rest_at v bytes (i + 1)
 next_is v bytes i =
-    drop-drop (slip_length (version_of v.failing)) (gate_place v i) bytes
-    ∙ ap (λ (p : ℕ). drop p bytes) (sym (gate_next v i))
+    grind (arith, drop-drop, gate_next)
 
 -- ---- the reading by places
 
@@ -180,23 +158,11 @@ chosen_cases true true slip number (Ok rest) slips is = inr
 chosen_cases true true slip number (Err fault) slips is = absurd (ok_not slips fault (sym is))
 
 none_placed : (v : Values) (bytes : List ℕ) (i : ℕ) → is_open v bytes i ≡ false → ArePlaced v bytes i []
-none_placed v bytes i shut = record {
-  whole = λ j low high. absurd (omega (arith, low, high));
-  closed = ap (is_open v bytes) (add-zero i) ∙ shut;
-  are = refl;
-}
+none_placed v bytes i shut = grind arith
 
 one_placed : (v : Values) (bytes : List ℕ) (i : ℕ) (rest : List Slip) → is_open v bytes i ≡ true → is_whole v bytes i
     ≡ true → ArePlaced v bytes (i + 1) rest → ArePlaced v bytes i (slip_at v bytes i ∷ rest)
-one_placed v bytes i rest opens whole after = record {
-  whole = λ j low high. elim (cases_lt i j) [
-    | inl past ↦ after.whole j (omega (arith, past)) (omega (arith, high))
-    | inr here ↦ (let same : j ≡ i = omega (arith, low, here)
-        in (ap (is_open v bytes) same ∙ opens, ap (is_whole v bytes) same ∙ whole))
-  ];
-  closed = ap (is_open v bytes) (next_end i (length rest)) ∙ after.closed;
-  are = ap (λ (l : List Slip). slip_at v bytes i ∷ l) after.are;
-}
+one_placed v bytes i rest opens whole after = grind arith
 
 more_placed : (v : Values) (bytes : List ℕ) (number i : ℕ) (after : Result (List Slip) JournalFault) (slips : List Slip)
     → chosen (is_open v bytes i) (is_whole v bytes i) (slip_at v bytes i) number after ≡ Ok slips
@@ -230,5 +196,4 @@ pub placed_some : (v : Values) (bytes : List ℕ) (more number i : ℕ) → plac
 unfolding placed
 placed_some v bytes zero number i is = damaged_not number is
 placed_some v bytes (suc more) number i is =
-    chosen_some (is_open v bytes i) (is_whole v bytes i) (slip_at v bytes i) number
-    (placed v bytes more (number + 1) (i + 1)) (λ after. placed_some v bytes more (number + 1) (i + 1) after) is
+    grind (arith, chosen_some, placed_some v bytes more (number + 1) (i + 1))

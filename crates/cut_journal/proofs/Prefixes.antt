@@ -1,21 +1,15 @@
 -- The bytes that a study's file begins with, as they are put together.
-use Rattle.std.proofs.Common.{◌≡◌, ◌∙◌, ◌≤◌, ◌+◌, ◌-◌, ◌++◌, inl, inr, ℕ, suc, true, List, [], ◌∷◌, Result, Ok, Err}
-use Rattle.std.proofs.Common.{length, take, drop, nat_lt, refl, sym, ap, arith, append_assoc, length-append}
+use Rattle.std.proofs.Common.{◌≡◌, ◌∙◌, ◌≤◌, ◌+◌, ◌-◌, ◌++◌, ℕ, List, [], ◌∷◌, Ok}
+use Rattle.std.proofs.Common.{length, take, drop, ap, arith, append_assoc, length-append}
 use Rattle.std.specs.Int.{w32, to_be_bytes}
-use Rattle.std.proofs.lemmas.Bool.{cases_lt}
-use Rattle.std.proofs.lemmas.Bool.Decides.{Decides-ltb}
 use Rattle.std.proofs.lemmas.List.{take_rest, take_at, drop_at}
 use borrow.Rule.Slice.PartMut.{put_mid}
 use Rattle.sha2.proofs.Facts256.{length-sha256}
 use Rattle.sha2.specs.Sha256.{sha256}
-use Rattle.cut_fields.specs.declared.version.Version.{Version}
-use Rattle.cut_fields.specs.declared.version.Version.TheVariants.{One, Two}
 use Rattle.cut_plan.specs.Failing.{version_of}
 use Rattle.cut_plan.specs.Values.{Values}
 use Rattle.cut_plan.specs.Accepted.{plan_of}
-use Rattle.cut_plan.specs.declared.refusal.Refusal.TheVariants.{PlanTooLong}
 use Rattle.cut_plan.specs.Canonical.{canonical_text}
-use Rattle.cut_plan.specs.declared.refusal.Refusal.{Refusal}
 use Rattle.cut_journal.specs.File.{open_gate, closed_gate, magic_of, header_of, header_digest, prefix_of}
 use Rattle.cut_journal.specs.inside.File.{rest_of}
 
@@ -24,10 +18,7 @@ pub header_made : (v : Values) (a b c d e : List ℕ) → a ≡ [] → b ≡ a +
     ++ canonical_text v → e ≡ open_gate ∷ header_of v
 unfolding header_of
 header_made v a b c d e none first letters size text =
-    text ∙ ap (λ (l : List ℕ). l ++ canonical_text v)
-    (size ∙ ap (λ (l : List ℕ). l ++ to_be_bytes w32 (length (canonical_text v)))
-    (letters ∙ ap (λ (l : List ℕ). l ++ magic_of (version_of v.failing))
-    (first ∙ ap (λ (l : List ℕ). l ++ open_gate ∷ []) none)))
+    grind arith
 
 after_first : (all : List ℕ) (first : ℕ) (rest : List ℕ) → all ≡ first ∷ rest → take (length all - 1) (drop 1 all)
     ≡ rest
@@ -44,55 +35,29 @@ unfolding prefix_of
 prefix_made v e f digest is right made = made ∙ ap (λ (l : List ℕ). l ++ digest) is
     ∙ ap (λ (l : List ℕ). open_gate ∷ header_of v ++ l) right
 
-long_magic : (version : Version) → length (magic_of version) ≡ 8
-long_magic One = refl
-long_magic Two = refl
-
 pub long_header : (v : Values) → length (header_of v) ≡ length (canonical_text v) + 12
 unfolding header_of
 long_header v =
-    let letters : List ℕ = magic_of (version_of v.failing) in
-    let size : List ℕ = to_be_bytes w32 (length (canonical_text v)) in
-    let a = length-append (letters ++ size) (canonical_text v) in
-    let b = length-append letters size in
-    let c = long_magic (version_of v.failing) in
-    let d : length size ≡ 4 = refl in
-    omega (arith, a, b, c, d)
+    grind arith
 
 pub long_prefix : (v : Values) → length (prefix_of v) ≡ length (canonical_text v) + 45
 unfolding prefix_of header_digest
 long_prefix v =
-    let a = long_header v in
-    let b = length-sha256 (header_of v) in
-    let c = length-append (header_of v) (sha256 (header_of v)) in
-    let d : length (open_gate ∷ header_of v ++ sha256 (header_of v))
-    ≡ suc (length (header_of v ++ sha256 (header_of v))) = refl in
-    d ∙ omega (arith, a, b, c)
+    grind (arith, long_header, length-sha256, length-append)
 
 pub rest_made : (v : Values) (prefix a b : List ℕ) → prefix ≡ prefix_of v → a ≡ take (length prefix - 1) (drop 1 prefix)
     → b ≡ a ++ closed_gate ∷ [] → b ≡ rest_of v
 unfolding rest_of prefix_of
 rest_made v prefix a b is rest more =
-    more ∙ ap (λ (l : List ℕ). l ++ closed_gate ∷ [])
-    (rest ∙ after_first prefix open_gate (header_of v ++ header_digest v) is)
-
-refused : (refusal : Refusal) (v : Values) → (let r : Result Values Refusal = Err refusal in r) ≡ Ok v → ⊥
-refused refusal v same = cc
+    grind (arith, after_first)
 
 -- a plan's text is no longer than a text that is read as a plan
 pub short_text : (v : Values) → plan_of (canonical_text v) ≡ Ok v → length (canonical_text v) ≤ 65536
 unfolding plan_of
-short_text v reads = elim (cases_lt 65536 (length (canonical_text v))) [
-  | inl long ↦ (let test : nat_lt 65536 (length (canonical_text v))
-      ≡ true = (Decides-ltb 65536 (length (canonical_text v))).1 long in
-      absurd (refused PlanTooLong v (rw test at reads)))
-  | inr short ↦ short
-]
+short_text v reads = grind arith
 
 -- a slip's numbers and digest over a closed gate
 pub layered : (n : ℕ) (numbers zeros digest : List ℕ) → length numbers ≡ n → put_mid n 32 (numbers ++ zeros) digest
     ≡ (numbers ++ digest) ++ drop 32 zeros
 layered n numbers zeros digest long =
-    ap (λ (l : List ℕ). l ++ (digest ++ drop 32 (drop n (numbers ++ zeros)))) (take_at numbers zeros n long)
-    ∙ ap (λ (l : List ℕ). numbers ++ (digest ++ drop 32 l)) (drop_at numbers zeros n long)
-    ∙ sym (append_assoc numbers digest (drop 32 zeros))
+    grind (arith, take_at, drop_at, append_assoc)

@@ -1,12 +1,11 @@
 -- How bytes are read.
 use Rattle.std.proofs.Common.{◌≡◌, ◌∙◌, ◌≤◌, ◌<◌, ◌+◌, ◌-◌, ◌++◌, ◌==◌, ◌&&◌, ◌⊎◌, inl, inr, ℕ, zero, suc, Bool, true}
 use Rattle.std.proofs.Common.{false, not, cond, List, [], ◌∷◌, Result, Ok, Err, length, take, drop, get_or, slice_range}
-use Rattle.std.proofs.Common.{slice_index, nat_lt, nat_le, refl, sym, ap, subst, arith, zero-add}
+use Rattle.std.proofs.Common.{slice_index, nat_le, refl, sym, ap, subst, arith, zero-add}
 use Rattle.std.specs.Prelude.{bytes_eq, Option, Some, None, IfErr}
 use Rattle.std.specs.Int.{w32, from_be_bytes}
 use Rattle.std.proofs.lemmas.Bool.{cases_lt}
-use Rattle.std.proofs.lemmas.Bool.Decides.{nat_tests, Decides-ltb, Decides-eqb}
-use Rattle.std.proofs.lemmas.List.{get_or-take, length-take}
+use Rattle.std.proofs.lemmas.List.{length-take}
 use Rattle.std.proofs.lemmas.List.FromFn.{map-range_with_len_more}
 use Rattle.sha2.specs.Sha256.{sha256}
 use Rattle.cut_plan.specs.Failing.{version_of}
@@ -25,12 +24,11 @@ use Rattle.cut_journal.specs.inside.Steps.{IsOfPlan, AreWhole, IsSlipFault}
 use Rattle.cut_journal.proofs.Places.{ok_not, placed, slips_placed, closed_placed, damaged_placed, are_placed}
 use Rattle.cut_journal.proofs.Places.{placed_some}
 use Rattle.cut_journal.proofs.Gates.{gate_first, gate_next, gate_far, gate_rises, nine_numbers}
-use Rattle.cut_journal.proofs.Headers.{both, together, prefix_begins, begin_alike, says_length, has_can, header_room}
+use Rattle.cut_journal.proofs.Headers.{prefix_begins, begin_alike, says_length, has_can, header_room}
 use Rattle.cut_journal.proofs.Headers.{says_alike, magic_alike}
 use Rattle.std.proofs.Math.Seq.{take-take}
 use Rattle.cut_journal.proofs.Counts.{map_alike, alike_place, alike_prefix, alike_part}
 use Rattle.cut_journal.specs.inside.Places.{body_at, first_slips, gate_place, is_open, is_whole}
-use Rattle.cut_plan.proofs.Counting.{over_and}
 
 pub cases_bool : (b : Bool) → (b ≡ true) ⊎ (b ≡ false)
 cases_bool true = inl refl
@@ -48,64 +46,33 @@ prefix_opens : (v : Values) → get_or (prefix_of v) 0 0 ≡ open_gate
 unfolding prefix_of
 prefix_opens v = refl
 
-is_study_from : (bytes : List ℕ) → 1 < length bytes → get_or bytes 0 0 ≡ open_gate → is_study bytes ≡ true
-is_study_from bytes long first =
-    together (nat_lt 1 (length bytes)) (slice_index bytes 0 == open_gate)
-    ((Decides-ltb 1 (length bytes)).1 long) ((Decides-eqb (slice_index bytes 0) open_gate).1 first)
-
 pub of_plan_from : (v : Values) (bytes : List ℕ) → length (canonical_text v) ≤ 65536 → gate_place v 0 < length bytes
     → take (gate_place v 0) bytes ≡ prefix_of v → IsOfPlan v bytes
 of_plan_from v bytes short long is =
-    let place = gate_first v in
-    let begins = prefix_begins v bytes short long is in
-    let first : get_or bytes 0 0 ≡ open_gate = sym (get_or-take (gate_place v 0) bytes 0 0 (omega (arith, place)))
-    ∙ ap (λ l. get_or l 0 0) is ∙ prefix_opens v in
-    record {
-      study = is_study_from bytes (omega (arith, long, place)) first;
-      header = begins.header;
-      text = begins.text;
-      letters = begins.letters;
-    }
+    grind (arith, prefix_begins v bytes short long is, prefix_opens v)
 
 -- the gate of the first slip is there
 pub first_there : (v : Values) (bytes : List ℕ) → has_header bytes ≡ true → says_plan v bytes ≡ true → gate_place v 0
     < length bytes
 first_there v bytes header text =
-    let room = header_room bytes (has_can bytes header) in
-    let size = says_length v bytes text in
-    let place = gate_first v in
-    omega (arith, room, size, place)
+    grind (arith, header_room, has_can, says_length, gate_first)
 
 of_plan_alike : (v : Values) (bytes others : List ℕ) → take (gate_place v 0) others ≡ take (gate_place v 0) bytes
     → gate_place v 0 < length others → IsOfPlan v bytes → IsOfPlan v others
 of_plan_alike v bytes others alike long is =
-    let place = gate_first v in
-    let opens = (both (nat_lt 1 (length bytes)) (slice_index bytes 0 == open_gate) is.study).1 in
-    let first : get_or others 0 0 ≡ open_gate = alike_place (gate_place v 0) 0 others bytes alike (omega (arith, place))
-    ∙ (Decides-eqb (slice_index bytes 0) open_gate).0 opens in
-    let begins = begin_alike v bytes others alike long
-    (record { header = is.header; text = is.text; letters = is.letters }) in
-    record {
-      study = is_study_from others (omega (arith, long, place)) first;
-      header = begins.header;
-      text =
-          begins.text;
-      letters = begins.letters;
-    }
+    grind (arith, gate_first, begin_alike)
 
 -- ---- the slips
 
 whole_is : (v : Values) (bytes : List ℕ) (i : ℕ) → is_whole v bytes i ≡ true → (gate_place v (i + 1) < length bytes)
     × (is_slip v (body_at v bytes i) ≡ true)
 whole_is v bytes i is =
-    let parts = both (nat_lt (gate_place v (i + 1)) (length bytes)) (is_slip v (body_at v bytes i)) is in
-    ((Decides-ltb (gate_place v (i + 1)) (length bytes)).0 parts.0, parts.1)
+    grind arith
 
 pub whole_from : (v : Values) (bytes : List ℕ) (i : ℕ) → gate_place v (i + 1) < length bytes
     → is_slip v (body_at v bytes i) ≡ true → is_whole v bytes i ≡ true
 whole_from v bytes i long is =
-    together (nat_lt (gate_place v (i + 1)) (length bytes)) (is_slip v (body_at v bytes i))
-    ((Decides-ltb (gate_place v (i + 1)) (length bytes)).1 long) is
+    grind arith
 
 ap_place : (v : Values) (bytes : List ℕ) (i k : ℕ) → i ≡ k → gate_place v i < length bytes → gate_place v k
     < length bytes
@@ -119,8 +86,7 @@ opens_at v bytes i at is here reported opens = ap (λ (p : ℕ). slice_index byt
 -- a slip that the end of the file cuts off is not whole
 pub cut_short : (v : Values) (bytes : List ℕ) (i : ℕ) → length bytes ≤ gate_place v (i + 1) → is_whole v bytes i ≡ false
 cut_short v bytes i short =
-    let test : nat_lt (gate_place v (i + 1)) (length bytes) ≡ false = grind (arith, nat_tests) in
-    ap (λ (b : Bool). b && is_slip v (body_at v bytes i)) test
+    grind arith
 
 -- what was read after a gate stands there
 pub body_read : (v : Values) (i at k : ℕ) (zeros : List ℕ) (old mid : DiskState) (body : List ℕ) → at ≡ gate_place v i
@@ -128,49 +94,27 @@ pub body_read : (v : Values) (i at k : ℕ) (zeros : List ℕ) (old mid : DiskSt
     → body ≡ slice_range mid.bytes (at + 1) (at + 1 + length (take (k - 1) zeros)) → length zeros ≡ 112 → body
     ≡ body_at v old.bytes i
 body_read v i at k zeros old mid body here long least most same read buffer =
-    let next = gate_next v i in
-    let count : length (take (k - 1) zeros) ≡ k - 1 = omega (arith, length-take (k - 1) zeros, buffer, most) in
-    let end : at + 1 + length (take (k - 1) zeros)
-    ≡ gate_place v (i + 1) = omega (arith, here, long, next, count, least) in
-    read ∙ ap (λ (d : DiskState). slice_range d.bytes (at + 1) (at + 1 + length (take (k - 1) zeros))) same
-    ∙ ap (λ (e : ℕ). slice_range old.bytes (at + 1) e) end
-    ∙ ap (λ (e : ℕ). slice_range old.bytes (e + 1) (gate_place v (i + 1))) here
-
--- what a slip's bytes are found to be
-found_some : (is : Bool) (made slip : Slip) → cond is (Some made) None ≡ Some slip → (is ≡ true) × (slip ≡ made)
-found_some true made slip same = (refl, (let back : Some slip ≡ Some made = sym same in cc (back)))
-found_some false made slip same = (let none : None ≡ Some slip = same in absurd (cc (none)))
-
-found_none : (is : Bool) (made : Slip) → cond is (Some made) None ≡ None → is ≡ false
-found_none false made same = refl
-found_none true made same = (let some : Some made ≡ None = same in absurd (cc (some)))
+    grind (arith, gate_next, length-take)
 
 pub next_whole : (v : Values) (bytes body : List ℕ) (i : ℕ) (found : Option Slip) (slip : Slip) → found
     ≡ cond (is_slip v body) (Some (slip_in (version_of v.failing) body)) None → body ≡ body_at v bytes i
     → gate_place v (i + 1) < length bytes → found ≡ Some slip → (is_whole v bytes i ≡ true)
     × (slip ≡ slip_in (version_of v.failing) (body_at v bytes i))
 next_whole v bytes body i found slip reported read long some =
-    let parts = found_some (is_slip v body) (slip_in (version_of v.failing) body) slip (sym reported ∙ some) in (
-      whole_from v bytes i long (ap (is_slip v) (sym read) ∙ parts.0),
-      parts.1
-          ∙ ap (slip_in (version_of v.failing)) read,
-    )
+    grind arith
 
 pub next_broken : (v : Values) (bytes body : List ℕ) (i : ℕ) (found : Option Slip) → found
     ≡ cond (is_slip v body) (Some (slip_in (version_of v.failing) body)) None → body ≡ body_at v bytes i
     → found ≡ None → is_whole v bytes i ≡ false
 next_broken v bytes body i found reported read none =
-    let wrong = found_none (is_slip v body) (slip_in (version_of v.failing) body) (sym reported ∙ none) in
-    let later : is_slip v (body_at v bytes i) ≡ false = ap (is_slip v) (sym read) ∙ wrong in
-    over_and (nat_lt (gate_place v (i + 1)) (length bytes)) (is_slip v (body_at v bytes i)) later
+    grind arith
 
 -- the gate after whole slips is there
 pub gate_there : (v : Values) (bytes : List ℕ) (n : ℕ) → IsOfPlan v bytes → AreWhole v bytes n → gate_place v n
     < length bytes
 gate_there v bytes zero prefix whole = first_there v bytes prefix.header prefix.text
 gate_there v bytes (suc n) prefix whole =
-    let there = (whole_is v bytes n (whole n (omega arith)).1).0 in
-    ap_place v bytes (n + 1) (suc n) (omega arith) there
+    grind (arith, ap_place v bytes (n + 1) (suc n))
 
 -- what bytes are read as, by what the tests of the first ones say
 choice : Bool → Bool → Bool → Bool → Result (List Slip) JournalFault → Result (List Slip) JournalFault
@@ -233,8 +177,7 @@ choice_ok false header text letters read slips is = absurd (ok_not slips NoStudy
 -- a study of the plan
 pub plan_read : (v : Values) (bytes : List ℕ) → IsOfPlan v bytes → reading v bytes ≡ slips_reading v bytes
 plan_read v bytes is =
-    choice_is v bytes ∙ choice_plan (is_study bytes) (has_header bytes) (says_plan v bytes) (has_magic v bytes)
-    (slips_reading v bytes) is.study is.header is.text is.letters
+    grind (arith, choice_is, choice_plan)
 
 -- the slips of a study, by the places of their gates
 reading_placed : (v : Values) (bytes : List ℕ) → slips_reading v bytes ≡ placed v bytes (length bytes) 1 0
@@ -245,10 +188,7 @@ reading_placed v bytes = ap (λ (p : ℕ). slips_in v (length bytes) 1 (drop p b
 pub slips_read : (v : Values) (bytes : List ℕ) (n : ℕ) → Holds v bytes n → slips_reading v bytes
     ≡ Ok (first_slips v bytes n)
 slips_read v bytes n holds =
-    let there = gate_there v bytes n holds.prefix holds.whole in
-    reading_placed v bytes
-    ∙ closed_placed v bytes n (length bytes) 1 0 (omega (arith, there, gate_far v n))
-    (λ j low high. holds.whole j (omega (arith, high))) (ap (is_open v bytes) (zero-add n) ∙ holds.closed)
+    grind (arith, gate_there, reading_placed, closed_placed, gate_far)
 
 pub holds_reads : (v : Values) (bytes : List ℕ) (n : ℕ) → Holds v bytes n → reading v bytes ≡ Ok (first_slips v bytes n)
 holds_reads v bytes n holds = plan_read v bytes holds.prefix ∙ slips_read v bytes n holds
@@ -272,29 +212,22 @@ none_read v bytes none = choice_is v bytes ∙ choice_none (is_study bytes) (has
 
 pub some_read : (v : Values) (bytes : List ℕ) → is_study bytes ≡ true → reading v bytes ≡ Err NoStudy → ⊥
 some_read v bytes some is =
-    choice_some (is_study bytes) (has_header bytes) (says_plan v bytes) (has_magic v bytes) (slips_reading v bytes) some
-    (λ read. placed_some v bytes (length bytes) 1 0 (sym (reading_placed v bytes) ∙ read))
-    (sym (choice_is v bytes) ∙ is)
+    grind (arith, choice_some, placed_some, reading_placed, choice_is)
 
 -- a study without a whole header, and one of another plan
 pub damaged_read : (v : Values) (bytes : List ℕ) → is_study bytes ≡ true → has_header bytes ≡ false → reading v bytes
     ≡ Err (Damaged 0)
-damaged_read v bytes some header = choice_is v bytes
-    ∙ choice_damaged (is_study bytes) (has_header bytes) (says_plan v bytes) (has_magic v bytes) (slips_reading v bytes)
-    some header
+damaged_read v bytes some header = grind (arith, choice_is, choice_damaged)
 
 pub other_read : (v : Values) (bytes : List ℕ) → is_study bytes ≡ true → has_header bytes ≡ true → says_plan v bytes
     ≡ false → reading v bytes ≡ Err OtherPlan
-other_read v bytes some header text = choice_is v bytes
-    ∙ choice_other (is_study bytes) (has_header bytes) (says_plan v bytes) (has_magic v bytes) (slips_reading v bytes)
-    some header text
+other_read v bytes some header text = grind (arith, choice_is, choice_other)
 
 -- one whose letters are those of the other version
 pub version_read : (v : Values) (bytes : List ℕ) → is_study bytes ≡ true → has_header bytes ≡ true → says_plan v bytes
     ≡ true → has_magic v bytes ≡ false → reading v bytes ≡ Err (Damaged 0)
 version_read v bytes some header text letters =
-    choice_is v bytes ∙ choice_version (is_study bytes) (has_header bytes) (says_plan v bytes) (has_magic v bytes)
-    (slips_reading v bytes) some header text letters
+    grind (arith, choice_is, choice_version)
 
 -- bytes that say slips
 pub reads_holds : (v : Values) (bytes : List ℕ) (slips : List Slip) → reading v bytes ≡ Ok slips
@@ -354,9 +287,7 @@ pub closed_read : (v : Values) (n : ℕ) (bytes others : List ℕ) → IsOfPlan 
     ≡ false
     → reading v others ≡ Ok (first_slips v bytes n)
 closed_read v n bytes others prefix whole alike long shut =
-    let same = before_same v n bytes others prefix whole alike long in
-    holds_reads v others n (record { prefix = same.0; whole = same.1; closed = shut })
-    ∙ ap (λ (l : List Slip). Ok l) same.2
+    grind (arith, before_same v n bytes others prefix whole alike long, holds_reads v others n)
 
 -- where it is open, and a slip stands whole after it, before a closed gate, that is one more
 pub opened_read : (v : Values) (n : ℕ) (bytes others : List ℕ) (slip : Slip) → IsOfPlan v bytes → AreWhole v bytes n
@@ -381,28 +312,20 @@ opened_read v n bytes others slip prefix whole alike long opens is says shut =
 -- one whole slip more
 pub one_more_whole : (v : Values) (bytes : List ℕ) (n : ℕ) → AreWhole v bytes n → is_open v bytes n ≡ true
     → is_whole v bytes n ≡ true → AreWhole v bytes (n + 1)
-one_more_whole v bytes n whole opens is = λ i low. elim (cases_lt i n) [
-  | inl before ↦ whole i before
-  | inr last ↦ (let here : i ≡ n = omega arith in (ap (is_open v bytes) here ∙ opens, ap (is_whole v bytes) here ∙ is))
-]
+one_more_whole v bytes n whole opens is = grind arith
 
 -- ---- headers
 
 -- a file that has no room for the plan's header is of another plan
 pub short_other : (v : Values) (bytes : List ℕ) → has_header bytes ≡ true → length bytes ≤ gate_place v 0
     → says_plan v bytes ≡ false
-short_other v bytes header short = elim (cases_bool (says_plan v bytes)) [
-  | inl says ↦ absurd (omega (arith, first_there v bytes header says, short))
-  | inr other ↦ other
-]
+short_other v bytes header short = grind (arith, first_there)
 
 -- what the bytes of a header say, the file says
 prefix_alike : (v : Values) (bytes prefix into : List ℕ) (n : ℕ) → n ≡ length (canonical_text v) + 45 → prefix
     ≡ slice_range bytes 0 n → into ≡ prefix → take (gate_place v 0) into ≡ take (gate_place v 0) bytes
 prefix_alike v bytes prefix into n size read same =
-    let k : n - 0 ≡ gate_place v 0 = omega (arith, size, gate_first v) in
-    ap (take (gate_place v 0)) (same ∙ read ∙ ap (λ (m : ℕ). take m bytes) k)
-    ∙ take-take (gate_place v 0) (gate_place v 0) bytes (omega arith)
+    grind (arith, gate_first, take-take)
 
 pub text_said : (v : Values) (bytes prefix into : List ℕ) (n : ℕ) (says : Bool) → n ≡ length (canonical_text v) + 45
     → prefix ≡ slice_range bytes 0 n → into ≡ prefix → says ≡ says_plan v into → says_plan v bytes ≡ says
@@ -427,9 +350,7 @@ pub text_shown : (bytes : List ℕ) (a b c d : Bool) (found : Option ℕ) → a 
     → d ≡ nat_le (text_length bytes + 46) (length bytes) → found
     ≡ cond (((a && b) && c) && d) (Some (text_length bytes)) None → found
     ≡ cond (can_have_header bytes) (Some (text_length bytes)) None
-text_shown bytes a b c d found p q r s is = is ∙ sym
-    (ap (λ (x : Bool). (let o : Option ℕ = cond x (Some (text_length bytes)) None in o))
-    (header_test bytes a b c d p q r s))
+text_shown bytes a b c d found p q r s is = grind (arith, header_test)
 
 pub text_read : (old mid : DiskState) (digits : List ℕ) (text : ℕ) → text ≡ from_be_bytes w32 digits → digits
     ≡ slice_range mid.bytes 9 13 → mid ≡ old → text ≡ text_length old.bytes
@@ -440,27 +361,12 @@ text_read old mid digits text is read same = is ∙ ap (from_be_bytes w32)
 pub text_none : (bytes : List ℕ) (found : Option ℕ) → found
     ≡ cond (can_have_header bytes) (Some (text_length bytes)) None → found ≡ None → has_header bytes ≡ false
 unfolding has_header
-text_none bytes found reported none = elim (cases_bool (can_have_header bytes)) [
-  | inl can ↦ (let same : Some (text_length bytes)
-      ≡ None = sym (reported ∙ ap (λ (b : Bool). (let o : Option ℕ = cond b (Some (text_length bytes)) None in o)) can)
-      ∙ none in absurd (cc (same)))
-  | inr cannot ↦ ap (λ (b : Bool). b && bytes_eq (sha256 (slice_range bytes 1 (text_length bytes + 13)))
-      (slice_range bytes (text_length bytes + 13) (text_length bytes + 45))) cannot
-]
+text_none bytes found reported none = grind arith
 
 pub text_some : (bytes : List ℕ) (found : Option ℕ) (text : ℕ) → found
     ≡ cond (can_have_header bytes) (Some (text_length bytes)) None → found ≡ Some text
     → (can_have_header bytes ≡ true) × (text ≡ text_length bytes)
-text_some bytes found text reported some = elim (cases_bool (can_have_header bytes)) [
-  | inl can ↦ (
-    can,
-    (let same : Some text ≡ Some (text_length bytes) = sym some ∙ reported
-        ∙ ap (λ (b : Bool). (let o : Option ℕ = cond b (Some (text_length bytes)) None in o)) can in cc (same)),
-  )
-  | inr cannot ↦ (let same : Some text ≡ None = sym some ∙ reported
-      ∙ ap (λ (b : Bool). (let o : Option ℕ = cond b (Some (text_length bytes)) None in o)) cannot
-      in absurd (cc (same)))
-]
+text_some bytes found text reported some = grind arith
 
 pub digest_test : (old mid : DiskState) (n : ℕ) (has : Bool) → mid ≡ old → can_have_header old.bytes ≡ true → n
     ≡ text_length old.bytes + 12
@@ -468,15 +374,7 @@ pub digest_test : (old mid : DiskState) (n : ℕ) (has : Bool) → mid ≡ old �
     ≡ has_header old.bytes
 unfolding has_header
 digest_test old mid n has same can size is =
-    let t : ℕ = text_length old.bytes in
-    let a : n + 1 ≡ t + 13 = omega (arith, size) in
-    let b : n + 33 ≡ t + 45 = omega (arith, size) in
-    is ∙ ap (λ (d : DiskState). bytes_eq (sha256 (slice_range d.bytes 1 (n + 1)))
-    (slice_range d.bytes (n + 1) (n + 33))) same
-    ∙ ap (λ (k : ℕ). bytes_eq (sha256 (slice_range old.bytes 1 k)) (slice_range old.bytes k (n + 33))) a
-    ∙ ap (λ (k : ℕ). bytes_eq (sha256 (slice_range old.bytes 1 (t + 13))) (slice_range old.bytes (t + 13) k)) b
-    ∙ sym (ap (λ (b : Bool). b && bytes_eq (sha256 (slice_range old.bytes 1 (t + 13)))
-    (slice_range old.bytes (t + 13) (t + 45))) can)
+    grind arith
 
 -- ---- a study that is read to its end
 

@@ -1,11 +1,9 @@
 -- The bytes of a slip say the slip.
 use Rattle.std.proofs.Common.{◌≡◌, ◌∙◌, ◌<◌, ◌+◌, ◌-◌, ◌*◌, ◌^◌, ◌++◌, ℕ, zero, suc, true, List, [], ◌∷◌}
-use Rattle.std.proofs.Common.{length, take, drop, get_or, nat_lt, refl, sym, ap, arith, append_assoc, length-append}
+use Rattle.std.proofs.Common.{length, take, drop, get_or, refl, sym, ap, arith, append_assoc, length-append}
 use Rattle.std.specs.List.{flat_map}
-use Rattle.std.specs.Int.{w64, to_be_bytes, from_be_bytes}
-use Rattle.std.proofs.lemmas.Bool.Decides.{Decides-ltb}
+use Rattle.std.specs.Int.{w64, to_be_bytes}
 use Rattle.std.proofs.lemmas.Slice.Eq.{bytes_eq-Decides}
-use Rattle.std.proofs.lemmas.Nat.{from_be_bytes-to_be_bytes_8}
 use Rattle.std.proofs.lemmas.List.{take_at, drop_at}
 use Rattle.std.proofs.Math.Seq.{drop-drop}
 use Rattle.sha2.proofs.Facts256.{length-sha256}
@@ -20,18 +18,16 @@ use Rattle.cut_ledger.specs.declared.slip.Slip.{Slip}
 use Rattle.cut_journal.specs.File.{HoldsAllTotals, closed_gate, numbers_length, slip_length, numbers_of, number_bytes}
 use Rattle.cut_journal.specs.File.{body_of}
 use Rattle.cut_journal.specs.File.{header_digest}
-use Rattle.cut_journal.specs.Reading.{number_at, settled_at, slip_in, is_slip}
+use Rattle.cut_journal.specs.Reading.{number_at, slip_in, is_slip}
 use Rattle.cut_journal.specs.inside.Steps.{HasNumbers}
 use borrow.Rule.Slice.PartMut.{put_mid}
 use Rattle.cut_journal.proofs.Prefixes.{layered}
-use Rattle.cut_journal.proofs.Headers.{together}
 
 at_number : (xs tail : List ℕ) (i : ℕ) → i < length xs → take 8 (drop (8 * i) (flat_map (to_be_bytes w64) xs ++ tail))
     ≡ to_be_bytes w64 (get_or xs i 0)
 at_number [] tail i low = absurd (omega arith)
 at_number (x ∷ xs) tail zero low =
-    ap (take 8) (append_assoc (to_be_bytes w64 x) (flat_map (to_be_bytes w64) xs) tail)
-    ∙ take_at (to_be_bytes w64 x) (flat_map (to_be_bytes w64) xs ++ tail) 8 refl
+    grind arith
 at_number (x ∷ xs) tail (suc i) low =
     let more : 8 * suc i ≡ 8 + 8 * i = omega arith in
     let rest : List ℕ = flat_map (to_be_bytes w64) xs ++ tail in
@@ -56,11 +52,7 @@ number_is : (version : Version) (s : Slip) (tail : List ℕ) (i n : ℕ) → i <
     → get_or (numbers_of version s) i 0 ≡ n → n < 2 ^ 64 → number_at (number_bytes version s ++ tail) i ≡ n
 unfolding number_at number_bytes
 number_is version s tail i n low is fits =
-    let size : 8 * i + 8 - 8 * i ≡ 8 = omega arith in
-    ap (λ (k : ℕ). from_be_bytes w64 (take k (drop (8 * i)
-    (flat_map (to_be_bytes w64) (numbers_of version s) ++ tail)))) size
-    ∙ ap (from_be_bytes w64) (at_number (numbers_of version s) tail i low ∙ ap (to_be_bytes w64) is)
-    ∙ from_be_bytes-to_be_bytes_8 n fits
+    grind (arith, at_number (numbers_of version s) tail i low)
 
 -- possible totals are all kept in a slip of the plan's version
 pub settled_holds : (version : Version) (n m : ℕ) (x : Totals) → IsSettledBy version n m x.settled
@@ -68,25 +60,10 @@ pub settled_holds : (version : Version) (n m : ℕ) (x : Totals) → IsSettledBy
 settled_holds One n m x is = is
 settled_holds Two n m x is = tt
 
-settled_is : (version : Version) (s : Slip) (tail : List ℕ) → HasNumbers s → HoldsAllTotals version s.totals
-    → settled_at version (number_bytes version s ++ tail) ≡ s.totals.settled
-settled_is One s tail fits reports = sym reports
-settled_is Two s tail fits reports = number_is Two s tail 9 s.totals.settled (omega arith) refl fits.settled
-
 back : (version : Version) (s : Slip) (tail : List ℕ) → HasNumbers s → HoldsAllTotals version s.totals
     → slip_in version (number_bytes version s ++ tail) ≡ s
 back version s tail fits reports =
-    let n0 = number_is version s tail 0 s.piece.first (omega arith) refl (omega (arith, fits.first)) in
-    let n1 = number_is version s tail 1 s.piece.count (omega arith) refl (omega (arith, fits.count)) in
-    let n2 = number_is version s tail 2 s.totals.receivers (omega arith) refl fits.receivers in
-    let n3 = number_is version s tail 3 s.totals.conflicts (omega arith) refl fits.conflicts in
-    let n4 = number_is version s tail 4 s.totals.silent (omega arith) refl fits.silent in
-    let n5 = number_is version s tail 5 s.totals.extra (omega arith) refl fits.extra in
-    let n6 = number_is version s tail 6 s.totals.votes (omega arith) refl fits.votes in
-    let n7 = number_is version s tail 7 s.totals.decided (omega arith) refl fits.decided in
-    let n8 = number_is version s tail 8 s.totals.right (omega arith) refl fits.right in
-    let n9 = settled_is version s tail fits reports in
-    rw (n0, n1, n2, n3, n4, n5, n6, n7, n8, n9) refl
+    grind (arith, number_is)
 
 pub slip_back : (v : Values) (s : Slip) → HasNumbers s → HoldsAllTotals (version_of v.failing) s.totals
     → slip_in (version_of v.failing) (body_of v s) ≡ s
@@ -97,21 +74,7 @@ slip_back v s fits reports = back (version_of v.failing) s
 pub slip_whole : (v : Values) (s : Slip) → HasNumbers s → is_slip v (body_of v s) ≡ true
 unfolding is_slip body_of
 slip_whole v s fits =
-    let version : Version = version_of v.failing in
-    let n : ℕ = numbers_length version in
-    let numbers : List ℕ = number_bytes version s in
-    let sum : List ℕ = sha256 (header_digest v ++ numbers) in
-    let prefix : take n (numbers ++ sum) ≡ numbers = take_at numbers sum n (long_bytes version s) in
-    let rest : drop n (numbers ++ sum) ≡ sum = drop_at numbers sum n (long_bytes version s) in
-    let n0 = number_is version s sum 0 s.piece.first (omega arith) refl (omega (arith, fits.first)) in
-    let n1 = number_is version s sum 1 s.piece.count (omega arith) refl (omega (arith, fits.count)) in
-    let digest = (bytes_eq-Decides (sha256 (header_digest v ++ take n (numbers ++ sum))) (drop n (numbers ++ sum))).1
-    (ap (λ (l : List ℕ). sha256 (header_digest v ++ l)) prefix ∙ sym rest) in
-    let low0 : nat_lt (number_at (numbers ++ sum) 0) (2 ^ 32)
-    ≡ true = (Decides-ltb (number_at (numbers ++ sum) 0) (2 ^ 32)).1 (omega (arith, n0, fits.first)) in
-    let low1 : nat_lt (number_at (numbers ++ sum) 1) (2 ^ 32)
-    ≡ true = (Decides-ltb (number_at (numbers ++ sum) 1) (2 ^ 32)).1 (omega (arith, n1, fits.count)) in
-    together _ _ (together _ _ digest low0) low1
+    grind (arith, take_at, long_bytes, drop_at, number_is, bytes_eq-Decides)
 
 -- ---- as they are put together
 

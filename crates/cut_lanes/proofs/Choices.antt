@@ -1,11 +1,9 @@
 -- Bits, sums and marks of lanes of vectors of four.
 use Rattle.std.proofs.Common.{◌≡◌, ◌∙◌, ℕ, ◌+◌, ◌/◌, ◌%◌, ◌^◌, ◌<◌, ◌≤◌, ◌||◌, ◌&&◌, Bool, true, false, cond, not, ltb}
-use Rattle.std.proofs.Common.{eqb, nat_eq, sum, List, [], ◌∷◌, length, map, replicate, slice_index, get_or, Fits, inl}
-use Rattle.std.proofs.Common.{inr, refl, ap, sym, le-ltb, ne_eqb, eq-eqb, arith}
+use Rattle.std.proofs.Common.{eqb, nat_eq, sum, List, [], ◌∷◌, length, replicate, slice_index, Fits}
+use Rattle.std.proofs.Common.{refl, ap, le-ltb, arith}
 use Rattle.std.specs.Int.{w32}
 use Rattle.std.specs.Simd.Lanes.{Each1, zip2, mask_l}
-use Rattle.std.proofs.Math.Nat.{zero-div}
-use Rattle.std.proofs.lemmas.Bool.{cases_lt, cases_eq, lt-ltb}
 use Rattle.std.proofs.lemmas.List.{get_or-map, get_or-replicate}
 use Rattle.std.proofs.lemmas.Simd.{Each1-get_or, tops_compared, get_or-zip2, bitmask_splat, bit_mask_l, mask_l-mod}
 use Rattle.cut_ranks.proofs.Choices.{tops, compared_four}
@@ -16,9 +14,7 @@ use Rattle.cut_blocks.proofs.Lanes.{of_four}
 pub bit_at : (xs : List ℕ) → length xs ≡ 4 → (i : ℕ) → i < 4
     → mask_l (tops eqb xs (replicate 4 1)) % 2 ^ 64 / 2 ^ i % 2 ≡ cond (eqb (slice_index xs i) 1) 1 0
 bit_at xs four i low =
-    ap (λ m. m / 2 ^ i % 2) (bitmask_splat w32 eqb xs 4 1 four (omega arith))
-    ∙ bit_mask_l (map (λ x. eqb x 1) xs) i
-    ∙ ap (λ b. cond b 1 0) (get_or-map (λ x. eqb x 1) xs i 0 false (omega (arith, four, low)))
+    grind (arith, bitmask_splat w32 eqb xs 4 1 four, bit_mask_l, get_or-map)
 
 pub doubted : (b c : Bool) (m : ℕ) → eqb (cond b 1 (cond c m 0)) 1 ≡ b || (c && eqb m 1)
 doubted true c m = refl
@@ -27,35 +23,14 @@ doubted false false m = refl
 
 mask_is : (a b : List ℕ) → length a ≡ 4 → length b ≡ 4 → mask_l (tops ltb a b) % 2 ^ 64 ≡ mask_l (zip2 ltb a b)
 mask_is a b la lb =
-    ap (λ (ms : List Bool). mask_l ms % 2 ^ 64) (tops_compared w32 ltb a b)
-    ∙ mask_l-mod (zip2 ltb a b) 64 (omega (arith, compared_four ltb a b la lb))
-
-clear_bit : (b : Bool) → cond {A = ℕ} b 1 0 ≡ 0 → b ≡ false
-clear_bit false is = refl
-clear_bit true is = absurd (omega (arith, is))
+    grind (arith, tops_compared w32 ltb a b, mask_l-mod (zip2 ltb a b) 64, compared_four ltb a b la lb)
 
 -- where no bit is set, no lane has risen
 pub none_risen : (a b : List ℕ) → length a ≡ 4 → length b ≡ 4 → not (nat_eq (mask_l (tops ltb a b) % 2 ^ 64) 0) ≡ false
     → (i : ℕ) → i < 4 → slice_index b i ≤ slice_index a i
 none_risen a b la lb clear i low =
     let ms : List Bool = zip2 ltb a b in
-    let none : mask_l ms ≡ 0 = elim (cases_eq (mask_l ms) 0) [
-      | inl is ↦ is
-      | inr some ↦ absurd (
-          let set = ne_eqb (mask_l ms) 0 some in
-          let unset : not (nat_eq (mask_l ms) 0) ≡ false = ap (λ m. not (nat_eq m 0)) (sym (mask_is a b la lb)) ∙ clear
-          in
-          cc)
-    ] in
-    let bit : get_or ms i false ≡ false =
-    clear_bit (get_or ms i false)
-    (sym (bit_mask_l ms i) ∙ ap (λ m. m / 2 ^ i % 2) none ∙ ap (λ m. m % 2) (zero-div (2 ^ i))) in
-    let is : ltb (slice_index a i) (slice_index b i) ≡ false =
-    sym (get_or-zip2 ltb a b i 0 0 false (omega (arith, la, low)) (omega (arith, lb, low))) ∙ bit in
-    elim (cases_lt (slice_index a i) (slice_index b i)) [
-      | inl less ↦ absurd (let set = lt-ltb (slice_index a i) (slice_index b i) less in cc)
-      | inr same ↦ same
-    ]
+    grind (arith, mask_is a b la lb, bit_mask_l ms i, get_or-zip2 ltb a b i 0 0 false)
 
 -- where a bit is set and no lane has fallen, the sum has risen
 abbrev RisesWithSum : List ℕ → List ℕ → Type 0
@@ -80,12 +55,7 @@ sum_risen a b la lb =
 
 pub some_risen : (a b : List ℕ) → length a ≡ 4 → length b ≡ 4 → not (nat_eq (mask_l (tops ltb a b) % 2 ^ 64) 0) ≡ true
     → ((i : ℕ) → i < 4 → slice_index a i ≤ slice_index b i) → sum a < sum b
-some_risen a b la lb set rises = elim (cases_lt (sum a) (sum b)) [
-  | inl more ↦ more
-  | inr lower ↦ absurd (
-      let none : mask_l (tops ltb a b) % 2 ^ 64 ≡ 0 = mask_is a b la lb ∙ sum_risen a b la lb rises lower in
-      let clear = eq-eqb (mask_l (tops ltb a b) % 2 ^ 64) 0 none in cc)
-]
+some_risen a b la lb set rises = grind (arith, mask_is, sum_risen)
 
 -- ---- sums and marks
 

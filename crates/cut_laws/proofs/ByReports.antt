@@ -1,35 +1,26 @@
 -- Stable processes have reports: enough of them, and without implicit alerts as many as H.
-use Rattle.std.proofs.Common.{◌≡◌, ℕ, ◌<◌, ◌≤◌, Bool, true, false, not, Some, None, length, inl, inr, refl, ap, ◌∙◌}
+use Rattle.std.proofs.Common.{◌≡◌, ℕ, ◌<◌, ◌≤◌, false, Some, None, length}
 use Rattle.std.proofs.Common.{arith}
 use Rattle.cut_laws.proofs.Words.{EdgeSet, IfSome, IsAllConflicts, IsOfLeastPlace, IsSettled, IsTrue, Layout}
 use Rattle.cut_laws.proofs.Words.{MatchOption, ProposesAtLeastPlace, Rule, Values, alerts_at, all_deliveries}
-use Rattle.cut_laws.proofs.Words.{ends_stable, if◌then◌else◌, is_stable, is_target, observer_of, outcome, proposed_at}
-use Rattle.cut_laws.proofs.Words.{reports_of, rings_of, roles_at, rule_at, set_of, ◌&&◌, ◌||◌}
+use Rattle.cut_laws.proofs.Words.{ends_stable, if◌then◌else◌, is_stable, is_target, outcome, proposed_at}
+use Rattle.cut_laws.proofs.Words.{reports_of, rings_of, roles_at, rule_at, set_of, ◌&&◌}
 use Rattle.cut_detector.specs.Counts.{full_count}
 unfoldable use Rattle.cut_detector.specs.Counts.{is_full, is_reported, is_unstable}
 use Rattle.cut_detector.specs.Laws.{UnstableAreReportedAndNotStable}
 use Rattle.cut_laws.specs.Ends.{AMissedTargetMakesAllConflicts, StableTargetsAloneLeaveNoExtra}
 use Rattle.cut_laws.specs.Reports.{IsByReports, heard_at, least_reports, raised_about}
-use Rattle.std.proofs.lemmas.Bool.{and_from, cases_lt, false_from_ne_true, le-leb, leb-true, lt-leb}
-use Rattle.cut_lists.proofs.Ranges.{count_by_agree}
+use Rattle.std.proofs.lemmas.Bool.{lt-leb}
 use Rattle.cut_laws.proofs.Cells.{gap_at}
 
 -- ---- one process
-
--- a process that isn't reported on L rings gains none, and without implicit alerts none does
-no_gain : (e i reported other : Bool) → i && reported ≡ false → e || (i && reported && other) ≡ e
-no_gain true i reported other none = refl
-no_gain false i reported other none = rw none refl
 
 -- then the rings that count are those that report it
 counts_reports : (r : Layout) (rule : Rule) (E : EdgeSet) (s : ℕ) → rule.implicit && is_reported rule E s ≡ false
     → full_count r rule E s ≡ reports_of rule E s
 unfolding is_full
 counts_reports r rule E s none =
-    count_by_agree (λ ring. is_full r rule E ring s) (λ ring. E ring s) 0 rule.k (record {
-      same = λ ring _ _. no_gain (E ring s) rule.implicit (is_reported rule E s)
-          (is_reported rule E (observer_of r ring s)) none;
-    })
+    grind arith
 
 -- fewer reports than L
 few_are : (rule : Rule) (E : EdgeSet) (s : ℕ) → reports_of rule E s < rule.l → is_reported rule E s ≡ false
@@ -40,33 +31,13 @@ few_are rule E s few = lt-leb rule.l (reports_of rule E s) few
 pub stable_reports : (r : Layout) (rule : Rule) (E : EdgeSet) (s : ℕ) → rule.l ≤ rule.h
     → IsTrue (is_stable r rule E s) → (if rule.implicit then rule.l else rule.h) ≤ reports_of rule E s
 unfolding is_stable
-stable_reports r rule E s gap stable = by rule.implicit refl
-  where
-    many : rule.h ≤ full_count r rule E s
-    many = leb-true rule.h (full_count r rule E s) stable
-
-    by : (b : Bool) → rule.implicit ≡ b → (if b then rule.l else rule.h) ≤ reports_of rule E s
-    by false explicit = omega (arith, many, counts_reports r rule E s (ap (λ i. i && is_reported rule E s) explicit))
-    by true implicit = elim (cases_lt (reports_of rule E s) rule.l) [
-      | inl few ↦ absurd (omega (
-        arith,
-        few,
-        gap,
-        many,
-        counts_reports r rule E s (ap (λ i. i && is_reported rule E s) implicit ∙ few_are rule E s few),
-      ))
-      | inr enough ↦ enough
-    ]
+stable_reports r rule E s gap stable = grind (arith, counts_reports r rule E s, few_are rule E s)
 
 -- one that is neither stable nor unstable has fewer than L
 neither_reports : UnstableAreReportedAndNotStable → (r : Layout) (rule : Rule) (E : EdgeSet) (s : ℕ)
     → (IsTrue (is_stable r rule E s) → ⊥) → (IsTrue (is_unstable r rule E s) → ⊥) → reports_of rule E s < rule.l
 unfolding is_reported
-neither_reports modes r rule E s unstable none = elim (cases_lt (reports_of rule E s) rule.l) [
-  | inl few ↦ few
-  | inr many ↦ absurd (none (modes r rule E s ∙ and_from (is_reported rule E s) (not (is_stable r rule E s))
-      (le-leb rule.l (reports_of rule E s) many) (ap not (false_from_ne_true _ unstable))))
-]
+neither_reports modes r rule E s unstable none = grind arith
 
 -- ---- a proposal
 

@@ -1,11 +1,11 @@
 -- The cells of two plans that differ in one watermark, side by side.
-use Rattle.std.proofs.Common.{◌≡◌, ◌⊎◌, ℕ, zero, suc, ◌/◌, ◌≤◌, Bool, true, false, cond, List, [], ◌∷◌, ◌++◌, length}
-use Rattle.std.proofs.Common.{map, get_or, nat_le, inl, inr, refl, sym, ap, ◌∙◌, arith, subst}
+use Rattle.std.proofs.Common.{◌≡◌, ◌⊎◌, ℕ, zero, suc, ◌/◌, ◌≤◌, List, [], ◌∷◌, ◌++◌}
+use Rattle.std.proofs.Common.{map, get_or, nat_le, refl, sym, ap, ◌∙◌, arith, subst}
 use Rattle.std.specs.Bool.{⊤}
 use Rattle.cut_laws.proofs.Words.{All, Cell, Values, cell_at, cells_at, cells_of, cells_of_lists, cells_under_h}
 use Rattle.cut_laws.proofs.Words.{cells_under_k, flat_map, no_cell, with_marks, ◌&&◌}
 use Rattle.cut_laws.specs.OtherWatermarks.{MayLowerL, MayRaiseH, with_h, with_l}
-use Rattle.std.proofs.lemmas.Bool.{and_parts, cases_lt, le-leb, leb-true}
+use Rattle.std.proofs.lemmas.Bool.{le-leb}
 use Rattle.std.proofs.lemmas.List.{get_or-map, get_or_past, length-map, map-append}
 use Rattle.std.proofs.lemmas.List.Elements.{All-head, All-map, All-tail}
 use Rattle.cut_lists.proofs.FlatMaps.{All-flat_map}
@@ -23,12 +23,7 @@ alone P x is (suc i) d below = absurd (omega (arith, below))
 
 cells_have : (P : Cell → Type 0) (fs : List ℕ) (k h l : ℕ) → ((f : ℕ) → l ≤ h → P (cell k h l f))
     → All P (cells_at fs k h l)
-cells_have P fs k h l each = by (nat_le l h && nat_le h k) refl
-  where
-    by : (b : Bool) → (nat_le l h && nat_le h k) ≡ b → All P (cond b (map (λ f. cell k h l f) fs) [])
-    by true tests = All-map P (λ f. cell k h l f) fs
-        (λ i d below. each (get_or fs i d) (leb-true l h (and_parts (nat_le l h) (nat_le h k) tests).0))
-    by false tests = λ i d below. absurd (omega (arith, below))
+cells_have P fs k h l each = grind (arith, All-map P)
 
 -- a fact that follows from facts of each H and each L, and from L ≤ H
 all_have : (P : Cell → Type 0) (Hs Ls : ℕ → Type 0) (ks hs ls fs : List ℕ) → All Hs hs → All Ls ls
@@ -46,11 +41,7 @@ same_cells : (g : Cell → Cell) (fs : List ℕ) (k h l h2 l2 : ℕ)
     → (nat_le l2 h2 && nat_le h2 k) ≡ (nat_le l h && nat_le h k)
     → ((f : ℕ) → cell k h2 l2 f ≡ g (cell k h l f)) → cells_at fs k h2 l2 ≡ map g (cells_at fs k h l)
 same_cells g fs k h l h2 l2 tests made =
-    ap (λ b. cond b (map (λ f. cell k h2 l2 f) fs) []) tests ∙ by (nat_le l h && nat_le h k)
-  where
-    by : (b : Bool) → cond b (map (λ f. cell k h2 l2 f) fs) [] ≡ map g (cond b (map (λ f. cell k h l f) fs) [])
-    by true = ap (λ (u : ℕ → Cell). map u fs) (λ i f. made f i) ∙ sym (map-map (λ f. cell k h l f) g fs)
-    by false = refl
+    grind (arith, map-map)
 
 same_flat : {X : Type 0} (g : Cell → Cell) (one other : X → List Cell) (xs : List X)
     → All (λ x. other x ≡ map g (one x)) xs → flat_map other xs ≡ map g (flat_map one xs)
@@ -70,14 +61,7 @@ SideBySide g P c other = ((other ≡ g c) × P c) ⊎ (other ≡ c)
 
 at_place : (g : Cell → Cell) (P : Cell → Type 0) (xs ys : List Cell) (i : ℕ) → ys ≡ map g xs → All P xs
     → SideBySide g P (get_or xs i no_cell) (get_or ys i no_cell)
-at_place g P xs ys i same each = elim (cases_lt i (length xs)) [
-  | inl below ↦ inl (
-    ap (λ zs. get_or zs i no_cell) same ∙ get_or-map g xs i no_cell no_cell below,
-    each i no_cell below,
-  )
-  | inr past ↦ inr (get_or_past ys i no_cell
-      (omega (arith, past, ap (λ zs. length zs) same, length-map xs g)) ∙ sym (get_or_past xs i no_cell past))
-]
+at_place g P xs ys i same each = grind (arith, get_or-map, get_or_past, length-map)
 
 -- ---- another H
 
@@ -154,7 +138,4 @@ pub gap_at : (v : Values) (t : ℕ) → (cell_at v t).l ≤ (cell_at v t).h
 gap_at v t =
     let all = all_have (λ c. c.l ≤ c.h) (λ h. ⊤) (λ l. ⊤) v.k v.h v.l v.f (λ i d below. tt) (λ i d below. tt)
     (λ k h l f _ _ gap. gap) in
-    elim (cases_lt (t / v.repeats) (length (cells_of v))) [
-      | inl below ↦ all (t / v.repeats) no_cell below
-      | inr past ↦ subst (λ c. c.l ≤ c.h) (sym (get_or_past (cells_of v) (t / v.repeats) no_cell past)) (omega arith)
-    ]
+    grind (arith, get_or_past)

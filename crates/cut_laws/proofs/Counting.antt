@@ -22,54 +22,26 @@ pub three_apart : {X : Type 0} (p q r : X → Bool) (xs : List X)
     → ((x : X) → bit (p x) + bit (q x) + bit (r x) ≤ 1)
     → count_by p xs + count_by q xs + count_by r xs ≤ length xs
 three_apart p q r [] apart = omega arith
-three_apart p q r (x ∷ xs) apart = omega (
-  arith,
-  apart x,
-  three_apart p q r xs apart,
-  sum_by-cons (λ y. bit (p y)) x xs,
-  sum_by-cons (λ y. bit (q y)) x xs,
-  sum_by-cons (λ y. bit (r y)) x xs,
-)
+three_apart p q r (x ∷ xs) apart = search (arith, sum_by-cons, three_apart p q r xs apart)
 
 -- each passes one of four
 pub four_cover : {X : Type 0} (p q r s : X → Bool) (xs : List X)
     → ((x : X) → 1 ≤ bit (p x) + bit (q x) + bit (r x) + bit (s x))
     → length xs ≤ count_by p xs + count_by q xs + count_by r xs + count_by s xs
 four_cover p q r s [] cover = omega arith
-four_cover p q r s (x ∷ xs) cover = omega (
-  arith,
-  cover x,
-  four_cover p q r s xs cover,
-  sum_by-cons (λ y. bit (p y)) x xs,
-  sum_by-cons (λ y. bit (q y)) x xs,
-  sum_by-cons (λ y. bit (r y)) x xs,
-  sum_by-cons (λ y. bit (s y)) x xs,
-)
+four_cover p q r s (x ∷ xs) cover = search (arith, sum_by-cons, four_cover p q r s xs cover)
 
 -- each passes one of two
 pub two_split : {X : Type 0} (p q : X → Bool) (xs : List X) → ((x : X) → bit (p x) + bit (q x) ≡ 1)
     → count_by p xs + count_by q xs ≡ length xs
 two_split p q [] split = refl
-two_split p q (x ∷ xs) split = omega (
-  arith,
-  split x,
-  two_split p q xs split,
-  sum_by-cons (λ y. bit (p y)) x xs,
-  sum_by-cons (λ y. bit (q y)) x xs,
-)
+two_split p q (x ∷ xs) split = search (arith, sum_by-cons, two_split p q xs split)
 
 -- each that passes one passes one of two others
 pub into_two : {X : Type 0} (p q r : X → Bool) (xs : List X) → ((x : X) → bit (p x) ≤ bit (q x) + bit (r x))
     → count_by p xs ≤ count_by q xs + count_by r xs
 into_two p q r [] into = omega arith
-into_two p q r (x ∷ xs) into = omega (
-  arith,
-  into x,
-  into_two p q r xs into,
-  sum_by-cons (λ y. bit (p y)) x xs,
-  sum_by-cons (λ y. bit (q y)) x xs,
-  sum_by-cons (λ y. bit (r y)) x xs,
-)
+into_two p q r (x ∷ xs) into = search (arith, sum_by-cons, into_two p q r xs into)
 
 -- none passes
 pub none_counted : {X : Type 0} (p : X → Bool) (xs : List X) → ((x : X) → p x ≡ false) → count_by p xs ≡ 0
@@ -97,12 +69,7 @@ once m a (suc n) = elim (cases_Bool (a == m)) [
       (All-range_with_len (λ i. (i == m) ≡ false) (a + 1) n
       (λ i after _. false_from_ne_true (i == m) (λ e. omega (arith, same, after, eqb-true i m e)))) in
       omega (arith, others, sum_by-cons (λ i. bit (i == m)) a (range_with_len (a + 1) n), bit_le (a == m)))
-  | inr differs ↦ omega (
-    arith,
-    once m (a + 1) n,
-    sum_by-cons (λ i. bit (i == m)) a (range_with_len (a + 1) n),
-    ap bit differs,
-  )
+  | inr differs ↦ grind (arith, once m (a + 1) n)
 ]
   where
     bit_le : (b : Bool) → bit b ≤ 1

@@ -1,14 +1,14 @@
 -- How many deliveries bring alerts about one process: as many as there are copies of the rings heard of, at most.
 use Rattle.std.proofs.Common.{◌≡◌, ◌≢◌, ℕ, zero, suc, ◌+◌, ◌-◌, ◌*◌, ◌<◌, ◌≤◌, min, Bool, true, not, List, [], ◌∷◌}
-use Rattle.std.proofs.Common.{◌++◌, length, map, get_or, nat_lt, inl, inr, refl, ap, ◌∙◌, arith, append-nil}
+use Rattle.std.proofs.Common.{length, map, get_or, nat_lt, inl, inr, refl, ap, ◌∙◌, arith, append-nil}
 use Rattle.cut_laws.proofs.Words.{DeliveriesAreCopiesOfEdges, DeliveriesAreOfGivenEdges, Delivery, Edge}
 use Rattle.cut_laws.proofs.Words.{EdgeNumbersNameEdges, EdgeSet, NoneIsHeardOfAtFirst, Source, all_deliveries}
-use Rattle.cut_laws.proofs.Words.{count_by, delivery_rank, early, edge_number, edges_of, flat_map, is_edge}
-use Rattle.cut_laws.proofs.Words.{range_with_len, set_of, ◌&&◌, ◌==◌}
+use Rattle.cut_laws.proofs.Words.{count_by, delivery_rank, early, edges_of, flat_map, is_edge}
+use Rattle.cut_laws.proofs.Words.{range_with_len, set_of, ◌&&◌}
 use Rattle.cut_detector.specs.Counts.{ring_count}
 use Rattle.cut_draws.specs.DeliveryOrder.{are_distinct}
 use Rattle.cut_draws.specs.Laws.{DeliveriesAreCountedByCopies, DistinctEdgesHaveAnOrder}
-use Rattle.std.proofs.lemmas.Bool.{and_from, and_parts, cases_lt, eq-eqb, eqb-true, le-ltb, lt-ltb, both_ways}
+use Rattle.std.proofs.lemmas.Bool.{and_from, and_parts, cases_lt, eq-eqb, le-ltb, lt-ltb, both_ways}
 use Rattle.std.proofs.lemmas.Bool.{not-true}
 use Rattle.std.proofs.lemmas.List.Folds.{list_any_at}
 use Rattle.std.proofs.lemmas.List.FromFn.{length-range_with_len}
@@ -25,24 +25,13 @@ none_there : {X : Type 0} (g : ℕ → List X) (a n : ℕ) → ((q : ℕ) → a 
     → flat_map g (range_with_len a n) ≡ []
 none_there g a zero none = refl
 none_there g a (suc n) none =
-    ap (λ ys. ys ++ flat_map g (range_with_len (a + 1) n)) (none a (omega arith) (omega arith))
-    ∙ none_there g (a + 1) n (λ q from below. none q (omega (arith, from)) (omega (arith, below)))
+    grind (arith, none_there g (a + 1) n)
 
 -- where all parts but one are empty, that is the whole
 pub one_part : {X : Type 0} (g : ℕ → List X) (a n s : ℕ) → a ≤ s → s < a + n
     → ((q : ℕ) → q < a + n → q ≢ s → g q ≡ []) → flat_map g (range_with_len a n) ≡ g s
 one_part g a zero s from below none = absurd (omega (arith, from, below))
-one_part g a (suc n) s from below none = elim (cases_lt a s) [
-  | inl later ↦ ap (λ ys. ys ++ flat_map g (range_with_len (a + 1) n))
-      (none a (omega arith) (λ e. omega (arith, e, later)))
-      ∙ one_part g (a + 1) n s (omega (arith, later)) (omega (arith, below))
-      (λ q under. none q (omega (arith, under)))
-  | inr here ↦ (
-      let same : a ≡ s = omega (arith, here, from) in
-      ap (λ ys. g a ++ ys) (none_there g (a + 1) n (λ q after under.
-      none q (omega (arith, under)) (λ e. omega (arith, e, after, same))))
-      ∙ append-nil (g a) ∙ ap g same)
-]
+one_part g a (suc n) s from below none = grind (arith, none_there, append-nil, one_part g (a + 1) n s)
 
 -- along a list whose elements have the ranks from a on, those below n are counted
 ranked : {X : Type 0} (f : X → ℕ) (xs : List X) (a n : ℕ)
@@ -66,10 +55,7 @@ edge s ring = record { ring = ring; subject = s }
 distinct_from : (k s a m : ℕ) → are_distinct k (map (edge s) (range_with_len a m)) ≡ true
 distinct_from k s a zero = refl
 distinct_from k s a (suc m) =
-    let none = list_any_none_passing (λ i. edge_number k (edge s i) == edge_number k (edge s a)) (a + 1) m
-    (λ i after _ is. omega (arith, after, eqb-true (edge_number k (edge s i)) (edge_number k (edge s a)) is)) in
-    and_from _ _ (ap not (list_any-map (λ x. edge_number k x == edge_number k (edge s a)) (edge s)
-    (range_with_len (a + 1) m) ∙ none)) (distinct_from k s (a + 1) m)
+    grind (arith, list_any_none_passing, list_any-map, distinct_from k s (a + 1) m)
 
 pub ring_given : (k s ring : ℕ) → ring < k → set_of (edges_of k s) ring s ≡ true
 ring_given k s ring below =

@@ -49,12 +49,7 @@ pub record KnownOfDeliveries : Type 0 where
 -- a ring whose observer isn't reported isn't gained
 not_gained : (e i reported other : Bool) → other ≡ false → e || (i && reported && other) ≡ e
 not_gained true i reported other none = refl
-not_gained false i reported other none = rw none (by i reported)
-  where
-    by : (a b : Bool) → a && b && false ≡ false
-    by true true = refl
-    by true false = refl
-    by false b = refl
+not_gained false i reported other none = grind arith
 
 module _ (known : Known) (v : Values) (t : ℕ) (plan : IsPlan v) (inside : t < trial_count v) (only : OnlyCrashes v)
     (cell : IsCell v (cell_at v t)) (one : (cell_at v t).f ≡ 1) (laws : KnownOfDeliveries) (s : ℕ)

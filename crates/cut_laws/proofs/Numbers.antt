@@ -35,10 +35,7 @@ missed : (q n : ℕ) → n < q → one_if (nat_le q n) ≡ 0
 missed q n few = ap one_if (lt-leb q n few)
 
 is_reached : (q n : ℕ) → one_if (nat_le q n) ≡ 1 → q ≤ n
-is_reached q n is = elim (cases_lt n q) [
-  | inl few ↦ absurd (omega (arith, is, missed q n few))
-  | inr enough ↦ enough
-]
+is_reached q n is = grind arith
 
 module _ (rest : ReceiversAreTheRest) (v : Values) (t : ℕ) where
   abbrev a : Assignment
@@ -209,10 +206,7 @@ lost_unless_right : (n f : ℕ) (x : Totals) → x.receivers ≡ n - f
     → (quorum_of n + x.silent + x.conflicts + x.extra ≤ x.receivers → x.right ≡ 1)
     → to_spare n f ≤ to_spare n f * x.right + x.silent + x.conflicts + x.extra
 lost_unless_right n f x receivers enough =
-    elim (cases_lt x.receivers (quorum_of n + x.silent + x.conflicts + x.extra)) [
-      | inl lost ↦ omega (arith, lost, receivers)
-      | inr right ↦ omega (arith, ap (λ m. to_spare n f * m) (enough right), mul-one (to_spare n f))
-    ]
+    grind arith
 
 trial_lost : ReceiversAreTheRest → (v : Values) (f t : ℕ) → (cell_at v t).f ≡ f
     → to_spare v.nodes f ≤ to_spare v.nodes f * (outcome v t).right + (outcome v t).silent + (outcome v t).conflicts
@@ -248,13 +242,7 @@ sums_lost rest v f (t ∷ ts) all = record {
 -- where too few can vote there is no quorum
 pub too_few : (v : Values) (x : Totals) (f : ℕ) → AreByVotes v x → x.decided ≤ 1 → x.receivers ≡ v.nodes - f
     → 1 ≤ v.nodes → (v.nodes - 1) / 4 < f + x.silent → x.decided ≡ 0
-too_few v x f by once receivers some lost = elim (cases_lt 0 x.decided) [
-  | inl decided ↦ (
-      let one : x.decided ≡ 1 = omega (arith, once, decided) in
-      let quorum : quorum_of v.nodes ≤ x.votes = rw (one, mul-one (quorum_of v.nodes)) at by.decided in
-      absurd (omega (arith, quorum, by.votes, receivers, some, lost)))
-  | inr none ↦ omega (arith, none)
-]
+too_few v x f by once receivers some lost = grind arith
 
 pub trial_too_few : TrialsAreByVotes → DecidedOnce → (v : Values) (t : ℕ) → 1 ≤ v.nodes
     → (v.nodes - 1) / 4 < (cell_at v t).f + (outcome v t).silent → (outcome v t).decided ≡ 0
@@ -317,15 +305,7 @@ pub targets_many : ReceiversAreTheRest → (v : Values) (t : ℕ) → (cell_at v
     → count_by (λ p. is_target (roles_at v t) p) (processes_of (roles_at v t)) ≡ (cell_at v t).f
 targets_many rest v t few =
     let a : Assignment = roles_at v t in
-    omega (
-      arith,
-      few,
-      many rest v t,
-      count_rest (λ p. is_target a p) (processes_of a),
-      length-filter (λ p. not (is_target a p)) (processes_of a),
-      length-range_with_len 0 (length a.roles),
-      roles_length v t,
-    )
+    grind (arith, many rest v t, count_rest, length-filter, length-range_with_len 0 (length a.roles), roles_length v t)
 
 -- where there is none, no receiver is a conflict, and each that proposes names another process
 module _ (rest : ReceiversAreTheRest) (proposes : ProposesAtLeastPlace) (v : Values) (t : ℕ)

@@ -1,6 +1,6 @@
 -- One crash: each observer of the crashed process is another, and alerts; nobody else is reported.
 use Rattle.std.proofs.Common.{◌≡◌, ◌⊎◌, ℕ, ◌-◌, ◌<◌, ◌≤◌, true, false, not, Some, None, List, [], ◌∷◌, one-mul}
-use Rattle.std.proofs.Common.{suc-mul, zero-mul, length, nat_le, inl, inr, refl, sym, ap, ◌∙◌, arith, subst}
+use Rattle.std.proofs.Common.{suc-mul, length, nat_le, inl, inr, refl, sym, ap, ◌∙◌, arith, subst}
 use Rattle.cut_laws.proofs.Words.{All, Assignment, Contains, IfSome, IsPlan, IsSettled, IsTrue, Layout, OnlyCrashes}
 use Rattle.cut_laws.proofs.Words.{ProposesAtLeastPlace, ReceiversAreTheRest, Rule, Values, alerts_at, cast_of}
 use Rattle.cut_laws.proofs.Words.{cell_at, count_by, ends_stable, has_crashed, has_process, is_missed, is_target}
@@ -186,15 +186,7 @@ module _ (known : Known) (v : Values) (t : ℕ) (plan : IsPlan v) (inside : t < 
 
 pub sums_one_crash : (v : Values) (ts : List ℕ) → All (λ t. AreOneCrash v.nodes 1 (outcome v t)) ts
     → AreOneCrash v.nodes (length ts) (sum_of v ts)
-sums_one_crash v [] all = record {
-  receivers = sym (zero-mul (v.nodes - 1));
-  conflicts = refl;
-  silent = refl;
-  extra = refl;
-  votes = sym (zero-mul (v.nodes - 1));
-  decided = sym (zero-mul (one_if (nat_le 5 v.nodes)));
-  right = sym (zero-mul (one_if (nat_le 5 v.nodes)));
-}
+sums_one_crash v [] all = grind arith
 sums_one_crash v (t ∷ ts) all =
     let here = All-head (λ u. AreOneCrash v.nodes 1 (outcome v u)) t ts all in
     let others = sums_one_crash v ts (All-tail (λ u. AreOneCrash v.nodes 1 (outcome v u)) t ts all) in

@@ -23,43 +23,10 @@ use Rattle.cut_laws.proofs.Counting.{bit}
 
 pub sums_cautious : (v w : Values) → ((t : ℕ) → AreMoreCautious (outcome v t) (outcome w t)) → (ts : List ℕ)
     → AreMoreCautious (sum_of v ts) (sum_of w ts)
-sums_cautious v w each [] = record {
-  receivers = refl;
-  conflicts = omega arith;
-  silent = omega arith;
-  extra = omega arith;
-}
+sums_cautious v w each [] = grind arith
 sums_cautious v w each (t ∷ ts) =
     let here = each t in
-    let others = sums_cautious v w each ts in
-    let silent = sum_by-cons (λ u. (outcome v u).silent) t ts in
-    let silent_then = sum_by-cons (λ u. (outcome w u).silent) t ts in
-    record {
-      receivers = omega (
-        arith,
-        here.receivers,
-        others.receivers,
-        sum_by-cons (λ u. (outcome v u).receivers) t ts,
-        sum_by-cons (λ u. (outcome w u).receivers) t ts,
-      );
-      conflicts = omega (
-        arith,
-        here.conflicts,
-        others.conflicts,
-        sum_by-cons (λ u. (outcome v u).conflicts) t ts,
-        sum_by-cons (λ u. (outcome w u).conflicts) t ts,
-      );
-      silent = omega (arith, here.silent, others.silent, silent, silent_then);
-      extra = omega (
-        arith,
-        here.extra,
-        others.extra,
-        silent,
-        silent_then,
-        sum_by-cons (λ u. (outcome v u).extra) t ts,
-        sum_by-cons (λ u. (outcome w u).extra) t ts,
-      );
-    }
+    search (arith, sum_by-cons, sums_cautious v w each ts)
 
 -- ---- waiting
 
@@ -91,13 +58,7 @@ all_wait_longer : (a : Assignment) (count : ℕ) (P Q : ℕ → Option Proposal)
     → ((j : ℕ) → waits a count (P j) ≤ waits a count (Q j)) → (rs : List ℕ)
     → all_wait a count (map P rs) ≤ all_wait a count (map Q rs)
 all_wait_longer a count P Q each [] = omega arith
-all_wait_longer a count P Q each (r ∷ rs) = omega (
-  arith,
-  each r,
-  all_wait_longer a count P Q each rs,
-  all_wait_more a count (P r) (map P rs),
-  all_wait_more a count (Q r) (map Q rs),
-)
+all_wait_longer a count P Q each (r ∷ rs) = grind (arith, all_wait_more, all_wait_longer a count P Q each rs)
 
 -- as a plan's version asks for places
 settled_longer : (version : Version) (a : Assignment) (count : ℕ) (ps qs : List (Option Proposal))
@@ -105,11 +66,7 @@ settled_longer : (version : Version) (a : Assignment) (count : ℕ) (ps qs : Lis
     → count_by (λ o. (judged a o).silent) ps ≤ count_by (λ o. (judged a o).silent) qs
     → settled_of version ps + count_by (λ o. (judged a o).silent) ps * count
     ≤ settled_of version qs + count_by (λ o. (judged a o).silent) qs * count
-settled_longer One a count ps qs longer silent = omega (
-  arith,
-  mul-le (count_by (λ o. (judged a o).silent) ps) count (count_by (λ o. (judged a o).silent) qs) count silent
-      (omega arith),
-)
+settled_longer One a count ps qs longer silent = grind (arith, mul-le)
 settled_longer Two a count ps qs longer silent = longer
 
 -- ---- a trial, by its cell and by the same with other watermarks
@@ -241,21 +198,13 @@ lower_longer proposes stays later fewer v x y may = record {
 -- ---- step by step
 
 cautious_twice : (x y z : Totals) → AreMoreCautious x y → AreMoreCautious y z → AreMoreCautious x z
-cautious_twice x y z first second = record {
-  receivers = second.receivers ∙ first.receivers;
-  conflicts = omega (arith, first.conflicts, second.conflicts);
-  silent = omega (arith, first.silent, second.silent);
-  extra = omega (arith, first.extra, second.extra);
-}
+cautious_twice x y z first second = grind arith
 
 before_twice : (p q o : Option Proposal) → ProposesBefore p q → ProposesBefore q o → ProposesBefore p o
 before_twice p q None first second = tt
 before_twice p None (Some o) first second = absurd second
 before_twice None (Some q) (Some o) first second = absurd first
-before_twice (Some p) (Some q) (Some o) first second = (
-  omega (arith, first.0, second.0),
-  λ s at. second.1 s (first.1 s at),
-)
+before_twice (Some p) (Some q) (Some o) first second = grind arith
 
 pub longer_twice : (u v w : Values) → WaitsLonger u v → WaitsLonger v w → WaitsLonger u w
 longer_twice u v w first second = record {

@@ -1,19 +1,16 @@
 -- The roles and the alerts of a trial in which one process crashes and nothing else fails.
 use Rattle.std.proofs.Common.{◌≡◌, ◌⊎◌, ◌≢◌, ℕ, ◌+◌, ◌-◌, ◌%◌, ◌<◌, ◌≤◌, Bool, true, false, not, List, length, map}
-use Rattle.std.proofs.Common.{get_or, inl, inr, refl, sym, ap, ◌∙◌, arith, zero-add}
+use Rattle.std.proofs.Common.{get_or, sym, ap, ◌∙◌, arith, zero-add}
 use Rattle.cut_laws.proofs.Words.{Assignment, IsPlan, Layout, Source, Values, alert_list, alerts_about}
 use Rattle.cut_laws.proofs.Words.{deaf_of, drawn, has_crashed, is_target}
-use Rattle.cut_laws.proofs.Words.{observer_of, position_of, positions_on, process_rank, range_with_len, ranked_role}
-use Rattle.cut_laws.proofs.Words.{rings_of, role_at, set_of, ◌&&◌, ◌==◌}
-use Rattle.cut_alerts.specs.declared.role.Role.{Role}
+use Rattle.cut_laws.proofs.Words.{observer_of, position_of, positions_on, range_with_len}
+use Rattle.cut_laws.proofs.Words.{rings_of, role_at, set_of, ◌==◌}
 use Rattle.cut_alerts.specs.declared.role.Role.TheVariants.{Healthy, Crashed}
 use Rattle.cut_plan.specs.Cells.{largest}
 use Rattle.cut_rings.specs.Hashed.{compare_hashed, digest_of, hashed_position}
 use Rattle.std.specs.Cmp.{IsTotalOrder}
 use Rattle.std.specs.List.{position_or_len}
-use Rattle.std.proofs.Math.Bool.{and-true}
-use Rattle.std.proofs.Math.Nat.{mod-eq_of_lt, mod_self}
-use Rattle.std.proofs.lemmas.Bool.{and_from, cases_lt, eqb-true, le-ltb, lt-ltb, or_left}
+use Rattle.std.proofs.lemmas.Bool.{and_from, eqb-true, or_left}
 use Rattle.std.proofs.lemmas.Cmp.{nat_cmp_total, nat_list_cmp_total, on_total, then_total}
 use Rattle.std.proofs.lemmas.List.{get_or_past}
 use Rattle.std.proofs.lemmas.List.FromFn.{get_or-map-range_with_len, length-map-range_with_len, length-range_with_len}
@@ -27,37 +24,14 @@ use Rattle.cut_outcome.proofs.Heard.{among_all, listed}
 pub crashed_or_healthy : (v : Values) (f : ℕ) (d : Source) (r : Layout) → deaf_of v f ≡ 0 → v.liars ≡ 0 → v.links ≡ 0
     → (p : ℕ) → (role_at (drawn v f d r) p ≡ Crashed) ⊎ (role_at (drawn v f d r) p ≡ Healthy)
 crashed_or_healthy v f d r no_deaf no_liars no_links p =
-    let rank : ℕ → ℕ = λ q. process_rank d v.nodes q in
-    let role : ℕ → Role = λ q. ranked_role v f r q (rank q) in
-    elim (cases_lt p v.nodes) [
-      | inl below ↦ (
-          let is : role_at (drawn v f d r) p ≡ role p =
-          get_or-map-range_with_len role 0 v.nodes p p Healthy below (zero-add p) in
-          elim (cases_lt (rank p) f) [
-            | inl low ↦ inl (is ∙ rw (lt-ltb (rank p) (f - deaf_of v f) (omega (arith, low, no_deaf))) refl)
-            | inr high ↦ inr (is ∙ rw (
-              le-ltb (rank p) (f - deaf_of v f) (omega (arith, high)),
-              le-ltb (rank p) f high,
-              le-ltb (rank p) (f + v.liars) (omega (arith, high, no_liars)),
-              le-ltb (rank p) (f + v.liars + v.links) (omega (arith, high, no_liars, no_links)),
-            ) refl)
-          ])
-      | inr past ↦ inr (get_or_past (map role (range_with_len 0 v.nodes)) p Healthy
-          (omega (arith, past, length-map-range_with_len role 0 v.nodes)))
-    ]
+    grind (arith, get_or-map-range_with_len, get_or_past, length-map-range_with_len)
 
 -- ---- who alerts
 
 -- where each process has crashed or is healthy, alerts are about targets
 pub alerted_is_target : (a : Assignment) → ((p : ℕ) → (role_at a p ≡ Crashed) ⊎ (role_at a p ≡ Healthy)) → (o s : ℕ)
     → alerts_about a o s ≡ true → is_target a s ≡ true
-alerted_is_target a roles o s alerts = elim (roles s) [
-  | inl crashed ↦ rw crashed
-  | inr well ↦ elim (roles o) [
-    | inl crashed ↦ absurd (let never = rw (well, crashed) at alerts in cc)
-    | inr healthy ↦ absurd (let never = rw (well, healthy) at alerts in cc)
-  ]
-]
+alerted_is_target a roles o s alerts = grind arith
 
 -- who has not crashed alerts about each target
 pub target_is_alerted : (a : Assignment) (o s : ℕ) → is_target a s ≡ true → has_crashed a o ≡ false
@@ -71,9 +45,7 @@ target_is_alerted a o s target up =
 pub listed_on : (r : Layout) (a : Assignment) (k ring s : ℕ) → ring < k → s < r.nodes
     → set_of (alert_list r a k) ring s ≡ alerts_about a (observer_of r ring s) s
 listed_on r a k ring s below process =
-    listed r a k ring s
-    ∙ ap (λ b. alerts_about a (observer_of r ring s) s && b) (among_all k r.nodes ring s below process)
-    ∙ and-true (alerts_about a (observer_of r ring s) s)
+    grind (arith, listed, among_all)
 
 -- ---- observers
 
@@ -82,12 +54,7 @@ hashed_total seed ring = then_total (on_total (λ p. digest_of seed ring p) nat_
 
 -- a place just after itself there is none
 not_after_itself : (p n : ℕ) → 2 ≤ n → p < n → (p + 1) % n ≡ p → ⊥
-not_after_itself p n two below is = elim (cases_lt (p + 1) n) [
-  | inl within ↦ omega (arith, is, mod-eq_of_lt within)
-  | inr around ↦ (
-      let last : p + 1 ≡ n = omega (arith, below, around) in
-      omega (arith, two, last, is, ap (λ m. m % n) last, mod_self n))
-]
+not_after_itself p n two below is = grind arith
 
 -- no process observes itself
 pub never_itself : (v : Values) → IsPlan v → (ring s : ℕ) → ring < largest v.k → s < v.nodes

@@ -1,16 +1,14 @@
 -- Proposals by their members: votes, verdicts, and what the verdicts on all receivers of a trial add up to.
 use Rattle.std.proofs.Common.{◌≡◌, ◌≢◌, ℕ, ◌+◌, ◌-◌, ◌<◌, ◌≤◌, Bool, true, false, not, List, [], ◌∷◌, Option, Some}
-use Rattle.std.proofs.Common.{None, option_map, length, filter, map, get_or, nat_le, inl, inr, refl, sym, ap, ◌∙◌}
+use Rattle.std.proofs.Common.{None, length, filter, map, nat_le, inl, inr, refl, sym, ap, ◌∙◌}
 use Rattle.std.proofs.Common.{arith, subst}
 use Rattle.cut_laws.proofs.Words.{Assignment, Contains, EdgeSet, IfSome, IsAllConflicts, Layout, Proposal}
 use Rattle.cut_laws.proofs.Words.{ReceiversAreTheRest, Rule, Values, alerts_at, all_deliveries, cast_of, cell_at}
-use Rattle.cut_laws.proofs.Words.{count_by, early, find, has_other, has_process, is_missed, is_settled, is_stable}
+use Rattle.cut_laws.proofs.Words.{count_by, early, has_other, has_process, is_missed, is_stable}
 use Rattle.cut_laws.proofs.Words.{is_target, judged, lacks_target, one_if, outcome, processes_of, proposal_of}
 use Rattle.cut_laws.proofs.Words.{proposed_at, quorum_of, range_with_len, receivers_of, rings_of, roles_at, rule_at}
-use Rattle.cut_laws.proofs.Words.{same_members, source_of, stable_members, targets_of, votes_of, ◌==◌, ◌||◌}
-use Rattle.cut_alerts.specs.Assignment.{same_role}
-use Rattle.cut_alerts.specs.declared.role.Role.TheVariants.{Crashed, Deaf, Healthy}
-use Rattle.std.proofs.lemmas.Bool.{and_from, and_parts, both_ways, cases_Bool, cases_lt, eqb-true, eq-eqb}
+use Rattle.cut_laws.proofs.Words.{same_members, source_of, stable_members, targets_of, votes_of, ◌==◌}
+use Rattle.std.proofs.lemmas.Bool.{and_from, and_parts, both_ways, cases_Bool, eq-eqb}
 use Rattle.std.proofs.lemmas.Bool.{false_from_ne_true, lt-leb}
 use Rattle.std.proofs.lemmas.Cmp.{nat_list_eq_equiv}
 use Rattle.std.proofs.lemmas.List.{get_or_past}
@@ -36,9 +34,7 @@ pub votes_are : (m : List ℕ) (ps : List (Option Proposal)) → votes_of (cast_
 votes_are m [] = refl
 votes_are m (None ∷ ps) = omega (arith, votes_are m ps, sum_by-cons (λ o. bit (votes_for m o)) None ps)
 votes_are m ((Some p) ∷ ps) =
-    sum_by-cons (λ c. bit (same_members c m)) p.members (cast_of ps)
-    ∙ ap (λ n. bit (same_members p.members m) + n) (votes_are m ps)
-    ∙ sym (sum_by-cons (λ o. bit (votes_for m o)) (Some p) ps)
+    search (arith, sum_by-cons, votes_are m ps)
 
 pub is_same : (xs : List ℕ) → same_members xs xs ≡ true
 is_same xs = nat_list_eq_equiv.refl xs
@@ -50,19 +46,13 @@ has_from xs s at = list_any_at (λ m. m == s) xs at.0 s at.1 (ap (λ m. m == s) 
 
 pub has_is : (xs : List ℕ) (s : ℕ) → has_process xs s ≡ true → Contains xs s
 has_is xs s has =
-    let at = Any-from_list_any (λ m. m == s) xs has in
-    (at.0, at.2, subst (λ y. get_or xs at.0 y ≡ y) (eqb-true at.1 s at.4) at.3)
+    grind (arith, Any-from_list_any)
 
 -- a receiver proposes the stable processes of some place, ascending
 pub proposed_is : (r : Layout) (rule : Rule) (E : ℕ → EdgeSet) (count : ℕ) → IfSome (proposal_of r rule E count)
     (λ p. p.members ≡ filter (λ s. is_stable r rule (E p.at) s) (range_with_len 0 r.nodes))
 unfolding stable_members
-proposed_is r rule E count = by (find (λ n. is_settled r rule (E n)) (range_with_len 1 count))
-  where
-    by : (q : Option ℕ) → IfSome (option_map (λ n. record { members = stable_members r rule (E n); at = n }) q)
-        (λ (p : Proposal). p.members ≡ filter (λ s. is_stable r rule (E p.at) s) (range_with_len 0 r.nodes))
-    by None = tt
-    by (Some n) = refl
+proposed_is r rule E count = grind arith
 
 -- some processes of a trial, ascending
 pub record AreOf (a : Assignment) (members : List ℕ) : Type 0 where
@@ -120,11 +110,7 @@ module _ (a : Assignment) where
 
 -- a target is a process of the trial
 pub target_below : (a : Assignment) (s : ℕ) → is_target a s ≡ true → s < length a.roles
-target_below a s target = elim (cases_lt s (length a.roles)) [
-  | inl below ↦ below
-  | inr past ↦ absurd (both_ways _ (ap (λ role. same_role Crashed role || same_role Deaf role)
-      (get_or_past a.roles s Healthy past)) target)
-]
+target_below a s target = grind (arith, get_or_past)
 
 -- who hasn't a target lacks it
 pub lacks_one : (a : Assignment) (members : List ℕ) (s : ℕ) → is_target a s ≡ true → (Contains members s → ⊥)

@@ -34,15 +34,7 @@ heard_is_given given d j k edges copies n ring s heard =
 pub some_member : ProposesAtLeastPlace → (v : Values) (t j : ℕ)
     → IfSome (proposed_at v t j) (λ p. (s : ℕ) × Contains p.members s)
 some_member proposes v t j =
-    let heard : ℕ → EdgeSet = λ n. early (source_of v.seed t) j (cell_at v t).k (alerts_at v t) v.copies n in
-    let count : ℕ = length (all_deliveries (alerts_at v t) v.copies) in
-    elim (proposed_at v t j) as (λ o. MatchOption o
-    ((n : ℕ) → 1 ≤ n → n ≤ count → IsSettled (rings_of v) (rule_at v t) (heard n) → ⊥)
-    (IsOfLeastPlace (rings_of v) (rule_at v t) heard count) → IfSome o (λ p. (s : ℕ) × Contains p.members s)) [
-      | None ↦ λ none. tt
-      | Some p ↦ λ is.
-          let some = is.settled.some_stable in (some.0, (is.members some.0).1 (some.1, some.2))
-    ] (proposes (rings_of v) (rule_at v t) heard count)
+    grind arith
 
 module _ (given : DeliveriesAreOfGivenEdges) (more : MoreEdgesKeepStable) (proposes : ProposesAtLeastPlace)
     (v : Values) (t : ℕ) where

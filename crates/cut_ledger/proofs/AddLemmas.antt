@@ -3,7 +3,7 @@ use Rattle.std.proofs.Common.{◌≡◌, ℕ, ◌+◌, ◌*◌, ◌/◌, ◌<◌
 use Rattle.std.proofs.Common.{List, [], ◌∷◌, ◌++◌, length, set, refl, sym, ap, ◌∙◌, arith, append-nil}
 use Rattle.std.proofs.lemmas.Bool.{cases_eq, eq-eqb, ne_eqb}
 use Rattle.std.proofs.lemmas.List.{get_or-set_same, get_or-set_other, length-set}
-use Rattle.std.proofs.lemmas.List.Elements.{filter-append, filter_agree}
+use Rattle.std.proofs.lemmas.List.Elements.{filter-append}
 use Rattle.std.proofs.lemmas.List.Folds.{list_any-append}
 use Rattle.std.proofs.lemmas.List.FromFn.{length-map-range_with_len}
 use Rattle.std.proofs.lemmas.List.Sums.{sum_by_push}
@@ -93,14 +93,12 @@ slip_trials : (v : Values) (base : List Slip) (s : Slip) (test new : ℕ → Boo
     → ((t : ℕ) → is_in s.piece t ≡ true → test t ≡ false) → further_trials v (base ++ s ∷ []) new d
     ≡ further_trials v base test d
 slip_trials v base s test new d more apart =
-    filter_agree (λ t. new t && not (is_in_base (base ++ s ∷ []) t)) (λ t. test t && not (is_in_base base t))
-    (λ t. grind (arith, more.same t, in_base_more base s t, apart t)) (trials_of_cell v d)
+    grind (arith, in_base_more)
 
 slip_in_cell : (v : Values) (base : List Slip) (s : Slip) (d : ℕ) (b : Bool) → (s.piece.first / v.repeats == d) ≡ b
     → slips_of_cell v (base ++ s ∷ []) d ≡ slips_of_cell v base d ++ cond b (s ∷ []) []
 slip_in_cell v base s d b e =
-    filter-append (λ (y : Slip). y.piece.first / v.repeats == d) base (s ∷ [])
-    ∙ ap (λ x. slips_of_cell v base d ++ cond x (s ∷ []) []) e
+    grind (arith, filter-append)
 
 slip_sums : (v : Values) (base : List Slip) (s : Slip) (test new : ℕ → Bool) → IsMore test new s.piece
     → ((t : ℕ) → is_in s.piece t ≡ true → test t ≡ false) → sum_where v (base ++ s ∷ []) new (s.piece.first / v.repeats)

@@ -1,25 +1,22 @@
 -- The trials of cells: a piece that is added, the sums over a cell, and a ledger that holds none.
 use Rattle.std.proofs.Common.{◌≡◌, ℕ, ◌+◌, ◌-◌, ◌*◌, ◌/◌, ◌<◌, ◌≤◌, ◌^◌, Bool, true, false, ◌&&◌, ◌||◌}
-use Rattle.std.proofs.Common.{not, List, [], ◌++◌, length, get_or, replicate, nat_lt, sym, ap, ◌∙◌}
+use Rattle.std.proofs.Common.{List, [], ◌++◌, length, replicate, nat_lt, sym, ap, ◌∙◌}
 use Rattle.std.proofs.Common.{arith, zero-add}
-use Rattle.std.proofs.Math.Nat.{div-mul-le_self, lt-div-mul-add}
 use Rattle.std.proofs.lemmas.List.{get_or-replicate, get_or_past, flat_map_more, length-replicate}
 use Rattle.std.proofs.lemmas.List.Sums.{count_by-le-length}
 use Rattle.std.proofs.lemmas.List.FromFn.{length-range_with_len, get_or-map-range_with_len, length-map-range_with_len}
-use Rattle.std.proofs.lemmas.Nat.{div-mul-add, div_below}
+use Rattle.std.proofs.lemmas.Nat.{div-mul-add}
 use Rattle.std.proofs.lemmas.Bool.Decides.{nat_tests}
 use Rattle.cut_ledger.proofs.Words.{AreKept, AreOver, IsAtMost, IsPlan, IsTrue, Piece, Slip, Totals, Values}
-use Rattle.cut_ledger.proofs.Words.{cells_of, each_number, flat_map, further_trials, has, held_where, is_in}
-use Rattle.cut_ledger.proofs.Words.{is_in_base, is_piece, range_with_len}
-use Rattle.cut_ledger.proofs.Words.{slice_index_or, sum_by, trial_count, trials_of_cell}
+use Rattle.cut_ledger.proofs.Words.{cells_of, each_number, flat_map, has, held_where, is_in}
+use Rattle.cut_ledger.proofs.Words.{is_piece, range_with_len}
+use Rattle.cut_ledger.proofs.Words.{slice_index_or, trial_count}
 use Rattle.cut_lists.proofs.Ranges.{range_with_len_more}
 use Rattle.cut_lists.proofs.Additions.{PassesPart}
 use Rattle.cut_lists.proofs.Counts.{filter-none}
-use Rattle.cut_lists.proofs.Intervals.{within_is}
 use Rattle.std.proofs.lemmas.List.Elements.{All-from_recursion}
-use Rattle.cut_plan.specs.Cells.{IsCellOf}
 use Rattle.cut_plan.proofs.CellFacts.{every-cells}
-use Rattle.cut_outcome.specs.Outcome.{cell_at, no_cell, outcome}
+use Rattle.cut_outcome.specs.Outcome.{cell_at}
 use Rattle.range_set.specs.Held as held
 use Rattle.cut_ledger.specs.inside.Kept.{span_of, sum_at}
 
@@ -32,9 +29,6 @@ pub record InCell (r t : ℕ) : Type 0 where
   pub low : t / r * r ≤ t
   pub high : t < t / r * r + r
 
-pub in_cell : (r t : ℕ) → 0 < r → InCell r t
-in_cell r t some = record { low = div-mul-le_self t r; high = lt-div-mul-add some }
-
 -- what is known of a piece
 pub record PieceFacts (v : Values) (p : Piece) (c : ℕ) : Type 0 where
   pub some : 0 < p.count
@@ -46,9 +40,7 @@ pub record PieceFacts (v : Values) (p : Piece) (c : ℕ) : Type 0 where
 pub piece_in_cell : (v : Values) (p : Piece) → 0 < v.repeats → IsTrue (is_piece v p)
     → PieceFacts v p (p.first / v.repeats)
 piece_in_cell v p repeats piece =
-    let first-in = in_cell v.repeats p.first repeats in
-    let last-in = in_cell v.repeats (p.first + p.count - 1) repeats in
-    grind (arith, nat_tests, div_below)
+    grind arith
 
 pub piece_facts : (v : Values) (p : Piece) → IsPlan v → IsTrue (is_piece v p) → PieceFacts v p (p.first / v.repeats)
 piece_facts v p plan piece = piece_in_cell v p plan.some_repeats piece
@@ -56,12 +48,7 @@ piece_facts v p plan piece = piece_in_cell v p plan.some_repeats piece
 -- its cell has 32 rings at most
 pub few_rings : (v : Values) (s : Slip) → IsPlan v → IsTrue (is_piece v s.piece) → (cell_at v s.piece.first).k ≤ 32
 few_rings v s plan piece =
-    let facts = piece_facts v s.piece plan piece in
-    let cell = All-from_recursion (IsCellOf v) (cells_of v) (every-cells v plan) (s.piece.first / v.repeats)
-    no_cell facts.cell in
-    let most = cell.most_rings in
-    let rings = plan.most_rings in
-    omega (arith, most, rings)
+    grind (arith, piece_facts, All-from_recursion, every-cells)
 
 pub in_piece : (p : Piece) (t : ℕ) → is_in p t ≡ true → (p.first ≤ t) × (t < p.first + p.count)
 in_piece p t e = grind (arith, nat_tests)
@@ -90,29 +77,18 @@ pub record IsMore (test new : ℕ → Bool) (p : Piece) : Type 0 where
 -- as the set's numbers do after the piece is put in
 pub more_is : (old new : held.Held) (p : Piece) → p.first + p.count ≤ length old.held → new.held
     ≡ held.with_span old (span_of p) → IsMore (held.has old) (held.has new) p
-more_is old new p ends put = record {
-  same = λ t. (let past = get_or_past old.held t false in
-      ap (λ (bs : List Bool). get_or bs t false) put
-      ∙ grind (arith, nat_tests, get_or-map-range_with_len, get_or_past, length-map-range_with_len));
-}
+more_is old new p ends put = grind (arith, get_or_past, get_or-map-range_with_len, length-map-range_with_len)
 
 -- what passes among a cell's trials, where none of the piece's passed
 pub more_part : (test new : ℕ → Bool) (v : Values) (p : Piece) (c : ℕ) → PieceFacts v p c → IsMore test new p
     → ((t : ℕ) → is_in p t ≡ true → test t ≡ false) → PassesPart test new (c * v.repeats) v.repeats p.first p.count
-more_part test new v p c facts more apart = record {
-  starts = facts.starts;
-  ends = facts.ends;
-  inside = λ t a b. (let here = within_is p.first (p.first + p.count) t a b in grind (arith, apart t, more.same t));
-  outside = λ t out. grind (arith, nat_tests, more.same t, out);
-}
+more_part test new v p c facts more apart = grind arith
 
 -- and outside its cell nothing changes
 pub more_elsewhere : (test new : ℕ → Bool) (v : Values) (p : Piece) (c d t : ℕ) → PieceFacts v p c → IsMore test new p
     → (d ≡ c → ⊥) → d * v.repeats ≤ t → t < d * v.repeats + v.repeats → new t ≡ test t
 more_elsewhere test new v p c d t facts more other low high =
-    let same = cell_is v.repeats d t low high in
-    let there = piece_cell v p c t facts in
-    grind (arith, nat_tests, more.same t, other)
+    grind (arith, cell_is v.repeats d t low high, piece_cell v p c t facts)
 
 -- ---- sums
 
@@ -120,45 +96,14 @@ more_elsewhere test new v p c d t facts more other low high =
 pub sums_fit : (v : Values) (base : List Slip) (trials : held.Held) (sums : List Totals) (c : ℕ)
     → AreKept v base trials sums → c < length sums → IsAtMost (2 ^ 43) (sum_at sums c)
 sums_fit v base trials sums c kept in' =
-    let few = kept.plan.few_repeats in
-    let count = count_by-le-length (held.has trials) (trials_of_cell v c) in
-    let long = length-range_with_len (c * v.repeats) v.repeats in
-    let each = (kept.each c in').few in
-    grind arith
+    grind (arith, count_by-le-length, length-range_with_len)
 
 -- ---- nothing is held
 
 pub none_over : (v : Values) (trials : held.Held) (sums : List Totals) → IsPlan v → trials.section_len ≡ v.repeats
     → trials.held ≡ replicate (trial_count v) false → length trials.room ≡ length (cells_of v) → sums
     ≡ replicate (length (cells_of v)) (each_number (λ n. 0)) → AreOver v [] trials sums
-none_over v trials sums plan section_len held-is room sums-are = record {
-  kept = record {
-    plan = plan;
-    section_len = section_len;
-    all = grind (arith, held-is, length-replicate);
-    cells = room;
-    long = many;
-    each = λ c in'. record {
-      sums = zero_at c in' ∙ sym (ap (λ ts. each_number (λ n. 0 + sum_by (λ t. n (outcome v t)) ts)) (none_of c));
-      few = rw (zero_at c in') (grind arith);
-    };
-    based = λ t e. cc;
-  };
-  exactly = none;
-}
-  where
-    many : length sums ≡ length (cells_of v)
-    many = grind (arith, sums-are, length-replicate)
-
-    zero_at : (c : ℕ) → c < length sums → sum_at sums c ≡ each_number (λ n. 0)
-    zero_at c in' = grind (arith, sums-are, many, get_or-replicate)
-
-    none : (t : ℕ) → held.has trials t ≡ false
-    none t = grind (arith, held-is, get_or-replicate, get_or_past, length-replicate)
-
-    none_of : (c : ℕ) → further_trials v [] (held.has trials) c ≡ []
-    none_of c = filter-none (λ t. held.has trials t && not (is_in_base [] t)) (trials_of_cell v c)
-        (λ k d low. grind (arith, none (get_or (trials_of_cell v c) k d)))
+none_over v trials sums plan section_len held-is room sums-are = grind (arith, length-replicate, get_or-replicate, get_or_past, filter-none)
 
 -- ---- gaps, cell by cell
 

@@ -2,7 +2,7 @@
 use Rattle.std.proofs.Common.{◌≡◌, ℕ, zero, suc, ◌+◌, ◌-◌, ◌*◌, ◌<◌, ◌≤◌, Bool, not, min, List, [], ◌∷◌, map}
 use Rattle.std.proofs.Common.{filter, length, get_or, sym, ap, ◌∙◌, arith, append-nil, zero-add}
 use Rattle.std.proofs.Math.Nat.{zero-mul}
-use Rattle.std.proofs.lemmas.Grind.{flat_map-append, div_ceil_times}
+use Rattle.std.proofs.lemmas.Grind.{flat_map-append}
 use Rattle.std.proofs.lemmas.List.Folds.{flat_map-map}
 use Rattle.std.proofs.lemmas.List.Elements.{filter-append}
 use Rattle.std.proofs.lemmas.List.FromFn.{map-range_with_len_more}
@@ -66,9 +66,7 @@ parts_cover_to size p (suc n) some le =
 
 pub parts_cover : (size : ℕ) (p : Piece) → 1 ≤ size → flat_map trials_in (parts_of size p) ≡ trials_in p
 parts_cover size p some =
-    let bound = div_ceil_times p.count size (omega arith) in
-    let all : min (div_ceil p.count size * size) p.count ≡ p.count = omega (arith, bound.0) in
-    rw (parts_cover_to size p (div_ceil p.count size) some (omega arith), all)
+    grind (arith, parts_cover_to)
 
 pub pieces_cover : SpansCover → (l : Contents) (size : ℕ) → 1 ≤ size → flat_map trials_in (pieces_of l size)
     ≡ filter (λ t. not (has l t)) (all_trials l.plan)

@@ -1,7 +1,6 @@
 -- The piece of a number, found by the gap that it is of.
-use Rattle.std.proofs.Common.{◌≡◌, ◌∙◌, ℕ, zero, suc, ◌+◌, ◌-◌, ◌≤◌, ◌<◌, inl, inr, List, [], ◌∷◌, ◌++◌, take, length}
-use Rattle.std.proofs.Common.{get_or, slice_get, Some, None, sym, ap, subst, arith, append-nil, length-append}
-use Rattle.std.proofs.lemmas.Bool.{cases_lt}
+use Rattle.std.proofs.Common.{◌≡◌, ◌∙◌, ℕ, zero, suc, ◌+◌, ◌-◌, ◌≤◌, ◌<◌, List, [], ◌∷◌, ◌++◌, take, length}
+use Rattle.std.proofs.Common.{get_or, slice_get, Some, None, sym, ap, subst, arith, length-append}
 use Rattle.std.proofs.lemmas.Grind.{flat_map-append, take_at_read}
 use Rattle.std.proofs.lemmas.List.{map-append, take_all, take-append-le, get_or-map, get_or_push, get_or_append_left}
 use Rattle.std.proofs.lemmas.List.{length-map}
@@ -32,13 +31,7 @@ pub one_gap : (size : ℕ) (gaps : List Piece) (i : ℕ) (d : Piece) → i < len
     → length (flat_map (parts_of size) (take (i + 1) gaps)) ≡ length (flat_map (parts_of size) (take i gaps))
     + div_ceil (get_or gaps i d).count size
 one_gap size gaps i d low =
-    let last : Piece = get_or gaps i d in
-    rw (
-      (take_at_read gaps i d low).1,
-      flat_map-append (parts_of size) (take i gaps) (last ∷ []),
-      append-nil (parts_of size last),
-    )
-    (omega (arith, length-append (flat_map (parts_of size) (take i gaps)) (parts_of size last), parts_long size last))
+    grind (arith, take_at_read, flat_map-append, length-append, parts_long)
 
 pub few_before : (size : ℕ) (gaps : List Piece) (i : ℕ) (d : Piece) → i < length gaps
     → length (flat_map (parts_of size) (take i gaps)) + div_ceil (get_or gaps i d).count size
@@ -50,19 +43,11 @@ few_before size gaps i d low =
 before_it : (size : ℕ) (ss : List Stretch) (s : Stretch) (n : ℕ) → n ≤ length ss → pieces_up_to size (ss ++ s ∷ []) n
     ≡ pieces_up_to size ss n
 before_it size ss s n low =
-    rw (
-      map-append (λ (t : Stretch). t.gap) ss (s ∷ []),
-      take-append-le n (gaps_in ss) (s.gap ∷ []) (omega (arith, length-map ss (λ (t : Stretch). t.gap))),
-    )
+    grind (arith, map-append, take-append-le, length-map)
 
 pub counted_push : (size : ℕ) (ss : List Stretch) (s : Stretch) → ArePiecesCounted size ss → s.end
     ≡ length (pieces_up_to size (ss ++ s ∷ []) (length ss + 1)) → ArePiecesCounted size (ss ++ s ∷ [])
-counted_push size ss s are end i d low = elim (cases_lt i (length ss)) [
-  | inl before ↦ rw (get_or_append_left ss (s ∷ []) d i before, before_it size ss s (i + 1) (omega arith))
-      (are i d before)
-  | inr from ↦ let last : i ≡ length ss = omega (arith, length-append ss (s ∷ []), low, from)
-      in rw (get_or_push ss s d i (sym last), last) end
-]
+counted_push size ss s are end i d low = grind (arith, get_or_append_left, before_it, length-append, get_or_push)
 
 -- ---- the gap of a number
 

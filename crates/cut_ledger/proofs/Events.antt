@@ -1,5 +1,5 @@
 -- Each event leaves true what holds of a run.
-use Rattle.std.proofs.Common.{◌≡◌, ℕ, ◌+◌, ◌*◌, ◌<◌, ◌≤◌, ◌||◌, Bool, true, false, cond, refl, sym, ap}
+use Rattle.std.proofs.Common.{◌≡◌, ℕ, ◌+◌, ◌*◌, ◌≤◌, ◌||◌, Bool, true, false, cond, refl, sym, ap}
 use Rattle.std.proofs.Common.{List, [], ◌∷◌, ◌++◌, Option, Some, None, IfSome, length, take, drop, ◌∙◌, IsTrue}
 use Rattle.std.proofs.Common.{arith, append_assoc, append-nil, subst, take-append-drop, take_all}
 use Rattle.std.specs.Prelude.{slice_get}
@@ -13,31 +13,23 @@ use Rattle.cut_ledger.specs.declared.event.Event.TheVariants.{Draw, HandIn, Hand
 use Rattle.cut_ledger.specs.declared.event.Event.TheVariants.{WireFails, NewWire, Finish}
 use Rattle.cut_ledger.specs.declared.event.Reply as replies
 use Rattle.cut_ledger.specs.declared.event.Reply.TheVariants as reply
-use Rattle.cut_ledger.specs.declared.offer_fault.OfferFault.TheVariants.{Overlap, Stranger}
 use Rattle.cut_ledger.specs.Laws.{SamePlansAreEqual}
 use Rattle.cut_ledger.specs.Machine.{next_bytes}
-use Rattle.cut_ledger.specs.Refusals.{is_same_plan}
 use Rattle.cut_ledger.proofs.Words.{AllByRecursion, AreTrue, CanTake, Computed, Contents, Event, FaultCode}
 use Rattle.cut_ledger.proofs.Words.{HasTrueResult, IsDoubtful, IsFounded, IsPlan, IsReached, IsRight}
 use Rattle.cut_ledger.proofs.Words.{IsTrueSlip, Piece, Slip, StudyState, SayAlike, Values}
 use Rattle.cut_ledger.proofs.Words.{World, accepted_after, accepted_unless, after, available, begun}
-use Rattle.cut_ledger.proofs.Words.{bytes_after, cell_done, code_of, drawn_piece, failed, has}
-use Rattle.cut_ledger.proofs.Words.{is_finished, is_in, is_piece, list_any, one_if, option_map}
-use Rattle.cut_ledger.proofs.Words.{overlaps, pieces_of_slips, refused_code, run}
+use Rattle.cut_ledger.proofs.Words.{bytes_after, cell_done, drawn_piece, failed, has}
+use Rattle.cut_ledger.proofs.Words.{is_finished, is_in, is_piece, list_any, one_if}
+use Rattle.cut_ledger.proofs.Words.{pieces_of_slips, refused_code, run}
 use Rattle.cut_ledger.proofs.Words.{slice_index_or, slip_of, slips_found, some_slip, start, step, sum_of}
-use Rattle.cut_ledger.proofs.Words.{taken, times_in, trial_count, trials_in, unless_refused, with_piece}
-use Rattle.cut_ledger.proofs.CellLemmas.{in_piece}
+use Rattle.cut_ledger.proofs.Words.{taken, times_in, trials_in, unless_refused, with_piece}
 use Rattle.cut_ledger.proofs.LawBytes.{Written, available_prefix, available_grows, available_whole, written_more}
-use Rattle.cut_ledger.proofs.Law.{Holds, held_within, piece_within, times_more, times_push, one_if-le}
+use Rattle.cut_ledger.proofs.Law.{Holds, held_within, times_more, times_push, one_if-le}
 use Rattle.cut_ledger.proofs.Law.{opened_holds, start_holds}
 use Rattle.cut_plan.proofs.Every.{every-append}
 
 -- ---- results that are taken
-
-not_refused : (broken same over : Bool) → cond broken (Some code.Checkpoint)
-    (option_map code_of (cond same (cond over (Some Overlap) None) (Some Stranger))) ≡ None
-    → (broken ≡ false) × (same ≡ true) × (over ≡ false)
-not_refused broken same over e = grind (arith, e)
 
 -- what is known of a result that a run takes
 pub record Accepts (v : Values) (s : StudyState) (r : Computed) : Type 0 where
@@ -49,21 +41,13 @@ pub record Accepts (v : Values) (s : StudyState) (r : Computed) : Type 0 where
 -- where the ledger can take it
 pub can_take : (v : Values) (s : StudyState) (r : Computed) → IsReached v s → s.broken ≡ false → CanTake s.ledger r
     → IsTrue (is_piece r.plan r.piece) → Accepts v s r
-can_take v s r h unbroken free piece = record {
-  unbroken = unbroken;
-  plan = free.plan ∙ h.ledger.plan;
-  piece = rw (free.plan ∙ h.ledger.plan) at piece;
-  free = λ t here. (let at = in_piece r.piece t here
-      in none_passing (has s.ledger) r.piece.first r.piece.count t free.apart at.0 at.1);
-}
+can_take v s r h unbroken free piece = grind (arith, none_passing (has s.ledger) r.piece.first r.piece.count)
 
 -- and where it is not refused
 accepts : SamePlansAreEqual → (v : Values) (s : StudyState) (r : Computed) → IsPlan v → IsReached v s
     → HasTrueResult (HandIn r) → refused_code s r ≡ None → Accepts v s r
 accepts equal v s r good h result none =
-    let known = not_refused s.broken (is_same_plan s.ledger.plan r.plan) (overlaps s.ledger r.piece) none in
-    let plan = (equal s.ledger.plan r.plan (rw h.ledger.plan good) result.0).0 known.1 in
-    can_take v s r h known.0 (record { plan = sym plan; apart = known.2 }) result.1
+    grind (arith, can_take)
 
 true_slip : (v : Values) (s : StudyState) (r : Computed) → Accepts v s r → IsTrueSlip v (slip_of r)
 true_slip v s r a = record { piece = a.piece; totals = ap (λ u. sum_of u (trials_in r.piece)) a.plan }
@@ -76,22 +60,7 @@ record IsMore (v : Values) (l : Contents) (p : Piece) : Type 0 where
 
 more : (v : Values) (s : StudyState) (r : Computed) → IsReached v s → Accepts v s r → IsMore v s.ledger r.piece
 more v s r h a =
-    let l : Contents = s.ledger in
-    let p : Piece = r.piece in
-    let inside : (t : ℕ) → has l t || is_in p t ≡ true → t < trial_count v = λ t is.
-    (let held = h.ledger.within t in let here = piece_within v p t a.piece in grind arith) in
-    let held : (t : ℕ) → has (with_piece l p) t ≡ has l t || is_in p t = λ t.
-    held_within l.plan (λ k. has l k || is_in p k) t (λ is. rw h.ledger.plan (inside t is)) in
-    record {
-      held = held;
-      ones = λ t. grind (arith, held t, a.free t);
-      ledger = record {
-        plan = h.ledger.plan;
-        some = h.ledger.some;
-        within = λ t is. inside t (sym (held t) ∙ is);
-        base = h.ledger.base;
-      };
-    }
+    grind (arith, held_within)
 
 pub taken_reached : (v : Values) (s : StudyState) (r : Computed) → IsReached v s → Accepts v s r
     → IsReached v (taken s r)
@@ -113,14 +82,7 @@ taken_reached v s r h a =
 
 pub failed_reached : (v : Values) (s : StudyState) (r : Computed) → IsReached v s → Accepts v s r
     → IsReached v (failed s r)
-failed_reached v s r h a = record {
-  ledger = h.ledger;
-  kept = h.kept;
-  apart = h.apart;
-  doubtful = record { is_true = true_slip v s r a; free = a.free };
-  frozen = λ e. absurd (let no : ⊥ = cc in no);
-  sent = h.sent;
-}
+failed_reached v s r h a = grind (arith, true_slip v s r a)
 
 -- ---- resumptions
 
@@ -148,10 +110,7 @@ pub emitted : (v : Values) (l : Contents) (bytes : List ℕ) (sent n : ℕ) (los
     → Written (table v) sent bytes (available l)
     → Written (table v) (sent + length (cond {A = List ℕ} lost [] (take n (drop sent (available l)))))
     (bytes ++ cond {A = List ℕ} lost [] (take n (drop sent (available l)))) (available l)
-emitted v l bytes sent n true good before = record {
-  within = omega (arith, before.within);
-  first = grind (arith, append-nil, before.first);
-}
+emitted v l bytes sent n true good before = grind (arith, append-nil)
 emitted v l bytes sent n false good before =
     let prefix = available_prefix v l good in
     written_more (table v) (available l) prefix.0 bytes sent n prefix.1 before
@@ -159,14 +118,7 @@ emitted v l bytes sent n false good before =
 -- the same state with another number of bytes sent, and another division
 pub sent_reached : (v : Values) (s t : StudyState) → IsReached v s → t.ledger ≡ s.ledger → t.kept ≡ s.kept → t.doubtful
     ≡ s.doubtful → t.broken ≡ s.broken → t.sent ≤ length (available s.ledger) → IsReached v t
-sent_reached v s t h ledger kept doubtful broken sent = record {
-  ledger = rw ledger h.ledger;
-  kept = rw kept h.kept;
-  apart = λ i. rw (kept, ledger) (h.apart i);
-  doubtful = rw (doubtful, ledger) h.doubtful;
-  frozen = λ e. doubtful ∙ h.frozen (sym broken ∙ e);
-  sent = subst (λ (l : Contents). t.sent ≤ length (available l)) (sym ledger) sent;
-}
+sent_reached v s t h ledger kept doubtful broken sent = grind arith
 
 -- a reached state, of its own plan
 pub own_plan : (v : Values) (t : StudyState) → IsReached v t → IsReached t.ledger.plan t
@@ -198,22 +150,14 @@ handed_in equal v w r good h result (Some why) some = h
 handed_in_vain : SamePlansAreEqual → (v : Values) (w : World) (r : Computed) → IsPlan v → Holds v w
     → HasTrueResult (HandIn r) → (o : Option FaultCode) → refused_code w.state r ≡ o
     → Holds v (record { state = unless_refused o w.state (failed w.state r); bytes = w.bytes; accepted = w.accepted })
-handed_in_vain equal v w r good h result None none = record {
-  reached = failed_reached v w.state r h.reached (accepts equal v w.state r good h.reached result none);
-  once = h.once;
-  first = h.first;
-}
+handed_in_vain equal v w r good h result None none = search (arith, failed_reached, accepts)
 handed_in_vain equal v w r good h result (Some why) some = h
 
 -- a run in which nothing that is spoken of has changed
 plain : (v : Values) (w u : World) → Holds v w → u.state.ledger ≡ w.state.ledger → u.state.kept ≡ w.state.kept
     → u.state.doubtful ≡ w.state.doubtful → u.state.broken ≡ w.state.broken → u.state.sent ≡ w.state.sent
     → u.bytes ≡ w.bytes → u.accepted ≡ w.accepted → Holds v u
-plain v w u h ledger kept doubtful broken sent bytes accepted = record {
-  reached = sent_reached v w.state u.state h.reached ledger kept doubtful broken (rw sent h.reached.sent);
-  once = λ t. rw (ledger, accepted) (h.once t);
-  first = rw (bytes, sent) h.first;
-}
+plain v w u h ledger kept doubtful broken sent bytes accepted = grind arith
 
 -- bytes that are written, after which the wire is lost or not
 written : (v : Values) (w : World) (n : ℕ) (lost : Bool) → Holds v w → Holds v (record {
@@ -222,13 +166,7 @@ written : (v : Values) (w : World) (n : ℕ) (lost : Bool) → Holds v w → Hol
   accepted = w.accepted;
 })
 written v w n lost h =
-    let now = emitted v w.state.ledger w.bytes w.state.sent n w.state.wire_lost h.reached.ledger
-    (record { within = h.reached.sent; first = h.first }) in
-    record {
-      reached = sent_reached v w.state _ h.reached refl refl refl refl now.within;
-      once = h.once;
-      first = now.first;
-    }
+    grind (arith, emitted v w.state.ledger w.bytes w.state.sent n w.state.wire_lost h.reached.ledger)
 
 draw_shows : (o : Option Piece) (bytes : List ℕ) → bytes_after Draw (drawn_piece o) bytes ≡ bytes
 draw_shows None bytes = refl
@@ -261,11 +199,7 @@ step_holds equal v w (CrashReopen keep size) good h result =
     (found v s.ledger s.has_journal s.kept s.doubtful keep h.reached.kept h.reached.apart h.reached.doubtful))
 step_holds equal v w (Emit n) good h result = written v w n w.state.wire_lost h
 step_holds equal v w (WireFails n) good h result = written v w n true h
-step_holds equal v w NewWire good h result = record {
-  reached = sent_reached v w.state (after w.state NewWire) h.reached refl refl refl refl (omega arith);
-  once = h.once;
-  first = refl;
-}
+step_holds equal v w NewWire good h result = grind arith
 step_holds equal v w Finish good h result = plain v w (step w Finish) h refl refl refl refl refl
     (end_shows (is_finished w.state) w.state.broken (list_any (λ is_lost. is_lost) w.state.lost) w.bytes) refl
 
@@ -303,12 +237,7 @@ right_from v w good h =
 pub law : SamePlansAreEqual → (journal : Bool) (v : Values) (size : ℕ) (events : List Event) → IsPlan v
     → AllByRecursion HasTrueResult events → IsRight v (run (begun (start v size journal)) events)
 law equal journal v size events good results =
-    right_from v (run (begun (start v size journal)) events) good
-    (run_holds equal v (begun (start v size journal)) events good (start_holds v good.some_repeats size journal)
-    results)
+    search (arith, right_from, run_holds, start_holds)
 
 pub alike : (v : Values) (a b : World) → IsRight v a → IsRight v b → SayAlike a b
-alike v a b one other = record {
-  offered = λ ca cb. one.offered ca ∙ sym (other.offered cb);
-  written = λ da db. one.whole da ∙ sym (other.whole db);
-}
+alike v a b one other = grind arith

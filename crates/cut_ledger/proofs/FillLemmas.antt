@@ -27,7 +27,6 @@ use Rattle.cut_ledger.specs.Gaps.{pieces_of}
 use Rattle.cut_ledger.specs.Laws.{with_pieces, AreFilling}
 use Rattle.cut_ledger.specs.Machine.{available}
 use Rattle.cut_ledger.specs.Table.{full_sum, table_over}
-use Rattle.cut_ledger.specs.inside.Reached.{IsFounded}
 use Rattle.cut_ledger.specs.World.{AreTrue, times_in}
 use Rattle.range_set.specs.Laws.{SpansCover}
 use Rattle.cut_ledger.proofs.CoverLemmas.{pieces_cover}
@@ -76,8 +75,7 @@ has_more : (l : Contents) (ps : List Piece) (t : ℕ) → t < trial_count l.plan
     || list_any (λ p. is_in p t) ps
 has_more l [] t low = grind arith
 has_more l (p ∷ ps) t low =
-    let next = held_at l.plan (λ k. has l k || is_in p k) t in
-    grind (arith, nat_tests, has_more (with_piece l p) ps t low)
+    grind (arith, held_at, has_more (with_piece l p) ps t low)
 
 -- the plan stays
 plan_stays : (l : Contents) (ps : List Piece) → (with_pieces l ps).plan ≡ l.plan
@@ -112,18 +110,10 @@ apart cover l size i p some at =
 -- with all of them every trial is held
 complete : SpansCover → (l : Contents) (size : ℕ) → 1 ≤ size → is_complete (with_pieces l (pieces_of l size)) ≡ true
 complete cover l size some =
-    let ps : List Piece = pieces_of l size in
-    rw (plan_stays l ps) (list_all_passing (has (with_pieces l ps)) 0 (trial_count l.plan) (λ t from to.
-    (let times = times_free cover l size t some in
-    let more = list_any-count_by (λ q. is_in q t) ps in
-    grind (arith, nat_tests, has_more l ps t))))
+    grind (arith, plan_stays l, list_all_passing, times_free cover l size, list_any-count_by, has_more l)
 
 pub pieces_fill : SpansCover → (l : Contents) (size : ℕ) → 1 ≤ size → AreFilling l (pieces_of l size)
-pieces_fill cover l size some = record {
-  plan = λ i. plan_stays l (take i (pieces_of l size));
-  apart = λ i p at. apart cover l size i p some at;
-  complete = complete cover l size some;
-}
+pieces_fill cover l size some = search (arith, plan_stays, apart, complete)
 
 -- ---- what can be written then
 
@@ -182,11 +172,4 @@ filled_give cover v ss size some =
 pub true_give : (v : Values) (ss : List Slip) → IsPlan v → AreTrue v ss → table_over v ss ≡ table v
 true_give v ss plan are =
     let l : Contents = filled v ss in
-    let held : (t : ℕ) → has l t ≡ nat_lt t (trial_count v) && true = held_at v (λ k. true) in
-    let founded : IsFounded v l = record {
-      plan = refl;
-      some = plan.some_repeats;
-      within = λ t here. grind (arith, nat_tests, held t);
-      base = are;
-    } in
-    sym (filled_table v ss) ∙ available_whole v l founded (all_held v ss)
+    grind (arith, held_at v, filled_table v ss, available_whole v l, all_held v ss)

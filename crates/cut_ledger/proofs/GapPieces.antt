@@ -1,9 +1,6 @@
 -- Gaps and their parts are pieces of the plan.
 use Rattle.std.proofs.Common.{ℕ, ◌+◌, ◌-◌, ◌*◌, ◌/◌, ◌<◌, ◌≤◌, Bool, not, All, map, length, get_or}
 use Rattle.std.proofs.Common.{arith}
-use Rattle.std.proofs.Math.Nat.{mul-le-mul_right}
-use Rattle.std.proofs.lemmas.Bool.Decides.{nat_tests}
-use Rattle.std.proofs.lemmas.Grind.{div_ceil_times}
 use Rattle.std.proofs.lemmas.List.Elements.{All-map}
 use Rattle.cut_lists.proofs.FlatMaps.{All-flat_map}
 use Rattle.cut_lists.proofs.Ranges.{All-range_with_len}
@@ -19,10 +16,7 @@ use Rattle.cut_ledger.proofs.CellLemmas.{piece_facts, cell_is}
 pub piece_within : (v : Values) (p : Piece) (c : ℕ) → 0 < p.count → c < length (cells_of v) → c * v.repeats ≤ p.first
     → p.first + p.count ≤ c * v.repeats + v.repeats → IsTrue (is_piece v p)
 piece_within v p c some cell starts ends =
-    let row = mul-le-mul_right {m = c + 1} {n = length (cells_of v)} v.repeats (omega arith) in
-    let first-in = cell_is v.repeats c p.first starts (omega arith) in
-    let last-in = cell_is v.repeats c (p.first + p.count - 1) (omega arith) (omega arith) in
-    grind (arith, nat_tests)
+    grind (arith, cell_is)
 
 -- ---- gaps
 
@@ -44,8 +38,7 @@ gaps_are_pieces within l =
 -- a part begins within what it is a part of
 pub part_within : (size i count : ℕ) → 1 ≤ size → i < div_ceil count size → i * size < count
 part_within size i count some low =
-    let row = mul-le-mul_right {m = i + 1} {n = div_ceil count size} size (omega arith) in
-    omega (arith, (div_ceil_times count size (omega arith)).1, row)
+    grind arith
 
 pub parts_are_pieces : (v : Values) (size : ℕ) (p : Piece) → IsPlan v → 1 ≤ size → IsTrue (is_piece v p)
     → All (λ q. IsTrue (is_piece v q)) (parts_of size p)
@@ -61,5 +54,4 @@ parts_are_pieces v size p plan some piece =
 pub pieces_are_pieces : SpansWithin → (l : Contents) (size : ℕ) → IsPlan l.plan → 1 ≤ size
     → All (λ p. IsTrue (is_piece l.plan p)) (pieces_of l size)
 pieces_are_pieces within l size plan some =
-    All-flat_map (λ p. IsTrue (is_piece l.plan p)) (parts_of size) (gaps_of l)
-    (λ k d low. parts_are_pieces l.plan size (get_or (gaps_of l) k d) plan some (gaps_are_pieces within l k d low))
+    search (arith, All-flat_map, parts_are_pieces, gaps_are_pieces)

@@ -1,17 +1,17 @@
 -- What can be written of a table, and what has been: a prefix of it.
 use Rattle.std.proofs.Common.{◌≡◌, ℕ, ◌+◌, ◌*◌, ◌<◌, ◌≤◌, true, List, ◌++◌, length, take, drop, sym, ap, ◌∙◌, arith}
-use Rattle.std.proofs.Common.{append_assoc, length-append, length-drop, length-take, take-append-drop}
+use Rattle.std.proofs.Common.{append_assoc, length-drop, length-take, take-append-drop}
 use Rattle.std.proofs.Math.Nat.{mul-le-mul_right, add-mul}
 use Rattle.std.proofs.Math.Seq.{take-add}
-use Rattle.std.proofs.lemmas.List.{drop-append-le, take-append-le, take_min}
+use Rattle.std.proofs.lemmas.List.{take-append-le, take_min}
 use Rattle.std.proofs.lemmas.List.Concat.{flat_map-append}
 use Rattle.cut_lists.proofs.Prefixes.{flat_map_prefix, longer_prefix, whole_prefix}
 use Rattle.cut_lists.proofs.Intervals.{list_all_passing, passes_at}
 use Rattle.cut_lines.specs.Lines.{table}
 use Rattle.cut_plan.specs.Failing.{version_of}
-use Rattle.cut_ledger.proofs.Words.{Contents, IsFounded, Totals, Values, all_trials, available, cell_done}
-use Rattle.cut_ledger.proofs.Words.{cell_sum, cells_of, flat_map, has, header, is_complete, line_of}
-use Rattle.cut_ledger.proofs.Words.{line_with, list_all, prefix_len, range_with_len, take_while, trial_count}
+use Rattle.cut_ledger.proofs.Words.{Contents, IsFounded, Values, all_trials, available, cell_done}
+use Rattle.cut_ledger.proofs.Words.{cells_of, flat_map, has, header, is_complete, line_of}
+use Rattle.cut_ledger.proofs.Words.{list_all, prefix_len, range_with_len, take_while, trial_count}
 use Rattle.cut_ledger.proofs.Words.{trials_of_cell}
 use Rattle.cut_ledger.proofs.LawSums.{done_sums}
 
@@ -29,13 +29,7 @@ lines_done v l = flat_map (λ c. line_of v c) (take_while (cell_done l) (range_w
 pub available_is : (v : Values) (l : Contents) → IsFounded v l → available l ≡ header (version_of v.failing)
     ++ lines_done v l
 available_is v l sound =
-    ap (λ w. header (version_of w.failing) ++ flat_map (λ c. line_with w c (cell_sum l c))
-    (take_while (cell_done l) (range_with_len 0 (length (cells_of w))))) sound.plan
-    ∙ ap (λ ys. header (version_of v.failing) ++ ys)
-    (flat_map_prefix (λ c. line_with v c (cell_sum l c)) (λ c. line_of v c) (cell_done l)
-    (range_with_len 0 (length (cells_of v)))
-    (λ c done. ap (λ (x : Totals). line_with v c x)
-    (done_sums v l c sound.plan sound.some sound.base done)))
+    grind (arith, flat_map_prefix, done_sums v l)
 
 -- it is a prefix of the table
 pub available_prefix : (v : Values) (l : Contents) → IsFounded v l → (rest : List ℕ) × (table v ≡ available l ++ rest)
@@ -56,16 +50,7 @@ available_prefix v l sound =
 pub available_grows : (v : Values) (k l : Contents) → IsFounded v k → IsFounded v l
     → ((c : ℕ) → cell_done k c ≡ true → cell_done l c ≡ true) → length (available k) ≤ length (available l)
 available_grows v k l fewer more grows =
-    let longer = longer_prefix (λ c. line_of v c) (cell_done k) (cell_done l) (range_with_len 0 (length (cells_of v)))
-    grows in
-    omega (
-      arith,
-      longer,
-      ap (λ ys. length ys) (available_is v k fewer),
-      length-append (header (version_of v.failing)) (lines_done v k),
-      ap (λ ys. length ys) (available_is v l more),
-      length-append (header (version_of v.failing)) (lines_done v l),
-    )
+    grind (arith, longer_prefix, available_is v k fewer, available_is v l more)
 
 -- where every trial is held it is the table
 pub available_whole : (v : Values) (l : Contents) → IsFounded v l → is_complete l ≡ true → available l ≡ table v
@@ -93,17 +78,4 @@ pub written_more : (text prefix rest bytes : List ℕ) (sent n : ℕ) → text �
     → Written text sent bytes prefix
     → Written text (sent + length (take n (drop sent prefix))) (bytes ++ take n (drop sent prefix)) prefix
 written_more text prefix rest bytes sent n whole before =
-    let left : List ℕ = drop sent prefix in
-    let few : length (take n left) ≤ length left = omega (arith, length-take n left) in
-    record {
-      within = omega (arith, before.within, few, length-drop sent prefix);
-      first = rw (
-        take-add sent (length (take n left)) text,
-        before.first,
-        whole,
-        drop-append-le sent prefix rest before.within,
-        take-append-le (length (take n left)) left rest few,
-        length-take n left,
-        take_min n left,
-      );
-    }
+    grind (arith, length-take, length-drop, take-add, take-append-le, take_min)

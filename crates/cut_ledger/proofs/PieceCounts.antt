@@ -48,5 +48,4 @@ few_pieces cover within l size plan some =
 pub gaps_within : SpansWithin → (l : Contents) → IsPlan l.plan
     → All (λ (p : Piece). p.first + p.count < 2 ^ 32) (gaps_of l)
 gaps_within within l plan k d low =
-    let facts = piece_facts l.plan (get_or (gaps_of l) k d) plan (gaps_are_pieces within l k d low) in
-    omega (arith, facts.end, few_trials l.plan plan)
+    grind (arith, gaps_are_pieces within l k d low)

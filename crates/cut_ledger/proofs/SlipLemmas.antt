@@ -1,7 +1,6 @@
 -- Good slips, and what is held where slips are.
-use Rattle.std.proofs.Common.{◌≡◌, ℕ, ◌+◌, ◌-◌, ◌*◌, ◌/◌, ◌<◌, inl, inr, Bool, true, false, ◌||◌, List, [], ◌∷◌, ◌++◌}
-use Rattle.std.proofs.Common.{length, take, get_or, sym, ap, ◌∙◌, subst, arith}
-use Rattle.std.proofs.lemmas.Bool.{cases_lt}
+use Rattle.std.proofs.Common.{◌≡◌, ℕ, ◌+◌, ◌-◌, ◌*◌, ◌/◌, ◌<◌, Bool, true, false, ◌||◌, List, [], ◌∷◌, ◌++◌}
+use Rattle.std.proofs.Common.{length, take, get_or, sym, ap, ◌∙◌, arith}
 use Rattle.std.proofs.lemmas.List.{ext_get_or, get_or_default}
 use Rattle.std.proofs.lemmas.List.FromFn.{length-map-range_with_len}
 use Rattle.cut_lists.proofs.Intervals.{within_is}
@@ -21,28 +20,18 @@ pub apart_is : (v : Values) (earlier : List Slip) (trials : held.Held) (sums : L
     → AreOver v earlier trials sums → list_any (is_in_base earlier) (trials_in p)
     ≡ list_any (held.has trials) (trials_in p)
 apart_is v earlier trials sums p over =
-    list_any_agree (is_in_base earlier) (held.has trials) p.first p.count
-    (record { same = λ t a b. sym (over.exactly t) })
+    grind arith
 
 pub good_is : (v : Values) (earlier : List Slip) (trials : held.Held) (sums : List Totals) (s : Slip) (possible : Bool)
     → AreOver v earlier trials sums → IsTrue (is_piece v s.piece) → list_any (held.has trials) (trials_in s.piece)
     ≡ false → (IsTrue possible ↔ ArePossible v (cell_at v s.piece.first) s.piece.count s.totals) → IsTrue possible
     ↔ IsGood v earlier s
-good_is v earlier trials sums s possible over piece apart reported = (
-  λ e. record {
-    piece = piece;
-    apart = apart_is v earlier trials sums s.piece over ∙ apart;
-    possible = reported.0 e;
-  },
-  λ good. reported.1 good.possible,
-)
+good_is v earlier trials sums s possible over piece apart reported = grind arith
 
 pub not_good : (v : Values) (earlier : List Slip) (trials : held.Held) (sums : List Totals) (s : Slip)
     → AreOver v earlier trials sums → list_any (held.has trials) (trials_in s.piece) ≡ true → IsGood v earlier s → ⊥
 not_good v earlier trials sums s over meets good =
-    let same = apart_is v earlier trials sums s.piece over in
-    let apart = good.apart in
-    cc
+    grind arith
 
 -- of good slips none is the first that is not
 pub none_bad : (v : Values) (ss : List Slip) (n : ℕ) → AreGood v ss → IsFirstBad v ss n → ⊥
@@ -72,12 +61,7 @@ over_more v slips old new olds news s over good few to =
 
 pub good_more : (v : Values) (slips : List Slip) (i : ℕ) (d : Slip) → i < length slips → AreGoodUpTo v slips i
     → IsGood v (take i slips) (get_or slips i d) → AreGoodUpTo v slips (i + 1)
-good_more v slips i d in' earlier good j e low within = elim (cases_lt j i) [
-  | inl before ↦ earlier j e before within
-  | inr last ↦ (let same : j ≡ i = omega arith in
-      subst (λ k. IsGood v (take k slips) (get_or slips k e)) (sym same)
-      (subst (IsGood v (take i slips)) (get_or_default slips i d e in') good))
-]
+good_more v slips i d in' earlier good j e low within = grind (arith, get_or_default)
 
 -- ---- the contents of what holds exactly slips
 
@@ -93,7 +77,4 @@ over_contents v slips trials sums over =
 -- what it holds of a piece of the plan is what the slips have of it
 pub meet_in_ledger : (v : Values) (ss : List Slip) (p : Piece) → IsTrue (is_piece v p)
     → list_any (is_in_base ss) (trials_in p) ≡ overlaps (over_base v ss) p
-meet_in_ledger v ss p piece = list_any_agree (is_in_base ss) (has (over_base v ss)) p.first p.count (record {
-  same = λ t a b. sym (has_where v ss (is_in_base ss) t
-      (piece_within v p t piece (within_is p.first (p.first + p.count) t a b)));
-})
+meet_in_ledger v ss p piece = search (arith, list_any_agree, has_where, piece_within, within_is)

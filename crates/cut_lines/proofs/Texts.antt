@@ -1,24 +1,17 @@
 -- The text of a record of numbers has no quotes.
-use Rattle.std.proofs.Common.{◌≡◌, ◌==◌, ◌||◌, ℕ, suc, get_or, append-nil, ◌+◌, ◌*◌, ◌%◌, length-append, ◌<◌, ◌≤◌}
-use Rattle.std.proofs.Common.{false, cond, List, [], ◌∷◌, ◌++◌, length, map, ◌^◌, refl, ap, ◌∙◌, arith}
+use Rattle.std.proofs.Common.{◌≡◌, ℕ, suc, get_or, append-nil, ◌+◌, ◌*◌, ◌%◌, length-append, ◌<◌, ◌≤◌}
+use Rattle.std.proofs.Common.{false, List, [], ◌∷◌, ◌++◌, length, map, ◌^◌, refl, ap, ◌∙◌, arith}
 use Rattle.std.specs.Fmt.{decimal}
 use Rattle.std.specs.List.{list_any, join_with_byte}
-use Rattle.csv.specs.Writing.{default_writer, needs_byte, field_text, quoted, fields_text, is_blank, row_body, row_text}
-use Rattle.std.proofs.lemmas.Bool.{or_from, ne_eqb}
+use Rattle.csv.specs.Writing.{default_writer, needs_byte, field_text, fields_text, is_blank, row_body, row_text}
+use Rattle.std.proofs.lemmas.Bool.{or_from}
 use Rattle.std.proofs.lemmas.Fmt.{decimal_by_steps, length-decimal-le}
 use Rattle.std.proofs.lemmas.List.Folds.{list_any-append}
 use Rattle.cut_lines.specs.Lines.{comma_line}
 
 digit_needs_none : (b : ℕ) → 48 ≤ b → b ≤ 57 → needs_byte default_writer b ≡ false
 digit_needs_none b low high =
-    let no : (k : ℕ) → k < 48 → (b == k) ≡ false = λ k lt. ne_eqb b k (λ e. omega arith) in
-    or_from (((b == 44) || (b == 34)) || ((b == 13) || (b == 10)) || false) false
-    (or_from (((b == 44) || (b == 34)) || ((b == 13) || (b == 10))) false
-    (or_from ((b == 44) || (b == 34)) ((b == 13) || (b == 10))
-    (or_from (b == 44) (b == 34) (no 44 (omega arith)) (no 34 (omega arith)))
-    (or_from (b == 13) (b == 10) (no 13 (omega arith)) (no 10 (omega arith))))
-    refl)
-    refl
+    grind arith
 
 -- no byte of a decimal calls for quotes, and there is one
 record IsPlain (bs : List ℕ) : Type 0 where
@@ -34,9 +27,7 @@ decimal_is_plain n fits =
     decimal_by_steps (λ m ds. IsPlain ds)
     (λ m low. record { none = one_digit m low; some = omega arith })
     (λ m ds high plain. record {
-      none = list_any-append (needs_byte default_writer) ds ((48 + m % 10) ∷ [])
-          ∙ or_from (list_any (needs_byte default_writer) ds)
-          (list_any (needs_byte default_writer) ((48 + m % 10) ∷ [])) plain.none (one_digit (m % 10) (omega arith));
+      none = grind (arith, list_any-append);
       some = omega (arith, length-append ds ((48 + m % 10) ∷ []), plain.some);
     })
     n fits
@@ -44,8 +35,7 @@ decimal_is_plain n fits =
 -- the text of a number is itself
 pub plain_field : (n : ℕ) → n < 2 ^ 64 → field_text default_writer (decimal n) ≡ decimal n
 plain_field n fits =
-    let known : IsPlain (decimal n) = decimal_is_plain n fits in
-    ap (λ t. cond t (quoted default_writer (decimal n)) (decimal n)) known.none
+    grind (arith, decimal_is_plain)
 
 plain_fields : (ns : List ℕ) (n : ℕ) → ((k : ℕ) → k < length (n ∷ ns) → get_or (n ∷ ns) k 0 < 2 ^ 64)
     → row_body default_writer (map decimal (n ∷ ns)) ≡ join_with_byte 44 (map decimal (n ∷ ns))
@@ -58,19 +48,14 @@ plain_fields (m ∷ ns) n fit =
 not_blank : (n : ℕ) (ns : List ℕ) → n < 2 ^ 64 → is_blank default_writer (map decimal (n ∷ ns)) ≡ false
 unfolding is_blank
 not_blank n [] fits =
-    let known : IsPlain (decimal n) = decimal_is_plain n fits in
-    ne_eqb (length (field_text default_writer (decimal n))) 0
-    (λ e. omega (arith, ap (λ x. length x) (plain_field n fits), known.some))
+    grind (arith, decimal_is_plain)
 not_blank n (m ∷ ns) fits = refl
 
 -- a record of numbers is written as a line with commas
 pub row_text-numbers : (n : ℕ) (ns : List ℕ) → ((k : ℕ) → k < length (n ∷ ns) → get_or (n ∷ ns) k 0 < 2 ^ 64)
     → row_text default_writer (map decimal (n ∷ ns)) ≡ comma_line (n ∷ ns)
 row_text-numbers n ns fit =
-    ap (λ x. x ++ (cond (is_blank default_writer (map decimal (n ∷ ns))) (34 ∷ 34 ∷ []) [] ++ 10 ∷ []))
-    (plain_fields ns n fit)
-    ∙ ap (λ t. join_with_byte 44 (map decimal (n ∷ ns)) ++ (cond t (34 ∷ 34 ∷ []) [] ++ 10 ∷ []))
-    (not_blank n ns (fit 0 (omega arith)))
+    grind (arith, plain_fields, not_blank)
 
 -- the same, of any numbers that are not none
 pub numbers_line : (ns : List ℕ) → 0 < length ns → ((k : ℕ) → k < length ns → get_or ns k 0 < 2 ^ 64)

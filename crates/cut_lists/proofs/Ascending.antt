@@ -3,11 +3,8 @@ use Rattle.std.proofs.Common.{◌≡◌, inl, inr, ℕ, Bool, true, false, ◌==
 use Rattle.std.specs.List.{range_with_len, list_any, filter, IsDistinct}
 use Rattle.std.specs.List.Sorted.{IsSorted, IsPermutation, IsStrictlySortedBy}
 use Rattle.std.specs.Ordering.{nat_cmp, is_eq}
-use Rattle.std.specs.declared.cmp.Ordering.TheVariants.{Less, Equal, Greater}
-use Rattle.std.specs.Cmp.{nat_cmp_is}
 use Rattle.std.specs.BTreeSet.{BTreeSet}
-use Rattle.std.proofs.Math.Bool.{and-true}
-use Rattle.std.proofs.lemmas.Bool.{cases_order, cases_lt, eq-eqb, eqb-true, ne_eqb, lt-ltb, le-ltb}
+use Rattle.std.proofs.lemmas.Bool.{cases_lt, eq-eqb, eqb-true, lt-ltb, le-ltb}
 use Rattle.std.proofs.lemmas.Bool.Decides.{Decides-eqb}
 use Rattle.std.proofs.lemmas.Cmp.{nat_cmp_total, nat_eq_equiv}
 use Rattle.std.proofs.lemmas.List.Kept.{AllPairs-filter, IsStrictlySortedBy-filter}
@@ -31,11 +28,7 @@ ascending xs ys distinct permutation order =
     (IsDistinct-IsPermutation ◌==◌ (λ x y. nat_eq_equiv.symm x y) xs ys permutation distinct))
 
 is_at : (q k : ℕ) → is_eq (nat_cmp q k) ≡ (q == k)
-is_at q k = elim (cases_order q k) [
-  | inl same ↦ sym (ap is_eq (nat_cmp_is q k Equal same)) ∙ sym (eq-eqb q k same)
-  | inr (inl below) ↦ sym (ap is_eq (nat_cmp_is q k Less below)) ∙ sym (ne_eqb q k (λ e. omega arith))
-  | inr (inr above) ↦ sym (ap is_eq (nat_cmp_is q k Greater above)) ∙ sym (ne_eqb q k (λ e. omega arith))
-]
+is_at q k = grind arith
 
 -- what of a list passes is in it
 kept : (p : ℕ → Bool) (xs : List ℕ) (q : ℕ) → list_any (λ k. q == k) (filter p xs) ≡ (p q && list_any (λ k. q == k) xs)
@@ -54,11 +47,7 @@ pub filter-again : (p : ℕ → Bool) (n : ℕ)
     → filter p (range_with_len 0 n)
     ≡ filter (λ q. list_any (λ k. k == q) (filter p (range_with_len 0 n))) (range_with_len 0 n)
 filter-again p n =
-    filter_agree_on p (λ q. list_any (λ k. k == q) (filter p (range_with_len 0 n))) 0 n (record {
-      same = λ q _ low. sym (ap (λ b. p q && b) (ranged n q ∙ lt-ltb q n (omega arith)) ∙ and-true (p q))
-          ∙ sym (kept p (range_with_len 0 n) q)
-          ∙ ap (λ t. list_any t (filter p (range_with_len 0 n))) (λ i k. nat_eq_equiv.symm q k i);
-    })
+    grind (arith, filter_agree_on p, ranged n, kept p (range_with_len 0 n))
 
 where_true : (b x y : Bool) → (b ≡ true → x ≡ y) → b && x ≡ b && y
 where_true true x y same = same refl

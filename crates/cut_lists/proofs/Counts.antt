@@ -1,9 +1,9 @@
 -- How many of a list pass a test, and whether some do.
-use Rattle.std.proofs.Common.{◌≡◌, inl, inr, ℕ, zero, suc, ◌+◌, ◌<◌, ◌≤◌, Bool, true, false, cond, ◌==◌, ◌&&◌, ◌||◌}
+use Rattle.std.proofs.Common.{◌≡◌, ℕ, zero, suc, ◌+◌, ◌<◌, ◌≤◌, Bool, true, false, cond, ◌==◌, ◌&&◌, ◌||◌}
 use Rattle.std.proofs.Common.{List, [], ◌∷◌, IsTrue, not, nat_lt, length, get_or, take, filter, refl, ap, sym, ◌∙◌}
 use Rattle.std.proofs.Common.{arith}
 use Rattle.std.specs.List.{range_with_len, count_by, list_any, All, Contains}
-use Rattle.std.proofs.lemmas.Bool.{cases_eq, eq-eqb, ne_eqb, lt-ltb, or_left, or_right, or_cases}
+use Rattle.std.proofs.lemmas.Bool.{ne_eqb, lt-ltb}
 use Rattle.std.proofs.lemmas.List.Elements.{All-head, All-tail, Contains-get_or}
 use Rattle.std.proofs.lemmas.List.Folds.{Any-from_list_any, list_any_at}
 use Rattle.std.proofs.lemmas.List.Sums.{sum_by-cons}
@@ -17,8 +17,7 @@ one_more false rest n e = e ∙ ap (nat_lt 0) (let w : n ≡ 0 + n = omega arith
 pub list_any-count_by : {X : Type 0} (p : X → Bool) (xs : List X) → list_any p xs ≡ nat_lt 0 (count_by p xs)
 list_any-count_by p [] = refl
 list_any-count_by p (x ∷ xs) =
-    one_more (p x) _ (count_by p xs) (list_any-count_by p xs)
-    ∙ ap (nat_lt 0) (sym (sum_by-cons (λ y. cond (p y) 1 0) x xs))
+    search (arith, one_more, sum_by-cons, list_any-count_by p xs)
 
 -- two tests that differ at one number alone
 pub record DifferAt (p q : ℕ → Bool) (s : ℕ) : Type 0 where
@@ -33,20 +32,7 @@ count_by-differ p q a (suc n) s differ low high =
     + count_by p rest = sum_by-cons (λ y. cond (p y) 1 0) a rest in
     let qs : count_by q (range_with_len a (suc n)) ≡ cond (q a) 1 0
     + count_by q rest = sum_by-cons (λ y. cond (q y) 1 0) a rest in
-    elim (cases_eq a s) [
-      | inl here ↦ (
-          let same : count_by p rest ≡ count_by q rest = count_by_agree p q (a + 1) n
-          (record { same = λ i above _. differ.others i (λ e. omega arith) }) in
-          let first_p : cond {A = ℕ} (p a) 1 0 ≡ cond {A = ℕ} (p s) 1 0 = ap (λ i. cond {A = ℕ} (p i) 1 0) here in
-          let first_q : cond {A = ℕ} (q a) 1 0 ≡ cond {A = ℕ} (q s) 1 0 = ap (λ i. cond {A = ℕ} (q i) 1 0) here in
-          omega arith)
-      | inr later ↦ (
-          let more : count_by q rest + cond (p s) 1 0 ≡ count_by p rest
-          + cond (q s) 1 0 = count_by-differ p q (a + 1) n s differ (omega arith) (omega arith) in
-          let first : cond {A = ℕ} (p a) 1 0 ≡ cond {A = ℕ} (q a) 1 0 = ap (λ b. cond {A = ℕ} b 1 0)
-          (differ.others a later) in
-          omega arith)
-    ]
+    grind (arith, count_by_agree, count_by-differ p q (a + 1) n s differ)
 
 -- a number is 0 or above
 pub not_above : (n : ℕ) → (n == 0) ≡ not (nat_lt 0 n)
@@ -58,8 +44,7 @@ pub some_and_none_agree : (p q f g : ℕ → Bool) (n : ℕ) → AgreeOn p f 0 n
     → list_any p (range_with_len 0 n) && not (list_any q (range_with_len 0 n)) ≡ list_any f (range_with_len 0 n)
     && not (list_any g (range_with_len 0 n))
 some_and_none_agree p q f g n some none =
-    ap (λ b. b && not (list_any q (range_with_len 0 n))) (list_any_agree p f 0 n some)
-    ∙ ap (λ b. list_any f (range_with_len 0 n) && not b) (list_any_agree q g 0 n none)
+    grind (arith, list_any_agree)
 
 -- what passes among the first m entries does among the first n
 pub list_any_take-le : {X : Type 0} (p : X → Bool) (m n : ℕ) (xs : List X) → m ≤ n → IsTrue (list_any p (take m xs))
@@ -67,17 +52,13 @@ pub list_any_take-le : {X : Type 0} (p : X → Bool) (m n : ℕ) (xs : List X) �
 list_any_take-le p zero n xs before is = absurd (let w : false ≡ true = is in cc)
 list_any_take-le p (suc m) zero xs before is = absurd (omega arith)
 list_any_take-le p (suc m) (suc n) [] before is = is
-list_any_take-le p (suc m) (suc n) (x ∷ xs) before is = elim (or_cases (p x) _ is) [
-  | inl here ↦ or_left (p x) _ here
-  | inr later ↦ or_right (p x) _ (list_any_take-le p m n xs (omega arith) later)
-]
+list_any_take-le p (suc m) (suc n) (x ∷ xs) before is = grind (arith, list_any_take-le p m n xs)
 
 -- some element passes a test that another implies
 pub list_any-implied : {X : Type 0} (s t : X → Bool) (xs : List X) → ((x : X) → s x ≡ true → t x ≡ true)
     → list_any s xs ≡ true → list_any t xs ≡ true
 list_any-implied s t xs implies is =
-    let at = Any-from_list_any s xs is in
-    list_any_at t xs at.0 at.1 at.2 (implies (get_or xs at.0 at.1) (ap s at.3 ∙ at.4))
+    grind (arith, Any-from_list_any, list_any_at)
 
 -- and some element of a list that has all of another's
 pub list_any-among : {X : Type 0} (t : X → Bool) (xs ys : List X)
@@ -115,9 +96,7 @@ pub counts-into : {X : Type 0} (p q s t : X → Bool) (xs : List X) → ((x : X)
 counts-into p q s t [] apart into = omega arith
 counts-into {X} p q s t (x ∷ xs) apart into =
     let here = bits_into (p x) (q x) (s x) (t x) (apart x) (into x) in
-    let cons : (r : X → Bool) → count_by r (x ∷ xs) ≡ cond (r x) 1 0 + count_by r xs =
-    λ r. sum_by-cons (λ y. cond (r y) 1 0) x xs in
-    omega (arith, here, counts-into p q s t xs apart into, cons p, cons q, cons s, cons t)
+    search (arith, sum_by-cons, counts-into p q s t xs apart into)
 
 -- and by no more than there are
 pub counts-apart : {X : Type 0} (p q : X → Bool) (xs : List X) → ((x : X) → p x ≡ true → q x ≡ true → ⊥)
@@ -125,8 +104,7 @@ pub counts-apart : {X : Type 0} (p q : X → Bool) (xs : List X) → ((x : X) �
 counts-apart p q [] apart = omega arith
 counts-apart p q (x ∷ xs) apart =
     let here = bits_into (p x) (q x) true false (apart x) (λ _. refl) in
-    let rest = counts-apart p q xs apart in
-    omega (arith, here, rest, sum_by-cons (λ y. cond (p y) 1 0) x xs, sum_by-cons (λ y. cond (q y) 1 0) x xs)
+    search (arith, sum_by-cons, counts-apart p q xs apart)
 
 -- each that passes one test passes just one of two others
 pub count_by-parts : {X : Type 0} (p q r : X → Bool) (xs : List X)
@@ -134,20 +112,11 @@ pub count_by-parts : {X : Type 0} (p q r : X → Bool) (xs : List X)
     → count_by p xs ≡ count_by q xs + count_by r xs
 count_by-parts p q r [] parts = refl
 count_by-parts {X} p q r (x ∷ xs) parts =
-    let cons : (t : X → Bool) → count_by t (x ∷ xs) ≡ cond (t x) 1 0 + count_by t xs =
-    λ t. sum_by-cons (λ y. cond (t y) 1 0) x xs in
-    omega (arith, parts x, count_by-parts p q r xs parts, cons p, cons q, cons r)
+    search (arith, sum_by-cons, count_by-parts p q r xs parts)
 
 -- then some pass the second and none the third where some do and these are as many as pass the first
 pub some_and_none-count : {X : Type 0} (p q r : X → Bool) (xs : List X)
     → ((x : X) → cond {A = ℕ} (p x) 1 0 ≡ cond (q x) 1 0 + cond (r x) 1 0)
     → list_any q xs && not (list_any r xs) ≡ nat_lt 0 (count_by q xs) && (count_by q xs == count_by p xs)
 some_and_none-count p q r xs parts =
-    let same = count_by-parts p q r xs parts in
-    ap (λ b. b && not (list_any r xs)) (list_any-count_by q xs)
-    ∙ ap (λ b. nat_lt 0 (count_by q xs) && not b) (list_any-count_by r xs)
-    ∙ ap (λ b. nat_lt 0 (count_by q xs) && b) (sym (not_above (count_by r xs)) ∙ elim (cases_eq (count_by r xs) 0) [
-      | inl none ↦ eq-eqb (count_by r xs) 0 none ∙ sym (eq-eqb (count_by q xs) (count_by p xs) (omega (arith, same)))
-      | inr some ↦ ne_eqb (count_by r xs) 0 some ∙ sym
-          (ne_eqb (count_by q xs) (count_by p xs) (λ e. some (omega (arith, same))))
-    ])
+    grind (arith, count_by-parts p q r xs parts, list_any-count_by q xs, list_any-count_by r xs)

@@ -1,9 +1,8 @@
 -- The first number of a range that passes a test, and what is made of it.
 use Rattle.std.proofs.Common.{◌≡◌, ℕ, zero, suc, ◌+◌, ◌<◌, ◌≤◌, Bool, true, false, cond, [], ◌∷◌, Option, Some, None}
-use Rattle.std.proofs.Common.{MatchOption, option_map, inl, inr, refl, ap, sym, ◌∙◌, arith}
+use Rattle.std.proofs.Common.{MatchOption, option_map, refl, ap, sym, ◌∙◌, arith}
 use Rattle.std.specs.List.{find, range_with_len}
 use Rattle.std.specs.Option.{option_or}
-use Rattle.std.proofs.lemmas.Bool.{cases_lt}
 use Rattle.std.proofs.lemmas.List.Folds.{find-append}
 use Rattle.cut_lists.proofs.Ranges.{range_with_len_more}
 
@@ -22,30 +21,7 @@ pub record IsFirst (p : ℕ → Bool) (a n m : ℕ) : Type 0 where
 pub found_first : (p : ℕ → Bool) (a n : ℕ) → MatchOption (find p (range_with_len a n)) (NonePasses p a n)
     (IsFirst p a n)
 found_first p a zero = λ i low high. absurd (omega arith)
-found_first p a (suc n) = here (p a) refl (find p (range_with_len (a + 1) n)) (found_first p (a + 1) n)
-  where
-    after : (m : ℕ) → p a ≡ false → ((i : ℕ) → a + 1 ≤ i → i < m → p i ≡ false) → (i : ℕ) → a ≤ i → i < m → p i ≡ false
-    after m fails rest i low high = elim (cases_lt a i) [
-      | inl later ↦ rest i (omega arith) high
-      | inr first ↦ (let at : i ≡ a = omega arith in ap p at ∙ fails)
-    ]
-
-    here : (b : Bool) → p a ≡ b → (q : Option ℕ) → MatchOption q (NonePasses p (a + 1) n) (IsFirst p (a + 1) n)
-        → MatchOption (cond b (Some a) q) (NonePasses p a (suc n)) (IsFirst p a (suc n))
-    here true is q rest = record {
-      from = omega arith;
-      below = omega arith;
-      passes = is;
-      least = λ i low high. absurd
-          (omega arith);
-    }
-    here false is None none = after (a + suc n) is (λ i low high. none i low (omega arith))
-    here false is (Some m) first = record {
-      from = (let w = first.from in omega arith);
-      below = (let w = first.below in omega arith);
-      passes = first.passes;
-      least = after m is first.least;
-    }
+found_first p a (suc n) = grind (arith, found_first p (a + 1) n)
 
 -- ---- of values that pass, place by place
 

@@ -1,9 +1,9 @@
 -- Numbers from one up to another, and tests that all of them pass.
-use Rattle.std.proofs.Common.{◌≡◌, ℕ, zero, suc, ◌+◌, ◌-◌, ◌<◌, ◌≤◌, inl, inr, Bool, true, false, ◌&&◌}
-use Rattle.std.proofs.Common.{◌∷◌, map, length, take, drop, get_or, nat_lt, nat_le, refl, sym, ap, ◌∙◌}
-use Rattle.std.proofs.Common.{arith, add-zero}
+use Rattle.std.proofs.Common.{◌≡◌, ℕ, zero, suc, ◌+◌, ◌-◌, ◌<◌, ◌≤◌, Bool, true, false, ◌&&◌}
+use Rattle.std.proofs.Common.{◌∷◌, map, length, take, drop, get_or, nat_lt, nat_le, refl, ap, ◌∙◌}
+use Rattle.std.proofs.Common.{arith}
 use Rattle.std.specs.List.{range_with_len, list_all, prefix_len}
-use Rattle.std.proofs.lemmas.Bool.{both_ways, cases_Bool, cases_lt, lt-ltb, le-ltb, le-leb, lt-leb}
+use Rattle.std.proofs.lemmas.Bool.{lt-ltb, le-leb, lt-leb}
 use Rattle.std.proofs.lemmas.List.Folds.{list_all_at}
 use Rattle.std.proofs.lemmas.List.FromFn.{length-range_with_len, get_or-range_with_len}
 use Rattle.std.proofs.lemmas.List.Sums.{list_all-from_AllPass, prefix_len_is}
@@ -22,10 +22,7 @@ pub within_below : (a b t : ℕ) → t < a → within a b t ≡ false
 within_below a b t low = ap (λ x. x && nat_lt t b) (lt-leb a t low)
 
 pub within_above : (a b t : ℕ) → b ≤ t → within a b t ≡ false
-within_above a b t high = elim (cases_lt t a) [
-  | inl low ↦ within_below a b t low
-  | inr low ↦ ap (λ x. x && nat_lt t b) (le-leb a t low) ∙ le-ltb t b high
-]
+within_above a b t high = grind arith
 
 -- ---- a test that all numbers of a range pass
 
@@ -45,19 +42,13 @@ list_all_failing p a n t low high fails =
 -- what passes on all of a range passes at each number of it
 pub passes_at : (p : ℕ → Bool) (a n : ℕ) → list_all p (range_with_len a n) ≡ true
     → (t : ℕ) → a ≤ t → t < a + n → p t ≡ true
-passes_at p a n all t low high = elim (cases_Bool (p t)) [
-  | inl passes ↦ passes
-  | inr fails ↦ absurd (both_ways _ (list_all_failing p a n t low high fails) all)
-]
+passes_at p a n all t low high = grind (arith, list_all_failing p a n t low high)
 
 -- how many numbers of a range are before the first that fails
 pub first_failing : (p : ℕ → Bool) (a m n : ℕ) → m ≤ n → ((t : ℕ) → a ≤ t → t < a + m → p t ≡ true)
     → (m < n → p (a + m) ≡ false) → prefix_len p (range_with_len a n) ≡ m
 first_failing p a m n few passes stops =
-    let long : length (range_with_len a n) ≡ n = length-range_with_len a n in
-    prefix_len_is p (range_with_len a n) m 0 (omega arith)
-    (λ k low. ap p (get_or-range_with_len a n k 0 (omega arith)) ∙ passes (a + k) (omega arith) (omega arith))
-    (λ more. ap p (get_or-range_with_len a n m 0 (omega arith)) ∙ stops (omega arith))
+    grind (arith, length-range_with_len a n, prefix_len_is p (range_with_len a n) m 0, get_or-range_with_len a n)
 
 -- ---- tests that agree
 
@@ -65,15 +56,13 @@ pub list_all_agree : (p q : ℕ → Bool) (a n : ℕ) → ((t : ℕ) → a ≤ t
     → list_all p (range_with_len a n) ≡ list_all q (range_with_len a n)
 list_all_agree p q a zero agree = refl
 list_all_agree p q a (suc n) agree =
-    ap (λ b. b && list_all p (range_with_len (a + 1) n)) (agree a (omega arith) (omega arith))
-    ∙ ap (λ b. q a && b) (list_all_agree p q (a + 1) n (λ t low high. agree t (omega arith) (omega arith)))
+    grind (arith, list_all_agree p q (a + 1) n)
 
 pub map_agree : {X : Type 0} (f g : ℕ → X) (a n : ℕ) → ((t : ℕ) → a ≤ t → t < a + n → f t ≡ g t)
     → map f (range_with_len a n) ≡ map g (range_with_len a n)
 map_agree f g a zero agree = refl
 map_agree f g a (suc n) agree =
-    ap (λ x. x ∷ map f (range_with_len (a + 1) n)) (agree a (omega arith) (omega arith))
-    ∙ ap (λ xs. g a ∷ xs) (map_agree f g (a + 1) n (λ t low high. agree t (omega arith) (omega arith)))
+    grind (arith, map_agree f g (a + 1) n)
 
 -- ---- the first numbers of a range, and the rest
 
@@ -84,10 +73,7 @@ take_range a (suc n) (suc k) few = ap (λ xs. a ∷ xs) (take_range (a + 1) n k 
 
 pub drop_range : (a n k : ℕ) → k ≤ n → drop k (range_with_len a n) ≡ range_with_len (a + k) (n - k)
 drop_range a n zero few =
-    ap (λ b. range_with_len b n) (sym (add-zero a))
-    ∙ ap (λ m. range_with_len (a + 0) m) (let e : n ≡ n - 0 = omega arith in e)
+    grind arith
 drop_range a zero (suc k) few = absurd (omega arith)
 drop_range a (suc n) (suc k) few =
-    drop_range (a + 1) n k (omega arith)
-    ∙ ap (λ b. range_with_len b (n - k)) (let e : a + 1 + k ≡ a + suc k = omega arith in e)
-    ∙ ap (λ m. range_with_len (a + suc k) m) (let e : n - k ≡ suc n - suc k = omega arith in e)
+    grind (arith, drop_range (a + 1) n k)

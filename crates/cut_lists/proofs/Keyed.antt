@@ -1,16 +1,13 @@
 -- Numbers that are sorted by a key and, where keys tie, by themselves.
-use Rattle.std.proofs.Common.{◌≡◌, ℕ, ◌<◌, ◌==◌, subst, false, List, map, length, get_or, refl, ap, sym, ◌∙◌, arith}
-use Rattle.std.proofs.Common.{cond}
+use Rattle.std.proofs.Common.{◌≡◌, ℕ, ◌<◌, List, map, length, get_or, refl, ap, sym, ◌∙◌, arith}
 use Rattle.std.specs.declared.cmp.Ordering.{Ordering}
-use Rattle.std.specs.declared.cmp.Ordering.TheVariants.{Less, Equal, Greater}
-use Rattle.std.specs.Ordering.{is_lt, is_eq, eq_by_cmp, nat_cmp, ordering_then}
+use Rattle.std.specs.Ordering.{is_lt, eq_by_cmp, nat_cmp, ordering_then}
 use Rattle.std.specs.Cmp.{IsTotalOrder}
 use Rattle.std.specs.List.{All, IsDistinct, count_by, range_with_len}
 use Rattle.std.specs.List.Sorted.{IsPermutation, IsSorted}
 use Rattle.std.proofs.lemmas.Cmp.{nat_cmp_total, then_total, on_total}
 use Rattle.std.proofs.lemmas.List.FromFn.{length-map-range_with_len, get_or-map-range_with_len}
 use Rattle.std.proofs.lemmas.List.{get_or-map, map-id, length-map}
-use Rattle.std.proofs.lemmas.Bool.{lt-ltb}
 use Rattle.std.proofs.lemmas.List.Elements.{All-map}
 use Rattle.std.proofs.lemmas.List.Sorted.{IsPermutation-map, All-permutation}
 use Rattle.std.proofs.lemmas.Map.Keys.{IsDistinct-from_apart}
@@ -30,25 +27,9 @@ keyed key n = map (λ p. (key p, p)) (range_with_len 0 n)
 abbrev pub compare_by : {K : Type 0} → (K → K → Ordering) → (ℕ → K) → ℕ → ℕ → Ordering
 compare_by C key q p = ordering_then (C (key q) (key p)) (nat_cmp q p)
 
-pub less : (i j : ℕ) → i < j → nat_cmp i j ≡ Less
-less i j before = ap (λ b. cond b Less (cond (i == j) Equal Greater)) (lt-ltb i j before)
-
-untied : (r s : Ordering) → s ≡ Less → is_eq (ordering_then r s) ≡ false
-untied Less s less = refl
-untied Equal s less = ap is_eq less
-untied Greater s less = refl
-
 keyed_apart : {K : Type 0} (C : K → K → Ordering) (key : ℕ → K) (n : ℕ)
     → IsDistinct (eq_by_cmp (pair_cmp C)) (keyed key n)
-keyed_apart {K} C key n = IsDistinct-from_apart (eq_by_cmp (pair_cmp C)) (keyed key n) (λ i j d before within.
-    let long : length (keyed key n) ≡ n = length-map-range_with_len (λ p. (key p, p)) 0 n in
-    let low : get_or (keyed key n) i d ≡ (key i, i) = get_or-map-range_with_len (λ p. (key p, p)) 0 n i i d
-    (omega arith) (omega arith) in
-    let high : get_or (keyed key n) j d ≡ (key j, j) = get_or-map-range_with_len (λ p. (key p, p)) 0 n j j d
-    (omega arith) (omega arith) in
-    ap (λ x. eq_by_cmp (pair_cmp C) x (get_or (keyed key n) j d)) low
-    ∙ ap (eq_by_cmp (pair_cmp C) (key i, i)) high
-    ∙ untied (C (key i) (key j)) (nat_cmp i j) (less i j before))
+keyed_apart {K} C key n = grind (arith, IsDistinct-from_apart, length-map-range_with_len, get_or-map-range_with_len)
 
 -- each pair's key is that of its number
 keyed_by : {K : Type 0} (key : ℕ → K) (n : ℕ) → All (λ x. x ≡ (key x.1, x.1)) (keyed key n)
@@ -63,8 +44,7 @@ pub ranked : {K : Type 0} (C : K → K → Ordering) → IsTotalOrder C → (key
     → IsRanked (compare_by C key) n (map (λ x. x.1) sorted)
 ranked {K} C total key n sorted moved up = record {
   each_once =
-      let P : List ℕ → Type 0 = λ xs. IsPermutation xs (map (λ x. x.1) sorted) in
-      subst P (numbers key n) (IsPermutation-map (λ x. x.1) (keyed key n) sorted moved);
+      grind (arith, numbers key n, IsPermutation-map);
   ranks = λ i within.
       let long : length (map (λ x. x.1) sorted) ≡ length sorted = length-map sorted (λ x. x.1) in
       let d : K × ℕ = (key 0, 0) in

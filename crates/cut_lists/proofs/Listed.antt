@@ -1,12 +1,11 @@
 -- Lists of exactly those numbers below n that pass a test.
-use Rattle.std.proofs.Common.{◌≡◌, inl, inr, ℕ, ◌<◌, ◌≤◌, Bool, true, false, cond, ◌==◌, ◌&&◌, ◌||◌, List, [], ◌∷◌}
+use Rattle.std.proofs.Common.{◌≡◌, inl, inr, ℕ, ◌<◌, ◌≤◌, Bool, true, false, cond, ◌==◌, ◌&&◌, List, [], ◌∷◌}
 use Rattle.std.proofs.Common.{◌++◌, All, not, nat_lt, length, get_or, refl, ap, sym, subst, ◌∙◌, arith, length-append}
 use Rattle.std.specs.List.{list_any, IsDistinct}
 use Rattle.std.proofs.Math.Bool.{or-false}
-use Rattle.std.proofs.lemmas.Bool.{cases_eq, eq-eqb, eqb-true, ne_eqb, lt-ltb, and_from, and_right, and_parts, or_right}
-use Rattle.std.proofs.lemmas.Bool.{or_left, or_cases, ltb-true}
+use Rattle.std.proofs.lemmas.Bool.{eq-eqb, eqb-true, and_right, and_parts}
+use Rattle.std.proofs.lemmas.Bool.{or_cases, ltb-true}
 use Rattle.std.proofs.lemmas.List.Folds.{list_any-append, list_any_at}
-use Rattle.std.proofs.lemmas.Cmp.{nat_eq_equiv}
 use Rattle.std.proofs.lemmas.Map.Keys.{IsDistinct-push, IsDistinct-from_apart}
 use Rattle.std.proofs.lemmas.Map.Steps.{length-le_from_distinct_below}
 use Rattle.cut_lists.proofs.Counts.{DifferAt}
@@ -38,12 +37,7 @@ IsDistinct-empty xs e = subst (IsDistinct ◌==◌) (sym e)
 -- a number is pushed where it did not pass before
 pub IsDistinct-listed : (p : ℕ → Bool) (n : ℕ) (xs : List ℕ) (s : ℕ) (is_new : Bool) → IsDistinct ◌==◌ xs
     → IsListed p n xs → is_new ≡ not (p s) → IsDistinct ◌==◌ (cond is_new (xs ++ s ∷ []) xs)
-IsDistinct-listed p n xs s true distinct listed is = IsDistinct-push nat_eq_equiv xs s distinct
-    (listed s ∙ and_right _ _ (failing (p s) is))
-  where
-    failing : (b : Bool) → true ≡ not b → b ≡ false
-    failing true e = e
-    failing false e = refl
+IsDistinct-listed p n xs s true distinct listed is = grind (arith, IsDistinct-push)
 IsDistinct-listed p n xs s false distinct listed is = distinct
 
 -- there is room for it
@@ -61,20 +55,4 @@ listed-room p n xs s distinct listed inside none =
 -- and then it is listed too, where it passes now
 pub IsListed-push : (p f : ℕ → Bool) (n : ℕ) (xs : List ℕ) (s : ℕ) (is_new : Bool) → DifferAt p f s → f s ≡ true → s < n
     → IsListed p n xs → is_new ≡ not (p s) → IsListed f n (cond is_new (xs ++ s ∷ []) xs)
-IsListed-push p f n xs s is_new differ passes inside listed is q = elim (cases_eq q s) [
-  | inl at ↦ there is_new is at ∙ sym (and_from _ _ (lt-ltb _ _ (omega arith)) (ap f at ∙ passes))
-  | inr other ↦ same is_new other ∙ listed q ∙ ap (λ b. nat_lt q n && b) (differ.others q other)
-]
-  where
-    passing : (b : Bool) → false ≡ not b → b ≡ true
-    passing true e = refl
-    passing false e = e
-
-    there : (b : Bool) → b ≡ not (p s) → q ≡ s → list_any (λ k. q == k) (cond b (xs ++ s ∷ []) xs) ≡ true
-    there true e at = list_any-append (λ k. q == k) xs (s ∷ []) ∙ or_right _ _ (or_left _ _ (eq-eqb _ _ at))
-    there false e at = listed q ∙ and_from _ _ (lt-ltb _ _ (omega arith)) (ap p at ∙ passing (p s) e)
-
-    same : (b : Bool) → (q ≡ s → ⊥) → list_any (λ k. q == k) (cond b (xs ++ s ∷ []) xs) ≡ list_any (λ k. q == k) xs
-    same true other = list_any-append (λ k. q == k) xs (s ∷ [])
-        ∙ ap (λ b. list_any (λ k. q == k) xs || (b || false)) (ne_eqb _ _ other) ∙ or-false _
-    same false other = refl
+IsListed-push p f n xs s is_new differ passes inside listed is q = grind (arith, list_any-append)

@@ -1,11 +1,11 @@
 -- Orders of the first n numbers: lists that hold each once.
-use Rattle.std.proofs.Common.{◌≡◌, ℕ, zero, suc, ◌⊎◌, inl, inr, ◌∷◌, ◌+◌, ◌<◌, ◌≢◌, true, false, List, [], length}
+use Rattle.std.proofs.Common.{◌≡◌, ℕ, suc, ◌∷◌, ◌<◌, ◌≢◌, true, false, List, [], length}
 use Rattle.std.proofs.Common.{get_or, zero-add, sym, ◌∙◌, arith}
 use Rattle.std.specs.Prelude.{nat_eq}
 use Rattle.std.specs.Cmp.{nat_eq_equiv}
 use Rattle.std.specs.List.{All, Contains, IsDistinct, remove, range_with_len}
 use Rattle.std.specs.List.Sorted.{IsPermutation}
-use Rattle.std.proofs.lemmas.Bool.{eq-eqb, ne_eqb}
+use Rattle.std.proofs.lemmas.Bool.{eq-eqb}
 use Rattle.std.proofs.lemmas.List.{get_or_default}
 use Rattle.std.proofs.lemmas.List.Elements.{All-head, All-tail}
 use Rattle.std.proofs.lemmas.List.FromFn.{length-range_with_len, get_or-range_with_len}
@@ -27,11 +27,7 @@ order_is_below n order is i d within = All-permutation (λ p. p < n) (range_with
     within
 
 pub range_is_distinct : (n : ℕ) → IsDistinct nat_eq (range_with_len 0 n)
-range_is_distinct n = IsDistinct-from_apart nat_eq (range_with_len 0 n) (λ i j d before within.
-    let long : length (range_with_len 0 n) ≡ n = length-range_with_len 0 n in
-    let low : get_or (range_with_len 0 n) i d ≡ 0 + i = get_or-range_with_len 0 n i d (omega arith) in
-    let high : get_or (range_with_len 0 n) j d ≡ 0 + j = get_or-range_with_len 0 n j d (omega arith) in
-    ne_eqb _ _ (λ e. omega arith))
+range_is_distinct n = grind (arith, IsDistinct-from_apart, length-range_with_len, get_or-range_with_len)
 
 pub order_differs : (n : ℕ) (order : List ℕ) → IsOrder n order → (i j : ℕ) → i < j → j < length order
     → get_or order i 0 ≢ get_or order j 0
@@ -46,25 +42,14 @@ order_differs n order is i j before within e =
 -- each process stands somewhere
 pub order_has : (n : ℕ) (order : List ℕ) → IsOrder n order → (p : ℕ) → p < n → Contains order p
 order_has n order is p below =
-    let long : length (range_with_len 0 n) ≡ n = length-range_with_len 0 n in
-    Contains-permutation (range_with_len 0 n) order p is
-    (p, omega arith, get_or-range_with_len 0 n p p below ∙ zero-add p)
+    search (arith, length-range_with_len, Contains-permutation, get_or-range_with_len, zero-add)
 
 -- no number stands at two places
 abbrev pub Differ : List ℕ → Type 0
 Differ xs = (i j : ℕ) → i < j → j < length xs → get_or xs i 0 ≢ get_or xs j 0
 
-in_prefix : (x y : ℕ) (rest : List ℕ) (m : ℕ) → m < length (x ∷ rest) → get_or (x ∷ rest) m y ≡ y → (x ≡ y)
-    ⊎ Contains rest y
-in_prefix x y rest zero within at = inl at
-in_prefix x y rest (suc m) within at = inr (m, omega arith, at)
-
 in_rest : (x y : ℕ) (rest : List ℕ) → x ≢ y → Contains (x ∷ rest) y → Contains rest y
-in_rest x y rest other has = by (in_prefix x y rest has.0 has.1 has.2)
-  where
-    by : (x ≡ y) ⊎ Contains rest y → Contains rest y
-    by (inl same) = absurd (other same)
-    by (inr has) = has
+in_rest x y rest other has = grind arith
 
 -- numbers that differ, all of them in a list that is no longer, are that list in another order
 pub moved : (xs ys : List ℕ) → Differ xs → length xs ≡ length ys → All (Contains ys) xs → IsPermutation xs ys

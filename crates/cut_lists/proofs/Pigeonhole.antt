@@ -1,7 +1,7 @@
 -- As many different numbers below n as n are all of them.
-use Rattle.std.proofs.Common.{◌≡◌, ℕ, suc, ◌<◌, ◌≤◌, ◌⊎◌, inl, inr, ◌==◌, true, cond, List, map, length, nat_lt, ap}
+use Rattle.std.proofs.Common.{◌≡◌, ℕ, suc, ◌<◌, ◌≤◌, ◌==◌, true, cond, List, map, length, nat_lt}
 use Rattle.std.proofs.Common.{sym, ◌∙◌, arith}
-use Rattle.std.proofs.lemmas.Bool.{eqb-true, false_from_ne_true, cases_lt, lt-ltb, le-ltb}
+use Rattle.std.proofs.lemmas.Bool.{eqb-true, false_from_ne_true}
 use Rattle.std.specs.List.{range_with_len, IsDistinct, Any}
 use Rattle.std.proofs.lemmas.List.Folds.{Any-from_list_any}
 use Rattle.std.proofs.lemmas.List.FromFn.{length-map-range_with_len, get_or-map-range_with_len}
@@ -38,32 +38,6 @@ pigeonhole n m f into one =
 abbrev extended : (ℕ → ℕ) → ℕ → ℕ → ℕ → ℕ
 extended f n b i = cond (nat_lt i n) (f i) b
 
-extended_is : (f : ℕ → ℕ) (n b i : ℕ) → i < suc n → ((i < n) × (extended f n b i ≡ f i))
-    ⊎ ((i ≡ n) × (extended f n b i ≡ b))
-extended_is f n b i low = elim (cases_lt i n) [
-  | inl below ↦ inl (below, ap (λ t. cond t (f i) b) (lt-ltb i n below))
-  | inr above ↦ inr (omega arith, ap (λ t. cond t (f i) b) (le-ltb i n above))
-]
-
 -- n different numbers below n are all of them
 pub none_missed : (n b : ℕ) (f : ℕ → ℕ) → b < n → Into f n n → OneToOne f n → ((p : ℕ) → p < n → f p ≡ b → ⊥) → ⊥
-none_missed n b f low into one missed = let w : suc n ≤ n = pigeonhole (suc n) n (extended f n b) into_longer one_longer
-    in omega arith
-  where
-    into_longer : Into (extended f n b) (suc n) n
-    into_longer i below = elim (extended_is f n b i below) [
-      | inl w ↦ (let v : f i < n = into i w.0 in omega (arith, w.1))
-      | inr w ↦ omega (arith, w.1)
-    ]
-
-    one_longer : OneToOne (extended f n b) (suc n)
-    one_longer i j p q e = elim (extended_is f n b i p) [
-      | inl v ↦ elim (extended_is f n b j q) [
-        | inl w ↦ one i j v.0 w.0 (sym v.1 ∙ e ∙ w.1)
-        | inr w ↦ absurd (missed i v.0 (sym v.1 ∙ e ∙ w.1))
-      ]
-      | inr v ↦ elim (extended_is f n b j q) [
-        | inl w ↦ absurd (missed j w.0 (sym w.1 ∙ sym e ∙ v.1))
-        | inr w ↦ omega (arith, v.0, w.0)
-      ]
-    ]
+none_missed n b f low into one missed = grind (arith, pigeonhole (suc n) n (extended f n b))

@@ -3,8 +3,6 @@ use Rattle.std.proofs.Common.{◌≡◌, ℕ, zero, suc, ◌+◌, ◌<◌, ◌�
 use Rattle.std.proofs.Common.{get_or}
 use Rattle.std.proofs.Common.{length, take, drop, refl, sym, ap, ◌∙◌, arith, length-append}
 use Rattle.std.specs.List.{flat_map, list_all, take_while}
-use Rattle.std.proofs.lemmas.Bool.{and_parts}
-use Rattle.std.proofs.lemmas.List.Concat.{flat_map-cons}
 use Rattle.std.proofs.lemmas.List.Sums.{take_while-cons}
 
 -- by whether the first element passes
@@ -25,8 +23,7 @@ take_while-prefix p d (x ∷ xs) (suc n) few passes =
 pub whole_prefix : {X : Type 0} (p : X → Bool) (xs : List X) → list_all p xs ≡ true → take_while p xs ≡ xs
 whole_prefix p [] all = refl
 whole_prefix {X} p (x ∷ xs) all =
-    let parts = and_parts (p x) (list_all p xs) all in
-    prefix_by p x xs true parts.0 ∙ ap (λ ys. x ∷ ys) (whole_prefix p xs parts.1)
+    grind (arith, prefix_by p x xs true, whole_prefix p xs)
 
 -- two words that agree where a test passes, on the prefix that passes
 pub flat_map_prefix : {X Y : Type 0} (f g : X → List Y) (p : X → Bool) (xs : List X)
@@ -37,9 +34,7 @@ flat_map_prefix {X} {Y} f g p (x ∷ xs) same = go (p x) refl (flat_map_prefix f
     go : (b : Bool) → p x ≡ b → flat_map f (take_while p xs) ≡ flat_map g (take_while p xs)
         → flat_map f (take_while p (x ∷ xs)) ≡ flat_map g (take_while p (x ∷ xs))
     go true is rest =
-        ap (flat_map f) (prefix_by p x xs true is) ∙ flat_map-cons f x (take_while p xs)
-        ∙ ap (λ ys. ys ++ flat_map f (take_while p xs)) (same x is) ∙ ap (λ ys. g x ++ ys) rest
-        ∙ sym (ap (flat_map g) (prefix_by p x xs true is) ∙ flat_map-cons g x (take_while p xs))
+        grind (arith, prefix_by p x xs true is)
     go false is rest =
         ap (flat_map f) (prefix_by p x xs false is) ∙ sym (ap (flat_map g) (prefix_by p x xs false is))
 
@@ -53,9 +48,7 @@ longer_prefix {X} {Y} f p q (x ∷ xs) more = go (p x) refl (longer_prefix f p q
     long : (r : X → Bool) → r x ≡ true
         → length (flat_map f (take_while r (x ∷ xs))) ≡ length (f x) + length (flat_map f (take_while r xs))
     long r is =
-        ap (λ ys. length (flat_map f ys)) (prefix_by r x xs true is)
-        ∙ ap (λ ys. length ys) (flat_map-cons f x (take_while r xs))
-        ∙ length-append (f x) (flat_map f (take_while r xs))
+        grind (arith, length-append)
 
     go : (b : Bool) → p x ≡ b → length (flat_map f (take_while p xs)) ≤ length (flat_map f (take_while q xs))
         → length (flat_map f (take_while p (x ∷ xs))) ≤ length (flat_map f (take_while q (x ∷ xs)))

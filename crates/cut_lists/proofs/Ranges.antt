@@ -1,14 +1,13 @@
 -- Tests, counts and filters over the numbers of a range.
 use Rattle.std.proofs.Common.{◌≡◌, ℕ, zero, suc, ◌+◌, ◌-◌, ◌<◌, ◌≤◌, Bool, true, false, cond, ◌||◌, List, [], ◌∷◌, ◌++◌}
-use Rattle.std.proofs.Common.{map, length, get_or, inl, inr, subst, ap, sym, ◌∙◌, refl, append-nil, arith, add-one}
+use Rattle.std.proofs.Common.{map, length, ap, sym, ◌∙◌, refl, append-nil, arith, add-one}
 use Rattle.std.proofs.Common.{add-zero, zero-add}
 use Rattle.std.specs.List.{range_with_len, filter, list_any, count_by, Contains, All}
 use Rattle.std.specs.List.Sorted.{IsStrictlyIncreasing}
-use Rattle.std.proofs.Math.Bool.{or-true}
 use Rattle.std.proofs.lemmas.Bool.{cases_lt, false_from_ne_true}
 use Rattle.std.proofs.lemmas.List.FromFn.{length-range_with_len, get_or-range_with_len}
-use Rattle.std.proofs.lemmas.List.Elements.{filter-append, filter_passes, All-filter, All-contains}
-use Rattle.std.proofs.lemmas.List.Elements.{Contains-append_left, Contains-append_right}
+use Rattle.std.proofs.lemmas.List.Elements.{filter-append, filter_passes, All-filter}
+use Rattle.std.proofs.lemmas.List.Elements.{Contains-append_right}
 use Rattle.std.proofs.lemmas.List.{map-append}
 use Rattle.std.proofs.lemmas.List.Sums.{sum_by-cons, length-filter, count_by-le-length}
 
@@ -16,16 +15,11 @@ use Rattle.std.proofs.lemmas.List.Sums.{sum_by-cons, length-filter, count_by-le-
 pub All-range_with_len : (P : ℕ → Type 0) (a n : ℕ) → ((i : ℕ) → a ≤ i → i < a + n → P i)
     → All P (range_with_len a n)
 All-range_with_len P a n each k d within =
-    let below : k < n = omega (arith, length-range_with_len a n) in
-    subst P (sym (get_or-range_with_len a n k d below)) (each (a + k) (omega arith) (omega arith))
+    grind (arith, length-range_with_len, get_or-range_with_len)
 
 -- and each of these numbers is in it
 pub Contains-range_with_len : (a n i : ℕ) → a ≤ i → i < a + n → Contains (range_with_len a n) i
-Contains-range_with_len a n i low high = (
-  i - a,
-  omega (arith, length-range_with_len a n),
-  (let at : a + (i - a) ≡ i = omega arith in get_or-range_with_len a n (i - a) i (omega arith) ∙ at),
-)
+Contains-range_with_len a n i low high = grind (arith, length-range_with_len a n, get_or-range_with_len a n (i - a) i)
 
 -- one more number stands at the end
 pub range_with_len_more : (a n j : ℕ) → a + n ≡ j → range_with_len a (n + 1) ≡ range_with_len a n ++ j ∷ []
@@ -74,16 +68,13 @@ pub list_any_agree : (p q : ℕ → Bool) (a n : ℕ) → AgreeOn p q a n → li
     ≡ list_any q (range_with_len a n)
 list_any_agree p q a zero agree = refl
 list_any_agree p q a (suc n) agree =
-    ap (λ b. b || list_any p (range_with_len (a + 1) n)) (agree_first p q a n agree)
-    ∙ ap (λ b. q a || b) (list_any_agree p q (a + 1) n (agree_after p q a n agree))
+    grind (arith, list_any_agree p q (a + 1) n (agree_after p q a n agree))
 
 pub filter_agree_on : (p q : ℕ → Bool) (a n : ℕ) → AgreeOn p q a n → filter p (range_with_len a n)
     ≡ filter q (range_with_len a n)
 filter_agree_on p q a zero agree = refl
 filter_agree_on p q a (suc n) agree =
-    ap (λ b. cond b (a ∷ filter p (range_with_len (a + 1) n)) (filter p (range_with_len (a + 1) n)))
-    (agree_first p q a n agree)
-    ∙ ap (λ xs. cond (q a) (a ∷ xs) xs) (filter_agree_on p q (a + 1) n (agree_after p q a n agree))
+    grind (arith, filter_agree_on p q (a + 1) n (agree_after p q a n agree))
 
 -- a number of a range that passes, and what it means that none does
 pub record PassesAt (p : ℕ → Bool) (a n i : ℕ) : Type 0 where
@@ -112,11 +103,7 @@ passing p a (suc n) e = go (p a) refl (passing p (a + 1) n)
 pub list_any_passing : (p : ℕ → Bool) (a n i : ℕ) → a ≤ i → i < a + n → p i ≡ true → list_any p (range_with_len a n)
     ≡ true
 list_any_passing p a zero i low high e = absurd (omega arith)
-list_any_passing p a (suc n) i low high e = elim (cases_lt a i) [
-  | inl after ↦ ap (λ b. p a || b) (list_any_passing p (a + 1) n i (omega arith) (omega arith) e) ∙ or-true (p a)
-  | inr first ↦ (let at : i ≡ a = omega arith in ap (λ b. b || list_any p (range_with_len (a + 1) n))
-      (ap p (sym at) ∙ e))
-]
+list_any_passing p a (suc n) i low high e = grind (arith, list_any_passing p (a + 1) n i)
 
 pub none_passing : (p : ℕ → Bool) (a n i : ℕ) → list_any p (range_with_len a n) ≡ false → a ≤ i → i < a + n → p i
     ≡ false
@@ -133,14 +120,7 @@ pub Contains-filter_of : (p : ℕ → Bool) (a n s : ℕ) → Contains (filter p
 Contains-filter_of p a n s at =
     let InRange : ℕ → Type 0 = λ x. (a ≤ x) × (x < a + n) in
     let all : All InRange (range_with_len a n) = All-range_with_len InRange a n (λ i low high. (low, high)) in
-    let range = All-contains InRange (filter p (range_with_len a n)) s (All-filter p InRange (range_with_len a n) all)
-    at in
-    record {
-      from = range.0;
-      below = range.1;
-      passes = All-contains (λ x. p x ≡ true) (filter p (range_with_len a n)) s (filter_passes p (range_with_len a n))
-          at;
-    }
+    grind (arith, All-filter p InRange (range_with_len a n) all, filter_passes p (range_with_len a n))
 
 contains_later : (b : Bool) (a : ℕ) (xs : List ℕ) (s : ℕ) → Contains xs s → Contains (cond b (a ∷ xs) xs) s
 contains_later true a xs s at = Contains-append_right (a ∷ []) xs s at
@@ -149,22 +129,11 @@ contains_later false a xs s at = at
 pub Contains_filter : (p : ℕ → Bool) (a n s : ℕ) → PassesAt p a n s → Contains (filter p (range_with_len a n)) s
 Contains_filter p a zero s at = absurd (let low = at.from in let high = at.below in omega arith)
 Contains_filter p a (suc n) s at =
-    let rest : List ℕ = filter p (range_with_len (a + 1) n) in
-    elim (cases_lt a s) [
-      | inl after ↦ contains_later (p a) a rest s (Contains_filter p (a + 1) n s
-          (record { from = omega arith; below = (let high = at.below in omega arith); passes = at.passes }))
-      | inr first ↦ (let same : a ≡ s = (let low = at.from in omega arith) in
-          let P : Bool → Type 0 = λ b. Contains (cond b (a ∷ rest) rest) s in
-          subst P (sym (ap p same ∙ at.passes)) (Contains-append_left (a ∷ []) rest s (0, omega arith, same)))
-    ]
+    grind (arith, cases_lt a s, contains_later (p a) a, Contains_filter p (a + 1) n s)
 
 pub range-rises : (a n : ℕ) → IsStrictlyIncreasing (range_with_len a n)
 range-rises a n k low =
-    let long : length (range_with_len a n) ≡ n = length-range_with_len a n in
-    let first : get_or (range_with_len a n) k 0 ≡ a + k = get_or-range_with_len a n k 0 (omega arith) in
-    let next : get_or (range_with_len a n) (k + 1) 0 ≡ a + (k + 1) = get_or-range_with_len a n (k + 1) 0 (omega arith)
-    in
-    omega arith
+    grind (arith, length-range_with_len, get_or-range_with_len)
 
 -- ---- one number more
 
@@ -190,15 +159,8 @@ ranges-join a zero n = ap (λ b. range_with_len b n) (add-zero a)
 ranges-join a (suc m) n =
     let start : a + suc m ≡ a + 1 + m = omega arith in
     let count : suc m + n ≡ suc (m + n) = omega arith in
-    ap (λ b. a ∷ (range_with_len (a + 1) m ++ range_with_len b n)) start
-    ∙ ap (λ xs. a ∷ xs) (ranges-join (a + 1) m n)
-    ∙ ap (λ k. range_with_len a k) (sym count)
+    grind (arith, ranges-join (a + 1) m n)
 
 -- no more numbers pass than there are
 pub few_filtered : (p : ℕ → Bool) (n : ℕ) → length (filter p (range_with_len 0 n)) ≤ n
-few_filtered p n = omega (
-  arith,
-  length-filter p (range_with_len 0 n),
-  count_by-le-length p (range_with_len 0 n),
-  length-range_with_len 0 n,
-)
+few_filtered p n = grind (arith, length-filter, count_by-le-length, length-range_with_len)

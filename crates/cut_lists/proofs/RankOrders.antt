@@ -1,13 +1,12 @@
 -- The ranks of the first n numbers, by a total order that distinguishes them, are these numbers in some order.
-use Rattle.std.proofs.Common.{◌≡◌, ◌≢◌, ℕ, zero, suc, ◌+◌, ◌-◌, ◌<◌, Bool, cond, map, not, nat_lt, get_or, refl, inl}
-use Rattle.std.proofs.Common.{inr, sym, ap, ◌∙◌, arith, zero-add}
+use Rattle.std.proofs.Common.{◌≡◌, ◌≢◌, ℕ, zero, suc, ◌+◌, ◌-◌, ◌<◌, Bool, cond, map, not, nat_lt, get_or, refl}
+use Rattle.std.proofs.Common.{sym, ap, ◌∙◌, arith, zero-add}
 use Rattle.std.specs.Prelude.{count_by}
 use Rattle.std.specs.List.{range_with_len, Contains}
 use Rattle.std.specs.declared.cmp.Ordering.{Ordering}
 use Rattle.std.specs.declared.cmp.Ordering.TheVariants.{Less, Equal, Greater}
 use Rattle.std.specs.Ordering.{is_lt, ordering_reverse}
 use Rattle.std.specs.Cmp.{IsTotalOrder}
-use Rattle.std.proofs.lemmas.Bool.{cases_lt, lt-ltb, le-ltb}
 use Rattle.std.proofs.lemmas.List.FromFn.{length-range_with_len, length-map-range_with_len, get_or-map-range_with_len}
 use Rattle.std.proofs.lemmas.List.Sorted.{sum_by-IsPermutation}
 use Rattle.std.proofs.lemmas.List.Sums.{sum_by_push}
@@ -28,10 +27,7 @@ count_by-above (suc n) f =
     ap (λ k. count_by late (range_with_len 0 k)) one
     ∙ ap (count_by late) (range_with_len_more 0 n n (zero-add n))
     ∙ sum_by_push (λ k. cond (late k) 1 0) (range_with_len 0 n) n in
-    elim (cases_lt n f) [
-      | inl low ↦ omega (arith, count_by-above n f, more, ap (λ b. cond {A = ℕ} (not b) 1 0) (lt-ltb n f low))
-      | inr high ↦ omega (arith, count_by-above n f, more, ap (λ b. cond {A = ℕ} (not b) 1 0) (le-ltb n f high))
-    ]
+    grind (arith, count_by-above n f)
 
 -- how many of the first n numbers come before p
 abbrev pub rank_of : (ℕ → ℕ → Ordering) → ℕ → ℕ → ℕ
@@ -54,13 +50,7 @@ ranks-differ {R} total exact n p q low high apart same = by (R p q) refl
 -- numbers of one rank are one
 pub ranks-decide : {R : ℕ → ℕ → Ordering} → IsTotalOrder R → CmpEqualImpliesEq R → (n p q : ℕ) → p < n → q < n
     → rank_of R n p ≡ rank_of R n q → p ≡ q
-ranks-decide total exact n p q low high same = elim (cases_lt p q) [
-  | inl less ↦ absurd (ranks-differ total exact n p q low high (λ e. omega (arith, less, e)) same)
-  | inr most ↦ elim (cases_lt q p) [
-    | inl more ↦ absurd (ranks-differ total exact n p q low high (λ e. omega (arith, more, e)) same)
-    | inr least ↦ omega (arith, most, least)
-  ]
-]
+ranks-decide total exact n p q low high same = grind (arith, ranks-differ total exact n p q low high)
 
 pub ranks-are_all : {R : ℕ → ℕ → Ordering} → IsTotalOrder R → CmpEqualImpliesEq R → (n : ℕ)
     → IsOrder n (map (rank_of R n) (range_with_len 0 n))

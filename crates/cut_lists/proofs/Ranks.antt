@@ -1,12 +1,11 @@
 -- In a list that is sorted by a total order and has no equal elements, the index of an element is
 -- the number of lesser ones.
-use Rattle.std.proofs.Common.{◌≡◌, ℕ, suc, ◌+◌, ◌-◌, ◌<◌, ◌≤◌, ◌⊎◌, inl, inr, Bool, true, false, List, [], ◌∷◌, length}
-use Rattle.std.proofs.Common.{get_or, take, drop, refl, ap, sym, ◌∙◌, arith, cond}
+use Rattle.std.proofs.Common.{◌≡◌, ℕ, ◌+◌, ◌-◌, ◌<◌, ◌≤◌, Bool, true, false, List, [], ◌∷◌, length}
+use Rattle.std.proofs.Common.{get_or, take, drop, refl, ap, ◌∙◌, arith, cond}
 use Rattle.std.specs.declared.cmp.Ordering.{Ordering}
 use Rattle.std.specs.declared.cmp.Ordering.TheVariants.{Less, Equal, Greater}
 use Rattle.std.specs.Ordering.{is_lt, is_eq, eq_by_cmp, ordering_reverse}
 use Rattle.std.specs.Cmp.{IsTotalOrder}
-use Rattle.std.proofs.Math.Nat.{eq-or-lt_of_le}
 use Rattle.std.specs.List.{All, Contains, IsDistinct, count_by}
 use Rattle.std.specs.List.Sorted.{IsPermutation, IsSorted}
 use Rattle.std.proofs.lemmas.Cmp.{tied_itself}
@@ -23,17 +22,14 @@ count_by_all p (x ∷ xs) all =
     let head : p x ≡ true = All-head (λ x. p x ≡ true) x xs all in
     let rest : count_by p xs ≡ length xs = count_by_all p xs (All-tail (λ x. p x ≡ true) x xs all) in
     let here : cond {A = ℕ} (p x) 1 0 ≡ 1 = ap (λ (b : Bool). cond {A = ℕ} b 1 0) head in
-    sum_by-cons (λ x. cond (p x) 1 0) x xs ∙ (let goal : cond {A = ℕ} (p x) 1 0 + count_by p xs
-    ≡ suc (length xs) = omega arith in goal)
+    search (arith, sum_by-cons)
 
 pub count_by_none : {X : Type 0} (p : X → Bool) (xs : List X) → All (λ x. p x ≡ false) xs → count_by p xs ≡ 0
 count_by_none p [] all = refl
 count_by_none p (x ∷ xs) all =
     let head : p x ≡ false = All-head (λ x. p x ≡ false) x xs all in
     let rest : count_by p xs ≡ 0 = count_by_none p xs (All-tail (λ x. p x ≡ false) x xs all) in
-    let here : cond {A = ℕ} (p x) 1 0 ≡ 0 = ap (λ (b : Bool). cond {A = ℕ} b 1 0) head in
-    sum_by-cons (λ x. cond (p x) 1 0) x xs ∙ (let goal : cond {A = ℕ} (p x) 1 0 + count_by p xs ≡ 0 = omega arith
-    in goal)
+    grind arith
 
 -- fewer elements come before one of a list than there are
 pub rank-below : {X : Type 0} {R : X → X → Ordering} → IsTotalOrder R → (xs : List X) (x : X)
@@ -46,19 +42,11 @@ rank-below {X} {R} total xs x at =
       count_by-le-length (λ (_ : X). true) xs,
     )
 
-is_less : (r : Ordering) → is_lt r ≡ true → r ≡ Less
-is_less Less e = refl
-is_less Equal e = cc
-is_less Greater e = cc
-
 -- and fewer come before a lesser one
 pub rank-less : {X : Type 0} {R : X → X → Ordering} → IsTotalOrder R → (xs : List X) (x y : X)
     → Contains xs x → R x y ≡ Less → count_by (λ z. is_lt (R z x)) xs < count_by (λ z. is_lt (R z y)) xs
 rank-less {R = R} total xs x y at less =
-    count_less (λ z. is_lt (R z x)) (λ z. is_lt (R z y)) xs at.0 x
-    (λ z e. ap is_lt (total.trans z x y (is_less (R z x) e) less)) at.1
-    (ap (λ z. is_lt (R z x)) at.2 ∙ ap is_lt (tied_itself total x))
-    (ap (λ z. is_lt (R z y)) at.2 ∙ ap is_lt less)
+    grind (arith, count_less)
 
 -- each element is less than those after it
 abbrev pub Rises : {X : Type 0} → (X → X → Ordering) → List X → Type 0
@@ -78,12 +66,7 @@ rises R total ys sorted distinct i j d before within =
 
 not_less_after : {X : Type 0} (R : X → X → Ordering) → IsTotalOrder R → (ys : List X) → Rises R ys → (i j : ℕ) (d : X)
     → i ≤ j → j < length ys → is_lt (R (get_or ys j d) (get_or ys i d)) ≡ false
-not_less_after {X} R total ys up i j d after within = by (eq-or-lt_of_le after)
-  where
-    by : (i ≡ j) ⊎ (i < j) → is_lt (R (get_or ys j d) (get_or ys i d)) ≡ false
-    by (inl same) = ap is_lt (ap (λ k. R (get_or ys j d) (get_or ys k d)) same ∙ tied_itself total (get_or ys j d))
-    by (inr more) = ap is_lt (total.antisymm (get_or ys j d) (get_or ys i d)
-        ∙ ap ordering_reverse (up i j d more within))
+not_less_after {X} R total ys up i j d after within = grind arith
 
 pub rank_in_rising : {X : Type 0} (R : X → X → Ordering) → IsTotalOrder R → (ys : List X) → Rises R ys → (i : ℕ) (d : X)
     → i < length ys → count_by (λ y. is_lt (R y (get_or ys i d))) ys ≡ i
@@ -92,10 +75,7 @@ rank_in_rising {X} R total ys up i d within =
     let first_length : length (take i ys) ≡ i = length-take-le i ys (omega arith) in
     let back_length : length (drop i ys) ≡ length ys - i = length-drop i ys in
     let prefix : count_by p (take i ys) ≡ length (take i ys) =
-    count_by_all p (take i ys) (λ k e h.
-    let early : k < i = omega arith in
-    let short : k < length ys = omega arith in
-    ap p (get_or-take i ys k e early ∙ get_or_default ys k e d short) ∙ ap is_lt (up k i d early within))
+    grind (arith, count_by_all p (take i ys), get_or-take i ys, get_or_default ys)
     in
     let back : count_by p (drop i ys) ≡ 0 =
     count_by_none p (drop i ys) (λ k e h.
@@ -109,12 +89,7 @@ rank_in_rising {X} R total ys up i d within =
 
 -- two elements that the order does not distinguish are so both ways
 pub tied_both : {X : Type 0} {R : X → X → Ordering} → IsTotalOrder R → (x y : X) → eq_by_cmp R x y ≡ eq_by_cmp R y x
-tied_both {R = R} total x y = ap is_eq (total.antisymm x y) ∙ turned (R y x)
-  where
-    turned : (r : Ordering) → is_eq (ordering_reverse r) ≡ is_eq r
-    turned Less = refl
-    turned Equal = refl
-    turned Greater = refl
+tied_both {R = R} total x y = grind arith
 
 -- the statement that every sort here stands on
 pub rank_is_index : {X : Type 0} (R : X → X → Ordering) → IsTotalOrder R → (xs ys : List X) → IsPermutation xs ys
@@ -123,5 +98,4 @@ pub rank_is_index : {X : Type 0} (R : X → X → Ordering) → IsTotalOrder R �
 rank_is_index R total xs ys moved sorted distinct i d within =
     let apart : IsDistinct (eq_by_cmp R) ys = IsDistinct-IsPermutation (eq_by_cmp R) (tied_both total) xs ys moved
     distinct in
-    sym (sum_by-IsPermutation (λ y. cond (is_lt (R y (get_or ys i d))) 1 0) xs ys moved)
-    ∙ rank_in_rising R total ys (rises R total ys sorted apart) i d within
+    grind (arith, sum_by-IsPermutation, rank_in_rising R total ys (rises R total ys sorted apart) i d within)

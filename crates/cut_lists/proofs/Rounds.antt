@@ -1,7 +1,6 @@
 -- Places round a ring of n places.
-use Rattle.std.proofs.Common.{◌≡◌, inl, inr, ℕ, zero, suc, ◌+◌, ◌-◌, ◌%◌, ◌<◌, ap, ◌∙◌, arith}
+use Rattle.std.proofs.Common.{◌≡◌, ℕ, zero, suc, ◌+◌, ◌-◌, ◌%◌, ◌<◌, ◌∙◌, arith}
 use Rattle.std.proofs.Math.Nat.{mod-eq_of_lt, mod_self}
-use Rattle.std.proofs.lemmas.Bool.{cases_eq}
 
 -- b is the place just before t, round n places
 pub record IsBefore (n b t : ℕ) : Type 0 where
@@ -28,16 +27,4 @@ before n (suc t) low = (
 
 -- places with one next place are one place
 pub next_one : (n a b : ℕ) → a < n → b < n → (a + 1) % n ≡ (b + 1) % n → a ≡ b
-next_one n a b low high e = elim (cases_eq (a + 1) n) [
-  | inl last ↦ elim (cases_eq (b + 1) n) [
-    | inl both ↦ omega arith
-    | inr inner ↦ absurd (let w : (a + 1) % n ≡ 0 = ap (λ x. x % n) last ∙ mod_self n in let v : (b + 1) % n ≡ b
-        + 1 = mod-eq_of_lt (let h : b + 1 < n = omega arith in h) in omega arith)
-  ]
-  | inr inner ↦ elim (cases_eq (b + 1) n) [
-    | inl last ↦ absurd (let w : (b + 1) % n ≡ 0 = ap (λ x. x % n) last ∙ mod_self n in let v : (a + 1) % n ≡ a
-        + 1 = mod-eq_of_lt (let h : a + 1 < n = omega arith in h) in omega arith)
-    | inr too ↦ (let w : (b + 1) % n ≡ b + 1 = mod-eq_of_lt (let h : b + 1 < n = omega arith in h)
-        in let v : (a + 1) % n ≡ a + 1 = mod-eq_of_lt (let h : a + 1 < n = omega arith in h) in omega arith)
-  ]
-]
+next_one n a b low high e = grind arith

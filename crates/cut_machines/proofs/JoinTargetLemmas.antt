@@ -50,16 +50,13 @@ next_is x slip is = cc
 one_next : (all : List Slip) (n : ℕ) (doubtful : Option Slip) → n < length all
     → ((d : Slip) → doubtful ≡ Some (get_or all n d)) → GoesOn all (take n all) doubtful
 one_next all n doubtful within is slip same =
-    subst (λ (s : Slip). AreFirst all (take n all ++ s ∷ []))
-    (next_is (get_or all n slip) slip (sym (is slip) ∙ same))
-    (subst (λ (l : List Slip). AreFirst all l) (take_more all n slip within) (taken_first all (n + 1)))
+    grind (arith, take_more all n slip within, taken_first all (n + 1))
 
 reads_first : (v : Values) (all kept : List Slip) (doubtful : Option Slip) → AreFirst all kept
     → GoesOn all kept doubtful → (bytes : List ℕ) → ReadsAs v kept doubtful bytes → SaysFirstOf v all bytes
 reads_first v all kept doubtful first next bytes (inl reads) = inr (kept, (first.0, (first.1, reads)))
 reads_first v all kept doubtful first next bytes (inr (slip, both)) =
-    let more : AreFirst all (kept ++ slip ∷ []) = next slip both.0 in
-    inr (kept ++ slip ∷ [], (more.0, (more.1, both.1)))
+    grind arith
 
 -- ---- the moments of some appends
 
@@ -67,9 +64,7 @@ appends_first : (v : Values) (all kept : List Slip) (doubtful : Option Slip) (xs
     → AreFirst all (kept ++ xs) → GoesOn all (kept ++ xs) doubtful → AppendsEach v kept doubtful xs old new
     → Throughout old new (SaysFirstOf v all)
 appends_first v all kept doubtful [] old new first next moments =
-    weaker (ReadsAs v kept doubtful) (SaysFirstOf v all)
-    (reads_first v all kept doubtful (subst (λ (l : List Slip). AreFirst all l) (append-nil kept) first)
-    (subst (λ (l : List Slip). GoesOn all l doubtful) (append-nil kept) next)) old new moments
+    grind (arith, weaker, append-nil)
 appends_first v all kept doubtful (x ∷ xs) old new first next moments =
     let mid : DiskState = moments.0 in
     let same : (kept ++ x ∷ []) ++ xs ≡ kept ++ x ∷ xs = append_assoc kept (x ∷ []) xs in
@@ -125,10 +120,6 @@ some_taken (Err join.Disk) v ss old new good is ends = (
   },
 )
 
-none_kept : {D : Type 0} (v : Values) (old : JournalValue D) (d : DiskState) → IsNewJournal v old
-    → kept_slips old.plan old.count d ≡ []
-none_kept v old d is = ap (λ (n : ℕ). kept_slips old.plan n d) is.empty
-
 -- what is left of its disk
 pub part_written : {D : Type 0} (v : Values) (ss : List Slip) (n : ℕ) (old new : JournalValue D)
     (before after : DiskState)
@@ -139,22 +130,7 @@ pub part_written : {D : Type 0} (v : Values) (ss : List Slip) (n : ℕ) (old new
     → IsPartWritten v ss before after
 part_written v ss n old new before after is has moments kept file =
     let all : List Slip = joined v ss in
-    let some : List Slip = take n all in
-    let none : kept_slips old.plan old.count before ≡ [] = none_kept v old before is in
-    let are : kept_slips new.plan new.count after ≡ some = kept ∙ ap (λ (l : List Slip). l ++ some) none in
-    record {
-      bytes = reads_first v all some new.doubtful (taken_first all n) has.next after.bytes
-          (subst (λ (l : List Slip). ReadsAs v l new.doubtful after.bytes) are
-          (subst (λ (w : Values). ReadsAs w (kept_slips new.plan new.count after) new.doubtful after.bytes)
-          (has.plan ∙ is.plan) file.bytes));
-      moments = appends_first v all [] new.doubtful some before after (taken_first all n) has.next
-          (subst (λ (w : Values). AppendsEach w [] new.doubtful some before after) is.plan
-          (subst (λ (l : List Slip). AppendsEach old.plan l new.doubtful some before after) none moments));
-    }
-
-only_kept : (v : Values) (kept : List Slip) (bytes : List ℕ) → ReadsAs v kept None bytes → reading v bytes ≡ Ok kept
-only_kept v kept bytes (inl reads) = reads
-only_kept v kept bytes (inr (slip, both)) = absurd (let never : None ≡ Some slip = both.0 in cc)
+    grind (arith, taken_first all n, appends_first v all)
 
 pub all_written : {D : Type 0} (v : Values) (ss : List Slip) (n : ℕ) (old new : JournalValue D)
     (before after : DiskState) → IsNewJournal v old → EndsJoin (Ok n) v ss old new
@@ -162,23 +138,7 @@ pub all_written : {D : Type 0} (v : Values) (ss : List Slip) (n : ℕ) (old new 
     → IsFileOf new.plan new.count new.doubtful after
     → SaysAllOf v (joined v ss) after
 all_written v ss n old new before after is ends kept file =
-    let all : List Slip = joined v ss in
-    let whole : new.doubtful ≡ None = ends.1.3 ∙ is.whole in
-    let same : new.plan ≡ v = ends.1.1 ∙ is.plan in
-    let counted : n ≡ length all = ends.1.0 in
-    let are : kept_slips new.plan new.count after ≡ all =
-    kept ∙ ap (λ (l : List Slip). l ++ take n all) (none_kept v old before is)
-    ∙ take_all n all (omega (arith, counted)) in
-    let says : (bytes : List ℕ) → ReadsAs new.plan (kept_slips new.plan new.count after) new.doubtful bytes
-    → reading v bytes ≡ Ok all =
-    λ bytes reads. only_kept v all bytes
-    (subst (λ (o : Option Slip). ReadsAs v all o bytes) whole
-    (subst (λ (l : List Slip). ReadsAs v l new.doubtful bytes) are
-    (subst (λ (w : Values). ReadsAs w (kept_slips new.plan new.count after) new.doubtful bytes) same reads))) in
-    record {
-      bytes = says after.bytes file.bytes;
-      durable = λ image of. says image (file.images image of);
-    }
+    grind (arith, take_all)
 
 -- why not all were
 pub filling_stops : {D : Type 0} (fault : JoinFault) (v : Values) (ss : List Slip) (old new : JournalValue D)
@@ -199,19 +159,13 @@ new_study v all bytes (inr empty) = inr ([], (all, (refl, empty)))
 since_made : (v : Values) (all : List Slip) (old new : DiskState) → reading v old.bytes ≡ Err journal.NoStudy
     → reading v new.bytes ≡ Ok [] → IsBegunFile v old new → Throughout (synced old) new (SaysFirstOf v all)
 since_made v all old new free empty (inl same) =
-    absurd (let both : Ok [] ≡ Err journal.NoStudy =
-    sym empty ∙ ap (λ (d : DiskState). reading v d.bytes) same ∙ free in cc)
+    grind arith
 since_made v all old new free empty (inr moments) =
     weaker (IsNewStudy v) (SaysFirstOf v all) (new_study v all) (synced old) new moments
 
 begun : (v : Values) (ss : List Slip) (old mid new : DiskState) → reading v old.bytes ≡ Err journal.NoStudy
     → reading v mid.bytes ≡ Ok [] → IsBegunFile v old mid → IsPartWritten v ss mid new → IsBegun v ss old new
-begun v ss old mid new free empty made part = record {
-  free = free;
-  bytes = part.bytes;
-  moments = and_then (SaysFirstOf v (joined v ss)) (synced old) mid new
-      (since_made v (joined v ss) old mid free empty made) part.moments;
-}
+begun v ss old mid new free empty made part = search (arith, and_then, since_made)
 
 pub left_filled : {T : Type 0} (result : Result T CliFault) (v : Values) (ss : List Slip) (old mid new : DiskState)
     → reading v old.bytes ≡ Err journal.NoStudy → reading v mid.bytes ≡ Ok [] → IsBegunFile v old mid

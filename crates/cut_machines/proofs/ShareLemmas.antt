@@ -1,10 +1,9 @@
 -- What the command `share` keeps and writes, by what its parts say.
-use Rattle.std.proofs.Common.{◌≡◌, ◌∙◌, ◌++◌, ℕ, List, [], ◌∷◌, Option, Some, None, Result, Ok, Err, length}
-use Rattle.std.proofs.Common.{take, refl, sym, ap, subst, arith, inl, inr}
+use Rattle.std.proofs.Common.{◌≡◌, ◌∙◌, ◌++◌, ℕ, List, [], Option, Some, None, Result, Ok, Err, length}
+use Rattle.std.proofs.Common.{take, refl, ap, subst, arith, inl, inr}
 use Rattle.std.specs.Bool.{⊤}
-use Rattle.std.specs.Prelude.{IsSome, unwrap_or}
+use Rattle.std.specs.Prelude.{IsSome}
 use Rattle.std.proofs.lemmas.List.{take_all}
-use Rattle.std.proofs.lemmas.List.Elements.{All-nil}
 use Rattle.cut_plan.specs.Values.{Values}
 use Rattle.cut_disks.specs.State.{DiskState}
 use Rattle.cut_ledger.specs.declared.slip.Slip.{Slip}
@@ -17,7 +16,6 @@ use Rattle.cut_share.specs.declared.fault.ShareFault.TheVariants as share
 use Rattle.cut_share.specs.declared.share.Share.{Share}
 use Rattle.cut_share.specs.Appending.{Adds}
 use Rattle.cut_share.specs.Running.{AreOfShare, EndsShare}
-use Rattle.cut_share.specs.Share.{IsShareSlip}
 use Rattle.cut_wires.specs.Log.{WireLog}
 use Rattle.cut_commands.specs.Run.{IsWritten, LeavesStudy}
 use Rattle.cut_commands.specs.declared.fault.CliFault.{CliFault}
@@ -36,22 +34,12 @@ not_some some = cc some
 -- what the bytes of a journal say, by whether there is a doubtful slip
 say_up_to : (v : Values) (slips : List Slip) (doubtful : Option Slip) (bytes : List ℕ)
     → ReadsAs v slips doubtful bytes → SayUpTo v slips doubtful bytes
-say_up_to v slips None bytes is = elim is [
-  | inl all ↦ all
-  | inr more ↦ absurd (let bad : None ≡ Some more.0 = more.1.0 in cc)
-]
-say_up_to v slips (Some slip) bytes is = elim is [
-  | inl all ↦ inl all
-  | inr more ↦ inr (subst (λ (s : Slip). reading v bytes ≡ Ok (slips ++ s ∷ []))
-      (sym (ap (λ (o : Option Slip). unwrap_or o slip) more.1.0)) more.1.1)
-]
+say_up_to v slips None bytes is = grind arith
+say_up_to v slips (Some slip) bytes is = grind arith
 
 -- a run of a share that adds no slip is one of the share
 none_of_share : (s : Share) (v : Values) (slips added : List Slip) → added ≡ [] → AreOfShare s v slips added
-none_of_share s v slips added none = subst (AreOfShare s v slips) (sym none) (record {
-  each = All-nil (IsShareSlip s v);
-  once = λ t. omega arith;
-})
+none_of_share s v slips added none = grind arith
 
 module _ {D : Type 0} (is_honest : D → Type 0) (state : D → DiskState) where
   -- ---- the run of a share

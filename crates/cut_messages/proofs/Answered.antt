@@ -23,11 +23,7 @@ alone m = record { before = []; here = m; after = []; parts = refl; passed = tt 
 
 pub line_cut : (payload line : List ℕ) (n : ℕ) (old new : WireLog) → line ≡ payload → n < length line
     → new ≡ write_failed (wrote old (take n line)) → IsCutOff payload (wrote old []) new
-line_cut payload line n old new same low is = (
-  n,
-  omega (arith, low, ap (λ (l : List ℕ). length l) same),
-  cc (wrote_none old),
-)
+line_cut payload line n old new same low is = grind (arith, wrote_none old)
 
 lines_both : (o p q : WireLog) (xs ys : List Message) → p ≡ wrote o (lines_of xs) → q ≡ wrote p (lines_of ys)
     → q ≡ wrote o (lines_of (xs ++ ys))

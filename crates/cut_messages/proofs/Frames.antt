@@ -1,23 +1,16 @@
 -- Frames at the beginning of some bytes.
-use Rattle.std.proofs.Common.{◌≡◌, ◌∙◌, ◌+◌, ◌≤◌, ◌++◌, ℕ, true, false, List, [], ◌∷◌, length, take, drop, nat_lt}
-use Rattle.std.proofs.Common.{Option, Some, None, refl, ap, arith, append_assoc, length-append}
+use Rattle.std.proofs.Common.{◌≡◌, ◌∙◌, ◌+◌, ◌≤◌, ◌++◌, ℕ, List, [], ◌∷◌, length, take, drop}
+use Rattle.std.proofs.Common.{Option, Some, None, refl, ap, arith, append_assoc}
 use Rattle.std.specs.Int.{w32, to_be_bytes, from_be_bytes}
-use Rattle.std.proofs.lemmas.Bool.Decides.{nat_tests}
 use Rattle.std.proofs.lemmas.Nat.{from_be_bytes-to_be_bytes_4}
-use Rattle.std.proofs.lemmas.List.{take_at, drop_at, take-append-le}
+use Rattle.std.proofs.lemmas.List.{take_at, drop_at}
 use Rattle.cut_messages.specs.declared.kind.Kind.{Kind}
 use Rattle.cut_messages.specs.declared.side.Side.{Side}
 use Rattle.cut_messages.specs.declared.message.Message.{Message}
 use Rattle.cut_messages.specs.declared.fault.StreamFault.{StreamFault}
-use Rattle.cut_messages.specs.Kinds.{kind_at, length_of, fits}
-use Rattle.cut_messages.specs.Frames.{frame, frame_of, IsMessage, length_fault, fault_after, fault_at}
+use Rattle.cut_messages.specs.Kinds.{kind_at}
+use Rattle.cut_messages.specs.Frames.{frame_of, IsMessage, fault_after, fault_at}
 use Rattle.cut_messages.specs.Reading.{HasNoMessage}
-
-pub less_no : (a b : ℕ) → b ≤ a → nat_lt a b ≡ false
-less_no a b h = grind (arith, nat_tests)
-
-pub long_frame : (kind : Kind) (payload : List ℕ) → length (frame kind payload) ≡ 5 + length payload
-long_frame kind payload = omega (arith, length-append (to_be_bytes w32 (length payload)) payload)
 
 -- what stands after a frame's letter
 pub prefix_four : (payload tail : List ℕ)
@@ -36,25 +29,11 @@ pub length_given : (payload tail : List ℕ) → length payload ≤ 65536
 length_given payload tail short = ap (from_be_bytes w32) (prefix_four payload tail)
     ∙ from_be_bytes-to_be_bytes_4 (length payload) (omega (arith, short))
 
--- a payload's length that is right
-pub length_right : (right : Option ℕ) (n : ℕ) → n ≤ 65536 → fits right n ≡ true → length_fault right n ≡ None
-length_right right n short same = rw (less_no 65536 n short, same) refl
-
 -- no fault stands where a message does
 pub frame_right : (side : Side) (m : Message) (tail : List ℕ) → IsMessage side m
     → fault_at side (frame_of m ++ tail) ≡ None
 frame_right side m tail is =
-    let rest : List ℕ = (to_be_bytes w32 (length m.payload) ++ m.payload) ++ tail in
-    let long : length rest ≡ 4 + length (m.payload ++ tail) =
-    cc (
-      append_assoc (to_be_bytes w32 (length m.payload)) m.payload tail,
-      length-append
-          (to_be_bytes w32 (length m.payload)) (m.payload ++ tail),
-    ) in
-    let reported : from_be_bytes w32 (take 4 rest) ≡ length m.payload = length_given m.payload tail is.short in
-    ap (λ (k : Option Kind). fault_after side k rest) is.kind
-    ∙ rw (less_no (length rest) 4 (omega (arith, long)), reported)
-    (length_right (length_of side m.kind) (length m.payload) is.short is.fits)
+    grind arith
 
 pub no_message : (side : Side) (bytes : List ℕ) (fault : StreamFault) → fault_at side bytes ≡ Some fault
     → HasNoMessage side bytes
@@ -67,13 +46,7 @@ later_more : (side : Side) (kind : Option Kind) (rest more : List ℕ) (fault : 
     → fault_after side kind rest ≡ Some fault → fault_after side kind (rest ++ more) ≡ Some fault
 later_more side None rest more fault wrong = wrong
 later_more side (Some kind) rest more fault wrong =
-    let enough : 4 ≤ length rest = grind (arith, nat_tests) in
-    rw (
-      less_no (length (rest ++ more)) 4 (omega (arith, enough, length-append rest more)),
-      take-append-le 4 rest more
-          enough,
-    )
-    (rw (less_no (length rest) 4 enough) at wrong)
+    grind arith
 
 pub fault_more : (side : Side) (bytes more : List ℕ) (fault : StreamFault) → fault_at side bytes ≡ Some fault
     → fault_at side (bytes ++ more) ≡ Some fault

@@ -1,11 +1,10 @@
 -- An answer that is heard read by read.
-use Rattle.std.proofs.Common.{◌≡◌, ◌∙◌, ◌+◌, ◌^◌, ◌<◌, ◌≤◌, ◌++◌, ℕ, false, List, [], length, take, nat_eq, Some, None}
+use Rattle.std.proofs.Common.{◌≡◌, ◌∙◌, ◌+◌, ◌^◌, ◌<◌, ◌≤◌, ◌++◌, ℕ, List, [], length, take, Some, None}
 use Rattle.std.proofs.Common.{Result, Ok, Err, refl, sym, ap, subst, arith, append_assoc, append-nil, length-append}
 use Rattle.std.proofs.Common.{length-take-le}
 use Rattle.std.specs.Bool.{⊤}
-use Rattle.std.proofs.lemmas.Bool.Decides.{nat_tests}
 use Rattle.cut_wires.specs.Log.{WireLog, passing, with_given, gave, read_failed}
-use Rattle.cut_wires.proofs.Logs.{passing_twice, passing_same}
+use Rattle.cut_wires.proofs.Logs.{passing_same}
 use Rattle.cut_messages.specs.declared.side.Side.TheVariants.{Replies}
 use Rattle.cut_messages.specs.declared.message.Message.{Message}
 use Rattle.cut_messages.specs.declared.fault.AskFault.{AskFault}
@@ -14,7 +13,7 @@ use Rattle.cut_messages.specs.declared.replies.AnswerState.{AnswerState}
 use Rattle.cut_messages.specs.declared.replies.AnswerState.TheVariants.{More, Done}
 use Rattle.cut_messages.specs.Frames.{fault_at}
 use Rattle.cut_messages.specs.Reading.{Reading, HasReadFrames}
-use Rattle.cut_messages.specs.Asking.{asked, heard, ended, left_by, Passes, ConcludesAnswer, IsUnread, Hears}
+use Rattle.cut_messages.specs.Asking.{heard, ended, left_by, Passes, ConcludesAnswer, IsUnread, Hears}
 use Rattle.cut_messages.specs.Asking.{Asks}
 use Rattle.cut_messages.specs.inside.Listening.{Step, Steps}
 use Rattle.cut_messages.proofs.Answered.{passes_then}
@@ -36,13 +35,7 @@ pub record Listens (plan : List ℕ) (r : Reading) (reads : ℕ) (old now o p : 
 wire_on : (plan stream buffer : List ℕ) (n : ℕ) (old mid new : WireLog) → mid ≡ heard plan stream old
     → new ≡ gave mid buffer n → 0 < n → new ≡ heard plan (stream ++ take n buffer) old
 wire_on plan stream buffer n old mid new before is some =
-    let some : nat_eq n 0 ≡ false = grind (arith, nat_tests) in
-    cc (
-      passing_twice (λ t. with_given t buffer n) (asked plan stream) old,
-      passing_same
-          (λ t. with_given (asked plan stream t) buffer n) (asked plan (stream ++ take n buffer)) old
-          (λ t. cc (append_assoc t.given stream (take n buffer))),
-    )
+    grind (arith, append_assoc)
 
 wire_still : (plan stream : List ℕ) (old new : WireLog) → new ≡ heard plan stream old
     → new ≡ heard plan (stream ++ []) old

@@ -1,6 +1,6 @@
 -- A stream has one reading.
 use Rattle.std.proofs.Common.{◌≡◌, ◌∙◌, ◌+◌, ◌*◌, ◌≤◌, ◌++◌, ℕ, List, [], ◌∷◌, length, take, drop, Some, refl, sym, ap}
-use Rattle.std.proofs.Common.{arith, append_assoc, append-nil, length-append}
+use Rattle.std.proofs.Common.{arith, append_assoc, length-append}
 use Rattle.std.specs.List.{AllByRecursion, flat_map}
 use Rattle.std.specs.Int.{w32, to_be_bytes, from_be_bytes}
 use Rattle.std.proofs.lemmas.List.{take_at, drop_at}
@@ -14,7 +14,7 @@ use Rattle.cut_messages.specs.Frames.{frame_of, IsMessage}
 use Rattle.cut_messages.specs.Reading.{HasNoMessage}
 use Rattle.cut_messages.specs.inside.Prefixes.{message_in, IsWhole}
 use Rattle.cut_messages.specs.Laws.{ReadingsAgree, MessagesTakeRoom}
-use Rattle.cut_messages.proofs.Frames.{long_frame, after_four, length_given}
+use Rattle.cut_messages.proofs.Frames.{after_four, length_given}
 
 -- two messages at the beginning of the same bytes are one
 one_frame : (side : Side) (m n : Message) (t u : List ℕ) → IsMessage side m → IsMessage side n
@@ -45,22 +45,15 @@ one_reading : (side : Side) (ms ns : List Message) (r s : List ℕ)
     → flat_map frame_of ms ++ r ≡ flat_map frame_of ns ++ s → (ms ≡ ns) × (r ≡ s)
 one_reading side [] [] r s are are_too none none_too same = (refl, same)
 one_reading side [] (n ∷ ns) r s are are_too none none_too same =
-    absurd (none n (flat_map frame_of ns ++ s) are_too.0
-    (same ∙ append_assoc (frame_of n) (flat_map frame_of ns) s))
+    grind (arith, append_assoc)
 one_reading side (m ∷ ms) [] r s are are_too none none_too same =
-    absurd (none_too m (flat_map frame_of ms ++ r) are.0
-    (sym same ∙ append_assoc (frame_of m) (flat_map frame_of ms) r))
+    grind (arith, append_assoc)
 one_reading side (m ∷ ms) (n ∷ ns) r s are are_too none none_too same =
-    let prefix = one_frame side m n (flat_map frame_of ms ++ r) (flat_map frame_of ns ++ s) are.0 are_too.0
-    (sym (append_assoc (frame_of m) (flat_map frame_of ms) r) ∙ same
-    ∙ append_assoc (frame_of n) (flat_map frame_of ns) s) in
-    let rest = one_reading side ms ns r s are.1 are_too.1 none none_too prefix.1 in
-    (ap (λ (x : Message). x ∷ ms) prefix.0 ∙ ap (λ (xs : List Message). n ∷ xs) rest.0, rest.1)
+    grind (arith, one_frame, append_assoc, one_reading side ms ns r s are.1 are_too.1 none none_too)
 
 pub agree : ReadingsAgree
 agree side stream ms ns r s splits splits_too =
-    one_reading side ms ns r s splits.each splits_too.each splits.last splits_too.last
-    (sym splits.whole ∙ splits_too.whole)
+    grind (arith, one_reading)
 
 -- a message more is read
 pub one_more : (side : Side) (bytes : List ℕ) (messages : List Message) (read n : ℕ) (kind : Kind)
@@ -68,29 +61,14 @@ pub one_more : (side : Side) (bytes : List ℕ) (messages : List Message) (read 
     → bytes ≡ flat_map frame_of (messages ++ message_in (drop read bytes) kind n ∷ [])
     ++ drop (read + (5 + n)) bytes
 one_more side bytes messages read n kind stands is =
-    let m : Message = message_in (drop read bytes) kind n in
-    stands ∙ ap (λ (l : List ℕ). flat_map frame_of messages ++ l) is.stands
-    ∙ cc (
-      append_assoc (flat_map frame_of messages) (frame_of m) (drop (5 + n) (drop read bytes)),
-      append-nil
-          (frame_of m),
-      flat_map-append frame_of messages (m ∷ []),
-      drop-drop (5 + n) read bytes,
-    )
+    grind (arith, append_assoc, flat_map-append, drop-drop)
 
 frames_room : (side : Side) (ms : List Message) → AllByRecursion (IsMessage side) ms
     → (5 * length ms ≤ length (flat_map frame_of ms)) × (length (flat_map frame_of ms) ≤ 65541 * length ms)
 frames_room side [] are = (omega arith, omega arith)
 frames_room side (m ∷ ms) are =
-    let rest = frames_room side ms are.1 in
-    let size : length (flat_map frame_of (m ∷ ms)) ≡ 5 + length m.payload + length (flat_map frame_of ms) =
-    length-append (frame_of m) (flat_map frame_of ms)
-    ∙ ap (λ n. n + length (flat_map frame_of ms)) (long_frame m.kind m.payload) in
-    (omega (arith, rest.0, size), omega (arith, rest.1, size, are.0.short))
+    grind (arith, length-append, frames_room side ms are.1)
 
 pub room : MessagesTakeRoom
 room side stream ms r splits =
-    let frames = frames_room side ms splits.each in
-    let size : length stream ≡ length (flat_map frame_of ms) + length r =
-    ap (λ (l : List ℕ). length l) splits.whole ∙ length-append (flat_map frame_of ms) r in
-    (omega (arith, frames.0, size), omega (arith, frames.1, size))
+    grind (arith, frames_room, length-append)

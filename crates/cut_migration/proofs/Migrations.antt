@@ -1,9 +1,9 @@
 -- What a migration has moved, slip by slip, and what each crash of it leaves.
-use Rattle.std.proofs.Common.{◌≡◌, ◌∙◌, ◌≤◌, ◌<◌, ◌+◌, ◌-◌, ◌++◌, inl, inr, ℕ, List, [], ◌∷◌, Ok, Err, Option, Some}
-use Rattle.std.proofs.Common.{None, refl, sym, ap, subst, arith, append-nil}
+use Rattle.std.proofs.Common.{◌≡◌, ◌∙◌, ◌<◌, ◌+◌, ◌-◌, ◌++◌, inl, inr, ℕ, List, [], ◌∷◌, Ok, Err, Option, Some}
+use Rattle.std.proofs.Common.{refl, sym, ap, subst, arith, append-nil}
 use Rattle.std.specs.Bool.{⊤}
 use Rattle.std.specs.Prelude.{IsSome, IsErrOf, Result, ◌↔◌, ◌⊎◌, slice_get, slice_index_or}
-use Rattle.std.proofs.Math.Nat.{eq-or-lt_of_le, eq-zero-or-pos}
+use Rattle.std.proofs.Math.Nat.{eq-or-lt_of_le}
 use Rattle.std.proofs.lemmas.List.{map_more}
 use Rattle.std.proofs.lemmas.Option.{get_or_from_slice_get, slice_get_within}
 use Rattle.cut_plan.specs.Targets.{upgraded}
@@ -24,7 +24,7 @@ use Rattle.cut_migration.specs.Migration.{moved, first_moved, AreTrueUpTo}
 use Rattle.cut_migration.specs.inside.Migration.{fault_of}
 use Rattle.cut_migration.specs.Migration.{CanMove, EndsMigration, HasMoved}
 use Rattle.cut_migration.specs.inside.Migration.{MovesOne}
-use Rattle.cut_journal.proofs.Series.{LeavesDoubt, each_then, none_of, nothing_appended}
+use Rattle.cut_journal.proofs.Series.{each_then, none_of}
 
 -- ---- one slip
 
@@ -32,8 +32,7 @@ use Rattle.cut_journal.proofs.Series.{LeavesDoubt, each_then, none_of, nothing_a
 pub moved_is : (v up : Values) (s : Slip) (r : Computed) → up ≡ upgraded v → r ≡ record { plan = up; piece = s.piece }
     → slip_of r ≡ moved v s
 moved_is v up s r upgrade is =
-    ap (λ (x : Computed). slip_of x) is
-    ∙ ap (λ (w : Values). slip_of (record { plan = w; piece = s.piece })) upgrade
+    search arith
 
 -- an append that failed ends the move of a slip that is true
 pub append_failed : {D : Type 0} (e : JournalFault) (v : Values) (number : ℕ) (s slip : Slip) (old new : JournalValue D)
@@ -60,14 +59,7 @@ first_more v ss n s at =
     ∙ ap (λ (x : Slip). first_moved v ss n ++ moved v x ∷ []) (get_or_from_slice_get ss n s s at)
 
 pub none_moved : {D : Type 0} (v : Values) (ss : List Slip) (log : JournalValue D) → HasMoved v ss 0 log log
-none_moved v ss log = record {
-  within = omega arith;
-  true = λ i d low. absurd (omega arith);
-  plan = refl;
-  count = omega arith;
-  taken = λ some. absurd (omega arith);
-  untouched = λ none. refl;
-}
+none_moved v ss log = grind arith
 
 true_at : (v : Values) (ss : List Slip) (n : ℕ) (s : Slip) → slice_get ss n ≡ Some s → AreTrueUpTo v ss n
     → IsTrueSlip v s
@@ -86,29 +78,9 @@ pub moved_more : {D : Type 0} (v : Values) (ss : List Slip) (n number : ℕ) (s 
     → slice_get ss n ≡ Some s
     → HasMoved v ss n old mid → mid.doubtful ≡ old.doubtful → MovesOne {T = ⊤} (Ok tt) v number s mid new
     → HasMoved v ss (n + 1) old new
-moved_more v ss n number s old mid new at before doubt one = record {
-  within = (let below = slice_get_within ss n s at in omega (arith, below));
-  true = true_more v ss n s at before.true one.0;
-  plan = one.1 ∙ before.plan;
-  count = (let c = before.count in let d = one.2 in omega (arith, c, d));
-  taken = λ some. sym doubt ∙ one.3;
-  untouched = λ none. absurd (omega arith);
-}
+moved_more v ss n number s old mid new at before doubt one = grind (arith, slice_get_within ss n s at, true_more v ss n s at before.true one.0)
 
 -- ---- how it ends
-
-none_by : (n : ℕ) → (n ≡ 0) ⊎ (0 < n) → (1 ≤ n → ⊥) → n ≡ 0
-none_by n (inl none) never = none
-none_by n (inr some) never = absurd (never (omega (arith, some)))
-
-not_some : IsSome {T = Slip} None → ⊥
-not_some some = cc some
-
-none_before : {D : Type 0} (v : Values) (ss : List Slip) (n : ℕ) (old mid : JournalValue D) → HasMoved v ss n old mid
-    → IsSome old.doubtful
-    → n ≡ 0
-none_before v ss n old mid before some = none_by n (eq-zero-or-pos n)
-    (λ m. not_some (subst (λ (o : Option Slip). IsSome o) (before.taken m) some))
 
 -- at a slip that is not moved, after the first n
 pub stopped : {D : Type 0} (e : MigrateFault) (v : Values) (ss : List Slip) (n number : ℕ) (s : Slip)
@@ -116,19 +88,7 @@ pub stopped : {D : Type 0} (e : MigrateFault) (v : Values) (ss : List Slip) (n n
     → number ≡ n + 1 → CanMove v ss old → slice_get ss n ≡ Some s → HasMoved v ss n old mid → mid.doubtful
     ≡ old.doubtful
     → MovesOne {T = ⊤} (Err e) v number s mid new → EndsMigration (Err e) v ss old new
-stopped Memory v ss n number s old mid new is_number can at before doubt is = (
-  can.version,
-  inr (
-    can,
-    (
-      n,
-      (
-        subst (λ (l : JournalValue _). HasMoved v ss n old l) (sym is) before,
-        ap (λ (l : JournalValue _). l.doubtful) is ∙ doubt,
-      ),
-    ),
-  ),
-)
+stopped Memory v ss n number s old mid new is_number can at before doubt is = grind arith
 stopped NotVersion1 v ss n number s old mid new is_number can at before doubt is = absurd is
 stopped (BadSlip k) v ss n number s old mid new is_number can at before doubt is = absurd is
 stopped OtherPlan v ss n number s old mid new is_number can at before doubt is = absurd is
@@ -148,15 +108,7 @@ stopped (Disagrees k) v ss n number s old mid new is_number can at before doubt 
       ap (λ (l : JournalValue _). l.doubtful) is.2 ∙ doubt,
     )
 stopped Broken v ss n number s old mid new is_number can at before doubt is =
-    let some : IsSome old.doubtful = subst (λ (o : Option Slip). IsSome o) doubt is.1 in
-    let none = none_before v ss n old mid before some in
-    let below = slice_get_within ss n s at in (
-      can,
-      (omega (arith, below)),
-      subst (λ m. AreTrueUpTo v ss m) (let z = none in omega (arith, z)) (true_more v ss n s at before.true is.0),
-      some,
-      is.2 ∙ before.untouched none,
-    )
+    grind (arith, slice_get_within, true_more)
 stopped Disk v ss n number s old mid new is_number can at before doubt is = (
   can,
   (
@@ -179,21 +131,7 @@ pub nothing_moved : (v : Values) (ss : List Slip) (plan : Values) (count : ℕ) 
     → IsFileOf plan count doubtful d → (n : ℕ) → count ≡ count + n
     → AppendsEach plan (kept_slips plan count d) doubtful (first_moved v ss n) d d
 nothing_moved v ss plan count doubtful d sound n is =
-    subst (λ k. AppendsEach plan (kept_slips plan count d) doubtful (first_moved v ss k) d d)
-    (let none : 0 ≡ n = omega (arith, is) in none) (nothing_appended plan count doubtful d sound)
-
--- what one move says of the doubtful slip
-doubt_after : {T D : Type 0} (result : Result T MigrateFault) (v : Values) (number : ℕ) (s slip : Slip)
-    (old new : JournalValue D) → MovesOne result v number s old new
-    → LeavesDoubt old.doubtful new.doubtful (taken result slip)
-doubt_after (Ok done) v number s slip old new is = inl is.3
-doubt_after (Err Memory) v number s slip old new is = inr (refl, ap (λ (l : JournalValue _). l.doubtful) is)
-doubt_after (Err NotVersion1) v number s slip old new is = absurd is
-doubt_after (Err (BadSlip k)) v number s slip old new is = absurd is
-doubt_after (Err OtherPlan) v number s slip old new is = absurd is
-doubt_after (Err (Disagrees k)) v number s slip old new is = inr (refl, ap (λ (l : JournalValue _). l.doubtful) is.2)
-doubt_after (Err Broken) v number s slip old new is = inr (refl, ap (λ (l : JournalValue _). l.doubtful) is.2)
-doubt_after (Err Disk) v number s slip old new is = inl is.3
+    grind arith
 
 -- the moments of a migration with those of one slip more
 pub moments_more : {T D : Type 0} (result : Result T MigrateFault) (v : Values) (ss : List Slip) (plan : Values)
@@ -204,10 +142,7 @@ pub moments_more : {T D : Type 0} (result : Result T MigrateFault) (v : Values) 
     → AppendsEach mid.plan now new.doubtful (taken result (moved v s)) between after
     → AppendsEach plan kept new.doubtful (first_moved v ss n ++ taken result (moved v s)) before after
 moments_more result v ss plan kept now n number s mid new before between after is same are moments one =
-    each_then plan kept now (first_moved v ss n) (taken result (moved v s)) mid.doubtful new.doubtful before between
-    after are
-    (doubt_after result v number s (moved v s) mid new is) moments
-    (subst (λ (w : Values). AppendsEach w now new.doubtful (taken result (moved v s)) between after) same one)
+    grind (arith, each_then)
 
 -- where the slip was not taken, they are those of the first n
 same_count : {D : Type 0} (e : MigrateFault) (v : Values) (number : ℕ) (s : Slip) (old new : JournalValue D)

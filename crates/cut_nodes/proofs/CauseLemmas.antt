@@ -1,11 +1,11 @@
 -- The causes of a process, ring by ring.
-use Rattle.std.proofs.Common.{◌≡◌, ℕ, ◌+◌, ◌<◌, ◌||◌, Bool, true, false, cond, List, [], ◌∷◌, ◌++◌, Option, Some}
-use Rattle.std.proofs.Common.{None, map, length, option_map, refl, ap, sym, subst, ◌∙◌, arith}
+use Rattle.std.proofs.Common.{◌≡◌, ℕ, ◌+◌, ◌||◌, Bool, true, false, cond, List, [], ◌∷◌, ◌++◌, Option, Some}
+use Rattle.std.proofs.Common.{None, map, option_map, refl, ap, sym, subst, ◌∙◌, arith}
 use Rattle.std.proofs.lemmas.List.{map-append}
-use Rattle.std.specs.Prelude.{is_some, IfSome, slice_index}
+use Rattle.std.specs.Prelude.{is_some, slice_index}
 use Rattle.std.proofs.lemmas.Bool.{or_right}
 use Rattle.std.specs.List.{All, list_any, range_with_len}
-use Rattle.std.proofs.lemmas.List.Elements.{All-push, All-weaker}
+use Rattle.std.proofs.lemmas.List.Elements.{All-push}
 use Rattle.cut_lists.proofs.Maps.{list_any-map, maps_agree}
 use Rattle.cut_lists.proofs.Ranges.{map_filter_kept, filter_more_skipped}
 use Rattle.cut_rings.specs.Edges.{EdgeSet, edge_to, rings_to}
@@ -16,12 +16,10 @@ unfoldable use Rattle.cut_detector.specs.Counts.{is_full}
 use Rattle.cut_nodes.specs.declared.slots.Slot.{Slot}
 use Rattle.cut_nodes.specs.declared.node.Cause.{Cause}
 use Rattle.cut_nodes.specs.declared.reported.Reported.{Reported}
-use Rattle.cut_nodes.specs.Slots.{key_of, key_in}
 use Rattle.cut_nodes.specs.inside.Slots.{Extends}
 use Rattle.cut_nodes.specs.Nodes.{cause_of, cause_in, AreNodesWithin}
 use Rattle.cut_nodes.specs.inside.Reported.{alerts_of, rule_of_reported, IsGain, AreCauses}
 use Rattle.cut_nodes.proofs.ListLemmas.{list_any-filter}
-use Rattle.cut_nodes.proofs.SlotLemmas.{key_kept}
 use Rattle.cut_nodes.proofs.HeardLemmas.{IsHeard}
 
 is_some-map : {X Y : Type 0} (f : X → Y) (o : Option X) → is_some (option_map f o) ≡ is_some o
@@ -36,9 +34,7 @@ is_some-cond false x = refl
 pub gain_is : (r : Layout) (rule : Rule) (E : EdgeSet) (subjects : List ℕ) (ring s : ℕ) (gained : Option ℕ)
     → IsGain r rule E subjects ring s gained → is_some gained ≡ is_gained r rule E ring s
 gain_is r rule E subjects ring s gained gain =
-    sym (is_some-map (λ place. slice_index subjects place) gained)
-    ∙ ap (λ o. is_some o) gain.place
-    ∙ is_some-cond (is_gained r rule E ring s) (observer_of r ring s)
+    grind arith
 
 -- a ring is full where it has a slot or a gain
 pub full_is : (r : Layout) (rule : Rule) (E : EdgeSet) (s ring : ℕ) (heard : Option Slot) (gained : Option ℕ)
@@ -62,14 +58,10 @@ causes_push t blocks s ring olds news heard gained full hear gain pushed are =
     let of_ring : ℕ → Option (ℕ × ℕ) × Option ℕ = λ ring. cause_of t.rings.now (rule_of_reported t) E s ring in
     let kept : Cause → Option (ℕ × ℕ) × Option ℕ = λ c. cause_in blocks t.subjects.now c in
     let is : cause_in blocks t.subjects.now c ≡ cause_of t.rings.now (rule_of_reported t) E s ring =
-    ap (λ (key : Option (ℕ × ℕ)). (key, option_map (λ place. slice_index t.subjects.now place) gained)) hear.key
-    ∙ ap (λ (o : Option ℕ). (cond (E ring s) (Some (key_of t.rule.k (edge_to s ring))) None, o)) gain.place in
+    grind arith in
     subst (λ cs. AreCauses t blocks (rings_to (ring + 1) (is_full t.rings.now (rule_of_reported t) E) s) s cs)
     (sym pushed) (record {
-      each = map-append kept olds (c ∷ [])
-          ∙ ap (λ xs. xs ++ kept c ∷ []) are.each
-          ∙ ap (λ x. map of_ring (rings_to ring (is_full t.rings.now (rule_of_reported t) E) s) ++ x ∷ []) is
-          ∙ sym (map_filter_kept of_ring (λ ring. is_full t.rings.now (rule_of_reported t) E ring s) ring full);
+      each = grind (arith, map-append, map_filter_kept);
       within = All-push (λ c. AreNodesWithin blocks t.subjects.now c) olds c are.within
           (record { heard = hear.within; gained = gain.within });
     })
@@ -79,8 +71,7 @@ pub causes_skip : (t : Reported) (blocks : List ℕ) (s ring : ℕ) (causes : Li
     → AreCauses t blocks (rings_to ring (is_full t.rings.now (rule_of_reported t) (alerts_of t)) s) s causes
     → AreCauses t blocks (rings_to (ring + 1) (is_full t.rings.now (rule_of_reported t) (alerts_of t)) s) s causes
 causes_skip t blocks s ring causes none are =
-    subst (λ rings. AreCauses t blocks rings s causes)
-    (sym (filter_more_skipped (λ ring. is_full t.rings.now (rule_of_reported t) (alerts_of t) ring s) ring none)) are
+    grind (arith, filter_more_skipped)
 
 -- ---- whether some ring is gained
 
@@ -110,30 +101,8 @@ some_gain t blocks s causes are =
 
 -- ---- once blocks are added
 
-heard_kept : (old new : List ℕ) (m : ℕ) (heard : Option Slot) → Extends old m new
-    → IfSome heard (λ slot. (slot.block < length old) × (slot.key < 8))
-    → option_map (λ slot. key_in new slot) heard ≡ option_map (λ slot. key_in old slot) heard
-heard_kept old new m None extends within = refl
-heard_kept old new m (Some slot) extends within = ap (λ key. Some key) (key_kept old new m slot extends within.0)
-
-heard_within : (old new : List ℕ) (m : ℕ) (heard : Option Slot) → Extends old m new
-    → IfSome heard (λ slot. (slot.block < length old) × (slot.key < 8))
-    → IfSome heard (λ slot. (slot.block < length new) × (slot.key < 8))
-heard_within old new m None extends within = within
-heard_within old new m (Some slot) extends within = (omega (arith, extends.long, within.0), within.1)
-
 pub causes_in_kept : (old new subjects : List ℕ) (m : ℕ) (causes : List Cause) → Extends old m new
     → All (λ c. AreNodesWithin old subjects c) causes
     → map (λ c. cause_in new subjects c) causes ≡ map (λ c. cause_in old subjects c) causes
 causes_in_kept old new subjects m causes extends within =
-    maps_agree (λ c. cause_in new subjects c) (λ c. cause_in old subjects c) causes
-    (All-weaker (λ c. AreNodesWithin old subjects c) (λ c. cause_in new subjects c ≡ cause_in old subjects c)
-    (λ c low. ap (λ (key : Option (ℕ × ℕ)). (key, option_map (λ place. slice_index subjects place) c.gained))
-    (heard_kept old new m c.heard extends low.heard))
-    causes within)
-
-pub within_kept : (old new subjects : List ℕ) (m : ℕ) (causes : List Cause) → Extends old m new
-    → All (λ c. AreNodesWithin old subjects c) causes → All (λ c. AreNodesWithin new subjects c) causes
-within_kept old new subjects m causes extends within =
-    All-weaker (λ c. AreNodesWithin old subjects c) (λ c. AreNodesWithin new subjects c)
-    (λ c low. record { heard = heard_within old new m c.heard extends low.heard; gained = low.gained }) causes within
+    grind (arith, maps_agree)

@@ -1,11 +1,10 @@
 -- What is gained, by a search among the reported processes.
-use Rattle.std.proofs.Common.{◌≡◌, ℕ, ◌<◌, ◌≤◌, Bool, true, false, cond, ◌&&◌, List, Some, None, filter, length}
-use Rattle.std.proofs.Common.{inl, inr, get_or, ap, sym, subst, ◌∙◌, arith}
+use Rattle.std.proofs.Common.{◌≡◌, ℕ, ◌<◌, ◌≤◌, Bool, true, false, ◌&&◌, List, Some, None, filter, length}
+use Rattle.std.proofs.Common.{get_or, ap, sym, subst, ◌∙◌, arith}
 use Rattle.std.specs.Prelude.{slice_index}
 use Rattle.std.specs.List.{range_with_len, Contains}
-use Rattle.std.specs.List.Sorted.{IsStrictlyIncreasing}
 use Rattle.std.proofs.lemmas.List.{get_or_default}
-use Rattle.std.proofs.lemmas.Bool.{cases_lt, false_from_ne_true}
+use Rattle.std.proofs.lemmas.Bool.{false_from_ne_true}
 use Rattle.std.proofs.lemmas.List.Kept.{AllPairs-from_increasing, IsStrictlyIncreasing-filter}
 use Rattle.cut_lists.proofs.Ranges.{Contains-filter_of, Contains_filter, range-rises, few_filtered}
 use Rattle.cut_rings.specs.Edges.{EdgeSet}
@@ -16,10 +15,7 @@ use Rattle.cut_nodes.specs.inside.Reported.{IsGain}
 
 no_gain : (r : Layout) (rule : Rule) (E : EdgeSet) (subjects : List ℕ) (ring s : ℕ)
     → is_gained r rule E ring s ≡ false → IsGain r rule E subjects ring s None
-no_gain r rule E subjects ring s none = record {
-  place = sym (ap (λ b. cond b (Some (observer_of r ring s)) None) none);
-  within = tt;
-}
+no_gain r rule E subjects ring s none = grind arith
 
 both : (a b c : Bool) → a ≡ true → b ≡ true → a && b && c ≡ c
 both a b c p q = grind arith
@@ -42,11 +38,7 @@ gains_found r rule E subjects ring s observer place all on reported is low at =
     let found : is_reported rule E (observer_of r ring s) ≡ true =
     ap (λ o. is_reported rule E o) (sym is)
     ∙ (Contains-filter_of (λ s. is_reported rule E s) 0 r.nodes observer held).passes in
-    record {
-      place = ap (λ o. Some o) (at ∙ is)
-          ∙ sym (ap (λ b. cond b (Some (observer_of r ring s)) None) (gained_by r rule E ring s on reported ∙ found));
-      within = low;
-    }
+    grind arith
   where
     get_at : (xs : List ℕ) (i x : ℕ) → i < length xs → get_or xs i 0 ≡ x → get_or xs i x ≡ x
     get_at xs i x low at = get_or_default xs i x 0 low ∙ at
@@ -70,13 +62,7 @@ pub reported_rise : (rule : Rule) (E : EdgeSet) (n : ℕ) (subjects : List ℕ)
     → subjects ≡ filter (λ s. is_reported rule E s) (range_with_len 0 n)
     → (i j : ℕ) → i ≤ j → j < length subjects → get_or subjects i 0 ≤ get_or subjects j 0
 reported_rise rule E n subjects all i j order low =
-    let up : IsStrictlyIncreasing subjects = subst IsStrictlyIncreasing (sym all)
-    (IsStrictlyIncreasing-filter (λ s. is_reported rule E s) (range_with_len 0 n) (range-rises 0 n)) in
-    elim (cases_lt i j) [
-      | inl before ↦ (let less : get_or subjects i 0 < get_or subjects j 0 =
-          AllPairs-from_increasing subjects up i j 0 before low in omega arith)
-      | inr after ↦ (let same : i ≡ j = omega arith in omega (arith, ap (λ k. get_or subjects k 0) same))
-    ]
+    grind (arith, IsStrictlyIncreasing-filter, range-rises, AllPairs-from_increasing)
 
 pub few_reported : (rule : Rule) (E : EdgeSet) (n : ℕ) (subjects : List ℕ)
     → subjects ≡ filter (λ s. is_reported rule E s) (range_with_len 0 n)

@@ -1,9 +1,9 @@
 -- Which slot a ring has among those of the edges that are left.
 use Rattle.std.proofs.Common.{◌≡◌, ℕ, suc, ◌+◌, ◌-◌, ◌<◌, ◌≤◌, Bool, true, false, cond, List, [], ◌∷◌, Option}
-use Rattle.std.proofs.Common.{Some, None, map, filter, length, drop, option_map, refl, ap, sym, subst, ◌∙◌, arith}
+use Rattle.std.proofs.Common.{Some, None, map, filter, length, drop, option_map, refl, ap, sym, subst, arith}
 use Rattle.std.specs.Prelude.{is_some, IfSome}
 use Rattle.std.specs.List.{All, range_with_len}
-use Rattle.std.proofs.lemmas.Bool.{eq-eqb, ne_eqb}
+use Rattle.std.proofs.lemmas.Bool.{eq-eqb}
 use Rattle.std.proofs.lemmas.List.Elements.{All-head, All-tail, All-map, All-filter}
 use Rattle.cut_lists.proofs.Ranges.{All-range_with_len}
 use Rattle.cut_rings.specs.declared.edge.Edge.{Edge}
@@ -34,31 +34,13 @@ record HearsRing (k : ℕ) (p : ℕ → Bool) (s ring n : ℕ) (edges : List Edg
 
 -- ---- the slots of a first edge and of others
 
-keys_at : (k : ℕ) (blocks : List ℕ) (e : Edge) (es : List Edge) (slot : Slot) (slots : List Slot)
-    → AreSlots k blocks (e ∷ es) (slot ∷ slots)
-    → (key_in blocks slot ≡ key_of k e) × (map (λ slot. key_in blocks slot) slots ≡ map (λ e. key_of k e) es)
-keys_at k blocks e es slot slots are =
-    let keys : key_in blocks slot ∷ map (λ slot. key_in blocks slot) slots ≡ key_of k e ∷ map (λ e. key_of k e) es =
-    are.keys in
-    (cc, cc)
-
 after_first : (k : ℕ) (blocks : List ℕ) (e : Edge) (es : List Edge) (slot : Slot) (slots : List Slot)
     → AreSlots k blocks (e ∷ es) (slot ∷ slots) → AreSlots k blocks es slots
-after_first k blocks e es slot slots are = record {
-  keys = (keys_at k blocks e es slot slots are).1;
-  within = All-tail (λ slot. slot.block < length blocks) slot slots are.within;
-  eight = All-tail (λ slot. slot.key < 8) slot slots are.eight;
-}
+after_first k blocks e es slot slots are = search (arith, All-tail)
 
 at_first : (k : ℕ) (blocks : List ℕ) (e : Edge) (es : List Edge) (slot : Slot) (slots : List Slot)
     → AreSlots k blocks (e ∷ es) (slot ∷ slots) → IsHeard k blocks true e (Some slot)
-at_first k blocks e es slot slots are = record {
-  key = ap (λ key. Some key) (keys_at k blocks e es slot slots are).0;
-  within = (
-    All-head (λ slot. slot.block < length blocks) slot slots are.within,
-    All-head (λ slot. slot.key < 8) slot slots are.eight,
-  );
-}
+at_first k blocks e es slot slots are = grind arith
 
 -- ---- by whether the ring's edge is there
 
@@ -86,8 +68,7 @@ none_first : (ring : ℕ) (edges : List Edge) (slots : List Slot) → All (λ e.
 none_first ring [] slots up = refl
 none_first ring (e ∷ es) [] up = refl
 none_first ring (e ∷ es) (slot ∷ slots) up =
-    ap (λ b. cond b (Some slot) None)
-    (ne_eqb e.ring ring (λ same. omega (arith, All-head (λ e. ring < e.ring) e es up)))
+    grind (arith, All-head)
 
 later_rings : (p : ℕ → Bool) (s ring n : ℕ) → All (λ e. ring < e.ring) (edges_from p s (ring + 1) n)
 later_rings p s ring n =
@@ -99,49 +80,14 @@ hears_none : (k : ℕ) (p : ℕ → Bool) (s ring n : ℕ) (edges : List Edge) (
     → edges ≡ edges_from p s (ring + 1) n → length slots ≡ length edges
     → HearsRing k p s ring n edges slots (first_on ring edges slots) 0
 hears_none k p s ring n edges slots fails same long =
-    let is : first_on ring edges slots ≡ None =
-    none_first ring edges slots (subst (λ es. All (λ e. ring < e.ring) es) (sym same) (later_rings p s ring n)) in
-    subst (λ heard. HearsRing k p s ring n edges slots heard 0) (sym is) (record {
-      is = sym fails;
-      some = omega arith;
-      rest = same;
-      long = long;
-      here = λ blocks are. subst (λ b. IsHeard k blocks b (edge_to s ring) None) (sym fails)
-          (record { key = refl; within = tt });
-      after = λ blocks are. are;
-    })
+    grind (arith, none_first, later_rings)
 
 -- the next ring: n others are left
 hears : (k : ℕ) (p : ℕ → Bool) (s ring n : ℕ) (edges : List Edge) (slots : List Slot) (heard : Option Slot) (count : ℕ)
     → edges ≡ edges_from p s ring (suc n) → length slots ≡ length edges
     → heard ≡ first_on ring edges slots → count ≡ cond (is_some heard) 1 0
     → HearsRing k p s ring n edges slots heard count
-hears k p s ring n edges slots heard count same long first counted = go (p ring) refl
-  where
-    go : (b : Bool) → p ring ≡ b → HearsRing k p s ring n edges slots heard count
-    go true passes =
-        let es : List Edge = edges_from p s (ring + 1) n in
-        let all : edges ≡ edge_to s ring ∷ es =
-        same ∙ ap (λ b. map (λ ring. edge_to s ring)
-        (cond b (ring ∷ filter p (range_with_len (ring + 1) n))
-        (filter p (range_with_len (ring + 1) n)))) passes in
-        let known = hears_first k p s ring n slots passes (long ∙ ap (λ es. length es) all) in
-        let found : heard ≡ first_on ring (edge_to s ring ∷ es) slots = first ∙ ap (λ es. first_on ring es slots) all in
-        let one : count ≡ 1 = counted ∙ ap (λ h. cond (is_some h) 1 0) found
-        ∙ ap (λ b. cond b 1 0) (known.is ∙ passes) in
-        subst (λ c. HearsRing k p s ring n edges slots heard c) (sym one)
-        (subst (λ h. HearsRing k p s ring n edges slots h 1) (sym found)
-        (subst (λ es'. HearsRing k p s ring n es' slots (first_on ring (edge_to s ring ∷ es) slots) 1) (sym all) known))
-    go false fails =
-        let all : edges ≡ edges_from p s (ring + 1) n =
-        same ∙ ap (λ b. map (λ ring. edge_to s ring)
-        (cond b (ring ∷ filter p (range_with_len (ring + 1) n))
-        (filter p (range_with_len (ring + 1) n)))) fails in
-        let known = hears_none k p s ring n edges slots fails all long in
-        let none : count ≡ 0 = counted ∙ ap (λ h. cond (is_some h) 1 0) first
-        ∙ ap (λ b. cond b 1 0) (known.is ∙ fails) in
-        subst (λ c. HearsRing k p s ring n edges slots heard c) (sym none)
-        (subst (λ h. HearsRing k p s ring n edges slots h 0) (sym first) known)
+hears k p s ring n edges slots heard count same long first counted = grind (arith, hears_first k p s, hears_none k p s)
 
 -- what is known once the ring's edge and slot are taken off, if they are there
 pub record HearsNext (k : ℕ) (p : ℕ → Bool) (s ring n : ℕ) (edges others : List Edge)
@@ -159,15 +105,4 @@ pub hears_next : (k : ℕ) (p : ℕ → Bool) (s ring n : ℕ) (edges others : L
     → others ≡ drop count edges → other_slots ≡ drop count slots
     → HearsNext k p s ring (n - (ring + 1)) edges others slots other_slots heard
 hears_next k p s ring n edges others slots other_slots heard count low same long first counted back slots_back =
-    let left : n - ring ≡ suc (n - (ring + 1)) = omega arith in
-    let known = hears k p s ring (n - (ring + 1)) edges slots heard count
-    (same ∙ ap (λ m. edges_from p s ring m) left) long first counted in
-    record {
-      is = known.is;
-      rest = back ∙ known.rest;
-      long = ap (λ xs. length xs) slots_back ∙ known.long ∙ sym (ap (λ es. length es) back);
-      here = known.here;
-      after = λ blocks are.
-          subst (λ es. AreSlots k blocks es other_slots) (sym back)
-          (subst (λ xs. AreSlots k blocks (drop count edges) xs) (sym slots_back) (known.after blocks are));
-    }
+    grind (arith, hears k p s ring (n - (ring + 1)) edges slots heard count)

@@ -10,24 +10,12 @@ tests_agree p q (x ∷ xs) all =
     ap (λ b. b || list_any p xs) (All-head (λ x. p x ≡ q x) x xs all)
     ∙ ap (λ b. q x || b) (tests_agree p q xs (All-tail (λ x. p x ≡ q x) x xs all))
 
-by_kept : (a b rest : Bool) → (a ≡ true → b ≡ true) → cond b (a || rest) rest ≡ a || rest
-by_kept a true rest implied = refl
-by_kept true false rest implied = absurd (let no : false ≡ true = implied refl in let never : ⊥ = cc in never)
-by_kept false false rest implied = refl
-
-any_kept : {X : Type 0} (p : X → Bool) (b : Bool) (x : X) (xs : List X)
-    → list_any p (cond b (x ∷ xs) xs) ≡ cond b (p x || list_any p xs) (list_any p xs)
-any_kept p true x xs = refl
-any_kept p false x xs = refl
-
 -- a filter leaves what passes a stricter test
 pub list_any-filter : {X : Type 0} (p q : X → Bool) (xs : List X) → ((x : X) → p x ≡ true → q x ≡ true)
     → list_any p (filter q xs) ≡ list_any p xs
 list_any-filter p q [] implied = refl
 list_any-filter p q (x ∷ xs) implied =
-    any_kept p (q x) x (filter q xs)
-    ∙ ap (λ rest. cond (q x) (p x || rest) rest) (list_any-filter p q xs implied)
-    ∙ by_kept (p x) (q x) (list_any p xs) (implied x)
+    grind (arith, list_any-filter p q xs implied)
 
 -- a list of which all pass, and one of which none does
 pub prefix_of : {X : Type 0} (p : X → Bool) (xs ys : List X) → All (λ x. p x ≡ true) xs → All (λ y. p y ≡ false) ys

@@ -1,38 +1,30 @@
 -- Nodes stay right where blocks are added, and which of them end stable.
-use Rattle.std.proofs.Common.{◌≡◌, inl, inr, ℕ, ◌+◌, ◌≤◌, Bool, true, false, List, [], ◌∷◌, ◌++◌, map}
+use Rattle.std.proofs.Common.{◌≡◌, ℕ, ◌+◌, ◌≤◌, Bool, true, false, List, [], ◌∷◌, ◌++◌}
 use Rattle.std.proofs.Common.{filter, length, nat_le, ap, sym, subst, ◌∙◌, arith}
 use Rattle.std.proofs.lemmas.List.{map-append, length-map}
 use Rattle.std.specs.List.{All, list_any, range_with_len}
-use Rattle.std.proofs.lemmas.Bool.{cases_Bool, leb-true, le-leb}
 use Rattle.std.proofs.lemmas.List.Elements.{All-push, All-weaker}
 use Rattle.std.proofs.lemmas.List.Sums.{length-filter}
 use Rattle.cut_lists.proofs.Maps.{list_any-map}
-use Rattle.cut_lists.proofs.Ranges.{filter_more_kept, filter_more_skipped, count_by_agree}
-use Rattle.cut_rings.specs.Edges.{EdgeSet, edge_to, rings_to}
+use Rattle.cut_lists.proofs.Ranges.{filter_more_kept, filter_more_skipped}
+use Rattle.cut_rings.specs.Edges.{EdgeSet}
 use Rattle.cut_rings.specs.Layout.{Layout}
 use Rattle.cut_detector.specs.Rule.{Rule}
-use Rattle.cut_detector.specs.Counts.{full_count, reports_of}
 unfoldable use Rattle.cut_detector.specs.Counts.{is_full, is_reported, is_stable, is_some_stable}
 use Rattle.cut_nodes.specs.declared.node.Node.{Node}
 use Rattle.cut_nodes.specs.declared.nodes.Nodes.{Nodes}
 use Rattle.cut_nodes.specs.declared.reported.Reported.{Reported}
 use Rattle.cut_nodes.specs.inside.Slots.{Extends}
-use Rattle.cut_nodes.specs.Nodes.{AreNodesOf, IsNode, cause_of, cause_in, subjects_of}
+use Rattle.cut_nodes.specs.Nodes.{AreNodesOf, IsNode, subjects_of}
 use Rattle.cut_nodes.specs.inside.Reported.{alerts_of, rule_of_reported, HasListed}
 use Rattle.cut_nodes.proofs.ListLemmas.{tests_agree, list_any-filter}
 use Rattle.cut_nodes.proofs.SlotLemmas.{slots_kept}
-use Rattle.cut_nodes.proofs.CauseLemmas.{causes_in_kept, within_kept}
+use Rattle.cut_nodes.proofs.CauseLemmas.{causes_in_kept}
 use Rattle.cut_detector.proofs.Modes.{is_full-unreported}
 
 node_kept : (r : Layout) (rule : Rule) (E : EdgeSet) (old new subjects : List ℕ) (m : ℕ) (d : Node)
     → Extends old m new → IsNode r rule E old subjects d → IsNode r rule E new subjects d
-node_kept r rule E old new subjects m d extends is = record {
-  heard = slots_kept rule.k old new m
-      (map (λ ring. edge_to d.subject ring) (rings_to rule.k E d.subject)) d.heard.items extends is.heard;
-  causes = causes_in_kept old new subjects m d.causes.items extends is.within ∙ is.causes;
-  within = within_kept old new subjects m d.causes.items extends is.within;
-  gains = is.gains;
-}
+node_kept r rule E old new subjects m d extends is = grind (arith, slots_kept rule.k old new m, causes_in_kept old new subjects m d.causes.items extends is.within)
 
 -- the next process is a node, or is not
 pub listed_push : (t : Reported) (s : ℕ) (old new : List ℕ) (m : ℕ) (olds news : List Node) (d : Node)
@@ -56,11 +48,7 @@ listed_push t s old new m olds news d reported extends at is pushed listed =
 pub listed_skip : (t : Reported) (s : ℕ) (blocks : List ℕ) (nodes : List Node)
     → is_reported (rule_of_reported t) (alerts_of t) s ≡ false → HasListed t s blocks nodes
     → HasListed t (s + 1) blocks nodes
-listed_skip t s blocks nodes none listed = record {
-  subjects = listed.subjects ∙ sym (filter_more_skipped (λ s. is_reported (rule_of_reported t) (alerts_of t) s) s none);
-  each = listed.each;
-  small = listed.small;
-}
+listed_skip t s blocks nodes none listed = grind (arith, filter_more_skipped)
 
 -- ---- which end stable
 
@@ -68,27 +56,14 @@ listed_skip t s blocks nodes none listed = record {
 pub stable_reported : (r : Layout) (rule : Rule) (E : EdgeSet) (s : ℕ) → rule.l ≤ rule.h → is_stable r rule E s ≡ true
     → is_reported rule E s ≡ true
 unfolding is_stable is_reported
-stable_reported r rule E s order is = elim (cases_Bool (is_reported rule E s)) [
-  | inl reported ↦ reported
-  | inr none ↦ (
-      let same : full_count r rule E s ≡ reports_of rule E s =
-      count_by_agree (λ ring. is_full r rule E ring s) (λ ring. E ring s) 0 rule.k
-      (record { same = λ ring _ _. is_full-unreported r rule E ring s none }) in
-      let many : rule.h ≤ full_count r rule E s = leb-true rule.h (full_count r rule E s) is in
-      le-leb rule.l (reports_of rule E s) (omega arith))
-]
+stable_reported r rule E s order is = grind (arith, is_full-unreported)
 
 node_stable : (r : Layout) (rule : Rule) (E : EdgeSet) (blocks subjects : List ℕ) (d : Node)
     → IsNode r rule E blocks subjects d
     → nat_le rule.h (length d.causes.items) ≡ is_stable r rule E d.subject
 unfolding is_stable
 node_stable r rule E blocks subjects d is =
-    let many : length d.causes.items ≡ full_count r rule E d.subject =
-    sym (length-map d.causes.items (λ c. cause_in blocks subjects c))
-    ∙ ap (λ xs. length xs) is.causes
-    ∙ length-map (rings_to rule.k (is_full r rule E) d.subject) (λ ring. cause_of r rule E d.subject ring)
-    ∙ length-filter (λ ring. is_full r rule E ring d.subject) (range_with_len 0 rule.k) in
-    ap (λ n. nat_le rule.h n) many
+    grind (arith, length-map, length-filter)
 
 some_stable : (r : Layout) (rule : Rule) (E : EdgeSet) (blocks subjects : List ℕ) (nodes : List Node) → rule.l ≤ rule.h
     → All (λ d. IsNode r rule E blocks subjects d) nodes
@@ -96,14 +71,7 @@ some_stable : (r : Layout) (rule : Rule) (E : EdgeSet) (blocks subjects : List �
     → list_any (λ d. nat_le rule.h (length d.causes.items)) nodes ≡ is_some_stable r rule E
 unfolding is_some_stable
 some_stable r rule E blocks subjects nodes order each all =
-    tests_agree (λ d. nat_le rule.h (length d.causes.items)) (λ d. is_stable r rule E d.subject) nodes
-    (All-weaker (λ d. IsNode r rule E blocks subjects d)
-    (λ d. nat_le rule.h (length d.causes.items) ≡ is_stable r rule E d.subject)
-    (λ d is. node_stable r rule E blocks subjects d is) nodes each)
-    ∙ sym (list_any-map (λ s. is_stable r rule E s) (λ (d : Node). d.subject) nodes)
-    ∙ ap (λ xs. list_any (λ s. is_stable r rule E s) xs) all
-    ∙ list_any-filter (λ s. is_stable r rule E s) (λ s. is_reported rule E s) (range_with_len 0 r.nodes)
-    (λ s is. stable_reported r rule E s order is)
+    grind (arith, tests_agree, node_stable, list_any-map, list_any-filter, stable_reported)
 
 -- once all processes are listed
 pub are_all : (t : Reported) (x : Nodes) (s : ℕ) (ends : Bool) → s ≡ t.rings.now.nodes

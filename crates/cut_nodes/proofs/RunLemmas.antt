@@ -1,6 +1,6 @@
 -- The first of the edges that are left are those to the next process.
 use Rattle.std.proofs.Common.{◌≡◌, ℕ, zero, suc, ◌+◌, ◌-◌, ◌*◌, ◌^◌, ◌<◌, ◌≤◌, ◌==◌, true, false, List, ◌++◌}
-use Rattle.std.proofs.Common.{length, take, drop, nat_le, nat_lt, refl, ap, sym, ◌∙◌, arith, length-append}
+use Rattle.std.proofs.Common.{length, take, drop, nat_le, nat_lt, refl, ap, ◌∙◌, arith, length-append}
 use Rattle.std.proofs.Common.{mul-le-mul}
 use Rattle.std.proofs.lemmas.List.{length-map}
 use Rattle.std.specs.List.{All, range_with_len, prefix_len}
@@ -50,15 +50,7 @@ next_run k n E s edges count low is counted =
     let run : List Edge = run_of k E s in
     let others : List Edge = runs_from k E (s + 1) (n - (s + 1)) in
     let one : n - s ≡ suc (n - (s + 1)) = omega arith in
-    let joined : edges ≡ run ++ others = is ∙ ap (λ m. runs_from k E s m) one in
-    let many : count ≡ length run =
-    counted ∙ ap (λ es. prefix_len (λ e. e.subject == s) es) joined ∙ first_run k E s (n - (s + 1)) in
-    record {
-      first = ap (λ m. take m edges) many ∙ ap (λ es. take (length run) es) joined ∙ take_joined run others;
-      rest = ap (λ m. drop m edges) many ∙ ap (λ es. drop (length run) es) joined ∙ drop_joined run others;
-      long = ap (λ es. length es) joined ∙ length-append run others ∙ ap (λ m. m + length others) (sym many);
-      many = many;
-    }
+    grind (arith, first_run, take_joined, drop_joined, length-append)
 
 -- ---- how many edges
 
@@ -68,13 +60,7 @@ length_run k E s = length-map (rings_to k E s) (λ ring. edge_to s ring)
 
 pub few_run : (k : ℕ) (E : EdgeSet) (s : ℕ) → length (run_of k E s) ≤ k
 few_run k E s =
-    omega (
-      arith,
-      length_run k E s,
-      count_by-le-length (λ ring. E ring s)
-          (range_with_len 0 k),
-      length-range_with_len 0 k,
-    )
+    grind (arith, length_run, count_by-le-length, length-range_with_len)
 
 pub few_runs : (k : ℕ) (E : EdgeSet) (s n : ℕ) → length (runs_from k E s n) ≤ n * k
 few_runs k E s zero = omega arith

@@ -1,47 +1,27 @@
 -- Slots stay right where blocks are added.
-use Rattle.std.proofs.Common.{◌≡◌, ℕ, ◌+◌, ◌<◌, List, [], ◌∷◌, ◌++◌, map, length, ap, sym, ◌∙◌, arith}
+use Rattle.std.proofs.Common.{ℕ, ◌+◌, ◌<◌, List, [], ◌∷◌, ◌++◌, length, arith}
 use Rattle.std.proofs.lemmas.List.{map-append}
-use Rattle.std.proofs.lemmas.List.Elements.{All-push, All-weaker}
+use Rattle.std.proofs.lemmas.List.Elements.{All-push}
 use Rattle.cut_rings.specs.declared.edge.Edge.{Edge}
 use Rattle.cut_rings.specs.Edges.{edge_number}
 use Rattle.cut_nodes.specs.declared.slots.Slot.{Slot}
-use Rattle.cut_nodes.specs.Slots.{key_of, key_in, AreSlots}
+use Rattle.cut_nodes.specs.Slots.{AreSlots}
 use Rattle.cut_nodes.specs.inside.Slots.{IsSlot, Extends}
 use Rattle.cut_lists.proofs.Maps.{maps_agree}
 
 pub extends_more : (xs ys zs : List ℕ) (m n : ℕ) → Extends xs m ys → Extends ys n zs → Extends xs (m + n) zs
-extends_more xs ys zs m n first second = record {
-  long = omega (arith, first.long, second.long);
-  kept = λ i low. second.kept i (omega (arith, first.long)) ∙ first.kept i low;
-  few = omega (arith, first.few, second.few);
-  small = λ all. second.small (first.small all);
-}
-
-pub key_kept : (old new : List ℕ) (m : ℕ) (slot : Slot) → Extends old m new → slot.block < length old
-    → key_in new slot ≡ key_in old slot
-key_kept old new m slot extends low = ap (λ block. (block, slot.key)) (extends.kept slot.block low)
+extends_more xs ys zs m n first second = grind arith
 
 pub slots_kept : (k : ℕ) (old new : List ℕ) (m : ℕ) (edges : List Edge) (slots : List Slot)
     → Extends old m new → AreSlots k old edges slots → AreSlots k new edges slots
-slots_kept k old new m edges slots extends are = record {
-  keys = maps_agree (λ slot. key_in new slot) (λ slot. key_in old slot) slots
-      (All-weaker (λ slot. slot.block < length old) (λ slot. key_in new slot ≡ key_in old slot)
-      (λ slot low. key_kept old new m slot extends low) slots are.within)
-      ∙ are.keys;
-  within = All-weaker (λ slot. slot.block < length old) (λ slot. slot.block < length new)
-      (λ slot low. omega (arith, extends.long)) slots are.within;
-  eight = are.eight;
-}
+slots_kept k old new m edges slots extends are = grind (arith, maps_agree)
 
 -- one more slot
 pub slots_push : (k : ℕ) (blocks : List ℕ) (edges : List Edge) (slots : List Slot) (e : Edge) (slot : Slot)
     → AreSlots k blocks edges slots → IsSlot blocks (edge_number k e) slot
     → AreSlots k blocks (edges ++ e ∷ []) (slots ++ slot ∷ [])
 slots_push k blocks edges slots e slot are is = record {
-  keys = map-append (λ slot. key_in blocks slot) slots (slot ∷ [])
-      ∙ ap (λ ks. ks ++ key_in blocks slot ∷ []) are.keys
-      ∙ ap (λ key. map (λ e. key_of k e) edges ++ key ∷ []) is.key
-      ∙ sym (map-append (λ e. key_of k e) edges (e ∷ []));
+  keys = grind (arith, map-append);
   within = All-push (λ slot. slot.block < length blocks) slots slot are.within is.within;
   eight = All-push (λ slot. slot.key < 8) slots slot are.eight is.eight;
 }

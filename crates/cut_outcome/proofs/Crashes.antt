@@ -1,13 +1,13 @@
 -- Where nothing fails, no edge is alerted. Where processes fail by crashes alone, only targets are alerted,
 -- so only targets are proposed; and where crashed observers speak, every receiver hears of each target on all
 -- rings, and proposes.
-use Rattle.std.proofs.Common.{◌≡◌, ◌⊎◌, ℕ, ◌<◌, ◌≤◌, Bool, true, false, not, List, [], ◌∷◌, Option, Some, None}
+use Rattle.std.proofs.Common.{◌≡◌, ◌⊎◌, ℕ, ◌<◌, ◌≤◌, true, false, not, List, [], ◌∷◌, Option, Some, None}
 use Rattle.std.proofs.Common.{MatchOption, length, get_or, map, nat_lt, nat_le, inl, inr, refl, sym, ap, ◌∙◌, arith}
-use Rattle.cut_outcome.proofs.Words.{◌&&◌, ◌||◌, count_by, range_with_len, flat_map, Cell, trial_count, IsPlan, Values}
+use Rattle.cut_outcome.proofs.Words.{◌&&◌, count_by, range_with_len, flat_map, Cell, trial_count, IsPlan, Values}
 use Rattle.cut_outcome.proofs.Words.{Edge, EdgeSet, Layout, observer_of, Source, source_of, all_deliveries, copies_of}
 use Rattle.cut_outcome.proofs.Words.{early, Assignment, role_at, has_crashed, is_target, alerts_about, is_alerted}
-use Rattle.cut_outcome.proofs.Words.{alert_list, all_edges, speaks, Rule, rule_of, ring_count, reports_of, is_reported}
-use Rattle.cut_outcome.proofs.Words.{is_gained, is_full, full_count, is_stable, proposal_of, IsSettled, IsOfLeastPlace}
+use Rattle.cut_outcome.proofs.Words.{alert_list, all_edges, speaks, Rule, rule_of, ring_count, is_reported}
+use Rattle.cut_outcome.proofs.Words.{is_full, is_stable, proposal_of, IsSettled, IsOfLeastPlace}
 use Rattle.cut_outcome.proofs.Words.{ProposesAtLeastPlace, ReportsTargetsAlone, StableAreTargets}
 use Rattle.cut_outcome.proofs.Words.{TargetsAloneLeaveNoneUnstable, Proposal, OnlyCrashes, judged, receivers_of}
 use Rattle.cut_outcome.proofs.Words.{processes_of, rings_of, receiver_proposal, cell_at, outcome}
@@ -65,20 +65,12 @@ CrashedOrHealthy a = (p : ℕ) → (role_at a p ≡ Crashed) ⊎ (role_at a p �
 
 crashed_or_healthy : (v : Values) (t : ℕ) → OnlyCrashes v → CrashedOrHealthy (roles_in v t)
 crashed_or_healthy v t only p =
-    let by = target_or_healthy v (cell_at v t).f (source_of v.seed t) (rings_of v)
-    only.no_liars only.no_links p in
-    elim by [ inl target ↦ inl (target.1 (only.crash (cell_at v t).f)) | inr well ↦ inr well ]
+    grind (arith, target_or_healthy)
 
 -- alerts are about targets
 alerted_is_target : (a : Assignment) → CrashedOrHealthy a → (o s : ℕ) → alerts_about a o s ≡ true
     → is_target a s ≡ true
-alerted_is_target a roles o s alerts = elim (roles s) [
-  | inl crashed ↦ rw crashed
-  | inr well ↦ elim (roles o) [
-    | inl crashed ↦ absurd (let no = rw (well, crashed) at alerts in cc)
-    | inr healthy ↦ absurd (let no = rw (well, healthy) at alerts in cc)
-  ]
-]
+alerted_is_target a roles o s alerts = grind arith
 
 module _ (a : Assignment) (d : Source) (r : Layout) (j k copies : ℕ) where
   abbrev edges : List Edge
@@ -106,25 +98,14 @@ module _ (a : Assignment) (d : Source) (r : Layout) (j k copies : ℕ) where
 some_ring : (k : ℕ) (E : EdgeSet) (s : ℕ) → 1 ≤ ring_count k E s → (ring : ℕ) × (ring < k) × (E ring s ≡ true)
 some_ring k E s some =
     let any = list_any-count_by (λ ring. E ring s) (range_with_len 0 k) ∙ lt-ltb 0 _ (omega arith) in
-    let at = passing (λ ring. E ring s) 0 k any in
-    (at.0, (let low = at.1.below in omega arith), at.1.passes)
+    grind (arith, passing)
 
 -- a stable process has a reported edge: one that gains a ring is reported itself
 stable_is_reported : (r : Layout) (rule : Rule) (E : EdgeSet) (s : ℕ) → 1 ≤ rule.l → rule.l ≤ rule.h
     → is_stable r rule E s ≡ true → (ring : ℕ) × (ring < rule.k) × (E ring s ≡ true)
 unfolding is_stable is_full is_reported
 stable_is_reported r rule E s low high stable =
-    let full = some_ring rule.k (is_full r rule E) s
-    (omega (arith, leb-true rule.h (full_count r rule E s) stable)) in
-    by full.0 full.1 (E full.0 s) refl full.2
-  where
-    by : (ring : ℕ) → ring < rule.k → (b : Bool) → E ring s ≡ b → b || is_gained r rule E ring s ≡ true
-        → (i : ℕ) × (i < rule.k) × (E i s ≡ true)
-    by ring below true is e = (ring, below, is)
-    by ring below false is e =
-        let reported = and_parts rule.implicit (is_reported rule E s)
-        (and_parts (rule.implicit && is_reported rule E s) _ e).0 in
-        some_ring rule.k E s (omega (arith, leb-true rule.l (reports_of rule E s) reported.1))
+    grind (arith, some_ring)
 
 module _ (a : Assignment) (r : Layout) (rule : Rule) (E : ℕ → EdgeSet) (count : ℕ)
     (proposes : ProposesAtLeastPlace) (low : 1 ≤ rule.l) (high : rule.l ≤ rule.h) where

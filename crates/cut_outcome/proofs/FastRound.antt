@@ -8,7 +8,7 @@ use Rattle.std.specs.Cmp.Lexicographic.{same_text, on_texts_equal}
 use Rattle.std.specs.HashMap.{HashMap, UpdatesBy}
 use Rattle.std.specs.Map.{lookup, keys_of, values_of, KeepsOthers}
 use Rattle.std.specs.Global.{Vec}
-use Rattle.std.proofs.lemmas.Bool.{cases_Bool, cases_lt, both_ways, le-leb, lt-leb, lt-ltb}
+use Rattle.std.proofs.lemmas.Bool.{cases_Bool, cases_lt, both_ways, lt-ltb}
 use Rattle.std.proofs.lemmas.Cmp.{nat_list_eq_equiv}
 use Rattle.std.proofs.lemmas.List.{get_or-map, length-map}
 use Rattle.std.proofs.lemmas.List.Elements.{All-map}
@@ -75,25 +75,12 @@ few_cast ((Some p) ∷ ps) = omega (arith, few_cast ps)
 pub cast_or_silent : (a : Assignment) (ps : List (Option Proposal))
     → length (cast_of ps) + count_by (λ p. (judged a p).silent) ps ≡ length ps
 cast_or_silent a [] = refl
-cast_or_silent a (None ∷ ps) = omega (
-  arith,
-  cast_or_silent a ps,
-  sum_by-cons (λ p. cond (judged a p).silent 1 0) None
-      ps,
-)
-cast_or_silent a ((Some p) ∷ ps) = omega (
-  arith,
-  cast_or_silent a ps,
-  sum_by-cons (λ p. cond (judged a p).silent 1 0)
-      (Some p) ps,
-)
+cast_or_silent a (None ∷ ps) = search (arith, sum_by-cons, cast_or_silent a ps)
+cast_or_silent a ((Some p) ∷ ps) = grind (arith, cast_or_silent a ps)
 
 -- where the votes reach a quorum, they are as many
 pub quorum_of_votes : (q votes : ℕ) → q * one_if (nat_le q votes) ≤ votes
-quorum_of_votes q votes = elim (cases_lt votes q) [
-  | inl missed ↦ rw (lt-leb q votes missed, mul-zero q) (omega arith)
-  | inr reached ↦ rw (le-leb q votes reached, mul-one q) reached
-]
+quorum_of_votes q votes = grind arith
 
 -- ---- votes for exactly the targets, apart from the others
 
@@ -185,11 +172,7 @@ lookup-le-max : (test : Vec ℕ → Bool) (es : List (Vec ℕ × ℕ)) (a : ℕ)
     → unwrap_or (lookup test es) 0 ≤ fold max a (values_of es)
 lookup-le-max test [] a = omega arith
 lookup-le-max test (e ∷ es) a =
-    let most : ℕ = fold max (max a e.1) (values_of es) in
-    elim (test e.0) as (λ b. unwrap_or (cond b (Some e.1) (lookup test es)) 0 ≤ most) [
-      | true ↦ omega (arith, le-fold_max (max a e.1) (values_of es))
-      | false ↦ lookup-le-max test es (max a e.1)
-    ]
+    grind (arith, le-fold_max, lookup-le-max test es (max a e.1))
 
 -- the greatest of an entry's votes is the largest number of equal proposals
 pub most_counted : (es : List (Vec ℕ × ℕ)) (cast : List (List ℕ)) → IsDistinct same_key (keys_of es)

@@ -2,7 +2,7 @@
 use Rattle.std.proofs.Common.{◌≡◌, ℕ, ◌<◌, ◌≤◌, Bool, true, List, length, get_or, nat_lt, refl, sym, ap, ◌∙◌, arith}
 use Rattle.cut_outcome.proofs.Words.{◌&&◌, range_with_len, list_any, Edge, set_of, is_edge, edge_number, Layout}
 use Rattle.cut_outcome.proofs.Words.{observer_of, Delivery, Source, key_at, all_deliveries, copies_of, delivery_place}
-use Rattle.cut_outcome.proofs.Words.{compare_deliveries, delivery_rank, early, Assignment, alerts_about, is_alerted}
+use Rattle.cut_outcome.proofs.Words.{compare_deliveries, delivery_rank, early, Assignment, alerts_about}
 use Rattle.cut_outcome.proofs.Words.{alert_list, all_edges, edges_of, Grows}
 use Rattle.std.proofs.lemmas.Bool.{and_from, and_parts, eq-eqb, eqb-true, lt-ltb, ltb-true}
 use Rattle.std.proofs.lemmas.Cmp.{nat_cmp_total, then_total, on_total}
@@ -31,11 +31,7 @@ pub listed : (r : Layout) (a : Assignment) (k ring s : ℕ)
     → set_of (alert_list r a k) ring s
     ≡ (alerts_about a (observer_of r ring s) s && set_of (all_edges k r.nodes) ring s)
 listed r a k ring s =
-    any-filter_same (λ e. is_edge ring s e) (λ e. is_alerted r a e) (alerts_about a (observer_of r ring s) s)
-    (λ e is. (let same = and_parts _ _ is in
-    ap (λ x. alerts_about a (observer_of r x e.subject) e.subject) (eqb-true _ _ same.0)
-    ∙ ap (λ y. alerts_about a (observer_of r ring y) y) (eqb-true _ _ same.1)))
-    (all_edges k r.nodes)
+    grind (arith, any-filter_same, eqb-true)
 
 pub listed_is_raised : (r : Layout) (a : Assignment) (k ring s : ℕ)
     → set_of (alert_list r a k) ring s ≡ true → alerts_about a (observer_of r ring s) s ≡ true

@@ -1,5 +1,5 @@
 -- One trial: its numbers are its outcome once its parts are those of the plan, and they are possible ones.
-use Rattle.std.proofs.Common.{◌≡◌, ℕ, ◌+◌, ◌-◌, ◌*◌, ◌/◌, ◌^◌, ◌<◌, ◌≤◌, min, Bool, true, cond, List, [], ◌∷◌, ◌++◌}
+use Rattle.std.proofs.Common.{◌≡◌, ℕ, ◌+◌, ◌-◌, ◌*◌, ◌/◌, ◌^◌, ◌<◌, ◌≤◌, min, Bool, true, List, [], ◌∷◌, ◌++◌}
 use Rattle.std.proofs.Common.{Option, Some, None, option_map, get_or, map, length, refl, sym, ap, ◌∙◌, arith, nat_le}
 use Rattle.cut_outcome.proofs.Words.{Contains, IfSome, count_by, slice_get, early, rule_of, Cell, Values, IsPlan}
 use Rattle.cut_outcome.proofs.Words.{cells_of, deliveries_at, largest, trial_count, Edge, Layout, Source, source_of}
@@ -16,7 +16,7 @@ use Rattle.std.proofs.lemmas.List.Sums.{count_by-le-length, sum_by_push}
 use Rattle.std.proofs.lemmas.Option.{get_or_from_slice_get}
 use mir.Val.{bool_byte}
 use Rattle.cut_lists.proofs.Counts.{counts-apart}
-use Rattle.cut_outcome.proofs.FastRound.{byte_of, cast_or_silent, few_cast, few_votes_cast, most_votes_are_most}
+use Rattle.cut_outcome.proofs.FastRound.{cast_or_silent, few_cast, few_votes_cast, most_votes_are_most}
 use Rattle.cut_outcome.proofs.FastRound.{one_if-le, quorum_of_votes}
 use Rattle.cut_outcome.proofs.Places.{IsPlacedBy, few_deliveries, placed, places_from, places_within, settled_by}
 use Rattle.cut_outcome.proofs.Roles.{receivers_are_the_rest}
@@ -48,8 +48,7 @@ cell_read v t i c at place = sym (get_or_from_slice_get (cells_of v) i c no_cell
 -- the cell of a trial is one of the plan's
 pub cell_listed : (v : Values) (t : ℕ) → IsPlan v → t < trial_count v → Contains (cells_of v) (cell_at v t)
 cell_listed v t plan inside =
-    Contains-get_or (cells_of v) (t / v.repeats) no_cell
-    (div_below t v.repeats (length (cells_of v)) (omega (arith, plan.some_repeats)) inside)
+    grind (arith, Contains-get_or, div_below)
 
 -- a count with one receiver more
 pub count_more : (p : Option Proposal → Bool) (ps : List (Option Proposal)) (x : Option Proposal)
@@ -57,10 +56,7 @@ pub count_more : (p : Option Proposal → Bool) (ps : List (Option Proposal)) (x
     → length ps < 2 ^ 32 → old ≡ count_by p ps → b ≡ p x → n ≡ bool_byte b
     → r ≡ min (old + n) 18446744073709551615 → r ≡ count_by p (ps ++ x ∷ [])
 count_more p ps x b old n r few was same one is =
-    let bit : cond {A = ℕ} b 1 0 ≡ cond (p x) 1 0 = ap (λ d. cond {A = ℕ} d 1 0) same in
-    let all = count_by-le-length p (ps ++ x ∷ []) in
-    let more = sum_by_push (λ y. cond (p y) 1 0) ps x in
-    omega (arith, few, was, one, is, bit, all, more, byte_of b, length_push ps x)
+    grind (arith, count_by-le-length, sum_by_push)
 
 -- a sum of places with one more, of fewer receivers than would make it more than 64 bits hold
 pub record PlacesMore (ps : List (Option Proposal)) (x : Option Proposal) (r : ℕ) : Type 0 where
@@ -71,12 +67,7 @@ pub places_more : (ps : List (Option Proposal)) (x : Option Proposal) (old n r :
     → length ps < 2 ^ 32 → old ≡ sum_by place_of ps → old ≤ (2 ^ 32 - 1) * length ps → n < 2 ^ 32 → n ≡ place_of x
     → r ≡ min (old + n) 18446744073709551615 → PlacesMore ps x r
 places_more ps x old n r few was low small same is =
-    let more = sum_by_push place_of ps x in
-    let longer = length_push ps x in
-    record {
-      sum = omega (arith, few, was, low, small, same, is, more);
-      few = omega (arith, few, was, low, small, same, is, longer);
-    }
+    grind (arith, sum_by_push, length_push)
 
 -- the same, as a plan's version asks for places
 pub record SettledMore (version : Version) (ps : List (Option Proposal)) (x : Option Proposal) (r : ℕ) : Type 0 where
@@ -87,10 +78,7 @@ pub settled_more : (version : Version) (ps : List (Option Proposal)) (x : Option
     → length ps < 2 ^ 32 → old ≡ settled_of version ps → old ≤ (2 ^ 32 - 1) * length ps → n < 2 ^ 32
     → IsPlaced version n x → r ≡ min (old + place_for version n) 18446744073709551615
     → SettledMore version ps x r
-settled_more One ps x old n r few was low small placed is = record {
-  sum = omega (arith, was, is);
-  few = omega (arith, was, is);
-}
+settled_more One ps x old n r few was low small placed is = grind arith
 settled_more Two ps x old n r few was low small placed is =
     let more = places_more ps x old n r few was low small (sym placed) is in
     record { sum = more.sum; few = more.few }

@@ -41,11 +41,7 @@ few_edges r a k =
 pub few_deliveries : (r : Layout) (a : Assignment) (k copies : ℕ)
     → length (all_deliveries (alert_list r a k) copies) ≤ r.nodes * k * copies
 few_deliveries r a k copies =
-    let edges : List Edge = alert_list r a k in
-    let all = rw (length-range_with_len 0 copies)
-    at (length-flat_map-le (λ c. copies_of edges c) (length edges) (range_with_len 0 copies)
-    (λ i c _. few_of_copy edges _)) in
-    omega (arith, all, mul-le (length edges) copies (r.nodes * k) copies (few_edges r a k) (omega arith))
+    grind (arith, length-range_with_len 0 copies, length-flat_map-le, few_of_copy, few_edges r a k)
 
 -- ---- the place of a proposal
 
@@ -84,10 +80,7 @@ one_more : (a : Assignment) (m : ℕ) (o : Option Proposal) (ps : List (Option P
     → LiesWithin (length (o ∷ ps) - count_by (is_silent a) (o ∷ ps)) m (sum_by place_of (o ∷ ps))
 one_more a m None ps here rest =
     let silent = sum_by-cons (λ x. cond (is_silent a x) 1 0) None ps in
-    let sum = sum_by-cons place_of None ps in
-    let same : length (None ∷ ps) - count_by (is_silent a) (None ∷ ps) ≡ length ps - count_by (is_silent a) ps =
-    omega (arith, silent) in
-    rw (same, sum) (record { low = omega (arith, rest.low); high = omega (arith, rest.high) })
+    grind arith
 one_more a m (Some p) ps here rest =
     let n : ℕ = length ps - count_by (is_silent a) ps in
     let silent = sum_by-cons (λ x. cond (is_silent a x) 1 0) (Some p) ps in
@@ -101,8 +94,7 @@ pub places_within : (a : Assignment) (m : ℕ) (ps : List (Option Proposal)) →
     → LiesWithin (length ps - count_by (is_silent a) ps) m (sum_by place_of ps)
 places_within a m [] each = record { low = omega arith; high = omega arith }
 places_within a m (o ∷ ps) each =
-    one_more a m o ps (All-head (λ o. IsPlacedBy m o) o ps each)
-    (places_within a m ps (All-tail (λ o. IsPlacedBy m o) o ps each))
+    search (arith, one_more, All-head, All-tail, places_within a m ps)
 
 one_more_from : (a : Assignment) (b : ℕ) (o : Option Proposal) (ps : List (Option Proposal))
     → IfSome o (λ p. b ≤ p.at)
@@ -110,10 +102,7 @@ one_more_from : (a : Assignment) (b : ℕ) (o : Option Proposal) (ps : List (Opt
     → b * (length (o ∷ ps) - count_by (is_silent a) (o ∷ ps)) ≤ sum_by place_of (o ∷ ps)
 one_more_from a b None ps here rest =
     let silent = sum_by-cons (λ x. cond (is_silent a x) 1 0) None ps in
-    let sum = sum_by-cons place_of None ps in
-    let same : length (None ∷ ps) - count_by (is_silent a) (None ∷ ps) ≡ length ps - count_by (is_silent a) ps =
-    omega (arith, silent) in
-    rw (same, sum) (omega (arith, rest))
+    grind arith
 one_more_from a b (Some p) ps here rest =
     let n : ℕ = length ps - count_by (is_silent a) ps in
     let silent = sum_by-cons (λ x. cond (is_silent a x) 1 0) (Some p) ps in
@@ -127,8 +116,7 @@ pub places_from : (a : Assignment) (b : ℕ) (ps : List (Option Proposal)) → A
     → b * (length ps - count_by (is_silent a) ps) ≤ sum_by place_of ps
 places_from a b [] each = rw (mul-zero b) (omega arith)
 places_from a b (o ∷ ps) each =
-    one_more_from a b o ps (All-head (λ o. IfSome o (λ (p : Proposal). b ≤ p.at)) o ps each)
-    (places_from a b ps (All-tail (λ o. IfSome o (λ (p : Proposal). b ≤ p.at)) o ps each))
+    search (arith, one_more_from, All-head, All-tail, places_from a b ps)
 
 -- ---- what a plan of either version has of it
 
@@ -136,10 +124,6 @@ pub settled_by : (version : Version) (ps : List (Option Proposal)) (n m most : �
     → LiesWithin n m (sum_by place_of ps) → m ≤ most → IsSettledBy version n most (settled_of version ps)
 settled_by One ps n m most is few = refl
 settled_by Two ps n m most is few = (is.low, omega (arith, is.high, mul-le n m n most (omega arith) few))
-
-pub none_settled : (version : Version) (most : ℕ) → IsSettledBy version 0 most 0
-none_settled One most = refl
-none_settled Two most = (omega arith, omega arith)
 
 -- the sums over two lists of trials, added up
 pub settled_more : (version : Version) (n m both most a b : ℕ) → both ≡ n + m → IsSettledBy version n most a

@@ -1,5 +1,5 @@
 -- Sums over trials: one trial more, parts, and what the sums over trials of one cell can be.
-use Rattle.std.proofs.Common.{◌≡◌, ℕ, ◌+◌, ◌-◌, ◌*◌, ◌≤◌, List, [], ◌∷◌, ◌++◌, length, sym, ap, ◌∙◌, arith, zero-mul}
+use Rattle.std.proofs.Common.{◌≡◌, ℕ, ◌+◌, ◌-◌, ◌*◌, ◌≤◌, List, [], ◌∷◌, ◌++◌, length, sym, ap, ◌∙◌, arith}
 use Rattle.std.proofs.Common.{suc-mul, mul-zero, mul-add}
 use Rattle.cut_outcome.proofs.Words.{All, IsTrue, range_with_len, Cell, Values, IsPlan, Piece, Totals, cell_at, outcome}
 use Rattle.cut_outcome.proofs.Words.{each_number, plus, sum_of, is_piece, IsAtMost, AreByVotes, ArePossible, quorum_of}
@@ -10,7 +10,7 @@ use Rattle.std.proofs.lemmas.Nat.{mul-le}
 use Rattle.cut_lists.proofs.Ranges.{range_with_len_more, ranges-join, All-range_with_len}
 use Rattle.cut_outcome.proofs.Outcomes.{by_votes, possible_outcome}
 use Rattle.cut_outcome.proofs.Pieces.{piece_facts}
-use Rattle.cut_outcome.proofs.Places.{none_settled, settled_few, settled_more}
+use Rattle.cut_outcome.proofs.Places.{settled_few, settled_more}
 use Rattle.cut_plan.specs.Failing.{version_of}
 
 same_numbers : (f g : (Totals → ℕ) → ℕ) → ((x : Totals → ℕ) → f x ≡ g x) → each_number f ≡ each_number g
@@ -20,8 +20,7 @@ same_numbers f g same = ap (λ (h : (Totals → ℕ) → ℕ). each_number h) (�
 pub sum_more : (v : Values) (first n t : ℕ) → first + n ≡ t
     → sum_of v (range_with_len first (n + 1)) ≡ plus (sum_of v (range_with_len first n)) (outcome v t)
 sum_more v first n t e =
-    ap (λ ts. sum_of v ts) (range_with_len_more first n t e)
-    ∙ same_numbers _ _ (λ x. sum_by_push (λ s. x (outcome v s)) (range_with_len first n) t)
+    grind (arith, range_with_len_more first n t e, sum_by_push)
 
 pub sums_add_up : (v : Values) (xs ys : List ℕ) → sum_of v (xs ++ ys) ≡ plus (sum_of v xs) (sum_of v ys)
 sums_add_up v xs ys = same_numbers _ _ (λ x. sum_by-append (λ t. x (outcome v t)) xs ys)
@@ -36,17 +35,7 @@ parts_add_up v first m n = ap (λ ts. sum_of v ts) (sym (ranges-join first m n))
 
 pub trials_possible : (v : Values) (c : Cell) (ts : List ℕ) → All (λ t. cell_at v t ≡ c) ts
     → ArePossible v c (length ts) (sum_of v ts)
-trials_possible v c [] same = record {
-  counted = record {
-    receivers = sym (zero-mul (v.nodes - c.f));
-    conflicts = omega arith;
-    extra = omega arith;
-    votes = omega arith;
-    decided = omega arith;
-    right = omega arith;
-  };
-  settled = none_settled (version_of v.failing) (v.nodes * c.k * v.copies);
-}
+trials_possible v c [] same = grind arith
 trials_possible v c (t ∷ ts) same =
     let here : cell_at v t ≡ c = All-head (λ s. cell_at v s ≡ c) t ts same in
     let one = rw here at (possible_outcome v t) in

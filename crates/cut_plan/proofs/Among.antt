@@ -1,7 +1,7 @@
 -- What is in a list, and lists in order, by recursion.
 use Rattle.std.proofs.Common.{◌≡◌, ℕ, zero, suc, ◌<◌, ◌⊎◌, inl, inr, List, [], ◌∷◌, ◌++◌, map, length, get_or, Bool}
-use Rattle.std.proofs.Common.{true, false, cond, nat_lt, refl, ap, arith}
-use Rattle.std.proofs.lemmas.Bool.{and_parts, ltb-true}
+use Rattle.std.proofs.Common.{true, false, cond, refl, ap, arith}
+use Rattle.std.proofs.lemmas.Bool.{and_parts}
 use Rattle.std.specs.Bool.{⊤}
 use Rattle.std.specs.List.{AllByRecursion, AllPairs, Contains, flat_map}
 use Rattle.cut_plan.specs.Plan.{is_rising}
@@ -93,19 +93,12 @@ pub rising_ascends : (xs : List ℕ) → is_rising xs ≡ true → IsAscending (
 rising_ascends [] h = tt
 rising_ascends (x ∷ []) h = (tt, tt)
 rising_ascends (x ∷ y ∷ rest) h =
-    let parts = and_parts (nat_lt x y) (is_rising (y ∷ rest)) h in
-    let first : x < y = ltb-true x y parts.0 in
-    let later = rising_ascends (y ∷ rest) parts.1 in
-    ((first, every-weaker (λ z. y < z) (λ z. x < z) (λ z lt. omega arith) rest later.0), later)
+    grind (arith, and_parts, every-weaker, rising_ascends (y ∷ rest))
 
 ascending-append : {X : Type 0} (R : X → X → Type 0) (xs ys : List X) → IsAscending R xs → IsAscending R ys
     → AllByRecursion (λ x. AllByRecursion (R x) ys) xs → IsAscending R (xs ++ ys)
 ascending-append R [] ys h k across = k
-ascending-append R (x ∷ xs) ys h k across = (
-  every-append (R x) xs ys h.0 across.0,
-  ascending-append R xs ys h.1 k
-      across.1,
-)
+ascending-append R (x ∷ xs) ys h k across = grind (arith, every-append, ascending-append R xs ys h.1 k across.1)
 
 later-map : {X Y : Type 0} (R : X → X → Type 0) (S : Y → Y → Type 0) (f : X → Y) → ((x y : X) → R x y → S (f x) (f y))
     → (x : X) (ys : List X) → AllByRecursion (R x) ys → AllByRecursion (S (f x)) (map f ys)

@@ -1,5 +1,5 @@
 -- The canonical text of a plan reads as the JSON value that was built of it.
-use Rattle.std.proofs.Common.{◌≡◌, ◌≤◌, List, [], ◌∷◌, Some, option_map, option_and_then, sym, ap, ◌∙◌, arith}
+use Rattle.std.proofs.Common.{◌≡◌, ◌≤◌, List, [], ◌∷◌, Some, option_and_then, sym, ap, ◌∙◌, arith}
 use Rattle.std.proofs.Common.{append-nil, refl}
 use Rattle.std.specs.List.{fold}
 use Rattle.json.specs.Json as json
@@ -7,7 +7,7 @@ use Rattle.json.specs.Print.{print}
 use Rattle.json.specs.Tree.{json_tokens, HasNumbers, MembersHaveNumbers, depth, members_depth}
 use Rattle.json.proofs.Printed.Tokens.{tokens-print}
 use Rattle.json.proofs.Printed.Trees.{ArePrintable-json_tokens, value-json_tokens}
-use Rattle.serde_json.specs.Data.{Data, Members, no_members, object, put}
+use Rattle.serde_json.specs.Data.{Data, Members, put}
 use Rattle.serde_json.specs.Read.{of_json, of_members, read}
 use Rattle.serde_json.specs.Written.{outline, members_outline}
 use Rattle.serde_json.proofs.Texts.{print-outline}
@@ -43,9 +43,7 @@ members_shallow : (v : Values) (fields : List Field) → AreTame v fields
     → members_depth (members_outline (members_with v fields)) ≤ 1
 members_shallow v [] tame = omega arith
 members_shallow v (field ∷ fields) tame =
-    let first = tame.0.shallow in
-    let rest = members_shallow v fields tame.1 in
-    omega (arith, first, rest)
+    grind (arith, members_shallow v fields tame.1)
 
 members_read : (v : Values) (fields : List Field) (found : Members) → AreTame v fields
     → of_members (members_outline (members_with v fields)) found
@@ -62,14 +60,12 @@ data_numbers v plan = members_numbers v (fields_of (version_of v.failing)) (all_
 data_shallow : (v : Values) → IsPlan v → depth (outline (data_of v)) ≤ 127
 unfolding data_of
 data_shallow v plan =
-    let shallow = members_shallow v (fields_of (version_of v.failing)) (all_tame v plan) in
-    omega (arith, shallow)
+    grind (arith, members_shallow, all_tame)
 
 data_reads : (v : Values) → IsPlan v → of_json (outline (data_of v)) ≡ Some (data_of v)
 unfolding data_of
 data_reads v plan =
-    ap (option_map object) (members_read v (fields_of (version_of v.failing)) no_members (all_tame v plan))
-    ∙ ap Some (with_own_fields v)
+    grind (arith, members_read, all_tame, with_own_fields)
 
 pub canonical_reads : (v : Values) → IsPlan v → read (canonical_text v) ≡ Some (data_of v)
 unfolding canonical_text data_of

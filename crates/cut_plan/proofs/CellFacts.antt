@@ -7,7 +7,7 @@ use Rattle.cut_plan.specs.declared.cell.Cell.{Cell}
 use Rattle.cut_plan.specs.Values.{Values}
 use Rattle.cut_plan.specs.Cells.{cells_at, cells_of, largest, IsCellOf}
 use Rattle.cut_plan.specs.Plan.{IsPlan}
-use Rattle.cut_plan.proofs.Every.{every-map, every-flat_map, every-cond, every-always, every-list_all, every-both}
+use Rattle.cut_plan.proofs.Every.{every-map, every-flat_map, every-always, every-list_all, every-both}
 use Rattle.cut_plan.proofs.Every.{every-get_or, every_below_fold}
 
 abbrev IsFailedCount : Values → ℕ → Type 0
@@ -26,22 +26,7 @@ lows v plan = every-list_all (λ x. nat_le 1 x && nat_le x 32) (λ l. 1 ≤ l)
 cells_at-every : (v : Values) → IsPlan v → (k h l : ℕ) → k ≤ largest v.k → 1 ≤ l
     → AllByRecursion (IsCellOf v) (cells_at v.f k h l)
 cells_at-every v plan k h l top low =
-    every-cond (IsCellOf v) (nat_le l h && nat_le h k) _ (λ e.
-    let parts = and_parts (nat_le l h) (nat_le h k) e in
-    let below : l ≤ h = leb-true l h parts.0 in
-    let within : h ≤ k = leb-true h k parts.1 in
-    let fit = plan.faults_fit in
-    every-map (IsFailedCount v) (IsCellOf v) _ (λ f c.
-    let small : f < v.nodes = c.0 in
-    let under : f ≤ largest v.f = c.1 in
-    record {
-      low = low;
-      thresholds = below;
-      rings = within;
-      most_rings = top;
-      faults_fit = omega arith;
-      one_left = small;
-    }) v.f (failed_counts v plan))
+    grind (arith, every-map (IsFailedCount v) (IsCellOf v), failed_counts v plan)
 
 pub every-cells : (v : Values) → IsPlan v → AllByRecursion (IsCellOf v) (cells_of v)
 every-cells v plan =
@@ -54,6 +39,4 @@ every-cells v plan =
 pub cell-facts : (v : Values) (i : ℕ) (c : Cell) (cells : List Cell) → IsPlan v → cells ≡ cells_of v → i
     < length (cells_of v) → c ≡ get_or cells i c → IsCellOf v c
 cell-facts v i c cells plan same within found =
-    let known : IsCellOf v (get_or (cells_of v) i c) = every-get_or (IsCellOf v) (cells_of v) i c (every-cells v plan)
-    within in
-    rw (found, same) known
+    grind (arith, every-get_or, every-cells)

@@ -1,7 +1,6 @@
 -- What the checks on an object's fields show.
 use Rattle.std.proofs.Common.{◌≡◌, ℕ, ◌≤◌, ◌<◌, ◌&&◌, List, [], ◌∷◌, Bool, true, false, not, nat_lt, nat_le}
-use Rattle.std.proofs.Common.{Option, None, Some, Result, Ok, Err, if◌then◌else◌, refl, arith}
-use Rattle.std.proofs.lemmas.Bool.{and_parts, ltb-true, leb-true, lt-ltb}
+use Rattle.std.proofs.Common.{Option, None, Some, Result, Ok, Err, refl, arith}
 use Rattle.std.specs.List.{AllByRecursion, list_all, find}
 use Rattle.std.specs.Option.{option_map_or}
 use Rattle.serde_json.specs.Data.{Data}
@@ -15,7 +14,6 @@ use Rattle.cut_plan.specs.Accepted.{is_in_scale, wanted, each, field_check}
 use Rattle.cut_fields.specs.Members.{is_present, is_of_kind, version_in}
 use Rattle.cut_plan.specs.inside.Accepted.{is_in_range, has_some, rises_at}
 use Rattle.cut_plan.specs.inside.Accepted.{checks_by}
-use Rattle.cut_plan.specs.Plan.{is_within}
 use Rattle.cut_plan.specs.inside.Look.{AreBelow}
 use Rattle.cut_plan.proofs.Versions.{has, every_field}
 
@@ -29,17 +27,11 @@ no_fault_at : {A : Type 0} (o : Option Field) (fault : Field → Refusal) (later
 no_fault_at None fault later x h = (refl, h)
 no_fault_at (Some field) fault later x h = cc h
 
-find_cons : (holds : Field → Bool) (b : Bool) (field : Field) (rest : Option Field)
-    → (if not b then Some field else rest) ≡ None → (b ≡ true) × (rest ≡ None)
-find_cons holds true field rest h = (refl, h)
-find_cons holds false field rest h = cc h
-
 find_none : (holds : Field → Bool) (fields : List Field) → find (λ field. not (holds field)) fields ≡ None
     → AllByRecursion (λ field. holds field ≡ true) fields
 find_none holds [] h = tt
 find_none holds (field ∷ fields) h =
-    let parts = find_cons holds (holds field) field _ h in
-    (parts.0, find_none holds fields parts.1)
+    grind (arith, find_none holds fields)
 
 each_ok : {A : Type 0} (version : Version) (holds : Field → Bool) (fault : Field → Refusal) (later : Result A Refusal)
     (x : A) → each version holds fault later ≡ Ok x
@@ -58,12 +50,7 @@ pub record IsChecked (version : Version) (d : Data) : Type 0 where
 facts_by : (version : Version) (d : Data) → checks_by version d ≡ Ok tt → IsChecked version d
 unfolding checks_by
 facts_by version d h =
-    let named = wanted_ok _ _ _ tt h in
-    let present = each_ok version (is_present d) _ _ tt named.1 in
-    let kinds = each_ok version (is_of_kind d) _ _ tt present.1 in
-    let ranges = each_ok version (is_in_range d) _ _ tt kinds.1 in
-    let rises = each_ok version (rises_at d) _ _ tt ranges.1 in
-    record { present = present.0; kinds = kinds.0; ranges = ranges.0; rises = rises.0 }
+    grind (arith, each_ok)
 
 pub checked_facts : (d : Data) → field_check d ≡ Ok tt → IsChecked (version_in d) d
 unfolding field_check checks_by
@@ -72,27 +59,22 @@ checked_facts d h = facts_by (version_in d) d (wanted_ok _ _ _ tt h).1
 -- a number within bounds
 pub within_bounds : (low high n : ℕ) → (nat_le low n && nat_le n high) ≡ true → (low ≤ n) × (n ≤ high)
 within_bounds low high n h =
-    let parts = and_parts (nat_le low n) (nat_le n high) h in
-    (leb-true low n parts.0, leb-true n high parts.1)
+    grind arith
 
 widened : (p : ℕ → Bool) (bound : ℕ) → ((x : ℕ) → p x ≡ true → x < bound) → (xs : List ℕ) → list_all p xs ≡ true
     → AreBelow bound xs
 widened p bound small [] h = refl
 widened p bound small (x ∷ xs) h =
-    let parts = and_parts (p x) (list_all p xs) h in
-    let first : nat_lt x bound ≡ true = lt-ltb x bound (small x parts.0) in
-    rw first (widened p bound small xs parts.1)
+    grind (arith, widened p bound small xs)
 
 pub scale_bytes : (xs : List ℕ) → is_in_scale xs ≡ true → AreBelow 256 xs
 scale_bytes xs h =
-    widened (λ x. nat_le 1 x && nat_le x 32) 256 (λ x e. let b = within_bounds 1 32 x e in let top : x ≤ 32 = b.1
-    in omega arith) xs (and_parts (has_some xs) (list_all (is_within 1 32) xs) h).1
+    grind (arith, widened)
 
 pub failed_shorts : (bound : ℕ) (xs : List ℕ) → bound ≤ 2048 → (has_some xs && list_all (λ f. nat_lt f bound) xs) ≡ true
     → AreBelow 65536 xs
 failed_shorts bound xs few h =
-    widened (λ f. nat_lt f bound) 65536 (λ x e. let lt = ltb-true x bound e in omega arith) xs
-    (and_parts (has_some xs) (list_all (λ f. nat_lt f bound) xs) h).1
+    grind (arith, widened)
 
 pub few_nodes : (d : Data) → field_check d ≡ Ok tt → (2 ≤ number_at d Nodes) × (number_at d Nodes ≤ 2048)
 few_nodes d h = within_bounds 2 2048 (number_at d Nodes) ((checked_facts d h).ranges Nodes refl)

@@ -50,6 +50,4 @@ every-get_or P (y ∷ ys) (suc i) d h lt = every-get_or P ys i d h.1 (omega arit
 pub every_below_fold : (a : ℕ) (xs : List ℕ) → (a ≤ fold max a xs) × AllByRecursion (λ x. x ≤ fold max a xs) xs
 every_below_fold a [] = (omega arith, tt)
 every_below_fold a (x ∷ xs) =
-    let h = every_below_fold (max a x) xs in
-    let top : max a x ≤ fold max (max a x) xs = h.0 in
-    (omega arith, (omega arith, h.1))
+    grind (arith, every_below_fold (max a x) xs)

@@ -8,15 +8,13 @@ use Rattle.cut_fields.specs.declared.field.Field.{Field}
 use Rattle.cut_fields.specs.declared.field.Field.TheVariants as field
 use Rattle.cut_plan.specs.declared.dead.Dead.{Dead}
 use Rattle.cut_plan.specs.declared.dead.Dead.TheVariants.{Silent, Speak}
-use Rattle.cut_plan.specs.declared.faults.Faults.{Faults}
-use Rattle.cut_plan.specs.declared.faults.Faults.TheVariants.{Crash, Deaf}
 use Rattle.cut_plan.specs.declared.failing.Failing.{Failing}
 use Rattle.cut_plan.specs.declared.failing.Failing.TheVariants.{Alike, Mixed}
 use Rattle.cut_fields.specs.Versions.{version_by}
 use Rattle.cut_plan.specs.Failing.{version_of}
 use Rattle.cut_plan.specs.Values.{Values}
 use Rattle.cut_plan.specs.Plan.{IsPlan}
-use Rattle.cut_plan.specs.Words.{dead_of, faults_of, dead_word, faults_word}
+use Rattle.cut_plan.specs.Words.{dead_of, dead_word}
 use Rattle.cut_fields.specs.Fields.{fields_of, member_at, number_in, numbers_in}
 use Rattle.cut_plan.specs.Accepted.{values_at}
 use Rattle.cut_fields.specs.Members.{version_in}
@@ -52,10 +50,6 @@ pub dead_back : (dead : Dead) → dead_of (dead_word dead) ≡ Some dead
 dead_back Silent = refl
 dead_back Speak = refl
 
-pub faults_back : (faults : Faults) → faults_of (faults_word faults) ≡ Some faults
-faults_back Crash = refl
-faults_back Deaf = refl
-
 are_bytes : (xs : List ℕ) → list_all (λ b. nat_lt b 256) xs ≡ true → IsBytes xs
 are_bytes [] h i = omega arith
 are_bytes (x ∷ xs) h zero = ltb-true x 256 (and_parts (nat_lt x 256) _ h).0
@@ -69,24 +63,9 @@ seed_back v plan = decode_sized-encode_lower v.seed 32 plan.seed_length (are_byt
 pub version_back : (v : Values) → version_in (data_of v) ≡ version_of v.failing
 version_back v = ap (λ at. version_by (number_in (at field.Version))) (shown v) ∙ version_shown (version_of v.failing)
 
-failing_shown : (failing : Failing) (v : Values) → (values_at (said (with_failing v failing))).failing ≡ failing
-failing_shown (Alike faults) v = rw (faults_back faults) refl
-failing_shown (Mixed deaf) v = refl
-
-failing_back : (v : Values) → (values_at (said v)).failing ≡ v.failing
-failing_back v = failing_shown v.failing v
-
 values_shown : (v : Values) → IsPlan v → values_at (said v) ≡ v
 values_shown v plan =
-    rw (
-      dead_back v.dead,
-      numbers_back v.f,
-      failing_back v,
-      numbers_back v.h,
-      numbers_back v.k,
-      numbers_back v.l,
-      seed_back v plan,
-    ) refl
+    grind (arith, numbers_back, seed_back)
 
 pub values_back : (v : Values) → IsPlan v → values_in (data_of v) ≡ v
 values_back v plan = ap values_at (shown v) ∙ values_shown v plan

@@ -1,15 +1,14 @@
 -- Short texts in UTF-8: of a number, of a list of numbers, and in quotes.
 use Rattle.std.proofs.Common.{◌≡◌, ℕ, ◌^◌, ◌+◌, ◌*◌, ◌≤◌, ◌<◌, List, [], ◌∷◌, ◌++◌, map, length, length-append, Bool}
-use Rattle.std.proofs.Common.{true, false, ◌&&◌, cond, nat_lt, nat_le, decimal, refl, arith}
-use Rattle.std.proofs.lemmas.Bool.{and_parts, ltb-true, leb-true}
+use Rattle.std.proofs.Common.{true, false, ◌&&◌, nat_lt, nat_le, decimal, refl, arith}
 use Rattle.std.proofs.lemmas.Fmt.{IsAscii-decimal, length-decimal-le}
 use Rattle.std.proofs.lemmas.Str.{IsUtf8-append, IsUtf8-from_ascii}
-use Rattle.std.proofs.lemmas.Str.Ascii.{IsAscii-nil, IsAscii-cons}
+use Rattle.std.proofs.lemmas.Str.Ascii.{IsAscii-nil}
 use Rattle.std.specs.List.{AllByRecursion, list_all}
 use Rattle.std.specs.Str.{IsUtf8, IsAscii}
-use Rattle.hex.specs.Hex.{encode_lower, lower_digits}
+use Rattle.hex.specs.Hex.{encode_lower}
 use Rattle.hex.proofs.HexLemmas.{length-encode_with, IsAscii-encode_with}
-use Rattle.json.specs.Print.{escape_byte, escape, quoted, escape_letter}
+use Rattle.json.specs.Print.{escape_byte, escape, quoted}
 use Rattle.json.proofs.Printed.Utf8.{IsUtf8-quoted}
 use Rattle.serde_json.specs.Data.{Items, number, unsigned}
 use Rattle.serde_json.specs.View.{items_of}
@@ -25,17 +24,14 @@ plain_more m n text below plain = let short = plain.short in record { utf8 = pla
 
 pub plain_both : (m n : ℕ) (xs ys : List ℕ) → IsPlain m xs → IsPlain n ys → IsPlain (m + n) (xs ++ ys)
 plain_both m n xs ys first second =
-    let a = first.short in
-    let b = second.short in
-    record { utf8 = IsUtf8-append xs ys first.utf8 second.utf8; short = omega (arith, a, b, length-append xs ys) }
+    grind (arith, IsUtf8-append, length-append)
 
 -- ---- texts that are tested byte by byte
 
 are_ascii : (xs : List ℕ) → list_all (λ x. nat_lt x 128) xs ≡ true → IsAscii xs
 are_ascii [] h = IsAscii-nil
 are_ascii (x ∷ xs) h =
-    let parts = and_parts (nat_lt x 128) _ h in
-    IsAscii-cons x xs (ltb-true x 128 parts.0) (are_ascii xs parts.1)
+    grind (arith, are_ascii xs)
 
 -- whether a text is of ASCII, and has at most this many bytes
 abbrev pub is_plain : ℕ → List ℕ → Bool
@@ -43,8 +39,7 @@ is_plain most xs = list_all (λ x. nat_lt x 128) xs && nat_le (length xs) most
 
 pub plain_tested : (most : ℕ) (xs : List ℕ) → is_plain most xs ≡ true → IsPlain most xs
 plain_tested most xs h =
-    let parts = and_parts (list_all (λ x. nat_lt x 128) xs) (nat_le (length xs) most) h in
-    record { utf8 = IsUtf8-from_ascii xs (are_ascii xs parts.0); short = leb-true (length xs) most parts.1 }
+    grind (arith, IsUtf8-from_ascii, are_ascii)
 
 pub plain_comma : (later : Bool) → IsPlain 1 (comma_if later)
 plain_comma true = plain_tested 1 (comma_if true) refl
@@ -54,45 +49,26 @@ plain_comma false = plain_tested 1 [] refl
 
 pub plain_digits : (bytes : List ℕ) → length bytes ≡ 32 → IsPlain 64 (encode_lower bytes)
 plain_digits bytes len =
-    let whole = length-encode_with lower_digits bytes in
-    record {
-      utf8 = IsUtf8-from_ascii _ (IsAscii-encode_with lower_digits bytes (are_ascii lower_digits refl));
-      short = omega (arith, whole, len);
-    }
+    search (arith, length-encode_with, IsUtf8-from_ascii, IsAscii-encode_with, are_ascii)
 
 pub plain_decimal : (k n : ℕ) → 0 < k → n < 10 ^ k → n < 2 ^ 64 → IsPlain k (decimal n)
-plain_decimal k n some small fits = record {
-  utf8 = IsUtf8-from_ascii (decimal n) (IsAscii-decimal n fits);
-  short = length-decimal-le k n some small fits;
-}
+plain_decimal k n some small fits = grind (arith, IsUtf8-from_ascii, IsAscii-decimal, length-decimal-le)
 
 -- ---- texts in quotes
-
-length_if : (b : Bool) (n : ℕ) (xs ys : List ℕ) → length xs ≤ n → length ys ≤ n → length (cond b xs ys) ≤ n
-length_if true n xs ys h k = h
-length_if false n xs ys h k = k
 
 length_escape_byte : (x : ℕ) → length (escape_byte x) ≤ 6
 unfolding escape_byte
 length_escape_byte x =
-    length_if (nat_lt 0 (escape_letter x)) 6 _ _ (omega arith)
-    (length_if (nat_lt x 32) 6 _ _ (omega arith) (omega arith))
+    grind arith
 
 length_escape : (xs : List ℕ) → length (escape xs) ≤ 6 * length xs
 length_escape [] = omega arith
 length_escape (x ∷ xs) =
-    let first = length_escape_byte x in
-    let rest = length_escape xs in
-    omega (arith, first, rest, length-append (escape_byte x) (escape xs))
+    grind (arith, length_escape_byte, length-append, length_escape xs)
 
 pub plain_quoted : (n : ℕ) (xs : List ℕ) → IsPlain n xs → IsPlain (6 * n + 2) (quoted xs)
 plain_quoted n xs plain =
-    let short = plain.short in
-    let escaped = length_escape xs in
-    record {
-      utf8 = IsUtf8-quoted xs plain.utf8;
-      short = omega (arith, short, escaped, length-append (escape xs) (34 ∷ []));
-    }
+    grind (arith, length_escape, IsUtf8-quoted, length-append)
 
 -- ---- lists of numbers
 

@@ -1,13 +1,13 @@
 -- What is known of a plan whose checks were passed.
-use Rattle.std.proofs.Common.{◌≡◌, ℕ, suc, ◌+◌, ◌≤◌, ◌<◌, ◌&&◌, List, [], ◌∷◌, length, max, Bool, true, false, nat_lt}
-use Rattle.std.proofs.Common.{nat_le, nat_eq, if◌then◌else◌, Result, Ok, Err, refl, sym, subst, ◌∙◌, arith}
-use Rattle.std.proofs.lemmas.Bool.{and_parts, ltb-true, leb-true, lt-ltb}
+use Rattle.std.proofs.Common.{◌≡◌, ℕ, suc, ◌+◌, ◌≤◌, ◌<◌, List, [], ◌∷◌, length, max, Bool, true, false, nat_lt}
+use Rattle.std.proofs.Common.{nat_eq, if◌then◌else◌, Result, Ok, Err, refl, subst, arith}
+use Rattle.std.proofs.lemmas.Bool.{and_parts, ltb-true, lt-ltb}
 use Rattle.std.specs.List.{AllByRecursion, list_all, fold}
 use Rattle.std.specs.Option.{unwrap_or}
 use Rattle.std.specs.Result.{is_ok, result_ok}
 use Rattle.hex.specs.Hex.{decode_sized, IsBytes}
 use Rattle.hex.specs.declared.error.FromHexError.{FromHexError}
-use Rattle.hex.proofs.HexLemmas.{decode_sized-ok, decode_sized-twice, decode_of-ok}
+use Rattle.hex.proofs.HexLemmas.{decode_of-ok}
 use Rattle.serde_json.specs.Data.{Data}
 use Rattle.cut_fields.specs.declared.field.Field.{Field}
 use Rattle.cut_fields.specs.declared.field.Field.TheVariants.{Copies, Deaf, F, Faults, H, K, L, Liars, Links, Nodes}
@@ -25,30 +25,21 @@ use Rattle.cut_plan.specs.inside.Accepted.{has_some, limits, failing_by, values_
 use Rattle.cut_fields.specs.Members.{version_in}
 use Rattle.cut_plan.specs.Cells.{cells_of, largest}
 use Rattle.cut_plan.specs.Values.{Values}
-use Rattle.cut_plan.specs.Plan.{is_within, is_rising, IsScale, IsPlan}
+use Rattle.cut_plan.specs.Plan.{is_rising, IsScale, IsPlan}
 use Rattle.cut_plan.proofs.Every.{every-list_all, every_below_fold}
-use Rattle.cut_plan.proofs.Checked.{IsChecked, checked_facts, wanted_ok, within_bounds}
+use Rattle.cut_plan.proofs.Checked.{IsChecked, checked_facts, within_bounds}
 use Rattle.cut_plan.proofs.Counting.{rising_length}
 
 -- a list of ring numbers or watermarks has at most 32
 pub scale_length : (xs : List ℕ) → is_in_scale xs ≡ true → is_rising xs ≡ true → length xs ≤ 32
 scale_length xs range rises =
-    let all = (and_parts (has_some xs) (list_all (is_within 1 32) xs) range).1 in
-    let below = every-list_all (λ x. nat_le 1 x && nat_le x 32) (λ x. x < 33)
-    (λ x e. let b = within_bounds 1 32 x e in let top : x ≤ 32 = b.1 in omega arith) xs all in
-    let above = every-list_all (λ x. nat_le 1 x && nat_le x 32) (λ x. 1 ≤ x) (λ x e. (within_bounds 1 32 x e).0) xs all
-    in
-    let room = rising_length 1 33 xs rises below above (omega arith) in
-    omega (arith, room)
+    grind (arith, every-list_all, rising_length 1 33 xs rises)
 
 -- a rising list of process numbers has no more than there are processes
 pub failed_length : (nodes : ℕ) (xs : List ℕ) → list_all (λ f. nat_lt f nodes) xs ≡ true → is_rising xs ≡ true
     → length xs ≤ nodes
 failed_length nodes xs all rises =
-    let below = every-list_all (λ f. nat_lt f nodes) (λ f. f < nodes) (λ f e. ltb-true f nodes e) xs all in
-    let above = every-list_all (λ f. nat_lt f nodes) (λ f. 0 ≤ f) (λ f e. omega arith) xs all in
-    let room = rising_length 0 nodes xs rises below above (omega arith) in
-    omega (arith, room)
+    grind (arith, every-list_all, rising_length 0 nodes xs rises)
 
 pub few_h : (d : Data) → field_check d ≡ Ok tt → length (numbers_at d H) ≤ 32
 few_h d h = let known = checked_facts d h in scale_length (numbers_at d H) (known.ranges H refl) (known.rises H refl)
@@ -65,8 +56,7 @@ few_f d h =
     let bounds = within_bounds 2 2048 (number_at d Nodes) (known.ranges Nodes refl) in
     let all = (and_parts (has_some (numbers_at d F)) (list_all (λ f. nat_lt f (number_at d Nodes)) (numbers_at d F))
     (known.ranges F refl)).1 in
-    let short = failed_length (number_at d Nodes) (numbers_at d F) all (known.rises F refl) in
-    omega (arith, short, bounds.1)
+    grind (arith, failed_length (number_at d Nodes) (numbers_at d F) all (known.rises F refl))
 
 -- how targets fail, by the version
 pub failing_by_version : (second : Bool) (at : Field → Data) → failing_by (if second then Two else One) at
@@ -95,30 +85,20 @@ few_links d h = (within_bounds 0 2048 (number_at d Links) ((checked_facts d h).r
 largest_within : (bound a : ℕ) (xs : List ℕ) → a ≤ bound → AllByRecursion (λ x. x ≤ bound) xs → fold max a xs ≤ bound
 largest_within bound a [] small h = small
 largest_within bound a (x ∷ xs) small h =
-    let first : x ≤ bound = h.0 in
-    let both : max a x ≤ bound = omega arith in
-    largest_within bound (max a x) xs both h.1
+    grind (arith, largest_within bound (max a x) xs)
 
 largest_reached : (low : ℕ) (xs : List ℕ) → 0 < length xs → AllByRecursion (λ x. low ≤ x) xs → low ≤ largest xs
 largest_reached low [] some h = absurd (omega arith)
 largest_reached low (x ∷ xs) some h =
-    let first : low ≤ x = h.0 in
-    let top = (every_below_fold (max 0 x) xs).0 in
-    omega (arith, first, top)
+    grind (arith, every_below_fold)
 
 scale_facts : (xs : List ℕ) → is_in_scale xs ≡ true → is_rising xs ≡ true → IsScale xs
 scale_facts xs range rises =
-    let parts = and_parts (has_some xs) (list_all (is_within 1 32) xs) range in
-    record { some = ltb-true 0 (length xs) parts.0; range = parts.1; rising = rises }
+    grind arith
 
 scale_top : (xs : List ℕ) → is_in_scale xs ≡ true → (largest xs ≤ 32) × (1 ≤ largest xs)
 scale_top xs range =
-    let parts = and_parts (has_some xs) (list_all (is_within 1 32) xs) range in
-    let below = every-list_all (λ x. nat_le 1 x && nat_le x 32) (λ x. x ≤ 32) (λ x e. (within_bounds 1 32 x e).1) xs
-    parts.1 in
-    let above = every-list_all (λ x. nat_le 1 x && nat_le x 32) (λ x. 1 ≤ x) (λ x e. (within_bounds 1 32 x e).0) xs
-    parts.1 in
-    (largest_within 32 0 xs (omega arith) below, largest_reached 1 xs (ltb-true 0 (length xs) parts.0) above)
+    grind (arith, every-list_all, largest_within, largest_reached)
 
 ok_value : (r : Result (List ℕ) FromHexError) → is_ok r ≡ true → (bytes : List ℕ) × (r ≡ Ok bytes)
 ok_value (Ok bytes) h = (bytes, refl)
@@ -133,18 +113,12 @@ seed_facts : (text : List ℕ) → is_ok (decode_sized text 32) ≡ true
     × (list_all (λ b. nat_lt b 256) (unwrap_or (result_ok (decode_sized text 32)) []) ≡ true)
 seed_facts text h =
     let found = ok_value (decode_sized text 32) h in
-    let twice = decode_sized-ok text 32 found.0 found.1 in
-    let facts = decode_of-ok text found.0 (sym (decode_sized-twice text 32 twice) ∙ found.1) in
-    let len : length found.0 ≡ 32 = omega (arith, twice, facts.2) in
-    rw found.1 (len, all_bytes found.0 facts.3)
+    grind (arith, decode_of-ok text found.0, all_bytes found.0)
 
 limits_ok : (cells faults nodes : ℕ) → limits cells faults nodes ≡ Ok tt → (0 < cells) × (faults ≤ nodes)
     × (cells ≤ 4096)
 limits_ok cells faults nodes h =
-    let some = wanted_ok (nat_lt 0 cells) _ _ tt h in
-    let fit = wanted_ok (nat_le faults nodes) _ _ tt some.1 in
-    let few = wanted_ok (nat_le cells 4096) _ _ tt fit.1 in
-    (ltb-true 0 cells some.0, leb-true faults nodes fit.0, leb-true cells 4096 few.0)
+    grind arith
 
 counted_facts : (v : Values) → limit_check v ≡ Ok tt → (0 < length (cells_of v))
     × (largest v.f + v.liars + v.links ≤ v.nodes) × (length (cells_of v) ≤ 4096)

@@ -1,7 +1,7 @@
 -- What every plan says in each field of its version: a value that reads back from a short text, and is in range.
-use Rattle.std.proofs.Common.{◌≡◌, ℕ, ◌^◌, ◌≤◌, ◌<◌, List, [], ◌∷◌, length, Bool, true, false, nat_le, nat_lt, ◌&&◌}
+use Rattle.std.proofs.Common.{◌≡◌, ℕ, ◌≤◌, ◌<◌, List, [], ◌∷◌, length, Bool, true, false, nat_le, nat_lt, ◌&&◌}
 use Rattle.std.proofs.Common.{Some, is_some, option_map, unwrap_or, refl, ap, arith}
-use Rattle.std.proofs.lemmas.Bool.{and_from, ltb-true, lt-ltb, le-leb}
+use Rattle.std.proofs.lemmas.Bool.{and_from, lt-ltb, le-leb}
 use Rattle.std.specs.List.{AllByRecursion, list_all}
 use Rattle.json.specs.Tree.{HasNumbers, ItemsHaveNumbers, depth, items_depth}
 use Rattle.json.proofs.Printed.Decimals.{IsNumber-decimal}
@@ -9,7 +9,6 @@ use Rattle.serde_json.specs.Data.{Data, boolean, number, string, array, unsigned
 use Rattle.serde_json.specs.Read.{of_json, of_items}
 use Rattle.serde_json.specs.Written.{outline, items_outline, compact_text, has_float, items_have_float}
 use Rattle.serde_json.proofs.Numbers.{number_of-decimal}
-use Rattle.hex.specs.Hex.{encode_lower}
 use Rattle.cut_fields.specs.declared.kind.Kind.{Kind}
 use Rattle.cut_fields.specs.declared.kind.Kind.TheVariants.{Number, Numbers, Text, Truth}
 use Rattle.cut_fields.specs.declared.field.Field.{Field}
@@ -34,7 +33,6 @@ use Rattle.cut_fields.specs.Fields.{numbers_data}
 use Rattle.cut_plan.specs.Canonical.{failing_data, said}
 use Rattle.cut_plan.proofs.Every.{every-list_all}
 use Rattle.cut_plan.proofs.Versions.{has, all_own}
-use Rattle.cut_plan.proofs.Checked.{within_bounds}
 use Rattle.cut_plan.proofs.PlanFacts.{scale_length, failed_length}
 use Rattle.cut_plan.proofs.Members.{numbers_back, dead_back, seed_back}
 use Rattle.cut_plan.proofs.Plain.{IsPlain, plain_more, plain_tested, plain_digits, plain_decimal, plain_quoted}
@@ -58,9 +56,7 @@ items_shallow (x ∷ xs) = rw (items_shallow xs) refl
 items_read : (xs : List ℕ) → AreSmall xs → of_items (items_outline (items_data xs)) ≡ Some (items_data xs)
 items_read [] small = refl
 items_read (x ∷ xs) small =
-    let first : x < 10000 = small.0 in
-    let fits : x < 2 ^ 64 = omega arith in
-    rw (number_of-decimal x fits, items_read xs small.1) refl
+    grind (arith, number_of-decimal, items_read xs small.1)
 
 no_item_floats : (xs : List ℕ) → items_have_float (items_data xs) ≡ false
 no_item_floats [] = refl
@@ -78,24 +74,11 @@ scale_back xs scale =
 
 scale_short : (xs : List ℕ) → IsScale xs → IsShort xs
 scale_short xs scale =
-    let few = scale_length xs (scale_back xs scale) scale.rising in
-    record {
-      small = every-list_all (λ x. nat_le 1 x && nat_le x 32) (λ x. x < 10000)
-          (λ x e. let b = within_bounds 1 32 x e in let top : x ≤ 32 = b.1 in omega arith) xs scale.range;
-      few = omega (arith, few);
-      rising = scale.rising;
-    }
+    grind (arith, scale_length, every-list_all)
 
 failed_short : (v : Values) → IsPlan v → IsShort v.f
 failed_short v plan =
-    let few = plan.few_nodes in
-    let short = failed_length v.nodes v.f plan.fs plan.fs_rising in
-    record {
-      small = every-list_all (λ f. nat_lt f v.nodes) (λ f. f < 10000)
-          (λ f e. let below = ltb-true f v.nodes e in omega arith) v.f plan.fs;
-      few = omega (arith, few, short);
-      rising = plan.fs_rising;
-    }
+    grind (arith, failed_length v.nodes v.f plan.fs plan.fs_rising, every-list_all)
 
 -- ---- each of the four kinds
 
@@ -118,16 +101,7 @@ pub record IsTame (kind : Kind) (d : Data) : Type 0 where
 
 tame_number : (n : ℕ) → n < 10000000 → IsTame Number (number (unsigned n))
 tame_number n small =
-    let fits : n < 2 ^ 64 = omega arith in
-    record {
-      of_kind = refl;
-      rising = refl;
-      has_numbers = IsNumber-decimal n fits;
-      shallow = omega arith;
-      reads = ap (option_map number) (number_of-decimal n fits);
-      no_float = refl;
-      plain = plain_more 7 400 _ (omega arith) (plain_decimal 7 n (omega arith) small fits);
-    }
+    grind (arith, IsNumber-decimal n, number_of-decimal n, plain_decimal 7 n)
 
 tame_numbers : (xs : List ℕ) → IsShort xs → IsTame Numbers (numbers_data xs)
 tame_numbers xs short = record {
@@ -141,30 +115,14 @@ tame_numbers xs short = record {
 }
 
 tame_text : (bytes : List ℕ) → IsPlain 64 bytes → IsTame Text (string bytes)
-tame_text bytes plain = record {
-  of_kind = refl;
-  rising = refl;
-  has_numbers = tt;
-  shallow = omega arith;
-  reads = refl;
-  no_float = refl;
-  plain = plain_more _ _ _ (omega arith) (plain_quoted 64 bytes plain);
-}
+tame_text bytes plain = grind (arith, plain_quoted 64 bytes plain)
 
 plain_truth : (b : Bool) → IsPlain 400 (compact_text (boolean b))
 plain_truth true = plain_tested 400 _ refl
 plain_truth false = plain_tested 400 _ refl
 
 tame_truth : (b : Bool) → IsTame Truth (boolean b)
-tame_truth b = record {
-  of_kind = refl;
-  rising = refl;
-  has_numbers = tt;
-  shallow = omega arith;
-  reads = refl;
-  no_float = refl;
-  plain = plain_truth b;
-}
+tame_truth b = search (arith, plain_truth)
 
 -- ---- field by field
 
@@ -183,10 +141,7 @@ tame_scale xs scale = (tame_numbers xs (scale_short xs scale), rw (numbers_back 
 tame_failed : (v : Values) → IsPlan v → IsTame Numbers (numbers_data v.f)
     × ((has_some (numbers_in (numbers_data v.f)) && list_all (λ f. nat_lt f v.nodes) (numbers_in (numbers_data v.f)))
     ≡ true)
-tame_failed v plan = (
-  tame_numbers v.f (failed_short v plan),
-  rw (numbers_back v.f) (and_from (has_some v.f) _ (lt-ltb 0 (length v.f) plan.some_f) plan.fs),
-)
+tame_failed v plan = search (arith, tame_numbers, failed_short, numbers_back, and_from, lt-ltb)
 
 tame_dead : (dead : Dead) → IsTame Text (string (dead_word dead))
 tame_dead Silent = tame_text (dead_word Silent) (plain_tested 64 (dead_word Silent) refl)
@@ -224,10 +179,7 @@ tame v plan field.Liars own = tame_within 0 2048 v.liars (omega arith) plan.liar
 tame v plan field.Links own = tame_within 0 2048 v.links (omega arith) plan.links (omega arith)
 tame v plan field.Nodes own = tame_within 2 2048 v.nodes plan.some_nodes plan.few_nodes (omega arith)
 tame v plan field.Repeats own = tame_within 1 1000000 v.repeats plan.some_repeats plan.few_repeats (omega arith)
-tame v plan field.Seed own = (
-  tame_text (encode_lower v.seed) (plain_digits v.seed plan.seed_length),
-  rw (seed_back v plan) refl,
-)
+tame v plan field.Seed own = search (arith, tame_text, plain_digits, seed_back)
 tame v plan field.Version own = tame_version (version_of v.failing)
 
 -- what values say in each of some fields is tame

@@ -1,9 +1,8 @@
 -- Counts of deliveries by the slots of their edges.
-use Rattle.std.proofs.Common.{◌≡◌, ◌∙◌, inl, inr, ℕ, ◌+◌, ◌*◌, ◌^◌, ◌<◌, ◌≤◌, ◌==◌, Bool, nat_lt, nat_le, cond, min}
+use Rattle.std.proofs.Common.{◌≡◌, ◌∙◌, ℕ, ◌+◌, ◌*◌, ◌^◌, ◌<◌, ◌≤◌, ◌==◌, Bool, nat_lt, nat_le, cond}
 use Rattle.std.proofs.Common.{List, [], ◌∷◌, ◌++◌, length, map, take, slice_index, slice_index_or, refl, ap, sym}
 use Rattle.std.proofs.Common.{zero-add, arith}
 use Rattle.std.specs.List.{All, count_by, range_with_len, flat_map}
-use Rattle.std.proofs.lemmas.Bool.{cases_Bool, cases_lt, cases_eq, lt-ltb, le-ltb, eq-eqb, ne_eqb}
 use Rattle.std.proofs.lemmas.Bool.Decides.{nat_tests}
 use Rattle.std.proofs.lemmas.Grind.{flat_map-append}
 use Rattle.std.proofs.lemmas.List.{append-nil, length-map}
@@ -15,7 +14,7 @@ use Rattle.cut_draws.specs.declared.delivery.Delivery.{Delivery}
 use Rattle.cut_draws.specs.DeliveryOrder.{copies_of}
 use Rattle.cut_draws.specs.Source.{Source}
 unfoldable use Rattle.cut_blocks.specs.Images.{least_image}
-use Rattle.cut_blocks.specs.Images.{never, eight, image_at, place_in, row_of, DeliveriesStandInBlocks}
+use Rattle.cut_blocks.specs.Images.{eight, image_at, place_in, row_of, DeliveriesStandInBlocks}
 use Rattle.cut_blocks.specs.Images.{ImagesAreBelowNever}
 use Rattle.cut_arrivals.specs.Hearing.{Hearing, deliveries_of, image_of}
 use Rattle.cut_nodes.specs.declared.slots.Slot.{Slot}
@@ -31,19 +30,12 @@ count_below x copies bound =
 -- one element more
 pub count_more : {X : Type 0} (p : X → Bool) (xs : List X) (n : ℕ) (d : X) → n < length xs
     → count_by p (take (n + 1) xs) ≡ count_by p (take n xs) + cond (p (slice_index_or xs n d)) 1 0
-count_more p xs n d low = elim (cases_Bool (p (slice_index_or xs n d))) [
-  | inl passes ↦ count_by_more_yes p xs n d low passes ∙ ap (λ b. count_by p (take n xs) + cond b 1 0) (sym passes)
-  | inr fails ↦ (
-      let same = count_by_more_no p xs n d low fails in
-      let none : cond {A = ℕ} (p (slice_index_or xs n d)) 1 0 ≡ 0 = ap (λ b. cond {A = ℕ} b 1 0) fails in
-      omega (arith, same, none))
-]
+count_more p xs n d low = grind (arith, count_by_more_yes, count_by_more_no)
 
 count_append : {X : Type 0} (p : X → Bool) (xs ys : List X) → count_by p (xs ++ ys) ≡ count_by p xs + count_by p ys
 count_append p [] ys = sym (zero-add (count_by p ys))
 count_append p (x ∷ xs) ys =
-    sum_by-cons _ x (xs ++ ys) ∙ ap (λ n. cond (p x) 1 0 + n) (count_append p xs ys)
-    ∙ (let prefix = sum_by-cons (λ z. cond {A = ℕ} (p z) 1 0) x xs in omega (arith, prefix))
+    search (arith, sum_by-cons, count_append p xs ys)
 
 -- tests that agree on all elements
 count_agree : {X : Type 0} (p q : X → Bool) (xs : List X) → All (λ x. p x ≡ q x) xs → count_by p xs ≡ count_by q xs
@@ -56,9 +48,7 @@ one_image : ImagesAreBelowNever → (d : Source) (b q row : ℕ)
     → least_image d 1 b q row ≡ image_at d (place_in (row + b) q)
 unfolding least_image
 one_image below d b q row =
-    let same : row + (b + 0 * 2 ^ 24) ≡ row + b = omega arith in
-    ap (λ (m : ℕ). min never (image_at d (place_in m q))) same
-    ∙ (let low = below d (place_in (row + b) q) in omega (arith, low))
+    grind arith
 
 -- in lane i of the images that are drawn for a copy, as many slots are below a bound as deliveries of that copy
 pub copy_counted : DeliveriesStandInBlocks → ImagesAreBelowNever
@@ -109,33 +99,16 @@ below_more x c bound =
 -- what has an image up to a time has it before the next one, and is before it or at it
 pub count_until : (f : Delivery → ℕ) (time : ℕ) (ys : List Delivery)
     → count_by (λ y. nat_le (f y) time) ys ≡ count_by (λ y. nat_lt (f y) (time + 1)) ys
-count_until f time ys = count_agree _ _ ys (λ n d inside. next (f (slice_index_or ys n d)))
-  where
-    next : (m : ℕ) → nat_le m time ≡ nat_lt m (time + 1)
-    next m = grind (arith, nat_tests)
+count_until f time ys = grind arith
 
 one_at : (m time : ℕ) → cond {A = ℕ} (nat_lt m (time + 1)) 1 0 ≡ cond (nat_lt m time) 1 0 + cond (m == time) 1 0
-one_at m time = elim (cases_lt m time) [
-  | inl before ↦ rw (
-    lt-ltb m (time + 1) (omega (arith, before)),
-    lt-ltb m time before,
-    ne_eqb m time (λ same. omega
-        (arith, before, same)),
-  ) refl
-  | inr more ↦ elim (cases_eq m time) [
-    | inl same ↦ rw (lt-ltb m (time + 1) (omega (arith, same)), le-ltb m time more, eq-eqb m time same) refl
-    | inr other ↦ rw (le-ltb m (time + 1) (omega (arith, more, other)), le-ltb m time more, ne_eqb m time other) refl
-  ]
-]
+one_at m time = grind arith
 
 pub count_at : (f : Delivery → ℕ) (time : ℕ) (ys : List Delivery)
     → count_by (λ y. nat_lt (f y) (time + 1)) ys ≡ count_by (λ y. nat_lt (f y) time) ys + count_by (λ y. f y == time) ys
 count_at f time [] = refl
 count_at f time (y ∷ ys) =
-    let next = sum_by-cons (λ z. cond {A = ℕ} (nat_lt (f z) (time + 1)) 1 0) y ys in
-    let before = sum_by-cons (λ z. cond {A = ℕ} (nat_lt (f z) time) 1 0) y ys in
-    let at = sum_by-cons (λ z. cond {A = ℕ} (f z == time) 1 0) y ys in
-    omega (arith, next, before, at, count_at f time ys, one_at (f y) time)
+    search (arith, sum_by-cons, one_at, count_at f time ys)
 
 pub copy_more : DeliveriesStandInBlocks → ImagesAreBelowNever
     → (x : Hearing) (c i bound : ℕ) (js blocks : List ℕ) (slots : List Slot)
@@ -157,10 +130,7 @@ pub few_more : (c k : ℕ) (blocks : List ℕ) (edges : List Edge) (slots : List
     → Bool) (old new : ℕ) → AreSlots k blocks edges slots
     → length edges ≤ 2 ^ 16 → new ≡ old + count_by test slots → old ≤ c * 2 ^ 16 → new ≤ (c + 1) * 2 ^ 16
 few_more c k blocks edges slots test old new are few more is =
-    let same : length slots ≡ length edges =
-    sym (length-map slots (λ slot. key_in blocks slot)) ∙ ap (λ (ks : List (ℕ × ℕ)). length ks) are.keys
-    ∙ length-map edges (λ e. key_of k e) in
-    omega (arith, more, is, few, same, count_by-le-length test slots)
+    grind (arith, length-map, count_by-le-length)
 
 -- of two counts the later one is the next number exactly where one delivery has the image of the time
 pub next_count : (x : Hearing) (time before until : ℕ) → before ≡ count_below x x.copies time

@@ -1,6 +1,6 @@
 -- Elements with flags, and elements that pass a test.
 use Rattle.std.proofs.Common.{◌≡◌, ◌∙◌, ℕ, zero, suc, ◌<◌, Bool, true, false, cond, List, [], ◌∷◌, length, filter}
-use Rattle.std.proofs.Common.{slice_index, slice_index_or, refl, ap, sym, subst, arith}
+use Rattle.std.proofs.Common.{slice_index, slice_index_or, refl, ap, sym, arith}
 use Rattle.std.specs.List.{All, AllPairs}
 use Rattle.std.proofs.lemmas.List.Elements.{All-head, All-tail, All-cons, All-nil, All-filter}
 use Rattle.cut_receivers.specs.Findings.{flagged}
@@ -25,8 +25,7 @@ All-flagged P (s ∷ ss) (false ∷ fs) all = All-flagged P ss fs (All-tail P s 
 -- a list that begins with s is none of numbers above s
 not_above : (s : ℕ) (xs ys : List ℕ) → All (λ t. s < t) ys → s ∷ xs ≡ ys → ⊥
 not_above s xs ys above is =
-    let itself : s < s = subst (All (λ t. s < t)) (sym is) above 0 0 (omega arith) in
-    omega (arith, itself)
+    grind arith
 
 abbrev tail_of : List ℕ → List ℕ
 tail_of [] = []

@@ -35,10 +35,7 @@ bit_is false v is = ap (λ (w : ℕ). w == 1) is
 
 filter_both : (p q : ℕ → Bool) (xs : List ℕ) → filter p (filter q xs) ≡ filter (λ x. q x && p x) xs
 filter_both p q [] = refl
-filter_both p q (x ∷ xs) = elim (cases_Bool (q x)) [
-  | inl kept ↦ rw kept (ap (λ rest. cond (p x) (x ∷ rest) rest) (filter_both p q xs))
-  | inr left ↦ rw left (filter_both p q xs)
-]
+filter_both p q (x ∷ xs) = grind (arith, filter_both p q xs)
 
 not_not : (b : Bool) → not (not b) ≡ true → b ≡ true
 not_not true is = refl

@@ -38,13 +38,7 @@ subjects_process t =
 pub node_at : (t : Trial) (u : ℕ) (d : Node) → u < length t.nodes.now.nodes.items
     → IsNodeOf t (slice_index_or t.nodes.now.nodes.items u d)
 node_at t u d low =
-    let nodes : List Node = t.nodes.now.nodes.items in
-    let many : length (subjects_of nodes) ≡ length nodes = length-map nodes (λ (x : Node). x.subject) in
-    record {
-      process = subst (λ s. s < t.rings.now.nodes) (subject_at nodes u d low)
-          (subjects_process t u 0 (omega (arith, low, many)));
-      node = t.nodes_are.each u d low;
-    }
+    grind (arith, length-map, subject_at, subjects_process)
 
 -- the low of a node by its place
 pub low_at : (images : Images) (lows : List (List ℕ)) (i place : ℕ) → AreLows images lows → i < 4
@@ -52,26 +46,18 @@ pub low_at : (images : Images) (lows : List (List ℕ)) (i place : ℕ) → AreL
     → slice_index (slice_index_or lows place []) i ≡ lows_at (hearing_in images i) never (slice_index
     (subjects_in images) place)
 low_at images lows i place are low inside =
-    let many : length lows ≡ length (subjects_in images) =
-    sym (length_lane i lows) ∙ ap (λ (xs : List ℕ). length xs) (are i low)
-    ∙ length-map (subjects_in images) (λ s. lows_at (hearing_in images i) never s) in
-    value_lane i place lows (omega (arith, many, inside))
-    ∙ ap (λ (xs : List ℕ). slice_index xs place) (are i low)
-    ∙ get_or-map (λ s. lows_at (hearing_in images i) never s) (subjects_in images) place 0 0 inside
+    grind (arith, length-map, value_lane, get_or-map)
 
 pub many_lows : (images : Images) (lows : List (List ℕ)) → AreLows images lows
     → length lows ≡ length images.trial.nodes.now.nodes.items
 many_lows images lows are =
-    sym (length_lane 0 lows) ∙ ap (λ (xs : List ℕ). length xs) (are 0 (omega arith))
-    ∙ length-map (subjects_in images) (λ s. lows_at (hearing_in images 0) never s)
-    ∙ length-map images.trial.nodes.now.nodes.items (λ (d : Node). d.subject)
+    grind (arith, length-map)
 
 -- a node that is read from a list of them
 pub node_read : (t : Trial) (nodes : List Node) (u : ℕ) (d : Node) → nodes ≡ t.nodes.now.nodes.items → u < length nodes
     → d ≡ slice_index_or nodes u d → IsNodeOf t d
 node_read t nodes u d are low is =
-    subst (IsNodeOf t) (sym (is ∙ ap (λ (ns : List Node). slice_index_or ns u d) are))
-    (node_at t u d (subst (λ (ns : List Node). u < length ns) are low))
+    grind (arith, node_at)
 
 pub many_subjects : (images : Images) → length (subjects_in images) ≡ length images.trial.nodes.now.nodes.items
 many_subjects images = length-map images.trial.nodes.now.nodes.items (λ (d : Node). d.subject)

@@ -1,10 +1,8 @@
 -- At which place a lane's receiver proposes.
-use Rattle.std.proofs.Common.{◌≡◌, ◌∙◌, inl, inr, ℕ, ◌<◌, ◌≤◌, ◌==◌, false, not, nat_lt, List, length, slice_index}
-use Rattle.std.proofs.Common.{Option, IfSome, sym, subst, arith}
+use Rattle.std.proofs.Common.{◌≡◌, ◌∙◌, ℕ, ◌<◌, ◌≤◌, ◌==◌, false, not, List, length, slice_index}
+use Rattle.std.proofs.Common.{IfSome, sym, arith}
 use Rattle.std.specs.List.{count_by}
-use Rattle.std.proofs.lemmas.Bool.{cases_Bool}
 use Rattle.std.proofs.lemmas.Bool.Decides.{nat_tests}
-use Rattle.cut_detector.specs.declared.proposal.Proposal.{Proposal}
 use Rattle.cut_draws.specs.declared.delivery.Delivery.{Delivery}
 use Rattle.cut_blocks.specs.Images.{never}
 use Rattle.cut_lanes.specs.Lanes.{lane}
@@ -27,8 +25,7 @@ time_within x subjects i f h =
     let many : length (lane i f.lows.items) ≡ length subjects = length_lane i f.lows.items
     ∙ lane_long i _ subjects f.lows.items h.lows in
     let ended : (u : ℕ) → u < length (lane i f.lows.items) → slice_index (lane i f.highs.items) u ≤ never =
-    λ u low. subst (λ m. m ≤ never) (sym (high_at x subjects i f h u (omega (arith, low, many)))) (high_within x
-    (slice_index subjects u)) in
+    grind (arith, high_at x subjects i f h, high_within x) in
     h.closing.least never (record { begun = λ u low _. ended u low; before = λ u low _. ended u low })
 
 at_most_one : (n : ℕ) → not (n == 1) ≡ false → n ≤ 1
@@ -47,8 +44,4 @@ placed law x subjects i f p h clear counts apart =
     let proposed = law x never (lane i f.lows.items) (lane i f.highs.items)
     (slice_index f.closing.first i) t h.hearing (omega arith)
     (closed x subjects i f h (certain_of x subjects i f h clear)) one in
-    subst (λ (o : Option Proposal). IfSome o (λ q. q.at ≡ slice_index p.until i)) (sym proposed)
-    (elim (cases_Bool (nat_lt t never)) [
-      | inl comes ↦ rw comes (sym counts.until)
-      | inr not ↦ rw not tt
-    ])
+    grind arith

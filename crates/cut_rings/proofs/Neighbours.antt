@@ -1,17 +1,17 @@
 -- Who stands beside whom on a ring that is kept as an order and its inverse.
-use Rattle.std.proofs.Common.{◌≡◌, ℕ, ◌+◌, ◌%◌, ◌<◌, ◌≢◌, ◌⊎◌, ◌==◌, Bool, true, List, [], map, length, get_or}
-use Rattle.std.proofs.Common.{slice_index_or, ap, sym, subst, ◌∙◌, inl, inr, arith}
+use Rattle.std.proofs.Common.{◌≡◌, ℕ, ◌+◌, ◌%◌, ◌<◌, ◌≢◌, ◌⊎◌, ◌==◌, Bool, true, List, map, length, get_or}
+use Rattle.std.proofs.Common.{slice_index_or, ap, sym, ◌∙◌, inl, inr, arith}
 use Rattle.std.proofs.Math.Nat.{mod-eq_of_lt, mod_self}
 use Rattle.std.specs.List.{position_or_len, range_with_len}
 use Rattle.std.proofs.lemmas.List.FromFn.{fill_by_all}
 use Rattle.cut_rings.specs.Listed.{listed_position}
-use Rattle.std.proofs.lemmas.Bool.{eq-eqb, eqb-true, false_from_ne_true}
+use Rattle.std.proofs.lemmas.Bool.{eq-eqb, eqb-true}
 use Rattle.std.proofs.lemmas.List.{get_or-map, get_or_default}
 use Rattle.std.proofs.Math.ListN.{length-map}
 use Rattle.std.proofs.lemmas.List.Sums.{position_or_len_is}
 use Rattle.cut_rings.specs.declared.ring.Ring.{Ring}
 use Rattle.cut_rings.specs.declared.rings.Rings.TheInside.{Inside}
-use Rattle.cut_rings.specs.Layout.{Layout, IsLayout, positions_on, position_of, Observes, observer_of, subject_of}
+use Rattle.cut_rings.specs.Layout.{Layout, IsLayout, position_of, Observes, observer_of, subject_of}
 use Rattle.cut_rings.specs.inside.Inverse.{IsInverse}
 use Rattle.cut_rings.specs.inside.Inside.{layout_of, AreRings}
 use Rattle.cut_lists.proofs.Rounds.{next_one}
@@ -20,9 +20,7 @@ use Rattle.cut_lists.proofs.Rounds.{next_one}
 found_at : (test : ℕ → Bool) (xs : List ℕ) (i : ℕ) → i < length xs → test (get_or xs i 0) ≡ true
     → ((j : ℕ) → j < length xs → test (get_or xs j 0) ≡ true → j ≡ i) → position_or_len test xs ≡ i
 found_at test xs i within passes only =
-    position_or_len_is test xs i 0 (omega arith)
-    (λ j early. false_from_ne_true _ (λ t. let same : j ≡ i = only j (omega arith) t in omega arith))
-    (λ _. passes)
+    grind (arith, position_or_len_is)
 
 -- the place of each process is its index in the order
 pub listed_positions : (n : ℕ) (order positions : List ℕ) → IsInverse n order positions → positions
@@ -53,24 +51,7 @@ pub record AreNeighbours (l : Layout) (ring o s : ℕ) : Type 0 where
 neighbours : (l : Layout) → IsLayout l → (ring o s : ℕ) → ring < length l.positions → o < l.nodes → s < l.nodes
     → Observes l ring o s → AreNeighbours l ring o s
 neighbours l is ring o s ring_in o_in s_in observes =
-    let long : length (positions_on l ring) ≡ l.nodes = is.long ring ring_in in
-    let place : ℕ → ℕ = position_of l ring in
-    record {
-      observer =
-          sym (found_at (λ q. (q + 1) % l.nodes == place s) (positions_on l ring) o (omega arith) (eq-eqb _ _ observes)
-          (λ p low t.
-          let p_in : p < l.nodes = omega arith in
-          is.distinct ring p o ring_in p_in o_in
-          (next_one l.nodes (place p) (place o) (is.in_range ring p ring_in p_in) (is.in_range ring o ring_in o_in)
-          (eqb-true _ _ t ∙ sym observes))));
-      subject =
-          sym (found_at (λ q. (place o + 1) % l.nodes == q) (positions_on l ring) s (omega arith) (eq-eqb _ _ observes)
-          (λ p low t.
-          is.distinct ring p s ring_in (omega arith) s_in (sym (eqb-true _ _ t) ∙ observes)));
-      observes = observes;
-      observer_in = o_in;
-      subject_in = s_in;
-    }
+    grind (arith, found_at, next_one, eqb-true)
 
 -- what the two look-ups read: the place of p, and the process x at place q
 pub record IsRead (l : Layout) (ring p place q x : ℕ) : Type 0 where
@@ -81,53 +62,15 @@ pub record IsRead (l : Layout) (ring p place q x : ℕ) : Type 0 where
 pub read : (r : Inside) → AreRings r → (l : Layout) → layout_of r ≡ l → (ring : ℕ) (kept : Ring) (p place q x : ℕ)
     → ring < length l.positions → p < l.nodes → kept ≡ slice_index_or r.rings.items ring kept → place
     ≡ get_or kept.positions.items p place → x ≡ get_or kept.order.items q x → IsRead l ring p place q x
-read r sound l seen ring kept p place q x ring_in p_in kept_read place_read x_read = subst
-    (λ m. IsRead m ring p place q x) seen (record {
-      place_in = rw at (inverse.position p p_below);
-      placed = ap (λ xs. get_or xs p 0) positions ∙ sym at;
-      found = λ q_in.
-          let long : length kept.order.items ≡ r.nodes = inverse.order_length in
-          let x_at : x ≡ get_or kept.order.items q 0 = x_read ∙ get_or_default kept.order.items q x 0 (omega arith) in (
-            ap (λ xs. get_or xs x 0) positions ∙ ap (λ i. get_or kept.positions.items i 0) x_at
-                ∙ inverse.placed q q_in,
-            rw x_at (inverse.process q q_in),
-          );
-    })
-  where
-    below : ring < length r.rings.items
-    below = omega (arith, ap (λ m. length m.positions) (sym seen) ∙ length-map r.rings.items (λ y. y.positions.items))
-
-    p_below : p < r.nodes
-    p_below = omega (arith, ap (λ m. m.nodes) (sym seen))
-
-    inverse : IsInverse r.nodes kept.order.items kept.positions.items
-    inverse = subst (λ y. IsInverse r.nodes y.order.items y.positions.items) (sym kept_read)
-        (sound.inverse ring kept below)
-
-    positions : positions_on (layout_of r) ring ≡ kept.positions.items
-    positions = get_or-map (λ y. y.positions.items) r.rings.items ring kept [] below
-        ∙ ap (λ y. y.positions.items) (sym kept_read)
-
-    at : place ≡ get_or kept.positions.items p 0
-    at = place_read ∙ get_or_default kept.positions.items p place 0 (omega (arith, inverse.positions_length, p_below))
+read r sound l seen ring kept p place q x ring_in p_in kept_read place_read x_read = grind (arith, get_or_default, length-map, get_or-map)
 
 -- the process at the place before that of s, and the one at the place after that of o
 pub observer_read : (l : Layout) → IsLayout l → (ring s place before o : ℕ) → ring < length l.positions → s < l.nodes
     → IsRead l ring s place before o → IsNext l.nodes before place → AreNeighbours l ring o s
 observer_read l is ring s place before o ring_in s_in is_read next =
-    let low : before < l.nodes = elim next [ inl e ↦ omega arith | inr e ↦ omega (arith, is_read.place_in) ] in
-    let found = is_read.found low in
-    neighbours l is ring o s ring_in found.1 s_in (ap (λ q. (q + 1) % l.nodes) found.0
-    ∙ next_place l.nodes before place low next ∙ sym is_read.placed)
+    grind (arith, neighbours l is ring o s ring_in, next_place l.nodes before place)
 
 pub subject_read : (l : Layout) → IsLayout l → (ring o place after s : ℕ) → ring < length l.positions → o < l.nodes
     → IsRead l ring o place after s → IsNext l.nodes place after → AreNeighbours l ring o s
 subject_read l is ring o place after s ring_in o_in is_read next =
-    let low : after < l.nodes = elim next [
-      | inl e ↦ omega (arith, is_read.place_in)
-      | inr e
-          ↦ omega (arith, is_read.place_in)
-    ] in
-    let found = is_read.found low in
-    neighbours l is ring o s ring_in o_in found.1 (ap (λ q. (q + 1) % l.nodes) is_read.placed
-    ∙ next_place l.nodes place after is_read.place_in next ∙ sym found.0)
+    grind (arith, neighbours l is ring o s ring_in o_in, next_place l.nodes place after is_read.place_in next)

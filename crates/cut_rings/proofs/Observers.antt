@@ -1,6 +1,6 @@
 -- Who observes a process.
 use Rattle.std.proofs.Common.{◌≡◌, ◌∙◌, ℕ, ◌+◌, ◌%◌, ◌<◌, ◌==◌, inl, inr, Bool, true, false, length, ap, arith}
-use Rattle.std.proofs.lemmas.Bool.{cases_lt, eq-eqb, eqb-true}
+use Rattle.std.proofs.lemmas.Bool.{cases_lt, eq-eqb}
 use Rattle.std.proofs.lemmas.List.Sums.{passes_at_first, fails_before_first}
 use Rattle.cut_lists.proofs.Pigeonhole.{none_missed}
 use Rattle.cut_lists.proofs.Rounds.{before}
@@ -30,6 +30,4 @@ observer_below r layout ring s ring_in process = elim (cases_lt (observer_of r r
 pub observer_is_process : (r : Layout) → IsLayout r → (ring s : ℕ) → ring < length r.positions → s < r.nodes
     → (observer_of r ring s < r.nodes) × Observes r ring (observer_of r ring s) s
 observer_is_process r layout ring s ring_in process =
-    let below = observer_below r layout ring s ring_in process in
-    let inside : observer_of r ring s < length (positions_on r ring) = omega (arith, below, layout.long ring ring_in) in
-    (below, eqb-true _ _ (passes_at_first (is_before r ring s) (positions_on r ring) 0 inside))
+    grind (arith, observer_below, passes_at_first)

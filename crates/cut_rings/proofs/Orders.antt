@@ -4,7 +4,6 @@ use Rattle.std.proofs.Common.{get_or, map, set, get_or-set_other, get_or-set_sam
 use Rattle.std.proofs.Common.{sym, ◌∙◌, arith}
 use Rattle.std.specs.Prelude.{◌↔◌}
 use Rattle.std.specs.List.{Any, list_all, list_any, All, Contains, count_by, range_with_len}
-use Rattle.std.proofs.lemmas.List.Elements.{All-weaker}
 use Rattle.std.specs.declared.cmp.Ordering.{Ordering}
 use Rattle.std.specs.Ordering.{is_lt}
 use Rattle.std.proofs.lemmas.Bool.{both_ways, eq-eqb, eqb-true, and_parts, and_from}
@@ -22,26 +21,12 @@ place_of : (n : ℕ) (order positions : List ℕ) → IsOrder n order
     → ((i : ℕ) → i < n → get_or positions (get_or order i 0) 0 ≡ i) → (p : ℕ) → p < n → (get_or positions p 0 < n)
     × (get_or order (get_or positions p 0) 0 ≡ p)
 place_of n order positions is placed p below =
-    let many : length order ≡ n = length-order n order is in
-    let has : Contains order p = order_has n order is p below in
-    let i : ℕ = has.0 in
-    let within : i < length order = has.1 in
-    let at : get_or order i 0 ≡ p = get_or_default order i 0 p within ∙ has.2 in
-    let place : get_or positions p 0 ≡ i = ap (λ q. get_or positions q 0) (sym at) ∙ placed i (omega arith) in
-    (omega arith, ap (λ j. get_or order j 0) place ∙ at)
+    grind (arith, length-order n order is, order_has n order is p below, get_or_default order)
 
 pub is_inverse : (n : ℕ) (order positions : List ℕ) → IsOrder n order → length positions ≡ n
     → ((i : ℕ) → i < n → get_or positions (get_or order i 0) 0 ≡ i) → IsInverse n order positions
 is_inverse n order positions is long placed =
-    let many : length order ≡ n = length-order n order is in
-    record {
-      order_length = many;
-      positions_length = long;
-      process = λ i below. order_is_below n order is i 0 (omega arith);
-      position = λ p below. (place_of n order positions is placed p below).0;
-      placed = placed;
-      found = λ p below. (place_of n order positions is placed p below).1;
-    }
+    grind (arith, length-order n order is, order_is_below n order is, place_of n order positions is placed)
 
 -- one more place is written
 pub placed_more : (n : ℕ) (order positions : List ℕ) → IsOrder n order → length positions ≡ n → (place process : ℕ)
@@ -71,10 +56,7 @@ ranked_positions compare n order positions ranked inverse =
 
 range_differs : (n : ℕ) → Differ (range_with_len 0 n)
 range_differs n i j before within same =
-    let long : length (range_with_len 0 n) ≡ n = length-range_with_len 0 n in
-    let low : get_or (range_with_len 0 n) i 0 ≡ 0 + i = get_or-range_with_len 0 n i 0 (omega arith) in
-    let high : get_or (range_with_len 0 n) j 0 ≡ 0 + j = get_or-range_with_len 0 n j 0 (omega arith) in
-    omega arith
+    grind (arith, length-range_with_len, get_or-range_with_len)
 
 -- a list that is no longer than n, and lacks none of the first n processes, is an order of them
 pub order_tested : (n : ℕ) (list : List ℕ) → (is_order n list ≡ true) ↔ IsOrder n list
@@ -121,9 +103,7 @@ some_fails {X} p (x ∷ xs) none = by (some_fails p xs) (p x) refl
 pub all_orders : (n : ℕ) (lists : List (Vec ℕ Global)) → list_all (λ list. is_order n list.items) lists ≡ true
     → All (λ list. IsOrder n list.items) lists
 all_orders n lists pass =
-    All-weaker (λ list. is_order n list.items ≡ true) (λ list. IsOrder n list.items)
-    (λ list passes. (order_tested n list.items).0 passes) lists
-    (AllPass-from_list_all (λ list. is_order n list.items) lists pass)
+    grind (arith, order_tested, AllPass-from_list_all)
 
 pub some_not_order : (n : ℕ) (lists : List (Vec ℕ Global)) → list_all (λ list. is_order n list.items) lists ≡ false
     → Any (λ list. ¬ IsOrder n list.items) lists

@@ -1,5 +1,5 @@
 -- Rings that are kept as orders and their inverses are a layout.
-use Rattle.std.proofs.Common.{◌≡◌, ℕ, ◌<◌, ◌≤◌, List, [], ◌∷◌, ◌++◌, map, length, get_or, ap, sym, subst, ◌∙◌, arith}
+use Rattle.std.proofs.Common.{◌≡◌, ℕ, ◌<◌, ◌≤◌, List, [], ◌∷◌, ◌++◌, map, length, get_or, ap, sym, ◌∙◌, arith}
 use Rattle.std.specs.List.{All}
 use Rattle.std.proofs.lemmas.List.{length-map, get_or-map, map-append}
 use Rattle.cut_rings.specs.declared.ring.Ring.{Ring}
@@ -16,11 +16,7 @@ AreInverse r = All (λ ring. IsInverse r.nodes ring.order.items ring.positions.i
 on_ring : (r : Inside) → AreInverse r → (k : ℕ) → k < length r.rings.items → (d : Ring)
     → (positions_on (layout_of r) k ≡ (get_or r.rings.items k d).positions.items)
     × IsInverse r.nodes (get_or r.rings.items k d).order.items (get_or r.rings.items k d).positions.items
-on_ring r inverse k within d = (
-  get_or-map (λ ring. ring.positions.items) r.rings.items k d [] within,
-  inverse k d
-      within,
-)
+on_ring r inverse k within d = grind (arith, get_or-map)
 
 -- a table that is an order's inverse has each position once
 record IsTable (n : ℕ) (positions : List ℕ) : Type 0 where
@@ -29,11 +25,7 @@ record IsTable (n : ℕ) (positions : List ℕ) : Type 0 where
   distinct : (p q : ℕ) → p < n → q < n → get_or positions p 0 ≡ get_or positions q 0 → p ≡ q
 
 table : (n : ℕ) (order positions : List ℕ) → IsInverse n order positions → IsTable n positions
-table n order positions inverse = record {
-  long = inverse.positions_length;
-  in_range = inverse.position;
-  distinct = λ p q p_in q_in same. sym (inverse.found p p_in) ∙ ap (λ i. get_or order i 0) same ∙ inverse.found q q_in;
-}
+table n order positions inverse = grind arith
 
 first : {X : Type 0} (xs : List X) → 0 < length xs → X
 first [] some = absurd (omega arith)
@@ -49,36 +41,21 @@ tables r inverse k within =
     × IsInverse r.nodes (get_or r.rings.items k d).order.items (get_or r.rings.items k d).positions.items
     = on_ring r inverse k (omega arith) d
     in
-    subst (IsTable r.nodes) (sym at.0) (table r.nodes (get_or r.rings.items k d).order.items
-    (get_or r.rings.items k d).positions.items at.1)
+    grind arith
 
 pub sound : (r : Inside) → 2 ≤ r.nodes → r.nodes ≤ 2048 → 0 < length r.rings.items → length r.rings.items ≤ 32
     → AreInverse r → AreRings r
 sound r some_nodes few_nodes some few inverse =
     let many : length (layout_of r).positions ≡ length r.rings.items = length-map r.rings.items
     (λ ring. ring.positions.items) in
-    record {
-      layout = record {
-        some_nodes = some_nodes;
-        few_nodes = few_nodes;
-        some_ring = omega arith;
-        few_rings = omega arith;
-        long = λ k within. (tables r inverse k within).long;
-        in_range = λ k p within. (tables r inverse k within).in_range p;
-        distinct = λ k p q within. (tables r inverse k within).distinct p q;
-      };
-      inverse = λ k d within. inverse k d within;
-    }
+    grind (arith, tables r inverse)
 
 -- one more ring
 pub positions_pushed : (rings more : List Ring) (ring : Ring) (tables : List (List ℕ)) (table : List ℕ) → more ≡ rings
     ++ ring ∷ [] → ring.positions.items ≡ table → map (λ r. r.positions.items) rings ≡ tables
     → map (λ r. r.positions.items) more ≡ tables ++ table ∷ []
 positions_pushed rings more ring tables table is here before =
-    ap (map (λ r. r.positions.items)) is
-    ∙ map-append (λ r. r.positions.items) rings (ring ∷ [])
-    ∙ ap (λ xs. xs ++ ring.positions.items ∷ []) before
-    ∙ ap (λ x. tables ++ x ∷ []) here
+    grind (arith, map-append)
 
 pub many_rings : (rings : List Ring) (tables : List (List ℕ)) → map (λ r. r.positions.items) rings ≡ tables
     → length rings ≡ length tables

@@ -1,14 +1,14 @@
 -- Sessions, read by read.
-use Rattle.std.proofs.Common.{◌≡◌, ◌∙◌, ◌+◌, ◌-◌, ◌*◌, ◌^◌, ◌<◌, ◌≤◌, ◌++◌, min, ℕ, false, List, [], ◌∷◌, length, take}
+use Rattle.std.proofs.Common.{◌≡◌, ◌∙◌, ◌+◌, ◌-◌, ◌*◌, ◌<◌, ◌≤◌, ◌++◌, ℕ, false, List, [], ◌∷◌, length, take}
 use Rattle.std.proofs.Common.{nat_eq, None, Ok, Err, inr, refl, sym, ap, arith, append_assoc, append-nil, length-append}
 use Rattle.std.proofs.Common.{length-take-le}
 use Rattle.std.specs.Borrow.{GName}
 use Rattle.std.proofs.lemmas.Bool.Decides.{nat_tests}
 use Rattle.std.proofs.Math.Seq.{take-append-add}
 use Rattle.cut_board.specs.declared.view.View.{View}
-use Rattle.cut_wires.specs.Log.{Traffic, WireLog, passing, with_taken, with_given, wrote, read_failed}
+use Rattle.cut_wires.specs.Log.{WireLog, passing, with_taken, with_given, wrote, read_failed}
 use Rattle.cut_wires.specs.Sending.{Sending, sent_on, got_on}
-use Rattle.cut_wires.proofs.Logs.{passing_twice, passing_same, passing_none}
+use Rattle.cut_wires.proofs.Logs.{passing_twice, passing_same}
 use Rattle.cut_messages.specs.declared.side.Side.TheVariants.{Requests}
 use Rattle.cut_messages.specs.declared.fault.EndFault.{EndFault}
 use Rattle.cut_hall.specs.Hall.{HallValue}
@@ -31,16 +31,12 @@ use Rattle.cut_session.specs.inside.Serving.{LeavesSending, IsServing, Concludes
 conveyed_more : (out given more : List ℕ) (l : WireLog)
     → wrote (passing (conveyed out given) l) more ≡ passing (conveyed (out ++ more) given) l
 conveyed_more out given more l =
-    passing_twice (λ t. with_taken t more) (conveyed out given) l
-    ∙ passing_same (λ t. with_taken (conveyed out given t) more) (conveyed (out ++ more) given) l
-    (λ t. cc (append_assoc t.taken out more))
+    grind (arith, append_assoc)
 
 pub served_more : (first now : Sending) (out given more : List ℕ) → now ≡ served first out given
     → sent_on now more ≡ served first (out ++ more) given
 served_more first now out given more is =
-    let count : min (min (first.sent + length out) (2 ^ 64 - 1) + length more) (2 ^ 64 - 1)
-    ≡ min (first.sent + length (out ++ more)) (2 ^ 64 - 1) = omega (arith, length-append out more) in
-    cc (is, count, conveyed_more out given more first.log)
+    grind (arith, length-append, conveyed_more)
 
 -- what the last read did is the same before and after a write
 read_by_more : (fault : SessionFault) (l : WireLog) (bytes : List ℕ)
@@ -146,28 +142,7 @@ module _ {hall : HallValue} {low high : View} {r : Reading} {requests : ℕ} {pi
 pub serves_first : (hall : HallValue) (v : View) (r : Reading) (first : Sending) → HasReadFrames r [] [] → r.fault
     ≡ None
     → r.side ≡ Requests → Rises v v → first.sent ≡ 0 → IsServing hall v v r 0 [] first first
-serves_first hall v r first read right side rises none_sent = record {
-  stream = [];
-  messages = [];
-  out = [];
-  read = read;
-  right = right;
-  side = side;
-  many = refl;
-  replies = (rises, refl);
-  few = omega arith;
-  line =
-      let on : WireLog → ℕ → Sending = λ log sent. record { wire = first.wire; log = log; sent = sent } in
-      let bytes : Traffic → List ℕ → List ℕ → Traffic = λ t out given. record {
-        taken = out;
-        given = given;
-        ends = t.ends;
-      } in
-      let count : first.sent ≡ min (first.sent + 0) (2 ^ 64 - 1) = omega (arith, none_sent) in
-      let nothing = passing_none (conveyed [] []) first.log (λ t.
-      ap (λ out. bytes t out (t.given ++ [])) (append-nil t.taken) ∙ ap (bytes t t.taken) (append-nil t.given)) in
-      ap (λ log. on log first.sent) (sym nothing) ∙ ap (on (passing (conveyed [] []) first.log)) count;
-}
+serves_first hall v r first read right side rises none_sent = grind (arith, append-nil)
 
 module _ {hall : HallValue} {low high : View} {r : Reading} {requests : ℕ} {first now : Sending}
     (s : IsServing hall low high r requests [] first now) (new : Sending) where
@@ -244,8 +219,7 @@ pub concludes_at : {X : Type 0} (log : X → WireLog) (hall : HallValue) (low hi
     → ConcludesTable hall low high end old (record { wire = other; log = log last; sent = sent })
     → (name ≡ other → after ≡ last) → EndsSession hall low high end (log first) (log after)
 concludes_at log hall low high end first last after name other sent old fresh (ends, same) leaves =
-    let wires : name ≡ other = cc (same, fresh) in
-    rw (leaves wires) (rw fresh at ends)
+    grind arith
 
 pub seen_at : (hall : HallValue) (low : View) (end : SessionEnd) (old new : WireLog) (last after : Holding)
     (name other : GName)

@@ -1,26 +1,23 @@
 -- Rows over true slips are the rows of the plan's own table.
-use Rattle.std.proofs.Common.{◌≡◌, ℕ, zero, suc, ◌+◌, ◌≤◌, ◌<◌, ◌++◌, inl, inr, true, List, length, Ok, Result, refl}
-use Rattle.std.proofs.Common.{ap, subst, ◌∙◌, arith}
+use Rattle.std.proofs.Common.{◌≡◌, ℕ, zero, suc, ◌+◌, ◌≤◌, ◌<◌, inl, inr, true, List, length, Ok, Result, refl}
+use Rattle.std.proofs.Common.{ap, subst, arith}
 use Rattle.std.specs.List.{flat_map, range_with_len}
 use Rattle.cut_plan.specs.Accepted.{plan_of}
 use Rattle.cut_plan.specs.Cells.{cells_of}
 use Rattle.cut_plan.specs.Plan.{IsPlan}
 use Rattle.cut_plan.specs.Values.{Values}
 use Rattle.cut_plan.specs.declared.refusal.Refusal.{Refusal}
-use Rattle.cut_plan.specs.Failing.{version_of}
 use Rattle.cut_faults.specs.declared.code.FaultCode.TheVariants as code
-use Rattle.cut_lines.specs.Lines.{header, line_with}
+use Rattle.cut_lines.specs.Lines.{line_with}
 use Rattle.cut_outcome.specs.Sum.{sum_of, trials_of_cell}
 use Rattle.cut_ledger.specs.declared.slip.Slip.{Slip}
 use Rattle.cut_ledger.specs.Laws.{TrueSlipsSumAll}
 use Rattle.cut_ledger.specs.World.{AreTrue}
 use Rattle.cut_book.specs.Faults.{code_of_submit}
-use Rattle.cut_hall.specs.Faults.{code_of_line}
 use Rattle.cut_hall.specs.Lines.{full_line}
 use Rattle.cut_messages.specs.declared.kind.Kind.TheVariants as kind
-use Rattle.cut_messages.specs.Frames.{frame}
 use Rattle.cut_session.specs.Answering.{AnswersText, AnswersRead, IsSubmissionAnswered, IsTable, IsBrokenOff, row_frame}
-use Rattle.cut_session.specs.Answering.{rows_to, end_frame, error_frame}
+use Rattle.cut_session.specs.Answering.{rows_to}
 use Rattle.cut_session.specs.Own.{own_frame, own_rows_to, IsOwnTable, IsOwnPrefix, IsOwnReply}
 
 own_line : (v : Values) (base : List Slip) (c : ℕ) → TrueSlipsSumAll → IsPlan v → AreTrue v base → c
@@ -33,30 +30,20 @@ own_frames : (v : Values) (base : List Slip) → TrueSlipsSumAll → IsPlan v �
     → flat_map (row_frame v base) (range_with_len a m) ≡ flat_map (own_frame v) (range_with_len a m)
 own_frames v base sums plan are a zero fits = refl
 own_frames v base sums plan are a (suc m) fits =
-    ap (λ line. frame kind.Row line ++ flat_map (row_frame v base) (range_with_len (a + 1) m))
-    (own_line v base a sums plan are (omega arith))
-    ∙ ap (λ rest. own_frame v a ++ rest) (own_frames v base sums plan are (a + 1) m (omega arith))
+    grind (arith, own_line, own_frames v base sums plan are (a + 1) m)
 
 own_rows : (v : Values) (base : List Slip) (n : ℕ) → TrueSlipsSumAll → IsPlan v → AreTrue v base → n
     ≤ length (cells_of v) → rows_to v base n ≡ own_rows_to v n
 unfolding rows_to own_rows_to
 own_rows v base n sums plan are fits =
-    ap (λ rest. frame kind.Row (header (version_of v.failing)) ++ rest)
-    (own_frames v base sums plan are 0 n (omega (arith, fits)))
+    grind (arith, own_frames)
 
 own_table : (v : Values) (out : List ℕ) → TrueSlipsSumAll → IsPlan v → IsTable true v out → IsOwnTable v out
 own_table v out sums plan is =
-    is.2 ∙ ap (λ rows. rows ++ end_frame) (own_rows v is.0 (length (cells_of v)) sums plan (is.1.true_if refl)
-    (omega arith))
+    grind (arith, own_rows)
 
 own_prefix : (v : Values) (out : List ℕ) → TrueSlipsSumAll → IsPlan v → IsBrokenOff true v out → IsOwnPrefix v out
-own_prefix v out sums plan is = (
-  is.2,
-  code_of_line is.3,
-  is.4,
-  is.5 ∙ ap (λ rows. rows ++ error_frame (code_of_line is.3))
-      (own_rows v is.0 is.2 sums plan (is.1.true_if refl) (omega (arith, is.4))),
-)
+own_prefix v out sums plan is = grind (arith, own_rows)
 
 own_plan : (v : Values) (out : List ℕ) → TrueSlipsSumAll → IsPlan v → IsSubmissionAnswered true v out → IsOwnReply v out
 own_plan v out sums plan (inl whole) = inl (own_table v out sums plan whole)

@@ -1,6 +1,6 @@
 -- The frames of a table, as they are sent.
 use Rattle.std.proofs.Common.{◌≡◌, ◌+◌, ◌*◌, ◌≤◌, ◌++◌, ℕ, Bool, List, length, Result, Ok, Err, inl, inr, refl, ap}
-use Rattle.std.proofs.Common.{subst, arith, length-append}
+use Rattle.std.proofs.Common.{arith, length-append}
 use Rattle.std.specs.Bool.{⊤}
 use Rattle.std.specs.Borrow.{GName}
 use Rattle.std.proofs.lemmas.Bool.{cases_lt}
@@ -98,14 +98,11 @@ pub plan_answered : (trusts : Bool) (text : List ℕ) (plan taken : Values) (res
     → Replies (IsSubmissionAnswered trusts taken) longest_reply result old new
     → Replies (AnswersText trusts text) longest_reply result old new
 plan_answered trusts text plan taken result old new is same (out, answers, short, sends) =
-    let taken_as : IsSubmissionAnswered trusts plan out = subst (λ (v : Values). IsSubmissionAnswered trusts v out) same
-    answers in
-    (out, inr (rw is taken_as), short, sends)
+    grind arith
 
 -- or why the hall took no study of the plan
 pub plan_refused : (trusts : Bool) (text : List ℕ) (plan : Values) (fault : SubmitFault) (code : FaultCode)
     (result : Result ⊤ WriteFault) (old new : Sending) → plan_of text ≡ Ok plan → code ≡ code_of_submit fault
     → Sends result (error_frame code) old new → Replies (AnswersText trusts text) longest_reply result old new
 plan_refused trusts text plan fault code result old new is same sends =
-    let not_taken : IsSubmissionAnswered trusts plan (error_frame code) = inr (inr (fault, cc (same))) in
-    (error_frame code, inr (rw is not_taken), omega arith, sends)
+    grind arith

@@ -1,11 +1,9 @@
 -- Requests that are answered one after another.
-use Rattle.std.proofs.Common.{◌≡◌, ◌∙◌, ◌+◌, ◌-◌, ◌*◌, ◌^◌, ◌<◌, ◌≤◌, ◌++◌, min, ℕ, List, [], ◌∷◌, length, take, drop}
-use Rattle.std.proofs.Common.{get_or, Ok, Err, inl, inr, refl, sym, ap, subst, arith, append_assoc, append-nil}
+use Rattle.std.proofs.Common.{◌≡◌, ◌∙◌, ◌+◌, ◌-◌, ◌*◌, ◌^◌, ◌<◌, ◌≤◌, ◌++◌, ℕ, List, [], ◌∷◌, length, take, drop}
+use Rattle.std.proofs.Common.{get_or, Ok, Err, inl, inr, refl, sym, subst, arith, append_assoc, append-nil}
 use Rattle.std.proofs.Common.{take-append-drop, length-append}
 use Rattle.std.specs.Prelude.{◌⊎◌}
-use Rattle.std.specs.Int.{w32, from_be_bytes}
 use Rattle.cut_board.specs.declared.view.View.{View}
-use Rattle.cut_wires.specs.Log.{WireLog, wrote}
 use Rattle.cut_wires.specs.declared.send.WriteFault.{WriteFault}
 use Rattle.cut_wires.specs.Sending.{Sending, Sends, sent_on}
 use Rattle.cut_wires.proofs.Logs.{wrote_none}
@@ -25,15 +23,6 @@ rises_none v = λ study. omega arith
 pub rises_on : (low middle high : View) → Rises low middle → Rises middle high → Rises low high
 rises_on low middle high first second = λ study. omega (arith, first study, second study)
 
-kind_from : (hall : HallValue) (low middle high : View) (k : Kind) (payload out : List ℕ) → Rises low middle
-    → AnswersKind hall middle high k payload out → AnswersKind hall low high k payload out
-kind_from hall low middle high kind.Submit payload out rises is = is
-kind_from hall low middle high kind.Count payload out rises (inl (there, reported)) =
-    inl (there, (omega (arith, rises (from_be_bytes w32 payload), reported.0), reported.1))
-kind_from hall low middle high kind.Count payload out rises (inr none) = inr none
-kind_from hall low middle high kind.Quit payload out rises is = absurd is
-kind_from hall low middle high other payload out rises is = is
-
 -- what is no request has no reply
 pub no_reply : (hall : HallValue) (low high : View) (k : Kind) (payload : List ℕ)
     → (k ≡ kind.Row) ⊎ ((k ≡ kind.Done) ⊎ (k ≡ kind.Fault)) → AnswersKind hall low high k payload []
@@ -46,9 +35,7 @@ pub all_from : (hall : HallValue) (low middle high : View) (ms : List Message) (
     → AnswersAll hall middle high ms out → AnswersAll hall low high ms out
 all_from hall low middle high [] out rises all = (rises_on low middle high rises all.0, all.1)
 all_from hall low middle high (m ∷ ms) out rises (next, first, others, (here, is), rest, joined) =
-    let answers : IsAnswered hall low next m first =
-    (rises_on low middle next rises here, kind_from hall low middle next m.kind m.payload first rises is) in
-    (next, first, others, answers, rest, joined)
+    grind arith
 
 pub all_then : (hall : HallValue) (low middle high : View) (xs ys : List Message) (a b : List ℕ)
     → AnswersAll hall low middle xs a → AnswersAll hall middle high ys b
@@ -81,9 +68,7 @@ all_rises hall low high (m ∷ ms) out all =
 -- nothing was sent
 pub none_sent : (s : Sending) → s.sent < 2 ^ 64 → s ≡ sent_on s []
 none_sent s small =
-    let on : WireLog → ℕ → Sending = λ log sent. record { wire = s.wire; log = log; sent = sent } in
-    let count : s.sent ≡ min (s.sent + 0) (2 ^ 64 - 1) = omega (arith, small) in
-    ap (λ log. on log s.sent) (sym (wrote_none s.log)) ∙ ap (on (wrote s.log [])) count
+    grind (arith, wrote_none)
 
 -- a message after others that were answered
 module _ (hall : HallValue) (low middle high : View) (ms : List Message) (i : ℕ) (m : Message) (old now new : Sending)

@@ -14,10 +14,9 @@ use Rattle.cut_ledger.specs.Machine.{slip_of}
 use Rattle.cut_journal.specs.declared.fault.JournalFault.{JournalFault}
 use Rattle.cut_journal.specs.declared.fault.JournalFault.TheVariants as journal
 use Rattle.cut_journal.specs.Journal.{JournalValue, ReadsAs, IsAppendFault, IsFileOf, LeavesAppend}
-use Rattle.cut_journal.specs.Journal.{AppendsEach, kept_slips, slips_after}
+use Rattle.cut_journal.specs.Journal.{kept_slips, slips_after}
 use Rattle.cut_journal.specs.Reading.{reading}
-use Rattle.cut_journal.proofs.Moments.{stays}
-use Rattle.cut_journal.proofs.Series.{LeavesDoubt, each_then, none_of}
+use Rattle.cut_journal.proofs.Series.{LeavesDoubt, each_then}
 use Rattle.cut_share.specs.declared.fault.ShareFault.{ShareFault}
 use Rattle.cut_share.specs.declared.fault.ShareFault.TheVariants.{Memory, OtherPlan, BadSlip, WorkMemory, Broken, Disk}
 use Rattle.cut_share.specs.declared.task.Task.{Task}
@@ -31,14 +30,7 @@ use Rattle.cut_share.specs.inside.Running.{EndsAppends, fault_of, slip_at, slips
 pub none_added : {D : Type 0} (is_honest : D → Type 0) (state : D → DiskState) (log : JournalValue D)
     → (is_honest log.disk → IsFileOf log.plan log.count log.doubtful (state log.disk))
     → Adds is_honest state [] log log
-none_added is_honest state log sound = record {
-  plan = refl;
-  count = omega arith;
-  taken = λ some. absurd (omega arith);
-  moments = λ honest. stays (ReadsAs log.plan (kept_slips log.plan log.count (state log.disk)) log.doubtful)
-      (state log.disk) (state log.disk) refl (λ image of. (sound honest).images image of);
-  kept = λ honest. sym (append-nil (kept_slips log.plan log.count (state log.disk)));
-}
+none_added is_honest state log sound = grind (arith, append-nil)
 
 pub none_failed : {D : Type 0} (added : List Slip) (log : JournalValue D) → NoneFailed added log log
 none_failed added log = record { doubtful = refl; untouched = λ none. refl }
@@ -69,24 +61,7 @@ pub one_added : {D : Type 0} (is_honest : D → Type 0) (state : D → DiskState
     → (is_honest old.disk → IsOneAppend state (Ok n) slip old new)
     → Adds is_honest state (slip ∷ []) old new × NoneFailed (slip ∷ []) old new
 one_added is_honest state n slip old new left broken honest =
-    let none : old.doubtful ≡ None = none_of old.doubtful (λ some. cc (broken.1 some)) in (
-      record {
-        plan = left.0;
-        count = left.1;
-        taken = λ some. none;
-        moments = λ is. (
-          state new.disk,
-          (
-            step_of state (Ok n) slip old new none (honest is),
-            stays (ReadsAs old.plan (kept_slips old.plan old.count (state old.disk) ++ slip ∷ []) new.doubtful)
-                (state new.disk) (state new.disk) refl
-                (λ image of. inl ((honest is).acknowledged image of ∙ ap (λ (l : List Slip). Ok l) (honest is).kept)),
-          ),
-        );
-        kept = λ is. (honest is).kept;
-      },
-      record { doubtful = left.2 ∙ sym none; untouched = λ none. absurd (omega arith) },
-    )
+    grind (arith, step_of)
 
 -- or the disk failed
 one_doubtful : {D : Type 0} (is_honest : D → Type 0) (state : D → DiskState) (slip : Slip) (old new : JournalValue D)
@@ -95,18 +70,7 @@ one_doubtful : {D : Type 0} (is_honest : D → Type 0) (state : D → DiskState)
     → (is_honest old.disk → IsOneAppend state (Err journal.Disk) slip old new)
     → Adds is_honest state [] old new × OneFailed slip old new
 one_doubtful is_honest state slip old new left broken honest =
-    let none : old.doubtful ≡ None = none_of old.doubtful (λ some. cc (broken.1 some)) in (
-      record {
-        plan = left.0;
-        count = left.1 ∙ omega arith;
-        taken = λ some. none;
-        moments = λ is. subst (λ (o : Option Slip). Throughout (state old.disk) (state new.disk)
-            (ReadsAs old.plan (kept_slips old.plan old.count (state old.disk)) o)) (sym left.2)
-            (step_of state (Err journal.Disk) slip old new none (honest is));
-        kept = λ is. (honest is).kept ∙ sym (append-nil (kept_slips old.plan old.count (state old.disk)));
-      },
-      record { whole = none; doubtful = left.2 },
-    )
+    grind (arith, append-nil)
 
 -- how the append of a piece's result ends
 pub append_failed : (T : Type 0) {D : Type 0} (is_honest : D → Type 0) (state : D → DiskState) (e : JournalFault)
@@ -134,29 +98,11 @@ doubt_left : {D : Type 0} (ys : List Slip) (mid new : JournalValue D) → (1 ≤
 doubt_left [] mid new taken none = inr (refl, none.doubtful)
 doubt_left (y ∷ ys) mid new taken none = inl (taken (omega arith))
 
-taken_both : (xs ys : List Slip) (old mid : Option Slip) → (1 ≤ length xs → old ≡ None)
-    → (1 ≤ length ys → mid ≡ None) → mid ≡ old → 1 ≤ length (xs ++ ys) → old ≡ None
-taken_both [] ys old mid first second same some = sym same ∙ second some
-taken_both (x ∷ xs) ys old mid first second same some = first (omega arith)
-
 both_added : {D : Type 0} (is_honest : D → Type 0) (state : D → DiskState) (xs ys : List Slip)
     (old mid new : JournalValue D) → (is_honest old.disk → is_honest mid.disk)
     → Adds is_honest state xs old mid → mid.doubtful ≡ old.doubtful → Adds is_honest state ys mid new
     → LeavesDoubt mid.doubtful new.doubtful ys → Adds is_honest state (xs ++ ys) old new
-both_added is_honest state xs ys old mid new honest before same after doubt = record {
-  plan = after.plan ∙ before.plan;
-  count =
-      (let one = before.count in let two = after.count in omega (arith, one, two, length-append xs ys));
-  taken = taken_both xs ys old.doubtful mid.doubtful before.taken after.taken same;
-  moments = λ is. each_then old.plan (kept_slips old.plan old.count (state old.disk))
-      (kept_slips mid.plan mid.count (state mid.disk)) xs ys mid.doubtful new.doubtful
-      (state old.disk) (state mid.disk) (state new.disk) (before.kept is) doubt (before.moments is)
-      (subst (λ (w : Values). AppendsEach w (kept_slips mid.plan mid.count (state mid.disk)) new.doubtful ys
-      (state mid.disk) (state new.disk)) before.plan (after.moments (honest is)));
-  kept = λ is. after.kept (honest is)
-      ∙ ap (λ (l : List Slip). l ++ ys) (before.kept is)
-      ∙ append_assoc (kept_slips old.plan old.count (state old.disk)) xs ys;
-}
+both_added is_honest state xs ys old mid new honest before same after doubt = grind (arith, length-append, each_then, append_assoc)
 
 pub added_more : {D : Type 0} (is_honest : D → Type 0) (state : D → DiskState) (xs ys : List Slip)
     (old mid new : JournalValue D) → (is_honest old.disk → is_honest mid.disk)
@@ -176,18 +122,12 @@ pub added_doubtful : {D : Type 0} (is_honest : D → Type 0) (state : D → Disk
     (old mid new : JournalValue D) → (is_honest old.disk → is_honest mid.disk)
     → Adds is_honest state xs old mid → NoneFailed xs old mid → Adds is_honest state ys mid new
     → OneFailed slip mid new → Adds is_honest state (xs ++ ys) old new × OneFailed slip old new
-added_doubtful is_honest state xs ys slip old mid new honest before none after failed = (
-  both_added is_honest state xs ys old mid new honest before none.doubtful after (inl failed.whole),
-  record { whole = sym none.doubtful ∙ failed.whole; doubtful = failed.doubtful },
-)
+added_doubtful is_honest state xs ys slip old mid new honest before none after failed = grind (arith, both_added is_honest state xs ys old mid new honest before none.doubtful after (inl failed.whole))
 
 -- ---- a task's result
 
 pub done_none : (task : Task) → task.result ≡ None → done_of (task ∷ []) ≡ []
 done_none task none = ap (λ (o : Option Computed). pieces_of (cond (is_some o) (task ∷ []) [])) none
-
-pub done_some : (task : Task) (r : Computed) → task.result ≡ Some r → done_of (task ∷ []) ≡ task.piece ∷ []
-done_some task r some = ap (λ (o : Option Computed). pieces_of (cond (is_some o) (task ∷ []) [])) some
 
 pub result_is : (v : Values) (task : Task) (r : Computed) → task.result ≡ Some r → IsRun v task
     → r ≡ record { plan = v; piece = task.piece }
@@ -204,11 +144,7 @@ pub task_appended : {T D : Type 0} (is_honest : D → Type 0) (state : D → Dis
     → (is_honest old.disk → IsOneAppend state (Ok n) (slip_of r) old new)
     → EndsAppends {T = T} is_honest state (Ok done) v (done_of (task ∷ [])) old new
 task_appended {T} is_honest state done n v task r old new some run left broken honest =
-    subst (λ (ps : List Piece). EndsAppends {T = T} is_honest state (Ok done) v ps old new)
-    (sym (done_some task r some))
-    (subst (λ (slip : Slip). Adds is_honest state (slip ∷ []) old new × NoneFailed (slip ∷ []) old new)
-    (slip_is v task r some run)
-    (one_added is_honest state n (slip_of r) old new left broken honest))
+    grind (arith, slip_is, one_added)
 
 pub task_failed : (T : Type 0) {D : Type 0} (is_honest : D → Type 0) (state : D → DiskState) (e : JournalFault)
     (v : Values) (task : Task) (r : Computed) (old new : JournalValue D) → task.result ≡ Some r → IsRun v task
@@ -219,21 +155,14 @@ pub task_failed : (T : Type 0) {D : Type 0} (is_honest : D → Type 0) (state : 
     → (is_honest old.disk → IsOneAppend state (Err e) (slip_of r) old new)
     → EndsAppends {T = T} is_honest state (Err (fault_of e)) v (done_of (task ∷ [])) old new
 task_failed T is_honest state e v task r old new some run may other broken left honest =
-    let is : slip_of r ≡ slip_at v task.piece = slip_is v task r some run in
-    subst (λ (ps : List Piece). EndsAppends {T = T} is_honest state (Err (fault_of e)) v ps old new)
-    (sym (done_some task r some))
-    (append_failed T is_honest state e v task.piece old new may other broken
-    (subst (λ (slip : Slip). LeavesAppend (Err e) slip old new) is left)
-    (λ honestly. subst (λ (slip : Slip). IsOneAppend state (Err e) slip old new) is (honest honestly)))
+    grind (arith, slip_is, append_failed)
 
 -- ---- tasks one after another
 
 pub done_more : (tasks : List Task) (i : ℕ) (task : Task) → i < length tasks → task ≡ get_or tasks i task
     → done_of (take (i + 1) tasks) ≡ done_of (take i tasks) ++ done_of (task ∷ [])
 done_more tasks i task low is =
-    ap done_of (take_more tasks i task low ∙ ap (λ (x : Task). take i tasks ++ x ∷ []) (sym is))
-    ∙ ap pieces_of (filter-append has_result (take i tasks) (task ∷ []))
-    ∙ map-append (λ (x : Task). x.piece) (filter has_result (take i tasks)) (filter has_result (task ∷ []))
+    grind (arith, take_more tasks i task low, filter-append has_result (take i tasks) (task ∷ []), map-append)
 
 -- those before, this one, and those after it
 pub done_split : (tasks : List Task) (i : ℕ) (task : Task) → i < length tasks → task ≡ get_or tasks i task
@@ -249,8 +178,7 @@ pub none_before : {D : Type 0} (ps : List Piece) (v : Values) (old mid : Journal
     → (1 ≤ length (slips_at v ps) → old.doubtful ≡ None) → IsSome old.doubtful → length (slips_at v ps) ≡ 0
 none_before [] v old mid taken some = refl
 none_before (p ∷ ps) v old mid taken some =
-    absurd (let none : old.doubtful ≡ None = taken (omega arith) in
-    let bad : IsSome {T = Slip} None = subst (λ (o : Option Slip). IsSome o) none some in cc bad)
+    grind arith
 
 regroup : (ps before : List Piece) (p : Piece) (after later : List Piece)
     → (ps ++ (before ++ p ∷ after)) ++ later ≡ (ps ++ before) ++ p ∷ (after ++ later)
@@ -267,12 +195,7 @@ appends_stop T is_honest state OtherPlan v w all ps qs later old mid new same ar
 appends_stop T is_honest state (BadSlip n) v w all ps qs later old mid new same are honest added none is = absurd is
 appends_stop T is_honest state WorkMemory v w all ps qs later old mid new same are honest added none is = absurd is
 appends_stop T is_honest state Broken v w all ps qs later old mid new same are honest added none is =
-    let some : IsSome old.doubtful = subst (λ (o : Option Slip). IsSome o) none.doubtful is.1 in
-    let count = is.0 in (
-      omega (arith, count, ap length are, length-append (ps ++ qs) later, length-append ps qs),
-      some,
-      is.2 ∙ none.untouched (none_before ps v old mid added.taken some),
-    )
+    grind (arith, length-append)
 appends_stop T is_honest state Disk v w all ps qs later old mid new same are honest added none (before, p, after, is) =
     let joined : slips_at v (ps ++ before) ≡ slips_at v ps ++ slips_at v before =
     map-append (slip_at v) ps before in

@@ -1,7 +1,7 @@
 -- What batches of pieces leave in the journal, one after another.
-use Rattle.std.proofs.Common.{◌≡◌, ◌∙◌, ◌≤◌, ◌<◌, ◌+◌, ◌++◌, ◌&&◌, ℕ, zero, suc, Bool, true, false, not, cond, List, []}
+use Rattle.std.proofs.Common.{◌≡◌, ◌∙◌, ◌≤◌, ◌+◌, ◌++◌, ◌&&◌, ℕ, Bool, true, false, not, cond, List, []}
 use Rattle.std.proofs.Common.{◌∷◌}
-use Rattle.std.proofs.Common.{Ok, Err, filter, length, get_or, refl, sym, ap, subst, arith, append_assoc}
+use Rattle.std.proofs.Common.{Ok, Err, filter, length, refl, sym, ap, subst, arith, append_assoc}
 use Rattle.std.proofs.Common.{length-append}
 use Rattle.std.specs.Prelude.{IsSome, All}
 use Rattle.std.specs.List.{list_all}
@@ -28,22 +28,12 @@ use Rattle.cut_share.specs.inside.Tasks.{done_of, has_result, lost_of, pieces_of
 use Rattle.cut_ledger.proofs.Law.{times-append}
 use Rattle.cut_share.proofs.Appends.{added_more, added_doubtful, none_failed, none_before}
 use Rattle.cut_share.proofs.Dealing.{own_at, times_one}
-use Rattle.cut_share.proofs.PieceFacts.{piece_has_first}
-
-one_own : (s : Share) (v : Values) (p : Piece) → IsSharePiece s v p → All (IsSharePiece s v) (p ∷ [])
-one_own s v p is = λ k d low. at k d low
-  where
-    at : (k : ℕ) (d : Piece) → k < 1 → IsSharePiece s v (get_or (p ∷ []) k d)
-    at zero d low = is
-    at (suc k) d low = absurd (omega arith)
 
 own_front : (s : Share) (v : Values) (ps qs : List Piece) → All (IsSharePiece s v) (ps ++ qs)
     → All (IsSharePiece s v) ps
 own_front s v [] qs own = All-nil (IsSharePiece s v)
 own_front s v (p ∷ ps) qs own =
-    All-append (IsSharePiece s v) (p ∷ []) ps
-    (one_own s v p (All-head (IsSharePiece s v) p (ps ++ qs) own))
-    (own_front s v ps qs (All-tail (IsSharePiece s v) p (ps ++ qs) own))
+    grind (arith, All-head, own_front s v ps qs (All-tail (IsSharePiece s v) p (ps ++ qs) own))
 
 -- ---- the pieces of tasks, with and without a result
 
@@ -54,12 +44,7 @@ times_first p ps t = count_first (λ q. is_in q t) p ps
 times_passing : (p : Task → Bool) (task : Task) (tasks : List Task) (t : ℕ)
     → times_in (pieces_of (filter p (task ∷ tasks))) t
     ≡ cond (p task) (one_if (is_in task.piece t)) 0 + times_in (pieces_of (filter p tasks)) t
-times_passing p task tasks t = by (p task)
-  where
-    by : (b : Bool) → times_in (pieces_of (cond b (task ∷ filter p tasks) (filter p tasks))) t
-        ≡ cond b (one_if (is_in task.piece t)) 0 + times_in (pieces_of (filter p tasks)) t
-    by true = times_first task.piece (pieces_of (filter p tasks)) t
-    by false = omega arith
+times_passing p task tasks t = grind (arith, times_first task.piece (pieces_of (filter p tasks)) t)
 
 pub times_parted : (tasks : List Task) (t : ℕ)
     → times_in (done_of tasks) t + times_in (lost_of tasks) t ≡ times_in (pieces_of tasks) t
@@ -82,60 +67,21 @@ pub own_filtered : (s : Share) (v : Values) (p : Task → Bool) (tasks : List Ta
     → All (IsSharePiece s v) (pieces_of tasks) → All (IsSharePiece s v) (pieces_of (filter p tasks))
 own_filtered s v p [] own = own
 own_filtered s v p (task ∷ tasks) own =
-    by (own_filtered s v p tasks (All-tail (IsSharePiece s v) task.piece (pieces_of tasks) own)) (p task)
-  where
-    by : All (IsSharePiece s v) (pieces_of (filter p tasks)) → (b : Bool)
-        → All (IsSharePiece s v) (pieces_of (cond b (task ∷ filter p tasks) (filter p tasks)))
-    by rest true = All-append (IsSharePiece s v) (task.piece ∷ []) (pieces_of (filter p tasks))
-        (one_own s v task.piece (All-head (IsSharePiece s v) task.piece (pieces_of tasks) own)) rest
-    by rest false = rest
+    grind (arith, All-head, own_filtered s v p tasks (All-tail (IsSharePiece s v) task.piece (pieces_of tasks) own))
 
 none_lost : (tasks : List Task) → list_all has_result tasks ≡ true → length (lost_of tasks) ≡ 0
 none_lost [] all = refl
-none_lost (task ∷ tasks) all = by (none_lost tasks) (has_result task) refl
-  where
-    by : (list_all has_result tasks ≡ true → length (lost_of tasks) ≡ 0) → (b : Bool) → has_result task ≡ b
-        → length (lost_of (task ∷ tasks)) ≡ 0
-    by rest true is =
-        ap (λ b. length (pieces_of (cond (not b) (task ∷ filter (λ x. not (has_result x)) tasks)
-        (filter (λ x. not (has_result x)) tasks)))) is
-        ∙ rest (ap (λ b. b && list_all has_result tasks) (sym is) ∙ all)
-    by rest false is =
-        absurd (let bad : false ≡ true = ap (λ b. b && list_all has_result tasks) (sym is) ∙ all in cc)
+none_lost (task ∷ tasks) all = grind (arith, none_lost tasks)
 
 some_lost : (tasks : List Task) → list_all has_result tasks ≡ false → 1 ≤ length (lost_of tasks)
 some_lost [] not_all = absurd (let bad : true ≡ false = not_all in cc)
-some_lost (task ∷ tasks) not_all = by (some_lost tasks) (has_result task) refl
-  where
-    by : (list_all has_result tasks ≡ false → 1 ≤ length (lost_of tasks)) → (b : Bool) → has_result task ≡ b
-        → 1 ≤ length (lost_of (task ∷ tasks))
-    by before true is =
-        let rest = before (ap (λ b. b && list_all has_result tasks) (sym is) ∙ not_all) in
-        let same : length (lost_of (task ∷ tasks)) ≡ length (lost_of tasks) =
-        ap (λ b. length (pieces_of (cond (not b) (task ∷ filter (λ x. not (has_result x)) tasks)
-        (filter (λ x. not (has_result x)) tasks)))) is in
-        omega (arith, rest, same)
-    by before false is =
-        let same : length (lost_of (task ∷ tasks)) ≡ suc (length (lost_of tasks)) =
-        ap (λ b. length (pieces_of (cond (not b) (task ∷ filter (λ x. not (has_result x)) tasks)
-        (filter (λ x. not (has_result x)) tasks)))) is in
-        omega (arith, same)
+some_lost (task ∷ tasks) not_all = grind (arith, some_lost tasks)
 
 whole_more : (whole done : Bool) (lost : List Piece) (tasks : List Task) → IsWhole whole lost
     → done ≡ list_all has_result tasks → IsWhole (whole && done) (lost ++ lost_of tasks)
-whole_more true true lost tasks before is = record {
-  none = λ all. (let one = before.none refl in let two = none_lost tasks (sym is) in
-      omega (arith, one, two, length-append lost (lost_of tasks)));
-  some = λ other. absurd (let bad : true ≡ false = other in cc);
-}
-whole_more true false lost tasks before is = record {
-  none = λ all. absurd (let bad : false ≡ true = all in cc);
-  some = λ other. (let one = some_lost tasks (sym is) in omega (arith, one, length-append lost (lost_of tasks)));
-}
-whole_more false done lost tasks before is = record {
-  none = λ all. absurd (let bad : false ≡ true = all in cc);
-  some = λ other. (let one = before.some refl in omega (arith, one, length-append lost (lost_of tasks)));
-}
+whole_more true true lost tasks before is = grind (arith, none_lost, length-append)
+whole_more true false lost tasks before is = grind (arith, some_lost, length-append)
+whole_more false done lost tasks before is = grind (arith, length-append)
 
 -- ---- up to a batch
 
@@ -146,11 +92,7 @@ pub none_yet : {D : Type 0} (is_honest : D → Type 0) (state : D → DiskState)
 none_yet is_honest state s v all log added = record {
   done = [];
   lost = [];
-  parted = record {
-    done_own = All-nil (IsSharePiece s v);
-    lost_own = All-nil (IsSharePiece s v);
-    times = λ t. omega arith;
-  };
+  parted = grind arith;
   sufficed = record { none = λ is. refl; some = λ other. absurd (let bad : true ≡ false = other in cc) };
   kept = record { added = added; failed = none_failed [] log };
 }
@@ -194,19 +136,10 @@ batch_more is_honest state whole done s v all left next tasks old mid new honest
       };
     }
 
--- a piece of the share has a trial
-first_in : (s : Share) (v : Values) (p : Piece) → IsSharePiece s v p → is_in p p.first ≡ true
-first_in s v p is = piece_has_first v p is.piece
-
 pub some_time : (s : Share) (v : Values) (ps : List Piece) → All (IsSharePiece s v) ps → 1 ≤ length ps
     → (t : ℕ) × (1 ≤ times_in ps t)
 some_time s v [] own some = absurd (omega arith)
-some_time s v (p ∷ ps) own some = (
-  p.first,
-  (let first : one_if (is_in p p.first) ≡ 1 =
-      ap (λ b. one_if b) (first_in s v p (All-head (IsSharePiece s v) p ps own)) in
-      omega (arith, times_first p ps p.first, first)),
-)
+some_time s v (p ∷ ps) own some = grind (arith, All-head (IsSharePiece s v) p ps own, times_first p ps p.first)
 
 -- a batch ends the run
 pub batch_stops : {D : Type 0} (is_honest : D → Type 0) (state : D → DiskState) (e : ShareFault) (whole : Bool)

@@ -2,7 +2,7 @@
 use Rattle.std.proofs.Common.{◌≡◌, ℕ, ◌+◌, ◌*◌, ◌/◌, ◌%◌, ◌<◌, ◌≤◌, ◌==◌, inl, inr}
 use Rattle.std.proofs.Common.{sym, ap, ◌∙◌, arith}
 use Rattle.std.proofs.Math.Nat.{mod-eq_of_lt, div-eq_of_lt}
-use Rattle.std.proofs.lemmas.Bool.{cases_lt, eq-eqb, ne_eqb}
+use Rattle.std.proofs.lemmas.Bool.{cases_lt}
 use Rattle.std.proofs.lemmas.Nat.{div-mul-add, mod-mul-add, div-add-mod', mod_below}
 use Rattle.std.specs.Int.{div_ceil}
 use Rattle.cut_plan.specs.Values.{Values}
@@ -17,31 +17,7 @@ record NextQuotient (o p : ℕ) : Type 0 where
 
 next_quotient : (o p : ℕ) → 1 ≤ p → NextQuotient o p
 next_quotient o p some =
-    let q : ℕ = o / p in
-    let r : ℕ = o % p in
-    let whole : q * p + r ≡ o = div-add-mod' o p in
-    let below : r < p = mod_below o p (omega arith) in
-    elim (cases_lt (r + 1) p) [
-      | inl inside ↦ (
-          let sum : q * p + (r + 1) ≡ o + 1 = omega (arith, whole) in
-          let quotient : (o + 1) / p ≡ q = ap (λ n. n / p) (sym sum) ∙ div-mul-add q p (r + 1) inside in
-          let rest : (o + 1) % p ≡ r + 1 = ap (λ n. n % p) (sym sum) ∙ mod-mul-add q p (r + 1) inside in
-          let more : one_if ((o + 1) % p == 0) ≡ 0 =
-          ap (λ b. one_if b) (ne_eqb ((o + 1) % p) 0 (λ none. omega (arith, none, rest))) in
-          record {
-            quotient = omega (arith, quotient, more);
-            ceiling = omega (arith, quotient, rest);
-          })
-      | inr past ↦ (
-          let sum : (q + 1) * p + 0 ≡ o + 1 = omega (arith, whole, below, past) in
-          let quotient : (o + 1) / p ≡ q + 1 = ap (λ n. n / p) (sym sum) ∙ div-mul-add (q + 1) p 0 (omega arith) in
-          let rest : (o + 1) % p ≡ 0 = ap (λ n. n % p) (sym sum) ∙ mod-mul-add (q + 1) p 0 (omega arith) in
-          let more : one_if ((o + 1) % p == 0) ≡ 1 = ap (λ b. one_if b) (eq-eqb ((o + 1) % p) 0 rest) in
-          record {
-            quotient = omega (arith, quotient, more);
-            ceiling = omega (arith, quotient, rest);
-          })
-    ]
+    grind arith
 
 -- ---- the blocks in order
 
@@ -77,15 +53,7 @@ next_block size v t some repeats =
     ]
 
 pub blocks_numbered : (size : ℕ) (v : Values) → 1 ≤ size → 1 ≤ v.repeats → AreNumbered size v
-blocks_numbered size v some repeats = record {
-  first =
-      (let cell : 0 / v.repeats ≡ 0 = div-eq_of_lt {n = 0} {m = v.repeats} (omega arith) in
-      let at : (0 % v.repeats) / size ≡ 0 =
-      ap (λ n. n / size) (mod-eq_of_lt {n = 0} {m = v.repeats} (omega arith))
-      ∙ div-eq_of_lt {n = 0} {m = size} (omega arith) in
-      ap (λ n. n * div_ceil v.repeats size + (0 % v.repeats) / size) cell ∙ omega (arith, at));
-  next = λ t. next_block size v t some repeats;
-}
+blocks_numbered size v some repeats = grind (arith, next_block)
 
 -- ---- the trials of one block
 
@@ -93,9 +61,4 @@ blocks_numbered size v some repeats = record {
 pub block_at : (size : ℕ) (v : Values) (c b k : ℕ) → k < size → b * size + k < v.repeats
     → block_of size v (c * v.repeats + (b * size + k)) ≡ c * div_ceil v.repeats size + b
 block_at size v c b k in-block in-cell =
-    let r : ℕ = v.repeats in
-    let o : ℕ = b * size + k in
-    let cell : (c * r + o) / r ≡ c = div-mul-add c r o in-cell in
-    let at : ((c * r + o) % r) / size ≡ b =
-    ap (λ n. n / size) (mod-mul-add c r o in-cell) ∙ div-mul-add b size k in-block in
-    ap (λ n. n * div_ceil r size + ((c * r + o) % r) / size) cell ∙ omega (arith, at)
+    grind (arith, div-mul-add, mod-mul-add)

@@ -1,6 +1,6 @@
 -- How many trials a share has, block by block and cell by cell.
-use Rattle.std.proofs.Common.{◌≡◌, ℕ, suc, ◌+◌, ◌-◌, ◌*◌, ◌<◌, ◌≤◌, ◌&&◌, min, Bool, true, false, cond}
-use Rattle.std.proofs.Common.{length, sym, ap, ◌∙◌, arith, zero-add}
+use Rattle.std.proofs.Common.{◌≡◌, ℕ, suc, ◌+◌, ◌-◌, ◌*◌, ◌<◌, ◌≤◌, ◌&&◌, min, Bool, true, false}
+use Rattle.std.proofs.Common.{length, sym, ap, ◌∙◌, arith}
 use Rattle.std.proofs.Math.Nat.{mul-le-mul_right}
 use Rattle.std.specs.Prelude.{count_by, if◌then◌else◌}
 use Rattle.std.specs.List.{range_with_len}
@@ -23,8 +23,7 @@ use Rattle.cut_share.proofs.Blocks.{block_at}
 pub count_joined : (p : ℕ → Bool) (a m n : ℕ) → count_by p (range_with_len a (m + n))
     ≡ count_by p (range_with_len a m) + count_by p (range_with_len (a + m) n)
 count_joined p a m n =
-    ap (count_by p) (sym (ranges-join a m n))
-    ∙ sum_by-append (λ x. cond (p x) 1 0) (range_with_len a m) (range_with_len (a + m) n)
+    grind (arith, ranges-join a m n, sum_by-append)
 
 pub count_at_most : (p : ℕ → Bool) (a n : ℕ) → count_by p (range_with_len a n) ≤ n
 count_at_most p a n = omega (arith, count_by-le-length p (range_with_len a n), length-range_with_len a n)
@@ -89,11 +88,7 @@ pub count_cell : (s : Share) (v : Values) (c : ℕ)
     ≡ count_by (is_in_share s v) (range_with_len 0 (c * v.repeats))
     + count_by (is_in_share s v) (range_with_len (c * v.repeats) v.repeats)
 count_cell s v c =
-    let sum : (c + 1) * v.repeats ≡ c * v.repeats + v.repeats = omega arith in
-    ap (λ n. count_by (is_in_share s v) (range_with_len 0 n)) sum
-    ∙ count_joined (is_in_share s v) 0 (c * v.repeats) v.repeats
-    ∙ ap (λ n. count_by (is_in_share s v) (range_with_len 0 (c * v.repeats))
-    + count_by (is_in_share s v) (range_with_len n v.repeats)) (zero-add (c * v.repeats))
+    grind (arith, count_joined)
 
 -- all cells are the plan
 pub count_all : (s : Share) (v : Values) → length (trials_of_share s v)
@@ -107,8 +102,4 @@ pub block_counted : (s : Share) (v : Values) (c b : ℕ) (own : Bool) (old new :
     → new ≡ old + (if own then min s.block_size (v.repeats - b * s.block_size) else 0)
     → new ≡ count_by (is_in_share s v) (range_with_len (c * v.repeats) (min ((b + 1) * s.block_size) v.repeats))
 block_counted s v c b own old new cell low is before after =
-    after
-    ∙ ap (λ n. n + (if own then min s.block_size (v.repeats - b * s.block_size) else 0)) before
-    ∙ ap (λ x. count_by (is_in_share s v) (range_with_len (c * v.repeats) (min (b * s.block_size) v.repeats))
-    + (if x then min s.block_size (v.repeats - b * s.block_size) else 0)) is
-    ∙ sym (count_block s v c b cell low)
+    grind (arith, count_block)

@@ -1,6 +1,6 @@
 -- Tasks that get pieces, one after another.
 use Rattle.std.proofs.Common.{◌≡◌, ℕ, zero, suc, ◌+◌, ◌<◌, List, [], ◌∷◌, ◌++◌, take, length, All, refl, sym, ap}
-use Rattle.std.proofs.Common.{◌∙◌, subst, arith, get_or}
+use Rattle.std.proofs.Common.{◌∙◌, arith}
 use Rattle.std.specs.Prelude.{slice_set, Option}
 use Rattle.std.proofs.lemmas.List.{map-append}
 use Rattle.std.proofs.lemmas.List.Elements.{All-append}
@@ -35,18 +35,12 @@ pub dealt : (tasks : List Task) (n : ℕ) (p : Piece) (result : Option Computed)
     → pieces_of (take (n + 1) (slice_set tasks n (record { piece = p; result = result })))
     ≡ pieces_of (take n tasks) ++ p ∷ []
 dealt tasks n p result low =
-    ap pieces_of (take_put tasks n (record { piece = p; result = result }) low)
-    ∙ map-append (λ (task : Task). task.piece) (take n tasks) (record { piece = p; result = result } ∷ [])
+    grind (arith, take_put, map-append)
 
 pub own_more : (s : Share) (v : Values) (ps qs : List Piece) (p : Piece) → qs ≡ ps ++ p ∷ []
     → All (IsSharePiece s v) ps → IsSharePiece s v p → All (IsSharePiece s v) qs
 own_more s v ps qs p are own is =
-    subst (λ (l : List Piece). All (IsSharePiece s v) l) (sym are)
-    (All-append (IsSharePiece s v) ps (p ∷ []) own (λ k d low. one k d low))
-  where
-    one : (k : ℕ) (d : Piece) → k < 1 → IsSharePiece s v (get_or (p ∷ []) k d)
-    one zero d low = is
-    one (suc k) d low = absurd (omega arith)
+    grind (arith, All-append (IsSharePiece s v) ps (p ∷ []) own)
 
 pub times_more : (ps qs : List Piece) (p : Piece) (t left more all : ℕ) → qs ≡ ps ++ p ∷ []
     → times_in ps t + left ≡ all → one_if (is_in p t) + more ≡ left → times_in qs t + more ≡ all
@@ -81,5 +75,4 @@ one_dealt s now v w ps qs mid new p t all share plan are one before =
 pub own_dealt : (s now : Share) (v w : Values) (ps qs : List Piece) (p : Piece) → now ≡ s → w ≡ v
     → qs ≡ ps ++ p ∷ [] → All (IsSharePiece s v) ps → IsSharePiece now w p → All (IsSharePiece s v) qs
 own_dealt s now v w ps qs p share plan are own is =
-    own_more s v ps qs p are own
-    (subst (λ (x : Share). IsSharePiece x v p) share (subst (λ (y : Values). IsSharePiece now y p) plan is))
+    grind (arith, own_more s v ps qs p are own)

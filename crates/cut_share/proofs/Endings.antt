@@ -1,10 +1,9 @@
 -- How a run of a share ends, by how its batches do.
-use Rattle.std.proofs.Common.{◌≡◌, ◌∙◌, ◌≤◌, ◌<◌, ◌+◌, ◌++◌, ◌==◌, ◌&&◌, ◌||◌, ℕ, zero, suc, Bool, true, false, not}
-use Rattle.std.proofs.Common.{cond, List, [], ◌∷◌, Ok, Err, filter, length, get_or, nat_lt, refl, sym, ap, subst, arith}
+use Rattle.std.proofs.Common.{◌≡◌, ◌∙◌, ◌≤◌, ◌<◌, ◌+◌, ◌++◌, ◌==◌, ◌&&◌, ℕ, Bool, true, false, not}
+use Rattle.std.proofs.Common.{cond, List, [], ◌∷◌, Ok, Err, filter, length, nat_lt, refl, sym, ap, subst, arith}
 use Rattle.std.specs.Prelude.{IsTrue, All, Result, count_by}
 use Rattle.std.specs.List.{range_with_len}
-use Rattle.std.proofs.lemmas.Bool.{and_parts, eqb-true, ltb-true}
-use Rattle.std.proofs.lemmas.Bool.Decides.{nat_tests}
+use Rattle.std.proofs.lemmas.Bool.{and_parts, ltb-true}
 use Rattle.std.proofs.lemmas.List.{map-append}
 use Rattle.std.proofs.lemmas.List.Elements.{All-append, All-nil, All-head, All-tail}
 use Rattle.std.proofs.lemmas.List.Folds.{list_any-append}
@@ -12,7 +11,7 @@ use Rattle.std.proofs.lemmas.List.FromFn.{get_or-map-range_with_len}
 use Rattle.cut_lists.proofs.Counts.{list_any-count_by}
 use Rattle.cut_lists.proofs.Maps.{count_by-map}
 use Rattle.cut_lists.proofs.Parts.{count_first}
-use Rattle.cut_lists.proofs.Ranges.{All-range_with_len, count_by_agree}
+use Rattle.cut_lists.proofs.Ranges.{All-range_with_len}
 use Rattle.cut_lists.proofs.Ranks.{count_by_none}
 use Rattle.cut_plan.specs.Cells.{trial_count}
 use Rattle.cut_plan.specs.Values.{Values}
@@ -20,7 +19,7 @@ use Rattle.cut_outcome.specs.declared.piece.Piece.{Piece}
 use Rattle.cut_outcome.specs.Outcome.{one_if}
 use Rattle.cut_disks.specs.State.{DiskState}
 use Rattle.cut_ledger.specs.declared.slip.Slip.{Slip}
-use Rattle.cut_ledger.specs.Contents.{has, is_in, is_in_base, over_base}
+use Rattle.cut_ledger.specs.Contents.{has, is_in_base, over_base}
 use Rattle.cut_ledger.specs.Gaps.{gaps_of}
 use Rattle.cut_ledger.specs.Laws.{GapsCover}
 use Rattle.cut_ledger.specs.Slips.{AreGood}
@@ -39,21 +38,13 @@ use Rattle.cut_share.specs.Running.{AreOfShare, CanRun, EndsShare, is_lacking}
 use Rattle.cut_share.specs.inside.Running.{slip_at, slips_at}
 use Rattle.cut_share.specs.Share.{IsShareSlip, has_block, is_in_share, trials_of_share}
 use Rattle.cut_share.specs.Blocks.{block_of}
-use Rattle.cut_share.proofs.Batches.{some_time, times_first}
+use Rattle.cut_share.proofs.Batches.{some_time}
 use Rattle.cut_share.proofs.PieceFacts.{in_trials}
 use Rattle.cut_share.proofs.Turns.{once_in_range}
 
 and_true : (b : Bool) → b && true ≡ b
 and_true true = refl
 and_true false = refl
-
-and_false : (b : Bool) → b && false ≡ false
-and_false true = refl
-and_false false = refl
-
-or_none : (b : Bool) → b || false ≡ b
-or_none true = refl
-or_none false = refl
 
 -- ---- how often a trial is in the gaps
 
@@ -70,53 +61,27 @@ count_filter p q (x ∷ xs) = by (count_filter p q xs) (p x) refl
         ap (λ c. cond {A = ℕ} (q x && c) 1 0) is ∙ ap (λ c. cond {A = ℕ} c 1 0) (and_true (q x)) in
         omega (arith, left, both, count_first q x (filter p xs), count_first (λ y. q y && p y) x xs, rest)
     by rest false is =
-        let left : count_by q (filter p (x ∷ xs)) ≡ count_by q (filter p xs) =
-        ap (λ c. count_by q (cond c (x ∷ filter p xs) (filter p xs))) is in
-        let both : cond {A = ℕ} (q x && p x) 1 0 ≡ 0 =
-        ap (λ c. cond {A = ℕ} (q x && c) 1 0) is ∙ ap (λ c. cond {A = ℕ} c 1 0) (and_false (q x)) in
-        omega (arith, left, both, count_first (λ y. q y && p y) x xs, rest)
-
-same_at : (free : ℕ → Bool) (x t : ℕ) → (x == t) && free x ≡ (x == t) && free t
-same_at free x t = by (x == t) refl
-  where
-    by : (b : Bool) → (x == t) ≡ b → (x == t) && free x ≡ (x == t) && free t
-    by true is = ap (λ y. (x == t) && free y) (eqb-true x t is)
-    by false is = ap (λ b. b && free x) is ∙ sym (ap (λ b. b && free t) is)
+        grind arith
 
 once_if : (b : Bool) (n t : ℕ) → t < n → count_by (λ x. (x == t) && b) (range_with_len 0 n) ≡ one_if b
 once_if true n t low =
-    count_by_agree (λ x. (x == t) && true) (λ x. x == t) 0 n (record { same = λ x from below. and_true (x == t) })
-    ∙ once_in_range 0 n t ∙ grind (arith, nat_tests)
+    grind (arith, once_in_range 0 n t)
 once_if false n t low =
-    count_by_none (λ x. (x == t) && false) (range_with_len 0 n)
-    (All-range_with_len (λ x. (x == t) && false ≡ false) 0 n (λ x from below. and_false (x == t)))
+    grind (arith, count_by_none)
 
 count_free : (free : ℕ → Bool) (n t : ℕ) → t < n
     → count_by (λ x. x == t) (filter free (range_with_len 0 n)) ≡ one_if (free t)
 count_free free n t low =
-    count_filter free (λ x. x == t) (range_with_len 0 n)
-    ∙ count_by_agree (λ x. (x == t) && free x) (λ x. (x == t) && free t) 0 n
-    (record { same = λ x from below. same_at free x t })
-    ∙ once_if (free t) n t low
+    grind (arith, count_filter free, once_if (free t) n t low)
 
 own_if : (s : Share) (v : Values) (ps : List Piece) (t : ℕ) (b : Bool) → is_in_share s v t ≡ b
     → own_times s v ps t ≡ (cond b (times_in ps t) 0)
 own_if s v [] t true is = refl
 own_if s v [] t false is = refl
 own_if s v (p ∷ ps) t true is =
-    let here : cond {A = ℕ} (is_in p t && is_in_share s v t) 1 0 ≡ one_if (is_in p t) =
-    ap (λ b. cond {A = ℕ} (is_in p t && b) 1 0) is ∙ ap (λ b. cond {A = ℕ} b 1 0) (and_true (is_in p t)) in
-    omega (
-      arith,
-      here,
-      count_first (λ q. is_in q t && is_in_share s v t) p ps,
-      times_first p ps t,
-      own_if s v ps t true is,
-    )
+    grind arith
 own_if s v (p ∷ ps) t false is =
-    let here : cond {A = ℕ} (is_in p t && is_in_share s v t) 1 0 ≡ 0 =
-    ap (λ b. cond {A = ℕ} (is_in p t && b) 1 0) is ∙ ap (λ b. cond {A = ℕ} b 1 0) (and_false (is_in p t)) in
-    omega (arith, here, count_first (λ q. is_in q t && is_in_share s v t) p ps, own_if s v ps t false is)
+    grind (arith, own_if s v ps t false is)
 
 -- a trial of the share is in one gap where no slip has it, and else in none
 pub gap_times : GapsCover → (s : Share) (v : Values) (ss : List Slip) (t : ℕ)
@@ -137,8 +102,7 @@ gap_times cover s v ss t = by (is_in_share s v t) refl
         ∙ ap (λ b. one_if (not b)) held
         ∙ ap (λ b. one_if (b && not (is_in_base ss t))) (sym is)
     by false is =
-        own_if s v (gaps_of (over_base v ss)) t false is
-        ∙ ap (λ b. one_if (b && not (is_in_base ss t))) (sym is)
+        grind (arith, own_if s v (gaps_of (over_base v ss)) t false is)
 
 -- ---- the slips of pieces
 
@@ -154,11 +118,7 @@ one_slip s v p is = record {
 }
 
 one_of : (s : Share) (v : Values) (slip : Slip) → IsShareSlip s v slip → All (IsShareSlip s v) (slip ∷ [])
-one_of s v slip is = λ k d low. at k d low
-  where
-    at : (k : ℕ) (d : Slip) → k < 1 → IsShareSlip s v (get_or (slip ∷ []) k d)
-    at zero d low = is
-    at (suc k) d low = absurd (omega arith)
+one_of s v slip is = grind arith
 
 share_slips : (s : Share) (v : Values) (ps : List Piece) → All (IsSharePiece s v) ps
     → All (IsShareSlip s v) (slips_at v ps)
@@ -170,10 +130,7 @@ share_slips s v (p ∷ ps) own =
 
 of_share : (s : Share) (v : Values) (ss : List Slip) (ps : List Piece) → All (IsSharePiece s v) ps
     → ((t : ℕ) → times_in ps t ≤ one_if (is_lacking s v ss t)) → AreOfShare s v ss (slips_at v ps)
-of_share s v ss ps own once = record {
-  each = share_slips s v ps own;
-  once = λ t. (let few = once t in omega (arith, few, ap (λ (l : List Piece). times_in l t) (pieces_back v ps)));
-}
+of_share s v ss ps own once = search (arith, share_slips, pieces_back)
 
 -- ---- the endings
 
@@ -221,14 +178,7 @@ ends_whole is_honest state s v ss all old new n begun count upto = (
 still_lacking : (s : Share) (v : Values) (ss : List Slip) (ps : List Piece) (t : ℕ) → times_in ps t ≡ 0
     → IsTrue (is_lacking s v ss t) → IsTrue (is_lacking s v (ss ++ slips_at v ps) t)
 still_lacking s v ss ps t none lacks =
-    let among : is_in_base (slips_at v ps) t ≡ false =
-    list_any-count_by (λ (slip : Slip). is_in slip.piece t) (slips_at v ps)
-    ∙ ap (nat_lt 0) (sym (count_by-map (λ p. is_in p t) (λ (slip : Slip). slip.piece) (slips_at v ps))
-    ∙ ap (λ (l : List Piece). times_in l t) (pieces_back v ps) ∙ none) in
-    let both : is_in_base (ss ++ slips_at v ps) t ≡ is_in_base ss t =
-    list_any-append (λ (slip : Slip). is_in slip.piece t) ss (slips_at v ps)
-    ∙ ap (λ b. is_in_base ss t || b) among ∙ or_none (is_in_base ss t) in
-    ap (λ b. is_in_share s v t && not b) both ∙ lacks
+    grind (arith, list_any-count_by, count_by-map, list_any-append)
 
 pub ends_short : {D : Type 0} (is_honest : D → Type 0) (state : D → DiskState) (s : Share) (v : Values)
     (ss : List Slip) (all : List Piece) (old new : JournalValue D) → IsBegun s v ss all old
@@ -265,20 +215,7 @@ ends_fault is_honest state OtherPlan s v ss all old new begun none ends = absurd
 ends_fault is_honest state (BadSlip n) s v ss all old new begun none ends = absurd ends
 ends_fault is_honest state WorkMemory s v ss all old new begun none ends = absurd ends
 ends_fault {D} is_honest state Broken s v ss all old new begun none ends =
-    let t : ℕ = ends.2.0 in
-    let low : 1 ≤ own_times s v all t = ends.2.1 in (
-      [],
-      (
-        subst (λ (log : JournalValue D). Adds is_honest state [] old log) (sym ends.1) none,
-        (
-          begun.can,
-          (t, is_true (is_lacking s v ss t) (own_times s v all t) low (let two = begun.lack t in omega (arith, two))),
-          ends.0,
-          refl,
-          ends.1,
-        ),
-      ),
-    )
+    grind arith
 ends_fault is_honest state Disk s v ss all old new begun none (done, p, ends) = (
   slips_at v done,
   (
@@ -322,8 +259,7 @@ pub ends_at : {D : Type 0} (is_honest : D → Type 0) (state : D → DiskState) 
     (s now : Share) (v w : Values) (all : List Piece) (old new : JournalValue D) → now ≡ s → w ≡ v
     → EndsPieces is_honest state result now w all old new → EndsPieces is_honest state result s v all old new
 ends_at is_honest state result s now v w all old new share plan ends =
-    subst (λ (x : Share). EndsPieces is_honest state result x v all old new) share
-    (subst (λ (y : Values). EndsPieces is_honest state result now y all old new) plan ends)
+    grind arith
 
 -- what the run begins with
 pub begun_over : {D : Type 0} (s : Share) (v : Values) (ss : List Slip) (all gaps : List Piece) (log : JournalValue D)

@@ -25,8 +25,7 @@ pub once_in_range : (a n t : ℕ)
 once_in_range a zero t = grind (arith, nat_tests)
 once_in_range a (suc n) t =
     let first = count_first (λ x. x == t) a (range_with_len (a + 1) n) in
-    let rest = once_in_range (a + 1) n t in
-    grind (arith, nat_tests, first, rest)
+    grind (arith, once_in_range (a + 1) n t)
 
 -- one number further on there are as many of each remainder
 turn : (n r b : ℕ) → count_by (λ k. k % suc n == r) (range_with_len (b + 1) (suc n))
@@ -53,8 +52,7 @@ turns n r zero low =
     (record { same = λ k from below. ap (λ m. m == r) (mod-eq_of_lt {n = k} {m = suc n} (omega arith)) })
     ∙ once_in_range 0 (suc n) r ∙ grind (arith, nat_tests)
 turns n r (suc b) low =
-    ap (λ k. count_by (λ m. m % suc n == r) (range_with_len k (suc n))) (let w : suc b ≡ b + 1 = omega arith in w)
-    ∙ turn n r b ∙ turns n r b low
+    grind (arith, turn n r b, turns n r b low)
 
 by_count : (n : ℕ) (r b : ℕ) → r < n → count_by (λ k. k % n == r) (range_with_len b n) ≡ 1
 by_count zero r b low = absurd (omega arith)
@@ -62,8 +60,7 @@ by_count (suc n) r b low = turns n r b low
 
 pub take_turns : (s : Share) (b : ℕ) → count_by (has_block s) (range_with_len b s.shares) ≡ 1
 take_turns s b =
-    let bounds = s.bounds in
-    by_count s.shares (s.index - 1) b (let w = bounds.numbered in let x = bounds.within in omega arith)
+    grind (arith, by_count s.shares (s.index - 1) b)
 
 -- ---- each trial is in one share
 

@@ -1,15 +1,14 @@
 -- How many trials slips hold, and how many cells of a ledger are done.
-use Rattle.std.proofs.Common.{◌≡◌, ◌∙◌, ◌+◌, ◌-◌, ◌*◌, ◌/◌, ◌<◌, ◌≤◌, ◌^◌, ◌==◌, ◌&&◌, ◌||◌, ℕ, false, cond}
-use Rattle.std.proofs.Common.{List, [], ◌∷◌, length, take, get_or, nat_lt, nat_le, refl, sym, ap, arith, zero-add}
+use Rattle.std.proofs.Common.{◌≡◌, ◌∙◌, ◌+◌, ◌-◌, ◌*◌, ◌<◌, ◌≤◌, ◌^◌, ◌||◌, ℕ, false, cond}
+use Rattle.std.proofs.Common.{List, [], ◌∷◌, length, take, get_or, refl, sym, ap, arith, zero-add}
 use Rattle.std.specs.Prelude.{IsTrue}
 use Rattle.std.specs.List.{range_with_len, count_by, list_all}
 use Rattle.std.proofs.Math.Bool.{or-false}
-use Rattle.std.proofs.lemmas.Bool.{and_parts, leb-true, or_right, false_from_ne_true}
+use Rattle.std.proofs.lemmas.Bool.{or_right, false_from_ne_true}
 use Rattle.std.proofs.lemmas.List.{take_more}
 use Rattle.std.proofs.lemmas.List.Folds.{list_any-append}
 use Rattle.std.proofs.lemmas.List.FromFn.{length-range_with_len, get_or-map-range_with_len}
 use Rattle.std.proofs.lemmas.List.Sums.{count_by-le-length, sum_by-cons, sum_by_push}
-use Rattle.std.proofs.lemmas.Nat.{mul-le}
 use Rattle.cut_lists.proofs.Additions.{PassesPart, count_of_more}
 use Rattle.cut_lists.proofs.Intervals.{list_all_agree, within_is}
 use Rattle.cut_lists.proofs.Ranges.{count_by_agree, none_passing, range_with_len_more}
@@ -40,16 +39,11 @@ held_none v = sym (none_in (all_trials v))
 in_more : (ss : List Slip) (i : ℕ) (d : Slip) (t : ℕ) → i < length ss → is_in_base (take (i + 1) ss) t
     ≡ (is_in_base (take i ss) t || is_in (get_or ss i d).piece t)
 in_more ss i d t within =
-    ap (λ (xs : List Slip). is_in_base xs t) (take_more ss i d within)
-    ∙ list_any-append (λ (s : Slip). is_in s.piece t) (take i ss) (get_or ss i d ∷ [])
-    ∙ ap (λ b. is_in_base (take i ss) t || b) (or-false (is_in (get_or ss i d).piece t))
+    grind (arith, take_more ss i d within, list_any-append)
 
 piece_ends : (v : Values) (p : Piece) → IsTrue (is_piece v p) → p.first + p.count ≤ trial_count v
 piece_ends v p piece =
-    let parts = and_parts (nat_lt 0 p.count && nat_le (p.first + p.count) (trial_count v))
-    (p.first / v.repeats == (p.first + p.count - 1) / v.repeats) piece in
-    leb-true (p.first + p.count) (trial_count v)
-    (and_parts (nat_lt 0 p.count) (nat_le (p.first + p.count) (trial_count v)) parts.0).1
+    grind arith
 
 has_in : (v : Values) (ss : List Slip) (t : ℕ) → t < trial_count v → has (over_base v ss) t ≡ is_in_base ss t
 has_in v ss t low = get_or-map-range_with_len (is_in_base ss) 0 (trial_count v) t t false low (omega arith)
@@ -85,20 +79,13 @@ held_more v ss i d good within =
 -- no more trials are held than there are, and their number has 32 bits
 pub held_few : (v : Values) (ss : List Slip) → IsPlan v → held_trials v ss < 2 ^ 32
 held_few v ss plan =
-    let few = mul-le (length (cells_of v)) v.repeats 4096 1000000 plan.few_cells plan.few_repeats in
-    omega (
-      arith,
-      few,
-      count_by-le-length (is_in_base ss) (all_trials v),
-      length-range_with_len 0 (trial_count v),
-    )
+    grind (arith, count_by-le-length, length-range_with_len)
 
 -- ---- one cell more
 
 pub done_more : (l : Contents) (n : ℕ) → done_among l (n + 1) ≡ done_among l n + cond (cell_done l n) 1 0
 done_more l n =
-    ap (count_by (cell_done l)) (range_with_len_more 0 n n (zero-add n))
-    ∙ sum_by_push (λ (c : ℕ). cond {A = ℕ} (cell_done l c) 1 0) (range_with_len 0 n) n
+    grind (arith, range_with_len_more 0 n n (zero-add n), sum_by_push)
 
 pub done_few : (l : Contents) (n : ℕ) → done_among l n ≤ n
 done_few l n = omega (arith, count_by-le-length (cell_done l) (range_with_len 0 n), length-range_with_len 0 n)

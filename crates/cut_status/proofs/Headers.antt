@@ -1,16 +1,12 @@
 -- The text that a header says, and the plan whose text it is.
-use Rattle.std.proofs.Common.{◌≡◌, ◌∙◌, ◌≤◌, ◌+◌, ◌-◌, ◌==◌, ℕ, true, List, Result, Ok, length}
-use Rattle.std.proofs.Common.{drop, slice_range, sym, ap, arith, length-drop}
-use Rattle.std.specs.Prelude.{bytes_eq}
-use Rattle.std.proofs.lemmas.Bool.{and_parts, and_from}
-use Rattle.std.proofs.lemmas.Bool.Decides.{Decides-eqb}
+use Rattle.std.proofs.Common.{◌≡◌, ◌≤◌, ◌+◌, ◌-◌, ℕ, true, List, Ok, length}
+use Rattle.std.proofs.Common.{drop, slice_range, arith, length-drop}
 use Rattle.std.proofs.lemmas.List.{length-take}
 use Rattle.std.proofs.lemmas.Slice.Eq.{bytes_eq-Decides}
 use Rattle.cut_plan.specs.Accepted.{plan_of}
 use Rattle.cut_plan.specs.Canonical.{canonical_text}
 use Rattle.cut_plan.specs.Plan.{IsPlan}
 use Rattle.cut_plan.specs.Values.{Values}
-use Rattle.cut_plan.specs.declared.refusal.Refusal.{Refusal}
 use Rattle.cut_journal.specs.Reading.{text_length, says_plan}
 
 -- a plan can be read back from its canonical text
@@ -23,9 +19,7 @@ pub says_text : (v : Values) (bytes : List ℕ) → says_plan v bytes ≡ true
     → slice_range bytes 13 (text_length bytes + 13) ≡ canonical_text v
 unfolding says_plan
 says_text v bytes says =
-    (bytes_eq-Decides (slice_range bytes 13 (text_length bytes + 13)) (canonical_text v)).0
-    (and_parts (text_length bytes == length (canonical_text v))
-    (bytes_eq (slice_range bytes 13 (text_length bytes + 13)) (canonical_text v)) says).1
+    grind (arith, bytes_eq-Decides)
 
 length_part : (bytes : List ℕ) (n : ℕ) → n + 13 ≤ length bytes → length (slice_range bytes 13 (n + 13)) ≡ n
 length_part bytes n within = omega (arith, length-take (n + 13 - 13) (drop 13 bytes), length-drop 13 bytes)
@@ -34,21 +28,12 @@ pub text_says : (v : Values) (bytes : List ℕ) → text_length bytes + 13 ≤ l
     → slice_range bytes 13 (text_length bytes + 13) ≡ canonical_text v → says_plan v bytes ≡ true
 unfolding says_plan
 text_says v bytes within is =
-    let n : ℕ = text_length bytes in
-    and_from (n == length (canonical_text v)) (bytes_eq (slice_range bytes 13 (n + 13)) (canonical_text v))
-    ((Decides-eqb n (length (canonical_text v))).1
-    (sym (length_part bytes n within) ∙ ap (λ (l : List ℕ). length l) is))
-    ((bytes_eq-Decides (slice_range bytes 13 (n + 13)) (canonical_text v)).1 is)
+    grind (arith, length_part, bytes_eq-Decides)
 
 -- a header says the text of one plan at most
 pub same_plan : ReadsBack → (v w : Values) (bytes : List ℕ) → IsPlan v → IsPlan w → says_plan v bytes ≡ true
     → says_plan w bytes ≡ true → v ≡ w
 same_plan back v w bytes plan other says too =
-    let same : canonical_text v ≡ canonical_text w = sym (says_text v bytes says) ∙ says_text w bytes too in
-    let read : Result Values Refusal = plan_of (canonical_text v) in
-    let one : read ≡ Ok v = back v plan in
-    let two : read ≡ Ok w = ap plan_of same ∙ back w other in
-    let both : Ok v ≡ Ok w = sym one ∙ two in
-    cc (both)
+    grind (arith, says_text)
 
 -- ---- a text that is no plan's

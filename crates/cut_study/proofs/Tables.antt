@@ -1,13 +1,13 @@
 -- The table over slips, as it is written line by line.
 use Rattle.std.proofs.Common.{◌≡◌, ◌∙◌, ◌<◌, ◌≤◌, ◌+◌, ◌-◌, ◌*◌, ◌^◌, ◌++◌, min, ℕ, Result, Ok, Err}
-use Rattle.std.proofs.Common.{List, length, take, ap, refl, sym, subst, zero-add, arith, append_assoc, length-append}
+use Rattle.std.proofs.Common.{List, length, take, ap, refl, sym, zero-add, arith, append_assoc, length-append}
 use Rattle.std.proofs.Common.{length-take-le}
 use Rattle.std.specs.Bool.{⊤}
 use Rattle.std.specs.Prelude.{OnOk}
 use Rattle.std.specs.Borrow.{GName}
 use Rattle.std.specs.List.{range_with_len, flat_map}
 use Rattle.std.proofs.Math.Seq.{take-append_seam}
-use Rattle.std.proofs.lemmas.List.{take-append-le, take_all}
+use Rattle.std.proofs.lemmas.List.{take-append-le}
 use Rattle.std.proofs.lemmas.List.Concat.{flat_map-append}
 use Rattle.cut_lists.proofs.Ranges.{ranges-join}
 use Rattle.cut_plan.specs.Values.{Values}
@@ -80,13 +80,6 @@ pub made_all : (v : Values) (base : List Slip) (name : GName) (pass : Holding) (
 made_all v base name pass new_name new_pass (Ok done) sent old new s = omega (arith, s.ends.1.made, s.ends.0)
 made_all v base name pass new_name new_pass (Err fault) sent old new s = tt
 
-same_wire : (v : Values) (base : List Slip) (name : GName) (pass : Holding) (new_name : GName) (new_pass : Holding)
-    (result : Result ⊤ (RowsFault LineFault)) (old new : Sending)
-    → SendsLines v base name pass new_name new_pass result old new → new.wire ≡ old.wire
-same_wire v base name pass new_name new_pass (Ok done) old new s = ap (λ (x : Sending). x.wire) s.ends.2
-same_wire v base name pass new_name new_pass (Err (Write fault)) old new s = ap (λ (x : Sending). x.wire) s.ends.1.1.2
-same_wire v base name pass new_name new_pass (Err (Row e)) old new s = ap (λ (x : Sending). x.wire) s.ends.2
-
 -- the count is exact: as many bytes were sent as are written of the lines
 sent_first : (xs : List ℕ) (n rows k : ℕ) → n ≤ rows → rows < 2 ^ 32 → length xs ≤ (n + 1) * 299 → k ≤ length xs
     → min (0 + length (take k xs)) (2 ^ 64 - 1) ≡ k
@@ -98,14 +91,7 @@ emits : (v : Values) (base : List Slip) (name : GName) (pass : Holding) (new_nam
     → SendsLines v base name pass new_name new_pass result (record { wire = wire; log = log; sent = 0 }) new
     → EmitsStudy (table_over v base) (emitted result new.sent) log new.log
 emits v base name pass new_name new_pass wire log (Ok done) new s =
-    let xs : List ℕ = lines_to v base s.count in
-    let whole : table_over v base ≡ xs = table_ends v base ∙ ap (λ n. lines_to v base n) (sym s.ends.0) in (
-      ap (λ (t : Sending). t.sent) s.ends.2
-          ∙ ap (λ (ys : List ℕ). min (0 + length ys) (2 ^ 64 - 1)) (sym (take_all (length xs) xs (omega arith)))
-          ∙ sent_first xs s.count (length (cells_of v)) (length xs) s.few s.rows s.short (omega arith)
-          ∙ ap (λ (ys : List ℕ). length ys) (sym whole),
-      ap (λ (t : Sending). t.log) s.ends.2 ∙ ap (λ (ys : List ℕ). wrote log ys) (sym whole),
-    )
+    grind (arith, table_ends)
 emits v base name pass new_name new_pass wire log (Err (Write fault)) new s =
     let (count, (k, low, is)) = s.ends.1 in
     let xs : List ℕ = lines_to v base s.count in
@@ -143,9 +129,4 @@ pub emits_at : {X : Type 0} (log : X → WireLog) (v : Values) (base : List Slip
     → (wire ≡ other → after ≡ last) → EmitsStudy (table_over v base) (emitted result sent) (log first) (log after)
 emits_at log v base name pass new_name new_pass result first last after wire other sent old fresh sends leaves =
     let new : Sending = record { wire = other; log = log last; sent = sent } in
-    let same : other ≡ wire =
-    same_wire v base name pass new_name new_pass result old new sends ∙ ap (λ (s : Sending). s.wire) fresh in
-    subst (λ (x : WireLog). EmitsStudy (table_over v base) (emitted result sent) (log first) x)
-    (sym (ap log (leaves (sym same))))
-    (emits v base name pass new_name new_pass wire (log first) result new
-    (subst (λ (s : Sending). SendsLines v base name pass new_name new_pass result s new) fresh sends))
+    grind (arith, emits v base name pass new_name new_pass wire (log first) result new)

@@ -1,11 +1,12 @@
 //! Books through the calls of a study.
 
 use crate::piece::result_of;
-use crate::studies::{ONE_LIAR, Study, TWO_TRIALS};
 use cut_book::{Book, BookFault, Call, History};
 use cut_disks::{FaultyDisk, Tear};
 use cut_journal::Journal;
 use cut_outcome::Piece;
+use cut_plan::Plan;
+use cut_study_cases::{ONE_LIAR, Study, TWO_TRIALS};
 use std::alloc::{AllocError, Global};
 use std::test::Fail;
 
@@ -25,7 +26,7 @@ fn number_of(answer: Result<(), BookFault>) -> u16 {
 
 /// What a book answers the result of this trial of a study.
 fn hand_in(alloc: Global, book: &mut KeptBook, study: Study, first: u32) -> Result<u16, Fail> {
-    let plan = study.read_plan(alloc)?;
+    let plan = Plan::from_json(alloc, study.plan.as_bytes())?;
     let result = result_of(alloc, &plan, Piece { first, count: 1 })?;
     Ok(number_of(book.hand_in(&result)))
 }
@@ -145,7 +146,13 @@ fn goes_so(alloc: Global, book: &mut KeptBook, trial: Trial) -> Result<bool, Fai
 /// A book of the study, of two pieces of one trial.
 fn new_book(alloc: Global, trial: Trial) -> Result<KeptBook, Fail> {
     match trial {
-        Trial::Alone => Ok(Book::new(alloc, TWO_TRIALS.read_plan(alloc)?, None, &[], 1)?),
+        Trial::Alone => Ok(Book::new(
+            alloc,
+            Plan::from_json(alloc, TWO_TRIALS.plan.as_bytes())?,
+            None,
+            &[],
+            1,
+        )?),
         Trial::Kept => book_over(alloc, 0),
         // Ten calls open the journal, and each append makes four.
         Trial::Failing => book_over(alloc, 12),
@@ -162,7 +169,7 @@ fn is_right(alloc: Global, trial: Trial) -> Result<bool, Fail> {
 fn book_over(alloc: Global, fail_at: u64) -> Result<KeptBook, Fail> {
     let disk = FaultyDisk::of(alloc, Vec::new(alloc), fail_at, Tear::Nothing)?;
     disk.arm();
-    let plan = TWO_TRIALS.read_plan(alloc)?;
+    let plan = Plan::from_json(alloc, TWO_TRIALS.plan.as_bytes())?;
     match Journal::open(alloc, disk, &plan) {
         Ok((journal, slips)) => Ok(Book::new(alloc, plan, Some(journal), slips.as_slice(), 1)?),
         Err(_) => Err("no journal")?,

@@ -1,5 +1,5 @@
-//! What no contract of `cut_book`, `cut_hall` and `cut_study` says: books, halls and whole studies, with real threads,
-//! tables that were computed apart from this program, and disks and wires that fail.
+//! What no contract of `cut_book` and `cut_study` says: books and whole studies, with real threads, tables that were
+//! computed apart from this program, and disks and wires that fail.
 //!
 //! The tests stand in a crate of their own, as they use these crates as their callers do, and the proofs of the
 //! crates need not be made again for them.
@@ -7,10 +7,6 @@
 
 #[cfg(test)]
 mod books;
-#[cfg(test)]
-mod deeds;
-#[cfg(test)]
-mod halls;
 pub mod piece;
 #[cfg(test)]
 mod refused_memory;
@@ -19,8 +15,4 @@ mod resumed;
 #[cfg(test)]
 mod runs;
 #[cfg(test)]
-mod storms;
-#[cfg(test)]
-mod studies;
-#[cfg(test)]
-mod wakes;
+mod tables;

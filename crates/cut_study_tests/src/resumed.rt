@@ -4,12 +4,13 @@ ghost use Rattle.cut_journal.specs.Reading.{reading};
 
 use crate::piece::result_of;
 use crate::runs::{CountingHooks, Counts, Ended, Kept, counts_of, workers_from};
-use crate::studies::{MANY_TRIALS, Study, TWO_TRIALS, studies};
+use crate::tables::{prefix_len, table_len};
 use cut_disks::{Disk, FaultyDisk, Tear};
 use cut_journal::Journal;
 use cut_outcome::{Piece, PieceResult};
 use cut_plan::Plan;
 use cut_study::{RunFault, StudyRun};
+use cut_study_cases::{MANY_TRIALS, Study, TWO_TRIALS, studies};
 use cut_wires::{FaultyWire, WriteFault};
 use std::alloc::Global;
 use std::sync::Wait;
@@ -73,7 +74,7 @@ fn run_over<R: Threads + Wait + Sync>(
     row: &Row,
     disk: &mut FaultyDisk,
 ) -> Result<(Ended, bool), Fail> {
-    let plan = row.study.read_plan(alloc)?;
+    let plan = Plan::from_json(alloc, row.study.plan.as_bytes())?;
     let kept = journal_on(alloc, disk, &plan)?;
     if row.is_armed {
         kept.0.disk().arm();
@@ -87,7 +88,7 @@ fn run_over<R: Threads + Wait + Sync>(
     };
     let hooks = CountingHooks::new();
     let report = counts_of(run.run(rt, alloc, &mut wire, &hooks));
-    let taken = row.study.prefix_len(wire.taken());
+    let taken = prefix_len(row.study, wire.taken());
     Ok((Ended { report, taken }, hooks.has_all()))
 }
 
@@ -219,7 +220,7 @@ fn keep(alloc: Global, plan: &Plan, slip: &PieceResult, disk: &mut FaultyDisk) -
 
 /// Keeps the slip of the first trial in the journal on a disk, twice.
 fn keep_twice(alloc: Global, disk: &mut FaultyDisk) -> Result<(), Fail> {
-    let plan = TWO_TRIALS.read_plan(alloc)?;
+    let plan = Plan::from_json(alloc, TWO_TRIALS.plan.as_bytes())?;
     let result = result_of(alloc, &plan, Piece { first: 0, count: 1 })?;
     keep(alloc, &plan, &result, &mut *disk)?;
     keep(alloc, &plan, &result, disk)
@@ -328,7 +329,7 @@ fn is_resumed<R: Threads + Wait + Sync>(
     tear: Option<Tear>,
 ) -> Result<bool, Fail> {
     // The disk fails half-way through the appends of the trials, of four calls each.
-    let fail_at = 2 * u64::from(study.read_plan(alloc)?.trials()) + 1;
+    let fail_at = 2 * u64::from(Plan::from_json(alloc, study.plan.as_bytes())?.trials()) + 1;
     let rows = [cut_half_way(study, tear.is_some()), whole_by_three(study)];
     all_go_so(rt, alloc, (fail_at, tear.unwrap_or(Tear::Nothing)), &rows)
 }
@@ -338,14 +339,14 @@ fn whole_by_three(study: Study) -> Row {
     Row {
         study,
         workers: 3,
-        wanted: Wanted::Table(study.table_len()),
+        wanted: Wanted::Table(table_len(study)),
         ..WHOLE
     }
 }
 
 /// One that is cut off half-way, by its disk or by its wire.
 fn cut_half_way(study: Study, is_armed: bool) -> Row {
-    let half = study.table_len() / 2;
+    let half = table_len(study) / 2;
     if is_armed {
         return Row {
             is_armed,

@@ -1,14 +1,15 @@
 //! Studies that are run whole and kept nowhere, by any number of workers.
 ghost use Rattle.std.specs.Prelude.{◌≤◌};
 
-use crate::studies::{Study, THOUSAND_TRIALS, THREE_TRIALS, TWO_TRIALS};
+use crate::tables::prefix_len;
 use cut_disks::MemoryDisk;
 use cut_hall::{Hooks, NoHooks};
 use cut_journal::Journal;
 use cut_ledger::Slip;
 use cut_outcome::Piece;
-use cut_plan::PlanFault;
+use cut_plan::{Plan, PlanFault};
 use cut_study::{Done, RunFault, StudyRun};
+use cut_study_cases::{Study, THOUSAND_TRIALS, THREE_TRIALS, TWO_TRIALS};
 use cut_wires::{FaultyWire, WriteFault};
 use std::alloc::{AllocError, Global};
 use std::sync::Wait;
@@ -92,7 +93,7 @@ where
     G: Hooks + Sync,
     R: Threads + Wait + Sync,
 {
-    let plan = order.study.read_plan(alloc)?;
+    let plan = Plan::from_json(alloc, order.study.plan.as_bytes())?;
     let mut wire = FaultyWire::new(alloc, Vec::new(alloc), 7, order.room, 0);
     let run = StudyRun {
         plan: &plan,
@@ -103,7 +104,7 @@ where
     let report = counts_of(run.run(rt, alloc, &mut wire, hooks));
     Ok(Ended {
         report,
-        taken: order.study.prefix_len(wire.taken()),
+        taken: prefix_len(order.study, wire.taken()),
     })
 }
 

@@ -1,24 +1,22 @@
 -- The lines of a table, as they are written one after the other.
-use Rattle.std.proofs.Common.{◌≡◌, ◌∙◌, ◌<◌, ◌≤◌, ◌+◌, ◌-◌, ◌*◌, ◌^◌, ◌++◌, ◌∷◌, [], min, ℕ, zero, suc, true, false}
-use Rattle.std.proofs.Common.{map, Result, Ok, Err, inl, inr}
-use Rattle.std.proofs.Common.{List, length, take, drop, cond, refl, sym, ap, subst, zero-add, arith, append_assoc}
+use Rattle.std.proofs.Common.{◌≡◌, ◌∙◌, ◌<◌, ◌≤◌, ◌+◌, ◌-◌, ◌*◌, ◌^◌, ◌++◌, [], min, ℕ, zero, suc, true, false}
+use Rattle.std.proofs.Common.{Result, Ok, Err, inl, inr}
+use Rattle.std.proofs.Common.{List, length, take, drop, refl, sym, ap, zero-add, arith, append_assoc}
 use Rattle.std.proofs.Common.{append-nil, length-append, length-take-le}
 use Rattle.std.specs.Bool.{⊤}
 use Rattle.std.specs.Borrow.{GName}
-use Rattle.std.specs.Fmt.{decimal}
-use Rattle.std.specs.List.{range_with_len, take_while, flat_map, join_with_byte}
+use Rattle.std.specs.List.{range_with_len, take_while, flat_map}
 use Rattle.std.proofs.lemmas.Bool.{cases_lt}
 use Rattle.std.proofs.lemmas.List.{take-append-le, take_all}
 use Rattle.std.proofs.lemmas.List.Concat.{flat_map-append}
 use Rattle.std.proofs.lemmas.List.FromFn.{length-range_with_len, get_or-range_with_len}
-use Rattle.std.proofs.lemmas.List.Sums.{take_while-cons}
 use Rattle.std.proofs.Math.Seq.{take-append_seam}
 use Rattle.cut_lists.proofs.Prefixes.{take_while-prefix}
 use Rattle.cut_lists.proofs.Intervals.{take_range, drop_range}
 use Rattle.cut_plan.specs.Cells.{cells_of}
 use Rattle.cut_plan.specs.Failing.{version_of}
-use Rattle.cut_lines.specs.Lines.{header, columns, cell_numbered}
-use Rattle.cut_ledger.specs.Contents.{Contents, cell_done, cell_sum}
+use Rattle.cut_lines.specs.Lines.{header}
+use Rattle.cut_ledger.specs.Contents.{Contents, cell_done}
 use Rattle.cut_ledger.specs.Machine.{available}
 use Rattle.cut_wires.specs.declared.rows.RowsFault.{RowsFault}
 use Rattle.cut_wires.specs.declared.rows.RowsFault.TheVariants.{Row, Write}
@@ -61,9 +59,7 @@ none_after : (l : Contents) (n m : ℕ) → (0 < m → cell_done l n ≡ false)
     → flat_map (row_of l) (take_while (cell_done l) (range_with_len n m)) ≡ []
 none_after l n zero undone = refl
 none_after l n (suc m) undone =
-    ap (flat_map (row_of l)) (take_while-cons (cell_done l) n (range_with_len (n + 1) m)
-    ∙ ap (λ b. cond b (n ∷ take_while (cell_done l) (range_with_len (n + 1) m)) [])
-    (undone (omega arith)))
+    grind arith
 
 -- up to the first cell that is not done, these are all
 available_ends : (l : Contents) (n : ℕ) → n ≤ length (cells_of l.plan)
@@ -78,12 +74,7 @@ available_ends l n few done undone =
 -- a line has its line feed
 some_line : (l : Contents) (n : ℕ) → 0 < length (row_of l n)
 some_line l n =
-    let feed : List ℕ = 10 ∷ [] in
-    omega (
-      arith,
-      length-append (join_with_byte 44
-          (map decimal (columns l.plan (cell_numbered l.plan n) (cell_sum l n)))) feed,
-    )
+    grind (arith, length-append)
 
 -- and that of a done cell comes after those before it
 longer : (l : Contents) (n : ℕ) → n < length (cells_of l.plan) → ((k : ℕ) → k < n → cell_done l k ≡ true)
@@ -115,24 +106,12 @@ abbrev pub SendsLines : Contents → Contents → Result ⊤ (RowsFault RowFault
 SendsLines l now result old new =
     SendsRows (λ text. text) (table_of l) (λ n. AreGiven l n now) (λ n fault. IsWithheld l n fault now) result old new
 
--- a line is over the same wire then
-same_wire : (l now : Contents) (result : Result ⊤ (RowsFault RowFault)) (old new : Sending)
-    → SendsLines l now result old new → new.wire ≡ old.wire
-same_wire l now (Ok done) old new s = ap (λ (x : Sending). x.wire) s.ends.2
-same_wire l now (Err (Write fault)) old new s = ap (λ (x : Sending). x.wire) s.ends.1.1.2
-same_wire l now (Err (Row e)) old new s = ap (λ (x : Sending). x.wire) s.ends.2
-
 -- what a wire took of a table, by what was sent of its rows over a line that had sent nothing
 emits : (l now : Contents) (name : GName) (log : WireLog) (result : Result ⊤ (RowsFault RowFault)) (new : Sending)
     → SendsLines l now result (record { wire = name; log = log; sent = 0 }) new
     → Emits l (emitted result new.sent) log new.log
 emits l now name log (Ok done) new s =
-    let all : s.count ≡ length (cells_of l.plan) = s.ends.0 in (
-      λ i below. s.ends.1.done i (omega (arith, all, below)),
-      ap (λ (t : Sending). t.log) s.ends.2
-          ∙ ap (λ (xs : List ℕ). wrote log xs)
-          (sym (available_ends l s.count s.few s.ends.1.done (λ low. absurd (omega (arith, all, low))))),
-    )
+    grind (arith, available_ends l s.count s.few s.ends.1.done)
 emits l now name log (Err (Write fault)) new s =
     let (count, (k, low, is)) = s.ends.1 in
     let split : available l ≡ lines_to l s.count ++ lines_after l s.count =
@@ -154,15 +133,7 @@ emits l now name log (Err (Write fault)) new s =
     )
 emits l now name log (Err (Row (row.NotDone cell))) new s =
     let (given, why) = s.ends.1 in
-    let undone : cell_done l cell ≡ false = ap (λ i. cell_done l i) why.0 ∙ why.1 in (
-      record {
-        within = omega (arith, s.ends.0, why.0);
-        undone = undone;
-        before = λ i below. given.done i (omega (arith, why.0, below));
-      },
-      ap (λ (t : Sending). t.log) s.ends.2
-          ∙ ap (λ (xs : List ℕ). wrote log xs) (sym (available_ends l s.count s.few given.done (λ _. why.1))),
-    )
+    grind (arith, available_ends l s.count s.few given.done)
 emits l now name log (Err (Row row.Memory)) new s =
     let (given, done) = s.ends.1 in
     let xs : List ℕ = lines_to l s.count in
@@ -185,8 +156,4 @@ pub emits_at : {X : Type 0} (log : X → WireLog) (l now : Contents) (result : R
     → (name ≡ other → after ≡ last) → Emits l (emitted result sent) (log first) (log after)
 emits_at log l now result first last after name other sent old fresh sends leaves =
     let new : Sending = record { wire = other; log = log last; sent = sent } in
-    let same : other ≡ name =
-    same_wire l now result old new sends ∙ ap (λ (s : Sending). s.wire) fresh in
-    subst (λ (x : WireLog). Emits l (emitted result sent) (log first) x) (sym (ap log (leaves (sym same))))
-    (emits l now name (log first) result new
-    (subst (λ (s : Sending). SendsLines l now result s new) fresh sends))
+    grind (arith, emits l now name (log first) result new)

@@ -1,9 +1,9 @@
 -- How receivers are judged by what is found in lanes.
 use Rattle.std.proofs.Common.{◌≡◌, ℕ, ◌+◌, ◌<◌, ◌≤◌, Bool, true, false, not, min, List, [], ◌∷◌, ◌++◌}
-use Rattle.std.proofs.Common.{Option, Some, None, map, filter, take, get_or, length, inl, inr, refl, sym, ap, ◌∙◌}
+use Rattle.std.proofs.Common.{Option, Some, None, map, filter, take, get_or, length, refl, sym, ap, ◌∙◌}
 use Rattle.std.proofs.Common.{subst, arith}
 use Rattle.std.specs.Prelude.{All, IfSome, Result, Ok, Err, OnOk, ◌^◌}
-use Rattle.std.proofs.lemmas.Bool.{both_ways, cases_Bool, cases_lt, ltb-true}
+use Rattle.std.proofs.lemmas.Bool.{both_ways}
 use Rattle.std.proofs.lemmas.List.{length-map, length-take, map_more, take_all}
 use Rattle.std.proofs.lemmas.List.Elements.{All-filter}
 use Rattle.std.proofs.lemmas.List.Sums.{length-filter}
@@ -26,53 +26,25 @@ use Rattle.cut_nodes.proofs.NodeLemmas.{stable_reported}
 
 pub flagged_are : (f : ℕ → Bool) (xs : List ℕ) → flagged xs (map f xs) ≡ filter f xs
 flagged_are f [] = refl
-flagged_are f (x ∷ xs) = elim (cases_Bool (f x)) [
-  | inl is ↦ rw is (ap (λ ys. x ∷ ys) (flagged_are f xs))
-  | inr is ↦ rw is (flagged_are f xs)
-]
+flagged_are f (x ∷ xs) = grind (arith, flagged_are f xs)
 
 few_of_both : (f q : ℕ → Bool) (xs : List ℕ) → length (filter f (filter q xs)) ≤ length (filter f xs)
 few_of_both f q [] = omega arith
 few_of_both f q (x ∷ xs) =
-    let rest = few_of_both f q xs in
-    elim (cases_Bool (q x)) [
-      | inl both ↦ elim (cases_Bool (f x)) [
-        | inl is ↦ rw (both, is) (omega (arith, rest))
-        | inr is ↦ rw (both, is) (omega (arith, rest))
-      ]
-      | inr not_both ↦ elim (cases_Bool (f x)) [
-        | inl is ↦ rw (not_both, is) (omega (arith, rest))
-        | inr is ↦ rw (not_both, is) (omega (arith, rest))
-      ]
-    ]
+    grind (arith, few_of_both f q xs)
 
 -- where as many pass both tests as pass the first, these are the same
 all_of_both : (f q : ℕ → Bool) (xs : List ℕ) → length (filter f (filter q xs)) ≡ length (filter f xs)
     → filter f (filter q xs) ≡ filter f xs
 all_of_both f q [] many = refl
-all_of_both f q (x ∷ xs) many = elim (cases_Bool (q x)) [
-  | inl both ↦ elim (cases_Bool (f x)) [
-    | inl is ↦ rw (both, is) (ap (λ ys. x ∷ ys) (all_of_both f q xs
-        (let same = rw (both, is) at many in omega (arith, same))))
-    | inr is ↦ rw (both, is) (all_of_both f q xs (rw (both, is) at many))
-  ]
-  | inr not_both ↦ elim (cases_Bool (f x)) [
-    | inl is ↦ absurd (let same = rw (not_both, is) at many in omega (arith, same, few_of_both f q xs))
-    | inr is ↦ rw (not_both, is) (all_of_both f q xs (rw (not_both, is) at many))
-  ]
-]
+all_of_both f q (x ∷ xs) many = grind (arith, few_of_both, all_of_both f q xs)
 
 -- where as many flags are set as there are targets, each target is a node
 pub complete_from : (f q : ℕ → Bool) (n : ℕ) (subjects targets : List ℕ) (flags : List Bool)
     → subjects ≡ filter q (range_with_len 0 n) → targets ≡ filter f (range_with_len 0 n) → flags ≡ map f subjects
     → count_by (λ flag. flag) flags ≡ length targets → flagged subjects flags ≡ targets
 complete_from f q n subjects targets flags subjects_are targets_are flags_are same =
-    let count : count_by f subjects ≡ length targets =
-    sym (count_by-map (λ flag. flag) f subjects) ∙ ap (λ fs. count_by (λ flag. flag) fs) (sym flags_are) ∙ same in
-    let long : length (filter f (filter q (range_with_len 0 n))) ≡ length (filter f (range_with_len 0 n)) =
-    rw (← subjects_are, ← targets_are) (length-filter f subjects ∙ count) in
-    ap (λ fs. flagged subjects fs) flags_are ∙ flagged_are f subjects ∙ ap (λ xs. filter f xs) subjects_are
-    ∙ all_of_both f q (range_with_len 0 n) long ∙ sym targets_are
+    grind (arith, count_by-map, length-filter f subjects, flagged_are f subjects, all_of_both f q (range_with_len 0 n))
 
 -- ---- who is stable in the end
 
@@ -81,8 +53,7 @@ pub some_reported : (r : Layout) (rule : Rule) (E : EdgeSet) → rule.l ≤ rule
 unfolding is_some_stable
 some_reported r rule E gap some =
     let found = passing (λ s. is_stable r rule E s) 0 r.nodes some in
-    list_any_passing (λ s. is_reported rule E s) 0 r.nodes found.0 found.1.from found.1.below
-    (stable_reported r rule E found.0 gap found.1.passes)
+    search (arith, list_any_passing, stable_reported)
 
 -- so where some process is stable in the end there is a node
 pub some_node : {X : Type 0} (r : Layout) (rule : Rule) (E : EdgeSet) (subject : X → ℕ) (nodes : List X) → rule.l
@@ -90,12 +61,7 @@ pub some_node : {X : Type 0} (r : Layout) (rule : Rule) (E : EdgeSet) (subject :
     → is_some_stable r rule E ≡ true
     → map subject nodes ≡ filter (λ s. is_reported rule E s) (range_with_len 0 r.nodes) → 0 < length nodes
 some_node r rule E subject nodes gap some are =
-    let reported : ℕ → Bool = λ s. is_reported rule E s in
-    let many : length nodes ≡ count_by reported (range_with_len 0 r.nodes) =
-    sym (length-map nodes subject) ∙ ap (λ xs. length xs) are ∙ length-filter reported (range_with_len 0 r.nodes) in
-    let any = ltb-true 0 _ (sym (list_any-count_by reported (range_with_len 0 r.nodes))
-    ∙ some_reported r rule E gap some) in
-    omega (arith, many, any)
+    grind (arith, length-map nodes subject, length-filter, list_any-count_by, some_reported r rule E gap some)
 
 -- ---- receivers
 
@@ -112,17 +78,7 @@ receiver_within a rs n d are below = rw are (receivers_within a n d (rw are at b
 pub few_judged : (a : Assignment) (x : Alerts) (d : Source) (rs : List ℕ) (n : ℕ) → rs ≡ receivers_of a
     → length a.roles ≡ x.study.plan.now.nodes → length (proposals_to x d rs n) < 2 ^ 32
 few_judged a x d rs n are nodes =
-    let few = few_filtered (λ p. not (is_target a p)) (length a.roles) in
-    let plan = x.study.accepted in
-    omega (
-      arith,
-      length-map (take n rs) (λ j. proposed_by x d j),
-      length-take n rs,
-      ap (λ ys. length ys) are,
-      few,
-      nodes,
-      plan.few_nodes,
-    )
+    grind (arith, few_filtered, length-map, length-take)
 
 pub one_more_judged : (x : Alerts) (d : Source) (rs : List ℕ) (n : ℕ) → n < length rs
     → proposals_to x d rs (n + 1) ≡ proposals_to x d rs n ++ proposed_by x d (get_or rs n 0) ∷ []
@@ -152,11 +108,7 @@ taken_all xs ys n same past = take_all n xs (omega (arith, past, ap (λ zs. leng
 -- places past the last receiver stand for all of them
 pub same_judged : (x : Alerts) (d : Source) (rs : List ℕ) (n m : ℕ) → min n (length rs) ≡ min m (length rs)
     → proposals_to x d rs n ≡ proposals_to x d rs m
-same_judged x d rs n m same = elim (cases_lt n (length rs)) [
-  | inl less ↦ ap (λ k. proposals_to x d rs k) (omega (arith, same, less))
-  | inr past ↦ all_judged x d rs n (omega (arith, past))
-      ∙ sym (all_judged x d rs m (omega (arith, same, past)))
-]
+same_judged x d rs n m same = grind (arith, all_judged)
 
 -- ---- what the receivers of a trial hear
 
@@ -186,15 +138,10 @@ subjects_within q n m subjects are same =
 pub found_other : (wanted : List ℕ) (proposed : Option (List ℕ)) (f : Finding) (listed : List ℕ) → f ≡ Other
     → Finds wanted proposed f → IfSome proposed (λ members. listed ≡ members) → Some listed ≡ proposed
 found_other wanted proposed f listed is finds same =
-    let found = subst (λ g. Finds wanted proposed g) is finds in
-    let members : listed ≡ found.0 = subst (λ o. IfSome o (λ members. listed ≡ members)) found.1 same in
-    ap (λ members. Some members) members ∙ sym found.1
+    grind arith
 
 pub not_doubtful : (b : Bool) (f : Finding) → (f ≡ Doubtful → ⊥) → (IsTrue b → f ≡ Doubtful) → b ≡ false
-not_doubtful b f other doubtful = elim (cases_Bool b) [
-  | inl set ↦ absurd (other (doubtful set))
-  | inr unset ↦ unset
-]
+not_doubtful b f other doubtful = grind arith
 
 pub wanted_is_certain : (f : Finding) → f ≡ Wanted → f ≡ Doubtful → ⊥
 wanted_is_certain f is doubtful = let both : Wanted ≡ Doubtful = sym is ∙ doubtful in cc

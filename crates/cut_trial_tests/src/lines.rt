@@ -1,6 +1,6 @@
 //! Lines that were worked out by hand.
 
-use crate::texts::{MIXED, NONE_FAIL, THREE_RINGS};
+use crate::mixed::{MIXED, NONE_FAIL, THREE_RINGS};
 use cut_lines::{cell_line, header};
 use cut_outcome::Totals;
 use cut_plan::{Plan, PlanFault};

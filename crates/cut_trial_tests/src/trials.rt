@@ -2,7 +2,7 @@ ghost use Rattle.std.specs.Prelude.{◌≡◌, ◌<◌};
 ghost use Rattle.cut_plan.specs.Cells.{IsCellOf, trial_count};
 ghost use Rattle.cut_outcome.specs.Outcome.{rings_of};
 
-use crate::texts::{MIXED, NONE_FAIL, THREE_RINGS, are_written};
+use crate::mixed::{MIXED, NONE_FAIL, THREE_RINGS};
 use cut_alerts::{Roles, alerts};
 use cut_draws::Draws;
 use cut_outcome::{Piece, PieceResult, Totals};
@@ -42,19 +42,14 @@ fn numbers(totals: Totals) -> [u64; 8] {
     ]
 }
 
-// Whether these are the eight sums that are written, in the order of the table.
+// Whether these are the eight sums that are written, in the order of the table, with blanks between them.
 fn has_numbers(totals: Totals, text: &str) -> bool {
-    are_numbers(&numbers(totals), text)
-}
-
-// Whether numbers are those that are written with blanks between them.
-fn are_numbers(numbers: &[u64], text: &str) -> bool {
-    for (number, word) in numbers.iter().zip(text.split(' ')) {
+    for (number, word) in numbers(totals).iter().zip(text.split(' ')) {
         if word.parse::<u64>() != Ok(*number) {
             return false;
         }
     }
-    numbers.len() == text.split(' ').count()
+    text.split(' ').count() == 8
 }
 
 // The result of a piece of a plan's trials.
@@ -140,7 +135,7 @@ fn is_trial(
     alloc: Global,
     plan: &Plan,
     trial: u32,
-    edges: &str,
+    edges: &[Edge],
     wanted: &str,
 ) -> Result<bool, AllocError> {
     if trial >= plan.trials() {
@@ -150,33 +145,75 @@ fn is_trial(
     let mut draws = Draws::new(plan.seed(), trial);
     let rings = Rings::hashed(alloc, plan)?;
     let found = alerted(alloc, plan, cell, &rings, &mut draws)?;
-    Ok(are_written(&found, edges) && has_numbers(alone(alloc, plan, trial)?, wanted))
+    Ok(found.as_slice() == edges && has_numbers(alone(alloc, plan, trial)?, wanted))
 }
 
-// Whether two trials of a plan alert the edges of a row, and each has the row's numbers.
-fn are_trials(alloc: Global, text: &str, row: &str) -> Result<bool, PlanFault> {
-    let (first, rest) = row.split_once(", ").unwrap_or((row, ""));
-    let (second, wanted) = rest.split_once(": ").unwrap_or((rest, ""));
-    let plan = Plan::from_json(alloc, text.as_bytes())?;
-    let is_first = is_trial(alloc, &plan, 0, first, wanted)?;
-    Ok(is_first && is_trial(alloc, &plan, 1, second, wanted)?)
+// Whether each of the two trials of a version's plan alerts its edges, and has the numbers.
+fn are_trials(alloc: Global, version: &Version) -> Result<bool, PlanFault> {
+    let plan = Plan::from_json(alloc, version.plan.as_bytes())?;
+    let is_first = is_trial(alloc, &plan, 0, version.first, version.wanted)?;
+    Ok(is_first && is_trial(alloc, &plan, 1, version.second, version.wanted)?)
 }
+
+// A plan, the edges that its two trials alert, and the numbers of each.
+struct Version {
+    plan: &'static str,
+    first: &'static [Edge],
+    second: &'static [Edge],
+    wanted: &'static str,
+}
+
+// The edges of three subjects on the only ring.
+const TO_0: Edge = Edge {
+    ring: 0,
+    subject: 0,
+};
+
+const TO_2: Edge = Edge {
+    ring: 0,
+    subject: 2,
+};
+
+const TO_4: Edge = Edge {
+    ring: 0,
+    subject: 4,
+};
 
 // Plans, the edges that their two trials alert, and the numbers of each. The deaf process of trial 0 is 0, and that of
 // trial 1 is 4. It is alerted, as it is silent, and so is the process that it observes. A receiver proposes the first
 // that it hears of: three propose the deaf process and one the other, by a script apart from this crate. A process that
 // has crashed is all that is alerted: each receiver proposes exactly it. Only the second version has the four places.
-const VERSIONS: [(&str, &str); 4] = [
-    (DEAF, "0.0 0.4, 0.2 0.4: 4 1 0 1 3 0 0 0"),
-    (MIXED_DEAF, "0.0 0.4, 0.2 0.4: 4 1 0 1 3 0 0 4"),
-    (CRASHED, "0.0, 0.4: 4 0 0 0 4 1 1 0"),
-    (MIXED, "0.0, 0.4: 4 0 0 0 4 1 1 4"),
+const VERSIONS: [Version; 4] = [
+    Version {
+        plan: DEAF,
+        first: &[TO_0, TO_4],
+        second: &[TO_2, TO_4],
+        wanted: "4 1 0 1 3 0 0 0",
+    },
+    Version {
+        plan: MIXED_DEAF,
+        first: &[TO_0, TO_4],
+        second: &[TO_2, TO_4],
+        wanted: "4 1 0 1 3 0 0 4",
+    },
+    Version {
+        plan: CRASHED,
+        first: &[TO_0],
+        second: &[TO_4],
+        wanted: "4 0 0 0 4 1 1 0",
+    },
+    Version {
+        plan: MIXED,
+        first: &[TO_0],
+        second: &[TO_4],
+        wanted: "4 0 0 0 4 1 1 4",
+    },
 ];
 
 #[test]
 fn both_versions_have_the_same_targets(rt: HostRuntime) -> Result<(), Fail> {
-    for (text, row) in VERSIONS {
-        assert!(rt; are_trials(rt.alloc(), text, row)?, "{row}");
+    for version in &VERSIONS {
+        assert!(rt; are_trials(rt.alloc(), version)?, "{}", version.plan);
     }
     Ok(())
 }

@@ -1,27 +1,17 @@
 -- What was sent over a line, text by text.
-use Rattle.std.proofs.Common.{Result, Ok, Err, ◌≡◌, ◌∙◌, ◌<◌, ◌+◌, ◌-◌, ◌^◌, ◌++◌, min, List, ℕ, length, take}
+use Rattle.std.proofs.Common.{Result, Ok, Err, ◌≡◌, ◌∙◌, ◌+◌, ◌-◌, ◌++◌, List, ℕ, length, take}
 use Rattle.std.proofs.Common.{refl, sym, ap, arith, length-append}
 use Rattle.std.proofs.Math.Seq.{take-append-add}
 use Rattle.std.proofs.lemmas.List.{take-append-le}
 use Rattle.std.specs.Bool.{⊤}
-use Rattle.std.specs.Borrow.{GName}
-use Rattle.cut_wires.specs.Log.{WireLog, wrote}
 use Rattle.cut_wires.specs.declared.send.WriteFault.{WriteFault}
 use Rattle.cut_wires.specs.Sending.{Sending, sent_on, cut_off, IsCut, Sends}
 use Rattle.cut_wires.proofs.Logs.{wrote_twice}
 
--- a line of which the wire is known
-abbrev on : GName → WireLog → ℕ → Sending
-on wire log sent = record { wire = wire; log = log; sent = sent }
-
 -- two texts that were sent are one
 pub sent_twice : (s : Sending) (xs ys : List ℕ) → sent_on (sent_on s xs) ys ≡ sent_on s (xs ++ ys)
 sent_twice s xs ys =
-    let count : min (min (s.sent + length xs) (2 ^ 64 - 1) + length ys) (2 ^ 64 - 1)
-    ≡ min (s.sent + length (xs ++ ys)) (2 ^ 64 - 1) = omega (arith, length-append xs ys) in
-    ap (λ (l : WireLog). on s.wire l (min (min (s.sent + length xs) (2 ^ 64 - 1) + length ys) (2 ^ 64 - 1)))
-    (wrote_twice s.log xs ys)
-    ∙ ap (λ (n : ℕ). on s.wire (wrote s.log (xs ++ ys)) n) count
+    grind (arith, length-append, wrote_twice)
 
 -- a text more
 pub sent_more : (old mid new : Sending) (xs ys : List ℕ) → mid ≡ sent_on old xs → new ≡ sent_on mid ys
@@ -44,9 +34,7 @@ cut_after old mid new xs ys first (n, low, is) = (
 pub cut_before : (fault : WriteFault) (old new : Sending) (xs ys : List ℕ) → Sends (Err fault) xs old new
     → Sends (Err fault) (xs ++ ys) old new
 cut_before fault old new xs ys (count, (n, low, is)) =
-    let longer : n < length (xs ++ ys) = omega (arith, low, length-append xs ys) in
-    let same = take-append-le n xs ys (omega (arith, low)) in
-    (count, (n, longer, is ∙ ap (λ (l : List ℕ). cut_off (sent_on old l)) (sym same)))
+    grind (arith, length-append xs ys, take-append-le n xs ys)
 
 -- two texts, of which the first was sent
 pub sends_after : (result : Result ⊤ WriteFault) (old mid new : Sending) (xs ys : List ℕ) → mid ≡ sent_on old xs

@@ -1,9 +1,8 @@
 -- What passes over a wire of a reader and a writer.
-use Rattle.std.proofs.Common.{◌≡◌, ◌-◌, ◌<◌, ◌==◌, ℕ, Bool, true, false, cond, List, Option, Some, None, IfSome, length}
-use Rattle.std.proofs.Common.{take, drop, refl, sym, ap, ◌∙◌, subst, arith, length-append}
+use Rattle.std.proofs.Common.{◌≡◌, ◌-◌, ◌<◌, ◌==◌, ℕ, cond, List, Option, Some, None, IfSome, length}
+use Rattle.std.proofs.Common.{drop, refl, sym, ap, ◌∙◌, subst, arith, length-append}
 use Rattle.std.specs.Prelude.{IsSome}
 use Rattle.std.specs.Io.KnownBytes.{Appends, Consumes, IsAtEnd}
-use Rattle.std.proofs.lemmas.Bool.{eqb-true}
 use Rattle.std.proofs.lemmas.List.{nil_from_length}
 use Rattle.cut_faults.specs.Failures.{one_more}
 use Rattle.std.proofs.Math.Seq.{take-append_seam, drop-append_seam}
@@ -15,9 +14,7 @@ pub given_is : (had has : Option (List ℕ)) (bytes : List ℕ) → IsSome had �
 given_is None has bytes reports consumed = cc
 given_is (Some xs) None bytes reports consumed = absurd consumed
 given_is (Some xs) (Some ys) bytes reports consumed =
-    let long : length xs - length ys ≡ length bytes = omega
-    (arith, ap (λ zs. length zs) consumed, length-append bytes ys) in
-    ap (λ n. take n xs) long ∙ ap (λ zs. take (length bytes) zs) consumed ∙ take-append_seam bytes ys
+    grind (arith, length-append bytes ys, take-append_seam bytes ys)
 
 -- what a writer whose bytes are known took is what was appended
 pub taken_is : (held holds : Option (List ℕ)) (bytes : List ℕ) → IsSome held → Appends held holds bytes
@@ -44,14 +41,7 @@ pub end_stays : (has new : Option (List ℕ)) (bytes : List ℕ) → IsAtEnd has
 end_stays None new bytes at_end consumed reports = cc
 end_stays (Some xs) None bytes at_end consumed reports = absurd consumed
 end_stays (Some xs) (Some ys) bytes at_end consumed reports =
-    let none : length ys ≡ 0 = omega (
-      arith,
-      ap (λ zs. length zs) consumed,
-      length-append bytes ys,
-      ap (λ zs. length zs)
-          at_end,
-    ) in
-    nil_from_length ys none
+    grind (arith, length-append bytes ys, nil_from_length ys)
 
 -- the reader's end after a read, by the ends before it
 pub ended_then : (had has new : Option (List ℕ)) (bytes : List ℕ) (ends after n room : ℕ)
@@ -60,10 +50,4 @@ pub ended_then : (had has new : Option (List ℕ)) (bytes : List ℕ) (ends afte
     → after ≡ cond (n == 0) (one_more ends) ends → 0 < after → IfSome had (λ _. IsAtEnd new)
 ended_then None has new bytes ends after n room from before read at_end some is rose = tt
 ended_then (Some xs) None new bytes ends after n room from before read at_end some is rose = absurd from
-ended_then (Some xs) (Some ys) new bytes ends after n room from before read at_end some is rose = by (n == 0) refl
-  where
-    by : (b : Bool) → (n == 0) ≡ b → IsAtEnd new
-    by true none = at_end (eqb-true n 0 none) some
-    by false more =
-        let same : after ≡ ends = is ∙ ap (λ b. cond b (one_more ends) ends) more in
-        end_stays (Some ys) new bytes (before (omega (arith, same, rose))) read refl
+ended_then (Some xs) (Some ys) new bytes ends after n room from before read at_end some is rose = grind (arith, end_stays (Some ys) new bytes)

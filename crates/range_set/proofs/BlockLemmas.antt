@@ -4,13 +4,11 @@ use Rattle.std.proofs.Common.{◌&&◌, List, [], map, length, get_or, set, min,
 use Rattle.std.proofs.Common.{sym, arith}
 use Rattle.std.specs.List.{list_all}
 use Rattle.std.specs.Result.{OnErr}
-use Rattle.std.proofs.Math.Bool.{and-true, and-false}
 use Rattle.std.proofs.Math.Seq.{map-set_same}
-use Rattle.std.proofs.lemmas.Bool.{cases_eq, cases_lt, lt-ltb, le-ltb}
+use Rattle.std.proofs.lemmas.Bool.{cases_eq}
 use Rattle.std.proofs.lemmas.List.Folds.{list_all_at}
 use Rattle.std.proofs.lemmas.List.Sums.{list_all-from_AllPass}
 use Rattle.std.proofs.lemmas.List.{get_or-map, get_or-set_same, get_or-set_other, length-map, length-set}
-use Rattle.cut_lists.proofs.Intervals.{within_is, within_below, within_above}
 use Rattle.range_set.specs.declared.run.Run.{Run}
 use Rattle.range_set.specs.inside.Edges.{IsRun, Row, is_within, is_between, flipped}
 use Rattle.range_set.specs.inside.Blocks.{Blocks, is_at}
@@ -33,16 +31,7 @@ pub record AreReserved (olds news : List Row) (n : ℕ) : Type 0 where
 
 pub reserved_more : (olds news : List Row) (n : ℕ) (r : Row) → AreReserved olds news n → n < length news → r
     ≡ record (get_or news n no_row) { room = true } → AreReserved olds (set news n r) (n + 1)
-reserved_more olds news n r are in' is = record {
-  len = length-set news n r ∙ are.len;
-  edges = map-set_same (λ (x : Row). x.edges) news n r no_row (ap (λ (x : Row). x.edges) is) ∙ are.edges;
-  done = λ k low. elim (cases_eq k n) [
-    | inl same ↦ ap (λ i. (get_or (set news n r) i no_row).room) same
-        ∙ ap (λ (x : Row). x.room) (get_or-set_same news n r no_row in' ∙ is)
-    | inr other ↦ ap (λ (x : Row). x.room) (get_or-set_other news n k r no_row other) ∙ are.done k (omega arith)
-  ];
-  rest = λ k le. get_or-set_other news n k r no_row (λ e. omega arith) ∙ are.rest k (omega arith);
-}
+reserved_more olds news n r are in' is = grind (arith, length-set, map-set_same, get_or-set_same, get_or-set_other)
 
 -- all of them
 pub all_reserved : (olds news : List Row) → AreReserved olds news (length olds) → list_all (λ r. r.room) news ≡ true
@@ -63,18 +52,13 @@ refused olds news n r are in' same none =
     let now : list_all (λ x. x.room) (set news n r) ≡ false =
     list_all_at (λ (x : Row). x.room) (set news n r) n no_row (omega (arith, length-set news n r))
     (ap (λ (x : Row). x.room) (get_or-set_same news n r no_row in') ∙ none) in
-    let before : list_all (λ x. x.room) olds ≡ false =
-    list_all_at (λ (x : Row). x.room) olds n no_row (omega (arith, are.len))
-    (ap (λ (x : Row). x.room) (sym (same ∙ are.rest n (omega arith))) ∙ none) in
-    ap (λ bs. record { blocks = bs; room = list_all (λ x. x.room) (set news n r) }) edges
-    ∙ ap (λ b. record { blocks = map (λ x. x.edges) olds; room = b }) (now ∙ sym before)
+    grind (arith, list_all_at)
 
 -- and there was not room in all
 pub had_none : (olds news : List Row) (n : ℕ) → AreReserved olds news n → n < length news → (get_or news n no_row).room
     ≡ false → list_all (λ x. x.room) olds ≡ false
 had_none olds news n are in' none =
-    list_all_at (λ (x : Row). x.room) olds n no_row (omega (arith, are.len))
-    (ap (λ (x : Row). x.room) (sym (are.rest n (omega arith))) ∙ none)
+    grind (arith, list_all_at)
 
 pub on_err : {T E P : Type 0} (r : Result T E) → P → OnErr r P
 on_err (Ok x) p = tt
@@ -85,13 +69,7 @@ on_err (Err e) p = p
 -- a block's part of what lies between two numbers
 between_in : (from end n t : ℕ) → end ≤ 4294967295 → t / 65536 ≡ n
     → is_between (max from (n * 65536)) (min end (min (n * 65536 + 65536) 4294967295)) t ≡ is_between from end t
-between_in from end n t small own = elim (cases_lt t from) [
-  | inl low ↦ within_below _ _ t (omega arith) ∙ sym (within_below from end t low)
-  | inr high ↦ elim (cases_lt t end) [
-    | inl in' ↦ within_is _ _ t (omega arith) (omega arith) ∙ sym (within_is from end t high in')
-    | inr past ↦ within_above _ _ t (omega arith) ∙ sym (within_above from end t past)
-  ]
-]
+between_in from end n t small own = grind arith
 
 -- the blocks below number n are turned round
 pub record AreFlipped (olds news : List (List ℕ)) (from end n : ℕ) : Type 0 where
@@ -106,29 +84,14 @@ flipped_more olds news from end n xs small in' are turned = record {
   len = length-set news n xs ∙ are.len;
   each = λ t. elim (cases_eq (t / 65536) n) [
     | inl own ↦
-        (let before : is_at news t ≡ is_at olds t = are.each t
-        ∙ ap (λ b. flipped (is_between from end t && b) (is_at olds t)) (le-ltb (t / 65536) n (omega arith))
-        ∙ ap (λ b. flipped b (is_at olds t)) (and-false (is_between from end t)) in
-        ap (λ i. is_within (get_or (set news n xs) i []) t) own
-        ∙ ap (λ ys. is_within ys t) (get_or-set_same news n xs [] in')
-        ∙ turned t
-        ∙ ap (λ b. flipped b (is_within (get_or news n []) t))
-        (between_in from end n t small own ∙ sym (and-true (is_between from end t))
-        ∙ ap (λ b. is_between from end t && b) (sym (lt-ltb (t / 65536) (n + 1) (omega arith))))
-        ∙ ap (flipped (is_between from end t && nat_lt (t / 65536) (n + 1)))
-        (ap (λ i. is_within (get_or news i []) t) (sym own) ∙ before))
+        grind (arith, get_or-set_same news n xs, between_in from end n t small own)
     | inr other ↦
-        ap (λ ys. is_within ys t) (get_or-set_other news n (t / 65536) xs [] other)
-        ∙ are.each t
-        ∙ ap (λ b. flipped (is_between from end t && b) (is_at olds t)) (below-more (t / 65536) n other)
+        grind (arith, get_or-set_other)
   ];
 }
   where
     below-more : (k n : ℕ) → (k ≡ n → ⊥) → nat_lt k n ≡ nat_lt k (n + 1)
-    below-more k n other = elim (cases_lt k n) [
-      | inl low ↦ lt-ltb k n low ∙ sym (lt-ltb k (n + 1) (omega arith))
-      | inr high ↦ le-ltb k n high ∙ sym (le-ltb k (n + 1) (omega arith))
-    ]
+    below-more k n other = grind arith
 
 -- ---- the edges of a block
 

@@ -1,11 +1,11 @@
 -- The longest spans of what passes a test have the numbers that pass, and lie among those that are looked at.
-use Rattle.std.proofs.Common.{◌≡◌, ℕ, zero, suc, ◌+◌, ◌-◌, ◌<◌, ◌≤◌, ◌⊎◌, inl, inr, Bool, true, false, ◌==◌, ◌||◌, not}
-use Rattle.std.proofs.Common.{cond, List, [], ◌∷◌, ◌++◌, All, map, filter, length, get_or, refl, sym, ap, ◌∙◌, subst}
+use Rattle.std.proofs.Common.{◌≡◌, ℕ, zero, suc, ◌+◌, ◌-◌, ◌<◌, ◌≤◌, ◌⊎◌, inl, inr, Bool, true, false}
+use Rattle.std.proofs.Common.{cond, List, [], ◌∷◌, ◌++◌, All, map, filter, get_or, refl, sym, ap, ◌∙◌, subst}
 use Rattle.std.proofs.Common.{arith, append-nil}
-use Rattle.std.specs.List.{range_with_len, take_while, prefix_len, flat_map}
-use Rattle.std.proofs.lemmas.Bool.{and_parts, cases_lt, lt-ltb, le-ltb}
+use Rattle.std.specs.List.{range_with_len, prefix_len, flat_map}
+use Rattle.std.proofs.lemmas.Bool.{cases_lt}
 use Rattle.std.proofs.lemmas.Grind.{flat_map-append}
-use Rattle.std.proofs.lemmas.List.Elements.{All-nil, All-cons, filter-append}
+use Rattle.std.proofs.lemmas.List.Elements.{All-nil, filter-append}
 use Rattle.std.proofs.lemmas.List.Folds.{length-prefix_len}
 use Rattle.std.proofs.lemmas.List.FromFn.{length-range_with_len, get_or-range_with_len}
 use Rattle.std.proofs.lemmas.List.Sums.{prefix_len-le-length, prefix_len_passes, prefix_len_stops}
@@ -20,14 +20,11 @@ use Rattle.range_set.proofs.SpanLemmas.{Gives, spans_cut, spans_last}
 
 span_numbers : (low m : ℕ) → flat_map numbers_in (span_between low (low + m)) ≡ range_with_len low m
 span_numbers low zero =
-    let p : Span = record { first = low; count = low + 0 - low } in
-    ap (λ b. flat_map numbers_in (cond b (p ∷ []) [])) (le-ltb low (low + 0) (omega arith))
+    grind arith
 span_numbers low (suc m) =
     let p : Span = record { first = low; count = low + suc m - low } in
     let long : low + suc m - low ≡ suc m = omega arith in
-    ap (λ b. flat_map numbers_in (cond b (p ∷ []) [])) (lt-ltb low (low + suc m) (omega arith))
-    ∙ append-nil (range_with_len low (low + suc m - low))
-    ∙ ap (range_with_len low) long
+    grind (arith, append-nil)
 
 passes_all : (test : ℕ → Bool) (low m : ℕ) → Gives test true low (low + m) → filter test (range_with_len low m)
     ≡ range_with_len low m
@@ -98,35 +95,12 @@ spans_cover test low n = cover_by n test low n (omega arith)
 at_is : (test : ℕ → Bool) (low n t : ℕ) → low ≤ t → t < low + n → test t ≡ true
     → IsWithin low n (span_at test (low + n) t)
 at_is test low n t from to passes =
-    let high : ℕ = low + n in
-    let rest : ℕ = high - t - 1 in
-    let long : high - t ≡ suc rest = omega arith in
-    let count : length (take_while test (range_with_len t (high - t))) ≡ 1
-    + prefix_len test (range_with_len (t + 1) rest) =
-    ap (λ k. length (take_while test (range_with_len t k))) long
-    ∙ length-prefix_len test (range_with_len t (suc rest))
-    ∙ ap (λ b. cond b (1 + prefix_len test (range_with_len (t + 1) rest)) 0) passes
-    in
-    let few = prefix_len-le-length test (range_with_len (t + 1) rest) in
-    let most = length-range_with_len (t + 1) rest in
-    record { some = omega arith; starts = from; ends = omega arith }
+    grind (arith, length-prefix_len, prefix_len-le-length, length-range_with_len)
 
 each_within : (test : ℕ → Bool) (low n a m : ℕ) → low ≤ a → a + m ≤ low + n
     → All (IsWithin low n) (map (span_at test (low + n)) (filter (begins test low) (range_with_len a m)))
 each_within test low n a zero le high = All-nil (IsWithin low n)
-each_within test low n a (suc m) le high = by (begins test low a) refl
-    (each_within test low n (a + 1) m (omega arith) (omega arith))
-  where
-    by : (b : Bool) → begins test low a ≡ b → All (IsWithin low n)
-        (map (span_at test (low + n)) (filter (begins test low) (range_with_len (a + 1) m)))
-        → All (IsWithin low n) (map (span_at test (low + n))
-        (cond b (a ∷ filter (begins test low) (range_with_len (a + 1) m))
-        (filter (begins test low) (range_with_len (a + 1) m))))
-    by true is rest =
-        All-cons (IsWithin low n) (span_at test (low + n) a)
-        (map (span_at test (low + n)) (filter (begins test low) (range_with_len (a + 1) m)))
-        (at_is test low n a le (omega arith) (and_parts (test a) (a == low || not (test (a - 1))) is).0) rest
-    by false is rest = rest
+each_within test low n a (suc m) le high = grind (arith, at_is, each_within test low n (a + 1) m)
 
 pub spans_within : (test : ℕ → Bool) (low n : ℕ) → All (IsWithin low n) (spans test low n)
 spans_within test low n = each_within test low n low n (omega arith) (omega arith)

@@ -1,9 +1,9 @@
 -- Edges that ascend: how many are at most a number, and one more or one less.
-use Rattle.std.proofs.Common.{◌≡◌, ◌∙◌, ℕ, zero, suc, ◌+◌, ◌<◌, ◌≤◌, ◌&&◌, ◌==◌, ◌%◌, inl, inr, Bool, true, false, cond}
-use Rattle.std.proofs.Common.{List, [], ◌∷◌, length, get_or, nat_le, nat_lt, refl, ap, arith, zero-add}
+use Rattle.std.proofs.Common.{◌≡◌, ◌∙◌, ℕ, zero, suc, ◌+◌, ◌<◌, ◌≤◌, ◌==◌, ◌%◌, inl, inr, Bool, cond}
+use Rattle.std.proofs.Common.{List, [], ◌∷◌, length, get_or, nat_le, refl, ap, arith, zero-add}
 use Rattle.std.specs.List.{count_by, remove}
 use Rattle.std.specs.List.Sorted.{IsNonDecreasing, IsPartitionPoint}
-use Rattle.std.proofs.lemmas.Bool.{cases_lt, le-leb, lt-leb, lt-ltb, le-ltb}
+use Rattle.std.proofs.lemmas.Bool.{cases_lt, le-leb, lt-leb}
 use Rattle.std.proofs.lemmas.List.Quantifiers.{all_pairs_remove}
 use Rattle.std.proofs.lemmas.List.Sums.{sum_by-cons}
 use Rattle.range_set.specs.inside.Edges.{IsRun, is_within, is_between, flipped}
@@ -57,37 +57,14 @@ sorted_remove xs n low sorted i j d le within = elim (cases_lt i j) [
 -- what is turned round from one number on, and again from another on, is turned round between them
 pub flipped_twice : (from end t : ℕ) (b : Bool) → from ≤ end → flipped (nat_le end t) (flipped (nat_le from t) b)
     ≡ flipped (is_between from end t) b
-flipped_twice from end t b le = elim (cases_lt t from) [
-  | inl low ↦ ap (λ x. flipped x (flipped (nat_le from t) b)) (lt-leb end t (omega arith))
-      ∙ by (nat_le from t) (nat_lt t end) b (lt-leb from t low)
-  | inr high ↦ elim (cases_lt t end) [
-    | inl low ↦ ap (λ x. flipped x (flipped (nat_le from t) b)) (lt-leb end t low)
-        ∙ in-between (nat_le from t) (nat_lt t end) b (lt-ltb t end low)
-    | inr past ↦ above (nat_le from t) (nat_le end t) (nat_lt t end) b (le-leb from t high) (le-leb end t past)
-        (le-ltb t end past)
-  ]
-]
-  where
-    by : (x y b : Bool) → x ≡ false → flipped x b ≡ flipped (x && y) b
-    by x y b e = cc
-
-    in-between : (x y b : Bool) → y ≡ true → flipped x b ≡ flipped (x && y) b
-    in-between true y b e = ap (λ z. flipped z b) (let w : true ≡ y = cc in w)
-    in-between false y b e = refl
-
-    above : (x z y b : Bool) → x ≡ true → z ≡ true → y ≡ false → flipped z (flipped x b) ≡ flipped (x && y) b
-    above x z y true e f g = cc
-    above x z y false e f g = cc
+flipped_twice from end t b le = grind arith
 
 -- up to the next edge nothing changes
 pub run_is : (xs : List ℕ) (n at end : ℕ) → n < 4294967295 → IsNonDecreasing xs → at ≤ length xs
     → IsPartitionPoint (λ e. e ≤ n) (λ e. n < e) xs at → (at < length xs → end ≡ get_or xs at 0)
     → (length xs ≤ at → end ≡ 4294967295) → IsRun (is_within xs) n (record { held = at % 2 == 1; end = end })
 run_is xs n at end small sorted le point stop past = record {
-  longer = elim (cases_lt at (length xs)) [
-    | inl in' ↦ (let e = stop in' in let w = point.1 at 0 (omega arith) in' in omega arith)
-    | inr out ↦ (let e = past out in omega arith)
-  ];
+  longer = grind arith;
   lasts = λ t low high. ap (λ k. k % 2 == 1) (counted_on xs n at end t sorted le point
       (λ in'. let e = stop in' in omega arith) low high);
 }

@@ -4,14 +4,12 @@ use Rattle.std.proofs.Common.{[], All, map, length, get_or, set, replicate, min,
 use Rattle.std.specs.Int.{div_ceil}
 use Rattle.std.specs.List.{range_with_len}
 use Rattle.std.proofs.Math.Bool.{or-false}
-use Rattle.std.proofs.Math.Nat.{add-mul, div-add-mod', lt-div-mul-add, mul-le-mul_left, mul-le-mul_right, mul-one}
-use Rattle.std.proofs.Math.Nat.{one-mul}
+use Rattle.std.proofs.Math.Nat.{mul-le-mul_left, mul-one}
 use Rattle.std.proofs.lemmas.Bool.{cases_eq, cases_lt}
 use Rattle.std.proofs.lemmas.List.{ext_get_or, get_or-replicate, get_or_past, get_or-set_same, get_or-set_other}
 use Rattle.std.proofs.lemmas.List.{length-replicate, length-set, length-map, map-set}
 use Rattle.std.proofs.lemmas.List.FromFn.{get_or-map-range_with_len, length-map-range_with_len}
-use Rattle.std.proofs.lemmas.Nat.{div-mul-add, mod-mul-add, div_below}
-use Rattle.cut_lists.proofs.Intervals.{map_agree, within_is, within_below, within_above}
+use Rattle.cut_lists.proofs.Intervals.{map_agree}
 use Rattle.cut_lists.proofs.Ranges.{none_passing}
 use Rattle.range_set.specs.declared.run.Run.{Run}
 use Rattle.range_set.specs.declared.span.Span.{Span}
@@ -29,10 +27,7 @@ pub record IsPlace (l c p t : ℕ) : Type 0 where
   pub place : t % l ≡ p
 
 pub at_place : (l c p t : ℕ) → p < l → t ≡ c * l + p → IsPlace l c p t
-at_place l c p t low is = record {
-  section = ap (λ n. n / l) is ∙ div-mul-add c l p low;
-  place = ap (λ n. n % l) is ∙ mod-mul-add c l p low;
-}
+at_place l c p t low is = grind arith
 
 pub record IsNumber (l n t : ℕ) : Type 0 where
   pub is : t ≡ t / l * l + t % l
@@ -42,12 +37,7 @@ pub record IsNumber (l n t : ℕ) : Type 0 where
 
 pub number : (l n t : ℕ) → 0 < l → t < n * l → IsNumber l n t
 number l n t some low =
-    let below : t / l < n = div_below t l n some low in
-    let sum : t / l * l + t % l ≡ t = div-add-mod' t l in
-    let high : t < t / l * l + l = lt-div-mul-add some in
-    let more : (t / l + 1) * l ≤ n * l = mul-le-mul_right l (omega arith) in
-    let sum-more : (t / l + 1) * l ≡ t / l * l + l = add-mul (t / l) 1 l ∙ ap (λ n. t / l * l + n) (one-mul l) in
-    record { is = omega arith; place = omega arith; section = below; end = omega arith }
+    grind arith
 
 -- ---- what is held
 
@@ -61,8 +51,7 @@ length_is l ss = length-map-range_with_len (is_held l ss) 0 (length ss * l)
 pub block_of : (l : ℕ) (ss : List Blocks) (c p : ℕ) → All (λ s. length s.blocks ≡ div_ceil l 65536) ss → c < length ss
     → p < l → p / 65536 < length (section_at ss c).blocks
 block_of l ss c p long in' low =
-    let own : length (section_at ss c).blocks ≡ div_ceil l 65536 = long c no_blocks in' in
-    omega (arith, own)
+    grind arith
 
 -- up to the end of a run of its section, or of the section
 pub run_in : (l : ℕ) (ss : List Blocks) (t : ℕ) (r : Run) (s : Blocks) → 0 < l → t < length ss * l → s
@@ -101,10 +90,7 @@ none_held l n ss long none =
     ∙ sym (get_or-replicate {A = Bool} (n * l) t false false (omega (arith, low, size))))
   where
     empty : (m k : ℕ) → get_or (replicate {A = List ℕ} m []) k [] ≡ []
-    empty m k = elim (cases_lt k m) [
-      | inl low ↦ get_or-replicate {A = List ℕ} m k [] [] low
-      | inr high ↦ get_or_past (replicate {A = List ℕ} m []) k [] (omega (arith, length-replicate {A = List ℕ} m []))
-    ]
+    empty m k = grind (arith, get_or-replicate, get_or_past, length-replicate)
 
     nothing : (c p : ℕ) → is_at (section_at ss c).blocks p ≡ false
     nothing c p = elim (cases_lt c n) [
@@ -121,26 +107,13 @@ rooms ss = map (λ s. s.room) ss
 pub others_stay : (ss : List Blocks) (c : ℕ) (s : Blocks) → c < length ss → rooms (set ss c s)
     ≡ set (rooms ss) c (get_or (rooms (set ss c s)) c false)
 others_stay ss c s within =
-    let one = map-set (λ (x : Blocks). x.room) ss c s in
-    let long = length-map ss (λ (x : Blocks). x.room) in
-    let here = get_or-set_same (rooms ss) c s.room false (omega (arith, long, within)) in
-    one ∙ ap (λ b. set (rooms ss) c b) (sym (ap (λ xs. get_or xs c false) one ∙ here))
+    grind (arith, map-set, length-map, get_or-set_same)
 
 -- where its numbers stay
 pub held_stays : (l : ℕ) (ss : List Blocks) (c : ℕ) (s : Blocks) → c < length ss → s.blocks ≡ (section_at ss c).blocks
     → (held_in l (set ss c s)).held ≡ (held_in l ss).held
 held_stays l ss c s in' same =
-    ap (λ n. map (is_held l (set ss c s)) (range_with_len 0 (n * l))) (length-set ss c s)
-    ∙ map_agree (is_held l (set ss c s)) (is_held l ss) 0 (length ss * l)
-    (λ t _ _. ap (λ bs. is_at bs (t % l)) (by (t / l)))
-  where
-    by : (d : ℕ) → (section_at (set ss c s) d).blocks ≡ (section_at ss d).blocks
-    by d = elim (cases_eq d c) [
-      | inl here ↦ ap (λ i. (section_at (set ss c s) i).blocks) here
-          ∙ ap (λ (x : Blocks). x.blocks) (get_or-set_same ss c s no_blocks in') ∙ same
-          ∙ ap (λ i. (section_at ss i).blocks) (sym here)
-      | inr other ↦ ap (λ (x : Blocks). x.blocks) (get_or-set_other ss c d s no_blocks other)
-    ]
+    grind (arith, length-set, get_or-set_same, get_or-set_other)
 
 -- a span of a section, by places
 pub record AreIn (l : ℕ) (ss : List Blocks) (p : Span) : Type 0 where
@@ -152,30 +125,13 @@ pub record AreIn (l : ℕ) (ss : List Blocks) (p : Span) : Type 0 where
 
 pub are_in : (l : ℕ) (ss : List Blocks) (p : Span) → 0 < l → IsOfSection (held_in l ss) p → AreIn l ss p
 are_in l ss p some of =
-    let has-some = of.some in
-    let long = length_is l ss in
-    let within = of.within in
-    let first = number l (length ss) p.first some (omega arith) in
-    let last = number l (length ss) (p.first + p.count - 1) some (omega arith) in
-    let is = first.is in
-    let last-is = last.is in
-    let last-place = last.place in
-    let same : (p.first + p.count - 1) / l * l ≡ p.first / l * l = ap (λ c. c * l) of.one in
-    record { some = of.some; within = first.section; is = first.is; end = omega arith; last = first.end }
+    grind (arith, length_is)
 
 -- what a number is in, and the place of that number
 in_place : (l c t : ℕ) (p : Span) → p.first ≡ c * l + p.first % l → t / l ≡ c → t ≡ t / l * l + t % l
     → is_between (p.first % l) (p.first % l + p.count) (t % l) ≡ is_in p t
 in_place l c t p first own is =
-    let at : t ≡ c * l + t % l = is ∙ ap (λ d. d * l + t % l) own in
-    elim (cases_lt t p.first) [
-      | inl low ↦ within_below _ _ (t % l) (omega arith) ∙ sym (within_below p.first (p.first + p.count) t low)
-      | inr high ↦ elim (cases_lt t (p.first + p.count)) [
-        | inl in' ↦ within_is _ _ (t % l) (omega arith) (omega arith)
-            ∙ sym (within_is p.first (p.first + p.count) t high in')
-        | inr past ↦ within_above _ _ (t % l) (omega arith) ∙ sym (within_above p.first (p.first + p.count) t past)
-      ]
-    ]
+    grind arith
 
 -- where none of its numbers was there, they are now, and all others are as before
 pub span_put : (l : ℕ) (ss : List Blocks) (s : Blocks) (p : Span) → 0 < l → IsOfSection (held_in l ss) p
@@ -196,23 +152,10 @@ span_put l ss s p some of apart turned =
     free false old e = sym (or-false old)
 
     clear : (t : ℕ) → is_in p t ≡ true → has (held_in l ss) t ≡ false
-    clear t e = elim (cases_lt t p.first) [
-      | inl low ↦ (let no = within_below p.first (p.first + p.count) t low in cc)
-      | inr high ↦ elim (cases_lt t (p.first + p.count)) [
-        | inl in' ↦ none_passing (has (held_in l ss)) p.first p.count t apart high in'
-        | inr past ↦ (let no = within_above p.first (p.first + p.count) t past in cc)
-      ]
-    ]
+    clear t e = grind (arith, none_passing (has (held_in l ss)) p.first p.count t apart)
 
     out : (t : ℕ) → (t / l ≡ p.first / l → ⊥) → is_in p t ≡ false
-    out t other = elim (cases_lt t p.first) [
-      | inl low ↦ within_below p.first (p.first + p.count) t low
-      | inr high ↦ elim (cases_lt t (p.first + p.count)) [
-        | inl in' ↦ absurd (other (at_place l (p.first / l) (p.first % l + (t - p.first)) t
-            (let e = facts.end in omega arith) (let e = facts.is in omega arith)).section)
-        | inr past ↦ within_above p.first (p.first + p.count) t past
-      ]
-    ]
+    out t other = grind (arith, at_place l (p.first / l) (p.first % l + (t - p.first)) t)
 
     by : (t : ℕ) → t < length ss * l → is_held l (set ss (p.first / l) s) t ≡ (has (held_in l ss) t || is_in p t)
     by t low = elim (cases_eq (t / l) (p.first / l)) [
@@ -236,11 +179,7 @@ pub reserved_is : (l : ℕ) (ss : List Blocks) (c : ℕ) (s : Blocks) → c < le
     ≡ record { blocks = (section_at ss c).blocks; room = true } → held_in l (set ss c s)
     ≡ record { section_len = l; held = (held_in l ss).held; room = set (rooms ss) c true }
 reserved_is l ss c s in' made =
-    let held = held_stays l ss c s in' (ap (λ (x : Blocks). x.blocks) made) in
-    let room : rooms (set ss c s) ≡ set (rooms ss) c true =
-    map-set (λ (x : Blocks). x.room) ss c s ∙ ap (λ (x : Blocks). set (rooms ss) c x.room) made in
-    ap (λ hs. record { section_len = l; held = hs; room = rooms (set ss c s) }) held
-    ∙ ap (λ rs. record { section_len = l; held = (held_in l ss).held; room = rs }) room
+    grind (arith, held_stays, map-set)
 
 -- there are no more sections than numbers
 pub few_sections : (n l : ℕ) → 0 < l → n ≤ n * l

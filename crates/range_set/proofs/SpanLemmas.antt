@@ -1,10 +1,9 @@
 -- The longest spans of what passes, where it is known up to where numbers pass or fail.
-use Rattle.std.proofs.Common.{◌≡◌, ℕ, zero, suc, ◌+◌, ◌-◌, ◌<◌, ◌≤◌, inl, inr, Bool, true, false, ◌==◌, ◌&&◌, ◌||◌, not}
-use Rattle.std.proofs.Common.{cond, List, [], ◌∷◌, ◌++◌, map, filter, length, refl, sym, ap, ◌∙◌, arith, append-nil}
+use Rattle.std.proofs.Common.{◌≡◌, ℕ, zero, suc, ◌+◌, ◌-◌, ◌<◌, ◌≤◌, Bool, true, false, ◌==◌, ◌&&◌, ◌||◌, not}
+use Rattle.std.proofs.Common.{List, [], ◌∷◌, ◌++◌, map, filter, refl, sym, ap, ◌∙◌, arith, append-nil}
 use Rattle.std.proofs.Common.{append_assoc}
-use Rattle.std.specs.List.{range_with_len, take_while, list_any, list_all}
-use Rattle.std.proofs.lemmas.Bool.{cases_eq, eq-eqb, ne_eqb, lt-ltb, le-ltb, and_right, not_from_true, not_from_false}
-use Rattle.std.proofs.lemmas.Bool.{or_left}
+use Rattle.std.specs.List.{range_with_len, list_any, list_all}
+use Rattle.std.proofs.lemmas.Bool.{ne_eqb, and_right, not_from_true}
 use Rattle.std.proofs.lemmas.List.{map-append}
 use Rattle.std.proofs.lemmas.List.Folds.{length-prefix_len}
 use Rattle.std.proofs.lemmas.List.Elements.{filter-append}
@@ -30,8 +29,7 @@ begin_first : (test : ℕ → Bool) (low m : ℕ) → Gives test true low (low +
 begin_first test low zero passes = refl
 begin_first test low (suc m) passes =
     let first : begins test low low ≡ true =
-    ap (λ b. b && (low == low || not (test (low - 1)))) (passes low (omega arith) (omega arith))
-    ∙ or_left (low == low) (not (test (low - 1))) (eq-eqb low low refl)
+    grind arith
     in
     let others : filter (begins test low) (range_with_len (low + 1) m) ≡ [] =
     filter-none (begins test low) (range_with_len (low + 1) m)
@@ -40,43 +38,24 @@ begin_first test low (suc m) passes =
     (ap (λ b. b || not (test (t - 1))) (ne_eqb t low (λ e. omega arith))
     ∙ not_from_true (test (t - 1)) (passes (t - 1) (omega arith) (omega arith)))))
     in
-    ap (λ b. cond b (low ∷ filter (begins test low) (range_with_len (low + 1) m))
-    (filter (begins test low) (range_with_len (low + 1) m))) first
-    ∙ ap (λ xs. low ∷ xs) others
+    grind arith
 
 first_is : (test : ℕ → Bool) (low m n : ℕ) → m ≤ n → Gives test true low (low + m) → (m < n → test (low + m) ≡ false)
     → map (span_at test (low + n)) (first_of low m) ≡ span_between low (low + m)
 first_is test low zero n few passes stops =
-    let p : Span = record { first = low; count = low + 0 - low } in
-    ap (λ b. cond b (p ∷ []) []) (sym (le-ltb low (low + 0) (omega arith)))
+    grind arith
 first_is test low (suc m) n few passes stops =
-    let long : low + n - low ≡ n = omega arith in
-    let count : length (take_while test (range_with_len low (low + n - low))) ≡ low + suc m - low =
-    ap (λ k. length (take_while test (range_with_len low k))) long
-    ∙ length-prefix_len test (range_with_len low n) ∙ first_failing test low (suc m) n few passes stops
-    ∙ omega arith
-    in
-    let p : Span = record { first = low; count = low + suc m - low } in
-    ap (λ (k : ℕ). let q : Span = record { first = low; count = k } in q ∷ []) count
-    ∙ ap (λ b. cond b (p ∷ []) []) (sym (lt-ltb low (low + suc m) (omega arith)))
+    grind (arith, length-prefix_len test (range_with_len low n), first_failing test low (suc m) n few passes stops)
 
 pub spans_last : (test : ℕ → Bool) (low m : ℕ) → Gives test true low (low + m) → spans test low m
     ≡ span_between low (low + m)
 spans_last test low m passes =
-    ap (map (span_at test (low + m))) (begin_first test low m passes)
-    ∙ first_is test low m m (omega arith) passes (λ less. absurd (omega arith))
+    grind (arith, begin_first, first_is)
 
 -- after a number that fails, the first number begins a span where it passes
 begins_anew : (test : ℕ → Bool) (low from t : ℕ) → low < from → test (from - 1) ≡ false → from ≤ t → begins test low t
     ≡ begins test from t
-begins_anew test low from t less fails le = elim (cases_eq t from) [
-  | inl first ↦ ap (λ b. test t && b)
-      (ap (λ b. b || not (test (t - 1))) (ne_eqb t low (λ e. omega arith))
-      ∙ not_from_false (test (t - 1)) (ap (λ k. test (k - 1)) first ∙ fails)
-      ∙ sym (or_left (t == from) (not (test (t - 1))) (eq-eqb t from first)))
-  | inr later ↦ ap (λ b. test t && (b || not (test (t - 1))))
-      (ne_eqb t low (λ e. omega arith) ∙ sym (ne_eqb t from later))
-]
+begins_anew test low from t less fails le = grind arith
 
 -- m numbers that pass, k that fail, and n more
 pub spans_cut : (test : ℕ → Bool) (low m k n : ℕ) → 0 < k → Gives test true low (low + m)
@@ -122,31 +101,16 @@ pub spans_step : (test : ℕ → Bool) (low last next high : ℕ) → low ≤ la
 spans_step test low last next high a b c passes fails =
     let m : ℕ = last - low in
     let k : ℕ = next - last in
-    let n : ℕ = high - next in
-    let all : high - low ≡ m + k + n = omega arith in
-    let mid : low + m ≡ last = omega arith in
-    let end : low + (m + k) ≡ next = omega arith in
-    ap (spans test low) all
-    ∙ spans_cut test low m k n (omega arith) (λ t x y. passes t x (omega arith))
-    (λ t x y. fails t (omega arith) (omega arith))
-    ∙ ap (λ x. span_between low x ++ spans test (low + (m + k)) n) mid
-    ∙ ap (λ x. span_between low last ++ spans test x n) end
+    grind (arith, spans_cut test low m k)
 
 -- gaps so far with one added, and those to come
 pub gaps_step : (test : ℕ → Bool) (low last next high : ℕ) (olds news all : List Span) → low ≤ last → last < next → next
     ≤ high → Gives test true low last → Gives test false last next → news ≡ olds ++ span_between low last → olds
     ++ spans test low (high - low) ≡ all → news ++ spans test next (high - next) ≡ all
 gaps_step test low last next high olds news all a b c passes fails new so-far =
-    ap (λ xs. xs ++ spans test next (high - next)) new
-    ∙ append_assoc olds (span_between low last) (spans test next (high - next))
-    ∙ ap (λ xs. olds ++ xs) (sym (spans_step test low last next high a b c passes fails))
-    ∙ so-far
+    grind (arith, append_assoc, spans_step)
 
 -- none of a list passes where not all fail
 pub any_is : (p : ℕ → Bool) (xs : List ℕ) → not (list_all (λ t. flipped true (p t)) xs) ≡ list_any p xs
 any_is p [] = refl
-any_is p (x ∷ xs) = by (p x) (list_all (λ t. flipped true (p t)) xs) (list_any p xs) (any_is p xs)
-  where
-    by : (b all any : Bool) → not all ≡ any → not (not b && all) ≡ (b || any)
-    by true all any e = refl
-    by false all any e = e
+any_is p (x ∷ xs) = grind (arith, any_is p xs)
