@@ -59,7 +59,8 @@ pub unstable_between : (r : Layout) (rule : Rule) (end : ℕ) (E : ℕ → EdgeS
 unfolding is_unstable
 unstable_between r rule end E at come t s low process =
     let full : ℕ = full_count r rule (E t) s in
-    ap (λ b. b && nat_lt full rule.h) (marked-is r rule (E t) s ∙ reported_from_low r rule end E at come t s low process)
+    ap (λ b. b && nat_lt full rule.h) (marked-is r rule (E t) s ∙ reported_from_low r rule end E at come t s low
+    process)
     ∙ ap (λ b. nat_le (low_of end rule at s) t && b) (lt_is_not_le full rule.h
     ∙ ap not (full_from_high r rule end E at come t s low process)
     ∙ sym (lt_is_not_le t (high_of end r rule at s)))

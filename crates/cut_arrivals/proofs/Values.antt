@@ -132,4 +132,5 @@ pub reported_are_nodes : ImagesAreBelowNever → (x : Hearing) (last : ℕ) (nod
     → ((s : ℕ) → s < x.layout.nodes → is_reported x.rule (set_of x.edges) s ≡ true → Contains nodes s)
     → AreNodes x.layout.nodes last (lows_at x last) (highs_at x last) nodes (map (lows_at x last) nodes)
     (map (highs_at x last) nodes)
-reported_are_nodes below x last nodes is some wide processes each = grind (arith, ends_reported_alike below x last is some wide)
+reported_are_nodes below x last nodes is some wide processes each =
+    grind (arith, ends_reported_alike below x last is some wide)

@@ -16,7 +16,7 @@ use Rattle.cut_board.specs.inside.Rule.{AreWordsOf, Kept}
 use Rattle.cut_board.specs.Totals.{totals_of, IsDrawnOnce, HasSeenNoMore}
 use Rattle.cut_board.specs.Views.{counted_of, draws_of, amount_of, greatest, drawn_by}
 use Rattle.cut_board.specs.Views.{seen_in}
-use Rattle.cut_board.specs.inside.Views.{gathered, joined}
+use Rattle.cut_board.specs.inside.Views.{gathered}
 use Rattle.cut_board.specs.inside.Words.{draws_at}
 use Rattle.cut_board.proofs.Lists.{at_place, sum_by_flat_map}
 use Rattle.cut_board.proofs.Logs.{greatest-append, total, times_of, times_are_part, count_is_part, AreWithin}
@@ -25,10 +25,6 @@ use Rattle.cut_board.proofs.Keeps.{words_of_more}
 use Rattle.cut_board.proofs.Allowed.{Holds}
 
 -- ---- seats taken in, one after another
-
-pub gathered_more : (views : List View) (v : View) → v.parts ≡ 1 → gathered (v ∷ views) ≡ joined (gathered views) v
-gathered_more views v one =
-    grind arith
 
 -- one has read no more than all
 read_among : (f : Entry → ℕ) (views : List View) (i : ℕ) (d : View) → i < length views

@@ -190,14 +190,16 @@ few_drawn studies seats words views kept k =
 
 pub few_counted : (studies seats : ℕ) (words : List ℕ) (views : List View) → Kept studies seats words views → (k : ℕ)
     → count_at words k ≤ seats * seat_limit
-few_counted studies seats words views kept k = grind (arith, total_is_bounded (counted_of k) amount_of views (count_is_part k))
+few_counted studies seats words views kept k =
+    grind (arith, total_is_bounded (counted_of k) amount_of views (count_is_part k))
 
 -- ---- what each kind of step does to the words
 
 -- one is added to a draw word
 pub draw_adds : (words : List ℕ) (place study n m : ℕ) → place ≡ draw_word study → place < length words
     → n ≡ slice_index words place → m ≡ n + 1 → Adds words (set words place m) (entry.Drew study n)
-draw_adds words place study n m is room here more = grind (arith, length-set, get_or-set_at, get_or-set_other, range_with_len_more, append-nil)
+draw_adds words place study n m is room here more =
+    grind (arith, length-set, get_or-set_at, get_or-set_other, range_with_len_more, append-nil)
 
 -- n is added to a count word
 pub count_adds : (words : List ℕ) (place study n m : ℕ) → place ≡ count_word study → place < length words

@@ -83,7 +83,8 @@ step v t plan low =
       slip_is = refl;
       own_is = sym same;
       answered = record { reply = ap accepted_unless none; disk = tt };
-      next = sym (ap (λ (o : Option FaultCode). unless_refused o (state_at v t) (taken (state_at v t) (trial_result v t)))
+      next = sym (ap (λ (o : Option FaultCode). unless_refused o (state_at v t)
+          (taken (state_at v t) (trial_result v t)))
           none ∙ grown v t);
     }
 

@@ -104,7 +104,8 @@ unknown = record { traffic = None; failed = record { reads = 0; writes = 0 } }
 hears : (text : List ℕ) (result : Result ⊤ AskFault) (messages : List Message) (rest : List ℕ) (mid new : WireLog)
     → AllByRecursion (IsMessage Replies) messages → HasNoMessage Replies rest
     → ConcludesAnswer result (flat_map frame_of messages ++ rest) messages rest mid new
-    → Hears text result unknown (left_by result (heard text ((flat_map frame_of messages ++ rest) ++ []) unknown)) mid new
+    → Hears text result unknown
+    (left_by result (heard text ((flat_map frame_of messages ++ rest) ++ []) unknown)) mid new
 hears text (Ok done) messages rest mid new each last ends = grind (arith, splits messages rest each last)
 hears text (Err fault) messages rest mid new each last ends = grind arith
 
@@ -174,7 +175,8 @@ reported n text bytes mid new log =
     )
 
 -- all lines were written, and no last message came
-lines_written : (bytes : List ℕ) (messages : List Message) (mid new : WireLog) → Say bytes messages → new ≡ wrote mid bytes
+lines_written : (bytes : List ℕ) (messages : List Message) (mid new : WireLog) → Say bytes messages
+    → new ≡ wrote mid bytes
     → AllByRecursion GoesOn messages × (new ≡ wrote mid (lines_of messages))
 lines_written bytes messages mid new is log = (is.on, lines_are bytes messages mid new is log)
 

@@ -45,7 +45,8 @@ module _ (text : List ℕ) (old mid : WireLog) (given : GivesText 65537 (Ok text
 
   module _ (whole : List ℕ) (explains : IsExplanation text whole) (new : WireLog) where
     -- or a write failed
-    pub ends_unwritten : (fault : CliFault) → IsWritten whole (Err fault) mid new → EndsWith Explains old new (Err fault)
+    pub ends_unwritten : (fault : CliFault) → IsWritten whole (Err fault) mid new
+        → EndsWith Explains old new (Err fault)
     ends_unwritten (Write fault) is = record {
       text = text;
       ended = nat_lt (length text) 65537;
@@ -56,7 +57,8 @@ module _ (text : List ℕ) (old mid : WireLog) (given : GivesText 65537 (Ok text
     ends_unwritten fault is = absurd is
 
     -- or all was written
-    pub ends_accepted : (v : Values) → plan_of text ≡ Ok v → IsWritten whole (Ok tt) mid new → EndsWith Explains old new (Ok tt)
+    pub ends_accepted : (v : Values) → plan_of text ≡ Ok v → IsWritten whole (Ok tt) mid new
+        → EndsWith Explains old new (Ok tt)
     ends_accepted v accepts is = record {
       text = text;
       ended = nat_lt (length text) 65537;

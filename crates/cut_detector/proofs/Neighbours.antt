@@ -18,7 +18,8 @@ observes r layout k p ring process =
 -- s observes u alone
 pub observer_of-is : (r : Layout) → IsLayout r → (k s u p : ℕ) → k < length r.positions → s < r.nodes → u < r.nodes → p
     < r.nodes → Observes r k s u → (observer_of r k p == s) ≡ (p == u)
-observer_of-is r layout k s u p ring observer subject process sees = grind (arith, observer_below r layout k p ring process, next_one r.nodes, observes r layout k p ring process)
+observer_of-is r layout k s u p ring observer subject process sees =
+    grind (arith, observer_below r layout k p ring process, next_one r.nodes, observes r layout k p ring process)
 
 -- an edge that is added where a test says so
 added : (masks : List ℕ) (edge : Edge) (b : Bool) → edge.subject < length masks → (ring p : ℕ)
@@ -64,10 +65,6 @@ with_gains-more r layout gained s i u ring_in observer subject sees F before mid
     held
     (λ at. ap (λ k. observer_of r k p == s) (sym at)
     ∙ observer_of-is r layout i s u p ring_in observer subject process sees)
-
--- without implicit alerts none is gained
-pub gained_off : (i x y : Bool) → i ≡ false → i && x && y ≡ false
-gained_off i x y off = grind arith
 
 -- where a process is reported, it gains by what its observer is, and its subjects by what they are
 pub gained_own : (i x y : Bool) → i ≡ true → x ≡ true → i && x && y ≡ y

@@ -20,7 +20,8 @@ settled_image bytes = record { no_shorter = omega arith; no_longer = omega arith
 overwritten_same : (bytes put : List ℕ) (at i : ℕ) → i < length bytes
     → covers i (record { start = at; stop = at + length put }) ≡ false
     → get_or (overwritten bytes at put) i 0 ≡ get_or bytes i 0
-overwritten_same bytes put at i low outside = grind (arith, length-take, get_or_append_left, length-append, get_or-take, get_or-append_right, get_or-drop)
+overwritten_same bytes put at i low outside =
+    grind (arith, length-take, get_or_append_left, length-append, get_or-take, get_or-append_right, get_or-drop)
 
 -- what was written over lies in its span
 pub overwritten_torn : (bytes put : List ℕ) (at : ℕ) → IsTorn at (at + length put) bytes (overwritten bytes at put)
@@ -63,4 +64,5 @@ torn_writes Everything fault at put d = inr (overwritten d.bytes at put, (overwr
 -- a failing write is one of those that a disk may make
 pub fails_writes : {E : Type 0} (tear : Tear) (fault : E) (at : ℕ) (put : List ℕ) (old new : MemoryDiskValue)
     → FailsWith (torn_call tear at put) old new → WritesDisk {E = E} (Err fault) at put (state_of old) (state_of new)
-fails_writes {E} tear fault at put old new fails = grind (arith, state_more old (torn_call tear at put), torn_writes tear fault at put (state_of old))
+fails_writes {E} tear fault at put old new fails =
+    grind (arith, state_more old (torn_call tear at put), torn_writes tear fault at put (state_of old))

@@ -41,7 +41,8 @@ le_or_lt (suc m) (suc n) = grind arith
 
 apart_append : {X : Type 0} (E : X → X → Bool) (xs ys : List X) → Apart E xs → Apart E ys
     → All (λ x. All (λ y. E x y ≡ false) ys) xs → Apart E (xs ++ ys)
-apart_append {X} E xs ys prefix back across i j d before within = grind (arith, get_or_append_left, get_or-append_right, length-append)
+apart_append {X} E xs ys prefix back across i j d before within =
+    grind (arith, get_or_append_left, get_or-append_right, length-append)
 
 pub numbers_apart : (k : ℕ) (edges : List Edge) → are_distinct k edges ≡ true → (i j : ℕ) (d : Edge) → i < j → j
     < length edges → edge_number k (get_or edges i d) ≢ edge_number k (get_or edges j d)

@@ -110,7 +110,8 @@ nat_cmp-greater a b more =
 -- where the packed parts of the keys rise, the deliveries are sorted
 pub rising_sorted : (key : Delivery → ℕ) (k : ℕ) (edges : List Edge) (copies : ℕ) (words : List ℕ)
     → IsPacked key k edges copies words → ArePackedRising words → IsSorted (compare_by key k) (map delivery_in words)
-rising_sorted key k edges copies words is rises = grind (arith, sorted-map (compare_by key k) delivery_in words, all_own key k edges copies words is, nat_cmp-greater)
+rising_sorted key k edges copies words is rises =
+    grind (arith, sorted-map (compare_by key k) delivery_in words, all_own key k edges copies words is, nat_cmp-greater)
 
 -- a packed delivery with what deliveries are ordered by
 abbrev pub keyed_by : (Delivery → ℕ) → ℕ → ℕ → Keyed

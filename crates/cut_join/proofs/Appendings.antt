@@ -19,8 +19,6 @@ use Rattle.cut_join.specs.declared.fault.JoinFault.TheVariants.{Memory, BadSlip,
 use Rattle.cut_join.specs.Joining.{EndsJoin, IsJudgedBy}
 use Rattle.cut_join.specs.inside.Joining.{EndsAppend}
 
--- ---- one slip
-
 -- ---- one slip after another
 
 -- the first n slips were appended; only a journal that is not broken takes one

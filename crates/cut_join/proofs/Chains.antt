@@ -62,7 +62,8 @@ ends_late f r p q one other same less =
     grind (arith, same_cell)
 
 same_end : (f : ℕ → Bool) (r : ℕ) (p q : Piece) → IsRun f r p → IsRun f r q → p.first ≡ q.first → p ≡ q
-same_end f r p q one other same = grind (arith, ends_late f r p q one other same, ends_late f r q p other one (sym same))
+same_end f r p q one other same =
+    grind (arith, ends_late f r p q one other same, ends_late f r q p other one (sym same))
 
 starts_alike : (f : ℕ → Bool) (r low : ℕ) (p q : Piece) → low ≤ p.first → IsRun f r p → Gives f false low q.first
     → p.first < q.first → ⊥

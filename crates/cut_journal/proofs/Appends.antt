@@ -225,10 +225,6 @@ pub gate_before : (v : Values) (n place : ℕ) (d : DiskState) → place ≡ gat
 gate_before v n place d here sound =
     grind (arith, sound_holds v n d sound, gate_there v d.bytes n)
 
-pub over_long : (bytes put : List ℕ) (at : ℕ) → at ≤ length bytes → length bytes ≤ length (overwritten bytes at put)
-over_long bytes put at low =
-    grind (arith, length-take, length-append, length-drop)
-
 -- ---- a journal that was opened
 
 pub kept_are : (v : Values) (n : ℕ) (slips : List Slip) (d : DiskState) → reading v d.bytes ≡ Ok slips → n

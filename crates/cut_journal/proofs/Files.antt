@@ -73,7 +73,8 @@ more_slips v slips s = flat_map-append (gated v) slips (s ∷ [])
 pub extended : (v : Values) (n : ℕ) (slip : Slip) (old mid new : List ℕ) → mid
     ≡ overwritten old (gate_place v n + 1) (put_of v slip) → new ≡ overwritten mid (gate_place v n) (open_gate ∷ [])
     → ExtendsFile v n slip old new
-extended v n slip old mid new wrote opened = grind (arith, long_file, length-append, append_assoc, drop_at, begins, regrouped, more_slips)
+extended v n slip old mid new wrote opened =
+    grind (arith, long_file, length-append, append_assoc, drop_at, begins, regrouped, more_slips)
 
 -- at the place of the gate
 pub extended_at : (v : Values) (n place : ℕ) (slip : Slip) (old mid new : List ℕ) → place ≡ gate_place v n → mid

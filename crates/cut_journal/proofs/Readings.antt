@@ -3,7 +3,6 @@ use Rattle.std.proofs.Common.{◌≡◌, ◌∙◌, ◌≤◌, ◌<◌, ◌+◌,
 use Rattle.std.proofs.Common.{false, not, cond, List, [], ◌∷◌, Result, Ok, Err, length, take, drop, get_or, slice_range}
 use Rattle.std.proofs.Common.{slice_index, nat_le, refl, sym, ap, subst, arith, zero-add}
 use Rattle.std.specs.Prelude.{bytes_eq, Option, Some, None, IfErr}
-use Rattle.std.specs.Int.{w32, from_be_bytes}
 use Rattle.std.proofs.lemmas.Bool.{cases_lt}
 use Rattle.std.proofs.lemmas.List.{length-take}
 use Rattle.std.proofs.lemmas.List.FromFn.{map-range_with_len_more}
@@ -83,11 +82,6 @@ pub opens_at : (v : Values) (bytes : List ℕ) (i at : ℕ) (is : Bool) → at �
 opens_at v bytes i at is here reported opens = ap (λ (p : ℕ). slice_index bytes p == open_gate) (sym here)
     ∙ sym reported ∙ opens
 
--- a slip that the end of the file cuts off is not whole
-pub cut_short : (v : Values) (bytes : List ℕ) (i : ℕ) → length bytes ≤ gate_place v (i + 1) → is_whole v bytes i ≡ false
-cut_short v bytes i short =
-    grind arith
-
 -- what was read after a gate stands there
 pub body_read : (v : Values) (i at k : ℕ) (zeros : List ℕ) (old mid : DiskState) (body : List ℕ) → at ≡ gate_place v i
     → k ≡ slip_length (version_of v.failing) → 1 ≤ k → k ≤ 113 → mid ≡ old
@@ -95,13 +89,6 @@ pub body_read : (v : Values) (i at k : ℕ) (zeros : List ℕ) (old mid : DiskSt
     ≡ body_at v old.bytes i
 body_read v i at k zeros old mid body here long least most same read buffer =
     grind (arith, gate_next, length-take)
-
-pub next_whole : (v : Values) (bytes body : List ℕ) (i : ℕ) (found : Option Slip) (slip : Slip) → found
-    ≡ cond (is_slip v body) (Some (slip_in (version_of v.failing) body)) None → body ≡ body_at v bytes i
-    → gate_place v (i + 1) < length bytes → found ≡ Some slip → (is_whole v bytes i ≡ true)
-    × (slip ≡ slip_in (version_of v.failing) (body_at v bytes i))
-next_whole v bytes body i found slip reported read long some =
-    grind arith
 
 pub next_broken : (v : Values) (bytes body : List ℕ) (i : ℕ) (found : Option Slip) → found
     ≡ cond (is_slip v body) (Some (slip_in (version_of v.failing) body)) None → body ≡ body_at v bytes i
@@ -352,21 +339,11 @@ pub text_shown : (bytes : List ℕ) (a b c d : Bool) (found : Option ℕ) → a 
     ≡ cond (can_have_header bytes) (Some (text_length bytes)) None
 text_shown bytes a b c d found p q r s is = grind (arith, header_test)
 
-pub text_read : (old mid : DiskState) (digits : List ℕ) (text : ℕ) → text ≡ from_be_bytes w32 digits → digits
-    ≡ slice_range mid.bytes 9 13 → mid ≡ old → text ≡ text_length old.bytes
-text_read old mid digits text is read same = is ∙ ap (from_be_bytes w32)
-    (read ∙ ap (λ (d : DiskState). slice_range d.bytes 9 13) same)
-
 -- what the length in a header says of the header
 pub text_none : (bytes : List ℕ) (found : Option ℕ) → found
     ≡ cond (can_have_header bytes) (Some (text_length bytes)) None → found ≡ None → has_header bytes ≡ false
 unfolding has_header
 text_none bytes found reported none = grind arith
-
-pub text_some : (bytes : List ℕ) (found : Option ℕ) (text : ℕ) → found
-    ≡ cond (can_have_header bytes) (Some (text_length bytes)) None → found ≡ Some text
-    → (can_have_header bytes ≡ true) × (text ≡ text_length bytes)
-text_some bytes found text reported some = grind arith
 
 pub digest_test : (old mid : DiskState) (n : ℕ) (has : Bool) → mid ≡ old → can_have_header old.bytes ≡ true → n
     ≡ text_length old.bytes + 12

@@ -102,13 +102,6 @@ take_more (x ∷ xs) ys (suc n) k long =
     ap (λ (m : ℕ). take m (x ∷ xs ++ ys)) (let e : suc n + k ≡ suc (n + k) = omega arith in e)
     ∙ ap (λ (l : List ℕ). x ∷ l) (take_more xs ys n k (omega (arith, long)))
 
--- of bytes that are all 0, one is left after a slip's digest
-pub gate_left : (version : Version) (zeros : List ℕ) (n : ℕ) → n ≡ numbers_length version
-    → take 1 (drop 32 (drop 72 zeros)) ≡ closed_gate ∷ [] → take 1 (drop 32 (drop 80 zeros)) ≡ closed_gate ∷ []
-    → take 1 (drop 32 (drop n zeros)) ≡ closed_gate ∷ []
-gate_left One zeros n is one two = ap (λ (k : ℕ). take 1 (drop 32 (drop k zeros))) is ∙ one
-gate_left Two zeros n is one two = ap (λ (k : ℕ). take 1 (drop 32 (drop k zeros))) is ∙ two
-
 pub slip_made : (v : Values) (s : Slip) (n sum_length : ℕ) (numbers digest zeros : List ℕ) → n
     ≡ numbers_length (version_of v.failing) → sum_length ≡ 32 → numbers ≡ number_bytes (version_of v.failing) s
     → digest ≡ sha256 (header_digest v ++ number_bytes (version_of v.failing) s) → take 1 (drop 32 zeros) ≡ closed_gate

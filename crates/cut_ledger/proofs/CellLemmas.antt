@@ -103,7 +103,8 @@ sums_fit v base trials sums c kept in' =
 pub none_over : (v : Values) (trials : held.Held) (sums : List Totals) → IsPlan v → trials.section_len ≡ v.repeats
     → trials.held ≡ replicate (trial_count v) false → length trials.room ≡ length (cells_of v) → sums
     ≡ replicate (length (cells_of v)) (each_number (λ n. 0)) → AreOver v [] trials sums
-none_over v trials sums plan section_len held-is room sums-are = grind (arith, length-replicate, get_or-replicate, get_or_past, filter-none)
+none_over v trials sums plan section_len held-is room sums-are =
+    grind (arith, length-replicate, get_or-replicate, get_or_past, filter-none)
 
 -- ---- gaps, cell by cell
 

@@ -28,8 +28,6 @@ pub sum_of_more : (f : ℕ → ℕ) (old new : ℕ → Bool) (low n from m : ℕ
     → sum_by f (filter new (range_with_len low n))
     ≡ sum_by f (filter old (range_with_len low n)) + sum_by f (range_with_len from m)
 sum_of_more f old new low n from m part =
-    let starts = part.starts in
-    let ends = part.ends in
     let left : ℕ = from - low in
     let right : ℕ = low + n - (from + m) in
     let before : List ℕ = range_with_len low left in

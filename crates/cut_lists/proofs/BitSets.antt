@@ -34,7 +34,8 @@ below-with_bit k masks b i low inside below =
 -- masks with one pair more have that pair too, and no other
 pub has_bit-with_bit : (masks : List ℕ) (b i : ℕ) → i < length masks → (c j : ℕ)
     → has_bit (with_bit masks b i) c j ≡ (has_bit masks c j || ((b == c) && (i == j)))
-has_bit-with_bit masks b i inside c j = grind (arith, get_or-set_at, bit_at_or, bit_at-pow_same, bit_at-pow_other, get_or-set_other)
+has_bit-with_bit masks b i inside c j =
+    grind (arith, get_or-set_at, bit_at_or, bit_at-pow_same, bit_at-pow_other, get_or-set_other)
 
 -- what `1 << b` computes
 pub shifted_one : (b k : ℕ) → b < k → k ≤ 32 → 1 * 2 ^ b % 4294967296 ≡ 2 ^ b
@@ -52,7 +53,8 @@ has_bit-zeros n b i = ap (λ m. bit_at m b == 1) (get_or-zeros n i) ∙ ap (λ d
 -- a mask with no place is 0
 pub mask-zero : (k : ℕ) (masks : List ℕ) (i : ℕ) → All (λ mask. mask < 2 ^ k) masks → places_of k masks i ≡ 0
     → get_or masks i 0 ≡ 0
-mask-zero k masks i below none = grind (arith, zero_from_ones (get_or masks i 0), count_by-ones k (get_or masks i 0), get_or_past masks i 0)
+mask-zero k masks i below none =
+    grind (arith, zero_from_ones (get_or masks i 0), count_by-ones k (get_or masks i 0), get_or_past masks i 0)
 
 -- what is left of masks where those at some indices are made 0, which all pairs have
 pub cleared : (k : ℕ) (masks news : List ℕ) (indices : List ℕ) → All (λ mask. mask < 2 ^ k) masks → length news

@@ -1,4 +1,5 @@
 -- How many of a list pass a test, and whether some do.
+use Rattle.std.proofs.lemmas.Grind.{common_steps}
 use Rattle.std.proofs.Common.{◌≡◌, ℕ, zero, suc, ◌+◌, ◌<◌, ◌≤◌, Bool, true, false, cond, ◌==◌, ◌&&◌, ◌||◌}
 use Rattle.std.proofs.Common.{List, [], ◌∷◌, IsTrue, not, nat_lt, length, get_or, take, filter, refl, ap, sym, ◌∙◌}
 use Rattle.std.proofs.Common.{arith}
@@ -27,12 +28,7 @@ pub count_by-differ : (p q : ℕ → Bool) (a n s : ℕ) → DifferAt p q s → 
     → count_by q (range_with_len a n) + cond (p s) 1 0 ≡ count_by p (range_with_len a n) + cond (q s) 1 0
 count_by-differ p q a zero s differ low high = absurd (omega arith)
 count_by-differ p q a (suc n) s differ low high =
-    let rest : List ℕ = range_with_len (a + 1) n in
-    let ps : count_by p (range_with_len a (suc n)) ≡ cond (p a) 1 0
-    + count_by p rest = sum_by-cons (λ y. cond (p y) 1 0) a rest in
-    let qs : count_by q (range_with_len a (suc n)) ≡ cond (q a) 1 0
-    + count_by q rest = sum_by-cons (λ y. cond (q y) 1 0) a rest in
-    grind (arith, count_by_agree, count_by-differ p q (a + 1) n s differ)
+    grind (arith, common_steps, count_by_agree, count_by-differ p q (a + 1) n s differ)
 
 -- a number is 0 or above
 pub not_above : (n : ℕ) → (n == 0) ≡ not (nat_lt 0 n)
@@ -49,7 +45,7 @@ some_and_none_agree p q f g n some none =
 -- what passes among the first m entries does among the first n
 pub list_any_take-le : {X : Type 0} (p : X → Bool) (m n : ℕ) (xs : List X) → m ≤ n → IsTrue (list_any p (take m xs))
     → IsTrue (list_any p (take n xs))
-list_any_take-le p zero n xs before is = absurd (let w : false ≡ true = is in cc)
+list_any_take-le p zero n xs before is = absurd (cc)
 list_any_take-le p (suc m) zero xs before is = absurd (omega arith)
 list_any_take-le p (suc m) (suc n) [] before is = is
 list_any_take-le p (suc m) (suc n) (x ∷ xs) before is = grind (arith, list_any_take-le p m n xs)
@@ -77,34 +73,20 @@ filter-none p (x ∷ xs) none =
 
 -- ---- two tests that no element passes both
 
-some_bit : (b c : Bool) → b || c ≡ true → 1 ≤ cond b 1 0 + cond c 1 0
-some_bit true c e = omega arith
-some_bit false true e = omega arith
-some_bit false false e = cc
-
-bits_into : (a b c d : Bool) → (a ≡ true → b ≡ true → ⊥) → (a || b ≡ true → c || d ≡ true)
-    → cond a 1 0 + cond b 1 0 ≤ cond c 1 0 + cond d 1 0
-bits_into true true c d apart into = absurd (apart refl refl)
-bits_into true false c d apart into = some_bit c d (into refl)
-bits_into false true c d apart into = some_bit c d (into refl)
-bits_into false false c d apart into = omega arith
-
 -- they are passed by no more together than two others, one of which each element then passes
 pub counts-into : {X : Type 0} (p q s t : X → Bool) (xs : List X) → ((x : X) → p x ≡ true → q x ≡ true → ⊥)
     → ((x : X) → p x || q x ≡ true → s x || t x ≡ true)
     → count_by p xs + count_by q xs ≤ count_by s xs + count_by t xs
 counts-into p q s t [] apart into = omega arith
 counts-into {X} p q s t (x ∷ xs) apart into =
-    let here = bits_into (p x) (q x) (s x) (t x) (apart x) (into x) in
-    search (arith, sum_by-cons, counts-into p q s t xs apart into)
+    grind (arith, common_steps, counts-into p q s t xs apart into)
 
 -- and by no more than there are
 pub counts-apart : {X : Type 0} (p q : X → Bool) (xs : List X) → ((x : X) → p x ≡ true → q x ≡ true → ⊥)
     → count_by p xs + count_by q xs ≤ length xs
 counts-apart p q [] apart = omega arith
 counts-apart p q (x ∷ xs) apart =
-    let here = bits_into (p x) (q x) true false (apart x) (λ _. refl) in
-    search (arith, sum_by-cons, counts-apart p q xs apart)
+    grind (arith, common_steps, counts-apart p q xs apart)
 
 -- each that passes one test passes just one of two others
 pub count_by-parts : {X : Type 0} (p q r : X → Bool) (xs : List X)

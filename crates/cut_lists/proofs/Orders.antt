@@ -77,6 +77,5 @@ order_from n list long below differ =
     let many : length (range_with_len 0 n) ≡ n = length-range_with_len 0 n in
     IsPermutation-sym list (range_with_len 0 n) (moved list (range_with_len 0 n) differ (omega arith) (λ k d within.
     let same : get_or list k d ≡ get_or list k 0 = get_or_default list k d 0 within in
-    let low : get_or list k 0 < n = below k (omega arith) in
     let p : ℕ = get_or list k d in
     (p, omega arith, get_or-range_with_len 0 n p p (omega arith) ∙ zero-add p)))

@@ -1,4 +1,5 @@
 -- Tests, counts and filters over the numbers of a range.
+use Rattle.std.proofs.lemmas.Grind.{common_steps}
 use Rattle.std.proofs.Common.{◌≡◌, ℕ, zero, suc, ◌+◌, ◌-◌, ◌<◌, ◌≤◌, Bool, true, false, cond, ◌||◌, List, [], ◌∷◌, ◌++◌}
 use Rattle.std.proofs.Common.{map, length, ap, sym, ◌∙◌, refl, append-nil, arith, add-one}
 use Rattle.std.proofs.Common.{add-zero, zero-add}
@@ -9,7 +10,7 @@ use Rattle.std.proofs.lemmas.List.FromFn.{length-range_with_len, get_or-range_wi
 use Rattle.std.proofs.lemmas.List.Elements.{filter-append, filter_passes, All-filter}
 use Rattle.std.proofs.lemmas.List.Elements.{Contains-append_right}
 use Rattle.std.proofs.lemmas.List.{map-append}
-use Rattle.std.proofs.lemmas.List.Sums.{sum_by-cons, length-filter, count_by-le-length}
+use Rattle.std.proofs.lemmas.List.Sums.{length-filter, count_by-le-length}
 
 -- what holds from a up to a + n holds of each number of the range
 pub All-range_with_len : (P : ℕ → Type 0) (a n : ℕ) → ((i : ℕ) → a ≤ i → i < a + n → P i)
@@ -52,17 +53,11 @@ pub record AgreeOn (p q : ℕ → Bool) (a n : ℕ) : Type 0 where
 agree_after : (p q : ℕ → Bool) (a n : ℕ) → AgreeOn p q a (suc n) → AgreeOn p q (a + 1) n
 agree_after p q a n agree = record { same = λ i low high. agree.same i (omega arith) (omega arith) }
 
-agree_first : (p q : ℕ → Bool) (a n : ℕ) → AgreeOn p q a (suc n) → p a ≡ q a
-agree_first p q a n agree = agree.same a (omega arith) (omega arith)
-
 pub count_by_agree : (p q : ℕ → Bool) (a n : ℕ) → AgreeOn p q a n → count_by p (range_with_len a n)
     ≡ count_by q (range_with_len a n)
 count_by_agree p q a zero agree = refl
 count_by_agree p q a (suc n) agree =
-    sum_by-cons _ a (range_with_len (a + 1) n)
-    ∙ ap (λ b. cond b 1 0 + count_by p (range_with_len (a + 1) n)) (agree_first p q a n agree)
-    ∙ ap (λ m. cond (q a) 1 0 + m) (count_by_agree p q (a + 1) n (agree_after p q a n agree))
-    ∙ sym (sum_by-cons _ a (range_with_len (a + 1) n))
+    grind (arith, common_steps, count_by_agree p q (a + 1) n (agree_after p q a n agree))
 
 pub list_any_agree : (p q : ℕ → Bool) (a n : ℕ) → AgreeOn p q a n → list_any p (range_with_len a n)
     ≡ list_any q (range_with_len a n)
@@ -127,7 +122,7 @@ contains_later true a xs s at = Contains-append_right (a ∷ []) xs s at
 contains_later false a xs s at = at
 
 pub Contains_filter : (p : ℕ → Bool) (a n s : ℕ) → PassesAt p a n s → Contains (filter p (range_with_len a n)) s
-Contains_filter p a zero s at = absurd (let low = at.from in let high = at.below in omega arith)
+Contains_filter p a zero s at = absurd (omega arith)
 Contains_filter p a (suc n) s at =
     grind (arith, cases_lt a s, contains_later (p a) a, Contains_filter p (a + 1) n s)
 
@@ -157,7 +152,6 @@ pub ranges-join : (a m n : ℕ) → range_with_len a m ++ range_with_len (a + m)
 ranges-join a zero n = ap (λ b. range_with_len b n) (add-zero a)
     ∙ ap (λ k. range_with_len a k) (sym (zero-add n))
 ranges-join a (suc m) n =
-    let start : a + suc m ≡ a + 1 + m = omega arith in
     let count : suc m + n ≡ suc (m + n) = omega arith in
     grind (arith, ranges-join (a + 1) m n)
 

@@ -55,7 +55,7 @@ Rises {X} R ys = (i j : ℕ) (d : X) → i < j → j < length ys → R (get_or y
 only_less : (r s : Ordering) → is_eq r ≡ false → is_lt s ≡ false → s ≡ ordering_reverse r → r ≡ Less
 only_less Less s e l t = refl
 only_less Equal s e l t = cc
-only_less Greater s e l t = let lesser : is_lt s ≡ true = ap is_lt t in cc
+only_less Greater s e l t = cc
 
 pub rises : {X : Type 0} (R : X → X → Ordering) → IsTotalOrder R → (ys : List X) → IsSorted R ys
     → IsDistinct (eq_by_cmp R) ys → Rises R ys

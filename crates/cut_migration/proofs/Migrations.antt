@@ -78,7 +78,8 @@ pub moved_more : {D : Type 0} (v : Values) (ss : List Slip) (n number : ℕ) (s 
     → slice_get ss n ≡ Some s
     → HasMoved v ss n old mid → mid.doubtful ≡ old.doubtful → MovesOne {T = ⊤} (Ok tt) v number s mid new
     → HasMoved v ss (n + 1) old new
-moved_more v ss n number s old mid new at before doubt one = grind (arith, slice_get_within ss n s at, true_more v ss n s at before.true one.0)
+moved_more v ss n number s old mid new at before doubt one =
+    grind (arith, slice_get_within ss n s at, true_more v ss n s at before.true one.0)
 
 -- ---- how it ends
 

@@ -24,7 +24,8 @@ use Rattle.cut_detector.proofs.Modes.{is_full-unreported}
 
 node_kept : (r : Layout) (rule : Rule) (E : EdgeSet) (old new subjects : List ℕ) (m : ℕ) (d : Node)
     → Extends old m new → IsNode r rule E old subjects d → IsNode r rule E new subjects d
-node_kept r rule E old new subjects m d extends is = grind (arith, slots_kept rule.k old new m, causes_in_kept old new subjects m d.causes.items extends is.within)
+node_kept r rule E old new subjects m d extends is =
+    grind (arith, slots_kept rule.k old new m, causes_in_kept old new subjects m d.causes.items extends is.within)
 
 -- the next process is a node, or is not
 pub listed_push : (t : Reported) (s : ℕ) (old new : List ℕ) (m : ℕ) (olds news : List Node) (d : Node)

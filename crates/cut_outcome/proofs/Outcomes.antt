@@ -4,7 +4,8 @@ use Rattle.std.proofs.Common.{Option, Some, None, option_map, get_or, map, lengt
 use Rattle.cut_outcome.proofs.Words.{Contains, IfSome, count_by, slice_get, early, rule_of, Cell, Values, IsPlan}
 use Rattle.cut_outcome.proofs.Words.{cells_of, deliveries_at, largest, trial_count, Edge, Layout, Source, source_of}
 use Rattle.cut_outcome.proofs.Words.{Assignment, drawn, alert_list, Proposal, receivers_of, targets_of, judged}
-use Rattle.cut_outcome.proofs.Words.{quorum_of, votes_of, most_votes, cast_of, rings_of, receiver_proposal, totals_of, cell_at}
+use Rattle.cut_outcome.proofs.Words.{quorum_of, votes_of, most_votes, cast_of, rings_of, receiver_proposal, totals_of}
+use Rattle.cut_outcome.proofs.Words.{cell_at}
 use Rattle.cut_outcome.proofs.Words.{no_cell, one_if, outcome, place_of, place_for, settled_of, IsPlaced, AreByVotes}
 use Rattle.cut_outcome.proofs.Words.{ArePossible, LiesWithin}
 use Rattle.std.specs.List.{sum_by}

@@ -3,30 +3,14 @@ use Rattle.std.proofs.Common.{◌≡◌, ℕ, ◌+◌, ◌<◌, ◌≤◌, ◌&&
 use Rattle.std.proofs.Common.{length, slice_index, arith}
 use Rattle.std.specs.List.{list_any}
 use Rattle.cut_ranks.specs.Ranks.{IsRank}
-use Rattle.cut_ranks.specs.Closing.{IsLeast, IsEnough, IsClosing, IsBegun, IsRaised, is_doubtful}
+use Rattle.cut_ranks.specs.Closing.{IsLeast, IsEnough, IsBegun, IsRaised, is_doubtful}
 use Rattle.cut_ranks.proofs.Ranks.{second_is_first}
-
--- ---- a time raised to `high` where `low` is below a bound
 
 -- ---- what began at the first beginning, of the first n processes
 
 pub record IsBegunTo (first n : ℕ) (lows highs : List ℕ) (time : ℕ) : Type 0 where
   pub ended : (u : ℕ) → u < n → slice_index lows u ≤ first → slice_index highs u ≤ time
   pub least : (w : ℕ) → IsEnough first lows highs w → time ≤ w
-
-pub begun_none : (first : ℕ) (lows highs : List ℕ) → IsBegunTo first 0 lows highs 0
-begun_none first lows highs = grind arith
-
-pub begun_all : (first n : ℕ) (lows highs : List ℕ) (time : ℕ) → length lows ≤ n → IsBegunTo first n lows highs time
-    → IsBegun first lows highs time
-begun_all first n lows highs time all is = grind arith
-
-pub begun_more : (first n : ℕ) (lows highs : List ℕ) (time low bound high new : ℕ) → n < length lows
-    → low ≡ slice_index lows n → high ≡ slice_index highs n → bound ≡ first + 1
-    → new ≡ max time (cond (ltb low bound) high 0) → IsBegunTo first n lows highs time
-    → IsBegunTo first (n + 1) lows highs new
-begun_more first n lows highs time low bound high new inside low_is high_is bound_is new_is is =
-    grind arith
 
 -- ---- what began before a time, of the first n processes
 
@@ -54,10 +38,6 @@ raised_more first n lows highs old time low high new inside low_is high_is new_i
 pub begun_raised : (first : ℕ) (lows highs : List ℕ) (old new : ℕ) → IsBegun first lows highs old
     → IsRaised first lows highs old new → IsBegun first lows highs new
 begun_raised first lows highs old new begun raised = grind arith
-
-pub closing_from : (first : ℕ) (lows highs : List ℕ) (time later : ℕ) → IsBegun first lows highs time
-    → IsRaised first lows highs time later → later ≤ time → IsClosing first lows highs time
-closing_from first lows highs time later begun raised same = grind arith
 
 -- ---- doubts
 

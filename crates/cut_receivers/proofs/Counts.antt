@@ -1,12 +1,12 @@
 -- Counts of deliveries by the slots of their edges.
 use Rattle.std.proofs.Common.{◌≡◌, ◌∙◌, ℕ, ◌+◌, ◌*◌, ◌^◌, ◌<◌, ◌≤◌, ◌==◌, Bool, nat_lt, nat_le, cond}
-use Rattle.std.proofs.Common.{List, [], ◌∷◌, ◌++◌, length, map, take, slice_index, slice_index_or, refl, ap, sym}
+use Rattle.std.proofs.Common.{List, [], ◌∷◌, ◌++◌, length, map, slice_index, slice_index_or, refl, ap, sym}
 use Rattle.std.proofs.Common.{zero-add, arith}
 use Rattle.std.specs.List.{All, count_by, range_with_len, flat_map}
 use Rattle.std.proofs.lemmas.Bool.Decides.{nat_tests}
 use Rattle.std.proofs.lemmas.Grind.{flat_map-append}
 use Rattle.std.proofs.lemmas.List.{append-nil, length-map}
-use Rattle.std.proofs.lemmas.List.Sums.{count_by-le-length, count_by_more_no, count_by_more_yes, sum_by-cons}
+use Rattle.std.proofs.lemmas.List.Sums.{count_by-le-length, sum_by-cons}
 use Rattle.cut_lists.proofs.Maps.{count_by-map, maps_agree}
 use Rattle.cut_lists.proofs.Ranges.{range_with_len_more}
 use Rattle.cut_rings.specs.declared.edge.Edge.{Edge}
@@ -26,11 +26,6 @@ use Rattle.cut_receivers.proofs.Drawn.{image_drawn}
 abbrev pub count_below : Hearing → ℕ → ℕ → ℕ
 count_below x copies bound =
     count_by (λ y. nat_lt (image_of x y) bound) (flat_map (λ c. copies_of x.edges c) (range_with_len 0 copies))
-
--- one element more
-pub count_more : {X : Type 0} (p : X → Bool) (xs : List X) (n : ℕ) (d : X) → n < length xs
-    → count_by p (take (n + 1) xs) ≡ count_by p (take n xs) + cond (p (slice_index_or xs n d)) 1 0
-count_more p xs n d low = grind (arith, count_by_more_yes, count_by_more_no)
 
 count_append : {X : Type 0} (p : X → Bool) (xs ys : List X) → count_by p (xs ++ ys) ≡ count_by p xs + count_by p ys
 count_append p [] ys = sym (zero-add (count_by p ys))

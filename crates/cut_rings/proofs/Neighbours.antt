@@ -62,7 +62,8 @@ pub record IsRead (l : Layout) (ring p place q x : ℕ) : Type 0 where
 pub read : (r : Inside) → AreRings r → (l : Layout) → layout_of r ≡ l → (ring : ℕ) (kept : Ring) (p place q x : ℕ)
     → ring < length l.positions → p < l.nodes → kept ≡ slice_index_or r.rings.items ring kept → place
     ≡ get_or kept.positions.items p place → x ≡ get_or kept.order.items q x → IsRead l ring p place q x
-read r sound l seen ring kept p place q x ring_in p_in kept_read place_read x_read = grind (arith, get_or_default, length-map, get_or-map)
+read r sound l seen ring kept p place q x ring_in p_in kept_read place_read x_read =
+    grind (arith, get_or_default, length-map, get_or-map)
 
 -- the process at the place before that of s, and the one at the place after that of o
 pub observer_read : (l : Layout) → IsLayout l → (ring s place before o : ℕ) → ring < length l.positions → s < l.nodes

@@ -1,6 +1,6 @@
 -- What is known of an order of the first n processes, and when a table of places is its inverse.
 use Rattle.std.proofs.Common.{◌≡◌, ℕ, suc, ◌∷◌, ◌+◌, ◌<◌, ◌≢◌, ◌==◌, ◌&&◌, Bool, refl, true, false, List, [], length}
-use Rattle.std.proofs.Common.{get_or, map, set, get_or-set_other, get_or-set_same, Vec, Global, subst, below_more, ap}
+use Rattle.std.proofs.Common.{get_or, map, set, get_or-set_other, get_or-set_same, Vec, Global, below_more, ap}
 use Rattle.std.proofs.Common.{sym, ◌∙◌, arith}
 use Rattle.std.specs.Prelude.{◌↔◌}
 use Rattle.std.specs.List.{Any, list_all, list_any, All, Contains, count_by, range_with_len}
@@ -110,7 +110,3 @@ pub some_not_order : (n : ℕ) (lists : List (Vec ℕ Global)) → list_all (λ 
 some_not_order n lists fail =
     let bad = some_fails (λ list. is_order n list.items) lists fail in
     (bad.0, bad.1, bad.2, bad.3, λ is. both_ways (is_order n bad.1.items) bad.4 ((order_tested n bad.1.items).1 is))
-
--- not both
-pub denied : {X : Type 0} (P : X → Type 0) (xs : List X) → All P xs → Any (λ x. ¬ P x) xs → ⊥
-denied P xs all some = some.4 (subst P some.3 (all some.0 some.1 some.2))

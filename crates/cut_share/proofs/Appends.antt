@@ -102,7 +102,8 @@ both_added : {D : Type 0} (is_honest : D → Type 0) (state : D → DiskState) (
     (old mid new : JournalValue D) → (is_honest old.disk → is_honest mid.disk)
     → Adds is_honest state xs old mid → mid.doubtful ≡ old.doubtful → Adds is_honest state ys mid new
     → LeavesDoubt mid.doubtful new.doubtful ys → Adds is_honest state (xs ++ ys) old new
-both_added is_honest state xs ys old mid new honest before same after doubt = grind (arith, length-append, each_then, append_assoc)
+both_added is_honest state xs ys old mid new honest before same after doubt =
+    grind (arith, length-append, each_then, append_assoc)
 
 pub added_more : {D : Type 0} (is_honest : D → Type 0) (state : D → DiskState) (xs ys : List Slip)
     (old mid new : JournalValue D) → (is_honest old.disk → is_honest mid.disk)
@@ -122,7 +123,8 @@ pub added_doubtful : {D : Type 0} (is_honest : D → Type 0) (state : D → Disk
     (old mid new : JournalValue D) → (is_honest old.disk → is_honest mid.disk)
     → Adds is_honest state xs old mid → NoneFailed xs old mid → Adds is_honest state ys mid new
     → OneFailed slip mid new → Adds is_honest state (xs ++ ys) old new × OneFailed slip old new
-added_doubtful is_honest state xs ys slip old mid new honest before none after failed = grind (arith, both_added is_honest state xs ys old mid new honest before none.doubtful after (inl failed.whole))
+added_doubtful is_honest state xs ys slip old mid new honest before none after failed =
+    grind (arith, both_added is_honest state xs ys old mid new honest before none.doubtful after (inl failed.whole))
 
 -- ---- a task's result
 

@@ -26,11 +26,6 @@ pub alike_in_block : (s : Share) (v : Values) (p : Piece) (n t : ℕ) → IsPlan
 alike_in_block s v p n t plan piece few near from below =
     grind (arith, piece_facts, in_block)
 
--- a piece has its first trial
-pub piece_has_first : (v : Values) (p : Piece) → IsTrue (is_piece v p) → is_in p p.first ≡ true
-piece_has_first v p piece =
-    grind arith
-
 -- its trials are those that are in it
 pub in_trials : (p : Piece) (t : ℕ) → p.first ≤ t → t < p.first + p.count → is_in p t ≡ true
 in_trials p t from below =

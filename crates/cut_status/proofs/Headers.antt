@@ -35,5 +35,3 @@ pub same_plan : ReadsBack → (v w : Values) (bytes : List ℕ) → IsPlan v →
     → says_plan w bytes ≡ true → v ≡ w
 same_plan back v w bytes plan other says too =
     grind (arith, says_text)
-
--- ---- a text that is no plan's

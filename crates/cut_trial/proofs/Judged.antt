@@ -17,9 +17,9 @@ use Rattle.cut_receivers.specs.declared.finding.Finding.TheVariants.{Doubtful, O
 use Rattle.cut_receivers.specs.Findings.{flagged, Finds}
 use Rattle.cut_trial.specs.declared.alerts.Alerts.{Alerts}
 use Rattle.cut_trial.specs.inside.Judging.{proposed_by, proposals_to}
-use Rattle.cut_outcome.proofs.Words.{Assignment, Cell, Edge, EdgeSet, IsTrue, Layout, Rule, Source, Values}
-use Rattle.cut_outcome.proofs.Words.{all_deliveries, count_by, early, is_target, list_any, proposal_of, range_with_len}
-use Rattle.cut_outcome.proofs.Words.{receiver_proposal, receivers_of, rule_of}
+use Rattle.cut_outcome.proofs.Words.{Assignment, EdgeSet, IsTrue, Layout, Rule, Source}
+use Rattle.cut_outcome.proofs.Words.{count_by, is_target, list_any, range_with_len}
+use Rattle.cut_outcome.proofs.Words.{receivers_of}
 use Rattle.cut_nodes.proofs.NodeLemmas.{stable_reported}
 
 -- ---- flags
@@ -111,12 +111,6 @@ pub same_judged : (x : Alerts) (d : Source) (rs : List ℕ) (n m : ℕ) → min 
 same_judged x d rs n m same = grind (arith, all_judged)
 
 -- ---- what the receivers of a trial hear
-
-pub heard_as : (v : Values) (c : Cell) (r : Layout) (d : Source) (edges heard : List Edge) (copies j : ℕ) (rule : Rule)
-    → rule ≡ rule_of c.k c.h c.l v.implicit → heard ≡ edges → copies ≡ v.copies
-    → proposal_of r rule (λ n. early d j rule.k heard copies n) (length (all_deliveries heard copies))
-    ≡ receiver_proposal v c r d edges j
-heard_as v c r d edges heard copies j rule rule_is edges_are copies_are = rw (rule_is, edges_are, copies_are) refl
 
 pub none_stable : (r : Layout) (rule : Rule) (E : EdgeSet) → is_some_stable r rule E ≡ false → (s : ℕ) → s < r.nodes
     → IsTrue (is_stable r rule E s) → ⊥

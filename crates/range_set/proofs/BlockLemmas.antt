@@ -1,9 +1,8 @@
 -- Blocks of a section: one that is changed, and room in all.
 use Rattle.std.proofs.Common.{◌≡◌, ◌∙◌, ℕ, zero, suc, ◌∷◌, ◌+◌, ◌*◌, ◌-◌, ◌/◌, ◌%◌, ◌<◌, ◌≤◌, inl, inr, true, false}
-use Rattle.std.proofs.Common.{◌&&◌, List, [], map, length, get_or, set, min, max, nat_lt, Result, Ok, Err, refl, ap}
+use Rattle.std.proofs.Common.{◌&&◌, List, [], map, length, get_or, set, min, max, nat_lt, refl, ap}
 use Rattle.std.proofs.Common.{sym, arith}
 use Rattle.std.specs.List.{list_all}
-use Rattle.std.specs.Result.{OnErr}
 use Rattle.std.proofs.Math.Seq.{map-set_same}
 use Rattle.std.proofs.lemmas.Bool.{cases_eq}
 use Rattle.std.proofs.lemmas.List.Folds.{list_all_at}
@@ -59,10 +58,6 @@ pub had_none : (olds news : List Row) (n : ℕ) → AreReserved olds news n → 
     ≡ false → list_all (λ x. x.room) olds ≡ false
 had_none olds news n are in' none =
     grind (arith, list_all_at)
-
-pub on_err : {T E P : Type 0} (r : Result T E) → P → OnErr r P
-on_err (Ok x) p = tt
-on_err (Err e) p = p
 
 -- ---- numbers turned round
 

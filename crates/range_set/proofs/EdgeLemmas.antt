@@ -1,10 +1,9 @@
 -- Edges that ascend: how many are at most a number, and one more or one less.
-use Rattle.std.proofs.Common.{◌≡◌, ◌∙◌, ℕ, zero, suc, ◌+◌, ◌<◌, ◌≤◌, ◌==◌, ◌%◌, inl, inr, Bool, cond}
+use Rattle.std.proofs.Common.{◌≡◌, ◌∙◌, ℕ, zero, suc, ◌+◌, ◌<◌, ◌≤◌, ◌==◌, ◌%◌, Bool, cond}
 use Rattle.std.proofs.Common.{List, [], ◌∷◌, length, get_or, nat_le, refl, ap, arith, zero-add}
-use Rattle.std.specs.List.{count_by, remove}
+use Rattle.std.specs.List.{count_by}
 use Rattle.std.specs.List.Sorted.{IsNonDecreasing, IsPartitionPoint}
-use Rattle.std.proofs.lemmas.Bool.{cases_lt, le-leb, lt-leb}
-use Rattle.std.proofs.lemmas.List.Quantifiers.{all_pairs_remove}
+use Rattle.std.proofs.lemmas.Bool.{le-leb, lt-leb}
 use Rattle.std.proofs.lemmas.List.Sums.{sum_by-cons}
 use Rattle.range_set.specs.inside.Edges.{IsRun, is_within, is_between, flipped}
 
@@ -46,13 +45,6 @@ counted_on xs n i end t sorted le point stop low high =
     get_or_same [] k d low = absurd (omega arith)
     get_or_same (x ∷ xs) zero d low = refl
     get_or_same (x ∷ xs) (suc k) d low = get_or_same xs k d (omega arith)
-
-pub sorted_remove : (xs : List ℕ) (n : ℕ) → n < length xs → IsNonDecreasing xs → IsNonDecreasing (remove xs n)
-sorted_remove xs n low sorted i j d le within = elim (cases_lt i j) [
-  | inl less ↦ all_pairs_remove (λ (x y : ℕ). x ≤ y) xs n low (λ a b e lt in'. sorted a b e (omega arith) in') i j d
-      less within
-  | inr more ↦ (let same : i ≡ j = omega arith in omega (arith, ap (λ k. get_or (remove xs n) k d) same))
-]
 
 -- what is turned round from one number on, and again from another on, is turned round between them
 pub flipped_twice : (from end t : ℕ) (b : Bool) → from ≤ end → flipped (nat_le end t) (flipped (nat_le from t) b)

@@ -4,7 +4,6 @@ use Rattle.std.proofs.Common.{[], All, map, length, get_or, set, replicate, min,
 use Rattle.std.specs.Int.{div_ceil}
 use Rattle.std.specs.List.{range_with_len}
 use Rattle.std.proofs.Math.Bool.{or-false}
-use Rattle.std.proofs.Math.Nat.{mul-le-mul_left, mul-one}
 use Rattle.std.proofs.lemmas.Bool.{cases_eq, cases_lt}
 use Rattle.std.proofs.lemmas.List.{ext_get_or, get_or-replicate, get_or_past, get_or-set_same, get_or-set_other}
 use Rattle.std.proofs.lemmas.List.{length-replicate, length-set, length-map, map-set}
@@ -180,7 +179,3 @@ pub reserved_is : (l : ℕ) (ss : List Blocks) (c : ℕ) (s : Blocks) → c < le
     ≡ record { section_len = l; held = (held_in l ss).held; room = set (rooms ss) c true }
 reserved_is l ss c s in' made =
     grind (arith, held_stays, map-set)
-
--- there are no more sections than numbers
-pub few_sections : (n l : ℕ) → 0 < l → n ≤ n * l
-few_sections n l some = omega (arith, mul-le-mul_left {m = 1} {n = l} n (omega arith), mul-one n)

@@ -6,8 +6,7 @@ use Rattle.cut_alerts.proofs.alerted.fill.Goals as goal
 
 pub loop-subject-preserved : goal.loop-subject-preserved
 loop-subject-preserved c =
-    subject_more (λ (e : Edge). is_alerted c.args.rings.now c.args.roles.now e) c.args.k c.loop-subject.subject
-    _ _ c.loop-subject.invariant c.in_ok-push_alerts.ensures
+    grind (arith, subject_more)
 
 pub returns : goal.returns
 returns c =

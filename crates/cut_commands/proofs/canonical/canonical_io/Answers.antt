@@ -18,7 +18,8 @@ returns-in_err-line g c =
     c.read_plan.ensures in
     let p = err_from_is_err_and c.from_residual-in_err-line.result c.from_residual-in_err-line.ensures.1 in
     subst (λ (x : Result ⊤ CliFault). EndsCommand canonical_task old mid x) (sym p.1)
-    (rw p.2 (ends_left canonical_task v (Err Memory) old mid mid given (leaves_nothing canonical_task v Memory mid refl refl)))
+    (rw p.2 (ends_left canonical_task v (Err Memory) old mid mid given
+    (leaves_nothing canonical_task v Memory mid refl refl)))
 
 pub returns : goal.returns
 returns g c =

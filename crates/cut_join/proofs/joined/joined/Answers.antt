@@ -13,7 +13,8 @@ merged-requires c =
     let v = c.args.plan.now in
     let ss : List Slip = c.args.slips.now in
     let xs : List Slip = c.in_ok-ascending.ascending.items in
-    subst (λ (l : List Slip). AreAscending v l) (sym c.deref.ensures.value) (sound_ascend v xs c.plans_are_accepted.ensures.accepted
+    subst (λ (l : List Slip). AreAscending v l) (sym c.deref.ensures.value)
+    (sound_ascend v xs c.plans_are_accepted.ensures.accepted
     (sound_good v xs (sound_moved v ss xs c.in_ok-ascending.ensures.permutation (good_sound v ss (search rules))))
     c.in_ok-ascending.ensures.sorted)
 
@@ -28,4 +29,5 @@ returns-clause-good c =
     let v = c.args.plan.now in
     let ss : List Slip = c.args.slips.now in
     let are : c.in_ok-merged.field-0.items ≡ joined v ss = returns-clause-joined c in
-    subst (λ (l : List Slip). AreGood v l) (sym are) (joined_good v ss c.plans_are_accepted.ensures.accepted (search rules))
+    subst (λ (l : List Slip). AreGood v l) (sym are)
+    (joined_good v ss c.plans_are_accepted.ensures.accepted (search rules))

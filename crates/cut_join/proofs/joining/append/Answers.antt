@@ -6,5 +6,6 @@ pub returns-in-Ok-clause-moments : goal.returns-in-Ok-clause-moments
 returns-in-Ok-clause-moments g c =
     let log = c.args.journal.now in
     λ honest. append_moments (Ok c.in-Ok.field-0) c.args.slip (λ d. g.D.Disk.state d) log c.append_slip.new.self
-    c.in-Ok.ensures.left c.in-Ok.ensures.broken (c.stays_readable.ensures.sound honest) (c.append_slip.ensures.moments honest)
+    c.in-Ok.ensures.left c.in-Ok.ensures.broken (c.stays_readable.ensures.sound honest)
+    (c.append_slip.ensures.moments honest)
     (c.in-Ok.ensures.acknowledged honest) (c.in-Ok.ensures.kept honest)

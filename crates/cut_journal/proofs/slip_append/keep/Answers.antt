@@ -1,47 +1,38 @@
-use Rattle.std.proofs.Common.{◌+◌, ◌∙◌, ℕ, List, Some, length, take, ap, arith}
+use Rattle.std.proofs.Common.{◌+◌, ◌∙◌, ℕ, List, Some, take, ap, arith}
 use Rattle.std.specs.Result.{is_ok}
-use Rattle.cut_disks.specs.State.{DiskState, overwritten}
+use Rattle.cut_disks.specs.State.{overwritten}
 use Rattle.cut_disks.specs.declared.disk.DiskFault.{DiskFault}
 use Rattle.cut_journal.specs.Journal.{kept_slips, ReadsAs}
 use Rattle.cut_journal.proofs.Moments.{and_then, on_ok}
-use Rattle.cut_journal.proofs.Appends.{Second, first_at, second_at, gate_before, over_long}
+use Rattle.cut_journal.proofs.Appends.{Second, first_at, second_at, gate_before}
 use Rattle.cut_journal.proofs.Files.{extended_at}
 use Rattle.cut_journal.proofs.slip_append.keep.Goals as goal
 use Rattle.cut_journal.proofs.slip_append.keep.Given as given
 
 pub write_through-requires : goal.write_through-requires
-write_through-requires g c = λ honest. gate_before c.args.next.study.now c.args.next.gate.number c.args.next.gate.place
-    (g.D.Disk.state c.args.disk.now) c.args.next.place (c.requires.sound honest)
+write_through-requires g c = grind (arith, gate_before)
 
 pub returns-in_err-write_through-clause-moments : goal.returns-in_err-write_through-clause-moments
-returns-in_err-write_through-clause-moments g c = λ honest.
-    (first_at c.write_through.result c.args.next.study.now c.args.next.gate.number c.args.next.gate.place
-    c.args.next.slip
-    (take c.slip_length.result c.slip_bytes-bytes.result) (g.D.Disk.state c.args.disk.now)
-    (g.D.Disk.state c.write_through.new.disk)
-    c.args.next.place c.writes_stay_in_their_span.ensures (c.requires.sound honest)
-    (c.write_through.ensures.state honest)).moments
+returns-in_err-write_through-clause-moments g c =
+    grind (
+      arith,
+      first_at c.write_through.result c.args.next.study.now c.args.next.gate.number c.args.next.gate.place
+          c.args.next.slip (take c.slip_length.result c.slip_bytes-bytes.result) (g.D.Disk.state c.args.disk.now)
+          (g.D.Disk.state c.write_through.new.disk) c.args.next.place c.writes_stay_in_their_span.ensures,
+    )
 
 pub returns-in_err-write_through-clause-left : goal.returns-in_err-write_through-clause-left
-returns-in_err-write_through-clause-left g c = λ honest.
-    (first_at c.write_through.result c.args.next.study.now c.args.next.gate.number c.args.next.gate.place
-    c.args.next.slip
-    (take c.slip_length.result c.slip_bytes-bytes.result) (g.D.Disk.state c.args.disk.now)
-    (g.D.Disk.state c.write_through.new.disk)
-    c.args.next.place c.writes_stay_in_their_span.ensures (c.requires.sound honest)
-    (c.write_through.ensures.state honest)).left
+returns-in_err-write_through-clause-left g c =
+    grind (
+      arith,
+      first_at c.write_through.result c.args.next.study.now c.args.next.gate.number c.args.next.gate.place
+          c.args.next.slip (take c.slip_length.result c.slip_bytes-bytes.result) (g.D.Disk.state c.args.disk.now)
+          (g.D.Disk.state c.write_through.new.disk) c.args.next.place c.writes_stay_in_their_span.ensures,
+    )
 
 pub write_through-requires-2 : goal.write_through-requires-2
-write_through-requires-2 g c = λ honest.
-    let before = c.in_ok-write_through.ensures.honest.1 honest in
-    let old : DiskState = g.D.Disk.state c.args.disk.now in
-    let there = gate_before c.args.next.study.now c.args.next.gate.number c.args.next.gate.place old c.args.next.place
-    (c.requires.sound before) in
-    let long = over_long old.bytes (take c.slip_length.result c.slip_bytes-bytes.result) (c.args.next.gate.place + 1)
-    there
-    in
-    let same = ap (λ (d : DiskState). length d.bytes) (c.in_ok-write_through.ensures.state before) in
-    omega (arith, there, long, same)
+write_through-requires-2 g c =
+    grind (arith, gate_before c.args.next.study.now c.args.next.gate.number c.args.next.gate.place)
 
 abbrev pub second : (g : given.Over) (c : goal.After-write_through-2 g) → g.D.Disk.is_honest c.args.disk.now
     → Second {E = DiskFault} c.write_through-2.result c.args.next.study.now

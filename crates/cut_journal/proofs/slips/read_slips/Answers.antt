@@ -1,4 +1,4 @@
-use Rattle.std.proofs.Common.{Option, false, IfSome, ◌≡◌, ◌∙◌, ◌<◌, ◌+◌, ◌++◌, ◌∷◌, [], ℕ, List, Result, Ok, Err, Some}
+use Rattle.std.proofs.Common.{Option, IfSome, ◌≡◌, ◌∙◌, ◌<◌, ◌+◌, ◌++◌, ◌∷◌, [], ℕ, List, Result, Ok, Err, Some}
 use Rattle.std.proofs.Common.{length, sym, ap, subst, arith, IfErr, zero-add, length-append}
 use Rattle.std.proofs.lemmas.Result.{err_from_is_err_and}
 use Rattle.std.proofs.lemmas.List.FromFn.{map-range_with_len_more}
@@ -12,30 +12,18 @@ use Rattle.cut_ledger.specs.declared.slip.Slip.{Slip}
 use Rattle.cut_journal.specs.File.{slip_length}
 use Rattle.cut_journal.specs.Reading.{slip_in, slips_reading}
 use Rattle.cut_journal.specs.inside.Steps.{IsOfPlan, IsNext, AreWhole}
-use Rattle.cut_journal.proofs.Gates.{gate_next, gate_far}
+use Rattle.cut_journal.proofs.Gates.{gate_next}
 use Rattle.cut_journal.proofs.Readings.{slips_read, damage_read, one_more_whole}
 use Rattle.cut_journal.proofs.slips.read_slips.Goals as goal
-use Rattle.cut_journal.specs.inside.Places.{body_at, first_slips, is_open}
+use Rattle.cut_journal.specs.inside.Places.{body_at, first_slips}
 
 pub returns-clause-reported : goal.returns-clause-reported
-returns-clause-reported g c = λ honest.
-    let bytes : List ℕ = (g.D.Disk.state c.args.disk.now).bytes in
-    let found = subst (λ (o : Option Slip). IsNext (Ok o) c.args.file.study.now (g.D.Disk.state c.loop-slips.disk).bytes
-    c.loop-slips.gate.number) c.in_default.is
-    (c.in_ok-slip.ensures.reported (c.loop-slips.invariant.honest.0 honest)) in
-    let shut : is_open c.args.file.study.now bytes c.loop-slips.gate.number ≡ false =
-    subst (λ (d : DiskState). is_open c.args.file.study.now d.bytes c.loop-slips.gate.number ≡ false)
-    (c.loop-slips.invariant.same honest) found in
-    slips_read c.args.file.study.now bytes c.loop-slips.gate.number
-    (record { prefix = c.requires.prefix honest; whole = c.loop-slips.invariant.whole honest; closed = shut })
-    ∙ ap (λ (l : List Slip). Ok l) (sym (c.loop-slips.invariant.slips honest))
+returns-clause-reported g c = grind (arith, slips_read)
 
 damage : (v : Values) (n : ℕ) (fault : JournalFault) (bytes : List ℕ) → IsOfPlan v bytes → AreWhole v bytes n
     → IsNext (Err fault) v bytes n → (number : ℕ) → fault ≡ Damaged number → slips_reading v bytes ≡ Err fault
 damage v n fault bytes prefix whole next number is =
-    let found = subst (λ (f : JournalFault). IsNext (Err f) v bytes n) is next in
-    damage_read v bytes n prefix whole found.1 found.2 ∙ ap (λ (k : ℕ). Err (Damaged k)) (sym found.0)
-    ∙ ap (λ (f : JournalFault). Err f) (sym is)
+    grind (arith, damage_read)
 
 pub returns-in_err-slip-clause-refused : goal.returns-in_err-slip-clause-refused
 returns-in_err-slip-clause-refused g c = λ honest.
@@ -53,13 +41,7 @@ returns-in_err-slip-clause-refused g c = λ honest.
     (c.loop-slips.invariant.whole honest) next))
 
 pub overflow_add-gate : goal.overflow_add-gate
-overflow_add-gate g c = omega (
-  arith,
-  gate_far c.args.file.study.now c.loop-slips.gate.number,
-  c.loop-slips.invariant.place,
-  c.loop-slips.invariant.within,
-  c.args.file.bound,
-)
+overflow_add-gate g c = grind arith
 
 pub loop-slips-preserved : goal.loop-slips-preserved
 loop-slips-preserved g c =

@@ -9,10 +9,7 @@ use Rattle.cut_lanes.proofs.closing.close.Goals as goal
 
 pub returns-clause-first : goal.returns-clause-first
 returns-clause-first c i low =
-    let some = c.requires.some in
-    least_from_rank (never + 1) (lane i c.args.lows.now) (slice_index c.two_least.result.0 i)
-    (c.two_least.ensures.first i low)
-    (omega (arith, some, length_lane i c.args.lows.now)) (below_lane i never c.args.lows.now (c.requires.times i low))
+    search (arith, least_from_rank, length_lane, below_lane, c.two_least.ensures.first, c.requires.times)
 
 pub returns-clause-doubt : goal.returns-clause-doubt
 returns-clause-doubt c i low =

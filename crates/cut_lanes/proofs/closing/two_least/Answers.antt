@@ -1,7 +1,7 @@
 use Rattle.std.proofs.Common.{◌∙◌, ℕ, ◌+◌, ◌<◌, ◌≤◌, List, [], length, take, slice_index, slice_index_or, subst, sym}
 use Rattle.std.proofs.Common.{refl, arith}
 use Rattle.cut_blocks.specs.Images.{never}
-use Rattle.cut_ranks.specs.Ranks.{IsRank, AreRanks}
+use Rattle.cut_ranks.specs.Ranks.{AreRanks}
 use Rattle.cut_lanes.specs.Lanes.{lane}
 use Rattle.cut_lanes.proofs.Insertions.{filled_lane, taken_lane, bound_lane, all_lane, placed_rank}
 use Rattle.cut_lanes.proofs.closing.two_least.Goals as goal
@@ -27,16 +27,8 @@ loop-low-preserved c =
 
 pub returns-clause-first : goal.returns-clause-first
 returns-clause-first c i low =
-    let two = c.loop-low.invariant.many in
-    subst (λ ys. IsRank (never + 1) 1 ys (slice_index (slice_index_or c.loop-low.least 0 []) i))
-    (all_lane i c.loop-low.low-index c.args.lows.now c.loop-low-test.false)
-    (placed_rank i (never + 1) 0 (take c.loop-low.low-index (lane i c.args.lows.now)) c.loop-low.least
-    (omega (arith, two)) (c.loop-low.invariant.ranks i low))
+    grind (arith, all_lane, placed_rank)
 
 pub returns-clause-second : goal.returns-clause-second
 returns-clause-second c i low =
-    let two = c.loop-low.invariant.many in
-    subst (λ ys. IsRank (never + 1) 2 ys (slice_index (slice_index_or c.loop-low.least 1 []) i))
-    (all_lane i c.loop-low.low-index c.args.lows.now c.loop-low-test.false)
-    (placed_rank i (never + 1) 1 (take c.loop-low.low-index (lane i c.args.lows.now)) c.loop-low.least
-    (omega (arith, two)) (c.loop-low.invariant.ranks i low))
+    grind (arith, all_lane, placed_rank)

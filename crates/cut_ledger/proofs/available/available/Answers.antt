@@ -13,27 +13,13 @@ use Rattle.cut_ledger.proofs.available.available.Goals as goal
 -- how many of the first cells are done
 in_prefix : (l : Contents) (k : ℕ) → k ≡ prefix_len (cell_done l) (range_with_len 0 (length (cells_of l.plan))) → k
     ≤ length (cells_of l.plan)
-in_prefix l k is = omega (
-  arith,
-  is,
-  prefix_len-le-length (cell_done l) (range_with_len 0 (length (cells_of l.plan))),
-  length-range_with_len 0 (length (cells_of l.plan)),
-)
+in_prefix l k is = grind (arith, prefix_len-le-length, length-range_with_len)
 
 pub cell_sum-requires : goal.cell_sum-requires
-cell_sum-requires c = omega (
-  arith,
-  c.loop-cell-test.true,
-  in_prefix c.args.ledger.now.contents c.cells_done-cell-end.result c.cells_done-cell-end.ensures,
-)
+cell_sum-requires c = grind (arith, in_prefix)
 
 pub cell_line-requires-clause-number : goal.cell_line-requires-clause-number
-cell_line-requires-clause-number c = omega (
-  arith,
-  c.loop-cell-test.true,
-  in_prefix c.args.ledger.now.contents c.cells_done-cell-end.result c.cells_done-cell-end.ensures,
-  ap (λ (v : Values). length (cells_of v)) c.plan-in-loop-cell.ensures.value,
-)
+cell_line-requires-clause-number c = grind (arith, in_prefix)
 
 pub loop-cell-preserved : goal.loop-cell-preserved
 loop-cell-preserved c =

@@ -16,8 +16,4 @@ returns-then-not-cell_done c =
 
 pub returns : goal.returns
 returns c =
-    let l : Contents = c.args.ledger.now.contents in
-    let count = rw c.plan.ensures.value at c.cells-cells.ensures.value in
-    sym (first_failing (cell_done l) 0 c.cells-cells.result (length (cells_of l.plan)) (omega (arith, count))
-    (λ k _ low. c.loop-cell.invariant k (omega (arith, low, c.loop-cell-test.false)))
-    (λ low. absurd (omega (arith, low, count))))
+    grind (arith, first_failing)

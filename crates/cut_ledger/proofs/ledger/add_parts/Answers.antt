@@ -1,7 +1,7 @@
 -- One part more stands at the end, until all are there.
-use Rattle.std.proofs.Common.{◌≡◌, ℕ, ◌+◌, ◌*◌, ◌++◌, ◌∷◌, [], map, ap, ◌∙◌, append_assoc, arith}
+use Rattle.std.proofs.Common.{ℕ, ◌+◌, ◌*◌, ◌++◌, ◌∷◌, [], map, ap, ◌∙◌, append_assoc, arith}
 use Rattle.std.proofs.lemmas.List.FromFn.{map-range_with_len_more}
-use Rattle.cut_ledger.proofs.Words.{Piece, div_ceil, part_of, range_with_len}
+use Rattle.cut_ledger.proofs.Words.{Piece, part_of, range_with_len}
 use Rattle.cut_ledger.proofs.ledger.add_parts.Goals as goal
 
 pub loop-i-preserved : goal.loop-i-preserved
@@ -16,5 +16,4 @@ loop-i-preserved c =
 
 pub returns : goal.returns
 returns c =
-    let end : c.loop-i.i ≡ div_ceil c.args.piece.count c.args.size = omega (arith, c.div_ceil-i-end.ensures) in
-    c.loop-i.invariant ∙ rw end
+    grind arith

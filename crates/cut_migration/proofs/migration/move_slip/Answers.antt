@@ -41,12 +41,14 @@ returns-in-Err-BadPiece-clause-moments g c =
 pub returns-in-Err-Memory-clause-moments : goal.returns-in-Err-Memory-clause-moments
 returns-in-Err-Memory-clause-moments g c =
     let log = c.args.journal.now in
-    λ honest. nothing_appended log.plan log.count log.doubtful (g.D.Disk.state log.disk) (c.stays_readable.ensures.sound honest)
+    λ honest. nothing_appended log.plan log.count log.doubtful (g.D.Disk.state log.disk)
+    (c.stays_readable.ensures.sound honest)
 
 pub returns-then-not-is_true-clause-moments : goal.returns-then-not-is_true-clause-moments
 returns-then-not-is_true-clause-moments g c =
     let log = c.args.journal.now in
-    λ honest. nothing_appended log.plan log.count log.doubtful (g.D.Disk.state log.disk) (c.stays_readable.ensures.sound honest)
+    λ honest. nothing_appended log.plan log.count log.doubtful (g.D.Disk.state log.disk)
+    (c.stays_readable.ensures.sound honest)
 
 pub returns-in-Ok-append-clause-moments : goal.returns-in-Ok-append-clause-moments
 returns-in-Ok-append-clause-moments g c =

@@ -15,15 +15,11 @@ split_at-requires c =
 
 pub overflow_cast-first : goal.overflow_cast-first
 overflow_cast-first c =
-    let next = next_run c.args.rule.k c.args.nodes
-    (set_of c.args.edges.now) c.loop-subject.subject c.loop-subject.rest.now c.run_len.result
-    c.loop-subject-test.true c.loop-subject.invariant.rest c.run_len.ensures in
-    omega (
+    grind (
       arith,
-      next.many,
-      few_run c.args.rule.k
-          (set_of c.args.edges.now) c.loop-subject.subject,
-      c.split_at.ensures.front_len,
+      next_run c.args.rule.k c.args.nodes (set_of c.args.edges.now) c.loop-subject.subject
+          c.loop-subject.rest.now c.run_len.result c.loop-subject-test.true c.loop-subject.invariant.rest c.run_len.ensures,
+      few_run c.args.rule.k (set_of c.args.edges.now) c.loop-subject.subject,
     )
 
 pub loop-subject-preserved-then-not-is_reported : goal.loop-subject-preserved-then-not-is_reported

@@ -1,10 +1,8 @@
-use Rattle.std.proofs.Common.{◌≡◌, ◌∙◌, ℕ, ◌+◌, ◌<◌, ◌≤◌, false, List, [], length, slice_index_or, vec_capacity, ap}
+use Rattle.std.proofs.Common.{◌≡◌, ◌∙◌, ℕ, ◌+◌, ◌<◌, false, List, [], length, slice_index_or, vec_capacity, ap}
 use Rattle.std.proofs.Common.{sym, subst, arith}
 use Rattle.std.proofs.lemmas.List.{length-set}
-use Rattle.cut_blocks.specs.Images.{never}
-use Rattle.cut_arrivals.specs.Hearing.{lows_at}
 use Rattle.cut_nodes.specs.declared.node.Node.{Node}
-use Rattle.cut_receivers.specs.inside.Times.{hearing_in, AreHighsTo, IsHigh}
+use Rattle.cut_receivers.specs.inside.Times.{AreHighsTo, IsHigh}
 use Rattle.cut_receivers.proofs.Pairs.{pairs_set, pairs_kept}
 use Rattle.cut_receivers.proofs.Placed.{node_read, many_lows, low_at, many_subjects, subject_at, highs_are}
 use Rattle.cut_receivers.proofs.receivers.gain.Goals.{then-node, else-node}
@@ -12,45 +10,19 @@ use Rattle.cut_receivers.proofs.receivers.gain.Goals as goal
 
 pub bounds-lows-place : goal.bounds-lows-place
 bounds-lows-place c =
-    omega (
-      arith,
-      c.loop-place-test.true,
-      ap (λ (ns : List Node). length ns) c.deref-node-items.ensures.value,
-      many_lows c.args.images.now c.args.lows.now c.requires.lows,
-    )
+    grind (arith, many_lows)
 
 pub bounds-highs-place : goal.bounds-highs-place
 bounds-highs-place c =
-    omega (
-      arith,
-      c.loop-place-test.true,
-      ap (λ
-          (ns : List Node). length ns) c.deref-node-items.ensures.value,
-      c.loop-place.invariant.highs.many,
-    )
+    grind arith
 
 pub stable_from-requires-clause-node : goal.stable_from-requires-clause-node
 stable_from-requires-clause-node c =
-    node_read c.args.images.now.trial c.deref-node-items.result.now c.loop-place.place c.node-item.result
-    c.deref-node-items.ensures.value c.loop-place-test.true c.node-item.is
+    grind (arith, node_read)
 
 pub stable_from-requires-clause-lows : goal.stable_from-requires-clause-lows
 stable_from-requires-clause-lows c =
-    let images = c.args.images.now in
-    let place : ℕ = c.loop-place.place in
-    let nodes : List Node = images.trial.nodes.now.nodes.items in
-    let inside : place < length nodes =
-    subst (λ (ns : List Node). place < length ns) c.deref-node-items.ensures.value c.loop-place-test.true in
-    let is : c.node-item.result ≡ slice_index_or nodes place c.node-item.result =
-    c.node-item.is ∙ ap (λ
-    (ns : List Node). slice_index_or ns place c.node-item.result) c.deref-node-items.ensures.value in
-    record {
-      all = c.requires.lows;
-      own = λ i low.
-          low_at images c.args.lows.now i place c.requires.lows low (omega (arith, inside, many_subjects images))
-          ∙ ap (λ s. lows_at (hearing_in images i) never s) (subject_at nodes place c.node-item.result inside
-          ∙ sym (ap (λ (d : Node). d.subject) is));
-    }
+    grind (arith, low_at, many_subjects, subject_at)
 
 pub loop-place-preserved : goal.loop-place-preserved
 loop-place-preserved c =
@@ -94,7 +66,4 @@ loop-place-preserved c =
 
 pub returns : goal.returns
 returns c i low =
-    highs_are c.args.images.now c.loop-place.place c.loop-place.highs i
-    (subst (λ
-    (ns : List Node). length ns ≤ c.loop-place.place) c.deref-node-items.ensures.value c.loop-place-test.false) low
-    c.loop-place.invariant.highs
+    grind (arith, highs_are c.args.images.now c.loop-place.place c.loop-place.highs i)

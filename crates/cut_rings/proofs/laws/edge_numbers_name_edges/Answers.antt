@@ -1,7 +1,6 @@
-use Rattle.std.proofs.Common.{◌≡◌, ◌∙◌, ◌+◌, ◌*◌, ◌/◌, ◌<◌, ◌≤◌, nat_lt, ap, sym, arith, mul-le-mul_right}
+use Rattle.std.proofs.Common.{◌+◌, ◌*◌, ◌<◌, ◌≤◌, nat_lt, arith, mul-le-mul_right}
 use Rattle.std.proofs.lemmas.Bool.{and_parts, ltb-true}
 use Rattle.std.proofs.lemmas.Nat.{div-mul-add}
-use Rattle.cut_rings.specs.declared.edge.Edge.{Edge}
 use Rattle.cut_rings.proofs.laws.edge_numbers_name_edges.Goals as goal
 
 pub returns-clause-few : goal.returns-clause-few
@@ -14,9 +13,4 @@ returns-clause-few c k n e within =
 
 pub returns-clause-names : goal.returns-clause-names
 returns-clause-names c k e f e_in f_in same =
-    let subject : e.subject ≡ f.subject =
-    sym (div-mul-add e.subject k e.ring e_in) ∙ ap (λ m. m / k) same ∙ div-mul-add f.subject k f.ring f_in in
-    let row : e.subject * k ≡ f.subject * k = ap (λ s. s * k) subject in
-    let ring : e.ring ≡ f.ring = omega (arith, row, same) in
-    ap (λ r. let x : Edge = record { ring = r; subject = e.subject } in x) ring
-    ∙ ap (λ s. let x : Edge = record { ring = f.ring; subject = s } in x) subject
+    grind (arith, div-mul-add f.subject k f.ring f_in)

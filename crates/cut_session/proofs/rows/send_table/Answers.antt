@@ -10,7 +10,8 @@ returns-clause-replies g c =
     table_sent rows.hall.now.is_trusted rows.opened.now.plan rows.opened.now.base rows.pass.ghost_name rows.pass.now
     after.pass.ghost_name after.pass.now (sending log c.args.line.now) (sending log c.send_rows-sent.new.line)
     c.requires
-    c.plans_are_accepted.ensures.accepted.few_cells c.send_rows-sent.result c.end_table.result (sending log c.end_table.new.line)
+    c.plans_are_accepted.ensures.accepted.few_cells c.send_rows-sent.result c.end_table.result
+    (sending log c.end_table.new.line)
     c.send_rows-sent.ensures c.end_table.ensures
 
 pub returns-clause-stays : goal.returns-clause-stays

@@ -1,4 +1,4 @@
-use Rattle.std.proofs.Common.{◌≡◌, ◌∙◌, ◌+◌, ◌<◌, ◌&&◌, Bool, List, ◌∷◌, Result, Ok, Err, take, refl, sym}
+use Rattle.std.proofs.Common.{◌≡◌, ◌∙◌, ◌+◌, ◌<◌, ◌&&◌, Bool, List, ◌∷◌, Result, Ok, Err, take, sym}
 use Rattle.std.proofs.Common.{ap, subst, arith, length}
 use Rattle.std.proofs.lemmas.Result.{err_from_is_err_and}
 use Rattle.cut_plan.specs.Values.{Values}
@@ -16,16 +16,12 @@ use Rattle.cut_share.proofs.batch.run_pieces.Goals as goal
 
 pub loop-pieces-init : goal.loop-pieces-init
 loop-pieces-init g c =
-    let log = c.args.journal.now in
-    record {
-      plan = refl;
-      share = refl;
-      upto = none_yet g.D.Disk.is_honest g.D.Disk.state c.args.pieces.share c.args.pieces.plan.now
-          (c.args.pieces.rest ∷ c.args.pieces.later.now) log
-          (none_added g.D.Disk.is_honest g.D.Disk.state log c.stays_readable.ensures.sound);
-      honest = (λ h. h, λ h. h);
-      faults = refl;
-    }
+    grind (
+      arith,
+      none_yet g.D.Disk.is_honest g.D.Disk.state c.args.pieces.share c.args.pieces.plan.now
+          (c.args.pieces.rest ∷ c.args.pieces.later.now) c.args.journal.now (none_added g.D.Disk.is_honest g.D.Disk.state
+          c.args.journal.now c.stays_readable.ensures.sound),
+    )
 
 pub returns-then-count-eq0-clause-ends : goal.returns-then-count-eq0-clause-ends
 returns-then-count-eq0-clause-ends g c =

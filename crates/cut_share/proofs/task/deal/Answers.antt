@@ -1,8 +1,9 @@
-use Rattle.std.proofs.Common.{◌≡◌, ℕ, ◌+◌, ◌<◌, ◌≤◌, ◌∷◌, ◌++◌, [], None, take, length, All, ◌∙◌, subst, arith}
+use Rattle.std.proofs.lemmas.Grind.{common_steps}
+use Rattle.std.proofs.Common.{◌≡◌, ℕ, ◌+◌, ◌<◌, ◌≤◌, ◌∷◌, ◌++◌, [], None, take, ◌∙◌, arith}
 use Rattle.std.specs.Prelude.{slice_set}
 use Rattle.cut_outcome.specs.declared.piece.Piece.{Piece}
 use Rattle.cut_ledger.specs.World.{times_in}
-use Rattle.cut_share.specs.inside.Pieces.{IsSharePiece, own_times, trials_in_all}
+use Rattle.cut_share.specs.inside.Pieces.{own_times, trials_in_all}
 use Rattle.cut_share.specs.inside.Tasks.{pieces_of}
 use Rattle.cut_share.proofs.Dealing.{dealt, none_dealt, none_left, one_dealt, own_dealt}
 use Rattle.cut_share.proofs.task.deal.Goals as goal
@@ -19,24 +20,16 @@ returns-in_default-clause-taken c = λ t.
     held.share held.plan (c.in_default.ensures.none t) (c.in_default.ensures.empty t) (held.taken t))
 
 pub returns-in_default-clause-none : goal.returns-in_default-clause-none
-returns-in_default-clause-none c = λ low t.
-    (let mid = c.loop-count.pieces in
-    let new = c.next.new.self in
-    let old = c.args.pieces.now in
-    let held = c.loop-count.invariant in
-    none_left old.share mid.share old.plan.now mid.plan.now (new.rest ∷ new.later.now) t
-    held.share held.plan (c.in_default.ensures.empty t))
+returns-in_default-clause-none c =
+    grind (
+      arith,
+      none_left c.args.pieces.now.share c.loop-count.pieces.share c.args.pieces.now.plan.now
+          c.loop-count.pieces.plan.now (c.next.new.self.rest ∷ c.next.new.self.later.now),
+    )
 
 pub returns-in_default-clause-fewer : goal.returns-in_default-clause-fewer
 returns-in_default-clause-fewer c =
-    let mid = c.loop-count.pieces in
-    let new = c.next.new.self in
-    let old = c.args.pieces.now in
-    let few : trials_in_all (new.rest ∷ new.later.now) ≤ trials_in_all (mid.rest ∷ mid.later.now) =
-    c.in_default.ensures.no_more in
-    let held : trials_in_all (mid.rest ∷ mid.later.now) + c.loop-count.count
-    ≤ trials_in_all (old.rest ∷ old.later.now) = c.loop-count.invariant.fewer in
-    omega (arith, few, held)
+    grind arith
 
 pub loop-count-preserved : goal.loop-count-preserved
 loop-count-preserved c =
@@ -72,8 +65,4 @@ loop-count-preserved c =
 
 pub returns-clause-own : goal.returns-clause-own
 returns-clause-own c =
-    let old = c.args.pieces.now in
-    let tasks = c.loop-count.tasks in
-    let all : c.loop-count.count ≡ length tasks =
-    (let over = c.loop-count-test.false in let end = c.loop-count.auto.count-end in omega (arith, over, end)) in
-    subst (λ n. All (IsSharePiece old.share old.plan.now) (pieces_of (take n tasks))) all c.loop-count.invariant.own
+    grind (arith, common_steps)

@@ -34,13 +34,7 @@ deliver-requires-clause-within c =
     (rw (get_or-map edge_of order c.loop-i.i none none.edge below, here) at passes)
 
 pub loop-i-preserved : goal.loop-i-preserved
-loop-i-preserved c = record {
-  delivered = heard_more c.args.order.now c.loop-i.i c.get.result c.get.ensures c.deliver.new.self
-      (c.deliver.ensures.history _ c.loop-i.invariant.delivered);
-  layout = c.deliver.ensures.layout ∙ c.loop-i.invariant.layout;
-  rule = c.deliver.ensures.rule ∙ c.loop-i.invariant.rule;
-  few = omega (arith, c.deliver.ensures.counted, c.loop-i.invariant.few);
-}
+loop-i-preserved c = search (arith, heard_more, c.deliver.ensures.history)
 
 pub returns-in-Settled-clause-proposal : goal.returns-in-Settled-clause-proposal
 returns-in-Settled-clause-proposal c =

@@ -1,8 +1,7 @@
-use Rattle.std.proofs.Common.{ℕ, ◌<◌, List, length, map, slice_index_or, ap, sym, subst, ◌∙◌, arith}
+use Rattle.std.proofs.Common.{ℕ, ◌<◌, List, length, slice_index_or, ap, subst, ◌∙◌, arith}
 use Rattle.std.proofs.lemmas.List.{length-map, get_or-map}
 use Rattle.cut_lists.proofs.Maps.{map-map}
 use Rattle.cut_nodes.specs.declared.node.Node.{Node}
-use Rattle.cut_outcome.proofs.Words.{is_target}
 use Rattle.cut_trial.proofs.Judged.{taken_all}
 use Rattle.cut_trial.proofs.judges.wanted_nodes.Goals as goal
 
@@ -20,9 +19,4 @@ is_target-requires c =
 
 pub returns : goal.returns
 returns c =
-    let nodes : List Node = c.args.nodes.now.nodes.items in
-    c.loop-node.invariant
-    ∙ ap (λ (ds : List Node). map (λ (d : Node). is_target c.args.roles.now d.subject) ds)
-    (taken_all nodes c.deref-node-items.result.now c.loop-node.node-index c.deref-node-items.ensures.value
-    c.loop-node-test.false)
-    ∙ sym (map-map (λ (d : Node). d.subject) (λ s. is_target c.args.roles.now s) nodes)
+    grind (arith, taken_all, map-map)

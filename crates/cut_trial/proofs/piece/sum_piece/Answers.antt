@@ -4,7 +4,7 @@ use Rattle.cut_outcome.proofs.Words.{IsAtMost}
 use Rattle.cut_plan.specs.Cells.{IsCellOf}
 use Rattle.cut_outcome.specs.declared.piece.Piece.{Piece}
 use Rattle.cut_outcome.proofs.Outcomes.{cell_read, possible_outcome}
-use Rattle.cut_outcome.proofs.Pieces.{piece_facts, few_trials}
+use Rattle.cut_outcome.proofs.Pieces.{piece_facts}
 use Rattle.cut_outcome.proofs.Sum.{sum_more, first_possible, few_in}
 use Rattle.cut_trial.proofs.piece.sum_piece.Goals as goal
 
@@ -12,29 +12,26 @@ use Rattle.cut_trial.proofs.piece.sum_piece.Goals as goal
 few_first : (v : Values) (p : Piece) (n m : ℕ) → IsPlan v → (cell_at v p.first).k ≤ 32 → IsTrue (is_piece v p)
     → n ≤ p.count → 2048 * n ≤ m → IsAtMost m (sum_of v (range_with_len p.first n))
 few_first v p n m plan rings piece within below =
-    few_in v (cell_at v p.first) n m _ plan rings (first_possible v p n piece within) below
+    search (arith, few_in, first_possible)
 
 -- the cell of the first trial is that of each
 own_cell : (v w : Values) (p : Piece) (t : ℕ) (c : Cell) → IsTrue (is_piece v p) → p.first ≤ t
     → t < p.first + p.count → w ≡ v → c ≡ cell_at v p.first → c ≡ cell_at w t
 own_cell v w p t c piece from below same is =
-    is ∙ sym ((piece_facts v p piece).cell t from below) ∙ ap (λ (x : Values). cell_at x t) (sym same)
+    grind (arith, piece_facts)
 
 -- a cell of a plan has at most 32 rings
 few_rings : (v : Values) (t : ℕ) (c : Cell) → IsPlan v → IsCellOf v c → c ≡ cell_at v t → (cell_at v t).k ≤ 32
 few_rings v t c plan cell is =
-    let few : c.k ≤ 32 = omega (arith, cell.most_rings, plan.most_rings) in
-    rw is at few
+    grind arith
 
 pub cell_of-requires : goal.cell_of-requires
 cell_of-requires c =
-    let facts = piece_facts c.args.study.plan.now c.args.piece c.requires in
-    omega (arith, facts.some, facts.end)
+    grind arith
 
 pub overflow_add-end : goal.overflow_add-end
 overflow_add-end c =
-    let facts = piece_facts c.args.study.plan.now c.args.piece c.requires in
-    omega (arith, facts.end, few_trials c.args.study.plan.now c.args.study.accepted)
+    grind (arith, piece_facts)
 
 pub loop-trial-init : goal.loop-trial-init
 loop-trial-init c =
@@ -49,9 +46,7 @@ loop-trial-init c =
 
 pub run-requires : goal.run-requires
 run-requires c =
-    own_cell c.args.study.plan.now c.loop-trial.trials.alerts.study.plan.now c.args.piece c.loop-trial.trial
-    c.loop-trial.trials.alerts.cell c.requires (omega arith) (omega arith) c.loop-trial.invariant.plan
-    c.loop-trial.invariant.cell
+    search (arith, own_cell)
 
 pub plus-totals-requires-clause-self_fits : goal.plus-totals-requires-clause-self_fits
 plus-totals-requires-clause-self_fits c =

@@ -1,8 +1,9 @@
+use Rattle.std.proofs.lemmas.Grind.{common_steps}
 use Rattle.std.proofs.Common.{◌≡◌, ◌∙◌, ◌≤◌, ◌+◌, ◌++◌, ℕ, List, Err, length, ap, sym, subst, arith}
 use Rattle.cut_wires.specs.Rows.{Table, rows_to}
-use Rattle.cut_wires.specs.Sending.{Sending, Sends, sending, sent_on}
+use Rattle.cut_wires.specs.Sending.{Sending, Sends, sending}
 use Rattle.cut_wires.proofs.RowLemmas.{rows_more, short_more, header_only}
-use Rattle.cut_wires.proofs.Sendings.{sent_more, sends_after}
+use Rattle.cut_wires.proofs.Sendings.{sends_after}
 use Rattle.cut_wires.proofs.rows.send_rows.Goals as goal
 
 -- a row that was given is one of the table's
@@ -15,13 +16,7 @@ framed_row : (framed : List ℕ → List ℕ) (old new : Table) (items : List �
     → ((text : List ℕ) → length (framed text) ≤ length text + 5) → new ≡ old → items ≡ new.row n
     → length items ≤ new.longest → length (framed (old.row n)) ≤ old.longest + 5
 framed_row framed old new items n law same row few =
-    omega (
-      arith,
-      law (old.row n),
-      few,
-      ap (λ (l : List ℕ). length l) (row ∙ ap (λ (t : Table). t.row n) same),
-      ap (λ (t : Table). t.longest) same,
-    )
+    grind arith
 
 pub returns-in-Err : goal.returns-in-Err
 returns-in-Err g c =
@@ -49,25 +44,18 @@ returns-in-Err g c =
 
 pub loop-place-preserved : goal.loop-place-preserved
 loop-place-preserved g c =
-    let framed = g.F.Framing.framed in
-    let t : Table = g.R.Rows.table c.args.rows.now in
-    let n : ℕ = c.loop-place.place in
-    let gives = c.in-Ok-row.ensures.row c.args.rows.now c.loop-place.invariant.given in
-    let row = same_row t (g.R.Rows.table c.loop-place.rows) c.as_slice.result.now c.in-Ok-row.text.items n
-    c.loop-place.invariant.same c.as_slice.ensures.value gives.0 in
-    let line : Sending = sending g.W.Wire.log c.args.line.now in
-    record {
-      same = c.in-Ok-row.ensures.same ∙ c.loop-place.invariant.same;
-      given = gives.2;
-      short = short_more framed t n c.loop-place.invariant.short
-          (framed_row framed t (g.R.Rows.table c.loop-place.rows) c.in-Ok-row.text.items n g.met.F.Framing.short
-          c.loop-place.invariant.same gives.0 gives.1);
-      sent = sent_more line (sending g.W.Wire.log c.loop-place.line)
-          (sending g.W.Wire.log c.send-in-loop-place.new.line) (rows_to framed t n) (framed c.as_slice.result.now)
-          c.loop-place.invariant.sent c.in-Ok-send.ensures
-          ∙ ap (λ (xs : List ℕ). sent_on line xs)
-          (ap (λ xs. rows_to framed t n ++ framed xs) row ∙ sym (rows_more framed t n));
-    }
+    grind (
+      arith,
+      common_steps,
+      framed_row,
+      rows_more,
+      c.in-Ok-row.ensures.row,
+      c.loop-place.invariant.given,
+      c.loop-place.invariant.same,
+      c.in-Ok-row.ensures.same,
+      c.loop-place.invariant.short,
+      c.loop-place.invariant.sent,
+    )
 
 pub returns-in-Err-send : goal.returns-in-Err-send
 returns-in-Err-send g c =

@@ -1,7 +1,7 @@
 use Rattle.std.proofs.Common.{◌∙◌, sym, subst, arith}
 use Rattle.std.specs.Mem.Slots.{slots_items}
 use Rattle.std.proofs.lemmas.List.{length-map}
-use Rattle.cut_board.specs.Names.{view_of, views_of, studies_of, seats_of}
+use Rattle.cut_board.specs.Names.{view_of, views_of, seats_of}
 use Rattle.cut_board.proofs.Ends.{IsEnd, ends_closed, drawn_once, reported}
 use Rattle.cut_board.proofs.board.Board.finish.Goals as goal
 
@@ -17,8 +17,7 @@ end c =
 
 pub returns-clause-totals : goal.returns-clause-totals
 returns-clause-totals c =
-    c.from_vec.ensures ∙ c.read_totals-totals.ensures
-    ∙ reported (studies_of c.args.self) (views_of c.args.seats.items) _ (end c).done
+    grind (arith, reported, end)
 
 pub returns-clause-numbers : goal.returns-clause-numbers
 returns-clause-numbers c study _ = drawn_once (views_of c.args.seats.items) _ (end c).done study

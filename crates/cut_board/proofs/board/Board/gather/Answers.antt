@@ -1,10 +1,9 @@
-use Rattle.std.proofs.Common.{◌≡◌, List, [], ◌∷◌, ◌++◌, Some, sym, ap, ◌∙◌, append_assoc, arith}
+use Rattle.std.proofs.lemmas.Grind.{common_steps}
+use Rattle.std.proofs.Common.{◌≡◌, Some, arith}
 use Rattle.std.proofs.lemmas.List.Elements.{All-pop}
 use Rattle.cut_board.specs.declared.seat.Seat.{Seat}
-use Rattle.cut_board.specs.Names.{board_id, board_of, view_of, views_of}
-use Rattle.cut_board.specs.inside.Views.{joined}
+use Rattle.cut_board.specs.Names.{board_id, board_of}
 use Rattle.cut_board.proofs.Allowed.{join_allowed}
-use Rattle.cut_board.proofs.Ends.{gathered_more}
 use Rattle.cut_board.proofs.board.Board.gather.Goals as goal
 
 pub join_seat-requires : goal.join_seat-requires
@@ -23,20 +22,4 @@ join_seat-requires c =
 
 pub loop-seat-preserved : goal.loop-seat-preserved
 loop-seat-preserved c =
-    let seat = c.in-Some-pop.seat in
-    let taken = c.loop-seat.invariant.done in
-    let own = All-pop
-    (λ (s : Seat). board_of s ≡ board_id c.args.self.now) c.loop-seat.seats.items c.pop-in-loop-seat.new.self.items
-    (Some seat) c.in-Some-pop.ensures.items c.loop-seat.invariant.each_own in
-    let me = c.join_seat.ensures.2 in
-    record {
-      own = c.join_seat.ensures.0 ∙ c.loop-seat.invariant.own;
-      each_own = own.0;
-      done = (
-        seat ∷ taken.0,
-        taken.1 ∙ ap (λ (l : List Seat). l ++ taken.0) c.in-Some-pop.ensures.items
-            ∙ append_assoc c.pop-in-loop-seat.new.self.items (seat ∷ []) taken.0,
-        ap (λ m. m.0) me ∙ ap (λ v. joined v (view_of seat)) taken.2
-            ∙ sym (gathered_more (views_of taken.0) (view_of seat) seat.one_part),
-      );
-    }
+    grind (arith, common_steps)

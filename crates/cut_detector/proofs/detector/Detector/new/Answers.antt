@@ -1,6 +1,6 @@
 -- What is made has no reported edge.
-use Rattle.std.proofs.Common.{[], ap, sym, subst, refl, arith}
-use Rattle.cut_detector.proofs.Words.{HasDelivered, Inside, rule_in, rule_of}
+use Rattle.std.proofs.Common.{[], ap, sym, subst, arith}
+use Rattle.cut_detector.proofs.Words.{HasDelivered, Inside, rule_of}
 use Rattle.cut_detector.proofs.History.{IsEmpty, IsDetector-empty, is_fresh, fresh-delivered}
 use Rattle.cut_detector.proofs.detector.Detector.new.Goals as goal
 
@@ -10,13 +10,7 @@ made c = record { reports = c.in_ok-reports.reports; deliveries = 0; members = c
 empty : (c : goal.In_ok-reports) → IsEmpty (made c) c.args.rings.now
     (rule_of c.args.k c.args.h c.args.l c.args.implicit)
 unfolding made
-empty c = record {
-  layout = c.in_ok-reports.ensures.rings;
-  rule = ap rule_in c.in_ok-reports.ensures.rule;
-  reported =
-      c.in_ok-reports.ensures.reported;
-  deliveries = refl;
-}
+empty c = grind arith
 
 pub invariant_of-result : goal.invariant_of-result
 unfolding made

@@ -1,6 +1,6 @@
 -- What is left has no reported edge.
-use Rattle.std.proofs.Common.{[], replicate, ap, sym, subst, ◌∙◌, refl, arith}
-use Rattle.cut_detector.proofs.Words.{HasDelivered, Inside, rule_in}
+use Rattle.std.proofs.Common.{[], ap, sym, subst, arith}
+use Rattle.cut_detector.proofs.Words.{HasDelivered, Inside}
 use Rattle.cut_detector.proofs.History.{IsEmpty, IsDetector-empty, is_fresh, fresh-delivered}
 use Rattle.cut_detector.proofs.detector.Detector.reset.Goals as goal
 
@@ -9,12 +9,7 @@ left c = record { reports = c.clear.new.self; deliveries = 0; members = c.self.i
 
 empty : (c : goal.After-self-1) → IsEmpty (left c) c.args.self.now.layout c.args.self.now.rule
 unfolding left
-empty c = record {
-  layout = c.clear.ensures.rings ∙ ap (λ x. x.layout) c.self.view_is;
-  rule = ap rule_in c.clear.ensures.rule ∙ ap (λ x. x.rule) c.self.view_is;
-  reported = c.clear.ensures.reported ∙ ap (λ x. replicate x.layout.nodes 0) c.self.view_is;
-  deliveries = refl;
-}
+empty c = grind arith
 
 pub invariant_of-self : goal.invariant_of-self
 unfolding left

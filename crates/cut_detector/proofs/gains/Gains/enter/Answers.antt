@@ -1,20 +1,14 @@
 -- Without implicit alerts nothing is gained. With them one ring more, and at the end all rings.
-use Rattle.std.proofs.Common.{◌≡◌, ◌<◌, ◌||◌, ◌&&◌, length, cond, refl, ap, sym, ◌∙◌, arith}
-use Rattle.cut_detector.proofs.Words.{and_right, edges_in, eq-eqb, eqb-true, is_gained, is_near, is_reported, lt-ltb}
-use Rattle.cut_detector.proofs.Words.{observer_of, or-false, reported_in, rule_of_gains, with_edge}
-use Rattle.cut_detector.proofs.Neighbours.{with_gains-more, length-added, observer_of-is, gained_off, gained_own}
+use Rattle.std.proofs.Common.{◌≡◌, ◌<◌, length, cond, refl, ap, sym, ◌∙◌, arith}
+use Rattle.cut_detector.proofs.Words.{edges_in, eq-eqb, eqb-true, is_gained, is_reported}
+use Rattle.cut_detector.proofs.Words.{observer_of, reported_in, rule_of_gains, with_edge}
+use Rattle.cut_detector.proofs.Neighbours.{with_gains-more, length-added, observer_of-is, gained_own}
 use Rattle.cut_detector.proofs.Neighbours.{gained_theirs}
 use Rattle.cut_detector.proofs.gains.Gains.enter.Goals as goal
 
 pub returns-then-not-self-clause-full : goal.returns-then-not-self-clause-full
 returns-then-not-self-clause-full c =
-    let g = c.args.self.now in
-    record {
-      full = λ ring p _ _.
-          sym (or-false (edges_in c.args.tally.now.full.masks.items ring p))
-          ∙ ap (λ b. edges_in c.args.tally.now.full.masks.items ring p || b)
-          (sym (and_right (is_near g.rings.now c.args.process ring p) _ (gained_off _ _ _ c.if-not-self.true)));
-    }
+    grind arith
 
 pub loop-ring-preserved : goal.loop-ring-preserved
 loop-ring-preserved c =
@@ -66,12 +60,4 @@ loop-ring-preserved c =
 
 pub returns-clause-full : goal.returns-clause-full
 returns-clause-full c =
-    let g = c.args.self.now in
-    record {
-      full = λ ring p below process.
-          c.loop-ring.invariant.full ring p process
-          ∙ ap (λ b. edges_in c.args.tally.now.full.masks.items ring p
-          || (b && (is_near g.rings.now c.args.process ring p
-          && is_gained g.rings.now (rule_of_gains g) (reported_in g) ring p)))
-          (lt-ltb ring c.loop-ring.ring (omega arith));
-    }
+    grind arith

@@ -1,7 +1,7 @@
 -- The counts and the list of touched processes, once an edge counts.
-use Rattle.std.proofs.Common.{◌≡◌, ℕ, ◌==◌, ◌&&◌, Bool, false, nat_le, nat_lt, vec_len, not, cond, ◌+◌, ap, sym, subst}
+use Rattle.std.proofs.Common.{◌≡◌, ℕ, ◌==◌, Bool, false, nat_le, nat_lt, vec_len, ap, sym, subst}
 use Rattle.std.proofs.Common.{◌∙◌, arith}
-use Rattle.cut_detector.proofs.Words.{IsDistinct, IsTouched, Tally, eqb-true, marked_in, nat_tests, not_above}
+use Rattle.cut_detector.proofs.Words.{IsDistinct, IsTouched, Tally, eqb-true, marked_in, not_above}
 use Rattle.cut_detector.proofs.Words.{rings_full, stable_in}
 use Rattle.cut_lists.proofs.Listed.{IsDistinct-listed, listed-room}
 use Rattle.cut_detector.proofs.Counting.{moved_count, processes_with-le, IsTouched-touch}
@@ -22,41 +22,39 @@ moved-self-requires-2-clause-few c = let t = c.args.self.now
     in omega (arith, t.marked_counted, t.few, processes_with-le (marked_in t.rule t.full) t.full)
 
 pub moved-self-requires-clause-counted : goal.moved-self-requires-clause-counted
-moved-self-requires-clause-counted c = let t = c.args.self.now
-    in omega (
+moved-self-requires-clause-counted c =
+    grind (
       arith,
-      moved_count (stable t) t.full c.add-before.new.self c.args.edge c.add-before.ensures.added
-          c.requires.subject c.add-before.ensures.before c.add-before.ensures.after c.is_stable.ensures
-          c.is_stable-2.ensures t.stable_counted,
+      moved_count (stable c.args.self.now) c.args.self.now.full c.add-before.new.self c.args.edge
+          c.add-before.ensures.added c.requires.subject c.add-before.ensures.before c.add-before.ensures.after
+          c.is_stable.ensures c.is_stable-2.ensures c.args.self.now.stable_counted,
     )
 
 pub moved-self-requires-2-clause-counted : goal.moved-self-requires-2-clause-counted
-moved-self-requires-2-clause-counted c = let t = c.args.self.now
-    in omega (
+moved-self-requires-2-clause-counted c =
+    grind (
       arith,
-      moved_count (marked t) t.full c.add-before.new.self c.args.edge c.add-before.ensures.added
-          c.requires.subject c.add-before.ensures.before c.add-before.ensures.after c.is_reported.ensures
-          c.is_reported-2.ensures t.marked_counted,
+      moved_count (marked c.args.self.now) c.args.self.now.full c.add-before.new.self c.args.edge
+          c.add-before.ensures.added c.requires.subject c.add-before.ensures.before c.add-before.ensures.after
+          c.is_reported.ensures c.is_reported-2.ensures c.args.self.now.marked_counted,
     )
 
 pub invariant_of-self-clause-stable_counted : goal.invariant_of-self-clause-stable_counted
-invariant_of-self-clause-stable_counted c = let t = c.args.self.now
-    in omega (
+invariant_of-self-clause-stable_counted c =
+    grind (
       arith,
-      c.moved-self.ensures,
-      moved_count (stable t) t.full c.add-before.new.self c.args.edge
+      moved_count (stable c.args.self.now) c.args.self.now.full c.add-before.new.self c.args.edge
           c.add-before.ensures.added c.requires.subject c.add-before.ensures.before c.add-before.ensures.after
-          c.is_stable.ensures c.is_stable-2.ensures t.stable_counted,
+          c.is_stable.ensures c.is_stable-2.ensures c.args.self.now.stable_counted,
     )
 
 pub invariant_of-self-clause-marked_counted : goal.invariant_of-self-clause-marked_counted
-invariant_of-self-clause-marked_counted c = let t = c.args.self.now
-    in omega (
+invariant_of-self-clause-marked_counted c =
+    grind (
       arith,
-      c.moved-self-2.ensures,
-      moved_count (marked t) t.full c.add-before.new.self c.args.edge
+      moved_count (marked c.args.self.now) c.args.self.now.full c.add-before.new.self c.args.edge
           c.add-before.ensures.added c.requires.subject c.add-before.ensures.before c.add-before.ensures.after
-          c.is_reported.ensures c.is_reported-2.ensures t.marked_counted,
+          c.is_reported.ensures c.is_reported-2.ensures c.args.self.now.marked_counted,
     )
 
 pub touch-requires : goal.touch-requires
@@ -87,16 +85,6 @@ invariant_of-self-clause-touches c =
     (omega (arith, t.rings, c.requires.ring)) c.requires.subject t.touches
     (ap (λ n. n == 0) c.add-before.ensures.before ∙ not_above _))
 
--- the number of marked processes grows where one is marked only now
-grown : (count new : ℕ) (was is : Bool) → new + cond {A = ℕ} was 1 0 ≡ count + cond is 1 0 → nat_lt count new ≡ is
-    && not was
-grown count new was is e = grind (arith, nat_tests)
-
 pub returns-clause-marks : goal.returns-clause-marks
 returns-clause-marks c =
-    let t = c.args.self.now in
-    grown _ _ _ _ c.moved-self-2.ensures
-    ∙ ap (λ b. b && not c.is_reported.result) (c.is_reported-2.ensures
-    ∙ ap (nat_le t.rule.l) c.add-before.ensures.after)
-    ∙ ap (λ b. marked_in t.rule c.add-before.new.self c.args.edge.subject && not b)
-    (c.is_reported.ensures ∙ ap (nat_le t.rule.l) c.add-before.ensures.before)
+    grind arith

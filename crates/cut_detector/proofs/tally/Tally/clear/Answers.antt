@@ -1,19 +1,16 @@
 -- The touched processes are those of which a ring counts, and then none counts.
-use Rattle.std.proofs.Common.{◌<◌, nat_le, ◌==◌, vec_len, sym, ap, subst, ◌∙◌, arith}
-use Rattle.cut_detector.proofs.Words.{All, IsDistinct-empty, list_any, lt-leb}
+use Rattle.std.proofs.Common.{nat_le, arith}
+use Rattle.cut_detector.proofs.Words.{IsDistinct-empty, lt-leb}
 use Rattle.cut_detector.proofs.Counting.{processes_with-empty, IsTouched-empty, touched-all, touched-each}
 use Rattle.cut_detector.proofs.tally.Tally.clear.Goals as goal
 
 pub clear-requires-clause-within : goal.clear-requires-clause-within
 clear-requires-clause-within c =
-    let t = c.args.self.now in
-    subst (All (λ s. s < vec_len t.full.masks)) (sym c.deref.ensures.value)
-    (touched-all t.full t.touched.items t.touches)
+    grind (arith, touched-all c.args.self.now.full c.args.self.now.touched.items c.args.self.now.touches)
 
 pub clear-requires-clause-alone : goal.clear-requires-clause-alone
 clear-requires-clause-alone c s some =
-    let t = c.args.self.now in
-    ap (λ xs. list_any (λ p. s == p) xs) c.deref.ensures.value ∙ touched-each t.full t.touched.items t.touches s some
+    grind (arith, touched-each)
 
 pub invariant_of-self-clause-stable_counted : goal.invariant_of-self-clause-stable_counted
 invariant_of-self-clause-stable_counted c =

@@ -1,6 +1,6 @@
 -- The touched processes that are stable, sorted, are the stable ones.
-use Rattle.std.proofs.Common.{◌≡◌, ◌&&◌, ◌<◌, ◌≤◌, nat_lt, vec_len, vec_capacity, rules, subst, ap, sym, ◌∙◌, arith}
-use Rattle.cut_detector.proofs.Words.{All, IsPermutation, and-true, filter, leb-true, lt-ltb, rings_full, stable_in}
+use Rattle.std.proofs.Common.{◌≡◌, ◌&&◌, ◌<◌, ◌≤◌, nat_lt, vec_len, vec_capacity, rules, subst, ap, ◌∙◌, arith}
+use Rattle.cut_detector.proofs.Words.{IsPermutation, and-true, filter, leb-true, lt-ltb, rings_full, stable_in}
 use Rattle.cut_detector.proofs.Words.{take_all}
 use Rattle.cut_lists.proofs.Ascending.{sorted-filter}
 use Rattle.cut_lists.proofs.Listed.{listed-few}
@@ -9,9 +9,7 @@ use Rattle.cut_detector.proofs.tally.Tally.gather.Goals as goal
 
 pub count-requires : goal.count-requires
 count-requires c =
-    let t = c.args.self.now in
-    subst (All (λ s. s < vec_len t.full.masks)) (sym c.deref-subject-items.ensures.value)
-    (touched-all t.full t.touched.items t.touches) c.loop-subject.subject-index 0 c.loop-subject-test.true
+    grind (arith, touched-all c.args.self.now.full c.args.self.now.touched.items c.args.self.now.touches)
 
 pub unwrap-requires : goal.unwrap-requires
 unwrap-requires c =

@@ -11,17 +11,10 @@ none_of None is = refl
 none_of (Some slip) is = absurd (cc)
 
 pub returns-then-is_some-clause-moments : goal.returns-then-is_some-clause-moments
-returns-then-is_some-clause-moments g c = rw (← c.self.view_is) (λ honest.
-    sound_stays c.self.inside.study c.self.inside.gate.number c.self.inside.doubtful c.args.slip
-    (g.D.Disk.state c.self.inside.disk) (g.D.Disk.state c.self.inside.disk) refl (c.self.invariant.2 honest))
+returns-then-is_some-clause-moments g c = grind (arith, sound_stays)
 
 pub overflow_add-self : goal.overflow_add-self
-overflow_add-self g c = omega (
-  arith,
-  gate_far c.self.inside.study c.self.inside.gate.number,
-  c.self.invariant.0,
-  c.self.invariant.1,
-)
+overflow_add-self g c = grind (arith, gate_far)
 
 pub invariant_of-self : goal.invariant_of-self
 invariant_of-self g c =

@@ -21,8 +21,4 @@ returns-in-Some c =
 
 pub returns-in-None : goal.returns-in-None
 returns-in-None c =
-    let split = rw c.deref.ensures.value at c.gaps_before-at.ensures.parts in
-    let high = rw c.deref-2.ensures.value at c.in-None.ensures.lookup.3 in
-    let within = rw c.deref.ensures.value at c.gaps_before-at.ensures.within in
-    rw (← c.self.view_is) (sym (none_past c.self.inside.size c.self.inside.stretches.items c.self.invariant.counted
-    c.args.number c.gaps_before-at.result split (omega (arith, high, within))))
+    grind (arith, none_past)

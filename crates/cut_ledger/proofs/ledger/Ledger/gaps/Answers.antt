@@ -1,11 +1,10 @@
 -- Each cell adds its own gaps.
-use Rattle.std.proofs.Common.{◌≡◌, ◌∙◌, ℕ, ◌*◌, ◌∷◌, [], ◌++◌, not, List, map, length, refl, sym, ap, subst, arith}
+use Rattle.std.proofs.Common.{◌≡◌, ◌∙◌, ℕ, ◌*◌, ◌∷◌, [], ◌++◌, not, List, map, refl, sym, ap, subst, arith}
 use Rattle.std.proofs.lemmas.List.{map-append}
 use Rattle.std.proofs.lemmas.Result.{IfOk-weaker}
 use Rattle.range_set.specs.declared.span.Span.{Span}
 use Rattle.range_set.specs.Spans as all
-use Rattle.cut_ledger.proofs.Words.{All, Contents, IsTrue, Piece, cells_of, flat_map, gaps_of, has, is_piece, piece_at}
-use Rattle.cut_ledger.proofs.Words.{range_with_len}
+use Rattle.cut_ledger.proofs.Words.{All, Contents, IsTrue, Piece, flat_map, gaps_of, has, is_piece, piece_at}
 use Rattle.cut_ledger.proofs.CellLemmas.{one_cell_more}
 use Rattle.cut_ledger.proofs.GapPieces.{gaps_are_pieces}
 use Rattle.cut_ledger.proofs.ledger.Ledger.gaps.Goals as goal
@@ -24,19 +23,12 @@ loop-cell-preserved c =
 
 pieces_are : (f : ℕ → List Span) (cs : List ℕ) → map piece_at (flat_map f cs) ≡ flat_map (λ c. map piece_at (f c)) cs
 pieces_are f [] = refl
-pieces_are f (c ∷ cs) = map-append piece_at (f c) (flat_map f cs)
-    ∙ ap (λ xs. map piece_at (f c) ++ xs) (pieces_are f cs)
+pieces_are f (c ∷ cs) = grind (arith, map-append, pieces_are f cs)
 
 value : (c : goal.After-drop-gaps-2) (gaps : List Piece) → gaps ≡ map piece_at c.deref.result.now → gaps
     ≡ gaps_of c.args.self.now.contents
 value c gaps is =
-    let l : Contents = c.args.self.now.contents in
-    let plan = ap (λ a. length (cells_of a.contents.plan)) c.self.view_is in
-    let end : c.loop-cell.cell ≡ length (cells_of l.plan) = omega (arith, c.cells-cell-end.ensures.value) in
-    is
-    ∙ ap (map piece_at) (c.deref.ensures.value ∙ c.loop-cell.invariant
-    ∙ ap (λ (n : ℕ). flat_map (spans_in l) (range_with_len 0 n)) end)
-    ∙ pieces_are (spans_in l) (range_with_len 0 (length (cells_of l.plan)))
+    grind (arith, pieces_are)
 
 pub returns-clause-value : goal.returns-clause-value
 returns-clause-value c = IfOk-weaker c.pieces_at.result _ _ (λ gaps is. value c gaps.items is) c.pieces_at.ensures

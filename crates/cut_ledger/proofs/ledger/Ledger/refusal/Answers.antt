@@ -1,5 +1,5 @@
 -- The tests of the code are those of the definition, in its order.
-use Rattle.std.proofs.Common.{◌≡◌, ℕ, Bool, true, false, refl, sym, ◌∙◌, arith}
+use Rattle.std.proofs.Common.{◌≡◌, ℕ, Bool, true, false, sym, arith}
 use Rattle.range_set.specs.Held.{has}
 use Rattle.cut_ledger.proofs.Words.{Piece, list_any, trials_in}
 use Rattle.cut_ledger.proofs.RefusalLemmas.{same_plan}
@@ -32,8 +32,4 @@ returns-clause-value c =
     rw (← c.self.view_is) (grind (arith, same, free))
 
 pub returns-clause-none : goal.returns-clause-none
-returns-clause-none c = rw (← c.self.view_is) (record {
-  plan = sym (c.if-not-same.ensures.values.0 refl ∙ c.plan.ensures);
-  apart = met (has c.self.inside.kept.trials) c.args.offered.now.piece c.piece.result false c.piece.ensures.value
-      c.if-overlaps.ensures;
-})
+returns-clause-none c = grind arith

@@ -1,4 +1,4 @@
-use Rattle.std.proofs.Common.{◌≡◌, ◌∙◌, false, map, arith, refl}
+use Rattle.std.proofs.Common.{false, arith, refl}
 use Rattle.std.proofs.lemmas.Simd.{splat_is_map}
 use Rattle.cut_ledger.proofs.Words.{Values, opened}
 use Rattle.cut_ledger.proofs.Law.{opened_holds}
@@ -15,8 +15,4 @@ invariant_of-result c =
 
 pub returns : goal.returns
 returns c =
-    let each : c.in_ok-lost.lost.items ≡ map (λ p. false) c.in_ok-division.division.items =
-    c.in_ok-lost.ensures.items_if_clones_equal (λ y same. same)
-    ∙ splat_is_map c.in_ok-division.division.items c.len.result false
-    (omega (arith, c.len.ensures, c.in_ok-division.division.ok)) in
-    cc (each, c.in_ok-division.ensures.value, c.requires.ledger.over)
+    grind (arith, splat_is_map c.in_ok-division.division.items c.len.result false)

@@ -11,8 +11,7 @@ no_slip = record { piece = record { first = 0; count = 0 }; totals = each_number
 -- the slips that were found
 true_slips : (s now : StudyState) (keep : Bool) (slips : List Slip) → IsReached s.ledger.plan s → s ≡ now
     → slips ≡ slips_found now keep → AreTrue s.ledger.plan slips
-true_slips s now keep slips h is found_are = rw (found_are, ← is)
-    (found s.ledger.plan s.ledger s.has_journal s.kept s.doubtful keep h.kept h.apart h.doubtful)
+true_slips s now keep slips h is found_are = grind (arith, found)
 
 pub open-requires-clause-ledger : goal.open-requires-clause-ledger
 open-requires-clause-ledger c = record {

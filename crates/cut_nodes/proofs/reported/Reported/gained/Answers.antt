@@ -1,4 +1,4 @@
-use Rattle.std.proofs.Common.{Ok, Err, inl, inr, arith}
+use Rattle.std.proofs.Common.{Err, inl, inr, arith}
 use Rattle.std.proofs.lemmas.Bool.{cases_lt}
 use Rattle.std.proofs.lemmas.List.Sorted.{searched}
 use Rattle.cut_nodes.specs.inside.Reported.{alerts_of, rule_of_reported}
@@ -7,23 +7,15 @@ use Rattle.cut_nodes.proofs.reported.Reported.gained.Goals as goal
 
 pub overflow_cast-result : goal.overflow_cast-result
 overflow_cast-result c =
-    let t = c.args.self.now in
-    omega (
+    grind (
       arith,
-      few_reported (rule_of_reported t)
-          (alerts_of t) t.rings.now.nodes t.subjects.now t.all,
-      t.layout.few_nodes,
-      c.in-Ok.ensures.bound,
+      few_reported (rule_of_reported c.args.self.now) (alerts_of c.args.self.now)
+          c.args.self.now.rings.now.nodes c.args.self.now.subjects.now c.args.self.now.all,
     )
 
 pub returns-in-Ok : goal.returns-in-Ok
 returns-in-Ok c =
-    let t = c.args.self.now in
-    let found = searched t.subjects.now c.observer-observer.result (Ok c.in-Ok.place) c.in-Ok.ensures.position
-    (reported_rise (rule_of_reported t) (alerts_of t) t.rings.now.nodes t.subjects.now t.all) in
-    gains_found t.rings.now (rule_of_reported t) (alerts_of t) t.subjects.now c.args.ring c.args.subject
-    c.observer-observer.result c.in-Ok.place t.all c.if-not-self.false c.requires.reported
-    c.observer-observer.ensures.value found.0 found.1
+    grind (arith, gains_found)
 
 pub returns-in-Err : goal.returns-in-Err
 returns-in-Err c =

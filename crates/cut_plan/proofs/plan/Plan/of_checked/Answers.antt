@@ -1,14 +1,9 @@
-use Rattle.std.proofs.Common.{◌≡◌, ◌∙◌, [], arith, refl, sym, subst}
-use Rattle.std.specs.Option.{unwrap_or}
-use Rattle.std.specs.Result.{result_ok}
-use Rattle.hex.specs.Hex.{decode_sized}
+use Rattle.std.proofs.Common.{arith, refl, sym, subst}
 use Rattle.serde_json.specs.View.{view}
 use Rattle.cut_fields.specs.declared.field.Field.TheVariants as field
 use Rattle.cut_plan.specs.Plan.{IsPlan}
-use Rattle.cut_fields.specs.Members.{text_at}
 use Rattle.cut_plan.proofs.Checked.{checked_facts}
 use Rattle.cut_plan.proofs.PlanFacts.{few_copies, few_liars, few_links, few_processes, few_repeats, plan_facts}
-use Rattle.cut_plan.proofs.PlanFacts.{failing_by_version}
 use Rattle.cut_plan.proofs.plan.Plan.of_checked.Goals as goal
 
 pub overflow_cast-result : goal.overflow_cast-result
@@ -31,24 +26,7 @@ seed_at-requires c = (checked_facts (view c.args.value.now) c.requires).ranges f
 
 pub returns-clause-ok : goal.returns-clause-ok
 returns-clause-ok c =
-    let d = view c.args.value.now in
-    let seed : c.seed_at.result ≡ unwrap_or (result_ok (decode_sized (text_at d field.Seed) 32)) [] = rw
-    c.seed_at.ensures refl in
-    rw (
-      c.number_at.ensures,
-      c.dead_at.ensures,
-      c.in_ok-lists.ensures.f,
-      c.failing_at.ensures ∙ failing_by_version _ _,
-      c.in_ok-lists.ensures.h,
-      c.truth_at.ensures,
-      c.in_ok-lists.ensures.k,
-      c.in_ok-lists.ensures.l,
-      c.number_at-2.ensures,
-      c.number_at-3.ensures,
-      c.number_at-4.ensures,
-      c.number_at-5.ensures,
-      seed,
-    ) refl
+    grind arith
 
 pub invariant_of-result : goal.invariant_of-result
 invariant_of-result c =

@@ -1,4 +1,4 @@
-use Rattle.std.proofs.Common.{◌∙◌, ℕ, ◌<◌, List, length, None, refl, ap, subst, slice_index_or, arith}
+use Rattle.std.proofs.Common.{◌∙◌, ℕ, ◌<◌, List, length, None, ap, subst, slice_index_or, arith}
 use Rattle.cut_lanes.specs.Lanes.{lane}
 use Rattle.cut_nodes.specs.declared.node.Cause.{Cause}
 use Rattle.cut_nodes.specs.Nodes.{cause_in}
@@ -8,17 +8,7 @@ use Rattle.cut_receivers.proofs.Choices.{lane_more}
 use Rattle.cut_receivers.proofs.images.Images.gather_counted.Goals as goal
 
 pub loop-cause-init : goal.loop-cause-init
-loop-cause-init c = record {
-  times = λ i low. ap (λ (vs : List (List ℕ)). lane i vs) c.clear.ensures.items;
-  many = c.clear.ensures.len;
-  room = omega (
-    arith,
-    few_causes c.args.self.now.trial c.args.node.now c.requires.node,
-    c.requires.room,
-    c.clear.ensures.capacity,
-  );
-  capacity = refl;
-}
+loop-cause-init c = grind (arith, few_causes)
 
 pub loop-cause-preserved : goal.loop-cause-preserved
 loop-cause-preserved c = record {

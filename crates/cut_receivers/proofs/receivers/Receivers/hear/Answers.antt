@@ -19,9 +19,7 @@ pub close-self-requires-clause-pairs : goal.close-self-requires-clause-pairs
 close-self-requires-clause-pairs c =
     let written : take c.rank.new.highs.len (c.gain.new.highs ++ drop
     (length c.gain.new.highs) c.rank.new.highs.items) ≡ c.gain.new.highs =
-    subst (λ n. take n (c.gain.new.highs ++ drop (length c.gain.new.highs) c.rank.new.highs.items) ≡ c.gain.new.highs)
-    (c.gain.auto.highs ∙ c.deref_mut.ensures.len) (take-append_seam c.gain.new.highs (drop
-    (length c.gain.new.highs) c.rank.new.highs.items)) in
+    grind (arith, take-append_seam) in
     let subjects : List ℕ = subjects_of c.args.trial.nodes.now.nodes.items in
     ap (λ (vs : List (List ℕ)). length vs) c.as_slice-3.ensures.value
     ∙ lane_long 0 _ subjects c.rank.new.lows.items (c.rank.ensures.lows 0 (omega arith))

@@ -1,29 +1,17 @@
-use Rattle.std.proofs.Common.{◌≡◌, ◌<◌, ◌∙◌, ℕ, List, Vec, Global, map, length, refl, rules, ap, sym, arith}
+use Rattle.std.proofs.Common.{◌≡◌, ◌<◌, ◌∙◌, ℕ, List, Vec, Global, map, length, sym, arith}
 use Rattle.std.specs.List.{range_with_len}
-use Rattle.std.specs.Result.{IsErrOf}
 use Rattle.std.proofs.lemmas.List.{length-map}
 use Rattle.std.proofs.lemmas.Bool.Decides.{nat_tests}
 use Rattle.cut_lists.proofs.Maps.{map-map}
-use Rattle.cut_lists.specs.Ranked.{IsOrder}
-use Rattle.cut_rings.specs.declared.fault.RingsFault.TheVariants.{NotPermutation}
-use Rattle.cut_rings.specs.Layout.{Layout}
 use Rattle.cut_rings.specs.Listed.{listed_position}
-use Rattle.cut_rings.proofs.Orders.{all_orders, some_not_order, denied}
+use Rattle.cut_rings.proofs.Orders.{all_orders, some_not_order}
 use Rattle.cut_rings.proofs.Sound.{many_rings, sound}
 use Rattle.cut_rings.proofs.rings.Rings.from_lists.Goals as goal
 
 pub returns-then-not-are_orders-clause-not_permutation :
     goal.returns-then-not-are_orders-clause-not_permutation
 returns-then-not-are_orders-clause-not_permutation c =
-    let some : 0 < length c.args.lists.now = grind (arith, nat_tests) in (
-      λ _. (
-        omega arith,
-        some,
-        some_not_order c.args.n c.args.lists.now
-            (sym c.are_orders.ensures ∙ c.if-not-are_orders.true),
-      ),
-      λ _. refl,
-    )
+    grind (arith, some_not_order)
 
 pub listed_rings-requires-clause-each_once : goal.listed_rings-requires-clause-each_once
 listed_rings-requires-clause-each_once c = all_orders c.args.n c.args.lists.now
@@ -31,12 +19,7 @@ listed_rings-requires-clause-each_once c = all_orders c.args.n c.args.lists.now
 
 pub returns-in_err-rings-clause-not_permutation : goal.returns-in_err-rings-clause-not_permutation
 returns-in_err-rings-clause-not_permutation c =
-    let never : IsErrOf c.from_residual.result NotPermutation → ⊥ = search rules in
-    let all = all_orders c.args.n c.args.lists.now (sym c.are_orders.ensures ∙ c.if-not-are_orders.false) in (
-      λ reported. absurd (never reported),
-      λ bad. absurd
-          (denied (λ list. IsOrder c.args.n list.items) c.args.lists.now all bad.2),
-    )
+    grind (arith, all_orders)
 
 pub invariant_of-result : goal.invariant_of-result
 invariant_of-result c =
@@ -50,14 +33,11 @@ invariant_of-result c =
 
 pub returns-clause-layout : goal.returns-clause-layout
 returns-clause-layout c =
-    let table : List ℕ → List ℕ = λ list. map (λ p. listed_position list p) (range_with_len 0 c.args.n) in
-    ap (λ xs. let l : Layout = record { nodes = c.args.n; positions = xs } in l)
-    (c.in_ok-rings.ensures.positions ∙ sym (map-map (λ list. list.items) table c.args.lists.now))
+    grind (arith, map-map)
 
 pub returns-clause-each_once : goal.returns-clause-each_once
 returns-clause-each_once c = all_orders c.args.n c.args.lists.now (sym c.are_orders.ensures ∙ c.if-not-are_orders.false)
 
 pub returns-clause-not_permutation : goal.returns-clause-not_permutation
 returns-clause-not_permutation c =
-    let all = all_orders c.args.n c.args.lists.now (sym c.are_orders.ensures ∙ c.if-not-are_orders.false) in
-    (λ reported. cc, λ bad. absurd (denied (λ list. IsOrder c.args.n list.items) c.args.lists.now all bad.2))
+    grind (arith, all_orders)

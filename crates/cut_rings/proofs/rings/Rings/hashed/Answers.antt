@@ -1,4 +1,4 @@
-use Rattle.std.proofs.Common.{◌≡◌, ◌≤◌, ◌∙◌, ℕ, List, map, length, ap, sym, arith}
+use Rattle.std.proofs.Common.{◌≡◌, ◌≤◌, ◌∙◌, ℕ, List, map, length, sym, arith}
 use Rattle.std.specs.List.{range_with_len}
 use Rattle.std.proofs.lemmas.List.FromFn.{map-range_with_len_more, length-map-range_with_len}
 use Rattle.std.proofs.lemmas.List.Elements.{All-same, All-push}
@@ -18,10 +18,7 @@ same_layout : (s t : List ℕ) (n m k count : ℕ) (positions : List (List ℕ))
     ≡ map (λ k. map (λ p. hashed_position s n k p) (range_with_len 0 n)) (range_with_len 0 k) → s ≡ t → n ≡ m → k
     ≡ count → record_of n positions ≡ hashed_layout t m count
 same_layout s t n m k count positions same seed nodes end =
-    ap (record_of n) same
-    ∙ ap (λ x. hashed_layout x n k) seed
-    ∙ ap (λ x. hashed_layout t x k) nodes
-    ∙ ap (hashed_layout t m) end
+    grind arith
 
 pub loop-ring-preserved : goal.loop-ring-preserved
 loop-ring-preserved c =
@@ -56,10 +53,8 @@ invariant_of-result c =
 
 pub returns : goal.returns
 returns c =
-    let end : c.loop-ring.ring ≡ c.ring_count-count.result = omega arith in
-    let positions = c.loop-ring.invariant.positions in
-    let count = c.ring_count-count.ensures.value in
-    let nodes = c.nodes-nodes.ensures.value in
-    let seed = c.seed-seed.ensures.value in
-    same_layout c.seed-seed.result c.args.plan.now.seed c.nodes-nodes.result c.args.plan.now.nodes c.loop-ring.ring
-    (largest c.args.plan.now.k) _ positions seed nodes (end ∙ count)
+    grind (
+      arith,
+      same_layout c.seed-seed.result c.args.plan.now.seed c.nodes-nodes.result c.args.plan.now.nodes
+          c.loop-ring.ring (largest c.args.plan.now.k),
+    )

@@ -12,10 +12,4 @@ invariant_of-self-clause-rest_fits c = λ some.
 
 pub returns-clause-piece : goal.returns-clause-piece
 returns-clause-piece c =
-    let before = c.args.self.now in
-    let piece : IsTrue (is_piece before.plan.now before.rest) = before.rest_fits c.requires in
-    let some = c.block_at-piece.ensures.some in
-    let first = c.block_at-piece.ensures.first in
-    let within = c.block_at-piece.ensures.within in
-    part_is_piece before.plan.now before.rest c.block_at-piece.result before.accepted piece some
-    (omega (arith, first)) (omega (arith, first, within))
+    grind (arith, part_is_piece)

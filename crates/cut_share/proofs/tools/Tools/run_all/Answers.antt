@@ -1,4 +1,4 @@
-use Rattle.std.proofs.Common.{◌≡◌, ◌∙◌, ◌<◌, ℕ, suc, List, [], ◌∷◌, length, get_or, refl, sym, ap, arith}
+use Rattle.std.proofs.Common.{◌≡◌, ◌∙◌, ◌<◌, ℕ, suc, List, [], ◌∷◌, length, get_or, refl, ap, arith}
 use Rattle.cut_outcome.specs.declared.piece.Piece.{Piece}
 use Rattle.cut_share.specs.declared.task.Task.{Task}
 use Rattle.cut_share.specs.inside.Tasks.{pieces_of}
@@ -18,6 +18,4 @@ same_pieces (x ∷ xs) (y ∷ ys) long same =
 
 pub returns-clause-pieces : goal.returns-clause-pieces
 returns-clause-pieces g c =
-    same_pieces c.args.tasks.now c.for_each_mut.new.s c.for_each_mut.auto.s (λ i d low.
-    (let k = (c.for_each_mut.ensures i d low).1 in
-    ap (λ (x : Task). x.piece) (sym k.left) ∙ k.call.0 ∙ ap (λ (x : Task). x.piece) k.argument_is))
+    grind (arith, same_pieces)

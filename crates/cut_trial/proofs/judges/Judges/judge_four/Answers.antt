@@ -84,12 +84,7 @@ judge_one-requires-clause-found c =
 
 pub returns-clause-judged : goal.returns-clause-judged
 returns-clause-judged c =
-    let cast = c.args.round.cast in
-    let rs : List ℕ = cast.receivers.now in
-    let end : c.min-lane-end.result ≡ min 4 (length rs - c.args.first) = search rules in
-    let at : c.loop-lane.lane ≡ c.min-lane-end.result = omega (arith, c.loop-lane-test.false) in
-    rw (← same_judged cast.alerts.now c.args.draws.now rs (c.args.first + c.loop-lane.lane) (c.args.first + 4)
-    (omega (arith, at, end, c.requires.next.some))) c.loop-lane.invariant.judged
+    grind (arith, same_judged)
 
 pub places-requires : goal.places-requires
 places-requires c = record {

@@ -1,41 +1,29 @@
-use Rattle.std.proofs.Common.{rules, ◌≡◌, ℕ, Bool, true, false, List, filter, length, refl, ap, sym, ◌∙◌}
+use Rattle.std.proofs.Common.{◌≡◌, ℕ, Bool, false, List, filter, length, refl, ap, sym, ◌∙◌}
 use Rattle.std.proofs.Common.{arith}
 use Rattle.std.proofs.lemmas.Bool.{eqb-true}
 use Rattle.cut_detector.specs.Rule.{rule_in}
 use Rattle.cut_detector.specs.Counts.{is_reported, is_some_stable}
-use Rattle.cut_nodes.specs.declared.node.Node.{Node}
 use Rattle.cut_nodes.specs.Nodes.{subjects_of}
-use Rattle.cut_outcome.proofs.Words.{Edge, Rule, is_target, range_with_len, rule_of, set_of, targets_of}
-use Rattle.cut_trial.proofs.Judged.{complete_from, heard_as, none_stable, some_node, subjects_within}
+use Rattle.cut_outcome.proofs.Words.{Rule, is_target, range_with_len, rule_of, set_of, targets_of}
+use Rattle.cut_trial.proofs.Judged.{complete_from, none_stable, some_node, subjects_within}
 use Rattle.cut_trial.proofs.judges.Judges.judge_receivers.Goals as goal
 
 pub wanted_nodes-requires : goal.wanted_nodes-requires
 wanted_nodes-requires c =
-    let cast = c.args.cast in
-    let rings = cast.alerts.now.study.rings.now in
-    subjects_within (λ s. is_reported (rule_in c.rule-rule.result) (set_of c.as_slice-edges.result.now) s) rings.nodes
-    (length cast.roles.now.roles) _ c.in_ok-nodes.ensures.subjects
-    (omega (arith, cast.nodes, cast.alerts.now.study.nodes))
+    grind (arith, subjects_within)
 
 pub invariant_of-trial-clause-layout : goal.invariant_of-trial-clause-layout
 invariant_of-trial-clause-layout c = c.rings_are_a_layout.ensures
 
 pub invariant_of-round-clause-heard : goal.invariant_of-round-clause-heard
-invariant_of-round-clause-heard c = λ j.
-    let alerts = c.args.cast.alerts.now in
-    heard_as alerts.study.plan.now alerts.cell alerts.study.rings.now c.new-blocks.result alerts.edges.items
-    c.as_slice-edges.result.now c.copies.result j (rule_in c.rule-rule.result) c.rule-rule.ensures.rule
-    c.as_slice-edges.ensures.value c.copies.ensures.value
+invariant_of-round-clause-heard c = grind arith
 
 pub judge_silent-requires-clause-silent : goal.judge_silent-requires-clause-silent
 judge_silent-requires-clause-silent c = λ j.
     let alerts = c.args.cast.alerts.now in
     let rule : Rule = rule_of alerts.cell.k alerts.cell.h alerts.cell.l alerts.study.plan.now.implicit in
     let none : is_some_stable alerts.study.rings.now rule (set_of alerts.edges.items) ≡ false =
-    ap (λ (es : List Edge). is_some_stable alerts.study.rings.now rule (set_of es)) (sym c.as_slice-edges.ensures.value)
-    ∙ ap (λ (x : Rule). is_some_stable alerts.study.rings.now x (set_of c.as_slice-edges.result.now))
-    (sym c.rule-rule.ensures.rule)
-    ∙ sym c.in_ok-nodes.ensures.ends ∙ search rules in
+    grind arith in
     c.none_proposes_where_none_ends_stable.ensures
     (record {
       source = c.args.draws.now;
@@ -54,11 +42,7 @@ judge_silent-requires-clause-silent c = λ j.
 
 pub invariant_of-round-clause-some : goal.invariant_of-round-clause-some
 invariant_of-round-clause-some c =
-    let rule : Rule = rule_in c.rule-rule.result in
-    let ends : c.in_ok-nodes.nodes.ends_stable ≡ true = search rules in
-    some_node c.args.cast.alerts.now.study.rings.now rule (set_of c.as_slice-edges.result.now) (λ (d : Node). d.subject)
-    c.in_ok-nodes.nodes.nodes.items c.rule-rule.result.thresholds (sym c.in_ok-nodes.ensures.ends ∙ ends)
-    c.in_ok-nodes.ensures.subjects
+    grind (arith, some_node)
 
 pub invariant_of-round-clause-complete : goal.invariant_of-round-clause-complete
 invariant_of-round-clause-complete c = λ is.

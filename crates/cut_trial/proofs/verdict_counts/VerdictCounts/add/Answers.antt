@@ -39,12 +39,5 @@ returns-clause-judging c = λ p before same at few h.
       ballot = rw c.count-2.ensures.ballot counted;
       votes = λ q. rw (cast, found.2, c.count-2.ensures.exact)
           (more_others (cast_of before) h.others members (targets_of c.args.roles.now) c.args.self.now.exact h.votes q);
-      few = omega (
-        arith,
-        h.few,
-        c.count-2.ensures.exact,
-        length_push before (Some found.0),
-        length_push h.others
-            members,
-      );
+      few = grind (arith, length_push);
     })

@@ -12,13 +12,7 @@ returns-clause-judging c = λ a p before is placed few h.
     let exact : c.count.new.self.exact ≡ c.args.self.now.exact + 1 =
     omega (arith, few, h.few, c.saturating_add-self.ensures, c.count.ensures.exact) in
     record {
-      verdicts = c.count.ensures.verdicts a (Some p) before (exact_is_right a p is) placed few (record {
-        conflicts = h.verdicts.conflicts;
-        silent = h.verdicts.silent;
-        extra = h.verdicts.extra;
-        settled = h.verdicts.settled;
-        places = h.verdicts.places;
-      });
+      verdicts = search (arith, exact_is_right, c.count.ensures.verdicts);
       others = h.others;
       ballot = rw c.count.ensures.ballot h.ballot;
       votes = λ q. rw (cast, is, exact)

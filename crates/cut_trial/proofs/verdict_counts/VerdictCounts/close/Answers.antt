@@ -5,12 +5,6 @@ pub returns-clause-judged : goal.returns-clause-judged
 returns-clause-judged c = λ a all targets few h.
     let counted = c.in_ok-add_votes.ensures.counted h.others (omega (arith, few, h.few)) h.ballot in
     record {
-      verdicts = record {
-        conflicts = h.verdicts.conflicts;
-        silent = h.verdicts.silent;
-        extra = h.verdicts.extra;
-        settled = h.verdicts.settled;
-        places = h.verdicts.places;
-      };
+      verdicts = grind arith;
       votes = λ q. rw targets at (counted q) ∙ sym (h.votes q);
     }

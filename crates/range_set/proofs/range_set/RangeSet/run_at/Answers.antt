@@ -1,4 +1,4 @@
-use Rattle.std.proofs.Common.{◌≡◌, ◌<◌, ◌+◌, ◌-◌, ◌*◌, ◌/◌, ◌%◌, ℕ, List, length, sym, ap, subst, arith}
+use Rattle.std.proofs.Common.{◌≡◌, ◌<◌, ◌+◌, ◌-◌, ◌*◌, ◌/◌, ◌%◌, ℕ, List, length, sym, subst, arith}
 use Rattle.std.proofs.lemmas.List.{get_or_read}
 use Rattle.range_set.specs.inside.Blocks.{Blocks}
 use Rattle.range_set.specs.inside.Edges.{IsRun}
@@ -10,14 +10,11 @@ use Rattle.range_set.proofs.range_set.RangeSet.run_at.Goals as goal
 -- the number is one of the set's
 its : (l n t : ℕ) (ss : List Blocks) (h : Held) → held_in l ss ≡ h → 0 < l → t < length h.held
     → IsNumber l (length ss) t
-its l n t ss h is some low = number l (length ss) t some
-    (omega (arith, ap (λ (x : Held). length x.held) is, length_is l ss))
+its l n t ss h is some low = grind (arith, length_is)
 
 pub index-requires : goal.index-requires
 index-requires c =
-    let at = its c.self.inside.section_len 0 c.args.number c.self.inside.sections.items _ c.self.view_is
-    c.self.invariant.some c.requires in
-    omega (arith, at.section, c.self.inside.sections.ok.0)
+    grind (arith, its)
 
 pub run_at-run-requires-clause-within : goal.run_at-run-requires-clause-within
 run_at-run-requires-clause-within c =
@@ -30,9 +27,7 @@ run_at-run-requires-clause-within c =
 
 pub overflow_add-result : goal.overflow_add-result
 overflow_add-result c =
-    let at = its c.self.inside.section_len 0 c.args.number c.self.inside.sections.items _ c.self.view_is
-    c.self.invariant.some c.requires in
-    omega (arith, at.is, at.end, at.place, c.min.ensures, c.self.invariant.few)
+    grind (arith, its)
 
 pub returns-clause-run : goal.returns-clause-run
 returns-clause-run c =
@@ -49,16 +44,4 @@ returns-clause-run c =
 
 pub returns-clause-within : goal.returns-clause-within
 returns-clause-within c =
-    let l : ℕ = c.self.inside.section_len in
-    let ss : List Blocks = c.self.inside.sections.items in
-    let at = its l 0 c.args.number ss _ c.self.view_is c.self.invariant.some c.requires in
-    omega (
-      arith,
-      at.is,
-      at.end,
-      at.place,
-      c.min.ensures,
-      ap (λ (x : Held). length x.held) c.self.view_is,
-      length_is l
-          ss,
-    )
+    grind (arith, its, length_is)

@@ -1,8 +1,9 @@
+use Rattle.std.proofs.lemmas.Grind.{common_steps}
 use Rattle.std.proofs.Common.{◌≡◌, ◌∙◌, ◌<◌, ◌+◌, ◌-◌, ◌*◌, ◌/◌, ℕ, List, map, length, min, max, ap, sym, subst, arith}
 use Rattle.std.proofs.lemmas.List.{get_or_read, get_or-set_other, length-map, length-set, map-set}
 use Rattle.range_set.specs.inside.Blocks.{Blocks}
 use Rattle.range_set.specs.inside.Edges.{Row, flipped, is_between, is_within}
-use Rattle.range_set.proofs.BlockLemmas.{AreFlipped, blocks_in, edges_at, flipped_more, no_row, there}
+use Rattle.range_set.proofs.BlockLemmas.{AreFlipped, blocks_in, edges_at, flipped_more, no_row}
 use Rattle.range_set.proofs.section.Section.flip.Goals as goal
 
 -- the block is one of the section's
@@ -10,24 +11,11 @@ in_blocks : (olds rows : List Row) (from end n : ℕ) (b : Blocks) → blocks_in
     < length b.blocks → n < (end - 1) / 65536 + 1 → AreFlipped (map (λ r. r.edges) olds) (map (λ r. r.edges) rows) from
     end n → n < length rows
 in_blocks olds rows from end n b is within low are =
-    omega (
-      arith,
-      there olds (end - 1) b is within,
-      are.len,
-      length-map rows (λ (r : Row). r.edges),
-      length-map olds
-          (λ (r : Row). r.edges),
-    )
+    grind (arith, length-map)
 
 pub index_mut-requires : goal.index_mut-requires
 index_mut-requires c =
-    omega (
-      arith,
-      c.loop-at.self-inside.blocks.ok.0,
-      in_blocks c.self.inside.blocks.items
-          c.loop-at.self-inside.blocks.items c.args.from c.args.end c.loop-at.at _ c.self.view_is c.requires.within
-          c.loop-at-test.true c.loop-at.invariant.flipped,
-    )
+    grind (arith, common_steps)
 
 pub flip-requires-clause-room : goal.flip-requires-clause-room
 flip-requires-clause-room c =
