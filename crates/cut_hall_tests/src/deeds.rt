@@ -105,8 +105,15 @@ fn end_of_line(study: Study, cell: u32, line: &[u8]) -> End {
     }
 }
 
+/// What a thread works with, wherever it works.
+#[derive(Clone, Copy)]
+pub(crate) struct Tools<'a, R> {
+    pub rt: &'a R,
+    pub alloc: Global,
+}
+
 /// A thread that comes to a hall with a pass.
-#[derive(Drop)]
+#[derive(Clone, Copy)]
 pub(crate) struct Guest<'a, M: CallLedger, K: CallLedger, R: Wait> {
     pub rt: &'a R,
     pub alloc: Global,

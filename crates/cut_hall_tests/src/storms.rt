@@ -2,7 +2,7 @@
 ghost use Rattle.std.specs.Prelude.{◌≡◌, ◌<◌, ◌≤◌, All};
 ghost use Rattle.atomic_table.specs.Seated.{TableId};
 
-use crate::deeds::{Brittle, Deed, End, Guest, Stormy, closed, put_back};
+use crate::deeds::{Brittle, Deed, End, Guest, Stormy, Tools, closed, put_back};
 use cut_hall::{CallLedger, Hall, NoHooks, Pass, Report};
 use cut_plan::{Plan, PlanFault};
 use cut_study_cases::{Study, TWO_CELLS, studies};
@@ -219,8 +219,7 @@ where
 
 /// The same, while this thread keeps the time.
 fn play_timed<A, M, R, T>(
-    rt: &R,
-    alloc: Global,
+    tools: Tools<'_, R>,
     arena: &A,
     shared: &Shared,
     passes: &mut Vec<Pass<M>>,
@@ -235,6 +234,7 @@ where
     requires keep { T.pre keep.old }
     ensures { All (λ p. p.hall ≡ A.id_of arena.now) passes.new.items }
 {
+    let Tools { rt, alloc } = tools;
     let mut play = ||
         requires { All (λ p. p.hall ≡ A.id_of arena.now) passes.now.items }
         ensures { All (λ p. p.hall ≡ A.id_of arena.entry.now) passes.exit.now.items }
@@ -311,7 +311,7 @@ where
     ensures { All (λ p. p.hall ≡ hall.now.id) passes.new.items }
 {
     let mut keep = || keep_time(rt, shared);
-    play_timed(rt, alloc, hall, shared, passes, &mut keep);
+    play_timed(Tools { rt, alloc }, hall, shared, passes, &mut keep);
 }
 
 /// How the deeds of a storm ended, where its hall was closed as is right.

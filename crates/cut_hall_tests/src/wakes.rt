@@ -2,7 +2,7 @@
 ghost use Rattle.std.specs.Prelude.{◌≡◌};
 ghost use Rattle.atomic_table.specs.Seated.{TableId};
 
-use crate::deeds::{Brittle, Deed, End, Guest, Stormy};
+use crate::deeds::{Brittle, Deed, End, Guest, Stormy, Tools};
 use cut_hall::{CallLedger, Hall, Pass};
 use cut_study_cases::TWO_CELLS;
 use std::alloc::Global;
@@ -37,13 +37,11 @@ struct Hindrance {
 
 /// Keeps the second line from coming: how that ends.
 fn hinder<M: CallLedger, K: CallLedger, R: Wait>(
-    rt: &R,
-    alloc: Global,
-    hall: &Stormy<M, K>,
+    guest: &Guest<'_, M, K, R>,
     pass: &mut Pass<M>,
     hindrance: Hindrance,
 ) -> End
-    requires { pass.old.hall ≡ hall.now.id }
+    requires { pass.old.hall ≡ guest.now.hall.now.id }
     ensures { pass.new.hall ≡ pass.old.hall }
 {
     let deed = match hindrance.cause {
@@ -51,7 +49,6 @@ fn hinder<M: CallLedger, K: CallLedger, R: Wait>(
         Cause::Stop => Deed::Stop,
         Cause::Disk => Deed::WorkOff,
     };
-    let guest = Guest { rt, alloc, hall };
     guest.act(pass, &hindrance.shelf, TWO_CELLS, deed)
 }
 
@@ -100,8 +97,7 @@ struct Vigil {
 
 /// Lets a thread wait for the second line, while this one goes on. Notes that the wait has ended.
 fn wait_beside<H, M, R, F>(
-    rt: &R,
-    alloc: Global,
+    tools: Tools<'_, R>,
     hall: &H,
     waiter: &mut Pass<M>,
     vigil: &Vigil,
@@ -117,6 +113,7 @@ where
     ensures own { waiter.new.hall ≡ H.id_of hall.now }
     ensures go_on { F.step go_on.old result.1 go_on.new }
 {
+    let Tools { rt, alloc } = tools;
     let mut wait = || -> End
         requires { waiter.now.hall ≡ H.id_of hall.now }
         ensures { waiter.exit.now.hall ≡ H.id_of hall.entry.now }
@@ -142,9 +139,7 @@ fn keep_time<R: Abort + Clock>(rt: &R, vigil: &Vigil) {
 /// Lets a thread wait for the second line, and keeps it from coming after a pause: how the wait ended, and how that
 /// did.
 fn woken<M, K, R>(
-    rt: &R,
-    alloc: Global,
-    hall: &Stormy<M, K>,
+    guest: &Guest<'_, M, K, R>,
     waiter: &mut Pass<M>,
     other: &mut Pass<M>,
     hindrance: Hindrance,
@@ -153,39 +148,37 @@ where
     M: CallLedger + Send + Sync,
     K: CallLedger + Send + Sync,
     R: Threads + Wait + Abort + Clock + Sync,
-    requires waiter { waiter.old.hall ≡ hall.now.id }
-    requires other { other.old.hall ≡ hall.now.id }
-    ensures waiter { waiter.new.hall ≡ hall.now.id }
-    ensures other { other.new.hall ≡ hall.now.id }
+    requires waiter { waiter.old.hall ≡ guest.now.hall.now.id }
+    requires other { other.old.hall ≡ guest.now.hall.now.id }
+    ensures waiter { waiter.new.hall ≡ guest.now.hall.now.id }
+    ensures other { other.new.hall ≡ guest.now.hall.now.id }
 {
+    let Guest { rt, alloc, hall } = *guest;
     let vigil = Vigil {
         shelf: hindrance.shelf,
         ended: AtomicU64::new(0),
     };
     let mut go_on = || -> End
-        requires { other.now.hall ≡ hall.now.id }
-        ensures { other.exit.now.hall ≡ hall.entry.now.id }
+        requires { other.now.hall ≡ guest.now.hall.now.id }
+        ensures { other.exit.now.hall ≡ guest.entry.now.hall.now.id }
     {
         rt.sleep(Duration::from_millis(hindrance.pause));
-        let end = hinder(rt, alloc, hall, other, hindrance);
+        let end = hinder(guest, other, hindrance);
         keep_time(rt, &vigil);
         end
     };
-    wait_beside(rt, alloc, hall, waiter, &vigil, &mut go_on)
+    wait_beside(Tools { rt, alloc }, hall, waiter, &vigil, &mut go_on)
 }
 
 /// How it ends to ask for the first line.
 fn first_line<M: CallLedger, K: CallLedger, R: Wait>(
-    rt: &R,
-    alloc: Global,
-    hall: &Stormy<M, K>,
+    guest: &Guest<'_, M, K, R>,
     pass: &mut Pass<M>,
     shelf: Brittle,
 ) -> End
-    requires { pass.old.hall ≡ hall.now.id }
+    requires { pass.old.hall ≡ guest.now.hall.now.id }
     ensures { pass.new.hall ≡ pass.old.hall }
 {
-    let guest = Guest { rt, alloc, hall };
     guest.act(pass, &shelf, TWO_CELLS, Deed::Row(0))
 }
 
@@ -203,10 +196,9 @@ where
     requires waiter { waiter.old.hall ≡ guest.now.hall.now.id }
     requires other { other.old.hall ≡ guest.now.hall.now.id }
 {
-    let (rt, alloc, hall) = (guest.rt, guest.alloc, guest.hall);
-    let before = first_line(rt, alloc, hall, other, hindrance.shelf);
-    let ends = woken(rt, alloc, hall, waiter, other, hindrance);
-    let after = first_line(rt, alloc, hall, other, hindrance.shelf);
+    let before = first_line(guest, other, hindrance.shelf);
+    let ends = woken(guest, waiter, other, hindrance);
+    let after = first_line(guest, other, hindrance.shelf);
     (before == End::Line && after == End::Line).then_some(ends)
 }
 

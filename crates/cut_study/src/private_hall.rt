@@ -50,17 +50,23 @@ pub(crate) struct Blanks {
     pub(crate) kept: Blank,
 }
 
-/// A hall whose only slot has a study, with the passes of its workers: one is that of the thread that writes.
+/// The passes of a study's workers: that of the thread that writes, and those of all others.
+#[derive(Drop)]
+struct Crew<M: CallLedger> {
+    writer: Pass<M>,
+    others: Vec<Pass<M>>,
+}
+
+/// A hall whose only slot has a study, with the passes of its workers.
 #[derive(Drop)]
 pub(crate) struct PrivateHall<D: Disk, M: CallLedger, K: CallLedger> {
     hall: Hall<D, M, K>,
     pub(crate) opened: Opened,
-    others: Vec<Pass<M>>,
-    writer: Pass<M>,
+    crew: Crew<M>,
     ghost one_slot: { hall.slots ≡ 1 },
     ghost its_slot: { opened.study ≡ 0 },
-    ghost others_own: { All (λ p. p.hall ≡ hall.id) others.items },
-    ghost writer_own: { writer.hall ≡ hall.id },
+    ghost others_own: { All (λ p. p.hall ≡ hall.id) crew.others.items },
+    ghost writer_own: { crew.writer.hall ≡ hall.id },
 }
 
 impl<D: Disk + Drop, M: CallLedger, K: CallLedger> PrivateHall<D, M, K> {
@@ -90,15 +96,14 @@ impl<D: Disk + Drop, M: CallLedger, K: CallLedger> PrivateHall<D, M, K> {
             plan: book.ledger().plan().try_clone(alloc)?,
             base: book.ledger().base().try_clone(alloc)?,
         };
-        let (hall, mut passes) = Hall::of_book(alloc, book, piece_size, workers, made, kept)?;
-        let Some(writer) = passes.pop() else {
+        let (hall, mut others) = Hall::of_book(alloc, book, piece_size, workers, made, kept)?;
+        let Some(writer) = others.pop() else {
             unreachable!()
         };
         Ok(PrivateHall {
             hall,
             opened,
-            others: passes,
-            writer,
+            crew: Crew { writer, others },
         })
     }
 
@@ -129,12 +134,11 @@ impl<D: Disk + Drop, M: CallLedger, K: CallLedger> PrivateHall<D, M, K> {
         let PrivateHall {
             hall,
             opened,
-            mut others,
-            mut writer,
+            mut crew,
         } = self;
         let tools = Tools { rt, alloc, hooks };
-        let sent = stream(tools, &hall, &opened, &mut others, &mut writer, wire);
-        (sent, closed(alloc, hall, others, writer))
+        let sent = stream(tools, &hall, &opened, &mut crew, wire);
+        (sent, closed(alloc, hall, crew))
     }
 }
 
@@ -144,8 +148,7 @@ fn stream<D, M, K, W, G, R>(
     tools: Tools<'_, R, G>,
     hall: &Hall<D, M, K>,
     opened: &Opened,
-    others: &mut Vec<Pass<M>>,
-    writer: &mut Pass<M>,
+    crew: &mut Crew<M>,
     wire: &mut W,
 ) -> Result<u64, EmitFault>
 where
@@ -156,15 +159,16 @@ where
     G: Hooks + Sync,
     R: Threads + Wait + Sync,
     requires slot { opened.now.study < hall.now.slots }
-    requires others { All (λ p. p.hall ≡ hall.now.id) others.old.items }
-    requires writer { writer.old.hall ≡ hall.now.id }
+    requires others { All (λ p. p.hall ≡ hall.now.id) crew.old.others.items }
+    requires writer { crew.old.writer.hall ≡ hall.now.id }
     ensures emits { EmitsStudy (table_over opened.now.plan opened.now.base) result
         (W.log wire.old) (W.log wire.new) }
-    ensures others { All (λ p. p.hall ≡ hall.now.id) others.new.items }
-    ensures writer { writer.new.hall ≡ hall.now.id }
-    ensures made { OnOk result (length (cells_of opened.now.plan) ≤ writer.new.made) }
+    ensures others { All (λ p. p.hall ≡ hall.now.id) crew.new.others.items }
+    ensures writer { crew.new.writer.hall ≡ hall.now.id }
+    ensures made { OnOk result (length (cells_of opened.now.plan) ≤ crew.new.writer.made) }
 {
     let Tools { rt, alloc, hooks } = tools;
+    let Crew { writer, others } = crew;
     let mut write = || -> Result<u64, EmitFault>
         requires own { writer.now.hall ≡ hall.now.id }
         requires slot { opened.now.study < hall.now.slots }
@@ -185,7 +189,7 @@ where
         hall.stop(rt);
         sent
     };
-    work_beside(rt, alloc, hall, hooks, others, &mut write)
+    work_beside(tools, hall, others, &mut write)
 }
 
 /// A hall as the threads of workers share it.
@@ -228,10 +232,8 @@ impl<D: Disk + Drop, M: CallLedger, K: CallLedger> Workplace<M> for Hall<D, M, K
 /// Lets each pass work in a thread of its own, and writes in this one meanwhile. Where no thread can be made, they
 /// find nothing left to do once it has written.
 fn work_beside<S, M, G, R, F>(
-    rt: &R,
-    alloc: Global,
+    tools: Tools<'_, R, G>,
     hall: &S,
-    hooks: &G,
     passes: &mut Vec<Pass<M>>,
     write: &mut F,
 ) -> Result<u64, EmitFault>
@@ -247,6 +249,7 @@ where
     ensures own { All (λ p. p.hall ≡ S.id_of hall.now) passes.new.items }
     ensures write { F.step write.old result write.new }
 {
+    let Tools { rt, alloc, hooks } = tools;
     let mut work = ||
         requires { S.has_slot hall.now × All (λ p. p.hall ≡ S.id_of hall.now) passes.now.items }
         ensures { All (λ p. p.hall ≡ S.id_of hall.entry.now) passes.exit.now.items }
@@ -284,26 +287,23 @@ where
     }
 }
 
-/// Closes a hall with the passes of the other workers and that of the thread that writes. Where passes are missing, it
-/// was where memory runs out.
-fn closed<D, M, K>(
-    alloc: Global,
-    hall: Hall<D, M, K>,
-    others: Vec<Pass<M>>,
-    writer: Pass<M>,
-) -> Result<Report, RunFault>
+/// Closes a hall with the passes of its workers. Where passes are missing, it was where memory runs out.
+fn closed<D, M, K>(alloc: Global, hall: Hall<D, M, K>, crew: Crew<M>) -> Result<Report, RunFault>
 where
     D: Disk + Drop,
     M: CallLedger,
     K: CallLedger,
     requires ledgers { (M.all ≡ M.parts) × (K.all ≡ K.parts) }
-    requires others { All (λ p. p.hall ≡ hall.id) others.items }
-    requires writer { writer.hall ≡ hall.id }
+    requires others { All (λ p. p.hall ≡ hall.id) crew.others.items }
+    requires writer { crew.writer.hall ≡ hall.id }
     ensures slots { IfOk result (λ report. length report ≡ hall.slots) }
-    ensures calls { IfOk result (λ report. writer.made ≤ calls_in_all report) }
+    ensures calls { IfOk result (λ report. crew.writer.made ≤ calls_in_all report) }
     ensures why { IfErr result IsNotEnded }
 {
-    let mut passes = others;
+    let Crew {
+        writer,
+        others: mut passes,
+    } = crew;
     let Ok(()) = passes.push(writer) else {
         return Err(RunFault::WorkMemory);
     };

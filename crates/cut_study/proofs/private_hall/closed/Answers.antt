@@ -6,5 +6,5 @@ use Rattle.cut_study.proofs.private_hall.closed.Goals as goal
 pub close-requires-clause-own : goal.close-requires-clause-own
 close-requires-clause-own g c =
     subst (All (λ (p : Holding). p.hall ≡ c.args.hall.id)) (sym c.in-Ok.ensures.items)
-    (All-push (λ (p : Holding). p.hall ≡ c.args.hall.id) c.args.others.items c.args.writer
+    (All-push (λ (p : Holding). p.hall ≡ c.args.hall.id) c.args.crew.others.items c.args.crew.writer
     c.requires.others c.requires.writer)

@@ -5,7 +5,7 @@ use Rattle.cut_study.proofs.private_hall.PrivateHall.open.Goals as goal
 
 pub invariant_of-result : goal.invariant_of-result
 invariant_of-result g c =
-    let own = All-pop (λ (p : Holding). p.hall ≡ c.in_ok-hall.hall.id) c.in_ok-hall.passes.items
+    let own = All-pop (λ (p : Holding). p.hall ≡ c.in_ok-hall.hall.id) c.in_ok-hall.others.items
     c.pop.new.self.items (Some c.in-Some.writer) c.in-Some.ensures.items c.in_ok-hall.ensures.own in
     record {
       one_slot = c.in_ok-hall.ensures.hall.0;

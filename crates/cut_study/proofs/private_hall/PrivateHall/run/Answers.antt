@@ -7,7 +7,7 @@ use Rattle.cut_study.proofs.private_hall.PrivateHall.run.Goals as goal
 pub returns-clause-calls : goal.returns-clause-calls
 returns-clause-calls g c =
     on_ok_weaker c.stream-sent.result
-    (λ few. IfOk-weaker c.closed.result (λ (report : List SlotEnd). c.stream-sent.new.writer.made ≤ calls_in_all report)
+    (λ few. IfOk-weaker c.closed.result (λ (report : List SlotEnd). c.stream-sent.new.crew.writer.made ≤ calls_in_all report)
     (λ (report : List SlotEnd). length (cells_of c.args.self.opened.plan) ≤ calls_in_all report)
     (λ report low. omega (arith, few, low)) c.closed.ensures.calls)
     c.stream-sent.ensures.made
