@@ -1,11 +1,12 @@
-use Rattle.std.proofs.Common.{◌≡◌, ◌∙◌, ◌++◌, ℕ, List, Option, Some, None, length, sym, subst, ap, arith, codes}
+use Rattle.std.proofs.lemmas.Grind.{common_steps}
+use Rattle.std.proofs.Common.{◌≡◌, ◌∙◌, ℕ, List, Option, Some, None, length, sym, subst, arith, codes}
 use Rattle.std.specs.Prelude.{IfNone}
 use Rattle.std.specs.List.{position_or_len}
 use Rattle.clap.specs.Words.{Row, Text, found_of, first_of, rows_of}
 use Rattle.clap.proofs.WalkLemmas.{first_value-rows}
 use Rattle.cut_command_line.specs.declared.machines.ShareNumber.{ShareNumber}
 use Rattle.cut_command_line.specs.Line.{GivesShare, IsNumberIn}
-use Rattle.cut_command_line.proofs.ShareLemmas.{IsShareText, around_slash, is_slash, share_text}
+use Rattle.cut_command_line.proofs.ShareLemmas.{IsShareText, is_slash, share_text}
 use Rattle.cut_command_line.proofs.machines.share_given.Goals as goal
 
 -- the matches give no share
@@ -18,16 +19,11 @@ none rows o is gives = subst (λ (found : Option ShareNumber). IfNone found (Giv
 -- the text that they give for the share, where it is this one, is what stands before its first slash and after it
 split : (rows : List Row) (text : Text) → first_of (codes "share") rows ≡ Some text → (index shares : ℕ)
     → GivesShare rows index shares → IsShareText text index shares
-split rows text has index shares gives = share_text text index shares gives.first gives.second
-    (let one = sym gives.given ∙ has in let same : gives.first ++ codes "/" ++ gives.second ≡ text = cc in same)
-    gives.index_is gives.shares_are gives.within
+split rows text has index shares gives = grind (arith, share_text)
 
 pub returns-in_err-text-clause-none : goal.returns-in_err-text-clause-none
 returns-in_err-text-clause-none c =
-    let rows : List Row = rows_of (found_of c.args.given.now) in
-    none rows c.from_residual.result c.from_residual.ensures (λ index shares gives.
-    let lacks = sym (first_value-rows (found_of c.args.given.now) (codes "share")) ∙ sym c.in_err-text.ensures in
-    (let bad = sym lacks ∙ gives.given in cc))
+    grind (arith, first_value-rows)
 
 pub returns-in_err-first-clause-none : goal.returns-in_err-first-clause-none
 returns-in_err-first-clause-none c =
@@ -77,13 +73,4 @@ returns-then-index-shares-clause-none c = λ index shares gives.
 
 pub returns-clause-some : goal.returns-clause-some
 returns-clause-some c =
-    let has = sym (first_value-rows (found_of c.args.given.now) (codes "share")) ∙ sym c.in_ok-text.ensures in
-    let cut = c.in_ok-first.ensures.byte (omega arith) (λ w o found. found) in
-    record {
-      first = c.in_ok-first.first.now;
-      second = c.in_ok-first.second.now;
-      given = has ∙ ap (λ (text : Text). Some text) (around_slash c.in_ok-text.text.now _ _ cut.2 cut.0 cut.1);
-      index_is = c.in_ok-index.ensures.some;
-      shares_are = c.in_ok-shares.ensures.some;
-      within = omega (arith, c.if-index-shares.false);
-    }
+    grind (arith, common_steps, first_value-rows)

@@ -22,9 +22,5 @@ returns-in-Ok-Done-clause-asks g c =
 
 pub returns-in-Err-take_piece-clause-asks : goal.returns-in-Err-take_piece-clause-asks
 returns-in-Err-take_piece-clause-asks g c =
-    let l = c.loop.invariant in
-    has_failed l c.read.new.buffer c.in-Ok-read.count c.take_piece.new.reader (g.W.Wire.log c.read.new.self)
-    (g.O.Wire.log c.take_piece.new.output) c.in-Ok-read.ensures.reads (omega (arith, c.if-count-eq0.false))
-    c.in-Ok-read.ensures.bound c.take_piece.ensures.side c.in-Err-take_piece.fault
-    (c.in-Err-take_piece.ensures.steps l.stream l.messages l.read) (omega (arith, c.read.auto.buffer))
-    (omega (arith, c.if-plan_text.false))
+    grind (arith, has_failed c.loop.invariant c.read.new.buffer c.in-Ok-read.count c.take_piece.new.reader
+    (g.W.Wire.log c.read.new.self) (g.O.Wire.log c.take_piece.new.output) c.in-Ok-read.ensures.reads)

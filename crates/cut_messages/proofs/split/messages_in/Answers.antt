@@ -1,37 +1,22 @@
-use Rattle.std.proofs.Common.{◌≡◌, ◌∙◌, ◌-◌, ◌+◌, ◌++◌, ℕ, List, [], ◌∷◌, length, length-drop, take, drop, sym, ap}
+use Rattle.std.proofs.Common.{◌≡◌, ◌-◌, ◌+◌, ◌++◌, ℕ, List, [], ◌∷◌, length, length-drop, drop, sym}
 use Rattle.std.proofs.Common.{subst, arith}
 use Rattle.std.proofs.ByRecursion.{All-push}
 use Rattle.std.proofs.lemmas.List.{take_rest}
 use Rattle.std.proofs.Math.Seq.{drop-drop}
 use Rattle.std.specs.List.{AllByRecursion}
 use Rattle.cut_messages.specs.declared.message.Message.{Message}
-use Rattle.cut_messages.specs.Frames.{IsMessage, fault_at}
-use Rattle.cut_messages.specs.inside.Prefixes.{message_in, IsWhole, IsShort}
-use Rattle.cut_messages.proofs.Frames.{no_message}
+use Rattle.cut_messages.specs.Frames.{IsMessage}
+use Rattle.cut_messages.specs.inside.Prefixes.{message_in, IsWhole}
 use Rattle.cut_messages.proofs.Streams.{one_more}
 use Rattle.cut_messages.proofs.split.messages_in.Goals as goal
 
 pub returns-in-Wrong-clause-splits : goal.returns-in-Wrong-clause-splits
 returns-in-Wrong-clause-splits c =
-    let same : take (length c.args.bytes.now - c.loop-kind.read) (drop c.loop-kind.read c.args.bytes.now)
-    ≡ drop c.loop-kind.read c.args.bytes.now =
-    take_rest c.args.bytes.now c.loop-kind.read in
-    record {
-      whole = c.loop-kind.invariant.whole;
-      each = c.loop-kind.invariant.each;
-      last = no_message c.args.side (drop c.loop-kind.read c.args.bytes.now) c.in-Wrong.fault
-          (ap (fault_at c.args.side) (sym same) ∙ c.in-Wrong.ensures);
-    }
+    grind (arith, take_rest)
 
 pub returns-in-Short-clause-splits : goal.returns-in-Short-clause-splits
 returns-in-Short-clause-splits c =
-    let is : IsShort c.args.side (drop c.loop-kind.read c.args.bytes.now) =
-    subst (λ (l : List ℕ). IsShort c.args.side l) (take_rest c.args.bytes.now c.loop-kind.read) c.in-Short.ensures in
-    record {
-      whole = c.loop-kind.invariant.whole;
-      each = c.loop-kind.invariant.each;
-      last = is.none;
-    }
+    grind (arith, take_rest)
 
 pub loop-kind-preserved : goal.loop-kind-preserved
 loop-kind-preserved c =

@@ -35,12 +35,8 @@ loop-study-preserved c =
 
 pub returns-clause-legal : goal.returns-clause-legal
 returns-clause-legal c =
-    subst (All (λ (s : SlotEnd). IsEndOf s.history s.complete))
-    (take_all c.loop-study.study c.slots-slots.result.now c.loop-study-test.false ∙ c.slots-slots.ensures)
-    c.loop-study.invariant.legal
+    grind (arith, take_all)
 
 pub returns-clause-few : goal.returns-clause-few
 returns-clause-few c =
-    subst (All (λ (s : SlotEnd). IsAcceptedCount (accepted_recorded s.history)))
-    (take_all c.loop-study.study c.slots-slots.result.now c.loop-study-test.false ∙ c.slots-slots.ensures)
-    c.loop-study.invariant.few
+    grind (arith, take_all)

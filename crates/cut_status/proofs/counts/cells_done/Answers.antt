@@ -6,7 +6,7 @@ use Rattle.cut_status.proofs.counts.cells_done.Goals as goal
 
 pub overflow_add-done : goal.overflow_add-done
 overflow_add-done c =
-    omega (arith, c.loop-cell.invariant, done_few c.args.ledger.now.contents c.loop-cell.cell, c.loop-cell-test.true)
+    grind (arith, done_few c.args.ledger.now.contents c.loop-cell.cell)
 
 pub loop-cell-preserved : goal.loop-cell-preserved
 loop-cell-preserved c =

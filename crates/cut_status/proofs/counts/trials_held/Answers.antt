@@ -1,4 +1,4 @@
-use Rattle.std.proofs.Common.{◌∙◌, ◌+◌, List, ℕ, take, get_or, sym, ap, arith}
+use Rattle.std.proofs.Common.{◌+◌, List, ℕ, take, arith}
 use Rattle.cut_plan.specs.Values.{Values}
 use Rattle.cut_outcome.specs.Sum.{each_number}
 use Rattle.cut_ledger.specs.declared.slip.Slip.{Slip}
@@ -26,6 +26,4 @@ overflow_add-held c =
 
 pub loop-slip-preserved : goal.loop-slip-preserved
 loop-slip-preserved c =
-    let i : ℕ = c.loop-slip.slip-index in
-    ap (λ (n : ℕ). n + (get_or c.args.slips.now i no_slip).piece.count) c.loop-slip.invariant
-    ∙ sym (held_more c.args.plan.now c.args.slips.now i no_slip c.requires.good c.loop-slip-test.true)
+    grind (arith, held_more)

@@ -1,15 +1,14 @@
-use Rattle.std.proofs.Common.{◌≡◌, ◌∙◌, ◌/◌, ℕ, Result, Ok, Err, IsOk, OnOk, IsTrue, sym, ap, subst, arith}
-use Rattle.cut_plan.specs.Values.{Values}
-use Rattle.cut_outcome.specs.declared.piece.Piece.{Piece}
-use Rattle.cut_ledger.specs.Account.{Account, has_room}
-use Rattle.cut_ledger.specs.Contents.{Contents, cell_of_piece, with_piece}
+use Rattle.std.proofs.lemmas.Grind.{common_steps}
+use Rattle.std.proofs.Common.{◌≡◌, ◌∙◌, Result, Ok, Err, IsOk, OnOk, ap, arith}
+use Rattle.cut_ledger.specs.Account.{Account}
+use Rattle.cut_ledger.specs.Contents.{with_piece}
 use Rattle.cut_ledger.specs.Machine.{StudyState, after, slip_of}
 use Rattle.cut_book.specs.declared.call.Answer.TheVariants.{Accepted, DiskFails}
 use Rattle.cut_book.specs.History.{event_of}
 use Rattle.cut_book.specs.inside.Book.{state_in}
 use Rattle.cut_book.proofs.Legal.{legal_on, noted}
 use Rattle.cut_book.proofs.Refused.{free}
-use Rattle.cut_book.proofs.Entered.{accepted_answer, accepted_book, accepted_hands, entered_step, failed_answer}
+use Rattle.cut_book.proofs.Entered.{accepted_answer, accepted_book, entered_step, failed_answer}
 use Rattle.cut_book.proofs.Entered.{failed_book, failed_journal}
 use Rattle.cut_book.proofs.book.Book.enter.Goals as goal
 
@@ -70,15 +69,7 @@ invariant_of-self-in-Err g c =
 held : (g : _) (c : goal.After-take g) → c.take.new.self.contents
     ≡ with_piece c.self.inside.ledger.contents c.args.offered.now.piece
 held g c =
-    let same : c.reserve-2.new.self.contents ≡ c.self.inside.ledger.contents = ap (λ (a : Account). a.contents)
-    c.in_ok-reserve-2.ensures.ok in
-    let cell : c.cell_of-cell.result ≡ cell_of_piece c.reserve-2.new.self.contents c.args.offered.now.piece =
-    c.cell_of-cell.ensures.value ∙ ap (λ (p : Piece). p.first / c.plan.result.now.repeats) c.piece.ensures.value
-    ∙ ap (λ (v : Values). c.args.offered.now.piece.first / v.repeats)
-    (c.plan.ensures.value ∙ sym (ap (λ (l : Contents). l.plan) same)) in
-    ok_holds c.take.result (c.take.ensures.room (subst (λ (n : ℕ). IsTrue (has_room c.reserve-2.new.self n)) cell
-    c.in_ok-reserve-2.ensures.room)) c.take.ensures.ok
-    ∙ ap (λ (l : Contents). with_piece l c.args.offered.now.piece) same
+    grind arith
 
 pub invariant_of-self-in-Ok : goal.invariant_of-self-in-Ok
 invariant_of-self-in-Ok g c =
@@ -98,17 +89,4 @@ invariant_of-self-in-Ok g c =
 
 pub returns-in-Ok-clause-answer : goal.returns-in-Ok-clause-answer
 returns-in-Ok-clause-answer g c =
-    let s : StudyState = state_in c.self.inside.ledger.contents c.self.inside.journal c.self.inside.division
-    c.self.inside.lost c.self.inside.history c.self.inside.broken in
-    let fit = free s c.args.offered.now (rw (← c.self.view_is) at c.requires.free) in
-    let called = rw (c.plan-in-Ok.ensures.value, c.in_ok-reserve-2.ensures.ok) at c.call_of-call.ensures.call in
-    let is = noted c.call_of-call.result c.self.inside.history c.reserve.new.self c.push.new.self
-    c.reserve.ensures.opening
-    c.reserve.ensures.calls c.push.ensures.opening c.push.ensures.calls in
-    rw (← c.self.view_is)
-    (accepted_hands g.D.Disk.is_honest g.D.Disk.state g.D.Disk.faults c.self.inside.journal c.append.new.journal
-    c.self.inside.ledger.contents _ _ c.self.inside.broken c.args.offered.now c.call_of-call.result
-    c.self.inside.history c.push.new.self _ _ c.self.invariant is
-    (omega (arith, c.reserve.ensures.room, c.push.ensures.room, c.self.invariant.room)) fit
-    (c.call_of-call.ensures.plan, c.call_of-call.ensures.piece) c.take.new.self.contents (held g c) called
-    c.in-Ok.ensures.journal)
+    grind (arith, common_steps)

@@ -1,19 +1,11 @@
-use Rattle.std.proofs.Common.{◌∙◌, [], refl, arith}
+use Rattle.std.proofs.lemmas.Grind.{common_steps}
+use Rattle.std.proofs.Common.{◌∙◌, arith}
 use Rattle.cut_wires.specs.Sending.{sending}
-use Rattle.cut_session.proofs.Turns.{rises_none, none_sent, goes_on, is_over, is_cut}
+use Rattle.cut_session.proofs.Turns.{goes_on, is_over, is_cut}
 use Rattle.cut_session.proofs.answer.Session.answer_all.Goals as goal
 
 pub loop-message-init : goal.loop-message-init
-loop-message-init g c = record {
-  replies = (
-    [],
-    (rises_none c.args.self.now.pass.now.view, refl),
-    omega arith,
-    none_sent (sending g.W.Wire.log c.args.line.now) c.args.line.now.small,
-  );
-  hall = refl;
-  pass = refl;
-}
+loop-message-init g c = grind (arith, common_steps)
 
 pub loop-message-preserved : goal.loop-message-preserved
 loop-message-preserved g c =

@@ -1,7 +1,5 @@
-use Rattle.std.proofs.Common.{◌∙◌, refl, sym, ap, arith}
+use Rattle.std.proofs.Common.{sym, arith}
 use Rattle.cut_wires.specs.Sending.{sending}
-use Rattle.cut_messages.specs.Reading.{Reading}
-use Rattle.cut_session.proofs.Turns.{rises_none}
 use Rattle.cut_session.proofs.Courses.{serves_first, serves_given, ends_between, ends_within, ends_unread}
 use Rattle.cut_session.proofs.answer.Session.serve.Goals as goal
 
@@ -27,37 +25,12 @@ returns-in-Err-finish-clause-ends g c =
 
 pub returns-in-Err-take_piece-clause-ends : goal.returns-in-Err-take_piece-clause-ends
 returns-in-Err-take_piece-clause-ends g c =
-    let log = g.W.Wire.log in
-    let given = serves_given c.loop.invariant.serving (sending log c.read.new.self) c.read.new.buffer c.in-Ok.count
-    c.in-Ok.ensures.reads (omega (arith, c.if-count-eq0.false)) in
-    (rw c.loop.invariant.hall at (c.in-Err-take_piece.ensures.goes c.args.self.now.pass.now.view
-    (sending log c.args.line.now) c.requires)) given
+    grind (arith, serves_given c.loop.invariant.serving (sending g.W.Wire.log c.read.new.self) c.read.new.buffer
+    c.in-Ok.count c.in-Ok.ensures.reads)
 
 pub loop-preserved : goal.loop-preserved
 loop-preserved g c =
-    let log = g.W.Wire.log in
-    let given = serves_given c.loop.invariant.serving (sending log c.read.new.self) c.read.new.buffer c.in-Ok.count
-    c.in-Ok.ensures.reads (omega (arith, c.if-count-eq0.false)) in
-    record {
-      next = tt;
-      finite = tt;
-      serving = (rw c.loop.invariant.hall at (c.in-Ok-take_piece.ensures.goes c.args.self.now.pass.now.view
-          (sending log c.args.line.now) c.requires)) given;
-      few = c.in-Ok-take_piece.ensures.few;
-      hall = c.take_piece.ensures.stays.0 ∙ c.loop.invariant.hall;
-      pass = c.take_piece.ensures.stays.1 ∙ c.loop.invariant.pass;
-    }
+    grind (arith, serves_given)
 
 pub loop-init : goal.loop-init
-loop-init g c = record {
-  next = tt;
-  finite = tt;
-  serving = serves_first c.args.self.now.hall.now c.args.self.now.pass.now.view c.requests-reader.result
-      (sending g.W.Wire.log c.args.line.now) c.requests-reader.ensures.nothing
-      (ap (λ (r : Reading). r.fault) c.requests-reader.ensures.value)
-      (ap (λ (r : Reading). r.side) c.requests-reader.ensures.value) (rises_none c.args.self.now.pass.now.view)
-      c.requires;
-  few = omega arith;
-  hall = refl;
-  pass = refl;
-}
+loop-init g c = grind (arith, serves_first)
