@@ -1,7 +1,6 @@
 -- What a count and a read do to what was seen of each study.
 use Rattle.std.proofs.Common.{◌≡◌, ℕ, ◌≤◌, arith}
 use Rattle.std.proofs.lemmas.List.Sums.{sum_by_push}
-use Rattle.cut_board.specs.declared.view.Entry.TheVariants as entry
 use Rattle.cut_board.specs.declared.view.View.{View}
 use Rattle.cut_board.specs.Laws.{CountsAreSeen, ReadsAreSeen}
 use Rattle.cut_board.specs.Views.{seen_in, read}

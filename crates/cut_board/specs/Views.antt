@@ -1,5 +1,5 @@
 -- What a seat has done: the numbers that it drew, what it counted, and the counts that it read.
-use Rattle.std.specs.Prelude.{ℕ, ◌+◌, ◌==◌, List, [], ◌∷◌, ◌++◌, flat_map, max, sum_by, if◌then◌else◌}
+use Rattle.std.specs.Prelude.{ℕ, ◌==◌, List, [], ◌∷◌, ◌++◌, flat_map, max, sum_by, if◌then◌else◌}
 use Rattle.cut_board.specs.declared.view.Entry.{Entry}
 use Rattle.cut_board.specs.declared.view.Entry.TheVariants as entry
 use Rattle.cut_board.specs.declared.view.View.{View}

@@ -2,17 +2,14 @@
 use Rattle.std.proofs.Common.{◌≡◌, ◌∙◌, ◌++◌, ◌∷◌, ◌≤◌, ℕ, Bool, true, false, List, [], Option, Some, None}
 use Rattle.std.proofs.Common.{IfSome, IsSome, is_some, refl, sym, ap}
 use Rattle.cut_faults.specs.Failures.{one_more}
-use Rattle.cut_faults.specs.declared.code.FaultCode.TheVariants as code
 use Rattle.cut_plan.specs.Values.{Values}
 use Rattle.cut_outcome.specs.Computed.{Computed}
 use Rattle.cut_outcome.specs.declared.piece.Piece.{Piece}
 use Rattle.cut_disks.specs.State.{DiskState}
 use Rattle.cut_ledger.specs.declared.slip.Slip.{Slip}
 use Rattle.cut_ledger.specs.declared.event.Event.TheVariants as event
-use Rattle.cut_ledger.specs.declared.event.Reply as replies
-use Rattle.cut_ledger.specs.declared.event.Reply.TheVariants as reply
 use Rattle.cut_ledger.specs.Contents.{Contents, with_piece}
-use Rattle.cut_ledger.specs.Machine.{StudyState, after, slip_of, failed}
+use Rattle.cut_ledger.specs.Machine.{StudyState, after, slip_of}
 use Rattle.cut_ledger.specs.Refusals.{refusal_of}
 use Rattle.cut_ledger.specs.World.{HasTrueResult}
 use Rattle.cut_journal.specs.Journal.{JournalValue}

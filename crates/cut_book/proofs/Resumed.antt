@@ -1,7 +1,6 @@
 -- What a crash leaves of a disk of which nothing is asked.
 use Rattle.std.proofs.Common.{◌≡◌, ℕ, List, [], Option, Some, None, IfSome}
 use Rattle.std.proofs.Common.{unwrap_or, refl, arith}
-use Rattle.cut_faults.specs.declared.code.FaultCode.TheVariants as code
 use Rattle.cut_plan.specs.Values.{Values}
 use Rattle.cut_outcome.specs.Computed.{Computed}
 use Rattle.cut_disks.specs.State.{DiskState, IsImage, Throughout}

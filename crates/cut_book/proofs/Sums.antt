@@ -10,14 +10,12 @@ use Rattle.std.proofs.lemmas.List.Sums.{sum_by-append, count_by-le-length}
 use Rattle.cut_lists.proofs.Additions.{count_of_more}
 use Rattle.cut_lists.proofs.Ranges.{count_by_agree, none_passing}
 use Rattle.cut_faults.specs.declared.code.FaultCode.{FaultCode}
-use Rattle.cut_faults.specs.declared.code.FaultCode.TheVariants as code
 use Rattle.cut_plan.specs.Values.{Values}
 use Rattle.cut_plan.specs.Cells.{trial_count}
 use Rattle.cut_plan.specs.Plan.{IsPlan}
 use Rattle.cut_outcome.specs.declared.piece.Piece.{Piece}
 use Rattle.cut_outcome.specs.Computed.{Computed}
 use Rattle.cut_ledger.specs.declared.slip.Slip.{Slip}
-use Rattle.cut_ledger.specs.declared.offer_fault.OfferFault.TheVariants as ledger
 use Rattle.cut_ledger.specs.declared.event.Reply.TheVariants as reply
 use Rattle.cut_ledger.specs.Contents.{Contents, has, is_in, overlaps, with_piece}
 use Rattle.cut_ledger.specs.Laws.{SamePlansAreEqual}

@@ -6,7 +6,6 @@ use Rattle.cut_faults.specs.Failures.{one_more}
 use Rattle.cut_plan.specs.Values.{Values}
 use Rattle.cut_outcome.specs.Computed.{Computed}
 use Rattle.cut_ledger.specs.declared.slip.Slip.{Slip}
-use Rattle.cut_ledger.specs.declared.offer_fault.OfferFault.TheVariants as ledger
 use Rattle.cut_ledger.specs.Contents.{cell_done}
 use Rattle.cut_ledger.specs.Machine.{StudyState, opened, after, slip_of}
 use Rattle.cut_ledger.specs.Refusals.{is_same_plan}

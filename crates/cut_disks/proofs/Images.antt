@@ -1,5 +1,5 @@
 -- What reads give of a disk in memory is an image of it.
-use Rattle.std.proofs.Common.{◌≡◌, ◌<◌, ◌+◌, ◌-◌, inr, ℕ, false, Err, List, [], ◌∷◌}
+use Rattle.std.proofs.Common.{◌≡◌, ◌<◌, ◌+◌, inr, ℕ, false, Err, List, [], ◌∷◌}
 use Rattle.std.proofs.Common.{length, get_or, refl, arith, length-append, length-drop}
 use Rattle.std.specs.List.{fold}
 use Rattle.std.proofs.lemmas.List.{length-take, get_or_append_left, get_or-append_right, get_or-take, get_or-drop}

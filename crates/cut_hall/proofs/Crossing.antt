@@ -12,7 +12,6 @@ use Rattle.cut_plan.specs.contracts.plan.Plan as plan
 use Rattle.cut_rings.specs.contracts.rings.Rings as rings
 use Rattle.cut_ledger.specs.contracts.ledger.Ledger as ledger
 use Rattle.cut_journal.specs.contracts.journal.Journal as journal
-use Rattle.cut_board.specs.contracts.board.Board as board
 use Rattle.cut_board.proofs.board.Board.TheSendSync as board_crosses
 use Rattle.cut_journal.proofs.journal.Journal.TheSendSync as journal_crosses
 use Rattle.cut_hall.proofs.accounts.Accounts.TheSendSync as accounts_crosses

@@ -1,12 +1,6 @@
 -- A slot of a hall, and what one call of its book does to it.
 use Rattle.std.specs.Prelude.{ℕ}
 use Rattle.std.specs.Prelude.{Result, Ok, Err, ⊤}
-use Rattle.cut_faults.specs.declared.code.FaultCode.TheVariants as code
-use Rattle.cut_ledger.specs.declared.event.Event.TheVariants as event
-use Rattle.cut_ledger.specs.declared.event.Reply.TheVariants as reply
-use Rattle.cut_book.specs.declared.call.Answer.TheVariants as answer
-use Rattle.cut_book.specs.declared.call.Call.TheVariants as call
-use Rattle.cut_book.specs.declared.fault.BookFault.TheVariants as book
 use Rattle.cut_hall.specs.declared.line_fault.LineFault.{LineFault}
 use Rattle.cut_hall.specs.declared.line_fault.LineFault.TheVariants as line
 

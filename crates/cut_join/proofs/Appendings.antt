@@ -9,7 +9,6 @@ use Rattle.cut_plan.specs.Failing.{version_of}
 use Rattle.cut_disks.specs.State.{DiskState}
 use Rattle.cut_ledger.specs.declared.slip.Slip.{Slip}
 use Rattle.cut_ledger.specs.Slips.{AreGood}
-use Rattle.cut_journal.specs.declared.fault.JournalFault.TheVariants as journal
 use Rattle.cut_journal.specs.File.{HoldsAllTotals}
 use Rattle.cut_journal.specs.Journal.{JournalValue, AppendsEach, IsFileOf}
 use Rattle.cut_journal.specs.Journal.{kept_slips, taken}

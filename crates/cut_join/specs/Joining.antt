@@ -5,7 +5,6 @@ use Rattle.cut_faults.specs.Failures.{one_more}
 use Rattle.cut_plan.specs.Values.{Values}
 use Rattle.cut_ledger.specs.declared.slip.Slip.{Slip}
 use Rattle.cut_ledger.specs.Slips.{AreGood, IsFirstBad}
-use Rattle.cut_journal.specs.declared.fault.JournalFault.TheVariants as journal
 use Rattle.cut_journal.specs.Journal.{JournalValue}
 use Rattle.cut_join.specs.declared.fault.JoinFault.{JoinFault}
 use Rattle.cut_join.specs.declared.fault.JoinFault.TheVariants.{Memory, BadSlip, OtherPlan, Broken, Disk}

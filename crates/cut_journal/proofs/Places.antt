@@ -1,5 +1,5 @@
 -- What is read from a slip's gate on, by the places of the gates.
-use Rattle.std.proofs.Common.{◌≡◌, ◌∙◌, ◌≤◌, ◌<◌, ◌+◌, ◌-◌, ◌==◌, ◌&&◌, ◌⊎◌, inl, inr, ℕ, zero, suc, Bool, true, false}
+use Rattle.std.proofs.Common.{◌≡◌, ◌∙◌, ◌≤◌, ◌<◌, ◌+◌, ◌==◌, ◌&&◌, ◌⊎◌, inl, inr, ℕ, zero, suc, Bool, true, false}
 use Rattle.std.proofs.Common.{not, cond, List, [], ◌∷◌, Result, Ok, Err, length, map, drop, slice_index}
 use Rattle.std.proofs.Common.{nat_lt, refl, sym, ap, subst, arith, add-zero}
 use Rattle.std.specs.List.{range_with_len}

@@ -1,5 +1,5 @@
 -- The roles and the alerts of a trial in which one process crashes and nothing else fails.
-use Rattle.std.proofs.Common.{◌≡◌, ◌⊎◌, ◌≢◌, ℕ, ◌+◌, ◌-◌, ◌%◌, ◌<◌, ◌≤◌, Bool, true, false, not, List, length, map}
+use Rattle.std.proofs.Common.{◌≡◌, ◌⊎◌, ◌≢◌, ℕ, ◌+◌, ◌%◌, ◌<◌, ◌≤◌, Bool, true, false, not, List, length, map}
 use Rattle.std.proofs.Common.{get_or, sym, ap, ◌∙◌, arith, zero-add}
 use Rattle.cut_laws.proofs.Words.{Assignment, IsPlan, Layout, Source, Values, alert_list, alerts_about}
 use Rattle.cut_laws.proofs.Words.{deaf_of, drawn, has_crashed, is_target}

@@ -9,7 +9,6 @@ use Rattle.cut_wires.specs.Log.{WireLog}
 use Rattle.cut_ledger.specs.declared.slip.Slip.{Slip}
 use Rattle.cut_ledger.specs.Slips.{AreGood, IsFirstBad}
 use Rattle.cut_journal.specs.declared.fault.JournalFault.{JournalFault}
-use Rattle.cut_journal.specs.declared.fault.JournalFault.TheVariants as journal
 use Rattle.cut_journal.specs.Opening.{IsOpeningFaultOf, MayNotMake}
 use Rattle.cut_status.specs.Status.{held_trials, part_text}
 use Rattle.cut_join.specs.Joined.{joined}

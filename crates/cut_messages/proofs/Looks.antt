@@ -1,5 +1,5 @@
 -- What some bytes begin with, as it is found test by test.
-use Rattle.std.proofs.Common.{◌≡◌, ◌+◌, ◌-◌, ◌<◌, ◌≤◌, ◌++◌, ℕ, List, [], ◌∷◌, length, take, drop}
+use Rattle.std.proofs.Common.{◌≡◌, ◌-◌, ◌<◌, ◌≤◌, ◌++◌, ℕ, List, [], ◌∷◌, length, take, drop}
 use Rattle.std.proofs.Common.{get_or, Some, None, sym, ap, arith, length-take-le}
 use Rattle.std.proofs.Common.{take-append-drop}
 use Rattle.std.specs.Int.{w32, from_be_bytes}

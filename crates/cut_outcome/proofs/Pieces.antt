@@ -1,5 +1,5 @@
 -- What is known of a piece of a plan: it ends below 2^32, and its trials are of one cell.
-use Rattle.std.proofs.Common.{◌≡◌, ℕ, zero, suc, ◌+◌, ◌-◌, ◌/◌, ◌<◌, ◌≤◌, ◌^◌, length, arith}
+use Rattle.std.proofs.Common.{◌≡◌, ℕ, zero, suc, ◌+◌, ◌/◌, ◌<◌, ◌≤◌, ◌^◌, length, arith}
 use Rattle.cut_outcome.proofs.Words.{IsTrue, cells_of, trial_count, IsPlan, Values, Piece, cell_at, is_piece}
 use Rattle.std.proofs.Math.Nat.{div-mul-le_self, div-zero}
 use Rattle.std.proofs.lemmas.Nat.{le-div, mul-le}

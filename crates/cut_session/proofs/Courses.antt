@@ -1,5 +1,5 @@
 -- Sessions, read by read.
-use Rattle.std.proofs.Common.{◌≡◌, ◌∙◌, ◌+◌, ◌-◌, ◌*◌, ◌<◌, ◌≤◌, ◌++◌, ℕ, false, List, [], ◌∷◌, length, take}
+use Rattle.std.proofs.Common.{◌≡◌, ◌∙◌, ◌+◌, ◌*◌, ◌<◌, ◌≤◌, ◌++◌, ℕ, false, List, [], ◌∷◌, length, take}
 use Rattle.std.proofs.Common.{nat_eq, None, Ok, Err, inr, refl, sym, ap, arith, append_assoc, append-nil, length-append}
 use Rattle.std.proofs.Common.{length-take-le}
 use Rattle.std.specs.Borrow.{GName}

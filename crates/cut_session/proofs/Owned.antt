@@ -15,7 +15,6 @@ use Rattle.cut_ledger.specs.Laws.{TrueSlipsSumAll}
 use Rattle.cut_ledger.specs.World.{AreTrue}
 use Rattle.cut_book.specs.Faults.{code_of_submit}
 use Rattle.cut_hall.specs.Lines.{full_line}
-use Rattle.cut_messages.specs.declared.kind.Kind.TheVariants as kind
 use Rattle.cut_session.specs.Answering.{AnswersText, AnswersRead, IsSubmissionAnswered, IsTable, IsBrokenOff, row_frame}
 use Rattle.cut_session.specs.Answering.{rows_to}
 use Rattle.cut_session.specs.Own.{own_frame, own_rows_to, IsOwnTable, IsOwnPrefix, IsOwnReply}

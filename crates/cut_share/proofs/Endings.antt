@@ -1,5 +1,5 @@
 -- How a run of a share ends, by how its batches do.
-use Rattle.std.proofs.Common.{◌≡◌, ◌∙◌, ◌≤◌, ◌<◌, ◌+◌, ◌++◌, ◌==◌, ◌&&◌, ℕ, Bool, true, false, not}
+use Rattle.std.proofs.Common.{◌≡◌, ◌∙◌, ◌≤◌, ◌<◌, ◌++◌, ◌==◌, ◌&&◌, ℕ, Bool, true, false, not}
 use Rattle.std.proofs.Common.{cond, List, [], ◌∷◌, Ok, Err, filter, length, nat_lt, refl, sym, ap, subst, arith}
 use Rattle.std.specs.Prelude.{IsTrue, All, Result, count_by}
 use Rattle.std.specs.List.{range_with_len}

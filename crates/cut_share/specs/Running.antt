@@ -8,7 +8,6 @@ use Rattle.cut_ledger.specs.declared.slip.Slip.{Slip}
 use Rattle.cut_ledger.specs.Contents.{is_in_base}
 use Rattle.cut_ledger.specs.Slips.{AreGood, IsFirstBad}
 use Rattle.cut_ledger.specs.World.{times_in, pieces_of_slips}
-use Rattle.cut_journal.specs.declared.fault.JournalFault.TheVariants as journal
 use Rattle.cut_journal.specs.Journal.{JournalValue}
 use Rattle.cut_share.specs.declared.fault.ShareFault.{ShareFault}
 use Rattle.cut_share.specs.declared.fault.ShareFault.TheVariants.{Memory, OtherPlan, BadSlip, WorkMemory, Broken, Disk}

@@ -6,8 +6,6 @@ use Rattle.cut_faults.specs.declared.code.FaultCode.TheVariants as code
 use Rattle.cut_faults.specs.Codes.{code_text, text_carrying}
 use Rattle.cut_book.specs.declared.fault.BookFault.{BookFault}
 use Rattle.cut_book.specs.declared.fault.BookFault.TheVariants as book
-use Rattle.cut_hall.specs.declared.line_fault.LineFault.TheVariants as line
-use Rattle.cut_hall.specs.declared.not_closed.NotClosed.TheVariants as closing
 use Rattle.cut_study.specs.declared.run_fault.RunFault.{RunFault}
 use Rattle.cut_study.specs.declared.run_fault.RunFault.TheVariants as run
 

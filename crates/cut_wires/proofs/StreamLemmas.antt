@@ -1,5 +1,5 @@
 -- What passes over a wire of a reader and a writer.
-use Rattle.std.proofs.Common.{◌≡◌, ◌-◌, ℕ, List, Option, Some, None, length}
+use Rattle.std.proofs.Common.{◌≡◌, ℕ, List, Option, Some, None, length}
 use Rattle.std.proofs.Common.{drop, refl, sym, ap, ◌∙◌, subst, arith, length-append}
 use Rattle.std.specs.Prelude.{IsSome}
 use Rattle.std.specs.Io.KnownBytes.{Appends, Consumes}

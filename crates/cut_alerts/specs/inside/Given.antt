@@ -1,7 +1,6 @@
 -- What only the crate's own clauses and proofs cite, beside specs/Given.antt.
 use Rattle.std.specs.Prelude.{ℕ, ◌==◌, ◌&&◌, Bool, not, List, nat_lt, nat_le}
 use Rattle.std.specs.List.{list_all, range_with_len}
-use Rattle.cut_plan.specs.declared.faults.Faults.TheVariants as fault
 use Rattle.cut_alerts.specs.Given.{times_named}
 
 abbrev pub are_below : ℕ → List ℕ → Bool

@@ -1,6 +1,5 @@
 -- What only the crate's own clauses and proofs cite, beside specs/Views.antt.
 use Rattle.std.specs.Prelude.{◌+◌, ◌-◌, List, ◌++◌, length, flat_map}
-use Rattle.cut_board.specs.declared.view.Entry.TheVariants as entry
 use Rattle.cut_board.specs.declared.view.View.{View}
 
 -- one part of it was given to a new seat

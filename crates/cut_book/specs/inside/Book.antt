@@ -1,5 +1,5 @@
 -- What only the crate's own clauses and proofs cite, beside specs/Book.antt.
-use Rattle.std.specs.Prelude.{◌≡◌, ◌++◌, ◌+◌, ◌≤◌, ℕ, Bool, false, not, List, length, count_by}
+use Rattle.std.specs.Prelude.{◌≡◌, ◌++◌, ◌≤◌, ℕ, Bool, false, not, List, length, count_by}
 use Rattle.std.specs.Prelude.{Option, Some, None, IsTrue, IfSome, All, is_some, option_map, if◌then◌else◌, Result, Ok}
 use Rattle.std.specs.Prelude.{Err}
 use Rattle.cut_faults.specs.Failures.{one_more}
@@ -16,7 +16,6 @@ use Rattle.cut_disks.specs.State.{DiskState}
 use Rattle.cut_journal.specs.Journal.{JournalValue}
 use Rattle.cut_book.specs.declared.call.Answer.{Answer}
 use Rattle.cut_book.specs.declared.call.Answer.TheVariants.{Accepted, Stranger, Overlap, DiskFails, Broken}
-use Rattle.cut_book.specs.declared.fault.BookFault.TheVariants as fault
 use Rattle.cut_book.specs.History.{HistoryValue, opened_by, LeadsTo, accepted_slips}
 use Rattle.cut_book.specs.Book.{BookValue, failures_of, FollowsState}
 

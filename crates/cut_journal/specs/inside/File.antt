@@ -1,5 +1,5 @@
 -- What only the crate's own clauses and proofs cite, beside specs/File.antt.
-use Rattle.std.specs.Prelude.{ℕ, ◌+◌, ◌++◌, List, [], ◌∷◌, take, drop, Bool, bytes_eq}
+use Rattle.std.specs.Prelude.{ℕ, ◌++◌, List, [], ◌∷◌, take, drop, Bool, bytes_eq}
 use Rattle.sha2.specs.Sha256.{sha256}
 use Rattle.cut_plan.specs.Failing.{version_of}
 use Rattle.cut_plan.specs.Values.{Values}

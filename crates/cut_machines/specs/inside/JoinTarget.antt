@@ -3,7 +3,6 @@ use Rattle.std.specs.Prelude.{◌≡◌, List, None, ⊤}
 use Rattle.cut_plan.specs.Values.{Values}
 use Rattle.cut_disks.specs.State.{DiskState, Throughout}
 use Rattle.cut_ledger.specs.declared.slip.Slip.{Slip}
-use Rattle.cut_journal.specs.declared.fault.JournalFault.TheVariants.{Disk}
 use Rattle.cut_journal.specs.Journal.{JournalValue}
 use Rattle.cut_join.specs.Joined.{joined}
 use Rattle.cut_migration.specs.declared.fault.MigrateFault.TheVariants as migration

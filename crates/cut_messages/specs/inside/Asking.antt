@@ -2,8 +2,6 @@
 use Rattle.std.specs.Prelude.{◌≡◌, ℕ, List}
 use Rattle.std.specs.Prelude.{Result, Ok, Err, ⊤}
 use Rattle.cut_wires.specs.Log.{WireLog, wrote}
-use Rattle.cut_messages.specs.declared.kind.Kind.TheVariants as kind
-use Rattle.cut_messages.specs.declared.fault.AskFault.TheVariants as ask
 use Rattle.cut_messages.specs.Asking.{request, IsCutOff}
 
 -- the request was sent, or a write of it failed

@@ -2,7 +2,6 @@
 use Rattle.std.specs.Prelude.{ℕ, Bool, false, cond, not, nat_lt}
 use Rattle.std.specs.Prelude.{List, slice_index, slice_index_or}
 use Rattle.std.specs.List.{range_with_len, list_any}
-use Rattle.cut_receivers.specs.declared.finding.Findings as declared
 
 -- whether some node has ended by a time and has no flag, or has a flag and has not ended
 abbrev pub is_other : ℕ → List ℕ → List Bool → ℕ → Bool

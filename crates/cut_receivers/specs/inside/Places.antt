@@ -1,7 +1,6 @@
 -- What only the crate's own clauses and proofs cite, beside specs/Places.antt.
 use Rattle.std.specs.Prelude.{ℕ, List, [], slice_index, slice_index_or}
 use Rattle.cut_nodes.specs.declared.slots.Slot.{Slot}
-use Rattle.cut_receivers.specs.declared.places.Places as declared
 
 -- the image that stands in a slot in lane i
 abbrev pub image_in : List (List (List ℕ)) → ℕ → Slot → ℕ

@@ -8,7 +8,7 @@ use Rattle.cut_ledger.specs.Slips.{IsFirstBad}
 use Rattle.cut_journal.specs.declared.fault.JournalFault.{JournalFault}
 use Rattle.cut_journal.specs.declared.fault.JournalFault.TheVariants as journal
 use Rattle.cut_status.specs.declared.fault.StatusFault.{StatusFault}
-use Rattle.cut_status.specs.declared.fault.StatusFault.TheVariants.{Memory, Disk, NoStudy, Damaged, BadSlip}
+use Rattle.cut_status.specs.declared.fault.StatusFault.TheVariants.{Memory, NoStudy, Damaged, BadSlip}
 
 -- why no plan is found by its text: memory ran out, or it is the canonical text of no accepted plan
 abbrev pub IsOfNoPlan : List ℕ → StatusFault → Type 0

@@ -1,7 +1,5 @@
 -- What only the crate's own clauses and proofs cite, beside specs/Faults.antt.
 use Rattle.std.specs.Prelude.{Bool, true, false, Option, unwrap_or}
-use Rattle.cut_faults.specs.declared.code.FaultCode.TheVariants as code
-use Rattle.cut_book.specs.declared.fault.BookFault.TheVariants as book
 use Rattle.cut_hall.specs.declared.line_fault.LineFault.{LineFault}
 use Rattle.cut_hall.specs.declared.line_fault.LineFault.TheVariants as line
 use Rattle.cut_hall.specs.declared.not_closed.NotClosed.{NotClosed}

@@ -1,4 +1,4 @@
-use Rattle.std.proofs.Common.{◌-◌, arith}
+use Rattle.std.proofs.Common.{arith}
 use Rattle.cut_ranks.proofs.Closings.{begun_raised}
 use Rattle.cut_lanes.proofs.Choices.{sum_below}
 use Rattle.cut_lanes.proofs.closing.closing_time.Goals as goal

@@ -1,5 +1,5 @@
 -- A slip that is good is one more of what is held; the first that is not is reported.
-use Rattle.std.proofs.Common.{ℕ, ◌-◌, ◌<◌, List, length, take, get_or, refl, arith}
+use Rattle.std.proofs.Common.{ℕ, ◌<◌, List, length, take, get_or, refl, arith}
 use Rattle.std.proofs.lemmas.List.{get_or_default, take_more}
 use Rattle.cut_ledger.proofs.Words.{Slip, each_number}
 use Rattle.cut_ledger.proofs.SlipLemmas.{apart_is, good_more, over_more}

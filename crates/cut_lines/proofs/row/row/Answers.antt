@@ -1,5 +1,4 @@
 use Rattle.std.proofs.Common.{arith}
-use Rattle.csv.specs.declared.writer.QuoteStyle.TheVariants as style
 use Rattle.cut_lines.proofs.Texts.{numbers_line, short_line}
 use Rattle.cut_lines.proofs.row.row.Goals as goal
 

@@ -1,5 +1,4 @@
 use Rattle.std.proofs.Common.{arith}
-use Rattle.cut_fields.specs.declared.field.Field.TheVariants as field
 use Rattle.cut_plan.specs.Accepted.{limit_check}
 use Rattle.cut_plan.proofs.PlanFacts.{few_f, few_h, few_k, few_l, few_liars, few_links}
 use Rattle.cut_plan.proofs.plan_lists.check_together.Goals as goal

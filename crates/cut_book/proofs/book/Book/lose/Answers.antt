@@ -1,9 +1,8 @@
-use Rattle.std.proofs.Common.{◌≡◌, ◌∙◌, ◌+◌, Bool, true, false, not, cond, count_by, length, set, get_or}
+use Rattle.std.proofs.Common.{◌≡◌, ◌∙◌, ◌+◌, Bool, true, false, not, cond, count_by, length, get_or}
 use Rattle.std.proofs.Common.{refl, sym, ap, arith}
 use Rattle.std.proofs.lemmas.List.{length-set}
 use Rattle.cut_faults.specs.declared.code.FaultCode.TheVariants as code
 use Rattle.cut_ledger.specs.declared.event.Event.TheVariants as event
-use Rattle.cut_ledger.specs.declared.event.Reply as replies
 use Rattle.cut_ledger.specs.declared.event.Reply.TheVariants as reply
 use Rattle.cut_ledger.specs.Machine.{StudyState, after}
 use Rattle.cut_book.specs.declared.call.Call.TheVariants.{Lose}

@@ -1,4 +1,4 @@
-use Rattle.std.proofs.Common.{◌-◌, arith}
+use Rattle.std.proofs.Common.{arith}
 use Rattle.cut_journal.proofs.Prefixes.{header_made, digest_made, prefix_made}
 use Rattle.cut_journal.proofs.format.FileHeader.of.Goals as goal
 

@@ -1,4 +1,4 @@
-use Rattle.std.proofs.Common.{◌-◌, arith}
+use Rattle.std.proofs.Common.{arith}
 use Rattle.cut_journal.proofs.SlipBytes.{slip_made, numbers_shown}
 use Rattle.cut_journal.proofs.format.FileHeader.slip_bytes.Goals as goal
 

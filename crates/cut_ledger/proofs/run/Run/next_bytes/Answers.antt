@@ -1,5 +1,5 @@
 use Rattle.std.proofs.lemmas.Grind.{common_steps}
-use Rattle.std.proofs.Common.{◌-◌, arith}
+use Rattle.std.proofs.Common.{arith}
 use Rattle.cut_ledger.proofs.run.Run.next_bytes.Goals as goal
 
 pub returns-clause-bytes : goal.returns-clause-bytes

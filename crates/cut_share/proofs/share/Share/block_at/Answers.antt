@@ -1,4 +1,4 @@
-use Rattle.std.proofs.Common.{◌-◌, arith}
+use Rattle.std.proofs.Common.{arith}
 use Rattle.cut_share.proofs.PieceFacts.{alike_in_block}
 use Rattle.cut_share.proofs.share.Share.block_at.Goals as goal
 

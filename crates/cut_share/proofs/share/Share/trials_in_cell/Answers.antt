@@ -1,4 +1,4 @@
-use Rattle.std.proofs.Common.{arith, ◌-◌}
+use Rattle.std.proofs.Common.{arith}
 use Rattle.cut_share.proofs.Counting.{block_counted, count_at_most}
 use Rattle.cut_share.proofs.share.Share.trials_in_cell.Goals as goal
 

@@ -1,4 +1,4 @@
-use Rattle.std.proofs.Common.{◌∙◌, ◌-◌, not, ap, arith}
+use Rattle.std.proofs.Common.{◌∙◌, not, ap, arith}
 use Rattle.range_set.specs.Held.{has}
 use Rattle.range_set.proofs.SpanLemmas.{gaps_step, spans_last}
 use Rattle.range_set.proofs.range_set.RangeSet.gaps_into.Goals as goal

@@ -1,4 +1,4 @@
-use Rattle.std.proofs.Common.{◌-◌, arith}
+use Rattle.std.proofs.Common.{arith}
 use Rattle.std.proofs.lemmas.List.{get_or_read}
 use Rattle.range_set.proofs.SetLemmas.{are_in, others_stay, span_put}
 use Rattle.range_set.proofs.range_set.RangeSet.insert.Goals as goal

@@ -4,7 +4,7 @@ use Rattle.range_set.specs.inside.Blocks.{Blocks}
 use Rattle.range_set.specs.inside.Edges.{IsRun}
 use Rattle.range_set.specs.Held.{Held, has}
 use Rattle.range_set.specs.inside.SetInside.{held_in, no_blocks}
-use Rattle.range_set.proofs.SetLemmas.{IsNumber, block_of, length_is, number, run_in}
+use Rattle.range_set.proofs.SetLemmas.{IsNumber, block_of, length_is, run_in}
 use Rattle.range_set.proofs.range_set.RangeSet.run_at.Goals as goal
 
 -- the number is one of the set's
