@@ -1,5 +1,5 @@
 ghost use Rattle.std.specs.Prelude.{◌≡◌, ℕ, [], codes, map, IfOk, IfErr, IfSome, IfNone};
-ghost use Rattle.clap.specs.Words.{fault_of, found_of, rows_of, subcommand_rows_of};
+ghost use Rattle.clap.specs.Words.{app_of, fault_of, found_of, rows_of, subcommand_rows_of};
 ghost use Rattle.cut_options.specs.Options.{program_app};
 ghost use Rattle.cut_command_line.specs.Line.{EndsLine, GivesFlag, GivesNumber, IsSizedJob};
 ghost use Rattle.cut_command_line.specs.inside.Line.{GivesJob, IsJobOf};
@@ -107,16 +107,31 @@ pub fn parse_line<'a, S: AsStr>(alloc: Global, words: &'a [S]) -> Result<Job<'a>
     ensures faultless { IfOk result (λ _. fault_of program_app (map S.text words.now) ≡ []) }
     ensures err { IfErr result (λ e. EndsLine (map S.text words.now) e.status) }
 {
-    let Ok(mut command) = program_commands(alloc) else {
-        return Err(line_fault(alloc, ErrorKind::OutOfMemory, None));
-    };
+    match program_commands(alloc) {
+        Ok(mut command) => job_by(alloc, &mut command, words),
+        Err(_) => Err(line_fault(alloc, ErrorKind::OutOfMemory, None)),
+    }
+}
+
+/// Reads a command line by the program's commands.
+fn job_by<'a, S: AsStr>(
+    alloc: Global,
+    command: &mut Command<'a>,
+    words: &'a [S],
+) -> Result<Job<'a>, NoJob>
+    requires { app_of command.old ≡ program_app }
+    ensures ok { IfOk result (λ job. NamesJob (map S.text words.now) job) }
+    ensures sized { IfOk result (λ job. IsSizedJob job) }
+    ensures faultless { IfOk result (λ _. fault_of program_app (map S.text words.now) ≡ []) }
+    ensures err { IfErr result (λ e. EndsLine (map S.text words.now) e.status) }
+{
     let matches = match command.try_get_matches_from_mut(words) {
         Ok(matches) => matches,
         Err(error) => return Err(line_fault(alloc, error.kind(), Some(&error))),
     };
     match job_of(alloc, &matches) {
         Ok(Some(job)) => Ok(job),
-        Ok(None) => Err(wrong_value(alloc, &mut command)),
+        Ok(None) => Err(wrong_value(alloc, command)),
         Err(_) => Err(line_fault(alloc, ErrorKind::OutOfMemory, None)),
     }
 }
@@ -140,17 +155,28 @@ fn job_of<'a>(alloc: Global, matches: &ArgMatches<'a>) -> Result<Option<Job<'a>>
         return Ok(None);
     };
     match name {
-        "run" => Ok(run_job(given)),
-        "check" => Ok(Some(Job::Check)),
-        "explain" => Ok(Some(Job::Explain)),
-        "canonical" => Ok(Some(Job::Canonical)),
-        "status" => Ok(status_job(given)),
-        "serve" => Ok(serve_job(given)),
-        "ask" => Ok(ask_job(given)),
-        "migrate" => Ok(migrate_job(given)),
-        "share" => Ok(share_job(given)),
         "join" => join_job(alloc, given),
-        _ => Ok(None),
+        _ => Ok(named_job(name, given)),
+    }
+}
+
+/// The job of a command other than `join`, by its name, if there is one.
+fn named_job<'a>(name: &str, given: &ArgMatches<'a>) -> Option<Job<'a>>
+    requires { name.now ≡ codes "join" → ⊥ }
+    ensures gives { GivesJob name.now (rows_of (found_of given.now)) result }
+    ensures sized { IfSome result (λ job. IsSizedJob job) }
+{
+    match name {
+        "run" => run_job(given),
+        "check" => Some(Job::Check),
+        "explain" => Some(Job::Explain),
+        "canonical" => Some(Job::Canonical),
+        "status" => status_job(given),
+        "serve" => serve_job(given),
+        "ask" => ask_job(given),
+        "migrate" => migrate_job(given),
+        "share" => share_job(given),
+        _ => None,
     }
 }
 

@@ -3,19 +3,73 @@
 ghost use Rattle.std.specs.Prelude.{◌≡◌, false};
 ghost use Rattle.clap.specs.Words.{rule_of};
 ghost use Rattle.cut_options.specs.Options.{files_rule, flag_rule, option_rule, word_rule};
-ghost use Rattle.cut_options.specs.inside.Options.{count_rule, piece_rule, workers_rule};
+ghost use Rattle.cut_options.specs.inside.Options.{argument_rule, count_rule, piece_rule, workers_rule};
 
 use crate::limits::MOST_CHECKPOINTS;
 use clap::{Arg, ArgAction};
 use std::alloc::Global;
 
+/// An argument of a command.
+#[derive(Clone, Copy)]
+pub(crate) enum Argument<'a> {
+    /// A word that has to be given.
+    Word {
+        name: &'a str,
+        value_name: &'a str,
+        help: &'a str,
+    },
+    /// The words that name the files of checkpoints.
+    Files,
+    /// An option with a value.
+    Value {
+        name: &'a str,
+        value_name: &'a str,
+        help: &'a str,
+    },
+    /// An option that says how many of something a server has.
+    Count {
+        name: &'a str,
+        help: &'a str,
+    },
+    /// The option that says how many trials are run as one piece.
+    Piece,
+    /// The option that says how many threads work on a study.
+    Workers,
+    /// A flag.
+    Flag {
+        name: &'a str,
+        help: &'a str,
+    },
+}
+
+impl<'a> Argument<'a> {
+    /// The argument, as clap is given it.
+    pub(crate) fn in_clap(&self, alloc: Global) -> Arg<'a>
+        ensures rule { rule_of result ≡ argument_rule self.entry.now }
+        ensures local { result.global ≡ false }
+    {
+        match *self {
+            Argument::Word {
+                name,
+                value_name,
+                help,
+            } => needed_word(alloc, name, value_name, help),
+            Argument::Files => files_word(alloc),
+            Argument::Value {
+                name,
+                value_name,
+                help,
+            } => value_option(alloc, name, value_name, help),
+            Argument::Count { name, help } => count_option(alloc, name, help),
+            Argument::Piece => piece_option(alloc),
+            Argument::Workers => workers_option(alloc),
+            Argument::Flag { name, help } => flag(alloc, name, help),
+        }
+    }
+}
+
 /// A word that has to be given.
-pub(crate) fn needed_word<'a>(
-    alloc: Global,
-    name: &'a str,
-    value_name: &'a str,
-    help: &'a str,
-) -> Arg<'a>
+fn needed_word<'a>(alloc: Global, name: &'a str, value_name: &'a str, help: &'a str) -> Arg<'a>
     ensures rule { rule_of result ≡ word_rule name.entry.now }
     ensures local { result.global ≡ false }
 {
@@ -26,12 +80,7 @@ pub(crate) fn needed_word<'a>(
 }
 
 /// An option with a value.
-pub(crate) fn value_option<'a>(
-    alloc: Global,
-    name: &'a str,
-    value_name: &'a str,
-    help: &'a str,
-) -> Arg<'a>
+fn value_option<'a>(alloc: Global, name: &'a str, value_name: &'a str, help: &'a str) -> Arg<'a>
     ensures rule { rule_of result ≡ option_rule name.entry.now }
     ensures local { result.global ≡ false }
 {
@@ -42,7 +91,7 @@ pub(crate) fn value_option<'a>(
 }
 
 /// A flag.
-pub(crate) fn flag<'a>(alloc: Global, name: &'a str, help: &'a str) -> Arg<'a>
+fn flag<'a>(alloc: Global, name: &'a str, help: &'a str) -> Arg<'a>
     ensures rule { rule_of result ≡ flag_rule name.entry.now }
     ensures local { result.global ≡ false }
 {
@@ -53,7 +102,7 @@ pub(crate) fn flag<'a>(alloc: Global, name: &'a str, help: &'a str) -> Arg<'a>
 }
 
 /// An option that says how many of something a server has.
-pub(crate) fn count_option<'a>(alloc: Global, name: &'a str, help: &'a str) -> Arg<'a>
+fn count_option<'a>(alloc: Global, name: &'a str, help: &'a str) -> Arg<'a>
     ensures rule { rule_of result ≡ count_rule name.entry.now }
     ensures local { result.global ≡ false }
 {
@@ -66,7 +115,7 @@ pub(crate) fn count_option<'a>(alloc: Global, name: &'a str, help: &'a str) -> A
 }
 
 /// The option that says how many trials are run as one piece.
-pub(crate) fn piece_option<'a>(alloc: Global) -> Arg<'a>
+fn piece_option<'a>(alloc: Global) -> Arg<'a>
     ensures rule { rule_of result ≡ piece_rule }
     ensures local { result.global ≡ false }
 {
@@ -79,7 +128,7 @@ pub(crate) fn piece_option<'a>(alloc: Global) -> Arg<'a>
 }
 
 /// The option that says how many threads work on a study.
-pub(crate) fn workers_option<'a>(alloc: Global) -> Arg<'a>
+fn workers_option<'a>(alloc: Global) -> Arg<'a>
     ensures rule { rule_of result ≡ workers_rule }
     ensures local { result.global ≡ false }
 {
@@ -92,7 +141,7 @@ pub(crate) fn workers_option<'a>(alloc: Global) -> Arg<'a>
 }
 
 /// The words that name the files of checkpoints.
-pub(crate) fn files_word<'a>(alloc: Global) -> Arg<'a>
+fn files_word<'a>(alloc: Global) -> Arg<'a>
     ensures rule { rule_of result ≡ files_rule }
     ensures local { result.global ≡ false }
 {

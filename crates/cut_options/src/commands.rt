@@ -1,14 +1,11 @@
 //! The program's commands.
 
-ghost use Rattle.std.specs.Prelude.{◌≡◌, IfOk};
-ghost use Rattle.clap.specs.Words.{app_of, with_subcommand};
+ghost use Rattle.std.specs.Prelude.{◌≡◌, IfOk, fold};
+ghost use Rattle.clap.specs.Words.{app_of};
 ghost use Rattle.cut_options.specs.Options.{program_app};
-ghost use Rattle.cut_options.specs.inside.Options.{ask_app, canonical_app, check_app, explain_app, join_app};
-ghost use Rattle.cut_options.specs.inside.Options.{migrate_app, run_app, serve_app, share_app, status_app};
+ghost use Rattle.cut_options.specs.inside.Options.{bare_app, with_command};
 
-use crate::arguments::{
-    count_option, files_word, flag, needed_word, piece_option, value_option, workers_option,
-};
+use crate::arguments::Argument;
 use clap::Command;
 use std::alloc::{AllocError, Global};
 
@@ -51,194 +48,235 @@ const PROGRESS_HELP: &str =
 /// What the help says of the word `SOCKET`.
 const SOCKET_HELP: &str = "The path of the server's socket";
 
+/// A command: its name, what its help says before its arguments and after them, and these arguments.
+#[derive(Clone, Copy)]
+struct Described<'a> {
+    name: &'a str,
+    about: &'a str,
+    example: &'a str,
+    args: &'a [Argument<'a>],
+}
+
+/// The command `run`.
+const RUN: Described<'static> = Described {
+    name: "run",
+    about: "Read a plan and print its table",
+    example: RUN_EXAMPLE,
+    args: &[
+        Argument::Piece,
+        Argument::Workers,
+        Argument::Value {
+            name: "checkpoint",
+            value_name: "FILE",
+            help: "Keep the study in this file, and go on from what it holds; overwrites a file that holds no study",
+        },
+        Argument::Flag {
+            name: "progress",
+            help: PROGRESS_HELP,
+        },
+    ],
+};
+
+/// The command `check`.
+const CHECK: Described<'static> = Described {
+    name: "check",
+    about: "Read a plan and print its cells, its trials and the quorum",
+    example: CHECK_EXAMPLE,
+    args: &[],
+};
+
+/// The command `explain`.
+const EXPLAIN: Described<'static> = Described {
+    name: "explain",
+    about: "Read a plan and say in words what is right or wrong with it",
+    example: EXPLAIN_EXAMPLE,
+    args: &[],
+};
+
+/// The command `canonical`.
+const CANONICAL: Described<'static> = Described {
+    name: "canonical",
+    about: "Read a plan and print its canonical text",
+    example: CANONICAL_EXAMPLE,
+    args: &[],
+};
+
+/// The command `status`.
+const STATUS: Described<'static> = Described {
+    name: "status",
+    about: "Print what a checkpoint holds, also while a study writes it",
+    example: STATUS_EXAMPLE,
+    args: &[Argument::Word {
+        name: "file",
+        value_name: "FILE",
+        help: "The checkpoint, which is only read",
+    }],
+};
+
+/// The command `serve`.
+const SERVE: Described<'static> = Described {
+    name: "serve",
+    about: "Serve clients at a socket, and print how many trials were accepted",
+    example: SERVE_EXAMPLE,
+    args: &[
+        Argument::Word {
+            name: "socket",
+            value_name: "SOCKET",
+            help: SOCKET_HELP,
+        },
+        Argument::Count {
+            name: "workers",
+            help: "How many threads work on the studies, from 1 to 64",
+        },
+        Argument::Count {
+            name: "sessions",
+            help: "How many connections are taken, from 1 to 64",
+        },
+        Argument::Count {
+            name: "studies",
+            help: "For how many studies there is room, from 1 to 64",
+        },
+        Argument::Value {
+            name: "dir",
+            value_name: "DIR",
+            help: "Keep each study in a file of this folder, and go on from what it holds",
+        },
+    ],
+};
+
+/// The command `ask`.
+const ASK: Described<'static> = Described {
+    name: "ask",
+    about: "Read a plan, ask a server for its table and print it",
+    example: ASK_EXAMPLE,
+    args: &[Argument::Word {
+        name: "socket",
+        value_name: "SOCKET",
+        help: SOCKET_HELP,
+    }],
+};
+
+/// The command `migrate`.
+const MIGRATE: Described<'static> = Described {
+    name: "migrate",
+    about: "Move a checkpoint of version 1 to a new one of version 2",
+    example: MIGRATE_EXAMPLE,
+    args: &[
+        Argument::Word {
+            name: "old",
+            value_name: "OLD",
+            help: "The checkpoint of version 1, which stays as it is",
+        },
+        Argument::Word {
+            name: "new",
+            value_name: "NEW",
+            help: "The file of the new checkpoint, which holds no study",
+        },
+    ],
+};
+
+/// The command `share`.
+const SHARE: Described<'static> = Described {
+    name: "share",
+    about: "Run a share of a plan's study, and print how many trials it has",
+    example: SHARE_EXAMPLE,
+    args: &[
+        Argument::Word {
+            name: "share",
+            value_name: "I/N",
+            help: "Which share, from 1, and how many there are, at most 100000",
+        },
+        Argument::Word {
+            name: "file",
+            value_name: "FILE",
+            help: "Keep the share in this file, and go on from what it holds",
+        },
+        Argument::Piece,
+        Argument::Workers,
+        Argument::Flag {
+            name: "progress",
+            help: PROGRESS_HELP,
+        },
+    ],
+};
+
+/// The command `join`.
+const JOIN: Described<'static> = Described {
+    name: "join",
+    about: "Join the checkpoints of a plan's study in a new one, and print how many slips it has",
+    example: JOIN_EXAMPLE,
+    args: &[
+        Argument::Word {
+            name: "new",
+            value_name: "NEW",
+            help: "The file of the new checkpoint, which holds no study",
+        },
+        Argument::Files,
+        Argument::Flag {
+            name: "which",
+            help: "Say which of the old files is refused, on standard error",
+        },
+    ],
+};
+
+/// The commands, in the order in which help lists them.
+const COMMANDS: [Described<'static>; 10] = [
+    RUN, CHECK, EXPLAIN, CANONICAL, STATUS, SERVE, ASK, MIGRATE, SHARE, JOIN,
+];
+
 /// The program's commands, as clap reads them. Fails only where memory runs out.
 pub fn program_commands<'a>(alloc: Global) -> Result<Command<'a>, AllocError>
     ensures { IfOk result (λ command. app_of command ≡ program_app) }
 {
-    let program = Command::new(alloc, "cutlab")
-        .bin_name("cutlab")?
-        .about("How often processes propose a cut that misses failed ones, for each K, H, L and F")
-        .version(VERSION)
-        .after_help(GUIDE)
-        .subcommand_required(true)
-        .arg_required_else_help(true);
-    let program = add_check(alloc, add_run(alloc, program)?)?;
-    let with_canonical = add_canonical(alloc, add_explain(alloc, program)?)?;
-    let with_serve = add_serve(alloc, add_status(alloc, with_canonical)?)?;
-    let with_migrate = add_migrate(alloc, add_ask(alloc, with_serve)?)?;
-    add_join(alloc, add_share(alloc, with_migrate)?)
+    add_all(alloc, bare_program(alloc)?, &COMMANDS)
 }
 
-/// Adds the command `run`.
-fn add_run<'a>(alloc: Global, program: Command<'a>) -> Result<Command<'a>, AllocError>
-    ensures { IfOk result (λ r. app_of r ≡ with_subcommand (app_of program.entry) run_app.top) }
+/// The program without its commands.
+fn bare_program<'a>(alloc: Global) -> Result<Command<'a>, AllocError>
+    ensures { IfOk result (λ program. app_of program ≡ bare_app) }
 {
-    let run = Command::new(alloc, "run")
-        .about("Read a plan and print its table")
-        .after_help(RUN_EXAMPLE)
-        .arg(piece_option(alloc))?
-        .arg(workers_option(alloc))?
-        .arg(value_option(
-            alloc,
-            "checkpoint",
-            "FILE",
-            "Keep the study in this file, and go on from what it holds; overwrites a file that holds no study",
-        ))?
-        .arg(flag(alloc, "progress", PROGRESS_HELP))?;
-    program.subcommand(run)
+    let program = Command::new(alloc, "cutlab").bin_name("cutlab")?;
+    Ok(
+        program
+            .about(
+                "How often processes propose a cut that misses failed ones, for each K, H, L and F",
+            )
+            .version(VERSION)
+            .after_help(GUIDE)
+            .subcommand_required(true)
+            .arg_required_else_help(true),
+    )
 }
 
-/// Adds the command `check`.
-fn add_check<'a>(alloc: Global, program: Command<'a>) -> Result<Command<'a>, AllocError>
-    ensures { IfOk result (λ r. app_of r ≡ with_subcommand (app_of program.entry) check_app.top) }
+/// Adds commands, in their order, to the program that has none.
+fn add_all<'a>(
+    alloc: Global,
+    program: Command<'a>,
+    commands: &[Described<'a>],
+) -> Result<Command<'a>, AllocError>
+    requires { app_of program ≡ bare_app }
+    ensures { IfOk result (λ r. app_of r ≡ fold with_command bare_app commands.now) }
 {
-    let check = Command::new(alloc, "check")
-        .about("Read a plan and print its cells, its trials and the quorum")
-        .after_help(CHECK_EXAMPLE);
-    program.subcommand(check)
+    let mut program = program;
+    for described in commands {
+        program = add(alloc, program, described)?;
+    }
+    Ok(program)
 }
 
-/// Adds the command `explain`.
-fn add_explain<'a>(alloc: Global, program: Command<'a>) -> Result<Command<'a>, AllocError>
-    ensures { IfOk result (λ r. app_of r ≡ with_subcommand (app_of program.entry) explain_app.top) }
+/// Adds a command to the program.
+fn add<'a>(
+    alloc: Global,
+    program: Command<'a>,
+    described: &Described<'a>,
+) -> Result<Command<'a>, AllocError>
+    ensures { IfOk result (λ r. app_of r ≡ with_command (app_of program.entry) described.now) }
 {
-    let explain = Command::new(alloc, "explain")
-        .about("Read a plan and say in words what is right or wrong with it")
-        .after_help(EXPLAIN_EXAMPLE);
-    program.subcommand(explain)
-}
-
-/// Adds the command `canonical`.
-fn add_canonical<'a>(alloc: Global, program: Command<'a>) -> Result<Command<'a>, AllocError>
-    ensures { IfOk result (λ r. app_of r ≡ with_subcommand (app_of program.entry) canonical_app.top) }
-{
-    let canonical = Command::new(alloc, "canonical")
-        .about("Read a plan and print its canonical text")
-        .after_help(CANONICAL_EXAMPLE);
-    program.subcommand(canonical)
-}
-
-/// Adds the command `status`.
-fn add_status<'a>(alloc: Global, program: Command<'a>) -> Result<Command<'a>, AllocError>
-    ensures { IfOk result (λ r. app_of r ≡ with_subcommand (app_of program.entry) status_app.top) }
-{
-    let status = Command::new(alloc, "status")
-        .about("Print what a checkpoint holds, also while a study writes it")
-        .after_help(STATUS_EXAMPLE)
-        .arg(needed_word(alloc, "file", "FILE", "The checkpoint, which is only read"))?;
-    program.subcommand(status)
-}
-
-/// Adds the command `serve`.
-fn add_serve<'a>(alloc: Global, program: Command<'a>) -> Result<Command<'a>, AllocError>
-    ensures { IfOk result (λ r. app_of r ≡ with_subcommand (app_of program.entry) serve_app.top) }
-{
-    let serve = Command::new(alloc, "serve")
-        .about("Serve clients at a socket, and print how many trials were accepted")
-        .after_help(SERVE_EXAMPLE)
-        .arg(needed_word(alloc, "socket", "SOCKET", SOCKET_HELP))?
-        .arg(count_option(
-            alloc,
-            "workers",
-            "How many threads work on the studies, from 1 to 64",
-        ))?
-        .arg(count_option(
-            alloc,
-            "sessions",
-            "How many connections are taken, from 1 to 64",
-        ))?
-        .arg(count_option(
-            alloc,
-            "studies",
-            "For how many studies there is room, from 1 to 64",
-        ))?
-        .arg(value_option(
-            alloc,
-            "dir",
-            "DIR",
-            "Keep each study in a file of this folder, and go on from what it holds",
-        ))?;
-    program.subcommand(serve)
-}
-
-/// Adds the command `ask`.
-fn add_ask<'a>(alloc: Global, program: Command<'a>) -> Result<Command<'a>, AllocError>
-    ensures { IfOk result (λ r. app_of r ≡ with_subcommand (app_of program.entry) ask_app.top) }
-{
-    let ask = Command::new(alloc, "ask")
-        .about("Read a plan, ask a server for its table and print it")
-        .after_help(ASK_EXAMPLE)
-        .arg(needed_word(alloc, "socket", "SOCKET", SOCKET_HELP))?;
-    program.subcommand(ask)
-}
-
-/// Adds the command `migrate`.
-fn add_migrate<'a>(alloc: Global, program: Command<'a>) -> Result<Command<'a>, AllocError>
-    ensures { IfOk result (λ r. app_of r ≡ with_subcommand (app_of program.entry) migrate_app.top) }
-{
-    let migrate = Command::new(alloc, "migrate")
-        .about("Move a checkpoint of version 1 to a new one of version 2")
-        .after_help(MIGRATE_EXAMPLE)
-        .arg(needed_word(
-            alloc,
-            "old",
-            "OLD",
-            "The checkpoint of version 1, which stays as it is",
-        ))?
-        .arg(needed_word(
-            alloc,
-            "new",
-            "NEW",
-            "The file of the new checkpoint, which holds no study",
-        ))?;
-    program.subcommand(migrate)
-}
-
-/// Adds the command `share`.
-fn add_share<'a>(alloc: Global, program: Command<'a>) -> Result<Command<'a>, AllocError>
-    ensures { IfOk result (λ r. app_of r ≡ with_subcommand (app_of program.entry) share_app.top) }
-{
-    let share = Command::new(alloc, "share")
-        .about("Run a share of a plan's study, and print how many trials it has")
-        .after_help(SHARE_EXAMPLE)
-        .arg(needed_word(
-            alloc,
-            "share",
-            "I/N",
-            "Which share, from 1, and how many there are, at most 100000",
-        ))?
-        .arg(needed_word(
-            alloc,
-            "file",
-            "FILE",
-            "Keep the share in this file, and go on from what it holds",
-        ))?
-        .arg(piece_option(alloc))?
-        .arg(workers_option(alloc))?
-        .arg(flag(alloc, "progress", PROGRESS_HELP))?;
-    program.subcommand(share)
-}
-
-/// Adds the command `join`.
-fn add_join<'a>(alloc: Global, program: Command<'a>) -> Result<Command<'a>, AllocError>
-    ensures { IfOk result (λ r. app_of r ≡ with_subcommand (app_of program.entry) join_app.top) }
-{
-    let join = Command::new(alloc, "join")
-        .about(
-            "Join the checkpoints of a plan's study in a new one, and print how many slips it has",
-        )
-        .after_help(JOIN_EXAMPLE)
-        .arg(needed_word(
-            alloc,
-            "new",
-            "NEW",
-            "The file of the new checkpoint, which holds no study",
-        ))?
-        .arg(files_word(alloc))?
-        .arg(flag(
-            alloc,
-            "which",
-            "Say which of the old files is refused, on standard error",
-        ))?;
-    program.subcommand(join)
+    let mut command = Command::new(alloc, described.name)
+        .about(described.about)
+        .after_help(described.example);
+    for arg in described.args {
+        command = command.arg(arg.in_clap(alloc))?;
+    }
+    program.subcommand(command)
 }

@@ -1,7 +1,10 @@
--- The commands one by one, as the functions that add them say them.
-use Rattle.std.specs.Prelude.{[], ◌∷◌, codes, true}
-use Rattle.clap.specs.Words.{App, Rule, Text, new_app, with_rule}
+-- The arguments and the commands, as the code describes them.
+use Rattle.std.specs.Prelude.{List, [], ◌∷◌, codes, fold, true}
+use Rattle.clap.specs.Words.{App, Rule, Text, new_app, with_rule, with_subcommand}
+use Rattle.cut_options.specs.declared.commands.Described.{Described}
 use Rattle.cut_options.specs.declared.limits.TheConstants.{LARGEST_PIECE, MOST_OF_EACH, MOST_WORKERS}
+use Rattle.cut_options.specs.declared.arguments.Argument.{Argument}
+use Rattle.cut_options.specs.declared.arguments.Argument.TheVariants.{Count, Files, Flag, Piece, Value, Word, Workers}
 use Rattle.cut_options.specs.Options.{files_rule, flag_rule, number_rule, option_rule, word_rule}
 
 -- the options `--piece` and `--workers`
@@ -15,42 +18,27 @@ workers_rule = number_rule (codes "workers") MOST_WORKERS (codes "1" ∷ [])
 abbrev pub count_rule : Text → Rule
 count_rule name = record (number_rule name MOST_OF_EACH []) { required = true }
 
--- the subcommands, one by one
-abbrev pub run_app : App
-run_app =
-    with_rule (with_rule (with_rule (with_rule (new_app (codes "run")) piece_rule) workers_rule)
-    (option_rule (codes "checkpoint"))) (flag_rule (codes "progress"))
+-- what clap reads of an argument
+abbrev pub argument_rule : Argument → Rule
+argument_rule (Word name _ _) = word_rule name.now
+argument_rule Files = files_rule
+argument_rule (Value name _ _) = option_rule name.now
+argument_rule (Count name _) = count_rule name.now
+argument_rule Piece = piece_rule
+argument_rule Workers = workers_rule
+argument_rule (Flag name _) = flag_rule name.now
 
-abbrev pub check_app : App
-check_app = new_app (codes "check")
+-- a command with this name and these arguments
+abbrev pub command_app : Text → List Argument → App
+command_app name args = fold (λ app arg. with_rule app (argument_rule arg)) (new_app name) args
 
-abbrev pub explain_app : App
-explain_app = new_app (codes "explain")
+-- the program without its commands
+abbrev pub bare_app : App
+bare_app = let bare : App = new_app (codes "cutlab") in record bare {
+  top = record bare.top { has_version = true; subcommand_required = true; arg_required_else_help = true };
+}
 
-abbrev pub canonical_app : App
-canonical_app = new_app (codes "canonical")
-
-abbrev pub status_app : App
-status_app = with_rule (new_app (codes "status")) (word_rule (codes "file"))
-
-abbrev pub serve_app : App
-serve_app =
-    with_rule (with_rule (with_rule (with_rule (with_rule (new_app (codes "serve")) (word_rule (codes "socket")))
-    (count_rule (codes "workers")))
-    (count_rule (codes "sessions"))) (count_rule (codes "studies"))) (option_rule (codes "dir"))
-
-abbrev pub ask_app : App
-ask_app = with_rule (new_app (codes "ask")) (word_rule (codes "socket"))
-
-abbrev pub migrate_app : App
-migrate_app = with_rule (with_rule (new_app (codes "migrate")) (word_rule (codes "old"))) (word_rule (codes "new"))
-
-abbrev pub share_app : App
-share_app =
-    with_rule (with_rule (with_rule (with_rule (with_rule (new_app (codes "share")) (word_rule (codes "share")))
-    (word_rule (codes "file"))) piece_rule) workers_rule) (flag_rule (codes "progress"))
-
-abbrev pub join_app : App
-join_app =
-    with_rule (with_rule (with_rule (new_app (codes "join")) (word_rule (codes "new"))) files_rule)
-    (flag_rule (codes "which"))
+-- a program with one more command
+unfoldable pub with_command : App → Described → App
+with_command program described =
+    with_subcommand program (command_app described.name.now described.args.now).top
