@@ -1,6 +1,6 @@
 ghost use Rattle.std.specs.Prelude.{◌≡◌, ◌+◌, ◌^◌, ◌<◌, ◌≤◌, ◌++◌, [], ◌∷◌, ℕ, List, None, Some, Ok, true, false};
-ghost use Rattle.std.specs.Prelude.{length, is_some, slice_get, slice_index_or, if◌then◌else◌};
-ghost use Rattle.std.specs.Prelude.{IsTrue, IfSome, IfNone, IfOk, IfErr, OnOk, IsErr, IsErrOf, IsSome};
+ghost use Rattle.std.specs.Prelude.{length, is_some, replicate, slice_get, slice_index_or, if◌then◌else◌};
+ghost use Rattle.std.specs.Prelude.{IsTrue, IfSome, IfNone, IfOk, IfErr, OnOk, IsErr, IsErrOf, IsSome, All};
 ghost use Rattle.std.specs.Prelude.{option_copied};
 ghost use Rattle.std.specs.List.{list_any};
 ghost use Rattle.cut_lines.specs.declared.line.TheConstants.{LONGEST_LINE};
@@ -10,6 +10,8 @@ ghost use Rattle.cut_plan.specs.Plan.{IsPlan};
 ghost use Rattle.cut_outcome.specs.Sum.{is_piece};
 ghost use Rattle.cut_disks.specs.State.{IsImage};
 ghost use Rattle.cut_ledger.specs.Machine.{opened, reply_to, after, slip_of};
+ghost use Rattle.cut_ledger.specs.Contents.{over_base};
+ghost use Rattle.cut_ledger.specs.Gaps.{pieces_of};
 ghost use Rattle.cut_ledger.specs.Slips.{AreGood};
 ghost use Rattle.cut_ledger.specs.Refusals.{CanTake, is_same_plan};
 ghost use Rattle.cut_ledger.specs.declared.event.Event.TheVariants as event;
@@ -101,17 +103,19 @@ impl<D: Disk> Book<D> {
     {
         journals_begin_with_their_runs();
         let failed = failures(&journal);
-        let ledger = Ledger::from_slips(alloc, plan, slips)?;
-        let division = ledger.divide(alloc, piece_size)?;
-        let losable = division.len();
-        let lost = BitList::new(alloc, losable)?;
-        let history = History::begin(alloc, &ledger, journal.is_some(), piece_size, losable)?;
+        let (ledger, division, lost, history) = begin(
+            alloc,
+            plan,
+            journal.is_some(),
+            slips,
+            piece_size,
+        )?;
         Ok(Book {
             ledger,
             journal,
+            losable: division.len(),
             division,
             lost,
-            losable,
             history,
             broken: false,
             failed,
@@ -373,6 +377,39 @@ impl<D: Disk> Book<D> {
             }
         }
     }
+}
+
+/// The ledger over slips, its division into pieces of this size, which of them are lost, which is none yet, and a
+/// history with room for the loss of each.
+fn begin(
+    alloc: Global,
+    plan: Plan,
+    has_journal: bool,
+    slips: &[Slip],
+    piece_size: u32,
+) -> Result<(Ledger, Division, BitList, History), BookFault>
+    requires { 1 ≤ piece_size }
+    ensures ledger { IfOk result (λ r. r.0.contents ≡ over_base plan slips.now) }
+    ensures division { IfOk result (λ r. r.1 ≡ pieces_of r.0.contents piece_size) }
+    ensures pieces { IfOk result (λ r. All (λ p. IsTrue (is_piece r.0.contents.plan p)) r.1) }
+    ensures lost { IfOk result (λ r. r.2 ≡ replicate (length r.1) false) }
+    ensures opening { IfOk result (λ r. r.3.opening ≡ record {
+      plan = r.0.contents.plan;
+      has_journal = has_journal;
+      base = r.0.contents.base;
+      size = piece_size;
+    }) }
+    ensures calls { IfOk result (λ r. r.3.calls ≡ []) }
+    ensures room { IfOk result (λ r. length r.1 ≤ r.3.room) }
+    ensures good { OnOk result (AreGood plan slips.now) }
+    ensures err { IfErr result (λ e. IsOpeningFault plan slips.now e) }
+{
+    let ledger = Ledger::from_slips(alloc, plan, slips)?;
+    let division = ledger.divide(alloc, piece_size)?;
+    let losable = division.len();
+    let lost = BitList::new(alloc, losable)?;
+    let history = History::begin(alloc, &ledger, has_journal, piece_size, losable)?;
+    Ok((ledger, division, lost, history))
 }
 
 /// How many calls of a journal's disk have failed, 0 without a journal.

@@ -21,7 +21,7 @@ use Rattle.cut_session.specs.declared.session_end.SessionFault.TheVariants as se
 use Rattle.cut_session.specs.Answering.{AnswersAll}
 use Rattle.cut_session.specs.Session.{request_limit, Course, IsCourse, LastReply, QuitsAtOnce, IsDue, passed, read_by}
 use Rattle.cut_session.specs.Session.{CutsReply, EndsSessionAs}
-use Rattle.cut_session.specs.inside.Serving.{Replies, ServesFirst, LeavesSending, ConcludesTable, IsServing, served}
+use Rattle.cut_session.specs.inside.Serving.{Replies, ServesFirst, ServesAll, LeavesSending, ConcludesTable, IsServing, served}
 use Rattle.cut_session.specs.inside.Serving.{longest_reply}
 use Rattle.cut_session.proofs.Courses.{Stands, leaves, served_more}
 use Rattle.cut_session.proofs.Turns.{all_then}
@@ -76,7 +76,7 @@ module _ {hall : HallValue} {low middle : View} {r next : Reading} {requests : �
     fed_short = omega (arith, s.few, f.short, length-append s.out f.out, length-append s.messages f.answered)
 
     -- a message quits
-    pub fed_quits : (new : Sending) → new ≡ sent_on now f.out → QuitsAtOnce f.unanswered
+    fed_quits : (new : Sending) → new ≡ sent_on now f.out → QuitsAtOnce f.unanswered
         → ConcludesTable hall low high end.Quit first new
     fed_quits new is quits =
         let line = fed_line f.out new is in
@@ -90,7 +90,7 @@ module _ {hall : HallValue} {low middle : View} {r next : Reading} {requests : �
         ((fed_course, is_fed_course, ends), ap (λ (t : Sending). t.wire) line)
 
     -- a write of the last reply fails
-    pub fed_cut : (fault : WriteFault) (new : Sending) → (l : LastReply hall middle high f.answered f.out)
+    fed_cut : (fault : WriteFault) (new : Sending) → (l : LastReply hall middle high f.answered f.out)
         → Sends (Err fault) l.reply (sent_on now l.first) new → ConcludesTable hall low high (end.Write fault) first new
     fed_cut fault new l (total, (k, low_k, is)) =
         let before : List ℕ = s.out ++ l.first in
@@ -129,6 +129,13 @@ module _ {hall : HallValue} {low middle : View} {r next : Reading} {requests : �
         let cuts : CutsReply hall low high fault.sent fed_course first.log new.log =
         (last, omega (arith, sum), omega (arith, sum, whole), refl, log) in
         ((fed_course, is_fed_course, inl cuts), cc (is, line))
+
+  -- the session ended at one of these
+  pub fed_ends : (result : SessionEnd) (new : Sending)
+      → ServesAll hall middle high (take count shown) (Err result) now new → ConcludesTable hall low high result first new
+  fed_ends end.Quit new (f, quits, is) = fed_quits f new is quits
+  fed_ends (end.Write fault) new (f, l, sends) = fed_cut f fault new l sends
+  fed_ends other new none = absurd none
 
   -- all of these are answered
   module _ (mid : Sending) (all : Replies (AnswersAll hall middle high (take count shown))

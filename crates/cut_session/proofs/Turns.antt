@@ -1,5 +1,5 @@
 -- Requests that are answered one after another.
-use Rattle.std.proofs.Common.{◌≡◌, ◌∙◌, ◌+◌, ◌*◌, ◌^◌, ◌<◌, ◌≤◌, ◌++◌, ℕ, List, [], ◌∷◌, length, take, drop}
+use Rattle.std.proofs.Common.{◌≡◌, ◌∙◌, ◌+◌, ◌-◌, ◌*◌, ◌^◌, ◌<◌, ◌≤◌, ◌++◌, ℕ, List, [], ◌∷◌, length, take, drop}
 use Rattle.std.proofs.Common.{get_or, Ok, Err, inl, inr, refl, sym, subst, arith, append_assoc, append-nil}
 use Rattle.std.proofs.Common.{take-append-drop, length-append}
 use Rattle.std.specs.Prelude.{◌⊎◌}
@@ -14,6 +14,7 @@ use Rattle.cut_messages.specs.declared.message.Message.{Message}
 use Rattle.cut_hall.specs.Hall.{HallValue}
 use Rattle.cut_session.specs.Answering.{Rises, AnswersKind, IsAnswered, AnswersAll}
 use Rattle.cut_session.specs.declared.answer.Continuation.TheVariants.{On, Over}
+use Rattle.cut_session.specs.declared.session_end.SessionEnd.TheVariants as end
 use Rattle.cut_session.specs.inside.Serving.{Replies, Serves, ServesAll, longest_reply}
 use Rattle.cut_messages.proofs.Answered.{take_next}
 
@@ -94,7 +95,7 @@ module _ (hall : HallValue) (low middle high : View) (ms : List Message) (i : �
       rw (← take_next ms i m low_i is)
       (first.0 ++ out, both out answers, few out short, sent_more old now new first.0 out first.3 sent)
 
-  pub is_over : Serves hall middle high m (Ok Over) now new → ServesAll hall low high ms (Ok Over) old new
+  pub is_over : Serves hall middle high m (Ok Over) now new → ServesAll hall low high ms (Err end.Quit) old new
   is_over (quits, rises, same) = (
     record {
       answered = take i ms;
@@ -109,7 +110,7 @@ module _ (hall : HallValue) (low middle high : View) (ms : List Message) (i : �
   )
 
   pub is_cut : (fault : WriteFault) → Serves hall middle high m (Err fault) now new
-      → ServesAll hall low high ms (Err fault) old new
+      → ServesAll hall low high ms (Err (end.Write fault)) old new
   is_cut fault (out, answers, short, cut) = (
     record {
       answered = take i ms ++ m ∷ [];

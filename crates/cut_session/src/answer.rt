@@ -4,6 +4,7 @@ ghost use Rattle.cut_wires.specs.Sending.{sending};
 ghost use Rattle.cut_session.specs.Answering.{AnswersCount, AnswersText, Rises};
 ghost use Rattle.cut_session.specs.inside.Serving.{Replies, Serves, ServesAll, longest_reply};
 
+use crate::SessionEnd;
 use crate::fault_reply::send_fault;
 use crate::rows::{OpenedRows, send_table};
 use cut_board::laws::reads_are_seen;
@@ -46,12 +47,12 @@ where
     S: Shelf<D>,
     R: Wait,
 {
-    /// Answers requests in order, up to one that quits.
+    /// Answers requests in order. Fails where the session ends: at one that quits, or where a write of a reply fails.
     pub(crate) fn answer_all<W: Wire>(
         &mut self,
         line: &mut Line<'_, W>,
         messages: &[Message],
-    ) -> Result<Continuation, WriteFault>
+    ) -> Result<(), SessionEnd>
         ensures serves { ServesAll self.old.hall.now self.old.pass.now.view self.new.pass.now.view messages.now
             result (sending W.log line.old) (sending W.log line.new) }
         ensures stays { (self.new.hall.now ≡ self.old.hall.now)
@@ -60,11 +61,11 @@ where
         for message in messages {
             match self.answer(line, message) {
                 Ok(Continuation::On) => {}
-                Ok(Continuation::Over) => return Ok(Continuation::Over),
-                Err(fault) => return Err(fault),
+                Ok(Continuation::Over) => return Err(SessionEnd::Quit),
+                Err(fault) => return Err(SessionEnd::Write(fault)),
             }
         }
-        Ok(Continuation::On)
+        Ok(())
     }
 
     /// Answers one request.

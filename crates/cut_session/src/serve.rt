@@ -1,10 +1,10 @@
-ghost use Rattle.std.specs.Prelude.{true, ◌≡◌, ◌<◌, ◌≤◌, length, IfOk};
+ghost use Rattle.std.specs.Prelude.{true, ◌≡◌, ◌<◌, ◌≤◌, [], length, IfOk};
 ghost use Rattle.cut_board.specs.declared.view.View.{View};
 ghost use Rattle.cut_wires.specs.Sending.{Sending, sending};
 ghost use Rattle.cut_session.specs.Session.{EndsSession};
 ghost use Rattle.cut_session.specs.inside.Serving.{IsServing, Goes, LeavesSending, ConcludesTable};
 
-use crate::answer::{Continuation, Session};
+use crate::answer::Session;
 use crate::fault_reply::send_fault;
 use crate::{SessionEnd, SessionFault};
 use cut_book::Shelf;
@@ -88,22 +88,43 @@ where
         let mut requests = 0;
         let mut buffer = [0; READ_SIZE];
         for _ in self.rt.forever() {
-            let count = match line.read(&mut buffer) {
-                Ok(count) => count,
-                Err(_) => return leave(line, SessionFault::Read),
-            };
-            if count == 0 {
-                match reader.finish() {
-                    Ok(()) => return SessionEnd::EndOfInput,
-                    Err(_) => return leave(line, SessionFault::Truncated),
-                }
-            }
-            match self.take_piece(line, &mut reader, &buffer[..count], requests) {
+            match self.take_next(line, &mut reader, &mut buffer, requests) {
                 Ok(more) => requests = more,
                 Err(end) => return end,
             }
         }
         unreachable!()
+    }
+
+    /// Reads the wire once, and answers the requests that are complete then. Returns how many requests are answered
+    /// then.
+    fn take_next<W: Wire>(
+        &mut self,
+        line: &mut Line<'_, W>,
+        reader: &mut Reader,
+        buffer: &mut [u8; READ_SIZE],
+        requests: u32,
+    ) -> Result<u32, SessionEnd>
+        requires few { requests ≤ MOST_REQUESTS }
+        ensures goes { (low : View) (first : Sending) → first.sent ≡ 0 →
+            IsServing self.old.hall.now low self.old.pass.now.view reader.old requests []
+            first (sending W.log line.old) →
+            Goes self.old.hall.now low self.new.pass.now.view result reader.new first (sending W.log line.new) }
+        ensures few { IfOk result (λ more. more ≤ MOST_REQUESTS) }
+        ensures stays { (self.new.hall.now ≡ self.old.hall.now)
+            × (self.new.pass.ghost_name ≡ self.old.pass.ghost_name) }
+    {
+        let count = match line.read(buffer) {
+            Ok(count) => count,
+            Err(_) => return Err(leave(line, SessionFault::Read)),
+        };
+        if count == 0 {
+            match reader.finish() {
+                Ok(()) => return Err(SessionEnd::EndOfInput),
+                Err(_) => return Err(leave(line, SessionFault::Truncated)),
+            }
+        }
+        self.take_piece(line, reader, &buffer[..count], requests)
     }
 
     /// Reads the next piece of the input, and answers the requests that it completes. Returns how many requests are
@@ -132,9 +153,8 @@ where
         let messages = fed.messages.as_slice();
         let count = messages.len().min((MOST_REQUESTS - requests) as usize);
         match self.answer_all(line, &messages[..count]) {
-            Ok(Continuation::On) => {}
-            Ok(Continuation::Over) => return Err(SessionEnd::Quit),
-            Err(fault) => return Err(SessionEnd::Write(fault)),
+            Ok(()) => {}
+            Err(end) => return Err(end),
         }
         if count < messages.len() {
             return Err(leave(line, SessionFault::TooManyRequests));

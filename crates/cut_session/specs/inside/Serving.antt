@@ -45,16 +45,17 @@ pub record ServesFirst (hall : HallValue) (low high : View) (messages : List Mes
   pub replies : AnswersAll hall low high answered out
   pub short : length out ≤ longest_reply * length answered
 
--- all of them were answered, or those before one that quits, or those up to one whose reply was not sent whole
-abbrev pub ServesAll : HallValue → View → View → List Message → Result Continuation WriteFault → Sending → Sending
-    → Type 0
-ServesAll hall low high messages (Ok On) old new =
+-- all of them were answered; or the session ended after those before one that quits, or at one whose reply was
+-- not sent whole
+abbrev pub ServesAll : HallValue → View → View → List Message → Result ⊤ SessionEnd → Sending → Sending → Type 0
+ServesAll hall low high messages (Ok done) old new =
     Replies (AnswersAll hall low high messages) (longest_reply * length messages) (Ok tt) old new
-ServesAll hall low high messages (Ok Over) old new =
+ServesAll hall low high messages (Err end.Quit) old new =
     (f : ServesFirst hall low high messages) × QuitsAtOnce f.unanswered × (new ≡ sent_on old f.out)
-ServesAll hall low high messages (Err fault) old new =
+ServesAll hall low high messages (Err (end.Write fault)) old new =
     (f : ServesFirst hall low high messages) × (l : LastReply hall low high f.answered f.out)
     × Sends (Err fault) l.reply (sent_on old l.first) new
+ServesAll hall low high messages (Err other) old new = ⊥
 
 -- ---- the frame of a fault that ends a session
 

@@ -1,28 +1,70 @@
-use Rattle.std.proofs.lemmas.Grind.{common_steps}
-use Rattle.std.proofs.Common.{◌≡◌, false, map, arith, is_some}
+use Rattle.std.proofs.Common.{◌≡◌, ◌∙◌, List, Bool, false, length, map, refl, sym, ap, subst, is_some, count_by, not}
+use Rattle.std.proofs.lemmas.List.{length-map}
 use Rattle.std.proofs.lemmas.Simd.{splat_is_map}
-use Rattle.cut_ledger.specs.Machine.{opened}
+use Rattle.cut_ledger.specs.Contents.{Contents, over_base}
+use Rattle.cut_ledger.specs.Machine.{StudyState, opened}
+use Rattle.cut_book.specs.declared.call.Call.{Call}
+use Rattle.cut_book.specs.History.{Opening, LeadsTo, opened_by}
+use Rattle.cut_book.specs.Book.{FollowsState}
 use Rattle.cut_book.specs.inside.Book.{state_in}
+use Rattle.cut_book.proofs.Losses.{none_lost}
 use Rattle.cut_book.proofs.OpenedBooks.{fresh_doubt, fresh_plan, fresh_followed, opened_state}
 use Rattle.cut_book.proofs.book.Book.new.Goals as goal
 
 -- no piece is lost
-unlost : (g : _) (c : goal.In_ok-history g) → c.in_ok-lost.lost ≡ map (λ p. false) c.in_ok-division.division
+unlost : (g : _) (c : goal.After-len g) → c.in_ok-ledger.lost ≡ map (λ p. false) c.in_ok-ledger.division
 unlost g c =
-    grind (arith, splat_is_map c.in_ok-division.division c.len-losable.result false)
+    c.in_ok-ledger.ensures.lost ∙ splat_is_map c.in_ok-ledger.division _ false refl
 
 -- the state is that of a study that is opened
-begun : (g : _) (c : goal.In_ok-history g) → state_in c.in_ok-ledger.ledger.contents c.args.journal
-    c.in_ok-division.division c.in_ok-lost.lost c.in_ok-history.history false
+begun : (g : _) (c : goal.After-len g) → state_in c.in_ok-ledger.ledger.contents c.args.journal
+    c.in_ok-ledger.division c.in_ok-ledger.lost c.in_ok-ledger.history false
     ≡ opened c.args.plan (is_some c.args.journal) c.args.slips.now c.args.piece_size
 begun g c =
-    grind (arith, opened_state c.args.plan c.args.slips.now c.args.piece_size c.args.journal
-    c.in_ok-ledger.ledger.contents c.in_ok-division.division c.in_ok-lost.lost c.in_ok-history.history
-    c.in_ok-ledger.ensures.ok, unlost g c)
+    opened_state c.args.plan c.args.slips.now c.args.piece_size c.args.journal c.in_ok-ledger.ledger.contents
+    c.in_ok-ledger.division c.in_ok-ledger.lost c.in_ok-ledger.history
+    c.in_ok-ledger.ensures.ledger (c.in_ok-ledger.ensures.opening
+    ∙ ap (λ (b : Bool). (let o : Opening = record {
+      plan = c.in_ok-ledger.ledger.contents.plan;
+      has_journal = b;
+      base = c.in_ok-ledger.ledger.contents.base;
+      size
+          = c.args.piece_size;
+    } in o)) c.is_some.ensures)
+    c.in_ok-ledger.ensures.calls c.in_ok-ledger.ensures.division (unlost g c)
+    (fresh_doubt c.args.plan c.args.slips.now c.args.journal c.requires.journal)
 
 pub returns-clause-state : goal.returns-clause-state
 returns-clause-state g c = begun g c
 
 pub invariant_of-result : goal.invariant_of-result
 invariant_of-result g c =
-    grind (arith, common_steps, begun, fresh_plan, fresh_doubt, fresh_followed)
+    let s : StudyState = state_in c.in_ok-ledger.ledger.contents c.args.journal c.in_ok-ledger.division
+    c.in_ok-ledger.lost c.in_ok-ledger.history false in
+    let has : c.in_ok-ledger.history.opening.has_journal
+    ≡ is_some c.args.journal = ap (λ (o : Opening). o.has_journal) c.in_ok-ledger.ensures.opening ∙ c.is_some.ensures in
+    let base : c.in_ok-ledger.ledger.contents ≡ over_base c.args.plan c.args.slips.now = c.in_ok-ledger.ensures.ledger in
+    let from : opened_by c.in_ok-ledger.history.opening ≡ s =
+    ap opened_by c.in_ok-ledger.ensures.opening ∙ ap (λ (b : Bool). opened c.in_ok-ledger.ledger.contents.plan b
+    c.in_ok-ledger.ledger.contents.base c.args.piece_size) c.is_some.ensures
+    ∙ ap (λ (l : Contents). opened l.plan (is_some c.args.journal) l.base c.args.piece_size) base ∙ sym (begun g c) in
+    record {
+      legal = subst (λ (l : List Call). LeadsTo (opened_by c.in_ok-ledger.history.opening) l s)
+          (sym c.in_ok-ledger.ensures.calls) from;
+      plan = sym (ap (λ (o : Opening). o.plan) c.in_ok-ledger.ensures.opening);
+      base = sym (ap (λ (o : Opening). o.base) c.in_ok-ledger.ensures.opening);
+      pieces = ap (λ (l : List Bool). length l) (unlost g c) ∙ length-map c.in_ok-ledger.division _;
+      divided = c.in_ok-ledger.ensures.pieces;
+      losable = c.len.ensures.value ∙ sym (ap (λ (l : List Bool). count_by not l) (unlost g c)
+          ∙ none_lost c.in_ok-ledger.division);
+      room = rw c.len.ensures.value c.in_ok-ledger.ensures.room;
+      has_journal = has;
+      of_plan = fresh_plan c.args.plan c.in_ok-ledger.ledger.contents.plan c.args.slips.now c.args.journal
+          c.requires.journal (sym (ap (λ (l : Contents). l.plan) base));
+      broken = sym (ap is_some (fresh_doubt c.args.plan c.args.slips.now c.args.journal c.requires.journal));
+      followed = subst (λ (x : StudyState). FollowsState g.D.Disk.is_honest g.D.Disk.state c.args.journal x)
+          (sym (begun g c))
+          (fresh_followed g.D.Disk.is_honest g.D.Disk.state c.args.plan c.args.slips.now c.args.piece_size
+          c.args.journal c.journals_begin_with_their_runs.ensures.opening c.requires.journal c.requires.read);
+      failures = sym c.failures-failed.ensures;
+    }

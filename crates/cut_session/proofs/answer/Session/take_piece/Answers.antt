@@ -1,7 +1,7 @@
 use Rattle.std.proofs.Common.{◌∙◌, sym, arith}
 use Rattle.cut_wires.specs.Sending.{sending}
 use Rattle.cut_session.proofs.Courses.{ends_full}
-use Rattle.cut_session.proofs.Feeding.{fed_quits, fed_cut, fed_limit, fed_fault, fed_on}
+use Rattle.cut_session.proofs.Feeding.{fed_ends, fed_limit, fed_fault, fed_on}
 use Rattle.cut_session.proofs.answer.Session.take_piece.Goals as goal
 
 pub returns-in-Err-clause-goes : goal.returns-in-Err-clause-goes
@@ -9,27 +9,19 @@ returns-in-Err-clause-goes g c = λ low first none_sent s.
     ends_full s c.requires.few none_sent c.leave.result (sending g.W.Wire.log c.leave.new.line) c.requires.piece.0
     c.requires.piece.1 c.leave.ensures
 
-pub returns-in-Ok-Over-clause-goes : goal.returns-in-Ok-Over-clause-goes
-returns-in-Ok-Over-clause-goes g c = λ low first none_sent s.
-    let over = rw c.in-Ok-Over.field-0-is at c.in-Ok-Over.ensures.serves in
-    fed_quits s _ c.min-count.result (c.in-Ok.ensures.reads s.stream s.messages s.read) c.in-Ok.ensures.side
-    c.as_slice-messages.ensures.value (omega (arith, c.min-count.ensures, c.requires.few))
-    (omega (arith, c.min-count.ensures)) none_sent over.0 (sending g.W.Wire.log c.answer_all.new.line) over.2 over.1
-
 pub returns-in-Err-answer_all-clause-goes : goal.returns-in-Err-answer_all-clause-goes
 returns-in-Err-answer_all-clause-goes g c = λ low first none_sent s.
-    let cut = c.in-Err-answer_all.ensures.serves in
-    fed_cut s _ c.min-count.result (c.in-Ok.ensures.reads s.stream s.messages s.read) c.in-Ok.ensures.side
+    fed_ends s _ c.min-count.result (c.in-Ok.ensures.reads s.stream s.messages s.read) c.in-Ok.ensures.side
     c.as_slice-messages.ensures.value (omega (arith, c.min-count.ensures, c.requires.few))
-    (omega (arith, c.min-count.ensures)) none_sent cut.0 c.in-Err-answer_all.fault
-    (sending g.W.Wire.log c.answer_all.new.line) cut.1 cut.2
+    (omega (arith, c.min-count.ensures)) none_sent c.in-Err-answer_all.end (sending g.W.Wire.log c.answer_all.new.line)
+    c.in-Err-answer_all.ensures.serves
 
 pub returns-then-count-messages-clause-goes : goal.returns-then-count-messages-clause-goes
 returns-then-count-messages-clause-goes g c = λ low first none_sent s.
     fed_limit s _ c.min-count.result (c.in-Ok.ensures.reads s.stream s.messages s.read) c.in-Ok.ensures.side
     c.as_slice-messages.ensures.value (omega (arith, c.min-count.ensures, c.requires.few))
     (omega (arith, c.min-count.ensures)) none_sent (sending g.W.Wire.log c.answer_all.new.line)
-    (rw c.in-Ok-On.field-0-is at c.in-Ok-On.ensures.serves) c.leave-then-count-messages.result
+    c.in-Ok-answer_all.ensures.serves c.leave-then-count-messages.result
     (sending g.W.Wire.log c.leave-then-count-messages.new.line)
     (omega (arith, c.min-count.ensures, c.if-count-messages.true, c.requires.few)) c.if-count-messages.true
     c.leave-then-count-messages.ensures
@@ -39,7 +31,7 @@ returns-in-Some-clause-goes g c = λ low first none_sent s.
     fed_fault s _ c.min-count.result (c.in-Ok.ensures.reads s.stream s.messages s.read) c.in-Ok.ensures.side
     c.as_slice-messages.ensures.value (omega (arith, c.min-count.ensures, c.requires.few))
     (omega (arith, c.min-count.ensures)) none_sent (sending g.W.Wire.log c.answer_all.new.line)
-    (rw c.in-Ok-On.field-0-is at c.in-Ok-On.ensures.serves) c.in-Some.fault c.leave-in-Some.result
+    c.in-Ok-answer_all.ensures.serves c.in-Some.fault c.leave-in-Some.result
     (sending g.W.Wire.log c.leave-in-Some.new.line) (omega (arith, c.if-count-messages.false))
     (sym c.in-Ok.ensures.fault ∙ c.in-Some.is) c.leave-in-Some.ensures
 
@@ -48,5 +40,5 @@ returns-clause-goes g c = λ low first none_sent s.
     fed_on s _ c.min-count.result (c.in-Ok.ensures.reads s.stream s.messages s.read) c.in-Ok.ensures.side
     c.as_slice-messages.ensures.value (omega (arith, c.min-count.ensures, c.requires.few))
     (omega (arith, c.min-count.ensures)) none_sent (sending g.W.Wire.log c.answer_all.new.line)
-    (rw c.in-Ok-On.field-0-is at c.in-Ok-On.ensures.serves) (omega (arith, c.if-count-messages.false))
+    c.in-Ok-answer_all.ensures.serves (omega (arith, c.if-count-messages.false))
     (sym c.in-Ok.ensures.fault ∙ c.in-None.is)
