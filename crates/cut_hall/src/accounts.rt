@@ -2,6 +2,7 @@ ghost use Rattle.std.specs.Prelude.{◌≡◌, ◌==◌, ◌+◌, ◌-◌, ◌^�
 
 use crate::CallLedger;
 use std::sync::ledger::{Blank, Book, Share};
+use std::sync::{Mutex, Wait};
 
 /// Both ledgers have counted 2^64 - 1 calls, and count no more.
 #[derive(Clone, Copy)]
@@ -100,4 +101,46 @@ impl<M: CallLedger, K: CallLedger> Accounts<M, K> {
         self.made.audit(made);
         self.kept.audit(kept);
     }
+}
+
+/// Whether the accounts under this lock can count no further call.
+pub(crate) fn are_full<M: CallLedger, K: CallLedger, R: Wait>(
+    rt: &R,
+    accounts: &Mutex<Accounts<M, K>>,
+) -> bool {
+    accounts.lock(rt).is_full()
+}
+
+/// Counts one call more in the accounts under this lock.
+pub(crate) fn count_call<M: CallLedger, K: CallLedger, R: Wait>(
+    rt: &R,
+    accounts: &Mutex<Accounts<M, K>>,
+    made: &mut Share<M>,
+    kept: &mut Share<K>,
+) -> Result<(), Full>
+    requires made { 0 < made.old.parts }
+    requires kept { 0 < kept.old.parts }
+    ensures made { MatchResult result
+        (λ _. made.new.amount ≡ made.old.amount + 1) (λ _. made.new.amount ≡ made.old.amount) }
+    ensures kept { MatchResult result
+        (λ _. kept.new.amount ≡ kept.old.amount + 1) (λ _. kept.new.amount ≡ kept.old.amount) }
+    ensures parts { (made.new.parts ≡ made.old.parts) × (kept.new.parts ≡ kept.old.parts) }
+{
+    accounts.lock(rt).enter(made, kept)
+}
+
+/// Takes the last call back in the accounts under this lock.
+pub(crate) fn uncount_call<M: CallLedger, K: CallLedger, R: Wait>(
+    rt: &R,
+    accounts: &Mutex<Accounts<M, K>>,
+    made: &mut Share<M>,
+    kept: &mut Share<K>,
+)
+    requires made { 0 < made.old.amount }
+    requires kept { 0 < kept.old.amount }
+    ensures made { made.new.amount + 1 ≡ made.old.amount }
+    ensures kept { kept.new.amount + 1 ≡ kept.old.amount }
+    ensures parts { (made.new.parts ≡ made.old.parts) × (kept.new.parts ≡ kept.old.parts) }
+{
+    accounts.lock(rt).take_back(made, kept);
 }

@@ -12,7 +12,7 @@ ghost use Rattle.cut_hall.specs.Slot.{CanNotGiveAgain, rows_of};
 ghost use Rattle.cut_hall.specs.Trust.{MayBegin};
 ghost use Rattle.cut_ledger.specs.Slips.{AreGood};
 
-use crate::accounts::Accounts;
+use crate::accounts::{Accounts, are_full};
 use crate::slot::{Asked, Match, Slot};
 use crate::work::SharedInput;
 use crate::{CallLedger, LineFault, Pass};
@@ -141,12 +141,10 @@ impl<D: Disk + Drop, M: CallLedger, K: CallLedger> Hall<D, M, K> {
         ensures passes { IfOk result (λ r. length r.1.items ≡ passes) }
         ensures own { IfOk result (λ r. All (λ p. p.hall ≡ r.0.id) r.1.items) }
     {
-        let (board, seats) = Board::start(alloc, 1, passes)?;
         let (accounts, made, kept) = Accounts::open(made, kept);
+        let places = place_of(alloc, book, kept)?;
+        let (board, seats) = Board::start(alloc, 1, passes)?;
         let given = deal(alloc, &board, seats, made)?;
-        let mut places = Vec::new(alloc);
-        let slot = Slot::new(alloc, Some(book), kept);
-        places.push(LockedSlot::new(slot))?;
         let hall = Hall {
             board,
             places,
@@ -260,13 +258,12 @@ impl<D: Disk + Drop, M: CallLedger, K: CallLedger> Hall<D, M, K> {
         let place = &self.places[asked.opened.study as usize];
         let mut slot = place.slot.lock(rt);
         for _ in rt.forever() {
-            match slot.line(rt, alloc, &self.accounts, made, asked) {
-                Ok(Some(line)) => return Ok(line),
-                Ok(None) => {}
-                Err(fault) => return Err(fault),
+            let found = slot.line(rt, alloc, &self.accounts, made, asked);
+            if let Some(found) = found.transpose() {
+                return found;
             }
             slot = place.changed.wait_while(rt, slot, |slot| {
-                !self.accounts.lock(rt).is_full() && slot.is_pending(cell)
+                !are_full(rt, &self.accounts) && slot.is_pending(cell)
             });
         }
         unreachable!()
@@ -284,6 +281,23 @@ impl<D: Disk + Drop, M: CallLedger, K: CallLedger> Hall<D, M, K> {
     {
         self.board.read(&mut pass.seat, study)
     }
+}
+
+/// The only slot of a hall, with a book of which nothing was asked yet.
+fn place_of<D: Disk + Drop, K: CallLedger>(
+    alloc: Global,
+    book: Book<D>,
+    kept: Share<K>,
+) -> Result<Vec<LockedSlot<D, K>>, AllocError>
+    requires part { (kept.parts ≡ 1) × (kept.amount ≡ 0) }
+    requires fresh { IsFresh book.state.ledger.plan book.size book }
+    requires begun { MayBegin K.trusts book.state.ledger.plan book.state.ledger.base }
+    ensures { IfOk result (λ places. vec_len places ≡ 1) }
+{
+    let slot = Slot::new(alloc, Some(book), kept);
+    let mut places = Vec::new(alloc);
+    places.push(LockedSlot::new(slot))?;
+    Ok(places)
 }
 
 /// The slots, each without a book and with a part of the ledger of kept calls.

@@ -17,14 +17,14 @@ ghost use Rattle.cut_hall.specs.inside.Slot.{IsOpenedAs, SaysWhyUndone, AnswersL
 ghost use Rattle.cut_hall.specs.inside.Slot.{is_pending};
 ghost use Rattle.cut_hall.specs.inside.Slot.{CanGive, remembered_after, piece_at, HasDone, HasPlan};
 
-use crate::accounts::Accounts;
+use crate::accounts::{Accounts, are_full, count_call, uncount_call};
 use crate::{CallLedger, LineFault, SlotReport};
 use cut_book::{Book, BookFault, Opened, Shelf, SubmitFault, open_book};
 use cut_disks::Disk;
 use cut_outcome::{Piece, PieceResult};
 use cut_plan::Plan;
 use cut_table::{RowFault, row};
-use std::alloc::Global;
+use std::alloc::{AllocError, Global};
 use std::sync::ledger::Share;
 use std::sync::{Mutex, Wait};
 
@@ -64,6 +64,9 @@ struct BegunStudy<D: Disk> {
     opened: Opened,
     book: Book<D>,
     given: Vec<bool>,
+    ghost uncalled: { calls_in (Some book) ≡ 0 },
+    ghost first: { take (length (base_of (Some book))) (kept_of (Some book)) ≡ base_of (Some book) },
+    ghost unkept: { unkept_of (Some book) ≡ [] },
 }
 
 /// A place for the book of one study in a hall, with how many calls it had, and which of its lines were given.
@@ -132,13 +135,13 @@ impl<D: Disk + Drop, K: CallLedger> Slot<D, K> {
         let Some(book) = book else {
             return Err(CallFault::NoBook);
         };
-        if accounts.lock(rt).enter(made, kept).is_err() {
+        if count_call(rt, accounts, made, kept).is_err() {
             return Err(CallFault::Full);
         }
         match hand_to(book, offered) {
             Ok(()) => Ok(()),
             Err(BookFault::Memory) => {
-                accounts.lock(rt).take_back(made, kept);
+                uncount_call(rt, accounts, made, kept);
                 Err(CallFault::Refused(BookFault::Memory))
             }
             Err(fault) => Err(CallFault::Refused(fault)),
@@ -163,13 +166,13 @@ impl<D: Disk + Drop, K: CallLedger> Slot<D, K> {
         let Some(book) = book else {
             return Err(CallFault::NoBook);
         };
-        if accounts.lock(rt).enter(made, kept).is_err() {
+        if count_call(rt, accounts, made, kept).is_err() {
             return Err(CallFault::Full);
         }
         match book.lose(piece) {
             Ok(()) => Ok(()),
             Err(fault) => {
-                accounts.lock(rt).take_back(made, kept);
+                uncount_call(rt, accounts, made, kept);
                 Err(CallFault::Refused(fault))
             }
         }
@@ -209,7 +212,7 @@ impl<D: Disk + Drop, K: CallLedger> Slot<D, K> {
             ..
         } = self;
         let Some(book) = book else { unreachable!() };
-        if accounts.lock(rt).enter(made, kept).is_err() {
+        if count_call(rt, accounts, made, kept).is_err() {
             return Err(LineFault::Stopped);
         }
         match book.row(alloc, cell) {
@@ -218,7 +221,7 @@ impl<D: Disk + Drop, K: CallLedger> Slot<D, K> {
                 Ok(Some(line))
             }
             Err(_) => {
-                accounts.lock(rt).take_back(made, kept);
+                uncount_call(rt, accounts, made, kept);
                 Err(LineFault::WorkMemory)
             }
         }
@@ -244,7 +247,7 @@ impl<D: Disk + Drop, K: CallLedger> Slot<D, K> {
         if book.ledger().cell_done(cell) {
             return Ok(true);
         }
-        may_still_come(book, self.stopped || accounts.lock(rt).is_full())?;
+        may_still_come(book, self.stopped || are_full(rt, accounts))?;
         Ok(false)
     }
 
@@ -322,6 +325,18 @@ impl<D: Disk + Drop, K: CallLedger> Slot<D, K> {
         ensures err { OnErr result (self.new ≡ self.old) }
     {
         let begun = open_study(alloc, study, plan, shelf, piece_size)?;
+        Ok(self.keep(begun))
+    }
+
+    /// Keeps a study that was begun: what was opened.
+    fn keep(&mut self, begun: BegunStudy<D>) -> Opened
+        requires free { self.old.book ≡ None }
+        requires begun { MayBegin K.trusts begun.book.state.ledger.plan begun.book.state.ledger.base }
+        ensures opened { result ≡ begun.opened }
+        ensures book { self.new.book ≡ Some begun.book }
+        ensures given { self.new.given.items ≡ begun.given.items }
+        ensures stays { self.new.stopped ≡ self.old.stopped }
+    {
         let BegunStudy {
             opened,
             book,
@@ -329,7 +344,7 @@ impl<D: Disk + Drop, K: CallLedger> Slot<D, K> {
         } = begun;
         self.book = Some(book);
         self.given = given;
-        Ok(opened)
+        opened
     }
 
     /// What was opened in the slot, which has the book of this plan.
@@ -347,9 +362,7 @@ impl<D: Disk + Drop, K: CallLedger> Slot<D, K> {
         let Some(book) = &self.book else {
             unreachable!()
         };
-        let base = book.ledger().base().try_clone(alloc)?;
-        let plan = plan.try_clone(alloc)?;
-        Ok(Opened { study, plan, base })
+        Ok(opened_of(alloc, study, book)?)
     }
 
     /// Ends the work in the slot.
@@ -436,20 +449,36 @@ fn open_study<D: Disk + Drop, S: Shelf<D>>(
     ensures trusted { S.is_true shelf.now ≡ true → IfOk result (λ r. AreTrue plan r.opened.base) }
     ensures none_given { IfOk result (λ r. r.given.items ≡ replicate (length (cells_of plan)) false) }
 {
-    let copy = plan.try_clone(alloc)?;
-    let given = vec![in alloc; false; plan.cells() as usize]?;
+    let given = none_given(alloc, &plan)?;
     let book = open_book(alloc, plan, shelf, piece_size)?;
-    let base = book.ledger().base().try_clone(alloc)?;
-    let opened = Opened {
-        study,
-        plan: copy,
-        base,
-    };
+    let opened = opened_of(alloc, study, &book)?;
     Ok(BegunStudy {
         opened,
         book,
         given,
     })
+}
+
+/// What is remembered of the lines of a plan's cells at first: that none was given.
+fn none_given(alloc: Global, plan: &Plan) -> Result<Vec<bool>, AllocError>
+    ensures { IfOk result (λ given. given.items ≡ replicate (length (cells_of plan.now)) false) }
+{
+    vec![in alloc; false; plan.cells() as usize]
+}
+
+/// What was opened in a slot that has this book.
+fn opened_of<D: Disk + Drop>(
+    alloc: Global,
+    study: u32,
+    book: &Book<D>,
+) -> Result<Opened, AllocError>
+    ensures opened { IfOk result (λ o. (o.study ≡ study) × (o.plan ≡ book.now.state.ledger.plan)) }
+    ensures base { IfOk result (λ o. o.base ≡ book.now.state.ledger.base) }
+{
+    let ledger = book.ledger();
+    let base = ledger.base().try_clone(alloc)?;
+    let plan = ledger.plan().try_clone(alloc)?;
+    Ok(Opened { study, plan, base })
 }
 
 /// Hands a result to a book, which keeps what it began with.

@@ -1,8 +1,8 @@
 use Rattle.std.proofs.Common.{◌≡◌, ◌∙◌, true, false, sym}
 use Rattle.cut_hall.proofs.hall.Hall.of_book.Goals as goal
 
-pub new-slot-requires-clause-begun : goal.new-slot-requires-clause-begun
-new-slot-requires-clause-begun g c = record {
+pub place_of-requires-clause-begun : goal.place_of-requires-clause-begun
+place_of-requires-clause-begun g c = record {
   good = c.requires.good;
   true_if = λ t. absurd (let no : false ≡ true = sym c.requires.untrusted ∙ t in let none : ⊥ = cc in none);
 }
