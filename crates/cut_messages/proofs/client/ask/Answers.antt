@@ -22,5 +22,8 @@ returns-in-Ok-Done-clause-asks g c =
 
 pub returns-in-Err-take_piece-clause-asks : goal.returns-in-Err-take_piece-clause-asks
 returns-in-Err-take_piece-clause-asks g c =
-    grind (arith, has_failed c.loop.invariant c.read.new.buffer c.in-Ok-read.count c.take_piece.new.reader
-    (g.W.Wire.log c.read.new.self) (g.O.Wire.log c.take_piece.new.output) c.in-Ok-read.ensures.reads)
+    grind (
+      arith,
+      has_failed c.loop.invariant c.read.new.buffer c.in-Ok-read.count c.take_piece.new.reader
+          (g.W.Wire.log c.read.new.self) (g.O.Wire.log c.take_piece.new.output) c.in-Ok-read.ensures.reads,
+    )
