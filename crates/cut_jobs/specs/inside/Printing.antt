@@ -1,0 +1,32 @@
+-- What a job prints on the errors, by what is asked for.
+use Rattle.std.specs.Prelude.{◌≡◌, ◌+◌, ◌++◌, ℕ, Bool, true, false, List, ◌∷◌, length, map, codes, Option, Result, ⊤}
+use Rattle.std.specs.Borrow.{Bor}
+use Rattle.std.specs.Fmt.{decimal}
+use Rattle.cut_wires.specs.Log.{WireLog}
+use Rattle.cut_progress.specs.Printed.{HasPrinted}
+use Rattle.cut_machines.specs.JoinCommand.{NamesRefusedFile}
+use Rattle.cut_commands.specs.declared.fault.CliFault.{CliFault}
+use Rattle.cut_jobs.specs.Jobs.{PrintsRefused}
+
+-- what is printed on the errors where progress is asked for, and where it is not
+abbrev pub PrintsIf : Bool → WireLog → WireLog → Type 0
+PrintsIf true old new = HasPrinted old new
+PrintsIf false old new = new ≡ old
+
+-- what is printed there where it is asked which file is refused, by how the join ended, and where it is not
+abbrev pub PrintsFileIf : Bool → List (Bor (List ℕ)) → Result ⊤ CliFault → WireLog → WireLog → Type 0
+PrintsFileIf true files ended old new =
+    (refused : Option ℕ) × (NamesRefusedFile (length files) ended refused
+    × PrintsRefused (map (λ s. s.now) files) refused old new)
+PrintsFileIf false files ended old new = new ≡ old
+
+-- what comes before the path in the line of a refused file
+abbrev pub file_head : ℕ → List ℕ
+file_head place = codes "cutlab: file " ++ decimal place ++ codes ": "
+
+-- a path has a place, from 1, among others
+pub record IsFileAt (paths : List (List ℕ)) (place : ℕ) (path : List ℕ) : Type 0 where
+  pub before : List (List ℕ)
+  pub after : List (List ℕ)
+  pub all : paths ≡ before ++ path ∷ after
+  pub place_is : place ≡ length before + 1

@@ -1,0 +1,90 @@
+//! A join of checkpoints, with or without the name of a refused one on the errors.
+ghost use Rattle.std.specs.Prelude.{◌≡◌, ◌≤◌, ◌∷◌, ◌++◌, [], Some, length, map};
+ghost use Rattle.cut_commands.specs.Run.{EndsWithFile};
+ghost use Rattle.cut_machines.specs.JoinCommand.{join_files_task};
+ghost use Rattle.cut_jobs.specs.Jobs.{PrintsRefused, file_line};
+ghost use Rattle.cut_jobs.specs.inside.Printing.{PrintsFileIf, file_head};
+ghost use Rattle.cut_jobs.specs.Sent.{IsSent};
+
+use crate::program::report;
+use arrayvec::ArrayString;
+use cut_commands::CliFault;
+use cut_machines::{JoinedFiles, join_files};
+use cut_wires::{Wire, send_all};
+use itoa::Buffer;
+
+/// The values of a join: the new file, the old ones, and whether the one that is refused is named.
+#[derive(Clone, Copy)]
+pub(crate) struct JoinJob<'a> {
+    pub(crate) new: &'a str,
+    pub(crate) old: &'a [&'a str],
+    pub(crate) which: bool,
+}
+
+impl JoinJob<'_> {
+    /// Joins the files, and says on the errors which old one is refused, where that is asked for.
+    #[tactic(auto, using(crate::proofs::RefusedFiles::file_within))]
+    pub(crate) fn run<W, E>(
+        &self,
+        host: &HostRuntime,
+        wire: &mut W,
+        errors: &mut E,
+    ) -> Result<(), CliFault>
+    where
+        W: Wire,
+        E: Wire,
+        ensures ends { EndsWithFile join_files_task (W.log wire.old) (W.log wire.new) result }
+        ensures prints { PrintsFileIf self.now.which self.now.old.now result
+            (E.log errors.old) (E.log errors.new) }
+    {
+        let JoinedFiles { refused, ended } = join_files(host, wire, self.old, self.new);
+        if self.which {
+            if let Some(place) = refused {
+                report_refused(place, self.old, errors);
+            }
+        }
+        ended
+    }
+}
+
+/// Says on the errors which of some files is refused, by its place from 1. This takes no memory.
+fn report_refused<E: Wire>(place: usize, files: &[&str], errors: &mut E)
+    requires some { 1 ≤ place }
+    requires few { place ≤ length files.now }
+    ensures { PrintsRefused (map (λ s. s.now) files.now) (Some place) (E.log errors.old) (E.log errors.new) }
+{
+    report_file(place, files[place - 1], errors);
+}
+
+/// Says on the errors that the file of this place and path is refused.
+fn report_file<E: Wire>(place: usize, path: &str, errors: &mut E)
+    ensures { IsSent (file_line place path.now) (E.log errors.old) (E.log errors.new) }
+{
+    let head = file_head(place);
+    match send_all(errors, head.as_bytes()) {
+        Ok(()) => report_path(path, errors),
+        Err(_) => {}
+    }
+}
+
+/// Says a path on the errors, and ends the line.
+fn report_path<E: Wire>(path: &str, errors: &mut E)
+    ensures { IsSent (path.now ++ 10 ∷ []) (E.log errors.old) (E.log errors.new) }
+{
+    match send_all(errors, path.as_bytes()) {
+        Ok(()) => report(b"\n", errors),
+        Err(_) => {}
+    }
+}
+
+/// What comes before the path.
+fn file_head(place: usize) -> ArrayString<40>
+    ensures { result.bytes ≡ file_head place }
+{
+    let mut head = ArrayString::new();
+    let mut digits = Buffer::new();
+    head.push_str("cutlab: file ");
+    head.push_str(digits.format(place as u64));
+    head.push_str(": ");
+    head
+}

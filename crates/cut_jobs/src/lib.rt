@@ -1,0 +1,11 @@
+//! The jobs that a command line names, done over wires and files, and the status with which the program ends.
+#![tactic(auto)]
+
+mod jobs;
+mod join_job;
+mod program;
+mod run_job;
+mod share_job;
+mod study_job;
+
+pub use program::{end_unread, run_words};

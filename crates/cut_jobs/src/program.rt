@@ -1,0 +1,107 @@
+//! The program, over its words and wires.
+ghost use Rattle.std.specs.Prelude.{map, string_bytes, Err};
+ghost use Rattle.cut_jobs.specs.Program.{EndsProgram, ReportsEnd, ReportsLine, ReportsUnread};
+ghost use Rattle.cut_jobs.specs.Sent.{IsSent};
+
+use crate::jobs::answer;
+use cut_command_line::{NoJob, parse_line};
+use cut_commands::CliFault;
+use cut_wires::{Wire, send_all};
+use std::convert::AsStr;
+use std::io::ErrorKind;
+use std::sync::Wait;
+use std::thread::Threads;
+use std::time::Clock;
+
+/// The line of a word that is not UTF-8.
+const UNREADABLE_LINE: &[u8] = b"error: a word of the command line is not UTF-8\n";
+
+/// The program: it does what the words ask for, the first of which is its own name, and returns the
+/// status with which it ends.
+///
+/// A command reads its plan from `wire` and writes its answer to it; its fault is one line on `errors`, from
+/// which nothing is read, after the lines of progress, or that of a refused file, where these are asked for. Help
+/// goes to `wire`, what is wrong with the words to `errors`, both as clap writes them. The files of checkpoints
+/// are opened by `host`, and the threads of a study are made by `rt`.
+pub fn run_words<R, S, W, E>(
+    host: &HostRuntime,
+    rt: &R,
+    words: &[S],
+    wire: &mut W,
+    errors: &mut E,
+) -> u8
+where
+    R: Threads + Wait + Clock + Sync,
+    S: AsStr,
+    W: Wire,
+    E: Wire + Send,
+    ensures { EndsProgram (map S.text words.now) (W.log wire.old) (W.log wire.new)
+        (E.log errors.old) (E.log errors.new) result }
+{
+    match parse_line(host.alloc(), words) {
+        Ok(job) => {
+            let ended = answer(host, rt, job, wire, errors);
+            end(ended, errors)
+        }
+        Err(fault) => end_line(&fault, wire, errors),
+    }
+}
+
+/// Ends as a command did.
+fn end<E: Wire>(ended: Result<(), CliFault>, errors: &mut E) -> u8
+    ensures { ReportsEnd ended (E.log errors.old) (E.log errors.new) result }
+{
+    match ended {
+        Ok(()) => 0,
+        Err(fault) => end_fault(&fault, errors),
+    }
+}
+
+/// Ends with a fault, which is reported by its line. This takes no memory.
+fn end_fault<E: Wire>(fault: &CliFault, errors: &mut E) -> u8
+    ensures { ReportsEnd (Err fault.now) (E.log errors.old) (E.log errors.new) result }
+{
+    let mut line = fault.text();
+    line.push_str("\n");
+    report(line.as_bytes(), errors);
+    fault.status()
+}
+
+/// Ends where the words name no job: help goes to the output, and a mistake to the errors.
+fn end_line<W: Wire, E: Wire>(fault: &NoJob, wire: &mut W, errors: &mut E) -> u8
+    ensures { ReportsLine fault.now.status (string_bytes fault.now.text)
+        (W.log wire.old) (W.log wire.new) (E.log errors.old) (E.log errors.new) result }
+{
+    let text = fault.text.as_bytes();
+    if text.is_empty() {
+        return end_fault(&CliFault::Memory, errors);
+    }
+    if fault.status == 0 {
+        return match send_all(wire, text) {
+            Ok(()) => 0,
+            Err(fault) => end_fault(&CliFault::Write(fault), errors),
+        };
+    }
+    report(text, errors);
+    fault.status
+}
+
+/// Ends where the words can't be read: one of them is not UTF-8, or memory for them was refused.
+pub fn end_unread<E: Wire>(kind: ErrorKind, errors: &mut E) -> u8
+    ensures { ReportsUnread kind (E.log errors.old) (E.log errors.new) result }
+{
+    match kind {
+        ErrorKind::InvalidData => {
+            report(UNREADABLE_LINE, errors);
+            2
+        }
+        _ => end_fault(&CliFault::Memory, errors),
+    }
+}
+
+/// Writes a text as far as the wire takes it.
+pub(crate) fn report<E: Wire>(text: &[u8], errors: &mut E)
+    ensures { IsSent text.now (E.log errors.old) (E.log errors.new) }
+{
+    let _ = send_all(errors, text);
+}

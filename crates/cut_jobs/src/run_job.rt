@@ -1,0 +1,98 @@
+//! What workers run, with or without its progress on the errors.
+ghost use Rattle.cut_progress.specs.Printed.{HasPrinted};
+ghost use Rattle.cut_jobs.specs.inside.Jobs.{EndsWork};
+ghost use Rattle.cut_jobs.specs.inside.Printing.{PrintsIf};
+
+use crate::share_job::ShareJob;
+use crate::study_job::StudyJob;
+use cut_commands::CliFault;
+use cut_hall::{Hooks, NoHooks};
+use cut_progress::{Progress, report_while};
+use cut_wires::Wire;
+use std::sync::Wait;
+use std::thread::Threads;
+use std::time::Clock;
+
+/// What workers run.
+#[derive(Clone, Copy)]
+pub(crate) enum WorkersJob<'a> {
+    /// A whole study.
+    Study(StudyJob<'a>),
+    /// A share of one.
+    Share(ShareJob<'a>),
+}
+
+/// What workers run, and whether its progress is printed.
+#[derive(Clone, Copy)]
+pub(crate) struct RunJob<'a> {
+    pub(crate) work: WorkersJob<'a>,
+    pub(crate) progress: bool,
+}
+
+impl WorkersJob<'_> {
+    /// Runs it, by workers that call hooks.
+    fn run_with<W, G, R>(
+        &self,
+        host: &HostRuntime,
+        rt: &R,
+        wire: &mut W,
+        hooks: &G,
+    ) -> Result<(), CliFault>
+    where
+        W: Wire,
+        G: Hooks + Sync,
+        R: Threads + Wait + Sync,
+        ensures { EndsWork self.now (W.log wire.old) (W.log wire.new) result }
+    {
+        match self {
+            WorkersJob::Study(job) => job.run_with(host, rt, wire, hooks),
+            WorkersJob::Share(job) => job.run_with(host, rt, wire, hooks),
+        }
+    }
+}
+
+impl RunJob<'_> {
+    /// Runs the job, and prints its progress on the errors where it is asked for.
+    pub(crate) fn run<W, E, R>(
+        &self,
+        host: &HostRuntime,
+        rt: &R,
+        wire: &mut W,
+        errors: &mut E,
+    ) -> Result<(), CliFault>
+    where
+        W: Wire,
+        E: Wire + Send,
+        R: Threads + Wait + Clock + Sync,
+        ensures ends { EndsWork self.now.work (W.log wire.old) (W.log wire.new) result }
+        ensures prints { PrintsIf self.now.progress (E.log errors.old) (E.log errors.new) }
+    {
+        if self.progress {
+            self.run_and_report(host, rt, wire, errors)
+        } else {
+            self.work.run_with(host, rt, wire, &NoHooks)
+        }
+    }
+
+    /// Runs the job, and prints its progress on the errors.
+    fn run_and_report<W, E, R>(
+        &self,
+        host: &HostRuntime,
+        rt: &R,
+        wire: &mut W,
+        errors: &mut E,
+    ) -> Result<(), CliFault>
+    where
+        W: Wire,
+        E: Wire + Send,
+        R: Threads + Wait + Clock + Sync,
+        ensures ends { EndsWork self.now.work (W.log wire.old) (W.log wire.new) result }
+        ensures prints { HasPrinted (E.log errors.old) (E.log errors.new) }
+    {
+        let progress = Progress::new();
+        let mut run = || -> Result<(), CliFault>
+            ensures { EndsWork self.entry.now.work (W.log wire.entry.now) (W.log wire.exit.now) result }
+        { self.work.run_with(host, rt, wire, &progress) };
+        report_while(rt, &progress, errors, &mut run)
+    }
+}

@@ -1,0 +1,47 @@
+//! A study that is run.
+ghost use Rattle.std.specs.Prelude.{◌≤◌};
+ghost use Rattle.cut_jobs.specs.inside.Runs.{EndsRun};
+
+use cut_commands::{CliFault, Work, run_file, run_io};
+use cut_disks::FileDisk;
+use cut_hall::Hooks;
+use cut_wires::Wire;
+use std::sync::Wait;
+use std::thread::Threads;
+
+/// The values of a run: the size of its pieces, the number of its workers, and the file that it is kept in.
+#[derive(Clone, Copy)]
+pub(crate) struct StudyJob<'a> {
+    pub(crate) piece: u32,
+    pub(crate) workers: u32,
+    pub(crate) checkpoint: Option<&'a str>,
+    pub(crate) ghost size: { 1 ≤ piece },
+    pub(crate) ghost few: { (1 ≤ workers) × (workers ≤ 64) },
+}
+
+impl StudyJob<'_> {
+    /// Runs it, by workers that call hooks.
+    pub(crate) fn run_with<W, G, R>(
+        &self,
+        host: &HostRuntime,
+        rt: &R,
+        wire: &mut W,
+        hooks: &G,
+    ) -> Result<(), CliFault>
+    where
+        W: Wire,
+        G: Hooks + Sync,
+        R: Threads + Wait + Sync,
+        ensures { EndsRun self.now.checkpoint (W.log wire.old) (W.log wire.new) result }
+    {
+        let work = Work {
+            piece_size: self.piece,
+            workers: self.workers,
+            hooks,
+        };
+        match self.checkpoint {
+            None => run_io::<W, FileDisk, G, R>(rt, host.alloc(), wire, work, None),
+            Some(path) => run_file(host, rt, wire, work, path),
+        }
+    }
+}

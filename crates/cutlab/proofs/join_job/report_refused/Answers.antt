@@ -1,5 +1,0 @@
-use Rattle.cutlab.proofs.RefusedFiles.{prints_at}
-use Rattle.cutlab.proofs.join_job.report_refused.Goals as goal
-
-pub returns : goal.returns
-returns g c = prints_at c.args.files.now c.args.place _ c.requires.some c.requires.few _ _ c.report_file.ensures

@@ -1,4 +1,0 @@
--- How cutlab keeps its values, and what its private functions promise: no contract of a public function cites it.
-pub mod Jobs
-pub mod Printing
-pub mod Runs
