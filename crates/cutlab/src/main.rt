@@ -2,15 +2,8 @@
 //! for the parameters K, H and L of Rapid's cut detection.
 #![tactic(auto)]
 
-pub use cut_command_line::{Job, NoJob, parse_line};
-pub use cut_commands::{CliFault, ask_io, check_io, migrate_io, run_io};
-pub use cut_jobs::{end_unread, run_words};
-pub use cut_machines::{ShareWork, join_io, share_io};
-pub use cut_server::{
-    Capacity, FolderShelf, ListenFault, Listener, Socket, SocketWire, serve_io, serve_sessions,
-};
-pub use cut_share::Share;
-pub use cut_wires::StreamWire;
+use cut_jobs::{end_unread, run_words};
+use cut_wires::StreamWire;
 use std::alloc::Global;
 use std::env::Env;
 use std::process::ExitCode;
