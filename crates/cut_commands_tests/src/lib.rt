@@ -7,4 +7,5 @@
 
 #[cfg(test)]
 mod commands;
-pub mod workers;
+#[cfg(test)]
+mod workers;

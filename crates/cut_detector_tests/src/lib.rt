@@ -11,7 +11,8 @@ mod alerts;
 mod detectors;
 #[cfg(test)]
 mod draws;
-pub mod edges;
+#[cfg(test)]
+mod edges;
 #[cfg(test)]
 mod rings;
 #[cfg(test)]

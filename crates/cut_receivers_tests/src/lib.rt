@@ -8,7 +8,8 @@
 
 #[cfg(test)]
 mod drawn;
-pub mod edges;
+#[cfg(test)]
+mod edges;
 #[cfg(test)]
 mod lanes;
 #[cfg(test)]

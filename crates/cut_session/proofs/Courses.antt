@@ -148,11 +148,11 @@ module _ {hall : HallValue} {low high : View} {r : Reading} {requests : ℕ} {fi
     (s : IsServing hall low high r requests [] first now) (new : Sending) where
   -- a read gave some bytes
   pub serves_given : (buffer : List ℕ) (n : ℕ) → new ≡ got_on now buffer n → 0 < n
-      → IsServing hall low high r requests (take n buffer) first new
+      → (t : IsServing hall low high r requests (take n buffer) first new) × (s.stream ≡ t.stream)
   serves_given buffer n is some =
       let not_zero : nat_eq n 0 ≡ false = grind (arith, nat_tests) in
       let piece : List ℕ = take n buffer in
-      record {
+      (record {
         stream = s.stream;
         messages = s.messages;
         out = s.out;
@@ -170,7 +170,7 @@ module _ {hall : HallValue} {low high : View} {r : Reading} {requests : ℕ} {fi
               (conveyed s.out (s.stream ++ piece)) first.log
               (λ t. cc (not_zero, append-nil s.stream, append_assoc t.given s.stream piece)),
         );
-      }
+      }, refl)
 
   -- or the end
   gave_end : (buffer : List ℕ) (n : ℕ) → new ≡ got_on now buffer n → n ≡ 0

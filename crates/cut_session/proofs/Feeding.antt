@@ -183,12 +183,13 @@ module _ {hall : HallValue} {low middle : View} {r next : Reading} {requests : �
         let due : IsDue (session.Stream fault) (fed_course all_first) = ((drop_all count shown none, refl), stands) in
         leaves (is_fed_course all_first) due (all_stands (session.Stream fault) (λ l. refl)) result new l
 
-    -- the session goes on
-    pub fed_on : length shown ≤ count → next.fault ≡ None → IsServing hall low high next (requests + count) [] first mid
-    fed_on none right =
+    -- the session goes on, and has read the piece
+    pub fed_on : length shown ≤ count → next.fault ≡ None → 0 < length piece
+        → (n : IsServing hall low high next (requests + count) [] first mid) × (length s.stream < length n.stream)
+    fed_on none right some =
         let answered : s.messages ++ more ≡ s.messages ++ take count shown =
         cc (same, take-append-drop count shown, drop_all count shown none, append-nil (take count shown)) in
-        record {
+        (record {
           stream = s.stream ++ piece;
           messages = s.messages ++ take count shown;
           out = s.out ++ all.0;
@@ -199,4 +200,4 @@ module _ {hall : HallValue} {low middle : View} {r next : Reading} {requests : �
           replies = all_then hall low middle high s.messages (take count shown) s.out all.0 s.replies all.1;
           few = fed_short all_first;
           line = fed_line all.0 mid all.3;
-        }
+        }, omega (arith, some, length-append s.stream piece))

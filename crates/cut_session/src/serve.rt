@@ -107,9 +107,10 @@ where
     ) -> Result<u32, SessionEnd>
         requires few { requests ≤ MOST_REQUESTS }
         ensures goes { (low : View) (first : Sending) → first.sent ≡ 0 →
-            IsServing self.old.hall.now low self.old.pass.now.view reader.old requests []
-            first (sending W.log line.old) →
-            Goes self.old.hall.now low self.new.pass.now.view result reader.new first (sending W.log line.new) }
+            (s : IsServing self.old.hall.now low self.old.pass.now.view reader.old requests []
+                first (sending W.log line.old)) →
+            Goes self.old.hall.now low self.new.pass.now.view s.stream result reader.new
+                first (sending W.log line.new) }
         ensures few { IfOk result (λ more. more ≤ MOST_REQUESTS) }
         ensures stays { (self.new.hall.now ≡ self.old.hall.now)
             × (self.new.pass.ghost_name ≡ self.old.pass.ghost_name) }
@@ -139,9 +140,10 @@ where
         requires few { requests ≤ MOST_REQUESTS }
         requires piece { (0 < length piece.now) × (length piece.now ≤ READ_SIZE) }
         ensures goes { (low : View) (first : Sending) → first.sent ≡ 0 →
-            IsServing self.old.hall.now low self.old.pass.now.view reader.old requests piece.now
-            first (sending W.log line.old) →
-            Goes self.old.hall.now low self.new.pass.now.view result reader.new first (sending W.log line.new) }
+            (s : IsServing self.old.hall.now low self.old.pass.now.view reader.old requests piece.now
+                first (sending W.log line.old)) →
+            Goes self.old.hall.now low self.new.pass.now.view s.stream result reader.new
+                first (sending W.log line.new) }
         ensures few { IfOk result (λ more. more ≤ MOST_REQUESTS) }
         ensures stays { (self.new.hall.now ≡ self.old.hall.now)
             × (self.new.pass.ghost_name ≡ self.old.pass.ghost_name) }
@@ -152,10 +154,7 @@ where
         };
         let messages = fed.messages.as_slice();
         let count = messages.len().min((MOST_REQUESTS - requests) as usize);
-        match self.answer_all(line, &messages[..count]) {
-            Ok(()) => {}
-            Err(end) => return Err(end),
-        }
+        self.answer_all(line, &messages[..count])?;
         if count < messages.len() {
             return Err(leave(line, SessionFault::TooManyRequests));
         }

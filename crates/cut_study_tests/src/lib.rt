@@ -7,7 +7,8 @@
 
 #[cfg(test)]
 mod books;
-pub mod piece;
+#[cfg(test)]
+mod piece;
 #[cfg(test)]
 mod refused_memory;
 #[cfg(test)]

@@ -1,5 +1,5 @@
 -- What the parts of a session do. Only the crate's private clauses cite it.
-use Rattle.std.specs.Prelude.{◌≡◌, ◌+◌, ◌*◌, ◌-◌, ◌^◌, ◌≤◌, ◌++◌, ℕ, List, [], length, min, Result, Ok, Err, None, ⊤}
+use Rattle.std.specs.Prelude.{◌≡◌, ◌+◌, ◌*◌, ◌-◌, ◌^◌, ◌<◌, ◌≤◌, ◌++◌, ℕ, List, [], length, min, Result, Ok, Err, None, ⊤}
 use Rattle.cut_board.specs.declared.view.View.{View}
 use Rattle.cut_wires.specs.Log.{Traffic, passing}
 use Rattle.cut_wires.specs.Sending.{Sending, Sends, sent_on}
@@ -98,7 +98,8 @@ pub record IsServing (hall : HallValue) (low high : View) (r : Reading) (request
 abbrev pub ConcludesTable : HallValue → View → View → SessionEnd → Sending → Sending → Type 0
 ConcludesTable hall low high end old new = EndsSession hall low high end old.log new.log × (new.wire ≡ old.wire)
 
--- after a piece the session goes on, or has ended
-abbrev pub Goes : HallValue → View → View → Result ℕ SessionEnd → Reading → Sending → Sending → Type 0
-Goes hall low high (Ok requests) r old new = IsServing hall low high r requests [] old new
-Goes hall low high (Err end) r old new = ConcludesTable hall low high end old new
+-- after a piece the session goes on, and has read more than these bytes, or has ended
+abbrev pub Goes : HallValue → View → View → List ℕ → Result ℕ SessionEnd → Reading → Sending → Sending → Type 0
+Goes hall low high read (Ok requests) r old new =
+    (s : IsServing hall low high r requests [] old new) × (length read < length s.stream)
+Goes hall low high read (Err end) r old new = ConcludesTable hall low high end old new

@@ -14,8 +14,8 @@ pub loop-preserved : goal.loop-preserved
 loop-preserved g c = record {
   next = tt;
   finite = tt;
-  serving = (rw c.loop.invariant.hall at (c.in-Ok.ensures.goes c.args.self.now.pass.now.view
-      (sending g.W.Wire.log c.args.line.now) c.requires)) c.loop.invariant.serving;
+  serving = ((rw c.loop.invariant.hall at (c.in-Ok.ensures.goes c.args.self.now.pass.now.view
+      (sending g.W.Wire.log c.args.line.now) c.requires)) c.loop.invariant.serving).0;
   few = c.in-Ok.ensures.few;
   hall = c.take_next.ensures.stays.0 ∙ c.loop.invariant.hall;
   pass = c.take_next.ensures.stays.1 ∙ c.loop.invariant.pass;

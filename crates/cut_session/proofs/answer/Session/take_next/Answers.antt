@@ -23,6 +23,6 @@ returns-in-Err-finish-clause-goes g c = λ low first none_sent s.
 
 pub returns-clause-goes : goal.returns-clause-goes
 returns-clause-goes g c = λ low first none_sent s.
-    c.take_piece.ensures.goes low first none_sent
-    (serves_given s (sending g.W.Wire.log c.read.new.self) c.read.new.buffer c.in-Ok.count
-    c.in-Ok.ensures.reads (omega (arith, c.if-count-eq0.false)))
+    (let given = serves_given s (sending g.W.Wire.log c.read.new.self) c.read.new.buffer c.in-Ok.count
+    c.in-Ok.ensures.reads (omega (arith, c.if-count-eq0.false)) in
+    rw given.1 (c.take_piece.ensures.goes low first none_sent given.0))

@@ -41,4 +41,4 @@ returns-clause-goes g c = λ low first none_sent s.
     c.as_slice-messages.ensures.value (omega (arith, c.min-count.ensures, c.requires.few))
     (omega (arith, c.min-count.ensures)) none_sent (sending g.W.Wire.log c.answer_all.new.line)
     c.in-Ok-answer_all.ensures.serves (omega (arith, c.if-count-messages.false))
-    (sym c.in-Ok.ensures.fault ∙ c.in-None.is)
+    (sym c.in-Ok.ensures.fault ∙ c.in-None.is) c.requires.piece.0
