@@ -49,7 +49,7 @@ impl<D: Disk + Drop, M: CallLedger, K: CallLedger> Hall<D, M, K> {
             (λ back. (back.0 ≡ self) × (back.1.items ≡ passes.items))
             self.slots self.passes passes.items e) }
     {
-        if passes.len() < self.passes as usize {
+        if lacks_passes(&passes, self.passes) {
             return Err(NotClosed::SeatMissing((self, passes)));
         }
         let Ok(parts) = take_apart(alloc, &self.board, passes) else {
@@ -76,6 +76,14 @@ impl<D: Disk + Drop, M: CallLedger, K: CallLedger> Hall<D, M, K> {
             Err(mismatch) => Err(NotClosed::AuditMismatch(mismatch)),
         }
     }
+}
+
+/// Whether these are fewer passes than were given.
+fn lacks_passes<M: CallLedger>(passes: &Vec<Pass<M>>, given: u32) -> bool
+    ensures fewer { result ≡ true → length passes.now.items < given }
+    ensures all { result ≡ false → given ≤ length passes.now.items }
+{
+    passes.len() < given as usize
 }
 
 /// Takes a board's passes apart.

@@ -154,7 +154,10 @@ where
         };
         let messages = fed.messages.as_slice();
         let count = messages.len().min((MOST_REQUESTS - requests) as usize);
-        self.answer_all(line, &messages[..count])?;
+        match self.answer_all(line, &messages[..count]) {
+            Ok(()) => {}
+            Err(end) => return Err(end),
+        }
         if count < messages.len() {
             return Err(leave(line, SessionFault::TooManyRequests));
         }

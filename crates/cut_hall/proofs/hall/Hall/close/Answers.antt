@@ -1,4 +1,4 @@
-use Rattle.std.proofs.Common.{◌≡◌, ℕ, ◌<◌, ◌∙◌, List, length, Some, sym, ap, arith}
+use Rattle.std.proofs.Common.{◌≡◌, ℕ, ◌<◌, ◌∙◌, List, length, Some, refl, sym, ap, arith}
 use Rattle.std.specs.Prelude.{slice_get}
 use Rattle.std.proofs.lemmas.Option.{slice_get_within}
 use Rattle.cut_board.specs.declared.totals.StudyTotals.{StudyTotals}
@@ -74,3 +74,20 @@ returns-clause-why g c =
       ap calls_in_all report ∙ sym c.in-Ok-end_all.ensures.kept.1 ∙ sym c.compare.ensures
           ∙ c.in-Ok.ensures.parts.amount_is,
     )
+
+pub returns-then-lacks_passes-clause-why : goal.returns-then-lacks_passes-clause-why
+returns-then-lacks_passes-clause-why g c =
+    let all = ap (λ (r : HallValue). r.passes) c.self.view_is in
+    let fewer = c.lacks_passes.ensures.fewer c.if-lacks_passes.true in
+    (omega (arith, fewer, c.self.invariant.1, all), (refl, refl))
+
+pub take_apart-requires-clause-some : goal.take_apart-requires-clause-some
+take_apart-requires-clause-some g c =
+    let enough = c.lacks_passes.ensures.all c.if-lacks_passes.false in
+    omega (arith, enough, c.self.invariant.1, c.self.invariant.5)
+
+pub returns-in_default-clause-why : goal.returns-in_default-clause-why
+returns-in_default-clause-why g c =
+    let all = ap (λ (r : HallValue). r.passes) c.self.view_is in
+    let enough = c.lacks_passes.ensures.all c.if-lacks_passes.false in
+    omega (arith, enough, c.self.invariant.1, all)
