@@ -1,7 +1,7 @@
 ghost use Rattle.std.specs.Prelude.{◌≡◌, ◌==◌, ◌+◌, ◌-◌, ◌^◌, ◌<◌, MatchResult};
 
-use crate::CallLedger;
-use std::sync::ledger::{Blank, Book, Share};
+use crate::{Blanks, CallLedger};
+use std::sync::ledger::{Book, Share};
 use std::sync::{Mutex, Wait};
 
 /// Both ledgers have counted 2^64 - 1 calls, and count no more.
@@ -21,13 +21,14 @@ pub(crate) struct Accounts<M: CallLedger, K: CallLedger> {
 
 impl<M: CallLedger, K: CallLedger> Accounts<M, K> {
     /// No calls yet, with a share that has all parts of the one ledger, and one that has all of the other.
-    pub(crate) fn open(made: Blank, kept: Blank) -> (Accounts<M, K>, Share<M>, Share<K>)
-        requires made { (made.name ≡ M.name) × (made.parts ≡ M.parts) }
-        requires kept { (kept.name ≡ K.name) × (kept.parts ≡ K.parts) }
+    pub(crate) fn open(blanks: Blanks) -> (Accounts<M, K>, Share<M>, Share<K>)
+        requires made { (blanks.made.name ≡ M.name) × (blanks.made.parts ≡ M.parts) }
+        requires kept { (blanks.kept.name ≡ K.name) × (blanks.kept.parts ≡ K.parts) }
         ensures none { result.0.count ≡ 0 }
         ensures made { (result.1.parts ≡ M.parts) × (result.1.amount ≡ 0) }
         ensures kept { (result.2.parts ≡ K.parts) × (result.2.amount ≡ 0) }
     {
+        let Blanks { made, kept } = blanks;
         let (made, passes) = made.open::<M>();
         let (kept, slots) = kept.open::<K>();
         let accounts = Accounts {

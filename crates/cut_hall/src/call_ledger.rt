@@ -1,7 +1,7 @@
 ghost use Rattle.std.specs.Prelude.{ℕ, Bool};
 
 use std::marker::Brand;
-use std::sync::ledger::Ledger;
+use std::sync::ledger::{Blank, Ledger};
 
 /// A ledger of the calls that are made of books. Each call counts once in it.
 pub trait CallLedger: Ledger {
@@ -10,6 +10,15 @@ pub trait CallLedger: Ledger {
 
     /// Whether the slips that studies begin with, whose calls it counts, are those that their trials give.
     ghost trusts: { Bool };
+}
+
+/// The blanks of a hall's two ledgers of calls.
+#[derive(Drop)]
+pub struct Blanks {
+    /// That of the calls that are made, with a part for each pass.
+    pub made: Blank,
+    /// That of the calls that are kept, with a part for each slot.
+    pub kept: Blank,
 }
 
 impl CallLedger for Brand {

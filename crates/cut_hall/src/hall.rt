@@ -15,14 +15,14 @@ ghost use Rattle.cut_ledger.specs.Slips.{AreGood};
 use crate::accounts::{Accounts, are_full};
 use crate::slot::{Asked, Match, Slot};
 use crate::work::SharedInput;
-use crate::{CallLedger, LineFault, Pass};
+use crate::{Blanks, CallLedger, LineFault, Pass};
 use cut_board::{Board, Seat, SeatFault};
 use cut_book::{Book, Opened, Shelf, SubmitFault};
 use cut_disks::Disk;
 use cut_plan::Plan;
 use std::alloc::{AllocError, Global};
 use std::marker::Model;
-use std::sync::ledger::{Blank, Share};
+use std::sync::ledger::Share;
 use std::sync::{Condvar, Mutex, Wait};
 
 /// The lock of a slot, where those wait who wait for a change in it, and what its workers share.
@@ -88,15 +88,14 @@ impl<D: Disk + Drop, M: CallLedger, K: CallLedger> Hall<D, M, K> {
         slots: u32,
         passes: u32,
         piece_size: u32,
-        made: Blank,
-        kept: Blank,
+        blanks: Blanks,
     ) -> Result<(Hall<D, M, K>, Vec<Pass<M>>), AllocError>
         requires slots { (0 < slots) × (slots ≤ 64) }
         requires passes { (0 < passes) × (passes ≤ 129) }
         requires size { 1 ≤ piece_size }
-        requires made { (made.name ≡ M.name) × (made.parts ≡ M.parts)
+        requires made { (blanks.made.name ≡ M.name) × (blanks.made.parts ≡ M.parts)
             × (M.all ≡ M.parts) × (M.all ≡ passes) }
-        requires kept { (kept.name ≡ K.name) × (kept.parts ≡ K.parts)
+        requires kept { (blanks.kept.name ≡ K.name) × (blanks.kept.parts ≡ K.parts)
             × (K.all ≡ K.parts) × (K.all ≡ slots) }
         ensures hall { IfOk result (λ r. (r.0.slots ≡ slots) × (r.0.passes ≡ passes)) }
         ensures trusted { IfOk result (λ r. r.0.is_trusted ≡ K.trusts) }
@@ -105,7 +104,7 @@ impl<D: Disk + Drop, M: CallLedger, K: CallLedger> Hall<D, M, K> {
         ensures idle { IfOk result (λ r. All (λ p. (p.view ≡ idle 1) × (p.made ≡ 0)) r.1.items) }
     {
         let (board, seats) = Board::start(alloc, slots, passes)?;
-        let (accounts, made, kept) = Accounts::open(made, kept);
+        let (accounts, made, kept) = Accounts::open(blanks);
         let places = places_of(alloc, slots, kept)?;
         let given = deal(alloc, &board, seats, made)?;
         let hall = Hall {
@@ -125,23 +124,22 @@ impl<D: Disk + Drop, M: CallLedger, K: CallLedger> Hall<D, M, K> {
         book: Book<D>,
         piece_size: u32,
         passes: u32,
-        made: Blank,
-        kept: Blank,
+        blanks: Blanks,
     ) -> Result<(Hall<D, M, K>, Vec<Pass<M>>), AllocError>
         requires fresh { IsFresh book.state.ledger.plan book.size book }
         requires good { AreGood book.state.ledger.plan book.state.ledger.base }
         requires untrusted { K.trusts ≡ false }
         requires size { 1 ≤ piece_size }
         requires passes { (0 < passes) × (passes ≤ 129) }
-        requires made { (made.name ≡ M.name) × (made.parts ≡ M.parts)
+        requires made { (blanks.made.name ≡ M.name) × (blanks.made.parts ≡ M.parts)
             × (M.all ≡ M.parts) × (M.all ≡ passes) }
-        requires kept { (kept.name ≡ K.name) × (kept.parts ≡ K.parts)
+        requires kept { (blanks.kept.name ≡ K.name) × (blanks.kept.parts ≡ K.parts)
             × (K.all ≡ K.parts) × (K.all ≡ 1) }
         ensures hall { IfOk result (λ r. (r.0.slots ≡ 1) × (r.0.passes ≡ passes)) }
         ensures passes { IfOk result (λ r. length r.1.items ≡ passes) }
         ensures own { IfOk result (λ r. All (λ p. p.hall ≡ r.0.id) r.1.items) }
     {
-        let (accounts, made, kept) = Accounts::open(made, kept);
+        let (accounts, made, kept) = Accounts::open(blanks);
         let places = place_of(alloc, book, kept)?;
         let (board, seats) = Board::start(alloc, 1, passes)?;
         let given = deal(alloc, &board, seats, made)?;

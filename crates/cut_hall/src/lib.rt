@@ -21,7 +21,7 @@ mod report;
 mod slot;
 mod work;
 
-pub use call_ledger::CallLedger;
+pub use call_ledger::{Blanks, CallLedger};
 pub use cut_hooks::{Hooks, NoHooks};
 pub use hall::Hall;
 pub use line_fault::LineFault;

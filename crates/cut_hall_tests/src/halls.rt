@@ -5,7 +5,7 @@ ghost use Rattle.cut_hall.specs.declared.not_closed.NotClosed.TheVariants.{SeatM
 
 use crate::deeds::{Deed, End, Guest, Stormy, closed};
 use cut_book::{NoShelf, Opened};
-use cut_hall::{CallLedger, Hall, NoHooks, NotClosed, Pass, Report, StudyCell};
+use cut_hall::{Blanks, CallLedger, Hall, NoHooks, NotClosed, Pass, Report, StudyCell};
 use cut_ledger::{Base, Slip};
 use cut_outcome::{Piece, Totals};
 use cut_plan::Plan;
@@ -184,7 +184,7 @@ fn play_in_hall<M: CallLedger, K: CallLedger, R: Wait>(
     requires kept { (kept.name ≡ K.name) × (kept.parts ≡ K.parts) × (K.all ≡ K.parts)
         × (K.all ≡ scene.now.slots) }
 {
-    let started = Hall::start(alloc, scene.slots, 2, 1, made, kept);
+    let started = Hall::start(alloc, scene.slots, 2, 1, Blanks { made, kept });
     let (hall, mut passes): (Stormy<M, K>, Vec<Pass<M>>) = started?;
     let Some(mut first) = passes.pop() else {
         unreachable!()

@@ -3,7 +3,7 @@ ghost use Rattle.std.specs.Prelude.{◌≡◌, ◌<◌, ◌≤◌, All};
 ghost use Rattle.atomic_table.specs.Seated.{TableId};
 
 use crate::deeds::{Brittle, Deed, End, Guest, Stormy, Tools, closed, put_back};
-use cut_hall::{CallLedger, Hall, NoHooks, Pass, Report};
+use cut_hall::{Blanks, CallLedger, Hall, NoHooks, Pass, Report};
 use cut_plan::{Plan, PlanFault};
 use cut_study_cases::{Study, TWO_CELLS, studies};
 use rand_chacha::ChaCha8Rng;
@@ -336,8 +336,7 @@ where
         storm.slots,
         4,
         storm.piece_size,
-        made,
-        kept,
+        Blanks { made, kept },
     )?;
     let Some(mut last) = passes.pop() else {
         unreachable!()

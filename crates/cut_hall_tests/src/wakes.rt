@@ -3,7 +3,7 @@ ghost use Rattle.std.specs.Prelude.{◌≡◌};
 ghost use Rattle.atomic_table.specs.Seated.{TableId};
 
 use crate::deeds::{Brittle, Deed, End, Guest, Stormy, Tools};
-use cut_hall::{CallLedger, Hall, Pass};
+use cut_hall::{Blanks, CallLedger, Hall, Pass};
 use cut_study_cases::TWO_CELLS;
 use std::alloc::Global;
 use std::marker::Brand;
@@ -217,7 +217,13 @@ where
     requires made { (made.name ≡ M.name) × (made.parts ≡ M.parts) × (M.all ≡ M.parts) × (M.all ≡ 2) }
     requires kept { (kept.name ≡ K.name) × (kept.parts ≡ K.parts) × (K.all ≡ K.parts) × (K.all ≡ 1) }
 {
-    let (hall, mut passes): (Stormy<M, K>, Vec<Pass<M>>) = Hall::start(alloc, 1, 2, 1, made, kept)?;
+    let (hall, mut passes): (Stormy<M, K>, Vec<Pass<M>>) = Hall::start(
+        alloc,
+        1,
+        2,
+        1,
+        Blanks { made, kept },
+    )?;
     let Some(mut waiter) = passes.pop() else {
         unreachable!()
     };

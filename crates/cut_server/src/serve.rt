@@ -12,7 +12,7 @@ use crate::threads::{Listener, Site, run_threads};
 use cut_book::Shelf;
 use cut_commands::{CliFault, FaultText};
 use cut_disks::{Disk, FileDisk};
-use cut_hall::{CallLedger, Hall, NotClosed, Pass, Report};
+use cut_hall::{Blanks, CallLedger, Hall, NotClosed, Pass, Report};
 use cut_wires::{Wire, send_all};
 use itoa::Buffer;
 use std::alloc::Global;
@@ -54,13 +54,6 @@ where
     serve_by::<D, Brand, Brand, S, L, W, R>(rt, alloc, listener, shelf, capacity, blanks)
 }
 
-/// The blanks of the ledgers of calls that were made and of calls that were kept.
-#[derive(Drop)]
-struct Blanks {
-    made: Blank,
-    kept: Blank,
-}
-
 /// The same, with the blanks of the two ledgers of calls.
 fn serve_by<D, M, K, S, L, W, R>(
     rt: &R,
@@ -87,9 +80,8 @@ where
     ensures why { IfErr result.1 IsOfServing }
     ensures listens { Listens capacity.sessions result.1 (L.calls listener) (L.calls result.0) }
 {
-    let Blanks { made, kept } = blanks;
     let seats = capacity.workers + capacity.sessions;
-    let started = Hall::<D, M, K>::start(alloc, capacity.studies, seats, PIECE_SIZE, made, kept);
+    let started = Hall::<D, M, K>::start(alloc, capacity.studies, seats, PIECE_SIZE, blanks);
     let Ok((hall, passes)) = started else {
         return (listener, Err(CliFault::WorkMemory));
     };

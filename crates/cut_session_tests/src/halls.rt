@@ -3,7 +3,7 @@ ghost use Rattle.std.specs.Prelude.{true, ◌≡◌, ◌<◌, ◌≤◌};
 
 use cut_book::Shelf;
 use cut_disks::FaultyDisk;
-use cut_hall::{CallLedger, Hall, Hooks, Pass};
+use cut_hall::{Blanks, CallLedger, Hall, Hooks, Pass};
 use cut_outcome::Piece;
 use cut_plan::Plan;
 use cut_session::{SessionEnd, session};
@@ -128,7 +128,7 @@ where
         × (K.all ≡ K.parts) × (K.all ≡ scene.now.house.slots) }
 {
     let House { slots, size, .. } = scene.house;
-    let started = Hall::start(alloc, slots, 2, size, made, kept);
+    let started = Hall::start(alloc, slots, 2, size, Blanks { made, kept });
     let (hall, mut passes): (Stormy<M, K>, Vec<Pass<M>>) = started?;
     let Some(mut first) = passes.pop() else {
         unreachable!()

@@ -7,7 +7,7 @@ use crate::asking::PLAN;
 use crate::serving::SUBMIT;
 use cut_book::NoShelf;
 use cut_disks::MemoryDisk;
-use cut_hall::{CallLedger, Hall, NoHooks, Pass, Report};
+use cut_hall::{Blanks, CallLedger, Hall, NoHooks, Pass, Report};
 use cut_session::{SessionEnd, session};
 use cut_wires::FaultyWire;
 use std::alloc::Global;
@@ -141,7 +141,7 @@ where
     requires made { (made.name ≡ M.name) × (made.parts ≡ M.parts) × (M.all ≡ M.parts) × (M.all ≡ 3) }
     requires kept { (kept.name ≡ K.name) × (kept.parts ≡ K.parts) × (K.all ≡ K.parts) × (K.all ≡ 2) }
 {
-    let started = Hall::start(alloc, 2, 3, 1, made, kept);
+    let started = Hall::start(alloc, 2, 3, 1, Blanks { made, kept });
     let (hall, mut passes): (OpenHall<M, K>, Vec<Pass<M>>) = started?;
     take_part_all(rt, alloc, &hall, shared, &mut passes);
     match hall.close(alloc, passes) {

@@ -15,11 +15,10 @@ use crate::RunFault;
 use crate::emit::{EmitFault, StudyRows, emit};
 use cut_book::{Book, Opened};
 use cut_disks::Disk;
-use cut_hall::{CallLedger, Hall, Hooks, NotClosed, Pass, Report};
+use cut_hall::{Blanks, CallLedger, Hall, Hooks, NotClosed, Pass, Report};
 use cut_wires::Wire;
 use std::alloc::{AllocError, Global};
 use std::sync::Wait;
-use std::sync::ledger::Blank;
 use std::thread::{Threads, join_mut};
 use std::{mem, thread};
 
@@ -41,13 +40,6 @@ struct Tools<'a, R, G> {
     rt: &'a R,
     alloc: Global,
     hooks: &'a G,
-}
-
-/// The blanks of the two ledgers of calls: of those that the passes make, and of those that the slots keep.
-#[derive(Drop)]
-pub(crate) struct Blanks {
-    pub(crate) made: Blank,
-    pub(crate) kept: Blank,
 }
 
 /// The passes of a study's workers: that of the thread that writes, and those of all others.
@@ -90,13 +82,12 @@ impl<D: Disk + Drop, M: CallLedger, K: CallLedger> PrivateHall<D, M, K> {
             piece_size,
             workers,
         } = begun;
-        let Blanks { made, kept } = blanks;
         let opened = Opened {
             study: 0,
             plan: book.ledger().plan().try_clone(alloc)?,
             base: book.ledger().base().try_clone(alloc)?,
         };
-        let (hall, mut others) = Hall::of_book(alloc, book, piece_size, workers, made, kept)?;
+        let (hall, mut others) = Hall::of_book(alloc, book, piece_size, workers, blanks)?;
         let Some(writer) = others.pop() else {
             unreachable!()
         };

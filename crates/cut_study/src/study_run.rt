@@ -9,10 +9,10 @@ ghost use Rattle.cut_book.specs.Book.{IsFresh};
 
 use crate::RunFault;
 use crate::emit::EmitFault;
-use crate::private_hall::{Begun, Blanks, PrivateHall};
+use crate::private_hall::{Begun, PrivateHall};
 use cut_book::Book;
 use cut_disks::Disk;
-use cut_hall::{CallLedger, Hooks, LineFault, Report};
+use cut_hall::{Blanks, CallLedger, Hooks, LineFault, Report};
 use cut_journal::Journal;
 use cut_ledger::Slip;
 use cut_plan::Plan;
