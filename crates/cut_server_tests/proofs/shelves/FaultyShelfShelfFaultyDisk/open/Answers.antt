@@ -7,7 +7,7 @@ use Rattle.cut_ledger.specs.World.{AreTrue}
 use Rattle.cut_journal.specs.declared.fault.JournalFault.{JournalFault}
 use Rattle.cut_journal.specs.declared.fault.JournalFault.TheVariants.{NoStudy}
 use Rattle.cut_journal.specs.Reading.{reading}
-use Rattle.cut_session_tests.proofs.shelves.FaultyShelfShelfFaultyDisk.open.Goals as goal
+use Rattle.cut_server_tests.proofs.shelves.FaultyShelfShelfFaultyDisk.open.Goals as goal
 
 no_study : (v : Values) → reading v [] ≡ Err NoStudy
 unfolding reading

@@ -1,5 +1,5 @@
 use Rattle.std.proofs.Common.{false}
-use Rattle.cut_session_tests.proofs.worker.serve_two.Given as goal
+use Rattle.cut_server_tests.proofs.worker.serve_two.Given as goal
 
 abbrev pub ghosts-served_in-M-Ledger : goal.ghosts-served_in-M-Ledger
 ghosts-served_in-M-Ledger g a = record { name = a.made.name; parts = a.made.parts }

@@ -2,7 +2,7 @@ use denote.Param.Send.{IsSend, sendable}
 use Rattle.std.proofs.Crossing.{crosses}
 use Rattle.cut_disks.specs.contracts.memory_disk.MemoryDisk as memory
 use Rattle.cut_hall.proofs.Crossing.{hall_sync}
-use Rattle.cut_session_tests.proofs.worker.served_in.Goals as goal
+use Rattle.cut_server_tests.proofs.worker.served_in.Goals as goal
 
 memory_send : IsSend memory.the_row
 memory_send = search (sendable, crosses) depth 100

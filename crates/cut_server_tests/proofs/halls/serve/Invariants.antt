@@ -1,5 +1,5 @@
 use Rattle.std.proofs.Common.{false}
-use Rattle.cut_session_tests.proofs.halls.serve.Given as goal
+use Rattle.cut_server_tests.proofs.halls.serve.Given as goal
 
 abbrev pub ghosts-served-M-Ledger : goal.ghosts-served-M-Ledger
 ghosts-served-M-Ledger g a = record { name = a.made.name; parts = a.made.parts }
