@@ -151,26 +151,28 @@ module _ {hall : HallValue} {low high : View} {r : Reading} {requests : ℕ} {fi
       → (t : IsServing hall low high r requests (take n buffer) first new) × (s.stream ≡ t.stream)
   serves_given buffer n is some =
       let not_zero : nat_eq n 0 ≡ false = grind (arith, nat_tests) in
-      let piece : List ℕ = take n buffer in
-      (record {
-        stream = s.stream;
-        messages = s.messages;
-        out = s.out;
-        read = s.read;
-        right = s.right;
-        side = s.side;
-        many = s.many;
-        replies = s.replies;
-        few = s.few;
-        line = cc (
-          is,
-          s.line,
-          passing_twice (λ t. with_given t buffer n) (conveyed s.out (s.stream ++ [])) first.log,
-          passing_same (λ t. with_given (conveyed s.out (s.stream ++ []) t) buffer n)
-              (conveyed s.out (s.stream ++ piece)) first.log
-              (λ t. cc (not_zero, append-nil s.stream, append_assoc t.given s.stream piece)),
-        );
-      }, refl)
+      let piece : List ℕ = take n buffer in (
+        record {
+          stream = s.stream;
+          messages = s.messages;
+          out = s.out;
+          read = s.read;
+          right = s.right;
+          side = s.side;
+          many = s.many;
+          replies = s.replies;
+          few = s.few;
+          line = cc (
+            is,
+            s.line,
+            passing_twice (λ t. with_given t buffer n) (conveyed s.out (s.stream ++ [])) first.log,
+            passing_same (λ t. with_given (conveyed s.out (s.stream ++ []) t) buffer n)
+                (conveyed s.out (s.stream ++ piece)) first.log
+                (λ t. cc (not_zero, append-nil s.stream, append_assoc t.given s.stream piece)),
+          );
+        },
+        refl,
+      )
 
   -- or the end
   gave_end : (buffer : List ℕ) (n : ℕ) → new ≡ got_on now buffer n → n ≡ 0

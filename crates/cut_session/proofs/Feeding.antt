@@ -188,16 +188,18 @@ module _ {hall : HallValue} {low middle : View} {r next : Reading} {requests : �
         → (n : IsServing hall low high next (requests + count) [] first mid) × (length s.stream < length n.stream)
     fed_on none right some =
         let answered : s.messages ++ more ≡ s.messages ++ take count shown =
-        cc (same, take-append-drop count shown, drop_all count shown none, append-nil (take count shown)) in
-        (record {
-          stream = s.stream ++ piece;
-          messages = s.messages ++ take count shown;
-          out = s.out ++ all.0;
-          read = rw (← answered) read;
-          right = right;
-          side = side ∙ s.side;
-          many = sym all_count;
-          replies = all_then hall low middle high s.messages (take count shown) s.out all.0 s.replies all.1;
-          few = fed_short all_first;
-          line = fed_line all.0 mid all.3;
-        }, omega (arith, some, length-append s.stream piece))
+        cc (same, take-append-drop count shown, drop_all count shown none, append-nil (take count shown)) in (
+          record {
+            stream = s.stream ++ piece;
+            messages = s.messages ++ take count shown;
+            out = s.out ++ all.0;
+            read = rw (← answered) read;
+            right = right;
+            side = side ∙ s.side;
+            many = sym all_count;
+            replies = all_then hall low middle high s.messages (take count shown) s.out all.0 s.replies all.1;
+            few = fed_short all_first;
+            line = fed_line all.0 mid all.3;
+          },
+          omega (arith, some, length-append s.stream piece),
+        )

@@ -108,9 +108,9 @@ where
         requires few { requests ≤ MOST_REQUESTS }
         ensures goes { (low : View) (first : Sending) → first.sent ≡ 0 →
             (s : IsServing self.old.hall.now low self.old.pass.now.view reader.old requests []
-                first (sending W.log line.old)) →
+            first (sending W.log line.old)) →
             Goes self.old.hall.now low self.new.pass.now.view s.stream result reader.new
-                first (sending W.log line.new) }
+            first (sending W.log line.new) }
         ensures few { IfOk result (λ more. more ≤ MOST_REQUESTS) }
         ensures stays { (self.new.hall.now ≡ self.old.hall.now)
             × (self.new.pass.ghost_name ≡ self.old.pass.ghost_name) }
@@ -141,9 +141,9 @@ where
         requires piece { (0 < length piece.now) × (length piece.now ≤ READ_SIZE) }
         ensures goes { (low : View) (first : Sending) → first.sent ≡ 0 →
             (s : IsServing self.old.hall.now low self.old.pass.now.view reader.old requests piece.now
-                first (sending W.log line.old)) →
+            first (sending W.log line.old)) →
             Goes self.old.hall.now low self.new.pass.now.view s.stream result reader.new
-                first (sending W.log line.new) }
+            first (sending W.log line.new) }
         ensures few { IfOk result (λ more. more ≤ MOST_REQUESTS) }
         ensures stays { (self.new.hall.now ≡ self.old.hall.now)
             × (self.new.pass.ghost_name ≡ self.old.pass.ghost_name) }
