@@ -123,35 +123,17 @@ fn are_written(order: &[Delivery], text: &str) -> bool {
     order.len() == text.split(' ').count()
 }
 
+// Edges, by their rings and subjects.
+macro_rules! edges {
+    ($(($ring:expr, $subject:expr)),*) => {
+        [$(Edge { ring: $ring, subject: $subject }),*]
+    };
+}
+
 #[test]
 fn deliveries_of_the_first_trial(rt: HostRuntime) -> Result<(), Fail> {
     let mut draws = Draws::new(ZEROS, 0);
-    let edges = [
-        Edge {
-            ring: 0,
-            subject: 0,
-        },
-        Edge {
-            ring: 1,
-            subject: 0,
-        },
-        Edge {
-            ring: 2,
-            subject: 0,
-        },
-        Edge {
-            ring: 0,
-            subject: 2,
-        },
-        Edge {
-            ring: 1,
-            subject: 3,
-        },
-        Edge {
-            ring: 2,
-            subject: 3,
-        },
-    ];
+    let edges = edges![(0, 0), (1, 0), (2, 0), (0, 2), (1, 3), (2, 3)];
     let once = "0.0 1.0 2.3 0.2 2.0 1.3";
     assert!(rt; are_written(&draws.deliveries(rt.alloc(), 4, 3, &edges, 1)?, once));
     let twice = "0.0 1.0 2.3 0.2 2.0 2.3 1.0 2.0 1.3 1.3 0.2 0.0";
@@ -162,39 +144,15 @@ fn deliveries_of_the_first_trial(rt: HostRuntime) -> Result<(), Fail> {
 #[test]
 fn deliveries_of_a_late_trial(rt: HostRuntime) -> Result<(), Fail> {
     let mut draws = Draws::new(STEPS, 4095999999);
-    let edges = [
-        Edge {
-            ring: 0,
-            subject: 0,
-        },
-        Edge {
-            ring: 1,
-            subject: 0,
-        },
-        Edge {
-            ring: 2,
-            subject: 0,
-        },
-        Edge {
-            ring: 3,
-            subject: 0,
-        },
-        Edge {
-            ring: 0,
-            subject: 2,
-        },
-        Edge {
-            ring: 3,
-            subject: 3,
-        },
-        Edge {
-            ring: 1,
-            subject: 4,
-        },
-        Edge {
-            ring: 0,
-            subject: 5,
-        },
+    let edges = edges![
+        (0, 0),
+        (1, 0),
+        (2, 0),
+        (3, 0),
+        (0, 2),
+        (3, 3),
+        (1, 4),
+        (0, 5)
     ];
     let once = "0.2 2.0 1.0 1.4 3.3 0.5 0.0 3.0";
     assert!(rt; are_written(&draws.deliveries(rt.alloc(), 6, 4, &edges, 1)?, once));
@@ -208,16 +166,7 @@ fn deliveries_of_a_late_trial(rt: HostRuntime) -> Result<(), Fail> {
 #[test]
 fn the_last_bits_of_a_key_decide_before_the_copy(rt: HostRuntime) -> Result<(), Fail> {
     let mut draws = Draws::new(ZEROS, 12);
-    let edges = [
-        Edge {
-            ring: 31,
-            subject: 663,
-        },
-        Edge {
-            ring: 24,
-            subject: 692,
-        },
-    ];
+    let edges = edges![(31, 663), (24, 692)];
     let order = draws.deliveries(rt.alloc(), 236, 32, &edges, 2)?;
     let wanted = "31.663+1 24.692+0 24.692+1 31.663+0";
     assert!(rt; are_written(&order, wanted));
@@ -228,16 +177,7 @@ fn the_last_bits_of_a_key_decide_before_the_copy(rt: HostRuntime) -> Result<(), 
 #[test]
 fn the_last_bits_of_a_key_decide_before_the_edge(rt: HostRuntime) -> Result<(), Fail> {
     let mut draws = Draws::new(ZEROS, 3);
-    let edges = [
-        Edge {
-            ring: 28,
-            subject: 26,
-        },
-        Edge {
-            ring: 24,
-            subject: 689,
-        },
-    ];
+    let edges = edges![(28, 26), (24, 689)];
     let order = draws.deliveries(rt.alloc(), 913, 32, &edges, 4)?;
     let wanted = "24.689+0 28.26+3 24.689+3 24.689+2 28.26+0 28.26+1 24.689+1 28.26+2";
     assert!(rt; are_written(&order, wanted));
