@@ -1,10 +1,10 @@
-# Completions of cutlab for bash: source this file, or put it where bash-completion looks.
+# Completions of cutlab for bash: source this file, or put it where bash-completion looks. Made by docs/completions/make.
 
 _cutlab() {
   local current=${COMP_WORDS[COMP_CWORD]} before=${COMP_WORDS[COMP_CWORD-1]}
   local command=${COMP_WORDS[1]}
   if [ "$COMP_CWORD" -eq 1 ]; then
-    mapfile -t COMPREPLY < <(compgen -W "run check explain canonical status serve ask migrate share join help" -- "$current")
+    mapfile -t COMPREPLY < <(compgen -W "run check explain canonical status serve ask migrate share join help --help --version" -- "$current")
     return
   fi
   case $before in
@@ -14,11 +14,15 @@ _cutlab() {
   esac
   case $command in
     run) mapfile -t COMPREPLY < <(compgen -W "--piece --workers --checkpoint --progress --help" -- "$current") ;;
-    check | explain | canonical) mapfile -t COMPREPLY < <(compgen -W "--help" -- "$current") ;;
+    check) mapfile -t COMPREPLY < <(compgen -W "--help" -- "$current") ;;
+    explain) mapfile -t COMPREPLY < <(compgen -W "--help" -- "$current") ;;
+    canonical) mapfile -t COMPREPLY < <(compgen -W "--help" -- "$current") ;;
+    status) mapfile -t COMPREPLY < <(compgen -f -W "--help" -- "$current") ;;
     serve) mapfile -t COMPREPLY < <(compgen -f -W "--workers --sessions --studies --dir --help" -- "$current") ;;
+    ask) mapfile -t COMPREPLY < <(compgen -f -W "--help" -- "$current") ;;
+    migrate) mapfile -t COMPREPLY < <(compgen -f -W "--help" -- "$current") ;;
     share) mapfile -t COMPREPLY < <(compgen -f -W "--piece --workers --progress --help" -- "$current") ;;
     join) mapfile -t COMPREPLY < <(compgen -f -W "--which --help" -- "$current") ;;
-    status | ask | migrate) mapfile -t COMPREPLY < <(compgen -f -W "--help" -- "$current") ;;
     help) mapfile -t COMPREPLY < <(compgen -W "run check explain canonical status serve ask migrate share join" -- "$current") ;;
   esac
 }

@@ -1,4 +1,5 @@
 pub mod Faults
 pub mod History
 pub mod Book
+pub mod Shelf
 pub mod inside

@@ -1,4 +1,6 @@
-ghost use Rattle.std.specs.Prelude.{◌≡◌, Bool, true, false, Ok, None, IfOk};
+ghost use Rattle.std.specs.Prelude.{◌≡◌, Bool, true, false, ⊤, Option, Result, Ok, None, IfOk};
+ghost use Rattle.cut_plan.specs.Values.{Values};
+ghost use Rattle.cut_book.specs.declared.shelf.ShelfFault.{ShelfFault};
 ghost use Rattle.cut_journal.specs.Trust.{IsTrueStore};
 
 use cut_disks::Disk;
@@ -22,10 +24,14 @@ pub trait Shelf<D: Disk> {
     /// Whether the slips on its disks are those that their trials give: certainly where it has no disk.
     ghost is_true: { Self → Bool } = { λ _. false };
 
+    /// What it may give for a plan.
+    ghost gives: { Self → Values → Result (Option D) ShelfFault → Type 0 } = { λ _ _ _. ⊤ };
+
     /// The disk of a plan's study, if studies are kept.
     fn open(&self, alloc: Global, plan: &Plan) -> Result<Option<D>, ShelfFault>
         ensures trusted { is_true self.now ≡ true →
-            IfOk result (λ disk. IsTrueStore D.is_honest D.state plan.now disk) };
+            IfOk result (λ disk. IsTrueStore D.is_honest D.state plan.now disk) }
+        ensures given { gives self.now plan.now result };
 }
 
 /// A shelf without disks: no study is kept.
@@ -34,6 +40,8 @@ pub struct NoShelf;
 
 impl<D: Disk> Shelf<D> for NoShelf {
     ghost is_true = { λ _. true };
+
+    ghost gives = { λ _ _ given. given ≡ Ok None };
 
     fn open(&self, _alloc: Global, _plan: &Plan) -> Result<Option<D>, ShelfFault>
         ensures { result ≡ Ok None }

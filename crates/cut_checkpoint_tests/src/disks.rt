@@ -1,4 +1,5 @@
 mod raw_files;
+mod system_files;
 
 use cut_disks::{Disk, DiskCall, DiskFault, FaultyDisk, FileDisk, MemoryDisk, Tear};
 use std::alloc::{AllocError, Global};
@@ -161,8 +162,10 @@ fn a_file(rt: HostRuntime) -> Result<(), Fail> {
     assert!(rt; FileDisk::open(&rt, FILE)?.length() == Ok(5));
     let mut old = FileDisk::open_existing(&rt, FILE)?;
     assert!(rt; old.length() == Ok(5) && old.write_at(0, b"c").is_err());
-    // A folder is no file.
+    // A folder is no file, and neither is a device.
     assert!(rt; FileDisk::open(&rt, FOLDER).is_err());
+    assert!(rt; FileDisk::open_existing(&rt, FOLDER).is_err());
+    assert!(rt; FileDisk::open(&rt, "/dev/null").is_err());
     fs::remove_dir_all(&rt, FOLDER)?;
     Ok(())
 }

@@ -113,11 +113,11 @@ fn each_call_of_a_disk_fails(rt: HostRuntime) -> Result<(), Fail> {
     for fail_at in 1..=15 {
         assert!(rt; end_of(alloc, fail_at, 0)? == End::Disk, "{fail_at}");
     }
-    // A new one is looked at and a study made in eight, and each slip takes four.
-    for fail_at in 1..=20 {
+    // A new one is looked at and a study made in nine, and each slip takes four.
+    for fail_at in 1..=21 {
         assert!(rt; end_of(alloc, 0, fail_at)? == End::Disk, "{fail_at}");
     }
-    assert!(rt; end_of(alloc, 16, 21)? == End::Joined);
+    assert!(rt; end_of(alloc, 16, 22)? == End::Joined);
     Ok(())
 }
 

@@ -4,12 +4,13 @@
 use crate::shares::{PLAN, are_of};
 use cut_commands::CliFault;
 use cut_disks::{Disk, FaultyDisk, Tear};
-use cut_hooks::NoHooks;
 use cut_journal::{Journal, JournalFault};
 use cut_machines::{ShareWork, share_io};
+use cut_outcome::{Gate, OpenGate};
 use cut_plan::Plan;
+use cut_pool_cases::{Calls, MeetingGate, NotingGate};
 use cut_share::Share;
-use cut_wires::{FaultyWire, WriteFault};
+use cut_wires::{FaultyWire, Sent};
 use std::alloc::{AllocError, Global};
 use std::sync::Wait;
 use std::test::Fail;
@@ -20,10 +21,11 @@ const LINE: &[u8] = b"share 2 of 3: 4 of 4\n";
 
 const PIECES: [(u32, u32); 2] = [(2, 2), (7, 2)];
 
-/// Runs the share by two workers over a wire, and returns how that ended.
-fn run_share<R: Threads + Wait + Sync>(
+/// Runs the share by two workers that pass a gate over a wire, and returns how that ended.
+fn run_share<G: Gate + Sync, R: Threads + Wait + Sync>(
     rt: &R,
     alloc: Global,
+    gate: &G,
     wire: &mut FaultyWire,
     disk: &mut FaultyDisk,
 ) -> Result<(), CliFault> {
@@ -33,7 +35,7 @@ fn run_share<R: Threads + Wait + Sync>(
     let work = ShareWork {
         share,
         workers: 2,
-        hooks: &NoHooks,
+        gate,
     };
     share_io(rt, alloc, wire, work, disk).ended
 }
@@ -60,12 +62,12 @@ fn is_run<R: Threads + Wait + Sync>(
     disk: &mut FaultyDisk,
 ) -> Result<bool, AllocError> {
     let mut wire = wire_of(alloc, 100)?;
-    let ended = run_share(rt, alloc, &mut wire, disk);
+    let ended = run_share(rt, alloc, &OpenGate, &mut wire, disk);
     Ok(matches!(ended, Ok(())) && wire.taken() == LINE)
 }
 
 /// How many calls of a disk without a study its opening takes.
-const OPENING_CALLS: u64 = 10;
+const OPENING_CALLS: u64 = 11;
 
 /// Whether a run ended with the fault of this call of the disk.
 fn is_reported(ended: Result<(), CliFault>, fail_at: u64) -> bool {
@@ -85,14 +87,14 @@ fn is_stopped<R: Threads + Wait + Sync>(
     disk: &mut FaultyDisk,
 ) -> Result<bool, AllocError> {
     let mut wire = wire_of(alloc, 100)?;
-    let ended = run_share(rt, alloc, &mut wire, &mut *disk);
+    let ended = run_share(rt, alloc, &OpenGate, &mut wire, &mut *disk);
     Ok(is_reported(ended, fail_at) && wire.taken().is_empty() && disk.failures() == 1)
 }
 
 // The calls of the opening, and four for each of two slips; the next run keeps all.
 #[test]
 fn each_call_of_the_disk_fails(rt: HostRuntime) -> Result<(), Fail> {
-    for fail_at in 1..19 {
+    for fail_at in 1..20 {
         let mut disk = FaultyDisk::of(rt.alloc(), Vec::new(rt.alloc()), fail_at, Tear::Nothing)?;
         disk.arm();
         assert!(rt;
@@ -109,8 +111,8 @@ fn each_call_of_the_disk_fails(rt: HostRuntime) -> Result<(), Fail> {
 fn a_share_outlives_its_wire(rt: HostRuntime) -> Result<(), Fail> {
     let mut disk = FaultyDisk::of(rt.alloc(), Vec::new(rt.alloc()), 0, Tear::Nothing)?;
     let mut wire = wire_of(rt.alloc(), 12)?;
-    let ended = run_share(&rt, rt.alloc(), &mut wire, &mut disk);
-    assert!(rt; matches!(ended, Err(CliFault::Write(WriteFault { sent: 12 }))));
+    let ended = run_share(&rt, rt.alloc(), &OpenGate, &mut wire, &mut disk);
+    assert!(rt; matches!(ended, Err(CliFault::Write(Sent { sent: 12 }))));
     assert!(rt; is_kept(rt.alloc(), &mut disk)? && is_run(&rt, rt.alloc(), &mut disk)?);
     Ok(())
 }
@@ -127,5 +129,52 @@ fn a_refused_allocation_stops_one_run(rt: HostRuntime) -> Result<(), Fail> {
         }
     }
     assert!(rt; stopped <= 1 && is_kept(rt.alloc(), &mut disk)?);
+    Ok(())
+}
+
+/// The calls of the gate in a run of the share that was opened with this many held trials, where `pieces` pieces of two
+/// trials each passed, and `kept` of them were accepted.
+fn calls_of(held: u64, pieces: u64, kept: u64) -> Calls {
+    Calls {
+        opened: 1,
+        held,
+        all: 4,
+        passed: (pieces, pieces.saturating_mul(2)),
+        accepted: (kept, kept.saturating_mul(2)),
+        misplaced: 0,
+    }
+}
+
+/// The calls of the gate in a run of the share over a disk.
+fn calls_over<R: Threads + Wait + Sync>(
+    rt: &R,
+    alloc: Global,
+    disk: &mut FaultyDisk,
+) -> Result<Calls, AllocError> {
+    let gate = NotingGate::new();
+    let mut wire = wire_of(alloc, 100)?;
+    let _ = run_share(rt, alloc, &gate, &mut wire, disk);
+    Ok(gate.calls())
+}
+
+// The disk fails in the append of the second piece, and then in none.
+#[test]
+fn a_gate_is_called_around_each_piece(rt: HostRuntime) -> Result<(), Fail> {
+    let fail_at = OPENING_CALLS.saturating_add(5);
+    let mut disk = FaultyDisk::of(rt.alloc(), Vec::new(rt.alloc()), fail_at, Tear::Nothing)?;
+    disk.arm();
+    assert!(rt; calls_over(&rt, rt.alloc(), &mut disk)? == calls_of(0, 2, 1));
+    assert!(rt; calls_over(&rt, rt.alloc(), &mut disk)? == calls_of(2, 1, 1));
+    assert!(rt; calls_over(&rt, rt.alloc(), &mut disk)? == calls_of(4, 0, 0));
+    Ok(())
+}
+
+#[test]
+fn both_workers_are_in_work_at_once(rt: HostRuntime) -> Result<(), Fail> {
+    let mut disk = FaultyDisk::of(rt.alloc(), Vec::new(rt.alloc()), 0, Tear::Nothing)?;
+    let mut wire = wire_of(rt.alloc(), 100)?;
+    let gate = MeetingGate::new(&rt, 2);
+    let ended = run_share(&rt, rt.alloc(), &gate, &mut wire, &mut disk);
+    assert!(rt; matches!(ended, Ok(())) && gate.counts() == (2, 0));
     Ok(())
 }

@@ -2,9 +2,9 @@
 //! from this program by a script written from the definitions.
 
 use cut_disks::MemoryDisk;
-use cut_hooks::NoHooks;
 use cut_journal::Journal;
 use cut_ledger::Slip;
+use cut_outcome::OpenGate;
 use cut_plan::Plan;
 use cut_share::{Share, ShareRun};
 use std::alloc::Global;
@@ -84,7 +84,7 @@ fn keeps<R: Threads + Wait + Sync>(
         slips: &[],
         share,
         workers: 2,
-        hooks: &NoHooks,
+        gate: &OpenGate,
     };
     let count = run.run(rt, alloc, &mut journal)?;
     match Journal::reopen(alloc, journal.into_disk(), &plan) {

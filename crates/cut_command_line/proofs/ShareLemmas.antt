@@ -1,16 +1,16 @@
 -- The text of a share, cut at its slash.
-use Rattle.std.proofs.Common.{◌≡◌, ◌∙◌, ◌++◌, ◌<◌, ◌≤◌, ◌∷◌, [], ℕ, zero, suc, Bool, List, cond, true, false, ◌==◌}
-use Rattle.std.proofs.Common.{length, get_or, sym, ap, subst, arith, codes, drop, refl, append_assoc, length-append}
+use Rattle.std.proofs.Common.{◌≡◌, ◌∙◌, ◌++◌, ◌<◌, ◌≤◌, ◌∷◌, [], ℕ, zero, suc, Bool, List, ◌==◌}
+use Rattle.std.proofs.Common.{length, get_or, sym, ap, subst, arith, codes, refl, append_assoc, length-append}
 use Rattle.std.specs.Char.{digit_value}
 use Rattle.std.specs.List.{position_or_len, before_first, after_first}
-use Rattle.std.specs.Str.Parse.{AllDigits, without_leading_plus}
+use Rattle.std.specs.Str.Parse.{AllDigits}
 use Rattle.std.proofs.lemmas.List.{get_or_append_left, get_or_at}
 use Rattle.std.proofs.lemmas.List.Sums.{passes_at_first, position_or_len_is, split_at_first}
 use Rattle.std.proofs.lemmas.Bool.Decides.{nat_tests}
 use Rattle.clap.specs.Words.{Text}
 use Rattle.clap.proofs.CutLemmas.{Lacks, after_first-at, before_first-at}
 use Rattle.cut_options.specs.declared.limits.TheConstants.{MOST_SHARES}
-use Rattle.cut_command_line.specs.Line.{IsNumberIn}
+use Rattle.cut_command_line.specs.Line.{IsDigitsIn}
 
 -- a byte is a slash
 abbrev pub is_slash : ℕ → Bool
@@ -19,8 +19,8 @@ is_slash b = b == 47
 -- a text is the number of a share, up to its first slash, and how many shares there are, after that
 pub record IsShareText (text : Text) (index shares : ℕ) : Type 0 where
   pub slash : position_or_len is_slash text < length text
-  pub index_is : IsNumberIn MOST_SHARES (before_first is_slash text) index
-  pub shares_are : IsNumberIn MOST_SHARES (after_first is_slash text) shares
+  pub index_is : IsDigitsIn MOST_SHARES (before_first is_slash text) index
+  pub shares_are : IsDigitsIn MOST_SHARES (after_first is_slash text) shares
   pub within : index ≤ shares
 
 -- no digit is a slash
@@ -29,17 +29,6 @@ digits_lack [] are i low = absurd (omega (arith, low))
 digits_lack (d ∷ ds) are zero low = λ bad.
     let small : 36 < 10 = subst (λ (n : ℕ). digit_value n < 10) bad are.0 in absurd (omega (arith, small))
 digits_lack (d ∷ ds) are (suc i) low = digits_lack ds are.1 i (omega (arith, low))
-
--- and no sign is
-signed_lack : (c : ℕ) (cs : List ℕ) (is_plus : Bool) → (c == 43) ≡ is_plus
-    → AllDigits 10 (drop (cond is_plus 1 0) (c ∷ cs)) → Lacks 47 (c ∷ cs)
-signed_lack c cs true is are zero low = λ bad. grind (arith, nat_tests)
-signed_lack c cs true is are (suc i) low = digits_lack cs are i (omega (arith, low))
-signed_lack c cs false is are i low = digits_lack (c ∷ cs) are i low
-
-number_lacks : (text : Text) → AllDigits 10 (without_leading_plus text) → Lacks 47 text
-number_lacks [] are i low = absurd (omega (arith, low))
-number_lacks (c ∷ cs) are i low = signed_lack c cs (c == 43) refl are i low
 
 -- the first slash after a text that has none
 slash_at : (first second : Text) → Lacks 47 first → position_or_len is_slash (first ++ 47 ∷ second) ≡ length first
@@ -51,18 +40,18 @@ slash_at first second lacks =
 
 -- a number, a slash and a number are the text of a share
 pub share_text : (text : Text) (index shares : ℕ) (first second : Text) → first ++ codes "/" ++ second ≡ text
-    → IsNumberIn MOST_SHARES first index → IsNumberIn MOST_SHARES second shares → index ≤ shares
+    → IsDigitsIn MOST_SHARES first index → IsDigitsIn MOST_SHARES second shares → index ≤ shares
     → IsShareText text index shares
 share_text text index shares first second is number count within =
-    let lacks = number_lacks first number.numeral.1 in
+    let lacks = digits_lack first number.numeral.1 in
     let at = slash_at first second lacks in
     let whole : first ++ 47 ∷ second ≡ text = sym (append_assoc first (47 ∷ []) second) ∙ is in
     let cut : IsShareText (first ++ 47 ∷ second) index shares = record {
       slash = omega (arith, at, length-append first (47 ∷ second));
       index_is =
-          subst (λ (t : Text). IsNumberIn MOST_SHARES t index) (sym (before_first-at 47 first second lacks)) number;
+          subst (λ (t : Text). IsDigitsIn MOST_SHARES t index) (sym (before_first-at 47 first second lacks)) number;
       shares_are =
-          subst (λ (t : Text). IsNumberIn MOST_SHARES t shares) (sym (after_first-at 47 first second lacks)) count;
+          subst (λ (t : Text). IsDigitsIn MOST_SHARES t shares) (sym (after_first-at 47 first second lacks)) count;
       within = within;
     } in
     subst (λ (t : Text). IsShareText t index shares) whole cut

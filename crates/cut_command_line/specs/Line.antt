@@ -19,6 +19,13 @@ pub record IsNumberIn (most : ℕ) (text : Text) (n : ℕ) : Type 0 where
   pub some : 1 ≤ n
   pub few : n ≤ most
 
+-- and in decimal digits alone, with no sign
+pub record IsDigitsIn (most : ℕ) (text : Text) (n : ℕ) : Type 0 where
+  pub numeral : IsNumeral 10 text
+  pub value : digits_value 10 text ≡ n
+  pub some : 1 ≤ n
+  pub few : n ≤ most
+
 -- the number, from 1 to a greatest one, that a subcommand's matches give for an option
 pub record GivesNumber (option : Text) (most : ℕ) (rows : List Row) (n : ℕ) : Type 0 where
   pub text : Text
@@ -36,8 +43,8 @@ pub record GivesShare (rows : List Row) (index shares : ℕ) : Type 0 where
   pub first : Text
   pub second : Text
   pub given : first_of (codes "share") rows ≡ Some (first ++ codes "/" ++ second)
-  pub index_is : IsNumberIn MOST_SHARES first index
-  pub shares_are : IsNumberIn MOST_SHARES second shares
+  pub index_is : IsDigitsIn MOST_SHARES first index
+  pub shares_are : IsDigitsIn MOST_SHARES second shares
   pub within : index ≤ shares
 
 -- a subcommand, by its name and its matches, asks for a job
@@ -87,9 +94,11 @@ IsAsked words kind =
     IsAmong kind (fault_of program_app words) ⊎ (kind ≡ OutOfMemory)
     ⊎ (((job : Job) → NamesJob words job → ⊥) × (fault_of program_app words ≡ []) × (kind ≡ ValueValidation))
 
--- the status of a command line without a job: exactly that of what clap found
-abbrev pub EndsLine : List Text → ℕ → Type 0
-EndsLine words status = (kind : ErrorKind) × IsAsked words kind × (status ≡ status_of_kind kind)
+-- how a command line without a job ends: with exactly the status of what clap found, and without a text where memory
+-- ran out
+abbrev pub EndsLine : List Text → ℕ → List ℕ → Type 0
+EndsLine words status text =
+    (kind : ErrorKind) × IsAsked words kind × (status ≡ status_of_kind kind) × (kind ≡ OutOfMemory → text ≡ [])
 
 -- the pieces of a job have some trials, and it has some of each that it is to have, and no more than the options allow
 abbrev pub IsSizedJob : Job → Type 0

@@ -4,4 +4,4 @@
 mod line;
 mod machines;
 
-pub use line::{Job, NoJob, parse_line};
+pub use line::{Job, LineFault, parse_line};

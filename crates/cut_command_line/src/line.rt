@@ -1,4 +1,4 @@
-ghost use Rattle.std.specs.Prelude.{◌≡◌, ℕ, [], codes, map, IfOk, IfErr, IfSome, IfNone};
+ghost use Rattle.std.specs.Prelude.{◌≡◌, ℕ, [], codes, map, string_bytes, IfOk, IfErr, IfSome, IfNone};
 ghost use Rattle.clap.specs.Words.{app_of, fault_of, found_of, rows_of, subcommand_rows_of};
 ghost use Rattle.cut_options.specs.Options.{program_app};
 ghost use Rattle.cut_command_line.specs.Line.{EndsLine, GivesFlag, GivesNumber, IsSizedJob};
@@ -9,7 +9,7 @@ ghost use Rattle.cut_command_line.specs.declared.line.Job.{Job};
 use crate::machines::{WRONG_SHARE, join_job, share_job};
 use clap::error::ErrorKind;
 use clap::{ArgMatches, Command, Error};
-use cut_options::{LARGEST_PIECE, MOST_OF_EACH, MOST_WORKERS, program_commands};
+use cut_options::{LARGEST_PIECE, MOST_OF_EACH, MOST_WORKERS, SHARE_USAGE, program_commands};
 use std::alloc::{AllocError, Global};
 use std::convert::AsStr;
 
@@ -92,20 +92,20 @@ pub enum Job<'a> {
 /// A command line that names no job: the status with which the program ends, and the text that it
 /// prints, on standard output at status 0, as for help, and else on standard error.
 #[derive(Debug, Drop)]
-pub struct NoJob {
+pub struct LineFault {
     /// 0 for help, 2 for a mistake, 5 where memory ran out.
     pub status: u8,
-    /// What is printed, as clap writes it; empty where memory for it was refused.
+    /// What is printed, as clap writes it; empty where memory ran out, be it for the text alone.
     pub text: String,
 }
 
 /// Reads a command line, whose first word is the program's name. There is a job only where clap finds no
 /// fault in the words, and else exactly the status of what it found.
-pub fn parse_line<'a, S: AsStr>(alloc: Global, words: &'a [S]) -> Result<Job<'a>, NoJob>
+pub fn parse_line<'a, S: AsStr>(alloc: Global, words: &'a [S]) -> Result<Job<'a>, LineFault>
     ensures ok { IfOk result (λ job. NamesJob (map S.text words.now) job) }
     ensures sized { IfOk result (λ job. IsSizedJob job) }
     ensures faultless { IfOk result (λ _. fault_of program_app (map S.text words.now) ≡ []) }
-    ensures err { IfErr result (λ e. EndsLine (map S.text words.now) e.status) }
+    ensures err { IfErr result (λ e. EndsLine (map S.text words.now) e.status (string_bytes e.text)) }
 {
     match program_commands(alloc) {
         Ok(mut command) => job_by(alloc, &mut command, words),
@@ -118,12 +118,12 @@ fn job_by<'a, S: AsStr>(
     alloc: Global,
     command: &mut Command<'a>,
     words: &'a [S],
-) -> Result<Job<'a>, NoJob>
+) -> Result<Job<'a>, LineFault>
     requires { app_of command.old ≡ program_app }
     ensures ok { IfOk result (λ job. NamesJob (map S.text words.now) job) }
     ensures sized { IfOk result (λ job. IsSizedJob job) }
     ensures faultless { IfOk result (λ _. fault_of program_app (map S.text words.now) ≡ []) }
-    ensures err { IfErr result (λ e. EndsLine (map S.text words.now) e.status) }
+    ensures err { IfErr result (λ e. EndsLine (map S.text words.now) e.status (string_bytes e.text)) }
 {
     let matches = match command.try_get_matches_from_mut(words) {
         Ok(matches) => matches,
@@ -131,16 +131,18 @@ fn job_by<'a, S: AsStr>(
     };
     match job_of(alloc, &matches) {
         Ok(Some(job)) => Ok(job),
-        Ok(None) => Err(wrong_value(alloc, command)),
+        Ok(None) => Err(wrong_value(alloc)),
         Err(_) => Err(line_fault(alloc, ErrorKind::OutOfMemory, None)),
     }
 }
 
-/// The fault of a command line in which clap found nothing, but a value that is none.
-fn wrong_value(alloc: Global, command: &mut Command<'_>) -> NoJob
-    ensures { result.status ≡ status_of_kind ErrorKind.ValueValidation }
+/// The fault of a command line in which clap found nothing, but a value that is none, which only a share can be.
+fn wrong_value(alloc: Global) -> LineFault
+    ensures status { result.status ≡ status_of_kind ErrorKind.ValueValidation }
+    ensures text { ErrorKind.ValueValidation ≡ ErrorKind.OutOfMemory → string_bytes result.text ≡ [] }
 {
-    let error = command.error(ErrorKind::ValueValidation, WRONG_SHARE).ok();
+    let mut share = Command::new(alloc, "share").override_usage(SHARE_USAGE);
+    let error = share.error(ErrorKind::ValueValidation, WRONG_SHARE).ok();
     line_fault(alloc, ErrorKind::ValueValidation, error.as_ref())
 }
 
@@ -261,18 +263,29 @@ pub(crate) fn flag_given(given: &ArgMatches, flag: &str) -> bool
     given.get_flag(flag)
 }
 
-/// The fault of a command line in which clap found this, with clap's text where it has one.
-fn line_fault(alloc: Global, kind: ErrorKind, error: Option<&Error>) -> NoJob
-    ensures { result.status ≡ status_of_kind kind }
+/// The fault of a command line in which clap found this, with clap's text where it has one. Where memory ran out the
+/// fault has none.
+fn line_fault(alloc: Global, kind: ErrorKind, error: Option<&Error>) -> LineFault
+    ensures status { result.status ≡ status_of_kind kind }
+    ensures text { kind ≡ ErrorKind.OutOfMemory → string_bytes result.text ≡ [] }
 {
+    let text = match kind {
+        ErrorKind::OutOfMemory => String::new(alloc),
+        _ => text_of(alloc, kind, error),
+    };
+    LineFault {
+        status: status_of_kind(kind),
+        text,
+    }
+}
+
+/// What clap says of a command line in which it found this, if memory suffices for it.
+fn text_of(alloc: Global, kind: ErrorKind, error: Option<&Error>) -> String {
     let text = match error {
         Some(error) => error.to_string(alloc),
         None => kind.to_string(alloc),
     };
-    NoJob {
-        status: status_of_kind(kind),
-        text: text.unwrap_or(String::new(alloc)),
-    }
+    text.unwrap_or(String::new(alloc))
 }
 
 /// The status with which the program ends where clap found this.

@@ -1,8 +1,8 @@
 //! The commands of studies on many machines.
 
-ghost use Rattle.std.specs.Prelude.{ℕ, codes, IfOk, IfSome, IfNone};
+ghost use Rattle.std.specs.Prelude.{◌≡◌, ◌==◌, ℕ, codes, IfOk, IfSome, IfNone, slice_index};
 ghost use Rattle.clap.specs.Words.{found_of, rows_of};
-ghost use Rattle.cut_command_line.specs.Line.{GivesShare, IsNumberIn, IsSizedJob};
+ghost use Rattle.cut_command_line.specs.Line.{GivesShare, IsDigitsIn, IsSizedJob};
 ghost use Rattle.cut_command_line.specs.inside.Line.{GivesJob};
 
 use crate::Job;
@@ -79,14 +79,24 @@ fn share_given(given: &ArgMatches) -> Option<ShareNumber>
     Some(ShareNumber { index, shares })
 }
 
-/// The number, from 1 to a greatest one, that a text is.
+/// The number, from 1 to a greatest one, that a text is in decimal digits alone.
 fn number_in(text: &str, most: u32) -> Option<u32>
-    ensures some { IfSome result (λ n. IsNumberIn most text.now n) }
-    ensures none { IfNone result ((n : ℕ) → IsNumberIn most text.now n → ⊥) }
+    ensures some { IfSome result (λ n. IsDigitsIn most text.now n) }
+    ensures none { IfNone result ((n : ℕ) → IsDigitsIn most text.now n → ⊥) }
 {
+    if has_sign(text) {
+        return None;
+    }
     let number = text.parse::<u32>().ok()?;
     if number < 1 || number > most {
         return None;
     }
     Some(number)
+}
+
+/// Whether a text begins with a plus sign.
+fn has_sign(text: &str) -> bool
+    ensures { result ≡ (slice_index text.now 0 == 43) }
+{
+    text.as_bytes().first() == Some(&b'+')
 }

@@ -1,6 +1,6 @@
 //! What no contract says: the texts of help and of mistakes, and that words name the jobs that a user expects.
 
-use cut_command_line::{Job, NoJob, parse_line};
+use cut_command_line::{Job, LineFault, parse_line};
 use std::alloc::{AllocError, Global};
 use std::test::Fail;
 
@@ -131,7 +131,7 @@ fn has_parts(text: &str, parts: &str) -> bool {
 fn is_reported(alloc: Global, words: &[&str], wanted: &str, parts: &str) -> bool {
     match parse_line(alloc, words) {
         Ok(_) => false,
-        Err(NoJob { status, text }) => {
+        Err(LineFault { status, text }) => {
             wanted.parse::<u8>() == Ok(status) && has_parts(&text, parts)
         }
     }
@@ -140,13 +140,16 @@ fn is_reported(alloc: Global, words: &[&str], wanted: &str, parts: &str) -> bool
 /// Statuses, command lines that name no job and end the program with it, and parts of the texts that are printed.
 const REPORTS: &str = "2|cutlab share 3-8 a.cut|the value for '<I/N>' is none|as in 2/8
 2|cutlab share 0/3 a.cut|the value for '<I/N>' is none|as in 2/8
-2|cutlab share 4/3 a.cut|the value for '<I/N>' is none|as in 2/8
+2|cutlab share 4/3 a.cut|the value for '<I/N>' is none|as in 2/8|Usage: cutlab share [OPTIONS] <I/N> <FILE> < PLAN
 2|cutlab share 1/100001 a.cut|the value for '<I/N>' is none|as in 2/8
 2|cutlab share 1/0 a.cut|the value for '<I/N>' is none|as in 2/8
 2|cutlab share /3 a.cut|the value for '<I/N>' is none|as in 2/8
 2|cutlab share 1/ a.cut|the value for '<I/N>' is none|as in 2/8
 2|cutlab share 1/2/3 a.cut|the value for '<I/N>' is none|as in 2/8
 2|cutlab share x/3 a.cut|the value for '<I/N>' is none|as in 2/8
+2|cutlab share +1/2 a.cut|the value for '<I/N>' is none|as in 2/8
+2|cutlab share 1/+2 a.cut|the value for '<I/N>' is none|as in 2/8
+2|cutlab share -1/2 a.cut|unexpected argument '-1' found
 2|cutlab share  a.cut|the value for '<I/N>' is none|as in 2/8
 0|cutlab --help|Usage: cutlab|docs/GUIDE.md
 0|cutlab --help|Usage: cutlab|Move a checkpoint of version 1
@@ -184,7 +187,7 @@ const REPORTS: &str = "2|cutlab share 3-8 a.cut|the value for '<I/N>' is none|as
 2|cutlab run --progress=true|unexpected value 'true' for '--progress' found
 2|cutlab|Usage: cutlab <COMMAND>
 2|cutlab frob|unrecognized subcommand 'frob'
-2|cutlab run plan.json|unexpected argument 'plan.json' found
+2|cutlab run plan.json|unexpected argument 'plan.json' found|Usage: cutlab run [OPTIONS] < PLAN
 2|cutlab check --all|unexpected argument '--all' found
 2|cutlab --frob|unexpected argument '--frob' found";
 

@@ -1,5 +1,9 @@
 -- How `explain` ends, by its parts.
-use Rattle.std.proofs.Common.{◌≡◌, ◌∙◌, ℕ, false, List, [], Ok, Err, length, take, refl, sym, ap, nat_lt, inl, inr}
+use Rattle.std.proofs.Common.{◌≡◌, ◌∙◌, ◌++◌, ℕ, false, List, [], Ok, Err, length, take, refl, sym, ap, nat_lt, inl, inr}
+use Rattle.std.proofs.Common.{Result, arith}
+use Rattle.std.specs.Bool.{⊤}
+use Rattle.cut_explain.specs.FirstLine.{first_line}
+use Rattle.std.proofs.lemmas.List.{length-append}
 use Rattle.cut_plan.specs.Accepted.{plan_of}
 use Rattle.cut_plan.specs.Values.{Values}
 use Rattle.cut_plan.specs.declared.refusal.Refusal.{Refusal}
@@ -8,8 +12,11 @@ use Rattle.cut_commands.specs.Explain.{Explains, IsExplanation}
 use Rattle.cut_commands.specs.Run.{EndsWith, GivesText, IsWritten, read_on}
 use Rattle.cut_commands.specs.declared.fault.CliFault.{CliFault}
 use Rattle.cut_commands.specs.declared.fault.CliFault.TheVariants.{Memory, Plan, Read, Write}
+use Rattle.cut_commands.specs.inside.Explain.{IsWrittenAfter}
 use Rattle.cut_commands.proofs.Logs.{read_none}
-use Rattle.cut_wires.proofs.Logs.{wrote_none}
+use Rattle.cut_wires.proofs.Logs.{wrote_none, wrote_more}
+use Rattle.std.proofs.Transfers.{starts_with_of_append, starts_with_trans}
+use Rattle.std.proofs.Math.Seq.{take-append-add}
 
 -- no text was read
 pub ends_unread_text : (fault : CliFault) (old new : WireLog) → GivesText 65537 (Err fault) old new
@@ -57,16 +64,6 @@ module _ (text : List ℕ) (old mid : WireLog) (given : GivesText 65537 (Ok text
     ends_unwritten fault is = absurd is
 
     -- or all was written
-    pub ends_accepted : (v : Values) → plan_of text ≡ Ok v → IsWritten whole (Ok tt) mid new
-        → EndsWith Explains old new (Ok tt)
-    ends_accepted v accepts is = record {
-      text = text;
-      ended = nat_lt (length text) 65537;
-      written = whole;
-      log = is ∙ ap (λ (l : WireLog). wrote l whole) given.1;
-      answers = ((given.0, refl), (v, accepts), explains);
-    }
-
     pub ends_refused : (refusal : Refusal) → plan_of text ≡ Err refusal → IsWritten whole (Ok tt) mid new
         → EndsWith Explains old new (Err (Plan refusal))
     ends_refused refusal refuses is = record {
@@ -76,3 +73,49 @@ module _ (text : List ℕ) (old mid : WireLog) (given : GivesText 65537 (Ok text
       log = is ∙ ap (λ (l : WireLog). wrote l whole) given.1;
       answers = ((given.0, refl), refuses, explains);
     }
+
+    -- or all of it, and bytes after it
+    module _ (v : Values) (accepts : plan_of text ≡ Ok v) (first : WireLog) (wrote_first : IsWritten whole (Ok tt) mid first) where
+      longer : (line : List ℕ) → IsExplanation text (whole ++ line)
+      longer line =
+          starts_with_trans (whole ++ line) whole (first_line (plan_of text)) (starts_with_of_append (whole ++ line) whole line refl)
+          explains
+
+      joined : (last : WireLog) (bytes : List ℕ) → last ≡ wrote first bytes
+          → last ≡ wrote (read_on text (nat_lt (length text) 65537) old) (whole ++ bytes)
+      joined last bytes is =
+          wrote_more (read_on text (nat_lt (length text) 65537) old) first last whole bytes
+          (wrote_first ∙ ap (λ (l : WireLog). wrote l whole) given.1) is
+
+      pub ends_estimated : (result : Result ⊤ CliFault) → IsWrittenAfter whole result first new
+          → EndsWith Explains old new result
+      ends_estimated (Ok done) is = record {
+        text = text;
+        ended = nat_lt (length text) 65537;
+        written = whole ++ is.0;
+        log = joined new is.0 is.1;
+        answers = ((given.0, refl), (v, accepts), longer is.0);
+      }
+      ends_estimated (Err (Write fault)) is =
+          let line : List ℕ = is.0 in
+          let n : ℕ = is.1 in
+          let bytes : take fault.sent (whole ++ line) ≡ whole ++ take n line =
+          ap (λ (m : ℕ). take m (whole ++ line)) is.2 ∙ take-append-add whole line n in
+          record {
+            text = text;
+            ended = nat_lt (length text) 65537;
+            written = take fault.sent (whole ++ line);
+            log = is.4 ∙ ap (λ (l : WireLog). write_failed l)
+                (joined (wrote first (take n line)) (take n line) refl
+                ∙ ap (λ (b : List ℕ). wrote (read_on text (nat_lt (length text) 65537) old) b) (sym bytes));
+            answers = (
+              (given.0, refl),
+              (
+                whole ++ line,
+                longer line,
+                refl,
+                omega (arith, is.2, is.3, length-append whole line),
+              ),
+            );
+          }
+      ends_estimated (Err fault) is = absurd is

@@ -27,7 +27,7 @@ module _ {O N : Type 0} (old_honest : O → Type 0) (old_state : O → DiskState
   pub not_moved : {D : Type 0} (old : O) (new : N) (v : Values) (slips : List Slip) (fault : MigrateFault)
       (before after : JournalValue D)
       → Holds old_honest old_state new_honest new_state old v slips
-      → IsFree old_honest old_state new_honest new_state new v → before.plan ≡ upgraded v → before.doubtful ≡ None
+      → IsFree old_honest old_state new_honest new_state new → before.plan ≡ upgraded v → before.doubtful ≡ None
       → moves.EndsMigration (Err fault) v slips before after
       → EndsMove old_honest old_state new_honest new_state old new v (Err (fault_of_migration fault))
   not_moved old new v slips migration.Memory before after held free plan whole ends = tt

@@ -12,10 +12,10 @@ use Rattle.cut_ledger.specs.Slips.{AreGood}
 use Rattle.cut_ledger.specs.World.{AreTrue}
 use Rattle.cut_ledger.proofs.SlipLemmas.{none_bad}
 use Rattle.cut_wires.specs.Log.{WireLog}
-use Rattle.cut_study.specs.Running.{HasEnded, Takes}
-use Rattle.cut_study.specs.declared.run_fault.RunFault.{RunFault}
-use Rattle.cut_study.specs.declared.run_fault.RunFault.TheVariants as study
-use Rattle.cut_study.specs.declared.study_run.Done.{Done}
+use Rattle.cut_pool.specs.Running.{HasEnded, Takes}
+use Rattle.cut_pool.specs.declared.run_fault.RunFault.{RunFault}
+use Rattle.cut_pool.specs.declared.run_fault.RunFault.TheVariants as study
+use Rattle.cut_pool.specs.declared.study_run.Done.{Done}
 use Rattle.cut_commands.specs.declared.fault.CliFault.{CliFault}
 use Rattle.cut_commands.specs.declared.fault.CliFault.TheVariants.{Memory, Journal, BadSlip, WorkMemory}
 use Rattle.cut_commands.specs.declared.fault.CliFault.TheVariants.{AuditMismatch}
@@ -46,11 +46,11 @@ module _ {D : Type 0} (is_honest : D → Type 0) (state : D → DiskState) where
       → StudyWrites is_honest state disk v (table_over v slips)
   writes disk v slips begins good = record { slips = slips; begins = begins; over = record { good = good; is = refl } }
 
-  pub leaves_all : (disk : Option D) (v : Values) (slips : List Slip) (done : Done) (old new : WireLog)
-      → BeginsWith is_honest state disk v slips → HasEnded v slips (is_some disk) (Ok done)
+  pub leaves_all : (disk : Option D) (v : Values) (slips : List Slip) (size : ℕ) (done : Done) (old new : WireLog)
+      → BeginsWith is_honest state disk v slips → HasEnded v slips (is_some disk) size (Ok done)
       → Takes v slips (Ok done) old new
       → LeavesStudy (study_task is_honest state disk) v (Ok tt) old new
-  leaves_all disk v slips done old new begins ended takes =
+  leaves_all disk v slips size done old new begins ended takes =
       record { written = table_over v slips; log = takes; answers = writes disk v slips begins ended.0 }
 
   -- some first bytes of it
@@ -67,26 +67,27 @@ module _ {D : Type 0} (is_honest : D → Type 0) (state : D → DiskState) where
   may_end (Some d) v = (tt, tt)
 
   -- why not all of it was written
-  pub leaves_some : (disk : Option D) (v : Values) (slips : List Slip) (fault : RunFault) (old new : WireLog)
+  pub leaves_some : (disk : Option D) (v : Values) (slips : List Slip) (size : ℕ) (fault : RunFault)
+      (old new : WireLog)
       → BeginsWith is_honest state disk v slips
-      → HasEnded v slips (is_some disk) (Err fault) → Takes v slips (Err fault) old new
+      → HasEnded v slips (is_some disk) size (Err fault) → Takes v slips (Err fault) old new
       → LeavesStudy (study_task is_honest state disk) v (Err (fault_of_study fault)) old new
-  leaves_some None v slips (study.BadSlip number) old new begins ended takes =
+  leaves_some None v slips size (study.BadSlip number) old new begins ended takes =
       absurd (omega (arith, ended.numbered, ended.within, ap (λ (ss : List Slip). length ss) begins))
-  leaves_some (Some d) v slips (study.BadSlip number) old new begins ended takes =
+  leaves_some (Some d) v slips size (study.BadSlip number) old new begins ended takes =
       record { written = []; log = takes ∙ sym (wrote_none old); answers = ((slips, begins, ended), refl) }
-  leaves_some None v slips study.Checkpoint old new begins ended takes = absurd (let not : false ≡ true = ended.1 in cc)
-  leaves_some (Some d) v slips study.Checkpoint old new begins ended takes = record {
+  leaves_some None v slips size study.Checkpoint old new begins ended takes = absurd (let not : false ≡ true = ended.1 in cc)
+  leaves_some (Some d) v slips size study.Checkpoint old new begins ended takes = record {
     written = take takes.0 (table_over v slips);
     log = takes.1;
     answers = (tt, prefix (Some d) v slips takes.0 begins ended.0);
   }
-  leaves_some disk v slips (study.Write fault) old new begins ended takes = record {
+  leaves_some disk v slips size (study.Write fault) old new begins ended takes = record {
     written = take fault.sent (table_over v slips);
     log = takes;
     answers = (prefix disk v slips fault.sent begins ended.0, refl, ended.1);
   }
-  leaves_some disk v slips study.WorkMemory old new begins ended takes = elim takes [
+  leaves_some disk v slips size study.WorkMemory old new begins ended takes = elim takes [
     | inl same ↦ record {
       written = [];
       log = same ∙ sym (wrote_none old);
@@ -98,7 +99,7 @@ module _ {D : Type 0} (is_honest : D → Type 0) (state : D → DiskState) where
       answers = ((may_end disk v).0, inr (prefix disk v slips some.1.0 begins some.0));
     }
   ]
-  leaves_some disk v slips study.AuditMismatch old new begins ended takes = record {
+  leaves_some disk v slips size study.AuditMismatch old new begins ended takes = record {
     written = take takes.0 (table_over v slips);
     log = takes.1;
     answers = ((may_end disk v).1, prefix disk v slips takes.0 begins ended);

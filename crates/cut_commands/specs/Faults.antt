@@ -1,5 +1,5 @@
 -- The program's faults: their places in the list of faults, their lines, and how the program ends.
-use Rattle.std.specs.Prelude.{ℕ, ◌++◌, List, [], ◌∷◌, codes, Option, Some, None}
+use Rattle.std.specs.Prelude.{ℕ, ◌++◌, List, [], ◌∷◌, codes, Option, Some, None, ⊤}
 use Rattle.std.specs.Fmt.{decimal}
 use Rattle.cut_faults.specs.declared.code.FaultCode.{FaultCode}
 use Rattle.cut_faults.specs.declared.code.FaultCode.TheVariants as code
@@ -16,8 +16,8 @@ use Rattle.cut_migration.specs.declared.fault.MigrateFault.{MigrateFault}
 use Rattle.cut_migration.specs.declared.fault.MigrateFault.TheVariants as migration
 use Rattle.cut_migration.specs.FaultCode as migrate_codes
 use Rattle.cut_commands.specs.declared.fault.CliFault.{CliFault}
-use Rattle.cut_study.specs.declared.run_fault.RunFault.{RunFault}
-use Rattle.cut_study.specs.declared.run_fault.RunFault.TheVariants as study
+use Rattle.cut_pool.specs.declared.run_fault.RunFault.{RunFault}
+use Rattle.cut_pool.specs.declared.run_fault.RunFault.TheVariants as study
 use Rattle.cut_status.specs.declared.fault.StatusFault.{StatusFault}
 use Rattle.cut_status.specs.declared.fault.StatusFault.TheVariants as status
 use Rattle.cut_commands.specs.declared.fault.CliFault.TheVariants.{Memory, Plan, Read, Socket, Asked, Write, Journal}
@@ -85,6 +85,21 @@ fault_of_plan (plan.Refused refusal) = Plan refusal
 abbrev pub fault_of_journal : JournalFault → CliFault
 fault_of_journal journal.Memory = Memory
 fault_of_journal fault = Journal fault
+
+-- the faults of a journal by which an old checkpoint is refused, and those by which a new one is; that memory ran out is
+-- a fault of its own
+abbrev pub IsRefusalOfOld : JournalFault → Type 0
+IsRefusalOfOld journal.Disk = ⊤
+IsRefusalOfOld journal.NoStudy = ⊤
+IsRefusalOfOld journal.OtherPlan = ⊤
+IsRefusalOfOld (journal.Damaged number) = ⊤
+IsRefusalOfOld fault = ⊥
+
+abbrev pub IsRefusalOfNew : JournalFault → Type 0
+IsRefusalOfNew journal.Disk = ⊤
+IsRefusalOfNew journal.Held = ⊤
+IsRefusalOfNew journal.NoStudy = ⊤
+IsRefusalOfNew fault = ⊥
 
 -- the fault of the program where slips were not moved
 abbrev pub fault_of_migration : MigrateFault → CliFault

@@ -1,5 +1,5 @@
 -- What a migration writes for a plan, by what the disk of its checkpoint holds.
-use Rattle.std.specs.Prelude.{◌≡◌, ◌≢◌, ◌⊎◌, ℕ, List, length, codes, Result, Ok, Err, ⊤}
+use Rattle.std.specs.Prelude.{◌≡◌, ◌⊎◌, ℕ, true, List, length, codes, Result, Ok, Err, ⊤}
 use Rattle.cut_fields.specs.declared.version.Version.TheVariants.{One, Two}
 use Rattle.cut_plan.specs.Targets.{upgraded}
 use Rattle.cut_plan.specs.Values.{Values}
@@ -12,10 +12,11 @@ use Rattle.cut_journal.specs.declared.fault.JournalFault.TheVariants as journal
 use Rattle.cut_migration.specs.declared.fault.MigrateFault.{MigrateFault}
 use Rattle.cut_migration.specs.declared.fault.MigrateFault.TheVariants as migration
 use Rattle.cut_migration.specs.Migration.{AreTrueUpTo, IsFirstUntrue}
-use Rattle.cut_journal.specs.Opening.{IsReopenFault, IsOpeningFaultOf, MayNotMake}
-use Rattle.cut_journal.specs.Reading.{reading}
+use Rattle.cut_journal.specs.Opening.{IsReopenFault, is_foreign, is_unclaimed}
+use Rattle.cut_journal.specs.Reading.{is_study, reading}
 use Rattle.cut_commands.specs.Check.{number_line}
 use Rattle.cut_commands.specs.Task.{Task}
+use Rattle.cut_commands.specs.Faults.{IsRefusalOfNew, IsRefusalOfOld}
 use Rattle.cut_commands.specs.declared.fault.CliFault.{CliFault}
 use Rattle.cut_commands.specs.declared.fault.CliFault.TheVariants.{Memory, Journal, Migrate}
 
@@ -23,10 +24,12 @@ use Rattle.cut_commands.specs.declared.fault.CliFault.TheVariants.{Memory, Journ
 unfoldable pub moved_text : ℕ → List ℕ
 moved_text n = number_line (codes "migrated") n
 
--- why no study without slips was made where bytes were: there is one already, or the disk failed
-abbrev pub IsHeld : Values → List ℕ → JournalFault → Type 0
-IsHeld v bytes journal.Held = reading v bytes ≢ Err journal.NoStudy
-IsHeld v bytes fault = ⊤
+-- why no study without slips was made where bytes were: there is one already, or they are somebody else's, or the disk
+-- failed
+abbrev pub IsHeld : List ℕ → JournalFault → Type 0
+IsHeld bytes journal.Held = is_study bytes ≡ true
+IsHeld bytes journal.NoStudy = is_foreign bytes ≡ true
+IsHeld bytes fault = ⊤
 
 -- ---- from one disk to another
 
@@ -36,15 +39,15 @@ module _ {O N : Type 0} (old_honest : O → Type 0) (old_state : O → DiskState
   abbrev pub Holds : O → Values → List Slip → Type 0
   Holds old v slips = old_honest old → reading v (old_state old).bytes ≡ Ok slips
 
-  -- a disk that holds no study of the plan's upgrade, if it is honest
-  abbrev pub IsFree : N → Values → Type 0
-  IsFree new v = new_honest new → reading (upgraded v) (new_state new).bytes ≡ Err journal.NoStudy
+  -- a disk that is unclaimed, if it is honest
+  abbrev pub IsFree : N → Type 0
+  IsFree new = new_honest new → is_unclaimed (new_state new).bytes ≡ true
 
   -- a plan of version 1, the slips of whose study can be moved
   pub record IsReady (old : O) (new : N) (v : Values) (slips : List Slip) : Type 0 where
     pub version : version_of v.failing ≡ One
     pub held : Holds old v slips
-    pub free : IsFree new v
+    pub free : IsFree new
 
   -- they are all true ones, and `n` were moved
   pub record HasMovedAll (old : O) (new : N) (v : Values) (n : ℕ) : Type 0 where
@@ -63,7 +66,7 @@ module _ {O N : Type 0} (old_honest : O → Type 0) (old_state : O → DiskState
   -- checkpoint, which failed
   abbrev pub StopsBy : O → N → Values → MigrateFault → Type 0
   StopsBy old new v migration.NotVersion1 =
-      (version_of v.failing ≡ Two) × ((slips : List Slip) × Holds old v slips × IsFree new v)
+      (version_of v.failing ≡ Two) × ((slips : List Slip) × Holds old v slips × IsFree new)
   StopsBy old new v (migration.BadSlip n) = (slips : List Slip) × IsReady old new v slips × IsFirstBad v slips n
   StopsBy old new v (migration.Disagrees n) =
       (slips : List Slip) × IsReady old new v slips × AreGood v slips × IsFirstUntrue v slips n
@@ -74,8 +77,8 @@ module _ {O N : Type 0} (old_honest : O → Type 0) (old_state : O → DiskState
   -- slips, and the new one a study; or a disk failed
   abbrev pub IsNotReady : O → N → Values → JournalFault → Type 0
   IsNotReady old new v fault =
-      (IsOpeningFaultOf fault × (old_honest old → IsReopenFault v (old_state old).bytes fault))
-      ⊎ (MayNotMake fault × (new_honest new → IsHeld (upgraded v) (new_state new).bytes fault)
+      (IsRefusalOfOld fault × (old_honest old → IsReopenFault v (old_state old).bytes fault))
+      ⊎ (IsRefusalOfNew fault × (new_honest new → IsHeld (new_state new).bytes fault)
       × ((slips : List Slip) × Holds old v slips))
 
   abbrev pub MigrateFails : O → N → Values → CliFault → Type 0
@@ -97,7 +100,7 @@ module _ {O N : Type 0} (old_honest : O → Type 0) (old_state : O → DiskState
 
 -- why not all slips were moved
 abbrev pub FilesFail : Values → CliFault → Type 0
-FilesFail v (Journal fault) = IsOpeningFaultOf fault ⊎ MayNotMake fault
+FilesFail v (Journal fault) = IsRefusalOfOld fault ⊎ IsRefusalOfNew fault
 FilesFail v (Migrate migration.NotVersion1) = version_of v.failing ≡ Two
 FilesFail v (Migrate (migration.BadSlip n)) =
     (version_of v.failing ≡ One) × ((slips : List Slip) × IsFirstBad v slips n)

@@ -9,7 +9,7 @@ use Rattle.cut_ledger.specs.Table.{table_over}
 use Rattle.cut_ledger.specs.Slips.{AreGood, IsFirstBad}
 use Rattle.cut_ledger.specs.World.{AreTrue}
 use Rattle.cut_journal.specs.declared.fault.JournalFault.{JournalFault}
-use Rattle.cut_journal.specs.declared.fault.JournalFault.TheVariants.{Disk, OtherPlan, Damaged, Held}
+use Rattle.cut_journal.specs.declared.fault.JournalFault.TheVariants.{Disk, NoStudy, OtherPlan, Damaged, Held}
 use Rattle.cut_journal.specs.Opening.{IsFoundOn, IsOpenFault}
 use Rattle.cut_journal.specs.Reading.{reading}
 use Rattle.cut_commands.specs.Task.{Task}
@@ -28,6 +28,7 @@ MayStop Disk = ⊤
 MayStop OtherPlan = ⊤
 MayStop (Damaged number) = ⊤
 MayStop Held = ⊤
+MayStop NoStudy = ⊤
 MayStop fault = ⊥
 
 -- why not all of a study's table is written, with a disk or without one: memory ran out, or counts of the same

@@ -1,6 +1,6 @@
 ghost use Rattle.std.specs.Prelude.{◌≡◌, Ok, is_some, length, IfOk, IfErr, IfSome};
 ghost use Rattle.cut_journal.specs.Reading.{reading};
-ghost use Rattle.cut_study.specs.Running.{slips_of};
+ghost use Rattle.cut_pool.specs.Running.{slips_of};
 ghost use Rattle.cut_commands.specs.inside.Run.{IsNotOpened};
 ghost use Rattle.cut_commands.specs.Study.{BeginsWith, study_task};
 ghost use Rattle.cut_commands.specs.inside.Study.{IsReady};

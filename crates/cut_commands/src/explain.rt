@@ -1,52 +1,63 @@
-ghost use Rattle.std.specs.Prelude.{◌≡◌, string_bytes, IfOk};
-ghost use Rattle.std.specs.Io.{StartsWith};
-ghost use Rattle.cut_plan.specs.Accepted.{plan_of};
-ghost use Rattle.cut_explain.specs.FirstLine.{first_line};
 ghost use Rattle.cut_commands.specs.Explain.{Explains};
 ghost use Rattle.cut_commands.specs.Run.{EndsWith};
+ghost use Rattle.cut_commands.specs.inside.Explain.{IsWrittenAfter};
 
 use crate::CliFault;
 use crate::input::{TEXT_LIMIT, read_text};
 use crate::output::write_answer;
 use cut_explain::{Explanation, estimate_study, explain};
-use cut_wires::Wire;
-use std::alloc::{AllocError, Global};
-use std::time::Clock;
+use cut_plan::Plan;
+use cut_wires::{Sent, Wire, send_all};
+use std::alloc::Global;
+use std::time::CpuClock;
 
-/// Reads a text from a wire and writes what is right or wrong with it as a plan, and for a plan about how long its study
-/// takes, for which some of its trials are run.
+/// Reads a text from a wire and writes what is right or wrong with it as a plan. After that, for a plan, it runs some of its
+/// trials, and writes about how long its study takes.
 ///
 /// The first line says whether it is accepted, or its first fault, with which the command ends then. At most 65,537 bytes
 /// are read, and each fault of the wire is as in `run_io`.
-pub fn explain_io<W: Wire, C: Clock>(alloc: Global, clock: &C, wire: &mut W) -> Result<(), CliFault>
+pub fn explain_io<W: Wire, C: CpuClock>(
+    alloc: Global,
+    clock: &C,
+    wire: &mut W,
+) -> Result<(), CliFault>
     ensures { EndsWith Explains (W.log wire.old) (W.log wire.new) result }
 {
     let text = read_text(alloc, wire, TEXT_LIMIT)?;
-    let Explanation { plan, text: lines } = explanation_of(alloc, clock, text.as_slice())?;
+    let Explanation { plan, text: lines } = explain(alloc, text.as_slice())?;
     write_answer(wire, lines.as_bytes())?;
     match plan {
-        Ok(_) => Ok(()),
+        Ok(plan) => write_estimate(alloc, clock, &plan, wire, lines.as_bytes()),
         Err(refusal) => Err(CliFault::Plan(refusal)),
     }
 }
 
-/// The explanation of a text, and for a plan a line on how long its study takes, where the clock can be read.
-fn explanation_of<C: Clock>(
+/// Writes about how long a study takes, after the lines that were written before. It is left out where it can't be had: where
+/// the clock can't be read, or memory runs out.
+fn write_estimate<W: Wire, C: CpuClock>(
     alloc: Global,
     clock: &C,
-    text: &[u8],
-) -> Result<Explanation, AllocError>
-    ensures plan { IfOk result (λ e. plan_of text.now ≡ e.plan) }
-    ensures first_line { IfOk result (λ e. StartsWith (string_bytes e.text) (first_line (plan_of text.now))) }
+    plan: &Plan,
+    wire: &mut W,
+    before: &[u8],
+) -> Result<(), CliFault>
+    ensures { IsWrittenAfter before.now result (W.log wire.old) (W.log wire.new) }
 {
-    let Explanation {
-        plan,
-        text: mut lines,
-    } = explain(alloc, text)?;
-    if let Ok(plan) = &plan {
-        if let Some(estimate) = estimate_study(alloc, clock, plan)? {
-            lines.push_str(estimate.line(alloc)?.as_str())?;
-        }
+    let Some(line) = estimate_line(alloc, clock, plan) else {
+        return Ok(());
+    };
+    match send_all(wire, line.as_bytes()) {
+        Ok(()) => Ok(()),
+        Err(fault) => Err(CliFault::Write(Sent {
+            sent: before.len() as u64 + fault.sent,
+        })),
     }
-    Ok(Explanation { plan, text: lines })
+}
+
+/// The line on how long a study takes.
+fn estimate_line<C: CpuClock>(alloc: Global, clock: &C, plan: &Plan) -> Option<String> {
+    match estimate_study(alloc, clock, plan) {
+        Ok(Some(estimate)) => estimate.line(alloc).ok(),
+        _ => None,
+    }
 }

@@ -8,9 +8,9 @@ use cut_journal::JournalFault;
 use cut_messages::AskFault;
 use cut_migration::MigrateFault;
 use cut_plan::{Field, PlanFault, Refusal};
+use cut_pool::RunFault;
 use cut_status::StatusFault;
-use cut_study::RunFault;
-use cut_wires::WriteFault;
+use cut_wires::Sent;
 use itoa::Buffer;
 use std::alloc::AllocError;
 use std::fmt;
@@ -34,7 +34,7 @@ pub enum CliFault {
     /// A server that was asked for a table gave none.
     Asked(AskFault),
     /// A write of the answer failed.
-    Write(WriteFault),
+    Write(Sent),
     /// The checkpoint was not opened.
     Journal(JournalFault),
     /// The folder of the checkpoints is no folder.
@@ -112,7 +112,7 @@ impl CliFault {
         text.push_str(self.name());
         match self {
             CliFault::Plan(refusal) => push_field(&mut text, refusal.field()),
-            CliFault::Write(WriteFault { sent: number })
+            CliFault::Write(Sent { sent: number })
             | CliFault::BadSlip(number)
             | CliFault::Migrate(MigrateFault::BadSlip(number) | MigrateFault::Disagrees(number))
             | CliFault::Journal(JournalFault::Damaged(number)) => push_number(&mut text, *number),

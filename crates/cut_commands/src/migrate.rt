@@ -1,5 +1,5 @@
-ghost use Rattle.std.specs.Prelude.{◌≡◌, None, string_bytes, Ok, Err, IfOk, IfErr};
-ghost use Rattle.cut_journal.specs.Opening.{IsReopenFault, IsOpeningFaultOf, MayNotMake};
+ghost use Rattle.std.specs.Prelude.{◌≡◌, true, None, string_bytes, Ok, IfOk, IfErr};
+ghost use Rattle.cut_journal.specs.Opening.{IsReopenFault, IsOpeningFaultOf, MayNotClaim, is_unclaimed};
 ghost use Rattle.cut_journal.specs.Reading.{reading};
 ghost use Rattle.cut_commands.specs.Migrate.{EndsMove, IsHeld, files_task, migrate_task, moved_text};
 ghost use Rattle.cut_commands.specs.Run.{EndsCommand, EndsWithFile};
@@ -83,7 +83,7 @@ fn slips_on<O: Disk + Drop>(alloc: Global, plan: &Plan, disk: O) -> Result<Vec<S
     }
 }
 
-/// The journal of a study without slips, on a disk that holds none.
+/// The journal of a study without slips, on an unclaimed disk.
 fn new_journal<N: Disk + Drop>(
     alloc: Global,
     plan: &Plan,
@@ -92,11 +92,11 @@ fn new_journal<N: Disk + Drop>(
     ensures plan { IfOk result (λ journal. journal.plan ≡ plan.now) }
     ensures whole { IfOk result (λ journal. journal.doubtful ≡ None) }
     ensures free { N.is_honest disk →
-        IfOk result (λ journal. reading plan.now (N.state disk).bytes ≡ Err JournalFault.NoStudy) }
-    ensures held { N.is_honest disk → IfErr result (λ e. IsHeld plan.now (N.state disk).bytes e) }
-    ensures may { IfErr result MayNotMake }
+        IfOk result (λ _. is_unclaimed (N.state disk).bytes ≡ true) }
+    ensures held { N.is_honest disk → IfErr result (λ e. IsHeld (N.state disk).bytes e) }
+    ensures may { IfErr result MayNotClaim }
 {
-    match Journal::create(alloc, disk, plan) {
+    match Journal::claim(alloc, disk, plan) {
         Ok(journal) => Ok(journal),
         Err((fault, _)) => Err(fault),
     }

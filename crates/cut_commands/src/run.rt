@@ -6,11 +6,11 @@ use crate::CliFault;
 use crate::checkpoint::open_checkpoint;
 use crate::input::read_plan;
 use cut_disks::{Disk, FileDisk};
-use cut_hooks::Hooks;
 use cut_journal::JournalFault;
 use cut_ledger::laws::true_slips_give_the_table;
+use cut_outcome::Gate;
 use cut_plan::accepted_texts_give_plans;
-use cut_study::StudyRun;
+use cut_pool::StudyRun;
 use cut_wires::Wire;
 use std::alloc::Global;
 use std::sync::Wait;
@@ -24,7 +24,7 @@ pub struct Work<'a, G> {
     /// How many workers there are, 1 to 64.
     pub workers: u32,
     /// What they call at each stage of their work.
-    pub hooks: &'a G,
+    pub gate: &'a G,
     pub ghost size: { 1 ≤ piece_size },
     pub ghost few: { (1 ≤ workers) × (workers ≤ 64) },
 }
@@ -35,7 +35,7 @@ pub struct Work<'a, G> {
 /// With a disk the study is kept there: it goes on from the slips that the disk holds, or begins where it
 /// holds none, and each piece is kept once it is done.
 ///
-/// For every plan, piece size, number of workers, hooks, checkpoint and wire, what the wire took is a prefix of the
+/// For every plan, piece size, number of workers, gate, checkpoint and wire, what the wire took is a prefix of the
 /// plan's table, trial by trial as it is defined: all of it at `Ok`, and exactly as many bytes as are reported
 /// where a write failed. That is the clause `table`, without a disk or over an honest one that holds no study, or
 /// true slips, as those are that this program writes. Over any other disk the clause `ends` says the same of the
@@ -55,7 +55,7 @@ pub fn run_io<W, D, G, R>(
 where
     W: Wire,
     D: Disk + Drop + Send,
-    G: Hooks + Sync,
+    G: Gate + Sync,
     R: Threads + Wait + Sync,
     ensures ends { EndsCommand (study_task D.is_honest D.state disk) (W.log wire.old) (W.log wire.new) result }
     ensures table { IsTrueStore D.is_honest D.state disk →
@@ -77,7 +77,7 @@ fn run<W, D, G, R>(
 where
     W: Wire,
     D: Disk + Drop + Send,
-    G: Hooks + Sync,
+    G: Gate + Sync,
     R: Threads + Wait + Sync,
     ensures { EndsCommand (study_task D.is_honest D.state disk) (W.log wire.old) (W.log wire.new) result }
 {
@@ -89,7 +89,7 @@ where
         piece_size: work.piece_size,
         workers: work.workers,
     };
-    match study.run(rt, alloc, wire, work.hooks) {
+    match study.run(rt, alloc, wire, work.gate) {
         Ok(_done) => Ok(()),
         Err(fault) => Err(CliFault::from(fault)),
     }
@@ -108,7 +108,7 @@ pub fn run_file<W, G, R>(
 ) -> Result<(), CliFault>
 where
     W: Wire,
-    G: Hooks + Sync,
+    G: Gate + Sync,
     R: Threads + Wait + Sync,
     ensures { EndsWithFile file_task (W.log wire.old) (W.log wire.new) result }
 {

@@ -10,7 +10,7 @@ mod refusals;
 use crate::workers::workers_from;
 use cut_commands::{CliFault, Work, check_io, run_io};
 use cut_disks::MemoryDisk;
-use cut_hooks::NoHooks;
+use cut_outcome::OpenGate;
 use cut_wires::StreamWire;
 use std::alloc::{AllocError, Global};
 use std::io::{Read, Write};
@@ -49,11 +49,11 @@ const TABLE: &str =
     "k,h,l,f,trials,receivers,conflicts,silent,extra,votes,decided,right,ppm\n1,1,1,1,2,8,0,0,0,8,2,2,0\n";
 
 /// Work in pieces of about this size by about this many workers, none of whom waits.
-fn work_of(size: u32, workers: u32) -> Work<'static, NoHooks> {
+fn work_of(size: u32, workers: u32) -> Work<'static, OpenGate> {
     Work {
         piece_size: size.max(1),
         workers: workers_from(workers),
-        hooks: &NoHooks,
+        gate: &OpenGate,
     }
 }
 

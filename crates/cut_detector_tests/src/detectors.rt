@@ -59,7 +59,7 @@ fn is_settled_from(at: u64, detector: &mut Detector<'_>, edges: &[Edge]) -> bool
 }
 
 // Whether a text says what is proposed after these deliveries by a rule, at once and step by step.
-fn is_replayed(
+pub(crate) fn is_replayed(
     alloc: Global,
     rings: &Rings,
     edges: &[Edge],
@@ -74,6 +74,34 @@ fn is_replayed(
     let found = replay(alloc, rings, k, h, l, implicit, edges)?;
     let at = found.as_ref().map_or(u64::MAX, |proposal| proposal.at);
     Ok(is_settled_from(at, &mut detector, edges) && is_reported(&found, wanted))
+}
+
+// Whether a detector with h 3 and l 1 proposes at the third of some deliveries and waits at all of others, to which it is
+// reset.
+fn is_reset(
+    alloc: Global,
+    rings: &Rings,
+    settling: &[Edge],
+    waiting: &[Edge],
+) -> Result<bool, AllocError> {
+    let (k, nodes) = (rings.len(), rings.nodes());
+    if k < 3 || !all_within(k, nodes, settling) || !all_within(k, nodes, waiting) {
+        return Ok(false);
+    }
+    let mut detector = Detector::new(alloc, rings, k, 3, 1, false)?;
+    let is_settled = is_settled_from(3, &mut detector, settling);
+    detector.reset();
+    let waits = is_settled_from(u64::MAX, &mut detector, waiting);
+    Ok(is_settled && waits && detector.proposal(alloc)?.is_none())
+}
+
+#[test]
+fn a_reset_forgets_what_was_delivered(rt: HostRuntime) -> Result<(), Fail> {
+    let rings = four(rt.alloc())?;
+    let settling = edges_of(rt.alloc(), "0.1 1.1 2.1 0.2")?;
+    let waiting = edges_of(rt.alloc(), "0.1 0.1 0.1")?;
+    assert!(rt; is_reset(rt.alloc(), &rings, &settling, &waiting)?);
+    Ok(())
 }
 
 // How many rows stand below a list of deliveries, 0 where one is false.
@@ -152,6 +180,46 @@ fn no_order_matters_above_the_low_watermark(rt: HostRuntime) -> Result<(), Fail>
     let rings = four(rt.alloc())?;
     for number in 0..720 {
         assert!(rt; is_last(rt.alloc(), &rings, "0.1 1.1 2.1 0.2 1.3 2.0", number)?);
+    }
+    Ok(())
+}
+
+// Whether a receiver of these alerts proposes without process 1 or without process 2.
+fn is_conflict(
+    alloc: Global,
+    rings: &Rings,
+    edges: &[Edge],
+    (h, l, implicit): (u8, u8, bool),
+) -> Result<bool, AllocError> {
+    let k = rings.len();
+    if l < 1 || h < l || k < h || !all_within(k, rings.nodes(), edges) {
+        return Ok(false);
+    }
+    let found = replay(alloc, rings, k, h, l, implicit, edges)?;
+    Ok(found.is_some_and(|proposal| proposal.members.as_slice() != [1, 2].as_slice()))
+}
+
+// In how many of the 720 orders of three alerts about each of two processes a receiver is in conflict.
+fn conflicts(alloc: Global, rings: &Rings, rule: (u8, u8, bool)) -> Result<usize, AllocError> {
+    let mut count = 0usize;
+    for number in 0..720 {
+        let mut edges = edges_of(alloc, "0.1 1.1 2.1 0.2 1.2 2.2")?;
+        reorder(&mut edges, number);
+        if is_conflict(alloc, rings, &edges, rule)? {
+            count = count.saturating_add(1);
+        }
+    }
+    Ok(count)
+}
+
+// As the exact shares of all orders say, which are 2/5, 1/10 and 2/5.
+#[test]
+fn conflicts_of_all_orders_are_counted(rt: HostRuntime) -> Result<(), Fail> {
+    let rings = four(rt.alloc())?;
+    for implicit in [false, true] {
+        assert!(rt; conflicts(rt.alloc(), &rings, (2, 1, implicit))? == 288);
+        assert!(rt; conflicts(rt.alloc(), &rings, (3, 1, implicit))? == 72);
+        assert!(rt; conflicts(rt.alloc(), &rings, (3, 2, implicit))? == 288);
     }
     Ok(())
 }

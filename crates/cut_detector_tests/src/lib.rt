@@ -1,5 +1,5 @@
 //! What no contract of the crates from `cut_rings` to `cut_detector` says: rings, draws, alerts and detectors beside
-//! values that were computed elsewhere, and printed faults.
+//! values that were computed elsewhere, a detector that recounts, and printed faults.
 //!
 //! The tests stand in a crate of their own, as they use these crates as their callers do, and the proofs of the crates
 //! need not be made again for them.
@@ -13,6 +13,8 @@ mod detectors;
 mod draws;
 #[cfg(test)]
 mod edges;
+#[cfg(test)]
+mod recounts;
 #[cfg(test)]
 mod rings;
 #[cfg(test)]

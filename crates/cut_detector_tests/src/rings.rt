@@ -1,6 +1,6 @@
 use crate::texts::{four, numbers, rings_of_lists};
 use cut_plan::Plan;
-use cut_rings::{Rings, RingsFault};
+use cut_rings::Rings;
 use std::alloc::{AllocError, Global};
 use std::test::Fail;
 
@@ -72,9 +72,9 @@ fn listed_rings_are_the_lists(rt: HostRuntime) -> Result<(), Fail> {
     Ok(())
 }
 
-// The fault of these lists, of four processes, as it is printed.
-fn fault_text(alloc: Global, lists: &str) -> Result<String, AllocError> {
-    match rings_of_lists(alloc, 4, lists) {
+// The fault of these lists, of this number of processes, as it is printed.
+fn fault_text(alloc: Global, nodes: u16, lists: &str) -> Result<String, AllocError> {
+    match rings_of_lists(alloc, nodes, lists) {
         Ok(_) => Ok(String::new(alloc)),
         Err(fault) => fault.to_string(alloc),
     }
@@ -83,7 +83,7 @@ fn fault_text(alloc: Global, lists: &str) -> Result<String, AllocError> {
 #[test]
 fn faults_are_printed(rt: HostRuntime) -> Result<(), Fail> {
     let wanted = "11 NotPermutation";
-    assert!(rt; fault_text(rt.alloc(), "0 1 2 3, 0 0 2 3")?.as_str() == wanted);
-    assert!(rt; RingsFault::TooFew.to_string(rt.alloc())?.as_str() == "12 TooFew");
+    assert!(rt; fault_text(rt.alloc(), 4, "0 1 2 3, 0 0 2 3")?.as_str() == wanted);
+    assert!(rt; fault_text(rt.alloc(), 1, "0")?.as_str() == "12 TooFew");
     Ok(())
 }

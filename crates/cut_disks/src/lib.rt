@@ -20,4 +20,4 @@ pub use faulty_disk::{FaultyDisk, Tear};
 pub use file_disk::FileDisk;
 pub use memory_disk::MemoryDisk;
 pub use raw_file::RawFile;
-pub use system_file::{SystemFile, folder_of};
+pub use system_file::{SystemFile, folder_of, open_regular};

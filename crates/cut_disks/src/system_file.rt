@@ -3,8 +3,8 @@ ghost use Rattle.std.specs.Path.{path_bytes, path_parent};
 ghost use Rattle.cut_disks.specs.Folders.{folder_text};
 
 use crate::{DiskFault, FileDisk, RawFile};
-use std::fs::{self, File, OpenOptions};
-use std::io;
+use std::fs::{self, File, Files, OpenOptions};
+use std::io::{self, ErrorKind};
 use std::os::unix::fs::FileExt;
 use std::path::Path;
 
@@ -21,8 +21,12 @@ pub struct SystemFile {
 }
 
 impl SystemFile {
-    /// Opens a file and its folder, and makes the file where there is none.
-    pub fn open(rt: &HostRuntime, path: &str) -> io::Result<SystemFile> {
+    /// Opens a file and its folder, and makes the file where there is none. What stands there is looked at before.
+    pub fn open<R: Files<File = File>>(rt: &R, path: &str) -> io::Result<SystemFile> {
+        match check_regular(rt, path) {
+            Err(error) if error.kind() != ErrorKind::NotFound => return Err(error),
+            _ => {}
+        }
         let file = OpenOptions::new()
             .read(true)
             .write(true)
@@ -33,13 +37,13 @@ impl SystemFile {
     }
 
     /// Opens a file that is there, for reads alone, and its folder.
-    pub fn open_existing(rt: &HostRuntime, path: &str) -> io::Result<SystemFile> {
-        let file = fs::open(rt, path)?;
+    pub fn open_existing<R: Files<File = File>>(rt: &R, path: &str) -> io::Result<SystemFile> {
+        let file = open_regular(rt, path)?;
         SystemFile::in_folder(rt, file, path)
     }
 
     /// A file that was opened at a path, and its folder, which is opened.
-    fn in_folder(rt: &HostRuntime, file: File, path: &str) -> io::Result<SystemFile> {
+    fn in_folder<R: Files<File = File>>(rt: &R, file: File, path: &str) -> io::Result<SystemFile> {
         let folder = fs::open(rt, folder_of(path))?;
         Ok(SystemFile { file, folder })
     }
@@ -71,6 +75,22 @@ impl FileDisk {
             Ok(file) => FileDisk::over(file),
             Err(_) => Err(DiskFault),
         }
+    }
+}
+
+/// Opens the regular file at a path for reads alone. What stands there is looked at before, since who opens a pipe waits for
+/// somebody who writes to it.
+pub fn open_regular<R: Files<File = File>>(rt: &R, path: &str) -> io::Result<File> {
+    check_regular(rt, path)?;
+    fs::open(rt, path)
+}
+
+/// Fails where no regular file stands at a path.
+fn check_regular<R: Files>(rt: &R, path: &str) -> io::Result<()> {
+    if rt.metadata(path)?.is_file() {
+        Ok(())
+    } else {
+        Err(ErrorKind::Unsupported.into())
     }
 }
 

@@ -2,20 +2,29 @@
 ghost use Rattle.std.specs.Prelude.{◌≡◌};
 ghost use Rattle.cut_outcome.specs.Outcome.{rings_of};
 
+use cut_outcome::Piece;
 use cut_plan::Plan;
 use cut_rings::Rings;
-use cut_trial::run_trial;
+use cut_trial::{TrialFault, run_piece};
 use std::alloc::{AllocError, Global};
 use std::fmt;
-use std::time::{Clock, Duration};
+use std::time::{CpuClock, Duration};
 
-/// For how many seconds the trials of one cell are run, but for one that lasts longer.
-const SECONDS: u64 = 1;
+/// For how many milliseconds trials are run, but for a piece that lasts longer.
+const LONGEST: u64 = 1000;
+
+/// A piece that takes fewer milliseconds is followed by one of twice as many trials.
+const SHORT: u64 = 4;
+
+/// How many pieces are run, and how many trials each of them has, at most.
+const MOST_PIECES: u32 = 64;
+
+const MOST_TRIALS: u32 = 16;
 
 /// How long a study takes, by some trials that were run.
 #[derive(Clone, Copy, Debug, PartialEq, Eq)]
 pub struct Estimate {
-    /// How long one worker takes for all trials.
+    /// How long a processor works for all trials.
     pub time: Duration,
     /// How many trials were run to estimate it.
     pub trials: u32,
@@ -30,146 +39,207 @@ impl Estimate {
 
 impl fmt::Display for Estimate {
     fn fmt<W: fmt::Write>(&self, f: &mut fmt::Formatter<W>) -> fmt::Result {
-        let time = Rounded(self.time);
+        let range = TimeRange(millis_of(self.time));
         let trials = self.trials;
         let plural = if trials == 1 { "" } else { "s" };
         write!(
             f,
-            "about {time} by one worker (measured on {trials} trial{plural})"
+            "{range} of a processor by one worker, by n workers about 1/n of it (measured on {trials} trial{plural})"
         )
     }
 }
 
-/// A time as it is printed: in the largest unit of which it has some.
-#[derive(Clone, Copy)]
-struct Rounded(Duration);
+/// The milliseconds of a time.
+fn millis_of(time: Duration) -> u64 {
+    time.as_secs()
+        .saturating_mul(1000)
+        .saturating_add(u64::from(time.subsec_millis()))
+}
 
-impl fmt::Display for Rounded {
+/// An estimate of some milliseconds as it is printed: from two thirds of it to four thirds.
+#[derive(Clone, Copy)]
+struct TimeRange(u64);
+
+impl fmt::Display for TimeRange {
     fn fmt<W: fmt::Write>(&self, f: &mut fmt::Formatter<W>) -> fmt::Result {
-        let seconds = self.0.as_secs();
-        match seconds {
-            0 => {
-                let millis = self.0.subsec_millis();
-                write!(f, "{millis} ms")
-            }
-            1..=119 => write!(f, "{seconds} s"),
-            120..=7_199 => {
-                let minutes = seconds / 60;
-                write!(f, "{minutes} min")
-            }
-            7_200..=172_799 => {
-                let hours = seconds / 3_600;
-                write!(f, "{hours} h")
-            }
-            _ => {
-                let days = seconds / 86_400;
-                write!(f, "{days} days")
-            }
+        let low = self.0.saturating_mul(2) / 3;
+        let high = self.0.saturating_mul(4) / 3;
+        if high < 10 {
+            return f.write_str("less than 10 ms");
+        }
+        let (unit, name) = unit_of(high);
+        let is_few = name != "ms" && high < unit.saturating_mul(10);
+        let (low, high) = (
+            Amount::of_millis(low, unit, is_few),
+            Amount::of_millis(high, unit, is_few),
+        );
+        write!(f, "about {low} to {high} {name}")
+    }
+}
+
+/// The unit in which this many milliseconds are printed: how many milliseconds it has, and its name.
+fn unit_of(millis: u64) -> (u64, &'static str) {
+    match millis {
+        0..=999 => (1, "ms"),
+        1_000..=119_999 => (1_000, "s"),
+        120_000..=7_199_999 => (60_000, "min"),
+        7_200_000..=172_799_999 => (3_600_000, "h"),
+        _ => (86_400_000, "days"),
+    }
+}
+
+/// An amount of a unit as it is printed: in whole numbers, or with one decimal place.
+#[derive(Clone, Copy)]
+struct Amount {
+    tenths: u64,
+    is_few: bool,
+}
+
+impl Amount {
+    /// The amount of a unit that some milliseconds are.
+    fn of_millis(millis: u64, unit: u64, is_few: bool) -> Amount {
+        let tenths = millis.saturating_mul(10).checked_div(unit).unwrap_or(0);
+        Amount { tenths, is_few }
+    }
+}
+
+impl fmt::Display for Amount {
+    fn fmt<W: fmt::Write>(&self, f: &mut fmt::Formatter<W>) -> fmt::Result {
+        let (whole, tenth) = (self.tenths / 10, self.tenths % 10);
+        if self.is_few {
+            write!(f, "{whole}.{tenth}")
+        } else {
+            write!(f, "{whole}")
         }
     }
 }
 
-/// Estimates how long one worker takes for the trials of a plan. It is `None` where the clock can't be read. Fails only
+/// Estimates how long a processor works for the trials of a plan. It is `None` where the clock can't be read. Fails only
 /// where memory runs out.
 ///
-/// It runs trials of the first cell, which has the fewest rings and failed processes, and of the last, which has the
-/// most: of each at least one, and no further ones after a second. Between the two, the time of a trial is taken to
-/// rise evenly with the number of failed processes.
-pub fn estimate_study<C: Clock>(
+/// It runs pieces of trials in cells that are spread evenly over the plan, for about a second, and takes the time of a trial
+/// to be the mean over them. A piece after which a larger one is run is left out, and so is the first: what a worker does
+/// once for a piece counts as little as it does in a study. What else is to be done but trials is the making of the rings.
+pub fn estimate_study<C: CpuClock>(
     alloc: Global,
     clock: &C,
     plan: &Plan,
 ) -> Result<Option<Estimate>, AllocError> {
+    let Ok(start) = clock.thread_cpu_time() else {
+        return Ok(None);
+    };
     let rings = Rings::hashed(alloc, plan)?;
-    let Some(first) = sample_cell(alloc, clock, plan, &rings, 0)? else {
+    let Ok(end) = clock.thread_cpu_time() else {
         return Ok(None);
     };
-    let cells = plan.cells();
-    if cells < 2 {
-        return Ok(Some(Estimate {
-            time: study_time(plan, first, first),
-            trials: first.trials,
-        }));
-    }
-    let Some(last) = sample_cell(alloc, clock, plan, &rings, cells - 1)? else {
+    let Some(samples) = run_samples(alloc, clock, plan, &rings)? else {
         return Ok(None);
     };
+    let each = samples
+        .time_each
+        .checked_div(samples.pieces)
+        .unwrap_or(Duration::ZERO);
     Ok(Some(Estimate {
-        time: study_time(plan, first, last),
-        trials: first.trials.saturating_add(last.trials),
+        time: each
+            .saturating_mul(plan.trials())
+            .saturating_add(end.saturating_sub(start)),
+        trials: samples.trials,
     }))
 }
 
-/// Some trials of one cell that were run.
+/// Pieces that were run.
 #[derive(Clone, Copy)]
-struct Sample {
+struct Samples {
+    /// How long a trial of each took, added up, but for those that are left out.
+    time_each: Duration,
+    /// Over how many pieces.
+    pieces: u32,
+    /// How many trials were run in all.
     trials: u32,
-    time: Duration,
 }
 
-impl Sample {
-    /// How long one of the trials took.
-    fn time_each(self) -> Duration {
-        self.time.checked_div(self.trials).unwrap_or(Duration::ZERO)
+impl Samples {
+    /// Adds a piece of `count` trials. `is_alone` leaves those before it out.
+    fn add(&mut self, time: Duration, count: u32, is_alone: bool) {
+        if is_alone {
+            self.time_each = Duration::ZERO;
+            self.pieces = 0;
+        }
+        let each = time.checked_div(count).unwrap_or(Duration::ZERO);
+        self.time_each = self.time_each.saturating_add(each);
+        self.pieces = self.pieces.saturating_add(1);
+        self.trials = self.trials.saturating_add(count);
     }
 }
 
-/// How long all trials take, by samples of the first and the last cell. Each number of failed processes is that of
-/// equally many trials.
-fn study_time(plan: &Plan, first: Sample, last: Sample) -> Duration {
-    let (least, most) = (first.time_each(), last.time_each());
-    let mut time = Duration::ZERO;
-    for failed in plan.f() {
-        time = time.saturating_add(time_between(plan, *failed, least, most));
-    }
-    let numbers = u32::try_from(plan.f().len()).unwrap_or(u32::MAX);
-    time.saturating_mul(plan.trials().checked_div(numbers).unwrap_or(0))
-}
-
-/// How long a trial takes in which this number of processes fails, by the times for the least and the greatest number.
-fn time_between(plan: &Plan, failed: u16, least: Duration, most: Duration) -> Duration {
-    let first = u32::from(plan.f().first().copied().unwrap_or(0));
-    let last = u32::from(plan.f().last().copied().unwrap_or(0));
-    let above = u32::from(failed).saturating_sub(first);
-    let below = last.saturating_sub(u32::from(failed));
-    let sum = least
-        .saturating_mul(below)
-        .saturating_add(most.saturating_mul(above));
-    match sum.checked_div(above.saturating_add(below)) {
-        Some(time) => time,
-        None => least.saturating_add(most) / 2,
-    }
-}
-
-/// Runs trials of a cell for a second, or one that lasts longer. `None` where the clock can't be read.
-fn sample_cell<C: Clock>(
+/// Runs pieces of trials for about a second, or all trials where they take less. `None` where the clock can't be read.
+fn run_samples<C: CpuClock>(
     alloc: Global,
     clock: &C,
     plan: &Plan,
     rings: &Rings,
-    cell: u32,
-) -> Result<Option<Sample>, AllocError>
+) -> Result<Option<Samples>, AllocError>
     requires { rings.now ≡ rings_of plan.now }
 {
-    let Ok(start) = clock.monotonic() else {
-        return Ok(None);
-    };
-    let mut sample = Sample {
+    let mut samples = Samples {
+        time_each: Duration::ZERO,
+        pieces: 0,
         trials: 0,
-        time: Duration::ZERO,
     };
-    let first = cell.saturating_mul(plan.repeats());
-    let end = plan.trials();
-    for trial in first..end {
-        run_trial(alloc, plan, rings, trial)?;
-        let Ok(now) = clock.monotonic() else {
+    let mut spent = 0u64;
+    let (mut count, mut before) = (1u32, 0u32);
+    for number in 0..MOST_PIECES {
+        let piece = sample_piece(plan, number, count);
+        let Some(time) = time_piece(alloc, clock, plan, rings, piece)? else {
             return Ok(None);
         };
-        sample.trials = sample.trials.saturating_add(1);
-        sample.time = now.saturating_sub(start);
-        if sample.time.as_secs() >= SECONDS || sample.trials >= plan.repeats() {
+        samples.add(time, count, number == 1 || before < count);
+        spent = spent.saturating_add(millis_of(time));
+        before = count;
+        if spent >= LONGEST || samples.trials >= plan.trials() {
             break;
         }
+        if millis_of(time) < SHORT {
+            count = count.saturating_mul(2).min(MOST_TRIALS).min(plan.repeats());
+        }
     }
-    Ok(Some(sample))
+    Ok(Some(samples))
+}
+
+/// The piece of `count` trials that is run as this number: its cell is that many golden sections of all cells from the
+/// first, so that any number of pieces is spread over them evenly.
+fn sample_piece(plan: &Plan, number: u32, count: u32) -> Piece {
+    let section = u64::from(number).saturating_mul(2_654_435_769) % 4_294_967_296;
+    let cell = section.saturating_mul(u64::from(plan.cells())) / 4_294_967_296;
+    let places = plan.repeats().saturating_sub(count).saturating_add(1);
+    let place = number
+        .saturating_mul(count)
+        .checked_rem(places)
+        .unwrap_or(0);
+    let first = (cell as u32)
+        .saturating_mul(plan.repeats())
+        .saturating_add(place);
+    Piece { first, count }
+}
+
+/// How long a piece of trials takes. `None` where the clock can't be read.
+fn time_piece<C: CpuClock>(
+    alloc: Global,
+    clock: &C,
+    plan: &Plan,
+    rings: &Rings,
+    piece: Piece,
+) -> Result<Option<Duration>, AllocError>
+    requires { rings.now ≡ rings_of plan.now }
+{
+    let Ok(start) = clock.thread_cpu_time() else {
+        return Ok(None);
+    };
+    if let Err(TrialFault::Memory) = run_piece(alloc, plan, rings, piece) {
+        return Err(AllocError);
+    }
+    let Ok(end) = clock.thread_cpu_time() else {
+        return Ok(None);
+    };
+    Ok(Some(end.saturating_sub(start)))
 }

@@ -2,7 +2,7 @@
 //!
 //! [`explain`] reads a text as a study does. Of a text that is refused it lists every finding, with what is expected
 //! there, and of a plan how large its study is. [`estimate_study`] runs a few trials of a plan, and
-//! estimates how long all of them take.
+//! estimates by a processor's clock how long all of them take.
 //!
 //! That the first line is right is proved. The lines after it are help, which `cut_findings` writes, and only the tests
 //! say what they are.

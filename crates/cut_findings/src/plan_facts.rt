@@ -61,35 +61,50 @@ fn has_between(numbers: &[u8], least: u8, most: u8) -> bool {
         .any(|number| least <= *number && *number <= most)
 }
 
-/// Says in how many cells no trial is right, whatever is drawn: with l = h each proposal has one member, so that none has
-/// all failed ones where two fail or more; and where more fail than a quorum can lack, nothing is decided.
+/// Says in how many cells no trial is right, whatever is drawn: where none fails, for each proposal has a member; with
+/// l = h each proposal has only one, so that none has all failed ones where two fail or more; and where more fail than a
+/// quorum can lack, nothing is decided.
 fn count_never_right(out: &mut String, plan: &Plan) -> Result<(), AllocError> {
     let cells = plan.cells();
     let most = plan.nodes().saturating_sub(quorum(plan.nodes()));
-    let mut too_narrow = 0u32;
-    let mut too_few = 0u32;
-    for number in 0..cells {
-        let cell = plan.cell(number);
-        if cell.l == cell.h && cell.f >= 2 {
-            too_narrow = too_narrow.saturating_add(1);
-        }
-        if cell.f > most {
-            too_few = too_few.saturating_add(1);
-        }
-    }
-    if too_narrow > 0 {
+    let [none, narrow, few] = never_right(plan, most);
+    if none > 0 {
         writeln!(
             out,
-            "right: 0 in {too_narrow} of {cells} cells, where l = h, so that each proposal has one member, and two fail or more"
+            "right: 0 in {none} of {cells} cells, where none fails, and each proposal has a member"
         )?;
     }
-    if too_few > 0 {
+    if narrow > 0 {
         writeln!(
             out,
-            "decided and right: 0 in {too_few} of {cells} cells, where more than {most} fail, so that no quorum is left"
+            "right: 0 in {narrow} of {cells} cells, where l = h, so that each proposal has one member, and two fail or more"
+        )?;
+    }
+    if few > 0 {
+        writeln!(
+            out,
+            "decided and right: 0 in {few} of {cells} cells, where more than {most} fail, so that no quorum is left"
         )?;
     }
     Ok(())
+}
+
+/// In how many cells none fails, in how many l = h and two fail or more, and in how many more than `most` fail.
+fn never_right(plan: &Plan, most: u16) -> [u32; 3] {
+    let (mut none, mut narrow, mut few) = (0u32, 0u32, 0u32);
+    for number in 0..plan.cells() {
+        let cell = plan.cell(number);
+        if cell.f == 0 {
+            none = none.saturating_add(1);
+        }
+        if cell.l == cell.h && cell.f >= 2 {
+            narrow = narrow.saturating_add(1);
+        }
+        if cell.f > most {
+            few = few.saturating_add(1);
+        }
+    }
+    [none, narrow, few]
 }
 
 /// How many keys order the processes and the deliveries of all trials, at most.

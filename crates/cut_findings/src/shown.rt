@@ -34,8 +34,8 @@ impl fmt::Display for Shown<'_> {
     }
 }
 
-/// A text as it is printed within a line: in double quotes, with a question mark for each control character, and cut
-/// where it is long.
+/// A text as it is printed within a line: in double quotes, cut where it is long. Quotes, backslashes and all that is not
+/// printable ASCII are escaped, so that no text looks like another or like the end of a line.
 #[derive(Clone, Copy)]
 pub(crate) struct Quoted<'a>(pub(crate) &'a str);
 
@@ -47,17 +47,10 @@ impl fmt::Display for Quoted<'_> {
                 f.write_str("..")?;
                 break;
             }
-            f.write_char(printable(character))?;
+            for escaped in character.escape_default() {
+                f.write_char(escaped)?;
+            }
         }
         f.write_char('"')
-    }
-}
-
-/// The character, or a question mark in place of a control character.
-fn printable(character: char) -> char {
-    if character.is_control() {
-        '?'
-    } else {
-        character
     }
 }

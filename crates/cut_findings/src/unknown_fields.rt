@@ -51,15 +51,15 @@ fn push_unknown(
     writeln!(out)
 }
 
-/// The field of a version whose name is nearest to a key, in whatever case: at most half of the name's letters are
-/// wrong, left out, added, or exchanged with their neighbours.
+/// The field of a version whose name is nearest to a key, in whatever case: there is at most one mistake for each three of
+/// the name's letters, which is a letter that is wrong, left out, added, or exchanged with its neighbour.
 fn nearest(alloc: Global, key: &str, version: Version) -> Result<Option<Field>, AllocError> {
     let key = key.to_ascii_lowercase(alloc)?;
     let mut least = usize::MAX;
     let mut found = None;
     for field in FIELDS {
         let steps = osa_distance(alloc, key.as_str(), field.name())?;
-        let is_near = steps.saturating_mul(2) <= field.name().len();
+        let is_near = steps.saturating_mul(3) <= field.name().len();
         if is_near && steps < least && is_field_of(version, field) {
             least = steps;
             found = Some(field);

@@ -3,3 +3,5 @@ pub mod Apart
 pub mod Audits
 pub mod Crossing
 pub mod Trusted
+pub mod Openings
+pub mod Begun

@@ -1,17 +1,19 @@
 -- How a hall is closed.
-use Rattle.std.specs.Prelude.{◌≡◌, ◌<◌, ◌≤◌, ℕ, List, length}
+use Rattle.std.specs.Prelude.{◌≡◌, ◌<◌, ◌≤◌, List, length}
 use Rattle.cut_hall.specs.declared.not_closed.NotClosed.{NotClosed}
 use Rattle.cut_hall.specs.declared.not_closed.NotClosed.TheVariants.{Memory, AuditMismatch, SeatMissing}
+use Rattle.cut_hall.specs.Hall.{HallValue}
 use Rattle.cut_hall.specs.Pass.{Holding}
-use Rattle.cut_hall.specs.Report.{AcceptedOther, calls_in_all, made_in_all, counted_in_all}
+use Rattle.cut_hall.specs.Report.{AcceptedOther, AreOpenedWith, calls_in_all, made_in_all, counted_in_all}
 
--- why a hall of this many slots and passes was not closed, to which these were brought: some are missing, and
--- what was brought comes back; or of the study of one of its slots the passes counted another number than its
--- history accepted, by the report of all slots, whose calls are as many as the passes made; or memory ran out
-abbrev pub IsNotClosed : {T : Type 0} → (T → Type 0) → ℕ → ℕ → List Holding → NotClosed T → Type 0
-IsNotClosed comes_back slots all passes Memory = all ≤ length passes
-IsNotClosed comes_back slots all passes (AuditMismatch m) =
-    (all ≤ length passes) × (length m.report ≡ slots) × (m.study < slots)
+-- why a hall was not closed, to which these passes were brought: some are missing, and what was brought comes back;
+-- or of the study of one of its slots the passes counted another number than its history accepted, by the report of
+-- all slots, whose calls are as many as the passes made, and whose studies were opened with what the hall was made
+-- with; or memory ran out
+abbrev pub IsNotClosed : {T : Type 0} → (T → Type 0) → HallValue → List Holding → NotClosed T → Type 0
+IsNotClosed comes_back hall passes Memory = hall.passes ≤ length passes
+IsNotClosed comes_back hall passes (AuditMismatch m) =
+    (hall.passes ≤ length passes) × (length m.report ≡ hall.slots) × (m.study < hall.slots)
     × (m.counted ≡ counted_in_all m.study passes) × AcceptedOther m.report m.study m.counted
-    × (calls_in_all m.report ≡ made_in_all passes)
-IsNotClosed comes_back slots all passes (SeatMissing brought) = (length passes < all) × comes_back brought
+    × (calls_in_all m.report ≡ made_in_all passes) × AreOpenedWith hall.opening m.report
+IsNotClosed comes_back hall passes (SeatMissing brought) = (length passes < hall.passes) × comes_back brought

@@ -1,12 +1,12 @@
 -- The faults of halls in the program's list of faults.
 use Rattle.cut_faults.specs.declared.code.FaultCode.{FaultCode}
 use Rattle.cut_faults.specs.declared.code.FaultCode.TheVariants as code
-use Rattle.cut_hall.specs.declared.line_fault.LineFault.{LineFault}
-use Rattle.cut_hall.specs.declared.line_fault.LineFault.TheVariants as line
+use Rattle.cut_hall.specs.declared.next_row_fault.NextRowFault.{NextRowFault}
+use Rattle.cut_hall.specs.declared.next_row_fault.NextRowFault.TheVariants as line
 use Rattle.cut_hall.specs.declared.not_closed.NotClosed.{NotClosed}
 use Rattle.cut_hall.specs.declared.not_closed.NotClosed.TheVariants as closing
 
-abbrev pub code_of_line : LineFault → FaultCode
+abbrev pub code_of_line : NextRowFault → FaultCode
 code_of_line line.AuditMismatch = code.AuditMismatch
 code_of_line line.Checkpoint = code.Checkpoint
 code_of_line line.WorkMemory = code.WorkMemory

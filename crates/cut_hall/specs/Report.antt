@@ -1,13 +1,13 @@
 -- What a hall reports at its end.
 use Rattle.std.specs.Prelude.{◌≡◌, ◌≢◌, ◌≤◌, ◌⊎◌, ℕ, Bool, false, List, length, map, sum_by, Option, Some, None}
-use Rattle.std.specs.Prelude.{slice_get, Ok}
+use Rattle.std.specs.Prelude.{slice_get, Ok, All, IfSome, option_map}
 use Rattle.cut_board.specs.Views.{counted_by}
 use Rattle.cut_plan.specs.Cells.{trial_count}
 use Rattle.cut_plan.specs.Accepted.{plan_of}
 use Rattle.cut_plan.specs.Values.{Values}
 use Rattle.cut_ledger.specs.Contents.{is_complete}
 use Rattle.cut_ledger.specs.Machine.{StudyState}
-use Rattle.cut_book.specs.History.{HistoryValue, opened_by, LeadsTo, accepted_in}
+use Rattle.cut_book.specs.History.{Opening, HistoryValue, opened_by, LeadsTo, accepted_in}
 use Rattle.cut_hall.specs.Pass.{Holding}
 
 -- ---- a slot
@@ -22,6 +22,10 @@ abbrev pub IsEndOf : Option HistoryValue → Bool → Type 0
 IsEndOf None complete = complete ≡ false
 IsEndOf (Some h) complete = (t : StudyState) × (LeadsTo (opened_by h.opening) h.calls t
     × (complete ≡ is_complete t.ledger))
+
+-- with what the study was opened
+abbrev pub opening_recorded : Option HistoryValue → Option Opening
+opening_recorded history = option_map (λ h. h.opening) history
 
 -- how many calls the study had
 abbrev pub calls_recorded : Option HistoryValue → ℕ
@@ -39,6 +43,10 @@ IsAcceptedCount n =
     (n ≡ 0) ⊎ ((text : List ℕ) × (v : Values) × (plan_of text ≡ Ok v) × (n ≤ trial_count v))
 
 -- ---- all slots
+
+-- if there is such an opening, every slot had a study, which was opened with it
+abbrev pub AreOpenedWith : Option Opening → List SlotEnd → Type 0
+AreOpenedWith opening slots = IfSome opening (λ o. All (λ s. opening_recorded s.history ≡ Some o) slots)
 
 -- how many calls the studies had together, and how many the passes made together
 abbrev pub calls_in_all : List SlotEnd → ℕ

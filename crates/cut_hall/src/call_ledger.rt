@@ -1,4 +1,5 @@
-ghost use Rattle.std.specs.Prelude.{ℕ, Bool};
+ghost use Rattle.std.specs.Prelude.{ℕ, Bool, Option};
+ghost use Rattle.cut_book.specs.History.{Opening};
 
 use std::marker::Brand;
 use std::sync::ledger::{Blank, Ledger};
@@ -10,6 +11,9 @@ pub trait CallLedger: Ledger {
 
     /// Whether the slips that studies begin with, whose calls it counts, are those that their trials give.
     ghost trusts: { Bool };
+
+    /// With what the study of each of its slots was opened, where they were made with one.
+    ghost opening: { Option Opening };
 }
 
 /// The blanks of a hall's two ledgers of calls.
@@ -22,9 +26,11 @@ pub struct Blanks {
 }
 
 impl CallLedger for Brand {
-    ghost use Rattle.std.specs.Prelude.{false};
+    ghost use Rattle.std.specs.Prelude.{false, None};
 
     ghost all = { 0 };
 
     ghost trusts = { false };
+
+    ghost opening = { None };
 }

@@ -1,9 +1,9 @@
-ghost use Rattle.std.specs.Prelude.{ℕ, ◌≡◌, ◌≢◌, ◌<◌, ◌≤◌, true, false, Some, length, vec_len, slice_get, All, IfOk};
+ghost use Rattle.std.specs.Prelude.{ℕ, ◌≡◌, ◌≢◌, ◌<◌, ◌≤◌, true, false, Some, length, vec_len, slice_get, All, IfOk, IfSome};
 ghost use Rattle.std.specs.Prelude.{IfErr, OnOk};
 ghost use Rattle.cut_board.specs.Names.{board_id, board_of};
 ghost use Rattle.cut_board.specs.declared.totals.StudyTotals.{StudyTotals};
 ghost use Rattle.cut_hall.specs.Report.{SlotEnd, calls_recorded, calls_in_all, made_in_all, accepted_recorded};
-ghost use Rattle.cut_hall.specs.Report.{IsAudited};
+ghost use Rattle.cut_hall.specs.Report.{IsAudited, AreOpenedWith, opening_recorded};
 ghost use Rattle.cut_hall.specs.Closing.{IsNotClosed};
 ghost use Rattle.cut_hall.specs.inside.Closing.{IsTakenApart};
 
@@ -31,7 +31,8 @@ struct EndedSlots<K: CallLedger> {
 impl<D: Disk + Drop, M: CallLedger, K: CallLedger> Hall<D, M, K> {
     /// Ends the hall, which takes all its passes, and reports what became of each slot. The calls that the
     /// slots' histories have together are as many as the passes made together, and what the passes counted of
-    /// a study is what its history accepted; where these differ, that is reported, with what became of all slots.
+    /// a study is what its history accepted; where these differ, that is reported, with what became of all slots. Of
+    /// a hall that was made of a book the one slot's history begins with what that book was opened with.
     /// Where passes are missing, the hall and these passes come back as they were; where it is refused otherwise,
     /// they don't.
     pub fn close(
@@ -45,9 +46,10 @@ impl<D: Disk + Drop, M: CallLedger, K: CallLedger> Hall<D, M, K> {
         ensures whole { OnOk result (length passes.items ≡ self.passes) }
         ensures calls { IfOk result (λ slots. calls_in_all slots ≡ made_in_all passes.items) }
         ensures audit { IfOk result (λ slots. IsAudited slots passes.items) }
+        ensures opened { IfOk result (λ slots. AreOpenedWith self.opening slots) }
         ensures why { IfErr result (λ e. IsNotClosed
             (λ back. (back.0 ≡ self) × (back.1.items ≡ passes.items))
-            self.slots self.passes passes.items e) }
+            self passes.items e) }
     {
         if lacks_passes(&passes, self.passes) {
             return Err(NotClosed::SeatMissing((self, passes)));
@@ -121,6 +123,7 @@ fn end_all<D: Disk + Drop, K: CallLedger>(
     ensures slots { IfOk result (λ ends. length ends.slots.items ≡ vec_len places) }
     ensures kept { IfOk result (λ ends.
         (ends.kept.parts ≡ vec_len places) × (ends.kept.amount ≡ calls_in_all ends.slots.items)) }
+    ensures opened { IfOk result (λ ends. AreOpenedWith K.opening ends.slots.items) }
 {
     let mut slots = Vec::with_capacity(alloc, places.len())?;
     let (slot, mut kept) = places.remove(0).end();
@@ -138,6 +141,7 @@ impl<D: Disk + Drop, K: CallLedger> LockedSlot<D, K> {
     fn end(self) -> (SlotReport, Share<K>)
         ensures part { result.1.parts ≡ 1 }
         ensures calls { result.1.amount ≡ calls_recorded result.0.history }
+        ensures opened { IfSome K.opening (λ o. opening_recorded result.0.history ≡ Some o) }
     {
         let LockedSlot { slot, .. } = self;
         slot.into_inner().end()

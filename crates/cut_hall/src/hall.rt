@@ -1,4 +1,4 @@
-ghost use Rattle.std.specs.Prelude.{true, false, ◌≡◌, ◌+◌, ◌<◌, ◌≤◌, length, vec_len, All, IfOk, IfSome, OnErr};
+ghost use Rattle.std.specs.Prelude.{true, false, Some, None, ◌≡◌, ◌+◌, ◌<◌, ◌≤◌, length, vec_len, All, IfOk, IfSome, OnErr};
 ghost use Rattle.std.specs.Prelude.{IfErr};
 ghost use Rattle.cut_lines.specs.declared.line.TheConstants.{LONGEST_LINE};
 ghost use Rattle.cut_plan.specs.Cells.{cells_of};
@@ -7,15 +7,15 @@ ghost use Rattle.cut_board.specs.Views.{idle, read, seen_in};
 ghost use Rattle.cut_board.specs.Refusals.{IsRefusedBy, read_refusal};
 ghost use Rattle.cut_hall.specs.Hall.{made_more};
 ghost use Rattle.cut_hall.specs.Lines.{full_line};
-ghost use Rattle.cut_book.specs.Book.{IsFresh};
-ghost use Rattle.cut_hall.specs.Slot.{CanNotGiveAgain, rows_of};
+ghost use Rattle.cut_book.specs.Book.{IsFresh, opening_of};
+ghost use Rattle.cut_hall.specs.Slot.{CanNotBegin, CanNotGiveAgain, rows_of};
 ghost use Rattle.cut_hall.specs.Trust.{MayBegin};
 ghost use Rattle.cut_ledger.specs.Slips.{AreGood};
 
 use crate::accounts::{Accounts, are_full};
 use crate::slot::{Asked, Match, Slot};
 use crate::work::SharedInput;
-use crate::{Blanks, CallLedger, LineFault, Pass};
+use crate::{Blanks, CallLedger, NextRowFault, Pass};
 use cut_board::{Board, Seat, SeatFault};
 use cut_book::{Book, Opened, Shelf, SubmitFault};
 use cut_disks::Disk;
@@ -55,7 +55,13 @@ impl<D: Disk, M: CallLedger, K: CallLedger> Model for Hall<D, M, K> {
     ghost Value = { HallValue };
 
     ghost view = { λ h.
-        record { id = board_id h.board; slots = studies_of h.board; passes = seats_of h.board; is_trusted = K.trusts } };
+        record {
+          id = board_id h.board;
+          slots = studies_of h.board;
+          passes = seats_of h.board;
+          is_trusted = K.trusts;
+          opening = K.opening;
+        } };
 
     ghost invariant = { λ h.
         (vec_len h.places ≡ studies_of h.board)
@@ -96,9 +102,10 @@ impl<D: Disk + Drop, M: CallLedger, K: CallLedger> Hall<D, M, K> {
         requires made { (blanks.made.name ≡ M.name) × (blanks.made.parts ≡ M.parts)
             × (M.all ≡ M.parts) × (M.all ≡ passes) }
         requires kept { (blanks.kept.name ≡ K.name) × (blanks.kept.parts ≡ K.parts)
-            × (K.all ≡ K.parts) × (K.all ≡ slots) }
+            × (K.all ≡ K.parts) × (K.all ≡ slots) × (K.opening ≡ None) }
         ensures hall { IfOk result (λ r. (r.0.slots ≡ slots) × (r.0.passes ≡ passes)) }
         ensures trusted { IfOk result (λ r. r.0.is_trusted ≡ K.trusts) }
+        ensures opening { IfOk result (λ r. r.0.opening ≡ None) }
         ensures passes { IfOk result (λ r. length r.1.items ≡ passes) }
         ensures own { IfOk result (λ r. All (λ p. p.hall ≡ r.0.id) r.1.items) }
         ensures idle { IfOk result (λ r. All (λ p. (p.view ≡ idle 1) × (p.made ≡ 0)) r.1.items) }
@@ -134,8 +141,9 @@ impl<D: Disk + Drop, M: CallLedger, K: CallLedger> Hall<D, M, K> {
         requires made { (blanks.made.name ≡ M.name) × (blanks.made.parts ≡ M.parts)
             × (M.all ≡ M.parts) × (M.all ≡ passes) }
         requires kept { (blanks.kept.name ≡ K.name) × (blanks.kept.parts ≡ K.parts)
-            × (K.all ≡ K.parts) × (K.all ≡ 1) }
+            × (K.all ≡ K.parts) × (K.all ≡ 1) × (K.opening ≡ Some (opening_of book)) }
         ensures hall { IfOk result (λ r. (r.0.slots ≡ 1) × (r.0.passes ≡ passes)) }
+        ensures opening { IfOk result (λ r. r.0.opening ≡ Some (opening_of book)) }
         ensures passes { IfOk result (λ r. length r.1.items ≡ passes) }
         ensures own { IfOk result (λ r. All (λ p. p.hall ≡ r.0.id) r.1.items) }
     {
@@ -168,6 +176,7 @@ impl<D: Disk + Drop, M: CallLedger, K: CallLedger> Hall<D, M, K> {
         ensures plan { IfOk result (λ o. o.plan ≡ plan) }
         ensures base { IfOk result (λ o. MayBegin self.now.is_trusted plan o.base) }
         ensures slot { IfOk result (λ o. o.study < self.now.slots) }
+        ensures why { IfErr result (CanNotBegin (S.gives shelf.now plan)) }
         ensures pass { pass.new ≡ pass.old }
     {
         // That its caller has entered this hall is all that matters of the pass here.
@@ -204,7 +213,7 @@ impl<D: Disk + Drop, M: CallLedger, K: CallLedger> Hall<D, M, K> {
         pass: &mut Pass<M>,
         opened: &Opened,
         cell: u32,
-    ) -> Result<Vec<u8>, LineFault>
+    ) -> Result<Vec<u8>, NextRowFault>
         requires own { pass.old.hall ≡ self.now.id }
         requires slot { opened.now.study < self.now.slots }
         requires cell { cell < length (cells_of opened.now.plan) }
@@ -224,7 +233,7 @@ impl<D: Disk + Drop, M: CallLedger, K: CallLedger> Hall<D, M, K> {
         alloc: Global,
         opened: &Opened,
         cell: u32,
-    ) -> Result<Option<Vec<u8>>, LineFault>
+    ) -> Result<Option<Vec<u8>>, NextRowFault>
         requires slot { opened.now.study < self.now.slots }
         requires cell { cell < length (cells_of opened.now.plan) }
         ensures line { IfOk result (λ found.
@@ -243,7 +252,7 @@ impl<D: Disk + Drop, M: CallLedger, K: CallLedger> Hall<D, M, K> {
         alloc: Global,
         made: &mut Share<M>,
         asked: Asked<'_>,
-    ) -> Result<Vec<u8>, LineFault>
+    ) -> Result<Vec<u8>, NextRowFault>
         requires part { made.old.parts ≡ 1 }
         requires slot { asked.opened.now.study < self.now.slots }
         ensures line { IfOk result (λ line. line.items
@@ -290,6 +299,7 @@ fn place_of<D: Disk + Drop, K: CallLedger>(
     requires part { (kept.parts ≡ 1) × (kept.amount ≡ 0) }
     requires fresh { IsFresh book.state.ledger.plan book.size book }
     requires begun { MayBegin K.trusts book.state.ledger.plan book.state.ledger.base }
+    requires opened { K.opening ≡ Some (opening_of book) }
     ensures { IfOk result (λ places. vec_len places ≡ 1) }
 {
     let slot = Slot::new(alloc, Some(book), kept);
@@ -306,6 +316,7 @@ fn places_of<D: Disk + Drop, K: CallLedger>(
 ) -> Result<Vec<LockedSlot<D, K>>, AllocError>
     requires parts { rest.parts ≡ slots }
     requires none { rest.amount ≡ 0 }
+    requires any { K.opening ≡ None }
     ensures { IfOk result (λ places. vec_len places ≡ slots) }
 {
     let mut places = Vec::with_capacity(alloc, slots as usize)?;

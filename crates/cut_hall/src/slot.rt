@@ -1,3 +1,4 @@
+ghost use Rattle.std.proofs.Props.{props};
 ghost use Rattle.std.specs.Prelude.{◌≡◌, ◌+◌, ◌<◌, ◌≤◌, ◌&&◌, ◌↔◌, true, false, not, [], length, take};
 ghost use Rattle.std.specs.Prelude.{Some, None, is_some, IsTrue, IfOk, IfSome, IfNone, OnOk, OnErr, IfErr, IsErrOf};
 ghost use Rattle.std.specs.Prelude.{replicate, slice_index_or, slice_set};
@@ -5,20 +6,24 @@ ghost use Rattle.std.specs.List.{list_any};
 ghost use Rattle.cut_lines.specs.declared.line.TheConstants.{LONGEST_LINE};
 ghost use Rattle.cut_plan.specs.Cells.{cells_of};
 ghost use Rattle.cut_hall.specs.Lines.{full_line};
-ghost use Rattle.cut_hall.specs.Report.{calls_recorded};
-ghost use Rattle.cut_book.specs.Book.{HandsIn, IsHandInFault, answer_of};
+ghost use Rattle.cut_hall.specs.Report.{calls_recorded, opening_recorded};
+ghost use Rattle.cut_book.specs.Book.{HandsIn, IsHandInFault, answer_of, opening_of};
 ghost use Rattle.cut_hall.specs.Trust.{IsSettledBy-prop, MayBegin, begun_props};
-ghost use Rattle.cut_hall.specs.inside.Slot.{calls_in, IsBegunStudy, base_of, kept_of, unkept_of, Matches, TakesResult};
+ghost use Rattle.cut_hall.specs.Slot.{CanNotBegin};
+ghost use Rattle.cut_hall.specs.inside.Slot.{has_journal_in, IsBegunOver};
+ghost use Rattle.cut_hall.specs.inside.Slot.{calls_in, opening_in, IsBegunStudy, base_of, kept_of, unkept_of, Matches, TakesResult};
 ghost use Rattle.cut_hall.specs.inside.Slot.{TakesLoss, GivesLine, calls_of, losses_of, lines_of};
 ghost use Rattle.cut_book.specs.Book.{IsFresh};
 ghost use Rattle.cut_ledger.specs.Slips.{AreGood};
 ghost use Rattle.cut_ledger.specs.World.{AreTrue};
 ghost use Rattle.cut_hall.specs.inside.Slot.{IsOpenedAs, SaysWhyUndone, AnswersLine, AnswersAgain, IsNotDone};
 ghost use Rattle.cut_hall.specs.inside.Slot.{is_pending};
+ghost use Rattle.cut_hall.specs.inside.Work.{IsResultFault, TakesDrawn};
 ghost use Rattle.cut_hall.specs.inside.Slot.{CanGive, remembered_after, piece_at, HasDone, HasPlan};
 
 use crate::accounts::{Accounts, are_full, count_call, uncount_call};
-use crate::{CallLedger, LineFault, SlotReport};
+use crate::work::{Next, next_after};
+use crate::{CallLedger, NextRowFault, SlotReport};
 use cut_book::{Book, BookFault, Opened, Shelf, SubmitFault, open_book};
 use cut_disks::Disk;
 use cut_outcome::{Piece, PieceResult};
@@ -83,6 +88,7 @@ pub(crate) struct Slot<D: Disk, K: CallLedger> {
     ghost unkept: { unkept_of book ≡ [] },
     ghost begun: { IfSome book
         (λ b. MayBegin K.trusts b.state.ledger.plan b.state.ledger.base) } by { Prim.hlevel begun_props },
+    ghost opened: { IfSome K.opening (λ o. opening_in book ≡ Some o) } by { Prim.hlevel props },
 }
 
 impl<D: Disk + Drop, K: CallLedger> Slot<D, K> {
@@ -92,6 +98,7 @@ impl<D: Disk + Drop, K: CallLedger> Slot<D, K> {
         requires part { (kept.parts ≡ 1) × (kept.amount ≡ 0) }
         requires fresh { IfSome book (λ b. IsFresh b.state.ledger.plan b.size b) }
         requires begun { IfSome book (λ b. MayBegin K.trusts b.state.ledger.plan b.state.ledger.base) }
+        requires opened { IfSome K.opening (λ o. opening_in book ≡ Some o) }
         ensures book { result.book ≡ book }
         ensures works { result.stopped ≡ false }
     {
@@ -127,6 +134,8 @@ impl<D: Disk + Drop, K: CallLedger> Slot<D, K> {
     ) -> Result<(), CallFault>
         requires { made.old.parts ≡ 1 }
         ensures taken { TakesResult result offered.now self.old.book self.new.book }
+        ensures only_faults { IfErr result IsResultFault }
+        ensures stays { (self.new.stopped ≡ self.old.stopped) × (self.new.given ≡ self.old.given) }
         ensures calls { calls_in self.new.book ≡ calls_in self.old.book + calls_of result }
         ensures made { made.new.amount ≡ made.old.amount + calls_of result }
         ensures parts { made.new.parts ≡ 1 }
@@ -148,6 +157,32 @@ impl<D: Disk + Drop, K: CallLedger> Slot<D, K> {
         }
     }
 
+    /// Hands the result of a drawn piece to the book, or returns how the worker goes on where it is not accepted. The
+    /// piece of this number is lost where memory runs out for its result.
+    pub(crate) fn take_drawn<M: CallLedger, R: Wait>(
+        &mut self,
+        rt: &R,
+        accounts: &Mutex<Accounts<M, K>>,
+        made: &mut Share<M>,
+        number: u64,
+        offered: &PieceResult,
+    ) -> Result<(), Next>
+        requires { made.old.parts ≡ 1 }
+        ensures taken { TakesDrawn result number offered.now self.old.book self.new.book }
+        ensures stays { (self.new.stopped ≡ self.old.stopped) × (self.new.given ≡ self.old.given) }
+        ensures made { made.old.amount ≤ made.new.amount }
+        ensures parts { made.new.parts ≡ 1 }
+    {
+        match self.hand_in(rt, accounts, made, offered) {
+            Ok(()) => Ok(()),
+            Err(CallFault::Refused(BookFault::Memory)) => {
+                let noted = self.lose(rt, accounts, made, number);
+                Err(next_after(noted))
+            }
+            Err(fault) => Err(next_after(Err(fault))),
+        }
+    }
+
     /// Notes in the book that a piece is lost.
     pub(crate) fn lose<M: CallLedger, R: Wait>(
         &mut self,
@@ -158,6 +193,7 @@ impl<D: Disk + Drop, K: CallLedger> Slot<D, K> {
     ) -> Result<(), CallFault>
         requires { made.old.parts ≡ 1 }
         ensures taken { TakesLoss result piece self.old.book self.new.book }
+        ensures stays { (self.new.stopped ≡ self.old.stopped) × (self.new.given ≡ self.old.given) }
         ensures calls { calls_in self.new.book ≡ calls_in self.old.book + losses_of result }
         ensures made { made.new.amount ≡ made.old.amount + losses_of result }
         ensures parts { made.new.parts ≡ 1 }
@@ -186,7 +222,7 @@ impl<D: Disk + Drop, K: CallLedger> Slot<D, K> {
         accounts: &Mutex<Accounts<M, K>>,
         made: &mut Share<M>,
         asked: Asked<'_>,
-    ) -> Result<Option<Vec<u8>>, LineFault>
+    ) -> Result<Option<Vec<u8>>, NextRowFault>
         requires part { made.old.parts ≡ 1 }
         ensures line { IfOk result (λ found.
             IfSome found (λ line. line.items
@@ -213,7 +249,7 @@ impl<D: Disk + Drop, K: CallLedger> Slot<D, K> {
         } = self;
         let Some(book) = book else { unreachable!() };
         if count_call(rt, accounts, made, kept).is_err() {
-            return Err(LineFault::Stopped);
+            return Err(NextRowFault::Stopped);
         }
         match book.row(alloc, cell) {
             Ok(line) => {
@@ -222,7 +258,7 @@ impl<D: Disk + Drop, K: CallLedger> Slot<D, K> {
             }
             Err(_) => {
                 uncount_call(rt, accounts, made, kept);
-                Err(LineFault::WorkMemory)
+                Err(NextRowFault::WorkMemory)
             }
         }
     }
@@ -233,16 +269,16 @@ impl<D: Disk + Drop, K: CallLedger> Slot<D, K> {
         rt: &R,
         accounts: &Mutex<Accounts<M, K>>,
         asked: Asked<'_>,
-    ) -> Result<bool, LineFault>
+    ) -> Result<bool, NextRowFault>
         ensures answers { CanGive result asked.entry.opened.now asked.entry.cell self.now.book }
         ensures waits { IfOk result (λ is_done. is_done ≡ false → self.now.stopped ≡ false) }
     {
         let Asked { opened, cell } = asked;
         let Some(book) = &self.book else {
-            return Err(LineFault::AuditMismatch);
+            return Err(NextRowFault::AuditMismatch);
         };
         if !is_opened_as(book, opened) {
-            return Err(LineFault::AuditMismatch);
+            return Err(NextRowFault::AuditMismatch);
         }
         if book.ledger().cell_done(cell) {
             return Ok(true);
@@ -274,7 +310,7 @@ impl<D: Disk + Drop, K: CallLedger> Slot<D, K> {
         &self,
         alloc: Global,
         asked: Asked<'_>,
-    ) -> Result<Option<Vec<u8>>, LineFault>
+    ) -> Result<Option<Vec<u8>>, NextRowFault>
         ensures line { IfOk result (λ found.
             IfSome found (λ line. line.items
             ≡ full_line asked.entry.opened.now.plan asked.entry.opened.now.base asked.entry.cell)) }
@@ -288,11 +324,11 @@ impl<D: Disk + Drop, K: CallLedger> Slot<D, K> {
     {
         let Asked { opened, cell } = asked;
         let Some(book) = &self.book else {
-            return Err(LineFault::AuditMismatch);
+            return Err(NextRowFault::AuditMismatch);
         };
         let is_its_book = is_opened_as(book, opened);
         if !is_its_book {
-            return Err(LineFault::AuditMismatch);
+            return Err(NextRowFault::AuditMismatch);
         }
         if self.given.get(cell as usize) != Some(&true) {
             return Ok(None);
@@ -300,7 +336,7 @@ impl<D: Disk + Drop, K: CallLedger> Slot<D, K> {
         match row(alloc, book.ledger(), cell) {
             Ok(line) => Ok(Some(line)),
             Err(RowFault::NotDone(_)) => Ok(None),
-            Err(RowFault::Memory) => Err(LineFault::WorkMemory),
+            Err(RowFault::Memory) => Err(NextRowFault::WorkMemory),
         }
     }
 
@@ -320,6 +356,8 @@ impl<D: Disk + Drop, K: CallLedger> Slot<D, K> {
         ensures opened { IfOk result (λ o. (o.study ≡ study) × (o.plan ≡ plan)) }
         ensures base { IfOk result (λ o. MayBegin K.trusts plan o.base) }
         ensures begun { IfOk result (λ o. IsBegunStudy o piece_size self.new.book) }
+        ensures over { OnOk result (IsBegunOver (S.gives shelf.now plan) (has_journal_in self.new.book)) }
+        ensures why { IfErr result (CanNotBegin (S.gives shelf.now plan)) }
         ensures none_given { OnOk result (self.new.given.items ≡ replicate (length (cells_of plan)) false) }
         ensures stays { self.new.stopped ≡ self.old.stopped }
         ensures err { OnErr result (self.new ≡ self.old) }
@@ -332,6 +370,7 @@ impl<D: Disk + Drop, K: CallLedger> Slot<D, K> {
     fn keep(&mut self, begun: BegunStudy<D>) -> Opened
         requires free { self.old.book ≡ None }
         requires begun { MayBegin K.trusts begun.book.state.ledger.plan begun.book.state.ledger.base }
+        requires any { K.opening ≡ None }
         ensures opened { result ≡ begun.opened }
         ensures book { self.new.book ≡ Some begun.book }
         ensures given { self.new.given.items ≡ begun.given.items }
@@ -358,6 +397,7 @@ impl<D: Disk + Drop, K: CallLedger> Slot<D, K> {
         ensures opened { IfOk result (λ o. (o.study ≡ study) × (o.plan ≡ plan.now)) }
         ensures base { IfOk result (λ o. o.base ≡ base_of self.now.book) }
         ensures begun { IfOk result (λ o. MayBegin K.trusts plan.now o.base) }
+        ensures why { IfErr result (λ e. e ≡ SubmitFault.WorkMemory) }
     {
         let Some(book) = &self.book else {
             unreachable!()
@@ -384,6 +424,7 @@ impl<D: Disk + Drop, K: CallLedger> Slot<D, K> {
     pub(crate) fn end(self) -> (SlotReport, Share<K>)
         ensures part { result.1.parts ≡ 1 }
         ensures calls { result.1.amount ≡ calls_recorded result.0.history }
+        ensures opened { IfSome K.opening (λ o. opening_recorded result.0.history ≡ Some o) }
     {
         let Slot { book, kept, .. } = self;
         let Some(book) = book else {
@@ -447,6 +488,8 @@ fn open_study<D: Disk + Drop, S: Shelf<D>>(
     ensures base { IfOk result (λ r. r.book.state.ledger.base ≡ r.opened.base) }
     ensures good { IfOk result (λ r. AreGood plan r.opened.base) }
     ensures trusted { S.is_true shelf.now ≡ true → IfOk result (λ r. AreTrue plan r.opened.base) }
+    ensures over { IfOk result (λ r. IsBegunOver (S.gives shelf.now plan) (is_some r.book.journal)) }
+    ensures why { IfErr result (CanNotBegin (S.gives shelf.now plan)) }
     ensures none_given { IfOk result (λ r. r.given.items ≡ replicate (length (cells_of plan)) false) }
 {
     let given = none_given(alloc, &plan)?;
@@ -481,15 +524,14 @@ fn opened_of<D: Disk + Drop>(
     Ok(Opened { study, plan, base })
 }
 
-/// Hands a result to a book, which keeps what it began with.
+/// Hands a result to a book, which keeps what it was opened with.
 fn hand_to<D: Disk + Drop>(book: &mut Book<D>, offered: &PieceResult) -> Result<(), BookFault>
     ensures answer { HandsIn (answer_of result book.old.state) offered.now book.old book.new }
     ensures only_faults { IfErr result IsHandInFault }
     ensures first { take (length book.old.state.ledger.base) book.old.state.kept ≡ book.old.state.ledger.base
         → take (length book.new.state.ledger.base) book.new.state.kept ≡ book.new.state.ledger.base }
     ensures unkept { unkept_of (Some book.old) ≡ [] → unkept_of (Some book.new) ≡ [] }
-    ensures plan { book.new.state.ledger.plan ≡ book.old.state.ledger.plan }
-    ensures base { book.new.state.ledger.base ≡ book.old.state.ledger.base }
+    ensures opening { opening_of book.new ≡ opening_of book.old }
 {
     book.hand_in(offered)
 }
@@ -513,20 +555,20 @@ fn is_opened_as<D: Disk + Drop>(book: &Book<D>, opened: &Opened) -> bool
 }
 
 /// Whether a cell that is not done can still be: the book is whole, no piece is lost, and work goes on.
-fn may_still_come<D: Disk + Drop>(book: &Book<D>, stopped: bool) -> Result<(), LineFault>
+fn may_still_come<D: Disk + Drop>(book: &Book<D>, stopped: bool) -> Result<(), NextRowFault>
     ensures ok { OnOk result ((book.now.state.broken ≡ false)
         × (list_any (λ is_lost. is_lost) book.now.state.lost ≡ false) × (stopped ≡ false)) }
     ensures err { IfErr result (λ fault. SaysWhyUndone fault book.now.state) }
-    ensures stopped { IsErrOf result LineFault.Stopped → stopped ≡ true }
+    ensures stopped { IsErrOf result NextRowFault.Stopped → stopped ≡ true }
 {
     if book.is_broken() {
-        return Err(LineFault::Checkpoint);
+        return Err(NextRowFault::Checkpoint);
     }
     if book.has_lost() {
-        return Err(LineFault::WorkMemory);
+        return Err(NextRowFault::WorkMemory);
     }
     if stopped {
-        return Err(LineFault::Stopped);
+        return Err(NextRowFault::Stopped);
     }
     Ok(())
 }

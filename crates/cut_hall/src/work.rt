@@ -1,10 +1,13 @@
-ghost use Rattle.std.specs.Prelude.{◌≡◌, ◌+◌, ◌<◌, ◌≤◌, IfOk, IfSome, if◌then◌else◌};
+ghost use Rattle.std.specs.Prelude.{◌≡◌, ◌+◌, ◌<◌, ◌≤◌, Option, MatchOption, IfOk, IfSome, if◌then◌else◌};
+ghost use Rattle.cut_board.specs.Names.{board_id, board_of, studies_of, view_of};
 ghost use Rattle.cut_hall.specs.inside.Slot.{losses_of};
+ghost use Rattle.cut_hall.specs.inside.Work.{next_after, DrawsPiece, CountsTrials, CountsAccepted};
 ghost use Rattle.cut_outcome.specs.Outcome.{rings_of};
 
 use crate::hall::LockedSlot;
-use crate::slot::CallFault;
-use crate::{CallLedger, Hall, Hooks, Pass};
+use crate::slot::{CallFault, Slot};
+use crate::{CallLedger, Gate, Hall, Pass};
+use cut_board::{Board, Seat};
 use cut_book::BookFault;
 use cut_disks::Disk;
 use cut_outcome::{Piece, PieceResult};
@@ -40,7 +43,7 @@ pub(crate) struct SharedInput {
 
 /// How a worker goes on after a turn.
 #[derive(Clone, Copy)]
-enum Next {
+pub(crate) enum Next {
     /// With the next piece of the study.
     Piece,
     /// With another study, since this one's pieces are all drawn.
@@ -51,7 +54,7 @@ enum Next {
 
 /// A piece that was drawn: the number of its study, its own, and what it is.
 #[derive(Clone, Copy)]
-struct Drawn {
+pub(crate) struct Drawn {
     study: u32,
     number: u64,
     piece: Piece,
@@ -86,18 +89,18 @@ impl SharedInput {
 
 impl<D: Disk + Drop, M: CallLedger, K: CallLedger> Hall<D, M, K> {
     /// Works on the studies in the order of their slots, on each as long as pieces of it can be drawn, and then
-    /// waits for the next. Each piece is drawn, runs once the hooks have returned, and is handed in; an accepted
+    /// waits for the next. Each piece is drawn, runs once the gate lets it pass, and is handed in; an accepted
     /// one is counted on the board. A piece for which memory runs out twice, or for the result of which it does, is
     /// lost, and a study whose disk has failed is left.
     ///
     /// It returns after `stop`, and where nothing more can be drawn by this pass, or counted by the hall.
-    pub fn work<R: Wait, G: Hooks>(&self, rt: &R, alloc: Global, pass: &mut Pass<M>, hooks: &G)
+    pub fn work<R: Wait, G: Gate>(&self, rt: &R, alloc: Global, pass: &mut Pass<M>, gate: &G)
         requires { pass.old.hall ≡ self.now.id }
         ensures own { pass.new.hall ≡ pass.old.hall }
         ensures made { pass.old.made ≤ pass.new.made }
     {
         for study in 0..self.places.len() as u32 {
-            if self.wait_for_study(rt, study) || !self.work_off(rt, alloc, pass, hooks, study) {
+            if self.wait_for_study(rt, study) || !self.work_off(rt, alloc, pass, gate, study) {
                 return;
             }
         }
@@ -108,12 +111,12 @@ impl<D: Disk + Drop, M: CallLedger, K: CallLedger> Hall<D, M, K> {
     /// gives its thread for as long. In a slot without a study it does nothing. Returns whether it may go on with
     /// another study: not after `stop`, nor where
     /// nothing more can be drawn by this pass, or counted by the hall.
-    pub fn work_off<R: Wait, G: Hooks>(
+    pub fn work_off<R: Wait, G: Gate>(
         &self,
         rt: &R,
         alloc: Global,
         pass: &mut Pass<M>,
-        hooks: &G,
+        gate: &G,
         study: u32,
     ) -> bool
         requires own { pass.old.hall ≡ self.now.id }
@@ -122,7 +125,7 @@ impl<D: Disk + Drop, M: CallLedger, K: CallLedger> Hall<D, M, K> {
         ensures made { pass.old.made ≤ pass.new.made }
     {
         for _ in rt.forever() {
-            match self.turn(rt, alloc, pass, hooks, study) {
+            match self.turn(rt, alloc, pass, gate, study) {
                 Next::Piece => {}
                 Next::Study => return true,
                 Next::Nothing => return false,
@@ -133,12 +136,12 @@ impl<D: Disk + Drop, M: CallLedger, K: CallLedger> Hall<D, M, K> {
 
     /// Works on the pieces of a study until a cell of it is done, or none are left to be drawn, so that who then
     /// asks for the cell's line waits for no piece that nobody has begun.
-    pub fn work_on_cell<R: Wait, G: Hooks>(
+    pub fn work_on_cell<R: Wait, G: Gate>(
         &self,
         rt: &R,
         alloc: Global,
         pass: &mut Pass<M>,
-        hooks: &G,
+        gate: &G,
         wanted: StudyCell,
     )
         requires own { pass.old.hall ≡ self.now.id }
@@ -152,7 +155,7 @@ impl<D: Disk + Drop, M: CallLedger, K: CallLedger> Hall<D, M, K> {
             if place.slot.lock(rt).is_done(cell) {
                 return;
             }
-            match self.turn(rt, alloc, pass, hooks, study) {
+            match self.turn(rt, alloc, pass, gate, study) {
                 Next::Piece => {}
                 Next::Study | Next::Nothing => return,
             }
@@ -160,12 +163,12 @@ impl<D: Disk + Drop, M: CallLedger, K: CallLedger> Hall<D, M, K> {
     }
 
     /// Draws a piece of a study, runs it and hands it in.
-    fn turn<R: Wait, G: Hooks>(
+    fn turn<R: Wait, G: Gate>(
         &self,
         rt: &R,
         alloc: Global,
         pass: &mut Pass<M>,
-        hooks: &G,
+        gate: &G,
         study: u32,
     ) -> Next
         requires own { pass.old.hall ≡ self.now.id }
@@ -177,24 +180,20 @@ impl<D: Disk + Drop, M: CallLedger, K: CallLedger> Hall<D, M, K> {
             Ok(drawn) => drawn,
             Err(next) => return next,
         };
-        hooks.drawn(rt, drawn.piece);
+        gate.pass(rt, drawn.piece);
         match self.compute(rt, alloc, drawn) {
             Some(result) => match self.hand_in(rt, pass, drawn, &result) {
                 Ok(()) => {
-                    hooks.accepted(rt, drawn.piece);
+                    gate.accepted(rt, drawn.piece);
                     Next::Piece
                 }
                 Err(next) => next,
             },
-            None => match self.lose(rt, pass, study, drawn.number) {
-                Err(CallFault::Full) => Next::Nothing,
-                _ => Next::Piece,
-            },
+            None => next_after(self.lose(rt, pass, study, drawn.number)),
         }
     }
 
-    /// Draws the next piece of a study, or returns how the worker goes on without one. Nothing is drawn in a slot
-    /// that has no study yet, so that the study which comes later has all its pieces.
+    /// Draws the next piece of a study, or returns how the worker goes on without one.
     fn draw_piece<R: Wait>(&self, rt: &R, pass: &mut Pass<M>, study: u32) -> Result<Drawn, Next>
         requires own { pass.old.hall ≡ self.now.id }
         requires slot { study < self.now.slots }
@@ -203,23 +202,7 @@ impl<D: Disk + Drop, M: CallLedger, K: CallLedger> Hall<D, M, K> {
         ensures made { pass.new.made ≡ pass.old.made }
     {
         let slot = self.places[study as usize].slot.lock(rt);
-        if slot.is_stopped() {
-            return Err(Next::Nothing);
-        }
-        if slot.is_idle() {
-            return Err(Next::Study);
-        }
-        let Ok(number) = self.board.draw(&mut pass.seat, study) else {
-            return Err(Next::Nothing);
-        };
-        match slot.piece(number) {
-            Some(piece) => Ok(Drawn {
-                study,
-                number,
-                piece,
-            }),
-            None => Err(Next::Study),
-        }
+        draw_in(&slot, &self.board, &mut pass.seat, study)
     }
 
     /// Runs a piece, and once more where memory ran out.
@@ -227,15 +210,14 @@ impl<D: Disk + Drop, M: CallLedger, K: CallLedger> Hall<D, M, K> {
         requires { drawn.study < self.now.slots }
         ensures { IfSome result (λ r. r.piece ≡ drawn.piece) }
     {
-        for _ in 0..2 {
-            let Some(input) = self.input(rt, alloc, drawn.study) else {
-                continue;
-            };
-            if let Some(result) = input.run(alloc, drawn.piece) {
-                return Some(result);
-            }
-        }
-        None
+        let mut attempt = || -> Option<PieceResult>
+            requires { drawn.study < self.now.slots }
+            ensures { IfSome result (λ r. r.piece ≡ drawn.piece) }
+        {
+            let input = self.input(rt, alloc, drawn.study)?;
+            input.run(alloc, drawn.piece)
+        };
+        twice(&mut attempt)
     }
 
     /// The input of a study, if it has been made or there is memory to make it. Others who need it wait meanwhile,
@@ -273,23 +255,16 @@ impl<D: Disk + Drop, M: CallLedger, K: CallLedger> Hall<D, M, K> {
         requires slot { drawn.study < self.now.slots }
         ensures own { pass.new.hall ≡ pass.old.hall }
         ensures made { pass.old.made ≤ pass.new.made }
+        ensures counted { CountsAccepted result self.now.slots drawn.study drawn.piece.count
+            pass.old.view pass.new.view }
     {
         let place = &self.places[drawn.study as usize];
         let mut slot = place.slot.lock(rt);
-        let handed = match slot.hand_in(rt, &self.accounts, &mut pass.made, offered) {
-            Ok(()) => {
-                let trials = u64::from(drawn.piece.count);
-                let _ = self.board.count(&mut pass.seat, drawn.study, trials);
-                Ok(())
-            }
-            Err(CallFault::Full) => Err(Next::Nothing),
-            Err(CallFault::Refused(BookFault::Memory)) => {
-                let _ = slot.lose(rt, &self.accounts, &mut pass.made, drawn.number);
-                Err(Next::Piece)
-            }
-            Err(CallFault::Refused(BookFault::Checkpoint)) => Err(Next::Study),
-            Err(_) => Err(Next::Piece),
-        };
+        let Pass { seat, made } = pass;
+        let handed = slot.take_drawn(rt, &self.accounts, made, drawn.number, offered);
+        if handed.is_ok() {
+            count_trials(&self.board, seat, drawn);
+        }
         place.changed.notify_all();
         handed
     }
@@ -347,5 +322,74 @@ impl<D: Disk + Drop, M: CallLedger, K: CallLedger> Hall<D, M, K> {
                 .changed
                 .wait_while(rt, place.slot.lock(rt), |slot| !slot.is_stopped());
         }
+    }
+}
+
+/// Draws the next piece of the study that a slot has. Nothing is drawn where it has none yet, so that the study which
+/// comes later has all its pieces, nor where its work was ended.
+fn draw_in<D: Disk + Drop, K: CallLedger>(
+    slot: &Slot<D, K>,
+    board: &Board,
+    seat: &mut Seat,
+    study: u32,
+) -> Result<Drawn, Next>
+    requires { board_of seat.old ≡ board_id board.now }
+    ensures own { board_of seat.new ≡ board_of seat.old }
+    ensures draws { DrawsPiece result (studies_of board.now) study slot.now.book slot.now.stopped
+        (view_of seat.old) (view_of seat.new) }
+{
+    if slot.is_stopped() {
+        return Err(Next::Nothing);
+    }
+    if slot.is_idle() {
+        return Err(Next::Study);
+    }
+    let Ok(number) = board.draw(seat, study) else {
+        return Err(Next::Nothing);
+    };
+    match slot.piece(number) {
+        Some(piece) => Ok(Drawn {
+            study,
+            number,
+            piece,
+        }),
+        None => Err(Next::Study),
+    }
+}
+
+/// Counts the trials of a piece on the board, unless its seat may count no more.
+fn count_trials(board: &Board, seat: &mut Seat, drawn: Drawn)
+    requires { board_of seat.old ≡ board_id board.now }
+    ensures own { board_of seat.new ≡ board_of seat.old }
+    ensures counts { CountsTrials (studies_of board.now) drawn.study drawn.piece.count
+        (view_of seat.old) (view_of seat.new) }
+{
+    let trials = u64::from(drawn.piece.count);
+    let _ = board.count(seat, drawn.study, trials);
+}
+
+/// How a worker goes on after a call of a study's book: only where no further call can be counted it ends, and a study
+/// whose disk has failed takes no more, so it leaves that one.
+pub(crate) fn next_after(outcome: Result<(), CallFault>) -> Next
+    ensures { result ≡ next_after outcome }
+{
+    match outcome {
+        Err(CallFault::Full) => Next::Nothing,
+        Err(CallFault::Refused(BookFault::Checkpoint)) => Next::Study,
+        _ => Next::Piece,
+    }
+}
+
+/// What an attempt gives, or where it gives nothing, what a second one does.
+fn twice<T, F: FnMut() -> Option<T>>(attempt: &mut F) -> Option<T>
+    requires first { F.pre attempt.old }
+    requires second { (given : Option T) (between : F) → F.step attempt.old given between → F.pre between }
+    ensures { (given : Option T) × ((between : F) × (F.step attempt.old given between
+        × MatchOption given (F.step between result attempt.new)
+        (λ value. (result ≡ given) × (attempt.new ≡ between)))) }
+{
+    match attempt() {
+        Some(value) => Some(value),
+        None => attempt(),
     }
 }

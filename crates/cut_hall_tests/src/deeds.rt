@@ -2,10 +2,11 @@
 ghost use Rattle.std.specs.Prelude.{true, ◌≡◌, ◌<◌, All, IfOk};
 
 use cut_book::{Opened, Shelf, ShelfFault, SubmitFault};
-use cut_disks::{FaultyDisk, Tear};
-use cut_hall::{CallLedger, Hall, LineFault, NoHooks, Pass, Report, StudyCell};
+use cut_disks::{FaultyDisk, MemoryDisk, Tear};
+use cut_hall::{CallLedger, Hall, NextRowFault, OpenGate, Pass, Report, StudyCell};
+use cut_journal::Journal;
 use cut_plan::Plan;
-use cut_study_cases::Study;
+use cut_pool_cases::Study;
 use std::alloc::Global;
 use std::sync::Wait;
 use std::test::Fail;
@@ -30,6 +31,41 @@ impl Shelf<FaultyDisk> for Brittle {
         };
         disk.arm();
         Ok(Some(disk))
+    }
+}
+
+/// A shelf whose disks hold the study of this plan, with a byte of its header changed if it is damaged.
+#[derive(Clone, Copy)]
+pub(crate) struct Foul {
+    pub held: Study,
+    pub is_damaged: bool,
+}
+
+impl Foul {
+    /// What its disks hold, if there is memory for it.
+    fn bytes(&self, alloc: Global) -> Option<Vec<u8>> {
+        let plan = Plan::from_json(alloc, self.held.plan.as_bytes()).ok()?;
+        let disk = MemoryDisk::of(alloc, Vec::new(alloc)).ok()?;
+        let Ok(journal) = Journal::create(alloc, disk, &plan) else {
+            return None;
+        };
+        let mut bytes = Vec::from_slice(alloc, journal.into_disk().bytes()).ok()?;
+        if let Some(byte) = bytes.get_mut(20) {
+            *byte ^= u8::from(self.is_damaged);
+        }
+        Some(bytes)
+    }
+}
+
+impl Shelf<FaultyDisk> for Foul {
+    fn open(&self, alloc: Global, _plan: &Plan) -> Result<Option<FaultyDisk>, ShelfFault> {
+        let Some(bytes) = self.bytes(alloc) else {
+            return Err(ShelfFault::Memory);
+        };
+        match FaultyDisk::of(alloc, bytes, 0, Tear::Nothing) {
+            Ok(disk) => Ok(Some(disk)),
+            Err(_) => Err(ShelfFault::Memory),
+        }
     }
 }
 
@@ -88,12 +124,12 @@ pub(crate) enum End {
 }
 
 /// The end of who is refused a line.
-fn end_of_fault(fault: LineFault) -> End {
+fn end_of_fault(fault: NextRowFault) -> End {
     match fault {
-        LineFault::Stopped => End::Stopped,
-        LineFault::WorkMemory => End::Lost,
-        LineFault::Checkpoint => End::Failed,
-        LineFault::AuditMismatch => End::Mismatch,
+        NextRowFault::Stopped => End::Stopped,
+        NextRowFault::WorkMemory => End::Lost,
+        NextRowFault::Checkpoint => End::Failed,
+        NextRowFault::AuditMismatch => End::Mismatch,
     }
 }
 
@@ -161,7 +197,7 @@ impl<M: CallLedger, K: CallLedger, R: Wait> Guest<'_, M, K, R> {
             cell,
         };
         self.hall
-            .work_on_cell(self.rt, self.alloc, pass, &NoHooks, wanted);
+            .work_on_cell(self.rt, self.alloc, pass, &OpenGate, wanted);
         match self.wait_for_row(pass, opened, study, cell) {
             End::Line => self.ask_again(opened, study, cell),
             end => end,
@@ -198,7 +234,7 @@ impl<M: CallLedger, K: CallLedger, R: Wait> Guest<'_, M, K, R> {
     {
         let may_go_on = self
             .hall
-            .work_off(self.rt, self.alloc, pass, &NoHooks, study);
+            .work_off(self.rt, self.alloc, pass, &OpenGate, study);
         End::Worked(may_go_on)
     }
 
@@ -239,7 +275,7 @@ impl<M: CallLedger, K: CallLedger, R: Wait> Guest<'_, M, K, R> {
         deed: Deed,
     ) -> End
         requires own { pass.old.hall ≡ self.now.hall.now.id }
-        requires trusted { S.is_true shelf.now ≡ true }
+        requires trusted { self.now.hall.now.is_trusted ≡ true → S.is_true shelf.now ≡ true }
         ensures { pass.new.hall ≡ pass.old.hall }
     {
         let Ok(plan) = Plan::from_json(self.alloc, study.plan.as_bytes()) else {

@@ -1,15 +1,15 @@
 //! Halls in which one thread does what a script says: studies that are worked off, slots that have none yet, and lines
 //! that are asked for by what another hall opened.
-ghost use Rattle.std.specs.Prelude.{◌≡◌, ◌<◌, ◌≤◌, Err, IfSome};
+ghost use Rattle.std.specs.Prelude.{◌≡◌, ◌<◌, ◌≤◌, false, None, Err, IfSome};
 ghost use Rattle.cut_hall.specs.declared.not_closed.NotClosed.TheVariants.{SeatMissing};
 
-use crate::deeds::{Deed, End, Guest, Stormy, closed};
+use crate::deeds::{Deed, End, Foul, Guest, Stormy, closed};
 use cut_book::{NoShelf, Opened};
-use cut_hall::{Blanks, CallLedger, Hall, NoHooks, NotClosed, Pass, Report, StudyCell};
+use cut_hall::{Blanks, CallLedger, Hall, NotClosed, OpenGate, Pass, Report, StudyCell};
 use cut_ledger::{Base, Slip};
 use cut_outcome::{Piece, Totals};
 use cut_plan::Plan;
-use cut_study_cases::{ONE_LIAR, Study, TWO_TRIALS};
+use cut_pool_cases::{ONE_LIAR, Study, TWO_TRIALS};
 use std::alloc::Global;
 use std::marker::Brand;
 use std::sync::Wait;
@@ -37,6 +37,8 @@ enum Step {
     Stop,
     /// Submits a study, and does a deed for it.
     Own(Study, Deed),
+    /// Submits a study whose disk holds something before it comes, and does a deed for it.
+    Kept(Foul, Study, Deed),
     /// Does a deed for the study of the first slot by what another hall opened, with the slip of its first trial, this
     /// many times.
     Foreign(Study, usize, Deed),
@@ -70,6 +72,7 @@ fn opened_elsewhere(alloc: Global, study: Study, slips: usize) -> Option<Opened>
 impl<M: CallLedger, K: CallLedger, R: Wait> Guest<'_, M, K, R> {
     /// Takes a step: how it ends.
     fn take_step(&self, pass: &mut Pass<M>, step: Step) -> End
+        requires untrusted { self.now.hall.now.is_trusted ≡ false }
         requires own { pass.old.hall ≡ self.now.hall.now.id }
         requires slot { 0 < self.now.hall.now.slots }
         ensures { pass.new.hall ≡ pass.old.hall }
@@ -78,7 +81,7 @@ impl<M: CallLedger, K: CallLedger, R: Wait> Guest<'_, M, K, R> {
             Step::Work => {
                 let first = StudyCell { study: 0, cell: 0 };
                 self.hall
-                    .work_on_cell(self.rt, self.alloc, pass, &NoHooks, first);
+                    .work_on_cell(self.rt, self.alloc, pass, &OpenGate, first);
                 self.work_off(pass, 0)
             }
             Step::Stop => {
@@ -86,6 +89,7 @@ impl<M: CallLedger, K: CallLedger, R: Wait> Guest<'_, M, K, R> {
                 End::Ended
             }
             Step::Own(study, deed) => self.act(pass, &NoShelf, study, deed),
+            Step::Kept(foul, study, deed) => self.act(pass, &foul, study, deed),
             Step::Foreign(study, slips, deed) => self.act_elsewhere(pass, study, slips, deed),
         }
     }
@@ -104,6 +108,7 @@ impl<M: CallLedger, K: CallLedger, R: Wait> Guest<'_, M, K, R> {
 
     /// Takes the steps of a script, until one ends otherwise: whether none does.
     fn play(&self, pass: &mut Pass<M>, script: Script) -> bool
+        requires untrusted { self.now.hall.now.is_trusted ≡ false }
         requires own { pass.old.hall ≡ self.now.hall.now.id }
         requires slot { 0 < self.now.hall.now.slots }
         ensures { pass.new.hall ≡ pass.old.hall }
@@ -119,6 +124,7 @@ impl<M: CallLedger, K: CallLedger, R: Wait> Guest<'_, M, K, R> {
 
     /// Plays a scene by two passes of a hall.
     fn play_by_two(&self, first: &mut Pass<M>, second: &mut Pass<M>, scene: &Scene) -> bool
+        requires untrusted { self.now.hall.now.is_trusted ≡ false }
         requires first { first.old.hall ≡ self.now.hall.now.id }
         requires second { second.old.hall ≡ self.now.hall.now.id }
         requires slot { 0 < self.now.hall.now.slots }
@@ -182,7 +188,7 @@ fn play_in_hall<M: CallLedger, K: CallLedger, R: Wait>(
     requires slots { (0 < scene.now.slots) × (scene.now.slots ≤ 64) }
     requires made { (made.name ≡ M.name) × (made.parts ≡ M.parts) × (M.all ≡ M.parts) × (M.all ≡ 2) }
     requires kept { (kept.name ≡ K.name) × (kept.parts ≡ K.parts) × (K.all ≡ K.parts)
-        × (K.all ≡ scene.now.slots) }
+        × (K.all ≡ scene.now.slots) × (K.opening ≡ None) × (K.trusts ≡ false) }
 {
     let started = Hall::start(alloc, scene.slots, 2, 1, Blanks { made, kept });
     let (hall, mut passes): (Stormy<M, K>, Vec<Pass<M>>) = started?;
@@ -312,10 +318,62 @@ const NO_WORK: Scene = Scene {
     ..NOTHING
 };
 
+/// Two studies have a slot each, by whose number each has its own line and count; the end of the work is that in both.
+const TWO_STUDIES: Scene = Scene {
+    slots: 2,
+    first: &[
+        (Step::Own(TWO_TRIALS, Deed::Submit), End::Slot(0)),
+        (Step::Own(ONE_LIAR, Deed::Submit), End::Slot(1)),
+        (Step::Own(TWO_TRIALS, Deed::Submit), End::Slot(0)),
+        (Step::Own(ONE_LIAR, Deed::Submit), End::Slot(1)),
+        (Step::Own(TWO_TRIALS, Deed::Row(0)), End::Line),
+        (Step::Own(TWO_TRIALS, Deed::Count), End::Counted(2)),
+        (Step::Own(ONE_LIAR, Deed::Count), End::Counted(0)),
+    ],
+    second: &[
+        (Step::Stop, End::Ended),
+        (Step::Own(ONE_LIAR, Deed::WorkOff), End::Worked(false)),
+        (Step::Own(ONE_LIAR, Deed::Wait(0)), End::Stopped),
+    ],
+    last: &[(Step::Own(TWO_TRIALS, Deed::Wait(0)), End::Line)],
+    report: (2, 4, true),
+};
+
+/// Disks that hold the study of another plan, its own with a damaged header, and its own.
+const OTHERS: Foul = Foul {
+    held: ONE_LIAR,
+    is_damaged: false,
+};
+
+const DAMAGED: Foul = Foul {
+    held: TWO_TRIALS,
+    is_damaged: true,
+};
+
+const ITS_OWN: Foul = Foul {
+    held: TWO_TRIALS,
+    is_damaged: false,
+};
+
+/// A study whose disk holds another plan's, or is damaged, is refused, and takes no slot: the next one has it.
+const FOUL_DISKS: Scene = Scene {
+    first: &[
+        (Step::Kept(OTHERS, TWO_TRIALS, Deed::Submit), End::Failed),
+        (Step::Kept(DAMAGED, TWO_TRIALS, Deed::Submit), End::Failed),
+        (Step::Work, End::Worked(true)),
+        (Step::Kept(ITS_OWN, TWO_TRIALS, Deed::Submit), End::Slot(0)),
+        (Step::Kept(OTHERS, TWO_TRIALS, Deed::Row(0)), End::Line),
+    ],
+    report: (2, 3, true),
+    ..NOTHING
+};
+
 /// The scenes, each once.
 const SCENES: &[Scene] = &[
     WORKED,
     EARLY,
+    TWO_STUDIES,
+    FOUL_DISKS,
     NO_STUDY,
     OTHER_STUDY,
     OTHER_SLIPS,

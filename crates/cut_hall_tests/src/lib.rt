@@ -9,6 +9,8 @@ mod deeds;
 #[cfg(test)]
 mod halls;
 #[cfg(test)]
+mod passes;
+#[cfg(test)]
 mod storms;
 #[cfg(test)]
 mod wakes;

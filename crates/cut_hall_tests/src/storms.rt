@@ -1,11 +1,11 @@
 //! Storms: three threads do what was drawn for them in one hall, in whatever order it comes.
-ghost use Rattle.std.specs.Prelude.{◌≡◌, ◌<◌, ◌≤◌, All};
+ghost use Rattle.std.specs.Prelude.{◌≡◌, ◌<◌, ◌≤◌, None, All};
 ghost use Rattle.atomic_table.specs.Seated.{TableId};
 
 use crate::deeds::{Brittle, Deed, End, Guest, Stormy, Tools, closed, put_back};
-use cut_hall::{Blanks, CallLedger, Hall, NoHooks, Pass, Report};
+use cut_hall::{Blanks, CallLedger, Hall, OpenGate, Pass, Report};
 use cut_plan::{Plan, PlanFault};
-use cut_study_cases::{Study, TWO_CELLS, studies};
+use cut_pool_cases::{Study, TWO_CELLS, studies};
 use rand_chacha::ChaCha8Rng;
 use rand_core::SeedableRng;
 use rand_core::utils::NextWord;
@@ -108,7 +108,7 @@ fn play<M: CallLedger, K: CallLedger, R: Wait>(
 {
     let storm = shared.storm;
     if storm.has_worker && number == 2 {
-        return guest.hall.work(guest.rt, guest.alloc, pass, &NoHooks);
+        return guest.hall.work(guest.rt, guest.alloc, pass, &OpenGate);
     }
     let mut words = ChaCha8Rng::from_seed([0; 32]);
     words.set_stream(storm.stream.wrapping_add(number));
@@ -329,7 +329,7 @@ where
     requires storm { (0 < storm.slots) × (storm.slots ≤ 64) × (1 ≤ storm.piece_size) }
     requires made { (made.name ≡ M.name) × (made.parts ≡ M.parts) × (M.all ≡ M.parts) × (M.all ≡ 4) }
     requires kept { (kept.name ≡ K.name) × (kept.parts ≡ K.parts) × (K.all ≡ K.parts)
-        × (K.all ≡ storm.slots) }
+        × (K.all ≡ storm.slots) × (K.opening ≡ None) }
 {
     let (hall, mut passes): (Stormy<M, K>, Vec<Pass<M>>) = Hall::start(
         alloc,

@@ -1,10 +1,10 @@
 //! Threads that wait for a line which another thread keeps from coming: each is woken, and learns why.
-ghost use Rattle.std.specs.Prelude.{◌≡◌};
+ghost use Rattle.std.specs.Prelude.{◌≡◌, None};
 ghost use Rattle.atomic_table.specs.Seated.{TableId};
 
 use crate::deeds::{Brittle, Deed, End, Guest, Stormy, Tools};
 use cut_hall::{Blanks, CallLedger, Hall, Pass};
-use cut_study_cases::TWO_CELLS;
+use cut_pool_cases::TWO_CELLS;
 use std::alloc::Global;
 use std::marker::Brand;
 use std::process::Abort;
@@ -215,7 +215,8 @@ where
     K: CallLedger + Send + Sync,
     R: Threads + Wait + Abort + Clock + Sync,
     requires made { (made.name ≡ M.name) × (made.parts ≡ M.parts) × (M.all ≡ M.parts) × (M.all ≡ 2) }
-    requires kept { (kept.name ≡ K.name) × (kept.parts ≡ K.parts) × (K.all ≡ K.parts) × (K.all ≡ 1) }
+    requires kept { (kept.name ≡ K.name) × (kept.parts ≡ K.parts) × (K.all ≡ K.parts) × (K.all ≡ 1)
+        × (K.opening ≡ None) }
 {
     let (hall, mut passes): (Stormy<M, K>, Vec<Pass<M>>) = Hall::start(
         alloc,
@@ -241,12 +242,12 @@ where
 #[test]
 fn who_waits_for_a_line_learns_why_it_does_not_come(rt: HostRuntime) -> Result<(), Fail> {
     let alloc = rt.alloc();
-    // Ten calls open the disk, and each append makes four: the slip of the first piece is kept, that of the second
+    // Eleven calls open the disk, and each append makes four: the slip of the first piece is kept, that of the second
     // is not.
     let rows = [
         (Cause::Loss, 0, (End::Lost, End::Noted(true))),
         (Cause::Stop, 0, (End::Stopped, End::Ended)),
-        (Cause::Disk, 15, (End::Failed, End::Worked(true))),
+        (Cause::Disk, 16, (End::Failed, End::Worked(true))),
     ];
     for (cause, fail_at, wanted) in rows {
         for pause in [0, 1, 5, 20] {

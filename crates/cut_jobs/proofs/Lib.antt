@@ -1,3 +1,4 @@
 pub mod JobLemmas
 pub mod ProgramLemmas
+pub mod QuotedPaths
 pub mod RefusedFiles

@@ -5,13 +5,13 @@ use Rattle.std.specs.Bool.{⊤}
 use Rattle.std.specs.declared.io.ErrorKind as io
 use Rattle.std.specs.declared.io.ErrorKind.TheVariants.{InvalidData}
 use Rattle.cut_wires.specs.Log.{WireLog, SendsAll}
-use Rattle.cut_wires.specs.declared.send.WriteFault.{WriteFault}
+use Rattle.cut_wires.specs.declared.send.Sent.{Sent}
 use Rattle.cut_commands.specs.declared.fault.CliFault.TheVariants.{Memory}
 use Rattle.cut_jobs.specs.Program.{ReportsEnd, ReportsUnread}
-use Rattle.cut_jobs.specs.Sent.{IsSent}
+use Rattle.cut_jobs.specs.Sending.{IsSent}
 
 -- a text was sent, or a part of it up to a write that failed
-pub sent_is : (text : List ℕ) (result : Result ⊤ WriteFault) (old new : WireLog) → SendsAll result text old new
+pub sent_is : (text : List ℕ) (result : Result ⊤ Sent) (old new : WireLog) → SendsAll result text old new
     → IsSent text old new
 sent_is text (Ok done) old new is = inl is
 sent_is text (Err fault) old new is = inr (fault.sent, (is.1, is.0))

@@ -1,19 +1,24 @@
 -- The line that says which file of a join is refused.
 use Rattle.std.proofs.Common.{◌≡◌, ◌≤◌, ◌<◌, ◌+◌, ◌-◌, ◌++◌, ◌∷◌, [], ℕ, zero, suc, Bor, List, Option, Some, None}
-use Rattle.std.proofs.Common.{Result}
+use Rattle.std.proofs.Common.{Bool, true, false, Result}
 use Rattle.std.proofs.Common.{Ok, Err, length, map, get_or, take, refl, sym, ap, subst, arith, ◌∙◌, inl, inr}
 use Rattle.std.proofs.Common.{append_assoc, length-append}
 use Rattle.std.proofs.Math.Seq.{take-append-add}
 use Rattle.std.proofs.lemmas.List.{take-append-le}
 use Rattle.std.specs.Bool.{⊤}
+use Rattle.std.specs.Fmt.{decimal}
+use Rattle.std.specs.Prelude.{codes}
+use Rattle.std.specs.List.{flat_map}
+use Rattle.std.specs.Str.{chars}
 use Rattle.cut_commands.specs.declared.fault.CliFault.{CliFault}
 use Rattle.cut_commands.specs.declared.fault.CliFault.TheVariants.{Journal}
 use Rattle.cut_machines.specs.JoinCommand.{NamesRefusedFile}
 use Rattle.cut_wires.specs.Log.{WireLog, wrote, write_failed}
 use Rattle.cut_wires.proofs.Logs.{wrote_more}
 use Rattle.cut_jobs.specs.Jobs.{PrintsRefused, file_line}
-use Rattle.cut_jobs.specs.inside.Printing.{IsFileAt, file_head}
-use Rattle.cut_jobs.specs.Sent.{IsSent}
+use Rattle.cut_jobs.specs.Quoted.{quoted, quoted_char}
+use Rattle.cut_jobs.specs.inside.Printing.{IsFileAt, WritesWhole, file_end, file_head}
+use Rattle.cut_jobs.specs.Sending.{IsCutShort, IsSent}
 
 within : (count place : ℕ) (ended : Result ⊤ CliFault) → NamesRefusedFile count ended (Some place)
     → (1 ≤ place) × (place ≤ count)
@@ -59,28 +64,43 @@ prints_at files place other some few old new sent =
     (at.before, (get_or files (place - 1) other).now, at.after, at.all, at.place_is, sent)
 
 -- a text is sent in two parts, or only some of the first
+pub cut_after : (a b : List ℕ) (sent : ℕ) (old mid new : WireLog) → mid ≡ wrote old a → IsCutShort b sent mid new
+    → IsCutShort (a ++ b) (length a + sent) old new
+cut_after a b sent old mid new first (low, is) = (
+  omega (arith, low, length-append a b),
+  is ∙ ap (λ (l : WireLog). write_failed l)
+      (wrote_more old mid (wrote mid (take sent b)) a (take sent b) first refl
+      ∙ ap (λ (text : List ℕ). wrote old text) (sym (take-append-add a b sent))),
+)
+
+pub cut_before : (a b : List ℕ) (sent : ℕ) (old new : WireLog) → IsCutShort a sent old new
+    → IsCutShort (a ++ b) sent old new
+cut_before a b sent old new (low, is) = (
+  omega (arith, low, length-append a b),
+  is ∙ ap (λ (text : List ℕ). write_failed (wrote old text)) (sym (take-append-le sent a b (omega (arith, low)))),
+)
+
 pub sent_after : (a b : List ℕ) (old mid new : WireLog) → mid ≡ wrote old a → IsSent b mid new → IsSent (a ++ b) old new
 sent_after a b old mid new first (inl is) = inl (wrote_more old mid new a b first is)
-sent_after a b old mid new first (inr (sent, (low, is))) = inr (
-  length a + sent,
-  (
-    omega (arith, low, length-append a b),
-    is ∙ ap (λ (l : WireLog). write_failed l)
-        (wrote_more old mid (wrote mid (take sent b)) a (take sent b) first refl
-        ∙ ap (λ (text : List ℕ). wrote old text) (sym (take-append-add a b sent))),
-  ),
-)
+sent_after a b old mid new first (inr (sent, cut)) = inr (length a + sent, cut_after a b sent old mid new first cut)
 
 pub sent_before : (a b : List ℕ) (sent : ℕ) (old new : WireLog)
     → (new ≡ write_failed (wrote old (take sent a))) × (sent < length a) → IsSent (a ++ b) old new
-sent_before a b sent old new (is, low) = inr (
-  sent,
-  (
-    omega (arith, low, length-append a b),
-    is ∙ ap (λ (text : List ℕ). write_failed (wrote old text)) (sym (take-append-le sent a b (omega (arith, low)))),
-  ),
-)
+sent_before a b sent old new (is, low) = inr (sent, cut_before a b sent old new (low, is))
 
 -- the line, in its two parts
-pub line_is : (place : ℕ) (path : List ℕ) → file_head place ++ (path ++ 10 ∷ []) ≡ file_line place path
-line_is place path = sym (append_assoc (file_head place) path (10 ∷ []))
+pub line_is : (place : ℕ) (path : List ℕ)
+    → file_head place ++ (flat_map quoted_char (chars path) ++ file_end) ≡ file_line place path
+line_is place path =
+    let shown = flat_map quoted_char (chars path) in
+    let head = codes "cutlab: file " ++ decimal place in
+    append_assoc head (codes ": \"") (shown ++ file_end)
+    ∙ sym (append_assoc (head ++ codes ": ") (quoted path) (10 ∷ [])
+    ∙ ap (λ (text : List ℕ). head ++ codes ": " ++ text) (append_assoc (codes "\"" ++ shown) (codes "\"") (10 ∷ []))
+    ∙ append_assoc head (codes ": ") (codes "\"" ++ shown ++ file_end))
+
+-- a text that was written whole
+pub whole_is : (whole : Bool) (text : List ℕ) (old new : WireLog) → WritesWhole whole text old new → whole ≡ true
+    → new ≡ wrote old text
+whole_is true text old new is whole = is
+whole_is false text old new is whole = absurd (let bad : false ≡ true = whole in cc)

@@ -18,7 +18,8 @@ use Rattle.cut_command_line.specs.declared.line.Job.{Job}
 use Rattle.cut_command_line.specs.declared.line.Job.TheVariants.{Run, Check, Explain, Canonical, Status, Serve}
 use Rattle.cut_command_line.specs.declared.line.Job.TheVariants.{Ask, Migrate, Share, Join}
 use Rattle.cut_commands.specs.declared.fault.CliFault.{CliFault}
-use Rattle.cut_jobs.specs.Sent.{IsSent}
+use Rattle.cut_jobs.specs.Quoted.{quoted}
+use Rattle.cut_jobs.specs.Sending.{IsSent}
 
 -- how a job ends
 abbrev pub EndsJob : Job → WireLog → WireLog → Result ⊤ CliFault → Type 0
@@ -36,9 +37,9 @@ EndsJob (Share index shares file piece workers progress) old new result =
     × EndsWithFile (share_file_task result s) old new result
 EndsJob (Join to from which) old new result = EndsWithFile join_files_task old new result
 
--- the line that says which file is refused, by its place and its path
+-- the line that says which file is refused, by its place and its path, which is quoted, so that it can't end the line
 abbrev pub file_line : ℕ → List ℕ → List ℕ
-file_line place path = codes "cutlab: file " ++ decimal place ++ codes ": " ++ path ++ 10 ∷ []
+file_line place path = codes "cutlab: file " ++ decimal place ++ codes ": " ++ quoted path ++ 10 ∷ []
 
 -- what is printed on the errors of the one of these files that is refused, if one is: the line of its place, from 1,
 -- and its path, up to a write that failed

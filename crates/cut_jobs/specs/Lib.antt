@@ -1,4 +1,5 @@
-pub mod Sent
+pub mod Sending
+pub mod Quoted
 pub mod Jobs
 pub mod Program
 pub mod inside

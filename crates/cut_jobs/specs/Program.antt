@@ -4,8 +4,9 @@ use Rattle.std.specs.declared.io.ErrorKind as io
 use Rattle.std.specs.declared.io.ErrorKind.TheVariants.{InvalidData}
 use Rattle.clap.specs.Words.{fault_of}
 use Rattle.clap.specs.declared.error.kind.ErrorKind.{ErrorKind}
+use Rattle.clap.specs.declared.error.kind.ErrorKind.TheVariants.{OutOfMemory}
 use Rattle.cut_wires.specs.Log.{WireLog, wrote}
-use Rattle.cut_wires.specs.declared.send.WriteFault.{WriteFault}
+use Rattle.cut_wires.specs.declared.send.Sent.{Sent}
 use Rattle.cut_options.specs.Options.{program_app}
 use Rattle.cut_command_line.specs.Line.{NamesJob, status_of_kind, IsAsked}
 use Rattle.cut_command_line.specs.declared.line.Job.{Job}
@@ -13,7 +14,7 @@ use Rattle.cut_commands.specs.Faults.{fault_line, status_of}
 use Rattle.cut_commands.specs.declared.fault.CliFault.{CliFault}
 use Rattle.cut_commands.specs.declared.fault.CliFault.TheVariants.{Memory, Write}
 use Rattle.cut_jobs.specs.Jobs.{EndsJob, PrintsOn}
-use Rattle.cut_jobs.specs.Sent.{IsCutShort, IsSent}
+use Rattle.cut_jobs.specs.Sending.{IsCutShort, IsSent}
 
 -- how the end of a command is reported on the errors and by the status: nothing and 0 where it was done, else
 -- the fault's line and status
@@ -40,17 +41,18 @@ pub record ReportsLine (line_status : ℕ) (text : List ℕ) (old new errors_old
   -- help goes to the output, or a part of it, which is reported as a failed write
   pub help : 0 < length text → line_status ≡ 0
       → ((new ≡ wrote old text) × (errors_new ≡ errors_old) × (status ≡ 0))
-      ⊎ ((fault : WriteFault) × IsCutShort text fault.sent old new
+      ⊎ ((fault : Sent) × IsCutShort text fault.sent old new
       × ReportsEnd (Err (Write fault)) errors_old errors_new status)
   -- a mistake goes to the errors
   pub mistake : 0 < length text → line_status ≢ 0
       → (new ≡ old) × IsSent text errors_old errors_new × (status ≡ line_status)
 
--- how the program ends: the words name a job, or they name none, and then what clap says of them is reported
+-- how the program ends: the words name a job, or they name none, and then what clap says of them is reported, or that
+-- memory ran out
 abbrev pub EndsProgram : List (List ℕ) → WireLog → WireLog → WireLog → WireLog → ℕ → Type 0
 EndsProgram words old new errors_old errors_new status =
     RunsJob words old new errors_old errors_new status
-    ⊎ ((kind : ErrorKind) × (text : List ℕ) × IsAsked words kind
+    ⊎ ((kind : ErrorKind) × (text : List ℕ) × IsAsked words kind × (kind ≡ OutOfMemory → text ≡ [])
     × ReportsLine (status_of_kind kind) text old new errors_old errors_new status)
 
 -- how it is reported where the words themselves can't be read: one that is not UTF-8 is a mistake in them, else memory

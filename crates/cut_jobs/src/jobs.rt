@@ -76,7 +76,7 @@ where
             join.run(host, wire, errors)
         }
         Job::Check => check_io(host.alloc(), wire),
-        Job::Explain => explain_io(host.alloc(), rt, wire),
+        Job::Explain => explain_io(host.alloc(), host, wire),
         Job::Canonical => canonical_io(host.alloc(), wire),
         Job::Status { file } => status_file(host, wire, file),
         Job::Serve {

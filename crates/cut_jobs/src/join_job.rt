@@ -1,12 +1,16 @@
 //! A join of checkpoints, with or without the name of a refused one on the errors.
 ghost use Rattle.std.specs.Prelude.{◌≡◌, ◌≤◌, ◌∷◌, ◌++◌, [], Some, length, map};
+ghost use Rattle.std.specs.List.{flat_map};
+ghost use Rattle.std.specs.Str.{chars};
 ghost use Rattle.cut_commands.specs.Run.{EndsWithFile};
 ghost use Rattle.cut_machines.specs.JoinCommand.{join_files_task};
 ghost use Rattle.cut_jobs.specs.Jobs.{PrintsRefused, file_line};
-ghost use Rattle.cut_jobs.specs.inside.Printing.{PrintsFileIf, file_head};
-ghost use Rattle.cut_jobs.specs.Sent.{IsSent};
+ghost use Rattle.cut_jobs.specs.Quoted.{quoted_char};
+ghost use Rattle.cut_jobs.specs.inside.Printing.{PrintsFileIf, WritesWhole, file_end, file_head};
+ghost use Rattle.cut_jobs.specs.Sending.{IsSent};
 
 use crate::program::report;
+use crate::quoted::quoted_char;
 use arrayvec::ArrayString;
 use cut_commands::CliFault;
 use cut_machines::{JoinedFiles, join_files};
@@ -67,14 +71,27 @@ fn report_file<E: Wire>(place: usize, path: &str, errors: &mut E)
     }
 }
 
-/// Says a path on the errors, and ends the line.
+/// Says a path on the errors, after the quote that it begins with, and ends the line.
 fn report_path<E: Wire>(path: &str, errors: &mut E)
-    ensures { IsSent (path.now ++ 10 ∷ []) (E.log errors.old) (E.log errors.new) }
+    ensures { IsSent (flat_map quoted_char (chars path.now) ++ file_end) (E.log errors.old) (E.log errors.new) }
 {
-    match send_all(errors, path.as_bytes()) {
-        Ok(()) => report(b"\n", errors),
-        Err(_) => {}
+    if send_quoted(path, errors) {
+        report(b"\"\n", errors);
     }
+}
+
+/// Sends the characters of a path as they stand between quotes. Returns whether all were sent.
+fn send_quoted<E: Wire>(path: &str, errors: &mut E) -> bool
+    ensures { WritesWhole result (flat_map quoted_char (chars path.now)) (E.log errors.old) (E.log errors.new) }
+{
+    for character in path.chars() {
+        let piece = quoted_char(character);
+        match send_all(errors, piece.as_bytes()) {
+            Ok(()) => {}
+            Err(_) => return false,
+        }
+    }
+    true
 }
 
 /// What comes before the path.
@@ -85,6 +102,6 @@ fn file_head(place: usize) -> ArrayString<40>
     let mut digits = Buffer::new();
     head.push_str("cutlab: file ");
     head.push_str(digits.format(place as u64));
-    head.push_str(": ");
+    head.push_str(": \"");
     head
 }

@@ -4,8 +4,9 @@
 mod jobs;
 mod join_job;
 mod program;
+mod quoted;
 mod run_job;
 mod share_job;
 mod study_job;
 
-pub use program::{end_unread, run_words};
+pub use program::{end_unopened, end_unread, run_words};

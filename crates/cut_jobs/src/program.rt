@@ -1,11 +1,12 @@
 //! The program, over its words and wires.
 ghost use Rattle.std.specs.Prelude.{map, string_bytes, Err};
 ghost use Rattle.cut_jobs.specs.Program.{EndsProgram, ReportsEnd, ReportsLine, ReportsUnread};
-ghost use Rattle.cut_jobs.specs.Sent.{IsSent};
+ghost use Rattle.cut_jobs.specs.Sending.{IsSent};
 
 use crate::jobs::answer;
-use cut_command_line::{NoJob, parse_line};
+use cut_command_line::{LineFault, parse_line};
 use cut_commands::CliFault;
+use cut_journal::JournalFault;
 use cut_wires::{Wire, send_all};
 use std::convert::AsStr;
 use std::io::ErrorKind;
@@ -68,7 +69,7 @@ fn end_fault<E: Wire>(fault: &CliFault, errors: &mut E) -> u8
 }
 
 /// Ends where the words name no job: help goes to the output, and a mistake to the errors.
-fn end_line<W: Wire, E: Wire>(fault: &NoJob, wire: &mut W, errors: &mut E) -> u8
+fn end_line<W: Wire, E: Wire>(fault: &LineFault, wire: &mut W, errors: &mut E) -> u8
     ensures { ReportsLine fault.now.status (string_bytes fault.now.text)
         (W.log wire.old) (W.log wire.new) (E.log errors.old) (E.log errors.new) result }
 {
@@ -97,6 +98,13 @@ pub fn end_unread<E: Wire>(kind: ErrorKind, errors: &mut E) -> u8
         }
         _ => end_fault(&CliFault::Memory, errors),
     }
+}
+
+/// Ends where a file that the program needs before anything else did not open.
+pub fn end_unopened<E: Wire>(errors: &mut E) -> u8
+    ensures { ReportsEnd (Err (CliFault.Journal JournalFault.Disk)) (E.log errors.old) (E.log errors.new) result }
+{
+    end_fault(&CliFault::Journal(JournalFault::Disk), errors)
 }
 
 /// Writes a text as far as the wire takes it.

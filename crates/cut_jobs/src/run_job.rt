@@ -6,7 +6,7 @@ ghost use Rattle.cut_jobs.specs.inside.Printing.{PrintsIf};
 use crate::share_job::ShareJob;
 use crate::study_job::StudyJob;
 use cut_commands::CliFault;
-use cut_hall::{Hooks, NoHooks};
+use cut_hall::{Gate, OpenGate};
 use cut_progress::{Progress, report_while};
 use cut_wires::Wire;
 use std::sync::Wait;
@@ -30,23 +30,23 @@ pub(crate) struct RunJob<'a> {
 }
 
 impl WorkersJob<'_> {
-    /// Runs it, by workers that call hooks.
+    /// Runs it, by workers that pass a gate.
     fn run_with<W, G, R>(
         &self,
         host: &HostRuntime,
         rt: &R,
         wire: &mut W,
-        hooks: &G,
+        gate: &G,
     ) -> Result<(), CliFault>
     where
         W: Wire,
-        G: Hooks + Sync,
+        G: Gate + Sync,
         R: Threads + Wait + Sync,
         ensures { EndsWork self.now (W.log wire.old) (W.log wire.new) result }
     {
         match self {
-            WorkersJob::Study(job) => job.run_with(host, rt, wire, hooks),
-            WorkersJob::Share(job) => job.run_with(host, rt, wire, hooks),
+            WorkersJob::Study(job) => job.run_with(host, rt, wire, gate),
+            WorkersJob::Share(job) => job.run_with(host, rt, wire, gate),
         }
     }
 }
@@ -70,7 +70,7 @@ impl RunJob<'_> {
         if self.progress {
             self.run_and_report(host, rt, wire, errors)
         } else {
-            self.work.run_with(host, rt, wire, &NoHooks)
+            self.work.run_with(host, rt, wire, &OpenGate)
         }
     }
 

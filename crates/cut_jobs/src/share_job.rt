@@ -4,7 +4,7 @@ ghost use Rattle.cut_commands.specs.Run.{EndsWithFile};
 ghost use Rattle.cut_machines.specs.Share.{share_file_task};
 
 use cut_commands::CliFault;
-use cut_hall::Hooks;
+use cut_hall::Gate;
 use cut_machines::{ShareWork, share_file};
 use cut_share::Share;
 use cut_wires::Wire;
@@ -21,24 +21,24 @@ pub(crate) struct ShareJob<'a> {
 }
 
 impl ShareJob<'_> {
-    /// Runs it, by workers that call hooks.
+    /// Runs it, by workers that pass a gate.
     pub(crate) fn run_with<W, G, R>(
         &self,
         host: &HostRuntime,
         rt: &R,
         wire: &mut W,
-        hooks: &G,
+        gate: &G,
     ) -> Result<(), CliFault>
     where
         W: Wire,
-        G: Hooks + Sync,
+        G: Gate + Sync,
         R: Threads + Wait + Sync,
         ensures { EndsWithFile (share_file_task result self.now.share) (W.log wire.old) (W.log wire.new) result }
     {
         let work = ShareWork {
             share: self.share,
             workers: self.workers,
-            hooks,
+            gate,
         };
         share_file(host, rt, wire, work, self.file)
     }

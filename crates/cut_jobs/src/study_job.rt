@@ -4,7 +4,7 @@ ghost use Rattle.cut_jobs.specs.inside.Runs.{EndsRun};
 
 use cut_commands::{CliFault, Work, run_file, run_io};
 use cut_disks::FileDisk;
-use cut_hall::Hooks;
+use cut_hall::Gate;
 use cut_wires::Wire;
 use std::sync::Wait;
 use std::thread::Threads;
@@ -20,24 +20,24 @@ pub(crate) struct StudyJob<'a> {
 }
 
 impl StudyJob<'_> {
-    /// Runs it, by workers that call hooks.
+    /// Runs it, by workers that pass a gate.
     pub(crate) fn run_with<W, G, R>(
         &self,
         host: &HostRuntime,
         rt: &R,
         wire: &mut W,
-        hooks: &G,
+        gate: &G,
     ) -> Result<(), CliFault>
     where
         W: Wire,
-        G: Hooks + Sync,
+        G: Gate + Sync,
         R: Threads + Wait + Sync,
         ensures { EndsRun self.now.checkpoint (W.log wire.old) (W.log wire.new) result }
     {
         let work = Work {
             piece_size: self.piece,
             workers: self.workers,
-            hooks,
+            gate,
         };
         match self.checkpoint {
             None => run_io::<W, FileDisk, G, R>(rt, host.alloc(), wire, work, None),

@@ -30,11 +30,11 @@ IsNone bytes = is_study bytes ≡ false
 left_false : (a b : Bool) → a ≡ false → (a && b) ≡ false
 left_false a b none = ap (λ c. c && b) none
 
-short_none : (bytes : List ℕ) → length bytes ≤ 1 → IsNone bytes
+pub short_none : (bytes : List ℕ) → length bytes ≤ 1 → IsNone bytes
 short_none bytes short = left_false (nat_lt 1 (length bytes)) (slice_index bytes 0 == open_gate)
     (let e : nat_lt 1 (length bytes) ≡ false = grind (arith, nat_tests) in e)
 
-closed_none : (bytes : List ℕ) → (slice_index bytes 0 == open_gate) ≡ false → IsNone bytes
+pub closed_none : (bytes : List ℕ) → (slice_index bytes 0 == open_gate) ≡ false → IsNone bytes
 closed_none bytes closed = over_and (nat_lt 1 (length bytes)) (slice_index bytes 0 == open_gate) closed
 
 pub close_step : {E : Type 0} (result : Result ⊤ E) (old new : DiskState) → WritesStayInSpan → old.stable

@@ -1,11 +1,13 @@
 -- What the making and the reopening of a journal leave of a disk.
-use Rattle.std.specs.Prelude.{◌≡◌, ◌≢◌, ◌⊎◌, ℕ, List, [], Ok, Err, ⊤}
+use Rattle.std.specs.Prelude.{◌≡◌, ◌≢◌, ◌⊎◌, ◌==◌, ◌&&◌, ◌||◌, ℕ, Bool, true, false, not, List, [], Ok, Err, ⊤}
+use Rattle.std.specs.Prelude.{length, nat_le, slice_index}
 use Rattle.cut_plan.specs.Values.{Values}
 use Rattle.cut_disks.specs.State.{DiskState, synced, Throughout}
 use Rattle.cut_ledger.specs.declared.slip.Slip.{Slip}
 use Rattle.cut_journal.specs.declared.fault.JournalFault.{JournalFault}
 use Rattle.cut_journal.specs.declared.fault.JournalFault.TheVariants.{Memory, Disk, NoStudy, OtherPlan, Damaged, Held}
-use Rattle.cut_journal.specs.Reading.{reading}
+use Rattle.cut_journal.specs.File.{closed_gate}
+use Rattle.cut_journal.specs.Reading.{is_study, reading}
 
 -- ---- reopening
 
@@ -62,17 +64,48 @@ IsNotMade v Disk old new = (reading v old.bytes ≡ Err NoStudy → IsBegunFile 
     × (reading v old.bytes ≢ Err NoStudy → (new ≡ old) ⊎ (new ≡ synced old))
 IsNotMade v fault old new = ⊥
 
+-- ---- claiming a file
+
+-- whether a file is unclaimed: it has no byte, or a first byte that is a closed gate as one is written. That is what an
+-- interrupted creation leaves
+abbrev pub is_unclaimed : List ℕ → Bool
+is_unclaimed bytes = nat_le (length bytes) 0 || (slice_index bytes 0 == closed_gate)
+
+-- whether a file is somebody else's: it holds no study, and is not unclaimed
+abbrev pub is_foreign : List ℕ → Bool
+is_foreign bytes = not (is_study bytes) && not (is_unclaimed bytes)
+
+-- the faults by which a file may not be claimed
+abbrev pub MayNotClaim : JournalFault → Type 0
+MayNotClaim Memory = ⊤
+MayNotClaim Disk = ⊤
+MayNotClaim Held = ⊤
+MayNotClaim NoStudy = ⊤
+MayNotClaim fault = ⊥
+
+-- what is on the disk where a file was not claimed: Held comes exactly where there is a study, NoStudy exactly where
+-- the file is somebody else's. Then nothing was written, and nothing is written where the disk fails, but to an unclaimed
+-- file
+abbrev pub IsNotClaimed : Values → JournalFault → DiskState → DiskState → Type 0
+IsNotClaimed v Held old new = (is_study old.bytes ≡ true) × (new ≡ synced old)
+IsNotClaimed v NoStudy old new = (is_foreign old.bytes ≡ true) × (new ≡ old)
+IsNotClaimed v Memory old new = new ≡ old
+IsNotClaimed v Disk old new = (is_unclaimed old.bytes ≡ true → IsBegunFile v old new)
+    × (is_study old.bytes ≡ true → (new ≡ old) ⊎ (new ≡ synced old)) × (is_foreign old.bytes ≡ true → new ≡ old)
+IsNotClaimed v fault old new = ⊥
+
 -- ---- opening, whether there is a study or not
 
--- the slips that are found: those that bytes say, or none where they say no study
+-- the slips that are found: those that bytes say, or none where the file is unclaimed
 abbrev pub IsFoundOn : Values → List ℕ → List Slip → Type 0
-IsFoundOn v bytes slips = (reading v bytes ≡ Ok slips) ⊎ ((reading v bytes ≡ Err NoStudy) × (slips ≡ []))
+IsFoundOn v bytes slips = (reading v bytes ≡ Ok slips) ⊎ ((is_unclaimed bytes ≡ true) × (slips ≡ []))
 
 -- what bytes say where none is opened; that memory ran out or a disk failed says nothing of them, and no other fault
 -- comes
 abbrev pub IsOpenFault : Values → List ℕ → JournalFault → Type 0
 IsOpenFault v bytes Memory = ⊤
 IsOpenFault v bytes Disk = ⊤
+IsOpenFault v bytes NoStudy = is_foreign bytes ≡ true
 IsOpenFault v bytes OtherPlan = reading v bytes ≡ Err OtherPlan
 IsOpenFault v bytes (Damaged number) = reading v bytes ≡ Err (Damaged number)
 IsOpenFault v bytes fault = ⊥
@@ -84,11 +117,12 @@ MayNotOpen Disk = ⊤
 MayNotOpen OtherPlan = ⊤
 MayNotOpen (Damaged number) = ⊤
 MayNotOpen Held = ⊤
+MayNotOpen NoStudy = ⊤
 MayNotOpen fault = ⊥
 
--- what is on the disk at the end: as before, but for a first sync that made all durable; or, where there was no
--- study, from the second sync on each crash at each moment leaves none, or one without slips
+-- what is on the disk at the end: as before, but for a first sync that made all durable; or, where the file was
+-- unclaimed, from the second sync on each crash at each moment leaves no study, or one without slips
 abbrev pub IsOpening : Values → DiskState → DiskState → Type 0
 IsOpening v old new =
     (new ≡ old) ⊎ ((new ≡ synced old)
-    ⊎ ((reading v old.bytes ≡ Err NoStudy) × Throughout (synced (synced old)) new (IsNewStudy v)))
+    ⊎ ((is_unclaimed old.bytes ≡ true) × Throughout (synced (synced old)) new (IsNewStudy v)))

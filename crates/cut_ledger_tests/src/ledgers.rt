@@ -23,7 +23,7 @@ fn are_pieces(pieces: &[Piece], wanted: &str) -> bool {
 }
 
 // Whether a ledger has these gaps, and is complete exactly where these are none.
-fn has_gaps(alloc: Global, ledger: &Ledger, wanted: &str) -> Result<bool, AllocError> {
+pub(crate) fn has_gaps(alloc: Global, ledger: &Ledger, wanted: &str) -> Result<bool, AllocError> {
     let gaps = ledger.gaps(alloc)?;
     Ok(are_pieces(&gaps, wanted) && ledger.complete() == wanted.is_empty())
 }
@@ -101,6 +101,23 @@ fn trials_are_taken_once(rt: HostRuntime) -> Result<(), Fail> {
 fn a_piece_is_taken_once(rt: HostRuntime) -> Result<(), Fail> {
     let mut ledger = fresh(rt.alloc(), PLAN)?;
     assert!(rt; are_answered(rt.alloc(), &mut ledger, A_PIECE_AND_ITS_TRIAL)?);
+    Ok(())
+}
+
+// Trials of six, offered so that gaps are divided, shortened and filled. The last piece holds one that is taken.
+const SIX_TRIALS: &str = "2 2: 0: 0 2, 4 2
+0 1: 0: 1 1, 4 2
+5 1: 0: 1 1, 4 1
+1 1: 0: 4 1
+3 2: 16: 4 1";
+
+#[test]
+fn gaps_close_around_what_is_taken(rt: HostRuntime) -> Result<(), Fail> {
+    let text = PLAN.replace(rt.alloc(), "\"repeats\":2", "\"repeats\":6")?;
+    let mut ledger = fresh(rt.alloc(), &text)?;
+    for offer in SIX_TRIALS.lines() {
+        assert!(rt; is_answered(rt.alloc(), &mut ledger, offer)?, "{offer}");
+    }
     Ok(())
 }
 

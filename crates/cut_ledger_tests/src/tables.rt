@@ -5,7 +5,7 @@ mod many;
 use crate::studies::{PLAN, SETTLED, SMALLER, begun, fresh, piece_of, result_of, slip};
 use cut_ledger::Ledger;
 use cut_table::{RowFault, TableFault, emit_table, row};
-use cut_wires::{FaultyWire, MemoryWire, Wire, WriteFault};
+use cut_wires::{FaultyWire, MemoryWire, Sent, Wire};
 use std::alloc::Global;
 use std::test::Fail;
 
@@ -94,7 +94,7 @@ fn a_failed_write_leaves_the_first_bytes(rt: HostRuntime) -> Result<(), Fail> {
 #[test]
 fn faults_are_printed(rt: HostRuntime) -> Result<(), Fail> {
     assert!(rt; RowFault::NotDone(7).to_string(rt.alloc())?.as_str() == "18 NotDone 7");
-    let failed = TableFault::Write(WriteFault { sent: 80 });
+    let failed = TableFault::Write(Sent { sent: 80 });
     assert!(rt; failed.to_string(rt.alloc())?.as_str() == "31 Write 80");
     Ok(())
 }

@@ -1,6 +1,6 @@
 -- What is left of a disk on which joined slips are written one after another.
 use Rattle.std.proofs.Common.{◌≡◌, ◌∙◌, ◌++◌, ◌+◌, ◌<◌, inl, inr, ℕ, List, [], ◌∷◌, Option, Some, None, Ok, Err}
-use Rattle.std.proofs.Common.{length, take, drop, get_or, refl, sym, ap, subst, arith, append-nil, append_assoc}
+use Rattle.std.proofs.Common.{true, length, take, drop, get_or, refl, sym, ap, subst, arith, append-nil, append_assoc}
 use Rattle.std.specs.Prelude.{IsSome, IfErr, OnOk, Result}
 use Rattle.std.proofs.lemmas.List.{take-append-drop, take_all, take_more}
 use Rattle.cut_plan.specs.Values.{Values}
@@ -10,7 +10,7 @@ use Rattle.cut_ledger.specs.Slips.{AreGood}
 use Rattle.cut_ledger.proofs.SlipLemmas.{none_bad}
 use Rattle.cut_journal.specs.declared.fault.JournalFault.TheVariants as journal
 use Rattle.cut_journal.specs.Journal.{AppendsEach, IsFileOf, JournalValue, ReadsAs, kept_slips}
-use Rattle.cut_journal.specs.Opening.{IsBegunFile, IsNewStudy}
+use Rattle.cut_journal.specs.Opening.{IsBegunFile, IsNewStudy, is_unclaimed}
 use Rattle.cut_journal.specs.Reading.{reading}
 use Rattle.cut_journal.proofs.Moments.{and_then, weaker}
 use Rattle.cut_join.specs.declared.fault.JoinFault.{JoinFault}
@@ -163,18 +163,18 @@ since_made v all old new free empty (inl same) =
 since_made v all old new free empty (inr moments) =
     weaker (IsNewStudy v) (SaysFirstOf v all) (new_study v all) (synced old) new moments
 
-begun : (v : Values) (ss : List Slip) (old mid new : DiskState) → reading v old.bytes ≡ Err journal.NoStudy
-    → reading v mid.bytes ≡ Ok [] → IsBegunFile v old mid → IsPartWritten v ss mid new → IsBegun v ss old new
-begun v ss old mid new free empty made part = search (arith, and_then, since_made)
+begun : (v : Values) (ss : List Slip) (old mid new : DiskState) → is_unclaimed old.bytes ≡ true
+    → reading v old.bytes ≡ Err journal.NoStudy → reading v mid.bytes ≡ Ok [] → IsBegunFile v old mid → IsPartWritten v ss mid new → IsBegun v ss old new
+begun v ss old mid new free none empty made part = search (arith, and_then, since_made)
 
 pub left_filled : {T : Type 0} (result : Result T CliFault) (v : Values) (ss : List Slip) (old mid new : DiskState)
-    → reading v old.bytes ≡ Err journal.NoStudy → reading v mid.bytes ≡ Ok [] → IsBegunFile v old mid
-    → IsPartWritten v ss mid new → OnOk result (SaysAllOf v (joined v ss) new) → IfErr result StopsFilling
+    → is_unclaimed old.bytes ≡ true → reading v old.bytes ≡ Err journal.NoStudy → reading v mid.bytes ≡ Ok []
+    → IsBegunFile v old mid → IsPartWritten v ss mid new → OnOk result (SaysAllOf v (joined v ss) new) → IfErr result StopsFilling
     → LeavesDisk result v ss old new
-left_filled (Ok done) v ss old mid new free empty made part all stops =
-    record { begun = begun v ss old mid new free empty made part; all = all }
-left_filled (Err Memory) v ss old mid new free empty made part all stops =
-    inr (begun v ss old mid new free empty made part)
-left_filled (Err (Migrate migration.Disk)) v ss old mid new free empty made part all stops =
-    begun v ss old mid new free empty made part
-left_filled (Err fault) v ss old mid new free empty made part all stops = absurd stops
+left_filled (Ok done) v ss old mid new free none empty made part all stops =
+    record { begun = begun v ss old mid new free none empty made part; all = all }
+left_filled (Err Memory) v ss old mid new free none empty made part all stops =
+    inr (begun v ss old mid new free none empty made part)
+left_filled (Err (Migrate migration.Disk)) v ss old mid new free none empty made part all stops =
+    begun v ss old mid new free none empty made part
+left_filled (Err fault) v ss old mid new free none empty made part all stops = absurd stops

@@ -9,10 +9,10 @@ use Rattle.cut_wires.specs.Log.{WireLog}
 use Rattle.cut_ledger.specs.declared.slip.Slip.{Slip}
 use Rattle.cut_ledger.specs.Slips.{AreGood, IsFirstBad}
 use Rattle.cut_journal.specs.declared.fault.JournalFault.{JournalFault}
-use Rattle.cut_journal.specs.Opening.{IsOpeningFaultOf, MayNotMake}
 use Rattle.cut_status.specs.Status.{held_trials, part_text}
 use Rattle.cut_join.specs.Joined.{joined}
 use Rattle.cut_migration.specs.declared.fault.MigrateFault.TheVariants as migration
+use Rattle.cut_commands.specs.Faults.{IsRefusalOfNew, IsRefusalOfOld}
 use Rattle.cut_commands.specs.Run.{EndsCommand, GivesPlan}
 use Rattle.cut_commands.specs.Task.{Task}
 use Rattle.cut_commands.specs.declared.fault.CliFault.{CliFault}
@@ -74,7 +74,7 @@ module _ {O N : Type 0} (old_honest : O → Type 0) (old_state : O → DiskState
   abbrev pub RefusesOld : List O → N → N → Values → JournalFault → Option ℕ → Type 0
   RefusesOld olds new after v fault (Some place) = IsRefusedAt old_honest old_state olds v fault place × (after ≡ new)
   RefusesOld olds new after v fault None =
-      MayNotMake fault × ((slips : List Slip) × HasWritten (Err (Journal fault)) olds new after v slips)
+      IsRefusalOfNew fault × ((slips : List Slip) × HasWritten (Err (Journal fault)) olds new after v slips)
 
   -- which old disk is refused, if one is: none at another end
   abbrev pub NamesRefused : List O → N → N → WireLog → WireLog → Result ⊤ CliFault → Option ℕ → Type 0
@@ -94,7 +94,7 @@ module _ {O N : Type 0} (old_honest : O → Type 0) (old_state : O → DiskState
 -- why not all slips were joined
 abbrev pub StopsJoinOfFiles : Values → CliFault → Type 0
 StopsJoinOfFiles v Memory = ⊤
-StopsJoinOfFiles v (Journal fault) = IsOpeningFaultOf fault ⊎ MayNotMake fault
+StopsJoinOfFiles v (Journal fault) = IsRefusalOfOld fault ⊎ IsRefusalOfNew fault
 StopsJoinOfFiles v (BadSlip number) = (slips : List Slip) × IsFirstBad v slips number
 StopsJoinOfFiles v (Migrate migration.Disk) = (slips : List Slip) × AreGood v slips
 StopsJoinOfFiles v fault = ⊥
@@ -109,6 +109,6 @@ join_files_task = record { answers = WritesJoinOfFiles; fails = StopsJoinOfFiles
 -- which old file is refused, if one is: a fault of a journal is that of the old file at a place, from 1, among `count`
 -- ones, or of the new file, and no old one is refused at another end
 abbrev pub NamesRefusedFile : ℕ → Result ⊤ CliFault → Option ℕ → Type 0
-NamesRefusedFile count (Err (Journal fault)) (Some place) = (1 ≤ place) × (place ≤ count) × IsOpeningFaultOf fault
-NamesRefusedFile count (Err (Journal fault)) None = MayNotMake fault
+NamesRefusedFile count (Err (Journal fault)) (Some place) = (1 ≤ place) × (place ≤ count) × IsRefusalOfOld fault
+NamesRefusedFile count (Err (Journal fault)) None = IsRefusalOfNew fault
 NamesRefusedFile count result refused = refused ≡ None

@@ -5,11 +5,12 @@ use Rattle.cut_disks.specs.State.{DiskState}
 use Rattle.cut_ledger.specs.declared.slip.Slip.{Slip}
 use Rattle.cut_ledger.specs.Slips.{IsFirstBad}
 use Rattle.cut_journal.specs.declared.fault.JournalFault.{JournalFault}
-use Rattle.cut_journal.specs.Opening.{IsReopenFault, IsOpeningFaultOf}
+use Rattle.cut_journal.specs.Opening.{IsReopenFault}
 use Rattle.cut_journal.specs.Reading.{reading}
 use Rattle.cut_join.specs.declared.fault.JoinFault.{JoinFault}
 use Rattle.cut_join.specs.declared.fault.JoinFault.TheVariants as join
 use Rattle.cut_migration.specs.declared.fault.MigrateFault.TheVariants as migration
+use Rattle.cut_commands.specs.Faults.{IsRefusalOfOld}
 use Rattle.cut_commands.specs.declared.fault.CliFault.{CliFault}
 use Rattle.cut_commands.specs.declared.fault.CliFault.TheVariants.{Memory, Journal, BadSlip, Migrate}
 
@@ -26,7 +27,7 @@ module _ {O : Type 0} (honest : O → Type 0) (state : O → DiskState) where
 
   -- why a disk said none: it holds no study of the plan, or is damaged, or it failed
   pub record IsRefused (disk : O) (v : Values) (fault : JournalFault) : Type 0 where
-    pub may : IsOpeningFaultOf fault
+    pub may : IsRefusalOfOld fault
     pub says : honest disk → IsReopenFault v (state disk).bytes fault
 
   -- the first of several disks that said none: those before it did
@@ -82,7 +83,7 @@ module _ {O : Type 0} (honest : O → Type 0) (state : O → DiskState) where
 -- why the slips of some files are not joined, of which nothing is known
 abbrev pub StopsReadingFiles : Values → CliFault → Type 0
 StopsReadingFiles v Memory = ⊤
-StopsReadingFiles v (Journal fault) = IsOpeningFaultOf fault
+StopsReadingFiles v (Journal fault) = IsRefusalOfOld fault
 StopsReadingFiles v (BadSlip number) = (slips : List Slip) × IsFirstBad v slips number
 StopsReadingFiles v fault = ⊥
 
@@ -107,7 +108,7 @@ refused_at place fault = None
 -- why the slips of some files were not read
 abbrev pub MayNotRead : CliFault → Type 0
 MayNotRead Memory = ⊤
-MayNotRead (Journal fault) = IsOpeningFaultOf fault
+MayNotRead (Journal fault) = IsRefusalOfOld fault
 MayNotRead fault = ⊥
 
 -- the fault of a join as the program reports it

@@ -1,14 +1,15 @@
 -- What a join leaves on the disk of the new checkpoint.
-use Rattle.std.specs.Prelude.{◌≡◌, ◌⊎◌, ◌++◌, ℕ, List, Result, Ok, Err, ⊤}
+use Rattle.std.specs.Prelude.{◌≡◌, ◌⊎◌, ◌++◌, ℕ, true, List, Result, Ok, Err, ⊤}
 use Rattle.cut_faults.specs.Failures.{one_more}
 use Rattle.cut_plan.specs.Values.{Values}
 use Rattle.cut_disks.specs.State.{DiskState, IsImage, Throughout, synced}
 use Rattle.cut_ledger.specs.declared.slip.Slip.{Slip}
 use Rattle.cut_journal.specs.declared.fault.JournalFault.TheVariants.{Disk, NoStudy}
-use Rattle.cut_journal.specs.Opening.{IsNotMade, MayNotMake}
+use Rattle.cut_journal.specs.Opening.{IsNotClaimed, is_unclaimed}
 use Rattle.cut_journal.specs.Reading.{reading}
 use Rattle.cut_join.specs.Joined.{joined}
 use Rattle.cut_migration.specs.declared.fault.MigrateFault.TheVariants as migration
+use Rattle.cut_commands.specs.Faults.{IsRefusalOfNew}
 use Rattle.cut_commands.specs.declared.fault.CliFault.{CliFault}
 use Rattle.cut_commands.specs.declared.fault.CliFault.TheVariants.{Memory, Journal, Migrate}
 
@@ -22,10 +23,10 @@ pub record SaysAllOf (v : Values) (slips : List Slip) (d : DiskState) : Type 0 w
   pub bytes : reading v d.bytes ≡ Ok slips
   pub durable : (image : List ℕ) → IsImage d.stable image → reading v image ≡ Ok slips
 
--- where there was no study one was begun: the bytes, and whatever a crash leaves of them at each moment since the
+-- where the file was unclaimed a study was begun: the bytes, and whatever a crash leaves of them at each moment since the
 -- first sync, say none, or some first ones of the joined slips
 pub record IsBegun (v : Values) (slips : List Slip) (old new : DiskState) : Type 0 where
-  pub free : reading v old.bytes ≡ Err NoStudy
+  pub free : is_unclaimed old.bytes ≡ true
   pub bytes : SaysFirstOf v (joined v slips) new.bytes
   pub moments : Throughout (synced old) new (SaysFirstOf v (joined v slips))
 
@@ -38,7 +39,7 @@ pub record IsFilled (v : Values) (slips : List Slip) (old new : DiskState) : Typ
 -- was made, or some are there
 abbrev pub LeavesUnfilled : CliFault → Values → List Slip → DiskState → DiskState → Type 0
 LeavesUnfilled Memory v slips old new = (new ≡ old) ⊎ IsBegun v slips old new
-LeavesUnfilled (Journal fault) v slips old new = IsNotMade v fault old new
+LeavesUnfilled (Journal fault) v slips old new = IsNotClaimed v fault old new
 LeavesUnfilled (Migrate migration.Disk) v slips old new = IsBegun v slips old new
 LeavesUnfilled fault v slips old new = ⊥
 
@@ -50,7 +51,7 @@ LeavesDisk (Err fault) v slips old new = LeavesUnfilled fault v slips old new
 -- why not all were written: memory ran out, no journal was made, or its disk failed
 abbrev pub StopsWriting : CliFault → Type 0
 StopsWriting Memory = ⊤
-StopsWriting (Journal fault) = MayNotMake fault
+StopsWriting (Journal fault) = IsRefusalOfNew fault
 StopsWriting (Migrate migration.Disk) = ⊤
 StopsWriting fault = ⊥
 

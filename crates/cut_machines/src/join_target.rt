@@ -24,7 +24,7 @@ pub(crate) struct Written<N> {
     pub(crate) count: Result<u64, CliFault>,
 }
 
-/// Makes a journal of a plan on a disk that holds no study, and writes slips to it, joined.
+/// Makes a journal of a plan on an unclaimed disk, and writes slips to it, joined.
 pub(crate) fn write_joined<N: Disk + Drop>(
     alloc: Global,
     plan: &Plan,
@@ -39,7 +39,7 @@ pub(crate) fn write_joined<N: Disk + Drop>(
     ensures honest { N.is_honest disk ↔ N.is_honest result.disk }
     ensures faults { N.faults result.disk ≡ writing_faults result.count (N.faults disk) }
 {
-    match Journal::create(alloc, disk, plan) {
+    match Journal::claim(alloc, disk, plan) {
         Ok(journal) => fill(alloc, plan, slips, journal),
         Err((fault, disk)) => Written {
             disk,

@@ -6,8 +6,8 @@ ghost use Rattle.cut_machines.specs.Share.{disk_faults_after, fault_of_share};
 use crate::share_answer::share_line;
 use cut_commands::{CliFault, read_plan, write_answer};
 use cut_disks::{Disk, FileDisk};
-use cut_hooks::Hooks;
 use cut_journal::{Journal, JournalFault};
+use cut_outcome::Gate;
 use cut_plan::Plan;
 use cut_share::{Share, ShareFault, ShareRun};
 use cut_wires::Wire;
@@ -23,7 +23,7 @@ pub struct ShareWork<'a, G> {
     /// How many workers there are, 1 to 64.
     pub workers: u32,
     /// What they call at each stage of their work.
-    pub hooks: &'a G,
+    pub gate: &'a G,
     pub ghost few: { (1 ≤ workers) × (workers ≤ 64) },
 }
 
@@ -58,7 +58,7 @@ pub fn share_io<W, D, G, R>(
 where
     W: Wire,
     D: Disk,
-    G: Hooks + Sync,
+    G: Gate + Sync,
     R: Threads + Wait + Sync,
     ensures ends { EndsCommand (share_task D.is_honest D.state result.ended work.entry.share disk result.disk)
         (W.log wire.old) (W.log wire.new) result.ended }
@@ -101,7 +101,7 @@ fn keep_share<D, G, R>(
 ) -> (Result<u32, CliFault>, D)
 where
     D: Disk,
-    G: Hooks + Sync,
+    G: Gate + Sync,
     R: Threads + Wait + Sync,
     ensures ends { EndsKeeping D.is_honest D.state result.0 work.entry.share plan.now disk result.1 }
     ensures honest { D.is_honest disk ↔ D.is_honest result.1 }
@@ -116,7 +116,7 @@ where
         slips: slips.as_slice(),
         share: work.share,
         workers: work.workers,
-        hooks: work.hooks,
+        gate: work.gate,
     };
     let ended = run.run(rt, alloc, &mut journal);
     let disk = journal.into_disk();
@@ -153,7 +153,7 @@ pub fn share_file<W, G, R>(
 ) -> Result<(), CliFault>
 where
     W: Wire,
-    G: Hooks + Sync,
+    G: Gate + Sync,
     R: Threads + Wait + Sync,
     ensures { EndsWithFile (share_file_task result work.entry.share) (W.log wire.old) (W.log wire.new) result }
 {

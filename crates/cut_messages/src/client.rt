@@ -8,7 +8,7 @@ use crate::frame::send_message;
 use crate::replies::{AnswerState, take_piece};
 use crate::side::LONGEST_PAYLOAD;
 use crate::{AskFault, Kind, Reader};
-use cut_wires::{Line, Wire, WriteFault};
+use cut_wires::{Line, Sent, Wire};
 use std::alloc::Global;
 
 /// How many bytes a read brings at most.
@@ -60,7 +60,7 @@ pub fn ask<W: Wire, O: Wire>(
 }
 
 /// Sends a plan, and that no further request comes.
-fn send_request<W: Wire>(wire: &mut W, plan_text: &[u8]) -> Result<(), WriteFault>
+fn send_request<W: Wire>(wire: &mut W, plan_text: &[u8]) -> Result<(), Sent>
     requires { length plan_text.now ≤ LONGEST_PAYLOAD }
     ensures { Requests result plan_text.now (W.log wire.old) (W.log wire.new) }
 {
@@ -68,7 +68,7 @@ fn send_request<W: Wire>(wire: &mut W, plan_text: &[u8]) -> Result<(), WriteFaul
 }
 
 /// Sends the same over a line.
-fn send_both<W: Wire>(line: &mut Line<'_, W>, plan_text: &[u8]) -> Result<(), WriteFault>
+fn send_both<W: Wire>(line: &mut Line<'_, W>, plan_text: &[u8]) -> Result<(), Sent>
     requires { length plan_text.now ≤ LONGEST_PAYLOAD }
     ensures { Sends result (request plan_text.now) (sending W.log line.old) (sending W.log line.new) }
 {

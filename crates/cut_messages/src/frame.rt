@@ -7,17 +7,13 @@ ghost use Rattle.cut_messages.specs.Frames.{frame};
 
 use crate::Kind;
 use crate::prefix::HEAD;
-use cut_wires::{Framing, Line, Wire, WriteFault};
+use cut_wires::{Framing, Line, Sent, Wire};
 
 /// How many bytes a frame has at most that is sent by one write, where the wire takes it whole.
 const BUFFER: usize = 512;
 
 /// Sends a message over a line. Where it has at most 512 bytes, it is handed to the wire as a whole.
-pub fn send_message<W: Wire>(
-    line: &mut Line<'_, W>,
-    kind: Kind,
-    payload: &[u8],
-) -> Result<(), WriteFault>
+pub fn send_message<W: Wire>(line: &mut Line<'_, W>, kind: Kind, payload: &[u8]) -> Result<(), Sent>
     requires { length payload.now ≤ LONGEST_PAYLOAD }
     ensures { Sends result (frame kind payload.now) (sending W.log line.old) (sending W.log line.new) }
 {
@@ -30,7 +26,7 @@ pub fn send_message<W: Wire>(
 }
 
 /// Sends the same by a write for what comes before the payload, and others for that.
-fn send_parts<W: Wire>(line: &mut Line<'_, W>, kind: Kind, payload: &[u8]) -> Result<(), WriteFault>
+fn send_parts<W: Wire>(line: &mut Line<'_, W>, kind: Kind, payload: &[u8]) -> Result<(), Sent>
     requires { length payload.now ≤ LONGEST_PAYLOAD }
     ensures { Sends result (frame kind payload.now) (sending W.log line.old) (sending W.log line.new) }
 {
@@ -70,7 +66,7 @@ impl Framing for RowMessages {
 
     ghost framed = { λ text. frame Row text };
 
-    fn send<W: Wire>(line: &mut Line<'_, W>, text: &[u8]) -> Result<(), WriteFault> {
+    fn send<W: Wire>(line: &mut Line<'_, W>, text: &[u8]) -> Result<(), Sent> {
         send_message(line, Kind::Row, text)
     }
 

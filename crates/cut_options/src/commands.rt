@@ -36,10 +36,10 @@ const MIGRATE_EXAMPLE: &str =
     "Example: cutlab migrate study.cut study2.cut < plan.json\nSee docs/GUIDE.md.";
 
 const SHARE_EXAMPLE: &str =
-    "Example: cutlab share 2/8 --workers 4 share2.cut < plan.json\nSee docs/GUIDE.md.";
+    "Example: cutlab share 2/8 --workers 4 share2.cut < plan.json\nAll shares of a study take one and the same --piece.\nSee docs/GUIDE.md.";
 
 const JOIN_EXAMPLE: &str =
-    "Example: cutlab join study.cut share1.cut share2.cut < plan.json\nSee docs/GUIDE.md.";
+    "Example: cutlab join study.cut share1.cut share2.cut < plan.json\nAll shares of a study take one and the same --piece.\nSee docs/GUIDE.md.";
 
 /// What the help says of the flag `--progress`.
 const PROGRESS_HELP: &str =
@@ -48,10 +48,14 @@ const PROGRESS_HELP: &str =
 /// What the help says of the word `SOCKET`.
 const SOCKET_HELP: &str = "The path of the server's socket";
 
-/// A command: its name, what its help says before its arguments and after them, and these arguments.
+/// How `share` is used.
+pub const SHARE_USAGE: &str = "cutlab share [OPTIONS] <I/N> <FILE> < PLAN";
+
+/// A command: its name, how it is used, what its help says before its arguments and after them, and these arguments.
 #[derive(Clone, Copy)]
 struct Described<'a> {
     name: &'a str,
+    usage: &'a str,
     about: &'a str,
     example: &'a str,
     args: &'a [Argument<'a>],
@@ -60,6 +64,7 @@ struct Described<'a> {
 /// The command `run`.
 const RUN: Described<'static> = Described {
     name: "run",
+    usage: "cutlab run [OPTIONS] < PLAN",
     about: "Read a plan and print its table",
     example: RUN_EXAMPLE,
     args: &[
@@ -68,7 +73,7 @@ const RUN: Described<'static> = Described {
         Argument::Value {
             name: "checkpoint",
             value_name: "FILE",
-            help: "Keep the study in this file, and go on from what it holds; overwrites a file that holds no study",
+            help: "Keep the study in this file, and go on from what it holds",
         },
         Argument::Flag {
             name: "progress",
@@ -80,6 +85,7 @@ const RUN: Described<'static> = Described {
 /// The command `check`.
 const CHECK: Described<'static> = Described {
     name: "check",
+    usage: "cutlab check < PLAN",
     about: "Read a plan and print its cells, its trials and the quorum",
     example: CHECK_EXAMPLE,
     args: &[],
@@ -88,6 +94,7 @@ const CHECK: Described<'static> = Described {
 /// The command `explain`.
 const EXPLAIN: Described<'static> = Described {
     name: "explain",
+    usage: "cutlab explain < PLAN",
     about: "Read a plan and say in words what is right or wrong with it",
     example: EXPLAIN_EXAMPLE,
     args: &[],
@@ -96,6 +103,7 @@ const EXPLAIN: Described<'static> = Described {
 /// The command `canonical`.
 const CANONICAL: Described<'static> = Described {
     name: "canonical",
+    usage: "cutlab canonical < PLAN",
     about: "Read a plan and print its canonical text",
     example: CANONICAL_EXAMPLE,
     args: &[],
@@ -104,6 +112,7 @@ const CANONICAL: Described<'static> = Described {
 /// The command `status`.
 const STATUS: Described<'static> = Described {
     name: "status",
+    usage: "cutlab status <FILE>",
     about: "Print what a checkpoint holds, also while a study writes it",
     example: STATUS_EXAMPLE,
     args: &[Argument::Word {
@@ -116,6 +125,7 @@ const STATUS: Described<'static> = Described {
 /// The command `serve`.
 const SERVE: Described<'static> = Described {
     name: "serve",
+    usage: "cutlab serve [OPTIONS] --workers <COUNT> --sessions <COUNT> --studies <COUNT> <SOCKET>",
     about: "Serve clients at a socket, and print how many trials were accepted",
     example: SERVE_EXAMPLE,
     args: &[
@@ -147,6 +157,7 @@ const SERVE: Described<'static> = Described {
 /// The command `ask`.
 const ASK: Described<'static> = Described {
     name: "ask",
+    usage: "cutlab ask <SOCKET> < PLAN",
     about: "Read a plan, ask a server for its table and print it",
     example: ASK_EXAMPLE,
     args: &[Argument::Word {
@@ -159,6 +170,7 @@ const ASK: Described<'static> = Described {
 /// The command `migrate`.
 const MIGRATE: Described<'static> = Described {
     name: "migrate",
+    usage: "cutlab migrate <OLD> <NEW> < PLAN",
     about: "Move a checkpoint of version 1 to a new one of version 2",
     example: MIGRATE_EXAMPLE,
     args: &[
@@ -178,6 +190,7 @@ const MIGRATE: Described<'static> = Described {
 /// The command `share`.
 const SHARE: Described<'static> = Described {
     name: "share",
+    usage: SHARE_USAGE,
     about: "Run a share of a plan's study, and print how many trials it has",
     example: SHARE_EXAMPLE,
     args: &[
@@ -203,6 +216,7 @@ const SHARE: Described<'static> = Described {
 /// The command `join`.
 const JOIN: Described<'static> = Described {
     name: "join",
+    usage: "cutlab join [OPTIONS] <NEW> <OLD>... < PLAN",
     about: "Join the checkpoints of a plan's study in a new one, and print how many slips it has",
     example: JOIN_EXAMPLE,
     args: &[
@@ -273,6 +287,7 @@ fn add<'a>(
     ensures { IfOk result (λ r. app_of r ≡ with_command (app_of program.entry) described.now) }
 {
     let mut command = Command::new(alloc, described.name)
+        .override_usage(described.usage)
         .about(described.about)
         .after_help(described.example);
     for arg in described.args {

@@ -6,12 +6,14 @@
 #![tactic(auto)]
 
 mod fast_round;
+mod gate;
 pub mod laws;
 mod piece;
 mod totals;
 mod verdict;
 
 pub use fast_round::quorum;
+pub use gate::{Gate, OpenGate};
 pub use piece::{Piece, PieceResult, is_piece};
 pub use totals::Totals;
 pub use verdict::Verdict;

@@ -1,10 +1,12 @@
 //! What no contract of the lower crates says: sets, lists and faults read one by one, blocks beside keys, lanes beside
-//! sorted times, boards by hand and under many threads, and wires that move few bytes or fail.
+//! sorted times, boards by hand and under many threads, wires that move few bytes or fail, and an answer that ends early.
 //!
 //! The tests stand in a crate of their own, as they use these crates as their callers do, and the proofs of the crates
 //! need not be made again for them.
 #![tactic(auto)]
 
+#[cfg(test)]
+mod asking;
 #[cfg(test)]
 mod bits;
 #[cfg(test)]

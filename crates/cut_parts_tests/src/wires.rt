@@ -1,7 +1,7 @@
 ghost use Rattle.std.specs.Prelude.{[], ◌∷◌};
 
 use cut_wires::{
-    FaultyWire, Line, MemoryWire, Plain, Rows, RowsFault, StreamWire, Wire, WriteFault, send_all,
+    FaultyWire, Line, MemoryWire, Plain, Rows, RowsFault, Sent, StreamWire, Wire, send_all,
     send_rows,
 };
 use std::alloc::Global;
@@ -50,7 +50,7 @@ fn has_taken(wire: &FaultyWire, bytes: &[u8], failures: u64) -> bool {
 fn a_write_fails_once(rt: HostRuntime) {
     let mut wire = FaultyWire::new(rt.alloc(), Vec::new(rt.alloc()), 3, 6, 0);
     let first = send_all(&mut wire, b"0123456789");
-    assert!(rt; first == Err(WriteFault { sent: 6 }) && has_taken(&wire, b"012345", 1));
+    assert!(rt; first == Err(Sent { sent: 6 }) && has_taken(&wire, b"012345", 1));
     let second = send_all(&mut &mut wire, b"ab");
     assert!(rt; second == Ok(()) && has_taken(&wire, b"012345ab", 1));
 }
@@ -88,19 +88,14 @@ fn a_wire_of_streams_moves_bytes(rt: HostRuntime) {
 }
 
 /// Whether a line sends these bytes, or fails after some where a fault is to come, and has sent this many then.
-fn sends<W: Wire>(
-    line: &mut Line<'_, W>,
-    bytes: &[u8],
-    end: Result<(), WriteFault>,
-    sent: u64,
-) -> bool {
+fn sends<W: Wire>(line: &mut Line<'_, W>, bytes: &[u8], end: Result<(), Sent>, sent: u64) -> bool {
     line.send(bytes) == end && line.sent() == sent
 }
 
 /// Whether a line over a wire counts three bytes, and two more before a write fails.
 fn counts(wire: &mut FaultyWire) -> bool {
     let mut line = Line::new(wire);
-    sends(&mut line, b"abc", Ok(()), 3) && sends(&mut line, b"def", Err(WriteFault { sent: 5 }), 5)
+    sends(&mut line, b"abc", Ok(()), 3) && sends(&mut line, b"def", Err(Sent { sent: 5 }), 5)
 }
 
 #[test]
@@ -176,7 +171,7 @@ fn is_sent(
 
 #[test]
 fn a_table_is_sent_row_by_row(rt: HostRuntime) {
-    let refused = RowsFault::Write(WriteFault { sent: 2 });
+    let refused = RowsFault::Write(Sent { sent: 2 });
     assert!(rt; is_sent(rt.alloc(), true, 9, b"hrr", Ok(())));
     assert!(rt; is_sent(rt.alloc(), true, 2, b"hr", Err(refused)));
     assert!(rt; is_sent(rt.alloc(), false, 9, b"hr", Err(RowsFault::Row(()))));

@@ -3,7 +3,7 @@ ghost use Rattle.cut_progress.specs.Lines.{line_text};
 ghost use Rattle.cut_progress.specs.Printed.{HasPrinted};
 
 use crate::{Progress, ProgressLine};
-use cut_wires::{Wire, WriteFault, send_all};
+use cut_wires::{Sent, Wire, send_all};
 use std::sync::Wait;
 use std::thread::{Threads, join_mut};
 use std::time::{Clock, Instant};
@@ -44,14 +44,14 @@ where
     R: Wait + Clock,
     ensures { HasPrinted (E.log wire.old) (E.log wire.new) }
 {
-    if !progress.wait_for_begin(rt) {
+    let Some(mut counts) = progress.wait_for_begin(rt) else {
         return;
-    }
+    };
     let Ok(begun) = Instant::now(rt) else {
         return;
     };
     'lines: for _ in rt.forever() {
-        let counts = progress.wait_a_second(rt);
+        counts = counts.then(progress.wait_a_second(rt));
         let Ok(time) = begun.elapsed(rt) else {
             return;
         };
@@ -66,7 +66,7 @@ where
 }
 
 /// Prints a line.
-fn print_line<E: Wire>(line: &ProgressLine, wire: &mut E) -> Result<(), WriteFault>
+fn print_line<E: Wire>(line: &ProgressLine, wire: &mut E) -> Result<(), Sent>
     ensures { SendsAll result (line_text line.now) (E.log wire.old) (E.log wire.new) }
 {
     let text = line.text();

@@ -2,8 +2,7 @@
 
 use crate::report::print_lines;
 use crate::{Progress, ProgressLine, report_while};
-use cut_hooks::Hooks;
-use cut_outcome::Piece;
+use cut_outcome::{Gate, Piece};
 use cut_wires::{FaultyWire, MemoryWire};
 use std::alloc::Global;
 use std::io;

@@ -1,5 +1,5 @@
 //! A server of studies: workers and sessions in threads of one hall.
-ghost use Rattle.std.specs.Prelude.{◌≡◌, ◌≤◌, ◌+◌, length, All, IfOk, IfErr};
+ghost use Rattle.std.specs.Prelude.{◌≡◌, ◌≤◌, ◌+◌, None, length, All, IfOk, IfErr};
 ghost use Rattle.cut_server.specs.Serve.{Listens, WritesReport, accepted_in_all};
 ghost use Rattle.cut_server.specs.Serve.{IsOfServing};
 ghost use Rattle.cut_server.specs.inside.Serve.{IsOfClosing, IsOfWriting};
@@ -74,7 +74,7 @@ where
     requires made { (blanks.made.name ≡ M.name) × (blanks.made.parts ≡ M.parts)
         × (M.all ≡ M.parts) × (M.all ≡ capacity.workers + capacity.sessions) }
     requires kept { (blanks.kept.name ≡ K.name) × (blanks.kept.parts ≡ K.parts)
-        × (K.all ≡ K.parts) × (K.all ≡ capacity.studies) }
+        × (K.all ≡ K.parts) × (K.all ≡ capacity.studies) × (K.opening ≡ None) }
     requires trusted { K.trusts ≡ S.is_true shelf.now }
     ensures slots { IfOk result.1 (λ report. length report ≡ capacity.studies) }
     ensures why { IfErr result.1 IsOfServing }

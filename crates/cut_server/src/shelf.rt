@@ -24,6 +24,8 @@ pub struct FolderShelf<'a> {
 impl Shelf<FileDisk> for FolderShelf<'_> {
     ghost is_true = { λ s. not (is_some s.folder) };
 
+    ghost gives = { λ s _ given. IfOk given (λ disk. is_some disk ≡ is_some s.folder) };
+
     fn open(&self, alloc: Global, plan: &Plan) -> Result<Option<FileDisk>, ShelfFault>
         ensures trusted { not (is_some self.now.folder) ≡ true →
             IfOk result (λ disk. IsTrueStore (λ _. ⊥) (λ _. fresh []) plan.now disk) }

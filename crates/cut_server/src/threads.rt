@@ -7,7 +7,7 @@ ghost use Rattle.cut_server.specs.inside.Serve.{IsOfThreads};
 use cut_book::Shelf;
 use cut_commands::CliFault;
 use cut_disks::Disk;
-use cut_hall::{CallLedger, Hall, NoHooks, Pass};
+use cut_hall::{CallLedger, Hall, OpenGate, Pass};
 use cut_session::session;
 use cut_wires::Wire;
 use std::alloc::Global;
@@ -87,7 +87,7 @@ impl<D: Disk + Drop, M: CallLedger, K: CallLedger> ServerHall<D, M> for Hall<D, 
     ghost is_trusted = { λ h. h.is_trusted };
 
     fn work_with<R: Wait>(&self, rt: &R, alloc: Global, pass: &mut Pass<M>) {
-        self.work(rt, alloc, pass, &NoHooks);
+        self.work(rt, alloc, pass, &OpenGate);
     }
 
     fn serve_with<S, W, R>(

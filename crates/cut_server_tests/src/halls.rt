@@ -3,7 +3,7 @@ ghost use Rattle.std.specs.Prelude.{true, ◌≡◌, ◌<◌, ◌≤◌};
 
 use cut_book::Shelf;
 use cut_disks::FaultyDisk;
-use cut_hall::{Blanks, CallLedger, Hall, Hooks, Pass};
+use cut_hall::{Blanks, CallLedger, Gate, Hall, Pass};
 use cut_outcome::Piece;
 use cut_plan::Plan;
 use cut_session::{SessionEnd, session};
@@ -40,7 +40,7 @@ struct Scene<'a, S> {
     shelf: &'a S,
 }
 
-/// Hooks that end the work in its hall once the last worker has passed.
+/// Gate that end the work in its hall once the last worker has passed.
 #[derive(Drop)]
 struct LastHooks<'h, M: CallLedger, K: CallLedger> {
     hall: &'h Stormy<M, K>,
@@ -48,8 +48,8 @@ struct LastHooks<'h, M: CallLedger, K: CallLedger> {
     last: u64,
 }
 
-impl<M: CallLedger, K: CallLedger> Hooks for LastHooks<'_, M, K> {
-    fn drawn<R: Wait>(&self, rt: &R, _piece: Piece) {
+impl<M: CallLedger, K: CallLedger> Gate for LastHooks<'_, M, K> {
+    fn pass<R: Wait>(&self, rt: &R, _piece: Piece) {
         if self.passed.fetch_add(1, Ordering::SeqCst) >= self.last {
             self.hall.stop(rt);
         }
@@ -74,12 +74,12 @@ where
 {
     submit(rt, alloc, hall, pass, scene.shelf, scene.before);
     if scene.house.pieces > 0 {
-        let hooks = LastHooks {
+        let gate = LastHooks {
             hall,
             passed: AtomicU64::new(0),
             last: scene.house.pieces - 1,
         };
-        hall.work(rt, alloc, pass, &hooks);
+        hall.work(rt, alloc, pass, &gate);
     }
 }
 
@@ -125,7 +125,7 @@ where
     requires trusted { S.is_true scene.now.shelf.now ≡ true }
     requires made { (made.name ≡ M.name) × (made.parts ≡ M.parts) × (M.all ≡ M.parts) × (M.all ≡ 2) }
     requires kept { (kept.name ≡ K.name) × (kept.parts ≡ K.parts)
-        × (K.all ≡ K.parts) × (K.all ≡ scene.now.house.slots) }
+        × (K.all ≡ K.parts) × (K.all ≡ scene.now.house.slots) × (K.opening ≡ None) }
 {
     let House { slots, size, .. } = scene.house;
     let started = Hall::start(alloc, slots, 2, size, Blanks { made, kept });

@@ -11,6 +11,8 @@ mod asking;
 #[cfg(test)]
 mod halls;
 #[cfg(test)]
+mod names;
+#[cfg(test)]
 mod readings;
 #[cfg(test)]
 mod refused_memory;
@@ -20,6 +22,8 @@ mod servers;
 mod serving;
 #[cfg(test)]
 mod shelves;
+#[cfg(test)]
+mod sockets;
 #[cfg(test)]
 mod two_sessions;
 #[cfg(test)]

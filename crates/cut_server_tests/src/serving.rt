@@ -4,7 +4,7 @@ use crate::asking::{COUNT, FIRST, PLAN, SECOND, joined};
 use crate::halls::{House, serve};
 use cut_book::NoShelf;
 use cut_session::{SessionEnd, SessionFault};
-use cut_wires::{FaultyWire, Wire, WriteFault};
+use cut_wires::{FaultyWire, Sent, Wire};
 use std::alloc::Global;
 use std::sync::Wait;
 use std::test::Fail;
@@ -108,7 +108,7 @@ fn in_room(room: usize) -> Row {
     Row {
         room,
         before: room,
-        end: SessionEnd::Write(WriteFault { sent: room as u64 }),
+        end: SessionEnd::Write(Sent { sent: room as u64 }),
         ..WHOLE
     }
 }
@@ -134,7 +134,7 @@ fn is_unread<R: Wait>(rt: &R, alloc: Global, room: usize) -> Result<bool, Fail> 
     let mut wire = FaultyWire::new(alloc, joined(alloc, &[ASK])?, 1, room, 9);
     let house = House { pieces: 0, ..HOUSE };
     let end = serve(rt, alloc, house, b"", &NoShelf, &mut wire)?;
-    let failed = SessionEnd::Write(WriteFault { sent: room as u64 });
+    let failed = SessionEnd::Write(Sent { sent: room as u64 });
     Ok(end == failed && Some(wire.taken()) == UNREAD.get(..room) && wire.failures() == 2)
 }
 

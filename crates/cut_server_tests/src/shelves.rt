@@ -103,15 +103,15 @@ impl Shelf<FaultyDisk> for FaultyShelf {
 /// the whole answer come, and what says why no more do, with the count of trials.
 type Row = (u64, u64, usize, &'static [u8]);
 
-/// Ten calls open the disk, and each append makes four.
+/// Eleven calls open the disk, and each append makes four.
 const BROKEN_OFF: &[Row] = &[
     (2, 0, 160, b"S\0\0\0\x08\0\0\0\0\0\0\0\x06"),
     (1, 0, 116, b"E\0\0\0\x02\0\x22S\0\0\0\x08\0\0\0\0\0\0\0\x03"),
-    (1, 11, 77, b"E\0\0\0\x02\0\x1eS\0\0\0\x08\0\0\0\0\0\0\0\0"),
-    (1, 14, 77, b"E\0\0\0\x02\0\x1eS\0\0\0\x08\0\0\0\0\0\0\0\0"),
+    (1, 12, 77, b"E\0\0\0\x02\0\x1eS\0\0\0\x08\0\0\0\0\0\0\0\0"),
+    (1, 15, 77, b"E\0\0\0\x02\0\x1eS\0\0\0\x08\0\0\0\0\0\0\0\0"),
     (
         2,
-        15,
+        16,
         116,
         b"E\0\0\0\x02\0\x1eS\0\0\0\x08\0\0\0\0\0\0\0\x03",
     ),

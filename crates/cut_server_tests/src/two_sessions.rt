@@ -5,7 +5,7 @@ use crate::asking::{FIRST, PLAN, SECOND, joined};
 use crate::serving::{OTHER, SUBMIT};
 use crate::worker::{Served, serve_two};
 use cut_session::SessionEnd;
-use cut_wires::{FaultyWire, WriteFault};
+use cut_wires::{FaultyWire, Sent};
 use std::alloc::Global;
 use std::sync::Wait;
 use std::test::Fail;
@@ -31,7 +31,7 @@ where
 /// first bytes of the replies.
 fn is_right(served: &Served, number: u64, replies: &[u8], room: usize) -> bool {
     let end = if room < replies.len() {
-        SessionEnd::Write(WriteFault { sent: room as u64 })
+        SessionEnd::Write(Sent { sent: room as u64 })
     } else {
         SessionEnd::EndOfInput
     };

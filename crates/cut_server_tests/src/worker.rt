@@ -7,7 +7,7 @@ use crate::asking::PLAN;
 use crate::serving::SUBMIT;
 use cut_book::NoShelf;
 use cut_disks::MemoryDisk;
-use cut_hall::{Blanks, CallLedger, Hall, NoHooks, Pass, Report};
+use cut_hall::{Blanks, CallLedger, Hall, OpenGate, Pass, Report};
 use cut_session::{SessionEnd, session};
 use cut_wires::FaultyWire;
 use std::alloc::Global;
@@ -66,7 +66,7 @@ impl<M: CallLedger, K: CallLedger> SessionHall<M> for OpenHall<M, K> {
 
     fn take_part<R: Wait>(&self, rt: &R, alloc: Global, shared: &Shared, pass: &mut Pass<M>) {
         if shared.begun.fetch_add(1, Ordering::SeqCst) == 0 {
-            return self.work(rt, alloc, pass, &NoHooks);
+            return self.work(rt, alloc, pass, &OpenGate);
         }
         serve_next(rt, alloc, self, shared, pass);
         if shared.served.lock(rt).len() == 2 {
@@ -139,7 +139,8 @@ where
     K: CallLedger + Send + Sync,
     R: Threads + Wait + Sync,
     requires made { (made.name ≡ M.name) × (made.parts ≡ M.parts) × (M.all ≡ M.parts) × (M.all ≡ 3) }
-    requires kept { (kept.name ≡ K.name) × (kept.parts ≡ K.parts) × (K.all ≡ K.parts) × (K.all ≡ 2) }
+    requires kept { (kept.name ≡ K.name) × (kept.parts ≡ K.parts) × (K.all ≡ K.parts) × (K.all ≡ 2)
+        × (K.opening ≡ None) }
 {
     let started = Hall::start(alloc, 2, 3, 1, Blanks { made, kept });
     let (hall, mut passes): (OpenHall<M, K>, Vec<Pass<M>>) = started?;

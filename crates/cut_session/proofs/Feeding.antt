@@ -6,7 +6,7 @@ use Rattle.std.proofs.lemmas.List.{length-drop, drop_all}
 use Rattle.std.proofs.Math.Seq.{take-append-add}
 use Rattle.cut_board.specs.declared.view.View.{View}
 use Rattle.cut_wires.specs.Log.{WireLog, write_failed}
-use Rattle.cut_wires.specs.declared.send.WriteFault.{WriteFault}
+use Rattle.cut_wires.specs.declared.send.Sent.{Sent}
 use Rattle.cut_wires.specs.Sending.{Sending, Sends, sent_on}
 use Rattle.cut_messages.specs.declared.side.Side.TheVariants.{Requests}
 use Rattle.cut_messages.specs.declared.message.Message.{Message}
@@ -90,7 +90,7 @@ module _ {hall : HallValue} {low middle : View} {r next : Reading} {requests : �
         ((fed_course, is_fed_course, ends), ap (λ (t : Sending). t.wire) line)
 
     -- a write of the last reply fails
-    fed_cut : (fault : WriteFault) (new : Sending) → (l : LastReply hall middle high f.answered f.out)
+    fed_cut : (fault : Sent) (new : Sending) → (l : LastReply hall middle high f.answered f.out)
         → Sends (Err fault) l.reply (sent_on now l.first) new → ConcludesTable hall low high (end.Write fault) first new
     fed_cut fault new l (total, (k, low_k, is)) =
         let before : List ℕ = s.out ++ l.first in

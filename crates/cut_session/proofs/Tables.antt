@@ -10,15 +10,15 @@ use Rattle.cut_plan.specs.Values.{Values}
 use Rattle.cut_ledger.specs.declared.slip.Slip.{Slip}
 use Rattle.cut_wires.specs.declared.rows.RowsFault.{RowsFault}
 use Rattle.cut_wires.specs.declared.rows.RowsFault.TheVariants.{Row, Write}
-use Rattle.cut_wires.specs.declared.send.WriteFault.{WriteFault}
+use Rattle.cut_wires.specs.declared.send.Sent.{Sent}
 use Rattle.cut_wires.specs.Rows.{SendsRows}
 use Rattle.cut_wires.specs.Sending.{Sending, Sends}
 use Rattle.cut_wires.proofs.Sendings.{cut_before, sends_after}
 use Rattle.cut_faults.specs.declared.code.FaultCode.{FaultCode}
 use Rattle.cut_book.specs.declared.submit_fault.SubmitFault.{SubmitFault}
 use Rattle.cut_book.specs.Faults.{code_of_submit}
-use Rattle.cut_hall.specs.declared.line_fault.LineFault.{LineFault}
-use Rattle.cut_hall.specs.declared.line_fault.LineFault.TheVariants.{Stopped}
+use Rattle.cut_hall.specs.declared.next_row_fault.NextRowFault.{NextRowFault}
+use Rattle.cut_hall.specs.declared.next_row_fault.NextRowFault.TheVariants.{Stopped}
 use Rattle.cut_hall.specs.Faults.{code_of_line}
 use Rattle.cut_hall.specs.Pass.{Holding}
 use Rattle.cut_hall.specs.Trust.{MayBegin}
@@ -29,7 +29,7 @@ use Rattle.cut_session.specs.inside.Rows.{IsKept, lines_of, EndsTable}
 use Rattle.cut_session.specs.inside.Serving.{Replies, longest_reply}
 
 -- what was sent of the frames of a study's lines, by a pass as it was at first and is now
-abbrev pub SendsFrames : Values → List Slip → GName → Holding → GName → Holding → Result ⊤ (RowsFault LineFault)
+abbrev pub SendsFrames : Values → List Slip → GName → Holding → GName → Holding → Result ⊤ (RowsFault NextRowFault)
     → Sending → Sending → Type 0
 SendsFrames plan base name pass new_name new_pass result old new =
     SendsRows (λ text. frame kind.Row text) (lines_of plan base) (λ n. IsKept name pass new_name new_pass)
@@ -38,7 +38,7 @@ SendsFrames plan base name pass new_name new_pass result old new =
 module _ (trusts : Bool) (plan : Values) (base : List Slip) (name : GName) (pass : Holding) (new_name : GName)
     (new_pass : Holding) (old mid : Sending) where
   -- the pass has seen no more
-  pub kept : (result : Result ⊤ (RowsFault LineFault))
+  pub kept : (result : Result ⊤ (RowsFault NextRowFault))
       → SendsFrames plan base name pass new_name new_pass result old mid → IsKept name pass new_name new_pass
   kept (Ok done) s = s.ends.1
   kept (Err (Write fault)) s = s.ends.0
@@ -53,7 +53,7 @@ module _ (trusts : Bool) (plan : Values) (base : List Slip) (name : GName) (pass
 
     -- all lines were sent, and then the end; or a fault after the first of them; or a write failed in the frames of
     -- the first of them
-    pub table_sent : (x : Result ⊤ (RowsFault LineFault)) (result : Result ⊤ WriteFault) (new : Sending)
+    pub table_sent : (x : Result ⊤ (RowsFault NextRowFault)) (result : Result ⊤ Sent) (new : Sending)
         → SendsFrames plan base name pass new_name new_pass x old mid → EndsTable x result mid new
         → Replies (IsSubmissionAnswered trusts plan) longest_reply result old new
     unfolding rows_to
@@ -93,7 +93,7 @@ module _ (trusts : Bool) (plan : Values) (base : List Slip) (name : GName) (pass
 
 -- ---- the reply to a text
 
-pub plan_answered : (trusts : Bool) (text : List ℕ) (plan taken : Values) (result : Result ⊤ WriteFault)
+pub plan_answered : (trusts : Bool) (text : List ℕ) (plan taken : Values) (result : Result ⊤ Sent)
     (old new : Sending) → plan_of text ≡ Ok plan → taken ≡ plan
     → Replies (IsSubmissionAnswered trusts taken) longest_reply result old new
     → Replies (AnswersText trusts text) longest_reply result old new
@@ -102,7 +102,7 @@ plan_answered trusts text plan taken result old new is same (out, answers, short
 
 -- or why the hall took no study of the plan
 pub plan_refused : (trusts : Bool) (text : List ℕ) (plan : Values) (fault : SubmitFault) (code : FaultCode)
-    (result : Result ⊤ WriteFault) (old new : Sending) → plan_of text ≡ Ok plan → code ≡ code_of_submit fault
+    (result : Result ⊤ Sent) (old new : Sending) → plan_of text ≡ Ok plan → code ≡ code_of_submit fault
     → Sends result (error_frame code) old new → Replies (AnswersText trusts text) longest_reply result old new
 plan_refused trusts text plan fault code result old new is same sends =
     grind arith

@@ -4,7 +4,7 @@ use Rattle.std.proofs.Common.{get_or, Ok, Err, inl, inr, refl, sym, subst, arith
 use Rattle.std.proofs.Common.{take-append-drop, length-append}
 use Rattle.std.specs.Prelude.{◌⊎◌}
 use Rattle.cut_board.specs.declared.view.View.{View}
-use Rattle.cut_wires.specs.declared.send.WriteFault.{WriteFault}
+use Rattle.cut_wires.specs.declared.send.Sent.{Sent}
 use Rattle.cut_wires.specs.Sending.{Sending, Sends, sent_on}
 use Rattle.cut_wires.proofs.Logs.{wrote_none}
 use Rattle.cut_wires.proofs.Sendings.{sent_more}
@@ -109,7 +109,7 @@ module _ (hall : HallValue) (low middle high : View) (ms : List Message) (i : �
     same ∙ first.3,
   )
 
-  pub is_cut : (fault : WriteFault) → Serves hall middle high m (Err fault) now new
+  pub is_cut : (fault : Sent) → Serves hall middle high m (Err fault) now new
       → ServesAll hall low high ms (Err (end.Write fault)) old new
   is_cut fault (out, answers, short, cut) = (
     record {

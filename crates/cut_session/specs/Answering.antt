@@ -16,7 +16,7 @@ use Rattle.cut_board.specs.Views.{seen_in}
 use Rattle.cut_lines.specs.Lines.{header}
 use Rattle.cut_ledger.specs.declared.slip.Slip.{Slip}
 use Rattle.cut_book.specs.declared.submit_fault.SubmitFault.{SubmitFault}
-use Rattle.cut_hall.specs.declared.line_fault.LineFault.{LineFault}
+use Rattle.cut_hall.specs.declared.next_row_fault.NextRowFault.{NextRowFault}
 use Rattle.cut_book.specs.Faults.{code_of_submit}
 use Rattle.cut_hall.specs.Faults.{code_of_line}
 use Rattle.cut_hall.specs.Hall.{HallValue}
@@ -58,7 +58,7 @@ IsTable is_trusted plan out =
 -- the lines before one that didn't come, and why it didn't
 abbrev pub IsBrokenOff : Bool → Values → List ℕ → Type 0
 IsBrokenOff is_trusted plan out =
-    (base : List Slip) × MayBegin is_trusted plan base × (n : ℕ) × (fault : LineFault) × (n < length (cells_of plan))
+    (base : List Slip) × MayBegin is_trusted plan base × (n : ℕ) × (fault : NextRowFault) × (n < length (cells_of plan))
     × (out ≡ rows_to plan base n ++ error_frame (code_of_line fault))
 
 -- why the hall took no study of the plan

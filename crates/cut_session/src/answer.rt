@@ -14,7 +14,7 @@ use cut_faults::FaultCode;
 use cut_hall::{CallLedger, Hall, Pass};
 use cut_messages::{Kind, Message, send_message};
 use cut_plan::{Plan, PlanFault};
-use cut_wires::{Line, Wire, WriteFault};
+use cut_wires::{Line, Sent, Wire};
 use std::alloc::Global;
 use std::sync::Wait;
 
@@ -73,7 +73,7 @@ where
         &mut self,
         line: &mut Line<'_, W>,
         message: &Message,
-    ) -> Result<Continuation, WriteFault>
+    ) -> Result<Continuation, Sent>
         ensures serves { Serves self.old.hall.now self.old.pass.now.view self.new.pass.now.view message.now
             result (sending W.log line.old) (sending W.log line.new) }
         ensures stays { (self.new.hall.now ≡ self.old.hall.now)
@@ -95,11 +95,7 @@ where
     }
 
     /// Answers the question how many trials of a study are counted.
-    fn answer_count<W: Wire>(
-        &mut self,
-        line: &mut Line<'_, W>,
-        payload: &[u8],
-    ) -> Result<(), WriteFault>
+    fn answer_count<W: Wire>(&mut self, line: &mut Line<'_, W>, payload: &[u8]) -> Result<(), Sent>
         ensures replies { Replies (AnswersCount self.old.hall.now self.old.pass.now.view self.new.pass.now.view
             (from_be_bytes w32 payload.now)) longest_reply result (sending W.log line.old) (sending W.log line.new) }
         ensures rises { Rises self.old.pass.now.view self.new.pass.now.view }
@@ -114,11 +110,7 @@ where
     }
 
     /// Answers the text of a plan: by the table of its study as it is done, or by a fault.
-    fn answer_submit<W: Wire>(
-        &mut self,
-        line: &mut Line<'_, W>,
-        text: &[u8],
-    ) -> Result<(), WriteFault>
+    fn answer_submit<W: Wire>(&mut self, line: &mut Line<'_, W>, text: &[u8]) -> Result<(), Sent>
         ensures replies { Replies (AnswersText self.old.hall.now.is_trusted text.now) longest_reply result
             (sending W.log line.old) (sending W.log line.new) }
         ensures view { self.new.pass.now.view ≡ self.old.pass.now.view }

@@ -11,11 +11,11 @@ ghost use Rattle.cut_session.specs.inside.Serving.{Replies, longest_reply};
 use crate::fault_reply::send_fault;
 use cut_book::Opened;
 use cut_disks::Disk;
-use cut_hall::{CallLedger, Hall, LineFault, Pass};
+use cut_hall::{CallLedger, Hall, NextRowFault, Pass};
 use cut_lines::header;
 use cut_messages::{Kind, RowMessages, send_message};
 use cut_plan::plans_are_accepted;
-use cut_wires::{Line, Rows, RowsFault, Wire, WriteFault, send_rows};
+use cut_wires::{Line, Rows, RowsFault, Sent, Wire, send_rows};
 use std::alloc::Global;
 use std::sync::Wait;
 
@@ -39,7 +39,7 @@ where
     R: Wait,
 {
     /// The line of a cell: once more where it was given before, and else as soon as it is there.
-    fn line_of(&mut self, cell: u32) -> Result<Vec<u8>, LineFault>
+    fn line_of(&mut self, cell: u32) -> Result<Vec<u8>, NextRowFault>
         requires { cell < length (cells_of self.old.opened.now.plan) }
         ensures line { IfOk result
             (λ line. line.items ≡ full_line self.old.opened.now.plan self.old.opened.now.base cell) }
@@ -67,7 +67,7 @@ where
     ghost use Rattle.std.proofs.Common.{arith};
     ghost use Rattle.cut_session.specs.inside.Rows.{IsKept, is_kept, lines_of};
 
-    type Fault = LineFault;
+    type Fault = NextRowFault;
 
     ghost table = { λ rows. lines_of rows.opened.now.plan rows.opened.now.base };
 
@@ -85,7 +85,7 @@ where
         self.opened.plan.cells()
     }
 
-    fn row(&mut self, place: u32) -> Result<Vec<u8>, LineFault> {
+    fn row(&mut self, place: u32) -> Result<Vec<u8>, NextRowFault> {
         self.line_of(place)
     }
 
@@ -98,7 +98,7 @@ where
 pub(crate) fn send_table<D, M, K, W, R>(
     rows: &mut OpenedRows<'_, D, M, K, R>,
     line: &mut Line<'_, W>,
-) -> Result<(), WriteFault>
+) -> Result<(), Sent>
 where
     D: Disk + Drop,
     M: CallLedger,
@@ -120,8 +120,8 @@ where
 /// Sends what comes after the rows of a table that were sent: that it is whole, or why it is not.
 fn end_table<W: Wire>(
     line: &mut Line<'_, W>,
-    sent: Result<(), RowsFault<LineFault>>,
-) -> Result<(), WriteFault>
+    sent: Result<(), RowsFault<NextRowFault>>,
+) -> Result<(), Sent>
     ensures { EndsTable sent result (sending W.log line.old) (sending W.log line.new) }
 {
     match sent {

@@ -3,7 +3,7 @@ ghost use Rattle.cut_session.specs.FaultCode.{code_of_session};
 
 use cut_faults::FaultCode;
 use cut_messages::StreamFault;
-use cut_wires::WriteFault;
+use cut_wires::Sent;
 use std::fmt;
 use thiserror::Error;
 
@@ -17,7 +17,7 @@ pub enum SessionEnd {
     /// This fault ended it, and its number was sent to the client.
     Fault(SessionFault),
     /// A write of the replies failed.
-    Write(WriteFault),
+    Write(Sent),
 }
 
 /// What can end a session. Printed, it is its number and its name.

@@ -7,3 +7,4 @@ pub mod Dealing
 pub mod Appends
 pub mod Batches
 pub mod Endings
+pub mod LeftTrials

@@ -6,14 +6,14 @@ ghost use Rattle.cut_share.specs.inside.Tasks.{IsRun, done_of};
 use crate::ShareFault;
 use crate::task::Task;
 use cut_disks::Disk;
-use cut_hooks::Hooks;
 use cut_journal::{Journal, JournalFault};
+use cut_outcome::Gate;
 use std::sync::Wait;
 
 /// Appends the results of tasks to a journal of their plan, in order, up to the first that it doesn't take.
-pub(crate) fn append_all<D: Disk, G: Hooks, R: Wait>(
+pub(crate) fn append_all<D: Disk, G: Gate, R: Wait>(
     rt: &R,
-    hooks: &G,
+    gate: &G,
     journal: &mut Journal<D>,
     tasks: &[Task],
 ) -> Result<(), ShareFault>
@@ -25,15 +25,15 @@ pub(crate) fn append_all<D: Disk, G: Hooks, R: Wait>(
 {
     journal.stays_readable();
     for task in tasks {
-        append(rt, hooks, journal, task)?;
+        append(rt, gate, journal, task)?;
     }
     Ok(())
 }
 
 /// Appends the result of a task, if it has one.
-fn append<D: Disk, G: Hooks, R: Wait>(
+fn append<D: Disk, G: Gate, R: Wait>(
     rt: &R,
-    hooks: &G,
+    gate: &G,
     journal: &mut Journal<D>,
     task: &Task,
 ) -> Result<(), ShareFault>
@@ -49,7 +49,7 @@ fn append<D: Disk, G: Hooks, R: Wait>(
     };
     match journal.append(result) {
         Ok(_) => {
-            hooks.accepted(rt, task.piece);
+            gate.accepted(rt, task.piece);
             Ok(())
         }
         Err(fault) => Err(fault_of(fault)),

@@ -11,14 +11,14 @@ use crate::share_pieces::SharePieces;
 use crate::task::{Task, are_done, deal};
 use crate::tools::Tools;
 use cut_disks::Disk;
-use cut_hooks::Hooks;
 use cut_journal::Journal;
+use cut_outcome::Gate;
 use std::sync::Wait;
 use std::thread::Threads;
 
 /// Runs the pieces of a share in batches, each of as many pieces as there are tasks, and appends the results to the
 /// journal of their plan. Returns whether memory sufficed for all of them.
-pub(crate) fn run_pieces<D: Disk, G: Hooks + Sync, R: Threads + Wait + Sync>(
+pub(crate) fn run_pieces<D: Disk, G: Gate + Sync, R: Threads + Wait + Sync>(
     rt: &R,
     tools: &Tools<'_, G>,
     pieces: SharePieces<'_>,
@@ -47,7 +47,7 @@ pub(crate) fn run_pieces<D: Disk, G: Hooks + Sync, R: Threads + Wait + Sync>(
 }
 
 /// Runs the pieces of tasks, and appends the results. Returns whether each has one.
-fn run_batch<D: Disk, G: Hooks + Sync, R: Threads + Wait + Sync>(
+fn run_batch<D: Disk, G: Gate + Sync, R: Threads + Wait + Sync>(
     rt: &R,
     tools: &Tools<'_, G>,
     tasks: &mut [Task],
@@ -62,6 +62,6 @@ fn run_batch<D: Disk, G: Hooks + Sync, R: Threads + Wait + Sync>(
     ensures faults { D.faults journal.new.disk ≡ running_faults result (D.faults journal.old.disk) }
 {
     tools.run_all(rt, tasks);
-    append_all(rt, tools.hooks, journal, tasks)?;
+    append_all(rt, tools.gate, journal, tasks)?;
     Ok(are_done(tasks))
 }

@@ -20,10 +20,10 @@ pub(crate) struct SharePieces<'a> {
 }
 
 impl<'a> SharePieces<'a> {
-    ghost use Rattle.std.specs.Prelude.{◌≡◌, ℕ, ◌+◌, ◌<◌, ◌≤◌, [], ◌∷◌, true, IfSome, IfNone};
+    ghost use Rattle.std.specs.Prelude.{◌≡◌, ℕ, ◌+◌, ◌-◌, ◌^◌, ◌<◌, ◌≤◌, [], ◌∷◌, true, min, IfSome, IfNone};
     ghost use Rattle.cut_outcome.specs.Outcome.{one_if};
     ghost use Rattle.cut_ledger.specs.Contents.{is_in};
-    ghost use Rattle.cut_share.specs.inside.Pieces.{IsSharePiece, own_times, trials_in_all};
+    ghost use Rattle.cut_share.specs.inside.Pieces.{IsSharePiece, own_times, own_trials, trials_in_all};
     ghost use Rattle.cut_share.specs.Share.{is_in_share};
 
     /// The pieces of a share in pieces of the plan.
@@ -45,7 +45,9 @@ impl<'a> SharePieces<'a> {
     }
 
     /// How many trials the pieces have that are left. At 2^64 - 1 the number stays.
-    pub(crate) fn trials_left(self) -> u64 {
+    pub(crate) fn trials_left(self) -> u64
+        ensures { result ≡ min (own_trials self.entry.share self.entry.plan.now (self.entry.rest ∷ self.entry.later.now)) (2 ^ 64 - 1) }
+    {
         let mut pieces = self;
         let mut trials = 0u64;
         while let Some(piece) = pieces.next() {

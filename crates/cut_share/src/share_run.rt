@@ -11,11 +11,10 @@ use crate::task::new_tasks;
 use crate::tools::Tools;
 use crate::{Share, ShareFault};
 use cut_disks::Disk;
-use cut_hooks::Hooks;
 use cut_journal::Journal;
 use cut_ledger::laws::gaps_are_what_is_not_held;
 use cut_ledger::{Ledger, Slip, SlipsFault};
-use cut_outcome::Piece;
+use cut_outcome::{Gate, Piece};
 use cut_plan::Plan;
 use cut_rings::Rings;
 use std::alloc::Global;
@@ -37,11 +36,11 @@ pub struct ShareRun<'a, G> {
     /// How many threads there may be, 1 to 64.
     pub workers: u32,
     /// What is called before each piece is run, and after its result is kept.
-    pub hooks: &'a G,
+    pub gate: &'a G,
     pub ghost few: { (1 ≤ workers) × (workers ≤ 64) },
 }
 
-impl<G: Hooks + Sync> ShareRun<'_, G> {
+impl<G: Gate + Sync> ShareRun<'_, G> {
     ghost use Rattle.std.specs.Prelude.{◌↔◌, ◌≢◌, List, IsErrOf};
     ghost use Rattle.cut_ledger.specs.declared.slip.Slip.{Slip};
     ghost use Rattle.cut_share.specs.Appending.{Adds};
@@ -77,14 +76,14 @@ impl<G: Hooks + Sync> ShareRun<'_, G> {
         let pieces = SharePieces::of(self.plan, self.share, &gaps);
         let all = self.share.trials(self.plan);
         let left = pieces.trials_left();
-        self.hooks
+        self.gate
             .opened(rt, u64::from(all).saturating_sub(left), u64::from(all));
         let tools = Tools {
             alloc,
             plan: self.plan,
             rings: &rings,
             workers: self.workers,
-            hooks: self.hooks,
+            gate: self.gate,
         };
         if run_pieces(rt, &tools, pieces, tasks.as_mut_slice(), journal)? {
             Ok(all)

@@ -2,8 +2,7 @@ ghost use Rattle.std.specs.Prelude.{◌≡◌, ◌≤◌};
 ghost use Rattle.cut_outcome.specs.Outcome.{rings_of};
 
 use crate::task::Task;
-use cut_hooks::Hooks;
-use cut_outcome::{Piece, PieceResult};
+use cut_outcome::{Gate, Piece, PieceResult};
 use cut_plan::Plan;
 use cut_rings::Rings;
 use cut_trial::run_piece;
@@ -19,12 +18,12 @@ pub(crate) struct Tools<'a, G> {
     pub(crate) plan: &'a Plan,
     pub(crate) rings: &'a Rings,
     pub(crate) workers: u32,
-    pub(crate) hooks: &'a G,
+    pub(crate) gate: &'a G,
     ghost own: { rings.now ≡ rings_of plan.now },
     ghost some: { 1 ≤ workers },
 }
 
-impl<G: Hooks> Tools<'_, G> {
+impl<G: Gate> Tools<'_, G> {
     ghost use Rattle.std.specs.Prelude.{All, IfSome};
     ghost use Rattle.cut_share.specs.inside.Tasks.{IsRun, pieces_of};
 
@@ -47,12 +46,12 @@ impl<G: Hooks> Tools<'_, G> {
         );
     }
 
-    /// Runs the piece of a task once the hooks have returned.
+    /// Runs the piece of a task once the gate lets it pass.
     fn run<R: Wait>(&self, rt: &R, task: &mut Task)
         ensures piece { task.new.piece ≡ task.old.piece }
         ensures run { IsRun self.now.plan.now task.new }
     {
-        self.hooks.drawn(rt, task.piece);
+        self.gate.pass(rt, task.piece);
         task.result = self.compute(task.piece);
     }
 

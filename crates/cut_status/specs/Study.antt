@@ -7,6 +7,8 @@ use Rattle.cut_ledger.specs.Slips.{AreGood, IsFirstBad}
 use Rattle.cut_journal.specs.declared.fault.JournalFault.{JournalFault}
 use Rattle.cut_journal.specs.declared.fault.JournalFault.TheVariants as journal
 use Rattle.cut_journal.specs.Reading.{is_study, reading}
+use Rattle.std.specs.declared.io.ErrorKind.{ErrorKind}
+use Rattle.std.specs.declared.io.ErrorKind.TheVariants.{OutOfMemory}
 use Rattle.cut_status.specs.declared.fault.StatusFault.{StatusFault}
 use Rattle.cut_status.specs.declared.fault.StatusFault.TheVariants.{Memory, Disk, NoStudy, Damaged, BadSlip}
 use Rattle.cut_status.specs.Status.{StatusValue, status_over}
@@ -56,3 +58,8 @@ abbrev pub IsFileFault : StatusFault → Type 0
 IsFileFault Memory = ⊤
 IsFileFault Disk = ⊤
 IsFileFault fault = ⊥
+
+-- the fault of a file, by the kind of the system's error
+abbrev pub of_kind : ErrorKind → StatusFault
+of_kind OutOfMemory = Memory
+of_kind kind = Disk

@@ -1,9 +1,10 @@
-ghost use Rattle.std.specs.Prelude.{IfErr};
-ghost use Rattle.cut_status.specs.Study.{IsFileFault};
+ghost use Rattle.std.specs.Prelude.{◌≡◌, IfErr};
+ghost use Rattle.std.specs.IoError.{error_kind};
+ghost use Rattle.cut_status.specs.Study.{IsFileFault, of_kind};
 
 use crate::StatusFault;
+use cut_disks::open_regular;
 use std::alloc::Global;
-use std::fs;
 use std::io::{self, ErrorKind, Read};
 
 /// Reads the bytes of the regular file at a path, which `host` opens for reading alone.
@@ -15,14 +16,24 @@ pub fn read_file(host: &HostRuntime, alloc: Global, path: &str) -> Result<Vec<u8
 {
     match read_regular(host, alloc, path) {
         Ok(bytes) => Ok(bytes),
-        Err(error) if error.kind() == ErrorKind::OutOfMemory => Err(StatusFault::Memory),
-        Err(_) => Err(StatusFault::Disk),
+        Err(error) => Err(fault_of_file(&error)),
+    }
+}
+
+/// Why a file was not read: that memory ran out is no fault of the disk.
+fn fault_of_file(error: &io::Error) -> StatusFault
+    ensures value { result ≡ of_kind (error_kind error.now) }
+    ensures file { IsFileFault result }
+{
+    match error.kind() {
+        ErrorKind::OutOfMemory => StatusFault::Memory,
+        _ => StatusFault::Disk,
     }
 }
 
 /// Reads a regular file up to its end.
 fn read_regular(host: &HostRuntime, alloc: Global, path: &str) -> io::Result<Vec<u8>> {
-    let mut file = fs::open(host, path)?;
+    let mut file = open_regular(host, path)?;
     if !file.metadata()?.is_file() {
         return Err(ErrorKind::Unsupported.into());
     }

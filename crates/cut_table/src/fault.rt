@@ -2,7 +2,7 @@ ghost use Rattle.std.specs.Prelude.{◌≡◌};
 ghost use Rattle.cut_table.specs.FaultCode.{code_of_row, code_of_table};
 
 use cut_faults::FaultCode;
-use cut_wires::WriteFault;
+use cut_wires::Sent;
 use std::alloc::AllocError;
 use std::fmt;
 use thiserror::Error;
@@ -61,7 +61,7 @@ pub enum TableFault {
     /// Not every trial of this cell is held, and the lines before it are written.
     NotDone(u32),
     /// A write of the wire failed.
-    Write(WriteFault),
+    Write(Sent),
 }
 
 impl TableFault {
@@ -87,7 +87,7 @@ impl fmt::Display for TableFault {
         let code = self.code();
         match self {
             TableFault::NotDone(cell) => write!(f, "{code} {cell}"),
-            TableFault::Memory(sent) | TableFault::Write(WriteFault { sent }) => {
+            TableFault::Memory(sent) | TableFault::Write(Sent { sent }) => {
                 write!(f, "{code} {sent}")
             }
         }

@@ -19,6 +19,7 @@ mod verdict_counts;
 mod verdicts;
 
 pub use ballot::Ballot;
+pub use cut_outcome::{Piece, PieceResult, Totals, Verdict, quorum};
 pub use fault::TrialFault;
 pub use piece::run_piece;
 pub use trial::run_trial;

@@ -1,6 +1,6 @@
 //! What no clause says: the lines after the first, and how long a study is estimated to take.
 
-use crate::tables::{MISTAKES, PLAN, PLAN_2, PLANS, WRONG_PLANS};
+use crate::tables::{MISTAKES, PLAN, PLAN_2, PLANS, PLANS_2, WRONG_PLANS};
 use cut_explain::{Estimate, estimate_study, explain};
 use cut_findings::FieldRule;
 use cut_plan::{Field, Plan, PlanFault, Refusal};
@@ -8,7 +8,7 @@ use std::alloc::{AllocError, Global};
 use std::cell::Cell;
 use std::io::{self, ErrorKind};
 use std::test::Fail;
-use std::time::{Clock, Duration};
+use std::time::{CpuClock, Duration};
 
 /// The first line of what is said of a text that is no JSON.
 const NOT_JSON: &str = "refused: 1 NotJson\n";
@@ -21,34 +21,34 @@ fn is_explained(alloc: Global, text: &[u8], start: &str, lines: &str) -> Result<
     Ok(rest.strip_suffix("\n") == Some(lines) && found.plan.is_ok() == is_accepted)
 }
 
-/// The plan with a part replaced, which is written before what stands in its place.
-fn edited(alloc: Global, edit: &str) -> Result<String, AllocError> {
+/// A plan with a part replaced, which is written before what stands in its place.
+fn edited(alloc: Global, plan: &str, edit: &str) -> Result<String, AllocError> {
     let (old, new) = edit.split_once('|').unwrap_or((edit, ""));
-    PLAN.replace(alloc, old, new)
+    plan.replace(alloc, old, new)
 }
 
-/// Whether the explanation of the plan with the edit of a row is the one below it.
-fn is_row(alloc: Global, row: &str) -> Result<bool, AllocError> {
+/// Whether the explanation of a plan with the edit of a row is the one below it.
+fn is_row(alloc: Global, plan: &str, row: &str) -> Result<bool, AllocError> {
     let (edit, lines) = row.split_once('\n').unwrap_or((row, ""));
-    let text = edited(alloc, edit)?;
+    let text = edited(alloc, plan, edit)?;
     is_explained(alloc, text.as_bytes(), "", lines)
 }
 
 #[test]
 fn plans_are_described(rt: HostRuntime) -> Result<(), Fail> {
     for row in PLANS.split("\n---\n") {
-        assert!(rt; is_row(rt.alloc(), row)?, "{row}");
+        assert!(rt; is_row(rt.alloc(), PLAN, row)?, "{row}");
     }
-    let wanted = "accepted\ncells 1\ntrials 2\nquorum 4\nkeys drawn: at most 18\n\
-         checkpoint: at most 372 bytes, in pieces of 16 trials";
-    assert!(rt; is_explained(rt.alloc(), PLAN_2.as_bytes(), "", wanted)?);
+    for row in PLANS_2.split("\n---\n") {
+        assert!(rt; is_row(rt.alloc(), PLAN_2, row)?, "{row}");
+    }
     Ok(())
 }
 
 #[test]
 fn wrong_fields_are_named(rt: HostRuntime) -> Result<(), Fail> {
     for row in WRONG_PLANS.split("\n---\n") {
-        assert!(rt; is_row(rt.alloc(), row)?, "{row}");
+        assert!(rt; is_row(rt.alloc(), PLAN, row)?, "{row}");
     }
     let wanted = "found a list of 2; expected an object, in braces";
     assert!(rt; is_explained(rt.alloc(), b"[1, 2]", "refused: 2 NotObject\n", wanted)?);
@@ -136,14 +136,14 @@ fn ranges_are_those_of_plans(rt: HostRuntime) -> Result<(), Fail> {
     Ok(())
 }
 
-/// A clock that is read at the times of a text, in milliseconds, one after another, and not once more.
+/// A processor's clock that is read at the times of a text, in milliseconds, one after another, and not once more.
 #[derive(Drop)]
 struct Script<'a> {
     left: Cell<&'a str>,
 }
 
-impl Clock for Script<'_> {
-    fn monotonic(&self) -> io::Result<Duration> {
+impl CpuClock for Script<'_> {
+    fn thread_cpu_time(&self) -> io::Result<Duration> {
         let left = self.left.get();
         let (first, rest) = left.split_once(' ').unwrap_or((left, ""));
         self.left.set(rest);
@@ -153,8 +153,8 @@ impl Clock for Script<'_> {
         }
     }
 
-    fn since_1970(&self) -> io::Result<Duration> {
-        self.monotonic()
+    fn process_cpu_time(&self) -> io::Result<Duration> {
+        self.thread_cpu_time()
     }
 }
 
@@ -169,26 +169,39 @@ fn estimated(alloc: Global, plan: &Plan, times: &str) -> Result<String, AllocErr
     }
 }
 
-/// Edits of the plan, times at which a clock is read, and the line of the estimate for the study, which has two trials
-/// of one cell. With three numbers of failed processes, of which the first takes a second and the last three, the one
-/// between takes two.
-const ESTIMATES: &str = r#""repeats":2|"repeats":2||
-"repeats":2|"repeats":2|5|
-"repeats":2|"repeats":2|5 6|
-"repeats":2|"repeats":2|5 105 405|about 400 ms by one worker (measured on 2 trials)
-"repeats":2|"repeats":2|5 1005|about 2 s by one worker (measured on 1 trial)
-"repeats":2|"repeats":1|0 61000|about 61 s by one worker (measured on 1 trial)
-"f":[1]|"f":[0,1,2]|0 1000 7000 10000|about 12 s by one worker (measured on 2 trials)"#;
+/// What comes after the time in the line of an estimate, up to the number of trials.
+const BY_WORKERS: &str =
+    " of a processor by one worker, by n workers about 1/n of it (measured on ";
 
-/// Whether the edit of a row makes a plan with the estimate that the row has.
+/// How many trials the study has, times at which a clock is read, and the time and the trials of the estimate. The rings are
+/// made between the first two times; then each piece has its two. A mean is over the last pieces of one size, but for the
+/// first piece: over 300 ms; the same and 60 ms for the rings; 1,100 ms; 2, 6 and 250 ms, in pieces of four; half of 1 ms.
+const ESTIMATES: &str = "2||
+2|5|
+2|5 6 7|
+2|0 0 0 100 100 400|about 400 to 800 ms|2 trials)
+2|0 60 60 160 200 500|about 440 to 880 ms|2 trials)
+1000|0 0 0 1100|about 12 to 24 min|1 trial)
+1000|0 0 0 2 2 5 5 13 13 37 37 1037|about 57 to 114 s|15 trials)
+2|0 0 0 1 1 2|less than 10 ms|3 trials)";
+
+/// Whether the study of as many trials as a row says has the estimate that the row has.
 fn is_estimated(alloc: Global, row: &str) -> Result<bool, PlanFault> {
-    let (old, rest) = row.split_once('|').unwrap_or((row, ""));
-    let (new, rest) = rest.split_once('|').unwrap_or((rest, ""));
+    let (trials, rest) = row.split_once('|').unwrap_or((row, ""));
     let (times, wanted) = rest.split_once('|').unwrap_or((rest, ""));
-    let text = PLAN.replace(alloc, old, new)?;
+    let repeats = format!(in alloc; "\"repeats\":{trials}")?;
+    let text = PLAN.replace(alloc, "\"repeats\":2", &repeats)?;
     let plan = Plan::from_json(alloc, text.as_bytes())?;
     let found = estimated(alloc, &plan, times)?;
-    Ok(found.as_str().strip_suffix("\n").unwrap_or("") == wanted)
+    Ok(found.as_str() == estimate_line(alloc, wanted)?.as_str())
+}
+
+/// The line of an estimate of this time and trials, which are written with a bar between them, and none where there is no bar.
+fn estimate_line(alloc: Global, wanted: &str) -> Result<String, AllocError> {
+    match wanted.split_once('|') {
+        Some((time, trials)) => format!(in alloc; "{time}{BY_WORKERS}{trials}\n"),
+        None => Ok(String::new(alloc)),
+    }
 }
 
 #[test]
@@ -199,12 +212,16 @@ fn studies_are_estimated(rt: HostRuntime) -> Result<(), Fail> {
     Ok(())
 }
 
-/// Seconds, and the estimate that they are printed as.
-const TIMES: &str = "0|about 0 ms by one worker (measured on 3 trials)
-119|about 119 s by one worker (measured on 3 trials)
-120|about 2 min by one worker (measured on 3 trials)
-7259|about 2 h by one worker (measured on 3 trials)
-172800|about 2 days by one worker (measured on 3 trials)";
+/// Seconds, and the range that they are printed as.
+const TIMES: &str = "0|less than 10 ms
+1|about 0.6 to 1.3 s
+9|about 6 to 12 s
+89|about 59 to 118 s
+119|about 1.3 to 2.6 min
+5399|about 59 to 119 min
+5400|about 1.0 to 2.0 h
+129600|about 1.0 to 2.0 days
+864000|about 6 to 13 days";
 
 /// Whether the seconds of a row are printed as it says.
 fn is_printed(alloc: Global, row: &str) -> Result<bool, AllocError> {
@@ -213,7 +230,9 @@ fn is_printed(alloc: Global, row: &str) -> Result<bool, AllocError> {
         time: Duration::from_secs(seconds.parse::<u64>().unwrap_or(0)),
         trials: 3,
     };
-    Ok(estimate.to_string(alloc)?.as_str() == wanted)
+    let found = estimate.to_string(alloc)?;
+    let (time, rest) = found.as_str().split_once(BY_WORKERS).unwrap_or(("", ""));
+    Ok(time == wanted && rest == "3 trials)")
 }
 
 #[test]

@@ -3,7 +3,7 @@
 use cut_alerts::{Roles, RolesFault};
 use cut_detector::{Members, Proposal};
 use cut_draws::{Delivery, Draws};
-use cut_outcome::{Piece, Verdict, quorum};
+use cut_outcome::{Piece, Totals, Verdict, quorum};
 use cut_plan::{Dead, Faults, Plan};
 use cut_rings::{Edge, Rings};
 use cut_trial::{Ballot, TrialFault, run_piece, verdict};
@@ -64,18 +64,51 @@ fn a_ballot_counts_equal_proposals(rt: HostRuntime) -> Result<(), Fail> {
     Ok(())
 }
 
-// Whether a piece of the plan's trials is refused as none.
-fn is_refused(alloc: Global, first: u32, count: u32) -> Result<bool, Fail> {
-    let plan = Plan::from_json(alloc, PLAN.as_bytes())?;
+// The study with two trials before it in which no process fails.
+const TWO_CELLS: &str =
+    r#"{"copies":1,"dead":"silent","f":[0,1],"faults":"crash","h":[1],"implicit":true,"k":[1],"l":[1],"liars":0,"links":0,"nodes":5,"repeats":2,"seed":"0000000000000000000000000000000000000000000000000000000000000000","version":1}"#;
+
+// The result of a piece of a text's trials, and `None` where it is refused as none.
+fn result_of(alloc: Global, text: &str, piece: Piece) -> Result<Option<Totals>, Fail> {
+    let plan = Plan::from_json(alloc, text.as_bytes())?;
     let rings = Rings::hashed(alloc, &plan)?;
-    let found = run_piece(alloc, &plan, &rings, Piece { first, count });
-    Ok(matches!(found, Err(TrialFault::BadPiece)))
+    match run_piece(alloc, &plan, &rings, piece) {
+        Ok(result) => Ok(Some(result.totals())),
+        Err(TrialFault::BadPiece) => Ok(None),
+        Err(fault) => Err(fault)?,
+    }
 }
+
+// Plans, and first trials and counts that are no pieces of them: none, past the last trial, and over two cells.
+const REFUSED: [(&str, u32, u32); 4] = [
+    (PLAN, 0, 0),
+    (PLAN, 1, 2),
+    (TWO_CELLS, 1, 2),
+    (TWO_CELLS, 3, 2),
+];
 
 #[test]
 fn pieces_of_other_trials_are_refused(rt: HostRuntime) -> Result<(), Fail> {
-    assert!(rt; is_refused(rt.alloc(), 0, 0)?);
-    assert!(rt; is_refused(rt.alloc(), 1, 2)?);
+    for (text, first, count) in REFUSED {
+        assert!(rt; result_of(rt.alloc(), text, Piece { first, count })?.is_none());
+    }
+    Ok(())
+}
+
+// In each of the two trials of the cell in which one process fails, the four others propose it.
+#[test]
+fn a_cell_has_the_same_totals_after_another(rt: HostRuntime) -> Result<(), Fail> {
+    let wanted = Totals {
+        receivers: 8,
+        votes: 8,
+        decided: 2,
+        right: 2,
+        ..Totals::ZERO
+    };
+    for (text, first) in [(PLAN, 0), (TWO_CELLS, 2)] {
+        let found = result_of(rt.alloc(), text, Piece { first, count: 2 })?;
+        assert!(rt; found == Some(wanted));
+    }
     Ok(())
 }
 

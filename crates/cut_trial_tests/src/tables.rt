@@ -13,7 +13,9 @@ pub(super) const PLAN_2: &str =
 /// A trial has 5 keys for its processes, and 4 receivers with an alert each, or with two where there are two rings; where
 /// two fail, 3 receivers with two alerts or four, and of nine processes 7. The canonical texts have 221, 213, 227 and then
 /// 223 or 221 bytes. A checkpoint has 46 more, and 105 or 113 for each piece. A quorum can lack one of five processes, and
-/// two of nine.
+/// two of nine. As many faults as processes are not too many. With four links there are five alerts, which is one for each
+/// process, and of two processes a link gives two. In the last plan 8 receivers have 1 + 1 + 1 + 2 alerts three times on each
+/// ring, or 7 receivers 2 + 2 + 1 + 2; its text has 224 bytes.
 pub(super) const PLANS: &str =
     r#""h":[1],"implicit":true,"k":[1],"l":[1]|"h":[1],"implicit":true,"k":[1],"l":[1]
 accepted
@@ -60,7 +62,63 @@ trials 2
 quorum 7
 right: 0 in 1 of 1 cells, where l = h, so that each proposal has one member, and two fail or more
 keys drawn: at most 46
-checkpoint: at most 372 bytes, in pieces of 16 trials"#;
+checkpoint: at most 372 bytes, in pieces of 16 trials
+---
+"f":[1]|"f":[0,1]
+accepted
+cells 2
+trials 4
+quorum 4
+right: 0 in 1 of 2 cells, where none fails, and each proposal has a member
+keys drawn: at most 28
+checkpoint: at most 479 bytes, in pieces of 16 trials
+---
+"links":0|"links":4
+accepted
+cells 1
+trials 2
+quorum 4
+keys drawn: at most 50
+checkpoint: at most 372 bytes, in pieces of 16 trials
+---
+"f":[1],"faults":"crash","h":[1],"implicit":true,"k":[1],"l":[1],"liars":0,"links":0,"nodes":5|"f":[0],"faults":"crash","h":[1],"implicit":true,"k":[1],"l":[1],"liars":0,"links":1,"nodes":2
+accepted
+cells 1
+trials 2
+quorum 2
+right: 0 in 1 of 1 cells, where none fails, and each proposal has a member
+keys drawn: at most 12
+checkpoint: at most 372 bytes, in pieces of 16 trials
+---
+"copies":1,"dead":"silent","f":[1],"faults":"crash","h":[1],"implicit":true,"k":[1],"l":[1],"liars":0,"links":0,"nodes":5|"copies":3,"dead":"silent","f":[1,2],"faults":"deaf","h":[2],"implicit":true,"k":[2,3],"l":[1],"liars":1,"links":2,"nodes":9
+accepted
+cells 4
+trials 8
+quorum 7
+keys drawn: at most 2742
+checkpoint: at most 690 bytes, in pieces of 16 trials"#;
+
+/// The same of edits of the plan of version 2.
+///
+/// Of nine processes one or three fail, of which one is deaf: on a ring there are at most 1 + 1 or 3 + 1 alerts by them, one
+/// by the liar and one for the link. So 8 receivers have 4 alerts twice on each of two rings, or 6 receivers 6. The text has
+/// 216 bytes, and a cell's 17 trials are two pieces.
+pub(super) const PLANS_2: &str = r#""copies":1|"copies":1
+accepted
+cells 1
+trials 2
+quorum 4
+keys drawn: at most 18
+checkpoint: at most 372 bytes, in pieces of 16 trials
+---
+"copies":1,"dead":"silent","deaf":0,"f":[1],"h":[1],"implicit":true,"k":[1],"l":[1],"liars":0,"links":0,"nodes":5,"repeats":2|"copies":2,"dead":"silent","deaf":1,"f":[1,3],"h":[2],"implicit":true,"k":[2],"l":[1],"liars":1,"links":1,"nodes":9,"repeats":17
+accepted
+cells 2
+trials 34
+quorum 7
+decided and right: 0 in 1 of 2 cells, where more than 2 fail, so that no quorum is left
+keys drawn: at most 4930
+checkpoint: at most 714 bytes, in pieces of 16 trials"#;
 
 /// The same of texts in which a field is wrong, or some are wrong together. With every number of rings and every
 /// watermark there are as many cells as ways to choose 3 of 34.
@@ -74,6 +132,19 @@ refused: 3 UnknownField
 "Liers": no field of a plan; did you mean liars?
 "speed": no field of a plan; did you mean seed?
 liars: missing; expected a whole number from 0 to 2048
+---
+"dead":"silent"|"delay":"silent"
+refused: 3 UnknownField
+"delay": no field of a plan
+dead: missing; expected "silent" or "speak"
+---
+"copies":1|"a\u2028b\u202e\"\\\n":1,"copies":1
+refused: 3 UnknownField
+"a\u{2028}b\u{202e}\"\\\n": no field of a plan
+---
+"dead":"silent"|"dead":"silent\u2029\u0085"
+refused: 6 OutOfRange dead
+dead: found the text "silent\u{2029}\u{85}"; expected "silent" or "speak"
 ---
 "faults":"crash"|"deaf":0
 refused: 3 UnknownField

@@ -4,7 +4,7 @@ use Rattle.std.proofs.Common.{refl, sym, ap, arith, length-append}
 use Rattle.std.proofs.Math.Seq.{take-append-add}
 use Rattle.std.proofs.lemmas.List.{take-append-le}
 use Rattle.std.specs.Bool.{⊤}
-use Rattle.cut_wires.specs.declared.send.WriteFault.{WriteFault}
+use Rattle.cut_wires.specs.declared.send.Sent.{Sent}
 use Rattle.cut_wires.specs.Sending.{Sending, sent_on, cut_off, IsCut, Sends}
 use Rattle.cut_wires.proofs.Logs.{wrote_twice}
 
@@ -31,13 +31,13 @@ cut_after old mid new xs ys first (n, low, is) = (
 )
 
 -- a text is cut off where its first bytes are
-pub cut_before : (fault : WriteFault) (old new : Sending) (xs ys : List ℕ) → Sends (Err fault) xs old new
+pub cut_before : (fault : Sent) (old new : Sending) (xs ys : List ℕ) → Sends (Err fault) xs old new
     → Sends (Err fault) (xs ++ ys) old new
 cut_before fault old new xs ys (count, (n, low, is)) =
     grind (arith, length-append xs ys, take-append-le n xs ys)
 
 -- two texts, of which the first was sent
-pub sends_after : (result : Result ⊤ WriteFault) (old mid new : Sending) (xs ys : List ℕ) → mid ≡ sent_on old xs
+pub sends_after : (result : Result ⊤ Sent) (old mid new : Sending) (xs ys : List ℕ) → mid ≡ sent_on old xs
     → Sends result ys mid new → Sends result (xs ++ ys) old new
 sends_after (Ok done) old mid new xs ys first second = sent_more old mid new xs ys first second
 sends_after (Err fault) old mid new xs ys first (count, cut) = (count, cut_after old mid new xs ys first cut)

@@ -2,7 +2,7 @@
 use Rattle.std.specs.Prelude.{◌≡◌, ◌+◌, ◌-◌, ◌^◌, ◌<◌, ◌==◌, ℕ, List, [], ◌++◌, length, min, take}
 use Rattle.std.specs.Prelude.{Option, option_map, Result, Ok, Err, ⊤, if◌then◌else◌}
 use Rattle.cut_faults.specs.Failures.{one_more}
-use Rattle.cut_wires.specs.declared.send.WriteFault.{WriteFault}
+use Rattle.cut_wires.specs.declared.send.Sent.{Sent}
 
 -- ---- what passed
 
@@ -89,7 +89,7 @@ Reads (Ok n) buffer old new = new ≡ gave old buffer n
 Reads (Err e) buffer old new = new ≡ read_failed old
 
 -- all of some bytes were written; or a write failed, after exactly as many of the first as are reported
-abbrev pub SendsAll : Result ⊤ WriteFault → List ℕ → WireLog → WireLog → Type 0
+abbrev pub SendsAll : Result ⊤ Sent → List ℕ → WireLog → WireLog → Type 0
 SendsAll (Ok done) bytes old new = new ≡ wrote old bytes
 SendsAll (Err fault) bytes old new =
     (new ≡ write_failed (wrote old (take fault.sent bytes))) × (fault.sent < length bytes)

@@ -2,7 +2,7 @@
 use Rattle.std.specs.Prelude.{◌≡◌, ◌+◌, ◌-◌, ◌^◌, ◌<◌, ℕ, List, length, min, take, Result, Ok, Err, ⊤}
 use Rattle.std.specs.Borrow.{GName}
 use Rattle.cut_wires.specs.declared.line.Line.{Line}
-use Rattle.cut_wires.specs.declared.send.WriteFault.{WriteFault}
+use Rattle.cut_wires.specs.declared.send.Sent.{Sent}
 use Rattle.cut_wires.specs.Log.{WireLog, wrote, gave, read_failed, write_failed}
 
 -- the wire that a line borrows, that wire's log, and how many bytes were sent over the line, a count that stays at
@@ -41,6 +41,6 @@ abbrev pub IsCut : List ℕ → Sending → Sending → Type 0
 IsCut bytes old new = (n : ℕ) × (n < length bytes) × (new ≡ cut_off (sent_on old (take n bytes)))
 
 -- all of some bytes were sent, or a write failed before that, and the fault has the count of bytes
-abbrev pub Sends : Result ⊤ WriteFault → List ℕ → Sending → Sending → Type 0
+abbrev pub Sends : Result ⊤ Sent → List ℕ → Sending → Sending → Type 0
 Sends (Ok done) bytes old new = new ≡ sent_on old bytes
 Sends (Err fault) bytes old new = (fault.sent ≡ new.sent) × IsCut bytes old new

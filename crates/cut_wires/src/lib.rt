@@ -18,6 +18,6 @@ pub use faulty_wire::FaultyWire;
 pub use line::Line;
 pub use memory_wire::MemoryWire;
 pub use rows::{Framing, LONGEST_ROW, Plain, Rows, RowsFault, send_rows};
-pub use send::{WriteFault, send_all};
+pub use send::{Sent, send_all};
 pub use stream_wire::StreamWire;
 pub use wire::{Wire, WireFault};

@@ -1,6 +1,6 @@
 ghost use Rattle.std.specs.Prelude.{◌≡◌, ◌^◌, ◌<◌, ◌≤◌, length, IfOk};
 
-use crate::{Wire, WireFault, WriteFault, send_all};
+use crate::{Sent, Wire, WireFault, send_all};
 
 /// A wire that is borrowed, with a count of the bytes that were sent over it. At 2^64 - 1 the count stays.
 #[derive(Drop)]
@@ -47,7 +47,7 @@ impl<'a, W: Wire> Line<'a, W> {
 
     /// Sends all the bytes, and counts them. Where a write fails, it counts those that the wire took, and the fault
     /// has the line's count.
-    pub fn send(&mut self, bytes: &[u8]) -> Result<(), WriteFault>
+    pub fn send(&mut self, bytes: &[u8]) -> Result<(), Sent>
         ensures { Sends result bytes.now (sending W.log self.old) (sending W.log self.new) }
     {
         match send_all(self.wire, bytes) {
@@ -57,7 +57,7 @@ impl<'a, W: Wire> Line<'a, W> {
             }
             Err(fault) => {
                 self.sent = self.sent.saturating_add(fault.sent);
-                Err(WriteFault { sent: self.sent })
+                Err(Sent { sent: self.sent })
             }
         }
     }

@@ -3,7 +3,7 @@ ghost use Rattle.cut_wires.specs.declared.rows.TheConstants.{LONGEST_ROW};
 ghost use Rattle.cut_wires.specs.Rows.{Table, Gives, SendsRows};
 ghost use Rattle.cut_wires.specs.Sending.{Sends, sending};
 
-use crate::{Line, Wire, WriteFault};
+use crate::{Line, Sent, Wire};
 
 /// The most bytes of a header or a row of a table: what a framing is given, which may put it into one message.
 pub const LONGEST_ROW: usize = 65_536;
@@ -14,7 +14,7 @@ pub trait Framing {
     ghost framed: { List ℕ → List ℕ };
 
     /// Sends a text, which is at most as long as a row.
-    fn send<W: Wire>(line: &mut Line<'_, W>, text: &[u8]) -> Result<(), WriteFault>
+    fn send<W: Wire>(line: &mut Line<'_, W>, text: &[u8]) -> Result<(), Sent>
         requires { length text.now ≤ LONGEST_ROW }
         ensures { Sends result (framed text.now) (sending W.log line.old) (sending W.log line.new) };
 
@@ -30,7 +30,7 @@ impl Framing for Plain {
 
     ghost framed = { λ text. text };
 
-    fn send<W: Wire>(line: &mut Line<'_, W>, text: &[u8]) -> Result<(), WriteFault> {
+    fn send<W: Wire>(line: &mut Line<'_, W>, text: &[u8]) -> Result<(), Sent> {
         line.send(text)
     }
 
@@ -78,7 +78,7 @@ pub trait Rows {
 #[derive(Clone, Copy, Debug, PartialEq, Eq)]
 pub enum RowsFault<E> {
     /// A write failed, and the fault has how many bytes the line had sent.
-    Write(WriteFault),
+    Write(Sent),
     /// A row was not given.
     Row(E),
 }

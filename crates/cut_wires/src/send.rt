@@ -6,21 +6,21 @@ use thiserror::Error;
 /// A write that failed, or took nothing, after `sent` bytes of what was to be written.
 #[derive(Clone, Copy, Debug, PartialEq, Eq, Error)]
 #[error("a write failed after {sent} bytes")]
-pub struct WriteFault {
+pub struct Sent {
     /// How many bytes were written before.
     pub sent: u64,
 }
 
 /// Writes all the bytes, by as many writes as it takes. A write that fails is the last. This takes no
 /// memory of its own.
-pub fn send_all<W: Wire>(wire: &mut W, bytes: &[u8]) -> Result<(), WriteFault>
+pub fn send_all<W: Wire>(wire: &mut W, bytes: &[u8]) -> Result<(), Sent>
     ensures { SendsAll result bytes.now (W.log wire.old) (W.log wire.new) }
 {
     let mut sent = 0;
     while sent < bytes.len() {
         match wire.write(&bytes[sent..]) {
             Ok(n) => sent += n,
-            Err(_) => return Err(WriteFault { sent: sent as u64 }),
+            Err(_) => return Err(Sent { sent: sent as u64 }),
         }
     }
     Ok(())

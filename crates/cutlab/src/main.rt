@@ -2,7 +2,10 @@
 //! for the parameters K, H and L of Rapid's cut detection.
 #![tactic(auto)]
 
-use cut_jobs::{end_unread, run_words};
+mod stand_ins;
+
+use crate::stand_ins::StandIns;
+use cut_jobs::{end_unopened, end_unread, run_words};
 use cut_wires::StreamWire;
 use std::alloc::Global;
 use std::env::Env;
@@ -11,6 +14,9 @@ use std::{env, io};
 
 fn main(rt: HostRuntime) -> ExitCode {
     let mut errors = StreamWire::new(io::empty(), rt.stderr());
+    let Ok(_stand_ins) = StandIns::open(&rt) else {
+        return ExitCode::from(end_unopened(&mut errors));
+    };
     let words = match words_of(&rt) {
         Ok(words) => words,
         Err(error) => return ExitCode::from(end_unread(error.kind(), &mut errors)),

@@ -113,9 +113,9 @@ fn opening_holds(
 #[test]
 fn a_failing_opening(rt: HostRuntime) -> Result<(), Fail> {
     let plan = Plan::from_json(rt.alloc(), SMALL.as_bytes())?;
-    for fail_at in 1..12 {
+    for fail_at in 1..13 {
         assert!(rt;
-            opening_holds(rt.alloc(), &[], &plan, (fail_at, 10, 0))?,
+            opening_holds(rt.alloc(), &[], &plan, (fail_at, 11, 0))?,
             "{fail_at}"
         );
     }

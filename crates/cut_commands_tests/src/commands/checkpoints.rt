@@ -4,7 +4,7 @@ use super::{LINE, PLAN, is_table, plan_with, work_of};
 use cut_commands::{CliFault, run_io};
 use cut_disks::{Disk, FaultyDisk, FileDisk, Tear};
 use cut_journal::JournalFault;
-use cut_wires::{FaultyWire, StreamWire, WriteFault};
+use cut_wires::{FaultyWire, Sent, StreamWire};
 use std::alloc::Global;
 use std::fs;
 use std::sync::Wait;
@@ -63,9 +63,9 @@ fn a_study_is_kept_and_read_back(rt: HostRuntime) -> Result<(), Fail> {
     Ok(())
 }
 
-/// How many calls of a disk without a study the opening of a checkpoint takes: two to look at it, and eight to
-/// look again and to make the study.
-const OPENING_CALLS: u64 = 10;
+/// How many calls of a disk without a study the opening of a checkpoint takes: two to look at it, one to
+/// see that it is unclaimed, and eight to look again and to make the study.
+const OPENING_CALLS: u64 = 11;
 
 /// Whether a run reported the failure of this call of the disk.
 fn is_reported(ended: Result<Vec<u8>, CliFault>, fail_at: u64) -> bool {
@@ -110,7 +110,7 @@ fn each_call_of_the_disk_fails(rt: HostRuntime) -> Result<(), Fail> {
         // Those of the opening, and four for each of two pieces.
         for fail_at in 1..=20 {
             let (failed, right) = resumes(&rt, rt.alloc(), fail_at, tear)?;
-            assert!(rt; right && (failed || fail_at > 18), "{fail_at}");
+            assert!(rt; right && (failed || fail_at > 19), "{fail_at}");
         }
     }
     Ok(())
@@ -125,7 +125,7 @@ fn is_cut_off<T: Threads + Wait + Sync>(
     let input = Vec::from_slice(alloc, PLAN.as_bytes())?;
     let mut wire = FaultyWire::new(alloc, input, 4096, 80, 0);
     let ended = run_io(rt, alloc, &mut wire, work_of(1, 2), Some(&mut *disk));
-    let is_reported = matches!(ended, Err(CliFault::Write(WriteFault { sent: 80 })));
+    let is_reported = matches!(ended, Err(CliFault::Write(Sent { sent: 80 })));
     Ok(is_reported && disk.memory().bytes().len() == 477)
 }
 

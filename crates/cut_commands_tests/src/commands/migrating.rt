@@ -249,9 +249,9 @@ fn an_answer_that_fails(rt: HostRuntime) -> Result<(), Fail> {
     Ok(())
 }
 
-/// How many calls of the new disk a migration of one slip takes: eight to look at it and to make the study, and
+/// How many calls of the new disk a migration of one slip takes: nine to look at it and to make the study, and
 /// four for the slip.
-const MOVING_CALLS: u64 = 12;
+const MOVING_CALLS: u64 = 13;
 
 /// Whether a migration of one slip to a disk that fails at this call reports so, and the upgrade's study goes on from
 /// what the disk has; or moves the slip where it makes fewer calls.
@@ -281,7 +281,7 @@ fn goes_on<T: Threads + Wait + Sync>(
 fn each_call_of_the_new_disk_fails(rt: HostRuntime) -> Result<(), Fail> {
     let alloc = rt.alloc();
     for tear in [Tear::Nothing, Tear::Everything] {
-        for fail_at in 1..=14 {
+        for fail_at in 1..=15 {
             assert!(rt; goes_on(&rt, alloc, fail_at, tear)?, "{fail_at}");
         }
     }

@@ -1,6 +1,6 @@
 -- What only the crate's own clauses and proofs cite, beside specs/Slot.antt.
 use Rattle.std.specs.Prelude.{◌≡◌, ◌++◌, ◌<◌, ℕ, true, false, List, [], ◌∷◌, length, slice_get}
-use Rattle.std.specs.Prelude.{Option, Some, None, Bool, ◌&&◌, not, nat_lt, if◌then◌else◌, Result, Ok, Err, ⊤, slice_set}
+use Rattle.std.specs.Prelude.{Option, Some, None, is_some, option_map, Bool, ◌&&◌, not, nat_lt, if◌then◌else◌, Result, Ok, Err, ⊤, slice_set}
 use Rattle.std.specs.List.{list_any}
 use Rattle.cut_faults.specs.declared.code.FaultCode.TheVariants as code
 use Rattle.cut_plan.specs.Cells.{cells_of}
@@ -15,19 +15,34 @@ use Rattle.cut_ledger.specs.Machine.{StudyState, reply_to, after}
 use Rattle.cut_book.specs.declared.call.Answer.TheVariants as answer
 use Rattle.cut_book.specs.declared.call.Call.TheVariants as call
 use Rattle.cut_book.specs.declared.fault.BookFault.TheVariants as book
-use Rattle.cut_hall.specs.declared.line_fault.LineFault.{LineFault}
-use Rattle.cut_hall.specs.declared.line_fault.LineFault.TheVariants as line
+use Rattle.cut_hall.specs.declared.next_row_fault.NextRowFault.{NextRowFault}
+use Rattle.cut_hall.specs.declared.next_row_fault.NextRowFault.TheVariants as line
 use Rattle.cut_book.specs.declared.opened.Opened.{Opened}
 use Rattle.cut_hall.specs.declared.slot.CallFault.{CallFault}
 use Rattle.cut_hall.specs.declared.slot.CallFault.TheVariants.{NoBook, Full, Refused}
 use Rattle.cut_hall.specs.declared.slot.Match.{Match}
 use Rattle.cut_hall.specs.declared.slot.Match.TheVariants.{Free, Same, Other}
-use Rattle.cut_book.specs.Book.{BookValue, IsFresh, HandsIn, answer_of}
+use Rattle.cut_book.specs.Book.{BookValue, IsFresh, HandsIn, answer_of, opening_of}
+use Rattle.cut_book.specs.History.{Opening}
+use Rattle.cut_book.specs.declared.shelf.ShelfFault.{ShelfFault}
 
 -- how many calls the book of a slot had; a slot without a book had none
 abbrev pub calls_in : {D : Type 0} → Option (BookValue D) → ℕ
 calls_in None = 0
 calls_in (Some b) = length b.calls
+
+-- with what it was opened
+abbrev pub opening_in : {D : Type 0} → Option (BookValue D) → Option Opening
+opening_in book = option_map opening_of book
+
+-- whether it has a journal
+abbrev pub has_journal_in : {D : Type 0} → Option (BookValue D) → Bool
+has_journal_in None = false
+has_journal_in (Some b) = is_some b.journal
+
+-- a study is begun over what its shelf gave: with a journal exactly where that is a disk
+abbrev pub IsBegunOver : {D : Type 0} → (Result (Option D) ShelfFault → Type 0) → Bool → Type 0
+IsBegunOver {D} gives has_journal = (disk : Option D) × (gives (Ok disk) × (has_journal ≡ is_some disk))
 
 -- the slips that it began with, and those that are kept of it
 abbrev pub base_of : {D : Type 0} → Option (BookValue D) → List Slip
@@ -94,7 +109,7 @@ IsOpenedAs o b = (b.state.ledger.plan ≡ o.plan) × (b.state.ledger.base ≡ o.
 
 -- what this fault says of a study whose cell is not done: an append failed; or else a piece is lost; or else
 -- only that the work was ended
-abbrev pub SaysWhyUndone : LineFault → StudyState → Type 0
+abbrev pub SaysWhyUndone : NextRowFault → StudyState → Type 0
 SaysWhyUndone line.Checkpoint s = s.broken ≡ true
 SaysWhyUndone line.WorkMemory s = (s.broken ≡ false) × (list_any (λ is_lost. is_lost) s.lost ≡ true)
 SaysWhyUndone line.Stopped s = (s.broken ≡ false) × (list_any (λ is_lost. is_lost) s.lost ≡ false)
@@ -103,7 +118,7 @@ SaysWhyUndone line.AuditMismatch s = ⊥
 -- how a slot answers who asks for the line of a cell of an opened study, by its book: there is none, or
 -- another one; or the cell is done, and there is the line, or memory ran out for it, or no call could be
 -- counted; or it is not done, and can still be, or can't, as the fault says
-abbrev pub AnswersLine : {T D : Type 0} → Result (Option T) LineFault → Opened → ℕ → Option (BookValue D)
+abbrev pub AnswersLine : {T D : Type 0} → Result (Option T) NextRowFault → Opened → ℕ → Option (BookValue D)
     → Type 0
 AnswersLine (Ok (Some found)) o cell None = ⊥
 AnswersLine (Ok (Some found)) o cell (Some b) = IsOpenedAs o b × (cell_done b.state.ledger cell ≡ true)
@@ -122,14 +137,14 @@ AnswersLine (Err line.Stopped) o cell (Some b) =
     IsOpenedAs o b × (cell_done b.state.ledger cell ≡ false → SaysWhyUndone line.Stopped b.state)
 
 -- whether a slot can give the line of a cell of an opened study, by its book, as it would then answer
-abbrev pub CanGive : {D : Type 0} → Result Bool LineFault → Opened → ℕ → Option (BookValue D) → Type 0
+abbrev pub CanGive : {D : Type 0} → Result Bool NextRowFault → Opened → ℕ → Option (BookValue D) → Type 0
 CanGive (Ok true) o cell book = AnswersLine {T = ⊤} (Ok (Some tt)) o cell book
 CanGive (Ok false) o cell book = AnswersLine {T = ⊤} (Ok None) o cell book
 CanGive (Err fault) o cell book = AnswersLine {T = ⊤} (Err fault) o cell book
 
 -- how a slot answers who asks once more for a line that was given, by its book: there is none, or another one;
 -- or the cell is done, and there is the line; or it was not given yet; or memory ran out
-abbrev pub AnswersAgain : {T D : Type 0} → Result (Option T) LineFault → Opened → ℕ → Option (BookValue D)
+abbrev pub AnswersAgain : {T D : Type 0} → Result (Option T) NextRowFault → Opened → ℕ → Option (BookValue D)
     → Type 0
 AnswersAgain (Err line.AuditMismatch) o cell None = ⊤
 AnswersAgain result o cell None = ⊥

@@ -1,12 +1,13 @@
 -- What a job prints on the errors, by what is asked for.
-use Rattle.std.specs.Prelude.{◌≡◌, ◌+◌, ◌++◌, ℕ, Bool, true, false, List, ◌∷◌, length, map, codes, Option, Result, ⊤}
+use Rattle.std.specs.Prelude.{◌≡◌, ◌+◌, ◌++◌, ℕ, Bool, true, false, List, ◌∷◌, [], length, map, codes, Option, Result, ⊤}
 use Rattle.std.specs.Borrow.{Bor}
 use Rattle.std.specs.Fmt.{decimal}
-use Rattle.cut_wires.specs.Log.{WireLog}
+use Rattle.cut_wires.specs.Log.{WireLog, wrote}
 use Rattle.cut_progress.specs.Printed.{HasPrinted}
 use Rattle.cut_machines.specs.JoinCommand.{NamesRefusedFile}
 use Rattle.cut_commands.specs.declared.fault.CliFault.{CliFault}
 use Rattle.cut_jobs.specs.Jobs.{PrintsRefused}
+use Rattle.cut_jobs.specs.Sending.{IsCutShort}
 
 -- what is printed on the errors where progress is asked for, and where it is not
 abbrev pub PrintsIf : Bool → WireLog → WireLog → Type 0
@@ -20,9 +21,17 @@ PrintsFileIf true files ended old new =
     × PrintsRefused (map (λ s. s.now) files) refused old new)
 PrintsFileIf false files ended old new = new ≡ old
 
--- what comes before the path in the line of a refused file
+-- what comes before the path in the line of a refused file, and after it
 abbrev pub file_head : ℕ → List ℕ
-file_head place = codes "cutlab: file " ++ decimal place ++ codes ": "
+file_head place = codes "cutlab: file " ++ decimal place ++ codes ": \""
+
+abbrev pub file_end : List ℕ
+file_end = codes "\"" ++ 10 ∷ []
+
+-- a text was written whole, or cut short by a write that failed
+abbrev pub WritesWhole : Bool → List ℕ → WireLog → WireLog → Type 0
+WritesWhole true text old new = new ≡ wrote old text
+WritesWhole false text old new = (sent : ℕ) × IsCutShort text sent old new
 
 -- a path has a place, from 1, among others
 pub record IsFileAt (paths : List (List ℕ)) (place : ℕ) (path : List ℕ) : Type 0 where

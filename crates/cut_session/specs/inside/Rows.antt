@@ -8,11 +8,11 @@ use Rattle.cut_plan.specs.Failing.{version_of}
 use Rattle.cut_lines.specs.Lines.{header}
 use Rattle.cut_ledger.specs.declared.slip.Slip.{Slip}
 use Rattle.cut_wires.specs.declared.rows.RowsFault.{RowsFault}
-use Rattle.cut_wires.specs.declared.send.WriteFault.{WriteFault}
+use Rattle.cut_wires.specs.declared.send.Sent.{Sent}
 use Rattle.cut_wires.specs.declared.rows.RowsFault.TheVariants.{Row, Write}
 use Rattle.cut_wires.specs.Rows.{Table}
 use Rattle.cut_wires.specs.Sending.{Sending, Sends}
-use Rattle.cut_hall.specs.declared.line_fault.LineFault.{LineFault}
+use Rattle.cut_hall.specs.declared.next_row_fault.NextRowFault.{NextRowFault}
 use Rattle.cut_hall.specs.Faults.{code_of_line}
 use Rattle.cut_hall.specs.Lines.{full_line}
 use Rattle.cut_hall.specs.Pass.{Holding}
@@ -38,7 +38,7 @@ is_kept name pass = record { same = refl; own = refl; view = refl }
 
 -- what is sent after the rows of a table, by how these were sent: that it is whole, or why no further row comes, or
 -- nothing where a write failed
-abbrev pub EndsTable : Result ⊤ (RowsFault LineFault) → Result ⊤ WriteFault → Sending → Sending → Type 0
+abbrev pub EndsTable : Result ⊤ (RowsFault NextRowFault) → Result ⊤ Sent → Sending → Sending → Type 0
 EndsTable (Ok done) result old new = Sends result end_frame old new
 EndsTable (Err (Write fault)) result old new = (result ≡ Err fault) × (new ≡ old)
 EndsTable (Err (Row fault)) result old new = Sends result (error_frame (code_of_line fault)) old new

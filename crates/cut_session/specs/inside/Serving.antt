@@ -3,7 +3,7 @@ use Rattle.std.specs.Prelude.{◌≡◌, ◌+◌, ◌*◌, ◌-◌, ◌^◌, ◌
 use Rattle.cut_board.specs.declared.view.View.{View}
 use Rattle.cut_wires.specs.Log.{Traffic, passing}
 use Rattle.cut_wires.specs.Sending.{Sending, Sends, sent_on}
-use Rattle.cut_wires.specs.declared.send.WriteFault.{WriteFault}
+use Rattle.cut_wires.specs.declared.send.Sent.{Sent}
 use Rattle.cut_messages.specs.declared.side.Side.TheVariants.{Requests}
 use Rattle.cut_messages.specs.declared.kind.Kind.TheVariants as kind
 use Rattle.cut_messages.specs.declared.message.Message.{Message}
@@ -25,13 +25,13 @@ abbrev pub longest_reply : ℕ
 longest_reply = 2 ^ 21
 
 -- a reply of which P holds, of at most `most` bytes, was sent, or a write of it failed
-abbrev pub Replies : (List ℕ → Type 0) → ℕ → Result ⊤ WriteFault → Sending → Sending → Type 0
+abbrev pub Replies : (List ℕ → Type 0) → ℕ → Result ⊤ Sent → Sending → Sending → Type 0
 Replies P most result old new = (out : List ℕ) × P out × (length out ≤ most) × Sends result out old new
 
 -- ---- the replies to some messages
 
 -- of one message: the reply to it, or none where it quits
-abbrev pub Serves : HallValue → View → View → Message → Result Continuation WriteFault → Sending → Sending → Type 0
+abbrev pub Serves : HallValue → View → View → Message → Result Continuation Sent → Sending → Sending → Type 0
 Serves hall low high m (Ok On) old new = Replies (IsAnswered hall low high m) longest_reply (Ok tt) old new
 Serves hall low high m (Ok Over) old new = (m.kind ≡ kind.Quit) × Rises low high × (new ≡ old)
 Serves hall low high m (Err fault) old new = Replies (IsAnswered hall low high m) longest_reply (Err fault) old new

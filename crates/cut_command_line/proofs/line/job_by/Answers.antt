@@ -29,8 +29,12 @@ returns-in-Err-clause-err g c =
     let asked : IsAsked words kind = elim kinds [
       | inl none ↦ inr (inl none)
       | inr among ↦ inl (subst (λ (a : App). IsAmong kind (fault_of a words)) app among)
-    ] in
-    (kind, asked, c.line_fault.ensures ∙ ap status_of_kind c.kind.ensures)
+    ] in (
+      kind,
+      asked,
+      c.line_fault.ensures.status ∙ ap status_of_kind c.kind.ensures,
+      λ is. c.line_fault.ensures.text (c.kind.ensures ∙ is),
+    )
 
 faultless : (c : App) (words : List Text) → c ≡ program_app → fault_of c words ≡ [] → fault_of program_app words ≡ []
 faultless a words is none = ap (λ (x : App). fault_of x words) (sym is) ∙ none
@@ -90,8 +94,14 @@ returns-in-Ok-None-clause-err g c =
             (c.in-Ok.ensures.kinds (ap is_simple_and_free app ∙ is_free)),
         refl,
       )),
-      c.wrong_value.ensures,
+      c.wrong_value.ensures.status,
+      λ is. c.wrong_value.ensures.text is,
     )
 
 pub returns-clause-err : goal.returns-clause-err
-returns-clause-err g c = (OutOfMemory, inr (inl refl), c.line_fault-in-Err-job_of.ensures)
+returns-clause-err g c = (
+  OutOfMemory,
+  inr (inl refl),
+  c.line_fault-in-Err-job_of.ensures.status,
+  λ is. c.line_fault-in-Err-job_of.ensures.text refl,
+)

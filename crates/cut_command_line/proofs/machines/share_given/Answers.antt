@@ -5,7 +5,7 @@ use Rattle.std.specs.List.{position_or_len}
 use Rattle.clap.specs.Words.{Row, Text, found_of, first_of, rows_of}
 use Rattle.clap.proofs.WalkLemmas.{first_value-rows}
 use Rattle.cut_command_line.specs.declared.machines.ShareNumber.{ShareNumber}
-use Rattle.cut_command_line.specs.Line.{GivesShare, IsNumberIn}
+use Rattle.cut_command_line.specs.Line.{GivesShare, IsDigitsIn}
 use Rattle.cut_command_line.proofs.ShareLemmas.{IsShareText, is_slash, share_text}
 use Rattle.cut_command_line.proofs.machines.share_given.Goals as goal
 
@@ -43,7 +43,7 @@ returns-in_err-index-clause-none c =
     none rows c.from_residual-in_err-index.result c.from_residual-in_err-index.ensures (λ index shares gives.
     let is = split rows c.in_ok-text.text.now has index shares gives in
     c.in_err-index.ensures.none index
-    (subst (λ (t : Text). IsNumberIn 100000 t index) (sym cut.0) is.index_is))
+    (subst (λ (t : Text). IsDigitsIn 100000 t index) (sym cut.0) is.index_is))
 
 pub returns-in_err-shares-clause-none : goal.returns-in_err-shares-clause-none
 returns-in_err-shares-clause-none c =
@@ -53,10 +53,10 @@ returns-in_err-shares-clause-none c =
     none rows c.from_residual-in_err-shares.result c.from_residual-in_err-shares.ensures (λ index shares gives.
     let is = split rows c.in_ok-text.text.now has index shares gives in
     c.in_err-shares.ensures.none shares
-    (subst (λ (t : Text). IsNumberIn 100000 t shares) (sym cut.1) is.shares_are))
+    (subst (λ (t : Text). IsDigitsIn 100000 t shares) (sym cut.1) is.shares_are))
 
 -- two numbers that one text is are the same
-same : (text : Text) (n m : ℕ) → IsNumberIn 100000 text n → IsNumberIn 100000 text m → n ≡ m
+same : (text : Text) (n m : ℕ) → IsDigitsIn 100000 text n → IsDigitsIn 100000 text m → n ≡ m
 same text n m one other = sym one.value ∙ other.value
 
 pub returns-then-index-shares-clause-none : goal.returns-then-index-shares-clause-none
@@ -65,9 +65,9 @@ returns-then-index-shares-clause-none c = λ index shares gives.
     let has = sym (first_value-rows (found_of c.args.given.now) (codes "share")) ∙ sym c.in_ok-text.ensures in
     let cut = c.in_ok-first.ensures.byte (omega arith) (λ w o found. found) in
     let is = split rows c.in_ok-text.text.now has index shares gives in
-    let first = same _ _ _ (subst (λ (t : Text). IsNumberIn 100000 t index) (sym cut.0) is.index_is)
+    let first = same _ _ _ (subst (λ (t : Text). IsDigitsIn 100000 t index) (sym cut.0) is.index_is)
     c.in_ok-index.ensures.some in
-    let second = same _ _ _ (subst (λ (t : Text). IsNumberIn 100000 t shares) (sym cut.1) is.shares_are)
+    let second = same _ _ _ (subst (λ (t : Text). IsDigitsIn 100000 t shares) (sym cut.1) is.shares_are)
     c.in_ok-shares.ensures.some in
     omega (arith, first, second, is.within, c.if-index-shares.true)
 

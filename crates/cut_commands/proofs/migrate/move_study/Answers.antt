@@ -2,9 +2,7 @@
 use Rattle.std.proofs.Common.{◌≡◌, ◌∙◌, ℕ, Result, Err, sym, ap, subst}
 use Rattle.std.proofs.lemmas.Result.{err_from_is_err_and}
 use Rattle.cut_plan.specs.Values.{Values}
-use Rattle.cut_journal.specs.declared.fault.JournalFault.TheVariants.{NoStudy}
 use Rattle.cut_migration.specs.Migration as moves
-use Rattle.cut_journal.specs.Reading.{reading}
 use Rattle.cut_commands.specs.declared.fault.CliFault.{CliFault}
 use Rattle.cut_commands.specs.Migrate.{EndsMove}
 use Rattle.cut_commands.proofs.MigrateLemmas.{not_moved}
@@ -21,9 +19,7 @@ returns-in_err-count g c =
     (not_moved g.O.Disk.is_honest g.O.Disk.state g.N.Disk.is_honest g.N.Disk.state c.args.old c.args.new v
     c.in_ok-slips.slips.items c.in_err-count.field-0.0 c.in_ok-journal.journal c.migrate.new.journal
     c.in_ok-slips.ensures.read
-    (λ honest. subst (λ (w : Values). reading w (g.N.Disk.state c.args.new).bytes ≡ Err NoStudy)
-    c.in_ok-upgrade.ensures.value
-    (c.in_ok-journal.ensures.free honest))
+    c.in_ok-journal.ensures.free
     (c.in_ok-journal.ensures.plan ∙ c.in_ok-upgrade.ensures.value) c.in_ok-journal.ensures.whole
     (subst (λ xs. moves.EndsMigration (Err c.in_err-count.field-0.0) v xs c.in_ok-journal.journal c.migrate.new.journal)
     c.as_slice.ensures.value c.in_err-count.ensures.ends))

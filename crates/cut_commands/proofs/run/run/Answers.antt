@@ -4,8 +4,8 @@ use Rattle.std.proofs.lemmas.Result.{err_from_is_err_and}
 use Rattle.cut_plan.specs.Values.{Values}
 use Rattle.cut_ledger.specs.declared.slip.Slip.{Slip}
 use Rattle.cut_wires.specs.Log.{WireLog}
-use Rattle.cut_study.specs.Running.{slips_of, HasEnded}
-use Rattle.cut_study.specs.declared.study_run.Done.{Done}
+use Rattle.cut_pool.specs.Running.{slips_of, HasEnded}
+use Rattle.cut_pool.specs.declared.study_run.Done.{Done}
 use Rattle.cut_commands.specs.declared.fault.CliFault.{CliFault}
 use Rattle.cut_commands.specs.Run.{EndsCommand, GivesPlan}
 use Rattle.cut_commands.specs.Study.{study_task}
@@ -52,8 +52,8 @@ returns-in-Ok g c =
     let given : GivesPlan (Ok v) old mid = subst (λ (x : Result Values CliFault). GivesPlan x old mid) c.in_ok-plan.was
     c.read_plan.ensures in
     ends_left task v (Ok tt) old mid new given
-    (leaves_all honest state c.args.disk v slips done mid new c.in_ok-kept.ensures.begins
-    (subst (λ (b : Bool). HasEnded v slips b (Ok done)) c.in_ok-kept.ensures.some c.in-Ok.ensures.ended)
+    (leaves_all honest state c.args.disk v slips c.args.work.piece_size done mid new c.in_ok-kept.ensures.begins
+    (subst (λ (b : Bool). HasEnded v slips b c.args.work.piece_size (Ok done)) c.in_ok-kept.ensures.some c.in-Ok.ensures.ended)
     c.in-Ok.ensures.takes)
 
 pub returns : goal.returns
@@ -70,6 +70,6 @@ returns g c =
     c.read_plan.ensures in
     subst (λ (e : CliFault). EndsCommand task old new (Err e)) (sym c.from.ensures)
     (ends_left task v (Err _) old mid new given
-    (leaves_some honest state c.args.disk v slips c.in-Err.fault mid new c.in_ok-kept.ensures.begins
-    (subst (λ (b : Bool). HasEnded v slips b (Err c.in-Err.fault)) c.in_ok-kept.ensures.some c.in-Err.ensures.ended)
+    (leaves_some honest state c.args.disk v slips c.args.work.piece_size c.in-Err.fault mid new c.in_ok-kept.ensures.begins
+    (subst (λ (b : Bool). HasEnded v slips b c.args.work.piece_size (Err c.in-Err.fault)) c.in_ok-kept.ensures.some c.in-Err.ensures.ended)
     c.in-Err.ensures.takes))

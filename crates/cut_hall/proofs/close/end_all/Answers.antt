@@ -1,6 +1,7 @@
 use Rattle.std.proofs.Common.{◌≡◌, ◌+◌, ◌++◌, ◌∙◌, List, [], ◌∷◌, length, ap, arith, length-append}
 use Rattle.std.proofs.lemmas.List.Sums.{sum_by_push}
 use Rattle.cut_hall.specs.Report.{SlotEnd, calls_recorded, calls_in_all}
+use Rattle.cut_hall.proofs.Openings.{none_opened, one_more_opened}
 use Rattle.cut_hall.proofs.close.end_all.Goals as goal
 
 one_more : (slots now : List SlotEnd) (slot : SlotEnd) → now ≡ slots ++ slot ∷ []
@@ -22,6 +23,10 @@ loop-place-init g c =
       many = omega (arith, none.0, more.0, c.into_iter-place-iterator.ensures.into_iter_gives.1, c.remove.ensures.len);
       parts = omega (arith, none.0, more.0, c.end-slot.ensures.part);
       amount = omega (arith, none.1, more.1, c.end-slot.ensures.calls);
+      opened = one_more_opened g.K.CallLedger.opening c.in_ok-slots.slots.items c.push.new.self.items
+          c.end-slot.result.0 c.in_ok-push.ensures.items
+          (none_opened g.K.CallLedger.opening c.in_ok-slots.slots.items c.in_ok-slots.ensures.items)
+          c.end-slot.ensures.opened;
     }
 
 pub loop-place-preserved : goal.loop-place-preserved
@@ -33,6 +38,9 @@ loop-place-preserved g c =
       many = omega (arith, at.many, more.0, c.in-Some.ensures.steps.1);
       parts = omega (arith, c.merge.ensures.parts, at.parts, c.end-slot-in-loop-place.ensures.part, more.0);
       amount = omega (arith, c.merge.ensures.amount, at.amount, c.end-slot-in-loop-place.ensures.calls, more.1);
+      opened = one_more_opened g.K.CallLedger.opening c.loop-place.slots.items c.push-in-loop-place.new.self.items
+          c.end-slot-in-loop-place.result.0 c.in_ok-push-2.ensures.items at.opened
+          c.end-slot-in-loop-place.ensures.opened;
     }
 
 pub returns : goal.returns
@@ -42,4 +50,5 @@ returns g c =
     record {
       slots = omega (arith, at.many, none);
       kept = (omega (arith, at.parts, at.many, none), at.amount);
+      opened = at.opened;
     }

@@ -1,4 +1,4 @@
-use Rattle.std.proofs.Common.{false}
+use Rattle.std.proofs.Common.{false, None}
 use Rattle.cut_hall_tests.proofs.storms.storms_of_three_threads.Given as goal
 
 abbrev pub ghosts-run_storm-M-Ledger : goal.ghosts-run_storm-M-Ledger
@@ -8,7 +8,7 @@ abbrev pub ghosts-run_storm-K-Ledger : goal.ghosts-run_storm-K-Ledger
 ghosts-run_storm-K-Ledger g a = record { name = a.kept.name; parts = a.kept.parts }
 
 abbrev pub ghosts-run_storm-M-CallLedger : goal.ghosts-run_storm-M-CallLedger
-ghosts-run_storm-M-CallLedger g a = record { all = a.made.parts; trusts = false }
+ghosts-run_storm-M-CallLedger g a = record { all = a.made.parts; trusts = false; opening = None }
 
 abbrev pub ghosts-run_storm-K-CallLedger : goal.ghosts-run_storm-K-CallLedger
-ghosts-run_storm-K-CallLedger g a = record { all = a.kept.parts; trusts = false }
+ghosts-run_storm-K-CallLedger g a = record { all = a.kept.parts; trusts = false; opening = None }

@@ -1,15 +1,13 @@
-use Rattle.std.proofs.Common.{◌∷◌, []}
-use Rattle.cut_jobs.proofs.RefusedFiles.{sent_after, sent_before}
+use Rattle.std.specs.List.{flat_map}
+use Rattle.std.specs.Str.{chars}
+use Rattle.cut_jobs.specs.Quoted.{quoted_char}
+use Rattle.cut_jobs.specs.inside.Printing.{file_end}
+use Rattle.cut_jobs.proofs.RefusedFiles.{sent_after, whole_is}
 use Rattle.cut_jobs.proofs.join_job.report_path.Goals as goal
 
-pub returns-in-Ok : goal.returns-in-Ok
-returns-in-Ok g c =
+pub returns-then-send_quoted : goal.returns-then-send_quoted
+returns-then-send_quoted g c =
     let log = g.E.Wire.log in
-    sent_after c.args.path.now (10 ∷ []) (log c.args.errors.now) (log c.send_all.new.wire) (log c.report.new.errors)
-    (rw (c.as_bytes.ensures.value) at c.in-Ok.ensures) c.report.ensures
-
-pub returns-in-Err : goal.returns-in-Err
-returns-in-Err g c =
-    let log = g.E.Wire.log in
-    sent_before c.args.path.now (10 ∷ []) _ (log c.args.errors.now) (log c.send_all.new.wire)
-    (rw (c.as_bytes.ensures.value) at c.in-Err.ensures)
+    sent_after (flat_map quoted_char (chars c.args.path.now)) file_end (log c.args.errors.now)
+    (log c.send_quoted.new.errors) (log c.report.new.errors)
+    (whole_is _ _ _ _ c.send_quoted.ensures c.if-send_quoted.true) c.report.ensures

@@ -1,6 +1,6 @@
 use Rattle.std.proofs.Common.{◌≡◌, List, ℕ, [], ◌∷◌, ◌++◌, subst, ap, ◌∙◌}
 use Rattle.cut_commands.specs.Faults.{fault_line}
-use Rattle.cut_jobs.specs.Sent.{IsSent}
+use Rattle.cut_jobs.specs.Sending.{IsSent}
 use Rattle.cut_jobs.proofs.program.end_fault.Goals as goal
 
 pub returns : goal.returns

@@ -11,8 +11,10 @@ use Rattle.cut_options.proofs.commands.add.Goals as goal
 
 pub loop-arg-init : goal.loop-arg-init
 loop-arg-init c = record {
-  shape = ap app_of_fields c.after_help-command.ensures ∙ ap app_of_fields c.about.ensures ∙ c.new.ensures.app;
-  local = ap has_globals c.after_help-command.ensures ∙ ap has_globals c.about.ensures ∙ c.new.ensures.local;
+  shape = ap app_of_fields c.after_help-command.ensures ∙ ap app_of_fields c.about.ensures
+      ∙ ap app_of_fields c.override_usage.ensures ∙ c.new.ensures.app;
+  local = ap has_globals c.after_help-command.ensures ∙ ap has_globals c.about.ensures
+      ∙ ap has_globals c.override_usage.ensures ∙ c.new.ensures.local;
 }
 
 pub loop-arg-preserved : goal.loop-arg-preserved

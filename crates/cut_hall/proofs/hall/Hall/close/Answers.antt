@@ -1,11 +1,12 @@
-use Rattle.std.proofs.Common.{◌≡◌, ℕ, ◌<◌, ◌∙◌, List, length, Some, refl, sym, ap, arith}
+use Rattle.std.proofs.Common.{◌≡◌, ℕ, ◌<◌, ◌∙◌, List, length, Option, Some, refl, sym, ap, subst, arith}
 use Rattle.std.specs.Prelude.{slice_get}
 use Rattle.std.proofs.lemmas.Option.{slice_get_within}
 use Rattle.cut_board.specs.declared.totals.StudyTotals.{StudyTotals}
 use Rattle.cut_board.specs.Names.{studies_of, views_of}
 use Rattle.cut_board.specs.Totals.{total_of}
 use Rattle.cut_hall.specs.Hall.{HallValue}
-use Rattle.cut_hall.specs.Report.{SlotEnd, calls_in_all}
+use Rattle.cut_book.specs.History.{Opening}
+use Rattle.cut_hall.specs.Report.{SlotEnd, AreOpenedWith, calls_in_all}
 use Rattle.cut_hall.proofs.Audits.{total_at, totals_many}
 use Rattle.cut_hall.proofs.hall.Hall.close.Goals as goal
 
@@ -65,6 +66,7 @@ returns-clause-why g c =
     let many = c.in-Ok.ensures.parts.many in
     let all = ap (λ (r : HallValue). r.passes) c.self.view_is in
     let rooms = ap (λ (r : HallValue). r.slots) c.self.view_is in
+    let opening = ap (λ (r : HallValue). r.opening) c.self.view_is in
     let report : c.in-Err.mismatch.report ≡ slots = c.in-Err.ensures.report in (
       omega (arith, enough, many, all),
       omega (arith, ap (λ (l : List SlotEnd). length l) report, ended, places, rooms),
@@ -73,6 +75,9 @@ returns-clause-why g c =
       c.in-Err.mismatch.differ,
       ap calls_in_all report ∙ sym c.in-Ok-end_all.ensures.kept.1 ∙ sym c.compare.ensures
           ∙ c.in-Ok.ensures.parts.amount_is,
+      subst (λ (o : Option Opening). AreOpenedWith o c.in-Err.mismatch.report) opening
+          (subst (λ (l : List SlotEnd). AreOpenedWith g.K.CallLedger.opening l) (sym report)
+          c.in-Ok-end_all.ensures.opened),
     )
 
 pub returns-then-lacks_passes-clause-why : goal.returns-then-lacks_passes-clause-why
@@ -91,3 +96,10 @@ returns-in_default-clause-why g c =
     let all = ap (λ (r : HallValue). r.passes) c.self.view_is in
     let enough = c.lacks_passes.ensures.all c.if-lacks_passes.false in
     omega (arith, enough, c.self.invariant.1, all)
+
+pub returns-in-Ok-audit-clause-opened : goal.returns-in-Ok-audit-clause-opened
+returns-in-Ok-audit-clause-opened g c =
+    subst (λ (o : Option Opening). AreOpenedWith o c.in-Ok-audit.report)
+    (ap (λ (r : HallValue). r.opening) c.self.view_is)
+    (subst (λ (l : List SlotEnd). AreOpenedWith g.K.CallLedger.opening l) (sym c.in-Ok-audit.ensures.same)
+    c.in-Ok-end_all.ensures.opened)

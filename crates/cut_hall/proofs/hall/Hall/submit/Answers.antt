@@ -2,6 +2,7 @@ use Rattle.std.proofs.Common.{◌∙◌, Bool, IfOk, sym, ap, subst}
 use Rattle.cut_plan.specs.Values.{Values}
 use Rattle.cut_hall.specs.Hall.{HallValue}
 use Rattle.cut_hall.specs.Trust.{MayBegin}
+use Rattle.cut_hall.proofs.Begun.{refused_memory}
 use Rattle.cut_hall.proofs.hall.Hall.submit.Goals as goal
 
 pub returns-in-Same-clause-base : goal.returns-in-Same-clause-base
@@ -21,3 +22,7 @@ returns-in-Free-clause-base g c =
     (ap (λ (r : HallValue). r.is_trusted) c.self.view_is)
     (subst (λ (v : Values). IfOk c.begin-opened.result (λ o. MayBegin g.K.CallLedger.trusts v o.base))
     c.loop-study.invariant.0 c.begin-opened.ensures.base)
+
+pub returns-in-Same-clause-why : goal.returns-in-Same-clause-why
+returns-in-Same-clause-why g c =
+    refused_memory (g.S.Shelf.gives c.args.shelf.now c.args.plan) c.opened.result c.opened.ensures.why

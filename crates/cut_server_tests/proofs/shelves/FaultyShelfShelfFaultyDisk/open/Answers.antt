@@ -24,6 +24,7 @@ none_read v bytes slips none reads =
 
 pub returns-in-Ok : goal.returns-in-Ok
 returns-in-Ok c = record {
+  given = tt;
   trusted = λ t. (
     tt,
     λ slips reads. none_read c.args._plan.now (state_of c.in-Ok.disk.memory).bytes slips

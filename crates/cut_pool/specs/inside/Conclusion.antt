@@ -1,0 +1,49 @@
+-- What a run of a study answers, by how the writing of its table ended and how its hall was closed.
+use Rattle.std.specs.Prelude.{◌≡◌, ℕ, Bool, true, IsTrue, List, All, Result, Ok, Err, ⊤}
+use Rattle.cut_plan.specs.Values.{Values}
+use Rattle.cut_ledger.specs.declared.slip.Slip.{Slip}
+use Rattle.cut_ledger.specs.Slips.{IsFirstBad}
+use Rattle.cut_wires.specs.declared.rows.RowsFault.{RowsFault}
+use Rattle.cut_wires.specs.declared.rows.RowsFault.TheVariants as rows
+use Rattle.cut_hall.specs.declared.next_row_fault.NextRowFault.{NextRowFault}
+use Rattle.cut_pool.specs.declared.run_fault.RunFault.{RunFault}
+use Rattle.cut_pool.specs.declared.run_fault.RunFault.TheVariants.{BadSlip, Checkpoint, Write, WorkMemory}
+use Rattle.cut_pool.specs.declared.run_fault.RunFault.TheVariants.{AuditMismatch}
+use Rattle.cut_pool.specs.declared.study_run.Done.{Done}
+use Rattle.cut_hall.specs.Report.{SlotEnd}
+
+-- why a run did not begin: where memory ran out, which says nothing of the slips, or for the first bad slip
+abbrev pub IsNotBegun : Values → List Slip → RunFault → Type 0
+IsNotBegun v slips WorkMemory = ⊤
+IsNotBegun v slips (BadSlip number) = IsFirstBad v slips number
+IsNotBegun v slips other = ⊥
+
+-- why its hall was not closed
+abbrev pub IsNotEnded : RunFault → Type 0
+IsNotEnded WorkMemory = ⊤
+IsNotEnded AuditMismatch = ⊤
+IsNotEnded other = ⊥
+
+-- a write did not fail
+abbrev pub NoWriteFailed : Result ℕ (RowsFault NextRowFault) → Type 0
+NoWriteFailed (Err (rows.Write fault)) = ⊥
+NoWriteFailed sent = ⊤
+
+-- what a run answers where a line did not come: Checkpoint only with a journal, and no fault of a write or a slip
+abbrev pub CanLose : RunFault → Bool → Type 0
+CanLose WorkMemory has_journal = ⊤
+CanLose AuditMismatch has_journal = ⊤
+CanLose Checkpoint has_journal = IsTrue has_journal
+CanLose other has_journal = ⊥
+
+-- the answer: done where all was sent, and the hall was closed with every trial held; a write that failed as it is; and
+-- else another fault, Checkpoint only of a study with a journal
+abbrev pub Concludes : Result ℕ (RowsFault NextRowFault) → Result (List SlotEnd) RunFault → Bool → Result Done RunFault
+    → Type 0
+Concludes sent closed has_journal (Ok d) =
+    (sent ≡ Ok d.sent) × (closed ≡ Ok d.report) × All (λ slot. slot.complete ≡ true) d.report
+Concludes sent closed has_journal (Err (Write fault)) = sent ≡ Err (rows.Write fault)
+Concludes sent closed has_journal (Err Checkpoint) = NoWriteFailed sent × IsTrue has_journal
+Concludes sent closed has_journal (Err WorkMemory) = NoWriteFailed sent
+Concludes sent closed has_journal (Err AuditMismatch) = NoWriteFailed sent
+Concludes sent closed has_journal (Err (BadSlip number)) = ⊥

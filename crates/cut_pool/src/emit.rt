@@ -1,0 +1,108 @@
+ghost use Rattle.std.specs.Prelude.{◌≡◌, ◌+◌, ◌<◌, ◌≤◌, length, OnOk};
+ghost use Rattle.cut_plan.specs.Cells.{cells_of};
+ghost use Rattle.cut_ledger.specs.Table.{table_over};
+ghost use Rattle.cut_pool.specs.inside.Emission.{EmitsStudy, emitted};
+
+use cut_book::Opened;
+use cut_disks::Disk;
+use cut_hall::{CallLedger, Gate, Hall, NextRowFault, Pass, StudyCell};
+use cut_lines::header;
+use cut_wires::{Line, Plain, Rows, RowsFault, Wire, send_rows};
+use std::alloc::Global;
+use std::sync::Wait;
+
+/// Why a study's table was not written to its end: a write failed, or the next line did not come.
+pub(crate) type EmitFault = RowsFault<NextRowFault>;
+
+/// The lines of an opened study, each as soon as it comes. While one does not, this thread works on the study's
+/// pieces too. Each line is one call that the pass made.
+#[derive(Drop)]
+pub(crate) struct StudyRows<'a, D: Disk, M: CallLedger, K: CallLedger, G, R> {
+    pub(crate) rt: &'a R,
+    pub(crate) alloc: Global,
+    pub(crate) hall: &'a Hall<D, M, K>,
+    pub(crate) opened: &'a Opened,
+    pub(crate) pass: &'a mut Pass<M>,
+    pub(crate) gate: &'a G,
+    ghost own: { pass.now.hall ≡ hall.now.id },
+    ghost slot: { opened.now.study < hall.now.slots },
+}
+
+impl<D, M, K, G, R> Rows for StudyRows<'_, D, M, K, G, R>
+where
+    D: Disk + Drop,
+    M: CallLedger,
+    K: CallLedger,
+    G: Gate,
+    R: Wait,
+{
+    ghost use Rattle.std.proofs.Common.{arith};
+    ghost use Rattle.cut_pool.specs.inside.Emission.{Worked, begun, lines_of};
+
+    type Fault = NextRowFault;
+
+    ghost table = { λ rows. lines_of rows.opened.now.plan rows.opened.now.base };
+
+    ghost HasGiven = { λ first n rows.
+        Worked first.pass.ghost_name first.pass.now n rows.pass.ghost_name rows.pass.now };
+
+    ghost HasFailed = { λ first n fault rows.
+        Worked first.pass.ghost_name first.pass.now n rows.pass.ghost_name rows.pass.now };
+
+    fn header(&self) -> &[u8] {
+        header(&self.opened.plan)
+    }
+
+    fn count(&self) -> u32 {
+        self.opened.plan.cells()
+    }
+
+    fn row(&mut self, place: u32) -> Result<Vec<u8>, NextRowFault> {
+        let (hall, opened) = (self.hall, self.opened);
+        let wanted = StudyCell {
+            study: opened.study,
+            cell: place,
+        };
+        hall.work_on_cell(self.rt, self.alloc, self.pass, self.gate, wanted);
+        hall.next_row(self.rt, self.alloc, self.pass, opened, place)
+    }
+
+    ghost begins = { λ rows. begun rows.pass.ghost_name rows.pass.now };
+
+    ghost fits = { λ _. Prim.omega arith };
+}
+
+/// Writes the table of an opened study: the header, and the line of each cell in order. Returns how many bytes the
+/// table has.
+pub(crate) fn emit<D, M, K, W, G, R>(
+    rows: &mut StudyRows<'_, D, M, K, G, R>,
+    wire: &mut W,
+) -> Result<u64, EmitFault>
+where
+    D: Disk + Drop,
+    M: CallLedger,
+    K: CallLedger,
+    W: Wire,
+    G: Gate,
+    R: Wait,
+    ensures emits { EmitsStudy (table_over rows.old.opened.now.plan rows.old.opened.now.base) result
+        (W.log wire.old) (W.log wire.new) }
+    ensures pass { rows.new.pass.ghost_name ≡ rows.old.pass.ghost_name }
+    ensures own { rows.new.pass.now.hall ≡ rows.old.pass.now.hall }
+    ensures made { OnOk result (rows.old.pass.now.made + length (cells_of rows.old.opened.now.plan)
+        ≤ rows.new.pass.now.made) }
+{
+    let mut line = Line::new(wire);
+    let result = send_rows::<Plain, StudyRows<'_, D, M, K, G, R>, W>(rows, &mut line);
+    emitted(result, line.sent())
+}
+
+/// How the writing of a table ended, by how the sending of its lines did, and by how many bytes were sent then.
+fn emitted(outcome: Result<(), EmitFault>, sent: u64) -> Result<u64, EmitFault>
+    ensures { result ≡ emitted outcome sent }
+{
+    match outcome {
+        Ok(()) => Ok(sent),
+        Err(fault) => Err(fault),
+    }
+}

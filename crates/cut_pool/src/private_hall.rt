@@ -1,0 +1,314 @@
+ghost use Rattle.std.proofs.Props.{props};
+ghost use Rattle.std.specs.Prelude.{false, Some, ◌≡◌, ◌+◌, ◌<◌, ◌≤◌, length, All, IfOk, IfErr, OnOk};
+ghost use Rattle.atomic_table.specs.Seated.{TableId};
+ghost use Rattle.cut_plan.specs.Cells.{cells_of};
+ghost use Rattle.cut_ledger.specs.Table.{table_over};
+ghost use Rattle.cut_ledger.specs.Slips.{AreGood};
+ghost use Rattle.cut_pool.specs.inside.Conclusion.{IsNotEnded};
+ghost use Rattle.cut_pool.specs.inside.Emission.{EmitsStudy};
+ghost use Rattle.cut_hall.specs.Report.{AreOpenedWith, calls_in_all};
+ghost use Rattle.cut_pool.specs.inside.Faults.{of_closing};
+ghost use Rattle.cut_book.specs.Book.{IsFresh, opening_of};
+ghost use Rattle.cut_hall.specs.Trust.{begun_props};
+
+use crate::RunFault;
+use crate::emit::{EmitFault, StudyRows, emit};
+use cut_book::{Book, Opened};
+use cut_disks::Disk;
+use cut_hall::{Blanks, CallLedger, Gate, Hall, NotClosed, Pass, Report};
+use cut_wires::Wire;
+use std::alloc::{AllocError, Global};
+use std::sync::Wait;
+use std::thread::{Threads, join_mut};
+use std::{mem, thread};
+
+/// A study of which nothing was asked yet, and by how many workers, in pieces of how many trials, it is to be run.
+#[derive(Drop)]
+pub(crate) struct Begun<D: Disk> {
+    pub(crate) book: Book<D>,
+    pub(crate) piece_size: u32,
+    pub(crate) workers: u32,
+    ghost size: { 1 ≤ piece_size },
+    ghost few: { (1 ≤ workers) × (workers ≤ 64) },
+    ghost fresh: { IsFresh book.state.ledger.plan book.size book } by { Prim.hlevel props },
+    ghost good: { AreGood book.state.ledger.plan book.state.ledger.base } by { Prim.hlevel begun_props },
+}
+
+/// What a worker works with, beside its pass.
+#[derive(Clone, Copy)]
+struct Tools<'a, R, G> {
+    rt: &'a R,
+    alloc: Global,
+    gate: &'a G,
+}
+
+/// The passes of a study's workers: that of the thread that writes, and those of all others.
+#[derive(Drop)]
+struct Crew<M: CallLedger> {
+    writer: Pass<M>,
+    others: Vec<Pass<M>>,
+}
+
+/// A hall whose only slot has a study, with the passes of its workers.
+#[derive(Drop)]
+pub(crate) struct PrivateHall<D: Disk, M: CallLedger, K: CallLedger> {
+    pub(crate) hall: Hall<D, M, K>,
+    pub(crate) opened: Opened,
+    crew: Crew<M>,
+    ghost one_slot: { hall.slots ≡ 1 },
+    ghost its_slot: { opened.study ≡ 0 },
+    ghost others_own: { All (λ p. p.hall ≡ hall.id) crew.others.items },
+    ghost writer_own: { crew.writer.hall ≡ hall.id },
+}
+
+impl<D: Disk + Drop, M: CallLedger, K: CallLedger> PrivateHall<D, M, K> {
+    /// The hall of a study that has begun. The blanks are for the two ledgers of calls, of which the first has a part
+    /// for each worker, and the second has one part. Fails only where memory runs out.
+    pub(crate) fn open(
+        alloc: Global,
+        begun: Begun<D>,
+        blanks: Blanks,
+    ) -> Result<PrivateHall<D, M, K>, AllocError>
+        requires untrusted { K.trusts ≡ false }
+        requires made { (blanks.made.name ≡ M.name) × (blanks.made.parts ≡ M.parts)
+            × (M.all ≡ M.parts) × (M.all ≡ begun.workers) }
+        requires kept { (blanks.kept.name ≡ K.name) × (blanks.kept.parts ≡ K.parts)
+            × (K.all ≡ K.parts) × (K.all ≡ 1) × (K.opening ≡ Some (opening_of begun.book)) }
+        ensures plan { IfOk result (λ s. s.opened.plan ≡ begun.book.state.ledger.plan) }
+        ensures base { IfOk result (λ s. s.opened.base ≡ begun.book.state.ledger.base) }
+        ensures opening { IfOk result (λ s. s.hall.opening ≡ Some (opening_of begun.book)) }
+    {
+        let Begun {
+            book,
+            piece_size,
+            workers,
+        } = begun;
+        let opened = Opened {
+            study: 0,
+            plan: book.ledger().plan().try_clone(alloc)?,
+            base: book.ledger().base().try_clone(alloc)?,
+        };
+        let (hall, mut others) = Hall::of_book(alloc, book, piece_size, workers, blanks)?;
+        let Some(writer) = others.pop() else {
+            unreachable!()
+        };
+        Ok(PrivateHall {
+            hall,
+            opened,
+            crew: Crew { writer, others },
+        })
+    }
+
+    /// Lets the other workers work, each in a thread of its own where one can be made, and writes the table in this
+    /// one, which works too while a line is not there. Then closes the hall. Returns how either ended.
+    pub(crate) fn run<'a, W, G, R>(
+        self,
+        rt: &'a R,
+        alloc: Global,
+        wire: &mut W,
+        gate: &'a G,
+    ) -> (Result<u64, EmitFault>, Result<Report, RunFault>)
+    where
+        D: Send,
+        M: Send + Sync,
+        K: Send + Sync,
+        W: Wire,
+        G: Gate + Sync,
+        R: Threads + Wait + Sync,
+        requires ledgers { (M.all ≡ M.parts) × (K.all ≡ K.parts) }
+        ensures emits { EmitsStudy (table_over self.opened.plan self.opened.base) result.0
+            (W.log wire.old) (W.log wire.new) }
+        ensures one { IfOk result.1 (λ report. length report ≡ 1) }
+        ensures opened { IfOk result.1 (λ report. AreOpenedWith self.hall.opening report) }
+        ensures calls { OnOk result.0 (IfOk result.1
+            (λ report. length (cells_of self.opened.plan) ≤ calls_in_all report)) }
+        ensures why { IfErr result.1 IsNotEnded }
+    {
+        let PrivateHall {
+            hall,
+            opened,
+            mut crew,
+        } = self;
+        let tools = Tools { rt, alloc, gate };
+        let sent = stream(tools, &hall, &opened, &mut crew, wire);
+        (sent, closed(alloc, hall, crew))
+    }
+}
+
+/// Lets the other workers work in threads of their own, and writes the table in this one. Once it is written, or can't
+/// be, the hall is stopped.
+fn stream<D, M, K, W, G, R>(
+    tools: Tools<'_, R, G>,
+    hall: &Hall<D, M, K>,
+    opened: &Opened,
+    crew: &mut Crew<M>,
+    wire: &mut W,
+) -> Result<u64, EmitFault>
+where
+    D: Disk + Drop + Send,
+    M: CallLedger + Send + Sync,
+    K: CallLedger + Send + Sync,
+    W: Wire,
+    G: Gate + Sync,
+    R: Threads + Wait + Sync,
+    requires slot { opened.now.study < hall.now.slots }
+    requires others { All (λ p. p.hall ≡ hall.now.id) crew.old.others.items }
+    requires writer { crew.old.writer.hall ≡ hall.now.id }
+    ensures emits { EmitsStudy (table_over opened.now.plan opened.now.base) result
+        (W.log wire.old) (W.log wire.new) }
+    ensures others { All (λ p. p.hall ≡ hall.now.id) crew.new.others.items }
+    ensures writer { crew.new.writer.hall ≡ hall.now.id }
+    ensures made { OnOk result (length (cells_of opened.now.plan) ≤ crew.new.writer.made) }
+{
+    let Tools { rt, alloc, gate } = tools;
+    let Crew { writer, others } = crew;
+    let mut write = || -> Result<u64, EmitFault>
+        requires own { writer.now.hall ≡ hall.now.id }
+        requires slot { opened.now.study < hall.now.slots }
+        ensures emits { EmitsStudy (table_over opened.entry.now.plan opened.entry.now.base) result
+            (W.log wire.entry.now) (W.log wire.exit.now) }
+        ensures own { writer.exit.now.hall ≡ hall.entry.now.id }
+        ensures made { OnOk result (length (cells_of opened.entry.now.plan) ≤ writer.exit.now.made) }
+    {
+        let mut rows = StudyRows {
+            rt,
+            alloc,
+            hall,
+            opened,
+            pass: writer,
+            gate,
+        };
+        let sent = emit(&mut rows, wire);
+        hall.stop(rt);
+        sent
+    };
+    work_beside(tools, hall, others, &mut write)
+}
+
+/// A hall as the threads of workers share it.
+trait Workplace<M: CallLedger> {
+    /// Which hall it is.
+    ghost id_of: { Self → TableId };
+
+    /// That it has a slot.
+    ghost has_slot: { Self → Type 0 };
+
+    /// Works on the pieces of the first study until none are left to be drawn.
+    fn work_off_first<G: Gate, R: Wait>(&self, rt: &R, alloc: Global, pass: &mut Pass<M>, gate: &G)
+        requires own { pass.old.hall ≡ id_of self.now }
+        requires slot { has_slot self.now }
+        ensures { pass.new.hall ≡ pass.old.hall };
+}
+
+impl<D: Disk + Drop, M: CallLedger, K: CallLedger> Workplace<M> for Hall<D, M, K> {
+    ghost id_of = { λ h. h.id };
+
+    ghost has_slot = { λ h. 0 < h.slots };
+
+    fn work_off_first<G: Gate, R: Wait>(
+        &self,
+        rt: &R,
+        alloc: Global,
+        pass: &mut Pass<M>,
+        gate: &G,
+    ) {
+        self.work_off(rt, alloc, pass, gate, 0);
+    }
+}
+
+/// Lets each pass work in a thread of its own, and writes in this one meanwhile. Where no thread can be made, they
+/// find nothing left to do once it has written.
+fn work_beside<S, M, G, R, F>(
+    tools: Tools<'_, R, G>,
+    hall: &S,
+    passes: &mut Vec<Pass<M>>,
+    write: &mut F,
+) -> Result<u64, EmitFault>
+where
+    S: Workplace<M> + Sync,
+    M: CallLedger + Send + Sync,
+    G: Gate + Sync,
+    R: Threads + Wait + Sync,
+    F: FnMut() -> Result<u64, EmitFault>,
+    requires slot { S.has_slot hall.now }
+    requires own { All (λ p. p.hall ≡ S.id_of hall.now) passes.old.items }
+    requires write { F.pre write.old }
+    ensures own { All (λ p. p.hall ≡ S.id_of hall.now) passes.new.items }
+    ensures write { F.step write.old result write.new }
+{
+    let Tools { rt, alloc, gate } = tools;
+    let mut work = ||
+        requires { S.has_slot hall.now × All (λ p. p.hall ≡ S.id_of hall.now) passes.now.items }
+        ensures { All (λ p. p.hall ≡ S.id_of hall.entry.now) passes.exit.now.items }
+    { work_off_all(rt, alloc, hall, gate, passes) };
+    let (_, written) = join_mut(rt, &mut work, write);
+    written
+}
+
+/// Lets each pass work on the pieces of the first study, in a thread of its own where one can be made, until none
+/// are left to be drawn. Where memory is refused the passes are gone, and the thread that writes does their work.
+fn work_off_all<S, M, G, R>(rt: &R, alloc: Global, hall: &S, gate: &G, passes: &mut Vec<Pass<M>>)
+where
+    S: Workplace<M> + Sync,
+    M: CallLedger + Send + Sync,
+    G: Gate + Sync,
+    R: Threads + Wait + Sync,
+    requires slot { S.has_slot hall.now }
+    requires own { All (λ p. p.hall ≡ S.id_of hall.now) passes.old.items }
+    ensures { All (λ p. p.hall ≡ S.id_of hall.now) passes.new.items }
+{
+    let waiting = mem::replace(passes, Vec::new(alloc));
+    let worked = thread::map_vec(
+        rt,
+        waiting,
+        &|mut pass: Pass<M>| -> Pass<M>
+            requires { S.has_slot hall.now × (pass.hall ≡ S.id_of hall.now) }
+            ensures { result.hall ≡ S.id_of hall.entry.now }
+        {
+            hall.work_off_first(rt, alloc, &mut pass, gate);
+            pass
+        },
+    );
+    if let Ok(worked) = worked {
+        *passes = worked;
+    }
+}
+
+/// Closes a hall with the passes of its workers. Where passes are missing, it was where memory runs out.
+fn closed<D, M, K>(alloc: Global, hall: Hall<D, M, K>, crew: Crew<M>) -> Result<Report, RunFault>
+where
+    D: Disk + Drop,
+    M: CallLedger,
+    K: CallLedger,
+    requires ledgers { (M.all ≡ M.parts) × (K.all ≡ K.parts) }
+    requires others { All (λ p. p.hall ≡ hall.id) crew.others.items }
+    requires writer { crew.writer.hall ≡ hall.id }
+    ensures slots { IfOk result (λ report. length report ≡ hall.slots) }
+    ensures opened { IfOk result (λ report. AreOpenedWith hall.opening report) }
+    ensures calls { IfOk result (λ report. crew.writer.made ≤ calls_in_all report) }
+    ensures why { IfErr result IsNotEnded }
+{
+    let Crew {
+        writer,
+        others: mut passes,
+    } = crew;
+    let Ok(()) = passes.push(writer) else {
+        return Err(RunFault::WorkMemory);
+    };
+    match hall.close(alloc, passes) {
+        Ok(report) => Ok(report),
+        Err(not_closed) => Err(fault_of_closing(not_closed)),
+    }
+}
+
+/// Why a run ended whose hall was not closed.
+fn fault_of_closing<T: Drop>(not_closed: NotClosed<T>) -> RunFault
+    ensures value { result ≡ of_closing not_closed }
+    ensures why { IsNotEnded result }
+{
+    match not_closed {
+        NotClosed::AuditMismatch(_mismatch) => RunFault::AuditMismatch,
+        NotClosed::Memory => RunFault::WorkMemory,
+        NotClosed::SeatMissing(_back) => RunFault::WorkMemory,
+    }
+}

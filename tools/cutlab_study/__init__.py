@@ -1,0 +1,1 @@
+"""Studies around the program: exact shares of conflicts, choices, comparisons and reports of tables."""

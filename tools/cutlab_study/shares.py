@@ -1,0 +1,294 @@
+"""Exact shares of proposals, where every order of the alerts at a receiver is equally likely.
+
+Give each alert a time of its own between 0 and 1, each evenly spread: then every order of the alerts is equally likely. A
+process with `alerts` alerts is reported from the time of its L-th alert on, and stable from that of its H-th. A receiver
+proposes as soon as some process is stable and none is reported without being stable. So for a set S of processes let f_S(u)
+be the density with which a receiver that hears of S alone proposes all of S at the time u. Whoever has heard enough of all of S
+at u has proposed some part T of S at some v up to u, and of the others in S it had not heard L alerts then:
+
+    A_S(u) = sum over the nonempty T in S of the integral from 0 to u of f_T(v) Q_(S - T)(v, u) dv
+
+where A_S(u) is the chance that each process of S is stable at u, and Q_R(v, u) the chance that each of R is not reported at v
+and is stable at u. The chance that S is proposed, among others of which a set R is never in a proposal or comes later, is the
+integral of f_S(v) B_R(v), where B_R(v) is the chance that none of R is reported at v.
+
+All of these are polynomials. In powers u^n / n! they have whole coefficients, so the chances are exact fractions.
+
+Processes of one kind are taken by number. With implicit alerts a process needs fewer alerts of its own, the more of its
+observers are in the proposed set; processes that observe one another are then taken one by one.
+"""
+from __future__ import annotations
+
+from dataclasses import dataclass
+from fractions import Fraction
+from functools import lru_cache
+from itertools import accumulate, product
+from math import comb, factorial, lcm, prod
+from typing import Iterator, Sequence
+
+# A polynomial in one variable: the coefficient of each power. In two, those of v^a (u - v)^(b - a), by (a, b).
+Polynomial = dict[int, int]
+Surface = dict[tuple[int, int], int]
+
+
+@dataclass(frozen=True, order=True)
+class Kind:
+    """Processes that are alike: this many alerts come of each, and each is one of the failed ones or not."""
+
+    alerts: int
+    is_target: bool
+
+
+@dataclass(frozen=True)
+class Rule:
+    """The watermarks: a process is reported with L alerts, and stable with H."""
+
+    h: int
+    l: int
+
+
+@dataclass(frozen=True)
+class Need:
+    """What a process of a proposed set needs to be stable there: of its alerts, `inner` come from observers in the set, whose
+    rings count anyway, and of the others it needs `outer`; it needs L of all."""
+
+    alerts: int
+    inner: int
+    outer: int
+
+
+def times(one: Polynomial, other: Polynomial) -> Polynomial:
+    found: Polynomial = {}
+    for (a, x), (b, y) in product(one.items(), other.items()):
+        found[a + b] = found.get(a + b, 0) + x * y
+    return found
+
+
+def times_on(one: Surface, other: Surface) -> Surface:
+    found: Surface = {}
+    for ((a, b), x), ((c, d), y) in product(one.items(), other.items()):
+        key = (a + c, b + d)
+        found[key] = found.get(key, 0) + x * y
+    return {key: value for key, value in found.items() if value}
+
+
+def power(one: Surface, exponent: int, known: dict[int, Surface]) -> Surface:
+    """A power of a surface; those that were computed are kept in `known`."""
+    if exponent not in known:
+        known[exponent] = {(0, 0): 1} if exponent == 0 else times_on(power(one, exponent - 1, known), one)
+    return known[exponent]
+
+
+def difference(values: Sequence[int], order: int) -> int:
+    """The difference of some order of values, at the first of them."""
+    return sum((-1) ** (order - i) * comb(order, i) * values[i] for i in range(order + 1))
+
+
+@lru_cache(maxsize=None)
+def unreported(alerts: int, l: int) -> tuple[tuple[int, int], ...]:
+    """The chance that fewer than L of some alerts came by v."""
+    flags = [int(i < l) for i in range(alerts + 1)]
+    found = ((a, comb(alerts, a) * difference(flags, a)) for a in range(alerts + 1))
+    return tuple((a, x) for a, x in found if x)
+
+
+@lru_cache(maxsize=None)
+def stable(need: Need, l: int) -> tuple[tuple[int, int], ...]:
+    """The chance that a process has all that it needs by u."""
+    surface = unreported_then_stable(need, l, True)
+    found: Polynomial = {}
+    for (a, b), x in surface:
+        if a == 0:
+            found[b] = found.get(b, 0) + x
+    return tuple(found.items())
+
+
+@lru_cache(maxsize=None)
+def unreported_then_stable(need: Need, l: int, at_start: bool = False) -> tuple[tuple[tuple[int, int], int], ...]:
+    """The chance that fewer than L of a process's alerts came by v, and all that it needs by u.
+
+    For each of the two kinds of alerts let i come by v and j after v, up to u. The chance of a condition on these four numbers
+    is a sum over its differences at 0, as that of a condition on one number is.
+    """
+    outer, inner = need.alerts - need.inner, need.inner
+    found: Surface = {}
+    size = need.alerts + 1
+
+    def holds(i: int, j: int, m: int, n: int) -> int:
+        early, late = i + m, i + j + m + n
+        return int(early < l and i + j >= need.outer and late >= l)
+
+    if inner == 0:
+        table = [[holds(i, j, 0, 0) for j in range(size)] for i in range(size)]
+        for a in range(outer + 1):
+            rows = [[table[i][j] for j in range(size)] for i in range(a + 1)]
+            folded = [sum((-1) ** (a - i) * comb(a, i) * rows[i][j] for i in range(a + 1)) for j in range(outer - a + 1)]
+            for c in range(outer - a + 1):
+                value = factorial(outer) // (factorial(a) * factorial(c) * factorial(outer - a - c)) * difference(folded, c)
+                if value:
+                    found[a, a + c] = found.get((a, a + c), 0) + value
+        return tuple(found.items())
+    for a, c in ((a, c) for a in range(outer + 1) for c in range(outer - a + 1)):
+        for d, e in ((d, e) for d in range(inner + 1) for e in range(inner - d + 1)):
+            change = sum((-1) ** (a - i + c - j + d - m + e - n) * comb(a, i) * comb(c, j) * comb(d, m) * comb(e, n)
+                         * holds(i, j, m, n)
+                         for i in range(a + 1) for j in range(c + 1) for m in range(d + 1) for n in range(e + 1))
+            if change:
+                ways = (factorial(outer) // (factorial(a) * factorial(c) * factorial(outer - a - c))
+                        * (factorial(inner) // (factorial(d) * factorial(e) * factorial(inner - d - e))))
+                key = (a + d, a + d + c + e)
+                found[key] = found.get(key, 0) + ways * change
+    return tuple(found.items())
+
+
+@dataclass(frozen=True)
+class Single:
+    """A process that is taken by itself, as others that may be proposed observe it, or are observed by it. Of each ring it is
+    known which of these observes it there, if one does, and whether its alert comes."""
+
+    alerts: int
+    is_target: bool
+    observed: tuple[tuple[int, bool], ...]
+
+    def need(self, h: int, members: int) -> Need:
+        """What it needs in a set of singles, which is a number whose bits are its members."""
+        inside = [is_alerted for observer, is_alerted in self.observed if members >> observer & 1]
+        return Need(self.alerts, sum(inside), max(0, h - len(inside)))
+
+
+@dataclass(frozen=True)
+class World:
+    """The processes of which alerts come to a receiver: kinds with their numbers, and singles."""
+
+    kinds: tuple[tuple[Kind, int], ...]
+    singles: tuple[Single, ...] = ()
+
+
+@dataclass(frozen=True)
+class Proposed:
+    """A proposal: how many of each kind and which singles it has, in how many ways these can be chosen, and the share of the
+    orders in which one such set is proposed."""
+
+    counts: tuple[int, ...]
+    members: int
+    ways: int
+    share: Fraction
+
+
+def below(counts: Sequence[int]) -> Iterator[tuple[int, ...]]:
+    return product(*(range(count + 1) for count in counts))
+
+
+def submasks(mask: int) -> Iterator[int]:
+    """The subsets of a set of singles, the whole one first."""
+    part = mask
+    while True:
+        yield part
+        if part == 0:
+            return
+        part = (part - 1) & mask
+
+
+class Shares:
+    """The shares of the proposals that a receiver may make, in a world and by a rule."""
+
+    def __init__(self, world: World, rule: Rule) -> None:
+        self.world, self.rule = world, rule
+        # Only what may become stable is in a proposal; the other kinds can only keep a receiver silent.
+        self.open = [(kind, number) for kind, number in world.kinds if kind.alerts >= rule.h]
+        self.shut = [(kind, number) for kind, number in world.kinds if kind.alerts < rule.h]
+        self.surfaces = [dict(unreported_then_stable(Need(kind.alerts, 0, rule.h), rule.l)) for kind, _ in self.open]
+        self.powers: list[dict[int, Surface]] = [{} for _ in self.open]
+        self.densities: dict[tuple[tuple[int, ...], int], Polynomial] = {}
+        self.sums: dict[tuple[tuple[int, ...], int, int], dict[int, list[int]]] = {}
+
+    def all_stable(self, counts: Sequence[int], members: int) -> Polynomial:
+        """The chance that each process of a set is stable by u."""
+        found: Polynomial = {0: 1}
+        for (kind, _), count in zip(self.open, counts):
+            one = dict(stable(Need(kind.alerts, 0, self.rule.h), self.rule.l))
+            for _ in range(count):
+                found = times(found, one)
+        for at, single in enumerate(self.world.singles):
+            if members >> at & 1:
+                found = times(found, dict(stable(single.need(self.rule.h, members), self.rule.l)))
+        return found
+
+    def later(self, counts: Sequence[int], singles: int, members: int) -> Surface:
+        """The chance that none of some processes is reported at v, and each is stable at u, in a set of these members."""
+        found: Surface = {(0, 0): 1}
+        for surface, known, count in zip(self.surfaces, self.powers, counts):
+            found = times_on(found, power(surface, count, known)) if count else found
+        for at, single in enumerate(self.world.singles):
+            if singles >> at & 1:
+                found = times_on(found, dict(unreported_then_stable(single.need(self.rule.h, members), self.rule.l)))
+        return found
+
+    def integrals(self, counts: tuple[int, ...], singles: int, members: int, most: int) -> dict[int, list[int]]:
+        """For each power b of `later`, the numbers by which u^(p + b + 1) / (p + b + 1)! counts where v^p / p! is integrated
+        against it, for each p up to `most`. They are sums of binomial numbers, and so repeated sums of the coefficients."""
+        key = (counts, singles, members if singles else 0)
+        known = self.sums.get(key)
+        if known is not None and all(len(its) > most for its in known.values()):
+            return known
+        rows: dict[int, list[int]] = {}
+        for (a, b), x in self.later(counts, singles, members).items():
+            rows.setdefault(b, [0] * (b + 1))[b - a] += x * factorial(a) * factorial(b - a)
+        found = {}
+        for b, row in rows.items():
+            its = []
+            for _ in range(most + 1):
+                row = list(accumulate(row))
+                its.append(row[-1])
+            found[b] = its
+        self.sums[key] = found
+        return found
+
+    def density(self, counts: tuple[int, ...], members: int) -> Polynomial:
+        """The density with which a receiver that hears of a set alone proposes all of it, by powers u^p / p!."""
+        if (counts, members) in self.densities:
+            return self.densities[counts, members]
+        whole = {n: x * factorial(n) for n, x in self.all_stable(counts, members).items()}
+        size = sum(kind.alerts * number for kind, number in self.open) + sum(it.alerts for it in self.world.singles)
+        for part, singles in product(below(counts), submasks(members)):
+            if (not any(part) and not singles) or (part == counts and singles == members):
+                continue
+            earlier = self.density(part, singles)
+            rest = tuple(count - its for count, its in zip(counts, part))
+            ways = prod(comb(count, its) for count, its in zip(counts, part))
+            for b, its in self.integrals(rest, members & ~singles, members, size).items() if earlier else ():
+                for p, x in earlier.items():
+                    whole[p + b + 1] = whole.get(p + b + 1, 0) - ways * x * its[p]
+        found = {n - 1: x for n, x in whole.items() if x}
+        self.densities[counts, members] = found
+        return found
+
+    def none_reported(self, counts: Sequence[int], singles: int) -> Polynomial:
+        """The chance that no process of the world is reported at v, but for those of a set."""
+        found: Polynomial = {0: 1}
+        left = [(kind.alerts, number - count) for (kind, number), count in zip(self.open, counts)]
+        left += [(kind.alerts, number) for kind, number in self.shut]
+        left += [(it.alerts, 1) for at, it in enumerate(self.world.singles) if not singles >> at & 1]
+        for alerts, number in left:
+            one = dict(unreported(alerts, self.rule.l))
+            for _ in range(number):
+                found = times(found, one)
+        return found
+
+    def proposals(self) -> Iterator[Proposed]:
+        """Each proposal that a receiver may make."""
+        numbers = tuple(number for _, number in self.open)
+        for counts, members in product(below(numbers), submasks((1 << len(self.world.singles)) - 1)):
+            if not any(counts) and not members:
+                continue
+            density = self.density(counts, members)
+            if not density:
+                continue
+            others = self.none_reported(counts, members)
+            common = lcm(*range(1, max(density) + max(others) + 2))
+            total = sum(x * factorial(max(density)) // factorial(p) * y * (common // (p + d + 1))
+                        for (p, x), (d, y) in product(density.items(), others.items()))
+            share = Fraction(total, common * factorial(max(density)))
+            if share:
+                ways = prod(comb(number, count) for number, count in zip(numbers, counts))
+                yield Proposed(counts, members, ways, share)

@@ -1,0 +1,153 @@
+"""Tables that the program printed: their lines, shares with bounds, and sums."""
+from __future__ import annotations
+
+import csv
+import io
+import math
+from dataclasses import dataclass
+
+from .plans import Cell, Plan, Refused, cells, read_text
+
+COUNTS = ("trials", "receivers", "conflicts", "silent", "extra", "votes", "decided", "right", "settled")
+# The distance of the bounds of 95 %, in standard deviations.
+DISTANCE = 1.959964
+
+
+@dataclass(frozen=True)
+class Share:
+    """A share that was counted: of `of` unrelated tries, with the bounds between which the chance lies with 95 % (Wilson)."""
+
+    share: float
+    low: float
+    high: float
+    of: int
+
+    def __str__(self) -> str:
+        return f"{shown(self.share)} ({shown(self.low)} to {shown(self.high)})"
+
+
+def shown(share: float) -> str:
+    """A share in percent, or in powers of ten where it is rare."""
+    if share == 0:
+        return "0"
+    return f"{100 * share:.3g} %" if share >= 0.0001 else f"{share:.2g}"
+
+
+def share_of(count: float, of: int, tries: int | None = None) -> Share:
+    """A share of some tries; where these are related in groups, `tries` is the number of groups."""
+    n = of if tries is None else tries
+    if of == 0 or n == 0:
+        return Share(math.nan, 0.0, 1.0, 0)
+    found, square = count / of, DISTANCE**2
+    middle = (found + square / (2 * n)) / (1 + square / n)
+    half = DISTANCE / (1 + square / n) * math.sqrt(found * (1 - found) / n + square / (4 * n * n))
+    return Share(found, max(0.0, middle - half) if found > 0 else 0.0, min(1.0, middle + half) if found < 1 else 1.0, n)
+
+
+@dataclass(frozen=True)
+class Line:
+    """A line of a table: a cell with its sums."""
+
+    k: int
+    h: int
+    l: int
+    f: int
+    trials: int
+    receivers: int
+    conflicts: int
+    silent: int
+    extra: int
+    votes: int
+    decided: int
+    right: int
+    settled: int | None
+
+    @property
+    def cell(self) -> Cell:
+        return self.k, self.h, self.l, self.f
+
+    @property
+    def ppm(self) -> int:
+        """Conflicts in a million receivers, as the table has them."""
+        return self.conflicts * 1_000_000 // self.receivers
+
+    @property
+    def conflict_share(self) -> Share:
+        """Of all receivers; each has an order of its own."""
+        return share_of(self.conflicts, self.receivers)
+
+    @property
+    def proposal_share(self) -> Share:
+        """Conflicts of those that proposed."""
+        return share_of(self.conflicts, self.receivers - self.silent)
+
+    @property
+    def silent_share(self) -> Share:
+        """Of all receivers. Those of a trial share who fails and who observes whom, so that a trial is one try."""
+        return share_of(self.silent, self.receivers, self.trials)
+
+    @property
+    def right_share(self) -> Share:
+        return share_of(self.right, self.trials)
+
+    @property
+    def decided_share(self) -> Share:
+        return share_of(self.decided, self.trials)
+
+
+@dataclass(frozen=True)
+class Table:
+    """A table, with the name by which it was given."""
+
+    name: str
+    lines: tuple[Line, ...]
+
+    def line(self, cell: Cell) -> Line | None:
+        return next((it for it in self.lines if it.cell == cell), None)
+
+    @property
+    def has_settled(self) -> bool:
+        return bool(self.lines) and self.lines[0].settled is not None
+
+
+def line_of(name: str, number: int, row: dict[str, str | None]) -> Line:
+    try:
+        values = {it: int(row[it] or "") for it in ("k", "h", "l", "f", *COUNTS[:-1])}
+        settled = int(row["settled"] or "") if row.get("settled") is not None else None
+    except (KeyError, ValueError):
+        raise Refused(f"{name}: line {number}: this is no line of a table of cutlab") from None
+    if values["receivers"] < 1 or values["silent"] > values["receivers"] or values["trials"] < 1:
+        raise Refused(f"{name}: line {number}: no cell has such sums")
+    return Line(**values, settled=settled)
+
+
+def table_of(name: str, text: bytes) -> Table:
+    reader = csv.DictReader(io.StringIO(text.decode(errors="replace")))
+    lines = tuple(line_of(name, number, row) for number, row in enumerate(reader, 2))
+    if not lines:
+        raise Refused(f"{name}: it has no lines; a table has a header and a line for each cell")
+    if len({it.cell for it in lines}) < len(lines):
+        raise Refused(f"{name}: a cell has two lines; tables of one plan that differ in a field need a column for it, as "
+                      "`study vary` prints them, and are read one by one")
+    return Table(name, lines)
+
+
+def read_table(path: str) -> Table:
+    return table_of(path, read_text(path))
+
+
+def check_fits(plan: Plan, table: Table) -> None:
+    """That a table is one of a plan, as far as its cells and their trials say it."""
+    if [it.cell for it in table.lines] != cells(plan):
+        raise Refused(f"{table.name}: its cells are not those of the plan, in their order; was the run cut short?")
+    for it in table.lines:
+        if it.trials != plan["repeats"] or it.receivers != plan["repeats"] * (plan["nodes"] - it.f):
+            raise Refused(f"{table.name}: K = {it.k}, H = {it.h}, L = {it.l}, F = {it.f}: other numbers of trials or receivers "
+                          "than the plan's")
+
+
+def csv_of(lines: list[Line], has_settled: bool) -> str:
+    """Lines as the program prints a table."""
+    names = ["k", "h", "l", "f", *COUNTS[:-1], *(["settled"] if has_settled else []), "ppm"]
+    rows = [",".join(str(getattr(it, name)) for name in names) for it in lines]
+    return "\n".join([",".join(names), *rows]) + "\n"

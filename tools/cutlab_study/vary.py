@@ -1,0 +1,97 @@
+"""Runs of a plan with other values of a field, and tables beside one another."""
+from __future__ import annotations
+
+import json
+import math
+import shutil
+import subprocess
+from dataclasses import replace
+from typing import Any, Iterator
+
+from .plans import Plan, Refused, plan_of, read_plan, text_of
+from .tables import COUNTS, DISTANCE, Line, Share, Table, check_fits, csv_of, read_table
+
+LISTS = ("k", "h", "l", "f")
+
+
+def value_of(field: str, text: str) -> Any:
+    """A value as a plan has it. A seed is a text, also where it has only decimal digits."""
+    if field == "seed":
+        return text
+    try:
+        if field in LISTS:
+            return [int(number) for number in text.split(",")]
+        return json.loads(text)
+    except ValueError:
+        return text
+
+
+def run(plan: Plan, workers: int | None) -> str:
+    """The table of a plan, by the program on the PATH."""
+    if not shutil.which("cutlab"):
+        raise Refused("cutlab is not on the PATH")
+    words = ["cutlab", "run"] + (["--workers", str(workers)] if workers else [])
+    done = subprocess.run(words, input=text_of(plan), stdout=subprocess.PIPE, stderr=subprocess.PIPE, check=False)
+    if done.returncode:
+        raise Refused(done.stderr.decode(errors="replace").rstrip("\n"))
+    return done.stdout.decode()
+
+
+def vary(plan: Plan, field: str, values: list[str], workers: int | None) -> Iterator[str]:
+    """The lines of one table, whose first column is the field's value."""
+    if field not in plan:
+        raise Refused(f"a plan of version {plan['version']} has no field {field}; it has {', '.join(sorted(plan))}")
+    plans = [plan_of(text_of({**plan, field: value_of(field, text)})) for text in values]
+    name = f"{field}_set" if field in LISTS else field
+    for number, (text, its) in enumerate(zip(values, plans)):
+        header, *lines = run(its, workers).splitlines()
+        if number == 0:
+            yield f"{name},{header}"
+        for line in lines:
+            yield f"{text.replace(',', ' ')},{line}"
+
+
+def differ(one: Share, other: Share) -> bool:
+    """Whether two shares differ by more than chance gives in one of twenty cases."""
+    if not one.of or not other.of:
+        return False
+    both = (one.share * one.of + other.share * other.of) / (one.of + other.of)
+    spread = math.sqrt(both * (1 - both) * (1 / one.of + 1 / other.of))
+    return abs(one.share - other.share) > DISTANCE * spread if spread else one.share != other.share
+
+
+def compare(one: Table, other: Table) -> Iterator[str]:
+    """For each cell of both tables its shares in each, and which of them differ."""
+    shared = [(it, there) for it in one.lines if (there := other.line(it.cell)) is not None]
+    if not shared:
+        raise Refused(f"{one.name} and {other.name} have no cell in common")
+    for it, there in shared:
+        yield f"K = {it.k}, H = {it.h}, L = {it.l}, F = {it.f}"
+        for name in ("conflict", "silent", "decided", "right"):
+            a: Share = getattr(it, f"{name}_share")
+            b: Share = getattr(there, f"{name}_share")
+            yield f"  {name:<8} {a}  {b}  {'differ' if differ(a, b) else 'no difference seen'}"
+    alone = len(one.lines) + len(other.lines) - 2 * len(shared)
+    if alone:
+        yield f"{alone} cells are in one of the two tables alone"
+
+
+def pool(pairs: list[tuple[str, str]]) -> str:
+    """The sums of the tables of plans that differ in the seed alone, given as (plan, table)."""
+    plans = [read_plan(path) for path, _ in pairs]
+    tables = [read_table(path) for _, path in pairs]
+    seeds = [plan["seed"] for plan in plans]
+    for (path, _), plan, table in zip(pairs, plans, tables):
+        if {**plan, "seed": ""} != {**plans[0], "seed": ""}:
+            fields = sorted(it for it in {*plan, *plans[0]} - {"seed"} if plan.get(it) != plans[0].get(it))
+            raise Refused(f"{path} and {pairs[0][0]} differ in {', '.join(fields)}: only plans that differ in the seed alone add up")
+        check_fits(plan, table)
+    if len(set(seeds)) < len(seeds):
+        raise Refused("two of the plans have one seed: they have the same trials, which count once")
+    lines = []
+    for its in zip(*(table.lines for table in tables)):
+        sums: dict[str, int] = {name: sum(getattr(it, name) or 0 for it in its) for name in COUNTS[:-1]}
+        settled = sum(it.settled or 0 for it in its) if its[0].settled is not None else None
+        first: Line = its[0]
+        lines.append(replace(first, **sums, settled=settled))
+    return csv_of(lines, tables[0].has_settled)

@@ -1,0 +1,175 @@
+"""Tests of tools/study: python3 -m unittest discover tools/tests"""
+from __future__ import annotations
+
+import json
+import math
+import os
+import sys
+import tempfile
+import unittest
+from fractions import Fraction
+
+sys.path.insert(0, os.path.join(os.path.dirname(os.path.abspath(__file__)), ".."))
+
+from cutlab_study import choose, exact, plans, report, tables, vary  # noqa: E402
+from cutlab_study.shares import Kind, Rule, World  # noqa: E402
+
+HEADER = "k,h,l,f,trials,receivers,conflicts,silent,extra,votes,decided,right,ppm\n"
+PLAN = {"copies": 1, "dead": "speak", "f": [2], "faults": "crash", "h": [2, 3], "implicit": False, "k": [3], "l": [1], "liars": 0,
+        "links": 0, "nodes": 10, "repeats": 5, "seed": "0" * 64, "version": 1}
+
+
+def conflicts(k: int, h: int, l: int, f: int) -> Fraction:
+    return exact.columns_of(World(((Kind(k, True), f),)), Rule(h, l), 1, 1).conflicts
+
+
+def table(*rows: str) -> tables.Table:
+    return tables.table_of("table", (HEADER + "\n".join(rows) + "\n").encode())
+
+
+class ExactShares(unittest.TestCase):
+    """Shares that were counted order by order, or published with the method."""
+
+    def test_counted_orders(self) -> None:
+        self.assertEqual(conflicts(3, 2, 1, 2) * math.factorial(6), 288)
+        self.assertEqual(conflicts(4, 3, 2, 3) * math.factorial(12), 256_545_792)
+
+    def test_fractions(self) -> None:
+        self.assertEqual(conflicts(10, 9, 3, 2), Fraction(23, 4199))
+        self.assertEqual(conflicts(10, 9, 3, 3), Fraction(496_291, 400_504_819))
+
+    def test_rare_conflicts(self) -> None:
+        rare = {2: 1.08e-5, 3: 2.0e-7, 4: 9.5e-9, 6: 1.6e-10, 8: 9.7e-12, 12: 2.1e-13, 16: 1.4e-14}
+        for failed, share in rare.items():
+            self.assertAlmostEqual(float(conflicts(10, 10, 1, failed)) / share, 1, delta=0.05)
+
+    def test_two_failures_are_not_always_the_worst(self) -> None:
+        shares = [round(float(conflicts(10, 6, 4, failed)), 3) for failed in (2, 3, 4)]
+        self.assertEqual(shares, [0.370, 0.398, 0.372])
+
+    def test_closed_form_of_two_failures(self) -> None:
+        for h in range(6, 10):
+            for l in range(1, 5):
+                orders = sum(math.comb(h - 1 + b, b) * math.comb(20 - h - b, 10 - h) for b in range(l))
+                self.assertEqual(conflicts(10, h, l, 2), Fraction(2 * orders, math.comb(20, 10)))
+
+    def test_turned_round(self) -> None:
+        for h in range(1, 11):
+            for l in range(1, h + 1):
+                self.assertEqual(conflicts(10, h, l, 3), conflicts(10, 11 - l, 11 - h, 3))
+
+    def test_one_alert_each_is_silence_where_two_are_needed(self) -> None:
+        columns = exact.columns_of(World(((Kind(1, True), 1), (Kind(3, True), 1))), Rule(3, 2), 9, 8)
+        self.assertEqual((columns.conflicts, columns.silent, columns.right), (1, 0, 0.0))
+        columns = exact.columns_of(World(((Kind(2, True), 1),)), Rule(3, 2), 9, 8)
+        self.assertEqual((columns.conflicts, columns.silent), (0, 1))
+
+    def test_a_plan_without_roles(self) -> None:
+        plan = plans.plan_of(json.dumps(PLAN).encode())
+        found = {it.cell: (it.columns.conflicts, it.trials) for it in exact.exact(plan) if it.columns}
+        self.assertEqual(found, {(3, 2, 1, 2): (Fraction(2, 5), 0), (3, 3, 1, 2): (Fraction(1, 10), 0)})
+
+    def test_tails(self) -> None:
+        self.assertAlmostEqual(exact.tail(10, Fraction(1, 2), 8), 56 / 1024, places=12)
+        self.assertAlmostEqual(exact.tail(10, Fraction(1, 2), 2), 1 - 11 / 1024, places=12)
+
+
+class Bounds(unittest.TestCase):
+    """Wilson's bounds, against values of textbooks."""
+
+    def test_bounds(self) -> None:
+        for count, of, low, high in ((0, 20, 0.0, 0.161), (0, 300, 0.0, 0.0126), (0, 3000, 0.0, 0.00128), (5, 10, 0.2366, 0.7634)):
+            found = tables.share_of(count, of)
+            self.assertAlmostEqual(found.low, low, places=4)
+            self.assertAlmostEqual(found.high, high, delta=0.001)
+
+    def test_receivers_of_a_trial_are_one_try(self) -> None:
+        it = table("10,9,1,2,20,19960,0,19960,0,0,0,0,0").lines[0]
+        self.assertEqual(it.silent_share.of, 20)
+        self.assertAlmostEqual(it.silent_share.low, 0.839, places=3)
+
+
+class Choices(unittest.TestCase):
+    LINES = ("10,9,1,2,20,20000,10,0,0,0,20,20,500", "10,10,1,2,20,20000,0,0,0,0,20,20,0", "10,9,1,0,20,20000,0,20000,0,0,0,0,0")
+
+    def test_a_gap_below_all_rings_comes_first(self) -> None:
+        said = choose.choose(table(*self.LINES), choose.Limits(None, 0.001, None), "conflicts", 2)
+        self.assertTrue(said[0].startswith("K = 10, H = 9, L = 1: "))
+        self.assertTrue(said[1].startswith("K = 10, H = 10, L = 1: "))
+        self.assertIn("one lost alert", said[2])
+
+    def test_nothing_fits(self) -> None:
+        with self.assertRaises(plans.Refused) as caught:
+            choose.choose(table(self.LINES[0]), choose.Limits(0.0001, 0.001, None), "conflicts", 1)
+        self.assertIn("The nearest is K = 10, H = 9, L = 1", str(caught.exception))
+        self.assertIn("conflicts", str(caught.exception).split("it lacks: ")[1])
+
+    def test_the_nearest_may_be_narrow(self) -> None:
+        with self.assertRaises(plans.Refused) as caught:
+            choose.choose(table(*self.LINES), choose.Limits(None, -1.0, None), "conflicts", 1)
+        near = str(caught.exception)
+        self.assertEqual("H = 10, L = 1" in near, "one lost alert" in near)
+
+    def test_silence_comes_last(self) -> None:
+        lines = ("10,9,1,2,20,20000,0,20000,0,0,0,0,0", "10,8,1,2,20,20000,40,0,0,0,20,20,2000")
+        said = choose.choose(table(*lines), choose.Limits(None, None, None), "conflicts", 1)
+        self.assertTrue(said[0].startswith("K = 10, H = 8"))
+        self.assertIn("2000 ppm", said[0])
+
+
+class Tables(unittest.TestCase):
+    def test_what_is_no_table(self) -> None:
+        for text in ("", HEADER, "a,b\n1,2\n", HEADER + "1,1,1,1,2,0,0,0,0,0,0,0,0\n", HEADER + "1,1,1,1,2,8,0,0,0,8,2,2,0\n" * 2):
+            with self.assertRaises(plans.Refused):
+                tables.table_of("text", text.encode())
+
+    def test_a_table_comes_back(self) -> None:
+        text = HEADER + "1,1,1,1,2,8,2,0,0,8,2,2,250000\n"
+        self.assertEqual(tables.csv_of(list(tables.table_of("text", text.encode()).lines), False), text)
+
+    def test_pooled(self) -> None:
+        with tempfile.TemporaryDirectory() as folder:
+            def made(name: str, text: str) -> str:
+                path = os.path.join(folder, name)
+                with open(path, "w", encoding="utf-8") as file:
+                    file.write(text)
+                return path
+
+            lines = "3,2,1,2,5,40,16,0,0,24,0,0,400000\n3,3,1,2,5,40,4,0,0,36,5,5,100000\n"
+            one, other = made("1.json", json.dumps(PLAN)), made("2.json", json.dumps({**PLAN, "seed": "1" * 64}))
+            far, csv = made("3.json", json.dumps({**PLAN, "seed": "2" * 64, "liars": 1})), made("t.csv", HEADER + lines)
+            self.assertEqual(vary.pool([(one, csv), (other, csv)]),
+                             HEADER + "3,2,1,2,10,80,32,0,0,48,0,0,400000\n3,3,1,2,10,80,8,0,0,72,10,10,100000\n")
+            with self.assertRaisesRegex(plans.Refused, "differ in liars"):
+                vary.pool([(one, csv), (far, csv)])
+            with self.assertRaisesRegex(plans.Refused, "one seed"):
+                vary.pool([(one, csv), (one, csv)])
+
+    def test_values_of_fields(self) -> None:
+        self.assertEqual(vary.value_of("seed", "0" * 64), "0" * 64)
+        self.assertEqual(vary.value_of("h", "8,9"), [8, 9])
+        self.assertEqual(vary.value_of("implicit", "true"), True)
+        self.assertEqual(vary.value_of("dead", "speak"), "speak")
+
+    def test_differences(self) -> None:
+        self.assertTrue(vary.differ(tables.share_of(10, 1000), tables.share_of(40, 1000)))
+        self.assertFalse(vary.differ(tables.share_of(10, 1000), tables.share_of(14, 1000)))
+
+
+class Reports(unittest.TestCase):
+    def test_a_page_needs_nothing_else(self) -> None:
+        lines = ("3,2,1,2,5,40,16,0,0,24,0,0,400000", "3,3,1,2,5,40,4,0,0,36,5,5,100000")
+        text = report.page(plans.plan_of(json.dumps(PLAN).encode()), table(*lines), choose.Limits(None, 0.5, None), 1)
+        for part in ("K = 3, F = 2", "exact 40 %", "exact 10 %", "H = 2, L = 1: 16 conflicts of 40 receivers", PLAN["seed"]):
+            self.assertIn(str(part), text)
+        for part in ("<script", "http://", "https://", "<link", "src="):
+            self.assertNotIn(part, text)
+
+    def test_another_plan_is_refused(self) -> None:
+        with self.assertRaises(plans.Refused):
+            report.page(plans.plan_of(json.dumps(PLAN).encode()), table("3,2,1,2,5,40,16,0,0,24,0,0,400000"),
+                        choose.Limits(None, None, None), 1)
+
+
+if __name__ == "__main__":
+    unittest.main()
