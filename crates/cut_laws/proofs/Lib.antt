@@ -15,3 +15,5 @@ pub mod Cells
 pub mod OtherWatermarks
 pub mod CellTrials
 pub mod ByReports
+pub mod TooSoon
+pub mod Duality

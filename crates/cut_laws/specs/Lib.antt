@@ -5,5 +5,6 @@ pub mod EqualWatermarks
 pub mod OneCrash
 pub mod OtherWatermarks
 pub mod Reports
+pub mod Conflicts
 pub mod Crashes
 pub mod Lines

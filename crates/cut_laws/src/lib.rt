@@ -3,6 +3,7 @@
 #![tactic(auto)]
 
 pub mod columns;
+pub mod conflicts;
 pub mod crashes;
 pub mod ends;
 pub mod equal_watermarks;
