@@ -29,6 +29,8 @@ from typing import Iterator, Sequence
 # A polynomial in one variable: the coefficient of each power. In two, those of v^a (u - v)^(b - a), by (a, b).
 Polynomial = dict[int, int]
 Surface = dict[tuple[int, int], int]
+# What holds, or how it changes, at each place of some axes.
+Table = dict[tuple[int, ...], int]
 
 
 @dataclass(frozen=True, order=True)
@@ -79,23 +81,40 @@ def power(one: Surface, exponent: int, known: dict[int, Surface]) -> Surface:
     return known[exponent]
 
 
-def difference(values: Sequence[int], order: int) -> int:
-    """The difference of some order of values, at the first of them."""
-    return sum((-1) ** (order - i) * comb(order, i) * values[i] for i in range(order + 1))
+def differences(values: Sequence[int]) -> list[int]:
+    """The differences of each order of values, at the first of them."""
+    found = []
+    while values:
+        found.append(values[0])
+        values = [later - sooner for sooner, later in zip(values, values[1:])]
+    return found
+
+
+def folded(table: Table, axis: int) -> Table:
+    """A table's differences of each order along an axis, at 0."""
+    lines: dict[tuple[int, ...], list[int]] = {}
+    for at, value in sorted(table.items()):
+        lines.setdefault(at[:axis] + at[axis + 1:], []).append(value)
+    return {at[:axis] + (order,) + at[axis:]: change
+            for at, values in lines.items() for order, change in enumerate(differences(values))}
+
+
+def choices(count: int, *parts: int) -> int:
+    """In how many ways some of `count` things are divided into parts of these sizes."""
+    return factorial(count) // prod(map(factorial, parts)) // factorial(count - sum(parts))
 
 
 @lru_cache(maxsize=None)
 def unreported(alerts: int, l: int) -> tuple[tuple[int, int], ...]:
     """The chance that fewer than L of some alerts came by v."""
-    flags = [int(i < l) for i in range(alerts + 1)]
-    found = ((a, comb(alerts, a) * difference(flags, a)) for a in range(alerts + 1))
-    return tuple((a, x) for a, x in found if x)
+    changes = differences([int(i < l) for i in range(alerts + 1)])
+    return tuple((a, comb(alerts, a) * change) for a, change in enumerate(changes) if change)
 
 
 @lru_cache(maxsize=None)
 def stable(need: Need, l: int) -> tuple[tuple[int, int], ...]:
     """The chance that a process has all that it needs by u."""
-    surface = unreported_then_stable(need, l, True)
+    surface = unreported_then_stable(need, l)
     found: Polynomial = {}
     for (a, b), x in surface:
         if a == 0:
@@ -104,40 +123,26 @@ def stable(need: Need, l: int) -> tuple[tuple[int, int], ...]:
 
 
 @lru_cache(maxsize=None)
-def unreported_then_stable(need: Need, l: int, at_start: bool = False) -> tuple[tuple[tuple[int, int], int], ...]:
+def unreported_then_stable(need: Need, l: int) -> tuple[tuple[tuple[int, int], int], ...]:
     """The chance that fewer than L of a process's alerts came by v, and all that it needs by u.
 
     For each of the two kinds of alerts let i come by v and j after v, up to u. The chance of a condition on these four numbers
     is a sum over its differences at 0, as that of a condition on one number is.
     """
     outer, inner = need.alerts - need.inner, need.inner
-    found: Surface = {}
-    size = need.alerts + 1
 
     def holds(i: int, j: int, m: int, n: int) -> int:
-        early, late = i + m, i + j + m + n
-        return int(early < l and i + j >= need.outer and late >= l)
+        return int(i + m < l <= i + j + m + n and i + j >= need.outer)
 
-    if inner == 0:
-        table = [[holds(i, j, 0, 0) for j in range(size)] for i in range(size)]
-        for a in range(outer + 1):
-            rows = [[table[i][j] for j in range(size)] for i in range(a + 1)]
-            folded = [sum((-1) ** (a - i) * comb(a, i) * rows[i][j] for i in range(a + 1)) for j in range(outer - a + 1)]
-            for c in range(outer - a + 1):
-                value = factorial(outer) // (factorial(a) * factorial(c) * factorial(outer - a - c)) * difference(folded, c)
-                if value:
-                    found[a, a + c] = found.get((a, a + c), 0) + value
-        return tuple(found.items())
-    for a, c in ((a, c) for a in range(outer + 1) for c in range(outer - a + 1)):
-        for d, e in ((d, e) for d in range(inner + 1) for e in range(inner - d + 1)):
-            change = sum((-1) ** (a - i + c - j + d - m + e - n) * comb(a, i) * comb(c, j) * comb(d, m) * comb(e, n)
-                         * holds(i, j, m, n)
-                         for i in range(a + 1) for j in range(c + 1) for m in range(d + 1) for n in range(e + 1))
-            if change:
-                ways = (factorial(outer) // (factorial(a) * factorial(c) * factorial(outer - a - c))
-                        * (factorial(inner) // (factorial(d) * factorial(e) * factorial(inner - d - e))))
-                key = (a + d, a + d + c + e)
-                found[key] = found.get(key, 0) + ways * change
+    table: Table = {(i, j, m, n): holds(i, j, m, n) for i in range(outer + 1) for j in range(outer - i + 1)
+                    for m in range(inner + 1) for n in range(inner - m + 1)}
+    for axis in range(4):
+        table = folded(table, axis)
+    found: Surface = {}
+    for (a, c, d, e), change in table.items():
+        if change:
+            key = (a + d, a + d + c + e)
+            found[key] = found.get(key, 0) + choices(outer, a, c) * choices(inner, d, e) * change
     return tuple(found.items())
 
 
