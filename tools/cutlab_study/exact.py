@@ -12,8 +12,8 @@ from .plans import Cell, Plan, cells, quorum, reference
 from .shares import Kind, Proposed, Rule, Shares, Single, World
 from .tables import Table, check_fits
 
-# How many pairs of sets are added up for one receiver, at most.
-MOST_PAIRS = 10_000
+# How many products of coefficients are added up for one receiver, at most, which takes minutes; and for one pair of sets, at least.
+MOST_STEPS, LEAST_STEPS = 2 * 10**9, 10**5
 
 
 @dataclass(frozen=True)
@@ -54,6 +54,13 @@ def pairs_of(world: World, rule: Rule) -> int:
     numbers = [number for kind, number in world.kinds if kind.alerts >= rule.h]
     parts: int = math.prod((number + 1) * (number + 2) // 2 for number in numbers)
     return parts * int(3 ** len(world.singles))
+
+
+def steps_of(world: World, rule: Rule) -> int:
+    """About how many products of coefficients are added up for a world: for each pair of sets, of polynomials whose size goes with
+    the alerts of the processes that observe one another."""
+    alerts = sum(it.alerts for it in world.singles)
+    return pairs_of(world, rule) * max(LEAST_STEPS, (alerts * alerts // (2 * max(1, len(world.singles)))) ** 2)
 
 
 @lru_cache(maxsize=4096)
@@ -147,10 +154,10 @@ def exact(plan: Plan, trials: int | None = None) -> Iterator[CellColumns]:
         else:
             layout = layout or reference.layout_of(plan)
             worlds = worlds_of(plan, layout, number, min(plan["repeats"], trials or plan["repeats"]))
-        pairs, count = max(pairs_of(it, rule) for it in worlds), 0 if free else len(worlds)
-        if pairs > MOST_PAIRS:
+        steps, count = max(steps_of(it, rule) for it in worlds), 0 if free else len(worlds)
+        if steps > MOST_STEPS:
             singles = max(len(it.singles) for it in worlds)
-            yield CellColumns(cell, None, count, f"{pairs:.0e} pairs of sets would be added up, as {singles} processes observe one another")
+            yield CellColumns(cell, None, count, f"about {steps:.0e} products would be added up, as {singles} processes observe one another")
         else:
             yield CellColumns(cell, mean([columns_of(it, rule, nodes - f, least) for it in worlds]), count)
 
