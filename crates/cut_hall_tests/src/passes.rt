@@ -1,5 +1,5 @@
 //! A hall of three passes, of which one is kept back at first.
-ghost use Rattle.std.specs.Prelude.{◌≡◌, All};
+ghost use Rattle.std.specs.Prelude.{◌≡◌, All, None};
 
 use crate::deeds::{Stormy, closed};
 use cut_hall::{Blanks, CallLedger, Hall, NotClosed, Pass, Report};
@@ -42,7 +42,8 @@ fn close_new<M: CallLedger, K: CallLedger>(
     kept: Blank,
 ) -> Result<Option<(u64, u64, bool)>, Fail>
     requires made { (made.name ≡ M.name) × (made.parts ≡ M.parts) × (M.all ≡ M.parts) × (M.all ≡ 3) }
-    requires kept { (kept.name ≡ K.name) × (kept.parts ≡ K.parts) × (K.all ≡ K.parts) × (K.all ≡ 1) }
+    requires kept { (kept.name ≡ K.name) × (kept.parts ≡ K.parts) × (K.all ≡ K.parts) × (K.all ≡ 1)
+        × (K.opening ≡ None) }
 {
     let started = Hall::start(alloc, 1, 3, 1, Blanks { made, kept });
     let (hall, mut passes): (Stormy<M, K>, Vec<Pass<M>>) = started?;

@@ -1,4 +1,4 @@
-use Rattle.std.proofs.Common.{false}
+use Rattle.std.proofs.Common.{false, None}
 use Rattle.cut_hall_tests.proofs.passes.a_hall_is_closed_with_all_its_passes.Given as goal
 
 abbrev pub ghosts-close_new-M-Ledger : goal.ghosts-close_new-M-Ledger
@@ -8,7 +8,7 @@ abbrev pub ghosts-close_new-K-Ledger : goal.ghosts-close_new-K-Ledger
 ghosts-close_new-K-Ledger g a = record { name = a.kept.name; parts = a.kept.parts }
 
 abbrev pub ghosts-close_new-M-CallLedger : goal.ghosts-close_new-M-CallLedger
-ghosts-close_new-M-CallLedger g a = record { all = a.made.parts; trusts = false }
+ghosts-close_new-M-CallLedger g a = record { all = a.made.parts; trusts = false; opening = None }
 
 abbrev pub ghosts-close_new-K-CallLedger : goal.ghosts-close_new-K-CallLedger
-ghosts-close_new-K-CallLedger g a = record { all = a.kept.parts; trusts = false }
+ghosts-close_new-K-CallLedger g a = record { all = a.kept.parts; trusts = false; opening = None }
