@@ -7,64 +7,77 @@ with the program.
     cutlab_reference.py check < plan.json      cells, trials and quorum
     cutlab_reference.py read plan.json FILE    what the checkpoint file holds for this plan
 """
+from __future__ import annotations
+
 import hashlib
 import json
 import sys
 from itertools import product
+from typing import Any, Dict, Iterable, List, NoReturn, Optional, Set, Tuple
+
+Plan = Dict[str, Any]
+Cell = Tuple[int, int, int, int]  # K, H, L and F
+Edge = Tuple[int, int]  # a ring and a subject
+Sums = Dict[str, int]
+Slip = Tuple[int, int, Sums]  # the first trial, how many, and their sums
 
 
 class Fault(Exception):
     """A fault: its number, its name and what it carries."""
 
+    # fmt: off
     NAMES = {
         1: "NotJson", 2: "NotObject", 3: "UnknownField", 4: "MissingField", 5: "WrongKind", 6: "OutOfRange",
         7: "NotRising", 8: "NoCell", 9: "TooManyFaults", 10: "TooManyTrials", 17: "BadSlip", 19: "PlanTooLong",
         22: "NoStudy", 23: "OtherPlan", 24: "Damaged", 40: "BadKind", 41: "TooLong", 42: "Truncated", 45: "BadLength",
     }
+    # fmt: on
 
-    def __init__(self, number, carried=None):
+    def __init__(self, number: int, carried: object = None) -> None:
         super().__init__(number, carried)
         self.number, self.carried = number, carried
 
-    def __str__(self):
+    def __str__(self) -> str:
         tail = "" if self.carried is None else f" {self.carried}"
         return f"cutlab: fault {self.number} {self.NAMES[self.number]}{tail}"
 
 
 # ---- plans
+# fmt: off
 WHOLE, TEXT, TRUTH, WHOLES = "whole number", "text", "truth", "whole numbers"
-COMMON = {
+COMMON: Dict[str, Tuple[Any, ...]] = {
     "copies": (WHOLE, 1, 4), "dead": (TEXT, ("silent", "speak")), "f": (WHOLES, 0, None), "h": (WHOLES, 1, 32),
     "implicit": (TRUTH,), "k": (WHOLES, 1, 32), "l": (WHOLES, 1, 32), "liars": (WHOLE, 0, 2048),
     "links": (WHOLE, 0, 2048), "nodes": (WHOLE, 2, 2048), "repeats": (WHOLE, 1, 1_000_000), "seed": (TEXT, None),
 }
-FIELDS = {
+FIELDS: Dict[int, Dict[str, Tuple[Any, ...]]] = {
     1: {**COMMON, "faults": (TEXT, ("crash", "deaf")), "version": (WHOLE, 1, 1)},
     2: {**COMMON, "deaf": (WHOLE, 0, 2048), "version": (WHOLE, 2, 2)},
 }
+# fmt: on
 
 
 class Number:
     """A number of a JSON text, as it is written there."""
 
-    def __init__(self, text):
+    def __init__(self, text: str) -> None:
         self.text = text
 
-    def __int__(self):
+    def __int__(self) -> int:
         return int(self.text)
 
 
-def is_whole(value):
+def is_whole(value: object) -> bool:
     return isinstance(value, Number) and value.text.isdigit() and int(value.text) < 2**64
 
 
-def is_of_kind(kind, value):
+def is_of_kind(kind: str, value: object) -> bool:
     if kind == WHOLES:
         return isinstance(value, list) and all(is_whole(item) for item in value)
     return {WHOLE: is_whole(value), TEXT: isinstance(value, str), TRUTH: isinstance(value, bool)}[kind]
 
 
-def in_range(field, value, rule, nodes):
+def in_range(field: str, value: Any, rule: Tuple[Any, ...], nodes: int) -> bool:
     kind = rule[0]
     if kind == TRUTH:
         return True
@@ -77,16 +90,16 @@ def in_range(field, value, rule, nodes):
     return numbers != [] and all(rule[1] <= number <= high for number in numbers)
 
 
-def json_value(text):
+def json_value(text: bytes) -> Any:
     """The value of a JSON text (RFC 8259), of 127 levels at most and with numbers that a double holds."""
 
-    def number(digits):
+    def number(digits: str) -> Number:
         value = float(digits)
         if value in (float("inf"), float("-inf")):
             raise ValueError(digits)
         return Number(digits)
 
-    def refuse(word):
+    def refuse(word: str) -> NoReturn:
         raise ValueError(word)
 
     try:
@@ -112,7 +125,7 @@ def json_value(text):
         raise Fault(1) from None
 
 
-def plan_of(text):
+def plan_of(text: bytes) -> Plan:
     """The plan of an accepted text, or the first fault of any other."""
     if len(text) > 65_536:
         raise Fault(19)
@@ -133,7 +146,7 @@ def plan_of(text):
     for field in names:
         if not in_range(field, value[field], fields[field], int(value["nodes"])):
             raise Fault(6, field)
-    plan = {}
+    plan: Plan = {}
     for field in names:
         kind, found = fields[field][0], value[field]
         plan[field] = [int(it) for it in found] if kind == WHOLES else int(found) if kind == WHOLE else found
@@ -150,22 +163,22 @@ def plan_of(text):
     return plan
 
 
-def cells(plan):
+def cells(plan: Plan) -> List[Cell]:
     """The combinations of the lists with l <= h <= k, in lexical order."""
     combinations = product(plan["k"], plan["h"], plan["l"], plan["f"])
     return [(k, h, l, f) for k, h, l, f in combinations if l <= h <= k]
 
 
-def canonical_text(plan):
+def canonical_text(plan: Plan) -> bytes:
     return json.dumps(plan, sort_keys=True, separators=(",", ":")).encode()
 
 
 # ---- rings
-def ring(plan, number):
+def ring(plan: Plan, number: int) -> List[int]:
     """The processes of a ring in its order."""
     seed = bytes.fromhex(plan["seed"])
 
-    def digest(process):
+    def digest(process: int) -> bytes:
         return hashlib.sha256(seed + number.to_bytes(4, "big") + process.to_bytes(4, "big")).digest()
 
     return sorted(range(plan["nodes"]), key=lambda process: (digest(process), process))
@@ -174,34 +187,43 @@ def ring(plan, number):
 class Layout:
     """The observers and subjects of the first rings."""
 
-    def __init__(self, rings):
+    def __init__(self, rings: List[List[int]]) -> None:
         self.rings = rings
         self.place = [{process: at for at, process in enumerate(ring)} for ring in rings]
 
-    def observer(self, number, subject):
+    def observer(self, number: int, subject: int) -> int:
         return self.rings[number][self.place[number][subject] - 1]
 
-    def subject(self, number, observer):
+    def subject(self, number: int, observer: int) -> int:
         return self.rings[number][(self.place[number][observer] + 1) % len(self.rings[number])]
 
 
-def layout_of(plan):
+def layout_of(plan: Plan) -> Layout:
     return Layout([ring(plan, number) for number in range(max(plan["k"]))])
 
 
 # ---- draws
-def quarter_round(state, a, b, c, d):
+def quarter_round(state: List[int], a: int, b: int, c: int, d: int) -> None:
     for x, y, z, by in ((a, b, d, 16), (c, d, b, 12), (a, b, d, 8), (c, d, b, 7)):
         state[x] = (state[x] + state[y]) & 0xFFFFFFFF
         word = state[z] ^ state[x]
         state[z] = (word << by | word >> 32 - by) & 0xFFFFFFFF
 
 
-def block(seed, stream, counter):
+def block(seed: bytes, stream: int, counter: int) -> List[int]:
     """A block of ChaCha with 8 rounds (RFC 8439), with a counter and a stream number of 64 bits each."""
-    words = [int.from_bytes(bytes_of, "little") for bytes_of in (seed[at:at + 4] for at in range(0, 32, 4))]
-    first = [0x61707865, 0x3320646E, 0x79622D32, 0x6B206574, *words, counter & 0xFFFFFFFF, counter >> 32,
-             stream & 0xFFFFFFFF, stream >> 32]
+    words = [int.from_bytes(bytes_of, "little") for bytes_of in (seed[at : at + 4] for at in range(0, 32, 4))]
+    first = [
+        0x61707865,
+        0x3320646E,
+        0x79622D32,
+        0x6B206574,
+        *words,
+        counter & 0xFFFFFFFF,
+        counter >> 32,
+        stream & 0xFFFFFFFF,
+        stream >> 32,
+    ]
     state = list(first)
     for _ in range(4):
         for at in range(4):
@@ -214,23 +236,24 @@ def block(seed, stream, counter):
 class Source:
     """The draws of a trial."""
 
-    def __init__(self, plan, trial):
-        self.seed, self.trial, self.blocks = bytes.fromhex(plan["seed"]), trial, {}
+    def __init__(self, plan: Plan, trial: int) -> None:
+        self.seed, self.trial = bytes.fromhex(plan["seed"]), trial
+        self.blocks: Dict[int, List[int]] = {}
 
-    def word(self, place):
+    def word(self, place: int) -> int:
         number = place // 16
         if number not in self.blocks:
             self.blocks[number] = block(self.seed, self.trial, number)
         return self.blocks[number][place % 16]
 
-    def key(self, place):
+    def key(self, place: int) -> int:
         return self.word(place) << 32 | self.word(place + 1)
 
 
-def deliveries(source, receiver, k, edges, copies):
+def deliveries(source: Source, receiver: int, k: int, edges: Iterable[Edge], copies: int) -> List[Edge]:
     """Each copy of each edge, in the order in which it comes to a receiver: edges are (ring, subject)."""
 
-    def rank(delivery):
+    def rank(delivery: Tuple[Edge, int]) -> Tuple[int, int, int]:
         (number, subject), copy = delivery
         edge = subject * k + number
         return source.key(2**20 + 2 * ((copy * 2**11 + receiver) * 2**16 + edge)), edge, copy
@@ -242,36 +265,47 @@ def deliveries(source, receiver, k, edges, copies):
 class Roles:
     """What each process of a trial is: targets, of which some are deaf and the others crashed, liars, and cut links."""
 
-    def __init__(self, plan, f, source, layout):
+    def __init__(self, plan: Plan, f: int, source: Source, layout: Layout) -> None:
         order = sorted(range(plan["nodes"]), key=lambda process: (source.key(2 * process), process))
         deaf = min(f, plan["deaf"]) if plan["version"] == 2 else f if plan["faults"] == "deaf" else 0
         self.targets, rest = order[:f], order[f:]
-        self.crashed, self.deaf = set(order[:f - deaf]), set(order[f - deaf:f])
-        self.liars, rest = set(rest[:plan["liars"]]), rest[plan["liars"]:]
-        self.links = {(end, layout.subject(0, end)) for end in rest[:plan["links"]]}
+        self.crashed, self.deaf = set(order[: f - deaf]), set(order[f - deaf : f])
+        self.liars, rest = set(rest[: plan["liars"]]), rest[plan["liars"] :]
+        self.links = {(end, layout.subject(0, end)) for end in rest[: plan["links"]]}
         self.speak = plan["dead"] == "speak"
 
 
-def is_alerted(layout, roles, number, subject):
+def is_alerted(layout: Layout, roles: Roles, number: int, subject: int) -> bool:
     observer = layout.observer(number, subject)
     up = observer not in roles.crashed
-    return (subject in roles.targets and (up or roles.speak) or observer in roles.deaf or observer in roles.liars
-            or up and ((observer, subject) in roles.links or (subject, observer) in roles.links))
+    return (
+        subject in roles.targets
+        and (up or roles.speak)
+        or observer in roles.deaf
+        or observer in roles.liars
+        or up
+        and ((observer, subject) in roles.links or (subject, observer) in roles.links)
+    )
 
 
-def alert_list(plan, layout, roles, k):
-    return [(number, subject) for subject in range(plan["nodes"]) for number in range(k)
-            if is_alerted(layout, roles, number, subject)]
+def alert_list(plan: Plan, layout: Layout, roles: Roles, k: int) -> List[Edge]:
+    return [
+        (number, subject)
+        for subject in range(plan["nodes"])
+        for number in range(k)
+        if is_alerted(layout, roles, number, subject)
+    ]
 
 
 # ---- detection
 class Detector:
     """The rule of cut detection at one receiver: reported rings by subject, counted anew after each delivery."""
 
-    def __init__(self, layout, k, h, l, implicit):
-        self.layout, self.k, self.h, self.l, self.implicit, self.reported = layout, k, h, l, implicit, {}
+    def __init__(self, layout: Layout, k: int, h: int, l: int, implicit: bool) -> None:
+        self.layout, self.k, self.h, self.l, self.implicit = layout, k, h, l, implicit
+        self.reported: Dict[int, Set[int]] = {}
 
-    def full_reports(self, subject):
+    def full_reports(self, subject: int) -> int:
         """How many rings report the subject or are gained by it."""
         rings = set(self.reported[subject])
         if self.implicit and len(rings) >= self.l:
@@ -279,11 +313,11 @@ class Detector:
             rings |= {number for number in range(self.k) if self.layout.observer(number, subject) in often}
         return len(rings)
 
-    def deliver(self, edge):
+    def deliver(self, edge: Edge) -> None:
         number, subject = edge
         self.reported.setdefault(subject, set()).add(number)
 
-    def settled(self):
+    def settled(self) -> Optional[List[int]]:
         """The stable processes, where there is one and none is unstable."""
         counts = {subject: self.full_reports(subject) for subject in self.reported}
         unstable = any(self.l <= count < self.h for count in counts.values())
@@ -291,7 +325,9 @@ class Detector:
         return stable if stable and not unstable else None
 
 
-def proposal(plan, layout, cell, edges, source, receiver):
+def proposal(
+    plan: Plan, layout: Layout, cell: Cell, edges: List[Edge], source: Source, receiver: int
+) -> Optional[Tuple[Tuple[int, ...], int]]:
     """The members that a receiver proposes, and after how many deliveries; None where it never does."""
     k, h, l, _ = cell
     detector = Detector(layout, k, h, l, plan["implicit"])
@@ -307,60 +343,68 @@ def proposal(plan, layout, cell, edges, source, receiver):
 SUMS = ("receivers", "conflicts", "silent", "extra", "votes", "decided", "right", "settled")
 
 
-def quorum(nodes):
+def quorum(nodes: int) -> int:
     return nodes - (nodes - 1) // 4
 
 
-def outcome(plan, layout, trial):
+def outcome(plan: Plan, layout: Layout, trial: int) -> Sums:
     """The sums of one trial."""
     cell = cells(plan)[trial // plan["repeats"]]
     source = Source(plan, trial)
     roles = Roles(plan, cell[3], source, layout)
     edges = alert_list(plan, layout, roles, cell[0])
     targets = set(roles.targets)
-    found = [proposal(plan, layout, cell, edges, source, receiver)
-             for receiver in range(plan["nodes"]) if receiver not in targets]
+    found = [
+        proposal(plan, layout, cell, edges, source, receiver)
+        for receiver in range(plan["nodes"])
+        if receiver not in targets
+    ]
     proposed = [it for it in found if it is not None]
     votes = [members for members, _ in proposed]
     most = max(map(votes.count, set(votes)), default=0)
     return {
-        "receivers": len(found), "silent": len(found) - len(proposed),
+        "receivers": len(found),
+        "silent": len(found) - len(proposed),
         "conflicts": sum(not targets <= set(members) for members in votes),
         "extra": sum(not set(members) <= targets for members in votes),
-        "votes": most, "decided": int(most >= quorum(plan["nodes"])),
+        "votes": most,
+        "decided": int(most >= quorum(plan["nodes"])),
         "right": int(votes.count(tuple(sorted(targets))) >= quorum(plan["nodes"])),
         "settled": sum(at for _, at in proposed) if plan["version"] == 2 else 0,
     }
 
 
-def piece_sums(plan, layout, first, count):
+def piece_sums(plan: Plan, layout: Layout, first: int, count: int) -> Sums:
     trials = [outcome(plan, layout, trial) for trial in range(first, first + count)]
     return {name: sum(trial[name] for trial in trials) for name in SUMS}
 
 
 # ---- the table
-def header(plan):
+def header(plan: Plan) -> str:
     settled = ["settled"] if plan["version"] == 2 else []
     return ",".join(["k", "h", "l", "f", "trials", *SUMS[:7], *settled, "ppm"]) + "\n"
 
 
-def line(plan, cell, trials, sums):
+def line(plan: Plan, cell: Cell, trials: int, sums: Sums) -> str:
     settled = [sums["settled"]] if plan["version"] == 2 else []
     ppm = sums["conflicts"] * 10**6 // sums["receivers"]
     return ",".join(map(str, [*cell, trials, *(sums[name] for name in SUMS[:7]), *settled, ppm])) + "\n"
 
 
-def table(plan):
+def table(plan: Plan) -> str:
     layout = layout_of(plan)
     repeats = plan["repeats"]
-    lines = [line(plan, cell, repeats, piece_sums(plan, layout, number * repeats, repeats))
-             for number, cell in enumerate(cells(plan))]
+    lines = [
+        line(plan, cell, repeats, piece_sums(plan, layout, number * repeats, repeats))
+        for number, cell in enumerate(cells(plan))
+    ]
     return header(plan) + "".join(lines)
 
 
-def table_over(plan, slips):
+def table_over(plan: Plan, slips: List[Slip]) -> str:
     """The table of a study that went on from these slips, whatever their sums are."""
-    layout, repeats, lines = layout_of(plan), plan["repeats"], []
+    layout, repeats = layout_of(plan), plan["repeats"]
+    lines: List[str] = []
     held = {trial for first, count, _ in slips for trial in range(first, first + count)}
     for number, cell in enumerate(cells(plan)):
         trials = range(number * repeats, (number + 1) * repeats)
@@ -371,46 +415,47 @@ def table_over(plan, slips):
 
 
 # ---- checkpoint files
-def numbers_of(plan):
+def numbers_of(plan: Plan) -> int:
     """How many numbers a slip has."""
-    return 8 + plan["version"]
+    return 8 + int(plan["version"])
 
 
-def file_of(plan, slips):
+def file_of(plan: Plan, slips: Iterable[Slip]) -> bytes:
     """The checkpoint file that holds these slips: (first, count, sums)."""
     text = canonical_text(plan)
     head = b"CUTLAB0" + str(plan["version"]).encode() + len(text).to_bytes(4, "big") + text
     digest = hashlib.sha256(head).digest()
     whole = b"\xa5" + head + digest
     for first, count, sums in slips:
-        numbers = [first, count, *(sums[name] for name in SUMS)][:numbers_of(plan)]
+        numbers = [first, count, *(sums[name] for name in SUMS)][: numbers_of(plan)]
         held = b"".join(number.to_bytes(8, "big") for number in numbers)
         whole += b"\xa5" + held + hashlib.sha256(digest + held).digest()
     return whole + b"\0"
 
 
-def slips_of(plan, held):
+def slips_of(plan: Plan, held: bytes) -> List[Slip]:
     """The slips that a file holds for this plan, or the fault of reading it."""
     if len(held) <= 1 or held[0] != 0xA5:
         raise Fault(22)
     n = int.from_bytes(held[9:13], "big")
     if len(held) < 13 or held[1:9] not in (b"CUTLAB01", b"CUTLAB02") or n > 65_536 or len(held) < n + 46:
         raise Fault(24, 0)
-    digest = held[13 + n:45 + n]
-    if hashlib.sha256(held[1:13 + n]).digest() != digest:
+    digest = held[13 + n : 45 + n]
+    if hashlib.sha256(held[1 : 13 + n]).digest() != digest:
         raise Fault(24, 0)
-    if held[13:13 + n] != canonical_text(plan):
+    if held[13 : 13 + n] != canonical_text(plan):
         raise Fault(23)
     if held[8] != ord(str(plan["version"])):
         raise Fault(24, 0)
-    slips, at, size = [], 45 + n, 8 * numbers_of(plan)
+    slips: List[Slip] = []
+    at, size = 45 + n, 8 * numbers_of(plan)
     while held[at] == 0xA5:
         number = len(slips) + 1
-        part = held[at + 1:at + 1 + size]
+        part = held[at + 1 : at + 1 + size]
         whole = len(held) > at + 1 + size + 32
-        if not whole or hashlib.sha256(digest + part).digest() != held[at + 1 + size:at + 33 + size]:
+        if not whole or hashlib.sha256(digest + part).digest() != held[at + 1 + size : at + 33 + size]:
             raise Fault(24, number)
-        numbers = [int.from_bytes(part[i:i + 8], "big") for i in range(0, size, 8)]
+        numbers = [int.from_bytes(part[i : i + 8], "big") for i in range(0, size, 8)]
         if max(numbers[:2]) >= 2**32:
             raise Fault(24, number)
         slips.append((numbers[0], numbers[1], dict(zip(SUMS, numbers[2:] + [0]))))
@@ -418,9 +463,10 @@ def slips_of(plan, held):
     return slips
 
 
-def checked_slips(plan, slips):
+def checked_slips(plan: Plan, slips: List[Slip]) -> List[Slip]:
     """The slips, or the fault of the first that is no piece, overlaps an earlier one, or has impossible sums."""
-    held, repeats = set(), plan["repeats"]
+    held: Set[int] = set()
+    repeats = plan["repeats"]
     for number, (first, count, sums) in enumerate(slips, 1):
         last = first + count - 1
         if count < 1 or last >= len(cells(plan)) * repeats or first // repeats != last // repeats:
@@ -430,10 +476,13 @@ def checked_slips(plan, slips):
         speaking = sums["receivers"] - sums["silent"]
         most = speaking * plan["nodes"] * k * plan["copies"] if plan["version"] == 2 else 0
         least = speaking if plan["version"] == 2 else 0
-        possible = (sums["receivers"] == count * (plan["nodes"] - f)
-                    and max(sums["silent"], sums["votes"]) <= sums["receivers"]
-                    and max(sums["conflicts"], sums["extra"]) <= speaking
-                    and sums["right"] <= sums["decided"] <= count and least <= sums["settled"] <= most)
+        possible = (
+            sums["receivers"] == count * (plan["nodes"] - f)
+            and max(sums["silent"], sums["votes"]) <= sums["receivers"]
+            and max(sums["conflicts"], sums["extra"]) <= speaking
+            and sums["right"] <= sums["decided"] <= count
+            and least <= sums["settled"] <= most
+        )
         if any(trial in held for trial in trials) or not possible:
             raise Fault(17, number)
         held.update(trials)
@@ -441,16 +490,18 @@ def checked_slips(plan, slips):
 
 
 # ---- messages
-KINDS = {"requests": {"R": None, "S": 4, "Q": 0}, "replies": {"T": None, "Z": 0, "S": 8, "E": 2}}
+# fmt: off
+KINDS: Dict[str, Dict[str, Optional[int]]] = {"requests": {"R": None, "S": 4, "Q": 0}, "replies": {"T": None, "Z": 0, "S": 8, "E": 2}}
+# fmt: on
 
 
-def frame(kind, payload=b""):
+def frame(kind: str, payload: bytes = b"") -> bytes:
     return kind.encode() + len(payload).to_bytes(4, "big") + payload
 
 
-def messages(side, stream):
+def messages(side: str, stream: bytes) -> Tuple[List[Tuple[str, bytes]], Optional[int]]:
     """The messages of a whole stream, and its fault, if it has one."""
-    found = []
+    found: List[Tuple[str, bytes]] = []
     while stream:
         kind = chr(stream[0])
         if kind not in KINDS[side]:
@@ -464,13 +515,13 @@ def messages(side, stream):
             return found, 45
         if len(stream) < 5 + length:
             return found, 42
-        found.append((kind, stream[5:5 + length]))
-        stream = stream[5 + length:]
+        found.append((kind, stream[5 : 5 + length]))
+        stream = stream[5 + length :]
     return found, None
 
 
 # ---- commands
-def main(words):
+def main(words: List[str]) -> None:
     try:
         if words[:1] == ["run"]:
             sys.stdout.write(table(plan_of(sys.stdin.buffer.read())))

@@ -45,16 +45,23 @@ class Worst:
     def __str__(self) -> str:
         k, h, l = self.pair
         wrong = f"; in {self.wrong} trials a quorum agreed on a wrong set" if self.wrong else ""
-        return (f"K = {k}, H = {h}, L = {l}: conflicts {self.conflicts} of receivers ({self.ppm} ppm), "
-                f"{shown(self.proposals.share)} of proposals; silent {self.silent}; right {self.right} of trials{wrong}")
+        return (
+            f"K = {k}, H = {h}, L = {l}: conflicts {self.conflicts} of receivers ({self.ppm} ppm), "
+            f"{shown(self.proposals.share)} of proposals; silent {self.silent}; right {self.right} of trials{wrong}"
+        )
 
 
 def worst_of(pair: Pair, lines: list[Line]) -> Worst:
     proposals = [it.proposal_share for it in lines if it.receivers > it.silent]
-    return Worst(pair, max(it.ppm for it in lines), max((it.conflict_share for it in lines), key=lambda it: it.share),
-                 max(proposals, key=lambda it: it.share) if proposals else Share(1.0, 0.0, 1.0, 0),
-                 max((it.silent_share for it in lines), key=lambda it: it.share),
-                 min((it.right_share for it in lines), key=lambda it: it.share), sum(it.decided - it.right for it in lines))
+    return Worst(
+        pair,
+        max(it.ppm for it in lines),
+        max((it.conflict_share for it in lines), key=lambda it: it.share),
+        max(proposals, key=lambda it: it.share) if proposals else Share(1.0, 0.0, 1.0, 0),
+        max((it.silent_share for it in lines), key=lambda it: it.share),
+        min((it.right_share for it in lines), key=lambda it: it.share),
+        sum(it.decided - it.right for it in lines),
+    )
 
 
 # What the pairs are sorted by: the first is best.
@@ -63,8 +70,10 @@ ORDERS: dict[str, Callable[[Worst], tuple[float, ...]]] = {
     "right": lambda it: (-it.right.share, it.proposals.share, it.silent.share),
     "silent": lambda it: (it.silent.share, it.proposals.share, -it.right.share),
 }
-NARROW = ("  H = K: one lost alert, or one observer that raises none, stops every proposal. This model loses no alert, so no number "
-          "here shows it. Take at most H = K - 1.")
+NARROW = (
+    "  H = K: one lost alert, or one observer that raises none, stops every proposal. This model loses no alert, so no number "
+    "here shows it. Take at most H = K - 1."
+)
 
 
 def distance(limits: Limits, it: Worst) -> float:
@@ -86,13 +95,17 @@ def choose(table: Table, limits: Limits, order: str, best: int) -> list[str]:
         if it.f > 0:
             pairs.setdefault((it.k, it.h, it.l), []).append(it)
     if not pairs:
-        raise Refused(f"{table.name}: it has only cells in which nobody fails, and no pair is better than another there")
+        raise Refused(
+            f"{table.name}: it has only cells in which nobody fails, and no pair is better than another there"
+        )
     found = [worst_of(pair, lines) for pair, lines in pairs.items()]
     said = []
     for k in sorted({it.pair[0] for it in found}):
         # A pair with H below K comes before one with H = K, however they do.
-        good = sorted((one for one in found if one.pair[0] == k and not limits.lacks(one)),
-                      key=lambda one: (one.pair[1] == k, *ORDERS[order](one)))
+        good = sorted(
+            (one for one in found if one.pair[0] == k and not limits.lacks(one)),
+            key=lambda one: (one.pair[1] == k, *ORDERS[order](one)),
+        )
         for one in good[:best]:
             said.append(str(one))
             if one.pair[1] == k:
@@ -100,5 +113,7 @@ def choose(table: Table, limits: Limits, order: str, best: int) -> list[str]:
     if not said:
         near = min(found, key=lambda it: distance(limits, it))
         price = "\n" + NARROW if near.pair[1] == near.pair[0] else ""
-        raise Refused(f"no pair keeps to the limits. The nearest is {near}\n  it lacks: " + "; ".join(limits.lacks(near)) + price)
+        raise Refused(
+            f"no pair keeps to the limits. The nearest is {near}\n  it lacks: " + "; ".join(limits.lacks(near)) + price
+        )
     return said

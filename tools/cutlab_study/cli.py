@@ -9,14 +9,16 @@ from typing import Callable
 from . import choose as choosing
 from . import vary as varying
 from .exact import CellColumns, beside, exact, ladder
-from .plans import Refused, cells, read_plan
+from .plans import Refused, read_plan
 from .plot import View, plot, plot_rare
 from .report import page
 from .tables import read_table
 
 Words = argparse.Namespace
-PREMISE = ("# Shares where every order of the alerts at a receiver is equally likely, and every alert arrives. That ChaCha8's draws "
-           "behave so is what a comparison shows, and no proof says.")
+PREMISE = (
+    "# Shares where every order of the alerts at a receiver is equally likely, and every alert arrives. That ChaCha8's draws "
+    "behave so is what a comparison shows, and no proof says."
+)
 
 
 def exact_line(it: CellColumns) -> str:
@@ -109,12 +111,17 @@ def run_report(given: Words) -> None:
 def add_limits(words: argparse.ArgumentParser) -> None:
     words.add_argument("--conflicts", type=float, help="the greatest share of receivers in conflict, on the worst line")
     words.add_argument("--silent", type=float, default=0.001, help="the greatest share of silent receivers (0.001)")
-    words.add_argument("--right", type=float, help="the least share of trials in which a quorum proposes exactly the failed ones")
+    words.add_argument(
+        "--right", type=float, help="the least share of trials in which a quorum proposes exactly the failed ones"
+    )
 
 
 def parser() -> argparse.ArgumentParser:
-    words = argparse.ArgumentParser(prog="study", description="Exact shares, choices, comparisons and reports of studies.",
-                                    epilog="docs/GUIDE.md shows each. A file - is standard input.")
+    words = argparse.ArgumentParser(
+        prog="study",
+        description="Exact shares, choices, comparisons and reports of studies.",
+        epilog="docs/GUIDE.md shows each. A file - is standard input.",
+    )
     commands = words.add_subparsers(required=True, metavar="COMMAND")
 
     def command(name: str, does: Callable[[Words], None], about: str) -> argparse.ArgumentParser:
@@ -124,12 +131,18 @@ def parser() -> argparse.ArgumentParser:
 
     one = command("exact", run_exact, "Print the exact shares of a plan's cells, without a trial")
     one.add_argument("plan")
-    one.add_argument("--ladder", action="store_true", help="all pairs of H and L of the plan's K and F, the rarest conflicts first")
+    one.add_argument(
+        "--ladder", action="store_true", help="all pairs of H and L of the plan's K and F, the rarest conflicts first"
+    )
     one.add_argument("--beside", metavar="TABLE", help="set the plan's table beside the exact shares of conflicts")
-    one.add_argument("--trials", type=int, default=20, help="by the roles of how many trials of each cell, where roles matter (20)")
+    one.add_argument(
+        "--trials", type=int, default=20, help="by the roles of how many trials of each cell, where roles matter (20)"
+    )
     one = command("choose", run_choose, "Say which watermarks do best in a table")
     one.add_argument("table")
-    one.add_argument("--by", choices=sorted(choosing.ORDERS), default="conflicts", help="what the best pair has least or most of")
+    one.add_argument(
+        "--by", choices=sorted(choosing.ORDERS), default="conflicts", help="what the best pair has least or most of"
+    )
     one.add_argument("--best", type=int, default=1, help="how many pairs for each number of rings (1)")
     add_limits(one)
     one = command("vary", run_vary, "Run a plan once for each value of a field, and print one table")
@@ -137,7 +150,9 @@ def parser() -> argparse.ArgumentParser:
     one.add_argument("field")
     one.add_argument("values", nargs="+")
     one.add_argument("--set", nargs="+", default=[], metavar="FIELD=VALUE", help="other fields, for every run")
-    one.add_argument("--workers", type=int, help="the number of workers of each run; the program's default where it is not given")
+    one.add_argument(
+        "--workers", type=int, help="the number of workers of each run; the program's default where it is not given"
+    )
     one = command("compare", run_compare, "Say where two tables differ by more than chance")
     one.add_argument("one")
     one.add_argument("other")
@@ -146,16 +161,24 @@ def parser() -> argparse.ArgumentParser:
     one = command("plot", run_plot, "Draw a table by gnuplot")
     one.add_argument("table")
     one.add_argument("-o", "--output", required=True, help="the picture: .svg, .png or .pdf")
-    one.add_argument("--exact", metavar="PLAN", help="draw the exact shares of the table's plan over F, and the table's on them")
-    one.add_argument("--along", metavar="COLUMN", help="draw along this column, in place of conflicts by H - L and silence by L")
+    one.add_argument(
+        "--exact", metavar="PLAN", help="draw the exact shares of the table's plan over F, and the table's on them"
+    )
+    one.add_argument(
+        "--along", metavar="COLUMN", help="draw along this column, in place of conflicts by H - L and silence by L"
+    )
     one.add_argument("--of", choices=("conflicts", "silent"), help="which share, with --along (conflicts)")
     one.add_argument("--each", metavar="COLUMN", help="a line for each value of this column, with --along (f)")
-    one.add_argument("--where", nargs="+", default=[], metavar="COLUMN=VALUE", help="lines with these values alone, with --along")
+    one.add_argument(
+        "--where", nargs="+", default=[], metavar="COLUMN=VALUE", help="lines with these values alone, with --along"
+    )
     one = command("report", run_report, "Make one page of a plan and its table, with pictures and the choice")
     one.add_argument("plan")
     one.add_argument("table")
     one.add_argument("-o", "--output", default="-", help="the page; standard output where it is not given")
-    one.add_argument("--trials", type=int, default=5, help="exact shares by the roles of how many trials of each cell (5)")
+    one.add_argument(
+        "--trials", type=int, default=5, help="exact shares by the roles of how many trials of each cell (5)"
+    )
     add_limits(one)
     return words
 

@@ -77,7 +77,9 @@ def columns_of(world: World, rule: Rule, receivers: int, least: int) -> Columns:
     for it in proposals_of(world, rule):
         share = it.ways * it.share
         members = [single for at, single in enumerate(world.singles) if it.members >> at & 1]
-        failed = sum(count for kind, count in zip(kinds, it.counts) if kind.is_target) + sum(its.is_target for its in members)
+        failed = sum(count for kind, count in zip(kinds, it.counts) if kind.is_target) + sum(
+            its.is_target for its in members
+        )
         lacks, adds = failed < targets, failed < sum(it.counts) + len(members)
         spoken += share
         conflicts += share if lacks else 0
@@ -94,15 +96,24 @@ def world_of(plan: Plan, layout: reference.Layout, roles: reference.Roles, cell:
     edges = reference.alert_list(plan, layout, roles, k)
     alerts = Counter(subject for _, subject in edges)
     reported = {subject for subject, count in alerts.items() if count >= l} if plan["implicit"] else set()
-    observers = {subject: {ring: layout.observer(ring, subject) for ring in range(k)
-                           if layout.observer(ring, subject) in reported} for subject in reported}
+    observers = {
+        subject: {
+            ring: layout.observer(ring, subject) for ring in range(k) if layout.observer(ring, subject) in reported
+        }
+        for subject in reported
+    }
     observing = {it for its in observers.values() for it in its.values()}
     single = sorted(subject for subject in reported if observers[subject] or subject in observing)
     place = {subject: at for at, subject in enumerate(single)}
     alerted = set(edges)
-    singles = tuple(Single(alerts[subject], subject in roles.targets,
-                           tuple((place[observer], (ring, subject) in alerted) for ring, observer in observers[subject].items()))
-                    for subject in single)
+    singles = tuple(
+        Single(
+            alerts[subject],
+            subject in roles.targets,
+            tuple((place[observer], (ring, subject) in alerted) for ring, observer in observers[subject].items()),
+        )
+        for subject in single
+    )
     kinds = Counter(Kind(count, subject in roles.targets) for subject, count in alerts.items() if subject not in place)
     # A failed process of which no alert comes is in no proposal, so that each one lacks it.
     kinds.update(Kind(0, True) for subject in roles.targets if subject not in alerts)
@@ -117,9 +128,13 @@ def needs_no_roles(plan: Plan) -> bool:
 
 def mean(found: Sequence[Columns]) -> Columns:
     count = len(found)
-    return Columns(sum((it.conflicts for it in found), Fraction(0)) / count, sum((it.silent for it in found), Fraction(0)) / count,
-                   sum((it.extra for it in found), Fraction(0)) / count, math.fsum(it.decided for it in found) / count,
-                   math.fsum(it.right for it in found) / count)
+    return Columns(
+        sum((it.conflicts for it in found), Fraction(0)) / count,
+        sum((it.silent for it in found), Fraction(0)) / count,
+        sum((it.extra for it in found), Fraction(0)) / count,
+        math.fsum(it.decided for it in found) / count,
+        math.fsum(it.right for it in found) / count,
+    )
 
 
 @dataclass(frozen=True)
@@ -157,7 +172,12 @@ def exact(plan: Plan, trials: int | None = None) -> Iterator[CellColumns]:
         steps, count = max(steps_of(it, rule) for it in worlds), 0 if free else len(worlds)
         if steps > MOST_STEPS:
             singles = max(len(it.singles) for it in worlds)
-            yield CellColumns(cell, None, count, f"about {steps:.0e} products would be added up, as {singles} processes observe one another")
+            yield CellColumns(
+                cell,
+                None,
+                count,
+                f"about {steps:.0e} products would be added up, as {singles} processes observe one another",
+            )
         else:
             yield CellColumns(cell, mean([columns_of(it, rule, nodes - f, least) for it in worlds]), count)
 
@@ -220,5 +240,7 @@ def beside(plan: Plan, table: Table) -> Iterator[str]:
         if min(share, 1 - share) * line.receivers >= 5:
             squares, count = squares + distance**2, count + 1
     if count:
-        yield (f"sum of squares {squares:.1f} over {count} lines that expect 5 conflicts or more; chance gives more in "
-               f"{100 * chance_of_more(squares, count):.0f} of 100 studies")
+        yield (
+            f"sum of squares {squares:.1f} over {count} lines that expect 5 conflicts or more; chance gives more in "
+            f"{100 * chance_of_more(squares, count):.0f} of 100 studies"
+        )

@@ -1,21 +1,21 @@
 """Plans, read and judged as the reference does."""
 from __future__ import annotations
 
-import json
-import os
 import shutil
-import subprocess
 import sys
-from typing import Any
+from pathlib import Path
 
-sys.path.insert(0, os.path.join(os.path.dirname(os.path.abspath(__file__)), "..", "..", "reference"))
-
-import cutlab_reference as reference  # noqa: E402
+from cutlab_tools.paths import reference
+from cutlab_tools.plans import Plan, text_of
+from cutlab_tools.program import Program
 
 __all__ = ["Cell", "Plan", "Refused", "cells", "plan_of", "quorum", "read_plan", "read_text", "reference", "text_of"]
 
-Plan = dict[str, Any]
-Cell = tuple[int, int, int, int]
+Cell = reference.Cell
+# How many equal proposals decide, and the cells of a plan, are what the definitions say.
+cells, quorum = reference.cells, reference.quorum
+# The program on the PATH.
+CUTLAB = Program(Path("cutlab"))
 
 
 class Refused(Exception):
@@ -36,10 +36,9 @@ def read_text(path: str) -> bytes:
 def explained(text: bytes, fault: reference.Fault) -> str:
     """What `cutlab explain` says of a refused plan; the fault's line alone where the program is not on the PATH."""
     if shutil.which("cutlab"):
-        done = subprocess.run(["cutlab", "explain"], input=text, capture_output=True, check=False)
-        said = done.stdout.decode(errors="replace") + done.stderr.decode(errors="replace")
-        if said:
-            return said.rstrip("\n")
+        output, errors, _ = CUTLAB.run("explain", text=text)
+        if output or errors:
+            return (output + errors).rstrip("\n")
     return str(fault)
 
 
@@ -54,17 +53,3 @@ def plan_of(text: bytes) -> Plan:
 
 def read_plan(path: str) -> Plan:
     return plan_of(read_text(path))
-
-
-def text_of(plan: Plan) -> bytes:
-    return json.dumps(plan).encode()
-
-
-def cells(plan: Plan) -> list[Cell]:
-    found: list[Cell] = reference.cells(plan)
-    return found
-
-
-def quorum(nodes: int) -> int:
-    """How many equal proposals decide: all processes less a quarter of the others, rounded down."""
-    return nodes - (nodes - 1) // 4

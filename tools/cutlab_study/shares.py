@@ -94,9 +94,12 @@ def folded(table: Table, axis: int) -> Table:
     """A table's differences of each order along an axis, at 0."""
     lines: dict[tuple[int, ...], list[int]] = {}
     for at, value in sorted(table.items()):
-        lines.setdefault(at[:axis] + at[axis + 1:], []).append(value)
-    return {at[:axis] + (order,) + at[axis:]: change
-            for at, values in lines.items() for order, change in enumerate(differences(values))}
+        lines.setdefault(at[:axis] + at[axis + 1 :], []).append(value)
+    return {
+        at[:axis] + (order,) + at[axis:]: change
+        for at, values in lines.items()
+        for order, change in enumerate(differences(values))
+    }
 
 
 def choices(count: int, *parts: int) -> int:
@@ -134,8 +137,13 @@ def unreported_then_stable(need: Need, l: int) -> tuple[tuple[tuple[int, int], i
     def holds(i: int, j: int, m: int, n: int) -> int:
         return int(i + m < l <= i + j + m + n and i + j >= need.outer)
 
-    table: Table = {(i, j, m, n): holds(i, j, m, n) for i in range(outer + 1) for j in range(outer - i + 1)
-                    for m in range(inner + 1) for n in range(inner - m + 1)}
+    table: Table = {
+        (i, j, m, n): holds(i, j, m, n)
+        for i in range(outer + 1)
+        for j in range(outer - i + 1)
+        for m in range(inner + 1)
+        for n in range(inner - m + 1)
+    }
     for axis in range(4):
         table = folded(table, axis)
     found: Surface = {}
@@ -231,7 +239,8 @@ class Shares:
 
     def integrals(self, counts: tuple[int, ...], singles: int, members: int, most: int) -> dict[int, list[int]]:
         """For each power b of `later`, the numbers by which u^(p + b + 1) / (p + b + 1)! counts where v^p / p! is integrated
-        against it, for each p up to `most`. They are sums of binomial numbers, and so repeated sums of the coefficients."""
+        against it, for each p up to `most`. They are sums of binomial numbers, and so repeated sums of the coefficients.
+        """
         key = (counts, singles, members if singles else 0)
         known = self.sums.get(key)
         if known is not None and all(len(its) > most for its in known.values()):
@@ -291,8 +300,10 @@ class Shares:
                 continue
             others = self.none_reported(counts, members)
             common = lcm(*range(1, max(density) + max(others) + 2))
-            total = sum(x * factorial(max(density)) // factorial(p) * y * (common // (p + d + 1))
-                        for (p, x), (d, y) in product(density.items(), others.items()))
+            total = sum(
+                x * factorial(max(density)) // factorial(p) * y * (common // (p + d + 1))
+                for (p, x), (d, y) in product(density.items(), others.items())
+            )
             share = Fraction(total, common * factorial(max(density)))
             if share:
                 ways = prod(comb(number, count) for number, count in zip(numbers, counts))

@@ -127,8 +127,10 @@ def table_of(name: str, text: bytes) -> Table:
     if not lines:
         raise Refused(f"{name}: it has no lines; a table has a header and a line for each cell")
     if len({it.cell for it in lines}) < len(lines):
-        raise Refused(f"{name}: a cell has two lines; tables of one plan that differ in a field need a column for it, as "
-                      "`study vary` prints them, and are read one by one")
+        raise Refused(
+            f"{name}: a cell has two lines; tables of one plan that differ in a field need a column for it, as "
+            "`study vary` prints them, and are read one by one"
+        )
     return Table(name, lines)
 
 
@@ -142,8 +144,10 @@ def check_fits(plan: Plan, table: Table) -> None:
         raise Refused(f"{table.name}: its cells are not those of the plan, in their order; was the run cut short?")
     for it in table.lines:
         if it.trials != plan["repeats"] or it.receivers != plan["repeats"] * (plan["nodes"] - it.f):
-            raise Refused(f"{table.name}: K = {it.k}, H = {it.h}, L = {it.l}, F = {it.f}: other numbers of trials or receivers "
-                          "than the plan's")
+            raise Refused(
+                f"{table.name}: K = {it.k}, H = {it.h}, L = {it.l}, F = {it.f}: other numbers of trials or receivers "
+                "than the plan's"
+            )
 
 
 def csv_of(lines: list[Line], has_settled: bool) -> str:

@@ -4,11 +4,10 @@ from __future__ import annotations
 import json
 import math
 import shutil
-import subprocess
 from dataclasses import replace
 from typing import Any, Iterator
 
-from .plans import Plan, Refused, plan_of, read_plan, text_of
+from .plans import CUTLAB, Plan, Refused, plan_of, read_plan, text_of
 from .tables import COUNTS, DISTANCE, Line, Share, Table, check_fits, csv_of, read_table
 
 LISTS = ("k", "h", "l", "f")
@@ -30,11 +29,11 @@ def run(plan: Plan, workers: int | None) -> str:
     """The table of a plan, by the program on the PATH."""
     if not shutil.which("cutlab"):
         raise Refused("cutlab is not on the PATH")
-    words = ["cutlab", "run"] + (["--workers", str(workers)] if workers else [])
-    done = subprocess.run(words, input=text_of(plan), stdout=subprocess.PIPE, stderr=subprocess.PIPE, check=False)
-    if done.returncode:
-        raise Refused(done.stderr.decode(errors="replace").rstrip("\n"))
-    return done.stdout.decode()
+    words = ["--workers", str(workers)] if workers else []
+    output, errors, status = CUTLAB.run("run", *words, text=text_of(plan), limit=None)
+    if status:
+        raise Refused(errors.rstrip("\n"))
+    return output
 
 
 def vary(plan: Plan, field: str, values: list[str], workers: int | None) -> Iterator[str]:
@@ -84,7 +83,9 @@ def pool(pairs: list[tuple[str, str]]) -> str:
     for (path, _), plan, table in zip(pairs, plans, tables):
         if {**plan, "seed": ""} != {**plans[0], "seed": ""}:
             fields = sorted(it for it in {*plan, *plans[0]} - {"seed"} if plan.get(it) != plans[0].get(it))
-            raise Refused(f"{path} and {pairs[0][0]} differ in {', '.join(fields)}: only plans that differ in the seed alone add up")
+            raise Refused(
+                f"{path} and {pairs[0][0]} differ in {', '.join(fields)}: only plans that differ in the seed alone add up"
+            )
         check_fits(plan, table)
     if len(set(seeds)) < len(seeds):
         raise Refused("two of the plans have one seed: they have the same trials, which count once")

@@ -15,8 +15,22 @@ from cutlab_study import choose, exact, plans, report, tables, vary  # noqa: E40
 from cutlab_study.shares import Kind, Rule, World  # noqa: E402
 
 HEADER = "k,h,l,f,trials,receivers,conflicts,silent,extra,votes,decided,right,ppm\n"
-PLAN = {"copies": 1, "dead": "speak", "f": [2], "faults": "crash", "h": [2, 3], "implicit": False, "k": [3], "l": [1], "liars": 0,
-        "links": 0, "nodes": 10, "repeats": 5, "seed": "0" * 64, "version": 1}
+PLAN = {
+    "copies": 1,
+    "dead": "speak",
+    "f": [2],
+    "faults": "crash",
+    "h": [2, 3],
+    "implicit": False,
+    "k": [3],
+    "l": [1],
+    "liars": 0,
+    "links": 0,
+    "nodes": 10,
+    "repeats": 5,
+    "seed": "0" * 64,
+    "version": 1,
+}
 
 
 def conflicts(k: int, h: int, l: int, f: int) -> Fraction:
@@ -78,7 +92,12 @@ class Bounds(unittest.TestCase):
     """Wilson's bounds, against values of textbooks."""
 
     def test_bounds(self) -> None:
-        for count, of, low, high in ((0, 20, 0.0, 0.161), (0, 300, 0.0, 0.0126), (0, 3000, 0.0, 0.00128), (5, 10, 0.2366, 0.7634)):
+        for count, of, low, high in (
+            (0, 20, 0.0, 0.161),
+            (0, 300, 0.0, 0.0126),
+            (0, 3000, 0.0, 0.00128),
+            (5, 10, 0.2366, 0.7634),
+        ):
             found = tables.share_of(count, of)
             self.assertAlmostEqual(found.low, low, places=4)
             self.assertAlmostEqual(found.high, high, delta=0.001)
@@ -90,7 +109,11 @@ class Bounds(unittest.TestCase):
 
 
 class Choices(unittest.TestCase):
-    LINES = ("10,9,1,2,20,20000,10,0,0,0,20,20,500", "10,10,1,2,20,20000,0,0,0,0,20,20,0", "10,9,1,0,20,20000,0,20000,0,0,0,0,0")
+    LINES = (
+        "10,9,1,2,20,20000,10,0,0,0,20,20,500",
+        "10,10,1,2,20,20000,0,0,0,0,20,20,0",
+        "10,9,1,0,20,20000,0,20000,0,0,0,0,0",
+    )
 
     def test_a_gap_below_all_rings_comes_first(self) -> None:
         said = choose.choose(table(*self.LINES), choose.Limits(None, 0.001, None), "conflicts", 2)
@@ -119,7 +142,13 @@ class Choices(unittest.TestCase):
 
 class Tables(unittest.TestCase):
     def test_what_is_no_table(self) -> None:
-        for text in ("", HEADER, "a,b\n1,2\n", HEADER + "1,1,1,1,2,0,0,0,0,0,0,0,0\n", HEADER + "1,1,1,1,2,8,0,0,0,8,2,2,0\n" * 2):
+        for text in (
+            "",
+            HEADER,
+            "a,b\n1,2\n",
+            HEADER + "1,1,1,1,2,0,0,0,0,0,0,0,0\n",
+            HEADER + "1,1,1,1,2,8,0,0,0,8,2,2,0\n" * 2,
+        ):
             with self.assertRaises(plans.Refused):
                 tables.table_of("text", text.encode())
 
@@ -129,6 +158,7 @@ class Tables(unittest.TestCase):
 
     def test_pooled(self) -> None:
         with tempfile.TemporaryDirectory() as folder:
+
             def made(name: str, text: str) -> str:
                 path = os.path.join(folder, name)
                 with open(path, "w", encoding="utf-8") as file:
@@ -138,8 +168,10 @@ class Tables(unittest.TestCase):
             lines = "3,2,1,2,5,40,16,0,0,24,0,0,400000\n3,3,1,2,5,40,4,0,0,36,5,5,100000\n"
             one, other = made("1.json", json.dumps(PLAN)), made("2.json", json.dumps({**PLAN, "seed": "1" * 64}))
             far, csv = made("3.json", json.dumps({**PLAN, "seed": "2" * 64, "liars": 1})), made("t.csv", HEADER + lines)
-            self.assertEqual(vary.pool([(one, csv), (other, csv)]),
-                             HEADER + "3,2,1,2,10,80,32,0,0,48,0,0,400000\n3,3,1,2,10,80,8,0,0,72,10,10,100000\n")
+            self.assertEqual(
+                vary.pool([(one, csv), (other, csv)]),
+                HEADER + "3,2,1,2,10,80,32,0,0,48,0,0,400000\n3,3,1,2,10,80,8,0,0,72,10,10,100000\n",
+            )
             with self.assertRaisesRegex(plans.Refused, "differ in liars"):
                 vary.pool([(one, csv), (far, csv)])
             with self.assertRaisesRegex(plans.Refused, "one seed"):
@@ -160,15 +192,25 @@ class Reports(unittest.TestCase):
     def test_a_page_needs_nothing_else(self) -> None:
         lines = ("3,2,1,2,5,40,16,0,0,24,0,0,400000", "3,3,1,2,5,40,4,0,0,36,5,5,100000")
         text = report.page(plans.plan_of(json.dumps(PLAN).encode()), table(*lines), choose.Limits(None, 0.5, None), 1)
-        for part in ("K = 3, F = 2", "exact 40 %", "exact 10 %", "H = 2, L = 1: 16 conflicts of 40 receivers", PLAN["seed"]):
+        for part in (
+            "K = 3, F = 2",
+            "exact 40 %",
+            "exact 10 %",
+            "H = 2, L = 1: 16 conflicts of 40 receivers",
+            PLAN["seed"],
+        ):
             self.assertIn(str(part), text)
         for part in ("<script", "http://", "https://", "<link", "src="):
             self.assertNotIn(part, text)
 
     def test_another_plan_is_refused(self) -> None:
         with self.assertRaises(plans.Refused):
-            report.page(plans.plan_of(json.dumps(PLAN).encode()), table("3,2,1,2,5,40,16,0,0,24,0,0,400000"),
-                        choose.Limits(None, None, None), 1)
+            report.page(
+                plans.plan_of(json.dumps(PLAN).encode()),
+                table("3,2,1,2,5,40,16,0,0,24,0,0,400000"),
+                choose.Limits(None, None, None),
+                1,
+            )
 
 
 if __name__ == "__main__":

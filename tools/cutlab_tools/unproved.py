@@ -7,11 +7,12 @@ import struct
 import subprocess
 import tempfile
 import time
+from pathlib import Path
 
-from common import connected
+from .program import connect
 
 # How long a build may take, and the server of the program that was built.
-SECONDS, SERVED_SECONDS = 900, 60
+BUILD_SECONDS, SERVED_SECONDS = 900, 60
 
 
 class NotBuilt(Exception):
@@ -22,18 +23,17 @@ class NotServed(Exception):
     """What the program that was built says in place of serving."""
 
 
-def copy_server(path, program):
+def copy_server(path: Path, program: Path) -> None:
     """Copies the file that the server at a socket runs from, and ends the server, which takes one session. The words
     that it was started by may begin with those of a loader: the file stands before `serve`."""
-    with connected(path) as wire:
+    with connect(path) as wire:
         number, _, _ = struct.unpack("3i", wire.getsockopt(socket.SOL_SOCKET, socket.SO_PEERCRED, 12))
-        with open(f"/proc/{number}/cmdline", encoding="utf-8") as file:
-            words = file.read().split("\0")
+        words = Path(f"/proc/{number}/cmdline").read_text().split("\0")
         shutil.copyfile(os.path.join(f"/proc/{number}/cwd", words[words.index("serve") - 1]), program)
-    os.chmod(program, 0o755)
+    program.chmod(0o755)
 
 
-def ended(trial, last):
+def end(trial: subprocess.Popen[bytes], last: float) -> None:
     """Waits for the end of what was started, which a moment after the last one is stopped."""
     try:
         trial.wait(timeout=max(0, last - time.monotonic()))
@@ -42,25 +42,23 @@ def ended(trial, last):
         trial.wait()
 
 
-def build(root, program, seconds=SECONDS):
+def build_unproved(root: Path, program: Path) -> None:
     """Builds the program of a copy of the repository into a file: what is built is run as a server, and the file that
     this server runs from is copied."""
-    if not shutil.which("rt"):
-        raise NotBuilt("rt, the command of the Rattle kit, is not on PATH: CONTRIBUTING.md says what is needed")
-    with tempfile.TemporaryDirectory() as folder, open(os.path.join(folder, "log"), "w+", errors="replace") as log:
-        path, last = os.path.join(folder, "socket"), time.monotonic() + seconds
-        serve = ["serve", path, "--workers", "1", "--sessions", "1", "--studies", "1"]
+    with tempfile.TemporaryDirectory() as folder, Path(folder, "log").open("w+", errors="replace") as log:
+        path, last = Path(folder, "socket"), time.monotonic() + BUILD_SECONDS
+        serve = ["serve", str(path), "--workers", "1", "--sessions", "1", "--studies", "1"]
         words = ["rt", "try", "--steps", "1", "--seconds", str(SERVED_SECONDS), "--", *serve]
-        trial = subprocess.Popen(words, cwd=f"{root}/crates/cutlab", stdin=subprocess.DEVNULL, stdout=log, stderr=log)
+        trial = subprocess.Popen(words, cwd=root / "crates/cutlab", stdin=subprocess.DEVNULL, stdout=log, stderr=log)
         try:
-            while time.monotonic() < last and trial.poll() is None and not os.path.exists(path):
+            while time.monotonic() < last and trial.poll() is None and not path.exists():
                 time.sleep(0.1)
-            if os.path.exists(path):
+            if path.exists():
                 return copy_server(path, program)
         finally:
-            ended(trial, last)
+            end(trial, last)
         log.seek(0)
         printed = log.read()
     if time.monotonic() >= last:
-        raise NotBuilt(f"the build took over {seconds} s")
+        raise NotBuilt(f"the build took over {BUILD_SECONDS} s")
     raise (NotBuilt if "run=none" in printed or "\nrun=" not in printed else NotServed)(printed)

@@ -1,0 +1,108 @@
+"""Proves and builds the program, for who wants to use it: ./build
+
+The crates that the program stands on are proved, as many side by side as there are processors and memory for, without the
+edits that must fail and without the crates of tests: `rt ci` over a copy that has nothing else. A line says of each crate when
+it is proved, how far the build is, and about how long it may still take. The program is then the file
+crates/cutlab/out/cutlab. What was proved is kept on this machine, so that a first `rt ci` does not prove it again.
+"""
+import re
+import shutil
+import subprocess
+import sys
+import tempfile
+import time
+from pathlib import Path
+from typing import Iterable, TextIO
+
+from .paths import PROGRAM, ROOT, require
+
+PARTS = ("src", "specs", "proofs", "data", "args", "stdin", "stdout", "status")
+
+
+def dependencies() -> dict[str, list[str]]:
+    """What each crate of the repository stands on, by crates.txt."""
+    lines = [line.partition("#")[0].split(":") for line in (ROOT / "crates.txt").read_text().split("\n")]
+    return {line[0].split()[0]: line[1].split() for line in lines if len(line) > 1}
+
+
+def needed(below: dict[str, list[str]], name: str) -> set[str]:
+    """A crate and all that it stands on, the kit's crates left out."""
+    found: set[str] = set()
+    waiting = [name]
+    while waiting:
+        crate = waiting.pop()
+        if crate in below and crate not in found:
+            found.add(crate)
+            waiting += below[crate]
+    return found
+
+
+def copy_crates(place: Path, below: dict[str, list[str]], crates: set[str]) -> None:
+    """Copies what is to be proved to a folder."""
+    for path in (Path("crates", crate, part) for crate in crates for part in PARTS):
+        if (ROOT / path).is_dir():
+            shutil.copytree(ROOT / path, place / path)
+        elif (ROOT / path).exists():
+            shutil.copy(ROOT / path, place / path)
+    lines = [f"{name}: {' '.join(on)}\n" for name, on in below.items() if name in crates]
+    (place / "crates.txt").write_text("".join(lines))
+    shutil.copy(ROOT / "HANDLES", place)
+
+
+def size_of(crate: str) -> int:
+    """How many lines of code, definitions and proofs a crate has, by which its share of the work is estimated."""
+    parts = [ROOT / "crates" / crate / part for part in ("src", "specs", "proofs")]
+    return sum(it.read_bytes().count(b"\n") for part in parts for it in part.rglob("*") if it.is_file())
+
+
+def minutes(seconds: float) -> str:
+    return f"{seconds // 60:.0f} min" if seconds >= 90 else f"{seconds:.0f} s"
+
+
+def print_progress(crates: set[str], printed: Iterable[bytes], log: TextIO) -> None:
+    """Keeps what the proofs print, and prints a line for each crate that is proved."""
+    sizes, done, count, begun = {it: size_of(it) for it in crates}, 0, 0, time.monotonic()
+    for line in (it.decode(errors="replace") for it in printed):
+        log.write(line)
+        proved = re.match(r"rt: (\w+) proved", line)
+        if not proved or proved[1] not in sizes:
+            continue
+        count, done, taken = count + 1, done + sizes[proved[1]], time.monotonic() - begun
+        left = minutes(taken * (sum(sizes.values()) - done) / done)
+        print(f"{count:>3} of {len(crates)}  {proved[1]:<20} {minutes(taken):>7}, about {left} left", flush=True)
+
+
+def prove(place: Path, crates: set[str]) -> bool:
+    """Proves the copy, and says how far it is: whether all was proved."""
+    log = place / "log"
+    with log.open("w+") as kept:
+        pipe = subprocess.PIPE
+        with subprocess.Popen(
+            ["rt", "ci"], cwd=place, stdin=subprocess.DEVNULL, stdout=pipe, stderr=subprocess.STDOUT
+        ) as proofs:
+            print_progress(crates, proofs.stdout or [], kept)
+    if proofs.returncode:
+        print("\n".join(log.read_text().split("\n")[-61:]), end="", file=sys.stderr)
+    return proofs.returncode == 0
+
+
+def main() -> int:
+    if len(sys.argv) > 1:
+        print((__doc__ or "").strip())
+        return 0 if sys.argv[1] in ("-h", "--help") else 2
+    require("rt", "build", "README.md")
+    below = dependencies()
+    crates = needed(below, "cutlab")
+    built = PROGRAM.relative_to(ROOT)
+    with tempfile.TemporaryDirectory() as folder:
+        copy_crates(Path(folder), below, crates)
+        if not prove(Path(folder), crates):
+            sys.exit("build: not everything was proved, so there is no program")
+        PROGRAM.parent.mkdir(parents=True, exist_ok=True)
+        shutil.copy2(Path(folder, built), PROGRAM)
+    print(f"proved and built: {built}\n{built} run < examples/one_crash.json")
+    return 0
+
+
+if __name__ == "__main__":
+    sys.exit(main())

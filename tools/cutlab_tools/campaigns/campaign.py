@@ -1,0 +1,143 @@
+"""What all campaigns have in common: options, seeds, counts, the report of a difference, and cases that are kept.
+
+A case is drawn from the name of its campaign, a seed and its own number, so that these three say which case it is. One that
+differs is kept in tests/data/regressions, and tried by ./check before all others from then on.
+"""
+import argparse
+import importlib
+import json
+import random
+import subprocess
+import sys
+import tempfile
+import time
+from pathlib import Path
+from typing import Any, ClassVar, Iterator
+
+from ..paths import DATA, PROGRAM, ROOT
+from ..program import Ended, Program, Word
+
+REGRESSIONS = DATA / "regressions"
+
+
+class Differs(Exception):
+    """The program and what it is set beside say different things."""
+
+
+# What is no difference that a comparison found, but comes of a program that does not answer.
+FAILURES = (Differs, TimeoutError, subprocess.TimeoutExpired)
+
+
+class Campaign:
+    """A campaign with values for the options of its own, which are words for argparse by their names."""
+
+    name: ClassVar[str]
+    options: ClassVar[dict[str, dict[str, Any]]] = {}
+
+    def __init__(self, path: Path, values: dict[str, Any]) -> None:
+        self.path, self.values = path.absolute(), values
+        self.compared: set[str] = set()
+
+    def case(self, rng: random.Random) -> None:
+        """Tries one case."""
+        raise NotImplementedError
+
+    def close(self) -> None:
+        """Ends what the cases share."""
+
+    def attempt(self, seed: str, number: int) -> None:
+        """Tries the case of a number, in a folder of its own."""
+        self.compared.clear()
+        with tempfile.TemporaryDirectory() as folder:
+            self.folder = Path(folder)
+            self.program = Program(self.path, self.folder)
+            self.case(random.Random(f"{self.name}/{seed}/{number}"))
+
+    def expect(self, what: str, wanted: object, found: object) -> None:
+        """Compares what the reference says with what the program does."""
+        self.compared.add(what)
+        if wanted != found:
+            raise Differs(f"{what}\n  reference: {wanted!r}\n  program:   {found!r}")
+
+    def require(self, fact: object, what: str) -> None:
+        """Checks a fact that has to hold of what the program printed."""
+        self.expect(what, True, bool(fact))
+
+    def expect_run(self, wanted: Ended, *words: Word, text: bytes = b"", what: str = "") -> None:
+        """Runs a command over a text, and compares how it ends."""
+        shown = " ".join(map(str, words))
+        self.expect(
+            what or f"{shown} < {text.decode(errors='backslashreplace')}", wanted, self.program.run(*words, text=text)
+        )
+
+
+def campaign_of(name: str) -> type[Campaign]:
+    """The campaign of a name."""
+    module = importlib.import_module(f"cutlab_tools.campaigns.{name.replace(' ', '_')}")
+    kinds = [it for it in vars(module).values() if isinstance(it, type) and issubclass(it, Campaign)]
+    return next(it for it in kinds if it.__module__ == module.__name__)
+
+
+def words_of(values: dict[str, Any]) -> list[str]:
+    """The words that give a campaign's own options their values."""
+    return [
+        f"--{name}" if value is True else f"--{name} {value}" for name, value in values.items() if value is not False
+    ]
+
+
+def keep(campaign: Campaign, seed: str, number: int, difference: str) -> str:
+    """Keeps a case that differs: a line that says where."""
+    what: str | None = difference.split("\n  reference: ")[0]
+    what = what if what in campaign.compared else None  # (nothing was compared where the program did not answer)
+    kept = {"campaign": campaign.name, "seed": seed, "number": number, "options": campaign.values, "compares": what}
+    path = REGRESSIONS / f"{campaign.name.replace(' ', '_')}-{seed}-{number}.json"
+    try:
+        path.parent.mkdir(exist_ok=True)
+        path.write_text(json.dumps(kept, indent=1) + "\n")
+    except OSError as error:
+        return f"not kept: {error}"
+    return f"kept: {path.relative_to(ROOT)}"
+
+
+def case_numbers(given: argparse.Namespace) -> Iterator[int]:
+    """The numbers of the cases that are tried."""
+    end = time.monotonic() + 60 * given.minutes if given.minutes else None
+    tried = 0
+    while time.monotonic() < end if end else tried < given.count:
+        yield given.first + tried
+        tried += 1
+
+
+def described(campaign: Campaign, given: argparse.Namespace, number: int, difference: str) -> str:
+    """What is printed of a case that differs."""
+    again = " ".join([sys.argv[0], f"--seed {given.seed} --from {number} --count 1", *words_of(campaign.values)])
+    head = f"{campaign.name}: case {number} differs after {number - given.first} that did not"
+    kept = [] if given.forget else [keep(campaign, given.seed, number, difference)]
+    return "\n".join([head, difference, f"again: {again}", *kept])
+
+
+def run(name: str) -> int:
+    """The command of a campaign: tries cases until `count` are tried or `minutes` have passed, or one differs."""
+    kind = campaign_of(name)
+    words = argparse.ArgumentParser(description=sys.modules[kind.__module__].__doc__)
+    words.add_argument("--program", type=Path, default=PROGRAM, help="the built program")
+    words.add_argument("--seed", default="1", help="what the cases are drawn from")
+    words.add_argument("--from", dest="first", type=int, default=0, help="the number of the first case")
+    words.add_argument("--count", type=int, default=100, help="how many cases are tried")
+    words.add_argument("--minutes", type=float, help="for how long cases are tried, in place of a count")
+    words.add_argument("--forget", action="store_true", help="keep no case that differs")
+    for name, its in kind.options.items():
+        words.add_argument(f"--{name}", **its)
+    given = words.parse_args()
+    campaign, tried = kind(given.program, {name: getattr(given, name) for name in kind.options}), 0
+    try:
+        for number in case_numbers(given):
+            try:
+                campaign.attempt(given.seed, number)
+            except FAILURES as difference:
+                sys.exit(described(campaign, given, number, str(difference)))
+            tried += 1
+    finally:
+        campaign.close()
+    print(f"{campaign.name}: {tried} tried, 0 different", flush=True)
+    return 0

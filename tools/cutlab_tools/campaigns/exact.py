@@ -1,0 +1,133 @@
+"""The exact shares of tools/study beside the definitions, and beside the program.
+
+Each case has two parts. A small world is drawn, with at most seven alerts, and every order of them is given to the
+reference's detector: the orders that end in a conflict, in silence and in an extra are counted, and have to be the exact
+shares of all orders, as whole numbers. Then a plan is drawn, and the program's table of it is set beside the exact shares by
+the roles of its own trials. What is certain, as that nobody is silent, has to be so; of the conflicts the squares of the
+distances, in standard deviations, are added up over the cells. A sum that chance exceeds once in ten million cases is a
+difference: so a run of a thousand cases gives a false alarm once in ten thousand.
+"""
+import itertools
+import json
+import math
+import random
+from fractions import Fraction
+from typing import Any
+
+from cutlab_study import exact
+from cutlab_study.shares import Rule, World
+from cutlab_study.tables import Line, table_of
+
+from ..paths import reference
+from ..plans import Plan, drawn_plan, text_of
+from .campaign import Campaign
+
+MOST_ALERTS, MOST_STEPS, RARE, LEAST_VARIANCE = 7, 3 * 10**8, 1e-7, 5.0
+
+
+class DrawnRoles(reference.Roles):
+    """Roles that are drawn here, in the form in which the reference has them."""
+
+    def __init__(self, rng: random.Random, nodes: int, layout: reference.Layout) -> None:
+        order = rng.sample(range(nodes), nodes)
+        failed = rng.randint(0, min(3, nodes - 1))
+        deaf = rng.randint(0, failed)
+        liars = rng.choice([0, 0, 1]) if failed < nodes else 0
+        self.targets, rest = order[:failed], order[failed + liars :]
+        self.crashed, self.deaf = set(order[: failed - deaf]), set(order[failed - deaf : failed])
+        self.liars = set(order[failed : failed + liars])
+        self.links = {(end, layout.subject(0, end)) for end in rest[: rng.choice([0, 0, 1])]}
+        self.speak = rng.random() < 0.5
+
+
+class SmallWorld:
+    """A few processes with their rings, their roles, a cell, and at most seven alerts."""
+
+    def __init__(self, rng: random.Random) -> None:
+        while True:
+            nodes, k = rng.randint(3, 7), rng.randint(1, 4)
+            self.layout = reference.Layout([rng.sample(range(nodes), nodes) for _ in range(k)])
+            self.roles = DrawnRoles(rng, nodes, self.layout)
+            low = rng.randint(1, k)
+            self.plan: Plan = {"nodes": nodes, "implicit": rng.random() < 0.6}
+            self.edges = reference.alert_list(self.plan, self.layout, self.roles, k)
+            if len(self.edges) <= MOST_ALERTS:
+                self.cell = (k, rng.randint(low, k), low, len(self.roles.targets))
+                return
+
+    def proposed(self, order: tuple[reference.Edge, ...]) -> set[int] | None:
+        """What a receiver proposes by an order, if it does."""
+        detector = reference.Detector(self.layout, *self.cell[:3], self.plan["implicit"])
+        for edge in order:
+            detector.deliver(edge)
+            members = detector.settled()
+            if members is not None:
+                return set(members)
+        return None
+
+    def counts(self) -> list[int]:
+        """How many orders end in a conflict, in silence and in an extra."""
+        targets, counts = set(self.roles.targets), [0, 0, 0]
+        for order in itertools.permutations(self.edges):
+            members = self.proposed(order)
+            if members is None:
+                counts[1] += 1
+            else:
+                counts[0] += not targets <= members
+                counts[2] += not members <= targets
+        return counts
+
+    def shown(self) -> str:
+        what: dict[str, Any] = {"cell": self.cell, "implicit": self.plan["implicit"], "rings": self.layout.rings}
+        return json.dumps({**what, "alerts": self.edges, "targets": self.roles.targets})
+
+
+def worlds(plan: Plan, layout: reference.Layout, number: int, cell: reference.Cell) -> list[World] | None:
+    """The worlds of a cell's trials, or none where one would take too long."""
+    found, rule = exact.worlds_of(plan, layout, number, plan["repeats"]), Rule(cell[1], cell[2])
+    return found if sum(exact.steps_of(world, rule) for world in found) <= MOST_STEPS else None
+
+
+class Exact(Campaign):
+    name = "exact"
+
+    def case(self, rng: random.Random) -> None:
+        self.check_orders(SmallWorld(rng))
+        self.check_table({**drawn_plan(rng), "repeats": rng.randint(4, 30)})
+
+    def check_orders(self, small: SmallWorld) -> None:
+        """Every order of a small world's alerts beside its exact shares."""
+        world = exact.world_of(small.plan, small.layout, small.roles, small.cell)
+        columns = exact.columns_of(world, Rule(small.cell[1], small.cell[2]), 1, 1)
+        orders = math.factorial(len(small.edges))
+        found = [share * orders for share in (columns.conflicts, columns.silent, columns.extra)]
+        self.expect(f"orders in conflict, silent and with an extra of {small.shown()}", small.counts(), found)
+
+    def check_column(self, plan: Plan, line: Line, name: str, shares: list[Fraction]) -> float | None:
+        """A column of a line beside its exact shares by trials: its distance in standard deviations, where that says
+        something."""
+        receivers, found = plan["nodes"] - line.f, getattr(line, name)
+        mean = sum(receivers * share for share in shares)
+        variance = float(sum(receivers * share * (1 - share) for share in shares))
+        if variance == 0:
+            self.expect(f"{name} of {line} of {json.dumps(plan)}", mean, found)
+        return float(found - mean) / math.sqrt(variance) if variance >= LEAST_VARIANCE else None
+
+    def check_table(self, plan: Plan) -> None:
+        """The program's table of a drawn plan beside the exact shares."""
+        printed, faults, status = self.program.run("run", text=text_of(plan), limit=600)
+        self.expect(f"a run of {json.dumps(plan)}", ("", 0), (faults, status))
+        layout, distances = reference.layout_of(plan), list[float]()
+        for number, line in enumerate(table_of("table", printed.encode()).lines):
+            found = worlds(plan, layout, number, line.cell)
+            if found is None:
+                continue
+            columns = [exact.columns_of(world, Rule(line.h, line.l), 1, 1) for world in found]
+            self.check_column(plan, line, "silent", [it.silent for it in columns])
+            self.check_column(plan, line, "extra", [it.extra for it in columns])
+            distance = self.check_column(plan, line, "conflicts", [it.conflicts for it in columns])
+            distances += [] if distance is None else [distance]
+        total = sum(it * it for it in distances)
+        is_likely = not distances or exact.chance_of_more(total, len(distances)) >= RARE
+        what = f"the squares of {len(distances)} distances add up to {total:.1f}"
+        self.require(is_likely, f"conflicts of {json.dumps(plan)}: {what}")

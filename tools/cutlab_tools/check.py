@@ -1,0 +1,239 @@
+"""The first word on a change, in minutes, with nothing proved: ./check [--seed S] [--times T] [--keep FILE]
+
+The program is built as it stands, unproved and with checks of its own. The cases that differed once are tried first; then the
+program is set against the reference by campaigns/: drawn plans, texts with mistakes, checkpoint files, shares, migrations,
+sessions, and studies that are killed. The tests of a crate are run, and those commands of README.md and docs/GUIDE.md that
+need no large study. The layout of the sources, the types and the layout of the tools, and what .ci/run checks of documents are
+looked at. Each part has a line; the last line is `N passed, M failed`.
+"""
+import argparse
+import os
+import re
+import shutil
+import subprocess
+import sys
+import tempfile
+import time
+from concurrent.futures import Future, ThreadPoolExecutor, as_completed
+from functools import partial
+from pathlib import Path
+from typing import Callable, NamedTuple
+
+from .documents.pages import Command, try_pages
+from .paths import ROOT, require, tracked_files
+from .unproved import NotBuilt, NotServed, build_unproved
+
+# The campaigns, the longest first, with the number of cases that each tries, and of the parts that it is divided into.
+CAMPAIGNS = [
+    *[("plans", 300, 3), ("kills --size 0.03", 10, 2), ("texts --session", 3000, 1), ("faulty_plans", 300, 1)],
+    *[("texts", 100, 1), ("sessions", 20, 1), ("shares", 10, 1), ("migrations", 20, 1), ("checkpoints", 50, 1)],
+    *[("exact", 6, 1), ("explanations", 20, 1)],
+]
+# Crates with tests that are built soon, and whose code the campaigns reach least.
+TESTED = ["cut_command_line_tests"]
+# Checks of documents by the sources alone, and by what the program prints.
+BY_SOURCES = ["docs/statement/make --check", "docs/words", "docs/faults"]
+BY_PROGRAM = ["docs/schema", "docs/manual", "docs/completions/make --check", "docs/refuses"]
+# What looks at the tools, where it is installed.
+TOOLS = ["mypy --cache-dir=/dev/null", "black --check --quiet ."]
+# The plans whose tables the unproved program has in seconds, and the commands that need a table.
+SMALL = ("one_crash.json", "watermarks.json")
+STUDIES = re.compile(r"\bcutlab (run|share|join|migrate|status|serve|ask)\b")
+# How long the commands of a page may take.
+SECONDS = 300
+
+
+class Result(NamedTuple):
+    """What a part found: how many cases passed and failed, what is printed of it, and how many seconds it took."""
+
+    passed: int
+    failed: int
+    printed: str = ""
+    seconds: float = 0.0
+
+
+class Printed(NamedTuple):
+    """What a command printed on both streams, and whether it ended well."""
+
+    text: str
+    is_well: bool
+
+    def result(self, passed: int, failed: int = 0) -> Result:
+        """The result of a part in which `passed` cases passed; where the command fails, at least one failed."""
+        return Result(passed, 0) if self.is_well else Result(passed, max(1, failed), self.text)
+
+
+Part = Callable[[], Result]
+
+
+def run(*words: str | Path, cwd: Path = ROOT) -> Printed:
+    pipe = subprocess.PIPE
+    done = subprocess.run(words, cwd=cwd, stdin=subprocess.DEVNULL, stdout=pipe, stderr=subprocess.STDOUT)
+    return Printed(done.stdout.decode(errors="replace"), done.returncode == 0)
+
+
+def build(program: Path) -> Result:
+    """Builds the program."""
+    try:
+        build_unproved(ROOT, program)
+    except NotBuilt as why:
+        return Result(0, 1, f"the program does not build\n{why}")
+    except NotServed as why:
+        return Result(0, 1, f"the program is built, but does not serve\n{why}")
+    return Result(1, 0)
+
+
+def whole(words: str, *more: str | Path) -> Result:
+    """Runs a check that passes as a whole."""
+    name, *rest = words.split()
+    printed = run(ROOT / name, *rest, *more)
+    return printed.result(int(printed.is_well))
+
+
+def tool(words: str) -> Result:
+    """Runs a tool over the package, if it is installed."""
+    name = words.split()[0]
+    if not shutil.which(name):
+        return Result(0, 0, f"{name} is not installed, so the tools were not checked by it")
+    printed = run(*words.split())
+    return printed.result(int(printed.is_well))
+
+
+def campaign(words: str, first: int, count: int, seed: str, program: Path) -> Result:
+    """Tries cases of a campaign."""
+    name, *rest = words.split()
+    drawn = ["--forget", "--seed", seed, "--from", str(first), "--count", str(count)]
+    printed = run(ROOT / "campaigns" / name, "--program", program, *drawn, *rest)
+    return printed.result(count if printed.is_well else 0)
+
+
+def counted(*words: str | Path) -> Result:
+    """Runs a script whose last line says how many cases it tried and how many were different."""
+    printed = run(*words)
+    counts = re.search(r"(\d+) tried, (\d+) different\n$", printed.text)
+    tried, differing = (int(counts[1]), int(counts[2])) if counts else (0, 0)
+    return printed.result(tried - differing, differing)
+
+
+def crate_tests(crate: str) -> Result:
+    """Runs the tests of a crate, with nothing proved."""
+    printed = run("rt", "try", "--test", cwd=ROOT / "crates" / crate)
+    counts = re.findall(r"^test result: .*?(\d+) passed; (\d+) failed", printed.text, re.MULTILINE)
+    passed, failed = (sum(int(it[at]) for it in counts) for at in (0, 1))
+    return printed.result(passed or int(printed.is_well), failed)
+
+
+def tools_tests() -> Result:
+    """Runs the tests of the packages in tools/."""
+    printed = run(sys.executable, "-m", "unittest", "discover", "tools/tests")
+    counts = re.search(r"^Ran (\d+) tests", printed.text, re.MULTILINE)
+    return printed.result(int(counts[1]) if counts and printed.is_well else 0)
+
+
+def layout() -> Result:
+    """Whether the sources are laid out as `rt fmt` does it, which is given a copy of them all, as one crate."""
+    names = tracked_files("*.rt", "*.antt")
+    with tempfile.TemporaryDirectory() as place:
+        sources = Path(place, "crates", "all", "src")
+        for name in names:
+            (sources / name).parent.mkdir(parents=True, exist_ok=True)
+            shutil.copyfile(ROOT / name, sources / name)
+        Path(place, "crates.txt").write_text("all:\n")
+        printed = run("rt", "fmt", cwd=sources.parent)
+        other = [it for it in names if (ROOT / it).read_bytes() != (sources / it).read_bytes()]
+    if printed.is_well and not other:
+        return Result(1, 0)
+    return Result(0, 1, "".join(f"{it}: rt fmt lays this out in another way\n" for it in other) or printed.text)
+
+
+def short(listed: list[Command]) -> list[Command]:
+    """The commands of a page that need no large study, nor a file of one that does."""
+    kept: list[Command] = []
+    files: set[str] = set()
+    for command in listed:
+        named = set(re.findall(r"[\w$]+\.(?:csv|cut|sock|txt)\b", command.text))
+        if named & files or STUDIES.search(command.text) and not any(plan in command.text for plan in SMALL):
+            files |= named
+        else:
+            kept.append(command)
+    return kept
+
+
+def pages(program: Path) -> Result:
+    """Runs the short commands of README.md and docs/GUIDE.md, and compares what they print with what the pages show."""
+    count, differing = try_pages(program, short, SECONDS)
+    return Result(count - len(differing), len(differing), "\n".join(differing))
+
+
+def timed(part: Part) -> Result:
+    """What a part found, with its seconds."""
+    begun = time.monotonic()
+    try:
+        found = part()
+    except (OSError, subprocess.SubprocessError) as error:
+        found = Result(0, 1, str(error))
+    return found._replace(seconds=time.monotonic() - begun)
+
+
+def before() -> dict[str, Part]:
+    """The parts that need no program, by their names."""
+    parts: dict[str, Part] = {f"tests of {name}": partial(crate_tests, name) for name in TESTED}
+    parts |= {"layout": layout, "tests of tools": tools_tests}
+    parts |= {words.split()[0]: partial(tool, words) for words in TOOLS}
+    return parts | {words.split()[0]: partial(whole, words) for words in BY_SOURCES}
+
+
+def after(given: argparse.Namespace, program: Path) -> dict[str, Part]:
+    """The parts that run the program, by their names: the cases that differed once are the first."""
+    parts: dict[str, Part] = {"regressions": partial(counted, ROOT / "campaigns/regressions", "--program", program)}
+    for words, count, shares in CAMPAIGNS:
+        each = max(1, round(count * given.times / shares))
+        for share in range(shares):
+            name = f"{words} ({share + 1} of {shares})" if shares > 1 else words
+            parts[name] = partial(campaign, words, share * each, each, given.seed, program)
+    parts["commands of the pages"] = partial(pages, program)
+    parts |= {name: partial(counted, ROOT / name, program) for name in ("tests/vectors", "tests/program")}
+    return parts | {words.split()[0]: partial(whole, words, program) for words in BY_PROGRAM}
+
+
+def print_result(name: str, found: Result) -> Result:
+    """Prints a part's line, and all that differs."""
+    print(f"{name:<36}{found.passed:>6} passed{found.failed:>4} failed{found.seconds:>7.1f} s", flush=True)
+    if found.printed:
+        print(found.printed, flush=True)
+    return found
+
+
+def run_all(given: argparse.Namespace) -> list[Result]:
+    """Runs all parts. The build and the parts that need no program go on beside one another."""
+    with ThreadPoolExecutor(len(os.sched_getaffinity(0))) as pool, tempfile.TemporaryDirectory() as folder:
+        parts: dict[Future[Result], str] = {}
+        program = Path(folder, "cutlab")
+        with ThreadPoolExecutor(1) as builder:
+            built = builder.submit(timed, partial(build, program))
+            parts |= {pool.submit(timed, part): name for name, part in before().items()}
+            results = [print_result("build", built.result())]
+        if not results[0].failed:
+            if given.keep:
+                shutil.copy(program, given.keep)
+            parts |= {pool.submit(timed, part): name for name, part in after(given, program).items()}
+        return results + [print_result(parts[it], it.result()) for it in as_completed(parts)]
+
+
+def main() -> int:
+    words = argparse.ArgumentParser(description=__doc__, formatter_class=argparse.RawDescriptionHelpFormatter)
+    words.add_argument("--seed", default="1", help="what the cases are drawn from")
+    words.add_argument("--times", type=float, default=1, help="how many times the usual number of cases is tried")
+    words.add_argument("--keep", metavar="FILE", help="keeps the program that is built, for a campaign's --program")
+    given = words.parse_args()
+    require("rt", "check")
+    begun = time.monotonic()
+    os.environ["PYTHONDONTWRITEBYTECODE"] = "1"
+    results = run_all(given)
+    passed, failed = sum(it.passed for it in results), sum(it.failed for it in results)
+    print(f"{time.monotonic() - begun:.0f} s\n{passed} passed, {failed} failed")
+    return int(failed > 0)
+
+
+if __name__ == "__main__":
+    sys.exit(main())

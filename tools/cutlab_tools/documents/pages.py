@@ -1,0 +1,111 @@
+"""Runs the commands of README.md and docs/GUIDE.md in order, in a fresh copy of the repository, and compares what each
+prints with what the page shows after it: docs/try [PROGRAM]
+
+PROGRAM is the built program, crates/cutlab/out/cutlab where none is given. A command is a line of an indented block that
+begins with "$ "; lines that are indented by ten places or more go on with it. The lines up to the next command are what it
+prints; a line "..." stands for any lines. A command that calls a tool which is not installed is skipped, and said so. What
+differs is printed, and the status is then 1.
+"""
+import re
+import shlex
+import shutil
+import subprocess
+import sys
+import tempfile
+from dataclasses import dataclass, field
+from pathlib import Path
+from typing import Callable, NamedTuple
+
+from ..arguments import program_given
+from ..paths import PAGES, ROOT, copy_repository
+
+# Tools that a reader may lack: a command that calls one is run where it is there.
+OPTIONAL = ("gnuplot", "parallel", "sbatch", "systemd-analyze")
+SECONDS = 900
+
+
+@dataclass
+class Command:
+    """A command of a page: where it stands, its text, and the lines that it is to print."""
+
+    place: str
+    text: str
+    shown: list[str] = field(default_factory=list)
+
+    @property
+    def lacks(self) -> str | None:
+        """The first tool that it calls and that is not here."""
+        return next((it for it in OPTIONAL if re.search(rf"\b{it}\b", self.text) and not shutil.which(it)), None)
+
+    def difference(self, printed: list[str]) -> str | None:
+        """How the lines that were printed differ from those of the page, if they do."""
+        parts = "\n".join(re.escape(it) if it != "..." else ".*" for it in self.shown or [""])
+        if re.fullmatch(parts, "\n".join(printed), re.DOTALL):
+            return None
+        lines = [*(f"    - {it}" for it in self.shown), *(f"    + {it}" for it in printed)]
+        return "\n".join([f"{self.place}: $ {self.text}", *lines])
+
+
+class Trial(NamedTuple):
+    """How many commands were run, and what differs."""
+
+    tried: int
+    differing: list[str]
+
+
+Choice = Callable[[list[Command]], list[Command]]
+
+
+def commands(page: str) -> list[Command]:
+    """The commands of a page."""
+    found: list[Command] = []
+    inside = False
+    for number, line in enumerate((ROOT / page).read_text().split("\n"), 1):
+        if line.startswith("    $ "):
+            found.append(Command(f"{page}:{number}", line[6:]))
+            inside = True
+        elif not line.startswith("    "):
+            inside = False
+        elif inside and line.startswith(" " * 10) and not found[-1].shown:
+            found[-1].text += f"\n{line[10:]}"
+        elif inside:
+            found[-1].shown.append(line[4:])
+    return found
+
+
+def try_commands(listed: list[Command], place: Path, seconds: float = SECONDS) -> Trial:
+    """Runs commands in one shell in a copy of the repository, each with a file for what it prints, and compares."""
+    with tempfile.TemporaryDirectory() as results:
+        files = [Path(results, str(number)) for number in range(len(listed))]
+        script = [
+            "true" if it.lacks else f"{{ {it.text}\n}} > {shlex.quote(str(file))} 2>&1"
+            for it, file in zip(listed, files)
+        ]
+        script.append("jobs -p | xargs -r kill 2> /dev/null; wait")  # (a server that a page starts ends with it)
+        subprocess.run(["bash", "-c", "\n".join(script)], cwd=place, timeout=seconds, stdin=subprocess.DEVNULL)
+        printed = [it.read_text(errors="replace").rstrip("\n").split("\n") if it.exists() else [] for it in files]
+    for it in listed:
+        if it.lacks:
+            print(f"try: {it.place}: skipped, as {it.lacks} is not installed")
+    found = [it.difference(lines) for it, lines in zip(listed, printed) if not it.lacks]
+    return Trial(len(found), [it for it in found if it])
+
+
+def try_pages(program: Path, choose: Choice = list, seconds: float = SECONDS) -> Trial:
+    """Runs commands of the pages, each page in a copy of the repository of its own."""
+    trials = []
+    for page in PAGES:
+        with tempfile.TemporaryDirectory() as place:
+            copy_repository(Path(place), program)
+            trials.append(try_commands(choose(commands(page)), Path(place), seconds))
+    return Trial(sum(it.tried for it in trials), [line for it in trials for line in it.differing])
+
+
+def main() -> int:
+    count, differing = try_pages(program_given(__doc__))
+    print("\n".join(differing) if differing else f"try: {count} commands print what {' and '.join(PAGES)} show")
+    return int(bool(differing))
+
+
+if __name__ == "__main__":
+    sys.exit(main())

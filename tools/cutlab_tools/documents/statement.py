@@ -1,0 +1,296 @@
+"""docs/statement/make [--check]: writes docs/STATEMENT.md, every definition that the program's theorem cites, word for
+word, in the order of docs/statement/skeleton.md. With --check it writes nothing, and fails where the page isn't that.
+
+The skeleton is prose with lines of these kinds:
+
+    {{theorem FILE FUNCTION}}      the contract of a function, with which the closure begins
+    {{definitions MODULE..}}       those of the closure that stand in these specs, as crate/File
+    {{types FILE..}}               the types and constants of the closure that stand in these sources, as crate/file
+    {{cited}}                      what is cited of the standard library and of other crates
+    {{counts}}                     how many definitions and lines there are
+    {{needs COMMAND MODULE:NAME..}}   how many of them a command needs, whose end these definitions say
+
+It fails where the theorem cites a definition of a folder specs/inside: these say how a crate keeps its values,
+and are for its own clauses and proofs.
+"""
+import argparse
+import re
+import sys
+from typing import Callable, Iterable, Iterator, NamedTuple
+
+from ..paths import ROOT
+from ..repository import Repository, report
+
+PAGE, SKELETON = "docs/STATEMENT.md", "docs/statement/skeleton.md"
+TOKEN = re.compile(r"[^\s(){}\[\],;λ]+")
+NAME = re.compile(r"^\s*(?:(?:abbrev|unfoldable|pub|record|data)\s+)+([^\s:({]+)")
+FIELD = re.compile(r"^\s+pub \S+ :")
+USE = re.compile(r"use ([\w.]+?)(?:\.\{(.*)\})?(?: as (\w+))?$")
+ITEM = r"((?:^ *///[^\n]*\n|^ *#\[[^\n]*\n)*)^ *(?:pub(?:\(crate\))? )?(?:struct|enum|trait|const) %s\b.*?(?:^}|;)\n"
+CONTRACT = r"((?:^ *///[^\n]*\n)*)^ *pub fn %s\b.*?\n(?= *{\n)"
+CLAUSE = re.compile(r"(?:ensures|requires)[^{]*\{(.*?)\}\s*(?=ensures|requires|$)", re.S)
+
+
+class NoPage(Exception):
+    """Why no page can be made."""
+
+
+class Cited(NamedTuple):
+    """A name of a module."""
+
+    module: str
+    name: str
+
+
+def without_comments(text: str) -> str:
+    lines = (line for line in text.split("\n") if not line.strip().startswith(("--", "//")))
+    return re.sub(r'"[^"]*"', "", "\n".join(lines))
+
+
+def ghost_uses(text: str) -> Iterator[str]:
+    """The lines by which a source takes names for its contracts."""
+    return (it.strip()[6:].rstrip(";") for it in text.split("\n") if it.strip().startswith("ghost use "))
+
+
+def module_of(word: str) -> str:
+    """The module of specs that the skeleton names as crate/File."""
+    crate, _, file = word.partition("/")
+    return f"Rattle.{crate}.specs.{file.replace('/', '.')}"
+
+
+class Uses:
+    """The names that a file takes from others: each with its module and its name there."""
+
+    def __init__(self, lines: Iterable[str]) -> None:
+        self.names: dict[str, Cited] = {}
+        self.modules: dict[str, str] = {}
+        for line in lines:
+            found = USE.match(line)
+            if not found:
+                raise NoPage(f"can't read: {line}")
+            module, names, alias = found.groups()
+            for name in re.split(r",\s*", names or ""):
+                own, _, other = name.partition(" as ")
+                if own:
+                    self.names[other or own] = Cited(module, own)
+            if alias:
+                self.modules[alias] = module
+
+    def of(self, token: str) -> Cited | None:
+        """What a token of this file's text stands for, if it is another file's."""
+        head, _, rest = token.partition(".")
+        found = self.names.get(token) or self.names.get(head)
+        return Cited(self.modules[head], rest.split(".")[0]) if not found and head in self.modules and rest else found
+
+
+class Spec:
+    """A file of definitions: its paragraphs, each with the names that it defines."""
+
+    def __init__(self, path: str, text: str) -> None:
+        self.path, self.uses = path, Uses(line for line in text.split("\n") if line.startswith("use "))
+        self.paragraphs: list[str] = []
+        self.place: dict[str, int] = {}
+        for paragraph in re.split(r"\n\s*\n", text):
+            lines = [line for line in paragraph.split("\n") if not line.startswith(("use ", "pub use "))]
+            lines = [line for line in lines if not line.strip().startswith("-- ----")]
+            names = [found[1] for found in map(NAME.match, lines) if found and not FIELD.match(found.string)]
+            if any(re.match(r"\s*(?:pub )?data ", line) for line in lines):
+                names += [found[1] for found in (re.match(r"\s+(\w+) *:", line) for line in lines) if found]
+            for name in names:
+                self.place.setdefault(name, len(self.paragraphs))
+            self.paragraphs += ["\n".join(lines).strip("\n")] if names else []
+
+
+class Closure:
+    """What contracts cite, and what that cites in turn."""
+
+    def __init__(self, repository: Repository) -> None:
+        self.repository = repository
+        self.specs: dict[str, Spec | None] = {}
+        self.found: dict[tuple[str, int], str] = {}
+        self.types: dict[tuple[str, str], str] = {}
+        self.outside: dict[str, set[str]] = {}
+
+    def spec(self, module: str) -> Spec | None:
+        if module not in self.specs:
+            found = re.match(r"Rattle\.(\w+)\.specs\.(.+)$", module)
+            path = found and f"crates/{found[1]}/specs/{found[2].replace('.', '/')}.antt"
+            self.specs[module] = Spec(path, self.repository.read(path)) if path and self.repository.has(path) else None
+        return self.specs[module]
+
+    def visit(self, cited: Cited) -> None:
+        """Adds a definition or a type, and all that it cites."""
+        module, name = cited
+        declared = re.match(r"Rattle\.(\w+)\.specs\.declared\.([\w.]+)$", module)
+        if declared and (ROOT / "crates" / declared[1]).exists():
+            self.visit_declared(declared[1], [it for it in declared[2].split(".") if it != "TheVariants"], name)
+            return
+        spec = self.spec(module)
+        if spec is None:
+            self.outside.setdefault(module, set()).add(name)
+        elif name in spec.place:
+            self.visit_paragraph(module, spec, spec.place[name])
+        elif used := spec.uses.of(name):
+            self.visit(used)
+        else:
+            raise NoPage(f"{module} has no {name}")
+
+    def visit_paragraph(self, module: str, spec: Spec, place: int) -> None:
+        if (module, place) not in self.found:
+            self.found[module, place] = spec.paragraphs[place]
+            self.follow(spec.uses, spec.paragraphs[place], module, spec)
+
+    def visit_declared(self, crate: str, parts: list[str], name: str) -> None:
+        """Adds a type, or a constant, of a crate's sources."""
+        *above, last = parts
+        if last == "TheConstants":
+            self.visit_type(f"crates/{crate}/src/{'/'.join(above)}.rt", name)
+        else:
+            self.visit_type(f"crates/{crate}/src/{'/'.join(above or parts)}.rt", last)
+
+    def visit_type(self, path: str, name: str) -> None:
+        if (path, name) in self.types:
+            return
+        text = self.repository.read(path)
+        found = re.search(ITEM % name, text, re.M | re.S)
+        if not found:
+            raise NoPage(f"{path} has no {name}")
+        item = re.sub(r"^ *#\[[^\n]*\n", "", found[0], flags=re.M)
+        self.types[path, name] = item.rstrip("\n")
+        for own, cited in Uses(ghost_uses(text)).names.items():
+            if re.search(rf"(?<![\w.]){re.escape(own)}(?!\w)", without_comments(item)):
+                self.visit(cited)
+
+    def follow(self, uses: Uses, text: str, module: str = "", spec: Spec | None = None) -> None:
+        """Adds all that a text cites."""
+        for token in TOKEN.findall(without_comments(text)):
+            head = token.split(".")[0]
+            if used := uses.of(token):
+                self.visit(used)
+            elif spec and head in spec.place:
+                self.visit_paragraph(module, spec, spec.place[head])
+
+    def counts(self) -> tuple[int, int]:
+        """How many definitions there are, and how many lines without comments."""
+        lines = [line.strip() for text in self.found.values() for line in text.split("\n")]
+        return len(self.found), sum(bool(line) and not line.startswith("--") for line in lines)
+
+
+class Page:
+    """The page that is made of the skeleton."""
+
+    def __init__(self, repository: Repository) -> None:
+        self.repository, self.closure = repository, Closure(repository)
+        self.placed: set[str] = set()
+        self.kinds: dict[str, Callable[..., list[str]]] = {
+            **{"theorem": self.theorem, "definitions": self.definitions, "types": self.types},
+            **{"cited": self.cited, "counts": self.counts, "needs": self.needs},
+        }
+
+    def contract(self, path: str, function: str) -> str:
+        """A function's signature and clauses, as they are written, with its documentation."""
+        found = re.search(CONTRACT % function, self.repository.read(path), re.M | re.S)
+        if not found:
+            raise NoPage(f"{path} has no public {function}")
+        return found[0].rstrip("\n")
+
+    def cite(self, path: str, function: str) -> None:
+        """Adds all that the contract of a function cites."""
+        uses = Uses(ghost_uses(self.repository.read(path)))
+        for clause in CLAUSE.findall(self.contract(path, function)):
+            self.closure.follow(uses, clause)
+
+    def theorem(self, path: str, function: str) -> list[str]:
+        return ["```rust", self.contract(path, function), "```"]
+
+    def definitions(self, *words: str) -> list[str]:
+        lines = []
+        for word in words:
+            module = module_of(word)
+            spec = self.closure.spec(module)
+            if spec is None:
+                raise NoPage(f"the skeleton names {word}, and there is no such file")
+            texts = sorted((place, text) for (of, place), text in self.closure.found.items() if of == module)
+            lines += self.block(module, spec.path, "text", word, [text for _, text in texts])
+        return lines
+
+    def types(self, *words: str) -> list[str]:
+        lines = []
+        for word in words:
+            crate, _, file = word.partition("/")
+            path = f"crates/{crate}/src/{file}.rt"
+            texts = [text for (of, _), text in self.closure.types.items() if of == path]
+            lines += self.block(path, path, "rust", word, texts)
+        return lines
+
+    def block(self, home: str, path: str, language: str, word: str, texts: list[str]) -> list[str]:
+        """What is cited of one file."""
+        if not texts:
+            raise NoPage(f"the skeleton names {word}, of which nothing is cited")
+        self.placed.add(home)
+        return [f"`{path[len('crates/'):]}`", "", f"```{language}", "\n\n".join(texts), "```", ""]
+
+    def cited(self) -> list[str]:
+        names = {module: ", ".join(f"`{it}`" for it in sorted(its)) for module, its in self.closure.outside.items()}
+        return [f"- `{module}`: {names[module]}" for module in sorted(names)]
+
+    def counts(self) -> list[str]:
+        (count, lines), types = self.closure.counts(), len(self.closure.types)
+        what = f"{count} definitions of {lines} lines without comments"
+        return [f"{what}, and {types} types and constants of the program."]
+
+    def needs(self, command: str, *words: str) -> list[str]:
+        closure = Closure(self.repository)
+        for word in words:
+            module, _, name = word.partition(":")
+            closure.visit(Cited(module_of(module), name))
+        count, lines = closure.counts()
+        return [f"Of these {count} definitions of {lines} lines are what `{command}` needs."]
+
+    def text(self) -> str:
+        skeleton = self.repository.read(SKELETON).rstrip("\n").split("\n")
+        said = [line.strip("{}").split() if line.startswith("{{") else [] for line in skeleton]
+        for words in said:
+            if words[:1] == ["theorem"]:
+                self.cite(*words[1:])
+        parts = [self.kinds[words[0]](*words[1:]) if words else [line] for line, words in zip(skeleton, said)]
+        self.check_places()
+        return re.sub(r"\n{3,}", "\n\n", "\n".join(line for part in parts for line in part)).rstrip("\n") + "\n"
+
+    def check_places(self) -> None:
+        """Checks that all that is cited has a place on the page, and may have one."""
+        wanted = {module for module, _ in self.closure.found} | {path for path, _ in self.closure.types}
+        inside = sorted(module for module in wanted if ".specs.inside." in module)
+        if inside:
+            raise NoPage("the theorem cites what is inside of a crate: " + ", ".join(inside))
+        if wanted - self.placed:
+            raise NoPage("the skeleton has no place for " + ", ".join(sorted(wanted - self.placed)))
+
+
+def refusals(repository: Repository) -> list[str]:
+    """Why no page can be made, if none can."""
+    try:
+        Page(repository).text()
+    except NoPage as why:
+        return [f"docs/statement/make: {why}"]
+    return []
+
+
+def differences(repository: Repository) -> list[str]:
+    """Why no page can be made, or that it is not the one that is there."""
+    other = [f"docs/statement/make: {PAGE} is not what this makes: run docs/statement/make"]
+    return refusals(repository) or other * (repository.read(PAGE) != Page(repository).text())
+
+
+def main() -> int:
+    words = argparse.ArgumentParser(description=__doc__, formatter_class=argparse.RawDescriptionHelpFormatter)
+    words.add_argument("--check", action="store_true", help="only say whether the page is another")
+    given, repository = words.parse_args(), Repository()
+    found = differences(repository) if given.check else refusals(repository)
+    if not given.check and not found:
+        (ROOT / PAGE).write_text(Page(repository).text())
+    return report("statement", found)
+
+
+if __name__ == "__main__":
+    sys.exit(main())

@@ -1,0 +1,49 @@
+"""The files of the repository and what the built program prints, by which documents are made and checked.
+
+What the program prints is read like a file, whose name is a command line: `$ cutlab run --help`, or with an input,
+`$ cutlab explain < {}`. Texts are read once, and may be changed here without a change of any file.
+"""
+from __future__ import annotations
+
+from pathlib import Path
+from typing import Iterable
+
+from .paths import PROGRAM, ROOT
+from .program import Program
+
+
+class Repository:
+    """Texts by their names."""
+
+    def __init__(self, program: Path = PROGRAM, texts: dict[str, str] | None = None) -> None:
+        self.program, self.texts = program, texts or {}
+
+    def read(self, name: str) -> str:
+        """The text of a file, or what a command prints on both streams."""
+        if name not in self.texts:
+            self.texts[name] = self.printed(name[9:]) if name.startswith("$ cutlab ") else (ROOT / name).read_text()
+        return self.texts[name]
+
+    def printed(self, line: str) -> str:
+        words, _, text = line.partition(" < ")
+        output, errors, _ = Program(self.program.absolute()).run(*words.split(), text=text.encode())
+        return output + errors
+
+    def has(self, name: str) -> bool:
+        return (ROOT / name).is_file()
+
+    def paths(self, *patterns: str) -> list[str]:
+        """The files whose paths are of some pattern, in their order."""
+        return sorted(str(it.relative_to(ROOT)) for pattern in patterns for it in ROOT.glob(pattern))
+
+    def changed(self, name: str, old: str, new: str) -> Repository:
+        """The same with one text changed, in one place."""
+        return Repository(self.program, {**self.texts, name: self.read(name).replace(old, new, 1)})
+
+
+def report(name: str, differing: Iterable[str], summary: str = "") -> int:
+    """Prints what a check found, or else its summary: the status of the command."""
+    found = list(differing)
+    if found or summary:
+        print("\n".join(found) if found else f"{name}: {summary}")
+    return int(bool(found))

@@ -1,0 +1,59 @@
+"""What the tests of the built program have in common: which program is tried, cases within a test, and the last line.
+
+A test of unittest has many cases, each of which is compared in a subtest, so that one that differs hides no other.
+"""
+import argparse
+import tempfile
+import unittest
+from pathlib import Path
+from typing import ClassVar
+
+from ..arguments import existing
+from ..paths import PROGRAM
+from ..program import Ended, Program, Word
+
+
+class Cases(unittest.TestCase):
+    """Tests each of which has a folder of its own, in which the program is run."""
+
+    path: ClassVar[Path] = PROGRAM
+    tried: ClassVar[int] = 0
+    differing: ClassVar[int] = 0
+    maxDiff = None
+
+    def setUp(self) -> None:
+        self.place = tempfile.TemporaryDirectory()
+        self.addCleanup(self.place.cleanup)
+        self.folder = Path(self.place.name)
+        self.program = Program(self.path, self.folder)
+
+    def expect(self, what: str, wanted: object, found: object) -> None:
+        """Compares one case."""
+        Cases.tried += 1
+        Cases.differing += wanted != found
+        with self.subTest(what):
+            self.assertEqual(wanted, found)
+
+    def expect_run(self, wanted: Ended, *words: Word, text: bytes = b"") -> None:
+        """Compares how a command ends over a text."""
+        found = self.program.run(*words, text=text)
+        self.expect(f"{' '.join(map(str, words))} < {text.decode(errors='backslashreplace')}", wanted, found)
+
+    def size(self, name: str) -> int:
+        return (self.folder / name).stat().st_size
+
+
+def run(name: str, about: str | None, module: str) -> int:
+    """Runs the tests of a module; the last line says how many cases were tried, and how many were different."""
+    words = argparse.ArgumentParser(description=about, formatter_class=argparse.RawDescriptionHelpFormatter)
+    words.add_argument("program", nargs="?", type=Path, default=PROGRAM, help="the built program")
+    words.add_argument("-k", metavar="NAME", action="append", help="only the tests whose names have this in them")
+    words.add_argument("-v", action="store_true", help="print the name of each test")
+    given = words.parse_args()
+    Cases.path = existing(given.program)
+    loader = unittest.TestLoader()
+    loader.testNamePatterns = [f"*{it}*" for it in given.k] if given.k else None
+    found = unittest.TextTestRunner(verbosity=1 + given.v).run(loader.loadTestsFromName(module))
+    differing = max(Cases.differing, len(found.failures) + len(found.errors))
+    print(f"{name}: {Cases.tried} tried, {differing} different")
+    return int(differing > 0)

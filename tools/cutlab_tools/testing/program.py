@@ -1,0 +1,474 @@
+"""tests/program [PROGRAM] [-k NAME]: what a built program, crates/cutlab/out/cutlab where none is given, does with its words, its
+files and its streams. Each difference is printed; the last line says how many there are."""
+import hashlib
+import json
+import os
+import re
+import resource
+import shutil
+import signal
+import subprocess
+import sys
+import time
+from functools import partial
+from pathlib import Path
+from typing import Any
+
+from ..paths import DATA, ROOT, reference
+from ..plans import Plan
+from ..program import Child, Ended, Program, Word, connect, end_of
+from .cases import Cases, run
+
+# Tables that were worked out by hand, command lines with a mistake, and names of files as a line quotes them.
+TABLES: dict[str, list[Any]] = json.loads((DATA / "program.json").read_text())
+HEADER = "k,h,l,f,trials,receivers,conflicts,silent,extra,votes,decided,right,ppm\n"
+UPGRADE_HEADER = HEADER.replace(",ppm", ",settled,ppm")
+# One cell of two trials: in each one process crashes, and the four others propose it.
+FIELDS: Plan = dict(
+    copies=1, dead="silent", f=[1], faults="crash", h=[1], implicit=True, k=[1], l=[1], liars=0, links=0
+)
+FIELDS |= dict(nodes=5, repeats=2, seed="0" * 64, version=1)
+UPGRADE_FIELDS: Plan = {**{name: FIELDS[name] for name in FIELDS if name != "faults"}, "deaf": 0, "version": 2}
+PLAN, UPGRADE = reference.canonical_text(FIELDS), reference.canonical_text(UPGRADE_FIELDS)
+ROW, UPGRADE_ROW = "1,1,1,1,2,8,0,0,0,8,2,2,0", "1,1,1,1,2,8,0,0,0,8,2,2,8,0"
+TABLE, UPGRADE_TABLE = f"{HEADER}{ROW}\n", f"{UPGRADE_HEADER}{UPGRADE_ROW}\n"
+# The name of the plan's file in a server's folder.
+NAME = f"{hashlib.sha256(PLAN).hexdigest()}.cut"
+HEAD, SLIP = 45 + len(PLAN), 105
+
+
+def plan_with(**fields: Any) -> bytes:
+    """The plan with other values in some of its fields."""
+    return reference.canonical_text({**FIELDS, **fields})
+
+
+def line_of(fault: str) -> str:
+    return f"cutlab: fault {fault}\n"
+
+
+def refused(fault: str, status: int = 4) -> Ended:
+    """How a command ends with a fault."""
+    return Ended("", line_of(fault), status)
+
+
+def limit_files(room: int) -> None:
+    """Lets this process write files of this many bytes alone."""
+    signal.signal(signal.SIGXFSZ, signal.SIG_IGN)
+    resource.setrlimit(resource.RLIMIT_FSIZE, (room, room))
+
+
+class ProgramCases(Cases):
+    """Tests whose commands are lines, and are given the plan where no other text is."""
+
+    def ends(self, line: str, wanted: Ended | str, text: bytes = PLAN) -> None:
+        """Compares how a command ends; words alone are its whole output."""
+        self.expect_run(Ended(wanted) if isinstance(wanted, str) else wanted, *line.split(), text=text)
+
+    def file(self, name: str) -> Path:
+        return self.folder / name
+
+    def names(self) -> list[str]:
+        return sorted(it.name for it in self.folder.iterdir())
+
+    def served(self, *words: Word, sessions: int = 1) -> Child[bytes]:
+        """A server of two workers and two slots at the socket of the folder."""
+        return self.program.serve(self.file("socket"), *words, workers=2, sessions=sessions, studies=2)
+
+
+class Studies(ProgramCases):
+    """Tables, and what is said of plans."""
+
+    def test_small_studies(self) -> None:
+        """Tables that were worked out by hand, by some workers and by pieces of some sizes."""
+        versions = (FIELDS, HEADER, TABLES["small"]), (UPGRADE_FIELDS, UPGRADE_HEADER, TABLES["small_upgrades"])
+        for plan, header, rows in versions:
+            for fields, row in rows:
+                text = reference.canonical_text({**plan, **fields})
+                for words in (f"--workers {workers} --piece {size}" for workers in (1, 2, 3) for size in (1, 2, 16)):
+                    self.ends(f"run {words}", f"{header}{row}\n", text)
+
+    def test_large_studies(self) -> None:
+        """The tables of 65 cells, one more than a word has bits, in which no process fails, from results and from slips; and
+        of 1,999 processes on 31 rings, of which one crashes, each alert in four copies."""
+        cells = plan_with(f=[0], h=list(range(20, 25)), k=[32], l=list(range(1, 14)), repeats=1)
+        rows = "".join(f"32,{h},{l},0,1,5,0,5,0,0,0,0,0\n" for h in range(20, 25) for l in range(1, 14))
+        for _ in range(2):
+            self.ends("run --piece 1 --checkpoint cells.cut", HEADER + rows, cells)
+        rings = plan_with(copies=4, dead="speak", h=[31], k=[31], nodes=1999, repeats=1)
+        found = self.program.run("run", text=rings, limit=600)
+        self.expect("31 rings", Ended(f"{HEADER}31,31,1,1,1,1998,0,0,0,1998,1,1,0\n"), found)
+
+    def test_counts(self) -> None:
+        """What `check` says of a large study, and the quorums of some numbers of processes."""
+        large = plan_with(nodes=1000, k=[10], h=[6, 7, 8, 9], l=[1, 2, 3, 4], f=[2, 4, 8, 16], repeats=20, dead="speak")
+        self.ends("check", "cells 64\ntrials 1280\nquorum 751\n", large)
+        for nodes, quorum in ((2, 2), (4, 4), (5, 4), (9, 7)):
+            self.ends("check", f"cells 1\ntrials 2\nquorum {quorum}\n", plan_with(nodes=nodes))
+
+    def test_answers(self) -> None:
+        self.ends("run", TABLE)
+        self.ends("run --workers 3", TABLE)
+        self.ends("check", "cells 1\ntrials 2\nquorum 4\n")
+        self.ends("canonical", f"{PLAN.decode()}\n")
+
+    def test_progress(self) -> None:
+        output, errors, status = self.program.run("run", "--progress", text=PLAN)
+        self.expect("run --progress", (0, TABLE, True), (status, output, "cutlab: 2 of 2 trials, " in errors))
+        self.ends("run --progress", refused("2 NotObject", 3), b"[]")
+
+    def test_explanations(self) -> None:
+        output, errors, status = self.program.run("explain", text=PLAN)
+        self.expect("explain", (0, "accepted\ncells 1\ntrials 2\nquorum 4\n", ""), (status, output[:35], errors))
+        why = "refused: 2 NotObject\nfound an empty list; expected an object, in braces\n"
+        self.ends("explain", Ended(why, line_of("2 NotObject"), 3), b"[]")
+
+    def test_refusals(self) -> None:
+        texts = {b"": "1 NotJson", b"[]": "2 NotObject", b'{"x":0}': "3 UnknownField", b"{}": "4 MissingField copies"}
+        for text, fault in {**texts, plan_with(h=[3]): "8 NoCell"}.items():
+            for command in ("run", "check"):
+                self.ends(command, refused(fault, 3), text)
+
+    def test_limits(self) -> None:
+        """The most cells, the most failed processes, and the longest text."""
+        every: Plan = dict(f=list(range(2048)), nodes=2048)
+        self.ends("check", "cells 4096\ntrials 8192\nquorum 1537\n", plan_with(**every, k=[2], h=[1, 2]))
+        three: Plan = dict(**every, k=[3], h=[1, 2, 3])
+        self.ends("check", refused("10 TooManyTrials", 3), plan_with(**three))
+        self.ends("check", refused("9 TooManyFaults", 3), plan_with(**{**three, "liars": 2048}))
+        for size, fault in ((65_536, "1 NotJson"), (65_537, "19 PlanTooLong"), (70_000, "19 PlanTooLong")):
+            found = self.program.run("check", text=b" " * size)
+            self.expect(f"check of {size} blanks", refused(fault, 3), found)
+
+
+class Checkpoints(ProgramCases):
+    """Studies in files."""
+
+    def test_checkpoints(self) -> None:
+        """A checkpoint is opened before anything is read, and kept."""
+        self.file("folder").mkdir()
+        for path in ("folder", "none/study.cut", ""):
+            found = self.program.run("run", "--checkpoint", path, text=b"[]")
+            self.expect(f"a checkpoint at {path!r}", refused("20 Disk"), found)
+        for _ in range(2):
+            self.ends("run --piece 1 --checkpoint study.cut", TABLE)
+            self.expect("the length of a checkpoint of two slips", HEAD + 2 * SLIP + 1, self.size("study.cut"))
+        self.ends("status study.cut", f"trials 2 of 2\ncells 1 of 1\nslips 2\n{PLAN.decode()}\n", b"")
+        self.ends("status folder", refused("20 Disk"), b"")
+        self.ends("status none.cut", refused("20 Disk"), b"")
+
+    def test_resumed(self) -> None:
+        """Studies that go on from files with more slips than a word has bits, and from a slip that could be true and is
+        not."""
+        many, line = plan_with(repeats=130), "run --piece 1 --checkpoint many.cut"
+        table, start = f"{HEADER}1,1,1,1,130,520,0,0,0,520,130,130,0\n", 45 + len(plan_with(repeats=130))
+        self.ends(line, table, many)
+        whole = self.file("many.cut").read_bytes()
+        self.expect("the length of a file of 130 slips", start + 130 * SLIP + 1, len(whole))
+        for slips in (0, 1, 63, 64, 65, 128, 129):
+            self.file("many.cut").write_bytes(whole[: start + slips * SLIP] + b"\0")
+            self.ends(line, table, many)
+            self.expect(f"the length after {slips} slips", len(whole), self.size("many.cut"))
+        sums = dict(zip(reference.SUMS, (4, 4, 0, 0, 4, 1, 0, 0)))
+        self.file("false.cut").write_bytes(reference.file_of(FIELDS, [(0, 1, sums)]))
+        self.ends("run --checkpoint false.cut", f"{HEADER}1,1,1,1,2,8,4,0,0,8,2,1,500000\n")
+
+    def test_migrations(self) -> None:
+        self.ends("migrate old.cut new.cut", refused("20 Disk"))
+        self.expect("the files that a migration of none makes", [], self.names())
+        self.ends("run --piece 1 --checkpoint old.cut", TABLE)
+        self.ends("migrate old.cut new.cut", "migrated 2\n")
+        self.ends("run --checkpoint new.cut", UPGRADE_TABLE, UPGRADE)
+        self.ends("migrate old.cut new.cut", refused("25 Held"))
+        self.expect("the lengths of both", (477, 485), (self.size("old.cut"), self.size("new.cut")))
+
+    def test_foreign_files(self) -> None:
+        """Files that hold something else than a study stay as they are; one that an interrupted creation left is taken."""
+        self.ends("run --checkpoint study.cut", TABLE)
+        kinds = {"notes": b"my notes\n", "plan.json": PLAN, "zip": b"PK\3\4" + bytes(300), "gate": b"\xa5"}
+        commands = "run --checkpoint {0}", "share 1/1 {0}", "join {0} study.cut", "migrate study.cut {0}"
+        for name, text in kinds.items():
+            self.file(name).write_bytes(text)
+            for line in (command.format(name) for command in commands):
+                self.ends(line, refused("22 NoStudy"))
+                self.expect(f"{name} after {line}", text, self.file(name).read_bytes())
+        for name, text in (("empty", b""), ("zero", b"\0"), ("torn", b"\0CUTLAB")):
+            self.file(name).write_bytes(text)
+            self.ends(f"run --checkpoint {name}", TABLE)
+
+    def test_foreign_file_of_a_server(self) -> None:
+        kept = self.file("kept")
+        kept.mkdir()
+        (kept / NAME).write_bytes(b"my notes\n")
+        server = self.served("--dir", kept)
+        connect(self.file("socket")).close()
+        end_of(server)
+        server = self.served("--dir", kept)
+        while not self.file("socket").exists():
+            time.sleep(0.01)
+        self.ends("ask socket", refused("30 Checkpoint"))
+        self.expect("that server", Ended("accepted 0\n"), end_of(server))
+        self.expect("the file of that server", b"my notes\n", (kept / NAME).read_bytes())
+
+    def test_blocking_files(self) -> None:
+        """What is no regular file is looked at before it is opened, so that nobody waits for who writes to it."""
+        self.ends("run --checkpoint study.cut", TABLE)
+        os.mkfifo(self.file("pipe"))
+        lines = "status pipe|run --checkpoint pipe|share 1/1 pipe|join new.cut pipe|join new.cut study.cut pipe"
+        lines += "|join pipe study.cut|migrate pipe other.cut|migrate study.cut pipe|status /dev/null"
+        for line in lines.split("|"):
+            found: Ended | str = "it waits"
+            try:
+                found = self.program.run(*line.split(), text=PLAN, limit=10)
+            except subprocess.TimeoutExpired:
+                pass
+            self.expect(line, refused("20 Disk"), found)
+
+
+class Machines(ProgramCases):
+    """Shares and joins."""
+
+    def test_joins(self) -> None:
+        self.file("empty.cut").touch()
+        faults = {"none.cut": "20 Disk", "empty.cut": "22 NoStudy", "joined.cut": "20 Disk"}
+        none, empty, same = (Ended("", f'cutlab: file 2: "{name}"\n{line_of(it)}', 4) for name, it in faults.items())
+        first = none._replace(errors=none.errors.replace("file 2", "file 1"))
+        self.ends("share 1/1 share.cut", "share 1 of 1: 2 of 2\n")
+        self.ends("join joined.cut share.cut none.cut", refused("20 Disk"))
+        self.ends("join --which joined.cut share.cut none.cut", none)
+        self.ends("join --which joined.cut none.cut share.cut", first)
+        self.ends("join --which joined.cut share.cut empty.cut", empty)
+        self.ends("join joined.cut share.cut --which", "joined 1 into 1, 2 of 2\n")
+        self.ends("join joined.cut share.cut --which", refused("25 Held"))
+        self.ends("join --which joined.cut share.cut joined.cut", same)
+        self.expect("the files of the joins", ["empty.cut", "joined.cut", "share.cut"], self.names())
+        for name, quoted in TABLES["quoted"]:
+            wanted = Ended("", f'cutlab: file 2: "{quoted}"\n{line_of("20 Disk")}', 4)
+            found = self.program.run("join", "--which", "other.cut", "share.cut", name, text=PLAN)
+            self.expect(f"the line of {name!r}", wanted, found)
+
+    def files_of(self, plan: bytes, count: int) -> dict[str, int]:
+        """Files with one slip each, of the first trials of a plan: the trial of each name."""
+        status = self.program.run("run", "--piece", "1", "--checkpoint", "whole.cut", text=plan).status
+        self.expect("a study in pieces of one trial", 0, status)
+        whole, start = self.file("whole.cut").read_bytes(), 45 + len(plan)
+        trials = {f"{(7 * trial) % count}.cut": trial for trial in range(count)}
+        for name, trial in trials.items():
+            slip = whole[start + trial * SLIP : start + (trial + 1) * SLIP]
+            self.file(name).write_bytes(whole[:start] + slip + b"\0")
+        return trials
+
+    def test_joins_of_many(self) -> None:
+        """Joins of more files than a word has bits, and of as many as are joined at most. The files stay as they are."""
+        many = plan_with(repeats=1000)
+        trials = self.files_of(many, 1000)
+        names = sorted(trials)
+        before = [self.file(name).read_bytes() for name in names]
+        for count in (65, 1000):
+            joined = {trials[name] for name in names[:count]}
+            ranges = sum(trial - 1 not in joined for trial in joined)
+            found = self.program.run("join", f"joined{count}.cut", *names[:count], text=many)
+            wanted = Ended(f"joined {count} into {ranges}, {count} of 1000\n")
+            self.expect(f"a join of {count} files", wanted, found)
+        is_same = before == [self.file(name).read_bytes() for name in names]
+        self.expect("whether files that were joined stay as they were", True, is_same)
+        self.ends("run --checkpoint joined1000.cut", f"{HEADER}1,1,1,1,1000,4000,0,0,0,4000,1000,1000,0\n", many)
+
+    def test_resumed_share(self) -> None:
+        """The progress of a share that goes on from one of its two blocks: all lines are of four trials, of which two are held
+        at first and all at the end."""
+        plan, row = plan_with(repeats=8), "share 1/2 --piece 2 --workers 3 share.cut"
+        self.ends(row, "share 1 of 2: 4 of 4\n", plan)
+        whole, start = self.file("share.cut").read_bytes(), 45 + len(plan)
+        self.expect("the length of a share of two blocks", start + 2 * SLIP + 1, len(whole))
+        self.file("share.cut").write_bytes(whole[: start + SLIP] + b"\0")
+        output, errors, status = self.program.run(*row.split(), "--progress", text=plan)
+        lines = re.findall("(?m)^cutlab: ([0-9]+) of ([0-9]+) trials, [0-9]+ s(?:, about [0-9]+ s left)?$", errors)
+        self.expect("a resumed share", (0, "share 1 of 2: 4 of 4\n"), (status, output))
+        self.expect(
+            "its lines of progress", (errors.count("\n"), ("4", "4")), (len(lines), lines[-1] if lines else None)
+        )
+        self.expect("a number in them", [], [line for line in lines if line not in (("2", "4"), ("4", "4"))])
+        self.expect("the length of a resumed share", len(whole), self.size("share.cut"))
+
+    def test_pieces(self) -> None:
+        """A file has one slip for each piece, whichever the number of workers: seven trials, three a piece."""
+        plan = plan_with(repeats=7)
+        row = f"{HEADER}1,1,1,1,7,28,0,0,0,28,7,7,0\n"
+        self.ends("run --piece 3 --workers 2 --checkpoint run.cut", row, plan)
+        self.ends("share 1/1 --piece 3 --workers 2 share.cut", "share 1 of 1: 7 of 7\n", plan)
+        for name in ("run.cut", "share.cut"):
+            self.expect(f"the length of {name}", 45 + len(plan) + 3 * SLIP + 1, self.size(name))
+
+
+class Lines(ProgramCases):
+    """Words of the command line, and standard streams."""
+
+    def test_words(self) -> None:
+        output, errors, status = self.program.run("run", "--help")
+        self.expect("run --help", (0, True, ""), (status, "Example: cutlab run" in output, errors))
+        about = "  Keep the study in this file, and go on from what it holds\n"
+        self.expect("what run --help says of --checkpoint", True, about in output)
+        output, errors, status = self.program.run("share", "--help")
+        about = "\nAll shares of a study take one and the same --piece.\n"
+        self.expect("share --help", (0, True, ""), (status, about in output, errors))
+        output, errors, status = self.program.run("frob")
+        self.expect("frob", (2, "", True), (status, output, "unrecognized subcommand 'frob'" in errors))
+        for row, text, usage in TABLES["mistakes"]:
+            output, errors, status = self.program.run(*row.split(), text=PLAN)
+            shown = errors[errors.find("Usage: ") :].split("\n")[0]
+            self.expect(row, (2, "", True, f"Usage: cutlab {usage}"), (status, output, text in errors, shown))
+        wanted = Ended("", "error: a word of the command line is not UTF-8\n", 2)
+        self.expect("a word that is no UTF-8", wanted, self.program.run(b"\xff", text=PLAN))
+
+    def test_full_outputs(self) -> None:
+        """An output that takes some bytes and then fails."""
+        for word, room in (("run", 0), ("run", 14), ("check", 7), ("--help", 21)):
+            with self.file("output").open("wb") as output:
+                streams = dict(stdout=output, stderr=subprocess.PIPE, restore_signals=False)
+                command, limit = [self.path, word], partial(limit_files, room)
+                done = subprocess.run(command, input=PLAN, preexec_fn=limit, timeout=120, **streams)  # type: ignore
+            found = done.returncode, done.stderr.decode(), self.size("output")
+            self.expect(f"{word} with room for {room} bytes", (4, line_of(f"31 Write {room}"), room), found)
+
+    def test_closed_streams(self) -> None:
+        """Commands one of whose standard streams is closed where they begin: no file takes its place."""
+        self.ends("run --piece 1 --checkpoint whole.cut", TABLE)
+        whole = self.file("whole.cut").read_bytes()
+        commands = {"run.cut": (1, "run --piece 1 --checkpoint"), "share.cut": (1, "share 1/1 --piece 1")}
+        for name, (number, line) in {**commands, "line.cut": (2, "run --progress --piece 1 --checkpoint")}.items():
+            found = self.program.run(*line.split(), name, text=PLAN, preexec_fn=partial(os.close, number))
+            self.expect(f"{name} with stream {number} closed", Ended(TABLE if number == 2 else ""), found)
+            self.expect(f"the bytes of {name}", whole, self.file(name).read_bytes())
+        server = self.served(sessions=3)
+        connect(self.file("socket")).close()
+        found = self.program.run("ask", "socket", text=PLAN, preexec_fn=partial(os.close, 1))
+        self.expect("ask with its output closed", Ended(), found)
+        found = self.program.run("ask", "socket", text=PLAN, preexec_fn=partial(os.close, 0))
+        self.expect("ask with its input closed", refused("1 NotJson", 3), found)
+        self.expect("their server", Ended("accepted 2\n"), end_of(server))
+
+
+class Servers(ProgramCases):
+    """Servers and their clients."""
+
+    def asked_until(self, status: int) -> Ended:
+        """How a client ends, once one ends with this status."""
+        for _ in range(1000):
+            found = self.program.run("ask", "socket", text=PLAN)
+            if found.status == status:
+                break
+            time.sleep(0.01)
+        return found
+
+    def test_servers(self) -> None:
+        """A study that a server keeps is there for the next one."""
+        kept = self.file("kept")
+        kept.mkdir()
+        for line in ("accepted 2\n", "accepted 0\n"):
+            server = self.served("--dir", kept)
+            found = self.asked_until(0)
+            ended = end_of(server)
+            self.expect("what a client is sent", Ended(TABLE), found)
+            self.expect("what its server prints", Ended(line), ended)
+            self.expect("the files of its folder", [NAME], os.listdir(kept))
+            self.expect("the length of one slip's file", HEAD + SLIP + 1, (kept / NAME).stat().st_size)
+        self.ends("ask none", refused("43 Read"))
+
+    def test_two_clients(self) -> None:
+        """Two clients at once."""
+        liar, server = plan_with(f=[0], liars=1, repeats=1), self.served(sessions=2)
+        with connect(self.file("socket")) as first, connect(self.file("socket")) as second:
+            for wire, text in ((first, PLAN), (second, liar)):
+                wire.sendall(reference.frame("R", text) + reference.frame("Q"))
+            found = [wire.makefile("rb").read() for wire in (first, second)]
+        for what, row in zip(found, (ROW, "1,1,1,0,1,5,0,0,5,5,1,0,0")):
+            frames = b"".join(reference.frame("T", line.encode()) for line in (HEADER, f"{row}\n"))
+            self.expect("what one of two clients is sent", frames + reference.frame("Z"), what)
+        self.expect("a server of two clients", Ended("accepted 3\n"), end_of(server))
+
+    def test_guests(self) -> None:
+        """A client that leaves without an answer; and one that holds the only connection, at a socket that is its owner's
+        alone, so that who comes later is refused."""
+        server = self.served()
+        with connect(self.file("socket")) as wire:
+            wire.sendall(reference.frame("R", PLAN))
+        self.expect("the server of a client that leaves", 0, end_of(server).status)
+        server = self.served()
+        with connect(self.file("socket")):
+            self.expect("who may connect", 0o600, self.file("socket").stat().st_mode & 0o777)
+            late = self.asked_until(4)
+            # Whether it finds no socket, a closed one or one that takes its request and closes then, is the system's affair.
+            self.expect("a client that is late", (4, ""), (late.status, late.output))
+        self.expect("a server that is asked nothing", Ended("accepted 0\n"), end_of(server))
+        self.expect("the files that servers leave", [], self.names())
+
+    def test_bad_servers(self) -> None:
+        self.file("plain").touch()
+        many = "--workers 2 --sessions 1 --studies 2"
+        self.ends(f"serve none/socket {many}", refused("43 Read"), b"")
+        self.ends(f"serve socket {many} --dir plain", refused("20 Disk"), b"")
+        self.ends(f"serve socket {many} --dir none", refused("20 Disk"), b"")
+        self.expect("the files that they leave", ["plain"], self.names())
+
+
+class Scripts(ProgramCases):
+    """The scripts of examples/ in a folder whose name has a blank, by the program on PATH."""
+
+    def setUp(self) -> None:
+        super().setUp()
+        self.folder /= "a folder"
+        self.file("bin").mkdir(parents=True)
+        self.file("bin/cutlab").symlink_to(self.path)
+        self.program = Program(self.path, self.folder)
+        self.environment = {**os.environ, "PATH": f"{self.folder}/bin:{os.environ['PATH']}"}
+        self.file("a plan.json").write_bytes(PLAN)
+
+    def script(self, name: str, *words: str, **more: str) -> Ended:
+        environment = {**self.environment, **more}
+        return Program(ROOT / "examples" / name, self.folder).run(*words, env=environment)
+
+    def share_by(self, *words: str, **more: str) -> Ended:
+        return self.script("many_machines.sh", "a plan.json", "2", *words, PIECE="1", **more)
+
+    def test_many_machines(self) -> None:
+        many = "many_machines.sh"
+        output, errors, status = self.script(many)
+        is_usage = errors.startswith("usage: many_machines.sh PLAN SHARES")
+        self.expect(f"{many} without words", (2, "", True), (status, output, is_usage))
+        if not shutil.which("parallel"):
+            print("program: GNU parallel is not installed, so many_machines.sh was not tried")
+            return
+        output, errors, status = self.share_by()
+        is_joined = "joined 2 into 1, 2 of 2\n" in errors
+        self.expect(f"{many} over a plan with a blank", (0, TABLE, True), (status, output, is_joined))
+        for name in ("share1.cut", "share2.cut", "study.cut"):
+            self.file(name).unlink()
+        self.ends("share 2/2 share2.cut", "share 2 of 2: 0 of 0\n", UPGRADE)
+        output, errors, status = self.share_by()
+        is_other = "share2.cut:\tcutlab: fault 23 OtherPlan\n" in errors
+        self.expect(f"{many} with a file of another plan", (1, "", True), (status, output, is_other))
+        self.file("share2.cut").unlink()
+        self.file("bin/ssh").write_text("#!/bin/sh\necho no way there >&2\nexit 255\n")
+        self.file("bin/ssh").chmod(0o755)
+        output, errors, status = self.share_by("--sshlogin", "elsewhere")
+        found = status, output, "2 of 2 shares did not end" in errors, self.file("study.cut").exists()
+        self.expect(f"{many} whose ssh fails", (1, "", True, False), found)
+        output, _, status = self.share_by("--sshlogin", "elsewhere", REST="here")
+        self.expect(f"{many} whose ssh fails, with REST=here", (0, TABLE), (status, output))
+
+    def test_serve_on(self) -> None:
+        pipe, path = subprocess.PIPE, self.file("a server/cutlab.sock")
+        command = [str(ROOT / "examples/serve_on.sh"), "a server"]
+        served = Child(command, cwd=self.folder, env=self.environment, stdout=pipe, stderr=pipe)
+        connect(path).close()
+        self.expect("what serve_on.sh serves", Ended(TABLE), self.program.run("ask", path, text=PLAN))
+        client = Program(ROOT / "examples/client.py").run(path, text=PLAN)
+        self.expect("client.py", (0, TABLE), (client.status, client.output))
+        served.terminate()
+        self.expect("serve_on.sh ended by a signal", Ended(), end_of(served))
+        is_refused = self.program.run("ask", path).status == 4
+        self.expect("its socket, and its server", (False, True), (path.exists(), is_refused))
+
+
+if __name__ == "__main__":
+    sys.exit(run("program", __doc__, "cutlab_tools.testing.program"))
