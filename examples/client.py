@@ -1,15 +1,22 @@
 #!/usr/bin/env python3
 """Asks a server of studies for the table of a plan: client.py SOCKET < plan.json > table.csv"""
-import socket, struct, sys
+import socket
+import struct
+import sys
+from typing import Iterator, Tuple
 
 FAULTS = {
-    19: "the plan is longer than 65,536 bytes", 29: "the server has no room for another study",
-    30: "the study's file can't be used, or failed", 32: "the server ran out of memory",
-    33: "the server's counts disagree", 34: "the server ended its work", 40: "the request was no message",
+    19: "the plan is longer than 65,536 bytes",
+    29: "the server has no room for another study",
+    30: "the study's file can't be used, or failed",
+    32: "the server ran out of memory",
+    33: "the server's counts disagree",
+    34: "the server ended its work",
+    40: "the request was no message",
 }
 
 
-def asked(server, plan):
+def asked(server: socket.socket, plan: bytes) -> Iterator[Tuple[bytes, bytes]]:
     """The replies of a server to a plan: each its letter and its bytes, up to the end of the connection."""
     server.sendall(b"R" + struct.pack(">I", len(plan)) + plan + b"Q" + struct.pack(">I", 0))
     replies = server.makefile("rb")

@@ -6,6 +6,7 @@ use Rattle.cut_plan.specs.Values.{Values}
 use Rattle.cut_outcome.specs.Computed.{Computed}
 use Rattle.cut_outcome.specs.declared.piece.Piece.{Piece}
 use Rattle.cut_disks.specs.State.{DiskState}
+use Rattle.cut_disks.specs.Log.{DiskLog}
 use Rattle.cut_ledger.specs.declared.slip.Slip.{Slip}
 use Rattle.cut_ledger.specs.declared.event.Event.TheVariants as event
 use Rattle.cut_ledger.specs.Contents.{Contents, with_piece}
@@ -92,20 +93,20 @@ module _ {D : Type 0} (journal now : Option (JournalValue D)) (l : Contents) (di
   accepted_state held appended holds one none =
       state_next held now division lost broken call old new is ∙ rw (free.code, holds, one, appended.doubt, none)
 
-module _ {D : Type 0} (honest : D → Type 0) (on : D → DiskState) (faults : D → ℕ)
+module _ {D : Type 0} (log_of : D → DiskLog)
     (journal now : Option (JournalValue D)) (l : Contents) (division : List Piece) (lost : List Bool) (broken : Bool)
     (r : Computed) (call : Call) (old new : HistoryValue) (places count : ℕ)
-    (book : IsBook honest on faults journal (state_in l journal division lost old broken) old places count)
+    (book : IsBook log_of journal (state_in l journal division lost old broken) old places count)
     (is : Noted call old new) (room : places ≤ new.room) (free : IsFree (state_in l journal division lost old broken) r)
     (real : HasTrueResult (event.HandIn r)) where
   -- the disk failed
   pub failed_book : (held : Contents) → held ≡ l → call
       ≡ hand_in_of (state_in l journal division lost old broken) r DiskFails
       → JournalAfter DiskFails (slip_of r) journal now
-      → ((x : StudyState) → refusal_of x.ledger r ≡ None → FollowsState honest on journal x
-      → FollowsState honest on now (after x (event.HandInDiskFails r)))
-      → failures_of faults now ≡ one_more (failures_of faults journal)
-      → IsBook honest on faults now (state_in held now division lost new true) new places count
+      → ((x : StudyState) → refusal_of x.ledger r ≡ None → FollowsState log_of journal x
+      → FollowsState log_of now (after x (event.HandInDiskFails r)))
+      → failures_of log_of now ≡ one_more (failures_of log_of journal)
+      → IsBook log_of now (state_in held now division lost new true) new places count
   failed_book held holds called left follows counted =
       let s : StudyState = state_in l journal division lost old broken in
       let t : StudyState = state_in l now division lost new true in
@@ -114,7 +115,7 @@ module _ {D : Type 0} (honest : D → Type 0) (on : D → DiskState) (faults : D
       is free both.0 (ap accepted_slip called) in
       let step : IsStep s call t = rw (called, next)
       (entered_step s r DiskFails real (failed_answer s r free (book.has_journal ∙ both.1))) in
-      rw holds (stepped honest on faults journal now s t call old new places places count book is step refl refl refl
+      rw holds (stepped log_of journal now s t call old new places places count book is step refl refl refl
       refl book.losable room (ap (λ (o : Opening). o.has_journal) is.opening) both.0.some both.0.plan
       (ap is_some (sym both.0.doubt)) (rw next (follows s free.fine book.followed))
       (rw (counted, book.failures, free.unbroken)))
@@ -133,10 +134,10 @@ module _ {D : Type 0} (honest : D → Type 0) (on : D → DiskState) (faults : D
   pub accepted_book : (held : Contents) → held ≡ with_piece l r.piece → call
       ≡ hand_in_of (state_in l journal division lost old broken) r Accepted
       → JournalAfter Accepted (slip_of r) journal now
-      → ((x : StudyState) → refusal_of x.ledger r ≡ None → FollowsState honest on journal x
-      → FollowsState honest on now (after x (event.HandIn r)))
-      → failures_of faults now ≡ failures_of faults journal
-      → IsBook honest on faults now (state_in held now division lost new broken) new places count
+      → ((x : StudyState) → refusal_of x.ledger r ≡ None → FollowsState log_of journal x
+      → FollowsState log_of now (after x (event.HandIn r)))
+      → failures_of log_of now ≡ failures_of log_of journal
+      → IsBook log_of now (state_in held now division lost new broken) new places count
   accepted_book held holds called left follows counted =
       let s : StudyState = state_in l journal division lost old broken in
       let t : StudyState = state_in held now division lost new broken in
@@ -144,7 +145,7 @@ module _ {D : Type 0} (honest : D → Type 0) (on : D → DiskState) (faults : D
       book.of_plan in
       let next : t ≡ after s (event.HandIn r) = accepted_next held holds called left in
       let step : IsStep s call t = rw (called, next) (entered_step s r Accepted real (accepted_answer s r free)) in
-      stepped honest on faults journal now s t call old new places places count book is step
+      stepped log_of journal now s t call old new places places count book is step
       (ap (λ (x : Contents). x.plan) holds) (ap (λ (x : Contents). x.base) holds) refl refl book.losable room
       (ap (λ (o : Opening). o.has_journal) is.opening) appended.some appended.plan
       (free.unbroken ∙ ap is_some (sym appended.doubt))

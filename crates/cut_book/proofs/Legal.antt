@@ -5,6 +5,7 @@ use Rattle.std.proofs.Common.{append-nil}
 use Rattle.std.proofs.lemmas.Grind.{flat_map-append}
 use Rattle.cut_outcome.specs.declared.piece.Piece.{Piece}
 use Rattle.cut_disks.specs.State.{DiskState}
+use Rattle.cut_disks.specs.Log.{DiskLog, on}
 use Rattle.cut_ledger.specs.declared.slip.Slip.{Slip}
 use Rattle.cut_ledger.specs.Contents.{Contents}
 use Rattle.cut_ledger.specs.Machine.{StudyState}
@@ -92,14 +93,14 @@ state_same l journal division lost broken call old new is none =
 
 -- ---- books
 
-module _ {D : Type 0} (honest : D → Type 0) (on : D → DiskState) (faults : D → ℕ) where
+module _ {D : Type 0} (log_of : D → DiskLog) where
   -- the journal of a state is that of another with the same plan, slips and doubt
   pub followed_same : (journal : Option (JournalValue D)) (s t : StudyState) → t.ledger.plan ≡ s.ledger.plan
       → t.has_journal ≡ s.has_journal → t.kept ≡ s.kept → t.doubtful ≡ s.doubtful → t.broken ≡ s.broken
-      → FollowsState honest on journal s → FollowsState honest on journal t
+      → FollowsState log_of journal s → FollowsState log_of journal t
   followed_same None s t plan has kept doubt broken of = tt
   followed_same (Some log) s t plan has kept doubt broken of = λ good.
-      (let is : IsJournalOf log.plan log.count log.doubtful (on log.disk) s = of good in record {
+      (let is : IsJournalOf log.plan log.count log.doubtful (on (log_of log.disk)) s = of good in record {
         plan = plan ∙ is.plan;
         journal = has ∙ is.journal;
         kept = kept ∙ is.kept;
@@ -109,14 +110,14 @@ module _ {D : Type 0} (honest : D → Type 0) (on : D → DiskState) (faults : D
 
   -- a book after a step of the machine
   pub stepped : (journal now : Option (JournalValue D)) (s t : StudyState) (call : Call) (old new : HistoryValue)
-      (places left failed : ℕ) → IsBook honest on faults journal s old places failed → Noted call old new
+      (places left failed : ℕ) → IsBook log_of journal s old places failed → Noted call old new
       → IsStep s call t
       → t.ledger.plan ≡ s.ledger.plan → t.ledger.base ≡ s.ledger.base → t.division ≡ s.division → length t.lost
       ≡ length s.lost → left ≡ count_by not t.lost → left ≤ new.room
       → t.has_journal ≡ s.has_journal → is_some now ≡ is_some journal → IfSome now (λ log. log.plan ≡ s.ledger.plan)
       → t.broken ≡ is_some t.doubtful
-      → FollowsState honest on now t → failures_of faults now ≡ failed_since t.broken failed
-      → IsBook honest on faults now t new left failed
+      → FollowsState log_of now t → failures_of log_of now ≡ failed_since t.broken failed
+      → IsBook log_of now t new left failed
   stepped journal now s t call old new places left failed book is step plan base division lost count room has some
       of_plan broken followed failures = record {
         legal = rw (is.opening, is.calls) (leads_on (opened_by old.opening) s t old.calls call book.legal step);
@@ -135,8 +136,8 @@ module _ {D : Type 0} (honest : D → Type 0) (on : D → DiskState) (faults : D
 
   -- a book after a step that leaves the state
   pub stepped_same : (journal : Option (JournalValue D)) (s t : StudyState) (call : Call) (old new : HistoryValue)
-      (places failed : ℕ) → IsBook honest on faults journal s old places failed → Noted call old new → IsStep s call s
-      → t ≡ s → places ≤ new.room → IsBook honest on faults journal t new places failed
+      (places failed : ℕ) → IsBook log_of journal s old places failed → Noted call old new → IsStep s call s
+      → t ≡ s → places ≤ new.room → IsBook log_of journal t new places failed
   stepped_same journal s t call old new places failed book is step same room =
       rw same (stepped journal journal s s call old new places places failed book is step refl refl refl refl
       book.losable room refl refl book.of_plan book.broken book.followed book.failures)
@@ -144,12 +145,12 @@ module _ {D : Type 0} (honest : D → Type 0) (on : D → DiskState) (faults : D
   -- a book after a call that leaves the state, for which room was made
   pub said : (journal : Option (JournalValue D)) (l : Contents) (division : List Piece) (lost : List Bool)
       (broken : Bool) (call : Call) (old mid new : HistoryValue) (places failed : ℕ)
-      → IsBook honest on faults journal (state_in l journal division lost old broken) old places failed
+      → IsBook log_of journal (state_in l journal division lost old broken) old places failed
       → mid.opening ≡ old.opening → mid.calls ≡ old.calls → new.opening ≡ mid.opening → new.calls ≡ mid.calls ++ call
       ∷ [] → mid.room ≡ old.room → new.room ≡ mid.room
       → IsStep (state_in l journal division lost old broken) call (state_in l journal division lost old broken)
       → accepted_slip call ≡ []
-      → IsBook honest on faults journal (state_in l journal division lost new broken) new places failed
+      → IsBook log_of journal (state_in l journal division lost new broken) new places failed
   said journal l division lost broken call old mid new places failed book opening calls opens adds kept left step none =
       let is : Noted call old new = noted call old mid new opening calls opens adds in
       stepped_same journal (state_in l journal division lost old broken) (state_in l journal division lost new broken)

@@ -4,6 +4,7 @@ use Rattle.std.proofs.Common.{IfSome, is_some, refl, ap}
 use Rattle.cut_plan.specs.Values.{Values}
 use Rattle.cut_outcome.specs.declared.piece.Piece.{Piece}
 use Rattle.cut_disks.specs.State.{DiskState}
+use Rattle.cut_disks.specs.Log.{DiskLog, IsKnown, on}
 use Rattle.cut_ledger.specs.declared.slip.Slip.{Slip}
 use Rattle.cut_ledger.specs.Contents.{Contents, over_base}
 use Rattle.cut_ledger.specs.Gaps.{pieces_of}
@@ -30,13 +31,13 @@ pub fresh_plan : {D : Type 0} (v u : Values) (slips : List Slip) (journal : Opti
 fresh_plan v u slips None is same = tt
 fresh_plan v u slips (Some log) is same = is.0 ∙ same
 
-pub fresh_followed : {D : Type 0} (honest : D → Type 0) (on : D → DiskState) (v : Values) (slips : List Slip) (size : ℕ)
+pub fresh_followed : {D : Type 0} (log_of : D → DiskLog) (v : Values) (slips : List Slip) (size : ℕ)
     (journal : Option (JournalValue D)) → OpeningsFollow → IsFresh v slips journal
-    → IfSome journal (λ log. honest log.disk → reading v (on log.disk).bytes ≡ Ok slips)
-    → FollowsState honest on journal (opened v (is_some journal) slips size)
-fresh_followed honest on v slips size None follow is reads = tt
-fresh_followed honest on v slips size (Some log) follow is reads = λ good.
-    rw (is.0, is.2) (follow v log.count slips (on log.disk) size (reads good) is.1)
+    → IfSome journal (λ log. IsKnown (log_of log.disk) → reading v (on (log_of log.disk)).bytes ≡ Ok slips)
+    → FollowsState log_of journal (opened v (is_some journal) slips size)
+fresh_followed log_of v slips size None follow is reads = tt
+fresh_followed log_of v slips size (Some log) follow is reads = λ good.
+    rw (is.0, is.2) (follow v log.count slips (on (log_of log.disk)) size (reads good) is.1)
 
 pub opened_state : {D : Type 0} (v : Values) (slips : List Slip) (size : ℕ) (journal : Option (JournalValue D))
     (l : Contents) (division : List Piece) (lost : List Bool) (history : HistoryValue)

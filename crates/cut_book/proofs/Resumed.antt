@@ -4,6 +4,7 @@ use Rattle.std.proofs.Common.{unwrap_or, refl, arith}
 use Rattle.cut_plan.specs.Values.{Values}
 use Rattle.cut_outcome.specs.Computed.{Computed}
 use Rattle.cut_disks.specs.State.{DiskState, IsImage, Throughout}
+use Rattle.cut_disks.specs.Log.{DiskLog, IsKnown, on}
 use Rattle.cut_ledger.specs.declared.slip.Slip.{Slip}
 use Rattle.cut_ledger.specs.declared.offer_fault.OfferFault.{OfferFault}
 use Rattle.cut_ledger.specs.declared.event.Event.TheVariants.{HandInDiskFails}
@@ -31,29 +32,31 @@ resumable_by v count doubtful d s r (Some fault) refused between within sound of
     grind (arith, at_rest d (IsResumed v s) (between v count doubtful d s sound of))
 
 -- a journal that is as it was leaves a run that is resumed, also after a result's append failed
-pub resumable : {D : Type 0} (honest : D → Type 0) (on : D → DiskState) (journal : Option (JournalValue D))
+pub resumable : {D : Type 0} (log_of : D → DiskLog) (journal : Option (JournalValue D))
     (log : JournalValue D) (s : StudyState) (r : Computed) → CrashesBetweenCalls → CrashesInAppends
-    → journal ≡ Some log → (honest log.disk → IsFileOf log.plan log.count log.doubtful (on log.disk))
-    → FollowsState honest on journal s
-    → LeavesResumed honest on journal journal (after s (HandInDiskFails r))
-resumable honest on journal log s r between within is sound = grind (arith, resumable_by)
+    → journal ≡ Some log → (IsKnown (log_of log.disk) → IsFileOf log.plan log.count log.doubtful (on (log_of log.disk)))
+    → FollowsState log_of journal s
+    → LeavesResumed log_of journal journal (after s (HandInDiskFails r))
+resumable log_of journal log s r between within is sound = rw is
+    (λ of good. resumable_by log.plan log.count log.doubtful (on (log_of log.disk)) s r (refusal_of s.ledger r) refl between
+    within (sound good) (of good))
 
 -- and a run that is resumed as it is
-pub resumed_now : {D : Type 0} (honest : D → Type 0) (on : D → DiskState) (journal : Option (JournalValue D))
+pub resumed_now : {D : Type 0} (log_of : D → DiskLog) (journal : Option (JournalValue D))
     (log : JournalValue D) (s : StudyState) → CrashesBetweenCalls
-    → journal ≡ Some log → (honest log.disk → IsFileOf log.plan log.count log.doubtful (on log.disk))
-    → FollowsState honest on journal s
-    → IfSome journal (λ l. honest l.disk → (image : List ℕ) → IsImage (on l.disk).stable image
+    → journal ≡ Some log → (IsKnown (log_of log.disk) → IsFileOf log.plan log.count log.doubtful (on (log_of log.disk)))
+    → FollowsState log_of journal s
+    → IfSome journal (λ l. IsKnown (log_of l.disk) → (image : List ℕ) → IsImage (on (log_of l.disk)).stable image
     → IsResumed l.plan s image)
-resumed_now honest on journal log s between is sound = rw is
-    (λ of good. between log.plan log.count log.doubtful (on log.disk) s (sound good) (of good))
+resumed_now log_of journal log s between is sound = rw is
+    (λ of good. between log.plan log.count log.doubtful (on (log_of log.disk)) s (sound good) (of good))
 
 -- in an append of a result that the ledger takes
-pub resumed_append : {D : Type 0} (honest : D → Type 0) (on : D → DiskState) (journal : Option (JournalValue D))
+pub resumed_append : {D : Type 0} (log_of : D → DiskLog) (journal : Option (JournalValue D))
     (old new : JournalValue D) (s : StudyState) (r : Computed) → CrashesInAppends → journal ≡ Some old
-    → (honest old.disk → Throughout (on old.disk) (on new.disk)
-    (ReadsAs old.plan (kept_slips old.plan old.count (on old.disk)) (Some (unwrap_or old.doubtful (slip_of r)))))
-    → refusal_of s.ledger r ≡ None → FollowsState honest on journal s
-    → LeavesResumed honest on journal (Some new) (after s (HandInDiskFails r))
-resumed_append honest on journal old new s r within is moments fine = rw is
-    (λ of good. within old.plan old.count old.doubtful (on old.disk) (on new.disk) s r (of good) fine (moments good))
+    → (IsKnown (log_of old.disk) → Throughout (on (log_of old.disk)) (on (log_of new.disk))
+    (ReadsAs old.plan (kept_slips old.plan old.count (on (log_of old.disk))) (Some (unwrap_or old.doubtful (slip_of r)))))
+    → refusal_of s.ledger r ≡ None → FollowsState log_of journal s
+    → LeavesResumed log_of journal (Some new) (after s (HandInDiskFails r))
+resumed_append log_of journal old new s r within is moments fine = rw is
+    (λ of good. within old.plan old.count old.doubtful (on (log_of old.disk)) (on (log_of new.disk)) s r (of good) fine (moments good))

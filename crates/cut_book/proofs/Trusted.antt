@@ -2,6 +2,7 @@
 use Rattle.std.proofs.Common.{◌≡◌, ℕ, inl, inr, List, Option, Some, Ok}
 use Rattle.cut_plan.specs.Values.{Values}
 use Rattle.cut_disks.specs.State.{DiskState}
+use Rattle.cut_disks.specs.Log.{DiskLog, IsKnown, on}
 use Rattle.cut_ledger.specs.declared.slip.Slip.{Slip}
 use Rattle.cut_ledger.specs.Laws.{NoSlipsAreTrue}
 use Rattle.cut_ledger.specs.World.{AreTrue}
@@ -15,8 +16,8 @@ found_true v bytes slips none so (inl reads) = so slips reads
 found_true v bytes slips none so (inr empty) = rw empty.1 (none v)
 
 -- they are true
-pub true_store : {D : Type 0} (honest : D → Type 0) (on : D → DiskState) (v : Values) (store : Option D) (disk : D)
-    (slips : List Slip) → NoSlipsAreTrue → IsTrueStore honest on v store → store ≡ Some disk
-    → (honest disk → IsFoundOn v (on disk).bytes slips) → AreTrue v slips
-true_store honest on v store disk slips none is there found =
-    let own = rw there at is in found_true v (on disk).bytes slips none own.1 (found own.0)
+pub true_store : {D : Type 0} (log_of : D → DiskLog) (v : Values) (store : Option D) (disk : D)
+    (slips : List Slip) → NoSlipsAreTrue → IsTrueStore log_of v store → store ≡ Some disk
+    → (IsKnown (log_of disk) → IsFoundOn v (on (log_of disk)).bytes slips) → AreTrue v slips
+true_store log_of v store disk slips none is there found =
+    let own = rw there at is in found_true v (on (log_of disk)).bytes slips none own.1 (found own.0)

@@ -11,6 +11,7 @@ use Rattle.cut_ledger.specs.Machine.{StudyState, opened, after, slip_of}
 use Rattle.cut_ledger.specs.Refusals.{is_same_plan}
 use Rattle.cut_ledger.specs.Slips.{IsFirstBad}
 use Rattle.cut_disks.specs.State.{DiskState, Throughout}
+use Rattle.cut_disks.specs.Log.{DiskLog, IsKnown, is_known, on}
 use Rattle.cut_journal.specs.Journal.{JournalValue}
 use Rattle.cut_journal.specs.Laws.{IsJournalOf, IsResumed}
 use Rattle.cut_book.specs.declared.call.Answer.{Answer}
@@ -43,9 +44,9 @@ opening_of p = record {
 -- ---- opening
 
 -- how many calls of a journal's disk have failed, 0 without a journal
-abbrev pub failures_of : {D : Type 0} → (D → ℕ) → Option (JournalValue D) → ℕ
-failures_of faults None = 0
-failures_of faults (Some log) = faults log.disk
+abbrev pub failures_of : {D : Type 0} → (D → DiskLog) → Option (JournalValue D) → ℕ
+failures_of log_of None = 0
+failures_of log_of (Some log) = (log_of log.disk).failed
 
 -- why a book was not opened: memory ran out, which says nothing of the slips, or there is a first bad slip
 abbrev pub IsOpeningFault : Values → List Slip → BookFault → Type 0
@@ -61,24 +62,24 @@ pub record IsFresh {D : Type 0} (v : Values) (size : ℕ) (b : BookValue D) : Ty
 
 -- ---- disks
 
--- a journal, if there is one, is that of a run in this state; of a disk that is not honest nothing is said
-abbrev pub FollowsState : {D : Type 0} → (D → Type 0) → (D → DiskState) → Option (JournalValue D) → StudyState → Type 0
-FollowsState honest on None s = ⊤
-FollowsState honest on (Some log) s =
-    honest log.disk → IsJournalOf log.plan log.count log.doubtful (on log.disk) s
+-- a journal, if there is one, is that of a run in this state; of a disk of which nothing is known nothing is said
+abbrev pub FollowsState : {D : Type 0} → (D → DiskLog) → Option (JournalValue D) → StudyState → Type 0
+FollowsState log_of None s = ⊤
+FollowsState log_of (Some log) s =
+    IsKnown (log_of log.disk) → IsJournalOf log.plan log.count log.doubtful (on (log_of log.disk)) s
 
 -- from one state of a journal to a later one, whatever a crash leaves of its disk at whichever moment says a
 -- run as it is resumed from this state
-abbrev pub LeavesResumed : {D : Type 0} → (D → Type 0) → (D → DiskState) → Option (JournalValue D)
+abbrev pub LeavesResumed : {D : Type 0} → (D → DiskLog) → Option (JournalValue D)
     → Option (JournalValue D) → StudyState → Type 0
-LeavesResumed honest on (Some old) (Some new) s =
-    honest old.disk → Throughout (on old.disk) (on new.disk) (IsResumed old.plan s)
-LeavesResumed honest on old new s = ⊤
+LeavesResumed log_of (Some old) (Some new) s =
+    IsKnown (log_of old.disk) → Throughout (on (log_of old.disk)) (on (log_of new.disk)) (IsResumed old.plan s)
+LeavesResumed log_of old new s = ⊤
 
--- a disk is as honest as it was
-abbrev pub IsAsHonest : {D : Type 0} → (D → Type 0) → Option (JournalValue D) → Option (JournalValue D) → Type 0
-IsAsHonest honest (Some old) (Some new) = honest old.disk ↔ honest new.disk
-IsAsHonest honest old new = ⊤
+-- as much is known of a disk as before
+abbrev pub IsAsKnown : {D : Type 0} → (D → DiskLog) → Option (JournalValue D) → Option (JournalValue D) → Type 0
+IsAsKnown log_of (Some old) (Some new) = is_known (log_of new.disk) ≡ is_known (log_of old.disk)
+IsAsKnown log_of old new = ⊤
 
 -- ---- results
 

@@ -4,7 +4,7 @@ ghost use Rattle.cut_ledger.specs.Refusals.{refusal_of};
 ghost use Rattle.cut_ledger.specs.declared.event.Event.TheVariants as event;
 ghost use Rattle.cut_book.specs.Book.{JournalAfter, faults_after, failures_of, FollowsState};
 ghost use Rattle.cut_book.specs.inside.Book.{append_answer};
-ghost use Rattle.cut_book.specs.Book.{LeavesResumed, IsAsHonest};
+ghost use Rattle.cut_book.specs.Book.{LeavesResumed, IsAsKnown};
 ghost use Rattle.cut_book.specs.History.{event_of};
 
 use cut_disks::{Disk, DiskFault};
@@ -20,15 +20,15 @@ pub(crate) fn append<D: Disk>(
     requires own { IfSome journal.old (λ log. (log.plan ≡ offered.now.plan) × (log.doubtful ≡ None)) }
     ensures journal { JournalAfter (append_answer result) (slip_of offered.now) journal.old journal.new }
     ensures follows { (s : StudyState) → refusal_of s.ledger offered.now ≡ None
-        → FollowsState D.is_honest D.state journal.old s
-        → FollowsState D.is_honest D.state journal.new (after s (event_of (append_answer result) offered.now)) }
+        → FollowsState D.log journal.old s
+        → FollowsState D.log journal.new (after s (event_of (append_answer result) offered.now)) }
     ensures moments { (s : StudyState) → refusal_of s.ledger offered.now ≡ None
-        → FollowsState D.is_honest D.state journal.old s
-        → LeavesResumed D.is_honest D.state journal.old journal.new
+        → FollowsState D.log journal.old s
+        → LeavesResumed D.log journal.old journal.new
         (after s (event.HandInDiskFails offered.now)) }
-    ensures honest { IsAsHonest D.is_honest journal.old journal.new }
-    ensures faults { failures_of D.faults journal.new
-        ≡ faults_after (Some (append_answer result)) (failures_of D.faults journal.old) }
+    ensures known { IsAsKnown D.log journal.old journal.new }
+    ensures faults { failures_of D.log journal.new
+        ≡ faults_after (Some (append_answer result)) (failures_of D.log journal.old) }
 {
     crashes_are_resumptions();
     match journal {

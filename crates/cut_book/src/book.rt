@@ -9,6 +9,7 @@ ghost use Rattle.cut_plan.specs.Cells.{cells_of};
 ghost use Rattle.cut_plan.specs.Plan.{IsPlan};
 ghost use Rattle.cut_outcome.specs.Sum.{is_piece};
 ghost use Rattle.cut_disks.specs.State.{IsImage};
+ghost use Rattle.cut_disks.specs.Log.{IsKnown, on};
 ghost use Rattle.cut_ledger.specs.Machine.{opened, reply_to, after, slip_of};
 ghost use Rattle.cut_ledger.specs.Contents.{over_base};
 ghost use Rattle.cut_ledger.specs.Gaps.{pieces_of};
@@ -25,7 +26,7 @@ ghost use Rattle.cut_book.specs.History.{opened_by, LeadsTo};
 ghost use Rattle.cut_book.specs.Book.{BookValue, opening_of, failures_of, answer_of, HandsIn, IsHandInFault, AsksRow};
 ghost use Rattle.cut_book.specs.Book.{IsOpeningFault, faults_after, FollowsState, LeavesResumed};
 ghost use Rattle.cut_book.specs.inside.Book.{refusal_in};
-ghost use Rattle.cut_book.specs.Book.{IsAsHonest};
+ghost use Rattle.cut_book.specs.Book.{IsAsKnown};
 
 use crate::append::append;
 use crate::{Answer, BookFault, Call, History};
@@ -44,7 +45,7 @@ use std::marker::Model;
 ///
 /// Contracts see the journal; the state of the study, as the machine of a run has it, though what is drawn and
 /// what wires took is not a book's; the size of its pieces; its calls; and how many calls of the disk had
-/// failed when it was opened. What is said of the bytes on a disk is said of an honest one.
+/// failed when it was opened. What is said of the bytes on a disk is said where they are known.
 #[derive(Drop)]
 pub struct Book<D: Disk> {
     ledger: Ledger,
@@ -68,7 +69,7 @@ impl<D: Disk> Model for Book<D> {
         (state_in b.ledger.contents b.journal b.division b.lost b.history b.broken)
         b.history b.failed };
 
-    ghost invariant = { λ b. IsBook D.is_honest D.state D.faults b.journal
+    ghost invariant = { λ b. IsBook D.log b.journal
         (state_in b.ledger.contents b.journal b.division b.lost b.history b.broken)
         b.history b.losable b.failed };
 }
@@ -92,12 +93,11 @@ impl<D: Disk> Book<D> {
         requires size { 1 ≤ piece_size }
         requires journal { IfSome journal (λ log.
             (log.plan ≡ plan) × (log.count ≡ length slips.now) × (log.doubtful ≡ None)) }
-        requires read { IfSome journal (λ log. D.is_honest log.disk
-            → reading plan (D.state log.disk).bytes ≡ Ok slips.now) }
+        requires read { IfSome journal (λ log. IsKnown (D.log log.disk) → reading plan (on (D.log log.disk)).bytes ≡ Ok slips.now) }
         ensures state { IfOk result (λ b. b.state ≡ opened plan (is_some journal) slips.now piece_size) }
         ensures begun { IfOk result (λ b.
             (b.journal ≡ journal) × (b.size ≡ piece_size) × (b.calls ≡ [])) }
-        ensures failed { IfOk result (λ b. b.failed ≡ failures_of D.faults journal) }
+        ensures failed { IfOk result (λ b. b.failed ≡ failures_of D.log journal) }
         ensures good { OnOk result (AreGood plan slips.now) }
         ensures err { IfErr result (λ e. IsOpeningFault plan slips.now e) }
     {
@@ -136,11 +136,11 @@ impl<D: Disk> Book<D> {
         ensures only_faults { IfErr result IsHandInFault }
         ensures journal { IsErrOf result BookFault.Checkpoint → IsSome self.old.journal }
         ensures risen { IsErrOf result BookFault.Checkpoint →
-            failures_of D.faults self.new.journal ≡ one_more self.old.failed }
-        ensures faults { failures_of D.faults self.new.journal
-            ≡ faults_after (answer_of result self.old.state) (failures_of D.faults self.old.journal) }
-        ensures honest { IsAsHonest D.is_honest self.old.journal self.new.journal }
-        ensures moments { LeavesResumed D.is_honest D.state self.old.journal self.new.journal
+            failures_of D.log self.new.journal ≡ one_more self.old.failed }
+        ensures faults { failures_of D.log self.new.journal
+            ≡ faults_after (answer_of result self.old.state) (failures_of D.log self.old.journal) }
+        ensures known { IsAsKnown D.log self.old.journal self.new.journal }
+        ensures moments { LeavesResumed D.log self.old.journal self.new.journal
             (after self.old.state (event.HandInDiskFails offered.now)) }
     {
         match self.refusal(offered) {
@@ -250,11 +250,10 @@ impl<D: Disk> Book<D> {
         ensures value { option_copied result ≡ self.now.journal }
         ensures has { self.now.state.has_journal ≡ is_some self.now.journal }
         ensures plan { IfSome self.now.journal (λ log. log.plan ≡ self.now.state.ledger.plan) }
-        ensures kept { FollowsState D.is_honest D.state self.now.journal self.now.state }
-        ensures images { IfSome self.now.journal (λ log. D.is_honest log.disk
-            → (image : List ℕ) → IsImage (D.state log.disk).stable image
+        ensures kept { FollowsState D.log self.now.journal self.now.state }
+        ensures images { IfSome self.now.journal (λ log. IsKnown (D.log log.disk) → (image : List ℕ) → IsImage (on (D.log log.disk)).stable image
             → IsResumed log.plan self.now.state image) }
-        ensures faults { failures_of D.faults self.now.journal
+        ensures faults { failures_of D.log self.now.journal
             ≡ (if self.now.state.broken then one_more self.now.failed else self.now.failed) }
     {
         self.leaves_resumed();
@@ -304,11 +303,11 @@ impl<D: Disk> Book<D> {
         ensures refused { IsErr result }
         ensures broken { IsErrOf result BookFault.Checkpoint → IsSome self.old.journal }
         ensures risen { IsErrOf result BookFault.Checkpoint →
-            failures_of D.faults self.new.journal ≡ one_more self.old.failed }
-        ensures faults { failures_of D.faults self.new.journal
-            ≡ faults_after (answer_of result self.old.state) (failures_of D.faults self.old.journal) }
+            failures_of D.log self.new.journal ≡ one_more self.old.failed }
+        ensures faults { failures_of D.log self.new.journal
+            ≡ faults_after (answer_of result self.old.state) (failures_of D.log self.old.journal) }
         ensures journal { self.new.journal ≡ self.old.journal }
-        ensures moments { LeavesResumed D.is_honest D.state self.old.journal self.new.journal
+        ensures moments { LeavesResumed D.log self.old.journal self.new.journal
             (after self.old.state (event.HandInDiskFails offered.now)) }
     {
         self.is_resumable(offered);
@@ -320,8 +319,7 @@ impl<D: Disk> Book<D> {
 
     /// Whatever a crash leaves of the disk now says the run as it is resumed.
     fn leaves_resumed(&self)
-        ensures { IfSome self.now.journal (λ log. D.is_honest log.disk
-            → (image : List ℕ) → IsImage (D.state log.disk).stable image
+        ensures { IfSome self.now.journal (λ log. IsKnown (D.log log.disk) → (image : List ℕ) → IsImage (on (D.log log.disk)).stable image
             → IsResumed log.plan self.now.state image) }
     {
         crashes_are_resumptions();
@@ -333,7 +331,7 @@ impl<D: Disk> Book<D> {
     /// Whatever a crash leaves of the disk now says the run as it is resumed after the append of a result's
     /// slip failed.
     fn is_resumable(&self, offered: &PieceResult)
-        ensures { LeavesResumed D.is_honest D.state self.now.journal self.now.journal
+        ensures { LeavesResumed D.log self.now.journal self.now.journal
             (after self.now.state (event.HandInDiskFails offered.now)) }
     {
         crashes_are_resumptions();
@@ -351,11 +349,11 @@ impl<D: Disk> Book<D> {
         ensures only_faults { IfErr result IsHandInFault }
         ensures journal { IsErrOf result BookFault.Checkpoint → IsSome self.old.journal }
         ensures risen { IsErrOf result BookFault.Checkpoint →
-            failures_of D.faults self.new.journal ≡ one_more self.old.failed }
-        ensures faults { failures_of D.faults self.new.journal
-            ≡ faults_after (answer_of result self.old.state) (failures_of D.faults self.old.journal) }
-        ensures honest { IsAsHonest D.is_honest self.old.journal self.new.journal }
-        ensures moments { LeavesResumed D.is_honest D.state self.old.journal self.new.journal
+            failures_of D.log self.new.journal ≡ one_more self.old.failed }
+        ensures faults { failures_of D.log self.new.journal
+            ≡ faults_after (answer_of result self.old.state) (failures_of D.log self.old.journal) }
+        ensures known { IsAsKnown D.log self.old.journal self.new.journal }
+        ensures moments { LeavesResumed D.log self.old.journal self.new.journal
             (after self.old.state (event.HandInDiskFails offered.now)) }
     {
         self.is_resumable(offered);
@@ -414,7 +412,7 @@ fn begin(
 
 /// How many calls of a journal's disk have failed, 0 without a journal.
 fn failures<D: Disk>(journal: &Option<Journal<D>>) -> u64
-    ensures { result ≡ failures_of D.faults journal.now }
+    ensures { result ≡ failures_of D.log journal.now }
 {
     match journal {
         Some(journal) => journal.disk().failures(),

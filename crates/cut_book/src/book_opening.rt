@@ -1,4 +1,5 @@
 ghost use Rattle.std.specs.Prelude.{◌≡◌, ◌≤◌, true, Ok, None, Option, Result, length, IfOk};
+ghost use Rattle.cut_disks.specs.Log.{IsKnown, on};
 ghost use Rattle.cut_ledger.specs.Slips.{AreGood};
 ghost use Rattle.cut_ledger.specs.World.{AreTrue};
 ghost use Rattle.cut_journal.specs.Reading.{reading};
@@ -28,7 +29,7 @@ pub fn open_book<D: Disk + Drop, S: Shelf<D>>(
     ensures good { IfOk result (λ b. AreGood plan b.state.ledger.base) }
     ensures trusted { S.is_true shelf.now ≡ true → IfOk result (λ b. AreTrue plan b.state.ledger.base) }
     ensures over { (given : Result (Option D) ShelfFault) × (S.gives shelf.now plan given
-        × OpensOver D.is_honest D.state plan given result) }
+        × OpensOver D.log plan given result) }
 {
     true_slips_give_the_table();
     match shelf.open(alloc, &plan)? {
@@ -50,8 +51,7 @@ fn kept_book<D: Disk + Drop>(
     requires size { 1 ≤ piece_size }
     requires journal { IfOk opened (λ r.
         (r.0.plan ≡ plan) × (r.0.count ≡ length r.1.items) × (r.0.doubtful ≡ None)) }
-    requires read { IfOk opened (λ r. D.is_honest r.0.disk
-        → reading plan (D.state r.0.disk).bytes ≡ Ok r.1.items) }
+    requires read { IfOk opened (λ r. IsKnown (D.log r.0.disk) → reading plan (on (D.log r.0.disk)).bytes ≡ Ok r.1.items) }
     ensures fresh { IfOk result (λ b. IsFresh plan piece_size b) }
     ensures good { IfOk result (λ b. AreGood plan b.state.ledger.base) }
     ensures kept { KeepsBook plan opened result }

@@ -30,7 +30,7 @@ pub trait Shelf<D: Disk> {
     /// The disk of a plan's study, if studies are kept.
     fn open(&self, alloc: Global, plan: &Plan) -> Result<Option<D>, ShelfFault>
         ensures trusted { is_true self.now ≡ true →
-            IfOk result (λ disk. IsTrueStore D.is_honest D.state plan.now disk) }
+            IfOk result (λ disk. IsTrueStore D.log plan.now disk) }
         ensures given { gives self.now plan.now result };
 }
 

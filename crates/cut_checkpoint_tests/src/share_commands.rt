@@ -1,11 +1,12 @@
-//! The command `share` over wires and disks in memory: a share of three, stopped by a disk, a wire or refused memory, and
+//! The command `share` over wires and files in memory: a share of three, stopped by a disk, a wire or refused memory, and
 //! resumed.
 
 use crate::shares::{PLAN, are_of};
 use cut_commands::CliFault;
 use cut_disks::{Disk, FaultyDisk, Tear};
+use cut_files::{Files, MemoryFiles, Mode};
 use cut_journal::{Journal, JournalFault};
-use cut_machines::{ShareWork, share_io};
+use cut_machines::{ShareWork, share};
 use cut_outcome::{Gate, OpenGate};
 use cut_plan::Plan;
 use cut_pool_cases::{Calls, MeetingGate, NotingGate};
@@ -21,23 +22,36 @@ const LINE: &[u8] = b"share 2 of 3: 4 of 4\n";
 
 const PIECES: [(u32, u32); 2] = [(2, 2), (7, 2)];
 
+/// The path of the file that keeps the share.
+const FILE: &str = "share.cut";
+
+/// Files of which one is a new disk that is to fail at this call.
+fn files_with(alloc: Global, fail_at: u64) -> Result<MemoryFiles<FaultyDisk>, AllocError> {
+    let disk = FaultyDisk::of(alloc, Vec::new(alloc), fail_at, Tear::Nothing)?;
+    disk.arm();
+    let mut files = MemoryFiles::new(alloc);
+    files.put(FILE, disk)?;
+    Ok(files)
+}
+
 /// Runs the share by two workers that pass a gate over a wire, and returns how that ended.
 fn run_share<G: Gate + Sync, R: Threads + Wait + Sync>(
     rt: &R,
     alloc: Global,
     gate: &G,
     wire: &mut FaultyWire,
-    disk: &mut FaultyDisk,
+    files: &mut MemoryFiles<FaultyDisk>,
 ) -> Result<(), CliFault> {
-    let Some(share) = Share::new(2, 3, 2) else {
+    let Some(part) = Share::new(2, 3, 2) else {
         return Err(CliFault::Socket);
     };
     let work = ShareWork {
-        share,
+        share: part,
         workers: 2,
         gate,
+        file: FILE,
     };
-    share_io(rt, alloc, wire, work, disk).ended
+    share(files, rt, alloc, wire, work)
 }
 
 /// A wire that gives the plan, and has room for this many bytes.
@@ -46,23 +60,27 @@ fn wire_of(alloc: Global, room: usize) -> Result<FaultyWire, AllocError> {
     Ok(FaultyWire::new(alloc, input, 4096, room, 0))
 }
 
-/// Whether a disk has slips of the share's pieces, and no others.
-fn is_kept(alloc: Global, disk: &mut FaultyDisk) -> Result<bool, Fail> {
+/// Whether the file has slips of the share's pieces, and no others.
+fn is_kept(alloc: Global, files: &mut MemoryFiles<FaultyDisk>) -> Result<bool, Fail> {
     let plan = Plan::from_json(alloc, PLAN.as_bytes())?;
+    let disk = files.open(FILE, Mode::Existing)?;
     match Journal::reopen(alloc, disk, &plan) {
-        Ok((_journal, slips)) => Ok(are_of(&slips, &PIECES)),
+        Ok((journal, slips)) => {
+            files.close(FILE, journal.into_disk());
+            Ok(are_of(&slips, &PIECES))
+        }
         Err((fault, _)) => Err(fault)?,
     }
 }
 
-/// Whether the share is run over a disk and writes its line.
+/// Whether the share is run and writes its line.
 fn is_run<R: Threads + Wait + Sync>(
     rt: &R,
     alloc: Global,
-    disk: &mut FaultyDisk,
+    files: &mut MemoryFiles<FaultyDisk>,
 ) -> Result<bool, AllocError> {
     let mut wire = wire_of(alloc, 100)?;
-    let ended = run_share(rt, alloc, &OpenGate, &mut wire, disk);
+    let ended = run_share(rt, alloc, &OpenGate, &mut wire, files);
     Ok(matches!(ended, Ok(())) && wire.taken() == LINE)
 }
 
@@ -84,24 +102,27 @@ fn is_stopped<R: Threads + Wait + Sync>(
     rt: &R,
     alloc: Global,
     fail_at: u64,
-    disk: &mut FaultyDisk,
+    files: &mut MemoryFiles<FaultyDisk>,
 ) -> Result<bool, AllocError> {
     let mut wire = wire_of(alloc, 100)?;
-    let ended = run_share(rt, alloc, &OpenGate, &mut wire, &mut *disk);
-    Ok(is_reported(ended, fail_at) && wire.taken().is_empty() && disk.failures() == 1)
+    let ended = run_share(rt, alloc, &OpenGate, &mut wire, files);
+    let is_counted = match files.disk(FILE) {
+        Some(disk) => disk.failures() == 1,
+        None => false,
+    };
+    Ok(is_reported(ended, fail_at) && wire.taken().is_empty() && is_counted)
 }
 
 // The calls of the opening, and four for each of two slips; the next run keeps all.
 #[test]
 fn each_call_of_the_disk_fails(rt: HostRuntime) -> Result<(), Fail> {
     for fail_at in 1..20 {
-        let mut disk = FaultyDisk::of(rt.alloc(), Vec::new(rt.alloc()), fail_at, Tear::Nothing)?;
-        disk.arm();
+        let mut files = files_with(rt.alloc(), fail_at)?;
         assert!(rt;
-            is_stopped(&rt, rt.alloc(), fail_at, &mut disk)?,
+            is_stopped(&rt, rt.alloc(), fail_at, &mut files)?,
             "{fail_at}"
         );
-        assert!(rt; is_run(&rt, rt.alloc(), &mut disk)? && is_kept(rt.alloc(), &mut disk)?);
+        assert!(rt; is_run(&rt, rt.alloc(), &mut files)? && is_kept(rt.alloc(), &mut files)?);
     }
     Ok(())
 }
@@ -109,26 +130,26 @@ fn each_call_of_the_disk_fails(rt: HostRuntime) -> Result<(), Fail> {
 // A wire has room for 12 bytes of the answer. All of the share is kept, and nothing is lacking in the next run.
 #[test]
 fn a_share_outlives_its_wire(rt: HostRuntime) -> Result<(), Fail> {
-    let mut disk = FaultyDisk::of(rt.alloc(), Vec::new(rt.alloc()), 0, Tear::Nothing)?;
+    let mut files = MemoryFiles::new(rt.alloc());
     let mut wire = wire_of(rt.alloc(), 12)?;
-    let ended = run_share(&rt, rt.alloc(), &OpenGate, &mut wire, &mut disk);
+    let ended = run_share(&rt, rt.alloc(), &OpenGate, &mut wire, &mut files);
     assert!(rt; matches!(ended, Err(CliFault::Write(Sent { sent: 12 }))));
-    assert!(rt; is_kept(rt.alloc(), &mut disk)? && is_run(&rt, rt.alloc(), &mut disk)?);
+    assert!(rt; is_kept(rt.alloc(), &mut files)? && is_run(&rt, rt.alloc(), &mut files)?);
     Ok(())
 }
 
-// The share is run three times over one disk. Where no allocation is refused, each run is whole; the test also holds
+// The share is run three times over one file. Where no allocation is refused, each run is whole; the test also holds
 // where any one allocation of the runs is refused, and is meant to be run so by hand.
 #[test]
 fn a_refused_allocation_stops_one_run(rt: HostRuntime) -> Result<(), Fail> {
-    let mut disk = FaultyDisk::of(rt.alloc(), Vec::new(rt.alloc()), 0, Tear::Nothing)?;
+    let mut files = MemoryFiles::new(rt.alloc());
     let mut stopped = 0u32;
     for _ in 0..3 {
-        if !is_run(&rt, rt.alloc(), &mut disk)? {
+        if !is_run(&rt, rt.alloc(), &mut files)? {
             stopped = stopped.saturating_add(1);
         }
     }
-    assert!(rt; stopped <= 1 && is_kept(rt.alloc(), &mut disk)?);
+    assert!(rt; stopped <= 1 && is_kept(rt.alloc(), &mut files)?);
     Ok(())
 }
 
@@ -145,36 +166,34 @@ fn calls_of(held: u64, pieces: u64, kept: u64) -> Calls {
     }
 }
 
-/// The calls of the gate in a run of the share over a disk.
+/// The calls of the gate in a run of the share over files.
 fn calls_over<R: Threads + Wait + Sync>(
     rt: &R,
     alloc: Global,
-    disk: &mut FaultyDisk,
+    files: &mut MemoryFiles<FaultyDisk>,
 ) -> Result<Calls, AllocError> {
     let gate = NotingGate::new();
     let mut wire = wire_of(alloc, 100)?;
-    let _ = run_share(rt, alloc, &gate, &mut wire, disk);
+    let _ = run_share(rt, alloc, &gate, &mut wire, files);
     Ok(gate.calls())
 }
 
 // The disk fails in the append of the second piece, and then in none.
 #[test]
 fn a_gate_is_called_around_each_piece(rt: HostRuntime) -> Result<(), Fail> {
-    let fail_at = OPENING_CALLS.saturating_add(5);
-    let mut disk = FaultyDisk::of(rt.alloc(), Vec::new(rt.alloc()), fail_at, Tear::Nothing)?;
-    disk.arm();
-    assert!(rt; calls_over(&rt, rt.alloc(), &mut disk)? == calls_of(0, 2, 1));
-    assert!(rt; calls_over(&rt, rt.alloc(), &mut disk)? == calls_of(2, 1, 1));
-    assert!(rt; calls_over(&rt, rt.alloc(), &mut disk)? == calls_of(4, 0, 0));
+    let mut files = files_with(rt.alloc(), OPENING_CALLS.saturating_add(5))?;
+    assert!(rt; calls_over(&rt, rt.alloc(), &mut files)? == calls_of(0, 2, 1));
+    assert!(rt; calls_over(&rt, rt.alloc(), &mut files)? == calls_of(2, 1, 1));
+    assert!(rt; calls_over(&rt, rt.alloc(), &mut files)? == calls_of(4, 0, 0));
     Ok(())
 }
 
 #[test]
 fn both_workers_are_in_work_at_once(rt: HostRuntime) -> Result<(), Fail> {
-    let mut disk = FaultyDisk::of(rt.alloc(), Vec::new(rt.alloc()), 0, Tear::Nothing)?;
+    let mut files = MemoryFiles::new(rt.alloc());
     let mut wire = wire_of(rt.alloc(), 100)?;
     let gate = MeetingGate::new(&rt, 2);
-    let ended = run_share(&rt, rt.alloc(), &gate, &mut wire, &mut disk);
+    let ended = run_share(&rt, rt.alloc(), &gate, &mut wire, &mut files);
     assert!(rt; matches!(ended, Ok(())) && gate.counts() == (2, 0));
     Ok(())
 }

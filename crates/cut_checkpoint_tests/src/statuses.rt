@@ -1,8 +1,13 @@
 //! What is printed of a file.
 
 use crate::journals::{SMALL, written};
+use cut_commands::{CliFault, status};
+use cut_disks::MemoryDisk;
+use cut_files::{Files, MemoryFiles, OpenFault, SystemFiles};
+use cut_journal::JournalFault;
 use cut_plan::Plan;
-use cut_status::{StatusFault, read_file, status_of};
+use cut_status::{StatusFault, status_of};
+use cut_wires::MemoryWire;
 use std::fs;
 use std::test::Fail;
 
@@ -26,20 +31,52 @@ const FILE: &str = "cut_status_test/file";
 
 #[test]
 fn files_are_read(rt: HostRuntime) -> Result<(), Fail> {
+    let files = SystemFiles::of(&rt);
     let _ = fs::remove_dir_all(&rt, FOLDER);
-    assert!(rt; read_file(&rt, rt.alloc(), FILE) == Err(StatusFault::Disk));
+    assert!(rt; files.read(rt.alloc(), FILE) == Err(OpenFault::Disk));
     fs::create_dir(&rt, FOLDER)?;
     fs::write(&rt, FILE, "abc")?;
-    assert!(rt; read_file(&rt, rt.alloc(), FILE)?.as_slice() == b"abc".as_slice());
+    assert!(rt; files.read(rt.alloc(), FILE)?.as_slice() == b"abc".as_slice());
     // A folder is no file.
-    assert!(rt; read_file(&rt, rt.alloc(), FOLDER) == Err(StatusFault::Disk));
+    assert!(rt; files.read(rt.alloc(), FOLDER) == Err(OpenFault::Disk));
     fs::remove_dir_all(&rt, FOLDER)?;
+    Ok(())
+}
+
+// The status of the file at a path is written, and none where there is no file, or no study.
+#[test]
+fn a_file_has_its_status(rt: HostRuntime) -> Result<(), Fail> {
+    let alloc = rt.alloc();
+    let plan = Plan::from_json(alloc, SMALL.as_bytes())?;
+    let mut files = MemoryFiles::new(alloc);
+    files.put("study", written(alloc, &plan)?)?;
+    files.put(
+        "notes",
+        MemoryDisk::of(alloc, Vec::from_slice(alloc, b"notes")?)?,
+    )?;
+    let mut wire = MemoryWire::new(alloc, Vec::new(alloc), 4096);
+    assert!(rt; status(&files, alloc, &mut wire, "study").is_ok());
+    assert!(rt; wire.taken().starts_with(LINES));
+    let mut other = MemoryWire::new(alloc, Vec::new(alloc), 4096);
+    assert!(rt;
+        matches!(
+            status(&files, alloc, &mut other, "else"),
+            Err(CliFault::Journal(JournalFault::Disk))
+        )
+    );
+    assert!(rt;
+        matches!(
+            status(&files, alloc, &mut other, "notes"),
+            Err(CliFault::Journal(JournalFault::NoStudy))
+        )
+    );
+    assert!(rt; other.taken().is_empty());
     Ok(())
 }
 
 #[test]
 fn faults_are_printed(rt: HostRuntime) -> Result<(), Fail> {
-    assert!(rt; StatusFault::Disk.to_string(rt.alloc())?.as_str() == "20 Disk");
+    assert!(rt; StatusFault::NoStudy.to_string(rt.alloc())?.as_str() == "22 NoStudy");
     assert!(rt; StatusFault::Memory.to_string(rt.alloc())?.as_str() == "0 Memory");
     Ok(())
 }

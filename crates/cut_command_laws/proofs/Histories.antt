@@ -26,7 +26,7 @@ use Rattle.cut_book.specs.declared.call.Call.{Call}
 use Rattle.cut_book.specs.declared.call.Call.TheVariants.{HandIn}
 use Rattle.cut_book.specs.History.{IsStep, LeadsTo, accepted_in}
 use Rattle.cut_book.proofs.Sums.{first_in}
-use Rattle.cut_hall.specs.Report.{IsAcceptedCount, IsEndOf, SlotEnd, accepted_recorded}
+use Rattle.cut_slots.specs.Report.{IsAcceptedCount, IsEndOf, SlotEnd, accepted_recorded}
 use Rattle.cut_server.specs.Serve.{accepted_in_all}
 
 -- a trial as a piece, its result, and the call that hands this in

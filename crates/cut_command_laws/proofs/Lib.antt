@@ -1,4 +1,2 @@
 pub mod Replied
-pub mod SlipFiles
-pub mod StatusBytes
 pub mod Histories

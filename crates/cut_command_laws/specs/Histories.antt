@@ -1,7 +1,7 @@
 -- What a report says of a server's line, and what the program's contract says of it, is the same.
 use Rattle.std.specs.Prelude.{ℕ, List, Result, Ok, Err, ⊤}
 use Rattle.cut_wires.specs.Log.{WireLog}
-use Rattle.cut_hall.specs.Report.{SlotEnd}
+use Rattle.cut_slots.specs.Report.{SlotEnd}
 use Rattle.cut_commands.specs.declared.fault.CliFault.{CliFault}
 use Rattle.cut_server.specs.Serve.{EndsServing, IsReport, IsWrittenWhole, WritesReport}
 

@@ -4,5 +4,4 @@ pub mod InputLemmas
 pub mod StudyLemmas
 pub mod MigrateLemmas
 pub mod ExplainLemmas
-pub mod StatusLemmas
 pub mod AskLemmas

@@ -18,6 +18,8 @@ use Rattle.cut_migration.specs.FaultCode as migrate_codes
 use Rattle.cut_commands.specs.declared.fault.CliFault.{CliFault}
 use Rattle.cut_pool.specs.declared.run_fault.RunFault.{RunFault}
 use Rattle.cut_pool.specs.declared.run_fault.RunFault.TheVariants as study
+use Rattle.cut_files.specs.declared.files.OpenFault.{OpenFault}
+use Rattle.cut_files.specs.declared.files.OpenFault.TheVariants as files
 use Rattle.cut_status.specs.declared.fault.StatusFault.{StatusFault}
 use Rattle.cut_status.specs.declared.fault.StatusFault.TheVariants as status
 use Rattle.cut_commands.specs.declared.fault.CliFault.TheVariants.{Memory, Plan, Read, Socket, Asked, Write, Journal}
@@ -114,10 +116,14 @@ fault_of_study (study.Write fault) = Write fault
 fault_of_study study.WorkMemory = WorkMemory
 fault_of_study study.AuditMismatch = AuditMismatch
 
+-- the fault of the program where a file was not opened or not read
+abbrev pub fault_of_files : OpenFault → CliFault
+fault_of_files files.Memory = Memory
+fault_of_files files.Disk = Journal journal.Disk
+
 -- the fault of the program where a checkpoint has no status
 abbrev pub fault_of_status : StatusFault → CliFault
 fault_of_status status.Memory = Memory
-fault_of_status status.Disk = Journal journal.Disk
 fault_of_status status.NoStudy = Journal journal.NoStudy
 fault_of_status (status.Damaged number) = Journal (journal.Damaged number)
 fault_of_status (status.BadSlip number) = BadSlip number

@@ -1,10 +1,12 @@
 -- What a migration writes for a plan, by what the disk of its checkpoint holds.
-use Rattle.std.specs.Prelude.{◌≡◌, ◌⊎◌, ℕ, true, List, length, codes, Result, Ok, Err, ⊤}
+use Rattle.std.specs.Prelude.{◌≡◌, ◌≢◌, ◌⊎◌, ℕ, true, List, length, codes, Result, Ok, Err, ⊤}
 use Rattle.cut_fields.specs.declared.version.Version.TheVariants.{One, Two}
-use Rattle.cut_plan.specs.Targets.{upgraded}
 use Rattle.cut_plan.specs.Values.{Values}
 use Rattle.cut_plan.specs.Failing.{version_of}
-use Rattle.cut_disks.specs.State.{DiskState}
+use Rattle.cut_disks.specs.Log.{DiskLog, IsKnown, on}
+use Rattle.cut_files.specs.Place.{Place, MayNotOpen, OpensAs}
+use Rattle.cut_files.specs.declared.files.Mode.TheVariants.{Existing, Create}
+use Rattle.cut_files.specs.declared.files.OpenFault.{OpenFault}
 use Rattle.cut_ledger.specs.declared.slip.Slip.{Slip}
 use Rattle.cut_ledger.specs.Slips.{AreGood, IsFirstBad}
 use Rattle.cut_journal.specs.declared.fault.JournalFault.{JournalFault}
@@ -16,7 +18,9 @@ use Rattle.cut_journal.specs.Opening.{IsReopenFault, is_foreign, is_unclaimed}
 use Rattle.cut_journal.specs.Reading.{is_study, reading}
 use Rattle.cut_commands.specs.Check.{number_line}
 use Rattle.cut_commands.specs.Task.{Task}
-use Rattle.cut_commands.specs.Faults.{IsRefusalOfNew, IsRefusalOfOld}
+use Rattle.cut_wires.specs.Log.{WireLog}
+use Rattle.cut_commands.specs.Faults.{IsRefusalOfNew, IsRefusalOfOld, fault_of_files}
+use Rattle.cut_commands.specs.Run.{EndsCommand}
 use Rattle.cut_commands.specs.declared.fault.CliFault.{CliFault}
 use Rattle.cut_commands.specs.declared.fault.CliFault.TheVariants.{Memory, Journal, Migrate}
 
@@ -33,87 +37,78 @@ IsHeld bytes fault = ⊤
 
 -- ---- from one disk to another
 
-module _ {O N : Type 0} (old_honest : O → Type 0) (old_state : O → DiskState) (new_honest : N → Type 0)
-    (new_state : N → DiskState) where
-  -- the slips that an honest disk says for the plan; of another nothing is known
-  abbrev pub Holds : O → Values → List Slip → Type 0
-  Holds old v slips = old_honest old → reading v (old_state old).bytes ≡ Ok slips
+-- the slips that a disk says for the plan, where its bytes are known
+abbrev pub Holds : DiskLog → Values → List Slip → Type 0
+Holds old v slips = IsKnown old → reading v (on old).bytes ≡ Ok slips
 
-  -- a disk that is unclaimed, if it is honest
-  abbrev pub IsFree : N → Type 0
-  IsFree new = new_honest new → is_unclaimed (new_state new).bytes ≡ true
+-- a disk that is unclaimed, where its bytes are known
+abbrev pub IsFree : DiskLog → Type 0
+IsFree new = IsKnown new → is_unclaimed (on new).bytes ≡ true
 
-  -- a plan of version 1, the slips of whose study can be moved
-  pub record IsReady (old : O) (new : N) (v : Values) (slips : List Slip) : Type 0 where
-    pub version : version_of v.failing ≡ One
-    pub held : Holds old v slips
-    pub free : IsFree new
+-- a plan of version 1, the slips of whose study can be moved
+pub record IsReady (old new : DiskLog) (v : Values) (slips : List Slip) : Type 0 where
+  pub version : version_of v.failing ≡ One
+  pub held : Holds old v slips
+  pub free : IsFree new
 
-  -- they are all true ones, and `n` were moved
-  pub record HasMovedAll (old : O) (new : N) (v : Values) (n : ℕ) : Type 0 where
-    pub slips : List Slip
-    pub ready : IsReady old new v slips
-    pub good : AreGood v slips
-    pub true : AreTrueUpTo v slips (length slips)
-    pub all : n ≡ length slips
+-- they are all true ones, and `n` were moved
+pub record HasMovedAll (old new : DiskLog) (v : Values) (n : ℕ) : Type 0 where
+  pub slips : List Slip
+  pub ready : IsReady old new v slips
+  pub good : AreGood v slips
+  pub true : AreTrueUpTo v slips (length slips)
+  pub all : n ≡ length slips
 
-  -- which is written
-  abbrev pub MigrateWrites : O → N → Values → List ℕ → Type 0
-  MigrateWrites old new v whole = (n : ℕ) × HasMovedAll old new v n × (whole ≡ moved_text n)
+-- which is written
+abbrev pub MigrateWrites : DiskLog → DiskLog → Values → List ℕ → Type 0
+MigrateWrites old new v whole = (n : ℕ) × HasMovedAll old new v n × (whole ≡ moved_text n)
 
-  -- why they were not: the plan is of version 2, which is found once the old disk said its slips and the new one held
-  -- no study; or, where they could be, the first bad slip, the first that is not true, or the disk of the new
-  -- checkpoint, which failed
-  abbrev pub StopsBy : O → N → Values → MigrateFault → Type 0
-  StopsBy old new v migration.NotVersion1 =
-      (version_of v.failing ≡ Two) × ((slips : List Slip) × Holds old v slips × IsFree new)
-  StopsBy old new v (migration.BadSlip n) = (slips : List Slip) × IsReady old new v slips × IsFirstBad v slips n
-  StopsBy old new v (migration.Disagrees n) =
-      (slips : List Slip) × IsReady old new v slips × AreGood v slips × IsFirstUntrue v slips n
-  StopsBy old new v migration.Disk = (slips : List Slip) × IsReady old new v slips × AreGood v slips
-  StopsBy old new v fault = ⊥
+-- why they were not: the plan is of version 2, which is found once the old disk said its slips and the new one held
+-- no study; or, where they could be, the first bad slip, the first that is not true, or the disk of the new
+-- checkpoint, which failed
+abbrev pub StopsBy : DiskLog → DiskLog → Values → MigrateFault → Type 0
+StopsBy old new v migration.NotVersion1 =
+    (version_of v.failing ≡ Two) × ((slips : List Slip) × Holds old v slips × IsFree new)
+StopsBy old new v (migration.BadSlip n) = (slips : List Slip) × IsReady old new v slips × IsFirstBad v slips n
+StopsBy old new v (migration.Disagrees n) =
+    (slips : List Slip) × IsReady old new v slips × AreGood v slips × IsFirstUntrue v slips n
+StopsBy old new v migration.Disk = (slips : List Slip) × IsReady old new v slips × AreGood v slips
+StopsBy old new v fault = ⊥
 
-  -- or why a checkpoint was not opened: the old one holds no study of the plan, or is damaged; the old one holds its
-  -- slips, and the new one a study; or a disk failed
-  abbrev pub IsNotReady : O → N → Values → JournalFault → Type 0
-  IsNotReady old new v fault =
-      (IsRefusalOfOld fault × (old_honest old → IsReopenFault v (old_state old).bytes fault))
-      ⊎ (IsRefusalOfNew fault × (new_honest new → IsHeld (new_state new).bytes fault)
-      × ((slips : List Slip) × Holds old v slips))
+-- or why a checkpoint was not opened: the old one holds no study of the plan, or is damaged; the old one holds its
+-- slips, and the new one a study; or a disk failed
+abbrev pub IsNotReady : DiskLog → DiskLog → Values → JournalFault → Type 0
+IsNotReady old new v fault =
+    (IsRefusalOfOld fault × (IsKnown old → IsReopenFault v (on old).bytes fault))
+    ⊎ (IsRefusalOfNew fault × (IsKnown new → IsHeld (on new).bytes fault)
+    × ((slips : List Slip) × Holds old v slips))
 
-  abbrev pub MigrateFails : O → N → Values → CliFault → Type 0
-  MigrateFails old new v (Journal fault) = IsNotReady old new v fault
-  MigrateFails old new v (Migrate fault) = StopsBy old new v fault
-  MigrateFails old new v fault = ⊥
+abbrev pub MigrateFails : DiskLog → DiskLog → Values → CliFault → Type 0
+MigrateFails old new v (Journal fault) = IsNotReady old new v fault
+MigrateFails old new v (Migrate fault) = StopsBy old new v fault
+MigrateFails old new v fault = ⊥
 
-  abbrev pub migrate_task : O → N → Task
-  migrate_task old new = record { answers = MigrateWrites old new; fails = MigrateFails old new }
+abbrev pub migrate_task : DiskLog → DiskLog → Task
+migrate_task old new = record { answers = MigrateWrites old new; fails = MigrateFails old new }
 
-  -- how the steps between the reading of a plan and the answer end: all slips were moved; memory ran out, or
-  -- as the task may fail
-  abbrev pub EndsMove : O → N → Values → Result ℕ CliFault → Type 0
-  EndsMove old new v (Ok n) = HasMovedAll old new v n
-  EndsMove old new v (Err Memory) = ⊤
-  EndsMove old new v (Err fault) = MigrateFails old new v fault
+-- how the steps between the reading of a plan and the answer end: all slips were moved; memory ran out, or
+-- as the task may fail
+abbrev pub EndsMove : DiskLog → DiskLog → Values → Result ℕ CliFault → Type 0
+EndsMove old new v (Ok n) = HasMovedAll old new v n
+EndsMove old new v (Err Memory) = ⊤
+EndsMove old new v (Err fault) = MigrateFails old new v fault
 
--- ---- from one file to another, of which nothing is known
+-- ---- from one file to another
 
--- why not all slips were moved
-abbrev pub FilesFail : Values → CliFault → Type 0
-FilesFail v (Journal fault) = IsRefusalOfOld fault ⊎ IsRefusalOfNew fault
-FilesFail v (Migrate migration.NotVersion1) = version_of v.failing ≡ Two
-FilesFail v (Migrate (migration.BadSlip n)) =
-    (version_of v.failing ≡ One) × ((slips : List Slip) × IsFirstBad v slips n)
-FilesFail v (Migrate (migration.Disagrees n)) =
-    (version_of v.failing ≡ One) × ((slips : List Slip) × AreGood v slips × IsFirstUntrue v slips n)
-FilesFail v (Migrate migration.Disk) = (version_of v.failing ≡ One) × ((slips : List Slip) × AreGood v slips)
-FilesFail v fault = ⊥
+-- how a migration ends from the file at one path to that at another: over what stood at both; or one of them was not opened, and
+-- nothing was read or written. The same path can't be opened twice
+abbrev pub EndsMigrate : List ℕ → List ℕ → (List ℕ → Place) → WireLog → WireLog → Result ⊤ CliFault → Type 0
+EndsMigrate from to before old new result =
+    ((source : DiskLog) × (target : DiskLog) × (OpensAs Existing source (before from) × OpensAs Create target (before to)
+    × EndsCommand (migrate_task source target) old new result))
+    ⊎ ((fault : OpenFault) × ((MayNotOpen Existing fault (before from)
+    ⊎ ((from ≡ to) ⊎ MayNotOpen Create fault (before to))) × (result ≡ Err (fault_of_files fault)) × (new ≡ old)))
 
--- some slips were moved, which are true
-abbrev pub files_task : Task
-files_task = record {
-  answers = λ v whole. (version_of v.failing ≡ One)
-      × ((slips : List Slip) × AreGood v slips × AreTrueUpTo v slips (length slips)
-      × (whole ≡ moved_text (length slips)));
-  fails = FilesFail;
-}
+-- at each path but these two there is what there was
+abbrev pub StaysBeside : List ℕ → List ℕ → (List ℕ → Place) → (List ℕ → Place) → Type 0
+StaysBeside from to before after = (other : List ℕ) → other ≢ from → other ≢ to → after other ≡ before other

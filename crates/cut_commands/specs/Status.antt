@@ -1,15 +1,12 @@
 -- What `status` writes of a checkpoint.
-use Rattle.std.specs.Prelude.{◌≡◌, ◌⊎◌, List, ℕ, Result, Ok, Err, ⊤}
-use Rattle.cut_plan.specs.Accepted.{plan_of}
-use Rattle.cut_plan.specs.Values.{Values}
-use Rattle.cut_ledger.specs.declared.slip.Slip.{Slip}
-use Rattle.cut_ledger.specs.Slips.{AreGood, IsFirstBad}
+use Rattle.std.specs.Prelude.{◌≡◌, ◌⊎◌, List, ℕ, Result, Err, ⊤}
 use Rattle.cut_status.specs.declared.fault.StatusFault.{StatusFault}
-use Rattle.cut_status.specs.declared.fault.StatusFault.TheVariants.{BadSlip}
-use Rattle.cut_status.specs.Status.{StatusValue, lines_over, status_text}
+use Rattle.cut_status.specs.Status.{StatusValue, status_text}
 use Rattle.cut_status.specs.Study.{IsStatusOf, IsStatusFault}
+use Rattle.cut_files.specs.Place.{Place, IsContent, MayNotRead}
+use Rattle.cut_files.specs.declared.files.OpenFault.{OpenFault}
 use Rattle.cut_wires.specs.Log.{WireLog}
-use Rattle.cut_commands.specs.Faults.{fault_of_status}
+use Rattle.cut_commands.specs.Faults.{fault_of_files, fault_of_status}
 use Rattle.cut_commands.specs.Run.{IsWritten}
 use Rattle.cut_commands.specs.declared.fault.CliFault.{CliFault}
 
@@ -24,18 +21,11 @@ EndsOver bytes old new result =
     ((whole : List ℕ) × (IsStatusText bytes whole × IsWritten whole result old new))
     ⊎ ((fault : StatusFault) × (IsStatusFault bytes fault × (result ≡ Err (fault_of_status fault)) × (new ≡ old)))
 
--- ---- over a file, of whose bytes nothing is known
+-- ---- over a file
 
--- why it has no status: where that is a bad slip, it is the first one of slips of the plan of some text
-abbrev pub MayHaveNone : StatusFault → Type 0
-MayHaveNone (BadSlip number) =
-    (text : List ℕ) × (v : Values) × (slips : List Slip) × (plan_of text ≡ Ok v) × IsFirstBad v slips number
-MayHaveNone fault = ⊤
-
--- how it ends: the status of good slips of the plan of some text was written, or as many of its first bytes as are
--- reported when a write failed; or the file has none, and nothing was written
-abbrev pub EndsStatus : WireLog → WireLog → Result ⊤ CliFault → Type 0
-EndsStatus old new result =
-    ((text : List ℕ) × (v : Values) × (slips : List Slip) × (plan_of text ≡ Ok v) × AreGood v slips
-    × IsWritten (lines_over v slips) result old new)
-    ⊎ ((fault : StatusFault) × MayHaveNone fault × (result ≡ Err (fault_of_status fault)) × (new ≡ old))
+-- how it ends over what stands at a path: over the bytes that were read there, which are those of the file where they are
+-- known; or none were read, and nothing was written
+abbrev pub EndsStatus : Place → WireLog → WireLog → Result ⊤ CliFault → Type 0
+EndsStatus place old new result =
+    ((bytes : List ℕ) × (IsContent bytes place × EndsOver bytes old new result))
+    ⊎ ((fault : OpenFault) × (MayNotRead fault place × (result ≡ Err (fault_of_files fault)) × (new ≡ old)))

@@ -1,4 +1,5 @@
-ghost use Rattle.std.specs.Prelude.{◌≡◌, Ok, is_some, length, IfOk, IfErr, IfSome};
+ghost use Rattle.std.specs.Prelude.{◌≡◌, Ok, is_some, option_map, length, IfOk, IfErr, IfSome};
+ghost use Rattle.cut_disks.specs.Log.{IsKnown, on};
 ghost use Rattle.cut_journal.specs.Reading.{reading};
 ghost use Rattle.cut_pool.specs.Running.{slips_of};
 ghost use Rattle.cut_commands.specs.inside.Run.{IsNotOpened};
@@ -18,13 +19,13 @@ pub(crate) fn open_checkpoint<D: Disk + Drop>(
     disk: Option<D>,
     plan: &Plan,
 ) -> Result<Option<(Journal<D>, Vec<Slip>)>, CliFault>
-    ensures begins { IfOk result (λ kept. BeginsWith D.is_honest D.state disk plan.now (slips_of kept)) }
-    ensures some { IfOk result (λ kept. is_some kept ≡ is_some disk) }
+    ensures begins { IfOk result (λ kept. BeginsWith (option_map D.log disk) plan.now (slips_of kept)) }
+    ensures some { IfOk result (λ kept. is_some kept ≡ is_some (option_map D.log disk)) }
     ensures ready { IfOk result (λ kept. IfSome kept (λ k. IsReady plan.now k.0)) }
     ensures count { IfOk result (λ kept. IfSome kept (λ k. k.0.count ≡ length k.1.items)) }
-    ensures read { IfOk result (λ kept. IfSome kept (λ k. D.is_honest k.0.disk →
-        reading plan.now (D.state k.0.disk).bytes ≡ Ok k.1.items)) }
-    ensures err { IfErr result (λ e. IsNotOpened (study_task D.is_honest D.state disk) plan.now e) }
+    ensures read { IfOk result (λ kept. IfSome kept (λ k. IsKnown (D.log k.0.disk) →
+        reading plan.now (on (D.log k.0.disk)).bytes ≡ Ok k.1.items)) }
+    ensures err { IfErr result (λ e. IsNotOpened (study_task (option_map D.log disk)) plan.now e) }
 {
     let Some(disk) = disk else {
         return Ok(None);

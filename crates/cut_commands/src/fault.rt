@@ -4,6 +4,7 @@ ghost use Rattle.cut_commands.specs.Faults.{code_of, name_of, number_of, status_
 
 use arrayvec::ArrayString;
 use cut_faults::{FaultCode, status_of_number};
+use cut_files::OpenFault;
 use cut_journal::JournalFault;
 use cut_messages::AskFault;
 use cut_migration::MigrateFault;
@@ -235,6 +236,20 @@ impl From<RunFault> for CliFault {
     }
 }
 
+impl From<OpenFault> for CliFault {
+    ghost use Rattle.std.specs.Prelude.{◌≡◌};
+    ghost use Rattle.cut_commands.specs.Faults.{fault_of_files};
+
+    ghost from_gives = { λ fault e. e ≡ fault_of_files fault };
+
+    fn from(fault: OpenFault) -> CliFault {
+        match fault {
+            OpenFault::Memory => CliFault::Memory,
+            OpenFault::Disk => CliFault::Journal(JournalFault::Disk),
+        }
+    }
+}
+
 impl From<StatusFault> for CliFault {
     ghost use Rattle.std.specs.Prelude.{◌≡◌};
     ghost use Rattle.cut_commands.specs.Faults.{fault_of_status};
@@ -244,7 +259,6 @@ impl From<StatusFault> for CliFault {
     fn from(fault: StatusFault) -> CliFault {
         match fault {
             StatusFault::Memory => CliFault::Memory,
-            StatusFault::Disk => CliFault::Journal(JournalFault::Disk),
             StatusFault::NoStudy => CliFault::Journal(JournalFault::NoStudy),
             StatusFault::Damaged(number) => CliFault::Journal(JournalFault::Damaged(number)),
             StatusFault::BadSlip(number) => CliFault::BadSlip(number),

@@ -1,9 +1,9 @@
 //! The program's commands over wires: a plan is read, and what answers it is written.
 //!
-//! [`run_io`] runs a study and writes its table, over any disk or over none, [`run_file`] over a file. Of a plan
+//! [`run_io`] runs a study and writes its table, over any disk or over none, [`run`] over a file. Of a plan
 //! [`check_io`] writes what it has, [`explain_io`] what is right or wrong with its text, and [`canonical_io`] its
-//! canonical text. [`status_io`] and [`status_file`] write what a checkpoint holds, [`migrate_io`] and
-//! [`migrate_files`] move a study of version 1 to its plan's upgrade, and [`ask_io`] asks a server for a table,
+//! canonical text. [`status`] writes what a checkpoint file holds, [`migrate`]
+//! moves a study of version 1 to its plan's upgrade, and [`ask_io`] asks a server for a table,
 //! [`ask_at`] one at a socket. Each ends with its answer or with a [`CliFault`], whose line and status are those that
 //! the program ends with.
 //!
@@ -18,10 +18,10 @@ mod checkpoint;
 mod explain;
 mod fault;
 mod input;
-mod migrate;
+mod migrate_command;
 mod output;
-mod run;
-mod status;
+mod run_command;
+mod status_command;
 
 pub use ask::{ask_at, ask_io};
 pub use canonical::canonical_io;
@@ -29,7 +29,7 @@ pub use check::check_io;
 pub use explain::explain_io;
 pub use fault::{CliFault, FaultText};
 pub use input::read_plan;
-pub use migrate::{migrate_files, migrate_io};
+pub use migrate_command::{migrate, migrate_io};
 pub use output::write_answer;
-pub use run::{Work, run_file, run_io};
-pub use status::{status_file, status_io};
+pub use run_command::{KeptWork, Work, run, run_io};
+pub use status_command::status;

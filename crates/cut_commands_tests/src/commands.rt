@@ -4,6 +4,7 @@ mod asking;
 mod checkpoints;
 mod crews;
 mod devices;
+mod kept_files;
 mod migrating;
 mod refusals;
 

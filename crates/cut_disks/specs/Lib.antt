@@ -1,4 +1,5 @@
 pub mod State
+pub mod Log
 pub mod Memory
 pub mod Faulty
 pub mod OnFile

@@ -1,6 +1,7 @@
-ghost use Rattle.std.specs.Prelude.{ℕ, ◌≡◌, ◌+◌, ◌<◌, ◌≤◌, ◌^◌, ◌↔◌, length, slice_range, IfOk, OnOk};
+ghost use Rattle.std.specs.Prelude.{◌≡◌, ◌+◌, ◌<◌, ◌≤◌, ◌^◌, length, IfOk, OnOk};
 ghost use Rattle.cut_faults.specs.Failures.{counted};
-ghost use Rattle.cut_disks.specs.State.{DiskState, IsImage, WritesDisk, Syncs};
+ghost use Rattle.cut_disks.specs.State.{WritesDisk, Syncs};
+ghost use Rattle.cut_disks.specs.Log.{DiskLog, Goes, Knows, Measures, ReadsDisk};
 
 use thiserror::Error;
 
@@ -11,67 +12,45 @@ pub struct DiskFault;
 
 /// A device of bytes that are read and written at places, which counts its calls that fail.
 ///
-/// Of an honest disk it is known what its calls did, and what a crash may leave at each moment. A disk in
-/// memory is honest. Of a real file that is a premise, and no clause says it. So each condition and each
-/// promise on bytes is one on honest disks.
+/// Contracts see its log: what is on it, where that is known, and how many of its calls failed. Each call is one relation
+/// between two logs. What a call did, and what a crash may leave at each moment, is known of a disk in memory. Of a real
+/// file that is a premise, and no clause says it.
 ///
 /// A call that fails counts once, and one that does not leaves the count; at 2^64 - 1 it stays.
 pub trait Disk {
-    /// What is on the disk, where it is honest.
-    ghost state: { Self → DiskState };
-
-    /// Whether the disk does what its calls say, and a crash leaves an image.
-    ghost is_honest: { Self → Type 0 };
-
-    /// How many of its calls failed.
-    ghost faults: { Self → ℕ };
+    /// What is known of the disk.
+    ghost log: { Self → DiskLog };
 
     /// How many bytes there are.
     fn length(&mut self) -> Result<u64, DiskFault>
         ensures bound { IfOk result (λ n. n < 2 ^ 63) }
-        ensures reported { is_honest self.old → IfOk result (λ n. n ≡ length (state self.old).bytes) }
-        ensures same { is_honest self.old → state self.new ≡ state self.old }
-        ensures honest { is_honest self.old ↔ is_honest self.new }
-        ensures faults { faults self.new ≡ counted result (faults self.old) };
+        ensures measures { Goes (counted result) (Measures result) (log self.old) (log self.new) };
 
     /// Reads bytes from a place on, as many as fit. They have to be there. What reads give is one of the
     /// contents that a crash could leave now.
     fn read(&mut self, at: u64, into: &mut [u8]) -> Result<(), DiskFault>
-        requires { is_honest self.old → at + length into.old ≤ length (state self.old).bytes }
-        ensures reported { is_honest self.old →
-            OnOk result (into.new ≡ slice_range (state self.old).bytes at (at + length into.old)) }
-        ensures image { is_honest self.old → IsImage (state self.old).stable (state self.old).bytes }
-        ensures same { is_honest self.old → state self.new ≡ state self.old }
-        ensures honest { is_honest self.old ↔ is_honest self.new }
-        ensures faults { faults self.new ≡ counted result (faults self.old) };
+        requires { Knows (log self.old) (λ d. at + length into.old ≤ length d.bytes) }
+        ensures reads { Goes (counted result) (ReadsDisk result at into.old into.new) (log self.old) (log self.new) };
 
     /// Writes bytes from a place on, which is at most the length. Where they go past the end, the disk gets
     /// longer; a write that would make it 2^63 bytes long fails.
     fn write_at(&mut self, at: u64, put: &[u8]) -> Result<(), DiskFault>
-        requires { is_honest self.old → at ≤ length (state self.old).bytes }
-        ensures written { is_honest self.old → WritesDisk result at put.now (state self.old) (state self.new) }
+        requires { Knows (log self.old) (λ d. at ≤ length d.bytes) }
         ensures bound { OnOk result (at + length put.now < 2 ^ 63) }
-        ensures honest { is_honest self.old ↔ is_honest self.new }
-        ensures faults { faults self.new ≡ counted result (faults self.old) };
+        ensures writes { Goes (counted result) (WritesDisk result at put.now) (log self.old) (log self.new) };
 
     /// Makes what was written durable, whatever crash may come.
     fn sync(&mut self) -> Result<(), DiskFault>
-        ensures durable { is_honest self.old → Syncs result (state self.old) (state self.new) }
-        ensures honest { is_honest self.old ↔ is_honest self.new }
-        ensures faults { faults self.new ≡ counted result (faults self.old) };
+        ensures syncs { Goes (counted result) (Syncs result) (log self.old) (log self.new) };
 
     /// How many of its calls failed.
     fn failures(&self) -> u64
-        ensures { result ≡ faults self.now };
+        ensures { result ≡ (log self.now).failed };
 }
 
 /// A disk that is borrowed is one.
 impl<D: Disk> Disk for &mut D {
-    ghost state = { λ d. D.state d.now };
-
-    ghost is_honest = { λ d. D.is_honest d.now };
-
-    ghost faults = { λ d. D.faults d.now };
+    ghost log = { λ d. D.log d.now };
 
     fn length(&mut self) -> Result<u64, DiskFault> {
         (**self).length()

@@ -108,13 +108,9 @@ impl FaultyDisk {
 }
 
 impl Disk for FaultyDisk {
-    ghost use Rattle.std.specs.Prelude.{⊤};
+    ghost use Rattle.std.specs.Prelude.{Some};
 
-    ghost state = { λ d. state_of d.memory };
-
-    ghost is_honest = { λ _. ⊤ };
-
-    ghost faults = { λ d. d.memory.failures };
+    ghost log = { λ d. record { state = Some (state_of d.memory); failed = d.memory.failures } };
 
     fn length(&mut self) -> Result<u64, DiskFault>
         ensures bound { IfOk result (λ n. n < 2 ^ 63) }

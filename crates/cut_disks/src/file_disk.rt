@@ -79,14 +79,9 @@ fn count_failure<T>(failures: &mut Failures, outcome: io::Result<T>) -> Result<T
 }
 
 impl<F: RawFile> Disk for FileDisk<F> {
-    ghost use Rattle.cut_disks.specs.State.{fresh};
-    ghost use Rattle.std.specs.Prelude.{[]};
+    ghost use Rattle.std.specs.Prelude.{None};
 
-    ghost state = { λ _. fresh [] };
-
-    ghost is_honest = { λ _. ⊥ };
-
-    ghost faults = { λ d. d.failures };
+    ghost log = { λ d. record { state = None; failed = d.failures } };
 
     fn length(&mut self) -> Result<u64, DiskFault>
         ensures called { IfOk result (λ n. F.length_reported self.old.raw n self.new.raw) }

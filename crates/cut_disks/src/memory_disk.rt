@@ -112,13 +112,9 @@ impl MemoryDisk {
 }
 
 impl Disk for MemoryDisk {
-    ghost use Rattle.std.specs.Prelude.{⊤};
+    ghost use Rattle.std.specs.Prelude.{Some};
 
-    ghost state = { state_of };
-
-    ghost is_honest = { λ _. ⊤ };
-
-    ghost faults = { λ d. d.failures };
+    ghost log = { λ d. record { state = Some (state_of d); failed = d.failures } };
 
     fn length(&mut self) -> Result<u64, DiskFault>
         ensures reported { IfOk result (λ n. n ≡ length (state_of self.old).bytes) }

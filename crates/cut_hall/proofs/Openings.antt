@@ -3,7 +3,7 @@ use Rattle.std.proofs.Common.{◌≡◌, List, [], ◌∷◌, ◌++◌, All, Opt
 use Rattle.std.specs.Prelude.{IfSome}
 use Rattle.std.proofs.lemmas.List.Elements.{All-nil, All-push}
 use Rattle.cut_book.specs.History.{Opening}
-use Rattle.cut_hall.specs.Report.{SlotEnd, opening_recorded, AreOpenedWith}
+use Rattle.cut_slots.specs.Report.{SlotEnd, opening_recorded, AreOpenedWith}
 
 pub none_opened : (opening : Option Opening) (slots : List SlotEnd) → slots ≡ [] → AreOpenedWith opening slots
 none_opened None slots none = tt

@@ -1,10 +1,10 @@
 -- How a hall is closed.
 use Rattle.std.specs.Prelude.{◌≡◌, ◌<◌, ◌≤◌, List, length}
-use Rattle.cut_hall.specs.declared.not_closed.NotClosed.{NotClosed}
-use Rattle.cut_hall.specs.declared.not_closed.NotClosed.TheVariants.{Memory, AuditMismatch, SeatMissing}
+use Rattle.cut_slots.specs.declared.not_closed.NotClosed.{NotClosed}
+use Rattle.cut_slots.specs.declared.not_closed.NotClosed.TheVariants.{Memory, AuditMismatch, SeatMissing}
 use Rattle.cut_hall.specs.Hall.{HallValue}
-use Rattle.cut_hall.specs.Pass.{Holding}
-use Rattle.cut_hall.specs.Report.{AcceptedOther, AreOpenedWith, calls_in_all, made_in_all, counted_in_all}
+use Rattle.cut_slots.specs.Pass.{Holding}
+use Rattle.cut_slots.specs.Report.{AcceptedOther, AreOpenedWith, calls_in_all, made_in_all, counted_in_all}
 
 -- why a hall was not closed, to which these passes were brought: some are missing, and what was brought comes back;
 -- or of the study of one of its slots the passes counted another number than its history accepted, by the report of

@@ -2,7 +2,7 @@
 use Rattle.std.specs.Prelude.{ℕ, ◌+◌, Bool, Option}
 use Rattle.atomic_table.specs.Seated.{TableId}
 use Rattle.cut_book.specs.History.{Opening}
-use Rattle.cut_hall.specs.Pass.{Holding}
+use Rattle.cut_slots.specs.Pass.{Holding}
 
 -- which hall it is, by its board; how many slots it has, and how many passes; whether the slips that its
 -- studies begin with are those that their trials give; and with what its study was opened, if it was made with one

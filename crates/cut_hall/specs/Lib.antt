@@ -1,9 +1,3 @@
-pub mod Faults
-pub mod Lines
-pub mod Pass
-pub mod Slot
-pub mod Report
+pub mod Rows
 pub mod Closing
 pub mod Hall
-pub mod Trust
-pub mod inside

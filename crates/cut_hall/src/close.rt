@@ -1,25 +1,15 @@
-ghost use Rattle.std.specs.Prelude.{ℕ, ◌≡◌, ◌≢◌, ◌<◌, ◌≤◌, true, false, Some, length, vec_len, slice_get, All, IfOk, IfSome};
+ghost use Rattle.std.specs.Prelude.{◌≡◌, ◌<◌, Some, length, vec_len, All, IfOk, IfSome};
 ghost use Rattle.std.specs.Prelude.{IfErr, OnOk};
-ghost use Rattle.cut_board.specs.Names.{board_id, board_of};
-ghost use Rattle.cut_board.specs.declared.totals.StudyTotals.{StudyTotals};
-ghost use Rattle.cut_hall.specs.Report.{SlotEnd, calls_recorded, calls_in_all, made_in_all, accepted_recorded};
-ghost use Rattle.cut_hall.specs.Report.{IsAudited, AreOpenedWith, opening_recorded};
+ghost use Rattle.cut_slots.specs.Report.{calls_recorded, calls_in_all, made_in_all};
+ghost use Rattle.cut_slots.specs.Report.{IsAudited, AreOpenedWith, opening_recorded};
 ghost use Rattle.cut_hall.specs.Closing.{IsNotClosed};
-ghost use Rattle.cut_hall.specs.inside.Closing.{IsTakenApart};
 
 use crate::hall::LockedSlot;
-use crate::{CallLedger, Hall, Mismatch, NotClosed, Pass, Report, SlotReport};
-use cut_board::{Board, BoardTotals, Seat};
+use crate::{CallLedger, Hall, NotClosed, Pass, Report, SlotReport};
 use cut_disks::Disk;
+use cut_slots::{Parts, audit, lacks_passes, take_apart};
 use std::alloc::{AllocError, Global};
 use std::sync::ledger::Share;
-
-/// The seats of passes, and the share of the calls that all of them made.
-#[derive(Drop)]
-struct Parts<M: CallLedger> {
-    seats: Vec<Seat>,
-    made: Share<M>,
-}
 
 /// What became of the slots, and the share of the calls that all of them had.
 #[derive(Drop)]
@@ -80,40 +70,6 @@ impl<D: Disk + Drop, M: CallLedger, K: CallLedger> Hall<D, M, K> {
     }
 }
 
-/// Whether these are fewer passes than were given.
-fn lacks_passes<M: CallLedger>(passes: &Vec<Pass<M>>, given: u32) -> bool
-    ensures fewer { result ≡ true → length passes.now.items < given }
-    ensures all { result ≡ false → given ≤ length passes.now.items }
-{
-    passes.len() < given as usize
-}
-
-/// Takes a board's passes apart.
-fn take_apart<M: CallLedger>(
-    alloc: Global,
-    board: &Board,
-    mut passes: Vec<Pass<M>>,
-) -> Result<Parts<M>, AllocError>
-    requires some { 0 < length passes.items }
-    requires own { All (λ p. p.hall ≡ board_id board.now) passes.items }
-    ensures own { IfOk result (λ parts. All (λ s. board_of s ≡ board_id board.now) parts.seats.items) }
-    ensures parts { IfOk result (λ parts.
-        IsTakenApart passes.items parts.seats.items parts.made.parts parts.made.amount) }
-{
-    let Some(first) = passes.pop() else {
-        unreachable!()
-    };
-    let Pass { seat, mut made } = first;
-    let mut seats = Vec::new(alloc);
-    seats.push(seat)?;
-    while let Some(pass) = passes.pop() {
-        let Pass { seat, made: more } = pass;
-        seats.push(seat)?;
-        made.merge(more);
-    }
-    Ok(Parts { seats, made })
-}
-
 /// Ends all slots, in order.
 fn end_all<D: Disk + Drop, K: CallLedger>(
     alloc: Global,
@@ -146,39 +102,4 @@ impl<D: Disk + Drop, K: CallLedger> LockedSlot<D, K> {
         let LockedSlot { slot, .. } = self;
         slot.into_inner().end()
     }
-}
-
-/// Compares what was counted of each study with what its history accepted.
-fn audit(totals: &BoardTotals, slots: Vec<SlotReport>) -> Result<Report, Mismatch>
-    requires counted { length slots.items ≤ length totals.now }
-    requires few { length totals.now ≤ 64 }
-    ensures same { IfOk result (λ report. report ≡ slots.items) }
-    ensures audited { OnOk result ((study : ℕ) (s : SlotEnd) (t : StudyTotals)
-        → slice_get slots.items study ≡ Some s → slice_get totals.now study ≡ Some t
-        → t.count ≡ accepted_recorded s.history) }
-    ensures report { IfErr result (λ m. m.report ≡ slots.items) }
-    ensures within { IfErr result (λ m. m.study < length slots.items) }
-    ensures differs { IfErr result (λ m. (t : StudyTotals)
-        → slice_get totals.now m.study ≡ Some t → t.count ≡ m.counted) }
-{
-    for study in 0..slots.len() {
-        let counted = totals.as_slice()[study].count;
-        if !agrees(counted, &slots[study]) {
-            let report = Report::from_vec(slots);
-            return Err(Mismatch {
-                study: study as u32,
-                counted,
-                report,
-            });
-        }
-    }
-    Ok(Report::from_vec(slots))
-}
-
-/// Whether a slot accepted as many trials as were counted.
-fn agrees(counted: u64, slot: &SlotReport) -> bool
-    ensures yes { result ≡ true → counted ≡ accepted_recorded slot.now.history }
-    ensures no { result ≡ false → counted ≢ accepted_recorded slot.now.history }
-{
-    counted == slot.accepted()
 }

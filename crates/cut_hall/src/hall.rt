@@ -2,24 +2,24 @@ ghost use Rattle.std.specs.Prelude.{true, false, Some, None, ◌≡◌, ◌+◌,
 ghost use Rattle.std.specs.Prelude.{IfErr};
 ghost use Rattle.cut_lines.specs.declared.line.TheConstants.{LONGEST_LINE};
 ghost use Rattle.cut_plan.specs.Cells.{cells_of};
-ghost use Rattle.cut_board.specs.Names.{board_id, board_of, view_of};
 ghost use Rattle.cut_board.specs.Views.{idle, read, seen_in};
 ghost use Rattle.cut_board.specs.Refusals.{IsRefusedBy, read_refusal};
 ghost use Rattle.cut_hall.specs.Hall.{made_more};
-ghost use Rattle.cut_hall.specs.Lines.{full_line};
+ghost use Rattle.cut_slots.specs.Lines.{full_line};
 ghost use Rattle.cut_book.specs.Book.{IsFresh, opening_of};
-ghost use Rattle.cut_hall.specs.Slot.{CanNotBegin, CanNotGiveAgain, rows_of};
-ghost use Rattle.cut_hall.specs.Trust.{MayBegin};
+ghost use Rattle.cut_hall.specs.Rows.{CanNotGiveAgain, rows_of};
+ghost use Rattle.cut_slots.specs.Slot.{CanNotBegin};
+ghost use Rattle.cut_slots.specs.Trust.{MayBegin};
 ghost use Rattle.cut_ledger.specs.Slips.{AreGood};
 
-use crate::accounts::{Accounts, are_full};
-use crate::slot::{Asked, Match, Slot};
+use crate::locked_accounts::LockedAccounts;
 use crate::work::SharedInput;
 use crate::{Blanks, CallLedger, NextRowFault, Pass};
-use cut_board::{Board, Seat, SeatFault};
+use cut_board::{Board, SeatFault};
 use cut_book::{Book, Opened, Shelf, SubmitFault};
 use cut_disks::Disk;
 use cut_plan::Plan;
+use cut_slots::{Accounts, Asked, CallCounter, Match, Slot, deal};
 use std::alloc::{AllocError, Global};
 use std::marker::Model;
 use std::sync::ledger::Share;
@@ -263,17 +263,26 @@ impl<D: Disk + Drop, M: CallLedger, K: CallLedger> Hall<D, M, K> {
     {
         let cell = asked.cell;
         let place = &self.places[asked.opened.study as usize];
+        let counter = self.counter(rt);
         let mut slot = place.slot.lock(rt);
         for _ in rt.forever() {
-            let found = slot.line(rt, alloc, &self.accounts, made, asked);
+            let found = slot.line(alloc, &counter, made, asked);
             if let Some(found) = found.transpose() {
                 return found;
             }
             slot = place.changed.wait_while(rt, slot, |slot| {
-                !are_full(rt, &self.accounts) && slot.is_pending(cell)
+                !counter.is_full() && slot.is_pending(cell)
             });
         }
         unreachable!()
+    }
+
+    /// Where a slot's calls are counted: in the hall's accounts, under their lock.
+    pub(crate) fn counter<'a, R: Wait>(&'a self, rt: &'a R) -> LockedAccounts<'a, M, K, R> {
+        LockedAccounts {
+            rt,
+            accounts: &self.accounts,
+        }
     }
 
     /// How many trials of a study the passes counted: at least as many as this pass saw before.
@@ -325,26 +334,4 @@ fn places_of<D: Disk + Drop, K: CallLedger>(
         places.push_reserved(LockedSlot::new(slot));
     }
     Ok(places)
-}
-
-/// The passes, each a seat with a part of the ledger of made calls.
-fn deal<M: CallLedger>(
-    alloc: Global,
-    board: &Board,
-    mut seats: Vec<Seat>,
-    mut rest: Share<M>,
-) -> Result<Vec<Pass<M>>, AllocError>
-    requires own { All (λ s. board_of s ≡ board_id board.now) seats.items }
-    requires idle { All (λ s. view_of s ≡ idle 1) seats.items }
-    requires rest { (rest.parts ≡ length seats.items) × (rest.amount ≡ 0) }
-    ensures many { IfOk result (λ passes. length passes.items ≡ length seats.items) }
-    ensures own { IfOk result (λ passes. All (λ p. p.hall ≡ board_id board.now) passes.items) }
-    ensures idle { IfOk result (λ passes. All (λ p. (p.view ≡ idle 1) × (p.made ≡ 0)) passes.items) }
-{
-    let mut passes = Vec::new(alloc);
-    while let Some(seat) = seats.pop() {
-        let made = rest.split_off(1, 0);
-        passes.push(Pass { seat, made })?;
-    }
-    Ok(passes)
 }

@@ -1,18 +1,15 @@
-ghost use Rattle.std.specs.Prelude.{◌≡◌, ◌+◌, ◌<◌, ◌≤◌, Option, MatchOption, IfOk, IfSome, if◌then◌else◌};
-ghost use Rattle.cut_board.specs.Names.{board_id, board_of, studies_of, view_of};
-ghost use Rattle.cut_hall.specs.inside.Slot.{losses_of};
-ghost use Rattle.cut_hall.specs.inside.Work.{next_after, DrawsPiece, CountsTrials, CountsAccepted};
+ghost use Rattle.std.specs.Prelude.{◌≡◌, ◌+◌, ◌<◌, ◌≤◌, IfOk, IfSome, if◌then◌else◌};
+ghost use Rattle.cut_slots.specs.Slot.{losses_of};
+ghost use Rattle.cut_slots.specs.Turn.{CountsAccepted};
 ghost use Rattle.cut_outcome.specs.Outcome.{rings_of};
 
 use crate::hall::LockedSlot;
-use crate::slot::{CallFault, Slot};
 use crate::{CallLedger, Gate, Hall, Pass};
-use cut_board::{Board, Seat};
-use cut_book::BookFault;
 use cut_disks::Disk;
 use cut_outcome::{Piece, PieceResult};
 use cut_plan::Plan;
 use cut_rings::Rings;
+use cut_slots::{CallFault, Drawn, Next, draw_in, next_after, twice};
 use cut_trial::run_piece;
 use std::alloc::Global;
 use std::sync::{Mutex, OnceLock, Wait};
@@ -39,25 +36,6 @@ pub(crate) struct StudyInput {
 pub(crate) struct SharedInput {
     input: OnceLock<StudyInput>,
     making: Mutex<bool>,
-}
-
-/// How a worker goes on after a turn.
-#[derive(Clone, Copy)]
-pub(crate) enum Next {
-    /// With the next piece of the study.
-    Piece,
-    /// With another study, since this one's pieces are all drawn.
-    Study,
-    /// Not at all.
-    Nothing,
-}
-
-/// A piece that was drawn: the number of its study, its own, and what it is.
-#[derive(Clone, Copy)]
-pub(crate) struct Drawn {
-    study: u32,
-    number: u64,
-    piece: Piece,
 }
 
 impl StudyInput {
@@ -260,11 +238,7 @@ impl<D: Disk + Drop, M: CallLedger, K: CallLedger> Hall<D, M, K> {
     {
         let place = &self.places[drawn.study as usize];
         let mut slot = place.slot.lock(rt);
-        let Pass { seat, made } = pass;
-        let handed = slot.take_drawn(rt, &self.accounts, made, drawn.number, offered);
-        if handed.is_ok() {
-            count_trials(&self.board, seat, drawn);
-        }
+        let handed = slot.take_and_count(&self.counter(rt), &self.board, pass, drawn, offered);
         place.changed.notify_all();
         handed
     }
@@ -299,7 +273,7 @@ impl<D: Disk + Drop, M: CallLedger, K: CallLedger> Hall<D, M, K> {
         let noted = place
             .slot
             .lock(rt)
-            .lose(rt, &self.accounts, &mut pass.made, piece);
+            .lose(&self.counter(rt), &mut pass.made, piece);
         place.changed.notify_all();
         noted
     }
@@ -322,74 +296,5 @@ impl<D: Disk + Drop, M: CallLedger, K: CallLedger> Hall<D, M, K> {
                 .changed
                 .wait_while(rt, place.slot.lock(rt), |slot| !slot.is_stopped());
         }
-    }
-}
-
-/// Draws the next piece of the study that a slot has. Nothing is drawn where it has none yet, so that the study which
-/// comes later has all its pieces, nor where its work was ended.
-fn draw_in<D: Disk + Drop, K: CallLedger>(
-    slot: &Slot<D, K>,
-    board: &Board,
-    seat: &mut Seat,
-    study: u32,
-) -> Result<Drawn, Next>
-    requires { board_of seat.old ≡ board_id board.now }
-    ensures own { board_of seat.new ≡ board_of seat.old }
-    ensures draws { DrawsPiece result (studies_of board.now) study slot.now.book slot.now.stopped
-        (view_of seat.old) (view_of seat.new) }
-{
-    if slot.is_stopped() {
-        return Err(Next::Nothing);
-    }
-    if slot.is_idle() {
-        return Err(Next::Study);
-    }
-    let Ok(number) = board.draw(seat, study) else {
-        return Err(Next::Nothing);
-    };
-    match slot.piece(number) {
-        Some(piece) => Ok(Drawn {
-            study,
-            number,
-            piece,
-        }),
-        None => Err(Next::Study),
-    }
-}
-
-/// Counts the trials of a piece on the board, unless its seat may count no more.
-fn count_trials(board: &Board, seat: &mut Seat, drawn: Drawn)
-    requires { board_of seat.old ≡ board_id board.now }
-    ensures own { board_of seat.new ≡ board_of seat.old }
-    ensures counts { CountsTrials (studies_of board.now) drawn.study drawn.piece.count
-        (view_of seat.old) (view_of seat.new) }
-{
-    let trials = u64::from(drawn.piece.count);
-    let _ = board.count(seat, drawn.study, trials);
-}
-
-/// How a worker goes on after a call of a study's book: only where no further call can be counted it ends, and a study
-/// whose disk has failed takes no more, so it leaves that one.
-pub(crate) fn next_after(outcome: Result<(), CallFault>) -> Next
-    ensures { result ≡ next_after outcome }
-{
-    match outcome {
-        Err(CallFault::Full) => Next::Nothing,
-        Err(CallFault::Refused(BookFault::Checkpoint)) => Next::Study,
-        _ => Next::Piece,
-    }
-}
-
-/// What an attempt gives, or where it gives nothing, what a second one does.
-fn twice<T, F: FnMut() -> Option<T>>(attempt: &mut F) -> Option<T>
-    requires first { F.pre attempt.old }
-    requires second { (given : Option T) (between : F) → F.step attempt.old given between → F.pre between }
-    ensures { (given : Option T) × ((between : F) × (F.step attempt.old given between
-        × MatchOption given (F.step between result attempt.new)
-        (λ value. (result ≡ given) × (attempt.new ≡ between)))) }
-{
-    match attempt() {
-        Some(value) => Some(value),
-        None => attempt(),
     }
 }

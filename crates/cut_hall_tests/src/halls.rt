@@ -1,7 +1,7 @@
 //! Halls in which one thread does what a script says: studies that are worked off, slots that have none yet, and lines
 //! that are asked for by what another hall opened.
 ghost use Rattle.std.specs.Prelude.{◌≡◌, ◌<◌, ◌≤◌, false, None, Err, IfSome};
-ghost use Rattle.cut_hall.specs.declared.not_closed.NotClosed.TheVariants.{SeatMissing};
+ghost use Rattle.cut_slots.specs.declared.not_closed.NotClosed.TheVariants.{SeatMissing};
 
 use crate::deeds::{Deed, End, Foul, Guest, Stormy, closed};
 use cut_book::{NoShelf, Opened};

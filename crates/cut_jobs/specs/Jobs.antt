@@ -4,15 +4,16 @@ use Rattle.std.specs.Prelude.{Result, ⊤}
 use Rattle.std.specs.Fmt.{decimal}
 use Rattle.cut_wires.specs.Log.{WireLog}
 use Rattle.cut_progress.specs.Printed.{HasPrinted}
+use Rattle.cut_files.specs.Place.{Unknown}
 use Rattle.cut_machines.specs.JoinCommand.{NamesRefusedFile, join_files_task}
 use Rattle.cut_share.specs.declared.share.Share as share
-use Rattle.cut_machines.specs.Share.{share_file_task}
+use Rattle.cut_machines.specs.Share.{EndsShare}
 use Rattle.cut_commands.specs.Ask.{EndsAsk}
-use Rattle.cut_commands.specs.Migrate.{files_task}
+use Rattle.cut_commands.specs.Migrate.{EndsMigrate}
 use Rattle.cut_commands.specs.Explain.{Explains}
 use Rattle.cut_commands.specs.Run.{EndsCommand, EndsWith, EndsWithFile, canonical_task, check_task}
 use Rattle.cut_commands.specs.Status.{EndsStatus}
-use Rattle.cut_commands.specs.Study.{file_task, plain_task}
+use Rattle.cut_commands.specs.Study.{EndsStudy, plain_task}
 use Rattle.cut_server.specs.Serve.{EndsServing}
 use Rattle.cut_command_line.specs.declared.line.Job.{Job}
 use Rattle.cut_command_line.specs.declared.line.Job.TheVariants.{Run, Check, Explain, Canonical, Status, Serve}
@@ -24,17 +25,17 @@ use Rattle.cut_jobs.specs.Sending.{IsSent}
 -- how a job ends
 abbrev pub EndsJob : Job → WireLog → WireLog → Result ⊤ CliFault → Type 0
 EndsJob (Run piece workers None progress) old new result = EndsCommand plain_task old new result
-EndsJob (Run piece workers (Some file) progress) old new result = EndsWithFile file_task old new result
+EndsJob (Run piece workers (Some file) progress) old new result = EndsStudy Unknown Unknown old new result
 EndsJob Check old new result = EndsCommand check_task old new result
 EndsJob Explain old new result = EndsWith Explains old new result
 EndsJob Canonical old new result = EndsCommand canonical_task old new result
-EndsJob (Status file) old new result = EndsStatus old new result
+EndsJob (Status file) old new result = EndsStatus Unknown old new result
 EndsJob (Serve socket workers sessions studies folder) old new result = EndsServing studies result old new
 EndsJob (Ask socket) old new result = EndsAsk old new result
-EndsJob (Migrate from to) old new result = EndsWithFile files_task old new result
+EndsJob (Migrate from to) old new result = EndsMigrate from.now to.now (λ _. Unknown) old new result
 EndsJob (Share index shares file piece workers progress) old new result =
     (s : share.Share) × (s.index ≡ index) × (s.shares ≡ shares) × (s.block_size ≡ piece)
-    × EndsWithFile (share_file_task result s) old new result
+    × EndsShare result s Unknown Unknown old new
 EndsJob (Join to from which) old new result = EndsWithFile join_files_task old new result
 
 -- the line that says which file is refused, by its place and its path, which is quoted, so that it can't end the line

@@ -6,9 +6,8 @@ use crate::run_job::{RunJob, WorkersJob};
 use crate::share_job::ShareJob;
 use crate::study_job::StudyJob;
 use cut_command_line::Job;
-use cut_commands::{
-    CliFault, ask_at, canonical_io, check_io, explain_io, migrate_files, status_file,
-};
+use cut_commands::{CliFault, ask_at, canonical_io, check_io, explain_io, migrate, status};
+use cut_files::SystemFiles;
 use cut_server::{Capacity, serve_at};
 use cut_share::Share;
 use cut_wires::Wire;
@@ -78,7 +77,7 @@ where
         Job::Check => check_io(host.alloc(), wire),
         Job::Explain => explain_io(host.alloc(), host, wire),
         Job::Canonical => canonical_io(host.alloc(), wire),
-        Job::Status { file } => status_file(host, wire, file),
+        Job::Status { file } => status(&SystemFiles::of(host), host.alloc(), wire, file),
         Job::Serve {
             socket,
             workers,
@@ -97,6 +96,8 @@ where
             }
         }
         Job::Ask { socket } => ask_at(host, wire, socket),
-        Job::Migrate { old, new } => migrate_files(host, wire, old, new),
+        Job::Migrate { old, new } => {
+            migrate(&mut SystemFiles::of(host), host.alloc(), wire, old, new)
+        }
     }
 }

@@ -1,11 +1,12 @@
 //! A share of a study that is run.
 ghost use Rattle.std.specs.Prelude.{◌≤◌};
-ghost use Rattle.cut_commands.specs.Run.{EndsWithFile};
-ghost use Rattle.cut_machines.specs.Share.{share_file_task};
+ghost use Rattle.cut_files.specs.Place.{Unknown};
+ghost use Rattle.cut_machines.specs.Share.{EndsShare};
 
 use cut_commands::CliFault;
+use cut_files::SystemFiles;
 use cut_hall::Gate;
-use cut_machines::{ShareWork, share_file};
+use cut_machines::{ShareWork, share};
 use cut_share::Share;
 use cut_wires::Wire;
 use std::sync::Wait;
@@ -33,13 +34,14 @@ impl ShareJob<'_> {
         W: Wire,
         G: Gate + Sync,
         R: Threads + Wait + Sync,
-        ensures { EndsWithFile (share_file_task result self.now.share) (W.log wire.old) (W.log wire.new) result }
+        ensures { EndsShare result self.now.share Unknown Unknown (W.log wire.old) (W.log wire.new) }
     {
         let work = ShareWork {
             share: self.share,
             workers: self.workers,
             gate,
+            file: self.file,
         };
-        share_file(host, rt, wire, work, self.file)
+        share(&mut SystemFiles::of(host), rt, host.alloc(), wire, work)
     }
 }

@@ -1,9 +1,10 @@
 //! A study that is run.
-ghost use Rattle.std.specs.Prelude.{◌≤◌};
+ghost use Rattle.std.specs.Prelude.{◌≡◌, ◌≤◌};
 ghost use Rattle.cut_jobs.specs.inside.Runs.{EndsRun};
 
-use cut_commands::{CliFault, Work, run_file, run_io};
+use cut_commands::{CliFault, KeptWork, Work, run, run_io};
 use cut_disks::FileDisk;
+use cut_files::SystemFiles;
 use cut_hall::Gate;
 use cut_wires::Wire;
 use std::sync::Wait;
@@ -34,14 +35,27 @@ impl StudyJob<'_> {
         R: Threads + Wait + Sync,
         ensures { EndsRun self.now.checkpoint (W.log wire.old) (W.log wire.new) result }
     {
-        let work = Work {
+        match self.checkpoint {
+            None => run_io::<W, FileDisk, G, R>(rt, host.alloc(), wire, self.work(gate), None),
+            Some(file) => {
+                let kept = KeptWork {
+                    work: self.work(gate),
+                    file,
+                };
+                run(&mut SystemFiles::of(host), rt, host.alloc(), wire, kept)
+            }
+        }
+    }
+
+    /// How the study is worked on, by workers that pass a gate.
+    fn work<'g, G>(&self, gate: &'g G) -> Work<'g, G>
+    where
+        ensures { (result.piece_size ≡ self.now.piece) × (result.workers ≡ self.now.workers) × (result.gate ≡ gate.entry) }
+    {
+        Work {
             piece_size: self.piece,
             workers: self.workers,
             gate,
-        };
-        match self.checkpoint {
-            None => run_io::<W, FileDisk, G, R>(rt, host.alloc(), wire, work, None),
-            Some(path) => run_file(host, rt, wire, work, path),
         }
     }
 }

@@ -1,4 +1,5 @@
 ghost use Rattle.std.specs.Prelude.{◌≡◌, ◌+◌, ◌++◌, ◌↔◌, ℕ, All, take};
+ghost use Rattle.cut_disks.specs.Log.{IsKnown, is_known, on};
 ghost use Rattle.cut_plan.specs.Failing.{version_of};
 ghost use Rattle.cut_journal.specs.File.{HoldsAllTotals};
 ghost use Rattle.cut_journal.specs.Journal.{AppendsEach, kept_slips, taken};
@@ -30,16 +31,16 @@ pub fn join<D: Disk>(
     journal: &mut Journal<D>,
 ) -> Result<u64, JoinFault>
     ensures ends { EndsJoin result plan.now slips.now journal.old journal.new }
-    ensures moments { D.is_honest journal.old.disk → (n : ℕ) → journal.new.count ≡ journal.old.count + n →
-        AppendsEach journal.old.plan (kept_slips journal.old.plan journal.old.count (D.state journal.old.disk))
+    ensures moments { IsKnown (D.log journal.old.disk) → (n : ℕ) → journal.new.count ≡ journal.old.count + n →
+        AppendsEach journal.old.plan (kept_slips journal.old.plan journal.old.count (on (D.log journal.old.disk)))
         journal.new.doubtful (take n (joined plan.now slips.now))
-        (D.state journal.old.disk) (D.state journal.new.disk) }
-    ensures kept { D.is_honest journal.old.disk → (n : ℕ) → journal.new.count ≡ journal.old.count + n →
-        kept_slips journal.new.plan journal.new.count (D.state journal.new.disk)
-        ≡ kept_slips journal.old.plan journal.old.count (D.state journal.old.disk)
+        (on (D.log journal.old.disk)) (on (D.log journal.new.disk)) }
+    ensures kept { IsKnown (D.log journal.old.disk) → (n : ℕ) → journal.new.count ≡ journal.old.count + n →
+        kept_slips journal.new.plan journal.new.count (on (D.log journal.new.disk))
+        ≡ kept_slips journal.old.plan journal.old.count (on (D.log journal.old.disk))
         ++ take n (joined plan.now slips.now) }
-    ensures honest { D.is_honest journal.old.disk ↔ D.is_honest journal.new.disk }
-    ensures faults { D.faults journal.new.disk ≡ joining_faults result (D.faults journal.old.disk) }
+    ensures known { is_known (D.log journal.new.disk) ≡ is_known (D.log journal.old.disk) }
+    ensures faults { (D.log journal.new.disk).failed ≡ joining_faults result (D.log journal.old.disk).failed }
 {
     journal.stays_readable();
     let joined = joined(alloc, plan, slips)?;
@@ -53,14 +54,14 @@ pub fn join<D: Disk>(
 fn append_all<D: Disk>(journal: &mut Journal<D>, slips: &[Slip]) -> Result<u64, JoinFault>
     requires { All (λ s. HoldsAllTotals (version_of journal.old.plan.failing) s.totals) slips.now }
     ensures ends { EndsAppends result slips.now journal.old journal.new }
-    ensures moments { D.is_honest journal.old.disk → (n : ℕ) → journal.new.count ≡ journal.old.count + n →
-        AppendsEach journal.old.plan (kept_slips journal.old.plan journal.old.count (D.state journal.old.disk))
-        journal.new.doubtful (take n slips.now) (D.state journal.old.disk) (D.state journal.new.disk) }
-    ensures kept { D.is_honest journal.old.disk → (n : ℕ) → journal.new.count ≡ journal.old.count + n →
-        kept_slips journal.new.plan journal.new.count (D.state journal.new.disk)
-        ≡ kept_slips journal.old.plan journal.old.count (D.state journal.old.disk) ++ take n slips.now }
-    ensures honest { D.is_honest journal.old.disk ↔ D.is_honest journal.new.disk }
-    ensures faults { D.faults journal.new.disk ≡ joining_faults result (D.faults journal.old.disk) }
+    ensures moments { IsKnown (D.log journal.old.disk) → (n : ℕ) → journal.new.count ≡ journal.old.count + n →
+        AppendsEach journal.old.plan (kept_slips journal.old.plan journal.old.count (on (D.log journal.old.disk)))
+        journal.new.doubtful (take n slips.now) (on (D.log journal.old.disk)) (on (D.log journal.new.disk)) }
+    ensures kept { IsKnown (D.log journal.old.disk) → (n : ℕ) → journal.new.count ≡ journal.old.count + n →
+        kept_slips journal.new.plan journal.new.count (on (D.log journal.new.disk))
+        ≡ kept_slips journal.old.plan journal.old.count (on (D.log journal.old.disk)) ++ take n slips.now }
+    ensures known { is_known (D.log journal.new.disk) ≡ is_known (D.log journal.old.disk) }
+    ensures faults { (D.log journal.new.disk).failed ≡ joining_faults result (D.log journal.old.disk).failed }
 {
     journal.stays_readable();
     let mut count = 0;
@@ -75,14 +76,14 @@ fn append_all<D: Disk>(journal: &mut Journal<D>, slips: &[Slip]) -> Result<u64, 
 fn append<D: Disk>(journal: &mut Journal<D>, slip: Slip) -> Result<(), JoinFault>
     requires { HoldsAllTotals (version_of journal.old.plan.failing) slip.totals }
     ensures ends { EndsAppend result slip journal.old journal.new }
-    ensures moments { D.is_honest journal.old.disk →
-        AppendsEach journal.old.plan (kept_slips journal.old.plan journal.old.count (D.state journal.old.disk))
-        journal.new.doubtful (taken result slip) (D.state journal.old.disk) (D.state journal.new.disk) }
-    ensures kept { D.is_honest journal.old.disk →
-        kept_slips journal.new.plan journal.new.count (D.state journal.new.disk)
-        ≡ kept_slips journal.old.plan journal.old.count (D.state journal.old.disk) ++ taken result slip }
-    ensures honest { D.is_honest journal.old.disk ↔ D.is_honest journal.new.disk }
-    ensures faults { D.faults journal.new.disk ≡ joining_faults result (D.faults journal.old.disk) }
+    ensures moments { IsKnown (D.log journal.old.disk) →
+        AppendsEach journal.old.plan (kept_slips journal.old.plan journal.old.count (on (D.log journal.old.disk)))
+        journal.new.doubtful (taken result slip) (on (D.log journal.old.disk)) (on (D.log journal.new.disk)) }
+    ensures kept { IsKnown (D.log journal.old.disk) →
+        kept_slips journal.new.plan journal.new.count (on (D.log journal.new.disk))
+        ≡ kept_slips journal.old.plan journal.old.count (on (D.log journal.old.disk)) ++ taken result slip }
+    ensures known { is_known (D.log journal.new.disk) ≡ is_known (D.log journal.old.disk) }
+    ensures faults { (D.log journal.new.disk).failed ≡ joining_faults result (D.log journal.old.disk).failed }
 {
     journal.stays_readable();
     match journal.append_slip(slip) {

@@ -1,16 +1,17 @@
 -- What is left of a disk that was not claimed.
-use Rattle.std.proofs.Common.{◌≡◌, ◌≢◌, ◌≤◌, ◌&&◌, ◌||◌, ◌==◌, ◌∙◌, ◌⊎◌, inl, inr, ℕ, Bool, true, false, not, List, Ok, Err}
-use Rattle.std.proofs.Common.{length, slice_index, nat_le, refl, sym, subst, arith}
+use Rattle.std.proofs.Common.{◌≡◌, ◌&&◌, ◌∙◌, ◌⊎◌, inl, inr, ℕ, Bool, true, false, not, List, Err}
+use Rattle.std.proofs.Common.{refl, sym, ap, subst, arith}
 use Rattle.std.proofs.lemmas.Bool.Decides.{nat_tests}
 use Rattle.cut_plan.specs.Values.{Values}
 use Rattle.cut_disks.specs.State.{DiskState, Throughout, synced}
+use Rattle.cut_disks.specs.Log.{DiskLog, Goes, on}
 use Rattle.cut_journal.specs.declared.fault.JournalFault.{JournalFault}
 use Rattle.cut_journal.specs.declared.fault.JournalFault.TheVariants.{Memory, Disk, Broken, NoStudy, OtherPlan, Damaged}
 use Rattle.cut_journal.specs.declared.fault.JournalFault.TheVariants.{Held}
-use Rattle.cut_journal.specs.File.{open_gate, closed_gate}
 use Rattle.cut_journal.specs.Reading.{is_study, reading}
 use Rattle.cut_journal.specs.Opening.{IsNotClaimed, IsNotMade, IsBegunFile, IsNewStudy, IsOpening, IsOpenFault, is_foreign}
-use Rattle.cut_journal.specs.Opening.{is_unclaimed}
+use Rattle.cut_journal.specs.Opening.{is_unclaimed, IsNotOpened, IsRefused}
+use Rattle.cut_journal.specs.Journal.{fault_counts}
 use Rattle.cut_journal.proofs.Makings.{closed_none, short_none}
 use Rattle.cut_journal.proofs.Readings.{none_read, some_read}
 
@@ -102,3 +103,19 @@ left_so v Held old mid new so none made =
 left_so v Broken old mid new so none made = absurd made
 left_so v OtherPlan old mid new so none made = absurd made
 left_so v (Damaged number) old mid new so none made = absurd made
+
+-- an opening that was refused, by its two steps
+pub not_opened : (v : Values) (first fault : JournalFault) (old mid new : DiskLog) → first ≡ NoStudy
+    → Goes (fault_counts first) (IsRefused v first) old mid → Goes (fault_counts fault) (IsNotClaimed v fault) mid new
+    → Goes (fault_counts fault) (IsNotOpened v fault) old new
+not_opened v first fault old mid new is before last =
+    record {
+      known = last.known ∙ before.known;
+      state = λ known. (let was = subst (λ (f : JournalFault). IsRefused v f (on old) (on mid)) is (before.state known) in
+          let after = last.state (before.known ∙ known) in (
+            refused_so v fault (on old) (on mid) (on new) was.1 was.0 after,
+            left_so v fault (on old) (on mid) (on new) was.1 was.0 after,
+          ));
+      faults = last.faults ∙ ap (fault_counts fault)
+          (subst (λ (f : JournalFault). mid.failed ≡ fault_counts f old.failed) is before.faults);
+    }

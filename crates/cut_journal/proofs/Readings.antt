@@ -10,16 +10,16 @@ use Rattle.sha2.specs.Sha256.{sha256}
 use Rattle.cut_plan.specs.Failing.{version_of}
 use Rattle.cut_plan.specs.Values.{Values}
 use Rattle.cut_plan.specs.Canonical.{canonical_text}
-use Rattle.cut_disks.specs.State.{DiskState}
+use Rattle.cut_disks.specs.State.{DiskState, synced}
 use Rattle.cut_ledger.specs.declared.slip.Slip.{Slip}
 use Rattle.cut_journal.specs.declared.fault.JournalFault.{JournalFault}
+use Rattle.cut_journal.specs.declared.slips.Slips.{Slips}
 use Rattle.cut_journal.specs.declared.fault.JournalFault.TheVariants.{Memory, Disk, Broken, NoStudy, OtherPlan, Damaged}
 use Rattle.cut_journal.specs.declared.fault.JournalFault.TheVariants.{Held}
 use Rattle.cut_journal.specs.File.{open_gate, prefix_of, slip_length}
 use Rattle.cut_journal.specs.Reading.{is_study, says_plan, has_magic, is_magic, text_length, can_have_header}
 use Rattle.cut_journal.specs.Reading.{has_header, is_slip, slip_in, slips_in, slips_reading, reading}
-use Rattle.cut_journal.specs.Opening.{IsReopenFault}
-use Rattle.cut_journal.specs.inside.Steps.{IsOfPlan, AreWhole, IsSlipFault}
+use Rattle.cut_journal.specs.inside.Steps.{AreRead, AreWhole, Finds, IsOfPlan, IsSlipFault}
 use Rattle.cut_journal.proofs.Places.{ok_not, placed, slips_placed, closed_placed, damaged_placed, are_placed}
 use Rattle.cut_journal.proofs.Places.{placed_some}
 use Rattle.cut_journal.proofs.Gates.{gate_first, gate_next, gate_far, gate_rises, nine_numbers}
@@ -363,14 +363,14 @@ pub shown_none : (shown : Bool) → not shown ≡ true → shown ≡ false
 shown_none true is = absurd (cc)
 shown_none false is = refl
 
-pub slips_refused : {T : Type 0} (result : Result T JournalFault) (v : Values) (bytes : List ℕ)
-    (read : Result (List Slip) JournalFault) → reading v bytes ≡ read → IfErr result IsSlipFault
-    → IfErr result (λ e. (number : ℕ) → e ≡ Damaged number → read ≡ Err e) → IfErr result (IsReopenFault v bytes)
-slips_refused (Ok found) v bytes read is faults refused = tt
-slips_refused (Err Memory) v bytes read is faults refused = tt
-slips_refused (Err Disk) v bytes read is faults refused = tt
-slips_refused (Err (Damaged number)) v bytes read is faults refused = is ∙ refused number refl
-slips_refused (Err NoStudy) v bytes read is faults refused = absurd (faults)
-slips_refused (Err OtherPlan) v bytes read is faults refused = absurd (faults)
-slips_refused (Err Broken) v bytes read is faults refused = absurd (faults)
-slips_refused (Err Held) v bytes read is faults refused = absurd (faults)
+pub slips_found : (result : Result Slips JournalFault) (v : Values) (old new : DiskState) → new ≡ synced old
+    → reading v old.bytes ≡ slips_reading v new.bytes → IfErr result IsSlipFault → AreRead result v new.bytes
+    → Finds result v old new
+slips_found (Ok found) v old new same is faults are = (is ∙ are, same)
+slips_found (Err Memory) v old new same is faults are = (tt, inr same)
+slips_found (Err Disk) v old new same is faults are = (tt, inr same)
+slips_found (Err (Damaged number)) v old new same is faults are = (is ∙ are number refl, same)
+slips_found (Err NoStudy) v old new same is faults are = absurd (faults)
+slips_found (Err OtherPlan) v old new same is faults are = absurd (faults)
+slips_found (Err Broken) v old new same is faults are = absurd (faults)
+slips_found (Err Held) v old new same is faults are = absurd (faults)

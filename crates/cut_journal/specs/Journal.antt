@@ -1,10 +1,11 @@
 -- A journal as contracts see it, what is true of it between calls, and what an append leaves.
 use Rattle.std.specs.Prelude.{◌≡◌, ◌⊎◌, ◌++◌, ◌+◌, ℕ, List, [], ◌∷◌, length, take, Option, Some, None, Result, Ok, Err}
-use Rattle.std.specs.Prelude.{⊤}
+use Rattle.std.specs.Prelude.{⊤, OnOk, unwrap_or}
 use Rattle.std.specs.Io.{StartsWith}
 use Rattle.cut_faults.specs.Failures.{one_more}
 use Rattle.cut_plan.specs.Values.{Values}
 use Rattle.cut_disks.specs.State.{DiskState, IsImage, Throughout, settled}
+use Rattle.cut_disks.specs.Log.{DiskLog, Goes}
 use Rattle.cut_ledger.specs.declared.slip.Slip.{Slip}
 use Rattle.cut_journal.specs.declared.fault.JournalFault.{JournalFault}
 use Rattle.cut_journal.specs.declared.fault.JournalFault.TheVariants.{Broken, OtherPlan, Disk}
@@ -34,7 +35,7 @@ ReadsAs v slips doubtful bytes =
     (reading v bytes ≡ Ok slips)
     ⊎ ((slip : Slip) × ((doubtful ≡ Some slip) × (reading v bytes ≡ Ok (slips ++ slip ∷ []))))
 
--- what is true of an honest disk between the calls of its journal: as many slips are kept as the journal
+-- what is true of a disk between the calls of its journal: as many slips are kept as the journal
 -- counts; what reads give, and whatever a crash may leave, says these, or these and the doubtful one; and where
 -- there is no doubtful one, all that was written is durable
 pub record IsFileOf (v : Values) (count : ℕ) (doubtful : Option Slip) (d : DiskState) : Type 0 where
@@ -76,6 +77,18 @@ ExtendsFile v count slip old new =
     (slips : List Slip) → length slips ≡ count → StartsWith old (file_of v slips)
     → StartsWith new (file_of v (slips ++ slip ∷ []))
 
+-- an append of a slip, of a disk of which it is known what is on it: each crash at each moment of it leaves the slips that
+-- were kept, or these and this one; where it is acknowledged, it is one of those that each later crash leaves, and the file
+-- goes on by its bytes
+pub record AppendsTo {D : Type 0} (result : Result ℕ JournalFault) (slip : Slip) (old new : JournalValue D)
+    (before now : DiskState) : Type 0 where
+  pub moments : Throughout before now
+      (ReadsAs old.plan (kept_slips old.plan old.count before) (Some (unwrap_or old.doubtful slip)))
+  pub kept : kept_slips new.plan new.count now ≡ slips_after result slip (kept_slips old.plan old.count before)
+  pub file : OnOk result (ExtendsFile old.plan old.count slip before.bytes now.bytes)
+  pub acknowledged : OnOk result ((image : List ℕ) → IsImage now.stable image
+      → reading old.plan image ≡ Ok (kept_slips new.plan new.count now))
+
 -- ---- one append after another
 
 -- slips are appended one after another to those that are kept: while one is appended, each crash at each moment
@@ -94,7 +107,18 @@ taken (Err fault) slip = []
 
 -- ---- faults of the disk
 
--- how many calls of the disk failed after a call of a journal: one more exactly where it answers that fault
+-- how many calls of the disk failed, after a fault of a journal: one more exactly where it is that fault
+abbrev pub fault_counts : JournalFault → ℕ → ℕ
+fault_counts Disk n = one_more n
+fault_counts fault n = n
+
+-- the same after a call of a journal
 abbrev pub disk_faults : {T : Type 0} → Result T JournalFault → ℕ → ℕ
-disk_faults (Err Disk) n = one_more n
-disk_faults result n = n
+disk_faults (Ok done) n = n
+disk_faults (Err fault) n = fault_counts fault n
+
+-- an append of a slip, of whichever disk
+abbrev pub Appends : {D : Type 0} → (D → DiskLog) → Result ℕ JournalFault → Slip → JournalValue D → JournalValue D
+    → Type 0
+Appends log result slip old new =
+    Goes (disk_faults result) (AppendsTo result slip old new) (log old.disk) (log new.disk)

@@ -1,12 +1,13 @@
 -- What the making and the reopening of a journal leave of a disk.
-use Rattle.std.specs.Prelude.{◌≡◌, ◌≢◌, ◌⊎◌, ◌==◌, ◌&&◌, ◌||◌, ℕ, Bool, true, false, not, List, [], Ok, Err, ⊤}
+use Rattle.std.specs.Prelude.{◌≡◌, ◌≢◌, ◌⊎◌, ◌==◌, ◌&&◌, ◌||◌, ℕ, Bool, true, not, List, [], Ok, Err, ⊤}
 use Rattle.std.specs.Prelude.{length, nat_le, slice_index}
+use Rattle.std.specs.Io.{StartsWith}
 use Rattle.cut_plan.specs.Values.{Values}
 use Rattle.cut_disks.specs.State.{DiskState, synced, Throughout}
 use Rattle.cut_ledger.specs.declared.slip.Slip.{Slip}
 use Rattle.cut_journal.specs.declared.fault.JournalFault.{JournalFault}
 use Rattle.cut_journal.specs.declared.fault.JournalFault.TheVariants.{Memory, Disk, NoStudy, OtherPlan, Damaged, Held}
-use Rattle.cut_journal.specs.File.{closed_gate}
+use Rattle.cut_journal.specs.File.{closed_gate, file_of}
 use Rattle.cut_journal.specs.Reading.{is_study, reading}
 
 -- ---- reopening
@@ -37,6 +38,14 @@ IsRead Memory old new = (new ≡ old) ⊎ (new ≡ synced old)
 IsRead Disk old new = (new ≡ old) ⊎ (new ≡ synced old)
 IsRead fault old new = new ≡ synced old
 
+-- what bytes say of a reopening that succeeded, and what it leaves: these slips are read, and all is durable
+abbrev pub IsReopened : Values → List Slip → DiskState → DiskState → Type 0
+IsReopened v slips old new = (reading v old.bytes ≡ Ok slips) × (new ≡ synced old)
+
+-- and of one that was refused
+abbrev pub IsRefused : Values → JournalFault → DiskState → DiskState → Type 0
+IsRefused v fault old new = IsReopenFault v old.bytes fault × IsRead fault old new
+
 -- ---- making
 
 -- the faults that the making of a journal may answer
@@ -54,6 +63,13 @@ IsNewStudy v bytes = (reading v bytes ≡ Err NoStudy) ⊎ (reading v bytes ≡ 
 -- study, or one without slips
 abbrev pub IsBegunFile : Values → DiskState → DiskState → Type 0
 IsBegunFile v old new = (new ≡ old) ⊎ Throughout (synced old) new (IsNewStudy v)
+
+-- a journal was made where there was no study: the disk holds one without slips, by a file that begins as such a file does
+pub record IsMade (v : Values) (old new : DiskState) : Type 0 where
+  pub none : reading v old.bytes ≡ Err NoStudy
+  pub made : reading v new.bytes ≡ Ok []
+  pub file : StartsWith new.bytes (file_of v [])
+  pub begun : IsBegunFile v old new
 
 -- what is on the disk where no journal was made: Held comes exactly where there is a study already, and then
 -- nothing was written; where memory runs out that is before anything is done
@@ -82,6 +98,10 @@ MayNotClaim Disk = ⊤
 MayNotClaim Held = ⊤
 MayNotClaim NoStudy = ⊤
 MayNotClaim fault = ⊥
+
+-- a journal was made of an unclaimed file
+abbrev pub IsClaimed : Values → DiskState → DiskState → Type 0
+IsClaimed v old new = (is_unclaimed old.bytes ≡ true) × IsMade v old new
 
 -- what is on the disk where a file was not claimed: Held comes exactly where there is a study, NoStudy exactly where
 -- the file is somebody else's. Then nothing was written, and nothing is written where the disk fails, but to an unclaimed
@@ -126,3 +146,13 @@ abbrev pub IsOpening : Values → DiskState → DiskState → Type 0
 IsOpening v old new =
     (new ≡ old) ⊎ ((new ≡ synced old)
     ⊎ ((is_unclaimed old.bytes ≡ true) × Throughout (synced (synced old)) new (IsNewStudy v)))
+
+-- an opening that succeeded: these slips were found, and are read afterwards
+pub record IsOpened (v : Values) (slips : List Slip) (old new : DiskState) : Type 0 where
+  pub found : IsFoundOn v old.bytes slips
+  pub read : reading v new.bytes ≡ Ok slips
+  pub moments : IsOpening v old new
+
+-- and one that was refused
+abbrev pub IsNotOpened : Values → JournalFault → DiskState → DiskState → Type 0
+IsNotOpened v fault old new = IsOpenFault v old.bytes fault × IsOpening v old new

@@ -1,15 +1,11 @@
-ghost use Rattle.std.specs.Prelude.{ℕ, List, ◌≡◌, ◌≢◌, ◌+◌, ◌<◌, ◌^◌, ◌↔◌, [], None, Some, Ok};
-ghost use Rattle.std.specs.Prelude.{Err, length, unwrap_or, IfOk, IfErr, OnOk, IsErrOf, IsSome};
-ghost use Rattle.cut_disks.specs.State.{IsImage, settled, synced, Throughout};
+ghost use Rattle.std.specs.Prelude.{◌≡◌, ◌≢◌, ◌↔◌, None, length, IfOk, IfErr, IsErrOf, IsSome};
 ghost use Rattle.cut_ledger.specs.Machine.{slip_of};
-ghost use Rattle.std.specs.Io.{StartsWith};
 ghost use Rattle.cut_plan.specs.Failing.{version_of};
-ghost use Rattle.cut_journal.specs.File.{file_of, HoldsAllTotals};
-ghost use Rattle.cut_journal.specs.Reading.{reading};
-ghost use Rattle.cut_journal.specs.Journal.{JournalValue, kept_slips, ReadsAs, IsFileOf, IsAppendFault, LeavesAppend};
-ghost use Rattle.cut_journal.specs.Journal.{ExtendsFile, IsSlipAppendFault, slips_after, disk_faults};
-ghost use Rattle.cut_journal.specs.Opening.{IsReopenFault, IsOpeningFaultOf, IsRead, IsBegunFile, IsNotMade};
-ghost use Rattle.cut_journal.specs.Opening.{MayNotMake};
+ghost use Rattle.cut_disks.specs.Log.{Goes, Knows};
+ghost use Rattle.cut_journal.specs.File.{HoldsAllTotals};
+ghost use Rattle.cut_journal.specs.Journal.{JournalValue, IsFileOf, IsAppendFault, LeavesAppend, IsSlipAppendFault};
+ghost use Rattle.cut_journal.specs.Journal.{Appends, fault_counts};
+ghost use Rattle.cut_journal.specs.Opening.{IsReopened, IsRefused, IsOpeningFaultOf, IsMade, IsNotMade, MayNotMake};
 
 use crate::JournalFault;
 use crate::format::{FileHeader, Gate};
@@ -27,7 +23,7 @@ use std::marker::Model;
 /// The journal of a study, on a disk. Contracts see the disk, the plan, how many slips are kept, and the
 /// slip of an append in which the disk failed.
 ///
-/// What is said of the bytes is said of an honest disk.
+/// What is said of the bytes is said of a disk of which they are known.
 #[derive(Drop)]
 pub struct Journal<D: Disk> {
     disk: D,
@@ -38,6 +34,7 @@ pub struct Journal<D: Disk> {
 
 impl<D: Disk> Model for Journal<D> {
     ghost use Rattle.std.specs.Prelude.{◌≡◌, ◌<◌, ◌^◌};
+    ghost use Rattle.cut_disks.specs.Log.{Knows};
     ghost use Rattle.cut_journal.specs.Journal.{JournalValue, IsFileOf};
     ghost use Rattle.cut_journal.specs.inside.Places.{gate_place};
 
@@ -49,7 +46,7 @@ impl<D: Disk> Model for Journal<D> {
     ghost invariant = { λ j.
         (j.gate.place ≡ gate_place j.study j.gate.number)
         × (j.gate.place < 2 ^ 63)
-        × (D.is_honest j.disk → IsFileOf j.study j.gate.number j.doubtful (D.state j.disk)) };
+        × Knows (D.log j.disk) (IsFileOf j.study j.gate.number j.doubtful) };
 }
 
 impl<D: Disk> Journal<D> {
@@ -58,20 +55,10 @@ impl<D: Disk> Journal<D> {
     pub fn create(alloc: Global, disk: D, plan: &Plan) -> Result<Journal<D>, (JournalFault, D)>
         ensures plan { IfOk result (λ journal. journal.plan ≡ plan.now) }
         ensures empty { IfOk result (λ journal. (journal.count ≡ 0) × (journal.doubtful ≡ None)) }
-        ensures made { D.is_honest disk →
-            IfOk result (λ journal. (reading plan.now (D.state disk).bytes ≡ Err JournalFault.NoStudy)
-            × (reading plan.now (D.state journal.disk).bytes ≡ Ok [])) }
-        ensures file { D.is_honest disk →
-            IfOk result (λ journal. StartsWith (D.state journal.disk).bytes (file_of plan.now [])) }
-        ensures begun { D.is_honest disk →
-            IfOk result (λ journal. IsBegunFile plan.now (D.state disk) (D.state journal.disk)) }
-        ensures refused { D.is_honest disk →
-            IfErr result (λ e. IsNotMade plan.now e.0 (D.state disk) (D.state e.1)) }
+        ensures made { IfOk result (λ journal. Goes (λ n. n) (IsMade plan.now) (D.log disk) (D.log journal.disk)) }
+        ensures refused { IfErr result (λ e. Goes (fault_counts e.0) (IsNotMade plan.now e.0) (D.log disk)
+            (D.log e.1)) }
         ensures may { IfErr result (λ e. MayNotMake e.0) }
-        ensures honest { IfOk result (λ journal. D.is_honest disk ↔ D.is_honest journal.disk) }
-        ensures honest_back { IfErr result (λ e. D.is_honest disk ↔ D.is_honest e.1) }
-        ensures faults { IfOk result (λ journal. D.faults journal.disk ≡ D.faults disk) }
-        ensures faults_back { IfErr result (λ e. D.faults e.1 ≡ disk_faults {T = ℕ} (Err e.0) (D.faults disk)) }
     {
         let mut disk = disk;
         let study = match FileHeader::of(alloc, plan) {
@@ -103,17 +90,11 @@ impl<D: Disk> Journal<D> {
     ) -> Result<(Journal<D>, Vec<Slip>), (JournalFault, D)>
         ensures plan { IfOk result (λ r. r.0.plan ≡ plan.now) }
         ensures count { IfOk result (λ r. (r.0.count ≡ length r.1.items) × (r.0.doubtful ≡ None)) }
-        ensures read { D.is_honest disk →
-            IfOk result (λ r. reading plan.now (D.state disk).bytes ≡ Ok r.1.items) }
-        ensures settled { D.is_honest disk → IfOk result (λ r. D.state r.0.disk ≡ synced (D.state disk)) }
-        ensures refused { D.is_honest disk →
-            IfErr result (λ e. IsReopenFault plan.now (D.state disk).bytes e.0) }
+        ensures found { IfOk result (λ r. Goes (λ n. n) (IsReopened plan.now r.1.items) (D.log disk)
+            (D.log r.0.disk)) }
+        ensures refused { IfErr result (λ e. Goes (fault_counts e.0) (IsRefused plan.now e.0) (D.log disk)
+            (D.log e.1)) }
         ensures may { IfErr result (λ e. IsOpeningFaultOf e.0) }
-        ensures left { D.is_honest disk → IfErr result (λ e. IsRead e.0 (D.state disk) (D.state e.1)) }
-        ensures honest { IfOk result (λ r. D.is_honest disk ↔ D.is_honest r.0.disk) }
-        ensures honest_back { IfErr result (λ e. D.is_honest disk ↔ D.is_honest e.1) }
-        ensures faults { IfOk result (λ r. D.faults r.0.disk ≡ D.faults disk) }
-        ensures faults_back { IfErr result (λ e. D.faults e.1 ≡ disk_faults {T = ℕ} (Err e.0) (D.faults disk)) }
     {
         let mut disk = disk;
         let study = match FileHeader::of(alloc, plan) {
@@ -145,23 +126,7 @@ impl<D: Disk> Journal<D> {
         ensures others { IfErr result IsAppendFault }
         ensures number { IfOk result (λ number. number ≡ self.new.count) }
         ensures left { LeavesAppend result (slip_of offered.now) self.old self.new }
-        ensures moments { D.is_honest self.old.disk →
-            Throughout (D.state self.old.disk) (D.state self.new.disk)
-            (ReadsAs self.old.plan (kept_slips self.old.plan self.old.count (D.state self.old.disk))
-            (Some (unwrap_or self.old.doubtful (slip_of offered.now)))) }
-        ensures kept { D.is_honest self.old.disk →
-            kept_slips self.new.plan self.new.count (D.state self.new.disk)
-            ≡ slips_after result (slip_of offered.now)
-            (kept_slips self.old.plan self.old.count (D.state self.old.disk)) }
-        ensures file { D.is_honest self.old.disk →
-            OnOk result (ExtendsFile self.old.plan self.old.count (slip_of offered.now)
-            (D.state self.old.disk).bytes (D.state self.new.disk).bytes) }
-        ensures acknowledged { D.is_honest self.old.disk → OnOk result ((image : List ℕ)
-            → IsImage (D.state self.new.disk).stable image
-            → reading self.old.plan image
-            ≡ Ok (kept_slips self.new.plan self.new.count (D.state self.new.disk))) }
-        ensures honest { D.is_honest self.old.disk ↔ D.is_honest self.new.disk }
-        ensures faults { D.faults self.new.disk ≡ disk_faults result (D.faults self.old.disk) }
+        ensures appends { Appends D.log result (slip_of offered.now) self.old self.new }
     {
         if self.doubtful.is_some() {
             return Err(JournalFault::Broken);
@@ -182,22 +147,7 @@ impl<D: Disk> Journal<D> {
         ensures others { IfErr result IsSlipAppendFault }
         ensures number { IfOk result (λ number. number ≡ self.new.count) }
         ensures left { LeavesAppend result slip self.old self.new }
-        ensures moments { D.is_honest self.old.disk →
-            Throughout (D.state self.old.disk) (D.state self.new.disk)
-            (ReadsAs self.old.plan (kept_slips self.old.plan self.old.count (D.state self.old.disk))
-            (Some (unwrap_or self.old.doubtful slip))) }
-        ensures kept { D.is_honest self.old.disk →
-            kept_slips self.new.plan self.new.count (D.state self.new.disk)
-            ≡ slips_after result slip (kept_slips self.old.plan self.old.count (D.state self.old.disk)) }
-        ensures file { D.is_honest self.old.disk →
-            OnOk result (ExtendsFile self.old.plan self.old.count slip
-            (D.state self.old.disk).bytes (D.state self.new.disk).bytes) }
-        ensures acknowledged { D.is_honest self.old.disk → OnOk result ((image : List ℕ)
-            → IsImage (D.state self.new.disk).stable image
-            → reading self.old.plan image
-            ≡ Ok (kept_slips self.new.plan self.new.count (D.state self.new.disk))) }
-        ensures honest { D.is_honest self.old.disk ↔ D.is_honest self.new.disk }
-        ensures faults { D.faults self.new.disk ≡ disk_faults result (D.faults self.old.disk) }
+        ensures appends { Appends D.log result slip self.old self.new }
     {
         if self.doubtful.is_some() {
             return Err(JournalFault::Broken);
@@ -229,21 +179,21 @@ impl<D: Disk> Journal<D> {
         self.study.plan()
     }
 
-    /// A law of every journal, and nothing that is seen: between calls, whatever a crash may leave of an honest disk
-    /// is read as the slips that are kept, or as these and the doubtful one.
+    /// A law of every journal, and nothing that is seen: between calls, whatever a crash may leave of a disk that is
+    /// known is read as the slips that are kept, or as these and the doubtful one.
     pub fn stays_readable(&self)
-        ensures sound { D.is_honest self.now.disk →
-            IsFileOf self.now.plan self.now.count self.now.doubtful (D.state self.now.disk) }
+        ensures sound { Knows (D.log self.now.disk)
+            (IsFileOf self.now.plan self.now.count self.now.doubtful) }
     {
         let _ = self.disk();
     }
 
-    /// The disk. Between calls, whatever a crash may leave of an honest one is read as the slips that are
-    /// kept, or as these and the doubtful one.
+    /// The disk. Between calls, whatever a crash may leave of one that is known is read as the slips that
+    /// are kept, or as these and the doubtful one.
     pub fn disk(&self) -> &D
         ensures disk { result.now ≡ self.now.disk }
-        ensures sound { D.is_honest self.now.disk →
-            IsFileOf self.now.plan self.now.count self.now.doubtful (D.state self.now.disk) }
+        ensures sound { Knows (D.log self.now.disk)
+            (IsFileOf self.now.plan self.now.count self.now.doubtful) }
     {
         &self.disk
     }
@@ -251,8 +201,7 @@ impl<D: Disk> Journal<D> {
     /// Gives the disk back.
     pub fn into_disk(self) -> D
         ensures disk { result ≡ self.disk }
-        ensures sound { D.is_honest self.disk →
-            IsFileOf self.plan self.count self.doubtful (D.state self.disk) }
+        ensures sound { Knows (D.log self.disk) (IsFileOf self.plan self.count self.doubtful) }
     {
         self.disk
     }

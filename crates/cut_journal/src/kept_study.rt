@@ -1,14 +1,14 @@
-ghost use Rattle.std.specs.Prelude.{Err, ◌≡◌, ◌+◌, ◌<◌, ◌≤◌, ◌^◌, ◌↔◌, Ok, Some, None, if◌then◌else◌, bytes_eq};
-ghost use Rattle.std.specs.Prelude.{slice_range, true, length, IfOk, IfErr, IfSome, OnOk};
+ghost use Rattle.std.specs.Prelude.{◌≡◌, ◌+◌, ◌<◌, ◌≤◌, ◌^◌, Some, None, if◌then◌else◌, bytes_eq, slice_range};
+ghost use Rattle.std.specs.Prelude.{true, length, IfOk, IfErr, IfSome, OnOk};
 ghost use Rattle.cut_plan.specs.declared.limits.TheConstants.{LONGEST_TEXT};
 ghost use Rattle.cut_faults.specs.Failures.{counted};
 ghost use Rattle.sha2.specs.Sha256.{sha256};
-ghost use Rattle.cut_disks.specs.State.{synced};
-ghost use Rattle.cut_journal.specs.Reading.{is_study, can_have_header, has_header, text_length, reading};
+ghost use Rattle.cut_disks.specs.Log.{Goes, Knows, Shows};
+ghost use Rattle.cut_journal.specs.Reading.{is_study, can_have_header, has_header, text_length};
 ghost use Rattle.cut_journal.specs.Journal.{disk_faults};
-ghost use Rattle.cut_journal.specs.Opening.{IsReopenFault, IsOpeningFaultOf, IsRead};
+ghost use Rattle.cut_journal.specs.Opening.{IsOpeningFaultOf};
 ghost use Rattle.cut_journal.specs.inside.Opening.{IsReadFault};
-ghost use Rattle.cut_journal.specs.inside.Steps.{IsOfPlan};
+ghost use Rattle.cut_journal.specs.inside.Steps.{Finds, IsChecked};
 ghost use Rattle.cut_journal.specs.inside.Places.{gate_place};
 
 use crate::JournalFault;
@@ -26,20 +26,11 @@ pub(crate) fn find<D: Disk>(
     disk: &mut D,
     study: &FileHeader,
 ) -> Result<Slips, JournalFault>
-    ensures reported { D.is_honest disk.old →
-        IfOk result (λ found. reading study.now (D.state disk.old).bytes ≡ Ok found.slips.items) }
-    ensures settled { D.is_honest disk.old →
-        IfOk result (λ found. D.state disk.new ≡ synced (D.state disk.old)) }
-    ensures refused { D.is_honest disk.old →
-        IfErr result (λ e. IsReopenFault study.now (D.state disk.old).bytes e) }
+    ensures finds { Goes (disk_faults result) (Finds result study.now) (D.log disk.old) (D.log disk.new) }
     ensures may { IfErr result IsOpeningFaultOf }
-    ensures left { D.is_honest disk.old →
-        IfErr result (λ e. IsRead e (D.state disk.old) (D.state disk.new)) }
     ensures number { IfOk result (λ found. found.gate.number ≡ length found.slips.items) }
     ensures place { IfOk result (λ found. found.gate.place ≡ gate_place study.now found.gate.number) }
     ensures bound { IfOk result (λ found. found.gate.place < 2 ^ 63) }
-    ensures honest { D.is_honest disk.old ↔ D.is_honest disk.new }
-    ensures faults { D.faults disk.new ≡ disk_faults result (D.faults disk.old) }
 {
     let shown = match look_first(disk) {
         Ok(shown) => shown,
@@ -73,17 +64,11 @@ fn check_prefix<D: Disk>(
     study: &FileHeader,
     size: u64,
 ) -> Result<(), JournalFault>
-    requires size { D.is_honest disk.old → size ≡ length (D.state disk.old).bytes }
-    requires study { D.is_honest disk.old → is_study (D.state disk.old).bytes ≡ true }
-    requires header { D.is_honest disk.old → has_header (D.state disk.old).bytes ≡ true }
-    ensures reported { D.is_honest disk.old → OnOk result (IsOfPlan study.now (D.state disk.old).bytes) }
+    requires { Knows (D.log disk.old) (λ d. (size ≡ length d.bytes)
+        × (is_study d.bytes ≡ true) × (has_header d.bytes ≡ true)) }
+    ensures checks { Goes (disk_faults result) (Shows (IsChecked result study.now)) (D.log disk.old) (D.log disk.new) }
     ensures within { OnOk result (gate_place study.now 0 < size) }
-    ensures refused { D.is_honest disk.old →
-        IfErr result (λ e. IsReopenFault study.now (D.state disk.old).bytes e) }
     ensures may { IfErr result IsOpeningFaultOf }
-    ensures same { D.is_honest disk.old → D.state disk.new ≡ D.state disk.old }
-    ensures honest { D.is_honest disk.old ↔ D.is_honest disk.new }
-    ensures faults { D.faults disk.new ≡ disk_faults result (D.faults disk.old) }
 {
     let length = study.prefix().len();
     if size <= length as u64 {
@@ -101,14 +86,12 @@ fn check_prefix<D: Disk>(
 
 /// Reads the first `count` bytes of a disk.
 fn read_prefix<D: Disk>(alloc: Global, disk: &mut D, count: usize) -> Result<Vec<u8>, JournalFault>
-    requires within { D.is_honest disk.old → count ≤ length (D.state disk.old).bytes }
-    ensures reported { D.is_honest disk.old →
-        IfOk result (λ prefix. prefix.items ≡ slice_range (D.state disk.old).bytes 0 count) }
+    requires { Knows (D.log disk.old) (λ d. count ≤ length d.bytes) }
+    ensures reads { Goes (disk_faults result)
+        (Shows (λ bytes. IfOk result (λ prefix. prefix.items ≡ slice_range bytes 0 count)))
+        (D.log disk.old) (D.log disk.new) }
     ensures long { IfOk result (λ prefix. length prefix.items ≡ count) }
     ensures fault { IfErr result IsReadFault }
-    ensures same { D.is_honest disk.old → D.state disk.new ≡ D.state disk.old }
-    ensures honest { D.is_honest disk.old ↔ D.is_honest disk.new }
-    ensures faults { D.faults disk.new ≡ disk_faults result (D.faults disk.old) }
 {
     let mut prefix = match vec![in alloc; 0; count] {
         Ok(prefix) => prefix,
@@ -122,13 +105,10 @@ fn read_prefix<D: Disk>(alloc: Global, disk: &mut D, count: usize) -> Result<Vec
 
 /// Whether a disk of this length begins with a whole header, of whichever plan.
 fn has_header<D: Disk>(alloc: Global, disk: &mut D, size: u64) -> Result<bool, JournalFault>
-    requires size { D.is_honest disk.old → size ≡ length (D.state disk.old).bytes }
-    ensures reported { D.is_honest disk.old →
-        IfOk result (λ has. has ≡ has_header (D.state disk.old).bytes) }
+    requires { Knows (D.log disk.old) (λ d. size ≡ length d.bytes) }
+    ensures reads { Goes (disk_faults result) (Shows (λ bytes. IfOk result (λ has. has ≡ has_header bytes)))
+        (D.log disk.old) (D.log disk.new) }
     ensures fault { IfErr result IsReadFault }
-    ensures same { D.is_honest disk.old → D.state disk.new ≡ D.state disk.old }
-    ensures honest { D.is_honest disk.old ↔ D.is_honest disk.new }
-    ensures faults { D.faults disk.new ≡ disk_faults result (D.faults disk.old) }
 {
     let text = match text_length(disk, size) {
         Ok(Some(text)) => text,
@@ -147,14 +127,11 @@ fn has_header<D: Disk>(alloc: Global, disk: &mut D, size: u64) -> Result<bool, J
 
 /// The length of the text in a header, if the header can be whole.
 fn text_length<D: Disk>(disk: &mut D, size: u64) -> Result<Option<u32>, DiskFault>
-    requires size { D.is_honest disk.old → size ≡ length (D.state disk.old).bytes }
-    ensures reported { D.is_honest disk.old → IfOk result (λ found. found
-        ≡ (if can_have_header (D.state disk.old).bytes then Some (text_length (D.state disk.old).bytes)
-        else None)) }
+    requires { Knows (D.log disk.old) (λ d. size ≡ length d.bytes) }
+    ensures reads { Goes (counted result) (Shows (λ bytes. IfOk result (λ found. found
+        ≡ (if can_have_header bytes then Some (text_length bytes) else None))))
+        (D.log disk.old) (D.log disk.new) }
     ensures short { IfOk result (λ found. IfSome found (λ text. text ≤ LONGEST_TEXT)) }
-    ensures same { D.is_honest disk.old → D.state disk.new ≡ D.state disk.old }
-    ensures honest { D.is_honest disk.old ↔ D.is_honest disk.new }
-    ensures faults { D.faults disk.new ≡ counted result (D.faults disk.old) }
 {
     if size < 13 {
         return Ok(None);
@@ -179,14 +156,12 @@ fn text_length<D: Disk>(disk: &mut D, size: u64) -> Result<Option<u32>, DiskFaul
 
 /// Whether the digest of a header that fills these bytes stands after it.
 fn has_digest<D: Disk>(disk: &mut D, header: &mut [u8]) -> Result<bool, DiskFault>
-    requires within { D.is_honest disk.old → length header.old + 33 ≤ length (D.state disk.old).bytes }
+    requires within { Knows (D.log disk.old) (λ d. length header.old + 33 ≤ length d.bytes) }
     requires bound { length header.old ≤ 65548 }
-    ensures reported { D.is_honest disk.old → IfOk result (λ has. has ≡ bytes_eq
-        (sha256 (slice_range (D.state disk.old).bytes 1 (length header.old + 1)))
-        (slice_range (D.state disk.old).bytes (length header.old + 1) (length header.old + 33))) }
-    ensures same { D.is_honest disk.old → D.state disk.new ≡ D.state disk.old }
-    ensures honest { D.is_honest disk.old ↔ D.is_honest disk.new }
-    ensures faults { D.faults disk.new ≡ counted result (D.faults disk.old) }
+    ensures reads { Goes (counted result) (Shows (λ bytes. IfOk result (λ has. has ≡ bytes_eq
+        (sha256 (slice_range bytes 1 (length header.old + 1)))
+        (slice_range bytes (length header.old + 1) (length header.old + 33)))))
+        (D.log disk.old) (D.log disk.new) }
 {
     disk.read(1, header)?;
     let mut digest = [0; 32];

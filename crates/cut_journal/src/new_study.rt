@@ -1,14 +1,10 @@
-ghost use Rattle.std.specs.Prelude.{◌≡◌, ◌<◌, ◌==◌, ◌↔◌, [], false, Ok, Err, length};
-ghost use Rattle.std.specs.Prelude.{slice_index, IfErr, OnOk};
-ghost use Rattle.std.specs.Io.{StartsWith};
+ghost use Rattle.std.specs.Prelude.{◌≡◌, IfErr};
 ghost use Rattle.cut_faults.specs.Failures.{counted};
-ghost use Rattle.cut_disks.specs.State.{settled, Throughout};
-ghost use Rattle.cut_journal.specs.File.{open_gate, file_of};
+ghost use Rattle.cut_disks.specs.Log.{Goes, Knows};
 ghost use Rattle.cut_journal.specs.inside.File.{rest_of};
-ghost use Rattle.cut_journal.specs.Reading.{is_study, reading};
 ghost use Rattle.cut_journal.specs.Journal.{disk_faults};
-ghost use Rattle.cut_journal.specs.Opening.{IsNewStudy, IsBegunFile, IsNotMade, MayNotMake};
-ghost use Rattle.cut_journal.specs.inside.Steps.{BeginsAs};
+ghost use Rattle.cut_journal.specs.Opening.{MayNotMake};
+ghost use Rattle.cut_journal.specs.inside.Steps.{Makes, IsFree, IsClosed, HasBegun, WritesNew, Closes, WritesRest};
 
 use crate::JournalFault;
 use crate::durable_write::write_through;
@@ -24,18 +20,8 @@ pub(crate) fn make<D: Disk>(
     disk: &mut D,
     study: &FileHeader,
 ) -> Result<(), JournalFault>
-    ensures made { D.is_honest disk.old →
-        OnOk result ((reading study.now (D.state disk.old).bytes ≡ Err JournalFault.NoStudy)
-        × (reading study.now (D.state disk.new).bytes ≡ Ok [])
-        × ((D.state disk.new).stable ≡ settled (D.state disk.new).bytes)) }
-    ensures file { D.is_honest disk.old → OnOk result (StartsWith (D.state disk.new).bytes (file_of study.now [])) }
-    ensures begun { D.is_honest disk.old →
-        OnOk result (IsBegunFile study.now (D.state disk.old) (D.state disk.new)) }
-    ensures refused { D.is_honest disk.old →
-        IfErr result (λ e. IsNotMade study.now e (D.state disk.old) (D.state disk.new)) }
+    ensures makes { Goes (disk_faults result) (Makes result study.now) (D.log disk.old) (D.log disk.new) }
     ensures may { IfErr result MayNotMake }
-    ensures honest { D.is_honest disk.old ↔ D.is_honest disk.new }
-    ensures faults { D.faults disk.new ≡ disk_faults result (D.faults disk.old) }
 {
     let rest = match study.rest(alloc) {
         Ok(rest) => rest,
@@ -68,19 +54,8 @@ struct NewFile<'a> {
 
 /// Writes a study without slips to a disk that holds none, gate by gate.
 fn write_new<D: Disk>(disk: &mut D, file: NewFile<'_>, size: u64) -> Result<(), DiskFault>
-    requires size { D.is_honest disk.old → size ≡ length (D.state disk.old).bytes }
-    requires none { D.is_honest disk.old → is_study (D.state disk.old).bytes ≡ false }
-    requires durable { D.is_honest disk.old → (D.state disk.old).stable ≡ settled (D.state disk.old).bytes }
-    ensures moments { D.is_honest disk.old →
-        Throughout (D.state disk.old) (D.state disk.new) (IsNewStudy file.entry.study.now) }
-    ensures durable { D.is_honest disk.old →
-        OnOk result ((D.state disk.new).stable ≡ settled (D.state disk.new).bytes) }
-    ensures made { D.is_honest disk.old →
-        OnOk result (reading file.entry.study.now (D.state disk.new).bytes ≡ Ok []) }
-    ensures file { D.is_honest disk.old →
-        OnOk result (StartsWith (D.state disk.new).bytes (file_of file.entry.study.now [])) }
-    ensures honest { D.is_honest disk.old ↔ D.is_honest disk.new }
-    ensures faults { D.faults disk.new ≡ counted result (D.faults disk.old) }
+    requires { Knows (D.log disk.old) (IsFree size) }
+    ensures writes { Goes (counted result) (WritesNew result file.entry.study.now) (D.log disk.old) (D.log disk.new) }
 {
     close(disk, size)?;
     write_rest(disk, file)?;
@@ -91,18 +66,8 @@ fn write_new<D: Disk>(disk: &mut D, file: NewFile<'_>, size: u64) -> Result<(), 
 ///
 /// A longer file has a closed one already, and a write there could open it.
 fn close<D: Disk>(disk: &mut D, size: u64) -> Result<(), DiskFault>
-    requires size { D.is_honest disk.old → size ≡ length (D.state disk.old).bytes }
-    requires none { D.is_honest disk.old → is_study (D.state disk.old).bytes ≡ false }
-    requires durable { D.is_honest disk.old → (D.state disk.old).stable ≡ settled (D.state disk.old).bytes }
-    ensures moments { D.is_honest disk.old →
-        Throughout (D.state disk.old) (D.state disk.new) (λ bytes. is_study bytes ≡ false) }
-    ensures durable { D.is_honest disk.old →
-        OnOk result ((D.state disk.new).stable ≡ settled (D.state disk.new).bytes) }
-    ensures closed { D.is_honest disk.old →
-        OnOk result ((slice_index (D.state disk.new).bytes 0 == open_gate) ≡ false) }
-    ensures some { D.is_honest disk.old → OnOk result (0 < length (D.state disk.new).bytes) }
-    ensures honest { D.is_honest disk.old ↔ D.is_honest disk.new }
-    ensures faults { D.faults disk.new ≡ counted result (D.faults disk.old) }
+    requires { Knows (D.log disk.old) (IsFree size) }
+    ensures closes { Goes (counted result) (Closes result) (D.log disk.old) (D.log disk.new) }
 {
     if size > 1 {
         return Ok(());
@@ -113,16 +78,8 @@ fn close<D: Disk>(disk: &mut D, size: u64) -> Result<(), DiskFault>
 
 /// Writes what follows the gate of the study, up to the gate of its first slip.
 fn write_rest<D: Disk>(disk: &mut D, file: NewFile<'_>) -> Result<(), DiskFault>
-    requires closed { D.is_honest disk.old → (slice_index (D.state disk.old).bytes 0 == open_gate) ≡ false }
-    requires some { D.is_honest disk.old → 0 < length (D.state disk.old).bytes }
-    requires durable { D.is_honest disk.old → (D.state disk.old).stable ≡ settled (D.state disk.old).bytes }
-    ensures moments { D.is_honest disk.old →
-        Throughout (D.state disk.old) (D.state disk.new) (λ bytes. is_study bytes ≡ false) }
-    ensures durable { D.is_honest disk.old →
-        OnOk result ((D.state disk.new).stable ≡ settled (D.state disk.new).bytes) }
-    ensures begins { D.is_honest disk.old → OnOk result (BeginsAs file.entry.study.now (D.state disk.new).bytes) }
-    ensures honest { D.is_honest disk.old ↔ D.is_honest disk.new }
-    ensures faults { D.faults disk.new ≡ counted result (D.faults disk.old) }
+    requires { Knows (D.log disk.old) IsClosed }
+    ensures writes { Goes (counted result) (WritesRest result file.entry.study.now) (D.log disk.old) (D.log disk.new) }
 {
     writes_stay_in_their_span();
     write_through(disk, 1, file.rest)
@@ -130,16 +87,8 @@ fn write_rest<D: Disk>(disk: &mut D, file: NewFile<'_>) -> Result<(), DiskFault>
 
 /// Opens the gate of a study without slips, by a write of its own.
 fn open<D: Disk>(disk: &mut D, study: &FileHeader) -> Result<(), DiskFault>
-    requires begins { D.is_honest disk.old → BeginsAs study.now (D.state disk.old).bytes }
-    requires durable { D.is_honest disk.old → (D.state disk.old).stable ≡ settled (D.state disk.old).bytes }
-    ensures moments { D.is_honest disk.old →
-        Throughout (D.state disk.old) (D.state disk.new) (IsNewStudy study.now) }
-    ensures durable { D.is_honest disk.old →
-        OnOk result ((D.state disk.new).stable ≡ settled (D.state disk.new).bytes) }
-    ensures made { D.is_honest disk.old → OnOk result (reading study.now (D.state disk.new).bytes ≡ Ok []) }
-    ensures file { D.is_honest disk.old → OnOk result (StartsWith (D.state disk.new).bytes (file_of study.now [])) }
-    ensures honest { D.is_honest disk.old ↔ D.is_honest disk.new }
-    ensures faults { D.faults disk.new ≡ counted result (D.faults disk.old) }
+    requires { Knows (D.log disk.old) (HasBegun study.now) }
+    ensures opens { Goes (counted result) (WritesNew result study.now) (D.log disk.old) (D.log disk.new) }
 {
     study.is_short();
     writes_stay_in_their_span();

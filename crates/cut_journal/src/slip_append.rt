@@ -1,11 +1,10 @@
-ghost use Rattle.std.specs.Prelude.{◌≡◌, ◌+◌, ◌<◌, ◌^◌, ◌↔◌, ◌++◌, [], ◌∷◌, None, Some, Ok, OnOk};
+ghost use Rattle.std.specs.Prelude.{◌≡◌, ◌+◌, ◌<◌, ◌^◌, None, OnOk};
 ghost use Rattle.cut_faults.specs.Failures.{counted};
-ghost use Rattle.cut_disks.specs.State.{settled, Throughout};
+ghost use Rattle.cut_disks.specs.Log.{Goes, Knows};
 ghost use Rattle.cut_journal.specs.File.{HoldsAllTotals, slip_length};
-ghost use Rattle.cut_journal.specs.Reading.{reading};
-ghost use Rattle.cut_journal.specs.Journal.{kept_slips, ReadsAs, IsFileOf, ExtendsFile};
+ghost use Rattle.cut_journal.specs.Journal.{IsFileOf};
 ghost use Rattle.cut_plan.specs.Failing.{version_of};
-ghost use Rattle.cut_journal.specs.inside.Steps.{Leave};
+ghost use Rattle.cut_journal.specs.inside.Steps.{KeepsSlip};
 ghost use Rattle.cut_journal.specs.inside.Places.{gate_place};
 
 use crate::durable_write::write_through;
@@ -30,25 +29,11 @@ pub(crate) struct NextSlip<'a> {
 /// Keeps a slip: writes it after its gate, which is closed, and then opens the gate.
 pub(crate) fn keep<D: Disk>(disk: &mut D, next: NextSlip<'_>) -> Result<(), DiskFault>
     requires reports { HoldsAllTotals (version_of next.study.now.failing) next.slip.totals }
-    requires sound { D.is_honest disk.old → IsFileOf next.study.now next.gate.number None (D.state disk.old) }
-    ensures moments { D.is_honest disk.old → Throughout (D.state disk.old) (D.state disk.new)
-        (ReadsAs next.entry.study.now
-        (kept_slips next.entry.study.now next.entry.gate.number (D.state disk.old)) (Some next.entry.slip)) }
-    ensures left { D.is_honest disk.old →
-        Leave (ReadsAs next.entry.study.now
-        (kept_slips next.entry.study.now next.entry.gate.number (D.state disk.old)) (Some next.entry.slip))
-        (D.state disk.new) }
-    ensures kept { D.is_honest disk.old → OnOk result (reading next.entry.study.now (D.state disk.new).bytes
-        ≡ Ok (kept_slips next.entry.study.now next.entry.gate.number (D.state disk.old) ++ next.entry.slip ∷ [])) }
-    ensures file { D.is_honest disk.old → OnOk result
-        (ExtendsFile next.entry.study.now next.entry.gate.number next.entry.slip
-        (D.state disk.old).bytes (D.state disk.new).bytes) }
-    ensures durable { D.is_honest disk.old →
-        OnOk result ((D.state disk.new).stable ≡ settled (D.state disk.new).bytes) }
+    requires sound { Knows (D.log disk.old) (IsFileOf next.study.now next.gate.number None) }
+    ensures keeps { Goes (counted result) (KeepsSlip result next.entry.study.now next.entry.gate.number next.entry.slip)
+        (D.log disk.old) (D.log disk.new) }
     ensures bound { OnOk result
         (next.entry.gate.place + slip_length (version_of next.entry.study.now.failing) < 2 ^ 63) }
-    ensures honest { D.is_honest disk.old ↔ D.is_honest disk.new }
-    ensures faults { D.faults disk.new ≡ counted result (D.faults disk.old) }
 {
     writes_stay_in_their_span();
     let NextSlip { study, gate, slip } = next;

@@ -1,9 +1,9 @@
-ghost use Rattle.std.specs.Prelude.{ℕ, ◌≡◌, ◌+◌, ◌<◌, ◌^◌, ◌↔◌, false, length, IfOk, IfErr, IfSome};
+ghost use Rattle.std.specs.Prelude.{◌≡◌, ◌+◌, ◌<◌, ◌^◌, length, IfOk, IfErr, IfSome};
 ghost use Rattle.cut_plan.specs.Failing.{version_of};
+ghost use Rattle.cut_disks.specs.Log.{Goes, Knows, Shows};
 ghost use Rattle.cut_journal.specs.File.{slip_length};
-ghost use Rattle.cut_journal.specs.Reading.{slips_reading};
 ghost use Rattle.cut_journal.specs.Journal.{disk_faults};
-ghost use Rattle.cut_journal.specs.inside.Steps.{IsOfPlan, IsNext, IsSlipFault};
+ghost use Rattle.cut_journal.specs.inside.Steps.{AreRead, IsOfPlan, IsNext, IsSlipFault};
 ghost use Rattle.cut_journal.specs.inside.Places.{gate_place};
 
 use crate::JournalFault;
@@ -39,20 +39,13 @@ pub(crate) fn read_slips<D: Disk>(
     disk: &mut D,
     file: BegunFile<'_>,
 ) -> Result<Slips, JournalFault>
-    requires size { D.is_honest disk.old → file.size ≡ length (D.state disk.old).bytes }
-    requires prefix { D.is_honest disk.old → IsOfPlan file.study.now (D.state disk.old).bytes }
-    ensures reported { D.is_honest disk.old →
-        IfOk result (λ found. slips_reading file.entry.study.now (D.state disk.old).bytes ≡ Ok found.slips.items) }
-    ensures refused { D.is_honest disk.old →
-        IfErr result (λ e. (number : ℕ) → e ≡ JournalFault.Damaged number
-        → slips_reading file.entry.study.now (D.state disk.old).bytes ≡ Err e) }
+    requires { Knows (D.log disk.old) (λ d. (file.size ≡ length d.bytes) × IsOfPlan file.study.now d.bytes) }
+    ensures reads { Goes (disk_faults result) (Shows (AreRead result file.entry.study.now)) (D.log disk.old)
+        (D.log disk.new) }
     ensures only_faults { IfErr result IsSlipFault }
     ensures number { IfOk result (λ found. found.gate.number ≡ length found.slips.items) }
     ensures place { IfOk result (λ found. found.gate.place ≡ gate_place file.entry.study.now found.gate.number) }
     ensures bound { IfOk result (λ found. found.gate.place < 2 ^ 63) }
-    ensures same { D.is_honest disk.old → D.state disk.new ≡ D.state disk.old }
-    ensures honest { D.is_honest disk.old ↔ D.is_honest disk.new }
-    ensures faults { D.faults disk.new ≡ disk_faults result (D.faults disk.old) }
 {
     let study = file.study;
     let mut slips = Vec::new(alloc);
@@ -78,14 +71,12 @@ fn next_slip<D: Disk>(
 ) -> Result<Option<Slip>, JournalFault>
     requires place { gate.place ≡ gate_place file.study.now gate.number }
     requires within { gate.place < file.size }
-    requires size { D.is_honest disk.old → file.size ≡ length (D.state disk.old).bytes }
-    ensures reported { D.is_honest disk.old → IsNext result file.entry.study.now (D.state disk.old).bytes gate.number }
+    requires size { Knows (D.log disk.old) (λ d. file.size ≡ length d.bytes) }
+    ensures reads { Goes (disk_faults result) (Shows (IsNext result file.entry.study.now gate.number))
+        (D.log disk.old) (D.log disk.new) }
     ensures only_faults { IfErr result IsSlipFault }
     ensures reach { IfOk result (λ slip. IfSome slip
         (λ s. gate.place + slip_length (version_of file.entry.study.now.failing) < file.entry.size)) }
-    ensures same { D.is_honest disk.old → D.state disk.new ≡ D.state disk.old }
-    ensures honest { D.is_honest disk.old ↔ D.is_honest disk.new }
-    ensures faults { D.faults disk.new ≡ disk_faults result (D.faults disk.old) }
 {
     let BegunFile { study, size } = file;
     match read_gate(disk, gate.place) {

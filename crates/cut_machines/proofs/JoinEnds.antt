@@ -1,9 +1,9 @@
 -- How a join of checkpoints ends, by its parts.
 use Rattle.std.proofs.Common.{◌≡◌, inl, inr, ℕ, Global, List, Result, Ok, Err, refl, subst}
 use Rattle.std.specs.Bool.{⊤}
-use Rattle.std.specs.Prelude.{◌↔◌, IfErr, IfOk, String, string_bytes}
+use Rattle.std.specs.Prelude.{IfErr, IfOk, String, string_bytes}
 use Rattle.cut_plan.specs.Values.{Values}
-use Rattle.cut_disks.specs.State.{DiskState}
+use Rattle.cut_disks.specs.Log.{DiskLog, IsKnown, is_known, on}
 use Rattle.cut_wires.specs.Log.{WireLog}
 use Rattle.cut_ledger.specs.declared.slip.Slip.{Slip}
 use Rattle.cut_ledger.specs.Slips.{AreGood}
@@ -25,24 +25,23 @@ if_ok P r x is holds = subst (λ (a : Result _ _). IfOk a P) is holds
 pub if_err : {T E : Type 0} (P : E → Type 0) (r : Result T E) (e : E) → r ≡ Err e → IfErr r P → P e
 if_err P r e is holds = subst (λ (a : Result _ _). IfErr a P) is holds
 
-module _ {O N : Type 0} (old_honest : O → Type 0) (old_state : O → DiskState) (new_honest : N → Type 0)
-    (new_state : N → DiskState) (new_faults : N → ℕ) (olds : List O) (new after : N) where
+module _ {O N : Type 0} (log_old : O → DiskLog) (log_new : N → DiskLog) (olds : List O) (new after : N) where
   abbrev Stops : Values → CliFault → Type 0
-  Stops v fault = StopsJoin old_honest old_state new_honest new_state new_faults olds new after v fault
+  Stops v fault = StopsJoin log_old log_new olds new after v fault
 
   abbrev Writes : Values → List ℕ → Type 0
-  Writes v whole = JoinWrites old_honest old_state new_honest new_state new_faults olds new after v whole
+  Writes v whole = JoinWrites log_old log_new olds new after v whole
 
   abbrev task : Task
-  task = join_task old_honest old_state new_honest new_state new_faults olds new after
+  task = join_task log_old log_new olds new after
 
   abbrev Ends : WireLog → WireLog → Result ⊤ CliFault → Type 0
   Ends old_log new_log result =
-      EndsJoinCommand old_honest old_state new_honest new_state new_faults olds new after old_log new_log result
+      EndsJoinCommand log_old log_new olds new after old_log new_log result
 
   abbrev Leaves : WireLog → WireLog → Result ⊤ CliFault → Type 0
   Leaves old_log new_log result =
-      LeavesOther old_honest old_state new_honest new_state new_faults olds new after old_log new_log result
+      LeavesOther log_old log_new olds new after old_log new_log result
 
   -- ---- no plan was read
 
@@ -53,12 +52,12 @@ module _ {O N : Type 0} (old_honest : O → Type 0) (old_state : O → DiskState
   unread_left fault old_log new_log same = tt
 
   pub ends_without_plan : (fault : CliFault) (old_log new_log : WireLog) → after ≡ new
-      → (new_honest new ↔ new_honest after) → GivesPlan (Err fault) old_log new_log
+      → (is_known (log_new after) ≡ is_known (log_new new)) → GivesPlan (Err fault) old_log new_log
       → Ends old_log new_log (Err fault)
-  ends_without_plan fault old_log new_log same honest given = record {
+  ends_without_plan fault old_log new_log same known given = record {
     command = ends_unread task fault old_log new_log given;
     other = unread_left fault old_log new_log same;
-    honest = honest;
+    known = known;
   }
 
   -- ---- slips were not all joined
@@ -82,21 +81,21 @@ module _ {O N : Type 0} (old_honest : O → Type 0) (old_state : O → DiskState
 
   pub ends_stopped : (v : Values) (text : Result (String Global) CliFault) (fault : CliFault)
       (old_log new_log : WireLog) → GivesPlan (Ok v) old_log new_log → text ≡ Err fault
-      → IfErr text (λ e. Stops v e) → (new_honest new ↔ new_honest after) → Ends old_log new_log (Err fault)
-  ends_stopped v text fault old_log new_log given is holds honest =
+      → IfErr text (λ e. Stops v e) → (is_known (log_new after) ≡ is_known (log_new new)) → Ends old_log new_log (Err fault)
+  ends_stopped v text fault old_log new_log given is holds known =
       let stops : Stops v fault = if_err (λ e. Stops v e) text fault is holds in
       record {
         command = ends_left task v (Err fault) old_log new_log new_log given (stopped_answer v fault new_log stops);
         other = stopped_left v fault old_log new_log given stops;
-        honest = honest;
+        known = known;
       }
 
   -- ---- all were joined
 
   pub text_writes : (v : Values) (ss : List Slip) (text : Result (String Global) CliFault)
-      → HoldAll old_honest old_state olds v ss → AreGood v ss
-      → (new_honest new → LeavesDisk text v ss (new_state new) (new_state after))
-      → new_faults after ≡ writing_faults text (new_faults new)
+      → HoldAll log_old olds v ss → AreGood v ss
+      → (IsKnown (log_new new) → LeavesDisk text v ss (on (log_new new)) (on (log_new after)))
+      → (log_new after).failed ≡ writing_faults text (log_new new).failed
       → IfOk text (λ t. string_bytes t ≡ joined_text v ss) → IfOk text (λ t. Writes v (string_bytes t))
   text_writes v ss (Ok text) held good left faults is =
       (ss, (record { held = held; good = good; left = left; faults = faults }, is))
@@ -111,13 +110,13 @@ module _ {O N : Type 0} (old_honest : O → Type 0) (old_state : O → DiskState
   pub ends_joined : (v : Values) (text : Result (String Global) CliFault) (line : String Global)
       (result : Result ⊤ CliFault) (old_log mid new_log : WireLog) → GivesPlan (Ok v) old_log mid → text ≡ Ok line
       → IfOk text (λ t. Writes v (string_bytes t)) → IsWritten (string_bytes line) result mid new_log
-      → (new_honest new ↔ new_honest after) → Ends old_log new_log result
-  ends_joined v text line result old_log mid new_log given is holds written honest = record {
+      → (is_known (log_new after) ≡ is_known (log_new new)) → Ends old_log new_log result
+  ends_joined v text line result old_log mid new_log given is holds written known = record {
     command = ends_left task v result old_log mid new_log given
         (leaves_answer task v (string_bytes line) result mid new_log
         (if_ok (λ (t : String Global). Writes v (string_bytes t)) text line is holds) written);
     other = written_left (string_bytes line) result old_log mid new_log written;
-    honest = honest;
+    known = known;
   }
 
 -- ---- over files

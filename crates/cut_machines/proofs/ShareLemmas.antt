@@ -5,12 +5,11 @@ use Rattle.std.specs.Bool.{⊤}
 use Rattle.std.specs.Prelude.{IsSome}
 use Rattle.std.proofs.lemmas.List.{take_all}
 use Rattle.cut_plan.specs.Values.{Values}
-use Rattle.cut_disks.specs.State.{DiskState}
+use Rattle.cut_disks.specs.Log.{DiskLog, Goes, IsKnown, is_known, on}
 use Rattle.cut_ledger.specs.declared.slip.Slip.{Slip}
 use Rattle.cut_journal.specs.declared.fault.JournalFault.{JournalFault}
 use Rattle.cut_journal.specs.Journal.{AppendsEach, JournalValue, IsFileOf, ReadsAs, kept_slips, slips_of}
-use Rattle.cut_journal.specs.Opening.{IsFoundOn, IsOpening}
-use Rattle.cut_journal.specs.Reading.{reading}
+use Rattle.cut_journal.specs.Opening.{IsOpened}
 use Rattle.cut_share.specs.declared.fault.ShareFault.{ShareFault}
 use Rattle.cut_share.specs.declared.fault.ShareFault.TheVariants as share
 use Rattle.cut_share.specs.declared.share.Share.{Share}
@@ -21,9 +20,8 @@ use Rattle.cut_commands.specs.Run.{IsWritten, LeavesStudy}
 use Rattle.cut_commands.specs.declared.fault.CliFault.{CliFault}
 use Rattle.cut_commands.specs.declared.fault.CliFault.TheVariants.{Memory, Write, Journal, BadSlip}
 use Rattle.cut_commands.specs.declared.fault.CliFault.TheVariants.{Checkpoint, WorkMemory}
-use Rattle.cut_commands.proofs.RunLemmas.{Weakens, leaves_answer, leaves_nothing}
-use Rattle.cut_machines.specs.Share.{AddsTo, EndsKeeping, ShareFails, Keeps}
-use Rattle.cut_machines.specs.Share.{SayUpTo, fault_of_share, share_file_task}
+use Rattle.cut_commands.proofs.RunLemmas.{leaves_answer, leaves_nothing}
+use Rattle.cut_machines.specs.Share.{AddsTo, EndsKeeping, SayUpTo, fault_of_share}
 use Rattle.cut_machines.specs.Share.{share_line, share_task}
 
 not_some : IsSome {T = Slip} None → ⊥
@@ -41,71 +39,68 @@ say_up_to v slips (Some slip) bytes is = grind arith
 none_of_share : (s : Share) (v : Values) (slips added : List Slip) → added ≡ [] → AreOfShare s v slips added
 none_of_share s v slips added none = grind arith
 
-module _ {D : Type 0} (is_honest : D → Type 0) (state : D → DiskState) where
+module _ {D : Type 0} (log_of : D → DiskLog) where
   -- ---- the run of a share
 
   -- a journal was opened over the slips that were found on a disk
-  pub record IsOpened (v : Values) (slips : List Slip) (disk : D) (log : JournalValue D) : Type 0 where
+  pub record HasOpened (v : Values) (slips : List Slip) (disk : D) (log : JournalValue D) : Type 0 where
     pub plan : log.plan ≡ v
     pub count : log.count ≡ length slips
     pub whole : log.doubtful ≡ None
-    pub found : is_honest disk → IsFoundOn v (state disk).bytes slips
-    pub read : is_honest disk → reading v (state log.disk).bytes ≡ Ok slips
-    pub moments : is_honest disk → IsOpening v (state disk) (state log.disk)
-    pub honest : is_honest disk → is_honest log.disk
+    pub found : Goes (λ n. n) (IsOpened v slips) (log_of disk) (log_of log.disk)
 
   -- what is true of a journal after a run that was begun with another
   pub record IsRun (log new : JournalValue D) : Type 0 where
-    pub honest : is_honest log.disk → is_honest new.disk
-    pub sound : is_honest new.disk → IsFileOf new.plan new.count new.doubtful (state new.disk)
+    pub known : is_known (log_of new.disk) ≡ is_known (log_of log.disk)
+    pub sound : IsKnown (log_of new.disk) → IsFileOf new.plan new.count new.doubtful (on (log_of new.disk))
 
   module _ (v : Values) (slips : List Slip) (disk : D) (log new : JournalValue D)
-      (opened : IsOpened v slips disk log) (run : IsRun log new) where
-    kept_first : is_honest disk → kept_slips log.plan log.count (state log.disk) ≡ slips
-    kept_first honest =
-        ap (λ (w : Values). kept_slips w log.count (state log.disk)) opened.plan
-        ∙ ap (λ (n : ℕ). kept_slips v n (state log.disk)) opened.count
-        ∙ ap (λ (r : Result (List Slip) JournalFault). take (length slips) (slips_of r)) (opened.read honest)
+      (opened : HasOpened v slips disk log) (run : IsRun log new) where
+    kept_first : IsKnown (log_of disk) → kept_slips log.plan log.count (on (log_of log.disk)) ≡ slips
+    kept_first known =
+        ap (λ (w : Values). kept_slips w log.count (on (log_of log.disk))) opened.plan
+        ∙ ap (λ (n : ℕ). kept_slips v n (on (log_of log.disk))) opened.count
+        ∙ ap (λ (r : Result (List Slip) JournalFault). take (length slips) (slips_of r)) (opened.found.state known).read
         ∙ take_all (length slips) slips (omega arith)
 
-    adds_to : (added : List Slip) (doubtful : Option Slip) → Adds is_honest state added log new
+    adds_to : (added : List Slip) (doubtful : Option Slip) → Adds log_of added log new
         → new.doubtful ≡ doubtful
-        → AddsTo is_honest state v slips added doubtful disk new.disk
-    adds_to added doubtful adds doubt = λ honest.
-        let first = kept_first honest in
-        let at_log : is_honest log.disk = opened.honest honest in
-        let file = run.sound (run.honest at_log) in
+        → AddsTo v slips added doubtful (log_of disk) (log_of new.disk)
+    adds_to added doubtful adds doubt = λ known.
+        let first = kept_first known in
+        let at_log : IsKnown (log_of log.disk) = opened.found.known ∙ known in
+        let file = run.sound (run.known ∙ at_log) in
         let plan : new.plan ≡ v = adds.plan ∙ opened.plan in
-        let kept : kept_slips new.plan new.count (state new.disk) ≡ slips ++ added =
+        let kept : kept_slips new.plan new.count (on (log_of new.disk)) ≡ slips ++ added =
         adds.kept at_log ∙ ap (λ (ss : List Slip). ss ++ added) first in
         record {
-          found = opened.found honest;
-          opened = state log.disk;
-          opening = opened.moments honest;
+          found = (opened.found.state known).found;
+          opened = on (log_of log.disk);
+          opening = (opened.found.state known).moments;
           moments =
-              subst (λ (w : Values). AppendsEach w slips doubtful added (state log.disk) (state new.disk)) opened.plan
-              (subst (λ (ss : List Slip). AppendsEach log.plan ss doubtful added (state log.disk) (state new.disk))
+              subst (λ (w : Values). AppendsEach w slips doubtful added (on (log_of log.disk)) (on (log_of new.disk))) opened.plan
+              (subst (λ (ss : List Slip). AppendsEach log.plan ss doubtful added (on (log_of log.disk)) (on (log_of new.disk)))
               first
-              (subst (λ (o : Option Slip). AppendsEach log.plan (kept_slips log.plan log.count (state log.disk)) o added
-              (state log.disk) (state new.disk)) doubt (adds.moments at_log)));
-          bytes = say_up_to v (slips ++ added) doubtful (state new.disk).bytes
-              (subst (λ (w : Values). ReadsAs w (slips ++ added) doubtful (state new.disk).bytes) plan
-              (subst (λ (ss : List Slip). ReadsAs new.plan ss doubtful (state new.disk).bytes) kept
-              (subst (λ (o : Option Slip). ReadsAs new.plan (kept_slips new.plan new.count (state new.disk)) o
-              (state new.disk).bytes) doubt file.bytes)));
+              (subst (λ (o : Option Slip). AppendsEach log.plan (kept_slips log.plan log.count (on (log_of log.disk))) o added
+              (on (log_of log.disk)) (on (log_of new.disk))) doubt (adds.moments at_log)));
+          bytes = say_up_to v (slips ++ added) doubtful (on (log_of new.disk)).bytes
+              (subst (λ (w : Values). ReadsAs w (slips ++ added) doubtful (on (log_of new.disk)).bytes) plan
+              (subst (λ (ss : List Slip). ReadsAs new.plan ss doubtful (on (log_of new.disk)).bytes) kept
+              (subst (λ (o : Option Slip). ReadsAs new.plan (kept_slips new.plan new.count (on (log_of new.disk))) o
+              (on (log_of new.disk)).bytes) doubt file.bytes)));
         }
 
     -- the run ended with a fault
-    pub keeps_fault : (fault : ShareFault) (s : Share) (added : List Slip) → Adds is_honest state added log new
+    pub keeps_fault : (fault : ShareFault) (s : Share) (added : List Slip) → Adds log_of added log new
         → EndsShare (Err fault) s v slips added log new
-        → EndsKeeping is_honest state (Err (fault_of_share fault)) s v disk new.disk
+        → EndsKeeping (Err (fault_of_share fault)) s v (log_of disk) (log_of new.disk)
     keeps_fault share.OtherPlan s added adds ends = absurd (ends.0 opened.plan)
     keeps_fault share.Broken s added adds ends =
         absurd (not_some (subst (λ (o : Option Slip). IsSome o) opened.whole ends.2))
     keeps_fault (share.BadSlip number) s added adds ends = (
       slips,
       (
-        subst (λ (ss : List Slip). AddsTo is_honest state v slips ss None disk new.disk) ends.2
+        subst (λ (ss : List Slip). AddsTo v slips ss None (log_of disk) (log_of new.disk)) ends.2
             (adds_to added None adds (ap (λ (j : JournalValue D). j.doubtful) ends.3 ∙ opened.whole)),
         ends.1,
       ),
@@ -131,60 +126,42 @@ module _ {D : Type 0} (is_honest : D → Type 0) (state : D → DiskState) where
       (adds_to added (Some ends.1.0) adds ends.1.1.1.doubtful, ends.0.good, ends.1.1.0),
     )
 
-  -- ---- what is written
+-- ---- what is written
 
-  -- nothing where the share was not run to its end
-  pub leaves_none : (fault : CliFault) (s : Share) (v : Values) (disk back : D) (l : WireLog)
-      → EndsKeeping is_honest state (Err fault) s v disk back
-      → LeavesStudy (share_task is_honest state (Err fault) s disk back) v (Err fault) l l
-  leaves_none Memory s v disk back l ends =
-      leaves_nothing (share_task is_honest state (Err Memory) s disk back) v Memory l refl refl
-  leaves_none (Journal fault) s v disk back l ends =
-      leaves_nothing (share_task is_honest state (Err (Journal fault)) s disk back) v (Journal fault) l refl
-      (ends, refl)
-  leaves_none (BadSlip number) s v disk back l ends =
-      leaves_nothing (share_task is_honest state (Err (BadSlip number)) s disk back) v (BadSlip number) l refl
-      (ends, refl)
-  leaves_none WorkMemory s v disk back l ends =
-      leaves_nothing (share_task is_honest state (Err WorkMemory) s disk back) v WorkMemory l refl (ends, inl refl)
-  leaves_none Checkpoint s v disk back l ends =
-      leaves_nothing (share_task is_honest state (Err Checkpoint) s disk back) v Checkpoint l refl
-      (ends, record { whole = []; answer = (refl, ends); count = 0; prefix = refl })
-  leaves_none fault s v disk back l ends = absurd ends
+-- nothing where the share was not run to its end
+pub leaves_none : (fault : CliFault) (s : Share) (v : Values) (disk back : DiskLog) (l : WireLog)
+    → EndsKeeping (Err fault) s v disk back
+    → LeavesStudy (share_task (Err fault) s disk back) v (Err fault) l l
+leaves_none Memory s v disk back l ends =
+    leaves_nothing (share_task (Err Memory) s disk back) v Memory l refl refl
+leaves_none (Journal fault) s v disk back l ends =
+    leaves_nothing (share_task (Err (Journal fault)) s disk back) v (Journal fault) l refl
+    (ends, refl)
+leaves_none (BadSlip number) s v disk back l ends =
+    leaves_nothing (share_task (Err (BadSlip number)) s disk back) v (BadSlip number) l refl
+    (ends, refl)
+leaves_none WorkMemory s v disk back l ends =
+    leaves_nothing (share_task (Err WorkMemory) s disk back) v WorkMemory l refl (ends, inl refl)
+leaves_none Checkpoint s v disk back l ends =
+    leaves_nothing (share_task (Err Checkpoint) s disk back) v Checkpoint l refl
+    (ends, record { whole = []; answer = (refl, ends); count = 0; prefix = refl })
+leaves_none fault s v disk back l ends = absurd ends
 
-  -- or the answer
-  answers : (result : Result ⊤ CliFault) (n : ℕ) (s : Share) (v : Values) (disk back : D) (whole : List ℕ)
-      (old new : WireLog)
-      → EndsKeeping is_honest state (Ok n) s v disk back → whole ≡ share_line s n → IsWritten whole result old new
-      → (share_task is_honest state result s disk back).answers v whole
-  answers (Ok done) n s v disk back whole old new kept line is =
-      (line ∙ ap (λ (m : ℕ). share_line s m) kept.0, kept.1)
-  answers (Err (Write fault)) n s v disk back whole old new kept line is =
-      (line ∙ ap (λ (m : ℕ). share_line s m) kept.0, kept.1)
-  answers (Err fault) n s v disk back whole old new kept line is = absurd is
+-- or the answer
+answers : (result : Result ⊤ CliFault) (n : ℕ) (s : Share) (v : Values) (disk back : DiskLog) (whole : List ℕ)
+    (old new : WireLog)
+    → EndsKeeping (Ok n) s v disk back → whole ≡ share_line s n → IsWritten whole result old new
+    → (share_task result s disk back).answers v whole
+answers (Ok done) n s v disk back whole old new kept line is =
+    (line ∙ ap (λ (m : ℕ). share_line s m) kept.0, kept.1)
+answers (Err (Write fault)) n s v disk back whole old new kept line is =
+    (line ∙ ap (λ (m : ℕ). share_line s m) kept.0, kept.1)
+answers (Err fault) n s v disk back whole old new kept line is = absurd is
 
-  pub leaves_line : (result : Result ⊤ CliFault) (n : ℕ) (s : Share) (v : Values) (disk back : D) (whole : List ℕ)
-      (old new : WireLog)
-      → EndsKeeping is_honest state (Ok n) s v disk back → whole ≡ share_line s n → IsWritten whole result old new
-      → LeavesStudy (share_task is_honest state result s disk back) v result old new
-  leaves_line result n s v disk back whole old new kept line is =
-      leaves_answer (share_task is_honest state result s disk back) v whole result old new
-      (answers result n s v disk back whole old new kept line is) is
-
-  -- ---- over a file
-
-  pub over_file : (result : Result ⊤ CliFault) (s : Share) (disk back : D)
-      → Weakens (share_task is_honest state result s disk back) (share_file_task result s)
-  over_file result s disk back = record {
-    answers = λ text v whole reads written. written.0;
-    fails = λ text v fault reads is. fails v fault is;
-  }
-    where
-      fails : (v : Values) (fault : CliFault) → Keeps is_honest state (Err fault) s v disk back → ShareFails v fault
-      fails v (Journal fault) is = is.0
-      fails v (BadSlip number) is = (is.0, is.1.1)
-      fails v Memory is = tt
-      fails v (Write fault) is = tt
-      fails v Checkpoint is = tt
-      fails v WorkMemory is = tt
-      fails v fault is = absurd is
+pub leaves_line : (result : Result ⊤ CliFault) (n : ℕ) (s : Share) (v : Values) (disk back : DiskLog) (whole : List ℕ)
+    (old new : WireLog)
+    → EndsKeeping (Ok n) s v disk back → whole ≡ share_line s n → IsWritten whole result old new
+    → LeavesStudy (share_task result s disk back) v result old new
+leaves_line result n s v disk back whole old new kept line is =
+    leaves_answer (share_task result s disk back) v whole result old new
+    (answers result n s v disk back whole old new kept line is) is

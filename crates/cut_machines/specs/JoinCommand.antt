@@ -1,10 +1,10 @@
 -- What a join of checkpoints writes for a plan, by what their disks hold, and what it leaves on the new one.
-use Rattle.std.specs.Prelude.{◌≡◌, ◌⊎◌, ◌↔◌, ◌≤◌, ◌++◌, ℕ, List, ◌∷◌, [], length, codes, Option, Some, None, Result}
+use Rattle.std.specs.Prelude.{◌≡◌, ◌⊎◌, ◌≤◌, ◌++◌, ℕ, List, ◌∷◌, [], length, codes, Option, Some, None, Result}
 use Rattle.std.specs.Prelude.{Ok, Err, ⊤}
 use Rattle.std.specs.Fmt.{decimal}
 use Rattle.cut_plan.specs.Cells.{trial_count}
 use Rattle.cut_plan.specs.Values.{Values}
-use Rattle.cut_disks.specs.State.{DiskState}
+use Rattle.cut_disks.specs.Log.{DiskLog, IsKnown, is_known, on}
 use Rattle.cut_wires.specs.Log.{WireLog}
 use Rattle.cut_ledger.specs.declared.slip.Slip.{Slip}
 use Rattle.cut_ledger.specs.Slips.{AreGood, IsFirstBad}
@@ -28,16 +28,15 @@ joined_text v slips =
 
 -- ---- over disks
 
-module _ {O N : Type 0} (old_honest : O → Type 0) (old_state : O → DiskState) (new_honest : N → Type 0)
-    (new_state : N → DiskState) (new_faults : N → ℕ) where
+module _ {O N : Type 0} (log_old : O → DiskLog) (log_new : N → DiskLog) where
   -- the old disks said these slips, with which a ledger of the plan can begin; and what is left on the new disk, by how
   -- the writing of the joined ones ended
   pub record HasWritten (result : Result ⊤ CliFault) (olds : List O) (new after : N) (v : Values)
       (slips : List Slip) : Type 0 where
-    pub held : HoldAll old_honest old_state olds v slips
+    pub held : HoldAll log_old olds v slips
     pub good : AreGood v slips
-    pub left : new_honest new → LeavesDisk result v slips (new_state new) (new_state after)
-    pub faults : new_faults after ≡ writing_faults result (new_faults new)
+    pub left : IsKnown (log_new new) → LeavesDisk result v slips (on (log_new new)) (on (log_new after))
+    pub faults : (log_new after).failed ≡ writing_faults result (log_new new).failed
 
   -- all were written, and these bytes say how many
   abbrev pub JoinWrites : List O → N → N → Values → List ℕ → Type 0
@@ -46,7 +45,7 @@ module _ {O N : Type 0} (old_honest : O → Type 0) (old_state : O → DiskState
 
   -- why they were not: no slips were joined, and the new disk is as before; or not all were written
   abbrev pub StopsJoin : List O → N → N → Values → CliFault → Type 0
-  StopsJoin olds new after v fault = (StopsReading old_honest old_state olds v fault × (after ≡ new))
+  StopsJoin olds new after v fault = (StopsReading log_old olds v fault × (after ≡ new))
       ⊎ (StopsWriting fault × ((slips : List Slip) × HasWritten (Err fault) olds new after v slips))
 
   abbrev pub join_task : List O → N → N → Task
@@ -67,12 +66,12 @@ module _ {O N : Type 0} (old_honest : O → Type 0) (old_state : O → DiskState
       (result : Result ⊤ CliFault) : Type 0 where
     pub command : EndsCommand (join_task olds new after) old_log new_log result
     pub other : LeavesOther olds new after old_log new_log result
-    pub honest : new_honest new ↔ new_honest after
+    pub known : is_known (log_new after) ≡ is_known (log_new new)
 
   -- what a fault of a journal is one of, for a plan that was read: of the old disk at a place, from 1, which is the
   -- first that said no slips, and the new disk is as before; or of the new disk, and all old ones said their slips
   abbrev pub RefusesOld : List O → N → N → Values → JournalFault → Option ℕ → Type 0
-  RefusesOld olds new after v fault (Some place) = IsRefusedAt old_honest old_state olds v fault place × (after ≡ new)
+  RefusesOld olds new after v fault (Some place) = IsRefusedAt log_old olds v fault place × (after ≡ new)
   RefusesOld olds new after v fault None =
       IsRefusalOfNew fault × ((slips : List Slip) × HasWritten (Err (Journal fault)) olds new after v slips)
 

@@ -1,7 +1,7 @@
 -- What the checkpoints that are joined hold of a plan.
 use Rattle.std.specs.Prelude.{◌≡◌, ◌≤◌, ◌+◌, ◌++◌, ℕ, List, [], ◌∷◌, Ok, Option, Some, None, length, ⊤}
 use Rattle.cut_plan.specs.Values.{Values}
-use Rattle.cut_disks.specs.State.{DiskState}
+use Rattle.cut_disks.specs.Log.{DiskLog, IsKnown, on}
 use Rattle.cut_ledger.specs.declared.slip.Slip.{Slip}
 use Rattle.cut_ledger.specs.Slips.{IsFirstBad}
 use Rattle.cut_journal.specs.declared.fault.JournalFault.{JournalFault}
@@ -14,10 +14,10 @@ use Rattle.cut_commands.specs.Faults.{IsRefusalOfOld}
 use Rattle.cut_commands.specs.declared.fault.CliFault.{CliFault}
 use Rattle.cut_commands.specs.declared.fault.CliFault.TheVariants.{Memory, Journal, BadSlip, Migrate}
 
-module _ {O : Type 0} (honest : O → Type 0) (state : O → DiskState) where
-  -- the slips that an honest disk says for the plan; of another nothing is known
+module _ {O : Type 0} (log_of : O → DiskLog) where
+  -- the slips that a disk says for the plan, where its bytes are known
   abbrev pub Holds : O → Values → List Slip → Type 0
-  Holds disk v slips = honest disk → reading v (state disk).bytes ≡ Ok slips
+  Holds disk v slips = IsKnown (log_of disk) → reading v (on (log_of disk)).bytes ≡ Ok slips
 
   -- those of several disks, in the order of the disks
   abbrev pub HoldAll : List O → Values → List Slip → Type 0
@@ -28,7 +28,7 @@ module _ {O : Type 0} (honest : O → Type 0) (state : O → DiskState) where
   -- why a disk said none: it holds no study of the plan, or is damaged, or it failed
   pub record IsRefused (disk : O) (v : Values) (fault : JournalFault) : Type 0 where
     pub may : IsRefusalOfOld fault
-    pub says : honest disk → IsReopenFault v (state disk).bytes fault
+    pub says : IsKnown (log_of disk) → IsReopenFault v (on (log_of disk)).bytes fault
 
   -- the first of several disks that said none: those before it did
   pub record IsFirstRefused (disks : List O) (v : Values) (fault : JournalFault) : Type 0 where

@@ -35,7 +35,7 @@ pub record IsFilled (v : Values) (slips : List Slip) (old new : DiskState) : Typ
   pub begun : IsBegun v slips old new
   pub all : SaysAllOf v (joined v slips) new
 
--- what is left on an honest disk where not all joined slips were written, by the fault: nothing was done, no journal
+-- what is left on a disk where not all joined slips were written, by the fault: nothing was done, no journal
 -- was made, or some are there
 abbrev pub LeavesUnfilled : CliFault → Values → List Slip → DiskState → DiskState → Type 0
 LeavesUnfilled Memory v slips old new = (new ≡ old) ⊎ IsBegun v slips old new

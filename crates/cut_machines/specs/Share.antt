@@ -1,10 +1,14 @@
 -- What the command `share` writes for a plan, and what it leaves on its disk.
 use Rattle.std.specs.Prelude.{◌≡◌, ◌⊎◌, ◌++◌, ℕ, List, [], ◌∷◌, length, codes, Option, Some, None, Result, Ok}
-use Rattle.std.specs.Prelude.{Err, ⊤}
+use Rattle.std.specs.Prelude.{Err, IfErr, ⊤}
 use Rattle.std.specs.Fmt.{decimal}
 use Rattle.cut_faults.specs.Failures.{one_more}
 use Rattle.cut_plan.specs.Values.{Values}
 use Rattle.cut_disks.specs.State.{DiskState}
+use Rattle.cut_disks.specs.Log.{DiskLog, IsKnown, is_known, on}
+use Rattle.cut_files.specs.Place.{Place, MayNotOpen, OpensAs, closed}
+use Rattle.cut_files.specs.declared.files.Mode.TheVariants.{Create}
+use Rattle.cut_files.specs.declared.files.OpenFault.{OpenFault}
 use Rattle.cut_ledger.specs.declared.slip.Slip.{Slip}
 use Rattle.cut_ledger.specs.Slips.{AreGood, IsFirstBad}
 use Rattle.cut_journal.specs.declared.fault.JournalFault.TheVariants as journal
@@ -17,12 +21,13 @@ use Rattle.cut_share.specs.declared.share.Share.{Share}
 use Rattle.cut_share.specs.Running.{AreOfShare, AreWhole, IsNotDone}
 use Rattle.cut_share.specs.Share.{trials_of_share}
 use Rattle.cut_wires.specs.Log.{WireLog}
-use Rattle.cut_commands.specs.Run.{GivesPlan}
+use Rattle.cut_commands.specs.Faults.{fault_of_files}
+use Rattle.cut_commands.specs.Run.{EndsCommand, GivesPlan}
 use Rattle.cut_commands.specs.Study.{MayStop}
 use Rattle.cut_commands.specs.Task.{Task}
 use Rattle.cut_commands.specs.declared.fault.CliFault.{CliFault}
 use Rattle.cut_commands.specs.declared.fault.CliFault.TheVariants.{Memory, Plan, Read, Write, Journal, BadSlip}
-use Rattle.cut_commands.specs.declared.fault.CliFault.TheVariants.{Migrate, Checkpoint, WorkMemory, AuditMismatch}
+use Rattle.cut_commands.specs.declared.fault.CliFault.TheVariants.{Checkpoint, WorkMemory}
 
 -- ---- the answer
 
@@ -55,66 +60,65 @@ pub record HasAdded (v : Values) (slips added : List Slip) (doubtful : Option Sl
   pub moments : AppendsEach v slips doubtful added opened new
   pub bytes : SayUpTo v (slips ++ added) doubtful new.bytes
 
-module _ {D : Type 0} (is_honest : D → Type 0) (state : D → DiskState) where
-  -- the same of a disk and of the one that came back, if it is honest
-  abbrev pub AddsTo : Values → List Slip → List Slip → Option Slip → D → D → Type 0
-  AddsTo v slips added doubtful disk back = is_honest disk → HasAdded v slips added doubtful (state disk) (state back)
+-- the same of a disk and of what it is afterwards, where its bytes are known
+abbrev pub AddsTo : Values → List Slip → List Slip → Option Slip → DiskLog → DiskLog → Type 0
+AddsTo v slips added doubtful disk back = IsKnown disk → HasAdded v slips added doubtful (on disk) (on back)
 
-  -- no slip was added, and the disk is as the opening left it
-  abbrev pub Opens : Values → D → D → Type 0
-  Opens v disk back = is_honest disk → IsOpening v (state disk) (state back)
+-- no slip was added, and the disk is as the opening left it
+abbrev pub Opens : Values → DiskLog → DiskLog → Type 0
+Opens v disk back = IsKnown disk → IsOpening v (on disk) (on back)
 
-  -- all trials of a share are held: what the slips that were found lacked of them is in those added, each once
-  pub record KeepsAll (s : Share) (v : Values) (disk back : D) : Type 0 where
-    pub slips : List Slip
-    pub added : List Slip
-    pub adds : AddsTo v slips added None disk back
-    pub good : AreGood v slips
-    pub own : AreOfShare s v slips added
-    pub whole : AreWhole s v slips added
+-- all trials of a share are held: what the slips that were found lacked of them is in those added, each once
+pub record KeepsAll (s : Share) (v : Values) (disk back : DiskLog) : Type 0 where
+  pub slips : List Slip
+  pub added : List Slip
+  pub adds : AddsTo v slips added None disk back
+  pub good : AreGood v slips
+  pub own : AreOfShare s v slips added
+  pub whole : AreWhole s v slips added
 
-  -- what is on the disk of a share whose plan was read, by how the command ends. All is kept at Ok and where a write
-  -- failed. Where memory ran out some slips of the share were added, and a trial of it is in none, or no slip was.
-  -- Where the disk failed some were added, and one more is doubtful. None was added where a slip is bad, where the
-  -- journal was not opened, and where memory ran out for its opening
-  abbrev pub Keeps : Result ⊤ CliFault → Share → Values → D → D → Type 0
-  Keeps (Ok done) s v disk back = KeepsAll s v disk back
-  Keeps (Err (Write fault)) s v disk back = KeepsAll s v disk back
-  Keeps (Err WorkMemory) s v disk back =
-      (slips : List Slip) × (added : List Slip) × (AddsTo v slips added None disk back × AreOfShare s v slips added
-      × ((added ≡ []) ⊎ (AreGood v slips × IsNotDone s v (slips ++ added))))
-  Keeps (Err Checkpoint) s v disk back =
-      (slips : List Slip) × (added : List Slip) × (slip : Slip) × (AddsTo v slips added (Some slip) disk back
-      × AreGood v slips × AreOfShare s v slips (added ++ slip ∷ []))
-  Keeps (Err (BadSlip number)) s v disk back =
-      (slips : List Slip) × (AddsTo v slips [] None disk back × IsFirstBad v slips number)
-  Keeps (Err (Journal fault)) s v disk back =
-      MayStop fault × (is_honest disk → IsOpenFault v (state disk).bytes fault) × Opens v disk back
-  Keeps (Err Memory) s v disk back = Opens v disk back
-  Keeps (Err fault) s v disk back = ⊥
+-- what is on the disk of a share whose plan was read, by how the command ends. All is kept at Ok and where a write
+-- failed. Where memory ran out some slips of the share were added, and a trial of it is in none, or no slip was.
+-- Where the disk failed some were added, and one more is doubtful. None was added where a slip is bad, where the
+-- journal was not opened, and where memory ran out for its opening
+abbrev pub Keeps : Result ⊤ CliFault → Share → Values → DiskLog → DiskLog → Type 0
+Keeps (Ok done) s v disk back = KeepsAll s v disk back
+Keeps (Err (Write fault)) s v disk back = KeepsAll s v disk back
+Keeps (Err WorkMemory) s v disk back =
+    (slips : List Slip) × (added : List Slip) × (AddsTo v slips added None disk back × AreOfShare s v slips added
+    × ((added ≡ []) ⊎ (AreGood v slips × IsNotDone s v (slips ++ added))))
+Keeps (Err Checkpoint) s v disk back =
+    (slips : List Slip) × (added : List Slip) × (slip : Slip) × (AddsTo v slips added (Some slip) disk back
+    × AreGood v slips × AreOfShare s v slips (added ++ slip ∷ []))
+Keeps (Err (BadSlip number)) s v disk back =
+    (slips : List Slip) × (AddsTo v slips [] None disk back × IsFirstBad v slips number)
+Keeps (Err (Journal fault)) s v disk back =
+    MayStop fault × (IsKnown disk → IsOpenFault v (on disk).bytes fault) × Opens v disk back
+Keeps (Err Memory) s v disk back = Opens v disk back
+Keeps (Err fault) s v disk back = ⊥
 
-  -- the answer of a share, or why there is none, with what is on its disk then
-  abbrev pub share_task : Result ⊤ CliFault → Share → D → D → Task
-  share_task ended s disk back = record {
-    answers = λ v whole. (whole ≡ answer_at ended s v) × Keeps ended s v disk back;
-    fails = λ v fault. Keeps (Err fault) s v disk back;
-  }
+-- the answer of a share, or why there is none, with what is on its disk then
+abbrev pub share_task : Result ⊤ CliFault → Share → DiskLog → DiskLog → Task
+share_task ended s disk back = record {
+  answers = λ v whole. (whole ≡ answer_at ended s v) × Keeps ended s v disk back;
+  fails = λ v fault. Keeps (Err fault) s v disk back;
+}
 
-  -- the disk is untouched where a read failed or the text is no plan, and also where memory ran out, if the plan was
-  -- not read then
-  abbrev pub LeavesUnread : CliFault → D → D → WireLog → WireLog → Type 0
-  LeavesUnread Read disk back old new = back ≡ disk
-  LeavesUnread (Plan refusal) disk back old new = back ≡ disk
-  LeavesUnread Memory disk back old new =
-      (back ≡ disk) ⊎ ((v : Values) × (GivesPlan (Ok v) old new × Opens v disk back))
-  LeavesUnread fault disk back old new = ⊤
+-- the disk is untouched where a read failed or the text is no plan, and also where memory ran out, if the plan was
+-- not read then
+abbrev pub LeavesUnread : CliFault → DiskLog → DiskLog → WireLog → WireLog → Type 0
+LeavesUnread Read disk back old new = back ≡ disk
+LeavesUnread (Plan refusal) disk back old new = back ≡ disk
+LeavesUnread Memory disk back old new =
+    (back ≡ disk) ⊎ ((v : Values) × (GivesPlan (Ok v) old new × Opens v disk back))
+LeavesUnread fault disk back old new = ⊤
 
-  -- how the steps between the reading of a plan and the answer end: the share has n trials, and all are kept; or as
-  -- the command ends
-  abbrev pub EndsKeeping : Result ℕ CliFault → Share → Values → D → D → Type 0
-  EndsKeeping (Ok n) s v disk back = (n ≡ length (trials_of_share s v)) × KeepsAll s v disk back
-  EndsKeeping (Err (Write fault)) s v disk back = ⊥
-  EndsKeeping (Err fault) s v disk back = Keeps (Err fault) s v disk back
+-- how the steps between the reading of a plan and the answer end: the share has n trials, and all are kept; or as
+-- the command ends
+abbrev pub EndsKeeping : Result ℕ CliFault → Share → Values → DiskLog → DiskLog → Type 0
+EndsKeeping (Ok n) s v disk back = (n ≡ length (trials_of_share s v)) × KeepsAll s v disk back
+EndsKeeping (Err (Write fault)) s v disk back = ⊥
+EndsKeeping (Err fault) s v disk back = Keeps (Err fault) s v disk back
 
 -- how many calls of the disk failed: one more exactly where the command ends with the fault of its opening or of an
 -- append
@@ -132,15 +136,20 @@ fault_of_share share.WorkMemory = WorkMemory
 fault_of_share share.OtherPlan = Journal journal.OtherPlan
 fault_of_share share.Broken = Journal journal.Broken
 
--- ---- over a file, of which nothing is known
+-- how the command ends over a disk, and what it leaves there
+pub record SharesOn (ended : Result ⊤ CliFault) (s : Share) (disk back : DiskLog) (old new : WireLog) : Type 0 where
+  pub command : EndsCommand (share_task ended s disk back) old new ended
+  pub unread : IfErr ended (λ fault. LeavesUnread fault disk back old new)
+  pub known : is_known back ≡ is_known disk
+  pub faults : back.failed ≡ disk_faults_after ended disk.failed
 
--- why a share is not run to its end: no slips are moved, and nothing is audited
-abbrev pub ShareFails : Values → CliFault → Type 0
-ShareFails v (Journal fault) = MayStop fault
-ShareFails v (BadSlip number) = (kept : List Slip) × IsFirstBad v kept number
-ShareFails v (Migrate fault) = ⊥
-ShareFails v AuditMismatch = ⊥
-ShareFails v fault = ⊤
+-- ---- over a file
 
-abbrev pub share_file_task : Result ⊤ CliFault → Share → Task
-share_file_task ended s = record { answers = λ v whole. whole ≡ answer_at ended s v; fails = ShareFails }
+-- how it ends over what stands at a path, and what stands there then: the file was opened, and shut with what its disk
+-- holds; or it was not opened, and nothing was read or written
+abbrev pub EndsShare : Result ⊤ CliFault → Share → Place → Place → WireLog → WireLog → Type 0
+EndsShare ended s place after old new =
+    ((disk : DiskLog) × (back : DiskLog) × (OpensAs Create disk place × (after ≡ closed back place)
+    × SharesOn ended s disk back old new))
+    ⊎ ((fault : OpenFault) × (MayNotOpen Create fault place × (after ≡ place) × (ended ≡ Err (fault_of_files fault))
+    × (new ≡ old)))

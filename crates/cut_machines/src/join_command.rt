@@ -1,6 +1,7 @@
 //! The command that joins checkpoints.
 
 ghost use Rattle.std.specs.Prelude.{◌≡◌, ◌↔◌, Err, IfErr, IfOk, None, length, string_bytes};
+ghost use Rattle.cut_disks.specs.Log.{IsKnown, is_known, on};
 ghost use Rattle.cut_ledger.specs.Slips.{AreGood};
 ghost use Rattle.cut_join.specs.Joined.{joined};
 ghost use Rattle.cut_join.specs.Laws.{JoinedAreTrue, JoinedGiveThePlansTable};
@@ -73,9 +74,9 @@ where
     W: Wire,
     O: Disk + Drop,
     N: Disk + Drop,
-    ensures ends { EndsJoinCommand O.is_honest O.state N.is_honest N.state N.faults old.items new result.disk
+    ensures ends { EndsJoinCommand O.log N.log old.items new result.disk
         (W.log wire.old) (W.log wire.new) result.ended }
-    ensures refused { NamesRefused O.is_honest O.state N.is_honest N.state N.faults old.items new result.disk
+    ensures refused { NamesRefused O.log N.log old.items new result.disk
         (W.log wire.old) (W.log wire.new) result.ended result.refused }
     ensures slips { JoinedAreTrue }
     ensures table { JoinedGiveThePlansTable }
@@ -172,13 +173,13 @@ fn join_disks<O, N>(alloc: Global, plan: &Plan, old: Vec<O>, new: N) -> Answered
 where
     O: Disk + Drop,
     N: Disk + Drop,
-    ensures writes { IfOk result.text (λ text. JoinWrites O.is_honest O.state N.is_honest N.state N.faults
+    ensures writes { IfOk result.text (λ text. JoinWrites O.log N.log
         old.items new result.disk plan.now (string_bytes text)) }
-    ensures stops { IfErr result.text (StopsJoin O.is_honest O.state N.is_honest N.state N.faults
+    ensures stops { IfErr result.text (StopsJoin O.log N.log
         old.items new result.disk plan.now) }
-    ensures refused { NamesOld O.is_honest O.state N.is_honest N.state N.faults
+    ensures refused { NamesOld O.log N.log
         old.items new result.disk plan.now result.text result.refused }
-    ensures honest { N.is_honest new ↔ N.is_honest result.disk }
+    ensures known { is_known (N.log result.disk) ≡ is_known (N.log new) }
 {
     match judged_slips(alloc, plan, old) {
         Ok(slips) => join_slips(alloc, plan, &slips, new),
@@ -195,10 +196,10 @@ fn join_slips<N: Disk + Drop>(alloc: Global, plan: &Plan, slips: &[Slip], disk: 
     requires { AreGood plan.now slips.now }
     ensures text { IfOk result.text (λ text. string_bytes text ≡ joined_text plan.now slips.now) }
     ensures stops { IfErr result.text StopsWriting }
-    ensures left { N.is_honest disk →
-        LeavesDisk result.text plan.now slips.now (N.state disk) (N.state result.disk) }
-    ensures honest { N.is_honest disk ↔ N.is_honest result.disk }
-    ensures faults { N.faults result.disk ≡ writing_faults result.text (N.faults disk) }
+    ensures left { IsKnown (N.log disk) →
+        LeavesDisk result.text plan.now slips.now (on (N.log disk)) (on (N.log result.disk)) }
+    ensures known { is_known (N.log result.disk) ≡ is_known (N.log disk) }
+    ensures faults { (N.log result.disk).failed ≡ writing_faults result.text (N.log disk).failed }
     ensures none { result.refused ≡ None }
 {
     let Written { disk, count } = write_joined(alloc, plan, slips, disk);

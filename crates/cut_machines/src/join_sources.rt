@@ -28,10 +28,10 @@ pub(crate) fn judged_slips<O: Disk + Drop>(
     plan: &Plan,
     disks: Vec<O>,
 ) -> Result<Vec<Slip>, Unjoined>
-    ensures held { IfOk result (λ slips. HoldAll O.is_honest O.state disks.items plan.now slips.items) }
+    ensures held { IfOk result (λ slips. HoldAll O.log disks.items plan.now slips.items) }
     ensures good { IfOk result (λ slips. AreGood plan.now slips.items) }
-    ensures stops { IfErr result (λ e. StopsReading O.is_honest O.state disks.items plan.now e.fault) }
-    ensures names { IfErr result (λ e. NamesDisk O.is_honest O.state disks.items plan.now e.fault e.refused) }
+    ensures stops { IfErr result (λ e. StopsReading O.log disks.items plan.now e.fault) }
+    ensures names { IfErr result (λ e. NamesDisk O.log disks.items plan.now e.fault e.refused) }
 {
     judged(alloc, plan, slips_of_all(alloc, plan, disks)?)
 }
@@ -71,9 +71,9 @@ fn slips_of_all<O: Disk + Drop>(
     plan: &Plan,
     disks: Vec<O>,
 ) -> Result<Vec<Slip>, Unjoined>
-    ensures held { IfOk result (λ slips. HoldAll O.is_honest O.state disks.items plan.now slips.items) }
-    ensures stops { IfErr result (λ e. IsUnread O.is_honest O.state disks.items plan.now e.fault) }
-    ensures names { IfErr result (λ e. NamesDisk O.is_honest O.state disks.items plan.now e.fault e.refused) }
+    ensures held { IfOk result (λ slips. HoldAll O.log disks.items plan.now slips.items) }
+    ensures stops { IfErr result (λ e. IsUnread O.log disks.items plan.now e.fault) }
+    ensures names { IfErr result (λ e. NamesDisk O.log disks.items plan.now e.fault e.refused) }
 {
     let mut slips = Vec::new(alloc);
     let mut read = 0;
@@ -119,8 +119,8 @@ fn add_slips<O: Disk + Drop>(
     disk: O,
     slips: &mut Vec<Slip>,
 ) -> Result<(), CliFault>
-    ensures adds { IfOk result (λ _. AddsHeld O.is_honest O.state disk plan.now slips.old.items slips.new.items) }
-    ensures stops { IfErr result (IsUnopened O.is_honest O.state disk plan.now) }
+    ensures adds { IfOk result (λ _. AddsHeld O.log disk plan.now slips.old.items slips.new.items) }
+    ensures stops { IfErr result (IsUnopened O.log disk plan.now) }
 {
     let found = slips_on(alloc, plan, disk)?;
     slips.extend_from_slice(&found)?;
@@ -144,8 +144,8 @@ fn add_file_slips(
 
 /// The slips that a disk holds for a plan.
 fn slips_on<O: Disk + Drop>(alloc: Global, plan: &Plan, disk: O) -> Result<Vec<Slip>, CliFault>
-    ensures held { IfOk result (λ slips. Holds O.is_honest O.state disk plan.now slips.items) }
-    ensures stops { IfErr result (IsUnopened O.is_honest O.state disk plan.now) }
+    ensures held { IfOk result (λ slips. Holds O.log disk plan.now slips.items) }
+    ensures stops { IfErr result (IsUnopened O.log disk plan.now) }
 {
     match Journal::reopen(alloc, disk, plan) {
         Ok((_, slips)) => Ok(slips),

@@ -1,6 +1,7 @@
 //! The new checkpoint of a join.
 
 ghost use Rattle.std.specs.Prelude.{◌≡◌, ◌↔◌, IfErr, IfOk, OnOk, length};
+ghost use Rattle.cut_disks.specs.Log.{IsKnown, is_known, on};
 ghost use Rattle.cut_ledger.specs.Slips.{AreGood};
 ghost use Rattle.cut_join.specs.Joined.{joined};
 ghost use Rattle.cut_machines.specs.JoinTarget.{LeavesDisk, SaysAllOf};
@@ -32,12 +33,12 @@ pub(crate) fn write_joined<N: Disk + Drop>(
     disk: N,
 ) -> Written<N>
     requires { AreGood plan.now slips.now }
-    ensures left { N.is_honest disk →
-        LeavesDisk result.count plan.now slips.now (N.state disk) (N.state result.disk) }
+    ensures left { IsKnown (N.log disk) →
+        LeavesDisk result.count plan.now slips.now (on (N.log disk)) (on (N.log result.disk)) }
     ensures count { IfOk result.count (λ n. n ≡ length (joined plan.now slips.now)) }
     ensures stops { IfErr result.count StopsWriting }
-    ensures honest { N.is_honest disk ↔ N.is_honest result.disk }
-    ensures faults { N.faults result.disk ≡ writing_faults result.count (N.faults disk) }
+    ensures known { is_known (N.log result.disk) ≡ is_known (N.log disk) }
+    ensures faults { (N.log result.disk).failed ≡ writing_faults result.count (N.log disk).failed }
 {
     match Journal::claim(alloc, disk, plan) {
         Ok(journal) => fill(alloc, plan, slips, journal),
@@ -52,14 +53,14 @@ pub(crate) fn write_joined<N: Disk + Drop>(
 fn fill<N: Disk>(alloc: Global, plan: &Plan, slips: &[Slip], journal: Journal<N>) -> Written<N>
     requires good { AreGood plan.now slips.now }
     requires new { IsNewJournal plan.now journal }
-    ensures part { N.is_honest journal.disk →
-        IsPartWritten plan.now slips.now (N.state journal.disk) (N.state result.disk) }
-    ensures all { N.is_honest journal.disk →
-        OnOk result.count (SaysAllOf plan.now (joined plan.now slips.now) (N.state result.disk)) }
+    ensures part { IsKnown (N.log journal.disk) →
+        IsPartWritten plan.now slips.now (on (N.log journal.disk)) (on (N.log result.disk)) }
+    ensures all { IsKnown (N.log journal.disk) →
+        OnOk result.count (SaysAllOf plan.now (joined plan.now slips.now) (on (N.log result.disk))) }
     ensures count { IfOk result.count (λ n. n ≡ length (joined plan.now slips.now)) }
     ensures stops { IfErr result.count StopsFilling }
-    ensures honest { N.is_honest journal.disk ↔ N.is_honest result.disk }
-    ensures faults { N.faults result.disk ≡ writing_faults result.count (N.faults journal.disk) }
+    ensures known { is_known (N.log result.disk) ≡ is_known (N.log journal.disk) }
+    ensures faults { (N.log result.disk).failed ≡ writing_faults result.count (N.log journal.disk).failed }
 {
     let mut journal = journal;
     let count = match join(alloc, plan, slips, &mut journal) {

@@ -1,11 +1,14 @@
-ghost use Rattle.std.specs.Prelude.{◌≡◌, ◌≤◌, ◌↔◌, IfErr};
-ghost use Rattle.cut_commands.specs.Run.{EndsCommand, EndsWithFile};
-ghost use Rattle.cut_machines.specs.Share.{EndsKeeping, LeavesUnread, share_file_task, share_task};
+ghost use Rattle.std.specs.Prelude.{◌≡◌, ◌≤◌, IfErr};
+ghost use Rattle.cut_disks.specs.Log.{is_known};
+ghost use Rattle.cut_files.specs.Place.{StaysElsewhere};
+ghost use Rattle.cut_commands.specs.Run.{EndsCommand};
+ghost use Rattle.cut_machines.specs.Share.{EndsKeeping, EndsShare, LeavesUnread, share_task};
 ghost use Rattle.cut_machines.specs.Share.{disk_faults_after, fault_of_share};
 
 use crate::share_answer::share_line;
 use cut_commands::{CliFault, read_plan, write_answer};
-use cut_disks::{Disk, FileDisk};
+use cut_disks::Disk;
+use cut_files::{Files, Mode};
 use cut_journal::{Journal, JournalFault};
 use cut_outcome::Gate;
 use cut_plan::Plan;
@@ -24,31 +27,57 @@ pub struct ShareWork<'a, G> {
     pub workers: u32,
     /// What they call at each stage of their work.
     pub gate: &'a G,
+    /// The path of the file that keeps the share.
+    pub file: &'a str,
     pub ghost few: { (1 ≤ workers) × (workers ≤ 64) },
 }
 
-/// How `share_io` ended, and the disk that it was given.
-#[derive(Drop)]
-pub struct Shared<D> {
-    /// The disk, with what was added to it.
-    pub disk: D,
-    /// Whether all trials of the share are held and the answer was written, or why not.
-    pub ended: Result<(), CliFault>,
-}
-
-/// Reads a plan from a wire, runs the trials of a share that a disk lacks, keeps them there, and writes the line
-/// `share I of N: n of n`, where n is how many trials the share has. All of them are held then.
+/// Reads a plan from a wire, runs the trials of a share that the file of the work lacks, keeps them there, and writes the
+/// line `share I of N: n of n`, where n is how many trials the share has. All of them are held then.
 ///
-/// The disk is opened once the plan is read: it holds a journal of the plan, or no study, and then a journal is made.
-/// Of an honest disk the contract says which slips were found and which were added, at each end: at `Ok`, and where
-/// the write of the answer failed, exactly the trials of the share that were lacking; none at a fault of the opening or
-/// a slip that is bad; some where memory ran out or the disk failed. Whenever a crash comes, what it leaves is read as
-/// the slips that were found and some first ones of those that were added. WorkMemory comes where memory ran out once
-/// the disk was opened.
+/// The file is opened before anything is read, and made where there is none. Its journal is opened once the plan is read:
+/// it holds one of the plan, or it is unclaimed, and then a journal is made. Where what stands at the path is known, the
+/// contract says which slips were found and which were added, at each end: at `Ok`, and where the write of the answer
+/// failed, exactly the trials of the share that were lacking; none at a fault of the opening or a slip that is bad; some
+/// where memory ran out or the disk failed. Whenever a crash comes, what it leaves is read as the slips that were found
+/// and some first ones of those that were added. WorkMemory comes where memory ran out once the journal was opened.
 ///
 /// At most 65,537 bytes are read, and nothing is written at a fault other than that of a write. Checkpoint, and the
-/// fault Disk of the journal, come exactly where a call of the disk failed.
-pub fn share_io<W, D, G, R>(
+/// fault Disk of the journal, come exactly where a call of the disk failed, or the file was not opened.
+pub fn share<F, W, G, R>(
+    files: &mut F,
+    rt: &R,
+    alloc: Global,
+    wire: &mut W,
+    work: ShareWork<'_, G>,
+) -> Result<(), CliFault>
+where
+    F: Files,
+    W: Wire,
+    G: Gate + Sync,
+    R: Threads + Wait + Sync,
+    ensures ends { EndsShare result work.entry.share (F.log files.old work.entry.file.now)
+        (F.log files.new work.entry.file.now) (W.log wire.old) (W.log wire.new) }
+    ensures elsewhere { StaysElsewhere work.entry.file.now (F.log files.old) (F.log files.new) }
+{
+    let path = work.file;
+    let disk = files.open(path, Mode::Create)?;
+    let Shared { disk, ended } = share_on(rt, alloc, wire, work, disk);
+    files.close(path, disk);
+    ended
+}
+
+/// How a share ended, and the disk that it was given.
+#[derive(Drop)]
+struct Shared<D> {
+    /// The disk, with what was added to it.
+    disk: D,
+    /// Whether all trials of the share are held and the answer was written, or why not.
+    ended: Result<(), CliFault>,
+}
+
+/// Runs a share over a disk.
+fn share_on<W, D, G, R>(
     rt: &R,
     alloc: Global,
     wire: &mut W,
@@ -60,12 +89,12 @@ where
     D: Disk,
     G: Gate + Sync,
     R: Threads + Wait + Sync,
-    ensures ends { EndsCommand (share_task D.is_honest D.state result.ended work.entry.share disk result.disk)
+    ensures ends { EndsCommand (share_task result.ended work.entry.share (D.log disk) (D.log result.disk))
         (W.log wire.old) (W.log wire.new) result.ended }
-    ensures unread { IfErr result.ended (λ fault. LeavesUnread D.is_honest D.state fault disk result.disk
+    ensures unread { IfErr result.ended (λ fault. LeavesUnread fault (D.log disk) (D.log result.disk)
         (W.log wire.old) (W.log wire.new)) }
-    ensures honest { D.is_honest disk ↔ D.is_honest result.disk }
-    ensures faults { D.faults result.disk ≡ disk_faults_after result.ended (D.faults disk) }
+    ensures known { is_known (D.log result.disk) ≡ is_known (D.log disk) }
+    ensures faults { (D.log result.disk).failed ≡ disk_faults_after result.ended (D.log disk).failed }
 {
     let share = work.share;
     let plan = match read_plan(alloc, wire) {
@@ -103,9 +132,9 @@ where
     D: Disk,
     G: Gate + Sync,
     R: Threads + Wait + Sync,
-    ensures ends { EndsKeeping D.is_honest D.state result.0 work.entry.share plan.now disk result.1 }
-    ensures honest { D.is_honest disk ↔ D.is_honest result.1 }
-    ensures faults { D.faults result.1 ≡ disk_faults_after result.0 (D.faults disk) }
+    ensures ends { EndsKeeping result.0 work.entry.share plan.now (D.log disk) (D.log result.1) }
+    ensures known { is_known (D.log result.1) ≡ is_known (D.log disk) }
+    ensures faults { (D.log result.1).failed ≡ disk_faults_after result.0 (D.log disk).failed }
 {
     let (mut journal, slips) = match Journal::open(alloc, disk, plan) {
         Ok(opened) => opened,
@@ -137,28 +166,5 @@ fn fault_of_share(fault: ShareFault) -> CliFault
         ShareFault::Memory | ShareFault::WorkMemory => CliFault::WorkMemory,
         ShareFault::OtherPlan => CliFault::Journal(JournalFault::OtherPlan),
         ShareFault::Broken => CliFault::Journal(JournalFault::Broken),
-    }
-}
-
-/// Runs a share as `share_io` does, which is kept in the file at a path.
-///
-/// The file is opened by `host` before anything is read. Of what it holds nothing is known, so the contract says only
-/// what the wire took.
-pub fn share_file<W, G, R>(
-    host: &HostRuntime,
-    rt: &R,
-    wire: &mut W,
-    work: ShareWork<'_, G>,
-    path: &str,
-) -> Result<(), CliFault>
-where
-    W: Wire,
-    G: Gate + Sync,
-    R: Threads + Wait + Sync,
-    ensures { EndsWithFile (share_file_task result work.entry.share) (W.log wire.old) (W.log wire.new) result }
-{
-    match FileDisk::open(host, path) {
-        Ok(disk) => share_io(rt, host.alloc(), wire, work, disk).ended,
-        Err(_) => Err(CliFault::Journal(JournalFault::Disk)),
     }
 }

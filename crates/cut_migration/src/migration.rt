@@ -1,4 +1,5 @@
 ghost use Rattle.std.specs.Prelude.{◌≡◌, ◌+◌, ◌<◌, ◌↔◌, ◌++◌, ℕ, IsErrOf, IsTrue};
+ghost use Rattle.cut_disks.specs.Log.{IsKnown, is_known, on};
 ghost use Rattle.cut_fields.specs.declared.version.Version.TheVariants.{One, Two};
 ghost use Rattle.cut_plan.specs.Plan.{IsPlan};
 ghost use Rattle.cut_plan.specs.Targets.{upgraded};
@@ -44,16 +45,16 @@ pub fn migrate<D: Disk>(
 ) -> Result<u64, MigrateFault>
     ensures version { IsErrOf result MigrateFault.NotVersion1 ↔ (version_of plan.now.failing ≡ Two) }
     ensures ends { EndsMigration result plan.now slips.now journal.old journal.new }
-    ensures moments { D.is_honest journal.old.disk → (n : ℕ) → journal.new.count ≡ journal.old.count + n →
-        AppendsEach journal.old.plan (kept_slips journal.old.plan journal.old.count (D.state journal.old.disk))
+    ensures moments { IsKnown (D.log journal.old.disk) → (n : ℕ) → journal.new.count ≡ journal.old.count + n →
+        AppendsEach journal.old.plan (kept_slips journal.old.plan journal.old.count (on (D.log journal.old.disk)))
         journal.new.doubtful (first_moved plan.now slips.now n)
-        (D.state journal.old.disk) (D.state journal.new.disk) }
-    ensures kept { D.is_honest journal.old.disk → (n : ℕ) → journal.new.count ≡ journal.old.count + n →
-        kept_slips journal.new.plan journal.new.count (D.state journal.new.disk)
-        ≡ kept_slips journal.old.plan journal.old.count (D.state journal.old.disk)
+        (on (D.log journal.old.disk)) (on (D.log journal.new.disk)) }
+    ensures kept { IsKnown (D.log journal.old.disk) → (n : ℕ) → journal.new.count ≡ journal.old.count + n →
+        kept_slips journal.new.plan journal.new.count (on (D.log journal.new.disk))
+        ≡ kept_slips journal.old.plan journal.old.count (on (D.log journal.old.disk))
         ++ first_moved plan.now slips.now n }
-    ensures honest { D.is_honest journal.old.disk ↔ D.is_honest journal.new.disk }
-    ensures faults { D.faults journal.new.disk ≡ moving_faults result (D.faults journal.old.disk) }
+    ensures known { is_known (D.log journal.new.disk) ≡ is_known (D.log journal.old.disk) }
+    ensures faults { (D.log journal.new.disk).failed ≡ moving_faults result (D.log journal.old.disk).failed }
 {
     journal.stays_readable();
     if plan.version() != Version::One {
@@ -107,16 +108,16 @@ fn move_slips<D: Disk>(
     requires plan { journal.old.plan ≡ upgraded target.plan.now }
     ensures ends { EndsMigration result target.entry.plan.now slips.now journal.old journal.new }
     ensures version { IsErrOf result MigrateFault.NotVersion1 → ⊥ }
-    ensures moments { D.is_honest journal.old.disk → (n : ℕ) → journal.new.count ≡ journal.old.count + n →
-        AppendsEach journal.old.plan (kept_slips journal.old.plan journal.old.count (D.state journal.old.disk))
+    ensures moments { IsKnown (D.log journal.old.disk) → (n : ℕ) → journal.new.count ≡ journal.old.count + n →
+        AppendsEach journal.old.plan (kept_slips journal.old.plan journal.old.count (on (D.log journal.old.disk)))
         journal.new.doubtful (first_moved target.entry.plan.now slips.now n)
-        (D.state journal.old.disk) (D.state journal.new.disk) }
-    ensures kept { D.is_honest journal.old.disk → (n : ℕ) → journal.new.count ≡ journal.old.count + n →
-        kept_slips journal.new.plan journal.new.count (D.state journal.new.disk)
-        ≡ kept_slips journal.old.plan journal.old.count (D.state journal.old.disk)
+        (on (D.log journal.old.disk)) (on (D.log journal.new.disk)) }
+    ensures kept { IsKnown (D.log journal.old.disk) → (n : ℕ) → journal.new.count ≡ journal.old.count + n →
+        kept_slips journal.new.plan journal.new.count (on (D.log journal.new.disk))
+        ≡ kept_slips journal.old.plan journal.old.count (on (D.log journal.old.disk))
         ++ first_moved target.entry.plan.now slips.now n }
-    ensures honest { D.is_honest journal.old.disk ↔ D.is_honest journal.new.disk }
-    ensures faults { D.faults journal.new.disk ≡ moving_faults result (D.faults journal.old.disk) }
+    ensures known { is_known (D.log journal.new.disk) ≡ is_known (D.log journal.old.disk) }
+    ensures faults { (D.log journal.new.disk).failed ≡ moving_faults result (D.log journal.old.disk).failed }
 {
     journal.stays_readable();
     let mut count = 0;
@@ -138,16 +139,16 @@ fn move_slip<D: Disk>(
     requires piece { IsTrue (is_piece target.plan.now slip.now.piece) }
     requires plan { journal.old.plan ≡ upgraded target.plan.now }
     ensures ends { MovesOne result target.entry.plan.now number slip.now journal.old journal.new }
-    ensures moments { D.is_honest journal.old.disk →
-        AppendsEach journal.old.plan (kept_slips journal.old.plan journal.old.count (D.state journal.old.disk))
+    ensures moments { IsKnown (D.log journal.old.disk) →
+        AppendsEach journal.old.plan (kept_slips journal.old.plan journal.old.count (on (D.log journal.old.disk)))
         journal.new.doubtful (taken result (moved target.entry.plan.now slip.now))
-        (D.state journal.old.disk) (D.state journal.new.disk) }
-    ensures kept { D.is_honest journal.old.disk →
-        kept_slips journal.new.plan journal.new.count (D.state journal.new.disk)
+        (on (D.log journal.old.disk)) (on (D.log journal.new.disk)) }
+    ensures kept { IsKnown (D.log journal.old.disk) →
+        kept_slips journal.new.plan journal.new.count (on (D.log journal.new.disk))
         ≡ kept_after result (moved target.entry.plan.now slip.now)
-        (kept_slips journal.old.plan journal.old.count (D.state journal.old.disk)) }
-    ensures honest { D.is_honest journal.old.disk ↔ D.is_honest journal.new.disk }
-    ensures faults { D.faults journal.new.disk ≡ moving_faults result (D.faults journal.old.disk) }
+        (kept_slips journal.old.plan journal.old.count (on (D.log journal.old.disk))) }
+    ensures known { is_known (D.log journal.new.disk) ≡ is_known (D.log journal.old.disk) }
+    ensures faults { (D.log journal.new.disk).failed ≡ moving_faults result (D.log journal.old.disk).failed }
 {
     journal.stays_readable();
     let result = match run_piece(alloc, target.upgrade, target.rings, slip.piece) {

@@ -10,7 +10,7 @@ use Rattle.cut_ledger.specs.Slips.{AreGood}
 use Rattle.cut_wires.specs.Log.{WireLog, wrote}
 use Rattle.cut_wires.specs.declared.rows.RowsFault.{RowsFault}
 use Rattle.cut_wires.specs.declared.rows.RowsFault.TheVariants as rows
-use Rattle.cut_hall.specs.declared.next_row_fault.NextRowFault.{NextRowFault}
+use Rattle.cut_slots.specs.declared.next_row_fault.NextRowFault.{NextRowFault}
 use Rattle.cut_pool.specs.declared.run_fault.RunFault.{RunFault}
 use Rattle.cut_pool.specs.declared.run_fault.RunFault.TheVariants.{BadSlip, Checkpoint, Write, WorkMemory}
 use Rattle.cut_pool.specs.declared.run_fault.RunFault.TheVariants.{AuditMismatch}
@@ -18,7 +18,7 @@ use Rattle.cut_pool.specs.declared.study_run.Done.{Done}
 use Rattle.cut_pool.specs.inside.Conclusion.{NoWriteFailed, Concludes}
 use Rattle.cut_pool.specs.Emission.{WrotePrefix}
 use Rattle.cut_pool.specs.inside.Emission.{EmitsStudy}
-use Rattle.cut_hall.specs.Report.{SlotEnd, AreOpenedWith, calls_in_all}
+use Rattle.cut_slots.specs.Report.{SlotEnd, AreOpenedWith, calls_in_all}
 use Rattle.cut_pool.specs.Running.{HasEnded, Takes}
 
 -- where no write failed, some first bytes were written

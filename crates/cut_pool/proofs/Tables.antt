@@ -21,10 +21,10 @@ use Rattle.cut_wires.specs.declared.rows.RowsFault.TheVariants.{Row, Write}
 use Rattle.cut_wires.specs.Log.{WireLog, wrote, write_failed}
 use Rattle.cut_wires.specs.Rows.{SendsRows, rows_to}
 use Rattle.cut_wires.specs.Sending.{Sending}
-use Rattle.cut_hall.specs.declared.next_row_fault.NextRowFault.{NextRowFault}
+use Rattle.cut_slots.specs.declared.next_row_fault.NextRowFault.{NextRowFault}
 use Rattle.cut_pool.specs.inside.Emission.{EmitsStudy, Worked, emitted, lines_of}
-use Rattle.cut_hall.specs.Lines.{full_line}
-use Rattle.cut_hall.specs.Pass.{Holding}
+use Rattle.cut_slots.specs.Lines.{full_line}
+use Rattle.cut_slots.specs.Pass.{Holding}
 
 -- the header and the lines of the first n cells
 abbrev pub lines_to : Values → List Slip → ℕ → List ℕ

@@ -9,7 +9,7 @@ use Rattle.cut_ledger.specs.Slips.{AreGood, IsFirstBad}
 use Rattle.cut_wires.specs.Log.{WireLog, wrote, write_failed}
 use Rattle.cut_pool.specs.Emission.{WrotePrefix}
 use Rattle.cut_book.specs.History.{Opening}
-use Rattle.cut_hall.specs.Report.{SlotEnd, AreOpenedWith, calls_in_all}
+use Rattle.cut_slots.specs.Report.{SlotEnd, AreOpenedWith, calls_in_all}
 use Rattle.cut_pool.specs.declared.run_fault.RunFault.{RunFault}
 use Rattle.cut_pool.specs.declared.run_fault.RunFault.TheVariants.{BadSlip, Checkpoint, Write, WorkMemory}
 use Rattle.cut_pool.specs.declared.run_fault.RunFault.TheVariants.{AuditMismatch}

@@ -6,10 +6,10 @@ ghost use Rattle.cut_ledger.specs.Table.{table_over};
 ghost use Rattle.cut_ledger.specs.Slips.{AreGood};
 ghost use Rattle.cut_pool.specs.inside.Conclusion.{IsNotEnded};
 ghost use Rattle.cut_pool.specs.inside.Emission.{EmitsStudy};
-ghost use Rattle.cut_hall.specs.Report.{AreOpenedWith, calls_in_all};
+ghost use Rattle.cut_slots.specs.Report.{AreOpenedWith, calls_in_all};
 ghost use Rattle.cut_pool.specs.inside.Faults.{of_closing};
 ghost use Rattle.cut_book.specs.Book.{IsFresh, opening_of};
-ghost use Rattle.cut_hall.specs.Trust.{begun_props};
+ghost use Rattle.cut_slots.specs.Trust.{begun_props};
 
 use crate::RunFault;
 use crate::emit::{EmitFault, StudyRows, emit};

@@ -1,6 +1,7 @@
 ghost use Rattle.std.proofs.Props.{props};
 ghost use Rattle.std.specs.List.{list_all};
 ghost use Rattle.std.specs.Prelude.{false, Some, ◌≡◌, ◌+◌, ◌≤◌, Ok, None, length, is_some, IfOk, IfErr, IfSome, OnOk};
+ghost use Rattle.cut_disks.specs.Log.{IsKnown, on};
 ghost use Rattle.cut_journal.specs.Reading.{reading};
 ghost use Rattle.cut_ledger.specs.Slips.{AreGood};
 ghost use Rattle.cut_pool.specs.inside.Conclusion.{IsNotBegun, IsNotEnded, CanLose, Concludes};
@@ -50,8 +51,8 @@ pub struct StudyRun<'a, D: Disk> {
     pub ghost few: { (1 ≤ workers) × (workers ≤ 64) },
     pub ghost journal: { IfSome kept (λ k.
         (k.0.plan ≡ plan.now) × (k.0.count ≡ length k.1.items) × (k.0.doubtful ≡ None)) } by { Prim.hlevel props },
-    pub ghost read: { IfSome kept (λ k. D.is_honest k.0.disk
-        → reading plan.now (D.state k.0.disk).bytes ≡ Ok k.1.items) } by { Prim.hlevel props },
+    pub ghost read: { IfSome kept (λ k. IsKnown (D.log k.0.disk)
+        → reading plan.now (on (D.log k.0.disk)).bytes ≡ Ok k.1.items) } by { Prim.hlevel props },
 }
 
 impl<D: Disk + Drop + Send> StudyRun<'_, D> {
@@ -121,8 +122,8 @@ where
     requires few { (1 ≤ workers) × (workers ≤ 64) }
     requires journal { IfSome kept (λ k.
         (k.0.plan ≡ plan.now) × (k.0.count ≡ length k.1.items) × (k.0.doubtful ≡ None)) }
-    requires read { IfSome kept (λ k. D.is_honest k.0.disk
-        → reading plan.now (D.state k.0.disk).bytes ≡ Ok k.1.items) }
+    requires read { IfSome kept (λ k. IsKnown (D.log k.0.disk)
+        → reading plan.now (on (D.log k.0.disk)).bytes ≡ Ok k.1.items) }
     ensures ended { HasEnded plan.now (slips_of kept) (is_some kept) piece_size result }
     ensures takes { Takes plan.now (slips_of kept) result (W.log wire.old) (W.log wire.new) }
 {
@@ -145,8 +146,8 @@ fn open_kept<D: Disk + Drop>(
     requires size { 1 ≤ piece_size }
     requires journal { IfSome kept (λ k.
         (k.0.plan ≡ plan.now) × (k.0.count ≡ length k.1.items) × (k.0.doubtful ≡ None)) }
-    requires read { IfSome kept (λ k. D.is_honest k.0.disk
-        → reading plan.now (D.state k.0.disk).bytes ≡ Ok k.1.items) }
+    requires read { IfSome kept (λ k. IsKnown (D.log k.0.disk)
+        → reading plan.now (on (D.log k.0.disk)).bytes ≡ Ok k.1.items) }
     ensures fresh { IfOk result (λ b. IsFresh plan.now b.size b) }
     ensures slips { IfOk result (λ b. (b.state.ledger.plan ≡ plan.now)
         × (b.state.ledger.base ≡ slips_of kept) × (b.state.has_journal ≡ is_some kept)) }

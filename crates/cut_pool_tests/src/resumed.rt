@@ -1,5 +1,6 @@
 //! Studies that are kept on a disk: each is cut off, by the wire or by the disk, and resumed to the whole table.
 ghost use Rattle.std.specs.Prelude.{◌≡◌, Ok, None, length, IfOk};
+ghost use Rattle.cut_disks.specs.Log.{IsKnown, on};
 ghost use Rattle.cut_journal.specs.Reading.{reading};
 
 use crate::piece::result_of;
@@ -57,8 +58,8 @@ const WHOLE: Row = Row {
 fn journal_on<D: Disk + Drop>(alloc: Global, disk: D, plan: &Plan) -> Result<Kept<D>, Fail>
     ensures kept { IfOk result (λ k.
         (k.0.plan ≡ plan.now) × (k.0.count ≡ length k.1.items) × (k.0.doubtful ≡ None)) }
-    ensures read { IfOk result (λ k. D.is_honest k.0.disk
-        → reading plan.now (D.state k.0.disk).bytes ≡ Ok k.1.items) }
+    ensures read { IfOk result (λ k. IsKnown (D.log k.0.disk)
+        → reading plan.now (on (D.log k.0.disk)).bytes ≡ Ok k.1.items) }
 {
     match Journal::open(alloc, disk, plan) {
         Ok(kept) => Ok(kept),

@@ -5,7 +5,7 @@ use Rattle.std.proofs.lemmas.List.{length-map}
 use Rattle.std.proofs.lemmas.List.Elements.{All-map}
 use Rattle.std.proofs.lemmas.List.Sums.{sum-map}
 use Rattle.cut_wires.specs.Log.{WireLog, wrote, write_failed}
-use Rattle.cut_hall.specs.Report.{IsAcceptedCount, SlotEnd, accepted_recorded}
+use Rattle.cut_slots.specs.Report.{IsAcceptedCount, SlotEnd, accepted_recorded}
 use Rattle.cut_commands.specs.declared.fault.CliFault.{CliFault}
 use Rattle.cut_commands.specs.declared.fault.CliFault.TheVariants.{Memory, Plan, Read, Socket, Asked, Write, Journal}
 use Rattle.cut_commands.specs.declared.fault.CliFault.TheVariants.{Folder, BadSlip, Migrate, Checkpoint, WorkMemory}

@@ -5,7 +5,7 @@ use Rattle.std.specs.List.{sum}
 use Rattle.std.specs.Fmt.{decimal}
 use Rattle.cut_faults.specs.Failures.{one_more}
 use Rattle.cut_wires.specs.Log.{WireLog, wrote, write_failed}
-use Rattle.cut_hall.specs.Report.{SlotEnd, IsAcceptedCount, IsEndOf, accepted_recorded}
+use Rattle.cut_slots.specs.Report.{SlotEnd, IsAcceptedCount, IsEndOf, accepted_recorded}
 use Rattle.cut_commands.specs.Run.{IsWritten}
 use Rattle.cut_commands.specs.declared.fault.CliFault.{CliFault}
 use Rattle.cut_commands.specs.declared.fault.CliFault.TheVariants.{Socket, Write, Folder, WorkMemory, AuditMismatch}

@@ -3,7 +3,7 @@ ghost use Rattle.std.specs.Prelude.{◌≡◌, ◌≤◌, ◌+◌, None, length,
 ghost use Rattle.cut_server.specs.Serve.{Listens, WritesReport, accepted_in_all};
 ghost use Rattle.cut_server.specs.Serve.{IsOfServing};
 ghost use Rattle.cut_server.specs.inside.Serve.{IsOfClosing, IsOfWriting};
-ghost use Rattle.cut_hall.specs.Report.{IsAcceptedCount, IsEndOf, accepted_recorded};
+ghost use Rattle.cut_slots.specs.Report.{IsAcceptedCount, IsEndOf, accepted_recorded};
 
 use crate::Capacity;
 use crate::shelf::FolderShelf;

@@ -1,5 +1,4 @@
-ghost use Rattle.std.specs.Prelude.{◌≡◌, true, not, is_some, [], string_bytes, IfOk};
-ghost use Rattle.cut_disks.specs.State.{fresh};
+ghost use Rattle.std.specs.Prelude.{◌≡◌, true, not, is_some, None, string_bytes, IfOk};
 ghost use Rattle.cut_journal.specs.Trust.{IsTrueStore};
 ghost use Rattle.cut_server.specs.inside.Shelf.{file_path};
 
@@ -28,7 +27,8 @@ impl Shelf<FileDisk> for FolderShelf<'_> {
 
     fn open(&self, alloc: Global, plan: &Plan) -> Result<Option<FileDisk>, ShelfFault>
         ensures trusted { not (is_some self.now.folder) ≡ true →
-            IfOk result (λ disk. IsTrueStore (λ _. ⊥) (λ _. fresh []) plan.now disk) }
+            IfOk result (λ disk. IsTrueStore (λ d. record { state = None; failed = d.failures })
+            plan.now disk) }
         ensures kept { IfOk result (λ disk. is_some disk ≡ is_some self.now.folder) }
     {
         let Some(folder) = self.folder else {

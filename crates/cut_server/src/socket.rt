@@ -21,6 +21,18 @@ const PAUSE: u64 = 100;
 
 const PAUSES: u32 = 36_000;
 
+/// No memory was free (Linux's errno.h).
+const ENOMEM: i32 = 12;
+
+/// The system had no descriptor free.
+const ENFILE: i32 = 23;
+
+/// The process had none.
+const EMFILE: i32 = 24;
+
+/// No memory was free for a socket.
+const ENOBUFS: i32 = 105;
+
 /// A socket at a path, from which a server's connections come. Once it is closed its file is gone.
 ///
 /// The system is the host's, or another one in tests.
@@ -112,12 +124,12 @@ where
     call()
 }
 
-/// Whether a call of the system failed as no memory (ENOMEM, ENOBUFS) or no descriptor (ENFILE, EMFILE) was free for it.
+/// Whether a call of the system failed as no memory or no descriptor was free for it.
 fn is_shortage(error: &io::Error) -> bool
     ensures { IsTrue result ↔ IsShortage (raw_os_error error.now) }
 {
     match error.raw_os_error() {
-        Some(code) => code == 12 || code == 23 || code == 24 || code == 105,
+        Some(code) => code == ENOMEM || code == ENFILE || code == EMFILE || code == ENOBUFS,
         None => false,
     }
 }

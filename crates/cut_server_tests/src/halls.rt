@@ -42,13 +42,13 @@ struct Scene<'a, S> {
 
 /// Gate that end the work in its hall once the last worker has passed.
 #[derive(Drop)]
-struct LastHooks<'h, M: CallLedger, K: CallLedger> {
+struct LastGate<'h, M: CallLedger, K: CallLedger> {
     hall: &'h Stormy<M, K>,
     passed: AtomicU64,
     last: u64,
 }
 
-impl<M: CallLedger, K: CallLedger> Gate for LastHooks<'_, M, K> {
+impl<M: CallLedger, K: CallLedger> Gate for LastGate<'_, M, K> {
     fn pass<R: Wait>(&self, rt: &R, _piece: Piece) {
         if self.passed.fetch_add(1, Ordering::SeqCst) >= self.last {
             self.hall.stop(rt);
@@ -74,7 +74,7 @@ where
 {
     submit(rt, alloc, hall, pass, scene.shelf, scene.before);
     if scene.house.pieces > 0 {
-        let gate = LastHooks {
+        let gate = LastGate {
             hall,
             passed: AtomicU64::new(0),
             last: scene.house.pieces - 1,

@@ -12,7 +12,7 @@ use Rattle.cut_wires.proofs.Logs.{passing_twice, passing_same}
 use Rattle.cut_messages.specs.declared.side.Side.TheVariants.{Requests}
 use Rattle.cut_messages.specs.declared.fault.EndFault.{EndFault}
 use Rattle.cut_hall.specs.Hall.{HallValue}
-use Rattle.cut_hall.specs.Pass.{Holding}
+use Rattle.cut_slots.specs.Pass.{Holding}
 use Rattle.cut_session.specs.declared.session_end.SessionEnd.{SessionEnd}
 use Rattle.cut_session.specs.declared.session_end.SessionEnd.TheVariants as end
 use Rattle.cut_session.specs.declared.session_end.SessionFault.{SessionFault}

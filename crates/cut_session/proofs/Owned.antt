@@ -14,7 +14,7 @@ use Rattle.cut_ledger.specs.declared.slip.Slip.{Slip}
 use Rattle.cut_ledger.specs.Laws.{TrueSlipsSumAll}
 use Rattle.cut_ledger.specs.World.{AreTrue}
 use Rattle.cut_book.specs.Faults.{code_of_submit}
-use Rattle.cut_hall.specs.Lines.{full_line}
+use Rattle.cut_slots.specs.Lines.{full_line}
 use Rattle.cut_session.specs.Answering.{AnswersText, AnswersRead, IsSubmissionAnswered, IsTable, IsBrokenOff, row_frame}
 use Rattle.cut_session.specs.Answering.{rows_to}
 use Rattle.cut_session.specs.Own.{own_frame, own_rows_to, IsOwnTable, IsOwnPrefix, IsOwnReply}

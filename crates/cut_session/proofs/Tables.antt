@@ -17,11 +17,11 @@ use Rattle.cut_wires.proofs.Sendings.{cut_before, sends_after}
 use Rattle.cut_faults.specs.declared.code.FaultCode.{FaultCode}
 use Rattle.cut_book.specs.declared.submit_fault.SubmitFault.{SubmitFault}
 use Rattle.cut_book.specs.Faults.{code_of_submit}
-use Rattle.cut_hall.specs.declared.next_row_fault.NextRowFault.{NextRowFault}
-use Rattle.cut_hall.specs.declared.next_row_fault.NextRowFault.TheVariants.{Stopped}
-use Rattle.cut_hall.specs.Faults.{code_of_line}
-use Rattle.cut_hall.specs.Pass.{Holding}
-use Rattle.cut_hall.specs.Trust.{MayBegin}
+use Rattle.cut_slots.specs.declared.next_row_fault.NextRowFault.{NextRowFault}
+use Rattle.cut_slots.specs.declared.next_row_fault.NextRowFault.TheVariants.{Stopped}
+use Rattle.cut_slots.specs.Faults.{code_of_line}
+use Rattle.cut_slots.specs.Pass.{Holding}
+use Rattle.cut_slots.specs.Trust.{MayBegin}
 use Rattle.cut_messages.specs.declared.kind.Kind.TheVariants as kind
 use Rattle.cut_messages.specs.Frames.{frame}
 use Rattle.cut_session.specs.Answering.{error_frame, end_frame, rows_to, IsSubmissionAnswered, AnswersText}

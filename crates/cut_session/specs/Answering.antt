@@ -16,12 +16,12 @@ use Rattle.cut_board.specs.Views.{seen_in}
 use Rattle.cut_lines.specs.Lines.{header}
 use Rattle.cut_ledger.specs.declared.slip.Slip.{Slip}
 use Rattle.cut_book.specs.declared.submit_fault.SubmitFault.{SubmitFault}
-use Rattle.cut_hall.specs.declared.next_row_fault.NextRowFault.{NextRowFault}
+use Rattle.cut_slots.specs.declared.next_row_fault.NextRowFault.{NextRowFault}
 use Rattle.cut_book.specs.Faults.{code_of_submit}
-use Rattle.cut_hall.specs.Faults.{code_of_line}
+use Rattle.cut_slots.specs.Faults.{code_of_line}
 use Rattle.cut_hall.specs.Hall.{HallValue}
-use Rattle.cut_hall.specs.Lines.{full_line}
-use Rattle.cut_hall.specs.Trust.{MayBegin}
+use Rattle.cut_slots.specs.Lines.{full_line}
+use Rattle.cut_slots.specs.Trust.{MayBegin}
 use Rattle.cut_messages.specs.declared.kind.Kind.{Kind}
 use Rattle.cut_messages.specs.declared.kind.Kind.TheVariants as kind
 use Rattle.cut_messages.specs.declared.message.Message.{Message}

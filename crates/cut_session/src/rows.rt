@@ -1,8 +1,8 @@
 ghost use Rattle.std.specs.Prelude.{◌≡◌, ◌<◌, ◌≤◌, length, IfOk};
 ghost use Rattle.cut_lines.specs.declared.line.TheConstants.{LONGEST_LINE};
 ghost use Rattle.cut_plan.specs.Cells.{cells_of};
-ghost use Rattle.cut_hall.specs.Lines.{full_line};
-ghost use Rattle.cut_hall.specs.Trust.{MayBegin};
+ghost use Rattle.cut_slots.specs.Lines.{full_line};
+ghost use Rattle.cut_slots.specs.Trust.{MayBegin};
 ghost use Rattle.cut_wires.specs.Sending.{sending};
 ghost use Rattle.cut_session.specs.Answering.{IsSubmissionAnswered};
 ghost use Rattle.cut_session.specs.inside.Rows.{EndsTable};

@@ -7,7 +7,7 @@ use cut_plan::accepted_texts_give_plans;
 /// as the definitions give it trial by trial: all of them, or the first ones and then a fault, or a fault alone.
 ///
 /// A hall is such a one where its shelf keeps nothing, without any premise. Over a shelf that keeps studies it is
-/// one if its disks are honest and the slips on each of them are true; of files of the system neither is known.
+/// one if it is known what is on its disks and the slips on each of them are true; of files of the system neither is known.
 pub fn trusted_replies_are_own()
     ensures { TrustedRepliesAreOwn }
 {

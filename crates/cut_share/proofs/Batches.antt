@@ -12,6 +12,7 @@ use Rattle.cut_plan.specs.Values.{Values}
 use Rattle.cut_outcome.specs.declared.piece.Piece.{Piece}
 use Rattle.cut_outcome.specs.Outcome.{one_if}
 use Rattle.cut_disks.specs.State.{DiskState}
+use Rattle.cut_disks.specs.Log.{DiskLog, IsKnown}
 use Rattle.cut_ledger.specs.declared.slip.Slip.{Slip}
 use Rattle.cut_ledger.specs.Contents.{is_in}
 use Rattle.cut_ledger.specs.World.{times_in}
@@ -86,10 +87,10 @@ whole_more false done lost tasks before is = grind (arith, length-append)
 -- ---- up to a batch
 
 -- nothing is done yet
-pub none_yet : {D : Type 0} (is_honest : D → Type 0) (state : D → DiskState) (s : Share) (v : Values)
-    (all : List Piece) (log : JournalValue D) → Adds is_honest state [] log log
-    → IsUpTo is_honest state true s v all all log log
-none_yet is_honest state s v all log added = record {
+pub none_yet : {D : Type 0} (log_of : D → DiskLog) (s : Share) (v : Values)
+    (all : List Piece) (log : JournalValue D) → Adds log_of [] log log
+    → IsUpTo log_of true s v all all log log
+none_yet log_of s v all log added = record {
   done = [];
   lost = [];
   parted = grind arith;
@@ -98,18 +99,18 @@ none_yet is_honest state s v all log added = record {
 }
 
 -- the results of one batch more are kept
-pub batch_more : {D : Type 0} (is_honest : D → Type 0) (state : D → DiskState) (whole done : Bool) (s : Share)
+pub batch_more : {D : Type 0} (log_of : D → DiskLog) (whole done : Bool) (s : Share)
     (v : Values) (all left next : List Piece) (tasks : List Task) (old mid new : JournalValue D)
-    → (is_honest old.disk → is_honest mid.disk) → IsUpTo is_honest state whole s v all left old mid
+    → (IsKnown (log_of old.disk) → IsKnown (log_of mid.disk)) → IsUpTo log_of whole s v all left old mid
     → All (IsSharePiece s v) (pieces_of tasks)
     → ((t : ℕ) → times_in (pieces_of tasks) t + own_times s v next t ≡ own_times s v left t)
     → done ≡ list_all has_result tasks
-    → EndsAppends {T = Bool} is_honest state (Ok done) v (done_of tasks) mid new
-    → IsUpTo is_honest state (whole && done) s v all next old new
-batch_more is_honest state whole done s v all left next tasks old mid new honest before own times is ends =
+    → EndsAppends {T = Bool} log_of (Ok done) v (done_of tasks) mid new
+    → IsUpTo log_of (whole && done) s v all next old new
+batch_more log_of whole done s v all left next tasks old mid new honest before own times is ends =
     let joined : slips_at v (before.done ++ done_of tasks) ≡ slips_at v before.done ++ slips_at v (done_of tasks) =
     map-append (slip_at v) before.done (done_of tasks) in
-    let both = added_more is_honest state (slips_at v before.done) (slips_at v (done_of tasks)) old mid new honest
+    let both = added_more log_of (slips_at v before.done) (slips_at v (done_of tasks)) old mid new honest
     before.kept.added before.kept.failed ends.0 ends.1 in
     record {
       done = before.done ++ done_of tasks;
@@ -131,7 +132,7 @@ batch_more is_honest state whole done s v all left next tasks old mid new honest
       };
       sufficed = whole_more whole done before.lost tasks before.sufficed is;
       kept = record {
-        added = subst (λ (l : List Slip). Adds is_honest state l old new) (sym joined) both.0;
+        added = subst (λ (l : List Slip). Adds log_of l old new) (sym joined) both.0;
         failed = subst (λ (l : List Slip). NoneFailed l old new) (sym joined) both.1;
       };
     }
@@ -142,21 +143,21 @@ some_time s v [] own some = absurd (omega arith)
 some_time s v (p ∷ ps) own some = grind (arith, All-head (IsSharePiece s v) p ps own, times_first p ps p.first)
 
 -- a batch ends the run
-pub batch_stops : {D : Type 0} (is_honest : D → Type 0) (state : D → DiskState) (e : ShareFault) (whole : Bool)
+pub batch_stops : {D : Type 0} (log_of : D → DiskLog) (e : ShareFault) (whole : Bool)
     (s : Share) (v : Values) (all left next : List Piece) (tasks : List Task) (old mid new : JournalValue D)
-    → (is_honest old.disk → is_honest mid.disk) → IsUpTo is_honest state whole s v all left old mid
+    → (IsKnown (log_of old.disk) → IsKnown (log_of mid.disk)) → IsUpTo log_of whole s v all left old mid
     → All (IsSharePiece s v) (pieces_of tasks)
     → ((t : ℕ) → times_in (pieces_of tasks) t + own_times s v next t ≡ own_times s v left t)
-    → EndsAppends {T = Bool} is_honest state (Err e) v (done_of tasks) mid new
-    → EndsPieces is_honest state (Err e) s v all old new
-batch_stops is_honest state Memory whole s v all left next tasks old mid new honest before own times ends = absurd ends
-batch_stops is_honest state OtherPlan whole s v all left next tasks old mid new honest before own times ends =
+    → EndsAppends {T = Bool} log_of (Err e) v (done_of tasks) mid new
+    → EndsPieces log_of (Err e) s v all old new
+batch_stops log_of Memory whole s v all left next tasks old mid new honest before own times ends = absurd ends
+batch_stops log_of OtherPlan whole s v all left next tasks old mid new honest before own times ends =
     absurd ends
-batch_stops is_honest state (BadSlip n) whole s v all left next tasks old mid new honest before own times ends =
+batch_stops log_of (BadSlip n) whole s v all left next tasks old mid new honest before own times ends =
     absurd ends
-batch_stops is_honest state WorkMemory whole s v all left next tasks old mid new honest before own times ends =
+batch_stops log_of WorkMemory whole s v all left next tasks old mid new honest before own times ends =
     absurd ends
-batch_stops is_honest state Broken whole s v all left next tasks old mid new honest before own times ends =
+batch_stops log_of Broken whole s v all left next tasks old mid new honest before own times ends =
     let some : IsSome old.doubtful = subst (λ o. IsSome o) before.kept.failed.doubtful ends.1 in
     let at = some_time s v (done_of tasks) (own_filtered s v has_result tasks own) ends.0 in (
       some,
@@ -167,11 +168,11 @@ batch_stops is_honest state Broken whole s v all left next tasks old mid new hon
             omega (arith, low, one, two, times_parted tasks at.0)),
       ),
     )
-batch_stops is_honest state Disk whole s v all left next tasks old mid new honest before own times
+batch_stops log_of Disk whole s v all left next tasks old mid new honest before own times
     (first, p, after, ends) =
     let joined : slips_at v (before.done ++ first) ≡ slips_at v before.done ++ slips_at v first =
     map-append (slip_at v) before.done first in
-    let both = added_doubtful is_honest state (slips_at v before.done) (slips_at v first) (slip_at v p) old mid new
+    let both = added_doubtful log_of (slips_at v before.done) (slips_at v first) (slip_at v p) old mid new
     honest before.kept.added before.kept.failed ends.1 ends.2 in
     let here : All (IsSharePiece s v) (first ++ p ∷ after) =
     subst (λ (l : List Piece). All (IsSharePiece s v) l) ends.0 (own_filtered s v has_result tasks own) in
@@ -196,7 +197,7 @@ batch_stops is_honest state Disk whole s v all left next tasks old mid new hones
               times-append before.done first t,
               times_one p t,
             )),
-        subst (λ (l : List Slip). Adds is_honest state l old new) (sym joined) both.0,
+        subst (λ (l : List Slip). Adds log_of l old new) (sym joined) both.0,
         both.1,
       ),
     )
@@ -218,12 +219,12 @@ deal_of s now v w dealt tasks left next share plan are own times =
     (subst (λ (y : Values). IsDeal now y dealt left next) plan (record { own = own; times = times })))
 
 -- nothing is left
-pub up_to_end : {D : Type 0} (is_honest : D → Type 0) (state : D → DiskState) (whole : Bool) (s now : Share)
+pub up_to_end : {D : Type 0} (log_of : D → DiskLog) (whole : Bool) (s now : Share)
     (v w : Values) (all left next : List Piece) (old new : JournalValue D) → now ≡ s → w ≡ v
-    → IsUpTo is_honest state whole s v all left old new
+    → IsUpTo log_of whole s v all left old new
     → ((t : ℕ) → own_times now w next t ≡ own_times now w left t) → ((t : ℕ) → own_times now w next t ≡ 0)
-    → IsUpTo is_honest state whole s v all [] old new
-up_to_end is_honest state whole s now v w all left next old new share plan before same none = record {
+    → IsUpTo log_of whole s v all [] old new
+up_to_end log_of whole s now v w all left next old new share plan before same none = record {
   done = before.done;
   lost = before.lost;
   parted = record {

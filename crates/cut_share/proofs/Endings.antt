@@ -18,6 +18,7 @@ use Rattle.cut_plan.specs.Values.{Values}
 use Rattle.cut_outcome.specs.declared.piece.Piece.{Piece}
 use Rattle.cut_outcome.specs.Outcome.{one_if}
 use Rattle.cut_disks.specs.State.{DiskState}
+use Rattle.cut_disks.specs.Log.{DiskLog}
 use Rattle.cut_ledger.specs.declared.slip.Slip.{Slip}
 use Rattle.cut_ledger.specs.Contents.{has, is_in_base, over_base}
 use Rattle.cut_ledger.specs.Gaps.{gaps_of}
@@ -140,10 +141,10 @@ pub record IsBegun {D : Type 0} (s : Share) (v : Values) (ss : List Slip) (all :
   pub can : CanRun v ss old
   pub lack : (t : ℕ) → own_times s v all t ≡ one_if (is_lacking s v ss t)
 
-abbrev pub Ends : {D : Type 0} → (D → Type 0) → (D → DiskState) → Result ℕ ShareFault → Share → Values → List Slip
+abbrev pub Ends : {D : Type 0} → (D → DiskLog) → Result ℕ ShareFault → Share → Values → List Slip
     → JournalValue D → JournalValue D → Type 0
-Ends is_honest state result s v ss old new =
-    (added : List Slip) × (Adds is_honest state added old new × EndsShare result s v ss added old new)
+Ends log_of result s v ss old new =
+    (added : List Slip) × (Adds log_of added old new × EndsShare result s v ss added old new)
 
 is_true : (b : Bool) (n : ℕ) → 1 ≤ n → n ≤ one_if b → IsTrue b
 is_true true n some few = refl
@@ -153,11 +154,11 @@ none_in : (ps : List Piece) (t : ℕ) → length ps ≡ 0 → times_in ps t ≡ 
 none_in [] t none = refl
 none_in (p ∷ ps) t none = absurd (omega (arith, none))
 
-pub ends_whole : {D : Type 0} (is_honest : D → Type 0) (state : D → DiskState) (s : Share) (v : Values)
+pub ends_whole : {D : Type 0} (log_of : D → DiskLog) (s : Share) (v : Values)
     (ss : List Slip) (all : List Piece) (old new : JournalValue D) (n : ℕ) → IsBegun s v ss all old
-    → n ≡ length (trials_of_share s v) → IsUpTo is_honest state true s v all [] old new
-    → Ends is_honest state (Ok n) s v ss old new
-ends_whole is_honest state s v ss all old new n begun count upto = (
+    → n ≡ length (trials_of_share s v) → IsUpTo log_of true s v all [] old new
+    → Ends log_of (Ok n) s v ss old new
+ends_whole log_of s v ss all old new n begun count upto = (
   slips_at v upto.done,
   (
     upto.kept.added,
@@ -180,10 +181,10 @@ still_lacking : (s : Share) (v : Values) (ss : List Slip) (ps : List Piece) (t :
 still_lacking s v ss ps t none lacks =
     grind (arith, list_any-count_by, count_by-map, list_any-append)
 
-pub ends_short : {D : Type 0} (is_honest : D → Type 0) (state : D → DiskState) (s : Share) (v : Values)
+pub ends_short : {D : Type 0} (log_of : D → DiskLog) (s : Share) (v : Values)
     (ss : List Slip) (all : List Piece) (old new : JournalValue D) → IsBegun s v ss all old
-    → IsUpTo is_honest state false s v all [] old new → Ends is_honest state (Err WorkMemory) s v ss old new
-ends_short is_honest state s v ss all old new begun upto =
+    → IsUpTo log_of false s v all [] old new → Ends log_of (Err WorkMemory) s v ss old new
+ends_short log_of s v ss all old new begun upto =
     let at = some_time s v upto.lost upto.parted.lost_own (upto.sufficed.some refl) in
     let t : ℕ = at.0 in
     let low : 1 ≤ times_in upto.lost t = at.1 in
@@ -206,17 +207,17 @@ ends_short is_honest state s v ss all old new begun upto =
       ),
     )
 
-pub ends_fault : {D : Type 0} (is_honest : D → Type 0) (state : D → DiskState) (e : ShareFault) (s : Share)
+pub ends_fault : {D : Type 0} (log_of : D → DiskLog) (e : ShareFault) (s : Share)
     (v : Values) (ss : List Slip) (all : List Piece) (old new : JournalValue D) → IsBegun s v ss all old
-    → Adds is_honest state [] old old → EndsPieces is_honest state (Err e) s v all old new
-    → Ends is_honest state (Err e) s v ss old new
-ends_fault is_honest state Memory s v ss all old new begun none ends = absurd ends
-ends_fault is_honest state OtherPlan s v ss all old new begun none ends = absurd ends
-ends_fault is_honest state (BadSlip n) s v ss all old new begun none ends = absurd ends
-ends_fault is_honest state WorkMemory s v ss all old new begun none ends = absurd ends
-ends_fault {D} is_honest state Broken s v ss all old new begun none ends =
+    → Adds log_of [] old old → EndsPieces log_of (Err e) s v all old new
+    → Ends log_of (Err e) s v ss old new
+ends_fault log_of Memory s v ss all old new begun none ends = absurd ends
+ends_fault log_of OtherPlan s v ss all old new begun none ends = absurd ends
+ends_fault log_of (BadSlip n) s v ss all old new begun none ends = absurd ends
+ends_fault log_of WorkMemory s v ss all old new begun none ends = absurd ends
+ends_fault {D} log_of Broken s v ss all old new begun none ends =
     grind arith
-ends_fault is_honest state Disk s v ss all old new begun none (done, p, ends) = (
+ends_fault log_of Disk s v ss all old new begun none (done, p, ends) = (
   slips_at v done,
   (
     ends.2,
@@ -238,27 +239,27 @@ ends_fault is_honest state Disk s v ss all old new begun none (done, p, ends) = 
 -- ---- as the run has them
 
 -- it does not begin
-pub ends_unbegun : {D : Type 0} (is_honest : D → Type 0) (state : D → DiskState) (e : ShareFault) (s : Share)
+pub ends_unbegun : {D : Type 0} (log_of : D → DiskLog) (e : ShareFault) (s : Share)
     (v : Values) (ss : List Slip) (log : JournalValue D) → IsFaultOfOpening v ss e → log.plan ≡ v
-    → Adds is_honest state [] log log → Ends is_honest state (Err e) s v ss log log
-ends_unbegun is_honest state Memory s v ss log is plan none = ([], (none, (plan, refl, refl)))
-ends_unbegun is_honest state OtherPlan s v ss log is plan none = absurd is
-ends_unbegun is_honest state (BadSlip n) s v ss log is plan none = ([], (none, (plan, is, refl, refl)))
-ends_unbegun is_honest state WorkMemory s v ss log is plan none = absurd is
-ends_unbegun is_honest state Broken s v ss log is plan none = absurd is
-ends_unbegun is_honest state Disk s v ss log is plan none = absurd is
+    → Adds log_of [] log log → Ends log_of (Err e) s v ss log log
+ends_unbegun log_of Memory s v ss log is plan none = ([], (none, (plan, refl, refl)))
+ends_unbegun log_of OtherPlan s v ss log is plan none = absurd is
+ends_unbegun log_of (BadSlip n) s v ss log is plan none = ([], (none, (plan, is, refl, refl)))
+ends_unbegun log_of WorkMemory s v ss log is plan none = absurd is
+ends_unbegun log_of Broken s v ss log is plan none = absurd is
+ends_unbegun log_of Disk s v ss log is plan none = absurd is
 
 -- or the journal is of another plan
-pub ends_other : {D : Type 0} (is_honest : D → Type 0) (state : D → DiskState) (s : Share) (v : Values)
-    (ss : List Slip) (log : JournalValue D) → (log.plan ≡ v → ⊥) → Adds is_honest state [] log log
-    → Ends is_honest state (Err OtherPlan) s v ss log log
-ends_other is_honest state s v ss log other none = ([], (none, (other, refl, refl)))
+pub ends_other : {D : Type 0} (log_of : D → DiskLog) (s : Share) (v : Values)
+    (ss : List Slip) (log : JournalValue D) → (log.plan ≡ v → ⊥) → Adds log_of [] log log
+    → Ends log_of (Err OtherPlan) s v ss log log
+ends_other log_of s v ss log other none = ([], (none, (other, refl, refl)))
 
 -- the batches, said of the run's share and plan
-pub ends_at : {D : Type 0} (is_honest : D → Type 0) (state : D → DiskState) (result : Result Bool ShareFault)
+pub ends_at : {D : Type 0} (log_of : D → DiskLog) (result : Result Bool ShareFault)
     (s now : Share) (v w : Values) (all : List Piece) (old new : JournalValue D) → now ≡ s → w ≡ v
-    → EndsPieces is_honest state result now w all old new → EndsPieces is_honest state result s v all old new
-ends_at is_honest state result s now v w all old new share plan ends =
+    → EndsPieces log_of result now w all old new → EndsPieces log_of result s v all old new
+ends_at log_of result s now v w all old new share plan ends =
     grind arith
 
 -- what the run begins with

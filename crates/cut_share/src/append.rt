@@ -1,4 +1,5 @@
 ghost use Rattle.std.specs.Prelude.{◌≡◌, ◌↔◌, ◌∷◌, [], All};
+ghost use Rattle.cut_disks.specs.Log.{is_known};
 ghost use Rattle.cut_share.specs.Running.{running_faults};
 ghost use Rattle.cut_share.specs.inside.Running.{EndsAppends, fault_of};
 ghost use Rattle.cut_share.specs.inside.Tasks.{IsRun, done_of};
@@ -18,10 +19,10 @@ pub(crate) fn append_all<D: Disk, G: Gate, R: Wait>(
     tasks: &[Task],
 ) -> Result<(), ShareFault>
     requires { All (IsRun journal.old.plan) tasks.now }
-    ensures ends { EndsAppends D.is_honest D.state result journal.old.plan (done_of tasks.now)
+    ensures ends { EndsAppends D.log result journal.old.plan (done_of tasks.now)
         journal.old journal.new }
-    ensures honest { D.is_honest journal.old.disk ↔ D.is_honest journal.new.disk }
-    ensures faults { D.faults journal.new.disk ≡ running_faults result (D.faults journal.old.disk) }
+    ensures known { is_known (D.log journal.new.disk) ≡ is_known (D.log journal.old.disk) }
+    ensures faults { (D.log journal.new.disk).failed ≡ running_faults result (D.log journal.old.disk).failed }
 {
     journal.stays_readable();
     for task in tasks {
@@ -38,10 +39,10 @@ fn append<D: Disk, G: Gate, R: Wait>(
     task: &Task,
 ) -> Result<(), ShareFault>
     requires { IsRun journal.old.plan task.now }
-    ensures ends { EndsAppends D.is_honest D.state result journal.old.plan (done_of (task.now ∷ []))
+    ensures ends { EndsAppends D.log result journal.old.plan (done_of (task.now ∷ []))
         journal.old journal.new }
-    ensures honest { D.is_honest journal.old.disk ↔ D.is_honest journal.new.disk }
-    ensures faults { D.faults journal.new.disk ≡ running_faults result (D.faults journal.old.disk) }
+    ensures known { is_known (D.log journal.new.disk) ≡ is_known (D.log journal.old.disk) }
+    ensures faults { (D.log journal.new.disk).failed ≡ running_faults result (D.log journal.old.disk).failed }
 {
     journal.stays_readable();
     let Some(result) = &task.result else {

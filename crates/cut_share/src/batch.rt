@@ -1,5 +1,6 @@
 ghost use Rattle.std.specs.Prelude.{◌≡◌, ◌↔◌, ◌≤◌, ◌∷◌, IfOk, length};
 ghost use Rattle.std.specs.List.{list_all};
+ghost use Rattle.cut_disks.specs.Log.{is_known};
 ghost use Rattle.cut_share.specs.Running.{running_faults};
 ghost use Rattle.cut_share.specs.inside.Running.{EndsAppends};
 ghost use Rattle.cut_share.specs.inside.Batches.{EndsPieces};
@@ -28,10 +29,10 @@ pub(crate) fn run_pieces<D: Disk, G: Gate + Sync, R: Threads + Wait + Sync>(
     requires some { 1 ≤ length tasks.old }
     requires plan { tools.now.plan.now ≡ pieces.plan.now }
     requires own { journal.old.plan ≡ pieces.plan.now }
-    ensures ends { EndsPieces D.is_honest D.state result pieces.entry.share pieces.entry.plan.now
+    ensures ends { EndsPieces D.log result pieces.entry.share pieces.entry.plan.now
         (pieces.entry.rest ∷ pieces.entry.later.now) journal.old journal.new }
-    ensures honest { D.is_honest journal.old.disk ↔ D.is_honest journal.new.disk }
-    ensures faults { D.faults journal.new.disk ≡ running_faults result (D.faults journal.old.disk) }
+    ensures known { is_known (D.log journal.new.disk) ≡ is_known (D.log journal.old.disk) }
+    ensures faults { (D.log journal.new.disk).failed ≡ running_faults result (D.log journal.old.disk).failed }
 {
     journal.stays_readable();
     let mut pieces = pieces;
@@ -55,11 +56,11 @@ fn run_batch<D: Disk, G: Gate + Sync, R: Threads + Wait + Sync>(
 ) -> Result<bool, ShareFault>
     requires { journal.old.plan ≡ tools.now.plan.now }
     ensures pieces { pieces_of tasks.new ≡ pieces_of tasks.old }
-    ensures ends { EndsAppends D.is_honest D.state result journal.old.plan (done_of tasks.new)
+    ensures ends { EndsAppends D.log result journal.old.plan (done_of tasks.new)
         journal.old journal.new }
     ensures done { IfOk result (λ is_done. is_done ≡ list_all has_result tasks.new) }
-    ensures honest { D.is_honest journal.old.disk ↔ D.is_honest journal.new.disk }
-    ensures faults { D.faults journal.new.disk ≡ running_faults result (D.faults journal.old.disk) }
+    ensures known { is_known (D.log journal.new.disk) ≡ is_known (D.log journal.old.disk) }
+    ensures faults { (D.log journal.new.disk).failed ≡ running_faults result (D.log journal.old.disk).failed }
 {
     tools.run_all(rt, tasks);
     append_all(rt, tools.gate, journal, tasks)?;

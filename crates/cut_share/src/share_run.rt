@@ -1,4 +1,5 @@
 ghost use Rattle.std.specs.Prelude.{◌≡◌, ◌≤◌, All, IfErr, IfOk, IsTrue, OnOk};
+ghost use Rattle.cut_disks.specs.Log.{is_known};
 ghost use Rattle.cut_outcome.specs.Sum.{is_piece};
 ghost use Rattle.cut_ledger.specs.Contents.{over_base};
 ghost use Rattle.cut_ledger.specs.Gaps.{gaps_of};
@@ -59,11 +60,11 @@ impl<G: Gate + Sync> ShareRun<'_, G> {
         journal: &mut Journal<D>,
     ) -> Result<u32, ShareFault>
         ensures other_plan { IsErrOf result ShareFault.OtherPlan ↔ (journal.old.plan ≢ self.entry.plan.now) }
-        ensures ends { (added : List Slip) × (Adds D.is_honest D.state added journal.old journal.new
+        ensures ends { (added : List Slip) × (Adds D.log added journal.old journal.new
             × EndsShare result self.entry.share self.entry.plan.now self.entry.slips.now added
             journal.old journal.new) }
-        ensures honest { D.is_honest journal.old.disk ↔ D.is_honest journal.new.disk }
-        ensures faults { D.faults journal.new.disk ≡ running_faults result (D.faults journal.old.disk) }
+        ensures known { is_known (D.log journal.new.disk) ≡ is_known (D.log journal.old.disk) }
+        ensures faults { (D.log journal.new.disk).failed ≡ running_faults result (D.log journal.old.disk).failed }
     {
         journal.stays_readable();
         if !journal.plan().same(self.plan) {

@@ -8,7 +8,7 @@ use Rattle.cut_ledger.proofs.SlipLemmas.{none_bad}
 use Rattle.cut_journal.specs.declared.fault.JournalFault.TheVariants as journal
 use Rattle.cut_journal.specs.Reading.{is_study, says_plan, reading}
 use Rattle.cut_status.specs.declared.fault.StatusFault.{StatusFault}
-use Rattle.cut_status.specs.declared.fault.StatusFault.TheVariants.{Memory, Disk, NoStudy, Damaged, BadSlip}
+use Rattle.cut_status.specs.declared.fault.StatusFault.TheVariants.{Memory, NoStudy, Damaged, BadSlip}
 use Rattle.cut_status.specs.Status.{StatusValue}
 use Rattle.cut_status.specs.Study.{IsStudyOf, IsStatusOf, IsStatusFault}
 use Rattle.cut_status.proofs.Headers.{ReadsBack, same_plan}
@@ -43,7 +43,6 @@ one_status back bytes s t one two =
 pub fault_alone : ReadsBack → (bytes : List ℕ) (s : StatusValue) (e : StatusFault) → IsStatusOf bytes s
     → IsStatusFault bytes e → e ≡ Memory
 fault_alone back bytes s Memory one is = refl
-fault_alone back bytes s Disk one is = absurd is
 fault_alone back bytes s NoStudy one is =
     grind (arith, read_says)
 fault_alone back bytes s (Damaged zero) one is =

@@ -19,7 +19,7 @@ use Rattle.cut_journal.specs.Reading.{is_study, text_length, has_header, says_pl
 use Rattle.cut_journal.specs.Reading.{body_in}
 use Rattle.cut_journal.specs.Reading.{then_slips, slips_in, slips_reading, reading}
 use Rattle.cut_status.specs.declared.fault.StatusFault.{StatusFault}
-use Rattle.cut_status.specs.declared.fault.StatusFault.TheVariants.{Memory, Disk, NoStudy, Damaged, BadSlip}
+use Rattle.cut_status.specs.declared.fault.StatusFault.TheVariants.{Memory, NoStudy, Damaged, BadSlip}
 use Rattle.cut_status.specs.Status.{StatusValue, status_over}
 use Rattle.cut_status.specs.Study.{IsStudyOf, IsStatusOf, IsOfNone, IsDamaged, IsStatusFault}
 use Rattle.cut_status.specs.inside.Study.{IsOfNoPlan}
@@ -124,7 +124,6 @@ no_plan bytes Memory some is = tt
 no_plan bytes (Damaged number) some is =
     subst (λ (n : ℕ). IsDamaged bytes n) (sym is.0)
     (some, λ v plan. of_none v bytes some (λ whole says. absurd (is.1 v plan (says_text v bytes says))))
-no_plan bytes Disk some is = absurd is
 no_plan bytes NoStudy some is = absurd is
 no_plan bytes (BadSlip number) some is = absurd is
 

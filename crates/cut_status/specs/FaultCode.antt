@@ -5,11 +5,10 @@ use Rattle.cut_faults.specs.declared.code.FaultCode.{FaultCode}
 use Rattle.cut_faults.specs.declared.code.FaultCode.TheVariants as code
 use Rattle.cut_faults.specs.Codes.{code_text, text_carrying}
 use Rattle.cut_status.specs.declared.fault.StatusFault.{StatusFault}
-use Rattle.cut_status.specs.declared.fault.StatusFault.TheVariants.{Memory, Disk, NoStudy, Damaged, BadSlip}
+use Rattle.cut_status.specs.declared.fault.StatusFault.TheVariants.{Memory, NoStudy, Damaged, BadSlip}
 
 abbrev pub code_of : StatusFault → FaultCode
 code_of Memory = code.Memory
-code_of Disk = code.Disk
 code_of NoStudy = code.NoStudy
 code_of (Damaged number) = code.Damaged
 code_of (BadSlip number) = code.BadSlip

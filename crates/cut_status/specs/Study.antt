@@ -7,10 +7,8 @@ use Rattle.cut_ledger.specs.Slips.{AreGood, IsFirstBad}
 use Rattle.cut_journal.specs.declared.fault.JournalFault.{JournalFault}
 use Rattle.cut_journal.specs.declared.fault.JournalFault.TheVariants as journal
 use Rattle.cut_journal.specs.Reading.{is_study, reading}
-use Rattle.std.specs.declared.io.ErrorKind.{ErrorKind}
-use Rattle.std.specs.declared.io.ErrorKind.TheVariants.{OutOfMemory}
 use Rattle.cut_status.specs.declared.fault.StatusFault.{StatusFault}
-use Rattle.cut_status.specs.declared.fault.StatusFault.TheVariants.{Memory, Disk, NoStudy, Damaged, BadSlip}
+use Rattle.cut_status.specs.declared.fault.StatusFault.TheVariants.{Memory, NoStudy, Damaged, BadSlip}
 use Rattle.cut_status.specs.Status.{StatusValue, status_over}
 
 -- bytes are read as these slips of an accepted plan
@@ -45,21 +43,9 @@ abbrev pub IsDamaged : List ℕ → ℕ → Type 0
 IsDamaged bytes zero = (is_study bytes ≡ true) × ((v : Values) → IsPlan v → IsOfNone (reading v bytes))
 IsDamaged bytes (suc n) = (v : Values) × (IsPlan v × (reading v bytes ≡ Err (journal.Damaged (suc n))))
 
--- what a fault says of bytes: that memory ran out says nothing, and a disk is none of its causes
+-- what a fault says of bytes: that memory ran out says nothing
 abbrev pub IsStatusFault : List ℕ → StatusFault → Type 0
 IsStatusFault bytes Memory = ⊤
-IsStatusFault bytes Disk = ⊥
 IsStatusFault bytes NoStudy = is_study bytes ≡ false
 IsStatusFault bytes (Damaged number) = IsDamaged bytes number
 IsStatusFault bytes (BadSlip number) = HasBadSlip bytes number
-
--- the faults of a file that is not read
-abbrev pub IsFileFault : StatusFault → Type 0
-IsFileFault Memory = ⊤
-IsFileFault Disk = ⊤
-IsFileFault fault = ⊥
-
--- the fault of a file, by the kind of the system's error
-abbrev pub of_kind : ErrorKind → StatusFault
-of_kind OutOfMemory = Memory
-of_kind kind = Disk

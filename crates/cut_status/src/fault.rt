@@ -6,14 +6,12 @@ use std::alloc::AllocError;
 use std::fmt;
 use thiserror::Error;
 
-/// Why a file has no status. Printed, it is its number, its name and the slip's number.
+/// Why bytes have no status. Printed, it is its number, its name and the slip's number.
 #[derive(Debug, Drop, PartialEq, Eq, Error)]
 pub enum StatusFault {
     /// A growth of memory was refused.
     Memory,
-    /// The file was not opened, is no regular file, or was not read.
-    Disk,
-    /// The file holds no study.
+    /// They hold no study.
     NoStudy,
     /// The slip of this number, from 1, is not as it was written; 0 is the header.
     Damaged(u64),
@@ -28,7 +26,6 @@ impl StatusFault {
     {
         match self {
             StatusFault::Memory => FaultCode::Memory,
-            StatusFault::Disk => FaultCode::Disk,
             StatusFault::NoStudy => FaultCode::NoStudy,
             StatusFault::Damaged(_) => FaultCode::Damaged,
             StatusFault::BadSlip(_) => FaultCode::BadSlip,

@@ -1,12 +1,10 @@
 //! What a checkpoint file holds: which study it is of, and how much of that is done.
 //!
-//! [`status_of`] says it of the bytes of a file, and [`read_file`] reads these, without the lock that a study which
-//! is running holds on the file. [`laws`] say that bytes have one status at most.
+//! [`status_of`] says it of the bytes of a file. [`laws`] say that bytes have one status at most.
 #![tactic(auto)]
 
 mod counts;
 mod fault;
-mod file;
 mod header;
 pub mod laws;
 mod reading;
@@ -14,6 +12,5 @@ mod status;
 
 pub use counts::trials_held;
 pub use fault::StatusFault;
-pub use file::read_file;
 pub use reading::status_of;
 pub use status::Status;

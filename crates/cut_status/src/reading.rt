@@ -16,8 +16,7 @@ use std::alloc::Global;
 /// header, and the slips are those that a journal of this plan reads.
 ///
 /// A fault is the one with which a journal of that plan would refuse the bytes, or else the first slip with which a
-/// ledger can't begin. Where a header says the text of no accepted plan, it is damaged. `Disk` is none of these
-/// faults.
+/// ledger can't begin. Where a header says the text of no accepted plan, it is damaged.
 pub fn status_of(alloc: Global, bytes: Vec<u8>) -> Result<Status, StatusFault>
     ensures ok { IfOk result (IsStatusOf bytes.items) }
     ensures err { IfErr result (IsStatusFault bytes.items) }

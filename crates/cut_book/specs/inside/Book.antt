@@ -13,6 +13,7 @@ use Rattle.cut_ledger.specs.Contents.{Contents}
 use Rattle.cut_ledger.specs.Machine.{StudyState}
 use Rattle.cut_ledger.specs.Refusals.{refusal_of}
 use Rattle.cut_disks.specs.State.{DiskState}
+use Rattle.cut_disks.specs.Log.{DiskLog}
 use Rattle.cut_journal.specs.Journal.{JournalValue}
 use Rattle.cut_book.specs.declared.call.Answer.{Answer}
 use Rattle.cut_book.specs.declared.call.Answer.TheVariants.{Accepted, Stranger, Overlap, DiskFails, Broken}
@@ -72,9 +73,8 @@ book_value_in journal s history failed = record {
 abbrev pub failed_since : Bool → ℕ → ℕ
 failed_since broken failed = if broken then one_more failed else failed
 
--- what is true of every book: of a disk, by which ones are honest, what is on one, and how many of its calls
--- have failed
-pub record IsBook {D : Type 0} (honest : D → Type 0) (on : D → DiskState) (faults : D → ℕ)
+-- what is true of every book: of a disk, by what is known of each
+pub record IsBook {D : Type 0} (log_of : D → DiskLog)
     (journal : Option (JournalValue D)) (s : StudyState) (history : HistoryValue) (places : ℕ) (failed : ℕ) : Type 0
   where
     -- the history leads to the state
@@ -91,5 +91,5 @@ pub record IsBook {D : Type 0} (honest : D → Type 0) (on : D → DiskState) (f
     pub has_journal : s.has_journal ≡ is_some journal
     pub of_plan : IfSome journal (λ log. log.plan ≡ s.ledger.plan)
     pub broken : s.broken ≡ is_some s.doubtful
-    pub followed : FollowsState honest on journal s
-    pub failures : failures_of faults journal ≡ failed_since s.broken failed
+    pub followed : FollowsState log_of journal s
+    pub failures : failures_of log_of journal ≡ failed_since s.broken failed

@@ -19,11 +19,7 @@ struct Gated<'a, D: Disk> {
 }
 
 impl<D: Disk> Disk for Gated<'_, D> {
-    ghost state = { λ d. D.state d.disk };
-
-    ghost is_honest = { λ d. D.is_honest d.disk };
-
-    ghost faults = { λ d. D.faults d.disk };
+    ghost log = { λ d. D.log d.disk };
 
     fn length(&mut self) -> Result<u64, DiskFault> {
         self.disk.length()

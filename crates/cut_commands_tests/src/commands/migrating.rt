@@ -38,7 +38,7 @@ const FALSE_SECOND: [u8; 32] = [
 ];
 
 /// The slip of the first trial, and a false one of the second.
-const FIRST: KeptSlip = ([0, 1, 4, 0, 0, 0, 4, 1, 1], TRUE_FIRST);
+pub(super) const FIRST: KeptSlip = ([0, 1, 4, 0, 0, 0, 4, 1, 1], TRUE_FIRST);
 
 const SECOND_FALSE: KeptSlip = ([1, 1, 4, 4, 0, 0, 4, 1, 0], FALSE_SECOND);
 

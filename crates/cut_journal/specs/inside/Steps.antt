@@ -1,15 +1,20 @@
--- What the private steps of a journal do to an honest disk.
+-- What the private steps of a journal do to a disk, where it is known what is on it.
 use Rattle.std.specs.Prelude.{◌≡◌, ◌⊎◌, ◌∷◌, ◌++◌, ◌+◌, ◌^◌, ◌<◌, ◌==◌, ℕ, true, false, List, length, Option, Some}
-use Rattle.std.specs.Prelude.{None, Result, Ok, Err, ⊤}
+use Rattle.std.specs.Prelude.{None, Result, Ok, Err, ⊤, Bool, [], slice_index, IfOk, OnOk}
+use Rattle.std.specs.Io.{StartsWith}
 use Rattle.cut_plan.specs.Failing.{version_of}
 use Rattle.cut_plan.specs.Values.{Values}
-use Rattle.cut_disks.specs.State.{DiskState, IsImage, IsTorn, written, begun, synced}
+use Rattle.cut_disks.specs.State.{DiskState, IsImage, IsTorn, Throughout, written, begun, synced, settled}
 use Rattle.cut_ledger.specs.declared.slip.Slip.{Slip}
 use Rattle.cut_journal.specs.declared.fault.JournalFault.{JournalFault}
 use Rattle.cut_journal.specs.declared.fault.JournalFault.TheVariants.{Memory, Disk, Damaged}
-use Rattle.cut_journal.specs.File.{open_gate}
+use Rattle.cut_journal.specs.declared.first_look.Shown.{Shown}
+use Rattle.cut_journal.specs.declared.slips.Slips.{Slips}
+use Rattle.cut_journal.specs.File.{open_gate, file_of}
+use Rattle.cut_journal.specs.Journal.{ReadsAs, ExtendsFile, kept_slips}
+use Rattle.cut_journal.specs.Opening.{IsNewStudy, IsReopenFault, IsReopened, IsRefused, IsMade, IsNotMade}
 use Rattle.cut_journal.specs.inside.File.{rest_of}
-use Rattle.cut_journal.specs.Reading.{is_study, has_header, says_plan, has_magic, slip_in}
+use Rattle.cut_journal.specs.Reading.{is_study, has_header, says_plan, has_magic, slip_in, slips_reading, reading}
 use Rattle.cut_journal.specs.inside.Places.{body_at, is_open, is_whole}
 
 -- a write and a sync: all is durable; or the write did nothing, or was begun
@@ -19,10 +24,16 @@ WritesThrough (Err fault) at put old new =
     (new ≡ old) ⊎ ((torn : List ℕ) × (IsTorn at (at + length put) old.bytes torn
     × (new ≡ begun old at (at + length put) torn)))
 
--- the first sync with its reads: all is durable, also where a read failed after it
-abbrev pub Settles : {T E : Type 0} → Result T E → DiskState → DiskState → Type 0
-Settles (Ok look) old new = new ≡ synced old
-Settles (Err fault) old new = (new ≡ old) ⊎ (new ≡ synced old)
+-- the first sync with its reads: all is durable, also where a read failed after it; they show the length, and whether there
+-- is a study
+abbrev pub Looks : {E : Type 0} → Result Shown E → DiskState → DiskState → Type 0
+Looks (Ok shown) old new =
+    (shown.length ≡ length old.bytes) × (shown.is_study ≡ is_study old.bytes) × (new ≡ synced old)
+Looks (Err fault) old new = (new ≡ old) ⊎ (new ≡ synced old)
+
+-- whether the gate at a place is open
+abbrev pub IsGate : {E : Type 0} → Result Bool E → ℕ → List ℕ → Type 0
+IsGate result place bytes = IfOk result (λ is_open. is_open ≡ (slice_index bytes place == open_gate))
 
 -- bytes begin as the file of a study of this plan does, and have the gate of a first slip
 pub record IsOfPlan (v : Values) (bytes : List ℕ) : Type 0 where
@@ -32,14 +43,14 @@ pub record IsOfPlan (v : Values) (bytes : List ℕ) : Type 0 where
   pub letters : has_magic v bytes ≡ true
 
 -- what the next slip is found to be: none after a closed gate, a whole one, or one that is damaged
-abbrev pub IsNext : Result (Option Slip) JournalFault → Values → List ℕ → ℕ → Type 0
-IsNext (Ok None) v bytes i = is_open v bytes i ≡ false
-IsNext (Ok (Some slip)) v bytes i =
+abbrev pub IsNext : Result (Option Slip) JournalFault → Values → ℕ → List ℕ → Type 0
+IsNext (Ok None) v i bytes = is_open v bytes i ≡ false
+IsNext (Ok (Some slip)) v i bytes =
     (is_open v bytes i ≡ true) × (is_whole v bytes i ≡ true)
     × (slip ≡ slip_in (version_of v.failing) (body_at v bytes i))
-IsNext (Err (Damaged number)) v bytes i =
+IsNext (Err (Damaged number)) v i bytes =
     (number ≡ i + 1) × (is_open v bytes i ≡ true) × (is_whole v bytes i ≡ false)
-IsNext (Err fault) v bytes i = ⊤
+IsNext (Err fault) v i bytes = ⊤
 
 -- the faults of a step that reads slips
 abbrev pub IsSlipFault : JournalFault → Type 0
@@ -73,3 +84,68 @@ pub record HasNumbers (s : Slip) : Type 0 where
   pub decided : s.totals.decided < 2 ^ 64
   pub right : s.totals.right < 2 ^ 64
   pub settled : s.totals.settled < 2 ^ 64
+
+-- ---- what the steps leave
+
+-- a file that begins as that of a study of this plan does, or why it doesn't
+abbrev pub IsChecked : Result ⊤ JournalFault → Values → List ℕ → Type 0
+IsChecked (Ok done) v bytes = IsOfPlan v bytes
+IsChecked (Err fault) v bytes = IsReopenFault v bytes fault
+
+-- the slips of such a file, or which of them is damaged
+abbrev pub AreRead : Result Slips JournalFault → Values → List ℕ → Type 0
+AreRead (Ok found) v bytes = slips_reading v bytes ≡ Ok found.slips.items
+AreRead (Err fault) v bytes = (number : ℕ) → fault ≡ Damaged number → slips_reading v bytes ≡ Err fault
+
+-- the slips that a disk holds, or why there are none
+abbrev pub Finds : Result Slips JournalFault → Values → DiskState → DiskState → Type 0
+Finds (Ok found) v old new = IsReopened v found.slips.items old new
+Finds (Err fault) v old new = IsRefused v fault old new
+
+-- the disk holds no study, has this length, and all that is on it is durable
+pub record IsFree (size : ℕ) (d : DiskState) : Type 0 where
+  pub length : size ≡ length d.bytes
+  pub none : is_study d.bytes ≡ false
+  pub durable : d.stable ≡ settled d.bytes
+
+-- its first gate is closed, and all is durable
+pub record IsClosed (d : DiskState) : Type 0 where
+  pub closed : (slice_index d.bytes 0 == open_gate) ≡ false
+  pub some : 0 < length d.bytes
+  pub durable : d.stable ≡ settled d.bytes
+
+-- after that gate it goes on as the file of a study without slips does, and all is durable
+pub record HasBegun (v : Values) (d : DiskState) : Type 0 where
+  pub begins : BeginsAs v d.bytes
+  pub durable : d.stable ≡ settled d.bytes
+
+-- the gate of the study is closed; at each moment there is no study
+pub record Closes {E : Type 0} (result : Result ⊤ E) (old new : DiskState) : Type 0 where
+  pub moments : Throughout old new (λ bytes. is_study bytes ≡ false)
+  pub closed : OnOk result (IsClosed new)
+
+-- what follows that gate is written; at each moment there is no study
+pub record WritesRest {E : Type 0} (result : Result ⊤ E) (v : Values) (old new : DiskState) : Type 0 where
+  pub moments : Throughout old new (λ bytes. is_study bytes ≡ false)
+  pub begun : OnOk result (HasBegun v new)
+
+-- a study without slips is written: at each moment there is none, or one without slips
+pub record WritesNew {E : Type 0} (result : Result ⊤ E) (v : Values) (old new : DiskState) : Type 0 where
+  pub moments : Throughout old new (IsNewStudy v)
+  pub durable : OnOk result (new.stable ≡ settled new.bytes)
+  pub made : OnOk result (reading v new.bytes ≡ Ok [])
+  pub file : OnOk result (StartsWith new.bytes (file_of v []))
+
+-- a study is made where there is none, and all is durable; or why it isn't
+abbrev pub Makes : Result ⊤ JournalFault → Values → DiskState → DiskState → Type 0
+Makes (Ok done) v old new = IsMade v old new × (new.stable ≡ settled new.bytes)
+Makes (Err fault) v old new = IsNotMade v fault old new
+
+-- a slip is kept after those that are there, this many
+pub record KeepsSlip {E : Type 0} (result : Result ⊤ E) (v : Values) (count : ℕ) (slip : Slip) (old new : DiskState)
+    : Type 0 where
+  pub moments : Throughout old new (ReadsAs v (kept_slips v count old) (Some slip))
+  pub left : Leave (ReadsAs v (kept_slips v count old) (Some slip)) new
+  pub kept : OnOk result (reading v new.bytes ≡ Ok (kept_slips v count old ++ slip ∷ []))
+  pub file : OnOk result (ExtendsFile v count slip old.bytes new.bytes)
+  pub durable : OnOk result (new.stable ≡ settled new.bytes)

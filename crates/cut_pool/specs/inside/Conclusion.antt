@@ -5,12 +5,12 @@ use Rattle.cut_ledger.specs.declared.slip.Slip.{Slip}
 use Rattle.cut_ledger.specs.Slips.{IsFirstBad}
 use Rattle.cut_wires.specs.declared.rows.RowsFault.{RowsFault}
 use Rattle.cut_wires.specs.declared.rows.RowsFault.TheVariants as rows
-use Rattle.cut_hall.specs.declared.next_row_fault.NextRowFault.{NextRowFault}
+use Rattle.cut_slots.specs.declared.next_row_fault.NextRowFault.{NextRowFault}
 use Rattle.cut_pool.specs.declared.run_fault.RunFault.{RunFault}
 use Rattle.cut_pool.specs.declared.run_fault.RunFault.TheVariants.{BadSlip, Checkpoint, Write, WorkMemory}
 use Rattle.cut_pool.specs.declared.run_fault.RunFault.TheVariants.{AuditMismatch}
 use Rattle.cut_pool.specs.declared.study_run.Done.{Done}
-use Rattle.cut_hall.specs.Report.{SlotEnd}
+use Rattle.cut_slots.specs.Report.{SlotEnd}
 
 -- why a run did not begin: where memory ran out, which says nothing of the slips, or for the first bad slip
 abbrev pub IsNotBegun : Values → List Slip → RunFault → Type 0

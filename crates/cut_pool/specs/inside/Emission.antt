@@ -12,9 +12,9 @@ use Rattle.cut_wires.specs.declared.rows.RowsFault.{RowsFault}
 use Rattle.cut_wires.specs.declared.rows.RowsFault.TheVariants.{Write, Row}
 use Rattle.cut_wires.specs.Log.{WireLog, wrote, write_failed}
 use Rattle.cut_wires.specs.Rows.{Table}
-use Rattle.cut_hall.specs.declared.next_row_fault.NextRowFault.{NextRowFault}
-use Rattle.cut_hall.specs.Lines.{full_line}
-use Rattle.cut_hall.specs.Pass.{Holding}
+use Rattle.cut_slots.specs.declared.next_row_fault.NextRowFault.{NextRowFault}
+use Rattle.cut_slots.specs.Lines.{full_line}
+use Rattle.cut_slots.specs.Pass.{Holding}
 use Rattle.cut_pool.specs.Emission.{WrotePrefix}
 
 -- how many bytes of a whole are reported, and what the wire took: all of it; exactly as many of its first bytes and

@@ -1,9 +1,9 @@
 -- What only the crate's own clauses and proofs cite, beside specs/Faults.antt.
 use Rattle.std.specs.Prelude.{Bool, true, false, Option, unwrap_or}
-use Rattle.cut_hall.specs.declared.next_row_fault.NextRowFault.{NextRowFault}
-use Rattle.cut_hall.specs.declared.next_row_fault.NextRowFault.TheVariants as line
-use Rattle.cut_hall.specs.declared.not_closed.NotClosed.{NotClosed}
-use Rattle.cut_hall.specs.declared.not_closed.NotClosed.TheVariants as closing
+use Rattle.cut_slots.specs.declared.next_row_fault.NextRowFault.{NextRowFault}
+use Rattle.cut_slots.specs.declared.next_row_fault.NextRowFault.TheVariants as line
+use Rattle.cut_slots.specs.declared.not_closed.NotClosed.{NotClosed}
+use Rattle.cut_slots.specs.declared.not_closed.NotClosed.TheVariants as closing
 use Rattle.cut_pool.specs.declared.run_fault.RunFault.{RunFault}
 use Rattle.cut_pool.specs.declared.run_fault.RunFault.TheVariants as run
 

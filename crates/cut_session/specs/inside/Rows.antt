@@ -12,10 +12,10 @@ use Rattle.cut_wires.specs.declared.send.Sent.{Sent}
 use Rattle.cut_wires.specs.declared.rows.RowsFault.TheVariants.{Row, Write}
 use Rattle.cut_wires.specs.Rows.{Table}
 use Rattle.cut_wires.specs.Sending.{Sending, Sends}
-use Rattle.cut_hall.specs.declared.next_row_fault.NextRowFault.{NextRowFault}
-use Rattle.cut_hall.specs.Faults.{code_of_line}
-use Rattle.cut_hall.specs.Lines.{full_line}
-use Rattle.cut_hall.specs.Pass.{Holding}
+use Rattle.cut_slots.specs.declared.next_row_fault.NextRowFault.{NextRowFault}
+use Rattle.cut_slots.specs.Faults.{code_of_line}
+use Rattle.cut_slots.specs.Lines.{full_line}
+use Rattle.cut_slots.specs.Pass.{Holding}
 use Rattle.cut_session.specs.Answering.{end_frame, error_frame}
 
 -- the header, and the line of each cell over the slips that the study began with

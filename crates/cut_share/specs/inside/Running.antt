@@ -4,7 +4,7 @@ use Rattle.std.specs.Prelude.{IsSome, Result, Ok, Err}
 use Rattle.cut_plan.specs.Values.{Values}
 use Rattle.cut_outcome.specs.declared.piece.Piece.{Piece}
 use Rattle.cut_outcome.specs.Sum.{sum_of, trials_in}
-use Rattle.cut_disks.specs.State.{DiskState}
+use Rattle.cut_disks.specs.Log.{DiskLog}
 use Rattle.cut_ledger.specs.declared.slip.Slip.{Slip}
 use Rattle.cut_journal.specs.declared.fault.JournalFault.{JournalFault}
 use Rattle.cut_journal.specs.declared.fault.JournalFault.TheVariants as journal
@@ -28,14 +28,14 @@ fault_of fault = OtherPlan
 
 -- how the appends of the results of pieces end: all are kept; or the journal is broken and takes none; or the disk
 -- failed at one of them
-abbrev pub EndsAppends : {T D : Type 0} → (D → Type 0) → (D → DiskState) → Result T ShareFault → Values → List Piece
+abbrev pub EndsAppends : {T D : Type 0} → (D → DiskLog) → Result T ShareFault → Values → List Piece
     → JournalValue D → JournalValue D → Type 0
-EndsAppends is_honest state (Ok done) v ps old new =
-    Adds is_honest state (slips_at v ps) old new × NoneFailed (slips_at v ps) old new
-EndsAppends is_honest state (Err Broken) v ps old new =
+EndsAppends log_of (Ok done) v ps old new =
+    Adds log_of (slips_at v ps) old new × NoneFailed (slips_at v ps) old new
+EndsAppends log_of (Err Broken) v ps old new =
     (1 ≤ length ps) × IsSome old.doubtful × (new ≡ old)
-EndsAppends is_honest state (Err Disk) v ps old new =
+EndsAppends log_of (Err Disk) v ps old new =
     (before : List Piece) × (p : Piece) × (after : List Piece)
-    × ((ps ≡ before ++ p ∷ after) × Adds is_honest state (slips_at v before) old new
+    × ((ps ≡ before ++ p ∷ after) × Adds log_of (slips_at v before) old new
     × OneFailed (slip_at v p) old new)
-EndsAppends is_honest state (Err fault) v ps old new = ⊥
+EndsAppends log_of (Err fault) v ps old new = ⊥

@@ -1,4 +1,4 @@
-use Rattle.std.proofs.Common.{◌-◌, arith}
+use Rattle.std.proofs.Common.{arith}
 use Rattle.cut_commands.proofs.InputLemmas.{take_filled}
 use Rattle.cut_commands.proofs.Logs.{read_more}
 use Rattle.cut_commands.proofs.input.fill.Goals as goal

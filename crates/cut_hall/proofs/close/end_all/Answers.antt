@@ -1,6 +1,6 @@
 use Rattle.std.proofs.Common.{◌≡◌, ◌+◌, ◌++◌, ◌∙◌, List, [], ◌∷◌, length, ap, arith, length-append}
 use Rattle.std.proofs.lemmas.List.Sums.{sum_by_push}
-use Rattle.cut_hall.specs.Report.{SlotEnd, calls_recorded, calls_in_all}
+use Rattle.cut_slots.specs.Report.{SlotEnd, calls_recorded, calls_in_all}
 use Rattle.cut_hall.proofs.Openings.{none_opened, one_more_opened}
 use Rattle.cut_hall.proofs.close.end_all.Goals as goal
 

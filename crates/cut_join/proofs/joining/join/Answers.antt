@@ -1,4 +1,5 @@
 use Rattle.std.proofs.Common.{rules, ◌≡◌, List, All, sym, subst}
+use Rattle.cut_disks.specs.Log.{on}
 use Rattle.cut_plan.specs.Failing.{version_of}
 use Rattle.cut_ledger.specs.declared.slip.Slip.{Slip}
 use Rattle.cut_journal.specs.File.{HoldsAllTotals}
@@ -10,13 +11,13 @@ pub returns-in_err-joined-clause-moments : goal.returns-in_err-joined-clause-mom
 returns-in_err-joined-clause-moments g c =
     let log = c.args.journal.now in
     λ honest. nothing_taken (joined c.args.plan.now c.args.slips.now) log.plan log.count log.doubtful
-    (g.D.Disk.state log.disk) (c.stays_readable.ensures.sound honest)
+    (on (g.D.Disk.log log.disk)) (c.stays_readable.ensures.sound honest)
 
 pub returns-then-not-same-clause-moments : goal.returns-then-not-same-clause-moments
 returns-then-not-same-clause-moments g c =
     let log = c.args.journal.now in
     λ honest. nothing_taken (joined c.args.plan.now c.args.slips.now) log.plan log.count log.doubtful
-    (g.D.Disk.state log.disk) (c.stays_readable.ensures.sound honest)
+    (on (g.D.Disk.log log.disk)) (c.stays_readable.ensures.sound honest)
 
 pub append_all-requires : goal.append_all-requires
 append_all-requires g c =

@@ -2,5 +2,5 @@ use Rattle.std.proofs.Common.{arith}
 use Rattle.cut_journal.proofs.Makings.{close_step}
 use Rattle.cut_journal.proofs.new_study.close.Goals as goal
 
-pub returns-clause-moments : goal.returns-clause-moments
-returns-clause-moments g c = grind (arith, close_step)
+pub returns : goal.returns
+returns g c = grind (arith, close_step)

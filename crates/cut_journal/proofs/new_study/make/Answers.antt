@@ -1,31 +1,19 @@
-use Rattle.std.proofs.Common.{◌∙◌, sym}
+use Rattle.std.proofs.Common.{arith}
 use Rattle.cut_journal.proofs.Readings.{none_read, some_read}
 use Rattle.cut_journal.proofs.Makings.{look_failed, write_failed}
 use Rattle.cut_journal.proofs.new_study.make.Goals as goal
 
-pub returns-in-Err-look_first-clause-refused : goal.returns-in-Err-look_first-clause-refused
-returns-in-Err-look_first-clause-refused g c = λ honest.
-    look_failed c.args.study.now (g.D.Disk.state c.args.disk.now) (g.D.Disk.state c.look_first.new.disk)
-    (c.in-Err-look_first.ensures.state honest)
+pub returns-in-Err-look_first-clause-makes : goal.returns-in-Err-look_first-clause-makes
+returns-in-Err-look_first-clause-makes g c = grind (arith, look_failed)
 
-pub returns-then-shown-clause-refused : goal.returns-then-shown-clause-refused
-returns-then-shown-clause-refused g c = λ honest. (
-  some_read c.args.study.now (g.D.Disk.state c.args.disk.now).bytes
-      (sym (c.in-Ok-look_first.ensures.study honest) ∙ c.if-shown.true),
-  c.in-Ok-look_first.ensures.state honest,
-)
+pub returns-then-shown-clause-makes : goal.returns-then-shown-clause-makes
+returns-then-shown-clause-makes g c = grind (arith, some_read)
 
-pub returns-in-Ok-write_new-clause-made : goal.returns-in-Ok-write_new-clause-made
-returns-in-Ok-write_new-clause-made g c = λ honest. (
-  none_read c.args.study.now (g.D.Disk.state c.args.disk.now).bytes
-      (sym (c.in-Ok-look_first.ensures.study honest) ∙ c.if-shown.false),
-  c.in-Ok-write_new.ensures.made (c.look_first.ensures.honest.0 honest),
-  c.in-Ok-write_new.ensures.durable (c.look_first.ensures.honest.0 honest),
-)
+pub write_new-requires : goal.write_new-requires
+write_new-requires g c = grind (arith, none_read)
 
-pub returns-clause-refused : goal.returns-clause-refused
-returns-clause-refused g c = λ honest.
-    write_failed c.args.study.now (g.D.Disk.state c.args.disk.now) (g.D.Disk.state c.look_first.new.disk)
-    (g.D.Disk.state c.write_new.new.disk) (c.in-Ok-look_first.ensures.state honest)
-    (sym (c.in-Ok-look_first.ensures.study honest) ∙ c.if-shown.false)
-    (c.write_new.ensures.moments (c.look_first.ensures.honest.0 honest))
+pub returns-in-Ok-write_new-clause-makes : goal.returns-in-Ok-write_new-clause-makes
+returns-in-Ok-write_new-clause-makes g c = grind (arith, none_read)
+
+pub returns-clause-makes : goal.returns-clause-makes
+returns-clause-makes g c = grind (arith, write_failed)

@@ -1,28 +1,39 @@
+use Rattle.std.proofs.Common.{◌∙◌, ap, arith}
+use Rattle.cut_faults.specs.Failures.{counted}
+use Rattle.cut_disks.specs.Log.{on}
 use Rattle.cut_journal.specs.Opening.{IsNewStudy}
 use Rattle.cut_journal.proofs.Moments.{weaker, and_then}
 use Rattle.cut_journal.proofs.Makings.{IsNone, none_new}
 use Rattle.cut_journal.proofs.new_study.write_new.Goals as goal
 
-pub returns-in_err-close-clause-moments : goal.returns-in_err-close-clause-moments
-returns-in_err-close-clause-moments g c = λ honest.
-    weaker IsNone (IsNewStudy c.args.file.study.now) (none_new c.args.file.study.now) (g.D.Disk.state c.args.disk.now)
-    (g.D.Disk.state c.close.new.disk) (c.close.ensures.moments honest)
+pub returns-in_err-close : goal.returns-in_err-close
+returns-in_err-close g c =
+    grind (arith, weaker IsNone (IsNewStudy c.args.file.study.now) (none_new c.args.file.study.now))
 
-pub returns-in_err-write_rest-clause-moments : goal.returns-in_err-write_rest-clause-moments
-returns-in_err-write_rest-clause-moments g c = λ honest.
-    weaker IsNone (IsNewStudy c.args.file.study.now) (none_new c.args.file.study.now) (g.D.Disk.state c.args.disk.now)
-    (g.D.Disk.state c.write_rest.new.disk)
-    (and_then IsNone (g.D.Disk.state c.args.disk.now) (g.D.Disk.state c.close.new.disk)
-    (g.D.Disk.state c.write_rest.new.disk)
-    (c.close.ensures.moments honest) (c.write_rest.ensures.moments (c.close.ensures.honest.0 honest)))
+pub returns-in_err-write_rest : goal.returns-in_err-write_rest
+returns-in_err-write_rest g c =
+    grind (arith, weaker IsNone (IsNewStudy c.args.file.study.now) (none_new c.args.file.study.now), and_then IsNone)
 
-pub returns-clause-moments : goal.returns-clause-moments
-returns-clause-moments g c = λ honest.
-    and_then (IsNewStudy c.args.file.study.now) (g.D.Disk.state c.args.disk.now) (g.D.Disk.state c.write_rest.new.disk)
-    (g.D.Disk.state c.open.new.disk)
-    (weaker IsNone (IsNewStudy c.args.file.study.now) (none_new c.args.file.study.now) (g.D.Disk.state c.args.disk.now)
-    (g.D.Disk.state c.write_rest.new.disk)
-    (and_then IsNone (g.D.Disk.state c.args.disk.now) (g.D.Disk.state c.close.new.disk)
-    (g.D.Disk.state c.write_rest.new.disk)
-    (c.close.ensures.moments honest) (c.write_rest.ensures.moments (c.close.ensures.honest.0 honest))))
-    (c.open.ensures.moments (c.write_rest.ensures.honest.0 (c.close.ensures.honest.0 honest)))
+pub returns : goal.returns
+returns g c = record {
+  writes = record {
+    known = c.open.ensures.opens.known ∙ c.in_ok-write_rest.ensures.writes.known ∙ c.in_ok-close.ensures.closes.known;
+    state = λ known. (let closed = c.in_ok-close.ensures.closes.state known in
+        let shut = c.in_ok-close.ensures.closes.known ∙ known in
+        let rest = c.in_ok-write_rest.ensures.writes.state shut in
+        let opened = c.open.ensures.opens.state (c.in_ok-write_rest.ensures.writes.known ∙ shut) in record {
+          moments = and_then (IsNewStudy c.args.file.study.now) (on (g.D.Disk.log c.args.disk.now))
+              (on (g.D.Disk.log c.write_rest.new.disk)) (on (g.D.Disk.log c.open.new.disk))
+              (weaker IsNone (IsNewStudy c.args.file.study.now) (none_new c.args.file.study.now)
+              (on (g.D.Disk.log c.args.disk.now)) (on (g.D.Disk.log c.write_rest.new.disk))
+              (and_then IsNone (on (g.D.Disk.log c.args.disk.now)) (on (g.D.Disk.log c.close.new.disk))
+              (on (g.D.Disk.log c.write_rest.new.disk)) closed.moments rest.moments))
+              opened.moments;
+          durable = opened.durable;
+          made = opened.made;
+          file = opened.file;
+        });
+    faults = c.open.ensures.opens.faults ∙ ap (counted c.open.result)
+        (c.in_ok-write_rest.ensures.writes.faults ∙ c.in_ok-close.ensures.closes.faults);
+  };
+}

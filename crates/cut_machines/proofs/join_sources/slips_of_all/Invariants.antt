@@ -7,4 +7,4 @@ use Rattle.cut_machines.proofs.join_sources.slips_of_all.Given as goal
 abbrev pub invariant-loop-disk : goal.invariant-loop-disk
 invariant-loop-disk g l = (done : List _)
     × ((l.fn.disks.items ≡ done ++ into_iter_items l.disk-iterator)
-    × HoldAll g.O.Disk.is_honest g.O.Disk.state done l.fn.plan l.slips.items × (l.read ≡ length done))
+    × HoldAll g.O.Disk.log done l.fn.plan l.slips.items × (l.read ≡ length done))

@@ -1,4 +1,5 @@
-use Rattle.std.proofs.Common.{List, sym, subst}
+use Rattle.std.proofs.Common.{◌∙◌, List, sym, subst}
+use Rattle.cut_disks.specs.Log.{on}
 use Rattle.cut_plan.specs.Values.{Values}
 use Rattle.cut_ledger.specs.declared.slip.Slip.{Slip}
 use Rattle.cut_join.specs.Joined.{joined}
@@ -15,10 +16,10 @@ returns-clause-part g c = λ honest.
     let old = c.args.journal in
     let new = c.join.new.journal in
     let some = some_taken c.join.result v ss old new c.requires.good c.requires.new c.join.ensures.ends in
-    subst (λ d. IsPartWritten v ss (g.N.Disk.state old.disk) (g.N.Disk.state d)) (sym c.into_disk.ensures.disk)
-    (part_written v ss some.0 old new (g.N.Disk.state old.disk) (g.N.Disk.state new.disk) c.requires.new some.1
+    subst (λ d. IsPartWritten v ss (on (g.N.Disk.log old.disk)) (on (g.N.Disk.log d))) (sym c.into_disk.ensures.disk)
+    (part_written v ss some.0 old new (on (g.N.Disk.log old.disk)) (on (g.N.Disk.log new.disk)) c.requires.new some.1
     (c.join.ensures.moments honest some.0 some.1.count) (c.join.ensures.kept honest some.0 some.1.count)
-    (c.into_disk.ensures.sound (c.join.ensures.honest.0 honest)))
+    (c.into_disk.ensures.sound (c.join.ensures.known ∙ honest)))
 
 pub returns-clause-all : goal.returns-clause-all
 returns-clause-all g c = λ honest.
@@ -28,10 +29,10 @@ returns-clause-all g c = λ honest.
     let new = c.join.new.journal in
     elim c.match-join.branch [
       | in-Ok w ↦ rw w.count-is
-          (subst (λ d. SaysAllOf v (joined v ss) (g.N.Disk.state d)) (sym c.into_disk.ensures.disk)
-          (all_written v ss w.in-Ok.count old new (g.N.Disk.state old.disk) (g.N.Disk.state new.disk) c.requires.new
+          (subst (λ d. SaysAllOf v (joined v ss) (on (g.N.Disk.log d))) (sym c.into_disk.ensures.disk)
+          (all_written v ss w.in-Ok.count old new (on (g.N.Disk.log old.disk)) (on (g.N.Disk.log new.disk)) c.requires.new
           w.in-Ok.ensures.ends (c.join.ensures.kept honest w.in-Ok.count w.in-Ok.ensures.ends.1.2)
-          (c.into_disk.ensures.sound (c.join.ensures.honest.0 honest))))
+          (c.into_disk.ensures.sound (c.join.ensures.known ∙ honest))))
       | in-Err w ↦ rw w.count-is tt
     ]
 

@@ -1,6 +1,7 @@
 use Rattle.std.proofs.Common.{◌≡◌, rules, ℕ, ◌++◌, ◌∷◌, [], true, false, IsTrue, Result, Ok, Err, sym, ap, ◌∙◌, subst}
 use Rattle.std.specs.Bool.{⊤}
 use Rattle.std.specs.Prelude.{IsErrOf, IsSome, ◌↔◌}
+use Rattle.cut_disks.specs.Log.{on}
 use Rattle.cut_plan.specs.Targets.{upgraded}
 use Rattle.cut_plan.specs.Values.{Values}
 use Rattle.cut_outcome.specs.declared.piece.Piece.{Piece}
@@ -41,13 +42,13 @@ returns-in-Err-BadPiece-clause-moments g c =
 pub returns-in-Err-Memory-clause-moments : goal.returns-in-Err-Memory-clause-moments
 returns-in-Err-Memory-clause-moments g c =
     let log = c.args.journal.now in
-    λ honest. nothing_appended log.plan log.count log.doubtful (g.D.Disk.state log.disk)
+    λ honest. nothing_appended log.plan log.count log.doubtful (on (g.D.Disk.log log.disk))
     (c.stays_readable.ensures.sound honest)
 
 pub returns-then-not-is_true-clause-moments : goal.returns-then-not-is_true-clause-moments
 returns-then-not-is_true-clause-moments g c =
     let log = c.args.journal.now in
-    λ honest. nothing_appended log.plan log.count log.doubtful (g.D.Disk.state log.disk)
+    λ honest. nothing_appended log.plan log.count log.doubtful (on (g.D.Disk.log log.disk))
     (c.stays_readable.ensures.sound honest)
 
 pub returns-in-Ok-append-clause-moments : goal.returns-in-Ok-append-clause-moments
@@ -55,21 +56,20 @@ returns-in-Ok-append-clause-moments g c =
     let log = c.args.journal.now in
     let is = moved_is c.args.target.plan.now c.args.target.upgrade.now c.args.slip.now c.in-Ok.result
     c.args.target.upgrade_of c.in-Ok.ensures.ok in
-    λ honest. subst (λ (x : Slip). AppendsEach log.plan (kept_slips log.plan log.count (g.D.Disk.state log.disk))
+    λ known. (let appends = c.in-Ok-append.ensures.appends.state known in subst (λ (x : Slip). AppendsEach log.plan (kept_slips log.plan log.count (on (g.D.Disk.log log.disk)))
     c.append.new.self.doubtful (x ∷ [])
-    (g.D.Disk.state log.disk) (g.D.Disk.state c.append.new.self.disk)) is
-    (append_moments (Ok c.in-Ok-append.field-0) (slip_of c.in-Ok.result) (λ d. g.D.Disk.state d) log c.append.new.self
-    c.in-Ok-append.ensures.left c.in-Ok-append.ensures.broken (c.stays_readable.ensures.sound honest)
-    (c.append.ensures.moments honest)
-    (c.in-Ok-append.ensures.acknowledged honest) (c.in-Ok-append.ensures.kept honest))
+    (on (g.D.Disk.log log.disk)) (on (g.D.Disk.log c.append.new.self.disk))) is
+    (append_moments (Ok c.in-Ok-append.field-0) (slip_of c.in-Ok.result) (λ d. on (g.D.Disk.log d)) log c.append.new.self
+    c.in-Ok-append.ensures.left c.in-Ok-append.ensures.broken (c.stays_readable.ensures.sound known)
+    appends.moments appends.acknowledged appends.kept))
 
 pub returns-in-Ok-append-clause-kept : goal.returns-in-Ok-append-clause-kept
 returns-in-Ok-append-clause-kept g c =
     let is = moved_is c.args.target.plan.now c.args.target.upgrade.now c.args.slip.now c.in-Ok.result
     c.args.target.upgrade_of c.in-Ok.ensures.ok in
-    λ honest. c.in-Ok-append.ensures.kept honest
+    λ known. (c.in-Ok-append.ensures.appends.state known).kept
     ∙ ap (λ (x : Slip). kept_slips c.args.journal.now.plan c.args.journal.now.count
-    (g.D.Disk.state c.args.journal.now.disk) ++ x ∷ []) is
+    (on (g.D.Disk.log c.args.journal.now.disk)) ++ x ∷ []) is
 
 pub returns-clause-ends : goal.returns-clause-ends
 returns-clause-ends g c =

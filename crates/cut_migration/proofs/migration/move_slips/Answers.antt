@@ -3,6 +3,7 @@ use Rattle.std.proofs.Common.{append-nil, append_assoc}
 use Rattle.std.specs.Bool.{⊤}
 use Rattle.std.proofs.lemmas.Result.{err_from_is_err_and}
 use Rattle.std.proofs.lemmas.Option.{slice_get-get_or}
+use Rattle.cut_disks.specs.Log.{on}
 use Rattle.cut_plan.specs.Values.{Values}
 use Rattle.cut_outcome.specs.Sum.{each_number}
 use Rattle.cut_ledger.specs.declared.slip.Slip.{Slip}
@@ -25,10 +26,10 @@ loop-slip-init g c =
       count = refl;
       moved = none_moved c.args.target.plan.now c.args.slips.now log;
       doubtful = refl;
-      kept = λ honest. sym (append-nil (kept_slips log.plan log.count (g.D.Disk.state log.disk)));
-      moments = λ honest. nothing_appended log.plan log.count log.doubtful (g.D.Disk.state log.disk)
+      kept = λ honest. sym (append-nil (kept_slips log.plan log.count (on (g.D.Disk.log log.disk))));
+      moments = λ honest. nothing_appended log.plan log.count log.doubtful (on (g.D.Disk.log log.disk))
           (c.stays_readable.ensures.sound honest);
-      honest = (λ h. h, λ h. h);
+      known = refl;
       faults = refl;
     }
 
@@ -59,11 +60,11 @@ returns-in_err-move_slip-clause-moments g c = λ honest m is.
     let one : MovesOne {T = ⊤} (Err c.in_err-move_slip.field-0.0) v (c.loop-slip.count + 1) (get_or ss n no_slip)
     mid c.move_slip.new.journal = c.in_err-move_slip.ensures.ends in
     moments_stop c.in_err-move_slip.field-0.0 v ss log.plan
-    (kept_slips log.plan log.count (g.D.Disk.state log.disk)) (kept_slips mid.plan mid.count (g.D.Disk.state mid.disk))
+    (kept_slips log.plan log.count (on (g.D.Disk.log log.disk))) (kept_slips mid.plan mid.count (on (g.D.Disk.log mid.disk)))
     n m (c.loop-slip.count + 1) (get_or ss n no_slip) log mid c.move_slip.new.journal
-    (g.D.Disk.state log.disk) (g.D.Disk.state mid.disk) (g.D.Disk.state c.move_slip.new.journal.disk)
+    (on (g.D.Disk.log log.disk)) (on (g.D.Disk.log mid.disk)) (on (g.D.Disk.log c.move_slip.new.journal.disk))
     one held.moved refl is (held.kept honest) (held.moments honest)
-    (c.in_err-move_slip.ensures.moments (held.honest.0 honest))
+    (c.in_err-move_slip.ensures.moments (held.known ∙ honest))
 
 pub loop-slip-preserved : goal.loop-slip-preserved
 loop-slip-preserved g c =
@@ -82,26 +83,22 @@ loop-slip-preserved g c =
       moved = moved_more v ss n (c.loop-slip.count + 1) s log mid c.move_slip.new.journal at held.moved held.doubtful
           one;
       doubtful = one.4 ∙ sym one.3 ∙ held.doubtful;
-      kept = λ honest. c.in_ok-move_slip.ensures.kept (held.honest.0 honest)
+      kept = λ honest. c.in_ok-move_slip.ensures.kept (held.known ∙ honest)
           ∙ ap (λ (l : List Slip). l ++ moved v s ∷ []) (held.kept honest)
-          ∙ append_assoc (kept_slips log.plan log.count (g.D.Disk.state log.disk)) (first_moved v ss n) (moved v s ∷ [])
-          ∙ ap (λ (l : List Slip). kept_slips log.plan log.count (g.D.Disk.state log.disk) ++ l)
+          ∙ append_assoc (kept_slips log.plan log.count (on (g.D.Disk.log log.disk))) (first_moved v ss n) (moved v s ∷ [])
+          ∙ ap (λ (l : List Slip). kept_slips log.plan log.count (on (g.D.Disk.log log.disk)) ++ l)
           (sym (first_more v ss n s at));
       moments = λ honest. subst (λ (l : List Slip). AppendsEach log.plan
-          (kept_slips log.plan log.count (g.D.Disk.state log.disk))
-          c.move_slip.new.journal.doubtful l (g.D.Disk.state log.disk) (g.D.Disk.state c.move_slip.new.journal.disk))
+          (kept_slips log.plan log.count (on (g.D.Disk.log log.disk)))
+          c.move_slip.new.journal.doubtful l (on (g.D.Disk.log log.disk)) (on (g.D.Disk.log c.move_slip.new.journal.disk)))
           (sym (first_more v ss n s at))
           (moments_more {T = ⊤} (Ok tt) v ss log.plan
-          (kept_slips log.plan log.count (g.D.Disk.state log.disk))
-          (kept_slips mid.plan mid.count (g.D.Disk.state mid.disk))
+          (kept_slips log.plan log.count (on (g.D.Disk.log log.disk)))
+          (kept_slips mid.plan mid.count (on (g.D.Disk.log mid.disk)))
           n (c.loop-slip.count + 1) s mid c.move_slip.new.journal
-          (g.D.Disk.state log.disk) (g.D.Disk.state mid.disk) (g.D.Disk.state c.move_slip.new.journal.disk)
+          (on (g.D.Disk.log log.disk)) (on (g.D.Disk.log mid.disk)) (on (g.D.Disk.log c.move_slip.new.journal.disk))
           one held.moved.plan (held.kept honest) (held.moments honest)
-          (c.in_ok-move_slip.ensures.moments (held.honest.0 honest)));
-      honest = (
-        λ h. c.move_slip.ensures.honest.0 (held.honest.0 h),
-        λ h. held.honest.1
-            (c.move_slip.ensures.honest.1 h),
-      );
+          (c.in_ok-move_slip.ensures.moments (held.known ∙ honest)));
+      known = c.move_slip.ensures.known ∙ held.known;
       faults = c.in_ok-move_slip.ensures.faults ∙ held.faults;
     }

@@ -1,6 +1,6 @@
 use Rattle.std.proofs.Common.{◌≡◌, All, sym, subst}
 use Rattle.std.proofs.lemmas.List.Elements.{All-push}
-use Rattle.cut_hall.specs.Pass.{Holding}
+use Rattle.cut_slots.specs.Pass.{Holding}
 use Rattle.cut_pool.proofs.private_hall.closed.Goals as goal
 
 pub close-requires-clause-own : goal.close-requires-clause-own

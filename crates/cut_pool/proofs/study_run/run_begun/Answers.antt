@@ -9,7 +9,7 @@ use Rattle.cut_pool.specs.inside.Conclusion.{Concludes}
 use Rattle.cut_pool.specs.inside.Emission.{EmitsStudy}
 use Rattle.cut_book.specs.Book.{opening_of}
 use Rattle.cut_book.specs.History.{Opening}
-use Rattle.cut_hall.specs.Report.{SlotEnd, AreOpenedWith, calls_in_all}
+use Rattle.cut_slots.specs.Report.{SlotEnd, AreOpenedWith, calls_in_all}
 use Rattle.cut_pool.proofs.Conclusions.{ended, takes}
 use Rattle.cut_pool.proofs.study_run.run_begun.Goals as goal
 

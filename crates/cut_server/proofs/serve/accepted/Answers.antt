@@ -3,7 +3,7 @@ use Rattle.std.proofs.lemmas.Grind.{take_at_read}
 use Rattle.std.proofs.lemmas.List.{take_all}
 use Rattle.std.proofs.lemmas.List.Elements.{All-push}
 use Rattle.std.proofs.lemmas.List.Sums.{sum_by_push}
-use Rattle.cut_hall.specs.Report.{IsAcceptedCount, IsEndOf, SlotEnd, accepted_recorded}
+use Rattle.cut_slots.specs.Report.{IsAcceptedCount, IsEndOf, SlotEnd, accepted_recorded}
 use Rattle.cut_server.proofs.serve.accepted.Goals as goal
 
 pub loop-study-preserved : goal.loop-study-preserved

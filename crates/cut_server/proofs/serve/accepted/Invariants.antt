@@ -1,5 +1,5 @@
 use Rattle.std.proofs.Common.{◌≡◌, ◌≤◌, ◌*◌, ◌^◌, All, sum_by, take}
-use Rattle.cut_hall.specs.Report.{IsAcceptedCount, IsEndOf, accepted_recorded}
+use Rattle.cut_slots.specs.Report.{IsAcceptedCount, IsEndOf, accepted_recorded}
 use Rattle.cut_server.proofs.serve.accepted.Given as goal
 
 -- the slots so far are added up

@@ -15,22 +15,17 @@ use Rattle.cut_share.proofs.append.append.Goals as goal
 pub returns-in_default-clause-ends : goal.returns-in_default-clause-ends
 returns-in_default-clause-ends g c =
     let log = c.args.journal.now in
-    subst (λ (ps : List Piece). EndsAppends {T = ⊤} g.D.Disk.is_honest g.D.Disk.state (Ok tt) log.plan ps log log)
+    subst (λ (ps : List Piece). EndsAppends {T = ⊤} g.D.Disk.log (Ok tt) log.plan ps log log)
     (sym (done_none c.args.task.now c.in_default.is))
-    (none_added g.D.Disk.is_honest g.D.Disk.state log c.stays_readable.ensures.sound, none_failed [] log)
+    (none_added g.D.Disk.log log c.stays_readable.ensures.sound, none_failed [] log)
 
 pub returns-in-Ok-clause-ends : goal.returns-in-Ok-clause-ends
 returns-in-Ok-clause-ends g c =
     let log = c.args.journal.now in
     let new = c.append.new.self in
-    task_appended {T = ⊤} g.D.Disk.is_honest g.D.Disk.state tt c.in-Ok.field-0 log.plan c.args.task.now
+    task_appended {T = ⊤} g.D.Disk.log tt c.in-Ok.field-0 log.plan c.args.task.now
     c.in-Some.result log new c.in-Some.is c.requires c.in-Ok.ensures.left c.in-Ok.ensures.broken
-    (λ honest. record {
-      sound = c.stays_readable.ensures.sound honest;
-      moments = c.append.ensures.moments honest;
-      acknowledged = c.in-Ok.ensures.acknowledged honest;
-      kept = c.in-Ok.ensures.kept honest;
-    })
+    (λ known. (c.stays_readable.ensures.sound known, c.in-Ok.ensures.appends.state known))
 
 pub returns-in-Err-clause-ends : goal.returns-in-Err-clause-ends
 returns-in-Err-clause-ends g c =
@@ -43,13 +38,8 @@ returns-in-Err-clause-ends g c =
     ap (λ (r : Computed). r.plan) (result_is log.plan c.args.task.now c.in-Some.result c.in-Some.is c.requires) in
     let other : IsErrOf {T = ℕ} (Err c.in-Err.fault) journal.OtherPlan → ⊥ =
     λ is. (c.in-Err.ensures.other_plan.0 is).1 same in
-    subst (λ (e : ShareFault). EndsAppends {T = ⊤} g.D.Disk.is_honest g.D.Disk.state (Err e) log.plan
+    subst (λ (e : ShareFault). EndsAppends {T = ⊤} g.D.Disk.log (Err e) log.plan
     (done_of (c.args.task.now ∷ [])) log new) (sym c.fault_of.ensures)
-    (task_failed ⊤ g.D.Disk.is_honest g.D.Disk.state c.in-Err.fault log.plan c.args.task.now c.in-Some.result
+    (task_failed ⊤ g.D.Disk.log c.in-Err.fault log.plan c.args.task.now c.in-Some.result
     log new c.in-Some.is c.requires others other broken left
-    (λ honest. record {
-      sound = c.stays_readable.ensures.sound honest;
-      moments = c.append.ensures.moments honest;
-      acknowledged = c.in-Err.ensures.acknowledged honest;
-      kept = c.in-Err.ensures.kept honest;
-    }))
+    (λ known. (c.stays_readable.ensures.sound known, c.in-Err.ensures.appends.state known)))

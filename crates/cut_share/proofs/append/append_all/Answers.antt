@@ -25,9 +25,9 @@ pub loop-task-init : goal.loop-task-init
 loop-task-init g c =
     let log = c.args.journal.now in
     record {
-      added = none_added g.D.Disk.is_honest g.D.Disk.state log c.stays_readable.ensures.sound;
+      added = none_added g.D.Disk.log log c.stays_readable.ensures.sound;
       failed = none_failed [] log;
-      honest = (λ h. h, λ h. h);
+      known = refl;
       faults = refl;
     }
 
@@ -41,13 +41,13 @@ returns-in_err-append-clause-ends g c =
     let task : Task = c.task-item.result in
     let tasks : List Task = c.args.tasks.now in
     let i : ℕ = c.loop-task.task-index in
-    let one : EndsAppends {T = ⊤} g.D.Disk.is_honest g.D.Disk.state (Err c.in_err-append.field-0.0) mid.plan
+    let one : EndsAppends {T = ⊤} g.D.Disk.log (Err c.in_err-append.field-0.0) mid.plan
     (done_of (task ∷ [])) mid new = c.in_err-append.ensures.ends in
-    subst (λ (x : Result ⊤ ShareFault). EndsAppends {T = ⊤} g.D.Disk.is_honest g.D.Disk.state x log.plan
+    subst (λ (x : Result ⊤ ShareFault). EndsAppends {T = ⊤} g.D.Disk.log x log.plan
     (done_of tasks) log new) (sym (p.1 ∙ ap (λ (e : ShareFault). Err e) p.2))
-    (appends_stop ⊤ g.D.Disk.is_honest g.D.Disk.state c.in_err-append.field-0.0 log.plan mid.plan (done_of tasks)
+    (appends_stop ⊤ g.D.Disk.log c.in_err-append.field-0.0 log.plan mid.plan (done_of tasks)
     (done_of (take i tasks)) (done_of (task ∷ [])) (done_of (drop (i + 1) tasks)) log mid new held.added.plan
-    (done_split tasks i task c.loop-task-test.true c.task-item.is) held.honest.0 held.added held.failed one)
+    (done_split tasks i task c.loop-task-test.true c.task-item.is) (λ h. held.known ∙ h) held.added held.failed one)
 
 pub loop-task-preserved : goal.loop-task-preserved
 loop-task-preserved g c =
@@ -58,24 +58,21 @@ loop-task-preserved g c =
     let task : Task = c.task-item.result in
     let tasks : List Task = c.args.tasks.now in
     let i : ℕ = c.loop-task.task-index in
-    let one : EndsAppends {T = ⊤} g.D.Disk.is_honest g.D.Disk.state (Ok tt) mid.plan (done_of (task ∷ [])) mid new =
+    let one : EndsAppends {T = ⊤} g.D.Disk.log (Ok tt) mid.plan (done_of (task ∷ [])) mid new =
     c.in_ok-append.ensures.ends in
-    let two : EndsAppends {T = ⊤} g.D.Disk.is_honest g.D.Disk.state (Ok tt) log.plan (done_of (task ∷ [])) mid new =
-    subst (λ (v : Values). EndsAppends {T = ⊤} g.D.Disk.is_honest g.D.Disk.state (Ok tt) v (done_of (task ∷ [])) mid
+    let two : EndsAppends {T = ⊤} g.D.Disk.log (Ok tt) log.plan (done_of (task ∷ [])) mid new =
+    subst (λ (v : Values). EndsAppends {T = ⊤} g.D.Disk.log (Ok tt) v (done_of (task ∷ [])) mid
     new) held.added.plan one in
-    let both = added_more g.D.Disk.is_honest g.D.Disk.state (slips_at log.plan (done_of (take i tasks)))
-    (slips_at log.plan (done_of (task ∷ []))) log mid new held.honest.0 held.added held.failed two.0 two.1 in
+    let both = added_more g.D.Disk.log (slips_at log.plan (done_of (take i tasks)))
+    (slips_at log.plan (done_of (task ∷ []))) log mid new (λ h. held.known ∙ h) held.added held.failed two.0 two.1 in
     let are : slips_at log.plan (done_of (take i tasks)) ++ slips_at log.plan (done_of (task ∷ []))
     ≡ slips_at log.plan (done_of (take (i + 1) tasks)) =
     sym (map-append (slip_at log.plan) (done_of (take i tasks)) (done_of (task ∷ [])))
     ∙ ap (λ (ps : List Piece). slips_at log.plan ps)
     (sym (done_more tasks i task c.loop-task-test.true c.task-item.is)) in
     record {
-      added = subst (λ (l : List Slip). Adds g.D.Disk.is_honest g.D.Disk.state l log new) are both.0;
+      added = subst (λ (l : List Slip). Adds g.D.Disk.log l log new) are both.0;
       failed = subst (λ (l : List Slip). NoneFailed l log new) are both.1;
-      honest = (
-        λ h. c.append.ensures.honest.0 (held.honest.0 h),
-        λ h. held.honest.1 (c.append.ensures.honest.1 h),
-      );
+      known = c.append.ensures.known ∙ held.known;
       faults = c.in_ok-append.ensures.faults ∙ held.faults;
     }

@@ -1,5 +1,6 @@
 use Rattle.std.proofs.Common.{◌≡◌, take}
 use Rattle.std.specs.Prelude.{◌↔◌}
+use Rattle.cut_disks.specs.Log.{is_known}
 use Rattle.cut_share.specs.Appending.{Adds, NoneFailed}
 use Rattle.cut_share.specs.inside.Running.{slips_at}
 use Rattle.cut_share.specs.inside.Tasks.{done_of}
@@ -8,9 +9,9 @@ use Rattle.cut_share.proofs.append.append_all.Given as goal
 -- the results of the tasks so far are kept
 abbrev pub invariant-loop-task : goal.invariant-loop-task
 invariant-loop-task g l = record {
-  added : Adds g.D.Disk.is_honest g.D.Disk.state (slips_at l.fn.journal.plan (done_of (take l.task-index l.tasks)))
+  added : Adds g.D.Disk.log (slips_at l.fn.journal.plan (done_of (take l.task-index l.tasks)))
       l.fn.journal l.journal;
   failed : NoneFailed (slips_at l.fn.journal.plan (done_of (take l.task-index l.tasks))) l.fn.journal l.journal;
-  honest : g.D.Disk.is_honest l.fn.journal.disk ↔ g.D.Disk.is_honest l.journal.disk;
-  faults : g.D.Disk.faults l.journal.disk ≡ g.D.Disk.faults l.fn.journal.disk;
+  known : is_known (g.D.Disk.log l.journal.disk) ≡ is_known (g.D.Disk.log l.fn.journal.disk);
+  faults : (g.D.Disk.log l.journal.disk).failed ≡ (g.D.Disk.log l.fn.journal.disk).failed;
 }

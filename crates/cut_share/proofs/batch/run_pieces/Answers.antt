@@ -18,8 +18,8 @@ pub loop-pieces-init : goal.loop-pieces-init
 loop-pieces-init g c =
     grind (
       arith,
-      none_yet g.D.Disk.is_honest g.D.Disk.state c.args.pieces.share c.args.pieces.plan.now
-          (c.args.pieces.rest ∷ c.args.pieces.later.now) c.args.journal.now (none_added g.D.Disk.is_honest g.D.Disk.state
+      none_yet g.D.Disk.log c.args.pieces.share c.args.pieces.plan.now
+          (c.args.pieces.rest ∷ c.args.pieces.later.now) c.args.journal.now (none_added g.D.Disk.log
           c.args.journal.now c.stays_readable.ensures.sound),
     )
 
@@ -32,7 +32,7 @@ returns-then-count-eq0-clause-ends g c =
     let none : c.deal-count.result ≡ 0 = c.if-count-eq0.true in
     let low : c.deal-count.result < length c.loop-pieces.tasks =
     (let some = c.requires.some in let same = c.loop-pieces.auto.tasks in omega (arith, some, same, none)) in
-    up_to_end g.D.Disk.is_honest g.D.Disk.state c.loop-pieces.is_whole start.share mid.share start.plan.now
+    up_to_end g.D.Disk.log c.loop-pieces.is_whole start.share mid.share start.plan.now
     mid.plan.now (start.rest ∷ start.later.now) (mid.rest ∷ mid.later.now) (new.rest ∷ new.later.now)
     c.args.journal.now c.loop-pieces.journal held.share held.plan held.upto
     (λ t. sym (omega arith)
@@ -56,18 +56,18 @@ returns-in_err-is_done-clause-ends g c =
     (mid.rest ∷ mid.later.now) (new.rest ∷ new.later.now) held.share held.plan are c.deal-count.ensures.own
     c.deal-count.ensures.taken in
     let e : ShareFault = c.in_err-is_done.field-0.0 in
-    let one : EndsAppends {T = Bool} g.D.Disk.is_honest g.D.Disk.state (Err e) c.loop-pieces.journal.plan
+    let one : EndsAppends {T = Bool} g.D.Disk.log (Err e) c.loop-pieces.journal.plan
     (done_of tasks) c.loop-pieces.journal c.run_batch.new.journal = c.in_err-is_done.ensures.ends in
-    let two : EndsAppends {T = Bool} g.D.Disk.is_honest g.D.Disk.state (Err e) start.plan.now (done_of tasks)
+    let two : EndsAppends {T = Bool} g.D.Disk.log (Err e) start.plan.now (done_of tasks)
     c.loop-pieces.journal c.run_batch.new.journal =
-    subst (λ (v : Values). EndsAppends {T = Bool} g.D.Disk.is_honest g.D.Disk.state (Err e) v (done_of tasks)
+    subst (λ (v : Values). EndsAppends {T = Bool} g.D.Disk.log (Err e) v (done_of tasks)
     c.loop-pieces.journal c.run_batch.new.journal) (held.upto.kept.added.plan ∙ c.requires.own) one in
-    subst (λ (x : Result Bool ShareFault). EndsPieces g.D.Disk.is_honest g.D.Disk.state x start.share start.plan.now
+    subst (λ (x : Result Bool ShareFault). EndsPieces g.D.Disk.log x start.share start.plan.now
     (start.rest ∷ start.later.now) log c.run_batch.new.journal)
     (sym (p.1 ∙ ap (λ (x : ShareFault). Err x) p.2))
-    (batch_stops g.D.Disk.is_honest g.D.Disk.state e c.loop-pieces.is_whole start.share start.plan.now
+    (batch_stops g.D.Disk.log e c.loop-pieces.is_whole start.share start.plan.now
     (start.rest ∷ start.later.now) (mid.rest ∷ mid.later.now) (new.rest ∷ new.later.now) tasks log
-    c.loop-pieces.journal c.run_batch.new.journal held.honest.0 held.upto deal.own deal.times two)
+    c.loop-pieces.journal c.run_batch.new.journal (λ h. held.known ∙ h) held.upto deal.own deal.times two)
 
 pub loop-pieces-preserved : goal.loop-pieces-preserved
 loop-pieces-preserved g c =
@@ -83,25 +83,22 @@ loop-pieces-preserved g c =
     (mid.rest ∷ mid.later.now) (new.rest ∷ new.later.now) held.share held.plan are c.deal-count.ensures.own
     c.deal-count.ensures.taken in
     let done : Bool = c.in_ok-is_done.is_done in
-    let one : EndsAppends {T = Bool} g.D.Disk.is_honest g.D.Disk.state (Ok done) c.loop-pieces.journal.plan
+    let one : EndsAppends {T = Bool} g.D.Disk.log (Ok done) c.loop-pieces.journal.plan
     (done_of tasks) c.loop-pieces.journal c.run_batch.new.journal = c.in_ok-is_done.ensures.ends in
-    let two : EndsAppends {T = Bool} g.D.Disk.is_honest g.D.Disk.state (Ok done) start.plan.now (done_of tasks)
+    let two : EndsAppends {T = Bool} g.D.Disk.log (Ok done) start.plan.now (done_of tasks)
     c.loop-pieces.journal c.run_batch.new.journal =
-    subst (λ (v : Values). EndsAppends {T = Bool} g.D.Disk.is_honest g.D.Disk.state (Ok done) v (done_of tasks)
+    subst (λ (v : Values). EndsAppends {T = Bool} g.D.Disk.log (Ok done) v (done_of tasks)
     c.loop-pieces.journal c.run_batch.new.journal) (held.upto.kept.added.plan ∙ c.requires.own) one in
-    let more : IsUpTo g.D.Disk.is_honest g.D.Disk.state (c.loop-pieces.is_whole && done) start.share start.plan.now
+    let more : IsUpTo g.D.Disk.log (c.loop-pieces.is_whole && done) start.share start.plan.now
     (start.rest ∷ start.later.now) (new.rest ∷ new.later.now) log c.run_batch.new.journal =
-    batch_more g.D.Disk.is_honest g.D.Disk.state c.loop-pieces.is_whole done start.share start.plan.now
+    batch_more g.D.Disk.log c.loop-pieces.is_whole done start.share start.plan.now
     (start.rest ∷ start.later.now) (mid.rest ∷ mid.later.now) (new.rest ∷ new.later.now) tasks log
-    c.loop-pieces.journal c.run_batch.new.journal held.honest.0 held.upto deal.own deal.times
+    c.loop-pieces.journal c.run_batch.new.journal (λ h. held.known ∙ h) held.upto deal.own deal.times
     c.in_ok-is_done.ensures.done two in
     record {
       plan = c.deal-count.ensures.plan ∙ held.plan;
       share = c.deal-count.ensures.share ∙ held.share;
       upto = more;
-      honest = (
-        λ h. c.run_batch.ensures.honest.0 (held.honest.0 h),
-        λ h. held.honest.1 (c.run_batch.ensures.honest.1 h),
-      );
+      known = c.run_batch.ensures.known ∙ held.known;
       faults = c.in_ok-is_done.ensures.faults ∙ held.faults;
     }

@@ -1,4 +1,4 @@
-use Rattle.std.proofs.Common.{List, ℕ, sym, subst}
+use Rattle.std.proofs.Common.{List, ℕ, refl, sym, subst}
 use Rattle.cut_disks.specs.Memory.{MemoryDiskValue, state_of}
 use Rattle.cut_journal.specs.Opening.{IsReopenFault}
 use Rattle.cut_status.specs.Study.{IsStatusFault}
@@ -13,4 +13,4 @@ returns-clause-err c =
     (reopened c.canonical_text_reads_back.ensures c.args.plan.now bytes c.in-Err.fault c.requires.study c.requires.plan
     c.requires.said
     (subst (λ (d : MemoryDiskValue). IsReopenFault c.args.plan.now (state_of d).bytes c.in-Err.fault)
-    c.in_ok-disk.ensures (c.in-Err.ensures.refused tt)))
+    c.in_ok-disk.ensures (c.in-Err.ensures.refused.state refl).0))

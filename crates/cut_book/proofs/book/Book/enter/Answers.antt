@@ -57,7 +57,7 @@ invariant_of-self-in-Err g c =
     in
     let is = noted c.call_of-call-in-Err.result c.self.inside.history c.reserve.new.self c.push-in-Err.new.self
     c.reserve.ensures.opening c.reserve.ensures.calls c.push-in-Err.ensures.opening c.push-in-Err.ensures.calls in
-    failed_book g.D.Disk.is_honest g.D.Disk.state g.D.Disk.faults c.self.inside.journal c.append.new.journal
+    failed_book g.D.Disk.log c.self.inside.journal c.append.new.journal
     c.self.inside.ledger.contents _ _ c.self.inside.broken c.args.offered.now c.call_of-call-in-Err.result
     c.self.inside.history c.push-in-Err.new.self _ _ c.self.invariant is
     (omega (arith, c.reserve.ensures.room, c.push-in-Err.ensures.room, c.self.invariant.room)) fit
@@ -80,7 +80,7 @@ invariant_of-self-in-Ok g c =
     let is = noted c.call_of-call.result c.self.inside.history c.reserve.new.self c.push.new.self
     c.reserve.ensures.opening
     c.reserve.ensures.calls c.push.ensures.opening c.push.ensures.calls in
-    accepted_book g.D.Disk.is_honest g.D.Disk.state g.D.Disk.faults c.self.inside.journal c.append.new.journal
+    accepted_book g.D.Disk.log c.self.inside.journal c.append.new.journal
     c.self.inside.ledger.contents _ _ c.self.inside.broken c.args.offered.now c.call_of-call.result
     c.self.inside.history c.push.new.self _ _ c.self.invariant is
     (omega (arith, c.reserve.ensures.room, c.push.ensures.room, c.self.invariant.room)) fit

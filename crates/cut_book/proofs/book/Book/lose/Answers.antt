@@ -41,12 +41,12 @@ invariant_of-self g c =
     let has : t.has_journal ≡ s.has_journal = ap (λ (o : Opening). o.has_journal) c.lose.ensures.opening in
     let left : count_by not c.set.new.self + 1 ≡ count_by not c.self.inside.lost = rw c.set.ensures
     (one_lost c.self.inside.lost c.args.piece there held) in
-    stepped g.D.Disk.is_honest g.D.Disk.state g.D.Disk.faults c.self.inside.journal c.self.inside.journal s t
+    stepped g.D.Disk.log c.self.inside.journal c.self.inside.journal s t
     (Lose c.args.piece) c.self.inside.history c.lose.new.self _ _ _ c.self.invariant is
     (noted_reply _ held, next) refl refl refl (ap length c.set.ensures
     ∙ length-set c.self.inside.lost c.args.piece true) (omega (arith, left, c.self.invariant.losable))
     (omega (arith, left, c.lose.ensures.room, c.self.invariant.room, c.self.invariant.losable)) has refl
     c.self.invariant.of_plan c.self.invariant.broken
-    (followed_same g.D.Disk.is_honest g.D.Disk.state g.D.Disk.faults c.self.inside.journal s t refl has
+    (followed_same g.D.Disk.log c.self.inside.journal s t refl has
     (kept_same (Lose c.args.piece) c.self.inside.history c.lose.new.self is refl) refl refl c.self.invariant.followed)
     c.self.invariant.failures

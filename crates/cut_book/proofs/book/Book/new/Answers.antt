@@ -62,9 +62,9 @@ invariant_of-result g c =
       of_plan = fresh_plan c.args.plan c.in_ok-ledger.ledger.contents.plan c.args.slips.now c.args.journal
           c.requires.journal (sym (ap (λ (l : Contents). l.plan) base));
       broken = sym (ap is_some (fresh_doubt c.args.plan c.args.slips.now c.args.journal c.requires.journal));
-      followed = subst (λ (x : StudyState). FollowsState g.D.Disk.is_honest g.D.Disk.state c.args.journal x)
+      followed = subst (λ (x : StudyState). FollowsState g.D.Disk.log c.args.journal x)
           (sym (begun g c))
-          (fresh_followed g.D.Disk.is_honest g.D.Disk.state c.args.plan c.args.slips.now c.args.piece_size
+          (fresh_followed g.D.Disk.log c.args.plan c.args.slips.now c.args.piece_size
           c.args.journal c.journals_begin_with_their_runs.ensures.opening c.requires.journal c.requires.read);
       failures = sym c.failures-failed.ensures;
     }

@@ -25,7 +25,7 @@ invariant_of-self-2 g c =
     let asked = rw (← c.self.view_is) at c.requires in
     let called = rw c.plan.ensures.value at c.call_of-call.ensures.call in
     let is = refused s c.args.offered.now c.args.answer asked in
-    said g.D.Disk.is_honest g.D.Disk.state g.D.Disk.faults _ _ _ _ _ c.call_of-call.result c.self.inside.history
+    said g.D.Disk.log _ _ _ _ _ c.call_of-call.result c.self.inside.history
     c.reserve.new.self c.push.new.self _ _ c.self.invariant
     c.reserve.ensures.opening c.reserve.ensures.calls c.push.ensures.opening c.push.ensures.calls c.reserve.ensures.room
     c.push.ensures.room

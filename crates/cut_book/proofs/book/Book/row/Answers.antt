@@ -15,7 +15,7 @@ push-requires-clause-legal g c =
 pub invariant_of-self-in-Ok : goal.invariant_of-self-in-Ok
 invariant_of-self-in-Ok g c =
     let within = rw (← c.self.view_is) at c.requires in
-    said g.D.Disk.is_honest g.D.Disk.state g.D.Disk.faults _ _ _ _ _ (Row c.args.cell true) c.self.inside.history
+    said g.D.Disk.log _ _ _ _ _ (Row c.args.cell true) c.self.inside.history
     c.reserve.new.self c.push.new.self _ _ c.self.invariant
     c.reserve.ensures.opening c.reserve.ensures.calls c.push.ensures.opening c.push.ensures.calls c.reserve.ensures.room
     c.push.ensures.room
@@ -33,7 +33,7 @@ pub invariant_of-self-in-Err-NotDone : goal.invariant_of-self-in-Err-NotDone
 invariant_of-self-in-Err-NotDone g c =
     let within = rw (← c.self.view_is) at c.requires in
     let reported = rw c.in-Err-NotDone.field-0-is at c.in-Err-NotDone.ensures.err in
-    said g.D.Disk.is_honest g.D.Disk.state g.D.Disk.faults _ _ _ _ _ (Row c.args.cell false) c.self.inside.history
+    said g.D.Disk.log _ _ _ _ _ (Row c.args.cell false) c.self.inside.history
     c.reserve.new.self c.push-in-Err-NotDone.new.self _ _ c.self.invariant
     c.reserve.ensures.opening c.reserve.ensures.calls c.push-in-Err-NotDone.ensures.opening
     c.push-in-Err-NotDone.ensures.calls c.reserve.ensures.room c.push-in-Err-NotDone.ensures.room

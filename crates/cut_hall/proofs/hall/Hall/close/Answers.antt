@@ -6,7 +6,7 @@ use Rattle.cut_board.specs.Names.{studies_of, views_of}
 use Rattle.cut_board.specs.Totals.{total_of}
 use Rattle.cut_hall.specs.Hall.{HallValue}
 use Rattle.cut_book.specs.History.{Opening}
-use Rattle.cut_hall.specs.Report.{SlotEnd, AreOpenedWith, calls_in_all}
+use Rattle.cut_slots.specs.Report.{SlotEnd, AreOpenedWith, calls_in_all}
 use Rattle.cut_hall.proofs.Audits.{total_at, totals_many}
 use Rattle.cut_hall.proofs.hall.Hall.close.Goals as goal
 

@@ -1,8 +1,8 @@
 use Rattle.std.proofs.Common.{◌∙◌, Bool, IfOk, sym, ap, subst}
 use Rattle.cut_plan.specs.Values.{Values}
 use Rattle.cut_hall.specs.Hall.{HallValue}
-use Rattle.cut_hall.specs.Trust.{MayBegin}
-use Rattle.cut_hall.proofs.Begun.{refused_memory}
+use Rattle.cut_slots.specs.Trust.{MayBegin}
+use Rattle.cut_hall.proofs.Refused.{refused_memory}
 use Rattle.cut_hall.proofs.hall.Hall.submit.Goals as goal
 
 pub returns-in-Same-clause-base : goal.returns-in-Same-clause-base

@@ -1,5 +1,6 @@
-use Rattle.std.proofs.Common.{None, sym, subst, refl}
+use Rattle.std.proofs.Common.{◌∙◌, None, sym, subst, refl}
 use Rattle.cut_disks.specs.State.{DiskState, synced}
+use Rattle.cut_disks.specs.Log.{on}
 use Rattle.cut_journal.specs.Journal.{IsFileOf}
 use Rattle.cut_journal.proofs.Appends.{opened_sound}
 use Rattle.cut_journal.proofs.journal.Journal.reopen.Goals as goal
@@ -8,9 +9,10 @@ pub invariant_of-journal : goal.invariant_of-journal
 invariant_of-journal g c = (
   c.in-Ok-find.ensures.place,
   c.in-Ok-find.ensures.bound,
-  λ honest. (let before = c.find.ensures.honest.1 honest in
+  λ known. (let before = sym c.find.ensures.finds.known ∙ known in
+      let found = c.in-Ok-find.ensures.finds.state before in
       subst (λ (d : DiskState). IsFileOf c.in-Ok.study c.in-Ok-find.found.gate.number None d)
-      (sym (c.in-Ok-find.ensures.settled before))
+      (sym found.1)
       (opened_sound c.in-Ok.study c.in-Ok-find.found.gate.number c.in-Ok-find.found.slips.items
-      (synced (g.D.Disk.state c.args.disk)) (c.in-Ok-find.ensures.reported before) c.in-Ok-find.ensures.number refl)),
+      (synced (on (g.D.Disk.log c.args.disk))) found.0 c.in-Ok-find.ensures.number refl)),
 )

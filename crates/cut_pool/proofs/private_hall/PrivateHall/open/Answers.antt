@@ -1,6 +1,6 @@
 use Rattle.std.proofs.Common.{◌≡◌, Some, refl}
 use Rattle.std.proofs.lemmas.List.Elements.{All-pop}
-use Rattle.cut_hall.specs.Pass.{Holding}
+use Rattle.cut_slots.specs.Pass.{Holding}
 use Rattle.cut_pool.proofs.private_hall.PrivateHall.open.Goals as goal
 
 pub invariant_of-result : goal.invariant_of-result

@@ -1,7 +1,7 @@
 use Rattle.std.proofs.Common.{◌≤◌, List, length, arith}
 use Rattle.std.proofs.lemmas.Result.{on_ok_weaker, IfOk-weaker}
 use Rattle.cut_plan.specs.Cells.{cells_of}
-use Rattle.cut_hall.specs.Report.{SlotEnd, calls_in_all}
+use Rattle.cut_slots.specs.Report.{SlotEnd, calls_in_all}
 use Rattle.cut_pool.proofs.private_hall.PrivateHall.run.Goals as goal
 
 pub returns-clause-calls : goal.returns-clause-calls

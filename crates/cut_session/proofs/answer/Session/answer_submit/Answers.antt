@@ -1,6 +1,6 @@
 use Rattle.std.proofs.Common.{sym, subst}
 use Rattle.cut_plan.specs.Values.{Values}
-use Rattle.cut_hall.specs.Trust.{MayBegin}
+use Rattle.cut_slots.specs.Trust.{MayBegin}
 use Rattle.cut_wires.specs.Sending.{sending}
 use Rattle.cut_session.proofs.Tables.{plan_answered, plan_refused}
 use Rattle.cut_session.proofs.answer.Session.answer_submit.Goals as goal

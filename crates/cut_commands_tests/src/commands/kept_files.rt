@@ -1,0 +1,83 @@
+//! Commands over files: the one at the path is used, and the others stay as they are.
+
+use super::checkpoints::{file_with, whole_file};
+use super::migrating::FIRST;
+use super::{LINE, PLAN, is_table, work_of};
+use cut_commands::{CliFault, KeptWork, migrate, run};
+use cut_disks::MemoryDisk;
+use cut_files::{Files, MemoryFiles, Mode};
+use cut_journal::JournalFault;
+use cut_wires::MemoryWire;
+use std::alloc::Global;
+use std::sync::Wait;
+use std::test::Fail;
+use std::thread::Threads;
+
+/// The path of a study.
+const FILE: &str = "study.cut";
+
+/// A wire that gives the plan.
+fn wire_of(alloc: Global) -> Result<MemoryWire, Fail> {
+    let input = Vec::from_slice(alloc, PLAN.as_bytes())?;
+    Ok(MemoryWire::new(alloc, input, 4096))
+}
+
+/// Whether the plan's study, which is kept at the path, writes its table.
+fn is_run<T: Threads + Wait + Sync>(
+    rt: &T,
+    alloc: Global,
+    files: &mut MemoryFiles<MemoryDisk>,
+) -> Result<bool, Fail> {
+    let mut wire = wire_of(alloc)?;
+    let kept = KeptWork {
+        work: work_of(1, 2),
+        file: FILE,
+    };
+    let ended = run(files, rt, alloc, &mut wire, kept);
+    Ok(ended.is_ok() && is_table(wire.taken(), LINE))
+}
+
+#[test]
+fn a_study_is_kept_at_its_path(rt: HostRuntime) -> Result<(), Fail> {
+    let alloc = rt.alloc();
+    let mut files = MemoryFiles::new(alloc);
+    assert!(rt; is_run(&rt, alloc, &mut files)?);
+    // What stands there is not shut, so that it does not open a second time.
+    assert!(rt; files.disk(FILE).is_none() && files.open(FILE, Mode::Create).is_err());
+    let kept = MemoryDisk::of(alloc, whole_file(&rt, alloc, PLAN)?)?;
+    files.put(FILE, kept)?;
+    assert!(rt; is_run(&rt, alloc, &mut files)?);
+    files.refuse(FILE)?;
+    assert!(rt; !is_run(&rt, alloc, &mut files)?);
+    Ok(())
+}
+
+/// Whether a migration ends with the fault of a file that is not opened, and writes nothing.
+fn is_unopened(
+    alloc: Global,
+    files: &mut MemoryFiles<MemoryDisk>,
+    from: &str,
+    to: &str,
+) -> Result<bool, Fail> {
+    let mut wire = wire_of(alloc)?;
+    let ended = migrate(files, alloc, &mut wire, from, to);
+    let is_unopened = matches!(ended, Err(CliFault::Journal(JournalFault::Disk)));
+    Ok(is_unopened && wire.taken().is_empty())
+}
+
+#[test]
+fn a_study_is_moved_from_path_to_path(rt: HostRuntime) -> Result<(), Fail> {
+    let alloc = rt.alloc();
+    let mut files = MemoryFiles::new(alloc);
+    let bytes = file_with(&rt, alloc, &[FIRST])?;
+    let old = MemoryDisk::of(alloc, Vec::from_slice(alloc, bytes.as_slice())?)?;
+    files.put("old.cut", old)?;
+    assert!(rt; is_unopened(alloc, &mut files, "other.cut", "new.cut")?);
+    assert!(rt; is_unopened(alloc, &mut files, "old.cut", "old.cut")?);
+    let mut wire = wire_of(alloc)?;
+    migrate(&mut files, alloc, &mut wire, "old.cut", "new.cut")?;
+    assert!(rt; wire.taken() == b"migrated 1\n".as_slice());
+    assert!(rt; files.read(alloc, "old.cut")?.as_slice() == bytes.as_slice());
+    assert!(rt; files.read(alloc, "new.cut")?.len() == 372);
+    Ok(())
+}

@@ -1,0 +1,4 @@
+pub mod Place
+pub mod Memory
+pub mod Laws
+pub mod inside

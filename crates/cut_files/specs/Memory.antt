@@ -1,0 +1,33 @@
+-- Files in memory: what is kept of each path, and what stands there.
+use Rattle.std.specs.Prelude.{◌≡◌, ◌≢◌, ℕ, List, Option, None, Some}
+use Rattle.std.specs.BTreeMap.{get_by_text}
+use Rattle.cut_disks.specs.Log.{DiskLog}
+use Rattle.cut_files.specs.declared.memory_files.Kept.{Kept}
+use Rattle.cut_files.specs.declared.memory_files.Kept.TheVariants as kept
+use Rattle.cut_files.specs.declared.memory_files.MemoryFiles.{MemoryFiles}
+use Rattle.cut_files.specs.Place.{Place, Absent, Refused, Open, Holds}
+
+module _ {D : Type 0} where
+  -- what is kept of a path, if anything is
+  abbrev pub kept_at : MemoryFiles D → List ℕ → Option (Kept D)
+  kept_at files path = get_by_text files.files path
+
+  -- at each path but this one is kept what was kept
+  abbrev pub KeepsElsewhere : List ℕ → MemoryFiles D → MemoryFiles D → Type 0
+  KeepsElsewhere path old new = (other : List ℕ) → other ≢ path → kept_at new other ≡ kept_at old other
+
+  -- the disk of a file that is not open
+  abbrev pub disk_of : Option (Kept D) → Option D
+  disk_of (Some (kept.Held disk)) = Some disk
+  disk_of other = None
+
+  -- what stands at a path, by what is kept of it and by the logs of disks
+  abbrev pub place_of : (D → DiskLog) → Option (Kept D) → Place
+  place_of log None = Absent
+  place_of log (Some kept.Refused) = Refused
+  place_of log (Some kept.Open) = Open
+  place_of log (Some (kept.Held disk)) = Holds (log disk)
+
+  -- what stands at each path
+  abbrev pub place_at : (D → DiskLog) → MemoryFiles D → List ℕ → Place
+  place_at log files path = place_of log (kept_at files path)

@@ -1,0 +1,84 @@
+-- What is known of each path, and what the calls that open, close and read files make of that.
+use Rattle.std.specs.Prelude.{◌≡◌, ◌≢◌, ℕ, List, [], Some, ⊤}
+use Rattle.cut_disks.specs.Log.{DiskLog, Knows}
+use Rattle.cut_disks.specs.State.{fresh}
+use Rattle.cut_files.specs.declared.files.Mode.{Mode}
+use Rattle.cut_files.specs.declared.files.Mode.TheVariants.{Existing, Create}
+use Rattle.cut_files.specs.declared.files.OpenFault.{OpenFault}
+use Rattle.cut_files.specs.declared.files.OpenFault.TheVariants.{Memory, Disk}
+
+-- what is known of a path: nothing; that nothing stands there; that what stands there does not open, as a folder; that
+-- the file there is open; or that a file stands there which is not open, with the log that its disk will have
+pub data Place : Type 0 where
+  Unknown : Place
+  Absent : Place
+  Refused : Place
+  Open : Place
+  Holds : (log : DiskLog) → Place
+
+-- the log of a file that was just made: it is empty, and no call of it failed
+abbrev pub new_file : DiskLog
+new_file = record { state = Some (fresh []); failed = 0 }
+
+-- what stands at a path opens as a disk with this log. A file that is there has the log that it had. One is made where
+-- nothing is, but only by `Create`. What does not open, and what is open already, is never opened
+abbrev pub OpensAs : Mode → DiskLog → Place → Type 0
+OpensAs mode disk Unknown = ⊤
+OpensAs Existing disk Absent = ⊥
+OpensAs Create disk Absent = disk ≡ new_file
+OpensAs mode disk Refused = ⊥
+OpensAs mode disk Open = ⊥
+OpensAs mode disk (Holds log) = disk ≡ log
+
+-- what stands at a path once a file was opened there
+abbrev pub opened : Place → Place
+opened Unknown = Unknown
+opened place = Open
+
+-- a file was opened, and its disk has this log: what stood at its path before, and what stands there now
+abbrev pub IsOpened : Mode → DiskLog → Place → Place → Type 0
+IsOpened mode disk old new = OpensAs mode disk old × (new ≡ opened old)
+
+-- what stood at a path that was not opened: where memory ran out, anything. Else it is not known, does not open, or is
+-- open already; or nothing stood there, and the file was to exist
+abbrev pub MayNotOpen : Mode → OpenFault → Place → Type 0
+MayNotOpen mode Memory place = ⊤
+MayNotOpen mode Disk Unknown = ⊤
+MayNotOpen Existing Disk Absent = ⊤
+MayNotOpen Create Disk Absent = ⊥
+MayNotOpen mode Disk Refused = ⊤
+MayNotOpen mode Disk Open = ⊤
+MayNotOpen mode Disk (Holds log) = ⊥
+
+-- what stands at a path once a disk with this log was given back
+abbrev pub closed : DiskLog → Place → Place
+closed disk Unknown = Unknown
+closed disk place = Holds disk
+
+-- a disk can be given back to a path that is open, or of which nothing is known
+abbrev pub IsOpen : Place → Type 0
+IsOpen Unknown = ⊤
+IsOpen Open = ⊤
+IsOpen place = ⊥
+
+-- at each path but this one there is what there was
+abbrev pub StaysElsewhere : List ℕ → (List ℕ → Place) → (List ℕ → Place) → Type 0
+StaysElsewhere path old new = (other : List ℕ) → other ≢ path → new other ≡ old other
+
+-- bytes that were read at a path: they are those of the file, where these are known. Of an open file nothing is known,
+-- and where there is no file, none are read
+abbrev pub IsContent : List ℕ → Place → Type 0
+IsContent bytes Unknown = ⊤
+IsContent bytes Absent = ⊥
+IsContent bytes Refused = ⊥
+IsContent bytes Open = ⊤
+IsContent bytes (Holds log) = Knows log (λ d. bytes ≡ d.bytes)
+
+-- what stands at a path that was not read: where memory ran out, anything. Else no file that is closed
+abbrev pub MayNotRead : OpenFault → Place → Type 0
+MayNotRead Memory place = ⊤
+MayNotRead Disk Unknown = ⊤
+MayNotRead Disk Absent = ⊤
+MayNotRead Disk Refused = ⊤
+MayNotRead Disk Open = ⊤
+MayNotRead Disk (Holds log) = ⊥

@@ -1,0 +1,3 @@
+-- What only private functions of cut_files promise: no contract of a public function cites it.
+pub mod Faults
+pub mod Memory

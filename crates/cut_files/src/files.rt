@@ -1,0 +1,79 @@
+ghost use Rattle.std.specs.Prelude.{◌≡◌, ℕ, List, IfOk, IfErr, OnErr};
+ghost use Rattle.cut_files.specs.Place.{Place, IsOpened, MayNotOpen, closed, IsOpen, StaysElsewhere};
+ghost use Rattle.cut_files.specs.Place.{IsContent, MayNotRead};
+
+use cut_disks::Disk;
+use std::alloc::{AllocError, Global};
+use thiserror::Error;
+
+/// What a file is opened for.
+#[derive(Clone, Copy, Debug, PartialEq, Eq)]
+pub enum Mode {
+    /// To be read. It has to be there, and nothing is made where it is not.
+    Existing,
+    /// To be read and written. An empty file is made where nothing is.
+    Create,
+}
+
+/// Why a file was not opened, or not read.
+#[derive(Clone, Copy, Debug, PartialEq, Eq, Error)]
+pub enum OpenFault {
+    /// A growth of memory was refused.
+    #[error("memory ran out as a file was opened")]
+    Memory,
+    /// The file is not there, is no regular file, may not be opened, is open already, or was not read.
+    #[error("a file was not opened or not read")]
+    Disk,
+}
+
+impl From<AllocError> for OpenFault {
+    ghost use Rattle.std.specs.Prelude.{◌≡◌};
+    ghost use Rattle.cut_files.specs.declared.files.OpenFault.TheVariants.{Memory};
+
+    ghost from_gives = { λ _ e. e ≡ Memory };
+
+    fn from(_refused: AllocError) -> OpenFault {
+        OpenFault::Memory
+    }
+}
+
+/// What opens files by their paths, and closes them.
+///
+/// Contracts see what stands at each path, where a path is the list of its bytes. A call changes what stands at its own
+/// path alone. Two texts that lead to one file are two paths.
+///
+/// A file is opened as a disk, which the caller owns. While it is open, no other call opens it. A disk that is dropped, and
+/// not given back by `close`, leaves its path open, of which nothing is known from then on.
+pub trait Files {
+    /// A file that is open.
+    type Disk: Disk + Drop + Send;
+
+    /// What stands at each path.
+    ghost log: { Self → List ℕ → Place };
+
+    /// Opens the file at a path, or makes an empty one where nothing is and the mode is `Create`.
+    ///
+    /// # Errors
+    /// `Memory` where memory runs out. `Disk` where the file is open already, where what stands there does not open, and
+    /// where nothing is there and the mode is `Existing`. What stood there is not changed then.
+    fn open(&mut self, path: &str, mode: Mode) -> Result<Self::Disk, OpenFault>
+        ensures opened { IfOk result
+            (λ disk. IsOpened mode (Self.Disk.log disk) (log self.old path.now) (log self.new path.now)) }
+        ensures refused { IfErr result (λ fault. MayNotOpen mode fault (log self.old path.now)) }
+        ensures stays { OnErr result (log self.new path.now ≡ log self.old path.now) }
+        ensures elsewhere { StaysElsewhere path.now (log self.old) (log self.new) };
+
+    /// Gives the disk of an open file back. The file can be opened again, and holds what the disk held.
+    fn close(&mut self, path: &str, disk: Self::Disk)
+        requires { IsOpen (log self.old path.now) }
+        ensures closed { log self.new path.now ≡ closed (Self.Disk.log disk) (log self.old path.now) }
+        ensures elsewhere { StaysElsewhere path.now (log self.old) (log self.new) };
+
+    /// The bytes of the file at a path, all of them. It is not locked, and may be open.
+    ///
+    /// # Errors
+    /// `Memory` where memory runs out. `Disk` where no file is there, or one that is not read.
+    fn read(&self, alloc: Global, path: &str) -> Result<Vec<u8>, OpenFault>
+        ensures content { IfOk result (λ bytes. IsContent bytes.items (log self.now path.now)) }
+        ensures refused { IfErr result (λ fault. MayNotRead fault (log self.now path.now)) };
+}

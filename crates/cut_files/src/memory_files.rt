@@ -1,0 +1,142 @@
+ghost use Rattle.std.specs.Prelude.{◌≡◌, ℕ, List, Some, None, IfOk, IfErr, OnOk, OnErr, option_copied};
+ghost use Rattle.cut_files.specs.Place.{new_file};
+ghost use Rattle.cut_files.specs.declared.files.OpenFault.TheVariants as open_fault;
+ghost use Rattle.cut_files.specs.declared.memory_files.Kept.TheVariants.{Refused, Open, Held};
+ghost use Rattle.cut_files.specs.Memory.{kept_at, disk_of, KeepsElsewhere};
+ghost use Rattle.cut_files.specs.inside.Memory.{TakesOut};
+
+use crate::{Files, InMemory, Mode, OpenFault};
+use cut_disks::MemoryDisk;
+use std::alloc::{AllocError, Global};
+use std::collections::BTreeMap;
+use std::mem;
+
+/// What is kept of a path at which something stands.
+#[derive(Drop)]
+pub enum Kept<D> {
+    /// What stands there does not open.
+    Refused,
+    /// The file is open.
+    Open,
+    /// The file is not open, and this is its disk.
+    Held(D),
+}
+
+/// Files in memory, to try out what a program does with files. Each is a disk that was put there, or was made as `open`
+/// made the file.
+#[derive(Drop)]
+pub struct MemoryFiles<D = MemoryDisk> {
+    alloc: Global,
+    files: BTreeMap<String, Kept<D>>,
+}
+
+impl<D: InMemory + Drop> MemoryFiles<D> {
+    /// Files, of which there are none.
+    pub fn new(alloc: Global) -> MemoryFiles<D>
+        ensures { (path : List ℕ) → kept_at result path ≡ None }
+    {
+        MemoryFiles {
+            alloc,
+            files: BTreeMap::new(alloc),
+        }
+    }
+
+    /// Puts a file with this disk at a path, in place of what stood there. Fails only where memory runs out, and then
+    /// nothing is changed.
+    pub fn put(&mut self, path: &str, disk: D) -> Result<(), AllocError>
+        ensures put { OnOk result (kept_at self.new path.now ≡ Some (Held disk)) }
+        ensures stays { OnErr result (kept_at self.new path.now ≡ kept_at self.old path.now) }
+        ensures elsewhere { KeepsElsewhere path.now self.old self.new }
+    {
+        self.keep(path, Kept::Held(disk))
+    }
+
+    /// Puts something at a path that does not open, in place of what stood there. Fails only where memory runs out, and
+    /// then nothing is changed.
+    pub fn refuse(&mut self, path: &str) -> Result<(), AllocError>
+        ensures refused { OnOk result (kept_at self.new path.now ≡ Some Refused) }
+        ensures stays { OnErr result (kept_at self.new path.now ≡ kept_at self.old path.now) }
+        ensures elsewhere { KeepsElsewhere path.now self.old self.new }
+    {
+        self.keep(path, Kept::Refused)
+    }
+
+    /// The disk of the file at a path, where there is one that is not open.
+    pub fn disk(&self, path: &str) -> Option<&D>
+        ensures { option_copied result ≡ disk_of (kept_at self.now path.now) }
+    {
+        match self.files.get(path) {
+            Some(Kept::Held(disk)) => Some(disk),
+            _ => None,
+        }
+    }
+
+    /// Keeps this of a path, in place of what was kept, or changes nothing where memory runs out.
+    fn keep(&mut self, path: &str, kept: Kept<D>) -> Result<(), AllocError>
+        ensures kept { OnOk result (kept_at self.new path.now ≡ Some kept) }
+        ensures stays { OnErr result (kept_at self.new path.now ≡ kept_at self.old path.now) }
+        ensures elsewhere { KeepsElsewhere path.now self.old self.new }
+    {
+        let path = String::from_str(self.alloc, path)?;
+        self.files.insert(path, kept)?;
+        Ok(())
+    }
+
+    /// Makes an empty file at a path, and opens it. Where memory runs out nothing is changed.
+    fn make(&mut self, path: &str) -> Result<D, OpenFault>
+        ensures made { IfOk result (λ disk. D.log disk ≡ new_file) }
+        ensures open { OnOk result (kept_at self.new path.now ≡ Some Open) }
+        ensures refused { IfErr result (λ fault. fault ≡ open_fault.Memory) }
+        ensures stays { OnErr result (kept_at self.new path.now ≡ kept_at self.old path.now) }
+        ensures elsewhere { KeepsElsewhere path.now self.old self.new }
+    {
+        let disk = D::empty(self.alloc)?;
+        self.keep(path, Kept::Open)?;
+        Ok(disk)
+    }
+}
+
+/// Takes the disk out of what is kept of a path, which is open then.
+fn take_out<D: Drop>(kept: &mut Kept<D>) -> Result<D, OpenFault>
+    ensures { TakesOut result kept.old kept.new }
+{
+    match mem::replace(kept, Kept::Open) {
+        Kept::Held(disk) => Ok(disk),
+        Kept::Open => Err(OpenFault::Disk),
+        Kept::Refused => {
+            *kept = Kept::Refused;
+            Err(OpenFault::Disk)
+        }
+    }
+}
+
+impl<D: InMemory + Drop + Send> Files for MemoryFiles<D> {
+    type Disk = D;
+
+    ghost use Rattle.cut_files.specs.Memory.{place_at};
+
+    ghost log = { place_at D.log };
+
+    fn open(&mut self, path: &str, mode: Mode) -> Result<D, OpenFault> {
+        match self.files.get_mut(path) {
+            Some(kept) => take_out(kept),
+            None => match mode {
+                Mode::Existing => Err(OpenFault::Disk),
+                Mode::Create => self.make(path),
+            },
+        }
+    }
+
+    fn close(&mut self, path: &str, disk: D) {
+        if let Some(kept) = self.files.get_mut(path) {
+            *kept = Kept::Held(disk);
+        }
+    }
+
+    fn read(&self, alloc: Global, path: &str) -> Result<Vec<u8>, OpenFault> {
+        match self.files.get(path) {
+            Some(Kept::Held(disk)) => Ok(Vec::from_slice(alloc, disk.bytes())?),
+            _ => Err(OpenFault::Disk),
+        }
+    }
+}

@@ -1,0 +1,5 @@
+pub mod FullLines
+pub mod Apart
+pub mod Crossing
+pub mod Trusted
+pub mod Begun

@@ -1,0 +1,9 @@
+pub mod Faults
+pub mod Lines
+pub mod Pass
+pub mod Slot
+pub mod Turn
+pub mod Report
+pub mod Closing
+pub mod Trust
+pub mod inside
