@@ -26,7 +26,7 @@ pub returns : goal.returns
 returns c = record {
   given = tt;
   trusted = λ t. (
-    tt,
+    refl,
     λ slips reads. none_read c.args._plan.now (state_of c.in-Ok.disk.memory).bytes slips
         (ap (λ (d : FaultyDiskValue). (state_of d.memory).bytes) c.in-Ok.ensures ∙ c.new.ensures.items) reads,
   );
