@@ -26,7 +26,7 @@ pub returns-in-Ok : goal.returns-in-Ok
 returns-in-Ok c = record {
   given = tt;
   trusted = λ t. (
-    tt,
+    refl,
     λ slips reads. none_read c.args._plan.now (state_of c.in-Ok.disk.memory).bytes slips
         (ap (λ (d : FaultyDiskValue). (state_of d.memory).bytes) c.in-Ok.ensures ∙ c.new.ensures.items) reads,
   );
