@@ -2,7 +2,7 @@
 
 The program is built as it stands, unproved and with checks of its own. The cases that differed once are tried first; then the
 program is set against the reference by campaigns/: drawn plans, texts with mistakes, checkpoint files, shares, migrations,
-sessions, and studies that are killed. The tests of a crate are run, and those commands of README.md and docs/GUIDE.md that
+sessions, and studies that are killed. The tests of a crate are run, and those commands of README.md and the guides that
 need no large study. The layout of the sources, the types and the layout of the tools, and what .ci/run checks of documents are
 looked at. Each part has a line; the last line is `N passed, M failed`.
 """
@@ -160,7 +160,7 @@ def short(listed: list[Command]) -> list[Command]:
 
 
 def pages(program: Path) -> Result:
-    """Runs the short commands of README.md and docs/GUIDE.md, and compares what they print with what the pages show."""
+    """Runs the short commands of README.md and the guides, and compares what they print with what the pages show."""
     count, differing = try_pages(program, short, SECONDS)
     return Result(count - len(differing), len(differing), "\n".join(differing))
 

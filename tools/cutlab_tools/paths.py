@@ -7,7 +7,7 @@ from pathlib import Path
 ROOT = Path(__file__).resolve().parents[2]
 PROGRAM = ROOT / "crates" / "cutlab" / "out" / "cutlab"
 DATA = ROOT / "tests" / "data"
-PAGES = ("README.md", "docs/GUIDE.md")
+PAGES = ("README.md", "docs/GUIDE.md", "docs/RUNNING.md")
 
 sys.path.insert(0, str(ROOT / "reference"))
 

@@ -1,4 +1,4 @@
-"""Runs the commands of README.md and docs/GUIDE.md in order, in a fresh copy of the repository, and compares what each
+"""Runs the commands of README.md, docs/GUIDE.md and docs/RUNNING.md in order, in a fresh copy of the repository, and compares what each
 prints with what the page shows after it: docs/try [PROGRAM]
 
 PROGRAM is the built program, crates/cutlab/out/cutlab where none is given. A command is a line of an indented block that
