@@ -32,7 +32,7 @@ CAMPAIGNS = [
 # Crates with tests that are built soon, and whose code the campaigns reach least.
 TESTED = ["cut_command_line_tests"]
 # Checks of documents by the sources alone, and by what the program prints.
-BY_SOURCES = ["docs/statement/make --check", "docs/words", "docs/faults"]
+BY_SOURCES = ["docs/statement/make --check", "docs/layers/make --check", "docs/words", "docs/faults"]
 BY_PROGRAM = ["docs/schema", "docs/manual", "docs/completions/make --check", "docs/refuses"]
 # What looks at the tools, where it is installed.
 TOOLS = ["mypy --cache-dir=/dev/null", "black --check --quiet ."]

@@ -4,7 +4,7 @@ ghost use Rattle.std.specs.Prelude.{false, Some, ◌≡◌, ◌+◌, ◌≤◌, 
 ghost use Rattle.cut_disks.specs.Log.{IsKnown, on};
 ghost use Rattle.cut_journal.specs.Reading.{reading};
 ghost use Rattle.cut_ledger.specs.Slips.{AreGood};
-ghost use Rattle.cut_pool.specs.inside.Conclusion.{IsNotBegun, IsNotEnded, CanLose, Concludes};
+ghost use Rattle.cut_pool.specs.inside.Conclusion.{IsNotBegun, IsNotEnded, CanLose, Concludes, conclusion};
 ghost use Rattle.cut_pool.specs.inside.Faults.{of_line};
 ghost use Rattle.cut_pool.specs.Running.{slips_of, HasEnded, Takes};
 ghost use Rattle.cut_book.specs.Book.{IsFresh, opening_of};
@@ -196,15 +196,16 @@ where
     concluded(sent, closed, has_journal)
 }
 
-/// What a run answers, by how the writing of its table ended and how its hall was closed. A write that failed is
-/// reported before anything else. Where all was written, the report is looked at once more: every trial is held.
+/// The answer of a run, by how the writing of its table ended and how its hall was closed. A write that failed is
+/// reported before anything else. If all was written, the report is looked at once more: every trial has to be held.
 fn concluded(
     sent: Result<u64, EmitFault>,
     closed: Result<Report, RunFault>,
     has_journal: bool,
 ) -> Result<Done, RunFault>
     requires { IfErr closed IsNotEnded }
-    ensures { Concludes sent closed has_journal result }
+    ensures answer { result ≡ conclusion sent closed has_journal }
+    ensures concludes { Concludes sent closed has_journal result }
 {
     match sent {
         Ok(sent) => match closed {

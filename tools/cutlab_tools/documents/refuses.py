@@ -9,7 +9,7 @@ from typing import Any, Callable, Iterable, Iterator
 from ..arguments import program_given
 from ..paths import DATA
 from ..repository import Repository, report
-from . import completions, faults, manual, schema, statement
+from . import completions, faults, layers, manual, schema, statement
 
 CHECKS: dict[str, Callable[[Repository], Iterable[str]]] = {
     "docs/statement/make --check": statement.differences,
@@ -18,6 +18,7 @@ CHECKS: dict[str, Callable[[Repository], Iterable[str]]] = {
     "docs/manual": manual.differences,
     "docs/completions/make --check": completions.differences,
     "docs/faults": faults.differences,
+    "docs/layers/make --check": layers.differences,
 }
 
 

@@ -1,5 +1,5 @@
-"""Checks the words of this repository: that no text has a word that CONTRIBUTING.md's list replaces by another, and that
-each term of docs/GLOSSARY.md has a home that is there. It prints what it finds, and ends with 1 where it found something.
+"""Checks docs/GLOSSARY.md: each term has a home that is there, stands in the order of the alphabet, has one meaning, and is used
+in a page or a source beside the glossary. It prints what it finds, and ends with 1 where it found something.
 """
 import re
 import sys
@@ -9,37 +9,45 @@ from ..paths import tracked_files
 from ..repository import Repository, report
 from ..tables import rows
 
-CONTRIBUTING, GLOSSARY = "CONTRIBUTING.md", "docs/GLOSSARY.md"
-TEXTS = ("*.rt", "*.antt", "*.md", "*.py", "*.edit", "*.json")
+GLOSSARY = "docs/GLOSSARY.md"
+TEXTS = ("*.rt", "*.antt", "*.md")
+HEADINGS = ("## Of the field", "## Of this program")
 
 
-def uses(repository: Repository) -> Iterator[str]:
-    """Each use of a word that is not used, a line for each."""
-    listed = rows(repository.read(CONTRIBUTING), "## Words")
-    instead = {word.strip("`"): use for cells, use, *_ in listed for word in cells.split(", ")}
-    pattern = re.compile(rf"(?<![\w'-])({'|'.join(map(re.escape, instead))})(?![\w'-])", re.IGNORECASE)
-    for path in tracked_files(*TEXTS):
-        for number, line in enumerate(repository.read(path).split("\n"), 1) if path != CONTRIBUTING else ():
-            for found in pattern.finditer(line):
-                yield f"{path}:{number}: '{found[1]}': write {instead[found[1].lower()]}"
+def terms(repository: Repository) -> Iterator[tuple[str, str, str]]:
+    """The terms with the heading that they stand under and their homes."""
+    for heading in HEADINGS:
+        yield from ((heading, term, home.strip("`")) for term, _, home in rows(repository.read(GLOSSARY), heading))
 
 
-def homeless(repository: Repository) -> Iterator[str]:
-    """Each term of the glossary whose home is not there, or which does not stand in the order of the alphabet."""
-    for heading in ("## Of the field", "## Of this program"):
-        before = ""
-        for term, _, home in rows(repository.read(GLOSSARY), heading):
-            if not repository.has(home.strip("`")):
-                yield f"{GLOSSARY}: {term}: its home {home} is not there"
-            if term < before:
-                yield f"{GLOSSARY}: {term}: it stands after {before}"
-            before = term
+def is_used(term: str, text: str) -> bool:
+    """Whether a term, without what stands in brackets after it, is a word of a text in lower case, in singular or plural."""
+    word = re.escape(re.sub(r" \(.*", "", term).lower()).replace("\\ ", r"\s+")
+    return bool(re.search(rf"(?<!\w){word}(e?s)?(?!\w)", text))
+
+
+def differences(repository: Repository) -> Iterator[str]:
+    """What is wrong with the glossary, a line for each."""
+    text = "\n".join(repository.read(it) for it in tracked_files(*TEXTS) if it != GLOSSARY).lower()
+    before = ("", "")
+    seen: set[str] = set()
+    for heading, term, home in terms(repository):
+        if not repository.has(home):
+            yield f"{GLOSSARY}: {term}: its home {home} is not there"
+        if (heading, term) < before and heading == before[0]:
+            yield f"{GLOSSARY}: {term}: it stands after {before[1]}"
+        if term in seen:
+            yield f"{GLOSSARY}: {term}: it has two meanings"
+        if not is_used(term, text):
+            yield f"{GLOSSARY}: {term}: nothing uses it"
+        seen.add(term)
+        before = (heading, term)
 
 
 def main() -> int:
     repository = Repository()
-    found = [*uses(repository), *homeless(repository)]
-    return report("words", found[:40] + [f"words: {len(found)} found"] if found else [], "none found")
+    count = sum(1 for _ in terms(repository))
+    return report("words", differences(repository), f"{count} terms have one meaning and a home, and are used")
 
 
 if __name__ == "__main__":

@@ -1,5 +1,6 @@
 -- What a run of a study answers, by how the writing of its table ended and how its hall was closed.
-use Rattle.std.specs.Prelude.{◌≡◌, ℕ, Bool, true, IsTrue, List, All, Result, Ok, Err, ⊤}
+use Rattle.std.specs.List.{list_all}
+use Rattle.std.specs.Prelude.{◌≡◌, ℕ, Bool, true, IsTrue, if◌then◌else◌, List, All, Result, Ok, Err, ⊤, result_err}
 use Rattle.cut_plan.specs.Values.{Values}
 use Rattle.cut_ledger.specs.declared.slip.Slip.{Slip}
 use Rattle.cut_ledger.specs.Slips.{IsFirstBad}
@@ -10,6 +11,7 @@ use Rattle.cut_pool.specs.declared.run_fault.RunFault.{RunFault}
 use Rattle.cut_pool.specs.declared.run_fault.RunFault.TheVariants.{BadSlip, Checkpoint, Write, WorkMemory}
 use Rattle.cut_pool.specs.declared.run_fault.RunFault.TheVariants.{AuditMismatch}
 use Rattle.cut_pool.specs.declared.study_run.Done.{Done}
+use Rattle.cut_pool.specs.inside.Faults.{of_line}
 use Rattle.cut_slots.specs.Report.{SlotEnd}
 
 -- why a run did not begin: where memory ran out, which says nothing of the slips, or for the first bad slip
@@ -36,8 +38,21 @@ CanLose AuditMismatch has_journal = ⊤
 CanLose Checkpoint has_journal = IsTrue has_journal
 CanLose other has_journal = ⊥
 
--- the answer: done where all was sent, and the hall was closed with every trial held; a write that failed as it is; and
--- else another fault, Checkpoint only of a study with a journal
+-- the answer where the whole table was sent, and the hall was closed with a report: a trial that is not held at the end of a
+-- slot is a mismatch
+abbrev pub audited : ℕ → List SlotEnd → Result Done RunFault
+audited sent report =
+    if list_all (λ slot. slot.complete) report then Ok (record { sent = sent; report = report }) else Err AuditMismatch
+
+-- the answer: the first that went wrong of the sending, the closing and the audit
+abbrev pub conclusion : Result ℕ (RowsFault NextRowFault) → Result (List SlotEnd) RunFault → Bool → Result Done RunFault
+conclusion (Ok sent) (Ok report) has_journal = audited sent report
+conclusion (Ok sent) (Err fault) has_journal = Err fault
+conclusion (Err (rows.Write fault)) closed has_journal = Err (Write fault)
+conclusion (Err (rows.Row fault)) closed has_journal = Err (of_line fault (result_err closed) has_journal)
+
+-- what is known of it: done where all was sent, and the hall was closed with every trial held; a write that failed as it is;
+-- and else another fault, Checkpoint only of a study with a journal
 abbrev pub Concludes : Result ℕ (RowsFault NextRowFault) → Result (List SlotEnd) RunFault → Bool → Result Done RunFault
     → Type 0
 Concludes sent closed has_journal (Ok d) =

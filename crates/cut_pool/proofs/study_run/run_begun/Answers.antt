@@ -29,7 +29,7 @@ returns-clause-ended g c =
     let concludes : Concludes c.run-sent.result.0 c.run-sent.result.1 c.args.begun.book.state.has_journal
     c.concluded.result =
     subst (λ (h : Bool). Concludes c.run-sent.result.0 c.run-sent.result.1 h c.concluded.result) has
-    c.concluded.ensures in
+    c.concluded.ensures.concludes in
     let old = g.W.Wire.log c.args.wire.now in
     let new = g.W.Wire.log c.run-sent.new.wire in
     let emits : EmitsStudy (table_over v c.args.begun.book.state.ledger.base) c.run-sent.result.0 old new =
@@ -59,7 +59,7 @@ returns-clause-takes g c =
     let concludes : Concludes c.run-sent.result.0 c.run-sent.result.1 c.args.begun.book.state.has_journal
     c.concluded.result =
     subst (λ (h : Bool). Concludes c.run-sent.result.0 c.run-sent.result.1 h c.concluded.result) has
-    c.concluded.ensures in
+    c.concluded.ensures.concludes in
     let old = g.W.Wire.log c.args.wire.now in
     let new = g.W.Wire.log c.run-sent.new.wire in
     takes v c.args.begun.book.state.ledger.base c.args.begun.book.state.has_journal c.args.begun.book.size

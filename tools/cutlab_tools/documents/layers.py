@@ -1,0 +1,162 @@
+"""docs/layers/make [--check]: draws docs/layers/layers.svg, the layers of the program with their crates. With --check it draws
+nothing, and says what differs.
+
+crates.txt has the layers, a heading for each, from the bottom to the top, and what each crate stands on. What a crate is for is
+the first sentence of its README. The picture has the layers that the program is built of: laws and tests stand beside them. An
+arrow goes from a layer to each one that it stands on, but for those that it reaches over another. A crate that stands on one of a
+layer above its own is refused, and so is one that docs/ARCHITECTURE.md has under another layer.
+"""
+import argparse
+import html
+import re
+import sys
+import textwrap
+from typing import Iterator, NamedTuple
+
+from ..paths import ROOT
+from ..repository import Repository, report
+
+CRATES, PAGE, PICTURE = "crates.txt", "docs/ARCHITECTURE.md", "docs/layers/layers.svg"
+BESIDE = ("Laws", "Tests")
+# The widths of the picture, of the room for arrows at its left and of a box; the height of a line of text, and how many letters it has.
+WIDTH, LEFT, BOX, GAP, LINE, LETTERS, IN_A_ROW = 1180, 70, 265, 10, 15, 37, 4
+STYLE = """
+  text { font: 12px system-ui, sans-serif; fill: #222 }
+  .layer { font-weight: 600; font-size: 14px } .crate { font-family: ui-monospace, monospace; font-weight: 600 }
+  .band { fill: #eef2f7 } .box { fill: #fff; stroke: #b8c4d4 } .arrow { stroke: #5a6b80; stroke-width: 1.5; fill: none }
+  @media (prefers-color-scheme: dark) {
+    text { fill: #e4e8ee } .band { fill: #1f2630 } .box { fill: #2a3340; stroke: #4b5a6e } .arrow { stroke: #93a4ba }
+  }
+"""
+
+
+class Crate(NamedTuple):
+    """A crate, with the crates of the repository that it stands on, and what it is for."""
+
+    name: str
+    stands_on: list[str]
+    purpose: str
+
+
+class Layer(NamedTuple):
+    """A layer with its crates, in the order of reading."""
+
+    name: str
+    crates: list[Crate]
+
+
+def purpose(repository: Repository, crate: str) -> str:
+    """The first sentence of a crate's README, without marks."""
+    text = repository.read(f"crates/{crate}/README.md").split("\n\n")[1]
+    return re.sub(r"`", "", re.split(r"(?<=\.) ", text.replace("\n", " "))[0])
+
+
+def layers(repository: Repository) -> list[Layer]:
+    """The layers by crates.txt, from the bottom to the top."""
+    found: list[Layer] = []
+    lines = [line for line in repository.read(CRATES).split("\n") if line]
+    ours = {line.split(":")[0] for line in lines}
+    for line in lines:
+        if line.startswith("# "):
+            found.append(Layer(line[2:], []))
+        else:
+            name, _, below = line.partition(":")
+            found[-1].crates.append(Crate(name, [it for it in below.split() if it in ours], purpose(repository, name)))
+    return found
+
+
+def used_layers(listed: list[Layer]) -> list[set[int]]:
+    """Of each layer, by its place, the places of the other ones that it stands on."""
+    place = {crate.name: at for at, layer in enumerate(listed) for crate in layer.crates}
+    return [{place[it] for crate in layer.crates for it in crate.stands_on} - {at} for at, layer in enumerate(listed)]
+
+
+def arrows(used: list[set[int]]) -> Iterator[tuple[int, int]]:
+    """From which layer to which one an arrow goes."""
+    reached: list[set[int]] = []
+    for below in used:
+        reached.append(below.union(*(reached[it] for it in below)))
+    for at, below in enumerate(used):
+        for other in sorted(below):
+            if not any(other in reached[it] for it in below):
+                yield at, other
+
+
+def box(crate: Crate, x: int, y: int, height: int) -> Iterator[str]:
+    """A crate's box: its name, and what it is for."""
+    yield f'<rect class="box" x="{x}" y="{y}" width="{BOX}" height="{height}" rx="4"/>'
+    yield f'<text class="crate" x="{x + 8}" y="{y + 17}">{crate.name}</text>'
+    for at, line in enumerate(textwrap.wrap(crate.purpose, LETTERS)):
+        yield f'<text x="{x + 8}" y="{y + 34 + LINE * at}">{html.escape(line, quote=False)}</text>'
+
+
+def band(layer: Layer, top: int) -> tuple[int, list[str]]:
+    """A layer's band from a height on: the height at which it ends, and what is drawn."""
+    drawn, y = [f'<text class="layer" x="{LEFT + 10}" y="{top + 20}">{layer.name}</text>'], top + 30
+    for at in range(0, len(layer.crates), IN_A_ROW):
+        row = layer.crates[at : at + IN_A_ROW]
+        height = 28 + LINE * max(len(textwrap.wrap(it.purpose, LETTERS)) for it in row)
+        for column, crate in enumerate(row):
+            drawn += box(crate, LEFT + 10 + column * (BOX + GAP), y, height)
+        y += height + GAP
+    return y, [f'<rect class="band" x="{LEFT}" y="{top}" width="{WIDTH - LEFT}" height="{y - top}" rx="6"/>', *drawn]
+
+
+def picture(listed: list[Layer]) -> str:
+    """The picture of the layers, the highest first."""
+    listed = [it for it in listed if it.name not in BESIDE]
+    middle: dict[int, int] = {}
+    drawn: list[str] = []
+    y = 0
+    for at in reversed(range(len(listed))):
+        end, parts = band(listed[at], y)
+        middle[at], y = (y + end) // 2, end + 12
+        drawn += parts
+    for upper, lower in arrows(used_layers(listed)):
+        bend = LEFT - 14 - 14 * (upper - lower)
+        ends = f"M {LEFT} {middle[upper] + 6} H {bend} V {middle[lower] - 6} H {LEFT - 3}"
+        drawn.append(f'<path class="arrow" d="{ends}" marker-end="url(#head)"/>')
+    head = '<marker id="head" markerWidth="8" markerHeight="8" refX="6" refY="3" orient="auto"><path class="arrow" d="M 0 0 L 6 3 L 0 6"/></marker>'
+    opening = f'<svg xmlns="http://www.w3.org/2000/svg" viewBox="0 0 {WIDTH} {y - 12}" role="img" aria-label="The layers of cutlab">'
+    return "\n".join([opening, f"<style>{STYLE}</style>", f"<defs>{head}</defs>", *drawn, "</svg>"]) + "\n"
+
+
+def upward(listed: list[Layer]) -> Iterator[str]:
+    """Each crate that stands on one of a layer above its own."""
+    place = {crate.name: at for at, layer in enumerate(listed) for crate in layer.crates}
+    for at, layer in enumerate(listed):
+        for crate in layer.crates:
+            yield from (f"{CRATES}: {crate.name} stands on {it}, which is above" for it in crate.stands_on if place[it] > at)
+
+
+def paged(repository: Repository) -> list[tuple[str, list[str]]]:
+    """The layers of the page with their crates."""
+    parts = re.split(r"^### ", repository.read(PAGE).split("\n## ")[1], flags=re.M)[1:]
+    return [(it.split("\n")[0], re.findall(r"^\| `(\w+)` \|", it, flags=re.M)) for it in parts]
+
+
+def differences(repository: Repository) -> Iterator[str]:
+    """What is not as crates.txt has it, a line for each."""
+    listed = layers(repository)
+    yield from upward(listed)
+    wanted = [(it.name, [crate.name for crate in it.crates]) for it in listed if it.name != "Tests"]
+    for there, here in zip(paged(repository) + [("", [])] * len(wanted), wanted):
+        if there != here:
+            yield f"{PAGE}: {there[0] or 'nothing'} with {', '.join(there[1])}: {CRATES} has {here[0]} with {', '.join(here[1])}"
+    if not repository.has(PICTURE) or repository.read(PICTURE) != picture(listed):
+        yield f"{PICTURE}: not what docs/layers/make draws of {CRATES}"
+
+
+def main() -> int:
+    words = argparse.ArgumentParser(description=__doc__, formatter_class=argparse.RawDescriptionHelpFormatter)
+    words.add_argument("--check", action="store_true", help="only say what differs")
+    check = words.parse_args().check
+    repository = Repository()
+    if not check:
+        (ROOT / PICTURE).write_text(picture(layers(repository)))
+    crates = sum(len(it.crates) for it in layers(repository))
+    return report("layers", differences(repository), f"{crates} crates are drawn and listed as {CRATES} has them")
+
+
+if __name__ == "__main__":
+    sys.exit(main())
