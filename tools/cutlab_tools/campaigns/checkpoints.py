@@ -4,7 +4,7 @@ import random
 
 from ..damage import drawn_file, drawn_slips
 from ..paths import reference
-from ..plans import Plan, drawn_plan, text_of, trials_of
+from ..plans import Plan, drawn_plan, drawn_words, slips_in, text_of, trials_in, trials_of
 from ..program import Ended
 from .campaign import Campaign
 
@@ -12,34 +12,26 @@ from .campaign import Campaign
 def wanted(plan: Plan, held: bytes) -> Ended:
     """How a run that goes on from a file has to end."""
     try:
-        slips = reference.checked_slips(plan, reference.slips_of(plan, held))
+        return Ended(reference.table_over(plan, slips_in(plan, held)))
     except reference.Fault as fault:
         # A study is made only where nothing stands, or what an interrupted creation leaves.
         is_unclaimed = fault.number == 22 and held[:1] in (b"", b"\0")
         return Ended(reference.table(plan)) if is_unclaimed else Ended("", f"{fault}\n", 4)
-    return Ended(reference.table_over(plan, slips))
 
 
 class Checkpoints(Campaign):
-    name = "checkpoints"
-
     def case(self, rng: random.Random) -> None:
         text = text_of(drawn_plan(rng, most_work=10_000))
         plan = reference.plan_of(text)
         held = drawn_file(rng, plan, drawn_slips(rng, plan))
         path = self.folder / "study.cut"
         path.write_bytes(held)
-        numbers = ["--workers", str(rng.randint(1, 3)), "--piece", str(rng.randint(1, 4))]
-        found = self.program.run("run", "--checkpoint", "study.cut", *numbers, text=text)
+        found = self.program.run("run", "--checkpoint", "study.cut", *drawn_words(rng, 3, 4), text=text)
         self.expect(f"{text.decode()} over {held.hex()}", wanted(plan, held), found)
         if found.status:
             self.expect("the file that a refused run leaves", held, path.read_bytes())
-        else:
-            self.check_left(plan, path.read_bytes(), found.output)
-
-    def check_left(self, plan: Plan, left: bytes, table: str) -> None:
-        """Checks the file that a run leaves: it has each trial once, and gives the same table."""
-        slips = reference.checked_slips(plan, reference.slips_of(plan, left))
-        trials = sorted(trial for first, count, _ in slips for trial in range(first, first + count))
-        self.expect("the trials in the file that is left", list(range(trials_of(plan))), trials)
-        self.expect("the table over that file", table, reference.table_over(plan, slips))
+            return
+        # The file that a run leaves has each trial once, and gives the same table.
+        slips = slips_in(plan, path.read_bytes())
+        self.expect("the trials in the file that is left", list(range(trials_of(plan))), trials_in(slips))
+        self.expect("the table over that file", found.output, reference.table_over(plan, slips))

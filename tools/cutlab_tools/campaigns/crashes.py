@@ -11,47 +11,42 @@ from ..plans import Plan, drawn_plan, text_of
 from ..program import Ended, Program
 from .campaign import Campaign
 
-CALL = re.compile(r'(?:\[pid +\d+\] |\d+ +)?(pwrite64|fsync)\(3(?:, "((?:\\x[0-9a-f]{2})*)", \d+, (\d+))?')
+CALL = re.compile(r'(?:\[pid +\d+\] |\d+ +)?(?:fsync|pwrite64)\(3(?:, "((?:\\x[0-9a-f]{2})*)", \d+, (\d+))?')
 GATE = b"\xa5"
 
 
 class Crashes(Campaign):
-    name = "crashes"
-
     def calls_of(self, text: bytes, piece: int) -> list[Write | None]:
         """The writes, and the syncs, as None, of a run into a new file, which is the first that it opens."""
-        traced = ["-f", "-xx", "-s", "200000", "-e", "trace=pwrite64,fsync"]
+        traced = "-f -xx -s 200000 -e trace=pwrite64,fsync".split()
         command = ["run", "--checkpoint", "study.cut", "--piece", str(piece)]
         done = Program(Path("strace"), self.folder).run(*traced, self.path, *command, text=text)
         found = [call for line in done.errors.split("\n") if (call := CALL.match(line))]
-        written = [(int(it[3]), bytes.fromhex(it[2].replace("\\x", ""))) if it[1] != "fsync" else None for it in found]
-        return [it and Write(*it) for it in written]
+        return [Write(int(it[2]), bytes.fromhex(it[1].replace("\\x", ""))) if it[2] else None for it in found]
 
     def case(self, rng: random.Random) -> None:
         text = text_of(drawn_plan(rng, most_work=6_000))
-        plan, piece = reference.plan_of(text), rng.randint(1, 3)
+        plan, piece, path = reference.plan_of(text), rng.randint(1, 3), self.folder / "study.cut"
         calls = self.calls_of(text, piece)
-        whole = reference.slips_of(plan, (self.folder / "study.cut").read_bytes())
-        table = reference.table(plan)
+        whole, table = reference.slips_of(plan, path.read_bytes()), reference.table(plan)
         for _ in range(20):
             made = calls[: rng.randint(0, len(calls))]
             left = crash_image(rng, made)
             what = f"{text.decode()} by pieces of {piece}, after {len(made)} calls, as {left.hex()}"
             self.check_read(what, plan, whole, made, left)
-            (self.folder / "study.cut").write_bytes(left)
+            path.write_bytes(left)
             self.expect_run(Ended(table), "run", "--checkpoint", "study.cut", text=text, what=what)
 
     def check_read(
         self, what: str, plan: Plan, whole: list[reference.Slip], made: list[Write | None], left: bytes
     ) -> None:
         """Checks that an image is read as the slips that were acknowledged, or these and one more."""
-        gates = [write for write in made if write and write.written == GATE]
-        is_last = bool(made) and made[-1] is not None and made[-1].written == GATE
-        acknowledged = len(gates) - 1 - is_last
+        gates = [bool(write and write.written == GATE) for write in made]
+        acknowledged = sum(gates[:-1]) - 1
         try:
             slips = reference.slips_of(plan, left)
         except reference.Fault as fault:
-            self.expect(f"the reading of {what}", (22, True), (fault.number, acknowledged < 0 or not gates))
+            self.expect(f"the reading of {what}", (22, True), (fault.number, acknowledged < 0))
             return
         self.expect(what, whole[: len(slips)], slips)
         self.require(len(slips) in (max(acknowledged, 0), acknowledged + 1), f"the slips of {what}")

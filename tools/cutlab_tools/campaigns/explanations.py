@@ -4,7 +4,7 @@ import random
 import re
 
 from ..paths import reference
-from ..plans import Plan, drawn_plan, text_of, trials_of
+from ..plans import Plan, drawn_plan, sizes, text_of, trials_of
 from .campaign import Campaign
 
 
@@ -33,22 +33,18 @@ def number_after(lines: str, words: str) -> int | None:
 
 
 class Explanations(Campaign):
-    name = "explanations"
-
     def case(self, rng: random.Random) -> None:
         text = text_of({**drawn_plan(rng, most_work=10_000), "repeats": rng.choice([1, 2, 3, 17])})
         plan = reference.plan_of(text)
         layout, trials = reference.layout_of(plan), trials_of(plan)
         lines, errors, status = self.program.run("explain", text=text)
         self.expect(f"explain < {text.decode()}", ("accepted", "", 0), (lines.split("\n")[0], errors, status))
-        sizes = [number_after(lines, word) for word in ("cells", "trials", "quorum")]
-        self.expect(text.decode(), [len(reference.cells(plan)), trials, reference.quorum(plan["nodes"])], sizes)
+        self.expect(text.decode(), sizes(plan), "\n".join([*lines.split("\n")[1:4], ""]))
         self.check_never_right(plan, layout, lines)
         keys = sum(keys_in(plan, layout, trial) for trial in range(trials))
         most = number_after(lines, "keys drawn: at most")
-        self.require(
-            most is not None and keys <= most, f"{keys} keys are drawn, at most {most} by explain: {text.decode()}"
-        )
+        what = f"{keys} keys are drawn, at most {most} by explain: {text.decode()}"
+        self.require(most is not None and keys <= most, what)
         self.program.run("run", "--checkpoint", "study.cut", text=text)
         size = (self.folder / "study.cut").stat().st_size
         self.expect(text.decode(), size, number_after(lines, "checkpoint: at most"))

@@ -2,16 +2,14 @@
 import random
 
 from ..damage import spoil
-from ..plans import drawn_plan, text_of, wanted_check
+from ..plans import drawn_plan, sizes, text_of, wanted
 from .campaign import Campaign
 
 
 class FaultyPlans(Campaign):
-    name = "faulty plans"
-
     def case(self, rng: random.Random) -> None:
         plan = drawn_plan(rng)
         for _ in range(rng.randint(1, 3)):
             if plan:
                 spoil(rng, plan)
-        self.expect_run(wanted_check(text_of(plan)), "check", text=text_of(plan))
+        self.expect_run(wanted(text_of(plan), sizes), "check", text=text_of(plan))

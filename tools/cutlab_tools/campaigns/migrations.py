@@ -3,15 +3,9 @@ reference's. Slips with other sums than their trials give are refused."""
 import random
 
 from ..paths import reference
-from ..plans import Plan, drawn_plan, text_of
+from ..plans import Plan, drawn_plan, text_of, upgrade
 from ..program import Ended
 from .campaign import Campaign
-
-
-def upgrade(plan: Plan) -> Plan:
-    """The plan of version 2 whose targets fail in the same way."""
-    rest = {field: value for field, value in plan.items() if field != "faults"}
-    return {**rest, "version": 2, "deaf": plan["f"][-1] if plan["faults"] == "deaf" else 0}
 
 
 def true_slips(rng: random.Random, plan: Plan) -> list[reference.Slip]:
@@ -25,18 +19,7 @@ def true_slips(rng: random.Random, plan: Plan) -> list[reference.Slip]:
     return slips[: rng.randint(0, 12)]
 
 
-def refusal_of(plan: Plan, slip: reference.Slip) -> str:
-    """How a slip with wrong sums is refused."""
-    try:
-        reference.checked_slips(plan, [slip])
-    except reference.Fault:
-        return "17 BadSlip"
-    return "46 Disagrees"
-
-
 class Migrations(Campaign):
-    name = "migrations"
-
     def case(self, rng: random.Random) -> None:
         text = text_of(drawn_plan(rng, versions=(1,), most_work=10_000))
         plan = reference.plan_of(text)
@@ -47,7 +30,12 @@ class Migrations(Campaign):
             wrong = rng.randrange(len(slips))
             first, count, sums = slips[wrong]
             slips[wrong] = first, count, {**sums, "extra": sums["extra"] + 1}
-            wanted = Ended("", f"cutlab: fault {refusal_of(plan, slips[wrong])} {wrong + 1}\n", 4)
+            try:
+                reference.checked_slips(plan, [slips[wrong]])
+                refusal = "46 Disagrees"
+            except reference.Fault:
+                refusal = "17 BadSlip"
+            wanted = Ended("", f"cutlab: fault {refusal} {wrong + 1}\n", 4)
         (self.folder / "old.cut").write_bytes(reference.file_of(plan, slips))
         what = f"{text.decode()} with {slips}"
         self.expect_run(wanted, "migrate", "old.cut", "new.cut", text=text, what=what)

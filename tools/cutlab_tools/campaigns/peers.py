@@ -5,7 +5,7 @@ import tempfile
 from pathlib import Path
 from typing import Any
 
-from ..plans import Plan, drawn_seed, rising, text_of
+from ..plans import Plan, drawn_faults, drawn_seed, drawn_words, rising, text_of
 from ..program import build_peer
 from .campaign import Campaign
 
@@ -19,14 +19,10 @@ def large_plan(rng: random.Random) -> Plan:
     plan |= {"implicit": rng.random() < 0.5, "k": [top], "l": rising(rng, 1, max(1, top // 2), 2)}
     plan |= {"liars": rng.choice([0, 1, 3]), "links": rng.choice([0, 2, 8]), "nodes": nodes}
     plan |= {"repeats": rng.randint(1, 2), "seed": drawn_seed(rng), "version": rng.choice([1, 2])}
-    if plan["version"] == 1:
-        return plan | {"faults": rng.choice(["crash", "deaf"])}
-    return plan | {"deaf": rng.choice([0, 1, 2048])}
+    return plan | drawn_faults(rng, plan["version"], lambda: rng.choice([0, 1, 2048]))
 
 
 class Peers(Campaign):
-    name = "peers"
-
     def __init__(self, path: Path, values: dict[str, Any]) -> None:
         super().__init__(path, values)
         self.place = tempfile.TemporaryDirectory()
@@ -37,7 +33,6 @@ class Peers(Campaign):
 
     def case(self, rng: random.Random) -> None:
         text = text_of(large_plan(rng))
-        words = ["run", "--workers", str(rng.randint(1, 4)), "--piece", str(rng.randint(1, 3))]
         found = self.peer.run(text=text)
         self.expect(f"whether the peer takes {text.decode()}", 0, found.status)
-        self.expect_run(found._replace(errors=""), *words, text=text)
+        self.expect_run(found._replace(errors=""), "run", *drawn_words(rng, 4, 3), text=text)

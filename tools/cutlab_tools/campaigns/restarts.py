@@ -4,19 +4,16 @@ import random
 import time
 
 from ..paths import reference
-from ..plans import drawn_plan, text_of
+from ..plans import drawn_plan, slips_in, text_of
 from ..program import Child, Ended, end_of
 from .campaign import Campaign, Differs
 
 
 class Restarts(Campaign):
-    name = "restarts"
-
     def case(self, rng: random.Random) -> None:
         plan = drawn_plan(rng, most_work=30_000)
         text = text_of({**plan, "repeats": rng.randint(1, 20) * plan["repeats"]})
-        whole, _, status = self.program.run("run", text=text)
-        self.expect("the status of a study that ran at once", 0, status)
+        whole = self.table_of(text)
         for _ in range(rng.randint(1, 6)):
             output, errors, status = self.cut_off(rng, text)
             self.expect("what was sent is a prefix of the table", whole[: len(output)], output)
@@ -25,8 +22,7 @@ class Restarts(Campaign):
         self.expect("the table at the end", Ended(whole), self.served(rng, text))
         kept = list(self.folder.glob("*.cut"))
         self.expect("how many studies are kept", 1, len(kept))
-        accepted = reference.plan_of(text)
-        reference.checked_slips(accepted, reference.slips_of(accepted, kept[0].read_bytes()))
+        slips_in(reference.plan_of(text), kept[0].read_bytes())
 
     def started(self, rng: random.Random) -> Child[bytes]:
         """A server of one session that keeps its study in the folder. It makes its socket soon, unless it ends before."""

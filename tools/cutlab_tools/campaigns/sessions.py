@@ -60,8 +60,6 @@ def accepted_plans(sent: bytes) -> Iterator[bytes]:
 
 
 class Sessions(Campaign):
-    name = "sessions"
-
     def case(self, rng: random.Random) -> None:
         texts = [text_of(drawn_plan(rng, most_work=4_000)) for _ in range(rng.randint(1, 3))]
         streams = [drawn_messages(rng, texts) for _ in range(rng.randint(1, 4))]

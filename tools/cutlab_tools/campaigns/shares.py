@@ -6,7 +6,7 @@ from pathlib import Path
 from typing import Iterator
 
 from ..paths import reference
-from ..plans import Plan, drawn_plan, text_of, trials_of
+from ..plans import Plan, drawn_plan, slips_in, text_of, trials_in, trials_of
 from ..program import Ended
 from .campaign import Campaign
 
@@ -20,11 +20,6 @@ def blocks_of(plan: Plan, size: int) -> Iterator[range]:
             yield range(start, min(start + size, (cell + 1) * repeats))
 
 
-def blocks_of_share(plan: Plan, index: int, shares: int, size: int) -> list[range]:
-    """The blocks of a share."""
-    return [block for number, block in enumerate(blocks_of(plan, size)) if number % shares == index - 1]
-
-
 def runs_of(plan: Plan, trials: set[int]) -> int:
     """How many runs of adjacent trials of a cell there are."""
     return sum(trial % plan["repeats"] == 0 or trial - 1 not in trials for trial in trials)
@@ -36,11 +31,6 @@ def status_of(plan: Plan, trials: set[int]) -> str:
     done = sum(trials.issuperset(range(cell * repeats, (cell + 1) * repeats)) for cell in range(cells))
     lines = [f"trials {len(trials)} of {cells * repeats}", f"cells {done} of {cells}", f"slips {runs_of(plan, trials)}"]
     return "\n".join([*lines, reference.canonical_text(plan).decode(), ""])
-
-
-def content(path: Path) -> bytes:
-    """The bytes of a file, none where it is not there."""
-    return path.read_bytes() if path.exists() else b""
 
 
 @dataclass
@@ -62,8 +52,6 @@ class Division:
 
 
 class Shares(Campaign):
-    name = "shares"
-
     def case(self, rng: random.Random) -> None:
         given = {**drawn_plan(rng, most_work=10_000), "repeats": rng.randint(1, 12)}
         division = Division(text_of(given), reference.plan_of(text_of(given)))
@@ -83,7 +71,7 @@ class Shares(Campaign):
         if rng.random() < 0.2:
             killed = self.program.run_killed(*words, text=text, seconds=rng.random() * 0.02)
             self.expect("what a share that is killed reports", "", killed.errors)
-        blocks = blocks_of_share(division.plan, index, shares, size)
+        blocks = list(blocks_of(division.plan, size))[index - 1 :: shares]
         count = sum(map(len, blocks))
         for _ in range(rng.choice([1, 1, 2])):
             self.expect_run(Ended(f"share {index} of {shares}: {count} of {count}\n"), *words, text=text)
@@ -95,8 +83,7 @@ class Shares(Campaign):
         runs, new = runs_of(plan, trials), self.folder / "joined.cut"
         line = f"joined {division.pieces} into {runs}, {len(trials)} of {trials_of(plan)}\n"
         self.expect_run(Ended(line), "join", new.name, *division.files, text=text)
-        slips = reference.checked_slips(plan, reference.slips_of(plan, new.read_bytes()))
-        joined = sorted(trial for first, count, _ in slips for trial in range(first, first + count))
+        joined = trials_in(slips_in(plan, new.read_bytes()))
         self.expect("the trials of the joined slips", sorted(trials), joined)
         self.expect_run(Ended(status_of(plan, trials)), "status", new.name, what="the status of the joined file")
         self.check_refused(division, new)
@@ -105,7 +92,7 @@ class Shares(Campaign):
     def check_refused(self, division: Division, new: Path) -> None:
         """Joins that are refused, and leave the new file as it was: to a file that holds a study, of a file with itself, of
         the new file among the old ones, and of a file without a study, which is named where that is asked for."""
-        again, empty, none, before = "again.cut", "empty.cut", "none.cut", content(new)
+        again, empty, none, before = "again.cut", "empty.cut", "none.cut", new.read_bytes()
         (self.folder / empty).touch()
         text, files = division.text, division.files
         self.expect_run(Ended("", "cutlab: fault 25 Held\n", 4), "join", new.name, *files, text=text)
@@ -117,6 +104,6 @@ class Shares(Campaign):
             self.expect_run(Ended("", f"cutlab: fault {fault}\n", 4), "join", again, *files, last, text=text)
         named = f'cutlab: file {len(files) + 1}: "{empty}"\ncutlab: fault 22 NoStudy\n'
         self.expect_run(Ended("", named, 4), "join", "--which", again, *files, empty, text=text)
-        left = content(new), content(self.folder / again)
-        self.expect("the new files after joins that were refused", (before, b""), left)
-        self.expect("whether a join makes an old file", False, (self.folder / none).exists())
+        written = {it.name for it in self.folder.iterdir() if it.stat().st_size or it.name == none}
+        left = new.read_bytes(), written & {again, none}
+        self.expect("the new files after joins that were refused", (before, set()), left)

@@ -8,7 +8,7 @@ from pathlib import Path
 
 from ..damage import mutated
 from ..paths import reference
-from ..plans import SMALLEST, drawn_plan, fault_of, text_of, wanted_check
+from ..plans import SMALLEST, drawn_plan, fault_of, sizes, text_of, wanted
 from ..program import Program, connect
 from .campaign import Campaign, Differs
 
@@ -25,18 +25,16 @@ class Session:
         self.server = Program(program).serve(path)
         self.wire = connect(path)
         self.wire.settimeout(60)
+        self.replies = self.wire.makefile("rb")
         self.wire.sendall(reference.frame("R", text_of(SMALLEST)))
         while self.reply()[0] == "T":  # (the only study of the server is run)
             pass
 
     def taken(self, count: int) -> bytes:
         """The next bytes of what the server replies."""
-        found = b""
-        while len(found) < count:
-            part = self.wire.recv(count - len(found))
-            if not part:
-                raise ConnectionError("it was ended")
-            found += part
+        found = self.replies.read(count)
+        if len(found) < count:
+            raise ConnectionError("it was ended")
         return found
 
     def reply(self) -> tuple[str, bytes]:
@@ -58,8 +56,7 @@ class Session:
 
 
 class Texts(Campaign):
-    name = "texts"
-    options = {"session": {"action": "store_true", "help": "sends the texts to one server"}}
+    options = {"session": dict(action="store_true", help="sends the texts to one server")}
     session: Session | None = None
 
     def case(self, rng: random.Random) -> None:
@@ -70,7 +67,7 @@ class Texts(Campaign):
         if self.values["session"] and len(text) <= 65_536:
             self.expect(repr(text), fault_of(text) or NO_ROOM, self.sent(text))
         else:
-            self.expect_run(wanted_check(text), "check", text=text, what=repr(text))
+            self.expect_run(wanted(text, sizes), "check", text=text, what=repr(text))
 
     def sent(self, text: bytes) -> int | str:
         """What is answered to a text in the session, or in another one where it has no requests left."""

@@ -2,12 +2,10 @@
 each term of docs/GLOSSARY.md has a home that is there. It prints what it finds, and ends with 1 where it found something.
 """
 import re
-import sys
 from typing import Iterator
 
 from ..paths import tracked_files
-from ..repository import Repository, report
-from ..tables import rows
+from ..repository import Repository
 
 CONTRIBUTING, GLOSSARY = "CONTRIBUTING.md", "docs/GLOSSARY.md"
 TEXTS = ("*.rt", "*.antt", "*.md", "*.py", "*.edit", "*.json")
@@ -15,7 +13,7 @@ TEXTS = ("*.rt", "*.antt", "*.md", "*.py", "*.edit", "*.json")
 
 def uses(repository: Repository) -> Iterator[str]:
     """Each use of a word that is not used, a line for each."""
-    listed = rows(repository.read(CONTRIBUTING), "## Words")
+    listed = repository.rows(CONTRIBUTING, "## Words")
     instead = {word.strip("`"): use for cells, use, *_ in listed for word in cells.split(", ")}
     pattern = re.compile(rf"(?<![\w'-])({'|'.join(map(re.escape, instead))})(?![\w'-])", re.IGNORECASE)
     for path in tracked_files(*TEXTS):
@@ -24,23 +22,14 @@ def uses(repository: Repository) -> Iterator[str]:
                 yield f"{path}:{number}: '{found[1]}': write {instead[found[1].lower()]}"
 
 
-def homeless(repository: Repository) -> Iterator[str]:
-    """Each term of the glossary whose home is not there, or which does not stand in the order of the alphabet."""
+def differences(repository: Repository) -> Iterator[str]:
+    """These, and each term of the glossary whose home is not there, or which is not in the order of the alphabet."""
+    yield from uses(repository)
     for heading in ("## Of the field", "## Of this program"):
         before = ""
-        for term, _, home in rows(repository.read(GLOSSARY), heading):
+        for term, _, home in repository.rows(GLOSSARY, heading):
             if not repository.has(home.strip("`")):
                 yield f"{GLOSSARY}: {term}: its home {home} is not there"
             if term < before:
                 yield f"{GLOSSARY}: {term}: it stands after {before}"
             before = term
-
-
-def main() -> int:
-    repository = Repository()
-    found = [*uses(repository), *homeless(repository)]
-    return report("words", found[:40] + [f"words: {len(found)} found"] if found else [], "none found")
-
-
-if __name__ == "__main__":
-    sys.exit(main())

@@ -1,5 +1,5 @@
-"""tests/program [PROGRAM] [-k NAME]: what a built program, crates/cutlab/out/cutlab where none is given, does with its words, its
-files and its streams. Each difference is printed; the last line says how many there are."""
+"""tests/program [PROGRAM] [-k NAME]: what a built program does with its words, its files and its streams. Each difference
+is printed; the last line says how many there are."""
 import hashlib
 import json
 import os
@@ -8,27 +8,23 @@ import resource
 import shutil
 import signal
 import subprocess
-import sys
 import time
 from functools import partial
 from pathlib import Path
 from typing import Any
 
 from ..paths import DATA, ROOT, reference
-from ..plans import Plan
+from ..plans import SMALLEST, Plan, upgrade
 from ..program import Child, Ended, Program, Word, connect, end_of
-from .cases import Cases, run
+from .cases import Cases
 
 # Tables that were worked out by hand, command lines with a mistake, and names of files as a line quotes them.
 TABLES: dict[str, list[Any]] = json.loads((DATA / "program.json").read_text())
 HEADER = "k,h,l,f,trials,receivers,conflicts,silent,extra,votes,decided,right,ppm\n"
 UPGRADE_HEADER = HEADER.replace(",ppm", ",settled,ppm")
 # One cell of two trials: in each one process crashes, and the four others propose it.
-FIELDS: Plan = dict(
-    copies=1, dead="silent", f=[1], faults="crash", h=[1], implicit=True, k=[1], l=[1], liars=0, links=0
-)
-FIELDS |= dict(nodes=5, repeats=2, seed="0" * 64, version=1)
-UPGRADE_FIELDS: Plan = {**{name: FIELDS[name] for name in FIELDS if name != "faults"}, "deaf": 0, "version": 2}
+FIELDS: Plan = {**SMALLEST, "f": [1], "nodes": 5, "repeats": 2}
+UPGRADE_FIELDS = upgrade(FIELDS)
 PLAN, UPGRADE = reference.canonical_text(FIELDS), reference.canonical_text(UPGRADE_FIELDS)
 ROW, UPGRADE_ROW = "1,1,1,1,2,8,0,0,0,8,2,2,0", "1,1,1,1,2,8,0,0,0,8,2,2,8,0"
 TABLE, UPGRADE_TABLE = f"{HEADER}{ROW}\n", f"{UPGRADE_HEADER}{UPGRADE_ROW}\n"
@@ -63,9 +59,6 @@ class ProgramCases(Cases):
     def ends(self, line: str, wanted: Ended | str, text: bytes = PLAN) -> None:
         """Compares how a command ends; words alone are its whole output."""
         self.expect_run(Ended(wanted) if isinstance(wanted, str) else wanted, *line.split(), text=text)
-
-    def file(self, name: str) -> Path:
-        return self.folder / name
 
     def names(self) -> list[str]:
         return sorted(it.name for it in self.folder.iterdir())
@@ -468,7 +461,3 @@ class Scripts(ProgramCases):
         self.expect("serve_on.sh ended by a signal", Ended(), end_of(served))
         is_refused = self.program.run("ask", path).status == 4
         self.expect("its socket, and its server", (False, True), (path.exists(), is_refused))
-
-
-if __name__ == "__main__":
-    sys.exit(run("program", __doc__, "cutlab_tools.testing.program"))
