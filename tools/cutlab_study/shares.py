@@ -21,10 +21,10 @@ from __future__ import annotations
 
 from dataclasses import dataclass
 from fractions import Fraction
-from functools import lru_cache
+from functools import lru_cache, reduce
 from itertools import accumulate, product
 from math import comb, factorial, lcm, prod
-from typing import Iterator, Sequence
+from typing import Iterable, Iterator, Sequence
 
 # A polynomial in one variable: the coefficient of each power. In two, those of v^a (u - v)^(b - a), by (a, b).
 Polynomial = dict[int, int]
@@ -66,11 +66,15 @@ def times(one: Polynomial, other: Polynomial) -> Polynomial:
     return found
 
 
+def product_of(factors: Iterable[Iterable[tuple[int, int]]]) -> Polynomial:
+    """The product of polynomials, which are given by their coefficients."""
+    return reduce(times, map(dict, factors), {0: 1})
+
+
 def times_on(one: Surface, other: Surface) -> Surface:
     found: Surface = {}
     for ((a, b), x), ((c, d), y) in product(one.items(), other.items()):
-        key = (a + c, b + d)
-        found[key] = found.get(key, 0) + x * y
+        found[a + c, b + d] = found.get((a + c, b + d), 0) + x * y
     return {key: value for key, value in found.items() if value}
 
 
@@ -117,12 +121,7 @@ def unreported(alerts: int, l: int) -> tuple[tuple[int, int], ...]:
 @lru_cache(maxsize=None)
 def stable(need: Need, l: int) -> tuple[tuple[int, int], ...]:
     """The chance that a process has all that it needs by u."""
-    surface = unreported_then_stable(need, l)
-    found: Polynomial = {}
-    for (a, b), x in surface:
-        if a == 0:
-            found[b] = found.get(b, 0) + x
-    return tuple(found.items())
+    return tuple((b, x) for (a, b), x in unreported_then_stable(need, l) if a == 0)
 
 
 @lru_cache(maxsize=None)
@@ -133,12 +132,8 @@ def unreported_then_stable(need: Need, l: int) -> tuple[tuple[tuple[int, int], i
     is a sum over its differences at 0, as that of a condition on one number is.
     """
     outer, inner = need.alerts - need.inner, need.inner
-
-    def holds(i: int, j: int, m: int, n: int) -> int:
-        return int(i + m < l <= i + j + m + n and i + j >= need.outer)
-
     table: Table = {
-        (i, j, m, n): holds(i, j, m, n)
+        (i, j, m, n): int(i + m < l <= i + j + m + n and i + j >= need.outer)
         for i in range(outer + 1)
         for j in range(outer - i + 1)
         for m in range(inner + 1)
@@ -148,10 +143,9 @@ def unreported_then_stable(need: Need, l: int) -> tuple[tuple[tuple[int, int], i
         table = folded(table, axis)
     found: Surface = {}
     for (a, c, d, e), change in table.items():
-        if change:
-            key = (a + d, a + d + c + e)
-            found[key] = found.get(key, 0) + choices(outer, a, c) * choices(inner, d, e) * change
-    return tuple(found.items())
+        key = (a + d, a + d + c + e)
+        found[key] = found.get(key, 0) + choices(outer, a, c) * choices(inner, d, e) * change
+    return tuple((key, value) for key, value in found.items() if value)
 
 
 @dataclass(frozen=True)
@@ -195,11 +189,10 @@ def below(counts: Sequence[int]) -> Iterator[tuple[int, ...]]:
 def submasks(mask: int) -> Iterator[int]:
     """The subsets of a set of singles, the whole one first."""
     part = mask
-    while True:
+    while part:
         yield part
-        if part == 0:
-            return
         part = (part - 1) & mask
+    yield 0
 
 
 class Shares:
@@ -210,22 +203,17 @@ class Shares:
         # Only what may become stable is in a proposal; the other kinds can only keep a receiver silent.
         self.open = [(kind, number) for kind, number in world.kinds if kind.alerts >= rule.h]
         self.shut = [(kind, number) for kind, number in world.kinds if kind.alerts < rule.h]
-        self.surfaces = [dict(unreported_then_stable(Need(kind.alerts, 0, rule.h), rule.l)) for kind, _ in self.open]
+        self.needs = [Need(kind.alerts, 0, rule.h) for kind, _ in self.open]
+        self.surfaces = [dict(unreported_then_stable(need, rule.l)) for need in self.needs]
         self.powers: list[dict[int, Surface]] = [{} for _ in self.open]
         self.densities: dict[tuple[tuple[int, ...], int], Polynomial] = {}
         self.sums: dict[tuple[tuple[int, ...], int, int], dict[int, list[int]]] = {}
 
     def all_stable(self, counts: Sequence[int], members: int) -> Polynomial:
         """The chance that each process of a set is stable by u."""
-        found: Polynomial = {0: 1}
-        for (kind, _), count in zip(self.open, counts):
-            one = dict(stable(Need(kind.alerts, 0, self.rule.h), self.rule.l))
-            for _ in range(count):
-                found = times(found, one)
-        for at, single in enumerate(self.world.singles):
-            if members >> at & 1:
-                found = times(found, dict(stable(single.need(self.rule.h, members), self.rule.l)))
-        return found
+        needs = [need for need, count in zip(self.needs, counts) for _ in range(count)]
+        needs += [it.need(self.rule.h, members) for at, it in enumerate(self.world.singles) if members >> at & 1]
+        return product_of(stable(need, self.rule.l) for need in needs)
 
     def later(self, counts: Sequence[int], singles: int, members: int) -> Surface:
         """The chance that none of some processes is reported at v, and each is stable at u, in a set of these members."""
@@ -248,13 +236,11 @@ class Shares:
         rows: dict[int, list[int]] = {}
         for (a, b), x in self.later(counts, singles, members).items():
             rows.setdefault(b, [0] * (b + 1))[b - a] += x * factorial(a) * factorial(b - a)
-        found = {}
+        found: dict[int, list[int]] = {b: [] for b in rows}
         for b, row in rows.items():
-            its = []
             for _ in range(most + 1):
                 row = list(accumulate(row))
-                its.append(row[-1])
-            found[b] = its
+                found[b].append(row[-1])
         self.sums[key] = found
         return found
 
@@ -279,15 +265,10 @@ class Shares:
 
     def none_reported(self, counts: Sequence[int], singles: int) -> Polynomial:
         """The chance that no process of the world is reported at v, but for those of a set."""
-        found: Polynomial = {0: 1}
         left = [(kind.alerts, number - count) for (kind, number), count in zip(self.open, counts)]
         left += [(kind.alerts, number) for kind, number in self.shut]
         left += [(it.alerts, 1) for at, it in enumerate(self.world.singles) if not singles >> at & 1]
-        for alerts, number in left:
-            one = dict(unreported(alerts, self.rule.l))
-            for _ in range(number):
-                found = times(found, one)
-        return found
+        return product_of(unreported(alerts, self.rule.l) for alerts, number in left for _ in range(number))
 
     def proposals(self) -> Iterator[Proposed]:
         """Each proposal that a receiver may make."""

@@ -3,25 +3,27 @@ import importlib
 import os
 import sys
 from pathlib import Path
+from typing import NoReturn
 
 from .paths import ROOT
 
-# The package of a folder, and the modules of commands that are not named like them.
-PACKAGES = {".": "", "bench": "bench.", "campaigns": "campaigns.", "docs": "documents.", "tests": "testing."}
-MODULES = {"docs/try": "documents.pages", "bench/run": "bench.costs"}
+# The packages of folders that have another name, and the modules of commands that have.
+PACKAGES = {"docs": "documents", "tests": "testing"}
+MODULES = {"docs/try": "tools.documents.pages", "bench/run": "tools.bench.costs", "tools/study": "study.cli"}
 
 
 def module_of(command: str) -> str:
-    """The module of a command's path, as docs/words or docs/schema/make, within this package."""
-    path = Path(command.removesuffix("/make"))
-    return MODULES.get(str(path)) or PACKAGES[str(path.parent)] + path.name
+    """The module of a command's path, as docs/words or docs/schema/make."""
+    *folder, name = command.removesuffix("/make").split("/")
+    parts = ["tools", *(PACKAGES.get(it, it) for it in folder), name]
+    return "cutlab_" + (MODULES.get(command) or ".".join(parts))
 
 
-def main() -> int:
+def main() -> NoReturn:
     """Runs the command by whose path this was started: its `main`, or what its package has for modules without one."""
     called = Path(sys.argv[0])
     command = str(Path(os.path.realpath(called.parent), called.name).relative_to(ROOT))
-    module = importlib.import_module(f"{__package__}.{module_of(command)}")
+    module = importlib.import_module(module_of(command))
     if hasattr(module, "main"):
-        return int(module.main())
-    return int(importlib.import_module(module.__package__ or "").run(command, module))
+        sys.exit(module.main())
+    sys.exit(importlib.import_module(module.__package__ or "").run(command, module))
