@@ -1,5 +1,5 @@
 """The commands of this repository that are written in Python. Each is a link to tools/run, and its path names its module."""
-import importlib
+import importlib.util
 import os
 import sys
 from pathlib import Path
@@ -20,10 +20,11 @@ def module_of(command: str) -> str:
 
 
 def main() -> NoReturn:
-    """Runs the command by whose path this was started: its `main`, or what its package has for modules without one."""
+    """Runs the command by whose path this was started: its module's `main`, or what its package has for the others."""
     called = Path(sys.argv[0])
     command = str(Path(os.path.realpath(called.parent), called.name).relative_to(ROOT))
-    module = importlib.import_module(module_of(command))
+    path = module_of(command)
+    module = importlib.import_module(path) if importlib.util.find_spec(path) else None
     if hasattr(module, "main"):
         sys.exit(module.main())
-    sys.exit(importlib.import_module(module.__package__ or "").run(command, module))
+    sys.exit(importlib.import_module(path.rpartition(".")[0]).run(command, module))

@@ -5,14 +5,15 @@ differs is kept in tests/data/regressions, and tried by ./check before all other
 """
 import argparse
 import importlib
+import inspect
 import json
 import random
+import re
 import subprocess
 import sys
 import tempfile
 import time
 from pathlib import Path
-from types import ModuleType
 from typing import Any, ClassVar, Iterator
 
 from ..arguments import parser
@@ -37,8 +38,8 @@ class Campaign:
     options: ClassVar[dict[str, dict[str, Any]]] = {}
 
     def __init_subclass__(cls) -> None:
-        """Names a campaign by its module."""
-        cls.name = cls.__module__.rpartition(".")[2].replace("_", " ")
+        """Names a campaign by its class."""
+        cls.name = re.sub(r"(?<=[a-z])(?=[A-Z])", " ", cls.__name__).lower()
 
     def __init__(self, path: Path, values: dict[str, Any]) -> None:
         self.path, self.values = path.absolute(), values
@@ -81,12 +82,11 @@ class Campaign:
         return table
 
 
-def campaign_of(module: ModuleType | str) -> type[Campaign]:
-    """The campaign of a module, or of a name."""
-    if isinstance(module, str):
-        module = importlib.import_module(f"cutlab_tools.campaigns.{module.replace(' ', '_')}")
-    kinds = [it for it in vars(module).values() if isinstance(it, type) and issubclass(it, Campaign)]
-    return next(it for it in kinds if it.__module__ == module.__name__)
+def campaign_of(name: str) -> type[Campaign]:
+    """The campaign of a name."""
+    for module in ("drawn", "exact", "files", "laws", "servers"):
+        importlib.import_module(f"{__package__}.{module}")
+    return next(it for it in Campaign.__subclasses__() if it.name == name.replace("_", " "))
 
 
 def keep(campaign: Campaign, seed: str, number: int, difference: str) -> str:
@@ -120,9 +120,10 @@ def described(campaign: Campaign, given: argparse.Namespace, number: int, differ
     return "\n".join([head, difference, f"again: {again}", *kept])
 
 
-def run(_: str, module: ModuleType) -> int:
+def run(command: str, _: None = None) -> int:
     """The command of a campaign: tries cases until `count` are tried or `minutes` have passed, or one differs."""
-    kind, words, tried = campaign_of(module), parser(module.__doc__, "--program"), 0
+    kind, tried = campaign_of(Path(command).name), 0
+    words = parser(inspect.getdoc(kind), "--program")
     words.add_argument("--seed", default="1", help="what the cases are drawn from")
     words.add_argument("--from", dest="first", type=int, default=0, help="the number of the first case")
     words.add_argument("--count", type=int, default=100, help="how many cases are tried")
