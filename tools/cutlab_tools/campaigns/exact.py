@@ -15,7 +15,7 @@ from fractions import Fraction
 from typing import Any
 
 from cutlab_study import exact
-from cutlab_study.shares import Rule, World
+from cutlab_study.shares import Rule
 from cutlab_study.tables import Line, table_of
 
 from ..paths import reference

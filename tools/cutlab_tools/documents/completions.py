@@ -2,58 +2,18 @@
 --check it writes nothing, prints which of the three differs, and ends with 1 where one does.
 """
 import re
+from string import Template
 from typing import Iterator
 
 from ..options import Argument, Command, commands
 from ..repository import Repository
 
-MADE = "Made by docs/completions/make."
+FOLDER, MADE = "docs/completions", "Made by docs/completions/make."
 HELP = Command("help", "Print the help of a command", [], [])
-BASH = """\
-# Completions of cutlab for bash: source this file, or put it where bash-completion looks. {made}
-
-_cutlab() {{
-  local current=${{COMP_WORDS[COMP_CWORD]}} before=${{COMP_WORDS[COMP_CWORD-1]}}
-  local command=${{COMP_WORDS[1]}}
-  if [ "$COMP_CWORD" -eq 1 ]; then
-    mapfile -t COMPREPLY < <(compgen -W "{names} help --help --version" -- "$current")
-    return
-  fi
-  case $before in
-{values}
-  esac
-  case $command in
-{commands}
-    help) mapfile -t COMPREPLY < <(compgen -W "{names}" -- "$current") ;;
-  esac
-}}
-
-complete -o filenames -F _cutlab cutlab"""
-ZSH = """\
-#compdef cutlab
-# Completions of cutlab for zsh: put this file, as _cutlab, where $fpath looks. {made}
-
-_cutlab() {{
-  local state line
-  local -a commands=(
-{names}
-  )
-  _arguments -C '--help[Print help]' '--version[Print version]' '1: :->command' '*:: :->rest'
-  if [[ $state == command ]]; then
-    _describe command commands
-    return
-  fi
-  case $line[1] in
-{commands}
-    help) _describe command commands ;;
-  esac
-}}
-
-_cutlab "$@\""""
 
 
-def bash(listed: list[Command]) -> str:
-    """The completions for bash."""
+def bash(listed: list[Command]) -> dict[str, str]:
+    """What its template takes for bash."""
     valued = {it.name: it for command in listed for it in command.options if it.value}
     files, folders = ([it.name for it in valued.values() if getattr(it, kind)] for kind in ("is_file", "is_folder"))
     reply = 'mapfile -t COMPREPLY < <(compgen {} -- "$current")'.format
@@ -66,7 +26,7 @@ def bash(listed: list[Command]) -> str:
         action = reply(f'{"-f " if command.takes_files else ""}-W "{words}"')
         lines.append(f"    {command.name}) {action} ;;")
     names = " ".join(it.name for it in listed)
-    return BASH.format(made=MADE, names=names, values="\n".join(values), commands="\n".join(lines))
+    return {"names": names, "values": "\n".join(values), "commands": "\n".join(lines)}
 
 
 def zsh_text(text: str) -> str:
@@ -83,12 +43,12 @@ def zsh_spec(it: Argument) -> str:
     return f"'--{it.name}[{words}]{f':{value}:{action}' if value else ''}'"
 
 
-def zsh(listed: list[Command]) -> str:
-    """The completions for zsh."""
+def zsh(listed: list[Command]) -> dict[str, str]:
+    """What its template takes for zsh."""
     names = "\n".join(f"    '{it.name}:{zsh_text(it.about)}'" for it in [*listed, HELP])
     specs = {it.name: [*map(zsh_spec, it.arguments), "'--help[Print help]'"] for it in listed}
     lines = [" \\\n        ".join([f"    {name})\n      _arguments", *its]) for name, its in specs.items()]
-    return ZSH.format(made=MADE, names=names, commands="\n".join(f"{it} ;;" for it in lines))
+    return {"names": names, "commands": "\n".join(f"{it} ;;" for it in lines)}
 
 
 def fish_text(text: str) -> str:
@@ -112,9 +72,11 @@ def fish(listed: list[Command]) -> Iterator[str]:
 
 def made(repository: Repository) -> dict[str, str]:
     """The completions by the files that they stand in."""
-    listed = commands(repository)
-    shells = {"cutlab.bash": bash(listed), "_cutlab": zsh(listed), "cutlab.fish": "\n".join(fish(listed))}
-    return {f"docs/completions/{name}": f"{text}\n" for name, text in shells.items()}
+    listed, found = commands(repository), dict[str, str]()
+    for name, shell, words in (("cutlab.bash", "bash", bash(listed)), ("_cutlab", "zsh", zsh(listed))):
+        template = Template(repository.read(f"{FOLDER}/{shell}.template"))
+        found[f"{FOLDER}/{name}"] = template.substitute(words, made=MADE)
+    return found | {f"{FOLDER}/cutlab.fish": "".join(f"{line}\n" for line in fish(listed))}
 
 
 def summary(repository: Repository) -> str:

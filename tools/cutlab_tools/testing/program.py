@@ -1,5 +1,6 @@
 """tests/program [PROGRAM] [-k NAME]: what a built program does with its words, its files and its streams. Each difference
 is printed; the last line says how many there are."""
+import contextlib
 import hashlib
 import json
 import os
@@ -10,8 +11,7 @@ import signal
 import subprocess
 import time
 from functools import partial
-from pathlib import Path
-from typing import Any
+from typing import Any, Sequence
 
 from ..paths import DATA, ROOT, reference
 from ..plans import SMALLEST, Plan, upgrade
@@ -60,12 +60,26 @@ class ProgramCases(Cases):
         """Compares how a command ends; words alone are its whole output."""
         self.expect_run(Ended(wanted) if isinstance(wanted, str) else wanted, *line.split(), text=text)
 
+    def says(self, wanted: Ended, found: Ended, what: str) -> None:
+        """Compares how a command ended that has to print this among other things, and nothing where it is empty."""
+        is_said = [bool(found[at]) == bool(wanted[at]) and wanted[at] in found[at] for at in (0, 1)]
+        self.expect(what, (wanted.status, [True, True]), (found.status, is_said))
+
     def names(self) -> list[str]:
         return sorted(it.name for it in self.folder.iterdir())
 
     def served(self, *words: Word, sessions: int = 1) -> Child[bytes]:
         """A server of two workers and two slots at the socket of the folder."""
         return self.program.serve(self.file("socket"), *words, workers=2, sessions=sessions, studies=2)
+
+    def asked_until(self, status: int, passing: Sequence[str] = ()) -> Ended:
+        """How a client ends, once one ends with this status and by none of the faults that pass."""
+        for _ in range(1000):
+            found = self.program.run("ask", "socket", text=PLAN)
+            if found.status == status and found.errors not in map(line_of, passing):
+                break
+            time.sleep(0.01)
+        return found
 
 
 class Studies(ProgramCases):
@@ -99,8 +113,8 @@ class Studies(ProgramCases):
             self.ends("check", f"cells 1\ntrials 2\nquorum {quorum}\n", plan_with(nodes=nodes))
 
     def test_answers(self) -> None:
-        self.ends("run", TABLE)
-        self.ends("run --workers 3", TABLE)
+        for line in ("run", "run --workers 3"):
+            self.ends(line, TABLE)
         self.ends("check", "cells 1\ntrials 2\nquorum 4\n")
         self.ends("canonical", f"{PLAN.decode()}\n")
 
@@ -146,8 +160,8 @@ class Checkpoints(ProgramCases):
             self.ends("run --piece 1 --checkpoint study.cut", TABLE)
             self.expect("the length of a checkpoint of two slips", HEAD + 2 * SLIP + 1, self.size("study.cut"))
         self.ends("status study.cut", f"trials 2 of 2\ncells 1 of 1\nslips 2\n{PLAN.decode()}\n", b"")
-        self.ends("status folder", refused("20 Disk"), b"")
-        self.ends("status none.cut", refused("20 Disk"), b"")
+        for path in ("folder", "none.cut"):
+            self.ends(f"status {path}", refused("20 Disk"), b"")
 
     def test_resumed(self) -> None:
         """Studies that go on from files with more slips than a word has bits, and from a slip that could be true and is
@@ -175,7 +189,7 @@ class Checkpoints(ProgramCases):
         self.expect("the lengths of both", (477, 485), (self.size("old.cut"), self.size("new.cut")))
 
     def test_foreign_files(self) -> None:
-        """Files that hold something else than a study stay as they are; one that an interrupted creation left is taken."""
+        """Files that hold something else than a study stay as they are; what an interrupted creation left is taken."""
         self.ends("run --checkpoint study.cut", TABLE)
         kinds = {"notes": b"my notes\n", "plan.json": PLAN, "zip": b"PK\3\4" + bytes(300), "gate": b"\xa5"}
         commands = "run --checkpoint {0}", "share 1/1 {0}", "join {0} study.cut", "migrate study.cut {0}"
@@ -196,9 +210,7 @@ class Checkpoints(ProgramCases):
         connect(self.file("socket")).close()
         end_of(server)
         server = self.served("--dir", kept)
-        while not self.file("socket").exists():
-            time.sleep(0.01)
-        self.ends("ask socket", refused("30 Checkpoint"))
+        self.expect("a client of that server", refused("30 Checkpoint"), self.asked_until(4, ["43 Read"]))
         self.expect("that server", Ended("accepted 0\n"), end_of(server))
         self.expect("the file of that server", b"my notes\n", (kept / NAME).read_bytes())
 
@@ -206,14 +218,10 @@ class Checkpoints(ProgramCases):
         """What is no regular file is looked at before it is opened, so that nobody waits for who writes to it."""
         self.ends("run --checkpoint study.cut", TABLE)
         os.mkfifo(self.file("pipe"))
-        lines = "status pipe|run --checkpoint pipe|share 1/1 pipe|join new.cut pipe|join new.cut study.cut pipe"
-        lines += "|join pipe study.cut|migrate pipe other.cut|migrate study.cut pipe|status /dev/null"
-        for line in lines.split("|"):
-            found: Ended | str = "it waits"
-            try:
+        for line in TABLES["blocking"]:
+            found = Ended("", "it waits")
+            with contextlib.suppress(subprocess.TimeoutExpired):
                 found = self.program.run(*line.split(), text=PLAN, limit=10)
-            except subprocess.TimeoutExpired:
-                pass
             self.expect(line, refused("20 Disk"), found)
 
 
@@ -277,9 +285,8 @@ class Machines(ProgramCases):
         output, errors, status = self.program.run(*row.split(), "--progress", text=plan)
         lines = re.findall("(?m)^cutlab: ([0-9]+) of ([0-9]+) trials, [0-9]+ s(?:, about [0-9]+ s left)?$", errors)
         self.expect("a resumed share", (0, "share 1 of 2: 4 of 4\n"), (status, output))
-        self.expect(
-            "its lines of progress", (errors.count("\n"), ("4", "4")), (len(lines), lines[-1] if lines else None)
-        )
+        found = len(lines), lines[-1:]
+        self.expect("its lines of progress", (errors.count("\n"), [("4", "4")]), found)
         self.expect("a number in them", [], [line for line in lines if line not in (("2", "4"), ("4", "4"))])
         self.expect("the length of a resumed share", len(whole), self.size("share.cut"))
 
@@ -297,15 +304,9 @@ class Lines(ProgramCases):
     """Words of the command line, and standard streams."""
 
     def test_words(self) -> None:
-        output, errors, status = self.program.run("run", "--help")
-        self.expect("run --help", (0, True, ""), (status, "Example: cutlab run" in output, errors))
-        about = "  Keep the study in this file, and go on from what it holds\n"
-        self.expect("what run --help says of --checkpoint", True, about in output)
-        output, errors, status = self.program.run("share", "--help")
-        about = "\nAll shares of a study take one and the same --piece.\n"
-        self.expect("share --help", (0, True, ""), (status, about in output, errors))
-        output, errors, status = self.program.run("frob")
-        self.expect("frob", (2, "", True), (status, output, "unrecognized subcommand 'frob'" in errors))
+        for line, text in TABLES["helps"]:
+            self.says(Ended(text), self.program.run(*line.split()), line)
+        self.says(Ended("", "unrecognized subcommand 'frob'", 2), self.program.run("frob"), "frob")
         for row, text, usage in TABLES["mistakes"]:
             output, errors, status = self.program.run(*row.split(), text=PLAN)
             shown = errors[errors.find("Usage: ") :].split("\n")[0]
@@ -343,15 +344,6 @@ class Lines(ProgramCases):
 
 class Servers(ProgramCases):
     """Servers and their clients."""
-
-    def asked_until(self, status: int) -> Ended:
-        """How a client ends, once one ends with this status."""
-        for _ in range(1000):
-            found = self.program.run("ask", "socket", text=PLAN)
-            if found.status == status:
-                break
-            time.sleep(0.01)
-        return found
 
     def test_servers(self) -> None:
         """A study that a server keeps is there for the next one."""
@@ -397,10 +389,8 @@ class Servers(ProgramCases):
 
     def test_bad_servers(self) -> None:
         self.file("plain").touch()
-        many = "--workers 2 --sessions 1 --studies 2"
-        self.ends(f"serve none/socket {many}", refused("43 Read"), b"")
-        self.ends(f"serve socket {many} --dir plain", refused("20 Disk"), b"")
-        self.ends(f"serve socket {many} --dir none", refused("20 Disk"), b"")
+        for words, fault in (("none/socket", "43 Read"), ("socket --dir plain", "20 Disk"), ("socket --dir none", "20 Disk")):
+            self.ends(f"serve {words} --workers 2 --sessions 1 --studies 2", refused(fault), b"")
         self.expect("the files that they leave", ["plain"], self.names())
 
 
@@ -416,38 +406,31 @@ class Scripts(ProgramCases):
         self.environment = {**os.environ, "PATH": f"{self.folder}/bin:{os.environ['PATH']}"}
         self.file("a plan.json").write_bytes(PLAN)
 
-    def script(self, name: str, *words: str, **more: str) -> Ended:
-        environment = {**self.environment, **more}
-        return Program(ROOT / "examples" / name, self.folder).run(*words, env=environment)
-
-    def share_by(self, *words: str, **more: str) -> Ended:
-        return self.script("many_machines.sh", "a plan.json", "2", *words, PIECE="1", **more)
+    def script(self, what: str, wanted: Ended, *words: str, **more: str) -> None:
+        """Runs many_machines.sh, and compares how it ends; of its errors some part."""
+        found = Program(ROOT / "examples/many_machines.sh", self.folder).run(*words, env={**self.environment, **more})
+        self.expect(f"many_machines.sh {what}", wanted, found._replace(errors=wanted.errors))
+        self.expect(f"what many_machines.sh {what} reports", True, wanted.errors in found.errors)
 
     def test_many_machines(self) -> None:
-        many = "many_machines.sh"
-        output, errors, status = self.script(many)
-        is_usage = errors.startswith("usage: many_machines.sh PLAN SHARES")
-        self.expect(f"{many} without words", (2, "", True), (status, output, is_usage))
+        self.script("without words", Ended("", "usage: many_machines.sh PLAN SHARES", 2))
         if not shutil.which("parallel"):
             print("program: GNU parallel is not installed, so many_machines.sh was not tried")
             return
-        output, errors, status = self.share_by()
-        is_joined = "joined 2 into 1, 2 of 2\n" in errors
-        self.expect(f"{many} over a plan with a blank", (0, TABLE, True), (status, output, is_joined))
+        share = partial(self.script, PIECE="1")
+        words = ("a plan.json", "2")
+        share("over a plan with a blank", Ended(TABLE, "joined 2 into 1, 2 of 2\n"), *words)
         for name in ("share1.cut", "share2.cut", "study.cut"):
             self.file(name).unlink()
         self.ends("share 2/2 share2.cut", "share 2 of 2: 0 of 0\n", UPGRADE)
-        output, errors, status = self.share_by()
-        is_other = "share2.cut:\tcutlab: fault 23 OtherPlan\n" in errors
-        self.expect(f"{many} with a file of another plan", (1, "", True), (status, output, is_other))
+        share("with a file of another plan", Ended("", "share2.cut:\tcutlab: fault 23 OtherPlan\n", 1), *words)
         self.file("share2.cut").unlink()
         self.file("bin/ssh").write_text("#!/bin/sh\necho no way there >&2\nexit 255\n")
         self.file("bin/ssh").chmod(0o755)
-        output, errors, status = self.share_by("--sshlogin", "elsewhere")
-        found = status, output, "2 of 2 shares did not end" in errors, self.file("study.cut").exists()
-        self.expect(f"{many} whose ssh fails", (1, "", True, False), found)
-        output, _, status = self.share_by("--sshlogin", "elsewhere", REST="here")
-        self.expect(f"{many} whose ssh fails, with REST=here", (0, TABLE), (status, output))
+        remote = (*words, "--sshlogin", "elsewhere")
+        share("whose ssh fails", Ended("", "2 of 2 shares did not end", 1), *remote)
+        self.expect("whether it joins them", False, self.file("study.cut").exists())
+        share("whose ssh fails, with REST=here", Ended(TABLE), *remote, REST="here")
 
     def test_serve_on(self) -> None:
         pipe, path = subprocess.PIPE, self.file("a server/cutlab.sock")
