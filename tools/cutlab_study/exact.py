@@ -11,7 +11,7 @@ from itertools import product
 from typing import Iterator, Sequence
 
 from .plans import Cell, Plan, cells, quorum, reference
-from .shares import Kind, Proposed, Rule, Shares, Single, World
+from .shares import Kind, Proposed, Rule, Shares, World
 from .tables import Table, check_fits
 
 # How many products of coefficients are added up for one receiver, at most, which takes minutes; and for one pair of sets, at least.
@@ -47,16 +47,16 @@ def tail(count: int, share: Fraction, least: int) -> float:
 
 def pairs_of(world: World, rule: Rule) -> int:
     """How many pairs of a set and a part of it are added up for a world."""
-    numbers = [number for kind, number in world.kinds if kind.alerts >= rule.h]
-    parts: int = math.prod((number + 1) * (number + 2) // 2 for number in numbers)
-    return parts * int(3 ** len(world.singles))
+    common = world.kinds[: len(world.kinds) - world.singles]
+    numbers = [number for kind, number in common if kind.alerts >= rule.h]
+    return int(3**world.singles * math.prod((number + 1) * (number + 2) // 2 for number in numbers))
 
 
 def steps_of(world: World, rule: Rule) -> int:
     """About how many products of coefficients are added up for a world: for each pair of sets, of polynomials whose size goes with
     the alerts of the processes that observe one another."""
-    alerts = sum(it.alerts for it in world.singles)
-    return pairs_of(world, rule) * max(LEAST_STEPS, (alerts * alerts // (2 * max(1, len(world.singles)))) ** 2)
+    alerts = sum(it.alerts for it, _ in world.kinds[len(world.kinds) - world.singles :])
+    return pairs_of(world, rule) * max(LEAST_STEPS, (alerts * alerts // (2 * max(1, world.singles))) ** 2)
 
 
 @lru_cache(maxsize=4096)
@@ -66,16 +66,13 @@ def proposals_of(world: World, rule: Rule) -> tuple[Proposed, ...]:
 
 def columns_of(world: World, rule: Rule, receivers: int, least: int) -> Columns:
     """The columns of a world, for as many receivers and a quorum."""
-    kinds = [kind for kind, _ in world.kinds if kind.alerts >= rule.h]
-    targets = sum(number for kind, number in world.kinds if kind.is_target) + sum(it.is_target for it in world.singles)
+    targets = sum(number for kind, number in world.kinds if kind.is_target)
     spoken = conflicts = extra = Fraction(0)
     decided = right = 0.0
     for it in proposals_of(world, rule):
         share = it.ways * it.share
-        members = [single for at, single in enumerate(world.singles) if it.members >> at & 1]
-        failed = sum(count for kind, count in zip(kinds, it.counts) if kind.is_target)
-        failed += sum(single.is_target for single in members)
-        lacks, adds = failed < targets, failed < sum(it.counts) + len(members)
+        failed = sum(count for (kind, _), count in zip(world.kinds, it.counts) if kind.is_target)
+        lacks, adds = failed < targets, failed < sum(it.counts)
         spoken += share
         conflicts += share if lacks else 0
         extra += share if adds else 0
@@ -97,14 +94,16 @@ def world_of(plan: Plan, layout: reference.Layout, roles: reference.Roles, cell:
             observed[subject].append((ring, observer))
     observing = {observer for its in observed.values() for _, observer in its}
     single = sorted(subject for subject in reported if observed[subject] or subject in observing)
-    place, alerted, singles = {subject: at for at, subject in enumerate(single)}, set(edges), list[Single]()
+    common = ((subject, count) for subject, count in alerts.items() if subject not in single)
+    numbers = Counter(Kind(count, subject in roles.targets) for subject, count in common)
+    # A failed process of which no alert comes is in no proposal, so that each one lacks it.
+    numbers.update(Kind(0, True) for subject in roles.targets if subject not in alerts)
+    kinds, alerted = sorted(numbers.items()), set(edges)
+    place = {subject: at for at, subject in enumerate(single, len(kinds))}
     for subject in single:
         its = tuple((place[observer], (ring, subject) in alerted) for ring, observer in observed[subject])
-        singles.append(Single(alerts[subject], subject in roles.targets, its))
-    kinds = Counter(Kind(count, subject in roles.targets) for subject, count in alerts.items() if subject not in place)
-    # A failed process of which no alert comes is in no proposal, so that each one lacks it.
-    kinds.update(Kind(0, True) for subject in roles.targets if subject not in alerts)
-    return World(tuple(sorted(kinds.items())), tuple(singles))
+        kinds.append((Kind(alerts[subject], subject in roles.targets, its), 1))
+    return World(tuple(kinds), len(single))
 
 
 def needs_no_roles(plan: Plan) -> bool:
@@ -152,7 +151,7 @@ def exact(plan: Plan, trials: int | None = None) -> Iterator[CellColumns]:
             worlds = worlds_of(plan, layout, number, min(plan["repeats"], trials or plan["repeats"]))
         steps, count = max(steps_of(it, rule) for it in worlds), 0 if free else len(worlds)
         if steps > MOST_STEPS:
-            why = f"as {max(len(it.singles) for it in worlds)} processes observe one another"
+            why = f"as {max(it.singles for it in worlds)} processes observe one another"
             yield CellColumns(cell, None, count, f"about {steps:.0e} products would be added up, {why}")
         else:
             yield CellColumns(cell, mean([columns_of(it, rule, nodes - f, least) for it in worlds]), count)
