@@ -107,6 +107,6 @@ def choose(table: Table, limits: Limits, order: str, best: int) -> tuple[set[Pai
     if not chosen:
         nearest = min(found, key=limits.distance)
         near, *price = said_of(nearest)
-        lacks = "; ".join(limits.lacks(nearest))
-        raise Refused("\n".join([f"no pair keeps to the limits. The nearest is {near}", f"  it lacks: {lacks}", *price]))
+        lacks = f"  it lacks: {'; '.join(limits.lacks(nearest))}"
+        raise Refused("\n".join([f"no pair keeps to the limits. The nearest is {near}", lacks, *price]))
     return {it.pair for it in chosen}, [line for it in chosen for line in said_of(it)]

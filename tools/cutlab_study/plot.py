@@ -23,19 +23,20 @@ COLOURS = ("#000000", "#c03000", "#2060c0", "#808080", "#208020", "#8020a0", "#b
 # A logarithmic scale of percents, at whose foot stands what is none, from a mark on; and a linear one.
 LOGARITHMIC = 'set logscale y\nset yrange [{}:100]\nset ytics ("none" {}, {}, "1" 1, "10" 10, "100" 100)'
 LINEAR = "set yrange [-3:103]\nset ytics 20"
-# The points of a line, or of several by their titles: at a place, a share in percent.
-Points = list[tuple[object, float]]
+# The points of a line: at a place, a share in percent; and the sums of which shares are drawn.
+Points = list[tuple[int, float]]
+SUMS = ("receivers", "silent", "conflicts")
 
 
 def logarithmic(low: str, foot: str, *marks: str) -> str:
     return LOGARITHMIC.format(low, foot, ", ".join(f'"{it}" {it}' for it in marks))
 
 
-def points(shares: Iterable[tuple[object, int, int, int]], part: str, foot: float) -> Points:
-    """The points of a line: conflicts of those that proposed, not below the foot of a scale, or silent ones of all. They are
-    given as places with the receivers, the silent ones and the conflicts."""
+def points(places: Iterable[tuple[int, list[int]]], part: str, foot: float) -> Points:
+    """The points of a line: of places with their sums conflicts of those that proposed, not below the foot of a scale, or
+    silent ones of all."""
     found: Points = []
-    for at, receivers, silent, conflicts in shares:
+    for at, (receivers, silent, conflicts) in places:
         if part == "silent":
             found.append((at, 100 * silent / receivers))
         elif receivers > silent:
@@ -64,11 +65,8 @@ def panel(table: Table, k: int, part: str) -> list[str]:
         for it in table.lines:
             if (it.k, it.f) == (k, f):
                 groups.setdefault(it.h - it.l if part == "conflicts" else it.l, []).append(it)
-        sums = (
-            (at, *(sum(getattr(it, name) for it in its) for name in ("receivers", "silent", "conflicts")))
-            for at, its in sorted(groups.items())
-        )
-        lines[f"F = {f}"] = points(((at, a, b, c) for at, a, b, c in sums), part, 1e-3)
+        sums = [(at, [sum(getattr(it, name) for it in its) for name in SUMS]) for at, its in sorted(groups.items())]
+        lines[f"F = {f}"] = points(sums, part, 1e-3)
     if part == "conflicts":
         scale, what = logarithmic("0.001", "0.001", "0.01", "0.1"), "Conflicts, % of those that proposed, by H - L"
     else:
@@ -143,8 +141,8 @@ def plot_along(name: str, text: bytes, picture: str, view: View) -> None:
     lines: dict[str, Points] = {}
     for value in values:
         its = [row for row in rows if row[view.each] == value]
-        counted = [(ticks.index(it[view.along]), *map(int, (it["receivers"], it["silent"], it["conflicts"]))) for it in its]
-        lines[f"{view.each} = {value}"] = points(((at, a, b, c) for at, a, b, c in counted), view.part, 1e-4)
+        sums = [(ticks.index(it[view.along]), [int(it[name]) for name in SUMS]) for it in its]
+        lines[f"{view.each} = {value}"] = points(sums, view.part, 1e-4)
     marks = ", ".join(f'"{it}" {at}' for at, it in enumerate(ticks))
     if view.part == "conflicts":
         scale, what = logarithmic("0.00005", "0.0001", "0.001", "0.01", "0.1"), "conflicts, % of those that proposed"
@@ -171,7 +169,8 @@ def plot_rare(plan: Plan, table: Table, picture: str) -> None:
     blocks, plots = [], []
     for number, ((k, h, l), colour) in enumerate(zip(pairs, COLOURS)):
         exact = [(f, float(columns_of(World(((Kind(k, True), f),)), Rule(h, l), 1, 1).conflicts)) for f in failures]
-        counted = [(it.f, it.share("conflict")) for it in table.lines if (it.k, it.h, it.l) == (k, h, l) and it.conflicts]
+        lines = [it for it in table.lines if (it.k, it.h, it.l) == (k, h, l) and it.conflicts]
+        counted = [(it.f, it.share("conflict")) for it in lines]
         rows = "\n".join(f"{f} {share}" for f, share in exact if share)
         marks = "\n".join(f"{f} {it.share} {it.low} {it.high}" for f, it in counted) or "1 NaN NaN NaN"
         blocks += [f"$exact{number} << EOD\n{rows}\nEOD", f"$counted{number} << EOD\n{marks}\nEOD"]

@@ -112,8 +112,9 @@ class Exact(Campaign):
         layout, distances = reference.layout_of(plan), list[float]()
         for number, line in enumerate(table_of("table", self.table_of(text_of(plan)).encode()).lines):
             columns = trial_columns(plan, layout, number, line)
-            found = {name: self.check_column(plan, line, name, [getattr(it, name) for it in columns]) for name in COLUMNS}
-            distances += [] if found["conflicts"] is None else [found["conflicts"]]
+            for name in COLUMNS:
+                distance = self.check_column(plan, line, name, [getattr(it, name) for it in columns])
+                distances += [distance] if name == "conflicts" and distance is not None else []
         total = sum(it * it for it in distances)
         is_likely = not distances or exact.chance_of_more(total, len(distances)) >= RARE
         what = f"the squares of {len(distances)} distances add up to {total:.1f}"

@@ -59,7 +59,8 @@ def fish(listed: list[Command]) -> Iterator[str]:
     """The lines of the completions for fish."""
     first = "complete -c cutlab -n __fish_use_subcommand"
     yield f"# Completions of cutlab for fish: put this file where fish looks for completions. {MADE}"
-    yield from ("", "complete -c cutlab -f", f"{first} -l help -d 'Print help'", f"{first} -l version -d 'Print version'")
+    yield from ("", "complete -c cutlab -f")
+    yield from (f"{first} -l {name} -d 'Print {name}'" for name in ("help", "version"))
     yield from (f"{first} -a {it.name} -d {fish_text(it.about)}" for it in [*listed, HELP])
     for command in listed:
         when = f"complete -c cutlab -n '__fish_seen_subcommand_from {command.name}'"

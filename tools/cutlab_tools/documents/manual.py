@@ -51,7 +51,8 @@ def made(repository: Repository) -> dict[str, str]:
     if not listed or "NAME" in included:
         raise NotMade("the help lists no commands, or the include has what is made")
     found = {"NAME": f"cutlab \\- {roff(about[:1].lower() + about[1:])}"}
-    found["SYNOPSIS"] = "\n.br\n".join(f".B cutlab {it.name}\n{roff(usage(it))[len(it.name):].strip()}" for it in listed)
+    calls = [usage(it).partition(" ") for it in listed]
+    found["SYNOPSIS"] = "\n.br\n".join(f".B cutlab {name}\n{roff(words)}" for name, _, words in calls)
     found["COMMANDS"] = "\n".join(line for it in listed for line in command_lines(it))
     order = [*MADE, *(name for name in included if name not in MADE)]
     parts = {name: "\n".join(it[name] for it in (included, found) if name in it) for name in order}

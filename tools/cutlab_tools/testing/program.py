@@ -389,7 +389,8 @@ class Servers(ProgramCases):
 
     def test_bad_servers(self) -> None:
         self.file("plain").touch()
-        for words, fault in (("none/socket", "43 Read"), ("socket --dir plain", "20 Disk"), ("socket --dir none", "20 Disk")):
+        faults = {"none/socket": "43 Read", "socket --dir plain": "20 Disk", "socket --dir none": "20 Disk"}
+        for words, fault in faults.items():
             self.ends(f"serve {words} --workers 2 --sessions 1 --studies 2", refused(fault), b"")
         self.expect("the files that they leave", ["plain"], self.names())
 
