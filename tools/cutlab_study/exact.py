@@ -45,18 +45,13 @@ def tail(count: int, share: Fraction, least: int) -> float:
     return max(0.0, 1.0 - math.fsum(chance(number) for number in range(least)))
 
 
-def pairs_of(world: World, rule: Rule) -> int:
-    """How many pairs of a set and a part of it are added up for a world."""
-    common = world.kinds[: len(world.kinds) - world.singles]
-    numbers = [number for kind, number in common if kind.alerts >= rule.h]
-    return int(3**world.singles * math.prod((number + 1) * (number + 2) // 2 for number in numbers))
-
-
 def steps_of(world: World, rule: Rule) -> int:
-    """About how many products of coefficients are added up for a world: for each pair of sets, of polynomials whose size goes with
-    the alerts of the processes that observe one another."""
-    alerts = sum(it.alerts for it, _ in world.kinds[len(world.kinds) - world.singles :])
-    return pairs_of(world, rule) * max(LEAST_STEPS, (alerts * alerts // (2 * max(1, world.singles))) ** 2)
+    """About how many products of coefficients are added up for a world: for each pair of a set and a part of it, of polynomials
+    whose size goes with the alerts of the processes that observe one another."""
+    common, singles = world.kinds[: len(world.kinds) - world.singles], world.kinds[len(world.kinds) - world.singles :]
+    numbers, alerts = [number for kind, number in common if kind.alerts >= rule.h], sum(it.alerts for it, _ in singles)
+    pairs = 3**world.singles * math.prod((number + 1) * (number + 2) // 2 for number in numbers)
+    return int(pairs * max(LEAST_STEPS, (alerts * alerts // (2 * max(1, world.singles))) ** 2))
 
 
 @lru_cache(maxsize=4096)

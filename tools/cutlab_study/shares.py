@@ -65,7 +65,7 @@ def times(one: Polynomial, other: Polynomial) -> Polynomial:
 
 def product_of(factors: Iterable[Iterable[tuple[int, int]]]) -> Polynomial:
     """The product of polynomials, which are given by their coefficients."""
-    return reduce(times, map(dict, factors), {0: 1})
+    return reduce(times, (dict(it) for it in factors), {0: 1})
 
 
 def times_on(one: Surface, other: Surface) -> Surface:

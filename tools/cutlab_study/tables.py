@@ -95,13 +95,6 @@ class Table:
     name: str
     lines: tuple[Line, ...]
 
-    def line(self, cell: Cell) -> Line | None:
-        return next((it for it in self.lines if it.cell == cell), None)
-
-    @property
-    def has_settled(self) -> bool:
-        return bool(self.lines) and self.lines[0].settled is not None
-
 
 def line_of(name: str, number: int, row: dict[str, str | None]) -> Line:
     try:
@@ -138,8 +131,8 @@ def check_fits(plan: Plan, table: Table) -> None:
             raise Refused(f"{table.name}: {it}: other numbers of trials or receivers than the plan's")
 
 
-def csv_of(lines: list[Line], has_settled: bool) -> str:
+def csv_of(lines: list[Line]) -> str:
     """Lines as the program prints a table."""
-    names = ["k", "h", "l", "f", *COUNTS[:-1], *(["settled"] if has_settled else []), "ppm"]
+    names = ["k", "h", "l", "f", *(it for it in COUNTS if getattr(lines[0], it) is not None), "ppm"]
     rows = [",".join(str(getattr(it, name)) for name in names) for it in lines]
     return "\n".join([",".join(names), *rows]) + "\n"

@@ -61,7 +61,8 @@ def differ(one: Share, other: Share) -> bool:
 
 def compare(one: Table, other: Table) -> Iterator[str]:
     """For each cell of both tables its shares in each, and which of them differ."""
-    shared = [(it, there) for it in one.lines if (there := other.line(it.cell)) is not None]
+    others = {it.cell: it for it in other.lines}
+    shared = [(it, others[it.cell]) for it in one.lines if it.cell in others]
     if not shared:
         raise Refused(f"{one.name} and {other.name} have no cell in common")
     for it, there in shared:
@@ -91,4 +92,4 @@ def pool(pairs: list[tuple[str, str]]) -> str:
     for its in zip(*(table.lines for table in tables)):
         names = [name for name in COUNTS if getattr(its[0], name) is not None]
         lines.append(replace(its[0], **{name: sum(getattr(it, name) for it in its) for name in names}))
-    return csv_of(lines, tables[0].has_settled)
+    return csv_of(lines)

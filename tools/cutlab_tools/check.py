@@ -61,7 +61,7 @@ Part = Callable[[], Result]
 
 
 def part(*words: str | Path, counts: str = "", cases: int = 1, cwd: Path = ROOT) -> Result:
-    """Runs a command, which passes as a whole, or prints how many cases passed and failed. Where it fails, at least one did."""
+    """Runs a command, which passes as a whole, or prints how many cases passed and failed; if it fails, at least one did."""
     pipe = subprocess.PIPE
     done = subprocess.run(words, cwd=cwd, stdin=subprocess.DEVNULL, stdout=pipe, stderr=subprocess.STDOUT)
     text = done.stdout.decode(errors="replace")
@@ -84,8 +84,7 @@ def build(program: Path) -> Result:
 
 def whole(words: str, *more: str | Path) -> Result:
     """Runs a check that passes as a whole."""
-    name, *rest = words.split()
-    return part(ROOT / name, *rest, *more)
+    return part(*f"./{words}".split(), *more)
 
 
 def tool(words: str) -> Result:

@@ -3,7 +3,7 @@ import importlib.util
 import os
 import sys
 from pathlib import Path
-from typing import NoReturn
+from typing import Any, NoReturn
 
 from .paths import ROOT
 
@@ -24,7 +24,7 @@ def main() -> NoReturn:
     called = Path(sys.argv[0])
     command = str(Path(os.path.realpath(called.parent), called.name).relative_to(ROOT))
     path = module_of(command)
-    module = importlib.import_module(path) if importlib.util.find_spec(path) else None
+    module: Any = importlib.import_module(path) if importlib.util.find_spec(path) else None
     if hasattr(module, "main"):
         sys.exit(module.main())
     sys.exit(importlib.import_module(path.rpartition(".")[0]).run(command, module))

@@ -141,7 +141,7 @@ class Tables(unittest.TestCase):
 
     def test_a_table_comes_back(self) -> None:
         text = HEADER + "1,1,1,1,2,8,2,0,0,8,2,2,250000\n"
-        self.assertEqual(tables.csv_of(list(tables.table_of("text", text.encode()).lines), False), text)
+        self.assertEqual(tables.csv_of(list(tables.table_of("text", text.encode()).lines)), text)
 
     def test_pooled(self) -> None:
         with tempfile.TemporaryDirectory() as folder:

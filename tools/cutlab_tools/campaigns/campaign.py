@@ -39,6 +39,7 @@ class Campaign:
 
     def __init_subclass__(cls) -> None:
         """Names a campaign by its class."""
+        super().__init_subclass__()
         cls.name = re.sub(r"(?<=[a-z])(?=[A-Z])", " ", cls.__name__).lower()
 
     def __init__(self, path: Path, values: dict[str, Any]) -> None:

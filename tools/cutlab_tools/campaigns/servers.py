@@ -186,6 +186,7 @@ class Session:
         return int.from_bytes(payload, "big") if kind == "E" else kind
 
     def end(self) -> None:
+        self.replies.close()
         self.wire.close()
         self.server.kill()
         self.server.communicate()

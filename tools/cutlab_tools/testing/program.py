@@ -62,7 +62,8 @@ class ProgramCases(Cases):
 
     def says(self, wanted: Ended, found: Ended, what: str) -> None:
         """Compares how a command ended that has to print this among other things, and nothing where it is empty."""
-        is_said = [bool(found[at]) == bool(wanted[at]) and wanted[at] in found[at] for at in (0, 1)]
+        pairs = ((wanted.output, found.output), (wanted.errors, found.errors))
+        is_said = [bool(one) == bool(other) and one in other for one, other in pairs]
         self.expect(what, (wanted.status, [True, True]), (found.status, is_said))
 
     def names(self) -> list[str]:
