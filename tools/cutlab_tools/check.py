@@ -22,7 +22,7 @@ from typing import Callable, NamedTuple
 from .arguments import parser
 from .documents.pages import Command, try_pages
 from .paths import ROOT, copy, require, tracked_files
-from .unproved import NotBuilt, NotServed, build_unproved
+from .unproved import NotBuilt, build_unproved
 
 # The campaigns, the longest first, with the number of cases that each tries, and of the parts that it is divided into.
 CAMPAIGNS = [
@@ -76,9 +76,7 @@ def build(program: Path) -> Result:
     try:
         build_unproved(ROOT, program)
     except NotBuilt as why:
-        return Result(0, 1, f"the program does not build\n{why}")
-    except NotServed as why:
-        return Result(0, 1, f"the program is built, but does not serve\n{why}")
+        return Result(0, 1, str(why))
     return Result(1, 0)
 
 

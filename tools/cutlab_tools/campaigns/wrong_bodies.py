@@ -112,10 +112,10 @@ def attempt(body: WrongBody, seconds: float, last: float) -> str:
         try:
             body.apply(Path(folder))
             build_unproved(Path(folder), program)
-        except NotBuilt as why:
-            return f"{NOT_BUILT}: {str(why).strip()[-200:]}"
         except NotServed:
             return "seen by the build, whose program does not serve"
+        except NotBuilt as why:
+            return f"{NOT_BUILT}: {str(why).strip()[-200:]}"
         return seen(body.campaigns, program, seconds)
 
 

@@ -116,8 +116,9 @@ class Closure:
         module, name = cited
         declared = re.match(r"Rattle\.(\w+)\.specs\.declared\.([\w.]+)$", module)
         if declared and self.repository.paths(f"crates/{declared[1]}"):
-            self.visit_declared(declared[1], [it for it in declared[2].split(".") if it != "TheVariants"], name)
-            return
+            *above, last = (it for it in declared[2].split(".") if it != "TheVariants")
+            path = f"crates/{declared[1]}/src/{'/'.join(above or [last])}.rt"
+            return self.visit_type(path, name if last == "TheConstants" else last)
         spec = self.spec(module)
         if spec is None:
             self.outside.setdefault(module, set()).add(name)
@@ -133,13 +134,8 @@ class Closure:
             self.found[module, place] = spec.paragraphs[place]
             self.follow(spec.uses, spec.paragraphs[place], module, spec)
 
-    def visit_declared(self, crate: str, parts: list[str], name: str) -> None:
-        """Adds a type, or a constant, of a crate's sources."""
-        *above, last = parts
-        path = f"crates/{crate}/src/{'/'.join(above or parts)}.rt"
-        self.visit_type(path, name if last == "TheConstants" else last)
-
     def visit_type(self, path: str, name: str) -> None:
+        """Adds a type, or a constant, of a crate's sources."""
         if (path, name) in self.types:
             return
         text = self.repository.read(path)
