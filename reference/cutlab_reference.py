@@ -213,17 +213,8 @@ def quarter_round(state: List[int], a: int, b: int, c: int, d: int) -> None:
 def block(seed: bytes, stream: int, counter: int) -> List[int]:
     """A block of ChaCha with 8 rounds (RFC 8439), with a counter and a stream number of 64 bits each."""
     words = [int.from_bytes(bytes_of, "little") for bytes_of in (seed[at : at + 4] for at in range(0, 32, 4))]
-    first = [
-        0x61707865,
-        0x3320646E,
-        0x79622D32,
-        0x6B206574,
-        *words,
-        counter & 0xFFFFFFFF,
-        counter >> 32,
-        stream & 0xFFFFFFFF,
-        stream >> 32,
-    ]
+    places = [half for number in (counter, stream) for half in (number & 0xFFFFFFFF, number >> 32)]
+    first = [0x61707865, 0x3320646E, 0x79622D32, 0x6B206574, *words, *places]
     state = list(first)
     for _ in range(4):
         for at in range(4):

@@ -2,12 +2,14 @@
 from __future__ import annotations
 
 from dataclasses import dataclass
-from typing import Callable
+from typing import Callable, Iterator
 
 from .plans import Refused
 from .tables import Line, Share, Table, shown
 
 Pair = tuple[int, int, int]
+# What may have a limit: whether that is the most, and what it is a share of.
+LIMITED = (("conflicts", True, "receivers"), ("silent", True, "receivers"), ("right", False, "trials"))
 
 
 @dataclass(frozen=True)
@@ -18,16 +20,22 @@ class Limits:
     silent: float | None
     right: float | None
 
+    def compared(self, it: Worst) -> Iterator[tuple[str, float, bool]]:
+        """Of each limit how far a pair is from it: in words, in parts of it, and whether the pair lacks it."""
+        for name, is_most, of in LIMITED:
+            limit, found = getattr(self, name), getattr(it, name)
+            if limit is not None:
+                over, under = (found.share, limit) if is_most else (limit, found.share)
+                said = f"{name} {found} {'above' if is_most else 'below'} {shown(limit)} of {of}"
+                yield said, over / max(under, 1e-9), over > under
+
     def lacks(self, it: Worst) -> list[str]:
         """What a pair lacks, in words, with how far it is from it."""
-        found = []
-        if self.conflicts is not None and it.conflicts.share > self.conflicts:
-            found.append(f"conflicts {it.conflicts} above {shown(self.conflicts)} of receivers")
-        if self.silent is not None and it.silent.share > self.silent:
-            found.append(f"silent {it.silent} above {shown(self.silent)} of receivers")
-        if self.right is not None and it.right.share < self.right:
-            found.append(f"right {it.right} below {shown(self.right)} of trials")
-        return found
+        return [said for said, _, is_lacking in self.compared(it) if is_lacking]
+
+    def distance(self, it: Worst) -> float:
+        """How far a pair is from what it must keep to, in parts of it."""
+        return max((parts for _, parts, _ in self.compared(it)), default=0.0)
 
 
 @dataclass(frozen=True)
@@ -52,14 +60,14 @@ class Worst:
 
 
 def worst_of(pair: Pair, lines: list[Line]) -> Worst:
-    proposals = [it.proposal_share for it in lines if it.receivers > it.silent]
+    proposals = [it.share("proposal") for it in lines if it.receivers > it.silent]
     return Worst(
         pair,
         max(it.ppm for it in lines),
-        max((it.conflict_share for it in lines), key=lambda it: it.share),
+        max((it.share("conflict") for it in lines), key=lambda it: it.share),
         max(proposals, key=lambda it: it.share) if proposals else Share(1.0, 0.0, 1.0, 0),
-        max((it.silent_share for it in lines), key=lambda it: it.share),
-        min((it.right_share for it in lines), key=lambda it: it.share),
+        max((it.share("silent") for it in lines), key=lambda it: it.share),
+        min((it.share("right") for it in lines), key=lambda it: it.share),
         sum(it.decided - it.right for it in lines),
     )
 
@@ -76,44 +84,29 @@ NARROW = (
 )
 
 
-def distance(limits: Limits, it: Worst) -> float:
-    """How far a pair is from what it must keep to, in parts of it."""
-    parts = [0.0]
-    if limits.conflicts is not None:
-        parts.append(it.conflicts.share / max(limits.conflicts, 1e-9))
-    if limits.silent is not None:
-        parts.append(it.silent.share / max(limits.silent, 1e-9))
-    if limits.right is not None:
-        parts.append(limits.right / max(it.right.share, 1e-9))
-    return max(parts)
+def said_of(it: Worst) -> list[str]:
+    """What is printed of a pair."""
+    return [str(it), NARROW] if it.pair[1] == it.pair[0] else [str(it)]
 
 
-def choose(table: Table, limits: Limits, order: str, best: int) -> list[str]:
-    """The best pairs for each number of rings, in words; where none keeps to the limits it is refused, with the nearest."""
+def choose(table: Table, limits: Limits, order: str, best: int) -> tuple[set[Pair], list[str]]:
+    """The best pairs for each number of rings, and what is said of them; where none keeps to the limits it is refused, with
+    the nearest."""
     pairs: dict[Pair, list[Line]] = {}
     for it in table.lines:
         if it.f > 0:
             pairs.setdefault((it.k, it.h, it.l), []).append(it)
     if not pairs:
-        raise Refused(
-            f"{table.name}: it has only cells in which nobody fails, and no pair is better than another there"
-        )
-    found = [worst_of(pair, lines) for pair, lines in pairs.items()]
-    said = []
+        why = "it has only cells in which nobody fails, and no pair is better than another there"
+        raise Refused(f"{table.name}: {why}")
+    found, chosen = [worst_of(pair, lines) for pair, lines in pairs.items()], list[Worst]()
     for k in sorted({it.pair[0] for it in found}):
         # A pair with H below K comes before one with H = K, however they do.
-        good = sorted(
-            (one for one in found if one.pair[0] == k and not limits.lacks(one)),
-            key=lambda one: (one.pair[1] == k, *ORDERS[order](one)),
-        )
-        for one in good[:best]:
-            said.append(str(one))
-            if one.pair[1] == k:
-                said.append(NARROW)
-    if not said:
-        near = min(found, key=lambda it: distance(limits, it))
-        price = "\n" + NARROW if near.pair[1] == near.pair[0] else ""
-        raise Refused(
-            f"no pair keeps to the limits. The nearest is {near}\n  it lacks: " + "; ".join(limits.lacks(near)) + price
-        )
-    return said
+        good = [one for one in found if one.pair[0] == k and not limits.lacks(one)]
+        chosen += sorted(good, key=lambda one: (one.pair[1] == one.pair[0], *ORDERS[order](one)))[:best]
+    if not chosen:
+        nearest = min(found, key=limits.distance)
+        near, *price = said_of(nearest)
+        lacks = f"  it lacks: {'; '.join(limits.lacks(nearest))}"
+        raise Refused("\n".join([f"no pair keeps to the limits. The nearest is {near}", lacks, *price]))
+    return {it.pair for it in chosen}, [line for it in chosen for line in said_of(it)]

@@ -4,189 +4,187 @@ from __future__ import annotations
 import argparse
 import os
 import sys
-from typing import Callable
+from pathlib import Path
+from typing import Any, Callable, Iterable, Iterator
 
-from . import choose as choosing
 from . import vary as varying
-from .exact import CellColumns, beside, exact, ladder
+from .choose import ORDERS, Limits
+from .choose import choose as chosen
+from .exact import CellColumns, beside, ladder
+from .exact import exact as columns_of
 from .plans import Refused, read_plan
-from .plot import View, plot, plot_rare
+from .plot import View, plot_rare
+from .plot import plot as draw
 from .report import page
 from .tables import read_table
 
 Words = argparse.Namespace
+Word = tuple[tuple[str, ...], dict[str, Any]]
+Does = Callable[[Words], Iterable[str]]
+COMMANDS: list[tuple[Does, tuple[Word, ...]]] = []
 PREMISE = (
     "# Shares where every order of the alerts at a receiver is equally likely, and every alert arrives. That ChaCha8's draws "
     "behave so is what a comparison shows, and no proof says."
 )
 
 
+def word(*names: str, about: str | None = None, **how: Any) -> Word:
+    """A word of a command line, as argparse takes it."""
+    return names, {**how, "help": about}
+
+
+def command(*words: Word) -> Callable[[Does], Does]:
+    """Makes a function a command of its name, which prints the lines that are returned."""
+
+    def add(does: Does) -> Does:
+        COMMANDS.append((does, words))
+        return does
+
+    return add
+
+
+PLAN, TABLE = word("plan"), word("table")
+LIMITS = [
+    word("--conflicts", type=float, about="the greatest share of receivers in conflict, on the worst line"),
+    word("--silent", type=float, default=0.001, about="the greatest share of silent receivers (0.001)"),
+    word("--right", type=float, about="the least share of trials in which a quorum proposes exactly the failed ones"),
+]
+BY_ROLES = "exact shares by the roles of how many trials of each cell"
+
+
+def limits_of(given: Words) -> Limits:
+    return Limits(given.conflicts, given.silent, given.right)
+
+
+def parts(text: str, option: str, why: str) -> tuple[str, str]:
+    """What stands before and after the sign of a word."""
+    name, sign, value = text.partition("=")
+    if not sign:
+        raise Refused(f"{option}{text}: it is {why}")
+    return name, value
+
+
 def exact_line(it: CellColumns) -> str:
-    columns = it.columns
+    cell, columns = ",".join(map(str, it.cell)), it.columns
     if columns is None:
-        return f"# {','.join(map(str, it.cell))} left out: {it.why}"
-    shares = [f"{float(share):.6g}" for share in (columns.conflicts, columns.silent, columns.extra)]
-    return ",".join([*map(str, it.cell), *shares, f"{columns.decided:.6g}", f"{columns.right:.6g}", str(it.trials)])
+        return f"# {cell} left out: {it.why}"
+    shares = (columns.conflicts, columns.silent, columns.extra, columns.decided, columns.right)
+    return ",".join([cell, *(f"{float(share):.6g}" for share in shares), str(it.trials)])
 
 
-def run_exact(given: Words) -> None:
+@command(
+    PLAN,
+    word("--ladder", action="store_true", about="all pairs of H and L of its K and F, the rarest conflicts first"),
+    word("--beside", metavar="TABLE", about="set the plan's table beside the exact shares of conflicts"),
+    word("--trials", type=int, default=20, about=f"{BY_ROLES}, where roles matter (20)"),
+)
+def exact(given: Words) -> Iterator[str]:
+    """Print the exact shares of a plan's cells, without a trial"""
     plan = read_plan(given.plan)
-    print(PREMISE)
+    yield PREMISE
     if given.ladder:
-        print("k,h,l,f,conflicts,fraction")
+        yield "k,h,l,f,conflicts,fraction"
         for k in plan["k"]:
             for h, l, f, share in ladder(k, [it for it in plan["f"] if it]):
-                print(f"{k},{h},{l},{f},{float(share):.6g},{share if share.denominator < 10**24 else ''}", flush=True)
-        return
-    if given.beside:
-        for line in beside(plan, read_table(given.beside)):
-            print(line, flush=True)
-        return
-    print("k,h,l,f,conflicts,silent,extra,decided,right,trials")
-    for it in exact(plan, given.trials):
-        print(exact_line(it), flush=True)
+                yield f"{k},{h},{l},{f},{float(share):.6g},{share if share.denominator < 10**24 else ''}"
+    elif given.beside:
+        yield from beside(plan, read_table(given.beside))
+    else:
+        yield "k,h,l,f,conflicts,silent,extra,decided,right,trials"
+        yield from map(exact_line, columns_of(plan, given.trials))
 
 
-def limits_of(given: Words) -> choosing.Limits:
-    return choosing.Limits(given.conflicts, given.silent, given.right)
+@command(
+    TABLE,
+    word("--by", choices=sorted(ORDERS), default="conflicts", about="what the best pair has least or most of"),
+    word("--best", type=int, default=1, about="how many pairs for each number of rings (1)"),
+    *LIMITS,
+)
+def choose(given: Words) -> list[str]:
+    """Say which watermarks do best in a table"""
+    return chosen(read_table(given.table), limits_of(given), given.by, given.best)[1]
 
 
-def run_choose(given: Words) -> None:
-    for line in choosing.choose(read_table(given.table), limits_of(given), given.by, given.best):
-        print(line)
-
-
-def run_vary(given: Words) -> None:
-    plan = read_plan(given.plan)
+@command(
+    *(PLAN, word("field"), word("values", nargs="+")),
+    word("--set", nargs="+", default=[], metavar="FIELD=VALUE", about="other fields, for every run"),
+    word("--workers", type=int, about="the workers of each run; the program's default where it is not given"),
+)
+def vary(given: Words) -> Iterator[str]:
+    """Run a plan once for each value of a field, and print one table"""
+    plan, why = read_plan(given.plan), "FIELD=VALUE, of a field that the plan has"
     for one in given.set:
-        field, is_given, text = one.partition("=")
-        if not is_given or field not in plan:
-            raise Refused(f"--set {one}: it is FIELD=VALUE, of a field that the plan has")
+        field, text = parts(one, "--set ", why)
+        if field not in plan:
+            raise Refused(f"--set {one}: it is {why}")
         plan[field] = varying.value_of(field, text)
-    for line in varying.vary(plan, given.field, given.values, given.workers):
-        print(line, flush=True)
+    return varying.vary(plan, given.field, given.values, given.workers)
 
 
-def run_compare(given: Words) -> None:
-    for line in varying.compare(read_table(given.one), read_table(given.other)):
-        print(line)
+@command(word("one"), word("other"))
+def compare(given: Words) -> Iterator[str]:
+    """Say where two tables differ by more than chance"""
+    return varying.compare(read_table(given.one), read_table(given.other))
 
 
-def run_pool(given: Words) -> None:
-    pairs = []
-    for it in given.pairs:
-        plan, is_given, table = it.partition("=")
-        if not is_given:
-            raise Refused(f"{it}: it is PLAN=TABLE, so that the plans can be compared")
-        pairs.append((plan, table))
-    sys.stdout.write(varying.pool(pairs))
+@command(word("pairs", nargs="+", metavar="PLAN=TABLE"))
+def pool(given: Words) -> list[str]:
+    """Add up the tables of plans that differ in the seed alone"""
+    pairs = [parts(it, "", "PLAN=TABLE, so that the plans can be compared") for it in given.pairs]
+    return varying.pool(pairs).splitlines()
 
 
-def run_plot(given: Words) -> None:
-    where = {}
-    for it in given.where:
-        column, is_given, value = it.partition("=")
-        if not is_given:
-            raise Refused(f"--where {it}: it is COLUMN=VALUE")
-        where[column] = value
+@command(
+    TABLE,
+    word("-o", "--output", required=True, about="the picture: .svg, .png or .pdf"),
+    word("--exact", metavar="PLAN", about="draw the exact shares of its plan over F, and the table's on them"),
+    word("--along", metavar="COLUMN", about="draw along this column, not conflicts by H - L and silence by L"),
+    word("--of", choices=("conflicts", "silent"), about="which share, with --along (conflicts)"),
+    word("--each", metavar="COLUMN", about="a line for each value of this column, with --along (f)"),
+    word("--where", nargs="+", default=[], metavar="COLUMN=VALUE", about="only such lines, with --along"),
+)
+def plot(given: Words) -> list[str]:
+    """Draw a table by gnuplot"""
+    where = dict(parts(it, "--where ", "COLUMN=VALUE") for it in given.where)
     if given.exact:
         plot_rare(read_plan(given.exact), read_table(given.table), given.output)
-        return
+        return []
     if not given.along and (where or given.of or given.each):
         raise Refused("--of, --each and --where are for a picture along a column: say which by --along")
     view = View(given.of or "conflicts", given.along, given.each or "f", where) if given.along else None
-    plot(given.table, given.output, view)
+    draw(given.table, given.output, view)
+    return []
 
 
-def run_report(given: Words) -> None:
-    plan, table = read_plan(given.plan), read_table(given.table)
-    text = page(plan, table, limits_of(given), given.trials)
+@command(
+    *(PLAN, TABLE),
+    word("-o", "--output", default="-", about="the page; standard output where it is not given"),
+    word("--trials", type=int, default=5, about=f"{BY_ROLES} (5)"),
+    *LIMITS,
+)
+def report(given: Words) -> list[str]:
+    """Make one page of a plan and its table, with pictures and the choice"""
+    text = page(read_plan(given.plan), read_table(given.table), limits_of(given), given.trials)
     if given.output == "-":
-        sys.stdout.write(text)
-        return
-    with open(given.output, "w", encoding="utf-8") as file:
-        file.write(text)
+        return text.splitlines()
+    Path(given.output).write_text(text, encoding="utf-8")
+    return []
 
 
-def add_limits(words: argparse.ArgumentParser) -> None:
-    words.add_argument("--conflicts", type=float, help="the greatest share of receivers in conflict, on the worst line")
-    words.add_argument("--silent", type=float, default=0.001, help="the greatest share of silent receivers (0.001)")
-    words.add_argument(
-        "--right", type=float, help="the least share of trials in which a quorum proposes exactly the failed ones"
-    )
-
-
-def parser() -> argparse.ArgumentParser:
-    words = argparse.ArgumentParser(
-        prog="study",
-        description="Exact shares, choices, comparisons and reports of studies.",
-        epilog="docs/GUIDE.md shows each. A file - is standard input.",
-    )
+def main() -> int:
+    about = "Exact shares, choices, comparisons and reports of studies."
+    end = "docs/GUIDE.md shows each. A file - is standard input."
+    words = argparse.ArgumentParser(prog="study", description=about, epilog=end)
     commands = words.add_subparsers(required=True, metavar="COMMAND")
-
-    def command(name: str, does: Callable[[Words], None], about: str) -> argparse.ArgumentParser:
-        found = commands.add_parser(name, help=about, description=about)
-        found.set_defaults(does=does)
-        return found
-
-    one = command("exact", run_exact, "Print the exact shares of a plan's cells, without a trial")
-    one.add_argument("plan")
-    one.add_argument(
-        "--ladder", action="store_true", help="all pairs of H and L of the plan's K and F, the rarest conflicts first"
-    )
-    one.add_argument("--beside", metavar="TABLE", help="set the plan's table beside the exact shares of conflicts")
-    one.add_argument(
-        "--trials", type=int, default=20, help="by the roles of how many trials of each cell, where roles matter (20)"
-    )
-    one = command("choose", run_choose, "Say which watermarks do best in a table")
-    one.add_argument("table")
-    one.add_argument(
-        "--by", choices=sorted(choosing.ORDERS), default="conflicts", help="what the best pair has least or most of"
-    )
-    one.add_argument("--best", type=int, default=1, help="how many pairs for each number of rings (1)")
-    add_limits(one)
-    one = command("vary", run_vary, "Run a plan once for each value of a field, and print one table")
-    one.add_argument("plan")
-    one.add_argument("field")
-    one.add_argument("values", nargs="+")
-    one.add_argument("--set", nargs="+", default=[], metavar="FIELD=VALUE", help="other fields, for every run")
-    one.add_argument(
-        "--workers", type=int, help="the number of workers of each run; the program's default where it is not given"
-    )
-    one = command("compare", run_compare, "Say where two tables differ by more than chance")
-    one.add_argument("one")
-    one.add_argument("other")
-    one = command("pool", run_pool, "Add up the tables of plans that differ in the seed alone")
-    one.add_argument("pairs", nargs="+", metavar="PLAN=TABLE")
-    one = command("plot", run_plot, "Draw a table by gnuplot")
-    one.add_argument("table")
-    one.add_argument("-o", "--output", required=True, help="the picture: .svg, .png or .pdf")
-    one.add_argument(
-        "--exact", metavar="PLAN", help="draw the exact shares of the table's plan over F, and the table's on them"
-    )
-    one.add_argument(
-        "--along", metavar="COLUMN", help="draw along this column, in place of conflicts by H - L and silence by L"
-    )
-    one.add_argument("--of", choices=("conflicts", "silent"), help="which share, with --along (conflicts)")
-    one.add_argument("--each", metavar="COLUMN", help="a line for each value of this column, with --along (f)")
-    one.add_argument(
-        "--where", nargs="+", default=[], metavar="COLUMN=VALUE", help="lines with these values alone, with --along"
-    )
-    one = command("report", run_report, "Make one page of a plan and its table, with pictures and the choice")
-    one.add_argument("plan")
-    one.add_argument("table")
-    one.add_argument("-o", "--output", default="-", help="the page; standard output where it is not given")
-    one.add_argument(
-        "--trials", type=int, default=5, help="exact shares by the roles of how many trials of each cell (5)"
-    )
-    add_limits(one)
-    return words
-
-
-def main(words: list[str] | None = None) -> int:
-    given = parser().parse_args(words)
+    for does, its in COMMANDS:
+        one = commands.add_parser(does.__name__, help=does.__doc__, description=does.__doc__)
+        one.set_defaults(does=does)
+        for names, how in its:
+            one.add_argument(*names, **how)
+    given = words.parse_args()
     try:
-        given.does(given)
+        for line in given.does(given):
+            print(line, flush=True)
     except Refused as why:
         print(f"study: {why}", file=sys.stderr)
         return 1

@@ -2,14 +2,16 @@
 from __future__ import annotations
 
 import math
+import statistics
 from collections import Counter
 from dataclasses import dataclass
 from fractions import Fraction
 from functools import lru_cache
+from itertools import product
 from typing import Iterator, Sequence
 
 from .plans import Cell, Plan, cells, quorum, reference
-from .shares import Kind, Proposed, Rule, Shares, Single, World
+from .shares import Kind, Proposed, Rule, Shares, World
 from .tables import Table, check_fits
 
 # How many products of coefficients are added up for one receiver, at most, which takes minutes; and for one pair of sets, at least.
@@ -30,15 +32,9 @@ class Columns:
 
 def tail(count: int, share: Fraction, least: int) -> float:
     """The chance that at least `least` of `count` receivers do what each does with this chance."""
-    if least <= 0:
-        return 1.0
-    if least > count or share == 0:
-        return 0.0
-    if share == 1:
-        return 1.0
-    yes = math.log(share.numerator) - math.log(share.denominator)
-    other = 1 - share
-    no = math.log(other.numerator) - math.log(other.denominator)
+    if least <= 0 or least > count or share in (0, 1):
+        return float(least <= (count if share else 0))
+    yes, no = (math.log(it.numerator) - math.log(it.denominator) for it in (share, 1 - share))
 
     def chance(number: int) -> float:
         ways = math.lgamma(count + 1) - math.lgamma(number + 1) - math.lgamma(count - number + 1)
@@ -49,18 +45,13 @@ def tail(count: int, share: Fraction, least: int) -> float:
     return max(0.0, 1.0 - math.fsum(chance(number) for number in range(least)))
 
 
-def pairs_of(world: World, rule: Rule) -> int:
-    """How many pairs of a set and a part of it are added up for a world."""
-    numbers = [number for kind, number in world.kinds if kind.alerts >= rule.h]
-    parts: int = math.prod((number + 1) * (number + 2) // 2 for number in numbers)
-    return parts * int(3 ** len(world.singles))
-
-
 def steps_of(world: World, rule: Rule) -> int:
-    """About how many products of coefficients are added up for a world: for each pair of sets, of polynomials whose size goes with
-    the alerts of the processes that observe one another."""
-    alerts = sum(it.alerts for it in world.singles)
-    return pairs_of(world, rule) * max(LEAST_STEPS, (alerts * alerts // (2 * max(1, len(world.singles)))) ** 2)
+    """About how many products of coefficients are added up for a world: for each pair of a set and a part of it, of polynomials
+    whose size goes with the alerts of the processes that observe one another."""
+    common, singles = world.kinds[: len(world.kinds) - world.singles], world.kinds[len(world.kinds) - world.singles :]
+    numbers, alerts = [number for kind, number in common if kind.alerts >= rule.h], sum(it.alerts for it, _ in singles)
+    pairs = 3**world.singles * math.prod((number + 1) * (number + 2) // 2 for number in numbers)
+    return int(pairs * max(LEAST_STEPS, (alerts * alerts // (2 * max(1, world.singles))) ** 2))
 
 
 @lru_cache(maxsize=4096)
@@ -70,17 +61,13 @@ def proposals_of(world: World, rule: Rule) -> tuple[Proposed, ...]:
 
 def columns_of(world: World, rule: Rule, receivers: int, least: int) -> Columns:
     """The columns of a world, for as many receivers and a quorum."""
-    kinds = [kind for kind, _ in world.kinds if kind.alerts >= rule.h]
-    targets = sum(number for kind, number in world.kinds if kind.is_target) + sum(it.is_target for it in world.singles)
+    targets = sum(number for kind, number in world.kinds if kind.is_target)
     spoken = conflicts = extra = Fraction(0)
     decided = right = 0.0
     for it in proposals_of(world, rule):
         share = it.ways * it.share
-        members = [single for at, single in enumerate(world.singles) if it.members >> at & 1]
-        failed = sum(count for kind, count in zip(kinds, it.counts) if kind.is_target) + sum(
-            its.is_target for its in members
-        )
-        lacks, adds = failed < targets, failed < sum(it.counts) + len(members)
+        failed = sum(count for (kind, _), count in zip(world.kinds, it.counts) if kind.is_target)
+        lacks, adds = failed < targets, failed < sum(it.counts)
         spoken += share
         conflicts += share if lacks else 0
         extra += share if adds else 0
@@ -96,28 +83,22 @@ def world_of(plan: Plan, layout: reference.Layout, roles: reference.Roles, cell:
     edges = reference.alert_list(plan, layout, roles, k)
     alerts = Counter(subject for _, subject in edges)
     reported = {subject for subject, count in alerts.items() if count >= l} if plan["implicit"] else set()
-    observers = {
-        subject: {
-            ring: layout.observer(ring, subject) for ring in range(k) if layout.observer(ring, subject) in reported
-        }
-        for subject in reported
-    }
-    observing = {it for its in observers.values() for it in its.values()}
-    single = sorted(subject for subject in reported if observers[subject] or subject in observing)
-    place = {subject: at for at, subject in enumerate(single)}
-    alerted = set(edges)
-    singles = tuple(
-        Single(
-            alerts[subject],
-            subject in roles.targets,
-            tuple((place[observer], (ring, subject) in alerted) for ring, observer in observers[subject].items()),
-        )
-        for subject in single
-    )
-    kinds = Counter(Kind(count, subject in roles.targets) for subject, count in alerts.items() if subject not in place)
+    observed: dict[int, list[tuple[int, int]]] = {subject: [] for subject in reported}
+    for subject, ring in product(reported, range(k)):
+        if (observer := layout.observer(ring, subject)) in reported:
+            observed[subject].append((ring, observer))
+    observing = {observer for its in observed.values() for _, observer in its}
+    single = sorted(subject for subject in reported if observed[subject] or subject in observing)
+    common = ((subject, count) for subject, count in alerts.items() if subject not in single)
+    numbers = Counter(Kind(count, subject in roles.targets) for subject, count in common)
     # A failed process of which no alert comes is in no proposal, so that each one lacks it.
-    kinds.update(Kind(0, True) for subject in roles.targets if subject not in alerts)
-    return World(tuple(sorted(kinds.items())), singles)
+    numbers.update(Kind(0, True) for subject in roles.targets if subject not in alerts)
+    kinds, alerted = sorted(numbers.items()), set(edges)
+    place = {subject: at for at, subject in enumerate(single, len(kinds))}
+    for subject in single:
+        its = tuple((place[observer], (ring, subject) in alerted) for ring, observer in observed[subject])
+        kinds.append((Kind(alerts[subject], subject in roles.targets, its), 1))
+    return World(tuple(kinds), len(single))
 
 
 def needs_no_roles(plan: Plan) -> bool:
@@ -127,14 +108,10 @@ def needs_no_roles(plan: Plan) -> bool:
 
 
 def mean(found: Sequence[Columns]) -> Columns:
-    count = len(found)
-    return Columns(
-        sum((it.conflicts for it in found), Fraction(0)) / count,
-        sum((it.silent for it in found), Fraction(0)) / count,
-        sum((it.extra for it in found), Fraction(0)) / count,
-        math.fsum(it.decided for it in found) / count,
-        math.fsum(it.right for it in found) / count,
-    )
+    rows = [(it.conflicts, it.silent, it.extra) for it in found]
+    conflicts, silent, extra = (sum(its, Fraction(0)) / len(found) for its in zip(*rows))
+    decided, right = (statistics.fmean(its) for its in zip(*((it.decided, it.right) for it in found)))
+    return Columns(conflicts, silent, extra, decided, right)
 
 
 @dataclass(frozen=True)
@@ -150,11 +127,9 @@ class CellColumns:
 
 def worlds_of(plan: Plan, layout: reference.Layout, number: int, count: int) -> list[World]:
     """The worlds of the first trials of a cell."""
-    cell, found = cells(plan)[number], []
-    for trial in range(number * plan["repeats"], number * plan["repeats"] + count):
-        roles = reference.Roles(plan, cell[3], reference.Source(plan, trial), layout)
-        found.append(world_of(plan, layout, roles, cell))
-    return found
+    cell, first = cells(plan)[number], number * plan["repeats"]
+    sources = (reference.Source(plan, trial) for trial in range(first, first + count))
+    return [world_of(plan, layout, reference.Roles(plan, cell[3], it, layout), cell) for it in sources]
 
 
 def exact(plan: Plan, trials: int | None = None) -> Iterator[CellColumns]:
@@ -171,52 +146,30 @@ def exact(plan: Plan, trials: int | None = None) -> Iterator[CellColumns]:
             worlds = worlds_of(plan, layout, number, min(plan["repeats"], trials or plan["repeats"]))
         steps, count = max(steps_of(it, rule) for it in worlds), 0 if free else len(worlds)
         if steps > MOST_STEPS:
-            singles = max(len(it.singles) for it in worlds)
-            yield CellColumns(
-                cell,
-                None,
-                count,
-                f"about {steps:.0e} products would be added up, as {singles} processes observe one another",
-            )
+            why = f"as {max(it.singles for it in worlds)} processes observe one another"
+            yield CellColumns(cell, None, count, f"about {steps:.0e} products would be added up, {why}")
         else:
             yield CellColumns(cell, mean([columns_of(it, rule, nodes - f, least) for it in worlds]), count)
 
 
 def ladder(k: int, failures: Sequence[int]) -> list[tuple[int, int, int, Fraction]]:
     """H, L, F and the share of conflicts of each pair of watermarks of K rings, the rarest conflicts first by the worst F."""
-    found = []
-    for h in range(1, k + 1):
-        for l in range(1, h + 1):
-            rows = [(h, l, f, columns_of(World(((Kind(k, True), f),)), Rule(h, l), 1, 1).conflicts) for f in failures]
-            found.append((max(row[3] for row in rows), rows))
-    return [row for _, rows in sorted(found, key=lambda it: it[0]) for row in rows]
+    found = [
+        [(h, l, f, columns_of(World(((Kind(k, True), f),)), Rule(h, l), 1, 1).conflicts) for f in failures]
+        for h in range(1, k + 1)
+        for l in range(1, h + 1)
+    ]
+    return [row for rows in sorted(found, key=lambda its: max(row[3] for row in its)) for row in rows]
 
 
 def chance_of_more(square_sum: float, count: int) -> float:
-    """How often the squares of `count` normal variables add up to more than this (the upper incomplete gamma function)."""
-    a, x = count / 2, square_sum / 2
-    if x == 0:
-        return 1.0
-    factor = math.exp(a * math.log(x) - x - math.lgamma(a))
-    if x < a + 1:
-        term = total = 1 / a
-        n = 1
-        while term > total * 1e-16:
-            term *= x / (a + n)
-            total, n = total + term, n + 1
-        return max(0.0, 1 - total * factor)
-    b, c = x + 1 - a, math.inf
-    d = 1 / b
-    found = d
-    for n in range(1, 10_000):
-        step = -n * (n - a)
-        b += 2
-        d = 1 / (step * d + b)
-        c = b + step / c
-        found *= c * d
-        if abs(c * d - 1) < 1e-15:
-            break
-    return found * factor
+    """How often the squares of `count` normal variables add up to more than this: from that of one or of two variables on,
+    each two more add one term."""
+    x = square_sum / 2
+    found, a = (math.erfc(math.sqrt(x)), 0.5) if count % 2 else (math.exp(-x), 1.0)
+    for more in range(count // 2 if count % 2 else count // 2 - 1):
+        found += math.exp((a + more) * math.log(x) - x - math.lgamma(a + more + 1)) if x else 0.0
+    return min(found, 1.0)
 
 
 def beside(plan: Plan, table: Table) -> Iterator[str]:
@@ -231,12 +184,9 @@ def beside(plan: Plan, table: Table) -> Iterator[str]:
             continue
         share = it.columns.conflicts
         rate, spread = line.conflicts / line.receivers, math.sqrt(float(share * (1 - share)) / line.receivers)
+        distance = (rate - float(share)) / spread if spread else 0.0
         start = f"{line.k:<2} {line.h:<2} {line.l:<2} {line.f:<4} {line.receivers:>9} {line.conflicts:>10}"
-        if not spread:
-            yield f"{start} {rate:>9.6f} {float(share):>9.6f}"
-            continue
-        distance = (rate - float(share)) / spread
-        yield f"{start} {rate:>9.6f} {float(share):>9.6f} {distance:>11.2f}"
+        yield f"{start} {rate:>9.6f} {float(share):>9.6f}" + (f" {distance:>11.2f}" if spread else "")
         if min(share, 1 - share) * line.receivers >= 5:
             squares, count = squares + distance**2, count + 1
     if count:

@@ -21,24 +21,18 @@ from __future__ import annotations
 
 from dataclasses import dataclass
 from fractions import Fraction
-from functools import lru_cache
+from functools import lru_cache, reduce
 from itertools import accumulate, product
 from math import comb, factorial, lcm, prod
-from typing import Iterator, Sequence
+from typing import Iterable, Iterator, Sequence
 
 # A polynomial in one variable: the coefficient of each power. In two, those of v^a (u - v)^(b - a), by (a, b).
 Polynomial = dict[int, int]
 Surface = dict[tuple[int, int], int]
 # What holds, or how it changes, at each place of some axes.
 Table = dict[tuple[int, ...], int]
-
-
-@dataclass(frozen=True, order=True)
-class Kind:
-    """Processes that are alike: this many alerts come of each, and each is one of the failed ones or not."""
-
-    alerts: int
-    is_target: bool
+# How many of each kind of a world.
+Counts = tuple[int, ...]
 
 
 @dataclass(frozen=True)
@@ -59,6 +53,9 @@ class Need:
     outer: int
 
 
+Needs = tuple[tuple[Need, int], ...]
+
+
 def times(one: Polynomial, other: Polynomial) -> Polynomial:
     found: Polynomial = {}
     for (a, x), (b, y) in product(one.items(), other.items()):
@@ -66,19 +63,16 @@ def times(one: Polynomial, other: Polynomial) -> Polynomial:
     return found
 
 
+def product_of(factors: Iterable[Iterable[tuple[int, int]]]) -> Polynomial:
+    """The product of polynomials, which are given by their coefficients."""
+    return reduce(times, (dict(it) for it in factors), {0: 1})
+
+
 def times_on(one: Surface, other: Surface) -> Surface:
     found: Surface = {}
     for ((a, b), x), ((c, d), y) in product(one.items(), other.items()):
-        key = (a + c, b + d)
-        found[key] = found.get(key, 0) + x * y
+        found[a + c, b + d] = found.get((a + c, b + d), 0) + x * y
     return {key: value for key, value in found.items() if value}
-
-
-def power(one: Surface, exponent: int, known: dict[int, Surface]) -> Surface:
-    """A power of a surface; those that were computed are kept in `known`."""
-    if exponent not in known:
-        known[exponent] = {(0, 0): 1} if exponent == 0 else times_on(power(one, exponent - 1, known), one)
-    return known[exponent]
 
 
 def differences(values: Sequence[int]) -> list[int]:
@@ -117,12 +111,7 @@ def unreported(alerts: int, l: int) -> tuple[tuple[int, int], ...]:
 @lru_cache(maxsize=None)
 def stable(need: Need, l: int) -> tuple[tuple[int, int], ...]:
     """The chance that a process has all that it needs by u."""
-    surface = unreported_then_stable(need, l)
-    found: Polynomial = {}
-    for (a, b), x in surface:
-        if a == 0:
-            found[b] = found.get(b, 0) + x
-    return tuple(found.items())
+    return tuple((b, x) for (a, b), x in unreported_then_stable(need, l) if a == 0)
 
 
 @lru_cache(maxsize=None)
@@ -133,12 +122,8 @@ def unreported_then_stable(need: Need, l: int) -> tuple[tuple[tuple[int, int], i
     is a sum over its differences at 0, as that of a condition on one number is.
     """
     outer, inner = need.alerts - need.inner, need.inner
-
-    def holds(i: int, j: int, m: int, n: int) -> int:
-        return int(i + m < l <= i + j + m + n and i + j >= need.outer)
-
     table: Table = {
-        (i, j, m, n): holds(i, j, m, n)
+        (i, j, m, n): int(i + m < l <= i + j + m + n and i + j >= need.outer)
         for i in range(outer + 1)
         for j in range(outer - i + 1)
         for m in range(inner + 1)
@@ -148,58 +133,59 @@ def unreported_then_stable(need: Need, l: int) -> tuple[tuple[tuple[int, int], i
         table = folded(table, axis)
     found: Surface = {}
     for (a, c, d, e), change in table.items():
-        if change:
-            key = (a + d, a + d + c + e)
-            found[key] = found.get(key, 0) + choices(outer, a, c) * choices(inner, d, e) * change
-    return tuple(found.items())
+        key = (a + d, a + d + c + e)
+        found[key] = found.get(key, 0) + choices(outer, a, c) * choices(inner, d, e) * change
+    return tuple((key, value) for key, value in found.items() if value)
 
 
-@dataclass(frozen=True)
-class Single:
-    """A process that is taken by itself, as others that may be proposed observe it, or are observed by it. Of each ring it is
-    known which of these observes it there, if one does, and whether its alert comes."""
+@lru_cache(maxsize=4096)
+def power(need: Need, l: int, exponent: int) -> Surface:
+    """The chance of `unreported_then_stable` for as many processes."""
+    if exponent == 0:
+        return {(0, 0): 1}
+    return times_on(power(need, l, exponent - 1), dict(unreported_then_stable(need, l)))
+
+
+@dataclass(frozen=True, order=True)
+class Kind:
+    """Processes that are alike: this many alerts come of each, and each is one of the failed ones or not. A process that
+    others observe which may be proposed is a kind by itself: of each ring it is known which of the world's kinds observes it
+    there, if one does, and whether its alert comes. So is one that observes others."""
 
     alerts: int
     is_target: bool
-    observed: tuple[tuple[int, bool], ...]
+    observed: tuple[tuple[int, bool], ...] = ()
 
-    def need(self, h: int, members: int) -> Need:
-        """What it needs in a set of singles, which is a number whose bits are its members."""
-        inside = [is_alerted for observer, is_alerted in self.observed if members >> observer & 1]
+    def need(self, h: int, members: Counts) -> Need:
+        """What each of them needs in a set of these members."""
+        inside = [is_alerted for observer, is_alerted in self.observed if members[observer]]
         return Need(self.alerts, sum(inside), max(0, h - len(inside)))
 
 
 @dataclass(frozen=True)
 class World:
-    """The processes of which alerts come to a receiver: kinds with their numbers, and singles."""
+    """The processes of which alerts come to a receiver: kinds with their numbers, those taken one by one at the end."""
 
     kinds: tuple[tuple[Kind, int], ...]
-    singles: tuple[Single, ...] = ()
+    singles: int = 0
 
 
 @dataclass(frozen=True)
 class Proposed:
-    """A proposal: how many of each kind and which singles it has, in how many ways these can be chosen, and the share of the
-    orders in which one such set is proposed."""
+    """A proposal: how many of each kind it has, in how many ways these can be chosen, and the share of the orders in which
+    one such set is proposed."""
 
-    counts: tuple[int, ...]
-    members: int
+    counts: Counts
     ways: int
     share: Fraction
 
 
-def below(counts: Sequence[int]) -> Iterator[tuple[int, ...]]:
+def below(counts: Counts) -> Iterator[Counts]:
     return product(*(range(count + 1) for count in counts))
 
 
-def submasks(mask: int) -> Iterator[int]:
-    """The subsets of a set of singles, the whole one first."""
-    part = mask
-    while True:
-        yield part
-        if part == 0:
-            return
-        part = (part - 1) & mask
+def ways_to_choose(numbers: Counts, counts: Counts) -> int:
+    return prod(map(comb, numbers, counts))
 
 
 class Shares:
@@ -208,97 +194,67 @@ class Shares:
     def __init__(self, world: World, rule: Rule) -> None:
         self.world, self.rule = world, rule
         # Only what may become stable is in a proposal; the other kinds can only keep a receiver silent.
-        self.open = [(kind, number) for kind, number in world.kinds if kind.alerts >= rule.h]
-        self.shut = [(kind, number) for kind, number in world.kinds if kind.alerts < rule.h]
-        self.surfaces = [dict(unreported_then_stable(Need(kind.alerts, 0, rule.h), rule.l)) for kind, _ in self.open]
-        self.powers: list[dict[int, Surface]] = [{} for _ in self.open]
-        self.densities: dict[tuple[tuple[int, ...], int], Polynomial] = {}
-        self.sums: dict[tuple[tuple[int, ...], int, int], dict[int, list[int]]] = {}
+        self.numbers = tuple(count if it.alerts >= rule.h or it.observed else 0 for it, count in world.kinds)
+        self.size = sum(it.alerts * count for (it, _), count in zip(world.kinds, self.numbers))
+        self.densities: dict[Counts, Polynomial] = {}
+        self.sums: dict[Needs, dict[int, list[int]]] = {}
 
-    def all_stable(self, counts: Sequence[int], members: int) -> Polynomial:
+    def needs(self, counts: Counts, members: Counts) -> Needs:
+        """What some processes need in a set of these members, and how many of each kind they are."""
+        kinds = zip(self.world.kinds, counts)
+        return tuple((kind.need(self.rule.h, members), count) for (kind, _), count in kinds if count)
+
+    def all_stable(self, members: Counts) -> Polynomial:
         """The chance that each process of a set is stable by u."""
-        found: Polynomial = {0: 1}
-        for (kind, _), count in zip(self.open, counts):
-            one = dict(stable(Need(kind.alerts, 0, self.rule.h), self.rule.l))
-            for _ in range(count):
-                found = times(found, one)
-        for at, single in enumerate(self.world.singles):
-            if members >> at & 1:
-                found = times(found, dict(stable(single.need(self.rule.h, members), self.rule.l)))
-        return found
+        needs = self.needs(members, members)
+        return product_of(stable(need, self.rule.l) for need, count in needs for _ in range(count))
 
-    def later(self, counts: Sequence[int], singles: int, members: int) -> Surface:
-        """The chance that none of some processes is reported at v, and each is stable at u, in a set of these members."""
-        found: Surface = {(0, 0): 1}
-        for surface, known, count in zip(self.surfaces, self.powers, counts):
-            found = times_on(found, power(surface, count, known)) if count else found
-        for at, single in enumerate(self.world.singles):
-            if singles >> at & 1:
-                found = times_on(found, dict(unreported_then_stable(single.need(self.rule.h, members), self.rule.l)))
-        return found
-
-    def integrals(self, counts: tuple[int, ...], singles: int, members: int, most: int) -> dict[int, list[int]]:
-        """For each power b of `later`, the numbers by which u^(p + b + 1) / (p + b + 1)! counts where v^p / p! is integrated
-        against it, for each p up to `most`. They are sums of binomial numbers, and so repeated sums of the coefficients.
-        """
-        key = (counts, singles, members if singles else 0)
-        known = self.sums.get(key)
-        if known is not None and all(len(its) > most for its in known.values()):
-            return known
+    def integrals(self, needs: Needs) -> dict[int, list[int]]:
+        """For processes none of which is reported at v, and each of which is stable at u: for each power b of that chance,
+        the numbers by which u^(p + b + 1) / (p + b + 1)! counts where v^p / p! is integrated against it, for each p that a
+        density has. They are sums of binomial numbers, and so repeated sums of the coefficients."""
+        later = reduce(times_on, (power(need, self.rule.l, count) for need, count in needs), {(0, 0): 1})
         rows: dict[int, list[int]] = {}
-        for (a, b), x in self.later(counts, singles, members).items():
+        for (a, b), x in later.items():
             rows.setdefault(b, [0] * (b + 1))[b - a] += x * factorial(a) * factorial(b - a)
-        found = {}
+        found: dict[int, list[int]] = {b: [] for b in rows}
         for b, row in rows.items():
-            its = []
-            for _ in range(most + 1):
+            for _ in range(self.size + 1):
                 row = list(accumulate(row))
-                its.append(row[-1])
-            found[b] = its
-        self.sums[key] = found
+                found[b].append(row[-1])
         return found
 
-    def density(self, counts: tuple[int, ...], members: int) -> Polynomial:
+    def density(self, members: Counts) -> Polynomial:
         """The density with which a receiver that hears of a set alone proposes all of it, by powers u^p / p!."""
-        if (counts, members) in self.densities:
-            return self.densities[counts, members]
-        whole = {n: x * factorial(n) for n, x in self.all_stable(counts, members).items()}
-        size = sum(kind.alerts * number for kind, number in self.open) + sum(it.alerts for it in self.world.singles)
-        for part, singles in product(below(counts), submasks(members)):
-            if (not any(part) and not singles) or (part == counts and singles == members):
+        if members in self.densities:
+            return self.densities[members]
+        whole = {n: x * factorial(n) for n, x in self.all_stable(members).items()}
+        for part in below(members):
+            earlier = self.density(part) if any(part) and part != members else {}
+            if not earlier:
                 continue
-            earlier = self.density(part, singles)
-            rest = tuple(count - its for count, its in zip(counts, part))
-            ways = prod(comb(count, its) for count, its in zip(counts, part))
-            for b, its in self.integrals(rest, members & ~singles, members, size).items() if earlier else ():
+            rest = tuple(count - its for count, its in zip(members, part))
+            needs, ways = self.needs(rest, members), ways_to_choose(members, part)
+            if needs not in self.sums:
+                self.sums[needs] = self.integrals(needs)
+            for b, its in self.sums[needs].items():
                 for p, x in earlier.items():
                     whole[p + b + 1] = whole.get(p + b + 1, 0) - ways * x * its[p]
-        found = {n - 1: x for n, x in whole.items() if x}
-        self.densities[counts, members] = found
+        found = self.densities[members] = {n - 1: x for n, x in whole.items() if x}
         return found
 
-    def none_reported(self, counts: Sequence[int], singles: int) -> Polynomial:
+    def none_reported(self, members: Counts) -> Polynomial:
         """The chance that no process of the world is reported at v, but for those of a set."""
-        found: Polynomial = {0: 1}
-        left = [(kind.alerts, number - count) for (kind, number), count in zip(self.open, counts)]
-        left += [(kind.alerts, number) for kind, number in self.shut]
-        left += [(it.alerts, 1) for at, it in enumerate(self.world.singles) if not singles >> at & 1]
-        for alerts, number in left:
-            one = dict(unreported(alerts, self.rule.l))
-            for _ in range(number):
-                found = times(found, one)
-        return found
+        left = [(kind.alerts, number - count) for (kind, number), count in zip(self.world.kinds, members)]
+        return product_of(unreported(alerts, self.rule.l) for alerts, number in left for _ in range(number))
 
     def proposals(self) -> Iterator[Proposed]:
         """Each proposal that a receiver may make."""
-        numbers = tuple(number for _, number in self.open)
-        for counts, members in product(below(numbers), submasks((1 << len(self.world.singles)) - 1)):
-            if not any(counts) and not members:
-                continue
-            density = self.density(counts, members)
+        for members in below(self.numbers):
+            density = self.density(members) if any(members) else {}
             if not density:
                 continue
-            others = self.none_reported(counts, members)
+            others = self.none_reported(members)
             common = lcm(*range(1, max(density) + max(others) + 2))
             total = sum(
                 x * factorial(max(density)) // factorial(p) * y * (common // (p + d + 1))
@@ -306,5 +262,4 @@ class Shares:
             )
             share = Fraction(total, common * factorial(max(density)))
             if share:
-                ways = prod(comb(number, count) for number, count in zip(numbers, counts))
-                yield Proposed(counts, members, ways, share)
+                yield Proposed(members, ways_to_choose(self.numbers, members), share)

@@ -62,6 +62,9 @@ class Line:
     right: int
     settled: int | None
 
+    def __str__(self) -> str:
+        return f"K = {self.k}, H = {self.h}, L = {self.l}, F = {self.f}"
+
     @property
     def cell(self) -> Cell:
         return self.k, self.h, self.l, self.f
@@ -71,28 +74,18 @@ class Line:
         """Conflicts in a million receivers, as the table has them."""
         return self.conflicts * 1_000_000 // self.receivers
 
-    @property
-    def conflict_share(self) -> Share:
-        """Of all receivers; each has an order of its own."""
-        return share_of(self.conflicts, self.receivers)
-
-    @property
-    def proposal_share(self) -> Share:
-        """Conflicts of those that proposed."""
-        return share_of(self.conflicts, self.receivers - self.silent)
-
-    @property
-    def silent_share(self) -> Share:
-        """Of all receivers. Those of a trial share who fails and who observes whom, so that a trial is one try."""
-        return share_of(self.silent, self.receivers, self.trials)
-
-    @property
-    def right_share(self) -> Share:
-        return share_of(self.right, self.trials)
-
-    @property
-    def decided_share(self) -> Share:
-        return share_of(self.decided, self.trials)
+    def share(self, what: str) -> Share:
+        """A share: of all receivers, each of which has an order of its own, or of trials. Those of a trial share who fails
+        and who observes whom, so that for silence a trial is one try. A conflict may also be one of those that proposed."""
+        receivers, trials = self.receivers, self.trials
+        counted: dict[str, tuple[int, int, int]] = {
+            "conflict": (self.conflicts, receivers, receivers),
+            "proposal": (self.conflicts, receivers - self.silent, receivers - self.silent),
+            "silent": (self.silent, receivers, trials),
+            "decided": (self.decided, trials, trials),
+            "right": (self.right, trials, trials),
+        }
+        return share_of(*counted[what])
 
 
 @dataclass(frozen=True)
@@ -101,13 +94,6 @@ class Table:
 
     name: str
     lines: tuple[Line, ...]
-
-    def line(self, cell: Cell) -> Line | None:
-        return next((it for it in self.lines if it.cell == cell), None)
-
-    @property
-    def has_settled(self) -> bool:
-        return bool(self.lines) and self.lines[0].settled is not None
 
 
 def line_of(name: str, number: int, row: dict[str, str | None]) -> Line:
@@ -127,10 +113,8 @@ def table_of(name: str, text: bytes) -> Table:
     if not lines:
         raise Refused(f"{name}: it has no lines; a table has a header and a line for each cell")
     if len({it.cell for it in lines}) < len(lines):
-        raise Refused(
-            f"{name}: a cell has two lines; tables of one plan that differ in a field need a column for it, as "
-            "`study vary` prints them, and are read one by one"
-        )
+        why = "tables of one plan that differ in a field need a column for it, as `study vary` prints them"
+        raise Refused(f"{name}: a cell has two lines; {why}, and are read one by one")
     return Table(name, lines)
 
 
@@ -144,14 +128,11 @@ def check_fits(plan: Plan, table: Table) -> None:
         raise Refused(f"{table.name}: its cells are not those of the plan, in their order; was the run cut short?")
     for it in table.lines:
         if it.trials != plan["repeats"] or it.receivers != plan["repeats"] * (plan["nodes"] - it.f):
-            raise Refused(
-                f"{table.name}: K = {it.k}, H = {it.h}, L = {it.l}, F = {it.f}: other numbers of trials or receivers "
-                "than the plan's"
-            )
+            raise Refused(f"{table.name}: {it}: other numbers of trials or receivers than the plan's")
 
 
-def csv_of(lines: list[Line], has_settled: bool) -> str:
+def csv_of(lines: list[Line]) -> str:
     """Lines as the program prints a table."""
-    names = ["k", "h", "l", "f", *COUNTS[:-1], *(["settled"] if has_settled else []), "ppm"]
+    names = ["k", "h", "l", "f", *(it for it in COUNTS if getattr(lines[0], it) is not None), "ppm"]
     rows = [",".join(str(getattr(it, name)) for name in names) for it in lines]
     return "\n".join([",".join(names), *rows]) + "\n"

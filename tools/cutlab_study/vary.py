@@ -61,14 +61,14 @@ def differ(one: Share, other: Share) -> bool:
 
 def compare(one: Table, other: Table) -> Iterator[str]:
     """For each cell of both tables its shares in each, and which of them differ."""
-    shared = [(it, there) for it in one.lines if (there := other.line(it.cell)) is not None]
+    others = {it.cell: it for it in other.lines}
+    shared = [(it, others[it.cell]) for it in one.lines if it.cell in others]
     if not shared:
         raise Refused(f"{one.name} and {other.name} have no cell in common")
     for it, there in shared:
-        yield f"K = {it.k}, H = {it.h}, L = {it.l}, F = {it.f}"
+        yield str(it)
         for name in ("conflict", "silent", "decided", "right"):
-            a: Share = getattr(it, f"{name}_share")
-            b: Share = getattr(there, f"{name}_share")
+            a, b = it.share(name), there.share(name)
             yield f"  {name:<8} {a}  {b}  {'differ' if differ(a, b) else 'no difference seen'}"
     alone = len(one.lines) + len(other.lines) - 2 * len(shared)
     if alone:
@@ -83,16 +83,13 @@ def pool(pairs: list[tuple[str, str]]) -> str:
     for (path, _), plan, table in zip(pairs, plans, tables):
         if {**plan, "seed": ""} != {**plans[0], "seed": ""}:
             fields = sorted(it for it in {*plan, *plans[0]} - {"seed"} if plan.get(it) != plans[0].get(it))
-            raise Refused(
-                f"{path} and {pairs[0][0]} differ in {', '.join(fields)}: only plans that differ in the seed alone add up"
-            )
+            both = f"{path} and {pairs[0][0]} differ in {', '.join(fields)}"
+            raise Refused(f"{both}: only plans that differ in the seed alone add up")
         check_fits(plan, table)
     if len(set(seeds)) < len(seeds):
         raise Refused("two of the plans have one seed: they have the same trials, which count once")
-    lines = []
+    lines: list[Line] = []
     for its in zip(*(table.lines for table in tables)):
-        sums: dict[str, int] = {name: sum(getattr(it, name) or 0 for it in its) for name in COUNTS[:-1]}
-        settled = sum(it.settled or 0 for it in its) if its[0].settled is not None else None
-        first: Line = its[0]
-        lines.append(replace(first, **sums, settled=settled))
-    return csv_of(lines, tables[0].has_settled)
+        names = [name for name in COUNTS if getattr(its[0], name) is not None]
+        lines.append(replace(its[0], **{name: sum(getattr(it, name) for it in its) for name in names}))
+    return csv_of(lines)

@@ -14,7 +14,8 @@ import time
 from pathlib import Path
 from typing import Iterable, TextIO
 
-from .paths import PROGRAM, ROOT, require
+from .arguments import parser
+from .paths import PROGRAM, ROOT, copy, require
 
 PARTS = ("src", "specs", "proofs", "data", "args", "stdin", "stdout", "status")
 
@@ -27,23 +28,18 @@ def dependencies() -> dict[str, list[str]]:
 
 def needed(below: dict[str, list[str]], name: str) -> set[str]:
     """A crate and all that it stands on, the kit's crates left out."""
-    found: set[str] = set()
-    waiting = [name]
-    while waiting:
-        crate = waiting.pop()
-        if crate in below and crate not in found:
-            found.add(crate)
-            waiting += below[crate]
+    found = {name}
+    while more := {it for crate in found for it in below[crate] if it in below} - found:
+        found |= more
     return found
 
 
 def copy_crates(place: Path, below: dict[str, list[str]], crates: set[str]) -> None:
     """Copies what is to be proved to a folder."""
-    for path in (Path("crates", crate, part) for crate in crates for part in PARTS):
-        if (ROOT / path).is_dir():
-            shutil.copytree(ROOT / path, place / path)
-        elif (ROOT / path).exists():
-            shutil.copy(ROOT / path, place / path)
+    for path in (ROOT / "crates" / crate / part for crate in crates for part in PARTS):
+        for file in (path, *path.rglob("*")):
+            if file.is_file():
+                copy(file, place / file.relative_to(ROOT))
     lines = [f"{name}: {' '.join(on)}\n" for name, on in below.items() if name in crates]
     (place / "crates.txt").write_text("".join(lines))
     shutil.copy(ROOT / "HANDLES", place)
@@ -76,10 +72,9 @@ def prove(place: Path, crates: set[str]) -> bool:
     """Proves the copy, and says how far it is: whether all was proved."""
     log = place / "log"
     with log.open("w+") as kept:
-        pipe = subprocess.PIPE
-        with subprocess.Popen(
-            ["rt", "ci"], cwd=place, stdin=subprocess.DEVNULL, stdout=pipe, stderr=subprocess.STDOUT
-        ) as proofs:
+        pipe, none = subprocess.PIPE, subprocess.DEVNULL
+        proofs = subprocess.Popen(["rt", "ci"], cwd=place, stdin=none, stdout=pipe, stderr=subprocess.STDOUT)
+        with proofs:
             print_progress(crates, proofs.stdout or [], kept)
     if proofs.returncode:
         print("\n".join(log.read_text().split("\n")[-61:]), end="", file=sys.stderr)
@@ -87,9 +82,7 @@ def prove(place: Path, crates: set[str]) -> bool:
 
 
 def main() -> int:
-    if len(sys.argv) > 1:
-        print((__doc__ or "").strip())
-        return 0 if sys.argv[1] in ("-h", "--help") else 2
+    parser(__doc__, "").parse_args()
     require("rt", "build", "README.md")
     below = dependencies()
     crates = needed(below, "cutlab")
@@ -98,11 +91,6 @@ def main() -> int:
         copy_crates(Path(folder), below, crates)
         if not prove(Path(folder), crates):
             sys.exit("build: not everything was proved, so there is no program")
-        PROGRAM.parent.mkdir(parents=True, exist_ok=True)
-        shutil.copy2(Path(folder, built), PROGRAM)
+        copy(Path(folder, built), PROGRAM)
     print(f"proved and built: {built}\n{built} run < examples/one_crash.json")
     return 0
-
-
-if __name__ == "__main__":
-    sys.exit(main())

@@ -14,14 +14,15 @@ import subprocess
 import sys
 import tempfile
 import time
-from concurrent.futures import Future, ThreadPoolExecutor, as_completed
+from concurrent.futures import ThreadPoolExecutor, as_completed
 from functools import partial
 from pathlib import Path
 from typing import Callable, NamedTuple
 
+from .arguments import parser
 from .documents.pages import Command, try_pages
-from .paths import ROOT, require, tracked_files
-from .unproved import NotBuilt, NotServed, build_unproved
+from .paths import ROOT, copy, require, tracked_files
+from .unproved import NotBuilt, build_unproved
 
 # The campaigns, the longest first, with the number of cases that each tries, and of the parts that it is divided into.
 CAMPAIGNS = [
@@ -33,9 +34,13 @@ CAMPAIGNS = [
 TESTED = ["cut_command_line_tests"]
 # Checks of documents by the sources alone, and by what the program prints.
 BY_SOURCES = ["docs/statement/make --check", "docs/layers/make --check", "docs/words", "docs/faults"]
-BY_PROGRAM = ["docs/schema", "docs/manual", "docs/completions/make --check", "docs/refuses"]
-# What looks at the tools, where it is installed.
+BY_PROGRAM = ["docs/schema", "docs/manual/make --check", "docs/completions/make --check", "docs/refuses"]
+# What looks at the tools, where it is installed, and their tests.
 TOOLS = ["mypy --cache-dir=/dev/null", "black --check --quiet ."]
+UNITS = [sys.executable, "-m", "unittest", "discover", "tools/tests"]
+# How a part's output says how many cases passed and failed, or were tried and different.
+RUST_TESTS, PYTHON_TESTS = r"^test result: .*?(\d+) passed; (\d+) failed", r"^Ran (\d+)() tests"
+TRIED = r"(\d+) tried, (\d+) different\n\Z"
 # The plans whose tables the unproved program has in seconds, and the commands that need a table.
 SMALL = ("one_crash.json", "watermarks.json")
 STUDIES = re.compile(r"\bcutlab (run|share|join|migrate|status|serve|ask)\b")
@@ -52,24 +57,18 @@ class Result(NamedTuple):
     seconds: float = 0.0
 
 
-class Printed(NamedTuple):
-    """What a command printed on both streams, and whether it ended well."""
-
-    text: str
-    is_well: bool
-
-    def result(self, passed: int, failed: int = 0) -> Result:
-        """The result of a part in which `passed` cases passed; where the command fails, at least one failed."""
-        return Result(passed, 0) if self.is_well else Result(passed, max(1, failed), self.text)
-
-
 Part = Callable[[], Result]
 
 
-def run(*words: str | Path, cwd: Path = ROOT) -> Printed:
+def part(*words: str | Path, counts: str = "", cases: int = 1, cwd: Path = ROOT) -> Result:
+    """Runs a command, which passes as a whole, or prints how many cases passed and failed; if it fails, at least one did."""
     pipe = subprocess.PIPE
     done = subprocess.run(words, cwd=cwd, stdin=subprocess.DEVNULL, stdout=pipe, stderr=subprocess.STDOUT)
-    return Printed(done.stdout.decode(errors="replace"), done.returncode == 0)
+    text = done.stdout.decode(errors="replace")
+    found = [(int(one), int(other or 0)) for one, other in re.findall(counts, text, re.M)] if counts else []
+    passed, failed = (sum(its) for its in zip(*found or [(cases, 0)]))
+    passed -= failed if counts == TRIED else 0
+    return Result(passed, 0) if done.returncode == 0 else Result(passed if found else 0, max(1, failed), text)
 
 
 def build(program: Path) -> Result:
@@ -77,57 +76,27 @@ def build(program: Path) -> Result:
     try:
         build_unproved(ROOT, program)
     except NotBuilt as why:
-        return Result(0, 1, f"the program does not build\n{why}")
-    except NotServed as why:
-        return Result(0, 1, f"the program is built, but does not serve\n{why}")
+        return Result(0, 1, str(why))
     return Result(1, 0)
 
 
 def whole(words: str, *more: str | Path) -> Result:
     """Runs a check that passes as a whole."""
-    name, *rest = words.split()
-    printed = run(ROOT / name, *rest, *more)
-    return printed.result(int(printed.is_well))
+    return part(*f"./{words}".split(), *more)
 
 
 def tool(words: str) -> Result:
     """Runs a tool over the package, if it is installed."""
     name = words.split()[0]
-    if not shutil.which(name):
-        return Result(0, 0, f"{name} is not installed, so the tools were not checked by it")
-    printed = run(*words.split())
-    return printed.result(int(printed.is_well))
+    missing = Result(0, 0, f"{name} is not installed, so the tools were not checked by it")
+    return part(*words.split()) if shutil.which(name) else missing
 
 
 def campaign(words: str, first: int, count: int, seed: str, program: Path) -> Result:
     """Tries cases of a campaign."""
     name, *rest = words.split()
     drawn = ["--forget", "--seed", seed, "--from", str(first), "--count", str(count)]
-    printed = run(ROOT / "campaigns" / name, "--program", program, *drawn, *rest)
-    return printed.result(count if printed.is_well else 0)
-
-
-def counted(*words: str | Path) -> Result:
-    """Runs a script whose last line says how many cases it tried and how many were different."""
-    printed = run(*words)
-    counts = re.search(r"(\d+) tried, (\d+) different\n$", printed.text)
-    tried, differing = (int(counts[1]), int(counts[2])) if counts else (0, 0)
-    return printed.result(tried - differing, differing)
-
-
-def crate_tests(crate: str) -> Result:
-    """Runs the tests of a crate, with nothing proved."""
-    printed = run("rt", "try", "--test", cwd=ROOT / "crates" / crate)
-    counts = re.findall(r"^test result: .*?(\d+) passed; (\d+) failed", printed.text, re.MULTILINE)
-    passed, failed = (sum(int(it[at]) for it in counts) for at in (0, 1))
-    return printed.result(passed or int(printed.is_well), failed)
-
-
-def tools_tests() -> Result:
-    """Runs the tests of the packages in tools/."""
-    printed = run(sys.executable, "-m", "unittest", "discover", "tools/tests")
-    counts = re.search(r"^Ran (\d+) tests", printed.text, re.MULTILINE)
-    return printed.result(int(counts[1]) if counts and printed.is_well else 0)
+    return part(ROOT / "campaigns" / name, "--program", program, *drawn, *rest, cases=count)
 
 
 def layout() -> Result:
@@ -136,14 +105,11 @@ def layout() -> Result:
     with tempfile.TemporaryDirectory() as place:
         sources = Path(place, "crates", "all", "src")
         for name in names:
-            (sources / name).parent.mkdir(parents=True, exist_ok=True)
-            shutil.copyfile(ROOT / name, sources / name)
+            copy(ROOT / name, sources / name)
         Path(place, "crates.txt").write_text("all:\n")
-        printed = run("rt", "fmt", cwd=sources.parent)
+        found = part("rt", "fmt", cwd=sources.parent)
         other = [it for it in names if (ROOT / it).read_bytes() != (sources / it).read_bytes()]
-    if printed.is_well and not other:
-        return Result(1, 0)
-    return Result(0, 1, "".join(f"{it}: rt fmt lays this out in another way\n" for it in other) or printed.text)
+    return Result(0, 1, "".join(f"{it}: rt fmt lays this out in another way\n" for it in other)) if other else found
 
 
 def short(listed: list[Command]) -> list[Command]:
@@ -165,11 +131,11 @@ def pages(program: Path) -> Result:
     return Result(count - len(differing), len(differing), "\n".join(differing))
 
 
-def timed(part: Part) -> Result:
+def timed(run: Part) -> Result:
     """What a part found, with its seconds."""
     begun = time.monotonic()
     try:
-        found = part()
+        found = run()
     except (OSError, subprocess.SubprocessError) as error:
         found = Result(0, 1, str(error))
     return found._replace(seconds=time.monotonic() - begun)
@@ -177,14 +143,18 @@ def timed(part: Part) -> Result:
 
 def before() -> dict[str, Part]:
     """The parts that need no program, by their names."""
-    parts: dict[str, Part] = {f"tests of {name}": partial(crate_tests, name) for name in TESTED}
-    parts |= {"layout": layout, "tests of tools": tools_tests}
+    test = ["rt", "try", "--test"]
+    parts: dict[str, Part] = {
+        f"tests of {it}": partial(part, *test, counts=RUST_TESTS, cwd=ROOT / "crates" / it) for it in TESTED
+    }
+    parts |= {"layout": layout, "tests of tools": partial(part, *UNITS, counts=PYTHON_TESTS)}
     parts |= {words.split()[0]: partial(tool, words) for words in TOOLS}
     return parts | {words.split()[0]: partial(whole, words) for words in BY_SOURCES}
 
 
 def after(given: argparse.Namespace, program: Path) -> dict[str, Part]:
     """The parts that run the program, by their names: the cases that differed once are the first."""
+    counted = partial(part, counts=TRIED)
     parts: dict[str, Part] = {"regressions": partial(counted, ROOT / "campaigns/regressions", "--program", program)}
     for words, count, shares in CAMPAIGNS:
         each = max(1, round(count * given.times / shares))
@@ -207,33 +177,27 @@ def print_result(name: str, found: Result) -> Result:
 def run_all(given: argparse.Namespace) -> list[Result]:
     """Runs all parts. The build and the parts that need no program go on beside one another."""
     with ThreadPoolExecutor(len(os.sched_getaffinity(0))) as pool, tempfile.TemporaryDirectory() as folder:
-        parts: dict[Future[Result], str] = {}
         program = Path(folder, "cutlab")
         with ThreadPoolExecutor(1) as builder:
             built = builder.submit(timed, partial(build, program))
-            parts |= {pool.submit(timed, part): name for name, part in before().items()}
+            parts = {pool.submit(timed, it): name for name, it in before().items()}
             results = [print_result("build", built.result())]
         if not results[0].failed:
             if given.keep:
                 shutil.copy(program, given.keep)
-            parts |= {pool.submit(timed, part): name for name, part in after(given, program).items()}
+            parts |= {pool.submit(timed, it): name for name, it in after(given, program).items()}
         return results + [print_result(parts[it], it.result()) for it in as_completed(parts)]
 
 
 def main() -> int:
-    words = argparse.ArgumentParser(description=__doc__, formatter_class=argparse.RawDescriptionHelpFormatter)
+    words = parser(__doc__, "")
     words.add_argument("--seed", default="1", help="what the cases are drawn from")
     words.add_argument("--times", type=float, default=1, help="how many times the usual number of cases is tried")
     words.add_argument("--keep", metavar="FILE", help="keeps the program that is built, for a campaign's --program")
-    given = words.parse_args()
+    given, begun = words.parse_args(), time.monotonic()
     require("rt", "check")
-    begun = time.monotonic()
     os.environ["PYTHONDONTWRITEBYTECODE"] = "1"
     results = run_all(given)
     passed, failed = sum(it.passed for it in results), sum(it.failed for it in results)
     print(f"{time.monotonic() - begun:.0f} s\n{passed} passed, {failed} failed")
     return int(failed > 0)
-
-
-if __name__ == "__main__":
-    sys.exit(main())

@@ -4,6 +4,7 @@ from __future__ import annotations
 import json
 import random
 import re
+from functools import reduce
 from typing import Any, NamedTuple
 
 from .paths import DATA, reference
@@ -28,13 +29,12 @@ def spoil(rng: random.Random, plan: Plan) -> None:
     way = rng.randrange(5)
     if way == 0:
         del plan[field]
-    elif way == 1:
-        name = rng.choice(["x", "faults", "deaf", "Nodes", "", "version "])
-        plan[name] = rng.choice(MISTAKES["values"])
-    elif way == 2 and isinstance(plan[field], list):
-        plan[field] = [*plan[field], rng.choice(MISTAKES["values"])]
-    else:
-        plan[field] = rng.choice(MISTAKES["values"])
+        return
+    if way == 1:
+        field = rng.choice(["x", "faults", "deaf", "Nodes", "", "version "])
+    before = plan[field] if way == 2 and isinstance(plan[field], list) else None
+    value = rng.choice(MISTAKES["values"])
+    plan[field] = value if before is None else [*before, value]
 
 
 def mutated(rng: random.Random, text: bytes) -> bytes:
@@ -122,16 +122,8 @@ class Write(NamedTuple):
 
 def crash_image(rng: random.Random, calls: list[Write | None]) -> bytes:
     """The file as a crash after these calls may leave it: writes, and syncs, which are None."""
-    stable, pending = b"", list[Write]()
-    for call in calls:
-        if call:
-            pending.append(call)
-            continue
-        for write in pending:
-            stable = write.put(stable)
-        pending = []
-    left = stable
-    for write in pending:
-        torn = write.torn(rng)
-        left = torn.put(left) if torn else left
+    synced = max((at for at, call in enumerate(calls, 1) if call is None), default=0)
+    stable = reduce(lambda held, write: write.put(held), filter(None, calls[:synced]), b"")
+    torn = [write.torn(rng) for write in filter(None, calls[synced:])]
+    left = reduce(lambda held, write: write.put(held), filter(None, torn), stable)
     return left[: rng.randint(len(stable), max(len(stable), len(left)))]

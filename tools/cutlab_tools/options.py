@@ -4,9 +4,9 @@ from typing import NamedTuple
 
 from .repository import Repository
 
-ARGUMENT = re.compile(r"^ +(?:--(\w+)(?: <(.+?)>)?|<(.+?)>(\.\.)?\.?) {2,}(.*?)(?: \[default: (\w+)\])?$")
+ARGUMENT = re.compile(r"^ +(?:--(\w+)(?: <(.+?)>)?|[<\[](.+?)[>\]](\.\.)?\.?) {2,}(.*?)(?: \[default: (\w+)\])?$")
 # What stands in a word or a value, by the name that the help gives it. A share, I/N, is nothing that can be completed.
-FOLDERS, FILES = {"DIR"}, {"FILE", "SOCKET", "OLD", "NEW", "OLD.."}
+FOLDERS, FILES = {"DIR"}, {"FILE", "SOCKET", "OLD", "NEW", "OLD..", "PLAN"}
 
 
 class Argument(NamedTuple):
@@ -33,11 +33,12 @@ class Argument(NamedTuple):
 
 
 class Command(NamedTuple):
-    """A command: its name, what it does, and its arguments in the order of its help."""
+    """A command: its name, what it does, its arguments in the order of its help, and the lines of that."""
 
     name: str
     about: str
     arguments: list[Argument]
+    lines: list[str]
 
     @property
     def options(self) -> list[Argument]:
@@ -48,28 +49,26 @@ class Command(NamedTuple):
         return any(it.is_word and it.is_file for it in self.arguments)
 
 
-def argument(line: str) -> Argument | None:
-    """The argument that a line of a command's help describes, if it is not of the help itself."""
-    found = ARGUMENT.match(line)
-    if not found:
-        return None
-    name, value, word, more, about, default = found.groups()
-    return Argument(name or word, value or (word + (more or "") if word else ""), about, default, bool(word))
-
-
-def commands(repository: Repository) -> list[Command]:
-    """The commands in the order of the help."""
-    listed = repository.read("$ cutlab --help").split("Commands:\n")[1].split("\n\n")[0]
+def arguments(lines: list[str]) -> list[Argument]:
+    """The arguments that the lines of a command's help describe."""
     found = []
-    for name in re.findall(r"^  (\w+)", listed, re.M):
-        if name != "help":
-            about, *lines = repository.read(f"$ cutlab {name} --help").split("\n")
-            found.append(Command(name, about, [it for it in map(argument, lines) if it]))
+    for name, value, word, more, about, default in (it.groups() for it in map(ARGUMENT.match, lines) if it):
+        value = value or (word + (more or "") if word else "")
+        found.append(Argument(name or word, value, about, default, bool(word)))
     return found
 
 
-def range_taken(repository: Repository, command: str, option: Argument) -> tuple[int, int]:
+def commands(repository: Repository) -> list[Command]:
+    """The commands in the order of the help, but for `help` itself."""
+    listed = repository.read("$ cutlab --help").split("Commands:\n")[1].split("\n\n")[0]
+    found = []
+    for name in re.findall(r"^  (?!help)(\w+)", listed, re.M):
+        about, *lines = repository.read(f"$ cutlab {name} --help").split("\n")
+        found.append(Command(name, about, arguments(lines), lines))
+    return found
+
+
+def range_taken(repository: Repository, command: str, option: Argument) -> tuple[str, str]:
     """The numbers that an option takes, as the program says where it refuses one."""
-    refusal = repository.read(f"$ cutlab {command} --{option.name} 0")
-    found = re.search(r"0 is not in (\d+)\.\.=(\d+)", refusal)
-    return (int(found[1]), int(found[2])) if found else (0, 0)
+    found = re.search(r"0 is not in (\d+)\.\.=(\d+)", repository.read(f"$ cutlab {command} --{option.name} 0"))
+    return (found[1], found[2]) if found else ("?", "?")

@@ -22,15 +22,18 @@ def tracked_files(*patterns: str) -> list[str]:
     return [name for name in listed.decode().split("\0") if name and (ROOT / name).is_file()]
 
 
+def copy(old: Path, new: Path) -> None:
+    """Copies a file, or a link as a link, into a folder that is made where there is none."""
+    new.parent.mkdir(parents=True, exist_ok=True)
+    shutil.copy(old, new, follow_symlinks=False)
+
+
 def copy_repository(place: Path, program: Path | None = None) -> None:
     """Copies the files of the repository to a folder, and a program to where a build puts it."""
     for name in tracked_files():
-        (place / name).parent.mkdir(parents=True, exist_ok=True)
-        shutil.copy(ROOT / name, place / name)
+        copy(ROOT / name, place / name)
     if program:
-        built = place / PROGRAM.relative_to(ROOT)
-        built.parent.mkdir(parents=True, exist_ok=True)
-        shutil.copy(program, built)
+        copy(program, place / PROGRAM.relative_to(ROOT))
 
 
 def require(tool: str, who: str, page: str = "CONTRIBUTING.md") -> None:

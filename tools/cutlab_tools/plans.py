@@ -1,7 +1,7 @@
 """Plans that are drawn, small enough for the reference to compute, and what has to be printed of them."""
 import json
 import random
-from typing import Sequence
+from typing import Any, Callable, Iterable, Sequence
 
 from .paths import reference
 from .program import Ended
@@ -26,6 +26,11 @@ def drawn_seed(rng: random.Random) -> str:
     return f"{rng.getrandbits(256):064x}"
 
 
+def drawn_faults(rng: random.Random, version: int, deaf: Callable[[], int]) -> Plan:
+    """How the targets of a plan of a version fail, in version 2 with a drawn number of deaf ones."""
+    return {"faults": rng.choice(["crash", "deaf"])} if version == 1 else {"deaf": deaf()}
+
+
 def drawn_fields(rng: random.Random, versions: Sequence[int]) -> Plan:
     """Values for the fields of a plan, which may not go together."""
     nodes = rng.choice([2, 3, 4, 5, 6, 8, 9, 12, 17, 24, 33, 40])
@@ -37,21 +42,21 @@ def drawn_fields(rng: random.Random, versions: Sequence[int]) -> Plan:
     plan |= {"h": rising(rng, 1, k[-1], 3), "implicit": rng.random() < 0.5, "k": k, "l": rising(rng, 1, k[-1], 3)}
     plan |= {"liars": liars, "links": rng.choice([0, 0, 2, rng.randint(0, nodes)]), "nodes": nodes}
     plan |= {"repeats": rng.randint(1, 4), "seed": drawn_seed(rng), "version": rng.choice(versions)}
-    if plan["version"] == 1:
-        return plan | {"faults": rng.choice(["crash", "deaf"])}
-    return plan | {"deaf": rng.choice([0, 1, 2, rng.randint(0, 2048)])}
+    return plan | drawn_faults(rng, plan["version"], lambda: rng.choice([0, 1, 2, rng.randint(0, 2048)]))
 
 
 def drawn_plan(rng: random.Random, versions: Sequence[int] = (1, 2), most_work: int = 40_000) -> Plan:
     """A plan that is accepted, small enough for the reference to compute."""
     while True:
         plan = drawn_fields(rng, versions)
-        try:
-            accepted = reference.plan_of(text_of(plan))
-        except reference.Fault:
-            continue
-        if work_of(accepted) < most_work:
+        text = text_of(plan)
+        if fault_of(text) is None and work_of(reference.plan_of(text)) < most_work:
             return plan
+
+
+def drawn_words(rng: random.Random, workers: int, piece: int) -> list[str]:
+    """The options of a run: a number of workers, and of trials of a piece."""
+    return ["--workers", str(rng.randint(1, workers)), "--piece", str(rng.randint(1, piece))]
 
 
 def work_of(plan: Plan) -> int:
@@ -66,28 +71,39 @@ def trials_of(plan: Plan) -> int:
     return int(len(reference.cells(plan)) * plan["repeats"])
 
 
+def trials_in(slips: Iterable[Sequence[Any]]) -> list[int]:
+    """The trials of slips, each of which begins with its first trial and how many it has."""
+    return sorted(trial for first, count, *_ in slips for trial in range(first, first + count))
+
+
+def slips_in(plan: Plan, held: bytes) -> list[reference.Slip]:
+    """The slips that a file holds for a plan, if they may be true."""
+    return list(reference.checked_slips(plan, reference.slips_of(plan, held)))
+
+
+def upgrade(plan: Plan) -> Plan:
+    """The plan of version 2 whose targets fail in the same way."""
+    rest = {field: value for field, value in plan.items() if field != "faults"}
+    return {**rest, "version": 2, "deaf": plan["f"][-1] if plan["faults"] == "deaf" else 0}
+
+
 def fault_of(text: bytes) -> int | None:
     """The number of the fault by which a text is refused, or nothing where it is a plan."""
     try:
         reference.plan_of(text)
     except reference.Fault as fault:
-        return fault.number
+        return int(fault.number)
     return None
 
 
-def wanted_run(text: bytes) -> Ended:
-    """How a run over a plan's text has to end."""
-    try:
-        return Ended(reference.table(reference.plan_of(text)))
-    except reference.Fault as fault:
-        return Ended("", f"{fault}\n", 3)
+def sizes(plan: Plan) -> str:
+    """What a check prints of a plan."""
+    return f"cells {len(reference.cells(plan))}\ntrials {trials_of(plan)}\nquorum {reference.quorum(plan['nodes'])}\n"
 
 
-def wanted_check(text: bytes) -> Ended:
-    """How a check of a plan's text has to end."""
+def wanted(text: bytes, printed: Callable[[Plan], str]) -> Ended:
+    """How a command has to end that prints this of the plan of a text."""
     try:
-        plan = reference.plan_of(text)
+        return Ended(printed(reference.plan_of(text)))
     except reference.Fault as fault:
         return Ended("", f"{fault}\n", 3)
-    lines = f"cells {len(reference.cells(plan))}\ntrials {trials_of(plan)}\nquorum {reference.quorum(plan['nodes'])}\n"
-    return Ended(lines)

@@ -6,7 +6,6 @@ What the program prints is read like a file, whose name is a command line: `$ cu
 from __future__ import annotations
 
 from pathlib import Path
-from typing import Iterable
 
 from .paths import PROGRAM, ROOT
 from .program import Program
@@ -40,10 +39,8 @@ class Repository:
         """The same with one text changed, in one place."""
         return Repository(self.program, {**self.texts, name: self.read(name).replace(old, new, 1)})
 
-
-def report(name: str, differing: Iterable[str], summary: str = "") -> int:
-    """Prints what a check found, or else its summary: the status of the command."""
-    found = list(differing)
-    if found or summary:
-        print("\n".join(found) if found else f"{name}: {summary}")
-    return int(bool(found))
+    def rows(self, page: str, heading: str) -> list[list[str]]:
+        """The rows of the first table below a heading of a page, each a list of its cells."""
+        below = self.read(page).partition(f"\n{heading}\n")[2].split("\n## ")[0].split("\n")
+        table = [it.strip("|").split("|") for it in below if it.startswith("|")]
+        return [[cell.strip() for cell in row] for row in table[2:]]

@@ -19,7 +19,7 @@ class NotBuilt(Exception):
     """What `rt` says where no program comes of the sources."""
 
 
-class NotServed(Exception):
+class NotServed(NotBuilt):
     """What the program that was built says in place of serving."""
 
 
@@ -61,4 +61,6 @@ def build_unproved(root: Path, program: Path) -> None:
         printed = log.read()
     if time.monotonic() >= last:
         raise NotBuilt(f"the build took over {BUILD_SECONDS} s")
-    raise (NotBuilt if "run=none" in printed or "\nrun=" not in printed else NotServed)(printed)
+    if "run=none" in printed or "\nrun=" not in printed:
+        raise NotBuilt(f"the program does not build\n{printed}")
+    raise NotServed(f"the program is built, but does not serve\n{printed}")

@@ -3,34 +3,22 @@ from __future__ import annotations
 
 import json
 import math
-import os
 import sys
 import tempfile
 import unittest
 from fractions import Fraction
+from pathlib import Path
+from typing import Any
 
-sys.path.insert(0, os.path.join(os.path.dirname(os.path.abspath(__file__)), ".."))
+sys.path.insert(0, str(Path(__file__).resolve().parents[1]))
 
 from cutlab_study import choose, exact, plans, report, tables, vary  # noqa: E402
 from cutlab_study.shares import Kind, Rule, World  # noqa: E402
+from cutlab_tools.plans import SMALLEST  # noqa: E402
 
 HEADER = "k,h,l,f,trials,receivers,conflicts,silent,extra,votes,decided,right,ppm\n"
-PLAN = {
-    "copies": 1,
-    "dead": "speak",
-    "f": [2],
-    "faults": "crash",
-    "h": [2, 3],
-    "implicit": False,
-    "k": [3],
-    "l": [1],
-    "liars": 0,
-    "links": 0,
-    "nodes": 10,
-    "repeats": 5,
-    "seed": "0" * 64,
-    "version": 1,
-}
+PLAN = SMALLEST | dict(dead="speak", f=[2], h=[2, 3], implicit=False, k=[3], nodes=10, repeats=5)
+ROWS = ("3,2,1,2,5,40,16,0,0,24,0,0,400000", "3,3,1,2,5,40,4,0,0,36,5,5,100000")
 
 
 def conflicts(k: int, h: int, l: int, f: int) -> Fraction:
@@ -39,6 +27,10 @@ def conflicts(k: int, h: int, l: int, f: int) -> Fraction:
 
 def table(*rows: str) -> tables.Table:
     return tables.table_of("table", (HEADER + "\n".join(rows) + "\n").encode())
+
+
+def plan(**fields: Any) -> plans.Plan:
+    return plans.plan_of(plans.text_of({**PLAN, **fields}))
 
 
 class ExactShares(unittest.TestCase):
@@ -79,8 +71,7 @@ class ExactShares(unittest.TestCase):
         self.assertEqual((columns.conflicts, columns.silent), (0, 1))
 
     def test_a_plan_without_roles(self) -> None:
-        plan = plans.plan_of(json.dumps(PLAN).encode())
-        found = {it.cell: (it.columns.conflicts, it.trials) for it in exact.exact(plan) if it.columns}
+        found = {it.cell: (it.columns.conflicts, it.trials) for it in exact.exact(plan()) if it.columns}
         self.assertEqual(found, {(3, 2, 1, 2): (Fraction(2, 5), 0), (3, 3, 1, 2): (Fraction(1, 10), 0)})
 
     def test_tails(self) -> None:
@@ -92,20 +83,21 @@ class Bounds(unittest.TestCase):
     """Wilson's bounds, against values of textbooks."""
 
     def test_bounds(self) -> None:
-        for count, of, low, high in (
-            (0, 20, 0.0, 0.161),
-            (0, 300, 0.0, 0.0126),
-            (0, 3000, 0.0, 0.00128),
-            (5, 10, 0.2366, 0.7634),
-        ):
+        wanted = ((0, 20, 0.0, 0.161), (0, 300, 0.0, 0.0126), (0, 3000, 0.0, 0.00128), (5, 10, 0.2366, 0.7634))
+        for count, of, low, high in wanted:
             found = tables.share_of(count, of)
             self.assertAlmostEqual(found.low, low, places=4)
             self.assertAlmostEqual(found.high, high, delta=0.001)
 
     def test_receivers_of_a_trial_are_one_try(self) -> None:
         it = table("10,9,1,2,20,19960,0,19960,0,0,0,0,0").lines[0]
-        self.assertEqual(it.silent_share.of, 20)
-        self.assertAlmostEqual(it.silent_share.low, 0.839, places=3)
+        self.assertEqual(it.share("silent").of, 20)
+        self.assertAlmostEqual(it.share("silent").low, 0.839, places=3)
+
+    def test_sums_of_squares(self) -> None:
+        """The values of a table of the chi-squared distribution that are exceeded in five of a hundred cases."""
+        for count, value in ((1, 3.841), (2, 5.991), (3, 7.815), (10, 18.307), (30, 43.773), (100, 124.342)):
+            self.assertAlmostEqual(exact.chance_of_more(value, count), 0.05, places=4)
 
 
 class Choices(unittest.TestCase):
@@ -116,7 +108,7 @@ class Choices(unittest.TestCase):
     )
 
     def test_a_gap_below_all_rings_comes_first(self) -> None:
-        said = choose.choose(table(*self.LINES), choose.Limits(None, 0.001, None), "conflicts", 2)
+        _, said = choose.choose(table(*self.LINES), choose.Limits(None, 0.001, None), "conflicts", 2)
         self.assertTrue(said[0].startswith("K = 10, H = 9, L = 1: "))
         self.assertTrue(said[1].startswith("K = 10, H = 10, L = 1: "))
         self.assertIn("one lost alert", said[2])
@@ -135,47 +127,34 @@ class Choices(unittest.TestCase):
 
     def test_silence_comes_last(self) -> None:
         lines = ("10,9,1,2,20,20000,0,20000,0,0,0,0,0", "10,8,1,2,20,20000,40,0,0,0,20,20,2000")
-        said = choose.choose(table(*lines), choose.Limits(None, None, None), "conflicts", 1)
+        _, said = choose.choose(table(*lines), choose.Limits(None, None, None), "conflicts", 1)
         self.assertTrue(said[0].startswith("K = 10, H = 8"))
         self.assertIn("2000 ppm", said[0])
 
 
 class Tables(unittest.TestCase):
     def test_what_is_no_table(self) -> None:
-        for text in (
-            "",
-            HEADER,
-            "a,b\n1,2\n",
-            HEADER + "1,1,1,1,2,0,0,0,0,0,0,0,0\n",
-            HEADER + "1,1,1,1,2,8,0,0,0,8,2,2,0\n" * 2,
-        ):
+        rows = ("1,1,1,1,2,0,0,0,0,0,0,0,0\n", "1,1,1,1,2,8,0,0,0,8,2,2,0\n" * 2)
+        for text in ("", HEADER, "a,b\n1,2\n", *(HEADER + it for it in rows)):
             with self.assertRaises(plans.Refused):
                 tables.table_of("text", text.encode())
 
     def test_a_table_comes_back(self) -> None:
         text = HEADER + "1,1,1,1,2,8,2,0,0,8,2,2,250000\n"
-        self.assertEqual(tables.csv_of(list(tables.table_of("text", text.encode()).lines), False), text)
+        self.assertEqual(tables.csv_of(list(tables.table_of("text", text.encode()).lines)), text)
 
     def test_pooled(self) -> None:
         with tempfile.TemporaryDirectory() as folder:
-
-            def made(name: str, text: str) -> str:
-                path = os.path.join(folder, name)
-                with open(path, "w", encoding="utf-8") as file:
-                    file.write(text)
-                return path
-
-            lines = "3,2,1,2,5,40,16,0,0,24,0,0,400000\n3,3,1,2,5,40,4,0,0,36,5,5,100000\n"
-            one, other = made("1.json", json.dumps(PLAN)), made("2.json", json.dumps({**PLAN, "seed": "1" * 64}))
-            far, csv = made("3.json", json.dumps({**PLAN, "seed": "2" * 64, "liars": 1})), made("t.csv", HEADER + lines)
-            self.assertEqual(
-                vary.pool([(one, csv), (other, csv)]),
-                HEADER + "3,2,1,2,10,80,32,0,0,48,0,0,400000\n3,3,1,2,10,80,8,0,0,72,10,10,100000\n",
-            )
-            with self.assertRaisesRegex(plans.Refused, "differ in liars"):
-                vary.pool([(one, csv), (far, csv)])
-            with self.assertRaisesRegex(plans.Refused, "one seed"):
-                vary.pool([(one, csv), (one, csv)])
+            changes: list[dict[str, Any]] = [{}, {"seed": "1" * 64}, {"seed": "2" * 64, "liars": 1}]
+            texts = {f"{at}.json": json.dumps(PLAN | its) for at, its in enumerate(changes)}
+            for name, text in {**texts, "table.csv": HEADER + "\n".join(ROWS) + "\n"}.items():
+                Path(folder, name).write_text(text)
+            one, other, far, csv = (f"{folder}/{name}" for name in (*texts, "table.csv"))
+            sums = "3,2,1,2,10,80,32,0,0,48,0,0,400000\n3,3,1,2,10,80,8,0,0,72,10,10,100000\n"
+            self.assertEqual(vary.pool([(one, csv), (other, csv)]), HEADER + sums)
+            for second, why in ((far, "differ in liars"), (one, "one seed")):
+                with self.assertRaisesRegex(plans.Refused, why):
+                    vary.pool([(one, csv), (second, csv)])
 
     def test_values_of_fields(self) -> None:
         self.assertEqual(vary.value_of("seed", "0" * 64), "0" * 64)
@@ -190,27 +169,16 @@ class Tables(unittest.TestCase):
 
 class Reports(unittest.TestCase):
     def test_a_page_needs_nothing_else(self) -> None:
-        lines = ("3,2,1,2,5,40,16,0,0,24,0,0,400000", "3,3,1,2,5,40,4,0,0,36,5,5,100000")
-        text = report.page(plans.plan_of(json.dumps(PLAN).encode()), table(*lines), choose.Limits(None, 0.5, None), 1)
-        for part in (
-            "K = 3, F = 2",
-            "exact 40 %",
-            "exact 10 %",
-            "H = 2, L = 1: 16 conflicts of 40 receivers",
-            PLAN["seed"],
-        ):
-            self.assertIn(str(part), text)
+        text = report.page(plan(), table(*ROWS), choose.Limits(None, 0.5, None), 1)
+        shares = ("exact 40 %", "exact 10 %", "H = 2, L = 1: 16 conflicts of 40 receivers")
+        for part in ("K = 3, F = 2", *shares, PLAN["seed"]):
+            self.assertIn(part, text)
         for part in ("<script", "http://", "https://", "<link", "src="):
             self.assertNotIn(part, text)
 
     def test_another_plan_is_refused(self) -> None:
         with self.assertRaises(plans.Refused):
-            report.page(
-                plans.plan_of(json.dumps(PLAN).encode()),
-                table("3,2,1,2,5,40,16,0,0,24,0,0,400000"),
-                choose.Limits(None, None, None),
-                1,
-            )
+            report.page(plan(), table(ROWS[0]), choose.Limits(None, None, None), 1)
 
 
 if __name__ == "__main__":

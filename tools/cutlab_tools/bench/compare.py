@@ -10,7 +10,7 @@ from pathlib import Path
 
 from ..paths import PROGRAM
 from ..program import build_peer
-from .costs import BENCH, best_cost
+from .costs import PLANS, best_cost
 
 
 def main() -> int:
@@ -19,14 +19,10 @@ def main() -> int:
     is_same = True
     with tempfile.TemporaryDirectory() as folder:
         peer = build_peer(Path(folder))
-        for plan in words or sorted(BENCH.glob("plans/*.json")):
+        for plan in words or PLANS:
             (ours, table), (plain, wanted) = (best_cost(it, plan) for it in ([str(program), "run"], [str(peer.path)]))
             is_same &= table == wanted
             word = "same table" if table == wanted else "OTHER TABLE"
             ratio = ours.seconds / plain.seconds
             print(f"{plan.name:24} {ours.seconds:8.3f} s {plain.seconds:8.3f} s  ratio {ratio:5.2f}  {word}")
     return int(not is_same)
-
-
-if __name__ == "__main__":
-    sys.exit(main())

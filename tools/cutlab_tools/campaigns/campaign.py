@@ -5,8 +5,10 @@ differs is kept in tests/data/regressions, and tried by ./check before all other
 """
 import argparse
 import importlib
+import inspect
 import json
 import random
+import re
 import subprocess
 import sys
 import tempfile
@@ -14,7 +16,8 @@ import time
 from pathlib import Path
 from typing import Any, ClassVar, Iterator
 
-from ..paths import DATA, PROGRAM, ROOT
+from ..arguments import parser
+from ..paths import DATA, ROOT
 from ..program import Ended, Program, Word
 
 REGRESSIONS = DATA / "regressions"
@@ -33,6 +36,11 @@ class Campaign:
 
     name: ClassVar[str]
     options: ClassVar[dict[str, dict[str, Any]]] = {}
+
+    def __init_subclass__(cls) -> None:
+        """Names a campaign by its class."""
+        super().__init_subclass__()
+        cls.name = re.sub(r"(?<=[a-z])(?=[A-Z])", " ", cls.__name__).lower()
 
     def __init__(self, path: Path, values: dict[str, Any]) -> None:
         self.path, self.values = path.absolute(), values
@@ -65,24 +73,21 @@ class Campaign:
 
     def expect_run(self, wanted: Ended, *words: Word, text: bytes = b"", what: str = "") -> None:
         """Runs a command over a text, and compares how it ends."""
-        shown = " ".join(map(str, words))
-        self.expect(
-            what or f"{shown} < {text.decode(errors='backslashreplace')}", wanted, self.program.run(*words, text=text)
-        )
+        what = what or f"{' '.join(map(str, words))} < {text.decode(errors='backslashreplace')}"
+        self.expect(what, wanted, self.program.run(*words, text=text))
+
+    def table_of(self, text: bytes, *words: Word) -> str:
+        """The table of a study that is run at once and has to end well."""
+        table, faults, status = self.program.run("run", *words, text=text, limit=600)
+        self.expect(f"a run of {text.decode()}", ("", 0), (faults, status))
+        return table
 
 
 def campaign_of(name: str) -> type[Campaign]:
     """The campaign of a name."""
-    module = importlib.import_module(f"cutlab_tools.campaigns.{name.replace(' ', '_')}")
-    kinds = [it for it in vars(module).values() if isinstance(it, type) and issubclass(it, Campaign)]
-    return next(it for it in kinds if it.__module__ == module.__name__)
-
-
-def words_of(values: dict[str, Any]) -> list[str]:
-    """The words that give a campaign's own options their values."""
-    return [
-        f"--{name}" if value is True else f"--{name} {value}" for name, value in values.items() if value is not False
-    ]
+    for module in ("drawn", "exact", "files", "laws", "servers"):
+        importlib.import_module(f"{__package__}.{module}")
+    return next(it for it in Campaign.__subclasses__() if it.name == name.replace("_", " "))
 
 
 def keep(campaign: Campaign, seed: str, number: int, difference: str) -> str:
@@ -101,26 +106,25 @@ def keep(campaign: Campaign, seed: str, number: int, difference: str) -> str:
 
 def case_numbers(given: argparse.Namespace) -> Iterator[int]:
     """The numbers of the cases that are tried."""
-    end = time.monotonic() + 60 * given.minutes if given.minutes else None
-    tried = 0
-    while time.monotonic() < end if end else tried < given.count:
-        yield given.first + tried
-        tried += 1
+    end, number = time.monotonic() + 60 * (given.minutes or 0), given.first
+    while time.monotonic() < end if given.minutes else number < given.first + given.count:
+        yield number
+        number += 1
 
 
 def described(campaign: Campaign, given: argparse.Namespace, number: int, difference: str) -> str:
     """What is printed of a case that differs."""
-    again = " ".join([sys.argv[0], f"--seed {given.seed} --from {number} --count 1", *words_of(campaign.values)])
+    own = [f"--{name}" if value is True else f"--{name} {value}" for name, value in campaign.values.items() if value]
+    again = " ".join([sys.argv[0], f"--seed {given.seed} --from {number} --count 1", *own])
     head = f"{campaign.name}: case {number} differs after {number - given.first} that did not"
     kept = [] if given.forget else [keep(campaign, given.seed, number, difference)]
     return "\n".join([head, difference, f"again: {again}", *kept])
 
 
-def run(name: str) -> int:
+def run(command: str, _: None = None) -> int:
     """The command of a campaign: tries cases until `count` are tried or `minutes` have passed, or one differs."""
-    kind = campaign_of(name)
-    words = argparse.ArgumentParser(description=sys.modules[kind.__module__].__doc__)
-    words.add_argument("--program", type=Path, default=PROGRAM, help="the built program")
+    kind, tried = campaign_of(Path(command).name), 0
+    words = parser(inspect.getdoc(kind), "--program")
     words.add_argument("--seed", default="1", help="what the cases are drawn from")
     words.add_argument("--from", dest="first", type=int, default=0, help="the number of the first case")
     words.add_argument("--count", type=int, default=100, help="how many cases are tried")
@@ -129,14 +133,13 @@ def run(name: str) -> int:
     for name, its in kind.options.items():
         words.add_argument(f"--{name}", **its)
     given = words.parse_args()
-    campaign, tried = kind(given.program, {name: getattr(given, name) for name in kind.options}), 0
+    campaign = kind(given.program, {name: getattr(given, name) for name in kind.options})
     try:
         for number in case_numbers(given):
-            try:
-                campaign.attempt(given.seed, number)
-            except FAILURES as difference:
-                sys.exit(described(campaign, given, number, str(difference)))
+            campaign.attempt(given.seed, number)
             tried += 1
+    except FAILURES as difference:
+        sys.exit(described(campaign, given, number, str(difference)))
     finally:
         campaign.close()
     print(f"{campaign.name}: {tried} tried, 0 different", flush=True)

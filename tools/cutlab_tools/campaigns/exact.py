@@ -15,7 +15,7 @@ from fractions import Fraction
 from typing import Any
 
 from cutlab_study import exact
-from cutlab_study.shares import Rule, World
+from cutlab_study.shares import Rule
 from cutlab_study.tables import Line, table_of
 
 from ..paths import reference
@@ -23,6 +23,7 @@ from ..plans import Plan, drawn_plan, text_of
 from .campaign import Campaign
 
 MOST_ALERTS, MOST_STEPS, RARE, LEAST_VARIANCE = 7, 3 * 10**8, 1e-7, 5.0
+COLUMNS = ("conflicts", "silent", "extra")
 
 
 class DrawnRoles(reference.Roles):
@@ -60,37 +61,30 @@ class SmallWorld:
         detector = reference.Detector(self.layout, *self.cell[:3], self.plan["implicit"])
         for edge in order:
             detector.deliver(edge)
-            members = detector.settled()
-            if members is not None:
+            if members := detector.settled():
                 return set(members)
         return None
 
     def counts(self) -> list[int]:
         """How many orders end in a conflict, in silence and in an extra."""
-        targets, counts = set(self.roles.targets), [0, 0, 0]
-        for order in itertools.permutations(self.edges):
-            members = self.proposed(order)
-            if members is None:
-                counts[1] += 1
-            else:
-                counts[0] += not targets <= members
-                counts[2] += not members <= targets
-        return counts
+        targets, found = set(self.roles.targets), map(self.proposed, itertools.permutations(self.edges))
+        ends = [(not targets <= it, False, not it <= targets) if it else (False, True, False) for it in found]
+        return [sum(its) for its in zip(*ends)]
 
     def shown(self) -> str:
         what: dict[str, Any] = {"cell": self.cell, "implicit": self.plan["implicit"], "rings": self.layout.rings}
         return json.dumps({**what, "alerts": self.edges, "targets": self.roles.targets})
 
 
-def worlds(plan: Plan, layout: reference.Layout, number: int, cell: reference.Cell) -> list[World] | None:
-    """The worlds of a cell's trials, or none where one would take too long."""
-    found, rule = exact.worlds_of(plan, layout, number, plan["repeats"]), Rule(cell[1], cell[2])
-    return found if sum(exact.steps_of(world, rule) for world in found) <= MOST_STEPS else None
+def trial_columns(plan: Plan, layout: reference.Layout, number: int, line: Line) -> list[exact.Columns]:
+    """The columns of each trial of a cell, or none where these would take too long."""
+    worlds, rule = exact.worlds_of(plan, layout, number, plan["repeats"]), Rule(line.h, line.l)
+    if sum(exact.steps_of(world, rule) for world in worlds) > MOST_STEPS:
+        return []
+    return [exact.columns_of(world, rule, 1, 1) for world in worlds]
 
 
 class Exact(Campaign):
-    name = "exact"
-
     def case(self, rng: random.Random) -> None:
         self.check_orders(SmallWorld(rng))
         self.check_table({**drawn_plan(rng), "repeats": rng.randint(4, 30)})
@@ -100,7 +94,7 @@ class Exact(Campaign):
         world = exact.world_of(small.plan, small.layout, small.roles, small.cell)
         columns = exact.columns_of(world, Rule(small.cell[1], small.cell[2]), 1, 1)
         orders = math.factorial(len(small.edges))
-        found = [share * orders for share in (columns.conflicts, columns.silent, columns.extra)]
+        found = [getattr(columns, name) * orders for name in COLUMNS]
         self.expect(f"orders in conflict, silent and with an extra of {small.shown()}", small.counts(), found)
 
     def check_column(self, plan: Plan, line: Line, name: str, shares: list[Fraction]) -> float | None:
@@ -109,24 +103,18 @@ class Exact(Campaign):
         receivers, found = plan["nodes"] - line.f, getattr(line, name)
         mean = sum(receivers * share for share in shares)
         variance = float(sum(receivers * share * (1 - share) for share in shares))
-        if variance == 0:
+        if shares and variance == 0:
             self.expect(f"{name} of {line} of {json.dumps(plan)}", mean, found)
         return float(found - mean) / math.sqrt(variance) if variance >= LEAST_VARIANCE else None
 
     def check_table(self, plan: Plan) -> None:
         """The program's table of a drawn plan beside the exact shares."""
-        printed, faults, status = self.program.run("run", text=text_of(plan), limit=600)
-        self.expect(f"a run of {json.dumps(plan)}", ("", 0), (faults, status))
         layout, distances = reference.layout_of(plan), list[float]()
-        for number, line in enumerate(table_of("table", printed.encode()).lines):
-            found = worlds(plan, layout, number, line.cell)
-            if found is None:
-                continue
-            columns = [exact.columns_of(world, Rule(line.h, line.l), 1, 1) for world in found]
-            self.check_column(plan, line, "silent", [it.silent for it in columns])
-            self.check_column(plan, line, "extra", [it.extra for it in columns])
-            distance = self.check_column(plan, line, "conflicts", [it.conflicts for it in columns])
-            distances += [] if distance is None else [distance]
+        for number, line in enumerate(table_of("table", self.table_of(text_of(plan)).encode()).lines):
+            columns = trial_columns(plan, layout, number, line)
+            for name in COLUMNS:
+                distance = self.check_column(plan, line, name, [getattr(it, name) for it in columns])
+                distances += [distance] if name == "conflicts" and distance is not None else []
         total = sum(it * it for it in distances)
         is_likely = not distances or exact.chance_of_more(total, len(distances)) >= RARE
         what = f"the squares of {len(distances)} distances add up to {total:.1f}"

@@ -1,11 +1,9 @@
 """Cases that a campaign found to differ once, tests/data/regressions, tried again. A case is drawn anew from its seed; where
 its campaign no longer draws it, as it compares something else, that is said too."""
-import argparse
 import json
-import sys
 from pathlib import Path
 
-from ..paths import PROGRAM
+from ..arguments import parser
 from .campaign import FAILURES, REGRESSIONS, campaign_of
 
 
@@ -24,16 +22,10 @@ def difference(path: Path, program: Path) -> str | None:
 
 
 def main() -> int:
-    words = argparse.ArgumentParser(description=__doc__)
-    words.add_argument("--program", type=Path, default=PROGRAM, help="the built program")
-    program = words.parse_args().program
+    program = parser(__doc__, "--program").parse_args().program
     paths = sorted(REGRESSIONS.glob("*.json"))
     found = {path: what for path in paths if (what := difference(path, program))}
     for path, what in found.items():
         print(f"regressions: {path.name}: {what}")
     print(f"regressions: {len(paths)} tried, {len(found)} different")
     return int(bool(found))
-
-
-if __name__ == "__main__":
-    sys.exit(main())

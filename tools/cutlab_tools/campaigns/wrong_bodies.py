@@ -1,29 +1,30 @@
-"""Whether the campaigns see the wrong bodies: campaigns/wrong_bodies [EDIT..] [--minutes N] [--jobs N]
+"""Whether the campaigns see wrong bodies: campaigns/wrong_bodies [EDIT..] [--all] [--minutes N] [--jobs N]
 
-Each edit, crates/NAME/must-fail/*.edit where none is named, is applied to a copy of the repository, whose program is
-built unproved; the campaigns are run with it, the shortest first, until one reports a difference or a minute is over. A
-line for each edit says what was seen, and the last line counts them. A build takes about a minute, and each edit has
-one: with --minutes they are begun, one of each crate in turn, until this many have passed.
+Those of tests/data/wrong_bodies.json are changes of a line, one in each part of the program, each with the campaign that has
+to see it. An edit that must fail, crates/NAME/must-fail/*.edit, is named instead, or with --all each of them is taken: then
+the campaigns are run, the shortest first, until one reports a difference or the time is over. A change is applied to a copy
+of the repository, whose program is built unproved in about a minute. A line for each says what was seen, and the last line
+counts them; the status is 1 where one of the list was not seen. With --minutes they are begun until this many have passed.
 """
 from __future__ import annotations
 
-import argparse
 import contextlib
+import json
 import os
 import signal
 import subprocess
-import sys
 import tempfile
 import time
 from collections import Counter
 from concurrent.futures import ThreadPoolExecutor
 from pathlib import Path
-from typing import NamedTuple
+from typing import NamedTuple, Sequence
 
-from ..paths import ROOT, copy_repository, require
+from ..arguments import parser
+from ..paths import DATA, ROOT, copy_repository, require
 from ..unproved import NotBuilt, NotServed, build_unproved
 
-# What is run with each program, the shortest first: the last goes on until the time is over.
+# What is run with the program of an edit, the shortest first: the last goes on until the time is over.
 CAMPAIGNS = (
     *("texts --session --count 300", "faulty_plans --count 40", "texts --count 20", "checkpoints --count 10"),
     *("plans --count 20", "sessions --count 3", "shares --count 3", "migrations --count 5"),
@@ -32,24 +33,36 @@ CAMPAIGNS = (
 NOT_SEEN, NOT_RUN, NOT_BUILT = "not seen", "not run", "does not build"
 
 
-class Edit(NamedTuple):
-    """An edit that must fail: the file that it changes, and what stands for what in it."""
+class WrongBody(NamedTuple):
+    """A change of a file: what stands for what in it, and the campaigns that are to see it."""
 
+    name: str
     file: Path
-    changes: list[tuple[str, str]]
+    changes: Sequence[Sequence[str]]
+    campaigns: Sequence[str]
 
     @staticmethod
-    def read(path: Path) -> Edit:
+    def read(path: Path) -> WrongBody:
+        """An edit that must fail."""
         lines = [line.partition(": ") for line in path.read_text().split("\n") if line.strip()]
-        texts = {word: [text for name, _, text in lines if name == word] for word in ("file", "old", "new")}
-        return Edit(path.parents[1].relative_to(ROOT) / texts["file"][0], list(zip(texts["old"], texts["new"])))
+        file, old, new = ([text for name, _, text in lines if name == word] for word in ("file", "old", "new"))
+        crate = path.parents[1].relative_to(ROOT)
+        return WrongBody(str(path.relative_to(ROOT)), crate / file[0], list(zip(old, new)), CAMPAIGNS)
 
     def apply(self, place: Path) -> None:
         """Applies it to a copy of the repository."""
         text = (place / self.file).read_text()
         for old, new in self.changes:
+            if old not in text:
+                raise NotBuilt(f"{self.file} lacks {old}")
             text = text.replace(old, new)
         (place / self.file).write_text(text)
+
+
+def listed() -> list[WrongBody]:
+    """Those of the list."""
+    rows = json.loads((DATA / "wrong_bodies.json").read_text())
+    return [WrongBody(it["part"], Path(it["file"]), it["changes"], [it["campaign"]]) for it in rows]
 
 
 def all_edits() -> list[Path]:
@@ -75,55 +88,52 @@ def differs(words: str, program: Path, seconds: float) -> bool:
         child.wait()
 
 
-def seen(program: Path, seconds: float) -> str:
+def seen(campaigns: Sequence[str], program: Path, seconds: float) -> str:
     """Which campaign sees a difference, and after how many seconds."""
     begun = time.monotonic()
-    for words in CAMPAIGNS:
+    for words in campaigns:
         left = seconds - (time.monotonic() - begun)
         # One that a wrong body makes wait for ever leaves time to the others.
-        most = left if words is CAMPAIGNS[-1] else min(left, seconds / 3)
+        most = left if words is campaigns[-1] else min(left, seconds / 3)
         if left > 0 and differs(words, program, most):
             return f"seen by {words.split()[0]} after {time.monotonic() - begun:.0f} s"
     return NOT_SEEN
 
 
-def attempt(path: Path, seconds: float, last: float | None) -> str:
-    """What is seen of an edit."""
-    edit = Edit.read(path)
-    if edit.file.parts[2] != "src":
+def attempt(body: WrongBody, seconds: float, last: float) -> str:
+    """What is seen of a wrong body."""
+    if body.file.parts[2] != "src":
         return f"{NOT_RUN}: it changes no body"
-    if last and time.monotonic() > last:
+    if time.monotonic() > last:
         return f"{NOT_RUN}: the time is over"
     with tempfile.TemporaryDirectory() as folder:
-        copy_repository(Path(folder))
-        edit.apply(Path(folder))
         program = Path(folder, "cutlab")
+        copy_repository(Path(folder))
         try:
+            body.apply(Path(folder))
             build_unproved(Path(folder), program)
-        except NotBuilt:
-            return NOT_BUILT
         except NotServed:
             return "seen by the build, whose program does not serve"
-        return seen(program, seconds)
+        except NotBuilt as why:
+            return f"{NOT_BUILT}: {str(why).strip()[-200:]}"
+        return seen(body.campaigns, program, seconds)
 
 
 def main() -> int:
-    words = argparse.ArgumentParser(description=__doc__, formatter_class=argparse.RawDescriptionHelpFormatter)
-    words.add_argument("edits", nargs="*", metavar="EDIT", type=Path, help="files of edits")
-    words.add_argument("--minutes", type=float, help="for how long edits are begun")
+    words = parser(__doc__, "")
+    words.add_argument("edits", nargs="*", metavar="EDIT", type=Path, help="files of edits, in place of the list")
+    words.add_argument("--all", action="store_true", help="all edits, in place of the list")
+    words.add_argument("--minutes", type=float, default=float("inf"), help="for how long changes are begun")
     words.add_argument("--seconds", type=float, default=60, help="for how long the campaigns are run with each")
-    words.add_argument("--jobs", type=int, default=1, help="how many edits are tried at a time")
+    words.add_argument("--jobs", type=int, default=1, help="how many changes are tried at a time")
     given = words.parse_args()
     require("rt", "wrong_bodies")
-    last = time.monotonic() + 60 * given.minutes if given.minutes else None
-    edits, counts = [it.resolve() for it in given.edits] or all_edits(), Counter[str]()
+    edits = all_edits() if given.all else [it.resolve() for it in given.edits]
+    bodies, counts = [WrongBody.read(it) for it in edits] or listed(), Counter[str]()
+    last = time.monotonic() + 60 * given.minutes
     with ThreadPoolExecutor(given.jobs) as pool:
-        for edit, found in zip(edits, pool.map(lambda it: attempt(it, given.seconds, last), edits)):
-            print(f"{edit.relative_to(ROOT)}: {found}", flush=True)
+        for body, found in zip(bodies, pool.map(lambda it: attempt(it, given.seconds, last), bodies)):
+            print(f"{body.name}: {found}", flush=True)
             counts[next((it for it in (NOT_SEEN, NOT_RUN, NOT_BUILT) if found.startswith(it)), "seen")] += 1
     print(", ".join(f"{counts[it]} {it}" for it in ("seen", NOT_SEEN, NOT_BUILT, NOT_RUN)))
-    return 0
-
-
-if __name__ == "__main__":
-    sys.exit(main())
+    return int(not edits and counts["seen"] < len(bodies))

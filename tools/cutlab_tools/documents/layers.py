@@ -1,20 +1,17 @@
-"""docs/layers/make [--check]: draws docs/layers/layers.svg, the layers of the program with their crates. With --check it draws
-nothing, and says what differs.
+"""docs/layers/make [--check]: draws docs/layers/layers.svg, the layers of the program with their crates. With --check it
+draws nothing, and says what differs.
 
 crates.txt has the layers, a heading for each, from the bottom to the top, and what each crate stands on. What a crate is for is
 the first sentence of its README. The picture has the layers that the program is built of: laws and tests stand beside them. An
 arrow goes from a layer to each one that it stands on, but for those that it reaches over another. A crate that stands on one of a
 layer above its own is refused, and so is one that docs/ARCHITECTURE.md has under another layer.
 """
-import argparse
 import html
 import re
-import sys
 import textwrap
 from typing import Iterator, NamedTuple
 
-from ..paths import ROOT
-from ..repository import Repository, report
+from ..repository import Repository
 
 CRATES, PAGE, PICTURE = "crates.txt", "docs/ARCHITECTURE.md", "docs/layers/layers.svg"
 BESIDE = ("Laws", "Tests")
@@ -135,6 +132,11 @@ def paged(repository: Repository) -> list[tuple[str, list[str]]]:
     return [(it.split("\n")[0], re.findall(r"^\| `(\w+)` \|", it, flags=re.M)) for it in parts]
 
 
+def made(repository: Repository) -> dict[str, str]:
+    """The picture."""
+    return {PICTURE: picture(layers(repository))}
+
+
 def differences(repository: Repository) -> Iterator[str]:
     """What is not as crates.txt has it, a line for each."""
     listed = layers(repository)
@@ -143,20 +145,7 @@ def differences(repository: Repository) -> Iterator[str]:
     for there, here in zip(paged(repository) + [("", [])] * len(wanted), wanted):
         if there != here:
             yield f"{PAGE}: {there[0] or 'nothing'} with {', '.join(there[1])}: {CRATES} has {here[0]} with {', '.join(here[1])}"
-    if not repository.has(PICTURE) or repository.read(PICTURE) != picture(listed):
-        yield f"{PICTURE}: not what docs/layers/make draws of {CRATES}"
 
 
-def main() -> int:
-    words = argparse.ArgumentParser(description=__doc__, formatter_class=argparse.RawDescriptionHelpFormatter)
-    words.add_argument("--check", action="store_true", help="only say what differs")
-    check = words.parse_args().check
-    repository = Repository()
-    if not check:
-        (ROOT / PICTURE).write_text(picture(layers(repository)))
-    crates = sum(len(it.crates) for it in layers(repository))
-    return report("layers", differences(repository), f"{crates} crates are drawn and listed as {CRATES} has them")
-
-
-if __name__ == "__main__":
-    sys.exit(main())
+def summary(repository: Repository) -> str:
+    return f"{sum(len(it.crates) for it in layers(repository))} crates are drawn and listed as {CRATES} has them"

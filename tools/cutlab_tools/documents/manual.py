@@ -1,59 +1,73 @@
-"""Checks docs/cutlab.1 against the help of the program's commands: docs/manual [PROGRAM]. Each command stands there with its
-options and no other does, and each number has the range that the program takes, on the page and in the help, and the
-default of the help. It prints what differs, and ends with 1 where something does.
+"""docs/manual/make [--check] [PROGRAM]: makes the man page docs/cutlab.1 from the help of the program, in the form in which
+help2man makes one, with the sections of docs/manual/include. With --check it writes nothing, and says what differs.
+
+An option's range in the help is compared with what the program takes, as it says where it refuses a number.
 """
 import re
-import sys
 from typing import Iterator
 
-from ..arguments import program_given
-from ..options import Argument, Command, commands, range_taken
-from ..repository import Repository, report
+from ..options import Command, commands, range_taken
+from ..repository import Repository
+from . import NotMade
 
-PAGE = "docs/cutlab.1"
-
-
-def paged(repository: Repository) -> dict[str, dict[str, str]]:
-    """The commands of the page, each with its options and what is said of these."""
-    part = repository.read(PAGE).split(".SH COMMANDS\n")[1].split(".SH ")[0]
-    found: dict[str, dict[str, str]] = {}
-    for item in re.split(r"^\.TP\n", part, flags=re.M)[1:]:
-        head, _, text = item.partition("\n")
-        if command := re.match(r"\.B (\w+)$", head):
-            options = found.setdefault(command[1], {})
-        elif option := re.match(r"\\fB\\-\\-(\w+)\\fR", head):
-            options[option[1]] = " ".join(text.split())
-    found.pop("help", None)
-    return found
+PAGE, INCLUDE = "docs/cutlab.1", "docs/manual/include"
+# The sections that are made of the help, in the order of the page; those that only the include has come after them.
+MADE = ("NAME", "SYNOPSIS", "DESCRIPTION", "COMMANDS")
 
 
-def number_differences(repository: Repository, command: Command, option: Argument, said: str) -> Iterator[str]:
-    """What differs of an option that takes a number: the range on the page and in the help, and the default."""
-    low, high = range_taken(repository, command.name, option)
-    for where, text in ((PAGE, said), ("the help", option.help)):
-        if f" from {low} to {high}" not in re.sub(r"[,;.]", " ", f"{text} ").replace("  ", " "):
-            yield f"{where}: {command.name} --{option.name} takes {low} to {high}: {text}"
-    default = re.search(r"; (\d+) where it is not given", said)
-    if (default[1] if default else None) != option.default:
-        yield f"{PAGE}: {command.name} --{option.name}: the default is {option.default}"
+def roff(text: str) -> str:
+    """A text of the help, with what has a meaning for roff written out."""
+    return re.sub(r"^(?=[.'])", r"\\&", text.replace("\\", r"\e").replace("-", r"\-"), flags=re.M)
+
+
+def usage(command: Command) -> str:
+    """How a command is called, after the program's name."""
+    return next(line for line in command.lines if line.startswith("Usage: ")).removeprefix("Usage: cutlab ")
+
+
+def command_lines(command: Command) -> Iterator[str]:
+    """What the page says of a command: its call, what it does, its arguments, and what the help has after these."""
+    yield from (f'.SS "cutlab {roff(usage(command))}"', roff(command.about) + ".")
+    for it in command.arguments:
+        value = roff(f"<{it.value}>".replace("..>", ">...")) if it.value else ""
+        head = value if it.is_word else f"\\fB\\-\\-{it.name}\\fR {value}".rstrip()
+        default = f" [default: {it.default}]" if it.default else ""
+        yield from (".TP", head, roff(it.help + default))
+    last = max(at for at, line in enumerate(command.lines) if line.startswith("  "))
+    for line in command.lines[last + 1 :]:
+        yield from (".PP", roff(line)) if line and not line.startswith("See ") else ()
+
+
+def sections(repository: Repository) -> dict[str, str]:
+    """The sections of the include, by their names: each begins with a line of its name in brackets."""
+    parts = re.split(r"^\[([A-Z ]+)\]\n", repository.read(INCLUDE), flags=re.M)
+    return dict(zip(parts[1::2], (it.strip("\n") for it in parts[2::2])))
+
+
+def made(repository: Repository) -> dict[str, str]:
+    """The page."""
+    listed, included = commands(repository), sections(repository)
+    about, version = (repository.read(f"$ cutlab --{it}").split("\n")[0] for it in ("help", "version"))
+    if not listed or "NAME" in included:
+        raise NotMade("the help lists no commands, or the include has what is made")
+    found = {"NAME": f"cutlab \\- {roff(about[:1].lower() + about[1:])}"}
+    calls = [usage(it).partition(" ") for it in listed]
+    found["SYNOPSIS"] = "\n.br\n".join(f".B cutlab {name}\n{roff(words)}" for name, _, words in calls)
+    found["COMMANDS"] = "\n".join(line for it in listed for line in command_lines(it))
+    order = [*MADE, *(name for name in included if name not in MADE)]
+    parts = {name: "\n".join(it[name] for it in (included, found) if name in it) for name in order}
+    first = f'.\\" Made by docs/manual/make.\n.TH CUTLAB 1 "" "{" ".join(version.split()[:2])}" "User Commands"\n'
+    return {PAGE: first + "".join(f".SH {name}\n{text}\n" for name, text in parts.items())}
 
 
 def differences(repository: Repository) -> Iterator[str]:
-    """What differs, a line for each."""
-    wanted, there = {it.name: it for it in commands(repository)}, paged(repository)
-    yield from (f"{PAGE}: command {it}: in one alone" for it in sorted(set(there) ^ set(wanted)))
-    for name in sorted(set(there) & set(wanted)):
-        options = {it.name: it for it in wanted[name].options}
-        yield from (f"{PAGE}: {name}: --{it}: in one alone" for it in sorted(set(there[name]) ^ set(options)))
-        for option in sorted(set(there[name]) & set(options)):
-            if options[option].is_valued:
-                yield from number_differences(repository, wanted[name], options[option], there[name][option])
+    """The options whose help names another range than the program takes."""
+    for command in commands(repository):
+        for option in (it for it in command.options if it.is_valued):
+            low, high = range_taken(repository, command.name, option)
+            if not re.search(rf" from {low} to {high}(?!\d)", option.help):
+                yield f"the help: {command.name} --{option.name} takes {low} to {high}: {option.help}"
 
 
-def main() -> int:
-    repository = Repository(program_given(__doc__))
-    return report("manual", differences(repository), f"{len(commands(repository))} commands are as in the help")
-
-
-if __name__ == "__main__":
-    sys.exit(main())
+def summary(repository: Repository) -> str:
+    return f"{len(commands(repository))} commands are as in the help"

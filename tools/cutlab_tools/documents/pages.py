@@ -1,22 +1,20 @@
 """Runs the commands of README.md, docs/GUIDE.md and docs/RUNNING.md in order, in a fresh copy of the repository, and compares what each
 prints with what the page shows after it: docs/try [PROGRAM]
 
-PROGRAM is the built program, crates/cutlab/out/cutlab where none is given. A command is a line of an indented block that
-begins with "$ "; lines that are indented by ten places or more go on with it. The lines up to the next command are what it
-prints; a line "..." stands for any lines. A command that calls a tool which is not installed is skipped, and said so. What
-differs is printed, and the status is then 1.
+A command is a line of an indented block that begins with "$ "; lines that are indented by ten places or more go on with
+it. The lines up to the next command are what it prints; a line "..." stands for any lines. A command that calls a tool
+which is not installed is skipped, and said so. What differs is printed, and the status is then 1.
 """
 import re
 import shlex
 import shutil
 import subprocess
-import sys
 import tempfile
 from dataclasses import dataclass, field
 from pathlib import Path
 from typing import Callable, NamedTuple
 
-from ..arguments import program_given
+from ..arguments import parser
 from ..paths import PAGES, ROOT, copy_repository
 
 # Tools that a reader may lack: a command that calls one is run where it is there.
@@ -77,12 +75,10 @@ def try_commands(listed: list[Command], place: Path, seconds: float = SECONDS) -
     """Runs commands in one shell in a copy of the repository, each with a file for what it prints, and compares."""
     with tempfile.TemporaryDirectory() as results:
         files = [Path(results, str(number)) for number in range(len(listed))]
-        script = [
-            "true" if it.lacks else f"{{ {it.text}\n}} > {shlex.quote(str(file))} 2>&1"
-            for it, file in zip(listed, files)
-        ]
-        script.append("jobs -p | xargs -r kill 2> /dev/null; wait")  # (a server that a page starts ends with it)
-        subprocess.run(["bash", "-c", "\n".join(script)], cwd=place, timeout=seconds, stdin=subprocess.DEVNULL)
+        runs = [f"{{ {it.text}\n}} > {shlex.quote(str(file))} 2>&1" for it, file in zip(listed, files) if not it.lacks]
+        end = "jobs -p | xargs -r kill 2> /dev/null; wait"  # (a server that a page starts ends with it)
+        script = "\n".join([*runs, end])
+        subprocess.run(["bash", "-c", script], cwd=place, timeout=seconds, stdin=subprocess.DEVNULL)
         printed = [it.read_text(errors="replace").rstrip("\n").split("\n") if it.exists() else [] for it in files]
     for it in listed:
         if it.lacks:
@@ -102,10 +98,6 @@ def try_pages(program: Path, choose: Choice = list, seconds: float = SECONDS) ->
 
 
 def main() -> int:
-    count, differing = try_pages(program_given(__doc__))
-    print("\n".join(differing) if differing else f"try: {count} commands print what {' and '.join(PAGES)} show")
+    count, differing = try_pages(parser(__doc__).parse_args().program)
+    print("\n".join(differing) or f"try: {count} commands print what {' and '.join(PAGES)} show")
     return int(bool(differing))
-
-
-if __name__ == "__main__":
-    sys.exit(main())

@@ -4,27 +4,29 @@ ends with 1 where something does.
 """
 import json
 import re
-import sys
 from typing import Any, Callable, Iterator
 
-from ..arguments import program_given
-from ..repository import Repository, report
+from ..repository import Repository
 
 SCHEMA, EXAMPLE = "docs/plan.schema.json", "examples/one_crash.json"
 PLANS = ("examples/*.json", "bench/plans/*.json")
 KINDS = {"integer": int, "string": str, "boolean": bool, "array": list, "object": dict}
-RISING = "a strictly rising list of whole numbers"
-# A part of the schema's language, as far as this schema uses it: each word with the test that its value stands for.
-TESTS: dict[str, Callable[[Any, Any], Any]] = {
-    "type": lambda kind, it: isinstance(it, KINDS[kind]) and (kind == "boolean" or not isinstance(it, bool)),
-    "enum": lambda values, it: it in values,
-    "const": lambda value, it: it == value,
-    "minimum": lambda least, it: it >= least,
-    "maximum": lambda most, it: it <= most,
-    "pattern": lambda text, it: re.search(text, it) is not None,
-    "minItems": lambda least, it: len(it) >= least,
-    "uniqueItems": lambda _, it: len(set(it)) == len(it),
-    "required": lambda names, it: all(name in it for name in names),
+# A part of the schema's language, as far as this schema uses it: each word with the test that its value stands for, of a
+# value and of the schema that the word stands in.
+TESTS: dict[str, Callable[[Any, Any, Any], Any]] = {
+    "type": lambda kind, it, _: isinstance(it, KINDS[kind]) and (kind == "boolean" or not isinstance(it, bool)),
+    "enum": lambda values, it, _: it in values,
+    "const": lambda value, it, _: it == value,
+    "minimum": lambda least, it, _: it >= least,
+    "maximum": lambda most, it, _: it <= most,
+    "pattern": lambda text, it, _: re.search(text, it) is not None,
+    "minItems": lambda least, it, _: len(it) >= least,
+    "uniqueItems": lambda _, it, __: len(set(it)) == len(it),
+    "required": lambda names, it, _: all(name in it for name in names),
+    "properties": lambda parts, it, _: all(is_of(part, it[name]) for name, part in parts.items() if name in it),
+    "items": lambda part, its, _: all(is_of(part, it) for it in its),
+    "additionalProperties": lambda may, it, schema: may or all(name in schema["properties"] for name in it),
+    "if": lambda part, it, schema: is_of(schema["then" if is_of(part, it) else "else"], it),
 }
 NOTES = ("$schema", "title", "description", "then", "else")
 
@@ -33,20 +35,7 @@ def is_of(schema: Any, value: Any) -> bool:
     """Whether a value is of a schema."""
     if isinstance(schema, bool):
         return schema
-    return all(holds(schema, word, said, value) for word, said in schema.items() if word not in NOTES)
-
-
-def holds(schema: Any, word: str, said: Any, value: Any) -> bool:
-    """Whether a value is as one word of a schema says."""
-    if word == "properties":
-        return all(is_of(part, value[name]) for name, part in said.items() if name in value)
-    if word == "items":
-        return all(is_of(said, it) for it in value)
-    if word == "additionalProperties":
-        return bool(said or all(name in schema["properties"] for name in value))
-    if word == "if":
-        return is_of(schema["then" if is_of(said, value) else "else"], value)
-    return bool(TESTS[word](said, value))
+    return all(TESTS[word](said, value, schema) for word, said in schema.items() if word not in NOTES)
 
 
 def explained(repository: Repository) -> dict[str, set[str]]:
@@ -69,10 +58,10 @@ def described(part: Any, nodes: int) -> str:
         texts = " or ".join(f'"{it}"' for it in items.get("enum", []))
         return f"a text of {digits[1]} hexadecimal digits" if digits else texts
     low, high = range_of(part)
-    what = RISING if items is not part else "a whole number"
-    return (
-        f"{what} below nodes" if items is not part and (low, high) == (0, nodes - 1) else f"{what} from {low} to {high}"
-    )
+    if items is part:
+        return f"a whole number from {low} to {high}"
+    bounds = "below nodes" if (low, high) == (0, nodes - 1) else f"from {low} to {high}"
+    return f"a strictly rising list of whole numbers {bounds}"
 
 
 def range_of(part: Any) -> tuple[int, int]:
@@ -102,18 +91,10 @@ def differences(repository: Repository) -> Iterator[str]:
         yield from (f"{name}: {said} in the schema, {it} by the program" for it in sorted(wanted[name] - {said}))
         if name in json.loads(repository.read(EXAMPLE)) and "whole number" in said and name != "version":
             yield from out_of_range(repository, name, fields[name])
-    for path in repository.paths(*PLANS):
-        if not is_of(schema, json.loads(repository.read(path))):
-            yield f"{path} is not of the schema"
+    plans = repository.paths(*PLANS)
+    yield from (f"{it} is not of the schema" for it in plans if not is_of(schema, json.loads(repository.read(it))))
 
 
-def main() -> int:
-    repository = Repository(program_given(__doc__))
-    plans = len(repository.paths(*PLANS))
-    fields = len(explained(repository))
-    summary = f"{plans} plans are of it, and {fields} fields are as the program explains them"
-    return report("schema", differences(repository), summary)
-
-
-if __name__ == "__main__":
-    sys.exit(main())
+def summary(repository: Repository) -> str:
+    plans, fields = repository.paths(*PLANS), explained(repository)
+    return f"{len(plans)} plans are of it, and {len(fields)} fields are as the program explains them"

@@ -13,13 +13,11 @@ The skeleton is prose with lines of these kinds:
 It fails where the theorem cites a definition of a folder specs/inside: these say how a crate keeps its values,
 and are for its own clauses and proofs.
 """
-import argparse
 import re
-import sys
-from typing import Callable, Iterable, Iterator, NamedTuple
+from typing import Iterable, Iterator, NamedTuple
 
-from ..paths import ROOT
-from ..repository import Repository, report
+from ..repository import Repository
+from . import NotMade
 
 PAGE, SKELETON = "docs/STATEMENT.md", "docs/statement/skeleton.md"
 TOKEN = re.compile(r"[^\s(){}\[\],;λ]+")
@@ -31,10 +29,6 @@ CONTRACT = r"((?:^ *///[^\n]*\n)*)^ *pub fn %s\b.*?\n(?= *{\n)"
 CLAUSE = re.compile(r"(?:ensures|requires)[^{]*\{(.*?)\}\s*(?=ensures|requires|$)", re.S)
 
 
-class NoPage(Exception):
-    """Why no page can be made."""
-
-
 class Cited(NamedTuple):
     """A name of a module."""
 
@@ -43,13 +37,12 @@ class Cited(NamedTuple):
 
 
 def without_comments(text: str) -> str:
-    lines = (line for line in text.split("\n") if not line.strip().startswith(("--", "//")))
-    return re.sub(r'"[^"]*"', "", "\n".join(lines))
+    return re.sub(r'"[^"]*"', "", re.sub(r"^\s*(?:--|//).*", "", text, flags=re.M))
 
 
 def ghost_uses(text: str) -> Iterator[str]:
     """The lines by which a source takes names for its contracts."""
-    return (it.strip()[6:].rstrip(";") for it in text.split("\n") if it.strip().startswith("ghost use "))
+    return (it[1] for it in re.finditer(r"^\s*ghost (use .*?);*\s*$", text, re.M))
 
 
 def module_of(word: str) -> str:
@@ -67,7 +60,7 @@ class Uses:
         for line in lines:
             found = USE.match(line)
             if not found:
-                raise NoPage(f"can't read: {line}")
+                raise NotMade(f"can't read: {line}")
             module, names, alias = found.groups()
             for name in re.split(r",\s*", names or ""):
                 own, _, other = name.partition(" as ")
@@ -122,9 +115,10 @@ class Closure:
         """Adds a definition or a type, and all that it cites."""
         module, name = cited
         declared = re.match(r"Rattle\.(\w+)\.specs\.declared\.([\w.]+)$", module)
-        if declared and (ROOT / "crates" / declared[1]).exists():
-            self.visit_declared(declared[1], [it for it in declared[2].split(".") if it != "TheVariants"], name)
-            return
+        if declared and self.repository.paths(f"crates/{declared[1]}"):
+            *above, last = (it for it in declared[2].split(".") if it != "TheVariants")
+            path = f"crates/{declared[1]}/src/{'/'.join(above or [last])}.rt"
+            return self.visit_type(path, name if last == "TheConstants" else last)
         spec = self.spec(module)
         if spec is None:
             self.outside.setdefault(module, set()).add(name)
@@ -133,30 +127,22 @@ class Closure:
         elif used := spec.uses.of(name):
             self.visit(used)
         else:
-            raise NoPage(f"{module} has no {name}")
+            raise NotMade(f"{module} has no {name}")
 
     def visit_paragraph(self, module: str, spec: Spec, place: int) -> None:
         if (module, place) not in self.found:
             self.found[module, place] = spec.paragraphs[place]
             self.follow(spec.uses, spec.paragraphs[place], module, spec)
 
-    def visit_declared(self, crate: str, parts: list[str], name: str) -> None:
-        """Adds a type, or a constant, of a crate's sources."""
-        *above, last = parts
-        if last == "TheConstants":
-            self.visit_type(f"crates/{crate}/src/{'/'.join(above)}.rt", name)
-        else:
-            self.visit_type(f"crates/{crate}/src/{'/'.join(above or parts)}.rt", last)
-
     def visit_type(self, path: str, name: str) -> None:
+        """Adds a type, or a constant, of a crate's sources."""
         if (path, name) in self.types:
             return
         text = self.repository.read(path)
         found = re.search(ITEM % name, text, re.M | re.S)
         if not found:
-            raise NoPage(f"{path} has no {name}")
-        item = re.sub(r"^ *#\[[^\n]*\n", "", found[0], flags=re.M)
-        self.types[path, name] = item.rstrip("\n")
+            raise NotMade(f"{path} has no {name}")
+        item = self.types[path, name] = re.sub(r"^ *#\[[^\n]*\n", "", found[0], flags=re.M).rstrip("\n")
         for own, cited in Uses(ghost_uses(text)).names.items():
             if re.search(rf"(?<![\w.]){re.escape(own)}(?!\w)", without_comments(item)):
                 self.visit(cited)
@@ -177,21 +163,17 @@ class Closure:
 
 
 class Page:
-    """The page that is made of the skeleton."""
+    """The page that is made of the skeleton. What a line of it says in braces is a method with words."""
 
     def __init__(self, repository: Repository) -> None:
         self.repository, self.closure = repository, Closure(repository)
         self.placed: set[str] = set()
-        self.kinds: dict[str, Callable[..., list[str]]] = {
-            **{"theorem": self.theorem, "definitions": self.definitions, "types": self.types},
-            **{"cited": self.cited, "counts": self.counts, "needs": self.needs},
-        }
 
     def contract(self, path: str, function: str) -> str:
         """A function's signature and clauses, as they are written, with its documentation."""
         found = re.search(CONTRACT % function, self.repository.read(path), re.M | re.S)
         if not found:
-            raise NoPage(f"{path} has no public {function}")
+            raise NotMade(f"{path} has no public {function}")
         return found[0].rstrip("\n")
 
     def cite(self, path: str, function: str) -> None:
@@ -209,24 +191,20 @@ class Page:
             module = module_of(word)
             spec = self.closure.spec(module)
             if spec is None:
-                raise NoPage(f"the skeleton names {word}, and there is no such file")
-            texts = sorted((place, text) for (of, place), text in self.closure.found.items() if of == module)
-            lines += self.block(module, spec.path, "text", word, [text for _, text in texts])
+                raise NotMade(f"the skeleton names {word}, and there is no such file")
+            texts = [text for (of, _), text in sorted(self.closure.found.items()) if of == module]
+            lines += self.block(module, spec.path, "text", texts)
         return lines
 
     def types(self, *words: str) -> list[str]:
-        lines = []
-        for word in words:
-            crate, _, file = word.partition("/")
-            path = f"crates/{crate}/src/{file}.rt"
-            texts = [text for (of, _), text in self.closure.types.items() if of == path]
-            lines += self.block(path, path, "rust", word, texts)
-        return lines
+        paths = ["crates/{}/src/{}.rt".format(*word.split("/", 1)) for word in words]
+        texts = {path: [text for (of, _), text in self.closure.types.items() if of == path] for path in paths}
+        return [line for path in paths for line in self.block(path, path, "rust", texts[path])]
 
-    def block(self, home: str, path: str, language: str, word: str, texts: list[str]) -> list[str]:
+    def block(self, home: str, path: str, language: str, texts: list[str]) -> list[str]:
         """What is cited of one file."""
         if not texts:
-            raise NoPage(f"the skeleton names {word}, of which nothing is cited")
+            raise NotMade(f"the skeleton names {path}, of which nothing is cited")
         self.placed.add(home)
         return [f"`{path[len('crates/'):]}`", "", f"```{language}", "\n\n".join(texts), "```", ""]
 
@@ -241,8 +219,7 @@ class Page:
 
     def needs(self, command: str, *words: str) -> list[str]:
         closure = Closure(self.repository)
-        for word in words:
-            module, _, name = word.partition(":")
+        for module, _, name in (word.partition(":") for word in words):
             closure.visit(Cited(module_of(module), name))
         count, lines = closure.counts()
         return [f"Of these {count} definitions of {lines} lines are what `{command}` needs."]
@@ -253,44 +230,19 @@ class Page:
         for words in said:
             if words[:1] == ["theorem"]:
                 self.cite(*words[1:])
-        parts = [self.kinds[words[0]](*words[1:]) if words else [line] for line, words in zip(skeleton, said)]
+        parts = [getattr(self, words[0])(*words[1:]) if words else [line] for line, words in zip(skeleton, said)]
         self.check_places()
         return re.sub(r"\n{3,}", "\n\n", "\n".join(line for part in parts for line in part)).rstrip("\n") + "\n"
 
     def check_places(self) -> None:
         """Checks that all that is cited has a place on the page, and may have one."""
-        wanted = {module for module, _ in self.closure.found} | {path for path, _ in self.closure.types}
+        wanted = {home for home, _ in (*self.closure.found, *self.closure.types)}
         inside = sorted(module for module in wanted if ".specs.inside." in module)
         if inside:
-            raise NoPage("the theorem cites what is inside of a crate: " + ", ".join(inside))
+            raise NotMade("the theorem cites what is inside of a crate: " + ", ".join(inside))
         if wanted - self.placed:
-            raise NoPage("the skeleton has no place for " + ", ".join(sorted(wanted - self.placed)))
+            raise NotMade("the skeleton has no place for " + ", ".join(sorted(wanted - self.placed)))
 
 
-def refusals(repository: Repository) -> list[str]:
-    """Why no page can be made, if none can."""
-    try:
-        Page(repository).text()
-    except NoPage as why:
-        return [f"docs/statement/make: {why}"]
-    return []
-
-
-def differences(repository: Repository) -> list[str]:
-    """Why no page can be made, or that it is not the one that is there."""
-    other = [f"docs/statement/make: {PAGE} is not what this makes: run docs/statement/make"]
-    return refusals(repository) or other * (repository.read(PAGE) != Page(repository).text())
-
-
-def main() -> int:
-    words = argparse.ArgumentParser(description=__doc__, formatter_class=argparse.RawDescriptionHelpFormatter)
-    words.add_argument("--check", action="store_true", help="only say whether the page is another")
-    given, repository = words.parse_args(), Repository()
-    found = differences(repository) if given.check else refusals(repository)
-    if not given.check and not found:
-        (ROOT / PAGE).write_text(Page(repository).text())
-    return report("statement", found)
-
-
-if __name__ == "__main__":
-    sys.exit(main())
+def made(repository: Repository) -> dict[str, str]:
+    return {PAGE: Page(repository).text()}

@@ -2,12 +2,10 @@
 in a page or a source beside the glossary. It prints what it finds, and ends with 1 where it found something.
 """
 import re
-import sys
 from typing import Iterator
 
 from ..paths import tracked_files
-from ..repository import Repository, report
-from ..tables import rows
+from ..repository import Repository
 
 GLOSSARY = "docs/GLOSSARY.md"
 TEXTS = ("*.rt", "*.antt", "*.md")
@@ -17,7 +15,7 @@ HEADINGS = ("## Of the field", "## Of this program")
 def terms(repository: Repository) -> Iterator[tuple[str, str, str]]:
     """The terms with the heading that they stand under and their homes."""
     for heading in HEADINGS:
-        yield from ((heading, term, home.strip("`")) for term, _, home in rows(repository.read(GLOSSARY), heading))
+        yield from ((heading, term, home.strip("`")) for term, _, home in repository.rows(GLOSSARY, heading))
 
 
 def is_used(term: str, text: str) -> bool:
@@ -44,11 +42,5 @@ def differences(repository: Repository) -> Iterator[str]:
         before = (heading, term)
 
 
-def main() -> int:
-    repository = Repository()
-    count = sum(1 for _ in terms(repository))
-    return report("words", differences(repository), f"{count} terms have one meaning and a home, and are used")
-
-
-if __name__ == "__main__":
-    sys.exit(main())
+def summary(repository: Repository) -> str:
+    return f"{sum(1 for _ in terms(repository))} terms have one meaning and a home, and are used"

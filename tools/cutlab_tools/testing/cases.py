@@ -2,13 +2,13 @@
 
 A test of unittest has many cases, each of which is compared in a subtest, so that one that differs hides no other.
 """
-import argparse
 import tempfile
 import unittest
 from pathlib import Path
+from types import ModuleType
 from typing import ClassVar
 
-from ..arguments import existing
+from ..arguments import parser
 from ..paths import PROGRAM
 from ..program import Ended, Program, Word
 
@@ -39,21 +39,23 @@ class Cases(unittest.TestCase):
         found = self.program.run(*words, text=text)
         self.expect(f"{' '.join(map(str, words))} < {text.decode(errors='backslashreplace')}", wanted, found)
 
+    def file(self, name: str) -> Path:
+        return self.folder / name
+
     def size(self, name: str) -> int:
-        return (self.folder / name).stat().st_size
+        return self.file(name).stat().st_size
 
 
-def run(name: str, about: str | None, module: str) -> int:
+def run(command: str, module: ModuleType) -> int:
     """Runs the tests of a module; the last line says how many cases were tried, and how many were different."""
-    words = argparse.ArgumentParser(description=about, formatter_class=argparse.RawDescriptionHelpFormatter)
-    words.add_argument("program", nargs="?", type=Path, default=PROGRAM, help="the built program")
+    words = parser(module.__doc__)
     words.add_argument("-k", metavar="NAME", action="append", help="only the tests whose names have this in them")
     words.add_argument("-v", action="store_true", help="print the name of each test")
     given = words.parse_args()
-    Cases.path = existing(given.program)
+    Cases.path = given.program
     loader = unittest.TestLoader()
     loader.testNamePatterns = [f"*{it}*" for it in given.k] if given.k else None
-    found = unittest.TextTestRunner(verbosity=1 + given.v).run(loader.loadTestsFromName(module))
+    found = unittest.TextTestRunner(verbosity=1 + given.v).run(loader.loadTestsFromModule(module))
     differing = max(Cases.differing, len(found.failures) + len(found.errors))
-    print(f"{name}: {Cases.tried} tried, {differing} different")
+    print(f"{command.removeprefix('tests/')}: {Cases.tried} tried, {differing} different")
     return int(differing > 0)

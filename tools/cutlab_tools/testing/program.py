@@ -1,5 +1,6 @@
-"""tests/program [PROGRAM] [-k NAME]: what a built program, crates/cutlab/out/cutlab where none is given, does with its words, its
-files and its streams. Each difference is printed; the last line says how many there are."""
+"""tests/program [PROGRAM] [-k NAME]: what a built program does with its words, its files and its streams. Each difference
+is printed; the last line says how many there are."""
+import contextlib
 import hashlib
 import json
 import os
@@ -8,27 +9,22 @@ import resource
 import shutil
 import signal
 import subprocess
-import sys
 import time
 from functools import partial
-from pathlib import Path
-from typing import Any
+from typing import Any, Sequence
 
 from ..paths import DATA, ROOT, reference
-from ..plans import Plan
+from ..plans import SMALLEST, Plan, upgrade
 from ..program import Child, Ended, Program, Word, connect, end_of
-from .cases import Cases, run
+from .cases import Cases
 
 # Tables that were worked out by hand, command lines with a mistake, and names of files as a line quotes them.
 TABLES: dict[str, list[Any]] = json.loads((DATA / "program.json").read_text())
 HEADER = "k,h,l,f,trials,receivers,conflicts,silent,extra,votes,decided,right,ppm\n"
 UPGRADE_HEADER = HEADER.replace(",ppm", ",settled,ppm")
 # One cell of two trials: in each one process crashes, and the four others propose it.
-FIELDS: Plan = dict(
-    copies=1, dead="silent", f=[1], faults="crash", h=[1], implicit=True, k=[1], l=[1], liars=0, links=0
-)
-FIELDS |= dict(nodes=5, repeats=2, seed="0" * 64, version=1)
-UPGRADE_FIELDS: Plan = {**{name: FIELDS[name] for name in FIELDS if name != "faults"}, "deaf": 0, "version": 2}
+FIELDS: Plan = {**SMALLEST, "f": [1], "nodes": 5, "repeats": 2}
+UPGRADE_FIELDS = upgrade(FIELDS)
 PLAN, UPGRADE = reference.canonical_text(FIELDS), reference.canonical_text(UPGRADE_FIELDS)
 ROW, UPGRADE_ROW = "1,1,1,1,2,8,0,0,0,8,2,2,0", "1,1,1,1,2,8,0,0,0,8,2,2,8,0"
 TABLE, UPGRADE_TABLE = f"{HEADER}{ROW}\n", f"{UPGRADE_HEADER}{UPGRADE_ROW}\n"
@@ -64,8 +60,11 @@ class ProgramCases(Cases):
         """Compares how a command ends; words alone are its whole output."""
         self.expect_run(Ended(wanted) if isinstance(wanted, str) else wanted, *line.split(), text=text)
 
-    def file(self, name: str) -> Path:
-        return self.folder / name
+    def says(self, wanted: Ended, found: Ended, what: str) -> None:
+        """Compares how a command ended that has to print this among other things, and nothing where it is empty."""
+        pairs = ((wanted.output, found.output), (wanted.errors, found.errors))
+        is_said = [bool(one) == bool(other) and one in other for one, other in pairs]
+        self.expect(what, (wanted.status, [True, True]), (found.status, is_said))
 
     def names(self) -> list[str]:
         return sorted(it.name for it in self.folder.iterdir())
@@ -73,6 +72,15 @@ class ProgramCases(Cases):
     def served(self, *words: Word, sessions: int = 1) -> Child[bytes]:
         """A server of two workers and two slots at the socket of the folder."""
         return self.program.serve(self.file("socket"), *words, workers=2, sessions=sessions, studies=2)
+
+    def asked_until(self, status: int, passing: Sequence[str] = ()) -> Ended:
+        """How a client ends, once one ends with this status and by none of the faults that pass."""
+        for _ in range(1000):
+            found = self.program.run("ask", "socket", text=PLAN)
+            if found.status == status and found.errors not in map(line_of, passing):
+                break
+            time.sleep(0.01)
+        return found
 
 
 class Studies(ProgramCases):
@@ -106,8 +114,8 @@ class Studies(ProgramCases):
             self.ends("check", f"cells 1\ntrials 2\nquorum {quorum}\n", plan_with(nodes=nodes))
 
     def test_answers(self) -> None:
-        self.ends("run", TABLE)
-        self.ends("run --workers 3", TABLE)
+        for line in ("run", "run --workers 3"):
+            self.ends(line, TABLE)
         self.ends("check", "cells 1\ntrials 2\nquorum 4\n")
         self.ends("canonical", f"{PLAN.decode()}\n")
 
@@ -153,8 +161,8 @@ class Checkpoints(ProgramCases):
             self.ends("run --piece 1 --checkpoint study.cut", TABLE)
             self.expect("the length of a checkpoint of two slips", HEAD + 2 * SLIP + 1, self.size("study.cut"))
         self.ends("status study.cut", f"trials 2 of 2\ncells 1 of 1\nslips 2\n{PLAN.decode()}\n", b"")
-        self.ends("status folder", refused("20 Disk"), b"")
-        self.ends("status none.cut", refused("20 Disk"), b"")
+        for path in ("folder", "none.cut"):
+            self.ends(f"status {path}", refused("20 Disk"), b"")
 
     def test_resumed(self) -> None:
         """Studies that go on from files with more slips than a word has bits, and from a slip that could be true and is
@@ -182,7 +190,7 @@ class Checkpoints(ProgramCases):
         self.expect("the lengths of both", (477, 485), (self.size("old.cut"), self.size("new.cut")))
 
     def test_foreign_files(self) -> None:
-        """Files that hold something else than a study stay as they are; one that an interrupted creation left is taken."""
+        """Files that hold something else than a study stay as they are; what an interrupted creation left is taken."""
         self.ends("run --checkpoint study.cut", TABLE)
         kinds = {"notes": b"my notes\n", "plan.json": PLAN, "zip": b"PK\3\4" + bytes(300), "gate": b"\xa5"}
         commands = "run --checkpoint {0}", "share 1/1 {0}", "join {0} study.cut", "migrate study.cut {0}"
@@ -203,9 +211,7 @@ class Checkpoints(ProgramCases):
         connect(self.file("socket")).close()
         end_of(server)
         server = self.served("--dir", kept)
-        while not self.file("socket").exists():
-            time.sleep(0.01)
-        self.ends("ask socket", refused("30 Checkpoint"))
+        self.expect("a client of that server", refused("30 Checkpoint"), self.asked_until(4, ["43 Read"]))
         self.expect("that server", Ended("accepted 0\n"), end_of(server))
         self.expect("the file of that server", b"my notes\n", (kept / NAME).read_bytes())
 
@@ -213,14 +219,10 @@ class Checkpoints(ProgramCases):
         """What is no regular file is looked at before it is opened, so that nobody waits for who writes to it."""
         self.ends("run --checkpoint study.cut", TABLE)
         os.mkfifo(self.file("pipe"))
-        lines = "status pipe|run --checkpoint pipe|share 1/1 pipe|join new.cut pipe|join new.cut study.cut pipe"
-        lines += "|join pipe study.cut|migrate pipe other.cut|migrate study.cut pipe|status /dev/null"
-        for line in lines.split("|"):
-            found: Ended | str = "it waits"
-            try:
+        for line in TABLES["blocking"]:
+            found = Ended("", "it waits")
+            with contextlib.suppress(subprocess.TimeoutExpired):
                 found = self.program.run(*line.split(), text=PLAN, limit=10)
-            except subprocess.TimeoutExpired:
-                pass
             self.expect(line, refused("20 Disk"), found)
 
 
@@ -284,9 +286,8 @@ class Machines(ProgramCases):
         output, errors, status = self.program.run(*row.split(), "--progress", text=plan)
         lines = re.findall("(?m)^cutlab: ([0-9]+) of ([0-9]+) trials, [0-9]+ s(?:, about [0-9]+ s left)?$", errors)
         self.expect("a resumed share", (0, "share 1 of 2: 4 of 4\n"), (status, output))
-        self.expect(
-            "its lines of progress", (errors.count("\n"), ("4", "4")), (len(lines), lines[-1] if lines else None)
-        )
+        found = len(lines), lines[-1:]
+        self.expect("its lines of progress", (errors.count("\n"), [("4", "4")]), found)
         self.expect("a number in them", [], [line for line in lines if line not in (("2", "4"), ("4", "4"))])
         self.expect("the length of a resumed share", len(whole), self.size("share.cut"))
 
@@ -304,15 +305,9 @@ class Lines(ProgramCases):
     """Words of the command line, and standard streams."""
 
     def test_words(self) -> None:
-        output, errors, status = self.program.run("run", "--help")
-        self.expect("run --help", (0, True, ""), (status, "Example: cutlab run" in output, errors))
-        about = "  Keep the study in this file, and go on from what it holds\n"
-        self.expect("what run --help says of --checkpoint", True, about in output)
-        output, errors, status = self.program.run("share", "--help")
-        about = "\nAll shares of a study take one and the same --piece.\n"
-        self.expect("share --help", (0, True, ""), (status, about in output, errors))
-        output, errors, status = self.program.run("frob")
-        self.expect("frob", (2, "", True), (status, output, "unrecognized subcommand 'frob'" in errors))
+        for line, text in TABLES["helps"]:
+            self.says(Ended(text), self.program.run(*line.split()), line)
+        self.says(Ended("", "unrecognized subcommand 'frob'", 2), self.program.run("frob"), "frob")
         for row, text, usage in TABLES["mistakes"]:
             output, errors, status = self.program.run(*row.split(), text=PLAN)
             shown = errors[errors.find("Usage: ") :].split("\n")[0]
@@ -350,15 +345,6 @@ class Lines(ProgramCases):
 
 class Servers(ProgramCases):
     """Servers and their clients."""
-
-    def asked_until(self, status: int) -> Ended:
-        """How a client ends, once one ends with this status."""
-        for _ in range(1000):
-            found = self.program.run("ask", "socket", text=PLAN)
-            if found.status == status:
-                break
-            time.sleep(0.01)
-        return found
 
     def test_servers(self) -> None:
         """A study that a server keeps is there for the next one."""
@@ -404,10 +390,9 @@ class Servers(ProgramCases):
 
     def test_bad_servers(self) -> None:
         self.file("plain").touch()
-        many = "--workers 2 --sessions 1 --studies 2"
-        self.ends(f"serve none/socket {many}", refused("43 Read"), b"")
-        self.ends(f"serve socket {many} --dir plain", refused("20 Disk"), b"")
-        self.ends(f"serve socket {many} --dir none", refused("20 Disk"), b"")
+        faults = {"none/socket": "43 Read", "socket --dir plain": "20 Disk", "socket --dir none": "20 Disk"}
+        for words, fault in faults.items():
+            self.ends(f"serve {words} --workers 2 --sessions 1 --studies 2", refused(fault), b"")
         self.expect("the files that they leave", ["plain"], self.names())
 
 
@@ -423,38 +408,31 @@ class Scripts(ProgramCases):
         self.environment = {**os.environ, "PATH": f"{self.folder}/bin:{os.environ['PATH']}"}
         self.file("a plan.json").write_bytes(PLAN)
 
-    def script(self, name: str, *words: str, **more: str) -> Ended:
-        environment = {**self.environment, **more}
-        return Program(ROOT / "examples" / name, self.folder).run(*words, env=environment)
-
-    def share_by(self, *words: str, **more: str) -> Ended:
-        return self.script("many_machines.sh", "a plan.json", "2", *words, PIECE="1", **more)
+    def script(self, what: str, wanted: Ended, *words: str, **more: str) -> None:
+        """Runs many_machines.sh, and compares how it ends; of its errors some part."""
+        found = Program(ROOT / "examples/many_machines.sh", self.folder).run(*words, env={**self.environment, **more})
+        self.expect(f"many_machines.sh {what}", wanted, found._replace(errors=wanted.errors))
+        self.expect(f"what many_machines.sh {what} reports", True, wanted.errors in found.errors)
 
     def test_many_machines(self) -> None:
-        many = "many_machines.sh"
-        output, errors, status = self.script(many)
-        is_usage = errors.startswith("usage: many_machines.sh PLAN SHARES")
-        self.expect(f"{many} without words", (2, "", True), (status, output, is_usage))
+        self.script("without words", Ended("", "usage: many_machines.sh PLAN SHARES", 2))
         if not shutil.which("parallel"):
             print("program: GNU parallel is not installed, so many_machines.sh was not tried")
             return
-        output, errors, status = self.share_by()
-        is_joined = "joined 2 into 1, 2 of 2\n" in errors
-        self.expect(f"{many} over a plan with a blank", (0, TABLE, True), (status, output, is_joined))
+        share = partial(self.script, PIECE="1")
+        words = ("a plan.json", "2")
+        share("over a plan with a blank", Ended(TABLE, "joined 2 into 1, 2 of 2\n"), *words)
         for name in ("share1.cut", "share2.cut", "study.cut"):
             self.file(name).unlink()
         self.ends("share 2/2 share2.cut", "share 2 of 2: 0 of 0\n", UPGRADE)
-        output, errors, status = self.share_by()
-        is_other = "share2.cut:\tcutlab: fault 23 OtherPlan\n" in errors
-        self.expect(f"{many} with a file of another plan", (1, "", True), (status, output, is_other))
+        share("with a file of another plan", Ended("", "share2.cut:\tcutlab: fault 23 OtherPlan\n", 1), *words)
         self.file("share2.cut").unlink()
         self.file("bin/ssh").write_text("#!/bin/sh\necho no way there >&2\nexit 255\n")
         self.file("bin/ssh").chmod(0o755)
-        output, errors, status = self.share_by("--sshlogin", "elsewhere")
-        found = status, output, "2 of 2 shares did not end" in errors, self.file("study.cut").exists()
-        self.expect(f"{many} whose ssh fails", (1, "", True, False), found)
-        output, _, status = self.share_by("--sshlogin", "elsewhere", REST="here")
-        self.expect(f"{many} whose ssh fails, with REST=here", (0, TABLE), (status, output))
+        remote = (*words, "--sshlogin", "elsewhere")
+        share("whose ssh fails", Ended("", "2 of 2 shares did not end", 1), *remote)
+        self.expect("whether it joins them", False, self.file("study.cut").exists())
+        share("whose ssh fails, with REST=here", Ended(TABLE), *remote, REST="here")
 
     def test_serve_on(self) -> None:
         pipe, path = subprocess.PIPE, self.file("a server/cutlab.sock")
@@ -468,7 +446,3 @@ class Scripts(ProgramCases):
         self.expect("serve_on.sh ended by a signal", Ended(), end_of(served))
         is_refused = self.program.run("ask", path).status == 4
         self.expect("its socket, and its server", (False, True), (path.exists(), is_refused))
-
-
-if __name__ == "__main__":
-    sys.exit(run("program", __doc__, "cutlab_tools.testing.program"))
