@@ -24,7 +24,7 @@ use std::{mem, thread};
 
 /// A study of which nothing was asked yet, and by how many workers, in pieces of how many trials, it is to be run.
 #[derive(Drop)]
-pub(crate) struct Begun<D: Disk> {
+pub(crate) struct OpenedStudy<D: Disk> {
     pub(crate) book: Book<D>,
     pub(crate) piece_size: u32,
     pub(crate) workers: u32,
@@ -36,7 +36,7 @@ pub(crate) struct Begun<D: Disk> {
 
 /// What a worker works with, beside its pass.
 #[derive(Clone, Copy)]
-struct Tools<'a, R, G> {
+struct Env<'a, R, G> {
     rt: &'a R,
     alloc: Global,
     gate: &'a G,
@@ -44,7 +44,7 @@ struct Tools<'a, R, G> {
 
 /// The passes of a study's workers: that of the thread that writes, and those of all others.
 #[derive(Drop)]
-struct Crew<M: CallLedger> {
+struct WorkerPasses<M: CallLedger> {
     writer: Pass<M>,
     others: Vec<Pass<M>>,
 }
@@ -54,7 +54,7 @@ struct Crew<M: CallLedger> {
 pub(crate) struct PrivateHall<D: Disk, M: CallLedger, K: CallLedger> {
     pub(crate) hall: Hall<D, M, K>,
     pub(crate) opened: Opened,
-    crew: Crew<M>,
+    crew: WorkerPasses<M>,
     ghost one_slot: { hall.slots ≡ 1 },
     ghost its_slot: { opened.study ≡ 0 },
     ghost others_own: { All (λ p. p.hall ≡ hall.id) crew.others.items },
@@ -66,7 +66,7 @@ impl<D: Disk + Drop, M: CallLedger, K: CallLedger> PrivateHall<D, M, K> {
     /// for each worker, and the second has one part. Fails only where memory runs out.
     pub(crate) fn open(
         alloc: Global,
-        begun: Begun<D>,
+        begun: OpenedStudy<D>,
         blanks: Blanks,
     ) -> Result<PrivateHall<D, M, K>, AllocError>
         requires untrusted { K.trusts ≡ false }
@@ -78,7 +78,7 @@ impl<D: Disk + Drop, M: CallLedger, K: CallLedger> PrivateHall<D, M, K> {
         ensures base { IfOk result (λ s. s.opened.base ≡ begun.book.state.ledger.base) }
         ensures opening { IfOk result (λ s. s.hall.opening ≡ Some (opening_of begun.book)) }
     {
-        let Begun {
+        let OpenedStudy {
             book,
             piece_size,
             workers,
@@ -95,7 +95,7 @@ impl<D: Disk + Drop, M: CallLedger, K: CallLedger> PrivateHall<D, M, K> {
         Ok(PrivateHall {
             hall,
             opened,
-            crew: Crew { writer, others },
+            crew: WorkerPasses { writer, others },
         })
     }
 
@@ -129,7 +129,7 @@ impl<D: Disk + Drop, M: CallLedger, K: CallLedger> PrivateHall<D, M, K> {
             opened,
             mut crew,
         } = self;
-        let tools = Tools { rt, alloc, gate };
+        let tools = Env { rt, alloc, gate };
         let sent = stream(tools, &hall, &opened, &mut crew, wire);
         (sent, closed(alloc, hall, crew))
     }
@@ -138,10 +138,10 @@ impl<D: Disk + Drop, M: CallLedger, K: CallLedger> PrivateHall<D, M, K> {
 /// Lets the other workers work in threads of their own, and writes the table in this one. Once it is written, or can't
 /// be, the hall is stopped.
 fn stream<D, M, K, W, G, R>(
-    tools: Tools<'_, R, G>,
+    tools: Env<'_, R, G>,
     hall: &Hall<D, M, K>,
     opened: &Opened,
-    crew: &mut Crew<M>,
+    crew: &mut WorkerPasses<M>,
     wire: &mut W,
 ) -> Result<u64, EmitFault>
 where
@@ -160,8 +160,8 @@ where
     ensures writer { crew.new.writer.hall ≡ hall.now.id }
     ensures made { OnOk result (length (cells_of opened.now.plan) ≤ crew.new.writer.made) }
 {
-    let Tools { rt, alloc, gate } = tools;
-    let Crew { writer, others } = crew;
+    let Env { rt, alloc, gate } = tools;
+    let WorkerPasses { writer, others } = crew;
     let mut write = || -> Result<u64, EmitFault>
         requires own { writer.now.hall ≡ hall.now.id }
         requires slot { opened.now.study < hall.now.slots }
@@ -219,7 +219,7 @@ impl<D: Disk + Drop, M: CallLedger, K: CallLedger> Workplace<M> for Hall<D, M, K
 /// Lets each pass work in a thread of its own, and writes in this one meanwhile. Where no thread can be made, they
 /// find nothing left to do once it has written.
 fn work_beside<S, M, G, R, F>(
-    tools: Tools<'_, R, G>,
+    tools: Env<'_, R, G>,
     hall: &S,
     passes: &mut Vec<Pass<M>>,
     write: &mut F,
@@ -236,7 +236,7 @@ where
     ensures own { All (λ p. p.hall ≡ S.id_of hall.now) passes.new.items }
     ensures write { F.step write.old result write.new }
 {
-    let Tools { rt, alloc, gate } = tools;
+    let Env { rt, alloc, gate } = tools;
     let mut work = ||
         requires { S.has_slot hall.now × All (λ p. p.hall ≡ S.id_of hall.now) passes.now.items }
         ensures { All (λ p. p.hall ≡ S.id_of hall.entry.now) passes.exit.now.items }
@@ -275,7 +275,11 @@ where
 }
 
 /// Closes a hall with the passes of its workers. Where passes are missing, it was where memory runs out.
-fn closed<D, M, K>(alloc: Global, hall: Hall<D, M, K>, crew: Crew<M>) -> Result<Report, RunFault>
+fn closed<D, M, K>(
+    alloc: Global,
+    hall: Hall<D, M, K>,
+    crew: WorkerPasses<M>,
+) -> Result<Report, RunFault>
 where
     D: Disk + Drop,
     M: CallLedger,
@@ -288,7 +292,7 @@ where
     ensures calls { IfOk result (λ report. crew.writer.made ≤ calls_in_all report) }
     ensures why { IfErr result IsNotEnded }
 {
-    let Crew {
+    let WorkerPasses {
         writer,
         others: mut passes,
     } = crew;

@@ -11,7 +11,7 @@ ghost use Rattle.cut_book.specs.Book.{IsFresh, opening_of};
 
 use crate::RunFault;
 use crate::emit::EmitFault;
-use crate::private_hall::{Begun, PrivateHall};
+use crate::private_hall::{OpenedStudy, PrivateHall};
 use cut_book::Book;
 use cut_disks::Disk;
 use cut_hall::{Blanks, CallLedger, Gate, NextRowFault, Report};
@@ -88,7 +88,7 @@ impl<D: Disk + Drop + Send> StudyRun<'_, D> {
         plans_are_accepted(plan);
         let held = trials_held(plan, book.ledger().base().as_slice());
         gate.opened(rt, u64::from(held), u64::from(plan.trials()));
-        let begun = Begun {
+        let begun = OpenedStudy {
             book,
             piece_size,
             workers,
@@ -168,7 +168,7 @@ fn open_kept<D: Disk + Drop>(
 fn run_begun<'a, D, M, K, W, G, R>(
     rt: &'a R,
     alloc: Global,
-    begun: Begun<D>,
+    begun: OpenedStudy<D>,
     blanks: Blanks,
     wire: &mut W,
     gate: &'a G,

@@ -8,7 +8,7 @@ ghost use Rattle.cut_slots.specs.Report.{IsAcceptedCount, IsEndOf, accepted_reco
 use crate::Capacity;
 use crate::shelf::FolderShelf;
 use crate::socket::{Socket, SocketWire};
-use crate::threads::{Listener, Site, run_threads};
+use crate::threads::{Listener, ServerEnv, run_threads};
 use cut_book::Shelf;
 use cut_commands::{CliFault, FaultText};
 use cut_disks::{Disk, FileDisk};
@@ -85,7 +85,7 @@ where
     let Ok((hall, passes)) = started else {
         return (listener, Err(CliFault::WorkMemory));
     };
-    let site = Site {
+    let site = ServerEnv {
         rt,
         alloc,
         hall: &hall,

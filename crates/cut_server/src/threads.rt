@@ -113,14 +113,14 @@ impl<D: Disk + Drop, M: CallLedger, K: CallLedger> ServerHall<D, M> for Hall<D, 
 
 /// The threads of the workers, and the passes of the sessions that have ended.
 #[derive(Drop)]
-struct Finished<M: CallLedger> {
+struct EndedThreads<M: CallLedger> {
     workers: Vec<Attendance<M>>,
     served: Vec<Pass<M>>,
 }
 
 /// What the threads of a server share: the hall, and the shelf on which its studies are kept.
 #[derive(Drop)]
-pub(crate) struct Site<'a, H, S, R> {
+pub(crate) struct ServerEnv<'a, H, S, R> {
     pub(crate) rt: &'a R,
     pub(crate) alloc: Global,
     pub(crate) hall: &'a H,
@@ -130,7 +130,7 @@ pub(crate) struct Site<'a, H, S, R> {
 /// Lets this many passes work, each in a thread of its own, and serves a connection with each of the others. Once
 /// the sessions have ended the work is ended, and all passes come back.
 pub(crate) fn run_threads<D, M, H, S, L, W, R>(
-    site: &Site<'_, H, S, R>,
+    site: &ServerEnv<'_, H, S, R>,
     listener: L,
     passes: Vec<Pass<M>>,
     workers: u32,
@@ -177,7 +177,7 @@ where
 
 /// The threads of the workers and those of the sessions.
 #[derive(Drop)]
-struct Started<M: CallLedger> {
+struct RunningThreads<M: CallLedger> {
     workers: Vec<Attendance<M>>,
     sessions: Vec<Attendance<M>>,
 }
@@ -185,11 +185,11 @@ struct Started<M: CallLedger> {
 /// Starts the workers and the sessions, turns away who comes later, and waits until all sessions have ended.
 fn run_in_scope<'s, E, D, M, H, S, L, W, R>(
     scope: &Scope<'s, E>,
-    site: &Site<'s, H, S, R>,
+    site: &ServerEnv<'s, H, S, R>,
     listener: &mut L,
     passes: Vec<Pass<M>>,
     workers: u32,
-) -> Result<Finished<M>, CliFault>
+) -> Result<EndedThreads<M>, CliFault>
 where
     D: Disk + Send + 's,
     M: CallLedger + Send + Sync + 's,
@@ -209,21 +209,21 @@ where
 {
     let started = start_all(scope, site, listener, passes, workers);
     listener.close();
-    let Started { workers, sessions } = started?;
+    let RunningThreads { workers, sessions } = started?;
     let Ok(served) = join_promised(site.rt, sessions) else {
         return Err(CliFault::WorkMemory);
     };
-    Ok(Finished { workers, served })
+    Ok(EndedThreads { workers, served })
 }
 
 /// Starts the workers, and a session with each of the passes that are left.
 fn start_all<'s, E, D, M, H, S, L, W, R>(
     scope: &Scope<'s, E>,
-    site: &Site<'s, H, S, R>,
+    site: &ServerEnv<'s, H, S, R>,
     listener: &mut L,
     passes: Vec<Pass<M>>,
     workers: u32,
-) -> Result<Started<M>, CliFault>
+) -> Result<RunningThreads<M>, CliFault>
 where
     D: Disk + Send + 's,
     M: CallLedger + Send + Sync + 's,
@@ -246,13 +246,13 @@ where
     let mut passes = passes;
     let workers = start_workers(scope, site, &mut passes, workers)?;
     let sessions = start_sessions(scope, site, listener, passes)?;
-    Ok(Started { workers, sessions })
+    Ok(RunningThreads { workers, sessions })
 }
 
 /// Starts this many workers, each with one of the passes.
 fn start_workers<'s, E, D, M, H, S, R>(
     scope: &Scope<'s, E>,
-    site: &Site<'s, H, S, R>,
+    site: &ServerEnv<'s, H, S, R>,
     passes: &mut Vec<Pass<M>>,
     count: u32,
 ) -> Result<Vec<Attendance<M>>, CliFault>
@@ -299,7 +299,7 @@ where
 /// Starts a session with each of the passes, as the connections come.
 fn start_sessions<'s, E, D, M, H, S, L, W, R>(
     scope: &Scope<'s, E>,
-    site: &Site<'s, H, S, R>,
+    site: &ServerEnv<'s, H, S, R>,
     listener: &mut L,
     passes: Vec<Pass<M>>,
 ) -> Result<Vec<Attendance<M>>, CliFault>
@@ -348,7 +348,7 @@ where
 }
 
 /// All passes, once the workers have ended.
-fn gathered<M, R>(rt: &R, finished: Finished<M>) -> Result<Vec<Pass<M>>, CliFault>
+fn gathered<M, R>(rt: &R, finished: EndedThreads<M>) -> Result<Vec<Pass<M>>, CliFault>
 where
     M: CallLedger,
     R: Threads,
@@ -359,7 +359,7 @@ where
         length back.items ≡ length finished.workers.items + length finished.served.items) }
     ensures why { IfErr result (λ e. e ≡ CliFault.WorkMemory) }
 {
-    let Finished {
+    let EndedThreads {
         workers,
         mut served,
     } = finished;

@@ -123,7 +123,9 @@ def upward(listed: list[Layer]) -> Iterator[str]:
     place = {crate.name: at for at, layer in enumerate(listed) for crate in layer.crates}
     for at, layer in enumerate(listed):
         for crate in layer.crates:
-            yield from (f"{CRATES}: {crate.name} stands on {it}, which is above" for it in crate.stands_on if place[it] > at)
+            yield from (
+                f"{CRATES}: {crate.name} stands on {it}, which is above" for it in crate.stands_on if place[it] > at
+            )
 
 
 def paged(repository: Repository) -> list[tuple[str, list[str]]]:
