@@ -1,11 +1,13 @@
-//! The command that joins checkpoints, over disks in memory: disks that fail at each of their calls, and refused memory.
+//! The command that joins checkpoints, over files in memory and the system's: disks that fail at each of their calls, files
+//! that do not open, and refused memory.
 
 use cut_commands::CliFault;
 use cut_disks::{FaultyDisk, Tear};
-use cut_join::join;
+use cut_files::{MemoryFiles, SystemFiles};
+use cut_join::join as join_slips;
 use cut_journal::Journal;
 use cut_ledger::Slip;
-use cut_machines::{JoinedFiles, join_files, join_io};
+use cut_machines::{Joined, join};
 use cut_outcome::{Piece, Totals};
 use cut_plan::Plan;
 use cut_wires::MemoryWire;
@@ -66,22 +68,28 @@ fn checkpoint_of(alloc: Global, pieces: &[(u32, u32)]) -> Result<FaultyDisk, Fai
         .collect::<Vec<Slip>>(alloc)?;
     match Journal::create(alloc, failing_disk(alloc, b"", 0)?, &plan) {
         Ok(mut journal) => {
-            join(alloc, &plan, &slips, &mut journal)?;
+            join_slips(alloc, &plan, &slips, &mut journal)?;
             Ok(journal.into_disk())
         }
         Err((fault, _disk)) => Err(fault)?,
     }
 }
 
-// The three checkpoints, the second of which fails at a call.
-fn checkpoints(alloc: Global, fail_at: u64) -> Result<Vec<FaultyDisk>, Fail> {
-    let mut disks = Vec::new(alloc);
-    for (place, pieces) in PIECES.iter().enumerate() {
+// The paths of three checkpoints in memory, and of the new one.
+const OLD: [&str; 3] = ["1.cut", "2.cut", "3.cut"];
+
+const NEW: &str = "new.cut";
+
+// The three checkpoints, the second of which fails at a call, and an empty file that fails at another.
+fn files_of(alloc: Global, old_at: u64, new_at: u64) -> Result<MemoryFiles<FaultyDisk>, Fail> {
+    let mut files = MemoryFiles::new(alloc);
+    for (place, (path, pieces)) in OLD.iter().zip(PIECES.iter()).enumerate() {
         let disk = checkpoint_of(alloc, *pieces)?;
-        let fail_at = if place == 1 { fail_at } else { 0 };
-        disks.push(failing_disk(alloc, disk.memory().bytes(), fail_at)?)?;
+        let fail_at = if place == 1 { old_at } else { 0 };
+        files.put(*path, failing_disk(alloc, disk.memory().bytes(), fail_at)?)?;
     }
-    Ok(disks)
+    files.put(NEW, failing_disk(alloc, b"", new_at)?)?;
+    Ok(files)
 }
 
 // How a join ended.
@@ -93,17 +101,27 @@ enum End {
     Other,
 }
 
-// How joining the three checkpoints on a new disk ends, where the second of them fails at a call, and the new one.
-fn end_of(alloc: Global, old_at: u64, new_at: u64) -> Result<End, Fail> {
+// How joining files in the new one ends, and which of them is refused.
+fn end_of(
+    alloc: Global,
+    files: &mut MemoryFiles<FaultyDisk>,
+    old: &[&str],
+) -> Result<(End, Option<usize>), Fail> {
     let mut wire = MemoryWire::new(alloc, Vec::from_slice(alloc, PLAN.as_bytes())?, 4096);
-    let old = checkpoints(alloc, old_at)?;
-    let new = failing_disk(alloc, b"", new_at)?;
-    Ok(match join_io(alloc, &mut wire, old, new).ended {
+    let Joined { refused, ended } = join(files, alloc, &mut wire, old, NEW);
+    let end = match ended {
         Ok(()) if wire.taken() == LINE.as_bytes() => End::Joined,
         Err(CliFault::Memory) => End::Memory,
         Err(fault) if fault.number() == 20 => End::Disk,
         _ => End::Other,
-    })
+    };
+    Ok((end, refused))
+}
+
+// How joining the three checkpoints ends, where the second of them fails at a call, and the new one at another.
+fn end_where(alloc: Global, old_at: u64, new_at: u64) -> Result<(End, Option<usize>), Fail> {
+    let mut files = files_of(alloc, old_at, new_at)?;
+    end_of(alloc, &mut files, &OLD)
 }
 
 #[test]
@@ -111,13 +129,32 @@ fn each_call_of_a_disk_fails(rt: HostRuntime) -> Result<(), Fail> {
     let alloc = rt.alloc();
     // An old disk of three slips is read in 15 calls.
     for fail_at in 1..=15 {
-        assert!(rt; end_of(alloc, fail_at, 0)? == End::Disk, "{fail_at}");
+        assert!(rt;
+            end_where(alloc, fail_at, 0)? == (End::Disk, Some(2)),
+            "{fail_at}"
+        );
     }
     // A new one is looked at and a study made in nine, and each slip takes four.
     for fail_at in 1..=21 {
-        assert!(rt; end_of(alloc, 0, fail_at)? == End::Disk, "{fail_at}");
+        assert!(rt;
+            end_where(alloc, 0, fail_at)? == (End::Disk, None),
+            "{fail_at}"
+        );
     }
-    assert!(rt; end_of(alloc, 16, 22)? == End::Joined);
+    assert!(rt; end_where(alloc, 16, 22)? == (End::Joined, None));
+    Ok(())
+}
+
+// A file that is not there, and the new file, which is open, are refused when their turn comes. All files are given back
+// then, so the next join can open them.
+#[test]
+fn a_file_that_does_not_open_is_refused(rt: HostRuntime) -> Result<(), Fail> {
+    let mut files = files_of(rt.alloc(), 0, 0)?;
+    let absent = ["1.cut", "2.cut", "4.cut"];
+    assert!(rt; end_of(rt.alloc(), &mut files, &absent)? == (End::Disk, Some(3)));
+    let new = ["1.cut", NEW, "3.cut"];
+    assert!(rt; end_of(rt.alloc(), &mut files, &new)? == (End::Disk, Some(2)));
+    assert!(rt; end_of(rt.alloc(), &mut files, &OLD)? == (End::Joined, None));
     Ok(())
 }
 
@@ -127,7 +164,7 @@ fn each_call_of_a_disk_fails(rt: HostRuntime) -> Result<(), Fail> {
 fn a_refused_allocation_stops_one_join(rt: HostRuntime) -> Result<(), Fail> {
     let mut stopped = 0u32;
     for _ in 0..3 {
-        let end = end_of(rt.alloc(), 0, 0)?;
+        let (end, _) = end_where(rt.alloc(), 0, 0)?;
         if end == End::Memory {
             stopped = stopped.saturating_add(1);
         } else {
@@ -156,8 +193,9 @@ fn files_are_joined(rt: HostRuntime) -> Result<(), Fail> {
     }
     let plan = Vec::from_slice(rt.alloc(), PLAN.as_bytes())?;
     let mut wire = MemoryWire::new(rt.alloc(), plan, 4096);
-    let JoinedFiles { refused, ended } = join_files(
-        &rt,
+    let Joined { refused, ended } = join(
+        &mut SystemFiles::of(&rt),
+        rt.alloc(),
         &mut wire,
         &FILES,
         "cutlab_join_test/new.cut",

@@ -5,13 +5,13 @@ use Rattle.std.specs.Fmt.{decimal}
 use Rattle.cut_wires.specs.Log.{WireLog}
 use Rattle.cut_progress.specs.Printed.{HasPrinted}
 use Rattle.cut_files.specs.Place.{Unknown}
-use Rattle.cut_machines.specs.JoinCommand.{NamesRefusedFile, join_files_task}
+use Rattle.cut_machines.specs.JoinCommand.{EndsJoin, NamesRefusedFile}
 use Rattle.cut_share.specs.declared.share.Share as share
 use Rattle.cut_machines.specs.Share.{EndsShare}
 use Rattle.cut_commands.specs.Ask.{EndsAsk}
 use Rattle.cut_commands.specs.Migrate.{EndsMigrate}
 use Rattle.cut_commands.specs.Explain.{Explains}
-use Rattle.cut_commands.specs.Run.{EndsCommand, EndsWith, EndsWithFile, canonical_task, check_task}
+use Rattle.cut_commands.specs.Run.{EndsCommand, EndsWith, canonical_task, check_task}
 use Rattle.cut_commands.specs.Status.{EndsStatus}
 use Rattle.cut_commands.specs.Study.{EndsStudy, plain_task}
 use Rattle.cut_server.specs.Serve.{EndsServing}
@@ -36,7 +36,9 @@ EndsJob (Migrate from to) old new result = EndsMigrate from.now to.now (λ _. Un
 EndsJob (Share index shares file piece workers progress) old new result =
     (s : share.Share) × (s.index ≡ index) × (s.shares ≡ shares) × (s.block_size ≡ piece)
     × EndsShare result s Unknown Unknown old new
-EndsJob (Join to from which) old new result = EndsWithFile join_files_task old new result
+EndsJob (Join to from which) old new result =
+    (refused : Option ℕ) × EndsJoin to.now (map (λ s. s.now) from.items) (λ _. Unknown) (λ _. Unknown) old new result
+    refused
 
 -- the line that says which file is refused, by its place and its path, which is quoted, so that it can't end the line
 abbrev pub file_line : ℕ → List ℕ → List ℕ

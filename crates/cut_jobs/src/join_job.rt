@@ -1,9 +1,9 @@
 //! A join of checkpoints, with or without the name of a refused one on the errors.
-ghost use Rattle.std.specs.Prelude.{◌≡◌, ◌≤◌, ◌∷◌, ◌++◌, [], Some, length, map};
+ghost use Rattle.std.specs.Prelude.{◌≡◌, ◌≤◌, ◌∷◌, ◌++◌, ℕ, Option, [], Some, length, map};
 ghost use Rattle.std.specs.List.{flat_map};
 ghost use Rattle.std.specs.Str.{chars};
-ghost use Rattle.cut_commands.specs.Run.{EndsWithFile};
-ghost use Rattle.cut_machines.specs.JoinCommand.{join_files_task};
+ghost use Rattle.cut_files.specs.Place.{Unknown};
+ghost use Rattle.cut_machines.specs.JoinCommand.{EndsJoin};
 ghost use Rattle.cut_jobs.specs.Jobs.{PrintsRefused, file_line};
 ghost use Rattle.cut_jobs.specs.Quoted.{quoted_char};
 ghost use Rattle.cut_jobs.specs.inside.Printing.{PrintsFileIf, WritesWhole, file_end, file_head};
@@ -13,7 +13,8 @@ use crate::program::report;
 use crate::quoted::quoted_char;
 use arrayvec::ArrayString;
 use cut_commands::CliFault;
-use cut_machines::{JoinedFiles, join_files};
+use cut_files::SystemFiles;
+use cut_machines::{Joined, join};
 use cut_wires::{Wire, send_all};
 use itoa::Buffer;
 
@@ -37,11 +38,13 @@ impl JoinJob<'_> {
     where
         W: Wire,
         E: Wire,
-        ensures ends { EndsWithFile join_files_task (W.log wire.old) (W.log wire.new) result }
+        ensures ends { (refused : Option ℕ) × EndsJoin self.now.new.now (map (λ s. s.now) self.now.old.now)
+            (λ _. Unknown) (λ _. Unknown) (W.log wire.old) (W.log wire.new) result refused }
         ensures prints { PrintsFileIf self.now.which self.now.old.now result
             (E.log errors.old) (E.log errors.new) }
     {
-        let JoinedFiles { refused, ended } = join_files(host, wire, self.old, self.new);
+        let mut files = SystemFiles::of(host);
+        let Joined { refused, ended } = join(&mut files, host.alloc(), wire, self.old, self.new);
         if self.which {
             if let Some(place) = refused {
                 report_refused(place, self.old, errors);

@@ -1,132 +1,142 @@
 -- How a join of checkpoints ends, by its parts.
-use Rattle.std.proofs.Common.{◌≡◌, inl, inr, ℕ, Global, List, Result, Ok, Err, refl, subst}
+use Rattle.std.proofs.Common.{◌≡◌, ◌∙◌, ◌≤◌, inl, inr, ℕ, List, ◌∷◌, Option, Some, None, Result, Ok, Err}
+use Rattle.std.proofs.Common.{length, refl, sym, ap, subst, arith, length-append}
 use Rattle.std.specs.Bool.{⊤}
-use Rattle.std.specs.Prelude.{IfErr, IfOk, String, string_bytes}
 use Rattle.cut_plan.specs.Values.{Values}
-use Rattle.cut_disks.specs.Log.{DiskLog, IsKnown, is_known, on}
+use Rattle.cut_disks.specs.Log.{DiskLog, is_known}
+use Rattle.cut_files.specs.Place.{IsOpen, Place, closed, opened}
+use Rattle.cut_files.specs.Place as place
+use Rattle.cut_files.proofs.Places.{opened_open}
 use Rattle.cut_wires.specs.Log.{WireLog}
-use Rattle.cut_ledger.specs.declared.slip.Slip.{Slip}
-use Rattle.cut_ledger.specs.Slips.{AreGood}
-use Rattle.cut_migration.specs.declared.fault.MigrateFault.TheVariants as migration
+use Rattle.cut_journal.specs.declared.fault.JournalFault.{JournalFault}
 use Rattle.cut_commands.specs.Run.{GivesPlan, IsWritten, LeavesStudy}
-use Rattle.cut_commands.specs.Task.{Task}
 use Rattle.cut_commands.specs.declared.fault.CliFault.{CliFault}
 use Rattle.cut_commands.specs.declared.fault.CliFault.TheVariants.{Memory, Plan, Read, Write, Journal, BadSlip, Migrate}
 use Rattle.cut_commands.proofs.RunLemmas.{ends_left, ends_unread, leaves_answer, leaves_nothing}
-use Rattle.cut_machines.specs.JoinCommand.{EndsJoinCommand, JoinWrites, LeavesOther, StopsJoinOfFiles}
-use Rattle.cut_machines.specs.JoinCommand.{StopsJoin, join_files_task, join_task, joined_text}
-use Rattle.cut_machines.specs.JoinSources.{HoldAll}
-use Rattle.cut_machines.specs.JoinTarget.{LeavesDisk, writing_faults}
+use Rattle.cut_machines.specs.JoinCommand.{AreUntouched, EndsJoinCommand, JoinFiles, JoinWrites, LeavesOther}
+use Rattle.cut_machines.specs.JoinCommand.{NamesRefused, NamesRefusedFile, StopsJoin, join_task}
+use Rattle.cut_machines.specs.JoinSources.{IsRefusedAt}
+use Rattle.cut_machines.specs.inside.JoinCommand.{EndsJoining, NamesOld}
+use Rattle.cut_machines.specs.inside.JoinSources.{StaysOpen}
 
--- what is known of a result, where it is one or the other
-pub if_ok : {T E : Type 0} (P : T → Type 0) (r : Result T E) (x : T) → r ≡ Ok x → IfOk r P → P x
-if_ok P r x is holds = subst (λ (a : Result _ _). IfOk a P) is holds
-
-pub if_err : {T E : Type 0} (P : E → Type 0) (r : Result T E) (e : E) → r ≡ Err e → IfErr r P → P e
-if_err P r e is holds = subst (λ (a : Result _ _). IfErr a P) is holds
-
-module _ {O N : Type 0} (log_old : O → DiskLog) (log_new : N → DiskLog) (olds : List O) (new after : N) where
-  abbrev Stops : Values → CliFault → Type 0
-  Stops v fault = StopsJoin log_old log_new olds new after v fault
-
-  abbrev Writes : Values → List ℕ → Type 0
-  Writes v whole = JoinWrites log_old log_new olds new after v whole
-
-  abbrev task : Task
-  task = join_task log_old log_new olds new after
-
-  abbrev Ends : WireLog → WireLog → Result ⊤ CliFault → Type 0
-  Ends old_log new_log result =
-      EndsJoinCommand log_old log_new olds new after old_log new_log result
-
-  abbrev Leaves : WireLog → WireLog → Result ⊤ CliFault → Type 0
-  Leaves old_log new_log result =
-      LeavesOther log_old log_new olds new after old_log new_log result
-
+module _ (files : JoinFiles) where
   -- ---- no plan was read
 
-  unread_left : (fault : CliFault) (old_log new_log : WireLog) → after ≡ new → Leaves old_log new_log (Err fault)
-  unread_left Read old_log new_log same = same
-  unread_left (Plan refusal) old_log new_log same = same
-  unread_left Memory old_log new_log same = inl same
-  unread_left fault old_log new_log same = tt
+  unread_names : (fault : CliFault) (old new : WireLog) → GivesPlan (Err fault) old new
+      → NamesRefused files old new (Err fault) None
+  unread_names (Journal fault) old new given = absurd given.is
+  unread_names fault old new given = refl
 
-  pub ends_without_plan : (fault : CliFault) (old_log new_log : WireLog) → after ≡ new
-      → (is_known (log_new after) ≡ is_known (log_new new)) → GivesPlan (Err fault) old_log new_log
-      → Ends old_log new_log (Err fault)
-  ends_without_plan fault old_log new_log same known given = record {
-    command = ends_unread task fault old_log new_log given;
-    other = unread_left fault old_log new_log same;
+  unread_left : (fault : CliFault) (old new : WireLog) → AreUntouched files → LeavesOther files old new (Err fault)
+  unread_left Read old new same = same
+  unread_left (Plan refusal) old new same = same
+  unread_left Memory old new same = inl same
+  unread_left fault old new same = tt
+
+  pub ends_without_plan : (fault : CliFault) (old new : WireLog) → AreUntouched files
+      → is_known files.back ≡ is_known files.disk → GivesPlan (Err fault) old new
+      → EndsJoinCommand files old new (Err fault) None
+  ends_without_plan fault old new same known given = record {
+    command = ends_unread (join_task files) fault old new given;
+    names = unread_names fault old new given;
+    other = unread_left fault old new same;
     known = known;
   }
 
   -- ---- slips were not all joined
 
-  stopped_answer : (v : Values) (fault : CliFault) (l : WireLog) → Stops v fault → LeavesStudy task v (Err fault) l l
-  stopped_answer v Memory l stops = leaves_nothing task v Memory l refl refl
-  stopped_answer v (Journal fault) l stops = leaves_nothing task v (Journal fault) l refl (stops, refl)
-  stopped_answer v (BadSlip n) l stops = leaves_nothing task v (BadSlip n) l refl (stops, refl)
-  stopped_answer v (Migrate fault) l stops = leaves_nothing task v (Migrate fault) l refl (stops, refl)
+  stopped_answer : (v : Values) (fault : CliFault) (l : WireLog) → StopsJoin files v fault
+      → LeavesStudy (join_task files) v (Err fault) l l
+  stopped_answer v Memory l stops = leaves_nothing (join_task files) v Memory l refl refl
+  stopped_answer v (Journal fault) l stops =
+      leaves_nothing (join_task files) v (Journal fault) l refl (stops, refl)
+  stopped_answer v (BadSlip n) l stops = leaves_nothing (join_task files) v (BadSlip n) l refl (stops, refl)
+  stopped_answer v (Migrate fault) l stops =
+      leaves_nothing (join_task files) v (Migrate fault) l refl (stops, refl)
   stopped_answer v fault l (inl reading) = absurd reading.0
   stopped_answer v fault l (inr writing) = absurd writing.0
 
-  stopped_left : (v : Values) (fault : CliFault) (old_log new_log : WireLog) → GivesPlan (Ok v) old_log new_log
-      → Stops v fault → Leaves old_log new_log (Err fault)
-  stopped_left v Memory old_log new_log given stops = inr (v, (given, stops))
-  stopped_left v Read old_log new_log given (inl reading) = absurd reading.0
-  stopped_left v Read old_log new_log given (inr writing) = absurd writing.0
-  stopped_left v (Plan refusal) old_log new_log given (inl reading) = absurd reading.0
-  stopped_left v (Plan refusal) old_log new_log given (inr writing) = absurd writing.0
-  stopped_left v fault old_log new_log given stops = tt
+  stopped_left : (v : Values) (fault : CliFault) (old new : WireLog) → GivesPlan (Ok v) old new
+      → StopsJoin files v fault → LeavesOther files old new (Err fault)
+  stopped_left v Memory old new given stops = inr (v, (given, stops))
+  stopped_left v Read old new given (inl reading) = absurd reading.0
+  stopped_left v Read old new given (inr writing) = absurd writing.0
+  stopped_left v (Plan refusal) old new given (inl reading) = absurd reading.0
+  stopped_left v (Plan refusal) old new given (inr writing) = absurd writing.0
+  stopped_left v fault old new given stops = tt
 
-  pub ends_stopped : (v : Values) (text : Result (String Global) CliFault) (fault : CliFault)
-      (old_log new_log : WireLog) → GivesPlan (Ok v) old_log new_log → text ≡ Err fault
-      → IfErr text (λ e. Stops v e) → (is_known (log_new after) ≡ is_known (log_new new)) → Ends old_log new_log (Err fault)
-  ends_stopped v text fault old_log new_log given is holds known =
-      let stops : Stops v fault = if_err (λ e. Stops v e) text fault is holds in
-      record {
-        command = ends_left task v (Err fault) old_log new_log new_log given (stopped_answer v fault new_log stops);
-        other = stopped_left v fault old_log new_log given stops;
-        known = known;
-      }
+  stopped_names : (v : Values) (fault : CliFault) (refused : Option ℕ) (old new : WireLog) → GivesPlan (Ok v) old new
+      → NamesOld files v fault refused → NamesRefused files old new (Err fault) refused
+  stopped_names v (Journal fault) refused old new given named = (v, (given, named))
+  stopped_names v fault refused old new given named = named
 
-  -- ---- all were joined
-
-  pub text_writes : (v : Values) (ss : List Slip) (text : Result (String Global) CliFault)
-      → HoldAll log_old olds v ss → AreGood v ss
-      → (IsKnown (log_new new) → LeavesDisk text v ss (on (log_new new)) (on (log_new after)))
-      → (log_new after).failed ≡ writing_faults text (log_new new).failed
-      → IfOk text (λ t. string_bytes t ≡ joined_text v ss) → IfOk text (λ t. Writes v (string_bytes t))
-  text_writes v ss (Ok text) held good left faults is =
-      (ss, (record { held = held; good = good; left = left; faults = faults }, is))
-  text_writes v ss (Err fault) held good left faults is = tt
-
-  written_left : (whole : List ℕ) (result : Result ⊤ CliFault) (old_log mid new_log : WireLog)
-      → IsWritten whole result mid new_log → Leaves old_log new_log result
-  written_left whole (Ok done) old_log mid new_log written = tt
-  written_left whole (Err (Write fault)) old_log mid new_log written = tt
-  written_left whole (Err fault) old_log mid new_log written = absurd written
-
-  pub ends_joined : (v : Values) (text : Result (String Global) CliFault) (line : String Global)
-      (result : Result ⊤ CliFault) (old_log mid new_log : WireLog) → GivesPlan (Ok v) old_log mid → text ≡ Ok line
-      → IfOk text (λ t. Writes v (string_bytes t)) → IsWritten (string_bytes line) result mid new_log
-      → (is_known (log_new after) ≡ is_known (log_new new)) → Ends old_log new_log result
-  ends_joined v text line result old_log mid new_log given is holds written known = record {
-    command = ends_left task v result old_log mid new_log given
-        (leaves_answer task v (string_bytes line) result mid new_log
-        (if_ok (λ (t : String Global). Writes v (string_bytes t)) text line is holds) written);
-    other = written_left (string_bytes line) result old_log mid new_log written;
+  pub ends_stopped : (v : Values) (fault : CliFault) (refused : Option ℕ) (old new : WireLog)
+      → GivesPlan (Ok v) old new → EndsJoining files v (Err fault) refused
+      → is_known files.back ≡ is_known files.disk → EndsJoinCommand files old new (Err fault) refused
+  ends_stopped v fault refused old new given ends known = record {
+    command = ends_left (join_task files) v (Err fault) old new new given (stopped_answer v fault new ends.0);
+    names = stopped_names v fault refused old new given ends.1;
+    other = stopped_left v fault old new given ends.0;
     known = known;
   }
 
--- ---- over files
+  -- ---- all were joined
 
--- what is left on the wire where not all were joined: nothing
-pub files_leave : (v : Values) (fault : CliFault) (l : WireLog) → StopsJoinOfFiles v fault
-    → LeavesStudy join_files_task v (Err fault) l l
-files_leave v Memory l stops = leaves_nothing join_files_task v Memory l refl refl
-files_leave v (Journal fault) l stops = leaves_nothing join_files_task v (Journal fault) l refl (stops, refl)
-files_leave v (BadSlip n) l stops = leaves_nothing join_files_task v (BadSlip n) l refl (stops, refl)
-files_leave v (Migrate migration.Disk) l stops =
-    leaves_nothing join_files_task v (Migrate migration.Disk) l refl (stops, refl)
-files_leave v fault l stops = absurd stops
+  written_left : (whole : List ℕ) (result : Result ⊤ CliFault) (old mid new : WireLog)
+      → IsWritten whole result mid new → LeavesOther files old new result
+  written_left whole (Ok done) old mid new written = tt
+  written_left whole (Err (Write fault)) old mid new written = tt
+  written_left whole (Err fault) old mid new written = absurd written
+
+  written_names : (whole : List ℕ) (result : Result ⊤ CliFault) (refused : Option ℕ) (old mid new : WireLog)
+      → IsWritten whole result mid new → refused ≡ None → NamesRefused files old new result refused
+  written_names whole (Ok done) refused old mid new written none = none
+  written_names whole (Err (Write fault)) refused old mid new written none = none
+  written_names whole (Err fault) refused old mid new written none = absurd written
+
+  pub ends_joined : (v : Values) (whole : List ℕ) (result : Result ⊤ CliFault) (refused : Option ℕ)
+      (old mid new : WireLog) → GivesPlan (Ok v) old mid → JoinWrites files v whole → refused ≡ None
+      → IsWritten whole result mid new → is_known files.back ≡ is_known files.disk
+      → EndsJoinCommand files old new result refused
+  ends_joined v whole result refused old mid new given writes none written known = record {
+    command = ends_left (join_task files) v result old mid new given
+        (leaves_answer (join_task files) v whole result mid new writes written);
+    names = written_names whole result refused old mid new written none;
+    other = written_left whole result old mid new written;
+    known = known;
+  }
+
+  -- ---- which file is refused
+
+  place_within : (v : Values) (fault : JournalFault) (n : ℕ) → IsRefusedAt files.found files.left files.old v fault n
+      → n ≤ length files.old
+  place_within v fault n first =
+      let all = ap (λ (ps : List (List ℕ)). length ps) first.0.all in
+      let parts = length-append first.0.before (first.0.path ∷ first.0.after) in
+      omega (arith, all, parts, first.1)
+
+  pub names_refused : (old new : WireLog) (ended : Result ⊤ CliFault) (refused : Option ℕ)
+      → NamesRefused files old new ended refused → NamesRefusedFile (length files.old) ended refused
+  names_refused old new (Ok done) refused named = named
+  names_refused old new (Err (Journal fault)) (Some n) named =
+      let first = named.1.1.0 in
+      (omega (arith, first.1), place_within named.0 fault n first, first.0.refused.may)
+  names_refused old new (Err (Journal fault)) None named = named.1.1.0
+  names_refused old new (Err fault) refused named = named
+
+-- ---- the new file
+
+-- it is still open where what is open stays so
+pub still_open : (to : List ℕ) (place : Place) (found left : List ℕ → Place) → found to ≡ opened place
+    → StaysOpen found left → left to ≡ opened place
+still_open to place found left is stays = stays to (subst IsOpen (sym is) (opened_open place)) ∙ is
+
+pub can_be_shut : (place here : Place) → here ≡ opened place → IsOpen here
+can_be_shut place here is = subst IsOpen (sym is) (opened_open place)
+
+pub shut_again : (back : DiskLog) (file : Place) → closed back (opened file) ≡ closed back file
+shut_again back place.Unknown = refl
+shut_again back place.Absent = refl
+shut_again back place.Refused = refl
+shut_again back place.Open = refl
+shut_again back (place.Holds log) = refl

@@ -20,7 +20,7 @@ use Rattle.cut_join.specs.Joining.{EndsJoin}
 use Rattle.cut_migration.specs.declared.fault.MigrateFault.TheVariants as migration
 use Rattle.cut_commands.specs.declared.fault.CliFault.{CliFault}
 use Rattle.cut_commands.specs.declared.fault.CliFault.TheVariants.{Memory, Migrate}
-use Rattle.cut_machines.specs.JoinSources.{fault_of}
+use Rattle.cut_machines.specs.inside.JoinSources.{fault_of}
 use Rattle.cut_machines.specs.JoinTarget.{IsBegun, LeavesDisk, SaysAllOf}
 use Rattle.cut_machines.specs.inside.JoinTarget.{IsNewJournal, IsPartWritten}
 use Rattle.cut_machines.specs.JoinTarget.{SaysFirstOf}

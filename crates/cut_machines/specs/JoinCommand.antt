@@ -1,23 +1,25 @@
--- What a join of checkpoints writes for a plan, by what their disks hold, and what it leaves on the new one.
+-- What a join of checkpoints writes for a plan, by what its files hold, and what it leaves of them and of the new one.
 use Rattle.std.specs.Prelude.{◌≡◌, ◌⊎◌, ◌≤◌, ◌++◌, ℕ, List, ◌∷◌, [], length, codes, Option, Some, None, Result}
 use Rattle.std.specs.Prelude.{Ok, Err, ⊤}
 use Rattle.std.specs.Fmt.{decimal}
 use Rattle.cut_plan.specs.Cells.{trial_count}
 use Rattle.cut_plan.specs.Values.{Values}
 use Rattle.cut_disks.specs.Log.{DiskLog, IsKnown, is_known, on}
+use Rattle.cut_files.specs.Place.{Place, MayNotOpen, OpensAs, StaysElsewhere, closed, opened}
+use Rattle.cut_files.specs.declared.files.Mode.TheVariants.{Create}
+use Rattle.cut_files.specs.declared.files.OpenFault.{OpenFault}
 use Rattle.cut_wires.specs.Log.{WireLog}
 use Rattle.cut_ledger.specs.declared.slip.Slip.{Slip}
-use Rattle.cut_ledger.specs.Slips.{AreGood, IsFirstBad}
+use Rattle.cut_ledger.specs.Slips.{AreGood}
 use Rattle.cut_journal.specs.declared.fault.JournalFault.{JournalFault}
 use Rattle.cut_status.specs.Status.{held_trials, part_text}
 use Rattle.cut_join.specs.Joined.{joined}
-use Rattle.cut_migration.specs.declared.fault.MigrateFault.TheVariants as migration
-use Rattle.cut_commands.specs.Faults.{IsRefusalOfNew, IsRefusalOfOld}
+use Rattle.cut_commands.specs.Faults.{IsRefusalOfNew, IsRefusalOfOld, fault_of_files}
 use Rattle.cut_commands.specs.Run.{EndsCommand, GivesPlan}
 use Rattle.cut_commands.specs.Task.{Task}
 use Rattle.cut_commands.specs.declared.fault.CliFault.{CliFault}
-use Rattle.cut_commands.specs.declared.fault.CliFault.TheVariants.{Memory, Plan, Read, Journal, BadSlip, Migrate}
-use Rattle.cut_machines.specs.JoinSources.{HoldAll, IsRefusedAt, StopsReading}
+use Rattle.cut_commands.specs.declared.fault.CliFault.TheVariants.{Memory, Plan, Read, Journal}
+use Rattle.cut_machines.specs.JoinSources.{AreRead, HoldAll, IsRefusedAt, StopsReading}
 use Rattle.cut_machines.specs.JoinTarget.{LeavesDisk, StopsWriting, writing_faults}
 
 -- the line that says how many slips were joined to how many, and how many trials of how many these hold
@@ -26,88 +28,103 @@ joined_text v slips =
     codes "joined " ++ decimal (length slips) ++ codes " into " ++ decimal (length (joined v slips)) ++ codes ", "
     ++ part_text (held_trials v slips) (trial_count v) ++ 10 ∷ []
 
--- ---- over disks
+-- ---- over the disk of the new file
 
-module _ {O N : Type 0} (log_old : O → DiskLog) (log_new : N → DiskLog) where
-  -- the old disks said these slips, with which a ledger of the plan can begin; and what is left on the new disk, by how
-  -- the writing of the joined ones ended
-  pub record HasWritten (result : Result ⊤ CliFault) (olds : List O) (new after : N) (v : Values)
-      (slips : List Slip) : Type 0 where
-    pub held : HoldAll log_old olds v slips
-    pub good : AreGood v slips
-    pub left : IsKnown (log_new new) → LeavesDisk result v slips (on (log_new new)) (on (log_new after))
-    pub faults : (log_new after).failed ≡ writing_faults result (log_new new).failed
+-- the files of a join: the paths of the old ones, in their order; what stands at each path, the new file being open,
+-- before the join and after it; and the log of the new file's disk before and after
+pub record JoinFiles : Type 0 where
+  pub old : List (List ℕ)
+  pub found : List ℕ → Place
+  pub left : List ℕ → Place
+  pub disk : DiskLog
+  pub back : DiskLog
 
-  -- all were written, and these bytes say how many
-  abbrev pub JoinWrites : List O → N → N → Values → List ℕ → Type 0
-  JoinWrites olds new after v whole = (slips : List Slip)
-      × (HasWritten (Ok tt) olds new after v slips × (whole ≡ joined_text v slips))
+-- the old files said these slips, with which a ledger of the plan can begin; and what is left on the new disk, by how
+-- the writing of the joined ones ended
+pub record HasWritten (result : Result ⊤ CliFault) (files : JoinFiles) (v : Values) (slips : List Slip) : Type 0 where
+  pub held : HoldAll files.found files.old v slips
+  pub read : AreRead files.found files.left files.old
+  pub good : AreGood v slips
+  pub written : IsKnown files.disk → LeavesDisk result v slips (on files.disk) (on files.back)
+  pub faults : files.back.failed ≡ writing_faults result files.disk.failed
 
-  -- why they were not: no slips were joined, and the new disk is as before; or not all were written
-  abbrev pub StopsJoin : List O → N → N → Values → CliFault → Type 0
-  StopsJoin olds new after v fault = (StopsReading log_old olds v fault × (after ≡ new))
-      ⊎ (StopsWriting fault × ((slips : List Slip) × HasWritten (Err fault) olds new after v slips))
+-- all were written, and these bytes say how many
+abbrev pub JoinWrites : JoinFiles → Values → List ℕ → Type 0
+JoinWrites files v whole = (slips : List Slip) × (HasWritten (Ok tt) files v slips × (whole ≡ joined_text v slips))
 
-  abbrev pub join_task : List O → N → N → Task
-  join_task olds new after =
-      record { answers = JoinWrites olds new after; fails = StopsJoin olds new after }
+-- why they were not: no slips were joined, and the new disk is as before; or not all were written
+abbrev pub StopsJoin : JoinFiles → Values → CliFault → Type 0
+StopsJoin files v fault = (StopsReading files.found files.left files.old v fault × (files.back ≡ files.disk))
+    ⊎ (StopsWriting fault × ((slips : List Slip) × HasWritten (Err fault) files v slips))
 
-  -- what is left of the new disk at the other ends: it is as before where no plan was read; and where memory ran out,
-  -- unless a plan was read and its slips were joined
-  abbrev pub LeavesOther : List O → N → N → WireLog → WireLog → Result ⊤ CliFault → Type 0
-  LeavesOther olds new after old_log new_log (Err Read) = after ≡ new
-  LeavesOther olds new after old_log new_log (Err (Plan refusal)) = after ≡ new
-  LeavesOther olds new after old_log new_log (Err Memory) = (after ≡ new)
-      ⊎ ((v : Values) × (GivesPlan (Ok v) old_log new_log × StopsJoin olds new after v Memory))
-  LeavesOther olds new after old_log new_log result = ⊤
+abbrev pub join_task : JoinFiles → Task
+join_task files = record { answers = JoinWrites files; fails = StopsJoin files }
 
-  -- how it ends: as a command does, and what is left of the new disk
-  pub record EndsJoinCommand (olds : List O) (new after : N) (old_log new_log : WireLog)
-      (result : Result ⊤ CliFault) : Type 0 where
-    pub command : EndsCommand (join_task olds new after) old_log new_log result
-    pub other : LeavesOther olds new after old_log new_log result
-    pub known : is_known (log_new after) ≡ is_known (log_new new)
+-- nothing was done to a file, nor to the new disk
+pub record AreUntouched (files : JoinFiles) : Type 0 where
+  pub new : files.back ≡ files.disk
+  pub each : (path : List ℕ) → files.left path ≡ files.found path
 
-  -- what a fault of a journal is one of, for a plan that was read: of the old disk at a place, from 1, which is the
-  -- first that said no slips, and the new disk is as before; or of the new disk, and all old ones said their slips
-  abbrev pub RefusesOld : List O → N → N → Values → JournalFault → Option ℕ → Type 0
-  RefusesOld olds new after v fault (Some place) = IsRefusedAt log_old olds v fault place × (after ≡ new)
-  RefusesOld olds new after v fault None =
-      IsRefusalOfNew fault × ((slips : List Slip) × HasWritten (Err (Journal fault)) olds new after v slips)
+-- what is left of the files at the other ends: they are as before where no plan was read; and where memory ran out,
+-- unless a plan was read and its slips were joined
+abbrev pub LeavesOther : JoinFiles → WireLog → WireLog → Result ⊤ CliFault → Type 0
+LeavesOther files old new (Err Read) = AreUntouched files
+LeavesOther files old new (Err (Plan refusal)) = AreUntouched files
+LeavesOther files old new (Err Memory) = AreUntouched files
+    ⊎ ((v : Values) × (GivesPlan (Ok v) old new × StopsJoin files v Memory))
+LeavesOther files old new result = ⊤
 
-  -- which old disk is refused, if one is: none at another end
-  abbrev pub NamesRefused : List O → N → N → WireLog → WireLog → Result ⊤ CliFault → Option ℕ → Type 0
-  NamesRefused olds new after old_log new_log (Err (Journal fault)) refused =
-      (v : Values) × (GivesPlan (Ok v) old_log new_log × RefusesOld olds new after v fault refused)
-  NamesRefused olds new after old_log new_log result refused = refused ≡ None
+-- what a fault of a journal is one of, for a plan that was read: of the old file at a place, from 1, which is the first
+-- that said no slips, and the new disk is as before; or of the new disk, and all old files said their slips
+abbrev pub RefusesOld : JoinFiles → Values → JournalFault → Option ℕ → Type 0
+RefusesOld files v fault (Some number) =
+    IsRefusedAt files.found files.left files.old v fault number × (files.back ≡ files.disk)
+RefusesOld files v fault None =
+    IsRefusalOfNew fault × ((slips : List Slip) × HasWritten (Err (Journal fault)) files v slips)
 
-  -- ---- inside
+-- which old file is refused, if one is: none at another end
+abbrev pub NamesRefused : JoinFiles → WireLog → WireLog → Result ⊤ CliFault → Option ℕ → Type 0
+NamesRefused files old new (Err (Journal fault)) refused =
+    (v : Values) × (GivesPlan (Ok v) old new × RefusesOld files v fault refused)
+NamesRefused files old new result refused = refused ≡ None
 
-  -- the same before the answer is written
-  abbrev pub NamesOld : {T : Type 0} → List O → N → N → Values → Result T CliFault → Option ℕ → Type 0
-  NamesOld olds new after v (Err (Journal fault)) refused = RefusesOld olds new after v fault refused
-  NamesOld olds new after v result refused = refused ≡ None
+-- how it ends: as a command does, which old file is refused, and what is left of the files
+pub record EndsJoinCommand (files : JoinFiles) (old new : WireLog) (ended : Result ⊤ CliFault) (refused : Option ℕ)
+    : Type 0 where
+  pub command : EndsCommand (join_task files) old new ended
+  pub names : NamesRefused files old new ended refused
+  pub other : LeavesOther files old new ended
+  pub known : is_known files.back ≡ is_known files.disk
 
--- ---- over files, of which nothing is known
+-- ---- over files
 
--- why not all slips were joined
-abbrev pub StopsJoinOfFiles : Values → CliFault → Type 0
-StopsJoinOfFiles v Memory = ⊤
-StopsJoinOfFiles v (Journal fault) = IsRefusalOfOld fault ⊎ IsRefusalOfNew fault
-StopsJoinOfFiles v (BadSlip number) = (slips : List Slip) × IsFirstBad v slips number
-StopsJoinOfFiles v (Migrate migration.Disk) = (slips : List Slip) × AreGood v slips
-StopsJoinOfFiles v fault = ⊥
+-- the new file was opened, and given back at the end; meanwhile the old ones were read
+pub record HasJoined (to : List ℕ) (from : List (List ℕ)) (before after : List ℕ → Place) (old new : WireLog)
+    (ended : Result ⊤ CliFault) (refused : Option ℕ) : Type 0 where
+  pub found : List ℕ → Place
+  pub left : List ℕ → Place
+  pub disk : DiskLog
+  pub back : DiskLog
+  pub opens : OpensAs Create disk (before to)
+  pub out : found to ≡ opened (before to)
+  pub beside : StaysElsewhere to before found
+  pub ends : EndsJoinCommand (record { old = from; found = found; left = left; disk = disk; back = back }) old new ended
+      refused
+  pub shut : after to ≡ closed back (before to)
+  pub others : StaysElsewhere to left after
 
--- some slips were joined, with which a ledger of the plan can begin
-abbrev pub WritesJoinOfFiles : Values → List ℕ → Type 0
-WritesJoinOfFiles v whole = (slips : List Slip) × (AreGood v slips × (whole ≡ joined_text v slips))
+-- how a join ends of the files at these paths, in the file at another: over what stands at each path; or that file was
+-- not opened, nothing was read or written, and each file is as before
+abbrev pub EndsJoin : List ℕ → List (List ℕ) → (List ℕ → Place) → (List ℕ → Place) → WireLog → WireLog
+    → Result ⊤ CliFault → Option ℕ → Type 0
+EndsJoin to from before after old new ended refused =
+    HasJoined to from before after old new ended refused
+    ⊎ ((fault : OpenFault) × (MayNotOpen Create fault (before to) × ((path : List ℕ) → after path ≡ before path)
+    × (ended ≡ Err (fault_of_files fault)) × (refused ≡ None) × (new ≡ old)))
 
-abbrev pub join_files_task : Task
-join_files_task = record { answers = WritesJoinOfFiles; fails = StopsJoinOfFiles }
-
--- which old file is refused, if one is: a fault of a journal is that of the old file at a place, from 1, among `count`
--- ones, or of the new file, and no old one is refused at another end
+-- whatever is known of the files: a fault of a journal is that of the old file at a place, from 1, among `count` ones, or
+-- of the new file, and no old one is refused at another end
 abbrev pub NamesRefusedFile : ℕ → Result ⊤ CliFault → Option ℕ → Type 0
-NamesRefusedFile count (Err (Journal fault)) (Some place) = (1 ≤ place) × (place ≤ count) × IsRefusalOfOld fault
+NamesRefusedFile count (Err (Journal fault)) (Some number) = (1 ≤ number) × (number ≤ count) × IsRefusalOfOld fault
 NamesRefusedFile count (Err (Journal fault)) None = IsRefusalOfNew fault
 NamesRefusedFile count result refused = refused ≡ None

@@ -1,120 +1,126 @@
--- What the checkpoints that are joined hold of a plan.
-use Rattle.std.specs.Prelude.{◌≡◌, ◌≤◌, ◌+◌, ◌++◌, ℕ, List, [], ◌∷◌, Ok, Option, Some, None, length, ⊤}
+-- What the files that are joined hold of a plan, and what is left of them.
+use Rattle.std.specs.Prelude.{◌≡◌, ◌≢◌, ◌⊎◌, ◌+◌, ◌++◌, ℕ, zero, suc, List, [], ◌∷◌, Ok, length, count_by, option_map, ⊤}
+use Rattle.std.specs.Str.{bytes_eq}
+use Rattle.cut_faults.specs.Failures.{one_more}
 use Rattle.cut_plan.specs.Values.{Values}
-use Rattle.cut_disks.specs.Log.{DiskLog, IsKnown, on}
+use Rattle.cut_disks.specs.Log.{Knows}
+use Rattle.cut_disks.specs.State.{DiskState, synced}
+use Rattle.cut_files.specs.Place.{Place}
+use Rattle.cut_files.specs.Place as place
 use Rattle.cut_ledger.specs.declared.slip.Slip.{Slip}
 use Rattle.cut_ledger.specs.Slips.{IsFirstBad}
 use Rattle.cut_journal.specs.declared.fault.JournalFault.{JournalFault}
+use Rattle.cut_journal.specs.declared.fault.JournalFault.TheVariants as journal
 use Rattle.cut_journal.specs.Opening.{IsReopenFault}
 use Rattle.cut_journal.specs.Reading.{reading}
-use Rattle.cut_join.specs.declared.fault.JoinFault.{JoinFault}
-use Rattle.cut_join.specs.declared.fault.JoinFault.TheVariants as join
-use Rattle.cut_migration.specs.declared.fault.MigrateFault.TheVariants as migration
 use Rattle.cut_commands.specs.Faults.{IsRefusalOfOld}
 use Rattle.cut_commands.specs.declared.fault.CliFault.{CliFault}
-use Rattle.cut_commands.specs.declared.fault.CliFault.TheVariants.{Memory, Journal, BadSlip, Migrate}
+use Rattle.cut_commands.specs.declared.fault.CliFault.TheVariants.{Memory, Journal, BadSlip}
 
-module _ {O : Type 0} (log_of : O → DiskLog) where
-  -- the slips that a disk says for the plan, where its bytes are known
-  abbrev pub Holds : O → Values → List Slip → Type 0
-  Holds disk v slips = IsKnown (log_of disk) → reading v (on (log_of disk)).bytes ≡ Ok slips
+-- ---- what files say
 
-  -- those of several disks, in the order of the disks
-  abbrev pub HoldAll : List O → Values → List Slip → Type 0
-  HoldAll [] v slips = slips ≡ []
-  HoldAll (disk ∷ disks) v slips = (first : List Slip) × ((rest : List Slip)
-      × (Holds disk v first × HoldAll disks v rest × (slips ≡ first ++ rest)))
+-- the slips that a file says for the plan: those that its bytes are read as, where these are known. What does not open
+-- says none
+abbrev pub Holds : Place → Values → List Slip → Type 0
+Holds place.Unknown v slips = ⊤
+Holds (place.Holds log) v slips = Knows log (λ d. reading v d.bytes ≡ Ok slips)
+Holds other v slips = ⊥
 
-  -- why a disk said none: it holds no study of the plan, or is damaged, or it failed
-  pub record IsRefused (disk : O) (v : Values) (fault : JournalFault) : Type 0 where
-    pub may : IsRefusalOfOld fault
-    pub says : IsKnown (log_of disk) → IsReopenFault v (on (log_of disk)).bytes fault
+-- why a file said none: its bytes hold no study of the plan, or are damaged, or a call of its disk failed. What does not
+-- open is a fault of the disk
+abbrev pub SaysNone : Place → Values → JournalFault → Type 0
+SaysNone place.Unknown v fault = ⊤
+SaysNone (place.Holds log) v fault = Knows log (λ d. IsReopenFault v d.bytes fault)
+SaysNone other v fault = fault ≡ journal.Disk
 
-  -- the first of several disks that said none: those before it did
-  pub record IsFirstRefused (disks : List O) (v : Values) (fault : JournalFault) : Type 0 where
-    pub before : List O
-    pub disk : O
-    pub after : List O
-    pub all : disks ≡ before ++ disk ∷ after
+pub record IsRefused (file : Place) (v : Values) (fault : JournalFault) : Type 0 where
+  pub may : IsRefusalOfOld fault
+  pub says : SaysNone file v fault
+
+-- ---- what is left of them
+
+-- what is on a disk that was read so many times: each begins with a sync, and nothing is written
+abbrev pub synced_times : ℕ → DiskState → DiskState
+synced_times zero d = d
+synced_times (suc n) d = synced (synced_times n d)
+
+-- what stands at a path whose file was read so many times, and no call of its disk failed: the same file, with the same
+-- bytes. What does not open stays as it was
+abbrev pub read_times : ℕ → Place → Place
+read_times n (place.Holds log) =
+    place.Holds (record { state = option_map (synced_times n) log.state; failed = log.failed })
+read_times n other = other
+
+-- and where a call of the disk failed: the file counts one more
+abbrev pub failed_once : Place → Place
+failed_once (place.Holds log) = place.Holds (record { state = log.state; failed = one_more log.failed })
+failed_once other = other
+
+-- how often a path is named
+abbrev pub times_named : List ℕ → List (List ℕ) → ℕ
+times_named path paths = count_by (λ other. bytes_eq path other) paths
+
+-- which files were read where one is refused: those before it, and that one too; but a call of its disk may have failed
+-- before that
+abbrev pub IsReadUpTo : JournalFault → List (List ℕ) → List ℕ → List (List ℕ) → Type 0
+IsReadUpTo journal.Disk before path read = (read ≡ before) ⊎ (read ≡ before ++ path ∷ [])
+IsReadUpTo fault before path read = read ≡ before ++ path ∷ []
+
+-- what then stands at the path of the one that is refused
+abbrev pub after_refusal : JournalFault → Place → Place
+after_refusal journal.Disk file = failed_once file
+after_refusal fault file = file
+
+-- ---- several files
+
+-- the slips that several files say, in the order of the files, by what stands at each path
+abbrev pub HoldAll : (List ℕ → Place) → List (List ℕ) → Values → List Slip → Type 0
+HoldAll found [] v slips = slips ≡ []
+HoldAll found (path ∷ paths) v slips = (first : List Slip) × ((rest : List Slip)
+    × (Holds (found path) v first × HoldAll found paths v rest × (slips ≡ first ++ rest)))
+
+-- what stood at each path before any file was read, and what stands there afterwards
+module _ (found left : List ℕ → Place) where
+  -- these files were read, each as often as it is named, and nothing else was done
+  abbrev pub AreRead : List (List ℕ) → Type 0
+  AreRead paths = (path : List ℕ) → left path ≡ read_times (times_named path paths) (found path)
+
+  -- the first of several files that said none: those before it did, and those after it were not opened
+  pub record IsFirstRefused (paths : List (List ℕ)) (v : Values) (fault : JournalFault) : Type 0 where
+    pub before : List (List ℕ)
+    pub path : List ℕ
+    pub after : List (List ℕ)
+    pub all : paths ≡ before ++ path ∷ after
     pub slips : List Slip
-    pub held : HoldAll before v slips
-    pub refused : IsRefused disk v fault
+    pub held : HoldAll found before v slips
+    pub refused : IsRefused (found path) v fault
+    pub read : List (List ℕ)
+    pub up_to : IsReadUpTo fault before path read
+    pub here : left path ≡ after_refusal fault (read_times (times_named path read) (found path))
+    pub elsewhere : (other : List ℕ) → other ≢ path → left other ≡ read_times (times_named other read) (found other)
 
   -- and which one that is, by its place, from 1
-  abbrev pub IsRefusedAt : List O → Values → JournalFault → ℕ → Type 0
-  IsRefusedAt disks v fault place =
-      (first : IsFirstRefused disks v fault) × (place ≡ length first.before + 1)
+  abbrev pub IsRefusedAt : List (List ℕ) → Values → JournalFault → ℕ → Type 0
+  IsRefusedAt paths v fault number =
+      (first : IsFirstRefused paths v fault) × (number ≡ length first.before + 1)
 
-  -- the first slip, of those of all disks, with which no ledger of the plan begins after those before it
-  pub record HoldBadSlip (disks : List O) (v : Values) (number : ℕ) : Type 0 where
+  -- the first slip, of those of all files, with which no ledger of the plan begins after those before it
+  pub record HoldBadSlip (paths : List (List ℕ)) (v : Values) (number : ℕ) : Type 0 where
     pub slips : List Slip
-    pub held : HoldAll disks v slips
+    pub held : HoldAll found paths v slips
     pub bad : IsFirstBad v slips number
+    pub read : AreRead paths
 
-  -- why the slips of several disks are not joined: memory ran out, a disk said none, or a slip is bad
-  abbrev pub StopsReading : List O → Values → CliFault → Type 0
-  StopsReading disks v Memory = ⊤
-  StopsReading disks v (Journal fault) = IsFirstRefused disks v fault
-  StopsReading disks v (BadSlip number) = HoldBadSlip disks v number
-  StopsReading disks v fault = ⊥
+  -- memory ran out, when some first files had been read
+  pub record HaveRunOut (paths : List (List ℕ)) : Type 0 where
+    pub before : List (List ℕ)
+    pub after : List (List ℕ)
+    pub all : paths ≡ before ++ after
+    pub read : AreRead before
 
-  -- ---- inside
-
-  -- why the slips of one disk, or of several, were not read
-  abbrev pub IsUnopened : O → Values → CliFault → Type 0
-  IsUnopened disk v Memory = ⊤
-  IsUnopened disk v (Journal fault) = IsRefused disk v fault
-  IsUnopened disk v fault = ⊥
-
-  abbrev pub IsUnread : List O → Values → CliFault → Type 0
-  IsUnread disks v Memory = ⊤
-  IsUnread disks v (Journal fault) = IsFirstRefused disks v fault
-  IsUnread disks v fault = ⊥
-
-  -- which of several disks is refused, if one is
-  abbrev pub NamesDisk : List O → Values → CliFault → Option ℕ → Type 0
-  NamesDisk disks v (Journal fault) refused = (place : ℕ) × ((refused ≡ Some place) × IsRefusedAt disks v fault place)
-  NamesDisk disks v fault refused = refused ≡ None
-
-  -- a disk's slips were added to others
-  abbrev pub AddsHeld : O → Values → List Slip → List Slip → Type 0
-  AddsHeld disk v old new = (found : List Slip) × (Holds disk v found × (new ≡ old ++ found))
-
--- why the slips of some files are not joined, of which nothing is known
-abbrev pub StopsReadingFiles : Values → CliFault → Type 0
-StopsReadingFiles v Memory = ⊤
-StopsReadingFiles v (Journal fault) = IsRefusalOfOld fault
-StopsReadingFiles v (BadSlip number) = (slips : List Slip) × IsFirstBad v slips number
-StopsReadingFiles v fault = ⊥
-
--- ---- inside
-
--- why slips are not joined that were read: memory ran out, or one of them is bad
-abbrev pub HaveBadSlip : Values → List Slip → CliFault → Type 0
-HaveBadSlip v slips Memory = ⊤
-HaveBadSlip v slips (BadSlip number) = IsFirstBad v slips number
-HaveBadSlip v slips fault = ⊥
-
--- which of some files is refused, if one is, by its place from 1
-abbrev pub NamesFile : ℕ → CliFault → Option ℕ → Type 0
-NamesFile count (Journal fault) refused = (place : ℕ) × ((refused ≡ Some place) × (1 ≤ place) × (place ≤ count))
-NamesFile count fault refused = refused ≡ None
-
--- where a checkpoint at a place is not read it is refused, unless memory ran out
-abbrev pub refused_at : ℕ → CliFault → Option ℕ
-refused_at place (Journal fault) = Some place
-refused_at place fault = None
-
--- why the slips of some files were not read
-abbrev pub MayNotRead : CliFault → Type 0
-MayNotRead Memory = ⊤
-MayNotRead (Journal fault) = IsRefusalOfOld fault
-MayNotRead fault = ⊥
-
--- the fault of a join as the program reports it
-abbrev pub fault_of : JoinFault → CliFault
-fault_of join.Memory = Memory
-fault_of (join.BadSlip number) = BadSlip number
-fault_of join.OtherPlan = Migrate migration.OtherPlan
-fault_of join.Broken = Migrate migration.Broken
-fault_of join.Disk = Migrate migration.Disk
+  -- why the slips of several files are not joined: memory ran out, a file said none, or a slip is bad
+  abbrev pub StopsReading : List (List ℕ) → Values → CliFault → Type 0
+  StopsReading paths v Memory = HaveRunOut paths
+  StopsReading paths v (Journal fault) = IsFirstRefused paths v fault
+  StopsReading paths v (BadSlip number) = HoldBadSlip paths v number
+  StopsReading paths v fault = ⊥

@@ -1,15 +1,18 @@
-//! The checkpoints that are joined, and what they hold.
+//! The files that are joined, and what they hold.
 
-ghost use Rattle.std.specs.Prelude.{◌≡◌, IfErr, IfOk, None, length};
+ghost use Rattle.std.specs.Prelude.{◌≡◌, IfErr, IfOk, None, OnOk, map};
+ghost use Rattle.cut_files.specs.Place.{StaysElsewhere};
+ghost use Rattle.cut_files.specs.Place as place;
 ghost use Rattle.cut_ledger.specs.Slips.{AreGood};
-ghost use Rattle.cut_machines.specs.JoinSources.{AddsHeld, HaveBadSlip, HoldAll, Holds, IsUnopened, IsUnread};
-ghost use Rattle.cut_machines.specs.JoinSources.{MayNotRead, NamesDisk, NamesFile, StopsReading, StopsReadingFiles};
-ghost use Rattle.cut_machines.specs.JoinSources.{fault_of, refused_at};
+ghost use Rattle.cut_machines.specs.JoinSources.{AreRead, HoldAll, Holds, StopsReading};
+ghost use Rattle.cut_machines.specs.inside.JoinSources.{AddsHeld, HaveBadSlip, IsUnopened, IsUnread, LeavesFile};
+ghost use Rattle.cut_machines.specs.inside.JoinSources.{NamesFile, StaysOpen, fault_of, refused_at};
 
 use cut_commands::CliFault;
-use cut_disks::{Disk, FileDisk};
+use cut_disks::Disk;
+use cut_files::{Files, Mode};
 use cut_join::{JoinFault, judge};
-use cut_journal::{Journal, JournalFault};
+use cut_journal::Journal;
 use cut_ledger::Slip;
 use cut_migration::MigrateFault;
 use cut_plan::Plan;
@@ -22,31 +25,23 @@ pub(crate) struct Unjoined {
     pub(crate) refused: Option<usize>,
 }
 
-/// The slips that disks hold for a plan, in the order of the disks, judged as one list.
-pub(crate) fn judged_slips<O: Disk + Drop>(
+/// The slips that the files at some paths hold for a plan, in the order of the paths, judged as one list.
+pub(crate) fn judged_slips<F: Files>(
+    files: &mut F,
     alloc: Global,
-    plan: &Plan,
-    disks: Vec<O>,
-) -> Result<Vec<Slip>, Unjoined>
-    ensures held { IfOk result (λ slips. HoldAll O.log disks.items plan.now slips.items) }
-    ensures good { IfOk result (λ slips. AreGood plan.now slips.items) }
-    ensures stops { IfErr result (λ e. StopsReading O.log disks.items plan.now e.fault) }
-    ensures names { IfErr result (λ e. NamesDisk O.log disks.items plan.now e.fault e.refused) }
-{
-    judged(alloc, plan, slips_of_all(alloc, plan, disks)?)
-}
-
-/// The same of the files at some paths, of which nothing is known.
-pub(crate) fn judged_file_slips(
-    host: &HostRuntime,
     plan: &Plan,
     paths: &[&str],
 ) -> Result<Vec<Slip>, Unjoined>
+    ensures held { IfOk result (λ slips. HoldAll (F.log files.old) (map (λ s. s.now) paths.now) plan.now slips.items) }
+    ensures read { OnOk result (AreRead (F.log files.old) (F.log files.new) (map (λ s. s.now) paths.now)) }
     ensures good { IfOk result (λ slips. AreGood plan.now slips.items) }
-    ensures stops { IfErr result (λ e. StopsReadingFiles plan.now e.fault) }
-    ensures names { IfErr result (λ e. NamesFile (length paths.now) e.fault e.refused) }
+    ensures stops { IfErr result (λ e. StopsReading (F.log files.old) (F.log files.new) (map (λ s. s.now) paths.now)
+        plan.now e.fault) }
+    ensures names { IfErr result (λ e. NamesFile (F.log files.old) (F.log files.new) (map (λ s. s.now) paths.now)
+        plan.now e.fault e.refused) }
+    ensures stays { StaysOpen (F.log files.old) (F.log files.new) }
 {
-    judged(host.alloc(), plan, slips_of_files(host, plan, paths)?)
+    judged(alloc, plan, slips_of_all(files, alloc, plan, paths)?)
 }
 
 /// Slips of a plan, if a ledger can begin with them.
@@ -65,35 +60,24 @@ fn judged(alloc: Global, plan: &Plan, slips: Vec<Slip>) -> Result<Vec<Slip>, Unj
     }
 }
 
-/// The slips that disks hold for a plan, in the order of the disks.
-fn slips_of_all<O: Disk + Drop>(
+/// The slips that the files at some paths hold for a plan, in the order of the paths.
+fn slips_of_all<F: Files>(
+    files: &mut F,
     alloc: Global,
     plan: &Plan,
-    disks: Vec<O>,
+    paths: &[&str],
 ) -> Result<Vec<Slip>, Unjoined>
-    ensures held { IfOk result (λ slips. HoldAll O.log disks.items plan.now slips.items) }
-    ensures stops { IfErr result (λ e. IsUnread O.log disks.items plan.now e.fault) }
-    ensures names { IfErr result (λ e. NamesDisk O.log disks.items plan.now e.fault e.refused) }
+    ensures held { IfOk result (λ slips. HoldAll (F.log files.old) (map (λ s. s.now) paths.now) plan.now slips.items) }
+    ensures read { OnOk result (AreRead (F.log files.old) (F.log files.new) (map (λ s. s.now) paths.now)) }
+    ensures stops { IfErr result (λ e. IsUnread (F.log files.old) (F.log files.new) (map (λ s. s.now) paths.now)
+        plan.now e.fault) }
+    ensures names { IfErr result (λ e. NamesFile (F.log files.old) (F.log files.new) (map (λ s. s.now) paths.now)
+        plan.now e.fault e.refused) }
+    ensures stays { StaysOpen (F.log files.old) (F.log files.new) }
 {
     let mut slips = Vec::new(alloc);
-    let mut read = 0;
-    for disk in disks {
-        if let Err(fault) = add_slips(alloc, plan, disk, &mut slips) {
-            return Err(unread_at(read + 1, fault));
-        }
-        read += 1;
-    }
-    Ok(slips)
-}
-
-/// The slips that the files at some paths hold for a plan, in the order of the paths. One file is open at a time.
-fn slips_of_files(host: &HostRuntime, plan: &Plan, paths: &[&str]) -> Result<Vec<Slip>, Unjoined>
-    ensures stops { IfErr result (λ e. MayNotRead e.fault) }
-    ensures names { IfErr result (λ e. NamesFile (length paths.now) e.fault e.refused) }
-{
-    let mut slips = Vec::new(host.alloc());
     for (index, path) in paths.iter().enumerate() {
-        if let Err(fault) = add_file_slips(host, plan, path, &mut slips) {
+        if let Err(fault) = add_slips(files, alloc, plan, path, &mut slips) {
             return Err(unread_at(index + 1, fault));
         }
     }
@@ -112,44 +96,51 @@ fn unread_at(place: usize, fault: CliFault) -> Unjoined
     Unjoined { fault, refused }
 }
 
-/// Adds to slips those that a disk holds for a plan.
-fn add_slips<O: Disk + Drop>(
-    alloc: Global,
-    plan: &Plan,
-    disk: O,
-    slips: &mut Vec<Slip>,
-) -> Result<(), CliFault>
-    ensures adds { IfOk result (λ _. AddsHeld O.log disk plan.now slips.old.items slips.new.items) }
-    ensures stops { IfErr result (IsUnopened O.log disk plan.now) }
-{
-    let found = slips_on(alloc, plan, disk)?;
-    slips.extend_from_slice(&found)?;
-    Ok(())
-}
-
 /// Adds to slips those that the file at a path holds for a plan.
-fn add_file_slips(
-    host: &HostRuntime,
+fn add_slips<F: Files>(
+    files: &mut F,
+    alloc: Global,
     plan: &Plan,
     path: &str,
     slips: &mut Vec<Slip>,
 ) -> Result<(), CliFault>
-    ensures { IfErr result MayNotRead }
+    ensures adds { IfOk result (λ _. AddsHeld (F.log files.old path.now) plan.now slips.old.items slips.new.items) }
+    ensures stops { IfErr result (IsUnopened (F.log files.old path.now) plan.now) }
+    ensures left { LeavesFile result (F.log files.old path.now) (F.log files.new path.now) }
+    ensures elsewhere { StaysElsewhere path.now (F.log files.old) (F.log files.new) }
 {
-    let Ok(disk) = FileDisk::open_existing(host, path) else {
-        return Err(CliFault::Journal(JournalFault::Disk));
-    };
-    add_slips(host.alloc(), plan, disk, slips)
+    let found = slips_in(files, alloc, plan, path)?;
+    slips.extend_from_slice(&found)?;
+    Ok(())
 }
 
-/// The slips that a disk holds for a plan.
-fn slips_on<O: Disk + Drop>(alloc: Global, plan: &Plan, disk: O) -> Result<Vec<Slip>, CliFault>
-    ensures held { IfOk result (λ slips. Holds O.log disk plan.now slips.items) }
-    ensures stops { IfErr result (IsUnopened O.log disk plan.now) }
+/// The slips that the file at a path holds for a plan. The file is open meanwhile.
+fn slips_in<F: Files>(
+    files: &mut F,
+    alloc: Global,
+    plan: &Plan,
+    path: &str,
+) -> Result<Vec<Slip>, CliFault>
+    ensures held { IfOk result (λ slips. Holds (F.log files.old path.now) plan.now slips.items) }
+    ensures stops { IfErr result (IsUnopened (F.log files.old path.now) plan.now) }
+    ensures left { LeavesFile result (F.log files.old path.now) (F.log files.new path.now) }
+    ensures elsewhere { StaysElsewhere path.now (F.log files.old) (F.log files.new) }
+{
+    let disk = files.open(path, Mode::Existing)?;
+    let (slips, disk) = slips_on(alloc, plan, disk);
+    files.close(path, disk);
+    slips
+}
+
+/// The slips that a disk holds for a plan, and the disk.
+fn slips_on<O: Disk + Drop>(alloc: Global, plan: &Plan, disk: O) -> (Result<Vec<Slip>, CliFault>, O)
+    ensures held { IfOk result.0 (λ slips. Holds (place.Holds (O.log disk)) plan.now slips.items) }
+    ensures stops { IfErr result.0 (IsUnopened (place.Holds (O.log disk)) plan.now) }
+    ensures left { LeavesFile result.0 (place.Holds (O.log disk)) (place.Holds (O.log result.1)) }
 {
     match Journal::reopen(alloc, disk, plan) {
-        Ok((_, slips)) => Ok(slips),
-        Err((fault, _)) => Err(CliFault::from(fault)),
+        Ok((journal, slips)) => (Ok(slips), journal.into_disk()),
+        Err((fault, disk)) => (Err(CliFault::from(fault)), disk),
     }
 }
 

@@ -1,11 +1,10 @@
-//! The program's commands for a study that several machines run, over wires, disks and files.
+//! The program's commands for a study that several machines run, over wires and files.
 //!
-//! [`share`] runs one share of a plan and keeps it in a file. [`join_io`] joins the
-//! checkpoints of a plan's study in a new one, over any disks, [`join_files`] over files. Each ends with its answer or
-//! with a fault of the program.
+//! [`share`] runs one share of a plan and keeps it in a file. [`join`] joins the checkpoints of a plan's study in a new
+//! one. Each ends with its answer or with a fault of the program.
 //!
-//! What they say of the bytes on a wire is known where its log has them, and what they say of a disk where its
-//! bytes are known.
+//! What they say of the bytes on a wire is known where its log has them, and what they say of a file where it is known
+//! what stands at its path.
 //!
 //! [`laws`] say that the files of shares join to the table of the plan.
 #![tactic(auto)]
@@ -17,5 +16,5 @@ pub mod laws;
 mod share_answer;
 mod share_command;
 
-pub use join_command::{Joined, JoinedFiles, join_files, join_io};
+pub use join_command::{Joined, join};
 pub use share_command::{ShareWork, share};

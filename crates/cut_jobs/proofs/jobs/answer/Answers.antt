@@ -1,5 +1,7 @@
-use Rattle.std.proofs.Common.{Bor, Err, List, Ok, refl, subst, sym, ℕ}
+use Rattle.std.proofs.Common.{Bor, Err, List, Ok, map, refl, subst, sym, ℕ}
+use Rattle.cut_files.specs.Place.{Unknown}
 use Rattle.cut_command_line.specs.declared.line.Job.{Job}
+use Rattle.cut_machines.specs.JoinCommand.{EndsJoin}
 use Rattle.cut_server.proofs.ReportLemmas.{ends_faulty, ends_reported}
 use Rattle.cut_jobs.specs.Jobs.{EndsJob, PrintsOn}
 use Rattle.cut_jobs.specs.inside.Printing.{PrintsFileIf}
@@ -29,6 +31,17 @@ returns-in-Share-clause-prints g c =
     subst (λ (job : Job). PrintsOn job c.run-in-Share.result old new) (sym c.in-Share.is)
     (prints_share c.in-Share.index c.in-Share.shares c.in-Share.file c.in-Share.piece c.in-Share.workers
     c.in-Share.progress c.run-in-Share.result old new c.run-in-Share.ensures.prints)
+
+pub returns-in-Join-clause-ends : goal.returns-in-Join-clause-ends
+returns-in-Join-clause-ends g c =
+    let old = g.W.Wire.log c.args.wire.now in
+    let new = g.W.Wire.log c.run-in-Join.new.wire in
+    let ends = c.run-in-Join.ensures.ends in
+    subst (λ (job : Job). EndsJob job old new c.run-in-Join.result) (sym c.in-Join.is) (
+      ends.0,
+      subst (λ (files : List (Bor (List ℕ))). EndsJoin c.in-Join.new.now (map (λ (s : Bor (List ℕ)). s.now) files)
+          (λ _. Unknown) (λ _. Unknown) old new c.run-in-Join.result ends.0) c.deref.ensures.value ends.1,
+    )
 
 pub returns-in-Join-clause-prints : goal.returns-in-Join-clause-prints
 returns-in-Join-clause-prints g c =
