@@ -1,11 +1,7 @@
-"""The commands of this repository that are written in Python. Each is a link to tools/run, and its path names its module."""
+"""The commands of this repository that are written in Python. Each gives its path to tools/run, and that names its module."""
 import importlib.util
-import os
 import sys
-from pathlib import Path
 from typing import Any, NoReturn
-
-from .paths import ROOT
 
 # The packages of folders that have another name, and the modules of commands that have.
 PACKAGES = {"docs": "documents", "tests": "testing"}
@@ -20,9 +16,9 @@ def module_of(command: str) -> str:
 
 
 def main() -> NoReturn:
-    """Runs the command by whose path this was started: its module's `main`, or what its package has for the others."""
-    called = Path(sys.argv[0])
-    command = str(Path(os.path.realpath(called.parent), called.name).relative_to(ROOT))
+    """Runs the command whose path is the first word: its module's `main`, or what its package has for the others."""
+    command = sys.argv.pop(1)
+    sys.argv[0] = command
     path = module_of(command)
     module: Any = importlib.import_module(path) if importlib.util.find_spec(path) else None
     if hasattr(module, "main"):
