@@ -76,7 +76,8 @@ class Line:
 
     def share(self, what: str) -> Share:
         """A share: of all receivers, each of which has an order of its own, or of trials. Those of a trial share who fails
-        and who observes whom, so that for silence a trial is one try. A conflict may also be one of those that proposed."""
+        and who observes whom, so that for silence a trial is one try. A conflict may also be one of those that proposed.
+        """
         receivers, trials = self.receivers, self.trials
         counted: dict[str, tuple[int, int, int]] = {
             "conflict": (self.conflicts, receivers, receivers),
