@@ -68,8 +68,8 @@ def exact_line(it: CellColumns) -> str:
     cell, columns = ",".join(map(str, it.cell)), it.columns
     if columns is None:
         return f"# {cell} left out: {it.why}"
-    shares = (columns.conflicts, columns.silent, columns.extra, columns.decided, columns.right)
-    return ",".join([cell, *(f"{float(share):.6g}" for share in shares), str(it.trials)])
+    shares = [float(share) for share in (columns.conflicts, columns.silent, columns.extra)]
+    return ",".join([cell, *(f"{it:.6g}" for it in (*shares, columns.decided, columns.right)), str(it.trials)])
 
 
 @command(

@@ -2,7 +2,6 @@
 import random
 import re
 import time
-from dataclasses import dataclass, field
 from pathlib import Path
 from typing import Iterator
 
@@ -194,74 +193,59 @@ def status_of(plan: Plan, trials: set[int]) -> str:
     return "\n".join([*lines, reference.canonical_text(plan).decode(), ""])
 
 
-@dataclass
-class Division:
-    """A study that is divided: its plan, and the shares that were run, by their files, blocks and trials."""
-
-    text: bytes
-    plan: Plan
-    files: list[str] = field(default_factory=list)
-    with_blocks: list[str] = field(default_factory=list)
-    trials: set[int] = field(default_factory=set)
-    pieces: int = 0
-
-    def add(self, file: str, blocks: list[range]) -> None:
-        self.files.append(file)
-        self.with_blocks += [file] if blocks else []
-        self.pieces += len(blocks)
-        self.trials.update(trial for block in blocks for trial in block)
-
-
 class Shares(Campaign):
     """Studies that are divided among machines: drawn plans, numbers of shares and blocks; shares that are lost, killed and
     given again, and joined in a drawn order. What each command prints, and the table, beside the reference's."""
 
     def case(self, rng: random.Random) -> None:
-        given = {**drawn_plan(rng, most_work=10_000), "repeats": rng.randint(1, 12)}
-        division = Division(text_of(given), reference.plan_of(text_of(given)))
+        self.text = text_of({**drawn_plan(rng, most_work=10_000), "repeats": rng.randint(1, 12)})
+        self.plan: Plan = reference.plan_of(self.text)
+        # The shares that were run: the blocks of each, by its file.
+        self.shares: dict[str, list[range]] = {}
         size, shares = rng.choice([1, 2, 3, 5, 20]), rng.choice([1, 2, 3, 7, rng.randint(1, 40)])
         for index in range(1, shares + 1):
-            self.run_share(rng, division, index, shares, size)
-        if division.files:
-            rng.shuffle(division.files)
-            self.check_join(division)
+            self.run_share(rng, index, shares, size)
+        files = list(self.shares)
+        if files:
+            rng.shuffle(files)
+            self.check_join(files)
 
-    def run_share(self, rng: random.Random, division: Division, index: int, shares: int, size: int) -> None:
+    def run_share(self, rng: random.Random, index: int, shares: int, size: int) -> None:
         """Runs a share once or twice, unless it is lost; it may be killed before."""
-        file, text = f"share{index}.cut", division.text
+        file, text = f"share{index}.cut", self.text
         words = ["share", f"{index}/{shares}", file, "--piece", str(size), "--workers", str(rng.randint(1, 3))]
         if rng.random() < 0.1:
             return
         if rng.random() < 0.2:
             killed = self.program.run_killed(*words, text=text, seconds=rng.random() * 0.02)
             self.expect("what a share that is killed reports", "", killed.errors)
-        blocks = list(blocks_of(division.plan, size))[index - 1 :: shares]
-        count = sum(map(len, blocks))
+        self.shares[file] = list(blocks_of(self.plan, size))[index - 1 :: shares]
+        count = sum(map(len, self.shares[file]))
         for _ in range(rng.choice([1, 1, 2])):
             self.expect_run(Ended(f"share {index} of {shares}: {count} of {count}\n"), *words, text=text)
-        division.add(file, blocks)
 
-    def check_join(self, division: Division) -> None:
+    def check_join(self, files: list[str]) -> None:
         """Joins the shares, and checks the new file, joins that are refused, and the table."""
-        plan, text, trials = division.plan, division.text, division.trials
-        runs, new = runs_of(plan, trials), self.folder / "joined.cut"
-        line = f"joined {division.pieces} into {runs}, {len(trials)} of {trials_of(plan)}\n"
-        self.expect_run(Ended(line), "join", new.name, *division.files, text=text)
+        plan, text, new = self.plan, self.text, self.folder / "joined.cut"
+        blocks = [block for its in self.shares.values() for block in its]
+        trials = {trial for block in blocks for trial in block}
+        line = f"joined {len(blocks)} into {runs_of(plan, trials)}, {len(trials)} of {trials_of(plan)}\n"
+        self.expect_run(Ended(line), "join", new.name, *files, text=text)
         joined = trials_in(slips_in(plan, new.read_bytes()))
         self.expect("the trials of the joined slips", sorted(trials), joined)
         self.expect_run(Ended(status_of(plan, trials)), "status", new.name, what="the status of the joined file")
-        self.check_refused(division, new)
+        self.check_refused(files, new)
         self.expect_run(Ended(reference.table(plan)), "run", "--checkpoint", new.name, text=text, what="the table")
 
-    def check_refused(self, division: Division, new: Path) -> None:
+    def check_refused(self, files: list[str], new: Path) -> None:
         """Joins that are refused, and leave the new file as it was: to a file that holds a study, of a file with itself, of
         the new file among the old ones, and of a file without a study, which is named where that is asked for."""
         again, empty, none, before = "again.cut", "empty.cut", "none.cut", new.read_bytes()
         (self.folder / empty).touch()
-        text, files = division.text, division.files
+        text, full = self.text, [it for it in files if self.shares[it]]
         self.expect_run(Ended("", "cutlab: fault 25 Held\n", 4), "join", new.name, *files, text=text)
-        if division.with_blocks:
-            found, faults, status = self.program.run("join", again, *files, division.with_blocks[0], text=text)
+        if full:
+            found, faults, status = self.program.run("join", again, *files, full[0], text=text)
             expected = ("", "cutlab: fault 17 BadSlip", 4)
             self.expect("a file that is joined twice", expected, (found, faults[:24], status))
         for last, fault in ((again, "20 Disk"), (none, "20 Disk"), (empty, "22 NoStudy")):

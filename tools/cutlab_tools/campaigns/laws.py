@@ -13,7 +13,7 @@ from .campaign import Campaign
 MOST_WORK = 4_000_000
 # What holds of a line, which is of all trials of its cell, by what is said where it does not: of the line, the number of
 # processes and their quorum.
-LINE: dict[str, Callable[[Line, int, int], bool]] = {
+LINE: dict[str, Callable[[Line, int, int], object]] = {
     "a wrong decision without a wrong quorum": lambda x, _, quorum: (
         quorum * x.decided <= quorum * x.right + x.conflicts + x.extra
     ),
@@ -34,7 +34,7 @@ LINE: dict[str, Callable[[Line, int, int], bool]] = {
     ),
 }
 # What holds of two lines, the second of which is of receivers that wait longer.
-LATER: dict[str, Callable[[Line, Line], bool]] = {
+LATER: dict[str, Callable[[Line, Line], object]] = {
     "other receivers": lambda x, y: y.receivers == x.receivers,
     "a new conflict": lambda x, y: y.conflicts <= x.conflicts,
     "a silence ends": lambda x, y: x.silent <= y.silent,
@@ -52,7 +52,8 @@ class Laws(Campaign):
     def case(self, rng: random.Random) -> None:
         plan = drawn_plan(rng, most_work=MOST_WORK)
         if rng.random() < 0.3:
-            plan |= {"liars": 0, "links": 0, **({"faults": "crash"} if plan["version"] == 1 else {"deaf": 0})}
+            plan |= {"liars": 0, "links": 0}
+            plan["faults" if plan["version"] == 1 else "deaf"] = "crash" if plan["version"] == 1 else 0
         lines = self.lines_of(plan)
         for line in lines:
             self.check_line(plan, line, f"{line} of {json.dumps(plan)}")

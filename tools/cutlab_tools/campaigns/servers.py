@@ -111,15 +111,13 @@ class Restarts(Campaign):
 
     def started(self, rng: random.Random) -> Child[bytes]:
         """A server of one session that keeps its study in the folder. It makes its socket soon, unless it ends before."""
-        path = self.folder / "s"
+        path, last = self.folder / "s", time.monotonic() + 10
         server = self.program.serve(path, "--dir", self.folder, workers=rng.randint(1, 3))
-        for _ in range(1000):
-            if path.exists():
-                return server
-            if server.poll() is not None:
-                raise Differs("the server ended at once")
+        while not path.exists():
+            if server.poll() is not None or time.monotonic() > last:
+                raise Differs("the server makes no socket")
             time.sleep(0.005)
-        raise Differs("no socket of the server")
+        return server
 
     def cut_off(self, rng: random.Random, text: bytes) -> Ended:
         """What a client was sent by a server that is killed after some time."""
