@@ -1,9 +1,11 @@
 -- The values that a job of a command has.
-use Rattle.std.proofs.Common.{◌≡◌, ℕ, List, Some, map, sym, ap, subst, codes}
+use Rattle.std.proofs.Common.{◌≡◌, ◌≤◌, ℕ, Bor, List, Some, length, map, sym, ap, subst, codes, arith}
+use Rattle.std.proofs.lemmas.List.{length-map}
 use Rattle.std.specs.Prelude.{⊤, if◌then◌else◌}
 use Rattle.std.specs.Str.{bytes_eq}
 use Rattle.clap.specs.Words.{Row, Text, all_of, first_of}
-use Rattle.cut_options.specs.declared.limits.TheConstants.{LARGEST_PIECE, MOST_OF_EACH, MOST_WORKERS}
+use Rattle.cut_options.specs.declared.limits.TheConstants.{LARGEST_PIECE, MOST_CHECKPOINTS, MOST_OF_EACH}
+use Rattle.cut_options.specs.declared.limits.TheConstants.{MOST_WORKERS}
 use Rattle.cut_command_line.specs.declared.line.Job.{Job}
 use Rattle.cut_command_line.specs.declared.line.Job.TheVariants.{Run, Check, Explain, Canonical, Status, Serve}
 use Rattle.cut_command_line.specs.declared.line.Job.TheVariants.{Ask, Migrate, Share, Join}
@@ -86,7 +88,10 @@ Values to_share rows =
     × ((n : ℕ) × GivesNumber (codes "workers") MOST_WORKERS rows n)
 Values to_join rows =
     ((path : Text) × (first_of (codes "new") rows ≡ Some path))
-    × ((paths : List Text) × (all_of (codes "old") rows ≡ Some paths))
+    × ((paths : List Text) × ((all_of (codes "old") rows ≡ Some paths) × (length paths ≤ MOST_CHECKPOINTS)))
+
+few_texts : (files : List (Bor Text)) → length files ≤ MOST_CHECKPOINTS → length (map (λ s. s.now) files) ≤ MOST_CHECKPOINTS
+few_texts files few = omega (arith, few, length-map files (λ s. s.now))
 
 values_of : (name : Text) (rows : List Row) (job : Job) → AsksForJob name rows job → Values (verb_of job) rows
 values_of name rows (Run piece workers file progress) asks = ((piece, asks.1), (workers, asks.2))
@@ -100,7 +105,8 @@ values_of name rows (Ask socket) asks = (socket.now, asks.1)
 values_of name rows (Migrate from to) asks = ((from.now, asks.1), (to.now, asks.2))
 values_of name rows (Share index shares file piece workers progress) asks =
     ((index, (shares, asks.1)), (file.now, asks.2), (piece, asks.3), (workers, asks.4))
-values_of name rows (Join to from which) asks = ((to.now, asks.1), (map (λ s. s.now) from.items, asks.2))
+values_of name rows (Join to from which) asks =
+    ((to.now, asks.1), (map (λ s. s.now) from.items, (asks.2, few_texts from.items asks.3)))
 
 -- a job that a command asks for has what is given with it
 pub values : (name : Text) (rows : List Row) (job : Job) → AsksForJob name rows job → Values (verb_in name) rows

@@ -1,8 +1,9 @@
 -- What the program's command line asks for.
-use Rattle.std.specs.Prelude.{◌≡◌, ◌⊎◌, ◌≤◌, ◌++◌, ℕ, Bool, List, [], true, false, codes}
+use Rattle.std.specs.Prelude.{◌≡◌, ◌⊎◌, ◌≤◌, ◌++◌, ℕ, Bool, List, [], true, false, length, codes}
 use Rattle.std.specs.Prelude.{Some, None, option_map, map, ⊤}
 use Rattle.std.specs.Str.Parse.{IsNumeral, digits_value, without_leading_plus}
-use Rattle.cut_options.specs.declared.limits.TheConstants.{LARGEST_PIECE, MOST_OF_EACH, MOST_SHARES, MOST_WORKERS}
+use Rattle.cut_options.specs.declared.limits.TheConstants.{LARGEST_PIECE, MOST_CHECKPOINTS, MOST_OF_EACH}
+use Rattle.cut_options.specs.declared.limits.TheConstants.{MOST_SHARES, MOST_WORKERS}
 use Rattle.cut_options.specs.Options.{program_app}
 use Rattle.clap.specs.Words.{IsAmong, all_of, first_of, Row, Text, fault_of, one_of, subcommand_of}
 use Rattle.clap.specs.declared.error.kind.ErrorKind.{ErrorKind}
@@ -73,7 +74,8 @@ AsksForJob name rows (Share index shares file piece workers progress) =
     × GivesFlag (codes "progress") rows progress
 AsksForJob name rows (Join to from which) =
     (name ≡ codes "join") × (first_of (codes "new") rows ≡ Some to.now)
-    × (all_of (codes "old") rows ≡ Some (map (λ s. s.now) from.items)) × GivesFlag (codes "which") rows which
+    × (all_of (codes "old") rows ≡ Some (map (λ s. s.now) from.items)) × (length from.items ≤ MOST_CHECKPOINTS)
+    × GivesFlag (codes "which") rows which
 
 -- the job that a command line names
 abbrev pub NamesJob : List Text → Job → Type 0
@@ -116,4 +118,4 @@ IsSizedJob (Migrate from to) = ⊤
 IsSizedJob (Share index shares file piece workers progress) =
     (1 ≤ index) × (index ≤ shares) × (shares ≤ MOST_SHARES) × (1 ≤ piece) × (piece ≤ LARGEST_PIECE) × (1 ≤ workers)
     × (workers ≤ MOST_WORKERS)
-IsSizedJob (Join to from which) = ⊤
+IsSizedJob (Join to from which) = length from.items ≤ MOST_CHECKPOINTS

@@ -6,10 +6,11 @@ ghost use Rattle.cut_command_line.specs.inside.Line.{GivesJob, IsJobOf};
 ghost use Rattle.cut_command_line.specs.Line.{NamesJob, status_of_kind};
 ghost use Rattle.cut_command_line.specs.declared.line.Job.{Job};
 
-use crate::machines::{WRONG_SHARE, join_job, share_job};
+use crate::machines::{TOO_MANY_FILES, WRONG_SHARE, join_job, share_job};
 use clap::error::ErrorKind;
 use clap::{ArgMatches, Command, Error};
-use cut_options::{LARGEST_PIECE, MOST_OF_EACH, MOST_WORKERS, SHARE_USAGE, program_commands};
+use cut_options::{JOIN_USAGE, SHARE_USAGE, program_commands};
+use cut_options::{LARGEST_PIECE, MOST_OF_EACH, MOST_WORKERS};
 use std::alloc::{AllocError, Global};
 use std::convert::AsStr;
 
@@ -131,18 +132,22 @@ fn job_by<'a, S: AsStr>(
     };
     match job_of(alloc, &matches) {
         Ok(Some(job)) => Ok(job),
-        Ok(None) => Err(wrong_value(alloc)),
+        Ok(None) => Err(wrong_value(alloc, &matches)),
         Err(_) => Err(line_fault(alloc, ErrorKind::OutOfMemory, None)),
     }
 }
 
-/// The fault of a command line in which clap found nothing, but a value that is none, which only a share can be.
-fn wrong_value(alloc: Global) -> LineFault
+/// The fault of a command line in which clap found nothing, but a value that is none: a share, or one file too many.
+fn wrong_value(alloc: Global, matches: &ArgMatches) -> LineFault
     ensures status { result.status ≡ status_of_kind ErrorKind.ValueValidation }
     ensures text { ErrorKind.ValueValidation ≡ ErrorKind.OutOfMemory → string_bytes result.text ≡ [] }
 {
-    let mut share = Command::new(alloc, "share").override_usage(SHARE_USAGE);
-    let error = share.error(ErrorKind::ValueValidation, WRONG_SHARE).ok();
+    let (name, usage, wrong) = match matches.subcommand_name() {
+        Some("join") => ("join", JOIN_USAGE, TOO_MANY_FILES),
+        _ => ("share", SHARE_USAGE, WRONG_SHARE),
+    };
+    let mut command = Command::new(alloc, name).override_usage(usage);
+    let error = command.error(ErrorKind::ValueValidation, wrong).ok();
     line_fault(alloc, ErrorKind::ValueValidation, error.as_ref())
 }
 

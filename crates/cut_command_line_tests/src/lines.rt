@@ -72,7 +72,10 @@ cutlab join new.cut a.cut b.cut
 Join { new: "new.cut", old: ["a.cut", "b.cut"], which: false }
 
 cutlab join --which new.cut a.cut
-Join { new: "new.cut", old: ["a.cut"], which: true }"#;
+Join { new: "new.cut", old: ["a.cut"], which: true }
+
+cutlab join new.cut a.cut --which b.cut c.cut
+Join { new: "new.cut", old: ["a.cut", "b.cut", "c.cut"], which: true }"#;
 
 /// The words of a line, between blanks.
 fn words_of<'a>(alloc: Global, line: &'a str) -> Result<Vec<&'a str>, AllocError> {
@@ -109,16 +112,23 @@ fn files_joined(alloc: Global, words: &[&str]) -> usize {
     }
 }
 
+/// The words of a join of as many files, with a flag after the first of them.
+fn join_of(alloc: Global, files: usize) -> Result<Vec<&'static str>, AllocError> {
+    let mut words = Vec::from_slice(alloc, &["cutlab", "join", "new.cut", "a.cut", "--which"])?;
+    for _ in 1..files {
+        words.push("b.cut")?;
+    }
+    Ok(words)
+}
+
 // With as many files as are joined at most, and with one more.
 #[test]
 fn joins_have_a_thousand_files(rt: HostRuntime) -> Result<(), Fail> {
-    let mut words: Vec<&str> = Vec::from_slice(rt.alloc(), &["cutlab", "join", "new.cut"])?;
-    for _ in 0..1_000 {
-        words.push("a.cut")?;
-    }
-    assert!(rt; files_joined(rt.alloc(), &words) == 1_000);
-    words.push("last.cut")?;
-    assert!(rt; is_reported(rt.alloc(), &words, "2", "'last.cut'"));
+    let most = join_of(rt.alloc(), 1_000)?;
+    assert!(rt; files_joined(rt.alloc(), &most) == 1_000);
+    let more = join_of(rt.alloc(), 1_001)?;
+    let text = "too many|at most 1000|Usage: cutlab join [OPTIONS] <NEW> <OLD>... < PLAN";
+    assert!(rt; is_reported(rt.alloc(), &more, "2", text));
     Ok(())
 }
 

@@ -5,7 +5,6 @@ ghost use Rattle.clap.specs.Words.{rule_of};
 ghost use Rattle.cut_options.specs.Options.{files_rule, flag_rule, option_rule, word_rule};
 ghost use Rattle.cut_options.specs.inside.Options.{argument_rule, count_rule, piece_rule, workers_rule};
 
-use crate::limits::MOST_CHECKPOINTS;
 use clap::{Arg, ArgAction};
 use std::alloc::Global;
 
@@ -140,13 +139,15 @@ fn workers_option<'a>(alloc: Global) -> Arg<'a>
         .help("How many threads work on the study, from 1 to 64")
 }
 
-/// The words that name the files of checkpoints.
+/// The words that name the files of checkpoints, which may stand between options. How many there are at most, clap would say of
+/// those that stand side by side.
 fn files_word<'a>(alloc: Global) -> Arg<'a>
     ensures rule { rule_of result ≡ files_rule }
     ensures local { result.global ≡ false }
 {
     Arg::new(alloc, "old")
-        .num_args(1..=MOST_CHECKPOINTS)
+        .num_args(1..)
+        .action(ArgAction::Append)
         .value_name("OLD")
         .required(true)
         .help("The checkpoints that are joined, at most 1000, which are only read")

@@ -51,6 +51,9 @@ const SOCKET_HELP: &str = "The path of the server's socket";
 /// How `share` is used.
 pub const SHARE_USAGE: &str = "cutlab share [OPTIONS] <I/N> <FILE> < PLAN";
 
+/// How `join` is used.
+pub const JOIN_USAGE: &str = "cutlab join [OPTIONS] <NEW> <OLD>... < PLAN";
+
 /// A command: its name, how it is used, what its help says before its arguments and after them, and these arguments.
 #[derive(Clone, Copy)]
 struct Described<'a> {
@@ -216,7 +219,7 @@ const SHARE: Described<'static> = Described {
 /// The command `join`.
 const JOIN: Described<'static> = Described {
     name: "join",
-    usage: "cutlab join [OPTIONS] <NEW> <OLD>... < PLAN",
+    usage: JOIN_USAGE,
     about: "Join the checkpoints of a plan's study in a new one, and print how many slips it has",
     example: JOIN_EXAMPLE,
     args: &[
