@@ -4,9 +4,9 @@ from typing import NamedTuple
 
 from .repository import Repository
 
-ARGUMENT = re.compile(r"^ +(?:--(\w+)(?: <(.+?)>)?|<(.+?)>(\.\.)?\.?) {2,}(.*?)(?: \[default: (\w+)\])?$")
+ARGUMENT = re.compile(r"^ +(?:--(\w+)(?: <(.+?)>)?|[<[](.+?)[>\]](\.\.)?\.?) {2,}(.*?)(?: \[default: (\w+)\])?$")
 # What stands in a word or a value, by the name that the help gives it. A share, I/N, is nothing that can be completed.
-FOLDERS, FILES = {"DIR"}, {"FILE", "SOCKET", "OLD", "NEW", "OLD.."}
+FOLDERS, FILES = {"DIR"}, {"FILE", "SOCKET", "OLD", "NEW", "OLD..", "PLAN"}
 
 
 class Argument(NamedTuple):

@@ -6,7 +6,7 @@ ghost use Rattle.cut_command_line.specs.Line.{GivesShare, IsDigitsIn, IsSizedJob
 ghost use Rattle.cut_command_line.specs.inside.Line.{GivesJob};
 
 use crate::Job;
-use crate::line::{flag_given, number_given};
+use crate::line::{flag_given, number_given, plan_given};
 use clap::ArgMatches;
 use cut_options::{LARGEST_PIECE, MOST_CHECKPOINTS, MOST_SHARES, MOST_WORKERS};
 use std::alloc::{AllocError, Global};
@@ -42,6 +42,7 @@ pub(crate) fn share_job<'a>(given: &ArgMatches<'a>) -> Option<Job<'a>>
         piece,
         workers,
         progress: flag_given(given, "progress"),
+        plan: plan_given(given),
     })
 }
 
