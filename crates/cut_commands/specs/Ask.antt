@@ -19,8 +19,8 @@ pub record AsksText (plan : Option Place) (result : Result ⊤ AskFault) (old ne
   pub read : GivesTextFrom plan (Ok text) old mid
   pub asks : Asks text result server_old server_new mid new
 
--- how an asking ends, by where the text is read from: the table of the text that was read was asked for; or no text was read, since memory for it ran
--- out or a read of it failed, and nothing was asked then
+-- how an asking ends, by where the text is read from: the table of the text that was read was asked for; or no text was
+-- read, since memory for it ran out or a read of it failed, and nothing was asked then
 abbrev pub AsksFrom : Option Place → Result ⊤ CliFault → WireLog → WireLog → WireLog → WireLog → Type 0
 AsksFrom plan (Ok done) old new server_old server_new = AsksText plan (Ok done) old new server_old server_new
 AsksFrom plan (Err (Asked fault)) old new server_old server_new = AsksText plan (Err fault) old new server_old server_new
@@ -54,8 +54,8 @@ ConveysPartly plan ask.Request old new =
 ConveysPartly plan ask.Output old new = (mid : WireLog) × HasConveyed plan old mid × (new ≡ write_failed mid)
 ConveysPartly plan fault old new = HasConveyed plan old new
 
--- how the command ends, by where the text is read from: where its socket was not connected to, nothing was read. What a server said to it is not known,
--- so that what was written are some bytes
+-- how the command ends, by where the text is read from: where its socket was not connected to, nothing was read. What a
+-- server said to it is not known, so that what was written are some bytes
 abbrev pub EndsAsk : Option Place → WireLog → WireLog → Result ⊤ CliFault → Type 0
 EndsAsk plan old new (Ok done) = HasConveyed plan old new
 EndsAsk plan old new (Err Socket) = new ≡ old

@@ -5,7 +5,8 @@
 //! canonical text. [`status`] writes what a checkpoint file holds, [`migrate`]
 //! moves a study of version 1 to its plan's upgrade, and [`ask_io`] asks a server for a table,
 //! [`ask_at`] one at a socket. A [`PlanSource`] says where the plan is read from, be it a file: [`run_from`], [`check_from`],
-//! [`explain_from`], [`canonical_from`] and [`ask_at`] take one. Each ends with its answer or with a [`CliFault`], whose line and status are those that
+//! [`explain_from`], [`canonical_from`] and [`ask_at`] take one. Each ends with its answer or with a [`CliFault`], whose
+//! line and status are those that
 //! the program ends with.
 //!
 //! What they say of the bytes on a wire is known where its log has them; that a failed read or write is reported

@@ -77,7 +77,8 @@ pub fn migrate<F: Files, W: Wire>(
     wire: &mut W,
     paths: MigratedFiles<'_>,
 ) -> Result<(), CliFault>
-    ensures ends { EndsMigrate paths.entry.from.now paths.entry.to.now paths.entry.plan (F.log files.old) (W.log wire.old) (W.log wire.new) result }
+    ensures ends { EndsMigrate paths.entry.from.now paths.entry.to.now paths.entry.plan (F.log files.old)
+        (W.log wire.old) (W.log wire.new) result }
     ensures beside { StaysBeside paths.entry.from.now paths.entry.to.now (F.log files.old) (F.log files.new) }
 {
     let MigratedFiles { from, to, plan } = paths;

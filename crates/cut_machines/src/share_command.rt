@@ -37,8 +37,9 @@ pub struct ShareWork<'a, G> {
 /// Reads a plan from a wire, runs the trials of a share that the file of the work lacks, keeps them there, and writes the
 /// line `share I of N: n of n`, where n is how many trials the share has. All of them are held then.
 ///
-/// The file is opened before anything is read, and made where there is none. The file of a plan is read after that, where the
-/// wire would be read; where it is not read, the share's file is left as it was opened. Its journal is opened once the plan is read:
+/// The file is opened before anything is read, and made where there is none. The file of a plan is read after that, where
+/// the wire would be read; where it is not read, the share's file is left as it was opened. The journal is opened once the
+/// plan is read:
 /// it holds one of the plan, or it is unclaimed, and then a journal is made. Where what stands at the path is known, the
 /// contract says which slips were found and which were added, at each end: at `Ok`, and where the write of the answer
 /// failed, exactly the trials of the share that were lacking; none at a fault of the opening or a slip that is bad; some
